@@ -1,0 +1,5 @@
+pub mod Kit
+pub mod Order
+pub mod Sizes
+pub mod Bounds
+pub mod Results

@@ -1,0 +1,5 @@
+-- What joins the rules to the listing, the listing to the draws, and the rules to the step; and what a step does to processes and pairs.
+pub mod Decides
+pub mod Gather
+pub mod Places
+pub mod Listed

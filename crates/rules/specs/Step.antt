@@ -1,0 +1,118 @@
+-- The step that an entry stands for, as a function. Definitions only.
+use mathlib.Core.List.{List, [], _∷_, _++_}
+use mathlib.Core.Bool.{Bool, true, false, cond}
+use mathlib.Core.Option.{Option, none, some, Option·elim}
+use Prim.Native.Nat.{ℕ, zero, suc}
+use lib.Dec.{eqb}
+use lib.IntN.{ℤ}
+use lib.ListN.{getElem?}
+use Rattle.rules.specs.Offers.{Pair, Query, Action, wait, launch, kill, receive, bind, check, send, take, takeBind, Guard, bare, opened, shut, Branch, State}
+use Rattle.rules.specs.Kind as kind
+use Rattle.rules.specs.Rules.{Change, unchanged, launched, killed, Key, key}
+use Rattle.rules.specs.Pairs.{pairsAfter}
+
+-- ---- places
+
+-- 01, State, step: the process at place i replaced by ks; later places move
+unfoldable pub replace : {A : Type 0} → ℕ → List A → List A → List A
+replace zero ks [] = []
+replace zero ks (p ∷ ps) = ks ++ ps
+replace (suc i) ks [] = []
+replace (suc i) ks (p ∷ ps) = p ∷ replace i ks ps
+
+-- 01, State, step: of a handshake both, at once
+unfoldable pub replaceBoth : {A : Type 0} → ℕ → List A → ℕ → List A → List A → List A
+replaceBoth zero ks zero ls ps = ps
+replaceBoth zero ks (suc k) ls [] = []
+replaceBoth zero ks (suc k) ls (p ∷ ps) = ks ++ replace k ls ps
+replaceBoth (suc i) ks zero ls [] = []
+replaceBoth (suc i) ks zero ls (p ∷ ps) = ls ++ replace i ks ps
+replaceBoth (suc i) ks (suc k) ls [] = []
+replaceBoth (suc i) ks (suc k) ls (p ∷ ps) = p ∷ replaceBoth i ks k ls ps
+
+-- ---- actions
+
+-- 01, State, step: launch adds its pair, kill takes it away, nothing else alters pairs
+unfoldable pub changeOf : Action → Change
+changeOf wait = unchanged
+changeOf (launch x) = launched x
+changeOf (kill x) = killed x
+changeOf (receive w) = unchanged
+changeOf (bind w) = unchanged
+changeOf (check w) = unchanged
+changeOf (send x) = unchanged
+changeOf (take w) = unchanged
+changeOf (takeBind w) = unchanged
+
+unfoldable pub valuesOf : Pair → List ℤ
+valuesOf x = x .values
+
+-- 01, State, step: names bound take the values of the pair with number q
+unfoldable pub boundBy : List Pair → ℕ → Action → List ℤ
+boundBy L q wait = []
+boundBy L q (launch x) = []
+boundBy L q (kill x) = []
+boundBy L q (receive w) = []
+boundBy L q (bind w) = Option·elim (getElem? L q) [] valuesOf
+boundBy L q (check w) = []
+boundBy L q (send x) = []
+boundBy L q (take w) = []
+boundBy L q (takeBind w) = []
+
+-- the values that an action sends in a handshake
+unfoldable pub sentBy : Action → List ℤ
+sentBy (send x) = x .values
+sentBy wait = []
+sentBy (launch x) = []
+sentBy (kill x) = []
+sentBy (receive w) = []
+sentBy (bind w) = []
+sentBy (check w) = []
+sentBy (take w) = []
+sentBy (takeBind w) = []
+
+-- 01, State, step: names bound take the values sent
+unfoldable pub takenBy : List ℤ → Action → List ℤ
+takenBy vs (takeBind w) = vs
+takenBy vs wait = []
+takenBy vs (launch x) = []
+takenBy vs (kill x) = []
+takenBy vs (receive w) = []
+takenBy vs (bind w) = []
+takenBy vs (check w) = []
+takenBy vs (send x) = []
+takenBy vs (take w) = []
+
+-- f of a guard's action; d behind a false gate
+unfoldable pub onAction : {B : Type 0} → B → (Action → B) → Guard → B
+onAction d f (bare a r) = f a
+onAction d f (opened a r) = f a
+onAction d f shut = d
+
+-- ---- the step
+
+-- what becomes of a state: nothing, or a change of its pairs and its processes afterwards
+pub data Next (Proc : Type 0) : Type 0 where
+  stays : Next Proc
+  goes : Change → List Proc → Next Proc
+
+unfoldable pub stateAfter : {Proc : Type 0} → State Proc → Next Proc → State Proc
+stateAfter s stays = s
+stateAfter s (goes n ps) = record { processes = ps; pairs = pairsAfter n (s .pairs) }
+
+module _ {Proc : Type 0} (branches : Proc → List (Branch Proc)) (s : State Proc) where
+  -- f of branch j of the process at place i
+  unfoldable pub atBranch : (i j : ℕ) → (Branch Proc → Next Proc) → Next Proc
+  atBranch i j f = Option·elim (getElem? (s .processes) i) stays (λ p. Option·elim (getElem? (branches p) j) stays f)
+
+  -- 01, State, step: the acting process is replaced at its place by its continuation
+  unfoldable pub oneActs : (i q : ℕ) → Branch Proc → Next Proc
+  oneActs i q b = goes (onAction unchanged changeOf (b .guard)) (replace i (b .next (onAction [] (boundBy (s .pairs) q) (b .guard))) (s .processes))
+
+  -- 01, State, step: a handshake does so to both processes, judged from the state before
+  unfoldable pub bothAct : (i k : ℕ) → Branch Proc → Branch Proc → Next Proc
+  bothAct i k b b′ = goes unchanged (replaceBoth i (b .next []) k (b′ .next (onAction [] (takenBy (onAction [] sentBy (b .guard))) (b′ .guard))) (s .processes))
+
+  -- 01, State, step: what the entry with this key does
+  unfoldable pub step : Key → Next Proc
+  step (key c i j k m q) = atBranch i j (λ b. cond (eqb c kind.handshake) (atBranch k m (λ b′. bothAct i k b b′)) (oneActs i q b))

@@ -25,17 +25,21 @@ gather-in f (later {x} {xs = xs} h) i = Memᴰ·append-right (f zero x) (gather-
 
 -- ---- tests
 pub when-out : {B : Type 0} (b : Bool) {xs : List B} {y : B} → In y (when b xs) → (b ≡ true) × In y xs
+unfolding when
 when-out true i = (refl, i)
 when-out false i = absurd (List·Memᴰ·not-nil i)
 
 pub when-in : {B : Type 0} (b : Bool) {xs : List B} {y : B} → b ≡ true → In y xs → In y (when b xs)
+unfolding when
 when-in b e i = rw e i
 
 pub unless-out : {B : Type 0} (b : Bool) {xs : List B} {y : B} → In y (unless b xs) → (b ≡ false) × In y xs
+unfolding unless
 unless-out true i = absurd (List·Memᴰ·not-nil i)
 unless-out false i = (refl, i)
 
 pub unless-in : {B : Type 0} (b : Bool) {xs : List B} {y : B} → b ≡ false → In y xs → In y (unless b xs)
+unfolding unless
 unless-in b e i = rw e i
 
 -- ---- order
@@ -48,10 +52,12 @@ unfolding Ascending
 one-ascends R x = (λ y i. absurd (List·Memᴰ·not-nil i), tt)
 
 pub when-ascends : {B : Type 0} (R : B → B → Type 0) (b : Bool) (xs : List B) → Ascending R xs → Ascending R (when b xs)
+unfolding when
 when-ascends R true xs a = a
 when-ascends R false xs a = none-ascends R
 
 pub unless-ascends : {B : Type 0} (R : B → B → Type 0) (b : Bool) (xs : List B) → Ascending R xs → Ascending R (unless b xs)
+unfolding unless
 unless-ascends R true xs a = none-ascends R
 unless-ascends R false xs a = a
 

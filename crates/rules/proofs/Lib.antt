@@ -3,3 +3,6 @@ pub mod Decides
 pub mod Gather
 pub mod Places
 pub mod Listed
+pub mod Less
+pub mod Ascends
+pub mod Once

@@ -53,11 +53,11 @@ gather f [] = []
 gather f (x ∷ xs) = f zero x ++ gather (λ n. f (suc n)) xs
 
 -- a list where the test passes, and none where it fails
-abbrev pub when : {B : Type 0} → Bool → List B → List B
+unfoldable pub when : {B : Type 0} → Bool → List B → List B
 when b bs = cond b bs []
 
 -- a list where the test fails, and none where it passes
-abbrev pub unless : {B : Type 0} → Bool → List B → List B
+unfoldable pub unless : {B : Type 0} → Bool → List B → List B
 unless b bs = cond b [] bs
 
 -- 01, Transitions: the action of branch m at place k as partner of branch j at place i, which sends x with rate r

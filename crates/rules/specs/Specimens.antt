@@ -11,7 +11,7 @@ use Rattle.rules.specs.Order.{less}
 use Rattle.rules.specs.Kind as kind
 use Rattle.rules.specs.Rules.{key, unchanged, launched, killed}
 use Rattle.rules.specs.Pairs.{channelNumbers, numbers, before, insert, remove, pairsAfter}
-use Rattle.rules.specs.Listing.{sameChannel, each, matches, anyMatch, Entry, entry, weightOf, gather, partnerAction, partner, partnersIn, ofAction, ofGuard, ofProcess, entries}
+use Rattle.rules.specs.Listing.{sameChannel, each, matches, anyMatch, Entry, entry, weightOf, gather, when, unless, partnerAction, partner, partnersIn, ofAction, ofGuard, ofProcess, entries}
 use Rattle.rules.specs.Draw.{weights, total, chosen}
 use Rattle.rules.specs.Step.{replace, replaceBoth, changeOf, boundBy, sentBy, takenBy, onAction, goes, atBranch, oneActs, bothAct, step}
 
@@ -96,5 +96,5 @@ pub rows :
     -- one process both sending and receiving: no handshake; two such processes: each sends to the other
     × (entries both (alone []) ≡ [])
     × (entries both (record { processes = tt ∷ tt ∷ []; pairs = [] }) ≡ entry (key kind.handshake 0 0 1 1 0) 1 ∷ entry (key kind.handshake 1 0 0 1 0) 1 ∷ [])
-unfolding entries gather ofProcess ofGuard ofAction partnersIn partner partnerAction matches sameChannel each within anyMatch weights weightOf total chosen step atBranch oneActs bothAct onAction changeOf boundBy sentBy takenBy replace replaceBoth pairsAfter insert remove before numbers channelNumbers less Option·elim
+unfolding entries gather when unless ofProcess ofGuard ofAction partnersIn partner partnerAction matches sameChannel each within anyMatch weights weightOf total chosen step atBranch oneActs bothAct onAction changeOf boundBy sentBy takenBy replace replaceBoth pairsAfter insert remove before numbers channelNumbers less Option·elim
 rows = (refl, refl, refl, refl, refl, refl, refl, refl, refl, refl, refl, refl, refl, refl, refl, refl, refl, refl, refl)

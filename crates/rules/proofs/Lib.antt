@@ -6,3 +6,6 @@ pub mod Listed
 pub mod Less
 pub mod Ascends
 pub mod Once
+pub mod Chosen
+pub mod Draws
+pub mod Moved

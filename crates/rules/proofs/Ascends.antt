@@ -1,14 +1,14 @@
 -- The keys of a listing ascend strictly in 01's order: every part of the listing ascends, and what comes later has a later place, branch, pair or partner.
 use Prim.Native.Nat.{ℕ, _<_}
-use mathlib.Core.Path.{_≡_, refl, ap}
-use mathlib.Core.Bool.{Bool, true}
-use mathlib.Core.List.{List, [], _∷_, List·Memᴰ as In, List·Memᴰ·eq-of-singleton}
+use mathlib.Core.Path.{_≡_}
+use mathlib.Core.Bool.{true}
+use mathlib.Core.List.{List, _∷_, List·Memᴰ as In, List·Memᴰ·eq-of-singleton}
 use borrow.Author.Tests.{lt-ltb}
 use lib.IntN.{ℤ, pos}
-use Rattle.rules.specs.Offers.{Pair, Action, wait, launch, kill, receive, bind, check, send, take, takeBind, Guard, bare, opened, shut, Branch, State}
+use Rattle.rules.specs.Offers.{Pair, Query, Action, wait, launch, kill, receive, bind, check, send, take, takeBind, Guard, bare, opened, shut, Branch, State}
 use Rattle.rules.specs.Order.{less, Ascending}
 use Rattle.rules.specs.Kind as kind
-use Rattle.rules.specs.Rules.{Key, key}
+use Rattle.rules.specs.Rules.{key}
 use Rattle.rules.specs.Listing.{Entry, entry, keyOf, gather, partnerAction, partner, partnersIn, ofAction, ofGuard, ofProcess, entries, rank, Earlier}
 use Rattle.rules.proofs.Less.{less-first, less-rest}
 use Rattle.rules.proofs.Gather.{gathered, when-out, unless-out, none-ascends, one-ascends, when-ascends, unless-ascends, ascends}
@@ -23,7 +23,8 @@ record Keyed (c i j k m q : ℕ) (e : Entry) : Type 0 where
   weight : ℕ
   is : e ≡ entry (key c i j k m q) weight
 
-earlier : {c i j k m q c′ i′ j′ k′ m′ q′ : ℕ} {d e : Entry} → Keyed c i j k m q d → Keyed c′ i′ j′ k′ m′ q′ e → less (rank (key c i j k m q)) (rank (key c′ i′ j′ k′ m′ q′)) ≡ true → Earlier d e
+earlier : {c i j k m q c′ i′ j′ k′ m′ q′ : ℕ} {d e : Entry} → Keyed c i j k m q d → Keyed c′ i′ j′ k′ m′ q′ e
+    → less (rank (key c i j k m q)) (rank (key c′ i′ j′ k′ m′ q′)) ≡ true → Earlier d e
 unfolding keyOf
 earlier h h′ b = rw (h .is, h′ .is) b
 
@@ -99,10 +100,13 @@ module _ {Proc : Type 0} (branches : Proc → List (Branch Proc)) (s : State Pro
       (λ k k′ p p′ d e l h h′. later-partner (at-partners x r i j k p h .1) (at-partners x r i j k′ p′ h′ .1) l)
 
   -- ---- branches and processes
-  bind-ascends : (i j r : ℕ) (w : _) → Ascending Earlier (gather (bindings i j r w) (s .pairs))
+  at-binding : (i j r : ℕ) (w : Query) (q : ℕ) (x : Pair) {e : Entry} → In e (bindings i j r w q x) → Keyed kind.bind i j 0 0 q e
+  at-binding i j r w q x h = record { weight = _; is = List·Memᴰ·eq-of-singleton (when-out _ h .1) }
+
+  bind-ascends : (i j r : ℕ) (w : Query) → Ascending Earlier (gather (bindings i j r w) (s .pairs))
   bind-ascends i j r w =
       ascends Earlier _ (s .pairs) (λ q x. when-ascends Earlier _ _ (one-ascends Earlier _))
-      (λ q q′ x x′ d e l h h′. later-pair {d = d} {e = e} (record { weight = _; is = List·Memᴰ·eq-of-singleton (when-out _ h .1) }) (record { weight = _; is = List·Memᴰ·eq-of-singleton (when-out _ h′ .1) }) l)
+      (λ q q′ x x′ d e l h h′. later-pair (at-binding i j r w q x h) (at-binding i j r w q′ x′ h′) l)
 
   ofAction-ascends : (i j r : ℕ) (a : Action) → Ascending Earlier (ofAction branches s i j r a)
   unfolding ofAction

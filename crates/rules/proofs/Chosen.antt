@@ -7,7 +7,7 @@ use mathlib.Core.Logic.{_↔_}
 use mathlib.Core.Option.{Option, none, some, Option·map}
 use native.Mathlib.Omega.{arith}
 use borrow.Author.Tests.{ltb-true, ltb-false, le-ltb, eqb-true, eq-eqb, ne-eqb}
-use lib.Dec.{eqb, ltb, eqb·suc-suc}
+use lib.Dec.{ltb, eqb·suc-suc}
 use lib.ListN.{length, getD, take}
 use Rattle.value.proofs.Kit.{false-not-true}
 use Rattle.rules.specs.Draw.{total, running, First, chosen, isChosen}
@@ -75,7 +75,8 @@ span (w ∷ ws) d zero = go (ltb d w) refl
     go false e = rw (not-first (chosen ws (d - w))) (fails (λ h. omega (arith, ltb-false d w e)))
 span (w ∷ ws) d (suc i) = go (ltb d w) refl (span ws (d - w) i)
   where
-    go : (b : Bool) → ltb d w ≡ b → Decides (Span ws (d - w) i) (isChosen i (chosen ws (d - w))) → Decides ((w + upTo ws i ≤ d) × (d < w + upTo ws i + getD ws i 0)) (isChosen (suc i) (cond b (some 0) (Option·map suc (chosen ws (d - w)))))
+    go : (b : Bool) → ltb d w ≡ b → Decides (Span ws (d - w) i) (isChosen i (chosen ws (d - w)))
+        → Decides ((w + upTo ws i ≤ d) × (d < w + upTo ws i + getD ws i 0)) (isChosen (suc i) (cond b (some 0) (Option·map suc (chosen ws (d - w)))))
     go true e r = rw (ne-eqb 0 (suc i) (λ q. omega arith)) (fails (λ h. omega (arith, ltb-true d w e)))
     go false e r =
         let l : w ≤ d = ltb-false d w e in

@@ -1,5 +1,5 @@
 -- The listing's tests decide what the rules ask: a pair matches, some lit pair matches. By cases, from the laws of `isSame` and `eqb`.
-use mathlib.Core.Path.{_≡_, refl, sym, ap, subst}
+use mathlib.Core.Path.{_≡_, refl, ap, subst}
 use mathlib.Core.Bool.{Bool, true, false, _&&_, _||_}
 use mathlib.Core.List.{List, [], _∷_, List·Memᴰ as In, List·Memᴰ·head, List·Memᴰ·tail, List·Memᴰ·cases-cons, List·Memᴰ·not-nil}
 use mathlib.Core.Logic.{_⊎_, inl, inr, ⊎-elim}
@@ -11,7 +11,7 @@ use lib.Dec.{eqb}
 use Rattle.value.specs.Arithmetic.{isSame}
 use Rattle.value.proofs.Kit.{true-not-false, false-not-true, same-eq, eq-same}
 use Rattle.rules.specs.Offers.{Channel, number, named, Pair, Set, within, Query, Each, done, more, Matches}
-use Rattle.rules.specs.Listing.{sameChannel, each, matches, anyMatch}
+use Rattle.rules.specs.Listing.{sameChannel, allWithin, matches, anyMatch}
 
 -- the test b decides P
 pub data Decides (P : Type 0) : Bool → Type 0 where
@@ -80,8 +80,8 @@ head-of (more h hs) = h
 rest-of : {x : Set} {xs : List Set} {v : ℤ} {vs : List ℤ} → Each (x ∷ xs) (v ∷ vs) → Each xs vs
 rest-of (more h hs) = hs
 
-values : (xs : List Set) (vs : List ℤ) → Decides (Each xs vs) (each xs vs)
-unfolding each
+values : (xs : List Set) (vs : List ℤ) → Decides (Each xs vs) (allWithin xs vs)
+unfolding allWithin
 values [] [] = holds done
 values [] (v ∷ vs) = fails (λ h. elim h [ ])
 values (x ∷ xs) [] = fails (λ h. elim h [ ])

@@ -2,7 +2,7 @@
 use Prim.Native.Nat.{ℕ, zero, suc, _+_, _-_, _≤_, _<_, min}
 use mathlib.Core.Path.{_≡_, refl, _∙_}
 use mathlib.Core.Bool.{Bool, true, false, cond}
-use mathlib.Core.List.{List, [], _∷_}
+use mathlib.Core.List.{List}
 use mathlib.Core.Logic.{_⊎_, inl, inr, ⊎-elim}
 use native.Mathlib.Omega.{arith}
 use borrow.Author.Tests.{ltb-true, ltb-false}
@@ -42,5 +42,6 @@ nth-weight first = refl
 nth-weight (later h) = nth-weight h
 
 -- the same of an entry of a state's listing
-pub entry-draws : {Proc : Type 0} (branches : Proc → List (Branch Proc)) (s : State Proc) {i : ℕ} {e : Entry} → Nth (entries branches s) i e → let ws = weights (entries branches s) in count (λ d. isChosen i (chosen ws d)) (total ws) ≡ weightOf e
+pub entry-draws : {Proc : Type 0} (branches : Proc → List (Branch Proc)) (s : State Proc) {i : ℕ} {e : Entry}
+    → Nth (entries branches s) i e → let ws = weights (entries branches s) in count (λ d. isChosen i (chosen ws d)) (total ws) ≡ weightOf e
 entry-draws branches s h = draws (weights (entries branches s)) _ ∙ nth-weight h

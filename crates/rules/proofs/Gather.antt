@@ -1,6 +1,6 @@
 -- What stands in a gathered list and where it comes from, and when such a list ascends. By induction on the list that is gathered from.
 use Prim.Native.Nat.{ℕ, zero, suc, _<_}
-use mathlib.Core.Path.{_≡_, refl, sym, ap, subst}
+use mathlib.Core.Path.{_≡_, refl}
 use mathlib.Core.Bool.{Bool, true, false}
 use mathlib.Core.List.{List, [], _∷_, _++_, List·Memᴰ as In, List·Memᴰ·head, List·Memᴰ·tail, List·Memᴰ·not-nil, Memᴰ·append-left, Memᴰ·append-right, List·Memᴰ·append-cases}
 use mathlib.Core.Logic.{⊎-elim}
@@ -62,7 +62,8 @@ unless-ascends R true xs a = none-ascends R
 unless-ascends R false xs a = a
 
 -- two lists in order
-joined : {A : Type 0} (R : A → A → Type 0) (xs ys : List A) → Ascending R xs → Ascending R ys → ((x y : A) → In x xs → In y ys → R x y) → Ascending R (xs ++ ys)
+joined : {A : Type 0} (R : A → A → Type 0) (xs ys : List A)
+    → Ascending R xs → Ascending R ys → ((x y : A) → In x xs → In y ys → R x y) → Ascending R (xs ++ ys)
 unfolding Ascending
 joined R [] ys a b h = b
 joined R (x ∷ xs) ys a b h = (
@@ -71,7 +72,10 @@ joined R (x ∷ xs) ys a b h = (
 )
 
 -- what f gives ascends at each place and from place to place
-pub ascends : {A B : Type 0} (R : B → B → Type 0) (f : ℕ → A → List B) (xs : List A) → ((n : ℕ) (x : A) → Ascending R (f n x)) → ((n m : ℕ) (x y : A) (u v : B) → n < m → In u (f n x) → In v (f m y) → R u v) → Ascending R (gather f xs)
+pub ascends : {A B : Type 0} (R : B → B → Type 0) (f : ℕ → A → List B) (xs : List A)
+    → ((n : ℕ) (x : A) → Ascending R (f n x))
+    → ((n m : ℕ) (x y : A) (u v : B) → n < m → In u (f n x) → In v (f m y) → R u v)
+    → Ascending R (gather f xs)
 unfolding gather Ascending
 ascends R f [] a h = tt
 ascends {A} {B} R f (x ∷ xs) a h =

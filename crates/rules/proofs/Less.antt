@@ -1,14 +1,12 @@
 -- `less` is a strict total order of lists of whole numbers: by induction on the lists, from the same of whole numbers by cases of signs.
-use Prim.Native.Nat.{ℕ, _<_}
-use mathlib.Core.Path.{_≡_, refl, ap, ap₂, _∙_, sym}
+use mathlib.Core.Path.{_≡_, refl, ap, ap₂, sym}
 use mathlib.Core.Bool.{Bool, true, false, _&&_, _||_}
 use mathlib.Core.List.{List, [], _∷_}
 use mathlib.Core.Logic.{_⊎_, inl, inr, ⊎-elim}
 use native.Mathlib.Omega.{arith}
 use borrow.Author.Tests.{ltb-true, ltb-false, lt-ltb, le-ltb}
-use lib.Dec.{ltb}
 use lib.IntN.{ℤ, pos, negsuc}
-use Rattle.value.specs.Arithmetic.{isLess, isSame}
+use Rattle.value.specs.Arithmetic.{isLess}
 use Rattle.value.proofs.Kit.{true-not-false, false-not-true, same-eq, eq-same}
 use Rattle.rules.specs.Order.{less}
 

@@ -9,3 +9,7 @@ pub mod Once
 pub mod Chosen
 pub mod Draws
 pub mod Moved
+pub mod Spliced
+pub mod Before
+pub mod Launched
+pub mod Killed

@@ -7,7 +7,7 @@ use borrow.Author.Tests.{eqb-false, ne-eqb}
 use lib.IntN.{ℤ}
 use Rattle.rules.specs.Offers.{Pair, Query, Action, wait, launch, kill, receive, bind, check, send, take, takeBind, Guard, bare, opened, shut, Branch, State}
 use Rattle.rules.specs.Kind as kind
-use Rattle.rules.specs.Rules.{Nth, Change, unchanged, Label, label, plain, Offered, rule8, rule9, rule10, rule11, rule12, rule13, sends, takes, takesBind, rule18, Alone, waits, launches, kills, receives, binds, checks, Key, key, rateWeight, Moves, alone, together, Derivable}
+use Rattle.rules.specs.Rules.{Nth, Change, unchanged, label, plain, Offered, rule8, rule9, rule10, rule11, rule12, rule13, sends, takes, takesBind, rule18, Alone, waits, launches, kills, receives, binds, checks, Key, key, rateWeight, Moves, alone, together, Derivable}
 use Rattle.rules.specs.Listing.{matches, Entry, entry, keyOf, weightOf, gather, when, partnerAction, partner, partnersIn, ofAction, ofGuard, ofProcess, entries}
 use Rattle.rules.proofs.Decides.{on, off, passes, refuses, matching, some}
 use Rattle.rules.proofs.Gather.{gathered, gather-in, when-out, when-in, unless-out, unless-in}
@@ -18,54 +18,12 @@ abbrev pub bindings : (i j r : ℕ) → Query → ℕ → Pair → List Entry
 bindings i j r w q x = when (matches w x) (entry (key kind.bind i j 0 0 q) (rateWeight r) ∷ [])
 
 module _ {Proc : Type 0} (branches : Proc → List (Branch Proc)) (s : State Proc) where
-  -- ---- from the rules to the listing
-  lists-alone : (i j : ℕ) {g : Guard} {a : Action} {c r q : ℕ} {n : Change} {vs : List ℤ} → Offered (s .pairs) g (label a r q n vs) → Alone a c → In (entry (key c i j 0 0 q) (rateWeight r)) (ofGuard branches s i j g)
-  unfolding ofGuard ofAction
-  lists-alone i j rule8 waits = List·Memᴰ·head refl
-  lists-alone i j rule9 launches = List·Memᴰ·head refl
-  lists-alone i j rule10 kills = List·Memᴰ·head refl
-  lists-alone i j (rule11 {w = w} x h m) receives = when-in _ (passes (some w (s .pairs)) (x, h, m)) (List·Memᴰ·head refl)
-  lists-alone i j (rule12 {w = w} {r = r} {x = x} h m) binds = gather-in (bindings i j r w) h (when-in _ (passes (matching w x) m) (List·Memᴰ·head refl))
-  lists-alone i j (rule13 {w = w} f) checks = unless-in _ (refuses (some w (s .pairs)) (λ h. f (h .0) (h .1) (h .2))) (List·Memᴰ·head refl)
-  lists-alone i j (rule18 f) k = lists-alone i j f k
-
-  lists-sender : (i j : ℕ) {g : Guard} {x : Pair} {r q : ℕ} {n : Change} {vs : List ℤ} {e : Entry} → Offered (s .pairs) g (label (send x) r q n vs) → In e (gather (partnersIn branches x r i j) (s .processes)) → In e (ofGuard branches s i j g)
-  unfolding ofGuard ofAction
-  lists-sender i j sends h = h
-  lists-sender i j (rule18 f) h = lists-sender i j f h
-
-  lists-partner : (x : Pair) (r i j k m : ℕ) {g : Guard} {a : Action} {r₂ q : ℕ} {n : Change} {vs us : List ℤ} → Offered (s .pairs) g (label a r₂ q n vs) → Accepts x a us → In (entry (key kind.handshake i j k m 0) (r * r₂)) (partner x r i j k m g)
-  unfolding partner partnerAction
-  lists-partner x r i j k m (takes {w = w}) (unbound h) = when-in _ (passes (matching w x) h) (List·Memᴰ·head refl)
-  lists-partner x r i j k m (takesBind {w = w} vs) (bound h) = when-in _ (passes (matching w x) h) (List·Memᴰ·head refl)
-  lists-partner x r i j k m (rule18 f) a = lists-partner x r i j k m f a
-
-  lists-branch : {i j : ℕ} {p : Proc} {b : Branch Proc} {e : Entry} → Nth (s .processes) i p → Nth (branches p) j b → In e (ofGuard branches s i j (b .guard)) → In e (entries branches s)
-  unfolding entries ofProcess
-  lists-branch f g h = gather-in (ofProcess branches s) f (gather-in _ g h)
-
-  lists-meeting : {i j k m r₁ r₂ : ℕ} → Meeting branches (s .pairs) (s .processes) i j k m r₁ r₂ → In (entry (key kind.handshake i j k m 0) (r₁ * r₂)) (entries branches s)
-  unfolding partnersIn
-  lists-meeting {i} {j} {k} {m} {r₁} t =
-      let f = branching (t .sender .chooses) in
-      let g = branching (t .receiver .chooses) in
-      lists-branch (t .sender .at) (f .at) (lists-sender i j (f .offered)
-      (gather-in (partnersIn branches (t .pair) r₁ i j) (t .receiver .at)
-      (unless-in _ (ne-eqb k i (λ e. t .apart (sym e)))
-      (gather-in (λ (m : ℕ) (b : Branch Proc). partner (t .pair) r₁ i j k m (b .guard)) (g .at) (lists-partner (t .pair) r₁ i j k m (g .offered) (t .accepts))))))
-
-  lists : {k : Key} {w : ℕ} {n : Change} {ps : List Proc} → Moves branches s k w n ps → In (entry k w) (entries branches s)
-  lists (alone c a) =
-      let t = acting branches (s .pairs) a in
-      let f = branching (t .chooses) in
-      lists-branch (t .at) (f .at) (lists-alone _ _ (f .offered) c)
-  lists (together h) = lists-meeting (meeting branches (s .pairs) h)
-
   -- ---- from the listing to the rules
 
   -- where an entry of branch j at place i comes from: an action by itself, or a send with its partners
   pub data Source (i j : ℕ) (g : Guard) (e : Entry) : Type 0 where
-    single : {a : Action} {c r q : ℕ} {n : Change} {vs : List ℤ} → Alone a c → Offered (s .pairs) g (label a r q n vs) → e ≡ entry (key c i j 0 0 q) (rateWeight r) → Source i j g e
+    single : {a : Action} {c r q : ℕ} {n : Change} {vs : List ℤ}
+        → Alone a c → Offered (s .pairs) g (label a r q n vs) → e ≡ entry (key c i j 0 0 q) (rateWeight r) → Source i j g e
     double : {x : Pair} {r : ℕ} → Offered (s .pairs) g (plain (send x) r) → In e (gather (partnersIn branches x r i j) (s .processes)) → Source i j g e
 
   source-action : (i j r : ℕ) (a : Action) {e : Entry} → In e (ofAction branches s i j r a) → Source i j (bare a r) e
@@ -100,7 +58,8 @@ module _ {Proc : Type 0} (branches : Proc → List (Branch Proc)) (s : State Pro
 
   -- what a partner's entry comes from
   pub data Partner (x : Pair) (r i j k m : ℕ) (g : Guard) (e : Entry) : Type 0 where
-    fits : {a : Action} {r₂ : ℕ} {vs : List ℤ} → Accepts x a vs → Offered (s .pairs) g (label a r₂ 0 unchanged vs) → e ≡ entry (key kind.handshake i j k m 0) (r * r₂) → Partner x r i j k m g e
+    fits : {a : Action} {r₂ : ℕ} {vs : List ℤ}
+        → Accepts x a vs → Offered (s .pairs) g (label a r₂ 0 unchanged vs) → e ≡ entry (key kind.handshake i j k m 0) (r * r₂) → Partner x r i j k m g e
 
   partner-action : (x : Pair) (r i j k m r₂ : ℕ) (a : Action) {e : Entry} → In e (partnerAction x r i j k m r₂ a) → Partner x r i j k m (bare a r₂) e
   unfolding partnerAction
@@ -127,13 +86,17 @@ module _ {Proc : Type 0} (branches : Proc → List (Branch Proc)) (s : State Pro
   unfolding keyOf weightOf
   at-entry {e} q d = rw q d
 
-  derives-handshake : {i j k m r : ℕ} {x : Pair} {p p′ : Proc} {b b′ : Branch Proc} {e : Entry} → Nth (s .processes) i p → Nth (branches p) j b → Offered (s .pairs) (b .guard) (plain (send x) r) → Nth (s .processes) k p′ → Nth (branches p′) m b′ → (i ≡ k → ⊥) → Partner x r i j k m (b′ .guard) e → Derivable branches s (keyOf e) (weightOf e)
+  derives-handshake : {i j k m r : ℕ} {x : Pair} {p p′ : Proc} {b b′ : Branch Proc} {e : Entry}
+      → Nth (s .processes) i p → Nth (branches p) j b → Offered (s .pairs) (b .guard) (plain (send x) r)
+      → Nth (s .processes) k p′ → Nth (branches p′) m b′ → (i ≡ k → ⊥) → Partner x r i j k m (b′ .guard) e
+      → Derivable branches s (keyOf e) (weightOf e)
   unfolding Derivable
   derives-handshake f g h f′ g′ d (fits a h′ q) =
       let t = handshakes branches (s .pairs) a d f (chooses g h) f′ (chooses g′ h′) in
       at-entry q (unchanged, t .0, together (t .1))
 
-  derives-branch : {i j : ℕ} {p : Proc} {b : Branch Proc} {e : Entry} → Nth (s .processes) i p → Nth (branches p) j b → Source i j (b .guard) e → Derivable branches s (keyOf e) (weightOf e)
+  derives-branch : {i j : ℕ} {p : Proc} {b : Branch Proc} {e : Entry}
+      → Nth (s .processes) i p → Nth (branches p) j b → Source i j (b .guard) e → Derivable branches s (keyOf e) (weightOf e)
   unfolding Derivable partnersIn
   derives-branch f g (single {n = n} c h q) =
       let t = acts branches (s .pairs) f (chooses g h) in
@@ -150,6 +113,53 @@ module _ {Proc : Type 0} (branches : Proc → List (Branch Proc)) (s : State Pro
       let u = gathered (ofProcess branches s) (s .processes) h in
       let v = gathered (λ (j : ℕ) (b : Branch Proc). ofGuard branches s (u .0) j (b .guard)) (branches (u .1)) (u .3) in
       derives-branch (u .2) (v .2) (source (u .0) (v .0) (v .1 .guard) (v .3))
+
+  -- ---- from the rules to the listing
+  lists-alone : (i j : ℕ) {g : Guard} {a : Action} {c r q : ℕ} {n : Change} {vs : List ℤ}
+      → Offered (s .pairs) g (label a r q n vs) → Alone a c → In (entry (key c i j 0 0 q) (rateWeight r)) (ofGuard branches s i j g)
+  unfolding ofGuard ofAction
+  lists-alone i j rule8 waits = List·Memᴰ·head refl
+  lists-alone i j rule9 launches = List·Memᴰ·head refl
+  lists-alone i j rule10 kills = List·Memᴰ·head refl
+  lists-alone i j (rule11 {w = w} x h m) receives = when-in _ (passes (some w (s .pairs)) (x, h, m)) (List·Memᴰ·head refl)
+  lists-alone i j (rule12 {w = w} {r = r} {x = x} h m) binds = gather-in (bindings i j r w) h (when-in _ (passes (matching w x) m) (List·Memᴰ·head refl))
+  lists-alone i j (rule13 {w = w} f) checks = unless-in _ (refuses (some w (s .pairs)) (λ h. f (h .0) (h .1) (h .2))) (List·Memᴰ·head refl)
+  lists-alone i j (rule18 f) k = lists-alone i j f k
+
+  lists-sender : (i j : ℕ) {g : Guard} {x : Pair} {r q : ℕ} {n : Change} {vs : List ℤ} {e : Entry}
+      → Offered (s .pairs) g (label (send x) r q n vs) → In e (gather (partnersIn branches x r i j) (s .processes)) → In e (ofGuard branches s i j g)
+  unfolding ofGuard ofAction
+  lists-sender i j sends h = h
+  lists-sender i j (rule18 f) h = lists-sender i j f h
+
+  lists-partner : (x : Pair) (r i j k m : ℕ) {g : Guard} {a : Action} {r₂ q : ℕ} {n : Change} {vs us : List ℤ}
+      → Offered (s .pairs) g (label a r₂ q n vs) → Accepts x a us → In (entry (key kind.handshake i j k m 0) (r * r₂)) (partner x r i j k m g)
+  unfolding partner partnerAction
+  lists-partner x r i j k m (takes {w = w}) (unbound h) = when-in _ (passes (matching w x) h) (List·Memᴰ·head refl)
+  lists-partner x r i j k m (takesBind {w = w} vs) (bound h) = when-in _ (passes (matching w x) h) (List·Memᴰ·head refl)
+  lists-partner x r i j k m (rule18 f) a = lists-partner x r i j k m f a
+
+  lists-branch : {i j : ℕ} {p : Proc} {b : Branch Proc} {e : Entry}
+      → Nth (s .processes) i p → Nth (branches p) j b → In e (ofGuard branches s i j (b .guard)) → In e (entries branches s)
+  unfolding entries ofProcess
+  lists-branch f g h = gather-in (ofProcess branches s) f (gather-in _ g h)
+
+  lists-meeting : {i j k m r₁ r₂ : ℕ} → Meeting branches (s .pairs) (s .processes) i j k m r₁ r₂ → In (entry (key kind.handshake i j k m 0) (r₁ * r₂)) (entries branches s)
+  unfolding partnersIn
+  lists-meeting {i} {j} {k} {m} {r₁} t =
+      let f = branching (t .sender .chooses) in
+      let g = branching (t .receiver .chooses) in
+      lists-branch (t .sender .at) (f .at) (lists-sender i j (f .offered)
+      (gather-in (partnersIn branches (t .pair) r₁ i j) (t .receiver .at)
+      (unless-in _ (ne-eqb k i (λ e. t .apart (sym e)))
+      (gather-in (λ (m : ℕ) (b : Branch Proc). partner (t .pair) r₁ i j k m (b .guard)) (g .at) (lists-partner (t .pair) r₁ i j k m (g .offered) (t .accepts))))))
+
+  lists : {k : Key} {w : ℕ} {n : Change} {ps : List Proc} → Moves branches s k w n ps → In (entry k w) (entries branches s)
+  lists (alone c a) =
+      let t = acting branches (s .pairs) a in
+      let f = branching (t .chooses) in
+      lists-branch (t .at) (f .at) (lists-alone _ _ (f .offered) c)
+  lists (together h) = lists-meeting (meeting branches (s .pairs) h)
 
   -- ---- an entry stands in the listing exactly when the rules derive it with its weight
   pub listed : (k : Key) (w : ℕ) → In (entry k w) (entries branches s) ↔ Derivable branches s k w

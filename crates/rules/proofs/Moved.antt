@@ -1,20 +1,19 @@
 -- The rules give one outcome for a key, and it is the step function's: by cases of the rules, and from the listing back to them.
-use Prim.Native.Nat.{ℕ, zero, suc}
+use Prim.Native.Nat.{ℕ}
 use mathlib.Core.Path.{_≡_, refl, ap, _∙_}
 use mathlib.Core.Bool.{false}
 use mathlib.Core.List.{List, [], _∷_, _++_, List·Memᴰ as In}
 use mathlib.Core.Logic.{_↔_}
-use mathlib.Core.Option.{Option, some, Option·elim}
-use native.Mathlib.Omega.{arith}
-use borrow.Author.Tests.{ne-eqb}
+use mathlib.Core.Option.{Option·elim}
 use lib.Dec.{eqb}
 use lib.IntN.{ℤ}
 use lib.ListN.{getElem?}
 use Rattle.rules.specs.Offers.{Pair, Action, send, Guard, Branch, State}
 use Rattle.rules.specs.Kind as kind
-use Rattle.rules.specs.Rules.{Nth, first, later, Change, unchanged, Label, label, Offered, rule8, rule9, rule10, rule11, rule12, rule13, sends, takes, takesBind, rule18, Chooses, rule14-this, rule14-other, Acts, rule15-this, rule15-other, Handshakes, rule16-left, rule16-right, rule17-left, rule17-right, rule15-both, Alone, waits, launches, kills, receives, binds, checks, Key, key, Moves, alone, together, Derivable}
-use Rattle.rules.specs.Listing.{Entry, entry, entries}
-use Rattle.rules.specs.Step.{replace, replaceBoth, changeOf, valuesOf, boundBy, sentBy, takenBy, onAction, Next, stays, goes, oneActs, bothAct, atBranch, step}
+use Rattle.rules.specs.Rules.{Nth, first, later, Change, unchanged, Label, label, Offered, rule8, rule9, rule10, rule11, rule12, rule13, sends, takes, takesBind, rule18, Chooses, rule14-this, rule14-other, Acts, rule15-this, rule15-other, Handshakes, rule16-left, rule16-right, rule17-left, rule17-right, rule15-both, Alone, waits, launches, kills, receives, binds, checks, Key, Moves, alone, together, Derivable}
+use Rattle.rules.specs.Listing.{entry, entries}
+use Rattle.rules.specs.Pairs.{pairsAfter}
+use Rattle.rules.specs.Step.{replace, replaceBoth, changeOf, boundBy, sentBy, takenBy, onAction, Next, stays, goes, stateAfter, oneActs, bothAct, atBranch, step}
 use Rattle.rules.proofs.Places.{Accepts, unbound, bound, branching, acting, meeting, here, there}
 use Rattle.rules.proofs.Listed.{listed}
 
@@ -27,7 +26,8 @@ nth-found d f (later h) = nth-found d f h
 abbrev boundOf : Label → List ℤ
 boundOf (label a r q n vs) = vs
 
-chooses-goes : {Proc : Type 0} {lit : List Pair} {bs : List (Branch Proc)} {j : ℕ} {l : Label} {ks : List Proc} (c : Chooses lit bs j l ks) → branching c .branch .next (boundOf l) ≡ ks
+chooses-goes : {Proc : Type 0} {lit : List Pair} {bs : List (Branch Proc)} {j : ℕ} {l : Label} {ks : List Proc} (c : Chooses lit bs j l ks)
+    → branching c .branch .next (boundOf l) ≡ ks
 unfolding branching
 chooses-goes (rule14-this f) = refl
 chooses-goes (rule14-other c) = chooses-goes c
@@ -38,7 +38,8 @@ module _ {Proc : Type 0} (branches : Proc → List (Branch Proc)) (lit : List Pa
   acts-goes (rule15-this c) = refl
   acts-goes (rule15-other {p = p} a) = ap (λ t. p ∷ t) (acts-goes a)
 
-  handshakes-goes : {ps : List Proc} {i j k m r₁ r₂ : ℕ} {ps′ : List Proc} (h : Handshakes branches lit ps i j k m r₁ r₂ ps′) → replaceBoth i (meeting branches lit h .sender .after) k (meeting branches lit h .receiver .after) ps ≡ ps′
+  handshakes-goes : {ps : List Proc} {i j k m r₁ r₂ : ℕ} {ps′ : List Proc} (h : Handshakes branches lit ps i j k m r₁ r₂ ps′)
+      → replaceBoth i (meeting branches lit h .sender .after) k (meeting branches lit h .receiver .after) ps ≡ ps′
   unfolding meeting replaceBoth here there
   handshakes-goes (rule16-left {ks = ks} c a h) = ap (λ t. ks ++ t) (acts-goes a)
   handshakes-goes (rule16-right {ks = ks} a c h) = ap (λ t. ks ++ t) (acts-goes a)
@@ -60,13 +61,14 @@ offered-change takes = refl
 offered-change (takesBind vs) = refl
 offered-change (rule18 f) = offered-change f
 
-offered-bound : {lit : List Pair} {g : Guard} {a : Action} {r q c : ℕ} {n : Change} {vs : List ℤ} → Offered lit g (label a r q n vs) → Alone a c → onAction [] (boundBy lit q) g ≡ vs
-unfolding onAction boundBy valuesOf
+offered-bound : {lit : List Pair} {g : Guard} {a : Action} {r q c : ℕ} {n : Change} {vs : List ℤ}
+    → Offered lit g (label a r q n vs) → Alone a c → onAction [] (boundBy lit q) g ≡ vs
+unfolding onAction boundBy
 offered-bound rule8 waits = refl
 offered-bound rule9 launches = refl
 offered-bound rule10 kills = refl
 offered-bound (rule11 x h m) receives = refl
-offered-bound (rule12 h m) binds = nth-found [] valuesOf h
+offered-bound (rule12 h m) binds = nth-found [] (λ (x : Pair). x .values) h
 offered-bound (rule13 f) checks = refl
 offered-bound (rule18 f) k = offered-bound f k
 
@@ -75,7 +77,8 @@ unfolding onAction sentBy
 offered-sent sends = refl
 offered-sent (rule18 f) = offered-sent f
 
-offered-taken : {lit : List Pair} {g : Guard} {x : Pair} {a : Action} {r q : ℕ} {n : Change} {vs : List ℤ} → Offered lit g (label a r q n vs) → Accepts x a vs → onAction [] (takenBy (x .values)) g ≡ vs
+offered-taken : {lit : List Pair} {g : Guard} {x : Pair} {a : Action} {r q : ℕ} {n : Change} {vs : List ℤ}
+    → Offered lit g (label a r q n vs) → Accepts x a vs → onAction [] (takenBy (x .values)) g ≡ vs
 unfolding onAction takenBy
 offered-taken takes (unbound h) = refl
 offered-taken (takesBind vs) (bound h) = refl
@@ -90,7 +93,8 @@ no-handshake binds = refl
 no-handshake checks = refl
 
 module _ {Proc : Type 0} (branches : Proc → List (Branch Proc)) (s : State Proc) where
-  at-branch : {i j : ℕ} {p : Proc} {b : Branch Proc} (f : Branch Proc → Next Proc) → Nth (s .processes) i p → Nth (branches p) j b → atBranch branches s i j f ≡ f b
+  at-branch : {i j : ℕ} {p : Proc} {b : Branch Proc} (f : Branch Proc → Next Proc)
+      → Nth (s .processes) i p → Nth (branches p) j b → atBranch branches s i j f ≡ f b
   unfolding atBranch
   at-branch f g h = nth-found stays _ g ∙ nth-found stays f h
 
@@ -108,8 +112,15 @@ module _ {Proc : Type 0} (branches : Proc → List (Branch Proc)) (s : State Pro
       at-branch _ (t .sender .at) (b .at) ∙ at-branch _ (t .receiver .at) (b′ .at)
       ∙ rw (offered-sent (b .offered), offered-taken (b′ .offered) (t .accepts), chooses-goes (t .sender .chooses), chooses-goes (t .receiver .chooses), handshakes-goes branches (s .pairs) h)
 
+  -- and the state afterwards is the rules'
+  pub steps-state : {k : Key} {w : ℕ} {n : Change} {ps : List Proc}
+      → Moves branches s k w n ps → stateAfter s (step branches s k) ≡ record { processes = ps; pairs = pairsAfter n (s .pairs) }
+  unfolding stateAfter
+  steps-state m = ap (stateAfter s) (steps m)
+
   -- the rules move a state with this key, weight, change and processes exactly when the entry is listed and the step function says so
-  pub moves : (k : Key) (w : ℕ) (n : Change) (ps : List Proc) → Moves branches s k w n ps ↔ (In (entry k w) (entries branches s) × (step branches s k ≡ goes n ps))
+  pub moves : (k : Key) (w : ℕ) (n : Change) (ps : List Proc)
+      → Moves branches s k w n ps ↔ (In (entry k w) (entries branches s) × (step branches s k ≡ goes n ps))
   unfolding Derivable
   moves k w n ps = (
     λ m. (listed branches s k w .1 (n, ps, m), steps m),

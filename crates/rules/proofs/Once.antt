@@ -1,7 +1,7 @@
 -- No key stands twice in a listing, and the rules give a key one weight: since the keys ascend strictly.
 use Prim.Native.Nat.{ℕ, suc}
 use mathlib.Core.Path.{_≡_, refl, sym, ap, _∙_}
-use mathlib.Core.List.{List, [], _∷_, List·Memᴰ as In, List·Memᴰ·head, List·Memᴰ·tail}
+use mathlib.Core.List.{List, List·Memᴰ as In, List·Memᴰ·head, List·Memᴰ·tail}
 use Rattle.value.proofs.Kit.{true-not-false}
 use Rattle.rules.specs.Offers.{Branch, State}
 use Rattle.rules.specs.Order.{less, Ascending}

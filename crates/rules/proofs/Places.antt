@@ -23,7 +23,8 @@ module _ {Proc : Type 0} where
   branching (rule14-this {b = b} f) = record { branch = b; at = first; offered = f }
   branching (rule14-other c) = let r = branching c in record { branch = r .branch; at = later (r .at); offered = r .offered }
 
-  pub chooses : {lit : List Pair} {bs : List (Branch Proc)} {j : ℕ} {b : Branch Proc} {a : Action} {r q : ℕ} {n : Change} {vs : List ℤ} → Nth bs j b → Offered lit (b .guard) (label a r q n vs) → Chooses lit bs j (label a r q n vs) (b .next vs)
+  pub chooses : {lit : List Pair} {bs : List (Branch Proc)} {j : ℕ} {b : Branch Proc} {a : Action} {r q : ℕ} {n : Change} {vs : List ℤ}
+      → Nth bs j b → Offered lit (b .guard) (label a r q n vs) → Chooses lit bs j (label a r q n vs) (b .next vs)
   chooses first f = rule14-this f
   chooses (later h) f = rule14-other (chooses h f)
 
@@ -45,7 +46,8 @@ module _ {Proc : Type 0} (branches : Proc → List (Branch Proc)) (lit : List Pa
   acting (rule15-this c) = here c
   acting (rule15-other a) = there (acting a)
 
-  pub acts : {ps : List Proc} {i j : ℕ} {l : Label} {p : Proc} {ks : List Proc} → Nth ps i p → Chooses lit (branches p) j l ks → (ps′ : List Proc) × Acts branches lit ps i j l ps′
+  pub acts : {ps : List Proc} {i j : ℕ} {l : Label} {p : Proc} {ks : List Proc}
+      → Nth ps i p → Chooses lit (branches p) j l ks → (ps′ : List Proc) × Acts branches lit ps i j l ps′
   acts {ks = ks} (first {xs = xs}) c = (ks ++ xs, rule15-this c)
   acts (later {x = x} h) c = let r = acts h c in (x ∷ r .0, rule15-other (r .1))
 
@@ -68,15 +70,22 @@ module _ {Proc : Type 0} (branches : Proc → List (Branch Proc)) (lit : List Pa
       let r = meeting s in
       record { pair = r .pair; action = r .action; values = r .values; sender = there (r .sender); receiver = there (r .receiver); accepts = r .accepts; apart = λ e. r .apart (omega arith) }
 
-  left : {p : Proc} {ps : List Proc} {x : Pair} {a : Action} {vs : List ℤ} {j k m r₁ r₂ : ℕ} {ks : List Proc} → Accepts x a vs → Chooses lit (branches p) j (plain (send x) r₁) ks → ((ps′ : List Proc) × Acts branches lit ps k m (label a r₂ 0 unchanged vs) ps′) → (ps′ : List Proc) × Handshakes branches lit (p ∷ ps) zero j (suc k) m r₁ r₂ ps′
+  left : {p : Proc} {ps : List Proc} {x : Pair} {a : Action} {vs : List ℤ} {j k m r₁ r₂ : ℕ} {ks : List Proc}
+      → Accepts x a vs → Chooses lit (branches p) j (plain (send x) r₁) ks → ((ps′ : List Proc) × Acts branches lit ps k m (label a r₂ 0 unchanged vs) ps′)
+      → (ps′ : List Proc) × Handshakes branches lit (p ∷ ps) zero j (suc k) m r₁ r₂ ps′
   left {ks = ks} (unbound h) c a = (ks ++ a .0, rule16-left c (a .1) h)
   left {ks = ks} (bound h) c a = (ks ++ a .0, rule17-left c (a .1) h)
 
-  right : {p : Proc} {ps : List Proc} {x : Pair} {a : Action} {vs : List ℤ} {i j m r₁ r₂ : ℕ} {ks : List Proc} → Accepts x a vs → ((ps′ : List Proc) × Acts branches lit ps i j (plain (send x) r₁) ps′) → Chooses lit (branches p) m (label a r₂ 0 unchanged vs) ks → (ps′ : List Proc) × Handshakes branches lit (p ∷ ps) (suc i) j zero m r₁ r₂ ps′
+  right : {p : Proc} {ps : List Proc} {x : Pair} {a : Action} {vs : List ℤ} {i j m r₁ r₂ : ℕ} {ks : List Proc}
+      → Accepts x a vs → ((ps′ : List Proc) × Acts branches lit ps i j (plain (send x) r₁) ps′) → Chooses lit (branches p) m (label a r₂ 0 unchanged vs) ks
+      → (ps′ : List Proc) × Handshakes branches lit (p ∷ ps) (suc i) j zero m r₁ r₂ ps′
   right {ks = ks} (unbound h) a c = (ks ++ a .0, rule16-right (a .1) c h)
   right {ks = ks} (bound h) a c = (ks ++ a .0, rule17-right (a .1) c h)
 
-  pub handshakes : {ps : List Proc} {i j k m r₁ r₂ : ℕ} {x : Pair} {a : Action} {vs : List ℤ} {p q : Proc} {ks ls : List Proc} → Accepts x a vs → (i ≡ k → ⊥) → Nth ps i p → Chooses lit (branches p) j (plain (send x) r₁) ks → Nth ps k q → Chooses lit (branches q) m (label a r₂ 0 unchanged vs) ls → (ps′ : List Proc) × Handshakes branches lit ps i j k m r₁ r₂ ps′
+  pub handshakes : {ps : List Proc} {i j k m r₁ r₂ : ℕ} {x : Pair} {a : Action} {vs : List ℤ} {p q : Proc} {ks ls : List Proc}
+      → Accepts x a vs → (i ≡ k → ⊥)
+      → Nth ps i p → Chooses lit (branches p) j (plain (send x) r₁) ks → Nth ps k q → Chooses lit (branches q) m (label a r₂ 0 unchanged vs) ls
+      → (ps′ : List Proc) × Handshakes branches lit ps i j k m r₁ r₂ ps′
   handshakes h d first c first e = absurd (d refl)
   handshakes h d first c (later g) e = left h c (acts g e)
   handshakes h d (later f) c first e = right h (acts f c) e

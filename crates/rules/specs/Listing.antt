@@ -21,16 +21,17 @@ sameChannel (named m) (number y) = false
 sameChannel (named m) (named n) = eqb m n
 
 -- 01, Transitions: as many values as sets, each value in its set
-unfoldable pub each : List Set → List ℤ → Bool
-each [] [] = true
-each [] (v ∷ vs) = false
-each (x ∷ xs) [] = false
-each (x ∷ xs) (v ∷ vs) = within x v && each xs vs
+unfoldable pub allWithin : List Set → List ℤ → Bool
+allWithin [] [] = true
+allWithin [] (v ∷ vs) = false
+allWithin (x ∷ xs) [] = false
+allWithin (x ∷ xs) (v ∷ vs) = within x v && allWithin xs vs
 
+-- 01, Transitions: matching
 unfoldable pub matches : Query → Pair → Bool
-matches w x = sameChannel (w .channel) (x .channel) && each (w .sets) (x .values)
+matches w x = sameChannel (w .channel) (x .channel) && allWithin (w .sets) (x .values)
 
--- some pair matches
+-- 01, Transitions: some lit pair matches
 unfoldable pub anyMatch : Query → List Pair → Bool
 anyMatch w [] = false
 anyMatch w (x ∷ xs) = matches w x || anyMatch w xs
@@ -41,6 +42,7 @@ anyMatch w (x ∷ xs) = matches w x || anyMatch w xs
 pub data Entry : Type 0 where
   entry : Key → (weight : ℕ) → Entry
 
+-- its parts
 unfoldable pub keyOf : Entry → Key
 keyOf (entry k w) = k
 
@@ -115,5 +117,6 @@ module _ {Proc : Type 0} (branches : Proc → List (Branch Proc)) (s : State Pro
 unfoldable pub rank : Key → List ℤ
 rank (key c i j k m q) = pos i ∷ pos j ∷ pos q ∷ pos k ∷ pos m ∷ []
 
+-- one entry stands before another
 abbrev pub Earlier : Entry → Entry → Type 0
 Earlier d e = less (rank (keyOf d)) (rank (keyOf e)) ≡ true

@@ -21,6 +21,7 @@ numbers x = channelNumbers (x .channel) (pos (length (x .values)) ∷ x .values)
 unfoldable pub before : Pair → Pair → Bool
 before x y = less (numbers x) (numbers y)
 
+-- the same as a statement
 abbrev pub Before : Pair → Pair → Type 0
 Before x y = before x y ≡ true
 

@@ -6,12 +6,12 @@ use mathlib.Core.Option.{none, some, Option·elim}
 use Prim.Native.Nat.{ℕ}
 use lib.IntN.{ℤ, pos, _+ℤ_}
 use Rattle.value.specs.Arithmetic.{isLess}
-use Rattle.rules.specs.Offers.{Channel, named, Pair, Set, range, without, within, Query, wait, receive, bind, check, send, take, takeBind, Guard, bare, opened, shut, Branch, State}
+use Rattle.rules.specs.Offers.{Channel, number, named, Pair, Set, range, without, within, Query, wait, receive, bind, check, send, take, takeBind, Guard, bare, opened, shut, Branch, State}
 use Rattle.rules.specs.Order.{less}
 use Rattle.rules.specs.Kind as kind
 use Rattle.rules.specs.Rules.{key, unchanged, launched, killed}
 use Rattle.rules.specs.Pairs.{channelNumbers, numbers, before, insert, remove, pairsAfter}
-use Rattle.rules.specs.Listing.{sameChannel, each, matches, anyMatch, Entry, entry, weightOf, gather, when, unless, partnerAction, partner, partnersIn, ofAction, ofGuard, ofProcess, entries}
+use Rattle.rules.specs.Listing.{sameChannel, allWithin, matches, anyMatch, entry, weightOf, gather, when, unless, partnerAction, partner, partnersIn, ofAction, ofGuard, ofProcess, entries}
 use Rattle.rules.specs.Draw.{weights, total, chosen}
 use Rattle.rules.specs.Step.{replace, replaceBoth, changeOf, boundBy, sentBy, takenBy, onAction, goes, atBranch, oneActs, bothAct, step}
 
@@ -93,8 +93,11 @@ pub rows :
     × (entries (one (bare (bind query) 10000)) (alone (pair 3 ∷ pair 4 ∷ pair 5 ∷ [])) ≡ entry (key kind.bind 0 0 0 0 0) 100000000 ∷ entry (key kind.bind 0 0 0 0 2) 100000000 ∷ [])
     -- a check on no pairs is enabled
     × (entries (one (bare (check query) 10000)) (alone []) ≡ entry (key kind.check 0 0 0 0 0) 100000000 ∷ [])
+    -- a name is no number; rate 0 is listed
+    × (matches query (record { channel = number (pos 0); values = pos 3 ∷ [] }) ≡ false)
+    × (entries (one (bare wait 0)) (alone []) ≡ entry (key kind.wait 0 0 0 0 0) 0 ∷ [])
     -- one process both sending and receiving: no handshake; two such processes: each sends to the other
     × (entries both (alone []) ≡ [])
     × (entries both (record { processes = tt ∷ tt ∷ []; pairs = [] }) ≡ entry (key kind.handshake 0 0 1 1 0) 1 ∷ entry (key kind.handshake 1 0 0 1 0) 1 ∷ [])
-unfolding entries gather when unless ofProcess ofGuard ofAction partnersIn partner partnerAction matches sameChannel each within anyMatch weights weightOf total chosen step atBranch oneActs bothAct onAction changeOf boundBy sentBy takenBy replace replaceBoth pairsAfter insert remove before numbers channelNumbers less Option·elim
-rows = (refl, refl, refl, refl, refl, refl, refl, refl, refl, refl, refl, refl, refl, refl, refl, refl, refl, refl, refl)
+unfolding entries gather when unless ofProcess ofGuard ofAction partnersIn partner partnerAction matches sameChannel allWithin within anyMatch weights weightOf total chosen step atBranch oneActs bothAct onAction changeOf boundBy sentBy takenBy replace replaceBoth pairsAfter insert remove before numbers channelNumbers less Option·elim
+rows = (refl, refl, refl, refl, refl, refl, refl, refl, refl, refl, refl, refl, refl, refl, refl, refl, refl, refl, refl, refl, refl)

@@ -1,12 +1,12 @@
 -- The step that an entry stands for, as a function. Definitions only.
 use mathlib.Core.List.{List, [], _∷_, _++_}
-use mathlib.Core.Bool.{Bool, true, false, cond}
-use mathlib.Core.Option.{Option, none, some, Option·elim}
+use mathlib.Core.Bool.{cond}
+use mathlib.Core.Option.{Option·elim}
 use Prim.Native.Nat.{ℕ, zero, suc}
 use lib.Dec.{eqb}
 use lib.IntN.{ℤ}
 use lib.ListN.{getElem?}
-use Rattle.rules.specs.Offers.{Pair, Query, Action, wait, launch, kill, receive, bind, check, send, take, takeBind, Guard, bare, opened, shut, Branch, State}
+use Rattle.rules.specs.Offers.{Pair, Action, wait, launch, kill, receive, bind, check, send, take, takeBind, Guard, bare, opened, shut, Branch, State}
 use Rattle.rules.specs.Kind as kind
 use Rattle.rules.specs.Rules.{Change, unchanged, launched, killed, Key, key}
 use Rattle.rules.specs.Pairs.{pairsAfter}
@@ -44,16 +44,13 @@ changeOf (send x) = unchanged
 changeOf (take w) = unchanged
 changeOf (takeBind w) = unchanged
 
-unfoldable pub valuesOf : Pair → List ℤ
-valuesOf x = x .values
-
 -- 01, State, step: names bound take the values of the pair with number q
 unfoldable pub boundBy : List Pair → ℕ → Action → List ℤ
 boundBy L q wait = []
 boundBy L q (launch x) = []
 boundBy L q (kill x) = []
 boundBy L q (receive w) = []
-boundBy L q (bind w) = Option·elim (getElem? L q) [] valuesOf
+boundBy L q (bind w) = Option·elim (getElem? L q) [] (λ (x : Pair). x .values)
 boundBy L q (check w) = []
 boundBy L q (send x) = []
 boundBy L q (take w) = []

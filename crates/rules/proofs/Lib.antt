@@ -13,3 +13,4 @@ pub mod Spliced
 pub mod Before
 pub mod Launched
 pub mod Killed
+pub mod Inside

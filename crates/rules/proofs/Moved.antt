@@ -13,7 +13,7 @@ use Rattle.rules.specs.Kind as kind
 use Rattle.rules.specs.Rules.{Nth, first, later, Change, unchanged, Label, label, Offered, rule8, rule9, rule10, rule11, rule12, rule13, sends, takes, takesBind, rule18, Chooses, rule14-this, rule14-other, Acts, rule15-this, rule15-other, Handshakes, rule16-left, rule16-right, rule17-left, rule17-right, rule15-both, Alone, waits, launches, kills, receives, binds, checks, Key, Moves, alone, together, Derivable}
 use Rattle.rules.specs.Listing.{entry, entries}
 use Rattle.rules.specs.Pairs.{pairsAfter}
-use Rattle.rules.specs.Step.{replace, replaceBoth, changeOf, boundBy, sentBy, takenBy, onAction, Next, stays, goes, stateAfter, oneActs, bothAct, atBranch, step}
+use Rattle.rules.specs.Step.{replace, replaceBoth, changeOf, boundBy, valuesAt, sentBy, onAction, Outcome, stays, goes, stateAfter, oneActs, bothAct, atBranch, step}
 use Rattle.rules.proofs.Places.{Accepts, unbound, bound, branching, acting, meeting, here, there}
 use Rattle.rules.proofs.Listed.{listed}
 
@@ -62,8 +62,8 @@ offered-change (takesBind vs) = refl
 offered-change (rule18 f) = offered-change f
 
 offered-bound : {lit : List Pair} {g : Guard} {a : Action} {r q c : ℕ} {n : Change} {vs : List ℤ}
-    → Offered lit g (label a r q n vs) → Alone a c → onAction [] (boundBy lit q) g ≡ vs
-unfolding onAction boundBy
+    → Offered lit g (label a r q n vs) → Alone a c → onAction [] (boundBy (valuesAt lit q)) g ≡ vs
+unfolding onAction boundBy valuesAt
 offered-bound rule8 waits = refl
 offered-bound rule9 launches = refl
 offered-bound rule10 kills = refl
@@ -77,14 +77,14 @@ unfolding onAction sentBy
 offered-sent sends = refl
 offered-sent (rule18 f) = offered-sent f
 
-offered-taken : {lit : List Pair} {g : Guard} {x : Pair} {a : Action} {r q : ℕ} {n : Change} {vs : List ℤ}
-    → Offered lit g (label a r q n vs) → Accepts x a vs → onAction [] (takenBy (x .values)) g ≡ vs
-unfolding onAction takenBy
-offered-taken takes (unbound h) = refl
-offered-taken (takesBind vs) (bound h) = refl
-offered-taken (rule18 f) h = offered-taken f h
+offered-received : {lit : List Pair} {g : Guard} {x : Pair} {a : Action} {r q : ℕ} {n : Change} {vs : List ℤ}
+    → Offered lit g (label a r q n vs) → Accepts x a vs → onAction [] (boundBy (x .values)) g ≡ vs
+unfolding onAction boundBy
+offered-received takes (unbound h) = refl
+offered-received (takesBind vs) (bound h) = refl
+offered-received (rule18 f) h = offered-received f h
 
-no-handshake : {a : Action} {c : ℕ} → Alone a c → eqb c kind.handshake ≡ false
+pub no-handshake : {a : Action} {c : ℕ} → Alone a c → eqb c kind.handshake ≡ false
 no-handshake waits = refl
 no-handshake launches = refl
 no-handshake kills = refl
@@ -93,7 +93,7 @@ no-handshake binds = refl
 no-handshake checks = refl
 
 module _ {Proc : Type 0} (branches : Proc → List (Branch Proc)) (s : State Proc) where
-  at-branch : {i j : ℕ} {p : Proc} {b : Branch Proc} (f : Branch Proc → Next Proc)
+  at-branch : {i j : ℕ} {p : Proc} {b : Branch Proc} (f : Branch Proc → Outcome Proc)
       → Nth (s .processes) i p → Nth (branches p) j b → atBranch branches s i j f ≡ f b
   unfolding atBranch
   at-branch f g h = nth-found stays _ g ∙ nth-found stays f h
@@ -110,13 +110,18 @@ module _ {Proc : Type 0} (branches : Proc → List (Branch Proc)) (s : State Pro
       let b = branching (t .sender .chooses) in
       let b′ = branching (t .receiver .chooses) in
       at-branch _ (t .sender .at) (b .at) ∙ at-branch _ (t .receiver .at) (b′ .at)
-      ∙ rw (offered-sent (b .offered), offered-taken (b′ .offered) (t .accepts), chooses-goes (t .sender .chooses), chooses-goes (t .receiver .chooses), handshakes-goes branches (s .pairs) h)
+      ∙ rw (offered-sent (b .offered), offered-received (b′ .offered) (t .accepts), chooses-goes (t .sender .chooses), chooses-goes (t .receiver .chooses), handshakes-goes branches (s .pairs) h)
 
   -- and the state afterwards is the rules'
   pub steps-state : {k : Key} {w : ℕ} {n : Change} {ps : List Proc}
       → Moves branches s k w n ps → stateAfter s (step branches s k) ≡ record { processes = ps; pairs = pairsAfter n (s .pairs) }
   unfolding stateAfter
   steps-state m = ap (stateAfter s) (steps m)
+
+  -- a listed entry always goes on
+  pub listed-goes : (k : Key) (w : ℕ) → In (entry k w) (entries branches s) → (n : Change) × (ps : List Proc) × (step branches s k ≡ goes n ps)
+  unfolding Derivable
+  listed-goes k w h = let d = listed branches s k w .0 h in (d .0, d .1, steps (d .2))
 
   -- the rules move a state with this key, weight, change and processes exactly when the entry is listed and the step function says so
   pub moves : (k : Key) (w : ℕ) (n : Change) (ps : List Proc)

@@ -7,7 +7,7 @@ use lib.Dec.{eqb, ltb}
 use lib.ListN.{length, take}
 use Rattle.rules.specs.Listing.{Entry, weightOf}
 
--- the last numbers of the entries
+-- 01, Transitions: the weights of a listing
 unfoldable pub weights : List Entry → List ℕ
 weights es = map weightOf es
 

@@ -1,7 +1,7 @@
 -- The kinds of entries. Definitions only.
 use Prim.Native.Nat.{ℕ}
 
--- 01, Transitions: kind
+-- 01, Transitions: kind, 1 to 7
 abbrev pub wait : ℕ
 wait = 1
 

@@ -28,7 +28,7 @@ within (without x y) v = within x v && not (within y v)
 within (union x y) v = within x v || within y v
 within (inter x y) v = within x v && within y v
 
--- 000, 11 to 13, 16, 17: what a receive or a check asks for, c?[Ω]: a channel, and a set for each value
+-- 000, (11) to (13), (16), (17): what a receive or a check asks for, c?[Ω]: a channel, and a set for each value
 pub record Query : Type 0 where
   pub channel : Channel
   pub sets : List Set

@@ -20,7 +20,7 @@ pub data Change : Type 0 where
 pub data Label : Type 0 where
   label : (a : Action) (rate pair : ℕ) (change : Change) (bound : List ℤ) → Label
 
--- a label that does no more than act
+-- a label that receives no pair, writes nothing and binds nothing
 abbrev pub plain : Action → ℕ → Label
 plain a r = label a r 0 unchanged []
 
@@ -104,6 +104,6 @@ pub data Moves {Proc : Type 0} (branches : Proc → List (Branch Proc)) (s : Sta
   together : {i j k m r₁ r₂ : ℕ} {ps : List Proc}
       → Handshakes branches (s .pairs) (s .processes) i j k m r₁ r₂ ps → Moves branches s (key kind.handshake i j k m 0) (r₁ * r₂) unchanged ps
 
--- some transition of the state has this key and this weight
+-- 01, Transitions: the rules derive a transition with this key and this weight
 unfoldable pub Derivable : {Proc : Type 0} → (Proc → List (Branch Proc)) → State Proc → Key → ℕ → Type 0
 Derivable {Proc} branches s k w = (n : Change) × (ps : List Proc) × Moves branches s k w n ps

@@ -3,8 +3,8 @@ use mathlib.Core.Path.{_≡_, refl}
 use mathlib.Core.List.{List, [], _∷_}
 use mathlib.Core.Bool.{true, false, cond}
 use mathlib.Core.Option.{none, some, Option·elim}
-use Prim.Native.Nat.{ℕ}
-use lib.IntN.{ℤ, pos, _+ℤ_}
+use Prim.Native.Nat.{ℕ, _*_}
+use lib.IntN.{ℤ, pos, natAbs, _+ℤ_}
 use Rattle.value.specs.Arithmetic.{isLess}
 use Rattle.rules.specs.Offers.{Channel, number, named, Pair, Set, range, without, within, Query, wait, receive, bind, check, send, take, takeBind, Guard, bare, opened, shut, Branch, State}
 use Rattle.rules.specs.Order.{less}
@@ -13,7 +13,7 @@ use Rattle.rules.specs.Rules.{key, unchanged, launched, killed}
 use Rattle.rules.specs.Pairs.{channelNumbers, numbers, before, insert, remove, pairsAfter}
 use Rattle.rules.specs.Listing.{sameChannel, allWithin, matches, anyMatch, entry, weightOf, gather, when, unless, partnerAction, partner, partnersIn, ofAction, ofGuard, ofProcess, entries}
 use Rattle.rules.specs.Draw.{weights, total, chosen}
-use Rattle.rules.specs.Step.{replace, replaceBoth, changeOf, boundBy, sentBy, takenBy, onAction, goes, atBranch, oneActs, bothAct, step}
+use Rattle.rules.specs.Step.{replace, replaceBoth, changeOf, boundBy, valuesAt, sentBy, onAction, goes, atBranch, oneActs, bothAct, step}
 
 -- ---- 01, A bench sheet in full: Lamp[n] and Post[a]
 pub data Proc : Type 0 where
@@ -32,9 +32,9 @@ abbrev firstOf : List ℤ → ℤ
 firstOf [] = pos 0
 firstOf (v ∷ vs) = v
 
--- [n<3] -> {go,g*n} at n = 1, where g*n is 0.25; {@pass?[a..a+1](v),1.5}.Post[v]
+-- [n<3] -> {go,g*n}, where g is 0.25; {@pass?[a..a+1](v),1.5}.Post[v]
 abbrev sheetBranches : Proc → List (Branch Proc)
-sheetBranches (lamp n) = lampBranches n (cond (isLess n (pos 3)) (opened wait 2500) shut)
+sheetBranches (lamp n) = lampBranches n (cond (isLess n (pos 3)) (opened wait (2500 * natAbs n)) shut)
 sheetBranches (post a) =
     record { guard = bare (takeBind (record { channel = pass; sets = range a (a +ℤ pos 1) ∷ [] })) 15000; next = λ vs. post (firstOf vs) ∷ [] } ∷ []
 
@@ -99,5 +99,5 @@ pub rows :
     -- one process both sending and receiving: no handshake; two such processes: each sends to the other
     × (entries both (alone []) ≡ [])
     × (entries both (record { processes = tt ∷ tt ∷ []; pairs = [] }) ≡ entry (key kind.handshake 0 0 1 1 0) 1 ∷ entry (key kind.handshake 1 0 0 1 0) 1 ∷ [])
-unfolding entries gather when unless ofProcess ofGuard ofAction partnersIn partner partnerAction matches sameChannel allWithin within anyMatch weights weightOf total chosen step atBranch oneActs bothAct onAction changeOf boundBy sentBy takenBy replace replaceBoth pairsAfter insert remove before numbers channelNumbers less Option·elim
+unfolding entries gather when unless ofProcess ofGuard ofAction partnersIn partner partnerAction matches sameChannel allWithin within anyMatch weights weightOf total chosen step atBranch oneActs bothAct onAction changeOf boundBy valuesAt sentBy replace replaceBoth pairsAfter insert remove before numbers channelNumbers less Option·elim
 rows = (refl, refl, refl, refl, refl, refl, refl, refl, refl, refl, refl, refl, refl, refl, refl, refl, refl, refl, refl, refl, refl)

@@ -44,19 +44,23 @@ changeOf (send x) = unchanged
 changeOf (take w) = unchanged
 changeOf (takeBind w) = unchanged
 
--- 01, State, step: names bound take the values of the pair with number q
-unfoldable pub boundBy : List Pair → ℕ → Action → List ℤ
-boundBy L q wait = []
-boundBy L q (launch x) = []
-boundBy L q (kill x) = []
-boundBy L q (receive w) = []
-boundBy L q (bind w) = Option·elim (getElem? L q) [] (λ (x : Pair). x .values)
-boundBy L q (check w) = []
-boundBy L q (send x) = []
-boundBy L q (take w) = []
-boundBy L q (takeBind w) = []
+-- 01, State, step: names bound take the values received, the pair's or those sent
+unfoldable pub boundBy : List ℤ → Action → List ℤ
+boundBy vs (bind w) = vs
+boundBy vs (takeBind w) = vs
+boundBy vs wait = []
+boundBy vs (launch x) = []
+boundBy vs (kill x) = []
+boundBy vs (receive w) = []
+boundBy vs (check w) = []
+boundBy vs (send x) = []
+boundBy vs (take w) = []
 
--- the values that an action sends in a handshake
+-- the values of the pair with number q
+unfoldable pub valuesAt : List Pair → ℕ → List ℤ
+valuesAt L q = Option·elim (getElem? L q) [] (λ (x : Pair). x .values)
+
+-- the values sent
 unfoldable pub sentBy : Action → List ℤ
 sentBy (send x) = x .values
 sentBy wait = []
@@ -68,18 +72,6 @@ sentBy (check w) = []
 sentBy (take w) = []
 sentBy (takeBind w) = []
 
--- 01, State, step: names bound take the values sent
-unfoldable pub takenBy : List ℤ → Action → List ℤ
-takenBy vs (takeBind w) = vs
-takenBy vs wait = []
-takenBy vs (launch x) = []
-takenBy vs (kill x) = []
-takenBy vs (receive w) = []
-takenBy vs (bind w) = []
-takenBy vs (check w) = []
-takenBy vs (send x) = []
-takenBy vs (take w) = []
-
 -- f of a guard's action; d behind a false gate
 unfoldable pub onAction : {B : Type 0} → B → (Action → B) → Guard → B
 onAction d f (bare a r) = f a
@@ -89,27 +81,28 @@ onAction d f shut = d
 -- ---- the step
 
 -- what becomes of a state: nothing, or a change of its pairs and its processes afterwards
-pub data Next (Proc : Type 0) : Type 0 where
-  stays : Next Proc
-  goes : Change → List Proc → Next Proc
+pub data Outcome (Proc : Type 0) : Type 0 where
+  stays : Outcome Proc
+  goes : Change → List Proc → Outcome Proc
 
-unfoldable pub stateAfter : {Proc : Type 0} → State Proc → Next Proc → State Proc
+-- 01, State, step: the state afterwards
+unfoldable pub stateAfter : {Proc : Type 0} → State Proc → Outcome Proc → State Proc
 stateAfter s stays = s
 stateAfter s (goes n ps) = record { processes = ps; pairs = pairsAfter n (s .pairs) }
 
 module _ {Proc : Type 0} (branches : Proc → List (Branch Proc)) (s : State Proc) where
   -- f of branch j of the process at place i
-  unfoldable pub atBranch : (i j : ℕ) → (Branch Proc → Next Proc) → Next Proc
+  unfoldable pub atBranch : (i j : ℕ) → (Branch Proc → Outcome Proc) → Outcome Proc
   atBranch i j f = Option·elim (getElem? (s .processes) i) stays (λ p. Option·elim (getElem? (branches p) j) stays f)
 
   -- 01, State, step: the acting process is replaced at its place by its continuation
-  unfoldable pub oneActs : (i q : ℕ) → Branch Proc → Next Proc
-  oneActs i q b = goes (onAction unchanged changeOf (b .guard)) (replace i (b .next (onAction [] (boundBy (s .pairs) q) (b .guard))) (s .processes))
+  unfoldable pub oneActs : (i q : ℕ) → Branch Proc → Outcome Proc
+  oneActs i q b = goes (onAction unchanged changeOf (b .guard)) (replace i (b .next (onAction [] (boundBy (valuesAt (s .pairs) q)) (b .guard))) (s .processes))
 
   -- 01, State, step: a handshake does so to both processes, judged from the state before
-  unfoldable pub bothAct : (i k : ℕ) → Branch Proc → Branch Proc → Next Proc
-  bothAct i k b b′ = goes unchanged (replaceBoth i (b .next []) k (b′ .next (onAction [] (takenBy (onAction [] sentBy (b .guard))) (b′ .guard))) (s .processes))
+  unfoldable pub bothAct : (i k : ℕ) → Branch Proc → Branch Proc → Outcome Proc
+  bothAct i k b b′ = goes unchanged (replaceBoth i (b .next []) k (b′ .next (onAction [] (boundBy (onAction [] sentBy (b .guard))) (b′ .guard))) (s .processes))
 
   -- 01, State, step: what the entry with this key does
-  unfoldable pub step : Key → Next Proc
+  unfoldable pub step : Key → Outcome Proc
   step (key c i j k m q) = atBranch i j (λ b. cond (eqb c kind.handshake) (atBranch k m (λ b′. bothAct i k b b′)) (oneActs i q b))

@@ -93,10 +93,10 @@ unfolding matches
 matching w x = along (λ h. record { same = h .0; each = h .1 }) (λ m. (m .same, m .each)) (both (channel (w .channel) (x .channel)) (values (w .sets) (x .values)))
 
 -- some lit pair matches exactly when the test passes
-pub some : (w : Query) (L : List Pair) → Decides ((x : Pair) × In x L × Matches w x) (anyMatch w L)
+pub any-matching : (w : Query) (L : List Pair) → Decides ((x : Pair) × In x L × Matches w x) (anyMatch w L)
 unfolding anyMatch
-some w [] = fails (λ h. List·Memᴰ·not-nil (h .1))
-some w (p ∷ L) =
+any-matching w [] = fails (λ h. List·Memᴰ·not-nil (h .1))
+any-matching w (p ∷ L) =
     along (⊎-elim (λ m. (p, List·Memᴰ·head refl, m)) (λ h. (h .0, List·Memᴰ·tail (h .1), h .2)))
     (λ h. ⊎-elim (λ e. inl (subst (λ (x : Pair). Matches w x) e (h .2))) (λ i. inr (h .0, i, h .2)) (List·Memᴰ·cases-cons (h .1)))
-    (either (matching w p) (some w L))
+    (either (matching w p) (any-matching w L))

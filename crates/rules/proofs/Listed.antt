@@ -9,7 +9,7 @@ use Rattle.rules.specs.Offers.{Pair, Query, Action, wait, launch, kill, 
 use Rattle.rules.specs.Kind as kind
 use Rattle.rules.specs.Rules.{Nth, Change, unchanged, label, plain, Offered, rule8, rule9, rule10, rule11, rule12, rule13, sends, takes, takesBind, rule18, Alone, waits, launches, kills, receives, binds, checks, Key, key, rateWeight, Moves, alone, together, Derivable}
 use Rattle.rules.specs.Listing.{matches, Entry, entry, keyOf, weightOf, gather, when, partnerAction, partner, partnersIn, ofAction, ofGuard, ofProcess, entries}
-use Rattle.rules.proofs.Decides.{on, off, passes, refuses, matching, some}
+use Rattle.rules.proofs.Decides.{on, off, passes, refuses, matching, any-matching}
 use Rattle.rules.proofs.Gather.{gathered, gather-in, when-out, when-in, unless-out, unless-in}
 use Rattle.rules.proofs.Places.{Accepts, unbound, bound, branching, chooses, acting, acts, Meeting, meeting, handshakes}
 
@@ -33,7 +33,7 @@ module _ {Proc : Type 0} (branches : Proc → List (Branch Proc)) (s : State Pro
   source-action i j r (kill x) h = single kills rule10 (List·Memᴰ·eq-of-singleton h)
   source-action i j r (receive w) h =
       let o = when-out _ h in
-      let m = on (some w (s .pairs)) (o .0) in
+      let m = on (any-matching w (s .pairs)) (o .0) in
       single receives (rule11 (m .0) (m .1) (m .2)) (List·Memᴰ·eq-of-singleton (o .1))
   source-action i j r (bind w) h =
       let g = gathered (bindings i j r w) (s .pairs) h in
@@ -41,7 +41,7 @@ module _ {Proc : Type 0} (branches : Proc → List (Branch Proc)) (s : State Pro
       single binds (rule12 (g .2) (on (matching w (g .1)) (o .0))) (List·Memᴰ·eq-of-singleton (o .1))
   source-action i j r (check w) h =
       let o = unless-out _ h in
-      single checks (rule13 (λ x n m. off (some w (s .pairs)) (o .0) (x, n, m))) (List·Memᴰ·eq-of-singleton (o .1))
+      single checks (rule13 (λ x n m. off (any-matching w (s .pairs)) (o .0) (x, n, m))) (List·Memᴰ·eq-of-singleton (o .1))
   source-action i j r (send x) h = double sends h
   source-action i j r (take w) h = absurd (List·Memᴰ·not-nil h)
   source-action i j r (takeBind w) h = absurd (List·Memᴰ·not-nil h)
@@ -121,9 +121,9 @@ module _ {Proc : Type 0} (branches : Proc → List (Branch Proc)) (s : State Pro
   lists-alone i j rule8 waits = List·Memᴰ·head refl
   lists-alone i j rule9 launches = List·Memᴰ·head refl
   lists-alone i j rule10 kills = List·Memᴰ·head refl
-  lists-alone i j (rule11 {w = w} x h m) receives = when-in _ (passes (some w (s .pairs)) (x, h, m)) (List·Memᴰ·head refl)
+  lists-alone i j (rule11 {w = w} x h m) receives = when-in _ (passes (any-matching w (s .pairs)) (x, h, m)) (List·Memᴰ·head refl)
   lists-alone i j (rule12 {w = w} {r = r} {x = x} h m) binds = gather-in (bindings i j r w) h (when-in _ (passes (matching w x) m) (List·Memᴰ·head refl))
-  lists-alone i j (rule13 {w = w} f) checks = unless-in _ (refuses (some w (s .pairs)) (λ h. f (h .0) (h .1) (h .2))) (List·Memᴰ·head refl)
+  lists-alone i j (rule13 {w = w} f) checks = unless-in _ (refuses (any-matching w (s .pairs)) (λ h. f (h .0) (h .1) (h .2))) (List·Memᴰ·head refl)
   lists-alone i j (rule18 f) k = lists-alone i j f k
 
   lists-sender : (i j : ℕ) {g : Guard} {x : Pair} {r q : ℕ} {n : Change} {vs : List ℤ} {e : Entry}

@@ -1,0 +1,9 @@
+pub mod Offers
+pub mod Order
+pub mod Kind
+pub mod Rules
+pub mod Pairs
+pub mod Listing
+pub mod Draw
+pub mod Step
+pub mod Specimens

@@ -1,0 +1,42 @@
+-- The lit pairs as an ascending list: their order, and what launch and kill do to it. Definitions only.
+use mathlib.Core.Path.{_≡_}
+use mathlib.Core.List.{List, [], _∷_}
+use mathlib.Core.Bool.{Bool, true, cond}
+use lib.IntN.{ℤ, pos}
+use lib.ListN.{length}
+use Rattle.rules.specs.Offers.{Channel, number, named, Pair}
+use Rattle.rules.specs.Order.{less}
+use Rattle.rules.specs.Rules.{Change, unchanged, launched, killed}
+
+-- 01, State: kind (0 number, 1 name) and channel
+unfoldable pub channelNumbers : Channel → List ℤ → List ℤ
+channelNumbers (number z) l = pos 0 ∷ z ∷ l
+channelNumbers (named n) l = pos 1 ∷ pos n ∷ l
+
+-- 01, State: kind, channel, count, values
+unfoldable pub numbers : Pair → List ℤ
+numbers x = channelNumbers (x .channel) (pos (length (x .values)) ∷ x .values)
+
+-- 01, State: pairs ascend by these numbers
+unfoldable pub before : Pair → Pair → Bool
+before x y = less (numbers x) (numbers y)
+
+-- the same as a statement
+abbrev pub Before : Pair → Pair → Type 0
+Before x y = before x y ≡ true
+
+-- 000, (3): with x lit; in its place, once
+unfoldable pub insert : Pair → List Pair → List Pair
+insert x [] = x ∷ []
+insert x (y ∷ ys) = cond (before x y) (x ∷ y ∷ ys) (cond (before y x) (y ∷ insert x ys) (y ∷ ys))
+
+-- 000, (4): with x unlit
+unfoldable pub remove : Pair → List Pair → List Pair
+remove x [] = []
+remove x (y ∷ ys) = cond (before x y) (y ∷ ys) (cond (before y x) (y ∷ remove x ys) ys)
+
+-- 01, State, step: launch adds its pair, kill takes it away if lit; nothing else alters pairs
+unfoldable pub pairsAfter : Change → List Pair → List Pair
+pairsAfter unchanged L = L
+pairsAfter (launched x) L = insert x L
+pairsAfter (killed x) L = remove x L

@@ -1,1 +1,4 @@
 pub mod Kind
+pub mod Bytes
+pub mod Token
+pub mod Questions

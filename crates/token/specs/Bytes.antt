@@ -46,6 +46,10 @@ unfoldable pub lineLeft : List ℕ → ℕ
 lineLeft [] = 0
 lineLeft (b ∷ s) = suc (cond (eqb b 10) 0 (lineLeft s))
 
+-- how many bytes it is from a byte outside comments to the next: past a comment that begins there, or to the next byte
+unfoldable pub stride : List ℕ → ℕ
+stride s = cond (starts (getD s 0 0) (getD s 1 0)) (lineLeft s) 1
+
 -- whether the byte after b stands in a comment, where c says it of b itself
 unfoldable pub inside : Bool → ℕ → ℕ → Bool
 inside c b n = cond c (not (eqb b 10)) (starts b n)

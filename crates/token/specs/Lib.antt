@@ -1,4 +1,5 @@
 pub mod Kind
 pub mod Bytes
 pub mod Token
+pub mod Contents
 pub mod Questions

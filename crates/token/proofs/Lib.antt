@@ -1,0 +1,9 @@
+pub mod Table
+pub mod Sorts
+pub mod Runs
+pub mod Asks
+pub mod Words
+pub mod Marks
+pub mod Cases
+pub mod Up
+pub mod Tells

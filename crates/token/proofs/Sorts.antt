@@ -3,14 +3,15 @@ use mathlib.Core.Path.{_≡_, refl, sym, ap, _∙_}
 use mathlib.Core.List.{List, [], _∷_}
 use mathlib.Core.Bool.{Bool, true, false, cond, _&&_, _||_}
 use mathlib.Core.Logic.{_⊎_, inl, inr, ⊎-elim}
-use Prim.Native.Nat.{ℕ, zero, suc, _+_, _≤_, _<_}
+use Prim.Native.Nat.{ℕ, zero, suc, _+_, _-_, _≤_, _<_}
 use native.Mathlib.Omega.{arith}
-use lib.Dec.{eqb, leb}
+use lib.Dec.{eqb, leb, eqb→eq}
 use lib.ListN.{take}
 use borrow.Author.Tests.{eq-eqb, ne-eqb, eqb-true, leb-true, leb-false, le-leb, lt-leb}
 use Rattle.word.specs.Name.{Plain}
 use Rattle.token.specs.Bytes.{within, isBlank, isLetter, isDigit, isSign, sortOf, belongs, lead, starts}
 use Rattle.token.specs.Token.{pairs}
+use Rattle.token.proofs.Table.{at}
 
 pub or-cases : (a b : Bool) → (a || b) ≡ true → (a ≡ true) ⊎ (b ≡ true)
 or-cases true b e = inl refl
@@ -83,17 +84,43 @@ unfolding lead
 run-plain [] = tt
 run-plain (b ∷ s) = grown (belongs 1 b) b s (lead 1 s) (run-byte b) (run-plain s)
 
--- a sign of two bytes begins with a byte of which 128 more is a byte
-pub pairs-low : (a b : ℕ) → pairs a b ≡ true → a < 128
+-- ---- signs of two bytes
+middle : (a : ℕ) → 60 ≤ a → a ≤ 62 → sortOf a ≡ 3
+unfolding sortOf isBlank isLetter isDigit isSign within
+middle a h k =
+    let e : 60 + (a - 60) ≡ a = omega arith in
+    rw e at (eqb→eq (sortOf (60 + (a - 60))) 3 (at (λ k x. eqb (sortOf (60 + k)) 3) (0 ∷ 0 ∷ 0 ∷ []) tt (a - 60) (omega arith)))
+
+pub pairs-is : {A : Type 0} (a b : ℕ) → (a ≡ 33 → A) → ((60 ≤ a) × (a ≤ 62) → A) → (a ≡ 45 → A) → (a ≡ 46 → A) → (a ≡ 124 → A) → pairs a b ≡ true → A
 unfolding pairs
-pairs-low a b e =
+pairs-is a b f1 f2 f3 f4 f5 e =
     ⊎-elim
     (λ f. ⊎-elim
     (λ g. ⊎-elim
-    (λ h. ⊎-elim (λ x. let y = eqb-true a 33 x in omega arith) (λ x. let y = within-is 60 62 a x in omega arith) (or-cases (eqb a 33) (within 60 62 a) (and-both (eqb b 61) (eqb a 33 || within 60 62 a) h .1)))
-    (λ h. let y = eqb-true a 45 (and-both (eqb b 62) (eqb a 45) h .1) in omega arith)
+    (λ h. ⊎-elim (λ x. f1 (eqb-true a 33 x)) (λ x. f2 (within-is 60 62 a x)) (or-cases (eqb a 33) (within 60 62 a) (and-both (eqb b 61) (eqb a 33 || within 60 62 a) h .1)))
+    (λ h. f3 (eqb-true a 45 (and-both (eqb b 62) (eqb a 45) h .1)))
     (or-cases (eqb b 61 && (eqb a 33 || within 60 62 a)) (eqb b 62 && eqb a 45) g))
-    (λ g. let y = eqb-true a 46 (and-both (eqb b 46) (eqb a 46) g .1) in omega arith)
+    (λ g. f4 (eqb-true a 46 (and-both (eqb b 46) (eqb a 46) g .1)))
     (or-cases (eqb b 61 && (eqb a 33 || within 60 62 a) || eqb b 62 && eqb a 45) (eqb b 46 && eqb a 46) f))
-    (λ f. let y = eqb-true a 124 (and-both (eqb b 124) (eqb a 124) f .1) in omega arith)
+    (λ f. f5 (eqb-true a 124 (and-both (eqb b 124) (eqb a 124) f .1)))
     (or-cases (eqb b 61 && (eqb a 33 || within 60 62 a) || eqb b 62 && eqb a 45 || eqb b 46 && eqb a 46) (eqb b 124 && eqb a 124) e)
+
+-- 128 more than its first byte is a byte
+pub pairs-low : (a b : ℕ) → pairs a b ≡ true → a < 128
+pairs-low a b e = pairs-is a b (λ f. omega arith) (λ f. omega arith) (λ f. omega arith) (λ f. omega arith) (λ f. omega arith) e
+
+-- its first byte is a sign
+pub pairs-first : (a b : ℕ) → pairs a b ≡ true → sortOf a ≡ 3
+unfolding sortOf isBlank isLetter isDigit isSign within
+pairs-first a b e = pairs-is a b (λ f. rw f) (λ f. middle a (f .0) (f .1)) (λ f. rw f) (λ f. rw f) (λ f. rw f) e
+
+sort-by : (x y z w : Bool) → cond x 0 (cond y 1 (cond z 2 (cond w 3 4))) ≤ 4
+sort-by true y z w = omega arith
+sort-by false true z w = omega arith
+sort-by false false true w = omega arith
+sort-by false false false true = omega arith
+sort-by false false false false = omega arith
+
+pub sort-le : (b : ℕ) → sortOf b ≤ 4
+unfolding sortOf
+sort-le b = sort-by (isBlank b) (isLetter b) (isDigit b) (isSign b)

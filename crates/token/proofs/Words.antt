@@ -70,3 +70,28 @@ module _ (s : List ℕ) (p : Plain s) where
   pub no-word : (w : ℕ) → w ≡ pack s → (w ≡ 7561825 → ⊥) → (w ≡ 7889261 → ⊥) → (w ≡ 7235949 → ⊥) → (w ≡ 474315583093 → ⊥) → (w ≡ 491328401001 → ⊥) → kind.name ≡ wordKind s
   unfolding pack
   no-word w e a b c d f = sym (simp (ne-eqb w 7561825 a, ne-eqb w 7889261 b, ne-eqb w 7235949 c, ne-eqb w 474315583093 d, ne-eqb w 491328401001 f)) ∙ number-kind w e
+
+-- ---- a run has a word's kind exactly where it is that word
+abbrev pub spelled : ℕ → List ℕ
+spelled k =
+    cond (eqb k kind.absolute) absBytes
+    (cond (eqb k kind.maximum) maxBytes
+    (cond (eqb k kind.minimum) minBytes
+    (cond (eqb k kind.union) unionBytes interBytes)))
+
+word-by : (s : List ℕ) (a b c d e : Bool) → sameBytes s absBytes ≡ a → sameBytes s maxBytes ≡ b → sameBytes s minBytes ≡ c → sameBytes s unionBytes ≡ d → sameBytes s interBytes ≡ e → (cond a kind.absolute (cond b kind.maximum (cond c kind.minimum (cond d kind.union (cond e kind.intersection kind.name)))) ≡ kind.name → ⊥) → s ≡ spelled (cond a kind.absolute (cond b kind.maximum (cond c kind.minimum (cond d kind.union (cond e kind.intersection kind.name)))))
+word-by s true b c d e f1 f2 f3 f4 f5 h = same-is s absBytes f1
+word-by s false true c d e f1 f2 f3 f4 f5 h = same-is s maxBytes f2
+word-by s false false true d e f1 f2 f3 f4 f5 h = same-is s minBytes f3
+word-by s false false false true e f1 f2 f3 f4 f5 h = same-is s unionBytes f4
+word-by s false false false false true f1 f2 f3 f4 f5 h = same-is s interBytes f5
+word-by s false false false false false f1 f2 f3 f4 f5 h = absurd (h refl)
+
+pub word-spelled : (s : List ℕ) → (wordKind s ≡ kind.name → ⊥) → s ≡ spelled (wordKind s)
+unfolding wordKind
+word-spelled s h =
+    word-by s (sameBytes s absBytes) (sameBytes s maxBytes) (sameBytes s minBytes) (sameBytes s unionBytes) (sameBytes s interBytes) refl refl refl refl refl h
+
+pub spelled-word : (wordKind absBytes ≡ kind.absolute) × (wordKind maxBytes ≡ kind.maximum) × (wordKind minBytes ≡ kind.minimum) × (wordKind unionBytes ≡ kind.union) × (wordKind interBytes ≡ kind.intersection)
+unfolding wordKind sameBytes
+spelled-word = (refl, refl, refl, refl, refl)

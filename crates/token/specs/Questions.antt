@@ -1,9 +1,10 @@
 -- Questions 2, 3 and 4 of a text (01, Opening a text).
+use mathlib.Core.Path.{_≡_}
 use mathlib.Core.List.{List, [], _∷_}
 use mathlib.Core.Bool.{Bool, true, false, cond, _||_}
-use Prim.Native.Nat.{ℕ, _+_, _-_}
+use Prim.Native.Nat.{ℕ, _+_, _-_, _<_}
 use lib.Dec.{eqb, leb}
-use lib.ListN.{getD, length}
+use lib.ListN.{getD, length, take}
 use Rattle.token.specs.declared.Found.{Found}
 use Rattle.token.specs.declared.Found.the-variants.{At, Nothing}
 use Rattle.token.specs.declared.Judged.{Judged}
@@ -45,6 +46,29 @@ tooDeep at c n [] = Nothing
 tooDeep at c n (b ∷ s) =
     let n′ = opened (outside c b) n in
     cond (leb n′ bracketLimit) (tooDeep (at + 1) (inside c b (getD s 0 0)) n′ s) (At at)
+
+-- 3, without an order: at p stands a byte that a text may not have
+abbrev pub ByteFault : List ℕ → ℕ → Type 0
+ByteFault s p = (p < length s) × (allowed (getD s p 0) ≡ false)
+
+-- a text with its comments blanked
+unfoldable pub uncommented : Bool → List ℕ → List ℕ
+uncommented c [] = []
+uncommented c (b ∷ s) = outside c b ∷ uncommented (inside c b (getD s 0 0)) s
+
+-- how many are open after the bytes s, where n were before them
+unfoldable pub unclosed : ℕ → List ℕ → ℕ
+unclosed n [] = n
+unclosed n (b ∷ s) = unclosed (opened b n) s
+
+-- 4, without an order: after the byte at p more are open, outside comments, than may be
+abbrev pub DepthFault : List ℕ → ℕ → Type 0
+DepthFault s p = (p < length s) × (bracketLimit < unclosed 0 (take (p + 1) (uncommented false s)))
+
+-- the place is at fault and none before it is, or none is
+abbrev pub First : (ℕ → Type 0) → Found → Type 0
+First F (At p) = F p × ((q : ℕ) → q < p → F q → ⊥)
+First F Nothing = (q : ℕ) → F q → ⊥
 
 -- a no to question k, or what the later questions say
 unfoldable pub asked : ℕ → Found → Judged → Judged

@@ -11,3 +11,4 @@ pub mod Tells
 pub mod Gaps
 pub mod Lexemes
 pub mod Tiles
+pub mod Sheet

@@ -7,12 +7,12 @@ use native.Mathlib.Numerals.{add-one}
 use native.Mathlib.Omega.{arith}
 use lib.Dec.{leb}
 use lib.ListN.{length, getD, set, take, drop, length-take, length-drop}
-use lib.Seq.{length-take-le, take-suc, getD-take}
+use lib.Seq.{length-take-le, take-suc, getD-take, take-all, take-at}
 use borrow.Author.Tests.{eq-eqb, ne-eqb, le-leb, lt-leb}
 use Rattle.word.specs.Number.{worth, cap, wholeDigits, fractionDigits, tenThousandths}
 use Rattle.token.specs.declared.Content.{Content}
 use Rattle.token.specs.Bytes.{within, lead}
-use Rattle.token.specs.Token.{Mark, tokens, column, kindsOf, placesOf, sizesOf}
+use Rattle.token.specs.Token.{Mark, tokens, column, kindsOf, placesOf, sizesOf, Filled}
 use Rattle.token.specs.Contents.{none, nameContent, fewDigits, decimalContent, contentOf, bytesOf, lowOf, highOf, lowsOf, highsOf, Held, Told}
 use Rattle.token.proofs.Sorts.{is-within, below-within, above-within}
 use Rattle.token.proofs.Runs.{lead-le}
@@ -125,3 +125,14 @@ module _ {text kinds places sizes : List ℕ} {n : ℕ} (h : Held text kinds pla
         lows-are = rw q (more (lowOf text) low₀ low a (t .lows-are));
         highs-are = rw q (more (highOf text) high₀ high b (t .highs-are));
       }
+
+-- tables that were filled hold the text's tokens
+pub filled-held : {text kinds₀ places₀ sizes₀ : List ℕ} {n : ℕ} {kinds places sizes : List ℕ} → Filled text kinds₀ places₀ sizes₀ n kinds places sizes → Held text kinds places sizes n
+filled-held {text} {kinds₀} {places₀} {sizes₀} {n} {kinds} {places} {sizes} f =
+    record { few = omega (arith, f .count); kinds-are = front-of kinds₀ (λ m. m .kind) (f .kinds-are); places-are = front-of places₀ (λ m. m .place) (f .places-are); sizes-are = front-of sizes₀ (λ m. m .size) (f .sizes-are) }
+  where
+    front-of : {b : List ℕ} (a : List ℕ) (g : Mark → ℕ) → b ≡ column g (tokens text) ++ drop n a → take n b ≡ column g (take n (tokens text))
+    front-of {b} a g e =
+        ap (take n) e
+        ∙ take-at (column g (tokens text)) (drop n a) n (column-length g (tokens text) ∙ sym (f .count))
+        ∙ ap (column g) (sym (take-all n (tokens text) (omega (arith, f .count))))

@@ -14,17 +14,17 @@ use Rattle.token.specs.Token.{wordKind, pointed, nameTok, numberTok, sig
 use Rattle.token.proofs.Marks.{spans, marks-none, marks-one, mark, column-put}
 
 module _ (g : ℕ) (s : List ℕ) where
-  pub named-is : (n k : ℕ) → n ≡ 0 + lead 1 s → k ≡ wordKind (take n s) → tok g k n ≡ nameTok g (lead 1 s) s
+  pub named-is : (n k : ℕ) → n ≡ lead 1 s → k ≡ wordKind (take n s) → tok g k n ≡ nameTok g (lead 1 s) s
   unfolding nameTok
-  named-is n k e q = let f : lead 1 s ≡ n = omega arith in rw (f, q)
+  named-is n k e q = rw (← e, q)
 
-  pub decimal-is : (n m : ℕ) → n ≡ 0 + lead 2 s → pointed s n ≡ true → m ≡ n + 1 + lead 2 (drop (n + 1) s) → tok g 3 m ≡ numberTok g (lead 2 s) s
+  pub decimal-is : (n m : ℕ) → n ≡ lead 2 s → pointed s n ≡ true → m ≡ n + 1 + lead 2 (drop (n + 1) s) → tok g 3 m ≡ numberTok g (lead 2 s) s
   unfolding numberTok
-  decimal-is n m e p q = let f : lead 2 s ≡ n = omega arith in rw f (simp p (ap (tok g 3) q))
+  decimal-is n m e p q = rw (← e) (simp p (ap (tok g 3) q))
 
-  pub whole-is : (n : ℕ) → n ≡ 0 + lead 2 s → pointed s n ≡ false → tok g 2 n ≡ numberTok g (lead 2 s) s
+  pub whole-is : (n : ℕ) → n ≡ lead 2 s → pointed s n ≡ false → tok g 2 n ≡ numberTok g (lead 2 s) s
   unfolding numberTok
-  whole-is n e p = let f : lead 2 s ≡ n = omega arith in rw f (simp p)
+  whole-is n e p = rw (← e) (simp p)
 
 pub none-is : (g : ℕ) (s : List ℕ) → length s ≡ 0 → tok g 0 0 ≡ tokenAt g s
 unfolding tokenAt

@@ -10,8 +10,8 @@ use lib.Dec.{eqb}
 use lib.ListN.{length, getD, drop, drop-of-length-le, length-drop}
 use lib.Seq.{drop-cons, drop-drop, getD-drop}
 use borrow.Author.Tests.{eq-eqb, ne-eqb, eqb-true}
-use Rattle.token.specs.Bytes.{within, sortOf, belongs, lead, starts, lineLeft, stride, inside, skips, gap}
-use Rattle.token.proofs.Sorts.{and-both, is-within, below-within, above-within}
+use Rattle.token.specs.Bytes.{within, isBlank, isLetter, isDigit, isSign, sortOf, belongs, lead, Begins, starts, lineLeft, stride, inside, skips, gap}
+use Rattle.token.proofs.Sorts.{and-both, or-false, is-within, below-within, above-within}
 
 -- ---- how far things go
 grown : (p : Bool) (x n : ℕ) → x ≤ n → cond p (suc x) 0 ≤ suc n
@@ -101,6 +101,22 @@ module _ (s : List ℕ) (i : ℕ) where
   pub stride-is : (t : Bool) → t ≡ starts (getD s i 0) (getD s (i + 1) 0) → stride (drop i s) ≡ cond t (lineLeft (drop i s)) 1
   unfolding stride
   stride-is t e = rw (front, getD-drop i s 1 0, ← e)
+
+-- a run whose first byte is known
+pub lead-rest : (class : ℕ) (s : List ℕ) (n : ℕ) → Begins class s → n ≡ 1 + lead class (drop 1 s) → n ≡ lead class s
+lead-rest class s n h e = let f = lead-on s 0 class (h .0) (h .1) in omega arith
+
+-- a byte above `/` belongs to no gap
+pub skips-not : (b n : ℕ) → 47 < b → skips false b n ≡ false
+unfolding skips starts sortOf isBlank
+skips-not b n h =
+    simp (ne-eqb b 32 (λ e. omega arith), above-within 9 10 b (omega arith), ne-eqb b 13 (λ e. omega arith), ne-eqb b 47 (λ e. omega arith)) (or-false _ ∙ sort-some (isLetter b) (isDigit b) (isSign b))
+  where
+    sort-some : (x y z : Bool) → eqb (cond x 1 (cond y 2 (cond z 3 4))) 0 ≡ false
+    sort-some true y z = refl
+    sort-some false true z = refl
+    sort-some false false true = refl
+    sort-some false false false = refl
 
 -- ---- a comment's rest is passed as a line
 line-step : (t : Bool) (s : List ℕ) → gap true s ≡ lineLeft s + gap false (drop (lineLeft s) s) → suc (gap (not t) s) ≡ suc (cond t 0 (lineLeft s)) + gap false (drop (cond t 0 (lineLeft s)) s)

@@ -1,9 +1,10 @@
 -- The sorts of bytes, and how far a gap, a name or a run of digits goes (01, Model text, first paragraph).
+use mathlib.Core.Path.{_≡_}
 use mathlib.Core.List.{List, [], _∷_}
 use mathlib.Core.Bool.{Bool, true, false, cond, not, _&&_, _||_}
-use Prim.Native.Nat.{ℕ, suc}
+use Prim.Native.Nat.{ℕ, suc, _<_}
 use lib.Dec.{eqb, leb}
-use lib.ListN.{getD}
+use lib.ListN.{getD, length}
 
 -- b is one of lo to hi
 unfoldable pub within : ℕ → ℕ → ℕ → Bool
@@ -36,6 +37,10 @@ belongs class b = within class 2 (sortOf b)
 unfoldable pub lead : ℕ → List ℕ → ℕ
 lead class [] = 0
 lead class (b ∷ s) = cond (belongs class b) (suc (lead class s)) 0
+
+-- there is a first byte, and it goes on a run of the class
+abbrev pub Begins : ℕ → List ℕ → Type 0
+Begins class s = (0 < length s) × (belongs class (getD s 0 0) ≡ true)
 
 -- 01, Model text: `//` begins a comment; n is the byte after b, and 0 past the end
 unfoldable pub starts : ℕ → ℕ → Bool

@@ -5,7 +5,7 @@ ghost use mathlib.Core.Bool.{false};
 ghost use Prim.Native.Nat.{_+_, _<_, _≤_};
 ghost use lib.ListN.{length, drop, getD};
 ghost use Rattle.word.specs.Name.{Plain};
-ghost use Rattle.token.specs.Bytes.{sortOf, lead, starts, lineLeft, stride, skips, gap};
+ghost use Rattle.token.specs.Bytes.{sortOf, lead, Begins, starts, lineLeft, stride, skips, gap};
 ghost use Rattle.token.specs.Token.{pairs, wordKind, pointed, nameTok, numberTok, signTok, tokenAt, nextToken, Filled};
 ghost use Rattle.token.specs.Contents.{nameContent, decimalContent, contentOf, Held, Told};
 ghost use Rattle.token.specs.Questions.{textLimit, bracketLimit, allowed, strayByte, opened, tooDeep, bytesJudged};
@@ -153,6 +153,9 @@ fn onward(s: &[u8], i: usize) -> usize
 fn skipping(b: u8, n: u8) -> bool
     ensures { λ r. ⌜ r ≡ skips false b n ⌝ }
 {
+    if b'/' < b {
+        return false;
+    }
     if sort(b) == 0 {
         return true;
     }
@@ -191,10 +194,12 @@ fn name_kind(s: &[u8]) -> u8
     }
 }
 
+// A name or a word; the first byte is known to be of its run.
 fn named(g: usize, s: &[u8]) -> Token
+    requires { ⌜ Begins 1 (now s) ⌝ }
     ensures { λ r. ⌜ r ≡ nameTok g (lead 1 (now (s .entry))) (now (s .entry)) ⌝ }
 {
-    let n = run_end(s, 0, 1);
+    let n = run_end(s, 1, 1);
     Token {
         kind: name_kind(&s[..n]),
         skip: g,
@@ -214,9 +219,10 @@ fn point_at(s: &[u8], n: usize) -> bool
 }
 
 fn number(g: usize, s: &[u8]) -> Token
+    requires { ⌜ Begins 2 (now s) ⌝ }
     ensures { λ r. ⌜ r ≡ numberTok g (lead 2 (now (s .entry))) (now (s .entry)) ⌝ }
 {
-    let n = run_end(s, 0, 2);
+    let n = run_end(s, 1, 2);
     if point_at(s, n) {
         return Token {
             kind: Kind::DECIMAL,

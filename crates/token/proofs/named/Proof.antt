@@ -1,3 +1,4 @@
+use Rattle.token.proofs.Runs.{lead-le, lead-rest}
 use Rattle.word.specs.Name.{Plain}
 use Rattle.token.proofs.Sorts.{run-plain}
 use Rattle.token.proofs.Cases.{named-is, decimal-is, whole-is, none-is, name-is, number-is, sign-is, other-is, next-is}
@@ -27,17 +28,17 @@ run-end-requires c κs = search needs
 -- src/lib.rt:199:25
 slice-aggregate-name-kind : tie.Need-slice-aggregate-name-kind
 slice-aggregate-name-kind c =
-    simp length-take (omega (arith, c .before .run-end .ensures, lead-le 1 (c .before .before .before .args .s .now)))
+    simp length-take (omega (arith, lead-rest 1 (c .before .before .before .args .s .now) (c .before .run-end .result) (c .before .before .before .pre) (c .before .run-end .ensures), lead-le 1 (c .before .before .before .args .s .now)))
 
 -- src/lib.rt:199:15
 name-kind-requires : tie.Need-name-kind-requires
 name-kind-requires c κs =
-    let e : lead 1 (c .before .before .before .args .s .now) ≡ c .before .run-end .result = omega (arith, c .before .run-end .ensures) in rw e at (run-plain (c .before .before .before .args .s .now))
+    rw (← lead-rest 1 (c .before .before .before .args .s .now) (c .before .run-end .result) (c .before .before .before .pre) (c .before .run-end .ensures)) at (run-plain (c .before .before .before .args .s .now))
 
 -- src/lib.rt:194:1
 returns : tie.Need-returns
 returns c =
-    named-is (c .before .before .before .before .args .g) (c .before .before .before .before .args .s .now) (c .before .before .run-end .result) (c .name-kind .result) (c .before .before .run-end .ensures) (c .name-kind .ensures)
+    named-is (c .before .before .before .before .args .g) (c .before .before .before .before .args .s .now) (c .before .before .run-end .result) (c .name-kind .result) (lead-rest 1 (c .before .before .before .before .args .s .now) (c .before .before .run-end .result) (c .before .before .before .before .pre) (c .before .before .run-end .ensures)) (c .name-kind .ensures)
 
 pub named-spec : {M : Type 1} → statement M
 named-spec =

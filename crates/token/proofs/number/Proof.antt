@@ -1,3 +1,4 @@
+use Rattle.token.proofs.Runs.{lead-le, lead-rest}
 use Rattle.token.proofs.Marks.{pointed-in}
 use Rattle.token.proofs.Cases.{named-is, decimal-is, whole-is, none-is, name-is, number-is, sign-is, other-is, next-is}
 use Rattle.token.proofs.Runs.{lead-le, stride-le, stride-is, gap-on, gap-off, gap-end, gap-le}
@@ -26,7 +27,7 @@ run-end-requires c κs = search needs
 -- src/lib.rt:220:8
 point-at-requires : tie.Need-point-at-requires
 point-at-requires c κs =
-    omega (arith, c .run-end .ensures, lead-le 2 (c .before .before .args .s .now))
+    omega (arith, lead-rest 2 (c .before .before .args .s .now) (c .run-end .result) (c .before .before .pre) (c .run-end .ensures), lead-le 2 (c .before .before .args .s .now))
 
 -- src/lib.rt:224:30
 add-run-end : tie.Need-add-run-end
@@ -41,12 +42,12 @@ run-end-requires-2 c κs =
 -- src/lib.rt:221:9
 returns : tie.Need-returns
 returns c =
-    decimal-is (c .before .before .before .before .before .args .g) (c .before .before .before .before .before .args .s .now) (c .before .before .before .run-end .result) (c .run-end2 .result) (c .before .before .before .run-end .ensures) (sym (c .before .before .point-at .ensures) ∙ c .before .if1 .taken) (c .run-end2 .ensures)
+    decimal-is (c .before .before .before .before .before .args .g) (c .before .before .before .before .before .args .s .now) (c .before .before .before .run-end .result) (c .run-end2 .result) (lead-rest 2 (c .before .before .before .before .before .args .s .now) (c .before .before .before .run-end .result) (c .before .before .before .before .before .pre) (c .before .before .before .run-end .ensures)) (sym (c .before .before .point-at .ensures) ∙ c .before .if1 .taken) (c .run-end2 .ensures)
 
 -- src/lib.rt:216:1
 returns-2 : tie.Need-returns-2
 returns-2 c =
-    whole-is (c .before .before .before .before .args .g) (c .before .before .before .before .args .s .now) (c .before .before .run-end .result) (c .before .before .run-end .ensures) (sym (c .before .point-at .ensures) ∙ c .if1 .left)
+    whole-is (c .before .before .before .before .args .g) (c .before .before .before .before .args .s .now) (c .before .before .run-end .result) (lead-rest 2 (c .before .before .before .before .args .s .now) (c .before .before .run-end .result) (c .before .before .before .before .pre) (c .before .before .run-end .ensures)) (sym (c .before .point-at .ensures) ∙ c .if1 .left)
 
 pub number-spec : {M : Type 1} → statement M
 number-spec =

@@ -1,3 +1,4 @@
+use Rattle.token.proofs.Runs.{skips-not}
 use Rattle.token.specs.Bytes.{within, sortOf, belongs, lead, starts, lineLeft, stride, inside, skips, gap}
 use Rattle.token.proofs.skipping.Statement.{statement}
 use Rattle.token.proofs.skipping.Tie as tie
@@ -16,15 +17,19 @@ use borrow.Author.Tests.{lt-ltb, le-ltb, le-leb, lt-leb, eq-eqb, ne-eqb}
 use lib.IntN.{ℤ, pos}
 use lib.ListN.{length, getD, set, take, drop, replicate, length-append, length-take, length-drop, length-set, length-replicate}
 
+returns-3 : tie.Need-returns-3
+unfolding skips
+returns-3 c =
+    rw (← c .before .before .sort .ensures) (simp (ne-eqb _ _ (c .before .if2 .left)) (c .starting .ensures))
+
 -- src/lib.rt:156:8
 sort-requires : tie.Need-sort-requires
 sort-requires c κs = search needs
 
 -- src/lib.rt:157:9
 returns : tie.Need-returns
-unfolding skips
 returns c =
-    rw (← c .before .sort .ensures) (simp (eq-eqb _ _ (c .if1 .taken)))
+    sym (skips-not (c .before .args .b) (c .before .args .n) (c .if1 .taken))
 
 -- src/lib.rt:159:5
 starting-requires : tie.Need-starting-requires
@@ -34,7 +39,7 @@ starting-requires c κs = search needs
 returns-2 : tie.Need-returns-2
 unfolding skips
 returns-2 c =
-    rw (← c .before .before .sort .ensures) (simp (ne-eqb _ _ (c .before .if1 .left)) (c .starting .ensures))
+    rw (← c .before .sort .ensures) (simp (eq-eqb _ _ (c .if2 .taken)))
 
 pub skipping-spec : {M : Type 1} → statement M
-skipping-spec = tie.close (tie.spec sort-requires returns starting-requires returns-2)
+skipping-spec = tie.close (tie.spec returns sort-requires returns-2 starting-requires returns-3)

@@ -1,3 +1,4 @@
+use Rattle.token.proofs.Runs.{belongs-on}
 use Rattle.token.proofs.Cases.{named-is, decimal-is, whole-is, none-is, name-is, number-is, sign-is, other-is, next-is}
 use Rattle.token.proofs.token_at.Statement.{statement}
 use Rattle.token.proofs.token_at.Tie as tie
@@ -34,7 +35,8 @@ sort-requires c κs = search needs
 
 -- src/lib.rt:283:9
 named-requires : tie.Need-named-requires
-named-requires c κs = search needs
+named-requires c κs =
+    (omega arith, belongs-on 1 _ _ (c .before .sort .ensures) (omega arith) (omega arith))
 
 -- src/lib.rt:283:9
 returns-2 : tie.Need-returns-2
@@ -43,7 +45,8 @@ returns-2 c =
 
 -- src/lib.rt:286:9
 number-requires : tie.Need-number-requires
-number-requires c κs = search needs
+number-requires c κs =
+    (omega arith, belongs-on 2 _ _ (c .before .before .sort .ensures) (omega arith) (omega arith))
 
 -- src/lib.rt:286:9
 returns-3 : tie.Need-returns-3

@@ -1,17 +1,14 @@
 -- The token that the reader takes is made as its kind says and is the longest that fits there: by the sort of its first byte.
-use mathlib.Core.Path.{_≡_, refl, sym, ap, ap₂, _∙_}
+use mathlib.Core.Path.{_≡_, refl, sym, ap, _∙_}
 use mathlib.Core.List.{List, [], _∷_, _++_, append-assoc}
-use mathlib.Core.Bool.{Bool, true, false, cond, _&&_, _||_}
-use mathlib.Core.Logic.{⊎-elim}
-use Prim.Native.Nat.{ℕ, zero, suc, _+_, _-_, _≤_, _<_}
-use native.Mathlib.Numerals.{add-one}
+use mathlib.Core.Bool.{Bool, true, false, cond}
+use Prim.Native.Nat.{ℕ, suc, _+_, _≤_, _<_}
 use native.Mathlib.Omega.{arith}
-use lib.Dec.{eqb, eqb→eq}
+use lib.Dec.{eqb}
 use lib.ListN.{length, getD, take, drop, length-append, take-append-drop, List·getD-append}
 use lib.Seq.{length-take-le, getD-take, getD-append-seam, getD-append-add, drop-append-add, take-add}
-use borrow.Author.Tests.{eq-eqb, ne-eqb, eqb-true, eqb-false}
+use borrow.Author.Tests.{eqb-true, eqb-false}
 use Rattle.token.specs.declared.Token.{Token}
-use Rattle.token.specs.Kind as kind
 use Rattle.token.specs.Bytes.{within, isBlank, isLetter, isDigit, isSign, sortOf, belongs, lead}
 use Rattle.token.specs.Token.{pairs, sameBytes, absBytes, maxBytes, minBytes, unionBytes, interBytes, wordKind, pointed, tok, nameTok, numberTok, signTok, bySort, tokenAt}
 use Rattle.token.specs.Tiling.{Run, Lexeme}

@@ -1,15 +1,15 @@
 -- What the sort of a byte says of the byte: the bytes of names are 1 to 255, and which bytes are no signs.
-use mathlib.Core.Path.{_≡_, refl, sym, ap, _∙_}
+use mathlib.Core.Path.{_≡_, refl}
 use mathlib.Core.List.{List, [], _∷_}
 use mathlib.Core.Bool.{Bool, true, false, cond, _&&_, _||_}
 use mathlib.Core.Logic.{_⊎_, inl, inr, ⊎-elim}
-use Prim.Native.Nat.{ℕ, zero, suc, _+_, _-_, _≤_, _<_}
+use Prim.Native.Nat.{ℕ, suc, _+_, _-_, _≤_, _<_}
 use native.Mathlib.Omega.{arith}
 use lib.Dec.{eqb, leb, eqb→eq}
 use lib.ListN.{take}
-use borrow.Author.Tests.{eq-eqb, ne-eqb, eqb-true, leb-true, leb-false, le-leb, lt-leb}
+use borrow.Author.Tests.{eqb-true, leb-true, le-leb, lt-leb}
 use Rattle.word.specs.Name.{Plain}
-use Rattle.token.specs.Bytes.{within, isBlank, isLetter, isDigit, isSign, sortOf, belongs, lead, starts}
+use Rattle.token.specs.Bytes.{within, isBlank, isLetter, isDigit, isSign, sortOf, belongs, lead}
 use Rattle.token.specs.Token.{pairs}
 use Rattle.token.proofs.Table.{at}
 

@@ -1,20 +1,19 @@
 -- A text's tokens tile it: each stands after a gap, is made as its kind says and is the longest that fits, and a gap follows the last.
 -- By the tokens one after the other, as many times as there are bytes at most.
 use mathlib.Core.Path.{_≡_, refl, sym, ap, _∙_}
-use mathlib.Core.List.{List, [], _∷_, _++_}
-use mathlib.Core.Bool.{Bool, true, false, cond}
+use mathlib.Core.List.{List}
+use mathlib.Core.Bool.{Bool, true, false}
 use Prim.Native.Nat.{ℕ, zero, suc, _+_, _-_, _≤_, _<_}
-use native.Mathlib.Nat.{add-zero}
 use native.Mathlib.Numerals.{add-one}
 use native.Mathlib.Omega.{arith}
 use lib.Dec.{eqb, ltb}
-use lib.ListN.{length, getD, take, drop, length-drop}
+use lib.ListN.{length, getD, drop, length-drop}
 use lib.Seq.{drop-drop, getD-drop}
 use borrow.Author.Tests.{eqb-true, eqb-false, ltb-true, ltb-false}
 use Rattle.token.specs.declared.Token.{Token}
 use Rattle.token.specs.Bytes.{sortOf, starts, skips, gap}
-use Rattle.token.specs.Token.{nextToken, tokenAt, Mark, marks, tokens}
-use Rattle.token.specs.Tiling.{Lexeme, Gap, Stands, Tiled}
+use Rattle.token.specs.Token.{nextToken, marks, tokens}
+use Rattle.token.specs.Tiling.{Stands, Tiled}
 use Rattle.token.proofs.Runs.{gap-le, front}
 use Rattle.token.proofs.Gaps.{gap-is, gap-ends, after-gap, no-blank, no-start}
 use Rattle.token.proofs.Lexemes.{Best, best, lexeme-kind}

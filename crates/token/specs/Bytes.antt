@@ -1,7 +1,7 @@
 -- The sorts of bytes, and how far a gap, a name or a run of digits goes (01, Model text, first paragraph).
 use mathlib.Core.Path.{_≡_}
 use mathlib.Core.List.{List, [], _∷_}
-use mathlib.Core.Bool.{Bool, true, false, cond, not, _&&_, _||_}
+use mathlib.Core.Bool.{Bool, true, cond, not, _&&_, _||_}
 use Prim.Native.Nat.{ℕ, suc, _<_}
 use lib.Dec.{eqb, leb}
 use lib.ListN.{getD, length}

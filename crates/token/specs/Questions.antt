@@ -1,7 +1,7 @@
 -- Questions 2, 3 and 4 of a text (01, Opening a text).
 use mathlib.Core.Path.{_≡_}
 use mathlib.Core.List.{List, [], _∷_}
-use mathlib.Core.Bool.{Bool, true, false, cond, _||_}
+use mathlib.Core.Bool.{Bool, false, cond, _||_}
 use Prim.Native.Nat.{ℕ, _+_, _-_, _<_}
 use lib.Dec.{eqb, leb}
 use lib.ListN.{getD, length, take}
@@ -9,7 +9,7 @@ use Rattle.token.specs.declared.Found.{Found}
 use Rattle.token.specs.declared.Found.the-variants.{At, Nothing}
 use Rattle.token.specs.declared.Judged.{Judged}
 use Rattle.token.specs.declared.Judged.the-variants.{Refused, Passed}
-use Rattle.token.specs.Bytes.{within, isBlank, inside}
+use Rattle.token.specs.Bytes.{within, inside}
 
 -- 01, Opening a text, 2: how many bytes a text may have
 abbrev pub textLimit : ℕ

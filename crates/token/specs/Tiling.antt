@@ -1,7 +1,7 @@
 -- What a text is made of: gaps and tokens by turns, each token the longest that fits (01, Model text, first paragraph).
 use mathlib.Core.Path.{_≡_}
 use mathlib.Core.List.{List, [], _∷_, _++_}
-use mathlib.Core.Bool.{Bool, true, false}
+use mathlib.Core.Bool.{true, false}
 use Prim.Native.Nat.{ℕ, _+_, _-_, _≤_, _<_}
 use lib.ListN.{length, getD, take, drop}
 use Rattle.token.specs.Kind as kind

@@ -1,13 +1,13 @@
 -- The token at the front of a text, and a text's tokens (01, Model text, first paragraph).
-use mathlib.Core.Path.{_≡_, refl}
+use mathlib.Core.Path.{_≡_}
 use mathlib.Core.List.{List, [], _∷_, _++_}
 use mathlib.Core.Bool.{Bool, true, false, cond, _&&_, _||_}
-use Prim.Native.Nat.{ℕ, zero, suc, _+_, _-_, _≤_}
+use Prim.Native.Nat.{ℕ, zero, suc, _+_, _-_}
 use lib.Dec.{eqb}
 use lib.ListN.{getD, take, drop, length}
 use Rattle.token.specs.declared.Token.{Token}
 use Rattle.token.specs.Kind as kind
-use Rattle.token.specs.Bytes.{within, isBlank, isLetter, isDigit, isSign, sortOf, belongs, lead, starts, inside, skips, gap}
+use Rattle.token.specs.Bytes.{within, sortOf, lead, gap}
 
 -- a and b make a sign of two bytes: || -> .. <= == >= !=
 unfoldable pub pairs : ℕ → ℕ → Bool

@@ -109,12 +109,12 @@ module _ (g b : ℕ) (r : List ℕ) where
       record {
         made = named (sort-of (lead 1 u) 1 (run-some 1 (omega arith) e) e) (run-lead 1 u) refl;
         longest = λ m j h l x. by-first b (take m u) (first-of m (lead 1 u) h) x
-          (λ _ y. let z = run-le 1 m u l y in omega arith)
-          (λ f _. omega arith)
-          (λ f _ _ _ _ _ _. omega arith)
-          (λ f _. omega arith)
-          (λ f _ _. omega arith)
-          (λ f _. omega arith);
+            (λ _ y. let z = run-le 1 m u l y in omega arith)
+            (λ f _. omega arith)
+            (λ f _ _ _ _ _ _. omega arith)
+            (λ f _. omega arith)
+            (λ f _ _. omega arith)
+            (λ f _. omega arith);
       }
 
   -- a longer number would be digits, or a decimal
@@ -172,12 +172,12 @@ module _ (g b : ℕ) (r : List ℕ) where
         let c = and-both (eqb (getD u n 0) 46) (eqb (sortOf (getD u (n + 1) 0)) 2) f in
         record {
           made = decimal (take n u) (take (lead 2 (drop (n + 1) u)) (drop (n + 1) u))
-            (omega (arith, length-take-le n u (lead-le 2 u), run-some 2 (omega arith) e))
-            (run-lead 2 u)
-            (omega (arith, length-take-le (lead 2 (drop (n + 1) u)) (drop (n + 1) u) (lead-le 2 (drop (n + 1) u)), digits-after (drop (n + 1) u) (ap sortOf (front u (n + 1)) ∙ eqb-true _ _ (c .1))))
-            (run-lead 2 (drop (n + 1) u))
-            (parts n (lead 2 (drop (n + 1) u)) u i (eqb-true _ _ (c .0)))
-            refl;
+              (omega (arith, length-take-le n u (lead-le 2 u), run-some 2 (omega arith) e))
+              (run-lead 2 u)
+              (omega (arith, length-take-le (lead 2 (drop (n + 1) u)) (drop (n + 1) u) (lead-le 2 (drop (n + 1) u)), digits-after (drop (n + 1) u) (ap sortOf (front u (n + 1)) ∙ eqb-true _ _ (c .1))))
+              (run-lead 2 (drop (n + 1) u))
+              (parts n (lead 2 (drop (n + 1) u)) u i (eqb-true _ _ (c .0)))
+              refl;
           longest = λ m j h l x. number-longest m j (omega arith) l (λ t v y p w q. let k = not-longer m l t v y p w q in omega arith) x;
         }
 
@@ -223,12 +223,12 @@ module _ (g b : ℕ) (r : List ℕ) where
       record {
         made = stray b e refl refl;
         longest = λ m j h l x. let z = length-take-le m u l in by-first b (take m u) (first-of m 1 h) x
-          (λ f _. omega arith)
-          (λ f _. omega arith)
-          (λ f _ _ _ _ _ _. omega arith)
-          (λ f _. omega arith)
-          (λ f _ _. omega arith)
-          (λ _ y. omega arith);
+            (λ f _. omega arith)
+            (λ f _. omega arith)
+            (λ f _ _ _ _ _ _. omega arith)
+            (λ f _. omega arith)
+            (λ f _ _. omega arith)
+            (λ _ y. omega arith);
       }
 
   sort-best : (p q t : Bool) → (sortOf b ≡ 0 → ⊥) → eqb (sortOf b) 1 ≡ p → eqb (sortOf b) 2 ≡ q → eqb (sortOf b) 3 ≡ t → Best u (cond p (nameTok g (lead 1 u) u) (cond q (numberTok g (lead 2 u) u) (cond t (signTok g b (getD u 1 0)) (tok g 4 1))))

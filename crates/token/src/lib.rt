@@ -24,15 +24,25 @@ pub struct Kind;
 
 impl Kind {
     pub const END: u8 = 0;
+
     pub const NAME: u8 = 1;
+
     pub const WHOLE: u8 = 2;
+
     pub const DECIMAL: u8 = 3;
+
     pub const OTHER: u8 = 4;
+
     pub const ABSOLUTE: u8 = 5;
+
     pub const MAXIMUM: u8 = 6;
+
     pub const MINIMUM: u8 = 7;
+
     pub const UNION: u8 = 8;
+
     pub const INTERSECTION: u8 = 9;
+
     pub const PAIR: u8 = 128;
 }
 
@@ -60,30 +70,30 @@ pub struct Content {
     pub high: u64,
 }
 
-// 0 blank, 1 letter or _, 2 digit, 3 sign, 4 any other byte.
-const SORTS: [u8; 256] = [
-    4, 4, 4, 4, 4, 4, 4, 4, 4, 0, 0, 4, 4, 0, 4, 4,
-    4, 4, 4, 4, 4, 4, 4, 4, 4, 4, 4, 4, 4, 4, 4, 4,
-    0, 3, 4, 3, 4, 4, 3, 4, 3, 3, 3, 3, 3, 3, 3, 3,
-    2, 2, 2, 2, 2, 2, 2, 2, 2, 2, 4, 3, 3, 3, 3, 3,
-    3, 1, 1, 1, 1, 1, 1, 1, 1, 1, 1, 1, 1, 1, 1, 1,
-    1, 1, 1, 1, 1, 1, 1, 1, 1, 1, 1, 3, 3, 3, 4, 1,
-    4, 1, 1, 1, 1, 1, 1, 1, 1, 1, 1, 1, 1, 1, 1, 1,
-    1, 1, 1, 1, 1, 1, 1, 1, 1, 1, 1, 3, 3, 3, 3, 4,
-    4, 4, 4, 4, 4, 4, 4, 4, 4, 4, 4, 4, 4, 4, 4, 4,
-    4, 4, 4, 4, 4, 4, 4, 4, 4, 4, 4, 4, 4, 4, 4, 4,
-    4, 4, 4, 4, 4, 4, 4, 4, 4, 4, 4, 4, 4, 4, 4, 4,
-    4, 4, 4, 4, 4, 4, 4, 4, 4, 4, 4, 4, 4, 4, 4, 4,
-    4, 4, 4, 4, 4, 4, 4, 4, 4, 4, 4, 4, 4, 4, 4, 4,
-    4, 4, 4, 4, 4, 4, 4, 4, 4, 4, 4, 4, 4, 4, 4, 4,
-    4, 4, 4, 4, 4, 4, 4, 4, 4, 4, 4, 4, 4, 4, 4, 4,
-    4, 4, 4, 4, 4, 4, 4, 4, 4, 4, 4, 4, 4, 4, 4, 4,
-];
+// The sort of each byte, sixteen to a line: 0 blank, 1 letter or _, 2 digit, 3 sign, 4 any other byte.
+const SORTS: [u8; 256] = *b"\
+    4444444440044044\
+    4444444444444444\
+    0343443433333333\
+    2222222222433333\
+    3111111111111111\
+    1111111111133341\
+    4111111111111111\
+    1111111111133334\
+    4444444444444444\
+    4444444444444444\
+    4444444444444444\
+    4444444444444444\
+    4444444444444444\
+    4444444444444444\
+    4444444444444444\
+    4444444444444444\
+";
 
 pub fn sort(b: u8) -> u8
     ensures { λ r. ⌜ r ≡ sortOf b ⌝ }
 {
-    SORTS[b as usize]
+    SORTS[b as usize] - b'0'
 }
 
 // The byte at i, or 0 past the end.
@@ -382,7 +392,15 @@ fn content_of(kind: u8, s: &[u8]) -> Content
 }
 
 // Writes the two numbers of each of the first n tokens.
-pub fn contents(text: &[u8], kinds: &[u8], places: &[u16], sizes: &[u16], n: usize, low: &mut [u64], high: &mut [u64])
+pub fn contents(
+    text: &[u8],
+    kinds: &[u8],
+    places: &[u16],
+    sizes: &[u16],
+    n: usize,
+    low: &mut [u64],
+    high: &mut [u64],
+)
     requires { ⌜ Held (now text) (now kinds) (now places) (now sizes) n ⌝ }
     requires { ⌜ (n ≤ length (now low)) × (n ≤ length (now high)) ⌝ }
     ensures { λ r. ⌜ Told (now (text .entry)) (now (low .entry)) (now (high .entry)) n (now (low .exit)) (now (high .exit)) ⌝ }

@@ -12,3 +12,4 @@ pub mod Gaps
 pub mod Lexemes
 pub mod Tiles
 pub mod Sheet
+pub mod Only

@@ -13,3 +13,4 @@ pub mod Lexemes
 pub mod Tiles
 pub mod Sheet
 pub mod Only
+pub mod Names

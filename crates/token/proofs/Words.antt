@@ -91,7 +91,3 @@ pub word-spelled : (s : List ℕ) → (wordKind s ≡ kind.name → ⊥) → s �
 unfolding wordKind
 word-spelled s h =
     word-by s (sameBytes s absBytes) (sameBytes s maxBytes) (sameBytes s minBytes) (sameBytes s unionBytes) (sameBytes s interBytes) refl refl refl refl refl h
-
-pub spelled-word : (wordKind absBytes ≡ kind.absolute) × (wordKind maxBytes ≡ kind.maximum) × (wordKind minBytes ≡ kind.minimum) × (wordKind unionBytes ≡ kind.union) × (wordKind interBytes ≡ kind.intersection)
-unfolding wordKind sameBytes
-spelled-word = (refl, refl, refl, refl, refl)

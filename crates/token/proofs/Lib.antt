@@ -1,0 +1,16 @@
+pub mod Table
+pub mod Sorts
+pub mod Runs
+pub mod Asks
+pub mod Faults
+pub mod Words
+pub mod Marks
+pub mod Cases
+pub mod Up
+pub mod Tells
+pub mod Gaps
+pub mod Lexemes
+pub mod Tiles
+pub mod Sheet
+pub mod Only
+pub mod Names

@@ -1,0 +1,4 @@
+pub mod Follows
+pub mod Grammar
+pub mod Machine
+pub mod Syntax

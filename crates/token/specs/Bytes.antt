@@ -5,6 +5,11 @@ use mathlib.Core.Bool.{Bool, true, cond, not, _&&_, _||_}
 use Prim.Native.Nat.{ℕ, suc, _<_}
 use lib.Dec.{eqb, leb}
 use lib.ListN.{getD, length}
+use Rattle.token.specs.Kind as kind
+
+-- LF, at which a line and a comment end
+abbrev pub lineFeed : ℕ
+lineFeed = 10
 
 -- b is one of lo to hi
 unfoldable pub within : ℕ → ℕ → ℕ → Bool
@@ -12,12 +17,13 @@ within lo hi b = leb lo b && leb b hi
 
 -- 01, Model text: what parts tokens: space, tab, LF, CR
 unfoldable pub isBlank : ℕ → Bool
-isBlank b = eqb b 32 || within 9 10 b || eqb b 13
+isBlank b = eqb b 32 || within 9 lineFeed b || eqb b 13
 
 -- a letter, or `_`
 unfoldable pub isLetter : ℕ → Bool
 isLetter b = within 97 122 b || within 65 90 b || eqb b 95
 
+-- a digit
 unfoldable pub isDigit : ℕ → Bool
 isDigit b = within 48 57 b
 
@@ -44,12 +50,12 @@ Begins class s = (0 < length s) × (belongs class (getD s 0 0) ≡ true)
 
 -- 01, Model text: `//` begins a comment; n is the byte after b, and 0 past the end
 unfoldable pub starts : ℕ → ℕ → Bool
-starts b n = eqb b 47 && eqb n 47
+starts b n = eqb b kind.divide && eqb n kind.divide
 
 -- how many bytes there are up to the next LF, which is counted, or to the end
 unfoldable pub lineLeft : List ℕ → ℕ
 lineLeft [] = 0
-lineLeft (b ∷ s) = suc (cond (eqb b 10) 0 (lineLeft s))
+lineLeft (b ∷ s) = suc (cond (eqb b lineFeed) 0 (lineLeft s))
 
 -- how many bytes it is from a byte outside comments to the next: past a comment that begins there, or to the next byte
 unfoldable pub stride : List ℕ → ℕ
@@ -57,7 +63,7 @@ stride s = cond (starts (getD s 0 0) (getD s 1 0)) (lineLeft s) 1
 
 -- whether the byte after b stands in a comment, where c says it of b itself
 unfoldable pub inside : Bool → ℕ → ℕ → Bool
-inside c b n = cond c (not (eqb b 10)) (starts b n)
+inside c b n = cond c (not (eqb b lineFeed)) (starts b n)
 
 -- b is blank or of a comment
 unfoldable pub skips : Bool → ℕ → ℕ → Bool

@@ -1,4 +1,7 @@
 // The tokens of a model text, and the questions that are asked of its bytes.
+mod kind;
+
+pub use kind::Kind;
 use word::Name;
 ghost use mathlib.Core.Path.{_≡_};
 ghost use mathlib.Core.Bool.{false};
@@ -19,31 +22,34 @@ impl Limits {
     pub const BRACKETS: usize = 24;
 }
 
-// The kinds of tokens. A sign of one byte is its byte, one of two its first byte and PAIR more.
-pub struct Kind;
+// The sorts of bytes; a run goes on with the sorts from LETTER, or from DIGIT, to DIGIT.
+struct Class;
 
-impl Kind {
-    pub const END: u8 = 0;
+impl Class {
+    const BLANK: u8 = 0;
 
-    pub const NAME: u8 = 1;
+    const LETTER: u8 = 1; // or _
 
-    pub const WHOLE: u8 = 2;
+    const DIGIT: u8 = 2;
 
-    pub const DECIMAL: u8 = 3;
+    const SIGN: u8 = 3;
+}
 
-    pub const OTHER: u8 = 4;
+// The five words as packed numbers.
+struct Word;
 
-    pub const ABSOLUTE: u8 = 5;
+impl Word {
+    const LONGEST: usize = 5;
 
-    pub const MAXIMUM: u8 = 6;
+    const ABS: u64 = 0x73_6261;
 
-    pub const MINIMUM: u8 = 7;
+    const MAX: u64 = 0x78_616d;
 
-    pub const UNION: u8 = 8;
+    const MIN: u64 = 0x6e_696d;
 
-    pub const INTERSECTION: u8 = 9;
+    const UNION: u64 = 0x6e_6f69_6e75;
 
-    pub const PAIR: u8 = 128;
+    const INTER: u64 = 0x72_6574_6e69;
 }
 
 // A token, after `skip` bytes of gap.
@@ -106,7 +112,7 @@ fn peek(s: &[u8], i: usize) -> u8
     0
 }
 
-// Where the run that starts at `from` ends: of letters and digits for the class 1, of digits for 2.
+// Where the run that starts at `from` ends: of letters and digits, or of digits alone.
 fn run_end(s: &[u8], from: usize, class: u8) -> usize
     requires { ⌜ from ≤ length (now s) ⌝ }
     ensures { λ r. ⌜ r ≡ from + lead class (drop from (now (s .entry))) ⌝ }
@@ -117,7 +123,7 @@ fn run_end(s: &[u8], from: usize, class: u8) -> usize
         if k < class {
             return i;
         }
-        if 2 < k {
+        if Class::DIGIT < k {
             return i;
         }
         i += 1;
@@ -166,7 +172,7 @@ fn skipping(b: u8, n: u8) -> bool
     if b'/' < b {
         return false;
     }
-    if sort(b) == 0 {
+    if sort(b) == Class::BLANK {
         return true;
     }
     starting(b, n)
@@ -191,15 +197,15 @@ fn name_kind(s: &[u8]) -> u8
     requires { ⌜ Plain (now s) ⌝ }
     ensures { λ r. ⌜ r ≡ wordKind (now (s .entry)) ⌝ }
 {
-    if 5 < s.len() {
+    if Word::LONGEST < s.len() {
         return Kind::NAME;
     }
     match word::word(s) {
-        0x73_6261 => Kind::ABSOLUTE,
-        0x78_616d => Kind::MAXIMUM,
-        0x6e_696d => Kind::MINIMUM,
-        0x6e_6f69_6e75 => Kind::UNION,
-        0x72_6574_6e69 => Kind::INTERSECTION,
+        Word::ABS => Kind::ABSOLUTE,
+        Word::MAX => Kind::MAXIMUM,
+        Word::MIN => Kind::MINIMUM,
+        Word::UNION => Kind::UNION,
+        Word::INTER => Kind::INTERSECTION,
         _ => Kind::NAME,
     }
 }
@@ -209,7 +215,7 @@ fn named(g: usize, s: &[u8]) -> Token
     requires { ⌜ Begins 1 (now s) ⌝ }
     ensures { λ r. ⌜ r ≡ nameTok g (lead 1 (now (s .entry))) (now (s .entry)) ⌝ }
 {
-    let n = run_end(s, 1, 1);
+    let n = run_end(s, 1, Class::LETTER);
     Token {
         kind: name_kind(&s[..n]),
         skip: g,
@@ -225,19 +231,19 @@ fn point_at(s: &[u8], n: usize) -> bool
     if peek(s, n) != b'.' {
         return false;
     }
-    sort(peek(s, n + 1)) == 2
+    sort(peek(s, n + 1)) == Class::DIGIT
 }
 
 fn number(g: usize, s: &[u8]) -> Token
     requires { ⌜ Begins 2 (now s) ⌝ }
     ensures { λ r. ⌜ r ≡ numberTok g (lead 2 (now (s .entry))) (now (s .entry)) ⌝ }
 {
-    let n = run_end(s, 1, 2);
+    let n = run_end(s, 1, Class::DIGIT);
     if point_at(s, n) {
         return Token {
             kind: Kind::DECIMAL,
             skip: g,
-            size: run_end(s, n + 1, 2),
+            size: run_end(s, n + 1, Class::DIGIT),
         };
     }
     Token {
@@ -295,13 +301,13 @@ fn token_at(g: usize, s: &[u8]) -> Token
     }
     let a = s[0];
     let k = sort(a);
-    if k == 1 {
+    if k == Class::LETTER {
         return named(g, s);
     }
-    if k == 2 {
+    if k == Class::DIGIT {
         return number(g, s);
     }
-    if k == 3 {
+    if k == Class::SIGN {
         return sign(g, a, peek(s, 1));
     }
     Token {
@@ -355,7 +361,7 @@ fn name_content(s: &[u8]) -> Content
 fn decimal_content(s: &[u8]) -> Content
     ensures { λ r. ⌜ r ≡ decimalContent (now (s .entry)) ⌝ }
 {
-    let n = run_end(s, 0, 2);
+    let n = run_end(s, 0, Class::DIGIT);
     if word::Limits::WHOLE < n {
         return Content { low: 0, high: 0 };
     }

@@ -21,10 +21,10 @@ fn put_number(n: usize) {
 // A word or a sign is its own bytes.
 fn put_kind(kind: u8, bytes: &[u8]) {
     match kind {
-        1 => put(b"name"),
-        2 => put(b"whole"),
-        3 => put(b"decimal"),
-        4 => put(b"other"),
+        Kind::NAME => put(b"name"),
+        Kind::WHOLE => put(b"whole"),
+        Kind::DECIMAL => put(b"decimal"),
+        Kind::OTHER => put(b"other"),
         _ => put(bytes),
     }
 }

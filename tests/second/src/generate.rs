@@ -1,0 +1,1 @@
+//! Random models, damaged texts and lists of calls.

@@ -66,11 +66,7 @@ struct Present {
 impl Present {
     /// An answer that carries entry count and total.
     fn answer(&self, number: u64) -> Answer {
-        Answer {
-            count: self.listing.entries.len() as u64,
-            total: self.listing.total,
-            ..Answer::refusal(number)
-        }
+        Answer { count: self.listing.entries.len() as u64, total: self.listing.total, ..Answer::refusal(number) }
     }
 }
 

@@ -164,23 +164,9 @@ pub fn derive(offers: &Offers, state: &State) -> Result<Listing, Refused> {
 }
 
 /// Adds the derivations of one branch, in order.
-fn add_entries(
-    entries: &mut Vec<Entry>,
-    place: usize,
-    branch: usize,
-    open: &Open,
-    offers: &Offers,
-    state: &State,
-) {
-    let alone = |kind| Entry {
-        kind,
-        place,
-        branch,
-        partner: 0,
-        partner_branch: 0,
-        pair: 0,
-        weight: open.rate as u64 * 10_000,
-    };
+fn add_entries(entries: &mut Vec<Entry>, place: usize, branch: usize, open: &Open, offers: &Offers, state: &State) {
+    let alone =
+        |kind| Entry { kind, place, branch, partner: 0, partner_branch: 0, pair: 0, weight: open.rate as u64 * 10_000 };
     match &open.offer {
         Offer::Wait => entries.push(alone(Kind::Wait)),
         Offer::Launch(_) => entries.push(alone(Kind::Launch)),

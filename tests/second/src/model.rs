@@ -313,9 +313,7 @@ impl<'a> Settler<'a> {
             syntax::Action::Receive(channel, sets, names) => {
                 Action::Receive(self.channel(channel, scope), self.sets(sets, scope), names.is_some())
             }
-            syntax::Action::Check(channel, sets) => {
-                Action::Check(self.channel(channel, scope), self.sets(sets, scope))
-            }
+            syntax::Action::Check(channel, sets) => Action::Check(self.channel(channel, scope), self.sets(sets, scope)),
             syntax::Action::HandshakeSend(channel, values) => {
                 Action::HandshakeSend(self.channel(channel, scope), self.expressions(values, scope))
             }

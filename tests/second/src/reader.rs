@@ -511,11 +511,8 @@ impl Reader<'_> {
     }
 
     fn rate(&mut self) -> Read<Rate> {
-        let scale = if self.at(Kind::Name) {
-            Scale::Name(self.expect(Kind::Name)?)
-        } else {
-            Scale::Number(self.any_number()?)
-        };
+        let scale =
+            if self.at(Kind::Name) { Scale::Name(self.expect(Kind::Name)?) } else { Scale::Number(self.any_number()?) };
         let mut atom = None;
         if self.take(Kind::Times) {
             atom = Some(self.atom()?);

@@ -123,10 +123,7 @@ pub fn split(text: &[u8]) -> Vec<Token> {
 fn first_token(rest: &[u8]) -> (Kind, usize) {
     let first = rest[0];
     if first.is_ascii_alphabetic() || first == b'_' {
-        let length = rest
-            .iter()
-            .take_while(|&&byte| byte.is_ascii_alphanumeric() || byte == b'_')
-            .count();
+        let length = rest.iter().take_while(|&&byte| byte.is_ascii_alphanumeric() || byte == b'_').count();
         return (word_kind(&rest[..length]), length);
     }
     if first.is_ascii_digit() {

@@ -82,9 +82,16 @@ fn names() {
 
 #[test]
 fn whole_numbers() {
-    for text in ["x=#;A[]={go,1};A[];", "A[]={c![#],1};A[];", "A[]={go,#};A[];", "A[n]={go,1};A[#];",
-        "A[]={go,1*#};A[];", "A[]={c?[#..#],1};A[];", "A[]=[1<#]->{go,1};A[];", "A[]={#?[1],1};A[];"]
-    {
+    for text in [
+        "x=#;A[]={go,1};A[];",
+        "A[]={c![#],1};A[];",
+        "A[]={go,#};A[];",
+        "A[n]={go,1};A[#];",
+        "A[]={go,1*#};A[];",
+        "A[]={c?[#..#],1};A[];",
+        "A[]=[1<#]->{go,1};A[];",
+        "A[]={#?[1],1};A[];",
+    ] {
         let with = |number: &str| text.replace('#', number);
         accepted(&with("2147483647"));
         accepted(&with("-2147483648"));
@@ -159,9 +166,8 @@ fn lists() {
     refused(7, "A[a,b,c,d,e,f,¶g,h,i,j]={go,1};A[1,2,3,4,5,6,7];");
 
     let branches = |many: usize, mark: &str, gate: &str| {
-        let parts: Vec<String> = (0..many)
-            .map(|number| format!("{}{gate}{{go,1}}", if number == 16 { mark } else { "" }))
-            .collect();
+        let parts: Vec<String> =
+            (0..many).map(|number| format!("{}{gate}{{go,1}}", if number == 16 { mark } else { "" })).collect();
         parts.join("+")
     };
     for gate in ["", "[1<2]->"] {
@@ -176,14 +182,16 @@ fn lists() {
 fn locals_together() {
     accepted("A[a,b,c,d,e,f]={c?[1,2](g,h),1}.{go,h};A[1,2,3,4,5,6];");
     refused(7, "A[a,b,c,d,e,f]={c?[1](g),1}.{c?[1,2](h,¶i),1};A[1,2,3,4,5,6];");
-    refused(7, "A[a,b,c,d,e,f]={c?[1](g),1}.{go,1}.(A[1,2,3,4,5,6]||{go,1}+{@c?[1](h),1}.{@c?[1](¶i),1});A[1,2,3,4,5,6];");
+    refused(
+        7,
+        "A[a,b,c,d,e,f]={c?[1](g),1}.{go,1}.(A[1,2,3,4,5,6]||{go,1}+{@c?[1](h),1}.{@c?[1](¶i),1});A[1,2,3,4,5,6];",
+    );
     // Branches beside each other don't add up.
     accepted("A[a,b,c,d,e,f]={c?[1,2](g,h),1}+{c?[1,2](i,j),1}.({c?[1],1}||{go,1});A[1,2,3,4,5,6];");
     accepted("A[a,b,c,d,e,f]={c?[1](g),1}.({c?[1](h),1}||{c?[1](i),1});A[1,2,3,4,5,6];");
     let chain = |many: usize, mark: &str| {
-        let parts: Vec<String> = (0..many)
-            .map(|number| format!("{{c?[1]({}x{number}),1}}", if number == 8 { mark } else { "" }))
-            .collect();
+        let parts: Vec<String> =
+            (0..many).map(|number| format!("{{c?[1]({}x{number}),1}}", if number == 8 { mark } else { "" })).collect();
         format!("A[]={};A[];", parts.join("."))
     };
     accepted(&chain(8, ""));
@@ -247,9 +255,8 @@ fn rate_range() {
 
 #[test]
 fn entries() {
-    let text = |senders: usize, receivers: usize| {
-        format!("S[]={{@c![1],1}};R[]={{@c?[1],1}};{senders}*S[]||{receivers}*R[];")
-    };
+    let text =
+        |senders: usize, receivers: usize| format!("S[]={{@c![1],1}};R[]={{@c?[1],1}};{senders}*S[]||{receivers}*R[];");
     let mut bench = Bench::of(&text(32, 32));
     let entries = bench.entries();
     assert_eq!(entries.len(), 1_024);
@@ -258,7 +265,8 @@ fn entries() {
     assert_eq!(Bench::of(&text(41, 25)).list(), Answer::refusal(13));
     assert_eq!(Bench::of(&text(128, 128)).list(), Answer::refusal(13));
     // Binding receives: 256 pairs, 4 branches, and one more entry.
-    let mut bench = Bench::of("A[]={c?[0..255](x),1}+{c?[0..255](x),1}+{c?[0..255](x),1}+{c?[0..255](x),1};B[]={go,1};A[]||B[];");
+    let mut bench =
+        Bench::of("A[]={c?[0..255](x),1}+{c?[0..255](x),1}+{c?[0..255](x),1}+{c?[0..255](x),1};B[]={go,1};A[]||B[];");
     bench.state[1] = 256;
     (0..256).for_each(|place| bench.set_pair(place, [1, 0, 1, place as i64, 0]));
     assert_eq!(bench.list(), Answer::refusal(13));
@@ -270,9 +278,7 @@ fn entries() {
 
 #[test]
 fn total() {
-    let text = |more: &str| {
-        format!("S[]={{@c![1],100000}};R[]={{@c?[1],100000}};B[]={{go,{more}}};9*S[]||R[]||B[];")
-    };
+    let text = |more: &str| format!("S[]={{@c![1],100000}};R[]={{@c?[1],100000}};B[]={{go,{more}}};9*S[]||R[]||B[];");
     let mut bench = Bench::of(&text("0"));
     assert_eq!(bench.list(), Answer { count: 10, total: 9_000_000_000_000_000_000, ..Answer::default() });
     let answer = bench.step(8_999_999_999_999_999_999);

@@ -38,10 +38,7 @@ fn d5_channel_numbers() {
     // w is a number channel, d a channel name, n a number in A and a name in B.
     let mut bench = Bench::of("w=7;d=1.5;A[n]={w![1],1}.{d![1],1}.{n![1],1}.{z![1],1}.B[];B[]={n![1],1};A[3];");
     (0..5).for_each(|_| bench.take(0));
-    assert_eq!(
-        bench.pairs(),
-        [[0, 3, 1, 1, 0], [0, 7, 1, 1, 0], [1, 0, 1, 1, 0], [1, 1, 1, 1, 0], [1, 2, 1, 1, 0]]
-    );
+    assert_eq!(bench.pairs(), [[0, 3, 1, 1, 0], [0, 7, 1, 1, 0], [1, 0, 1, 1, 0], [1, 1, 1, 1, 0], [1, 2, 1, 1, 0]]);
     // By first appearance in the text, not by sum number: a continuation comes before a later branch.
     let mut bench = Bench::of("A[]={a![1],1}.{b![1],1}+{c![1],1};3*A[];");
     bench.take(0); // a
@@ -245,7 +242,8 @@ fn lists_match_at_equal_length_only() {
 
 #[test]
 fn names_and_numbers_are_different_channels() {
-    let mut bench = Bench::of("A[]={0?[1],1}+{c?[1],2}+{@0?[1],3}+{@c?[1],4};B[]={@0![1],1};C[]={@c![1],1};A[]||B[]||C[];");
+    let mut bench =
+        Bench::of("A[]={0?[1],1}+{c?[1],2}+{@0?[1],3}+{@c?[1],4};B[]={@0![1],1};C[]={@c![1],1};A[]||B[]||C[];");
     bench.state[1] = 1;
     bench.set_pair(0, [1, 0, 1, 1, 0]);
     assert_eq!(

@@ -555,9 +555,18 @@ fn around(random: &mut Random, limit: usize) -> usize {
     }
 }
 
+/// How many kinds of texts near a limit there are.
+pub const EDGES: usize = 26;
+
 /// A text at one of the limits of 01, or just past it.
 pub fn edge(random: &mut Random) -> Vec<u8> {
-    let text = match random.below(26) {
+    let which = random.below(EDGES);
+    edge_of_kind(random, which)
+}
+
+/// The same, of one kind.
+pub fn edge_of_kind(random: &mut Random, which: usize) -> Vec<u8> {
+    let text = match which {
         0 => {
             let mut text = lively(random);
             let length = around(random, 16_384);
@@ -589,8 +598,11 @@ pub fn edge(random: &mut Random) -> Vec<u8> {
             let number = *random.pick(&["999999.9999", "0000001.5", "1.00000", "100000.0000", "100000.0001", "-0.0"]);
             format!("A[]={{go,{number}}}.A[];A[];")
         }
-        7 => format!("A[]={{go,1}}.A[];{}*A[];", around(random, 256)),
-        8 => format!("A[]={{go,1}}.A[]||{{tick,1}};{}*A[]||A[];", around(random, 127)),
+        7 => {
+            let one = *random.pick(&["", "A[]||", "2*A[]||"]);
+            format!("A[]={{go,1}}.A[];{one}{}*A[];", random.between(253, 258))
+        }
+        8 => format!("A[]={{go,1}}.A[]||{{tick,1}};{}*A[]||A[];", random.between(125, 130)),
         9 => {
             let mut text = String::new();
             for number in 0..around(random, 64) {
@@ -1066,6 +1078,19 @@ fn some_change(random: &mut Random) -> Call {
         10 => Call::Crowd { count: *random.pick(&[1, 2, 30, 255, 256]) },
         _ => Call::FillListing { number: random.number() },
     }
+}
+
+/// A list of calls on texts near each limit in turn.
+pub fn edge_calls(random: &mut Random) -> Vec<Call> {
+    let mut calls = Vec::new();
+    for which in 0..EDGES {
+        calls.push(Call::Open { text: edge_of_kind(random, which), lengths: RIGHT });
+        calls.push(Call::List { lengths: RIGHT });
+        for _ in 0..4 {
+            calls.push(Call::Step { lengths: RIGHT, draw: some_draw(random) });
+        }
+    }
+    calls
 }
 
 /// A list of calls: texts opened, listed and stepped, with wrong lengths and spoilt buffers here

@@ -136,7 +136,9 @@ fn calls_of_all_kinds() {
         let _named = Named(seed);
         let mut random = Random::new(seed);
         let mut buffers = Buffers::default();
-        for call in calls(&mut random, 40) {
+        // Every tenth list goes through all limits.
+        let list = if seed % 10 == 9 { edge_calls(&mut random) } else { calls(&mut random, 40) };
+        for call in list {
             let before = buffers.clone();
             let name = match call {
                 Call::Open { .. } => "open",

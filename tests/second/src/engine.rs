@@ -1,0 +1,215 @@
+//! The three calls.
+
+use crate::eval;
+use crate::listing::{self, Entry, Kind, Listing, Offer, Offers};
+use crate::model::{self, Item, Model};
+use crate::state::{self, Process, State};
+use crate::{Answer, LISTING, MODEL, STATE};
+
+/// Reads a text. Questions 1 to 10.
+pub fn open(text: &[u8], model: &mut [u8], state: &mut [i64]) -> Answer {
+    if model.len() != MODEL || state.len() != STATE {
+        return Answer::refusal(1);
+    }
+    let refusal = match model::read(text) {
+        Ok(read) if state::processes_at_start(&read) <= state::PROCESSES => {
+            model::write_buffer(text, model);
+            state::write_buffer(&state::start(&read), state);
+            return Answer::default();
+        }
+        Ok(read) => model::Refused { number: 10, place: read.system_start },
+        Err(refused) => refused,
+    };
+    model.fill(0);
+    state.fill(0);
+    Answer { place: refusal.place as u64, ..Answer::refusal(refusal.number) }
+}
+
+/// Lists what can happen next. Questions 1 and 11 to 14.
+pub fn list(model: &[u8], state: &[i64], listing: &mut [u64]) -> Answer {
+    match present(model, state, listing) {
+        Err(refusal) => refusal,
+        Ok(present) => present.answer(0),
+    }
+}
+
+/// Takes the step that the draw chooses. Questions 1 and 11 to 19.
+pub fn step(model: &[u8], state: &mut [i64], listing: &mut [u64], draw: u64) -> Answer {
+    let present = match present(model, state, listing) {
+        Err(refusal) => return refusal,
+        Ok(present) => present,
+    };
+    if present.listing.total == 0 {
+        return present.answer(15);
+    }
+    if draw >= present.listing.total {
+        return present.answer(16);
+    }
+    let chosen = present.listing.choose(draw).expect("a draw below the total chooses an entry");
+    match taken(&present, &present.listing.entries[chosen]) {
+        Err(number) => present.answer(number),
+        Ok(after) => {
+            state::write_buffer(&after, state);
+            Answer { chosen: chosen as u64, ..present.answer(0) }
+        }
+    }
+}
+
+/// A model, a state and its listing.
+struct Present {
+    model: Model,
+    state: State,
+    offers: Offers,
+    listing: Listing,
+}
+
+impl Present {
+    /// An answer that carries entry count and total.
+    fn answer(&self, number: u64) -> Answer {
+        Answer { count: self.listing.entries.len() as u64, total: self.listing.total, ..Answer::refusal(number) }
+    }
+}
+
+/// Questions 1 and 11 to 14. The listing buffer is filled, zeroed or left as the answer asks.
+fn present(model: &[u8], state: &[i64], buffer: &mut [u64]) -> Result<Present, Answer> {
+    if model.len() != MODEL || state.len() != STATE || buffer.len() != LISTING {
+        return Err(Answer::refusal(1));
+    }
+    let Some(model) = model::read_buffer(model) else {
+        return Err(Answer::refusal(11));
+    };
+    let Some(state) = state::read_buffer(&model, state) else {
+        return Err(Answer::refusal(11));
+    };
+    let listed = listing::offers(&model, &state)
+        .and_then(|offers| listing::derive(&offers, &state).map(|listing| (offers, listing)));
+    match listed {
+        Ok((offers, listing)) => {
+            listing::write_buffer(&listing, buffer);
+            Ok(Present { model, state, offers, listing })
+        }
+        Err(refused) => {
+            buffer.fill(0);
+            Err(match refused {
+                listing::Refused::NoValue { place, branch } => {
+                    Answer { place: place as u64, branch: branch as u64, ..Answer::refusal(12) }
+                }
+                listing::Refused::TooManyEntries => Answer::refusal(13),
+                listing::Refused::TotalTooLarge => Answer::refusal(14),
+            })
+        }
+    }
+}
+
+/// A part of a continuation with its values: what comes in the place of a process that acted.
+enum Follower {
+    Sum(Process),
+    Call { definition: usize, values: Vec<i64> },
+}
+
+/// The state after an entry is taken, or the number of the question (17 to 19) with a no.
+fn taken(present: &Present, entry: &Entry) -> Result<State, u64> {
+    let Present { model, state, .. } = present;
+
+    // 17: who acts, and what follows in the place of each.
+    let mut followers = Vec::new();
+    let sent = match offer(present, entry.place, entry.branch) {
+        Offer::HandshakeSend(pair) => Some(pair),
+        _ => None,
+    };
+    let bound = match entry.kind {
+        Kind::BindingReceive => state.pairs[entry.pair].values(),
+        _ => &[],
+    };
+    followers.push((entry.place, follow(present, entry.place, entry.branch, bound).ok_or(17u64)?));
+    if let Some(pair) = sent {
+        let (partner, branch) = (entry.partner, entry.partner_branch);
+        followers.push((partner, follow(present, partner, branch, pair.values()).ok_or(17u64)?));
+    }
+
+    // 18: counted before any is made.
+    let acting = followers.len();
+    let new: usize = followers.iter().flat_map(|(_, list)| list).map(|one| one.processes(model)).sum();
+    if state.processes.len() - acting + new > state::PROCESSES {
+        return Err(18);
+    }
+
+    // 19
+    let mut pairs = state.pairs.clone();
+    match offer(present, entry.place, entry.branch) {
+        Offer::Launch(pair) => {
+            if let Err(place) = pairs.binary_search(pair) {
+                pairs.insert(place, *pair);
+            }
+        }
+        Offer::Kill(pair) => {
+            if let Ok(place) = pairs.binary_search(pair) {
+                pairs.remove(place);
+            }
+        }
+        _ => {}
+    }
+    if pairs.len() > state::PAIRS {
+        return Err(19);
+    }
+
+    let mut processes = Vec::new();
+    for (place, process) in state.processes.iter().enumerate() {
+        match followers.iter().find(|(acting, _)| *acting == place) {
+            None => processes.push(process.clone()),
+            Some((_, list)) => {
+                for one in list {
+                    one.write(model, &mut processes);
+                }
+            }
+        }
+    }
+    Ok(State { processes, pairs })
+}
+
+/// What a listed branch offers.
+fn offer(present: &Present, place: usize, branch: usize) -> &Offer {
+    let open = present.offers[place][branch].as_ref();
+    &open.expect("a listed branch is open").offer
+}
+
+/// The continuation of a branch, with its values, after `values` are bound to the names of its
+/// receive, if it has any. `None`: some call argument has no value.
+fn follow(present: &Present, place: usize, branch: usize, values: &[i64]) -> Option<Vec<Follower>> {
+    let process = &present.state.processes[place];
+    let branch = &present.model.sums[process.sum].branches[branch];
+    let mut locals = process.locals.clone();
+    if let model::Action::Receive(_, _, true) | model::Action::HandshakeReceive(_, _, true) = branch.action {
+        locals.extend(values);
+    }
+    let mut followers = Vec::new();
+    for item in &branch.continuation {
+        followers.push(match item {
+            Item::Sum(sum) => Follower::Sum(Process { sum: *sum, locals: locals.clone() }),
+            Item::Call { definition, arguments } => {
+                Follower::Call { definition: *definition, values: eval::expressions(arguments, &locals)? }
+            }
+        });
+    }
+    Some(followers)
+}
+
+impl Follower {
+    fn processes(&self, model: &Model) -> usize {
+        match self {
+            Follower::Sum(_) => 1,
+            Follower::Call { definition, .. } => model.processes_of(*definition),
+        }
+    }
+
+    fn write(&self, model: &Model, processes: &mut Vec<Process>) {
+        match self {
+            Follower::Sum(process) => processes.push(process.clone()),
+            Follower::Call { definition, values } => {
+                for &sum in &model.definitions[*definition].sums {
+                    processes.push(Process { sum, locals: values.clone() });
+                }
+            }
+        }
+    }
+}

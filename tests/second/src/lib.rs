@@ -1,0 +1,55 @@
+//! A second engine for the Beacon Calculus, written from 01 (the scope paper) and the decisions
+//! on its open points alone. It is slow and plain on purpose: it is there to be compared with.
+//!
+//! Each call reads the model's text anew from the model buffer.
+
+#![forbid(unsafe_code)]
+
+pub mod engine;
+pub mod eval;
+pub mod generate;
+pub mod limits;
+pub mod listing;
+pub mod model;
+pub mod names;
+pub mod reader;
+pub mod sheet;
+pub mod state;
+pub mod syntax;
+pub mod tokens;
+
+pub use engine::{list, open, step};
+
+/// Length of the model buffer in bytes: the text's length (2 bytes, the low one first), the text,
+/// zeros.
+pub const MODEL: usize = 16_386;
+/// Length of the state buffer in signed 64-bit numbers.
+pub const STATE: usize = 3_586;
+/// Length of the listing buffer in unsigned 64-bit numbers.
+pub const LISTING: usize = 7_168;
+
+const _: () = assert!(model::BUFFER == MODEL && state::BUFFER == STATE && listing::BUFFER == LISTING);
+
+/// All that a call's result carries.
+#[derive(Clone, Copy, Debug, Default, PartialEq, Eq)]
+pub struct Answer {
+    /// 0 for acceptance, or the number of the first question with the answer no.
+    pub number: u64,
+    /// Of 1 to 10 a byte place, of 12 a process place, else 0.
+    pub place: u64,
+    /// Of 12 a branch, else 0.
+    pub branch: u64,
+    /// How many entries the listing has: of 0 and 15 to 19 from list and step.
+    pub count: u64,
+    /// The sum of the weights: where `count` is carried.
+    pub total: u64,
+    /// The number of the entry that an accepted step took.
+    pub chosen: u64,
+}
+
+impl Answer {
+    /// An answer that carries nothing but its number.
+    pub fn refusal(number: u64) -> Answer {
+        Answer { number, ..Answer::default() }
+    }
+}

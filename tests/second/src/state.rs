@@ -1,0 +1,167 @@
+//! The state: a list of processes and a set of lit pairs, and the buffer of signed 64-bit
+//! numbers that holds them.
+
+use crate::limits::{HIGHEST, LOWEST};
+use crate::model::Model;
+
+pub const PROCESSES: usize = 256;
+pub const PAIRS: usize = 256;
+const LOCALS: usize = 8;
+const PROCESS: usize = 1 + LOCALS;
+const PAIR: usize = 5;
+const FIRST_PROCESS: usize = 2;
+const FIRST_PAIR: usize = FIRST_PROCESS + PROCESSES * PROCESS;
+
+/// The length of the state buffer.
+pub const BUFFER: usize = FIRST_PAIR + PAIRS * PAIR;
+
+#[derive(Clone, Debug, PartialEq, Eq)]
+pub struct State {
+    pub processes: Vec<Process>,
+    /// Strictly ascending.
+    pub pairs: Vec<Pair>,
+}
+
+#[derive(Clone, Debug, PartialEq, Eq)]
+pub struct Process {
+    pub sum: usize,
+    /// As many as the sum has in scope.
+    pub locals: Vec<i64>,
+}
+
+/// A channel: kind (0 number, 1 name) and number.
+#[derive(Clone, Copy, Debug, PartialEq, Eq, PartialOrd, Ord)]
+pub struct Channel {
+    pub kind: i64,
+    pub number: i64,
+}
+
+/// Pairs are ordered by channel kind, channel, count of values, values: the order of the fields.
+#[derive(Clone, Copy, Debug, PartialEq, Eq, PartialOrd, Ord)]
+pub struct Pair {
+    pub channel: Channel,
+    /// 1 or 2.
+    pub count: usize,
+    /// The second is 0 if there is one value only.
+    values: [i64; 2],
+}
+
+impl Pair {
+    /// A pair with one or two values.
+    pub fn new(channel: Channel, values: &[i64]) -> Pair {
+        Pair { channel, count: values.len(), values: [values[0], values.get(1).copied().unwrap_or(0)] }
+    }
+
+    pub fn values(&self) -> &[i64] {
+        &self.values[..self.count]
+    }
+}
+
+/// The state of a model just opened: the system line's items in order, counts written out, each
+/// replaced by its definition's sums; no pair.
+pub fn start(model: &Model) -> State {
+    let mut processes = Vec::new();
+    for item in &model.system {
+        for _ in 0..item.count {
+            for &sum in &model.definitions[item.definition].sums {
+                processes.push(Process { sum, locals: item.values.clone() });
+            }
+        }
+    }
+    State { processes, pairs: Vec::new() }
+}
+
+/// How many processes there are at the start.
+pub fn processes_at_start(model: &Model) -> usize {
+    model.system.iter().map(|item| item.count * model.processes_of(item.definition)).sum()
+}
+
+/// Writes a state with at most 256 processes and 256 pairs into a buffer.
+pub fn write_buffer(state: &State, buffer: &mut [i64]) {
+    buffer.fill(0);
+    buffer[0] = state.processes.len() as i64;
+    buffer[1] = state.pairs.len() as i64;
+    for (number, process) in state.processes.iter().enumerate() {
+        let place = FIRST_PROCESS + number * PROCESS;
+        buffer[place] = process.sum as i64;
+        buffer[place + 1..place + 1 + process.locals.len()].copy_from_slice(&process.locals);
+    }
+    for (number, pair) in state.pairs.iter().enumerate() {
+        let place = FIRST_PAIR + number * PAIR;
+        buffer[place] = pair.channel.kind;
+        buffer[place + 1] = pair.channel.number;
+        buffer[place + 2] = pair.count as i64;
+        buffer[place + 3..place + 5].copy_from_slice(&pair.values);
+    }
+}
+
+/// Question 11 of a state buffer: the state over this model that it holds, if it holds one.
+pub fn read_buffer(model: &Model, buffer: &[i64]) -> Option<State> {
+    if buffer.len() != BUFFER {
+        return None;
+    }
+    let process_count = below(buffer[0], PROCESSES + 1)?;
+    let pair_count = below(buffer[1], PAIRS + 1)?;
+
+    let mut processes = Vec::new();
+    for (number, part) in buffer[FIRST_PROCESS..FIRST_PAIR].chunks(PROCESS).enumerate() {
+        if number < process_count {
+            processes.push(read_process(model, part)?);
+        } else if !all_zero(part) {
+            return None;
+        }
+    }
+    let mut pairs: Vec<Pair> = Vec::new();
+    for (number, part) in buffer[FIRST_PAIR..].chunks(PAIR).enumerate() {
+        if number < pair_count {
+            let pair = read_pair(model, part)?;
+            if pairs.last().is_some_and(|last| *last >= pair) {
+                return None;
+            }
+            pairs.push(pair);
+        } else if !all_zero(part) {
+            return None;
+        }
+    }
+    Some(State { processes, pairs })
+}
+
+fn read_process(model: &Model, part: &[i64]) -> Option<Process> {
+    let sum = below(part[0], model.sums.len())?;
+    let (locals, unused) = part[1..].split_at(model.sums[sum].locals);
+    if !locals.iter().all(|&local| is_value(local)) || !all_zero(unused) {
+        return None;
+    }
+    Some(Process { sum, locals: locals.to_vec() })
+}
+
+fn read_pair(model: &Model, part: &[i64]) -> Option<Pair> {
+    let channel = Channel { kind: part[0], number: part[1] };
+    match channel.kind {
+        0 if is_value(channel.number) => {}
+        1 if below(channel.number, model.channel_names).is_some() => {}
+        _ => return None,
+    }
+    let count = below(part[2], 3)?;
+    if count == 0 {
+        return None;
+    }
+    let (values, unused) = part[3..].split_at(count);
+    if !values.iter().all(|&value| is_value(value)) || !all_zero(unused) {
+        return None;
+    }
+    Some(Pair::new(channel, values))
+}
+
+/// The number, if it is from 0 to below the end.
+fn below(number: i64, end: usize) -> Option<usize> {
+    usize::try_from(number).ok().filter(|&number| number < end)
+}
+
+fn is_value(number: i64) -> bool {
+    (LOWEST..=HIGHEST).contains(&number)
+}
+
+fn all_zero(numbers: &[i64]) -> bool {
+    numbers.iter().all(|&number| number == 0)
+}

@@ -1,0 +1,171 @@
+//! What the tests share: buffers with the calls on them.
+
+#![allow(dead_code)]
+
+use second::{Answer, LISTING, MODEL, STATE};
+
+pub struct Bench {
+    pub model: Vec<u8>,
+    pub state: Vec<i64>,
+    pub listing: Vec<u64>,
+}
+
+pub type Entry = [u64; 7];
+
+impl Bench {
+    pub fn new() -> Bench {
+        Bench { model: vec![0; MODEL], state: vec![0; STATE], listing: vec![0; LISTING] }
+    }
+
+    /// Buffers full of rubbish, to see what a call leaves alone.
+    pub fn dirty() -> Bench {
+        Bench { model: vec![7; MODEL], state: vec![-7; STATE], listing: vec![77; LISTING] }
+    }
+
+    /// An accepted text.
+    pub fn of(text: &str) -> Bench {
+        let mut bench = Bench::dirty();
+        assert_eq!(bench.open(text), Answer::default(), "{text}");
+        bench
+    }
+
+    pub fn open(&mut self, text: &str) -> Answer {
+        second::open(text.as_bytes(), &mut self.model, &mut self.state)
+    }
+
+    pub fn list(&mut self) -> Answer {
+        second::list(&self.model, &self.state, &mut self.listing)
+    }
+
+    pub fn step(&mut self, draw: u64) -> Answer {
+        second::step(&self.model, &mut self.state, &mut self.listing, draw)
+    }
+
+    /// An accepted list's entries.
+    pub fn entries(&mut self) -> Vec<Entry> {
+        let answer = self.list();
+        assert_eq!(answer.number, 0, "{answer:?}");
+        let entries = self.filled(answer.count);
+        let total: u64 = entries.iter().map(|entry| entry[6]).sum();
+        assert_eq!(answer, Answer { count: answer.count, total, ..Answer::default() });
+        entries
+    }
+
+    /// The first entries of the listing. The others are zero.
+    pub fn filled(&self, count: u64) -> Vec<Entry> {
+        let end = count as usize * 7;
+        assert!(self.listing[end..].iter().all(|&number| number == 0));
+        self.listing[..end].chunks(7).map(|entry| entry.try_into().unwrap()).collect()
+    }
+
+    /// Takes an accepted step that takes the entry with this number.
+    pub fn take(&mut self, chosen: usize) {
+        let entries = self.entries();
+        let draw: u64 = entries[..chosen].iter().map(|entry| entry[6]).sum();
+        let answer = self.step(draw);
+        assert_eq!((answer.number, answer.chosen), (0, chosen as u64));
+    }
+
+    /// Sum number and locals of each process; locals past the first `locals` are zero.
+    pub fn processes(&self, locals: usize) -> Vec<Vec<i64>> {
+        let count = self.state[0] as usize;
+        assert!(self.state[2 + 9 * count..2 + 9 * 256].iter().all(|&number| number == 0));
+        let mut processes = Vec::new();
+        for process in self.state[2..2 + 9 * count].chunks(9) {
+            assert!(process[1 + locals..].iter().all(|&number| number == 0), "{process:?}");
+            processes.push(process[..1 + locals].to_vec());
+        }
+        processes
+    }
+
+    pub fn pairs(&self) -> Vec<[i64; 5]> {
+        let count = self.state[1] as usize;
+        let all = &self.state[2 + 9 * 256..];
+        assert!(all[5 * count..].iter().all(|&number| number == 0));
+        all[..5 * count].chunks(5).map(|pair| pair.try_into().unwrap()).collect()
+    }
+
+    pub fn set_process(&mut self, place: usize, numbers: &[i64]) {
+        let start = 2 + 9 * place;
+        self.state[start..start + 9].fill(0);
+        self.state[start..start + numbers.len()].copy_from_slice(numbers);
+    }
+
+    pub fn set_pair(&mut self, place: usize, numbers: [i64; 5]) {
+        let start = 2 + 9 * 256 + 5 * place;
+        self.state[start..start + 5].copy_from_slice(&numbers);
+    }
+}
+
+/// Number and place of the answer to a text. A refused text leaves zeroed buffers.
+pub fn answer_to(text: &[u8]) -> (u64, u64) {
+    let mut bench = Bench::dirty();
+    let answer = second::open(text, &mut bench.model, &mut bench.state);
+    assert_eq!((answer.branch, answer.count, answer.total, answer.chosen), (0, 0, 0, 0));
+    if answer.number != 0 {
+        assert!(bench.model.iter().all(|&byte| byte == 0));
+        assert!(bench.state.iter().all(|&number| number == 0));
+        bench.listing.fill(5);
+        assert_eq!(bench.list(), Answer::refusal(11));
+        assert!(bench.listing.iter().all(|&number| number == 5));
+    } else {
+        assert_eq!(answer.place, 0);
+        assert_eq!(usize::from(bench.model[0]) + 256 * usize::from(bench.model[1]), text.len());
+        assert_eq!(&bench.model[2..2 + text.len()], text);
+        assert!(bench.model[2 + text.len()..].iter().all(|&byte| byte == 0));
+        let number = bench.list().number;
+        assert!([0, 12, 13, 14].contains(&number), "{number}");
+    }
+    (answer.number, answer.place)
+}
+
+/// Refused with this number at the `¶`, which is taken out of the text before.
+pub fn refused(number: u64, text: &str) {
+    let place = text.find('¶').expect("a mark");
+    let bare = text.replace('¶', "");
+    assert_eq!(answer_to(bare.as_bytes()), (number, place as u64), "{text}");
+}
+
+pub fn accepted(text: &str) {
+    assert_eq!(answer_to(text.as_bytes()), (0, 0), "{text}");
+}
+
+/// Number, place and branch of a list call on an accepted text.
+pub fn listed(text: &str) -> (u64, u64, u64) {
+    let answer = Bench::of(text).list();
+    (answer.number, answer.place, answer.branch)
+}
+
+/// A text with one process that launches the value of the expression; whatever it is.
+pub fn value_of(expression: &str) -> Option<i64> {
+    let mut bench = Bench::of(&format!("A[]={{c![{expression}],1}};A[];"));
+    let answer = bench.step(0);
+    match answer.number {
+        0 => Some(bench.pairs()[0][3]),
+        12 => {
+            assert_eq!((answer.place, answer.branch), (0, 0));
+            None
+        }
+        other => panic!("{other}"),
+    }
+}
+
+/// The rate as a weight divided by 10,000, if it has a value in its range.
+pub fn rate_of(variables: &str, rate: &str) -> Option<u64> {
+    let mut bench = Bench::of(&format!("{variables}A[]={{go,{rate}}};A[];"));
+    let answer = bench.list();
+    match answer.number {
+        0 => Some(answer.total / 10_000),
+        12 => None,
+        other => panic!("{other}"),
+    }
+}
+
+/// The values from -20 to 20 that a set holds.
+pub fn members(set: &str) -> Vec<i64> {
+    let mut bench = Bench::of(&format!("A[n]={{@c![n],1}};B[]={{@c?[{set}],1}};41*A[0]||B[];"));
+    for place in 0..41 {
+        bench.set_process(place, &[0, place as i64 - 20]);
+    }
+    bench.entries().iter().map(|entry| entry[1] as i64 - 20).collect()
+}

@@ -1,0 +1,207 @@
+//! Random models and calls on the second engine itself: it never panics, it leaves the buffers
+//! as 01 says for each number, its states pass question 11, its totals are the sums of the
+//! weights, and every refusal is met.
+
+use second::generate::*;
+use second::{model, state, Answer, LISTING, MODEL, STATE};
+use std::collections::BTreeMap;
+
+/// How many seeds to try: the number given, unless the environment has SEEDS.
+fn seeds(usual: u64) -> u64 {
+    std::env::var("SEEDS").ok().and_then(|number| number.parse().ok()).unwrap_or(usual)
+}
+
+/// Names the seed when a check fails.
+struct Named(u64);
+
+impl Drop for Named {
+    fn drop(&mut self) {
+        if std::thread::panicking() {
+            eprintln!("seed {}", self.0);
+        }
+    }
+}
+
+/// Checks what can be told of a call from its answer and the buffers before and after it.
+fn check(call: &Call, before: &Buffers, answer: &Answer, after: &Buffers) {
+    let number = answer.number;
+    let kept_model = before.model == after.model;
+    let kept_state = before.state == after.state;
+    let kept_listing = before.listing == after.listing;
+    if number != 12 {
+        assert_eq!(answer.branch, 0);
+    }
+    if number != 0 {
+        assert_eq!(answer.chosen, 0);
+    }
+    let lengths = match call {
+        Call::Open { text, lengths } => {
+            assert!(number <= 10);
+            assert_eq!((answer.count, answer.total, answer.chosen), (0, 0, 0));
+            assert!(kept_listing);
+            assert_eq!(number == 1, lengths.model != MODEL || lengths.state != STATE);
+            if number == 1 {
+                assert!(kept_model && kept_state);
+            } else if number > 1 {
+                assert!(answer.place as usize <= text.len());
+                assert!(after.model[..MODEL].iter().all(|&byte| byte == 0));
+                assert!(after.state[..STATE].iter().all(|&number| number == 0));
+            } else {
+                assert!(holds_a_state(after));
+                assert_eq!(&after.model[2..2 + text.len()], &text[..]);
+            }
+            if number <= 1 {
+                assert_eq!(answer.place, 0);
+            }
+            return;
+        }
+        Call::List { lengths } => {
+            assert!([0, 1, 11, 12, 13, 14].contains(&number));
+            assert!(kept_state);
+            assert_eq!(answer.chosen, 0);
+            lengths
+        }
+        Call::Step { lengths, .. } => {
+            assert!([0, 1].contains(&number) || (11..=19).contains(&number));
+            assert!(kept_state || number == 0);
+            lengths
+        }
+        _ => unreachable!("changes have no answer"),
+    };
+    assert!(kept_model);
+    assert_eq!(number == 1, *lengths != RIGHT);
+    if number == 1 || number == 11 {
+        assert!(kept_listing);
+    }
+    if number != 1 {
+        assert_eq!(number == 11, !holds_a_state(before));
+    }
+    let listing = &after.listing[..LISTING];
+    if (12..=14).contains(&number) {
+        assert!(listing.iter().all(|&number| number == 0));
+    }
+    if number == 0 || number >= 15 {
+        assert!(holds_a_state(after));
+        check_listing(listing, answer, before);
+    } else {
+        assert_eq!((answer.count, answer.total), (0, 0));
+    }
+    if number != 12 {
+        assert_eq!(answer.place, 0);
+    }
+}
+
+fn holds_a_state(buffers: &Buffers) -> bool {
+    let model = model::read_buffer(&buffers.model[..MODEL]);
+    model.is_some_and(|model| state::read_buffer(&model, &buffers.state[..STATE]).is_some())
+}
+
+/// As many entries as counted, in order, of known kinds, with weights that sum up to the total.
+fn check_listing(listing: &[u64], answer: &Answer, before: &Buffers) {
+    let (filled, rest) = listing.split_at(answer.count as usize * 7);
+    assert!(rest.iter().all(|&number| number == 0));
+    let entries: Vec<&[u64]> = filled.chunks(7).collect();
+    let total: u128 = entries.iter().map(|entry| u128::from(entry[6])).sum();
+    assert_eq!(total, u128::from(answer.total));
+    assert!(answer.total <= 9_000_000_000_000_000_000);
+    if answer.number == 0 || answer.number >= 17 {
+        assert!(answer.chosen == 0 || answer.chosen < answer.count);
+    }
+    for pair in entries.windows(2) {
+        let order = |entry: &[u64]| (entry[1], entry[2], entry[5], entry[3], entry[4]);
+        assert!(order(pair[0]) < order(pair[1]));
+    }
+    for entry in entries {
+        assert!((1..=7).contains(&entry[0]));
+        assert!(entry[1] < before.state[0] as u64 && entry[2] < 16);
+        if entry[0] == 7 {
+            assert!(entry[3] < before.state[0] as u64 && entry[3] != entry[1] && entry[5] == 0);
+        } else {
+            assert_eq!((entry[3], entry[4]), (0, 0));
+        }
+        if entry[0] == 5 {
+            assert!(entry[5] < before.state[1] as u64);
+        } else {
+            assert_eq!(entry[5], 0);
+        }
+    }
+}
+
+#[test]
+fn calls_of_all_kinds() {
+    let mut met: BTreeMap<(&str, u64), usize> = BTreeMap::new();
+    let mut numbers: BTreeMap<u64, usize> = BTreeMap::new();
+    let mut kinds = [0usize; 8];
+    for seed in 0..seeds(300) {
+        let _named = Named(seed);
+        let mut random = Random::new(seed);
+        let mut buffers = Buffers::default();
+        // Every tenth list goes through all limits.
+        let list = if seed % 10 == 9 { edge_calls(&mut random) } else { calls(&mut random, 40) };
+        for call in list {
+            let before = buffers.clone();
+            let name = match call {
+                Call::Open { .. } => "open",
+                Call::List { .. } => "list",
+                _ => "step",
+            };
+            if let Some(answer) = buffers.make(&SECOND, &call) {
+                check(&call, &before, &answer, &buffers);
+                *met.entry((name, answer.number)).or_default() += 1;
+                *numbers.entry(answer.number).or_default() += 1;
+                if name == "step" && answer.number == 0 {
+                    kinds[buffers.listing[answer.chosen as usize * 7] as usize] += 1;
+                }
+            }
+        }
+    }
+    println!("answers met:");
+    for ((name, number), times) in &met {
+        println!("  {name} {number}: {times}");
+    }
+    println!("kinds of accepted steps: {:?}", &kinds[1..]);
+    for number in 0..=19 {
+        assert!(numbers.contains_key(&number), "{number} is never met");
+    }
+    assert!(kinds[1..].iter().all(|&times| times > 0));
+}
+
+#[test]
+fn lively_models_are_legal_and_live() {
+    let mut steps = 0;
+    let mut ends: BTreeMap<u64, usize> = BTreeMap::new();
+    let mut kinds = [0usize; 8];
+    let models = seeds(100);
+    for seed in 0..models {
+        let _named = Named(seed);
+        let text = lively(&mut Random::new(seed));
+        let mut buffers = Buffers::default();
+        let opened = buffers.make(&SECOND, &Call::Open { text: text.clone(), lengths: RIGHT });
+        assert_eq!(opened, Some(Answer::default()), "{}", String::from_utf8_lossy(&text));
+        let mut random = Random::new(seed);
+        let mut end = 0;
+        for _ in 0..100 {
+            let draw = Draw::Inside(random.number());
+            let answer = buffers.make(&SECOND, &Call::Step { lengths: RIGHT, draw }).unwrap();
+            if answer.number != 0 {
+                end = answer.number;
+                break;
+            }
+            steps += 1;
+            kinds[buffers.listing[answer.chosen as usize * 7] as usize] += 1;
+        }
+        *ends.entry(end).or_default() += 1;
+    }
+    println!("{models} lively models, at most 100 steps each: {steps} steps; ends {ends:?}; kinds {:?}", &kinds[1..]);
+    assert!(steps > models * 40);
+}
+
+#[test]
+fn the_same_seed_gives_the_same() {
+    let text = |seed| some_text(&mut Random::new(seed));
+    for seed in 0..50 {
+        assert_eq!(text(seed), text(seed));
+    }
+    let different: std::collections::BTreeSet<Vec<u8>> = (0..50).map(text).collect();
+    assert!(different.len() > 40);
+}

@@ -103,7 +103,7 @@ pub fn sort(b: u8) -> u8
 }
 
 // The byte at i, or 0 past the end.
-fn peek(s: &[u8], i: usize) -> u8
+pub fn peek(s: &[u8], i: usize) -> u8
     ensures { λ r. ⌜ r ≡ getD (now (s .entry)) i 0 ⌝ }
 {
     if i < s.len() {

@@ -1,0 +1,22 @@
+-- The returns of the reading functions, over plain variables: what each answers follows from what its callees answered.
+pub mod Acting
+pub mod Answers
+pub mod Calling
+pub mod Conditions
+pub mod Deeds
+pub mod Enclosed
+pub mod Expressions
+pub mod Forms
+pub mod Grouping
+pub mod LineReturns
+pub mod LineTrees
+pub mod Lines
+pub mod Naming
+pub mod Offering
+pub mod Openings
+pub mod Rates
+pub mod Sets
+pub mod Signs
+pub mod Sizes
+pub mod Symbols
+pub mod Widths

@@ -1,0 +1,9 @@
+pub mod Actions
+pub mod Condition
+pub mod Expression
+pub mod Judged
+pub mod Line
+pub mod Names
+pub mod Processes
+pub mod Rate
+pub mod Signs

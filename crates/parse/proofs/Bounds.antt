@@ -13,9 +13,9 @@ use Rattle.token.specs.Questions.{textLimit, bytesJudged}
 use Rattle.token.specs.Token.{tokens, kindsOf, placesOf, Filled}
 use Rattle.token.proofs.Asks.{refused-length}
 use Rattle.token.proofs.Marks.{column-length}
-use Rattle.syntax.specs.declared.line.Text.{Text}
-use Rattle.syntax.specs.declared.line.Text.the-variants.{Fits}
-use Rattle.syntax.specs.Judged.{Judged}
+use Rattle.syntax.specs.declared.question.Asked.{Asked}
+use Rattle.syntax.specs.declared.question.Asked.the-variants.{Passed as Fits}
+use Rattle.syntax.specs.Asked.{Asks}
 
 -- question 2 was asked
 pub passed-short : (s : List ℕ) → Passed ≡ bytesJudged s → length s ≤ textLimit
@@ -32,6 +32,6 @@ module _ {text kinds places sizes : List ℕ} {n : ℕ} {kinds′ places′ size
   pub filled-places : n ≤ length places′
   filled-places = omega (arith, f .count, ap length (f .places-are), length-append (placesOf (tokens text)) (drop n places), column-length (λ m. m .place) (tokens text))
 
-pub few-nodes : (ts t : List ℕ) {r : Text} {root : ℕ} → r ≡ Fits root → Judged ts t r → root < length ts
-unfolding Judged
-few-nodes ts t e j = let f = rw e at j in f .few
+pub few-nodes : (ts t : List ℕ) {r : Asked} {root : ℕ} → r ≡ Fits root → Asks ts t r → root < length ts
+unfolding Asks
+few-nodes ts t e j = let f = rw e at j in f .0 .few

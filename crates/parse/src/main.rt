@@ -5,13 +5,10 @@ ghost use lib.ListN.{length};
 ghost use Rattle.token.specs.Questions.{textLimit};
 use libc::STDIN_FILENO;
 use libc::STDOUT_FILENO;
-use syntax::line;
-use syntax::line::Text;
+use syntax::question;
+use syntax::question::Asked;
 use token::Judged;
 use token::Limits;
-
-// How many tokens a text may have.
-const TOKENS: usize = 4096;
 
 fn put(s: &[u8]) {
     io::write_all(STDOUT_FILENO, s);
@@ -51,18 +48,13 @@ fn put_read(text: &[u8])
     let mut kinds = [0u8; Limits::TEXT];
     let mut places = [0u16; Limits::TEXT];
     let mut sizes = [0u16; Limits::TEXT];
-    let mut nodes = [0u64; TOKENS];
+    let mut nodes = [0u64; question::Limits::TOKENS];
     let n = token::fill(text, &mut kinds, &mut places, &mut sizes);
-    let read = line::read_text(&kinds[..n], &mut nodes);
-    match read {
-        Text::Broken(k) => put_refused(5, place(&places, n, k, text.len())),
-        Text::Fits(root) => {
-            if n <= TOKENS {
-                put_two(b"fits", n, root + 1);
-                return;
-            }
-            put_refused(6, place(&places, n, TOKENS, text.len()));
-        }
+    let asked = question::judge_text(&kinds[..n], &mut nodes);
+    match asked {
+        Asked::Misfit(k) => put_refused(5, place(&places, n, k, text.len())),
+        Asked::Crowded(k) => put_refused(6, place(&places, n, k, text.len())),
+        Asked::Passed(root) => put_two(b"fits", n, root + 1),
     }
 }
 

@@ -60,8 +60,7 @@ module _ (ts t t₁ : List ℕ) (at used : ℕ) {r : Read} (a : Expr ts t t₁ a
     pub args-last : getD ts n 0 ≡ kind.closeSquare → Args ts t t₁ at used (CountedNext (n + 1) left 1)
     unfolding placeCounted Tallied table rowsOf isMay closedExprs flatExprs exprsAt countExprs Table.Exprs
     args-last q =
-        let m = made-of e (a .1) in
-        (
+        let m = made-of e (a .1) in (
           onward anExpr end (next-at e (a .0)) (λ l. past ts n _ MoreArgs l refl ((λ c. omega arith), tt) (wants ts n [] kind.closeSquare q (omega arith) (λ i. here ts (n + 1) i))),
           record {
             made = record { tree = Grammar.lastExpr (m .tree); span = m .span then span-token kind.closeSquare q (omega arith); shown = m .shown };
@@ -96,8 +95,7 @@ module _ (ts t t₁ : List ℕ) (at used : ℕ) {r : Read} (a : Expr ts t t₁ a
         args-next {m} {right} {count} {t₃} q w =
             let p = made-of e (a .1) in
             let s = tally-of q (b .1) in
-            let k = span-place (wide-expr (p .tree)) (p .span) in
-            (
+            let k = span-place (wide-expr (p .tree)) (p .span) in (
               next-value (CountedNext m (right + 1) (count + 1)) (counted-next-at q (b .0)),
               record {
                 made = made-two p (s .made) kind.comma (Grammar.nextExpr (p .tree) (s .made .tree)) (λ us. refl) (expr-interval (exprAt (p .tree) at)) (exprs-interval (exprsAt (s .made .tree) (n + 1))) (λ lo i h. rw (← k) h) c (omega arith) w;
@@ -139,8 +137,7 @@ module _ (ts t : List ℕ) (at used sums : ℕ) (named : getD ts at 0 ≡ kind.n
       call-with {m} {root} {count} {t₂} e w =
           let s = tally-of e (a .1) in
           let z = s .made .tree in
-          let counted : countExprs (exprsAt z (at + 1 + 1)) ≡ count = omega (arith, s .counted) in
-          (
+          let counted : countExprs (exprsAt z (at + 1 + 1)) ≡ count = omega (arith, s .counted) in (
             first-value n (CountedNext m (root + 1) sums) (counted-next-at e (a .0)),
             record {
               made =

@@ -61,8 +61,7 @@ module _ (form : ℕ) (ts t t₁ : List ℕ) (at left : ℕ) {r : Read} (a : Val
   pub sending-node : {n root : ℕ} {t₂ : List ℕ} → 0 < getD ts at 0 → r ≡ Next n root → Wrote t₁ t₂ (root + 1) form 0 left 0 → Sending form ts t t₂ at left (Next n (root + 1))
   unfolding place Extended flatSent Sent
   sending-node {n} h e w =
-      let m = made-of e (a .1) in
-      (
+      let m = made-of e (a .1) in (
         next-at e (a .0),
         record {
           tree = m .tree;
@@ -85,8 +84,7 @@ module _ (form : ℕ) (ts t t₁ : List ℕ) (at left : ℕ) {r : Read} (a : Set
     pub receiving-plain : {t₂ : List ℕ} → 0 < getD ts at 0 → (getD ts n 0 ≡ kind.openRound → ⊥) → Wrote t₁ t₂ (root + 1) form 0 left 0 → Receiving form ts t t₂ at left (Next n (root + 1))
     unfolding place Extended flatHeard HeardOn table rowsOf isMay
     receiving-plain h q w =
-        let m = made-of e (a .1) in
-        (
+        let m = made-of e (a .1) in (
           onward theSets _ (next-at e (a .0)) (λ l. passes ts n BoundNames l refl (q, tt)),
           record {
             tree = plain (m .tree);
@@ -109,8 +107,7 @@ module _ (form : ℕ) (ts t t₁ : List ℕ) (at left : ℕ) {r : Read} (a : Set
           let p = made-of e (a .1) in
           let l = listed-of d (b .1) in
           let k = span-place (wide-sets (p .tree)) (p .span) in
-          let s : Span _ ts t₁ t₁ n (root + 1) _ (root + 1) = span-token kind.openRound q (omega arith) then names-span l in
-          (
+          let s : Span _ ts t₁ t₁ n (root + 1) _ (root + 1) = span-token kind.openRound q (omega arith) then names-span l in (
             onward theSets _ (next-at e (a .0)) (λ i. takes ts n BoundNames kind.openRound q (omega arith) refl (λ i. next-at d (b .0))),
             record {
               tree = binding (p .tree) (l .tree);
@@ -156,8 +153,7 @@ module _ (ts t t₁ : List ℕ) (at used : ℕ) (o : getD ts at 0 ≡ kind.tilde
             let p = made-of e (a .1) in
             let s = made-of d (b .1) in
             let k = span-place (wide-expr (p .tree)) (p .span) in
-            let parts = span-token kind.tilde o (omega arith) then p .span then span-token kind.query q (omega arith) then s .span in
-            (
+            let parts = span-token kind.tilde o (omega arith) then p .span then span-token kind.query q (omega arith) then s .span in (
               checks ts at o (Next m (right + 1)) (onward anExpr _ (next-at e (a .0)) (λ l. wants ts n theSets kind.query q (omega arith) (λ i. next-at d (b .0)))),
               record {
                 tree = Grammar.check (p .tree) (s .tree);
@@ -223,8 +219,7 @@ module _ (ts t t₁ : List ℕ) (at used : ℕ) {r : Read} (a : Expr ts t t₁ a
       -- values are sent: a launch or a kill, by its sign
       beacon-sends : (form sign : ℕ) (deed : Grammar.Expr → Grammar.Values → Grammar.Action) → find sign (rows ChannelEnd) ≡ some theValues → 0 < sign → ((c : Grammar.Expr) (v : Grammar.Values) (us : List ℕ) → flatAction (deed c v) us ≡ flatExpr c (flatSent sign v us)) → ((c : Grammar.Expr) (v : Grammar.Values) (s : List ℕ) (lo k : ℕ) → Sent form (at + wide (flatExpr c)) s (exprAt c at, v) lo k → Table.Action s (actionAt (deed c v) at) lo k) → getD ts n 0 ≡ sign → Sending form ts t₁ t₂ n left r′ → Deed (anExpr ++ ChannelEnd ∷ []) ts t t₂ at used r′
       beacon-sends form sign deed row present text shows q b =
-          let p = made-of e (a .1) in
-          (
+          let p = made-of e (a .1) in (
             onward anExpr _ (next-at e (a .0)) (λ l. takes ts n ChannelEnd sign q present row (λ i. b .0)),
             parsed-grown r′ (λ i top g. made-as (λ z. deed (z .0) (z .1)) (λ z. shows (z .0) (z .1)) (λ z us. text (z .0) (z .1) us ∙ ap (λ (x : ℕ). flatExpr (z .0) (flatSent x (z .1) us)) (sym q)) (channel-sent p _ _ g)) (λ z. z ∙ p .span .size) (b .1),
           )
@@ -240,8 +235,7 @@ module _ (ts t t₁ : List ℕ) (at used : ℕ) {r : Read} (a : Expr ts t t₁ a
       pub beacon-receive : getD ts n 0 ≡ kind.query → Receiving node.receive ts t₁ t₂ n left r′ → Deed (anExpr ++ ChannelEnd ∷ []) ts t t₂ at used r′
       unfolding table rowsOf find
       beacon-receive q b =
-          let p = made-of e (a .1) in
-          (
+          let p = made-of e (a .1) in (
             onward anExpr _ (next-at e (a .0)) (λ l. takes ts n ChannelEnd kind.query q (omega arith) refl (λ i. b .0)),
             parsed-grown r′ (λ i top g. made-as (λ z. receiveOf (z .0) (z .1)) (λ z. receive-shown (z .0) (z .1) at) (λ z us. receive-text (z .0) (z .1) us ∙ ap (λ (x : ℕ). flatExpr (z .0) (flatHeard x (z .1) us)) (sym q)) (channel-heard p _ _ g)) (λ z. z ∙ p .span .size) (b .1),
           )
@@ -270,8 +264,7 @@ module _ (ts t t₁ : List ℕ) (at used : ℕ) (o : getD ts at 0 ≡ kind.at) {
       pub hand-send : getD ts n 0 ≡ kind.bang → Sending node.handSend ts t₁ t₂ n left r′ → Deed (Action′ ∷ []) ts t t₂ at used r′
       unfolding table rowsOf find flatAction flatSent Sent actionAt Table.Action
       hand-send q b =
-          let p = made-of e (a .1) in
-          (
+          let p = made-of e (a .1) in (
             shakes ts at o r′ (onward anExpr _ (next-at e (a .0)) (λ l. takes ts n HandEnd kind.bang q (omega arith) refl (λ i. b .0))),
             parsed-grown r′ (λ i top g. made-signed (λ z. Grammar.handSend (z .0) (z .1)) (λ z s lo k h. h) (λ z us. ap (λ (x : ℕ). kind.at ∷ flatExpr (z .0) (flatSent x (z .1) us)) (sym q)) o (omega arith) (channel-sent p _ _ g)) (λ z. z ∙ p .span .size) (b .1),
           )
@@ -279,8 +272,7 @@ module _ (ts t t₁ : List ℕ) (at used : ℕ) (o : getD ts at 0 ≡ kind.at) {
       pub hand-receive : getD ts n 0 ≡ kind.query → Receiving node.handReceive ts t₁ t₂ n left r′ → Deed (Action′ ∷ []) ts t t₂ at used r′
       unfolding table rowsOf find
       hand-receive q b =
-          let p = made-of e (a .1) in
-          (
+          let p = made-of e (a .1) in (
             shakes ts at o r′ (onward anExpr _ (next-at e (a .0)) (λ l. takes ts n HandEnd kind.query q (omega arith) refl (λ i. b .0))),
             parsed-grown r′ (λ i top g. made-signed (λ z. handOf (z .0) (z .1)) (λ z. hand-shown (z .0) (z .1) at) (λ z us. hand-text (z .0) (z .1) us ∙ ap (λ (x : ℕ). kind.at ∷ flatExpr (z .0) (flatHeard x (z .1) us)) (sym q)) o (omega arith) (channel-heard p _ _ g)) (λ z. z ∙ p .span .size) (b .1),
           )

@@ -101,8 +101,7 @@ module _ {A B X : Type 0} {x : List Sym} {second : Sym} {flatA : A → List ℕ 
       pub brackets-one : getD ts n 0 ≡ kind.closeSquare → Enclosed t₁ (Next (n + 1) left)
       unfolding place Parsed
       brackets-one q =
-          let m = made-of e (a .1) in
-          (
+          let m = made-of e (a .1) in (
             wants ts at (x ++ end) kind.openSquare o (omega arith) (λ l. onward x end (next-at e (a .0)) (λ h. past ts n _ second h (j .may) (misses (λ c. omega arith)) (wants ts n [] kind.closeSquare q (omega arith) (λ i. here ts (n + 1) i)))),
             record {
               tree = j .one (m .tree);
@@ -148,8 +147,7 @@ module _ {A B X : Type 0} {x : List Sym} {second : Sym} {flatA : A → List ℕ 
               let p = made-of e (a .1) in
               let s = made-of q (b .1) in
               let k = span-place (wide-part (p .tree)) (p .span) in
-              let parts = span-token kind.openSquare o (omega arith) then p .span then span-token kind.comma c (omega arith) then s .span then span-token kind.closeSquare d (omega arith) in
-              (
+              let parts = span-token kind.openSquare o (omega arith) then p .span then span-token kind.comma c (omega arith) then s .span then span-token kind.closeSquare d (omega arith) in (
                 second-part c (Next (m + 1) (right + 1)) (onward x _ (next-at q (b .0)) (λ h. wants ts m [] kind.closeSquare d (omega arith) (λ i. here ts (m + 1) i))),
                 record {
                   tree = j .two (p .tree) (s .tree);

@@ -92,8 +92,7 @@ module _ (ts t t′ : List ℕ) (at used sums : ℕ) where
     cont-chain e w =
         let v = tally-of e (a .1 .0) in
         let p = v .made .tree in
-        let spare = spare-of at used (sums + 1) e (a .1 .1) in
-        (
+        let spare = spare-of at used (sums + 1) e (a .1 .1) in (
           as-prefix ts at g n (counted-next-at e (a .0)),
           record {
             made = made-one (v .made) (Grammar.chain p) (λ us. refl) (branch-interval (branchAt p at (sums + 1))) (λ lo k h. rw (first-branch p at (sums + 1)) h) (spare .0) w;
@@ -114,8 +113,7 @@ module _ (ts t t₁ : List ℕ) (at used sums : ℕ) {r : Counted} (a : Branches
   sum-node e w =
       let v = tally-of e (a .1 .0) in
       let x = v .made .tree in
-      let spare = spare-of at used (sums + 1) e (a .1 .1) in
-      (
+      let spare = spare-of at used (sums + 1) e (a .1 .1) in (
         counted-next-at e (a .0),
         record {
           made = made-one (v .made) x (λ us. refl) (branches-interval (branchesFrom x at (sums + 1))) (λ lo k h. rw (first-token x at (sums + 1)) h) (spare .0) w;
@@ -167,8 +165,7 @@ module _ (ts t t₁ : List ℕ) (at used sums : ℕ) {r : Counted} (a : Prefix t
             let p = v .made .tree in
             let x = u .made .tree in
             let k = span-place (wide-prefix p) (v .made .span) in
-            let spare = spare-of at used sums e (a .1 .1) in
-            (
+            let spare = spare-of at used sums e (a .1 .1) in (
               to-branch (CountedNext m (right + 1) i) (counted-next-at d (b .0)),
               (
                 record {
@@ -191,8 +188,7 @@ module _ (ts t t₁ : List ℕ) (at used sums : ℕ) (o : getD ts at 0 ≡ kind.
   unfolding placeCounted Tallied flatGroup groupAt Table.Cont
   group-node e w =
       let v = tally-of e (a .1) in
-      let g = v .made in
-      (
+      let g = v .made in (
         counted-next-at e (a .0),
         record {
           made = record { tree = g .tree; span = span-wrote w (span-token kind.openRound o (omega arith) then g .span) (omega (arith, g .span .fewer)); shown = seen-one (conts-interval (itemListAt (g .tree) (at + 1) sums)) w (g .shown) };
@@ -213,8 +209,7 @@ module _ (ts t t₁ : List ℕ) (at used sums : ℕ) {r : Counted} (a : Item ts 
     unfolding placeCounted Tallied table rowsOf find flatItemList flatItems sumsItemList sumsItems itemListAt contsAt Table.Conts
     items-close q =
         let v = tally-of e (a .1) in
-        let g = v .made in
-        (
+        let g = v .made in (
           onward (Item′ ∷ []) (Items′ ∷ []) (counted-next-at e (a .0)) (λ l. takes ts n Items′ kind.closeRound q (omega arith) refl (λ i. here ts (n + 1) i)),
           record {
             made = record { tree = (g .tree, Grammar.close); span = g .span then span-token kind.closeRound q (omega arith); shown = g .shown };
@@ -254,8 +249,7 @@ module _ (ts t t₁ : List ℕ) (at used sums : ℕ) {r : Counted} (a : Item ts 
             let u = tally-of d (b .1) in
             let p = v .made .tree in
             let x = u .made .tree in
-            let k = span-place (wide-item p) (v .made .span) in
-            (
+            let k = span-place (wide-item p) (v .made .span) in (
               to-item (CountedNext m (right + 1) i) (counted-next-at d (b .0)),
               record {
                 made = made-two (v .made) (u .made) kind.bars (p, Grammar.also (x .0) (x .1)) (λ us. refl) (cont-interval (itemAt p at sums)) (conts-interval (itemListAt x (n + 1) c)) (λ lo j h. rw (← k, ← v .counted) h) q (omega arith) w;
@@ -343,8 +337,7 @@ module _ (ts t t₁ : List ℕ) (at used sums : ℕ) {r : Counted} (a : Sum ts t
             let u = tally-of d (b .1) in
             let x = v .made .tree in
             let z = u .made .tree in
-            let same = beside-at x z at sums n c (span-place (wide-sum (x .0) (x .1)) (v .made .span)) (v .counted) in
-            (
+            let same = beside-at x z at sums n c (span-place (wide-sum (x .0) (x .1)) (v .made .span)) (v .counted) in (
               to-sum (CountedNext m (right + 1) i) (counted-next-at d (b .0)),
               record {
                 made = made-two (v .made) (u .made) kind.bars (besideOf x z) (beside-text x z) (sum-interval (sumAt (x .0) (x .1) at sums)) (sums-interval (bodyAt z (n + 1) c)) (λ lo j h. rw same h) q (omega arith) w;

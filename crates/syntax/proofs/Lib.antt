@@ -14,6 +14,7 @@ pub mod Lines
 pub mod Naming
 pub mod Offering
 pub mod Openings
+pub mod Questions
 pub mod Rates
 pub mod Sets
 pub mod Signs

@@ -36,8 +36,7 @@ module _ (ts : List ℕ) (at close : ℕ) (comma : close ≡ kind.comma → ⊥)
     pub names-last : getD ts (at + 1) 0 ≡ close → Names close ts at (Next (at + 1 + 1) 1)
     unfolding place Listing table rowsOf isMay flatNames countNames
     names-last e =
-        let s : Span _ ts ts ts at 0 _ 0 = span-token kind.name name (omega arith) then span-token close e present in
-        (
+        let s : Span _ ts ts ts at 0 _ 0 = span-token kind.name name (omega arith) then span-token close e present in (
           wants ts at _ kind.name name (omega arith) (λ l. past ts (at + 1) _ MoreNames l refl ((λ q. comma (omega arith)), tt) (wants ts (at + 1) [] close e present (λ m. here ts (at + 1 + 1) m))),
           record { tree = Grammar.lastName; text = s .text; counted = refl; fewer = omega arith; within = s .within },
         )
@@ -55,8 +54,7 @@ module _ (ts : List ℕ) (at close : ℕ) (comma : close ≡ kind.comma → ⊥)
       unfolding place Listing table rowsOf find flatNames countNames
       names-next {n} {count} e =
           let l = listed-of e (a .1) in
-          let s : Span _ ts ts ts at 0 _ 0 = span-token kind.name name (omega arith) then span-token kind.comma more (omega arith) in
-          (
+          let s : Span _ ts ts ts at 0 _ 0 = span-token kind.name name (omega arith) then span-token kind.comma more (omega arith) in (
             wants ts at _ kind.name name (omega arith) (λ i. taken ts (at + 1) (Want close ∷ []) MoreNames kind.comma more (omega arith) refl (λ m. next-at e (a .0))),
             record { tree = Grammar.nextName (l .tree); text = s .text ∙ ap (λ (us : List ℕ). kind.name ∷ kind.comma ∷ us) (l .text); counted = ap (λ (i : ℕ). i + 1) (l .counted); fewer = omega (arith, l .fewer); within = l .within },
           )

@@ -115,8 +115,7 @@ module _ (ts t : List ℕ) (at used sums first : ℕ) where
                 let s = made-of d (b .1) in
                 let k : n ≡ at + 1 + wide (flatAction (p .tree)) + 1 = omega (arith, span-ends (wide-written (p .tree)) (p .span)) in
                 let parts = span-token kind.openCurly o (omega arith) then p .span then s .span then span-token kind.closeCurly q (omega arith) in
-                let spare : middle + 1 + 1 + at < used + (m + 1) = omega (arith, p .span .fewer, s .span .fewer) in
-                (
+                let spare : middle + 1 + 1 + at < used + (m + 1) = omega (arith, p .span .fewer, s .span .fewer) in (
                   to-next (CountedNext (m + 1) (middle + 1) sums) (λ l. passes ts (m + 1) Next′ l refl (x, tt)),
                   (
                     record {
@@ -163,8 +162,7 @@ module _ (ts t : List ℕ) (at used sums first : ℕ) where
                     let l = span-place (wide-rate (s .tree)) (s .span) in
                     let signs = span-token kind.closeCurly q (omega arith) then span-token kind.point x (omega arith) in
                     let parts = span-token kind.openCurly o (omega arith) then p .span then s .span then signs then g .span in
-                    let spare : root + 1 + 1 + at < used + i = omega (arith, p .span .fewer, s .span .fewer, g .span .fewer) in
-                    (
+                    let spare : root + 1 + 1 + at < used + i = omega (arith, p .span .fewer, s .span .fewer, g .span .fewer) in (
                       to-cont (CountedNext i (root + 1) c) (counted-next-at z (y .0)),
                       (
                         record {
@@ -238,8 +236,7 @@ module _ (ts t t₁ : List ℕ) (at used sums : ℕ) (o : getD ts at 0 ≡ kind.
               let spare = spare-of (n + 1 + 1) (left + 1) sums d (b .1 .1) in
               let k : n + 1 + 1 ≡ at + wide (flatGate (Grammar.gate (p .tree))) = omega (arith, span-place (wide-cond (p .tree)) (p .span), wide-gate (Grammar.gate (p .tree)) .width) in
               let signs = span-token kind.closeSquare q (omega arith) then span-token kind.arrow x (omega arith) in
-              let parts = span-token kind.openSquare o (omega arith) then p .span then signs then g .span in
-              (
+              let parts = span-token kind.openSquare o (omega arith) then p .span then signs then g .span in (
                 to-braces (CountedNext m (root + 1) c) (counted-next-at d (b .0)),
                 (
                   record {

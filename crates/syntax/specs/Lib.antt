@@ -1,4 +1,5 @@
 pub mod Actions
+pub mod Asked
 pub mod Condition
 pub mod Expression
 pub mod Judged

@@ -1,9 +1,9 @@
 // Reads actions.
 use crate::expression;
 use crate::set;
+use token::Kind;
 use tree::NodeKind;
 use tree::Read;
-use token::Kind;
 ghost use mathlib.Core.Path.{_≡_};
 ghost use mathlib.Core.List.{[], _∷_, _++_};
 ghost use Prim.Native.Nat.{_+_, _≤_, _<_};

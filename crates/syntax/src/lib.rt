@@ -4,5 +4,6 @@ pub mod condition;
 pub mod expression;
 pub mod line;
 pub mod process;
+pub mod question;
 pub mod rate;
 pub mod set;

@@ -3,10 +3,10 @@ use crate::action;
 use crate::condition;
 use crate::expression;
 use crate::rate;
+use token::Kind;
 use tree::Counted;
 use tree::NodeKind;
 use tree::Read;
-use token::Kind;
 ghost use mathlib.Core.Path.{_≡_};
 ghost use mathlib.Core.List.{[], _∷_, _++_};
 ghost use Prim.Native.Nat.{_+_, _≤_, _<_};
@@ -67,7 +67,14 @@ pub fn gated(toks: &[u8], at: usize, nodes: &mut [u64], used: usize, sums: usize
 }
 
 // Action and rate in their braces, and the continuation, if any; `first` is the first token of the prefix.
-pub fn offer(toks: &[u8], at: usize, nodes: &mut [u64], used: usize, sums: usize, first: usize) -> Counted
+pub fn offer(
+    toks: &[u8],
+    at: usize,
+    nodes: &mut [u64],
+    used: usize,
+    sums: usize,
+    first: usize,
+) -> Counted
     requires { ⌜ Ready (now toks) at used ⌝ }
     requires { ⌜ sums ≤ at + 1 ⌝ }
     requires { ⌜ first ≤ at ⌝ }

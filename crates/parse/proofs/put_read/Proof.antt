@@ -19,22 +19,21 @@ fill-requires : tie.Need-fill-requires
 fill-requires c κs = search needs
 
 array-share-prefix-kinds : tie.Need-array-share-prefix-kinds
-array-share-prefix-kinds c =
-    filled-kinds (c .before .before .before .fill .ensures)
+array-share-prefix-kinds c = filled-kinds (c .before .before .before .fill .ensures)
 
-slice-aggregate-read-text : tie.Need-slice-aggregate-read-text
-slice-aggregate-read-text c =
+slice-aggregate-judge-text : tie.Need-slice-aggregate-judge-text
+slice-aggregate-judge-text c =
     simp length-take (omega (arith, filled-kinds (c .before .before .before .before .fill .ensures)))
 
-slice-aggregate-read-text-2 : tie.Need-slice-aggregate-read-text-2
-slice-aggregate-read-text-2 c = search needs
+slice-aggregate-judge-text-2 : tie.Need-slice-aggregate-judge-text-2
+slice-aggregate-judge-text-2 c = search needs
 
-read-text-requires : tie.Need-read-text-requires
-read-text-requires c κs =
+judge-text-requires : tie.Need-judge-text-requires
+judge-text-requires c κs =
     simp length-take (omega (arith, c .before .before .before .before .before .fill .kept .1 .0))
 
-enum-known-read : tie.Need-enum-known-read
-enum-known-read c = search needs
+enum-known-asked : tie.Need-enum-known-asked
+enum-known-asked c = search needs
 
 slice-aggregate-place : tie.Need-slice-aggregate-place
 slice-aggregate-place c = search needs
@@ -46,31 +45,34 @@ place-requires c κs =
 put-refused-requires : tie.Need-put-refused-requires
 put-refused-requires c κs = search needs
 
-enum-known-read-2 : tie.Need-enum-known-read-2
-enum-known-read-2 c = search needs
-
-slice-aggregate-put-two : tie.Need-slice-aggregate-put-two
-slice-aggregate-put-two c = search needs
-
-add-put-two : tie.Need-add-put-two
-add-put-two c =
-    omega (arith, simp length-take at (few-nodes _ _ (c .before .before .before .read2 .given .1) (c .before .before .before .before .before .before .read-text .ensures)), c .before .if1 .taken)
-
-put-two-requires : tie.Need-put-two-requires
-put-two-requires c κs = search needs
-
-returns : tie.Need-returns
-returns c = search needs
+enum-known-asked-2 : tie.Need-enum-known-asked-2
+enum-known-asked-2 c = search needs
 
 slice-aggregate-place-2 : tie.Need-slice-aggregate-place-2
 slice-aggregate-place-2 c = search needs
 
 place-requires-2 : tie.Need-place-requires-2
 place-requires-2 c κs =
-    filled-places (c .before .before .before .before .before .before .before .before .before .before .before .before .fill .ensures)
+    filled-places (c .before .before .before .before .before .before .before .before .before .before .before .fill .ensures)
 
 put-refused-requires-2 : tie.Need-put-refused-requires-2
 put-refused-requires-2 c κs = search needs
+
+enum-known-asked-3 : tie.Need-enum-known-asked-3
+enum-known-asked-3 c = search needs
+
+slice-aggregate-put-two : tie.Need-slice-aggregate-put-two
+slice-aggregate-put-two c = search needs
+
+add-put-two : tie.Need-add-put-two
+add-put-two c =
+    omega (arith, simp length-take at (few-nodes _ _ (c .before .before .asked3 .given .1) (c .before .before .before .before .before .judge-text .ensures)), c .before .before .before .before .before .before .before .before .before .before .before .fill .kept .1 .0)
+
+put-two-requires : tie.Need-put-two-requires
+put-two-requires c κs = search needs
+
+returns : tie.Need-returns
+returns c = search needs
 
 returns-2 : tie.Need-returns-2
 returns-2 c = search needs
@@ -87,20 +89,21 @@ put-read-spec =
     slice-aggregate-fill-3
     fill-requires
     array-share-prefix-kinds
-    slice-aggregate-read-text
-    slice-aggregate-read-text-2
-    read-text-requires
-    enum-known-read
+    slice-aggregate-judge-text
+    slice-aggregate-judge-text-2
+    judge-text-requires
+    enum-known-asked
     slice-aggregate-place
     place-requires
     put-refused-requires
-    enum-known-read-2
+    enum-known-asked-2
+    slice-aggregate-place-2
+    place-requires-2
+    put-refused-requires-2
+    enum-known-asked-3
     slice-aggregate-put-two
     add-put-two
     put-two-requires
     returns
-    slice-aggregate-place-2
-    place-requires-2
-    put-refused-requires-2
     returns-2
     returns-3)

@@ -20,7 +20,7 @@ channel-told (named m) (named n) k l us vs e = let p : m ≡ n = cc in (ap named
 make : Channel → List ℤ → Pair
 make c vs = record { channel = c; values = vs }
 
-told : (x y : Pair) → numbers x ≡ numbers y → x ≡ y
+pub told : (x y : Pair) → numbers x ≡ numbers y → x ≡ y
 unfolding numbers make
 told x y e = let p = channel-told (x .channel) (y .channel) _ _ (x .values) (y .values) e in ap₂ make (p .0) (p .1)
 

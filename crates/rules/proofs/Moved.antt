@@ -18,27 +18,27 @@ use Rattle.rules.proofs.Places.{Accepts, unbound, bound, branching, act
 use Rattle.rules.proofs.Listed.{listed}
 
 -- ---- places
-nth-found : {A B : Type 0} {xs : List A} {n : ℕ} {x : A} (d : B) (f : A → B) → Nth xs n x → Option·elim (getElem? xs n) d f ≡ f x
+pub nth-found : {A B : Type 0} {xs : List A} {n : ℕ} {x : A} (d : B) (f : A → B) → Nth xs n x → Option·elim (getElem? xs n) d f ≡ f x
 unfolding Option·elim
 nth-found d f first = refl
 nth-found d f (later h) = nth-found d f h
 
-abbrev boundOf : Label → List ℤ
+abbrev pub boundOf : Label → List ℤ
 boundOf (label a r q n vs) = vs
 
-chooses-goes : {Proc : Type 0} {lit : List Pair} {bs : List (Branch Proc)} {j : ℕ} {l : Label} {ks : List Proc} (c : Chooses lit bs j l ks)
+pub chooses-goes : {Proc : Type 0} {lit : List Pair} {bs : List (Branch Proc)} {j : ℕ} {l : Label} {ks : List Proc} (c : Chooses lit bs j l ks)
     → branching c .branch .next (boundOf l) ≡ ks
 unfolding branching
 chooses-goes (rule14-this f) = refl
 chooses-goes (rule14-other c) = chooses-goes c
 
 module _ {Proc : Type 0} (branches : Proc → List (Branch Proc)) (lit : List Pair) where
-  acts-goes : {ps : List Proc} {i j : ℕ} {l : Label} {ps′ : List Proc} (a : Acts branches lit ps i j l ps′) → replace i (acting branches lit a .after) ps ≡ ps′
+  pub acts-goes : {ps : List Proc} {i j : ℕ} {l : Label} {ps′ : List Proc} (a : Acts branches lit ps i j l ps′) → replace i (acting branches lit a .after) ps ≡ ps′
   unfolding acting here there replace
   acts-goes (rule15-this c) = refl
   acts-goes (rule15-other {p = p} a) = ap (λ t. p ∷ t) (acts-goes a)
 
-  handshakes-goes : {ps : List Proc} {i j k m r₁ r₂ : ℕ} {ps′ : List Proc} (h : Handshakes branches lit ps i j k m r₁ r₂ ps′)
+  pub handshakes-goes : {ps : List Proc} {i j k m r₁ r₂ : ℕ} {ps′ : List Proc} (h : Handshakes branches lit ps i j k m r₁ r₂ ps′)
       → replaceBoth i (meeting branches lit h .sender .after) k (meeting branches lit h .receiver .after) ps ≡ ps′
   unfolding meeting replaceBoth here there
   handshakes-goes (rule16-left {ks = ks} c a h) = ap (λ t. ks ++ t) (acts-goes a)
@@ -61,7 +61,7 @@ offered-change takes = refl
 offered-change (takesBind vs) = refl
 offered-change (rule18 f) = offered-change f
 
-offered-bound : {lit : List Pair} {g : Guard} {a : Action} {r q c : ℕ} {n : Change} {vs : List ℤ}
+pub offered-bound : {lit : List Pair} {g : Guard} {a : Action} {r q c : ℕ} {n : Change} {vs : List ℤ}
     → Offered lit g (label a r q n vs) → Alone a c → onAction [] (boundBy (valuesAt lit q)) g ≡ vs
 unfolding onAction boundBy valuesAt
 offered-bound rule8 waits = refl
@@ -72,12 +72,12 @@ offered-bound (rule12 h m) binds = nth-found [] (λ (x : Pair). x .values) h
 offered-bound (rule13 f) checks = refl
 offered-bound (rule18 f) k = offered-bound f k
 
-offered-sent : {lit : List Pair} {g : Guard} {x : Pair} {r q : ℕ} {n : Change} {vs : List ℤ} → Offered lit g (label (send x) r q n vs) → onAction [] sentBy g ≡ x .values
+pub offered-sent : {lit : List Pair} {g : Guard} {x : Pair} {r q : ℕ} {n : Change} {vs : List ℤ} → Offered lit g (label (send x) r q n vs) → onAction [] sentBy g ≡ x .values
 unfolding onAction sentBy
 offered-sent sends = refl
 offered-sent (rule18 f) = offered-sent f
 
-offered-received : {lit : List Pair} {g : Guard} {x : Pair} {a : Action} {r q : ℕ} {n : Change} {vs : List ℤ}
+pub offered-received : {lit : List Pair} {g : Guard} {x : Pair} {a : Action} {r q : ℕ} {n : Change} {vs : List ℤ}
     → Offered lit g (label a r q n vs) → Accepts x a vs → onAction [] (boundBy (x .values)) g ≡ vs
 unfolding onAction boundBy
 offered-received takes (unbound h) = refl

@@ -1,0 +1,19 @@
+-- What the rule machine's functions answer is what 01 asks, and what they lead to.
+pub mod Branches
+pub mod Lacking
+pub mod OneListing
+pub mod Listing
+pub mod Arguments
+pub mod Becomes
+pub mod Stepping
+pub mod Everys
+pub mod Parts
+pub mod Ranges
+pub mod Continues
+pub mod Bound
+pub mod Stays
+pub mod Reached
+pub mod Numbers
+pub mod Full
+pub mod Called
+pub mod Sheet

@@ -1,0 +1,8 @@
+pub mod Evaluate
+pub mod Offer
+pub mod Good
+pub mod State
+pub mod Machine
+pub mod Questions
+pub mod Specimens
+pub mod Refusals

@@ -1,0 +1,31 @@
+-- What is proved of limits, names and the resolved model: small texts (Examples); the faults of questions 7, 8 and 9 (Faulty) and their places (Places, Bracket);
+-- the questions in order (Answered); opened models (Opened); sum numbers (Ordered), channel names (Channels, InOrder, Lone).
+pub mod Opens
+pub mod Computes
+pub mod Examples
+pub mod Least
+pub mod Members
+pub mod Ascends
+pub mod Sited
+pub mod Repeats
+pub mod Meanings
+pub mod Ungiven
+pub mod Tokens
+pub mod Exceeds
+pub mod Faulty
+pub mod Answered
+pub mod Numbered
+pub mod Located
+pub mod Used
+pub mod Resolves
+pub mod Closes
+pub mod Origins
+pub mod Decimals
+pub mod InText
+pub mod Places
+pub mod Bracket
+pub mod Opened
+pub mod Ordered
+pub mod Lone
+pub mod Channels
+pub mod InOrder

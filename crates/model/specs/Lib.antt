@@ -1,0 +1,12 @@
+pub mod Lists
+pub mod Sites
+pub mod Words
+pub mod Limits
+pub mod Fresh
+pub mod Given
+pub mod Resolved
+pub mod Opening
+pub mod Good
+pub mod Stands
+pub mod Faults
+pub mod Questions

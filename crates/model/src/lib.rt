@@ -1,0 +1,1 @@
+// What a model text means: limits, names, the resolved model. Definitions and theorems alone, no code.

@@ -13,6 +13,7 @@ pub mod Continues
 pub mod Bound
 pub mod Stays
 pub mod Reached
+pub mod Opens
 pub mod Numbers
 pub mod Full
 pub mod Called

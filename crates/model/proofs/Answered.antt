@@ -31,7 +31,8 @@ use Rattle.model.specs.Fresh.{notNew}
 use Rattle.model.specs.Given.{notGiven}
 use Rattle.model.specs.Faults.{Beyond, NotNew, NotGiven}
 use Rattle.model.specs.Resolved.{Model, resolved}
-use Rattle.model.specs.Opening.{tokenLimit, processLimit, Opening, opened, tooMany, systemToken, crowded, asked, treeJudged, readJudged, afterBytes, opening}
+use Rattle.grammar.specs.Limit.{tokenLimit}
+use Rattle.model.specs.Opening.{processLimit, Opening, opened, tooMany, systemToken, crowded, asked, treeJudged, readJudged, afterBytes, opening}
 use Rattle.model.specs.Questions.{Yes2, Yes3, Yes4, Yes5, Yes6, Yes7, Yes8, Yes9, processes, Answers, no2, no3, no4, no5, no6, no7, no8, no9, no10, yesToAll}
 use Rattle.model.proofs.Opens.{bytes-refused, goes-wrong, fits}
 use Rattle.model.proofs.Faulty.{beyond-first, new-first, given-first}

@@ -11,6 +11,7 @@ use Rattle.token.specs.declared.Judged.{Judged}
 use Rattle.token.specs.declared.Judged.the-variants.{Refused, Passed}
 use Rattle.token.specs.Token.{tokens, kindsOf}
 use Rattle.token.specs.Questions.{bytesJudged}
+use Rattle.grammar.specs.Limit.{tokenLimit}
 use Rattle.grammar.specs.Grammar.{Reads, Wrong}
 use Rattle.grammar.specs.Grammar as derived
 use Rattle.grammar.specs.Syntax
@@ -23,10 +24,6 @@ use Rattle.model.specs.Limits.{beyond}
 use Rattle.model.specs.Fresh.{notNew}
 use Rattle.model.specs.Given.{notGiven}
 use Rattle.model.specs.Resolved.{Model, Defined, Start, resolved}
-
--- 6: how many tokens a text may have
-abbrev pub tokenLimit : ℕ
-tokenLimit = 4096
 
 -- 10, 18: how many processes there may be
 abbrev pub processLimit : ℕ

@@ -15,7 +15,8 @@ use Rattle.model.specs.Sites.{system}
 use Rattle.model.specs.Words.{wordOf}
 use Rattle.model.specs.Faults.{Beyond, NotNew, NotGiven}
 use Rattle.model.specs.Resolved.{Model, resolved}
-use Rattle.model.specs.Opening.{tokenLimit, processLimit, Opening, refused, opened, bytePlace, startProcesses, systemToken}
+use Rattle.grammar.specs.Limit.{tokenLimit}
+use Rattle.model.specs.Opening.{processLimit, Opening, refused, opened, bytePlace, startProcesses, systemToken}
 
 -- ---- yes; s: the text's syntax tree
 

@@ -58,6 +58,9 @@ place-requires-2 c κs =
 put-refused-requires-2 : tie.Need-put-refused-requires-2
 put-refused-requires-2 c κs = search needs
 
+enum-told : tie.Need-enum-told
+enum-told c = search needs
+
 put-fits-requires : tie.Need-put-fits-requires
 put-fits-requires c κs = search needs
 
@@ -90,6 +93,7 @@ put-read-spec =
     slice-aggregate-place-2
     place-requires-2
     put-refused-requires-2
+    enum-told
     put-fits-requires
     returns
     returns-2

@@ -7,204 +7,210 @@ use Prim.Native.Nat.{ℕ, _+_, _<_, _≤_}
 use lib.ListN.{length, take}
 use Rattle.token.specs.Kind as kind
 
--- ---- numbers
+-- ---- 01, Model text, the paragraph on tokens: numbers
 
--- 01: a number may have `-`, a token of its own, before it
+-- a whole number, one that has no point; a sign may stand before it
 pub data Whole : Type 0 where
-  whole : Whole
-  negative : Whole
+  whole : Whole  -- no `-` before it
+  negative : Whole  -- a `-`, a token of its own, before it
 
--- a number is whole or decimal
+-- a number, whole or with a point
 pub data Number : Type 0 where
-  integer : Whole → Number
-  decimal : Number
-  negativeDecimal : Number
+  integer : Whole → Number  -- no point: whole
+  decimal : Number  -- a point with a digit after it
+  negativeDecimal : Number  -- the same with a `-` before it
 
--- ---- 01, Expression: `+ -` below `* /`; atoms
+-- ---- 01, Expression: `+ -` below `* /`, left to right; its atoms
 mutual
-  -- a term, then terms added or taken away, left to right
+  -- a term, then those added or taken away, left to right
   pub data Expr : Type 0 where
-    sum : Term → Terms → Expr
+    sum : Term → Terms → Expr  -- `+ -` join what `* /` made: they are below
 
   pub data Terms : Type 0 where
-    noTerms : Terms
-    plus : Term → Terms → Terms
-    minus : Term → Terms → Terms
+    noTerms : Terms  -- no further `+` or `-`
+    plus : Term → Terms → Terms  -- `+` and the next
+    minus : Term → Terms → Terms  -- `-` and the next
 
-  -- an atom, then atoms it is multiplied or divided by, left to right
+  -- an atom, then those it is multiplied or divided by, left to right
   pub data Term : Type 0 where
-    product : Atom → Factors → Term
+    product : Atom → Factors → Term  -- `* /` join atoms
 
   pub data Factors : Type 0 where
-    noFactors : Factors
-    times : Atom → Factors → Factors
-    divide : Atom → Factors → Factors
+    noFactors : Factors  -- no further `*` or `/`
+    times : Atom → Factors → Factors  -- `*` and the next
+    divide : Atom → Factors → Factors  -- `/` and the next
 
+  -- the atoms, in 01's order
   pub data Atom : Type 0 where
-    number : Whole → Atom
-    name : Atom
-    absolute : Expr → Atom
-    maximum : Expr → Expr → Atom
-    minimum : Expr → Expr → Atom
-    bracketed : Expr → Atom
+    number : Whole → Atom  -- a whole number, perhaps with `-`
+    name : Atom  -- a name
+    absolute : Expr → Atom  -- abs(e)
+    maximum : Expr → Expr → Atom  -- max(e,e)
+    minimum : Expr → Expr → Atom  -- min(e,e)
+    bracketed : Expr → Atom  -- (e)
 
--- expressions parted by commas: one or more, and none or more (01: call lists may be empty)
+-- 01, Continuation: the expressions of a call, parted by commas
 pub data Exprs : Type 0 where
-  lastExpr : Expr → Exprs
-  nextExpr : Expr → Exprs → Exprs
+  lastExpr : Expr → Exprs  -- the last, or only one
+  nextExpr : Expr → Exprs → Exprs  -- one with more after it
 
+-- 01, the paragraph on tokens: the list of a call may be empty
 pub data Args : Type 0 where
-  noArgs : Args
-  args : Exprs → Args
+  noArgs : Args  -- empty
+  args : Exprs → Args  -- one or more
 
--- ---- 01, Set: expressions or ranges, joined left to right by `\`, `union`, `inter`
+-- ---- 01, Set: expressions or ranges, joined left to right
 pub data Part : Type 0 where
-  single : Expr → Part
-  range : Expr → Expr → Part
+  single : Expr → Part  -- an expression
+  range : Expr → Expr → Part  -- a range e..e
 
 pub data Parts : Type 0 where
-  noParts : Parts
-  without : Part → Parts → Parts
-  union : Part → Parts → Parts
-  inter : Part → Parts → Parts
+  noParts : Parts  -- nothing further is joined
+  without : Part → Parts → Parts  -- `\` and the next
+  union : Part → Parts → Parts  -- `union` and the next
+  inter : Part → Parts → Parts  -- `inter` and the next
 
 pub data Set : Type 0 where
-  set : Part → Parts → Set
+  set : Part → Parts → Set  -- the leftmost part, then those joined to it
 
 -- ---- 01, Condition: `|` below `&`; each part one relation, perhaps after one `~`
+-- the six relations, in 01's order
 pub data Relation : Type 0 where
-  less atMost greater atLeast same differs : Relation
+  less atMost greater atLeast same differs : Relation  -- < <= > >= == !=
 
 pub data Test : Type 0 where
-  holds : Expr → Relation → Expr → Test
-  fails : Expr → Relation → Expr → Test
+  holds : Expr → Relation → Expr → Test  -- one relation
+  fails : Expr → Relation → Expr → Test  -- one relation after one `~`
 
 pub data Ands : Type 0 where
-  noAnds : Ands
-  both : Test → Ands → Ands
+  noAnds : Ands  -- no further `&`
+  both : Test → Ands → Ands  -- `&` and the next part
 
 pub data Ors : Type 0 where
-  noOrs : Ors
-  either : Test → Ands → Ors → Ors
+  noOrs : Ors  -- no further `|`
+  either : Test → Ands → Ors → Ors  -- `|`, which joins what `&` made: it is below
 
 pub data Cond : Type 0 where
-  cond : Test → Ands → Ors → Cond
+  cond : Test → Ands → Ors → Cond  -- parts joined by `&`, these by `|`; no brackets
 
 -- ---- 01, Rate: a number or name, perhaps `*` and one atom
 pub data Scale : Type 0 where
-  fixed : Number → Scale
-  named : Scale
+  fixed : Number → Scale  -- a number
+  named : Scale  -- a name
 
 pub data Rate : Type 0 where
-  plain : Scale → Rate
-  scaled : Scale → Atom → Rate
+  plain : Scale → Rate  -- by itself
+  scaled : Scale → Atom → Rate  -- with `*` and one atom
 
 -- ---- 01, Actions
--- v: one or two expressions
+-- v, the values sent: an expression or two
 pub data Values : Type 0 where
   oneValue : Expr → Values
   twoValues : Expr → Expr → Values
 
--- s: one or two sets
+-- s, the sets received: one or two
 pub data Sets : Type 0 where
   oneSet : Set → Sets
   twoSets : Set → Set → Sets
 
--- names parted by commas, one or more
+-- names parted by commas, one or more: a receive's (D3) and a definition's
 pub data Names : Type 0 where
-  lastName : Names
-  nextName : Names → Names
+  lastName : Names  -- the last, or only one
+  nextName : Names → Names  -- one with more after it
 
--- the seven kinds of action; c is one expression
+-- the kinds of action, in 01's order; the channel is one expression
 pub data Action : Type 0 where
-  wait : Action
-  launch : Expr → Values → Action
-  kill : Expr → Values → Action
-  receive : Expr → Sets → Action
-  bind : Expr → Sets → Names → Action
-  check : Expr → Sets → Action
-  handSend : Expr → Values → Action
-  handReceive : Expr → Sets → Action
-  handBind : Expr → Sets → Names → Action
+  wait : Action  -- wait: a name
+  launch : Expr → Values → Action  -- launch: c![v]
+  kill : Expr → Values → Action  -- kill: c#[v]
+  receive : Expr → Sets → Action  -- receive: c?[s]
+  bind : Expr → Sets → Names → Action  -- receive: c?[s](names)
+  check : Expr → Sets → Action  -- check: ~c?[s]
+  handSend : Expr → Values → Action  -- handshake send: @c![v]
+  handReceive : Expr → Sets → Action  -- handshake receive: @c?[s]
+  handBind : Expr → Sets → Names → Action  -- handshake receive: @c?[s](names)
 
--- ---- 01, Guarded prefix, Continuation, Sum
--- perhaps `[condition] ->`
+-- ---- 01, Body: guarded prefix and sum; 01, Continuation
+-- a guarded prefix perhaps begins with `[condition] ->`
 pub data Gate : Type 0 where
-  noGate : Gate
-  gate : Cond → Gate
+  noGate : Gate  -- it doesn't
+  gate : Cond → Gate  -- it does
 
 mutual
+  -- a guarded prefix: its gate, `{action,rate}`, what comes next
   pub data Prefix : Type 0 where
     prefix : Gate → Action → Rate → Next → Prefix
 
   -- then perhaps `.` and a continuation
   pub data Next : Type 0 where
-    stop : Next
-    dot : Cont → Next
+    stop : Next  -- nothing
+    dot : Cont → Next  -- `.` and a continuation
 
+  -- a continuation, in 01's order
   pub data Cont : Type 0 where
-    chain : Prefix → Cont
-    call : Args → Cont
-    group : Item → Items → Cont
+    chain : Prefix → Cont  -- a guarded prefix
+    call : Args → Cont  -- a call: name[expressions]
+    group : Item → Items → Cont  -- a group in round brackets
 
-  -- an item of a group: a sum, call or group
+  -- an item of a group, in 01's order
   pub data Item : Type 0 where
-    itemSum : Prefix → Choices → Item
-    itemCall : Args → Item
-    itemGroup : Item → Items → Item
+    itemSum : Prefix → Choices → Item  -- a sum
+    itemCall : Args → Item  -- a call
+    itemGroup : Item → Items → Item  -- a group
 
-  -- items joined by `||`, up to the closing bracket
+  -- a group's further items
   pub data Items : Type 0 where
-    close : Items
-    also : Item → Items → Items
+    close : Items  -- the closing bracket
+    also : Item → Items → Items  -- `||` and the next
 
-  -- guarded prefixes joined by `+`
+  -- a sum: guarded prefixes joined by `+`
   pub data Choices : Type 0 where
-    noChoices : Choices
-    or : Prefix → Choices → Choices
+    noChoices : Choices  -- no further `+`
+    or : Prefix → Choices → Choices  -- `+` and the next
 
--- ---- 01, Body: sums joined by `||`; a definition has no call before a prefix
+-- ---- 01, Body: sums joined by `||`; as each begins with a prefix, a definition has no call before one
 pub data Sums : Type 0 where
-  noSums : Sums
-  beside : Prefix → Choices → Sums → Sums
+  noSums : Sums  -- no further `||`
+  beside : Prefix → Choices → Sums → Sums  -- `||` and the next sum
 
 pub data Body : Type 0 where
-  body : Prefix → Choices → Sums → Body
+  body : Prefix → Choices → Sums → Body  -- the first sum, then those beside it
 
 -- ---- 01, Model
--- 01: parameter lists may be empty
+-- a definition's locals; 01, the paragraph on tokens: a list of parameters may be empty
 pub data Params : Type 0 where
-  noParams : Params
-  params : Names → Params
+  noParams : Params  -- empty
+  params : Names → Params  -- one or more
 
--- whole numbers parted by commas; 01: system lists may be empty
+-- a system item's whole numbers, parted by commas
 pub data Wholes : Type 0 where
-  lastWhole : Whole → Wholes
-  nextWhole : Whole → Wholes → Wholes
+  lastWhole : Whole → Wholes  -- the last, or only one
+  nextWhole : Whole → Wholes → Wholes  -- one with more after it
 
+-- 01, the paragraph on tokens: the list of a system item may be empty
 pub data Starts : Type 0 where
-  noStarts : Starts
-  starts : Wholes → Starts
+  noStarts : Starts  -- empty
+  starts : Wholes → Starts  -- one or more
 
--- an item of the system line: `name[whole numbers]`, perhaps preceded by an unsigned whole count and `*`
+-- an item of the system line
 pub data Start : Type 0 where
-  once : Starts → Start
-  counted : Starts → Start
+  once : Starts → Start  -- name[whole numbers]
+  counted : Starts → Start  -- the same after a whole count, which has no `-`, and `*`
 
--- items joined by `||`, up to the `;`
+-- one system line
 pub data System : Type 0 where
-  lastStart : Start → System
-  nextStart : Start → System → System
+  lastStart : Start → System  -- the last item, then `;`
+  nextStart : Start → System → System  -- an item, `||` and more
 
--- one or more definitions `name[locals] = body;`, then the system line
+-- one or more definitions `name[locals] = body;`, then the system line; nothing follows it
 pub data Definitions : Type 0 where
-  lastDefinition : Params → Body → System → Definitions
-  nextDefinition : Params → Body → Definitions → Definitions
+  lastDefinition : Params → Body → System → Definitions  -- the last, then the system line
+  nextDefinition : Params → Body → Definitions → Definitions  -- one with more after it
 
--- variables `name = number;`, perhaps none, then definitions and system line; nothing follows
+-- variables, which may be none, then the rest
 pub data Model : Type 0 where
-  definitions : Definitions → Model
-  variable : Number → Model → Model
+  variable : Number → Model → Model  -- a variable `name = number;`, then more
+  definitions : Definitions → Model  -- no further variable
 
 -- ==== what each tree is written as: its tokens, with ts after them
 

@@ -1,6 +1,5 @@
 pub mod Evaluate
 pub mod Offer
-pub mod Good
 pub mod State
 pub mod Machine
 pub mod Questions

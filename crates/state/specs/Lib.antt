@@ -1,0 +1,4 @@
+pub mod Fits
+pub mod Test
+pub mod Decode
+pub mod Change

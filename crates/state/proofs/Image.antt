@@ -63,7 +63,7 @@ make ps xs = record { processes = ps; pairs = xs }
 -- ---- numbers that pass
 module _ (scopes : List ℕ) (few : FewLocals scopes) (channels : ℕ) where
   module _ (zs : List ℤ) (long : length zs ≡ stateLength) (passes : isState scopes channels zs ≡ true) where
-    record Parts : Type 0 where
+    pub record Parts : Type 0 where
       pub processes : isBelow 257 (at zs 0) ≡ true
       pub pairs : isBelow 257 (at zs 1) ≡ true
       pub process-rows : every (isProcess scopes) (rows 9 (natAbs (at zs 0)) (processPart zs)) ≡ true
@@ -72,7 +72,7 @@ module _ (scopes : List ℕ) (few : FewLocals scopes) (channels : ℕ) where
       pub pair-order : ascends (rows 5 (natAbs (at zs 1)) (pairPart zs)) ≡ true
       pub pair-rest : every isZero (drop (natAbs (at zs 1) * 5) (pairPart zs)) ≡ true
 
-    parts : Parts
+    pub parts : Parts
     unfolding isState areProcesses arePairs
     parts =
         let a = both (isBelow 257 (at zs 0)) _ passes in
@@ -189,6 +189,15 @@ module _ (scopes : List ℕ) (few : FewLocals scopes) (channels : ℕ) where
     second : at (stateNumbers s) 1 ≡ pos (length (s .pairs))
     unfolding stateNumbers
     second = refl
+
+    -- the rows of the pairs are the pairs' numbers, and ascend
+    pub pair-rows : rows 5 (length (s .pairs)) (pairPart (stateNumbers s)) ≡ map pairNumbers (s .pairs)
+    pair-rows =
+        ap (rows 5 (length (s .pairs))) pair-part
+        ∙ rows-back pairNumbers pairOf 5 (isPair channels) (FitsPair channels) (pair-wide channels) 1280 (s .pairs) (fits .pairs)
+
+    pub pairs-ascend : ascends (rows 5 (length (s .pairs)) (pairPart (stateNumbers s))) ≡ true
+    pairs-ascend = ap ascends pair-rows ∙ climbing (s .pairs) (fits .ascending)
 
     pub numbers-pass : isState scopes channels (stateNumbers s) ≡ true
     numbers-pass =

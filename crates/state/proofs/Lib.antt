@@ -10,3 +10,5 @@ pub mod Places
 pub mod Change
 pub mod Spliced
 pub mod Lit
+pub mod Read
+pub mod Channel

@@ -2,3 +2,4 @@ pub mod Fits
 pub mod Test
 pub mod Decode
 pub mod Change
+pub mod Read

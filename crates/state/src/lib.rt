@@ -11,7 +11,8 @@ ghost use Rattle.rules.specs.Order.{less};
 ghost use Rattle.machine.specs.State.{pairLimit, processWidth, pairWidth, stateLength};
 ghost use Rattle.state.specs.Change.{rewritten, pairAdded, pairTaken, processReplaced};
 ghost use Rattle.state.specs.Fits.{FewLocals};
-ghost use Rattle.state.specs.Test.{at, placeOf, every, rows, isValue, isZero, isBelow, isPadded, isProcess, isChannel, isPair, ascends, areProcesses, arePairs, isState};
+ghost use Rattle.state.specs.Read.{Passed, processCount, pairCount, sumAt, localsAt, pairRow};
+ghost use Rattle.state.specs.Test.{at, placeOf, channelRow, every, rows, isValue, isZero, isBelow, isPadded, isProcess, isChannel, isPair, ascends, areProcesses, arePairs, isState};
 
 pub struct Layout;
 
@@ -284,6 +285,24 @@ pub fn find_pair(s: &[i64], n: usize, row: &[i64]) -> usize
     low
 }
 
+// Where the pairs on one channel stand.
+pub struct Run {
+    pub from: usize,
+    pub to: usize,
+}
+
+// How many of n ascending pairs stand before those on a channel, and how many up to the last of these.
+pub fn channel_run(s: &[i64], n: usize, kind: i64, channel: i64) -> Run
+    requires { ⌜ (n * pairWidth ≤ length (now s)) × (ascends (rows pairWidth n (now s)) ≡ true) ⌝ }
+    ensures { λ r. ⌜ (r .from ≡ placeOf (channelRow kind channel 0) (rows pairWidth n (now (s .entry)))) × (r .to ≡ placeOf (channelRow kind channel 3) (rows pairWidth n (now (s .entry)))) ⌝ }
+{
+    let low = [kind, channel, 0, 0, 0];
+    let high = [kind, channel, Layout::VALUE_COUNTS as i64, 0, 0];
+    let from = find_pair(s, n, &low);
+    let to = find_pair(s, n, &high);
+    Run { from: from, to: to }
+}
+
 // Every number moves k places to the right; the last k fall off, the first k stay as they are.
 fn shift_right(s: &mut [i64], k: usize)
     requires { ⌜ k ≤ length (now s) ⌝ }
@@ -395,4 +414,51 @@ pub fn splice(state: &mut [i64], place: usize, fresh: &[i64], count: usize)
         count * Layout::PROCESS,
     );
     state[0] = (n - 1 + count) as i64;
+}
+
+// ---- reading a state
+
+// How many processes a state has.
+pub fn process_count(state: &[i64]) -> usize
+    requires { ⌜ Passed (now state) ⌝ }
+    ensures { λ r. ⌜ (r ≡ processCount (now (state .entry))) × (r ≤ processLimit) ⌝ }
+{
+    counted(state, 0)
+}
+
+// How many pairs a state has.
+pub fn pair_count(state: &[i64]) -> usize
+    requires { ⌜ Passed (now state) ⌝ }
+    ensures { λ r. ⌜ (r ≡ pairCount (now (state .entry))) × (r ≤ pairLimit) ⌝ }
+{
+    counted(state, 1)
+}
+
+// The sum number of the process at a place.
+pub fn sum_at(state: &[i64], place: usize) -> usize
+    requires { ⌜ (Passed (now state)) × (place < processCount (now state)) ⌝ }
+    ensures { λ r. ⌜ r ≡ sumAt (now (state .entry)) place ⌝ }
+{
+    let from = Layout::PROCESSES + place * Layout::PROCESS;
+    state[from] as usize
+}
+
+// The first locals of the process at a place.
+pub fn locals_at(state: &[i64], place: usize, count: usize) -> &[i64]
+    requires { ⌜ (length (now state) ≡ stateLength) × (place < processLimit) × (count ≤ localLimit) ⌝ }
+    ensures { λ r. ⌜ now r ≡ localsAt (now (state .entry)) place count ⌝ }
+{
+    let from = Layout::PROCESSES + place * Layout::PROCESS + 1;
+    let to = from + count;
+    &state[from..to]
+}
+
+// The numbers of the pair at a place.
+pub fn pair_row(state: &[i64], place: usize) -> &[i64]
+    requires { ⌜ (length (now state) ≡ stateLength) × (place < pairLimit) ⌝ }
+    ensures { λ r. ⌜ now r ≡ pairRow (now (state .entry)) place ⌝ }
+{
+    let from = Layout::PAIRS + place * Layout::PAIR;
+    let to = from + Layout::PAIR;
+    &state[from..to]
 }

@@ -1,0 +1,14 @@
+pub mod Tests
+pub mod Part
+pub mod Rows
+pub mod Entries
+pub mod Climbs
+pub mod Image
+pub mod Over
+pub mod Mix
+pub mod Places
+pub mod Change
+pub mod Spliced
+pub mod Lit
+pub mod Read
+pub mod Channel

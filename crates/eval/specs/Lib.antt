@@ -1,0 +1,5 @@
+pub mod Held
+pub mod Skips
+pub mod Answers
+pub mod Rates
+pub mod Lists

@@ -9,3 +9,5 @@ pub mod Rates
 pub mod Channels
 pub mod Lists
 pub mod Arguments
+pub mod Ends
+pub mod Offers

@@ -17,10 +17,9 @@ use Rattle.tables.proofs.Parts.{pair-above, pair-second}
 use Rattle.machine.specs.Good.{Every}
 use Rattle.machine.specs.Evaluate.{given, evalSet, evalAll, evalValue}
 use Rattle.machine.specs.Offer.{isNone}
-use Rattle.eval.specs.declared.Roots.the-variants.{One, Two, Missing}
 use Rattle.eval.specs.Held.{Held, Worth}
 use Rattle.eval.specs.Answers.{endsKnown}
-use Rattle.eval.specs.Lists.{valuesGiven, valuesAnswer, one, two, missing, SetsShown}
+use Rattle.eval.specs.Lists.{valuesGiven, valuesAnswer}
 use Rattle.eval.proofs.Exprs.{IsExpr, expr-kind}
 use Rattle.eval.proofs.Sets.{Ends, set-kind}
 
@@ -90,48 +89,3 @@ module _ (t : List ℕ) (k kind : ℕ) (is : kind ≡ kindOf (getD t k 0)) where
   two-values-are ls x y h v w (e ∷ []) a = absurd (omega (arith, expr-low e a))
   two-values-are ls x y h v w (e ∷ f ∷ []) a = rw (← v e (a .holds-first), ← w f (pair-second a))
   two-values-are ls x y h v w (e ∷ f ∷ g ∷ es) a = absurd a
-
-  -- ---- sets
-  module _ (ls : List ℤ) (b : Bool) where
-    pub one-shown : (kind ≡ 35 → ⊥) → Ends t ls k b → b ≡ true → SetsShown t ls k (One k)
-    unfolding OneOrTwo Every evalAll given
-    one-shown h w e [] a g = absurd a
-    one-shown h w e (s ∷ []) a g =
-        let c = came t ls s k a b w e in
-        rw (c .is) (one (record { set = s; at = a; fit = g .0; worth = c .is }))
-    one-shown h w e (s ∷ r ∷ []) a g = absurd (h (is ∙ a .kind-is))
-    one-shown h w e (s ∷ r ∷ q ∷ ss) a g = absurd a
-
-    pub one-missing : (kind ≡ 35 → ⊥) → Ends t ls k b → b ≡ false → SetsShown t ls k Missing
-    unfolding OneOrTwo Every evalAll given
-    one-missing h w e [] a g = absurd a
-    one-missing h w e (s ∷ []) a g = rw (lacks t ls s k a b w e) missing
-    one-missing h w e (s ∷ r ∷ []) a g = absurd (h (is ∙ a .kind-is))
-    one-missing h w e (s ∷ r ∷ q ∷ ss) a g = absurd a
-
-    pub first-missing : kind ≡ 35 → Ends t ls (leftOf (getD t k 0)) b → b ≡ false → SetsShown t ls k Missing
-    unfolding OneOrTwo Every evalAll given
-    first-missing h w e [] a g = absurd a
-    first-missing h w e (s ∷ []) a g = absurd (omega (arith, set-low s a))
-    first-missing h w e (s ∷ r ∷ []) a g = rw (lacks t ls s (leftOf (getD t k 0)) (a .holds-first) b w e) missing
-    first-missing h w e (s ∷ r ∷ q ∷ ss) a g = absurd a
-
-    module _ (d : Bool) (h : kind ≡ 35) (w : Ends t ls (leftOf (getD t k 0)) b) (e : b ≡ true) (v : Ends t ls (k - 1) d) where
-      pub second-missing : d ≡ false → SetsShown t ls k Missing
-      unfolding OneOrTwo Every evalAll given
-      second-missing f [] a g = absurd a
-      second-missing f (s ∷ []) a g = absurd (omega (arith, set-low s a))
-      second-missing f (s ∷ r ∷ []) a g =
-          let c = came t ls s (leftOf (getD t k 0)) (a .holds-first) b w e in
-          rw (c .is, lacks t ls r (k - 1) (pair-second a) d v f) missing
-      second-missing f (s ∷ r ∷ q ∷ ss) a g = absurd a
-
-      pub two-shown : d ≡ true → SetsShown t ls k (Two (leftOf (getD t k 0)) (k - 1))
-      unfolding OneOrTwo Every evalAll given
-      two-shown f [] a g = absurd a
-      two-shown f (s ∷ []) a g = absurd (omega (arith, set-low s a))
-      two-shown f (s ∷ r ∷ []) a g =
-          let c = came t ls s (leftOf (getD t k 0)) (a .holds-first) b w e in
-          let u = came t ls r (k - 1) (pair-second a) d v f in
-          rw (c .is, u .is) (two (record { set = s; at = a .holds-first; fit = g .0; worth = c .is }) (record { set = r; at = pair-second a; fit = g .1 .0; worth = u .is }))
-      two-shown f (s ∷ r ∷ q ∷ ss) a g = absurd a

@@ -57,7 +57,7 @@ finished-by union false q h = refl
 finished-by inter true q h = refl
 finished-by inter false q h = true-not-false h
 
-join-range : (j : Join) → (12 ≤ joinKind j) × (joinKind j ≤ 14)
+pub join-range : (j : Join) → (12 ≤ joinKind j) × (joinKind j ≤ 14)
 unfolding joinKind
 join-range without = omega arith
 join-range union = omega arith

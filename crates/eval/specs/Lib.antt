@@ -3,3 +3,4 @@ pub mod Skips
 pub mod Answers
 pub mod Rates
 pub mod Lists
+pub mod Shown

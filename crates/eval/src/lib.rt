@@ -1,4 +1,6 @@
 // Evaluation over settled nodes: a part is given by its root in the table, a process by its locals.
+pub mod offer;
+
 use tree::NodeKind;
 use value::Value;
 ghost use mathlib.Core.Path.{_≡_};
@@ -23,7 +25,7 @@ ghost use Rattle.machine.specs.Offer.{isValue, allValues};
 ghost use Rattle.eval.specs.Held.{Held, Worth, Sound};
 ghost use Rattle.eval.specs.Skips.{settles, skips};
 ghost use Rattle.eval.specs.Rates.{rateOf, scaleAnswer, rateAnswer, Limited, channelAnswer};
-ghost use Rattle.eval.specs.Lists.{valuesGiven, valuesAnswer, SetsShown};
+ghost use Rattle.eval.specs.Lists.{valuesGiven, valuesAnswer};
 ghost use Rattle.eval.specs.Answers.{Tells, endsKnown, truthOf, truth};
 
 // A cell of a number has its kind below KINDS, then the number above OFFSET.
@@ -414,35 +416,6 @@ pub fn values_of(nodes: &[u64], locals: &[i64], k: usize) -> Values
     let x = eval_node(nodes, locals, tree::left_of(cell));
     let y = eval_node(nodes, locals, k - 1);
     two_values(x, y)
-}
-
-// Sets by their roots.
-pub enum Roots {
-    One(usize),
-    Two(usize, usize),
-    Missing,
-}
-
-// The one or two sets at k, if all their ends have values.
-pub fn sets_of(nodes: &[u64], locals: &[i64], k: usize) -> Roots
-    requires { ⌜ (Held (Settled.OneOrTwo (now nodes) (Settled.Set (now nodes))) (Every (GoodSet (length (now locals)))) k) × (Every InRange (now locals)) ⌝ }
-    ensures { λ r. ⌜ SetsShown (now (nodes .entry)) (now (locals .entry)) k r ⌝ }
-{
-    let cell = cell_at(nodes, k);
-    if tree::kind_of(cell) != NodeKind::PAIR {
-        if ends_known(nodes, locals, k) {
-            return Roots::One(k);
-        }
-        return Roots::Missing;
-    }
-    let i = tree::left_of(cell);
-    if !ends_known(nodes, locals, i) {
-        return Roots::Missing;
-    }
-    if !ends_known(nodes, locals, k - 1) {
-        return Roots::Missing;
-    }
-    Roots::Two(i, k - 1)
 }
 
 // Whether all arguments at k have values.

@@ -1,0 +1,6 @@
+pub mod Held
+pub mod Skips
+pub mod Answers
+pub mod Rates
+pub mod Lists
+pub mod Shown

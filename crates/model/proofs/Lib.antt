@@ -25,6 +25,7 @@ pub mod InText
 pub mod Places
 pub mod Bracket
 pub mod Opened
+pub mod Held
 pub mod Ordered
 pub mod Lone
 pub mod Channels

@@ -1,0 +1,4 @@
+pub mod Held
+pub mod Listing
+pub mod Effect
+pub mod Calls

@@ -1,3 +1,4 @@
 -- What the effects of calls come to: model buffers (Held), the machine in two buffers (Machines), every list of calls (Calls), and what listings and steps show after it (Shown).
 pub mod Held
 pub mod Machines
+pub mod Calls

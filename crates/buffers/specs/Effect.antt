@@ -37,6 +37,10 @@ machineOver zs (some m) = cond (isState (scopesOf m) (m .channels) zs) (holding 
 unfoldable pub machineIn : List ℕ → List ℤ → Machine
 machineIn bs zs = machineOver zs (heldIn bs)
 
+-- 01, Opening a text, Listing and stepping: 1 changes nothing
+unfoldable pub untouched : List ℕ → List ℤ → List ℕ → Effect
+untouched bs zs l = record { answer = no 1 0 0 asLent; model = bs; state = zs; listing = l }
+
 -- ---- open
 
 -- 01, Opening a text: 2 to 10 zero both buffers; acceptance fills them
@@ -44,10 +48,9 @@ unfoldable pub opensWith : List ℕ → Opening → Effect
 opensWith text (refused n p) = record { answer = no n p 0 asLent; model = replicate modelLength 0; state = replicate stateLength (pos 0); listing = [] }
 opensWith text (opened m) = record { answer = no 0 0 0 asLent; model = modelBytes text; state = stateNumbers (openedState m); listing = [] }
 
--- 01, Opening a text: 1 changes nothing; an opening is lent no listing
+-- 01, Opening a text: 1, then 2 and on; an opening is lent no listing
 unfoldable pub openEffect : List ℕ → List ℕ → List ℤ → Effect
-openEffect text bs zs =
-    cond (lent (length bs) (length zs)) (opensWith text (opening text)) (record { answer = no 1 0 0 asLent; model = bs; state = zs; listing = [] })
+openEffect text bs zs = cond (lent (length bs) (length zs)) (opensWith text (opening text)) (untouched bs zs [])
 
 -- ---- list and step
 
@@ -60,11 +63,9 @@ stateIn zs (holding m s) = stateNumbers s
 unfoldable pub leaves : List ℕ → List ℤ → List ℕ → Turn Machine → Effect
 leaves bs zs l t = record { answer = t .answer; model = bs; state = stateIn zs (t .machine); listing = shown (t .answer .listing) l }
 
--- 01, Listing and stepping: 1 changes nothing; else 11 and on
+-- 01, Listing and stepping: 1, then 11 and on
 unfoldable pub whenLent : List ℕ → List ℤ → List ℕ → Turn Machine → Effect
-whenLent bs zs l t =
-    cond (lent (length bs) (length zs) && eqb (length l) listingLength) (leaves bs zs l t)
-    (record { answer = no 1 0 0 asLent; model = bs; state = zs; listing = l })
+whenLent bs zs l t = cond (lent (length bs) (length zs) && eqb (length l) listingLength) (leaves bs zs l t) (untouched bs zs l)
 
 unfoldable pub listEffect : List ℕ → List ℤ → List ℕ → Effect
 listEffect bs zs l = whenLent bs zs l (lists (machineIn bs zs))

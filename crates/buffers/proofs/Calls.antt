@@ -1,12 +1,10 @@
 -- Every list of calls on the fresh engine's buffers answers and leaves what the rule machine does: one lemma for each call, then by induction on the calls.
-use mathlib.Core.Path.{_≡_, refl, sym, ap, ap₂, _∙_}
+use mathlib.Core.Path.{_≡_, refl, ap, ap₂, _∙_}
 use mathlib.Core.Bool.{Bool, true, false, cond, _&&_}
 use mathlib.Core.List.{List, [], _∷_, map}
-use mathlib.Core.Logic.{_⊎_, inl, inr}
-use mathlib.Core.Option.{some}
 use Prim.Native.Nat.{ℕ}
 use native.Mathlib.Omega.{arith}
-use borrow.Author.Tests.{eqb-true, ne-eqb}
+use borrow.Author.Tests.{ne-eqb}
 use lib.Dec.{eqb}
 use lib.IntN.{ℤ, pos}
 use lib.ListN.{length, replicate, length-replicate}
@@ -15,8 +13,8 @@ use Rattle.model.specs.Opening.{Opening, refused, opened}
 use Rattle.model.specs.Opening as reading
 use Rattle.model.proofs.Held.{opened-held}
 use Rattle.rules.specs.Listing.{Entry}
-use Rattle.machine.specs.State.{State, stateLength, stateNumbers, GoodState}
-use Rattle.machine.specs.Machine.{modelLength, listingLength, asLent, no, Listed, entriesAre, refusedWith, drawn, Turn, Machine, closed, holding, Call, lent, turn, opens, openedState, showing, lists, stepped, choosing, stepsOn, calls, answers, after}
+use Rattle.machine.specs.State.{State, stateLength, GoodState}
+use Rattle.machine.specs.Machine.{modelLength, listingLength, asLent, no, Listed, entriesAre, refusedWith, drawn, Turn, Machine, closed, holding, lent, turn, opens, showing, lists, stepped, choosing, stepsOn, calls, answers, after}
 use Rattle.machine.specs.Machine as machine
 use Rattle.machine.specs.Questions.{Steps, no15, no16, no17, no18, no19, yes19}
 use Rattle.machine.proofs.Listing.{accepted}
@@ -24,7 +22,7 @@ use Rattle.machine.proofs.Numbers.{state-length}
 use Rattle.machine.proofs.Opens.{opened-models}
 use Rattle.machine.proofs.Stays.{opened-good, step-good}
 use Rattle.machine.proofs.Stepping as steps
-use Rattle.buffers.specs.Held.{modelBytes, heldIn}
+use Rattle.buffers.specs.Held.{modelBytes}
 use Rattle.buffers.specs.Listing.{shown}
 use Rattle.buffers.specs.Effect.{Effect, machineIn, untouched, opensWith, openEffect, stateIn, leaves, whenLent, listEffect, stepEffect}
 use Rattle.buffers.specs.Calls.{Engine, fresh, Lending, own, other, lentBuffer, lentLength, ownBuffer, BufferCall, opening, listing, stepping, lentModel, lentState, effect, leftBy, fed, effects, engineAfter, listingOf, Holds, zeros, held, Answered, none, one}
@@ -33,18 +31,18 @@ use Rattle.buffers.proofs.Machines.{over-model, fresh-closed}
 
 -- ---- the engine's own buffers
 
-model-long : {x : Engine} {y : Machine} → Holds x y → length (x .model) ≡ modelLength
+pub model-long : {x : Engine} {y : Machine} → Holds x y → length (x .model) ≡ modelLength
 unfolding fresh
 model-long (zeros e) = ap (λ (x : Engine). length (x .model)) e ∙ length-replicate {A = ℕ} modelLength 0
 model-long (held {m = m} text e h f g) = ap length e ∙ bytes-length text (omega (arith, passes (modelBytes text) m h .short, length-in text))
 
-state-long : {x : Engine} {y : Machine} → Holds x y → length (x .state) ≡ stateLength
+pub state-long : {x : Engine} {y : Machine} → Holds x y → length (x .state) ≡ stateLength
 unfolding fresh
 state-long (zeros e) = ap (λ (x : Engine). length (x .state)) e ∙ length-replicate stateLength (pos 0)
 state-long (held {m = m} {s = s} text e h f g) = ap length f ∙ state-length m (held-fits (modelBytes text) m h) s g
 
 -- they hold the machine that is held
-holds-machine : {x : Engine} {y : Machine} → Holds x y → machineIn (x .model) (x .state) ≡ y
+pub holds-machine : {x : Engine} {y : Machine} → Holds x y → machineIn (x .model) (x .state) ≡ y
 unfolding fresh
 holds-machine (zeros e) = ap (λ (x : Engine). machineIn (x .model) (x .state)) e ∙ fresh-closed (replicate stateLength (pos 0))
 holds-machine (held {m = m} {s = s} text e h f g) = ap₂ machineIn e f ∙ over-model (modelBytes text) m s h g
@@ -67,7 +65,7 @@ own-lent : {A : Type 0} {right : ℕ} (a : Lending A right) (l : List A) → a �
 unfolding lentBuffer
 own-lent a l e = ap (λ (b : Lending _ _). lentBuffer b l) e
 
-own-left : {A : Type 0} {right : ℕ} (a : Lending A right) (l left : List A) → a ≡ own → ownBuffer a l left ≡ left
+pub own-left : {A : Type 0} {right : ℕ} (a : Lending A right) (l left : List A) → a ≡ own → ownBuffer a l left ≡ left
 unfolding ownBuffer
 own-left a l left e = ap (λ (b : Lending _ _). ownBuffer b l left) e
 

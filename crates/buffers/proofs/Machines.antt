@@ -5,13 +5,13 @@ use mathlib.Core.List.{List}
 use mathlib.Core.Option.{Option, none, some}
 use Prim.Native.Nat.{ℕ}
 use native.Mathlib.Omega.{arith}
-use lib.IntN.{ℤ, pos}
+use lib.IntN.{ℤ}
 use lib.ListN.{length, replicate}
 use Rattle.model.specs.Resolved.{Model}
 use Rattle.model.specs.Held.{held}
 use Rattle.machine.specs.Good.{GoodModel}
 use Rattle.machine.specs.State.{State, stateLength, stateNumbers, GoodState}
-use Rattle.machine.specs.Machine.{modelLength, Machine, closed, holding}
+use Rattle.machine.specs.Machine.{modelLength, closed, holding}
 use Rattle.state.specs.Test.{isState}
 use Rattle.state.specs.Decode.{decode}
 use Rattle.state.proofs.Over.{good-fits, fits-good, few-scopes}

@@ -6,7 +6,7 @@ use Prim.Native.Nat.{ℕ}
 use lib.IntN.{ℤ, pos}
 use lib.ListN.{length, replicate}
 use Rattle.machine.specs.State.{State, stateLength, stateNumbers, GoodState}
-use Rattle.machine.specs.Machine.{modelLength, listingLength, Answer, Machine, closed, holding, Call, open′, list′, step′}
+use Rattle.machine.specs.Machine.{modelLength, Answer, Machine, closed, holding, Call, open′, list′, step′}
 use Rattle.buffers.specs.Held.{modelBytes, heldIn}
 use Rattle.model.specs.Resolved
 use Rattle.buffers.specs.Listing.{shown}

@@ -1,5 +1,5 @@
 -- What open, list and step answer, and leave in the buffers that they are lent, whatever these hold (01, Opening a text, Listing and stepping). Definitions only.
-use mathlib.Core.Bool.{Bool, cond, _&&_}
+use mathlib.Core.Bool.{cond, _&&_}
 use mathlib.Core.List.{List, [], map}
 use mathlib.Core.Option.{Option, none, some}
 use Prim.Native.Nat.{ℕ}

@@ -2,3 +2,4 @@ pub mod Held
 pub mod Listing
 pub mod Effect
 pub mod Calls
+pub mod Transitions

@@ -2,7 +2,7 @@
 use mathlib.Core.List.{List, [], _∷_, _++_}
 use Prim.Native.Nat.{ℕ, _-_}
 use lib.ListN.{length, replicate}
-use Rattle.rules.specs.Rules.{Key, key}
+use Rattle.rules.specs.Rules.{key}
 use Rattle.rules.specs.Listing.{Entry, entry}
 use Rattle.machine.specs.Machine.{Shown, asLent, zeroed, filled, listingLength}
 

@@ -1,6 +1,6 @@
 -- What a text holds and what opening it answers go together: both refuse under 2 to 9, or both have the text's model, of which opening still asks 10; and models that texts hold are
 -- well formed. From the laws of first faults, question by question.
-use mathlib.Core.Path.{_≡_, refl, ap, subst, _∙_}
+use mathlib.Core.Path.{_≡_, refl, ap, subst}
 use mathlib.Core.List.{List, []}
 use mathlib.Core.Bool.{Bool, true, false, cond}
 use mathlib.Core.Logic.{_⊎_, inl, inr}
@@ -15,9 +15,8 @@ use Rattle.token.specs.declared.Found.the-variants.{At, Nothing}
 use Rattle.token.specs.declared.Judged.{Judged}
 use Rattle.token.specs.declared.Judged.the-variants.{Passed}
 use Rattle.token.specs.Token.{tokens, kindsOf}
-use Rattle.token.specs.Questions.{textLimit, tooLong, strayByte, tooDeep, ByteFault, DepthFault, First, bytesJudged}
+use Rattle.token.specs.Questions.{textLimit, tooLong, strayByte, tooDeep, First, bytesJudged}
 use Rattle.token.specs.Questions as bytes
-use Rattle.token.proofs.Faults.{stray-first, deep-first}
 use Rattle.grammar.specs.Grammar.{Reads, Wrong}
 use Rattle.grammar.specs.Grammar as derived
 use Rattle.grammar.specs.Syntax

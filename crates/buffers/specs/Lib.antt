@@ -1,0 +1,5 @@
+pub mod Held
+pub mod Listing
+pub mod Effect
+pub mod Calls
+pub mod Transitions

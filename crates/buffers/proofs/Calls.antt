@@ -19,7 +19,7 @@ use Rattle.machine.specs.Machine as machine
 use Rattle.machine.specs.Questions.{Steps, no15, no16, no17, no18, no19, yes19}
 use Rattle.machine.proofs.Listing.{accepted}
 use Rattle.machine.proofs.Numbers.{state-length}
-use Rattle.machine.proofs.Opens.{opened-models}
+use Rattle.model.proofs.Opened as formed
 use Rattle.machine.proofs.Stays.{opened-good, step-good}
 use Rattle.machine.proofs.Stepping as steps
 use Rattle.buffers.specs.Held.{modelBytes}
@@ -160,8 +160,7 @@ opened-holds : (text : List ℕ) (o : Opening) → reading.opening text ≡ o �
 unfolding opensWith opens turn make fresh
 opened-holds text (refused n p) e = zeros refl
 opened-holds text (opened m) e =
-    let g = opened-models text m e in
-    held text refl (text-held text m (opened-held text m e)) refl (opened-good m (g .0) (g .1))
+    held text refl (text-held text m (opened-held text m e)) refl (opened-good m (formed.opened-good text m e) (formed.opened-few text m e))
 
 opened-answer : (text : List ℕ) (o : Opening) → (opensWith text o .answer ≡ opens o .answer) × (opensWith text o .listing ≡ shown (opens o .answer .listing) [])
 unfolding opensWith opens turn no shown

@@ -15,9 +15,8 @@ use Rattle.token.specs.Questions.{textLimit}
 use Rattle.model.specs.Resolved.{Model}
 use Rattle.model.specs.Held.{held}
 use Rattle.model.proofs.Held.{held-good, held-short, empty-held}
-use Rattle.machine.specs.Good.{GoodModel}
+use Rattle.model.specs.Good.{GoodModel}
 use Rattle.machine.specs.Machine.{modelLength}
-use Rattle.machine.proofs.Opens.{fits-together}
 use Rattle.buffers.specs.Held.{modelBytes, lengthIn, textIn, zeros, heldIn}
 
 -- ---- zeros
@@ -126,7 +125,7 @@ bytes-back bs m l h e = by bs l h (passes bs m e .short) (passes bs m e .rest)
 
 -- a model that a buffer holds fits together as the machine needs it
 pub held-fits : (bs : List ℕ) (m : Model) → heldIn bs ≡ some m → GoodModel m
-held-fits bs m e = fits-together m (held-good (textIn bs) m (passes bs m e .text))
+held-fits bs m e = held-good (textIn bs) m (passes bs m e .text)
 
 -- 01, Fresh: zeros are the buffer of the empty text
 pub zeros-bytes : replicate modelLength 0 ≡ modelBytes []

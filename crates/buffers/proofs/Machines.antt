@@ -9,7 +9,7 @@ use lib.IntN.{ℤ}
 use lib.ListN.{length, replicate}
 use Rattle.model.specs.Resolved.{Model}
 use Rattle.model.specs.Held.{held}
-use Rattle.machine.specs.Good.{GoodModel}
+use Rattle.model.specs.Good.{GoodModel}
 use Rattle.machine.specs.State.{State, stateLength, stateNumbers, GoodState}
 use Rattle.machine.specs.Machine.{modelLength, closed, holding}
 use Rattle.state.specs.Test.{isState}

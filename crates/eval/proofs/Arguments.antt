@@ -11,7 +11,7 @@ use Rattle.tree.specs.Node.{kindOf, leftOf}
 use Rattle.model.specs.Resolved
 use Rattle.tables.specs.Settled.{Expr, Arguments}
 use Rattle.tables.proofs.Parts.{pair-above, pair-second}
-use Rattle.machine.specs.Good.{Every, GoodExpr}
+use Rattle.model.specs.Good.{Every, GoodExpr}
 use Rattle.machine.specs.Evaluate.{evalExpr}
 use Rattle.machine.specs.Offer.{isValue, allValues}
 use Rattle.eval.specs.Held.{Held, Worth}

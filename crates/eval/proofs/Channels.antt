@@ -11,7 +11,7 @@ use Rattle.tree.specs.Node.{kindOf, tokenOf}
 use Rattle.model.specs.Resolved
 use Rattle.rules.specs.Offers as offers
 use Rattle.tables.specs.Settled.{Channel}
-use Rattle.machine.specs.Good.{GoodName}
+use Rattle.model.specs.Good.{GoodName}
 use Rattle.machine.specs.Evaluate.{valued, evalChannel}
 use Rattle.eval.specs.declared.Channel.{Channel as Answer}
 use Rattle.eval.specs.declared.Channel.the-variants.{Name}

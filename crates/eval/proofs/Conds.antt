@@ -15,7 +15,7 @@ use Rattle.tree.specs.Node.{kindOf, leftOf, testKind}
 use Rattle.model.specs.Resolved
 use Rattle.tables.specs.Settled.{Cond}
 use Rattle.tables.proofs.Parts.{pair-above, pair-second}
-use Rattle.machine.specs.Good.{GoodCond}
+use Rattle.model.specs.Good.{GoodCond}
 use Rattle.machine.specs.Evaluate.{valued, given, related, evalCond}
 use Rattle.eval.specs.declared.Truth.{Truth}
 use Rattle.eval.specs.Held.{Held, Worth}

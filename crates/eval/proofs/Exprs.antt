@@ -15,7 +15,7 @@ use Rattle.model.specs.Resolved
 use Rattle.tables.specs.Settled.{Expr, numberOf}
 use Rattle.tables.proofs.Numbers.{node-number, node-number-kind}
 use Rattle.tables.proofs.Parts.{over-above, over-part, pair-above, pair-second}
-use Rattle.machine.specs.Good.{Every, GoodExpr}
+use Rattle.model.specs.Good.{Every, GoodExpr}
 use Rattle.machine.specs.Evaluate.{withValue, apply, evalExpr}
 use Rattle.machine.proofs.Ranges.{expr-good}
 use Rattle.eval.specs.Held.{Held, Worth, Sound}

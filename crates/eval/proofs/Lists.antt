@@ -14,7 +14,7 @@ use Rattle.model.specs.Resolved
 use Rattle.rules.specs.Offers as offers
 use Rattle.tables.specs.Settled.{Expr, Set, OneOrTwo}
 use Rattle.tables.proofs.Parts.{pair-above, pair-second}
-use Rattle.machine.specs.Good.{Every}
+use Rattle.model.specs.Good.{Every}
 use Rattle.machine.specs.Evaluate.{given, evalSet, evalAll, evalValue}
 use Rattle.machine.specs.Offer.{isNone}
 use Rattle.eval.specs.Held.{Held, Worth}

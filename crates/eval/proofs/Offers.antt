@@ -18,7 +18,7 @@ use Rattle.rules.specs.Offers as offers
 use Rattle.tables.specs.Settled as Settled
 use Rattle.tables.specs.Settled.{OneOrTwo}
 use Rattle.tables.proofs.Parts.{pair-above, pair-second}
-use Rattle.machine.specs.Good.{GoodExpr, GoodCond, GoodGate, GoodName, GoodRate, GoodAction, GoodBranch}
+use Rattle.model.specs.Good.{GoodExpr, GoodCond, GoodGate, GoodName, GoodRate, GoodAction, GoodBranch}
 use Rattle.machine.specs.Evaluate.{valued, given, evalExpr, evalChannel, evalAll, evalValue, evalPair, evalQuery, evalSet, evalCond, evalRate, evalAction, evalOffer, evalGate, evalBranch}
 use Rattle.eval.specs.declared.Channel.{Channel}
 use Rattle.eval.specs.declared.Channel.the-variants.{Number, Name, Missing as Unnamed}

@@ -13,7 +13,7 @@ use Rattle.model.specs.Resolved
 use Rattle.tables.specs.Settled.{Scale, Rate, numberOf}
 use Rattle.tables.proofs.Numbers.{node-number, node-number-kind}
 use Rattle.tables.proofs.Parts.{pair-above, pair-second}
-use Rattle.machine.specs.Good.{GoodRate}
+use Rattle.model.specs.Good.{GoodRate}
 use Rattle.machine.specs.Evaluate.{valued, given, inRate, evalScale, evalRate}
 use Rattle.machine.proofs.Ranges.{scale-good}
 use Rattle.eval.specs.declared.Rate.{Rate as Answer}

@@ -18,7 +18,7 @@ use Rattle.rules.specs.Offers as offers
 use Rattle.rules.specs.Offers.{within}
 use Rattle.tables.specs.Settled.{Set}
 use Rattle.tables.proofs.Parts.{pair-above, pair-second}
-use Rattle.machine.specs.Good.{GoodSet}
+use Rattle.model.specs.Good.{GoodSet}
 use Rattle.machine.specs.Evaluate.{valued, given, joined, evalExpr, evalSet}
 use Rattle.machine.specs.Offer.{isNone, isValue}
 use Rattle.machine.proofs.Parts.{valued-is, given-is, some-is}

@@ -14,7 +14,7 @@ use Rattle.tree.specs.Node as node
 use Rattle.model.specs.Resolved
 use Rattle.rules.specs.Offers as offers
 use Rattle.tables.specs.Settled as Settled
-use Rattle.machine.specs.Good.{GoodSet, GoodValues, GoodSets, GoodAction, GoodRate}
+use Rattle.model.specs.Good.{GoodSet, GoodValues, GoodSets, GoodAction, GoodRate}
 use Rattle.machine.specs.Evaluate.{evalSet, evalAll, evalPair, evalQuery, evalAction, evalRate}
 use Rattle.eval.specs.Held.{Held}
 use Rattle.eval.specs.declared.Values.{Values}

@@ -19,7 +19,7 @@ ghost use Rattle.tree.specs.Node.{opKind, relationKind, testKind};
 ghost use Rattle.model.specs.Resolved as Resolved;
 ghost use Rattle.rules.specs.Offers.{range, within};
 ghost use Rattle.tables.specs.Settled as Settled;
-ghost use Rattle.machine.specs.Good.{Every, GoodExpr, GoodSet, GoodCond, GoodRate, GoodName};
+ghost use Rattle.model.specs.Good.{Every, GoodExpr, GoodSet, GoodCond, GoodRate, GoodName};
 ghost use Rattle.machine.specs.Evaluate.{withValue, valued, given, apply, related, rateLimit, inRate, evalExpr};
 ghost use Rattle.machine.specs.Offer.{isValue, allValues};
 ghost use Rattle.eval.specs.Held.{Held, Worth, Sound};

@@ -14,7 +14,7 @@ ghost use Rattle.tree.specs.Node.{field};
 ghost use Rattle.model.specs.Resolved as Resolved;
 ghost use Rattle.rules.specs.Offers.{Set, within};
 ghost use Rattle.tables.specs.Settled as Settled;
-ghost use Rattle.machine.specs.Good.{Every, GoodExpr, GoodSet, GoodAction, GoodBranch};
+ghost use Rattle.model.specs.Good.{Every, GoodExpr, GoodSet, GoodAction, GoodBranch};
 ghost use Rattle.machine.specs.Evaluate.{evalSet, evalBranch};
 ghost use Rattle.eval.specs.Held.{Held, Sound};
 ghost use Rattle.eval.specs.Shown as Shown;

@@ -30,7 +30,7 @@ use Rattle.model.specs.Limits.{beyond}
 use Rattle.model.specs.Fresh.{notNew}
 use Rattle.model.specs.Given.{notGiven}
 use Rattle.model.specs.Faults.{Beyond, NotNew, NotGiven}
-use Rattle.model.specs.Good.{Good}
+use Rattle.model.specs.Good.{GoodModel}
 use Rattle.model.specs.Resolved.{Model, resolved}
 use Rattle.model.specs.Opening.{processLimit, Opening, refused, opened, tooMany, startProcesses, systemToken, crowded, asked, treeJudged, readJudged, afterBytes, opening, bytePlace}
 use Rattle.model.specs.Held.{treeHeld, modelIn, readHeld, bytesHeld, held}
@@ -120,13 +120,13 @@ module _ (text : List ℕ) where
   -- ---- what follows
 
   -- a model that a text holds is well formed, and the text has a text's length
-  by-held : {o : Option Model} {a : Opening} (m : Model) → Agree o a → o ≡ some m → Good m × (length text ≤ textLimit)
+  by-held : {o : Option Model} {a : Opening} (m : Model) → Agree o a → o ≡ some m → GoodModel m × (length text ≤ textLimit)
   by-held m (refuses n l) e = absurd (let z : _≡_ {A = ℕ} 0 1 = cc in omega arith)
   by-held m (holds {s = s} y2 y5 y7 y8 y9) e =
       let d : resolved w s ≡ m = cc in
-      (subst (λ (x : Model). Good x) d (opened.closed text s y5 y7 y8 y9), y2)
+      (subst (λ (x : Model). GoodModel x) d (opened.closed text s y5 y7 y8 y9), y2)
 
-  pub held-good : (m : Model) → held text ≡ some m → Good m
+  pub held-good : (m : Model) → held text ≡ some m → GoodModel m
   held-good m e = by-held m agree e .0
 
   pub held-short : (m : Model) → held text ≡ some m → length text ≤ textLimit

@@ -138,12 +138,8 @@ module _ (text : List ℕ) (s : Syntax.Model) (y5 : Yes5 text s) (y7 : Yes7 text
         items = λ r i. so _ (λ e. y9 _ (noStart i (callable-wrong w s y8 _ _ e)));
       }
 
-<<<<<<< HEAD
-  closed : GoodModel (resolved w s)
-=======
   -- 7, 8 and 9 answered yes: the text's model is well formed
-  pub closed : Good (resolved w s)
->>>>>>> bc319159a055b1160e7784a4e2d0b3e4573958e8
+  pub closed : GoodModel (resolved w s)
   closed = closes w s faultless
 
 module _ (text : List ℕ) where

@@ -15,7 +15,7 @@ use Rattle.rules.specs.Offers as offers
 use Rattle.rules.specs.Order.{less, Ascending}
 use Rattle.rules.specs.Pairs.{channelNumbers, Before}
 use Rattle.rules.proofs.Less.{less-irreflexive, less-trans, less-first, less-rest}
-use Rattle.machine.specs.Good.{Every}
+use Rattle.model.specs.Good.{Every}
 use Rattle.machine.specs.State.{State, padded, pairNumbers, stateNumbers}
 use Rattle.machine.proofs.Branches.{get-nth}
 use Rattle.machine.proofs.Everys.{every-nth}

@@ -14,7 +14,7 @@ use Rattle.rules.specs.Order.{less, Ascending}
 use Rattle.rules.specs.Pairs.{channelNumbers, numbers, before, Before}
 use Rattle.rules.proofs.Less.{less-irreflexive}
 use Rattle.rules.proofs.Before.{before-trans}
-use Rattle.machine.specs.Good.{Every}
+use Rattle.model.specs.Good.{Every}
 use Rattle.machine.specs.State.{padded, pairNumbers}
 use Rattle.machine.proofs.Everys.{every-in, in-every}
 use Rattle.state.specs.Test.{leads, ascends}

@@ -14,7 +14,7 @@ use Rattle.value.specs.Range.{InRange}
 use Rattle.value.proofs.Kit.{false-not-true, same-eq}
 use Rattle.rules.specs.Offers as offers
 use Rattle.rules.specs.Pairs.{channelNumbers, numbers}
-use Rattle.machine.specs.Good.{Every, OneOrTwo}
+use Rattle.model.specs.Good.{Every, OneOrTwo}
 use Rattle.machine.specs.Offer.{Process}
 use Rattle.machine.specs.State.{padded, processNumbers, pairNumbers}
 use Rattle.machine.proofs.Everys.{every-get}

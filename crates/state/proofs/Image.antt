@@ -10,7 +10,7 @@ use lib.IntN.{ℤ, pos, natAbs}
 use lib.ListN.{length, drop, length-append, length-take, length-drop, length-map, take-append-drop}
 use lib.Seq.{take-at, drop-at}
 use Rattle.rules.specs.Offers as offers
-use Rattle.machine.specs.Good.{Every}
+use Rattle.model.specs.Good.{Every}
 use Rattle.machine.specs.Offer.{Process}
 use Rattle.machine.specs.State.{State, padded, flatten, processNumbers, pairNumbers, stateNumbers, stateLength}
 use Rattle.machine.proofs.Everys.{every-map}

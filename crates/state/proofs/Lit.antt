@@ -12,7 +12,7 @@ use Rattle.rules.specs.Order.{Ascending}
 use Rattle.rules.specs.Pairs.{before, Before, insert, remove}
 use Rattle.rules.proofs.Before.{before-trans, before-apart, Compared, under, over, equal, compared}
 use Rattle.rules.proofs.Launched.{launch-counts}
-use Rattle.machine.specs.Good.{Every}
+use Rattle.model.specs.Good.{Every}
 use Rattle.machine.specs.State.{State, padded, flatten, processNumbers, pairNumbers, stateNumbers}
 use Rattle.state.specs.Fits.{FewLocals, FitsProcess, FitsPair, Fits}
 use Rattle.state.specs.Test.{placeOf}

@@ -6,7 +6,7 @@ use Prim.Native.Nat.{ℕ, _≤_}
 use lib.ListN.{length, getElem?}
 use Rattle.model.specs.Resolved
 use Rattle.rules.specs.Offers as offers
-use Rattle.machine.specs.Good.{Every, SumWith, GoodSum, GoodModel}
+use Rattle.model.specs.Good.{Every, SumWith, GoodSum, GoodModel}
 use Rattle.machine.specs.State.{State, GoodChannel, GoodPair, GoodProcess, GoodState}
 use Rattle.machine.proofs.Branches.{nth-map, map-nth, nth-get, get-nth}
 use Rattle.machine.proofs.Everys.{every-in, in-every, every-map}

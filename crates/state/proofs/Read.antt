@@ -11,7 +11,7 @@ use lib.ListN.{length, getD, getElem?, take, drop, length-map, length-take, leng
 use lib.Seq.{take-nil, take-at, take-take, drop-drop, getD-take, getD-drop}
 use Rattle.model.specs.Resolved
 use Rattle.rules.specs.Offers as offers
-use Rattle.machine.specs.Good.{GoodModel}
+use Rattle.model.specs.Good.{GoodModel}
 use Rattle.machine.specs.Offer.{Process}
 use Rattle.machine.specs.State.{State, GoodState, processNumbers, pairNumbers, stateNumbers, stateLength}
 use Rattle.state.specs.Fits.{FewLocals, Fits}

@@ -10,7 +10,7 @@ use lib.ListN.{length, take, drop, replicate, length-append, length-take, length
 use lib.Seq.{take-at, drop-at, take-add, length-take-le}
 use Rattle.value.specs.Range.{InRange}
 use Rattle.value.proofs.Kit.{same-eq}
-use Rattle.machine.specs.Good.{Every}
+use Rattle.model.specs.Good.{Every}
 use Rattle.machine.specs.State.{padded, flatten}
 use Rattle.state.specs.Test.{every, rows, isValue, isZero, isPadded}
 use Rattle.state.proofs.Tests.{both}

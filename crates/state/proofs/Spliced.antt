@@ -9,7 +9,7 @@ use lib.Seq.{take-at, drop-at, take-append-le, drop-append-le, take-append-add, 
 use Rattle.rules.specs.Offers as offers
 use Rattle.rules.specs.Step.{replace}
 use Rattle.rules.proofs.Spliced.{spliced, replace-length}
-use Rattle.machine.specs.Good.{Every}
+use Rattle.model.specs.Good.{Every}
 use Rattle.machine.specs.Offer.{Process}
 use Rattle.machine.specs.State.{State, padded, flatten, processNumbers, pairNumbers, stateNumbers}
 use Rattle.state.specs.Fits.{FewLocals, FitsProcess, Fits}

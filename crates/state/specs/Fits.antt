@@ -10,7 +10,7 @@ use Rattle.model.specs.Opening.{processLimit}
 use Rattle.rules.specs.Offers as offers
 use Rattle.rules.specs.Order.{Ascending}
 use Rattle.rules.specs.Pairs.{Before}
-use Rattle.machine.specs.Good.{Every, OneOrTwo}
+use Rattle.model.specs.Good.{Every, OneOrTwo}
 use Rattle.machine.specs.Offer.{Process}
 use Rattle.machine.specs.State.{State, pairLimit}
 

@@ -5,7 +5,7 @@ use denote.Ref.{now}
 use Rattle.tree.specs.Node.{kindOf, leftOf}
 use borrow.Author.Needs.{needs}
 use Rattle.tables.specs.Settled.{Expr}
-use Rattle.machine.specs.Good.{GoodExpr}
+use Rattle.model.specs.Good.{GoodExpr}
 use Rattle.eval.proofs.Lists.{one-part, two-parts, expr-low, one-value-is, two-values-are}
 use Rattle.eval.proofs.values_of.Statement.{statement}
 use Rattle.eval.proofs.values_of.Tie as tie

@@ -4,7 +4,7 @@ use lib.ListN.{length}
 use denote.Ref.{now}
 use Rattle.tree.specs.Node.{kindOf, leftOf}
 use Rattle.tables.specs.Settled.{Set}
-use Rattle.machine.specs.Good.{GoodSet}
+use Rattle.model.specs.Good.{GoodSet}
 use Rattle.eval.proofs.Lists.{one-part, two-parts, set-low}
 use Rattle.eval.proofs.Ends.{one-listed, two-listed}
 use borrow.Author.Needs.{needs}

@@ -16,7 +16,7 @@ use Rattle.buffers.specs.Listing.{listingNumbers}
 use Rattle.buffers.specs.Effect.{Effect}
 use Rattle.buffers.specs.Calls.{Engine, fresh, own, lentBuffer, BufferCall, opening, lentModel, lentState, leftBy, listingOf}
 
--- of a call to an engine that holds the machine y
+-- 01, Opening a text, Listing and stepping: of a call c to an engine x that holds the machine y, with the effect e
 pub data Outcome (x : Engine) (y : Machine) (c : BufferCall) (e : Effect) : Type 0 where
   -- 1 and 11 change nothing that is lent
   nothing : (e .answer .number ≡ 1) ⊎ (e .answer .number ≡ 11)

@@ -61,7 +61,7 @@ kept own l = refl
 kept (other k w) l = refl
 
 -- the engine's own, which a call leaves as this
-own-lent : {A : Type 0} {right : ℕ} (a : Lending A right) (l : List A) → a ≡ own → lentBuffer a l ≡ l
+pub own-lent : {A : Type 0} {right : ℕ} (a : Lending A right) (l : List A) → a ≡ own → lentBuffer a l ≡ l
 unfolding lentBuffer
 own-lent a l e = ap (λ (b : Lending _ _). lentBuffer b l) e
 
@@ -87,7 +87,7 @@ and-lends wrong u = wrong
 
 -- ---- one call
 
-make : List ℕ → List ℤ → Engine
+unfoldable pub make : List ℕ → List ℤ → Engine
 make bs zs = record { model = bs; state = zs }
 
 -- a call does to the engine what it does to the machine

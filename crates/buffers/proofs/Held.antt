@@ -121,6 +121,10 @@ bytes-back bs m l h e = by bs l h (passes bs m e .short) (passes bs m e .rest)
         joined : {a b c d : ℕ} {u v : List ℕ} → a ≡ c → b ≡ d → u ≡ v → a ∷ b ∷ u ≡ c ∷ d ∷ v
         joined e f g = λ i. e i ∷ f i ∷ g i
 
+-- 01, State: the test is exact
+pub held-exactly : (bs : List ℕ) (m : Model) → length bs ≡ modelLength → getD bs 0 0 < 256 → (heldIn bs ≡ some m) ↔ ((text : List ℕ) × (bs ≡ modelBytes text) × (held text ≡ some m))
+held-exactly bs m l h = (λ e. (textIn bs, bytes-back bs m l h e, passes bs m e .text), λ w. ap heldIn (w .1) ∙ text-held (w .0) m (w .2))
+
 -- ---- which models are held
 
 -- a model that a buffer holds fits together as the machine needs it

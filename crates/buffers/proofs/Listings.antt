@@ -1,9 +1,10 @@
 -- A listing buffer has 7,168 numbers, and with the count of entries it tells them: by induction on the entries, seven numbers each.
 use mathlib.Core.Path.{_≡_, refl, ap₂}
 use mathlib.Core.List.{List, [], _∷_, _++_, append-assoc}
-use Prim.Native.Nat.{ℕ, suc, _+_, _-_, _*_, _≤_}
+use Prim.Native.Nat.{ℕ, _+_, _-_, _*_, _≤_}
 use native.Mathlib.Omega.{arith}
 use lib.ListN.{length, replicate, length-append, length-replicate}
+use Rattle.rules.specs.Kind as kind
 use Rattle.rules.specs.Rules.{key}
 use Rattle.rules.specs.Listing.{Entry, entry}
 use Rattle.machine.specs.Machine.{entryLimit, entryWidth, listingLength}
@@ -42,3 +43,10 @@ entries-told (d ∷ ds) (e ∷ es) u v l h =
 pub listing-told : (ds es : List Entry) → length ds ≡ length es → listingNumbers ds ≡ listingNumbers es → ds ≡ es
 unfolding listingNumbers
 listing-told ds es l h = entries-told ds es _ _ l h
+
+-- 01, A bench sheet in full: its two rows, in the buffer's order
+pub sheet-rows :
+    entriesNumbers (entry (key kind.handshake 0 0 2 0 0) 300000000 ∷ entry (key kind.wait 0 1 0 0 0) 25000000 ∷ [])
+    ≡ 7 ∷ 0 ∷ 0 ∷ 2 ∷ 0 ∷ 0 ∷ 300000000 ∷ 1 ∷ 0 ∷ 1 ∷ 0 ∷ 0 ∷ 0 ∷ 25000000 ∷ []
+unfolding entriesNumbers entryNumbers
+sheet-rows = refl

@@ -5,7 +5,6 @@ use mathlib.Core.List.{List, map}
 use Prim.Native.Nat.{ℕ}
 use native.Mathlib.Omega.{arith}
 use borrow.Author.Tests.{eq-eqb}
-use lib.IntN.{ℤ}
 use lib.ListN.{length}
 use Rattle.model.specs.Resolved
 use Rattle.model.specs.Held as model
@@ -25,7 +24,7 @@ use Rattle.buffers.specs.Effect.{Effect, machineIn, stateIn, leaves, whe
 use Rattle.buffers.specs.Calls.{Engine, fresh, own, lentBuffer, BufferCall, listing, stepping, lentModel, lentState, effect, leftBy, fed, engineAfter, Holds, zeros, held}
 use Rattle.buffers.specs.Transitions.{Leaves, Takes, Shows}
 use Rattle.buffers.proofs.Held.{passes, text-in}
-use Rattle.buffers.proofs.Calls.{model-long, state-long, holds-machine, own-left, every-list}
+use Rattle.buffers.proofs.Calls.{model-long, state-long, holds-machine, own-left, make, every-list}
 
 module _ {x : Engine} {y : Machine} (h : Holds x y) (l : List ℕ) (long : length l ≡ listingLength) where
   -- a call that is lent right lengths
@@ -33,13 +32,27 @@ module _ {x : Engine} {y : Machine} (h : Holds x y) (l : List ℕ) (long : lengt
   unfolding whenLent lent
   lent-all t = rw (eq-eqb _ _ (model-long h), eq-eqb _ _ (state-long h), eq-eqb _ _ long)
 
-  lists-all : effect x (listing own own l) ≡ leaves (x .model) (x .state) l (lists y)
+  pub lists-all : effect x (listing own own l) ≡ leaves (x .model) (x .state) l (lists y)
   unfolding effect listEffect lentBuffer
   lists-all = lent-all (lists (machineIn (x .model) (x .state))) ∙ ap (λ (z : Machine). leaves (x .model) (x .state) l (lists z)) (holds-machine h)
 
-  steps-all : (d : ℕ) → effect x (stepping own own l d) ≡ leaves (x .model) (x .state) l (stepsOn y d)
+  pub steps-all : (d : ℕ) → effect x (stepping own own l d) ≡ leaves (x .model) (x .state) l (stepsOn y d)
   unfolding effect stepEffect lentBuffer
   steps-all d = lent-all (stepsOn (machineIn (x .model) (x .state)) d) ∙ ap (λ (z : Machine). leaves (x .model) (x .state) l (stepsOn z d)) (holds-machine h)
+
+-- ---- what is left of an engine whose own buffers are lent
+
+module _ (x : Engine) (c : BufferCall) (a : lentModel c ≡ own) (b : lentState c ≡ own) where
+  -- what the call leaves in them
+  pub left-in : (e : Effect) → effect x c ≡ e → leftBy x c ≡ make (e .model) (e .state)
+  unfolding leftBy make
+  left-in e p =
+      ap₂ make (own-left (lentModel c) (x .model) _ a ∙ ap (λ (e : Effect). e .model) p) (own-left (lentState c) (x .state) _ b ∙ ap (λ (e : Effect). e .state) p)
+
+  -- all of it, where the call leaves them as they were
+  pub left-as : effect x c .model ≡ x .model → effect x c .state ≡ x .state → leftBy x c ≡ x
+  unfolding make
+  left-as p q = left-in (effect x c) refl ∙ ap₂ make p q
 
 -- ---- what is listed
 
@@ -55,7 +68,7 @@ has-entries m s e = by (asked m s (machine.listing m s) .0 refl) refl e
     by (yes14 {es = es} g h l f) q e = (es, q)
 
 -- every answer to a draw from a listing shows it
-fills : {m : Resolved.Model} {s : State} {es : List Entry} {d : ℕ} {t : Turn State} → Steps m s es d t → t .answer .listing ≡ filled es
+pub fills : {m : Resolved.Model} {s : State} {es : List Entry} {d : ℕ} {t : Turn State} → Steps m s es d t → t .answer .listing ≡ filled es
 unfolding listedAs
 fills (no15 e) = refl
 fills (no16 l k) = refl
@@ -119,14 +132,6 @@ module _ {x : Engine} {m : Resolved.Model} {s : State} (h : Holds x (holding m s
       let a = leaving l d long in
       accepts (effect x (stepping own own l d)) (a .asked) (sym (ap (λ (b : Answer). b .number) (a .answer)) ∙ z) (a .answer) (a .listed) (a .state)
 
--- an engine whose own buffers are left as they were
-left-as : {x : Engine} (c : BufferCall) → lentModel c ≡ own → lentState c ≡ own → effect x c .model ≡ x .model → effect x c .state ≡ x .state → leftBy x c ≡ x
-unfolding leftBy
-left-as {x} c a b p q = ap₂ make (own-left (lentModel c) (x .model) _ a ∙ p) (own-left (lentState c) (x .state) _ b ∙ q)
-  where
-    make : List ℕ → List ℤ → Engine
-    make bs zs = record { model = bs; state = zs }
-
 -- ---- the theorem
 
 shows : {x : Engine} {y : Machine} → Holds x y → (l : List ℕ) → length l ≡ listingLength → effect x (listing own own l) .answer .number ≡ 0 → Shows x y l
@@ -152,7 +157,7 @@ shows {x} (held {m = m} {s = s} text a b c g) l long z =
       few = k .2;
       bounded = k .3;
       listed = ap (λ (e : Effect). e .listing) p;
-      stays = left-as (listing own own l) refl refl (ap (λ (e : Effect). e .model) p) (ap (λ (e : Effect). e .state) p ∙ sym c);
+      stays = left-as x (listing own own l) refl refl (ap (λ (e : Effect). e .model) p) (ap (λ (e : Effect). e .state) p ∙ sym c);
       number = ap (λ (e : Effect). e .answer .count) p;
       sum = ap (λ (e : Effect). e .answer .total) p;
       draws = λ n. draws-weigh m s es (k .1) n;

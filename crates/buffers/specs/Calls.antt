@@ -12,6 +12,7 @@ use Rattle.model.specs.Resolved
 use Rattle.buffers.specs.Listing.{shown}
 use Rattle.buffers.specs.Effect.{Effect, openEffect, listEffect, stepEffect}
 
+-- 01, State: the model and state buffers
 pub record Engine : Type 0 where
   pub model : List ℕ
   pub state : List ℤ
@@ -20,15 +21,17 @@ pub record Engine : Type 0 where
 unfoldable pub fresh : Engine
 fresh = record { model = replicate modelLength 0; state = replicate stateLength (pos 0) }
 
--- what a call lends: the engine's own buffer, or another of a wrong length, whatever it holds
+-- 01, Opening a text, 1: a call lends the engine's own buffer, or another of a wrong length, whatever it holds
 pub data Lending (A : Type 0) (right : ℕ) : Type 0 where
   own : Lending A right
   other : (l : List A) → (length l ≡ right → ⊥) → Lending A right
 
+-- the buffer that is lent, where l is the engine's own
 unfoldable pub lentBuffer : {A : Type 0} {right : ℕ} → Lending A right → List A → List A
 lentBuffer own l = l
 lentBuffer (other k w) l = k
 
+-- 01, Rule machine: its length; the engine's own have theirs
 unfoldable pub lentLength : {A : Type 0} {right : ℕ} → Lending A right → ℕ
 lentLength {A} {right} own = right
 lentLength (other k w) = length k
@@ -38,7 +41,7 @@ unfoldable pub ownBuffer : {A : Type 0} {right : ℕ} → Lending A right → Li
 ownBuffer own l left = left
 ownBuffer (other k w) l left = l
 
--- one call: a text or a draw, what is lent of the engine, and a listing buffer of any length and contents
+-- 01, Rule machine: one call: a text or a draw, what is lent of the engine, and a listing buffer of any length and contents
 pub data BufferCall : Type 0 where
   opening : (text : List ℕ) → Lending ℕ modelLength → Lending ℤ stateLength → BufferCall
   listing : Lending ℕ modelLength → Lending ℤ stateLength → (listing : List ℕ) → BufferCall
@@ -55,35 +58,35 @@ lentState (opening text a b) = b
 lentState (listing a b l) = b
 lentState (stepping a b l d) = b
 
--- what it does to the buffers that are lent
+-- what a call answers, and leaves in the buffers that are lent
 unfoldable pub effect : Engine → BufferCall → Effect
 effect x (opening text a b) = openEffect text (lentBuffer a (x .model)) (lentBuffer b (x .state))
 effect x (listing a b l) = listEffect (lentBuffer a (x .model)) (lentBuffer b (x .state)) l
 effect x (stepping a b l d) = stepEffect (lentBuffer a (x .model)) (lentBuffer b (x .state)) l d
 
--- and to the engine
+-- 01, State: the engine that it leaves for the next call
 unfoldable pub leftBy : Engine → BufferCall → Engine
 leftBy x c = let e = effect x c in record { model = ownBuffer (lentModel c) (x .model) (e .model); state = ownBuffer (lentState c) (x .state) (e .state) }
 
--- the same call as the rule machine is fed it: texts, draws, and the lengths of all that is lent
+-- 01, Rule machine: the same call as the machine is fed it: texts, draws, and the lengths of all that is lent
 unfoldable pub fed : BufferCall → Call
 fed (opening text a b) = open′ text (lentLength a) (lentLength b)
 fed (listing a b l) = list′ (lentLength a) (lentLength b) (length l)
 fed (stepping a b l d) = step′ (lentLength a) (lentLength b) (length l) d
 
--- what each of a list of calls answers and leaves, one after the other
+-- 01, Rule machine: what each of a list of calls answers and leaves, in order
 unfoldable pub effects : Engine → List BufferCall → List Effect
 effects x [] = []
 effects x (c ∷ cs) = effect x c ∷ effects (leftBy x c) cs
 
--- the engine afterwards
+-- 01, State: the engine after a list of calls
 unfoldable pub engineAfter : Engine → List BufferCall → Engine
 engineAfter x [] = x
 engineAfter x (c ∷ cs) = engineAfter (leftBy x c) cs
 
 -- ---- what the theorem says
 
--- the listing buffer that a call lends; an opening lends none
+-- 01, Listing and stepping: the listing buffer that a call lends; an opening lends none
 unfoldable pub listingOf : BufferCall → List ℕ
 listingOf (opening text a b) = []
 listingOf (listing a b l) = l

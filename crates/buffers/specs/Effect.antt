@@ -15,7 +15,7 @@ use Rattle.machine.specs.Machine.{modelLength, listingLength, asLent, Answer, n
 use Rattle.buffers.specs.Held.{modelBytes, heldIn}
 use Rattle.buffers.specs.Listing.{shown}
 
--- an answer, and the buffers as a call leaves them
+-- 01, Rule machine: an answer, and the buffers as a call leaves them
 pub record Effect : Type 0 where
   pub answer : Answer
   pub model : List ℕ
@@ -28,12 +28,12 @@ pub record Effect : Type 0 where
 abbrev pub scopesOf : Resolved.Model → List ℕ
 scopesOf m = map (λ (s : Resolved.Sum). s .locals) (m .sums)
 
--- 11: a state over the model
+-- 01, Listing, 11: is the state one over the model?
 unfoldable pub machineOver : List ℤ → Option Resolved.Model → Machine
 machineOver zs none = closed
 machineOver zs (some m) = cond (isState (scopesOf m) (m .channels) zs) (holding m (decode (scopesOf m) zs)) closed
 
--- 11: a model buffer that passes its test and a state over that model; closed where one of them isn't
+-- 01, Listing, 11: the machine in two buffers; closed where the answer to 11 is no
 unfoldable pub machineIn : List ℕ → List ℤ → Machine
 machineIn bs zs = machineOver zs (heldIn bs)
 
@@ -54,12 +54,12 @@ openEffect text bs zs = cond (lent (length bs) (length zs)) (opensWith text (ope
 
 -- ---- list and step
 
--- the state buffer of a machine after a call; as it was where there is none
+-- 01, State: the numbers of the machine's state; 11 leaves the buffer as it was
 unfoldable pub stateIn : List ℤ → Machine → List ℤ
 stateIn zs closed = zs
 stateIn zs (holding m s) = stateNumbers s
 
--- what a machine's turn leaves in the buffers
+-- 01, Rule machine: what a machine's turn leaves in the buffers
 unfoldable pub leaves : List ℕ → List ℤ → List ℕ → Turn Machine → Effect
 leaves bs zs l t = record { answer = t .answer; model = bs; state = stateIn zs (t .machine); listing = shown (t .answer .listing) l }
 
@@ -67,8 +67,10 @@ leaves bs zs l t = record { answer = t .answer; model = bs; state = stateIn zs (
 unfoldable pub whenLent : List ℕ → List ℤ → List ℕ → Turn Machine → Effect
 whenLent bs zs l t = cond (lent (length bs) (length zs) && eqb (length l) listingLength) (leaves bs zs l t) (untouched bs zs l)
 
+-- 01, Listing: of the machine that the buffers hold
 unfoldable pub listEffect : List ℕ → List ℤ → List ℕ → Effect
 listEffect bs zs l = whenLent bs zs l (lists (machineIn bs zs))
 
+-- 01, Listing and stepping: the same with a draw
 unfoldable pub stepEffect : List ℕ → List ℤ → List ℕ → ℕ → Effect
 stepEffect bs zs l d = whenLent bs zs l (stepsOn (machineIn bs zs) d)

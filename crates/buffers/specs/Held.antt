@@ -13,14 +13,15 @@ use Rattle.model.specs.Held.{held}
 unfoldable pub modelBytes : List ℕ → List ℕ
 modelBytes text = length text % 256 ∷ length text / 256 ∷ (text ++ replicate (textLimit - length text) 0)
 
--- the length in the first two bytes
+-- docs/LAYOUT.md: the length in the first two bytes
 unfoldable pub lengthIn : List ℕ → ℕ
 lengthIn bs = getD bs 0 0 + 256 * getD bs 1 0
 
--- so many bytes after them
+-- docs/LAYOUT.md: so many bytes after them
 unfoldable pub textIn : List ℕ → List ℕ
 textIn bs = take (lengthIn bs) (drop 2 bs)
 
+-- docs/LAYOUT.md: every byte after the text is 0
 unfoldable pub zeros : List ℕ → Bool
 zeros [] = true
 zeros (b ∷ bs) = eqb b 0 && zeros bs

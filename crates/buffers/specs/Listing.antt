@@ -10,12 +10,12 @@ use Rattle.machine.specs.Machine.{Shown, asLent, zeroed, filled, listingLength}
 unfoldable pub entryNumbers : Entry → List ℕ
 entryNumbers (entry (key c i j k m q) w) = c ∷ i ∷ j ∷ k ∷ m ∷ q ∷ w ∷ []
 
--- one entry after the other
+-- 01, Transitions: one entry after the other
 unfoldable pub entriesNumbers : List Entry → List ℕ
 entriesNumbers [] = []
 entriesNumbers (e ∷ es) = entryNumbers e ++ entriesNumbers es
 
--- the whole buffer
+-- 01, Transitions: the whole buffer, unused numbers 0
 unfoldable pub listingNumbers : List Entry → List ℕ
 listingNumbers es = entriesNumbers es ++ replicate (listingLength - length (entriesNumbers es)) 0
 

@@ -2,15 +2,16 @@
 use mathlib.Core.Path.{_≡_, sym, ap, ap₂, _∙_}
 use mathlib.Core.List.{List, [], _∷_, _++_, append-assoc, append-nil}
 use Prim.Native.Nat.{ℕ, suc, _+_, _-_, _*_, _≤_, _<_}
+use native.Mathlib.Numerals.{add-one}
 use native.Mathlib.Omega.{arith}
 use lib.IntN.{ℤ, pos, natAbs}
 use mir.Syntax.{w64}
 use mir.Val.{toZ}
-use lib.ListN.{length, getD, set, take, drop, replicate, length-append, length-take, length-drop, length-replicate, replicate-append-replicate, List·getD-append, drop-of-length-le}
+use lib.ListN.{length, getD, set, take, drop, replicate, length-append, length-take, length-drop, length-set, length-replicate, replicate-append-replicate, List·getD-append, drop-of-length-le}
 use borrow.Rule.Slice.PartMut.{putMid, midOf}
-use lib.Seq.{take-all, take-at, drop-at, take-add, take-append-le, drop-append-le, drop-append-add, take-append-add, drop-drop, getD-take, length-take-le}
+use lib.Seq.{take-all, take-at, drop-at, take-add, take-append-le, drop-append-le, drop-append-add, take-append-add, drop-drop, getD-take, length-take-le, take-suc-set, drop-set-lt, append-snoc}
 use Rattle.machine.specs.State.{stateLength, padded, flatten, stateNumbers, emptyState}
-use Rattle.state.specs.Change.{rewritten, pairAdded, pairTaken, processReplaced}
+use Rattle.state.specs.Change.{rewritten, pairAdded, pairTaken, processReplaced, processAdded}
 use Rattle.state.specs.Test.{at}
 use Rattle.value.proofs.Kit.{back}
 use Rattle.state.proofs.Mix.{mix, mix-up}
@@ -119,6 +120,40 @@ replaced s new ys place n k p q h g e =
     ap₂ (λ (l : List ℤ) (z : ℤ). set l 0 z)
     (part-changed (rewritten 9 new) (2 + place * 9) s ys 2306 (omega arith) e)
     (back (pos (n - 1 + k)) (omega arith) ∙ ap (λ (m : ℕ). pos (m - 1 + k)) q)
+
+-- numbers written over a tail leave its length
+pub put-length : (s fresh ys : List ℤ) (a i : ℕ) (z : ℤ) → let u = set s i z in a ≤ length s → length fresh ≤ length s - a
+    → ys ≡ take (length fresh) fresh ++ drop (length fresh) (midOf a (length u - a) u) → length (putMid a (length u - a) u ys) ≡ length s
+put-length s fresh ys a i z l h e =
+    let u : List ℤ = set s i z in
+    ap length (tail-changed (λ (l : List ℤ). take (length fresh) fresh ++ drop (length fresh) l) a u ys e)
+    ∙ simp (length-append, length-take, length-drop, length-set) (omega arith)
+
+pub set-length : (s fresh ys : List ℤ) (a i : ℕ) (z v : ℤ) → let u = set s i z in a ≤ length s → length fresh ≤ length s - a
+    → ys ≡ take (length fresh) fresh ++ drop (length fresh) (midOf a (length u - a) u) → length (set (putMid a (length u - a) u ys) 0 v) ≡ length s
+set-length s fresh ys a i z v l h e = length-set (putMid a (length (set s i z) - a) (set s i z) ys) 0 v ∙ put-length s fresh ys a i z l h e
+
+-- a process written after the others
+pub pushed : (s fresh ys : List ℤ) (sum n : ℕ) → length s ≡ 3586 → n ≡ natAbs (at s 0) → n < 256 → sum < 9223372036854775808
+    → let u = set s (2 + n * 9) (toZ w64 sum) in ys ≡ take (length fresh) fresh ++ drop (length fresh) (midOf (2 + n * 9 + 1) (length u - (2 + n * 9 + 1)) u)
+    → let u = set s (2 + n * 9) (toZ w64 sum) in set (putMid (2 + n * 9 + 1) (length u - (2 + n * 9 + 1)) u ys) 0 (toZ w64 (n + 1)) ≡ processAdded sum fresh s
+unfolding processAdded
+pushed s fresh ys sum n w q h g e =
+    let a : ℕ = 2 + n * 9 in
+    let k : ℕ = length fresh in
+    let u : List ℤ = set s a (toZ w64 sum) in
+    let v : toZ w64 sum ≡ pos sum = back (pos sum) g in
+    let t : take (a + 1) u ≡ take a s ++ (toZ w64 sum ∷ []) = ap (λ (j : ℕ). take j u) (add-one a) ∙ take-suc-set s a (toZ w64 sum) (omega arith) in
+    let d : drop (a + 1) u ≡ drop (a + 1) s = drop-set-lt (a + 1) s a (toZ w64 sum) (omega arith) in
+    let r : take (a + 1) u ++ (take k fresh ++ drop k (drop (a + 1) u)) ≡ take a s ++ (pos sum ∷ (fresh ++ drop (a + 1 + k) s)) =
+    ap₂ (λ (l m : List ℤ). l ++ (take k fresh ++ drop k m)) t d
+    ∙ ap₂ (λ (l m : List ℤ). (take a s ++ (toZ w64 sum ∷ [])) ++ (l ++ m)) (take-all k fresh (omega arith)) (drop-drop k (a + 1) s)
+    ∙ append-snoc (take a s) (toZ w64 sum) (fresh ++ drop (a + 1 + k) s)
+    ∙ ap (λ (z : ℤ). take a s ++ (z ∷ (fresh ++ drop (a + 1 + k) s))) v in
+    ap₂ (λ (l : List ℤ) (z : ℤ). set l 0 z)
+    (tail-changed (λ (l : List ℤ). take k fresh ++ drop k l) (a + 1) u ys e ∙ r)
+    (back (pos (n + 1)) (omega arith))
+    ∙ ap (λ (m : ℕ). set (take (2 + m * 9) s ++ (pos sum ∷ (fresh ++ drop (2 + m * 9 + 1 + k) s))) 0 (pos (m + 1))) q
 
 -- ---- 01, Fresh: no process and no pair are all zeros
 zeros-joined : (a b : ℕ) → pos 0 ∷ pos 0 ∷ (replicate a (pos 0) ++ replicate b (pos 0)) ≡ replicate (suc (suc (a + b))) (pos 0)

@@ -85,6 +85,12 @@ process-wide scopes few p f =
     let i : getD scopes (p .sum) 0 ≤ 8 = every-get (λ (k : ℕ). k ≤ 8) 0 (omega arith) scopes (p .sum) few in
     simp (length-append, length-replicate) (omega (arith, g .1))
 
+-- a process that fits has at most 8 locals
+pub few-of-process : (scopes : List ℕ) → FewLocals scopes → (p : Process) → FitsProcess scopes p → length (p .locals) ≤ 8
+few-of-process scopes few p f =
+    let g = get-is scopes (p .sum) 0 (length (p .locals)) (f .sum) in
+    omega (arith, g .1, every-get (λ (k : ℕ). k ≤ 8) 0 (omega arith) scopes (p .sum) few)
+
 -- ---- channels
 channel-row : (channels : ℕ) (k z : ℤ) (l : List ℤ) → isChannel channels k z ≡ true → FitsChannel channels (channelOf k z) × (channelNumbers (channelOf k z) l ≡ k ∷ z ∷ l)
 unfolding isChannel channelOf FitsChannel channelNumbers isValue

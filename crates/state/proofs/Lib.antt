@@ -12,3 +12,5 @@ pub mod Spliced
 pub mod Lit
 pub mod Read
 pub mod Channel
+pub mod Pushed
+pub mod Launch

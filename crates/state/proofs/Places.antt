@@ -1,6 +1,6 @@
 -- Where a row stands among rows that ascend: as many rows as stand before it are the first ones. By induction on the rows.
-use mathlib.Core.Path.{_≡_, sym, ap, _∙_}
-use mathlib.Core.Bool.{Bool, true, false, cond}
+use mathlib.Core.Path.{_≡_, refl, sym, ap, _∙_}
+use mathlib.Core.Bool.{Bool, true, false, cond, not}
 use mathlib.Core.List.{List, [], _∷_}
 use Prim.Native.Nat.{ℕ, zero, suc, _+_, _*_, _≤_, _<_}
 use native.Mathlib.Nat.{suc-mul, zero-mul}
@@ -8,9 +8,10 @@ use native.Mathlib.Omega.{arith}
 use lib.IntN.{ℤ}
 use lib.ListN.{length, getD, take, drop}
 use lib.Seq.{drop-drop}
+use Rattle.value.proofs.Kit.{false-not-true}
 use Rattle.rules.specs.Order.{less}
 use Rattle.rules.proofs.Less.{less-trans}
-use Rattle.state.specs.Test.{rows, leads, ascends, placeOf}
+use Rattle.state.specs.Test.{rows, leads, ascends, placeOf, isLit}
 use Rattle.state.proofs.Tests.{both}
 
 -- row i of the rows of a list
@@ -59,3 +60,31 @@ place-bound row (r ∷ rs) = go (less r row) (place-bound row rs)
     go : (t : Bool) → placeOf row rs ≤ length rs → cond t (suc (placeOf row rs)) 0 ≤ suc (length rs)
     go true h = omega arith
     go false h = omega arith
+
+-- ---- whether it is one of them
+pub lit-past : (row : List ℤ) (rs : List (List ℤ)) → length rs ≤ placeOf row rs → isLit row rs ≡ false
+unfolding placeOf isLit
+lit-past row [] l = refl
+lit-past row (r ∷ rs) l = go (less r row) (lit-past row rs) l
+  where
+    go : (t : Bool) → (length rs ≤ placeOf row rs → isLit row rs ≡ false) → suc (length rs) ≤ cond t (suc (placeOf row rs)) 0 → cond t (isLit row rs) (not (less row r)) ≡ false
+    go true f h = f (omega arith)
+    go false f h = absurd (omega arith)
+
+pub lit-here : (row : List ℤ) (rs : List (List ℤ)) → placeOf row rs < length rs → isLit row rs ≡ not (less row (getD rs (placeOf row rs) []))
+unfolding placeOf isLit
+lit-here row [] l = absurd (omega arith)
+lit-here row (r ∷ rs) l = go (less r row) (lit-here row rs) l
+  where
+    go : (t : Bool) → (placeOf row rs < length rs → isLit row rs ≡ not (less row (getD rs (placeOf row rs) []))) → cond t (suc (placeOf row rs)) 0 < suc (length rs) → cond t (isLit row rs) (not (less row r)) ≡ not (less row (getD (r ∷ rs) (cond t (suc (placeOf row rs)) 0) []))
+    go true f h = f (omega arith)
+    go false f h = refl
+
+pub lit-place : (row : List ℤ) (rs : List (List ℤ)) → isLit row rs ≡ true → placeOf row rs < length rs
+unfolding placeOf isLit
+lit-place row [] e = false-not-true e
+lit-place row (r ∷ rs) e = go (less r row) (lit-place row rs) e
+  where
+    go : (t : Bool) → (isLit row rs ≡ true → placeOf row rs < length rs) → cond t (isLit row rs) (not (less row r)) ≡ true → cond t (suc (placeOf row rs)) 0 < suc (length rs)
+    go true f e = let h = f e in omega arith
+    go false f e = omega arith

@@ -20,6 +20,7 @@ use Rattle.value.proofs.Kit.{true-not-false, false-not-true, same-bits, ok-fits
 use Rattle.rules.specs.Order.{less}
 use Rattle.state.specs.Test.{every, rows, isValue, isZero, isBelow, at, isPadded, isProcess, isChannel, isPair, leads, ascends, areProcesses, arePairs, isState, processPart, pairPart}
 use Rattle.state.specs.Fits.{FewLocals}
+use Rattle.model.specs.Good.{Every}
 use Rattle.machine.proofs.Everys.{every-get}
 
 -- ---- both of two tests
@@ -119,6 +120,15 @@ module _ (scopes : List ℕ) (sums : ℕ) (row : List ℤ) (l : sums ≤ length 
 -- a sum that exists has at most 8 locals
 pub few-locals : (scopes : List ℕ) (sums i : ℕ) → FewLocals (take sums scopes) → i < sums → getD scopes i 0 ≤ 8
 few-locals scopes sums i h l = rw (getD-take sums scopes i 0 l) at (every-get (λ (k : ℕ). k ≤ 8) 0 (omega arith) (take sums scopes) i h)
+
+-- scopes written out
+pub few-none : FewLocals []
+unfolding Every
+few-none = tt
+
+pub few-more : (k : ℕ) (scopes : List ℕ) → k ≤ 8 → FewLocals scopes → FewLocals (k ∷ scopes)
+unfolding Every
+few-more k scopes l h = (l, h)
 
 module _ (channels : ℕ) (row : List ℤ) where
   pub pair-channel : isChannel channels (at row 0) (at row 1) ≡ false → isPair channels row ≡ false

@@ -1,11 +1,12 @@
 -- A state's numbers after a change of its pairs or processes (01, State, step). Definitions only.
-use mathlib.Core.List.{List, [], _++_}
+use mathlib.Core.Bool.{cond}
+use mathlib.Core.List.{List, [], _∷_, _++_}
 use Prim.Native.Nat.{ℕ, _+_, _-_, _*_}
 use lib.IntN.{ℤ, pos, natAbs}
 use lib.ListN.{length, set, take, drop, replicate}
 use Rattle.model.specs.Opening.{processLimit}
 use Rattle.machine.specs.State.{processWidth, pairWidth}
-use Rattle.state.specs.Test.{at}
+use Rattle.state.specs.Test.{at, rows, placeOf, isLit, pairPart}
 
 -- the first numbers of a table's tail replaced; what follows moves, and 0s come in or fall off at its end
 unfoldable pub rewritten : ℕ → List ℤ → List ℤ → List ℤ
@@ -32,3 +33,21 @@ unfoldable pub processReplaced : ℕ → ℕ → List ℤ → List ℤ → List 
 processReplaced place k new zs =
     let from : ℕ = 2 + place * processWidth in
     set (take from zs ++ (rewritten processWidth new (take (pairsFrom - from) (drop from zs)) ++ drop pairsFrom zs)) 0 (pos (natAbs (at zs 0) - 1 + k))
+
+-- 01, State: the pairs' numbers, row by row
+abbrev pub pairRows : List ℤ → List (List ℤ)
+pairRows zs = rows pairWidth (natAbs (at zs 1)) (pairPart zs)
+
+-- 01, State, step: a launch adds its pair to the set
+unfoldable pub pairLaunched : List ℤ → List ℤ → List ℤ
+pairLaunched row zs = cond (isLit row (pairRows zs)) zs (pairAdded (placeOf row (pairRows zs)) row zs)
+
+-- 01, State, step: a kill takes its pair away if it is lit
+unfoldable pub pairKilled : List ℤ → List ℤ → List ℤ
+pairKilled row zs = cond (isLit row (pairRows zs)) (pairTaken (placeOf row (pairRows zs)) zs) zs
+
+-- 01, Open: one more process, after the others
+unfoldable pub processAdded : ℕ → List ℤ → List ℤ → List ℤ
+processAdded sum locals zs =
+    let from : ℕ = 2 + natAbs (at zs 0) * processWidth in
+    set (take from zs ++ (pos sum ∷ (locals ++ drop (from + 1 + length locals) zs))) 0 (pos (natAbs (at zs 0) + 1))

@@ -74,6 +74,11 @@ unfoldable pub placeOf : List ℤ → List (List ℤ) → ℕ
 placeOf row [] = 0
 placeOf row (r ∷ rs) = cond (less r row) (suc (placeOf row rs)) 0
 
+-- whether a row is one of rows that ascend
+unfoldable pub isLit : List ℤ → List (List ℤ) → Bool
+isLit row [] = false
+isLit row (r ∷ rs) = cond (less r row) (isLit row rs) (not (less row r))
+
 -- a row before the pairs on a channel, or after them: a count of values that none of them has, and 0s
 abbrev pub channelRow : ℤ → ℤ → ℕ → List ℤ
 channelRow kind z k = kind ∷ z ∷ pos k ∷ pos 0 ∷ pos 0 ∷ []

@@ -1,7 +1,7 @@
 // The numbers of a state.
 ghost use mathlib.Core.Path.{_≡_};
 ghost use Prim.Native.Nat.{_+_, _-_, _*_, _≤_, _<_};
-ghost use mathlib.Core.Bool.{true};
+ghost use mathlib.Core.Bool.{true, false};
 ghost use mathlib.Core.List.{_++_};
 ghost use lib.IntN.{ℤ, pos, natAbs};
 ghost use lib.ListN.{length, take, drop, replicate};
@@ -9,10 +9,10 @@ ghost use Rattle.model.specs.Limits.{localLimit};
 ghost use Rattle.model.specs.Opening.{processLimit};
 ghost use Rattle.rules.specs.Order.{less};
 ghost use Rattle.machine.specs.State.{pairLimit, processWidth, pairWidth, stateLength};
-ghost use Rattle.state.specs.Change.{rewritten, pairAdded, pairTaken, processReplaced};
+ghost use Rattle.state.specs.Change.{rewritten, pairRows, pairAdded, pairTaken, pairLaunched, pairKilled, processReplaced, processAdded};
 ghost use Rattle.state.specs.Fits.{FewLocals};
 ghost use Rattle.state.specs.Read.{Passed, processCount, pairCount, sumAt, localsAt, pairRow};
-ghost use Rattle.state.specs.Test.{at, placeOf, channelRow, every, rows, isValue, isZero, isBelow, isPadded, isProcess, isChannel, isPair, ascends, areProcesses, arePairs, isState};
+ghost use Rattle.state.specs.Test.{at, placeOf, isLit, channelRow, every, rows, isValue, isZero, isBelow, isPadded, isProcess, isChannel, isPair, ascends, areProcesses, arePairs, isState};
 
 pub struct Layout;
 
@@ -285,6 +285,28 @@ pub fn find_pair(s: &[i64], n: usize, row: &[i64]) -> usize
     low
 }
 
+// Whether the pair at the place that find_pair gave is the row itself.
+fn stands_at(s: &[i64], n: usize, place: usize, row: &[i64]) -> bool
+    requires { ⌜ (n * pairWidth ≤ length (now s)) × (length (now row) ≡ pairWidth) × (place ≡ placeOf (now row) (rows pairWidth n (now s))) ⌝ }
+    ensures { λ r. ⌜ r ≡ isLit (now (row .entry)) (rows pairWidth n (now (s .entry))) ⌝ }
+{
+    if n <= place {
+        return false;
+    }
+    let from = place * Layout::PAIR;
+    let to = from + Layout::PAIR;
+    !is_before(row, &s[from..to])
+}
+
+// Whether a row is one of n ascending pairs.
+pub fn is_lit(s: &[i64], n: usize, row: &[i64]) -> bool
+    requires { ⌜ (n * pairWidth ≤ length (now s)) × (length (now row) ≡ pairWidth) × (ascends (rows pairWidth n (now s)) ≡ true) ⌝ }
+    ensures { λ r. ⌜ r ≡ isLit (now (row .entry)) (rows pairWidth n (now (s .entry))) ⌝ }
+{
+    let place = find_pair(s, n, row);
+    stands_at(s, n, place, row)
+}
+
 // Where the pairs on one channel stand.
 pub struct Run {
     pub from: usize,
@@ -414,6 +436,45 @@ pub fn splice(state: &mut [i64], place: usize, fresh: &[i64], count: usize)
         count * Layout::PROCESS,
     );
     state[0] = (n - 1 + count) as i64;
+}
+
+// One more process, after the others.
+pub fn push_process(state: &mut [i64], sum: usize, locals: &[i64])
+    requires { ⌜ (length (now state) ≡ stateLength) × (isBelow (processLimit + 1) (at (now state) 0) ≡ true) × (natAbs (at (now state) 0) < processLimit) × (sum < 9223372036854775808) × (length (now locals) ≤ localLimit) ⌝ }
+    ensures { λ _. ⌜ now (state .exit) ≡ processAdded sum (now (locals .entry)) (now (state .entry)) ⌝ }
+{
+    let n = counted(&state[..], 0);
+    let from = Layout::PROCESSES + n * Layout::PROCESS;
+    let first = from + 1;
+    state[from] = sum as i64;
+    put(&mut state[first..], locals, locals.len());
+    state[0] = (n + 1) as i64;
+}
+
+// A pair is lit; one that is lit already stays as it is.
+pub fn launch_pair(state: &mut [i64], row: &[i64])
+    requires { ⌜ (Passed (now state)) × (length (now row) ≡ pairWidth) × ((isLit (now row) (pairRows (now state)) ≡ false) → pairCount (now state) < pairLimit) ⌝ }
+    ensures { λ _. ⌜ now (state .exit) ≡ pairLaunched (now (row .entry)) (now (state .entry)) ⌝ }
+{
+    let n = counted(&state[..], 1);
+    let place = find_pair(&state[Layout::PAIRS..], n, row);
+    if stands_at(&state[Layout::PAIRS..], n, place, row) {
+        return;
+    }
+    insert_pair(state, place, row);
+}
+
+// A pair is unlit, if it was lit.
+pub fn kill_pair(state: &mut [i64], row: &[i64])
+    requires { ⌜ (Passed (now state)) × (length (now row) ≡ pairWidth) ⌝ }
+    ensures { λ _. ⌜ now (state .exit) ≡ pairKilled (now (row .entry)) (now (state .entry)) ⌝ }
+{
+    let n = counted(&state[..], 1);
+    let place = find_pair(&state[Layout::PAIRS..], n, row);
+    if !stands_at(&state[Layout::PAIRS..], n, place, row) {
+        return;
+    }
+    remove_pair(state, place);
 }
 
 // ---- reading a state

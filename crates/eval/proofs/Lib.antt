@@ -11,3 +11,4 @@ pub mod Lists
 pub mod Arguments
 pub mod Ends
 pub mod Offers
+pub mod Continuations

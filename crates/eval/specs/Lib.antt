@@ -4,3 +4,4 @@ pub mod Answers
 pub mod Rates
 pub mod Lists
 pub mod Shown
+pub mod Next

@@ -1,4 +1,5 @@
 // Evaluation over settled nodes: a part is given by its root in the table, a process by its locals.
+pub mod next;
 pub mod offer;
 
 use tree::NodeKind;

@@ -16,7 +16,7 @@ use Rattle.tables.specs.Settled as Settled
 use Rattle.tables.specs.Settled.{Index, Called, Parts, entered, called-bare, called, grouped, items}
 use Rattle.tables.specs.Represents.{Sums}
 use Rattle.tables.proofs.Parts.{pair-above, pair-second}
-use Rattle.machine.specs.Good.{Every, GoodExpr, GoodPart, Callable}
+use Rattle.model.specs.Good.{Every, GoodExpr, GoodPart, Callable}
 use Rattle.machine.specs.Offer as machine
 use Rattle.machine.specs.Offer.{Process, allValues, argumentsGiven, partProcesses, nextProcesses}
 use Rattle.eval.specs.Held.{Held, Worth}

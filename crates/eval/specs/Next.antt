@@ -11,7 +11,7 @@ use Rattle.tree.specs.Node.{leftOf}
 use Rattle.model.specs.Resolved
 use Rattle.tables.specs.Settled as Settled
 use Rattle.tables.specs.Represents.{Definition}
-use Rattle.machine.specs.Good.{Every, GoodPart, GoodModel}
+use Rattle.model.specs.Good.{Every, GoodPart, GoodModel}
 use Rattle.eval.specs.declared.next.Next.{Next}
 use Rattle.eval.specs.declared.next.Next.the-variants.{At, Nothing}
 

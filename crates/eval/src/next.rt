@@ -10,7 +10,7 @@ ghost use Rattle.tree.specs.Node.{leftOf};
 ghost use Rattle.model.specs.Resolved as Resolved;
 ghost use Rattle.tables.specs.Settled as Settled;
 ghost use Rattle.tables.specs.Represents as Represents;
-ghost use Rattle.machine.specs.Good.{Every, GoodPart};
+ghost use Rattle.model.specs.Good.{Every, GoodPart};
 ghost use Rattle.machine.specs.Offer.{argumentsGiven, nextProcesses};
 ghost use Rattle.eval.specs.Held.{Held, Worth};
 ghost use Rattle.eval.specs.Next as Become;

@@ -9,6 +9,8 @@ use value::Range;
 // The length of a state's numbers, and a model with three sums and two channel names.
 struct Sample;
 
+type Numbers = [i64; 3586];
+
 impl Sample {
     const LENGTH: usize = 3586;
 
@@ -21,14 +23,14 @@ fn say(text: &[u8]) {
     io::write_all(STDOUT_FILENO, text);
 }
 
-fn is_good(state: &[i64; 3586]) -> bool
+fn is_good(state: &Numbers) -> bool
     ensures { λ r. ⌜ (r ≡ true → Passed (now (state .entry))) ⌝ }
 {
     let scopes = [2, 0, 8];
     state::is_state(state, &scopes, Sample::SUMS, Sample::CHANNELS)
 }
 
-fn test(label: &[u8], state: &[i64; 3586]) {
+fn test(label: &[u8], state: &Numbers) {
     say(label);
     if is_good(state) {
         say(b",yes\n");
@@ -37,7 +39,7 @@ fn test(label: &[u8], state: &[i64; 3586]) {
     say(b",no\n");
 }
 
-fn push(state: &mut [i64; 3586], sum: u8, locals: &[i64]) {
+fn push(state: &mut Numbers, sum: u8, locals: &[i64]) {
     if !is_good(state) {
         return;
     }
@@ -50,7 +52,7 @@ fn push(state: &mut [i64; 3586], sum: u8, locals: &[i64]) {
     state::push_process(state, sum as usize, locals);
 }
 
-fn launch(state: &mut [i64; 3586], row: &[i64; 5]) {
+fn launch(state: &mut Numbers, row: &[i64; 5]) {
     if !is_good(state) {
         return;
     }
@@ -60,7 +62,7 @@ fn launch(state: &mut [i64; 3586], row: &[i64; 5]) {
     state::launch_pair(state, row);
 }
 
-fn kill(state: &mut [i64; 3586], row: &[i64; 5]) {
+fn kill(state: &mut Numbers, row: &[i64; 5]) {
     if !is_good(state) {
         return;
     }
@@ -68,7 +70,7 @@ fn kill(state: &mut [i64; 3586], row: &[i64; 5]) {
 }
 
 // Two processes of sum 1 take the place of a process.
-fn split(state: &mut [i64; 3586], place: usize) {
+fn split(state: &mut Numbers, place: usize) {
     if !is_good(state) {
         return;
     }
@@ -84,7 +86,7 @@ fn split(state: &mut [i64; 3586], place: usize) {
 }
 
 // A process goes without a continuation.
-fn end(state: &mut [i64; 3586], place: usize) {
+fn end(state: &mut Numbers, place: usize) {
     if !is_good(state) {
         return;
     }
@@ -96,7 +98,7 @@ fn end(state: &mut [i64; 3586], place: usize) {
 }
 
 // Three processes and three pairs.
-fn fill(state: &mut [i64; 3586]) {
+fn fill(state: &mut Numbers) {
     push(state, 0, &[5, 7]);
     push(state, 2, &[1, 2, 3, 4, 5, 6, 7, 8]);
     push(state, 1, &[0; 0]);
@@ -105,9 +107,9 @@ fn fill(state: &mut [i64; 3586]) {
     launch(state, &[0, 4, 1, 1, 0]);
 }
 
-// The test of the sample with another number at a place.
+// The test of the sample with another number at a place: the first process stands at 2, the first pair at 2306.
 fn damaged(label: &[u8], at: usize, z: i64) {
-    let mut state = [0; 3586];
+    let mut state = [0; Sample::LENGTH];
     fill(&mut state);
     if at < Sample::LENGTH {
         state[at] = z;
@@ -117,13 +119,14 @@ fn damaged(label: &[u8], at: usize, z: i64) {
 
 // The test of the sample with another second pair.
 fn second_pair(label: &[u8], row: &[i64; 5]) {
-    let mut state = [0; 3586];
+    let mut state = [0; Sample::LENGTH];
     fill(&mut state);
-    state[2311] = row[0];
-    state[2312] = row[1];
-    state[2313] = row[2];
-    state[2314] = row[3];
-    state[2315] = row[4];
+    let at = Layout::PAIRS + Layout::PAIR;
+    state[at] = row[0];
+    state[at + 1] = row[1];
+    state[at + 2] = row[2];
+    state[at + 3] = row[3];
+    state[at + 4] = row[4];
     test(label, &state);
 }
 
@@ -218,7 +221,7 @@ fn say_numbers(s: &[i64], from: usize, to: usize) {
 }
 
 // Both counts, the first four processes and the first four pairs.
-fn show(label: &[u8], state: &[i64; 3586]) {
+fn show(label: &[u8], state: &Numbers) {
     test(label, state);
     say(b"counts");
     say_numbers(state, 0, Layout::PROCESSES);
@@ -230,7 +233,7 @@ fn show(label: &[u8], state: &[i64; 3586]) {
 }
 
 fn changes() {
-    let mut state = [0; 3586];
+    let mut state = [0; Sample::LENGTH];
     show(b"fresh", &state);
     fill(&mut state);
     show(b"filled", &state);

@@ -14,3 +14,4 @@ pub mod Offers
 pub mod Continuations
 pub mod Rows
 pub mod Puts
+pub mod Alike

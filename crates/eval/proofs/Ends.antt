@@ -98,11 +98,12 @@ module _ (t : List ℕ) (k kind : ℕ) (is : kind ≡ kindOf (getD t k 0)) where
     two-listed x y h v w (s ∷ r ∷ q ∷ ss) a = absurd a
 
 -- ---- a set that two numbers show
-module _ (t : List ℕ) (ls : List ℤ) (a b : ℤ) where
-  -- no value is the mark
-  mark-beyond : {A : Type 0} → InRange joinedMark → A
-  mark-beyond h = false-not-true (h .high)
 
+-- no value is the mark
+pub beyond-mark : {A : Type 0} {y : ℤ} → y ≡ joinedMark → InRange y → A
+beyond-mark e h = let g : InRange joinedMark = subst InRange e h in false-not-true (g .high)
+
+module _ (t : List ℕ) (ls : List ℤ) (a b : ℤ) where
   -- it is given by its root
   pub record Root (x : offers.Set) : Type 0 where
     pub root : ℕ
@@ -110,7 +111,7 @@ module _ (t : List ℕ) (ls : List ℤ) (a b : ℤ) where
     pub at : Rooted t ls x root
 
   pub marked : {x : offers.Set} → b ≡ joinedMark → ShowsSet t ls a b x → Root x
-  marked e (ranged p q h) = let f : _ = sym q ∙ e in mark-beyond (rw f at h)
+  marked e (ranged p q h) = beyond-mark (sym q ∙ e) h
   marked e (rooted {i = i} p q r) = record { root = i; is = p; at = r }
 
   pub unmarked : {x : offers.Set} (v : ℤ) (r : Bool) → (b ≡ joinedMark → ⊥) → r ≡ offers.within (offers.range a b) v → ShowsSet t ls a b x → r ≡ offers.within x v

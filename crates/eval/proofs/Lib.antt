@@ -12,3 +12,6 @@ pub mod Arguments
 pub mod Ends
 pub mod Offers
 pub mod Continuations
+pub mod Rows
+pub mod Puts
+pub mod Alike

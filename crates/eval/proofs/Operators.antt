@@ -22,6 +22,10 @@ op-of-kind divide = refl
 op-of-kind maximum = refl
 op-of-kind minimum = refl
 
+-- two operators of one kind are the same
+pub op-once : (o p : Op) → opKind o ≡ opKind p → o ≡ p
+op-once o p e = sym (op-of-kind o) ∙ (ap opOf e ∙ op-of-kind p)
+
 pub op-range : (o : Op) → (5 ≤ opKind o) × (opKind o ≤ 10)
 unfolding opKind
 op-range plus = omega arith

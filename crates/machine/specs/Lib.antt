@@ -5,3 +5,4 @@ pub mod Machine
 pub mod Questions
 pub mod Specimens
 pub mod Refusals
+pub mod Starred

@@ -265,7 +265,7 @@ channels =
 
 -- ---- the bench sheet
 
-abbrev sheet : List ℕ
+abbrev pub sheet : List ℕ
 sheet = 103 ∷ 32 ∷ 61 ∷ 32 ∷ 48 ∷ 46 ∷ 50 ∷ 53 ∷ 59 ∷ 10 ∷ 76 ∷ 97 ∷ 109 ∷ 112 ∷ 91 ∷ 110 ∷ 93 ∷ 32 ∷ 61 ∷ 32 ∷ 123 ∷ 64 ∷ 112 ∷ 97 ∷ 115 ∷ 115 ∷ 33 ∷ 91 ∷ 110 ∷ 93 ∷ 44 ∷ 50 ∷ 125 ∷ 46 ∷ 76 ∷ 97 ∷ 109 ∷ 112 ∷ 91 ∷ 110 ∷ 43 ∷ 49 ∷ 93 ∷ 32 ∷ 43 ∷ 32 ∷ 91 ∷ 110 ∷ 60 ∷ 51 ∷ 93 ∷ 32 ∷ 45 ∷ 62 ∷ 32 ∷ 123 ∷ 103 ∷ 111 ∷ 44 ∷ 103 ∷ 42 ∷ 110 ∷ 125 ∷ 46 ∷ 76 ∷ 97 ∷ 109 ∷ 112 ∷ 91 ∷ 110 ∷ 43 ∷ 49 ∷ 93 ∷ 59 ∷ 10 ∷ 80 ∷ 111 ∷ 115 ∷ 116 ∷ 91 ∷ 97 ∷ 93 ∷ 32 ∷ 61 ∷ 32 ∷ 123 ∷ 64 ∷ 112 ∷ 97 ∷ 115 ∷ 115 ∷ 63 ∷ 91 ∷ 97 ∷ 46 ∷ 46 ∷ 97 ∷ 43 ∷ 49 ∷ 93 ∷ 40 ∷ 118 ∷ 41 ∷ 44 ∷ 49 ∷ 46 ∷ 53 ∷ 125 ∷ 46 ∷ 80 ∷ 111 ∷ 115 ∷ 116 ∷ 91 ∷ 118 ∷ 93 ∷ 59 ∷ 10 ∷ 76 ∷ 97 ∷ 109 ∷ 112 ∷ 91 ∷ 49 ∷ 93 ∷ 32 ∷ 124 ∷ 124 ∷ 32 ∷ 76 ∷ 97 ∷ 109 ∷ 112 ∷ 91 ∷ 52 ∷ 93 ∷ 32 ∷ 124 ∷ 124 ∷ 32 ∷ 80 ∷ 111 ∷ 115 ∷ 116 ∷ 91 ∷ 49 ∷ 93 ∷ 59 ∷ 10 ∷ []
 
 -- {@pass![n],2}.Lamp[n+1]
@@ -285,7 +285,7 @@ accept =
 abbrev item : derived.Start
 item = derived.once (derived.starts (derived.lastWhole derived.whole))
 
-abbrev sheetTree : derived.Model
+abbrev pub sheetTree : derived.Model
 sheetTree =
     derived.variable derived.decimal
     (derived.definitions
@@ -297,7 +297,7 @@ sheetTree =
 abbrev increased : Resolved.Expr
 increased = Resolved.binary plus (Resolved.localAt 0) (Resolved.constant (pos 1))
 
-abbrev sheetModel : Resolved.Model
+abbrev pub sheetModel : Resolved.Model
 sheetModel =
     record {
       sums =

@@ -19,3 +19,4 @@ pub mod Full
 pub mod Called
 pub mod Sheet
 pub mod Starred
+pub mod Carries

@@ -6,3 +6,4 @@ pub mod Questions
 pub mod Specimens
 pub mod Refusals
 pub mod Starred
+pub mod Results

@@ -11,78 +11,89 @@ use Rattle.model.specs.Opening.{Opening, opening}
 use Rattle.model.specs.Questions.{Answers, no2, no3, no4, no5, no6, no7, no8, no9, no10, yesToAll}
 use Rattle.model.proofs.Answered.{answered}
 use Rattle.rules.specs.Listing.{Entry}
+use Rattle.rules.proofs.Decides.{Decides, holds, fails, passes, both, equal}
 use Rattle.machine.specs.State.{State, stateLength}
 use Rattle.machine.specs.Machine.{modelLength, listingLength, asLent, Answer, no, listedAs, Listed, entriesAre, refusedWith, listing, Turn, drawn, Machine, closed, holding}
 use Rattle.machine.specs.Machine.{Call, open′, list′, step′, lent, turn, opens, showing, lists, stepped, choosing, stepsOn, calls}
 use Rattle.machine.specs.Questions.{Lists, no12, no13, no14, yes14, Steps, no15, no16, no17, no18, no19, yes19}
 use Rattle.machine.specs.Results as results
-use Rattle.machine.specs.Results.{Runs, Carries, under1, under2-10, under11, under12, under13, under14, under15-19}
+use Rattle.machine.specs.Results.{Runs, Lent, Carries, under1, under2-10, under11, under12, under13, under14, under15-19}
 use Rattle.machine.proofs.Listing.{asked, accepted}
 use Rattle.machine.proofs.Stepping as stepping
 
--- what a turn from the machine x by the call c carries, and when it leaves x
+-- what a turn from the machine x by the call c carries, when it leaves x, and what 1 and 11 say of it
 record Kept (x : Machine) (c : Call) (t : Turn Machine) : Type 0 where
   carries : Carries c (t .answer)
   stays : Runs c → (t .answer .number ≡ 0 → ⊥) → t .machine ≡ x
+  one : t .answer .number ≡ 1 → Lent c → ⊥
+  eleven : t .answer .number ≡ 11 → x ≡ closed
+
+-- ---- question 1
+lent-so : (ml sl : ℕ) → Decides ((ml ≡ modelLength) × (sl ≡ stateLength)) (lent ml sl)
+unfolding lent
+lent-so ml sl = both (equal ml modelLength) (equal sl stateLength)
+
+all-lent : (ml sl ll : ℕ) → Decides (((ml ≡ modelLength) × (sl ≡ stateLength)) × (ll ≡ listingLength)) (lent ml sl && eqb ll listingLength)
+all-lent ml sl ll = both (lent-so ml sl) (equal ll listingLength)
 
 -- 1, or what comes after it
-either : {x : Machine} {c : Call} (b : Bool) {t : Turn Machine} → Kept x c t → Kept x c (cond b t (turn x (no 1 0 0 asLent)))
-unfolding turn
-either true k = k
-either false k = record { carries = under1; stays = λ r n. refl }
+either : {x : Machine} {c : Call} {b : Bool} {t : Turn Machine} → Decides (Lent c) b → Kept x c t → Kept x c (cond b t (turn x (no 1 0 0 asLent)))
+unfolding turn no
+either (holds l) k = k
+either (fails n) k = record { carries = under1; stays = λ r q. refl; one = λ e. n; eleven = λ e. absurd (omega arith) }
 
 -- ---- opening
-opening-carries : (text : List ℕ) (ml sl : ℕ) {o : Opening} → Answers text o → Carries (open′ text ml sl) (opens o .answer)
-unfolding opens turn
-opening-carries text ml sl (no2 l) = under2-10 2 _ (omega arith) (omega arith)
-opening-carries text ml sl (no3 y f) = under2-10 3 _ (omega arith) (omega arith)
-opening-carries text ml sl (no4 y z f) = under2-10 4 _ (omega arith) (omega arith)
-opening-carries text ml sl (no5 y z u f) = under2-10 5 _ (omega arith) (omega arith)
-opening-carries text ml sl (no6 y z u v l) = under2-10 6 _ (omega arith) (omega arith)
-opening-carries text ml sl (no7 y z u v w f) = under2-10 7 _ (omega arith) (omega arith)
-opening-carries text ml sl (no8 y z u v w a f) = under2-10 8 _ (omega arith) (omega arith)
-opening-carries text ml sl (no9 y z u v w a b f) = under2-10 9 _ (omega arith) (omega arith)
-opening-carries text ml sl (no10 y z u v w a b c l) = under2-10 10 _ (omega arith) (omega arith)
-opening-carries text ml sl (yesToAll y z u v w a b c d) = results.opens
+opening-kept : (x : Machine) (text : List ℕ) (ml sl : ℕ) {o : Opening} → Answers text o → Kept x (open′ text ml sl) (opens o)
+unfolding opens turn no Runs
+opening-kept x text ml sl (no2 l) = record { carries = under2-10 2 _ (omega arith) (omega arith); stays = λ r n. absurd r; one = λ e. absurd (omega arith); eleven = λ e. absurd (omega arith) }
+opening-kept x text ml sl (no3 y f) = record { carries = under2-10 3 _ (omega arith) (omega arith); stays = λ r n. absurd r; one = λ e. absurd (omega arith); eleven = λ e. absurd (omega arith) }
+opening-kept x text ml sl (no4 y z f) = record { carries = under2-10 4 _ (omega arith) (omega arith); stays = λ r n. absurd r; one = λ e. absurd (omega arith); eleven = λ e. absurd (omega arith) }
+opening-kept x text ml sl (no5 y z u f) = record { carries = under2-10 5 _ (omega arith) (omega arith); stays = λ r n. absurd r; one = λ e. absurd (omega arith); eleven = λ e. absurd (omega arith) }
+opening-kept x text ml sl (no6 y z u v l) = record { carries = under2-10 6 _ (omega arith) (omega arith); stays = λ r n. absurd r; one = λ e. absurd (omega arith); eleven = λ e. absurd (omega arith) }
+opening-kept x text ml sl (no7 y z u v w f) = record { carries = under2-10 7 _ (omega arith) (omega arith); stays = λ r n. absurd r; one = λ e. absurd (omega arith); eleven = λ e. absurd (omega arith) }
+opening-kept x text ml sl (no8 y z u v w a f) = record { carries = under2-10 8 _ (omega arith) (omega arith); stays = λ r n. absurd r; one = λ e. absurd (omega arith); eleven = λ e. absurd (omega arith) }
+opening-kept x text ml sl (no9 y z u v w a b f) = record { carries = under2-10 9 _ (omega arith) (omega arith); stays = λ r n. absurd r; one = λ e. absurd (omega arith); eleven = λ e. absurd (omega arith) }
+opening-kept x text ml sl (no10 y z u v w a b c l) = record { carries = under2-10 10 _ (omega arith) (omega arith); stays = λ r n. absurd r; one = λ e. absurd (omega arith); eleven = λ e. absurd (omega arith) }
+opening-kept x text ml sl (yesToAll y z u v w a b c d) = record { carries = results.opens; stays = λ r n. absurd r; one = λ e. absurd (omega arith); eleven = λ e. absurd (omega arith) }
 
 -- ---- list
 list-kept : (x : Machine) (ml sl ll : ℕ) → Kept x (list′ ml sl ll) (lists x)
-unfolding lists showing turn Runs
-list-kept closed ml sl ll = record { carries = under11 tt; stays = λ r n. refl }
+unfolding lists showing turn no listedAs Runs
+list-kept closed ml sl ll = record { carries = under11 tt; stays = λ r n. refl; one = λ e. absurd (omega arith); eleven = λ e. refl }
 list-kept (holding m s) ml sl ll = go (asked m s (listing m s) .0 refl)
   where
     go : {l : Listed} → Lists m s l → Kept (holding m s) (list′ ml sl ll) (showing m s l)
-    go (no12 f) = record { carries = under12 _ _ tt; stays = λ r n. refl }
-    go (no13 e h l) = record { carries = under13 tt; stays = λ r n. refl }
-    go (no14 e h l f) = record { carries = under14 tt; stays = λ r n. refl }
-    go (yes14 e h l f) = record { carries = results.lists _; stays = λ r n. refl }
+    go (no12 f) = record { carries = under12 _ _ tt; stays = λ r n. refl; one = λ e. absurd (omega arith); eleven = λ e. absurd (omega arith) }
+    go (no13 e h l) = record { carries = under13 tt; stays = λ r n. refl; one = λ e. absurd (omega arith); eleven = λ e. absurd (omega arith) }
+    go (no14 e h l f) = record { carries = under14 tt; stays = λ r n. refl; one = λ e. absurd (omega arith); eleven = λ e. absurd (omega arith) }
+    go (yes14 e h l f) = record { carries = results.lists _; stays = λ r n. refl; one = λ e. absurd (omega arith); eleven = λ e. absurd (omega arith) }
 
 -- ---- step
 step-kept : (x : Machine) (ml sl ll d : ℕ) → Kept x (step′ ml sl ll d) (stepsOn x d)
-unfolding stepsOn choosing stepped turn listedAs Runs
-step-kept closed ml sl ll d = record { carries = under11 tt; stays = λ r n. refl }
-step-kept (holding m s) ml sl ll d = go (asked m s (listing m s) .0 refl) refl
+unfolding stepsOn choosing stepped turn no listedAs Runs
+step-kept closed ml sl ll d = record { carries = under11 tt; stays = λ r n. refl; one = λ e. absurd (omega arith); eleven = λ e. refl }
+step-kept (holding m s) ml sl ll d = go (asked m s (listing m s) .0 refl)
   where
     taken : {es : List Entry} {t : Turn State} → Steps m s es d t → Kept (holding m s) (step′ ml sl ll d) (stepped m t)
-    taken (no15 e) = record { carries = under15-19 15 _ (omega arith) (omega arith); stays = λ r n. refl }
-    taken (no16 l g) = record { carries = under15-19 16 _ (omega arith) (omega arith); stays = λ r n. refl }
-    taken (no17 o g) = record { carries = under15-19 17 _ (omega arith) (omega arith); stays = λ r n. refl }
-    taken (no18 r l) = record { carries = under15-19 18 _ (omega arith) (omega arith); stays = λ r n. refl }
-    taken (no19 r l f) = record { carries = under15-19 19 _ (omega arith) (omega arith); stays = λ r n. refl }
-    taken (yes19 r l f) = record { carries = results.steps _ _; stays = λ r n. absurd (n refl) }
+    taken (no15 e) = record { carries = under15-19 15 _ (omega arith) (omega arith); stays = λ r n. refl; one = λ e. absurd (omega arith); eleven = λ e. absurd (omega arith) }
+    taken (no16 l g) = record { carries = under15-19 16 _ (omega arith) (omega arith); stays = λ r n. refl; one = λ e. absurd (omega arith); eleven = λ e. absurd (omega arith) }
+    taken (no17 o g) = record { carries = under15-19 17 _ (omega arith) (omega arith); stays = λ r n. refl; one = λ e. absurd (omega arith); eleven = λ e. absurd (omega arith) }
+    taken (no18 r l) = record { carries = under15-19 18 _ (omega arith) (omega arith); stays = λ r n. refl; one = λ e. absurd (omega arith); eleven = λ e. absurd (omega arith) }
+    taken (no19 r l f) = record { carries = under15-19 19 _ (omega arith) (omega arith); stays = λ r n. refl; one = λ e. absurd (omega arith); eleven = λ e. absurd (omega arith) }
+    taken (yes19 r l f) = record { carries = results.steps _ _; stays = λ r n. absurd (n refl); one = λ e. absurd (omega arith); eleven = λ e. absurd (omega arith) }
 
-    go : {l : Listed} → Lists m s l → listing m s ≡ l → Kept (holding m s) (step′ ml sl ll d) (choosing m s d l)
-    go (no12 f) q = record { carries = under12 _ _ tt; stays = λ r n. refl }
-    go (no13 e h l) q = record { carries = under13 tt; stays = λ r n. refl }
-    go (no14 e h l f) q = record { carries = under14 tt; stays = λ r n. refl }
-    go (yes14 {es = es} e h l f) q = taken (stepping.asked m s es h d (drawn m s es d) .0 refl)
+    go : {l : Listed} → Lists m s l → Kept (holding m s) (step′ ml sl ll d) (choosing m s d l)
+    go (no12 f) = record { carries = under12 _ _ tt; stays = λ r n. refl; one = λ e. absurd (omega arith); eleven = λ e. absurd (omega arith) }
+    go (no13 e h l) = record { carries = under13 tt; stays = λ r n. refl; one = λ e. absurd (omega arith); eleven = λ e. absurd (omega arith) }
+    go (no14 e h l f) = record { carries = under14 tt; stays = λ r n. refl; one = λ e. absurd (omega arith); eleven = λ e. absurd (omega arith) }
+    go (yes14 {es = es} e h l f) = taken (stepping.asked m s es h d (drawn m s es d) .0 refl)
 
 -- ---- every call
 kept : (x : Machine) (c : Call) → Kept x c (calls x c)
-unfolding calls Runs
-kept x (open′ text ml sl) = either (lent ml sl) (record { carries = opening-carries text ml sl (answered text); stays = λ r n. absurd r })
-kept x (list′ ml sl ll) = either (lent ml sl && eqb ll listingLength) (list-kept x ml sl ll)
-kept x (step′ ml sl ll d) = either (lent ml sl && eqb ll listingLength) (step-kept x ml sl ll d)
+unfolding calls Lent
+kept x (open′ text ml sl) = either (lent-so ml sl) (opening-kept x text ml sl (answered text))
+kept x (list′ ml sl ll) = either (all-lent ml sl ll) (list-kept x ml sl ll)
+kept x (step′ ml sl ll d) = either (all-lent ml sl ll) (step-kept x ml sl ll d)
 
 -- 01, Opening a text, Listing and stepping: what an answer carries
 pub carries : (x : Machine) (c : Call) → Carries c (calls x c .answer)
@@ -91,6 +102,30 @@ carries x c = kept x c .carries
 -- 01, Listing and stepping: no refusal alters the state
 pub refusal-stays : (x : Machine) (c : Call) → Runs c → (calls x c .answer .number ≡ 0 → ⊥) → calls x c .machine ≡ x
 refusal-stays x c r n = kept x c .stays r n
+
+-- 01, 1: exactly where a buffer that is lent lacks its length; nothing is changed
+pub unlent : (x : Machine) (c : Call) → (calls x c .answer .number ≡ 1) ↔ (Lent c → ⊥)
+unfolding calls turn no Lent
+unlent x c = (kept x c .one, back c)
+  where
+    cut : {P : Type 0} {b : Bool} (t : Turn Machine) → Decides P b → (P → ⊥) → cond b t (turn x (no 1 0 0 asLent)) .answer .number ≡ 1
+    cut t (holds l) n = absurd (n l)
+    cut t (fails l) n = refl
+
+    back : (c : Call) → (Lent c → ⊥) → calls x c .answer .number ≡ 1
+    back (open′ text ml sl) n = cut (opens (opening text)) (lent-so ml sl) n
+    back (list′ ml sl ll) n = cut (lists x) (all-lent ml sl ll) n
+    back (step′ ml sl ll d) n = cut (stepsOn x d) (all-lent ml sl ll) n
+
+-- 01, 11: a no exactly where the machine is closed
+pub eleven : (x : Machine) (c : Call) → Runs c → Lent c → (calls x c .answer .number ≡ 11) ↔ (x ≡ closed)
+unfolding calls lists stepsOn turn no Lent Runs
+eleven x c r l = (kept x c .eleven, λ e. rw e (back c r l))
+  where
+    back : (c : Call) → Runs c → Lent c → calls closed c .answer .number ≡ 11
+    back (open′ text ml sl) r l = absurd r
+    back (list′ ml sl ll) r l = rw (passes (all-lent ml sl ll) l)
+    back (step′ ml sl ll d) r l = rw (passes (all-lent ml sl ll) l)
 
 -- 01, Rule machine: a list call moves nothing
 pub list-stays : (x : Machine) (ml sl ll : ℕ) → calls x (list′ ml sl ll) .machine ≡ x

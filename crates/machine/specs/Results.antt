@@ -1,15 +1,23 @@
 -- What a call's answer carries, whatever it was asked of (01, Opening a text; Listing and stepping, last paragraph): a constructor for each number. Assumes
 -- nothing: these are definitions.
+use mathlib.Core.Path.{_≡_}
 use mathlib.Core.List.{List}
 use Prim.Native.Nat.{ℕ, _≤_}
 use Rattle.rules.specs.Listing.{Entry}
-use Rattle.machine.specs.Machine.{asLent, zeroed, Answer, no, listedAs, Call, open′, list′, step′}
+use Rattle.machine.specs.State.{stateLength}
+use Rattle.machine.specs.Machine.{modelLength, listingLength, asLent, zeroed, Answer, no, listedAs, Call, open′, list′, step′}
 
 -- a list call or a step
 unfoldable pub Runs : Call → Type 0
 Runs (open′ text ml sl) = ⊥
 Runs (list′ ml sl ll) = Unit {0}
 Runs (step′ ml sl ll d) = Unit {0}
+
+-- 01, 1: what is lent has its length
+unfoldable pub Lent : Call → Type 0
+Lent (open′ text ml sl) = (ml ≡ modelLength) × (sl ≡ stateLength)
+Lent (list′ ml sl ll) = ((ml ≡ modelLength) × (sl ≡ stateLength)) × (ll ≡ listingLength)
+Lent (step′ ml sl ll d) = ((ml ≡ modelLength) × (sl ≡ stateLength)) × (ll ≡ listingLength)
 
 -- 01: only 12 carries two places, an opening's refusal a byte's; 15 to 19 and acceptance carry entry count and total; a refusal has 0 as chosen entry
 pub data Carries : Call → Answer → Type 0 where

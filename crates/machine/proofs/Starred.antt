@@ -7,10 +7,9 @@ use Rattle.token.specs.declared.Judged.the-variants.{Passed}
 use Rattle.value.specs.Range.{valueOf}
 use Rattle.value.specs.Arithmetic.{sumOf, cutQuotient, quotientOf}
 use Rattle.grammar.specs.Grammar as derived
-use Rattle.grammar.specs.Machine.{bad}
-use Rattle.model.specs.Opening.{Opening, refused, opening}
-use Rattle.model.proofs.Examples.{sheetTree}
-use Rattle.model.proofs.Computes.{judgedBytes, kindsIn, written, ran, judgedTree, placed, opens-so, stops-so}
+use Rattle.model.specs.Opening.{Opening, refused, opened, opening}
+use Rattle.model.proofs.Examples.{missing-bracket, sheetModel, sheet-opens}
+use Rattle.model.proofs.Computes.{judgedBytes, kindsIn, written, judgedTree, opens-so}
 use Rattle.rules.specs.Offers as offers
 use Rattle.rules.specs.Listing as lists
 use Rattle.rules.specs.Order as order
@@ -46,15 +45,14 @@ unfolding answers machine.calls machine.lent answering
 opened-to text o cs e = ap (λ (p : Opening). opens p .answer ∷ answers (opens p .machine) cs) e
 
 module _ (r : Row) where
+  -- a row whose text opens to o
+  opening-to : (o : Opening) → opening (r .text) ≡ o → answering o (r .calls) ≡ r .expected → Holds r
+  unfolding Holds
+  opening-to o e a = opened-to (r .text) o (r .calls) e ∙ a
+
   -- a row whose text has a derivation
   fitting : (d : derived.Model) → judgedBytes (r .text) ≡ Passed → written d ≡ kindsIn (r .text) → answering (judgedTree (r .text) d) (r .calls) ≡ r .expected → Holds r
-  unfolding Holds
-  fitting d b w a = opened-to (r .text) (judgedTree (r .text) d) (r .calls) (opens-so (r .text) d (judgedTree (r .text) d) b w refl) ∙ a
-
-  -- a row whose text is refused under 5
-  stopping : (k p : ℕ) → judgedBytes (r .text) ≡ Passed → ran (kindsIn (r .text)) ≡ bad k → placed (r .text) k ≡ p → answering (refused 5 p) (r .calls) ≡ r .expected → Holds r
-  unfolding Holds
-  stopping k p b w e a = opened-to (r .text) (refused 5 p) (r .calls) (stops-so (r .text) k p b w e) ∙ a
+  fitting d b w a = opening-to (judgedTree (r .text) d) (opens-so (r .text) d (judgedTree (r .text) d) b w refl) a
 
 -- ---- derivations
 
@@ -128,10 +126,10 @@ heard =
 
 -- 01, Specimens: every row
 pub holds : (s : Specimen) → Holds (row s)
-unfolding row judgedBytes kindsIn written ran judgedTree placed answering
-holds sheet = fitting _ sheetTree refl refl refl
-holds rowOne = fitting _ sheetTree refl refl refl
-holds rowTwo = fitting _ sheetTree refl refl refl
+unfolding row judgedBytes kindsIn written judgedTree answering
+holds sheet = opening-to _ (opened sheetModel) sheet-opens refl
+holds rowOne = opening-to _ (opened sheetModel) sheet-opens refl
+holds rowTwo = opening-to _ (opened sheetModel) sheet-opens refl
 holds minusByTwo = fitting _ (launchThen (quotient derived.negative derived.whole) (receives (single minusThree))) refl refl refl
 holds byMinusTwo = fitting _ (launchThen (quotient derived.whole derived.negative) (receives (single minusThree))) refl refl refl
 holds beyond = fitting _ (alone (prefix (derived.launch aName (derived.oneValue (quotient derived.negative derived.negative))) derived.stop)) refl refl refl
@@ -141,4 +139,4 @@ holds unbound = fitting _ (launchThen aWhole (launchesThen (receives oneToTwo)))
 holds twoBound = fitting _ (launchThen aWhole (launchesThen (prefix (derived.bind aName (sets oneToTwo) derived.lastName) derived.stop))) refl refl refl
 holds enabled = fitting _ (alone (prefix (derived.check aName (sets (single aWhole))) derived.stop)) refl refl refl
 holds noHandshake = fitting _ both refl refl refl
-holds bracket = stopping _ 14 15 refl refl refl refl
+holds bracket = opening-to _ (refused 5 15) missing-bracket refl

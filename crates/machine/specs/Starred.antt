@@ -3,6 +3,7 @@
 use mathlib.Core.Path.{_≡_}
 use mathlib.Core.List.{List, [], _∷_}
 use Prim.Native.Nat.{ℕ}
+use Rattle.model.specs.Texts as texts
 use Rattle.rules.specs.Kind as kind
 use Rattle.rules.specs.Rules.{key}
 use Rattle.rules.specs.Listing.{Entry, entry}
@@ -35,11 +36,7 @@ pub record Row : Type 0 where
 unfoldable pub Holds : Row → Type 0
 Holds r = answers closed (open′ (r .text) modelLength stateLength ∷ r .calls) ≡ r .expected
 
--- ---- the texts
-
--- the bench sheet of 01
-abbrev pub sheetText : List ℕ
-sheetText = 103 ∷ 32 ∷ 61 ∷ 32 ∷ 48 ∷ 46 ∷ 50 ∷ 53 ∷ 59 ∷ 10 ∷ 76 ∷ 97 ∷ 109 ∷ 112 ∷ 91 ∷ 110 ∷ 93 ∷ 32 ∷ 61 ∷ 32 ∷ 123 ∷ 64 ∷ 112 ∷ 97 ∷ 115 ∷ 115 ∷ 33 ∷ 91 ∷ 110 ∷ 93 ∷ 44 ∷ 50 ∷ 125 ∷ 46 ∷ 76 ∷ 97 ∷ 109 ∷ 112 ∷ 91 ∷ 110 ∷ 43 ∷ 49 ∷ 93 ∷ 32 ∷ 43 ∷ 32 ∷ 91 ∷ 110 ∷ 60 ∷ 51 ∷ 93 ∷ 32 ∷ 45 ∷ 62 ∷ 32 ∷ 123 ∷ 103 ∷ 111 ∷ 44 ∷ 103 ∷ 42 ∷ 110 ∷ 125 ∷ 46 ∷ 76 ∷ 97 ∷ 109 ∷ 112 ∷ 91 ∷ 110 ∷ 43 ∷ 49 ∷ 93 ∷ 59 ∷ 10 ∷ 80 ∷ 111 ∷ 115 ∷ 116 ∷ 91 ∷ 97 ∷ 93 ∷ 32 ∷ 61 ∷ 32 ∷ 123 ∷ 64 ∷ 112 ∷ 97 ∷ 115 ∷ 115 ∷ 63 ∷ 91 ∷ 97 ∷ 46 ∷ 46 ∷ 97 ∷ 43 ∷ 49 ∷ 93 ∷ 40 ∷ 118 ∷ 41 ∷ 44 ∷ 49 ∷ 46 ∷ 53 ∷ 125 ∷ 46 ∷ 80 ∷ 111 ∷ 115 ∷ 116 ∷ 91 ∷ 118 ∷ 93 ∷ 59 ∷ 10 ∷ 76 ∷ 97 ∷ 109 ∷ 112 ∷ 91 ∷ 49 ∷ 93 ∷ 32 ∷ 124 ∷ 124 ∷ 32 ∷ 76 ∷ 97 ∷ 109 ∷ 112 ∷ 91 ∷ 52 ∷ 93 ∷ 32 ∷ 124 ∷ 124 ∷ 32 ∷ 80 ∷ 111 ∷ 115 ∷ 116 ∷ 91 ∷ 49 ∷ 93 ∷ 59 ∷ 10 ∷ []
+-- ---- the texts, but for the two that 01 has in full (crate model, Texts)
 
 -- A[]={c![-7/2],1}.{c?[-3],1};A[];
 abbrev pub minusByTwoText : List ℕ
@@ -77,16 +74,13 @@ checkText = 65 ∷ 91 ∷ 93 ∷ 61 ∷ 123 ∷ 126 ∷ 99 ∷ 63 ∷ 91 ∷ 49 
 abbrev pub bothText : List ℕ
 bothText = 65 ∷ 91 ∷ 93 ∷ 61 ∷ 123 ∷ 64 ∷ 99 ∷ 33 ∷ 91 ∷ 49 ∷ 93 ∷ 44 ∷ 49 ∷ 125 ∷ 43 ∷ 123 ∷ 64 ∷ 99 ∷ 63 ∷ 91 ∷ 49 ∷ 93 ∷ 44 ∷ 49 ∷ 125 ∷ 59 ∷ 65 ∷ 91 ∷ 93 ∷ 59 ∷ []
 
--- A[]={go,1}.(B[];B[]={go,1};A[];
-abbrev pub bracketText : List ℕ
-bracketText = 65 ∷ 91 ∷ 93 ∷ 61 ∷ 123 ∷ 103 ∷ 111 ∷ 44 ∷ 49 ∷ 125 ∷ 46 ∷ 40 ∷ 66 ∷ 91 ∷ 93 ∷ 59 ∷ 66 ∷ 91 ∷ 93 ∷ 61 ∷ 123 ∷ 103 ∷ 111 ∷ 44 ∷ 49 ∷ 125 ∷ 59 ∷ 65 ∷ 91 ∷ 93 ∷ 59 ∷ []
-
 -- ---- calls and answers
 
--- a list call, and a step with this draw, lent what they ask for
+-- a list call that is lent what it asks for
 abbrev pub lists : Call
 lists = list′ modelLength stateLength listingLength
 
+-- a step with this draw
 abbrev pub steps : ℕ → Call
 steps d = step′ modelLength stateLength listingLength d
 
@@ -114,9 +108,9 @@ sheetRows = entry (key kind.handshake 0 0 2 0 0) 300000000 ∷ entry (key kind.w
 
 -- 01, Specimens: what each one says
 unfoldable pub row : Specimen → Row
-row sheet = record { text = sheetText; calls = lists ∷ []; expected = isOpen ∷ listed 2 325000000 0 sheetRows ∷ [] }
-row rowOne = record { text = sheetText; calls = steps 299999999 ∷ []; expected = isOpen ∷ listed 2 325000000 0 sheetRows ∷ [] }
-row rowTwo = record { text = sheetText; calls = steps 300000000 ∷ []; expected = isOpen ∷ listed 2 325000000 1 sheetRows ∷ [] }
+row sheet = record { text = texts.sheet; calls = lists ∷ []; expected = isOpen ∷ listed 2 325000000 0 sheetRows ∷ [] }
+row rowOne = record { text = texts.sheet; calls = steps 299999999 ∷ []; expected = isOpen ∷ listed 2 325000000 0 sheetRows ∷ [] }
+row rowTwo = record { text = texts.sheet; calls = steps 300000000 ∷ []; expected = isOpen ∷ listed 2 325000000 1 sheetRows ∷ [] }
 -- the quotient is launched, and −3 is received
 row minusByTwo = record { text = minusByTwoText; calls = steps 0 ∷ lists ∷ []; expected = isOpen ∷ only kind.launch ∷ only kind.receive ∷ [] }
 row byMinusTwo = record { text = byMinusTwoText; calls = steps 0 ∷ lists ∷ []; expected = isOpen ∷ only kind.launch ∷ only kind.receive ∷ [] }
@@ -130,4 +124,4 @@ row unbound = record { text = unboundText; calls = steps 0 ∷ steps 0 ∷ lists
 row twoBound = record { text = boundText; calls = steps 0 ∷ steps 0 ∷ lists ∷ []; expected = isOpen ∷ only kind.launch ∷ only kind.launch ∷ listed 2 200000000 0 (one kind.bind ∷ entry (key kind.bind 0 0 0 0 1) 100000000 ∷ []) ∷ [] }
 row enabled = record { text = checkText; calls = lists ∷ []; expected = isOpen ∷ only kind.check ∷ [] }
 row noHandshake = record { text = bothText; calls = lists ∷ []; expected = isOpen ∷ listed 0 0 0 [] ∷ [] }
-row bracket = record { text = bracketText; calls = []; expected = no 5 15 0 asLent ∷ [] }
+row bracket = record { text = texts.bracket; calls = []; expected = no 5 15 0 asLent ∷ [] }

@@ -10,3 +10,4 @@ pub mod Good
 pub mod Stands
 pub mod Faults
 pub mod Questions
+pub mod Texts

@@ -5,3 +5,5 @@ pub mod Machine
 pub mod Questions
 pub mod Specimens
 pub mod Refusals
+pub mod Starred
+pub mod Results

@@ -31,16 +31,19 @@ GoodExpr n (localAt i) = i < n
 GoodExpr n (absolute e) = GoodExpr n e
 GoodExpr n (binary o e f) = GoodExpr n e × GoodExpr n f
 
+-- 01, Set: every end and member
 unfoldable pub GoodSet : ℕ → Set → Type 0
 GoodSet n (single e) = GoodExpr n e
 GoodSet n (range e f) = GoodExpr n e × GoodExpr n f
 GoodSet n (joined j s r) = GoodSet n s × GoodSet n r
 
+-- 01, Condition: both sides of every relation
 unfoldable pub GoodCond : ℕ → Cond → Type 0
 GoodCond n (compare b r e f) = GoodExpr n e × GoodExpr n f
 GoodCond n (both c d) = GoodCond n c × GoodCond n d
 GoodCond n (either c d) = GoodCond n c × GoodCond n d
 
+-- 01, Guarded prefix: its condition, if it has one
 unfoldable pub GoodGate : ℕ → Option Cond → Type 0
 GoodGate n none = Unit {0}
 GoodGate n (some c) = GoodCond n c
@@ -49,10 +52,12 @@ GoodGate n (some c) = GoodCond n c
 abbrev pub scaleLimit : ℕ
 scaleLimit = natAbs least * unit
 
+-- 01, Rate: a number, or a local in scope
 unfoldable pub GoodScale : ℕ → Scale → Type 0
 GoodScale n (fixed z) = natAbs z ≤ scaleLimit
 GoodScale n (scaleLocal i) = i < n
 
+-- 01, Rate: scale and atom
 unfoldable pub GoodRate : ℕ → Rate → Type 0
 GoodRate n (plain s) = GoodScale n s
 GoodRate n (scaled s e) = GoodScale n s × GoodExpr n e
@@ -89,6 +94,7 @@ module _ (m : Model) where
     pub number : OneOrTwo s
     pub sets : Every (GoodSet n) s
 
+  -- 01, Actions: each with its channel, values or sets
   unfoldable pub GoodAction : ℕ → Action → Type 0
   GoodAction n wait = Unit {0}
   GoodAction n (launch c v) = GoodValues n c v

@@ -10,4 +10,4 @@ pub mod Good
 pub mod Stands
 pub mod Faults
 pub mod Questions
-pub mod Held
+pub mod Texts

@@ -37,8 +37,8 @@ processes-few m g (p ∷ ps) h = (sum-few m g (length (p .locals)) (p .sum) (h .
 
 -- a definition with sums has few parameters
 defined-few : (m : Resolved.Model) → GoodModel m → (t : List ℕ) (k d : ℕ) (e : Resolved.Defined) → getElem? (m .definitions) d ≡ some e → Sums t (e .sums) k → e .params ≤ localLimit
-unfolding Sums GoodDefined Every
-defined-few m g t k d e x s = go (e .sums) s (every-nth (GoodDefined m) (g .definitions) (get-nth (m .definitions) d x))
+unfolding Sums Every
+defined-few m g t k d e x s = go (e .sums) s (every-nth (GoodDefined m) (g .definitions) (get-nth (m .definitions) d x) .sums)
   where
     go : (ns : List ℕ) → Sums t ns k → Every (SumWith m (e .params)) ns → e .params ≤ localLimit
     go [] a h = absurd a

@@ -11,3 +11,4 @@ pub mod Stands
 pub mod Faults
 pub mod Questions
 pub mod Texts
+pub mod Held

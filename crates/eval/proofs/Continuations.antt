@@ -279,6 +279,13 @@ cut-cases n = go (ltb most n) refl
     go true e = inr (refl, ltb-true most n e)
     go false e = inl (refl, ltb-false most n e)
 
+-- a count below the stop is exact, and none is too high
+pub cut-exact : (n : ℕ) → cut n < most → cut n ≡ n
+cut-exact n h = ⊎-elim (λ p. p .0) (λ p. absurd (omega arith)) (cut-cases n)
+
+pub cut-under : (n : ℕ) → cut n ≤ n
+cut-under n = ⊎-elim (λ p. omega arith) (λ p. omega arith) (cut-cases n)
+
 cut-over : (n : ℕ) → most ≤ n → cut n ≡ most
 cut-over n h = ⊎-elim (λ p. omega arith) (λ p. p .0) (cut-cases n)
 

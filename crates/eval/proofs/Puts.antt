@@ -51,7 +51,7 @@ unfolding nextProcesses partProcesses machine.called Option·elim become.entered
 call-next m ls d es e x = rw x (append-nil _)
 
 module _ (t : List ℕ) (root variables : ℕ) (ls : List ℤ) (good : Every InRange ls) where
-  few-next : (m : Resolved.Model) (ps : List Resolved.Part) (k : ℕ) → Continues t root variables (length ls) m ps k → Few (nextProcesses m ls ps)
+  pub few-next : (m : Resolved.Model) (ps : List Resolved.Part) (k : ℕ) → Continues t root variables (length ls) m ps k → Few (nextProcesses m ls ps)
   few-next m ps k s = processes-few m (s .good) (nextProcesses m ls ps) (next-good m (s .good) ls good ps (s .fit))
 
   -- f becomes g, and the next row is r, whatever continuation stands at k

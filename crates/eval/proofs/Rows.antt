@@ -78,7 +78,7 @@ unfolding flatten
 flatten-append [] ys = refl
 flatten-append (x ∷ xs) ys = rw (flatten-append xs ys, append-assoc)
 
-rows-length : (xs : List Process) → Few xs → length (flatten processNumbers xs) ≡ length xs * processWidth
+pub rows-length : (xs : List Process) → Few xs → length (flatten processNumbers xs) ≡ length xs * processWidth
 unfolding flatten Every
 rows-length [] h = refl
 rows-length (x ∷ xs) h = length-append (processNumbers x) (flatten processNumbers xs) ∙ omega (arith, row-length x (h .0), rows-length xs (h .1))
@@ -102,6 +102,14 @@ rows-then f g h at n r xs ys few p q =
 
 pub rows-size : {f g : List ℤ} {at r : ℕ} {ps : List Process} → Rows f at ps g r → length g ≡ length f
 rows-size {f} {at = at} {ps = ps} p = ap length (p .numbers) ∙ length-sets f (at * processWidth) (flatten processNumbers ps)
+
+-- what stood before the rows and after them stays
+pub rows-between : (f g : List ℤ) (at r : ℕ) (ps : List Process) → Few ps → (at + length ps) * processWidth ≤ length f → Rows f at ps g r
+    → g ≡ take (at * processWidth) f ++ flatten processNumbers ps ++ drop ((at + length ps) * processWidth) f
+rows-between f g at r ps few h p =
+    let l = rows-length ps few in
+    let e : at * processWidth + length (flatten processNumbers ps) ≡ (at + length ps) * processWidth = omega arith in
+    p .numbers ∙ (sets-eq (flatten processNumbers ps) f (at * processWidth) (omega arith) ∙ ap (λ (n : ℕ). take (at * processWidth) f ++ flatten processNumbers ps ++ drop n f) e)
 
 -- ---- arguments
 module _ (t : List ℕ) (n k size at : ℕ) (r : Room t n k size at) where

@@ -25,35 +25,36 @@ pub data ShowsNext (t : List ℕ) : List Resolved.Part → Next → Type 0 where
   at : {p : Resolved.Part} {ps : List Resolved.Part} {i : ℕ} → Settled.Parts t (p ∷ ps) i → ShowsNext t (p ∷ ps) (At i)
   nothing : ShowsNext t [] Nothing
 
--- a branch without its gate stands at k
+-- 01, Model text: some prefix without its gate stands at k
 pub record SomePrefix (t : List ℕ) (k : ℕ) : Type 0 where
   pub action : Resolved.Action
   pub rate : Resolved.Rate
   pub next : List Resolved.Part
   pub at : Settled.Offer t action rate next k
 
--- where the nodes have the definitions of m (tables: Represents)
+-- 01, Model text: where the nodes have the definitions of m (tables: Represents)
 abbrev pub Defines : List ℕ → ℕ → ℕ → Resolved.Model → Type 0
 Defines t root variables m = (d : ℕ) (e : Resolved.Defined) → getElem? (m .definitions) d ≡ some e → Definition t e (leftOf (getD t (root - variables - d) 0))
 
--- the continuation ps of a good model, over n locals, stands at k
+-- 01, Model text, continuations: the continuation ps of a good model, over n locals, stands at k
 pub record Continues (t : List ℕ) (root variables n : ℕ) (m : Resolved.Model) (ps : List Resolved.Part) (k : ℕ) : Type 0 where
   pub good : GoodModel m
   pub defines : Defines t root variables m
   pub at : Settled.Parts t ps k
   pub fit : Every (GoodPart m n) ps
 
--- some continuation does
+-- 01, Model text, continuations: some continuation does
 pub record Continuation (t : List ℕ) (root variables k : ℕ) : Type 0 where
   pub locals : ℕ
   pub model : Resolved.Model
   pub parts : List Resolved.Part
   pub holds : Continues t root variables locals model parts k
 
--- where counting stops: four times as many processes as a state holds
+-- 01, 18: where counting stops: four times as many processes as a state holds
 abbrev pub most : ℕ
 most = 1024
 
+-- 01, 18: a count, up to there
 unfoldable pub cut : ℕ → ℕ
 cut n = cond (ltb most n) most n
 
@@ -63,7 +64,7 @@ cut n = cond (ltb most n) most n
 unfoldable pub arguments : List ℤ → List Resolved.Expr → List ℤ
 arguments ls es = map (λ e. orZero (evalExpr ls e)) es
 
--- arguments stand at k, and as many numbers as they are lie from place at on
+-- 01, Step: arguments stand at k, and as many numbers as they are lie from place at on
 pub record Room (t : List ℕ) (n k size at : ℕ) : Type 0 where
   pub arguments : List Resolved.Expr
   pub holds : Settled.Arguments t arguments k
@@ -74,13 +75,13 @@ pub record Room (t : List ℕ) (n k size at : ℕ) : Type 0 where
 unfoldable pub entered : List ℕ → List ℤ → List Process
 entered ns ls = map (λ n. record { sum = n; locals = ls }) ns
 
--- sums stand at k, and as many rows as they are lie from row at on
+-- 01, Step: sums stand at k, and as many rows as they are lie from row at on
 pub record SumsFit (t : List ℕ) (k size at : ℕ) : Type 0 where
   pub sums : List ℕ
   pub holds : Sums t sums k
   pub fits : (at + length sums) * processWidth ≤ size
 
--- a call stands at k with sums at body, and as many rows as they are lie from row at on
+-- 01, Step: a call stands at k with sums at body, and as many rows as they are lie from row at on
 pub record CallFits (t : List ℕ) (n k body size at : ℕ) : Type 0 where
   pub definition : ℕ
   pub values : List Resolved.Expr
@@ -94,7 +95,7 @@ pub record Rows (f : List ℤ) (at : ℕ) (ps : List Process) (g : List ℤ) (r 
   pub numbers : g ≡ sets f (at * processWidth) (flatten processNumbers ps)
   pub next : r ≡ at + length ps
 
--- a continuation over the locals ls stands at k, and as many rows as its processes are lie from row at on
+-- 01, Step: a continuation over the locals ls stands at k, and as many rows as its processes are lie from row at on
 pub record Spaced (t : List ℕ) (root variables : ℕ) (ls : List ℤ) (k size at : ℕ) : Type 0 where
   pub model : Resolved.Model
   pub parts : List Resolved.Part

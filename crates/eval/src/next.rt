@@ -223,7 +223,8 @@ fn put_call(
     let count = tree::third_of(crate::cell_at(nodes, k));
     let mut values = [0i64; Row::LOCALS];
     put_arguments(nodes, locals, k - 1, &mut values, 0);
-    put_sums(nodes, body, &values[..count], fresh, at)
+    let given = &values[..count];
+    put_sums(nodes, body, given, fresh, at)
 }
 
 // Writes the processes that the continuation at k becomes from row `at` on; the row after them.

@@ -47,8 +47,8 @@ array-share-prefix-values c =
     let h = values-few T (length L) k b _ _ (s .pre .0) in
     omega (arith, h, x)
 
-slice-aggregate-put-sums : tie.Need-slice-aggregate-put-sums
-slice-aggregate-put-sums c =
+slice-aggregate-given : tie.Need-slice-aggregate-given
+slice-aggregate-given c =
     let s = c .before .before .before .before .before .before .before in
     let T = now (s .args .nodes) in
     let L = now (s .args .locals) in
@@ -85,4 +85,4 @@ returns c d es ns e z =
     rw (x, v) at (c .before .put-sums .ensures ns z)
 
 pub put-call-spec : {M : Type 1} → statement M
-put-call-spec = tie.close (tie.spec cell-at-requires third-of-requires sub-put-arguments slice-aggregate-put-arguments put-arguments-requires array-share-prefix-values slice-aggregate-put-sums put-sums-requires same-length returns)
+put-call-spec = tie.close (tie.spec cell-at-requires third-of-requires sub-put-arguments slice-aggregate-put-arguments put-arguments-requires array-share-prefix-values slice-aggregate-given put-sums-requires same-length returns)

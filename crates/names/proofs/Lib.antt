@@ -1,0 +1,13 @@
+pub mod Earliest
+pub mod Contents
+pub mod Beyond
+pub mod Between
+pub mod Chains
+pub mod Lookups
+pub mod Wholes
+pub mod Namings
+pub mod Settled
+pub mod Uses
+pub mod Judges
+pub mod Scopes
+pub mod Repeats

@@ -67,6 +67,16 @@ unfolding earlier
 earlier-some k Nothing e = let z : _≡_ {A = ℕ} 0 1 = cc in omega arith
 earlier-some k (At m) e = let z : _≡_ {A = ℕ} 0 1 = cc in omega arith
 
+pub nothing-first : (f g : Found) → earlierOf f g ≡ Nothing → f ≡ Nothing
+unfolding earlierOf
+nothing-first Nothing g e = refl
+nothing-first (At k) g e = absurd (earlier-some k g e)
+
+pub nothing-second : (f g : Found) → earlierOf f g ≡ Nothing → g ≡ Nothing
+unfolding earlierOf
+nothing-second Nothing g e = e
+nothing-second (At k) g e = absurd (earlier-some k g e)
+
 pub least-none : (xs : List ℕ) → least xs ≡ Nothing → xs ≡ []
 unfolding least
 least-none [] e = refl

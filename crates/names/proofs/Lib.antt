@@ -11,3 +11,6 @@ pub mod Uses
 pub mod Judges
 pub mod Scopes
 pub mod Repeats
+pub mod Parts
+pub mod Acts
+pub mod Walking

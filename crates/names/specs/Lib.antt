@@ -4,3 +4,4 @@ pub mod Leaves
 pub mod Lists
 pub mod Placed
 pub mod Settings
+pub mod Walks

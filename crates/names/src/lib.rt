@@ -1,4 +1,6 @@
 // Questions 7, 8 and 9 of a text that fits.
+pub mod walk;
+
 use token::Found;
 use token::Kind;
 use tree::NodeKind;

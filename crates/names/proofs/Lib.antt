@@ -14,3 +14,5 @@ pub mod Repeats
 pub mod Parts
 pub mod Acts
 pub mod Walking
+pub mod Lines
+pub mod Titles

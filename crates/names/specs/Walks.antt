@@ -2,25 +2,27 @@
 -- are definitions.
 use mathlib.Core.Path.{_≡_}
 use mathlib.Core.List.{List, [], _∷_, _++_}
-use mathlib.Core.Bool.{true}
+use mathlib.Core.Bool.{true, cond, _||_}
 use Prim.Native.Nat.{ℕ}
-use lib.Dec.{eqb}
+use lib.Dec.{eqb, ltb}
 use lib.ListN.{getD, drop}
 use Rattle.token.specs.declared.Found.the-variants.{Nothing}
 use Rattle.token.specs.Kind as kind
 use Rattle.token.specs.Token.{sameBytes}
+use Rattle.word.specs.Number.{worth}
 use Rattle.grammar.specs.Syntax
+use Rattle.tree.specs.Node as node
 use Rattle.tree.specs.Table
-use Rattle.model.specs.Lists.{each, least}
-use Rattle.model.specs.Sites.{Site, Sited, bound, tokensOf, countSets, actionSites, Variable, Definition, names, variables, definitions, definitionsIn, systemIn, startsIn, definitionSites, branchesSites, contsSites, sumsSites}
-use Rattle.model.specs.Limits.{parameterLimit, siteBeyond, startBeyond}
+use Rattle.model.specs.Lists.{each, when, least}
+use Rattle.model.specs.Sites.{Site, Sited, bound, tokensOf, countSets, actionSites, Variable, Definition, names, variables, definitions, definitionsIn, systemIn, startsIn, paramsOf, definitionSites, branchesSites, contsSites, sumsSites}
+use Rattle.model.specs.Limits.{countLimit, parameterLimit, siteBeyond, variableBeyond, startBeyond}
 use Rattle.model.specs.Fresh.{repeated}
 use Rattle.model.specs.Given.{startWrong}
 use Rattle.names.specs.declared.Question.{Question}
 use Rattle.names.specs.declared.Question.the-variants.{Limits, Fresh, Given}
 use Rattle.names.specs.declared.Lists.{Lists}
 use Rattle.names.specs.declared.Scope.{Scope}
-use Rattle.names.specs.Faults.{asksNames, siteFaults}
+use Rattle.names.specs.Faults.{asksNames, siteFaults, treeFaults}
 use Rattle.names.specs.Settings.{World, Setting}
 
 -- 01, Model text: what can stand at a node of a definition's body: branches of a sum, items of a group, sums of a body
@@ -91,6 +93,18 @@ module _ {question : Question} {kinds low high nodes : List ℕ} {lists : Lists}
     abbrev pub PartRoom : ℕ → Part → Type 0
     PartRoom i p = Roomy question (h .setting .world .word) (partSites (h .setting .world .word) (h .setting .locals) i p)
 
+-- 7, 8: a list of names with a limit, of variables or of definitions
+unfoldable pub listFaults : Question → (ℕ → List ℕ) → ℕ → List ℕ → List ℕ
+listFaults Limits w limit ks = drop limit ks
+listFaults Fresh w limit ks = repeated w [] ks
+listFaults Given w limit ks = []
+
+-- 7: the numbers of variables
+unfoldable pub numberFaults : Question → (ℕ → List ℕ) → List Variable → List ℕ
+numberFaults Limits w vs = each (variableBeyond w) vs
+numberFaults Fresh w vs = []
+numberFaults Given w vs = []
+
 -- 7, 8: the parameters of a definition; vars: the names of variables
 unfoldable pub paramFaults : Question → (ℕ → List ℕ) → List ℕ → List ℕ → List ℕ
 paramFaults Limits w vars ks = drop parameterLimit ks
@@ -101,12 +115,37 @@ paramFaults Given w vars ks = []
 unfoldable pub definitionFaults : Question → (ℕ → List ℕ) → List Variable → List Definition → Definition → List ℕ
 definitionFaults q w vs ds d = paramFaults q w (names vs) (d .params) ++ faultsOver q w vs ds (definitionSites w d)
 
+-- a definition of a syntax tree
+abbrev pub defined : ℕ → Syntax.Params → Syntax.Sums → Definition
+defined n p b = record { name = n; params = paramsOf p; sums = b }
+
+-- 7: a count, by the kind of its item's node
+unfoldable pub countFaults : ℕ → (ℕ → List ℕ) → ℕ → List ℕ
+countFaults κ w c = cond (eqb κ node.counted || eqb κ node.countedWith) (when (ltb countLimit (worth 0 (w c))) c) []
+
 -- 7, 9: an item of the system line
 unfoldable pub startFaults : Question → (ℕ → List ℕ) → List Definition → Syntax.Start → List ℕ
 startFaults Limits w ds s = startBeyond w s
 startFaults Fresh w ds s = []
 startFaults Given w ds s = startWrong w ds s
 
--- definitions and the system line
+-- 7, 8, 9: definitions and the system line
 unfoldable pub linesFaults : Question → (ℕ → List ℕ) → List Variable → List Definition → Syntax.Definitions → List ℕ
 linesFaults q w vs ds d = each (definitionFaults q w vs ds) (definitionsIn d) ++ each (startFaults q w ds) (startsIn (systemIn d))
+
+module _ {question : Question} {kinds low high nodes : List ℕ} {lists : Lists} (h : Ground question kinds low high nodes lists) where
+  unfoldable pub definitionJudged : Question → Definition → List ℕ
+  definitionJudged q d = definitionFaults q (h .world .word) (variables (h .world .model)) (definitions (h .world .model)) d
+
+  unfoldable pub linesJudged : Question → Syntax.Definitions → List ℕ
+  linesJudged q d = linesFaults q (h .world .word) (variables (h .world .model)) (definitions (h .world .model)) d
+
+  -- question 7 has passed them, where names are asked for
+  abbrev pub DefinitionRoom : Definition → Type 0
+  DefinitionRoom d = asksNames question ≡ true → least (definitionJudged Limits d) ≡ Nothing
+
+  abbrev pub LinesRoom : Syntax.Definitions → Type 0
+  LinesRoom d = asksNames question ≡ true → least (linesJudged Limits d) ≡ Nothing
+
+  abbrev pub TreeRoom : Type 0
+  TreeRoom = asksNames question ≡ true → least (treeFaults Limits (h .world .word) (h .world .model)) ≡ Nothing

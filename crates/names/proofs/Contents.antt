@@ -100,13 +100,13 @@ beyond-is text m x = by (eqb (m .kind) kind.name) refl (eqb (m .kind) kind.decim
     by false e false g = simp (e, g)
 
 -- ---- the tables, token by token
-nth-column : (f : Mark → ℕ) (ms : List Mark) (i : ℕ) → i < length ms → getD (column f ms) i 0 ≡ f (nth ms i)
+pub nth-column : (f : Mark → ℕ) (ms : List Mark) (i : ℕ) → i < length ms → getD (column f ms) i 0 ≡ f (nth ms i)
 unfolding column nth
 nth-column f [] i l = absurd (omega arith)
 nth-column f (m ∷ ms) zero l = refl
 nth-column f (m ∷ ms) (suc i) l = nth-column f ms i (omega arith)
 
-column-length : (f : Mark → ℕ) (ms : List Mark) → length (column f ms) ≡ length ms
+pub column-length : (f : Mark → ℕ) (ms : List Mark) → length (column f ms) ≡ length ms
 unfolding column
 column-length f [] = refl
 column-length f (m ∷ ms) = ap suc (column-length f ms)

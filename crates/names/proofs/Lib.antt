@@ -16,3 +16,6 @@ pub mod Acts
 pub mod Walking
 pub mod Lines
 pub mod Titles
+pub mod Written
+pub mod Grounds
+pub mod Judging

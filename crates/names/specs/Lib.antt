@@ -5,3 +5,4 @@ pub mod Lists
 pub mod Placed
 pub mod Settings
 pub mod Walks
+pub mod Judged

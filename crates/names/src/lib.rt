@@ -22,7 +22,8 @@ ghost use Rattle.model.specs.Words.{same};
 ghost use Rattle.model.specs.Limits.{localLimit, isMissing, wordsBeyond, wholeBeyond, siteBeyond};
 ghost use Rattle.model.specs.Fresh.{repeated};
 ghost use Rattle.model.specs.Given.{placeIn, isCallable};
-ghost use Rattle.names.specs.Tables.{Tabled};
+ghost use Rattle.names.specs.Tables.{Tabled, Read};
+ghost use Rattle.names.specs.Judged.{judgedNames};
 ghost use Rattle.names.specs.Faults.{earlierOf, leftOut, siteFaults};
 ghost use Rattle.names.specs.Lists.{packed, foundOf, nameAt, namesDown, InScope, Reach, run, Gathered};
 ghost use Rattle.names.specs.Settings.{Extended, World, Setting, faultsAt, knownIn, Binding};
@@ -497,4 +498,40 @@ fn branch_fault(question: Question, i: usize, k: usize) -> Found
         Question::Fresh => Found::Nothing,
         Question::Given => Found::Nothing,
     }
+}
+
+// What questions 7, 8 and 9 say of a text that fits; a no has the token at fault.
+pub enum Judgement {
+    Passed,
+    Beyond(usize),
+    NotNew(usize),
+    NotGiven(usize),
+}
+
+// Questions 7, 8 and 9, in this order, of a text's n tokens and its tree.
+pub fn judge_names(
+    kinds: &[u8],
+    low: &[u64],
+    high: &[u64],
+    nodes: &[u64],
+    root: usize,
+    n: usize,
+) -> Judgement
+    requires { ⌜ ((text : List ℕ) × (s : Syntax.Model) × Read text s (now kinds) (now low) (now high) (now nodes) root n) ⌝ }
+    ensures { λ r. ⌜ ((text : List ℕ) (s : Syntax.Model) → Read text s (now (kinds .entry)) (now (low .entry)) (now (high .entry)) (now (nodes .entry)) root n → r ≡ judgedNames text s) ⌝ }
+{
+    let lists = lists_of(nodes, root);
+    let toks = &kinds[..n];
+    let words = words_fault(kinds, low, high, n);
+    let tree = walk::tree_fault(Question::Limits, toks, low, high, nodes, lists);
+    if let Found::At(k) = earlier(words, tree) {
+        return Judgement::Beyond(k);
+    }
+    if let Found::At(k) = walk::tree_fault(Question::Fresh, toks, low, high, nodes, lists) {
+        return Judgement::NotNew(k);
+    }
+    if let Found::At(k) = walk::tree_fault(Question::Given, toks, low, high, nodes, lists) {
+        return Judgement::NotGiven(k);
+    }
+    Judgement::Passed
 }

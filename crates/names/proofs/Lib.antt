@@ -19,3 +19,4 @@ pub mod Titles
 pub mod Written
 pub mod Grounds
 pub mod Judging
+pub mod Told

@@ -60,7 +60,7 @@ module _ (w : ℕ → List ℕ) (vs : List Variable) where
 
   -- ---- by first use
 
-  firsts-append : (seen ks ls : List ℕ) → firsts w vs seen (ks ++ ls) ≡ firsts w vs (firsts w vs seen ks) ls
+  pub firsts-append : (seen ks ls : List ℕ) → firsts w vs seen (ks ++ ls) ≡ firsts w vs (firsts w vs seen ks) ls
   unfolding firsts
   firsts-append seen [] ls = refl
   firsts-append seen (k ∷ ks) ls = by (any (same w k) seen) (firsts-append seen ks ls) (firsts-append (seen ++ k ∷ []) ks ls)
@@ -71,7 +71,7 @@ module _ (w : ℕ → List ℕ) (vs : List Variable) where
       by false p q = q
 
   -- what is seen stays at the front
-  firsts-more : (seen ks : List ℕ) → (more : List ℕ) × (firsts w vs seen ks ≡ seen ++ more)
+  pub firsts-more : (seen ks : List ℕ) → (more : List ℕ) × (firsts w vs seen ks ≡ seen ++ more)
   unfolding firsts
   firsts-more seen [] = ([], sym (append-nil seen))
   firsts-more seen (k ∷ ks) = by (any (same w k) seen) (firsts-more seen ks) (firsts-more (seen ++ k ∷ []) ks)

@@ -123,7 +123,7 @@ module _ (text : List ℕ) (s : Syntax.Model) (y5 : Yes5 text s) (y7 : Yes7 text
       number-fine (scaleOf r) (λ b j e. inDefinition (inRate h (whole-rate r b j e)))
       (λ b j e. decimal-rate (kindsOf (tokens text)) b j (written (kindsOf (tokens text)) (y5 .reading) (y5 .reads) (subst (λ (m : Syntax.Model). BranchIn m sc i (Syntax.branch k g a r n)) (sym (y5 .tree)) h)) e)
 
-  faultless : Faultless w s
+  pub faultless : Faultless w s
   unfolding titles exprSites
   faultless =
       record {

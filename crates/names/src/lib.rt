@@ -216,7 +216,7 @@ fn whole_fault(low: &[u64], negated: bool, k: usize) -> Found
 }
 
 // Whether a variable's number is whole, by the kind of its node.
-fn is_whole(kind: u8) -> bool
+pub fn is_whole(kind: u8) -> bool
     ensures { λ r. ⌜ r ≡ (eqb kind (numberKind false false) || eqb kind (numberKind true false)) ⌝ }
 {
     kind == NodeKind::NUMBER || kind == NodeKind::NEGATIVE_NUMBER
@@ -387,7 +387,7 @@ fn with_local(scope: Scope, k: usize) -> Scope
 }
 
 // A scope with n locals more, every second token from `first` on.
-fn with_locals(scope: Scope, first: usize, n: usize) -> Scope
+pub fn with_locals(scope: Scope, first: usize, n: usize) -> Scope
     requires { ⌜ (length (scope .names) ≡ localLimit) × (scope .count ≤ localLimit) × (first + 2 * n ≤ field) ⌝ }
     ensures { λ r. ⌜ Extended scope (everyOther first n) r ⌝ }
 {

@@ -1,0 +1,17 @@
+pub mod Moves
+pub mod Values
+pub mod Heard
+pub mod Actions
+pub mod Branches
+pub mod Lines
+pub mod Definitions
+pub mod Whole
+pub mod Finds
+pub mod Meets
+pub mod Parameters
+pub mod Roles
+pub mod Turns
+pub mod Leaves
+pub mod Stands
+pub mod Resolving
+pub mod Cells

@@ -1,0 +1,72 @@
+// Opens a text: asks questions 2 to 10 in order and makes the tables of its model.
+use syntax::question;
+use syntax::question::Asked;
+use token::Judged;
+ghost use mathlib.Core.Path.{_≡_};
+ghost use Rattle.token.specs.declared.Judged.the-variants.{Passed};
+ghost use Rattle.token.specs.Questions.{bytesJudged};
+ghost use Rattle.model.specs.Opening.{bytePlace};
+ghost use Rattle.opening.specs.Trees.{Room, Placed, TreeRead};
+
+// The number and place of the first no to 2 to 6; or the root of the text's tree and the number of its tokens.
+pub enum Tree {
+    Refused(usize, usize),
+    Fits(usize, usize),
+}
+
+// The byte at which token k stands, or the text's end past the last of n.
+fn byte_place(text: &[u8], places: &[u16], n: usize, k: usize) -> usize
+    requires { ⌜ Placed (now text) (now places) n ⌝ }
+    ensures { λ r. ⌜ r ≡ bytePlace (now (text .entry)) k ⌝ }
+{
+    if k < n {
+        return places[k] as usize;
+    }
+    text.len()
+}
+
+// Questions 5 and 6 of a text that has passed those before.
+fn read_tokens(
+    text: &[u8],
+    kinds: &mut [u8],
+    places: &mut [u16],
+    sizes: &mut [u16],
+    low: &mut [u64],
+    high: &mut [u64],
+    nodes: &mut [u64],
+) -> Tree
+    requires { ⌜ Passed ≡ bytesJudged (now text) ⌝ }
+    requires { ⌜ Room (now kinds) (now places) (now sizes) (now low) (now high) (now nodes) ⌝ }
+    ensures { λ r. ⌜ TreeRead (now (text .entry)) (now (kinds .exit)) (now (places .exit)) (now (low .exit)) (now (high .exit)) (now (nodes .exit)) r ⌝ }
+{
+    let n = token::fill(text, kinds, places, sizes);
+    let asked = question::judge_text(&kinds[..n], nodes);
+    match asked {
+        Asked::Misfit(k) => Tree::Refused(5, byte_place(text, places, n, k)),
+        Asked::Crowded(k) => Tree::Refused(6, byte_place(text, places, n, k)),
+        Asked::Passed(root) => {
+            token::contents(text, kinds, places, sizes, n, low, high);
+            Tree::Fits(root, n)
+        }
+    }
+}
+
+// Questions 2 to 6.
+pub fn read_tree(
+    text: &[u8],
+    kinds: &mut [u8],
+    places: &mut [u16],
+    sizes: &mut [u16],
+    low: &mut [u64],
+    high: &mut [u64],
+    nodes: &mut [u64],
+) -> Tree
+    requires { ⌜ Room (now kinds) (now places) (now sizes) (now low) (now high) (now nodes) ⌝ }
+    ensures { λ r. ⌜ TreeRead (now (text .entry)) (now (kinds .exit)) (now (places .exit)) (now (low .exit)) (now (high .exit)) (now (nodes .exit)) r ⌝ }
+{
+    let judged = token::judge_bytes(text);
+    match judged {
+        Judged::Refused(number, place) => Tree::Refused(number as usize, place),
+        Judged::Passed => read_tokens(text, kinds, places, sizes, low, high, nodes),
+    }
+}

@@ -1,3 +1,4 @@
 pub mod Holds
 pub mod Places
 pub mod Trees
+pub mod System

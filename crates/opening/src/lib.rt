@@ -2,11 +2,22 @@
 use syntax::question;
 use syntax::question::Asked;
 use token::Judged;
+use tree::NodeKind;
 ghost use mathlib.Core.Path.{_≡_};
+ghost use Prim.Native.Nat.{ℕ, _≤_, _<_};
+ghost use lib.ListN.{length};
 ghost use Rattle.token.specs.declared.Judged.the-variants.{Passed};
 ghost use Rattle.token.specs.Questions.{bytesJudged};
-ghost use Rattle.model.specs.Opening.{bytePlace};
+ghost use Rattle.grammar.specs.Syntax;
+ghost use Rattle.tree.specs.Node.{kindOf, tokenOf, counted};
+ghost use Rattle.tree.specs.Table;
+ghost use Rattle.model.specs.Sites.{system};
+ghost use Rattle.model.specs.Opening.{bytePlace, systemToken};
 ghost use Rattle.opening.specs.Trees.{Room, Placed, TreeRead};
+ghost use Rattle.opening.specs.System.{firstItem, beforeName, itemToken};
+
+// What stands before the name of an item with a count: the count and `*`.
+const BEFORE_NAME: usize = 2;
 
 // The number and place of the first no to 2 to 6; or the root of the text's tree and the number of its tokens.
 pub enum Tree {
@@ -69,4 +80,39 @@ pub fn read_tree(
         Judged::Refused(number, place) => Tree::Refused(number as usize, place),
         Judged::Passed => read_tokens(text, kinds, places, sizes, low, high, nodes),
     }
+}
+
+// The node of the first item of the system line at k.
+fn first_item(nodes: &[u64], k: usize) -> usize
+    requires { ⌜ k < length (now nodes) ⌝ }
+    ensures { λ r. ⌜ r ≡ firstItem (now (nodes .entry)) k ⌝ }
+{
+    let line = nodes[k];
+    if tree::kind_of(line) == NodeKind::SYSTEM {
+        return tree::left_of(line);
+    }
+    k
+}
+
+// The first token of an item of the system line: its name, or its count.
+fn item_token(item: u64) -> usize
+    requires { ⌜ (counted ≤ kindOf item → beforeName ≤ tokenOf item) ⌝ }
+    ensures { λ r. ⌜ r ≡ itemToken item ⌝ }
+{
+    let name = tree::token_of(item);
+    if tree::kind_of(item) < NodeKind::COUNTED {
+        return name;
+    }
+    name - BEFORE_NAME
+}
+
+// The first token of the system line of the model at this root.
+fn system_token(nodes: &[u64], root: usize) -> usize
+    requires { ⌜ ((m : Syntax.Model) × (lo : ℕ) × Table.Model (now nodes) m lo root) ⌝ }
+    ensures { λ r. ⌜ ((m : Syntax.Model) (lo : ℕ) → Table.Model (now (nodes .entry)) m lo root → r ≡ systemToken (system m)) ⌝ }
+{
+    let lists = names::lists_of(nodes, root);
+    let line = root - lists.variables - lists.definitions;
+    let first = first_item(nodes, line);
+    item_token(nodes[first])
 }

@@ -2,3 +2,4 @@ pub mod Holds
 pub mod Places
 pub mod Trees
 pub mod System
+pub mod Judges

@@ -1,4 +1,5 @@
 // Opens a text: asks questions 2 to 10 in order and makes the tables of its model.
+use names::Judgement;
 use syntax::question;
 use syntax::question::Asked;
 use token::Judged;
@@ -13,7 +14,8 @@ ghost use Rattle.tree.specs.Node.{kindOf, tokenOf, counted};
 ghost use Rattle.tree.specs.Table;
 ghost use Rattle.model.specs.Sites.{system};
 ghost use Rattle.model.specs.Opening.{bytePlace, systemToken};
-ghost use Rattle.opening.specs.Trees.{Room, Placed, TreeRead};
+ghost use Rattle.opening.specs.Trees.{Room, Placed, Fitted, TreeRead};
+ghost use Rattle.opening.specs.Sound.{NamesJudged};
 ghost use Rattle.opening.specs.System.{firstItem, beforeName, itemToken};
 
 // What stands before the name of an item with a count: the count and `*`.
@@ -23,6 +25,12 @@ const BEFORE_NAME: usize = 2;
 pub enum Tree {
     Refused(usize, usize),
     Fits(usize, usize),
+}
+
+// The number and place of the first no to 7 to 9; or the place of the system line.
+pub enum Named {
+    Refused(usize, usize),
+    Passed(usize),
 }
 
 // The byte at which token k stands, or the text's end past the last of n.
@@ -115,4 +123,30 @@ fn system_token(nodes: &[u64], root: usize) -> usize
     let line = root - lists.variables - lists.definitions;
     let first = first_item(nodes, line);
     item_token(nodes[first])
+}
+
+// Questions 7 to 9 of a text that fits.
+fn judge_tree(
+    text: &[u8],
+    kinds: &[u8],
+    places: &[u16],
+    low: &[u64],
+    high: &[u64],
+    nodes: &[u64],
+    root: usize,
+    n: usize,
+) -> Named
+    requires { ⌜ ((s : Syntax.Model) × Fitted (now text) s (now kinds) (now places) (now low) (now high) (now nodes) root n) ⌝ }
+    ensures { λ r. ⌜ ((s : Syntax.Model) → Fitted (now (text .entry)) s (now (kinds .entry)) (now (places .entry)) (now (low .entry)) (now (high .entry)) (now (nodes .entry)) root n → NamesJudged (now (text .entry)) s r) ⌝ }
+{
+    let judged = names::judge_names(kinds, low, high, nodes, root, n);
+    match judged {
+        Judgement::Beyond(k) => Named::Refused(7, byte_place(text, places, n, k)),
+        Judgement::NotNew(k) => Named::Refused(8, byte_place(text, places, n, k)),
+        Judgement::NotGiven(k) => Named::Refused(9, byte_place(text, places, n, k)),
+        Judgement::Passed => {
+            let first = system_token(nodes, root);
+            Named::Passed(byte_place(text, places, n, first))
+        }
+    }
 }

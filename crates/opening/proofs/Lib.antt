@@ -3,3 +3,4 @@ pub mod Places
 pub mod Trees
 pub mod System
 pub mod Judges
+pub mod Counting

@@ -1,4 +1,6 @@
 // Opens a text: asks questions 2 to 10 in order and makes the tables of its model.
+mod count;
+
 use names::Judgement;
 use syntax::question;
 use syntax::question::Asked;
@@ -17,6 +19,13 @@ ghost use Rattle.model.specs.Opening.{bytePlace, systemToken};
 ghost use Rattle.opening.specs.Trees.{Room, Placed, Fitted, TreeRead};
 ghost use Rattle.opening.specs.Sound.{NamesJudged};
 ghost use Rattle.opening.specs.System.{firstItem, beforeName, itemToken};
+
+pub struct Limits;
+
+impl Limits {
+    // processes at the start
+    pub const PROCESSES: usize = 256;
+}
 
 // What stands before the name of an item with a count: the count and `*`.
 const BEFORE_NAME: usize = 2;

@@ -12,7 +12,7 @@ use Rattle.rules.specs.Rules.{Change, unchanged, launched, killed, label, Alone
 use Rattle.rules.specs.Rules.{Offered, rule8, rule9, rule10, rule11, rule12, rule13, sends, takes, takesBind, rule18}
 use Rattle.rules.proofs.Places.{Accepts, unbound, bound}
 use Rattle.machine.specs.Evaluate.{given, evalChannel, evalAll, evalSet, evalPair, evalQuery, evalAction}
-use Rattle.machine.specs.Good.{Every, namesBound}
+use Rattle.model.specs.Good.{Every, namesBound}
 use Rattle.machine.specs.State.{GoodPair}
 use Rattle.machine.proofs.Everys.{every-nth}
 use Rattle.machine.proofs.Parts.{given-is, some-is, all-length, Comes, bare, opened}

@@ -11,7 +11,7 @@ use Rattle.value.specs.Range.{InRange}
 use Rattle.model.specs.Resolved
 use Rattle.rules.specs.Rules.{Nth}
 use Rattle.machine.specs.Evaluate.{evalExpr}
-use Rattle.machine.specs.Good.{Every, GoodExpr, SumWith, Callable, GoodPart, GoodBranch, GoodSum, GoodDefined, GoodModel}
+use Rattle.model.specs.Good.{Every, GoodExpr, SumWith, Callable, GoodPart, GoodBranch, GoodSum, GoodDefined, GoodModel}
 use Rattle.machine.specs.Offer.{Process, orZero, branchesOf, called, partProcesses, nextProcesses}
 use Rattle.machine.specs.State.{GoodProcess}
 use Rattle.machine.specs.Questions.{BranchAt}
@@ -31,12 +31,12 @@ argument-good ls r n e g = go (evalExpr ls e) refl
 module _ (m : Resolved.Model) (good : GoodModel m) where
   -- a definition called with as many values as it has parameters
   pub called-good : (d : ℕ) (vs : List ℤ) → Callable m (length vs) d → Every InRange vs → Every (GoodProcess m) (called m d vs)
-  unfolding called Option·elim GoodDefined
+  unfolding called Option·elim
   called-good d vs c r =
       rw (c .exists)
       (every-map (SumWith m (c .definition .params)) (GoodProcess m) (λ n. record { sum = n; locals = vs })
       (λ n h. record { sum = subst (λ (k : ℕ). SumWith m k n) (c .params) h; values = r })
-      (c .definition .sums) (every-nth (GoodDefined m) (good .definitions) (get-nth (m .definitions) d (c .exists))))
+      (c .definition .sums) (every-nth (GoodDefined m) (good .definitions) (get-nth (m .definitions) d (c .exists)) .sums))
 
   module _ (ls : List ℤ) (r : Every InRange ls) where
     part-good : (x : Resolved.Part) → GoodPart m (length ls) x → Every (GoodProcess m) (partProcesses m ls x)

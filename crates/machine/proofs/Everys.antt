@@ -6,7 +6,7 @@ use Prim.Native.Nat.{ℕ, zero, suc}
 use lib.ListN.{getD}
 use Rattle.rules.specs.Rules.{Nth, first, later}
 use Rattle.rules.specs.Step.{replace, replaceBoth}
-use Rattle.machine.specs.Good.{Every}
+use Rattle.model.specs.Good.{Every}
 
 module _ {A : Type 0} (P : A → Type 0) where
   pub every-in : (xs : List A) → Every P xs → (x : A) → In x xs → P x

@@ -18,3 +18,5 @@ pub mod Numbers
 pub mod Full
 pub mod Called
 pub mod Sheet
+pub mod Starred
+pub mod Carries

@@ -12,7 +12,7 @@ use Rattle.model.specs.Resolved
 use Rattle.rules.specs.Offers as offers
 use Rattle.rules.specs.Pairs.{channelNumbers, numbers}
 use Rattle.rules.proofs.Before.{told}
-use Rattle.machine.specs.Good.{Every, GoodSum, GoodModel}
+use Rattle.model.specs.Good.{Every, GoodSum, GoodModel}
 use Rattle.machine.specs.Offer.{Process}
 use Rattle.machine.specs.State.{pairLimit, processWidth, pairWidth, stateLength, State, GoodPair, GoodProcess, GoodState, padded, processNumbers, pairNumbers, flatten, stateNumbers, emptyState}
 use Rattle.machine.proofs.Branches.{get-nth}

@@ -17,7 +17,7 @@ use Rattle.grammar.specs.Syntax.{Op, plus, minus, times, divide, maximum, minim
 use Rattle.model.specs.Resolved
 use Rattle.rules.specs.Offers as offers
 use Rattle.machine.specs.Evaluate.{given, apply, evalExpr, joined, evalSet, rateLimit, inRate, evalScale, evalRate, evalChannel, evalAll, evalValue, evalPair, evalQuery, evalAction, evalBranch}
-use Rattle.machine.specs.Good.{Every, OneOrTwo, GoodExpr, GoodSet, GoodName, GoodValues, GoodSets, GoodAction, GoodBranch}
+use Rattle.model.specs.Good.{Every, OneOrTwo, GoodExpr, GoodSet, GoodName, GoodValues, GoodSets, GoodAction, GoodBranch}
 use Rattle.machine.specs.State.{GoodChannel, GoodPair}
 use Rattle.machine.proofs.Branches.{none-not-some}
 use Rattle.machine.proofs.Parts.{with-is, valued-is, given-is, some-is, all-length, Comes, bare, opened, shut, comes}

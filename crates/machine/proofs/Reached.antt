@@ -8,7 +8,7 @@ use Rattle.model.specs.Resolved
 use Rattle.model.specs.Opening.{processLimit, Opening, refused, opened, opening}
 use Rattle.model.specs.Opening as opening
 use Rattle.rules.specs.Listing.{Entry}
-use Rattle.machine.specs.Good.{GoodModel}
+use Rattle.model.specs.Good.{GoodModel}
 use Rattle.machine.specs.State.{State, GoodState}
 use Rattle.machine.specs.Machine.{Listed, entriesAre, refusedWith, listing, Turn, drawn, Machine, closed, holding, Call, open′, list′}
 use Rattle.machine.specs.Machine.{step′, listingLength, lent, turn, opens, showing, lists, stepped, choosing, stepsOn, calls, after}

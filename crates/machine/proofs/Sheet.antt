@@ -1,57 +1,9 @@
--- The bench sheet's model is a good one, so that being good asks for nothing impossible: part by part, by computation.
-use mathlib.Core.Path.{refl}
-use native.Mathlib.Omega.{arith}
-use Rattle.machine.specs.Good.{Every, GoodExpr, GoodSet, GoodCond, GoodGate, GoodScale, GoodRate, namesBound, GoodName, GoodAction, GoodPart, GoodSum, GoodDefined, GoodModel}
-use Rattle.machine.specs.Specimens.{lamp, post, sheet}
-
-lamp-good : GoodSum sheet lamp
-unfolding Every GoodExpr GoodCond GoodGate GoodScale GoodRate namesBound GoodName GoodAction GoodPart
-lamp-good = record {
-  few = omega arith;
-  branches = (
-    record {
-      gate = tt;
-      action = record { channel = omega arith; number = record { one = omega arith; two = omega arith }; values = (omega arith, tt) };
-      rate = tt;
-      next = ((record { definition = _; exists = refl; params = refl }, ((omega arith, record { low = refl; high = refl }), tt)), tt);
-    },
-    (
-      record {
-        gate = (omega arith, record { low = refl; high = refl });
-        action = tt;
-        rate = (tt, omega arith);
-        next = ((record { definition = _; exists = refl; params = refl }, ((omega arith, record { low = refl; high = refl }), tt)), tt);
-      },
-      tt,
-    ),
-  );
-}
-
-post-good : GoodSum sheet post
-unfolding Every GoodExpr GoodSet GoodGate GoodScale GoodRate namesBound GoodName GoodAction GoodPart
-post-good = record {
-  few = omega arith;
-  branches = (
-    record {
-      gate = tt;
-      action = record { channel = omega arith; number = record { one = omega arith; two = omega arith }; sets = ((omega arith, (omega arith, record { low = refl; high = refl })), tt) };
-      rate = tt;
-      next = ((record { definition = _; exists = refl; params = refl }, (omega arith, tt)), tt);
-    },
-    tt,
-  );
-}
+-- The bench sheet's model is a good one, so that being good asks for nothing impossible: it is the model that the sheet opens to.
+use Rattle.model.specs.Texts as texts
+use Rattle.model.specs.Good.{GoodModel}
+use Rattle.model.proofs.Opened.{opened-good}
+use Rattle.model.proofs.Examples.{sheet-opens}
+use Rattle.machine.specs.Specimens.{sheet}
 
 pub sheet-good : GoodModel sheet
-unfolding Every GoodDefined
-sheet-good = record {
-  sums = (lamp-good, (post-good, tt));
-  definitions = ((record { sum = lamp; exists = refl; scope = refl }, tt), ((record { sum = post; exists = refl; scope = refl }, tt), tt));
-  starts = (
-    record { callable = record { definition = _; exists = refl; params = refl }; values = (record { low = refl; high = refl }, tt) },
-    (
-      record { callable = record { definition = _; exists = refl; params = refl }; values = (record { low = refl; high = refl }, tt) },
-      (record { callable = record { definition = _; exists = refl; params = refl }; values = (record { low = refl; high = refl }, tt) }, tt),
-    ),
-  );
-}
+sheet-good = opened-good texts.sheet sheet sheet-opens

@@ -22,7 +22,7 @@ use Rattle.rules.proofs.Moved.{chooses-goes, acts-goes, handshakes-goes}
 use Rattle.rules.proofs.Launched.{launch-adds}
 use Rattle.rules.proofs.Killed.{kill-takes, pairs-ascend}
 use Rattle.machine.specs.Evaluate.{evalAction}
-use Rattle.machine.specs.Good.{Every, namesBound, GoodPart, GoodBranch, GoodStart, GoodModel}
+use Rattle.model.specs.Good.{Every, namesBound, GoodPart, GoodBranch, GoodStart, GoodModel}
 use Rattle.machine.specs.Offer.{Process, branches, called}
 use Rattle.machine.specs.State.{State, pairLimit, GoodPair, GoodProcess, GoodState}
 use Rattle.machine.specs.Machine.{copies, startProcesses, openedState}

@@ -1,8 +1,9 @@
 pub mod Evaluate
 pub mod Offer
-pub mod Good
 pub mod State
 pub mod Machine
 pub mod Questions
 pub mod Specimens
 pub mod Refusals
+pub mod Starred
+pub mod Results

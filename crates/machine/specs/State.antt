@@ -10,7 +10,7 @@ use Rattle.model.specs.Resolved
 use Rattle.rules.specs.Offers as offers
 use Rattle.rules.specs.Order.{Ascending}
 use Rattle.rules.specs.Pairs.{numbers, Before}
-use Rattle.machine.specs.Good.{Every, OneOrTwo, SumWith}
+use Rattle.model.specs.Good.{Every, OneOrTwo, SumWith}
 use Rattle.machine.specs.Offer.{Process}
 
 -- 01, State: how many pairs may be lit

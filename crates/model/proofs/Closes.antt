@@ -18,7 +18,7 @@ use Rattle.model.specs.Words.{wholeOf}
 use Rattle.model.specs.Limits.{countLimit, definitionLimit, parameterLimit, localLimit, branchLimit}
 use Rattle.model.specs.Given.{takes, countWholes, countStarts, definitionNamed, isCallable}
 use Rattle.model.specs.Resolved.{Model, channelNames, definitionNumber, sumNumber, sumNumbers, defined, resolveCall, partsOf, partsIn, resolveNext, resolveBranch, resolveBranches, sumTree, branchesTree, branchTree, nextTree, contTree, contsTree, sumsTree, allSums, literalValue, wholeValues, startValues, resolveStart, resolved}
-use Rattle.model.specs.Good.{Every, SumAt, DefinitionAt, GoodPart, GoodBranch, GoodSum, GoodDefined, GoodStart, Good}
+use Rattle.model.specs.Good.{Every, SumWith, Callable, GoodPart, GoodBranch, GoodSum, GoodDefined, GoodStart, GoodModel}
 use Rattle.model.specs.Stands.{branchesOf, branchesIn, itemsOf, sumsOf, Holds, itself, grouped, SumIn, continued, BranchIn, SiteIn, beginning, inGate, inAction, inRate, calling, inCall}
 use Rattle.model.specs.Stands as stands
 use Rattle.model.specs.Faults.{startName, startList, wholesOf, startWholes}
@@ -89,18 +89,18 @@ module _ (w : ℕ → List ℕ) (m : Syntax.Model) where
 
     -- ---- what numbers lead to
 
-    sum-at : {sc : Scope} {s : Syntax.Sum} → SumIn m sc s → SumAt M (length sc) (sumNumber s)
+    sum-at : {sc : Scope} {s : Syntax.Sum} → SumIn m sc s → SumWith M (length sc) (sumNumber s)
     unfolding resolved
     sum-at h = let l = located w vs ds cs m (ok .numbering) h in record { sum = l .0; exists = l .1; scope = l .2 }
 
-    definition-by : {k : ℕ} (n : ℕ) (o : Option (ℕ × Definition)) → Defines w k ds 0 o → takes n o ≡ true → DefinitionAt M n (definitionNumber o)
+    definition-by : {k : ℕ} (n : ℕ) (o : Option (ℕ × Definition)) → Defines w k ds 0 o → takes n o ≡ true → Callable M n (definitionNumber o)
     unfolding takes definitionNumber resolved defined
     definition-by n o (found {d = d} q g e) t =
         let z : 0 + q ≡ q = omega arith in
-        record { defined = defined d; exists = rw z (got-each defined ds q g); parameters = eqb-true (length (d .params)) n t }
+        record { definition = defined d; exists = rw z (got-each defined ds q g); params = eqb-true (length (d .params)) n t }
     definition-by n o (absent f) t = not-both t refl
 
-    definition-at : (k n : ℕ) → isCallable w ds k n ≡ true → DefinitionAt M n (definitionNumber (definitionNamed w k 0 ds))
+    definition-at : (k n : ℕ) → isCallable w ds k n ≡ true → Callable M n (definitionNumber (definitionNamed w k 0 ds))
     unfolding isCallable
     definition-at k n h = definition-by n (definitionNamed w k 0 ds) (defines w k 0 ds) h
 
@@ -113,7 +113,7 @@ module _ (w : ℕ → List ℕ) (m : Syntax.Model) where
 
     -- what a continuation holds is well formed
     record Leads (sc : Scope) (c : Syntax.Cont) : Type 0 where
-      sums : (t : Syntax.Sum) → Holds (Syntax.proceed t) c → SumAt M (length sc) (sumNumber t)
+      sums : (t : Syntax.Sum) → Holds (Syntax.proceed t) c → SumWith M (length sc) (sumNumber t)
       calls : (k : ℕ) (a : Syntax.Args) → Holds (Syntax.call k a) c → GoodPart M (length sc) (resolveCall w vs ds cs sc k a)
 
     mutual
@@ -149,7 +149,7 @@ module _ (w : ℕ → List ℕ) (m : Syntax.Model) where
         let b = action-binds w vs ds cs (ok .variables) sc a (room (h .stands)) (λ x j. ok .sites sc x (inAction h j)) in
         record {
           gate = gate-good w vs ds cs (ok .variables) sc g (λ x j. ok .sites sc x (inGate h j));
-          action = action-good w vs ds cs (ok .variables) sc a (λ x j. ok .sites sc x (inAction h j)) (λ q j. numbered-below w vs q ds (branch-used w vs m q h j));
+          action = action-good w vs ds cs (ok .variables) sc M refl a (λ x j. ok .sites sc x (inAction h j)) (λ q j. numbered-below w vs q ds (branch-used w vs m q h j));
           rate = rate-good w vs ds cs (ok .variables) sc r (ok .rates sc i k g a r n h) (λ x j. ok .sites sc x (inRate h j));
           next = subst (λ (l : ℕ). Every (GoodPart M l) (resolveNext w vs ds cs (sc ++ bindings a) n)) (length-append sc (bindings a) ∙ ap (λ (l : ℕ). length sc + l) (b .0)) (next-good n h);
         }
@@ -180,7 +180,7 @@ module _ (w : ℕ → List ℕ) (m : Syntax.Model) where
     sum-good {sc} n b d h =
         let c = branches-count b sc in
         record {
-          few-locals = room h;
+          few = room h;
           some-branch = omega arith;
           few-branches = let f = few-branches (Syntax.sum n b) h in omega arith;
           branches = every-branch b sc (λ x i. let g = in-got (branchesOf b) i in branch-good x (record { sum = Syntax.sum n b; stands = h; place = g .1 }));
@@ -238,7 +238,7 @@ module _ (w : ℕ → List ℕ) (m : Syntax.Model) where
 
     -- ---- definitions
 
-    numbers-good : {n : ℕ} (s : Syntax.Sums) → ((x : Syntax.Sum) → In x (sumsOf s) → SumAt M n (sumNumber x)) → (1 ≤ length (sumNumbers s)) × Every (SumAt M n) (sumNumbers s)
+    numbers-good : {n : ℕ} (s : Syntax.Sums) → ((x : Syntax.Sum) → In x (sumsOf s) → SumWith M n (sumNumber x)) → (1 ≤ length (sumNumbers s)) × Every (SumWith M n) (sumNumbers s)
     unfolding sumsOf sumNumbers Every
     numbers-good (Syntax.lastSum s) h = (omega arith, (h s (head refl), tt))
     numbers-good (Syntax.nextSum s r) h = let g = numbers-good r (λ x i. h x (tail i)) in (omega arith, (h s (head refl), g .1))
@@ -272,13 +272,13 @@ module _ (w : ℕ → List ℕ) (m : Syntax.Model) where
     unfolding resolveStart startName startList
     start-good (Syntax.once k s) i =
         let g = values-good s (λ b j l. ok .values (Syntax.once k s) b j i l) in
-        record { definition = rw (g .0) (definition-at k (countStarts s) (ok .items (Syntax.once k s) i)); few = omega arith; values = g .1 }
+        record { callable = rw (g .0) (definition-at k (countStarts s) (ok .items (Syntax.once k s) i)); few = omega arith; values = g .1 }
     start-good (Syntax.counted c k s) i =
         let g = values-good s (λ b j l. ok .values (Syntax.counted c k s) b j i l) in
-        record { definition = rw (g .0) (definition-at k (countStarts s) (ok .items (Syntax.counted c k s) i)); few = ok .counts c k s i; values = g .1 }
+        record { callable = rw (g .0) (definition-at k (countStarts s) (ok .items (Syntax.counted c k s) i)); few = ok .counts c k s i; values = g .1 }
 
     -- a syntax tree without faults resolves to a well-formed model
-    pub closes : Good M
+    pub closes : GoodModel M
     unfolding resolved
     closes =
         record {

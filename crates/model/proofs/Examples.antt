@@ -10,6 +10,7 @@ use Rattle.grammar.specs.Grammar as derived
 use Rattle.grammar.specs.Syntax.{plus}
 use Rattle.model.specs.Resolved
 use Rattle.model.specs.Opening.{refused, opened, opening}
+use Rattle.model.specs.Texts.{sheet, bracket}
 use Rattle.model.proofs.Computes.{judgedBytes, kindsIn, written, ran, judgedTree, placed, opens-so, stops-so}
 
 -- ---- parts of derivations
@@ -56,14 +57,10 @@ counted = derived.counted derived.noStarts
 
 -- ---- 5
 
--- A[]={go,1}.(B[];B[]={go,1};A[];
-abbrev specimen : List ℕ
-specimen = 65 ∷ 91 ∷ 93 ∷ 61 ∷ 123 ∷ 103 ∷ 111 ∷ 44 ∷ 49 ∷ 125 ∷ 46 ∷ 40 ∷ 66 ∷ 91 ∷ 93 ∷ 59 ∷ 66 ∷ 91 ∷ 93 ∷ 61 ∷ 123 ∷ 103 ∷ 111 ∷ 44 ∷ 49 ∷ 125 ∷ 59 ∷ 65 ∷ 91 ∷ 93 ∷ 59 ∷ []
-
 -- a missing bracket doesn't run on into the next definition
-pub missing-bracket : opening specimen ≡ refused 5 15
+pub missing-bracket : opening bracket ≡ refused 5 15
 unfolding judgedBytes kindsIn ran placed
-missing-bracket = stops-so specimen 14 15 refl refl refl
+missing-bracket = stops-so bracket 14 15 refl refl refl
 
 -- a wait resolved, at a rate that is this scale
 abbrev waiting : Resolved.Scale → Resolved.Branch
@@ -265,9 +262,6 @@ channels =
 
 -- ---- the bench sheet
 
-abbrev sheet : List ℕ
-sheet = 103 ∷ 32 ∷ 61 ∷ 32 ∷ 48 ∷ 46 ∷ 50 ∷ 53 ∷ 59 ∷ 10 ∷ 76 ∷ 97 ∷ 109 ∷ 112 ∷ 91 ∷ 110 ∷ 93 ∷ 32 ∷ 61 ∷ 32 ∷ 123 ∷ 64 ∷ 112 ∷ 97 ∷ 115 ∷ 115 ∷ 33 ∷ 91 ∷ 110 ∷ 93 ∷ 44 ∷ 50 ∷ 125 ∷ 46 ∷ 76 ∷ 97 ∷ 109 ∷ 112 ∷ 91 ∷ 110 ∷ 43 ∷ 49 ∷ 93 ∷ 32 ∷ 43 ∷ 32 ∷ 91 ∷ 110 ∷ 60 ∷ 51 ∷ 93 ∷ 32 ∷ 45 ∷ 62 ∷ 32 ∷ 123 ∷ 103 ∷ 111 ∷ 44 ∷ 103 ∷ 42 ∷ 110 ∷ 125 ∷ 46 ∷ 76 ∷ 97 ∷ 109 ∷ 112 ∷ 91 ∷ 110 ∷ 43 ∷ 49 ∷ 93 ∷ 59 ∷ 10 ∷ 80 ∷ 111 ∷ 115 ∷ 116 ∷ 91 ∷ 97 ∷ 93 ∷ 32 ∷ 61 ∷ 32 ∷ 123 ∷ 64 ∷ 112 ∷ 97 ∷ 115 ∷ 115 ∷ 63 ∷ 91 ∷ 97 ∷ 46 ∷ 46 ∷ 97 ∷ 43 ∷ 49 ∷ 93 ∷ 40 ∷ 118 ∷ 41 ∷ 44 ∷ 49 ∷ 46 ∷ 53 ∷ 125 ∷ 46 ∷ 80 ∷ 111 ∷ 115 ∷ 116 ∷ 91 ∷ 118 ∷ 93 ∷ 59 ∷ 10 ∷ 76 ∷ 97 ∷ 109 ∷ 112 ∷ 91 ∷ 49 ∷ 93 ∷ 32 ∷ 124 ∷ 124 ∷ 32 ∷ 76 ∷ 97 ∷ 109 ∷ 112 ∷ 91 ∷ 52 ∷ 93 ∷ 32 ∷ 124 ∷ 124 ∷ 32 ∷ 80 ∷ 111 ∷ 115 ∷ 116 ∷ 91 ∷ 49 ∷ 93 ∷ 59 ∷ 10 ∷ []
-
 -- {@pass![n],2}.Lamp[n+1]
 abbrev offer : derived.Prefix
 offer = derived.prefix derived.noGate (derived.handSend aName (derived.oneValue aName)) aRate (derived.dot (derived.call (derived.args (derived.lastExpr nextOne))))
@@ -297,7 +291,7 @@ sheetTree =
 abbrev increased : Resolved.Expr
 increased = Resolved.binary plus (Resolved.localAt 0) (Resolved.constant (pos 1))
 
-abbrev sheetModel : Resolved.Model
+abbrev pub sheetModel : Resolved.Model
 sheetModel =
     record {
       sums =

@@ -1,5 +1,5 @@
 -- What is proved of limits, names and the resolved model: small texts (Examples); the faults of questions 7, 8 and 9 (Faulty) and their places (Places, Bracket);
--- the questions in order (Answered); opened models (Opened); sum numbers (Ordered), channel names (Channels, InOrder, Lone).
+-- the questions in order (Answered); opened models (Opened) and held ones (Held); sum numbers (Ordered), channel names (Channels, InOrder, Lone).
 pub mod Opens
 pub mod Computes
 pub mod Examples
@@ -25,6 +25,7 @@ pub mod InText
 pub mod Places
 pub mod Bracket
 pub mod Opened
+pub mod Held
 pub mod Ordered
 pub mod Lone
 pub mod Channels

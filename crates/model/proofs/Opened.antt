@@ -22,7 +22,7 @@ use Rattle.model.specs.Sites.{Scope, Site, whole, value, scale, bound, b
 use Rattle.model.specs.Words.{wordOf, wholeOf, decimalOf}
 use Rattle.model.specs.Limits.{countLimit, definitionLimit, parameterLimit, localLimit, branchLimit}
 use Rattle.model.specs.Resolved.{Model, channelNames, resolved}
-use Rattle.model.specs.Good.{scaleLimit, Good}
+use Rattle.model.specs.Good.{scaleLimit, GoodModel}
 use Rattle.model.specs.Opening.{processLimit, Opening, refused, opened, opening, startProcesses}
 use Rattle.model.specs.Stands.{BranchIn, SiteIn, inRate}
 use Rattle.model.specs.Faults.{WholeIn, inDefinition, inVariable, inSystem, long-decimal, large, count, definition, parameter, local, branching, noValue, noScale, noCall, noStart, uneven}
@@ -138,7 +138,8 @@ module _ (text : List ℕ) (s : Syntax.Model) (y5 : Yes5 text s) (y7 : Yes7 text
         items = λ r i. so _ (λ e. y9 _ (noStart i (callable-wrong w s y8 _ _ e)));
       }
 
-  closed : Good (resolved w s)
+  -- 7, 8 and 9 answered yes: the text's model is well formed
+  pub closed : GoodModel (resolved w s)
   closed = closes w s faultless
 
 module _ (text : List ℕ) where
@@ -146,7 +147,7 @@ module _ (text : List ℕ) where
   never-opened e = absurd (let z : _≡_ {A = ℕ} 0 1 = cc in omega arith)
 
   -- what all questions say of a model that was opened
-  opened-by : (o : Opening) (m : Model) → Answers text o → o ≡ opened m → Good m × (startProcesses (m .definitions) (m .starts) ≤ processLimit)
+  opened-by : (o : Opening) (m : Model) → Answers text o → o ≡ opened m → GoodModel m × (startProcesses (m .definitions) (m .starts) ≤ processLimit)
   opened-by o m (no2 h) e = never-opened e
   opened-by o m (no3 y2 h) e = never-opened e
   opened-by o m (no4 y2 y3 h) e = never-opened e
@@ -158,10 +159,10 @@ module _ (text : List ℕ) where
   opened-by o m (no10 y2 y3 y4 y5 y6 y7 y8 y9 h) e = never-opened e
   opened-by o m (yesToAll {s = s} y2 y3 y4 y5 y6 y7 y8 y9 y10) e =
       let d : resolved (wordOf text) s ≡ m = cc in
-      subst (λ (x : Model). Good x × (startProcesses (x .definitions) (x .starts) ≤ processLimit)) d (closed text s y5 y7 y8 y9, y10)
+      subst (λ (x : Model). GoodModel x × (startProcesses (x .definitions) (x .starts) ≤ processLimit)) d (closed text s y5 y7 y8 y9, y10)
 
   -- an opened model is well formed
-  pub opened-good : (m : Model) → opening text ≡ opened m → Good m
+  pub opened-good : (m : Model) → opening text ≡ opened m → GoodModel m
   opened-good m e = opened-by (opening text) m (answered text) e .0
 
   -- and starts with at most 256 processes

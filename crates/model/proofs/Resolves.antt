@@ -18,7 +18,7 @@ use Rattle.model.specs.Limits.{localLimit, branchLimit}
 use Rattle.model.specs.Given.{Meaning, local, variable, nothing, isValue, isGiven, meaning, isCallable, placeIn}
 use Rattle.model.specs.Resolved
 use Rattle.model.specs.Resolved.{isChannelName, channelUse, actionUse, orZero, listOf, numberValue, numberScale, valueNamed, scaleNamed, resolveExpr, resolveSet, resolveCond, resolveGate, resolveScale, resolveRate, channelNamed, resolveChannel, resolveValues, resolveSets, resolveAction, resolveArgs}
-use Rattle.model.specs.Good.{Every, scaleLimit, GoodExpr, GoodSet, GoodCond, GoodGate, GoodScale, GoodRate, GoodChannel, GoodValues, GoodSets, GoodAction, boundNames}
+use Rattle.model.specs.Good.{Every, scaleLimit, GoodExpr, GoodSet, GoodCond, GoodGate, GoodScale, GoodRate, OneOrTwo, GoodName, GoodValues, GoodSets, GoodAction, namesBound}
 use Rattle.model.proofs.Members.{not-both, got-below}
 use Rattle.model.proofs.Meanings.{Means, aLocal, aVariable, unknown, means}
 
@@ -165,65 +165,65 @@ module _ (w : ℕ → List ℕ) (vs : List Variable) (ds : List Definition) (cs 
     given-value (variable s) e = no-channel s e
     given-value nothing e = not-both refl e
 
-    name-good : (k : ℕ) (lone : Bool) → isLone w k ≡ lone → AllFine sc (cond lone [] (value k ∷ [])) → Known (cond (lone && isChannelName (meaning w vs sc k)) (k ∷ []) [])
-        → GoodChannel (length cs) n (cond (lone && isChannelName (meaning w vs sc k)) (Resolved.name (orZero (placeIn w k 0 cs))) (Resolved.number (valueNamed w vs ds cs (meaning w vs sc k))))
-    unfolding GoodChannel
-    name-good k false e h u = named-good _ (means w k vs sc) (h (value k) (head refl))
-    name-good k true e h u = by (isChannelName (meaning w vs sc k)) refl u
-      where
-        by : (c : Bool) → isChannelName (meaning w vs sc k) ≡ c → Known (cond c (k ∷ []) []) → GoodChannel (length cs) n (cond c (Resolved.name (orZero (placeIn w k 0 cs))) (Resolved.number (valueNamed w vs ds cs (meaning w vs sc k))))
-        by true f u = u k (head refl)
-        by false f u = named-good _ (means w k vs sc) (given-value _ f)
-
-    channel-good : (c : Syntax.Expr) → AllFine sc (channelSites w c) → Known (channelUse w vs sc c) → GoodChannel (length cs) n (resolveChannel w vs ds cs sc c)
-    unfolding channelSites channelUse resolveChannel channelNamed GoodChannel
-    channel-good (Syntax.literal b k) h u = expr-good (Syntax.literal b k) h
-    channel-good (Syntax.named k) h u = name-good k (isLone w k) refl h u
-    channel-good (Syntax.absolute e) h u = expr-good (Syntax.absolute e) h
-    channel-good (Syntax.binary o e f) h u = expr-good (Syntax.binary o e f) h
-
-    values-good : (v : Syntax.Values) → AllFine sc (valuesSites v) → GoodValues n (resolveValues w vs ds cs sc v)
-    unfolding valuesSites resolveValues Every
-    values-good (Syntax.oneValue e) h = record { some-value = omega arith; two-values = omega arith; each = (expr-good e h, tt) }
-    values-good (Syntax.twoValues e f) h =
-        record {
-          some-value = omega arith;
-          two-values = omega arith;
-          each = (expr-good e (λ x i. h x (left (exprSites f) i)), (expr-good f (λ x i. h x (right (exprSites e) i)), tt));
-        }
-
-    sets-good : (s : Syntax.Sets) → AllFine sc (setsSites s) → GoodSets n (resolveSets w vs ds cs sc s)
-    unfolding setsSites resolveSets Every
-    sets-good (Syntax.oneSet s) h = record { some-set = omega arith; two-sets = omega arith; each = (set-good s h, tt) }
-    sets-good (Syntax.twoSets s r) h =
-        record {
-          some-set = omega arith;
-          two-sets = omega arith;
-          each = (set-good s (λ x i. h x (left (setSites r) i)), (set-good r (λ x i. h x (right (setSites s) i)), tt));
-        }
-
     sets-count : (s : Syntax.Sets) → length (resolveSets w vs ds cs sc s) ≡ countSets s
     unfolding resolveSets countSets
     sets-count (Syntax.oneSet s) = refl
     sets-count (Syntax.twoSets s r) = refl
 
-    pub action-good : (a : Syntax.Action) → AllFine sc (actionSites w a) → Known (actionUse w vs sc a) → GoodAction (length cs) n (resolveAction w vs ds cs sc a)
-    unfolding actionSites actionUse resolveAction GoodAction
-    action-good (Syntax.wait k) h u = tt
-    action-good (Syntax.launch c v) h u = (channel-good c (λ x i. h x (left (valuesSites v) i)) u, values-good v (λ x i. h x (right (channelSites w c) i)))
-    action-good (Syntax.kill c v) h u = (channel-good c (λ x i. h x (left (valuesSites v) i)) u, values-good v (λ x i. h x (right (channelSites w c) i)))
-    action-good (Syntax.receive c s) h u = (channel-good c (λ x i. h x (left (setsSites s) i)) u, sets-good s (λ x i. h x (right (channelSites w c) i)))
-    action-good (Syntax.bind c s ns) h u =
-        (channel-good c (λ x i. h x (left (bound (tokensOf ns) (countSets s) ∷ []) (left (setsSites s) i))) u, sets-good s (λ x i. h x (left (bound (tokensOf ns) (countSets s) ∷ []) (right (channelSites w c) i))))
-    action-good (Syntax.check c s) h u = (channel-good c (λ x i. h x (left (setsSites s) i)) u, sets-good s (λ x i. h x (right (channelSites w c) i)))
-    action-good (Syntax.handSend c v) h u = (channel-good c (λ x i. h x (left (valuesSites v) i)) u, values-good v (λ x i. h x (right (channelSites w c) i)))
-    action-good (Syntax.handReceive c s) h u = (channel-good c (λ x i. h x (left (setsSites s) i)) u, sets-good s (λ x i. h x (right (channelSites w c) i)))
-    action-good (Syntax.handBind c s ns) h u =
-        (channel-good c (λ x i. h x (left (bound (tokensOf ns) (countSets s) ∷ []) (left (setsSites s) i))) u, sets-good s (λ x i. h x (left (bound (tokensOf ns) (countSets s) ∷ []) (right (channelSites w c) i))))
+    -- in a model with as many channel names
+    module _ (M : Resolved.Model) (counted : M .channels ≡ length cs) where
+      name-good : (k : ℕ) (lone : Bool) → isLone w k ≡ lone → AllFine sc (cond lone [] (value k ∷ [])) → Known (cond (lone && isChannelName (meaning w vs sc k)) (k ∷ []) [])
+          → GoodName M n (cond (lone && isChannelName (meaning w vs sc k)) (Resolved.name (orZero (placeIn w k 0 cs))) (Resolved.number (valueNamed w vs ds cs (meaning w vs sc k))))
+      unfolding GoodName
+      name-good k false e h u = named-good _ (means w k vs sc) (h (value k) (head refl))
+      name-good k true e h u = by (isChannelName (meaning w vs sc k)) refl u
+        where
+          by : (c : Bool) → isChannelName (meaning w vs sc k) ≡ c → Known (cond c (k ∷ []) []) → GoodName M n (cond c (Resolved.name (orZero (placeIn w k 0 cs))) (Resolved.number (valueNamed w vs ds cs (meaning w vs sc k))))
+          by true f u = rw counted (u k (head refl))
+          by false f u = named-good _ (means w k vs sc) (given-value _ f)
+
+      channel-good : (c : Syntax.Expr) → AllFine sc (channelSites w c) → Known (channelUse w vs sc c) → GoodName M n (resolveChannel w vs ds cs sc c)
+      unfolding channelSites channelUse resolveChannel channelNamed GoodName
+      channel-good (Syntax.literal b k) h u = expr-good (Syntax.literal b k) h
+      channel-good (Syntax.named k) h u = name-good k (isLone w k) refl h u
+      channel-good (Syntax.absolute e) h u = expr-good (Syntax.absolute e) h
+      channel-good (Syntax.binary o e f) h u = expr-good (Syntax.binary o e f) h
+
+      one : {A : Type 0} {x : A} → OneOrTwo (x ∷ [])
+      one = record { one = omega arith; two = omega arith }
+
+      two : {A : Type 0} {x y : A} → OneOrTwo (x ∷ y ∷ [])
+      two = record { one = omega arith; two = omega arith }
+
+      values-good : (c : Resolved.Channel) → GoodName M n c → (v : Syntax.Values) → AllFine sc (valuesSites v) → GoodValues M n c (resolveValues w vs ds cs sc v)
+      unfolding valuesSites resolveValues Every
+      values-good c g (Syntax.oneValue e) h = record { channel = g; number = one; values = (expr-good e h, tt) }
+      values-good c g (Syntax.twoValues e f) h =
+          record { channel = g; number = two; values = (expr-good e (λ x i. h x (left (exprSites f) i)), (expr-good f (λ x i. h x (right (exprSites e) i)), tt)) }
+
+      sets-good : (c : Resolved.Channel) → GoodName M n c → (s : Syntax.Sets) → AllFine sc (setsSites s) → GoodSets M n c (resolveSets w vs ds cs sc s)
+      unfolding setsSites resolveSets Every
+      sets-good c g (Syntax.oneSet s) h = record { channel = g; number = one; sets = (set-good s h, tt) }
+      sets-good c g (Syntax.twoSets s r) h =
+          record { channel = g; number = two; sets = (set-good s (λ x i. h x (left (setSites r) i)), (set-good r (λ x i. h x (right (setSites s) i)), tt)) }
+
+      pub action-good : (a : Syntax.Action) → AllFine sc (actionSites w a) → Known (actionUse w vs sc a) → GoodAction M n (resolveAction w vs ds cs sc a)
+      unfolding actionSites actionUse resolveAction GoodAction
+      action-good (Syntax.wait k) h u = tt
+      action-good (Syntax.launch c v) h u = values-good _ (channel-good c (λ x i. h x (left (valuesSites v) i)) u) v (λ x i. h x (right (channelSites w c) i))
+      action-good (Syntax.kill c v) h u = values-good _ (channel-good c (λ x i. h x (left (valuesSites v) i)) u) v (λ x i. h x (right (channelSites w c) i))
+      action-good (Syntax.receive c s) h u = sets-good _ (channel-good c (λ x i. h x (left (setsSites s) i)) u) s (λ x i. h x (right (channelSites w c) i))
+      action-good (Syntax.bind c s ns) h u =
+          sets-good _ (channel-good c (λ x i. h x (left (bound (tokensOf ns) (countSets s) ∷ []) (left (setsSites s) i))) u) s (λ x i. h x (left (bound (tokensOf ns) (countSets s) ∷ []) (right (channelSites w c) i)))
+      action-good (Syntax.check c s) h u = sets-good _ (channel-good c (λ x i. h x (left (setsSites s) i)) u) s (λ x i. h x (right (channelSites w c) i))
+      action-good (Syntax.handSend c v) h u = values-good _ (channel-good c (λ x i. h x (left (valuesSites v) i)) u) v (λ x i. h x (right (channelSites w c) i))
+      action-good (Syntax.handReceive c s) h u = sets-good _ (channel-good c (λ x i. h x (left (setsSites s) i)) u) s (λ x i. h x (right (channelSites w c) i))
+      action-good (Syntax.handBind c s ns) h u =
+          sets-good _ (channel-good c (λ x i. h x (left (bound (tokensOf ns) (countSets s) ∷ []) (left (setsSites s) i))) u) s (λ x i. h x (left (bound (tokensOf ns) (countSets s) ∷ []) (right (channelSites w c) i)))
 
     -- a binding action binds as many names as it has sets, and they have room
-    pub action-binds : (a : Syntax.Action) → n ≤ localLimit → AllFine sc (actionSites w a) → (length (bindings a) ≡ boundNames (resolveAction w vs ds cs sc a)) × (n + length (bindings a) ≤ localLimit)
-    unfolding actionSites bindings resolveAction boundNames
+    pub action-binds : (a : Syntax.Action) → n ≤ localLimit → AllFine sc (actionSites w a) → (length (bindings a) ≡ namesBound (resolveAction w vs ds cs sc a)) × (n + length (bindings a) ≤ localLimit)
+    unfolding actionSites bindings resolveAction namesBound
     action-binds (Syntax.wait k) l h = (refl, omega arith)
     action-binds (Syntax.launch c v) l h = (refl, omega arith)
     action-binds (Syntax.kill c v) l h = (refl, omega arith)

@@ -10,4 +10,5 @@ pub mod Good
 pub mod Stands
 pub mod Faults
 pub mod Questions
+pub mod Texts
 pub mod Held

@@ -35,7 +35,7 @@ refuses (holds r) p = absurd (p r)
 refuses (fails r) p = refl
 
 -- ---- the connectives
-both : {P Q : Type 0} {a b : Bool} → Decides P a → Decides Q b → Decides (P × Q) (a && b)
+pub both : {P Q : Type 0} {a b : Bool} → Decides P a → Decides Q b → Decides (P × Q) (a && b)
 both (holds p) (holds q) = holds (p, q)
 both (holds p) (fails q) = fails (λ h. q (h .1))
 both (fails p) (holds q) = fails (λ h. p (h .0))

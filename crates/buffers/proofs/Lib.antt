@@ -1,0 +1,8 @@
+-- What is proved of lent buffers: model buffers (Held), listing buffers (Listings), the machine in two buffers (Machines), every list of calls (Calls), what listings and steps show after it
+-- (Transitions), and what each answer leaves (Outcomes).
+pub mod Held
+pub mod Listings
+pub mod Machines
+pub mod Calls
+pub mod Transitions
+pub mod Outcomes

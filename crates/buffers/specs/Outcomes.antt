@@ -1,0 +1,36 @@
+-- What a call leaves of the buffers, by the number that it answers (01, Opening a text, Listing and stepping): a constructor for each outcome. Definitions only.
+use mathlib.Core.Path.{_≡_}
+use mathlib.Core.List.{List}
+use mathlib.Core.Logic.{_⊎_}
+use Prim.Native.Nat.{ℕ, _≤_}
+use lib.ListN.{replicate}
+use Rattle.model.specs.Resolved
+use Rattle.model.specs.Opening.{opened}
+use Rattle.model.specs.Opening as reading
+use Rattle.rules.specs.Listing.{Entry}
+use Rattle.machine.specs.State.{State, stateNumbers}
+use Rattle.machine.specs.Machine.{listingLength, openedState, Machine, holding}
+use Rattle.machine.specs.Questions.{IsListing}
+use Rattle.buffers.specs.Held.{modelBytes}
+use Rattle.buffers.specs.Listing.{listingNumbers}
+use Rattle.buffers.specs.Effect.{Effect}
+use Rattle.buffers.specs.Calls.{Engine, fresh, own, lentBuffer, BufferCall, opening, lentModel, lentState, leftBy, listingOf}
+
+-- 01, Opening a text, Listing and stepping: of a call c to an engine x that holds the machine y, with the effect e
+pub data Outcome (x : Engine) (y : Machine) (c : BufferCall) (e : Effect) : Type 0 where
+  -- 1 and 11 change nothing that is lent
+  nothing : (e .answer .number ≡ 1) ⊎ (e .answer .number ≡ 11)
+      → e .model ≡ lentBuffer (lentModel c) (x .model) → e .state ≡ lentBuffer (lentState c) (x .state) → e .listing ≡ listingOf c → Outcome x y c e
+  -- 2 to 10 zero both buffers
+  zeroed : 2 ≤ e .answer .number → e .answer .number ≤ 10 → leftBy x c ≡ fresh → Outcome x y c e
+  -- an accepted opening fills both
+  opens : {text : List ℕ} {m : Resolved.Model} → c ≡ opening text own own → reading.opening text ≡ opened m
+      → e .answer .number ≡ 0 → e .model ≡ modelBytes text → e .state ≡ stateNumbers (openedState m) → Outcome x y c e
+  -- 12 to 14 zero the listing, and change nothing else
+  unlisted : 12 ≤ e .answer .number → e .answer .number ≤ 14 → e .listing ≡ replicate listingLength 0 → leftBy x c ≡ x → Outcome x y c e
+  -- 15 to 19 leave the listing filled, and change nothing else
+  listed : {m : Resolved.Model} {s : State} {es : List Entry} → y ≡ holding m s → IsListing m s es
+      → 15 ≤ e .answer .number → e .answer .number ≤ 19 → e .listing ≡ listingNumbers es → leftBy x c ≡ x → Outcome x y c e
+  -- list and step are accepted: the listing is filled, as Transitions.antt says
+  accepted : {m : Resolved.Model} {s : State} {es : List Entry} → y ≡ holding m s → IsListing m s es
+      → e .answer .number ≡ 0 → e .listing ≡ listingNumbers es → e .model ≡ x .model → Outcome x y c e

@@ -1,0 +1,76 @@
+-- What an accepted listing of an engine shows, and what a step of the same engine takes and leaves (01, Transitions, Step). Definitions only.
+use mathlib.Core.Path.{_≡_}
+use mathlib.Core.List.{List}
+use mathlib.Core.Option.{some}
+use Prim.Native.Nat.{ℕ, _≤_}
+use lib.ListN.{length}
+use Rattle.model.specs.Resolved
+use Rattle.model.specs.Held.{held}
+use Rattle.rules.specs.Rules.{Nth, Change, Key, Moves}
+use Rattle.rules.specs.Listing.{Entry, entry}
+use Rattle.rules.specs.Pairs.{pairsAfter}
+use Rattle.rules.specs.Draw.{weights, total, chosen, isChosen, count}
+use Rattle.machine.specs.Offer.{Process, branches}
+use Rattle.machine.specs.State.{State, stateNumbers}
+use Rattle.machine.specs.Machine.{entryLimit, listingLength, totalLimit, listedAs, Turn, Machine, holding}
+use Rattle.machine.specs.Questions.{Evaluated, IsListing, Chosen, AllGiven, Steps}
+use Rattle.buffers.specs.Held.{modelBytes}
+use Rattle.buffers.specs.Listing.{listingNumbers}
+use Rattle.buffers.specs.Effect.{Effect}
+use Rattle.buffers.specs.Calls.{Engine, own, listing, stepping, effect, leftBy}
+
+-- 01, Step: what is left of an engine by any step that is lent right lengths, where es is listed: 15 to 19 or acceptance, as the questions say
+pub record Leaves (x : Engine) (m : Resolved.Model) (s : State) (es : List Entry) (d : ℕ) (e : Effect) : Type 0 where
+  pub turn : Turn State
+  pub asked : Steps m s es d turn
+  pub answer : e .answer ≡ turn .answer
+  pub listed : e .listing ≡ listingNumbers es
+  pub model : e .model ≡ x .model
+  pub state : e .state ≡ stateNumbers (turn .machine)
+
+-- 01, Step: what an accepted step takes and leaves
+pub record Takes (m : Resolved.Model) (s : State) (es : List Entry) (d : ℕ) (e : Effect) : Type 0 where
+  -- the entry with this number, the first whose running sum exceeds the draw
+  pub number : ℕ
+  pub key : Key
+  pub weight : ℕ
+  pub drawn : chosen (weights es) d ≡ some number
+  pub entry : Chosen es d number key weight
+  -- every argument of the continuations that it enters has a value
+  pub given : AllGiven m s key
+  -- the rules' own move with that key and weight
+  pub change : Change
+  pub processes : List Process
+  pub moves : Moves (branches m) s key weight change processes
+  -- the answer names the entry; the listing is the one before the step; the state is the one moved to
+  pub answer : e .answer ≡ listedAs 0 number es
+  pub listed : e .listing ≡ listingNumbers es
+  pub state : e .state ≡ stateNumbers (record { processes = processes; pairs = pairsAfter change (s .pairs) })
+
+-- 01, Transitions: what an accepted list call of an engine shows, where y is the rule machine that was fed the same calls, and l the listing buffer lent
+pub record Shows (x : Engine) (y : Machine) (l : List ℕ) : Type 0 where
+  -- the model and the state that the buffers hold
+  pub text : List ℕ
+  pub model : Resolved.Model
+  pub state : State
+  pub machine : y ≡ holding model state
+  pub model-buffer : x .model ≡ modelBytes text
+  pub text-holds : held text ≡ some model
+  pub state-buffer : x .state ≡ stateNumbers state
+  -- the entries are the derivable transitions, each once and in order, and nothing that was evaluated lacked a value
+  pub entries : List Entry
+  pub derivable : IsListing model state entries
+  pub evaluated : Evaluated model (state .processes)
+  pub few : length entries ≤ entryLimit
+  pub bounded : total (weights entries) ≤ totalLimit
+  -- the listing buffer has them and nothing else; the engine stays as it was
+  pub listed : effect x (listing own own l) .listing ≡ listingNumbers entries
+  pub stays : leftBy x (listing own own l) ≡ x
+  -- the answer has their number and the sum of their weights
+  pub number : effect x (listing own own l) .answer .count ≡ length entries
+  pub sum : effect x (listing own own l) .answer .total ≡ total (weights entries)
+  -- of the draws below that sum, as many choose an entry as its weight says
+  pub draws : {i : ℕ} {k : Key} {w : ℕ} → Nth entries i (entry k w) → count (λ d. isChosen i (chosen (weights entries) d)) (total (weights entries)) ≡ w
+  -- a step of the same engine draws from this same listing
+  pub steps : (l : List ℕ) (d : ℕ) → length l ≡ listingLength → Leaves x model state entries d (effect x (stepping own own l d))
+  pub takes : (l : List ℕ) (d : ℕ) → length l ≡ listingLength → effect x (stepping own own l d) .answer .number ≡ 0 → Takes model state entries d (effect x (stepping own own l d))

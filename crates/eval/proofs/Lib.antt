@@ -1,0 +1,17 @@
+pub mod Cells
+pub mod Operators
+pub mod Exprs
+pub mod Sets
+pub mod Relations
+pub mod Conds
+pub mod Products
+pub mod Rates
+pub mod Channels
+pub mod Lists
+pub mod Arguments
+pub mod Ends
+pub mod Offers
+pub mod Continuations
+pub mod Rows
+pub mod Puts
+pub mod Alike

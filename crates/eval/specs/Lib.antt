@@ -1,0 +1,7 @@
+pub mod Held
+pub mod Skips
+pub mod Answers
+pub mod Rates
+pub mod Lists
+pub mod Shown
+pub mod Next

@@ -1,0 +1,127 @@
+-- The starred specimens of 01, a row for each: a text, byte for byte, the calls made once it is opened, and every answer of the rule machine.
+-- That each row holds is proofs/Starred.antt. Assumes nothing: these are definitions.
+use mathlib.Core.Path.{_≡_}
+use mathlib.Core.List.{List, [], _∷_}
+use Prim.Native.Nat.{ℕ}
+use Rattle.model.specs.Texts as texts
+use Rattle.rules.specs.Kind as kind
+use Rattle.rules.specs.Rules.{key}
+use Rattle.rules.specs.Listing.{Entry, entry}
+use Rattle.machine.specs.State.{stateLength}
+use Rattle.machine.specs.Machine.{modelLength, listingLength, asLent, zeroed, filled, Answer, no, Call, open′, list′, step′, closed, answers}
+
+-- 01, Specimens: those with a star, in 01's order
+pub data Specimen : Type 0 where
+  sheet : Specimen  -- this sheet
+  rowOne : Specimen  -- draw 299999999 takes row one
+  rowTwo : Specimen  -- 300000000 row two
+  minusByTwo : Specimen  -- −7/2 is −3
+  byMinusTwo : Specimen  -- so is 7/−2
+  beyond : Specimen  -- −2147483648/−1 has no value
+  threeAndFive : Specimen  -- `3..5\4` holds 3 and 5
+  unlit : Specimen  -- launch, launch, kill
+  unbound : Specimen  -- two matching pairs: one entry unbound
+  twoBound : Specimen  -- and two bound
+  enabled : Specimen  -- a check on no pairs
+  noHandshake : Specimen  -- one process both sending and receiving
+  bracket : Specimen  -- a missing bracket gives 5, place 15
+
+-- a text that is opened in a fresh machine, the calls made after it, and the answers to all of them
+pub record Row : Type 0 where
+  pub text : List ℕ
+  pub calls : List Call
+  pub expected : List Answer
+
+-- 01, Specimens: the rule machine gives these answers
+unfoldable pub Holds : Row → Type 0
+Holds r = answers closed (open′ (r .text) modelLength stateLength ∷ r .calls) ≡ r .expected
+
+-- ---- the texts, but for the two that 01 has in full (crate model, Texts)
+
+-- A[]={c![-7/2],1}.{c?[-3],1};A[];
+abbrev pub minusByTwoText : List ℕ
+minusByTwoText = 65 ∷ 91 ∷ 93 ∷ 61 ∷ 123 ∷ 99 ∷ 33 ∷ 91 ∷ 45 ∷ 55 ∷ 47 ∷ 50 ∷ 93 ∷ 44 ∷ 49 ∷ 125 ∷ 46 ∷ 123 ∷ 99 ∷ 63 ∷ 91 ∷ 45 ∷ 51 ∷ 93 ∷ 44 ∷ 49 ∷ 125 ∷ 59 ∷ 65 ∷ 91 ∷ 93 ∷ 59 ∷ []
+
+-- A[]={c![7/-2],1}.{c?[-3],1};A[];
+abbrev pub byMinusTwoText : List ℕ
+byMinusTwoText = 65 ∷ 91 ∷ 93 ∷ 61 ∷ 123 ∷ 99 ∷ 33 ∷ 91 ∷ 55 ∷ 47 ∷ 45 ∷ 50 ∷ 93 ∷ 44 ∷ 49 ∷ 125 ∷ 46 ∷ 123 ∷ 99 ∷ 63 ∷ 91 ∷ 45 ∷ 51 ∷ 93 ∷ 44 ∷ 49 ∷ 125 ∷ 59 ∷ 65 ∷ 91 ∷ 93 ∷ 59 ∷ []
+
+-- A[]={c![-2147483648/-1],1};A[];
+abbrev pub beyondText : List ℕ
+beyondText = 65 ∷ 91 ∷ 93 ∷ 61 ∷ 123 ∷ 99 ∷ 33 ∷ 91 ∷ 45 ∷ 50 ∷ 49 ∷ 52 ∷ 55 ∷ 52 ∷ 56 ∷ 51 ∷ 54 ∷ 52 ∷ 56 ∷ 47 ∷ 45 ∷ 49 ∷ 93 ∷ 44 ∷ 49 ∷ 125 ∷ 59 ∷ 65 ∷ 91 ∷ 93 ∷ 59 ∷ []
+
+-- A[]={@c?[3..5\4],1};B[x]={@c![x],1};A[]||B[3]||B[4]||B[5];
+abbrev pub withoutText : List ℕ
+withoutText = 65 ∷ 91 ∷ 93 ∷ 61 ∷ 123 ∷ 64 ∷ 99 ∷ 63 ∷ 91 ∷ 51 ∷ 46 ∷ 46 ∷ 53 ∷ 92 ∷ 52 ∷ 93 ∷ 44 ∷ 49 ∷ 125 ∷ 59 ∷ 66 ∷ 91 ∷ 120 ∷ 93 ∷ 61 ∷ 123 ∷ 64 ∷ 99 ∷ 33 ∷ 91 ∷ 120 ∷ 93 ∷ 44 ∷ 49 ∷ 125 ∷ 59 ∷ 65 ∷ 91 ∷ 93 ∷ 124 ∷ 124 ∷ 66 ∷ 91 ∷ 51 ∷ 93 ∷ 124 ∷ 124 ∷ 66 ∷ 91 ∷ 52 ∷ 93 ∷ 124 ∷ 124 ∷ 66 ∷ 91 ∷ 53 ∷ 93 ∷ 59 ∷ []
+
+-- A[]={c![1],1}.{c![1],1}.{c#[1],1}.{~c?[1],1};A[];
+abbrev pub unlitText : List ℕ
+unlitText = 65 ∷ 91 ∷ 93 ∷ 61 ∷ 123 ∷ 99 ∷ 33 ∷ 91 ∷ 49 ∷ 93 ∷ 44 ∷ 49 ∷ 125 ∷ 46 ∷ 123 ∷ 99 ∷ 33 ∷ 91 ∷ 49 ∷ 93 ∷ 44 ∷ 49 ∷ 125 ∷ 46 ∷ 123 ∷ 99 ∷ 35 ∷ 91 ∷ 49 ∷ 93 ∷ 44 ∷ 49 ∷ 125 ∷ 46 ∷ 123 ∷ 126 ∷ 99 ∷ 63 ∷ 91 ∷ 49 ∷ 93 ∷ 44 ∷ 49 ∷ 125 ∷ 59 ∷ 65 ∷ 91 ∷ 93 ∷ 59 ∷ []
+
+-- A[]={c![1],1}.{c![2],1}.{c?[1..2],1};A[];
+abbrev pub unboundText : List ℕ
+unboundText = 65 ∷ 91 ∷ 93 ∷ 61 ∷ 123 ∷ 99 ∷ 33 ∷ 91 ∷ 49 ∷ 93 ∷ 44 ∷ 49 ∷ 125 ∷ 46 ∷ 123 ∷ 99 ∷ 33 ∷ 91 ∷ 50 ∷ 93 ∷ 44 ∷ 49 ∷ 125 ∷ 46 ∷ 123 ∷ 99 ∷ 63 ∷ 91 ∷ 49 ∷ 46 ∷ 46 ∷ 50 ∷ 93 ∷ 44 ∷ 49 ∷ 125 ∷ 59 ∷ 65 ∷ 91 ∷ 93 ∷ 59 ∷ []
+
+-- A[]={c![1],1}.{c![2],1}.{c?[1..2](x),1};A[];
+abbrev pub boundText : List ℕ
+boundText = 65 ∷ 91 ∷ 93 ∷ 61 ∷ 123 ∷ 99 ∷ 33 ∷ 91 ∷ 49 ∷ 93 ∷ 44 ∷ 49 ∷ 125 ∷ 46 ∷ 123 ∷ 99 ∷ 33 ∷ 91 ∷ 50 ∷ 93 ∷ 44 ∷ 49 ∷ 125 ∷ 46 ∷ 123 ∷ 99 ∷ 63 ∷ 91 ∷ 49 ∷ 46 ∷ 46 ∷ 50 ∷ 93 ∷ 40 ∷ 120 ∷ 41 ∷ 44 ∷ 49 ∷ 125 ∷ 59 ∷ 65 ∷ 91 ∷ 93 ∷ 59 ∷ []
+
+-- A[]={~c?[1],1};A[];
+abbrev pub checkText : List ℕ
+checkText = 65 ∷ 91 ∷ 93 ∷ 61 ∷ 123 ∷ 126 ∷ 99 ∷ 63 ∷ 91 ∷ 49 ∷ 93 ∷ 44 ∷ 49 ∷ 125 ∷ 59 ∷ 65 ∷ 91 ∷ 93 ∷ 59 ∷ []
+
+-- A[]={@c![1],1}+{@c?[1],1};A[];
+abbrev pub bothText : List ℕ
+bothText = 65 ∷ 91 ∷ 93 ∷ 61 ∷ 123 ∷ 64 ∷ 99 ∷ 33 ∷ 91 ∷ 49 ∷ 93 ∷ 44 ∷ 49 ∷ 125 ∷ 43 ∷ 123 ∷ 64 ∷ 99 ∷ 63 ∷ 91 ∷ 49 ∷ 93 ∷ 44 ∷ 49 ∷ 125 ∷ 59 ∷ 65 ∷ 91 ∷ 93 ∷ 59 ∷ []
+
+-- ---- calls and answers
+
+-- a list call that is lent what it asks for
+abbrev pub lists : Call
+lists = list′ modelLength stateLength listingLength
+
+-- a step with this draw
+abbrev pub steps : ℕ → Call
+steps d = step′ modelLength stateLength listingLength d
+
+-- an accepted opening
+abbrev pub isOpen : Answer
+isOpen = no 0 0 0 asLent
+
+-- an entry of this kind at place 0 and branch 0, with rate 1
+abbrev pub one : ℕ → Entry
+one c = entry (key c 0 0 0 0 0) 100000000
+
+-- an accepted list or step: entry count, total, the chosen entry's number, the entries
+abbrev pub listed : ℕ → ℕ → ℕ → List Entry → Answer
+listed n t c es = record { number = 0; place = 0; branch = 0; count = n; total = t; chosen = c; listing = filled es }
+
+-- the only entry is of this kind, with rate 1; a step takes it
+abbrev pub only : ℕ → Answer
+only c = listed 1 100000000 0 (one c ∷ [])
+
+-- the sheet's two rows
+abbrev pub sheetRows : List Entry
+sheetRows = entry (key kind.handshake 0 0 2 0 0) 300000000 ∷ entry (key kind.wait 0 1 0 0 0) 25000000 ∷ []
+
+-- ---- the rows
+
+-- 01, Specimens: what each one says
+unfoldable pub row : Specimen → Row
+row sheet = record { text = texts.sheet; calls = lists ∷ []; expected = isOpen ∷ listed 2 325000000 0 sheetRows ∷ [] }
+row rowOne = record { text = texts.sheet; calls = steps 299999999 ∷ []; expected = isOpen ∷ listed 2 325000000 0 sheetRows ∷ [] }
+row rowTwo = record { text = texts.sheet; calls = steps 300000000 ∷ []; expected = isOpen ∷ listed 2 325000000 1 sheetRows ∷ [] }
+-- the quotient is launched, and −3 is received
+row minusByTwo = record { text = minusByTwoText; calls = steps 0 ∷ lists ∷ []; expected = isOpen ∷ only kind.launch ∷ only kind.receive ∷ [] }
+row byMinusTwo = record { text = byMinusTwoText; calls = steps 0 ∷ lists ∷ []; expected = isOpen ∷ only kind.launch ∷ only kind.receive ∷ [] }
+-- a part without value gives 12
+row beyond = record { text = beyondText; calls = lists ∷ []; expected = isOpen ∷ no 12 0 0 zeroed ∷ [] }
+-- of three processes that send 3, 4 and 5, the first and the third are heard
+row threeAndFive = record { text = withoutText; calls = lists ∷ []; expected = isOpen ∷ listed 2 200000000 0 (entry (key kind.handshake 1 0 0 0 0) 100000000 ∷ entry (key kind.handshake 3 0 0 0 0) 100000000 ∷ []) ∷ [] }
+-- after them a check for the pair is enabled
+row unlit = record { text = unlitText; calls = steps 0 ∷ steps 0 ∷ steps 0 ∷ lists ∷ []; expected = isOpen ∷ only kind.launch ∷ only kind.launch ∷ only kind.kill ∷ only kind.check ∷ [] }
+row unbound = record { text = unboundText; calls = steps 0 ∷ steps 0 ∷ lists ∷ []; expected = isOpen ∷ only kind.launch ∷ only kind.launch ∷ only kind.receive ∷ [] }
+row twoBound = record { text = boundText; calls = steps 0 ∷ steps 0 ∷ lists ∷ []; expected = isOpen ∷ only kind.launch ∷ only kind.launch ∷ listed 2 200000000 0 (one kind.bind ∷ entry (key kind.bind 0 0 0 0 1) 100000000 ∷ []) ∷ [] }
+row enabled = record { text = checkText; calls = lists ∷ []; expected = isOpen ∷ only kind.check ∷ [] }
+row noHandshake = record { text = bothText; calls = lists ∷ []; expected = isOpen ∷ listed 0 0 0 [] ∷ [] }
+row bracket = record { text = texts.bracket; calls = []; expected = no 5 15 0 asLent ∷ [] }

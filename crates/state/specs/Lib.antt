@@ -1,0 +1,5 @@
+pub mod Fits
+pub mod Test
+pub mod Decode
+pub mod Change
+pub mod Read

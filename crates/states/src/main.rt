@@ -1,0 +1,261 @@
+// Runs the test of a state on damaged numbers, and the changes of a state on a small one.
+ghost use mathlib.Core.Path.{_≡_};
+ghost use mathlib.Core.Bool.{true};
+ghost use Rattle.state.specs.Read.{Passed};
+use libc::STDOUT_FILENO;
+use state::Layout;
+use value::Range;
+
+// The length of a state's numbers, and a model with three sums and two channel names.
+struct Sample;
+
+type Numbers = [i64; 3586];
+
+impl Sample {
+    const LENGTH: usize = 3586;
+
+    const SUMS: usize = 3;
+
+    const CHANNELS: usize = 2;
+}
+
+fn say(text: &[u8]) {
+    io::write_all(STDOUT_FILENO, text);
+}
+
+fn is_good(state: &Numbers) -> bool
+    ensures { λ r. ⌜ (r ≡ true → Passed (now (state .entry))) ⌝ }
+{
+    let scopes = [2, 0, 8];
+    state::is_state(state, &scopes, Sample::SUMS, Sample::CHANNELS)
+}
+
+fn test(label: &[u8], state: &Numbers) {
+    say(label);
+    if is_good(state) {
+        say(b",yes\n");
+        return;
+    }
+    say(b",no\n");
+}
+
+fn push(state: &mut Numbers, sum: u8, locals: &[i64]) {
+    if !is_good(state) {
+        return;
+    }
+    if Layout::COUNTS <= state::process_count(state) + 1 {
+        return;
+    }
+    if Layout::PROCESS <= locals.len() {
+        return;
+    }
+    state::push_process(state, sum as usize, locals);
+}
+
+fn launch(state: &mut Numbers, row: &[i64; 5]) {
+    if !is_good(state) {
+        return;
+    }
+    if Layout::COUNTS <= state::pair_count(state) + 1 {
+        return;
+    }
+    state::launch_pair(state, row);
+}
+
+fn kill(state: &mut Numbers, row: &[i64; 5]) {
+    if !is_good(state) {
+        return;
+    }
+    state::kill_pair(state, row);
+}
+
+// Two processes of sum 1 take the place of a process.
+fn split(state: &mut Numbers, place: usize) {
+    if !is_good(state) {
+        return;
+    }
+    let n = state::process_count(state);
+    if n <= place {
+        return;
+    }
+    if Layout::COUNTS <= n + 1 {
+        return;
+    }
+    let fresh = [1, 0, 0, 0, 0, 0, 0, 0, 0, 1, 0, 0, 0, 0, 0, 0, 0, 0];
+    state::splice(state, place, &fresh, 2);
+}
+
+// A process goes without a continuation.
+fn end(state: &mut Numbers, place: usize) {
+    if !is_good(state) {
+        return;
+    }
+    if state::process_count(state) <= place {
+        return;
+    }
+    let fresh = [0; 0];
+    state::splice(state, place, &fresh, 0);
+}
+
+// Three processes and three pairs.
+fn fill(state: &mut Numbers) {
+    push(state, 0, &[5, 7]);
+    push(state, 2, &[1, 2, 3, 4, 5, 6, 7, 8]);
+    push(state, 1, &[0; 0]);
+    launch(state, &[1, 1, 1, 9, 0]);
+    launch(state, &[0, 4, 2, 1, 2]);
+    launch(state, &[0, 4, 1, 1, 0]);
+}
+
+// The test of the sample with another number at a place: the first process stands at 2, the first pair at 2306.
+fn damaged(label: &[u8], at: usize, z: i64) {
+    let mut state = [0; Sample::LENGTH];
+    fill(&mut state);
+    if at < Sample::LENGTH {
+        state[at] = z;
+    }
+    test(label, &state);
+}
+
+// The test of the sample with another second pair.
+fn second_pair(label: &[u8], row: &[i64; 5]) {
+    let mut state = [0; Sample::LENGTH];
+    fill(&mut state);
+    let at = Layout::PAIRS + Layout::PAIR;
+    state[at] = row[0];
+    state[at + 1] = row[1];
+    state[at + 2] = row[2];
+    state[at + 3] = row[3];
+    state[at + 4] = row[4];
+    test(label, &state);
+}
+
+fn counts() {
+    damaged(b"processes -1", 0, -1);
+    damaged(b"processes 4", 0, 4);
+    damaged(b"processes 2", 0, 2);
+    damaged(b"processes 257", 0, 257);
+    damaged(b"processes least", 0, -9223372036854775808);
+    damaged(b"processes greatest", 0, 9223372036854775807);
+    damaged(b"pairs -1", 1, -1);
+    damaged(b"pairs 4", 1, 4);
+    damaged(b"pairs 2", 1, 2);
+    damaged(b"pairs 257", 1, 257);
+    damaged(b"pairs least", 1, -9223372036854775808);
+    damaged(b"pairs greatest", 1, 9223372036854775807);
+}
+
+fn processes() {
+    damaged(b"sum 3", 2, 3);
+    damaged(b"sum -1", 2, -1);
+    damaged(b"sum least", 2, -9223372036854775808);
+    damaged(b"sum greatest", 2, 9223372036854775807);
+    damaged(b"sum of fewer locals", 2, 1);
+    damaged(b"sum of more locals", 2, 2);
+    damaged(b"local least", 3, Range::LEAST);
+    damaged(b"local below least", 3, Range::LEAST - 1);
+    damaged(b"local greatest", 4, Range::GREATEST);
+    damaged(b"local above greatest", 4, Range::GREATEST + 1);
+    damaged(b"first local past scope", 5, 1);
+    damaged(b"last local past scope", 10, 1);
+    damaged(b"eighth local in scope", 19, -1);
+    damaged(b"local of none", 21, 1);
+    damaged(b"first unused process", 29, 1);
+    damaged(b"last of the processes", 2305, 1);
+}
+
+fn channels() {
+    damaged(b"kind 2", 2306, 2);
+    damaged(b"kind -1", 2306, -1);
+    damaged(b"name of no channel", 2306, 1);
+    damaged(b"number least", 2307, Range::LEAST);
+    damaged(b"number below least", 2307, Range::LEAST - 1);
+    damaged(b"number greatest", 2312, Range::GREATEST);
+    damaged(b"number above greatest", 2312, Range::GREATEST + 1);
+    damaged(b"name 0", 2317, 0);
+    damaged(b"name -1", 2317, -1);
+    damaged(b"name 2", 2317, 2);
+}
+
+fn values() {
+    damaged(b"no value", 2308, 0);
+    damaged(b"values -1", 2308, -1);
+    damaged(b"three values", 2313, 3);
+    damaged(b"value least", 2309, Range::LEAST);
+    damaged(b"value below least", 2309, Range::LEAST - 1);
+    damaged(b"second value greatest", 2315, Range::GREATEST);
+    damaged(b"second value above greatest", 2315, Range::GREATEST + 1);
+    damaged(b"second value of one", 2310, 1);
+    damaged(b"first unused pair", 2321, 1);
+    damaged(b"last of the pairs", 3585, 1);
+}
+
+fn order() {
+    second_pair(b"ascending values", &[0, 4, 1, 2, 0]);
+    second_pair(b"equal pairs", &[0, 4, 1, 1, 0]);
+    second_pair(b"descending values", &[0, 4, 1, 0, 0]);
+    second_pair(b"descending channels", &[0, 3, 2, 1, 2]);
+    second_pair(b"ascending names", &[1, 0, 1, 9, 0]);
+    second_pair(b"equal names", &[1, 1, 1, 9, 0]);
+    second_pair(b"descending names", &[1, 1, 2, 9, 0]);
+}
+
+fn digits(z: i64) -> u64 {
+    if z < 0 {
+        return 0;
+    }
+    z as u64
+}
+
+// The numbers from one place to another, none of them negative.
+fn say_numbers(s: &[i64], from: usize, to: usize) {
+    let mut i = from;
+    while i < to {
+        if s.len() <= i {
+            return;
+        }
+        say(b",");
+        io::print_decimal(STDOUT_FILENO, digits(s[i]));
+        i += 1;
+    }
+}
+
+// Both counts, the first four processes and the first four pairs.
+fn show(label: &[u8], state: &Numbers) {
+    test(label, state);
+    say(b"counts");
+    say_numbers(state, 0, Layout::PROCESSES);
+    say(b"\nprocesses");
+    say_numbers(state, Layout::PROCESSES, 38);
+    say(b"\npairs");
+    say_numbers(state, Layout::PAIRS, 2326);
+    say(b"\n");
+}
+
+fn changes() {
+    let mut state = [0; Sample::LENGTH];
+    show(b"fresh", &state);
+    fill(&mut state);
+    show(b"filled", &state);
+    launch(&mut state, &[0, 4, 2, 1, 2]);
+    show(b"lit again", &state);
+    launch(&mut state, &[0, 4, 1, 6, 0]);
+    show(b"one more", &state);
+    kill(&mut state, &[0, 4, 1, 1, 0]);
+    show(b"killed", &state);
+    kill(&mut state, &[0, 4, 1, 1, 0]);
+    show(b"killed again", &state);
+    split(&mut state, 1);
+    show(b"split", &state);
+    end(&mut state, 0);
+    show(b"ended", &state);
+}
+
+fn main() {
+    counts();
+    processes();
+    channels();
+    values();
+    order();
+    changes();
+}

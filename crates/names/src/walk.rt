@@ -127,8 +127,20 @@ fn action_fault(
     crate::earlier(channel, crate::earlier(values, bound))
 }
 
-// The faults of a branch without its gate and its continuation: its node, the first node of its action and the root of its rate; `before`: how many branches
-// of the sum stand before it.
+// The nodes of a part: how many branches of its sum stand before it, its first node and its root.
+pub struct Span {
+    pub before: usize,
+    pub from: usize,
+    pub root: usize,
+}
+
+fn part_at(before: usize, from: usize, root: usize) -> Span
+    ensures { λ r. ⌜ r ≡ record { before = before; from = from; root = root } ⌝ }
+{
+    Span { before, from, root }
+}
+
+// The faults of a branch without its gate and its continuation: its node, the nodes of its action and its rate.
 fn offer_fault(
     question: Question,
     kinds: &[u8],
@@ -137,16 +149,16 @@ fn offer_fault(
     nodes: &[u64],
     lists: Lists,
     scope: Scope,
-    before: usize,
     node: u64,
-    from: usize,
-    rate: usize,
+    own: Span,
 ) -> Found
-    requires { ⌜ ((h : Place question (now kinds) (now low) (now high) (now nodes) lists scope) × (a : Syntax.Action) × Table.Action (now nodes) a from (leftOf node) × ActionRoom h a) × (leftOf node ≤ lists .root) × (rate ≤ lists .root) ⌝ }
-    ensures { λ r. ⌜ ((h : Place question (now (kinds .entry)) (now (low .entry)) (now (high .entry)) (now (nodes .entry)) lists scope) (a : Syntax.Action) (ρ : Syntax.Rate) → Table.Action (now (nodes .entry)) a from (leftOf node) → Table.Rate (now (nodes .entry)) ρ (leftOf node + 1) rate → ActionRoom h a → r ≡ least (each (faultsAt (h .setting)) (branch before (tokenOf node) ∷ actionSites (h .setting .world .word) a ++ rateSites ρ))) ⌝ }
+    requires { ⌜ ((h : Place question (now kinds) (now low) (now high) (now nodes) lists scope) × (a : Syntax.Action) × Table.Action (now nodes) a (own .from) (leftOf node) × ActionRoom h a) × (leftOf node ≤ lists .root) × (own .root ≤ lists .root) ⌝ }
+    ensures { λ r. ⌜ ((h : Place question (now (kinds .entry)) (now (low .entry)) (now (high .entry)) (now (nodes .entry)) lists scope) (a : Syntax.Action) (ρ : Syntax.Rate) → Table.Action (now (nodes .entry)) a (own .from) (leftOf node) → Table.Rate (now (nodes .entry)) ρ (leftOf node + 1) (own .root) → ActionRoom h a → r ≡ least (each (faultsAt (h .setting)) (branch (own .before) (tokenOf node) ∷ actionSites (h .setting .world .word) a ++ rateSites ρ))) ⌝ }
 {
+    let from = own.from;
+    let rate = own.root;
     let left = tree::left_of(node);
-    let start = crate::branch_fault(question, before, tree::token_of(node));
+    let start = crate::branch_fault(question, own.before, tree::token_of(node));
     let action = action_fault(question, kinds, low, high, nodes, lists, scope, from, left);
     let values = crate::leaves_fault(question, low, high, nodes, lists, scope, left + 1, rate + 1);
     crate::earlier(start, crate::earlier(action, values))
@@ -192,7 +204,7 @@ fn inner_scope(nodes: &[u64], scope: Scope, root: usize) -> Scope
     crate::with_locals(scope, tree::token_of(node), tree::third_of(node))
 }
 
-// The faults of branches, items or sums from the node `from` to their root; `before`: how many branches of the sum stand before them.
+// The faults of branches, items or sums.
 fn part_fault(
     question: Question,
     kinds: &[u8],
@@ -201,56 +213,30 @@ fn part_fault(
     nodes: &[u64],
     lists: Lists,
     scope: Scope,
-    before: usize,
-    from: usize,
-    root: usize,
+    part: Span,
 ) -> Found
-    requires { ⌜ ((h : Place question (now kinds) (now low) (now high) (now nodes) lists scope) × (p : Part) × Holds (now nodes) p from root × PartRoom h before p) × (before + root ≤ lists .root) ⌝ }
-    ensures { λ r. ⌜ ((h : Place question (now (kinds .entry)) (now (low .entry)) (now (high .entry)) (now (nodes .entry)) lists scope) (p : Part) → Holds (now (nodes .entry)) p from root → PartRoom h before p → r ≡ least (partFaults h before p)) ⌝ }
+    requires { ⌜ ((h : Place question (now kinds) (now low) (now high) (now nodes) lists scope) × (p : Part) × Holds (now nodes) p (part .from) (part .root) × PartRoom h (part .before) p) × (part .before + part .root ≤ lists .root) ⌝ }
+    ensures { λ r. ⌜ ((h : Place question (now (kinds .entry)) (now (low .entry)) (now (high .entry)) (now (nodes .entry)) lists scope) (p : Part) → Holds (now (nodes .entry)) p (part .from) (part .root) → PartRoom h (part .before) p → r ≡ least (partFaults h (part .before) p)) ⌝ }
 {
+    let before = part.before;
+    let from = part.from;
+    let root = part.root;
     let node = nodes[root];
     let left = tree::left_of(node);
     match tree::kind_of(node) {
         NodeKind::CHOICE | NodeKind::ITEM | NodeKind::BESIDE => {
-            let first = part_fault(
-                question,
-                kinds,
-                low,
-                high,
-                nodes,
-                lists,
-                scope,
-                before,
-                from,
-                left,
-            );
-            let others = part_fault(
-                question,
-                kinds,
-                low,
-                high,
-                nodes,
-                lists,
-                scope,
-                before + 1,
-                left + 1,
-                root - 1,
-            );
+            let one = part_at(before, from, left);
+            let rest = part_at(before + 1, left + 1, root - 1);
+            let first = part_fault(question, kinds, low, high, nodes, lists, scope, one);
+            let others = part_fault(question, kinds, low, high, nodes, lists, scope, rest);
             crate::earlier(first, others)
         }
-        NodeKind::SUM | NodeKind::GROUP => part_fault(
-            question,
-            kinds,
-            low,
-            high,
-            nodes,
-            lists,
-            scope,
-            0,
-            from,
-            root - 1,
-        ),
+        NodeKind::SUM | NodeKind::GROUP => {
+            let inner = part_at(0, from, root - 1);
+            part_fault(question, kinds, low, high, nodes, lists, scope, inner)
+        }
         NodeKind::GATE => {
+            let rest = part_at(before, left + 1, root - 1);
             let gate = crate::leaves_fault(
                 question,
                 low,
@@ -261,61 +247,20 @@ fn part_fault(
                 from,
                 left + 1,
             );
-            let offer = part_fault(
-                question,
-                kinds,
-                low,
-                high,
-                nodes,
-                lists,
-                scope,
-                before,
-                left + 1,
-                root - 1,
-            );
+            let offer = part_fault(question, kinds, low, high, nodes, lists, scope, rest);
             crate::earlier(gate, offer)
         }
-        NodeKind::STOP => offer_fault(
-            question,
-            kinds,
-            low,
-            high,
-            nodes,
-            lists,
-            scope,
-            before,
-            node,
-            from,
-            root - 1,
-        ),
+        NodeKind::STOP => {
+            let own = part_at(before, from, root - 1);
+            offer_fault(question, kinds, low, high, nodes, lists, scope, node, own)
+        }
         NodeKind::DOT => {
             let rate = tree::third_of(node);
-            let offer = offer_fault(
-                question,
-                kinds,
-                low,
-                high,
-                nodes,
-                lists,
-                scope,
-                before,
-                node,
-                from,
-                rate,
-            );
+            let own = part_at(before, from, rate);
+            let rest = part_at(0, rate + 1, root - 1);
+            let offer = offer_fault(question, kinds, low, high, nodes, lists, scope, node, own);
             let inner = inner_scope(nodes, scope, left);
-            let next = part_fault(
-                question,
-                kinds,
-                low,
-                high,
-                nodes,
-                lists,
-                inner,
-                0,
-                rate + 1,
-                root - 1,
-            );
+            let next = part_fault(question, kinds, low, high, nodes, lists, inner, rest);
             crate::earlier(offer, next)
         }
         _ => calling_fault(question, low, high, nodes, lists, scope, from, root),
@@ -371,18 +316,8 @@ fn definition_fault(
     let n = tree::third_of(node);
     let params = params_fault(question, low, high, nodes, lists, first, n);
     let scope = crate::with_locals(no_locals(), first, n);
-    let body = part_fault(
-        question,
-        kinds,
-        low,
-        high,
-        nodes,
-        lists,
-        scope,
-        0,
-        from,
-        root - 1,
-    );
+    let part = part_at(0, from, root - 1);
+    let body = part_fault(question, kinds, low, high, nodes, lists, scope, part);
     crate::earlier(params, body)
 }
 

@@ -25,52 +25,52 @@ use borrow.Author.Tests.{lt-ltb, le-ltb, le-leb, lt-leb, eq-eqb, ne-eqb}
 use lib.IntN.{ℤ, pos}
 use lib.ListN.{length, getD, set, take, drop, replicate, length-append, length-take, length-drop, length-set, length-replicate}
 
--- src/walk.rt:131:9
+-- src/walk.rt:160:9
 left-of-requires : tie.Need-left-of-requires
 left-of-requires c κs = search needs
 
--- src/walk.rt:132:55
+-- src/walk.rt:161:59
 token-of-requires : tie.Need-token-of-requires
 token-of-requires c κs = search needs
 
--- src/walk.rt:132:9
+-- src/walk.rt:161:9
 branch-fault-requires : tie.Need-branch-fault-requires
 branch-fault-requires c κs = search needs
 
--- src/walk.rt:133:9
+-- src/walk.rt:162:9
 action-fault-requires : tie.Need-action-fault-requires
 action-fault-requires c κs =
     (rw (c .before .before .left-of .ensures) (c .before .before .before .before .before .before .before .pre .0), omega (arith, c .before .before .left-of .ensures, c .before .before .before .before .before .before .before .pre .1))
 
--- src/walk.rt:134:80
+-- src/walk.rt:163:80
 add-leaves-fault : tie.Need-add-leaves-fault
 add-leaves-fault c =
     omega (arith, root-in (c .before .before .before .before .before .before .before .before .pre .0 .0 .setting .world), c .before .before .before .left-of .ensures, c .before .before .before .before .before .before .before .before .pre .1)
 
--- src/walk.rt:134:90
+-- src/walk.rt:163:90
 add-leaves-fault-2 : tie.Need-add-leaves-fault-2
 add-leaves-fault-2 c =
     omega (arith, root-in (c .before .before .before .before .before .before .before .before .pre .0 .0 .setting .world), c .before .before .before .before .before .before .before .before .pre .2)
 
--- src/walk.rt:134:9
+-- src/walk.rt:163:9
 leaves-fault-requires : tie.Need-leaves-fault-requires
 leaves-fault-requires c κs =
     (c .before .before .before .before .before .before .before .before .pre .0 .0 .setting, omega (arith, c .before .before .before .before .before .before .before .before .pre .2))
 
--- src/walk.rt:135:27
+-- src/walk.rt:164:27
 earlier-requires : tie.Need-earlier-requires
 earlier-requires c κs = search needs
 
--- src/walk.rt:135:5
+-- src/walk.rt:164:5
 earlier-requires-2 : tie.Need-earlier-requires-2
 earlier-requires-2 c κs = search needs
 
--- src/walk.rt:115:1
+-- src/walk.rt:144:1
 returns : tie.Need-returns
 unfolding faultsAt
 returns c =
     λ h a ρ t u room.
-    offer-judged (c .before .before .before .before .before .before .before .before .before .before .before .args .nodes .now) (faultsAt (h .setting)) (h .setting .world .word) (branch (c .before .before .before .before .before .before .before .before .before .before .before .args .before) _) a ρ _ (c .before .before .before .before .before .before .before .before .before .before .before .args .rate) u (c .before .before .before .before .branch-fault .result) (c .before .before .before .action-fault .result) (c .before .before .leaves-fault .result) (c .before .earlier .result) (c .earlier2 .result) (rw (c .before .before .before .before .before .token-of .ensures) at (c .before .before .before .before .branch-fault .ensures (h .setting .world .word) (variables (h .setting .world .model)) (definitions (h .setting .world .model)) (h .setting .locals))) (c .before .before .before .action-fault .ensures h a (rw (c .before .before .before .before .before .before .left-of .ensures) t) room) (rw (c .before .before .before .before .before .before .left-of .ensures) at (c .before .before .leaves-fault .ensures (h .setting))) (c .before .earlier .ensures) (c .earlier2 .ensures)
+    offer-judged (c .before .before .before .before .before .before .before .before .before .before .before .args .nodes .now) (faultsAt (h .setting)) (h .setting .world .word) (branch (c .before .before .before .before .before .before .before .before .before .before .before .args .own .before) _) a ρ _ (c .before .before .before .before .before .before .before .before .before .before .before .args .own .root) u (c .before .before .before .before .branch-fault .result) (c .before .before .before .action-fault .result) (c .before .before .leaves-fault .result) (c .before .earlier .result) (c .earlier2 .result) (rw (c .before .before .before .before .before .token-of .ensures) at (c .before .before .before .before .branch-fault .ensures (h .setting .world .word) (variables (h .setting .world .model)) (definitions (h .setting .world .model)) (h .setting .locals))) (c .before .before .before .action-fault .ensures h a (rw (c .before .before .before .before .before .before .left-of .ensures) t) room) (rw (c .before .before .before .before .before .before .left-of .ensures) at (c .before .before .leaves-fault .ensures (h .setting))) (c .before .earlier .ensures) (c .earlier2 .ensures)
 
 pub offer-fault-spec : {M : Type 1} → statement M
 offer-fault-spec =

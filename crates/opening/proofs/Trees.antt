@@ -97,6 +97,7 @@ module _ {text kinds₀ places₀ sizes₀ : List ℕ} {n : ℕ} {kinds places s
                 holds = g .shown (omega (arith, g .few, fitting q .1));
               };
               placed = filled-placed f;
+              fewer = omega (arith, g .few, few, f .count);
               opens = fits text (g .tree) (sym passed) (g .reads);
               holds = fits-held text (g .tree) (sym passed) (g .reads);
             },

@@ -2,7 +2,7 @@
 use mathlib.Core.Path.{_≡_}
 use mathlib.Core.List.{List}
 use mathlib.Core.Option.{none}
-use Prim.Native.Nat.{ℕ, _≤_}
+use Prim.Native.Nat.{ℕ, _≤_, _<_}
 use lib.ListN.{length, take}
 use Rattle.token.specs.Token.{tokens, placesOf}
 use Rattle.token.specs.Questions.{textLimit}
@@ -37,6 +37,7 @@ pub record Closed (text : List ℕ) (n p : ℕ) : Type 0 where
 pub record Fitted (text : List ℕ) (s : Syntax.Model) (kinds places low high nodes : List ℕ) (root n : ℕ) : Type 0 where
   pub read : Read text s kinds low high nodes root n
   pub placed : Placed text places n
+  pub fewer : root < n
   pub opens : opening text ≡ treeJudged text s
   pub holds : held text ≡ modelIn (treeHeld text s)
 

@@ -16,6 +16,8 @@ pub const BUFFER: usize = 2 + TEXT;
 
 #[derive(Debug)]
 pub struct Model {
+    /// How many variables there are.
+    pub variables: usize,
     pub definitions: Vec<Definition>,
     pub sums: Vec<Sum>,
     pub system: Vec<SystemItem>,
@@ -247,6 +249,7 @@ impl<'a> Settler<'a> {
     fn model(&self) -> Model {
         let tree = self.names.tree;
         Model {
+            variables: tree.variables.len(),
             definitions: tree
                 .definitions
                 .iter()

@@ -1,4 +1,4 @@
-//! The programs `sheet` and `calls`.
+//! The programs `sheet`, `opens` and `calls`.
 
 use std::io::Write;
 use std::process::{Command, Stdio};
@@ -40,6 +40,22 @@ fn sheet() {
     assert_eq!(sheet(b"S[]={@c![1],1};R[]={@c?[1],1};99*S[]||99*R[];"), "refused,13,0\n");
     assert_eq!(sheet(&vec![0; 300_000]), "refused,2,16384\n");
     assert_eq!(sheet(&[0; 16_384]), "refused,3,0\n");
+}
+
+#[test]
+fn opens() {
+    let file = std::path::Path::new(env!("CARGO_TARGET_TMPDIR")).join("opened");
+    let name = file.to_str().unwrap();
+    let opened = |text: &[u8]| {
+        std::fs::write(&file, text).unwrap();
+        let (output, success) = run(env!("CARGO_BIN_EXE_opens"), b"", &[name]);
+        assert!(success);
+        output.strip_prefix(&format!("== {name}\n")).unwrap().to_owned()
+    };
+    assert_eq!(opened(LAMPS), "accepted,1,2,2,1,3\n");
+    assert_eq!(opened(b"A[]={go,1};256*A[];"), "accepted,0,1,1,0,256\n");
+    assert_eq!(opened(b"A[]={go,1};256*A[]||A[];"), "refused,10,11\n");
+    assert_eq!(opened(b"A[]={go,x};A[];"), "refused,9,8\n");
 }
 
 #[test]

@@ -1,0 +1,6 @@
+pub mod Holds
+pub mod Places
+pub mod Trees
+pub mod System
+pub mod Judges
+pub mod Counting

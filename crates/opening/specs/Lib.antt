@@ -1,0 +1,4 @@
+pub mod Trees
+pub mod System
+pub mod Sound
+pub mod Counts

@@ -16,7 +16,7 @@ use Rattle.tree.specs.Node.{kindOf, tokenOf, leftOf, opKind, joinKind, testKind
 use Rattle.model.specs.Resolved
 use Rattle.tables.specs.Settled as Settled
 use Rattle.tables.specs.Settled.{offset, lifted, numberCell}
-use Rattle.model.specs.Good.{Every, GoodExpr, GoodSet, GoodCond, GoodGate, GoodName, GoodScale, GoodRate, GoodAction, GoodBranch}
+use Rattle.model.specs.Good.{Every, GoodExpr, GoodSet, GoodCond, GoodGate, GoodName, GoodScale, GoodRate, GoodAction, GoodBranch, scaleLimit}
 use Rattle.eval.specs.Held.{Held}
 use Rattle.evals.specs.Cells.{Literal}
 
@@ -155,12 +155,12 @@ gated-holds x y e f = (
     fit = record {
       gate = (lit< tt, zero-in);
       action = record { channel = lit< tt; number = record { one = lit≤ tt; two = lit≤ tt }; values = ((lit< tt, lit< tt), tt) };
-      rate = tt;
+      rate = lit≤ tt;
       next = tt;
     };
   },
 )
 
-pub rate-holds : (x n : ℕ) → n < offset → x ≡ numberCell 29 (pos n) → Held (Settled.Rate (x ∷ [])) (GoodRate 1) 0
+pub rate-holds : (x n : ℕ) → n < offset → n ≤ scaleLimit → x ≡ numberCell 29 (pos n) → Held (Settled.Rate (x ∷ [])) (GoodRate 1) 0
 unfolding Settled.Rate Settled.Scale GoodRate GoodScale
-rate-holds x n h e = record { part = Resolved.plain (Resolved.fixed (pos n)); at = record { cell-is = e; fits = h }; fit = tt }
+rate-holds x n h g e = record { part = Resolved.plain (Resolved.fixed (pos n)); at = record { cell-is = e; fits = h }; fit = g }

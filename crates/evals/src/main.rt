@@ -8,6 +8,7 @@ use value::Value;
 ghost use mathlib.Core.Path.{_≡_};
 ghost use Prim.Native.Nat.{_≤_, _<_};
 ghost use lib.IntN.{pos};
+ghost use Rattle.model.specs.Good.{scaleLimit};
 ghost use Rattle.tables.specs.Settled.{offset, numberCell};
 ghost use Rattle.value.specs.Range.{InRange};
 ghost use Rattle.evals.specs.Cells.{Literal};
@@ -103,7 +104,7 @@ fn gated(i: i64, y: i64) -> u8
 
 // A rate of n ten-thousandths.
 fn rate(n: u64) -> Rate
-    requires { ⌜ n < offset ⌝ }
+    requires { ⌜ (n < offset) × (n ≤ scaleLimit) ⌝ }
 {
     let nodes = [cell(NodeKind::NUMBER, n)];
     let locals = [0i64; 1];

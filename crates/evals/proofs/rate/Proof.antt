@@ -16,7 +16,7 @@ slice-aggregate-rate-of-2 c = search needs
 rate-of-requires : tie.Need-rate-of-requires
 rate-of-requires c κs =
     let s = c .before .before .before in
-    (rate-holds _ (s .args .n) (s .pre) (c .before .before .cell .ensures), zeros-in)
+    (rate-holds _ (s .args .n) (s .pre .0) (s .pre .1) (c .before .before .cell .ensures), zeros-in)
 
 returns : tie.Need-returns
 returns c = search needs

@@ -99,6 +99,14 @@ module _ (t : List ℕ) (root variables : ℕ) (ls : List ℤ) (good : Every InR
 
     -- a sum
     module _ (h : kind ≡ 49) where
+      -- and it has few locals
+      pub entered-few : Spaced t root variables ls k size at → length ls ≤ localLimit
+      unfolding Every GoodPart
+      entered-few s =
+          let e = sum-part t (s .parts) k (sym is ∙ h) (s .holds .at) .is in
+          let w = subst (Every (GoodPart (s .model) (length ls))) e (s .holds .fit) .0 in
+          sum-few (s .model) (s .holds .good) (length ls) (tokenOf (getD t k 0)) w
+
       pub sum-spaced : Spaced t root variables ls k size at → (at + 1) * processWidth ≤ size
       unfolding nextProcesses partProcesses
       sum-spaced s =

@@ -237,7 +237,7 @@ pub fn put_processes(
     fresh: &mut [i64],
     at: usize,
 ) -> usize
-    requires { ⌜ (Become.Spaced (now nodes) root variables (now locals) k (length (now fresh)) at) × (Every InRange (now locals)) × (length (now locals) ≤ localLimit) ⌝ }
+    requires { ⌜ (Become.Spaced (now nodes) root variables (now locals) k (length (now fresh)) at) × (Every InRange (now locals)) ⌝ }
     ensures { λ r. ⌜ ((m : Resolved.Model) (ps : List Resolved.Part) → Become.Continues (now (nodes .entry)) root variables (length (now (locals .entry))) m ps k → Become.Rows (now (fresh .entry)) at (nextProcesses m (now (locals .entry)) ps) (now (fresh .exit)) r) ⌝ }
 {
     let cell = crate::cell_at(nodes, k);

@@ -8,7 +8,7 @@ use borrow.Author.Needs.{needs}
 use Rattle.tree.specs.Node.{kindOf, tokenOf, leftOf}
 use Rattle.eval.proofs.Continuations.{some-body}
 use Rattle.eval.proofs.Rows.{token-small, rows-size}
-use Rattle.eval.proofs.Puts.{group-spaced, group-puts, first-spaced, second-spaced, items-put, sum-spaced, sum-puts, bare-fits, bare-puts, last-kind, call-fits, value-puts}
+use Rattle.eval.proofs.Puts.{group-spaced, group-puts, first-spaced, second-spaced, items-put, entered-few, sum-spaced, sum-puts, bare-fits, bare-puts, last-kind, call-fits, value-puts}
 use borrow.Fn.Kinds.{In}
 use borrow.Fn.PlainCycle.{Measures, is, falls, and}
 use Rattle.eval.proofs.next.put_processes.Reads as put-processes
@@ -69,7 +69,7 @@ put-processes-put-processes-requires t c κs =
     let a = s .args .at in
     let p = s .pre .1 in
     let g = group-spaced T R N L (p .1) k (c .before .before .kind-of .result) is (length (now (s .args .fresh))) a (c .before .if1 .taken) (p .0) in
-    (omega (arith, s .pre .0, g .0), (g .1, p .1, p .2))
+    (omega (arith, s .pre .0, g .0), (g .1, p .1))
 
 put-processes-same-length : (t : ℕ) → put-processes-lts.Need-same-length (R t) (put-processes-at t) put-processes.Post
 put-processes-same-length t c =
@@ -105,7 +105,7 @@ put-processes-put-processes-requires-2 t c κs =
     let p = s .pre .1 in
     let e = c .before .left-of .ensures ∙ ap leftOf (c .before .before .before .before .before .cell-at .ensures) in
     let g = first-spaced T R N L (p .1) k (c .before .before .before .before .kind-of .result) is (length (now (s .args .fresh))) a (c .before .before .if2 .taken) (p .0) in
-    (rw (e, ← s .pre .0) (g .1), (rw e (g .2), p .1, p .2))
+    (rw (e, ← s .pre .0) (g .1), (rw e (g .2), p .1))
 
 put-processes-sub-put-processes-2 : (t : ℕ) → put-processes-lts.Need-sub-put-processes-2 (R t) (put-processes-at t) put-processes.Post
 put-processes-sub-put-processes-2 t c =
@@ -136,7 +136,7 @@ put-processes-put-processes-requires-3 t c κs =
     let g = first-spaced T R N L (p .1) k (c .before .before .before .before .before .before .before .kind-of .result) is (length (now (s .args .fresh))) a (c .before .before .before .before .before .if2 .taken) (p .0) in
     let w = rw e at (c .before .before .put-processes2 .ensures) in
     let l = rows-size (w (g .2 .model) (g .2 .parts) (g .2 .holds)) in
-    (omega (arith, s .pre .0, g .0), (rw l (second-spaced T R N L (p .1) k (c .before .before .before .before .before .before .before .kind-of .result) is (length (now (s .args .fresh))) a (c .before .before .before .before .before .if2 .taken) f _ (c .before .before .put-processes2 .result) (p .0) w), p .1, p .2))
+    (omega (arith, s .pre .0, g .0), (rw l (second-spaced T R N L (p .1) k (c .before .before .before .before .before .before .before .kind-of .result) is (length (now (s .args .fresh))) a (c .before .before .before .before .before .if2 .taken) f _ (c .before .before .put-processes2 .result) (p .0) w), p .1))
 
 put-processes-same-length-2 : (t : ℕ) → put-processes-lts.Need-same-length-2 (R t) (put-processes-at t) put-processes.Post
 put-processes-same-length-2 t c =
@@ -172,7 +172,9 @@ put-processes-put-row-requires t c κs =
     let a = s .args .at in
     let p = s .pre .1 in
     let o = c .before .before .token-of .ensures ∙ ap tokenOf (c .before .before .before .before .before .before .cell-at .ensures) in
-    (rw o (token-small _), p .2, sum-spaced T R N L (p .1) k (c .before .before .before .before .before .kind-of .result) is (length (now (s .args .fresh))) a (c .before .if3 .taken) (p .0))
+    let f = c .before .before .before .before .before .kind-of .result in
+    let z = length (now (s .args .fresh)) in
+    (rw o (token-small _), entered-few T R N L (p .1) k f is z a (c .before .if3 .taken) (p .0), sum-spaced T R N L (p .1) k f is z a (c .before .if3 .taken) (p .0))
 
 put-processes-add-result : (t : ℕ) → put-processes-lts.Need-add-result (R t) (put-processes-at t) put-processes.Post
 put-processes-add-result t c =

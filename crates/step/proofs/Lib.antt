@@ -1,0 +1,10 @@
+pub mod Chain
+pub mod Offers
+pub mod Tables
+pub mod Continue
+pub mod Pairs
+pub mod Place
+pub mod Moves
+pub mod Entry
+pub mod Listed
+pub mod Answered

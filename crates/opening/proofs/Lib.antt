@@ -5,3 +5,4 @@ pub mod System
 pub mod Judges
 pub mod Counting
 pub mod Resolves
+pub mod Models

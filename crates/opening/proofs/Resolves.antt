@@ -29,7 +29,7 @@ use Rattle.model.specs.Words.{wordOf}
 use Rattle.model.specs.Limits.{wordsBeyond, treeBeyond, beyond}
 use Rattle.model.specs.Faults.{Beyond, NotNew, NotGiven, long-decimal}
 use Rattle.model.specs.Questions.{Yes5, Yes7, Yes8, Yes9}
-use Rattle.model.specs.Resolved.{channelNames}
+use Rattle.model.specs.Resolved.{channelNames, resolved}
 use Rattle.model.proofs.Tokens.{nth-got, lexeme-at, word-at, some-fraction}
 use Rattle.model.proofs.Faulty.{beyond-first, new-first, given-first}
 use Rattle.model.proofs.Origins.{NumberWritten, written, number-written}
@@ -37,6 +37,7 @@ use Rattle.model.proofs.Decimals.{decimal-rate, decimal-variable, kind-mark}
 use Rattle.model.proofs.Resolves.{FineNumber, scaleOf}
 use Rattle.model.proofs.Closes.{Faultless}
 use Rattle.model.proofs.Opened.{faultless}
+use Rattle.tables.specs.Represents.{Represents}
 use Rattle.names.specs.declared.Question.the-variants.{Given}
 use Rattle.names.specs.declared.Lists.{Lists}
 use Rattle.names.specs.Lists.{Gathered}
@@ -170,7 +171,9 @@ module _ {text : List ℕ} {s : Syntax.Model} {kinds places low high nodes : Lis
     pub can-settle : (lists : Lists) × (lists .root ≡ root) × Resolvable low high nodes roots scopes heard lists
     can-settle = (listsOf, refl, resolvable)
 
-    -- what holds of the words and the tree that the tables tell of holds of the text's
-    pub settled-as : (P : (ℕ → List ℕ) → Syntax.Model → Type 0) → ((lists : Lists) (h : Resolvable low high nodes roots scopes heard lists) → lists .root ≡ root → P (h .base .world .word) (h .base .world .model)) → P w s
+    -- the model that the tables hold then is the text's
+    pub settled-so : {nodes′ roots′ scopes′ : List ℕ} {r vars defs sums channels : ℕ}
+        → ((lists : Lists) (h : Resolvable low high nodes roots scopes heard lists) → lists .root ≡ root → Represents nodes′ roots′ scopes′ r vars defs sums channels (resolved (h .base .world .word) (h .base .world .model)))
+        → Represents nodes′ roots′ scopes′ r vars defs sums channels (resolved w s)
     unfolding resolvable base world
-    settled-as P h = h listsOf resolvable refl
+    settled-so h = h listsOf resolvable refl

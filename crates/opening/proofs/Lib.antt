@@ -4,3 +4,5 @@ pub mod Trees
 pub mod System
 pub mod Judges
 pub mod Counting
+pub mod Resolves
+pub mod Models

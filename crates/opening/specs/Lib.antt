@@ -2,3 +2,4 @@ pub mod Trees
 pub mod System
 pub mod Sound
 pub mod Counts
+pub mod Models

@@ -2,6 +2,7 @@
 mod count;
 
 use names::Judgement;
+use settle::Model;
 use syntax::question;
 use syntax::question::Asked;
 use token::Judged;
@@ -18,6 +19,7 @@ ghost use Rattle.model.specs.Sites.{system};
 ghost use Rattle.model.specs.Opening.{bytePlace, systemToken};
 ghost use Rattle.opening.specs.Trees.{Room, Placed, Fitted, TreeRead};
 ghost use Rattle.opening.specs.Sound.{NamesJudged};
+ghost use Rattle.opening.specs.Models.{SumRoom, ModelRead, Opens};
 ghost use Rattle.opening.specs.System.{firstItem, beforeName, itemToken};
 
 pub struct Limits;
@@ -40,6 +42,18 @@ pub enum Tree {
 pub enum Named {
     Refused(usize, usize),
     Passed(usize),
+}
+
+// The number and place of the first no to 2 to 9; or the model and the place of the system line.
+pub enum Held {
+    Refused(usize, usize),
+    Model(Model, usize),
+}
+
+// The number and place of the first no; or the model and the number of processes at the start.
+pub enum Opened {
+    Refused(usize, usize),
+    Accepted(Model, usize),
 }
 
 // The byte at which token k stands, or the text's end past the last of n.
@@ -156,6 +170,115 @@ fn judge_tree(
         Judgement::Passed => {
             let first = system_token(nodes, root);
             Named::Passed(byte_place(text, places, n, first))
+        }
+    }
+}
+
+// Questions 7 to 9 of a text that fits, and its model.
+fn settle_tree(
+    text: &[u8],
+    kinds: &[u8],
+    places: &[u16],
+    low: &[u64],
+    high: &[u64],
+    nodes: &mut [u64],
+    roots: &mut [u16],
+    scopes: &mut [u8],
+    names: &mut [u16],
+    root: usize,
+    n: usize,
+) -> Held
+    requires { ⌜ ((s : Syntax.Model) × Fitted (now text) s (now kinds) (now places) (now low) (now high) (now nodes) root n) ⌝ }
+    requires { ⌜ SumRoom (now roots) (now scopes) (now names) ⌝ }
+    ensures { λ r. ⌜ ModelRead (now (text .entry)) (now (nodes .exit)) (now (roots .exit)) (now (scopes .exit)) r ⌝ }
+{
+    let judged = judge_tree(text, kinds, places, low, high, nodes, root, n);
+    match judged {
+        Named::Refused(number, place) => Held::Refused(number, place),
+        Named::Passed(place) => {
+            let model = settle::settle(low, high, nodes, roots, scopes, names, root);
+            Held::Model(model, place)
+        }
+    }
+}
+
+// Questions 2 to 9, and the model.
+pub fn read_model(
+    text: &[u8],
+    kinds: &mut [u8],
+    places: &mut [u16],
+    sizes: &mut [u16],
+    low: &mut [u64],
+    high: &mut [u64],
+    nodes: &mut [u64],
+    roots: &mut [u16],
+    scopes: &mut [u8],
+    names: &mut [u16],
+) -> Held
+    requires { ⌜ Room (now kinds) (now places) (now sizes) (now low) (now high) (now nodes) ⌝ }
+    requires { ⌜ SumRoom (now roots) (now scopes) (now names) ⌝ }
+    ensures { λ r. ⌜ ModelRead (now (text .entry)) (now (nodes .exit)) (now (roots .exit)) (now (scopes .exit)) r ⌝ }
+{
+    let tree = read_tree(text, kinds, places, sizes, low, high, nodes);
+    match tree {
+        Tree::Refused(number, place) => Held::Refused(number, place),
+        Tree::Fits(root, n) => {
+            settle_tree(
+                text,
+                kinds,
+                places,
+                low,
+                high,
+                nodes,
+                roots,
+                scopes,
+                names,
+                root,
+                n,
+            )
+        }
+    }
+}
+
+// All questions, and the model.
+pub fn open_text(
+    text: &[u8],
+    kinds: &mut [u8],
+    places: &mut [u16],
+    sizes: &mut [u16],
+    low: &mut [u64],
+    high: &mut [u64],
+    nodes: &mut [u64],
+    roots: &mut [u16],
+    scopes: &mut [u8],
+    names: &mut [u16],
+) -> Opened
+    requires { ⌜ Room (now kinds) (now places) (now sizes) (now low) (now high) (now nodes) ⌝ }
+    requires { ⌜ SumRoom (now roots) (now scopes) (now names) ⌝ }
+    ensures { λ r. ⌜ Opens (now (text .entry)) (now (nodes .exit)) (now (roots .exit)) (now (scopes .exit)) r ⌝ }
+{
+    let held = read_model(
+        text,
+        kinds,
+        places,
+        sizes,
+        low,
+        high,
+        nodes,
+        roots,
+        scopes,
+        names,
+    );
+    match held {
+        Held::Refused(number, place) => Opened::Refused(number, place),
+        Held::Model(model, place) => {
+            let first = model.root - model.variables;
+            let line = first - model.definitions;
+            let count = count::start_count(nodes, first, line);
+            if Limits::PROCESSES < count {
+                return Opened::Refused(10, place);
+            }
+            Opened::Accepted(model, count)
         }
     }
 }

@@ -414,6 +414,7 @@ pub fn settle(
 ) -> Model
     requires { ⌜ ((lists : Lists) × (lists .root ≡ root) × Resolvable (now low) (now high) (now nodes) (now roots) (now scopes) (now heard) lists) ⌝ }
     ensures { λ r. ⌜ ((lists : Lists) (h : Resolvable (now (low .entry)) (now (high .entry)) (now (nodes .entry)) (now (roots .entry)) (now (scopes .entry)) (now (heard .entry)) lists) → lists .root ≡ root → Represents (now (nodes .exit)) (now (roots .exit)) (now (scopes .exit)) (r .root) (r .variables) (r .definitions) (r .sums) (r .channels) (Resolved.resolved (h .base .world .word) (h .base .world .model))) ⌝ }
+    ensures { λ r. ⌜ r .variables + r .definitions ≤ r .root ⌝ }
 {
     let lists = names::lists_of(nodes, root);
     let line = root - lists.variables - lists.definitions;

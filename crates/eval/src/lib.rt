@@ -35,7 +35,7 @@ const KINDS: u64 = 256;
 const OFFSET: i64 = 36028797018963968;
 
 // Cell k; 0, which is no node, beyond the table's end.
-fn cell_at(nodes: &[u64], k: usize) -> u64
+pub fn cell_at(nodes: &[u64], k: usize) -> u64
     ensures { λ r. ⌜ r ≡ getD (now (nodes .entry)) k 0 ⌝ }
 {
     if k < nodes.len() {

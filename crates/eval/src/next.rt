@@ -73,7 +73,7 @@ pub fn arguments_given(nodes: &[u64], locals: &[i64], k: usize) -> bool
 }
 
 // a less b, or 0.
-fn less(a: usize, b: usize) -> usize
+pub fn less(a: usize, b: usize) -> usize
     ensures { λ r. ⌜ r ≡ a - b ⌝ }
 {
     if a < b {
@@ -83,7 +83,7 @@ fn less(a: usize, b: usize) -> usize
 }
 
 // The root of the sums of definition d.
-fn body_of(nodes: &[u64], root: usize, variables: usize, d: usize) -> usize
+pub fn body_of(nodes: &[u64], root: usize, variables: usize, d: usize) -> usize
     requires { ⌜ 1 ≤ leftOf (getD (now nodes) (root - variables - d) 0) ⌝ }
     ensures { λ r. ⌜ r ≡ leftOf (getD (now (nodes .entry)) (root - variables - d) 0) - 1 ⌝ }
 {

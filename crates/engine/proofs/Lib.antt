@@ -1,0 +1,6 @@
+-- Laws that the proofs of the engine's functions cite.
+pub mod Towards
+pub mod Nodes
+pub mod Opened
+pub mod Bytes
+pub mod Shows

@@ -1,0 +1,5 @@
+-- What the calls of the engine give, and what is written on the way.
+pub mod Start
+pub mod Text
+pub mod Gives
+pub mod Tables

@@ -1,0 +1,71 @@
+// Question 11 of a state, then the listing of it.
+use crate::Answer;
+use listing::Listed;
+ghost use mathlib.Core.Path.{_≡_};
+ghost use mathlib.Core.List.{List};
+ghost use mathlib.Core.Option.{some};
+ghost use Prim.Native.Nat.{ℕ};
+ghost use lib.ListN.{length};
+ghost use Rattle.model.specs.Resolved as Resolved;
+ghost use Rattle.machine.specs.State.{stateLength};
+ghost use Rattle.machine.specs.Machine.{listingLength, lists};
+ghost use Rattle.buffers.specs.Effect.{machineOver, leaves};
+ghost use Rattle.engine.specs.Gives.{Gives};
+ghost use Rattle.engine.specs.Tables.{Tables, answerOf};
+
+pub struct Rows;
+
+impl Rows {
+    // Branches of all processes, and the numbers of an offer beside its head.
+    pub const MOST: usize = 4096;
+
+    pub const NUMBERS: usize = 20480;
+
+    pub const BUCKETS: usize = 256;
+}
+
+// The answer that a listing gives.
+pub fn listed_answer(listed: Listed) -> Answer
+    ensures { λ r. ⌜ r ≡ answerOf listed ⌝ }
+{
+    match listed {
+        Listed::Filled(count, total) => Answer::filled(0, count as u64, total, 0),
+        Listed::Refused(number, place, branch) => {
+            Answer::bare(number, place as u64, branch as u64)
+        }
+    }
+}
+
+// Lists over the tables of a model.
+pub fn list_model(
+    nodes: &[u64],
+    roots: &[u16],
+    scopes: &[u8],
+    sums: usize,
+    channels: usize,
+    state: &[i64],
+    listing: &mut [u64],
+) -> Answer
+    requires { ⌜ ((m : Resolved.Model) × Tables (now nodes) (now roots) (now scopes) sums channels m) × (length (now state) ≡ stateLength) × (length (now listing) ≡ listingLength) ⌝ }
+    ensures { λ r. ⌜ ((m : Resolved.Model) (bs : List ℕ) → Tables (now (nodes .entry)) (now (roots .entry)) (now (scopes .entry)) sums channels m → Gives (leaves bs (now (state .entry)) (now (listing .entry)) (lists (machineOver (now (state .entry)) (some m)))) r bs (now (state .entry)) (now (listing .exit))) ⌝ }
+{
+    if !state::is_state(state, scopes, sums, channels) {
+        return Answer::bare(11, 0, 0);
+    }
+    let mut heads = [0u64; Rows::MOST];
+    let mut numbers = [0i64; Rows::NUMBERS];
+    let mut firsts = [0u16; Rows::BUCKETS];
+    let mut nexts = [0u16; Rows::MOST];
+    let listed = listing::list_all(
+        nodes,
+        roots,
+        scopes,
+        state,
+        &mut heads,
+        &mut numbers,
+        &mut firsts,
+        &mut nexts,
+        listing,
+    );
+    listed_answer(listed)
+}

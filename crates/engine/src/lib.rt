@@ -1,4 +1,4 @@
-// The engine: open, list and step over lent buffers.
+// Parts of the calls on an engine: answers, its header and buffers, the state it opens with, question 11 and the listing.
 pub mod buffer;
 pub mod listings;
 pub mod start;

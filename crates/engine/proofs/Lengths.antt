@@ -1,8 +1,8 @@
 -- Question 1: a wrong length leaves everything as it was; right ones let the call go on. By the test of lengths.
-use mathlib.Core.Path.{_≡_, refl, sym, ap, _∙_}
+use mathlib.Core.Path.{_≡_, refl, ap, _∙_}
 use mathlib.Core.List.{List, []}
-use mathlib.Core.Bool.{Bool, true, false, cond, _&&_}
-use mathlib.Core.Option.{Option, none, some}
+use mathlib.Core.Bool.{Bool, true, false, _&&_}
+use mathlib.Core.Option.{none}
 use Prim.Native.Nat.{ℕ, _+_, _-_}
 use native.Mathlib.Omega.{arith}
 use borrow.Author.Tests.{eq-eqb, ne-eqb}
@@ -12,12 +12,11 @@ use lib.ListN.{length, take, drop}
 use Rattle.model.specs.Opening.{opening}
 use Rattle.model.specs.Held.{held}
 use Rattle.machine.specs.State.{stateLength}
-use Rattle.machine.specs.Machine.{modelLength, listingLength, asLent, no, lent, Machine, Turn, lists, closed}
+use Rattle.machine.specs.Machine.{modelLength, listingLength, no, lent, Machine, Turn, closed}
 use Rattle.buffers.specs.Held.{lengthIn, textIn, heldIn}
-use Rattle.buffers.specs.Effect.{Effect, untouched, machineOver, machineIn, leaves, whenLent, opensWith, openEffect, listEffect}
+use Rattle.buffers.specs.Effect.{untouched, machineOver, machineIn, leaves, whenLent, opensWith, openEffect}
 use Rattle.engine.specs.Gives.{Gives, bare}
 use Rattle.engine.specs.Text.{TextOf}
-use Rattle.engine.proofs.Shows.{eleven-gives}
 
 and-false : (a : Bool) → (a && false) ≡ false
 and-false true = refl

@@ -1,18 +1,18 @@
 -- What opening a text gives, and which tables list and step are given, from the answers that reading the text gives.
-use mathlib.Core.Path.{_≡_, refl, sym, ap, _∙_}
+use mathlib.Core.Path.{_≡_, refl}
 use mathlib.Core.List.{List, []}
-use mathlib.Core.Option.{Option, none, some}
+use mathlib.Core.Option.{none}
 use Prim.Native.Nat.{ℕ, _≤_}
 use lib.IntN.{ℤ, pos}
 use lib.ListN.{length, replicate}
 use Rattle.token.specs.Questions.{textLimit}
 use Rattle.model.specs.Resolved
-use Rattle.model.specs.Opening.{Opening, refused, opened, opening}
+use Rattle.model.specs.Opening.{refused, opened, opening}
 use Rattle.model.specs.Held.{held}
 use Rattle.model.proofs.Opened.{opened-good, opened-few}
 use Rattle.model.proofs.Held.{held-good, opened-short}
 use Rattle.machine.specs.State.{stateLength, stateNumbers}
-use Rattle.machine.specs.Machine.{modelLength, asLent, no, openedState, lists, closed}
+use Rattle.machine.specs.Machine.{modelLength, no, openedState, lists}
 use Rattle.buffers.specs.Held.{modelBytes}
 use Rattle.buffers.specs.Effect.{machineOver, leaves, opensWith}
 use Rattle.engine.specs.Gives.{Gives, bare}

@@ -4,3 +4,4 @@ pub mod Nodes
 pub mod Opened
 pub mod Bytes
 pub mod Shows
+pub mod Drawn

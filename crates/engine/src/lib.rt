@@ -2,6 +2,7 @@
 pub mod buffer;
 pub mod listings;
 pub mod start;
+pub mod steps;
 
 ghost use mathlib.Core.Path.{_≡_};
 ghost use Rattle.engine.specs.Gives.{bare, filled};

@@ -226,9 +226,9 @@ module _ (bs : List ℕ) (zs : List ℤ) (l : List ℕ) (d : ℕ) where
   })
 
   -- 01, 11: changes nothing
-  closed-gives : Gives (leaves bs zs l (stepsOn machine.closed d)) (bare 11 0 0) bs zs l
+  pub eleven-steps : Gives (leaves bs zs l (stepsOn machine.closed d)) (bare 11 0 0) bs zs l
   unfolding leaves stepsOn turn no stateIn shown
-  closed-gives = record { number = refl; place = refl; branch = refl; count = refl; total = refl; chosen = refl; model = refl; state = refl; listing = refl }
+  eleven-steps = record { number = refl; place = refl; branch = refl; count = refl; total = refl; chosen = refl; model = refl; state = refl; listing = refl }
 
   -- 01, 12 to 14: zero the listing
   choosing-gives : (m : Resolved.Model) (s : State) {x : Listed} → Refuses x → stateNumbers s ≡ zs → (n p c : ℕ) (b : List ℕ) → Refused n p c ≡ listedAnswer x → b ≡ buffer.listingNumbers x
@@ -244,7 +244,7 @@ module _ (bs : List ℕ) (zs : List ℤ) (l : List ℕ) (d : ℕ) where
       let i : n ≡ 11 = cc in
       let j : p ≡ 0 = cc in
       let k : c ≡ 0 = cc in
-      rw (e, i, j, k, f) closed-gives
+      rw (e, i, j, k, f) eleven-steps
   refused-gives m n p c b (holding {s} e g z h) = rw e (choosing-gives m s (listing-is m s) (sym z) n p c b (h .answer) (h .numbers))
 
 -- ---- a listing that is found

@@ -1,37 +1,34 @@
 -- One call of a row does to the engine in a run's buffers what it does to the rule machine: refused under 1 where a length is wrong, else a call on the engine's own buffers.
 use mathlib.Core.Path.{_≡_, refl, sym, ap, ap₂, subst, _∙_}
 use mathlib.Core.Bool.{Bool, true, false, cond, _&&_}
-use mathlib.Core.List.{List, [], _∷_, _++_}
-use mathlib.Core.Logic.{_⊎_, inl, inr, ⊎-elim}
-use mathlib.Core.Option.{Option, none, some}
-use Prim.Native.Nat.{ℕ, _≤_}
+use mathlib.Core.List.{List, _++_}
+use mathlib.Core.Option.{none, some}
+use Prim.Native.Nat.{ℕ, _+_, _≤_}
 use native.Mathlib.Omega.{arith}
 use borrow.Author.Tests.{leb-true, eqb-true}
 use lib.Dec.{eqb, leb}
-use lib.IntN.{ℤ}
-use lib.ListN.{length, take, drop, length-take, length-replicate, take-append-drop}
+use lib.ListN.{length, take, drop, length-replicate, take-append-drop}
 use lib.Seq.{length-take-le}
-use Rattle.rules.specs.Listing.{Entry}
 use Rattle.machine.specs.State.{State, stateLength}
 use Rattle.machine.specs.Machine.{modelLength, entryLimit, listingLength, Shown, asLent, zeroed, filled, no, listedAs, Listed, drawn, Turn, Machine, closed, holding, lent, turn, opens, showing, lists, stepped, choosing, stepsOn, Call, open′, list′, step′, calls}
 use Rattle.machine.specs.Machine as machine
-use Rattle.machine.specs.Questions.{Lists, no12, no13, no14, yes14, Steps}
+use Rattle.machine.specs.Questions.{Lists, no12, no13, no14, yes14}
 use Rattle.machine.proofs.Listing.{asked}
 use Rattle.machine.proofs.Stepping as step
 use Rattle.model.specs.Resolved
 use Rattle.model.specs.Opening.{Opening, refused, opened}
 use Rattle.model.specs.Opening as reading
-use Rattle.buffers.specs.Listing.{shown, listingNumbers}
+use Rattle.buffers.specs.Listing.{shown}
 use Rattle.buffers.specs.Effect.{Effect, untouched, openEffect, whenLent, listEffect, stepEffect}
-use Rattle.buffers.specs.Calls.{Engine, own, lentBuffer, lentLength, ownBuffer, BufferCall, opening, listing, stepping, lentModel, lentState, effect, leftBy, fed, listingOf, Holds}
+use Rattle.buffers.specs.Calls.{own, lentBuffer, lentLength, BufferCall, opening, listing, stepping, lentModel, lentState, effect, leftBy, fed, listingOf, Holds}
 use Rattle.buffers.proofs.Calls.{model-long, state-long, make, Goes, call-goes}
 use Rattle.buffers.proofs.Listings.{listing-length}
 use Rattle.buffers.proofs.Transitions.{fills, left-in}
 use Rattle.script.specs.declared.Row.{Row}
-use Rattle.script.specs.Rows.{answerWidth, Room, when, kindCall, callOf}
-use Rattle.script.specs.Run.{Lent, roomOf, modelLent, stateLent, listingLent, effectOf, answerNumbers, callLeft}
+use Rattle.script.specs.Rows.{answerWidth, Room, fits, rowCall, callOf}
+use Rattle.script.specs.Run.{Lent, roomOf, modelLent, stateLent, listingLent, effectOf, callLeft}
 use Rattle.script.specs.Follows.{engineIn}
-use Rattle.script.proofs.Front.{front-take, front-drop, front-length}
+use Rattle.script.proofs.Front.{front-take, front-drop}
 
 -- ---- what a row's call asks for is there
 
@@ -41,52 +38,44 @@ pub record Fits (c : Call) (x : Room) : Type 0 where
   pub listing : listingLent c ≤ x .listings
   pub answer : answerWidth ≤ x .answers
 
-record Asks (c : Call) (listings : ℕ) (r : Row) : Type 0 where
-  model : modelLent c ≡ r .model
-  state : stateLent c ≡ r .state
-  listing : listingLent c ≤ listings
-
-picks : (b : Bool) (o p : Option Call) (c : Call) → cond b o p ≡ some c → (o ≡ some c) ⊎ (p ≡ some c)
-picks true o p c e = inl e
-picks false o p c e = inr e
-
-module _ (n : ℕ) (r : Row) where
-  asks-when : (b : Bool) (c d : Call) → (b ≡ true → Asks c n r) → when b c ≡ some d → Asks d n r
-  unfolding when
-  asks-when true c d f e = let q : c ≡ d = cc in rw (← q) (f refl)
-  asks-when false c d f e = absurd (let z : _≡_ {A = ℕ} 0 1 = cc in omega arith)
-
-  kind-asks : (texts : List ℕ) (c : Call) → kindCall texts n r ≡ some c → Asks c n r
-  unfolding kindCall modelLent stateLent listingLent
-  kind-asks texts c e =
-      ⊎-elim (asks-when _ _ c (λ f. record { model = refl; state = refl; listing = omega arith }))
-      (λ e. ⊎-elim (asks-when (leb (r .listing) n) _ c (λ f. record { model = refl; state = refl; listing = leb-true (r .listing) n f }))
-      (λ e. ⊎-elim (asks-when (leb (r .listing) n) _ c (λ f. record { model = refl; state = refl; listing = leb-true (r .listing) n f }))
-      (λ e. absurd (let z : _≡_ {A = ℕ} 0 1 = cc in omega arith))
-      (picks (eqb (r .kind) 3) _ _ c e))
-      (picks (eqb (r .kind) 2) _ _ c e))
-      (picks (eqb (r .kind) 1) _ _ c e)
-
 and-both : (a b : Bool) → (a && b) ≡ true → (a ≡ true) × (b ≡ true)
 and-both true true e = (refl, refl)
 and-both true false e = absurd (let z : _≡_ {A = ℕ} 0 1 = cc in omega arith)
 and-both false b e = absurd (let z : _≡_ {A = ℕ} 0 1 = cc in omega arith)
 
+-- what a row that fits asks for
+pub record Asks (r : Row) (t m s l : ℕ) : Type 0 where
+  pub model : r .model ≤ m
+  pub state : r .state ≤ s
+  pub kind : cond (eqb (r .kind) 1) (leb (r .first + r .size) t) (cond (eqb (r .kind) 2) (leb (r .listing) l) (cond (eqb (r .kind) 3) (leb (r .listing) l) false)) ≡ true
+
+pub row-asks : (r : Row) (t m s l : ℕ) → fits r t m s l ≡ true → Asks r t m s l
+unfolding fits
+row-asks r t m s l e =
+    let a = and-both (leb (r .model) m) _ e in
+    let b = and-both (leb (r .state) s) _ (a .1) in
+    record { model = leb-true _ _ (a .0); state = leb-true _ _ (b .0); kind = b .1 }
+
+row-fits : (texts : List ℕ) (x : Room) (r : Row) → answerWidth ≤ x .answers → Asks r (length texts) (x .model) (x .state) (x .listings) → Fits (rowCall texts r) x
+unfolding rowCall modelLent stateLent listingLent
+row-fits texts x r h a = by (eqb (r .kind) 1) (eqb (r .kind) 2) (eqb (r .kind) 3) (a .kind)
+  where
+    by : (p q u : Bool) → cond p (leb (r .first + r .size) (length texts)) (cond q (leb (r .listing) (x .listings)) (cond u (leb (r .listing) (x .listings)) false)) ≡ true
+        → Fits (cond p (open′ (take (r .size) (drop (r .first) texts)) (r .model) (r .state)) (cond q (list′ (r .model) (r .state) (r .listing)) (step′ (r .model) (r .state) (r .listing) (r .first)))) x
+    by true q u e = record { model = a .model; state = a .state; listing = omega arith; answer = h }
+    by false true u e = record { model = a .model; state = a .state; listing = leb-true _ _ e; answer = h }
+    by false false true e = record { model = a .model; state = a .state; listing = leb-true _ _ e; answer = h }
+    by false false false e = absurd (let z : _≡_ {A = ℕ} 0 1 = cc in omega arith)
+
 pub call-fits : (texts : List ℕ) (x : Room) (r : Row) (c : Call) → callOf texts x r ≡ some c → Fits c x
 unfolding callOf
-call-fits texts x r c e = by (leb answerWidth (x .answers) && (leb (r .model) (x .model) && leb (r .state) (x .state))) refl e
+call-fits texts x r c e = by (leb answerWidth (x .answers) && fits r (length texts) (x .model) (x .state) (x .listings)) refl e
   where
-    by : (b : Bool) → (leb answerWidth (x .answers) && (leb (r .model) (x .model) && leb (r .state) (x .state))) ≡ b → cond b (kindCall texts (x .listings) r) none ≡ some c → Fits c x
+    by : (b : Bool) → (leb answerWidth (x .answers) && fits r (length texts) (x .model) (x .state) (x .listings)) ≡ b → cond b (some (rowCall texts r)) none ≡ some c → Fits c x
     by true f e =
-        let a = kind-asks (x .listings) r texts c e in
-        let g = and-both _ _ f in
-        let h = and-both _ _ (g .1) in
-        record {
-          model = rw (a .model) (leb-true _ _ (h .0));
-          state = rw (a .state) (leb-true _ _ (h .1));
-          listing = a .listing;
-          answer = leb-true _ _ (g .0);
-        }
+        let a = and-both (leb answerWidth (x .answers)) _ f in
+        let q : rowCall texts r ≡ c = cc in
+        subst (λ (d : Call). Fits d x) q (row-fits texts x r (leb-true _ _ (a .0)) (row-asks r _ _ _ _ (a .1)))
     by false f e = absurd (let z : _≡_ {A = ℕ} 0 1 = cc in omega arith)
 
 -- ---- lengths of what is lent
@@ -112,7 +101,7 @@ module _ (c : Call) (x : Lent) (f : Fits c (roomOf x)) where
 
 -- 1 leaves all that is lent as it was
 refused-effect : (c : Call) (x : Lent) → Fits c (roomOf x) → right c ≡ false
-    → effectOf c x ≡ untouched (take (modelLent c) (x .model)) (take (stateLent c) (x .state)) (take (listingLent c) (x .listings))
+    → effectOf c (x .model) (x .state) (x .listings) ≡ untouched (take (modelLent c) (x .model)) (take (stateLent c) (x .state)) (take (listingLent c) (x .listings))
 unfolding right effectOf openEffect listEffect stepEffect whenLent modelLent stateLent listingLent
 refused-effect (open′ text m s) x f e = rw (model-lent (open′ text m s) x f, state-lent (open′ text m s) x f, e)
 refused-effect (list′ m s l) x f e = rw (model-lent (list′ m s l) x f, state-lent (list′ m s l) x f, listing-lent (list′ m s l) x f, e)
@@ -153,7 +142,7 @@ own-fed (open′ text m s) x f r = ap₂ (open′ text) (sym (r .model)) (sym (r
 own-fed (list′ m s l) x f r = rw (listing-lent (list′ m s l) x f) (ap₂ (λ (a b : ℕ). list′ a b l) (sym (r .model)) (sym (r .state)))
 own-fed (step′ m s l d) x f r = rw (listing-lent (step′ m s l d) x f) (ap₂ (λ (a b : ℕ). step′ a b l d) (sym (r .model)) (sym (r .state)))
 
-own-effect : (c : Call) (x : Lent) → Right c → effect (engineIn x) (ownCall c x) ≡ effectOf c x
+own-effect : (c : Call) (x : Lent) → Right c → effect (engineIn x) (ownCall c x) ≡ effectOf c (x .model) (x .state) (x .listings)
 unfolding ownCall effect lentBuffer engineIn effectOf modelLent stateLent
 own-effect (open′ text m s) x r = ap₂ (λ (a b : ℕ). openEffect text (take a (x .model)) (take b (x .state))) (sym (r .model)) (sym (r .state))
 own-effect (list′ m s l) x r = ap₂ (λ (a b : ℕ). listEffect (take a (x .model)) (take b (x .state)) (take l (x .listings))) (sym (r .model)) (sym (r .state))
@@ -201,7 +190,7 @@ steps-few (holding m s) d = chooses-few d (asked m s (machine.listing m s) .0 re
 
 -- a row's call turns the machine y and the engine in x alike, and shows what the answer says in the row's own listing
 pub record Done (y : Machine) (c : Call) (x : Lent) : Type 0 where
-  pub answer : effectOf c x .answer ≡ calls y c .answer
+  pub answer : effectOf c (x .model) (x .state) (x .listings) .answer ≡ calls y c .answer
   pub long : length (shown (calls y c .answer .listing) (take listingLength (x .listings))) ≡ length (take listingLength (x .listings))
   pub listed : callLeft c x .listings ≡ shown (calls y c .answer .listing) (take listingLength (x .listings)) ++ drop listingLength (x .listings)
   pub holds : Holds (engineIn (callLeft c x)) (calls y c .machine)
@@ -286,7 +275,7 @@ own-state (step′ m s l d) x = refl
 
 module _ (y : Machine) (c : Call) (x : Lent) (f : Fits c (roomOf x)) (h : Holds (engineIn x) y) (w : right c ≡ true) where
   abbrev E : Effect
-  E = effectOf c x
+  E = effectOf c (x .model) (x .state) (x .listings)
 
   -- what the call leaves of the engine
   left-is : leftBy (engineIn x) (ownCall c x) ≡ make (E .model) (E .state)

@@ -2,16 +2,14 @@
 use mathlib.Core.Path.{_≡_, refl, sym, ap, ap₂, subst, _∙_}
 use mathlib.Core.List.{List, [], _∷_, _++_, append-assoc}
 use mathlib.Core.Option.{Option, none, some, Option·elim}
-use Prim.Native.Nat.{ℕ, suc, _+_, _-_, _*_, _≤_}
+use Prim.Native.Nat.{ℕ, suc, _+_, _-_, _*_}
 use native.Mathlib.Omega.{arith}
-use lib.IntN.{ℤ}
-use lib.ListN.{length, take, drop, replicate, length-take, length-drop}
+use lib.ListN.{length, take, drop, length-take, length-drop}
 use lib.Seq.{length-take-le, drop-drop}
 use Rattle.machine.specs.State.{stateLength}
-use Rattle.machine.specs.Machine.{modelLength, listingLength, Answer, Machine, closed, Call, calls, answers, after}
+use Rattle.machine.specs.Machine.{modelLength, listingLength, Machine, closed, Call, calls, answers, after}
 use Rattle.buffers.specs.Listing.{shown}
-use Rattle.buffers.specs.Effect.{Effect}
-use Rattle.buffers.specs.Calls.{Engine, fresh, Holds, zeros}
+use Rattle.buffers.specs.Calls.{fresh, Holds, zeros}
 use Rattle.buffers.proofs.Calls.{model-long, state-long}
 use Rattle.script.specs.declared.Row.{Row}
 use Rattle.script.specs.Rows.{answerWidth, Room, roomAfter, callOf, callsOf, rowsOf, callsIn}
@@ -32,17 +30,17 @@ module _ (y : Machine) (c : Call) (x : Lent) (f : Fits c (roomOf x)) (h : Holds 
   z = callLeft c x
 
   -- the row's own answer and listing, and what stands after them
-  answer-long : length (answerNumbers (effectOf c x .answer)) ≡ length (take answerWidth (x .answers))
+  answer-long : length (answerNumbers (effectOf c (x .model) (x .state) (x .listings) .answer)) ≡ length (take answerWidth (x .answers))
   unfolding answerNumbers roomOf
   answer-long = sym (length-take-le answerWidth (x .answers) (f .answer))
 
   answer-is : take answerWidth (z .answers) ≡ answerNumbers (calls y c .answer)
   unfolding callLeft
-  answer-is = front-take answerWidth (answerNumbers (effectOf c x .answer)) (x .answers) answer-long ∙ ap answerNumbers (d .answer)
+  answer-is = front-take answerWidth (answerNumbers (effectOf c (x .model) (x .state) (x .listings) .answer)) (x .answers) answer-long ∙ ap answerNumbers (d .answer)
 
   answers-after : drop answerWidth (z .answers) ≡ drop answerWidth (x .answers)
   unfolding callLeft
-  answers-after = front-drop answerWidth (answerNumbers (effectOf c x .answer)) (x .answers) answer-long
+  answers-after = front-drop answerWidth (answerNumbers (effectOf c (x .model) (x .state) (x .listings) .answer)) (x .answers) answer-long
 
   listing-is : take listingLength (z .listings) ≡ shown (calls y c .answer .listing) (take listingLength (x .listings))
   listing-is = ap (take listingLength) (d .listed) ∙ front-take listingLength _ (x .listings) (d .long)

@@ -1,5 +1,5 @@
 -- A script: six numbers a row, each row a call on what is lent (01, Rule machine: texts, draws, and the lengths of all that is lent). Definitions only.
-use mathlib.Core.Bool.{Bool, cond, _&&_}
+use mathlib.Core.Bool.{Bool, false, cond, _&&_}
 use mathlib.Core.List.{List, [], _∷_}
 use mathlib.Core.Option.{Option, none, some, Option·elim}
 use Prim.Native.Nat.{ℕ, zero, suc, _+_, _-_, _/_}
@@ -43,21 +43,27 @@ pub record Room : Type 0 where
 unfoldable pub roomAfter : Room → Room
 roomAfter x = record { model = x .model; state = x .state; listings = x .listings - listingLength; answers = x .answers - answerWidth }
 
--- a call, if what it asks for is there
-unfoldable pub when : Bool → Call → Option Call
-when b c = cond b (some c) none
+-- 1 opens a part of the texts, 2 lists and 3 steps into a listing; nothing else is a call, and what is not there is not lent
+unfoldable pub fits : Row → (texts model state listings : ℕ) → Bool
+fits r texts model state listings =
+    leb (r .model) model && (leb (r .state) state
+    && cond (eqb (r .kind) 1) (leb (r .first + r .size) texts)
+    (cond (eqb (r .kind) 2) (leb (r .listing) listings)
+    (cond (eqb (r .kind) 3) (leb (r .listing) listings) false)))
 
--- 01, Rule machine: 1 opens a part of the texts, 2 lists, 3 steps with a draw; nothing else is a call
-unfoldable pub kindCall : List ℕ → ℕ → Row → Option Call
-kindCall texts listings r =
-    cond (eqb (r .kind) 1) (when (leb (r .first + r .size) (length texts)) (open′ (take (r .size) (drop (r .first) texts)) (r .model) (r .state)))
-    (cond (eqb (r .kind) 2) (when (leb (r .listing) listings) (list′ (r .model) (r .state) (r .listing)))
-    (cond (eqb (r .kind) 3) (when (leb (r .listing) listings) (step′ (r .model) (r .state) (r .listing) (r .first)))
-    none))
+-- 01, Rule machine: the call of a row that fits: a text or a draw, and the lengths of what is lent
+unfoldable pub rowCall : List ℕ → Row → Call
+rowCall texts r =
+    cond (eqb (r .kind) 1) (open′ (take (r .size) (drop (r .first) texts)) (r .model) (r .state))
+    (cond (eqb (r .kind) 2) (list′ (r .model) (r .state) (r .listing)) (step′ (r .model) (r .state) (r .listing) (r .first)))
 
--- 01, Rule machine: the call of a row that asks for no more than there is
+-- a row is a call where it fits and there is room for its answer
 unfoldable pub callOf : List ℕ → Room → Row → Option Call
-callOf texts x r = cond (leb answerWidth (x .answers) && (leb (r .model) (x .model) && leb (r .state) (x .state))) (kindCall texts (x .listings) r) none
+callOf texts x r = cond (leb answerWidth (x .answers) && fits r (length texts) (x .model) (x .state) (x .listings)) (some (rowCall texts r)) none
+
+-- the call of the first row of a script
+unfoldable pub firstCall : List ℕ → List ℕ → Room → Option Call
+firstCall script texts x = cond (leb rowWidth (length script)) (callOf texts x (rowOf script)) none
 
 -- 01, Rule machine: the calls of rows, up to the first that is none
 unfoldable pub callsOf : List ℕ → Room → List Row → List Call

@@ -1,14 +1,15 @@
 -- What a list of calls leaves in the buffers of a run, whatever these hold (01, State: the engine is its model and state buffers). Definitions only.
 use mathlib.Core.Path.{_≡_}
-use mathlib.Core.Bool.{Bool}
+use mathlib.Core.Bool.{Bool, true, false}
 use mathlib.Core.List.{List, [], _∷_, _++_}
-use mathlib.Core.Option.{Option, Option·elim}
-use Prim.Native.Nat.{ℕ}
+use mathlib.Core.Option.{Option, none, some}
+use Prim.Native.Nat.{ℕ, _*_}
 use lib.IntN.{ℤ}
 use lib.ListN.{length, take, drop}
 use Rattle.machine.specs.Machine.{listingLength, Answer, Call, open′, list′, step′}
 use Rattle.buffers.specs.Effect.{Effect, openEffect, listEffect, stepEffect}
-use Rattle.script.specs.Rows.{answerWidth, Room}
+use Rattle.engine.specs.declared.Answer as engine
+use Rattle.script.specs.Rows.{rowWidth, answerWidth, Room, firstCall}
 
 -- the buffers that a run is lent
 pub record Lent : Type 0 where
@@ -17,8 +18,8 @@ pub record Lent : Type 0 where
   pub listings : List ℕ
   pub answers : List ℕ
 
-abbrev pub lent : List ℕ → List ℤ → List ℕ → List ℕ → Lent
-lent bs zs ls ns = record { model = bs; state = zs; listings = ls; answers = ns }
+abbrev pub lentOf : List ℕ → List ℤ → List ℕ → List ℕ → Lent
+lentOf bs zs ls ns = record { model = bs; state = zs; listings = ls; answers = ns }
 
 -- 01, Rule machine: their lengths
 unfoldable pub roomOf : Lent → Room
@@ -40,11 +41,11 @@ listingLent (open′ text m s) = 0
 listingLent (list′ m s l) = l
 listingLent (step′ m s l d) = l
 
--- 01, Opening a text, Listing and stepping: what a call answers and leaves, which is lent the first numbers of each buffer
-unfoldable pub effectOf : Call → Lent → Effect
-effectOf (open′ text m s) x = openEffect text (take m (x .model)) (take s (x .state))
-effectOf (list′ m s l) x = listEffect (take m (x .model)) (take s (x .state)) (take l (x .listings))
-effectOf (step′ m s l d) x = stepEffect (take m (x .model)) (take s (x .state)) (take l (x .listings)) d
+-- 01, Opening a text, Listing and stepping: what a call answers and leaves, which is lent the first numbers of a model, a state and listings
+unfoldable pub effectOf : Call → List ℕ → List ℤ → List ℕ → Effect
+effectOf (open′ text m s) bs zs ls = openEffect text (take m bs) (take s zs)
+effectOf (list′ m s l) bs zs ls = listEffect (take m bs) (take s zs) (take l ls)
+effectOf (step′ m s l d) bs zs ls = stepEffect (take m bs) (take s zs) (take l ls) d
 
 -- 01, Rule machine: the numbers that an answer carries
 unfoldable pub answerNumbers : Answer → List ℕ
@@ -53,7 +54,7 @@ answerNumbers a = a .number ∷ a .place ∷ a .branch ∷ a .count ∷ a .total
 -- one call: the first numbers of each buffer are what it leaves there, the rest is as it was
 unfoldable pub callLeft : Call → Lent → Lent
 callLeft c x =
-    let e = effectOf c x in
+    let e = effectOf c (x .model) (x .state) (x .listings) in
     record {
       model = e .model ++ drop (modelLent c) (x .model);
       state = e .state ++ drop (stateLent c) (x .state);
@@ -75,6 +76,32 @@ runLeft [] x = x
 runLeft (c ∷ cs) x = let y = callLeft c x in joined y (runLeft cs (nextLent y))
 
 -- ---- what the code gives
+
+-- the numbers of a call's result
+unfoldable pub resultNumbers : engine.Answer → List ℕ
+resultNumbers r = r .number ∷ r .place ∷ r .branch ∷ r .count ∷ r .total ∷ r .chosen ∷ []
+
+-- one call: its result, and the buffers of which it was lent the first numbers
+pub record Called (c : Call) (bs : List ℕ) (zs : List ℤ) (ls : List ℕ) (r : engine.Answer) (bs′ : List ℕ) (zs′ : List ℤ) (ls′ : List ℕ) : Type 0 where
+  pub numbers : resultNumbers r ≡ answerNumbers (effectOf c bs zs ls .answer)
+  pub model : bs′ ≡ effectOf c bs zs ls .model ++ drop (modelLent c) bs
+  pub state : zs′ ≡ effectOf c bs zs ls .state ++ drop (stateLent c) zs
+  pub listings : ls′ ≡ effectOf c bs zs ls .listing ++ drop (listingLent c) ls
+
+-- a row that is a call was run, any other was not and changed nothing
+unfoldable pub RowRan : Option Call → Lent → Bool → Lent → Type 0
+RowRan none x r y = (r ≡ false) × (y ≡ x)
+RowRan (some c) x r y = (r ≡ true) × (y ≡ callLeft c x)
+
+-- what row i is lent: the engine, the listings and answers from its own on
+unfoldable pub lentFrom : ℕ → Lent → Lent
+lentFrom i x = record { model = x .model; state = x .state; listings = drop (i * listingLength) (x .listings); answers = drop (i * answerWidth) (x .answers) }
+
+-- row i of a script was run as that; the listings and answers of the rows before it are as they were
+pub record RowRanAt (i : ℕ) (script texts : List ℕ) (x : Lent) (r : Bool) (y : Lent) : Type 0 where
+  pub ran : RowRan (firstCall (drop (i * rowWidth) script) texts (roomOf (lentFrom i x))) (lentFrom i x) r (lentFrom i y)
+  pub listings-before : take (i * listingLength) (y .listings) ≡ take (i * listingLength) (x .listings)
+  pub answers-before : take (i * answerWidth) (y .answers) ≡ take (i * answerWidth) (x .answers)
 
 -- every call was made, and the buffers are as they leave them
 pub record Ran (cs : List Call) (x : Lent) (r : ℕ) (y : Lent) : Type 0 where

@@ -90,7 +90,7 @@ module _ {w : ℕ → List ℕ} {m : Syntax.Model} {nodes roots scopes nodes′ 
   -- sum n in both
   sum-is : (n : ℕ) → n < x .sums → (getD roots n 0 ≡ getD roots′ n 0) × (getD scopes n 0 ≡ getD scopes′ n 0)
   sum-is n l =
-      let s = a .numbered n l in
+      let s = a .numbered n (omega arith) in
       let i = s .at in
       let k = s .number in
       let u : i ≤ lineIn m (y .root) = omega (arith, s .to, line-is) in

@@ -10,7 +10,7 @@ use Rattle.model.specs.Sites.{variables, definitions}
 use Rattle.settle.specs.declared.Model.{Model}
 use Rattle.settle.specs.Walks.{sum, roleAt, Point, cellOf, pointAt}
 
--- node i of the table t is that of sum n, among the nodes from first to line
+-- the node of sum n, among those of the table t from first to line
 pub record SumNode (t : List ℕ) (first line n : ℕ) : Type 0 where
   pub at : ℕ
   pub from : first ≤ at
@@ -42,14 +42,14 @@ pub record Settles (w : ℕ → List ℕ) (m : Syntax.Model) (nodes roots scopes
   pub resolved : (i : ℕ) → length (variables m) ≤ i → i ≤ lineIn m (x .root) → getD nodes i 0 ≡ cellOf w (variables m) (definitions m) table i (pointIn w m table i)
   pub before : (i : ℕ) → i < length (variables m) → getD nodes i 0 ≡ getD table i 0
   pub after : (i : ℕ) → lineIn m (x .root) < i → i ≤ x .root → getD nodes i 0 ≡ getD table i 0
-  -- sums: each has a node, before which its branches end, and the locals known there
+  -- sums: each has a node; its branches' root is the node before that, its locals are those known there
   pub roots-fit : x .sums ≤ length roots
   pub scopes-fit : x .sums ≤ length scopes
   pub numbered : (n : ℕ) → n < x .sums → SumNode table (length (variables m)) (lineIn m (x .root)) n
   pub branches : (i : ℕ) → length (variables m) ≤ i → i ≤ lineIn m (x .root) → roleAt table i ≡ sum → getD roots (tokenOf (getD table i 0)) 0 ≡ i - 1
   pub locals : (i : ℕ) → length (variables m) ≤ i → i ≤ lineIn m (x .root) → roleAt table i ≡ sum → getD scopes (tokenOf (getD table i 0)) 0 ≡ length (pointIn w m table i .scope)
 
--- two sets of tables are the same as far as a model with these numbers uses them
+-- two sets of tables are the same as far as a model with these numbers uses them: its nodes up to the root, and a row for each sum
 pub record SameTables (nodes roots scopes nodes′ roots′ scopes′ : List ℕ) (x : Model) : Type 0 where
   pub same-nodes : take (x .root + 1) nodes ≡ take (x .root + 1) nodes′
   pub same-roots : take (x .sums) roots ≡ take (x .sums) roots′

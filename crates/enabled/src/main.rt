@@ -8,7 +8,7 @@ struct Input;
 
 impl Input {
     // Bytes that are read: one more than a text may have.
-    const MOST: usize = 16385;
+    const MOST: usize = token::Limits::TEXT + 1;
 
     // The refusal that carries a branch.
     const NO_VALUE: u64 = 12;

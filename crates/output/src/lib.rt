@@ -5,17 +5,14 @@ ghost use mathlib.Core.Path.{_≡_};
 ghost use Prim.Native.Nat.{_<_};
 ghost use lib.IntN.{natAbs};
 
-pub type Buffer = [u8; 65536];
-
 pub struct Limits;
 
 impl Limits {
     // Bytes of the buffer. It is full when as many wait, or more.
     pub const BUFFER: usize = 65536;
-
-    // Numbers of a listing's entry.
-    pub const ENTRY: usize = 7;
 }
+
+pub type Buffer = [u8; Limits::BUFFER];
 
 // An empty buffer.
 pub fn empty() -> Buffer {
@@ -130,10 +127,10 @@ pub fn put_entries(
     let mut left = count;
     let mut at = 0;
     while 0 < left {
-        if listing.len() - at < Limits::ENTRY {
+        if listing.len() - at < listing::Limits::ENTRY {
             return n;
         }
-        let end = at + Limits::ENTRY;
+        let end = at + listing::Limits::ENTRY;
         n = put(out, n, begin);
         n = put_line(out, n, &listing[at..end], gap);
         at = end;

@@ -1,3 +1,4 @@
 pub mod Walks
 pub mod Literals
+pub mod Kids
 pub mod Places

@@ -6,9 +6,13 @@ use lib.ListN.{length, getD, set}
 use Rattle.tree.specs.Node.{cell, tokenOf, leftOf, thirdOf}
 use Rattle.names.specs.Lists.{packed}
 
--- a packed name as one number of 128 bits
+-- a packed name's hash
+unfoldable pub hashOf : ℕ → ℕ → ℕ
+hashOf a b = (a % 2147483629 * 1640531527 + b % 2147483629 * 1013904223) % 2147483629
+
+-- the bits of a name as one number: 64 of its hash, then 128 of the packed name
 unfoldable pub bitsOf : List ℕ → List ℕ → ℕ → ℕ
-bitsOf low high k = getD low k 0 + 18446744073709551616 * getD high k 0
+bitsOf low high k = hashOf (getD low k 0) (getD high k 0) + 18446744073709551616 * (getD low k 0 + 18446744073709551616 * getD high k 0)
 
 -- a node's kid for a bit; 0 is none, for node 0 is the root
 unfoldable pub kidOf : ℕ → ℕ → ℕ

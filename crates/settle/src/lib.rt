@@ -21,7 +21,7 @@ ghost use Rattle.names.specs.declared.Question.the-variants.{Given};
 ghost use Rattle.names.specs.Placed.{IsName};
 ghost use Rattle.names.specs.Settings.{Scoped};
 ghost use Rattle.tables.specs.Settled.{offset, numberCell};
-ghost use Rattle.settle.specs.Kids.{kidOf, hungBelow};
+ghost use Rattle.settle.specs.Kids.{hashOf, kidOf, hungBelow};
 ghost use Rattle.settle.specs.Walks.{valueCell, scaleCell, nameCell, definitionOf, paramsAt, roleAt, Point, cellBy};
 ghost use Rattle.settle.specs.Places.{signed, ScaleTold, Lookup, kindsIn, wordIn, variablesIn, definitionsOf, NumberNode, placeOr, Heard, heardAfter, Sought, ChannelDone, Place, meaningAt, Hearing, metNames, NameDone, Calls, Leaf, Knows, Turn, turned, markedBy, Standing, Stepped, Resolvable};
 ghost use Rattle.tables.specs.Represents.{Represents};
@@ -64,6 +64,13 @@ const COUNTS: u8 = 2;
 
 // The kind of a node that is a channel name.
 const CHANNEL: u8 = 66;
+
+// What the words of a packed name are multiplied by for its hash, which is below PRIME.
+const FIRST: u64 = 1640531527;
+
+const SECOND: u64 = 1013904223;
+
+const PRIME: u64 = 2147483629;
 
 // The highest bit of a word.
 const TOP: u64 = 9223372036854775808;
@@ -115,6 +122,13 @@ fn definition_named(low: &[u64], high: &[u64], nodes: &[u64], lists: Lists, k: u
     j
 }
 
+// The hash of a packed name. Its bits come first, so that names that begin alike part early.
+fn hash_of(first: u64, second: u64) -> u64
+    ensures { λ r. ⌜ r ≡ hashOf first second ⌝ }
+{
+    (first % PRIME * FIRST + second % PRIME * SECOND) % PRIME
+}
+
 // The kid of a channel name's node for a bit; 0 if there is none.
 fn kid_of(node: u64, bit: u64) -> usize
     ensures { λ r. ⌜ r ≡ kidOf node bit ⌝ }
@@ -151,17 +165,19 @@ fn channel_place(low: &[u64], high: &[u64], heard: &mut [u64], n: usize, k: usiz
     }
     let mut first = low[k];
     let mut second = high[k];
+    let mut bits = hash_of(first, second);
     let mut i = 0;
     loop {
         let node = heard[i];
         if names::same_name(low, high, k, tree::token_of(node)) {
             return i;
         }
-        let kid = kid_of(node, first % 2);
+        let kid = kid_of(node, bits % 2);
         if kid == 0 {
-            hang(heard, i, first % 2, n, k);
+            hang(heard, i, bits % 2, n, k);
             return n;
         }
+        bits = bits / 2 + TOP * (first % 2);
         first = first / 2 + TOP * (second % 2);
         second = second / 2;
         i = kid;

@@ -6,19 +6,16 @@
 // open, list and step print `number place branch count total chosen`, then each entry of the listing on a line of its own, after two blanks; `state` prints the state's numbers.
 // A line of another form prints `bad,LINE` and ends the script; so does `open N` whose text is cut short or has no LF after it. Nothing is called for it.
 // A text is lent to open up to 16,385 bytes: as many are too many already, so the bytes after them change no answer.
-mod line;
-mod script;
-
 use engine::Answer;
 use engine::Engine;
 use libc::STDIN_FILENO;
 use libc::STDOUT_FILENO;
-use line::Line;
+use lines::line::Line;
+use lines::script::Ending;
+use lines::script::Part;
+use lines::script::Script;
+use lines::script::Taken;
 use output::Buffer;
-use script::Ending;
-use script::Part;
-use script::Script;
-use script::Taken;
 
 struct Limits;
 

@@ -1,0 +1,3 @@
+// Scripts of calls: what their bytes ask for.
+pub mod line;
+pub mod script;

@@ -6,7 +6,6 @@
 // open, list and step print `number place branch count total chosen`, then each entry of the listing on a line of its own, after two blanks; `state` prints the state's numbers.
 // A line of another form prints `bad,LINE` and ends the script; so does `open N` whose text is cut short or has no LF after it. Nothing is called for it.
 // A text is lent to open up to 16,385 bytes: as many are too many already, so the bytes after them change no answer.
-use engine::Answer;
 use engine::Engine;
 use libc::STDIN_FILENO;
 use libc::STDOUT_FILENO;
@@ -16,6 +15,7 @@ use lines::script::Part;
 use lines::script::Script;
 use lines::script::Taken;
 use output::Buffer;
+use script::Row;
 
 struct Limits;
 
@@ -25,6 +25,9 @@ impl Limits {
 
     // Bytes of one read.
     const READ: usize = 65536;
+
+    // The entry count among an answer's numbers.
+    const COUNT: usize = 3;
 }
 
 type Text = [u8; Limits::TEXT];
@@ -57,42 +60,44 @@ fn keep(part: Part, b: u8, text: &mut [u8]) {
     }
 }
 
-fn put_answer(out: &mut Buffer, waits: usize, answer: Answer) -> usize {
-    let numbers = [
-        answer.number,
-        answer.place,
-        answer.branch,
-        answer.count,
-        answer.total,
-        answer.chosen,
-    ];
-    output::put_line(out, waits, &numbers, b' ')
-}
-
-// An answer, and as many entries as it counts: none where the listing isn't filled.
-fn put_listing(out: &mut Buffer, waits: usize, answer: Answer, listing: &[u64]) -> usize {
-    let n = put_answer(out, waits, answer);
-    output::put_entries(out, n, listing, answer.count, b"  ", b' ')
-}
-
 fn put_bad(out: &mut Buffer, waits: usize, line: u64) -> usize {
     let n = output::put(out, waits, b"bad,");
     output::put_line(out, n, &[line], b' ')
 }
 
-fn call_open(
+// How many bytes of a text are lent.
+fn lent(size: u64) -> u64 {
+    let most = Limits::TEXT as u64;
+    if size < most {
+        return size;
+    }
+    most
+}
+
+// Makes one call by a row of a script, and puts its answer and as many entries as it counts: none where the listing isn't filled.
+fn put_call(
     out: &mut Buffer,
     waits: usize,
+    kind: u64,
+    first: u64,
     size: u64,
-    text: &[u8],
-    model: &mut [u8],
-    state: &mut [i64],
+    text: &Text,
+    model: &mut Model,
+    state: &mut State,
+    listing: &mut Listing,
 ) -> usize {
-    let n = size as usize;
-    if n < text.len() {
-        return put_answer(out, waits, engine::open(&text[..n], model, state));
-    }
-    put_answer(out, waits, engine::open(text, model, state))
+    let row = [
+        kind,
+        first,
+        size,
+        Engine::MODEL as u64,
+        Engine::STATE as u64,
+        Engine::LISTING as u64,
+    ];
+    let mut answer = [0u64; Row::ANSWER];
+    script::run(&row, text, model, state, listing, &mut answer);
+    let n = output::put_line(out, waits, &answer, b' ');
+    output::put_entries(out, n, listing, answer[Limits::COUNT], b"  ", b' ')
 }
 
 // Does what an item of the script asks for.
@@ -106,15 +111,39 @@ fn ask(
     listing: &mut Listing,
 ) -> usize {
     match asked {
-        Line::Open(size) => call_open(out, waits, size, text, model, state),
-        Line::List => {
-            let answer = engine::list(model, state, listing);
-            put_listing(out, waits, answer, listing)
-        }
-        Line::Step(draw) => {
-            let answer = engine::step(model, state, listing, draw);
-            put_listing(out, waits, answer, listing)
-        }
+        Line::Open(size) => put_call(
+            out,
+            waits,
+            Row::OPEN,
+            0,
+            lent(size),
+            text,
+            model,
+            state,
+            listing,
+        ),
+        Line::List => put_call(
+            out,
+            waits,
+            Row::LIST,
+            0,
+            0,
+            text,
+            model,
+            state,
+            listing,
+        ),
+        Line::Step(draw) => put_call(
+            out,
+            waits,
+            Row::STEP,
+            draw,
+            0,
+            text,
+            model,
+            state,
+            listing,
+        ),
         Line::State => output::put_signed_line(out, waits, state, b' '),
         Line::Bad => waits,
     }

@@ -155,6 +155,10 @@ module _ (t : List ℕ) (i b n k : ℕ) {t₁ t₂ : List ℕ} {name : ℕ} (new
       by zero z = absurd (z refl)
       by (suc b) z = refl
 
+pub hung-size : (t : List ℕ) (i b n k : ℕ) → length (hungBelow t i b n k) ≡ length t
+unfolding hungBelow
+hung-size t i b n k = length-set (set t n (alone k)) i (withKid (getD t i 0) b n) ∙ length-set t n (alone k)
+
 pub fields-fit : (c : ℕ) → (tokenOf c < field) × (leftOf c < field) × (thirdOf c < field)
 unfolding tokenOf leftOf thirdOf
 fields-fit c = (omega arith, omega arith, omega arith)
@@ -327,14 +331,14 @@ module _ {low high t seen : List ℕ} {n k x i : ℕ} (g : Heard low high t n k 
   sought-here e = let p = found-here (g .hung) k s e in record { place-is = rw p; hung = rw p (g .hung); size = refl }
 
   pub sought-new : same (packed low high) k (tokenOf (getD t i 0)) ≡ false → kidOf (getD t i 0) (x % 2) ≡ 0 → Sought low high t n k seen (hungBelow t i (x % 2) n k) n
-  unfolding placeOr heardAfter hungBelow
+  unfolding placeOr heardAfter
   sought-new e z =
       let f = never-met (g .hung) k s e z in
       let p = not-placed (packed low high) k seen f in
       record {
         place-is = rw p;
         hung = rw p (hung-new g s z f);
-        size = length-set (set t n (alone k)) i (withKid (getD t i 0) (x % 2) n) ∙ length-set t n (alone k);
+        size = hung-size t i (x % 2) n k;
       }
 
 -- where the loop stands: the three words left are the bits left, and the table is as it was

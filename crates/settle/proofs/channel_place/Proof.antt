@@ -1,4 +1,4 @@
-use Rattle.settle.proofs.Kids.{Searching, search-begins, node-inside, name-inside, sought-first, case-found, case-new, case-on, case-less, word-fits}
+use Rattle.settle.proofs.Kids.{Searching, search-begins, node-inside, name-inside, sought-first, case-found, case-new, case-on, case-less, word-fits, hung-size}
 use Rattle.settle.proofs.channel_place.Statement.{statement}
 use Rattle.settle.proofs.channel_place.Tie as tie
 use Rattle.settle.proofs.channel_place.Reads as reads
@@ -104,7 +104,7 @@ hang-requires c κs =
 -- src/lib.rt:178:13
 same-length-3 : tie.Need-same-length-3 Inv-loop μ-loop
 same-length-3 c =
-    case-new (c .before .before .before .before .before .before .before .before .before .before .before .before .before .before .before .before .before .before .pre) (c .before .before .before .before .before .before .before .before .before .before .loop .inv) (c .before .before .before .before .before .before .before .before .token-of .result) (c .before .before .before .before .before .before .before .before .token-of .ensures) (c .before .before .before .before .before .before .before .same-name .result) (c .before .before .before .before .before .before .before .same-name .ensures) (c .before .before .before .before .before .before .if2 .left) (c .before .before .before .before .before .kid-of .result) (c .before .before .before .before .before .kid-of .ensures) (c .before .before .before .before .if3 .taken) _ (c .before .before .hang .ensures) (c .before .before .before .before .before .before .before .before .before .before .before .before .before .before .before .before .before .before .pre .0) (c .before .before .before .before .before .before .before .before .before .before .before .before .before .before .before .before .before .before .pre .1) .size
+    ap length (c .before .before .hang .ensures) ∙ hung-size (c .before .before .before .before .before .before .before .before .before .before .loop .heard) _ _ _ _ ∙ ap length (c .before .before .before .before .before .before .before .before .before .before .loop .inv .same-table)
 
 -- src/lib.rt:178:13
 returns-3 : tie.Need-returns-3 Inv-loop μ-loop

@@ -193,6 +193,20 @@ module _ (c m : ℕ) (small : m < field) where
   kid-either (suc b) zero = inr (left-of (omega arith) (fits .0) (fits .1) small)
   kid-either (suc b) (suc a) = inl (third-of (omega arith) (fits .0) (fits .1) small)
 
+  kid-apart : (b a : ℕ) → b < 2 → a < 2 → (a ≡ b → ⊥) → kidOf (withKid c b m) a ≡ kidOf c a
+  unfolding withKid kidOf
+  kid-apart zero zero l u e = absurd (e refl)
+  kid-apart zero (suc a) l u e = third-of (omega arith) (fits .0) small (fits .2)
+  kid-apart (suc b) zero l u e = left-of (omega arith) (fits .0) (fits .1) small
+  kid-apart (suc b) (suc a) l u e = absurd (e (omega arith))
+
+  kid-where : (b a : ℕ) → b < 2 → a < 2 → ((kidOf (withKid c b m) a ≡ m) × (a ≡ b)) ⊎ (kidOf (withKid c b m) a ≡ kidOf c a)
+  kid-where b a l u = by (ℕ-discrete a b)
+    where
+      by : Dec (a ≡ b) → ((kidOf (withKid c b m) a ≡ m) × (a ≡ b)) ⊎ (kidOf (withKid c b m) a ≡ kidOf c a)
+      by (yes e) = inl (ap (kidOf (withKid c b m)) e ∙ kid-put b, e)
+      by (no e) = inr (kid-apart b a l u e)
+
   kid-kept : (b a : ℕ) → kidOf c b ≡ 0 → 0 < kidOf c a → kidOf (withKid c b m) a ≡ kidOf c a
   unfolding withKid kidOf
   kid-kept zero zero e l = absurd (omega arith)
@@ -267,6 +281,27 @@ module _ {low high t seen : List ℕ} {n k x i : ℕ} (g : Heard low high t n k 
       let c = length-append seen (k ∷ []) in
       ⊎-elim (λ (e : kidOf (getD t′ j 0) b ≡ n). omega (arith, g .count)) (λ (e : kidOf (getD t′ j 0) b ≡ kidOf (getD t j 0) b). omega (arith, g .hung .inside j b (numbered j l))) (kid-or b j l)
 
+  -- a kid is the new one, below its parent, or stands where it stood
+  grown : (b j : ℕ) → b < 2 → j < n → ((kidOf (getD t′ j 0) b ≡ n) × (j ≡ i) × (b ≡ x % 2)) ⊎ (kidOf (getD t′ j 0) b ≡ kidOf (getD t j 0) b)
+  grown b j u l = by (ℕ-discrete j i)
+    where
+      new : ((kidOf (withKid (getD t i 0) (x % 2) n) b ≡ n) × (b ≡ x % 2)) ⊎ (kidOf (withKid (getD t i 0) (x % 2) n) b ≡ kidOf (getD t i 0) b) → j ≡ i → ((kidOf (getD t′ j 0) b ≡ n) × (j ≡ i) × (b ≡ x % 2)) ⊎ (kidOf (getD t′ j 0) b ≡ kidOf (getD t j 0) b)
+      new (inl p) e = inl (ap (λ (a : ℕ). kidOf (getD t′ a 0) b) e ∙ ap (λ (c : ℕ). kidOf c b) at-parent ∙ p .0, e, p .1)
+      new (inr p) e = inr (ap (λ (a : ℕ). kidOf (getD t′ a 0) b) e ∙ ap (λ (c : ℕ). kidOf c b) at-parent ∙ p ∙ ap (λ (a : ℕ). kidOf (getD t a 0) b) (sym e))
+
+      by : Dec (j ≡ i) → ((kidOf (getD t′ j 0) b ≡ n) × (j ≡ i) × (b ≡ x % 2)) ⊎ (kidOf (getD t′ j 0) b ≡ kidOf (getD t j 0) b)
+      by (yes e) = new (kid-where (getD t i 0) n (g .few) (x % 2) b (omega arith) u) e
+      by (no e) = inr (ap (λ (c : ℕ). kidOf c b) (at-other j l e))
+
+  one-parent : (a j b c : ℕ) → a < n → j < n → b < 2 → c < 2 → 0 < kidOf (getD t′ a 0) b → kidOf (getD t′ a 0) b ≡ kidOf (getD t′ j 0) c → (a ≡ j) × (b ≡ c)
+  one-parent a j b c l m u w p e = by (grown b a u l) (grown c j w m)
+    where
+      by : ((kidOf (getD t′ a 0) b ≡ n) × (a ≡ i) × (b ≡ x % 2)) ⊎ (kidOf (getD t′ a 0) b ≡ kidOf (getD t a 0) b) → ((kidOf (getD t′ j 0) c ≡ n) × (j ≡ i) × (c ≡ x % 2)) ⊎ (kidOf (getD t′ j 0) c ≡ kidOf (getD t j 0) c) → (a ≡ j) × (b ≡ c)
+      by (inl y) (inl z) = (y .1 ∙ sym (z .1), y .2 ∙ sym (z .2))
+      by (inl y) (inr z) = let o = g .hung .inside j c (numbered j m) in absurd (omega (arith, y .0, g .count))
+      by (inr y) (inl z) = let o = g .hung .inside a b (numbered a l) in absurd (omega (arith, z .0, g .count))
+      by (inr y) (inr z) = g .hung .parents a j b c (numbered a l) (numbered j m) u w (omega arith) (sym y ∙ e ∙ z)
+
   no-kids : (b : ℕ) → kidOf (getD t′ n 0) b ≡ 0
   no-kids b = rw at-new (alone-kid k (g .small) b)
 
@@ -288,6 +323,10 @@ module _ {low high t seen : List ℕ} {n k x i : ℕ} (g : Heard low high t n k 
             (of-all (λ b. packed low high (getD seen′ n 0) ≡ packed low high (getD seen′ b 0) → n ≡ b) (λ b m e. absurd (new b (numbered b m) (rw (last, before b m) at e))) (λ e. refl)) a l b m;
         after = λ j b. of-all (λ j. 0 < kidOf (getD t′ j 0) b → j < kidOf (getD t′ j 0) b) (kids-after b) (λ p. absurd (omega (arith, no-kids b))) j;
         inside = λ j b. of-all (λ j. kidOf (getD t′ j 0) b < length seen′) (kids-inside b) (omega (arith, no-kids b)) j;
+        parents = λ a j b c l m.
+            of-all (λ a. (j : ℕ) → j < length seen′ → b < 2 → c < 2 → 0 < kidOf (getD t′ a 0) b → kidOf (getD t′ a 0) b ≡ kidOf (getD t′ j 0) c → (a ≡ j) × (b ≡ c))
+            (λ a l. of-all (λ j. b < 2 → c < 2 → 0 < kidOf (getD t′ a 0) b → kidOf (getD t′ a 0) b ≡ kidOf (getD t′ j 0) c → (a ≡ j) × (b ≡ c)) (λ j m. one-parent a j b c l m) (λ u w p e. absurd (omega (arith, no-kids c))))
+            (λ j m u w p e. absurd (omega (arith, no-kids b))) a l j m;
         ways =
             of-all (λ j. (y : ℕ) × Way t′ (bitsOf low high (getD seen′ j 0)) 0 y j)
             (λ j l. let w = g .hung .ways j (numbered j l) in (w .0, rw (before j l) (ways-kept (omega arith) (w .1)))) (x / 2, rw last way-new);
@@ -302,6 +341,7 @@ none-hung low high t =
       differ = λ i j l m e. absurd (omega arith);
       after = λ i b l p. absurd (omega arith);
       inside = λ i b l. absurd (omega arith);
+      parents = λ i j b c l m u w p e. absurd (omega arith);
       ways = λ i l. absurd (omega arith);
     }
 
@@ -314,6 +354,7 @@ one-hung low high t k room small =
       differ = λ i j l m q. omega arith;
       after = λ i b l p. absurd (omega (arith, kid i b l));
       inside = λ i b l. omega (arith, kid i b l);
+      parents = λ i j b c l m u w p e. absurd (omega (arith, kid i b l));
       ways = λ i l. let z : i ≡ 0 = omega arith in rw z (bitsOf low high k, here);
     }
 

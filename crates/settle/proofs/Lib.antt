@@ -16,3 +16,4 @@ pub mod Stands
 pub mod Resolving
 pub mod Cells
 pub mod Kids
+pub mod Depth

@@ -6,7 +6,7 @@ use native.Mathlib.Omega.{arith}
 use native.Mathlib.Decide.{decLe, ℕ-discrete}
 use lib.ListN.{length, getD}
 use Rattle.names.specs.Lists.{packed}
-use Rattle.settle.specs.Kids.{hashOf, bitsOf, kidOf, Way, here, down, Hung}
+use Rattle.settle.specs.Kids.{hashOf, wordSize, bitsOf, kidOf, Way, here, down, Hung}
 use Rattle.settle.proofs.Kids.{Seeking}
 
 -- how many kids a way passes
@@ -32,13 +32,13 @@ same-bits (suc d) x y a b f =
     let z : x % 2 ≡ y % 2 = f 0 (omega arith) in
     omega arith
 
-word-below : (a b m : ℕ) → a < 18446744073709551616 → b < m → a + 18446744073709551616 * b < 18446744073709551616 * m
+word-below : (a b m : ℕ) → a < wordSize → b < m → a + wordSize * b < wordSize * m
 word-below a b m k l = omega arith
 
-word-same : (a b c d : ℕ) → a < 18446744073709551616 → c < 18446744073709551616 → a + 18446744073709551616 * b ≡ c + 18446744073709551616 * d → (a ≡ c) × (b ≡ d)
+word-same : (a b c d : ℕ) → a < wordSize → c < wordSize → a + wordSize * b ≡ c + wordSize * d → (a ≡ c) × (b ≡ d)
 word-same a b c d k l e = (omega arith, omega arith)
 
-hash-small : (a b : ℕ) → hashOf a b < 18446744073709551616
+hash-small : (a b : ℕ) → hashOf a b < wordSize
 unfolding hashOf
 hash-small a b = omega arith
 
@@ -73,7 +73,7 @@ module _ {low high t seen : List ℕ} (h : Hung low high t seen) (some : 0 < len
       by b m (yes e) f z = rw e z
       by b m (no e) f z = f b (omega arith)
 
-  module _ (words : (j : ℕ) → (getD low j 0 < 18446744073709551616) × (getD high j 0 < 18446744073709551616)) where
+  module _ (words : (j : ℕ) → (getD low j 0 < wordSize) × (getD high j 0 < wordSize)) where
     bits-small : (k : ℕ) → bitsOf low high k < 2 ^ 192
     unfolding bitsOf
     bits-small k = word-below _ _ (2 ^ 128) (hash-small (getD low k 0) (getD high k 0)) (word-below _ _ (2 ^ 64) (words k .0) (words k .1))
@@ -107,5 +107,5 @@ module _ {low high t seen : List ℕ} (h : Hung low high t seen) (some : 0 < len
     shallow k w = let c = came-shallow k (followed 0 root refl w) in omega arith
 
 -- a search stands nowhere deeper
-pub search-shallow : {low high t seen : List ℕ} {k x i : ℕ} → Hung low high t seen → ((j : ℕ) → (getD low j 0 < 18446744073709551616) × (getD high j 0 < 18446744073709551616)) → (s : Seeking low high t seen k x i) → steps (s .came) ≤ 192
+pub search-shallow : {low high t seen : List ℕ} {k x i : ℕ} → Hung low high t seen → ((j : ℕ) → (getD low j 0 < wordSize) × (getD high j 0 < wordSize)) → (s : Seeking low high t seen k x i) → steps (s .came) ≤ 192
 search-shallow {k = k} h words s = shallow h (let l = s .inside in omega arith) words k (s .came)

@@ -17,7 +17,7 @@ use Rattle.model.proofs.Members.{never, not-both, got-below}
 use Rattle.model.proofs.Repeats.{same-bytes, bytes-same}
 use Rattle.model.proofs.Meanings.{Placed, found, absent, placed}
 use Rattle.names.specs.Lists.{packed}
-use Rattle.settle.specs.Kids.{hashOf, bitsOf, kidOf, withKid, alone, hungBelow, Way, here, down, Hung}
+use Rattle.settle.specs.Kids.{hashOf, wordSize, topBit, bitsOf, kidOf, withKid, alone, hungBelow, Way, here, down, Hung}
 use Rattle.settle.specs.Places.{placeOr, heardAfter, Heard, Sought}
 
 -- ---- places in a list
@@ -35,18 +35,18 @@ at-in (x ∷ xs) (suc i) l = tail (at-in xs i (omega arith))
 -- ---- the bits of a name
 
 -- two words, one bit on
-word-on : (a b : ℕ) → (a + 18446744073709551616 * b) / 2 ≡ a / 2 + 9223372036854775808 * (b % 2) + 18446744073709551616 * (b / 2)
+word-on : (a b : ℕ) → (a + wordSize * b) / 2 ≡ a / 2 + topBit * (b % 2) + wordSize * (b / 2)
 word-on a b = omega arith
 
-low-bit : (a b : ℕ) → (a + 18446744073709551616 * b) % 2 ≡ a % 2
+low-bit : (a b : ℕ) → (a + wordSize * b) % 2 ≡ a % 2
 low-bit a b = omega arith
 
-pub word-fits : (a b : ℕ) → a < 18446744073709551616 → a / 2 + 9223372036854775808 * (b % 2) < 18446744073709551616
+pub word-fits : (a b : ℕ) → a < wordSize → a / 2 + topBit * (b % 2) < wordSize
 word-fits a b l = omega arith
 
 -- and three
-bits-on : (a b c : ℕ) → (a + 18446744073709551616 * (b + 18446744073709551616 * c)) / 2 ≡ a / 2 + 9223372036854775808 * (b % 2) + 18446744073709551616 * (b / 2 + 9223372036854775808 * (c % 2) + 18446744073709551616 * (c / 2))
-bits-on a b c = word-on a (b + 18446744073709551616 * c) ∙ rw (low-bit b c, word-on b c)
+bits-on : (a b c : ℕ) → (a + wordSize * (b + wordSize * c)) / 2 ≡ a / 2 + topBit * (b % 2) + wordSize * (b / 2 + topBit * (c % 2) + wordSize * (c / 2))
+bits-on a b c = word-on a (b + wordSize * c) ∙ rw (low-bit b c, word-on b c)
 
 bits-same : (low high : List ℕ) (j k : ℕ) → packed low high j ≡ packed low high k → bitsOf low high j ≡ bitsOf low high k
 unfolding packed bitsOf
@@ -385,10 +385,10 @@ module _ {low high t seen : List ℕ} {n k x i : ℕ} (g : Heard low high t n k 
 -- where the loop stands: the three words left are the bits left, and the table is as it was
 pub record Searching (low high t₀ : List ℕ) (n k : ℕ) (t : List ℕ) (bits first second i : ℕ) : Type 0 where
   pub same-table : t ≡ t₀
-  pub fits : (bits < 18446744073709551616) × (first < 18446744073709551616)
-  pub seeking : (seen : List ℕ) → Heard low high t₀ n k seen → Seeking low high t₀ seen k (bits + 18446744073709551616 * (first + 18446744073709551616 * second)) i
+  pub fits : (bits < wordSize) × (first < wordSize)
+  pub seeking : (seen : List ℕ) → Heard low high t₀ n k seen → Seeking low high t₀ seen k (bits + wordSize * (first + wordSize * second)) i
 
-pub search-begins : (low high t : List ℕ) (n k bits : ℕ) → (n ≡ 0 → ⊥) → bits ≡ hashOf (getD low k 0) (getD high k 0) → getD low k 0 < 18446744073709551616 → Searching low high t n k t bits (getD low k 0) (getD high k 0) 0
+pub search-begins : (low high t : List ℕ) (n k bits : ℕ) → (n ≡ 0 → ⊥) → bits ≡ hashOf (getD low k 0) (getD high k 0) → getD low k 0 < wordSize → Searching low high t n k t bits (getD low k 0) (getD high k 0) 0
 unfolding bitsOf hashOf
 search-begins low high t n k bits z e l = rw e (record { same-table = refl; fits = (omega arith, l); seeking = λ seen g. begins (g .hung) k (omega (arith, g .count)) })
 
@@ -412,15 +412,15 @@ module _ {low high t₀ t : List ℕ} {n k bits first second i : ℕ} (p : (seen
     case-found q seen g = rw (x .same-table) (sought-here g (x .seeking seen g) (sym same-as ∙ q))
 
     module _ (q : b ≡ false) (m : ℕ) (z : m ≡ kidOf (getD t i 0) (bits % 2)) where
-      kid-as : m ≡ kidOf (getD t₀ i 0) ((bits + 18446744073709551616 * (first + 18446744073709551616 * second)) % 2)
-      kid-as = rw (low-bit bits (first + 18446744073709551616 * second), ← x .same-table) z
+      kid-as : m ≡ kidOf (getD t₀ i 0) ((bits + wordSize * (first + wordSize * second)) % 2)
+      kid-as = rw (low-bit bits (first + wordSize * second), ← x .same-table) z
 
       pub case-new : m ≡ 0 → (t′ : List ℕ) → t′ ≡ hungBelow t i (bits % 2) n k → (seen : List ℕ) → Heard low high t₀ n k seen → Sought low high t₀ n k seen t′ n
       case-new o t′ w seen g =
           let r = sought-new g (x .seeking seen g) (sym same-as ∙ q) (sym kid-as ∙ o) in
-          rw (w, x .same-table) (rw (low-bit bits (first + 18446744073709551616 * second)) at r)
+          rw (w, x .same-table) (rw (low-bit bits (first + wordSize * second)) at r)
 
-      pub case-on : (m ≡ 0 → ⊥) → Searching low high t₀ n k t (bits / 2 + 9223372036854775808 * (first % 2)) (first / 2 + 9223372036854775808 * (second % 2)) (second / 2) m
+      pub case-on : (m ≡ 0 → ⊥) → Searching low high t₀ n k t (bits / 2 + topBit * (first % 2)) (first / 2 + topBit * (second % 2)) (second / 2) m
       case-on o =
           record {
             same-table = x .same-table;
@@ -433,4 +433,4 @@ module _ {low high t₀ t : List ℕ} {n k bits first second i : ℕ} (p : (seen
       pub case-less : (m ≡ 0 → ⊥) → i < m
       case-less o =
           let s = x .seeking (p .0) (p .1) in
-          rw kid-as (p .1 .hung .after i ((bits + 18446744073709551616 * (first + 18446744073709551616 * second)) % 2) (s .inside) (omega (arith, kid-as)))
+          rw kid-as (p .1 .hung .after i ((bits + wordSize * (first + wordSize * second)) % 2) (s .inside) (omega (arith, kid-as)))

@@ -10,9 +10,16 @@ use Rattle.names.specs.Lists.{packed}
 unfoldable pub hashOf : ℕ → ℕ → ℕ
 hashOf a b = (a % 2147483629 * 1640531527 + b % 2147483629 * 1013904223) % 2147483629
 
+-- how many numbers a word of 64 bits has, and its highest bit
+abbrev pub wordSize : ℕ
+wordSize = 18446744073709551616
+
+abbrev pub topBit : ℕ
+topBit = 9223372036854775808
+
 -- the bits of a name as one number: 64 of its hash, then 128 of the packed name
 unfoldable pub bitsOf : List ℕ → List ℕ → ℕ → ℕ
-bitsOf low high k = hashOf (getD low k 0) (getD high k 0) + 18446744073709551616 * (getD low k 0 + 18446744073709551616 * getD high k 0)
+bitsOf low high k = hashOf (getD low k 0) (getD high k 0) + wordSize * (getD low k 0 + wordSize * getD high k 0)
 
 -- a node's kid for a bit; 0 is none, for node 0 is the root
 unfoldable pub kidOf : ℕ → ℕ → ℕ

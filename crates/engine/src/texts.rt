@@ -113,7 +113,7 @@ pub fn step_text(text: &[u8], state: &mut [i64], listing: &mut [u64], draw: u64)
     let mut nodes = [0u64; question::Limits::TOKENS];
     let mut roots = [0u16; question::Limits::TOKENS];
     let mut scopes = [0u8; question::Limits::TOKENS];
-    let mut names = [0u16; question::Limits::TOKENS];
+    let mut names = [0u64; question::Limits::TOKENS];
     let read = opening::read_model(
         text,
         &mut kinds,

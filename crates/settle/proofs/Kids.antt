@@ -17,7 +17,7 @@ use Rattle.model.proofs.Members.{never, not-both, got-below}
 use Rattle.model.proofs.Repeats.{same-bytes, bytes-same}
 use Rattle.model.proofs.Meanings.{Placed, found, absent, placed}
 use Rattle.names.specs.Lists.{packed}
-use Rattle.settle.specs.Kids.{hashOf, bitsOf, kidOf, withKid, alone, hungBelow, Way, here, down, Hung}
+use Rattle.settle.specs.Kids.{hashOf, wordSize, topBit, bitsOf, kidOf, withKid, alone, hungBelow, Way, here, down, Hung}
 use Rattle.settle.specs.Places.{placeOr, heardAfter, Heard, Sought}
 
 -- ---- places in a list
@@ -35,18 +35,18 @@ at-in (x ∷ xs) (suc i) l = tail (at-in xs i (omega arith))
 -- ---- the bits of a name
 
 -- two words, one bit on
-word-on : (a b : ℕ) → (a + 18446744073709551616 * b) / 2 ≡ a / 2 + 9223372036854775808 * (b % 2) + 18446744073709551616 * (b / 2)
+word-on : (a b : ℕ) → (a + wordSize * b) / 2 ≡ a / 2 + topBit * (b % 2) + wordSize * (b / 2)
 word-on a b = omega arith
 
-low-bit : (a b : ℕ) → (a + 18446744073709551616 * b) % 2 ≡ a % 2
+low-bit : (a b : ℕ) → (a + wordSize * b) % 2 ≡ a % 2
 low-bit a b = omega arith
 
-pub word-fits : (a b : ℕ) → a < 18446744073709551616 → a / 2 + 9223372036854775808 * (b % 2) < 18446744073709551616
+pub word-fits : (a b : ℕ) → a < wordSize → a / 2 + topBit * (b % 2) < wordSize
 word-fits a b l = omega arith
 
 -- and three
-bits-on : (a b c : ℕ) → (a + 18446744073709551616 * (b + 18446744073709551616 * c)) / 2 ≡ a / 2 + 9223372036854775808 * (b % 2) + 18446744073709551616 * (b / 2 + 9223372036854775808 * (c % 2) + 18446744073709551616 * (c / 2))
-bits-on a b c = word-on a (b + 18446744073709551616 * c) ∙ rw (low-bit b c, word-on b c)
+bits-on : (a b c : ℕ) → (a + wordSize * (b + wordSize * c)) / 2 ≡ a / 2 + topBit * (b % 2) + wordSize * (b / 2 + topBit * (c % 2) + wordSize * (c / 2))
+bits-on a b c = word-on a (b + wordSize * c) ∙ rw (low-bit b c, word-on b c)
 
 bits-same : (low high : List ℕ) (j k : ℕ) → packed low high j ≡ packed low high k → bitsOf low high j ≡ bitsOf low high k
 unfolding packed bitsOf
@@ -155,6 +155,10 @@ module _ (t : List ℕ) (i b n k : ℕ) {t₁ t₂ : List ℕ} {name : ℕ} (new
       by zero z = absurd (z refl)
       by (suc b) z = refl
 
+pub hung-size : (t : List ℕ) (i b n k : ℕ) → length (hungBelow t i b n k) ≡ length t
+unfolding hungBelow
+hung-size t i b n k = length-set (set t n (alone k)) i (withKid (getD t i 0) b n) ∙ length-set t n (alone k)
+
 pub fields-fit : (c : ℕ) → (tokenOf c < field) × (leftOf c < field) × (thirdOf c < field)
 unfolding tokenOf leftOf thirdOf
 fields-fit c = (omega arith, omega arith, omega arith)
@@ -188,6 +192,20 @@ module _ (c m : ℕ) (small : m < field) where
   kid-either zero (suc a) = inr (third-of (omega arith) (fits .0) small (fits .2))
   kid-either (suc b) zero = inr (left-of (omega arith) (fits .0) (fits .1) small)
   kid-either (suc b) (suc a) = inl (third-of (omega arith) (fits .0) (fits .1) small)
+
+  kid-apart : (b a : ℕ) → b < 2 → a < 2 → (a ≡ b → ⊥) → kidOf (withKid c b m) a ≡ kidOf c a
+  unfolding withKid kidOf
+  kid-apart zero zero l u e = absurd (e refl)
+  kid-apart zero (suc a) l u e = third-of (omega arith) (fits .0) small (fits .2)
+  kid-apart (suc b) zero l u e = left-of (omega arith) (fits .0) (fits .1) small
+  kid-apart (suc b) (suc a) l u e = absurd (e (omega arith))
+
+  kid-where : (b a : ℕ) → b < 2 → a < 2 → ((kidOf (withKid c b m) a ≡ m) × (a ≡ b)) ⊎ (kidOf (withKid c b m) a ≡ kidOf c a)
+  kid-where b a l u = by (ℕ-discrete a b)
+    where
+      by : Dec (a ≡ b) → ((kidOf (withKid c b m) a ≡ m) × (a ≡ b)) ⊎ (kidOf (withKid c b m) a ≡ kidOf c a)
+      by (yes e) = inl (ap (kidOf (withKid c b m)) e ∙ kid-put b, e)
+      by (no e) = inr (kid-apart b a l u e)
 
   kid-kept : (b a : ℕ) → kidOf c b ≡ 0 → 0 < kidOf c a → kidOf (withKid c b m) a ≡ kidOf c a
   unfolding withKid kidOf
@@ -263,6 +281,27 @@ module _ {low high t seen : List ℕ} {n k x i : ℕ} (g : Heard low high t n k 
       let c = length-append seen (k ∷ []) in
       ⊎-elim (λ (e : kidOf (getD t′ j 0) b ≡ n). omega (arith, g .count)) (λ (e : kidOf (getD t′ j 0) b ≡ kidOf (getD t j 0) b). omega (arith, g .hung .inside j b (numbered j l))) (kid-or b j l)
 
+  -- a kid is the new one, below its parent, or stands where it stood
+  grown : (b j : ℕ) → b < 2 → j < n → ((kidOf (getD t′ j 0) b ≡ n) × (j ≡ i) × (b ≡ x % 2)) ⊎ (kidOf (getD t′ j 0) b ≡ kidOf (getD t j 0) b)
+  grown b j u l = by (ℕ-discrete j i)
+    where
+      new : ((kidOf (withKid (getD t i 0) (x % 2) n) b ≡ n) × (b ≡ x % 2)) ⊎ (kidOf (withKid (getD t i 0) (x % 2) n) b ≡ kidOf (getD t i 0) b) → j ≡ i → ((kidOf (getD t′ j 0) b ≡ n) × (j ≡ i) × (b ≡ x % 2)) ⊎ (kidOf (getD t′ j 0) b ≡ kidOf (getD t j 0) b)
+      new (inl p) e = inl (ap (λ (a : ℕ). kidOf (getD t′ a 0) b) e ∙ ap (λ (c : ℕ). kidOf c b) at-parent ∙ p .0, e, p .1)
+      new (inr p) e = inr (ap (λ (a : ℕ). kidOf (getD t′ a 0) b) e ∙ ap (λ (c : ℕ). kidOf c b) at-parent ∙ p ∙ ap (λ (a : ℕ). kidOf (getD t a 0) b) (sym e))
+
+      by : Dec (j ≡ i) → ((kidOf (getD t′ j 0) b ≡ n) × (j ≡ i) × (b ≡ x % 2)) ⊎ (kidOf (getD t′ j 0) b ≡ kidOf (getD t j 0) b)
+      by (yes e) = new (kid-where (getD t i 0) n (g .few) (x % 2) b (omega arith) u) e
+      by (no e) = inr (ap (λ (c : ℕ). kidOf c b) (at-other j l e))
+
+  one-parent : (a j b c : ℕ) → a < n → j < n → b < 2 → c < 2 → 0 < kidOf (getD t′ a 0) b → kidOf (getD t′ a 0) b ≡ kidOf (getD t′ j 0) c → (a ≡ j) × (b ≡ c)
+  one-parent a j b c l m u w p e = by (grown b a u l) (grown c j w m)
+    where
+      by : ((kidOf (getD t′ a 0) b ≡ n) × (a ≡ i) × (b ≡ x % 2)) ⊎ (kidOf (getD t′ a 0) b ≡ kidOf (getD t a 0) b) → ((kidOf (getD t′ j 0) c ≡ n) × (j ≡ i) × (c ≡ x % 2)) ⊎ (kidOf (getD t′ j 0) c ≡ kidOf (getD t j 0) c) → (a ≡ j) × (b ≡ c)
+      by (inl y) (inl z) = (y .1 ∙ sym (z .1), y .2 ∙ sym (z .2))
+      by (inl y) (inr z) = let o = g .hung .inside j c (numbered j m) in absurd (omega (arith, y .0, g .count))
+      by (inr y) (inl z) = let o = g .hung .inside a b (numbered a l) in absurd (omega (arith, z .0, g .count))
+      by (inr y) (inr z) = g .hung .parents a j b c (numbered a l) (numbered j m) u w (omega arith) (sym y ∙ e ∙ z)
+
   no-kids : (b : ℕ) → kidOf (getD t′ n 0) b ≡ 0
   no-kids b = rw at-new (alone-kid k (g .small) b)
 
@@ -284,6 +323,10 @@ module _ {low high t seen : List ℕ} {n k x i : ℕ} (g : Heard low high t n k 
             (of-all (λ b. packed low high (getD seen′ n 0) ≡ packed low high (getD seen′ b 0) → n ≡ b) (λ b m e. absurd (new b (numbered b m) (rw (last, before b m) at e))) (λ e. refl)) a l b m;
         after = λ j b. of-all (λ j. 0 < kidOf (getD t′ j 0) b → j < kidOf (getD t′ j 0) b) (kids-after b) (λ p. absurd (omega (arith, no-kids b))) j;
         inside = λ j b. of-all (λ j. kidOf (getD t′ j 0) b < length seen′) (kids-inside b) (omega (arith, no-kids b)) j;
+        parents = λ a j b c l m.
+            of-all (λ a. (j : ℕ) → j < length seen′ → b < 2 → c < 2 → 0 < kidOf (getD t′ a 0) b → kidOf (getD t′ a 0) b ≡ kidOf (getD t′ j 0) c → (a ≡ j) × (b ≡ c))
+            (λ a l. of-all (λ j. b < 2 → c < 2 → 0 < kidOf (getD t′ a 0) b → kidOf (getD t′ a 0) b ≡ kidOf (getD t′ j 0) c → (a ≡ j) × (b ≡ c)) (λ j m. one-parent a j b c l m) (λ u w p e. absurd (omega (arith, no-kids c))))
+            (λ j m u w p e. absurd (omega (arith, no-kids b))) a l j m;
         ways =
             of-all (λ j. (y : ℕ) × Way t′ (bitsOf low high (getD seen′ j 0)) 0 y j)
             (λ j l. let w = g .hung .ways j (numbered j l) in (w .0, rw (before j l) (ways-kept (omega arith) (w .1)))) (x / 2, rw last way-new);
@@ -298,6 +341,7 @@ none-hung low high t =
       differ = λ i j l m e. absurd (omega arith);
       after = λ i b l p. absurd (omega arith);
       inside = λ i b l. absurd (omega arith);
+      parents = λ i j b c l m u w p e. absurd (omega arith);
       ways = λ i l. absurd (omega arith);
     }
 
@@ -310,6 +354,7 @@ one-hung low high t k room small =
       differ = λ i j l m q. omega arith;
       after = λ i b l p. absurd (omega (arith, kid i b l));
       inside = λ i b l. omega (arith, kid i b l);
+      parents = λ i j b c l m u w p e. absurd (omega (arith, kid i b l));
       ways = λ i l. let z : i ≡ 0 = omega arith in rw z (bitsOf low high k, here);
     }
 
@@ -327,23 +372,23 @@ module _ {low high t seen : List ℕ} {n k x i : ℕ} (g : Heard low high t n k 
   sought-here e = let p = found-here (g .hung) k s e in record { place-is = rw p; hung = rw p (g .hung); size = refl }
 
   pub sought-new : same (packed low high) k (tokenOf (getD t i 0)) ≡ false → kidOf (getD t i 0) (x % 2) ≡ 0 → Sought low high t n k seen (hungBelow t i (x % 2) n k) n
-  unfolding placeOr heardAfter hungBelow
+  unfolding placeOr heardAfter
   sought-new e z =
       let f = never-met (g .hung) k s e z in
       let p = not-placed (packed low high) k seen f in
       record {
         place-is = rw p;
         hung = rw p (hung-new g s z f);
-        size = length-set (set t n (alone k)) i (withKid (getD t i 0) (x % 2) n) ∙ length-set t n (alone k);
+        size = hung-size t i (x % 2) n k;
       }
 
 -- where the loop stands: the three words left are the bits left, and the table is as it was
 pub record Searching (low high t₀ : List ℕ) (n k : ℕ) (t : List ℕ) (bits first second i : ℕ) : Type 0 where
   pub same-table : t ≡ t₀
-  pub fits : (bits < 18446744073709551616) × (first < 18446744073709551616)
-  pub seeking : (seen : List ℕ) → Heard low high t₀ n k seen → Seeking low high t₀ seen k (bits + 18446744073709551616 * (first + 18446744073709551616 * second)) i
+  pub fits : (bits < wordSize) × (first < wordSize)
+  pub seeking : (seen : List ℕ) → Heard low high t₀ n k seen → Seeking low high t₀ seen k (bits + wordSize * (first + wordSize * second)) i
 
-pub search-begins : (low high t : List ℕ) (n k bits : ℕ) → (n ≡ 0 → ⊥) → bits ≡ hashOf (getD low k 0) (getD high k 0) → getD low k 0 < 18446744073709551616 → Searching low high t n k t bits (getD low k 0) (getD high k 0) 0
+pub search-begins : (low high t : List ℕ) (n k bits : ℕ) → (n ≡ 0 → ⊥) → bits ≡ hashOf (getD low k 0) (getD high k 0) → getD low k 0 < wordSize → Searching low high t n k t bits (getD low k 0) (getD high k 0) 0
 unfolding bitsOf hashOf
 search-begins low high t n k bits z e l = rw e (record { same-table = refl; fits = (omega arith, l); seeking = λ seen g. begins (g .hung) k (omega (arith, g .count)) })
 
@@ -367,15 +412,15 @@ module _ {low high t₀ t : List ℕ} {n k bits first second i : ℕ} (p : (seen
     case-found q seen g = rw (x .same-table) (sought-here g (x .seeking seen g) (sym same-as ∙ q))
 
     module _ (q : b ≡ false) (m : ℕ) (z : m ≡ kidOf (getD t i 0) (bits % 2)) where
-      kid-as : m ≡ kidOf (getD t₀ i 0) ((bits + 18446744073709551616 * (first + 18446744073709551616 * second)) % 2)
-      kid-as = rw (low-bit bits (first + 18446744073709551616 * second), ← x .same-table) z
+      kid-as : m ≡ kidOf (getD t₀ i 0) ((bits + wordSize * (first + wordSize * second)) % 2)
+      kid-as = rw (low-bit bits (first + wordSize * second), ← x .same-table) z
 
       pub case-new : m ≡ 0 → (t′ : List ℕ) → t′ ≡ hungBelow t i (bits % 2) n k → (seen : List ℕ) → Heard low high t₀ n k seen → Sought low high t₀ n k seen t′ n
       case-new o t′ w seen g =
           let r = sought-new g (x .seeking seen g) (sym same-as ∙ q) (sym kid-as ∙ o) in
-          rw (w, x .same-table) (rw (low-bit bits (first + 18446744073709551616 * second)) at r)
+          rw (w, x .same-table) (rw (low-bit bits (first + wordSize * second)) at r)
 
-      pub case-on : (m ≡ 0 → ⊥) → Searching low high t₀ n k t (bits / 2 + 9223372036854775808 * (first % 2)) (first / 2 + 9223372036854775808 * (second % 2)) (second / 2) m
+      pub case-on : (m ≡ 0 → ⊥) → Searching low high t₀ n k t (bits / 2 + topBit * (first % 2)) (first / 2 + topBit * (second % 2)) (second / 2) m
       case-on o =
           record {
             same-table = x .same-table;
@@ -388,4 +433,4 @@ module _ {low high t₀ t : List ℕ} {n k bits first second i : ℕ} (p : (seen
       pub case-less : (m ≡ 0 → ⊥) → i < m
       case-less o =
           let s = x .seeking (p .0) (p .1) in
-          rw kid-as (p .1 .hung .after i ((bits + 18446744073709551616 * (first + 18446744073709551616 * second)) % 2) (s .inside) (omega (arith, kid-as)))
+          rw kid-as (p .1 .hung .after i ((bits + wordSize * (first + wordSize * second)) % 2) (s .inside) (omega (arith, kid-as)))

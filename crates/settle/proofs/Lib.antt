@@ -17,3 +17,4 @@ pub mod Resolving
 pub mod Cells
 pub mod Same
 pub mod Kids
+pub mod Depth

@@ -10,9 +10,16 @@ use Rattle.names.specs.Lists.{packed}
 unfoldable pub hashOf : ℕ → ℕ → ℕ
 hashOf a b = (a % 2147483629 * 1640531527 + b % 2147483629 * 1013904223) % 2147483629
 
+-- how many numbers a word of 64 bits has, and its highest bit
+abbrev pub wordSize : ℕ
+wordSize = 18446744073709551616
+
+abbrev pub topBit : ℕ
+topBit = 9223372036854775808
+
 -- the bits of a name as one number: 64 of its hash, then 128 of the packed name
 unfoldable pub bitsOf : List ℕ → List ℕ → ℕ → ℕ
-bitsOf low high k = hashOf (getD low k 0) (getD high k 0) + 18446744073709551616 * (getD low k 0 + 18446744073709551616 * getD high k 0)
+bitsOf low high k = hashOf (getD low k 0) (getD high k 0) + wordSize * (getD low k 0 + wordSize * getD high k 0)
 
 -- a node's kid for a bit; 0 is none, for node 0 is the root
 unfoldable pub kidOf : ℕ → ℕ → ℕ
@@ -37,10 +44,11 @@ pub data Way (t : List ℕ) : ℕ → ℕ → ℕ → ℕ → Type 0 where
   here : {x i : ℕ} → Way t x i x i
   down : {x i y j : ℕ} → 0 < kidOf (getD t i 0) (x % 2) → Way t (x / 2) (kidOf (getD t i 0) (x % 2)) y j → Way t x i y j
 
--- the first nodes are the channel names met; no two are the same, kids come after their parents, and each name's own bits lead to it
+-- the first nodes are the channel names met; no two are the same, kids come after their one parent, and each name's own bits lead to it
 pub record Hung (low high t seen : List ℕ) : Type 0 where
   pub names : (i : ℕ) → i < length seen → tokenOf (getD t i 0) ≡ getD seen i 0
   pub differ : (i j : ℕ) → i < length seen → j < length seen → packed low high (getD seen i 0) ≡ packed low high (getD seen j 0) → i ≡ j
   pub after : (i b : ℕ) → i < length seen → 0 < kidOf (getD t i 0) b → i < kidOf (getD t i 0) b
   pub inside : (i b : ℕ) → i < length seen → kidOf (getD t i 0) b < length seen
+  pub parents : (i j b c : ℕ) → i < length seen → j < length seen → b < 2 → c < 2 → 0 < kidOf (getD t i 0) b → kidOf (getD t i 0) b ≡ kidOf (getD t j 0) c → (i ≡ j) × (b ≡ c)
   pub ways : (i : ℕ) → i < length seen → (y : ℕ) × Way t (bitsOf low high (getD seen i 0)) 0 y i

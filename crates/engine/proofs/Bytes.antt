@@ -1,37 +1,38 @@
 -- Loops over bytes: clearing, copying and the test for zeros; and the bytes of a text in a cleared buffer. From the laws of overwriting and of parts.
 use mathlib.Core.Path.{_≡_, refl, sym, ap, _∙_}
 use mathlib.Core.List.{List, _∷_, _++_}
-use mathlib.Core.Bool.{Bool, true, false, cond, _&&_}
+use mathlib.Core.Bool.{Bool, true, false, cond, _&&_, and-true}
 use mathlib.Core.Option.{Option, none}
 use Prim.Native.Nat.{ℕ, zero, suc, _+_, _-_, _/_, _%_, _≤_, _<_}
 use native.Mathlib.Numerals.{add-one}
 use native.Mathlib.Omega.{arith}
-use lib.Dec.{leb}
+use lib.Bits.{bitOr}
+use lib.Dec.{eqb, leb}
 use lib.ListN.{length, getD, set, take, drop, replicate, length-append, length-set, length-drop, length-replicate, getD-replicate, replicate-append-replicate, List·getD-append, drop-of-length-le}
 use lib.Seq.{drop-cons, take-all, take-at, drop-at, drop-drop}
-use borrow.Author.Tests.{eq-eqb, ne-eqb, le-leb, lt-leb}
+use borrow.Author.Tests.{le-leb, lt-leb}
 use borrow.Rule.Slice.PartMut.{putMid, midOf}
 use Rattle.token.specs.Questions.{textLimit}
 use Rattle.model.specs.Resolved.{Model}
 use Rattle.model.specs.Held.{held}
+use Rattle.state.proofs.Tests.{join-bits}
 use Rattle.state.proofs.Mix.{mix, mix-up}
 use Rattle.state.proofs.Change.{tail-changed}
 use Rattle.machine.specs.Machine.{modelLength}
 use Rattle.buffers.specs.Held.{modelBytes, lengthIn, textIn, zeros, heldIn}
 
--- ---- zeros
-module _ (s : List ℕ) (i : ℕ) (e : zeros s ≡ zeros (drop i s)) where
-  pub zeros-fail : i < length s → (getD s i 0 ≡ 0 → ⊥) → zeros s ≡ false
+-- ---- zeros: n gathers the bits of the bytes before i
+module _ (s : List ℕ) (n i : ℕ) (e : zeros s ≡ (eqb n 0 && zeros (drop i s))) where
+  pub zeros-on : i < length s → zeros s ≡ (eqb (bitOr n (getD s i 0)) 0 && zeros (drop (i + 1) s))
   unfolding zeros
-  zeros-fail l h = e ∙ ap zeros (drop-cons s i 0 l) ∙ ap (λ (b : Bool). b && zeros (drop (suc i) s)) (ne-eqb (getD s i 0) 0 h)
+  zeros-on l =
+      e ∙ ap (λ (t : List ℕ). eqb n 0 && zeros t) (drop-cons s i 0 l)
+      ∙ join-bits n (getD s i 0) (zeros (drop (suc i) s))
+      ∙ ap (λ (j : ℕ). eqb (bitOr n (getD s i 0)) 0 && zeros (drop j s)) (sym (add-one i))
 
-  pub zeros-on : i < length s → getD s i 0 ≡ 0 → zeros s ≡ zeros (drop (i + 1) s)
+  pub zeros-done : length s ≤ i → eqb n 0 ≡ zeros s
   unfolding zeros
-  zeros-on l h = e ∙ ap zeros (drop-cons s i 0 l) ∙ ap (λ (b : Bool). b && zeros (drop (suc i) s)) (eq-eqb (getD s i 0) 0 h) ∙ ap (λ (n : ℕ). zeros (drop n s)) (sym (add-one i))
-
-  pub zeros-done : length s ≤ i → zeros s ≡ true
-  unfolding zeros
-  zeros-done l = e ∙ ap zeros (drop-of-length-le s {i = i} l)
+  zeros-done l = sym (e ∙ ap (λ (t : List ℕ). eqb n 0 && zeros t) (drop-of-length-le s {i = i} l) ∙ and-true (eqb n 0))
 
 -- ---- clearing
 pub cleared : (s₀ s : List ℕ) (i : ℕ) → i < length s₀ → s ≡ mix i (replicate (length s₀) 0) s₀ → set s i 0 ≡ mix (i + 1) (replicate (length s₀) 0) s₀

@@ -105,14 +105,13 @@ fn text_length(model: &[u8]) -> usize
 fn is_clear(s: &[u8]) -> bool
     ensures { λ r. ⌜ r ≡ zeros (now (s .entry)) ⌝ }
 {
+    let mut bits = 0;
     let mut i = 0;
     while i < s.len() {
-        if s[i] != 0 {
-            return false;
-        }
+        bits |= s[i];
         i += 1;
     }
-    true
+    bits == 0
 }
 
 // The text that a model buffer may hold: of a length that a text may have, with zeros after it.

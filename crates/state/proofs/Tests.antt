@@ -1,13 +1,14 @@
 -- How the tests of a state's numbers go on from one member to the next, and what each says of single numbers: from their definitions.
 use mathlib.Core.Path.{_≡_, refl, sym, ap, _∙_}
-use mathlib.Core.Bool.{Bool, true, false, cond, not, _&&_, _||_}
+use mathlib.Core.Bool.{Bool, true, false, cond, not, _&&_, _||_, and-assoc, and-true}
 use mathlib.Core.List.{List, [], _∷_}
 use Prim.Native.Nat.{ℕ, zero, suc, _+_, _-_, _*_, _≤_, _<_}
 use native.Mathlib.Nat.{suc-mul, zero-mul}
 use native.Mathlib.Numerals.{add-one}
 use native.Mathlib.Omega.{arith}
 use borrow.Author.Tests.{ltb-true, ltb-false, le-leb, lt-leb, eq-eqb, ne-eqb}
-use lib.Dec.{T, ltb}
+use lib.Bits.{bitOr, or-zero-l, or-add-and, and-le-r}
+use lib.Dec.{T, eqb, ltb}
 use lib.IntN.{ℤ, pos, negsuc, natAbs}
 use lib.Signed.{ltZ, leZ, nonNeg}
 use lib.ListN.{length, getD, take, drop, drop-of-length-le}
@@ -37,7 +38,21 @@ pub passed : (r : Bool) → not r ≡ false → r ≡ true
 passed true e = refl
 passed false e = true-not-false e
 
+-- ---- bits of two numbers: there is none exactly where both are 0
+no-bits : (n m : ℕ) → eqb (bitOr n m) 0 ≡ (eqb n 0 && eqb m 0)
+no-bits zero m = ap (λ (k : ℕ). eqb k 0) (or-zero-l m)
+no-bits (suc n) m =
+    ne-eqb (bitOr (suc n) m) 0 (λ e. omega (arith, or-add-and (suc n) m, and-le-r (suc n) m))
+    ∙ sym (ap (λ (b : Bool). b && eqb m 0) (ne-eqb (suc n) 0 (λ e. omega arith)))
+
+pub join-bits : (n m : ℕ) (b : Bool) → (eqb n 0 && (eqb m 0 && b)) ≡ (eqb (bitOr n m) 0 && b)
+join-bits n m b = sym (and-assoc (eqb n 0) (eqb m 0) b) ∙ ap (λ (a : Bool). a && b) (sym (no-bits n m))
+
 -- ---- single numbers
+pub zero-bits : (z : ℤ) → SFits w64 z → isZero z ≡ eqb (ofZ w64 z) 0
+unfolding isZero
+zero-bits z f = sym (same-bits z (pos 0) f (ok-fits (pos 0) (omega arith)))
+
 pub value-low : (z : ℤ) → ltZ z least ≡ true → isValue z ≡ false
 unfolding isValue
 value-low (pos n) e = false-not-true e
@@ -163,6 +178,16 @@ module _ {A : Type 0} (t : A → Bool) where
   pub every-done : (s : List A) (i : ℕ) → length s ≤ i → every t s ≡ every t (drop i s) → every t s ≡ true
   unfolding every
   every-done s i l e = e ∙ ap (every t) (drop-of-length-le s {i = i} l)
+
+  -- a member passes where it has no bits, and n gathers those of the members before i
+  module _ (s : List A) (i n : ℕ) (e : every t s ≡ (eqb n 0 && every t (drop i s))) where
+    pub bits-on : (d : A) (m : ℕ) → i < length s → t (getD s i d) ≡ eqb m 0 → every t s ≡ (eqb (bitOr n m) 0 && every t (drop (i + 1) s))
+    bits-on d m l z =
+        e ∙ ap (λ (b : Bool). eqb n 0 && b) (every-next s i d l ∙ ap (λ (b : Bool). b && every t (drop (i + 1) s)) z) ∙ join-bits n m (every t (drop (i + 1) s))
+
+    pub bits-done : length s ≤ i → eqb n 0 ≡ every t s
+    unfolding every
+    bits-done l = sym (e ∙ ap (λ (r : List A). eqb n 0 && every t r) (drop-of-length-le s {i = i} l) ∙ and-true (eqb n 0))
 
 -- ---- rows
 pub rows-next : (w n i : ℕ) (s : List ℤ) → i < n → rows w (n - i) (drop (i * w) s) ≡ take w (drop (i * w) s) ∷ rows w (n - (i + 1)) (drop ((i + 1) * w) s)

@@ -76,14 +76,13 @@ fn all_values(s: &[i64]) -> bool
 fn all_zero(s: &[i64]) -> bool
     ensures { λ r. ⌜ r ≡ every isZero (now (s .entry)) ⌝ }
 {
+    let mut bits = 0;
     let mut i = 0;
     while i < s.len() {
-        if !is_zero(s[i]) {
-            return false;
-        }
+        bits |= s[i];
         i += 1;
     }
-    true
+    bits == 0
 }
 
 // Whether values fill the first places, and zeros the rest.

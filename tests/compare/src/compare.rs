@@ -1,7 +1,7 @@
 //! The same calls on two engines, each with buffers of its own.
 
 use crate::met::Met;
-use second::generate::{Buffers, Call, Draw, Engine};
+use second::generate::{Buffers, Call, Engine};
 use second::{Answer, LISTING, MODEL, STATE};
 use std::fmt;
 
@@ -38,15 +38,15 @@ pub fn run(tried: &Engine, oracle: &Engine, calls: &[Call], met: &mut Met) -> Re
     let (mut left, mut right) = (Buffers::default(), Buffers::default());
     let mut made = Vec::new();
     for (number, call) in calls.iter().enumerate() {
-        let call = exact(call, &right);
+        let call = right.exact(call);
         made.push(call.clone());
         if is_change(&call) {
-            make(tried, &mut left, &call);
-            make(oracle, &mut right, &call);
+            left.make(tried, &call);
+            right.make(oracle, &call);
             continue;
         }
         let lent = right.clone();
-        let answers = (make(tried, &mut left, &call), make(oracle, &mut right, &call));
+        let answers = (left.make(tried, &call), right.make(oracle, &call));
         let (Some(first), Some(second)) = answers else { continue };
         let fault = differs(&first, &left, &second, &right)
             .or_else(|| kept(&call, &lent, &first, &left).map(|(place, what)| (place, format!("the engine {what}"))))
@@ -59,30 +59,9 @@ pub fn run(tried: &Engine, oracle: &Engine, calls: &[Call], met: &mut Met) -> Re
     Ok(())
 }
 
-/// The call with its draw as a number, by the total of the state that the buffers hold.
-pub fn exact(call: &Call, buffers: &Buffers) -> Call {
-    match call {
-        Call::Step { lengths, draw } if !matches!(draw, Draw::Exactly(_)) => {
-            Call::Step { lengths: *lengths, draw: Draw::Exactly(buffers.draw(*draw)) }
-        }
-        _ => call.clone(),
-    }
-}
-
 /// Is it a change of the buffers and no call?
 fn is_change(call: &Call) -> bool {
     !matches!(call, Call::Open { .. } | Call::List { .. } | Call::Step { .. })
-}
-
-/// Makes a call, or a change, which has no answer. The draw is a number.
-pub fn make(engine: &Engine, buffers: &mut Buffers, call: &Call) -> Option<Answer> {
-    match call {
-        Call::Step { lengths, draw: Draw::Exactly(draw) } => {
-            let (model, state) = (&buffers.model[..lengths.model], &mut buffers.state[..lengths.state]);
-            Some((engine.step)(model, state, &mut buffers.listing[..lengths.listing], *draw))
-        }
-        _ => buffers.make(engine, call),
-    }
 }
 
 /// The first difference between two answers and the buffers left with them.

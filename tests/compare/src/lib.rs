@@ -7,7 +7,6 @@ pub mod compare;
 pub mod linked;
 pub mod lists;
 pub mod met;
-pub mod script;
 pub mod shrink;
 pub mod specimens;
 

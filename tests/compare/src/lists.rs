@@ -2,9 +2,9 @@
 
 use crate::compare;
 use crate::met::Met;
-use crate::{script, shrink, specimens};
+use crate::{shrink, specimens};
 use second::generate::{self, Buffers, Call, Draw, Engine, Random, RIGHT, SECOND};
-use second::{model, MODEL, STATE};
+use second::{model, script, MODEL, STATE};
 
 /// How many lists the test runs, and how many calls it makes at least.
 pub const LISTS: u64 = 1_200;
@@ -73,7 +73,7 @@ impl std::fmt::Display for Report {
         if script::is_plain(&self.difference.made) {
             writeln!(out, "The script for `calls`:")?;
         } else {
-            writeln!(out, "The script (lines with ! are for this package's `replay`, `calls` doesn't know them):")?;
+            writeln!(out, "The script (lines with ! are for this package's `replay`; `calls` doesn't know them):")?;
         }
         write!(out, "{}", String::from_utf8_lossy(&self.script))
     }
@@ -197,7 +197,7 @@ fn listed_and_stepped(random: &mut Random, calls: &mut Vec<Call>, buffers: &mut 
         calls.push(Call::Step { lengths: RIGHT, draw: *draw });
     }
     for call in &calls[first..] {
-        compare::make(&SECOND, buffers, &compare::exact(call, buffers));
+        buffers.make(&SECOND, call);
     }
 }
 

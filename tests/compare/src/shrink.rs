@@ -77,12 +77,12 @@ impl Shrinker<'_> {
         let Some((last, before)) = self.best.made.split_last() else { return };
         let (mut held, mut opened) = (Buffers::default(), Buffers::default());
         for call in before {
-            compare::make(self.oracle, &mut held, call);
+            held.make(self.oracle, call);
         }
         let size = usize::from(u16::from_le_bytes([held.model[0], held.model[1]]));
         let Some(text) = held.model.get(2..2 + size) else { return };
         let mut calls = vec![Call::Open { text: text.to_vec(), lengths: RIGHT }];
-        compare::make(self.oracle, &mut opened, &calls[0]);
+        opened.make(self.oracle, &calls[0]);
         let changed = (0..STATE).filter(|&place| opened.state[place] != held.state[place]);
         calls.extend(changed.map(|place| Call::SetState { place, number: held.state[place] }));
         calls.push(last.clone());

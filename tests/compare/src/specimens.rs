@@ -89,7 +89,7 @@ pub fn run(tried: &Engine, oracle: &Engine, met: &mut Met) -> Result<(), Differe
     for specimen in all() {
         compare::run(tried, oracle, &specimen.calls, met)?;
         let mut buffers = second::generate::Buffers::default();
-        let answers = specimen.calls.iter().map(|call| compare::make(tried, &mut buffers, call));
+        let answers = specimen.calls.iter().map(|call| buffers.make(tried, call));
         if answers.last().flatten() == Some(specimen.answer) {
             met.note_specimen(specimen.name);
         }

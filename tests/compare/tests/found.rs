@@ -3,9 +3,9 @@
 
 use compare::compare::Place;
 use compare::met::Met;
-use compare::script::Line;
-use compare::{compare as core, lists, script, with_stack};
+use compare::{compare as core, lists, with_stack};
 use second::generate::{Engine, SECOND};
+use second::script::{self, Form, Line};
 use second::{list, open, step, Answer, LISTING};
 
 const ENTRY: usize = 7;
@@ -20,7 +20,7 @@ fn found(wrong: Engine, place: Place, calls: usize, bytes: usize) {
     assert_eq!(report.difference.place, place);
     assert!(report.difference.made.len() <= calls, "{} calls", report.difference.made.len());
     assert!(report.script.len() <= bytes, "{} bytes", report.script.len());
-    let (lines, bad) = script::read(&report.script);
+    let (lines, bad) = script::read(&report.script, Form::Marked);
     assert_eq!(bad, None);
     let again: Vec<_> = lines.into_iter().filter_map(call).collect();
     let difference = core::run(&wrong, &SECOND, &again, &mut Met::default()).unwrap_err();

@@ -4,8 +4,9 @@
 
 use compare::linked::ENGINE;
 use compare::met::Met;
-use compare::{lists, script, specimens, with_stack};
+use compare::{lists, specimens, with_stack};
 use second::generate::SECOND;
+use second::script::{self, Form};
 use std::path::{Path, PathBuf};
 use std::process::{Command, Stdio};
 
@@ -65,10 +66,10 @@ fn the_c_example_runs_as_the_second_engine_does() {
     for (model, least) in [("sheet", 2), ("chromosome", 300), ("kinesin", 500)] {
         let file = repository().join(format!("models/{model}.bc"));
         let run = printed(Command::new(&program).arg(&file).args(["1", "500"]), b"");
-        let (lines, bad) = script::read(run.as_bytes());
+        let (lines, bad) = script::read(run.as_bytes(), Form::Plain);
         assert_eq!(bad, None, "{run}");
         assert!(lines.len() > least, "{model}: {} lines", lines.len());
-        let answers = script::print(&SECOND, run.as_bytes());
+        let answers = script::print(&SECOND, run.as_bytes(), Form::Plain);
         let mut answers = answers.lines().filter(|line| !line.starts_with("  "));
         assert!(answers.all(|line| line.split(' ').count() != 6 || line.starts_with("0 ")), "{model}");
     }
@@ -99,6 +100,9 @@ fn the_program_calls_prints_what_the_second_engine_does() {
         "step 18446744073709551616\n".to_string(),
     ];
     for given in scripts {
-        assert_eq!(printed(&mut Command::new(&program), given.as_bytes()), script::print(&SECOND, given.as_bytes()));
+        assert_eq!(
+            printed(&mut Command::new(&program), given.as_bytes()),
+            script::print(&SECOND, given.as_bytes(), Form::Plain)
+        );
     }
 }

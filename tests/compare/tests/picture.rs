@@ -1,7 +1,8 @@
 //! tools/draw_run.py on a run of models/chromosome.bc: a picture with every bin lit to the end.
 
-use compare::{script, with_stack};
+use compare::with_stack;
 use second::generate::SECOND;
+use second::script::{self, Form};
 use std::io::Write;
 use std::path::{Path, PathBuf};
 use std::process::{Command, Stdio};
@@ -37,7 +38,7 @@ fn a_run_is_drawn() {
     let sample =
         Command::new(env!("CARGO_BIN_EXE_sample")).arg(model).args(["1", "5000"]).output().expect("sample runs");
     assert!(sample.status.success());
-    let output = drawn(with_stack(move || script::print(&SECOND, &sample.stdout)));
+    let output = drawn(with_stack(move || script::print(&SECOND, &sample.stdout, Form::Plain)));
     assert!(output.status.success(), "{}", String::from_utf8_lossy(&output.stderr));
     let picture = String::from_utf8(output.stdout).expect("text");
     assert!(picture.starts_with("<svg ") && picture.ends_with("</svg>\n"));

@@ -1,13 +1,14 @@
-//! Runs a script from standard input and prints what the program `calls` prints for it, by the
-//! second engine, or with the feature `engine` and the word `engine` by the library.
+//! Runs a script from standard input, lines with `!` too, and prints what the program `calls`
+//! prints, by the second engine, or with the feature `engine` and the word `engine` by the library.
 
+use second::script::{self, Form};
 use std::io::{self, Read};
 
 fn main() -> io::Result<()> {
     let mut script = Vec::new();
     io::stdin().read_to_end(&mut script)?;
     let engine = chosen();
-    print!("{}", compare::with_stack(move || compare::script::print(&engine, &script)));
+    print!("{}", compare::with_stack(move || script::print(&engine, &script, Form::Marked)));
     Ok(())
 }
 

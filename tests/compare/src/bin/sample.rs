@@ -1,8 +1,9 @@
 //! Prints a script for `calls` that runs a model: `sample MODEL SEED STEPS`. After each step it
 //! asks for the state. It ends where no step can be taken.
 
-use compare::{compare as core, script, with_stack};
+use compare::with_stack;
 use second::generate::{Buffers, Call, Draw, Random, RIGHT, SECOND};
+use second::script;
 use std::io::{self, Write};
 use std::process::ExitCode;
 
@@ -29,8 +30,8 @@ fn run(text: Vec<u8>, seed: u64, steps: usize) -> Vec<u8> {
     let mut out = Vec::new();
     let mut next = Call::Open { text, lengths: RIGHT };
     for _ in 0..=steps {
-        let call = core::exact(&next, &buffers);
-        let number = core::make(&SECOND, &mut buffers, &call).map_or(0, |answer| answer.number);
+        let call = buffers.exact(&next);
+        let number = buffers.make(&SECOND, &call).map_or(0, |answer| answer.number);
         if number != 0 && !matches!(call, Call::Open { .. }) {
             break;
         }

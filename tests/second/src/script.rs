@@ -1,16 +1,28 @@
 //! Lists of calls as scripts for the program `calls`, and what that program prints for one.
 //!
-//! A script has lines `open N` (a line of N bytes follows), `list`, `step D` and `state`. What
-//! `calls` can't do, changes of the buffers and other lengths than the right ones, stands on
-//! lines that begin with `!`, which only this package reads.
+//! A script has lines `open N` (N bytes and a newline follow), `list`, `step D` and `state`. Every
+//! line ends with a newline, words stand one blank apart, numbers are digits alone. A line of
+//! another form, or an opening without its N bytes, ends the run with `bad` and its number, which
+//! counts every newline before it, those of texts too.
+//!
+//! What `calls` can't do, changes of the buffers and other lengths than the right ones, stands on
+//! lines that begin with `!`. They are read where `Form::Marked` is asked for.
 
-use crate::compare;
-use second::generate::{Buffers, Call, Draw, Engine, Lengths, RIGHT, SPARE};
-use second::{Answer, LISTING, MODEL, STATE};
+use crate::generate::{Buffers, Call, Draw, Engine, Lengths, RIGHT, SPARE};
+use crate::{Answer, LISTING, MODEL, STATE};
 use std::fmt::Write;
 
 /// Numbers of a listing entry.
 const ENTRY: usize = 7;
+
+/// Which lines a script may have.
+#[derive(Clone, Copy, Debug, PartialEq, Eq)]
+pub enum Form {
+    /// Those of the program `calls`.
+    Plain,
+    /// Also lines that begin with `!`.
+    Marked,
+}
 
 /// One thing that a script asks for.
 #[derive(Clone, Debug)]
@@ -65,8 +77,8 @@ fn lengths_line(lengths: &Lengths) -> String {
 
 /// Reads a script, up to the first line of another form: the lines before it, and its number
 /// from 1 if there is one.
-pub fn read(script: &[u8]) -> (Vec<Line>, Option<usize>) {
-    let mut reader = Reader { script, place: 0, number: 0, lengths: RIGHT };
+pub fn read(script: &[u8], form: Form) -> (Vec<Line>, Option<usize>) {
+    let mut reader = Reader { script, form, place: 0, number: 0, lengths: RIGHT };
     let mut lines = Vec::new();
     while reader.place < script.len() {
         let here = reader.number + 1;
@@ -80,6 +92,7 @@ pub fn read(script: &[u8]) -> (Vec<Line>, Option<usize>) {
 
 struct Reader<'a> {
     script: &'a [u8],
+    form: Form,
     place: usize,
     /// Lines read.
     number: usize,
@@ -104,6 +117,9 @@ impl Reader<'_> {
     fn next(&mut self) -> Option<Option<Line>> {
         let line = String::from_utf8(self.bytes(None)?).ok()?;
         let words: Vec<&str> = line.split(' ').collect();
+        if words[0] == "!" && self.form == Form::Plain {
+            return None;
+        }
         let lengths = self.lengths;
         if let ["!", "lengths", model, state, listing] = words[..] {
             let (model, state) = (length(model, MODEL)?, length(state, STATE)?);
@@ -145,15 +161,15 @@ fn length(word: &str, right: usize) -> Option<usize> {
 }
 
 /// What the program `calls` prints for a script on this engine.
-pub fn print(engine: &Engine, script: &[u8]) -> String {
+pub fn print(engine: &Engine, script: &[u8], form: Form) -> String {
     let mut printed = String::new();
     let mut buffers = Buffers::default();
-    let (lines, bad) = read(script);
+    let (lines, bad) = read(script, form);
     for line in &lines {
         match line {
             Line::State => printed.push_str(&(numbers(&buffers.state[..STATE]) + "\n")),
             Line::Call(call) => {
-                if let Some(answer) = compare::make(engine, &mut buffers, call) {
+                if let Some(answer) = buffers.make(engine, call) {
                     print_answer(&mut printed, call, &answer, &buffers);
                 }
             }

@@ -1,11 +1,13 @@
-//! Times open, list and step of both engines on the same calls, side by side.
+//! Times the calls of both engines on the same models, side by side.
 //!
 //!     bench [--rounds N]         how many rounds (10 if not given)
 //!
-//! In each round the engines take turns: each opens the model again and again, then runs it from
-//! its start. Rounds make the same calls, so each call counts with its least time over all rounds:
-//! other work on the machine only adds. What is printed is the mean of these over the run. Buffers are lent as the call before left them; none is cleared in
-//! between. Without the feature `engine` only the second engine is timed.
+//! In each round the engines take turns: each opens the model and lists it with no process, again
+//! and again, then runs it from its start, each state listed and then stepped. Rounds make the
+//! same calls, so each call counts with its least time over all rounds: other work on the machine
+//! only adds. What is printed is the mean of these over the run. Buffers are lent as the call
+//! before left them; none is cleared in between. Without the feature `engine` only the second
+//! engine is timed.
 
 mod models;
 
@@ -18,9 +20,17 @@ use std::time::{Duration, Instant};
 const SEED: u64 = 2;
 /// A run that never ends is ended after so many steps.
 const STEPS: usize = 1_000;
-/// How long a round opens the model.
-const OPENING: Duration = Duration::from_millis(20);
+/// How long a round repeats each of the calls that are the same each time.
+const REPEATING: Duration = Duration::from_millis(20);
 const ROUNDS: usize = 10;
+
+// What is timed. `read` is a listing of the model with no process: the reading, the tests of the
+// buffers and the clearing that every list and step begins with.
+const OPEN: usize = 0;
+const READ: usize = 1;
+const LIST: usize = 2;
+const STEP: usize = 3;
+const PARTS: [&str; 4] = ["open", "read", "list", "step"];
 
 #[cfg(feature = "engine")]
 const ENGINES: [(&str, Engine); 2] = [("engine", compare::linked::ENGINE), ("second", second::generate::SECOND)];
@@ -46,7 +56,7 @@ fn run(rounds: usize) {
                 times.round(engine, &model);
             }
         }
-        for (name, part) in [("open", 0), ("list", 1), ("step", 2)] {
+        for (part, name) in PARTS.iter().enumerate() {
             let times: Vec<f64> = timed.iter().map(|times| mean(&times.least[part])).collect();
             println!("{:12} {name:6} {}", model.name, microseconds(&times));
         }
@@ -69,15 +79,15 @@ fn microseconds(times: &[f64]) -> String {
     line.join(" ")
 }
 
-/// The size of the model and the run, bytes read in a second, the part of a step that reading takes.
+/// The size of the model and the run, bytes opened in a second, the part of a step that reading
+/// takes.
 fn facts(model: &Model, timed: &[Times]) -> String {
-    let mut line =
-        format!("{} bytes, {} steps, at most {} entries", model.text.len(), timed[0].least[2].len(), timed[0].entries);
+    let steps = timed[0].least[STEP].len();
+    let mut line = format!("{} bytes, {steps} steps, at most {} entries", model.text.len(), timed[0].entries);
     for ((name, _), times) in ENGINES.iter().zip(timed) {
-        let open = mean(&times.least[0]);
+        let [open, read, step] = [OPEN, READ, STEP].map(|part| mean(&times.least[part]));
         let rate = model.text.len() as f64 / open / 1e6;
-        let part = 100.0 * open / mean(&times.least[2]);
-        line += &format!("; {name} reads {rate:.2} MB/s, an opening is {part:.0}% of a step");
+        line += &format!("; {name} opens {rate:.2} MB/s, reading is {:.0}% of a step", 100.0 * read / step);
     }
     line
 }
@@ -89,9 +99,8 @@ fn mean(times: &[f64]) -> f64 {
 /// The times of one engine on one model.
 #[derive(Clone, Default)]
 struct Times {
-    /// Seconds of each call of a run, the least over all rounds: open, list, step. An opening is
-    /// the same call each time.
-    least: [Vec<f64>; 3],
+    /// Seconds of each call of a run, the least over all rounds, by part.
+    least: [Vec<f64>; PARTS.len()],
     /// The most entries listed in the run.
     entries: u64,
 }
@@ -115,11 +124,19 @@ impl Times {
     fn round(&mut self, engine: &Engine, model: &Model) {
         let mut buffers = Buffers { model: vec![0; MODEL], state: vec![0; STATE], listing: vec![0; LISTING] };
         let begun = Instant::now();
-        while begun.elapsed() < OPENING {
+        while begun.elapsed() < REPEATING {
             let start = Instant::now();
             let opened = (engine.open)(&model.text, &mut buffers.model, &mut buffers.state);
-            self.note(0, 0, start);
+            self.note(OPEN, 0, start);
             assert_eq!(opened.number, 0, "{}", model.name);
+        }
+        let nobody = vec![0; STATE];
+        let begun = Instant::now();
+        while begun.elapsed() < REPEATING {
+            let start = Instant::now();
+            let listed = (engine.list)(&buffers.model, &nobody, &mut buffers.listing);
+            self.note(READ, 0, start);
+            assert_eq!((listed.number, listed.count), (0, 0), "{}", model.name);
         }
         self.run(engine, &mut buffers);
     }
@@ -130,7 +147,7 @@ impl Times {
         for step in 0..STEPS {
             let start = Instant::now();
             let listed = (engine.list)(&buffers.model, &buffers.state, &mut buffers.listing);
-            self.note(1, step, start);
+            self.note(LIST, step, start);
             self.entries = self.entries.max(listed.count);
             if listed.number != 0 || listed.total == 0 {
                 return;
@@ -138,7 +155,7 @@ impl Times {
             let draw = random.number() % listed.total;
             let start = Instant::now();
             let taken = (engine.step)(&buffers.model, &mut buffers.state, &mut buffers.listing, draw);
-            self.note(2, step, start);
+            self.note(STEP, step, start);
             if taken.number != 0 {
                 return;
             }

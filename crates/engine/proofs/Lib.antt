@@ -4,3 +4,5 @@ pub mod Nodes
 pub mod Opened
 pub mod Bytes
 pub mod Shows
+pub mod Openings
+pub mod Lengths

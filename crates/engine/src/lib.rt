@@ -2,9 +2,17 @@
 pub mod buffer;
 pub mod listings;
 pub mod start;
+pub mod texts;
 
+use buffer::Bytes;
+use buffer::Text;
 ghost use mathlib.Core.Path.{_≡_};
-ghost use Rattle.engine.specs.Gives.{bare, filled};
+ghost use mathlib.Core.List.{[]};
+ghost use lib.ListN.{length};
+ghost use Rattle.machine.specs.State.{stateLength};
+ghost use Rattle.machine.specs.Machine.{modelLength, listingLength, lists};
+ghost use Rattle.buffers.specs.Effect.{machineIn, leaves, openEffect, listEffect};
+ghost use Rattle.engine.specs.Gives.{bare, filled, Gives};
 
 // What a call answers: 0 or a refusal's number; its place and branch; the listing's entries, their total, and the entry that a step took.
 #[repr(C)]
@@ -72,4 +80,62 @@ impl Engine {
             pairs: 0,
         }
     }
+}
+
+// Reads a model text and sets the engine to its start.
+pub fn open(text: &[u8], model: &mut [u8], state: &mut [i64]) -> Answer
+    ensures { λ r. ⌜ Gives (openEffect (now (text .entry)) (now (model .entry)) (now (state .entry))) r (now (model .exit)) (now (state .exit)) [] ⌝ }
+{
+    if model.len() != Engine::MODEL {
+        return Answer::bare(1, 0, 0);
+    }
+    if state.len() != Engine::STATE {
+        return Answer::bare(1, 0, 0);
+    }
+    texts::open_lent(text, model, state)
+}
+
+// Lists over buffers of the right lengths.
+fn list_lent(model: &[u8], state: &[i64], listing: &mut [u64]) -> Answer
+    requires { ⌜ (length (now model) ≡ modelLength) × (length (now state) ≡ stateLength) × (length (now listing) ≡ listingLength) ⌝ }
+    ensures { λ r. ⌜ Gives (leaves (now (model .entry)) (now (state .entry)) (now (listing .entry)) (lists (machineIn (now (model .entry)) (now (state .entry))))) r (now (model .entry)) (now (state .entry)) (now (listing .exit)) ⌝ }
+{
+    let found = buffer::find_text(model);
+    match found {
+        Text::Nothing => Answer::bare(11, 0, 0),
+        Text::Long(n) => {
+            let end = Bytes::FIRST + n;
+            texts::list_text(&model[Bytes::FIRST..end], state, listing)
+        }
+    }
+}
+
+// Lists every transition that can happen next, with its weight.
+pub fn list(model: &[u8], state: &[i64], listing: &mut [u64]) -> Answer
+    ensures { λ r. ⌜ Gives (listEffect (now (model .entry)) (now (state .entry)) (now (listing .entry))) r (now (model .entry)) (now (state .entry)) (now (listing .exit)) ⌝ }
+{
+    if model.len() != Engine::MODEL {
+        return Answer::bare(1, 0, 0);
+    }
+    if state.len() != Engine::STATE {
+        return Answer::bare(1, 0, 0);
+    }
+    if listing.len() != Engine::LISTING {
+        return Answer::bare(1, 0, 0);
+    }
+    list_lent(model, state, listing)
+}
+
+#[no_mangle]
+pub extern "C" fn matgravel_open(text: &[u8], model: &mut [u8], state: &mut [i64]) -> Answer
+    ensures { λ r. ⌜ Gives (openEffect (now (text .entry)) (now (model .entry)) (now (state .entry))) r (now (model .exit)) (now (state .exit)) [] ⌝ }
+{
+    open(text, model, state)
+}
+
+#[no_mangle]
+pub extern "C" fn matgravel_list(model: &[u8], state: &[i64], listing: &mut [u64]) -> Answer
+    ensures { λ r. ⌜ Gives (listEffect (now (model .entry)) (now (state .entry)) (now (listing .entry))) r (now (model .entry)) (now (state .entry)) (now (listing .exit)) ⌝ }
+{
+    list(model, state, listing)
 }

@@ -1,0 +1,78 @@
+-- What opening a text gives, and which tables list and step are given, from the answers that reading the text gives.
+use mathlib.Core.Path.{_≡_, refl}
+use mathlib.Core.List.{List, []}
+use mathlib.Core.Option.{none}
+use Prim.Native.Nat.{ℕ, _≤_}
+use lib.IntN.{ℤ, pos}
+use lib.ListN.{length, replicate}
+use Rattle.token.specs.Questions.{textLimit}
+use Rattle.model.specs.Resolved
+use Rattle.model.specs.Opening.{refused, opened, opening}
+use Rattle.model.specs.Held.{held}
+use Rattle.model.proofs.Opened.{opened-good, opened-few}
+use Rattle.model.proofs.Held.{held-good, opened-short}
+use Rattle.machine.specs.State.{stateLength, stateNumbers}
+use Rattle.machine.specs.Machine.{modelLength, no, openedState, lists}
+use Rattle.buffers.specs.Held.{modelBytes}
+use Rattle.buffers.specs.Effect.{machineOver, leaves, opensWith}
+use Rattle.engine.specs.Gives.{Gives, bare}
+use Rattle.engine.specs.Tables.{Tables}
+use Rattle.engine.specs.Start as start
+use Rattle.settle.specs.declared.Model.{Model}
+use Rattle.opening.specs.declared.Held.{Held}
+use Rattle.opening.specs.declared.Held.the-variants.{Refused as HeldRefused, Model as HeldModel}
+use Rattle.opening.specs.declared.Opened.{Opened}
+use Rattle.opening.specs.declared.Opened.the-variants.{Refused, Accepted}
+use Rattle.opening.specs.Trees.{Closed}
+use Rattle.opening.specs.Models.{ModelHeld, ModelRead, ModelOpened, Opens}
+use Rattle.engine.proofs.Shows.{eleven-gives}
+
+module _ (text t roots scopes : List ℕ) where
+  -- ---- opening
+  pub opened-is : {r : Opened} {x : Model} {k : ℕ} → Opens text t roots scopes r → r ≡ Accepted x k → ModelOpened text t roots scopes x k
+  unfolding Opens
+  opened-is o e = rw e at o
+
+  pub refused-is : {r : Opened} {n p : ℕ} → Opens text t roots scopes r → r ≡ Refused n p → opening text ≡ refused n p
+  unfolding Opens
+  refused-is o e = rw e at o
+
+  pub short : {x : Model} {k : ℕ} → ModelOpened text t roots scopes x k → length text ≤ textLimit
+  short o = opened-short text (o .model) (o .opens)
+
+  pub starts : {x : Model} {k : ℕ} (o : ModelOpened text t roots scopes x k) → start.Opens t (x .root) (x .variables) (x .definitions) (o .model)
+  starts o = record {
+    good = opened-good text (o .model) (o .opens);
+    defines = o .shown .definition;
+    starts = o .shown .starts;
+    few = opened-few text (o .model) (o .opens);
+  }
+
+  -- ---- the text in a model buffer
+  pub held-is : {r : Held} {x : Model} {p : ℕ} → ModelRead text t roots scopes r → r ≡ HeldModel x p → ModelHeld text t roots scopes x p
+  unfolding ModelRead
+  held-is o e = rw e at o
+
+  pub closed-is : {r : Held} {n p : ℕ} → ModelRead text t roots scopes r → r ≡ HeldRefused n p → held text ≡ none
+  unfolding ModelRead
+  closed-is {r} {n} {p} o e = let c : Closed text n p = rw e at o in c .holds
+
+  pub tables : {x : Model} {p : ℕ} (o : ModelHeld text t roots scopes x p) → Tables t roots scopes (x .sums) (x .channels) (o .model)
+  tables {x} o = record { root = x .root; variables = x .variables; definitions = x .definitions; represents = o .shown; good = held-good text (o .model) (o .holds) }
+
+-- 01, Opening a text: 2 to 10 zero both buffers
+pub refused-gives : (text : List ℕ) (n p : ℕ) (bs : List ℕ) (zs : List ℤ) → opening text ≡ refused n p → bs ≡ replicate modelLength 0 → zs ≡ replicate stateLength (pos 0)
+    → Gives (opensWith text (opening text)) (bare n p 0) bs zs []
+unfolding opensWith no
+refused-gives text n p bs zs e f g = rw e (record { number = refl; place = refl; branch = refl; count = refl; total = refl; chosen = refl; model = f; state = g; listing = refl })
+
+-- 01, Opening a text: acceptance fills both
+pub accepted-gives : (text : List ℕ) (m : Resolved.Model) (bs : List ℕ) (zs : List ℤ) → opening text ≡ opened m → bs ≡ modelBytes text → zs ≡ stateNumbers (openedState m)
+    → Gives (opensWith text (opening text)) (bare 0 0 0) bs zs []
+unfolding opensWith no
+accepted-gives text m bs zs e f g = rw e (record { number = refl; place = refl; branch = refl; count = refl; total = refl; chosen = refl; model = f; state = g; listing = refl })
+
+-- 01, Listing, 11: a text that holds no model
+pub closed-gives : (text bs : List ℕ) (zs : List ℤ) (l : List ℕ) → held text ≡ none → Gives (leaves bs zs l (lists (machineOver zs (held text)))) (bare 11 0 0) bs zs l
+unfolding machineOver
+closed-gives text bs zs l e = rw e (eleven-gives bs zs l)

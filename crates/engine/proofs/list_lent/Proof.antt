@@ -1,0 +1,74 @@
+-- The text that the model buffer holds, or 11.
+use native.Mathlib.Omega.{arith}
+use denote.Ref.{now}
+use borrow.Author.Needs.{needs}
+use Rattle.engine.proofs.list_lent.Statement.{statement}
+use Rattle.engine.proofs.list_lent.Tie as tie
+use Rattle.engine.specs.Text.{TextOf, TextIn}
+use Rattle.engine.proofs.Shows.{eleven-gives}
+use Rattle.engine.proofs.Lengths.{none-in, text-in}
+
+find-text-requires : tie.Need-find-text-requires
+find-text-requires c κs = search needs
+
+enum-told : tie.Need-enum-told
+enum-told c = search needs
+
+bare-requires : tie.Need-bare-requires
+bare-requires c κs = search needs
+
+enum-known-found : tie.Need-enum-known-found
+enum-known-found c = search needs
+
+add-end : tie.Need-add-end
+unfolding TextIn
+add-end c =
+    let h : TextOf (now (c .before .before .before .before .before .before .args .model)) (c .before .found .given .0 .0) = rw (c .before .found .given .1) at (c .before .before .before .find-text .ensures) in
+    omega (arith, h .short)
+
+sub-list-text : tie.Need-sub-list-text
+sub-list-text c = search needs
+
+part-list-text-start : tie.Need-part-list-text-start
+part-list-text-start c = search needs
+
+part-list-text-end : tie.Need-part-list-text-end
+unfolding TextIn
+part-list-text-end c =
+    let h : TextOf (now (c .before .before .before .before .before .before .args .model)) (c .before .found .given .0 .0) = rw (c .before .found .given .1) at (c .before .before .before .find-text .ensures) in
+    omega (arith, h .short, c .before .before .before .before .before .before .pre .0)
+
+list-text-requires : tie.Need-list-text-requires
+list-text-requires c κs =
+    (c .before .before .before .before .before .before .before .before .pre .1, c .before .before .before .before .before .before .before .before .pre .2)
+
+returns : tie.Need-returns
+unfolding TextIn
+returns c =
+    rw (c .bare .ensures, none-in (now (c .before .before .before .before .before .before .args .model)) (now (c .before .before .before .before .before .before .args .state)) (rw (c .before .enum-told .given .1) at (c .before .before .before .find-text .ensures))) (eleven-gives (now (c .before .before .before .before .before .before .args .model)) (now (c .before .before .before .before .before .before .args .state)) (now (c .before .before .before .before .before .before .args .listing)))
+
+same-length : tie.Need-same-length
+same-length c = search needs
+
+returns-2 : tie.Need-returns-2
+unfolding TextIn
+returns-2 c =
+    let h : TextOf (now (c .before .before .before .before .before .before .before .before .before .before .before .args .model)) (c .before .before .before .before .before .before .found .given .0 .0) = rw (c .before .before .before .before .before .before .found .given .1) at (c .before .before .before .before .before .before .before .before .find-text .ensures) in
+    rw (text-in (now (c .before .before .before .before .before .before .before .before .before .before .before .args .model)) (now (c .before .before .before .before .before .before .before .before .before .before .before .args .state)) (c .before .before .before .before .before .before .found .given .0 .0) h) (c .before .before .list-text .ensures (now (c .before .before .before .before .before .before .before .before .before .before .before .args .model)))
+
+pub list-lent-spec : {M : Type 1} → statement M
+list-lent-spec =
+    tie.close
+    (tie.spec
+    find-text-requires
+    enum-told
+    bare-requires
+    enum-known-found
+    add-end
+    sub-list-text
+    part-list-text-start
+    part-list-text-end
+    list-text-requires
+    returns
+    same-length
+    returns-2)

@@ -1,0 +1,121 @@
+-- Each answer to a text, with what it leaves in both buffers.
+use native.Mathlib.Omega.{arith}
+use denote.Ref.{now}
+use borrow.Author.Needs.{needs}
+use Rattle.engine.proofs.texts.open_lent.Statement.{statement}
+use Rattle.engine.proofs.texts.open_lent.Tie as tie
+use Rattle.engine.proofs.Openings.{opened-is, refused-is, short, starts, refused-gives, accepted-gives}
+
+put-fresh-requires : tie.Need-put-fresh-requires
+put-fresh-requires c κs = search needs
+
+slice-aggregate-open-text : tie.Need-slice-aggregate-open-text
+slice-aggregate-open-text c = search needs
+
+slice-aggregate-open-text-2 : tie.Need-slice-aggregate-open-text-2
+slice-aggregate-open-text-2 c = search needs
+
+slice-aggregate-open-text-3 : tie.Need-slice-aggregate-open-text-3
+slice-aggregate-open-text-3 c = search needs
+
+slice-aggregate-open-text-4 : tie.Need-slice-aggregate-open-text-4
+slice-aggregate-open-text-4 c = search needs
+
+slice-aggregate-open-text-5 : tie.Need-slice-aggregate-open-text-5
+slice-aggregate-open-text-5 c = search needs
+
+slice-aggregate-open-text-6 : tie.Need-slice-aggregate-open-text-6
+slice-aggregate-open-text-6 c = search needs
+
+slice-aggregate-open-text-7 : tie.Need-slice-aggregate-open-text-7
+slice-aggregate-open-text-7 c = search needs
+
+slice-aggregate-open-text-8 : tie.Need-slice-aggregate-open-text-8
+slice-aggregate-open-text-8 c = search needs
+
+slice-aggregate-open-text-9 : tie.Need-slice-aggregate-open-text-9
+slice-aggregate-open-text-9 c = search needs
+
+open-text-requires : tie.Need-open-text-requires
+open-text-requires c κs = search needs
+
+enum-known-opened : tie.Need-enum-known-opened
+enum-known-opened c = search needs
+
+bare-requires : tie.Need-bare-requires
+bare-requires c κs = search needs
+
+enum-known-opened-2 : tie.Need-enum-known-opened-2
+enum-known-opened-2 c = search needs
+
+put-text-requires : tie.Need-put-text-requires
+put-text-requires c κs =
+    let X = now (c .before .before .before .before .before .before .before .before .before .before .before .before .before .before .before .before .before .before .before .before .before .before .before .before .before .before .before .before .before .before .before .args .text) in
+    let o = opened-is X _ _ _ (c .before .before .before .before .before .before .before .before .before .before .before .before .before .open-text .ensures) (c .before .before .opened2 .given .1) in
+    (c .before .before .before .before .before .before .before .before .before .before .before .before .before .before .before .before .before .before .before .before .before .before .before .before .before .before .put-fresh .ensures .0, short X _ _ _ o)
+
+slice-aggregate-open-state : tie.Need-slice-aggregate-open-state
+slice-aggregate-open-state c = search needs
+
+open-state-requires : tie.Need-open-state-requires
+open-state-requires c κs =
+    let X = now (c .before .before .before .before .before .before .before .before .before .before .before .before .before .before .before .before .before .before .before .before .before .before .before .before .before .before .before .before .before .before .before .before .before .before .before .before .args .text) in
+    let o = opened-is X _ _ _ (c .before .before .before .before .before .before .before .before .before .before .before .before .before .before .before .before .before .before .open-text .ensures) (c .before .before .before .before .before .before .before .opened2 .given .1) in
+    (c .before .before .before .before .before .before .before .before .before .before .before .before .before .before .before .before .before .before .before .before .before .before .before .before .before .before .before .before .before .before .before .put-fresh .ensures .1, (o .model, starts X _ _ _ o))
+
+bare-requires-2 : tie.Need-bare-requires-2
+bare-requires-2 c κs = search needs
+
+same-length : tie.Need-same-length
+same-length c = search needs
+
+same-length-2 : tie.Need-same-length-2
+same-length-2 c = search needs
+
+returns : tie.Need-returns
+returns c =
+    let X = now (c .before .before .before .before .before .before .before .before .before .before .before .before .before .before .before .before .before .before .before .before .before .before .before .before .before .before .before .before .before .before .before .args .text) in
+    rw (c .bare .ensures) (refused-gives X _ _ _ _ (refused-is X _ _ _ (c .before .before .before .before .before .before .before .before .before .before .before .before .before .open-text .ensures) (c .before .before .opened .given .1)) (c .before .before .before .before .before .before .before .before .before .before .before .before .before .before .before .before .before .before .before .before .before .before .before .before .before .before .put-fresh .ensures .0) (c .before .before .before .before .before .before .before .before .before .before .before .before .before .before .before .before .before .before .before .before .before .before .before .before .before .before .put-fresh .ensures .1))
+
+same-length-3 : tie.Need-same-length-3
+same-length-3 c =
+    omega (arith, c .before .before .before .before .before .before .model2 .given, c .before .before .before .before .before .before .before .before .before .before .before .before .before .before .before .before .before .before .before .before .before .before .before .before .before .before .before .before .before .before .before .before .before .model .given)
+
+same-length-4 : tie.Need-same-length-4
+same-length-4 c =
+    omega (arith, c .before .state2 .given, c .before .before .before .before .before .before .before .before .before .before .before .before .before .before .before .before .before .before .before .before .before .before .before .before .before .before .before .before .before .before .before .state .given)
+
+returns-2 : tie.Need-returns-2
+returns-2 c =
+    let X = now (c .before .before .before .before .before .before .before .before .before .before .before .before .before .before .before .before .before .before .before .before .before .before .before .before .before .before .before .before .before .before .before .before .before .before .before .before .before .before .before .args .text) in
+    let o = opened-is X _ _ _ (c .before .before .before .before .before .before .before .before .before .before .before .before .before .before .before .before .before .before .before .before .before .open-text .ensures) (c .before .before .before .before .before .before .before .before .before .before .opened2 .given .1) in
+    rw (c .bare2 .ensures) (accepted-gives X (o .model) _ _ (o .opens) (c .before .before .before .before .before .before .before .put-text .ensures) (c .before .before .open-state .ensures (o .model) (starts X _ _ _ o)))
+
+pub open-lent-spec : {M : Type 1} → statement M
+open-lent-spec =
+    tie.close
+    (tie.spec
+    put-fresh-requires
+    slice-aggregate-open-text
+    slice-aggregate-open-text-2
+    slice-aggregate-open-text-3
+    slice-aggregate-open-text-4
+    slice-aggregate-open-text-5
+    slice-aggregate-open-text-6
+    slice-aggregate-open-text-7
+    slice-aggregate-open-text-8
+    slice-aggregate-open-text-9
+    open-text-requires
+    enum-known-opened
+    bare-requires
+    enum-known-opened-2
+    put-text-requires
+    slice-aggregate-open-state
+    open-state-requires
+    bare-requires-2
+    same-length
+    same-length-2
+    returns
+    same-length-3
+    same-length-4
+    returns-2)

@@ -1,0 +1,101 @@
+// The calls on a text: its tables are local arrays, lent on as slices.
+use crate::Answer;
+use opening::Held;
+use opening::Opened;
+use syntax::question;
+use token::Limits;
+ghost use mathlib.Core.Path.{_≡_};
+ghost use mathlib.Core.List.{List, []};
+ghost use Prim.Native.Nat.{ℕ};
+ghost use lib.ListN.{length};
+ghost use Rattle.model.specs.Opening.{opening};
+ghost use Rattle.model.specs.Held.{held};
+ghost use Rattle.machine.specs.State.{stateLength};
+ghost use Rattle.machine.specs.Machine.{modelLength, listingLength, lists};
+ghost use Rattle.buffers.specs.Effect.{machineOver, leaves, opensWith};
+ghost use Rattle.engine.specs.Gives.{Gives};
+
+// Opens a text into buffers of the right lengths.
+pub fn open_lent(text: &[u8], model: &mut [u8], state: &mut [i64]) -> Answer
+    requires { ⌜ (length (now model) ≡ modelLength) × (length (now state) ≡ stateLength) ⌝ }
+    ensures { λ r. ⌜ Gives (opensWith (now (text .entry)) (opening (now (text .entry)))) r (now (model .exit)) (now (state .exit)) [] ⌝ }
+{
+    let mut kinds = [0u8; Limits::TEXT];
+    let mut places = [0u16; Limits::TEXT];
+    let mut sizes = [0u16; Limits::TEXT];
+    let mut low = [0u64; question::Limits::TOKENS];
+    let mut high = [0u64; question::Limits::TOKENS];
+    let mut nodes = [0u64; question::Limits::TOKENS];
+    let mut roots = [0u16; question::Limits::TOKENS];
+    let mut scopes = [0u8; question::Limits::TOKENS];
+    let mut names = [0u16; question::Limits::TOKENS];
+    crate::buffer::put_fresh(model, state);
+    let opened = opening::open_text(
+        text,
+        &mut kinds,
+        &mut places,
+        &mut sizes,
+        &mut low,
+        &mut high,
+        &mut nodes,
+        &mut roots,
+        &mut scopes,
+        &mut names,
+    );
+    match opened {
+        Opened::Refused(number, place) => Answer::bare(number as u64, place as u64, 0),
+        Opened::Accepted(found, _) => {
+            crate::buffer::put_text(model, text);
+            crate::start::open_state(
+                &nodes,
+                found.root,
+                found.variables,
+                found.definitions,
+                state,
+            );
+            Answer::bare(0, 0, 0)
+        }
+    }
+}
+
+// Lists over a text that a model buffer holds.
+pub fn list_text(text: &[u8], state: &[i64], listing: &mut [u64]) -> Answer
+    requires { ⌜ (length (now state) ≡ stateLength) × (length (now listing) ≡ listingLength) ⌝ }
+    ensures { λ r. ⌜ ((bs : List ℕ) → Gives (leaves bs (now (state .entry)) (now (listing .entry)) (lists (machineOver (now (state .entry)) (held (now (text .entry)))))) r bs (now (state .entry)) (now (listing .exit))) ⌝ }
+{
+    let mut kinds = [0u8; Limits::TEXT];
+    let mut places = [0u16; Limits::TEXT];
+    let mut sizes = [0u16; Limits::TEXT];
+    let mut low = [0u64; question::Limits::TOKENS];
+    let mut high = [0u64; question::Limits::TOKENS];
+    let mut nodes = [0u64; question::Limits::TOKENS];
+    let mut roots = [0u16; question::Limits::TOKENS];
+    let mut scopes = [0u8; question::Limits::TOKENS];
+    let mut names = [0u16; question::Limits::TOKENS];
+    let read = opening::read_model(
+        text,
+        &mut kinds,
+        &mut places,
+        &mut sizes,
+        &mut low,
+        &mut high,
+        &mut nodes,
+        &mut roots,
+        &mut scopes,
+        &mut names,
+    );
+    match read {
+        Held::Refused(_, _) => Answer::bare(11, 0, 0),
+        Held::Model(found, _) => {
+            crate::listings::list_model(
+                &nodes,
+                &roots,
+                &scopes,
+                found.sums,
+                found.channels,
+                state,
+                listing,
+            )
+        }
+    }
+}

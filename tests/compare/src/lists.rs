@@ -150,14 +150,17 @@ fn spoil(random: &mut Random, state: &mut [i64]) {
         0 => state[random.below(2)] = *random.pick(&[-1, 0, 1, 255, 256, 257, i64::MAX, i64::MIN]),
         1 => {
             let which = random.below(2);
-            state[which] += *random.pick(&[-1, 1]);
+            state[which] = state[which].wrapping_add(*random.pick(&[-1, 1]));
         }
         // Sum numbers, locals and numbers past the last process.
         2 => state[process] = odd,
         3 => state[process + 1 + random.below(PROCESS - 1)] = odd,
         // Parts of a pair.
         4 => state[pair + random.below(PAIR)] = odd,
-        5 => state[pair + random.below(PAIR)] += *random.pick(&[-1, 1]),
+        5 => {
+            let number = &mut state[pair + random.below(PAIR)];
+            *number = number.wrapping_add(*random.pick(&[-1, 1]));
+        }
         // Pairs doubled and in the wrong order.
         6 => state.copy_within(FIRST_PAIR..FIRST_PAIR + PAIR, FIRST_PAIR + PAIR),
         7 => state[FIRST_PAIR..FIRST_PAIR + 2 * PAIR].rotate_left(PAIR),

@@ -9,6 +9,7 @@ pub mod lists;
 pub mod met;
 pub mod shrink;
 pub mod specimens;
+pub mod texts;
 
 /// The stack of the threads that make calls. More than any call needs.
 pub const STACK: usize = 64 << 20;

@@ -2,7 +2,7 @@
 
 use crate::compare;
 use crate::met::Met;
-use crate::{shrink, specimens};
+use crate::{shrink, specimens, texts};
 use second::generate::{self, Buffers, Call, Draw, Engine, Random, RIGHT, SECOND};
 use second::{model, script, MODEL, STATE};
 
@@ -23,15 +23,33 @@ const PAIR: usize = 5;
 const TEXT_START: usize = 2;
 
 /// The list of a seed: mostly random calls; every tenth goes through the limits, every fifth
-/// hands in states and model buffers directly.
+/// hands in states and model buffers directly, every tenth has long lists or many names.
 pub fn of_seed(seed: u64) -> Vec<Call> {
     let mut random = Random::new(seed);
-    match seed % 10 {
-        9 => generate::edge_calls(&mut random),
-        4 => handed_states(&mut random),
-        8 => handed_models(&mut random),
+    match seed % 20 {
+        9 | 19 => generate::edge_calls(&mut random),
+        4 | 14 => handed_states(&mut random),
+        8 | 18 => handed_models(&mut random),
+        6 => {
+            let which = (seed / 20) as usize % texts::LONG;
+            let text = texts::long(&mut random, which);
+            opened_and_run(&mut random, text, 2)
+        }
+        16 => {
+            let text = texts::many_names(&mut random);
+            opened_and_run(&mut random, text, STEPS)
+        }
         _ => generate::calls(&mut random, STEPS),
     }
+}
+
+/// Opens a text, lists it and takes some steps.
+fn opened_and_run(random: &mut Random, text: Vec<u8>, steps: usize) -> Vec<Call> {
+    let mut calls = vec![Call::Open { text, lengths: RIGHT }, Call::List { lengths: RIGHT }];
+    for _ in 0..steps {
+        calls.push(Call::Step { lengths: RIGHT, draw: Draw::Inside(random.number()) });
+    }
+    calls
 }
 
 /// Runs the specimens, then the lists of these seeds; `Err` says the first difference, shrunk,

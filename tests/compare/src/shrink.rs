@@ -22,6 +22,9 @@ const CUTS: [(Kind, &[Kind]); 6] = [
 ];
 /// How many of the tokens that may end a cut are tried.
 const ENDS: usize = 3;
+/// Short models that often do in the place of a text.
+const SHORT: [&str; 4] =
+    ["A[]={a,1};A[];", "A[]={a,1}.A[];A[];", "A[]={c![1],1};A[];", "A[]={@c![1],1}+{@c?[1],1};2*A[];"];
 
 struct Shrinker<'a> {
     tried: &'a Engine,
@@ -121,10 +124,14 @@ impl Shrinker<'_> {
         }
     }
 
-    /// Takes pieces out of a text: blanks and comments, halves, quarters and so on, parts from one
-    /// sign to the next like it, each short run of tokens, single bytes.
+    /// Puts a short model in the place of a text, or takes pieces out of it: blanks and comments,
+    /// halves, quarters and so on, parts from one sign to the next like it, each short run of
+    /// tokens, single bytes.
     fn shorten_text(&mut self, call: usize) {
         let Some(text) = self.text(call) else { return };
+        if SHORT.iter().any(|short| short.len() < text.len() && self.takes_text(call, short.as_bytes().to_vec())) {
+            return;
+        }
         let words: Vec<&[u8]> = tokens::split(&text).iter().map(|token| token.word(&text)).collect();
         self.takes_text(call, words.concat());
         self.takes_text(call, words.join(&b' '));

@@ -6,3 +6,4 @@ pub mod Bytes
 pub mod Shows
 pub mod Openings
 pub mod Lengths
+pub mod Drawn

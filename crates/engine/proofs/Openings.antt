@@ -12,11 +12,12 @@ use Rattle.model.specs.Held.{held}
 use Rattle.model.proofs.Opened.{opened-good, opened-few}
 use Rattle.model.proofs.Held.{held-good, opened-short}
 use Rattle.machine.specs.State.{stateLength, stateNumbers}
-use Rattle.machine.specs.Machine.{modelLength, no, openedState, lists}
+use Rattle.machine.specs.Machine.{modelLength, no, openedState, lists, stepsOn}
 use Rattle.buffers.specs.Held.{modelBytes}
 use Rattle.buffers.specs.Effect.{machineOver, leaves, opensWith}
 use Rattle.engine.specs.Gives.{Gives, bare}
 use Rattle.engine.specs.Tables.{Tables}
+use Rattle.engine.specs.Steps.{Whole}
 use Rattle.engine.specs.Start as start
 use Rattle.settle.specs.declared.Model.{Model}
 use Rattle.opening.specs.declared.Held.{Held}
@@ -26,6 +27,7 @@ use Rattle.opening.specs.declared.Opened.the-variants.{Refused, Accepted}
 use Rattle.opening.specs.Trees.{Closed}
 use Rattle.opening.specs.Models.{ModelHeld, ModelRead, ModelOpened, Opens}
 use Rattle.engine.proofs.Shows.{eleven-gives}
+use Rattle.engine.proofs.Drawn.{eleven-steps}
 
 module _ (text t roots scopes : List ℕ) where
   -- ---- opening
@@ -60,6 +62,9 @@ module _ (text t roots scopes : List ℕ) where
   pub tables : {x : Model} {p : ℕ} (o : ModelHeld text t roots scopes x p) → Tables t roots scopes (x .sums) (x .channels) (o .model)
   tables {x} o = record { root = x .root; variables = x .variables; definitions = x .definitions; represents = o .shown; good = held-good text (o .model) (o .holds) }
 
+  pub whole : {x : Model} {p : ℕ} (o : ModelHeld text t roots scopes x p) → Whole t roots scopes (x .root) (x .variables) (x .sums) (x .channels) (o .model)
+  whole {x} o = record { definitions = x .definitions; represents = o .shown; good = held-good text (o .model) (o .holds) }
+
 -- 01, Opening a text: 2 to 10 zero both buffers
 pub refused-gives : (text : List ℕ) (n p : ℕ) (bs : List ℕ) (zs : List ℤ) → opening text ≡ refused n p → bs ≡ replicate modelLength 0 → zs ≡ replicate stateLength (pos 0)
     → Gives (opensWith text (opening text)) (bare n p 0) bs zs []
@@ -76,3 +81,7 @@ accepted-gives text m bs zs e f g = rw e (record { number = refl; place = refl; 
 pub closed-gives : (text bs : List ℕ) (zs : List ℤ) (l : List ℕ) → held text ≡ none → Gives (leaves bs zs l (lists (machineOver zs (held text)))) (bare 11 0 0) bs zs l
 unfolding machineOver
 closed-gives text bs zs l e = rw e (eleven-gives bs zs l)
+
+pub closed-steps : (text bs : List ℕ) (zs : List ℤ) (l : List ℕ) (d : ℕ) → held text ≡ none → Gives (leaves bs zs l (stepsOn (machineOver zs (held text)) d)) (bare 11 0 0) bs zs l
+unfolding machineOver
+closed-steps text bs zs l d e = rw e (eleven-steps bs zs l d)

@@ -35,7 +35,8 @@ use Rattle.listing.specs.declared.Listed.{Listed as Found}
 use Rattle.buffers.specs.Listing.{entryNumbers, entriesNumbers, listingNumbers, shown}
 use Rattle.buffers.specs.Effect.{machineOver, stateIn, leaves}
 use Rattle.engine.specs.Gives.{Gives, bare}
-use Rattle.engine.specs.Tables.{Tables, answerOf}
+use Rattle.engine.specs.Tables.{Tables, answerOf, Finds}
+use Rattle.engine.specs.Tables as found
 
 -- ---- the scopes of the tables
 module _ (t roots scopes : List ℕ) (sums channels : ℕ) (m : Resolved.Model) (h : Tables t roots scopes sums channels m) where
@@ -150,3 +151,8 @@ module _ (bs : List ℕ) (zs : List ℤ) (l : List ℕ) where
   pub lists-give : (m : Resolved.Model) (s : State) (r : Found) (b : List ℕ) → stateNumbers s ≡ zs → Lists (machine.listing m s) r b → Gives (leaves bs zs l (lists (holding m s))) (answerOf r) bs zs b
   unfolding lists
   lists-give m s r b e h = rw (h .answer) (listing-gives m s (listing-is m s) e b (h .numbers))
+
+  pub finds-give : (m : Resolved.Model) (r : Found) (b : List ℕ) → Finds m zs l r b → Gives (leaves bs zs l (lists (machineOver zs (some m)))) (answerOf r) bs zs b
+  unfolding answerOf
+  finds-give m r b (found.closed e q f) = rw (e, q, f) eleven-gives
+  finds-give m r b (found.holding {s} e g z h) = rw e (lists-give m s r b (sym z) h)

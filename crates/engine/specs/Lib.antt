@@ -3,3 +3,4 @@ pub mod Start
 pub mod Text
 pub mod Gives
 pub mod Tables
+pub mod Steps

@@ -1,7 +1,8 @@
-// Parts of the calls on an engine: answers, its header and buffers, the state it opens with, question 11 and the listing.
+// An engine: its calls open, list and step, what they answer, its header and the lengths of its buffers.
 pub mod buffer;
 pub mod listings;
 pub mod start;
+pub mod steps;
 pub mod texts;
 
 use buffer::Bytes;
@@ -10,8 +11,8 @@ ghost use mathlib.Core.Path.{_≡_};
 ghost use mathlib.Core.List.{[]};
 ghost use lib.ListN.{length};
 ghost use Rattle.machine.specs.State.{stateLength};
-ghost use Rattle.machine.specs.Machine.{modelLength, listingLength, lists};
-ghost use Rattle.buffers.specs.Effect.{machineIn, leaves, openEffect, listEffect};
+ghost use Rattle.machine.specs.Machine.{modelLength, listingLength, lists, stepsOn};
+ghost use Rattle.buffers.specs.Effect.{machineIn, leaves, openEffect, listEffect, stepEffect};
 ghost use Rattle.engine.specs.Gives.{bare, filled, Gives};
 
 // What a call answers: 0 or a refusal's number; its place and branch; the listing's entries, their total, and the entry that a step took.
@@ -126,6 +127,37 @@ pub fn list(model: &[u8], state: &[i64], listing: &mut [u64]) -> Answer
     list_lent(model, state, listing)
 }
 
+// Steps over buffers of the right lengths.
+fn step_lent(model: &[u8], state: &mut [i64], listing: &mut [u64], draw: u64) -> Answer
+    requires { ⌜ (length (now model) ≡ modelLength) × (length (now state) ≡ stateLength) × (length (now listing) ≡ listingLength) ⌝ }
+    ensures { λ r. ⌜ Gives (leaves (now (model .entry)) (now (state .entry)) (now (listing .entry)) (stepsOn (machineIn (now (model .entry)) (now (state .entry))) draw)) r (now (model .entry)) (now (state .exit)) (now (listing .exit)) ⌝ }
+{
+    let found = buffer::find_text(model);
+    match found {
+        Text::Nothing => Answer::bare(11, 0, 0),
+        Text::Long(n) => {
+            let end = Bytes::FIRST + n;
+            texts::step_text(&model[Bytes::FIRST..end], state, listing, draw)
+        }
+    }
+}
+
+// Lists, then takes the entry that the draw chooses.
+pub fn step(model: &[u8], state: &mut [i64], listing: &mut [u64], draw: u64) -> Answer
+    ensures { λ r. ⌜ Gives (stepEffect (now (model .entry)) (now (state .entry)) (now (listing .entry)) draw) r (now (model .entry)) (now (state .exit)) (now (listing .exit)) ⌝ }
+{
+    if model.len() != Engine::MODEL {
+        return Answer::bare(1, 0, 0);
+    }
+    if state.len() != Engine::STATE {
+        return Answer::bare(1, 0, 0);
+    }
+    if listing.len() != Engine::LISTING {
+        return Answer::bare(1, 0, 0);
+    }
+    step_lent(model, state, listing, draw)
+}
+
 #[no_mangle]
 pub extern "C" fn matgravel_open(text: &[u8], model: &mut [u8], state: &mut [i64]) -> Answer
     ensures { λ r. ⌜ Gives (openEffect (now (text .entry)) (now (model .entry)) (now (state .entry))) r (now (model .exit)) (now (state .exit)) [] ⌝ }
@@ -138,4 +170,16 @@ pub extern "C" fn matgravel_list(model: &[u8], state: &[i64], listing: &mut [u64
     ensures { λ r. ⌜ Gives (listEffect (now (model .entry)) (now (state .entry)) (now (listing .entry))) r (now (model .entry)) (now (state .entry)) (now (listing .exit)) ⌝ }
 {
     list(model, state, listing)
+}
+
+#[no_mangle]
+pub extern "C" fn matgravel_step(
+    model: &[u8],
+    state: &mut [i64],
+    listing: &mut [u64],
+    draw: u64,
+) -> Answer
+    ensures { λ r. ⌜ Gives (stepEffect (now (model .entry)) (now (state .entry)) (now (listing .entry)) draw) r (now (model .entry)) (now (state .exit)) (now (listing .exit)) ⌝ }
+{
+    step(model, state, listing, draw)
 }

@@ -11,7 +11,7 @@ ghost use Rattle.machine.specs.State.{stateLength};
 ghost use Rattle.machine.specs.Machine.{listingLength, lists};
 ghost use Rattle.buffers.specs.Effect.{machineOver, leaves};
 ghost use Rattle.engine.specs.Gives.{Gives};
-ghost use Rattle.engine.specs.Tables.{Tables, answerOf};
+ghost use Rattle.engine.specs.Tables.{Tables, answerOf, Finds};
 
 pub struct Rows;
 
@@ -36,6 +36,39 @@ pub fn listed_answer(listed: Listed) -> Answer
     }
 }
 
+// Question 11 of a state, then 12 to 14 and its listing.
+pub fn list_state(
+    nodes: &[u64],
+    roots: &[u16],
+    scopes: &[u8],
+    sums: usize,
+    channels: usize,
+    state: &[i64],
+    listing: &mut [u64],
+) -> Listed
+    requires { ⌜ ((m : Resolved.Model) × Tables (now nodes) (now roots) (now scopes) sums channels m) × (length (now state) ≡ stateLength) × (length (now listing) ≡ listingLength) ⌝ }
+    ensures { λ r. ⌜ ((m : Resolved.Model) → Tables (now (nodes .entry)) (now (roots .entry)) (now (scopes .entry)) sums channels m → Finds m (now (state .entry)) (now (listing .entry)) r (now (listing .exit))) ⌝ }
+{
+    if !state::is_state(state, scopes, sums, channels) {
+        return Listed::Refused(11, 0, 0);
+    }
+    let mut heads = [0u64; Rows::MOST];
+    let mut numbers = [0i64; Rows::NUMBERS];
+    let mut firsts = [0u16; Rows::BUCKETS];
+    let mut nexts = [0u16; Rows::MOST];
+    listing::list_all(
+        nodes,
+        roots,
+        scopes,
+        state,
+        &mut heads,
+        &mut numbers,
+        &mut firsts,
+        &mut nexts,
+        listing,
+    )
+}
+
 // Lists over the tables of a model.
 pub fn list_model(
     nodes: &[u64],
@@ -49,23 +82,6 @@ pub fn list_model(
     requires { ⌜ ((m : Resolved.Model) × Tables (now nodes) (now roots) (now scopes) sums channels m) × (length (now state) ≡ stateLength) × (length (now listing) ≡ listingLength) ⌝ }
     ensures { λ r. ⌜ ((m : Resolved.Model) (bs : List ℕ) → Tables (now (nodes .entry)) (now (roots .entry)) (now (scopes .entry)) sums channels m → Gives (leaves bs (now (state .entry)) (now (listing .entry)) (lists (machineOver (now (state .entry)) (some m)))) r bs (now (state .entry)) (now (listing .exit))) ⌝ }
 {
-    if !state::is_state(state, scopes, sums, channels) {
-        return Answer::bare(11, 0, 0);
-    }
-    let mut heads = [0u64; Rows::MOST];
-    let mut numbers = [0i64; Rows::NUMBERS];
-    let mut firsts = [0u16; Rows::BUCKETS];
-    let mut nexts = [0u16; Rows::MOST];
-    let listed = listing::list_all(
-        nodes,
-        roots,
-        scopes,
-        state,
-        &mut heads,
-        &mut numbers,
-        &mut firsts,
-        &mut nexts,
-        listing,
-    );
+    let listed = list_state(nodes, roots, scopes, sums, channels, state, listing);
     listed_answer(listed)
 }

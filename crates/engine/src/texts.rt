@@ -11,7 +11,7 @@ ghost use lib.ListN.{length};
 ghost use Rattle.model.specs.Opening.{opening};
 ghost use Rattle.model.specs.Held.{held};
 ghost use Rattle.machine.specs.State.{stateLength};
-ghost use Rattle.machine.specs.Machine.{modelLength, listingLength, lists};
+ghost use Rattle.machine.specs.Machine.{modelLength, listingLength, lists, stepsOn};
 ghost use Rattle.buffers.specs.Effect.{machineOver, leaves, opensWith};
 ghost use Rattle.engine.specs.Gives.{Gives};
 
@@ -95,6 +95,51 @@ pub fn list_text(text: &[u8], state: &[i64], listing: &mut [u64]) -> Answer
                 found.channels,
                 state,
                 listing,
+            )
+        }
+    }
+}
+
+// Steps over a text that a model buffer holds.
+pub fn step_text(text: &[u8], state: &mut [i64], listing: &mut [u64], draw: u64) -> Answer
+    requires { ⌜ (length (now state) ≡ stateLength) × (length (now listing) ≡ listingLength) ⌝ }
+    ensures { λ r. ⌜ ((bs : List ℕ) → Gives (leaves bs (now (state .entry)) (now (listing .entry)) (stepsOn (machineOver (now (state .entry)) (held (now (text .entry)))) draw)) r bs (now (state .exit)) (now (listing .exit))) ⌝ }
+{
+    let mut kinds = [0u8; Limits::TEXT];
+    let mut places = [0u16; Limits::TEXT];
+    let mut sizes = [0u16; Limits::TEXT];
+    let mut low = [0u64; question::Limits::TOKENS];
+    let mut high = [0u64; question::Limits::TOKENS];
+    let mut nodes = [0u64; question::Limits::TOKENS];
+    let mut roots = [0u16; question::Limits::TOKENS];
+    let mut scopes = [0u8; question::Limits::TOKENS];
+    let mut names = [0u16; question::Limits::TOKENS];
+    let read = opening::read_model(
+        text,
+        &mut kinds,
+        &mut places,
+        &mut sizes,
+        &mut low,
+        &mut high,
+        &mut nodes,
+        &mut roots,
+        &mut scopes,
+        &mut names,
+    );
+    match read {
+        Held::Refused(_, _) => Answer::bare(11, 0, 0),
+        Held::Model(found, _) => {
+            crate::steps::step_model(
+                &nodes,
+                &roots,
+                &scopes,
+                found.root,
+                found.variables,
+                found.sums,
+                found.channels,
+                state,
+                listing,
+                draw,
             )
         }
     }

@@ -1,62 +1,12 @@
--- Question 11 by the state's test, then what the listing gives.
-use mathlib.Core.Path.{refl, sym, _∙_}
+-- The answer that the listing gives.
 use denote.Ref.{now}
+use Rattle.engine.proofs.Shows.{finds-give}
 use borrow.Author.Needs.{needs}
-use Rattle.state.proofs.Tests.{refused, passed}
 use Rattle.engine.proofs.listings.list_model.Statement.{statement}
 use Rattle.engine.proofs.listings.list_model.Tie as tie
-use Rattle.engine.proofs.Shows.{few-taken, stateOf, numbers-back, world, machine-is, machine-closed, eleven-gives, lists-give}
 
-is-state-requires : tie.Need-is-state-requires
-is-state-requires c κs =
-    let T = now (c .before .before .before .before .args .nodes) in
-    let R = now (c .before .before .before .before .args .roots) in
-    let S = now (c .before .before .before .before .args .scopes) in
-    let n = c .before .before .before .before .args .sums in
-    let k = c .before .before .before .before .args .channels in
-    let Z = now (c .before .before .before .before .args .state) in
-    let m = c .before .before .before .before .pre .0 .0 in
-    let h = c .before .before .before .before .pre .0 .1 in
-    (c .before .before .before .before .pre .1, h .represents .scopes-fit, few-taken T R S n k m h)
-
-bare-requires : tie.Need-bare-requires
-bare-requires c κs = search needs
-
-returns : tie.Need-returns
-returns c =
-    λ m bs h.
-    let T = now (c .before .before .before .before .before .before .before .args .nodes) in
-    let R = now (c .before .before .before .before .before .before .before .args .roots) in
-    let S = now (c .before .before .before .before .before .before .before .args .scopes) in
-    let n = c .before .before .before .before .before .before .before .args .sums in
-    let k = c .before .before .before .before .before .before .before .args .channels in
-    let Z = now (c .before .before .before .before .before .before .before .args .state) in
-    rw (machine-closed T R S n k m h Z (sym (c .before .before .is-state .ensures) ∙ refused _ (c .before .if1 .taken)), c .bare .ensures) (eleven-gives bs Z (now (c .before .before .before .before .before .before .before .args .listing)))
-
-slice-aggregate-list-all : tie.Need-slice-aggregate-list-all
-slice-aggregate-list-all c = search needs
-
-slice-aggregate-list-all-2 : tie.Need-slice-aggregate-list-all-2
-slice-aggregate-list-all-2 c = search needs
-
-slice-aggregate-list-all-3 : tie.Need-slice-aggregate-list-all-3
-slice-aggregate-list-all-3 c = search needs
-
-slice-aggregate-list-all-4 : tie.Need-slice-aggregate-list-all-4
-slice-aggregate-list-all-4 c = search needs
-
-list-all-requires : tie.Need-list-all-requires
-list-all-requires c κs =
-    let T = now (c .before .before .before .before .before .before .before .before .before .before .before .args .nodes) in
-    let R = now (c .before .before .before .before .before .before .before .before .before .before .before .args .roots) in
-    let S = now (c .before .before .before .before .before .before .before .before .before .before .before .args .scopes) in
-    let n = c .before .before .before .before .before .before .before .before .before .before .before .args .sums in
-    let k = c .before .before .before .before .before .before .before .before .before .before .before .args .channels in
-    let Z = now (c .before .before .before .before .before .before .before .before .before .before .before .args .state) in
-    let m = c .before .before .before .before .before .before .before .before .before .before .before .pre .0 .0 in
-    let h = c .before .before .before .before .before .before .before .before .before .before .before .pre .0 .1 in
-    let e = sym (c .before .before .before .before .before .before .is-state .ensures) ∙ passed _ (c .before .before .before .before .before .if1 .left) in
-    ((m, stateOf T R S n k m h Z, world T R S n k m h Z (c .before .before .before .before .before .before .before .before .before .before .before .pre .1) e), refl, refl, refl, refl, c .before .before .before .before .before .before .before .before .before .before .before .pre .2)
+list-state-requires : tie.Need-list-state-requires
+list-state-requires c κs = search needs
 
 listed-answer-requires : tie.Need-listed-answer-requires
 listed-answer-requires c κs = search needs
@@ -64,31 +14,10 @@ listed-answer-requires c κs = search needs
 same-length : tie.Need-same-length
 same-length c = search needs
 
-returns-2 : tie.Need-returns-2
-returns-2 c =
-    λ m bs h.
-    let T = now (c .before .before .before .before .before .before .before .before .before .before .before .before .before .before .before .before .before .before .before .args .nodes) in
-    let R = now (c .before .before .before .before .before .before .before .before .before .before .before .before .before .before .before .before .before .before .before .args .roots) in
-    let S = now (c .before .before .before .before .before .before .before .before .before .before .before .before .before .before .before .before .before .before .before .args .scopes) in
-    let n = c .before .before .before .before .before .before .before .before .before .before .before .before .before .before .before .before .before .before .before .args .sums in
-    let k = c .before .before .before .before .before .before .before .before .before .before .before .before .before .before .before .before .before .before .before .args .channels in
-    let Z = now (c .before .before .before .before .before .before .before .before .before .before .before .before .before .before .before .before .before .before .before .args .state) in
-    let e = sym (c .before .before .before .before .before .before .before .before .before .before .before .before .before .before .is-state .ensures) ∙ passed _ (c .before .before .before .before .before .before .before .before .before .before .before .before .before .if1 .left) in
-    let s = stateOf T R S n k m h Z in
-    rw (machine-is T R S n k m h Z (c .before .before .before .before .before .before .before .before .before .before .before .before .before .before .before .before .before .before .before .pre .1) e, c .listed-answer .ensures) (lists-give bs Z (now (c .before .before .before .before .before .before .before .before .before .before .before .before .before .before .before .before .before .before .before .args .listing)) m s (c .before .before .before .before .before .before .before .list-all .result) _ (numbers-back T R S n k m h Z (c .before .before .before .before .before .before .before .before .before .before .before .before .before .before .before .before .before .before .before .pre .1) e) (c .before .before .before .before .before .before .before .list-all .ensures m s (world T R S n k m h Z (c .before .before .before .before .before .before .before .before .before .before .before .before .before .before .before .before .before .before .before .pre .1) e)))
+returns : tie.Need-returns
+returns c =
+    λ m bs h. rw (c .listed-answer .ensures) (finds-give bs (now (c .before .before .before .before .before .before .before .before .before .args .state)) (now (c .before .before .before .before .before .before .before .before .before .args .listing)) m (c .before .before .before .list-state .result) _ (c .before .before .before .list-state .ensures m h))
 
 pub list-model-spec : {M : Type 1} → statement M
 list-model-spec =
-    tie.close
-    (tie.spec
-    is-state-requires
-    bare-requires
-    returns
-    slice-aggregate-list-all
-    slice-aggregate-list-all-2
-    slice-aggregate-list-all-3
-    slice-aggregate-list-all-4
-    list-all-requires
-    listed-answer-requires
-    same-length
-    returns-2)
+    tie.close (tie.spec list-state-requires listed-answer-requires same-length returns)

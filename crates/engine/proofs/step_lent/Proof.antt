@@ -1,0 +1,81 @@
+-- The text that the model buffer holds, or 11.
+use native.Mathlib.Omega.{arith}
+use denote.Ref.{now}
+use Rattle.engine.specs.Text.{TextOf, TextIn}
+use Rattle.engine.proofs.Drawn.{eleven-steps}
+use Rattle.engine.proofs.Lengths.{none-in, text-in}
+use borrow.Author.Needs.{needs}
+use Rattle.engine.proofs.step_lent.Statement.{statement}
+use Rattle.engine.proofs.step_lent.Tie as tie
+
+find-text-requires : tie.Need-find-text-requires
+find-text-requires c κs = search needs
+
+enum-told : tie.Need-enum-told
+enum-told c = search needs
+
+bare-requires : tie.Need-bare-requires
+bare-requires c κs = search needs
+
+enum-known-found : tie.Need-enum-known-found
+enum-known-found c = search needs
+
+add-end : tie.Need-add-end
+unfolding TextIn
+add-end c =
+    let h : TextOf (now (c .before .before .before .before .before .before .args .model)) (c .before .found .given .0 .0) = rw (c .before .found .given .1) at (c .before .before .before .find-text .ensures) in
+    omega (arith, h .short)
+
+sub-step-text : tie.Need-sub-step-text
+sub-step-text c = search needs
+
+part-step-text-start : tie.Need-part-step-text-start
+part-step-text-start c = search needs
+
+part-step-text-end : tie.Need-part-step-text-end
+unfolding TextIn
+part-step-text-end c =
+    let h : TextOf (now (c .before .before .before .before .before .before .args .model)) (c .before .found .given .0 .0) = rw (c .before .found .given .1) at (c .before .before .before .find-text .ensures) in
+    omega (arith, h .short, c .before .before .before .before .before .before .pre .0)
+
+step-text-requires : tie.Need-step-text-requires
+step-text-requires c κs =
+    (c .before .before .before .before .before .before .before .before .before .pre .1, c .before .before .before .before .before .before .before .before .before .pre .2)
+
+returns : tie.Need-returns
+unfolding TextIn
+returns c =
+    let B = now (c .before .before .before .before .before .before .args .model) in
+    let Z = now (c .before .before .before .before .before .before .args .state) in
+    rw (c .bare .ensures, none-in B Z (rw (c .before .enum-told .given .1) at (c .before .before .before .find-text .ensures))) (eleven-steps B Z (now (c .before .before .before .before .before .before .args .listing)) (c .before .before .before .before .before .before .args .draw))
+
+same-length : tie.Need-same-length
+same-length c = search needs
+
+same-length-2 : tie.Need-same-length-2
+same-length-2 c = search needs
+
+returns-2 : tie.Need-returns-2
+unfolding TextIn
+returns-2 c =
+    let h : TextOf (now (c .before .before .before .before .before .before .before .before .before .before .before .before .before .args .model)) (c .before .before .before .before .before .before .before .before .found .given .0 .0) = rw (c .before .before .before .before .before .before .before .before .found .given .1) at (c .before .before .before .before .before .before .before .before .before .before .find-text .ensures) in
+    let B = now (c .before .before .before .before .before .before .before .before .before .before .before .before .before .args .model) in
+    rw (text-in B (now (c .before .before .before .before .before .before .before .before .before .before .before .before .before .args .state)) (c .before .before .before .before .before .before .before .before .found .given .0 .0) h) (c .before .before .before .step-text .ensures B)
+
+pub step-lent-spec : {M : Type 1} → statement M
+step-lent-spec =
+    tie.close
+    (tie.spec
+    find-text-requires
+    enum-told
+    bare-requires
+    enum-known-found
+    add-end
+    sub-step-text
+    part-step-text-start
+    part-step-text-end
+    step-text-requires
+    returns
+    same-length
+    same-length-2
+    returns-2)

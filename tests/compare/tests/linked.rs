@@ -1,12 +1,13 @@
-//! The library's engine against the second engine on the fixed seeds; the programs and the C
-//! example against what the second engine makes of the same calls.
+//! The library's engine against the second engine on the fixed seeds; the C example against what
+//! the second engine makes of the same calls; the stack that the header names.
 #![cfg(feature = "engine")]
 
 use compare::linked::ENGINE;
 use compare::met::Met;
-use compare::{lists, specimens, with_stack};
-use second::generate::SECOND;
+use compare::{lists, specimens, texts, with_stack};
+use second::generate::{Buffers, SECOND};
 use second::script::{self, Form};
+use second::{LISTING, MODEL, STATE};
 use std::path::{Path, PathBuf};
 use std::process::{Command, Stdio};
 
@@ -59,6 +60,37 @@ fn compiled(source: &Path, name: &str) -> PathBuf {
     program
 }
 
+/// A number that the header defines.
+fn defined(name: &str) -> usize {
+    let header = std::fs::read_to_string(repository().join("include/matgravel.h")).expect("the header is there");
+    let line = header.lines().find_map(|line| line.strip_prefix(&format!("#define MATGRAVEL_{name} ")));
+    line.and_then(|number| number.parse().ok()).expect("a number")
+}
+
+/// Opens, lists and steps the longest texts on a thread with the stack that the header names. A
+/// call that needs more ends the test by a signal.
+#[test]
+fn the_stack_that_the_header_names_is_enough() {
+    for which in 0..texts::LONG {
+        let calls = move || {
+            let text = texts::longest(which);
+            let mut buffers = Buffers::default();
+            let (model, state) = (&mut buffers.model[..MODEL], &mut buffers.state[..STATE]);
+            let opened = (ENGINE.open)(&text, model, state);
+            // The text in the buffer, though it may be none that opens.
+            model[..2].copy_from_slice(&(text.len() as u16).to_le_bytes());
+            model[2..2 + text.len()].copy_from_slice(&text);
+            let listing = &mut buffers.listing[..LISTING];
+            let listed = (ENGINE.list)(model, state, listing);
+            let stepped = (ENGINE.step)(model, state, listing, 0);
+            [opened, listed, stepped].map(|answer| answer.number)
+        };
+        let thread = std::thread::Builder::new().stack_size(defined("STACK")).spawn(calls).expect("a thread");
+        let [opened, listed, _] = thread.join().expect("no panic");
+        assert!((opened == 0 || opened >= 5) && (listed == 0 || listed >= 11), "{which}: {opened} {listed}");
+    }
+}
+
 /// The example's script is one that the second engine accepts to its end.
 #[test]
 fn the_c_example_runs_as_the_second_engine_does() {
@@ -86,23 +118,4 @@ fn the_program_of_the_users_page_runs() {
     let run = printed(&mut Command::new(compiled(&source, "using")), b"");
     assert_eq!(run.lines().count(), 7, "{run}");
     assert_eq!(run.lines().last(), Some("ended with 15"));
-}
-
-/// The program `calls`, which `rt check calls` builds.
-#[test]
-fn the_program_calls_prints_what_the_second_engine_does() {
-    let program = repository().join("target/bin/calls");
-    assert!(program.exists(), "{} isn't there: run `rt check calls` first", program.display());
-    let sheet = specimens::SHEET;
-    let scripts = [
-        format!("list\nopen {}\n{sheet}\nstate\nlist\nstep 325000000\nstep 300000000\nstate\n", sheet.len()),
-        "open 3\na\nb\nstate\nlist \nlist\n".to_string(),
-        "step 18446744073709551616\n".to_string(),
-    ];
-    for given in scripts {
-        assert_eq!(
-            printed(&mut Command::new(&program), given.as_bytes()),
-            script::print(&SECOND, given.as_bytes(), Form::Plain)
-        );
-    }
 }

@@ -17,7 +17,8 @@ use Rattle.state.specs.Decode.{decode}
 use Rattle.state.proofs.Over.{good-fits, fits-good, few-scopes}
 use Rattle.state.proofs.Image.{decode-fits, decode-numbers, numbers-pass, decode-back}
 use Rattle.buffers.specs.Held.{modelBytes, heldIn}
-use Rattle.buffers.specs.Effect.{scopesOf, machineOver, machineIn}
+use Rattle.state.specs.Fits.{scopesOf}
+use Rattle.buffers.specs.Effect.{machineOver, machineIn}
 use Rattle.buffers.proofs.Held.{text-held, held-fits, fresh-holds-none}
 
 -- the numbers of a state over a model that a buffer holds

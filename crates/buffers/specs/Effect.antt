@@ -1,6 +1,6 @@
 -- What open, list and step answer, and leave in the buffers that they are lent, whatever these hold (01, Opening a text, Listing and stepping). Definitions only.
 use mathlib.Core.Bool.{cond, _&&_}
-use mathlib.Core.List.{List, [], map}
+use mathlib.Core.List.{List, []}
 use mathlib.Core.Option.{Option, none, some}
 use Prim.Native.Nat.{ℕ}
 use lib.Dec.{eqb}
@@ -8,6 +8,7 @@ use lib.IntN.{ℤ, pos}
 use lib.ListN.{length, replicate}
 use Rattle.model.specs.Resolved
 use Rattle.model.specs.Opening.{Opening, refused, opened, opening}
+use Rattle.state.specs.Fits.{scopesOf}
 use Rattle.state.specs.Test.{isState}
 use Rattle.state.specs.Decode.{decode}
 use Rattle.machine.specs.State.{State, stateLength, stateNumbers}
@@ -23,10 +24,6 @@ pub record Effect : Type 0 where
   pub listing : List ℕ
 
 -- ---- which machine two buffers hold
-
--- 01, State: the locals of each sum
-abbrev pub scopesOf : Resolved.Model → List ℕ
-scopesOf m = map (λ (s : Resolved.Sum). s .locals) (m .sums)
 
 -- 01, Listing, 11: is the state one over the model?
 unfoldable pub machineOver : List ℤ → Option Resolved.Model → Machine

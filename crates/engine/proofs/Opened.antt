@@ -9,7 +9,8 @@ use Rattle.machine.specs.Offer.{Process}
 use Rattle.machine.specs.State.{State, stateLength, stateNumbers, emptyState}
 use Rattle.machine.specs.Machine.{startProcesses, openedState}
 use Rattle.machine.proofs.Stays.{opened-good}
-use Rattle.state.proofs.Over.{scopesOf, good-fits, few-scopes}
+use Rattle.state.specs.Fits.{scopesOf}
+use Rattle.state.proofs.Over.{good-fits, few-scopes}
 use Rattle.state.proofs.Change.{empty-numbers}
 use Rattle.engine.specs.Start.{Towards, ItemsFit, Opens}
 use Rattle.engine.proofs.Nodes.{ItemsAdd}

@@ -24,8 +24,8 @@ use Rattle.machine.proofs.Everys.{every-in, in-every}
 use Rattle.machine.proofs.Branches.{map-nth, nth-get, get-nth}
 use Rattle.state.specs.Test.{isState}
 use Rattle.state.specs.Decode.{decode}
-use Rattle.state.specs.Fits.{FewLocals}
-use Rattle.state.proofs.Over.{scopesOf, fits-good, few-scopes}
+use Rattle.state.specs.Fits.{scopesOf, FewLocals}
+use Rattle.state.proofs.Over.{fits-good, few-scopes}
 use Rattle.state.proofs.Entries.{get-below}
 use Rattle.state.proofs.Image.{decode-fits, decode-numbers}
 use Rattle.offers.specs.Collect.{FewBranches, World}

@@ -21,7 +21,8 @@ use Rattle.machine.specs.State.{State, GoodPair, padded, pairNumbers}
 use Rattle.machine.proofs.Branches.{get-nth}
 use Rattle.machine.proofs.Everys.{every-nth}
 use Rattle.state.specs.Read.{Passed, pairCount, pairRow}
-use Rattle.state.proofs.Over.{scopesOf, good-fits, few-scopes}
+use Rattle.state.specs.Fits.{scopesOf}
+use Rattle.state.proofs.Over.{good-fits, few-scopes}
 use Rattle.state.proofs.Read.{count-numbers, row-numbers}
 use Rattle.state.proofs.Entries.{pair-shape}
 use Rattle.eval.specs.Shown as shown

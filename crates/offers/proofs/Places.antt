@@ -21,7 +21,8 @@ use Rattle.machine.specs.State.{State, GoodProcess, stateNumbers}
 use Rattle.machine.proofs.Branches.{none-not-some, get-nth}
 use Rattle.machine.proofs.Everys.{every-nth}
 use Rattle.state.specs.Read.{Passed, processCount, sumAt, localsAt}
-use Rattle.state.proofs.Over.{scopesOf, good-fits, few-scopes}
+use Rattle.state.specs.Fits.{scopesOf}
+use Rattle.state.proofs.Over.{good-fits, few-scopes}
 use Rattle.state.proofs.Read.{good-passed, count-numbers, sum-numbers, locals-numbers}
 use Rattle.offers.specs.declared.Walked.the-variants as walked
 use Rattle.offers.specs.declared.Collected.the-variants.{Rows, Missing}

@@ -209,16 +209,6 @@ fn collect_branch(
     Walked::Rows(row + 1)
 }
 
-// Cell k; 0, which is no node, beyond the table's end.
-fn cell_at(nodes: &[u64], k: usize) -> u64
-    ensures { λ r. ⌜ r ≡ getD (now (nodes .entry)) k 0 ⌝ }
-{
-    if k < nodes.len() {
-        return nodes[k];
-    }
-    0
-}
-
 // Puts the offers of the branches at k into rows, counted from `branch` on.
 fn collect_branches(
     nodes: &[u64],
@@ -233,7 +223,7 @@ fn collect_branches(
     requires { ⌜ (Collect.Branched (now nodes) (length (now locals)) branch k) × (Every InRange (now locals)) × (length (now heads) ≡ rowLimit) × (length (now numbers) ≡ rowLimit * rowWidth) × (place < processLimit) × (row ≤ place * branchLimit + branch) ⌝ }
     ensures { λ r. ⌜ ((bs : List Resolved.Branch) → Settled.Branches (now (nodes .entry)) bs k → Collect.Collects (now (nodes .entry)) (now (locals .entry)) place branch row (now (heads .entry)) (now (numbers .entry)) (now (heads .exit)) (now (numbers .exit)) bs r) ⌝ }
 {
-    let cell = cell_at(nodes, k);
+    let cell = eval::cell_at(nodes, k);
     let kind = tree::kind_of(cell);
     if kind != NodeKind::CHOICE {
         return collect_branch(nodes, locals, place, branch, k, heads, numbers, row);

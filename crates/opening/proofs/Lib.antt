@@ -6,3 +6,4 @@ pub mod Judges
 pub mod Counting
 pub mod Resolves
 pub mod Models
+pub mod Same

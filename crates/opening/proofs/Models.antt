@@ -19,8 +19,9 @@ use Rattle.opening.specs.Trees.{Closed, Fitted, TreeRead}
 use Rattle.opening.specs.Sound.{Sound, NamesJudged}
 use Rattle.opening.specs.Models.{Shown, Rooted, ModelHeld, ModelRead, Opens}
 use Rattle.opening.proofs.Judges.{asks-ten, holds-model}
-use Rattle.opening.proofs.Resolves.{got-below}
+use Rattle.opening.proofs.Resolves.{got-below, yes5}
 use Rattle.settle.specs.declared.Model.{Model}
+use Rattle.settle.specs.Settles.{Settles}
 use Rattle.opening.specs.declared.Tree.{Tree}
 use Rattle.opening.specs.declared.Tree.the-variants.{Refused as TreeRefused, Fits}
 use Rattle.opening.specs.declared.Named.{Named}
@@ -44,11 +45,11 @@ module _ {text : List ℕ} {s : Syntax.Model} {kinds places low high nodes : Lis
     unfolding NamesJudged
     named-place e = let b = rw e at d in b .1
 
-    pub named-yes : {nodes′ roots scopes : List ℕ} {x : Model} {p : ℕ} → j ≡ NamedPassed p → Shown nodes′ roots scopes x (resolved (wordOf text) s) → Rooted x → ModelRead text nodes′ roots scopes (HeldModel x p)
+    pub named-yes : {nodes′ roots scopes : List ℕ} {x : Model} {p : ℕ} → j ≡ NamedPassed p → Shown nodes′ roots scopes x (resolved (wordOf text) s) → Rooted x → Settles (wordOf text) s nodes′ roots scopes x → ModelRead text nodes′ roots scopes (HeldModel x p)
     unfolding ModelRead
-    named-yes e h r =
+    named-yes e h r t =
         let v = named-sound e in
-        record { tree = s; model = resolved (wordOf text) s; holds = holds-model f v; opens = asks-ten f v; shown = h; rooted = r; place-is = named-place e }
+        record { tree = s; model = resolved (wordOf text) s; holds = holds-model f v; opens = asks-ten f v; shown = h; written = record { fits = yes5 f v; settles = t }; rooted = r; place-is = named-place e }
 
 -- ---- 2 to 9
 module _ (text kinds places low high nodes : List ℕ) (r : Tree) (d : TreeRead text kinds places low high nodes r) where
@@ -102,4 +103,4 @@ module _ {text nodes roots scopes : List ℕ} {x : Model} {p : ℕ} (g : ModelHe
     few-yes l =
         let e : k ≡ processes = c .few l in
         let h : processes ≤ processLimit = omega arith in
-        record { model = g .model; opens = g .opens ∙ simp (le-leb processes processLimit h); shown = g .shown; count-is = e }
+        record { tree = g .tree; model = g .model; opens = g .opens ∙ simp (le-leb processes processLimit h); shown = g .shown; written = g .written; count-is = e }

@@ -46,6 +46,8 @@ use Rattle.names.proofs.Contents.{of-decimal, tabled-at}
 use Rattle.names.proofs.Grounds.{world}
 use Rattle.settle.specs.Walks.{NumberSafe}
 use Rattle.settle.specs.Places.{Told, VariableSafe, Base, Resolvable}
+use Rattle.settle.specs.declared.Model.{Model}
+use Rattle.settle.specs.Settles.{Settles}
 use Rattle.settle.proofs.Lines.{system-literal}
 use Rattle.opening.specs.Trees.{Fitted}
 use Rattle.opening.specs.Sound.{Sound}
@@ -82,7 +84,7 @@ module _ {text : List ℕ} {s : Syntax.Model} {kinds places low high nodes : Lis
   ts = kindsOf (tokens text)
 
   -- ---- 5 and 7 to 9 have the answer yes
-  yes5 : Yes5 text s
+  pub yes5 : Yes5 text s
   yes5 = record { reading = f .read .reading; reads = f .read .reads; tree = sym (f .read .tree) }
 
   yes7 : Yes7 text s
@@ -177,3 +179,8 @@ module _ {text : List ℕ} {s : Syntax.Model} {kinds places low high nodes : Lis
         → Represents nodes′ roots′ scopes′ r vars defs sums channels (resolved w s)
     unfolding resolvable base world
     settled-so h = h listsOf resolvable refl
+
+    -- and the tables are told by the text
+    pub settles-so : {nodes′ roots′ scopes′ : List ℕ} {x : Model} → ((lists : Lists) (h : Resolvable low high nodes roots scopes heard lists) → lists .root ≡ root → Settles (h .base .world .word) (h .base .world .model) nodes′ roots′ scopes′ x) → Settles w s nodes′ roots′ scopes′ x
+    unfolding resolvable base world
+    settles-so h = h listsOf resolvable refl

@@ -3,3 +3,4 @@ pub mod System
 pub mod Sound
 pub mod Counts
 pub mod Models
+pub mod Same

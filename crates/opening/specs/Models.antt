@@ -7,11 +7,14 @@ use lib.ListN.{length}
 use Rattle.grammar.specs.Limit.{tokenLimit}
 use Rattle.grammar.specs.Syntax
 use Rattle.model.specs.Sites.{system}
+use Rattle.model.specs.Words.{wordOf}
 use Rattle.model.specs.Resolved
+use Rattle.model.specs.Questions.{Yes5}
 use Rattle.model.specs.Opening.{refused, opened, bytePlace, systemToken, startProcesses, crowded, asked, opening}
 use Rattle.model.specs.Held.{held}
 use Rattle.tables.specs.Represents.{Represents}
 use Rattle.settle.specs.declared.Model.{Model}
+use Rattle.settle.specs.Settles.{Settles}
 use Rattle.opening.specs.Trees.{Closed}
 use Rattle.opening.specs.declared.Held.{Held}
 use Rattle.opening.specs.declared.Held.the-variants.{Refused as HeldRefused, Model as HeldModel}
@@ -28,6 +31,11 @@ pub record SumRoom (roots scopes names : List ℕ) : Type 0 where
 abbrev pub Shown : (nodes roots scopes : List ℕ) → Model → Resolved.Model → Type 0
 Shown nodes roots scopes x m = Represents nodes roots scopes (x .root) (x .variables) (x .definitions) (x .sums) (x .channels) m
 
+-- the tree is the text's, and what the tables hold is told by the text's words and its tree, whatever they held before
+pub record Written (text : List ℕ) (tree : Syntax.Model) (nodes roots scopes : List ℕ) (x : Model) : Type 0 where
+  pub fits : Yes5 text tree
+  pub settles : Settles (wordOf text) tree nodes roots scopes x
+
 -- its variables and definitions stand in the nodes from the root down, and the system line below them
 abbrev pub Rooted : Model → Type 0
 Rooted x = x .variables + x .definitions ≤ x .root
@@ -39,6 +47,7 @@ pub record ModelHeld (text nodes roots scopes : List ℕ) (x : Model) (p : ℕ) 
   pub holds : held text ≡ some model
   pub opens : opening text ≡ asked text 10 (crowded tree model) (opened model)
   pub shown : Shown nodes roots scopes x model
+  pub written : Written text tree nodes roots scopes x
   pub rooted : Rooted x
   pub place-is : p ≡ bytePlace text (systemToken (system tree))
 
@@ -49,9 +58,11 @@ ModelRead text nodes roots scopes (HeldModel x p) = ModelHeld text nodes roots s
 
 -- 01, all questions have the answer yes: the tables hold the opened model, which starts with k processes
 pub record ModelOpened (text nodes roots scopes : List ℕ) (x : Model) (k : ℕ) : Type 0 where
+  pub tree : Syntax.Model
   pub model : Resolved.Model
   pub opens : opening text ≡ opened model
   pub shown : Shown nodes roots scopes x model
+  pub written : Written text tree nodes roots scopes x
   pub count-is : k ≡ startProcesses (model .definitions) (model .starts)
 
 -- 01, Opening a text, 2 to 10: the first no with its place, or the model

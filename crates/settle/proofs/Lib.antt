@@ -15,3 +15,4 @@ pub mod Leaves
 pub mod Stands
 pub mod Resolving
 pub mod Cells
+pub mod Same

@@ -43,8 +43,13 @@ module _ (w : ℕ → List ℕ) (vs : List Variable) (ds : List Definition) (cs 
     pub names : (i : ℕ) → first ≤ i → i ≤ last → (more : List ℕ) × (cs ≡ trace i .seen ++ more)
     pub few : length cs ≤ field
 
+  -- the node of sum n
+  abbrev pub SumAt : ℕ → Type 0
+  SumAt n = (i : ℕ) × (first ≤ i) × (i < last) × IsSum i × (numberAt i ≡ n)
+
   -- the resolved sums xs stand in the tables of sums, from number a on
   pub record Mark (s : Resolved.Sum) (n : ℕ) : Type 0 where
+    pub node : SumAt n
     pub branches : settled.Branches t′ (s .branches) (getD roots n 0)
     pub scope : getD scopes n 0 ≡ s .locals
 
@@ -264,7 +269,7 @@ module _ (w : ℕ → List ℕ) (vs : List Variable) (ds : List Definition) (cs 
         mark x =
             let s = x .sums k reached l here in
             let q : getD roots a 0 ≡ r = ap (λ (i : ℕ). getD roots i 0) (sym number) ∙ s .0 ∙ omega arith in
-            record { branches = rw q (m .holds x); scope = ap (λ (i : ℕ). getD scopes i 0) (sym number) ∙ s .1 ∙ ap (λ (y : Point). length (y .scope)) at-node }
+            record { node = (k, reached, l, here, number); branches = rw q (m .holds x); scope = ap (λ (i : ℕ). getD scopes i 0) (sym number) ∙ s .1 ∙ ap (λ (y : Point). length (y .scope)) at-node }
 
         only : (i : ℕ) → i ≤ k → (i ≤ r → ⊥) → i ≡ k
         only i h c = omega (arith, c)

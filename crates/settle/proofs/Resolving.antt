@@ -7,8 +7,8 @@ use native.Mathlib.Decide.{decLe, ℕ-discrete}
 use native.Mathlib.Omega.{arith}
 use borrow.Author.Tests.{eqb-true, eq-eqb, ne-eqb}
 use lib.Dec.{eqb}
-use lib.ListN.{length, getD, take, set, length-set}
-use lib.Seq.{getD-set-same, getD-set-other}
+use lib.ListN.{length, getD, take, set, length-set, length-take}
+use lib.Seq.{getD-take, getD-set-same, getD-set-other}
 use Rattle.grammar.specs.Syntax
 use Rattle.tree.specs.Node as node
 use Rattle.tree.specs.Node.{field, kindOf, tokenOf, leftOf, thirdOf, numberKind}
@@ -19,6 +19,7 @@ use Rattle.names.specs.declared.Question.the-variants.{Given}
 use Rattle.names.specs.declared.Lists.{Lists}
 use Rattle.names.specs.declared.Scope.{Scope}
 use Rattle.tree.specs.Table
+use Rattle.tree.proofs.Holds.{model-interval}
 use Rattle.names.specs.Lists.{Gathered}
 use Rattle.model.specs.Resolved
 use Rattle.names.specs.Settings.{Scoped}
@@ -28,7 +29,9 @@ use Rattle.settle.specs.declared.Walk.{Walk}
 use Rattle.settle.specs.Walks.{Role, roleOf, roleAt, Point, paramsAt, cellOf, step, pointAt, begun}
 use Rattle.settle.specs.Walks as role
 use Rattle.settle.specs.Places.{Told, Base, Lookup, Kept, kindsIn, definitionsOf, Knows, markedBy, firstNode, lineNode, Standing, Stepped, Resolvable}
-use Rattle.settle.proofs.Whole.{steps-on, trace-begun, names-few, numbers-few, definitions-below, node-safe, number-below, node-linked, numbers-apart, line-after, sums-after, names-after, represented}
+use Rattle.settle.proofs.Whole.{steps-on, trace-begun, names-few, numbers-few, definitions-below, node-safe, number-below, node-linked, numbers-apart, line-after, sums-after, names-after, sum-node, represented}
+use Rattle.settle.specs.Settles.{SumNode, lineIn, Settles}
+use Rattle.settle.proofs.Same.{walked-alike, cell-alike}
 use Rattle.settle.proofs.Roles.{Kinded, as-whole, as-negative, as-name, as-number, as-scale, as-action, as-ending, as-sum, as-call, as-definition, as-start, as-counted, as-plain, kinded}
 
 sum-kind : (κ : ℕ) → roleOf κ ≡ role.sum → κ ≡ 49
@@ -75,6 +78,9 @@ marked-other c xs v n f = by (eqb (kindOf c) 49) refl
 
 represents-as : {nodes roots scopes : List ℕ} {r r′ v v′ d d′ n n′ c c′ : ℕ} {x : Resolved.Model} → r ≡ r′ → v ≡ v′ → d ≡ d′ → n ≡ n′ → c ≡ c′ → Represents nodes roots scopes r v d n c x → Represents nodes roots scopes r′ v′ d′ n′ c′ x
 represents-as e f g k l z = rw (e, f, g, k, l) at z
+
+settles-as : {w : ℕ → List ℕ} {m : Syntax.Model} {nodes roots scopes : List ℕ} {r r′ v d n c : ℕ} → r ≡ r′ → Settles w m nodes roots scopes (record { root = r; variables = v; definitions = d; sums = n; channels = c }) → Settles w m nodes roots scopes (record { root = r′; variables = v; definitions = d; sums = n; channels = c })
+settles-as e z = rw e at z
 
 module _ {low high t roots₀ scopes₀ heard₀ : List ℕ} {lists : Lists} (h : Resolvable low high t roots₀ scopes₀ heard₀ lists) where
   abbrev w : ℕ → List ℕ
@@ -232,6 +238,70 @@ module _ {low high t roots₀ scopes₀ heard₀ : List ℕ} {lists : Lists} (h 
       (λ j f l. y .done j (omega (arith, first-is)) l) (λ j f l r. y .sums j (omega (arith, first-is)) l r) (λ j l. y .ahead j l)
       (omega (arith, c .0, a, x .roots-size, h .roots-room)) (omega (arith, c .0, a, x .scopes-size, h .scopes-room)))
 
+  -- ---- the tables are told by the words and the tree
+
+  -- the tree's nodes and no more
+  abbrev table : List ℕ
+  table = take (lists .root + 1) t
+
+  -- the system line's node, the last of the walk
+  abbrev lastNode : ℕ
+  lastNode = lineIn m (lists .root)
+
+  table-at : (i : ℕ) → i ≤ lists .root → getD table i 0 ≡ getD t i 0
+  table-at i l = getD-take (lists .root + 1) t i 0 (omega arith)
+
+  point-same : (i : ℕ) → i ≤ lastNode + 1 → pointAt w vs ds table i ≡ point i
+  unfolding pointAt
+  point-same i l =
+      let T = Told low w in
+      let b = definitions-below w m t (lists .root) (h .faultless) (h .new) T (h .decimals) (h .literals) (h .base .world .holds) in
+      let z = line-after w m t (lists .root) (h .faultless) (h .new) T (h .decimals) (h .literals) (h .base .world .holds) t t t in
+      walked-alike w vs ds t table (length vs) (lastNode + 1) (λ j u. table-at j (omega arith))
+      (λ j f u r. node-linked w m t (lists .root) (h .faultless) (h .new) T (h .decimals) (h .literals) (h .base .world .holds) t t t j f (omega arith) r .1)
+      (i - length vs) (begun w vs ds) (omega arith)
+
+  node-of : (n : ℕ) → (i : ℕ) × (length vs ≤ i) × (i < lastNode + 1) × (roleAt t i ≡ role.sum) × (tokenOf (getD t i 0) ≡ n) → SumNode table (length vs) lastNode n
+  node-of n s =
+      let g = table-at (s .0) (omega (arith, s .2)) in
+      record { at = s .0; from = s .1; to = omega (arith, s .2); is-sum = rw g (s .3); number = rw g (s .4) }
+
+  pub settles : (nodes roots scopes heard : List ℕ) (walk : Walk) (i : ℕ) → i ≡ lineNode lists + 1 → Progress i nodes roots scopes heard walk
+      → Settles w m nodes roots scopes (record { root = lists .root; variables = lists .variables; definitions = lists .definitions; sums = walk .sums; channels = walk .channels })
+  settles nodes roots scopes heard walk i q x =
+      let T = Told low w in
+      let r = lists .root in
+      let z = line-is in
+      let e : i ≡ lastNode + 1 = omega arith in
+      let y = rw e at x in
+      let a = sums-after w m t r (h .faultless) (h .new) T (h .decimals) (h .literals) (h .base .world .holds) nodes roots scopes in
+      let c = numbers-few w m t (lastNode + 1) in
+      let sums : walk .sums ≡ countDefinitions ds = y .knows .sums ∙ a in
+      let fit : walk .sums ≤ r + 1 = omega (arith, c .0, sums, a) in
+      record {
+        table = table;
+        holds = model-interval m .keep (λ j f l. table-at j l) (h .base .world .holds);
+        size = length-take (r + 1) t ∙ omega (arith, root-in (h .base .world));
+        variables-are = h .base .world .gathered .variables-are;
+        definitions-are = h .base .world .gathered .definitions-are;
+        sums-are = y .knows .sums ∙ ap (λ (p : Point). p .sums) (sym (point-same (lastNode + 1) (omega arith)));
+        channels-are = y .knows .channels ∙ ap (λ (p : Point). length (p .seen)) (sym (point-same (lastNode + 1) (omega arith)));
+        nodes-fit = omega (arith, x .size, root-in (h .base .world));
+        resolved = λ j f l.
+            y .done j (omega (arith, first-is)) (omega arith)
+            ∙ ap (λ (p : Point). cellOf w vs ds t j p) (sym (point-same j (omega arith)))
+            ∙ sym (cell-alike w vs ds t table j (pointAt w vs ds table j) (table-at j (omega arith)));
+        before = λ j l. y .numbers j (omega (arith, first-is)) ∙ sym (table-at j (omega (arith, vs-few (h .base .world))));
+        after = λ j f l. y .ahead j (omega arith) ∙ sym (table-at j l);
+        roots-fit = omega (arith, x .roots-size, h .roots-room);
+        scopes-fit = omega (arith, x .scopes-size, h .scopes-room);
+        numbered = λ n l. node-of n (sum-node w m t r (h .faultless) (h .new) T (h .decimals) (h .literals) (h .base .world .holds) nodes roots scopes (h .base .room)
+            (λ j f l. y .done j (omega (arith, first-is)) l) (λ j f l r. y .sums j (omega (arith, first-is)) l r) (λ j l. y .ahead j l)
+            (omega (arith, c .0, a, x .roots-size, h .roots-room)) (omega (arith, c .0, a, x .scopes-size, h .scopes-room)) n (omega arith));
+        branches = λ j f l k. let g = table-at j (omega arith) in rw g (y .sums j (omega (arith, first-is)) (omega arith) (rw g at k) .0);
+        locals = λ j f l k. let g = table-at j (omega arith) in rw g (y .sums j (omega (arith, first-is)) (omega arith) (rw g at k) .1 ∙ ap (λ (p : Point). length (p .scope)) (sym (point-same j (omega arith))));
+      }
+
 -- ---- the cases of `settle`
 
 lists-alike : {r v d r′ v′ d′ : ℕ} → r ≡ r′ → v ≡ v′ → d ≡ d′ → _≡_ {A = Lists} (record { root = r; variables = v; definitions = d }) (record { root = r′; variables = v′; definitions = d′ })
@@ -255,9 +325,13 @@ module _ {low high t a b c : List ℕ} {lists : Lists} (h : Resolvable low high 
     resolvable = subst (λ (l : Lists). Resolvable low high t a b c l) same-lists h
 
     pub settled-so : (nodes roots scopes heard : List ℕ) (walk : Walk) (i line : ℕ) → line ≡ root - r .variables - r .definitions → line < i → i ≤ line + 1
-        → ((g : Resolvable low high t a b c r) → Progress g i nodes roots scopes heard walk) → Represents nodes roots scopes root (r .variables) (r .definitions) (walk .sums) (walk .channels) (resolved (h .base .world .word) (h .base .world .model))
+        → ((g : Resolvable low high t a b c r) → Progress g i nodes roots scopes heard walk)
+        → Represents nodes roots scopes root (r .variables) (r .definitions) (walk .sums) (walk .channels) (resolved (h .base .world .word) (h .base .world .model))
+        × Settles (h .base .world .word) (h .base .world .model) nodes roots scopes (record { root = root; variables = r .variables; definitions = r .definitions; sums = walk .sums; channels = walk .channels })
     settled-so nodes roots scopes heard walk i line e l u f =
         let rr : r .root ≡ root = ap (λ (x : Lists). x .root) (sym same-lists) ∙ root-is in
         let q : i ≡ lineNode r + 1 = omega (arith, e, rr) in
-        subst (λ (k : Lists). (g : Resolvable low high t a b c k) → Represents nodes roots scopes root (r .variables) (r .definitions) (walk .sums) (walk .channels) (resolved (g .base .world .word) (g .base .world .model))) (sym same-lists)
-        (λ g. represents-as rr refl refl refl refl (finished g nodes roots scopes heard walk i q (f g))) h
+        subst (λ (k : Lists). (g : Resolvable low high t a b c k)
+        → Represents nodes roots scopes root (r .variables) (r .definitions) (walk .sums) (walk .channels) (resolved (g .base .world .word) (g .base .world .model))
+        × Settles (g .base .world .word) (g .base .world .model) nodes roots scopes (record { root = root; variables = r .variables; definitions = r .definitions; sums = walk .sums; channels = walk .channels })) (sym same-lists)
+        (λ g. (represents-as rr refl refl refl refl (finished g nodes roots scopes heard walk i q (f g)), settles-as rr (settles g nodes roots scopes heard walk i q (f g)))) h

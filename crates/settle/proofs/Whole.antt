@@ -15,7 +15,7 @@ use Rattle.model.specs.Faults.{NotNew}
 use Rattle.model.specs.Given.{meaning}
 use Rattle.model.specs.Resolved
 use Rattle.model.specs.Resolved.{isChannelName, channelNames, definitionUses, firsts, resolveStart, allSums, resolved}
-use Rattle.model.proofs.Members.{got-below}
+use Rattle.model.proofs.Members.{got-below, got-some}
 use Rattle.model.proofs.Numbered.{countDefinitions, DefinitionsFrom}
 use Rattle.model.proofs.Channels.{firsts-more}
 use Rattle.model.proofs.Resolves.{scaleOf}
@@ -25,7 +25,7 @@ use Rattle.names.proofs.Chains.{definitions-run}
 use Rattle.tables.specs.Represents.{Represents, Starts}
 use Rattle.settle.specs.Walks.{Role, roleAt, Point, paramsAt, stepBy, cellOf, step, walked, begun, pointAt}
 use Rattle.settle.specs.Walks as role
-use Rattle.settle.proofs.Moves.{Safe, IsSum, numberAt, Done, Mark, marked-at, Moved}
+use Rattle.settle.proofs.Moves.{Safe, IsSum, numberAt, Done, SumAt, Mark, marked-at, Moved}
 use Rattle.settle.proofs.Heard.{met-length}
 use Rattle.settle.specs.Literals.{SystemLiteral}
 use Rattle.settle.proofs.Definitions.{Held, held-at, after, LineFine, Ends, definitions-going}
@@ -242,6 +242,13 @@ module _ (w : ℕ → List ℕ) (m : Syntax.Model) (t : List ℕ) where
               few = let q = names-few last in let z = ap length names-after in omega arith;
             }
 
+        mark : (n : ℕ) (s : Resolved.Sum) → getElem? (allSums w vs ds cs 0 ds) n ≡ some s → Mark w vs ds cs told t t′ roots scopes trace first last s n
+        mark n s e = let z : 0 + n ≡ n = omega arith in rw z at (marked-at w vs ds cs told t t′ roots scopes trace first last (allSums w vs ds cs 0 ds) 0 n s (moved .marks done) e)
+
+        -- each sum has a node
+        pub sum-node : (n : ℕ) → n < countDefinitions ds → SumAt w vs ds cs told t t′ roots scopes trace first last n
+        sum-node n l = let s = got-some (allSums w vs ds cs 0 ds) n (omega (arith, moved .count)) in mark n (s .0) (s .1) .node
+
         pub represented : Represents t′ roots scopes root (length vs) (length ds) (countDefinitions ds) (length cs) (resolved w m)
         unfolding resolved starts
         represented =
@@ -261,6 +268,3 @@ module _ (w : ℕ → List ℕ) (m : Syntax.Model) (t : List ℕ) where
               channels-are = refl;
               starts = x .1;
             }
-          where
-            mark : (n : ℕ) (s : Resolved.Sum) → getElem? (allSums w vs ds cs 0 ds) n ≡ some s → Mark w vs ds cs told t t′ roots scopes trace first last s n
-            mark n s e = let z : 0 + n ≡ n = omega arith in rw z at (marked-at w vs ds cs told t t′ roots scopes trace first last (allSums w vs ds cs 0 ds) 0 n s (moved .marks done) e)

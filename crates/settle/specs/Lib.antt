@@ -1,3 +1,4 @@
 pub mod Walks
 pub mod Literals
 pub mod Places
+pub mod Settles

@@ -23,6 +23,7 @@ ghost use Rattle.names.specs.Settings.{Scoped};
 ghost use Rattle.tables.specs.Settled.{offset, numberCell};
 ghost use Rattle.settle.specs.Walks.{valueCell, scaleCell, nameCell, definitionOf, paramsAt, roleAt, Point, cellBy};
 ghost use Rattle.settle.specs.Places.{signed, ScaleTold, Lookup, kindsIn, wordIn, variablesIn, definitionsOf, NumberNode, placeOr, Heard, heardAfter, ChannelDone, Place, meaningAt, Hearing, metNames, NameDone, Calls, Leaf, Knows, Turn, turned, markedBy, Standing, Stepped, Resolvable};
+ghost use Rattle.settle.specs.Settles.{Settles};
 ghost use Rattle.tables.specs.Represents.{Represents};
 ghost use Rattle.names.specs.declared.Lists.{Lists};
 
@@ -415,6 +416,7 @@ pub fn settle(
     requires { ⌜ ((lists : Lists) × (lists .root ≡ root) × Resolvable (now low) (now high) (now nodes) (now roots) (now scopes) (now heard) lists) ⌝ }
     ensures { λ r. ⌜ ((lists : Lists) (h : Resolvable (now (low .entry)) (now (high .entry)) (now (nodes .entry)) (now (roots .entry)) (now (scopes .entry)) (now (heard .entry)) lists) → lists .root ≡ root → Represents (now (nodes .exit)) (now (roots .exit)) (now (scopes .exit)) (r .root) (r .variables) (r .definitions) (r .sums) (r .channels) (Resolved.resolved (h .base .world .word) (h .base .world .model))) ⌝ }
     ensures { λ r. ⌜ r .variables + r .definitions ≤ r .root ⌝ }
+    ensures { λ r. ⌜ ((lists : Lists) (h : Resolvable (now (low .entry)) (now (high .entry)) (now (nodes .entry)) (now (roots .entry)) (now (scopes .entry)) (now (heard .entry)) lists) → lists .root ≡ root → Settles (h .base .world .word) (h .base .world .model) (now (nodes .exit)) (now (roots .exit)) (now (scopes .exit)) r) ⌝ }
 {
     let lists = names::lists_of(nodes, root);
     let line = root - lists.variables - lists.definitions;

@@ -10,11 +10,7 @@ use Rattle.model.specs.Good.{Every, SumWith, GoodSum, GoodModel}
 use Rattle.machine.specs.State.{State, GoodChannel, GoodPair, GoodProcess, GoodState}
 use Rattle.machine.proofs.Branches.{nth-map, map-nth, nth-get, get-nth}
 use Rattle.machine.proofs.Everys.{every-in, in-every, every-map}
-use Rattle.state.specs.Fits.{FewLocals, FitsChannel, FitsPair, FitsProcess, Fits}
-
--- 01, State: the number of locals of each sum
-abbrev pub scopesOf : Resolved.Model → List ℕ
-scopesOf m = map (λ (s : Resolved.Sum). s .locals) (m .sums)
+use Rattle.state.specs.Fits.{scopesOf, FewLocals, FitsChannel, FitsPair, FitsProcess, Fits}
 
 module _ (m : Resolved.Model) where
   sum-fits : (n k : ℕ) → SumWith m n k → getElem? (scopesOf m) k ≡ some n

@@ -15,7 +15,7 @@ use Rattle.rules.specs.Pairs.{channelNumbers}
 use Rattle.model.specs.Good.{GoodModel}
 use Rattle.machine.specs.Offer.{Process}
 use Rattle.machine.specs.State.{State, GoodState, padded, pairNumbers, stateNumbers, stateLength}
-use Rattle.state.specs.Fits.{FewLocals, Fits}
+use Rattle.state.specs.Fits.{scopesOf, FewLocals, Fits}
 use Rattle.state.specs.Test.{at, every, rows, isBelow, isProcess, isPair, processPart, pairPart}
 use Rattle.state.specs.Decode.{processOf, pairOf, decode}
 use Rattle.state.specs.Read.{Passed, processCount, pairCount, sumAt, localsAt, pairRow}
@@ -24,7 +24,7 @@ use Rattle.state.proofs.Rows.{rows-length}
 use Rattle.state.proofs.Entries.{get-is, pair-shape, pair-row}
 use Rattle.state.proofs.Places.{row-at}
 use Rattle.state.proofs.Image.{parts, numbers-length, numbers-pass, decode-back}
-use Rattle.state.proofs.Over.{scopesOf, good-fits, few-scopes}
+use Rattle.state.proofs.Over.{good-fits, few-scopes}
 
 -- ---- lists
 drop-take : {A : Type 0} (m n k : ℕ) (l : List A) → k ≡ m + n → drop m (take k l) ≡ take n (drop m l)

@@ -1,11 +1,12 @@
 -- States over a model of which only the locals of its sums and the number of its channel names are known (01, Listing, question 11). Definitions only.
 use mathlib.Core.Path.{_≡_}
-use mathlib.Core.List.{List}
+use mathlib.Core.List.{List, map}
 use mathlib.Core.Option.{some}
 use Prim.Native.Nat.{ℕ, _≤_, _<_}
 use lib.ListN.{length, getElem?}
 use Rattle.value.specs.Range.{InRange}
 use Rattle.model.specs.Limits.{localLimit}
+use Rattle.model.specs.Resolved
 use Rattle.model.specs.Opening.{processLimit}
 use Rattle.rules.specs.Offers as offers
 use Rattle.rules.specs.Order.{Ascending}
@@ -13,6 +14,10 @@ use Rattle.rules.specs.Pairs.{Before}
 use Rattle.model.specs.Good.{Every, OneOrTwo}
 use Rattle.machine.specs.Offer.{Process}
 use Rattle.machine.specs.State.{State, pairLimit}
+
+-- 01, State: the number of locals of each sum
+abbrev pub scopesOf : Resolved.Model → List ℕ
+scopesOf m = map (λ (s : Resolved.Sum). s .locals) (m .sums)
 
 -- 01, Opening a text, 7: a sum has at most 8 locals
 abbrev pub FewLocals : List ℕ → Type 0

@@ -17,12 +17,12 @@ use Rattle.tables.specs.Settled as Settled
 use Rattle.machine.specs.Offer.{argumentsGiven, nextProcesses}
 use Rattle.machine.specs.State.{State, flatten, processNumbers, stateNumbers}
 use Rattle.machine.proofs.Continues.{next-good}
-use Rattle.state.specs.Fits.{FitsProcess}
+use Rattle.state.specs.Fits.{scopesOf, FitsProcess}
 use Rattle.state.specs.Test.{at, isBelow}
 use Rattle.state.specs.Change.{processReplaced}
 use Rattle.state.proofs.Rows.{flatten-length}
 use Rattle.state.proofs.Entries.{process-wide}
-use Rattle.state.proofs.Over.{scopesOf, good-fits}
+use Rattle.state.proofs.Over.{good-fits}
 use Rattle.state.proofs.Read.{processes-below}
 use Rattle.state.proofs.Spliced.{splice-numbers}
 use Rattle.eval.specs.declared.next.Next.{Next}

@@ -18,13 +18,13 @@ use Rattle.rules.proofs.Launched.{launch-lit, launch-counts}
 use Rattle.rules.proofs.Gather.{one-ascends}
 use Rattle.machine.specs.State.{State, GoodPair, pairNumbers, stateNumbers}
 use Rattle.machine.proofs.Full.{no-longer, overfull}
-use Rattle.state.specs.Fits.{FitsPair}
+use Rattle.state.specs.Fits.{scopesOf, FitsPair}
 use Rattle.state.specs.Read.{pairCount}
 use Rattle.state.specs.Test.{isLit, rows, pairPart}
 use Rattle.state.specs.Change.{pairRows, pairLaunched, pairKilled}
 use Rattle.state.proofs.Image.{pair-rows}
 use Rattle.state.proofs.Entries.{pair-wide}
-use Rattle.state.proofs.Over.{scopesOf, good-fits}
+use Rattle.state.proofs.Over.{good-fits}
 use Rattle.state.proofs.Lit.{lit-in, unlit-in, launch-numbers, kill-numbers}
 use Rattle.eval.specs.declared.offer.Offer.{Offer}
 use Rattle.eval.specs.Shown.{ShowsPair}

@@ -21,12 +21,12 @@ use Rattle.machine.specs.State.{State, GoodProcess, GoodPair, stateLength, pair
 use Rattle.machine.proofs.Branches.{nth-get, get-nth, nth-below}
 use Rattle.machine.proofs.Everys.{every-nth}
 use Rattle.machine.proofs.Continues.{at-good}
-use Rattle.state.specs.Fits.{Fits, FitsPair, FewLocals}
+use Rattle.state.specs.Fits.{scopesOf, Fits, FitsPair, FewLocals}
 use Rattle.state.specs.Read.{Passed, processCount, pairCount, sumAt, localsAt, pairRow}
 use Rattle.state.specs.Test.{isBelow}
 use Rattle.rules.specs.Step.{valuesAt}
 use Rattle.state.proofs.Entries.{pair-wide}
-use Rattle.state.proofs.Over.{scopesOf, good-fits, few-scopes}
+use Rattle.state.proofs.Over.{good-fits, few-scopes}
 use Rattle.state.proofs.Read.{good-passed, count-numbers, sum-numbers, locals-numbers, row-numbers}
 use Rattle.eval.specs.Held.{Held}
 use Rattle.machine.specs.Evaluate.{evalBranch}

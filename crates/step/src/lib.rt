@@ -61,22 +61,12 @@ pub struct Entered {
     pub offer: Offer,
 }
 
-// Cell k; 0, which is no node, beyond the table's end.
-fn cell_at(nodes: &[u64], k: usize) -> u64
-    ensures { λ r. ⌜ r ≡ getD (now (nodes .entry)) k 0 ⌝ }
-{
-    if k < nodes.len() {
-        return nodes[k];
-    }
-    0
-}
-
 // The root of branch j of the branches at k.
 fn branch_root(nodes: &[u64], k: usize, j: usize) -> usize
     requires { ⌜ Enter.Chain (now nodes) k j ⌝ }
     ensures { λ r. ⌜ ((bs : List Resolved.Branch) (b : Resolved.Branch) → Settled.Branches (now (nodes .entry)) bs k → Nth bs j b → Settled.Branch (now (nodes .entry)) b r) ⌝ }
 {
-    let cell = cell_at(nodes, k);
+    let cell = eval::cell_at(nodes, k);
     if tree::kind_of(cell) != NodeKind::CHOICE {
         return k;
     }

@@ -5,5 +5,6 @@ pub mod Holds
 pub mod Fields
 pub mod Once
 pub mod OnceModel
+pub mod Alike
 pub mod Grow
 pub mod Spans

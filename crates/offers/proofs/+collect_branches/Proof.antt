@@ -11,7 +11,7 @@ use borrow.Fn.PlainCycle.{Measures, is, falls, and}
 use Rattle.offers.proofs.collect_branches.Reads as collect-branches
 use Rattle.offers.proofs.collect_branches.Kinds as collect-branches-kinds
 use Rattle.offers.proofs.+collect_branches.Lts-collect_branches as collect-branches-lts
-use Rattle.offers.proofs.cell_at.Reads as cell-at-reads
+use Rattle.eval.proofs.cell_at.Reads as cell-at-reads
 use Rattle.offers.proofs.collect_branch.Reads as collect-branch-reads
 use Rattle.tree.proofs.kind_of.Reads as kind-of-reads
 use Rattle.tree.proofs.left_of.Reads as left-of-reads

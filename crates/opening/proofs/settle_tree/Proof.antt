@@ -1,6 +1,6 @@
 -- A case for each return, from Models.antt; a sound text can be settled.
 use borrow.Author.Needs.{needs}
-use Rattle.opening.proofs.Resolves.{can-settle, settled-so}
+use Rattle.opening.proofs.Resolves.{can-settle, settled-so, settles-so}
 use Rattle.opening.proofs.Models.{named-no, named-sound, named-yes}
 use Rattle.opening.proofs.settle_tree.Statement.{statement}
 use Rattle.opening.proofs.settle_tree.Tie as tie
@@ -46,7 +46,9 @@ returns-2 c =
     let room = c .before .before .before .before .before .before .before .before .before .before .before .before .before .before .before .before .before .before .before .before .before .before .before .before .before .before .before .pre .1 in
     let judged = c .before .before .before .before .before .before .before .before .before .before .before .before .before .before .before .before .judge-tree .ensures _ fitted in
     let passed = c .before .before .before .before .before .before .before .before .before .before .before .before .before .before .judged2 .given .1 in
-    named-yes fitted judged passed (settled-so fitted (named-sound fitted judged passed) (room .roots-room) (room .scopes-room) (room .names-room) (c .before .before .before .before .before .before .before .before .settle .ensures .0)) (c .before .before .before .before .before .before .before .before .settle .ensures .1)
+    let settled = c .before .before .before .before .before .before .before .before .settle .ensures in
+    let sound = named-sound fitted judged passed in
+    named-yes fitted judged passed (settled-so fitted sound (room .roots-room) (room .scopes-room) (room .names-room) (settled .0)) (settled .1 .0) (settles-so fitted sound (room .roots-room) (room .scopes-room) (room .names-room) (settled .1 .1))
 
 pub settle-tree-spec : {M : Type 1} → statement M
 settle-tree-spec =

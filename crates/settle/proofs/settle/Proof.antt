@@ -93,7 +93,7 @@ same-length-4 c =
 returns : tie.Need-returns Inv-loop μ-loop
 returns c =
     let inside = line-inside (resolvable (c .before .before .before .before .before .before .before .before .before .before .before .before .before .before .pre .2) (c .before .before .before .before .before .before .before .before .before .before .before .before .before .before .args .root) (c .before .before .before .before .before .before .before .before .before .before .before .before .before .before .pre .1) (c .before .before .before .before .before .before .lists-of .result) (c .before .before .before .before .before .before .lists-of .ensures)) in
-    (λ l h q. settled-so h (c .before .before .before .before .before .before .before .before .before .before .before .before .before .before .args .root) q (c .before .before .before .before .before .before .lists-of .result) (c .before .before .before .before .before .before .lists-of .ensures) _ _ _ _ _ _ _ refl (omega arith) (c .before .loop .inv .1) (c .before .loop .inv .2), omega (arith, inside .0, inside .1, root-same (c .before .before .before .before .before .before .before .before .before .before .before .before .before .before .pre .2) (c .before .before .before .before .before .before .before .before .before .before .before .before .before .before .args .root) (c .before .before .before .before .before .before .before .before .before .before .before .before .before .before .pre .1) (c .before .before .before .before .before .before .lists-of .result) (c .before .before .before .before .before .before .lists-of .ensures)))
+    (λ l h q. settled-so h (c .before .before .before .before .before .before .before .before .before .before .before .before .before .before .args .root) q (c .before .before .before .before .before .before .lists-of .result) (c .before .before .before .before .before .before .lists-of .ensures) _ _ _ _ _ _ _ refl (omega arith) (c .before .loop .inv .1) (c .before .loop .inv .2) .0, (omega (arith, inside .0, inside .1, root-same (c .before .before .before .before .before .before .before .before .before .before .before .before .before .before .pre .2) (c .before .before .before .before .before .before .before .before .before .before .before .before .before .before .args .root) (c .before .before .before .before .before .before .before .before .before .before .before .before .before .before .pre .1) (c .before .before .before .before .before .before .lists-of .result) (c .before .before .before .before .before .before .lists-of .ensures)), λ l h q. settled-so h (c .before .before .before .before .before .before .before .before .before .before .before .before .before .before .args .root) q (c .before .before .before .before .before .before .lists-of .result) (c .before .before .before .before .before .before .lists-of .ensures) _ _ _ _ _ _ _ refl (omega arith) (c .before .loop .inv .1) (c .before .loop .inv .2) .1))
 
 pub settle-spec : {M : Type 1} → statement M
 settle-spec =

@@ -10,7 +10,7 @@ use borrow.Fn.PlainCycle.{Measures, is, falls, and}
 use Rattle.step.proofs.branch_root.Reads as branch-root
 use Rattle.step.proofs.branch_root.Kinds as branch-root-kinds
 use Rattle.step.proofs.+branch_root.Lts-branch_root as branch-root-lts
-use Rattle.step.proofs.cell_at.Reads as cell-at-reads
+use Rattle.eval.proofs.cell_at.Reads as cell-at-reads
 use Rattle.tree.proofs.kind_of.Reads as kind-of-reads
 use Rattle.tree.proofs.left_of.Reads as left-of-reads
 use Rattle.step.proofs.+branch_root.{statement}

@@ -1,0 +1,123 @@
+-- A script's calls do to the engine in the buffers of a run what they do to the rule machine: by induction on the rows, one call at a time.
+use mathlib.Core.Path.{_≡_, refl, sym, ap, ap₂, subst, _∙_}
+use mathlib.Core.List.{List, [], _∷_, _++_, append-assoc}
+use mathlib.Core.Option.{Option, none, some, Option·elim}
+use Prim.Native.Nat.{ℕ, suc, _+_, _-_, _*_}
+use native.Mathlib.Omega.{arith}
+use lib.ListN.{length, take, drop, length-take, length-drop}
+use lib.Seq.{length-take-le, drop-drop}
+use Rattle.machine.specs.State.{stateLength}
+use Rattle.machine.specs.Machine.{modelLength, listingLength, Machine, closed, Call, calls, answers, after}
+use Rattle.buffers.specs.Listing.{shown}
+use Rattle.buffers.specs.Calls.{fresh, Holds, zeros}
+use Rattle.buffers.proofs.Calls.{model-long, state-long}
+use Rattle.script.specs.declared.Row.{Row}
+use Rattle.script.specs.Rows.{answerWidth, Room, roomAfter, callOf, callsOf, rowsOf, callsIn}
+use Rattle.script.specs.Run.{Lent, roomOf, effectOf, answerNumbers, callLeft, nextLent, joined, runLeft}
+use Rattle.script.specs.Follows.{engineIn, answersNumbers, listingsShown, Follows}
+use Rattle.script.proofs.Front.{front-take, front-drop}
+use Rattle.script.proofs.Called.{Fits, call-fits, Done, done}
+
+-- a list whose first n numbers are all there, and whose others are as many as another's
+same-length : {A : Type 0} (n : ℕ) (l k : List A) → length (take n l) ≡ n → length (take n k) ≡ n → drop n l ≡ drop n k → length l ≡ length k
+same-length n l k e f g = omega (arith, length-take n l, length-take n k, length-drop n l, length-drop n k, ap length g)
+
+module _ (y : Machine) (c : Call) (x : Lent) (f : Fits c (roomOf x)) (h : Holds (engineIn x) y) where
+  d : Done y c x
+  d = done y c x f h
+
+  abbrev z : Lent
+  z = callLeft c x
+
+  -- the row's own answer and listing, and what stands after them
+  answer-long : length (answerNumbers (effectOf c (x .model) (x .state) (x .listings) .answer)) ≡ length (take answerWidth (x .answers))
+  unfolding answerNumbers roomOf
+  answer-long = sym (length-take-le answerWidth (x .answers) (f .answer))
+
+  answer-is : take answerWidth (z .answers) ≡ answerNumbers (calls y c .answer)
+  unfolding callLeft
+  answer-is = front-take answerWidth (answerNumbers (effectOf c (x .model) (x .state) (x .listings) .answer)) (x .answers) answer-long ∙ ap answerNumbers (d .answer)
+
+  answers-after : drop answerWidth (z .answers) ≡ drop answerWidth (x .answers)
+  unfolding callLeft
+  answers-after = front-drop answerWidth (answerNumbers (effectOf c (x .model) (x .state) (x .listings) .answer)) (x .answers) answer-long
+
+  listing-is : take listingLength (z .listings) ≡ shown (calls y c .answer .listing) (take listingLength (x .listings))
+  listing-is = ap (take listingLength) (d .listed) ∙ front-take listingLength _ (x .listings) (d .long)
+
+  listings-after : drop listingLength (z .listings) ≡ drop listingLength (x .listings)
+  listings-after = ap (drop listingLength) (d .listed) ∙ front-drop listingLength (shown (calls y c .answer .listing) (take listingLength (x .listings))) (x .listings) (d .long)
+
+  -- the room for the next row
+  make-room : ℕ → ℕ → ℕ → ℕ → Room
+  make-room m s l a = record { model = m; state = s; listings = l; answers = a }
+
+  next-room : roomOf (nextLent z) ≡ roomAfter (roomOf x)
+  unfolding roomOf nextLent roomAfter engineIn make-room
+  next-room =
+      let m : length (z .model) ≡ length (x .model) = same-length modelLength (z .model) (x .model) (model-long (d .holds)) (model-long h) (d .model-beyond) in
+      let s : length (z .state) ≡ length (x .state) = same-length stateLength (z .state) (x .state) (state-long (d .holds)) (state-long h) (d .state-beyond) in
+      let l : length (drop listingLength (z .listings)) ≡ length (x .listings) - listingLength = ap length listings-after ∙ length-drop listingLength (x .listings) in
+      let a : length (drop answerWidth (z .answers)) ≡ length (x .answers) - answerWidth = ap length answers-after ∙ length-drop answerWidth (x .answers) in
+      λ i. make-room (m i) (s i) (l i) (a i)
+
+  next-holds : Holds (engineIn (nextLent z)) (calls y c .machine)
+  unfolding engineIn nextLent
+  next-holds = d .holds
+
+  -- this call, then the others
+  more : (cs : List Call) (w : Lent) → Follows (calls y c .machine) cs (nextLent z) w → Follows y (c ∷ cs) x (joined z w)
+  unfolding joined nextLent answers after answersNumbers listingsShown engineIn
+  more cs w g =
+      let n = answerNumbers (calls y c .answer) in
+      let k : answerWidth + length cs * answerWidth ≡ suc (length cs) * answerWidth = omega arith in
+      record {
+        answered =
+            ap₂ (λ (a b : List ℕ). a ++ b) answer-is (g .answered ∙ ap (λ (l : List ℕ). answersNumbers (answers (calls y c .machine) cs) ++ drop (length cs * answerWidth) l) answers-after)
+            ∙ sym (append-assoc n (answersNumbers (answers (calls y c .machine) cs)) _)
+            ∙ ap (λ (l : List ℕ). (n ++ answersNumbers (answers (calls y c .machine) cs)) ++ l) (drop-drop (length cs * answerWidth) answerWidth (x .answers) ∙ ap (λ (i : ℕ). drop i (x .answers)) k);
+        listed = ap₂ (λ (a b : List ℕ). a ++ b) listing-is (g .listed ∙ ap (listingsShown (answers (calls y c .machine) cs)) listings-after);
+        holds = g .holds;
+        model-beyond = g .model-beyond ∙ d .model-beyond;
+        state-beyond = g .state-beyond ∙ d .state-beyond;
+      }
+
+none-follows : (y : Machine) (x : Lent) → Holds (engineIn x) y → Follows y [] x x
+unfolding answers after answersNumbers listingsShown
+none-follows y x h = record { answered = refl; listed = refl; holds = h; model-beyond = refl; state-beyond = refl }
+
+module _ (texts : List ℕ) where
+  -- the rows after the first follow, whatever it leaves
+  abbrev Rest : List Row → Type 0
+  Rest rs = (x : Lent) (y : Machine) → Holds (engineIn x) y → Follows y (callsOf texts (roomOf x) rs) x (runLeft (callsOf texts (roomOf x) rs) x)
+
+  first-follows : (r : Row) (rs : List Row) → Rest rs → Rest (r ∷ rs)
+  unfolding callsOf runLeft Option·elim
+  first-follows r rs g x y h = by (callOf texts (roomOf x) r) refl
+    where
+      cs : List Call
+      cs = callsOf texts (roomAfter (roomOf x)) rs
+
+      by : (o : Option Call) → callOf texts (roomOf x) r ≡ o → Follows y (Option·elim o [] (λ c. c ∷ cs)) x (runLeft (Option·elim o [] (λ c. c ∷ cs)) x)
+      by none e = none-follows y x h
+      by (some c) e =
+          let f = call-fits texts (roomOf x) r c e in
+          more y c x f h cs (runLeft cs (nextLent (callLeft c x)))
+          (subst (λ (n : Room). Follows (calls y c .machine) (callsOf texts n rs) (nextLent (callLeft c x)) (runLeft (callsOf texts n rs) (nextLent (callLeft c x))))
+          (next-room y c x f h) (g (nextLent (callLeft c x)) (calls y c .machine) (next-holds y c x f h)))
+
+  rows-follow : (rs : List Row) → Rest rs
+  unfolding callsOf runLeft
+  rows-follow [] x y h = none-follows y x h
+  rows-follow (r ∷ rs) x y h = first-follows r rs (rows-follow rs) x y h
+
+-- 01, State and rule machine: of an engine that holds a machine, every script answers, shows and leaves what the rule machine does
+pub script-follows : (script texts : List ℕ) (x : Lent) (y : Machine) → Holds (engineIn x) y
+    → Follows y (callsIn script texts (roomOf x)) x (runLeft (callsIn script texts (roomOf x)) x)
+unfolding callsIn
+script-follows script texts x y h = rows-follow texts (rowsOf script) x y h
+
+-- 01, Fresh: and of the fresh engine
+pub fresh-follows : (script texts : List ℕ) (x : Lent) → engineIn x ≡ fresh
+    → Follows closed (callsIn script texts (roomOf x)) x (runLeft (callsIn script texts (roomOf x)) x)
+fresh-follows script texts x e = script-follows script texts x closed (zeros e)

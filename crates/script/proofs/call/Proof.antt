@@ -1,0 +1,172 @@
+-- By the kind of the row: the parts that are lent are there since the row fits, and the engine's call gives the rest.
+use denote.Ref.{now}
+use Prim.Native.Nat.{_-_}
+use native.Mathlib.Omega.{arith}
+use borrow.Author.Needs.{needs}
+use lib.ListN.{length, length-take}
+use Rattle.script.proofs.Called.{row-asks}
+use Rattle.script.proofs.Calling.{asks-text, asks-listing, opening-called, listing-called, stepping-called}
+use Rattle.script.proofs.call.Statement.{statement}
+use Rattle.script.proofs.call.Tie as tie
+
+add-end : tie.Need-add-end
+add-end c =
+    omega (arith, asks-text (c .before .before .before .before .before .before .args .row) (length (now (c .before .before .before .before .before .before .args .texts))) (length (now (c .before .before .before .before .before .before .args .model))) (length (now (c .before .before .before .before .before .before .args .state))) (length (now (c .before .before .before .before .before .before .args .listings))) (c .before .before .before .before .before .before .pre) (c .before .if1 .taken))
+
+sub-open : tie.Need-sub-open
+sub-open c = search needs
+
+part-open-start : tie.Need-part-open-start
+part-open-start c = search needs
+
+part-open-end : tie.Need-part-open-end
+part-open-end c =
+    omega (arith, asks-text (c .before .before .before .before .before .before .args .row) (length (now (c .before .before .before .before .before .before .args .texts))) (length (now (c .before .before .before .before .before .before .args .model))) (length (now (c .before .before .before .before .before .before .args .state))) (length (now (c .before .before .before .before .before .before .args .listings))) (c .before .before .before .before .before .before .pre) (c .before .if1 .taken))
+
+slice-relend-prefix-open : tie.Need-slice-relend-prefix-open
+slice-relend-prefix-open c =
+    let a = row-asks (c .before .before .before .before .before .before .before .args .row) (length (now (c .before .before .before .before .before .before .before .args .texts))) (length (now (c .before .before .before .before .before .before .before .args .model))) (length (now (c .before .before .before .before .before .before .before .args .state))) (length (now (c .before .before .before .before .before .before .before .args .listings))) (c .before .before .before .before .before .before .before .pre) in omega (arith, a .model, a .state)
+
+slice-aggregate-open : tie.Need-slice-aggregate-open
+slice-aggregate-open c =
+    let a = row-asks (c .before .before .before .before .before .before .before .before .args .row) (length (now (c .before .before .before .before .before .before .before .before .args .texts))) (length (now (c .before .before .before .before .before .before .before .before .args .model))) (length (now (c .before .before .before .before .before .before .before .before .args .state))) (length (now (c .before .before .before .before .before .before .before .before .args .listings))) (c .before .before .before .before .before .before .before .before .pre) in simp length-take (omega (arith, a .model, a .state))
+
+slice-relend-prefix-open-2 : tie.Need-slice-relend-prefix-open-2
+slice-relend-prefix-open-2 c =
+    let a = row-asks (c .before .before .before .before .before .before .before .before .args .row) (length (now (c .before .before .before .before .before .before .before .before .args .texts))) (length (now (c .before .before .before .before .before .before .before .before .args .model))) (length (now (c .before .before .before .before .before .before .before .before .args .state))) (length (now (c .before .before .before .before .before .before .before .before .args .listings))) (c .before .before .before .before .before .before .before .before .pre) in omega (arith, a .model, a .state)
+
+slice-aggregate-open-2 : tie.Need-slice-aggregate-open-2
+slice-aggregate-open-2 c =
+    let a = row-asks (c .before .before .before .before .before .before .before .before .before .args .row) (length (now (c .before .before .before .before .before .before .before .before .before .args .texts))) (length (now (c .before .before .before .before .before .before .before .before .before .args .model))) (length (now (c .before .before .before .before .before .before .before .before .before .args .state))) (length (now (c .before .before .before .before .before .before .before .before .before .args .listings))) (c .before .before .before .before .before .before .before .before .before .pre) in simp length-take (omega (arith, a .model, a .state))
+
+open-requires : tie.Need-open-requires
+open-requires c κs = search needs
+
+same-length : tie.Need-same-length
+same-length c = search needs
+
+same-length-2 : tie.Need-same-length-2
+same-length-2 c = search needs
+
+returns : tie.Need-returns
+returns c =
+    opening-called (c .before .before .before .before .before .before .before .before .before .before .before .before .before .args .row) (now (c .before .before .before .before .before .before .before .before .before .before .before .before .before .args .texts)) (now (c .before .before .before .before .before .before .before .before .before .before .before .before .before .args .model)) (now (c .before .before .before .before .before .before .before .before .before .before .before .before .before .args .state)) (now (c .before .before .before .before .before .before .before .before .before .before .before .before .before .args .listings)) (c .before .before .before .«open» .result) (c .before .before .before .before .before .before .before .before .if1 .taken) (c .before .before .before .«open» .last .1 .0) (c .before .before .before .«open» .last .1 .1 .0) (c .before .before .before .«open» .ensures)
+
+slice-reshare-prefix-list : tie.Need-slice-reshare-prefix-list
+slice-reshare-prefix-list c =
+    let a = row-asks (c .before .before .before .before .before .before .before .args .row) (length (now (c .before .before .before .before .before .before .before .args .texts))) (length (now (c .before .before .before .before .before .before .before .args .model))) (length (now (c .before .before .before .before .before .before .before .args .state))) (length (now (c .before .before .before .before .before .before .before .args .listings))) (c .before .before .before .before .before .before .before .pre) in omega (arith, a .model, a .state)
+
+slice-aggregate-list : tie.Need-slice-aggregate-list
+slice-aggregate-list c =
+    let a = row-asks (c .before .before .before .before .before .before .before .before .args .row) (length (now (c .before .before .before .before .before .before .before .before .args .texts))) (length (now (c .before .before .before .before .before .before .before .before .args .model))) (length (now (c .before .before .before .before .before .before .before .before .args .state))) (length (now (c .before .before .before .before .before .before .before .before .args .listings))) (c .before .before .before .before .before .before .before .before .pre) in simp length-take (omega (arith, a .model, a .state))
+
+slice-reshare-prefix-list-2 : tie.Need-slice-reshare-prefix-list-2
+slice-reshare-prefix-list-2 c =
+    let a = row-asks (c .before .before .before .before .before .before .before .before .args .row) (length (now (c .before .before .before .before .before .before .before .before .args .texts))) (length (now (c .before .before .before .before .before .before .before .before .args .model))) (length (now (c .before .before .before .before .before .before .before .before .args .state))) (length (now (c .before .before .before .before .before .before .before .before .args .listings))) (c .before .before .before .before .before .before .before .before .pre) in omega (arith, a .model, a .state)
+
+slice-aggregate-list-2 : tie.Need-slice-aggregate-list-2
+slice-aggregate-list-2 c =
+    let a = row-asks (c .before .before .before .before .before .before .before .before .before .args .row) (length (now (c .before .before .before .before .before .before .before .before .before .args .texts))) (length (now (c .before .before .before .before .before .before .before .before .before .args .model))) (length (now (c .before .before .before .before .before .before .before .before .before .args .state))) (length (now (c .before .before .before .before .before .before .before .before .before .args .listings))) (c .before .before .before .before .before .before .before .before .before .pre) in simp length-take (omega (arith, a .model, a .state))
+
+slice-relend-prefix-list : tie.Need-slice-relend-prefix-list
+slice-relend-prefix-list c =
+    let a = asks-listing (c .before .before .before .before .before .before .before .before .before .args .row) (length (now (c .before .before .before .before .before .before .before .before .before .args .texts))) (length (now (c .before .before .before .before .before .before .before .before .before .args .model))) (length (now (c .before .before .before .before .before .before .before .before .before .args .state))) (length (now (c .before .before .before .before .before .before .before .before .before .args .listings))) (c .before .before .before .before .before .before .before .before .before .pre) (c .before .before .before .before .if1 .left) in omega arith
+
+slice-aggregate-list-3 : tie.Need-slice-aggregate-list-3
+slice-aggregate-list-3 c =
+    let a = asks-listing (c .before .before .before .before .before .before .before .before .before .before .args .row) (length (now (c .before .before .before .before .before .before .before .before .before .before .args .texts))) (length (now (c .before .before .before .before .before .before .before .before .before .before .args .model))) (length (now (c .before .before .before .before .before .before .before .before .before .before .args .state))) (length (now (c .before .before .before .before .before .before .before .before .before .before .args .listings))) (c .before .before .before .before .before .before .before .before .before .before .pre) (c .before .before .before .before .before .if1 .left) in simp length-take (omega arith)
+
+list-requires : tie.Need-list-requires
+list-requires c κs = search needs
+
+same-length-3 : tie.Need-same-length-3
+same-length-3 c = search needs
+
+same-length-4 : tie.Need-same-length-4
+same-length-4 c = search needs
+
+same-length-5 : tie.Need-same-length-5
+same-length-5 c = search needs
+
+returns-2 : tie.Need-returns-2
+returns-2 c =
+    listing-called (c .before .before .before .before .before .before .before .before .before .before .before .before .before .args .row) (now (c .before .before .before .before .before .before .before .before .before .before .before .before .before .args .texts)) (now (c .before .before .before .before .before .before .before .before .before .before .before .before .before .args .model)) (now (c .before .before .before .before .before .before .before .before .before .before .before .before .before .args .state)) (now (c .before .before .before .before .before .before .before .before .before .before .before .before .before .args .listings)) (c .before .before .list .result) (c .before .before .before .before .before .before .before .before .if1 .left) (c .before .before .before .before .before .before .if2 .taken) (c .before .before .list .last .1 .1 .0) (c .before .before .list .ensures)
+
+slice-reshare-prefix-step : tie.Need-slice-reshare-prefix-step
+slice-reshare-prefix-step c =
+    let a = row-asks (c .before .before .before .before .before .before .before .args .row) (length (now (c .before .before .before .before .before .before .before .args .texts))) (length (now (c .before .before .before .before .before .before .before .args .model))) (length (now (c .before .before .before .before .before .before .before .args .state))) (length (now (c .before .before .before .before .before .before .before .args .listings))) (c .before .before .before .before .before .before .before .pre) in omega (arith, a .model, a .state)
+
+slice-aggregate-step : tie.Need-slice-aggregate-step
+slice-aggregate-step c =
+    let a = row-asks (c .before .before .before .before .before .before .before .before .args .row) (length (now (c .before .before .before .before .before .before .before .before .args .texts))) (length (now (c .before .before .before .before .before .before .before .before .args .model))) (length (now (c .before .before .before .before .before .before .before .before .args .state))) (length (now (c .before .before .before .before .before .before .before .before .args .listings))) (c .before .before .before .before .before .before .before .before .pre) in simp length-take (omega (arith, a .model, a .state))
+
+slice-relend-prefix-step : tie.Need-slice-relend-prefix-step
+slice-relend-prefix-step c =
+    let a = row-asks (c .before .before .before .before .before .before .before .before .args .row) (length (now (c .before .before .before .before .before .before .before .before .args .texts))) (length (now (c .before .before .before .before .before .before .before .before .args .model))) (length (now (c .before .before .before .before .before .before .before .before .args .state))) (length (now (c .before .before .before .before .before .before .before .before .args .listings))) (c .before .before .before .before .before .before .before .before .pre) in omega (arith, a .model, a .state)
+
+slice-aggregate-step-2 : tie.Need-slice-aggregate-step-2
+slice-aggregate-step-2 c =
+    let a = row-asks (c .before .before .before .before .before .before .before .before .before .args .row) (length (now (c .before .before .before .before .before .before .before .before .before .args .texts))) (length (now (c .before .before .before .before .before .before .before .before .before .args .model))) (length (now (c .before .before .before .before .before .before .before .before .before .args .state))) (length (now (c .before .before .before .before .before .before .before .before .before .args .listings))) (c .before .before .before .before .before .before .before .before .before .pre) in simp length-take (omega (arith, a .model, a .state))
+
+slice-relend-prefix-step-2 : tie.Need-slice-relend-prefix-step-2
+slice-relend-prefix-step-2 c =
+    let a = asks-listing (c .before .before .before .before .before .before .before .before .before .args .row) (length (now (c .before .before .before .before .before .before .before .before .before .args .texts))) (length (now (c .before .before .before .before .before .before .before .before .before .args .model))) (length (now (c .before .before .before .before .before .before .before .before .before .args .state))) (length (now (c .before .before .before .before .before .before .before .before .before .args .listings))) (c .before .before .before .before .before .before .before .before .before .pre) (c .before .before .before .before .if1 .left) in omega arith
+
+slice-aggregate-step-3 : tie.Need-slice-aggregate-step-3
+slice-aggregate-step-3 c =
+    let a = asks-listing (c .before .before .before .before .before .before .before .before .before .before .args .row) (length (now (c .before .before .before .before .before .before .before .before .before .before .args .texts))) (length (now (c .before .before .before .before .before .before .before .before .before .before .args .model))) (length (now (c .before .before .before .before .before .before .before .before .before .before .args .state))) (length (now (c .before .before .before .before .before .before .before .before .before .before .args .listings))) (c .before .before .before .before .before .before .before .before .before .before .pre) (c .before .before .before .before .before .if1 .left) in simp length-take (omega arith)
+
+step-requires : tie.Need-step-requires
+step-requires c κs = search needs
+
+same-length-6 : tie.Need-same-length-6
+same-length-6 c = search needs
+
+same-length-7 : tie.Need-same-length-7
+same-length-7 c = search needs
+
+same-length-8 : tie.Need-same-length-8
+same-length-8 c = search needs
+
+returns-3 : tie.Need-returns-3
+returns-3 c =
+    stepping-called (c .before .before .before .before .before .before .before .before .before .before .before .before .before .before .args .row) (now (c .before .before .before .before .before .before .before .before .before .before .before .before .before .before .args .texts)) (now (c .before .before .before .before .before .before .before .before .before .before .before .before .before .before .args .model)) (now (c .before .before .before .before .before .before .before .before .before .before .before .before .before .before .args .state)) (now (c .before .before .before .before .before .before .before .before .before .before .before .before .before .before .args .listings)) (c .before .before .before .step .result) (c .before .before .before .before .before .before .before .before .before .if1 .left) (c .before .before .before .before .before .before .before .if2 .left) (c .before .before .before .step .last .1 .0) (c .before .before .before .step .last .1 .1 .0) (c .before .before .before .step .ensures)
+
+pub call-spec : {M : Type 1} → statement M
+call-spec =
+    tie.close
+    (tie.spec
+    add-end
+    sub-open
+    part-open-start
+    part-open-end
+    slice-relend-prefix-open
+    slice-aggregate-open
+    slice-relend-prefix-open-2
+    slice-aggregate-open-2
+    open-requires
+    same-length
+    same-length-2
+    returns
+    slice-reshare-prefix-list
+    slice-aggregate-list
+    slice-reshare-prefix-list-2
+    slice-aggregate-list-2
+    slice-relend-prefix-list
+    slice-aggregate-list-3
+    list-requires
+    same-length-3
+    same-length-4
+    same-length-5
+    returns-2
+    slice-reshare-prefix-step
+    slice-aggregate-step
+    slice-relend-prefix-step
+    slice-aggregate-step-2
+    slice-relend-prefix-step-2
+    slice-aggregate-step-3
+    step-requires
+    same-length-6
+    same-length-7
+    same-length-8
+    returns-3)

@@ -1,0 +1,54 @@
+-- Six stores over the first six numbers.
+use denote.Ref.{now}
+use Prim.Native.Nat.{_-_}
+use native.Mathlib.Omega.{arith}
+use borrow.Author.Needs.{needs}
+use lib.ListN.{length-set}
+use Rattle.script.proofs.Fitting.{written}
+use Rattle.script.proofs.put_answer.Statement.{statement}
+use Rattle.script.proofs.put_answer.Tie as tie
+
+slice-write-answers : tie.Need-slice-write-answers
+slice-write-answers c =
+    search needs
+
+slice-write-answers-2 : tie.Need-slice-write-answers-2
+slice-write-answers-2 c =
+    simp length-set (omega arith)
+
+slice-write-answers-3 : tie.Need-slice-write-answers-3
+slice-write-answers-3 c =
+    simp length-set (omega arith)
+
+slice-write-answers-4 : tie.Need-slice-write-answers-4
+slice-write-answers-4 c =
+    simp length-set (omega arith)
+
+slice-write-answers-5 : tie.Need-slice-write-answers-5
+slice-write-answers-5 c =
+    simp length-set (omega arith)
+
+slice-write-answers-6 : tie.Need-slice-write-answers-6
+slice-write-answers-6 c =
+    simp length-set (omega arith)
+
+same-length : tie.Need-same-length
+same-length c =
+    simp length-set
+
+returns : tie.Need-returns
+returns c =
+    written (now (c .args .answers)) (c .args .answer) (c .pre)
+
+pub put-answer-spec : {M : Type 1} → statement M
+put-answer-spec =
+    tie.close
+    (tie.spec
+    slice-write-answers
+    slice-write-answers-2
+    slice-write-answers-3
+    slice-write-answers-4
+    slice-write-answers-5
+    slice-write-answers-6
+    same-length
+    returns)

@@ -28,7 +28,7 @@ pub fn open_lent(text: &[u8], model: &mut [u8], state: &mut [i64]) -> Answer
     let mut nodes = [0u64; question::Limits::TOKENS];
     let mut roots = [0u16; question::Limits::TOKENS];
     let mut scopes = [0u8; question::Limits::TOKENS];
-    let mut names = [0u16; question::Limits::TOKENS];
+    let mut names = [0u64; question::Limits::TOKENS];
     crate::buffer::put_fresh(model, state);
     let opened = opening::open_text(
         text,
@@ -71,7 +71,7 @@ pub fn list_text(text: &[u8], state: &[i64], listing: &mut [u64]) -> Answer
     let mut nodes = [0u64; question::Limits::TOKENS];
     let mut roots = [0u16; question::Limits::TOKENS];
     let mut scopes = [0u8; question::Limits::TOKENS];
-    let mut names = [0u16; question::Limits::TOKENS];
+    let mut names = [0u64; question::Limits::TOKENS];
     let read = opening::read_model(
         text,
         &mut kinds,

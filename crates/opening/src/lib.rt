@@ -184,7 +184,7 @@ fn settle_tree(
     nodes: &mut [u64],
     roots: &mut [u16],
     scopes: &mut [u8],
-    names: &mut [u16],
+    names: &mut [u64],
     root: usize,
     n: usize,
 ) -> Held
@@ -213,7 +213,7 @@ pub fn read_model(
     nodes: &mut [u64],
     roots: &mut [u16],
     scopes: &mut [u8],
-    names: &mut [u16],
+    names: &mut [u64],
 ) -> Held
     requires { ⌜ Room (now kinds) (now places) (now sizes) (now low) (now high) (now nodes) ⌝ }
     requires { ⌜ SumRoom (now roots) (now scopes) (now names) ⌝ }
@@ -251,7 +251,7 @@ pub fn open_text(
     nodes: &mut [u64],
     roots: &mut [u16],
     scopes: &mut [u8],
-    names: &mut [u16],
+    names: &mut [u64],
 ) -> Opened
     requires { ⌜ Room (now kinds) (now places) (now sizes) (now low) (now high) (now nodes) ⌝ }
     requires { ⌜ SumRoom (now roots) (now scopes) (now names) ⌝ }

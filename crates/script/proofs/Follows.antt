@@ -13,8 +13,8 @@ use Rattle.buffers.specs.Calls.{fresh, Holds, zeros}
 use Rattle.buffers.proofs.Calls.{model-long, state-long}
 use Rattle.script.specs.declared.Row.{Row}
 use Rattle.script.specs.Rows.{answerWidth, Room, roomAfter, callOf, callsOf, rowsOf, callsIn}
-use Rattle.script.specs.Run.{Lent, roomOf, effectOf, answerNumbers, callLeft, nextLent, joined, runLeft}
-use Rattle.script.specs.Follows.{engineIn, answersNumbers, listingsShown, Follows}
+use Rattle.script.specs.Run.{Lent, roomOf, effectOf, answerNumbers, callLeft, nextLent, joined, runLeft, Ran}
+use Rattle.script.specs.Follows.{engineIn, answersNumbers, listingsShown, Follows, Refines}
 use Rattle.script.proofs.Front.{front-take, front-drop}
 use Rattle.script.proofs.Called.{Fits, call-fits, Done, done}
 
@@ -111,13 +111,14 @@ module _ (texts : List ℕ) where
   rows-follow [] x y h = none-follows y x h
   rows-follow (r ∷ rs) x y h = first-follows r rs (rows-follow rs) x y h
 
--- 01, State and rule machine: of an engine that holds a machine, every script answers, shows and leaves what the rule machine does
-pub script-follows : (script texts : List ℕ) (x : Lent) (y : Machine) → Holds (engineIn x) y
-    → Follows y (callsIn script texts (roomOf x)) x (runLeft (callsIn script texts (roomOf x)) x)
+-- 01, State and rule machine: every script, whatever machine the engine holds
+script-follows : (script texts : List ℕ) (x : Lent) → Refines script texts x (runLeft (callsIn script texts (roomOf x)) x)
 unfolding callsIn
 script-follows script texts x y h = rows-follow texts (rowsOf script) x y h
 
--- 01, Fresh: and of the fresh engine
-pub fresh-follows : (script texts : List ℕ) (x : Lent) → engineIn x ≡ fresh
-    → Follows closed (callsIn script texts (roomOf x)) x (runLeft (callsIn script texts (roomOf x)) x)
-fresh-follows script texts x e = script-follows script texts x closed (zeros e)
+pub ran-refines : (script texts : List ℕ) (x : Lent) (r : ℕ) (x′ : Lent) → Ran script texts x r x′ → Refines script texts x x′
+ran-refines script texts x r x′ h = subst (Refines script texts x) (sym (h .buffers)) (script-follows script texts x)
+
+-- 01, Fresh: on the fresh engine, what the closed machine answers
+pub fresh-follows : (script texts : List ℕ) (x x′ : Lent) → Refines script texts x x′ → engineIn x ≡ fresh → Follows closed (callsIn script texts (roomOf x)) x x′
+fresh-follows script texts x x′ r e = r closed (zeros e)

@@ -6,7 +6,7 @@ use Prim.Native.Nat.{ℕ, _≤_, _<_}
 use native.Mathlib.Omega.{arith}
 use borrow.Author.Tests.{leb-true, leb-false}
 use lib.Dec.{leb}
-use lib.ListN.{length, take, drop, length-append, length-take, length-drop, drop-of-length-le}
+use lib.ListN.{length, take, drop, length-take, drop-of-length-le}
 use lib.Seq.{take-all, take-at, drop-at}
 
 module _ {A : Type 0} where
@@ -34,6 +34,3 @@ module _ {A : Type 0} where
         by false e =
             let h : length l < n = leb-false n (length l) e in
             ap (drop n) (whole h) ∙ drop-all n s (omega (arith, length-take n l)) ∙ sym (drop-all n l (omega arith))
-
-    pub front-length : length (s ++ drop n l) ≡ length l
-    front-length = omega (arith, length-append s (drop n l), length-take n l, length-drop n l)

@@ -6,3 +6,4 @@ pub mod Running
 pub mod Places
 pub mod Turns
 pub mod Follows
+pub mod Samples

@@ -140,8 +140,9 @@ module _ (script texts : List ℕ) where
           calls-first (drop (i * rowWidth) script) texts (roomOf (lentFrom i x)) ∙ ap (After (drop (i * rowWidth) script) texts (roomOf (lentFrom i x))) f
           ∙ ap₂ (λ (s : List ℕ) (r : Room). c ∷ callsIn s texts r) next-script (sym next-room)
 
-      more : lentFrom i y ≡ callLeft c (lentFrom i x) → RowRanAt i script texts x true y → Turn x₀ y (i + 1)
-      more e h =
+      more : lentFrom i y ≡ callLeft c (lentFrom i x) → take (i * listingLength) (y .listings) ≡ take (i * listingLength) (x .listings)
+          → take (i * answerWidth) (y .answers) ≡ take (i * answerWidth) (x .answers) → Turn x₀ y (i + 1)
+      more e p q =
           let d = callsFrom (i + 1) y in
           let v = runLeft d (lentFrom (i + 1) y) in
           record {
@@ -149,35 +150,36 @@ module _ (script texts : List ℕ) where
             long = longer;
             count = omega (arith, ap length calls-next, w .count);
             buffers =
-                parted i x y v (h .listings-before) (h .answers-before) ∙ ap (onto i x) (ap (joined (lentFrom i y)) (ap (runLeft d) next-lent) ∙ ap (λ (z : Lent). joined z (runLeft d (nextLent z))) e ∙ sym (first-left c d (lentFrom i x)) ∙ ap (λ (l : List Call). runLeft l (lentFrom i x)) (sym calls-next))
+                parted i x y v p q ∙ ap (onto i x) (ap (joined (lentFrom i y)) (ap (runLeft d) next-lent) ∙ ap (λ (z : Lent). joined z (runLeft d (nextLent z))) e ∙ sym (first-left c d (lentFrom i x)) ∙ ap (λ (l : List Call). runLeft l (lentFrom i x)) (sym calls-next))
                 ∙ w .buffers;
           }
 
     -- a row that was no call
-    ends : firstCall (drop (i * rowWidth) script) texts (roomOf (lentFrom i x)) ≡ none → lentFrom i y ≡ lentFrom i x → RowRanAt i script texts x false y → Ran (callsIn script texts (roomOf x₀)) x₀ i y
+    ends : firstCall (drop (i * rowWidth) script) texts (roomOf (lentFrom i x)) ≡ none → lentFrom i y ≡ lentFrom i x
+        → take (i * listingLength) (y .listings) ≡ take (i * listingLength) (x .listings) → take (i * answerWidth) (y .answers) ≡ take (i * answerWidth) (x .answers) → Ran script texts x₀ i y
     unfolding Option·elim runLeft
-    ends f e h =
+    ends f e p b =
         let q : callsFrom i x ≡ [] = calls-first (drop (i * rowWidth) script) texts (roomOf (lentFrom i x)) ∙ ap (After (drop (i * rowWidth) script) texts (roomOf (lentFrom i x))) f in
         record {
           count = omega (arith, ap length q, w .count);
-          buffers = whole i x y (h .listings-before) (h .answers-before) e ∙ ap (λ (l : List Call). onto i x (runLeft l (lentFrom i x))) (sym q) ∙ w .buffers;
+          buffers = whole i x y p b e ∙ ap (λ (l : List Call). onto i x (runLeft l (lentFrom i x))) (sym q) ∙ w .buffers;
         }
 
-    abbrev Ran-at : Option Call → Bool → Type 0
-    Ran-at o r = RowRan o (lentFrom i x) r (lentFrom i y)
+    abbrev Row-ran : Option Call → Bool → Type 0
+    Row-ran o r = RowRan o (lentFrom i x) r (lentFrom i y)
 
-    pub turns : RowRanAt i script texts x true y → Turn x₀ y (i + 1)
+    pub turns : {r : Bool} → r ≡ true → RowRanAt i script texts x r y → Turn x₀ y (i + 1)
     unfolding RowRan
-    turns h = by (firstCall (drop (i * rowWidth) script) texts (roomOf (lentFrom i x))) refl (h .ran)
+    turns {r} e h = by (firstCall (drop (i * rowWidth) script) texts (roomOf (lentFrom i x))) refl (h .ran)
       where
-        by : (o : Option Call) → firstCall (drop (i * rowWidth) script) texts (roomOf (lentFrom i x)) ≡ o → Ran-at o true → Turn x₀ y (i + 1)
-        by none f g = let e : true ≡ false = g .0 in absurd (let z : _≡_ {A = ℕ} 0 1 = cc in omega arith)
-        by (some c) f g = more c f (g .1) h
+        by : (o : Option Call) → firstCall (drop (i * rowWidth) script) texts (roomOf (lentFrom i x)) ≡ o → Row-ran o r → Turn x₀ y (i + 1)
+        by none f g = let z : _≡_ {A = ℕ} 0 1 = cc (g .0) in absurd (omega arith)
+        by (some c) f g = more c f (g .1) (h .listings-before) (h .answers-before)
 
-    pub stops : RowRanAt i script texts x false y → Ran (callsIn script texts (roomOf x₀)) x₀ i y
+    pub stops : {r : Bool} → r ≡ false → RowRanAt i script texts x r y → Ran script texts x₀ i y
     unfolding RowRan
-    stops h = by (firstCall (drop (i * rowWidth) script) texts (roomOf (lentFrom i x))) refl (h .ran)
+    stops {r} e h = by (firstCall (drop (i * rowWidth) script) texts (roomOf (lentFrom i x))) refl (h .ran)
       where
-        by : (o : Option Call) → firstCall (drop (i * rowWidth) script) texts (roomOf (lentFrom i x)) ≡ o → Ran-at o false → Ran (callsIn script texts (roomOf x₀)) x₀ i y
-        by none f g = ends f (g .1) h
-        by (some c) f g = let e : false ≡ true = g .0 in absurd (let z : _≡_ {A = ℕ} 0 1 = cc in omega arith)
+        by : (o : Option Call) → firstCall (drop (i * rowWidth) script) texts (roomOf (lentFrom i x)) ≡ o → Row-ran o r → Ran script texts x₀ i y
+        by none f g = ends f (g .1) (h .listings-before) (h .answers-before)
+        by (some c) f g = let z : _≡_ {A = ℕ} 0 1 = cc (g .0) in absurd (omega arith)

@@ -7,8 +7,8 @@ use Rattle.machine.specs.State.{stateLength}
 use Rattle.machine.specs.Machine.{modelLength, listingLength, Answer, Machine, Call, answers, after}
 use Rattle.buffers.specs.Listing.{shown}
 use Rattle.buffers.specs.Calls.{Engine, Holds}
-use Rattle.script.specs.Rows.{answerWidth}
-use Rattle.script.specs.Run.{Lent, answerNumbers}
+use Rattle.script.specs.Rows.{answerWidth, callsIn}
+use Rattle.script.specs.Run.{Lent, roomOf, answerNumbers}
 
 -- 01, State: the engine is the first numbers of the model and the state
 unfoldable pub engineIn : Lent → Engine
@@ -31,3 +31,7 @@ pub record Follows (y : Machine) (cs : List Call) (x x′ : Lent) : Type 0 where
   pub holds : Holds (engineIn x′) (after y cs)
   pub model-beyond : drop modelLength (x′ .model) ≡ drop modelLength (x .model)
   pub state-beyond : drop stateLength (x′ .state) ≡ drop stateLength (x .state)
+
+-- 01, State and rule machine: whatever machine the engine holds at first, the closed one where it is fresh, a script does to the engine what its calls do to the rule machine
+abbrev pub Refines : (script texts : List ℕ) → Lent → Lent → Type 0
+Refines script texts x x′ = (y : Machine) → Holds (engineIn x) y → Follows y (callsIn script texts (roomOf x)) x x′

@@ -15,6 +15,16 @@ rowWidth = 6
 abbrev pub answerWidth : ℕ
 answerWidth = 6
 
+-- the kinds of rows
+abbrev pub openKind : ℕ
+openKind = 1
+
+abbrev pub listKind : ℕ
+listKind = 2
+
+abbrev pub stepKind : ℕ
+stepKind = 3
+
 -- ---- rows
 
 -- kind; a text's place or a draw; the text's size; how many numbers of the model, the state and the listing are lent
@@ -43,19 +53,19 @@ pub record Room : Type 0 where
 unfoldable pub roomAfter : Room → Room
 roomAfter x = record { model = x .model; state = x .state; listings = x .listings - listingLength; answers = x .answers - answerWidth }
 
--- 1 opens a part of the texts, 2 lists and 3 steps into a listing; nothing else is a call, and what is not there is not lent
+-- a row of one of the three kinds, that asks for no more than there is: a part of the texts, numbers of the model, the state and the listings
 unfoldable pub fits : Row → (texts model state listings : ℕ) → Bool
 fits r texts model state listings =
     leb (r .model) model && (leb (r .state) state
-    && cond (eqb (r .kind) 1) (leb (r .first + r .size) texts)
-    (cond (eqb (r .kind) 2) (leb (r .listing) listings)
-    (cond (eqb (r .kind) 3) (leb (r .listing) listings) false)))
+    && cond (eqb (r .kind) openKind) (leb (r .first + r .size) texts)
+    (cond (eqb (r .kind) listKind) (leb (r .listing) listings)
+    (cond (eqb (r .kind) stepKind) (leb (r .listing) listings) false)))
 
 -- 01, Rule machine: the call of a row that fits: a text or a draw, and the lengths of what is lent
 unfoldable pub rowCall : List ℕ → Row → Call
 rowCall texts r =
-    cond (eqb (r .kind) 1) (open′ (take (r .size) (drop (r .first) texts)) (r .model) (r .state))
-    (cond (eqb (r .kind) 2) (list′ (r .model) (r .state) (r .listing)) (step′ (r .model) (r .state) (r .listing) (r .first)))
+    cond (eqb (r .kind) openKind) (open′ (take (r .size) (drop (r .first) texts)) (r .model) (r .state))
+    (cond (eqb (r .kind) listKind) (list′ (r .model) (r .state) (r .listing)) (step′ (r .model) (r .state) (r .listing) (r .first)))
 
 -- a row is a call where it fits and there is room for its answer
 unfoldable pub callOf : List ℕ → Room → Row → Option Call

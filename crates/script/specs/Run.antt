@@ -9,7 +9,7 @@ use lib.ListN.{length, take, drop}
 use Rattle.machine.specs.Machine.{listingLength, Answer, Call, open′, list′, step′}
 use Rattle.buffers.specs.Effect.{Effect, openEffect, listEffect, stepEffect}
 use Rattle.engine.specs.declared.Answer as engine
-use Rattle.script.specs.Rows.{rowWidth, answerWidth, Room, firstCall}
+use Rattle.script.specs.Rows.{rowWidth, answerWidth, Room, firstCall, callsIn}
 
 -- the buffers that a run is lent
 pub record Lent : Type 0 where
@@ -103,7 +103,7 @@ pub record RowRanAt (i : ℕ) (script texts : List ℕ) (x : Lent) (r : Bool) (y
   pub listings-before : take (i * listingLength) (y .listings) ≡ take (i * listingLength) (x .listings)
   pub answers-before : take (i * answerWidth) (y .answers) ≡ take (i * answerWidth) (x .answers)
 
--- every call was made, and the buffers are as they leave them
-pub record Ran (cs : List Call) (x : Lent) (r : ℕ) (y : Lent) : Type 0 where
-  pub count : r ≡ length cs
-  pub buffers : y ≡ runLeft cs x
+-- every call of a script was made, and the buffers are as the calls leave them
+pub record Ran (script texts : List ℕ) (x : Lent) (r : ℕ) (y : Lent) : Type 0 where
+  pub count : r ≡ length (callsIn script texts (roomOf x))
+  pub buffers : y ≡ runLeft (callsIn script texts (roomOf x)) x

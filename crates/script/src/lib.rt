@@ -7,11 +7,9 @@ ghost use mathlib.Core.List.{_++_};
 ghost use Prim.Native.Nat.{_+_, _*_, _≤_, min};
 ghost use lib.Dec.{leb};
 ghost use lib.ListN.{length, drop};
-ghost use Rattle.machine.specs.Machine.{Machine};
-ghost use Rattle.buffers.specs.Calls.{Holds};
-ghost use Rattle.script.specs.Rows.{rowWidth, answerWidth, rowOf, fits, rowCall, firstCall, callsIn};
+ghost use Rattle.script.specs.Rows.{rowWidth, answerWidth, rowOf, fits, rowCall, firstCall};
 ghost use Rattle.script.specs.Run.{lentOf, roomOf, resultNumbers, Called, RowRan, RowRanAt, Ran};
-ghost use Rattle.script.specs.Follows.{engineIn, Follows};
+ghost use Rattle.script.specs.Follows.{Refines};
 
 // A row: the kind of call; the place of its text, or its draw; the text's size; how many numbers of the model, the state and the listing it is lent.
 pub struct Row {
@@ -187,8 +185,8 @@ pub fn run(
     listings: &mut [u64],
     answers: &mut [u64],
 ) -> usize
-    ensures { λ r. ⌜ Ran (callsIn (now (script .entry)) (now (texts .entry)) (roomOf (lentOf (now (model .entry)) (now (state .entry)) (now (listings .entry)) (now (answers .entry))))) (lentOf (now (model .entry)) (now (state .entry)) (now (listings .entry)) (now (answers .entry))) r (lentOf (now (model .exit)) (now (state .exit)) (now (listings .exit)) (now (answers .exit))) ⌝ }
-    ensures { λ _. ⌜ ((y : Machine) → Holds (engineIn (lentOf (now (model .entry)) (now (state .entry)) (now (listings .entry)) (now (answers .entry)))) y → Follows y (callsIn (now (script .entry)) (now (texts .entry)) (roomOf (lentOf (now (model .entry)) (now (state .entry)) (now (listings .entry)) (now (answers .entry))))) (lentOf (now (model .entry)) (now (state .entry)) (now (listings .entry)) (now (answers .entry))) (lentOf (now (model .exit)) (now (state .exit)) (now (listings .exit)) (now (answers .exit)))) ⌝ }
+    ensures { λ r. ⌜ Ran (now (script .entry)) (now (texts .entry)) (lentOf (now (model .entry)) (now (state .entry)) (now (listings .entry)) (now (answers .entry))) r (lentOf (now (model .exit)) (now (state .exit)) (now (listings .exit)) (now (answers .exit))) ⌝ }
+    ensures { λ _. ⌜ Refines (now (script .entry)) (now (texts .entry)) (lentOf (now (model .entry)) (now (state .entry)) (now (listings .entry)) (now (answers .entry))) (lentOf (now (model .exit)) (now (state .exit)) (now (listings .exit)) (now (answers .exit))) ⌝ }
 {
     let mut i = 0;
     while run_at(i, script, texts, model, state, listings, answers) {

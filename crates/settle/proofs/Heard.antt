@@ -6,8 +6,7 @@ use mathlib.Core.Option.{Option, none, some}
 use mathlib.Core.Logic.{_⊎_, inl, inr, ⊎-elim}
 use Prim.Native.Nat.{ℕ, zero, suc, _+_, _≤_, _<_}
 use native.Mathlib.Omega.{arith}
-use lib.ListN.{length, getD, length-append}
-use Rattle.token.specs.declared.Found.the-variants.{At, Nothing}
+use lib.ListN.{length, length-append}
 use Rattle.grammar.specs.Syntax
 use Rattle.model.specs.Lists.{each, any}
 use Rattle.model.specs.Sites.{Scope, Site, bound, Variable, variables, names}
@@ -18,12 +17,8 @@ use Rattle.model.specs.Faults.{received, Again, NotNew}
 use Rattle.model.specs.Faults as faults
 use Rattle.model.specs.Resolved.{firsts, orZero}
 use Rattle.model.proofs.Members.{never, not-both, got-in, got-below}
-use Rattle.model.proofs.Repeats.{same-bytes}
 use Rattle.model.proofs.Meanings.{Placed, found, absent, placed, Means, aLocal, aVariable, unknown, means}
 use Rattle.model.proofs.Used.{first-of}
-use Rattle.names.specs.Lists.{foundOf}
-use Rattle.names.proofs.Lookups.{Onward, place-here, place-none}
-use Rattle.settle.specs.Places.{placeOr}
 
 module _ (w : ℕ → List ℕ) (k : ℕ) where
   -- ---- places in a list that grows
@@ -101,24 +96,6 @@ module _ (w : ℕ → List ℕ) (k : ℕ) where
       by none e =
           let v = given-without vs sc e g in
           absent-place (sc ++ ks) (λ j i x. ⊎-elim (λ (l : In j sc). place-absent sc e j l x) (λ (l : In j ks). new (v .0) j (v .1) l (sym x ∙ v .2)) (List·Memᴰ·append-cases sc i)) ∙ sym e
-
--- ---- the cases of `channel_place`
-module _ (w : ℕ → List ℕ) (k : ℕ) (xs : List ℕ) (n : ℕ) where
-  pub place-at : (i x : ℕ) → i < length xs → getD xs i 0 ≡ x → (b : Bool) → b ≡ same w k x → b ≡ true → Onward w k xs i → i ≡ placeOr n (placeIn w k 0 xs)
-  unfolding foundOf placeOr
-  place-at i x l e b q f h = by (placeIn w k 0 xs) (place-here w k xs i x l e b q f h)
-    where
-      by : (o : Option ℕ) → At i ≡ foundOf o → i ≡ placeOr n o
-      by none z = absurd (let y : _≡_ {A = ℕ} 0 1 = cc in omega arith)
-      by (some j) z = cc
-
-  pub place-past : (i : ℕ) → length xs ≤ i → Onward w k xs i → n ≡ placeOr n (placeIn w k 0 xs)
-  unfolding foundOf placeOr
-  place-past i l h = by (placeIn w k 0 xs) (place-none w k xs i l h)
-    where
-      by : (o : Option ℕ) → Nothing ≡ foundOf o → n ≡ placeOr n o
-      by none z = refl
-      by (some j) z = absurd (let y : _≡_ {A = ℕ} 0 1 = cc in omega arith)
 
 -- ---- question 8
 

@@ -16,3 +16,4 @@ pub mod Stands
 pub mod Resolving
 pub mod Cells
 pub mod Same
+pub mod Kids

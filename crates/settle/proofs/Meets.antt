@@ -3,11 +3,9 @@ use mathlib.Core.Path.{_≡_, refl, sym, ap, ap₂, _∙_, subst}
 use mathlib.Core.List.{List, [], _∷_, _++_}
 use mathlib.Core.Bool.{Bool, true, false, cond, _||_}
 use mathlib.Core.Option.{Option, none, some}
-use Prim.Native.Nat.{ℕ, zero, suc, _+_, _-_, _≤_, _<_}
-use native.Mathlib.Numerals.{add-one}
+use Prim.Native.Nat.{ℕ, suc, _+_, _-_, _≤_, _<_}
 use native.Mathlib.Omega.{arith}
-use lib.ListN.{length, getD, take, set, length-append, length-set}
-use lib.Seq.{length-take-le, take-suc-set, getD-take}
+use lib.ListN.{length, getD, set, length-append}
 use borrow.Author.Tests.{ne-eqb}
 use lib.Dec.{eqb}
 use lib.IntN.{ℤ}
@@ -30,46 +28,41 @@ use Rattle.names.specs.declared.Scope.{Scope}
 use Rattle.names.specs.Lists.{packed, foundOf, isFound}
 use Rattle.names.specs.Placed.{IsName, Named}
 use Rattle.names.proofs.Namings.{named-at, place-alike, any-placed}
+use Rattle.settle.specs.Kids.{Hung}
 use Rattle.settle.specs.Walks.{nameCell, valueCell, scaleCell}
-use Rattle.settle.specs.Places.{signed, ScaleTold, NumberNode, Place, kindsIn, wordIn, variablesIn, definitionsOf, meaningAt, placeOr, Heard, heardAfter, ChannelDone, Hearing, metNames, NameDone, markedBy}
+use Rattle.settle.specs.Places.{signed, ScaleTold, NumberNode, Place, kindsIn, wordIn, variablesIn, definitionsOf, meaningAt, placeOr, Heard, heardAfter, Sought, ChannelDone, Hearing, metNames, NameDone, markedBy}
 use Rattle.settle.proofs.Finds.{place-below, asks, in-tables}
 use Rattle.settle.proofs.Cells.{whole-is}
 
 -- ---- the cases of `settle_channel`
-module _ (v : ℕ → List ℕ) (nodes heard : List ℕ) (n i k c : ℕ) (room : n < length heard) (nodes′ : List ℕ) (is : c ≡ placeOr n (placeIn v k 0 (take n heard))) (wrote : nodes′ ≡ set nodes i (cell channel c 0 0)) where
-  taken : length (take n heard) ≡ n
-  taken = length-take-le n heard (omega arith)
+module _ {low high heard seen heard′ : List ℕ} {n k c : ℕ} (g : Heard low high heard n k seen) (s : Sought low high heard n k seen heard′ c) where
+  abbrev place : Option ℕ
+  place = placeIn (packed low high) k 0 seen
 
-  pub channel-known : c < n → ChannelDone nodes heard i (placeOr n (placeIn v k 0 (take n heard))) (heardAfter (placeIn v k 0 (take n heard)) (take n heard) k) nodes′ heard n
+  pub channel-known : (nodes nodes′ : List ℕ) (i : ℕ) → nodes′ ≡ set nodes i (cell channel c 0 0) → c < n → ChannelDone low high nodes heard i (placeOr n place) (heardAfter place seen k) nodes′ heard′ n
   unfolding placeOr heardAfter
-  channel-known l = by (placeIn v k 0 (take n heard)) is
+  channel-known nodes nodes′ i wrote l = by place (s .place-is) (s .hung)
     where
-      by : (o : Option ℕ) → c ≡ placeOr n o → ChannelDone nodes heard i (placeOr n o) (heardAfter o (take n heard) k) nodes′ heard n
-      by none e = absurd (omega arith)
-      by (some q) e = record { nodes-are = rw (← e) wrote; count = sym taken; seen-are = refl; size = refl }
+      by : (o : Option ℕ) → c ≡ placeOr n o → Hung low high heard′ (heardAfter o seen k) → ChannelDone low high nodes heard i (placeOr n o) (heardAfter o seen k) nodes′ heard′ n
+      by none e t = absurd (omega arith)
+      by (some q) e t = record { nodes-are = rw (← e) wrote; count = g .count; hung = t; size = s .size }
 
-  pub channel-new : n ≤ c → ChannelDone nodes heard i (placeOr n (placeIn v k 0 (take n heard))) (heardAfter (placeIn v k 0 (take n heard)) (take n heard) k) nodes′ (set heard n k) (n + 1)
+  pub channel-new : (nodes nodes′ : List ℕ) (i : ℕ) → nodes′ ≡ set nodes i (cell channel c 0 0) → n ≤ c → ChannelDone low high nodes heard i (placeOr n place) (heardAfter place seen k) nodes′ heard′ (n + 1)
   unfolding placeOr heardAfter
-  channel-new l = by (placeIn v k 0 (take n heard)) refl is
+  channel-new nodes nodes′ i wrote l = by place refl (s .place-is) (s .hung)
     where
-      by : (o : Option ℕ) → placeIn v k 0 (take n heard) ≡ o → c ≡ placeOr n o → ChannelDone nodes heard i (placeOr n o) (heardAfter o (take n heard) k) nodes′ (set heard n k) (n + 1)
-      by none q e =
-          record {
-            nodes-are = rw (← e) wrote;
-            count = sym (length-append (take n heard) (k ∷ []) ∙ ap (λ (m : ℕ). m + 1) taken);
-            seen-are = rw (add-one n) (take-suc-set heard n k room);
-            size = length-set heard n k;
-          }
-      by (some q) p e = absurd (let b : q < n = place-below v k (take n heard) q p (omega (arith, taken)) in omega arith)
+      by : (o : Option ℕ) → place ≡ o → c ≡ placeOr n o → Hung low high heard′ (heardAfter o seen k) → ChannelDone low high nodes heard i (placeOr n o) (heardAfter o seen k) nodes′ heard′ (n + 1)
+      by none p e t = record { nodes-are = rw (← e) wrote; count = omega (arith, g .count, length-append seen (k ∷ [])); hung = t; size = s .size }
+      by (some q) p e t = absurd (let b : q < n = place-below (packed low high) k seen q p (omega (arith, g .count)) in omega arith)
 
--- the number fits a field
-pub place-small : (v : ℕ → List ℕ) (k : ℕ) (heard : List ℕ) (n : ℕ) → n < length heard → n < field → placeOr n (placeIn v k 0 (take n heard)) < field
-unfolding placeOr
-place-small v k heard n room l = by (placeIn v k 0 (take n heard)) refl
-  where
-    by : (o : Option ℕ) → placeIn v k 0 (take n heard) ≡ o → placeOr n o < field
-    by none e = l
-    by (some q) e = let b : q < n = place-below v k (take n heard) q e (omega (arith, length-take-le n heard (omega arith))) in omega arith
+  -- the number fits a field
+  pub place-small : c < field
+  unfolding placeOr
+  place-small = by place refl (s .place-is)
+    where
+      by : (o : Option ℕ) → place ≡ o → c ≡ placeOr n o → c < field
+      by none p e = omega (arith, g .few)
+      by (some q) p e = let b : q < n = place-below (packed low high) k seen q p (omega (arith, g .count)) in omega (arith, g .few)
 
 -- ---- by words
 
@@ -143,14 +136,18 @@ module _ (low : List ℕ) (w : ℕ → List ℕ) (c : ℕ) where
       by true e = rw e
       by false e = rw e
 
-module _ {low high nodes : List ℕ} {lists : Lists} {scope : Scope} (h : Place low high nodes lists scope) (k : ℕ) (e : IsName (kindsIn (h .at)) k) {heard seen : List ℕ} {n : ℕ} (x : Hearing (kindsIn (h .at)) heard n seen) (i : ℕ) where
+-- a name's token fits a field
+pub name-small : {low high nodes : List ℕ} {lists : Lists} {scope : Scope} (h : Place low high nodes lists scope) (k : ℕ) → IsName (kindsIn (h .at)) k → k < field
+name-small h k e = let l = inside (kindsIn (h .at)) k (omega arith) in omega (arith, h .at .base .world .few)
+
+module _ {low high nodes : List ℕ} {lists : Lists} {scope : Scope} (h : Place low high nodes lists scope) (k : ℕ) (e : IsName (kindsIn (h .at)) k) {heard seen : List ℕ} {n : ℕ} (x : Hearing low high (kindsIn (h .at)) heard n seen) (i : ℕ) where
   abbrev Finished : List ℕ → List ℕ → ℕ → Type 0
-  Finished nodes′ heard′ r = NameDone (kindsIn (h .at)) nodes heard i (nameCell (wordIn (h .at)) (variablesIn (h .at)) (definitionsOf (h .at)) seen k (meaningAt h k)) (metNames (wordIn (h .at)) (variablesIn (h .at)) seen k (meaningAt h k)) nodes′ heard′ r
+  Finished nodes′ heard′ r = NameDone low high (kindsIn (h .at)) nodes heard i (nameCell (wordIn (h .at)) (variablesIn (h .at)) (definitionsOf (h .at)) seen k (meaningAt h k)) (metNames (wordIn (h .at)) (variablesIn (h .at)) seen k (meaningAt h k)) nodes′ heard′ r
 
   -- nothing is met
   stayed : (nodes′ : List ℕ) → isChannelName (meaningAt h k) ≡ false → nodes′ ≡ set nodes i (valueCell (valueNamed (wordIn (h .at)) (variablesIn (h .at)) (definitionsOf (h .at)) seen (meaningAt h k))) → Finished nodes′ heard n
   unfolding nameCell metNames
-  stayed nodes′ off w = record { nodes-are = rw off w; count = rw off (x .count); seen-are = rw off (x .seen-are); named = rw off (x .named); size = refl }
+  stayed nodes′ off w = record { nodes-are = rw off w; count = rw off (x .count); hung = rw off (x .hung); named = rw off (x .named); size = refl }
 
   pub name-local : {j : ℕ} (nodes′ : List ℕ) → meaningAt h k ≡ local j → nodes′ ≡ set nodes i (cell node.named j 0 0) → Finished nodes′ heard n
   unfolding isChannelName valueNamed valueCell
@@ -162,33 +159,39 @@ module _ {low high nodes : List ℕ} {lists : Lists} {scope : Scope} (h : Place 
       let z = whole-is (wordIn (h .at)) (g .negated) (g .token) (getD low (g .token) 0) (g .told .safe) (g .told .wholes refl) in
       stayed nodes′ (rw (g .means)) (rw (g .means) (w ∙ ap (set nodes i) (q ∙ ap (numberCell node.literal) (z .1))))
 
-  pub seen-inside : Heard low high heard n k
+  pub seen-inside : Heard low high heard n k seen
   seen-inside =
       let l = in-tables (h .at) k e in
-      let at : (j : ℕ) → j < n → getD (kindsIn (h .at)) (getD heard j 0) 0 ≡ kind.name = λ j l.
-      rw (ap (λ (ks : List ℕ). getD ks j 0) (sym (x .seen-are)) ∙ getD-take n heard j 0 l) at (named-at (kindsIn (h .at)) seen (x .named) j (omega (arith, x .count))) in
-      record { room = omega (arith, x .room); name-low = l .0; name-high = l .1; each-low = λ j l. in-tables (h .at) (getD heard j 0) (at j l) .0; each-high = λ j l. in-tables (h .at) (getD heard j 0) (at j l) .1 }
+      let at : (j : ℕ) → j < n → getD (kindsIn (h .at)) (getD seen j 0) 0 ≡ kind.name = λ j l. named-at (kindsIn (h .at)) seen (x .named) j (omega (arith, x .count)) in
+      record {
+        count = x .count;
+        room = x .room;
+        few = x .few;
+        small = name-small h k e;
+        name-low = l .0;
+        name-high = l .1;
+        each-low = λ j l. in-tables (h .at) (getD seen j 0) (at j l) .0;
+        each-high = λ j l. in-tables (h .at) (getD seen j 0) (at j l) .1;
+        hung = x .hung;
+      }
 
   pub name-channel : (nodes′ heard′ : List ℕ) (r : ℕ) → isChannelName (meaningAt h k) ≡ true
-      → ChannelDone nodes heard i (placeOr n (placeIn (packed low high) k 0 (take n heard))) (heardAfter (placeIn (packed low high) k 0 (take n heard)) (take n heard) k) nodes′ heard′ r → Finished nodes′ heard′ r
+      → ((ks : List ℕ) → Heard low high heard n k ks → ChannelDone low high nodes heard i (placeOr n (placeIn (packed low high) k 0 ks)) (heardAfter (placeIn (packed low high) k 0 ks) ks k) nodes′ heard′ r) → Finished nodes′ heard′ r
   unfolding nameCell metNames
-  name-channel nodes′ heard′ r on d =
+  name-channel nodes′ heard′ r on f =
+      let d = f seen seen-inside in
       let v = wordIn (h .at) in
       let m = met-is v (variablesIn (h .at)) seen k in
-      let p : placeIn (packed low high) k 0 (take n heard) ≡ placeIn v k 0 seen = ap (placeIn (packed low high) k 0) (x .seen-are) ∙ place-alike v (packed low high) (kindsIn (h .at)) (h .at .base .world .alike (asks (h .at))) k e 0 seen (x .named) in
-      let s : heardAfter (placeIn (packed low high) k 0 (take n heard)) (take n heard) k ≡ firsts v (variablesIn (h .at)) seen (k ∷ []) = ap₂ (λ (o : Option ℕ) (l : List ℕ). heardAfter o l k) p (x .seen-are) ∙ sym (m .0) in
-      let q : placeOr n (placeIn (packed low high) k 0 (take n heard)) ≡ orZero (placeIn v k 0 (firsts v (variablesIn (h .at)) seen (k ∷ []))) = ap₂ placeOr (x .count) p ∙ sym (m .1) in
+      let p : placeIn (packed low high) k 0 seen ≡ placeIn v k 0 seen = place-alike v (packed low high) (kindsIn (h .at)) (h .at .base .world .alike (asks (h .at))) k e 0 seen (x .named) in
+      let s : heardAfter (placeIn (packed low high) k 0 seen) seen k ≡ firsts v (variablesIn (h .at)) seen (k ∷ []) = ap (λ (o : Option ℕ). heardAfter o seen k) p ∙ sym (m .0) in
+      let q : placeOr n (placeIn (packed low high) k 0 seen) ≡ orZero (placeIn v k 0 (firsts v (variablesIn (h .at)) seen (k ∷ []))) = ap₂ placeOr (x .count) p ∙ sym (m .1) in
       record {
         nodes-are = rw on (d .nodes-are ∙ ap (λ (a : ℕ). set nodes i (cell channel a 0 0)) q);
         count = rw on (d .count ∙ ap length s);
-        seen-are = rw on (d .seen-are ∙ s);
+        hung = rw on (subst (λ (ks : List ℕ). Hung low high heard′ ks) s (d .hung));
         named = rw on (named-after (kindsIn (h .at)) v (variablesIn (h .at)) k seen e (x .named));
         size = d .size;
       }
-
--- a name's token fits a field
-pub name-small : {low high nodes : List ℕ} {lists : Lists} {scope : Scope} (h : Place low high nodes lists scope) (k : ℕ) → IsName (kindsIn (h .at)) k → k < field
-name-small h k e = let l = inside (kindsIn (h .at)) k (omega arith) in omega (arith, h .at .base .world .few)
 
 -- ---- the cases of `settle_scale`
 

@@ -29,6 +29,7 @@ use Rattle.settle.specs.declared.Walk.{Walk}
 use Rattle.settle.specs.Walks.{Role, roleOf, roleAt, Point, paramsAt, cellOf, step, pointAt, begun}
 use Rattle.settle.specs.Walks as role
 use Rattle.settle.specs.Places.{Told, Base, Lookup, Kept, kindsIn, definitionsOf, Knows, markedBy, firstNode, lineNode, Standing, Stepped, Resolvable}
+use Rattle.settle.proofs.Kids.{none-hung}
 use Rattle.settle.proofs.Whole.{steps-on, trace-begun, names-few, numbers-few, definitions-below, node-safe, number-below, node-linked, numbers-apart, line-after, sums-after, names-after, sum-node, represented}
 use Rattle.settle.specs.Settles.{SumNode, lineIn, Settles}
 use Rattle.settle.proofs.Same.{walked-alike, cell-alike}
@@ -107,7 +108,7 @@ module _ {low high t roots₀ scopes₀ heard₀ : List ℕ} {lists : Lists} (h 
     pub ahead : (j : ℕ) → i ≤ j → getD nodes j 0 ≡ getD t j 0
     pub numbers : (j : ℕ) → j < firstNode lists → getD nodes j 0 ≡ getD t j 0
     pub done : (j : ℕ) → firstNode lists ≤ j → j < i → getD nodes j 0 ≡ cellOf w vs ds t j (point j)
-    pub knows : Knows (h .base .world .kinds) heard walk (point i)
+    pub knows : Knows low high (h .base .world .kinds) heard walk (point i)
     pub sums : (j : ℕ) → firstNode lists ≤ j → j < i → roleAt t j ≡ role.sum → (getD roots (tokenOf (getD t j 0)) 0 ≡ j - 1) × (getD scopes (tokenOf (getD t j 0)) 0 ≡ length (point j .scope))
 
   first-is : length vs ≡ lists .variables
@@ -170,7 +171,7 @@ module _ {low high t roots₀ scopes₀ heard₀ : List ℕ} {lists : Lists} (h 
         ahead = λ j q. other j (λ e. omega arith) ∙ x .ahead j (omega arith);
         numbers = λ j q. other j (λ e. omega arith) ∙ x .numbers j q;
         done = λ j a b. done-by j a b (ℕ-discrete j i) c other (x .done) (ap (λ (l : List ℕ). getD l i 0) (s .nodes-are) ∙ getD-set-same nodes i c 0 room);
-        knows = subst (λ (p : Point). Knows (h .base .world .kinds) heard′ r p) (sym (steps-on w m t i from)) (s .knows);
+        knows = subst (λ (p : Point). Knows low high (h .base .world .kinds) heard′ r p) (sym (steps-on w m t i from)) (s .knows);
         sums = λ j a b q. sums-by j a b q (ℕ-discrete j i) s (st .below) apart;
       }
     where
@@ -211,7 +212,7 @@ module _ {low high t roots₀ scopes₀ heard₀ : List ℕ} {lists : Lists} (h 
         ahead = λ j l. refl;
         numbers = λ j l. refl;
         done = λ j a b. absurd (omega arith);
-        knows = rw e (record { scoped = s low high look; channels = c; seen = rw c; named = tt; sums = n; definitions = d });
+        knows = rw e (record { scoped = s low high look; channels = c; hung = none-hung low high heard₀; named = tt; sums = n; definitions = d });
         sums = λ j a b q. absurd (omega arith);
       }
 

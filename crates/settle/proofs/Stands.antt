@@ -168,23 +168,23 @@ module _ {low high nodes roots scopes heard : List ℕ} {lists : Lists} {walk : 
     unfolding sortOf SortFits numberKind
     name-fits = rw e at fits
 
-    pub hearing : Hearing (world .kinds) heard (walk .channels) (h .point .seen)
+    pub hearing : Hearing low high (world .kinds) heard (walk .channels) (h .point .seen)
     hearing =
         record {
           count = h .knows .channels;
           room = omega (arith, h .knows .channels, h .heard-room);
           few = omega (arith, h .knows .channels, h .seen-few, h .before, h .base .room);
-          seen-are = h .knows .seen;
+          hung = h .knows .hung;
           named = h .knows .named;
         }
 
     -- what is asked of `settle_name`
-    pub name-asked : (k : ℕ) → k ≡ tokenOf (getD nodes i 0) → (g : Place low high nodes lists (walk .scope)) × (seen : List ℕ) × IsName (kindsIn (g .at)) k × Hearing (kindsIn (g .at)) heard (walk .channels) seen × (i < length nodes)
+    pub name-asked : (k : ℕ) → k ≡ tokenOf (getD nodes i 0) → (g : Place low high nodes lists (walk .scope)) × (seen : List ℕ) × IsName (kindsIn (g .at)) k × Hearing low high (kindsIn (g .at)) heard (walk .channels) seen × (i < length nodes)
     unfolding place lookup
     name-asked k q = (place, h .point .seen, rw q name-fits, hearing, inside-nodes)
 
     pub name-stepped : (k : ℕ) (nodes′ heard′ : List ℕ) (r : Walk) → k ≡ tokenOf (getD nodes i 0)
-        → ((g : Place low high nodes lists (walk .scope)) (seen : List ℕ) → IsName (kindsIn (g .at)) k → Hearing (kindsIn (g .at)) heard (walk .channels) seen → NameDone (kindsIn (g .at)) nodes heard i (nameCell (wordIn (g .at)) (variablesIn (g .at)) (definitionsOf (g .at)) seen k (meaningAt g k)) (metNames (wordIn (g .at)) (variablesIn (g .at)) seen k (meaningAt g k)) nodes′ heard′ (r .channels))
+        → ((g : Place low high nodes lists (walk .scope)) (seen : List ℕ) → IsName (kindsIn (g .at)) k → Hearing low high (kindsIn (g .at)) heard (walk .channels) seen → NameDone low high (kindsIn (g .at)) nodes heard i (nameCell (wordIn (g .at)) (variablesIn (g .at)) (definitionsOf (g .at)) seen k (meaningAt g k)) (metNames (wordIn (g .at)) (variablesIn (g .at)) seen k (meaningAt g k)) nodes′ heard′ (r .channels))
         → r .scope ≡ walk .scope → r .sums ≡ walk .sums → r .definitions ≡ walk .definitions → Stepped h nodes′ roots scopes heard′ r
     unfolding place lookup cellOf cellBy step stepBy metNames markedBy
     name-stepped k nodes′ heard′ r q f a b d =
@@ -195,7 +195,7 @@ module _ {low high nodes roots scopes heard : List ℕ} {lists : Lists} {walk : 
           nodes-are = rw (is-named, token) (x .nodes-are);
           roots-are = rw no;
           scopes-are = rw no;
-          knows = rw (is-named, token) (record { scoped = rw a (h .knows .scoped); channels = x .count; seen = x .seen-are; named = x .named; sums = b ∙ h .knows .sums; definitions = d ∙ h .knows .definitions });
+          knows = rw (is-named, token) (record { scoped = rw a (h .knows .scoped); channels = x .count; hung = x .hung; named = x .named; sums = b ∙ h .knows .sums; definitions = d ∙ h .knows .definitions });
           size = x .size;
         }
 
@@ -246,7 +246,7 @@ module _ {low high nodes roots scopes heard : List ℕ} {lists : Lists} {walk : 
     count-is = omega (arith, h .knows .scoped .count, ap length (h .knows .scoped .locals-are (asks lookup)), length-take (walk .scope .count) (walk .scope .names))
 
     pub node-stepped : (nodes′ roots′ scopes′ : List ℕ) (r : Walk) (n : ℕ) → n ≡ walk .scope .count
-        → ((g : Turn nodes lists walk (getD nodes i 0)) → Knows (kindsIn (g .at)) (g .heard) r (turned g))
+        → ((g : Turn nodes lists walk (getD nodes i 0)) → Knows (g .low) (g .high) (kindsIn (g .at)) (g .heard) r (turned g))
         → ((g : Leaf low high nodes lists (walk .scope) i) → nodes′ ≡ set nodes i (cellBy (wordIn (g .place .at)) (variablesIn (g .place .at)) (definitionsOf (g .place .at)) (roleAt nodes i) (getD nodes i 0) (g .point)))
         → roots′ ≡ markedBy (getD nodes i 0) roots (i - 1) → scopes′ ≡ markedBy (getD nodes i 0) scopes n → Stepped h nodes′ roots′ scopes′ heard r
     unfolding leaf turn place lookup cellOf step
@@ -255,6 +255,6 @@ module _ {low high nodes roots scopes heard : List ℕ} {lists : Lists} {walk : 
           nodes-are = rw (← here) (g leaf);
           roots-are = rw (← here) x;
           scopes-are = rw (← here, ← count-is, ← q) y;
-          knows = subst (λ (p : Point). Knows (world .kinds) heard r p) (step-bound w vs ds (roleAt nodes i) (getD nodes i 0) (thirdOf (getD nodes (leftOf (getD nodes i 0)) 0)) (thirdOf (getD t (leftOf (getD t i 0)) 0)) (h .point) (λ z. sym (bound-same z)) ∙ ap (λ (c : ℕ). stepBy w vs ds (roleOf (kindOf c)) c (thirdOf (getD t (leftOf (getD t i 0)) 0)) (h .point)) here) (f turn);
+          knows = subst (λ (p : Point). Knows low high (world .kinds) heard r p) (step-bound w vs ds (roleAt nodes i) (getD nodes i 0) (thirdOf (getD nodes (leftOf (getD nodes i 0)) 0)) (thirdOf (getD t (leftOf (getD t i 0)) 0)) (h .point) (λ z. sym (bound-same z)) ∙ ap (λ (c : ℕ). stepBy w vs ds (roleOf (kindOf c)) c (thirdOf (getD t (leftOf (getD t i 0)) 0)) (h .point)) here) (f turn);
           size = refl;
         }

@@ -55,8 +55,8 @@ module _ {nodes : List ℕ} {lists : Lists} {walk : Walk} {c : ℕ} (h : Turn no
 
   -- in another scope
   scoped-as : (r : Walk) (scope : List ℕ) → Scoped Given ts (r .scope) scope → r .channels ≡ walk .channels → r .sums ≡ walk .sums → r .definitions ≡ walk .definitions
-      → Knows ts (h .heard) r (record { scope = scope; seen = p .seen; sums = p .sums; definitions = p .definitions })
-  scoped-as r scope s a b d = record { scoped = s; channels = a ∙ h .knows .channels; seen = rw a (h .knows .seen); named = h .knows .named; sums = b ∙ h .knows .sums; definitions = d ∙ h .knows .definitions }
+      → Knows (h .low) (h .high) ts (h .heard) r (record { scope = scope; seen = p .seen; sums = p .sums; definitions = p .definitions })
+  scoped-as r scope s a b d = record { scoped = s; channels = a ∙ h .knows .channels; hung = h .knows .hung; named = h .knows .named; sums = b ∙ h .knows .sums; definitions = d ∙ h .knows .definitions }
 
   -- ---- an action
   module _ (l : 36 ≤ kindOf c) (u : kindOf c ≤ 44) where
@@ -77,7 +77,7 @@ module _ {nodes : List ℕ} {lists : Lists} {walk : Walk} {c : ℕ} (h : Turn no
     pub action-room : (length (walk .scope .names) ≡ localLimit) × (walk .scope .count ≤ localLimit) × (tokenOf c + 2 * thirdOf c ≤ field)
     action-room = (sc .full, omega (arith, sc .count), room-for (thirdOf c) (bound-named (action-safe .1)) (omega (arith, action-safe .0)))
 
-    pub after-action : (s : Scope) (r : Walk) → Extended (walk .scope) (everyOther (tokenOf c) (thirdOf c)) s → r .scope ≡ s → r .channels ≡ walk .channels → r .sums ≡ walk .sums → r .definitions ≡ walk .definitions → Knows ts (h .heard) r (turned h)
+    pub after-action : (s : Scope) (r : Walk) → Extended (walk .scope) (everyOther (tokenOf c) (thirdOf c)) s → r .scope ≡ s → r .channels ≡ walk .channels → r .sums ≡ walk .sums → r .definitions ≡ walk .definitions → Knows (h .low) (h .high) ts (h .heard) r (turned h)
     unfolding stepBy
     after-action s r x e a b d =
         let n = every-length (tokenOf c) (thirdOf c) in
@@ -106,7 +106,7 @@ module _ {nodes : List ℕ} {lists : Lists} {walk : Walk} {c : ℕ} (h : Turn no
       pub ending-few : n ≤ walk .scope .count
       ending-few = omega (arith, fewer, counted)
 
-      pub after-ending : (s : Scope) (r : Walk) → s .names ≡ walk .scope .names → s .count ≡ walk .scope .count - n → r .scope ≡ s → r .channels ≡ walk .channels → r .sums ≡ walk .sums → r .definitions ≡ walk .definitions → Knows ts (h .heard) r (turned h)
+      pub after-ending : (s : Scope) (r : Walk) → s .names ≡ walk .scope .names → s .count ≡ walk .scope .count - n → r .scope ≡ s → r .channels ≡ walk .channels → r .sums ≡ walk .sums → r .definitions ≡ walk .definitions → Knows (h .low) (h .high) ts (h .heard) r (turned h)
       unfolding stepBy
       after-ending s r x y e a b d =
           let z = length-take-le (length (p .scope) - n) (p .scope) (omega arith) in
@@ -121,14 +121,14 @@ module _ {nodes : List ℕ} {lists : Lists} {walk : Walk} {c : ℕ} (h : Turn no
           rw (ending-role (kindOf c) l u, ← is) (scoped-as r (take (length (p .scope) - n) (p .scope)) (rw e k) a b d)
 
   -- ---- a sum and a definition
-  pub after-sum : (r : Walk) → kindOf c ≡ 49 → r .scope ≡ walk .scope → r .channels ≡ walk .channels → r .sums ≡ walk .sums + 1 → r .definitions ≡ walk .definitions → Knows ts (h .heard) r (turned h)
+  pub after-sum : (r : Walk) → kindOf c ≡ 49 → r .scope ≡ walk .scope → r .channels ≡ walk .channels → r .sums ≡ walk .sums + 1 → r .definitions ≡ walk .definitions → Knows (h .low) (h .high) ts (h .heard) r (turned h)
   unfolding stepBy roleOf numberKind
-  after-sum r e s a b d = rw e (record { scoped = rw s sc; channels = a ∙ h .knows .channels; seen = rw a (h .knows .seen); named = h .knows .named; sums = b ∙ ap (λ (n : ℕ). n + 1) (h .knows .sums); definitions = d ∙ h .knows .definitions })
+  after-sum r e s a b d = rw e (record { scoped = rw s sc; channels = a ∙ h .knows .channels; hung = h .knows .hung; named = h .knows .named; sums = b ∙ ap (λ (n : ℕ). n + 1) (h .knows .sums); definitions = d ∙ h .knows .definitions })
 
-  pub after-definition : (r : Walk) → kindOf c ≡ 56 → Scoped Given ts (r .scope) (paramsAt (definitionsOf (h .at)) (walk .definitions + 1)) → r .channels ≡ walk .channels → r .sums ≡ walk .sums → r .definitions ≡ walk .definitions + 1 → Knows ts (h .heard) r (turned h)
+  pub after-definition : (r : Walk) → kindOf c ≡ 56 → Scoped Given ts (r .scope) (paramsAt (definitionsOf (h .at)) (walk .definitions + 1)) → r .channels ≡ walk .channels → r .sums ≡ walk .sums → r .definitions ≡ walk .definitions + 1 → Knows (h .low) (h .high) ts (h .heard) r (turned h)
   unfolding stepBy roleOf numberKind
   after-definition r e s a b d =
-      rw e (record { scoped = rw (← h .knows .definitions) s; channels = a ∙ h .knows .channels; seen = rw a (h .knows .seen); named = h .knows .named; sums = b ∙ h .knows .sums; definitions = d ∙ ap (λ (n : ℕ). n + 1) (h .knows .definitions) })
+      rw e (record { scoped = rw (← h .knows .definitions) s; channels = a ∙ h .knows .channels; hung = h .knows .hung; named = h .knows .named; sums = b ∙ h .knows .sums; definitions = d ∙ ap (λ (n : ℕ). n + 1) (h .knows .definitions) })
 
-  pub after-none : (36 ≤ kindOf c → kindOf c ≤ 44 → ⊥) → (45 ≤ kindOf c → kindOf c ≤ 46 → ⊥) → (kindOf c ≡ 49 → ⊥) → (kindOf c ≡ 56 → ⊥) → Knows ts (h .heard) walk (turned h)
+  pub after-none : (36 ≤ kindOf c → kindOf c ≤ 44 → ⊥) → (45 ≤ kindOf c → kindOf c ≤ 46 → ⊥) → (kindOf c ≡ 49 → ⊥) → (kindOf c ≡ 56 → ⊥) → Knows (h .low) (h .high) ts (h .heard) walk (turned h)
   after-none a b s d = rw (step-none (kindOf c) (wordIn (h .at)) (variablesIn (h .at)) (definitionsOf (h .at)) c (thirdOf (getD nodes (leftOf c) 0)) p a b s d (h .other)) (h .knows)

@@ -1,4 +1,5 @@
 pub mod Walks
 pub mod Literals
+pub mod Kids
 pub mod Places
 pub mod Settles

@@ -7,7 +7,7 @@ use mathlib.Core.Option.{Option, none, some}
 use Prim.Native.Nat.{ℕ, _+_, _-_, _≤_, _<_, min}
 use lib.Dec.{eqb}
 use lib.IntN.{ℤ, pos, negℤ}
-use lib.ListN.{length, getD, take, set}
+use lib.ListN.{length, getD, set}
 use Rattle.word.specs.Number.{worth, cap, tenThousandths}
 use Rattle.token.specs.Contents.{beforePoint, afterPoint}
 use Rattle.grammar.specs.Syntax
@@ -25,10 +25,12 @@ use Rattle.model.specs.Resolved.{isChannelName, firsts}
 use Rattle.names.specs.declared.Question.the-variants.{Given}
 use Rattle.names.specs.declared.Lists.{Lists}
 use Rattle.names.specs.declared.Scope.{Scope}
+use Rattle.names.specs.Lists.{packed}
 use Rattle.names.specs.Placed.{IsName, Named, Fits}
 use Rattle.names.specs.Settings.{World, Scoped}
 use Rattle.tables.specs.Settled.{channel}
 use Rattle.settle.specs.Literals.{SystemLiteral}
+use Rattle.settle.specs.Kids.{Hung}
 use Rattle.settle.specs.declared.Walk.{Walk}
 use Rattle.settle.specs.Walks.{Role, whole, name, number, scale, action, ending, sum, call, definition, item, plain, roleOf, roleAt, Point, NumberSafe, SafeBy, stepBy, cellOf, step, pointAt}
 
@@ -134,32 +136,42 @@ unfoldable pub placeOr : ℕ → Option ℕ → ℕ
 placeOr n none = n
 placeOr n (some i) = i
 
--- the name k can be looked up among the first n
-pub record Heard (low high heard : List ℕ) (n k : ℕ) : Type 0 where
-  pub room : n ≤ length heard
+-- the name k can be looked up among the n names met, and there is room for it
+pub record Heard (low high heard : List ℕ) (n k : ℕ) (seen : List ℕ) : Type 0 where
+  pub count : n ≡ length seen
+  pub room : n < length heard
+  pub few : n < field
+  pub small : k < field
   pub name-low : k < length low
   pub name-high : k < length high
-  pub each-low : (i : ℕ) → i < n → getD heard i 0 < length low
-  pub each-high : (i : ℕ) → i < n → getD heard i 0 < length high
+  pub each-low : (i : ℕ) → i < n → getD seen i 0 < length low
+  pub each-high : (i : ℕ) → i < n → getD seen i 0 < length high
+  pub hung : Hung low high heard seen
 
 -- the names with k more, where it was none of them
 unfoldable pub heardAfter : Option ℕ → List ℕ → ℕ → List ℕ
 heardAfter none seen k = seen ++ k ∷ []
 heardAfter (some i) seen k = seen
 
--- a channel name's node was written, with its number, and r names are channel names now
-pub record ChannelDone (nodes heard : List ℕ) (i number : ℕ) (seen nodes′ heard′ : List ℕ) (r : ℕ) : Type 0 where
-  pub nodes-are : nodes′ ≡ set nodes i (cell channel number 0 0)
-  pub count : r ≡ length seen
-  pub seen-are : take r heard′ ≡ seen
+-- the name k has the number r among the names met, and hangs in their tree now
+pub record Sought (low high heard : List ℕ) (n k : ℕ) (seen heard′ : List ℕ) (r : ℕ) : Type 0 where
+  pub place-is : r ≡ placeOr n (placeIn (packed low high) k 0 seen)
+  pub hung : Hung low high heard′ (heardAfter (placeIn (packed low high) k 0 seen) seen k)
   pub size : length heard′ ≡ length heard
 
--- the first n are the channel names met
-pub record Hearing (kinds heard : List ℕ) (n : ℕ) (seen : List ℕ) : Type 0 where
+-- a channel name's node was written, with its number, and r names are channel names now
+pub record ChannelDone (low high nodes heard : List ℕ) (i number : ℕ) (seen nodes′ heard′ : List ℕ) (r : ℕ) : Type 0 where
+  pub nodes-are : nodes′ ≡ set nodes i (cell channel number 0 0)
+  pub count : r ≡ length seen
+  pub hung : Hung low high heard′ seen
+  pub size : length heard′ ≡ length heard
+
+-- n channel names are met, and hang in their tree
+pub record Hearing (low high kinds heard : List ℕ) (n : ℕ) (seen : List ℕ) : Type 0 where
   pub count : n ≡ length seen
   pub room : n < length heard
   pub few : n < field
-  pub seen-are : take n heard ≡ seen
+  pub hung : Hung low high heard seen
   pub named : Named kinds seen
 
 -- after a name is met
@@ -167,20 +179,20 @@ unfoldable pub metNames : (ℕ → List ℕ) → List Variable → List ℕ → 
 metNames w vs seen k m = cond (isChannelName m) (firsts w vs seen (k ∷ [])) seen
 
 -- a name's node became nodes′, and n of the names are channel names now
-pub record NameDone (kinds nodes heard : List ℕ) (i cell : ℕ) (seen nodes′ heard′ : List ℕ) (n : ℕ) : Type 0 where
+pub record NameDone (low high kinds nodes heard : List ℕ) (i cell : ℕ) (seen nodes′ heard′ : List ℕ) (n : ℕ) : Type 0 where
   pub nodes-are : nodes′ ≡ set nodes i cell
   pub count : n ≡ length seen
-  pub seen-are : take n heard′ ≡ seen
+  pub hung : Hung low high heard′ seen
   pub named : Named kinds seen
   pub size : length heard′ ≡ length heard
 
 -- ---- the walk
 
 -- what the walk holds is what it knows at a point; kinds: the kinds of the text's tokens
-pub record Knows (kinds heard : List ℕ) (walk : Walk) (p : Point) : Type 0 where
+pub record Knows (low high kinds heard : List ℕ) (walk : Walk) (p : Point) : Type 0 where
   pub scoped : Scoped Given kinds (walk .scope) (p .scope)
   pub channels : walk .channels ≡ length (p .seen)
-  pub seen : take (walk .channels) heard ≡ p .seen
+  pub hung : Hung low high heard (p .seen)
   pub named : Named kinds (p .seen)
   pub sums : walk .sums ≡ p .sums
   pub definitions : walk .definitions ≡ p .definitions
@@ -192,7 +204,7 @@ pub record Turn (nodes : List ℕ) (lists : Lists) (walk : Walk) (c : ℕ) : Typ
   pub at : Lookup low high nodes lists
   pub heard : List ℕ
   pub point : Point
-  pub knows : Knows (kindsIn at) heard walk point
+  pub knows : Knows low high (kindsIn at) heard walk point
   pub fits : Fits (kindsIn at) c
   pub inside : roleOf (kindOf c) ≡ ending → leftOf c < length nodes
   pub safe : SafeBy (wordIn at) (variablesIn at) (Told low (wordIn at)) (roleOf (kindOf c)) c (thirdOf (getD nodes (leftOf c) 0)) point
@@ -229,7 +241,7 @@ pub record Standing (low high nodes roots scopes heard : List ℕ) (lists : List
   pub ahead : (j : ℕ) → i ≤ j → getD nodes j 0 ≡ getD table j 0
   pub numbers : (j : ℕ) → j < firstNode lists → getD nodes j 0 ≡ getD table j 0
   pub done : (j : ℕ) → firstNode lists ≤ j → j < i → getD nodes j 0 ≡ cellOf (base .world .word) (variables (base .world .model)) (definitions (base .world .model)) table j (pointAt (base .world .word) (variables (base .world .model)) (definitions (base .world .model)) table j)
-  pub knows : Knows (base .world .kinds) heard walk point
+  pub knows : Knows low high (base .world .kinds) heard walk point
   pub safe : SafeBy (base .world .word) (variables (base .world .model)) (Told low (base .world .word)) (roleAt table i) (getD table i 0) (thirdOf (getD table (leftOf (getD table i 0)) 0)) point
   pub linked : roleAt table i ≡ ending → (firstNode lists ≤ leftOf (getD table i 0)) × (leftOf (getD table i 0) < i) × (roleAt table (leftOf (getD table i 0)) ≡ action)
   pub below : roleAt table i ≡ sum → (tokenOf (getD table i 0) < length roots) × (tokenOf (getD table i 0) < length scopes) × (0 < i)
@@ -243,7 +255,7 @@ pub record Stepped {low high nodes roots scopes heard : List ℕ} {lists : Lists
   pub nodes-are : nodes′ ≡ set nodes i (cellOf (h .base .world .word) (variables (h .base .world .model)) (definitions (h .base .world .model)) (h .table) i (h .point))
   pub roots-are : roots′ ≡ markedBy (getD (h .table) i 0) roots (i - 1)
   pub scopes-are : scopes′ ≡ markedBy (getD (h .table) i 0) scopes (length (h .point .scope))
-  pub knows : Knows (h .base .world .kinds) heard′ r (step (h .base .world .word) (variables (h .base .world .model)) (definitions (h .base .world .model)) (h .table) i (h .point))
+  pub knows : Knows low high (h .base .world .kinds) heard′ r (step (h .base .world .word) (variables (h .base .world .model)) (definitions (h .base .world .model)) (h .table) i (h .point))
   pub size : length heard′ ≡ length heard
 
 -- ---- the whole walk

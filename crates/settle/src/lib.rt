@@ -8,7 +8,7 @@ ghost use mathlib.Core.List.{List, [], _∷_};
 ghost use mathlib.Core.Bool.{Bool, true, false, _&&_};
 ghost use lib.Dec.{leb};
 ghost use Prim.Native.Nat.{ℕ, _+_, _-_, _≤_, _<_, min};
-ghost use lib.ListN.{length, getD, take, set};
+ghost use lib.ListN.{length, getD, set};
 ghost use Rattle.word.specs.Number.{worth, cap, unit};
 ghost use Rattle.tree.specs.Node.{sum as sumKind};
 ghost use Rattle.tree.specs.Node.{field, kindOf, tokenOf};
@@ -21,8 +21,9 @@ ghost use Rattle.names.specs.declared.Question.the-variants.{Given};
 ghost use Rattle.names.specs.Placed.{IsName};
 ghost use Rattle.names.specs.Settings.{Scoped};
 ghost use Rattle.tables.specs.Settled.{offset, numberCell};
+ghost use Rattle.settle.specs.Kids.{hashOf, kidOf, hungBelow};
 ghost use Rattle.settle.specs.Walks.{valueCell, scaleCell, nameCell, definitionOf, paramsAt, roleAt, Point, cellBy};
-ghost use Rattle.settle.specs.Places.{signed, ScaleTold, Lookup, kindsIn, wordIn, variablesIn, definitionsOf, NumberNode, placeOr, Heard, heardAfter, ChannelDone, Place, meaningAt, Hearing, metNames, NameDone, Calls, Leaf, Knows, Turn, turned, markedBy, Standing, Stepped, Resolvable};
+ghost use Rattle.settle.specs.Places.{signed, ScaleTold, Lookup, kindsIn, wordIn, variablesIn, definitionsOf, NumberNode, placeOr, Heard, heardAfter, Sought, ChannelDone, Place, meaningAt, Hearing, metNames, NameDone, Calls, Leaf, Knows, Turn, turned, markedBy, Standing, Stepped, Resolvable};
 ghost use Rattle.settle.specs.Settles.{Settles};
 ghost use Rattle.tables.specs.Represents.{Represents};
 ghost use Rattle.names.specs.declared.Lists.{Lists};
@@ -64,6 +65,16 @@ const COUNTS: u8 = 2;
 
 // The kind of a node that is a channel name.
 const CHANNEL: u8 = 66;
+
+// What the words of a packed name are multiplied by for its hash, which is below PRIME.
+const FIRST: u64 = 1640531527;
+
+const SECOND: u64 = 1013904223;
+
+const PRIME: u64 = 2147483629;
+
+// The highest bit of a word.
+const TOP: u64 = 9223372036854775808;
 
 fn number_cell(kind: u8, negated: bool, value: u64) -> u64
     requires { ⌜ value < offset ⌝ }
@@ -112,19 +123,66 @@ fn definition_named(low: &[u64], high: &[u64], nodes: &[u64], lists: Lists, k: u
     j
 }
 
-// The place of the name k among the first n channel names; n if it is none of them.
-fn channel_place(low: &[u64], high: &[u64], heard: &[u16], n: usize, k: usize) -> usize
-    requires { ⌜ Heard (now low) (now high) (now heard) n k ⌝ }
-    ensures { λ r. ⌜ r ≡ placeOr n (placeIn (packed (now (low .entry)) (now (high .entry))) k 0 (take n (now (heard .entry)))) ⌝ }
+// The hash of a packed name. Its bits come first, so that names that begin alike part early.
+fn hash_of(first: u64, second: u64) -> u64
+    ensures { λ r. ⌜ r ≡ hashOf first second ⌝ }
 {
+    (first % PRIME * FIRST + second % PRIME * SECOND) % PRIME
+}
+
+// The kid of a channel name's node for a bit; 0 if there is none.
+fn kid_of(node: u64, bit: u64) -> usize
+    ensures { λ r. ⌜ r ≡ kidOf node bit ⌝ }
+{
+    if bit == 0 {
+        return tree::left_of(node);
+    }
+    tree::third_of(node)
+}
+
+// Makes the name k the node n, a kid of the node i for a bit.
+fn hang(heard: &mut [u64], i: usize, bit: u64, n: usize, k: usize)
+    requires { ⌜ (i < length (now heard)) × (i < n) × (n < field) × (k < field) ⌝ }
+    ensures { λ r. ⌜ now (heard .exit) ≡ hungBelow (now (heard .entry)) i bit n k ⌝ }
+{
+    let node = heard[i];
+    let name = tree::token_of(node);
+    tree::node(heard, n, 0, k, 0, 0);
+    if bit == 0 {
+        tree::node(heard, i, 0, name, n, tree::third_of(node));
+        return;
+    }
+    tree::node(heard, i, 0, name, tree::left_of(node), n);
+}
+
+// The number of the name k among the n channel names; n if it is none of them, and then it hangs in their tree. From a name that isn't k's, the next bit of k's leads on.
+fn channel_place(low: &[u64], high: &[u64], heard: &mut [u64], n: usize, k: usize) -> usize
+    requires { ⌜ ((seen : List ℕ) × Heard (now low) (now high) (now heard) n k seen) ⌝ }
+    ensures { λ r. ⌜ ((seen : List ℕ) → Heard (now (low .entry)) (now (high .entry)) (now (heard .entry)) n k seen → Sought (now (low .entry)) (now (high .entry)) (now (heard .entry)) n k seen (now (heard .exit)) r) ⌝ }
+{
+    if n == 0 {
+        tree::node(heard, 0, 0, k, 0, 0);
+        return 0;
+    }
+    let mut first = low[k];
+    let mut second = high[k];
+    let mut bits = hash_of(first, second);
     let mut i = 0;
-    while i < n {
-        if names::same_name(low, high, k, heard[i] as usize) {
+    loop {
+        let node = heard[i];
+        if names::same_name(low, high, k, tree::token_of(node)) {
             return i;
         }
-        i += 1;
+        let kid = kid_of(node, bits % 2);
+        if kid == 0 {
+            hang(heard, i, bits % 2, n, k);
+            return n;
+        }
+        bits = bits / 2 + TOP * (first % 2);
+        first = first / 2 + TOP * (second % 2);
+        second = second / 2;
+        i = kid;
     }
-    n
 }
 
 // Resolves the node i, a name k that is a rate's scale.
@@ -153,20 +211,19 @@ fn settle_channel(
     low: &[u64],
     high: &[u64],
     nodes: &mut [u64],
-    heard: &mut [u16],
+    heard: &mut [u64],
     n: usize,
     i: usize,
     k: usize,
 ) -> usize
-    requires { ⌜ Heard (now low) (now high) (now heard) n k × (n < length (now heard)) × (n < field) × (k < field) ⌝ }
-    ensures { λ r. ⌜ ChannelDone (now (nodes .entry)) (now (heard .entry)) i (placeOr n (placeIn (packed (now (low .entry)) (now (high .entry))) k 0 (take n (now (heard .entry))))) (heardAfter (placeIn (packed (now (low .entry)) (now (high .entry))) k 0 (take n (now (heard .entry)))) (take n (now (heard .entry))) k) (now (nodes .exit)) (now (heard .exit)) r ⌝ }
+    requires { ⌜ ((seen : List ℕ) × Heard (now low) (now high) (now heard) n k seen) ⌝ }
+    ensures { λ r. ⌜ ((seen : List ℕ) → Heard (now (low .entry)) (now (high .entry)) (now (heard .entry)) n k seen → ChannelDone (now (low .entry)) (now (high .entry)) (now (nodes .entry)) (now (heard .entry)) i (placeOr n (placeIn (packed (now (low .entry)) (now (high .entry))) k 0 seen)) (heardAfter (placeIn (packed (now (low .entry)) (now (high .entry))) k 0 seen) seen k) (now (nodes .exit)) (now (heard .exit)) r) ⌝ }
 {
     let c = channel_place(low, high, heard, n, k);
     tree::node(nodes, i, CHANNEL, c, 0, 0);
     if c < n {
         return n;
     }
-    heard[n] = k as u16;
     n + 1
 }
 
@@ -175,15 +232,15 @@ fn settle_name(
     low: &[u64],
     high: &[u64],
     nodes: &mut [u64],
-    heard: &mut [u16],
+    heard: &mut [u64],
     lists: Lists,
     scope: Scope,
     n: usize,
     i: usize,
     k: usize,
 ) -> usize
-    requires { ⌜ ((h : Place (now low) (now high) (now nodes) lists scope) × (seen : List ℕ) × IsName (kindsIn (h .at)) k × Hearing (kindsIn (h .at)) (now heard) n seen × (i < length (now nodes))) ⌝ }
-    ensures { λ r. ⌜ ((h : Place (now (low .entry)) (now (high .entry)) (now (nodes .entry)) lists scope) (seen : List ℕ) → IsName (kindsIn (h .at)) k → Hearing (kindsIn (h .at)) (now (heard .entry)) n seen → NameDone (kindsIn (h .at)) (now (nodes .entry)) (now (heard .entry)) i (nameCell (wordIn (h .at)) (variablesIn (h .at)) (definitionsOf (h .at)) seen k (meaningAt h k)) (metNames (wordIn (h .at)) (variablesIn (h .at)) seen k (meaningAt h k)) (now (nodes .exit)) (now (heard .exit)) r) ⌝ }
+    requires { ⌜ ((h : Place (now low) (now high) (now nodes) lists scope) × (seen : List ℕ) × IsName (kindsIn (h .at)) k × Hearing (now low) (now high) (kindsIn (h .at)) (now heard) n seen × (i < length (now nodes))) ⌝ }
+    ensures { λ r. ⌜ ((h : Place (now (low .entry)) (now (high .entry)) (now (nodes .entry)) lists scope) (seen : List ℕ) → IsName (kindsIn (h .at)) k → Hearing (now (low .entry)) (now (high .entry)) (kindsIn (h .at)) (now (heard .entry)) n seen → NameDone (now (low .entry)) (now (high .entry)) (kindsIn (h .at)) (now (nodes .entry)) (now (heard .entry)) i (nameCell (wordIn (h .at)) (variablesIn (h .at)) (definitionsOf (h .at)) seen k (meaningAt h k)) (metNames (wordIn (h .at)) (variablesIn (h .at)) seen k (meaningAt h k)) (now (nodes .exit)) (now (heard .exit)) r) ⌝ }
 {
     if let Found::At(j) = names::local_named(low, high, scope, k) {
         tree::node(nodes, i, NodeKind::NAMED, j, 0, 0);
@@ -266,7 +323,7 @@ fn is_among(kind: u8, a: u8, b: u8) -> bool
 // The walk after a node that is no name: names come into scope at an action, and go at the end of its branch. A rate doesn't use them, as question 9 has told.
 fn walk_after(nodes: &[u64], lists: Lists, walk: Walk, node: u64) -> Walk
     requires { ⌜ Turn (now nodes) lists walk node ⌝ }
-    ensures { λ r. ⌜ ((h : Turn (now (nodes .entry)) lists walk node) → Knows (kindsIn (h .at)) (h .heard) r (turned h)) ⌝ }
+    ensures { λ r. ⌜ ((h : Turn (now (nodes .entry)) lists walk node) → Knows (h .low) (h .high) (kindsIn (h .at)) (h .heard) r (turned h)) ⌝ }
 {
     let kind = tree::kind_of(node);
     let scope = walk.scope;
@@ -367,7 +424,7 @@ fn settle_node(
     nodes: &mut [u64],
     roots: &mut [u16],
     scopes: &mut [u8],
-    heard: &mut [u16],
+    heard: &mut [u64],
     lists: Lists,
     walk: Walk,
     i: usize,
@@ -410,7 +467,7 @@ pub fn settle(
     nodes: &mut [u64],
     roots: &mut [u16],
     scopes: &mut [u8],
-    heard: &mut [u16],
+    heard: &mut [u64],
     root: usize,
 ) -> Model
     requires { ⌜ ((lists : Lists) × (lists .root ≡ root) × Resolvable (now low) (now high) (now nodes) (now roots) (now scopes) (now heard) lists) ⌝ }

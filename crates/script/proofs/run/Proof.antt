@@ -1,23 +1,15 @@
 -- The loop's invariant: the rows before i are run, and the others lead from here where all lead from the start. The second promise is the theorem over every script.
-use denote.Ref.{now}
-use mathlib.Core.Path.{_≡_, sym, subst, _∙_}
-use mathlib.Core.List.{List}
-use mathlib.Core.Bool.{Bool}
-use Prim.Native.Nat.{ℕ, _-_, _*_}
+use mathlib.Core.Path.{_∙_}
+use Prim.Native.Nat.{_-_, _*_}
 use native.Mathlib.Omega.{arith}
 use borrow.Author.Needs.{needs}
 use lib.ListN.{length}
-use Rattle.script.specs.Rows.{rowWidth, callsIn}
-use Rattle.script.specs.Run.{Lent, lentOf, roomOf, RowRanAt}
-use Rattle.script.specs.Follows.{Follows}
-use Rattle.script.proofs.Follows.{script-follows}
-use Rattle.script.proofs.Turns.{Turn, begins, turns, stops}
+use Rattle.script.specs.Rows.{rowWidth}
+use Rattle.script.specs.Run.{lentOf}
+use Rattle.script.proofs.Follows.{ran-refines}
+use Rattle.script.proofs.Turns.{Long, Turn, begins, turns, stops}
 use Rattle.script.proofs.run.Statement.{statement}
 use Rattle.script.proofs.run.Tie as tie
-
--- what a row gave, where the loop's test was so
-ran-as : {i : ℕ} {script texts : List ℕ} {x y : Lent} {r t : Bool} → r ≡ t → RowRanAt i script texts x r y → RowRanAt i script texts x t y
-ran-as {i} {script} {texts} {x} {y} e h = subst (λ (b : Bool). RowRanAt i script texts x b y) e h
 
 abbrev Inv-loop : tie.InvT-loop
 Inv-loop script texts model₀ state₀ listings₀ answers₀ i₀ model state listings answers i = Turn script texts (lentOf model₀ state₀ listings₀ answers₀) (lentOf model state listings answers) i
@@ -27,22 +19,30 @@ abbrev μ-loop : tie.MeasureT-loop
 
 loop-holds : tie.Need-loop-holds Inv-loop μ-loop
 loop-holds c =
-    begins (now (c .before .before .before .before .before .args .script)) (now (c .before .before .before .before .before .args .texts)) (lentOf (now (c .before .before .before .before .before .args .model)) (now (c .before .before .before .before .before .args .state)) (now (c .before .before .before .before .before .args .listings)) (now (c .before .before .before .before .before .args .answers)))
+    let start = c .before .before .before .before .before .args in
+    begins (start .script .now) (start .texts .now) (lentOf (start .model .now) (start .state .now) (start .listings .now) (start .answers .now))
 
 run-at-requires : tie.Need-run-at-requires Inv-loop μ-loop
 run-at-requires c κs = search needs
 
-add-i : tie.Need-add-i Inv-loop μ-loop
-add-i c =
-    let n = turns (now (c .before .before .before .before .before .before .before .before .before .before .before .before .before .before .before .before .before .before .before .args .script)) (now (c .before .before .before .before .before .before .before .before .before .before .before .before .before .before .before .before .before .before .before .args .texts)) (lentOf (now (c .before .before .before .before .before .before .before .before .before .before .before .before .before .before .before .before .before .before .before .args .model)) (now (c .before .before .before .before .before .before .before .before .before .before .before .before .before .before .before .before .before .before .before .args .state)) (now (c .before .before .before .before .before .before .before .before .before .before .before .before .before .before .before .before .before .before .before .args .listings)) (now (c .before .before .before .before .before .before .before .before .before .before .before .before .before .before .before .before .before .before .before .args .answers))) (lentOf (c .before .before .before .before .before .before .before .before .before .before .before .before .before .loop .model) (c .before .before .before .before .before .before .before .before .before .before .before .before .before .loop .state) (c .before .before .before .before .before .before .before .before .before .before .before .before .before .loop .listings) (c .before .before .before .before .before .before .before .before .before .before .before .before .before .loop .answers)) (lentOf (c .before .before .before .before .before .before .before .before .run-at .last .1 .1 .1 .0) (c .before .before .before .before .before .before .before .before .run-at .last .1 .1 .1 .1 .0) (c .before .before .before .before .before .before .before .before .run-at .last .1 .1 .1 .1 .1 .0) (c .before .before .before .before .before .before .before .before .run-at .last .1 .1 .1 .1 .1 .1 .0)) (c .before .before .before .before .before .before .before .before .before .before .before .before .before .loop .i) (c .before .before .before .before .before .before .before .before .before .before .before .before .before .loop .inv) (record { model = c .before .before .before .before .before .before .before .before .run-at .kept .1 .1 .1 .0; state = c .before .before .before .before .before .before .before .before .run-at .kept .1 .1 .1 .1 .0; listings = c .before .before .before .before .before .before .before .before .run-at .kept .1 .1 .1 .1 .1 .0; answers = c .before .before .before .before .before .before .before .before .run-at .kept .1 .1 .1 .1 .1 .1 .0 }) (ran-as (c .if1 .taken) (c .before .before .before .before .before .before .before .before .run-at .ensures)) in omega (arith, n .within)
-
-loop-less : tie.Need-loop-less Inv-loop μ-loop
-loop-less c =
-    let n = turns (now (c .before .before .before .before .before .before .before .before .before .before .before .before .before .before .before .before .before .before .before .args .script)) (now (c .before .before .before .before .before .before .before .before .before .before .before .before .before .before .before .before .before .before .before .args .texts)) (lentOf (now (c .before .before .before .before .before .before .before .before .before .before .before .before .before .before .before .before .before .before .before .args .model)) (now (c .before .before .before .before .before .before .before .before .before .before .before .before .before .before .before .before .before .before .before .args .state)) (now (c .before .before .before .before .before .before .before .before .before .before .before .before .before .before .before .before .before .before .before .args .listings)) (now (c .before .before .before .before .before .before .before .before .before .before .before .before .before .before .before .before .before .before .before .args .answers))) (lentOf (c .before .before .before .before .before .before .before .before .before .before .before .before .before .loop .model) (c .before .before .before .before .before .before .before .before .before .before .before .before .before .loop .state) (c .before .before .before .before .before .before .before .before .before .before .before .before .before .loop .listings) (c .before .before .before .before .before .before .before .before .before .before .before .before .before .loop .answers)) (lentOf (c .before .before .before .before .before .before .before .before .run-at .last .1 .1 .1 .0) (c .before .before .before .before .before .before .before .before .run-at .last .1 .1 .1 .1 .0) (c .before .before .before .before .before .before .before .before .run-at .last .1 .1 .1 .1 .1 .0) (c .before .before .before .before .before .before .before .before .run-at .last .1 .1 .1 .1 .1 .1 .0)) (c .before .before .before .before .before .before .before .before .before .before .before .before .before .loop .i) (c .before .before .before .before .before .before .before .before .before .before .before .before .before .loop .inv) (record { model = c .before .before .before .before .before .before .before .before .run-at .kept .1 .1 .1 .0; state = c .before .before .before .before .before .before .before .before .run-at .kept .1 .1 .1 .1 .0; listings = c .before .before .before .before .before .before .before .before .run-at .kept .1 .1 .1 .1 .1 .0; answers = c .before .before .before .before .before .before .before .before .run-at .kept .1 .1 .1 .1 .1 .1 .0 }) (ran-as (c .if1 .taken) (c .before .before .before .before .before .before .before .before .run-at .ensures)) in omega (arith, n .within)
-
 loop-again : tie.Need-loop-again Inv-loop μ-loop
 loop-again c =
-    turns (now (c .before .before .before .before .before .before .before .before .before .before .before .before .before .before .before .before .before .before .before .args .script)) (now (c .before .before .before .before .before .before .before .before .before .before .before .before .before .before .before .before .before .before .before .args .texts)) (lentOf (now (c .before .before .before .before .before .before .before .before .before .before .before .before .before .before .before .before .before .before .before .args .model)) (now (c .before .before .before .before .before .before .before .before .before .before .before .before .before .before .before .before .before .before .before .args .state)) (now (c .before .before .before .before .before .before .before .before .before .before .before .before .before .before .before .before .before .before .before .args .listings)) (now (c .before .before .before .before .before .before .before .before .before .before .before .before .before .before .before .before .before .before .before .args .answers))) (lentOf (c .before .before .before .before .before .before .before .before .before .before .before .before .before .loop .model) (c .before .before .before .before .before .before .before .before .before .before .before .before .before .loop .state) (c .before .before .before .before .before .before .before .before .before .before .before .before .before .loop .listings) (c .before .before .before .before .before .before .before .before .before .before .before .before .before .loop .answers)) (lentOf (c .before .before .before .before .before .before .before .before .run-at .last .1 .1 .1 .0) (c .before .before .before .before .before .before .before .before .run-at .last .1 .1 .1 .1 .0) (c .before .before .before .before .before .before .before .before .run-at .last .1 .1 .1 .1 .1 .0) (c .before .before .before .before .before .before .before .before .run-at .last .1 .1 .1 .1 .1 .1 .0)) (c .before .before .before .before .before .before .before .before .before .before .before .before .before .loop .i) (c .before .before .before .before .before .before .before .before .before .before .before .before .before .loop .inv) (record { model = c .before .before .before .before .before .before .before .before .run-at .kept .1 .1 .1 .0; state = c .before .before .before .before .before .before .before .before .run-at .kept .1 .1 .1 .1 .0; listings = c .before .before .before .before .before .before .before .before .run-at .kept .1 .1 .1 .1 .1 .0; answers = c .before .before .before .before .before .before .before .before .run-at .kept .1 .1 .1 .1 .1 .1 .0 }) (ran-as (c .if1 .taken) (c .before .before .before .before .before .before .before .before .run-at .ensures))
+    let start = c .before .before .before .before .before .before .before .before .before .before .before .before .before .before .before .before .before .before .before .args in
+    let at = c .before .before .before .before .before .before .before .before .before .before .before .before .before .loop in
+    let row = c .before .before .before .before .before .before .before .before .run-at in
+    let script = start .script .now in
+    let texts = start .texts .now in
+    let first = lentOf (start .model .now) (start .state .now) (start .listings .now) (start .answers .now) in
+    let here = lentOf (at .model) (at .state) (at .listings) (at .answers) in
+    let left = lentOf (row .last .1 .1 .1 .0) (row .last .1 .1 .1 .1 .0) (row .last .1 .1 .1 .1 .1 .0) (row .last .1 .1 .1 .1 .1 .1 .0) in
+    let long : Long here left = record { model = row .kept .1 .1 .1 .0; state = row .kept .1 .1 .1 .1 .0; listings = row .kept .1 .1 .1 .1 .1 .0; answers = row .kept .1 .1 .1 .1 .1 .1 .0 } in
+    turns script texts first here left (at .i) (at .inv) long (c .if1 .taken) (row .ensures)
+
+add-i : tie.Need-add-i Inv-loop μ-loop
+add-i c = omega (arith, loop-again c .within)
+
+loop-less : tie.Need-loop-less Inv-loop μ-loop
+loop-less c = omega (arith, loop-again c .within)
 
 same-length : tie.Need-same-length Inv-loop μ-loop
 same-length c =
@@ -62,8 +62,17 @@ same-length-4 c =
 
 returns : tie.Need-returns Inv-loop μ-loop
 returns c =
-    let r = stops (now (c .before .before .before .before .before .before .before .before .before .before .before .before .before .before .before .before .before .before .before .args .script)) (now (c .before .before .before .before .before .before .before .before .before .before .before .before .before .before .before .before .before .before .before .args .texts)) (lentOf (now (c .before .before .before .before .before .before .before .before .before .before .before .before .before .before .before .before .before .before .before .args .model)) (now (c .before .before .before .before .before .before .before .before .before .before .before .before .before .before .before .before .before .before .before .args .state)) (now (c .before .before .before .before .before .before .before .before .before .before .before .before .before .before .before .before .before .before .before .args .listings)) (now (c .before .before .before .before .before .before .before .before .before .before .before .before .before .before .before .before .before .before .before .args .answers))) (lentOf (c .before .before .before .before .before .before .before .before .before .before .before .before .before .loop .model) (c .before .before .before .before .before .before .before .before .before .before .before .before .before .loop .state) (c .before .before .before .before .before .before .before .before .before .before .before .before .before .loop .listings) (c .before .before .before .before .before .before .before .before .before .before .before .before .before .loop .answers)) (lentOf (c .before .before .before .before .before .before .before .before .run-at .last .1 .1 .1 .0) (c .before .before .before .before .before .before .before .before .run-at .last .1 .1 .1 .1 .0) (c .before .before .before .before .before .before .before .before .run-at .last .1 .1 .1 .1 .1 .0) (c .before .before .before .before .before .before .before .before .run-at .last .1 .1 .1 .1 .1 .1 .0)) (c .before .before .before .before .before .before .before .before .before .before .before .before .before .loop .i) (c .before .before .before .before .before .before .before .before .before .before .before .before .before .loop .inv) (record { model = c .before .before .before .before .before .before .before .before .run-at .kept .1 .1 .1 .0; state = c .before .before .before .before .before .before .before .before .run-at .kept .1 .1 .1 .1 .0; listings = c .before .before .before .before .before .before .before .before .run-at .kept .1 .1 .1 .1 .1 .0; answers = c .before .before .before .before .before .before .before .before .run-at .kept .1 .1 .1 .1 .1 .1 .0 }) (ran-as (c .if1 .left) (c .before .before .before .before .before .before .before .before .run-at .ensures)) in
-    (r, λ y h. subst (λ (z : Lent). Follows y (callsIn (now (c .before .before .before .before .before .before .before .before .before .before .before .before .before .before .before .before .before .before .before .args .script)) (now (c .before .before .before .before .before .before .before .before .before .before .before .before .before .before .before .before .before .before .before .args .texts)) (roomOf (lentOf (now (c .before .before .before .before .before .before .before .before .before .before .before .before .before .before .before .before .before .before .before .args .model)) (now (c .before .before .before .before .before .before .before .before .before .before .before .before .before .before .before .before .before .before .before .args .state)) (now (c .before .before .before .before .before .before .before .before .before .before .before .before .before .before .before .before .before .before .before .args .listings)) (now (c .before .before .before .before .before .before .before .before .before .before .before .before .before .before .before .before .before .before .before .args .answers))))) (lentOf (now (c .before .before .before .before .before .before .before .before .before .before .before .before .before .before .before .before .before .before .before .args .model)) (now (c .before .before .before .before .before .before .before .before .before .before .before .before .before .before .before .before .before .before .before .args .state)) (now (c .before .before .before .before .before .before .before .before .before .before .before .before .before .before .before .before .before .before .before .args .listings)) (now (c .before .before .before .before .before .before .before .before .before .before .before .before .before .before .before .before .before .before .before .args .answers))) z) (sym (r .buffers)) (script-follows (now (c .before .before .before .before .before .before .before .before .before .before .before .before .before .before .before .before .before .before .before .args .script)) (now (c .before .before .before .before .before .before .before .before .before .before .before .before .before .before .before .before .before .before .before .args .texts)) (lentOf (now (c .before .before .before .before .before .before .before .before .before .before .before .before .before .before .before .before .before .before .before .args .model)) (now (c .before .before .before .before .before .before .before .before .before .before .before .before .before .before .before .before .before .before .before .args .state)) (now (c .before .before .before .before .before .before .before .before .before .before .before .before .before .before .before .before .before .before .before .args .listings)) (now (c .before .before .before .before .before .before .before .before .before .before .before .before .before .before .before .before .before .before .before .args .answers))) y h))
+    let start = c .before .before .before .before .before .before .before .before .before .before .before .before .before .before .before .before .before .before .before .args in
+    let at = c .before .before .before .before .before .before .before .before .before .before .before .before .before .loop in
+    let row = c .before .before .before .before .before .before .before .before .run-at in
+    let script = start .script .now in
+    let texts = start .texts .now in
+    let first = lentOf (start .model .now) (start .state .now) (start .listings .now) (start .answers .now) in
+    let here = lentOf (at .model) (at .state) (at .listings) (at .answers) in
+    let left = lentOf (row .last .1 .1 .1 .0) (row .last .1 .1 .1 .1 .0) (row .last .1 .1 .1 .1 .1 .0) (row .last .1 .1 .1 .1 .1 .1 .0) in
+    let long : Long here left = record { model = row .kept .1 .1 .1 .0; state = row .kept .1 .1 .1 .1 .0; listings = row .kept .1 .1 .1 .1 .1 .0; answers = row .kept .1 .1 .1 .1 .1 .1 .0 } in
+    let r = stops script texts first here left (at .i) (at .inv) long (c .if1 .left) (row .ensures) in
+    (r, ran-refines script texts first (at .i) left r)
 
 pub run-spec : {M : Type 1} → statement M
 run-spec =

@@ -1,5 +1,3 @@
-use Rattle.names.specs.Lists.{packed}
-use Rattle.settle.proofs.Finds.{place-below}
 use Rattle.settle.proofs.Meets.{channel-known, channel-new, place-small}
 use Rattle.settle.proofs.settle_channel.Statement.{statement}
 use Rattle.settle.proofs.settle_channel.Tie as tie
@@ -21,12 +19,12 @@ use lib.ListN.{length, getD, set, take, drop, replicate, length-append, length-t
 -- src/lib.rt:128:9
 channel-place-requires : tie.Need-channel-place-requires
 channel-place-requires c κs =
-    c .before .before .before .before .before .pre .0
+    c .before .before .before .before .before .pre
 
 -- src/lib.rt:129:5
 node-requires : tie.Need-node-requires
 node-requires c κs =
-    (rw (c .before .channel-place .ensures) (place-small (packed (c .before .before .before .before .before .before .before .args .low .now) (c .before .before .before .before .before .before .before .args .high .now)) (c .before .before .before .before .before .before .before .args .k) (c .before .before .before .before .before .before .before .args .heard .now) (c .before .before .before .before .before .before .before .args .n) (c .before .before .before .before .before .before .before .pre .1) (c .before .before .before .before .before .before .before .pre .2)), omega arith, omega arith)
+    (place-small (c .before .before .before .before .before .before .before .before .before .pre .1) (c .before .before .before .channel-place .ensures (c .before .before .before .before .before .before .before .before .before .pre .0) (c .before .before .before .before .before .before .before .before .before .pre .1)), omega arith, omega arith)
 
 -- src/lib.rt:131:9
 same-length : tie.Need-same-length
@@ -39,26 +37,12 @@ same-length-2 c = search needs
 -- src/lib.rt:131:9
 returns : tie.Need-returns
 returns c =
-    channel-known (packed (c .before .before .before .before .before .before .before .before .before .before .before .args .low .now) (c .before .before .before .before .before .before .before .before .before .before .before .args .high .now)) (c .before .before .before .before .before .before .before .before .before .before .before .args .nodes .now) (c .before .before .before .before .before .before .before .before .before .before .before .args .heard .now) (c .before .before .before .before .before .before .before .before .before .before .before .args .n) (c .before .before .before .before .before .before .before .before .before .before .before .args .i) (c .before .before .before .before .before .before .before .before .before .before .before .args .k) (c .before .before .before .before .before .channel-place .result) (c .before .before .before .before .before .before .before .before .before .before .before .pre .1) _ (c .before .before .before .before .before .channel-place .ensures) (c .before .before .before .node .ensures) (omega arith)
-
--- src/lib.rt:133:16
-cast-heard : tie.Need-cast-heard
-cast-heard c =
-    omega (arith, c .before .before .before .before .before .before .before .before .before .before .before .pre .3)
-
--- src/lib.rt:133:5
-mul-heard : tie.Need-mul-heard
-mul-heard c =
-    omega (arith, c .before .before .before .before .before .before .before .before .before .before .before .pre .1)
-
--- src/lib.rt:133:5
-slice-write-heard : tie.Need-slice-write-heard
-slice-write-heard c =
-    omega (arith, c .before .before .before .before .before .before .before .before .before .before .before .pre .1)
+    λ seen g. channel-known g (c .before .before .before .before .before .before .before .channel-place .ensures seen g) _ _ _ (c .before .before .before .node .ensures) (c .if1 .taken)
 
 -- src/lib.rt:134:5
 add-result : tie.Need-add-result
-add-result c = search needs
+add-result c =
+    let p = c .before .before .before .before .before .before .before .before .before .before .before .before .before .pre .1 in omega (arith, p .few)
 
 -- src/lib.rt:124:1
 same-length-3 : tie.Need-same-length-3
@@ -71,7 +55,7 @@ same-length-4 c = search needs
 -- src/lib.rt:124:1
 returns-2 : tie.Need-returns-2
 returns-2 c =
-    channel-new (packed (c .before .before .before .before .before .before .before .before .before .before .before .args .low .now) (c .before .before .before .before .before .before .before .before .before .before .before .args .high .now)) (c .before .before .before .before .before .before .before .before .before .before .before .args .nodes .now) (c .before .before .before .before .before .before .before .before .before .before .before .args .heard .now) (c .before .before .before .before .before .before .before .before .before .before .before .args .n) (c .before .before .before .before .before .before .before .before .before .before .before .args .i) (c .before .before .before .before .before .before .before .before .before .before .before .args .k) (c .before .before .before .before .before .channel-place .result) (c .before .before .before .before .before .before .before .before .before .before .before .pre .1) _ (c .before .before .before .before .before .channel-place .ensures) (c .before .before .before .node .ensures) (omega arith)
+    λ seen g. channel-new g (c .before .before .before .before .before .before .before .channel-place .ensures seen g) _ _ _ (c .before .before .before .node .ensures) (c .if1 .left)
 
 pub settle-channel-spec : {M : Type 1} → statement M
 settle-channel-spec =
@@ -82,9 +66,6 @@ settle-channel-spec =
     same-length
     same-length-2
     returns
-    cast-heard
-    mul-heard
-    slice-write-heard
     add-result
     same-length-3
     same-length-4

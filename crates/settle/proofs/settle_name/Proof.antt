@@ -6,7 +6,7 @@ use Rattle.tree.specs.Node.{numberKind}
 use Rattle.tables.specs.Settled.{numberCell}
 use Rattle.settle.specs.Places.{signed, wordIn, variablesIn, meaningAt}
 use Rattle.settle.proofs.Cells.{whole-is}
-use Rattle.settle.proofs.Meets.{name-small, WholeNamed}
+use Rattle.settle.proofs.Meets.{WholeNamed}
 use Rattle.settle.proofs.settle_name.Statement.{statement}
 use Rattle.settle.proofs.settle_name.Tie as tie
 use Rattle.settle.proofs.settle_name.Reads as reads
@@ -116,7 +116,7 @@ returns-2 c =
 -- src/lib.rt:152:5
 settle-channel-requires : tie.Need-settle-channel-requires
 settle-channel-requires c κs =
-    (seen-inside (c .before .before .before .before .before .before .before .before .before .before .before .before .before .before .pre .0) (c .before .before .before .before .before .before .before .before .before .before .before .before .before .before .args .k) (c .before .before .before .before .before .before .before .before .before .before .before .before .before .before .pre .2) (c .before .before .before .before .before .before .before .before .before .before .before .before .before .before .pre .3) (c .before .before .before .before .before .before .before .before .before .before .before .before .before .before .args .i), c .before .before .before .before .before .before .before .before .before .before .before .before .before .before .pre .3 .room, c .before .before .before .before .before .before .before .before .before .before .before .before .before .before .pre .3 .few, name-small (c .before .before .before .before .before .before .before .before .before .before .before .before .before .before .pre .0) (c .before .before .before .before .before .before .before .before .before .before .before .before .before .before .args .k) (c .before .before .before .before .before .before .before .before .before .before .before .before .before .before .pre .2))
+    (c .before .before .before .before .before .before .before .before .before .before .before .before .before .before .pre .1, seen-inside (c .before .before .before .before .before .before .before .before .before .before .before .before .before .before .pre .0) (c .before .before .before .before .before .before .before .before .before .before .before .before .before .before .args .k) (c .before .before .before .before .before .before .before .before .before .before .before .before .before .before .pre .2) (c .before .before .before .before .before .before .before .before .before .before .before .before .before .before .pre .3) (c .before .before .before .before .before .before .before .before .before .before .before .before .before .before .args .i))
 
 -- src/lib.rt:138:1
 same-length-3 : tie.Need-same-length-3

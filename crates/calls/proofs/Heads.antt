@@ -1,0 +1,209 @@
+-- A line's first five bytes by their number: the number tells the bytes; and what the whole line says, from the number and the rest.
+use mathlib.Core.Path.{_≡_, refl, sym, ap, ap₂, _∙_, subst}
+use mathlib.Core.List.{List, [], _∷_, _++_}
+use mathlib.Core.Bool.{Bool, true, false, cond, _&&_}
+use Prim.Native.Nat.{ℕ, suc, _+_, _*_, _-_, _≤_, _<_}
+use native.Mathlib.Omega.{arith}
+use lib.ListN.{length, take, drop}
+use Rattle.word.specs.Number.{worth}
+use Rattle.token.specs.Token.{sameBytes}
+use Rattle.token.proofs.Words.{same-is}
+use Rattle.calls.specs.declared.line.Line.{Line}
+use Rattle.calls.specs.declared.line.Line.the-variants.{Open, List as Listing, Step, State, Bad}
+use Rattle.calls.specs.declared.line.Rest.{Rest}
+use Rattle.calls.specs.declared.line.Rest.the-variants.{Nothing, Number, Other}
+use Rattle.calls.specs.declared.line.Reading.{Reading}
+use Rattle.calls.specs.Line.{listBytes, stateBytes, openBytes, stepBytes, isNumber, given, lineOf, restOf, packed, headOf, numbered, bare, Bytes, Reads}
+use Rattle.calls.proofs.Rests.{rest-on}
+use Rattle.calls.specs.Line.{restNext}
+
+-- the least number of five bytes, 2 ^ 40
+abbrev full : ℕ
+full = 1099511627776
+
+-- ---- fewer than five bytes, or five and more
+data Size : List ℕ → Type 0 where
+  none : Size []
+  one : {a : ℕ} → Size (a ∷ [])
+  two : {a b : ℕ} → Size (a ∷ b ∷ [])
+  three : {a b c : ℕ} → Size (a ∷ b ∷ c ∷ [])
+  four : {a b c d : ℕ} → Size (a ∷ b ∷ c ∷ d ∷ [])
+  five : {a b c d e : ℕ} {s : List ℕ} → Size (a ∷ b ∷ c ∷ d ∷ e ∷ s)
+
+size : (s : List ℕ) → Size s
+size [] = none
+size (a ∷ []) = one
+size (a ∷ b ∷ []) = two
+size (a ∷ b ∷ c ∷ []) = three
+size (a ∷ b ∷ c ∷ d ∷ []) = four
+size (a ∷ b ∷ c ∷ d ∷ e ∷ s) = five
+
+-- ---- one more byte
+bytes-on : (s : List ℕ) (b : ℕ) → Bytes s → b < 256 → Bytes (s ++ (b ∷ []))
+bytes-on [] b h k = (k, tt)
+bytes-on (a ∷ s) b h k = (h .0, bytes-on s b (h .1) k)
+
+record Short (s : List ℕ) (b : ℕ) : Type 0 where
+  head : headOf (s ++ (b ∷ [])) ≡ headOf s * 256 + b
+  rest : drop 5 (s ++ (b ∷ [])) ≡ drop 5 s
+
+short : {s : List ℕ} (b : ℕ) → Size s → headOf s < full → Short s b
+unfolding headOf packed
+short b none l = record { head = refl; rest = refl }
+short b one l = record { head = refl; rest = refl }
+short b two l = record { head = refl; rest = refl }
+short b three l = record { head = refl; rest = refl }
+short b four l = record { head = refl; rest = refl }
+short b five l = absurd (omega arith)
+
+record Long (s : List ℕ) (b : ℕ) : Type 0 where
+  head : headOf (s ++ (b ∷ [])) ≡ headOf s
+  rest : drop 5 (s ++ (b ∷ [])) ≡ drop 5 s ++ (b ∷ [])
+
+long : {s : List ℕ} (b : ℕ) → Size s → Bytes s → full ≤ headOf s → Long s b
+unfolding headOf packed
+long b none h l = absurd (omega arith)
+long b one h l = absurd (omega arith)
+long b two h l = absurd (omega arith)
+long b three h l = absurd (omega arith)
+long b four h l = absurd (omega arith)
+long b five h l = record { head = refl; rest = refl }
+
+pub short-on : {s : List ℕ} {r : Reading} (b : ℕ) → Reads s r → b < 256 → r .head < full → Reads (s ++ (b ∷ [])) (record { head = r .head * 256 + b; rest = r .rest })
+short-on {s} {r} b h k l =
+    let e = short b (size s) (rw (← h .head) l) in
+    record { bytes = bytes-on s b (h .bytes) k; head = ap (λ (x : ℕ). x * 256 + b) (h .head) ∙ sym (e .head); rest = h .rest ∙ ap restOf (sym (e .rest)) }
+
+pub long-on : {s : List ℕ} {r : Reading} (b : ℕ) (t : Rest) → Reads s r → b < 256 → full ≤ r .head → t ≡ restNext (r .rest) b → Reads (s ++ (b ∷ [])) (record { head = r .head; rest = t })
+long-on {s} {r} b t h k l n =
+    let e = long b (size s) (h .bytes) (rw (← h .head) l) in
+    record { bytes = bytes-on s b (h .bytes) k; head = h .head ∙ sym (e .head); rest = n ∙ ap (λ (x : Rest). restNext x b) (h .rest) ∙ sym (rest-on (drop 5 s) b) ∙ ap restOf (sym (e .rest)) }
+
+-- ---- no byte at all
+none-by : {s : List ℕ} → Size s → headOf s ≡ 1 → s ≡ []
+unfolding headOf packed
+none-by none e = refl
+none-by one e = absurd (omega arith)
+none-by two e = absurd (omega arith)
+none-by three e = absurd (omega arith)
+none-by four e = absurd (omega arith)
+none-by five e = absurd (omega arith)
+
+pub none-read : {s : List ℕ} {r : Reading} → Reads s r → r .head ≡ 1 → s ≡ []
+none-read {s} h e = none-by (size s) (sym (h .head) ∙ e)
+
+pub some-read : {s : List ℕ} {r : Reading} → Reads s r → (r .head ≡ 1 → ⊥) → 0 < length s
+unfolding headOf packed
+some-read {s} {r} h n = by s h
+  where
+    by : (s : List ℕ) → Reads s r → 0 < length s
+    by [] h = absurd (n (h .head))
+    by (b ∷ s) h = omega arith
+
+-- ---- equal numbers, equal bytes
+apart : (x y a b : ℕ) → a < 256 → b < 256 → x * 256 + a ≡ y * 256 + b → (x ≡ y) × (a ≡ b)
+apart x y a b h k e = (omega arith, omega arith)
+
+record Same (h k : ℕ) (s t : List ℕ) : Type 0 where
+  before : h ≡ k
+  bytes : s ≡ t
+
+same-packed : (h k : ℕ) (s t : List ℕ) → length s ≡ length t → Bytes s → Bytes t → packed h s ≡ packed k t → Same h k s t
+unfolding packed
+same-packed h k [] [] l p q e = record { before = e; bytes = refl }
+same-packed h k [] (b ∷ t) l p q e = absurd (omega arith)
+same-packed h k (a ∷ s) [] l p q e = absurd (omega arith)
+same-packed h k (a ∷ s) (b ∷ t) l p q e =
+    let m : length s ≡ length t = omega arith in
+    let r = same-packed (h * 256 + a) (k * 256 + b) s t m (p .1) (q .1) e in
+    let x = apart h k a b (p .0) (q .0) (r .before) in
+    record { before = x .0; bytes = ap₂ (λ (y : ℕ) (u : List ℕ). y ∷ u) (x .1) (r .bytes) }
+
+-- ---- the words
+-- `list`, of which nothing stands after the first five bytes
+list-is : {s : List ℕ} → Size s → Bytes s → headOf s ≡ 6113817460 → s ≡ listBytes
+unfolding headOf packed
+list-is none h e = absurd (omega arith)
+list-is one h e = absurd (omega arith)
+list-is two h e = absurd (omega arith)
+list-is three h e = absurd (omega arith)
+list-is (four {a} {b} {c} {d}) h e = same-packed 1 1 (a ∷ b ∷ c ∷ d ∷ []) listBytes refl h (omega arith, (omega arith, (omega arith, (omega arith, tt)))) e .bytes
+list-is five h e = absurd (omega arith)
+
+-- a word of five bytes, and what stands after it
+word-is : {s : List ℕ} (w : ℕ) (t : List ℕ) → Size s → Bytes s → Bytes t → length t ≡ 5 → full ≤ w → packed 1 t ≡ w → headOf s ≡ w → s ≡ t ++ drop 5 s
+unfolding headOf packed
+word-is w t none h k l m n e = absurd (omega arith)
+word-is w t one h k l m n e = absurd (omega arith)
+word-is w t two h k l m n e = absurd (omega arith)
+word-is w t three h k l m n e = absurd (omega arith)
+word-is w t four h k l m n e = absurd (omega arith)
+word-is w t (five {a} {b} {c} {d} {e = x} {s = u}) h k l m n e =
+    ap (λ (v : List ℕ). v ++ u) (same-packed 1 1 (a ∷ b ∷ c ∷ d ∷ x ∷ []) t (sym l) (h .0, (h .1 .0, (h .1 .1 .0, (h .1 .1 .1 .0, (h .1 .1 .1 .1 .0, tt))))) k (e ∙ sym n) .bytes)
+
+-- ---- what the line says
+by-none : (t : Bool) (n : ℕ) → bare State (cond t (Number n) Other) ≡ Bad
+by-none true n = refl
+by-none false n = refl
+
+by-number : (says : ℕ → Line) (t : Bool) (n : ℕ) → numbered says (cond t (Number n) Other) ≡ cond t (says n) Bad
+by-number says true n = refl
+by-number says false n = refl
+
+state-then : (u : List ℕ) → bare State (restOf u) ≡ lineOf (stateBytes ++ u)
+unfolding lineOf sameBytes restOf
+state-then [] = refl
+state-then (b ∷ u) = by-none (isNumber (b ∷ u)) (worth 0 (b ∷ u))
+
+open-then : (u : List ℕ) → numbered Open (restOf u) ≡ lineOf (openBytes ++ u)
+unfolding lineOf sameBytes restOf given isNumber
+open-then [] = refl
+open-then (b ∷ u) = by-number Open (isNumber (b ∷ u)) (worth 0 (b ∷ u))
+
+step-then : (u : List ℕ) → numbered Step (restOf u) ≡ lineOf (stepBytes ++ u)
+unfolding lineOf sameBytes restOf given isNumber
+step-then [] = refl
+step-then (b ∷ u) = by-number Step (isNumber (b ∷ u)) (worth 0 (b ∷ u))
+
+differ : (s t : List ℕ) → (s ≡ t → ⊥) → sameBytes s t ≡ false
+differ s t n = by (sameBytes s t) refl
+  where
+    by : (b : Bool) → sameBytes s t ≡ b → b ≡ false
+    by true e = absurd (n (same-is s t e))
+    by false e = refl
+
+module _ {s : List ℕ} {r : Reading} (h : Reads s r) where
+  word : (w : ℕ) (t : List ℕ) → Bytes t → length t ≡ 5 → full ≤ w → packed 1 t ≡ w → r .head ≡ w → s ≡ t ++ drop 5 s
+  word w t k l m n e = word-is w t (size s) (h .bytes) k l m n (sym (h .head) ∙ e)
+
+  pub says-list : r .head ≡ 6113817460 → Listing ≡ lineOf s
+  unfolding lineOf sameBytes
+  says-list e = sym (ap lineOf (list-is (size s) (h .bytes) (sym (h .head) ∙ e)))
+
+  pub says-state : {x : Line} → r .head ≡ 1595385410661 → x ≡ bare State (r .rest) → x ≡ lineOf s
+  unfolding packed
+  says-state e f =
+      let w = word 1595385410661 stateBytes (omega arith, (omega arith, (omega arith, (omega arith, (omega arith, tt))))) refl (omega arith) refl e in
+      f ∙ ap (bare State) (h .rest) ∙ state-then (drop 5 s) ∙ ap lineOf (sym w)
+
+  pub says-open : {x : Line} → r .head ≡ 1578138693152 → x ≡ numbered Open (r .rest) → x ≡ lineOf s
+  unfolding packed
+  says-open e f =
+      let w = word 1578138693152 openBytes (omega arith, (omega arith, (omega arith, (omega arith, (omega arith, tt))))) refl (omega arith) refl e in
+      f ∙ ap (numbered Open) (h .rest) ∙ open-then (drop 5 s) ∙ ap lineOf (sym w)
+
+  pub says-step : {x : Line} → r .head ≡ 1595385671712 → x ≡ numbered Step (r .rest) → x ≡ lineOf s
+  unfolding packed
+  says-step e f =
+      let w = word 1595385671712 stepBytes (omega arith, (omega arith, (omega arith, (omega arith, (omega arith, tt))))) refl (omega arith) refl e in
+      f ∙ ap (numbered Step) (h .rest) ∙ step-then (drop 5 s) ∙ ap lineOf (sym w)
+
+  pub says-bad : (r .head ≡ 6113817460 → ⊥) → (r .head ≡ 1595385410661 → ⊥) → (r .head ≡ 1578138693152 → ⊥) → (r .head ≡ 1595385671712 → ⊥) → Bad ≡ lineOf s
+  unfolding lineOf headOf packed
+  says-bad l t o p =
+      simp (
+        differ s listBytes (λ e. l (h .head ∙ ap headOf e)),
+        differ s stateBytes (λ e. t (h .head ∙ ap headOf e)),
+        differ (take 5 s) openBytes (λ e. o (h .head ∙ ap (packed 1) e)),
+        differ (take 5 s) stepBytes (λ e. p (h .head ∙ ap (packed 1) e)),
+      )

@@ -1,0 +1,33 @@
+-- By the cases of the rest.
+use mathlib.Core.Path.{_≡_, sym, ap, _∙_}
+use borrow.Author.Needs.{needs}
+use Rattle.calls.specs.declared.line.Rest.{Rest}
+use Rattle.calls.specs.Line.{digitNext}
+use Rattle.calls.proofs.line.with_digit.Statement.{statement}
+use Rattle.calls.proofs.line.with_digit.Tie as tie
+
+enum-told : tie.Need-enum-told
+enum-told c = search needs
+
+enum-known-rest : tie.Need-enum-known-rest
+enum-known-rest c = search needs
+
+grow-requires : tie.Need-grow-requires
+grow-requires c κs = search needs
+
+enum-told-2 : tie.Need-enum-told-2
+enum-told-2 c = search needs
+
+returns : tie.Need-returns
+returns c = sym (ap (λ (r : Rest). digitNext r (c .before .before .args .d)) (c .enum-told .given .1))
+
+returns-2 : tie.Need-returns-2
+returns-2 c = c .grow .ensures ∙ sym (ap (λ (r : Rest). digitNext r (c .before .before .before .before .args .d)) (c .before .before .rest .given .1))
+
+returns-3 : tie.Need-returns-3
+returns-3 c = search needs
+
+pub with-digit-spec : {M : Type 1} → statement M
+with-digit-spec =
+    tie.close
+    (tie.spec enum-told enum-known-rest grow-requires enum-told-2 returns returns-2 returns-3)

@@ -1,0 +1,73 @@
+-- By the cases of what the line says.
+use mathlib.Core.Path.{_≡_, sym, ap, subst, _∙_}
+use Prim.Native.Nat.{ℕ}
+use borrow.Author.Needs.{needs}
+use Rattle.calls.specs.declared.line.Line.the-variants.{List as Listing, Step, State}
+use Rattle.calls.specs.declared.script.Part.the-variants.{InText}
+use Rattle.calls.specs.declared.script.Script.{Script}
+use Rattle.calls.specs.declared.script.Taken.{Taken}
+use Rattle.calls.specs.declared.script.Taken.the-variants.{Goes, Asks}
+use Rattle.calls.specs.Script.{next, fresh, ended}
+use Rattle.calls.proofs.script.end_line.Statement.{statement}
+use Rattle.calls.proofs.script.end_line.Tie as tie
+
+next-line-requires : tie.Need-next-line-requires
+next-line-requires c κs = search needs
+
+enum-known-says : tie.Need-enum-known-says
+enum-known-says c = search needs
+
+enum-told : tie.Need-enum-told
+enum-told c = search needs
+
+begin-requires : tie.Need-begin-requires
+begin-requires c κs = search needs
+
+enum-known-says-2 : tie.Need-enum-known-says-2
+enum-known-says-2 c = search needs
+
+begin-requires-2 : tie.Need-begin-requires-2
+begin-requires-2 c κs = search needs
+
+enum-told-2 : tie.Need-enum-told-2
+enum-told-2 c = search needs
+
+begin-requires-3 : tie.Need-begin-requires-3
+begin-requires-3 c κs = search needs
+
+enum-told-3 : tie.Need-enum-told-3
+enum-told-3 c = search needs
+
+returns : tie.Need-returns
+returns c = ap (λ (y : ℕ). Goes (record { line = y; from = c .before .before .before .before .args .line; part = InText (c .before .says .given .0 .0) 0 })) (c .before .before .before .next-line .ensures) ∙ sym (ap (ended (c .before .before .before .before .args .line)) (c .before .says .given .1))
+
+returns-2 : tie.Need-returns-2
+returns-2 c = ap (Asks Listing) (c .begin .ensures ∙ ap fresh (c .before .before .before .next-line .ensures)) ∙ sym (ap (ended (c .before .before .before .before .args .line)) (c .before .enum-told .given .1))
+
+returns-3 : tie.Need-returns-3
+returns-3 c = ap (Asks (Step (c .before .before .says2 .given .0 .0))) (c .begin2 .ensures ∙ ap fresh (c .before .before .before .before .next-line .ensures)) ∙ sym (ap (ended (c .before .before .before .before .before .args .line)) (c .before .before .says2 .given .1))
+
+returns-4 : tie.Need-returns-4
+returns-4 c = ap (Asks State) (c .begin3 .ensures ∙ ap fresh (c .before .before .before .next-line .ensures)) ∙ sym (ap (ended (c .before .before .before .before .args .line)) (c .before .enum-told2 .given .1))
+
+returns-5 : tie.Need-returns-5
+returns-5 c = sym (ap (ended (c .before .before .before .args .line)) (c .enum-told3 .given .1))
+
+pub end-line-spec : {M : Type 1} → statement M
+end-line-spec =
+    tie.close
+    (tie.spec
+    next-line-requires
+    enum-known-says
+    enum-told
+    begin-requires
+    enum-known-says-2
+    begin-requires-2
+    enum-told-2
+    begin-requires-3
+    enum-told-3
+    returns
+    returns-2
+    returns-3
+    returns-4
+    returns-5)

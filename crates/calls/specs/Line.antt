@@ -1,0 +1,119 @@
+-- What a line of a script says, from its bytes. Definitions, and examples by computation.
+use mathlib.Core.Path.{_≡_, refl}
+use mathlib.Core.List.{List, [], _∷_}
+use mathlib.Core.Bool.{Bool, true, false, cond, _&&_}
+use Prim.Native.Nat.{ℕ, _+_, _*_, _<_}
+use lib.Dec.{ltb}
+use lib.ListN.{take, drop}
+use Rattle.word.specs.Number.{worth, digitOf}
+use Rattle.token.specs.Bytes.{isDigit}
+use Rattle.token.specs.Token.{sameBytes}
+use Rattle.calls.specs.declared.line.Line.{Line}
+use Rattle.calls.specs.declared.line.Line.the-variants.{Open, List as Listing, Step, State, Bad}
+use Rattle.calls.specs.declared.line.Rest.{Rest}
+use Rattle.calls.specs.declared.line.Rest.the-variants.{Nothing, Number, Other}
+use Rattle.calls.specs.declared.line.Reading.{Reading}
+
+-- `list`, `state`, `open ` and `step `
+abbrev pub listBytes : List ℕ
+listBytes = 108 ∷ 105 ∷ 115 ∷ 116 ∷ []
+
+abbrev pub stateBytes : List ℕ
+stateBytes = 115 ∷ 116 ∷ 97 ∷ 116 ∷ 101 ∷ []
+
+abbrev pub openBytes : List ℕ
+openBytes = 111 ∷ 112 ∷ 101 ∷ 110 ∷ 32 ∷ []
+
+abbrev pub stepBytes : List ℕ
+stepBytes = 115 ∷ 116 ∷ 101 ∷ 112 ∷ 32 ∷ []
+
+-- 2 ^ 64: a draw and a number of bytes are below it
+abbrev pub limit : ℕ
+limit = 18446744073709551616
+
+-- digits and nothing else
+unfoldable pub digitsOnly : List ℕ → Bool
+digitsOnly [] = true
+digitsOnly (b ∷ s) = isDigit b && digitsOnly s
+
+-- one digit or more, and a number below the limit
+unfoldable pub isNumber : List ℕ → Bool
+isNumber [] = false
+isNumber (b ∷ s) = digitsOnly (b ∷ s) && ltb (worth 0 (b ∷ s)) limit
+
+-- what the line says whose number is written so
+unfoldable pub given : (ℕ → Line) → List ℕ → Line
+given says s = cond (isNumber s) (says (worth 0 s)) Bad
+
+-- the four forms; every other line is bad
+unfoldable pub lineOf : List ℕ → Line
+lineOf s =
+    cond (sameBytes s listBytes) Listing
+    (cond (sameBytes s stateBytes) State
+    (cond (sameBytes (take 5 s) openBytes) (given Open (drop 5 s))
+    (cond (sameBytes (take 5 s) stepBytes) (given Step (drop 5 s)) Bad)))
+
+-- `step 307`
+step-line : lineOf (115 ∷ 116 ∷ 101 ∷ 112 ∷ 32 ∷ 51 ∷ 48 ∷ 55 ∷ []) ≡ Step 307
+unfolding lineOf given isNumber digitsOnly isDigit Rattle.token.specs.Bytes.within sameBytes worth
+step-line = refl
+
+-- `open` without a number
+no-number : lineOf openBytes ≡ Bad
+unfolding lineOf given isNumber sameBytes
+no-number = refl
+
+-- ---- a line so far
+
+-- what stands after the first five bytes, as the code keeps it
+unfoldable pub restOf : List ℕ → Rest
+restOf [] = Nothing
+restOf (b ∷ s) = cond (isNumber (b ∷ s)) (Number (worth 0 (b ∷ s))) Other
+
+-- a number with one more digit
+unfoldable pub grown : ℕ → ℕ → Rest
+grown v d = cond (ltb (v * 10 + d) limit) (Number (v * 10 + d)) Other
+
+-- the rest with one more digit
+abbrev pub digitNext : Rest → ℕ → Rest
+digitNext Nothing d = Number d
+digitNext (Number v) d = grown v d
+digitNext Other d = Other
+
+-- the rest with one more byte
+unfoldable pub restNext : Rest → ℕ → Rest
+restNext r b = cond (isDigit b) (digitNext r (digitOf b)) Other
+
+-- bytes as digits of base 256, after h
+unfoldable pub packed : ℕ → List ℕ → ℕ
+packed h [] = h
+packed h (b ∷ s) = packed (h * 256 + b) s
+
+-- the first five bytes, after a 1
+unfoldable pub headOf : List ℕ → ℕ
+headOf s = packed 1 (take 5 s)
+
+-- what a rest makes of a line that wants a number, or none
+abbrev pub numbered : (ℕ → Line) → Rest → Line
+numbered says Nothing = Bad
+numbered says (Number n) = says n
+numbered says Other = Bad
+
+abbrev pub bare : Line → Rest → Line
+bare says Nothing = says
+bare says (Number n) = Bad
+bare says Other = Bad
+
+abbrev pub Bytes : List ℕ → Type 0
+Bytes [] = Unit {0}
+Bytes (b ∷ s) = (b < 256) × Bytes s
+
+-- the code has read these bytes of a line
+pub record Reads (s : List ℕ) (r : Reading) : Type 0 where
+  pub bytes : Bytes s
+  pub head : r .head ≡ headOf s
+  pub rest : r .rest ≡ restOf (drop 5 s)
+
+-- no byte yet
+abbrev pub empty : Reading
+empty = record { head = 1; rest = Nothing }

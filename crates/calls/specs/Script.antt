@@ -1,0 +1,113 @@
+-- A script of calls, from its bytes: its whole items and what they ask for, and where a script that has begun stands.
+use mathlib.Core.Path.{_≡_}
+use mathlib.Core.List.{List, [], _∷_, _++_}
+use mathlib.Core.Bool.{Bool, true, false, cond}
+use Prim.Native.Nat.{ℕ, _+_, _%_, _≤_, _<_}
+use lib.Dec.{eqb}
+use lib.ListN.{length}
+use Rattle.token.specs.Bytes.{lineFeed}
+use Rattle.calls.specs.declared.line.Line.{Line}
+use Rattle.calls.specs.declared.line.Line.the-variants.{Open, List as Listing, Step, State, Bad}
+use Rattle.calls.specs.declared.line.Reading.{Reading}
+use Rattle.calls.specs.declared.script.Part.{Part}
+use Rattle.calls.specs.declared.script.Part.the-variants.{InLine, InText}
+use Rattle.calls.specs.declared.script.Script.{Script}
+use Rattle.calls.specs.declared.script.Taken.{Taken}
+use Rattle.calls.specs.declared.script.Taken.the-variants.{Goes, Asks, Wrong}
+use Rattle.calls.specs.declared.script.Ending.{Ending}
+use Rattle.calls.specs.declared.script.Ending.the-variants.{Done, Broken}
+use Rattle.calls.specs.Line.{limit, lineOf, empty, Reads}
+
+-- how many lines end in s
+unfoldable pub breaks : List ℕ → ℕ
+breaks [] = 0
+breaks (b ∷ s) = cond (eqb b lineFeed) 1 0 + breaks s
+
+-- the number of the line that goes on after s, from 1, as a 64-bit number
+abbrev pub numberAfter : List ℕ → ℕ
+numberAfter s = (1 + breaks s) % limit
+
+-- a line that asks for a call, or for the state, by itself
+abbrev pub isShort : Line → Bool
+isShort (Open n) = false
+isShort Listing = true
+isShort (Step d) = true
+isShort State = true
+isShort Bad = false
+
+-- bytes that are whole items: such a line and LF, or a line `open n`, LF, n bytes and LF; and what they ask for in turn
+pub data Items : List ℕ → List Line → Type 0 where
+  none : Items [] []
+  short : {s : List ℕ} {qs : List Line} (l : List ℕ) → Items s qs → breaks l ≡ 0 → isShort (lineOf l) ≡ true → Items (s ++ (l ++ (lineFeed ∷ []))) (qs ++ (lineOf l ∷ []))
+  text : {s : List ℕ} {qs : List Line} {n : ℕ} (l t : List ℕ) → Items s qs → breaks l ≡ 0 → lineOf l ≡ Open n → length t ≡ n → Items (s ++ (l ++ (lineFeed ∷ (t ++ (lineFeed ∷ []))))) (qs ++ (Open n ∷ []))
+
+-- s is whole items, and then a line that has not ended
+pub record LineBegun (s : List ℕ) (qs : List Line) (from : ℕ) (r : Reading) : Type 0 where
+  pub items : List ℕ
+  pub line : List ℕ
+  pub is : s ≡ items ++ line
+  pub whole : Items items qs
+  pub unbroken : breaks line ≡ 0
+  pub reads : Reads line r
+  pub from-is : from ≡ numberAfter items
+
+-- s is whole items, and then a line `open n` with LF and k of the n bytes
+pub record TextBegun (s : List ℕ) (qs : List Line) (from n k : ℕ) : Type 0 where
+  pub items : List ℕ
+  pub line : List ℕ
+  pub text : List ℕ
+  pub is : s ≡ items ++ (line ++ (lineFeed ∷ text))
+  pub whole : Items items qs
+  pub unbroken : breaks line ≡ 0
+  pub opens : lineOf line ≡ Open n
+  pub size : k ≡ length text
+  pub fits : k ≤ n
+  pub from-is : from ≡ numberAfter items
+
+abbrev pub Begun : List ℕ → List Line → ℕ → Part → Type 0
+Begun s qs from (InLine r) = LineBegun s qs from r
+Begun s qs from (InText n k) = TextBegun s qs from n k
+
+-- after the bytes s, which have asked for qs, a script stands so; line is the number of the line it is in, from that of the line its last item began with
+pub record Stands (s : List ℕ) (qs : List Line) (x : Script) : Type 0 where
+  pub line-is : x .line ≡ numberAfter s
+  pub begun : Begun s qs (x .from) (x .part)
+
+-- the byte b ends a line of no form, or stands where the LF after a text should; the item began with line n
+pub data Misplaced (s : List ℕ) (b n : ℕ) : Type 0 where
+  of-line : {qs : List Line} {r : Reading} (x : LineBegun s qs n r) → b ≡ lineFeed → lineOf (x .line) ≡ Bad → Misplaced s b n
+  of-text : {qs : List Line} {k : ℕ} → TextBegun s qs n k k → (b ≡ lineFeed → ⊥) → Misplaced s b n
+
+-- what the byte b does after s: it goes on; it ends an item, which asks for l; or it is wrong
+abbrev pub Takes : List ℕ → List Line → ℕ → Taken → Type 0
+Takes s qs b (Goes x) = Stands (s ++ (b ∷ [])) qs x
+Takes s qs b (Asks l x) = Stands (s ++ (b ∷ [])) (qs ++ (l ∷ [])) x
+Takes s qs b (Wrong n) = Misplaced s b n
+
+-- s ends within the item that began with line n
+pub data Cut (s : List ℕ) (n : ℕ) : Type 0 where
+  in-line : {qs : List Line} {r : Reading} (x : LineBegun s qs n r) → 0 < length (x .line) → Cut s n
+  in-text : {qs : List Line} {k j : ℕ} → TextBegun s qs n k j → Cut s n
+
+-- what the end of the script finds after s
+abbrev pub Ends : List ℕ → List Line → Ending → Type 0
+Ends s qs Done = Items s qs
+Ends s qs (Broken n) = Cut s n
+
+-- ---- as the code has it
+
+-- the next line's number
+abbrev pub next : ℕ → ℕ
+next line = (line + 1) % limit
+
+-- before an item
+abbrev pub fresh : ℕ → Script
+fresh line = record { line = line; from = line; part = InLine empty }
+
+-- the line ends that an item began with
+abbrev pub ended : ℕ → Line → Taken
+ended line (Open n) = Goes (record { line = next line; from = line; part = InText n 0 })
+ended line Listing = Asks Listing (fresh (next line))
+ended line (Step d) = Asks (Step d) (fresh (next line))
+ended line State = Asks State (fresh (next line))
+ended line Bad = Wrong line

@@ -1,0 +1,153 @@
+// A line of a script, read byte by byte, however long it is.
+ghost use mathlib.Core.Path.{_≡_};
+ghost use mathlib.Core.List.{List, [], _∷_, _++_};
+ghost use Prim.Native.Nat.{ℕ, _<_};
+ghost use Rattle.calls.specs.Line.{lineOf, grown, digitNext, restNext, numbered, bare, empty, Reads};
+
+// What a line says.
+pub enum Line {
+    Open(u64),
+    List,
+    Step(u64),
+    State,
+    Bad,
+}
+
+// What stands after a line's first five bytes.
+pub enum Rest {
+    Nothing,
+    Number(u64),
+    Other,
+}
+
+// A line so far: its first five bytes, as digits of base 256 after a 1, and what stands after them.
+pub struct Reading {
+    pub head: u64,
+    pub rest: Rest,
+}
+
+pub struct Head;
+
+impl Head {
+    // Of no byte, and the least of five.
+    pub const EMPTY: u64 = 1;
+
+    pub const FULL: u64 = 0x100_0000_0000;
+
+    // Of `list`, `state`, `open ` and `step `.
+    pub const LIST: u64 = 0x1_6c69_7374;
+
+    pub const STATE: u64 = 0x173_7461_7465;
+
+    pub const OPEN: u64 = 0x16f_7065_6e20;
+
+    pub const STEP: u64 = 0x173_7465_7020;
+}
+
+// A number with one more digit, if that is a number still.
+fn grow(v: u64, d: u64) -> Rest
+    requires { ⌜ d < 10 ⌝ }
+    ensures { λ r. ⌜ r ≡ grown v d ⌝ }
+{
+    if v <= (u64::MAX - d) / 10 {
+        return Rest::Number(v * 10 + d);
+    }
+    Rest::Other
+}
+
+fn with_digit(rest: Rest, d: u64) -> Rest
+    requires { ⌜ d < 10 ⌝ }
+    ensures { λ r. ⌜ r ≡ digitNext rest d ⌝ }
+{
+    match rest {
+        Rest::Nothing => Rest::Number(d),
+        Rest::Number(v) => grow(v, d),
+        Rest::Other => Rest::Other,
+    }
+}
+
+fn with_byte(rest: Rest, b: u8) -> Rest
+    ensures { λ r. ⌜ r ≡ restNext rest b ⌝ }
+{
+    if b < b'0' {
+        return Rest::Other;
+    }
+    if b'9' < b {
+        return Rest::Other;
+    }
+    with_digit(rest, (b - b'0') as u64)
+}
+
+fn open_line(rest: Rest) -> Line
+    ensures { λ r. ⌜ r ≡ numbered Line.Open rest ⌝ }
+{
+    match rest {
+        Rest::Nothing => Line::Bad,
+        Rest::Number(n) => Line::Open(n),
+        Rest::Other => Line::Bad,
+    }
+}
+
+fn step_line(rest: Rest) -> Line
+    ensures { λ r. ⌜ r ≡ numbered Line.Step rest ⌝ }
+{
+    match rest {
+        Rest::Nothing => Line::Bad,
+        Rest::Number(n) => Line::Step(n),
+        Rest::Other => Line::Bad,
+    }
+}
+
+fn state_line(rest: Rest) -> Line
+    ensures { λ r. ⌜ r ≡ bare Line.State rest ⌝ }
+{
+    match rest {
+        Rest::Nothing => Line::State,
+        Rest::Number(_) => Line::Bad,
+        Rest::Other => Line::Bad,
+    }
+}
+
+impl Reading {
+    pub fn new() -> Self
+        ensures { λ r. ⌜ r ≡ empty ⌝ }
+    {
+        Reading {
+            head: Head::EMPTY,
+            rest: Rest::Nothing,
+        }
+    }
+
+    // The line with one more byte.
+    pub fn with(self, b: u8) -> Self
+        ensures { λ r. ⌜ ((s : List ℕ) → Reads s self → Reads (s ++ (b ∷ [])) r) ⌝ }
+    {
+        let head = self.head;
+        let rest = self.rest;
+        if head < Head::FULL {
+            return Reading {
+                head: head * 256 + b as u64,
+                rest: rest,
+            };
+        }
+        Reading {
+            head: head,
+            rest: with_byte(rest, b),
+        }
+    }
+
+    // What the whole line says.
+    pub fn says(self) -> Line
+        ensures { λ r. ⌜ ((s : List ℕ) → Reads s self → r ≡ lineOf s) ⌝ }
+    {
+        let rest = self.rest;
+        let head = self.head;
+        match head {
+            Head::LIST => Line::List,
+            Head::STATE => state_line(rest),
+            Head::OPEN => open_line(rest),
+            Head::STEP => step_line(rest),
+            _ => Line::Bad,
+        }
+    }
+}

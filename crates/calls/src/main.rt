@@ -1,0 +1,287 @@
+// Runs a script of calls from standard input, or from each file that an argument names, after a line `== NAME`. Each script has a fresh engine.
+//
+// A script has lines `open N`, which a text of N bytes and an LF follow, `list`, `step D` and `state`. N and D are decimal digits alone, below 2^64, leading zeros or not, after
+// a single blank. Every line ends with an LF, also the last. Lines are counted from 1 by their LFs, those within texts too.
+//
+// open, list and step print `number place branch count total chosen`, then each entry of the listing on a line of its own, after two blanks; `state` prints the state's numbers.
+// A line of another form prints `bad,LINE` and ends the script; so does `open N` whose text is cut short or has no LF after it. Nothing is called for it.
+// A text is lent to open up to 16,385 bytes: as many are too many already, so the bytes after them change no answer.
+mod line;
+mod script;
+
+use engine::Answer;
+use engine::Engine;
+use libc::STDIN_FILENO;
+use libc::STDOUT_FILENO;
+use line::Line;
+use output::Buffer;
+use script::Ending;
+use script::Part;
+use script::Script;
+use script::Taken;
+
+struct Limits;
+
+impl Limits {
+    // Bytes of a text that are kept: one more than a text may have.
+    const TEXT: usize = token::Limits::TEXT + 1;
+
+    // Bytes of one read.
+    const READ: usize = 65536;
+}
+
+type Text = [u8; Limits::TEXT];
+
+type Model = [u8; Engine::MODEL];
+
+type State = [i64; Engine::STATE];
+
+type Listing = [u64; Engine::LISTING];
+
+// Where a run stands: the script, how many bytes of output wait, and whether it has ended.
+struct Run {
+    script: Script,
+    waits: usize,
+    over: bool,
+}
+
+fn put(s: &[u8]) {
+    io::write_all(STDOUT_FILENO, s);
+}
+
+// Keeps a byte of a text.
+fn keep(part: Part, b: u8, text: &mut [u8]) {
+    let Part::InText(_, taken) = part else {
+        return;
+    };
+    let at = taken as usize;
+    if at < text.len() {
+        text[at] = b;
+    }
+}
+
+fn put_answer(out: &mut Buffer, waits: usize, answer: Answer) -> usize {
+    let numbers = [
+        answer.number,
+        answer.place,
+        answer.branch,
+        answer.count,
+        answer.total,
+        answer.chosen,
+    ];
+    output::put_line(out, waits, &numbers, b' ')
+}
+
+// An answer, and as many entries as it counts: none where the listing isn't filled.
+fn put_listing(out: &mut Buffer, waits: usize, answer: Answer, listing: &[u64]) -> usize {
+    let n = put_answer(out, waits, answer);
+    output::put_entries(out, n, listing, answer.count, b"  ", b' ')
+}
+
+fn put_bad(out: &mut Buffer, waits: usize, line: u64) -> usize {
+    let n = output::put(out, waits, b"bad,");
+    output::put_line(out, n, &[line], b' ')
+}
+
+fn call_open(
+    out: &mut Buffer,
+    waits: usize,
+    size: u64,
+    text: &[u8],
+    model: &mut [u8],
+    state: &mut [i64],
+) -> usize {
+    let n = size as usize;
+    if n < text.len() {
+        return put_answer(out, waits, engine::open(&text[..n], model, state));
+    }
+    put_answer(out, waits, engine::open(text, model, state))
+}
+
+// Does what an item of the script asks for.
+fn ask(
+    out: &mut Buffer,
+    waits: usize,
+    asked: Line,
+    text: &Text,
+    model: &mut Model,
+    state: &mut State,
+    listing: &mut Listing,
+) -> usize {
+    match asked {
+        Line::Open(size) => call_open(out, waits, size, text, model, state),
+        Line::List => {
+            let answer = engine::list(model, state, listing);
+            put_listing(out, waits, answer, listing)
+        }
+        Line::Step(draw) => {
+            let answer = engine::step(model, state, listing, draw);
+            put_listing(out, waits, answer, listing)
+        }
+        Line::State => output::put_signed_line(out, waits, state, b' '),
+        Line::Bad => waits,
+    }
+}
+
+fn run_byte(
+    run: Run,
+    b: u8,
+    out: &mut Buffer,
+    text: &mut Text,
+    model: &mut Model,
+    state: &mut State,
+    listing: &mut Listing,
+) -> Run {
+    let script = run.script;
+    let waits = run.waits;
+    let part = script.part;
+    keep(part, b, text);
+    let taken = script.take(b);
+    match taken {
+        Taken::Goes(next) => Run {
+            script: next,
+            waits: waits,
+            over: false,
+        },
+        Taken::Asks(asked, next) => Run {
+            script: next,
+            waits: ask(out, waits, asked, text, model, state, listing),
+            over: false,
+        },
+        Taken::Wrong(line) => Run {
+            script: script,
+            waits: put_bad(out, waits, line),
+            over: true,
+        },
+    }
+}
+
+fn run_bytes(
+    bytes: &[u8],
+    run: Run,
+    out: &mut Buffer,
+    text: &mut Text,
+    model: &mut Model,
+    state: &mut State,
+    listing: &mut Listing,
+) -> Run {
+    let mut now = run;
+    let mut i = 0;
+    while i < bytes.len() {
+        now = run_byte(now, bytes[i], out, text, model, state, listing);
+        if now.over {
+            return now;
+        }
+        i += 1;
+    }
+    now
+}
+
+// The script has ended.
+fn end(run: Run, out: &mut Buffer) -> Run {
+    let script = run.script;
+    let waits = run.waits;
+    let ending = script.at_end();
+    match ending {
+        Ending::Done => Run {
+            script: script,
+            waits: waits,
+            over: true,
+        },
+        Ending::Broken(line) => Run {
+            script: script,
+            waits: put_bad(out, waits, line),
+            over: true,
+        },
+    }
+}
+
+fn flushed(run: Run, out: &Buffer) -> Run {
+    let script = run.script;
+    let over = run.over;
+    Run {
+        script: script,
+        waits: output::flush(out, run.waits),
+        over: over,
+    }
+}
+
+// Reads once, runs what came, and writes what waits.
+fn run_some(
+    fd: i32,
+    run: Run,
+    out: &mut Buffer,
+    text: &mut Text,
+    model: &mut Model,
+    state: &mut State,
+    listing: &mut Listing,
+) -> Run {
+    let mut space = [0u8; Limits::READ];
+    let got = libc::read(fd, &mut space);
+    let n = io::count(got, &space);
+    if n == 0 {
+        return flushed(end(run, out), out);
+    }
+    flushed(
+        run_bytes(&space[..n], run, out, text, model, state, listing),
+        out,
+    )
+}
+
+// Runs a script on a fresh engine. A proved loop has to end, so it counts its reads down from a number that no script uses up.
+fn run_script(fd: i32) {
+    let mut out = output::empty();
+    let mut text = [0u8; Limits::TEXT];
+    let mut model = [0u8; Engine::MODEL];
+    let mut state = [0i64; Engine::STATE];
+    let mut listing = [0u64; Engine::LISTING];
+    let mut run = Run {
+        script: Script::new(),
+        waits: 0,
+        over: false,
+    };
+    let mut reads = u64::MAX;
+    while 0 < reads {
+        run = run_some(
+            fd,
+            run,
+            &mut out,
+            &mut text,
+            &mut model,
+            &mut state,
+            &mut listing,
+        );
+        if run.over {
+            return;
+        }
+        reads -= 1;
+    }
+}
+
+fn run_file(i: usize) {
+    let mut name = io::buffer();
+    let n = os::arg(i, &mut name);
+    put(b"== ");
+    put(&name[..n]);
+    put(b"\n");
+    let fd = os::open_read(&name[..n]);
+    if fd < 0 {
+        os::fail(&name[..n]);
+        return;
+    }
+    run_script(fd);
+    libc::close(fd);
+}
+
+fn main() {
+    let n = os::arg_count();
+    if n < 2 {
+        run_script(STDIN_FILENO);
+        return;
+    }
+    let mut i = 1;
+    while i < n {
+        run_file(i);
+        i += 1;
+    }
+}

@@ -987,8 +987,19 @@ impl Buffers {
         None
     }
 
+    /// The call with its draw as a number.
+    pub fn exact(&self, call: &Call) -> Call {
+        match call {
+            Call::Step { lengths, draw } => Call::Step { lengths: *lengths, draw: Draw::Exactly(self.draw(*draw)) },
+            _ => call.clone(),
+        }
+    }
+
     /// The number that a draw stands for in the present state, by this crate's listing.
     pub fn draw(&self, draw: Draw) -> u64 {
+        if let Draw::Exactly(number) = draw {
+            return number;
+        }
         let mut listing = vec![0; LISTING];
         let total = crate::list(&self.model[..MODEL], &self.state[..STATE], &mut listing).total;
         match draw {

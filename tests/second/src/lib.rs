@@ -13,6 +13,7 @@ pub mod listing;
 pub mod model;
 pub mod names;
 pub mod reader;
+pub mod script;
 pub mod sheet;
 pub mod state;
 pub mod syntax;

@@ -58,39 +58,74 @@ fn opens() {
     assert_eq!(opened(b"A[]={go,x};A[];"), "refused,9,8\n");
 }
 
+/// What `calls` prints for a script on standard input.
+fn calls(script: &str) -> String {
+    let (output, success) = run(env!("CARGO_BIN_EXE_calls"), script.as_bytes(), &[]);
+    assert!(success);
+    output
+}
+
 #[test]
-fn calls() {
-    let folder = std::path::Path::new(env!("CARGO_TARGET_TMPDIR"));
-    let (lamps, bad) = (folder.join("lamps"), folder.join("bad"));
-    std::fs::write(&lamps, LAMPS).unwrap();
-    std::fs::write(&bad, b"A[]").unwrap();
-    let script = format!(
-        // After the first step the lamp's wait has rate 0.5, and 325000000 is below the total.
-        "# a script\nlist\nopen {}\nlist\n\nstep 299999999\nstep 325000000\nopen {}\nstep 0\n",
-        lamps.display(),
-        bad.display()
-    );
-    let expected = "11,0,0,0,0,0
-0,0,0,0,0,0
-0,0,0,2,325000000,0
-7,0,0,2,0,0,300000000
-1,0,1,0,0,0,25000000
-0,0,0,2,325000000,0
-7,0,0,2,0,0,300000000
-1,0,1,0,0,0,25000000
-0,0,0,2,350000000,1
-7,0,0,2,0,0,300000000
-1,0,1,0,0,0,50000000
-5,3,0,0,0,0
-11,0,0,0,0,0
+fn calls_runs_a_script() {
+    let lamps = format!("open {}\n{}\n", LAMPS.len(), String::from_utf8_lossy(LAMPS));
+    // After the first step the lamp's wait has rate 0.5, and 325000000 is below the total.
+    let script = format!("list\n{lamps}list\nstep 325000000\nstep 299999999\nstep 325000000\nopen 3\nA[]\nstep 0\n");
+    let expected = "11 0 0 0 0 0
+0 0 0 0 0 0
+0 0 0 2 325000000 0
+  7 0 0 2 0 0 300000000
+  1 0 1 0 0 0 25000000
+16 0 0 2 325000000 0
+  7 0 0 2 0 0 300000000
+  1 0 1 0 0 0 25000000
+0 0 0 2 325000000 0
+  7 0 0 2 0 0 300000000
+  1 0 1 0 0 0 25000000
+0 0 0 2 350000000 1
+  7 0 0 2 0 0 300000000
+  1 0 1 0 0 0 50000000
+5 3 0 0 0 0
+11 0 0 0 0 0
 ";
-    let expected = expected.to_string();
-    assert_eq!(run(env!("CARGO_BIN_EXE_calls"), script.as_bytes(), &[]), (expected.clone(), true));
-    let file = folder.join("script");
+    assert_eq!(calls(&script), expected);
+    let file = std::path::Path::new(env!("CARGO_TARGET_TMPDIR")).join("script");
     std::fs::write(&file, &script).unwrap();
-    assert_eq!(run(env!("CARGO_BIN_EXE_calls"), b"", &[file.to_str().unwrap()]), (expected, true));
-    for wrong in ["look", "step", "step -1", "open /nowhere/at/all", "list 1"] {
-        let (output, success) = run(env!("CARGO_BIN_EXE_calls"), wrong.as_bytes(), &[]);
-        assert!(output.is_empty() && !success);
+    let name = file.to_str().unwrap();
+    let named = format!("== {name}\n{expected}");
+    // Each file has a fresh engine.
+    let (output, _) = run(env!("CARGO_BIN_EXE_calls"), b"", &[name, name]);
+    assert_eq!(output, named.repeat(2));
+}
+
+#[test]
+fn calls_prints_a_state() {
+    let state = calls("open 15\nA[]={go,1};A[];\nstate\n");
+    let (_, numbers) = state.split_once('\n').unwrap();
+    let numbers: Vec<&str> = numbers.trim_end().split(' ').collect();
+    assert_eq!((numbers.len(), numbers[0], numbers[1]), (3_586, "1", "0"));
+}
+
+#[test]
+fn a_line_of_another_form_ends_the_run() {
+    let cases: [(&str, &str); 14] = [
+        ("list\nlists\nlist\n", "11 0 0 0 0 0\nbad,2\n"),
+        ("\n", "bad,1\n"),
+        ("step\n", "bad,1\n"),
+        ("step \n", "bad,1\n"),
+        ("step -1\n", "bad,1\n"),
+        ("step 18446744073709551616\n", "bad,1\n"),
+        ("step  1\n", "bad,1\n"),
+        ("list 1\n", "bad,1\n"),
+        ("open 3\nab\n", "bad,1\n"),
+        ("open 2\nabc\n", "bad,1\n"),
+        ("open 3\na\nb\nlist \n", "5 2 0 0 0 0\nbad,4\n"),
+        ("list\r\n", "bad,1\n"),
+        ("list", "bad,1\n"),
+        ("! state 0 1\n", "bad,1\n"),
+    ];
+    for (given, expected) in cases {
+        assert_eq!(calls(given), expected, "{given:?}");
     }
+    assert_eq!(calls("open 0\n\nstep 007\nstep 18446744073709551615\n"), "5 0 0 0 0 0\n11 0 0 0 0 0\n11 0 0 0 0 0\n");
+    assert_eq!(calls(""), "");
 }

@@ -1,0 +1,61 @@
+/* Matgravel: an engine for the Beacon Calculus.
+ *
+ * One engine is a model buffer and a state buffer. A fresh engine has zeros in both. No call keeps anything elsewhere: engines are
+ * independent of one another, and a copy of both buffers is a copy of the engine.
+ *
+ * Every call may be given any bytes, numbers and lengths: it answers, or refuses with a number, and never reads or writes beyond the
+ * lengths given. Each pointer is to as many elements as its length says, is not null, and the buffers of a call do not overlap.
+ */
+#ifndef MATGRAVEL_H
+#define MATGRAVEL_H
+
+#include <stddef.h>
+#include <stdint.h>
+
+#ifdef __cplusplus
+extern "C" {
+#endif
+
+/* The lengths of the lent buffers: bytes, signed and unsigned 64-bit numbers. Any other length is refused with 1. */
+#define MATGRAVEL_MODEL 16386
+#define MATGRAVEL_STATE 3586
+#define MATGRAVEL_LISTING 7168
+
+/* The listing's entries: how many there may be, and the numbers of one (kind, place, branch, partner, partner branch, pair, weight). */
+#define MATGRAVEL_ENTRIES 1024
+#define MATGRAVEL_ENTRY 7
+
+/* Bytes of stack that are enough for any call, whatever it is given. Measured on x86-64, on the texts that need most of each kind:
+ * open 1,905,408, list 1,905,504, step 1,924,496; on models of a usual size 0.2 to 0.5 million. */
+#define MATGRAVEL_STACK 3145728
+
+/* number: 0 for acceptance, or that of the refusal.
+ * place: of 2 to 10 a byte of the text, of 12 a process; branch: of 12 a branch. Else 0.
+ * count, total: entries and the sum of their weights; with 0 from list and step and with 15 to 19. Else 0.
+ * chosen: the entry that an accepted step took. Else 0. */
+typedef struct {
+    uint64_t number, place, branch, count, total, chosen;
+} matgravel_answer;
+
+/* Reads a model text and sets the engine to its start.
+ * Refusals: 1 a buffer has a wrong length: nothing is changed.
+ *   2 more than 16,384 bytes, 3 a byte that no text has, 4 brackets too deep, 5 not a text of the grammar, 6 more than 4,096 tokens,
+ *   7 beyond a limit, 8 a name is not new, 9 a name is not given, 10 more than 256 processes: both buffers are zeroed. */
+matgravel_answer matgravel_open(const uint8_t *text, size_t text_len, uint8_t *model, size_t model_len, int64_t *state, size_t state_len);
+
+/* Lists every transition that can happen next, with its weight. Changes neither model nor state.
+ * Refusals: 1 a buffer has a wrong length, 11 the buffers hold no open model with a state of it: the listing is left as it was.
+ *   12 a part has no value or a rate is out of range, 13 more than 1,024 entries, 14 the total is above 9,000,000,000,000,000,000:
+ *   the listing is zeroed. */
+matgravel_answer matgravel_list(const uint8_t *model, size_t model_len, const int64_t *state, size_t state_len, uint64_t *listing, size_t listing_len);
+
+/* Lists, then takes the first entry whose running sum of weights exceeds the draw. The listing is that from which it was chosen.
+ * Refusals: 1 and 11 to 14 as for list. 15 the total is zero, 16 the draw is not below it, 17 an argument of a call has no value,
+ *   18 more than 256 processes, 19 more than 256 pairs: the listing is filled. No refusal alters the state. */
+matgravel_answer matgravel_step(const uint8_t *model, size_t model_len, int64_t *state, size_t state_len, uint64_t *listing, size_t listing_len, uint64_t draw);
+
+#ifdef __cplusplus
+}
+#endif
+
+#endif

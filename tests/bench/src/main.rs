@@ -1,0 +1,164 @@
+//! Times the calls of both engines on the same models, side by side.
+//!
+//!     bench [--rounds N]         how many rounds (10 if not given)
+//!
+//! In each round the engines take turns: each opens the model and lists it with no process, again
+//! and again, then runs it from its start, each state listed and then stepped. Rounds make the
+//! same calls, so each call counts with its least time over all rounds: other work on the machine
+//! only adds. What is printed is the mean of these over the run. Buffers are lent as the call
+//! before left them; none is cleared in between. Without the feature `engine` only the second
+//! engine is timed.
+
+mod models;
+
+use models::Model;
+use second::generate::{Engine, Random};
+use second::{LISTING, MODEL, STATE};
+use std::time::{Duration, Instant};
+
+/// The draws of every run come from this seed.
+const SEED: u64 = 2;
+/// A run that never ends is ended after so many steps.
+const STEPS: usize = 1_000;
+/// How long a round repeats each of the calls that are the same each time.
+const REPEATING: Duration = Duration::from_millis(20);
+const ROUNDS: usize = 10;
+
+// What is timed. `read` is a listing of the model with no process: the reading, the tests of the
+// buffers and the clearing that every list and step begins with.
+const OPEN: usize = 0;
+const READ: usize = 1;
+const LIST: usize = 2;
+const STEP: usize = 3;
+const PARTS: [&str; 4] = ["open", "read", "list", "step"];
+
+#[cfg(feature = "engine")]
+const ENGINES: [(&str, Engine); 2] = [("engine", compare::linked::ENGINE), ("second", second::generate::SECOND)];
+#[cfg(not(feature = "engine"))]
+const ENGINES: [(&str, Engine); 1] = [("second", second::generate::SECOND)];
+
+fn main() {
+    let words: Vec<String> = std::env::args().skip(1).collect();
+    let rounds = match &words[..] {
+        [] => ROUNDS,
+        [flag, number] if flag == "--rounds" => number.parse().expect("--rounds N"),
+        _ => panic!("bench [--rounds N]"),
+    };
+    compare::with_stack(move || run(rounds));
+}
+
+fn run(rounds: usize) {
+    println!("{:12} {:6} {}", "model", "call", columns());
+    for model in models::all() {
+        let mut timed = vec![Times::default(); ENGINES.len()];
+        for _ in 0..rounds {
+            for ((_, engine), times) in ENGINES.iter().zip(&mut timed) {
+                times.round(engine, &model);
+            }
+        }
+        for (part, name) in PARTS.iter().enumerate() {
+            let times: Vec<f64> = timed.iter().map(|times| mean(&times.least[part])).collect();
+            println!("{:12} {name:6} {}", model.name, microseconds(&times));
+        }
+        println!("{:12} {}", "", facts(&model, &timed));
+    }
+}
+
+/// The heads of the columns of times.
+fn columns() -> String {
+    let names: Vec<String> = ENGINES.iter().map(|(name, _)| format!("{:>12}", format!("{name} µs"))).collect();
+    let ratio = if ENGINES.len() == 2 { "       ratio" } else { "" };
+    names.join(" ") + ratio
+}
+
+fn microseconds(times: &[f64]) -> String {
+    let mut line: Vec<String> = times.iter().map(|time| format!("{:12.2}", time * 1e6)).collect();
+    if let [first, second] = times {
+        line.push(format!("{:11.3}", first / second));
+    }
+    line.join(" ")
+}
+
+/// The size of the model and the run, bytes opened in a second, the part of a step that reading
+/// takes.
+fn facts(model: &Model, timed: &[Times]) -> String {
+    let steps = timed[0].least[STEP].len();
+    let mut line = format!("{} bytes, {steps} steps, at most {} entries", model.text.len(), timed[0].entries);
+    for ((name, _), times) in ENGINES.iter().zip(timed) {
+        let [open, read, step] = [OPEN, READ, STEP].map(|part| mean(&times.least[part]));
+        let rate = model.text.len() as f64 / open / 1e6;
+        line += &format!("; {name} opens {rate:.2} MB/s, reading is {:.0}% of a step", 100.0 * read / step);
+    }
+    line
+}
+
+fn mean(times: &[f64]) -> f64 {
+    times.iter().sum::<f64>() / times.len() as f64
+}
+
+/// The times of one engine on one model.
+#[derive(Clone, Default)]
+struct Times {
+    /// Seconds of each call of a run, the least over all rounds, by part.
+    least: [Vec<f64>; PARTS.len()],
+    /// The most entries listed in the run.
+    entries: u64,
+}
+
+struct Buffers {
+    model: Vec<u8>,
+    state: Vec<i64>,
+    listing: Vec<u64>,
+}
+
+impl Times {
+    /// Notes the time since `start` for the call of this part with this number.
+    fn note(&mut self, part: usize, call: usize, start: Instant) {
+        let time = start.elapsed().as_secs_f64();
+        match self.least[part].get_mut(call) {
+            Some(least) => *least = least.min(time),
+            None => self.least[part].push(time),
+        }
+    }
+
+    fn round(&mut self, engine: &Engine, model: &Model) {
+        let mut buffers = Buffers { model: vec![0; MODEL], state: vec![0; STATE], listing: vec![0; LISTING] };
+        let begun = Instant::now();
+        while begun.elapsed() < REPEATING {
+            let start = Instant::now();
+            let opened = (engine.open)(&model.text, &mut buffers.model, &mut buffers.state);
+            self.note(OPEN, 0, start);
+            assert_eq!(opened.number, 0, "{}", model.name);
+        }
+        let nobody = vec![0; STATE];
+        let begun = Instant::now();
+        while begun.elapsed() < REPEATING {
+            let start = Instant::now();
+            let listed = (engine.list)(&buffers.model, &nobody, &mut buffers.listing);
+            self.note(READ, 0, start);
+            assert_eq!((listed.number, listed.count), (0, 0), "{}", model.name);
+        }
+        self.run(engine, &mut buffers);
+    }
+
+    /// Runs the model from its start: each state is listed, then a step is taken.
+    fn run(&mut self, engine: &Engine, buffers: &mut Buffers) {
+        let mut random = Random::new(SEED);
+        for step in 0..STEPS {
+            let start = Instant::now();
+            let listed = (engine.list)(&buffers.model, &buffers.state, &mut buffers.listing);
+            self.note(LIST, step, start);
+            self.entries = self.entries.max(listed.count);
+            if listed.number != 0 || listed.total == 0 {
+                return;
+            }
+            let draw = random.number() % listed.total;
+            let start = Instant::now();
+            let taken = (engine.step)(&buffers.model, &mut buffers.state, &mut buffers.listing, draw);
+            self.note(STEP, step, start);
+            if taken.number != 0 {
+                return;
+            }
+        }
+    }
+}

@@ -1,0 +1,87 @@
+//! The engine of the static library, through the C interface of `include/matgravel.h`.
+
+#![allow(unsafe_code)]
+
+use second::generate::Engine;
+use second::Answer;
+
+/// As `matgravel_answer` of the header.
+#[repr(C)]
+struct CAnswer {
+    number: u64,
+    place: u64,
+    branch: u64,
+    count: u64,
+    total: u64,
+    chosen: u64,
+}
+
+extern "C" {
+    fn matgravel_open(
+        text: *const u8,
+        text_len: usize,
+        model: *mut u8,
+        model_len: usize,
+        state: *mut i64,
+        state_len: usize,
+    ) -> CAnswer;
+    fn matgravel_list(
+        model: *const u8,
+        model_len: usize,
+        state: *const i64,
+        state_len: usize,
+        listing: *mut u64,
+        listing_len: usize,
+    ) -> CAnswer;
+    fn matgravel_step(
+        model: *const u8,
+        model_len: usize,
+        state: *mut i64,
+        state_len: usize,
+        listing: *mut u64,
+        listing_len: usize,
+        draw: u64,
+    ) -> CAnswer;
+}
+
+impl From<CAnswer> for Answer {
+    fn from(answer: CAnswer) -> Answer {
+        let CAnswer { number, place, branch, count, total, chosen } = answer;
+        Answer { number, place, branch, count, total, chosen }
+    }
+}
+
+pub fn open(text: &[u8], model: &mut [u8], state: &mut [i64]) -> Answer {
+    // The call keeps no pointer, and reads and writes within the lengths given.
+    let answer = unsafe {
+        matgravel_open(text.as_ptr(), text.len(), model.as_mut_ptr(), model.len(), state.as_mut_ptr(), state.len())
+    };
+    answer.into()
+}
+
+pub fn list(model: &[u8], state: &[i64], listing: &mut [u64]) -> Answer {
+    // As above; model and state are read only.
+    let answer = unsafe {
+        matgravel_list(model.as_ptr(), model.len(), state.as_ptr(), state.len(), listing.as_mut_ptr(), listing.len())
+    };
+    answer.into()
+}
+
+pub fn step(model: &[u8], state: &mut [i64], listing: &mut [u64], draw: u64) -> Answer {
+    // As above; the model is read only.
+    let answer = unsafe {
+        matgravel_step(
+            model.as_ptr(),
+            model.len(),
+            state.as_mut_ptr(),
+            state.len(),
+            listing.as_mut_ptr(),
+            listing.len(),
+            draw,
+        )
+    };
+    answer.into()
+}
+
+/// The library's engine.
+pub const ENGINE: Engine = Engine { open, list, step };

@@ -1,0 +1,278 @@
+//! The lists of calls of a comparison, each made from its seed alone.
+
+use crate::compare;
+use crate::met::Met;
+use crate::{shrink, specimens, texts};
+use second::generate::{self, Buffers, Call, Draw, Engine, Random, RIGHT, SECOND};
+use second::{model, script, MODEL, STATE};
+
+/// How many lists the test runs, and how many calls it makes at least.
+pub const LISTS: u64 = 1_200;
+pub const LEAST_CALLS: u64 = 30_000;
+/// At most so many calls follow an opening.
+const STEPS: usize = 40;
+
+// Where the parts of a state stand (01, "State and rule machine").
+const PROCESSES: usize = 256;
+const PROCESS: usize = 9;
+const FIRST_PROCESS: usize = 2;
+const FIRST_PAIR: usize = FIRST_PROCESS + PROCESSES * PROCESS;
+const PAIRS: usize = 256;
+const PAIR: usize = 5;
+/// The two bytes of the text's length stand before the text.
+const TEXT_START: usize = 2;
+
+/// The list of a seed: mostly random calls; every tenth goes through the limits, every fifth
+/// hands in states and model buffers directly, every tenth has long lists or many names.
+pub fn of_seed(seed: u64) -> Vec<Call> {
+    let mut random = Random::new(seed);
+    match seed % 20 {
+        9 | 19 => generate::edge_calls(&mut random),
+        4 | 14 => handed_states(&mut random),
+        8 | 18 => handed_models(&mut random),
+        6 => {
+            let which = (seed / 20) as usize % texts::LONG;
+            let text = texts::long(&mut random, which);
+            opened_and_run(&mut random, text, 2)
+        }
+        16 => {
+            let text = texts::many_names(&mut random);
+            opened_and_run(&mut random, text, STEPS)
+        }
+        _ => generate::calls(&mut random, STEPS),
+    }
+}
+
+/// Opens a text, lists it and takes some steps.
+fn opened_and_run(random: &mut Random, text: Vec<u8>, steps: usize) -> Vec<Call> {
+    let mut calls = vec![Call::Open { text, lengths: RIGHT }, Call::List { lengths: RIGHT }];
+    for _ in 0..steps {
+        calls.push(Call::Step { lengths: RIGHT, draw: Draw::Inside(random.number()) });
+    }
+    calls
+}
+
+/// Runs the specimens, then the lists of these seeds; `Err` says the first difference, shrunk,
+/// with its script.
+pub fn run(tried: &Engine, oracle: &Engine, seeds: std::ops::Range<u64>, met: &mut Met) -> Result<(), Report> {
+    let report = |seed, difference| Report::new(seed, shrink::shrink(tried, oracle, difference));
+    specimens::run(tried, oracle, met).map_err(|difference| report(None, difference))?;
+    for seed in seeds {
+        compare::run(tried, oracle, &of_seed(seed), met).map_err(|difference| report(Some(seed), difference))?;
+    }
+    Ok(())
+}
+
+/// A difference, shrunk, and its script.
+#[derive(Clone, Debug)]
+pub struct Report {
+    /// None: a specimen.
+    pub seed: Option<u64>,
+    pub difference: compare::Difference,
+    pub script: Vec<u8>,
+}
+
+impl Report {
+    fn new(seed: Option<u64>, difference: compare::Difference) -> Report {
+        let mut script = script::write(&difference.made);
+        if difference.place == compare::Place::State {
+            script.extend(b"state\n");
+        }
+        Report { seed, difference, script }
+    }
+}
+
+impl std::fmt::Display for Report {
+    fn fmt(&self, out: &mut std::fmt::Formatter) -> std::fmt::Result {
+        match self.seed {
+            Some(seed) => writeln!(out, "seed {seed}, shrunk; {}", self.difference)?,
+            None => writeln!(out, "a specimen, shrunk; {}", self.difference)?,
+        }
+        if script::is_plain(&self.difference.made) {
+            writeln!(out, "The script for `calls`:")?;
+        } else {
+            writeln!(out, "The script (lines with ! are for this package's `replay`; `calls` doesn't know them):")?;
+        }
+        write!(out, "{}", String::from_utf8_lossy(&self.script))
+    }
+}
+
+// States handed in directly.
+
+/// Opens a text, then hands in states: any that fit its model, and spoilt ones.
+fn handed_states(random: &mut Random) -> Vec<Call> {
+    let text = generate::lively(random);
+    let read = model::read(&text).expect("a lively text is legal");
+    let mut calls = vec![Call::Open { text, lengths: RIGHT }];
+    let mut buffers = Buffers::default();
+    buffers.make(&SECOND, &calls[0]);
+    for _ in 0..4 {
+        let state = some_state(random, &read);
+        hand_in(&mut calls, &mut buffers, &state);
+        listed_and_stepped(random, &mut calls, &mut buffers, 3);
+        let mut spoilt = buffers.state[..STATE].to_vec();
+        for _ in 0..*random.pick(&[1, 1, 2]) {
+            spoil(random, &mut spoilt);
+        }
+        hand_in(&mut calls, &mut buffers, &spoilt);
+        calls.push(Call::FillListing { number: random.number() });
+        listed_and_stepped(random, &mut calls, &mut buffers, 1);
+    }
+    calls
+}
+
+/// A state over the model that no run need ever reach.
+fn some_state(random: &mut Random, model: &model::Model) -> Vec<i64> {
+    let mut state = vec![0; STATE];
+    let processes = *random.pick(&[0, 1, 3, 5, 8, 20, 256]);
+    let pairs = *random.pick(&[0, 1, 2, 5, 20, 256]);
+    state[0] = processes as i64;
+    state[1] = pairs as i64;
+    for process in state[FIRST_PROCESS..FIRST_PAIR].chunks_mut(PROCESS).take(processes) {
+        let sum = random.below(model.sums.len());
+        process[0] = sum as i64;
+        for local in &mut process[1..1 + model.sums[sum].locals] {
+            *local = some_value(random);
+        }
+    }
+    let mut lit = std::collections::BTreeSet::new();
+    while lit.len() < pairs {
+        let named = model.channel_names > 0 && random.chance(60);
+        let channel = if named { random.below(model.channel_names) as i64 } else { random.between(-1, 3) };
+        let count = random.between(1, 2);
+        let second = if count == 2 { some_value(random) } else { 0 };
+        lit.insert([i64::from(named), channel, count, some_value(random), second]);
+    }
+    for (place, pair) in state[FIRST_PAIR..].chunks_mut(PAIR).zip(lit) {
+        place.copy_from_slice(&pair);
+    }
+    state
+}
+
+fn some_value(random: &mut Random) -> i64 {
+    match random.below(60) {
+        0 => i64::from(i32::MAX),
+        1 => i64::from(i32::MIN),
+        2..=9 => random.between(-300, 300),
+        _ => random.between(-3, 9),
+    }
+}
+
+/// Does one thing to a state that mostly makes it none.
+fn spoil(random: &mut Random, state: &mut [i64]) {
+    let process = FIRST_PROCESS + PROCESS * some_index(random, state[0], PROCESSES);
+    let pair = FIRST_PAIR + PAIR * some_index(random, state[1], PAIRS);
+    let odd = *random.pick(&[-1, 1, 2, 3, 1 << 31, -(1 << 31) - 1, (1 << 32) + 1, i64::MAX, i64::MIN]);
+    match random.below(9) {
+        // Counts.
+        0 => state[random.below(2)] = *random.pick(&[-1, 0, 1, 255, 256, 257, i64::MAX, i64::MIN]),
+        1 => {
+            let which = random.below(2);
+            state[which] = state[which].wrapping_add(*random.pick(&[-1, 1]));
+        }
+        // Sum numbers, locals and numbers past the last process.
+        2 => state[process] = odd,
+        3 => state[process + 1 + random.below(PROCESS - 1)] = odd,
+        // Parts of a pair.
+        4 => state[pair + random.below(PAIR)] = odd,
+        5 => {
+            let number = &mut state[pair + random.below(PAIR)];
+            *number = number.wrapping_add(*random.pick(&[-1, 1]));
+        }
+        // Pairs doubled and in the wrong order.
+        6 => state.copy_within(FIRST_PAIR..FIRST_PAIR + PAIR, FIRST_PAIR + PAIR),
+        7 => state[FIRST_PAIR..FIRST_PAIR + 2 * PAIR].rotate_left(PAIR),
+        _ => state[random.below(STATE)] = odd,
+    }
+}
+
+/// An index at the end of what is used, in it, or anywhere.
+fn some_index(random: &mut Random, used: i64, most: usize) -> usize {
+    let used = usize::try_from(used).unwrap_or(0).min(most);
+    let index = match random.below(4) {
+        0 => used,
+        1 => used.saturating_sub(1),
+        2 => random.below(used),
+        _ => random.below(most),
+    };
+    index.min(most - 1)
+}
+
+/// The changes that make the state buffer hold these numbers.
+fn hand_in(calls: &mut Vec<Call>, buffers: &mut Buffers, state: &[i64]) {
+    for (place, &number) in state.iter().enumerate() {
+        if buffers.state[place] != number {
+            buffers.state[place] = number;
+            calls.push(Call::SetState { place, number });
+        }
+    }
+}
+
+/// A listing, the draws that 01 names and some others, each with a step.
+fn listed_and_stepped(random: &mut Random, calls: &mut Vec<Call>, buffers: &mut Buffers, times: usize) {
+    let first = calls.len();
+    calls.push(Call::List { lengths: RIGHT });
+    let number = random.number();
+    let draws = [Draw::Exactly(u64::MAX), Draw::Total, Draw::Inside(number), Draw::Last, Draw::Exactly(0)];
+    for draw in draws.iter().take(1 + times) {
+        calls.push(Call::Step { lengths: RIGHT, draw: *draw });
+    }
+    for call in &calls[first..] {
+        buffers.make(&SECOND, call);
+    }
+}
+
+// Model buffers handed in directly.
+
+/// Model buffers that no opening left: texts of every kind written into one, whole or spoilt.
+fn handed_models(random: &mut Random) -> Vec<Call> {
+    let mut calls = Vec::new();
+    let mut buffers = Buffers::default();
+    for _ in 0..3 {
+        let text = generate::some_text(random);
+        let mut held = vec![0; MODEL];
+        let size = text.len().min(MODEL - TEXT_START);
+        held[..TEXT_START].copy_from_slice(&(size as u16).to_le_bytes());
+        held[TEXT_START..TEXT_START + size].copy_from_slice(&text[..size]);
+        hand_in_model(&mut calls, &mut buffers, &held);
+        if let Ok(read) = model::read(&text[..size]) {
+            let state = some_state(random, &read);
+            hand_in(&mut calls, &mut buffers, &state);
+        }
+        listed_and_stepped(random, &mut calls, &mut buffers, 2);
+        spoil_model(random, &mut held, size);
+        hand_in_model(&mut calls, &mut buffers, &held);
+        listed_and_stepped(random, &mut calls, &mut buffers, 1);
+    }
+    calls
+}
+
+fn spoil_model(random: &mut Random, held: &mut [u8], size: usize) {
+    match random.below(5) {
+        // The length alone.
+        0 => held[0] = held[0].wrapping_add(*random.pick(&[1, 255])),
+        1 => held[1] = *random.pick(&[0, 64, 128, 255]),
+        // A byte past the text: the first, the last, any.
+        2 => {
+            let any = TEXT_START + size + random.below(MODEL);
+            let place = *random.pick(&[TEXT_START + size, MODEL - 1, any]);
+            held[place.min(MODEL - 1)] = *random.pick(&[b' ', 1, 255]);
+        }
+        // The length and a blank or a byte that no text has at the end.
+        3 if size < MODEL - TEXT_START => {
+            held[..TEXT_START].copy_from_slice(&(size as u16 + 1).to_le_bytes());
+            held[TEXT_START + size] = *random.pick(&[b' ', b';', 0]);
+        }
+        // A byte of the text.
+        _ => held[TEXT_START + random.below(size)] = random.number() as u8,
+    }
+}
+
+fn hand_in_model(calls: &mut Vec<Call>, buffers: &mut Buffers, held: &[u8]) {
+    for (place, &byte) in held.iter().enumerate() {
+        if buffers.model[place] != byte {
+            buffers.model[place] = byte;
+            calls.push(Call::SetModel { place, byte });
+        }
+    }
+}

@@ -1,0 +1,93 @@
+//! What the calls of a comparison have met: answers, kinds of steps, specimens.
+
+use second::generate::{Buffers, Call, Draw};
+use second::Answer;
+use std::collections::{BTreeMap, BTreeSet};
+use std::fmt;
+
+/// The refusals of 01.
+pub const REFUSALS: std::ops::RangeInclusive<u64> = 1..=19;
+/// The kinds of entries of 01.
+pub const KINDS: std::ops::RangeInclusive<u64> = 1..=7;
+/// Numbers of a listing entry.
+const ENTRY: usize = 7;
+/// The three calls. Each must have been refused for its lengths.
+const CALLS: [&str; 3] = ["open", "list", "step"];
+/// Draws at the ends, where there is a total.
+const DRAWS: [&str; 4] = ["0", "total - 1", "total", "the largest"];
+
+#[derive(Clone, Debug, Default)]
+pub struct Met {
+    pub calls: u64,
+    /// By the call's name and the answer's number.
+    answers: BTreeMap<(&'static str, u64), u64>,
+    /// Accepted steps by the kind of the entry taken.
+    kinds: BTreeMap<u64, u64>,
+    draws: BTreeMap<&'static str, u64>,
+    specimens: BTreeSet<&'static str>,
+}
+
+impl Met {
+    /// Notes an answer and the buffers left with it.
+    pub fn note(&mut self, call: &Call, answer: &Answer, after: &Buffers) {
+        let name = match call {
+            Call::Open { .. } => "open",
+            Call::List { .. } => "list",
+            _ => "step",
+        };
+        self.calls += 1;
+        *self.answers.entry((name, answer.number)).or_default() += 1;
+        if let Call::Step { draw: Draw::Exactly(draw), .. } = call {
+            self.note_draw(*draw, answer.total);
+        }
+        if name == "step" && answer.number == 0 {
+            *self.kinds.entry(after.listing[answer.chosen as usize * ENTRY]).or_default() += 1;
+        }
+    }
+
+    fn note_draw(&mut self, draw: u64, total: u64) {
+        let Some(last) = total.checked_sub(1) else { return };
+        for (name, at) in DRAWS.into_iter().zip([0, last, total, u64::MAX]) {
+            if draw == at {
+                *self.draws.entry(name).or_default() += 1;
+            }
+        }
+    }
+
+    pub fn note_specimen(&mut self, name: &'static str) {
+        self.specimens.insert(name);
+    }
+
+    /// What was never met: refusals, refused lengths of each call, kinds of steps, draws at the
+    /// ends, these specimens.
+    pub fn missing(&self, specimens: &[&'static str]) -> Vec<String> {
+        let refused = |number| self.answers.keys().any(|(_, met)| *met == number);
+        let refusals = REFUSALS.filter(|number| !refused(*number)).map(|number| format!("refusal {number}"));
+        let lengths = CALLS.iter().filter(|name| !self.answers.contains_key(&(**name, 1)));
+        let kinds = KINDS.filter(|kind| !self.kinds.contains_key(kind)).map(|kind| format!("a step of kind {kind}"));
+        let draws = DRAWS.iter().filter(|name| !self.draws.contains_key(**name));
+        let specimens = specimens.iter().filter(|name| !self.specimens.contains(**name));
+        refusals
+            .chain(lengths.map(|name| format!("{name} with a wrong length")))
+            .chain(kinds)
+            .chain(draws.map(|name| format!("draw: {name}")))
+            .chain(specimens.map(|name| format!("specimen: {name}")))
+            .collect()
+    }
+}
+
+impl fmt::Display for Met {
+    fn fmt(&self, out: &mut fmt::Formatter) -> fmt::Result {
+        writeln!(out, "{} calls", self.calls)?;
+        for name in CALLS {
+            let of_name = self.answers.iter().filter(|((call, _), _)| *call == name);
+            let counts: Vec<String> = of_name.map(|((_, number), times)| format!("{number}:{times}")).collect();
+            writeln!(out, "  {name} {}", counts.join(" "))?;
+        }
+        let kinds: Vec<String> = self.kinds.iter().map(|(kind, times)| format!("{kind}:{times}")).collect();
+        writeln!(out, "  kinds of accepted steps {}", kinds.join(" "))?;
+        let draws: Vec<String> = self.draws.iter().map(|(name, times)| format!("{name}:{times}")).collect();
+        writeln!(out, "  draws at the ends {}", draws.join(" "))?;
+        write!(out, "  specimens {}", self.specimens.len())
+    }
+}

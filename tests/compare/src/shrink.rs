@@ -1,0 +1,239 @@
+//! Makes a list of calls on which two engines differ as short as can be had.
+
+use crate::compare::{self, Difference};
+use crate::met::Met;
+use second::generate::{Buffers, Call, Draw, Engine, RIGHT};
+use second::tokens::{self, Kind};
+use second::STATE;
+
+/// How often a shorter list is tried, at most.
+const TRIES: usize = 60_000;
+/// How many tokens in a row are taken out of a text, at most, once halves no longer help.
+const TOKENS: usize = 24;
+/// A cut from a token of the first kind to one of the others often leaves a legal text: it takes
+/// out definitions, processes, branches, values, continuations.
+const CUTS: [(Kind, &[Kind]); 6] = [
+    (Kind::Semicolon, &[Kind::Semicolon]),
+    (Kind::Parallel, &[Kind::Parallel, Kind::Semicolon]),
+    (Kind::Plus, &[Kind::Plus, Kind::Semicolon]),
+    (Kind::Point, &[Kind::Plus, Kind::Semicolon, Kind::Parallel, Kind::CloseRound]),
+    (Kind::Comma, &[Kind::Comma, Kind::CloseSquare]),
+    (Kind::OpenRound, &[Kind::OpenRound]),
+];
+/// How many of the tokens that may end a cut are tried.
+const ENDS: usize = 3;
+/// Short models that often do in the place of a text.
+const SHORT: [&str; 4] =
+    ["A[]={a,1};A[];", "A[]={a,1}.A[];A[];", "A[]={c![1],1};A[];", "A[]={@c![1],1}+{@c?[1],1};2*A[];"];
+
+struct Shrinker<'a> {
+    tried: &'a Engine,
+    oracle: &'a Engine,
+    tries: usize,
+    best: Difference,
+}
+
+/// The same difference, or another one, on a shorter list.
+pub fn shrink(tried: &Engine, oracle: &Engine, found: Difference) -> Difference {
+    let mut shrinker = Shrinker { tried, oracle, tries: TRIES, best: found };
+    shrinker.hand_in();
+    loop {
+        let before = shrinker.size();
+        shrinker.drop_calls();
+        shrinker.shorten_texts();
+        shrinker.lower_draws();
+        if shrinker.size() >= before || shrinker.tries == 0 {
+            return shrinker.best;
+        }
+    }
+}
+
+impl Shrinker<'_> {
+    /// How long the list is: calls, bytes of texts, digits of draws.
+    fn size(&self) -> usize {
+        let size = |call: &Call| match call {
+            Call::Open { text, .. } => 10 + text.len(),
+            Call::Step { draw: Draw::Exactly(draw), .. } => 10 + draw.to_string().len(),
+            _ => 10,
+        };
+        self.best.made.iter().map(size).sum()
+    }
+
+    /// Takes the list in place of the best one if the engines differ on it.
+    fn takes(&mut self, calls: &[Call]) -> bool {
+        if self.tries == 0 {
+            return false;
+        }
+        self.tries -= 1;
+        match compare::run(self.tried, self.oracle, calls, &mut Met::default()) {
+            Ok(()) => false,
+            Err(difference) => {
+                self.best = difference;
+                true
+            }
+        }
+    }
+
+    /// Tries the last call by itself: an opening of the text that the model buffer then holds, the
+    /// state's numbers, the call.
+    fn hand_in(&mut self) {
+        let Some((last, before)) = self.best.made.split_last() else { return };
+        let (mut held, mut opened) = (Buffers::default(), Buffers::default());
+        for call in before {
+            held.make(self.oracle, call);
+        }
+        let size = usize::from(u16::from_le_bytes([held.model[0], held.model[1]]));
+        let Some(text) = held.model.get(2..2 + size) else { return };
+        let mut calls = vec![Call::Open { text: text.to_vec(), lengths: RIGHT }];
+        opened.make(self.oracle, &calls[0]);
+        let changed = (0..STATE).filter(|&place| opened.state[place] != held.state[place]);
+        calls.extend(changed.map(|place| Call::SetState { place, number: held.state[place] }));
+        calls.push(last.clone());
+        if calls.len() < self.best.made.len() {
+            self.takes(&calls);
+        }
+    }
+
+    fn drop_calls(&mut self) {
+        let mut piece = self.best.made.len().div_ceil(2);
+        while piece > 0 {
+            let mut start = 0;
+            while start < self.best.made.len() {
+                let mut calls = self.best.made.clone();
+                calls.drain(start..(start + piece).min(calls.len()));
+                if !self.takes(&calls) {
+                    start += piece;
+                }
+            }
+            piece /= 2;
+        }
+    }
+
+    fn shorten_texts(&mut self) {
+        let mut call = 0;
+        while call < self.best.made.len() {
+            self.shorten_text(call);
+            call += 1;
+        }
+    }
+
+    fn text(&self, call: usize) -> Option<Vec<u8>> {
+        match self.best.made.get(call)? {
+            Call::Open { text, .. } => Some(text.clone()),
+            _ => None,
+        }
+    }
+
+    /// Puts a short model in the place of a text, or takes pieces out of it: blanks and comments,
+    /// halves, quarters and so on, parts from one sign to the next like it, each short run of
+    /// tokens, single bytes.
+    fn shorten_text(&mut self, call: usize) {
+        let Some(text) = self.text(call) else { return };
+        if SHORT.iter().any(|short| short.len() < text.len() && self.takes_text(call, short.as_bytes().to_vec())) {
+            return;
+        }
+        let words: Vec<&[u8]> = tokens::split(&text).iter().map(|token| token.word(&text)).collect();
+        self.takes_text(call, words.concat());
+        self.takes_text(call, words.join(&b' '));
+        let mut piece = words.len().div_ceil(2);
+        while piece > TOKENS {
+            self.cut_runs(call, piece, piece);
+            piece /= 2;
+        }
+        let mut size = usize::MAX;
+        while self.size() < size {
+            size = self.size();
+            while self.cut_front(call) {}
+            for (from, ends) in CUTS {
+                self.cut_parts(call, from, ends);
+            }
+        }
+        for run in (1..=TOKENS).rev() {
+            self.cut_runs(call, run, 1);
+        }
+        self.cut_bytes(call);
+    }
+
+    /// Tries the text without what comes before its first `;`, that one with it.
+    fn cut_front(&mut self, call: usize) -> bool {
+        let Some(text) = self.text(call) else { return false };
+        let first = tokens::split(&text).into_iter().find(|token| token.kind == Kind::Semicolon);
+        first.is_some_and(|token| self.takes_text(call, text[token.end..].to_vec()))
+    }
+
+    /// Tries each part of a text from a token of the one kind to the next ones of the others.
+    fn cut_parts(&mut self, call: usize, from: Kind, ends: &[Kind]) {
+        let mut part = 0;
+        while let Some(text) = self.text(call) {
+            let split = tokens::split(&text);
+            let Some(start) = split.iter().filter(|token| token.kind == from).nth(part) else { return };
+            let after = split.iter().filter(|token| token.start > start.start && ends.contains(&token.kind));
+            let without = |end: usize| [&text[..start.start], &text[end..]].concat();
+            let cut = after.take(ENDS).any(|end| self.takes_text(call, without(end.start)));
+            if self.tries == 0 || !cut {
+                part += 1;
+            }
+        }
+    }
+
+    /// Tries each run of so many tokens, its start moved on by `stride`.
+    fn cut_runs(&mut self, call: usize, run: usize, stride: usize) {
+        let mut start = 0;
+        while let Some(text) = self.text(call) {
+            let places: Vec<usize> = tokens::split(&text).iter().map(|token| token.start).collect();
+            let Some(&from) = places.get(start) else { return };
+            let to = places.get(start + run).copied().unwrap_or(text.len());
+            if self.tries == 0 || !self.takes_text(call, [&text[..from], &text[to..]].concat()) {
+                start += stride;
+            }
+        }
+    }
+
+    fn cut_bytes(&mut self, call: usize) {
+        let mut place = 0;
+        while let Some(mut text) = self.text(call).filter(|text| place < text.len()) {
+            text.remove(place);
+            if self.tries == 0 || !self.takes_text(call, text) {
+                place += 1;
+            }
+        }
+    }
+
+    fn takes_text(&mut self, call: usize, new: Vec<u8>) -> bool {
+        let mut calls = self.best.made.clone();
+        if let Some(Call::Open { text, .. }) = calls.get_mut(call) {
+            *text = new;
+        }
+        if self.takes(&calls) {
+            return true;
+        }
+        // The last draw may choose another entry of a shorter text.
+        for other in [Draw::Exactly(0), Draw::Last] {
+            match calls.last_mut() {
+                Some(Call::Step { draw, .. }) => *draw = other,
+                _ => return false,
+            }
+            if self.takes(&calls) {
+                return true;
+            }
+        }
+        false
+    }
+
+    fn lower_draws(&mut self) {
+        let mut call = 0;
+        while call < self.best.made.len() {
+            for lower in [0, 1] {
+                let mut calls = self.best.made.clone();
+                match &mut calls[call] {
+                    Call::Step { draw, .. } if *draw != Draw::Exactly(lower) => *draw = Draw::Exactly(lower),
+                    _ => break,
+                }
+                if self.takes(&calls) {
+                    break;
+                }
+            }
+            call += 1;
+        }
+    }
+}

@@ -1,0 +1,241 @@
+//! Wrong engines, each the second engine with one fault: every fault is found and shrunk, and
+//! its script shows it again.
+
+use compare::compare::Place;
+use compare::met::Met;
+use compare::{compare as core, lists, with_stack};
+use second::generate::{Engine, SECOND};
+use second::script::{self, Form, Line};
+use second::{list, open, step, Answer, LISTING};
+
+const ENTRY: usize = 7;
+const PROCESS: usize = 9;
+const FIRST_PROCESS: usize = 2;
+const FIRST_PAIR: usize = 2_306;
+
+/// Finds and shrinks the fault, and holds its script to these lengths.
+fn found(wrong: Engine, place: Place, calls: usize, bytes: usize) {
+    let report = with_stack(move || lists::run(&wrong, &SECOND, 0..lists::LISTS, &mut Met::default()).unwrap_err());
+    println!("{report}");
+    assert_eq!(report.difference.place, place);
+    assert!(report.difference.made.len() <= calls, "{} calls", report.difference.made.len());
+    assert!(report.script.len() <= bytes, "{} bytes", report.script.len());
+    let (lines, bad) = script::read(&report.script, Form::Marked);
+    assert_eq!(bad, None);
+    let again: Vec<_> = lines.into_iter().filter_map(call).collect();
+    let difference = core::run(&wrong, &SECOND, &again, &mut Met::default()).unwrap_err();
+    assert_eq!(difference.what, report.difference.what);
+}
+
+fn call(line: Line) -> Option<second::generate::Call> {
+    match line {
+        Line::Call(call) => Some(call),
+        Line::State => None,
+    }
+}
+
+#[test]
+fn a_place_of_a_refused_text_that_is_one_too_high() {
+    fn wrong(text: &[u8], model: &mut [u8], state: &mut [i64]) -> Answer {
+        let mut answer = open(text, model, state);
+        answer.place += u64::from(answer.number == 5);
+        answer
+    }
+    found(Engine { open: wrong, ..SECOND }, Place::Answer, 1, 20);
+}
+
+#[test]
+fn a_total_that_is_not_the_sum() {
+    fn wrong(model: &[u8], state: &[i64], listing: &mut [u64]) -> Answer {
+        let mut answer = list(model, state, listing);
+        answer.total += u64::from(answer.count > 2);
+        answer
+    }
+    found(Engine { list: wrong, ..SECOND }, Place::Answer, 2, 80);
+}
+
+#[test]
+fn an_entry_that_is_listed_twice() {
+    fn wrong(model: &[u8], state: &[i64], listing: &mut [u64]) -> Answer {
+        let mut answer = list(model, state, listing);
+        if answer.number == 0 && (2..1_000).contains(&answer.count) && listing[0] == 7 {
+            listing.copy_within(..LISTING - ENTRY, ENTRY);
+            answer.count += 1;
+            answer.total += listing[ENTRY - 1];
+        }
+        answer
+    }
+    found(Engine { list: wrong, ..SECOND }, Place::Answer, 2, 120);
+}
+
+#[test]
+fn two_entries_in_the_wrong_order() {
+    fn wrong(model: &[u8], state: &[i64], listing: &mut [u64]) -> Answer {
+        let answer = list(model, state, listing);
+        if answer.number == 0 && answer.count == 2 {
+            listing[..2 * ENTRY].rotate_left(ENTRY);
+        }
+        answer
+    }
+    found(Engine { list: wrong, ..SECOND }, Place::Listing, 2, 80);
+}
+
+#[test]
+fn a_state_number_that_is_changed_after_a_step() {
+    fn wrong(model: &[u8], state: &mut [i64], listing: &mut [u64], draw: u64) -> Answer {
+        let answer = step(model, state, listing, draw);
+        if answer.number == 0 && answer.chosen > 0 && state[0] > 1 {
+            state[FIRST_PROCESS + PROCESS] ^= 1;
+        }
+        answer
+    }
+    found(Engine { step: wrong, ..SECOND }, Place::State, 2, 120);
+}
+
+#[test]
+fn a_process_that_is_left_past_the_last() {
+    fn wrong(model: &[u8], state: &mut [i64], listing: &mut [u64], draw: u64) -> Answer {
+        let before = state.to_vec();
+        let answer = step(model, state, listing, draw);
+        if answer.number == 0 && state[0] < before[0] {
+            let past = FIRST_PROCESS + PROCESS * state[0] as usize;
+            state[past..past + PROCESS].copy_from_slice(&before[past..past + PROCESS]);
+        }
+        answer
+    }
+    found(Engine { step: wrong, ..SECOND }, Place::State, 2, 120);
+}
+
+#[test]
+fn a_pair_that_is_left_after_a_kill() {
+    fn wrong(model: &[u8], state: &mut [i64], listing: &mut [u64], draw: u64) -> Answer {
+        let before = state.to_vec();
+        let answer = step(model, state, listing, draw);
+        if answer.number == 0 && state[1] < before[1] {
+            state[FIRST_PAIR + 3] = before[FIRST_PAIR + 3];
+        }
+        answer
+    }
+    found(Engine { step: wrong, ..SECOND }, Place::State, 5, 160);
+}
+
+#[test]
+fn a_refused_step_that_clears_the_listing() {
+    fn wrong(model: &[u8], state: &mut [i64], listing: &mut [u64], draw: u64) -> Answer {
+        let answer = step(model, state, listing, draw);
+        if answer.number == 16 {
+            listing.fill(0);
+        }
+        answer
+    }
+    found(Engine { step: wrong, ..SECOND }, Place::Listing, 2, 80);
+}
+
+#[test]
+fn a_refused_listing_that_clears_what_was_lent() {
+    fn wrong(model: &[u8], state: &[i64], listing: &mut [u64]) -> Answer {
+        let answer = list(model, state, listing);
+        if answer.number == 11 {
+            listing.fill(0);
+        }
+        answer
+    }
+    found(Engine { list: wrong, ..SECOND }, Place::Listing, 5, 120);
+}
+
+#[test]
+fn a_refused_text_that_leaves_the_old_state() {
+    fn wrong(text: &[u8], model: &mut [u8], state: &mut [i64]) -> Answer {
+        let before = state.to_vec();
+        let answer = open(text, model, state);
+        if answer.number > 1 {
+            state.copy_from_slice(&before);
+        }
+        answer
+    }
+    found(Engine { open: wrong, ..SECOND }, Place::State, 2, 80);
+}
+
+#[test]
+fn an_opening_that_leaves_old_pairs() {
+    fn wrong(text: &[u8], model: &mut [u8], state: &mut [i64]) -> Answer {
+        let before = state.to_vec();
+        let answer = open(text, model, state);
+        if answer.number == 0 {
+            state[1] = before[1];
+            state[FIRST_PAIR..].copy_from_slice(&before[FIRST_PAIR..]);
+        }
+        answer
+    }
+    found(Engine { open: wrong, ..SECOND }, Place::State, 3, 100);
+}
+
+#[test]
+fn a_step_with_wrong_lengths_that_is_taken() {
+    fn wrong(model: &[u8], state: &mut [i64], listing: &mut [u64], draw: u64) -> Answer {
+        if listing.len() > LISTING {
+            return step(model, state, &mut listing[..LISTING], draw);
+        }
+        step(model, state, listing, draw)
+    }
+    found(Engine { step: wrong, ..SECOND }, Place::Answer, 1, 80);
+}
+
+#[test]
+fn a_fifteen_that_is_given_early() {
+    fn wrong(model: &[u8], state: &mut [i64], listing: &mut [u64], draw: u64) -> Answer {
+        let before = state.to_vec();
+        let answer = step(model, state, listing, draw);
+        if answer.number == 0 && answer.count == 1 {
+            state.copy_from_slice(&before);
+            return Answer { total: 0, ..Answer { number: 15, chosen: 0, ..answer } };
+        }
+        answer
+    }
+    found(Engine { step: wrong, ..SECOND }, Place::Answer, 2, 80);
+}
+
+#[test]
+fn a_listing_from_the_state_after_the_step() {
+    fn wrong(model: &[u8], state: &mut [i64], listing: &mut [u64], draw: u64) -> Answer {
+        let answer = step(model, state, listing, draw);
+        if answer.number == 0 {
+            list(model, state, listing);
+        }
+        answer
+    }
+    found(Engine { step: wrong, ..SECOND }, Place::Listing, 2, 120);
+}
+
+#[test]
+fn senders_that_are_paired_with_earlier_processes_only() {
+    fn wrong(model: &[u8], state: &[i64], listing: &mut [u64]) -> Answer {
+        let mut answer = list(model, state, listing);
+        let later = |entry: &&[u64]| entry[0] == 7 && entry[3] > entry[1];
+        let left: Vec<u64> = listing.chunks(ENTRY).filter(|entry| !later(entry)).flatten().copied().collect();
+        if answer.number == 0 {
+            answer.count -= ((listing.len() - left.len()) / ENTRY) as u64;
+            listing.fill(0);
+            listing[..left.len()].copy_from_slice(&left);
+            answer.total = listing.chunks(ENTRY).map(|entry| entry[ENTRY - 1]).sum();
+        }
+        answer
+    }
+    found(Engine { list: wrong, ..SECOND }, Place::Answer, 2, 120);
+}
+
+#[test]
+fn a_nineteen_for_a_pair_already_lit() {
+    fn wrong(model: &[u8], state: &mut [i64], listing: &mut [u64], draw: u64) -> Answer {
+        let before = state.to_vec();
+        let answer = step(model, state, listing, draw);
+        let launched = answer.number == 0 && listing[ENTRY * answer.chosen as usize] == 2;
+        if launched && before.get(1) == Some(&256) {
+            state.copy_from_slice(&before);
+            return Answer { number: 19, chosen: 0, ..answer };
+        }
+        answer
+    }
+    // A state with 256 pairs has many numbers.
+    found(Engine { step: wrong, ..SECOND }, Place::Answer, 5 * 256 + 50, 30_000);
+}

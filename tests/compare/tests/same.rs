@@ -1,0 +1,25 @@
+//! The second engine against itself on the fixed seeds: nothing differs, and everything is met.
+
+use compare::met::Met;
+use compare::{lists, specimens, with_stack};
+use second::generate::SECOND;
+
+#[test]
+fn the_fixed_seeds_meet_everything() {
+    let met = with_stack(|| {
+        let mut met = Met::default();
+        if let Err(report) = lists::run(&SECOND, &SECOND, 0..lists::LISTS, &mut met) {
+            panic!("{report}");
+        }
+        met
+    });
+    println!("{met}");
+    assert_eq!(met.missing(&specimens::names()), Vec::<String>::new());
+    assert!(met.calls >= lists::LEAST_CALLS);
+}
+
+#[test]
+fn what_was_not_met_is_told() {
+    let missing = Met::default().missing(&specimens::names());
+    assert_eq!(missing.len(), 19 + 3 + 7 + 4 + specimens::names().len(), "{missing:?}");
+}

@@ -1,0 +1,197 @@
+//! Lists of calls as scripts for the program `calls`, and what that program prints for one.
+//!
+//! A script has lines `open N` (N bytes and a newline follow), `list`, `step D` and `state`. Every
+//! line ends with a newline, words stand one blank apart, numbers are digits alone. A line of
+//! another form, or an opening without its N bytes, ends the run with `bad` and its number, which
+//! counts every newline before it, those of texts too.
+//!
+//! What `calls` can't do, changes of the buffers and other lengths than the right ones, stands on
+//! lines that begin with `!`. They are read where `Form::Marked` is asked for.
+
+use crate::generate::{Buffers, Call, Draw, Engine, Lengths, RIGHT, SPARE};
+use crate::{Answer, LISTING, MODEL, STATE};
+use std::fmt::Write;
+
+/// Numbers of a listing entry.
+const ENTRY: usize = 7;
+
+/// Which lines a script may have.
+#[derive(Clone, Copy, Debug, PartialEq, Eq)]
+pub enum Form {
+    /// Those of the program `calls`.
+    Plain,
+    /// Also lines that begin with `!`.
+    Marked,
+}
+
+/// One thing that a script asks for.
+#[derive(Clone, Debug)]
+pub enum Line {
+    Call(Call),
+    State,
+}
+
+/// Can the program `calls` run these, or has the script lines with `!`?
+pub fn is_plain(calls: &[Call]) -> bool {
+    calls.iter().all(|call| match call {
+        Call::Open { lengths, .. } => (lengths.model, lengths.state) == (MODEL, STATE),
+        Call::List { lengths } | Call::Step { lengths, .. } => *lengths == RIGHT,
+        _ => false,
+    })
+}
+
+/// The script of a list of calls whose draws are numbers.
+pub fn write(calls: &[Call]) -> Vec<u8> {
+    let mut script = Vec::new();
+    for call in calls {
+        script.extend(line(call));
+    }
+    script
+}
+
+fn line(call: &Call) -> Vec<u8> {
+    let text = match call {
+        Call::Open { text, lengths } => {
+            let head = format!("{}open {}\n", lengths_line(lengths), text.len());
+            return [head.as_bytes(), text, b"\n"].concat();
+        }
+        Call::List { lengths } => format!("{}list\n", lengths_line(lengths)),
+        Call::Step { lengths, draw: Draw::Exactly(draw) } => format!("{}step {draw}\n", lengths_line(lengths)),
+        Call::Step { .. } => unreachable!("a draw that isn't a number"),
+        Call::SetState { place, number } => format!("! state {place} {number}\n"),
+        Call::SetModel { place, byte } => format!("! model {place} {byte}\n"),
+        Call::Light { count, first } => format!("! light {count} {first}\n"),
+        Call::Crowd { count } => format!("! crowd {count}\n"),
+        Call::FillListing { number } => format!("! fill {number}\n"),
+    };
+    text.into_bytes()
+}
+
+/// Lengths that aren't the right ones hold for the call on the next line.
+fn lengths_line(lengths: &Lengths) -> String {
+    if *lengths == RIGHT {
+        return String::new();
+    }
+    format!("! lengths {} {} {}\n", lengths.model, lengths.state, lengths.listing)
+}
+
+/// Reads a script, up to the first line of another form: the lines before it, and its number
+/// from 1 if there is one.
+pub fn read(script: &[u8], form: Form) -> (Vec<Line>, Option<usize>) {
+    let mut reader = Reader { script, form, place: 0, number: 0, lengths: RIGHT };
+    let mut lines = Vec::new();
+    while reader.place < script.len() {
+        let here = reader.number + 1;
+        match reader.next() {
+            Some(line) => lines.extend(line),
+            None => return (lines, Some(here)),
+        }
+    }
+    (lines, None)
+}
+
+struct Reader<'a> {
+    script: &'a [u8],
+    form: Form,
+    place: usize,
+    /// Lines read.
+    number: usize,
+    /// What the next call is lent.
+    lengths: Lengths,
+}
+
+impl Reader<'_> {
+    /// The next bytes up to a newline at or after `size`, which is passed.
+    fn bytes(&mut self, size: Option<usize>) -> Option<Vec<u8>> {
+        let rest = &self.script[self.place..];
+        let end = size.or_else(|| rest.iter().position(|&byte| byte == b'\n'))?;
+        if *rest.get(end)? != b'\n' {
+            return None;
+        }
+        self.place += end + 1;
+        self.number += 1 + rest[..end].iter().filter(|&&byte| byte == b'\n').count();
+        Some(rest[..end].to_vec())
+    }
+
+    /// What the next line asks for: nothing if it gives lengths. `None`: it has another form.
+    fn next(&mut self) -> Option<Option<Line>> {
+        let line = String::from_utf8(self.bytes(None)?).ok()?;
+        let words: Vec<&str> = line.split(' ').collect();
+        if words[0] == "!" && self.form == Form::Plain {
+            return None;
+        }
+        let lengths = self.lengths;
+        if let ["!", "lengths", model, state, listing] = words[..] {
+            let (model, state) = (length(model, MODEL)?, length(state, STATE)?);
+            self.lengths = Lengths { model, state, listing: length(listing, LISTING)? };
+            return Some(None);
+        }
+        self.lengths = RIGHT;
+        if let ["open", size] = words[..] {
+            let text = self.bytes(Some(whole(size)?))?;
+            return Some(Some(Line::Call(Call::Open { text, lengths })));
+        }
+        short_line(&words, lengths).map(Some)
+    }
+}
+
+/// A line that has all it says on it.
+fn short_line(words: &[&str], lengths: Lengths) -> Option<Line> {
+    let call = match *words {
+        ["state"] => return Some(Line::State),
+        ["list"] => Call::List { lengths },
+        ["step", draw] => Call::Step { lengths, draw: Draw::Exactly(whole(draw)?) },
+        ["!", "state", place, number] => Call::SetState { place: length(place, STATE)?, number: number.parse().ok()? },
+        ["!", "model", place, byte] => Call::SetModel { place: length(place, MODEL)?, byte: whole(byte)? },
+        ["!", "light", count, first] => Call::Light { count: whole(count)?, first: first.parse().ok()? },
+        ["!", "crowd", count] => Call::Crowd { count: whole(count)? },
+        ["!", "fill", number] => Call::FillListing { number: whole(number)? },
+        _ => return None,
+    };
+    Some(Line::Call(call))
+}
+
+/// Digits alone: no sign.
+fn whole<T: std::str::FromStr>(word: &str) -> Option<T> {
+    word.bytes().all(|byte| byte.is_ascii_digit()).then(|| word.parse().ok())?
+}
+
+fn length(word: &str, right: usize) -> Option<usize> {
+    whole(word).filter(|&length: &usize| length <= right + SPARE)
+}
+
+/// What the program `calls` prints for a script on this engine.
+pub fn print(engine: &Engine, script: &[u8], form: Form) -> String {
+    let mut printed = String::new();
+    let mut buffers = Buffers::default();
+    let (lines, bad) = read(script, form);
+    for line in &lines {
+        match line {
+            Line::State => printed.push_str(&(numbers(&buffers.state[..STATE]) + "\n")),
+            Line::Call(call) => {
+                if let Some(answer) = buffers.make(engine, call) {
+                    print_answer(&mut printed, call, &answer, &buffers);
+                }
+            }
+        }
+    }
+    if let Some(line) = bad {
+        printed.push_str(&format!("bad,{line}\n"));
+    }
+    printed
+}
+
+fn print_answer(printed: &mut String, call: &Call, answer: &Answer, buffers: &Buffers) {
+    let Answer { number, place, branch, count, total, chosen } = answer;
+    writeln!(printed, "{number} {place} {branch} {count} {total} {chosen}").expect("a string takes all");
+    let filled = *number == 0 || *number >= 15;
+    if filled && !matches!(call, Call::Open { .. }) {
+        for entry in buffers.listing.chunks(ENTRY).take(*count as usize) {
+            writeln!(printed, "  {}", numbers(entry)).expect("a string takes all");
+        }
+    }
+}
+
+fn numbers<T: ToString>(list: &[T]) -> String {
+    list.iter().map(T::to_string).collect::<Vec<_>>().join(" ")
+}

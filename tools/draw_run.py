@@ -1,0 +1,189 @@
+#!/usr/bin/env python3
+"""Draws a run from what the program `calls` prints, as an SVG picture.
+
+    calls < script | tools/draw_run.py --forks 2-5 --title "chromosome II" > run.svg
+
+The script has a `state` after its opening and after each step; examples/run.c writes such scripts. Each printed
+state is one point of the picture. Above: the number of forks and the number of lit pairs. Below: which positions
+(the first value of each lit pair) are lit, from the step that lit them to the one that put them out.
+
+--forks names the processes to count by their sum numbers (docs/USING.md says how sums are numbered), as 2,4-6; all
+processes if it is not given. --channel draws below only the pairs of one channel, as name:0 or number:5.
+
+Needs python3 alone (Debian package python3).
+"""
+
+import argparse
+import sys
+
+# The state's layout, docs/LAYOUT.md.
+STATE = 3586
+PROCESSES = 256
+PROCESS = 9
+FIRST_PROCESS = 2
+FIRST_PAIR = FIRST_PROCESS + PROCESSES * PROCESS
+PAIR = 5
+ANSWER = 6
+
+# The picture, in pixels.
+WIDTH = 900
+LEFT = 70
+RIGHT = 20
+TOP = 50
+CURVES = 240
+GAP = 60
+MAP = 300
+BOTTOM = 50
+FORKS = "#b03a2e"
+LIT = "#1f618d"
+AXIS = "#555555"
+
+
+def sum_numbers(words):
+    """The set of sum numbers that a list like 2,4-6 names."""
+    numbers = set()
+    for word in words.split(","):
+        first, _, last = word.partition("-")
+        numbers.update(range(int(first), int(last or first) + 1))
+    return numbers
+
+
+def channel(word):
+    """The kind and number of a channel given as name:0 or number:5."""
+    kind, _, number = word.partition(":")
+    if kind not in ("number", "name"):
+        raise argparse.ArgumentTypeError("a channel is name:N or number:N")
+    return (1 if kind == "name" else 0, int(number))
+
+
+def states(lines):
+    """The states that were printed, each as its list of sum numbers and its list of pairs."""
+    for place, line in enumerate(lines, 1):
+        if line.startswith("  "):
+            continue
+        if line.startswith("bad,"):
+            sys.exit(f"the script has a line of another form: {line.strip()}")
+        numbers = [int(word) for word in line.split()]
+        if len(numbers) == ANSWER:
+            if numbers[0] != 0:
+                sys.stderr.write(f"line {place}: refused, {numbers[0]}\n")
+        elif len(numbers) == STATE:
+            ends = FIRST_PROCESS + PROCESS * numbers[0], FIRST_PAIR + PAIR * numbers[1]
+            sums = numbers[FIRST_PROCESS : ends[0] : PROCESS]
+            pairs = [tuple(numbers[at : at + PAIR]) for at in range(FIRST_PAIR, ends[1], PAIR)]
+            yield sums, pairs
+        else:
+            sys.exit(f"line {place} is no line of `calls`")
+
+
+def lit_spans(runs, wanted):
+    """For each position, the spans of points in which it is lit: (position, first, last)."""
+    spans, since = [], {}
+    for point, (_, pairs) in enumerate(runs):
+        lit = {pair[3] for pair in pairs if wanted is None or pair[:2] == wanted}
+        for position in [position for position in since if position not in lit]:
+            spans.append((position, since.pop(position), point))
+        for position in lit:
+            since.setdefault(position, point)
+    spans.extend((position, first, len(runs) - 1) for position, first in since.items())
+    return sorted(spans)
+
+
+def ticks(low, high):
+    """Some round numbers from low to high."""
+    sizes = (size * 10**power for power in range(7) for size in (1, 2, 5))
+    step = next(size for size in sizes if (high - low) / size <= 8)
+    first = -(-low // step) * step
+    return range(int(first), int(high) + 1, step)
+
+
+class Panel:
+    """A part of the picture with its own vertical scale."""
+
+    def __init__(self, top, height, low, high, points):
+        self.top, self.height, self.low, self.high, self.points = top, height, low, max(high, low + 1), max(points, 1)
+
+    def x(self, point):
+        return LEFT + (WIDTH - LEFT - RIGHT) * point / self.points
+
+    def y(self, value):
+        return self.top + self.height * (self.high - value) / (self.high - self.low)
+
+    def frame(self, label):
+        yield (
+            f'<rect x="{LEFT}" y="{self.top}" width="{WIDTH - LEFT - RIGHT}" height="{self.height}" '
+            f'fill="none" stroke="{AXIS}"/>'
+        )
+        for value in ticks(self.low, self.high):
+            yield text(LEFT - 8, self.y(value) + 4, value, "end")
+            yield f'<path d="M{LEFT - 4} {self.y(value):.1f}h4" stroke="{AXIS}"/>'
+        for point in ticks(0, self.points):
+            yield text(self.x(point), self.top + self.height + 16, point, "middle")
+        middle = self.top + self.height / 2
+        yield (
+            f'<text x="18" y="{middle}" text-anchor="middle" transform="rotate(-90 18 {middle})" '
+            f'fill="{AXIS}">{escaped(label)}</text>'
+        )
+
+    def curve(self, values, colour):
+        """Steps: a value holds until the next point."""
+        path = f"M{self.x(0):.1f} {self.y(values[0]):.1f}"
+        for point, value in enumerate(values[1:], 1):
+            path += f"H{self.x(point):.1f}V{self.y(value):.1f}"
+        return f'<path d="{path}" fill="none" stroke="{colour}" stroke-width="1.5"/>'
+
+
+def escaped(words):
+    return str(words).replace("&", "&amp;").replace("<", "&lt;").replace(">", "&gt;")
+
+
+def text(x, y, words, anchor, colour=AXIS):
+    return f'<text x="{x:.1f}" y="{y:.1f}" text-anchor="{anchor}" fill="{colour}">{escaped(words)}</text>'
+
+
+def picture(runs, options):
+    forks = [sum(options.forks is None or number in options.forks for number in sums) for sums, _ in runs]
+    lit = [len(pairs) for _, pairs in runs]
+    spans = lit_spans(runs, options.channel)
+    points = len(runs) - 1
+    counted = "processes" if options.forks is None else "forks"
+    height = TOP + CURVES + GAP + MAP + BOTTOM
+    yield (
+        f'<svg xmlns="http://www.w3.org/2000/svg" width="{WIDTH}" height="{height}" '
+        f'viewBox="0 0 {WIDTH} {height}" font-family="sans-serif" font-size="12">'
+    )
+    yield f'<rect width="{WIDTH}" height="{height}" fill="white"/>'
+    yield text(LEFT, 22, options.title, "start", "black")
+    yield text(WIDTH - RIGHT - 120, 40, counted, "end", FORKS)
+    yield text(WIDTH - RIGHT, 40, "lit pairs", "end", LIT)
+    curves = Panel(TOP, CURVES, 0, max(forks + lit), points)
+    yield from curves.frame("how many")
+    yield curves.curve(lit, LIT)
+    yield curves.curve(forks, FORKS)
+    positions = [position for position, _, _ in spans] or [0]
+    below = Panel(TOP + CURVES + GAP, MAP, min(positions), max(positions) + 1, points)
+    yield from below.frame("lit positions")
+    for position, first, last in spans:
+        top, bottom = below.y(position + 1), below.y(position)
+        yield (
+            f'<rect x="{below.x(first):.1f}" y="{top:.1f}" width="{below.x(last) - below.x(first):.1f}" '
+            f'height="{bottom - top:.1f}" fill="{LIT}"/>'
+        )
+    yield text(LEFT + (WIDTH - LEFT - RIGHT) / 2, height - 14, "steps", "middle")
+    yield "</svg>"
+
+
+def main():
+    parser = argparse.ArgumentParser(description="Draws a run from the output of `calls` as SVG.")
+    parser.add_argument("--forks", type=sum_numbers, metavar="SUMS", help="sum numbers to count, as 2,4-6")
+    parser.add_argument("--channel", type=channel, metavar="KIND:N", help="the channel to draw, as name:0 or number:5")
+    parser.add_argument("--title", default="A run", help="the picture's title")
+    options = parser.parse_args()
+    runs = list(states(sys.stdin))
+    if not runs:
+        sys.exit("no state was printed: the script needs `state` lines")
+    print("\n".join(picture(runs, options)))
+
+
+if __name__ == "__main__":
+    main()

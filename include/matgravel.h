@@ -25,8 +25,9 @@ extern "C" {
 #define MATGRAVEL_ENTRIES 1024
 #define MATGRAVEL_ENTRY 7
 
-/* Bytes of stack that are enough for any call, whatever it is given. Measured on x86-64, on the text that needs most:
- * open 1,929,792, list 1,929,888, step 1,948,880; on the models of this repository 235,000, 433,000 and 452,000. */
+/* Bytes of stack that a thread should have for any call, with room to spare. Measured, not proved: of some fifty long texts of every
+ * kind, the one that needs most took open 1,929,792, list 1,929,888 and step 1,948,880 on x86-64; the models of this repository take
+ * 235,000, 433,000 and 452,000. */
 #define MATGRAVEL_STACK 3145728
 
 /* number: 0 for acceptance, or that of the refusal.

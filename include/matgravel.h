@@ -25,8 +25,9 @@ extern "C" {
 #define MATGRAVEL_ENTRIES 1024
 #define MATGRAVEL_ENTRY 7
 
-/* Bytes of stack that are enough for any call, whatever it is given. Measured on x86-64, on the texts that need most of each kind:
- * open 1,905,408, list 1,905,504, step 1,924,496; on models of a usual size 0.2 to 0.5 million. */
+/* Bytes of stack that a thread should have for any call, with room to spare. Measured, not proved: of some fifty long texts of every
+ * kind, the one that needs most took open 1,929,792, list 1,929,888 and step 1,948,880 on x86-64; the models of this repository take
+ * 235,000, 433,000 and 452,000. */
 #define MATGRAVEL_STACK 3145728
 
 /* number: 0 for acceptance, or that of the refusal.

@@ -13,10 +13,10 @@ use lib.ListN.{length, getD, getElem?, length-append, length-map}
 use Rattle.tree.specs.Node.{kindOf, tokenOf, leftOf}
 use Rattle.model.specs.Resolved
 use Rattle.tables.specs.Settled as Settled
-use Rattle.tables.specs.Settled.{Index, Called, Parts, entered, called-bare, called, grouped, items}
+use Rattle.tables.specs.Settled.{Called, Parts, entered, called-bare, called, grouped, items}
 use Rattle.tables.specs.Represents.{Sums}
 use Rattle.tables.proofs.Parts.{pair-above, pair-second}
-use Rattle.model.specs.Good.{Every, GoodExpr, GoodPart, Callable}
+use Rattle.model.specs.Good.{Every, GoodPart}
 use Rattle.machine.specs.Offer as machine
 use Rattle.machine.specs.Offer.{Process, allValues, argumentsGiven, partProcesses, nextProcesses}
 use Rattle.eval.specs.Held.{Held, Worth}
@@ -278,13 +278,6 @@ cut-cases n = go (ltb most n) refl
     go : (b : Bool) → ltb most n ≡ b → ((cond b most n ≡ n) × (n ≤ most)) ⊎ ((cond b most n ≡ most) × (most < n))
     go true e = inr (refl, ltb-true most n e)
     go false e = inl (refl, ltb-false most n e)
-
--- a count below the stop is exact, and none is too high
-pub cut-exact : (n : ℕ) → cut n < most → cut n ≡ n
-cut-exact n h = ⊎-elim (λ p. p .0) (λ p. absurd (omega arith)) (cut-cases n)
-
-pub cut-under : (n : ℕ) → cut n ≤ n
-cut-under n = ⊎-elim (λ p. omega arith) (λ p. omega arith) (cut-cases n)
 
 cut-over : (n : ℕ) → most ≤ n → cut n ≡ most
 cut-over n h = ⊎-elim (λ p. omega arith) (λ p. p .0) (cut-cases n)

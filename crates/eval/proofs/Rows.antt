@@ -5,8 +5,8 @@ use Prim.Native.Nat.{ℕ, zero, suc, _+_, _-_, _*_, _≤_, _<_}
 use native.Mathlib.Numerals.{add-one}
 use native.Mathlib.Omega.{arith}
 use lib.IntN.{ℤ, pos}
-use lib.ListN.{length, getD, set, take, drop, replicate, length-append, length-take, length-replicate, List·getD-eq-default, List·getD-append}
-use lib.Seq.{sets, length-sets, sets-eq, take-suc, take-all, take-append-seam}
+use lib.ListN.{length, getD, set, take, drop, replicate, length-append, length-take, length-replicate}
+use lib.Seq.{sets, length-sets, sets-eq, take-suc, take-append-seam}
 use Rattle.value.specs.declared.Value.{Value}
 use Rattle.tree.specs.Node.{field, kindOf, tokenOf, leftOf}
 use Rattle.model.specs.Limits.{localLimit}
@@ -102,14 +102,6 @@ rows-then f g h at n r xs ys few p q =
 
 pub rows-size : {f g : List ℤ} {at r : ℕ} {ps : List Process} → Rows f at ps g r → length g ≡ length f
 rows-size {f} {at = at} {ps = ps} p = ap length (p .numbers) ∙ length-sets f (at * processWidth) (flatten processNumbers ps)
-
--- what stood before the rows and after them stays
-pub rows-between : (f g : List ℤ) (at r : ℕ) (ps : List Process) → Few ps → (at + length ps) * processWidth ≤ length f → Rows f at ps g r
-    → g ≡ take (at * processWidth) f ++ flatten processNumbers ps ++ drop ((at + length ps) * processWidth) f
-rows-between f g at r ps few h p =
-    let l = rows-length ps few in
-    let e : at * processWidth + length (flatten processNumbers ps) ≡ (at + length ps) * processWidth = omega arith in
-    p .numbers ∙ (sets-eq (flatten processNumbers ps) f (at * processWidth) (omega arith) ∙ ap (λ (n : ℕ). take (at * processWidth) f ++ flatten processNumbers ps ++ drop n f) e)
 
 -- ---- arguments
 module _ (t : List ℕ) (n k size at : ℕ) (r : Room t n k size at) where

@@ -1,24 +1,22 @@
 -- A sender's partners stand in its channel's bucket: other slots are none. By cases of what a row shows.
-use Prim.Native.Nat.{ℕ, zero, suc, _+_, _*_, _≤_, _<_}
+use Prim.Native.Nat.{ℕ, suc, _+_, _*_, _≤_, _<_}
 use mathlib.Core.Path.{_≡_, refl, sym, ap, _∙_}
-use mathlib.Core.Bool.{Bool, true, false, cond, _&&_}
+use mathlib.Core.Bool.{Bool, true, false}
 use mathlib.Core.List.{List, [], _∷_, _++_}
 use mathlib.Core.Option.{Option, none, some, Option·elim}
 use native.Mathlib.Omega.{arith}
 use native.Mathlib.Nat.{mul-le-mul, le-trans}
 use borrow.Author.Tests.{ltb-true, ltb-false, eq-eqb, ne-eqb}
 use lib.Dec.{eqb, ltb}
-use lib.IntN.{ℤ, pos}
-use lib.ListN.{length, getD, getElem?}
-use Rattle.value.specs.Range.{InRange}
+use lib.IntN.{ℤ}
+use lib.ListN.{getD, getElem?}
 use Rattle.value.proofs.Kit.{true-not-false}
 use Rattle.model.specs.Resolved
-use Rattle.model.proofs.Members.{got-some, got-below}
+use Rattle.model.proofs.Members.{got-some}
 use Rattle.rules.specs.Offers as offers
 use Rattle.rules.specs.Kind as kind
 use Rattle.rules.specs.Rules.{key}
-use Rattle.rules.specs.Listing.{Entry, entry, gather, when, unless, sameChannel, allWithin, matches, partnerAction}
-use Rattle.model.specs.Good.{Every}
+use Rattle.rules.specs.Listing.{Entry, entry, gather, when, unless, sameChannel, matches, partnerAction}
 use Rattle.machine.specs.Evaluate.{rateLimit}
 use Rattle.machine.specs.State.{State}
 use Rattle.eval.specs.declared.offer.Offer.{Offer}
@@ -27,12 +25,12 @@ use Rattle.eval.specs.Shown.{bareOffer, ShowsChannel, ShowsPair, ShowsQuery, Sh
 use Rattle.state.specs.Read.{processCount}
 use Rattle.offers.specs.Slots.{Slot, partnerOf, atNumber, upTo}
 use Rattle.offers.specs.Walk.{slotsOf}
-use Rattle.offers.specs.Head.{kindIn, placeIn, branchIn, rateIn}
-use Rattle.offers.specs.Links.{bucketOf, InBucket, Leads, Linked}
+use Rattle.offers.specs.Head.{kindIn, placeIn}
+use Rattle.offers.specs.Links.{bucketOf, InBucket, Leads}
 use Rattle.offers.specs.Table.{offerIn, localsOf, Shown}
-use Rattle.offers.proofs.Numbered.{up-none, up-one, up-skip, at-some, gather-up}
+use Rattle.offers.proofs.Numbered.{up-skip, at-some, gather-up}
 use Rattle.offers.proofs.Walk.{place-below}
-use Rattle.offers.proofs.Places.{places-are, some-place, values-good, locals-of, slots-few}
+use Rattle.offers.proofs.Places.{places-are, slots-few}
 use Rattle.listing.specs.Ready.{Ready}
 use Rattle.listing.proofs.Matching.{same-is}
 
@@ -102,10 +100,6 @@ module _ {t roots scopes : List ℕ} {zs : List ℤ} {hs : List ℕ} {os : List 
 
   pub row-place : (k : ℕ) (y : Slot) → getElem? (slotsOf m 0 (s .processes)) k ≡ some y → placeIn (getD hs k 0) < processCount zs
   row-place k y e = omega (arith, place-below m (s .processes) k y e, places-are (ready .world), ready .holds .shown k y e .place-is)
-
-  -- the locals of a place that exists
-  pub place-range : (i : ℕ) → i < processCount zs → Every InRange (localsOf (s .processes) i)
-  place-range i l = let p = some-place (ready .world) i l in rw (locals-of (ready .world) i (p .0) (p .1)) (values-good (ready .world) i (p .0) (p .1))
 
   -- what partners x, which is sent, has
   module _ (r : Offer) (x : offers.Pair) (sent : ShowsPair r x) (i j : ℕ) where

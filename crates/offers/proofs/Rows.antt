@@ -8,7 +8,6 @@ use native.Mathlib.Omega.{arith}
 use lib.IntN.{ℤ, pos}
 use lib.ListN.{length, getD, getElem?, set, length-set}
 use lib.Seq.{getD-set-same, getD-set-other}
-use Rattle.machine.specs.Evaluate.{rateLimit}
 use Rattle.machine.proofs.Branches.{none-not-some}
 use Rattle.rules.specs.Offers as rules
 use Rattle.eval.specs.declared.offer.Offer.{Offer}
@@ -85,10 +84,6 @@ module _ (os : List ℤ) (n : ℕ) (r : Offer) where
     written-4 : getD (written os n r) (n * 5 + 4) (pos 0) ≡ r .«second_end»
     unfolding written
     written-4 = getD-set-same s₄ (n * 5 + 4) (r .«second_end») (pos 0) (simp length-set (omega arith))
-
-pub written-length : (os : List ℤ) (n : ℕ) (r : Offer) → length (written os n r) ≡ length os
-unfolding written
-written-length os n r = simp length-set
 
 module _ (hs : List ℕ) (os : List ℤ) (n i j : ℕ) (r : Offer) (small : Small r) (pi : i < 256) (pj : j < 16) (lh : n < length hs) (lo : n * 5 + 5 ≤ length os) where
   abbrev hs′ : List ℕ

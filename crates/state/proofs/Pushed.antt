@@ -6,11 +6,8 @@ use native.Mathlib.Omega.{arith}
 use lib.IntN.{ℤ, pos}
 use lib.ListN.{length, set, take, drop, replicate, length-append, length-replicate, replicate-append-replicate}
 use lib.Seq.{take-at, drop-at, take-append-le, drop-append-le, take-append-add, drop-append-add}
-use Rattle.rules.specs.Order.{Ascending}
-use Rattle.model.specs.Good.{Every}
 use Rattle.machine.specs.Offer.{Process}
-use Rattle.machine.specs.State.{State, padded, flatten, processNumbers, pairNumbers, stateNumbers, emptyState}
-use Rattle.machine.proofs.Everys.{every-append}
+use Rattle.machine.specs.State.{State, padded, flatten, processNumbers, pairNumbers, stateNumbers}
 use Rattle.state.specs.Fits.{FewLocals, FitsProcess, Fits}
 use Rattle.state.specs.Change.{processAdded}
 use Rattle.state.proofs.Rows.{flatten-length, padded-length}
@@ -76,26 +73,3 @@ push-numbers scopes few channels s fits p fp room =
     whole-pushed n (pos (length (s .pairs))) (padded 2304 f) q (p .locals) (p .sum) lt room lp
     ∙ ap (λ (j : ℕ). pos (n + 1) ∷ pos (length (s .pairs)) ∷ ((take j (padded 2304 f) ++ (pos (p .sum) ∷ (p .locals ++ drop (j + (1 + length (p .locals))) (padded 2304 f)))) ++ q)) (sym lf)
     ∙ ap₂ (λ (j : ℕ) (u : List ℤ). pos j ∷ pos (length (s .pairs)) ∷ (u ++ q)) c (table-pushed 2304 f (p .locals) (pos (p .sum)) (omega arith) lp ∙ ap (padded 2304) e)
-
--- 01, Fresh: no process and no pair fit every model
-pub empty-fits : (scopes : List ℕ) (channels : ℕ) → Fits scopes channels emptyState
-unfolding Every Ascending emptyState
-empty-fits scopes channels = record {
-  few-processes = omega arith;
-  processes = tt;
-  few-pairs = omega arith;
-  pairs = tt;
-  ascending = tt;
-}
-
--- a state with one process more fits too
-pub push-fits : (scopes : List ℕ) (channels : ℕ) (s : State) → Fits scopes channels s → (p : Process) → FitsProcess scopes p → length (s .processes) < 256
-    → Fits scopes channels (record { processes = s .processes ++ (p ∷ []); pairs = s .pairs })
-unfolding Every
-push-fits scopes channels s fits p fp room = record {
-  few-processes = omega (arith, length-append (s .processes) (p ∷ []));
-  processes = every-append (FitsProcess scopes) (s .processes) (p ∷ []) (fits .processes) (fp, tt);
-  few-pairs = fits .few-pairs;
-  pairs = fits .pairs;
-  ascending = fits .ascending;
-}

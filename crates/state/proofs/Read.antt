@@ -14,7 +14,7 @@ use Rattle.rules.specs.Offers as offers
 use Rattle.rules.specs.Pairs.{channelNumbers}
 use Rattle.model.specs.Good.{GoodModel}
 use Rattle.machine.specs.Offer.{Process}
-use Rattle.machine.specs.State.{State, GoodState, padded, pairNumbers, stateNumbers, stateLength}
+use Rattle.machine.specs.State.{State, GoodState, padded, pairNumbers, stateNumbers}
 use Rattle.state.specs.Fits.{scopesOf, FewLocals, Fits}
 use Rattle.state.specs.Test.{at, every, rows, isBelow, isProcess, isPair, processPart, pairPart}
 use Rattle.state.specs.Decode.{processOf, pairOf, decode}
@@ -72,10 +72,6 @@ row-first w a l h = getD-take w (drop a l) 0 (pos 0) h ∙ getD-drop a l 0 (pos 
 
 -- ---- a state that is decoded
 module _ (scopes : List ℕ) (zs : List ℤ) where
-  pub processes-decoded : length (decode scopes zs .processes) ≡ processCount zs
-  unfolding decode
-  processes-decoded = length-map (rows 9 (processCount zs) (processPart zs)) (processOf scopes) ∙ rows-length 9 (processCount zs) (processPart zs)
-
   pub pairs-decoded : length (decode scopes zs .pairs) ≡ pairCount zs
   unfolding decode
   pairs-decoded = length-map (rows 5 (pairCount zs) (pairPart zs)) pairOf ∙ rows-length 5 (pairCount zs) (pairPart zs)

@@ -4,6 +4,7 @@ use crate::compare;
 use crate::met::Met;
 use crate::{shrink, specimens, texts};
 use second::generate::{self, Buffers, Call, Draw, Engine, Random, RIGHT, SECOND};
+use second::state::{FIRST_PAIR, FIRST_PROCESS, PAIR, PAIRS, PROCESS, PROCESSES};
 use second::{model, script, MODEL, STATE};
 
 /// How many lists the test runs, and how many calls it makes at least.
@@ -12,13 +13,6 @@ pub const LEAST_CALLS: u64 = 30_000;
 /// At most so many calls follow an opening.
 const STEPS: usize = 40;
 
-// Where the parts of a state stand (01, "State and rule machine").
-const PROCESSES: usize = 256;
-const PROCESS: usize = 9;
-const FIRST_PROCESS: usize = 2;
-const FIRST_PAIR: usize = FIRST_PROCESS + PROCESSES * PROCESS;
-const PAIRS: usize = 256;
-const PAIR: usize = 5;
 /// The two bytes of the text's length stand before the text.
 const TEXT_START: usize = 2;
 

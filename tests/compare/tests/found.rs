@@ -6,12 +6,10 @@ use compare::met::Met;
 use compare::{compare as core, lists, with_stack};
 use second::generate::{Engine, SECOND};
 use second::script::{self, Form, Line};
+use second::state::{FIRST_PAIR, FIRST_PROCESS, PROCESS};
 use second::{list, open, step, Answer, LISTING};
 
 const ENTRY: usize = 7;
-const PROCESS: usize = 9;
-const FIRST_PROCESS: usize = 2;
-const FIRST_PAIR: usize = 2_306;
 
 /// Finds and shrinks the fault, and holds its script to these lengths.
 fn found(wrong: Engine, place: Place, calls: usize, bytes: usize) {

@@ -4,6 +4,7 @@
 //! calls.
 
 use crate::model;
+use crate::state::{FIRST_PAIR, FIRST_PROCESS, PAIR, PROCESS};
 use crate::tokens::{self, Kind};
 use crate::{Answer, LISTING, MODEL, STATE};
 
@@ -967,18 +968,18 @@ impl Buffers {
             Call::SetModel { place, byte } => self.model[*place] = *byte,
             Call::Light { count, first } => {
                 self.state[1] = *count as i64;
-                let pairs = &mut self.state[2 + 9 * 256..STATE];
+                let pairs = &mut self.state[FIRST_PAIR..STATE];
                 pairs.fill(0);
-                for (number, pair) in pairs.chunks_mut(5).take(*count).enumerate() {
+                for (number, pair) in pairs.chunks_mut(PAIR).take(*count).enumerate() {
                     pair[..4].copy_from_slice(&[0, 5, 1, first + number as i64]);
                 }
             }
             Call::Crowd { count } => {
                 self.state[0] = *count as i64;
-                let first = self.state[2..11].to_vec();
-                let processes = &mut self.state[2..2 + 9 * 256];
+                let first = self.state[FIRST_PROCESS..FIRST_PROCESS + PROCESS].to_vec();
+                let processes = &mut self.state[FIRST_PROCESS..FIRST_PAIR];
                 processes.fill(0);
-                for process in processes.chunks_mut(9).take(*count) {
+                for process in processes.chunks_mut(PROCESS).take(*count) {
                     process.copy_from_slice(&first);
                 }
             }
@@ -1057,8 +1058,8 @@ fn some_change(random: &mut Random) -> Call {
         0..=5 => {
             let place = match random.below(6) {
                 0 => random.below(2),
-                1 | 2 => 2 + random.below(30),
-                3 => 2 + 9 * 256 + random.below(15),
+                1 | 2 => FIRST_PROCESS + random.below(30),
+                3 => FIRST_PAIR + random.below(15),
                 _ => random.below(STATE),
             };
             let number = *random.pick(&[

@@ -6,11 +6,15 @@ use crate::model::Model;
 
 pub const PROCESSES: usize = 256;
 pub const PAIRS: usize = 256;
-const LOCALS: usize = 8;
-const PROCESS: usize = 1 + LOCALS;
-const PAIR: usize = 5;
-const FIRST_PROCESS: usize = 2;
-const FIRST_PAIR: usize = FIRST_PROCESS + PROCESSES * PROCESS;
+/// The most locals of a process.
+pub const LOCALS: usize = 8;
+/// Numbers of a process: its sum and its locals.
+pub const PROCESS: usize = 1 + LOCALS;
+/// Numbers of a pair: channel kind, channel, count of values, two values.
+pub const PAIR: usize = 5;
+/// Where the processes begin, after both counts.
+pub const FIRST_PROCESS: usize = 2;
+pub const FIRST_PAIR: usize = FIRST_PROCESS + PROCESSES * PROCESS;
 
 /// The length of the state buffer.
 pub const BUFFER: usize = FIRST_PAIR + PAIRS * PAIR;

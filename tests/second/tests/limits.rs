@@ -3,7 +3,13 @@
 mod common;
 
 use common::*;
-use second::Answer;
+use second::state::{FIRST_PAIR, PAIR, PROCESS};
+use second::{Answer, STATE};
+
+#[test]
+fn the_numbers_of_a_state() {
+    assert_eq!((PROCESS, PAIR, FIRST_PAIR, STATE), (9, 5, 2_306, 3_586));
+}
 
 #[test]
 fn text_length() {

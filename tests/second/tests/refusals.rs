@@ -4,6 +4,7 @@
 mod common;
 
 use common::*;
+use second::state::{FIRST_PAIR, FIRST_PROCESS, PAIR, PROCESS};
 use second::{Answer, LISTING, MODEL, STATE};
 
 const PLAIN: &str = "A[]={go,1};A[];";
@@ -120,15 +121,15 @@ fn eleven_for_states() {
     assert_eq!(with(|bench| bench.set_process(0, &[1, 5, 6])).list().number, 0);
     not_a_state(&mut with(|bench| bench.set_process(0, &[1, 5, 6, 7])));
     // Unused numbers after the last process and the last pair.
-    not_a_state(&mut set(2 + 18, 1));
-    not_a_state(&mut set(2 + 9 * 256 - 1, 1));
-    not_a_state(&mut set(2 + 9 * 256, 1));
+    not_a_state(&mut set(FIRST_PROCESS + 2 * PROCESS, 1));
+    not_a_state(&mut set(FIRST_PAIR - 1, 1));
+    not_a_state(&mut set(FIRST_PAIR, 1));
     not_a_state(&mut set(STATE - 1, 1));
 }
 
 #[test]
 fn eleven_for_pairs() {
-    let lit = |pairs: &[[i64; 5]]| {
+    let lit = |pairs: &[[i64; PAIR]]| {
         let mut bench = Bench::of(STATES);
         bench.state[1] = pairs.len() as i64;
         for (place, pair) in pairs.iter().enumerate() {
@@ -136,8 +137,8 @@ fn eleven_for_pairs() {
         }
         bench
     };
-    let good = |pairs: &[[i64; 5]]| assert_eq!(lit(pairs).list().number, 0, "{pairs:?}");
-    let bad = |pairs: &[[i64; 5]]| not_a_state(&mut lit(pairs));
+    let good = |pairs: &[[i64; PAIR]]| assert_eq!(lit(pairs).list().number, 0, "{pairs:?}");
+    let bad = |pairs: &[[i64; PAIR]]| not_a_state(&mut lit(pairs));
     let (low, high) = (-2_147_483_648, 2_147_483_647);
     good(&[[0, low, 1, low, 0]]);
     good(&[[0, high, 2, high, low]]);

@@ -1,5 +1,5 @@
-//! The specimens of 01 that have no star, and the bench sheet, as lists of calls whose last
-//! answer is known.
+//! The specimens of 01 that have no star, the bench sheet and the starred divisions, as lists of
+//! calls whose last answer is known.
 
 use crate::compare::{self, Difference};
 use crate::met::Met;
@@ -40,6 +40,12 @@ fn refused(number: u64, place: u64) -> Answer {
     Answer { number, place, ..Answer::default() }
 }
 
+/// A relation that holds: it opens a gate.
+fn holds(relation: &'static str) -> Specimen {
+    let text = format!("A[]=[{relation}]->{{go,1}};A[];");
+    Specimen { name: relation, calls: vec![open(text), LIST], answer: counted(0, 1, 100_000_000) }
+}
+
 pub fn all() -> Vec<Specimen> {
     let longest = format!("{:16384}", "A[]={go,1};A[];");
     vec![
@@ -70,6 +76,7 @@ pub fn all() -> Vec<Specimen> {
             calls: vec![open("A[]={go,100000.0001};A[];"), LIST],
             answer: refused(12, 0),
         },
+        holds("-2147483648/-1==2147483648"),
         Specimen { name: "16,384 bytes stand", calls: vec![open(longest.clone())], answer: Answer::default() },
         Specimen { name: "16,385 bytes give 2", calls: vec![open(longest + " ")], answer: refused(2, 16_384) },
         Specimen {

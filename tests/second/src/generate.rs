@@ -3,6 +3,7 @@
 //! Everything comes from one small generator of numbers: the same seed gives the same texts and
 //! calls.
 
+use crate::limits::{HIGHEST, LOWEST};
 use crate::model;
 use crate::state::{FIRST_PAIR, FIRST_PROCESS, PAIR, PROCESS};
 use crate::tokens::{self, Kind};
@@ -465,7 +466,7 @@ impl Writer<'_> {
 
     /// An expression whose value lies from -9 to 9, as long as all locals do.
     fn small(&mut self, depth: usize) {
-        match self.random.below(if depth > 0 { 12 } else { 7 }) {
+        match self.random.below(if depth > 0 { 13 } else { 7 }) {
             0 | 1 => {
                 let value = self.random.between(-2, 5);
                 self.whole(value);
@@ -492,6 +493,14 @@ impl Writer<'_> {
                 self.put("min ( abs (");
                 self.free(depth - 1);
                 self.put(") , 5 )");
+            }
+            11 => {
+                // To an end of the range and back.
+                let (there, back) = *self.random.pick(&[("+", "-"), ("-", "+")]);
+                let far = HIGHEST - SMALL;
+                self.put("(");
+                self.small_name();
+                self.put(&format!("{there} {far} {back} {far} )"));
             }
             _ => {
                 self.put("(");
@@ -556,6 +565,35 @@ fn around(random: &mut Random, limit: usize) -> usize {
     }
 }
 
+/// Whole numbers at both ends of the range, one past each, and far past.
+const AROUND_THE_ENDS: [&str; 8] = [
+    "1099511627775",
+    "1099511627775",
+    "-1099511627775",
+    "-1099511627775",
+    "1099511627776",
+    "-1099511627776",
+    "9999999999999",
+    "-18446744073709551617",
+];
+
+/// Expressions over a small n that have a value for some n only: zero divisors, sums and products just inside the
+/// range and just outside.
+const PERHAPS_NO_VALUE: [&str; 12] = [
+    "1/n",
+    "7/(n-1)",
+    "1099511627775+n",
+    "-1099511627775-n",
+    "abs(n-1099511627775)",
+    "1048575*1048577*n",
+    "-1048575*1048577*n",
+    "1048576*1048576*n",
+    "219902325555*(n+4)",
+    "-219902325555*(n+4)",
+    "1099511627775*n",
+    "1099511627775*1099511627775*n",
+];
+
 /// How many kinds of texts near a limit there are.
 pub const EDGES: usize = 26;
 
@@ -592,8 +630,8 @@ pub fn edge_of_kind(random: &mut Random, which: usize) -> Vec<u8> {
             format!("{name}=1;A[]={{go,{name}}}.A[];A[];")
         }
         5 => {
-            let number = *random.pick(&["2147483647", "2147483648", "-2147483648", "-2147483649", "99999999999"]);
-            format!("w={number};A[n]={{c![w],1}}.A[{number}]+{{go,1}};A[{number}];")
+            let number = *random.pick(&AROUND_THE_ENDS);
+            format!("w={number};A[n]={{w![w],1}}.A[{number}]+{{n?[w..n](x),1}}.A[x]+{{go,1}};A[{number}];")
         }
         6 => {
             let number = *random.pick(&["999999.9999", "0000001.5", "1.00000", "100000.0000", "100000.0001", "-0.0"]);
@@ -659,11 +697,11 @@ pub fn edge_of_kind(random: &mut Random, which: usize) -> Vec<u8> {
         18 => "A[n]={c![n],5}.A[n+1]+{c#[n-3],1}.A[n+1]+{c?[n-5..n](x),0.1}.A[n];4*A[0];".to_string(),
         // No values.
         19 => {
-            let part = *random.pick(&["1/n", "2147483647+n", "abs(-2147483648+n-n)", "7/(n-1)", "65536*32768*n"]);
+            let part = *random.pick(&PERHAPS_NO_VALUE);
             format!("A[n]={{go,1}}.A[{part}]+{{tick,1}}.A[0]+{{tock,1}}.A[1];A[2]||A[1]||A[0];")
         }
         20 => {
-            let part = *random.pick(&["1/n", "2147483647+n", "-1*n", "7/(n-1)", "65536*32768*n"]);
+            let part = *random.pick(&PERHAPS_NO_VALUE);
             format!("A[n]={{go,1}}.A[n-1]+{{tick,1}}.A[3]+[n<2]->{{c![{part}],1}}.A[n];A[4]||A[5]||A[6];")
         }
         // Names that aren't new.
@@ -691,8 +729,21 @@ pub fn edge_of_kind(random: &mut Random, which: usize) -> Vec<u8> {
             )
         }
         _ => {
-            let rate = *random.pick(&["n", "n*n", "0.5*n", "10000*n", "100000.0000*n"]);
-            format!("A[n]={{go,{rate}}}.A[n+1]+{{tick,1}}.A[n-1];A[{}];", random.below(12))
+            let rate = *random.pick(&[
+                "n",
+                "n*n",
+                "0.5*n",
+                "10000*n",
+                "100000.0000*n",
+                "n*1099511627775",
+                "100000*1099511627775",
+                "0.0001*-1099511627775",
+                "0*1099511627775",
+                "1099511627775",
+                "1099511627776",
+            ]);
+            let start = if random.chance(80) { random.between(0, 11) } else { *random.pick(&[LOWEST, HIGHEST]) };
+            format!("A[n]={{go,{rate}}}.A[n+1]+{{tick,1}}.A[n-1];A[{start}];")
         }
     };
     text.into_bytes()
@@ -745,7 +796,7 @@ const WORDS: [&str; 46] = [
     "1",
     "300",
     "1.5",
-    "99999999999",
+    "9999999999999",
     "abcdefghijklmnopq",
 ];
 
@@ -1073,10 +1124,10 @@ fn some_change(random: &mut Random) -> Call {
                 255,
                 256,
                 257,
-                2_147_483_647,
-                2_147_483_648,
-                -2_147_483_648,
-                -2_147_483_649,
+                HIGHEST,
+                HIGHEST + 1,
+                LOWEST,
+                LOWEST - 1,
                 i64::MAX,
                 i64::MIN,
             ]);

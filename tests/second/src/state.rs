@@ -1,7 +1,7 @@
 //! The state: a list of processes and a set of lit pairs, and the buffer of signed 64-bit
 //! numbers that holds them.
 
-use crate::limits::{HIGHEST, LOWEST};
+use crate::limits::is_value;
 use crate::model::Model;
 
 pub const PROCESSES: usize = 256;
@@ -160,10 +160,6 @@ fn read_pair(model: &Model, part: &[i64]) -> Option<Pair> {
 /// The number, if it is from 0 to below the end.
 fn below(number: i64, end: usize) -> Option<usize> {
     usize::try_from(number).ok().filter(|&number| number < end)
-}
-
-fn is_value(number: i64) -> bool {
-    (LOWEST..=HIGHEST).contains(&number)
 }
 
 fn all_zero(numbers: &[i64]) -> bool {

@@ -1,5 +1,5 @@
-//! The specimens of 01 that have no star, the bench sheet and the starred divisions, as lists of
-//! calls whose last answer is known.
+//! The specimens of 01 that have no star, the bench sheet, the starred divisions and products beyond
+//! 64 bits, as lists of calls whose last answer is known.
 
 use crate::compare::{self, Difference};
 use crate::met::Met;
@@ -77,6 +77,16 @@ pub fn all() -> Vec<Specimen> {
             answer: refused(12, 0),
         },
         holds("-2147483648/-1==2147483648"),
+        Specimen {
+            name: "4294967297*4294967297 has no value",
+            calls: vec![open("A[]={c![4294967297*4294967297],1};A[];"), LIST],
+            answer: refused(12, 0),
+        },
+        Specimen {
+            name: "rate 100000*18446744074 gives 12",
+            calls: vec![open("A[]={go,100000*18446744074};A[];"), LIST],
+            answer: refused(12, 0),
+        },
         Specimen { name: "16,384 bytes stand", calls: vec![open(longest.clone())], answer: Answer::default() },
         Specimen { name: "16,385 bytes give 2", calls: vec![open(longest + " ")], answer: refused(2, 16_384) },
         Specimen {

@@ -577,9 +577,9 @@ const AROUND_THE_ENDS: [&str; 8] = [
     "-18446744073709551617",
 ];
 
-/// Expressions over a small n that have a value for some n only: zero divisors, sums and products just inside the
-/// range and just outside.
-const PERHAPS_NO_VALUE: [&str; 12] = [
+/// Expressions over a small n that have a value for some n only, or for none: zero divisors, sums and products just
+/// inside the range and just outside, products whose low 64 bits are in range.
+const PERHAPS_NO_VALUE: [&str; 14] = [
     "1/n",
     "7/(n-1)",
     "1099511627775+n",
@@ -592,6 +592,8 @@ const PERHAPS_NO_VALUE: [&str; 12] = [
     "-219902325555*(n+4)",
     "1099511627775*n",
     "1099511627775*1099511627775*n",
+    "4294967297*4294967297",
+    "4294967296*(n+4294967296)",
 ];
 
 /// How many kinds of texts near a limit there are.
@@ -737,6 +739,8 @@ pub fn edge_of_kind(random: &mut Random, which: usize) -> Vec<u8> {
                 "100000.0000*n",
                 "n*1099511627775",
                 "100000*1099511627775",
+                // By its low 64 bits 29044.8384.
+                "100000*18446744074",
                 "0.0001*-1099511627775",
                 "0*1099511627775",
                 "1099511627775",

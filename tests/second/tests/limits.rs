@@ -242,6 +242,8 @@ fn products() {
     assert_eq!(value_of("549755813888*-2"), None);
     // Beyond 64 bits, and by their low bits in range again.
     assert_eq!(value_of("4294967296*4294967296"), None);
+    assert_eq!(value_of("4294967297*4294967297"), None);
+    assert_eq!(value_of("4294967297*-4294967297"), None);
     assert_eq!(value_of("1099511627775*1099511627775"), None);
     assert_eq!(value_of("-1099511627775*1099511627775*0"), None);
     assert_eq!(value_of("0*1099511627775*1099511627775"), Some(0));
@@ -263,6 +265,8 @@ fn rate_range() {
     // Scale times atom beyond 64 bits: 10^9 times 2^40.
     assert_eq!(rate_of("", "100000*1099511627775"), None);
     assert_eq!(rate_of("", "100000*-1099511627775"), None);
+    // By its low 64 bits it would be in range.
+    assert_eq!(rate_of("", "100000*18446744074"), None);
     assert_eq!(rate_of("", "0.0001*1099511627775"), None);
     assert_eq!(rate_of("", "0*1099511627775"), Some(0));
     assert_eq!(rate_of("", "1.5*3"), Some(45_000));

@@ -14,6 +14,7 @@ Needs python3 alone (Debian package python3).
 """
 
 import argparse
+import itertools
 import sys
 
 # The state's layout, docs/LAYOUT.md.
@@ -91,7 +92,7 @@ def lit_spans(runs, wanted):
 
 def ticks(low, high):
     """Some round numbers from low to high."""
-    sizes = (size * 10**power for power in range(7) for size in (1, 2, 5))
+    sizes = (size * 10**power for power in itertools.count() for size in (1, 2, 5))
     step = next(size for size in sizes if (high - low) / size <= 8)
     first = -(-low // step) * step
     return range(int(first), int(high) + 1, step)

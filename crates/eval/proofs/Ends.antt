@@ -3,7 +3,7 @@ use mathlib.Core.Path.{_≡_, refl, sym, ap, subst, _∙_}
 use mathlib.Core.List.{List, [], _∷_}
 use mathlib.Core.Bool.{Bool, true, false}
 use mathlib.Core.Option.{Option, none, some}
-use Prim.Native.Nat.{ℕ, _-_, _≤_, _<_}
+use Prim.Native.Nat.{ℕ, _+_, _-_, _≤_, _<_}
 use native.Mathlib.Omega.{arith}
 use borrow.Author.Tests.{ltb-true, ltb-false}
 use lib.Dec.{T, ltb, lit<}
@@ -11,7 +11,7 @@ use lib.IntN.{ℤ, pos, natAbs}
 use lib.ListN.{length, getD, List·getD-eq-default}
 use Rattle.value.specs.declared.Value.{Value}
 use Rattle.value.specs.declared.Value.the-variants.{Is, Missing}
-use Rattle.value.specs.Range.{InRange}
+use Rattle.value.specs.Range.{farthest, InRange}
 use Rattle.value.proofs.Kit.{false-not-true, ok-fits, bits-eq}
 use lib.Signed.{nonNeg}
 use mir.Syntax.{w64}
@@ -130,8 +130,8 @@ module _ (a : ℤ) (i : ℕ) (f : SFits w64 a) (e : a ≡ pos i) where
 
 -- the mark as the machine compares it
 module _ (b : ℤ) (f : SFits w64 b) where
-  pub mark-taken : ofZ w64 b ≡ 2147483648 → b ≡ joinedMark
+  pub mark-taken : ofZ w64 b ≡ farthest + 1 → b ≡ joinedMark
   mark-taken e = bits-eq b joinedMark f (ok-fits joinedMark (lit< tt)) e
 
-  pub mark-left : (ofZ w64 b ≡ 2147483648 → ⊥) → b ≡ joinedMark → ⊥
+  pub mark-left : (ofZ w64 b ≡ farthest + 1 → ⊥) → b ≡ joinedMark → ⊥
   mark-left h e = h (ap (ofZ w64) e)

@@ -1,14 +1,14 @@
--- The tests of a rate's range, and products of a scale with a number of any size. By cases of the signs.
-use mathlib.Core.Path.{_≡_, refl}
-use mathlib.Core.Bool.{true, false}
+-- The tests of a rate's range, and products of a scale with a number, of any size. By cases of the signs.
+use mathlib.Core.Path.{_≡_, refl, sym, _∙_}
+use mathlib.Core.Bool.{Bool, true, false, cond, not}
+use mathlib.Core.Option.{none, some}
 use Prim.Native.Nat.{ℕ, zero, suc, _*_, _≤_}
-use native.Mathlib.Nat.{mul-le-mul, le-refl}
+use native.Mathlib.Nat.{mul-le-mul, zero-mul, pos-of-ne-zero}
 use native.Mathlib.Omega.{arith}
-use borrow.Author.Tests.{ltb-true, ltb-false, lt-ltb, le-leb, lt-leb}
+use borrow.Author.Tests.{ltb-true, ltb-false, leb-true, le-leb, lt-leb}
+use lib.Dec.{leb}
 use lib.IntN.{ℤ, pos, negsuc, negℤ, natAbs, _*ℤ_}
 use lib.Signed.{ltZ}
-use mir.Syntax.{w64}
-use mir.Val.{SFits}
 use Rattle.value.proofs.Kit.{true-not-false, false-not-true}
 use Rattle.machine.specs.Evaluate.{rateLimit, inRate}
 use Rattle.eval.specs.declared.Rate.the-variants.{Is, Missing}
@@ -33,55 +33,63 @@ pub small-size : (z : ℤ) → ltZ z (pos 0) ≡ false → ltZ (pos rateLimit) z
 small-size (pos n) h k = ltb-false rateLimit n k
 small-size (negsuc n) h k = true-not-false h
 
--- ---- a scale n, which is m, times v
+-- ---- a scale n times v
 negative : (q : ℕ) → 1 ≤ q → Missing ≡ rateOf (inRate (negℤ (pos q)))
 unfolding rateOf inRate
 negative zero h = absurd (omega arith)
 negative (suc q) h = refl
 
-pub zero-scale : (n v : ℤ) → n ≡ pos 0 → Is 0 ≡ rateOf (inRate (n *ℤ v))
+nothing : (q : ℕ) → q ≡ 0 → (Is 0 ≡ rateOf (inRate (pos q))) × (Is 0 ≡ rateOf (inRate (negℤ (pos q))))
 unfolding rateOf inRate
-zero-scale n (pos b) e = rw e (go (0 * b) (omega arith))
-  where
-    go : (q : ℕ) → q ≡ 0 → Is 0 ≡ rateOf (inRate (pos q))
-    go q h = rw h
-zero-scale n (negsuc b) e = rw e (go (0 * suc b) (omega arith))
-  where
-    go : (q : ℕ) → q ≡ 0 → Is 0 ≡ rateOf (inRate (negℤ (pos q)))
-    go q h = rw h
+nothing q h = rw h (refl, refl)
 
-module _ (n v : ℤ) (m : ℕ) (is : n ≡ pos m) where
-  pub scale-some : (n ≡ pos 0 → ⊥) → 1 ≤ m
-  scale-some h = go m is
+module _ (n : ℕ) (v : ℤ) where
+  pub zero-scale : n ≡ 0 → Is 0 ≡ rateOf (inRate (pos n *ℤ v))
+  zero-scale e = rw e (go v)
     where
-      go : (q : ℕ) → n ≡ pos q → 1 ≤ q
-      go zero e = absurd (h e)
-      go (suc q) e = omega arith
+      go : (w : ℤ) → Is 0 ≡ rateOf (inRate (pos 0 *ℤ w))
+      go (pos b) = nothing (0 * b) (zero-mul b) .0
+      go (negsuc b) = nothing (0 * suc b) (zero-mul (suc b)) .1
 
-  pub negative-times : (n ≡ pos 0 → ⊥) → ltZ v (pos 0) ≡ true → Missing ≡ rateOf (inRate (n *ℤ v))
-  negative-times h l = rw is (go v l)
+  pub negative-times : (n ≡ 0 → ⊥) → ltZ v (pos 0) ≡ true → Missing ≡ rateOf (inRate (pos n *ℤ v))
+  negative-times h l = go v l
     where
-      go : (w : ℤ) → ltZ w (pos 0) ≡ true → Missing ≡ rateOf (inRate (pos m *ℤ w))
+      go : (w : ℤ) → ltZ w (pos 0) ≡ true → Missing ≡ rateOf (inRate (pos n *ℤ w))
       go (pos b) e = absurd (omega (arith, ltb-true b 0 e))
       go (negsuc b) e =
+          let m : 1 ≤ n = pos-of-ne-zero h in
           let o : 1 ≤ suc b = omega arith in
-          let g : 1 * 1 ≤ m * suc b = mul-le-mul (scale-some h) o in
-          negative (m * suc b) (omega arith)
+          let g : 1 * 1 ≤ n * suc b = mul-le-mul m o in
+          negative (n * suc b) (omega arith)
 
-  pub large-times : (n ≡ pos 0 → ⊥) → ltZ (pos rateLimit) v ≡ true → Missing ≡ rateOf (inRate (n *ℤ v))
-  large-times h l = rw is (go v l)
-    where
-      go : (w : ℤ) → ltZ (pos rateLimit) w ≡ true → Missing ≡ rateOf (inRate (pos m *ℤ w))
-      go (pos b) e =
-          let g : 1 * b ≤ m * b = mul-le-mul (scale-some h) (le-refl b) in
-          rate-above (pos (m * b)) (lt-ltb rateLimit (m * b) (omega (arith, ltb-true rateLimit b e)))
-      go (negsuc b) e = false-not-true e
+  module _ {r : Bool} (l : ltZ v (pos 0) ≡ false) (e : r ≡ leb (n * natAbs v) rateLimit) where
+    product-rate : rateOf (inRate (pos n *ℤ v)) ≡ rateOf (cond r (some (n * natAbs v)) none)
+    unfolding inRate
+    product-rate = rw e (go v l)
+      where
+        go : (w : ℤ) → ltZ w (pos 0) ≡ false → rateOf (inRate (pos n *ℤ w)) ≡ rateOf (cond (leb (n * natAbs w) rateLimit) (some (n * natAbs w)) none)
+        go (pos b) h = refl
+        go (negsuc b) h = true-not-false h
 
-  pub times-fits : m ≤ rateLimit → ltZ v (pos 0) ≡ false → ltZ (pos rateLimit) v ≡ false → SFits w64 (n *ℤ v)
-  times-fits k h l = rw is (go v h l)
-    where
-      go : (w : ℤ) → ltZ w (pos 0) ≡ false → ltZ (pos rateLimit) w ≡ false → SFits w64 (pos m *ℤ w)
-      go (pos b) e d =
-          let g : m * b ≤ rateLimit * rateLimit = mul-le-mul k (ltb-false rateLimit b d) in
-          omega arith
-      go (negsuc b) e d = true-not-false e
+    pub large-times : not r ≡ true → Missing ≡ rateOf (inRate (pos n *ℤ v))
+    unfolding rateOf
+    large-times t = sym (product-rate ∙ go r t)
+      where
+        go : (r : Bool) → not r ≡ true → rateOf (cond r (some (n * natAbs v)) none) ≡ Missing
+        go true t = false-not-true t
+        go false t = refl
+
+    pub rate-times : not r ≡ false → Is (n * natAbs v) ≡ rateOf (inRate (pos n *ℤ v))
+    unfolding rateOf
+    rate-times t = sym (product-rate ∙ go r t)
+      where
+        go : (r : Bool) → not r ≡ false → rateOf (cond r (some (n * natAbs v)) none) ≡ Is (n * natAbs v)
+        go true t = refl
+        go false t = true-not-false t
+
+    pub times-fits : not r ≡ false → n * natAbs v ≤ rateLimit
+    times-fits t = leb-true (n * natAbs v) rateLimit (sym e ∙ go r t)
+      where
+        go : (r : Bool) → not r ≡ false → r ≡ true
+        go true t = refl
+        go false t = true-not-false t

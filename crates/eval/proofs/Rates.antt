@@ -15,11 +15,10 @@ use Rattle.tables.proofs.Numbers.{node-number, node-number-kind}
 use Rattle.tables.proofs.Parts.{pair-above, pair-second}
 use Rattle.model.specs.Good.{GoodRate}
 use Rattle.machine.specs.Evaluate.{valued, given, inRate, evalScale, evalRate}
-use Rattle.machine.proofs.Ranges.{scale-good}
 use Rattle.eval.specs.declared.Rate.{Rate as Answer}
 use Rattle.eval.specs.declared.Rate.the-variants.{Is, Missing}
 use Rattle.eval.specs.Held.{Held, Worth}
-use Rattle.eval.specs.Rates.{rateOf, scaleAnswer, rateAnswer, Limited}
+use Rattle.eval.specs.Rates.{rateOf, scaleAnswer, rateAnswer}
 use Rattle.eval.proofs.Exprs.{SomeExpr, IsExpr}
 
 -- r is what the scale, or the rate, at k comes to
@@ -76,19 +75,6 @@ module _ (t : List ℕ) (k kind : ℕ) (is : kind ≡ kindOf (getD t k 0)) where
         go : (r : Resolved.Rate) → Rate t r k → GoodRate n r → (1 ≤ k) × SomeExpr t n (k - 1)
         go (Resolved.plain s) a g = scale-not-scaled s a h
         go (Resolved.scaled s e) a g = (pair-above a, record { part = e; at = pair-second a; fit = g .1 })
-
-    -- its scale lies in the range
-    pub scale-limited : (ls : List ℤ) (n : ℕ) (x : Answer) → Held (Rate t) (GoodRate n) k → IsScale t ls (leftOf (getD t k 0)) x → Limited x
-    unfolding Rate scaleAnswer
-    scale-limited ls n x s w = go (s .part) (s .at)
-      where
-        limited : (e : Resolved.Scale) (y : Answer) → y ≡ rateOf (evalScale ls e) → Limited y
-        limited e (Is m) q = scale-good ls e m (rate-some (evalScale ls e) m q)
-        limited e Missing q = tt
-
-        go : (r : Resolved.Rate) → Rate t r k → Limited x
-        go (Resolved.plain s) a = scale-not-scaled s a h
-        go (Resolved.scaled s e) a = limited s x (w s (a .holds-first))
 
     pub scaled-rate : (ls : List ℤ) (s : Answer) (x : Value) (r : Answer) → IsScale t ls (leftOf (getD t k 0)) s → IsExpr t ls (k - 1) x → ((o : Option ℕ) → s ≡ rateOf o → r ≡ rateOf (given o (λ n. valued x (λ v. inRate (pos n *ℤ v))))) → IsRate t ls k r
     unfolding Rate evalRate rateAnswer scaleAnswer

@@ -1,11 +1,11 @@
 -- Rates and channels as the answers of functions. Assumes nothing: these are definitions.
 use mathlib.Core.List.{List}
 use mathlib.Core.Option.{Option, none, some}
-use Prim.Native.Nat.{ℕ, _≤_}
+use Prim.Native.Nat.{ℕ}
 use lib.IntN.{ℤ}
 use Rattle.model.specs.Resolved
 use Rattle.rules.specs.Offers as offers
-use Rattle.machine.specs.Evaluate.{rateLimit, evalScale, evalRate, evalChannel}
+use Rattle.machine.specs.Evaluate.{evalScale, evalRate, evalChannel}
 use Rattle.eval.specs.declared.Rate.{Rate}
 use Rattle.eval.specs.declared.Rate.the-variants.{Is, Missing}
 use Rattle.eval.specs.declared.Channel.{Channel}
@@ -22,11 +22,6 @@ scaleAnswer ls s = rateOf (evalScale ls s)
 -- 01, Values: a rate
 unfoldable pub rateAnswer : List ℤ → Resolved.Rate → Rate
 rateAnswer ls r = rateOf (evalRate ls r)
-
--- 01, Values: a rate lies in its range
-abbrev pub Limited : Rate → Type 0
-Limited (Is n) = n ≤ rateLimit
-Limited Missing = Unit {0}
 
 unfoldable pub channelOf : Option offers.Channel → Channel
 channelOf (some (offers.number z)) = Number z

@@ -3,13 +3,13 @@ use mathlib.Core.Path.{_≡_}
 use mathlib.Core.List.{List, [], _∷_}
 use mathlib.Core.Bool.{Bool, true, false, cond, _||_}
 use mathlib.Core.Option.{Option, none, some}
-use Prim.Native.Nat.{ℕ, _-_, _<_}
+use Prim.Native.Nat.{ℕ, _+_, _-_, _<_}
 use lib.Dec.{eqb}
 use lib.IntN.{ℤ, pos}
 use lib.ListN.{length, getD}
 use Rattle.value.specs.declared.Value.{Value}
 use Rattle.value.specs.declared.Value.the-variants.{Is, Missing}
-use Rattle.value.specs.Range.{InRange}
+use Rattle.value.specs.Range.{farthest, InRange}
 use Rattle.tree.specs.Node as node
 use Rattle.model.specs.Resolved
 use Rattle.rules.specs.Offers as offers
@@ -30,7 +30,7 @@ use Rattle.eval.specs.declared.offer.Ends.the-variants.{Are, Missing as 
 
 -- beyond the range of values: marks a set that is given by its root
 abbrev pub joinedMark : ℤ
-joinedMark = pos 2147483648
+joinedMark = pos (farthest + 1)
 
 -- 01, Values: a branch behind a false gate is hidden
 abbrev pub hidden : ℕ

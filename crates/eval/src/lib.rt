@@ -21,11 +21,11 @@ ghost use Rattle.model.specs.Resolved as Resolved;
 ghost use Rattle.rules.specs.Offers.{range, within};
 ghost use Rattle.tables.specs.Settled as Settled;
 ghost use Rattle.model.specs.Good.{Every, GoodExpr, GoodSet, GoodCond, GoodRate, GoodName};
-ghost use Rattle.machine.specs.Evaluate.{withValue, valued, given, apply, related, rateLimit, inRate, evalExpr};
+ghost use Rattle.machine.specs.Evaluate.{withValue, valued, given, apply, related, inRate, evalExpr};
 ghost use Rattle.machine.specs.Offer.{isValue, allValues};
 ghost use Rattle.eval.specs.Held.{Held, Worth, Sound};
 ghost use Rattle.eval.specs.Skips.{settles, skips};
-ghost use Rattle.eval.specs.Rates.{rateOf, scaleAnswer, rateAnswer, Limited, channelAnswer};
+ghost use Rattle.eval.specs.Rates.{rateOf, scaleAnswer, rateAnswer, channelAnswer};
 ghost use Rattle.eval.specs.Lists.{valuesGiven, valuesAnswer};
 ghost use Rattle.eval.specs.Answers.{Tells, endsKnown, truthOf, truth};
 
@@ -282,7 +282,7 @@ impl RateRange {
     pub const GREATEST: i64 = 1000000000;
 
     // ten-thousandths of a whole number
-    pub const UNIT: i64 = 10000;
+    pub const UNIT: u64 = 10000;
 }
 
 // z as a rate, if it lies in the range.
@@ -298,10 +298,9 @@ fn rate_in(z: i64) -> Rate
     Rate::Is(z as u64)
 }
 
-// The product of a scale and a number of any size: no factor above the range is multiplied.
-fn scaled(n: i64, v: i64) -> Rate
-    requires { ⌜ ((m : ℕ) × (n ≡ pos m) × (m ≤ rateLimit)) ⌝ }
-    ensures { λ r. ⌜ r ≡ rateOf (inRate (n *ℤ v)) ⌝ }
+// The product of a scale and a number, of any size: whether it is a rate is decided before it is multiplied.
+fn scaled(n: u64, v: i64) -> Rate
+    ensures { λ r. ⌜ r ≡ rateOf (inRate (pos n *ℤ v)) ⌝ }
 {
     if n == 0 {
         return Rate::Is(0);
@@ -309,10 +308,12 @@ fn scaled(n: i64, v: i64) -> Rate
     if v < 0 {
         return Rate::Missing;
     }
-    if RateRange::GREATEST < v {
+    let size = v as u64;
+    if !value::product_within(n, size, RateRange::GREATEST as u64) {
         return Rate::Missing;
     }
-    rate_in(n * v)
+    let product = n * size;
+    Rate::Is(product)
 }
 
 // What the scale at k comes to.
@@ -327,12 +328,11 @@ fn scale_of(nodes: &[u64], locals: &[i64], k: usize) -> Rate
 }
 
 fn times(scale: Rate, x: Value) -> Rate
-    requires { ⌜ Limited scale ⌝ }
     ensures { λ r. ⌜ ((o : Option ℕ) → scale ≡ rateOf o → r ≡ rateOf (given o (λ n. valued x (λ v. inRate (pos n *ℤ v))))) ⌝ }
 {
     match scale {
         Rate::Is(n) => match x {
-            Value::Is(v) => scaled(n as i64, v),
+            Value::Is(v) => scaled(n, v),
             Value::Missing => Rate::Missing,
         },
         Rate::Missing => Rate::Missing,

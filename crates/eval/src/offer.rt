@@ -24,7 +24,7 @@ pub struct OfferSet;
 
 impl OfferSet {
     // beyond the range of values
-    pub const JOINED: i64 = 2147483648;
+    pub const JOINED: i64 = value::Range::GREATEST + 1;
 }
 
 // What a branch offers. A channel is kind (0 number, 1 name) and number; one or two values, each in `first` or `second`, or sets, each with its end.

@@ -9,7 +9,8 @@ use borrow.Author.Tests.{le-leb}
 use lib.Dec.{lit<, lit≤}
 use lib.IntN.{ℤ, pos, negsuc}
 use lib.ListN.{length}
-use Rattle.value.specs.Range.{InRange}
+use lib.Signed.{mag}
+use Rattle.value.specs.Range.{farthest, least, InRange}
 use Rattle.grammar.specs.Grammar.{greater}
 use Rattle.grammar.specs.Syntax.{divide, without}
 use Rattle.tree.specs.Node.{kindOf, tokenOf, leftOf, opKind, joinKind, testKind, relationKind}
@@ -32,10 +33,10 @@ pub two-in : (i y : ℤ) → InRange i → InRange y → Every InRange (i ∷ y 
 unfolding Every
 two-in i y h k = (h, (k, tt))
 
-pub plus-literal : (n : ℕ) → n ≤ 2147483647 → Literal (numberCell 1 (pos n))
-plus-literal n h = record { number = pos n; cell-is = refl; fits = omega arith; range = record { low = refl; high = le-leb n 2147483647 h } }
+pub plus-literal : (n : ℕ) → n ≤ farthest → Literal (numberCell 1 (pos n))
+plus-literal n h = record { number = pos n; cell-is = refl; fits = omega arith; range = record { low = refl; high = le-leb n farthest h } }
 
-pub minus-literal : (n : ℕ) → 1 ≤ n → n ≤ 2147483648 → Literal (1 + 256 * (offset - n))
+pub minus-literal : (n : ℕ) → 1 ≤ n → n ≤ farthest → Literal (1 + 256 * (offset - n))
 unfolding numberCell lifted
 minus-literal n g h =
     let e : suc (n - 1) ≡ n = omega arith in
@@ -43,7 +44,7 @@ minus-literal n g h =
       number = negsuc (n - 1);
       cell-is = ap (λ (m : ℕ). 1 + 256 * (offset - m)) (sym e);
       fits = omega arith;
-      range = record { low = le-leb (n - 1) 2147483647 (omega arith); high = refl };
+      range = record { low = le-leb (n - 1) (mag least) (omega arith); high = refl };
     }
 
 -- ---- tables

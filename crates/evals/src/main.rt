@@ -10,7 +10,7 @@ ghost use Prim.Native.Nat.{_≤_, _<_};
 ghost use lib.IntN.{pos};
 ghost use Rattle.model.specs.Good.{scaleLimit};
 ghost use Rattle.tables.specs.Settled.{offset, numberCell};
-ghost use Rattle.value.specs.Range.{InRange};
+ghost use Rattle.value.specs.Range.{farthest, InRange};
 ghost use Rattle.evals.specs.Cells.{Literal};
 
 const KINDS: u64 = 256;
@@ -32,7 +32,7 @@ fn cell(kind: u8, n: u64) -> u64
 
 // The number n in an expression.
 fn plus(n: u64) -> u64
-    requires { ⌜ n ≤ 2147483647 ⌝ }
+    requires { ⌜ n ≤ farthest ⌝ }
     ensures { λ r. ⌜ Literal r ⌝ }
 {
     cell(NodeKind::LITERAL, n)
@@ -40,7 +40,7 @@ fn plus(n: u64) -> u64
 
 // The number -n in an expression.
 fn minus(n: u64) -> u64
-    requires { ⌜ (1 ≤ n) × (n ≤ 2147483648) ⌝ }
+    requires { ⌜ (1 ≤ n) × (n ≤ farthest) ⌝ }
     ensures { λ r. ⌜ Literal r ⌝ }
 {
     NodeKind::LITERAL as u64 + KINDS * (OFFSET - n)
@@ -186,8 +186,12 @@ fn quotients() {
     value_line(b"7/-2", quotient(plus(7), minus(2)));
 }
 
-fn no_quotients() {
+fn quotient_ends() {
     value_line(b"-2147483648/-1", quotient(minus(2147483648), minus(1)));
+    value_line(
+        b"-1099511627775/-1",
+        quotient(minus(1099511627775), minus(1)),
+    );
     value_line(b"7/0", quotient(plus(7), plus(0)));
 }
 
@@ -208,6 +212,16 @@ fn empty() {
     set_line(b"5 in 5..4", in_range(plus(5), plus(4), 5));
 }
 
+// All values.
+fn all(name: &[u8], v: i64) {
+    set_line(name, in_range(minus(1099511627775), plus(1099511627775), v));
+}
+
+fn ends() {
+    all(b"least in all", Range::LEAST);
+    all(b"greatest in all", Range::GREATEST);
+}
+
 fn gates() {
     gate_line(b"[0>0] -> {c![7/0],1}", gated(0, 7));
     gate_line(b"[2>0] -> {c![7/2],1}", gated(2, 7));
@@ -216,13 +230,15 @@ fn gates() {
 fn rates() {
     rate_line(b"rate 100000", rate(1000000000));
     rate_line(b"rate 100000.0001", rate(1000000001));
+    rate_line(b"rate 1099511627775", rate(10995116277750000));
 }
 
 fn main() {
     quotients();
-    no_quotients();
+    quotient_ends();
     sets();
     empty();
+    ends();
     gates();
     rates();
 }

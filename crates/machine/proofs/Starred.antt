@@ -21,7 +21,7 @@ use Rattle.machine.specs.Offer as offer
 use Rattle.machine.specs.State.{stateLength, emptyState}
 use Rattle.machine.specs.Machine as machine
 use Rattle.machine.specs.Machine.{modelLength, Answer, Call, open′, closed, opens, answers}
-use Rattle.machine.specs.Starred.{Specimen, sheet, rowOne, rowTwo, minusByTwo, byMinusTwo, beyond, threeAndFive, unlit, unbound, twoBound, enabled, noHandshake, bracket, Row, Holds, row}
+use Rattle.machine.specs.Starred.{Specimen, sheet, rowOne, rowTwo, minusByTwo, byMinusTwo, turned, threeAndFive, unlit, unbound, twoBound, enabled, noHandshake, bracket, Row, Holds, row}
 
 -- ---- what the machine computes
 
@@ -132,7 +132,7 @@ holds rowOne = opening-to _ (opened sheetModel) sheet-opens refl
 holds rowTwo = opening-to _ (opened sheetModel) sheet-opens refl
 holds minusByTwo = fitting _ (launchThen (quotient derived.negative derived.whole) (receives (single minusThree))) refl refl refl
 holds byMinusTwo = fitting _ (launchThen (quotient derived.whole derived.negative) (receives (single minusThree))) refl refl refl
-holds beyond = fitting _ (alone (prefix (derived.launch aName (derived.oneValue (quotient derived.negative derived.negative))) derived.stop)) refl refl refl
+holds turned = fitting _ (launchThen (quotient derived.negative derived.negative) (receives (single aWhole))) refl refl refl
 holds threeAndFive = fitting _ heard refl refl refl
 holds unlit = fitting _ (launchThen aWhole (launchesThen (prefix (derived.kill aName (derived.oneValue aWhole)) (then (prefix (derived.check aName (sets (single aWhole))) derived.stop))))) refl refl refl
 holds unbound = fitting _ (launchThen aWhole (launchesThen (receives oneToTwo))) refl refl refl

@@ -1,4 +1,4 @@
--- The starred specimens of 01, a row for each: a text, byte for byte, the calls made once it is opened, and every answer of the rule machine.
+-- The starred specimens of 01 and 02, a row for each: a text, byte for byte, the calls made once it is opened, and every answer of the rule machine.
 -- That each row holds is proofs/Starred.antt. Assumes nothing: these are definitions.
 use mathlib.Core.Path.{_≡_}
 use mathlib.Core.List.{List, [], _∷_}
@@ -8,7 +8,7 @@ use Rattle.rules.specs.Kind as kind
 use Rattle.rules.specs.Rules.{key}
 use Rattle.rules.specs.Listing.{Entry, entry}
 use Rattle.machine.specs.State.{stateLength}
-use Rattle.machine.specs.Machine.{modelLength, listingLength, asLent, zeroed, filled, Answer, no, Call, open′, list′, step′, closed, answers}
+use Rattle.machine.specs.Machine.{modelLength, listingLength, asLent, filled, Answer, no, Call, open′, list′, step′, closed, answers}
 
 -- 01, Specimens: those with a star, in 01's order
 pub data Specimen : Type 0 where
@@ -17,7 +17,7 @@ pub data Specimen : Type 0 where
   rowTwo : Specimen  -- 300000000 row two
   minusByTwo : Specimen  -- −7/2 is −3
   byMinusTwo : Specimen  -- so is 7/−2
-  beyond : Specimen  -- −2147483648/−1 has no value
+  turned : Specimen  -- 02, note 1: −2147483648/−1 is 2147483648
   threeAndFive : Specimen  -- `3..5\4` holds 3 and 5
   unlit : Specimen  -- launch, launch, kill
   unbound : Specimen  -- two matching pairs: one entry unbound
@@ -46,9 +46,9 @@ minusByTwoText = 65 ∷ 91 ∷ 93 ∷ 61 ∷ 123 ∷ 99 ∷ 33 ∷ 91 ∷ 45 ∷
 abbrev pub byMinusTwoText : List ℕ
 byMinusTwoText = 65 ∷ 91 ∷ 93 ∷ 61 ∷ 123 ∷ 99 ∷ 33 ∷ 91 ∷ 55 ∷ 47 ∷ 45 ∷ 50 ∷ 93 ∷ 44 ∷ 49 ∷ 125 ∷ 46 ∷ 123 ∷ 99 ∷ 63 ∷ 91 ∷ 45 ∷ 51 ∷ 93 ∷ 44 ∷ 49 ∷ 125 ∷ 59 ∷ 65 ∷ 91 ∷ 93 ∷ 59 ∷ []
 
--- A[]={c![-2147483648/-1],1};A[];
-abbrev pub beyondText : List ℕ
-beyondText = 65 ∷ 91 ∷ 93 ∷ 61 ∷ 123 ∷ 99 ∷ 33 ∷ 91 ∷ 45 ∷ 50 ∷ 49 ∷ 52 ∷ 55 ∷ 52 ∷ 56 ∷ 51 ∷ 54 ∷ 52 ∷ 56 ∷ 47 ∷ 45 ∷ 49 ∷ 93 ∷ 44 ∷ 49 ∷ 125 ∷ 59 ∷ 65 ∷ 91 ∷ 93 ∷ 59 ∷ []
+-- A[]={c![-2147483648/-1],1}.{c?[2147483648],1};A[];
+abbrev pub turnedText : List ℕ
+turnedText = 65 ∷ 91 ∷ 93 ∷ 61 ∷ 123 ∷ 99 ∷ 33 ∷ 91 ∷ 45 ∷ 50 ∷ 49 ∷ 52 ∷ 55 ∷ 52 ∷ 56 ∷ 51 ∷ 54 ∷ 52 ∷ 56 ∷ 47 ∷ 45 ∷ 49 ∷ 93 ∷ 44 ∷ 49 ∷ 125 ∷ 46 ∷ 123 ∷ 99 ∷ 63 ∷ 91 ∷ 50 ∷ 49 ∷ 52 ∷ 55 ∷ 52 ∷ 56 ∷ 51 ∷ 54 ∷ 52 ∷ 56 ∷ 93 ∷ 44 ∷ 49 ∷ 125 ∷ 59 ∷ 65 ∷ 91 ∷ 93 ∷ 59 ∷ []
 
 -- A[]={@c?[3..5\4],1};B[x]={@c![x],1};A[]||B[3]||B[4]||B[5];
 abbrev pub withoutText : List ℕ
@@ -111,11 +111,10 @@ unfoldable pub row : Specimen → Row
 row sheet = record { text = texts.sheet; calls = lists ∷ []; expected = isOpen ∷ listed 2 325000000 0 sheetRows ∷ [] }
 row rowOne = record { text = texts.sheet; calls = steps 299999999 ∷ []; expected = isOpen ∷ listed 2 325000000 0 sheetRows ∷ [] }
 row rowTwo = record { text = texts.sheet; calls = steps 300000000 ∷ []; expected = isOpen ∷ listed 2 325000000 1 sheetRows ∷ [] }
--- the quotient is launched, and −3 is received
+-- the quotient is launched, and the answer, −3 or 2147483648, is received
 row minusByTwo = record { text = minusByTwoText; calls = steps 0 ∷ lists ∷ []; expected = isOpen ∷ only kind.launch ∷ only kind.receive ∷ [] }
 row byMinusTwo = record { text = byMinusTwoText; calls = steps 0 ∷ lists ∷ []; expected = isOpen ∷ only kind.launch ∷ only kind.receive ∷ [] }
--- a part without value gives 12
-row beyond = record { text = beyondText; calls = lists ∷ []; expected = isOpen ∷ no 12 0 0 zeroed ∷ [] }
+row turned = record { text = turnedText; calls = steps 0 ∷ lists ∷ []; expected = isOpen ∷ only kind.launch ∷ only kind.receive ∷ [] }
 -- of three processes that send 3, 4 and 5, the first and the third are heard
 row threeAndFive = record { text = withoutText; calls = lists ∷ []; expected = isOpen ∷ listed 2 200000000 0 (entry (key kind.handshake 1 0 0 0 0) 100000000 ∷ entry (key kind.handshake 3 0 0 0 0) 100000000 ∷ []) ∷ [] }
 -- after them a check for the pair is enabled

@@ -9,6 +9,7 @@ use native.Mathlib.Nat.{mul-le-mul, pow-le-pow-right}
 use native.Mathlib.Omega.{arith}
 use lib.IntN.{natAbs}
 use lib.ListN.{length, drop, getElem?}
+use Rattle.value.proofs.Sizes.{abs-minus}
 use Rattle.word.specs.Number.{worth, wholeDigits, fractionDigits, tenThousandths}
 use Rattle.word.proofs.Digits.{worth-few}
 use Rattle.token.specs.Kind as kind
@@ -23,7 +24,7 @@ use Rattle.model.specs.Words.{decimalOf}
 use Rattle.model.specs.Good.{scaleLimit}
 use Rattle.model.proofs.Members.{never}
 use Rattle.model.proofs.Origins.{past, next-token, token-is, Written, NumberWritten}
-use Rattle.model.proofs.Resolves.{natAbs-neg, scaleOf}
+use Rattle.model.proofs.Resolves.{scaleOf}
 
 -- ---- a decimal's token
 
@@ -93,5 +94,5 @@ few-large s t h g =
 
 pub decimal-large : (w : ℕ → List ℕ) (b : Bool) (k : ℕ) → length (beforePoint (w k)) ≤ wholeDigits → length (afterPoint (w k)) ≤ fractionDigits → natAbs (decimalOf w b k) ≤ scaleLimit
 unfolding decimalOf
-decimal-large w true k h g = rw (natAbs-neg (tenThousandths (beforePoint (w k)) (afterPoint (w k)))) (few-large _ _ h g)
+decimal-large w true k h g = rw (abs-minus (tenThousandths (beforePoint (w k)) (afterPoint (w k)))) (few-large _ _ h g)
 decimal-large w false k h g = few-large _ _ h g

@@ -8,6 +8,7 @@ use Prim.Native.Nat.{ℕ}
 use lib.IntN.{pos, negℤ}
 use Rattle.grammar.specs.Grammar as derived
 use Rattle.grammar.specs.Syntax.{plus}
+use Rattle.model.specs.Good.{scaleLimit}
 use Rattle.model.specs.Resolved
 use Rattle.model.specs.Opening.{refused, opened, opening}
 use Rattle.model.specs.Texts.{sheet, bracket}
@@ -108,26 +109,35 @@ pub more : opening moreText ≡ refused 7 11
 unfolding judgedBytes kindsIn written judgedTree
 more = opens-so moreText (alone go counted) (refused 7 11) refl refl refl
 
--- A[]={go,2147483648};A[];
+-- A[]={go,1099511627776};A[];
 abbrev largeText : List ℕ
-largeText = 65 ∷ 91 ∷ 93 ∷ 61 ∷ 123 ∷ 103 ∷ 111 ∷ 44 ∷ 50 ∷ 49 ∷ 52 ∷ 55 ∷ 52 ∷ 56 ∷ 51 ∷ 54 ∷ 52 ∷ 56 ∷ 125 ∷ 59 ∷ 65 ∷ 91 ∷ 93 ∷ 59 ∷ []
+largeText = 65 ∷ 91 ∷ 93 ∷ 61 ∷ 123 ∷ 103 ∷ 111 ∷ 44 ∷ 49 ∷ 48 ∷ 57 ∷ 57 ∷ 53 ∷ 49 ∷ 49 ∷ 54 ∷ 50 ∷ 55 ∷ 55 ∷ 55 ∷ 54 ∷ 125 ∷ 59 ∷ 65 ∷ 91 ∷ 93 ∷ 59 ∷ []
 
 -- a whole number out of range
 pub large : opening largeText ≡ refused 7 8
 unfolding judgedBytes kindsIn written judgedTree
 large = opens-so largeText (alone go once) (refused 7 8) refl refl refl
 
--- A[]={go,-2147483648};A[];
+-- A[]={go,-1099511627775};A[];
 abbrev leastText : List ℕ
-leastText = 65 ∷ 91 ∷ 93 ∷ 61 ∷ 123 ∷ 103 ∷ 111 ∷ 44 ∷ 45 ∷ 50 ∷ 49 ∷ 52 ∷ 55 ∷ 52 ∷ 56 ∷ 51 ∷ 54 ∷ 52 ∷ 56 ∷ 125 ∷ 59 ∷ 65 ∷ 91 ∷ 93 ∷ 59 ∷ []
+leastText = 65 ∷ 91 ∷ 93 ∷ 61 ∷ 123 ∷ 103 ∷ 111 ∷ 44 ∷ 45 ∷ 49 ∷ 48 ∷ 57 ∷ 57 ∷ 53 ∷ 49 ∷ 49 ∷ 54 ∷ 50 ∷ 55 ∷ 55 ∷ 55 ∷ 53 ∷ 125 ∷ 59 ∷ 65 ∷ 91 ∷ 93 ∷ 59 ∷ []
 
--- with its `-` the same digits are in range
-pub least : opening leastText ≡ opened (single (waiting (Resolved.fixed (negℤ (pos 21474836480000))) ∷ []) 0 1)
+abbrev turned : derived.Model
+turned = alone (waits (derived.plain (derived.fixed (derived.integer derived.negative)))) once
+
+-- the least whole number stands
+pub least : opening leastText ≡ opened (single (waiting (Resolved.fixed (negℤ (pos scaleLimit))) ∷ []) 0 1)
 unfolding judgedBytes kindsIn written judgedTree
-least =
-    opens-so leastText
-    (alone (waits (derived.plain (derived.fixed (derived.integer derived.negative)))) once)
-    (opened (single (waiting (Resolved.fixed (negℤ (pos 21474836480000))) ∷ []) 0 1)) refl refl refl
+least = opens-so leastText turned (opened (single (waiting (Resolved.fixed (negℤ (pos scaleLimit))) ∷ []) 0 1)) refl refl refl
+
+-- A[]={go,-1099511627776};A[];
+abbrev belowText : List ℕ
+belowText = 65 ∷ 91 ∷ 93 ∷ 61 ∷ 123 ∷ 103 ∷ 111 ∷ 44 ∷ 45 ∷ 49 ∷ 48 ∷ 57 ∷ 57 ∷ 53 ∷ 49 ∷ 49 ∷ 54 ∷ 50 ∷ 55 ∷ 55 ∷ 55 ∷ 54 ∷ 125 ∷ 59 ∷ 65 ∷ 91 ∷ 93 ∷ 59 ∷ []
+
+-- one below it doesn't: its digits are at fault, not its `-`
+pub below : opening belowText ≡ refused 7 9
+unfolding judgedBytes kindsIn written judgedTree
+below = opens-so belowText turned (refused 7 9) refl refl refl
 
 -- ---- 8
 

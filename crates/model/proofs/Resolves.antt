@@ -7,9 +7,9 @@ use native.Mathlib.Nat.{mul-le-mul-right}
 use native.Mathlib.Omega.{arith}
 use lib.IntN.{ℤ, pos, negsuc, negℤ, natAbs, _*ℤ_}
 use lib.ListN.{length}
-use lib.Signed.{natAbs-le}
 use Rattle.value.specs.Range.{InRange}
-use Rattle.value.proofs.Bounds.{span, in-mag}
+use Rattle.value.proofs.Sizes.{abs-mul}
+use Rattle.value.proofs.Bounds.{in-size}
 use Rattle.word.specs.Number.{unit}
 use Rattle.grammar.specs.Syntax
 use Rattle.model.specs.Sites.{Scope, Site, whole, value, scale, bound, branch, call, exprSites, exprsSites, setSites, condSites, gateSites, scaleSites, rateSites, isLone, channelSites, valuesSites, setsSites, countSets, countArgs, countExprs, argsSites, actionSites, bindings, tokensOf, Variable, Definition}
@@ -29,16 +29,8 @@ scaleOf (Syntax.scaled s e) = s
 
 -- ---- how large a scale can be
 
-pub natAbs-neg : (n : ℕ) → natAbs (negℤ (pos n)) ≡ n
-natAbs-neg zero = refl
-natAbs-neg (suc n) = refl
-
-natAbs-times : (z : ℤ) (n : ℕ) → natAbs (z *ℤ pos n) ≡ natAbs z * n
-natAbs-times (pos a) n = refl
-natAbs-times (negsuc a) n = natAbs-neg (suc a * n)
-
 pub whole-scale : (z : ℤ) → InRange z → natAbs (z *ℤ pos unit) ≤ scaleLimit
-whole-scale z h = rw (natAbs-times z unit) (mul-le-mul-right unit (natAbs-le z {H = span} (in-mag z h)))
+whole-scale z h = rw (abs-mul z (pos unit)) (mul-le-mul-right unit (in-size z h))
 
 module _ (w : ℕ → List ℕ) (vs : List Variable) (ds : List Definition) (cs : List ℕ) where
   -- ---- what no fault at a site means

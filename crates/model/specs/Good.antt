@@ -7,7 +7,7 @@ use mathlib.Core.Option.{Option, none, some}
 use Prim.Native.Nat.{ℕ, _+_, _*_, _<_, _≤_}
 use lib.IntN.{natAbs}
 use lib.ListN.{length, getElem?}
-use Rattle.value.specs.Range.{InRange, least}
+use Rattle.value.specs.Range.{farthest, InRange}
 use Rattle.word.specs.Number.{unit}
 use Rattle.model.specs.Limits.{countLimit, definitionLimit, parameterLimit, localLimit, branchLimit}
 use Rattle.model.specs.Resolved.{Expr, constant, localAt, absolute, binary, Set, single, range, joined, Cond, compare, both, either, Scale, fixed, scaleLocal, Rate, plain, scaled, Channel, number, name, Action, wait, launch, kill, receive, bind, check, handSend, handReceive, handBind, Part, enter, call, Branch, Sum, Defined, Start, Model}
@@ -50,7 +50,7 @@ GoodGate n (some c) = GoodCond n c
 
 -- 01, Values: a rate's scale before question 12 asks for its range; a whole number's ten-thousandths are never more
 abbrev pub scaleLimit : ℕ
-scaleLimit = natAbs least * unit
+scaleLimit = farthest * unit
 
 -- 01, Rate: a number, or a local in scope
 unfoldable pub GoodScale : ℕ → Scale → Type 0

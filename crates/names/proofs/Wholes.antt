@@ -13,7 +13,7 @@ use mir.Val.{SFits, ofZ, toZ}
 use mir.Facts.{toZ-ofZ, toZ-pos}
 use Rattle.value.specs.declared.Value.{Value}
 use Rattle.value.specs.declared.Value.the-variants.{Is, Missing}
-use Rattle.value.specs.Range.{least, greatest, valueOf}
+use Rattle.value.specs.Range.{farthest, least, valueOf}
 use Rattle.word.specs.Number.{worth, cap}
 use Rattle.token.specs.declared.Found.{Found}
 use Rattle.token.specs.declared.Found.the-variants.{At, Nothing}
@@ -35,22 +35,22 @@ module _ {v : Value} where
 -- ---- a number and its cap
 positive : (x y : ℕ) → y ≡ min cap x → isMissing (valueOf (pos y)) ≡ isMissing (valueOf (pos x))
 unfolding valueOf isMissing
-positive x y e = by (leb x 2147483647) refl
+positive x y e = by (leb x farthest) refl
   where
-    by : (b : Bool) → leb x 2147483647 ≡ b → isMissing (valueOf (pos y)) ≡ isMissing (valueOf (pos x))
-    by true h = let l = leb-true x 2147483647 h in rw (h, le-leb y 2147483647 (omega arith))
-    by false h = let l = leb-false x 2147483647 h in rw (h, lt-leb y 2147483647 (omega arith))
+    by : (b : Bool) → leb x farthest ≡ b → isMissing (valueOf (pos y)) ≡ isMissing (valueOf (pos x))
+    by true h = let l = leb-true x farthest h in rw (h, le-leb y farthest (omega arith))
+    by false h = let l = leb-false x farthest h in rw (h, lt-leb y farthest (omega arith))
 
 negative : (x y : ℕ) → y ≡ min cap x → isMissing (valueOf (negℤ (pos y))) ≡ isMissing (valueOf (negℤ (pos x)))
 unfolding valueOf isMissing
 negative zero zero e = refl
 negative zero (suc y) e = absurd (omega arith)
 negative (suc x) zero e = absurd (omega arith)
-negative (suc x) (suc y) e = by (leb x 2147483647) refl
+negative (suc x) (suc y) e = by (leb x (mag least)) refl
   where
-    by : (b : Bool) → leb x 2147483647 ≡ b → isMissing (valueOf (negsuc y)) ≡ isMissing (valueOf (negsuc x))
-    by true h = let l = leb-true x 2147483647 h in rw (h, le-leb y 2147483647 (omega arith))
-    by false h = let l = leb-false x 2147483647 h in rw (h, lt-leb y 2147483647 (omega arith))
+    by : (b : Bool) → leb x (mag least) ≡ b → isMissing (valueOf (negsuc y)) ≡ isMissing (valueOf (negsuc x))
+    by true h = let l = leb-true x (mag least) h in rw (h, le-leb y (mag least) (omega arith))
+    by false h = let l = leb-false x (mag least) h in rw (h, lt-leb y (mag least) (omega arith))
 
 -- ---- the cases of `whole_fault`, where a local holds x as an i64
 module _ (x : ℕ) (small : x ≤ cap) where

@@ -6,9 +6,9 @@ use Prim.Native.Nat.{ℕ, zero, suc, _+_, _-_, _*_, _≤_, _<_, min}
 use native.Mathlib.Omega.{arith}
 use lib.IntN.{ℤ, pos, negsuc, negℤ, natAbs, _*ℤ_}
 use lib.ListN.{length, getD}
-use lib.Signed.{natAbs-le}
-use Rattle.value.specs.Range.{InRange}
-use Rattle.value.proofs.Bounds.{span, in-mag}
+use Rattle.value.specs.Range.{farthest, InRange}
+use Rattle.value.proofs.Sizes.{abs-minus}
+use Rattle.value.proofs.Bounds.{in-size}
 use Rattle.word.specs.Number.{worth, cap, unit, tenThousandths}
 use Rattle.token.specs.Contents.{beforePoint, afterPoint}
 use Rattle.grammar.specs.Syntax
@@ -18,7 +18,6 @@ use Rattle.model.specs.Good.{scaleLimit}
 use Rattle.model.specs.Resolved
 use Rattle.model.specs.Resolved.{numberScale}
 use Rattle.model.proofs.Members.{not-both}
-use Rattle.model.proofs.Resolves.{natAbs-neg}
 use Rattle.tables.specs.Settled.{offset, lifted, numberCell}
 use Rattle.settle.specs.Walks.{scaleCell, NumberSafe}
 use Rattle.settle.specs.Places.{signed, Told, ScaleTold}
@@ -37,12 +36,12 @@ cell-plain κ v b e = rw e (omega arith)
 -- ---- what a number comes to
 
 -- a whole number in range is below the cap
-pub whole-below : (w : ℕ → List ℕ) (b : Bool) (k : ℕ) → InRange (wholeOf w b k) → worth 0 (w k) ≤ span
+pub whole-below : (w : ℕ → List ℕ) (b : Bool) (k : ℕ) → InRange (wholeOf w b k) → worth 0 (w k) ≤ farthest
 unfolding wholeOf
-whole-below w true k h = let l = natAbs-le (negℤ (pos (worth 0 (w k)))) {H = span} (in-mag (negℤ (pos (worth 0 (w k)))) h) in omega (arith, natAbs-neg (worth 0 (w k)))
-whole-below w false k h = natAbs-le (pos (worth 0 (w k))) {H = span} (in-mag (pos (worth 0 (w k))) h)
+whole-below w true k h = let l = in-size (negℤ (pos (worth 0 (w k)))) h in omega (arith, abs-minus (worth 0 (w k)))
+whole-below w false k h = in-size (pos (worth 0 (w k))) h
 
-pub whole-is : (w : ℕ → List ℕ) (b : Bool) (k v : ℕ) → InRange (wholeOf w b k) → v ≡ min cap (worth 0 (w k)) → (v < 4294967296) × (signed b v ≡ wholeOf w b k)
+pub whole-is : (w : ℕ → List ℕ) (b : Bool) (k v : ℕ) → InRange (wholeOf w b k) → v ≡ min cap (worth 0 (w k)) → (v ≤ farthest) × (signed b v ≡ wholeOf w b k)
 unfolding wholeOf signed
 whole-is w b k v h e =
     let l = whole-below w b k h in
@@ -74,7 +73,7 @@ module _ {low : List ℕ} {w : ℕ → List ℕ} {κ k : ℕ} where
   scale-is b true v h q = let e = q ∙ h .safe .1 .1 in (decimal b v e (h .safe .0), ap (numberCell 29) (decimal-is b v e))
     where
       decimal : (b : Bool) (v : ℕ) → v ≡ tenThousandths (beforePoint (w k)) (afterPoint (w k)) → natAbs (decimalOf w b k) ≤ scaleLimit → v < offset
-      decimal true v e l = omega (arith, natAbs-neg (tenThousandths (beforePoint (w k)) (afterPoint (w k))))
+      decimal true v e l = omega (arith, abs-minus (tenThousandths (beforePoint (w k)) (afterPoint (w k))))
       decimal false v e l = omega arith
 
       decimal-is : (b : Bool) (v : ℕ) → v ≡ tenThousandths (beforePoint (w k)) (afterPoint (w k)) → signed b v ≡ decimalOf w b k
@@ -114,7 +113,7 @@ module _ {low : List ℕ} {w : ℕ → List ℕ} {κ k : ℕ} where
         by false true e = absurd (z e)
         by false false e = absurd (x e)
 
-    pub whole-scale : (b′ : Bool) → κ ≡ numberKind b′ false → (v < 4294967296) × (v * unit < offset) × (numberCell 29 (signed b′ (v * unit)) ≡ scaleCell (Resolved.fixed (numberScale w [] [] [] (Syntax.number b d k))))
+    pub whole-scale : (b′ : Bool) → κ ≡ numberKind b′ false → (v ≤ farthest) × (v * unit < offset) × (numberCell 29 (signed b′ (v * unit)) ≡ scaleCell (Resolved.fixed (numberScale w [] [] [] (Syntax.number b d k))))
     unfolding scaled-as
     whole-scale b′ e =
         let s = scale-fits b′ false e in

@@ -20,7 +20,7 @@ use Rattle.model.specs.Words.{wholeOf}
 use Rattle.names.specs.declared.Lists.{Lists}
 use Rattle.names.specs.declared.Scope.{Scope}
 use Rattle.names.specs.Placed.{IsName, Fits, SortFits, sortOf, wholes}
-use Rattle.value.specs.Range.{InRange}
+use Rattle.value.specs.Range.{farthest, InRange}
 use Rattle.grammar.specs.Syntax
 use Rattle.model.specs.Given.{isGiven, meaning}
 use Rattle.model.specs.Resolved
@@ -205,7 +205,7 @@ module _ {low high nodes : List ℕ} {lists : Lists} {scope : Scope} {i : ℕ} (
         by true e = rw e (refl, refl)
         by false e = rw e (refl, refl)
 
-    pub whole-inside : (tokenOf x < length low) × (getD low (tokenOf x) 0 < 4294967296)
+    pub whole-inside : (tokenOf x < length low) × (getD low (tokenOf x) 0 ≤ farthest)
     whole-inside =
         let t = told-whole (whole-role .0) in
         let s : InRange (wholeOf (wordIn at) b (tokenOf x)) = rw (whole-role .1) at (h .safe) in

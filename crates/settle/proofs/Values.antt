@@ -6,9 +6,8 @@ use Prim.Native.Nat.{ℕ, _+_, _≤_, _<_}
 use native.Mathlib.Omega.{arith}
 use lib.IntN.{ℤ, natAbs}
 use lib.ListN.{length, getD}
-use lib.Signed.{natAbs-le}
 use Rattle.value.specs.Range.{InRange}
-use Rattle.value.proofs.Bounds.{span, in-mag}
+use Rattle.value.proofs.Bounds.{in-size}
 use Rattle.grammar.specs.Grammar.{Relation, less, atMost, greater, atLeast, same, differs}
 use Rattle.grammar.specs.Syntax
 use Rattle.grammar.specs.Syntax.{Op, plus, minus, times, divide, maximum, minimum, Join, without, union, inter}
@@ -76,7 +75,7 @@ index-of κ n k h l e =
     record { kind-is = ap kindOf e ∙ kind-of h l z z; index-is = ap tokenOf e ∙ token-of h l z z }
 
 pub range-fits : (z : ℤ) → InRange z → natAbs z < offset
-range-fits z h = let l = natAbs-le z {H = span} (in-mag z h) in omega arith
+range-fits z h = omega (arith, in-size z h)
 
 -- a name that has a value is no channel name
 pub value-no-channel : (m : Meaning) → isValue m ≡ true → isChannelName m ≡ false

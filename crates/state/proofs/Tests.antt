@@ -10,7 +10,7 @@ use borrow.Author.Tests.{ltb-true, ltb-false, le-leb, lt-leb, eq-eqb, ne-eqb}
 use lib.Bits.{bitOr, or-zero-l, or-add-and, and-le-r}
 use lib.Dec.{T, eqb, ltb}
 use lib.IntN.{ℤ, pos, negsuc, natAbs}
-use lib.Signed.{ltZ, leZ, nonNeg}
+use lib.Signed.{mag, ltZ, leZ, nonNeg}
 use lib.ListN.{length, getD, take, drop, drop-of-length-le}
 use lib.Seq.{drop-cons, drop-drop, getD-take, length-take-le}
 use mir.Syntax.{w64}
@@ -56,12 +56,12 @@ zero-bits z f = sym (same-bits z (pos 0) f (ok-fits (pos 0) (omega arith)))
 pub value-low : (z : ℤ) → ltZ z least ≡ true → isValue z ≡ false
 unfolding isValue
 value-low (pos n) e = false-not-true e
-value-low (negsuc n) e = ap (λ (b : Bool). b && true) (lt-leb n 2147483647 (ltb-true 2147483647 n e))
+value-low (negsuc n) e = ap (λ (b : Bool). b && true) (lt-leb n (mag least) (ltb-true (mag least) n e))
 
 pub value-high : (z : ℤ) → ltZ z least ≡ false → isValue z ≡ leZ z greatest
 unfolding isValue
 value-high (pos n) e = refl
-value-high (negsuc n) e = ap (λ (b : Bool). b && true) (le-leb n 2147483647 (ltb-false 2147483647 n e))
+value-high (negsuc n) e = ap (λ (b : Bool). b && true) (le-leb n (mag least) (ltb-false (mag least) n e))
 
 pub below-negative : (n : ℕ) (z : ℤ) → ltZ z (pos 0) ≡ true → isBelow n z ≡ false
 unfolding isBelow

@@ -46,34 +46,90 @@ fn quotients() {
     line(b"-7/-2", value::div_value(-7, -2));
     line(b"0/-5", value::div_value(0, -5));
     line(b"5/0", value::div_value(5, 0));
+}
+
+fn quotient_ends() {
+    line(b"-2147483648/-1", value::div_value(-2147483648, -1));
     line(b"least/-1", value::div_value(Range::LEAST, -1));
     line(b"least/1", value::div_value(Range::LEAST, 1));
+    line(b"greatest/-1", value::div_value(Range::GREATEST, -1));
+    line(
+        b"least/greatest",
+        value::div_value(Range::LEAST, Range::GREATEST),
+    );
+    line(b"least/0", value::div_value(Range::LEAST, 0));
 }
 
 fn sums() {
     line(b"greatest+1", value::add_value(Range::GREATEST, 1));
+    line(b"1099511627774+1", value::add_value(1099511627774, 1));
+    line(b"least+-1", value::add_value(Range::LEAST, -1));
     line(
         b"greatest+least",
         value::add_value(Range::GREATEST, Range::LEAST),
     );
+    line(b"least+least", value::add_value(Range::LEAST, Range::LEAST));
+}
+
+fn differences() {
     line(b"least-1", value::sub_value(Range::LEAST, 1));
+    line(b"-1099511627774-1", value::sub_value(-1099511627774, 1));
+    line(b"greatest--1", value::sub_value(Range::GREATEST, -1));
     line(b"least-least", value::sub_value(Range::LEAST, Range::LEAST));
     line(b"0-least", value::sub_value(0, Range::LEAST));
+    line(
+        b"greatest-least",
+        value::sub_value(Range::GREATEST, Range::LEAST),
+    );
 }
 
-fn products() {
-    line(b"46341*46341", value::mul_value(46341, 46341));
-    line(b"46341*-46340", value::mul_value(46341, -46340));
+fn products_inside() {
+    line(b"1048575*1048577", value::mul_value(1048575, 1048577));
+    line(b"-1048575*1048577", value::mul_value(-1048575, 1048577));
+    line(b"1048575*-1048577", value::mul_value(1048575, -1048577));
+    line(b"-1048575*-1048577", value::mul_value(-1048575, -1048577));
+    line(b"4294967296*255", value::mul_value(4294967296, 255));
+    line(b"-549755813887*2", value::mul_value(-549755813887, 2));
+}
+
+fn products_outside() {
+    line(b"1048576*1048576", value::mul_value(1048576, 1048576));
+    line(b"-1048576*1048576", value::mul_value(-1048576, 1048576));
+    line(b"1048576*-1048576", value::mul_value(1048576, -1048576));
+    line(b"-1048576*-1048576", value::mul_value(-1048576, -1048576));
+    line(b"4294967296*256", value::mul_value(4294967296, 256));
+    line(b"-549755813888*2", value::mul_value(-549755813888, 2));
+}
+
+fn product_ends() {
     line(b"least*-1", value::mul_value(Range::LEAST, -1));
     line(b"least*0", value::mul_value(Range::LEAST, 0));
+    line(b"0*greatest", value::mul_value(0, Range::GREATEST));
+    line(b"1*least", value::mul_value(1, Range::LEAST));
+    line(
+        b"greatest*greatest",
+        value::mul_value(Range::GREATEST, Range::GREATEST),
+    );
+    line(
+        b"least*greatest",
+        value::mul_value(Range::LEAST, Range::GREATEST),
+    );
 }
 
-fn singles() {
+fn sizes() {
     line(b"-least", value::neg_value(Range::LEAST));
     line(b"-greatest", value::neg_value(Range::GREATEST));
     line(b"abs(least)", value::abs_value(Range::LEAST));
+    line(b"abs(greatest)", value::abs_value(Range::GREATEST));
     line(b"abs(-7)", value::abs_value(-7));
+}
+
+fn larger() {
     line(b"max(-7,2)", Value::Is(value::max_of(-7, 2)));
+    line(
+        b"max(least,greatest)",
+        Value::Is(value::max_of(Range::LEAST, Range::GREATEST)),
+    );
     line(
         b"min(least,greatest)",
         Value::Is(value::min_of(Range::LEAST, Range::GREATEST)),
@@ -82,7 +138,12 @@ fn singles() {
 
 fn main() {
     quotients();
+    quotient_ends();
     sums();
-    products();
-    singles();
+    differences();
+    products_inside();
+    products_outside();
+    product_ends();
+    sizes();
+    larger();
 }

@@ -4,6 +4,8 @@ use crate::compare;
 use crate::met::Met;
 use crate::{shrink, specimens, texts};
 use second::generate::{self, Buffers, Call, Draw, Engine, Random, RIGHT, SECOND};
+use second::limits::{HIGHEST, LOWEST};
+use second::state::{FIRST_PAIR, FIRST_PROCESS, PAIR, PAIRS, PROCESS, PROCESSES};
 use second::{model, script, MODEL, STATE};
 
 /// How many lists the test runs, and how many calls it makes at least.
@@ -12,13 +14,6 @@ pub const LEAST_CALLS: u64 = 30_000;
 /// At most so many calls follow an opening.
 const STEPS: usize = 40;
 
-// Where the parts of a state stand (01, "State and rule machine").
-const PROCESSES: usize = 256;
-const PROCESS: usize = 9;
-const FIRST_PROCESS: usize = 2;
-const FIRST_PAIR: usize = FIRST_PROCESS + PROCESSES * PROCESS;
-const PAIRS: usize = 256;
-const PAIR: usize = 5;
 /// The two bytes of the text's length stand before the text.
 const TEXT_START: usize = 2;
 
@@ -118,7 +113,26 @@ fn handed_states(random: &mut Random) -> Vec<Call> {
         calls.push(Call::FillListing { number: random.number() });
         listed_and_stepped(random, &mut calls, &mut buffers, 1);
     }
+    around_the_ends(random, &read, &mut calls, &mut buffers);
     calls
+}
+
+/// A process and a pair, each number of which that is a value stands in turn at both ends of the range and one
+/// past each.
+fn around_the_ends(random: &mut Random, model: &model::Model, calls: &mut Vec<Call>, buffers: &mut Buffers) {
+    let sum = random.below(model.sums.len());
+    let mut state = vec![0; STATE];
+    state[..=FIRST_PROCESS].copy_from_slice(&[1, 1, sum as i64]);
+    state[FIRST_PAIR..FIRST_PAIR + PAIR].copy_from_slice(&[0, 1, 2, 1, 1]);
+    hand_in(calls, buffers, &state);
+    let locals = (0..model.sums[sum].locals).map(|local| FIRST_PROCESS + 1 + local);
+    for place in locals.chain([1, 3, 4].map(|number| FIRST_PAIR + number)) {
+        for number in [HIGHEST, HIGHEST + 1, LOWEST, LOWEST - 1, state[place]] {
+            buffers.state[place] = number;
+            calls.push(Call::SetState { place, number });
+            calls.push(Call::List { lengths: RIGHT });
+        }
+    }
 }
 
 /// A state over the model that no run need ever reach.
@@ -151,9 +165,10 @@ fn some_state(random: &mut Random, model: &model::Model) -> Vec<i64> {
 
 fn some_value(random: &mut Random) -> i64 {
     match random.below(60) {
-        0 => i64::from(i32::MAX),
-        1 => i64::from(i32::MIN),
-        2..=9 => random.between(-300, 300),
+        0 => HIGHEST - random.between(0, 1),
+        1 => LOWEST + random.between(0, 1),
+        2 => *random.pick(&[i64::from(i32::MAX) + 1, i64::from(i32::MIN) - 1]),
+        3..=9 => random.between(-300, 300),
         _ => random.between(-3, 9),
     }
 }
@@ -162,7 +177,7 @@ fn some_value(random: &mut Random) -> i64 {
 fn spoil(random: &mut Random, state: &mut [i64]) {
     let process = FIRST_PROCESS + PROCESS * some_index(random, state[0], PROCESSES);
     let pair = FIRST_PAIR + PAIR * some_index(random, state[1], PAIRS);
-    let odd = *random.pick(&[-1, 1, 2, 3, 1 << 31, -(1 << 31) - 1, (1 << 32) + 1, i64::MAX, i64::MIN]);
+    let odd = *random.pick(&[-1, 1, 2, 3, (1 << 32) + 1, HIGHEST + 1, LOWEST - 1, i64::MAX, i64::MIN]);
     match random.below(9) {
         // Counts.
         0 => state[random.below(2)] = *random.pick(&[-1, 0, 1, 255, 256, 257, i64::MAX, i64::MIN]),

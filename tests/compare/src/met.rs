@@ -1,6 +1,8 @@
 //! What the calls of a comparison have met: answers, kinds of steps, specimens.
 
 use second::generate::{Buffers, Call, Draw};
+use second::limits::{HIGHEST, LOWEST};
+use second::state::{FIRST_PAIR, FIRST_PROCESS, PAIR, PROCESS};
 use second::Answer;
 use std::collections::{BTreeMap, BTreeSet};
 use std::fmt;
@@ -15,6 +17,14 @@ const ENTRY: usize = 7;
 const CALLS: [&str; 3] = ["open", "list", "step"];
 /// Draws at the ends, where there is a total.
 const DRAWS: [&str; 4] = ["0", "total - 1", "total", "the largest"];
+/// Numbers of a state that are values, and where such a number can stand: at an end of the range, or one past it.
+const VALUES: [&str; 3] = ["a local", "a number channel", "a value of a pair"];
+const ENDS: [(&str, i64); 4] = [
+    ("at the lowest", LOWEST),
+    ("at the highest", HIGHEST),
+    ("below the lowest", LOWEST - 1),
+    ("above the highest", HIGHEST + 1),
+];
 
 #[derive(Clone, Debug, Default)]
 pub struct Met {
@@ -24,6 +34,8 @@ pub struct Met {
     /// Accepted steps by the kind of the entry taken.
     kinds: BTreeMap<u64, u64>,
     draws: BTreeMap<&'static str, u64>,
+    /// By what is at an end or past it and which end: states that a list judged, by 11 if it is past it.
+    ends: BTreeMap<(&'static str, &'static str), u64>,
     specimens: BTreeSet<&'static str>,
 }
 
@@ -40,6 +52,9 @@ impl Met {
         if let Call::Step { draw: Draw::Exactly(draw), .. } = call {
             self.note_draw(*draw, answer.total);
         }
+        if name == "list" && answer.number != 1 {
+            self.note_ends(&after.state, answer.number == 11);
+        }
         if name == "step" && answer.number == 0 {
             *self.kinds.entry(after.listing[answer.chosen as usize * ENTRY]).or_default() += 1;
         }
@@ -54,26 +69,56 @@ impl Met {
         }
     }
 
+    /// Notes the values of a state that are at an end of the range, or past it in a state that is none.
+    fn note_ends(&mut self, state: &[i64], refused: bool) {
+        for (what, value) in values(state) {
+            for (end, number) in ENDS {
+                if value == number && refused != (LOWEST..=HIGHEST).contains(&number) {
+                    *self.ends.entry((what, end)).or_default() += 1;
+                }
+            }
+        }
+    }
+
     pub fn note_specimen(&mut self, name: &'static str) {
         self.specimens.insert(name);
     }
 
     /// What was never met: refusals, refused lengths of each call, kinds of steps, draws at the
-    /// ends, these specimens.
+    /// ends, values at the ends, these specimens.
     pub fn missing(&self, specimens: &[&'static str]) -> Vec<String> {
         let refused = |number| self.answers.keys().any(|(_, met)| *met == number);
         let refusals = REFUSALS.filter(|number| !refused(*number)).map(|number| format!("refusal {number}"));
         let lengths = CALLS.iter().filter(|name| !self.answers.contains_key(&(**name, 1)));
         let kinds = KINDS.filter(|kind| !self.kinds.contains_key(kind)).map(|kind| format!("a step of kind {kind}"));
         let draws = DRAWS.iter().filter(|name| !self.draws.contains_key(**name));
+        let ends = VALUES.iter().flat_map(|what| ENDS.map(|(end, _)| (*what, end)));
+        let ends = ends.filter(|end| !self.ends.contains_key(end));
         let specimens = specimens.iter().filter(|name| !self.specimens.contains(**name));
         refusals
             .chain(lengths.map(|name| format!("{name} with a wrong length")))
             .chain(kinds)
             .chain(draws.map(|name| format!("draw: {name}")))
+            .chain(ends.map(|(what, end)| format!("{what} {end}")))
             .chain(specimens.map(|name| format!("specimen: {name}")))
             .collect()
     }
+}
+
+/// The numbers of a state that are values, each with what it is. The counts may be any.
+fn values(state: &[i64]) -> Vec<(&'static str, i64)> {
+    let used = |count: i64| usize::try_from(count).unwrap_or(0);
+    let mut values = Vec::new();
+    for process in state[FIRST_PROCESS..FIRST_PAIR].chunks(PROCESS).take(used(state[0])) {
+        values.extend(process[1..].iter().map(|local| (VALUES[0], *local)));
+    }
+    for pair in state[FIRST_PAIR..].chunks_exact(PAIR).take(used(state[1])) {
+        if pair[0] == 0 {
+            values.push((VALUES[1], pair[1]));
+        }
+        values.extend(pair[3..].iter().map(|value| (VALUES[2], *value)));
+    }
+    values
 }
 
 impl fmt::Display for Met {
@@ -88,6 +133,8 @@ impl fmt::Display for Met {
         writeln!(out, "  kinds of accepted steps {}", kinds.join(" "))?;
         let draws: Vec<String> = self.draws.iter().map(|(name, times)| format!("{name}:{times}")).collect();
         writeln!(out, "  draws at the ends {}", draws.join(" "))?;
+        let ends: Vec<String> = self.ends.iter().map(|((what, end), times)| format!("{what} {end}:{times}")).collect();
+        writeln!(out, "  values {}", ends.join(", "))?;
         write!(out, "  specimens {}", self.specimens.len())
     }
 }

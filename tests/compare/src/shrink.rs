@@ -8,6 +8,8 @@ use second::STATE;
 
 /// How often a shorter list is tried, at most.
 const TRIES: usize = 60_000;
+/// Runs of at most so many calls are tried wherever they begin.
+const CALLS: usize = 4;
 /// How many tokens in a row are taken out of a text, at most, once halves no longer help.
 const TOKENS: usize = 24;
 /// A cut from a token of the first kind to one of the others often leaves a legal text: it takes
@@ -96,16 +98,24 @@ impl Shrinker<'_> {
 
     fn drop_calls(&mut self) {
         let mut piece = self.best.made.len().div_ceil(2);
-        while piece > 0 {
-            let mut start = 0;
-            while start < self.best.made.len() {
-                let mut calls = self.best.made.clone();
-                calls.drain(start..(start + piece).min(calls.len()));
-                if !self.takes(&calls) {
-                    start += piece;
-                }
-            }
+        while piece > CALLS {
+            self.drop_runs(piece, piece);
             piece /= 2;
+        }
+        for run in (1..=CALLS).rev() {
+            self.drop_runs(run, 1);
+        }
+    }
+
+    /// Tries each run of so many calls, its start moved on by `stride`.
+    fn drop_runs(&mut self, run: usize, stride: usize) {
+        let mut start = 0;
+        while start < self.best.made.len() {
+            let mut calls = self.best.made.clone();
+            calls.drain(start..(start + run).min(calls.len()));
+            if !self.takes(&calls) {
+                start += stride;
+            }
         }
     }
 

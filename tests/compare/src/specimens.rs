@@ -1,5 +1,5 @@
-//! The specimens of 01 that have no star, and the bench sheet, as lists of calls whose last
-//! answer is known.
+//! The specimens of 01 that have no star, the bench sheet, the starred divisions and products beyond
+//! 64 bits, as lists of calls whose last answer is known.
 
 use crate::compare::{self, Difference};
 use crate::met::Met;
@@ -40,6 +40,12 @@ fn refused(number: u64, place: u64) -> Answer {
     Answer { number, place, ..Answer::default() }
 }
 
+/// A relation that holds: it opens a gate.
+fn holds(relation: &'static str) -> Specimen {
+    let text = format!("A[]=[{relation}]->{{go,1}};A[];");
+    Specimen { name: relation, calls: vec![open(text), LIST], answer: counted(0, 1, 100_000_000) }
+}
+
 pub fn all() -> Vec<Specimen> {
     let longest = format!("{:16384}", "A[]={go,1};A[];");
     vec![
@@ -68,6 +74,17 @@ pub fn all() -> Vec<Specimen> {
         Specimen {
             name: "rate 100000.0001 gives 12",
             calls: vec![open("A[]={go,100000.0001};A[];"), LIST],
+            answer: refused(12, 0),
+        },
+        holds("-2147483648/-1==2147483648"),
+        Specimen {
+            name: "4294967297*4294967297 has no value",
+            calls: vec![open("A[]={c![4294967297*4294967297],1};A[];"), LIST],
+            answer: refused(12, 0),
+        },
+        Specimen {
+            name: "rate 100000*18446744074 gives 12",
+            calls: vec![open("A[]={go,100000*18446744074};A[];"), LIST],
             answer: refused(12, 0),
         },
         Specimen { name: "16,384 bytes stand", calls: vec![open(longest.clone())], answer: Answer::default() },

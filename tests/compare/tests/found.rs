@@ -5,13 +5,12 @@ use compare::compare::Place;
 use compare::met::Met;
 use compare::{compare as core, lists, with_stack};
 use second::generate::{Engine, SECOND};
+use second::limits::HIGHEST;
 use second::script::{self, Form, Line};
+use second::state::{FIRST_PAIR, FIRST_PROCESS, PROCESS};
 use second::{list, open, step, Answer, LISTING};
 
 const ENTRY: usize = 7;
-const PROCESS: usize = 9;
-const FIRST_PROCESS: usize = 2;
-const FIRST_PAIR: usize = 2_306;
 
 /// Finds and shrinks the fault, and holds its script to these lengths.
 fn found(wrong: Engine, place: Place, calls: usize, bytes: usize) {
@@ -222,6 +221,16 @@ fn senders_that_are_paired_with_earlier_processes_only() {
         answer
     }
     found(Engine { list: wrong, ..SECOND }, Place::Answer, 2, 120);
+}
+
+#[test]
+fn a_value_one_past_the_range_that_is_let_pass() {
+    fn wrong(model: &[u8], state: &[i64], listing: &mut [u64]) -> Answer {
+        let clamped: Vec<i64> =
+            state.iter().map(|&number| if number == HIGHEST + 1 { HIGHEST } else { number }).collect();
+        list(model, &clamped, listing)
+    }
+    found(Engine { list: wrong, ..SECOND }, Place::Answer, 5, 120);
 }
 
 #[test]

@@ -47,6 +47,15 @@ fn a_run_is_drawn() {
 }
 
 #[test]
+fn positions_at_both_ends_of_the_range_are_drawn() {
+    let text = "A[]={c![1099511627775],1}.{c![-1099511627775],1};A[];";
+    let script = format!("open {}\n{text}\nstate\nstep 0\nstate\nstep 0\nstate\n", text.len());
+    let output = drawn(script::print(&SECOND, script.as_bytes(), Form::Plain));
+    assert!(output.status.success(), "{}", String::from_utf8_lossy(&output.stderr));
+    assert_eq!(String::from_utf8_lossy(&output.stdout).matches("<rect ").count(), 1 + 2 + 2);
+}
+
+#[test]
 fn what_is_no_output_of_calls_is_refused() {
     for given in ["1 2 3\n", "bad,2\n", ""] {
         assert!(!drawn(given.to_string()).status.success(), "{given:?}");

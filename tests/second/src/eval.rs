@@ -1,23 +1,24 @@
 //! Values of expressions, sets, conditions and rates. `None` is: no value.
 
-use crate::limits::{HIGHEST, LOWEST};
+use crate::limits::is_value;
 use crate::model::{Atom, Condition, Expression, Rate, Relation, Scale, Set, SetPart, Term};
 use crate::syntax::{ProductSign, RelationSign, SetSign, SumSign};
 
 /// The largest rate, in ten-thousandths.
 const RATE: i64 = 1_000_000_000;
 
-fn in_range(value: i64) -> Option<i64> {
-    (LOWEST..=HIGHEST).contains(&value).then_some(value)
+/// The result of an operation on two values, if it is a value. 128 bits hold every product.
+fn in_range(result: i128) -> Option<i64> {
+    i64::try_from(result).ok().filter(|&value| is_value(value))
 }
 
 pub fn expression(expression: &Expression, locals: &[i64]) -> Option<i64> {
     let mut value = term(&expression.first, locals)?;
     for (sign, next) in &expression.rest {
-        let next = term(next, locals)?;
+        let (left, right) = (i128::from(value), i128::from(term(next, locals)?));
         value = in_range(match sign {
-            SumSign::Plus => value + next,
-            SumSign::Minus => value - next,
+            SumSign::Plus => left + right,
+            SumSign::Minus => left - right,
         })?;
     }
     Some(value)
@@ -30,12 +31,12 @@ pub fn expressions(expressions: &[Expression], locals: &[i64]) -> Option<Vec<i64
 fn term(term: &Term, locals: &[i64]) -> Option<i64> {
     let mut value = atom(&term.first, locals)?;
     for (sign, next) in &term.rest {
-        let next = atom(next, locals)?;
+        let (left, right) = (i128::from(value), i128::from(atom(next, locals)?));
         value = in_range(match sign {
-            ProductSign::Times => value * next,
-            ProductSign::Over if next == 0 => return None,
+            ProductSign::Times => left * right,
+            ProductSign::Over if right == 0 => return None,
             // Rust's division of signed numbers cuts towards zero.
-            ProductSign::Over => value / next,
+            ProductSign::Over => left / right,
         })?;
     }
     Some(value)
@@ -45,7 +46,8 @@ fn atom(atom: &Atom, locals: &[i64]) -> Option<i64> {
     match atom {
         Atom::Number(number) => Some(*number),
         Atom::Local(local) => Some(locals[*local]),
-        Atom::Abs(inner) => in_range(expression(inner, locals)?.abs()),
+        // The range is symmetric.
+        Atom::Abs(inner) => Some(expression(inner, locals)?.abs()),
         Atom::Max(two) => {
             let (left, right) = (expression(&two.0, locals)?, expression(&two.1, locals)?);
             Some(left.max(right))
@@ -97,15 +99,15 @@ pub fn rate(rate: &Rate, locals: &[i64]) -> Option<i64> {
         Scale::Fixed(scale) => scale,
         Scale::Local(local) => locals[local] * 10_000,
     };
-    let scale = in_rate_range(scale)?;
+    let scale = in_rate_range(i128::from(scale))?;
     match &rate.atom {
         None => Some(scale),
-        Some(times) => in_rate_range(scale * atom(times, locals)?),
+        Some(times) => in_rate_range(i128::from(scale) * i128::from(atom(times, locals)?)),
     }
 }
 
-fn in_rate_range(value: i64) -> Option<i64> {
-    (0..=RATE).contains(&value).then_some(value)
+fn in_rate_range(result: i128) -> Option<i64> {
+    i64::try_from(result).ok().filter(|rate| (0..=RATE).contains(rate))
 }
 
 /// A set whose parts have their values: the first range, then signs and ranges.

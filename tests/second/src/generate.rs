@@ -3,7 +3,9 @@
 //! Everything comes from one small generator of numbers: the same seed gives the same texts and
 //! calls.
 
+use crate::limits::{HIGHEST, LOWEST};
 use crate::model;
+use crate::state::{FIRST_PAIR, FIRST_PROCESS, PAIR, PROCESS};
 use crate::tokens::{self, Kind};
 use crate::{Answer, LISTING, MODEL, STATE};
 
@@ -464,7 +466,7 @@ impl Writer<'_> {
 
     /// An expression whose value lies from -9 to 9, as long as all locals do.
     fn small(&mut self, depth: usize) {
-        match self.random.below(if depth > 0 { 12 } else { 7 }) {
+        match self.random.below(if depth > 0 { 13 } else { 7 }) {
             0 | 1 => {
                 let value = self.random.between(-2, 5);
                 self.whole(value);
@@ -491,6 +493,14 @@ impl Writer<'_> {
                 self.put("min ( abs (");
                 self.free(depth - 1);
                 self.put(") , 5 )");
+            }
+            11 => {
+                // To an end of the range and back.
+                let (there, back) = *self.random.pick(&[("+", "-"), ("-", "+")]);
+                let far = HIGHEST - SMALL;
+                self.put("(");
+                self.small_name();
+                self.put(&format!("{there} {far} {back} {far} )"));
             }
             _ => {
                 self.put("(");
@@ -555,6 +565,37 @@ fn around(random: &mut Random, limit: usize) -> usize {
     }
 }
 
+/// Whole numbers at both ends of the range, one past each, and far past.
+const AROUND_THE_ENDS: [&str; 8] = [
+    "1099511627775",
+    "1099511627775",
+    "-1099511627775",
+    "-1099511627775",
+    "1099511627776",
+    "-1099511627776",
+    "9999999999999",
+    "-18446744073709551617",
+];
+
+/// Expressions over a small n that have a value for some n only, or for none: zero divisors, sums and products just
+/// inside the range and just outside, products whose low 64 bits are in range.
+const PERHAPS_NO_VALUE: [&str; 14] = [
+    "1/n",
+    "7/(n-1)",
+    "1099511627775+n",
+    "-1099511627775-n",
+    "abs(n-1099511627775)",
+    "1048575*1048577*n",
+    "-1048575*1048577*n",
+    "1048576*1048576*n",
+    "219902325555*(n+4)",
+    "-219902325555*(n+4)",
+    "1099511627775*n",
+    "1099511627775*1099511627775*n",
+    "4294967297*4294967297",
+    "4294967296*(n+4294967296)",
+];
+
 /// How many kinds of texts near a limit there are.
 pub const EDGES: usize = 26;
 
@@ -591,8 +632,8 @@ pub fn edge_of_kind(random: &mut Random, which: usize) -> Vec<u8> {
             format!("{name}=1;A[]={{go,{name}}}.A[];A[];")
         }
         5 => {
-            let number = *random.pick(&["2147483647", "2147483648", "-2147483648", "-2147483649", "99999999999"]);
-            format!("w={number};A[n]={{c![w],1}}.A[{number}]+{{go,1}};A[{number}];")
+            let number = *random.pick(&AROUND_THE_ENDS);
+            format!("w={number};A[n]={{w![w],1}}.A[{number}]+{{n?[w..n](x),1}}.A[x]+{{go,1}};A[{number}];")
         }
         6 => {
             let number = *random.pick(&["999999.9999", "0000001.5", "1.00000", "100000.0000", "100000.0001", "-0.0"]);
@@ -658,11 +699,11 @@ pub fn edge_of_kind(random: &mut Random, which: usize) -> Vec<u8> {
         18 => "A[n]={c![n],5}.A[n+1]+{c#[n-3],1}.A[n+1]+{c?[n-5..n](x),0.1}.A[n];4*A[0];".to_string(),
         // No values.
         19 => {
-            let part = *random.pick(&["1/n", "2147483647+n", "abs(-2147483648+n-n)", "7/(n-1)", "65536*32768*n"]);
+            let part = *random.pick(&PERHAPS_NO_VALUE);
             format!("A[n]={{go,1}}.A[{part}]+{{tick,1}}.A[0]+{{tock,1}}.A[1];A[2]||A[1]||A[0];")
         }
         20 => {
-            let part = *random.pick(&["1/n", "2147483647+n", "-1*n", "7/(n-1)", "65536*32768*n"]);
+            let part = *random.pick(&PERHAPS_NO_VALUE);
             format!("A[n]={{go,1}}.A[n-1]+{{tick,1}}.A[3]+[n<2]->{{c![{part}],1}}.A[n];A[4]||A[5]||A[6];")
         }
         // Names that aren't new.
@@ -690,8 +731,23 @@ pub fn edge_of_kind(random: &mut Random, which: usize) -> Vec<u8> {
             )
         }
         _ => {
-            let rate = *random.pick(&["n", "n*n", "0.5*n", "10000*n", "100000.0000*n"]);
-            format!("A[n]={{go,{rate}}}.A[n+1]+{{tick,1}}.A[n-1];A[{}];", random.below(12))
+            let rate = *random.pick(&[
+                "n",
+                "n*n",
+                "0.5*n",
+                "10000*n",
+                "100000.0000*n",
+                "n*1099511627775",
+                "100000*1099511627775",
+                // By its low 64 bits 29044.8384.
+                "100000*18446744074",
+                "0.0001*-1099511627775",
+                "0*1099511627775",
+                "1099511627775",
+                "1099511627776",
+            ]);
+            let start = if random.chance(80) { random.between(0, 11) } else { *random.pick(&[LOWEST, HIGHEST]) };
+            format!("A[n]={{go,{rate}}}.A[n+1]+{{tick,1}}.A[n-1];A[{start}];")
         }
     };
     text.into_bytes()
@@ -744,7 +800,7 @@ const WORDS: [&str; 46] = [
     "1",
     "300",
     "1.5",
-    "99999999999",
+    "9999999999999",
     "abcdefghijklmnopq",
 ];
 
@@ -967,18 +1023,18 @@ impl Buffers {
             Call::SetModel { place, byte } => self.model[*place] = *byte,
             Call::Light { count, first } => {
                 self.state[1] = *count as i64;
-                let pairs = &mut self.state[2 + 9 * 256..STATE];
+                let pairs = &mut self.state[FIRST_PAIR..STATE];
                 pairs.fill(0);
-                for (number, pair) in pairs.chunks_mut(5).take(*count).enumerate() {
+                for (number, pair) in pairs.chunks_mut(PAIR).take(*count).enumerate() {
                     pair[..4].copy_from_slice(&[0, 5, 1, first + number as i64]);
                 }
             }
             Call::Crowd { count } => {
                 self.state[0] = *count as i64;
-                let first = self.state[2..11].to_vec();
-                let processes = &mut self.state[2..2 + 9 * 256];
+                let first = self.state[FIRST_PROCESS..FIRST_PROCESS + PROCESS].to_vec();
+                let processes = &mut self.state[FIRST_PROCESS..FIRST_PAIR];
                 processes.fill(0);
-                for process in processes.chunks_mut(9).take(*count) {
+                for process in processes.chunks_mut(PROCESS).take(*count) {
                     process.copy_from_slice(&first);
                 }
             }
@@ -1057,8 +1113,8 @@ fn some_change(random: &mut Random) -> Call {
         0..=5 => {
             let place = match random.below(6) {
                 0 => random.below(2),
-                1 | 2 => 2 + random.below(30),
-                3 => 2 + 9 * 256 + random.below(15),
+                1 | 2 => FIRST_PROCESS + random.below(30),
+                3 => FIRST_PAIR + random.below(15),
                 _ => random.below(STATE),
             };
             let number = *random.pick(&[
@@ -1072,10 +1128,10 @@ fn some_change(random: &mut Random) -> Call {
                 255,
                 256,
                 257,
-                2_147_483_647,
-                2_147_483_648,
-                -2_147_483_648,
-                -2_147_483_649,
+                HIGHEST,
+                HIGHEST + 1,
+                LOWEST,
+                LOWEST - 1,
                 i64::MAX,
                 i64::MIN,
             ]);

@@ -1,5 +1,5 @@
-//! A second engine for the Beacon Calculus, written from 01 (the scope paper) and the decisions
-//! on its open points alone. It is slow and plain on purpose: it is there to be compared with.
+//! A second engine for the Beacon Calculus, written from 01 (the scope paper), 02 (its changes)
+//! and the decisions on their open points alone. It is slow and plain on purpose: it is there to be compared with.
 //!
 //! Each call reads the model's text anew from the model buffer.
 

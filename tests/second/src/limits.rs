@@ -3,8 +3,9 @@
 use crate::syntax::{Item, Number, Tree};
 use crate::tokens::{Kind, Token, TokenId};
 
-pub const LOWEST: i64 = -2_147_483_648;
-pub const HIGHEST: i64 = 2_147_483_647;
+/// The range of values and of whole numbers in a text (02, note 1).
+pub const LOWEST: i64 = -HIGHEST;
+pub const HIGHEST: i64 = 1_099_511_627_775;
 
 const NAME_BYTES: usize = 16;
 const DIGITS_BEFORE: usize = 6;
@@ -58,17 +59,20 @@ fn number_fits(text: &[u8], tokens: &[Token], number: &Number) -> bool {
     } else if number.count {
         whole_value(word, false) <= COUNT
     } else {
-        let value = whole_value(word, number.negative);
-        (LOWEST..=HIGHEST).contains(&value)
+        is_value(whole_value(word, number.negative))
     }
 }
 
-/// The value of a whole number. Far beyond the range it stays at a value outside of it.
+/// Does the number lie in the range of values?
+pub fn is_value(number: i64) -> bool {
+    (LOWEST..=HIGHEST).contains(&number)
+}
+
+/// The value of a whole number. Beyond the range it stays one past its end.
 pub fn whole_value(digits: &[u8], negative: bool) -> i64 {
-    let far = 1_000_000_000_000;
     let mut value = 0;
     for digit in digits {
-        value = (value * 10 + i64::from(digit - b'0')).min(far);
+        value = (value * 10 + i64::from(digit - b'0')).min(HIGHEST + 1);
     }
     if negative {
         -value

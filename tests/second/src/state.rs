@@ -1,16 +1,20 @@
 //! The state: a list of processes and a set of lit pairs, and the buffer of signed 64-bit
 //! numbers that holds them.
 
-use crate::limits::{HIGHEST, LOWEST};
+use crate::limits::is_value;
 use crate::model::Model;
 
 pub const PROCESSES: usize = 256;
 pub const PAIRS: usize = 256;
-const LOCALS: usize = 8;
-const PROCESS: usize = 1 + LOCALS;
-const PAIR: usize = 5;
-const FIRST_PROCESS: usize = 2;
-const FIRST_PAIR: usize = FIRST_PROCESS + PROCESSES * PROCESS;
+/// The most locals of a process.
+pub const LOCALS: usize = 8;
+/// Numbers of a process: its sum and its locals.
+pub const PROCESS: usize = 1 + LOCALS;
+/// Numbers of a pair: channel kind, channel, count of values, two values.
+pub const PAIR: usize = 5;
+/// Where the processes begin, after both counts.
+pub const FIRST_PROCESS: usize = 2;
+pub const FIRST_PAIR: usize = FIRST_PROCESS + PROCESSES * PROCESS;
 
 /// The length of the state buffer.
 pub const BUFFER: usize = FIRST_PAIR + PAIRS * PAIR;
@@ -156,10 +160,6 @@ fn read_pair(model: &Model, part: &[i64]) -> Option<Pair> {
 /// The number, if it is from 0 to below the end.
 fn below(number: i64, end: usize) -> Option<usize> {
     usize::try_from(number).ok().filter(|&number| number < end)
-}
-
-fn is_value(number: i64) -> bool {
-    (LOWEST..=HIGHEST).contains(&number)
 }
 
 fn all_zero(numbers: &[i64]) -> bool {

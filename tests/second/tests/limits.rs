@@ -3,7 +3,13 @@
 mod common;
 
 use common::*;
-use second::Answer;
+use second::state::{FIRST_PAIR, PAIR, PROCESS};
+use second::{Answer, STATE};
+
+#[test]
+fn the_numbers_of_a_state() {
+    assert_eq!((PROCESS, PAIR, FIRST_PAIR, STATE), (9, 5, 2_306, 3_586));
+}
 
 #[test]
 fn text_length() {
@@ -56,7 +62,7 @@ fn token_count() {
     assert_eq!(count(&more), 4_097);
     assert_eq!(answer_to(more.as_bytes()), (6, more.len() as u64 - 1));
     // 6 after 5 and before 7.
-    let far = format!("{}A[]={{c![1{}],1}};A[];", "x=99999999999;", "+1".repeat(3_000));
+    let far = format!("{}A[]={{c![1{}],1}};A[];", "x=9999999999999;", "+1".repeat(3_000));
     assert_eq!(answer_to(far.as_bytes()).0, 6);
     let bad = format!("A[]={{c![1{}],1}};A[]", "+1".repeat(3_000));
     assert_eq!(answer_to(bad.as_bytes()), (5, bad.len() as u64));
@@ -93,19 +99,19 @@ fn whole_numbers() {
         "A[]={#?[1],1};A[];",
     ] {
         let with = |number: &str| text.replace('#', number);
-        accepted(&with("2147483647"));
-        accepted(&with("-2147483648"));
+        accepted(&with("1099511627775"));
+        accepted(&with("-1099511627775"));
         accepted(&with("-0"));
         accepted(&with("0000000000000000000000001"));
         let mark = |number: &str| text.replacen('#', number, 1).replace('#', "0");
-        refused(7, &mark("¶2147483648"));
-        refused(7, &mark("-¶2147483649"));
-        refused(7, &mark("¶99999999999999999999999999999999999999999999"));
-        refused(7, &mark("- ¶0099999999999999999999999999999999999999999999"));
+        for beyond in ["1099511627776", "9999999999999", "18446744073709551617", "0099999999999999999999999999999999"] {
+            refused(7, &mark(&format!("¶{beyond}")));
+            refused(7, &mark(&format!("- ¶{beyond}")));
+        }
     }
     // A `-` that is a sum's sign isn't the number's.
-    refused(7, "A[]={c![1-¶2147483648],1};A[];");
-    accepted("A[]={c![-1--2147483648],1};A[];");
+    refused(7, "A[]={c![1-¶1099511627776],1};A[];");
+    accepted("A[]={c![-1--1099511627775],1};A[];");
 }
 
 #[test]
@@ -204,19 +210,16 @@ fn locals_together() {
 
 #[test]
 fn values() {
-    assert_eq!(value_of("2147483646+1"), Some(2_147_483_647));
-    assert_eq!(value_of("2147483647+1"), None);
-    assert_eq!(value_of("-2147483647-1"), Some(-2_147_483_648));
-    assert_eq!(value_of("-2147483648-1"), None);
-    assert_eq!(value_of("2147483647+1-1"), None);
-    assert_eq!(value_of("46341*46340"), Some(2_147_441_940));
-    assert_eq!(value_of("46341*46341"), None);
-    assert_eq!(value_of("65536*-32768"), Some(-2_147_483_648));
-    assert_eq!(value_of("-65536*-32768"), None);
-    assert_eq!(value_of("abs(-2147483647)"), Some(2_147_483_647));
-    assert_eq!(value_of("abs(-2147483648)"), None);
-    assert_eq!(value_of("max(-2147483648,2147483647)"), Some(2_147_483_647));
-    assert_eq!(value_of("min(-2147483648,2147483647)"), Some(-2_147_483_648));
+    let (least, greatest) = (Some(-1_099_511_627_775), Some(1_099_511_627_775));
+    assert_eq!(value_of("1099511627774+1"), greatest);
+    assert_eq!(value_of("1099511627775+1"), None);
+    assert_eq!(value_of("-1099511627774-1"), least);
+    assert_eq!(value_of("-1099511627775-1"), None);
+    assert_eq!(value_of("1099511627775+1-1"), None);
+    assert_eq!(value_of("1099511627775+1099511627775"), None);
+    assert_eq!(value_of("abs(-1099511627775)"), greatest);
+    assert_eq!(value_of("max(-1099511627775,1099511627775)"), greatest);
+    assert_eq!(value_of("min(-1099511627775,1099511627775)"), least);
     assert_eq!(value_of("max(1,1/0)"), None);
     assert_eq!(value_of("min(1/0,1)"), None);
     assert_eq!(value_of("0*(1/0)"), None);
@@ -224,6 +227,26 @@ fn values() {
     assert_eq!(value_of("100/7/2*3"), Some(21));
     assert_eq!(value_of("2+3*4-(5-1)*2"), Some(6));
     assert_eq!(value_of("1--1"), Some(2));
+}
+
+#[test]
+fn products() {
+    let (least, greatest) = (Some(-1_099_511_627_775), Some(1_099_511_627_775));
+    assert_eq!(value_of("-1099511627775*-1"), greatest);
+    assert_eq!(value_of("1099511627775*-1"), least);
+    assert_eq!(value_of("1048575*1048577"), greatest);
+    assert_eq!(value_of("-1048575*1048577"), least);
+    assert_eq!(value_of("1048576*1048576"), None);
+    assert_eq!(value_of("1048576*-1048576"), None);
+    assert_eq!(value_of("549755813887*2"), Some(1_099_511_627_774));
+    assert_eq!(value_of("549755813888*-2"), None);
+    // Beyond 64 bits, and by their low bits in range again.
+    assert_eq!(value_of("4294967296*4294967296"), None);
+    assert_eq!(value_of("4294967297*4294967297"), None);
+    assert_eq!(value_of("4294967297*-4294967297"), None);
+    assert_eq!(value_of("1099511627775*1099511627775"), None);
+    assert_eq!(value_of("-1099511627775*1099511627775*0"), None);
+    assert_eq!(value_of("0*1099511627775*1099511627775"), Some(0));
 }
 
 #[test]
@@ -236,8 +259,16 @@ fn rate_range() {
     assert_eq!(rate_of("", "100001"), None);
     assert_eq!(rate_of("", "0.0001*1000000000"), Some(1_000_000_000));
     assert_eq!(rate_of("", "0.0001*1000000001"), None);
-    assert_eq!(rate_of("", "2147483647*0"), None);
-    assert_eq!(rate_of("", "100000*2147483647"), None);
+    assert_eq!(rate_of("", "1099511627775"), None);
+    assert_eq!(rate_of("", "1099511627775*0"), None);
+    refused(7, "A[]={go,¶1099511627776};A[];");
+    // Scale times atom beyond 64 bits: 10^9 times 2^40.
+    assert_eq!(rate_of("", "100000*1099511627775"), None);
+    assert_eq!(rate_of("", "100000*-1099511627775"), None);
+    // By its low 64 bits it would be in range.
+    assert_eq!(rate_of("", "100000*18446744074"), None);
+    assert_eq!(rate_of("", "0.0001*1099511627775"), None);
+    assert_eq!(rate_of("", "0*1099511627775"), Some(0));
     assert_eq!(rate_of("", "1.5*3"), Some(45_000));
     assert_eq!(rate_of("", "012.050"), Some(120_500));
     assert_eq!(rate_of("w=3;", "w"), Some(30_000));
@@ -250,7 +281,8 @@ fn rate_range() {
     assert_eq!(local("100000"), 0);
     assert_eq!(local("100001"), 12);
     assert_eq!(local("-1"), 12);
-    assert_eq!(local("2147483647"), 12);
+    assert_eq!(local("1099511627775"), 12);
+    assert_eq!(local("-1099511627775"), 12);
 }
 
 #[test]

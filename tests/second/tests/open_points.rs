@@ -12,9 +12,9 @@ fn d1_the_texts_end() {
 
 #[test]
 fn d2_numbers_under_7() {
-    refused(7, "x=- ¶2147483649;A[]={go,1};A[];");
+    refused(7, "x=- ¶1099511627776;A[]={go,1};A[];");
     refused(7, "x=-¶0000000.1;A[]={go,1};A[];");
-    accepted("x=-2147483648;A[]={go,1};A[];");
+    accepted("x=-1099511627775;A[]={go,1};A[];");
 }
 
 #[test]
@@ -94,7 +94,7 @@ fn d8_shared_names() {
 
 #[test]
 fn d9_first_in_the_text() {
-    refused(7, "x=¶99999999999;A[]={abcdefghijklmnopq,1};A[];");
+    refused(7, "x=¶9999999999999;A[]={abcdefghijklmnopq,1};A[];");
     refused(8, "x=1;A[¶x]={go,1};A[]={go,1};A[1];");
     refused(8, "x=1;A[]={go,1};¶A[]={c?[1](x),1};A[];");
     refused(9, "A[]={go,¶x}.B[];A[1];");
@@ -104,7 +104,7 @@ fn d9_first_in_the_text() {
     // The continuation of the first branch stands before the second branch.
     refused(9, "A[]={go,1}.{go,1}.{go,¶y}+{go,x};A[];");
     // Questions in order, wherever the faults stand.
-    refused(7, "A[]={go,x};A[]={go,¶99999999999};A[];");
+    refused(7, "A[]={go,x};A[]={go,¶9999999999999};A[];");
     refused(8, "A[]={go,x};¶A[]={go,1};A[];");
 }
 

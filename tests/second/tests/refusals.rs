@@ -4,6 +4,7 @@
 mod common;
 
 use common::*;
+use second::state::{FIRST_PAIR, FIRST_PROCESS, PAIR, PROCESS};
 use second::{Answer, LISTING, MODEL, STATE};
 
 const PLAIN: &str = "A[]={go,1};A[];";
@@ -107,10 +108,10 @@ fn eleven_for_states() {
     not_a_state(&mut set(2, -1));
     not_a_state(&mut set(2, i64::MIN));
     // Locals.
-    for number in [-2_147_483_648, 2_147_483_647] {
+    for number in [-1_099_511_627_775, 1_099_511_627_775] {
         assert_eq!(set(3, number).list().number, 0);
     }
-    for number in [-2_147_483_649, 2_147_483_648, i64::MAX, i64::MIN] {
+    for number in [-1_099_511_627_776, 1_099_511_627_776, i64::MAX, i64::MIN] {
         not_a_state(&mut set(3, number));
     }
     // A local that the sum hasn't.
@@ -120,15 +121,15 @@ fn eleven_for_states() {
     assert_eq!(with(|bench| bench.set_process(0, &[1, 5, 6])).list().number, 0);
     not_a_state(&mut with(|bench| bench.set_process(0, &[1, 5, 6, 7])));
     // Unused numbers after the last process and the last pair.
-    not_a_state(&mut set(2 + 18, 1));
-    not_a_state(&mut set(2 + 9 * 256 - 1, 1));
-    not_a_state(&mut set(2 + 9 * 256, 1));
+    not_a_state(&mut set(FIRST_PROCESS + 2 * PROCESS, 1));
+    not_a_state(&mut set(FIRST_PAIR - 1, 1));
+    not_a_state(&mut set(FIRST_PAIR, 1));
     not_a_state(&mut set(STATE - 1, 1));
 }
 
 #[test]
 fn eleven_for_pairs() {
-    let lit = |pairs: &[[i64; 5]]| {
+    let lit = |pairs: &[[i64; PAIR]]| {
         let mut bench = Bench::of(STATES);
         bench.state[1] = pairs.len() as i64;
         for (place, pair) in pairs.iter().enumerate() {
@@ -136,9 +137,9 @@ fn eleven_for_pairs() {
         }
         bench
     };
-    let good = |pairs: &[[i64; 5]]| assert_eq!(lit(pairs).list().number, 0, "{pairs:?}");
-    let bad = |pairs: &[[i64; 5]]| not_a_state(&mut lit(pairs));
-    let (low, high) = (-2_147_483_648, 2_147_483_647);
+    let good = |pairs: &[[i64; PAIR]]| assert_eq!(lit(pairs).list().number, 0, "{pairs:?}");
+    let bad = |pairs: &[[i64; PAIR]]| not_a_state(&mut lit(pairs));
+    let (low, high) = (-1_099_511_627_775, 1_099_511_627_775);
     good(&[[0, low, 1, low, 0]]);
     good(&[[0, high, 2, high, low]]);
     bad(&[[0, low - 1, 1, 0, 0]]);
@@ -296,6 +297,14 @@ fn seventeen() {
     let wait = [1, 0, 0, 0, 0, 0, 100_000_000];
     let mut bench = Bench::of("A[n]={go,1}.A[1/n];A[0];");
     refused_step(&mut bench, 0, answer(1, 100_000_000), &[wait]);
+    // A result beyond the range, at both ends; at the end itself it is one.
+    for (start, next) in [("1099511627775", "n+1"), ("-1099511627775", "n-1")] {
+        let mut bench = Bench::of(&format!("A[n]={{go,1}}.A[{next}];A[{start}];"));
+        refused_step(&mut bench, 0, answer(1, 100_000_000), &[wait]);
+    }
+    let mut bench = Bench::of("A[n]={go,1}.A[n+1];A[1099511627774];");
+    bench.take(0);
+    assert_eq!(bench.processes(1), [[0, 1_099_511_627_775]]);
     // Anywhere in a group; only there where the draw chooses it.
     let mut bench = Bench::of("A[n]={go,1}.(A[1]||({go,1}||A[1/n]))+{go,1}.A[n];A[0];");
     refused_step(&mut bench, 0, answer(2, 200_000_000), &[wait, [1, 0, 1, 0, 0, 0, 100_000_000]]);

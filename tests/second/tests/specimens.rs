@@ -67,8 +67,10 @@ fn division() {
     assert_eq!(value_of("7/-2"), Some(-3));
     assert_eq!(value_of("7/2"), Some(3));
     assert_eq!(value_of("-7/-2"), Some(3));
-    assert_eq!(value_of("-2147483648/-1"), None);
+    assert_eq!(value_of("-2147483648/-1"), Some(2_147_483_648));
     assert_eq!(value_of("-2147483648/1"), Some(-2_147_483_648));
+    assert_eq!(value_of("-1099511627775/-1"), Some(1_099_511_627_775));
+    assert_eq!(value_of("1099511627775/-1"), Some(-1_099_511_627_775));
     assert_eq!(value_of("0/-5"), Some(0));
     assert_eq!(value_of("5/0"), None);
     assert_eq!(value_of("0/0"), None);

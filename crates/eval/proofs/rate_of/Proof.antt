@@ -4,7 +4,7 @@ use lib.ListN.{length}
 use denote.Ref.{now}
 use Rattle.tree.specs.Node.{kindOf, leftOf}
 use borrow.Author.Needs.{needs}
-use Rattle.eval.proofs.Rates.{plain-rate, atom-part, scale-limited, scaled-rate}
+use Rattle.eval.proofs.Rates.{plain-rate, atom-part, scaled-rate}
 use Rattle.eval.proofs.rate_of.Statement.{statement}
 use Rattle.eval.proofs.rate_of.Tie as tie
 
@@ -51,14 +51,7 @@ eval-node-requires c κs =
     (atom-part T k (c .before .before .before .kind-of .result) is (c .before .before .if1 .left) (length L) (s .pre .0) .1, s .pre .1)
 
 times-requires : tie.Need-times-requires
-times-requires c κs =
-    let s = c .before .before .before .before .before .before .before in
-    let T = now (s .args .nodes) in
-    let L = now (s .args .locals) in
-    let k = s .args .k in
-    let is = c .before .before .before .before .kind-of .ensures ∙ ap kindOf (c .before .before .before .before .before .cell-at .ensures) in
-    let e = c .before .before .left-of .ensures ∙ ap leftOf (c .before .before .before .before .before .cell-at .ensures) in
-    scale-limited T k (c .before .before .before .before .kind-of .result) is (c .before .before .before .if1 .left) L (length L) (c .before .scale-of2 .result) (s .pre .0) (rw e at (c .before .scale-of2 .ensures))
+times-requires c κs = search needs
 
 returns-2 : tie.Need-returns-2
 returns-2 c =

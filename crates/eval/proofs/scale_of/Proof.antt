@@ -46,7 +46,7 @@ local-at-requires : tie.Need-local-at-requires
 local-at-requires c κs = search needs
 
 scaled-requires : tie.Need-scaled-requires
-scaled-requires c κs = (unit, refl, omega arith)
+scaled-requires c κs = search needs
 
 returns-2 : tie.Need-returns-2
 returns-2 c x h =

@@ -1,12 +1,9 @@
 -- `eval::times` meets its contract: the product, where both factors are there. By the cases of the answers.
-use mathlib.Core.Path.{sym, subst, _∙_}
-use native.Mathlib.Omega.{arith}
+use mathlib.Core.Path.{sym, _∙_}
 use borrow.Author.Needs.{needs}
-use mir.Syntax.{w64}
-use mir.Facts.{toZ-pos}
 use Rattle.value.proofs.Kit.{back}
 use Rattle.machine.specs.Evaluate.{given, valued}
-use Rattle.eval.specs.Rates.{rateOf, Limited}
+use Rattle.eval.specs.Rates.{rateOf}
 use Rattle.eval.proofs.Rates.{rate-some, rate-none}
 use Rattle.eval.proofs.times.Statement.{statement}
 use Rattle.eval.proofs.times.Tie as tie
@@ -17,20 +14,8 @@ enum-known-scale c = search needs
 enum-known-x : tie.Need-enum-known-x
 enum-known-x c = search needs
 
-cast-scaled : tie.Need-cast-scaled
-cast-scaled c =
-    let v = c .before .before .before .before .scale .given in
-    let g = subst Limited (v .1) (c .before .before .before .before .before .before .pre) in
-    omega arith
-
 scaled-requires : tie.Need-scaled-requires
-scaled-requires c κs =
-    let v = c .before .before .before .before .scale .given in
-    let u = c .before .x .given in
-    let g = subst Limited (v .1) (c .before .before .before .before .before .before .pre) in
-    let p = toZ-pos w64 {n = v .0 .0} (omega arith) in
-    let d = back (u .0 .0) (c .known-told2 .given .0 .1) in
-    (v .0 .0, p, g)
+scaled-requires c κs = search needs
 
 enum-told : tie.Need-enum-told
 enum-told c = search needs
@@ -43,10 +28,8 @@ unfolding given valued
 returns c o h =
     let v = c .before .before .before .before .before .scale .given in
     let u = c .before .before .x .given in
-    let g = subst Limited (v .1) (c .before .before .before .before .before .before .before .pre) in
-    let p = toZ-pos w64 {n = v .0 .0} (omega arith) in
     let d = back (u .0 .0) (c .before .known-told2 .given .0 .1) in
-    rw (rate-some o (v .0 .0) (sym (v .1) ∙ h), u .1) (simp (p, d) at (c .scaled .ensures))
+    rw (rate-some o (v .0 .0) (sym (v .1) ∙ h), u .1) (simp d at (c .scaled .ensures))
 
 returns-2 : tie.Need-returns-2
 unfolding given valued rateOf
@@ -64,7 +47,6 @@ times-spec =
     (tie.spec
     enum-known-scale
     enum-known-x
-    cast-scaled
     scaled-requires
     enum-told
     enum-told-2

@@ -2,6 +2,7 @@
 
 #![allow(dead_code)]
 
+use second::state::{FIRST_PAIR, FIRST_PROCESS, PAIR, PROCESS};
 use second::{Answer, LISTING, MODEL, STATE};
 
 pub struct Bench {
@@ -69,31 +70,31 @@ impl Bench {
     /// Sum number and locals of each process; locals past the first `locals` are zero.
     pub fn processes(&self, locals: usize) -> Vec<Vec<i64>> {
         let count = self.state[0] as usize;
-        assert!(self.state[2 + 9 * count..2 + 9 * 256].iter().all(|&number| number == 0));
+        let (used, unused) = self.state[FIRST_PROCESS..FIRST_PAIR].split_at(PROCESS * count);
+        assert!(unused.iter().all(|&number| number == 0));
         let mut processes = Vec::new();
-        for process in self.state[2..2 + 9 * count].chunks(9) {
+        for process in used.chunks(PROCESS) {
             assert!(process[1 + locals..].iter().all(|&number| number == 0), "{process:?}");
             processes.push(process[..1 + locals].to_vec());
         }
         processes
     }
 
-    pub fn pairs(&self) -> Vec<[i64; 5]> {
-        let count = self.state[1] as usize;
-        let all = &self.state[2 + 9 * 256..];
-        assert!(all[5 * count..].iter().all(|&number| number == 0));
-        all[..5 * count].chunks(5).map(|pair| pair.try_into().unwrap()).collect()
+    pub fn pairs(&self) -> Vec<[i64; PAIR]> {
+        let (used, unused) = self.state[FIRST_PAIR..].split_at(PAIR * self.state[1] as usize);
+        assert!(unused.iter().all(|&number| number == 0));
+        used.chunks(PAIR).map(|pair| pair.try_into().unwrap()).collect()
     }
 
     pub fn set_process(&mut self, place: usize, numbers: &[i64]) {
-        let start = 2 + 9 * place;
-        self.state[start..start + 9].fill(0);
+        let start = FIRST_PROCESS + PROCESS * place;
+        self.state[start..start + PROCESS].fill(0);
         self.state[start..start + numbers.len()].copy_from_slice(numbers);
     }
 
-    pub fn set_pair(&mut self, place: usize, numbers: [i64; 5]) {
-        let start = 2 + 9 * 256 + 5 * place;
-        self.state[start..start + 5].copy_from_slice(&numbers);
+    pub fn set_pair(&mut self, place: usize, numbers: [i64; PAIR]) {
+        let start = FIRST_PAIR + PAIR * place;
+        self.state[start..start + PAIR].copy_from_slice(&numbers);
     }
 }
 

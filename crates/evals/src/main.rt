@@ -184,6 +184,8 @@ fn rate_line(name: &[u8], r: Rate) {
 fn quotients() {
     value_line(b"-7/2", quotient(minus(7), plus(2)));
     value_line(b"7/-2", quotient(plus(7), minus(2)));
+    value_line(b"-7/-2", quotient(minus(7), minus(2)));
+    value_line(b"-1/1099511627775", quotient(minus(1), plus(1099511627775)));
 }
 
 fn quotient_ends() {

@@ -5,7 +5,7 @@ use mathlib.Core.Option.{Option·elim}
 use Prim.Native.Nat.{ℕ}
 use Rattle.token.specs.declared.Judged.the-variants.{Passed}
 use Rattle.value.specs.Range.{valueOf}
-use Rattle.value.specs.Arithmetic.{sumOf, cutQuotient, quotientOf}
+use Rattle.value.specs.Arithmetic.{sumOf, floorQuotient, quotientOf}
 use Rattle.grammar.specs.Grammar as derived
 use Rattle.model.specs.Opening.{Opening, refused, opened, opening}
 use Rattle.model.proofs.Examples.{missing-bracket, sheetModel, sheet-opens}
@@ -21,7 +21,7 @@ use Rattle.machine.specs.Offer as offer
 use Rattle.machine.specs.State.{stateLength, emptyState}
 use Rattle.machine.specs.Machine as machine
 use Rattle.machine.specs.Machine.{modelLength, Answer, Call, open′, closed, opens, answers}
-use Rattle.machine.specs.Starred.{Specimen, sheet, rowOne, rowTwo, minusByTwo, byMinusTwo, turned, threeAndFive, unlit, unbound, twoBound, enabled, noHandshake, bracket, Row, Holds, row}
+use Rattle.machine.specs.Starred.{Specimen, sheet, rowOne, rowTwo, minusByTwo, byMinusTwo, bothMinus, turned, threeAndFive, unlit, unbound, twoBound, enabled, noHandshake, bracket, Row, Holds, row}
 
 -- ---- what the machine computes
 
@@ -32,7 +32,7 @@ unfolding answers machine.no machine.listedAs opens machine.turn machine.calls m
     offer.branchesOf offer.offered offer.partProcesses offer.nextProcesses offer.orZero evaluate.evalBranch evaluate.evalGate evaluate.evalOffer evaluate.evalRate
     evaluate.evalScale evaluate.inRate evaluate.evalAction evaluate.evalPair evaluate.evalQuery evaluate.evalChannel evaluate.evalAll evaluate.evalValue
     evaluate.evalSet evaluate.joined evaluate.evalCond evaluate.related evaluate.evalExpr evaluate.apply evaluate.withValue evaluate.valued evaluate.given sumOf quotientOf
-    cutQuotient valueOf lists.entries lists.gather lists.when lists.unless lists.ofProcess lists.ofGuard lists.ofAction lists.partnersIn lists.partner
+    floorQuotient valueOf lists.entries lists.gather lists.when lists.unless lists.ofProcess lists.ofGuard lists.ofAction lists.partnersIn lists.partner
     lists.partnerAction lists.matches lists.sameChannel lists.allWithin lists.anyMatch offers.within machine.drawn machine.taken machine.entryState machine.entryArguments
     machine.branchArguments machine.onGuard offer.argumentsGiven offer.allValues offer.isValue steps.stateAfter steps.step steps.atBranch steps.oneActs
     steps.bothAct steps.onAction steps.changeOf steps.boundBy steps.valuesAt steps.sentBy steps.replace steps.replaceBoth pairs.pairsAfter pairs.insert
@@ -66,8 +66,8 @@ number w = derived.sum (derived.product (derived.number w) derived.noFactors) de
 abbrev aWhole : derived.Expr
 aWhole = number derived.whole
 
-abbrev minusThree : derived.Expr
-minusThree = number derived.negative
+abbrev aNegative : derived.Expr
+aNegative = number derived.negative
 
 abbrev quotient : derived.Whole → derived.Whole → derived.Expr
 quotient v w = derived.sum (derived.product (derived.number v) (derived.divide (derived.number w) derived.noFactors)) derived.noTerms
@@ -130,8 +130,9 @@ unfolding row judgedBytes kindsIn written judgedTree answering
 holds sheet = opening-to _ (opened sheetModel) sheet-opens refl
 holds rowOne = opening-to _ (opened sheetModel) sheet-opens refl
 holds rowTwo = opening-to _ (opened sheetModel) sheet-opens refl
-holds minusByTwo = fitting _ (launchThen (quotient derived.negative derived.whole) (receives (single minusThree))) refl refl refl
-holds byMinusTwo = fitting _ (launchThen (quotient derived.whole derived.negative) (receives (single minusThree))) refl refl refl
+holds minusByTwo = fitting _ (launchThen (quotient derived.negative derived.whole) (receives (single aNegative))) refl refl refl
+holds byMinusTwo = fitting _ (launchThen (quotient derived.whole derived.negative) (receives (single aNegative))) refl refl refl
+holds bothMinus = fitting _ (launchThen (quotient derived.negative derived.negative) (receives (single aWhole))) refl refl refl
 holds turned = fitting _ (launchThen (quotient derived.negative derived.negative) (receives (single aWhole))) refl refl refl
 holds threeAndFive = fitting _ heard refl refl refl
 holds unlit = fitting _ (launchThen aWhole (launchesThen (prefix (derived.kill aName (derived.oneValue aWhole)) (then (prefix (derived.check aName (sets (single aWhole))) derived.stop))))) refl refl refl

@@ -6,7 +6,7 @@ use Prim.Native.Nat.{ℕ, zero, suc}
 use lib.IntN.{ℤ, pos}
 use lib.ListN.{replicate}
 use Rattle.value.specs.Range.{valueOf}
-use Rattle.value.specs.Arithmetic.{sumOf, cutQuotient, quotientOf}
+use Rattle.value.specs.Arithmetic.{sumOf, floorQuotient, quotientOf}
 use Rattle.grammar.specs.Syntax.{divide}
 use Rattle.model.specs.Resolved
 use Rattle.rules.specs.Offers as offers
@@ -129,7 +129,7 @@ unfolding
     offer.called machine.listing machine.counted offer.missing offer.missingBranch offer.isNone offer.branches offer.branchesOf offer.offered
     offer.partProcesses offer.nextProcesses offer.orZero evaluate.evalBranch evaluate.evalGate evaluate.evalOffer evaluate.evalRate evaluate.evalScale
     evaluate.inRate evaluate.evalAction evaluate.evalPair evaluate.evalQuery evaluate.evalChannel evaluate.evalAll evaluate.evalValue evaluate.evalSet
-    evaluate.evalCond evaluate.related evaluate.evalExpr evaluate.apply evaluate.withValue evaluate.valued evaluate.given sumOf quotientOf cutQuotient
+    evaluate.evalCond evaluate.related evaluate.evalExpr evaluate.apply evaluate.withValue evaluate.valued evaluate.given sumOf quotientOf floorQuotient
     valueOf lists.entries lists.gather lists.when lists.unless lists.ofProcess lists.ofGuard lists.ofAction lists.partnersIn lists.partner
     lists.partnerAction lists.matches lists.sameChannel lists.allWithin offers.within machine.stepsOn machine.choosing machine.drawn machine.taken
     machine.entryState machine.entryArguments machine.branchArguments machine.onGuard offer.argumentsGiven offer.allValues offer.isValue steps.stateAfter

@@ -6,7 +6,7 @@ use mathlib.Core.Option.{Option, none, some, Option·elim}
 use Prim.Native.Nat.{ℕ}
 use lib.IntN.{ℤ, pos, negsuc, negℤ}
 use Rattle.value.specs.Range.{valueOf}
-use Rattle.value.specs.Arithmetic.{sumOf, cutQuotient, quotientOf}
+use Rattle.value.specs.Arithmetic.{sumOf, floorQuotient, quotientOf}
 use Rattle.grammar.specs.Grammar.{less, greater}
 use Rattle.grammar.specs.Syntax.{plus, divide}
 use Rattle.model.specs.Resolved
@@ -194,7 +194,7 @@ unfolding
     offer.branchesOf offer.offered offer.partProcesses offer.nextProcesses offer.orZero evalBranch evaluate.evalGate evaluate.evalOffer evalRate
     evaluate.evalScale evaluate.inRate evaluate.evalAction evaluate.evalPair evaluate.evalQuery evaluate.evalChannel evaluate.evalAll evaluate.evalValue
     evaluate.evalSet evalCond evaluate.related evaluate.evalExpr evaluate.apply evaluate.withValue evaluate.valued evaluate.given sumOf quotientOf
-    cutQuotient valueOf lists.entries lists.gather lists.when lists.unless lists.ofProcess lists.ofGuard lists.ofAction lists.partnersIn lists.partner
+    floorQuotient valueOf lists.entries lists.gather lists.when lists.unless lists.ofProcess lists.ofGuard lists.ofAction lists.partnersIn lists.partner
     lists.partnerAction lists.matches lists.sameChannel lists.allWithin offers.within stepsOn machine.choosing drawn machine.taken machine.entryState machine.entryArguments
     machine.branchArguments machine.onGuard offer.argumentsGiven offer.allValues offer.isValue steps.stateAfter steps.step steps.atBranch steps.oneActs
     steps.bothAct steps.onAction steps.changeOf steps.boundBy steps.valuesAt steps.sentBy steps.replace steps.replaceBoth pairs.pairsAfter pairs.insert

@@ -15,8 +15,9 @@ pub data Specimen : Type 0 where
   sheet : Specimen  -- this sheet
   rowOne : Specimen  -- draw 299999999 takes row one
   rowTwo : Specimen  -- 300000000 row two
-  minusByTwo : Specimen  -- −7/2 is −3
+  minusByTwo : Specimen  -- 02, note 3: −7/2 is −4
   byMinusTwo : Specimen  -- so is 7/−2
+  bothMinus : Specimen  -- while −7/−2 is 3
   turned : Specimen  -- 02, note 1: −2147483648/−1 is 2147483648
   threeAndFive : Specimen  -- `3..5\4` holds 3 and 5
   unlit : Specimen  -- launch, launch, kill
@@ -38,13 +39,17 @@ Holds r = answers closed (open′ (r .text) modelLength stateLength ∷ r .calls
 
 -- ---- the texts, but for the two that 01 has in full (crate model, Texts)
 
--- A[]={c![-7/2],1}.{c?[-3],1};A[];
+-- A[]={c![-7/2],1}.{c?[-4],1};A[];
 abbrev pub minusByTwoText : List ℕ
-minusByTwoText = 65 ∷ 91 ∷ 93 ∷ 61 ∷ 123 ∷ 99 ∷ 33 ∷ 91 ∷ 45 ∷ 55 ∷ 47 ∷ 50 ∷ 93 ∷ 44 ∷ 49 ∷ 125 ∷ 46 ∷ 123 ∷ 99 ∷ 63 ∷ 91 ∷ 45 ∷ 51 ∷ 93 ∷ 44 ∷ 49 ∷ 125 ∷ 59 ∷ 65 ∷ 91 ∷ 93 ∷ 59 ∷ []
+minusByTwoText = 65 ∷ 91 ∷ 93 ∷ 61 ∷ 123 ∷ 99 ∷ 33 ∷ 91 ∷ 45 ∷ 55 ∷ 47 ∷ 50 ∷ 93 ∷ 44 ∷ 49 ∷ 125 ∷ 46 ∷ 123 ∷ 99 ∷ 63 ∷ 91 ∷ 45 ∷ 52 ∷ 93 ∷ 44 ∷ 49 ∷ 125 ∷ 59 ∷ 65 ∷ 91 ∷ 93 ∷ 59 ∷ []
 
--- A[]={c![7/-2],1}.{c?[-3],1};A[];
+-- A[]={c![7/-2],1}.{c?[-4],1};A[];
 abbrev pub byMinusTwoText : List ℕ
-byMinusTwoText = 65 ∷ 91 ∷ 93 ∷ 61 ∷ 123 ∷ 99 ∷ 33 ∷ 91 ∷ 55 ∷ 47 ∷ 45 ∷ 50 ∷ 93 ∷ 44 ∷ 49 ∷ 125 ∷ 46 ∷ 123 ∷ 99 ∷ 63 ∷ 91 ∷ 45 ∷ 51 ∷ 93 ∷ 44 ∷ 49 ∷ 125 ∷ 59 ∷ 65 ∷ 91 ∷ 93 ∷ 59 ∷ []
+byMinusTwoText = 65 ∷ 91 ∷ 93 ∷ 61 ∷ 123 ∷ 99 ∷ 33 ∷ 91 ∷ 55 ∷ 47 ∷ 45 ∷ 50 ∷ 93 ∷ 44 ∷ 49 ∷ 125 ∷ 46 ∷ 123 ∷ 99 ∷ 63 ∷ 91 ∷ 45 ∷ 52 ∷ 93 ∷ 44 ∷ 49 ∷ 125 ∷ 59 ∷ 65 ∷ 91 ∷ 93 ∷ 59 ∷ []
+
+-- A[]={c![-7/-2],1}.{c?[3],1};A[];
+abbrev pub bothMinusText : List ℕ
+bothMinusText = 65 ∷ 91 ∷ 93 ∷ 61 ∷ 123 ∷ 99 ∷ 33 ∷ 91 ∷ 45 ∷ 55 ∷ 47 ∷ 45 ∷ 50 ∷ 93 ∷ 44 ∷ 49 ∷ 125 ∷ 46 ∷ 123 ∷ 99 ∷ 63 ∷ 91 ∷ 51 ∷ 93 ∷ 44 ∷ 49 ∷ 125 ∷ 59 ∷ 65 ∷ 91 ∷ 93 ∷ 59 ∷ []
 
 -- A[]={c![-2147483648/-1],1}.{c?[2147483648],1};A[];
 abbrev pub turnedText : List ℕ
@@ -111,9 +116,10 @@ unfoldable pub row : Specimen → Row
 row sheet = record { text = texts.sheet; calls = lists ∷ []; expected = isOpen ∷ listed 2 325000000 0 sheetRows ∷ [] }
 row rowOne = record { text = texts.sheet; calls = steps 299999999 ∷ []; expected = isOpen ∷ listed 2 325000000 0 sheetRows ∷ [] }
 row rowTwo = record { text = texts.sheet; calls = steps 300000000 ∷ []; expected = isOpen ∷ listed 2 325000000 1 sheetRows ∷ [] }
--- the quotient is launched, and the answer, −3 or 2147483648, is received
+-- the quotient is launched, and the answer, −4, 3 or 2147483648, is received
 row minusByTwo = record { text = minusByTwoText; calls = steps 0 ∷ lists ∷ []; expected = isOpen ∷ only kind.launch ∷ only kind.receive ∷ [] }
 row byMinusTwo = record { text = byMinusTwoText; calls = steps 0 ∷ lists ∷ []; expected = isOpen ∷ only kind.launch ∷ only kind.receive ∷ [] }
+row bothMinus = record { text = bothMinusText; calls = steps 0 ∷ lists ∷ []; expected = isOpen ∷ only kind.launch ∷ only kind.receive ∷ [] }
 row turned = record { text = turnedText; calls = steps 0 ∷ lists ∷ []; expected = isOpen ∷ only kind.launch ∷ only kind.receive ∷ [] }
 -- of three processes that send 3, 4 and 5, the first and the third are heard
 row threeAndFive = record { text = withoutText; calls = lists ∷ []; expected = isOpen ∷ listed 2 200000000 0 (entry (key kind.handshake 1 0 0 0 0) 100000000 ∷ entry (key kind.handshake 3 0 0 0 0) 100000000 ∷ []) ∷ [] }

@@ -44,8 +44,27 @@ fn quotients() {
     line(b"-7/2", value::div_value(-7, 2));
     line(b"7/-2", value::div_value(7, -2));
     line(b"-7/-2", value::div_value(-7, -2));
+    line(b"7/2", value::div_value(7, 2));
     line(b"0/-5", value::div_value(0, -5));
     line(b"5/0", value::div_value(5, 0));
+}
+
+fn even_quotients() {
+    line(b"-8/2", value::div_value(-8, 2));
+    line(b"8/-2", value::div_value(8, -2));
+    line(b"-8/-2", value::div_value(-8, -2));
+    line(b"8/2", value::div_value(8, 2));
+    line(b"-7/1", value::div_value(-7, 1));
+    line(b"7/-1", value::div_value(7, -1));
+}
+
+fn small_quotients() {
+    line(b"-1/greatest", value::div_value(-1, Range::GREATEST));
+    line(b"1/least", value::div_value(1, Range::LEAST));
+    line(b"1/greatest", value::div_value(1, Range::GREATEST));
+    line(b"-1/least", value::div_value(-1, Range::LEAST));
+    line(b"greatest/-2", value::div_value(Range::GREATEST, -2));
+    line(b"least/-2", value::div_value(Range::LEAST, -2));
 }
 
 fn quotient_ends() {
@@ -138,6 +157,8 @@ fn larger() {
 
 fn main() {
     quotients();
+    even_quotients();
+    small_quotients();
     quotient_ends();
     sums();
     differences();

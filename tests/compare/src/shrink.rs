@@ -25,8 +25,15 @@ const CUTS: [(Kind, &[Kind]); 6] = [
 /// How many of the tokens that may end a cut are tried.
 const ENDS: usize = 3;
 /// Short models that often do in the place of a text.
-const SHORT: [&str; 4] =
-    ["A[]={a,1};A[];", "A[]={a,1}.A[];A[];", "A[]={c![1],1};A[];", "A[]={@c![1],1}+{@c?[1],1};2*A[];"];
+const SHORT: [&str; 5] = [
+    "A[]={a,1};A[];",
+    "A[]={a,1}.A[];A[];",
+    "A[]={c![1],1};A[];",
+    "A[]={c![1],1}.{c#[1],1};A[];",
+    "A[]={@c![1],1}+{@c?[1],1};2*A[];",
+];
+/// At most so many steps are tried between the opening of a short model and the last call.
+const STEPS: usize = 2;
 
 struct Shrinker<'a> {
     tried: &'a Engine,
@@ -39,6 +46,7 @@ struct Shrinker<'a> {
 pub fn shrink(tried: &Engine, oracle: &Engine, found: Difference) -> Difference {
     let mut shrinker = Shrinker { tried, oracle, tries: TRIES, best: found };
     shrinker.hand_in();
+    shrinker.try_short_models();
     loop {
         let before = shrinker.size();
         shrinker.drop_calls();
@@ -51,14 +59,8 @@ pub fn shrink(tried: &Engine, oracle: &Engine, found: Difference) -> Difference 
 }
 
 impl Shrinker<'_> {
-    /// How long the list is: calls, bytes of texts, digits of draws.
     fn size(&self) -> usize {
-        let size = |call: &Call| match call {
-            Call::Open { text, .. } => 10 + text.len(),
-            Call::Step { draw: Draw::Exactly(draw), .. } => 10 + draw.to_string().len(),
-            _ => 10,
-        };
-        self.best.made.iter().map(size).sum()
+        size(&self.best.made)
     }
 
     /// Takes the list in place of the best one if the engines differ on it.
@@ -93,6 +95,21 @@ impl Shrinker<'_> {
         calls.push(last.clone());
         if calls.len() < self.best.made.len() {
             self.takes(&calls);
+        }
+    }
+
+    /// Tries the last call after a short model and some steps, in the place of all calls before it.
+    fn try_short_models(&mut self) {
+        let Some(last) = self.best.made.last().cloned() else { return };
+        for text in SHORT {
+            let mut before = vec![Call::Open { text: text.into(), lengths: RIGHT }];
+            for _ in 0..=STEPS {
+                let calls = [&before[..], std::slice::from_ref(&last)].concat();
+                if size(&calls) < self.size() && self.takes_redrawn(calls) {
+                    return;
+                }
+                before.push(Call::Step { lengths: RIGHT, draw: Draw::Exactly(0) });
+            }
         }
     }
 
@@ -214,10 +231,14 @@ impl Shrinker<'_> {
         if let Some(Call::Open { text, .. }) = calls.get_mut(call) {
             *text = new;
         }
+        self.takes_redrawn(calls)
+    }
+
+    /// Takes the list as it is or with another last draw: it may choose another entry of a shorter text.
+    fn takes_redrawn(&mut self, mut calls: Vec<Call>) -> bool {
         if self.takes(&calls) {
             return true;
         }
-        // The last draw may choose another entry of a shorter text.
         for other in [Draw::Exactly(0), Draw::Last] {
             match calls.last_mut() {
                 Some(Call::Step { draw, .. }) => *draw = other,
@@ -246,4 +267,14 @@ impl Shrinker<'_> {
             call += 1;
         }
     }
+}
+
+/// How long a list is: calls, bytes of texts, digits of draws.
+fn size(calls: &[Call]) -> usize {
+    let size = |call: &Call| match call {
+        Call::Open { text, .. } => 10 + text.len(),
+        Call::Step { draw: Draw::Exactly(draw), .. } => 10 + draw.to_string().len(),
+        _ => 10,
+    };
+    calls.iter().map(size).sum()
 }

@@ -76,6 +76,9 @@ pub fn all() -> Vec<Specimen> {
             calls: vec![open("A[]={go,100000.0001};A[];"), LIST],
             answer: refused(12, 0),
         },
+        holds("-7/2==-4"),
+        holds("7/-2==-4"),
+        holds("-7/-2==3"),
         holds("-2147483648/-1==2147483648"),
         Specimen {
             name: "4294967297*4294967297 has no value",

@@ -102,7 +102,7 @@ fn a_process_that_is_left_past_the_last() {
         }
         answer
     }
-    found(Engine { step: wrong, ..SECOND }, Place::State, 2, 120);
+    found(Engine { step: wrong, ..SECOND }, Place::State, 3, 120);
 }
 
 #[test]

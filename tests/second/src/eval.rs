@@ -35,11 +35,20 @@ fn term(term: &Term, locals: &[i64]) -> Option<i64> {
         value = in_range(match sign {
             ProductSign::Times => left * right,
             ProductSign::Over if right == 0 => return None,
-            // Rust's division of signed numbers cuts towards zero.
-            ProductSign::Over => left / right,
+            ProductSign::Over => divided(left, right),
         })?;
     }
     Some(value)
+}
+
+/// The quotient rounded down, whatever the signs (02, note 3). The divisor isn't 0.
+fn divided(left: i128, right: i128) -> i128 {
+    // With a divisor above 0 the Euclidean quotient is the one rounded down.
+    if right > 0 {
+        left.div_euclid(right)
+    } else {
+        (-left).div_euclid(-right)
+    }
 }
 
 fn atom(atom: &Atom, locals: &[i64]) -> Option<i64> {

@@ -539,7 +539,7 @@ impl Writer<'_> {
                     self.small_name();
                 }
                 16..=18 => {
-                    let divisor = *self.random.pick(&["2", "3", "7"]);
+                    let divisor = *self.random.pick(&["2", "3", "7", "- 2", "- 3"]);
                     self.put(&format!("/ {divisor}"));
                 }
                 // This one can be zero.
@@ -596,8 +596,12 @@ const PERHAPS_NO_VALUE: [&str; 14] = [
     "4294967296*(n+4294967296)",
 ];
 
+/// Dividends and divisors of both signs, with and without a remainder, at both ends of the range, sometimes zero.
+const DIVIDED: [&str; 12] =
+    ["n", "n", "(n-1)", "(0-n)", "2", "-2", "7", "-7", "max(n,1)", "min(n,-1)", "1099511627775", "-1099511627775"];
+
 /// How many kinds of texts near a limit there are.
-pub const EDGES: usize = 26;
+pub const EDGES: usize = 27;
 
 /// A text at one of the limits of 01, or just past it.
 pub fn edge(random: &mut Random) -> Vec<u8> {
@@ -729,6 +733,12 @@ pub fn edge_of_kind(random: &mut Random, which: usize) -> Vec<u8> {
                 "w=2;g=0.5;A[n]=[{value}<=9]->{{c![{atom}],{scale}}}.{{c?[0..{part}]({bound}),{scale}*{atom}}}.{call};\
                  2*A[1]||{start};"
             )
+        }
+        // Divisions.
+        25 => {
+            let (dividend, divisor) = (*random.pick(&DIVIDED), *random.pick(&DIVIDED));
+            let start = random.between(-SMALL, SMALL);
+            format!("A[n]={{c![{dividend}/{divisor}],1}}.A[n-1]+{{go,1}}.A[0-n];A[{start}];")
         }
         _ => {
             let rate = *random.pick(&[

@@ -225,6 +225,7 @@ fn values() {
     assert_eq!(value_of("0*(1/0)"), None);
     assert_eq!(value_of("10-3-2"), Some(5));
     assert_eq!(value_of("100/7/2*3"), Some(21));
+    assert_eq!(value_of("-100/7/2*3"), Some(-24));
     assert_eq!(value_of("2+3*4-(5-1)*2"), Some(6));
     assert_eq!(value_of("1--1"), Some(2));
 }

@@ -63,17 +63,62 @@ fn a_bound_handshake_takes_the_value_sent() {
 
 #[test]
 fn division() {
-    assert_eq!(value_of("-7/2"), Some(-3));
-    assert_eq!(value_of("7/-2"), Some(-3));
+    // All four signs, with a remainder and without.
+    assert_eq!(value_of("-7/2"), Some(-4));
+    assert_eq!(value_of("7/-2"), Some(-4));
     assert_eq!(value_of("7/2"), Some(3));
     assert_eq!(value_of("-7/-2"), Some(3));
+    assert_eq!(value_of("-8/2"), Some(-4));
+    assert_eq!(value_of("8/-2"), Some(-4));
+    assert_eq!(value_of("8/2"), Some(4));
+    assert_eq!(value_of("-8/-2"), Some(4));
     assert_eq!(value_of("-2147483648/-1"), Some(2_147_483_648));
     assert_eq!(value_of("-2147483648/1"), Some(-2_147_483_648));
-    assert_eq!(value_of("-1099511627775/-1"), Some(1_099_511_627_775));
-    assert_eq!(value_of("1099511627775/-1"), Some(-1_099_511_627_775));
+    // A dividend nearer to zero than the divisor, and zero.
+    assert_eq!(value_of("1/2"), Some(0));
+    assert_eq!(value_of("-1/2"), Some(-1));
+    assert_eq!(value_of("1/-2"), Some(-1));
+    assert_eq!(value_of("-1/-2"), Some(0));
     assert_eq!(value_of("0/-5"), Some(0));
-    assert_eq!(value_of("5/0"), None);
-    assert_eq!(value_of("0/0"), None);
+    for dividend in ["5", "0", "-5", "1099511627775", "-1099511627775", "(1/2)"] {
+        assert_eq!(value_of(&format!("{dividend}/0")), None);
+        assert_eq!(value_of(&format!("{dividend}/(1/2)")), None);
+    }
+}
+
+#[test]
+fn division_at_the_ends() {
+    let end = 1_099_511_627_775;
+    assert_eq!(value_of("-1099511627775/-1"), Some(end));
+    assert_eq!(value_of("1099511627775/-1"), Some(-end));
+    assert_eq!(value_of("1099511627775/1099511627775"), Some(1));
+    assert_eq!(value_of("-1099511627775/1099511627775"), Some(-1));
+    assert_eq!(value_of("1099511627774/1099511627775"), Some(0));
+    assert_eq!(value_of("-1099511627774/1099511627775"), Some(-1));
+    assert_eq!(value_of("-1/1099511627775"), Some(-1));
+    assert_eq!(value_of("1/-1099511627775"), Some(-1));
+    assert_eq!(value_of("-1/-1099511627775"), Some(0));
+    assert_eq!(value_of("1099511627775/2"), Some(549_755_813_887));
+    assert_eq!(value_of("-1099511627775/2"), Some(-549_755_813_888));
+    assert_eq!(value_of("1099511627775/-2"), Some(-549_755_813_888));
+    assert_eq!(value_of("-1099511627775/-2"), Some(549_755_813_887));
+}
+
+/// The quotient q of a by b has q b at most a and a below (q + 1) b, turned round for a b below 0.
+#[test]
+fn division_by_its_definition() {
+    for dividend in -20_i64..=20 {
+        for divisor in (-8..=8).filter(|&divisor| divisor != 0) {
+            let quotient = value_of(&format!("{dividend}/{divisor}")).unwrap();
+            let (low, high) = (quotient * divisor, (quotient + 1) * divisor);
+            let within =
+                if divisor > 0 { low <= dividend && dividend < high } else { high < dividend && dividend <= low };
+            assert!(within, "{dividend}/{divisor} is {quotient}");
+        }
+    }
+    // Bins of equal width on both sides of the origin.
+    let bins: Vec<_> = (-6..=5).map(|place| value_of(&format!("{place}/3"))).collect();
+    assert_eq!(bins, [-2, -2, -2, -1, -1, -1, 0, 0, 0, 1, 1, 1].map(Some));
 }
 
 #[test]

@@ -9,6 +9,7 @@ use lib.Dec.{leb}
 use lib.IntN.{ℤ}
 use lib.ListN.{length, getD, take, replicate, length-take, length-map}
 use lib.Seq.{ext-getD, getD-take}
+use Rattle.model.specs.Scope.{scopeOf}
 use Rattle.model.specs.Resolved
 use Rattle.model.specs.Limits.{branchLimit}
 use Rattle.model.specs.Good.{GoodSum}
@@ -53,7 +54,7 @@ module _ (t roots scopes : List ℕ) (sums channels : ℕ) (m : Resolved.Model) 
       same i l =
           let k : i < sums = omega (arith, length-take sums scopes) in
           let n : i < length (scopesOf m) = omega (arith, long) in
-          let w = map-nth (λ (s : Resolved.Sum). s .locals) (m .sums) (get-nth (scopesOf m) i (get-below (scopesOf m) i 0 n)) in
+          let w = map-nth scopeOf (m .sums) (get-nth (scopesOf m) i (get-below (scopesOf m) i 0 n)) in
           getD-take sums scopes i 0 k ∙ r .scope i (w .source) (nth-get (w .at)) ∙ sym (w .is)
 
   pub few-taken : FewLocals (take sums scopes)
@@ -75,7 +76,7 @@ module _ (t roots scopes : List ℕ) (sums channels : ℕ) (m : Resolved.Model) 
     numbers-back = decode-numbers (scopesOf m) (few-scopes m (h .good)) (m .channels) zs l passes
 
     pub state-good : GoodState m (stateOf zs)
-    state-good = fits-good m (stateOf zs) (decode-fits (scopesOf m) (few-scopes m (h .good)) (m .channels) zs l passes)
+    state-good = fits-good m (stateOf zs) (h .good) (decode-fits (scopesOf m) (few-scopes m (h .good)) (m .channels) zs l passes)
 
     pub world : World t roots scopes zs m (stateOf zs)
     world = record {

@@ -27,7 +27,7 @@ pub fn open_lent(text: &[u8], model: &mut [u8], state: &mut [i64]) -> Answer
     let mut high = [0u64; question::Limits::TOKENS];
     let mut nodes = [0u64; question::Limits::TOKENS];
     let mut roots = [0u16; question::Limits::TOKENS];
-    let mut scopes = [0u8; question::Limits::TOKENS];
+    let mut scopes = [0u16; question::Limits::TOKENS];
     let mut names = [0u64; question::Limits::TOKENS];
     crate::buffer::put_fresh(model, state);
     let opened = opening::open_text(
@@ -52,6 +52,7 @@ pub fn open_lent(text: &[u8], model: &mut [u8], state: &mut [i64]) -> Answer
                 found.variables,
                 found.definitions,
                 state,
+                &scopes,
             );
             Answer::bare(0, 0, 0)
         }
@@ -70,7 +71,7 @@ pub fn list_text(text: &[u8], state: &[i64], listing: &mut [u64]) -> Answer
     let mut high = [0u64; question::Limits::TOKENS];
     let mut nodes = [0u64; question::Limits::TOKENS];
     let mut roots = [0u16; question::Limits::TOKENS];
-    let mut scopes = [0u8; question::Limits::TOKENS];
+    let mut scopes = [0u16; question::Limits::TOKENS];
     let mut names = [0u64; question::Limits::TOKENS];
     let read = opening::read_model(
         text,
@@ -112,7 +113,7 @@ pub fn step_text(text: &[u8], state: &mut [i64], listing: &mut [u64], draw: u64)
     let mut high = [0u64; question::Limits::TOKENS];
     let mut nodes = [0u64; question::Limits::TOKENS];
     let mut roots = [0u16; question::Limits::TOKENS];
-    let mut scopes = [0u8; question::Limits::TOKENS];
+    let mut scopes = [0u16; question::Limits::TOKENS];
     let mut names = [0u64; question::Limits::TOKENS];
     let read = opening::read_model(
         text,

@@ -11,15 +11,15 @@ texts = 65 ∷ 66 ∷ 67 ∷ []
 
 abbrev script : List ℕ
 script =
-    1 ∷ 1 ∷ 2 ∷ 16386 ∷ 3586 ∷ 0
-    ∷ 2 ∷ 0 ∷ 0 ∷ 16386 ∷ 3586 ∷ 7168
-    ∷ 3 ∷ 250 ∷ 0 ∷ 16386 ∷ 3586 ∷ 7167
-    ∷ 4 ∷ 0 ∷ 0 ∷ 16386 ∷ 3586 ∷ 7168
+    1 ∷ 1 ∷ 2 ∷ 16386 ∷ 3842 ∷ 0
+    ∷ 2 ∷ 0 ∷ 0 ∷ 16386 ∷ 3842 ∷ 7168
+    ∷ 3 ∷ 250 ∷ 0 ∷ 16386 ∷ 3842 ∷ 7167
+    ∷ 4 ∷ 0 ∷ 0 ∷ 16386 ∷ 3842 ∷ 7168
     ∷ []
 
 abbrev room : Room
-room = record { model = 16386; state = 3586; listings = 28672; answers = 24 }
+room = record { model = 16386; state = 3842; listings = 28672; answers = 24 }
 
-pub sample-calls : callsIn script texts room ≡ open′ (66 ∷ 67 ∷ []) 16386 3586 ∷ list′ 16386 3586 7168 ∷ step′ 16386 3586 7167 250 ∷ []
+pub sample-calls : callsIn script texts room ≡ open′ (66 ∷ 67 ∷ []) 16386 3842 ∷ list′ 16386 3842 7168 ∷ step′ 16386 3842 7167 250 ∷ []
 unfolding callsIn callsOf rowsOf rows rowOf roomAfter fits rowCall callOf Option·elim
 sample-calls = refl

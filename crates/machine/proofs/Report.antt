@@ -6,14 +6,14 @@ use mathlib.Core.Option.{Option, some, Option·elim}
 use mathlib.Core.Logic.{_↔_}
 use Prim.Native.Nat.{ℕ, zero, suc, _+_, _-_, _≤_, _<_}
 use native.Mathlib.Omega.{arith}
-use lib.ListN.{length, getElem?, replicate, length-append, length-replicate}
+use lib.ListN.{length, getD, getElem?, replicate, length-append, length-replicate}
 use Rattle.model.specs.Resolved
 use Rattle.model.specs.Good.{GoodSum, GoodModel}
 use Rattle.rules.specs.Rules.{Nth, Key, Derivable}
 use Rattle.rules.specs.Listing.{Entry, entry, keyOf, weightOf}
 use Rattle.rules.specs.Draw.{weights, total}
-use Rattle.rules.specs.Subtotals.{actor, subtotals}
-use Rattle.rules.proofs.Subtotals.{adds-up, as-many, counts-for}
+use Rattle.rules.specs.Subtotals.{actor, subtotal, subtotals}
+use Rattle.rules.proofs.Subtotals.{adds-up, as-many, nth-is, counts-for}
 use Rattle.machine.specs.Offer.{Process, branches}
 use Rattle.machine.specs.State.{State, GoodProcess, GoodState}
 use Rattle.machine.specs.Report.{reportLength, definitionAt, reportOf}
@@ -29,6 +29,19 @@ unfolding total
 total-zeros [] zero = refl
 total-zeros [] (suc n) = let h = total-zeros [] n in omega (arith, h)
 total-zeros (w ∷ ws) n = let h = total-zeros ws n in omega (arith, h)
+
+-- ---- a number of the first list, or a zero after it
+front : (xs ys : List ℕ) (d : ℕ) → d < length xs → getD (xs ++ ys) d 0 ≡ getD xs d 0
+front [] ys d l = absurd (omega arith)
+front (x ∷ xs) ys zero l = refl
+front (x ∷ xs) ys (suc d) l = front xs ys d (omega arith)
+
+past : (xs : List ℕ) (n d : ℕ) → length xs ≤ d → getD (xs ++ replicate n 0) d 0 ≡ 0
+past [] zero d l = refl
+past [] (suc n) zero l = refl
+past [] (suc n) (suc d) l = past [] n d (omega arith)
+past (x ∷ xs) n zero l = absurd (omega arith)
+past (x ∷ xs) n (suc d) l = past xs n d (omega arith)
 
 module _ (m : Resolved.Model) (good : GoodModel m) (s : State) (g : GoodState m s) where
   -- a good process has the number of a definition
@@ -64,3 +77,19 @@ module _ (m : Resolved.Model) (good : GoodModel m) (s : State) (g : GoodState m 
   report-length es =
       length-append (subtotals (definitionAt s) es 0 (length (m .definitions))) (replicate (reportLength - length (m .definitions)) 0)
       ∙ omega (arith, as-many (definitionAt s) es 0 (length (m .definitions)), length-replicate {A = ℕ} (reportLength - length (m .definitions)) 0, good .few-definitions)
+
+  -- 02, note 6: one weight sum for each definition
+  pub share-is : (es : List Entry) (d : ℕ) → d < length (m .definitions) → getD (reportOf m s es) d 0 ≡ subtotal (definitionAt s) es d
+  unfolding reportOf
+  share-is es d l =
+      let n = length (m .definitions) in
+      let i : d < length (subtotals (definitionAt s) es 0 n) = omega (arith, as-many (definitionAt s) es 0 n) in
+      let z : 0 + d ≡ d = omega arith in
+      front (subtotals (definitionAt s) es 0 n) (replicate (reportLength - n) 0) d i ∙ nth-is (definitionAt s) es 0 n d l ∙ ap (subtotal (definitionAt s) es) z
+
+  -- 02, note 6: then zeros
+  pub none-beyond : (es : List Entry) (d : ℕ) → length (m .definitions) ≤ d → getD (reportOf m s es) d 0 ≡ 0
+  unfolding reportOf
+  none-beyond es d l =
+      let n = length (m .definitions) in
+      past (subtotals (definitionAt s) es 0 n) (reportLength - n) d (omega (arith, as-many (definitionAt s) es 0 n))

@@ -1,12 +1,12 @@
 -- Subtotals by owner add up to the total of the listing where every entry's owner is one of those counted: entry by entry. And every transition counts for a process.
-use mathlib.Core.Path.{_≡_, refl, sym, _∙_}
+use mathlib.Core.Path.{_≡_, refl, sym, ap, _∙_}
 use mathlib.Core.List.{List, [], _∷_, List·Memᴰ as In, List·Memᴰ·head as head, List·Memᴰ·tail as tail}
 use mathlib.Core.Bool.{Bool, true, false, cond}
 use Prim.Native.Nat.{ℕ, zero, suc, _+_, _≤_, _<_}
 use native.Mathlib.Omega.{arith}
 use borrow.Author.Tests.{eqb-true, eqb-false, ne-eqb}
 use lib.Dec.{eqb}
-use lib.ListN.{length}
+use lib.ListN.{length, getD}
 use Rattle.rules.specs.Offers.{Branch, State}
 use Rattle.rules.specs.Rules.{Nth, Change, Key, Moves, alone, together}
 use Rattle.rules.specs.Listing.{Entry, weightOf}
@@ -19,6 +19,13 @@ module _ (owner : Entry → ℕ) where
   unfolding subtotals
   as-many es d zero = refl
   as-many es d (suc n) = let h = as-many es (suc d) n in omega (arith, h)
+
+  -- the i-th of them
+  pub nth-is : (es : List Entry) (d n i : ℕ) → i < n → getD (subtotals owner es d n) i 0 ≡ subtotal owner es (d + i)
+  unfolding subtotals
+  nth-is es d zero i l = absurd (omega arith)
+  nth-is es d (suc n) zero l = let z : d ≡ d + 0 = omega arith in ap (subtotal owner es) z
+  nth-is es d (suc n) (suc i) l = let z : suc d + i ≡ d + suc i = omega arith in nth-is es (suc d) n i (omega arith) ∙ ap (subtotal owner es) z
 
   nothing : (d n : ℕ) → total (subtotals owner [] d n) ≡ 0
   unfolding subtotals subtotal total

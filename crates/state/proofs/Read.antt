@@ -12,16 +12,17 @@ use lib.Seq.{take-nil, take-at, take-take, drop-drop, getD-take, getD-drop}
 use Rattle.state.specs.Change.{pairsFrom}
 use Rattle.model.specs.Limits.{localLimit}
 use Rattle.model.specs.Resolved
-use Rattle.model.specs.Scope.{localsIn}
+use Rattle.model.specs.Scope.{localsIn, definitionIn}
+use Rattle.value.proofs.Kit.{same-eq}
 use Rattle.rules.specs.Offers as offers
 use Rattle.rules.specs.Pairs.{channelNumbers}
 use Rattle.model.specs.Good.{GoodModel}
 use Rattle.machine.specs.Offer.{Process}
 use Rattle.machine.specs.State.{State, GoodState, padded, pairNumbers, stateNumbers, pairWidth, processRoom, processWidth}
 use Rattle.state.specs.Fits.{scopesOf, FewLocals, Fits}
-use Rattle.state.specs.Test.{at, every, rows, isBelow, isProcess, isPair, processPart, pairPart}
+use Rattle.state.specs.Test.{at, every, rows, isBelow, isPadded, isProcess, isPair, processPart, pairPart}
 use Rattle.state.specs.Decode.{processOf, pairOf, decode}
-use Rattle.state.specs.Read.{Passed, processCount, pairCount, sumAt, localsAt, pairRow}
+use Rattle.state.specs.Read.{Passed, processCount, pairCount, sumAt, localsAt, definitionNumber, pairRow}
 use Rattle.state.proofs.Tests.{both, below-bound}
 use Rattle.state.proofs.Rows.{rows-length}
 use Rattle.state.proofs.Entries.{get-is, pair-shape, pair-row}
@@ -69,9 +70,12 @@ pair-row-at : (zs : List ℤ) (n i : ℕ) → i < n → getD (rows pairWidth n (
 unfolding pairRow
 pair-row-at zs n i l = row-at pairWidth n i (pairPart zs) l ∙ ap (take pairWidth) (drop-drop (i * pairWidth) pairsFrom zs)
 
--- the first number of a row
+-- a number of a row, and the first
+row-number : (w a k : ℕ) (l : List ℤ) → k < w → at (take w (drop a l)) k ≡ at l (a + k)
+row-number w a k l h = getD-take w (drop a l) k (pos 0) h ∙ getD-drop a l k (pos 0)
+
 row-first : (w a : ℕ) (l : List ℤ) → 0 < w → at (take w (drop a l)) 0 ≡ at l a
-row-first w a l h = getD-take w (drop a l) 0 (pos 0) h ∙ getD-drop a l 0 (pos 0) ∙ ap (at l) (add-zero a)
+row-first w a l h = row-number w a 0 l h ∙ ap (at l) (add-zero a)
 
 -- ---- a state that is decoded
 module _ (scopes : List ℕ) (zs : List ℤ) where
@@ -88,6 +92,10 @@ module _ (scopes : List ℕ) (zs : List ℤ) where
   pub sum-decoded : (i : ℕ) (p : Process) → processCount zs ≤ 256 → getElem? (decode scopes zs .processes) i ≡ some p → sumAt zs i ≡ p .sum
   unfolding sumAt processOf
   sum-decoded i p m e = sym (ap (λ (q : Process). q .sum) (process-decoded i p m e) ∙ ap natAbs (row-first processWidth (2 + i * processWidth) zs (omega arith)))
+
+  pub definition-decoded : (i : ℕ) (p : Process) → processCount zs ≤ 256 → getElem? (decode scopes zs .processes) i ≡ some p → definitionNumber zs i ≡ p .definition
+  unfolding definitionNumber processOf
+  definition-decoded i p m e = sym (ap (λ (q : Process). q .definition) (process-decoded i p m e) ∙ ap natAbs (row-number processWidth (2 + i * processWidth) (1 + localLimit) zs (omega arith)))
 
   -- the locals that a row has in scope
   scope-locals : (k a : ℕ) → let ls = take k (drop 1 (take processWidth (drop a zs))) in take (length ls) (drop (a + 1) zs) ≡ ls
@@ -125,14 +133,27 @@ module _ (zs : List ℤ) (h : Passed zs) where
   pub few-pairs : pairCount zs ≤ 256
   few-pairs = omega (arith, below-bound 257 (at zs 1) pairs-below)
 
+  -- the row of a process is one
+  process-passed : (i : ℕ) → i < processCount zs → isProcess (h .scopes) (take processWidth (drop (2 + i * processWidth) zs)) ≡ true
+  process-passed i l =
+      let r : isProcess (h .scopes) (getD (rows processWidth (processCount zs) (processPart zs)) i []) ≡ true =
+      every-at (isProcess (h .scopes)) (rows processWidth (processCount zs) (processPart zs)) i [] (parts (h .scopes) (h .few) (h .channels) zs (h .long) (h .passes) .process-rows) (omega (arith, rows-length processWidth (processCount zs) (processPart zs))) in
+      rw (process-row-at zs (processCount zs) i few-processes l) at r
+
   -- a sum number is one of a sum that exists
   pub sum-below : (i : ℕ) → i < processCount zs → isBelow (length (h .scopes)) (at zs (2 + i * processWidth)) ≡ true
   unfolding isProcess
-  sum-below i l =
-      let r : isProcess (h .scopes) (getD (rows processWidth (processCount zs) (processPart zs)) i []) ≡ true =
-      every-at (isProcess (h .scopes)) (rows processWidth (processCount zs) (processPart zs)) i [] (parts (h .scopes) (h .few) (h .channels) zs (h .long) (h .passes) .process-rows) (omega (arith, rows-length processWidth (processCount zs) (processPart zs))) in
-      let q : isProcess (h .scopes) (take processWidth (drop (2 + i * processWidth) zs)) ≡ true = rw (process-row-at zs (processCount zs) i few-processes l) at r in
-      ap (isBelow (length (h .scopes))) (sym (row-first processWidth (2 + i * processWidth) zs (omega arith))) ∙ both _ _ q .0
+  sum-below i l = ap (isBelow (length (h .scopes))) (sym (row-first processWidth (2 + i * processWidth) zs (omega arith))) ∙ both _ _ (process-passed i l) .0
+
+  -- a definition number is a natural one
+  pub definition-natural : (i : ℕ) → i < processCount zs → (k : ℕ) × (at zs (2 + i * processWidth + (1 + localLimit)) ≡ pos k)
+  unfolding isProcess
+  definition-natural i l =
+      let row = take processWidth (drop (2 + i * processWidth) zs) in
+      let k : ℕ = definitionIn (getD (h .scopes) (natAbs (at row 0)) 0) in
+      let q = both (isBelow (length (h .scopes)) (at row 0)) _ (process-passed i l) .1 in
+      let e = both (isPadded (localsIn (getD (h .scopes) (natAbs (at row 0)) 0)) (take localLimit (drop 1 row))) _ q .1 in
+      (k, sym (row-number processWidth (2 + i * processWidth) (1 + localLimit) zs (omega arith)) ∙ same-eq (at row (1 + localLimit)) (pos k) e)
 
   -- a pair's row is its numbers
   pub row-decoded : (i : ℕ) (x : offers.Pair) → getElem? (decode (h .scopes) zs .pairs) i ≡ some x → pairRow zs i ≡ pairNumbers x
@@ -164,6 +185,9 @@ module _ (scopes : List ℕ) (few : FewLocals scopes) (channels : ℕ) (s : Stat
 
   pub sum-numbers : (i : ℕ) (p : Process) → getElem? (s .processes) i ≡ some p → sumAt (stateNumbers s) i ≡ p .sum
   sum-numbers i p e = sum-decoded scopes (stateNumbers s) i p (few-processes (stateNumbers s) numbers-passed) (ap (λ (t : State). getElem? (t .processes) i) back ∙ e)
+
+  pub definition-numbers : (i : ℕ) (p : Process) → getElem? (s .processes) i ≡ some p → definitionNumber (stateNumbers s) i ≡ p .definition
+  definition-numbers i p e = definition-decoded scopes (stateNumbers s) i p (few-processes (stateNumbers s) numbers-passed) (ap (λ (t : State). getElem? (t .processes) i) back ∙ e)
 
   pub locals-numbers : (i : ℕ) (p : Process) → getElem? (s .processes) i ≡ some p → localsAt (stateNumbers s) i (length (p .locals)) ≡ p .locals
   locals-numbers i p e = locals-decoded scopes (stateNumbers s) i p (few-processes (stateNumbers s) numbers-passed) (ap (λ (t : State). getElem? (t .processes) i) back ∙ e)

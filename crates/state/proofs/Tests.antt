@@ -87,6 +87,10 @@ unfolding isBelow
 below-fits n (pos k) f e = (tt, omega (arith, f .sfits))
 below-fits n (negsuc k) f e = false-not-true e
 
+pub positive-fits : (k : ℕ) (z : ℤ) → SFits w64 z → z ≡ pos k → T (nonNeg z) × Fits w64 (natAbs z)
+positive-fits k (pos j) f e = (tt, omega (arith, f .sfits))
+positive-fits k (negsuc j) f e = let y : _≡_ {A = ℕ} 0 1 = cc in absurd (omega arith)
+
 -- a number that passed is natural, and below the bound
 pub below-natural : (n : ℕ) (z : ℤ) → isBelow n z ≡ true → z ≡ pos (natAbs z)
 unfolding isBelow

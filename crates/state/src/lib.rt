@@ -13,7 +13,7 @@ ghost use Rattle.rules.specs.Order.{less};
 ghost use Rattle.machine.specs.State.{pairLimit, processWidth, pairWidth, stateLength};
 ghost use Rattle.state.specs.Change.{rewritten, pairRows, pairAdded, pairTaken, pairLaunched, pairKilled, processReplaced, processAdded, processPushed};
 ghost use Rattle.state.specs.Fits.{FewLocals};
-ghost use Rattle.state.specs.Read.{Passed, processCount, pairCount, sumAt, localsAt, pairRow};
+ghost use Rattle.state.specs.Read.{Passed, processCount, pairCount, sumAt, localsAt, definitionNumber, pairRow};
 ghost use Rattle.state.specs.Test.{at, placeOf, isLit, channelRow, every, rows, isValue, isZero, isBelow, isPadded, isProcess, isChannel, isPair, ascends, areProcesses, arePairs, isState};
 
 pub struct Layout;
@@ -535,6 +535,15 @@ pub fn sum_at(state: &[i64], place: usize) -> usize
     ensures { λ r. ⌜ r ≡ sumAt (now (state .entry)) place ⌝ }
 {
     let from = Layout::PROCESSES + place * Layout::PROCESS;
+    state[from] as usize
+}
+
+// The definition number of the process at a place.
+pub fn definition_at(state: &[i64], place: usize) -> usize
+    requires { ⌜ (Passed (now state)) × (place < processCount (now state)) ⌝ }
+    ensures { λ r. ⌜ r ≡ definitionNumber (now (state .entry)) place ⌝ }
+{
+    let from = Layout::PROCESSES + place * Layout::PROCESS + Layout::DEFINITION;
     state[from] as usize
 }
 

@@ -13,11 +13,12 @@ use Rattle.model.specs.Good.{GoodModel}
 use Rattle.rules.specs.Listing.{Entry, entry, weightOf}
 use Rattle.rules.specs.Draw.{weights, total}
 use Rattle.rules.proofs.Chosen.{chooses-first}
-use Rattle.machine.specs.State.{State, stateNumbers, GoodState}
+use Rattle.machine.specs.State.{State, stateNumbers, GoodProcess, GoodState}
 use Rattle.machine.specs.Report.{reportLength, reportOf}
 use Rattle.machine.specs.Machine.{listingLength, Shown, filled, Answer, no, listedAs, reportedAs, Listed, entriesAre, drawn, Turn, Machine, closed, holding, lent, turn, showing, lists, sharing, reports, stepped, choosing, stepsOn, after}
 use Rattle.machine.specs.Machine as machine
 use Rattle.machine.specs.Questions.{Lists, no12, no13, no14, yes14, Steps, no15, no16, no17, no18, no19, yes19}
+use Rattle.machine.proofs.Everys.{every-nth}
 use Rattle.machine.proofs.Listing.{asked, accepted}
 use Rattle.machine.proofs.OneListing.{draws-weigh}
 use Rattle.machine.proofs.Report.{counted-for, listed-adds-up, report-length, share-is, none-beyond}
@@ -28,6 +29,7 @@ use Rattle.buffers.specs.Effect.{Effect, machineIn, stateIn, leaves, whe
 use Rattle.buffers.specs.Calls.{Engine, fresh, own, lentBuffer, BufferCall, listing, stepping, reporting, lentModel, lentState, effect, leftBy, fed, engineAfter, Holds, zeros, held}
 use Rattle.buffers.specs.Transitions.{Leaves, Takes, Shares, Shows}
 use Rattle.buffers.proofs.Held.{passes, text-in, held-fits}
+use Rattle.buffers.proofs.Written.{carries}
 use Rattle.buffers.proofs.Calls.{model-long, state-long, holds-machine, own-left, make, every-list}
 
 module _ {x : Engine} {y : Machine} (h : Holds x y) (l : List ℕ) where
@@ -174,14 +176,16 @@ shows {x} (held {m = m} {s = s} text a b c g) l long z =
     let es : List Entry = r .0 in
     let k = accepted m s es .0 (r .1) in
     let p = listed-so h es (r .1) l long in
+    let t = ap model.held (sym (text-in text)) ∙ passes (modelBytes text) m b .text in
     record {
       text = text;
       model = m;
       state = s;
       machine = refl;
       model-buffer = a;
-      text-holds = ap model.held (sym (text-in text)) ∙ passes (modelBytes text) m b .text;
+      text-holds = t;
       state-buffer = c;
+      carried = λ {i} {p} n. carries text m t p (every-nth (GoodProcess m) (g .processes) n);
       entries = es;
       derivable = k .1;
       evaluated = k .0;

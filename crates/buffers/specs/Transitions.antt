@@ -4,7 +4,11 @@ use mathlib.Core.List.{List, List·Memᴰ as In}
 use mathlib.Core.Option.{some}
 use Prim.Native.Nat.{ℕ, _≤_, _<_}
 use lib.ListN.{length, getD}
+use Rattle.grammar.specs.Syntax
 use Rattle.model.specs.Resolved
+use Rattle.model.specs.Resolved.{sumNumber}
+use Rattle.model.specs.Stands.{WrittenIn}
+use Rattle.model.specs.Questions.{Yes5}
 use Rattle.model.specs.Held.{held}
 use Rattle.rules.specs.Rules.{Nth, Change, Key, Moves}
 use Rattle.rules.specs.Listing.{Entry, entry}
@@ -49,6 +53,14 @@ pub record Takes (m : Resolved.Model) (s : State) (es : List Entry) (d : ℕ) (e
   pub listed : e .listing ≡ listingNumbers es
   pub state : e .state ≡ stateNumbers (record { processes = processes; pairs = pairsAfter change (s .pairs) })
 
+-- 02, note 6: a process carries the number of the definition whose text holds its sum, as the text reads
+pub record Carried (text : List ℕ) (p : Process) : Type 0 where
+  pub tree : Syntax.Model
+  pub reads : Yes5 text tree
+  pub sum : Syntax.Sum
+  pub number : sumNumber sum ≡ p .sum
+  pub written : WrittenIn tree (p .definition) sum
+
 -- 02, note 6: what a report leaves that is lent right lengths, where es is listed
 pub record Shares (x : Engine) (m : Resolved.Model) (s : State) (es : List Entry) (l : List ℕ) : Type 0 where
   -- accepted as the listing is, with its count and total; nothing moves
@@ -74,6 +86,7 @@ pub record Shows (x : Engine) (y : Machine) (l : List ℕ) : Type 0 where
   pub model-buffer : x .model ≡ modelBytes text
   pub text-holds : held text ≡ some model
   pub state-buffer : x .state ≡ stateNumbers state
+  pub carried : {i : ℕ} {p : Process} → Nth (state .processes) i p → Carried text p
   -- the entries are the derivable transitions, each once and in order, and nothing that was evaluated lacked a value
   pub entries : List Entry
   pub derivable : IsListing model state entries

@@ -52,7 +52,9 @@ impl Limits {
 
     pub const ENTRY: usize = 7;
 
-    // Where an entry's weight stands.
+    // Where an entry's place and its weight stand.
+    pub const PLACE: usize = 1;
+
     pub const WEIGHT: usize = 6;
 
     pub const TOTAL: u64 = 9000000000000000000;

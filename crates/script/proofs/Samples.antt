@@ -1,9 +1,9 @@
--- A script of four rows, by computation: it opens a text, lists, steps with a listing one number short, and ends at a row of no kind.
+-- A script of five rows, by computation: it opens a text, lists, steps with a listing one number short, reports, and ends at a row of no kind.
 use mathlib.Core.Path.{_≡_, refl}
 use mathlib.Core.List.{List, [], _∷_}
 use mathlib.Core.Option.{Option·elim}
 use Prim.Native.Nat.{ℕ}
-use Rattle.machine.specs.Machine.{open′, list′, step′}
+use Rattle.machine.specs.Machine.{open′, list′, step′, report′}
 use Rattle.script.specs.Rows.{rowOf, rows, rowsOf, Room, roomAfter, fits, rowCall, callOf, callsOf, callsIn}
 
 abbrev texts : List ℕ
@@ -14,12 +14,13 @@ script =
     1 ∷ 1 ∷ 2 ∷ 16386 ∷ 3842 ∷ 0
     ∷ 2 ∷ 0 ∷ 0 ∷ 16386 ∷ 3842 ∷ 7168
     ∷ 3 ∷ 250 ∷ 0 ∷ 16386 ∷ 3842 ∷ 7167
-    ∷ 4 ∷ 0 ∷ 0 ∷ 16386 ∷ 3842 ∷ 7168
+    ∷ 4 ∷ 0 ∷ 0 ∷ 16386 ∷ 3842 ∷ 64
+    ∷ 5 ∷ 0 ∷ 0 ∷ 16386 ∷ 3842 ∷ 7168
     ∷ []
 
 abbrev room : Room
-room = record { model = 16386; state = 3842; listings = 28672; answers = 24 }
+room = record { model = 16386; state = 3842; listings = 35840; answers = 30 }
 
-pub sample-calls : callsIn script texts room ≡ open′ (66 ∷ 67 ∷ []) 16386 3842 ∷ list′ 16386 3842 7168 ∷ step′ 16386 3842 7167 250 ∷ []
+pub sample-calls : callsIn script texts room ≡ open′ (66 ∷ 67 ∷ []) 16386 3842 ∷ list′ 16386 3842 7168 ∷ step′ 16386 3842 7167 250 ∷ report′ 16386 3842 64 ∷ []
 unfolding callsIn callsOf rowsOf rows rowOf roomAfter fits rowCall callOf Option·elim
 sample-calls = refl

@@ -119,6 +119,15 @@ fn put_call(
     output::put_entries(out, n, listing, answer[Limits::COUNT], b"  ", b' ')
 }
 
+// Puts the numbers of a report on a line that begins with two blanks.
+fn put_numbers(out: &mut Buffer, waits: usize, report: &[u64]) -> usize {
+    if report.len() < Engine::REPORT {
+        return waits;
+    }
+    let n = output::put(out, waits, b"  ");
+    output::put_line(out, n, &report[..Engine::REPORT], b' ')
+}
+
 // Puts a report's answer, and its numbers where it is accepted.
 fn put_report(
     out: &mut Buffer,
@@ -134,8 +143,7 @@ fn put_report(
     if answer[Limits::NUMBER] != 0 {
         return n;
     }
-    let n = output::put(out, n, b"  ");
-    output::put_line(out, n, &listing[..Engine::REPORT], b' ')
+    put_numbers(out, n, listing)
 }
 
 // Does what an item of the script asks for.

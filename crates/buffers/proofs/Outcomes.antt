@@ -16,7 +16,7 @@ use Rattle.model.specs.Questions.{Answers, no2, no3, no4, no5, no6, no7, no8, n
 use Rattle.model.proofs.Answered.{answered}
 use Rattle.rules.specs.Listing.{Entry}
 use Rattle.machine.specs.State.{State, stateNumbers, stateLength}
-use Rattle.machine.specs.Report.{reportLength, reportOf}
+use Rattle.machine.specs.Report.{reportLength}
 use Rattle.machine.specs.Machine.{modelLength, listingLength, asLent, no, listedAs, reportedAs, Listed, drawn, Turn, Machine, closed, holding, lent, turn, showing, lists, sharing, reports, stepped, choosing, stepsOn, after}
 use Rattle.machine.specs.Machine as machine
 use Rattle.machine.specs.Questions.{IsListing, Lists, no12, no13, no14, yes14, Steps, no15, no16, no17, no18, no19, yes19}

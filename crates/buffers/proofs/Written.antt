@@ -9,7 +9,7 @@ use Rattle.grammar.specs.Syntax.{syntaxOf}
 use Rattle.model.specs.Words.{wordOf}
 use Rattle.model.specs.Resolved
 use Rattle.model.specs.Resolved.{resolved}
-use Rattle.model.specs.Opening.{Opening, opening}
+use Rattle.model.specs.Opening.{Opening}
 use Rattle.model.specs.Held.{held}
 use Rattle.model.proofs.Held.{Agree, refuses, holds, agree}
 use Rattle.model.proofs.Written.{held-by}

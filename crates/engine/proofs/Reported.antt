@@ -13,7 +13,7 @@ use Rattle.rules.specs.Listing.{Entry}
 use Rattle.machine.specs.State.{State, stateNumbers}
 use Rattle.machine.specs.Report.{reportOf}
 use Rattle.machine.specs.Machine as machine
-use Rattle.machine.specs.Machine.{Listed, entriesAre, refusedWith, zeroed, no, listedAs, reportedAs, turn, lists, sharing, reports}
+use Rattle.machine.specs.Machine.{Listed, entriesAre, refusedWith, no, reportedAs, turn, lists, sharing, reports}
 use Rattle.machine.specs.Questions.{Lists as Asked, no12, no13, no14, yes14}
 use Rattle.machine.proofs.Listing.{asked}
 use Rattle.listing.specs.Buffer.{listedAnswer, Lists}

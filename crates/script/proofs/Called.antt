@@ -11,7 +11,7 @@ use lib.ListN.{length, take, drop, length-append, length-take, length-drop, leng
 use lib.Seq.{length-take-le, take-take}
 use Rattle.machine.specs.State.{State, stateLength}
 use Rattle.machine.specs.Machine.{modelLength, entryLimit, listingLength, Shown, asLent, zeroed, filled, reported, no, listedAs, reportedAs, Listed, drawn, Turn, Machine, closed, holding, lent, turn, opens, showing, lists, sharing, reports, stepped, choosing, stepsOn, Call, open′, list′, step′, report′, calls}
-use Rattle.machine.specs.Report.{reportLength, reportOf}
+use Rattle.machine.specs.Report.{reportLength}
 use Rattle.machine.specs.Machine as machine
 use Rattle.machine.specs.Questions.{Lists, no12, no13, no14, yes14}
 use Rattle.machine.proofs.Listing.{asked}

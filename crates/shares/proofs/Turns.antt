@@ -1,7 +1,6 @@
 -- One turn of the sharing loop: entry i counts for the definition that its process's numbers have, and no sum passes the listing's total.
 use mathlib.Core.Path.{_≡_, refl, sym, ap, _∙_}
 use mathlib.Core.List.{List, [], _∷_, _++_, List·Memᴰ as In, List·Memᴰ·head as head, List·Memᴰ·tail as tail}
-use mathlib.Core.Option.{some}
 use Prim.Native.Nat.{ℕ, zero, suc, _+_, _-_, _*_, _≤_, _<_}
 use native.Mathlib.Omega.{arith}
 use native.Mathlib.Numerals.{add-one}
@@ -11,7 +10,7 @@ use lib.Seq.{take-suc, take-all, getD-set-same}
 use Rattle.model.specs.Resolved
 use Rattle.rules.specs.Rules.{Nth, first, later}
 use Rattle.rules.specs.Listing.{Entry, entry, keyOf, weightOf}
-use Rattle.rules.specs.Draw.{weights, total}
+use Rattle.rules.specs.Draw.{total}
 use Rattle.rules.specs.Subtotals.{actor, subtotals}
 use Rattle.rules.proofs.Subtotals.{as-many}
 use Rattle.machine.specs.Offer.{Process}

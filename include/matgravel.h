@@ -27,8 +27,8 @@ extern "C" {
 #define MATGRAVEL_ENTRY 7
 
 /* Bytes of stack that a thread should have for any call, with room to spare. Measured, not proved: of some fifty long texts of every
- * kind, the one that needs most took open 1,929,792, list 1,929,888 and step 1,948,880 on x86-64; the models of this repository take
- * 235,000, 433,000 and 452,000. */
+ * kind, the one that needs most took open 1,935,504, list 1,935,584, step 1,956,608 and report 1,992,944 on x86-64; the models of this
+ * repository take 243,000, 442,000, 463,000 and 499,000. */
 #define MATGRAVEL_STACK 3145728
 
 /* number: 0 for acceptance, or that of the refusal.

@@ -18,21 +18,22 @@ extern "C" {
 
 /* The lengths of the lent buffers: bytes, signed and unsigned 64-bit numbers. Any other length is refused with 1. */
 #define MATGRAVEL_MODEL 16386
-#define MATGRAVEL_STATE 3586
+#define MATGRAVEL_STATE 3842
 #define MATGRAVEL_LISTING 7168
+#define MATGRAVEL_REPORT 64
 
 /* The listing's entries: how many there may be, and the numbers of one (kind, place, branch, partner, partner branch, pair, weight). */
 #define MATGRAVEL_ENTRIES 1024
 #define MATGRAVEL_ENTRY 7
 
 /* Bytes of stack that a thread should have for any call, with room to spare. Measured, not proved: of some fifty long texts of every
- * kind, the one that needs most took open 1,929,792, list 1,929,888 and step 1,948,880 on x86-64; the models of this repository take
- * 235,000, 433,000 and 452,000. */
+ * kind, the one that needs most took open 1,935,504, list 1,935,584, step 1,956,608 and report 1,992,944 on x86-64; the models of this
+ * repository take 243,000, 442,000, 463,000 and 499,000. */
 #define MATGRAVEL_STACK 3145728
 
 /* number: 0 for acceptance, or that of the refusal.
  * place: of 2 to 10 a byte of the text, of 12 a process; branch: of 12 a branch. Else 0.
- * count, total: entries and the sum of their weights; with 0 from list and step and with 15 to 19. Else 0.
+ * count, total: entries and the sum of their weights; with 0 from list, step and report and with 15 to 19. Else 0.
  * chosen: the entry that an accepted step took. Else 0. */
 typedef struct {
     uint64_t number, place, branch, count, total, chosen;
@@ -54,6 +55,11 @@ matgravel_answer matgravel_list(const uint8_t *model, size_t model_len, const in
  * Refusals: 1 and 11 to 14 as for list. 15 the total is zero, 16 the draw is not below it, 17 an argument of a call has no value,
  *   18 more than 256 processes, 19 more than 256 pairs: the listing is filled. No refusal alters the state. */
 matgravel_answer matgravel_step(const uint8_t *model, size_t model_len, int64_t *state, size_t state_len, uint64_t *listing, size_t listing_len, uint64_t draw);
+
+/* Sums up the weights that list would list by the definition in whose text the acting process's sum stands, definitions numbered from
+ * 0 in the text's order; a handshake counts for its sender. The numbers add up to the total. Changes neither model nor state.
+ * Refusals: 1 and 11 to 14 as for list, with the report in the place of the listing. */
+matgravel_answer matgravel_report(const uint8_t *model, size_t model_len, const int64_t *state, size_t state_len, uint64_t *report, size_t report_len);
 
 #ifdef __cplusplus
 }

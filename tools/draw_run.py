@@ -18,9 +18,9 @@ import itertools
 import sys
 
 # The state's layout, docs/LAYOUT.md.
-STATE = 3586
+STATE = 3842
 PROCESSES = 256
-PROCESS = 9
+PROCESS = 10
 FIRST_PROCESS = 2
 FIRST_PAIR = FIRST_PROCESS + PROCESSES * PROCESS
 PAIR = 5

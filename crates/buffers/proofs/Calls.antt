@@ -14,7 +14,8 @@ use Rattle.model.specs.Opening as reading
 use Rattle.model.proofs.Held.{opened-held}
 use Rattle.rules.specs.Listing.{Entry}
 use Rattle.machine.specs.State.{State, stateLength, GoodState}
-use Rattle.machine.specs.Machine.{modelLength, listingLength, asLent, no, Listed, entriesAre, refusedWith, drawn, Turn, Machine, closed, holding, lent, turn, opens, showing, lists, stepped, choosing, stepsOn, calls, answers, after}
+use Rattle.machine.specs.Machine.{modelLength, listingLength, asLent, no, Listed, entriesAre, refusedWith, drawn, Turn, Machine, closed, holding, lent, turn, opens, showing, lists, sharing, reports, stepped, choosing, stepsOn, calls, answers, after}
+use Rattle.machine.specs.Report.{reportLength}
 use Rattle.machine.specs.Machine as machine
 use Rattle.machine.specs.Questions.{Steps, no15, no16, no17, no18, no19, yes19}
 use Rattle.machine.proofs.Listing.{accepted}
@@ -24,8 +25,8 @@ use Rattle.machine.proofs.Stays.{opened-good, step-good}
 use Rattle.machine.proofs.Stepping as steps
 use Rattle.buffers.specs.Held.{modelBytes}
 use Rattle.buffers.specs.Listing.{shown}
-use Rattle.buffers.specs.Effect.{Effect, machineIn, untouched, opensWith, openEffect, stateIn, leaves, whenLent, listEffect, stepEffect}
-use Rattle.buffers.specs.Calls.{Engine, fresh, Lending, own, other, lentBuffer, lentLength, ownBuffer, BufferCall, opening, listing, stepping, lentModel, lentState, effect, leftBy, fed, effects, engineAfter, listingOf, Holds, zeros, held, Answered, none, one}
+use Rattle.buffers.specs.Effect.{Effect, machineIn, untouched, opensWith, openEffect, stateIn, leaves, whenLent, listEffect, stepEffect, reportEffect}
+use Rattle.buffers.specs.Calls.{Engine, fresh, Lending, own, other, lentBuffer, lentLength, ownBuffer, BufferCall, opening, listing, stepping, reporting, lentModel, lentState, effect, leftBy, fed, effects, engineAfter, listingOf, Holds, zeros, held, Answered, none, one}
 use Rattle.buffers.proofs.Held.{bytes-length, length-in, text-held, passes, held-fits}
 use Rattle.buffers.proofs.Machines.{over-model, fresh-closed}
 
@@ -135,16 +136,16 @@ module _ {x : Engine} {y : Machine} (c : BufferCall) (h : Holds x y) where
       (rw (own-left (lentModel c) (x .model) bs a, own-left (lentState c) (x .state) (stateIn zs (t .machine)) b, own-lent (lentModel c) (x .model) a, own-lent (lentState c) (x .state) b)
       (turned h f))
 
-  -- a call that turns a machine by f
-  module _ (f : Machine → Turn Machine) (follows : Follows y (f y .machine)) (p : effect x c ≡ whenLent bs zs (listingOf c) (f (machineIn bs zs)))
-      (q : calls y (fed c) ≡ cond (lent (lentLength (lentModel c)) (lentLength (lentState c)) && eqb (length (listingOf c)) listingLength) (f y) (turn y (no 1 0 0 asLent))) where
-    with-lengths : effect x c ≡ cond (lent (lentLength (lentModel c)) (lentLength (lentState c)) && eqb (length (listingOf c)) listingLength)
+  -- a call that turns a machine by f, and whose third buffer has this right length
+  module _ (long : ℕ) (f : Machine → Turn Machine) (follows : Follows y (f y .machine)) (p : effect x c ≡ whenLent long bs zs (listingOf c) (f (machineIn bs zs)))
+      (q : calls y (fed c) ≡ cond (lent (lentLength (lentModel c)) (lentLength (lentState c)) && eqb (length (listingOf c)) long) (f y) (turn y (no 1 0 0 asLent))) where
+    with-lengths : effect x c ≡ cond (lent (lentLength (lentModel c)) (lentLength (lentState c)) && eqb (length (listingOf c)) long)
         (leaves bs zs (listingOf c) (f (machineIn bs zs))) (untouched bs zs (listingOf c))
     unfolding whenLent
     with-lengths = rw (← lengths) p
 
     turning : Goes x y c
-    turning = by (and-lends (lends (lentModel c) (lentState c)) (eqb (length (listingOf c)) listingLength)) with-lengths q
+    turning = by (and-lends (lends (lentModel c) (lentState c)) (eqb (length (listingOf c)) long)) with-lengths q
       where
         by : {t : Bool} → Lends (lentModel c) (lentState c) t → effect x c ≡ cond t (leaves bs zs (listingOf c) (f (machineIn bs zs))) (untouched bs zs (listingOf c))
             → calls y (fed c) ≡ cond t (f y) (turn y (no 1 0 0 asLent)) → Goes x y c
@@ -192,7 +193,7 @@ list-follows (held {m = m} {s = s} text e h f g) = by (machine.listing m s)
 
 list-goes : {x : Engine} {y : Machine} → Holds x y → (a : Lending ℕ modelLength) (b : Lending ℤ stateLength) (l : List ℕ) → Goes x y (listing a b l)
 unfolding effect listEffect calls fed lentModel lentState listingOf
-list-goes h a b l = turning (listing a b l) h lists (list-follows h) refl refl
+list-goes h a b l = turning (listing a b l) h listingLength lists (list-follows h) refl refl
 
 -- ---- step
 
@@ -216,7 +217,22 @@ step-follows (held {m = m} {s = s} text e h f g) d = by (machine.listing m s) re
 
 step-goes : {x : Engine} {y : Machine} → Holds x y → (a : Lending ℕ modelLength) (b : Lending ℤ stateLength) (l : List ℕ) (d : ℕ) → Goes x y (stepping a b l d)
 unfolding effect stepEffect calls fed lentModel lentState listingOf
-step-goes h a b l d = turning (stepping a b l d) h (λ z. stepsOn z d) (step-follows h d) refl refl
+step-goes h a b l d = turning (stepping a b l d) h listingLength (λ z. stepsOn z d) (step-follows h d) refl refl
+
+-- ---- report
+
+report-follows : {x : Engine} {y : Machine} → Holds x y → Follows y (reports y .machine)
+unfolding reports sharing turn
+report-follows (zeros e) = shut
+report-follows (held {m = m} {s = s} text e h f g) = by (machine.listing m s)
+  where
+    by : (l : Listed) → Follows (holding m s) (sharing m s l .machine)
+    by (entriesAre es) = onward g
+    by (refusedWith a) = onward g
+
+report-goes : {x : Engine} {y : Machine} → Holds x y → (a : Lending ℕ modelLength) (b : Lending ℤ stateLength) (l : List ℕ) → Goes x y (reporting a b l)
+unfolding effect reportEffect calls fed lentModel lentState listingOf
+report-goes h a b l = turning (reporting a b l) h reportLength reports (report-follows h) refl refl
 
 -- ---- every list
 
@@ -224,6 +240,7 @@ pub call-goes : {x : Engine} {y : Machine} → Holds x y → (c : BufferCall) �
 call-goes h (opening text a b) = open-goes h text a b
 call-goes h (listing a b l) = list-goes h a b l
 call-goes h (stepping a b l d) = step-goes h a b l d
+call-goes h (reporting a b l) = report-goes h a b l
 
 from-any : (x : Engine) (y : Machine) → Holds x y → (cs : List BufferCall) → Answered cs (effects x cs) (answers y (map fed cs)) × Holds (engineAfter x cs) (after y (map fed cs))
 unfolding effects answers engineAfter after

@@ -4,5 +4,6 @@ pub mod Held
 pub mod Listings
 pub mod Machines
 pub mod Calls
+pub mod Written
 pub mod Transitions
 pub mod Outcomes

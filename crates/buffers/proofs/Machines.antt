@@ -26,7 +26,7 @@ pub over-model : (bs : List ℕ) (m : Model) (s : State) → heldIn bs ≡ some 
 unfolding machineIn machineOver
 over-model bs m s e g =
     let few = few-scopes m (held-fits bs m e) in
-    let fits = good-fits m s g in
+    let fits = good-fits m s (held-fits bs m e) g in
     ap (machineOver (stateNumbers s)) e
     ∙ ap (λ (b : Bool). cond b (holding m (decode (scopesOf m) (stateNumbers s))) closed) (numbers-pass (scopesOf m) few (m .channels) s fits)
     ∙ ap (holding m) (decode-back (scopesOf m) few (m .channels) s fits)
@@ -57,7 +57,7 @@ machine-over bs zs m s l e = by (heldIn bs) refl e
         rw (← p, ← q) (record {
           model = h;
           good = good;
-          state = fits-good n (decode (scopesOf n) zs) (decode-fits (scopesOf n) few (n .channels) zs l f);
+          state = fits-good n (decode (scopesOf n) zs) good (decode-fits (scopesOf n) few (n .channels) zs l f);
           numbers = decode-numbers (scopesOf n) few (n .channels) zs l f;
         })
 

@@ -8,7 +8,7 @@ use native.Mathlib.Omega.{arith}
 use borrow.Author.Tests.{eqb-true, eq-eqb, ne-eqb}
 use lib.Dec.{eqb}
 use lib.IntN.{ℤ}
-use lib.ListN.{length}
+use lib.ListN.{length, replicate}
 use Rattle.model.specs.Resolved
 use Rattle.model.specs.Opening.{Opening, refused, opened}
 use Rattle.model.specs.Opening as reading
@@ -16,17 +16,18 @@ use Rattle.model.specs.Questions.{Answers, no2, no3, no4, no5, no6, no7, no8, n
 use Rattle.model.proofs.Answered.{answered}
 use Rattle.rules.specs.Listing.{Entry}
 use Rattle.machine.specs.State.{State, stateNumbers, stateLength}
-use Rattle.machine.specs.Machine.{modelLength, listingLength, asLent, no, listedAs, Listed, drawn, Turn, Machine, closed, holding, lent, turn, showing, lists, stepped, choosing, stepsOn, after}
+use Rattle.machine.specs.Report.{reportLength}
+use Rattle.machine.specs.Machine.{modelLength, listingLength, asLent, no, listedAs, reportedAs, Listed, drawn, Turn, Machine, closed, holding, lent, turn, showing, lists, sharing, reports, stepped, choosing, stepsOn, after}
 use Rattle.machine.specs.Machine as machine
 use Rattle.machine.specs.Questions.{IsListing, Lists, no12, no13, no14, yes14, Steps, no15, no16, no17, no18, no19, yes19}
 use Rattle.machine.proofs.Listing.{asked}
 use Rattle.machine.proofs.Stepping as step
 use Rattle.buffers.specs.Listing.{shown}
-use Rattle.buffers.specs.Effect.{Effect, untouched, opensWith, openEffect, stateIn, leaves, whenLent, listEffect, stepEffect}
-use Rattle.buffers.specs.Calls.{Engine, fresh, Lending, own, other, lentBuffer, BufferCall, opening, listing, stepping, lentModel, lentState, effect, fed, engineAfter, listingOf, Holds, zeros, held}
-use Rattle.buffers.specs.Outcomes.{Outcome, nothing, zeroed, opens, unlisted, listed, accepted}
+use Rattle.buffers.specs.Effect.{Effect, untouched, opensWith, openEffect, stateIn, leaves, whenLent, listEffect, stepEffect, reportEffect}
+use Rattle.buffers.specs.Calls.{Engine, fresh, Lending, own, other, lentBuffer, BufferCall, opening, listing, stepping, reporting, lentModel, lentState, effect, fed, engineAfter, listingOf, rightLength, Holds, zeros, held}
+use Rattle.buffers.specs.Outcomes.{Outcome, nothing, zeroed, opens, unlisted, listed, accepted, reported}
 use Rattle.buffers.proofs.Calls.{model-long, state-long, own-lent, make, every-list}
-use Rattle.buffers.proofs.Transitions.{left-in, left-as, lists-all, steps-all}
+use Rattle.buffers.proofs.Transitions.{left-in, left-as, lists-all, steps-all, reports-all}
 
 -- 2 to 10 are the numbers under which a text is refused
 text-numbers : (text : List ℕ) (n p : ℕ) → reading.opening text ≡ refused n p → (2 ≤ n) × (n ≤ 10)
@@ -79,7 +80,7 @@ module _ {x : Engine} {y : Machine} (h : Holds x y) where
   open-out text own (other k w) = untouched-out (opening text own (other k w)) (rw (eq-eqb _ _ (model-long h), ne-eqb (length k) stateLength w))
   open-out text (other k w) b = untouched-out (opening text (other k w) b) (rw (ne-eqb (length k) modelLength w))
 
-  -- ---- list and step
+  -- ---- list, step and report
 
   module _ (c : BufferCall) (a : lentModel c ≡ own) (b : lentState c ≡ own) where
     -- 11
@@ -89,13 +90,13 @@ module _ {x : Engine} {y : Machine} (h : Holds x y) where
         nothing (inr (ap (λ (e : Effect). e .answer .number) p)) (ap (λ (e : Effect). e .model) p ∙ sym (own-lent (lentModel c) (x .model) a))
         (ap (λ (e : Effect). e .state) p ∙ sym (own-lent (lentState c) (x .state) b)) (ap (λ (e : Effect). e .listing) p)
 
-    module _ (m : Resolved.Model) (s : State) (e : y ≡ holding m s) (q : x .state ≡ stateNumbers s) where
+    module _ (long : length (listingOf c) ≡ rightLength c) (m : Resolved.Model) (s : State) (e : y ≡ holding m s) (q : x .state ≡ stateNumbers s) where
       -- 12 to 14
       unlisted-out : (n i j : ℕ) → 12 ≤ n → n ≤ 14 → effect x c ≡ leaves (x .model) (x .state) (listingOf c) (turn (holding m s) (no n i j machine.zeroed)) → Out c
       unfolding leaves turn no stateIn shown
       unlisted-out n i j l k p =
           let r : effect x c .answer .number ≡ n = ap (λ (e : Effect). e .answer .number) p in
-          unlisted (omega arith) (omega arith) (ap (λ (e : Effect). e .listing) p)
+          unlisted (omega arith) (omega arith) (ap (λ (e : Effect). e .listing) p ∙ ap (λ (i : ℕ). replicate i 0) long)
           (left-as x c a b (ap (λ (e : Effect). e .model) p) (ap (λ (e : Effect). e .state) p ∙ sym q))
 
       -- 15 to 19
@@ -121,6 +122,15 @@ module _ {x : Engine} {y : Machine} (h : Holds x y) where
       showing-out (no14 g h l f) p = unlisted-out 14 0 0 (omega arith) (omega arith) p
       showing-out (yes14 {es = es} g h l f) p = accepted-out es 0 s h p
 
+      -- of a report
+      sharing-out : {k : Listed} → Lists m s k → effect x c ≡ leaves (x .model) (x .state) (listingOf c) (sharing m s k) → Out c
+      unfolding sharing leaves turn reportedAs stateIn shown
+      sharing-out (no12 {i = i} {j = j} f) p = unlisted-out 12 i j (omega arith) (omega arith) p
+      sharing-out (no13 g h l) p = unlisted-out 13 0 0 (omega arith) (omega arith) p
+      sharing-out (no14 g h l f) p = unlisted-out 14 0 0 (omega arith) (omega arith) p
+      sharing-out (yes14 {es = es} g h l f) p =
+          reported e h (ap (λ (e : Effect). e .answer .number) p) (ap (λ (e : Effect). e .listing) p) (left-as x c a b (ap (λ (e : Effect). e .model) p) (ap (λ (e : Effect). e .state) p ∙ sym q))
+
       -- and of a step
       drawn-out : {es : List Entry} {d : ℕ} {t : Turn State} → IsListing m s es → Steps m s es d t → effect x c ≡ leaves (x .model) (x .state) (listingOf c) (stepped m t) → Out c
       unfolding stepped
@@ -140,18 +150,25 @@ module _ {x : Engine} {y : Machine} (h : Holds x y) where
 
 module _ {x : Engine} where
   list-right : {y : Machine} → Holds x y → (l : List ℕ) → length l ≡ listingLength → Outcome x y (listing own own l) (effect x (listing own own l))
-  unfolding lists lentModel lentState listingOf
+  unfolding lists lentModel lentState listingOf rightLength
   list-right (zeros e) l long = shut-out (zeros e) (listing own own l) refl refl (lists-all (zeros e) l long)
   list-right (held {m = m} {s = s} text a b q g) l long =
       let h : Holds x (holding m s) = held text a b q g in
-      showing-out h (listing own own l) refl refl m s refl q (asked m s (machine.listing m s) .0 refl) (lists-all h l long)
+      showing-out h (listing own own l) refl refl long m s refl q (asked m s (machine.listing m s) .0 refl) (lists-all h l long)
 
   step-right : {y : Machine} → Holds x y → (l : List ℕ) (d : ℕ) → length l ≡ listingLength → Outcome x y (stepping own own l d) (effect x (stepping own own l d))
-  unfolding stepsOn lentModel lentState listingOf
+  unfolding stepsOn lentModel lentState listingOf rightLength
   step-right (zeros e) l d long = shut-out (zeros e) (stepping own own l d) refl refl (steps-all (zeros e) l long d)
   step-right (held {m = m} {s = s} text a b q g) l d long =
       let h : Holds x (holding m s) = held text a b q g in
-      choosing-out h (stepping own own l d) refl refl m s refl q d (asked m s (machine.listing m s) .0 refl) (steps-all h l long d)
+      choosing-out h (stepping own own l d) refl refl long m s refl q d (asked m s (machine.listing m s) .0 refl) (steps-all h l long d)
+
+  report-right : {y : Machine} → Holds x y → (l : List ℕ) → length l ≡ reportLength → Outcome x y (reporting own own l) (effect x (reporting own own l))
+  unfolding reports lentModel lentState listingOf rightLength
+  report-right (zeros e) l long = shut-out (zeros e) (reporting own own l) refl refl (reports-all (zeros e) l long)
+  report-right (held {m = m} {s = s} text a b q g) l long =
+      let h : Holds x (holding m s) = held text a b q g in
+      sharing-out h (reporting own own l) refl refl long m s refl q (asked m s (machine.listing m s) .0 refl) (reports-all h l long)
 
   -- 1, or the lengths are right
   module _ {y : Machine} (h : Holds x y) where
@@ -175,10 +192,21 @@ module _ {x : Engine} where
     step-out own (other k w) l d = untouched-out h (stepping own (other k w) l d) (rw (eq-eqb _ _ (model-long h), ne-eqb (length k) stateLength w))
     step-out (other k w) b l d = untouched-out h (stepping (other k w) b l d) (rw (ne-eqb (length k) modelLength w))
 
+    report-out : (a : Lending ℕ modelLength) (b : Lending ℤ stateLength) (l : List ℕ) → Outcome x y (reporting a b l) (effect x (reporting a b l))
+    unfolding effect reportEffect whenLent lentBuffer lent lentModel lentState listingOf
+    report-out own own l = by (eqb (length l) reportLength) refl
+      where
+        by : (t : Bool) → eqb (length l) reportLength ≡ t → Outcome x y (reporting own own l) (effect x (reporting own own l))
+        by true e = report-right h l (eqb-true _ _ e)
+        by false e = untouched-out h (reporting own own l) (rw (eq-eqb _ _ (model-long h), eq-eqb _ _ (state-long h), e))
+    report-out own (other k w) l = untouched-out h (reporting own (other k w) l) (rw (eq-eqb _ _ (model-long h), ne-eqb (length k) stateLength w))
+    report-out (other k w) b l = untouched-out h (reporting (other k w) b l) (rw (ne-eqb (length k) modelLength w))
+
     outcome : (c : BufferCall) → Outcome x y c (effect x c)
     outcome (opening text a b) = open-out h text a b
     outcome (listing a b l) = list-out a b l
     outcome (stepping a b l d) = step-out a b l d
+    outcome (reporting a b l) = report-out a b l
 
 -- 01, Opening a text, Listing and stepping: what any call leaves after any list of calls on the fresh engine
 pub every-outcome : (cs : List BufferCall) (c : BufferCall) → Outcome (engineAfter fresh cs) (after closed (map fed cs)) c (effect (engineAfter fresh cs) c)

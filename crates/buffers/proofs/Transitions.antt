@@ -1,44 +1,54 @@
--- After any list of calls, an accepted list call shows just the derivable transitions of the state that the buffers hold, draws weigh them, and steps draw from them and move by the rules.
+-- After any list of calls, an accepted list call shows just the derivable transitions of the state that the buffers hold, draws weigh them, steps draw from them and move by the rules,
+-- and a report shares their weights among the definitions.
 -- From the theorem over every list of calls, and the rule machine's own of listings and steps.
 use mathlib.Core.Path.{_≡_, refl, sym, ap, ap₂, _∙_}
 use mathlib.Core.List.{List, map}
 use Prim.Native.Nat.{ℕ}
 use native.Mathlib.Omega.{arith}
 use borrow.Author.Tests.{eq-eqb}
-use lib.ListN.{length}
+use lib.ListN.{length, getD}
 use Rattle.model.specs.Resolved
 use Rattle.model.specs.Held as model
+use Rattle.model.specs.Good.{GoodModel}
 use Rattle.rules.specs.Listing.{Entry, entry, weightOf}
-use Rattle.rules.specs.Draw.{weights}
+use Rattle.rules.specs.Draw.{weights, total}
 use Rattle.rules.proofs.Chosen.{chooses-first}
-use Rattle.machine.specs.State.{State, stateNumbers}
-use Rattle.machine.specs.Machine.{listingLength, Shown, filled, Answer, no, listedAs, Listed, entriesAre, drawn, Turn, Machine, closed, holding, lent, turn, showing, lists, stepped, choosing, stepsOn, after}
+use Rattle.machine.specs.State.{State, stateNumbers, GoodProcess, GoodState}
+use Rattle.machine.specs.Report.{reportLength, reportOf}
+use Rattle.machine.specs.Machine.{listingLength, Shown, filled, Answer, no, listedAs, reportedAs, Listed, entriesAre, drawn, Turn, Machine, closed, holding, lent, turn, showing, lists, sharing, reports, stepped, choosing, stepsOn, after}
 use Rattle.machine.specs.Machine as machine
 use Rattle.machine.specs.Questions.{Lists, no12, no13, no14, yes14, Steps, no15, no16, no17, no18, no19, yes19}
+use Rattle.machine.proofs.Everys.{every-nth}
 use Rattle.machine.proofs.Listing.{asked, accepted}
 use Rattle.machine.proofs.OneListing.{draws-weigh}
+use Rattle.machine.proofs.Report.{counted-for, listed-adds-up, report-length, share-is, none-beyond}
 use Rattle.machine.proofs.Stepping as step
 use Rattle.buffers.specs.Held.{modelBytes}
 use Rattle.buffers.specs.Listing.{shown, listingNumbers}
-use Rattle.buffers.specs.Effect.{Effect, machineIn, stateIn, leaves, whenLent, listEffect, stepEffect}
-use Rattle.buffers.specs.Calls.{Engine, fresh, own, lentBuffer, BufferCall, listing, stepping, lentModel, lentState, effect, leftBy, fed, engineAfter, Holds, zeros, held}
-use Rattle.buffers.specs.Transitions.{Leaves, Takes, Shows}
-use Rattle.buffers.proofs.Held.{passes, text-in}
+use Rattle.buffers.specs.Effect.{Effect, machineIn, stateIn, leaves, whenLent, listEffect, stepEffect, reportEffect}
+use Rattle.buffers.specs.Calls.{Engine, fresh, own, lentBuffer, BufferCall, listing, stepping, reporting, lentModel, lentState, effect, leftBy, fed, engineAfter, Holds, zeros, held}
+use Rattle.buffers.specs.Transitions.{Leaves, Takes, Shares, Shows}
+use Rattle.buffers.proofs.Held.{passes, text-in, held-fits}
+use Rattle.buffers.proofs.Written.{carries}
 use Rattle.buffers.proofs.Calls.{model-long, state-long, holds-machine, own-left, make, every-list}
 
-module _ {x : Engine} {y : Machine} (h : Holds x y) (l : List ℕ) (long : length l ≡ listingLength) where
+module _ {x : Engine} {y : Machine} (h : Holds x y) (l : List ℕ) where
   -- a call that is lent right lengths
-  lent-all : (t : Turn Machine) → whenLent (x .model) (x .state) l t ≡ leaves (x .model) (x .state) l t
+  lent-all : (right : ℕ) → length l ≡ right → (t : Turn Machine) → whenLent right (x .model) (x .state) l t ≡ leaves (x .model) (x .state) l t
   unfolding whenLent lent
-  lent-all t = rw (eq-eqb _ _ (model-long h), eq-eqb _ _ (state-long h), eq-eqb _ _ long)
+  lent-all right long t = rw (eq-eqb _ _ (model-long h), eq-eqb _ _ (state-long h), eq-eqb _ _ long)
 
-  pub lists-all : effect x (listing own own l) ≡ leaves (x .model) (x .state) l (lists y)
+  pub lists-all : length l ≡ listingLength → effect x (listing own own l) ≡ leaves (x .model) (x .state) l (lists y)
   unfolding effect listEffect lentBuffer
-  lists-all = lent-all (lists (machineIn (x .model) (x .state))) ∙ ap (λ (z : Machine). leaves (x .model) (x .state) l (lists z)) (holds-machine h)
+  lists-all long = lent-all listingLength long (lists (machineIn (x .model) (x .state))) ∙ ap (λ (z : Machine). leaves (x .model) (x .state) l (lists z)) (holds-machine h)
 
-  pub steps-all : (d : ℕ) → effect x (stepping own own l d) ≡ leaves (x .model) (x .state) l (stepsOn y d)
+  pub steps-all : length l ≡ listingLength → (d : ℕ) → effect x (stepping own own l d) ≡ leaves (x .model) (x .state) l (stepsOn y d)
   unfolding effect stepEffect lentBuffer
-  steps-all d = lent-all (stepsOn (machineIn (x .model) (x .state)) d) ∙ ap (λ (z : Machine). leaves (x .model) (x .state) l (stepsOn z d)) (holds-machine h)
+  steps-all long d = lent-all listingLength long (stepsOn (machineIn (x .model) (x .state)) d) ∙ ap (λ (z : Machine). leaves (x .model) (x .state) l (stepsOn z d)) (holds-machine h)
+
+  pub reports-all : length l ≡ reportLength → effect x (reporting own own l) ≡ leaves (x .model) (x .state) l (reports y)
+  unfolding effect reportEffect lentBuffer
+  reports-all long = lent-all reportLength long (reports (machineIn (x .model) (x .state))) ∙ ap (λ (z : Machine). leaves (x .model) (x .state) l (reports z)) (holds-machine h)
 
 -- ---- what is left of an engine whose own buffers are lent
 
@@ -132,6 +142,29 @@ module _ {x : Engine} {m : Resolved.Model} {s : State} (h : Holds x (holding m s
       let a = leaving l d long in
       accepts (effect x (stepping own own l d)) (a .asked) (sym (ap (λ (b : Answer). b .number) (a .answer)) ∙ z) (a .answer) (a .listed) (a .state)
 
+-- ---- what is shared
+
+module _ {x : Engine} {m : Resolved.Model} {s : State} (h : Holds x (holding m s)) (good : GoodModel m) (g : GoodState m s) (c : x .state ≡ stateNumbers s) (es : List Entry) (q : machine.listing m s ≡ entriesAre es) where
+  shared-so : (l : List ℕ) → length l ≡ reportLength → effect x (reporting own own l) ≡ leaves (x .model) (x .state) l (turn (holding m s) (reportedAs (reportOf m s es) es))
+  unfolding reports sharing
+  shared-so l long = reports-all h l long ∙ ap (λ (k : Listed). leaves (x .model) (x .state) l (sharing m s k)) q
+
+  sharing-all : (l : List ℕ) → length l ≡ reportLength → Shares x m s es l
+  unfolding leaves turn stateIn shown reportedAs lentModel lentState
+  sharing-all l long =
+      let p = shared-so l long in
+      let n : effect x (reporting own own l) .listing ≡ reportOf m s es = ap (λ (e : Effect). e .listing) p in
+      record {
+        answer = ap (λ (e : Effect). e .answer) p;
+        stays = left-as x (reporting own own l) refl refl (ap (λ (e : Effect). e .model) p) (ap (λ (e : Effect). e .state) p ∙ sym c);
+        numbers = n;
+        long = ap length n ∙ report-length m good s g es;
+        each = λ d i. ap (λ (ns : List ℕ). getD ns d 0) n ∙ share-is m good s g es d i;
+        beyond = λ d i. ap (λ (ns : List ℕ). getD ns d 0) n ∙ none-beyond m good s g es d i;
+        counts = counted-for m good s g es (accepted m s es .0 q .1);
+        sum = ap total n ∙ listed-adds-up m good s g es q;
+      }
+
 -- ---- the theorem
 
 shows : {x : Engine} {y : Machine} → Holds x y → (l : List ℕ) → length l ≡ listingLength → effect x (listing own own l) .answer .number ≡ 0 → Shows x y l
@@ -143,14 +176,16 @@ shows {x} (held {m = m} {s = s} text a b c g) l long z =
     let es : List Entry = r .0 in
     let k = accepted m s es .0 (r .1) in
     let p = listed-so h es (r .1) l long in
+    let t = ap model.held (sym (text-in text)) ∙ passes (modelBytes text) m b .text in
     record {
       text = text;
       model = m;
       state = s;
       machine = refl;
       model-buffer = a;
-      text-holds = ap model.held (sym (text-in text)) ∙ passes (modelBytes text) m b .text;
+      text-holds = t;
       state-buffer = c;
+      carried = λ {i} {p} n. carries text m t p (every-nth (GoodProcess m) (g .processes) n);
       entries = es;
       derivable = k .1;
       evaluated = k .0;
@@ -163,6 +198,7 @@ shows {x} (held {m = m} {s = s} text a b c g) l long z =
       draws = λ n. draws-weigh m s es (k .1) n;
       steps = leaving h es (r .1);
       takes = taking h es (r .1);
+      shares = sharing-all h (held-fits (modelBytes text) m b) g c es (r .1);
     }
 
 -- 01, Transitions: what a list call shows after any list of calls on the fresh engine, and what steps from there take

@@ -6,11 +6,12 @@ use Prim.Native.Nat.{ℕ}
 use lib.IntN.{ℤ, pos}
 use lib.ListN.{length, replicate}
 use Rattle.machine.specs.State.{State, stateLength, stateNumbers, GoodState}
-use Rattle.machine.specs.Machine.{modelLength, Answer, Machine, closed, holding, Call, open′, list′, step′}
+use Rattle.machine.specs.Report.{reportLength}
+use Rattle.machine.specs.Machine.{modelLength, listingLength, Answer, Machine, closed, holding, Call, open′, list′, step′, report′}
 use Rattle.buffers.specs.Held.{modelBytes, heldIn}
 use Rattle.model.specs.Resolved
 use Rattle.buffers.specs.Listing.{shown}
-use Rattle.buffers.specs.Effect.{Effect, openEffect, listEffect, stepEffect}
+use Rattle.buffers.specs.Effect.{Effect, openEffect, listEffect, stepEffect, reportEffect}
 
 -- 01, State: the model and state buffers
 pub record Engine : Type 0 where
@@ -41,28 +42,32 @@ unfoldable pub ownBuffer : {A : Type 0} {right : ℕ} → Lending A right → Li
 ownBuffer own l left = left
 ownBuffer (other k w) l left = l
 
--- 01, Rule machine: one call: a text or a draw, what is lent of the engine, and a listing buffer of any length and contents
+-- 01, Rule machine: one call: a text or a draw, what is lent of the engine, and a listing buffer of any length and contents; 02, note 6: or a report's
 pub data BufferCall : Type 0 where
   opening : (text : List ℕ) → Lending ℕ modelLength → Lending ℤ stateLength → BufferCall
   listing : Lending ℕ modelLength → Lending ℤ stateLength → (listing : List ℕ) → BufferCall
   stepping : Lending ℕ modelLength → Lending ℤ stateLength → (listing : List ℕ) → (draw : ℕ) → BufferCall
+  reporting : Lending ℕ modelLength → Lending ℤ stateLength → (report : List ℕ) → BufferCall
 
 -- what it lends as model and state buffers
 unfoldable pub lentModel : BufferCall → Lending ℕ modelLength
 lentModel (opening text a b) = a
 lentModel (listing a b l) = a
 lentModel (stepping a b l d) = a
+lentModel (reporting a b l) = a
 
 unfoldable pub lentState : BufferCall → Lending ℤ stateLength
 lentState (opening text a b) = b
 lentState (listing a b l) = b
 lentState (stepping a b l d) = b
+lentState (reporting a b l) = b
 
 -- what a call answers, and leaves in the buffers that are lent
 unfoldable pub effect : Engine → BufferCall → Effect
 effect x (opening text a b) = openEffect text (lentBuffer a (x .model)) (lentBuffer b (x .state))
 effect x (listing a b l) = listEffect (lentBuffer a (x .model)) (lentBuffer b (x .state)) l
 effect x (stepping a b l d) = stepEffect (lentBuffer a (x .model)) (lentBuffer b (x .state)) l d
+effect x (reporting a b l) = reportEffect (lentBuffer a (x .model)) (lentBuffer b (x .state)) l
 
 -- 01, State: the engine that it leaves for the next call
 unfoldable pub leftBy : Engine → BufferCall → Engine
@@ -73,6 +78,7 @@ unfoldable pub fed : BufferCall → Call
 fed (opening text a b) = open′ text (lentLength a) (lentLength b)
 fed (listing a b l) = list′ (lentLength a) (lentLength b) (length l)
 fed (stepping a b l d) = step′ (lentLength a) (lentLength b) (length l) d
+fed (reporting a b l) = report′ (lentLength a) (lentLength b) (length l)
 
 -- 01, Rule machine: what each of a list of calls answers and leaves, in order
 unfoldable pub effects : Engine → List BufferCall → List Effect
@@ -86,11 +92,19 @@ engineAfter x (c ∷ cs) = engineAfter (leftBy x c) cs
 
 -- ---- what the theorem says
 
--- 01, Listing and stepping: the listing buffer that a call lends; an opening lends none
+-- 01, Listing and stepping: the listing buffer that a call lends, or the report's (02, note 6); an opening lends none
 unfoldable pub listingOf : BufferCall → List ℕ
 listingOf (opening text a b) = []
 listingOf (listing a b l) = l
 listingOf (stepping a b l d) = l
+listingOf (reporting a b l) = l
+
+-- 01, Transitions, and 02, note 6: the length that 1 asks of it
+unfoldable pub rightLength : BufferCall → ℕ
+rightLength (opening text a b) = 0
+rightLength (listing a b l) = listingLength
+rightLength (stepping a b l d) = listingLength
+rightLength (reporting a b l) = reportLength
 
 -- 01, State: the buffers hold the machine, number for number: zeros where it is closed; else the bytes of a text that holds its model, and the numbers of its state
 pub data Holds (x : Engine) : Machine → Type 0 where

@@ -1,4 +1,4 @@
--- What open, list and step answer, and leave in the buffers that they are lent, whatever these hold (01, Opening a text, Listing and stepping). Definitions only.
+-- What open, list, step and report answer, and leave in the buffers that they are lent, whatever these hold (01, Opening a text, Listing and stepping). Definitions only.
 use mathlib.Core.Bool.{cond, _&&_}
 use mathlib.Core.List.{List, []}
 use mathlib.Core.Option.{Option, none, some}
@@ -12,11 +12,12 @@ use Rattle.state.specs.Fits.{scopesOf}
 use Rattle.state.specs.Test.{isState}
 use Rattle.state.specs.Decode.{decode}
 use Rattle.machine.specs.State.{State, stateLength, stateNumbers}
-use Rattle.machine.specs.Machine.{modelLength, listingLength, asLent, Answer, no, Turn, Machine, closed, holding, lent, openedState, lists, stepsOn}
+use Rattle.machine.specs.Report.{reportLength}
+use Rattle.machine.specs.Machine.{modelLength, listingLength, asLent, Answer, no, Turn, Machine, closed, holding, lent, openedState, lists, stepsOn, reports}
 use Rattle.buffers.specs.Held.{modelBytes, heldIn}
 use Rattle.buffers.specs.Listing.{shown}
 
--- 01, Rule machine: an answer, and the buffers as a call leaves them
+-- 01, Rule machine: an answer, and the buffers as a call leaves them; a report (02, note 6) has the listing's place
 pub record Effect : Type 0 where
   pub answer : Answer
   pub model : List ℕ
@@ -49,7 +50,7 @@ opensWith text (opened m) = record { answer = no 0 0 0 asLent; model = modelByte
 unfoldable pub openEffect : List ℕ → List ℕ → List ℤ → Effect
 openEffect text bs zs = cond (lent (length bs) (length zs)) (opensWith text (opening text)) (untouched bs zs [])
 
--- ---- list and step
+-- ---- list, step and report
 
 -- 01, State: the numbers of the machine's state; 11 leaves the buffer as it was
 unfoldable pub stateIn : List ℤ → Machine → List ℤ
@@ -60,14 +61,18 @@ stateIn zs (holding m s) = stateNumbers s
 unfoldable pub leaves : List ℕ → List ℤ → List ℕ → Turn Machine → Effect
 leaves bs zs l t = record { answer = t .answer; model = bs; state = stateIn zs (t .machine); listing = shown (t .answer .listing) l }
 
--- 01, Listing and stepping: 1, then 11 and on
-unfoldable pub whenLent : List ℕ → List ℤ → List ℕ → Turn Machine → Effect
-whenLent bs zs l t = cond (lent (length bs) (length zs) && eqb (length l) listingLength) (leaves bs zs l t) (untouched bs zs l)
+-- 01, Listing and stepping: 1, then 11 and on; the third buffer has this right length
+unfoldable pub whenLent : ℕ → List ℕ → List ℤ → List ℕ → Turn Machine → Effect
+whenLent right bs zs l t = cond (lent (length bs) (length zs) && eqb (length l) right) (leaves bs zs l t) (untouched bs zs l)
 
 -- 01, Listing: of the machine that the buffers hold
 unfoldable pub listEffect : List ℕ → List ℤ → List ℕ → Effect
-listEffect bs zs l = whenLent bs zs l (lists (machineIn bs zs))
+listEffect bs zs l = whenLent listingLength bs zs l (lists (machineIn bs zs))
 
 -- 01, Listing and stepping: the same with a draw
 unfoldable pub stepEffect : List ℕ → List ℤ → List ℕ → ℕ → Effect
-stepEffect bs zs l d = whenLent bs zs l (stepsOn (machineIn bs zs) d)
+stepEffect bs zs l d = whenLent listingLength bs zs l (stepsOn (machineIn bs zs) d)
+
+-- 02, note 6: the report on the listing of that machine
+unfoldable pub reportEffect : List ℕ → List ℤ → List ℕ → Effect
+reportEffect bs zs l = whenLent reportLength bs zs l (reports (machineIn bs zs))

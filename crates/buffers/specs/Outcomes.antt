@@ -9,12 +9,13 @@ use Rattle.model.specs.Opening.{opened}
 use Rattle.model.specs.Opening as reading
 use Rattle.rules.specs.Listing.{Entry}
 use Rattle.machine.specs.State.{State, stateNumbers}
-use Rattle.machine.specs.Machine.{listingLength, openedState, Machine, holding}
+use Rattle.machine.specs.Report.{reportOf}
+use Rattle.machine.specs.Machine.{openedState, Machine, holding}
 use Rattle.machine.specs.Questions.{IsListing}
 use Rattle.buffers.specs.Held.{modelBytes}
 use Rattle.buffers.specs.Listing.{listingNumbers}
 use Rattle.buffers.specs.Effect.{Effect}
-use Rattle.buffers.specs.Calls.{Engine, fresh, own, lentBuffer, BufferCall, opening, lentModel, lentState, leftBy, listingOf}
+use Rattle.buffers.specs.Calls.{Engine, fresh, own, lentBuffer, BufferCall, opening, lentModel, lentState, leftBy, listingOf, rightLength}
 
 -- 01, Opening a text, Listing and stepping: of a call c to an engine x that holds the machine y, with the effect e
 pub data Outcome (x : Engine) (y : Machine) (c : BufferCall) (e : Effect) : Type 0 where
@@ -26,11 +27,14 @@ pub data Outcome (x : Engine) (y : Machine) (c : BufferCall) (e : Effect) : Type
   -- an accepted opening fills both
   opens : {text : List ℕ} {m : Resolved.Model} → c ≡ opening text own own → reading.opening text ≡ opened m
       → e .answer .number ≡ 0 → e .model ≡ modelBytes text → e .state ≡ stateNumbers (openedState m) → Outcome x y c e
-  -- 12 to 14 zero the listing, and change nothing else
-  unlisted : 12 ≤ e .answer .number → e .answer .number ≤ 14 → e .listing ≡ replicate listingLength 0 → leftBy x c ≡ x → Outcome x y c e
+  -- 12 to 14 zero the listing or report, and change nothing else
+  unlisted : 12 ≤ e .answer .number → e .answer .number ≤ 14 → e .listing ≡ replicate (rightLength c) 0 → leftBy x c ≡ x → Outcome x y c e
   -- 15 to 19 leave the listing filled, and change nothing else
   listed : {m : Resolved.Model} {s : State} {es : List Entry} → y ≡ holding m s → IsListing m s es
       → 15 ≤ e .answer .number → e .answer .number ≤ 19 → e .listing ≡ listingNumbers es → leftBy x c ≡ x → Outcome x y c e
   -- list and step are accepted: the listing is filled, as Transitions.antt says
   accepted : {m : Resolved.Model} {s : State} {es : List Entry} → y ≡ holding m s → IsListing m s es
       → e .answer .number ≡ 0 → e .listing ≡ listingNumbers es → e .model ≡ x .model → Outcome x y c e
+  -- 02, note 6: a report is accepted: the shares of the listing, as Transitions.antt says, and nothing moves
+  reported : {m : Resolved.Model} {s : State} {es : List Entry} → y ≡ holding m s → IsListing m s es
+      → e .answer .number ≡ 0 → e .listing ≡ reportOf m s es → leftBy x c ≡ x → Outcome x y c e

@@ -1,23 +1,29 @@
--- What an accepted listing of an engine shows, and what a step of the same engine takes and leaves (01, Transitions, Step). Definitions only.
+-- What an accepted listing of an engine shows, what a step of the same engine takes and leaves (01, Transitions, Step), and what a report shares (02, note 6). Definitions only.
 use mathlib.Core.Path.{_≡_}
-use mathlib.Core.List.{List}
+use mathlib.Core.List.{List, List·Memᴰ as In}
 use mathlib.Core.Option.{some}
-use Prim.Native.Nat.{ℕ, _≤_}
-use lib.ListN.{length}
+use Prim.Native.Nat.{ℕ, _≤_, _<_}
+use lib.ListN.{length, getD}
+use Rattle.grammar.specs.Syntax
 use Rattle.model.specs.Resolved
+use Rattle.model.specs.Resolved.{sumNumber}
+use Rattle.model.specs.Stands.{WrittenIn}
+use Rattle.model.specs.Questions.{Yes5}
 use Rattle.model.specs.Held.{held}
 use Rattle.rules.specs.Rules.{Nth, Change, Key, Moves}
 use Rattle.rules.specs.Listing.{Entry, entry}
 use Rattle.rules.specs.Pairs.{pairsAfter}
 use Rattle.rules.specs.Draw.{weights, total, chosen, isChosen, count}
+use Rattle.rules.specs.Subtotals.{actor, subtotal}
 use Rattle.machine.specs.Offer.{Process, branches}
 use Rattle.machine.specs.State.{State, stateNumbers}
-use Rattle.machine.specs.Machine.{entryLimit, listingLength, totalLimit, listedAs, Turn, Machine, holding}
+use Rattle.machine.specs.Report.{reportLength, definitionAt, reportOf}
+use Rattle.machine.specs.Machine.{entryLimit, listingLength, totalLimit, listedAs, reportedAs, Turn, Machine, holding}
 use Rattle.machine.specs.Questions.{Evaluated, IsListing, Chosen, AllGiven, Steps}
 use Rattle.buffers.specs.Held.{modelBytes}
 use Rattle.buffers.specs.Listing.{listingNumbers}
 use Rattle.buffers.specs.Effect.{Effect}
-use Rattle.buffers.specs.Calls.{Engine, own, listing, stepping, effect, leftBy}
+use Rattle.buffers.specs.Calls.{Engine, own, listing, stepping, reporting, effect, leftBy}
 
 -- 01, Step: what is left of an engine by any step that is lent right lengths, where es is listed: 15 to 19 or acceptance, as the questions say
 pub record Leaves (x : Engine) (m : Resolved.Model) (s : State) (es : List Entry) (d : ℕ) (e : Effect) : Type 0 where
@@ -47,6 +53,29 @@ pub record Takes (m : Resolved.Model) (s : State) (es : List Entry) (d : ℕ) (e
   pub listed : e .listing ≡ listingNumbers es
   pub state : e .state ≡ stateNumbers (record { processes = processes; pairs = pairsAfter change (s .pairs) })
 
+-- 02, note 6: a process carries the number of the definition whose text holds its sum, as the text reads
+pub record Carried (text : List ℕ) (p : Process) : Type 0 where
+  pub tree : Syntax.Model
+  pub reads : Yes5 text tree
+  pub sum : Syntax.Sum
+  pub number : sumNumber sum ≡ p .sum
+  pub written : WrittenIn tree (p .definition) sum
+
+-- 02, note 6: what a report leaves that is lent right lengths, where es is listed
+pub record Shares (x : Engine) (m : Resolved.Model) (s : State) (es : List Entry) (l : List ℕ) : Type 0 where
+  -- accepted as the listing is, with its count and total; nothing moves
+  pub answer : effect x (reporting own own l) .answer ≡ reportedAs (reportOf m s es) es
+  pub stays : leftBy x (reporting own own l) ≡ x
+  -- one weight sum for each definition, then zeros, in 64 numbers
+  pub numbers : effect x (reporting own own l) .listing ≡ reportOf m s es
+  pub long : length (effect x (reporting own own l) .listing) ≡ reportLength
+  pub each : (d : ℕ) → d < length (m .definitions) → getD (effect x (reporting own own l) .listing) d 0 ≡ subtotal (definitionAt s) es d
+  pub beyond : (d : ℕ) → length (m .definitions) ≤ d → getD (effect x (reporting own own l) .listing) d 0 ≡ 0
+  -- an entry counts for the definition of the process that acts, a handshake for its sender's
+  pub counts : (k : Key) (w : ℕ) → In (entry k w) es → (p : Process) × Nth (s .processes) (actor k) p × (definitionAt s (entry k w) ≡ p .definition)
+  -- added in definition order they equal the listing's total
+  pub sum : total (effect x (reporting own own l) .listing) ≡ total (weights es)
+
 -- 01, Transitions: what an accepted list call of an engine shows, where y is the rule machine that was fed the same calls, and l the listing buffer lent
 pub record Shows (x : Engine) (y : Machine) (l : List ℕ) : Type 0 where
   -- the model and the state that the buffers hold
@@ -57,6 +86,7 @@ pub record Shows (x : Engine) (y : Machine) (l : List ℕ) : Type 0 where
   pub model-buffer : x .model ≡ modelBytes text
   pub text-holds : held text ≡ some model
   pub state-buffer : x .state ≡ stateNumbers state
+  pub carried : {i : ℕ} {p : Process} → Nth (state .processes) i p → Carried text p
   -- the entries are the derivable transitions, each once and in order, and nothing that was evaluated lacked a value
   pub entries : List Entry
   pub derivable : IsListing model state entries
@@ -74,3 +104,5 @@ pub record Shows (x : Engine) (y : Machine) (l : List ℕ) : Type 0 where
   -- a step of the same engine draws from this same listing
   pub steps : (l : List ℕ) (d : ℕ) → length l ≡ listingLength → Leaves x model state entries d (effect x (stepping own own l d))
   pub takes : (l : List ℕ) (d : ℕ) → length l ≡ listingLength → effect x (stepping own own l d) .answer .number ≡ 0 → Takes model state entries d (effect x (stepping own own l d))
+  -- 02, note 6: a report on the same engine shares this same listing
+  pub shares : (l : List ℕ) → length l ≡ reportLength → Shares x model state entries l

@@ -1,9 +1,10 @@
 // Runs a script of calls from standard input, or from each file that an argument names, after a line `== NAME`. Each script has a fresh engine.
 //
-// A script has lines `open N`, which a text of N bytes and an LF follow, `list`, `step D` and `state`. N and D are decimal digits alone, below 2^64, leading zeros or not, after
+// A script has lines `open N`, which a text of N bytes and an LF follow, `list`, `step D`, `report` and `state`. N and D are decimal digits alone, below 2^64, leading zeros or not, after
 // a single blank. Every line ends with an LF, also the last. Lines are counted from 1 by their LFs, those within texts too.
 //
-// open, list and step print `number place branch count total chosen`, then each entry of the listing on a line of its own, after two blanks; `state` prints the state's numbers.
+// open, list, step and report print `number place branch count total chosen`, then each entry of the listing on a line of its own, after two blanks, and a report that is accepted
+// its 64 numbers on one such line; `state` prints the state's numbers.
 // A line of another form prints `bad,LINE` and ends the script; so does `open N` whose text is cut short or has no LF after it. Nothing is called for it.
 // A text is lent to open up to 16,385 bytes: as many are too many already, so the bytes after them change no answer.
 use engine::Engine;
@@ -26,7 +27,9 @@ impl Limits {
     // Bytes of one read.
     const READ: usize = 65536;
 
-    // The entry count among an answer's numbers.
+    // The refusal's number and the entry count among an answer's numbers.
+    const NUMBER: usize = 0;
+
     const COUNT: usize = 3;
 }
 
@@ -74,7 +77,31 @@ fn lent(size: u64) -> u64 {
     most
 }
 
-// Makes one call by a row of a script, and puts its answer and as many entries as it counts: none where the listing isn't filled.
+// Makes one call by a row of a script, which is lent so many numbers of the listing, and answers.
+fn make_call(
+    kind: u64,
+    first: u64,
+    size: u64,
+    listed: u64,
+    text: &Text,
+    model: &mut Model,
+    state: &mut State,
+    listing: &mut Listing,
+) -> [u64; Row::ANSWER] {
+    let row = [
+        kind,
+        first,
+        size,
+        Engine::MODEL as u64,
+        Engine::STATE as u64,
+        listed,
+    ];
+    let mut answer = [0u64; Row::ANSWER];
+    script::run(&row, text, model, state, listing, &mut answer);
+    answer
+}
+
+// Puts a call's answer and as many entries as it counts: none where the listing isn't filled.
 fn put_call(
     out: &mut Buffer,
     waits: usize,
@@ -86,18 +113,37 @@ fn put_call(
     state: &mut State,
     listing: &mut Listing,
 ) -> usize {
-    let row = [
-        kind,
-        first,
-        size,
-        Engine::MODEL as u64,
-        Engine::STATE as u64,
-        Engine::LISTING as u64,
-    ];
-    let mut answer = [0u64; Row::ANSWER];
-    script::run(&row, text, model, state, listing, &mut answer);
+    let listed = Engine::LISTING as u64;
+    let answer = make_call(kind, first, size, listed, text, model, state, listing);
     let n = output::put_line(out, waits, &answer, b' ');
     output::put_entries(out, n, listing, answer[Limits::COUNT], b"  ", b' ')
+}
+
+// Puts the numbers of a report on a line that begins with two blanks.
+fn put_numbers(out: &mut Buffer, waits: usize, report: &[u64]) -> usize {
+    if report.len() < Engine::REPORT {
+        return waits;
+    }
+    let n = output::put(out, waits, b"  ");
+    output::put_line(out, n, &report[..Engine::REPORT], b' ')
+}
+
+// Puts a report's answer, and its numbers where it is accepted.
+fn put_report(
+    out: &mut Buffer,
+    waits: usize,
+    text: &Text,
+    model: &mut Model,
+    state: &mut State,
+    listing: &mut Listing,
+) -> usize {
+    let listed = Engine::REPORT as u64;
+    let answer = make_call(Row::REPORT, 0, 0, listed, text, model, state, listing);
+    let n = output::put_line(out, waits, &answer, b' ');
+    if answer[Limits::NUMBER] != 0 {
+        return n;
+    }
+    put_numbers(out, n, listing)
 }
 
 // Does what an item of the script asks for.
@@ -125,6 +171,7 @@ fn ask(
         Line::List => put_call(out, waits, Row::LIST, 0, 0, text, model, state, listing),
         Line::Step(draw) => put_call(out, waits, Row::STEP, draw, 0, text, model, state, listing),
         Line::State => output::put_signed_line(out, waits, state, b' '),
+        Line::Report => put_report(out, waits, text, model, state, listing),
         Line::Bad => waits,
     }
 }

@@ -231,21 +231,21 @@ module _ (bs : List ℕ) (zs : List ℤ) (l : List ℕ) (d : ℕ) where
   eleven-steps = record { number = refl; place = refl; branch = refl; count = refl; total = refl; chosen = refl; model = refl; state = refl; listing = refl }
 
   -- 01, 12 to 14: zero the listing
-  choosing-gives : (m : Resolved.Model) (s : State) {x : Listed} → Refuses x → stateNumbers s ≡ zs → (n p c : ℕ) (b : List ℕ) → Refused n p c ≡ listedAnswer x → b ≡ buffer.listingNumbers x
+  choosing-gives : length l ≡ listingLength → (m : Resolved.Model) (s : State) {x : Listed} → Refuses x → stateNumbers s ≡ zs → (n p c : ℕ) (b : List ℕ) → Refused n p c ≡ listedAnswer x → b ≡ buffer.listingNumbers x
       → Gives (leaves bs zs l (choosing m s d x)) (bare n p c) bs zs b
   unfolding leaves choosing turn no stateIn shown listedAnswer buffer.listingNumbers
-  choosing-gives m s entriesOf e n p c b q f = let z : _≡_ {A = ℕ} 0 1 = cc in absurd (omega arith)
-  choosing-gives m s (refuses i j k) e n p c b q f =
-      record { number = cc; place = cc; branch = cc; count = refl; total = refl; chosen = refl; model = refl; state = sym e; listing = f }
+  choosing-gives long m s entriesOf e n p c b q f = let z : _≡_ {A = ℕ} 0 1 = cc in absurd (omega arith)
+  choosing-gives long m s (refuses i j k) e n p c b q f =
+      record { number = cc; place = cc; branch = cc; count = refl; total = refl; chosen = refl; model = refl; state = sym e; listing = f ∙ ap (λ (i : ℕ). replicate i 0) (sym long) }
 
-  pub refused-gives : (m : Resolved.Model) (n p c : ℕ) (b : List ℕ) → Finds m zs l (Refused n p c) b → Gives (leaves bs zs l (stepsOn (machineOver zs (some m)) d)) (bare n p c) bs zs b
+  pub refused-gives : length l ≡ listingLength → (m : Resolved.Model) (n p c : ℕ) (b : List ℕ) → Finds m zs l (Refused n p c) b → Gives (leaves bs zs l (stepsOn (machineOver zs (some m)) d)) (bare n p c) bs zs b
   unfolding stepsOn
-  refused-gives m n p c b (closed e q f) =
+  refused-gives long m n p c b (closed e q f) =
       let i : n ≡ 11 = cc in
       let j : p ≡ 0 = cc in
       let k : c ≡ 0 = cc in
       rw (e, i, j, k, f) eleven-steps
-  refused-gives m n p c b (holding {s} e g z h) = rw e (choosing-gives m s (listing-is m s) (sym z) n p c b (h .answer) (h .numbers))
+  refused-gives long m n p c b (holding {s} e g z h) = rw e (choosing-gives long m s (listing-is m s) (sym z) n p c b (h .answer) (h .numbers))
 
 -- ---- a listing that is found
 pub record Found (t roots scopes : List ℕ) (root variables : ℕ) (zs : List ℤ) (b : List ℕ) (count sum : ℕ) (m : Resolved.Model) : Type 0 where

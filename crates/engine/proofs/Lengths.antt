@@ -12,7 +12,7 @@ use lib.ListN.{length, take, drop}
 use Rattle.model.specs.Opening.{opening}
 use Rattle.model.specs.Held.{held}
 use Rattle.machine.specs.State.{stateLength}
-use Rattle.machine.specs.Machine.{modelLength, listingLength, no, lent, Machine, Turn, closed}
+use Rattle.machine.specs.Machine.{modelLength, no, lent, Machine, Turn, closed}
 use Rattle.buffers.specs.Held.{lengthIn, textIn, heldIn}
 use Rattle.buffers.specs.Effect.{untouched, machineOver, machineIn, leaves, whenLent, opensWith, openEffect}
 use Rattle.engine.specs.Gives.{Gives, bare}
@@ -56,23 +56,23 @@ module _ (bs : List ℕ) (zs : List ℤ) where
     unfolding openEffect
     open-right h g = rw (lent-both h g)
 
-  -- ---- list and step
-  module _ (l : List ℕ) (t : Turn Machine) where
-    pub turn-model : (length bs ≡ modelLength → ⊥) → Gives (whenLent bs zs l t) (bare 1 0 0) bs zs l
+  -- ---- list, step and report, whose third buffer has this right length
+  module _ (right : ℕ) (l : List ℕ) (t : Turn Machine) where
+    pub turn-model : (length bs ≡ modelLength → ⊥) → Gives (whenLent right bs zs l t) (bare 1 0 0) bs zs l
     unfolding whenLent
     turn-model h = rw (lent-model h) (untouched-gives bs zs l)
 
-    pub turn-state : (length zs ≡ stateLength → ⊥) → Gives (whenLent bs zs l t) (bare 1 0 0) bs zs l
+    pub turn-state : (length zs ≡ stateLength → ⊥) → Gives (whenLent right bs zs l t) (bare 1 0 0) bs zs l
     unfolding whenLent
     turn-state h = rw (lent-state h) (untouched-gives bs zs l)
 
-    pub turn-listing : (length l ≡ listingLength → ⊥) → Gives (whenLent bs zs l t) (bare 1 0 0) bs zs l
+    pub turn-listing : (length l ≡ right → ⊥) → Gives (whenLent right bs zs l t) (bare 1 0 0) bs zs l
     unfolding whenLent
-    turn-listing h = rw (ne-eqb (length l) listingLength h, and-false (lent (length bs) (length zs))) (untouched-gives bs zs l)
+    turn-listing h = rw (ne-eqb (length l) right h, and-false (lent (length bs) (length zs))) (untouched-gives bs zs l)
 
-    pub turn-right : length bs ≡ modelLength → length zs ≡ stateLength → length l ≡ listingLength → whenLent bs zs l t ≡ leaves bs zs l t
+    pub turn-right : length bs ≡ modelLength → length zs ≡ stateLength → length l ≡ right → whenLent right bs zs l t ≡ leaves bs zs l t
     unfolding whenLent
-    turn-right h g f = rw (lent-both h g, eq-eqb (length l) listingLength f)
+    turn-right h g f = rw (lent-both h g, eq-eqb (length l) right f)
 
   -- ---- the machine in the buffers
   pub none-in : heldIn bs ≡ none → machineIn bs zs ≡ closed

@@ -7,3 +7,4 @@ pub mod Shows
 pub mod Openings
 pub mod Lengths
 pub mod Drawn
+pub mod Reported

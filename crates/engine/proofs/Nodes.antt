@@ -1,6 +1,6 @@
 -- What stands at the nodes of sums, whole numbers and items, by the kind of the node. From the tables' definitions.
-use mathlib.Core.Path.{_≡_, sym, ap, subst, _∙_}
-use mathlib.Core.List.{List, [], _∷_, _++_, append-nil}
+use mathlib.Core.Path.{_≡_, sym, ap, subst, _∙_, refl, ap₂}
+use mathlib.Core.List.{List, [], _∷_, _++_, append-nil, map}
 use mathlib.Core.Option.{Option·elim}
 use Prim.Native.Nat.{ℕ, _+_, _-_, _≤_, _<_}
 use native.Mathlib.Omega.{arith}
@@ -13,7 +13,7 @@ use Rattle.value.specs.declared.Value.{Value}
 use Rattle.value.specs.declared.Value.the-variants.{Is}
 use Rattle.value.specs.Range.{InRange}
 use Rattle.model.specs.Resolved
-use Rattle.model.specs.Good.{Every, GoodExpr, GoodDefined, GoodStart, GoodModel}
+use Rattle.model.specs.Good.{Every, GoodExpr, GoodDefined, GoodStart, GoodModel, GoodSum, SumWith}
 use Rattle.model.specs.Limits.{localLimit}
 use Rattle.tables.specs.Settled.{Number, Expr}
 use Rattle.tables.specs.Represents.{Sums, Wholes, Start, bare, valued, Starts}
@@ -22,12 +22,15 @@ use Rattle.machine.specs.Evaluate.{evalExpr}
 use Rattle.eval.specs.Held.{Held, Worth}
 use Rattle.eval.proofs.Rows.{filled}
 use Rattle.tables.proofs.Parts.{pair-above, pair-second}
-use Rattle.machine.specs.Offer.{Process, called}
+use Rattle.machine.specs.Offer.{Process, called, processAt, definitionOf}
 use Rattle.machine.specs.Machine.{copies, startProcesses}
 use Rattle.machine.proofs.Branches.{get-nth}
 use Rattle.machine.proofs.Everys.{every-nth}
-use Rattle.state.specs.Change.{processAdded}
-use Rattle.eval.specs.Next.{entered, Defines}
+use Rattle.state.specs.Change.{processPushed}
+use Rattle.model.specs.Scope.{definitionIn}
+use Rattle.model.proofs.Scope.{definition-in}
+use Rattle.rules.proofs.Inside.{nth-inside}
+use Rattle.eval.specs.Next.{entered, Defines, Scoped, known as knownAs}
 use Rattle.engine.specs.Start.{Adds, Roomy, SumsFit, CopiesFit, WholesFit, Items, only, ItemFits, ItemsFit}
 use Rattle.engine.proofs.Towards.{Takes, adds-one, adds-then, roomy-takes, roomy-first, roomy-after, copies-more, copies-left}
 
@@ -52,48 +55,57 @@ module _ (t : List ℕ) (k : ℕ) where
   more-sums h (n ∷ []) a = absurd (omega (arith, a .kind-is))
   more-sums h (n ∷ o ∷ ns) a = record { rest = o ∷ ns; is = ap (λ (x : ℕ). x ∷ o ∷ ns) (sym (a .holds-first .index-is)); above = pair-above a; holds = pair-second a }
 
-module _ (t : List ℕ) (k : ℕ) (ls zs : List ℤ) where
+module _ (t known : List ℕ) (k : ℕ) (ls zs : List ℤ) where
   -- the process that stands for the sum at a node
   abbrev pub atNode : ℕ → Process
-  atNode j = record { sum = tokenOf (getD t j 0); locals = ls }
+  atNode j = knownAs known (tokenOf (getD t j 0)) ls
 
-  pub sums-take : SumsFit t k ls zs → Takes zs ls
-  unfolding Sums entered
+  pub sums-take : SumsFit t known k ls zs → Takes zs ls
+  unfolding Sums entered knownAs
   sums-take f = go (f .sums) (f .holds) (f .room)
     where
-      go : (ns : List ℕ) → Sums t ns k → Roomy (entered ns ls) zs → Takes zs ls
+      go : (ns : List ℕ) → Sums t ns k → Roomy (entered known ns ls) zs → Takes zs ls
       go [] a r = absurd a
-      go (n ∷ ns) a r = roomy-takes (record { sum = n; locals = ls }) (entered ns ls) zs r
+      go (n ∷ ns) a r = roomy-takes (knownAs known n ls) (entered known ns ls) zs r
 
-  pub last-adds : (kindOf (getD t k 0) ≡ 55 → ⊥) → (ys : List ℤ) → ys ≡ processAdded (tokenOf (getD t k 0)) ls zs → (ns : List ℕ) → Sums t ns k → Adds (entered ns ls) zs ys
-  unfolding entered
+  -- the numbers of its sums are known of
+  pub last-below : (kindOf (getD t k 0) ≡ 55 → ⊥) → SumsFit t known k ls zs → tokenOf (getD t k 0) < length known
+  unfolding Every
+  last-below h f = (rw (last-sum t k h (f .sums) (f .holds)) at (f .below)) .0
+
+  pub first-below : kindOf (getD t k 0) ≡ 55 → SumsFit t known k ls zs → tokenOf (getD t (leftOf (getD t k 0)) 0) < length known
+  unfolding Every
+  first-below h f = (rw (more-sums t k h (f .sums) (f .holds) .is) at (f .below)) .0
+
+  pub last-adds : (kindOf (getD t k 0) ≡ 55 → ⊥) → (ys : List ℤ) → ys ≡ processPushed (tokenOf (getD t k 0)) ls (definitionIn (getD known (tokenOf (getD t k 0)) 0)) zs → (ns : List ℕ) → Sums t ns k → Adds (entered known ns ls) zs ys
+  unfolding entered knownAs
   last-adds h ys e ns a = rw (last-sum t k h ns a) (adds-one (atNode k) zs ys e)
 
-  module _ (h : kindOf (getD t k 0) ≡ 55) (xs : List ℤ) (e : xs ≡ processAdded (tokenOf (getD t (leftOf (getD t k 0)) 0)) ls zs) where
-    pub rest-fits : SumsFit t k ls zs → (1 ≤ k) × SumsFit t (k - 1) ls xs
-    unfolding entered
+  module _ (h : kindOf (getD t k 0) ≡ 55) (xs : List ℤ) (e : xs ≡ processPushed (tokenOf (getD t (leftOf (getD t k 0)) 0)) ls (definitionIn (getD known (tokenOf (getD t (leftOf (getD t k 0)) 0)) 0)) zs) where
+    pub rest-fits : SumsFit t known k ls zs → (1 ≤ k) × SumsFit t known (k - 1) ls xs
+    unfolding entered knownAs Every
     rest-fits f =
         let s = more-sums t k h (f .sums) (f .holds) in
         let p = atNode (leftOf (getD t k 0)) in
-        (s .above, record { sums = s .rest; holds = s .holds; room = roomy-after (p ∷ []) (entered (s .rest) ls) (adds-one p zs xs e) (rw (s .is) at (f .room)) })
+        (s .above, record { sums = s .rest; holds = s .holds; below = (rw (s .is) at (f .below)) .1; room = roomy-after (p ∷ []) (entered known (s .rest) ls) (adds-one p zs xs e) (rw (s .is) at (f .room)) })
 
-    pub more-adds : (ys : List ℤ) → ((ns : List ℕ) → Sums t ns (k - 1) → Adds (entered ns ls) xs ys) → (ns : List ℕ) → Sums t ns k → Adds (entered ns ls) zs ys
-    unfolding entered
+    pub more-adds : (ys : List ℤ) → ((ns : List ℕ) → Sums t ns (k - 1) → Adds (entered known ns ls) xs ys) → (ns : List ℕ) → Sums t ns k → Adds (entered known ns ls) zs ys
+    unfolding entered knownAs
     more-adds ys w ns a =
         let s = more-sums t k h ns a in
         let p = atNode (leftOf (getD t k 0)) in
-        rw (s .is) (adds-then (p ∷ []) (entered (s .rest) ls) (adds-one p zs xs e) (w (s .rest) (s .holds)))
+        rw (s .is) (adds-then (p ∷ []) (entered known (s .rest) ls) (adds-one p zs xs e) (w (s .rest) (s .holds)))
 
 -- ---- copies
-module _ (t : List ℕ) (k : ℕ) (ls zs ys : List ℤ) (count i : ℕ) (w : (ns : List ℕ) → Sums t ns k → Adds (copies i (entered ns ls)) zs ys) where
-  pub copy-fits : i < count → CopiesFit t k ls zs count → SumsFit t k ls ys
+module _ (t known : List ℕ) (k : ℕ) (ls zs ys : List ℤ) (count i : ℕ) (w : (ns : List ℕ) → Sums t ns k → Adds (copies i (entered known ns ls)) zs ys) where
+  pub copy-fits : i < count → CopiesFit t known k ls zs count → SumsFit t known k ls ys
   copy-fits l f =
-      let x = entered (f .sums) ls in
+      let x = entered known (f .sums) ls in
       let e = copies-left count i x l in
-      record { sums = f .sums; holds = f .holds; room = roomy-first x (copies (count - i - 1) x) ys (roomy-after (copies i x) (x ++ copies (count - i - 1) x) (w (f .sums) (f .holds)) (rw e at (f .room))) }
+      record { sums = f .sums; holds = f .holds; below = f .below; room = roomy-first x (copies (count - i - 1) x) ys (roomy-after (copies i x) (x ++ copies (count - i - 1) x) (w (f .sums) (f .holds)) (rw e at (f .room))) }
 
-  pub copy-adds : (xs : List ℤ) → ((ns : List ℕ) → Sums t ns k → Adds (entered ns ls) ys xs) → (ns : List ℕ) → Sums t ns k → Adds (copies (i + 1) (entered ns ls)) zs xs
-  copy-adds xs v ns a = rw (copies-more i (entered ns ls)) (adds-then (copies i (entered ns ls)) (entered ns ls) (w ns a) (v ns a))
+  pub copy-adds : (xs : List ℤ) → ((ns : List ℕ) → Sums t ns k → Adds (entered known ns ls) ys xs) → (ns : List ℕ) → Sums t ns k → Adds (copies (i + 1) (entered known ns ls)) zs xs
+  copy-adds xs v ns a = rw (copies-more i (entered known ns ls)) (adds-then (copies i (entered known ns ls)) (entered known ns ls) (w ns a) (v ns a))
 
 -- ---- whole numbers
 module _ (t : List ℕ) (k : ℕ) where
@@ -169,8 +181,27 @@ module _ (t : List ℕ) (k : ℕ) where
     pub values-put : (v g : List ℤ) → length v ≡ 8 → thirdOf (getD t k 0) ≤ 8 → ((zs : List ℤ) → Wholes t zs (k - 1) → g ≡ sets v 0 zs) → (s : Resolved.Start) → Start t s k → take (thirdOf (getD t k 0)) g ≡ s .values
     values-put v g l f u s a = let q = item-third s a in rw (q, u (s .values) (values-at s a .1)) (filled v (s .values) (omega arith))
 
+-- ---- what is known of sums (as in eval: Puts)
+module _ (m : Resolved.Model) (good : GoodModel m) (known : List ℕ) (c : Scoped known m) where
+  sums-below : (l : ℕ) (ns : List ℕ) → Every (SumWith m l) ns → Every (λ (n : ℕ). n < length known) ns
+  unfolding Every
+  sums-below l [] h = tt
+  sums-below l (n ∷ ns) h = (omega (arith, nth-inside (get-nth (m .sums) n (h .0 .exists)), c .fit), sums-below l ns (h .1))
+
+  sum-known : (l n : ℕ) → SumWith m l n → (vs : List ℤ) → processAt m n vs ≡ knownAs known n vs
+  unfolding processAt definitionOf knownAs Option·elim
+  sum-known l n s vs =
+      let few = every-nth (GoodSum m) (good .sums) (get-nth (m .sums) n (s .exists)) .few in
+      let e : definitionIn (getD known n 0) ≡ s .sum .definition = ap definitionIn (c .are n (s .sum) (s .exists)) ∙ definition-in (s .sum) few in
+      rw (s .exists, e)
+
+  sums-known : (l : ℕ) (ns : List ℕ) → Every (SumWith m l) ns → (vs : List ℤ) → map (λ (n : ℕ). processAt m n vs) ns ≡ entered known ns vs
+  unfolding Every entered
+  sums-known l [] h vs = refl
+  sums-known l (n ∷ ns) h vs = ap₂ (λ (p : Process) (ps : List Process). p ∷ ps) (sum-known l n (h .0) vs) (sums-known l ns (h .1) vs)
+
 -- ---- an item's processes
-module _ (t : List ℕ) (root variables k : ℕ) where
+module _ (t : List ℕ) (root variables k : ℕ) (known : List ℕ) where
   -- where the sums of its definition stand
   abbrev pub bodyAt : ℕ
   bodyAt = leftOf (getD t (root - variables - tokenOf (getD t k 0)) 0) - 1
@@ -203,47 +234,51 @@ module _ (t : List ℕ) (root variables k : ℕ) where
           let e : b .root ≡ bodyAt = rw item-definition (omega (arith, b .above)) in
           subst (Sums t (h .callable .definition .sums)) e (b .holds)
 
-      pub item-processes : startProcesses m (only s) ≡ copies (leftOf (getD t k 0)) (entered (h .callable .definition .sums) (s .values))
+      item-sums : GoodModel m → Every (SumWith m (h .callable .definition .params)) (h .callable .definition .sums)
+      item-sums g = every-nth (GoodDefined m) (g .definitions) (get-nth (m .definitions) (s .definition) (h .callable .exists)) .sums
+
+      pub item-processes : GoodModel m → Scoped known m → startProcesses m (only s) ≡ copies (leftOf (getD t k 0)) (entered known (h .callable .definition .sums) (s .values))
       unfolding startProcesses called entered Option·elim
-      item-processes = rw (h .callable .exists, item-count) (append-nil _)
+      item-processes g c = rw (h .callable .exists, item-count) (append-nil _ ∙ ap (copies (s .count)) (sums-known m g known c (h .callable .definition .params) (h .callable .definition .sums) (item-sums g) (s .values)))
 
   -- what is lent of the array, where its values are those of whatever item stands there
-  pub item-copies : (v zs : List ℤ) → ((s : Resolved.Start) → Start t s k → v ≡ s .values) → ItemFits t root variables k zs → CopiesFit t bodyAt v zs (leftOf (getD t k 0))
+  pub item-copies : (v zs : List ℤ) → ((s : Resolved.Start) → Start t s k → v ≡ s .values) → ItemFits t known root variables k zs → CopiesFit t known bodyAt v zs (leftOf (getD t k 0))
   unfolding Every
   item-copies v zs w f =
       let m = f .model in
       let s = f .start in
       let h = f .items .fit .0 in
-      let e = item-processes m s (f .holds) (f .items .defines) h in
-      record { sums = h .callable .definition .sums; holds = body-sums m s (f .holds) (f .items .defines) h; room = rw (w s (f .holds)) (rw e at (f .items .room)) }
+      let e = item-processes m s (f .holds) (f .items .defines) h (f .items .good) (f .items .scoped) in
+      let below = sums-below m (f .items .good) known (f .items .scoped) (h .callable .definition .params) (h .callable .definition .sums) (item-sums m s (f .holds) (f .items .defines) h (f .items .good)) in
+      record { sums = h .callable .definition .sums; holds = body-sums m s (f .holds) (f .items .defines) h; below = below; room = rw (w s (f .holds)) (rw e at (f .items .room)) }
 
-  pub item-adds : (v zs ys : List ℤ) → ((s : Resolved.Start) → Start t s k → v ≡ s .values) → ((ns : List ℕ) → Sums t ns bodyAt → Adds (copies (leftOf (getD t k 0)) (entered ns v)) zs ys)
-      → (m : Resolved.Model) (s : Resolved.Start) → Defines t root variables m → GoodStart m s → Start t s k → Adds (startProcesses m (only s)) zs ys
-  item-adds v zs ys w u m s d h a = rw (item-processes m s a d h, ← w s a) (u (h .callable .definition .sums) (body-sums m s a d h))
+  pub item-adds : (v zs ys : List ℤ) → ((s : Resolved.Start) → Start t s k → v ≡ s .values) → ((ns : List ℕ) → Sums t ns bodyAt → Adds (copies (leftOf (getD t k 0)) (entered known ns v)) zs ys)
+      → (m : Resolved.Model) (s : Resolved.Start) → Defines t root variables m → GoodModel m → Scoped known m → GoodStart m s → Start t s k → Adds (startProcesses m (only s)) zs ys
+  item-adds v zs ys w u m s d g c h a = rw (item-processes m s a d h g c, ← w s a) (u (h .callable .definition .sums) (body-sums m s a d h))
 
 -- ---- the items of the system line
-module _ (t : List ℕ) (root variables k : ℕ) (zs : List ℤ) where
-  pub last-item : (kindOf (getD t k 0) ≡ 62 → ⊥) → ItemsFit t root variables k zs → ItemFits t root variables k zs
+module _ (t : List ℕ) (root variables k : ℕ) (zs : List ℤ) (known : List ℕ) where
+  pub last-item : (kindOf (getD t k 0) ≡ 62 → ⊥) → ItemsFit t known root variables k zs → ItemFits t known root variables k zs
   unfolding Starts
   last-item h f = go (f .starts) (f .holds) (f .items)
     where
-      go : (ss : List Resolved.Start) → Starts t ss k → Items t root variables (f .model) ss zs → ItemFits t root variables k zs
+      go : (ss : List Resolved.Start) → Starts t ss k → Items t known root variables (f .model) ss zs → ItemFits t known root variables k zs
       go [] a i = absurd a
       go (s ∷ []) a i = record { model = f .model; start = s; holds = a; items = i }
       go (s ∷ r ∷ ss) a i = absurd (h (a .kind-is))
 
   -- what an item's processes make of the numbers, whatever model it is an item of
   abbrev pub ItemAdds : ℕ → List ℤ → Type 0
-  ItemAdds j ys = (m : Resolved.Model) (s : Resolved.Start) → Defines t root variables m → GoodStart m s → Start t s j → Adds (startProcesses m (only s)) zs ys
+  ItemAdds j ys = (m : Resolved.Model) (s : Resolved.Start) → Defines t root variables m → GoodModel m → Scoped known m → GoodStart m s → Start t s j → Adds (startProcesses m (only s)) zs ys
 
   abbrev pub ItemsAdd : ℕ → List ℤ → List ℤ → Type 0
-  ItemsAdd j xs ys = (m : Resolved.Model) (ss : List Resolved.Start) → Defines t root variables m → Every (GoodStart m) ss → Starts t ss j → Adds (startProcesses m ss) xs ys
+  ItemsAdd j xs ys = (m : Resolved.Model) (ss : List Resolved.Start) → Defines t root variables m → GoodModel m → Scoped known m → Every (GoodStart m) ss → Starts t ss j → Adds (startProcesses m ss) xs ys
 
   pub last-items : (kindOf (getD t k 0) ≡ 62 → ⊥) → (ys : List ℤ) → ItemAdds k ys → ItemsAdd k zs ys
   unfolding Starts Every
-  last-items h ys w m [] d g a = absurd a
-  last-items h ys w m (s ∷ []) d g a = w m s d (g .0) a
-  last-items h ys w m (s ∷ r ∷ ss) d g a = absurd (h (a .kind-is))
+  last-items h ys w m [] d q c g a = absurd a
+  last-items h ys w m (s ∷ []) d q c g a = w m s d q c (g .0) a
+  last-items h ys w m (s ∷ r ∷ ss) d q c g a = absurd (h (a .kind-is))
 
   start-kind : (s : Resolved.Start) → Start t s k → kindOf (getD t k 0) ≡ 62 → ⊥
   start-kind s (bare i e) h = omega (arith, i .kind-is)
@@ -254,25 +289,25 @@ module _ (t : List ℕ) (root variables k : ℕ) (zs : List ℤ) where
   split m s ss = rw (append-nil (copies (s .count) (called m (s .definition) (s .values))))
 
   module _ (h : kindOf (getD t k 0) ≡ 62) where
-    pub first-item : ItemsFit t root variables k zs → ItemFits t root variables (leftOf (getD t k 0)) zs
+    pub first-item : ItemsFit t known root variables k zs → ItemFits t known root variables (leftOf (getD t k 0)) zs
     unfolding Starts Every
     first-item f = go (f .starts) (f .holds) (f .items)
       where
-        go : (ss : List Resolved.Start) → Starts t ss k → Items t root variables (f .model) ss zs → ItemFits t root variables (leftOf (getD t k 0)) zs
+        go : (ss : List Resolved.Start) → Starts t ss k → Items t known root variables (f .model) ss zs → ItemFits t known root variables (leftOf (getD t k 0)) zs
         go [] a i = absurd a
         go (s ∷ []) a i = absurd (start-kind s a h)
         go (s ∷ r ∷ ss) a i = record {
           model = f .model;
           start = s;
           holds = a .holds-first;
-          items = record { good = i .good; defines = i .defines; fit = (i .fit .0, tt); room = roomy-first (startProcesses (f .model) (only s)) (startProcesses (f .model) (r ∷ ss)) zs (rw (split (f .model) s (r ∷ ss)) at (i .room)) };
+          items = record { good = i .good; defines = i .defines; scoped = i .scoped; fit = (i .fit .0, tt); room = roomy-first (startProcesses (f .model) (only s)) (startProcesses (f .model) (r ∷ ss)) zs (rw (split (f .model) s (r ∷ ss)) at (i .room)) };
         }
 
-    pub rest-items : (xs : List ℤ) → ItemAdds (leftOf (getD t k 0)) xs → ItemsFit t root variables k zs → (1 ≤ k) × ItemsFit t root variables (k - 1) xs
+    pub rest-items : (xs : List ℤ) → ItemAdds (leftOf (getD t k 0)) xs → ItemsFit t known root variables k zs → (1 ≤ k) × ItemsFit t known root variables (k - 1) xs
     unfolding Starts Every
     rest-items xs w f = go (f .starts) (f .holds) (f .items)
       where
-        go : (ss : List Resolved.Start) → Starts t ss k → Items t root variables (f .model) ss zs → (1 ≤ k) × ItemsFit t root variables (k - 1) xs
+        go : (ss : List Resolved.Start) → Starts t ss k → Items t known root variables (f .model) ss zs → (1 ≤ k) × ItemsFit t known root variables (k - 1) xs
         go [] a i = absurd a
         go (s ∷ []) a i = absurd (start-kind s a h)
         go (s ∷ r ∷ ss) a i = (
@@ -284,19 +319,20 @@ module _ (t : List ℕ) (root variables k : ℕ) (zs : List ℤ) where
             items = record {
               good = i .good;
               defines = i .defines;
+              scoped = i .scoped;
               fit = i .fit .1;
-              room = roomy-after (startProcesses (f .model) (only s)) (startProcesses (f .model) (r ∷ ss)) (w (f .model) s (i .defines) (i .fit .0) (a .holds-first)) (rw (split (f .model) s (r ∷ ss)) at (i .room));
+              room = roomy-after (startProcesses (f .model) (only s)) (startProcesses (f .model) (r ∷ ss)) (w (f .model) s (i .defines) (i .good) (i .scoped) (i .fit .0) (a .holds-first)) (rw (split (f .model) s (r ∷ ss)) at (i .room));
             };
           },
         )
 
     pub more-items : (xs ys : List ℤ) → ItemAdds (leftOf (getD t k 0)) xs → ItemsAdd (k - 1) xs ys → ItemsAdd k zs ys
     unfolding Starts Every
-    more-items xs ys w u m [] d g a = absurd a
-    more-items xs ys w u m (s ∷ []) d g a = absurd (start-kind s a h)
-    more-items xs ys w u m (s ∷ r ∷ ss) d g a = rw (split m s (r ∷ ss)) (adds-then (startProcesses m (only s)) (startProcesses m (r ∷ ss)) (w m s d (g .0) (a .holds-first)) (u m (r ∷ ss) d (g .1) (pair-second a)))
+    more-items xs ys w u m [] d q c g a = absurd a
+    more-items xs ys w u m (s ∷ []) d q c g a = absurd (start-kind s a h)
+    more-items xs ys w u m (s ∷ r ∷ ss) d q c g a = rw (split m s (r ∷ ss)) (adds-then (startProcesses m (only s)) (startProcesses m (r ∷ ss)) (w m s d q c (g .0) (a .holds-first)) (u m (r ∷ ss) d q c (g .1) (pair-second a)))
 
 -- the item of which it is asked
-pub item-good : {t : List ℕ} {root variables k : ℕ} {zs : List ℤ} (f : ItemFits t root variables k zs) → GoodStart (f .model) (f .start)
+pub item-good : {t known : List ℕ} {root variables k : ℕ} {zs : List ℤ} (f : ItemFits t known root variables k zs) → GoodStart (f .model) (f .start)
 unfolding Every
 item-good f = f .items .fit .0

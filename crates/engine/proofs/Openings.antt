@@ -3,6 +3,7 @@ use mathlib.Core.Path.{_≡_, refl}
 use mathlib.Core.List.{List, []}
 use mathlib.Core.Option.{none}
 use Prim.Native.Nat.{ℕ, _≤_}
+use native.Mathlib.Omega.{arith}
 use lib.IntN.{ℤ, pos}
 use lib.ListN.{length, replicate}
 use Rattle.token.specs.Questions.{textLimit}
@@ -42,9 +43,10 @@ module _ (text t roots scopes : List ℕ) where
   pub short : {x : Model} {k : ℕ} → ModelOpened text t roots scopes x k → length text ≤ textLimit
   short o = opened-short text (o .model) (o .opens)
 
-  pub starts : {x : Model} {k : ℕ} (o : ModelOpened text t roots scopes x k) → start.Opens t (x .root) (x .variables) (x .definitions) (o .model)
+  pub starts : {x : Model} {k : ℕ} (o : ModelOpened text t roots scopes x k) → start.Opens t scopes (x .root) (x .variables) (x .definitions) (o .model)
   starts o = record {
     good = opened-good text (o .model) (o .opens);
+    scoped = record { fit = omega (arith, o .shown .sums-are, o .shown .scopes-fit); are = o .shown .scope };
     defines = o .shown .definition;
     starts = o .shown .starts;
     few = opened-few text (o .model) (o .opens);

@@ -9,6 +9,7 @@ use lib.Dec.{leb}
 use lib.IntN.{ℤ}
 use lib.ListN.{length, getD, take, replicate, length-take, length-map}
 use lib.Seq.{ext-getD, getD-take}
+use Rattle.model.specs.Scope.{scopeOf}
 use Rattle.model.specs.Resolved
 use Rattle.model.specs.Limits.{branchLimit}
 use Rattle.model.specs.Good.{GoodSum}
@@ -53,7 +54,7 @@ module _ (t roots scopes : List ℕ) (sums channels : ℕ) (m : Resolved.Model) 
       same i l =
           let k : i < sums = omega (arith, length-take sums scopes) in
           let n : i < length (scopesOf m) = omega (arith, long) in
-          let w = map-nth (λ (s : Resolved.Sum). s .locals) (m .sums) (get-nth (scopesOf m) i (get-below (scopesOf m) i 0 n)) in
+          let w = map-nth scopeOf (m .sums) (get-nth (scopesOf m) i (get-below (scopesOf m) i 0 n)) in
           getD-take sums scopes i 0 k ∙ r .scope i (w .source) (nth-get (w .at)) ∙ sym (w .is)
 
   pub few-taken : FewLocals (take sums scopes)
@@ -75,7 +76,7 @@ module _ (t roots scopes : List ℕ) (sums channels : ℕ) (m : Resolved.Model) 
     numbers-back = decode-numbers (scopesOf m) (few-scopes m (h .good)) (m .channels) zs l passes
 
     pub state-good : GoodState m (stateOf zs)
-    state-good = fits-good m (stateOf zs) (decode-fits (scopesOf m) (few-scopes m (h .good)) (m .channels) zs l passes)
+    state-good = fits-good m (stateOf zs) (h .good) (decode-fits (scopesOf m) (few-scopes m (h .good)) (m .channels) zs l passes)
 
     pub world : World t roots scopes zs m (stateOf zs)
     world = record {
@@ -143,16 +144,16 @@ module _ (bs : List ℕ) (zs : List ℤ) (l : List ℕ) where
   unfolding leaves lists turn no stateIn shown
   eleven-gives = record { number = refl; place = refl; branch = refl; count = refl; total = refl; chosen = refl; model = refl; state = refl; listing = refl }
 
-  listing-gives : (m : Resolved.Model) (s : State) {x : Listed} → Refuses x → stateNumbers s ≡ zs → (b : List ℕ) → b ≡ buffer.listingNumbers x → Gives (leaves bs zs l (showing m s x)) (answerOf (listedAnswer x)) bs zs b
+  listing-gives : length l ≡ listingLength → (m : Resolved.Model) (s : State) {x : Listed} → Refuses x → stateNumbers s ≡ zs → (b : List ℕ) → b ≡ buffer.listingNumbers x → Gives (leaves bs zs l (showing m s x)) (answerOf (listedAnswer x)) bs zs b
   unfolding leaves showing turn no listedAs stateIn shown answerOf listedAnswer buffer.listingNumbers
-  listing-gives m s (entries {es}) e b f = record { number = refl; place = refl; branch = refl; count = refl; total = refl; chosen = refl; model = refl; state = sym e; listing = f ∙ filled-numbers es }
-  listing-gives m s (refuses n p c) e b f = record { number = refl; place = refl; branch = refl; count = refl; total = refl; chosen = refl; model = refl; state = sym e; listing = f }
+  listing-gives long m s (entries {es}) e b f = record { number = refl; place = refl; branch = refl; count = refl; total = refl; chosen = refl; model = refl; state = sym e; listing = f ∙ filled-numbers es }
+  listing-gives long m s (refuses n p c) e b f = record { number = refl; place = refl; branch = refl; count = refl; total = refl; chosen = refl; model = refl; state = sym e; listing = f ∙ ap (λ (i : ℕ). replicate i 0) (sym long) }
 
-  pub lists-give : (m : Resolved.Model) (s : State) (r : Found) (b : List ℕ) → stateNumbers s ≡ zs → Lists (machine.listing m s) r b → Gives (leaves bs zs l (lists (holding m s))) (answerOf r) bs zs b
+  pub lists-give : length l ≡ listingLength → (m : Resolved.Model) (s : State) (r : Found) (b : List ℕ) → stateNumbers s ≡ zs → Lists (machine.listing m s) r b → Gives (leaves bs zs l (lists (holding m s))) (answerOf r) bs zs b
   unfolding lists
-  lists-give m s r b e h = rw (h .answer) (listing-gives m s (listing-is m s) e b (h .numbers))
+  lists-give long m s r b e h = rw (h .answer) (listing-gives long m s (listing-is m s) e b (h .numbers))
 
-  pub finds-give : (m : Resolved.Model) (r : Found) (b : List ℕ) → Finds m zs l r b → Gives (leaves bs zs l (lists (machineOver zs (some m)))) (answerOf r) bs zs b
+  pub finds-give : length l ≡ listingLength → (m : Resolved.Model) (r : Found) (b : List ℕ) → Finds m zs l r b → Gives (leaves bs zs l (lists (machineOver zs (some m)))) (answerOf r) bs zs b
   unfolding answerOf
-  finds-give m r b (found.closed e q f) = rw (e, q, f) eleven-gives
-  finds-give m r b (found.holding {s} e g z h) = rw e (lists-give m s r b (sym z) h)
+  finds-give long m r b (found.closed e q f) = rw (e, q, f) eleven-gives
+  finds-give long m r b (found.holding {s} e g z h) = rw e (lists-give long m s r b (sym z) h)

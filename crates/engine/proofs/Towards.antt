@@ -12,7 +12,7 @@ use Rattle.machine.specs.Offer.{Process}
 use Rattle.machine.specs.State.{State, stateLength, stateNumbers}
 use Rattle.machine.specs.Machine.{copies}
 use Rattle.state.specs.Test.{at, isBelow}
-use Rattle.state.specs.Change.{processAdded}
+use Rattle.state.specs.Change.{processPushed}
 use Rattle.state.specs.Fits.{FitsProcess, Fits}
 use Rattle.state.specs.Read.{Passed}
 use Rattle.state.proofs.Spliced.{every-left, every-right, every-first}
@@ -62,10 +62,10 @@ module _ (scopes : List ℕ) (channels : ℕ) where
           few = few-of-process scopes (w .few) p process;
         })
 
-    pub pushed : Towards scopes channels (processAdded (p .sum) (p .locals) zs) rest s
+    pub pushed : Towards scopes channels (processPushed (p .sum) (p .locals) (p .definition) zs) rest s
     pushed = record {
       from = record { processes = w .from .processes ++ (p ∷ []); pairs = w .from .pairs };
-      numbers = ap (processAdded (p .sum) (p .locals)) (w .numbers) ∙ push-numbers scopes (w .few) channels (w .from) before p process room;
+      numbers = ap (processPushed (p .sum) (p .locals) (p .definition)) (w .numbers) ∙ push-numbers scopes (w .few) channels (w .from) before p process room;
       joined = w .joined ∙ ap (λ (ps : List Process). record { processes = ps; pairs = w .from .pairs }) (sym (append-assoc (w .from .processes) (p ∷ []) rest));
       few = w .few;
       fits = w .fits;
@@ -75,7 +75,7 @@ module _ (scopes : List ℕ) (channels : ℕ) where
 pub adds-none : (zs : List ℤ) → Adds [] zs zs
 adds-none zs scopes channels rest s w = w
 
-pub adds-one : (p : Process) (zs ys : List ℤ) → ys ≡ processAdded (p .sum) (p .locals) zs → Adds (p ∷ []) zs ys
+pub adds-one : (p : Process) (zs ys : List ℤ) → ys ≡ processPushed (p .sum) (p .locals) (p .definition) zs → Adds (p ∷ []) zs ys
 adds-one p zs ys e scopes channels rest s w = rw e (pushed scopes channels w)
 
 pub adds-then : {zs ys xs : List ℤ} (ps qs : List Process) → Adds ps zs ys → Adds qs ys xs → Adds (ps ++ qs) zs xs

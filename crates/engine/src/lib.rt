@@ -1,8 +1,9 @@
-// An engine: its calls open, list and step, what they answer, its header and the lengths of its buffers.
+// An engine: its calls open, list, step and report, what they answer, its header and the lengths of its buffers.
 pub mod buffer;
 pub mod listings;
 pub mod start;
 pub mod steps;
+pub mod subtotals;
 pub mod texts;
 
 use buffer::Bytes;
@@ -11,8 +12,9 @@ ghost use mathlib.Core.Path.{_≡_};
 ghost use mathlib.Core.List.{[]};
 ghost use lib.ListN.{length};
 ghost use Rattle.machine.specs.State.{stateLength};
-ghost use Rattle.machine.specs.Machine.{modelLength, listingLength, lists, stepsOn};
-ghost use Rattle.buffers.specs.Effect.{machineIn, leaves, openEffect, listEffect, stepEffect};
+ghost use Rattle.machine.specs.Report.{reportLength};
+ghost use Rattle.machine.specs.Machine.{modelLength, listingLength, lists, stepsOn, reports};
+ghost use Rattle.buffers.specs.Effect.{machineIn, leaves, openEffect, listEffect, stepEffect, reportEffect};
 ghost use Rattle.engine.specs.Gives.{bare, filled, Gives};
 
 // What a call answers: 0 or a refusal's number; its place and branch; the listing's entries, their total, and the entry that a step took.
@@ -67,9 +69,11 @@ impl Engine {
     // The lengths of the lent buffers.
     pub const MODEL: usize = 16386;
 
-    pub const STATE: usize = 3586;
+    pub const STATE: usize = 3842;
 
     pub const LISTING: usize = 7168;
+
+    pub const REPORT: usize = 64;
 
     // Closed, no process, no pair.
     pub fn fresh() -> Self
@@ -158,6 +162,37 @@ pub fn step(model: &[u8], state: &mut [i64], listing: &mut [u64], draw: u64) -> 
     step_lent(model, state, listing, draw)
 }
 
+// Reports over buffers of the right lengths.
+fn report_lent(model: &[u8], state: &[i64], report: &mut [u64]) -> Answer
+    requires { ⌜ (length (now model) ≡ modelLength) × (length (now state) ≡ stateLength) × (length (now report) ≡ reportLength) ⌝ }
+    ensures { λ r. ⌜ Gives (leaves (now (model .entry)) (now (state .entry)) (now (report .entry)) (reports (machineIn (now (model .entry)) (now (state .entry))))) r (now (model .entry)) (now (state .entry)) (now (report .exit)) ⌝ }
+{
+    let found = buffer::find_text(model);
+    match found {
+        Text::Nothing => Answer::bare(11, 0, 0),
+        Text::Long(n) => {
+            let end = Bytes::FIRST + n;
+            texts::report_text(&model[Bytes::FIRST..end], state, report)
+        }
+    }
+}
+
+// Lists, and reports the sum of the weights of each definition's processes.
+pub fn report(model: &[u8], state: &[i64], report: &mut [u64]) -> Answer
+    ensures { λ r. ⌜ Gives (reportEffect (now (model .entry)) (now (state .entry)) (now (report .entry))) r (now (model .entry)) (now (state .entry)) (now (report .exit)) ⌝ }
+{
+    if model.len() != Engine::MODEL {
+        return Answer::bare(1, 0, 0);
+    }
+    if state.len() != Engine::STATE {
+        return Answer::bare(1, 0, 0);
+    }
+    if report.len() != Engine::REPORT {
+        return Answer::bare(1, 0, 0);
+    }
+    report_lent(model, state, report)
+}
+
 #[no_mangle]
 pub extern "C" fn matgravel_open(text: &[u8], model: &mut [u8], state: &mut [i64]) -> Answer
     ensures { λ r. ⌜ Gives (openEffect (now (text .entry)) (now (model .entry)) (now (state .entry))) r (now (model .exit)) (now (state .exit)) [] ⌝ }
@@ -182,4 +217,11 @@ pub extern "C" fn matgravel_step(
     ensures { λ r. ⌜ Gives (stepEffect (now (model .entry)) (now (state .entry)) (now (listing .entry)) draw) r (now (model .entry)) (now (state .exit)) (now (listing .exit)) ⌝ }
 {
     step(model, state, listing, draw)
+}
+
+#[no_mangle]
+pub extern "C" fn matgravel_report(model: &[u8], state: &[i64], report: &mut [u64]) -> Answer
+    ensures { λ r. ⌜ Gives (reportEffect (now (model .entry)) (now (state .entry)) (now (report .entry))) r (now (model .entry)) (now (state .entry)) (now (report .exit)) ⌝ }
+{
+    crate::report(model, state, report)
 }

@@ -40,7 +40,7 @@ pub fn listed_answer(listed: Listed) -> Answer
 pub fn list_state(
     nodes: &[u64],
     roots: &[u16],
-    scopes: &[u8],
+    scopes: &[u16],
     sums: usize,
     channels: usize,
     state: &[i64],
@@ -73,7 +73,7 @@ pub fn list_state(
 pub fn list_model(
     nodes: &[u64],
     roots: &[u16],
-    scopes: &[u8],
+    scopes: &[u16],
     sums: usize,
     channels: usize,
     state: &[i64],

@@ -25,7 +25,7 @@ pub struct Fresh;
 
 impl Fresh {
     // The numbers of as many processes as a state holds.
-    pub const NUMBERS: usize = 2304;
+    pub const NUMBERS: usize = 2560;
 }
 
 // Entry c of a listing.
@@ -49,7 +49,7 @@ fn entry_at(listing: &[u64], c: usize) -> Entry
 fn take_row(
     nodes: &[u64],
     roots: &[u16],
-    scopes: &[u8],
+    scopes: &[u16],
     root: usize,
     variables: usize,
     state: &mut [i64],
@@ -92,7 +92,7 @@ fn taken_answer(taken: Taken, count: usize, total: u64, chosen: usize) -> Answer
 fn take_drawn(
     nodes: &[u64],
     roots: &[u16],
-    scopes: &[u8],
+    scopes: &[u16],
     root: usize,
     variables: usize,
     state: &mut [i64],
@@ -121,7 +121,7 @@ fn take_drawn(
 pub fn step_model(
     nodes: &[u64],
     roots: &[u16],
-    scopes: &[u8],
+    scopes: &[u16],
     root: usize,
     variables: usize,
     sums: usize,

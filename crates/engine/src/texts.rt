@@ -11,7 +11,8 @@ ghost use lib.ListN.{length};
 ghost use Rattle.model.specs.Opening.{opening};
 ghost use Rattle.model.specs.Held.{held};
 ghost use Rattle.machine.specs.State.{stateLength};
-ghost use Rattle.machine.specs.Machine.{modelLength, listingLength, lists, stepsOn};
+ghost use Rattle.machine.specs.Report.{reportLength};
+ghost use Rattle.machine.specs.Machine.{modelLength, listingLength, lists, stepsOn, reports};
 ghost use Rattle.buffers.specs.Effect.{machineOver, leaves, opensWith};
 ghost use Rattle.engine.specs.Gives.{Gives};
 
@@ -27,7 +28,7 @@ pub fn open_lent(text: &[u8], model: &mut [u8], state: &mut [i64]) -> Answer
     let mut high = [0u64; question::Limits::TOKENS];
     let mut nodes = [0u64; question::Limits::TOKENS];
     let mut roots = [0u16; question::Limits::TOKENS];
-    let mut scopes = [0u8; question::Limits::TOKENS];
+    let mut scopes = [0u16; question::Limits::TOKENS];
     let mut names = [0u64; question::Limits::TOKENS];
     crate::buffer::put_fresh(model, state);
     let opened = opening::open_text(
@@ -52,6 +53,7 @@ pub fn open_lent(text: &[u8], model: &mut [u8], state: &mut [i64]) -> Answer
                 found.variables,
                 found.definitions,
                 state,
+                &scopes,
             );
             Answer::bare(0, 0, 0)
         }
@@ -70,7 +72,7 @@ pub fn list_text(text: &[u8], state: &[i64], listing: &mut [u64]) -> Answer
     let mut high = [0u64; question::Limits::TOKENS];
     let mut nodes = [0u64; question::Limits::TOKENS];
     let mut roots = [0u16; question::Limits::TOKENS];
-    let mut scopes = [0u8; question::Limits::TOKENS];
+    let mut scopes = [0u16; question::Limits::TOKENS];
     let mut names = [0u64; question::Limits::TOKENS];
     let read = opening::read_model(
         text,
@@ -112,7 +114,7 @@ pub fn step_text(text: &[u8], state: &mut [i64], listing: &mut [u64], draw: u64)
     let mut high = [0u64; question::Limits::TOKENS];
     let mut nodes = [0u64; question::Limits::TOKENS];
     let mut roots = [0u16; question::Limits::TOKENS];
-    let mut scopes = [0u8; question::Limits::TOKENS];
+    let mut scopes = [0u16; question::Limits::TOKENS];
     let mut names = [0u64; question::Limits::TOKENS];
     let read = opening::read_model(
         text,
@@ -140,6 +142,48 @@ pub fn step_text(text: &[u8], state: &mut [i64], listing: &mut [u64], draw: u64)
                 state,
                 listing,
                 draw,
+            )
+        }
+    }
+}
+
+// Reports over a text that a model buffer holds.
+pub fn report_text(text: &[u8], state: &[i64], report: &mut [u64]) -> Answer
+    requires { ⌜ (length (now state) ≡ stateLength) × (length (now report) ≡ reportLength) ⌝ }
+    ensures { λ r. ⌜ ((bs : List ℕ) → Gives (leaves bs (now (state .entry)) (now (report .entry)) (reports (machineOver (now (state .entry)) (held (now (text .entry)))))) r bs (now (state .entry)) (now (report .exit))) ⌝ }
+{
+    let mut kinds = [0u8; Limits::TEXT];
+    let mut places = [0u16; Limits::TEXT];
+    let mut sizes = [0u16; Limits::TEXT];
+    let mut low = [0u64; question::Limits::TOKENS];
+    let mut high = [0u64; question::Limits::TOKENS];
+    let mut nodes = [0u64; question::Limits::TOKENS];
+    let mut roots = [0u16; question::Limits::TOKENS];
+    let mut scopes = [0u16; question::Limits::TOKENS];
+    let mut names = [0u64; question::Limits::TOKENS];
+    let read = opening::read_model(
+        text,
+        &mut kinds,
+        &mut places,
+        &mut sizes,
+        &mut low,
+        &mut high,
+        &mut nodes,
+        &mut roots,
+        &mut scopes,
+        &mut names,
+    );
+    match read {
+        Held::Refused(_, _) => Answer::bare(11, 0, 0),
+        Held::Model(found, _) => {
+            crate::subtotals::report_model(
+                &nodes,
+                &roots,
+                &scopes,
+                found.sums,
+                found.channels,
+                state,
+                report,
             )
         }
     }

@@ -5,8 +5,9 @@ use Prim.Native.Nat.{ℕ, zero, suc, _+_, _-_, _*_, _≤_, _<_}
 use native.Mathlib.Numerals.{add-one}
 use native.Mathlib.Omega.{arith}
 use lib.IntN.{ℤ, pos}
-use lib.ListN.{length, getD, set, take, drop, replicate, length-append, length-take, length-replicate}
-use lib.Seq.{sets, length-sets, sets-eq, take-suc, take-append-seam}
+use lib.ListN.{length, getD, set, take, drop, replicate, length-append, length-take, length-replicate, List·getD-append}
+use lib.Seq.{sets, length-sets, sets-eq, take-suc, take-append-seam, getD-append-add}
+use native.Mathlib.Nat.{add-zero}
 use Rattle.value.specs.declared.Value.{Value}
 use Rattle.tree.specs.Node.{field, kindOf, tokenOf, leftOf}
 use Rattle.model.specs.Limits.{localLimit}
@@ -18,7 +19,7 @@ use Rattle.model.specs.Good.{Every, GoodExpr}
 use Rattle.machine.specs.Evaluate.{evalExpr}
 use Rattle.machine.specs.Offer.{Process, orZero}
 use Rattle.machine.specs.State.{processWidth, padded, processNumbers, flatten}
-use Rattle.eval.specs.Next.{Rows, Room, SumsFit, arguments, entered}
+use Rattle.eval.specs.Next.{Rows, Room, SumsFit, arguments, known, entered}
 use Rattle.eval.proofs.Exprs.{IsExpr, expr-kind}
 use Rattle.eval.proofs.Arguments.{SomeArguments}
 
@@ -60,12 +61,24 @@ padded-get n [] (suc i) = zeros-get n (suc i)
 padded-get n (z ∷ zs) zero = refl
 padded-get n (z ∷ zs) (suc i) = padded-get n zs i
 
-pub row-local : (p : Process) (j : ℕ) → 1 ≤ j → getD (p .locals) (j - 1) (pos 0) ≡ getD (processNumbers p) j (pos 0)
+padded-long : (zs : List ℤ) → length zs ≤ localLimit → length (padded localLimit zs) ≡ localLimit
+unfolding padded
+padded-long zs h = simp (length-append, length-replicate) (omega arith)
+
+pub row-local : (p : Process) → length (p .locals) ≤ localLimit → (j : ℕ) → 1 ≤ j → j < 1 + localLimit → getD (p .locals) (j - 1) (pos 0) ≡ getD (processNumbers p) j (pos 0)
 unfolding processNumbers padded
-row-local p zero h = absurd (omega arith)
-row-local p (suc j) h =
+row-local p few zero h l = absurd (omega arith)
+row-local p few (suc j) h l =
     let e : suc j - 1 ≡ j = omega arith in
-    ap (λ (i : ℕ). getD (p .locals) i (pos 0)) e ∙ sym (padded-get (localLimit - length (p .locals)) (p .locals) j)
+    ap (λ (i : ℕ). getD (p .locals) i (pos 0)) e
+    ∙ sym (List·getD-append (padded localLimit (p .locals)) (pos (p .definition) ∷ []) (pos 0) j (omega (arith, padded-long (p .locals) few))
+    ∙ padded-get (localLimit - length (p .locals)) (p .locals) j)
+
+pub row-definition : (p : Process) → length (p .locals) ≤ localLimit → getD (processNumbers p) (1 + localLimit) (pos 0) ≡ pos (p .definition)
+unfolding processNumbers
+row-definition p few =
+    ap (λ (i : ℕ). getD (padded localLimit (p .locals) ++ pos (p .definition) ∷ []) i (pos 0)) (sym (padded-long (p .locals) few) ∙ sym (add-zero (length (padded localLimit (p .locals)))))
+    ∙ getD-append-add (padded localLimit (p .locals)) (pos (p .definition) ∷ []) 0 (pos 0)
 
 -- ---- rows
 
@@ -142,7 +155,7 @@ module _ (t : List ℕ) (ls : List ℤ) (k : ℕ) (v g : List ℤ) (at : ℕ) (x
       u (f ∷ es) (pair-second a) ∙ rw (add-one at, q)
 
 -- ---- sums
-module _ (t : List ℕ) (k size at : ℕ) (r : SumsFit t k size at) where
+module _ (t : List ℕ) (count k size at : ℕ) (r : SumsFit t count k size at) where
   pub sums-inside : (at + 1) * processWidth ≤ size
   unfolding Sums
   sums-inside = go (r .sums) (r .holds) (r .fits)
@@ -151,32 +164,51 @@ module _ (t : List ℕ) (k size at : ℕ) (r : SumsFit t k size at) where
       go [] a h = absurd a
       go (n ∷ ns) a h = omega arith
 
-  pub sums-more : kindOf (getD t k 0) ≡ 55 → (1 ≤ k) × SumsFit t (k - 1) size (at + 1)
-  unfolding Sums
-  sums-more h = go (r .sums) (r .holds) (r .fits)
+  pub sums-more : kindOf (getD t k 0) ≡ 55 → (1 ≤ k) × SumsFit t count (k - 1) size (at + 1)
+  unfolding Sums Every
+  sums-more h = go (r .sums) (r .holds) (r .below) (r .fits)
     where
-      go : (ns : List ℕ) → Sums t ns k → (at + length ns) * processWidth ≤ size → (1 ≤ k) × SumsFit t (k - 1) size (at + 1)
-      go [] a f = absurd a
-      go (n ∷ []) a f = absurd (omega (arith, a .kind-is))
-      go (n ∷ o ∷ ns) a f = (pair-above a, record { sums = o ∷ ns; holds = pair-second a; fits = omega arith })
+      go : (ns : List ℕ) → Sums t ns k → Every (λ (n : ℕ). n < count) ns → (at + length ns) * processWidth ≤ size → (1 ≤ k) × SumsFit t count (k - 1) size (at + 1)
+      go [] a b f = absurd a
+      go (n ∷ []) a b f = absurd (omega (arith, a .kind-is))
+      go (n ∷ o ∷ ns) a b f = (pair-above a, record { sums = o ∷ ns; holds = pair-second a; below = b .1; fits = omega arith })
+
+  -- the number of the last sum, and of one before others
+  pub last-below : (kindOf (getD t k 0) ≡ 55 → ⊥) → tokenOf (getD t k 0) < count
+  unfolding Sums Every
+  last-below h = go (r .sums) (r .holds) (r .below)
+    where
+      go : (ns : List ℕ) → Sums t ns k → Every (λ (n : ℕ). n < count) ns → tokenOf (getD t k 0) < count
+      go [] a b = absurd a
+      go (n ∷ []) a b = rw (a .index-is) (b .0)
+      go (n ∷ o ∷ ns) a b = absurd (h (a .kind-is))
+
+  pub first-below : kindOf (getD t k 0) ≡ 55 → tokenOf (getD t (leftOf (getD t k 0)) 0) < count
+  unfolding Sums Every
+  first-below h = go (r .sums) (r .holds) (r .below)
+    where
+      go : (ns : List ℕ) → Sums t ns k → Every (λ (n : ℕ). n < count) ns → tokenOf (getD t (leftOf (getD t k 0)) 0) < count
+      go [] a b = absurd a
+      go (n ∷ []) a b = absurd (omega (arith, a .kind-is))
+      go (n ∷ o ∷ ns) a b = rw (a .holds-first .index-is) (b .0)
 
 pub token-small : (c : ℕ) → tokenOf c < field
 unfolding tokenOf
 token-small c = omega arith
 
-module _ (t : List ℕ) (k at : ℕ) (ls f g : List ℤ) (few : length ls ≤ localLimit) where
-  pub last-sum : (kindOf (getD t k 0) ≡ 55 → ⊥) → g ≡ sets f (at * processWidth) (processNumbers (record { sum = tokenOf (getD t k 0); locals = ls }))
-      → (ns : List ℕ) → Sums t ns k → Rows f at (entered ns ls) g (at + 1)
+module _ (t scopes : List ℕ) (k at : ℕ) (ls f g : List ℤ) (few : length ls ≤ localLimit) where
+  pub last-sum : (kindOf (getD t k 0) ≡ 55 → ⊥) → g ≡ sets f (at * processWidth) (processNumbers (known scopes (tokenOf (getD t k 0)) ls))
+      → (ns : List ℕ) → Sums t ns k → Rows f at (entered scopes ns ls) g (at + 1)
   unfolding Sums entered
   last-sum h e [] a = absurd a
-  last-sum h e (n ∷ []) a = rows-one f g at (record { sum = n; locals = ls }) (rw (← a .index-is) e)
+  last-sum h e (n ∷ []) a = rows-one f g at (known scopes n ls) (rw (← a .index-is) e)
   last-sum h e (n ∷ o ∷ ns) a = absurd (h (a .kind-is))
 
-  pub more-sums : (b : List ℤ) (r : ℕ) → kindOf (getD t k 0) ≡ 55 → g ≡ sets f (at * processWidth) (processNumbers (record { sum = tokenOf (getD t (leftOf (getD t k 0)) 0); locals = ls }))
-      → ((ns : List ℕ) → Sums t ns (k - 1) → Rows g (at + 1) (entered ns ls) b r) → (ns : List ℕ) → Sums t ns k → Rows f at (entered ns ls) b r
-  unfolding Sums entered Every
+  pub more-sums : (b : List ℤ) (r : ℕ) → kindOf (getD t k 0) ≡ 55 → g ≡ sets f (at * processWidth) (processNumbers (known scopes (tokenOf (getD t (leftOf (getD t k 0)) 0)) ls))
+      → ((ns : List ℕ) → Sums t ns (k - 1) → Rows g (at + 1) (entered scopes ns ls) b r) → (ns : List ℕ) → Sums t ns k → Rows f at (entered scopes ns ls) b r
+  unfolding Sums entered known Every
   more-sums b r h e w [] a = absurd a
   more-sums b r h e w (n ∷ []) a = absurd (omega (arith, a .kind-is))
   more-sums b r h e w (n ∷ o ∷ ns) a =
-      let p : Process = record { sum = n; locals = ls } in
-      rows-then f g b at (at + 1) r (p ∷ []) (entered (o ∷ ns) ls) (few, tt) (rows-one f g at p (rw (← a .holds-first .index-is) e)) (w (o ∷ ns) (pair-second a))
+      let p : Process = known scopes n ls in
+      rows-then f g b at (at + 1) r (p ∷ []) (entered scopes (o ∷ ns) ls) (few, tt) (rows-one f g at p (rw (← a .holds-first .index-is) e)) (w (o ∷ ns) (pair-second a))

@@ -3,7 +3,7 @@ use mathlib.Core.Path.{_≡_}
 use mathlib.Core.List.{List, [], _∷_, map}
 use mathlib.Core.Bool.{cond}
 use mathlib.Core.Option.{some}
-use Prim.Native.Nat.{ℕ, _+_, _-_, _*_, _≤_}
+use Prim.Native.Nat.{ℕ, _+_, _-_, _*_, _≤_, _<_}
 use lib.Dec.{ltb}
 use lib.IntN.{ℤ}
 use lib.ListN.{length, getD, getElem?}
@@ -11,6 +11,7 @@ use lib.Seq.{sets}
 use Rattle.tree.specs.Node.{leftOf}
 use Rattle.model.specs.Limits.{localLimit}
 use Rattle.model.specs.Resolved
+use Rattle.model.specs.Scope.{scopeOf, definitionIn}
 use Rattle.tables.specs.Settled as Settled
 use Rattle.tables.specs.Represents.{Sums, Definition}
 use Rattle.model.specs.Good.{Every, GoodExpr, GoodPart, GoodModel}
@@ -71,24 +72,34 @@ pub record Room (t : List ℕ) (n k size at : ℕ) : Type 0 where
   pub fit : Every (GoodExpr n) arguments
   pub fits : at + length arguments ≤ size
 
--- 01, Step: a definition's sums with these locals
-unfoldable pub entered : List ℕ → List ℤ → List Process
-entered ns ls = map (λ n. record { sum = n; locals = ls }) ns
+-- 02, note 6: what is known of the sums of m, by their numbers
+pub record Scoped (scopes : List ℕ) (m : Resolved.Model) : Type 0 where
+  pub fit : length (m .sums) ≤ length scopes
+  pub are : (n : ℕ) (s : Resolved.Sum) → getElem? (m .sums) n ≡ some s → getD scopes n 0 ≡ scopeOf s
 
--- 01, Step: sums stand at k, and as many rows as they are lie from row at on
-pub record SumsFit (t : List ℕ) (k size at : ℕ) : Type 0 where
+-- 01, State: a process of sum n with these locals; 02, note 6: with the definition that is known of the sum
+unfoldable pub known : List ℕ → ℕ → List ℤ → Process
+known scopes n ls = record { sum = n; locals = ls; definition = definitionIn (getD scopes n 0) }
+
+-- 01, Step: a definition's sums with these locals
+unfoldable pub entered : List ℕ → List ℕ → List ℤ → List Process
+entered scopes ns ls = map (λ n. known scopes n ls) ns
+
+-- 01, Step: sums stand at k, whose numbers are below a count, and as many rows as they are lie from row at on
+pub record SumsFit (t : List ℕ) (count k size at : ℕ) : Type 0 where
   pub sums : List ℕ
   pub holds : Sums t sums k
+  pub below : Every (λ (n : ℕ). n < count) sums
   pub fits : (at + length sums) * processWidth ≤ size
 
 -- 01, Step: a call stands at k with sums at body, and as many rows as they are lie from row at on
-pub record CallFits (t : List ℕ) (n k body size at : ℕ) : Type 0 where
+pub record CallFits (t : List ℕ) (count n k body size at : ℕ) : Type 0 where
   pub definition : ℕ
   pub values : List Resolved.Expr
   pub call : Settled.Called t definition values k
   pub fit : Every (GoodExpr n) values
   pub few : length values ≤ localLimit
-  pub sums : SumsFit t body size at
+  pub sums : SumsFit t count body size at
 
 -- 01, State: the numbers of these processes, written into f from row at on, make g, and the next row is r
 pub record Rows (f : List ℤ) (at : ℕ) (ps : List Process) (g : List ℤ) (r : ℕ) : Type 0 where
@@ -96,8 +107,9 @@ pub record Rows (f : List ℤ) (at : ℕ) (ps : List Process) (g : List ℤ) (r 
   pub next : r ≡ at + length ps
 
 -- 01, Step: a continuation over the locals ls stands at k, and as many rows as its processes are lie from row at on
-pub record Spaced (t : List ℕ) (root variables : ℕ) (ls : List ℤ) (k size at : ℕ) : Type 0 where
+pub record Spaced (t scopes : List ℕ) (root variables : ℕ) (ls : List ℤ) (k size at : ℕ) : Type 0 where
   pub model : Resolved.Model
+  pub scoped : Scoped scopes model
   pub parts : List Resolved.Part
   pub holds : Continues t root variables (length ls) model parts k
   pub fits : (at + length (nextProcesses model ls parts)) * processWidth ≤ size

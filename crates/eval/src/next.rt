@@ -133,39 +133,54 @@ pub fn count_processes(nodes: &[u64], root: usize, variables: usize, k: usize) -
     cut(count_sums(nodes, body_of(nodes, root, variables, tree::token_of(cell))))
 }
 
-// The numbers of a process: its sum, then its locals, the unused ones 0.
+// The numbers of a process: its sum, its locals, the unused ones 0, then its definition.
 pub struct Row;
 
 impl Row {
     pub const LOCALS: usize = 8;
 
-    pub const WIDTH: usize = 9;
+    // Where the definition stands.
+    pub const DEFINITION: usize = 9;
+
+    pub const WIDTH: usize = 10;
 }
 
 // Number j of a process.
-fn row_number(sum: usize, locals: &[i64], j: usize) -> i64
-    requires { ⌜ (sum < field) × (j < processWidth) × (length (now locals) ≤ localLimit) ⌝ }
-    ensures { λ r. ⌜ r ≡ getD (processNumbers (record { sum = sum; locals = now (locals .entry) })) j (pos 0) ⌝ }
+fn row_number(sum: usize, locals: &[i64], definition: usize, j: usize) -> i64
+    requires { ⌜ (sum < field) × (j < processWidth) × (length (now locals) ≤ localLimit) × (definition < field) ⌝ }
+    ensures { λ r. ⌜ r ≡ getD (processNumbers (record { sum = sum; locals = now (locals .entry); definition = definition })) j (pos 0) ⌝ }
 {
     if j == 0 {
         return sum as i64;
     }
+    if j == Row::DEFINITION {
+        return definition as i64;
+    }
     crate::local_at(locals, j - 1)
 }
 
-// Writes a process into row `at`.
-fn put_row(sum: usize, locals: &[i64], fresh: &mut [i64], at: usize)
-    requires { ⌜ (sum < field) × (length (now locals) ≤ localLimit) × ((at + 1) * processWidth ≤ length (now fresh)) ⌝ }
-    ensures { λ r. ⌜ now (fresh .exit) ≡ sets (now (fresh .entry)) (at * processWidth) (processNumbers (record { sum = sum; locals = now (locals .entry) })) ⌝ }
+// Writes the numbers of a process into row `at`.
+fn put_numbers(sum: usize, locals: &[i64], definition: usize, fresh: &mut [i64], at: usize)
+    requires { ⌜ (sum < field) × (length (now locals) ≤ localLimit) × ((at + 1) * processWidth ≤ length (now fresh)) × (definition < field) ⌝ }
+    ensures { λ r. ⌜ now (fresh .exit) ≡ sets (now (fresh .entry)) (at * processWidth) (processNumbers (record { sum = sum; locals = now (locals .entry); definition = definition })) ⌝ }
 {
     let base = at * Row::WIDTH;
     let mut j = 0;
     while j < Row::WIDTH {
-        let z = row_number(sum, locals, j);
+        let z = row_number(sum, locals, definition, j);
         let i = base + j;
         fresh[i] = z;
         j += 1;
     }
+}
+
+// Writes a process of a sum into row `at`.
+fn put_row(sum: usize, locals: &[i64], fresh: &mut [i64], at: usize, scopes: &[u16])
+    requires { ⌜ (sum < field) × (length (now locals) ≤ localLimit) × ((at + 1) * processWidth ≤ length (now fresh)) × (sum < length (now scopes)) ⌝ }
+    ensures { λ r. ⌜ now (fresh .exit) ≡ sets (now (fresh .entry)) (at * processWidth) (processNumbers (Become.known (now (scopes .entry)) sum (now (locals .entry)))) ⌝ }
+{
+    let definition = state::definition_in(scopes[sum]);
+    put_numbers(sum, locals, definition, fresh, at);
 }
 
 fn or_zero(x: Value) -> i64
@@ -194,18 +209,25 @@ fn put_arguments(nodes: &[u64], locals: &[i64], k: usize, values: &mut [i64], at
 }
 
 // Writes a process for each sum at k from row `at` on; the row after them.
-fn put_sums(nodes: &[u64], k: usize, locals: &[i64], fresh: &mut [i64], at: usize) -> usize
-    requires { ⌜ (Become.SumsFit (now nodes) k (length (now fresh)) at) × (length (now locals) ≤ localLimit) ⌝ }
-    ensures { λ r. ⌜ ((ns : List ℕ) → Represents.Sums (now (nodes .entry)) ns k → Become.Rows (now (fresh .entry)) at (Become.entered ns (now (locals .entry))) (now (fresh .exit)) r) ⌝ }
+fn put_sums(
+    nodes: &[u64],
+    k: usize,
+    locals: &[i64],
+    fresh: &mut [i64],
+    at: usize,
+    scopes: &[u16],
+) -> usize
+    requires { ⌜ (Become.SumsFit (now nodes) (length (now scopes)) k (length (now fresh)) at) × (length (now locals) ≤ localLimit) ⌝ }
+    ensures { λ r. ⌜ ((ns : List ℕ) → Represents.Sums (now (nodes .entry)) ns k → Become.Rows (now (fresh .entry)) at (Become.entered (now (scopes .entry)) ns (now (locals .entry))) (now (fresh .exit)) r) ⌝ }
 {
     let cell = crate::cell_at(nodes, k);
     if tree::kind_of(cell) != NodeKind::BESIDE {
-        put_row(tree::token_of(cell), locals, fresh, at);
+        put_row(tree::token_of(cell), locals, fresh, at, scopes);
         return at + 1;
     }
     let first = crate::cell_at(nodes, tree::left_of(cell));
-    put_row(tree::token_of(first), locals, fresh, at);
-    put_sums(nodes, k - 1, locals, fresh, at + 1)
+    put_row(tree::token_of(first), locals, fresh, at, scopes);
+    put_sums(nodes, k - 1, locals, fresh, at + 1, scopes)
 }
 
 // Writes the processes of the call at k, whose values are the locals of the sums at `body`.
@@ -216,15 +238,16 @@ fn put_call(
     body: usize,
     fresh: &mut [i64],
     at: usize,
+    scopes: &[u16],
 ) -> usize
-    requires { ⌜ (Become.CallFits (now nodes) (length (now locals)) k body (length (now fresh)) at) × (Every InRange (now locals)) ⌝ }
-    ensures { λ r. ⌜ ((d : ℕ) (es : List Resolved.Expr) (ns : List ℕ) → Settled.Called (now (nodes .entry)) d es k → Represents.Sums (now (nodes .entry)) ns body → Become.Rows (now (fresh .entry)) at (Become.entered ns (Become.arguments (now (locals .entry)) es)) (now (fresh .exit)) r) ⌝ }
+    requires { ⌜ (Become.CallFits (now nodes) (length (now scopes)) (length (now locals)) k body (length (now fresh)) at) × (Every InRange (now locals)) ⌝ }
+    ensures { λ r. ⌜ ((d : ℕ) (es : List Resolved.Expr) (ns : List ℕ) → Settled.Called (now (nodes .entry)) d es k → Represents.Sums (now (nodes .entry)) ns body → Become.Rows (now (fresh .entry)) at (Become.entered (now (scopes .entry)) ns (Become.arguments (now (locals .entry)) es)) (now (fresh .exit)) r) ⌝ }
 {
     let count = tree::third_of(crate::cell_at(nodes, k));
     let mut values = [0i64; Row::LOCALS];
     put_arguments(nodes, locals, k - 1, &mut values, 0);
     let given = &values[..count];
-    put_sums(nodes, body, given, fresh, at)
+    put_sums(nodes, body, given, fresh, at, scopes)
 }
 
 // Writes the processes that the continuation at k becomes from row `at` on; the row after them.
@@ -236,14 +259,15 @@ pub fn put_processes(
     k: usize,
     fresh: &mut [i64],
     at: usize,
+    scopes: &[u16],
 ) -> usize
-    requires { ⌜ (Become.Spaced (now nodes) root variables (now locals) k (length (now fresh)) at) × (Every InRange (now locals)) ⌝ }
-    ensures { λ r. ⌜ ((m : Resolved.Model) (ps : List Resolved.Part) → Become.Continues (now (nodes .entry)) root variables (length (now (locals .entry))) m ps k → Become.Rows (now (fresh .entry)) at (nextProcesses m (now (locals .entry)) ps) (now (fresh .exit)) r) ⌝ }
+    requires { ⌜ (Become.Spaced (now nodes) (now scopes) root variables (now locals) k (length (now fresh)) at) × (Every InRange (now locals)) ⌝ }
+    ensures { λ r. ⌜ ((m : Resolved.Model) (ps : List Resolved.Part) → Become.Continues (now (nodes .entry)) root variables (length (now (locals .entry))) m ps k → Become.Scoped (now (scopes .entry)) m → Become.Rows (now (fresh .entry)) at (nextProcesses m (now (locals .entry)) ps) (now (fresh .exit)) r) ⌝ }
 {
     let cell = crate::cell_at(nodes, k);
     let kind = tree::kind_of(cell);
     if kind == NodeKind::GROUP {
-        return put_processes(nodes, root, variables, locals, k - 1, fresh, at);
+        return put_processes(nodes, root, variables, locals, k - 1, fresh, at, scopes);
     }
     if kind == NodeKind::ITEM {
         let next = put_processes(
@@ -254,17 +278,18 @@ pub fn put_processes(
             tree::left_of(cell),
             fresh,
             at,
+            scopes,
         );
-        return put_processes(nodes, root, variables, locals, k - 1, fresh, next);
+        return put_processes(nodes, root, variables, locals, k - 1, fresh, next, scopes);
     }
     let token = tree::token_of(cell);
     if kind == NodeKind::SUM {
-        put_row(token, locals, fresh, at);
+        put_row(token, locals, fresh, at, scopes);
         return at + 1;
     }
     let body = body_of(nodes, root, variables, token);
     if kind == NodeKind::CALL {
-        return put_sums(nodes, body, &locals[..0], fresh, at);
+        return put_sums(nodes, body, &locals[..0], fresh, at, scopes);
     }
-    put_call(nodes, locals, k, body, fresh, at)
+    put_call(nodes, locals, k, body, fresh, at, scopes)
 }

@@ -4,28 +4,33 @@ use mathlib.Core.List.{List, [], _∷_, _++_}
 use mathlib.Core.Bool.{Bool, true, false, cond, _&&_}
 use Prim.Native.Nat.{ℕ, suc, _+_, _*_, _-_, _≤_, _<_}
 use native.Mathlib.Omega.{arith}
+use lib.Dec.{eqb}
 use lib.ListN.{length, take, drop}
 use Rattle.word.specs.Number.{worth}
+use Rattle.token.specs.Bytes.{isDigit, within}
 use Rattle.token.specs.Token.{sameBytes}
 use Rattle.token.proofs.Words.{same-is}
 use Rattle.lines.specs.declared.line.Line.{Line}
-use Rattle.lines.specs.declared.line.Line.the-variants.{Open, List as Listing, Step, State, Bad}
+use Rattle.lines.specs.declared.line.Line.the-variants.{Open, List as Listing, Step, State, Report, Bad}
 use Rattle.lines.specs.declared.line.Rest.{Rest}
-use Rattle.lines.specs.declared.line.Rest.the-variants.{Nothing, Number, Other}
+use Rattle.lines.specs.declared.line.Rest.the-variants.{Nothing, Number, T, Other}
 use Rattle.lines.specs.declared.line.Reading.{Reading}
-use Rattle.lines.specs.Line.{listBytes, stateBytes, openBytes, stepBytes, isNumber, given, lineOf, restOf, restNext, packed, headOf, numbered, bare, Bytes, Reads}
+use Rattle.lines.specs.Line.{listBytes, stateBytes, reportBytes, openBytes, stepBytes, digitsOnly, isNumber, given, lineOf, restOf, restNext, packed, headOf, numbered, bare, lettered, Bytes, Reads}
 use Rattle.lines.proofs.Rests.{rest-on}
 
 -- the least number of five bytes, 2 ^ 40
 abbrev full : ℕ
 full = 1099511627776
 
--- the numbers of the four words
+-- the numbers of the five words
 abbrev listHead : ℕ
 listHead = 6113817460
 
 abbrev stateHead : ℕ
 stateHead = 1595385410661
+
+abbrev reportHead : ℕ
+reportHead = 1590839766898
 
 abbrev openHead : ℕ
 openHead = 1578138693152
@@ -154,28 +159,48 @@ word-is w t (five {a} {b} {c} {d} {e = x} {s = u}) h k l m n e =
     ap (λ (v : List ℕ). v ++ u) (same-packed 1 1 (a ∷ b ∷ c ∷ d ∷ x ∷ []) t (sym l) (h .0, (h .1 .0, (h .1 .1 .0, (h .1 .1 .1 .0, (h .1 .1 .1 .1 .0, tt))))) k (e ∙ sym n) .bytes)
 
 -- ---- what the line says
-by-none : (t : Bool) (n : ℕ) → bare State (cond t (Number n) Other) ≡ Bad
-by-none true n = refl
-by-none false n = refl
+by-none : (t u : Bool) (n : ℕ) → bare State (cond t (Number n) (cond u T Other)) ≡ Bad
+by-none true u n = refl
+by-none false true n = refl
+by-none false false n = refl
 
-by-number : (says : ℕ → Line) (t : Bool) (n : ℕ) → numbered says (cond t (Number n) Other) ≡ cond t (says n) Bad
-by-number says true n = refl
-by-number says false n = refl
+by-number : (says : ℕ → Line) (t u : Bool) (n : ℕ) → numbered says (cond t (Number n) (cond u T Other)) ≡ cond t (says n) Bad
+by-number says true u n = refl
+by-number says false true n = refl
+by-number says false false n = refl
+
+by-letter : (t : Bool) (n : ℕ) → lettered Report (cond t (Number n) Other) ≡ Bad
+by-letter true n = refl
+by-letter false n = refl
 
 state-then : (u : List ℕ) → bare State (restOf u) ≡ lineOf (stateBytes ++ u)
 unfolding lineOf sameBytes restOf
 state-then [] = refl
-state-then (b ∷ u) = by-none (isNumber (b ∷ u)) (worth 0 (b ∷ u))
+state-then (b ∷ u) = by-none (isNumber (b ∷ u)) (eqb b 116 && sameBytes u []) (worth 0 (b ∷ u))
+
+-- the first five bytes of `report`, and the last
+abbrev repor : List ℕ
+repor = take 5 reportBytes
+
+last-then : (u : List ℕ) (t : Bool) → sameBytes u (116 ∷ []) ≡ t → lettered Report (restOf u) ≡ cond t Report Bad
+unfolding restOf isNumber digitsOnly isDigit within sameBytes
+last-then u true e = ap (λ (v : List ℕ). lettered Report (restOf v)) (same-is u (116 ∷ []) e)
+last-then [] false e = refl
+last-then (b ∷ u) false e = rw e (by-letter (isNumber (b ∷ u)) (worth 0 (b ∷ u)))
+
+report-then : (u : List ℕ) → lettered Report (restOf u) ≡ lineOf (repor ++ u)
+unfolding lineOf sameBytes
+report-then u = last-then u (sameBytes u (116 ∷ [])) refl
 
 open-then : (u : List ℕ) → numbered Open (restOf u) ≡ lineOf (openBytes ++ u)
 unfolding lineOf sameBytes restOf given isNumber
 open-then [] = refl
-open-then (b ∷ u) = by-number Open (isNumber (b ∷ u)) (worth 0 (b ∷ u))
+open-then (b ∷ u) = by-number Open (isNumber (b ∷ u)) (eqb b 116 && sameBytes u []) (worth 0 (b ∷ u))
 
 step-then : (u : List ℕ) → numbered Step (restOf u) ≡ lineOf (stepBytes ++ u)
 unfolding lineOf sameBytes restOf given isNumber
 step-then [] = refl
-step-then (b ∷ u) = by-number Step (isNumber (b ∷ u)) (worth 0 (b ∷ u))
+step-then (b ∷ u) = by-number Step (isNumber (b ∷ u)) (eqb b 116 && sameBytes u []) (worth 0 (b ∷ u))
 
 differ : (s t : List ℕ) → (s ≡ t → ⊥) → sameBytes s t ≡ false
 differ s t n = by (sameBytes s t) refl
@@ -198,6 +223,12 @@ module _ {s : List ℕ} {r : Reading} (h : Reads s r) where
       let w = word stateHead stateBytes (omega arith, (omega arith, (omega arith, (omega arith, (omega arith, tt))))) refl (omega arith) refl e in
       f ∙ ap (bare State) (h .rest) ∙ state-then (drop 5 s) ∙ ap lineOf (sym w)
 
+  pub says-report : {x : Line} → r .head ≡ reportHead → x ≡ lettered Report (r .rest) → x ≡ lineOf s
+  unfolding packed
+  says-report e f =
+      let w = word reportHead repor (omega arith, (omega arith, (omega arith, (omega arith, (omega arith, tt))))) refl (omega arith) refl e in
+      f ∙ ap (lettered Report) (h .rest) ∙ report-then (drop 5 s) ∙ ap lineOf (sym w)
+
   pub says-open : {x : Line} → r .head ≡ openHead → x ≡ numbered Open (r .rest) → x ≡ lineOf s
   unfolding packed
   says-open e f =
@@ -210,12 +241,13 @@ module _ {s : List ℕ} {r : Reading} (h : Reads s r) where
       let w = word stepHead stepBytes (omega arith, (omega arith, (omega arith, (omega arith, (omega arith, tt))))) refl (omega arith) refl e in
       f ∙ ap (numbered Step) (h .rest) ∙ step-then (drop 5 s) ∙ ap lineOf (sym w)
 
-  pub says-bad : (r .head ≡ listHead → ⊥) → (r .head ≡ stateHead → ⊥) → (r .head ≡ openHead → ⊥) → (r .head ≡ stepHead → ⊥) → Bad ≡ lineOf s
+  pub says-bad : (r .head ≡ listHead → ⊥) → (r .head ≡ stateHead → ⊥) → (r .head ≡ reportHead → ⊥) → (r .head ≡ openHead → ⊥) → (r .head ≡ stepHead → ⊥) → Bad ≡ lineOf s
   unfolding lineOf headOf packed
-  says-bad l t o p =
+  says-bad l t q o p =
       simp (
         differ s listBytes (λ e. l (h .head ∙ ap headOf e)),
         differ s stateBytes (λ e. t (h .head ∙ ap headOf e)),
+        differ s reportBytes (λ e. q (h .head ∙ ap headOf e)),
         differ (take 5 s) openBytes (λ e. o (h .head ∙ ap (packed 1) e)),
         differ (take 5 s) stepBytes (λ e. p (h .head ∙ ap (packed 1) e)),
       )

@@ -11,7 +11,7 @@ use lib.ListN.{length, length-append}
 use borrow.Author.Tests.{eq-eqb, ne-eqb}
 use Rattle.token.specs.Bytes.{lineFeed}
 use Rattle.lines.specs.declared.line.Line.{Line}
-use Rattle.lines.specs.declared.line.Line.the-variants.{Open, List as Listing, Step, State, Bad}
+use Rattle.lines.specs.declared.line.Line.the-variants.{Open, List as Listing, Step, State, Report, Bad}
 use Rattle.lines.specs.declared.line.Rest.the-variants.{Nothing}
 use Rattle.lines.specs.declared.line.Reading.{Reading}
 use Rattle.lines.specs.declared.script.Part.{Part}
@@ -125,6 +125,7 @@ module _ {s : List ℕ} {qs : List Line} {from : ℕ} {r : Reading} (x : LineBeg
   ends-so Listing e h = subst (λ (l : Line). Stands (s ++ (b ∷ [])) (qs ++ (l ∷ [])) (fresh (next from))) h (line-short e (ap isShort h))
   ends-so (Step d) e h = subst (λ (l : Line). Stands (s ++ (b ∷ [])) (qs ++ (l ∷ [])) (fresh (next from))) h (line-short e (ap isShort h))
   ends-so State e h = subst (λ (l : Line). Stands (s ++ (b ∷ [])) (qs ++ (l ∷ [])) (fresh (next from))) h (line-short e (ap isShort h))
+  ends-so Report e h = subst (λ (l : Line). Stands (s ++ (b ∷ [])) (qs ++ (l ∷ [])) (fresh (next from))) h (line-short e (ap isShort h))
   ends-so Bad e h = Misplaced.of-line x e h
 
   pub line-ends : {l : Line} {y : Taken} → b ≡ lineFeed → l ≡ lineOf (x .line) → y ≡ ended from l → Takes s qs b y

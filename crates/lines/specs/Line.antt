@@ -3,23 +3,26 @@ use mathlib.Core.Path.{_≡_, refl}
 use mathlib.Core.List.{List, [], _∷_}
 use mathlib.Core.Bool.{Bool, true, false, cond, _&&_}
 use Prim.Native.Nat.{ℕ, _+_, _*_, _<_}
-use lib.Dec.{ltb}
+use lib.Dec.{eqb, ltb}
 use lib.ListN.{take, drop}
 use Rattle.word.specs.Number.{worth, digitOf}
 use Rattle.token.specs.Bytes.{isDigit}
 use Rattle.token.specs.Token.{sameBytes}
 use Rattle.lines.specs.declared.line.Line.{Line}
-use Rattle.lines.specs.declared.line.Line.the-variants.{Open, List as Listing, Step, State, Bad}
+use Rattle.lines.specs.declared.line.Line.the-variants.{Open, List as Listing, Step, State, Report, Bad}
 use Rattle.lines.specs.declared.line.Rest.{Rest}
-use Rattle.lines.specs.declared.line.Rest.the-variants.{Nothing, Number, Other}
+use Rattle.lines.specs.declared.line.Rest.the-variants.{Nothing, Number, T, Other}
 use Rattle.lines.specs.declared.line.Reading.{Reading}
 
--- `list`, `state`, `open ` and `step `
+-- `list`, `state`, `report`, `open ` and `step `
 abbrev pub listBytes : List ℕ
 listBytes = 108 ∷ 105 ∷ 115 ∷ 116 ∷ []
 
 abbrev pub stateBytes : List ℕ
 stateBytes = 115 ∷ 116 ∷ 97 ∷ 116 ∷ 101 ∷ []
+
+abbrev pub reportBytes : List ℕ
+reportBytes = 114 ∷ 101 ∷ 112 ∷ 111 ∷ 114 ∷ 116 ∷ []
 
 abbrev pub openBytes : List ℕ
 openBytes = 111 ∷ 112 ∷ 101 ∷ 110 ∷ 32 ∷ []
@@ -45,18 +48,24 @@ isNumber (b ∷ s) = digitsOnly (b ∷ s) && ltb (worth 0 (b ∷ s)) limit
 unfoldable pub given : (ℕ → Line) → List ℕ → Line
 given says s = cond (isNumber s) (says (worth 0 s)) Bad
 
--- the four forms; every other line is bad
+-- the five forms; every other line is bad
 unfoldable pub lineOf : List ℕ → Line
 lineOf s =
     cond (sameBytes s listBytes) Listing
     (cond (sameBytes s stateBytes) State
+    (cond (sameBytes s reportBytes) Report
     (cond (sameBytes (take 5 s) openBytes) (given Open (drop 5 s))
-    (cond (sameBytes (take 5 s) stepBytes) (given Step (drop 5 s)) Bad)))
+    (cond (sameBytes (take 5 s) stepBytes) (given Step (drop 5 s)) Bad))))
 
 -- `step 307`
 step-line : lineOf (115 ∷ 116 ∷ 101 ∷ 112 ∷ 32 ∷ 51 ∷ 48 ∷ 55 ∷ []) ≡ Step 307
 unfolding lineOf given isNumber digitsOnly isDigit Rattle.token.specs.Bytes.within sameBytes worth
 step-line = refl
+
+-- `reports`
+no-report : lineOf (114 ∷ 101 ∷ 112 ∷ 111 ∷ 114 ∷ 116 ∷ 115 ∷ []) ≡ Bad
+unfolding lineOf sameBytes
+no-report = refl
 
 -- `open` without a number
 no-number : lineOf openBytes ≡ Bad
@@ -68,7 +77,7 @@ no-number = refl
 -- what stands after the first five bytes, as the code keeps it
 unfoldable pub restOf : List ℕ → Rest
 restOf [] = Nothing
-restOf (b ∷ s) = cond (isNumber (b ∷ s)) (Number (worth 0 (b ∷ s))) Other
+restOf (b ∷ s) = cond (isNumber (b ∷ s)) (Number (worth 0 (b ∷ s))) (cond (sameBytes (b ∷ s) (116 ∷ [])) T Other)
 
 -- a number with one more digit
 unfoldable pub grown : ℕ → ℕ → Rest
@@ -78,11 +87,19 @@ grown v d = cond (ltb (v * 10 + d) limit) (Number (v * 10 + d)) Other
 abbrev pub digitNext : Rest → ℕ → Rest
 digitNext Nothing d = Number d
 digitNext (Number v) d = grown v d
+digitNext T d = Other
 digitNext Other d = Other
+
+-- the rest with one more byte that is no digit
+abbrev pub letterNext : Rest → ℕ → Rest
+letterNext Nothing b = cond (eqb b 116) T Other
+letterNext (Number v) b = Other
+letterNext T b = Other
+letterNext Other b = Other
 
 -- the rest with one more byte
 unfoldable pub restNext : Rest → ℕ → Rest
-restNext r b = cond (isDigit b) (digitNext r (digitOf b)) Other
+restNext r b = cond (isDigit b) (digitNext r (digitOf b)) (letterNext r b)
 
 -- bytes as digits of base 256, after h
 unfoldable pub packed : ℕ → List ℕ → ℕ
@@ -93,16 +110,24 @@ packed h (b ∷ s) = packed (h * 256 + b) s
 unfoldable pub headOf : List ℕ → ℕ
 headOf s = packed 1 (take 5 s)
 
--- what a rest makes of a line that wants a number, or none
+-- what a rest makes of a line that wants a number, or nothing, or a last byte
 abbrev pub numbered : (ℕ → Line) → Rest → Line
 numbered says Nothing = Bad
 numbered says (Number n) = says n
+numbered says T = Bad
 numbered says Other = Bad
 
 abbrev pub bare : Line → Rest → Line
 bare says Nothing = says
 bare says (Number n) = Bad
+bare says T = Bad
 bare says Other = Bad
+
+abbrev pub lettered : Line → Rest → Line
+lettered says Nothing = Bad
+lettered says (Number n) = Bad
+lettered says T = says
+lettered says Other = Bad
 
 abbrev pub Bytes : List ℕ → Type 0
 Bytes [] = Unit {0}

@@ -7,7 +7,7 @@ use lib.Dec.{eqb}
 use lib.ListN.{length}
 use Rattle.token.specs.Bytes.{lineFeed}
 use Rattle.lines.specs.declared.line.Line.{Line}
-use Rattle.lines.specs.declared.line.Line.the-variants.{Open, List as Listing, Step, State, Bad}
+use Rattle.lines.specs.declared.line.Line.the-variants.{Open, List as Listing, Step, State, Report, Bad}
 use Rattle.lines.specs.declared.line.Reading.{Reading}
 use Rattle.lines.specs.declared.script.Part.{Part}
 use Rattle.lines.specs.declared.script.Part.the-variants.{InLine, InText}
@@ -33,6 +33,7 @@ isShort (Open n) = false
 isShort Listing = true
 isShort (Step d) = true
 isShort State = true
+isShort Report = true
 isShort Bad = false
 
 -- bytes that are whole items: such a line and LF, or a line `open n`, LF, n bytes and LF; and what they ask for in turn
@@ -110,4 +111,5 @@ ended line (Open n) = Goes (record { line = next line; from = line; part = InTex
 ended line Listing = Asks Listing (fresh (next line))
 ended line (Step d) = Asks (Step d) (fresh (next line))
 ended line State = Asks State (fresh (next line))
+ended line Report = Asks Report (fresh (next line))
 ended line Bad = Wrong line

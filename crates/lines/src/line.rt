@@ -2,7 +2,7 @@
 ghost use mathlib.Core.Path.{_≡_};
 ghost use mathlib.Core.List.{List, [], _∷_, _++_};
 ghost use Prim.Native.Nat.{ℕ, _<_};
-ghost use Rattle.lines.specs.Line.{lineOf, grown, digitNext, restNext, numbered, bare, empty, Reads};
+ghost use Rattle.lines.specs.Line.{lineOf, grown, digitNext, letterNext, restNext, numbered, lettered, bare, empty, Reads};
 
 // What a line says.
 pub enum Line {
@@ -10,13 +10,15 @@ pub enum Line {
     List,
     Step(u64),
     State,
+    Report,
     Bad,
 }
 
-// What stands after a line's first five bytes.
+// What stands after a line's first five bytes; `T` is the last byte of `report`.
 pub enum Rest {
     Nothing,
     Number(u64),
+    T,
     Other,
 }
 
@@ -34,10 +36,12 @@ impl Head {
 
     pub const FULL: u64 = 0x100_0000_0000;
 
-    // The heads of `list`, `state`, `open ` and `step `.
+    // The heads of `list`, `state`, `report`, `open ` and `step `.
     pub const LIST: u64 = 0x1_6c69_7374;
 
     pub const STATE: u64 = 0x173_7461_7465;
+
+    pub const REPORT: u64 = 0x172_6570_6f72;
 
     pub const OPEN: u64 = 0x16f_7065_6e20;
 
@@ -62,6 +66,24 @@ fn with_digit(rest: Rest, d: u64) -> Rest
     match rest {
         Rest::Nothing => Rest::Number(d),
         Rest::Number(v) => grow(v, d),
+        Rest::T => Rest::Other,
+        Rest::Other => Rest::Other,
+    }
+}
+
+// A rest with one more byte that is no digit.
+fn with_letter(rest: Rest, b: u8) -> Rest
+    ensures { λ r. ⌜ r ≡ letterNext rest b ⌝ }
+{
+    match rest {
+        Rest::Nothing => {
+            if b == b't' {
+                return Rest::T;
+            }
+            Rest::Other
+        }
+        Rest::Number(_) => Rest::Other,
+        Rest::T => Rest::Other,
         Rest::Other => Rest::Other,
     }
 }
@@ -70,10 +92,10 @@ fn with_byte(rest: Rest, b: u8) -> Rest
     ensures { λ r. ⌜ r ≡ restNext rest b ⌝ }
 {
     if b < b'0' {
-        return Rest::Other;
+        return with_letter(rest, b);
     }
     if b'9' < b {
-        return Rest::Other;
+        return with_letter(rest, b);
     }
     with_digit(rest, (b - b'0') as u64)
 }
@@ -84,6 +106,7 @@ fn open_line(rest: Rest) -> Line
     match rest {
         Rest::Nothing => Line::Bad,
         Rest::Number(n) => Line::Open(n),
+        Rest::T => Line::Bad,
         Rest::Other => Line::Bad,
     }
 }
@@ -94,6 +117,7 @@ fn step_line(rest: Rest) -> Line
     match rest {
         Rest::Nothing => Line::Bad,
         Rest::Number(n) => Line::Step(n),
+        Rest::T => Line::Bad,
         Rest::Other => Line::Bad,
     }
 }
@@ -104,6 +128,18 @@ fn state_line(rest: Rest) -> Line
     match rest {
         Rest::Nothing => Line::State,
         Rest::Number(_) => Line::Bad,
+        Rest::T => Line::Bad,
+        Rest::Other => Line::Bad,
+    }
+}
+
+fn report_line(rest: Rest) -> Line
+    ensures { λ r. ⌜ r ≡ lettered Line.Report rest ⌝ }
+{
+    match rest {
+        Rest::Nothing => Line::Bad,
+        Rest::Number(_) => Line::Bad,
+        Rest::T => Line::Report,
         Rest::Other => Line::Bad,
     }
 }
@@ -145,6 +181,7 @@ impl Reading {
         match head {
             Head::LIST => Line::List,
             Head::STATE => state_line(rest),
+            Head::REPORT => report_line(rest),
             Head::OPEN => open_line(rest),
             Head::STEP => step_line(rest),
             _ => Line::Bad,

@@ -75,6 +75,7 @@ fn end_line(line: u64, says: Line) -> Taken
         Line::List => Taken::Asks(Line::List, begin(next)),
         Line::Step(d) => Taken::Asks(Line::Step(d), begin(next)),
         Line::State => Taken::Asks(Line::State, begin(next)),
+        Line::Report => Taken::Asks(Line::Report, begin(next)),
         Line::Bad => Taken::Wrong(line),
     }
 }

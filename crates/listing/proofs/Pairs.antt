@@ -52,7 +52,7 @@ numbers-row c (v ∷ u ∷ w ∷ vs) o = absurd (omega (arith, o .two))
 
 module _ {t roots scopes : List ℕ} {zs : List ℤ} {m : Resolved.Model} {s : State} (w : World t roots scopes zs m s) where
   pub pairs-are : pairCount zs ≡ length (s .pairs)
-  pairs-are = ap pairCount (w .numbers) ∙ count-numbers (scopesOf m) (few-scopes m (w .good)) (m .channels) s (good-fits m s (w .state)) .1
+  pairs-are = ap pairCount (w .numbers) ∙ count-numbers (scopesOf m) (few-scopes m (w .good)) (m .channels) s (good-fits m s (w .good) (w .state)) .1
 
   pub some-pair : (q : ℕ) → q < pairCount zs → (x : offers.Pair) × (getElem? (s .pairs) q ≡ some x)
   some-pair q l = got-some (s .pairs) q (omega (arith, pairs-are))
@@ -60,7 +60,7 @@ module _ {t roots scopes : List ℕ} {zs : List ℤ} {m : Resolved.Model} {s : S
   pub pair-at : (q : ℕ) (x : offers.Pair) → getElem? (s .pairs) q ≡ some x → (row : List ℤ) → row ≡ pairRow zs q → PairRow row (x .values)
   pair-at q x at row e =
       let g = every-nth (GoodPair m) (w .state .pairs) (get-nth (s .pairs) q at) in
-      let r = e ∙ ap (λ y. pairRow y q) (w .numbers) ∙ row-numbers (scopesOf m) (few-scopes m (w .good)) (m .channels) s (good-fits m s (w .state)) q x at ∙ pair-shape x in
+      let r = e ∙ ap (λ y. pairRow y q) (w .numbers) ∙ row-numbers (scopesOf m) (few-scopes m (w .good)) (m .channels) s (good-fits m s (w .good) (w .state)) q x at ∙ pair-shape x in
       rw r (numbers-row (x .channel) (x .values) (g .number))
 
 -- a small count as an i64
@@ -72,14 +72,14 @@ module _ {t roots scopes : List ℕ} {zs : List ℤ} {m : Resolved.Model} {s : S
   rows-are : rows 5 (pairCount zs) (pairPart zs) ≡ map pairNumbers (s .pairs)
   rows-are =
       ap (λ (n : ℕ). rows 5 n (pairPart zs)) (pairs-are w) ∙ ap (λ (y : List ℤ). rows 5 (length (s .pairs)) (pairPart y)) (w .numbers)
-      ∙ pair-rows (scopesOf m) (few-scopes m (w .good)) (m .channels) s (good-fits m s (w .state))
+      ∙ pair-rows (scopesOf m) (few-scopes m (w .good)) (m .channels) s (good-fits m s (w .good) (w .state))
 
   pub rows-ascend : ascends (rows 5 (pairCount zs) (pairPart zs)) ≡ true
   rows-ascend = rw rows-are (climbing (s .pairs) (w .state .ascending))
 
   run-at : (c : offers.Channel) → RunIs (s .pairs) c (placeOf (rowOn c 0) (map pairNumbers (s .pairs))) (placeOf (rowOn c 3) (map pairNumbers (s .pairs)))
   run-at c =
-      let f = good-fits m s (w .state) in
+      let f = good-fits m s (w .good) (w .state) in
       let b = run-bound c (m .channels) (s .pairs) (f .pairs) (w .state .ascending) in
       record { low = b .0; high = b .1; exact = λ q x e. run-exact c (m .channels) (s .pairs) (f .pairs) (w .state .ascending) q x e }
 

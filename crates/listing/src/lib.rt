@@ -52,7 +52,9 @@ impl Limits {
 
     pub const ENTRY: usize = 7;
 
-    // Where an entry's weight stands.
+    // Where an entry's place and its weight stand.
+    pub const PLACE: usize = 1;
+
     pub const WEIGHT: usize = 6;
 
     pub const TOTAL: u64 = 9000000000000000000;
@@ -332,7 +334,7 @@ fn list_bound(
 // Whether the handshake receive in a row matches what a branch sends.
 fn row_matches(
     nodes: &[u64],
-    scopes: &[u8],
+    scopes: &[u16],
     state: &[i64],
     heads: &[u64],
     numbers: &[i64],
@@ -357,7 +359,7 @@ fn row_matches(
 // The entry of a handshake with the receive in a row, if that is of another process and matches.
 fn list_partner(
     nodes: &[u64],
-    scopes: &[u8],
+    scopes: &[u16],
     state: &[i64],
     heads: &[u64],
     numbers: &[i64],
@@ -400,7 +402,7 @@ fn list_partner(
 // The entries of a handshake send: one for each receive of another process that matches.
 fn list_partners(
     nodes: &[u64],
-    scopes: &[u8],
+    scopes: &[u16],
     state: &[i64],
     heads: &[u64],
     numbers: &[i64],
@@ -469,7 +471,7 @@ fn list_alone(
 // The entries of a receive or a check.
 fn list_query(
     nodes: &[u64],
-    scopes: &[u8],
+    scopes: &[u16],
     state: &[i64],
     o: Offer,
     place: usize,
@@ -503,7 +505,7 @@ fn list_query(
 // The entries of the branch in a row.
 fn list_row(
     nodes: &[u64],
-    scopes: &[u8],
+    scopes: &[u16],
     state: &[i64],
     heads: &[u64],
     numbers: &[i64],
@@ -559,7 +561,7 @@ fn list_row(
 // The entries of all rows, in order; none is sought past the first that the buffer has no room for.
 fn list_rows(
     nodes: &[u64],
-    scopes: &[u8],
+    scopes: &[u16],
     state: &[i64],
     heads: &[u64],
     numbers: &[i64],
@@ -599,7 +601,7 @@ fn list_rows(
 pub fn list_all(
     nodes: &[u64],
     roots: &[u16],
-    scopes: &[u8],
+    scopes: &[u16],
     state: &[i64],
     heads: &mut [u64],
     numbers: &mut [i64],

@@ -14,7 +14,8 @@ use Rattle.rules.specs.Listing.{Entry}
 use Rattle.rules.proofs.Decides.{Decides, holds, fails, passes, both, equal}
 use Rattle.machine.specs.State.{State, stateLength}
 use Rattle.machine.specs.Machine.{modelLength, listingLength, asLent, Answer, no, listedAs, Listed, entriesAre, refusedWith, listing, Turn, drawn, Machine, closed, holding}
-use Rattle.machine.specs.Machine.{Call, open′, list′, step′, lent, turn, opens, showing, lists, stepped, choosing, stepsOn, calls}
+use Rattle.machine.specs.Machine.{reportedAs, Call, open′, list′, step′, report′, lent, turn, opens, showing, lists, sharing, reports, stepped, choosing, stepsOn, calls}
+use Rattle.machine.specs.Report.{reportLength}
 use Rattle.machine.specs.Questions.{Lists, no12, no13, no14, yes14, Steps, no15, no16, no17, no18, no19, yes19}
 use Rattle.machine.specs.Results as results
 use Rattle.machine.specs.Results.{Runs, Lent, Carries, under1, under2-10, under11, under12, under13, under14, under15-19}
@@ -33,8 +34,9 @@ lent-so : (ml sl : ℕ) → Decides ((ml ≡ modelLength) × (sl ≡ stateLength
 unfolding lent
 lent-so ml sl = both (equal ml modelLength) (equal sl stateLength)
 
-all-lent : (ml sl ll : ℕ) → Decides (((ml ≡ modelLength) × (sl ≡ stateLength)) × (ll ≡ listingLength)) (lent ml sl && eqb ll listingLength)
-all-lent ml sl ll = both (lent-so ml sl) (equal ll listingLength)
+-- with a third buffer, which has this length
+all-lent : (right ml sl ll : ℕ) → Decides (((ml ≡ modelLength) × (sl ≡ stateLength)) × (ll ≡ right)) (lent ml sl && eqb ll right)
+all-lent right ml sl ll = both (lent-so ml sl) (equal ll right)
 
 -- 1, or what comes after it
 either : {x : Machine} {c : Call} {b : Bool} {t : Turn Machine} → Decides (Lent c) b → Kept x c t → Kept x c (cond b t (turn x (no 1 0 0 asLent)))
@@ -68,6 +70,18 @@ list-kept (holding m s) ml sl ll = go (asked m s (listing m s) .0 refl)
     go (no14 e h l f) = record { carries = under14 tt; stays = λ r n. refl; one = λ e. absurd (omega arith); eleven = λ e. absurd (omega arith) }
     go (yes14 e h l f) = record { carries = results.lists _; stays = λ r n. refl; one = λ e. absurd (omega arith); eleven = λ e. absurd (omega arith) }
 
+-- ---- report
+report-kept : (x : Machine) (ml sl rl : ℕ) → Kept x (report′ ml sl rl) (reports x)
+unfolding reports sharing turn no reportedAs Runs
+report-kept closed ml sl rl = record { carries = under11 tt; stays = λ r n. refl; one = λ e. absurd (omega arith); eleven = λ e. refl }
+report-kept (holding m s) ml sl rl = go (asked m s (listing m s) .0 refl)
+  where
+    go : {l : Listed} → Lists m s l → Kept (holding m s) (report′ ml sl rl) (sharing m s l)
+    go (no12 f) = record { carries = under12 _ _ tt; stays = λ r n. refl; one = λ e. absurd (omega arith); eleven = λ e. absurd (omega arith) }
+    go (no13 e h l) = record { carries = under13 tt; stays = λ r n. refl; one = λ e. absurd (omega arith); eleven = λ e. absurd (omega arith) }
+    go (no14 e h l f) = record { carries = under14 tt; stays = λ r n. refl; one = λ e. absurd (omega arith); eleven = λ e. absurd (omega arith) }
+    go (yes14 e h l f) = record { carries = results.reports _ _; stays = λ r n. refl; one = λ e. absurd (omega arith); eleven = λ e. absurd (omega arith) }
+
 -- ---- step
 step-kept : (x : Machine) (ml sl ll d : ℕ) → Kept x (step′ ml sl ll d) (stepsOn x d)
 unfolding stepsOn choosing stepped turn no listedAs Runs
@@ -92,8 +106,9 @@ step-kept (holding m s) ml sl ll d = go (asked m s (listing m s) .0 refl)
 kept : (x : Machine) (c : Call) → Kept x c (calls x c)
 unfolding calls Lent
 kept x (open′ text ml sl) = either (lent-so ml sl) (opening-kept x text ml sl (answered text))
-kept x (list′ ml sl ll) = either (all-lent ml sl ll) (list-kept x ml sl ll)
-kept x (step′ ml sl ll d) = either (all-lent ml sl ll) (step-kept x ml sl ll d)
+kept x (list′ ml sl ll) = either (all-lent listingLength ml sl ll) (list-kept x ml sl ll)
+kept x (step′ ml sl ll d) = either (all-lent listingLength ml sl ll) (step-kept x ml sl ll d)
+kept x (report′ ml sl rl) = either (all-lent reportLength ml sl rl) (report-kept x ml sl rl)
 
 -- 01, Opening a text, Listing and stepping: what an answer carries
 pub carries : (x : Machine) (c : Call) → Carries c (calls x c .answer)
@@ -114,18 +129,20 @@ unlent x c = (kept x c .one, back c)
 
     back : (c : Call) → (Lent c → ⊥) → calls x c .answer .number ≡ 1
     back (open′ text ml sl) n = cut (opens (opening text)) (lent-so ml sl) n
-    back (list′ ml sl ll) n = cut (lists x) (all-lent ml sl ll) n
-    back (step′ ml sl ll d) n = cut (stepsOn x d) (all-lent ml sl ll) n
+    back (list′ ml sl ll) n = cut (lists x) (all-lent listingLength ml sl ll) n
+    back (step′ ml sl ll d) n = cut (stepsOn x d) (all-lent listingLength ml sl ll) n
+    back (report′ ml sl rl) n = cut (reports x) (all-lent reportLength ml sl rl) n
 
 -- 01, 11: a no exactly where the machine is closed
 pub eleven : (x : Machine) (c : Call) → Runs c → Lent c → (calls x c .answer .number ≡ 11) ↔ (x ≡ closed)
-unfolding calls lists stepsOn turn no Lent Runs
+unfolding calls lists stepsOn reports turn no Lent Runs
 eleven x c r l = (kept x c .eleven, λ e. rw e (back c r l))
   where
     back : (c : Call) → Runs c → Lent c → calls closed c .answer .number ≡ 11
     back (open′ text ml sl) r l = absurd r
-    back (list′ ml sl ll) r l = rw (passes (all-lent ml sl ll) l)
-    back (step′ ml sl ll d) r l = rw (passes (all-lent ml sl ll) l)
+    back (list′ ml sl ll) r l = rw (passes (all-lent listingLength ml sl ll) l)
+    back (step′ ml sl ll d) r l = rw (passes (all-lent listingLength ml sl ll) l)
+    back (report′ ml sl rl) r l = rw (passes (all-lent reportLength ml sl rl) l)
 
 -- 01, Rule machine: a list call moves nothing
 pub list-stays : (x : Machine) (ml sl ll : ℕ) → calls x (list′ ml sl ll) .machine ≡ x
@@ -139,6 +156,20 @@ list-stays x ml sl ll = by (lent ml sl && eqb ll listingLength) x
     by : (b : Bool) (x : Machine) → cond b (lists x) (turn x (no 1 0 0 asLent)) .machine ≡ x
     by true closed = refl
     by true (holding m s) = shown m s (listing m s)
+    by false x = refl
+
+-- 02, note 6: nor does a report
+pub report-stays : (x : Machine) (ml sl rl : ℕ) → calls x (report′ ml sl rl) .machine ≡ x
+unfolding calls reports sharing turn
+report-stays x ml sl rl = by (lent ml sl && eqb rl reportLength) x
+  where
+    shared : (m : Resolved.Model) (s : State) (l : Listed) → sharing m s l .machine ≡ holding m s
+    shared m s (entriesAre es) = refl
+    shared m s (refusedWith a) = refl
+
+    by : (b : Bool) (x : Machine) → cond b (reports x) (turn x (no 1 0 0 asLent)) .machine ≡ x
+    by true closed = refl
+    by true (holding m s) = shared m s (listing m s)
     by false x = refl
 
 -- 01, Opening a text: 1 changes nothing, 2 to 10 close the machine

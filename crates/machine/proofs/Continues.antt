@@ -1,7 +1,7 @@
 -- In a good model, definitions and continuations become good processes: by cases of parts, from the ranges of arguments.
-use mathlib.Core.Path.{_≡_, refl, sym, subst}
+use mathlib.Core.Path.{_≡_, refl, sym, ap, subst}
 use mathlib.Core.List.{List, [], _∷_, map}
-use mathlib.Core.Option.{Option·elim}
+use mathlib.Core.Option.{Option, Option·elim}
 use Prim.Native.Nat.{ℕ}
 use lib.IntN.{ℤ}
 use lib.ListN.{length, length-map}
@@ -12,7 +12,7 @@ use Rattle.model.specs.Resolved
 use Rattle.rules.specs.Rules.{Nth}
 use Rattle.machine.specs.Evaluate.{evalExpr}
 use Rattle.model.specs.Good.{Every, GoodExpr, SumWith, Callable, GoodPart, GoodBranch, GoodSum, GoodDefined, GoodModel}
-use Rattle.machine.specs.Offer.{Process, orZero, branchesOf, called, partProcesses, nextProcesses}
+use Rattle.machine.specs.Offer.{Process, orZero, branchesOf, definitionOf, processAt, called, partProcesses, nextProcesses}
 use Rattle.machine.specs.State.{GoodProcess}
 use Rattle.machine.specs.Questions.{BranchAt}
 use Rattle.machine.proofs.Branches.{get-nth}
@@ -29,19 +29,24 @@ argument-good ls r n e g = go (evalExpr ls e) refl
     go Missing q = zero-good
 
 module _ (m : Resolved.Model) (good : GoodModel m) where
+  -- a sum with as many locals as it has in scope
+  pub process-good : (n : ℕ) (ls : List ℤ) → SumWith m (length ls) n → Every InRange ls → GoodProcess m (processAt m n ls)
+  unfolding processAt definitionOf Option·elim
+  process-good n ls h r = record { sum = h; values = r; definition = ap (λ (o : Option Resolved.Sum). Option·elim o 0 (λ (s : Resolved.Sum). s .definition)) (h .exists) }
+
   -- a definition called with as many values as it has parameters
   pub called-good : (d : ℕ) (vs : List ℤ) → Callable m (length vs) d → Every InRange vs → Every (GoodProcess m) (called m d vs)
   unfolding called Option·elim
   called-good d vs c r =
       rw (c .exists)
-      (every-map (SumWith m (c .definition .params)) (GoodProcess m) (λ n. record { sum = n; locals = vs })
-      (λ n h. record { sum = subst (λ (k : ℕ). SumWith m k n) (c .params) h; values = r })
+      (every-map (SumWith m (c .definition .params)) (GoodProcess m) (λ n. processAt m n vs)
+      (λ n h. process-good n vs (subst (λ (k : ℕ). SumWith m k n) (c .params) h) r)
       (c .definition .sums) (every-nth (GoodDefined m) (good .definitions) (get-nth (m .definitions) d (c .exists)) .sums))
 
   module _ (ls : List ℤ) (r : Every InRange ls) where
     part-good : (x : Resolved.Part) → GoodPart m (length ls) x → Every (GoodProcess m) (partProcesses m ls x)
     unfolding partProcesses GoodPart Every
-    part-good (Resolved.enter k) g = (record { sum = g; values = r }, tt)
+    part-good (Resolved.enter k) g = (process-good k ls g r, tt)
     part-good (Resolved.call d es) g =
         let vs = map (λ (e : Resolved.Expr). orZero (evalExpr ls e)) es in
         let l : length es ≡ length vs = sym (length-map es (λ (e : Resolved.Expr). orZero (evalExpr ls e))) in

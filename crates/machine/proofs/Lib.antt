@@ -20,3 +20,4 @@ pub mod Called
 pub mod Sheet
 pub mod Starred
 pub mod Carries
+pub mod Report

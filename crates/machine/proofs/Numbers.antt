@@ -1,4 +1,4 @@
--- A state's numbers are 3,586, and over a good model they tell the state: from the widths of processes and pairs, and since a list is told by what is padded.
+-- A state's numbers are 3,842, and over a good model they tell the state: from the widths of processes and pairs, and since a list is told by what is padded.
 use mathlib.Core.Path.{_≡_, refl, sym, ap, ap₂, _∙_}
 use mathlib.Core.List.{List, [], _∷_, _++_}
 use Prim.Native.Nat.{ℕ, _+_, _-_, _*_, _≤_}
@@ -104,19 +104,21 @@ module _ (m : Resolved.Model) (good : GoodModel m) where
 
   process-length : (p : Process) → GoodProcess m p → length (processNumbers p) ≡ processWidth
   unfolding processNumbers
-  process-length p g = omega (arith, padded-length localLimit (p .locals) (few-locals p g))
+  process-length p g = omega (arith, length-append (padded localLimit (p .locals)) (pos (p .definition) ∷ []), padded-length localLimit (p .locals) (few-locals p g))
 
   pub process-told : (p q : Process) → GoodProcess m p → GoodProcess m q → processNumbers p ≡ processNumbers q → p ≡ q
   unfolding processNumbers
   process-told p q g h e =
       let a : p .sum ≡ q .sum = cc in
-      let b : padded localLimit (p .locals) ≡ padded localLimit (q .locals) = cc in
+      let b : padded localLimit (p .locals) ++ pos (p .definition) ∷ [] ≡ padded localLimit (q .locals) ++ pos (q .definition) ∷ [] = cc in
+      let k = split (padded localLimit (p .locals)) (padded localLimit (q .locals)) _ _ (padded-length localLimit (p .locals) (few-locals p g) ∙ sym (padded-length localLimit (q .locals) (few-locals q h))) b in
+      let d : p .definition ≡ q .definition = cc (k .1) in
       let s : g .sum .sum ≡ h .sum .sum = some-is _ _ (sym (g .sum .exists) ∙ ap (getElem? (m .sums)) a ∙ h .sum .exists) in
       let l : length (p .locals) ≡ length (q .locals) = sym (g .sum .scope) ∙ ap (λ (t : Resolved.Sum). t .locals) s ∙ h .sum .scope in
-      ap₂ make a (padded-told localLimit (p .locals) (q .locals) l b)
+      ap₂ (λ (n : ℕ) (ls : List ℤ). make n ls (p .definition)) a (padded-told localLimit (p .locals) (q .locals) l (k .0)) ∙ ap (make (q .sum) (q .locals)) d
     where
-      make : ℕ → List ℤ → Process
-      make n ls = record { sum = n; locals = ls }
+      make : ℕ → List ℤ → ℕ → Process
+      make n ls d = record { sum = n; locals = ls; definition = d }
 
   -- ---- states
   module _ (s : State) (g : GoodState m s) where
@@ -132,7 +134,7 @@ module _ (m : Resolved.Model) (good : GoodModel m) where
     pairs-length : length (pairRows s) ≡ pairLimit * pairWidth
     pairs-length = padded-length (pairLimit * pairWidth) _ (omega (arith, pairs-flat, g .few-pairs))
 
-    -- 01, State: 3,586 numbers
+    -- 01, State: 3,842 numbers
     pub state-length : length (stateNumbers s) ≡ stateLength
     unfolding stateNumbers
     state-length = omega (arith, processes-length, pairs-length, length-append (processRows s) (pairRows s))

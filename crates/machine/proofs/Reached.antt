@@ -11,7 +11,8 @@ use Rattle.rules.specs.Listing.{Entry}
 use Rattle.model.specs.Good.{GoodModel}
 use Rattle.machine.specs.State.{State, GoodState}
 use Rattle.machine.specs.Machine.{Listed, entriesAre, refusedWith, listing, Turn, drawn, Machine, closed, holding, Call, open′, list′}
-use Rattle.machine.specs.Machine.{step′, listingLength, lent, turn, opens, showing, lists, stepped, choosing, stepsOn, calls, after}
+use Rattle.machine.specs.Machine.{step′, report′, listingLength, lent, turn, opens, showing, lists, sharing, reports, stepped, choosing, stepsOn, calls, after}
+use Rattle.machine.specs.Report.{reportLength}
 use Rattle.machine.specs.Questions.{Steps, no15, no16, no17, no18, no19, yes19}
 use Rattle.machine.proofs.Listing.{accepted}
 use Rattle.machine.proofs.Stepping as stepping
@@ -50,6 +51,15 @@ module _ (opened-model : (text : List ℕ) (m : Resolved.Model) → opening text
       go (entriesAre es) = h
       go (refusedWith a) = h
 
+  reporting-good : (x : Machine) → GoodMachine x → GoodMachine (reports x .machine)
+  unfolding reports sharing GoodMachine turn
+  reporting-good closed h = tt
+  reporting-good (holding m s) h = go (listing m s)
+    where
+      go : (l : Listed) → GoodMachine (sharing m s l .machine)
+      go (entriesAre es) = h
+      go (refusedWith a) = h
+
   stepping-good : (x : Machine) (d : ℕ) → GoodMachine x → GoodMachine (stepsOn x d .machine)
   unfolding stepsOn choosing stepped GoodMachine turn
   stepping-good closed d h = tt
@@ -73,6 +83,7 @@ module _ (opened-model : (text : List ℕ) (m : Resolved.Model) → opening text
   call-good x (open′ text ml sl) h = either-good (lent ml sl) _ _ (opening-good text) h
   call-good x (list′ ml sl ll) h = either-good (lent ml sl && eqb ll listingLength) _ _ (listing-good x h) h
   call-good x (step′ ml sl ll draw) h = either-good (lent ml sl && eqb ll listingLength) _ _ (stepping-good x draw h) h
+  call-good x (report′ ml sl rl) h = either-good (lent ml sl && eqb rl reportLength) _ _ (reporting-good x h) h
 
   -- every list of calls
   pub after-good : (cs : List Call) (x : Machine) → GoodMachine x → GoodMachine (after x cs)

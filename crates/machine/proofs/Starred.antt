@@ -28,7 +28,7 @@ use Rattle.machine.specs.Starred.{Specimen, sheet, rowOne, rowTwo, minus
 -- the answers of a machine that opened to this, to these calls
 unfoldable answering : Opening → List Call → List Answer
 unfolding answers machine.no machine.listedAs opens machine.turn machine.calls machine.lent machine.lists machine.showing machine.stepped machine.stepsOn machine.choosing
-    machine.openedState machine.startProcesses machine.copies offer.called machine.listing machine.counted offer.missing offer.missingBranch offer.isNone offer.branches
+    machine.openedState machine.startProcesses machine.copies offer.definitionOf offer.processAt offer.called machine.listing machine.counted offer.missing offer.missingBranch offer.isNone offer.branches
     offer.branchesOf offer.offered offer.partProcesses offer.nextProcesses offer.orZero evaluate.evalBranch evaluate.evalGate evaluate.evalOffer evaluate.evalRate
     evaluate.evalScale evaluate.inRate evaluate.evalAction evaluate.evalPair evaluate.evalQuery evaluate.evalChannel evaluate.evalAll evaluate.evalValue
     evaluate.evalSet evaluate.joined evaluate.evalCond evaluate.related evaluate.evalExpr evaluate.apply evaluate.withValue evaluate.valued evaluate.given sumOf quotientOf

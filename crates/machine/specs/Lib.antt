@@ -1,6 +1,7 @@
 pub mod Evaluate
 pub mod Offer
 pub mod State
+pub mod Report
 pub mod Machine
 pub mod Questions
 pub mod Specimens

@@ -18,6 +18,7 @@ use Rattle.rules.specs.Draw.{weights, total, chosen}
 use Rattle.rules.specs.Step as steps
 use Rattle.machine.specs.Offer.{Process, branchesOf, called, argumentsGiven, branches, missing}
 use Rattle.machine.specs.State.{State, stateLength, pairLimit}
+use Rattle.machine.specs.Report.{reportLength, reportOf}
 
 -- ---- lengths of what is lent
 
@@ -39,13 +40,14 @@ listingLength = entryLimit * entryWidth
 
 -- ---- answers
 
--- 01, Rule machine: the listing buffer after a call, as it was lent where this document neither fills nor zeroes it
+-- 01, Rule machine: the listing buffer after a call, as it was lent where this document neither fills nor zeroes it; 02, note 6: or the report, by its numbers
 pub data Shown : Type 0 where
   asLent : Shown
   zeroed : Shown
   filled : List Entry → Shown
+  reported : List ℕ → Shown
 
--- 01, Rule machine: all that the result carries, and the listing; place is a byte's of a text, or a process's
+-- 01, Rule machine: all that the result carries, and the listing or report; place is a byte's of a text, or a process's
 pub record Answer : Type 0 where
   pub number : ℕ
   pub place : ℕ
@@ -62,6 +64,10 @@ no n p b l = record { number = n; place = p; branch = b; count = 0; total = 0; c
 -- 01, Listing and stepping: acceptance and 15 to 19 carry entry count and total, and leave the listing filled
 unfoldable pub listedAs : ℕ → ℕ → List Entry → Answer
 listedAs n c es = record { number = n; place = 0; branch = 0; count = length es; total = total (weights es); chosen = c; listing = filled es }
+
+-- 02, note 6: an accepted report carries entry count and total as a list call does, and leaves these numbers
+unfoldable pub reportedAs : List ℕ → List Entry → Answer
+reportedAs ns es = record { number = 0; place = 0; branch = 0; count = length es; total = total (weights es); chosen = 0; listing = reported ns }
 
 -- ---- listing: 12 to 14
 
@@ -159,11 +165,12 @@ startProcesses m (s ∷ ss) = copies (s .count) (called m (s .definition) (s .va
 unfoldable pub openedState : Resolved.Model → State
 openedState m = record { processes = startProcesses m (m .starts); pairs = [] }
 
--- 01, Rule machine: a text or a draw, and the lengths of the model, state and listing buffers that are lent
+-- 01, Rule machine: a text or a draw, and the lengths of the model, state and listing buffers that are lent; 02, note 6: of a report its own
 pub data Call : Type 0 where
   open′ : (text : List ℕ) (model state : ℕ) → Call
   list′ : (model state listing : ℕ) → Call
   step′ : (model state listing draw : ℕ) → Call
+  report′ : (model state report : ℕ) → Call
 
 -- 01, 1: have model and state buffers their lengths?
 unfoldable pub lent : ℕ → ℕ → Bool
@@ -187,6 +194,16 @@ unfoldable pub lists : Machine → Turn Machine
 lists closed = turn closed (no 11 0 0 asLent)
 lists (holding m s) = showing m s (listing m s)
 
+-- 02, note 6: a report is refused as a listing is, and moves nothing either
+unfoldable pub sharing : Resolved.Model → State → Listed → Turn Machine
+sharing m s (entriesAre es) = turn (holding m s) (reportedAs (reportOf m s es) es)
+sharing m s (refusedWith a) = turn (holding m s) a
+
+-- 02, note 6: 11, then the listing's questions
+unfoldable pub reports : Machine → Turn Machine
+reports closed = turn closed (no 11 0 0 asLent)
+reports (holding m s) = sharing m s (listing m s)
+
 -- the same machine with the state that a step leaves
 unfoldable pub stepped : Resolved.Model → Turn State → Turn Machine
 stepped m t = turn (holding m (t .machine)) (t .answer)
@@ -206,6 +223,7 @@ unfoldable pub calls : Machine → Call → Turn Machine
 calls x (open′ text model state) = cond (lent model state) (opens (opening text)) (turn x (no 1 0 0 asLent))
 calls x (list′ model state listing) = cond (lent model state && eqb listing listingLength) (lists x) (turn x (no 1 0 0 asLent))
 calls x (step′ model state listing draw) = cond (lent model state && eqb listing listingLength) (stepsOn x draw) (turn x (no 1 0 0 asLent))
+calls x (report′ model state report) = cond (lent model state && eqb report reportLength) (reports x) (turn x (no 1 0 0 asLent))
 
 -- 01, Rule machine: the answers to a list of calls, in order, and the machine afterwards
 unfoldable pub answers : Machine → List Call → List Answer

@@ -11,10 +11,11 @@ use Rattle.model.specs.Resolved
 use Rattle.rules.specs.Offers as offers
 use Rattle.machine.specs.Evaluate.{evalExpr, evalBranch}
 
--- 01, State: a sum by its number, and its locals
+-- 01, State: a sum by its number, and its locals; 02, note 6: the number of the definition whose text holds the sum
 pub record Process : Type 0 where
   pub sum : ℕ
   pub locals : List ℤ
+  pub definition : ℕ
 
 -- ---- continuations
 
@@ -28,13 +29,21 @@ module _ (m : Resolved.Model) where
   unfoldable pub branchesOf : Process → List Resolved.Branch
   branchesOf p = Option·elim (getElem? (m .sums) (p .sum)) [] (λ s. s .branches)
 
+  -- 02, note 6: the definition whose text holds a sum (model: Written)
+  unfoldable pub definitionOf : ℕ → ℕ
+  definitionOf n = Option·elim (getElem? (m .sums) n) 0 (λ s. s .definition)
+
+  -- a process of sum n with these locals
+  unfoldable pub processAt : ℕ → List ℤ → Process
+  processAt n ls = record { sum = n; locals = ls; definition = definitionOf n }
+
   -- 01, Step: a definition's sums, with these values as locals
   unfoldable pub called : ℕ → List ℤ → List Process
-  called d vs = Option·elim (getElem? (m .definitions) d) [] (λ e. map (λ n. record { sum = n; locals = vs }) (e .sums))
+  called d vs = Option·elim (getElem? (m .definitions) d) [] (λ e. map (λ n. processAt n vs) (e .sums))
 
   -- 01, Step: a sum keeps the locals ls, among them the names bound by the prefix; a call has its arguments
   unfoldable pub partProcesses : List ℤ → Resolved.Part → List Process
-  partProcesses ls (Resolved.enter n) = record { sum = n; locals = ls } ∷ []
+  partProcesses ls (Resolved.enter n) = processAt n ls ∷ []
   partProcesses ls (Resolved.call d es) = called d (map (λ e. orZero (evalExpr ls e)) es)
 
   -- 01, Step: what a continuation becomes, left to right

@@ -41,7 +41,7 @@ sumOver bs = record { locals = 0; definition = 0; branches = bs }
 
 -- n processes, at sum 0
 abbrev crowd : ℕ → State
-crowd n = record { processes = replicate n (record { sum = 0; locals = [] }); pairs = [] }
+crowd n = record { processes = replicate n (record { sum = 0; locals = []; definition = 0 }); pairs = [] }
 
 -- ---- 14: a sender, and receivers that all match, each with rate 100000
 
@@ -54,7 +54,7 @@ handing bs =
 
 -- one process at sum 0, and n at sum 1
 abbrev hall : ℕ → State
-hall n = record { processes = record { sum = 0; locals = [] } ∷ replicate n (record { sum = 1; locals = [] }); pairs = [] }
+hall n = record { processes = record { sum = 0; locals = []; definition = 0 } ∷ replicate n (record { sum = 1; locals = []; definition = 0 }); pairs = [] }
 
 -- ---- 17 and 18
 
@@ -69,7 +69,7 @@ going xs = record {
 
 -- A[1]
 abbrev begun : State
-begun = record { processes = record { sum = 0; locals = pos 1 ∷ [] } ∷ []; pairs = [] }
+begun = record { processes = record { sum = 0; locals = pos 1 ∷ []; definition = 0 } ∷ []; pairs = [] }
 
 -- 1/0
 abbrev missing : Resolved.Expr
@@ -126,7 +126,7 @@ pub refusals :
     × (stepped (lighting 255) (chain 0 (lamps 0 256)) ≡ 0)
     × (stepped (dousing 255) (chain 0 (lamps 0 256)) ≡ 0)
 unfolding
-    offer.called machine.listing machine.counted offer.missing offer.missingBranch offer.isNone offer.branches offer.branchesOf offer.offered
+    offer.definitionOf offer.processAt offer.called machine.listing machine.counted offer.missing offer.missingBranch offer.isNone offer.branches offer.branchesOf offer.offered
     offer.partProcesses offer.nextProcesses offer.orZero evaluate.evalBranch evaluate.evalGate evaluate.evalOffer evaluate.evalRate evaluate.evalScale
     evaluate.inRate evaluate.evalAction evaluate.evalPair evaluate.evalQuery evaluate.evalChannel evaluate.evalAll evaluate.evalValue evaluate.evalSet
     evaluate.evalCond evaluate.related evaluate.evalExpr evaluate.apply evaluate.withValue evaluate.valued evaluate.given sumOf quotientOf floorQuotient

@@ -79,9 +79,9 @@ sheet = record {
       ∷ record { definition = 1; count = 1; values = pos 1 ∷ [] } ∷ [];
 }
 
--- a process of sum n with one local
+-- a process of sum n with one local; here each definition has one sum, of the same number
 abbrev process : ℕ → ℤ → Process
-process n z = record { sum = n; locals = z ∷ [] }
+process n z = record { sum = n; locals = z ∷ []; definition = n }
 
 -- lamps with these numbers and a post
 abbrev bench : ℤ → ℤ → ℤ → State
@@ -123,7 +123,7 @@ lit = record { channel = offers.named 0; values = pos 1 ∷ [] }
 
 -- one process, at sum n
 abbrev pub chain : ℕ → List offers.Pair → State
-chain n L = record { processes = record { sum = n; locals = [] } ∷ []; pairs = L }
+chain n L = record { processes = record { sum = n; locals = []; definition = 0 } ∷ []; pairs = L }
 
 -- an entry of this kind, with rate 1
 abbrev entryOf : ℕ → List lists.Entry
@@ -190,7 +190,7 @@ pub specimens :
     × (calls closed (list′ modelLength stateLength listingLength) ≡ turn closed (no 11 0 0 asLent))
     × (calls closed (list′ modelLength stateLength 7169) ≡ turn closed (no 1 0 0 asLent))
 unfolding
-    openedState machine.startProcesses machine.copies offer.called listing machine.counted offer.missing offer.missingBranch offer.isNone offer.branches
+    openedState machine.startProcesses machine.copies offer.definitionOf offer.processAt offer.called listing machine.counted offer.missing offer.missingBranch offer.isNone offer.branches
     offer.branchesOf offer.offered offer.partProcesses offer.nextProcesses offer.orZero evalBranch evaluate.evalGate evaluate.evalOffer evalRate
     evaluate.evalScale evaluate.inRate evaluate.evalAction evaluate.evalPair evaluate.evalQuery evaluate.evalChannel evaluate.evalAll evaluate.evalValue
     evaluate.evalSet evalCond evaluate.related evaluate.evalExpr evaluate.apply evaluate.withValue evaluate.valued evaluate.given sumOf quotientOf

@@ -1,4 +1,5 @@
 -- States over a model, and their numbers (01, State). Assumes nothing: these are definitions.
+use mathlib.Core.Path.{_≡_}
 use mathlib.Core.List.{List, [], _∷_, _++_}
 use Prim.Native.Nat.{ℕ, _+_, _-_, _*_, _≤_, _<_}
 use lib.IntN.{ℤ, pos}
@@ -17,17 +18,24 @@ use Rattle.machine.specs.Offer.{Process}
 abbrev pub pairLimit : ℕ
 pairLimit = 256
 
--- 01, State: sum number and 8 locals
+-- 01, State, and 02, note 6: sum number, 8 locals, definition number
 abbrev pub processWidth : ℕ
-processWidth = 1 + localLimit
+processWidth = 2 + localLimit
 
 -- 01, State: kind, channel, count of values and 2 values
 abbrev pub pairWidth : ℕ
 pairWidth = 5
 
--- 01, State: both counts, the processes, the pairs: 3,586 numbers
+-- 01, State: the numbers of all processes, and of all pairs
+abbrev pub processRoom : ℕ
+processRoom = processLimit * processWidth
+
+abbrev pub pairRoom : ℕ
+pairRoom = pairLimit * pairWidth
+
+-- 01, State: both counts, the processes, the pairs: 3,842 numbers
 abbrev pub stateLength : ℕ
-stateLength = 2 + processLimit * processWidth + pairLimit * pairWidth
+stateLength = 2 + processRoom + pairRoom
 
 -- 01, State: a list of processes, and a set of lit pairs, kept as an ascending list
 abbrev pub State : Type 0
@@ -46,10 +54,11 @@ pub record GoodPair (m : Resolved.Model) (x : offers.Pair) : Type 0 where
   pub number : OneOrTwo (x .values)
   pub values : Every InRange (x .values)
 
--- 01, Listing, 11: a sum that exists, with as many locals as it has in scope, in range
+-- 01, Listing, 11: a sum that exists, with as many locals as it has in scope, in range; 02, note 6: the definition whose text holds the sum
 pub record GoodProcess (m : Resolved.Model) (p : Process) : Type 0 where
   pub sum : SumWith m (length (p .locals)) (p .sum)
   pub values : Every InRange (p .locals)
+  pub definition : p .definition ≡ sum .sum .definition
 
 -- 01, Listing, 11: a state over the model
 pub record GoodState (m : Resolved.Model) (s : State) : Type 0 where
@@ -65,9 +74,9 @@ pub record GoodState (m : Resolved.Model) (s : State) : Type 0 where
 unfoldable pub padded : ℕ → List ℤ → List ℤ
 padded n zs = zs ++ replicate (n - length zs) (pos 0)
 
--- 01, State: sum number and 8 locals
+-- 01, State, and 02, note 6: sum number, 8 locals, definition number
 unfoldable pub processNumbers : Process → List ℤ
-processNumbers p = pos (p .sum) ∷ padded localLimit (p .locals)
+processNumbers p = pos (p .sum) ∷ (padded localLimit (p .locals) ++ pos (p .definition) ∷ [])
 
 -- 01, State: kind, channel, count of values, 2 values
 unfoldable pub pairNumbers : offers.Pair → List ℤ
@@ -78,11 +87,11 @@ unfoldable pub flatten : {A : Type 0} → (A → List ℤ) → List A → List �
 flatten f [] = []
 flatten f (x ∷ xs) = f x ++ flatten f xs
 
--- 01, State: the 3,586 numbers of a state
+-- 01, State: the 3,842 numbers of a state
 unfoldable pub stateNumbers : State → List ℤ
 stateNumbers s =
     pos (length (s .processes)) ∷ pos (length (s .pairs))
-    ∷ (padded (processLimit * processWidth) (flatten processNumbers (s .processes)) ++ padded (pairLimit * pairWidth) (flatten pairNumbers (s .pairs)))
+    ∷ (padded processRoom (flatten processNumbers (s .processes)) ++ padded pairRoom (flatten pairNumbers (s .pairs)))
 
 -- 01, Fresh: no process, no pair
 unfoldable pub emptyState : State

@@ -4,7 +4,7 @@ use mathlib.Core.Path.{_≡_, refl, sym, ap, subst, _∙_}
 use mathlib.Core.List.{List, [], _∷_, _++_, List·Memᴰ as In, List·Memᴰ·head as head, List·Memᴰ·tail as tail}
 use mathlib.Core.Bool.{Bool, true}
 use mathlib.Core.Option.{Option, some}
-use Prim.Native.Nat.{ℕ, zero, suc, _+_, _≤_}
+use Prim.Native.Nat.{ℕ, zero, suc, _+_, _≤_, _<_}
 use native.Mathlib.Decide.{decLe}
 use native.Mathlib.Omega.{arith}
 use lib.ListN.{length, getElem?, length-append}
@@ -175,12 +175,13 @@ module _ (w : ℕ → List ℕ) (m : Syntax.Model) where
         by (yes l) = l
         by (no l) = let g = got-some (branchesIn s) branchLimit (omega arith) in absurd (seventeenth (g .0) (record { sum = s; stands = h; place = g .1 }))
 
-    sum-good : {sc : Scope} (n : ℕ) (b : Syntax.Branches) (d : ℕ) → SumIn m sc (Syntax.sum n b) → GoodSum M (record { locals = length sc; definition = d; branches = resolveBranches w vs ds cs sc b })
+    sum-good : {sc : Scope} (n : ℕ) (b : Syntax.Branches) (d : ℕ) → d < length (M .definitions) → SumIn m sc (Syntax.sum n b) → GoodSum M (record { locals = length sc; definition = d; branches = resolveBranches w vs ds cs sc b })
     unfolding branchesIn
-    sum-good {sc} n b d h =
+    sum-good {sc} n b d u h =
         let c = branches-count b sc in
         record {
           few = room h;
+          definition = u;
           some-branch = omega arith;
           few-branches = let f = few-branches (Syntax.sum n b) h in omega arith;
           branches = every-branch b sc (λ x i. let g = in-got (branchesOf b) i in branch-good x (record { sum = Syntax.sum n b; stands = h; place = g .1 }));
@@ -195,46 +196,46 @@ module _ (w : ℕ → List ℕ) (m : Syntax.Model) where
     mutual
       unfolding sumTree branchesTree branchTree nextTree contTree contsTree Every branchesOf branchesIn itemsOf
 
-      sums-of : (s : Syntax.Sum) (d : ℕ) (sc : Scope) → SumIn m sc s → Every (GoodSum M) (sumTree w vs ds cs d sc s)
-      sums-of (Syntax.sum n b) d sc h = (sum-good n b d h, sums-of-branches b d sc (λ k g a r c i t l. continued h i l))
+      sums-of : (s : Syntax.Sum) (d : ℕ) (u : d < length (M .definitions)) (sc : Scope) → SumIn m sc s → Every (GoodSum M) (sumTree w vs ds cs d sc s)
+      sums-of (Syntax.sum n b) d u sc h = (sum-good n b d u h, sums-of-branches b d u sc (λ k g a r c i t l. continued h i l))
 
-      sums-of-branches : (b : Syntax.Branches) (d : ℕ) (sc : Scope)
+      sums-of-branches : (b : Syntax.Branches) (d : ℕ) (u : d < length (M .definitions)) (sc : Scope)
           → ((k : ℕ) (g : Syntax.Gate) (a : Syntax.Action) (r : Syntax.Rate) (c : Syntax.Cont) → In (Syntax.branch k g a r (Syntax.dot c)) (branchesOf b) → Stand (sc ++ bindings a) c)
           → Every (GoodSum M) (branchesTree w vs ds cs d sc b)
-      sums-of-branches (Syntax.lastBranch b) d sc h = sums-of-branch b d sc (λ k g a r c e. h k g a r c (head (sym e)))
-      sums-of-branches (Syntax.nextBranch b r) d sc h =
-          every-append (GoodSum M) (branchTree w vs ds cs d sc b) (branchesTree w vs ds cs d sc r) (sums-of-branch b d sc (λ k g a q c e. h k g a q c (head (sym e)))) (sums-of-branches r d sc (λ k g a q c i. h k g a q c (tail i)))
+      sums-of-branches (Syntax.lastBranch b) d u sc h = sums-of-branch b d u sc (λ k g a r c e. h k g a r c (head (sym e)))
+      sums-of-branches (Syntax.nextBranch b r) d u sc h =
+          every-append (GoodSum M) (branchTree w vs ds cs d sc b) (branchesTree w vs ds cs d sc r) (sums-of-branch b d u sc (λ k g a q c e. h k g a q c (head (sym e)))) (sums-of-branches r d u sc (λ k g a q c i. h k g a q c (tail i)))
 
-      sums-of-branch : (b : Syntax.Branch) (d : ℕ) (sc : Scope)
+      sums-of-branch : (b : Syntax.Branch) (d : ℕ) (u : d < length (M .definitions)) (sc : Scope)
           → ((k : ℕ) (g : Syntax.Gate) (a : Syntax.Action) (r : Syntax.Rate) (c : Syntax.Cont) → b ≡ Syntax.branch k g a r (Syntax.dot c) → Stand (sc ++ bindings a) c)
           → Every (GoodSum M) (branchTree w vs ds cs d sc b)
-      sums-of-branch (Syntax.branch k g a r n) d sc h = sums-of-next n d (sc ++ bindings a) (λ c e. h k g a r c (ap (λ (x : Syntax.Next). Syntax.branch k g a r x) e))
+      sums-of-branch (Syntax.branch k g a r n) d u sc h = sums-of-next n d u (sc ++ bindings a) (λ c e. h k g a r c (ap (λ (x : Syntax.Next). Syntax.branch k g a r x) e))
 
-      sums-of-next : (n : Syntax.Next) (d : ℕ) (sc : Scope) → ((c : Syntax.Cont) → n ≡ Syntax.dot c → Stand sc c) → Every (GoodSum M) (nextTree w vs ds cs d sc n)
-      sums-of-next Syntax.stop d sc h = tt
-      sums-of-next (Syntax.dot c) d sc h = sums-of-cont c d sc (h c refl)
+      sums-of-next : (n : Syntax.Next) (d : ℕ) (u : d < length (M .definitions)) (sc : Scope) → ((c : Syntax.Cont) → n ≡ Syntax.dot c → Stand sc c) → Every (GoodSum M) (nextTree w vs ds cs d sc n)
+      sums-of-next Syntax.stop d u sc h = tt
+      sums-of-next (Syntax.dot c) d u sc h = sums-of-cont c d u sc (h c refl)
 
-      sums-of-cont : (c : Syntax.Cont) (d : ℕ) (sc : Scope) → Stand sc c → Every (GoodSum M) (contTree w vs ds cs d sc c)
-      sums-of-cont (Syntax.proceed s) d sc h = sums-of s d sc (h s (itself refl))
-      sums-of-cont (Syntax.call k a) d sc h = tt
-      sums-of-cont (Syntax.group k c) d sc h = sums-of-conts c d sc (λ x i t l. h t (grouped i l))
+      sums-of-cont : (c : Syntax.Cont) (d : ℕ) (u : d < length (M .definitions)) (sc : Scope) → Stand sc c → Every (GoodSum M) (contTree w vs ds cs d sc c)
+      sums-of-cont (Syntax.proceed s) d u sc h = sums-of s d u sc (h s (itself refl))
+      sums-of-cont (Syntax.call k a) d u sc h = tt
+      sums-of-cont (Syntax.group k c) d u sc h = sums-of-conts c d u sc (λ x i t l. h t (grouped i l))
 
-      sums-of-conts : (c : Syntax.Conts) (d : ℕ) (sc : Scope) → ((x : Syntax.Cont) → In x (itemsOf c) → Stand sc x) → Every (GoodSum M) (contsTree w vs ds cs d sc c)
-      sums-of-conts (Syntax.lastCont c) d sc h = sums-of-cont c d sc (h c (head refl))
-      sums-of-conts (Syntax.nextCont c r) d sc h =
-          every-append (GoodSum M) (contTree w vs ds cs d sc c) (contsTree w vs ds cs d sc r) (sums-of-cont c d sc (h c (head refl))) (sums-of-conts r d sc (λ x i. h x (tail i)))
+      sums-of-conts : (c : Syntax.Conts) (d : ℕ) (u : d < length (M .definitions)) (sc : Scope) → ((x : Syntax.Cont) → In x (itemsOf c) → Stand sc x) → Every (GoodSum M) (contsTree w vs ds cs d sc c)
+      sums-of-conts (Syntax.lastCont c) d u sc h = sums-of-cont c d u sc (h c (head refl))
+      sums-of-conts (Syntax.nextCont c r) d u sc h =
+          every-append (GoodSum M) (contTree w vs ds cs d sc c) (contsTree w vs ds cs d sc r) (sums-of-cont c d u sc (h c (head refl))) (sums-of-conts r d u sc (λ x i. h x (tail i)))
 
-    sums-of-sums : (s : Syntax.Sums) (d : ℕ) (sc : Scope) → ((x : Syntax.Sum) → In x (sumsOf s) → SumIn m sc x) → Every (GoodSum M) (sumsTree w vs ds cs d sc s)
+    sums-of-sums : (s : Syntax.Sums) (d : ℕ) (u : d < length (M .definitions)) (sc : Scope) → ((x : Syntax.Sum) → In x (sumsOf s) → SumIn m sc x) → Every (GoodSum M) (sumsTree w vs ds cs d sc s)
     unfolding sumsTree sumsOf
-    sums-of-sums (Syntax.lastSum s) d sc h = sums-of s d sc (h s (head refl))
-    sums-of-sums (Syntax.nextSum s r) d sc h =
-        every-append (GoodSum M) (sumTree w vs ds cs d sc s) (sumsTree w vs ds cs d sc r) (sums-of s d sc (h s (head refl))) (sums-of-sums r d sc (λ x i. h x (tail i)))
+    sums-of-sums (Syntax.lastSum s) d u sc h = sums-of s d u sc (h s (head refl))
+    sums-of-sums (Syntax.nextSum s r) d u sc h =
+        every-append (GoodSum M) (sumTree w vs ds cs d sc s) (sumsTree w vs ds cs d sc r) (sums-of s d u sc (h s (head refl))) (sums-of-sums r d u sc (λ x i. h x (tail i)))
 
-    sums-of-all : (es : List Definition) (n : ℕ) → ((d : Definition) → In d es → In d ds) → Every (GoodSum M) (allSums w vs ds cs n es)
+    sums-of-all : (es : List Definition) (n : ℕ) → n + length es ≡ length (M .definitions) → ((d : Definition) → In d es → In d ds) → Every (GoodSum M) (allSums w vs ds cs n es)
     unfolding allSums Every
-    sums-of-all [] n h = tt
-    sums-of-all (d ∷ es) n h =
-        every-append (GoodSum M) (sumsTree w vs ds cs n (d .params) (d .sums)) (allSums w vs ds cs (suc n) es) (sums-of-sums (d .sums) n (d .params) (λ x i. stands.defined (h d (head refl)) i)) (sums-of-all es (suc n) (λ x i. h x (tail i)))
+    sums-of-all [] n e h = tt
+    sums-of-all (d ∷ es) n e h =
+        every-append (GoodSum M) (sumsTree w vs ds cs n (d .params) (d .sums)) (allSums w vs ds cs (suc n) es) (sums-of-sums (d .sums) n (omega arith) (d .params) (λ x i. stands.defined (h d (head refl)) i)) (sums-of-all es (suc n) (omega arith) (λ x i. h x (tail i)))
 
     -- ---- definitions
 
@@ -282,7 +283,7 @@ module _ (w : ℕ → List ℕ) (m : Syntax.Model) where
     unfolding resolved
     closes =
         record {
-          sums = sums-of-all ds 0 (λ d i. i);
+          sums = sums-of-all ds 0 (omega (arith, length-each defined ds)) (λ d i. i);
           few-definitions = omega (arith, length-each defined ds, ok .definitions);
           definitions = every-each (GoodDefined M) defined ds definition-good;
           starts = every-each (GoodStart M) (resolveStart w vs ds cs) (starts m) start-good;

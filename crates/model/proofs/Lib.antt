@@ -30,3 +30,5 @@ pub mod Ordered
 pub mod Lone
 pub mod Channels
 pub mod InOrder
+pub mod Written
+pub mod Scope

@@ -11,7 +11,8 @@ use Rattle.grammar.specs.Syntax
 use Rattle.model.specs.Sites.{Scope, bindings, Variable, Definition, definitions}
 use Rattle.model.specs.Resolved
 use Rattle.model.specs.Resolved.{sumNumber, resolveBranches, sumTree, branchesTree, branchTree, nextTree, contTree, contsTree, sumsTree, allSums}
-use Rattle.model.specs.Stands.{branchesOf, branchesIn, itemsOf, sumsOf, Holds, itself, grouped, SumIn, defined, continued}
+use Rattle.model.specs.Stands.{branchesOf, branchesIn, itemsOf, sumsOf, Holds, itself, grouped, SumIn, defined, continued, WrittenIn, own, following}
+use Rattle.model.proofs.Members.{never, got-in, in-got}
 use Rattle.model.proofs.Numbered.{countSum, countBranches, countBranch, countNext, countCont, countConts, countSums, countDefinitions, SumFrom, BranchesFrom, BranchFrom, ContFrom, ContsFrom, SumsFrom, DefinitionsFrom}
 
 -- ---- a part of a list from a place on
@@ -87,53 +88,58 @@ module _ (w : ℕ → List ℕ) (vs : List Variable) (ds : List Definition) (cs 
   -- ---- a sum's tree stands from its number on
   module _ (all : List Resolved.Sum) where
     -- the trees of a sum, a branch, a continuation stand in the list from where their numbers begin
-    abbrev SumPlaced : Scope → Syntax.Sum → Type 0
-    SumPlaced sc s = (d : ℕ) × (n : ℕ) × Part all n (sumTree w vs ds cs d sc s) × SumFrom s n
+    abbrev SumPlaced : ℕ → Scope → Syntax.Sum → Type 0
+    SumPlaced d sc s = (n : ℕ) × Part all n (sumTree w vs ds cs d sc s) × SumFrom s n
 
-    abbrev BranchPlaced : Scope → Syntax.Branch → Type 0
-    BranchPlaced sc b = (d : ℕ) × (n : ℕ) × Part all n (branchTree w vs ds cs d sc b) × BranchFrom b n
+    abbrev BranchPlaced : ℕ → Scope → Syntax.Branch → Type 0
+    BranchPlaced d sc b = (n : ℕ) × Part all n (branchTree w vs ds cs d sc b) × BranchFrom b n
 
-    abbrev ContPlaced : Scope → Syntax.Cont → Type 0
-    ContPlaced sc c = (d : ℕ) × (n : ℕ) × Part all n (contTree w vs ds cs d sc c) × ContFrom c n
+    abbrev ContPlaced : ℕ → Scope → Syntax.Cont → Type 0
+    ContPlaced d sc c = (n : ℕ) × Part all n (contTree w vs ds cs d sc c) × ContFrom c n
 
-    in-branches : {x : Syntax.Branch} (b : Syntax.Branches) (d : ℕ) (sc : Scope) (n : ℕ) → In x (branchesOf b) → Part all n (branchesTree w vs ds cs d sc b) → BranchesFrom b n → BranchPlaced sc x
+    in-branches : {x : Syntax.Branch} (b : Syntax.Branches) (d : ℕ) (sc : Scope) (n : ℕ) → In x (branchesOf b) → Part all n (branchesTree w vs ds cs d sc b) → BranchesFrom b n → BranchPlaced d sc x
     unfolding branchesOf branchesTree
-    in-branches (Syntax.lastBranch b) d sc n i p f = subst (λ (y : Syntax.Branch). BranchPlaced sc y) (sym (eq-of-singleton i)) (d, n, p, f)
+    in-branches (Syntax.lastBranch b) d sc n i p f = subst (λ (y : Syntax.Branch). BranchPlaced d sc y) (sym (eq-of-singleton i)) (n, p, f)
     in-branches {x} (Syntax.nextBranch b r) d sc n i p f =
-        ⊎-elim (λ (e : x ≡ b). subst (λ (y : Syntax.Branch). BranchPlaced sc y) (sym e) (d, n, front all _ _ p, f .0))
+        ⊎-elim (λ (e : x ≡ b). subst (λ (y : Syntax.Branch). BranchPlaced d sc y) (sym e) (n, front all _ _ p, f .0))
         (λ (j : In x (branchesOf r)). in-branches r d sc (n + countBranch b) j (subst (λ (k : ℕ). Part all (n + k) (branchesTree w vs ds cs d sc r)) (length-branch b d sc) (behind all (branchTree w vs ds cs d sc b) _ p)) (f .1)) (cases i)
 
-    in-sum : {x : Syntax.Branch} (s : Syntax.Sum) (sc : Scope) → In x (branchesIn s) → SumPlaced sc s → BranchPlaced sc x
+    in-sum : {x : Syntax.Branch} (s : Syntax.Sum) (d : ℕ) (sc : Scope) → In x (branchesIn s) → SumPlaced d sc s → BranchPlaced d sc x
     unfolding branchesIn sumTree
-    in-sum (Syntax.sum k b) sc i (d, n, p, f) = in-branches b d sc (n + 1) i (behind all (record { locals = length sc; definition = d; branches = resolveBranches w vs ds cs sc b } ∷ []) (branchesTree w vs ds cs d sc b) p) (f .1)
+    in-sum (Syntax.sum k b) d sc i (n, p, f) = in-branches b d sc (n + 1) i (behind all (record { locals = length sc; definition = d; branches = resolveBranches w vs ds cs sc b } ∷ []) (branchesTree w vs ds cs d sc b) p) (f .1)
 
-    in-conts : {x : Syntax.Cont} (c : Syntax.Conts) (d : ℕ) (sc : Scope) (n : ℕ) → In x (itemsOf c) → Part all n (contsTree w vs ds cs d sc c) → ContsFrom c n → ContPlaced sc x
+    in-conts : {x : Syntax.Cont} (c : Syntax.Conts) (d : ℕ) (sc : Scope) (n : ℕ) → In x (itemsOf c) → Part all n (contsTree w vs ds cs d sc c) → ContsFrom c n → ContPlaced d sc x
     unfolding itemsOf contsTree
-    in-conts (Syntax.lastCont c) d sc n i p f = subst (λ (y : Syntax.Cont). ContPlaced sc y) (sym (eq-of-singleton i)) (d, n, p, f)
+    in-conts (Syntax.lastCont c) d sc n i p f = subst (λ (y : Syntax.Cont). ContPlaced d sc y) (sym (eq-of-singleton i)) (n, p, f)
     in-conts {x} (Syntax.nextCont c r) d sc n i p f =
-        ⊎-elim (λ (e : x ≡ c). subst (λ (y : Syntax.Cont). ContPlaced sc y) (sym e) (d, n, front all _ _ p, f .0))
+        ⊎-elim (λ (e : x ≡ c). subst (λ (y : Syntax.Cont). ContPlaced d sc y) (sym e) (n, front all _ _ p, f .0))
         (λ (j : In x (itemsOf r)). in-conts r d sc (n + countCont c) j (subst (λ (k : ℕ). Part all (n + k) (contsTree w vs ds cs d sc r)) (length-cont c d sc) (behind all (contTree w vs ds cs d sc c) _ p)) (f .1)) (cases i)
 
-    in-cont : {x c : Syntax.Cont} (sc : Scope) → Holds x c → ContPlaced sc c → ContPlaced sc x
+    in-cont : {x c : Syntax.Cont} (d : ℕ) (sc : Scope) → Holds x c → ContPlaced d sc c → ContPlaced d sc x
     unfolding contTree
-    in-cont sc (itself e) p = rw e at p
-    in-cont sc (grouped {cs = g} i h) (d, n, p, f) = in-cont sc h (in-conts g d sc n i p f)
+    in-cont d sc (itself e) p = rw e at p
+    in-cont d sc (grouped {cs = g} i h) (n, p, f) = in-cont d sc h (in-conts g d sc n i p f)
 
-    in-sums : {x : Syntax.Sum} (s : Syntax.Sums) (d : ℕ) (sc : Scope) (n : ℕ) → In x (sumsOf s) → Part all n (sumsTree w vs ds cs d sc s) → SumsFrom s n → SumPlaced sc x
+    in-sums : {x : Syntax.Sum} (s : Syntax.Sums) (d : ℕ) (sc : Scope) (n : ℕ) → In x (sumsOf s) → Part all n (sumsTree w vs ds cs d sc s) → SumsFrom s n → SumPlaced d sc x
     unfolding sumsOf sumsTree
-    in-sums (Syntax.lastSum s) d sc n i p f = subst (λ (y : Syntax.Sum). SumPlaced sc y) (sym (eq-of-singleton i)) (d, n, p, f)
+    in-sums (Syntax.lastSum s) d sc n i p f = subst (λ (y : Syntax.Sum). SumPlaced d sc y) (sym (eq-of-singleton i)) (n, p, f)
     in-sums {x} (Syntax.nextSum s r) d sc n i p f =
-        ⊎-elim (λ (e : x ≡ s). subst (λ (y : Syntax.Sum). SumPlaced sc y) (sym e) (d, n, front all _ _ p, f .0))
+        ⊎-elim (λ (e : x ≡ s). subst (λ (y : Syntax.Sum). SumPlaced d sc y) (sym e) (n, front all _ _ p, f .0))
         (λ (j : In x (sumsOf r)). in-sums r d sc (n + countSum s) j (subst (λ (k : ℕ). Part all (n + k) (sumsTree w vs ds cs d sc r)) (length-sum s d sc) (behind all (sumTree w vs ds cs d sc s) _ p)) (f .1)) (cases i)
 
-    in-definitions : {x : Syntax.Sum} {e : Definition} (es : List Definition) (d n : ℕ) → In e es → In x (sumsOf (e .sums)) → Part all n (allSums w vs ds cs d es) → DefinitionsFrom es n → SumPlaced (e .params) x
+    in-definitions : {x : Syntax.Sum} {e : Definition} (es : List Definition) (d n i : ℕ) → getElem? es i ≡ some e → In x (sumsOf (e .sums)) → Part all n (allSums w vs ds cs d es) → DefinitionsFrom es n → SumPlaced (d + i) (e .params) x
     unfolding allSums
-    in-definitions [] d n i j p f = absurd (nowhere i)
-    in-definitions {x} {e} (g ∷ es) d n i j p f = by (λ (k : In e es) q h. in-definitions es (suc d) (n + countSums (g .sums)) k j q h) (cases i)
-      where
-        by : (In e es → Part all (n + countSums (g .sums)) (allSums w vs ds cs (suc d) es) → DefinitionsFrom es (n + countSums (g .sums)) → SumPlaced (e .params) x) → (e ≡ g) ⊎ In e es → SumPlaced (e .params) x
-        by r (inl q) = in-sums (e .sums) d (e .params) n j (rw (sym q) at (front all (sumsTree w vs ds cs d (g .params) (g .sums)) (allSums w vs ds cs (suc d) es) p)) (rw (sym q) at (f .0))
-        by r (inr k) = r k (subst (λ (l : ℕ). Part all (n + l) (allSums w vs ds cs (suc d) es)) (length-sums (g .sums) d (g .params)) (behind all (sumsTree w vs ds cs d (g .params) (g .sums)) _ p)) (f .1)
+    in-definitions [] d n i q j p f = never q
+    in-definitions {x} {e} (g ∷ es) d n zero q j p f =
+        let r : g ≡ e = cc in
+        let z : d ≡ d + 0 = omega arith in
+        subst (λ (y : Definition). SumPlaced (d + 0) (y .params) x) r
+        (subst (λ (k : ℕ). SumPlaced k (g .params) x) z
+        (in-sums (g .sums) d (g .params) n (subst (λ (y : Definition). In x (sumsOf (y .sums))) (sym r) j) (front all (sumsTree w vs ds cs d (g .params) (g .sums)) (allSums w vs ds cs (suc d) es) p) (f .0)))
+    in-definitions {x} {e} (g ∷ es) d n (suc i) q j p f =
+        let z : suc d + i ≡ d + suc i = omega arith in
+        subst (λ (k : ℕ). SumPlaced k (e .params) x) z
+        (in-definitions es (suc d) (n + countSums (g .sums)) i q j (subst (λ (l : ℕ). Part all (n + l) (allSums w vs ds cs (suc d) es)) (length-sums (g .sums) d (g .params)) (behind all (sumsTree w vs ds cs d (g .params) (g .sums)) _ p)) (f .1))
 
 -- ---- in the resolved model
 
@@ -141,18 +147,41 @@ module _ (w : ℕ → List ℕ) (vs : List Variable) (ds : List Definition) (cs 
   abbrev all : List Resolved.Sum
   all = allSums w vs ds cs 0 (definitions m)
 
-  placed : {sc : Scope} {s : Syntax.Sum} → SumIn m sc s → SumPlaced w vs ds cs all sc s
-  unfolding branchTree nextTree contTree
-  placed (defined {d = d} i j) = in-definitions w vs ds cs all (definitions m) 0 0 i j (whole all) from
-  placed (continued {sc = sc} {s = s} {a = a} h i k) =
-      let b = in-sum w vs ds cs all s sc i (placed h) in
-      in-cont w vs ds cs all (sc ++ bindings a) k b
+  in-text : {x : Syntax.Sum} {e : Definition} (n : ℕ) → getElem? (definitions m) n ≡ some e → In x (sumsOf (e .sums)) → SumPlaced w vs ds cs all n (e .params) x
+  in-text {x} {e} n q j = let z : 0 + n ≡ n = omega arith in subst (λ (k : ℕ). SumPlaced w vs ds cs all k (e .params) x) z (in-definitions w vs ds cs all (definitions m) 0 0 n q j (whole all) from)
 
-  found-sum : (sc : Scope) (s : Syntax.Sum) (d n : ℕ) → Part all n (sumTree w vs ds cs d sc s) → SumFrom s n → (x : Resolved.Sum) × (getElem? all (sumNumber s) ≡ some x) × (x .locals ≡ length sc)
+  -- a sum's tree stands in the list from its number on, with its scope and its definition
+  placed : {n : ℕ} {s : Syntax.Sum} → WrittenIn m n s → (sc : Scope) × SumIn m sc s × SumPlaced w vs ds cs all n sc s
+  unfolding branchTree nextTree contTree
+  placed {n} (own {d = d} e j) =
+      (d .params, defined (got-in (definitions m) n e) j, in-text n e j)
+  placed {n} (following {s = s} {a = a} h i k) =
+      let p = placed h in
+      let b = in-sum w vs ds cs all s n (p .0) i (p .2) in
+      (p .0 ++ bindings a, continued (p .1) i k, in-cont w vs ds cs all n (p .0 ++ bindings a) k b)
+
+  -- a sum of the text is in some definition's, and its tree stands there
+  written : {sc : Scope} {s : Syntax.Sum} → SumIn m sc s → (n : ℕ) × WrittenIn m n s × SumPlaced w vs ds cs all n sc s
+  unfolding branchTree nextTree contTree
+  written (defined i j) = let g = in-got (definitions m) i in (g .0, own (g .1) j, in-text (g .0) (g .1) j)
+  written (continued {sc = sc} {s = s} {a = a} h i k) =
+      let p = written h in
+      let b = in-sum w vs ds cs all s (p .0) sc i (p .2) in
+      (p .0, following (p .1) i k, in-cont w vs ds cs all (p .0) (sc ++ bindings a) k b)
+
+  found-sum : (d : ℕ) (sc : Scope) (s : Syntax.Sum) → SumPlaced w vs ds cs all d sc s → (x : Resolved.Sum) × (getElem? all (sumNumber s) ≡ some x) × (x .locals ≡ length sc) × (x .definition ≡ d)
   unfolding sumTree sumNumber
-  found-sum sc (Syntax.sum k b) d n p f =
-      (record { locals = length sc; definition = d; branches = resolveBranches w vs ds cs sc b }, ap (getElem? all) (f .0) ∙ at-front all n (p .there), refl)
+  found-sum d sc (Syntax.sum k b) (n, p, f) =
+      (record { locals = length sc; definition = d; branches = resolveBranches w vs ds cs sc b }, ap (getElem? all) (f .0) ∙ at-front all n (p .there), refl, refl)
 
   -- a sum stands at its number, with as many locals as it has in scope
   pub located : {sc : Scope} {s : Syntax.Sum} → SumIn m sc s → (x : Resolved.Sum) × (getElem? all (sumNumber s) ≡ some x) × (x .locals ≡ length sc)
-  located {sc} {s} h = let p = placed h in found-sum sc s (p .0) (p .1) (p .2) (p .3)
+  located {sc} {s} h = let p = written h in let f = found-sum (p .0) sc s (p .2) in (f .0, f .1, f .2)
+
+  -- a sum that the text of definition n holds stands at its number, with n for its definition
+  pub located-in : {n : ℕ} {s : Syntax.Sum} → WrittenIn m n s → (x : Resolved.Sum) × (getElem? all (sumNumber s) ≡ some x) × (x .definition ≡ n)
+  located-in {n} {s} h = let p = placed h in let f = found-sum n (p .0) s (p .2) in (f .0, f .1, f .3)
+
+  -- and some definition's text holds every sum of the text
+  pub in-definition : {sc : Scope} {s : Syntax.Sum} → SumIn m sc s → (n : ℕ) × WrittenIn m n s
+  in-definition h = let p = written h in (p .0, p .1)

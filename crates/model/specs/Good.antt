@@ -132,9 +132,10 @@ module _ (m : Model) where
     pub rate : GoodRate n (b .rate)
     pub next : Every (GoodPart (n + namesBound (b .action))) (b .next)
 
-  -- 01, 7: at most 8 locals, and 16 branches
+  -- 01, 7: at most 8 locals, and 16 branches; a definition's text holds it
   pub record GoodSum (s : Sum) : Type 0 where
     pub few : s .locals ≤ localLimit
+    pub definition : s .definition < length (m .definitions)
     pub some-branch : 1 ≤ length (s .branches)
     pub few-branches : length (s .branches) ≤ branchLimit
     pub branches : Every (GoodBranch (s .locals)) (s .branches)

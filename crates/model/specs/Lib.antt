@@ -7,6 +7,7 @@ pub mod Given
 pub mod Resolved
 pub mod Opening
 pub mod Good
+pub mod Scope
 pub mod Stands
 pub mod Faults
 pub mod Questions

@@ -40,6 +40,12 @@ pub data SumIn (m : Syntax.Model) : Scope → Syntax.Sum → Type 0 where
   continued : {sc : Scope} {s t : Syntax.Sum} {k : ℕ} {g : Syntax.Gate} {a : Syntax.Action} {r : Syntax.Rate} {c : Syntax.Cont}
       → SumIn m sc s → In (Syntax.branch k g a r (Syntax.dot c)) (branchesIn s) → Holds (Syntax.proceed t) c → SumIn m (sc ++ bindings a) t
 
+-- a sum that the text of definition number n holds: one of its own, or one that follows a prefix of such a sum, groups included
+pub data WrittenIn (m : Syntax.Model) (n : ℕ) : Syntax.Sum → Type 0 where
+  own : {d : Definition} {s : Syntax.Sum} → getElem? (definitions m) n ≡ some d → In s (sumsOf (d .sums)) → WrittenIn m n s
+  following : {s t : Syntax.Sum} {k : ℕ} {g : Syntax.Gate} {a : Syntax.Action} {r : Syntax.Rate} {c : Syntax.Cont}
+      → WrittenIn m n s → In (Syntax.branch k g a r (Syntax.dot c)) (branchesIn s) → Holds (Syntax.proceed t) c → WrittenIn m n t
+
 -- branch number i of a sum, and the locals in scope there
 pub record BranchIn (m : Syntax.Model) (sc : Scope) (i : ℕ) (b : Syntax.Branch) : Type 0 where
   pub sum : Syntax.Sum

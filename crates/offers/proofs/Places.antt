@@ -22,6 +22,8 @@ use Rattle.machine.proofs.Branches.{none-not-some, get-nth}
 use Rattle.machine.proofs.Everys.{every-nth}
 use Rattle.state.specs.Read.{Passed, processCount, sumAt, localsAt}
 use Rattle.state.specs.Fits.{scopesOf}
+use Rattle.model.specs.Scope.{localsIn}
+use Rattle.model.proofs.Scope.{locals-in}
 use Rattle.state.proofs.Over.{good-fits, few-scopes}
 use Rattle.state.proofs.Read.{good-passed, count-numbers, sum-numbers, locals-numbers}
 use Rattle.offers.specs.declared.Walked.the-variants as walked
@@ -38,7 +40,7 @@ module _ {t roots scopes : List ℕ} {zs : List ℤ} {m : Resolved.Model} {s : S
   passed = rw (w .numbers) (good-passed m s (w .good) (w .state))
 
   pub places-are : processCount zs ≡ length (s .processes)
-  places-are = ap processCount (w .numbers) ∙ count-numbers (scopesOf m) (few-scopes m (w .good)) (m .channels) s (good-fits m s (w .state)) .0
+  places-are = ap processCount (w .numbers) ∙ count-numbers (scopesOf m) (few-scopes m (w .good)) (m .channels) s (good-fits m s (w .good) (w .state)) .0
 
   pub some-place : (i : ℕ) → i < processCount zs → (p : Process) × (getElem? (s .processes) i ≡ some p)
   some-place i l = got-some (s .processes) i (omega (arith, places-are))
@@ -59,16 +61,16 @@ module _ {t roots scopes : List ℕ} {zs : List ℤ} {m : Resolved.Model} {s : S
     sum-good = every-nth (GoodSum m) (w .good .sums) (get-nth (m .sums) (p .sum) exists)
 
     pub sum-is : sumAt zs i ≡ p .sum
-    sum-is = ap (λ y. sumAt y i) (w .numbers) ∙ sum-numbers (scopesOf m) (few-scopes m (w .good)) (m .channels) s (good-fits m s (w .state)) i p at
+    sum-is = ap (λ y. sumAt y i) (w .numbers) ∙ sum-numbers (scopesOf m) (few-scopes m (w .good)) (m .channels) s (good-fits m s (w .good) (w .state)) i p at
 
     pub sum-fits : (p .sum < length roots) × (p .sum < length scopes)
     sum-fits =
         let l = got-below (m .sums) (p .sum) exists in
         (omega (arith, w .represents .sums-are, w .represents .roots-fit), omega (arith, w .represents .sums-are, w .represents .scopes-fit))
 
-    pub scope-is : getD scopes (p .sum) 0 ≡ length (p .locals)
+    pub scope-is : localsIn (getD scopes (p .sum) 0) ≡ length (p .locals)
     unfolding sum
-    scope-is = w .represents .scope (p .sum) sum exists ∙ good .sum .scope
+    scope-is = ap localsIn (w .represents .scope (p .sum) sum exists) ∙ locals-in sum (sum-good .few) ∙ good .sum .scope
 
     pub few-locals : length (p .locals) ≤ localLimit
     few-locals = omega (arith, sum-good .few, good .sum .scope, sum-scope)
@@ -77,7 +79,7 @@ module _ {t roots scopes : List ℕ} {zs : List ℤ} {m : Resolved.Model} {s : S
         sum-scope = unfold sum in refl
 
     pub locals-are : localsAt zs i (length (p .locals)) ≡ p .locals
-    locals-are = ap (λ y. localsAt y i (length (p .locals))) (w .numbers) ∙ locals-numbers (scopesOf m) (few-scopes m (w .good)) (m .channels) s (good-fits m s (w .state)) i p at
+    locals-are = ap (λ y. localsAt y i (length (p .locals))) (w .numbers) ∙ locals-numbers (scopesOf m) (few-scopes m (w .good)) (m .channels) s (good-fits m s (w .good) (w .state)) i p at
 
     pub values-good : Every InRange (p .locals)
     values-good = good .values

@@ -246,12 +246,12 @@ fn collect_branches(
 }
 
 // The locals of the process at a place.
-pub fn locals_of<'a>(scopes: &[u8], state: &'a [i64], place: usize) -> &'a [i64]
+pub fn locals_of<'a>(scopes: &[u16], state: &'a [i64], place: usize) -> &'a [i64]
     requires { ⌜ ((t : List ℕ) × (roots : List ℕ) × (m : Resolved.Model) × (s : State) × Collect.World t roots (now scopes) (now state) m s) × (place < processCount (now state)) ⌝ }
     ensures { λ r. ⌜ ((t roots : List ℕ) (m : Resolved.Model) (s : State) → Collect.World t roots (now (scopes .entry)) (now (state .entry)) m s → now r ≡ localsOf (s .processes) place) ⌝ }
 {
     let sum = state::sum_at(state, place);
-    let count = scopes[sum] as usize;
+    let count = state::locals_in(scopes[sum]);
     state::locals_at(state, place, count)
 }
 
@@ -259,7 +259,7 @@ pub fn locals_of<'a>(scopes: &[u8], state: &'a [i64], place: usize) -> &'a [i64]
 fn collect_place(
     nodes: &[u64],
     roots: &[u16],
-    scopes: &[u8],
+    scopes: &[u16],
     state: &[i64],
     place: usize,
     heads: &mut [u64],
@@ -270,7 +270,7 @@ fn collect_place(
     ensures { λ r. ⌜ ((m : Resolved.Model) (s : State) (p : Process) → Collect.World (now (nodes .entry)) (now (roots .entry)) (now (scopes .entry)) (now (state .entry)) m s → getElem? (s .processes) place ≡ some p → Collect.Collects (now (nodes .entry)) (p .locals) place 0 row (now (heads .entry)) (now (numbers .entry)) (now (heads .exit)) (now (numbers .exit)) (branchesOf m p) r) ⌝ }
 {
     let sum = state::sum_at(state, place);
-    let count = scopes[sum] as usize;
+    let count = state::locals_in(scopes[sum]);
     let locals = state::locals_at(state, place, count);
     let root = roots[sum] as usize;
     collect_branches(nodes, locals, place, 0, root, heads, numbers, row)
@@ -280,7 +280,7 @@ fn collect_place(
 pub fn collect(
     nodes: &[u64],
     roots: &[u16],
-    scopes: &[u8],
+    scopes: &[u16],
     state: &[i64],
     heads: &mut [u64],
     numbers: &mut [i64],

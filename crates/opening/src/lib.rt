@@ -183,7 +183,7 @@ fn settle_tree(
     high: &[u64],
     nodes: &mut [u64],
     roots: &mut [u16],
-    scopes: &mut [u8],
+    scopes: &mut [u16],
     names: &mut [u64],
     root: usize,
     n: usize,
@@ -212,7 +212,7 @@ pub fn read_model(
     high: &mut [u64],
     nodes: &mut [u64],
     roots: &mut [u16],
-    scopes: &mut [u8],
+    scopes: &mut [u16],
     names: &mut [u64],
 ) -> Held
     requires { ⌜ Room (now kinds) (now places) (now sizes) (now low) (now high) (now nodes) ⌝ }
@@ -250,7 +250,7 @@ pub fn open_text(
     high: &mut [u64],
     nodes: &mut [u64],
     roots: &mut [u16],
-    scopes: &mut [u8],
+    scopes: &mut [u16],
     names: &mut [u64],
 ) -> Opened
     requires { ⌜ Room (now kinds) (now places) (now sizes) (now low) (now high) (now nodes) ⌝ }

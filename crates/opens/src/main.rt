@@ -42,7 +42,7 @@ fn put_opened(text: &[u8]) {
     let mut high = [0u64; question::Limits::TOKENS];
     let mut nodes = [0u64; question::Limits::TOKENS];
     let mut roots = [0u16; question::Limits::TOKENS];
-    let mut scopes = [0u8; question::Limits::TOKENS];
+    let mut scopes = [0u16; question::Limits::TOKENS];
     let mut names = [0u64; question::Limits::TOKENS];
     let opened = opening::open_text(
         text,

@@ -14,3 +14,4 @@ pub mod Before
 pub mod Launched
 pub mod Killed
 pub mod Inside
+pub mod Subtotals

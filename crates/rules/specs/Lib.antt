@@ -5,5 +5,6 @@ pub mod Rules
 pub mod Pairs
 pub mod Listing
 pub mod Draw
+pub mod Subtotals
 pub mod Step
 pub mod Specimens

@@ -8,8 +8,8 @@ use borrow.Author.Tests.{leb-true, eq-eqb, ne-eqb}
 use lib.Dec.{eqb, leb}
 use lib.IntN.{ℤ}
 use lib.ListN.{take, drop, take-append-drop}
-use Rattle.machine.specs.Machine.{Call, open′, list′, step′}
-use Rattle.buffers.specs.Effect.{openEffect, listEffect, stepEffect}
+use Rattle.machine.specs.Machine.{Call, open′, list′, step′, report′}
+use Rattle.buffers.specs.Effect.{openEffect, listEffect, stepEffect, reportEffect}
 use Rattle.engine.specs.declared.Answer as engine
 use Rattle.engine.specs.Gives.{Gives}
 use Rattle.script.specs.declared.Row.{Row}
@@ -25,12 +25,13 @@ module _ (r : Row) (t m s l : ℕ) (f : fits r t m s l ≡ true) where
   asks-text e = let a = row-asks r t m s l f in leb-true _ _ (sym (opening-fits r t m s l (a .model) (a .state) e) ∙ f)
 
   pub asks-listing : (r .kind ≡ 1 → ⊥) → r .listing ≤ l
-  asks-listing p = by (eqb (r .kind) 2) (eqb (r .kind) 3) (rw (ne-eqb (r .kind) 1 p) at (row-asks r t m s l f .kind))
+  asks-listing p = by (eqb (r .kind) 2) (eqb (r .kind) 3) (eqb (r .kind) 4) (rw (ne-eqb (r .kind) 1 p) at (row-asks r t m s l f .kind))
     where
-      by : (a b : Bool) → cond a (leb (r .listing) l) (cond b (leb (r .listing) l) false) ≡ true → r .listing ≤ l
-      by true b e = leb-true _ _ e
-      by false true e = leb-true _ _ e
-      by false false e = absurd (let z : _≡_ {A = ℕ} 0 1 = cc in omega arith)
+      by : (a b d : Bool) → cond a (leb (r .listing) l) (cond b (leb (r .listing) l) (cond d (leb (r .listing) l) false)) ≡ true → r .listing ≤ l
+      by true b d e = leb-true _ _ e
+      by false true d e = leb-true _ _ e
+      by false false true e = leb-true _ _ e
+      by false false false e = absurd (let z : _≡_ {A = ℕ} 0 1 = cc in omega arith)
 
 -- ---- what its call gives
 
@@ -63,10 +64,18 @@ module _ (row : Row) (texts bs : List ℕ) (zs : List ℤ) (ls : List ℕ) (r : 
         rw (ne-eqb (row .kind) 1 p, eq-eqb (row .kind) 2 e)
         (rw (take-append-drop (row .model) bs, take-append-drop (row .state) zs) at (gives (list′ (row .model) (row .state) (row .listing)) bs zs ls r (take (row .model) bs) (take (row .state) zs) l g))
 
-    pub stepping-called : (row .kind ≡ 2 → ⊥) → (zs′ : List ℤ) (l : List ℕ)
+    pub reporting-called : (row .kind ≡ 2 → ⊥) → row .kind ≡ 4 → (l : List ℕ)
+        → Gives (reportEffect (take (row .model) bs) (take (row .state) zs) (take (row .listing) ls)) r (take (row .model) bs) (take (row .state) zs) l
+        → Called (rowCall texts row) bs zs ls r bs zs (l ++ drop (row .listing) ls)
+    unfolding rowCall effectOf modelLent stateLent listingLent
+    reporting-called q e l g =
+        rw (ne-eqb (row .kind) 1 p, ne-eqb (row .kind) 2 q, eq-eqb (row .kind) 4 e)
+        (rw (take-append-drop (row .model) bs, take-append-drop (row .state) zs) at (gives (report′ (row .model) (row .state) (row .listing)) bs zs ls r (take (row .model) bs) (take (row .state) zs) l g))
+
+    pub stepping-called : (row .kind ≡ 2 → ⊥) → (row .kind ≡ 4 → ⊥) → (zs′ : List ℤ) (l : List ℕ)
         → Gives (stepEffect (take (row .model) bs) (take (row .state) zs) (take (row .listing) ls) (row .first)) r (take (row .model) bs) zs′ l
         → Called (rowCall texts row) bs zs ls r bs (zs′ ++ drop (row .state) zs) (l ++ drop (row .listing) ls)
     unfolding rowCall effectOf modelLent stateLent listingLent
-    stepping-called q zs′ l g =
-        rw (ne-eqb (row .kind) 1 p, ne-eqb (row .kind) 2 q)
+    stepping-called q u zs′ l g =
+        rw (ne-eqb (row .kind) 1 p, ne-eqb (row .kind) 2 q, ne-eqb (row .kind) 4 u)
         (rw (take-append-drop (row .model) bs) at (gives (step′ (row .model) (row .state) (row .listing) (row .first)) bs zs ls r (take (row .model) bs) zs′ l g))

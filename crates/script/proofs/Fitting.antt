@@ -49,9 +49,14 @@ module _ (r : Row) (t m s l : ℕ) where
           unfolding fits
           stepping-fits e = rw (le-leb (r .model) m h, le-leb (r .state) s g, ne-eqb (r .kind) 1 p, ne-eqb (r .kind) 2 q, eq-eqb (r .kind) 3 e)
 
-          pub no-kind : (r .kind ≡ 3 → ⊥) → fits r t m s l ≡ false
-          unfolding fits
-          no-kind e = rw (le-leb (r .model) m h, le-leb (r .state) s g, ne-eqb (r .kind) 1 p, ne-eqb (r .kind) 2 q, ne-eqb (r .kind) 3 e)
+          module _ (u : r .kind ≡ 3 → ⊥) where
+            pub reporting-fits : r .kind ≡ 4 → fits r t m s l ≡ leb (r .listing) l
+            unfolding fits
+            reporting-fits e = rw (le-leb (r .model) m h, le-leb (r .state) s g, ne-eqb (r .kind) 1 p, ne-eqb (r .kind) 2 q, ne-eqb (r .kind) 3 u, eq-eqb (r .kind) 4 e)
+
+            pub no-kind : (r .kind ≡ 4 → ⊥) → fits r t m s l ≡ false
+            unfolding fits
+            no-kind e = rw (le-leb (r .model) m h, le-leb (r .state) s g, ne-eqb (r .kind) 1 p, ne-eqb (r .kind) 2 q, ne-eqb (r .kind) 3 u, ne-eqb (r .kind) 4 e)
 
 -- an answer's numbers, one after the other
 pub written : (l : List ℕ) (r : engine.Answer) → answerWidth ≤ length l

@@ -8,13 +8,12 @@ use lib.ListN.{length, take, drop, length-take, length-drop}
 use lib.Seq.{length-take-le, drop-drop}
 use Rattle.machine.specs.State.{stateLength}
 use Rattle.machine.specs.Machine.{modelLength, listingLength, Machine, closed, Call, calls, answers, after}
-use Rattle.buffers.specs.Listing.{shown}
 use Rattle.buffers.specs.Calls.{fresh, Holds, zeros}
 use Rattle.buffers.proofs.Calls.{model-long, state-long}
 use Rattle.script.specs.declared.Row.{Row}
 use Rattle.script.specs.Rows.{answerWidth, Room, roomAfter, callOf, callsOf, rowsOf, callsIn}
 use Rattle.script.specs.Run.{Lent, roomOf, effectOf, answerNumbers, callLeft, nextLent, joined, runLeft, Ran}
-use Rattle.script.specs.Follows.{engineIn, answersNumbers, listingsShown, Follows, Refines}
+use Rattle.script.specs.Follows.{engineIn, answersNumbers, partShown, listingsShown, Follows, Refines}
 use Rattle.script.proofs.Front.{front-take, front-drop}
 use Rattle.script.proofs.Called.{Fits, call-fits, Done, done}
 
@@ -42,11 +41,11 @@ module _ (y : Machine) (c : Call) (x : Lent) (f : Fits c (roomOf x)) (h : Holds 
   unfolding callLeft
   answers-after = front-drop answerWidth (answerNumbers (effectOf c (x .model) (x .state) (x .listings) .answer)) (x .answers) answer-long
 
-  listing-is : take listingLength (z .listings) ≡ shown (calls y c .answer .listing) (take listingLength (x .listings))
+  listing-is : take listingLength (z .listings) ≡ partShown c (calls y c .answer) (take listingLength (x .listings))
   listing-is = ap (take listingLength) (d .listed) ∙ front-take listingLength _ (x .listings) (d .long)
 
   listings-after : drop listingLength (z .listings) ≡ drop listingLength (x .listings)
-  listings-after = ap (drop listingLength) (d .listed) ∙ front-drop listingLength (shown (calls y c .answer .listing) (take listingLength (x .listings))) (x .listings) (d .long)
+  listings-after = ap (drop listingLength) (d .listed) ∙ front-drop listingLength (partShown c (calls y c .answer) (take listingLength (x .listings))) (x .listings) (d .long)
 
   -- the room for the next row
   make-room : ℕ → ℕ → ℕ → ℕ → Room
@@ -76,7 +75,7 @@ module _ (y : Machine) (c : Call) (x : Lent) (f : Fits c (roomOf x)) (h : Holds 
             ap₂ (λ (a b : List ℕ). a ++ b) answer-is (g .answered ∙ ap (λ (l : List ℕ). answersNumbers (answers (calls y c .machine) cs) ++ drop (length cs * answerWidth) l) answers-after)
             ∙ sym (append-assoc n (answersNumbers (answers (calls y c .machine) cs)) _)
             ∙ ap (λ (l : List ℕ). (n ++ answersNumbers (answers (calls y c .machine) cs)) ++ l) (drop-drop (length cs * answerWidth) answerWidth (x .answers) ∙ ap (λ (i : ℕ). drop i (x .answers)) k);
-        listed = ap₂ (λ (a b : List ℕ). a ++ b) listing-is (g .listed ∙ ap (listingsShown (answers (calls y c .machine) cs)) listings-after);
+        listed = ap₂ (λ (a b : List ℕ). a ++ b) listing-is (g .listed ∙ ap (listingsShown (calls y c .machine) cs) listings-after);
         holds = g .holds;
         model-beyond = g .model-beyond ∙ d .model-beyond;
         state-beyond = g .state-beyond ∙ d .state-beyond;

@@ -4,11 +4,11 @@ use mathlib.Core.List.{List, [], _∷_, _++_}
 use Prim.Native.Nat.{ℕ, _*_}
 use lib.ListN.{length, take, drop}
 use Rattle.machine.specs.State.{stateLength}
-use Rattle.machine.specs.Machine.{modelLength, listingLength, Answer, Machine, Call, answers, after}
+use Rattle.machine.specs.Machine.{modelLength, listingLength, Answer, Machine, Call, calls, answers, after}
 use Rattle.buffers.specs.Listing.{shown}
 use Rattle.buffers.specs.Calls.{Engine, Holds}
 use Rattle.script.specs.Rows.{answerWidth, callsIn}
-use Rattle.script.specs.Run.{Lent, roomOf, answerNumbers}
+use Rattle.script.specs.Run.{Lent, roomOf, listingLent, answerNumbers}
 
 -- 01, State: the engine is the first numbers of the model and the state
 unfoldable pub engineIn : Lent → Engine
@@ -19,15 +19,19 @@ unfoldable pub answersNumbers : List Answer → List ℕ
 answersNumbers [] = []
 answersNumbers (a ∷ bs) = answerNumbers a ++ answersNumbers bs
 
--- 01, Rule machine: each answer's listing, in a part of its own
-unfoldable pub listingsShown : List Answer → List ℕ → List ℕ
-listingsShown [] l = l
-listingsShown (a ∷ bs) l = shown (a .listing) (take listingLength l) ++ listingsShown bs (drop listingLength l)
+-- 01, Rule machine: a call's listing or report in the part of its row: what it is lent of that, and the rest as it was
+unfoldable pub partShown : Call → Answer → List ℕ → List ℕ
+partShown c a l = shown (a .listing) (take (listingLent c) l) ++ drop (listingLent c) l
+
+-- 01, Rule machine: the listings of calls that the machine y is fed, each in a part of its own
+unfoldable pub listingsShown : Machine → List Call → List ℕ → List ℕ
+listingsShown y [] l = l
+listingsShown y (c ∷ cs) l = partShown c (calls y c .answer) (take listingLength l) ++ listingsShown (calls y c .machine) cs (drop listingLength l)
 
 -- 01, Rule machine: the machine y is fed the calls cs; the answers are its answers, each listing is as its answer says, the engine holds the machine afterwards, and nothing else is changed
 pub record Follows (y : Machine) (cs : List Call) (x x′ : Lent) : Type 0 where
   pub answered : x′ .answers ≡ answersNumbers (answers y cs) ++ drop (length cs * answerWidth) (x .answers)
-  pub listed : x′ .listings ≡ listingsShown (answers y cs) (x .listings)
+  pub listed : x′ .listings ≡ listingsShown y cs (x .listings)
   pub holds : Holds (engineIn x′) (after y cs)
   pub model-beyond : drop modelLength (x′ .model) ≡ drop modelLength (x .model)
   pub state-beyond : drop stateLength (x′ .state) ≡ drop stateLength (x .state)

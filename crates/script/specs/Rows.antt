@@ -5,7 +5,7 @@ use mathlib.Core.Option.{Option, none, some, Option·elim}
 use Prim.Native.Nat.{ℕ, zero, suc, _+_, _-_, _/_}
 use lib.Dec.{eqb, leb}
 use lib.ListN.{length, getD, take, drop}
-use Rattle.machine.specs.Machine.{listingLength, Call, open′, list′, step′}
+use Rattle.machine.specs.Machine.{listingLength, Call, open′, list′, step′, report′}
 use Rattle.script.specs.declared.Row.{Row}
 
 -- numbers of a row, and of an answer
@@ -25,9 +25,12 @@ listKind = 2
 abbrev pub stepKind : ℕ
 stepKind = 3
 
+abbrev pub reportKind : ℕ
+reportKind = 4
+
 -- ---- rows
 
--- kind; a text's place or a draw; the text's size; how many numbers of the model, the state and the listing are lent
+-- kind; a text's place or a draw; the text's size; how many numbers of the model, the state and the listing or report are lent
 unfoldable pub rowOf : List ℕ → Row
 rowOf l = record { kind = getD l 0 0; first = getD l 1 0; size = getD l 2 0; model = getD l 3 0; state = getD l 4 0; listing = getD l 5 0 }
 
@@ -53,19 +56,21 @@ pub record Room : Type 0 where
 unfoldable pub roomAfter : Room → Room
 roomAfter x = record { model = x .model; state = x .state; listings = x .listings - listingLength; answers = x .answers - answerWidth }
 
--- a row of one of the three kinds, that asks for no more than there is: a part of the texts, numbers of the model, the state and the listings
+-- a row of one of the four kinds, that asks for no more than there is: a part of the texts, numbers of the model, the state and the listings
 unfoldable pub fits : Row → (texts model state listings : ℕ) → Bool
 fits r texts model state listings =
     leb (r .model) model && (leb (r .state) state
     && cond (eqb (r .kind) openKind) (leb (r .first + r .size) texts)
     (cond (eqb (r .kind) listKind) (leb (r .listing) listings)
-    (cond (eqb (r .kind) stepKind) (leb (r .listing) listings) false)))
+    (cond (eqb (r .kind) stepKind) (leb (r .listing) listings)
+    (cond (eqb (r .kind) reportKind) (leb (r .listing) listings) false))))
 
 -- 01, Rule machine: the call of a row that fits: a text or a draw, and the lengths of what is lent
 unfoldable pub rowCall : List ℕ → Row → Call
 rowCall texts r =
     cond (eqb (r .kind) openKind) (open′ (take (r .size) (drop (r .first) texts)) (r .model) (r .state))
-    (cond (eqb (r .kind) listKind) (list′ (r .model) (r .state) (r .listing)) (step′ (r .model) (r .state) (r .listing) (r .first)))
+    (cond (eqb (r .kind) listKind) (list′ (r .model) (r .state) (r .listing))
+    (cond (eqb (r .kind) reportKind) (report′ (r .model) (r .state) (r .listing)) (step′ (r .model) (r .state) (r .listing) (r .first))))
 
 -- a row is a call where it fits and there is room for its answer
 unfoldable pub callOf : List ℕ → Room → Row → Option Call

@@ -6,8 +6,8 @@ use mathlib.Core.Option.{Option, none, some}
 use Prim.Native.Nat.{ℕ, _*_}
 use lib.IntN.{ℤ}
 use lib.ListN.{length, take, drop}
-use Rattle.machine.specs.Machine.{listingLength, Answer, Call, open′, list′, step′}
-use Rattle.buffers.specs.Effect.{Effect, openEffect, listEffect, stepEffect}
+use Rattle.machine.specs.Machine.{listingLength, Answer, Call, open′, list′, step′, report′}
+use Rattle.buffers.specs.Effect.{Effect, openEffect, listEffect, stepEffect, reportEffect}
 use Rattle.engine.specs.declared.Answer as engine
 use Rattle.script.specs.Rows.{rowWidth, answerWidth, Room, firstCall, callsIn}
 
@@ -25,27 +25,31 @@ lentOf bs zs ls ns = record { model = bs; state = zs; listings = ls; answers = n
 unfoldable pub roomOf : Lent → Room
 roomOf x = record { model = length (x .model); state = length (x .state); listings = length (x .listings); answers = length (x .answers) }
 
--- 01, Rule machine: how many numbers a call is lent of the model, the state and the listing; an opening is lent no listing
+-- 01, Rule machine: how many numbers a call is lent of the model, the state and the listing, or of the listing's room for a report (02, note 6); an opening is lent none of it
 unfoldable pub modelLent : Call → ℕ
 modelLent (open′ text m s) = m
 modelLent (list′ m s l) = m
 modelLent (step′ m s l d) = m
+modelLent (report′ m s l) = m
 
 unfoldable pub stateLent : Call → ℕ
 stateLent (open′ text m s) = s
 stateLent (list′ m s l) = s
 stateLent (step′ m s l d) = s
+stateLent (report′ m s l) = s
 
 unfoldable pub listingLent : Call → ℕ
 listingLent (open′ text m s) = 0
 listingLent (list′ m s l) = l
 listingLent (step′ m s l d) = l
+listingLent (report′ m s l) = l
 
 -- 01, Opening a text, Listing and stepping: what a call answers and leaves, which is lent the first numbers of a model, a state and listings
 unfoldable pub effectOf : Call → List ℕ → List ℤ → List ℕ → Effect
 effectOf (open′ text m s) bs zs ls = openEffect text (take m bs) (take s zs)
 effectOf (list′ m s l) bs zs ls = listEffect (take m bs) (take s zs) (take l ls)
 effectOf (step′ m s l d) bs zs ls = stepEffect (take m bs) (take s zs) (take l ls) d
+effectOf (report′ m s l) bs zs ls = reportEffect (take m bs) (take s zs) (take l ls)
 
 -- 01, Rule machine: the numbers that an answer carries
 unfoldable pub answerNumbers : Answer → List ℕ

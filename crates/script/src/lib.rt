@@ -11,7 +11,7 @@ ghost use Rattle.script.specs.Rows.{rowWidth, answerWidth, rowOf, fits, 
 ghost use Rattle.script.specs.Run.{lentOf, roomOf, resultNumbers, Called, RowRan, RowRanAt, Ran};
 ghost use Rattle.script.specs.Follows.{Refines};
 
-// A row: the kind of call; the place of its text, or its draw; the text's size; how many numbers of the model, the state and the listing it is lent.
+// A row: the kind of call; the place of its text, or its draw; the text's size; how many numbers of the model, the state and the listing or report it is lent.
 pub struct Row {
     pub kind: u64,
     pub first: u64,
@@ -33,6 +33,8 @@ impl Row {
     pub const LIST: u64 = 2;
 
     pub const STEP: u64 = 3;
+
+    pub const REPORT: u64 = 4;
 }
 
 // The first row of a script.
@@ -79,6 +81,9 @@ fn is_call(row: Row, texts: usize, model: usize, state: usize, listings: usize) 
     if row.kind == Row::STEP {
         return row.listing <= listings;
     }
+    if row.kind == Row::REPORT {
+        return row.listing <= listings;
+    }
     false
 }
 
@@ -97,6 +102,9 @@ fn call(row: Row, texts: &[u8], model: &mut [u8], state: &mut [i64], listings: &
     let l = row.listing;
     if row.kind == Row::LIST {
         return engine::list(&model[..m], &state[..s], &mut listings[..l]);
+    }
+    if row.kind == Row::REPORT {
+        return engine::report(&model[..m], &state[..s], &mut listings[..l]);
     }
     engine::step(&model[..m], &mut state[..s], &mut listings[..l], row.first)
 }

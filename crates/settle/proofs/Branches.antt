@@ -229,26 +229,26 @@ module _ (w : ℕ → List ℕ) (m : Syntax.Model) (ok : Faultless w m) (new : (
   mutual
     unfolding Table.Cont Table.Conts Table.Sum Table.Branches Table.Branch Table.Offer contUses contsUses sumUses branchesUses branchUses nextUses contTree contsTree sumTree branchesTree branchTree nextTree partsOf partsIn resolveCall resolveArgs resolveBranches resolveBranch resolveGate resolveNext settled.Branches settled.Branch Gated Offer branchesOf branchesIn itemsOf roleOf numberKind firsts sumNumber gateSites
 
-    pub cont-going : (c : Syntax.Cont) (p : Point) (a d : ℕ) → length (p .scope) ≤ localLimit → Leads (p .scope) c → ContFrom c a
-        → Going p (on p (contUses w vs (p .scope) c) (countCont c)) a (countCont c) (contTree w vs ds cs d (p .scope) c) (Table.Cont t c) (Parts t′ (partsOf w vs ds cs (p .scope) c))
-    cont-going (Syntax.proceed s) p a d few l f lo k h u v e = moved-with w vs ds cs told t t′ roots scopes trace first last (sum-going s p a d few (l .sums s (itself refl)) f lo k h u v e) (λ x y. entered y)
-    cont-going (Syntax.call j Syntax.noArgs) p a d few l f lo k h u v e = moved-to w vs ds cs told t t′ roots scopes trace first last (point-is (p .scope) (p .definitions) refl (omega arith)) (call-going j p a lo k h u v e)
-    cont-going (Syntax.call j (Syntax.args r)) p a d few l f lo k h u v e =
+    pub cont-going : (c : Syntax.Cont) (p : Point) (a : ℕ) → length (p .scope) ≤ localLimit → Leads (p .scope) c → ContFrom c a
+        → Going p (on p (contUses w vs (p .scope) c) (countCont c)) a (countCont c) (contTree w vs ds cs (p .definitions) (p .scope) c) (Table.Cont t c) (Parts t′ (partsOf w vs ds cs (p .scope) c))
+    cont-going (Syntax.proceed s) p a few l f lo k h u v e = moved-with w vs ds cs told t t′ roots scopes trace first last (sum-going s p a few (l .sums s (itself refl)) f lo k h u v e) (λ x y. entered y)
+    cont-going (Syntax.call j Syntax.noArgs) p a few l f lo k h u v e = moved-to w vs ds cs told t t′ roots scopes trace first last (point-is (p .scope) (p .definitions) refl (omega arith)) (call-going j p a lo k h u v e)
+    cont-going (Syntax.call j (Syntax.args r)) p a few l f lo k h u v e =
         moved-to w vs ds cs told t t′ roots scopes trace first last (point-is (p .scope) (p .definitions) refl (omega arith)) (call-with-going j r p a few (l .calls j (Syntax.args r) (itself refl)) lo k h u v e)
-    cont-going (Syntax.group j c) p a d few l f lo k h u v e =
-        let x = conts-going c p a d few (λ y i. record { sums = λ s o. l .sums s (grouped i o); calls = λ q b o. l .calls q b (grouped i o) }) f lo (h .root) (h .holds) u (omega (arith, h .above)) e in
+    cont-going (Syntax.group j c) p a few l f lo k h u v e =
+        let x = conts-going c p a few (λ y i. record { sums = λ s o. l .sums s (grouped i o); calls = λ q b o. l .calls q b (grouped i o) }) f lo (h .root) (h .holds) u (omega (arith, h .above)) e in
         moved-with w vs ds cs told t t′ roots scopes trace first last (moved-node w vs ds cs told t t′ roots scopes trace first last steps x (h .above) u v (plain-does w vs ds cs told t t′ roots scopes trace first last steps (omega arith) refl (h .node)))
         (λ y z.
         let κ : kindOf (getD t′ k 0) ≡ node.group = ap kindOf (z .1) ∙ node-kind (h .node) (omega arith) in
         subst (λ (i : ℕ). Parts t′ (partsIn w vs ds cs (p .scope) c) i) (sym (h .above)) (settled.grouped (rw (h .above) at κ) (z .0)))
 
-    conts-going : (c : Syntax.Conts) (p : Point) (a d : ℕ) → length (p .scope) ≤ localLimit → ((x : Syntax.Cont) → In x (itemsOf c) → Leads (p .scope) x) → ContsFrom c a
-        → Going p (on p (contsUses w vs (p .scope) c) (countConts c)) a (countConts c) (contsTree w vs ds cs d (p .scope) c) (Table.Conts t c) (Parts t′ (partsIn w vs ds cs (p .scope) c))
-    conts-going (Syntax.lastCont c) p a d few l f lo k h u v e = cont-going c p a d few (l c (head refl)) f lo k h u v e
-    conts-going (Syntax.nextCont c r) p a d few l f lo k h u v e =
+    conts-going : (c : Syntax.Conts) (p : Point) (a : ℕ) → length (p .scope) ≤ localLimit → ((x : Syntax.Cont) → In x (itemsOf c) → Leads (p .scope) x) → ContsFrom c a
+        → Going p (on p (contsUses w vs (p .scope) c) (countConts c)) a (countConts c) (contsTree w vs ds cs (p .definitions) (p .scope) c) (Table.Conts t c) (Parts t′ (partsIn w vs ds cs (p .scope) c))
+    conts-going (Syntax.lastCont c) p a few l f lo k h u v e = cont-going c p a few (l c (head refl)) f lo k h u v e
+    conts-going (Syntax.nextCont c r) p a few l f lo k h u v e =
         let o = h .above in
-        let x = cont-going c p a d few (l c (head refl)) (f .0) lo (h .left) (h .holds-first) u (omega (arith, conts-interval r .low (h .holds-second))) e in
-        let y = conts-going r (on p (contUses w vs (p .scope) c) (countCont c)) (a + countCont c) d few (λ z i. l z (tail i)) (f .1) (h .left + 1) (h .right) (h .holds-second) (omega (arith, x .low)) (omega arith) (x .after) in
+        let x = cont-going c p a few (l c (head refl)) (f .0) lo (h .left) (h .holds-first) u (omega (arith, conts-interval r .low (h .holds-second))) e in
+        let y = conts-going r (on p (contUses w vs (p .scope) c) (countCont c)) (a + countCont c) few (λ z i. l z (tail i)) (f .1) (h .left + 1) (h .right) (h .holds-second) (omega (arith, x .low)) (omega arith) (x .after) in
         moved-to w vs ds cs told t t′ roots scopes trace first last (on-on p (contUses w vs (p .scope) c) (contsUses w vs (p .scope) r) (countCont c) (countConts r))
         (moved-with w vs ds cs told t t′ roots scopes trace first last (moved-node w vs ds cs told t t′ roots scopes trace first last steps (moved-both w vs ds cs told t t′ roots scopes trace first last x y) (h .above) u v (plain-does w vs ds cs told t t′ roots scopes trace first last steps (omega arith) refl (h .node)))
         (λ z q.
@@ -258,47 +258,47 @@ module _ (w : ℕ → List ℕ) (m : Syntax.Model) (ok : Faultless w m) (new : (
         subst (λ (i : ℕ). Parts t′ (partsOf w vs ds cs (p .scope) c ++ partsIn w vs ds cs (p .scope) r) i) (sym (h .above))
         (items {ps = partsOf w vs ds cs (p .scope) c} {qs = partsIn w vs ds cs (p .scope) r} (rw (h .above) at κ) (rw g′ (omega (arith, x .low, y .low))) (rw g′ (q .0 .0)) (q .0 .1))))
 
-    pub sum-going : (s : Syntax.Sum) (p : Point) (a d : ℕ) → length (p .scope) ≤ localLimit → SumIn m (p .scope) s → SumFrom s a
-        → Going p (on p (sumUses w vs (p .scope) s) (countSum s)) a (countSum s) (sumTree w vs ds cs d (p .scope) s) (Table.Sum t s) (Index t′ node.sum (sumNumber s))
-    sum-going (Syntax.sum n b) p a d few i f lo k h u v e =
-        let x = branches-going b p (a + 1) d few (λ y j. let g = in-got (branchesOf b) j in (g .0, record { sum = Syntax.sum n b; stands = i; place = g .1 })) (f .1) lo (h .root) (h .holds) u (omega (arith, h .above)) e in
+    pub sum-going : (s : Syntax.Sum) (p : Point) (a : ℕ) → length (p .scope) ≤ localLimit → SumIn m (p .scope) s → SumFrom s a
+        → Going p (on p (sumUses w vs (p .scope) s) (countSum s)) a (countSum s) (sumTree w vs ds cs (p .definitions) (p .scope) s) (Table.Sum t s) (Index t′ node.sum (sumNumber s))
+    sum-going (Syntax.sum n b) p a few i f lo k h u v e =
+        let x = branches-going b p (a + 1) few (λ y j. let g = in-got (branchesOf b) j in (g .0, record { sum = Syntax.sum n b; stands = i; place = g .1 })) (f .1) lo (h .root) (h .holds) u (omega (arith, h .above)) e in
         let z : p .sums + countBranches b + 1 ≡ p .sums + (1 + countBranches b) = omega arith in
         let y = firsts w vs (p .seen) (branchesUses w vs (p .scope) b) in
         moved-to w vs ds cs told t t′ roots scopes trace first last (point-is (p .scope) (p .definitions) {xs = y} {ys = y} refl z)
-        (moved-with w vs ds cs told t t′ roots scopes trace first last (moved-sum w vs ds cs told t t′ roots scopes trace first last steps d (resolveBranches w vs ds cs (p .scope) b) x (h .above) u v (rw (f .0) at (h .node))) (λ y i. subst (λ (q : ℕ). Index t′ node.sum q k) (sym (f .0)) i))
+        (moved-with w vs ds cs told t t′ roots scopes trace first last (moved-sum w vs ds cs told t t′ roots scopes trace first last steps (resolveBranches w vs ds cs (p .scope) b) x (h .above) u v (rw (f .0) at (h .node))) (λ y i. subst (λ (q : ℕ). Index t′ node.sum q k) (sym (f .0)) i))
 
-    branches-going : (b : Syntax.Branches) (p : Point) (a d : ℕ) → length (p .scope) ≤ localLimit → ((x : Syntax.Branch) → In x (branchesOf b) → (i : ℕ) × BranchIn m (p .scope) i x) → BranchesFrom b a
-        → Going p (on p (branchesUses w vs (p .scope) b) (countBranches b)) a (countBranches b) (branchesTree w vs ds cs d (p .scope) b) (Table.Branches t b) (settled.Branches t′ (resolveBranches w vs ds cs (p .scope) b))
-    branches-going (Syntax.lastBranch b) p a d few l f lo k h u v e = let i = l b (head refl) in branch-going b p a d few (i .0) (i .1) f lo k h u v e
-    branches-going (Syntax.nextBranch b r) p a d few l f lo k h u v e =
+    branches-going : (b : Syntax.Branches) (p : Point) (a : ℕ) → length (p .scope) ≤ localLimit → ((x : Syntax.Branch) → In x (branchesOf b) → (i : ℕ) × BranchIn m (p .scope) i x) → BranchesFrom b a
+        → Going p (on p (branchesUses w vs (p .scope) b) (countBranches b)) a (countBranches b) (branchesTree w vs ds cs (p .definitions) (p .scope) b) (Table.Branches t b) (settled.Branches t′ (resolveBranches w vs ds cs (p .scope) b))
+    branches-going (Syntax.lastBranch b) p a few l f lo k h u v e = let i = l b (head refl) in branch-going b p a few (i .0) (i .1) f lo k h u v e
+    branches-going (Syntax.nextBranch b r) p a few l f lo k h u v e =
         let i = l b (head refl) in
         let q = on p (branchUses w vs (p .scope) b) (countBranch b) in
         moved-to w vs ds cs told t t′ roots scopes trace first last (on-on p (branchUses w vs (p .scope) b) (branchesUses w vs (p .scope) r) (countBranch b) (countBranches r))
         (moved-with w vs ds cs told t t′ roots scopes trace first last (two w vs ds cs told t t′ roots scopes trace first last steps (omega arith) (λ lo left k x u l n. plain-does w vs ds cs told t t′ roots scopes trace first last steps (omega arith) refl n) (λ lo k x. branches-interval r .low x)
-        (λ lo k h u v e. branch-going b p a d few (i .0) (i .1) (f .0) lo k h u v e) (λ lo k h u v e. branches-going r q (a + countBranch b) d few (λ x j. l x (tail j)) (f .1) lo k h u v e) lo k h u v e)
+        (λ lo k h u v e. branch-going b p a few (i .0) (i .1) (f .0) lo k h u v e) (λ lo k h u v e. branches-going r q (a + countBranch b) few (λ x j. l x (tail j)) (f .1) lo k h u v e) lo k h u v e)
         (λ x y. branches-pair (resolveBranch w vs ds cs (p .scope) b) (resolveBranches w vs ds cs (p .scope) r) (branches-some r (p .scope)) y))
 
-    branch-going : (b : Syntax.Branch) (p : Point) (a d : ℕ) → length (p .scope) ≤ localLimit → (i : ℕ) → BranchIn m (p .scope) i b → BranchFrom b a
-        → Going p (on p (branchUses w vs (p .scope) b) (countBranch b)) a (countBranch b) (branchTree w vs ds cs d (p .scope) b) (Table.Branch t b) (settled.Branch t′ (resolveBranch w vs ds cs (p .scope) b))
-    branch-going (Syntax.branch j Syntax.noGate x r n) p a d few i b f lo k h u v e =
-        offer-going j x r n p a d few (λ y l. inAction b l) (λ y l. ok .sites (p .scope) y (inRate b l)) (ok .rates (p .scope) i j Syntax.noGate x r n b) (decimals (p .scope) i j Syntax.noGate x r n b) (λ c e. leads b e) f lo k h u v e
-    branch-going (Syntax.branch j (Syntax.gate c) x r n) p a d few i b f lo k h u v e =
+    branch-going : (b : Syntax.Branch) (p : Point) (a : ℕ) → length (p .scope) ≤ localLimit → (i : ℕ) → BranchIn m (p .scope) i b → BranchFrom b a
+        → Going p (on p (branchUses w vs (p .scope) b) (countBranch b)) a (countBranch b) (branchTree w vs ds cs (p .definitions) (p .scope) b) (Table.Branch t b) (settled.Branch t′ (resolveBranch w vs ds cs (p .scope) b))
+    branch-going (Syntax.branch j Syntax.noGate x r n) p a few i b f lo k h u v e =
+        offer-going j x r n p a few (λ y l. inAction b l) (λ y l. ok .sites (p .scope) y (inRate b l)) (ok .rates (p .scope) i j Syntax.noGate x r n b) (decimals (p .scope) i j Syntax.noGate x r n b) (λ c e. leads b e) f lo k h u v e
+    branch-going (Syntax.branch j (Syntax.gate c) x r n) p a few i b f lo k h u v e =
         two-then w vs ds cs told t t′ roots scopes trace first last steps (omega arith) (λ lo left k x u l n. plain-does w vs ds cs told t t′ roots scopes trace first last steps (omega arith) refl n) (λ lo k y. offer-interval j x r n .low y)
         (cond-stays w vs ds cs told t t′ roots scopes trace first last steps (ok .variables) (p .scope) p few (λ i y. refl) c (λ y l. ok .sites (p .scope) y (inGate b l)) a)
-        (λ lo k h u v e. offer-going j x r n p a d few (λ y l. inAction b l) (λ y l. ok .sites (p .scope) y (inRate b l)) (ok .rates (p .scope) i j (Syntax.gate c) x r n b) (decimals (p .scope) i j (Syntax.gate c) x r n b) (λ c e. leads b e) f lo k h u v e) lo k h u v e
+        (λ lo k h u v e. offer-going j x r n p a few (λ y l. inAction b l) (λ y l. ok .sites (p .scope) y (inRate b l)) (ok .rates (p .scope) i j (Syntax.gate c) x r n b) (decimals (p .scope) i j (Syntax.gate c) x r n b) (λ c e. leads b e) f lo k h u v e) lo k h u v e
 
-    offer-going : (j : ℕ) (x : Syntax.Action) (r : Syntax.Rate) (n : Syntax.Next) (p : Point) (a d : ℕ) → length (p .scope) ≤ localLimit
+    offer-going : (j : ℕ) (x : Syntax.Action) (r : Syntax.Rate) (n : Syntax.Next) (p : Point) (a : ℕ) → length (p .scope) ≤ localLimit
         → ((y : Site) → In y (actionSites w x) → SiteIn w m (p .scope) y) → AllFine w vs ds cs (p .scope) (rateSites r) → FineNumber w vs ds cs (scaleOf r) → ((b : Bool) (i : ℕ) → scaleOf r ≡ Syntax.number b true i → told i) → ((c : Syntax.Cont) → n ≡ Syntax.dot c → Leads (p .scope ++ bindings x) c) → NextFrom n a
-        → Going p (on p (actionUse w vs (p .scope) x ++ nextUses w vs (p .scope ++ bindings x) n) (countNext n)) a (countNext n) (nextTree w vs ds cs d (p .scope ++ bindings x) n) (Table.Offer t j x r n)
+        → Going p (on p (actionUse w vs (p .scope) x ++ nextUses w vs (p .scope ++ bindings x) n) (countNext n)) a (countNext n) (nextTree w vs ds cs (p .definitions) (p .scope ++ bindings x) n) (Table.Offer t j x r n)
         (Offer t′ (resolveAction w vs ds cs (p .scope) x) (resolveRate w vs ds cs (p .scope) r) (resolveNext w vs ds cs (p .scope ++ bindings x) n))
-    offer-going j x r Syntax.stop p a d few inside fine number decimal l f lo k h u v e =
+    offer-going j x r Syntax.stop p a few inside fine number decimal l f lo k h u v e =
         let q = entered-by p x in
         moved-to w vs ds cs told t t′ roots scopes trace first last (point-is (p .scope) (p .definitions) (ap (firsts w vs (p .seen)) (sym (append-nil (actionUse w vs (p .scope) x)))) (omega arith))
         (moved-with w vs ds cs told t t′ roots scopes trace first last (two-then w vs ds cs told t t′ roots scopes trace first last steps (omega arith) (λ lo left k y u l o. ending-does q (bindings x) (omega arith) refl (action-third t x lo left y) (action-role t x lo left y) (omega (arith, action-interval x .low y)) l o (p .scope) refl) (λ lo k y. rate-interval r .low y)
         (action-moves w vs ds cs told t t′ roots scopes trace first last steps (ok .variables) p few x (λ y i. ok .sites (p .scope) y (inside y i)) a)
         (rate-stays w vs ds cs told t t′ roots scopes trace first last steps (ok .variables) (p .scope) q few (λ i g. meaning-more w i vs (p .scope) (bindings x) (action-new w m new x inside) g) r number decimal fine a) lo k h u v e)
         (λ y z. record { offer = z }))
-    offer-going j x r (Syntax.dot c) p a d few inside fine number decimal l f lo k h u v e =
+    offer-going j x r (Syntax.dot c) p a few inside fine number decimal l f lo k h u v e =
         let q = entered-by p x in
         let o = h .above in
         let low₂ = rate-interval r .low (h .holds-second) in
@@ -306,7 +306,7 @@ module _ (w : ℕ → List ℕ) (m : Syntax.Model) (ok : Faultless w m) (new : (
         let x₁ = action-moves w vs ds cs told t t′ roots scopes trace first last steps (ok .variables) p few x (λ y i. ok .sites (p .scope) y (inside y i)) a lo (h .left) (h .holds-first) u (omega arith) e in
         let x₂ = rate-stays w vs ds cs told t t′ roots scopes trace first last steps (ok .variables) (p .scope) q few (λ i g. meaning-more w i vs (p .scope) (bindings x) (action-new w m new x inside) g) r number decimal fine a (h .left + 1) (h .middle) (h .holds-second) (omega (arith, x₁ .low)) (omega arith) (x₁ .after) in
         let room = action-binds w vs ds cs (ok .variables) (p .scope) x few (λ y i. ok .sites (p .scope) y (inside y i)) .1 in
-        let x₃ = cont-going c q a d (omega (arith, length-append (p .scope) (bindings x))) (l c refl) f (h .middle + 1) (h .right) (h .holds-third) (omega (arith, x₁ .low, x₂ .low)) (omega arith) (x₂ .after) in
+        let x₃ = cont-going c q a (omega (arith, length-append (p .scope) (bindings x))) (l c refl) f (h .middle + 1) (h .right) (h .holds-third) (omega (arith, x₁ .low, x₂ .low)) (omega arith) (x₂ .after) in
         moved-to w vs ds cs told t t′ roots scopes trace first last (point-is (p .scope) (p .definitions) (sym (firsts-append w vs (p .seen) (actionUse w vs (p .scope) x) (contUses w vs (p .scope ++ bindings x) c))) refl)
         (moved-with w vs ds cs told t t′ roots scopes trace first last (moved-node w vs ds cs told t t′ roots scopes trace first last steps (moved-then w vs ds cs told t t′ roots scopes trace first last (moved-then w vs ds cs told t t′ roots scopes trace first last x₁ x₂) x₃) (h .above) u v
         (ending-does (on q (contUses w vs (p .scope ++ bindings x) c) (countCont c)) (bindings x) (omega arith) refl (action-third t x lo (h .left) (h .holds-first)) (action-role t x lo (h .left) (h .holds-first)) (omega (arith, x₁ .low)) (omega arith) (h .node) (p .scope) refl))

@@ -62,17 +62,17 @@ module _ (w : ℕ → List ℕ) (m : Syntax.Model) (ok : Faultless w m) (new : (
   numbers-some (Syntax.lastSum s) = omega arith
   numbers-some (Syntax.nextSum s r) = omega arith
 
-  sums-going : (s : Syntax.Sums) (p : Point) (a d : ℕ) → length (p .scope) ≤ localLimit → ((x : Syntax.Sum) → In x (sumsOf s) → SumIn m (p .scope) x) → SumsFrom s a
-      → Moves w vs ds cs told t t′ roots scopes trace first last p (on w m ok new told decimals t t′ roots scopes trace first last steps p (sumsUses w vs (p .scope) s) (countSums s)) a (countSums s) (sumsTree w vs ds cs d (p .scope) s) (Table.Sums t s) (represents.Sums t′ (sumNumbers s))
+  sums-going : (s : Syntax.Sums) (p : Point) (a : ℕ) → length (p .scope) ≤ localLimit → ((x : Syntax.Sum) → In x (sumsOf s) → SumIn m (p .scope) x) → SumsFrom s a
+      → Moves w vs ds cs told t t′ roots scopes trace first last p (on w m ok new told decimals t t′ roots scopes trace first last steps p (sumsUses w vs (p .scope) s) (countSums s)) a (countSums s) (sumsTree w vs ds cs (p .definitions) (p .scope) s) (Table.Sums t s) (represents.Sums t′ (sumNumbers s))
   unfolding Table.Sums sumsUses sumsTree sumsOf sumNumbers represents.Sums roleOf numberKind
-  sums-going (Syntax.lastSum s) p a d few l f lo k h u v e = sum-going w m ok new told decimals t t′ roots scopes trace first last steps s p a d few (l s (head refl)) f lo k h u v e
-  sums-going (Syntax.nextSum s r) p a d few l f lo k h u v e =
+  sums-going (Syntax.lastSum s) p a few l f lo k h u v e = sum-going w m ok new told decimals t t′ roots scopes trace first last steps s p a few (l s (head refl)) f lo k h u v e
+  sums-going (Syntax.nextSum s r) p a few l f lo k h u v e =
       let q = on w m ok new told decimals t t′ roots scopes trace first last steps p (sumUses w vs (p .scope) s) (countSum s) in
       moved-to w vs ds cs told t t′ roots scopes trace first last (on-on w m ok new told decimals t t′ roots scopes trace first last steps p (sumUses w vs (p .scope) s) (sumsUses w vs (p .scope) r) (countSum s) (countSums r))
       (moved-with w vs ds cs told t t′ roots scopes trace first last
       (two w vs ds cs told t t′ roots scopes trace first last steps (omega arith) (λ lo left k x u l n. plain-does w vs ds cs told t t′ roots scopes trace first last steps (omega arith) refl n) (λ lo k x. sums-interval r .low x)
-      (λ lo k h u v e. sum-going w m ok new told decimals t t′ roots scopes trace first last steps s p a d few (l s (head refl)) (f .0) lo k h u v e)
-      (λ lo k h u v e. sums-going r q (a + countSum s) d few (λ x i. l x (tail i)) (f .1) lo k h u v e) lo k h u v e)
+      (λ lo k h u v e. sum-going w m ok new told decimals t t′ roots scopes trace first last steps s p a few (l s (head refl)) (f .0) lo k h u v e)
+      (λ lo k h u v e. sums-going r q (a + countSum s) few (λ x i. l x (tail i)) (f .1) lo k h u v e) lo k h u v e)
       (λ x y. sums-pair (sumNumber s) (sumNumbers r) (numbers-some r) y))
 
   -- ---- a definition
@@ -87,13 +87,13 @@ module _ (w : ℕ → List ℕ) (m : Syntax.Model) (ok : Faultless w m) (new : (
       let r : roleAt t k ≡ role.definition = ap roleOf (node-kind n (omega arith)) in
       record { step-is = rw r; safe = rw r tt; becomes = rw r; other = λ x. absurd (let z : _≡_ {A = ℕ} 0 1 = cc (r, x) in omega arith); linked = λ x. absurd (let z : _≡_ {A = ℕ} 0 1 = cc (r, x) in omega arith) }
 
-  one-going : (j : ℕ) (e : Definition) (p : Point) (a d : ℕ) → In e ds → e .params ≡ p .scope → SumsFrom (e .sums) a
-      → Moves w vs ds cs told t t′ roots scopes trace first last p (after-definition p (p .scope) (e .sums)) a (countSums (e .sums)) (sumsTree w vs ds cs d (e .params) (e .sums)) (One t node.definition j (length (e .params)) (Table.Sums t (e .sums))) (represents.Definition t′ (Resolved.defined e))
+  one-going : (j : ℕ) (e : Definition) (p : Point) (a : ℕ) → In e ds → e .params ≡ p .scope → SumsFrom (e .sums) a
+      → Moves w vs ds cs told t t′ roots scopes trace first last p (after-definition p (p .scope) (e .sums)) a (countSums (e .sums)) (sumsTree w vs ds cs (p .definitions) (e .params) (e .sums)) (One t node.definition j (length (e .params)) (Table.Sums t (e .sums))) (represents.Definition t′ (Resolved.defined e))
   unfolding after-definition Resolved.defined
-  one-going j e p a d i s f lo k h u v x =
+  one-going j e p a i s f lo k h u v x =
       let l = ok .parameters e i in
       let few : length (p .scope) ≤ localLimit = rw (← s) (omega arith) in
-      let y = sums-going (e .sums) p a d few (λ x j. subst (λ (sc : Scope). SumIn m sc x) s (defined i j)) f lo (h .root) (h .holds) u (omega (arith, h .above)) x in
+      let y = sums-going (e .sums) p a few (λ x j. subst (λ (sc : Scope). SumIn m sc x) s (defined i j)) f lo (h .root) (h .holds) u (omega (arith, h .above)) x in
       rw s
       (moved-with w vs ds cs told t t′ roots scopes trace first last
       (moved-node w vs ds cs told t t′ roots scopes trace first last steps y (h .above) u v (definition-does (on w m ok new told decimals t t′ roots scopes trace first last steps p (sumsUses w vs (p .scope) (e .sums)) (countSums (e .sums))) (h .node)))
@@ -166,7 +166,7 @@ module _ (w : ℕ → List ℕ) (m : Syntax.Model) (ok : Faultless w m) (new : (
       let low = system-interval s .low (h .holds-second) in
       let end : k - 1 ≡ h .right = omega arith in
       let one = rw (← same) at (definition-one n q b lo (h .left) (h .holds-first)) in
-      let x = one-going n g p a (p .definitions) inside (same ∙ sc) f lo (h .left) one u (omega arith) e in
+      let x = one-going n g p a inside (same ∙ sc) f lo (h .left) one u (omega arith) e in
       let y = system-stays w m (ok .definitions) told t t′ roots scopes trace first last steps (after-definition p (p .scope) b) s (line .literals) (line .values) (line .counts) (a + countSums b) (h .left + 1) (h .right) (h .holds-second) (omega (arith, x .low)) (omega arith) (x .after) in
       let i = node-left (h .node) (omega arith) in
       let j : firsts w vs (p .seen) (sumsUses w vs (p .scope) b) ≡ firsts w vs (p .seen) (sumsUses w vs (g .params) b ++ []) = ap (firsts w vs (p .seen)) (sym (append-nil (sumsUses w vs (p .scope) b)) ∙ ap (λ (r : Scope). sumsUses w vs r b ++ []) (sym (same ∙ sc))) in
@@ -184,7 +184,7 @@ module _ (w : ℕ → List ℕ) (m : Syntax.Model) (ok : Faultless w m) (new : (
       let end : k - suc (length es) ≡ h .right - length es = omega arith in
       let before : k - 1 ≡ h .right = omega arith in
       let one = rw (← same) at (definition-one n q b lo (h .left) (h .holds-first)) in
-      let x = one-going n g p a (p .definitions) inside (same ∙ sc) f lo (h .left) one u (omega arith) e in
+      let x = one-going n g p a inside (same ∙ sc) f lo (h .left) one u (omega arith) e in
       let y = rest (omega (arith, x .low)) (omega arith) (x .after) in
       let i = node-left (h .node) (omega arith) in
       let j : firsts w vs (firsts w vs (p .seen) (sumsUses w vs (p .scope) b)) (each (definitionUses w vs) es) ≡ firsts w vs (p .seen) (sumsUses w vs (g .params) b ++ each (definitionUses w vs) es) =

@@ -16,9 +16,10 @@ use Rattle.tree.specs.Table.{Node, Leaf, One, Two, Three}
 use Rattle.tree.proofs.Cells.{node-kind, node-token, node-left, node-third}
 use Rattle.model.specs.Sites.{Variable, Definition}
 use Rattle.model.specs.Resolved
+use Rattle.model.specs.Scope.{scopeOf}
 use Rattle.tables.specs.Settled as settled
 use Rattle.tables.specs.Settled.{kindAt, Index, Pair, Over}
-use Rattle.settle.specs.Walks.{Role, whole, name, number, scale, action, ending, sum, call, definition, item, plain, roleOf, roleAt, Point, cellBy, stepBy, cellOf, step, SafeBy}
+use Rattle.settle.specs.Walks.{Role, whole, name, number, scale, action, ending, sum, call, definition, item, plain, roleOf, roleAt, Point, cellBy, stepBy, cellOf, step, SafeBy, scopeAt}
 
 module _ (w : ℕ → List ℕ) (vs : List Variable) (ds : List Definition) (cs : List ℕ) (told : ℕ → Type 0) (t t′ roots scopes : List ℕ) (trace : ℕ → Point) (first last : ℕ) where
   -- what the walk needs of node i
@@ -39,7 +40,7 @@ module _ (w : ℕ → List ℕ) (vs : List Variable) (ds : List Definition) (cs 
   -- ---- the walk is done: the new table of nodes, the two tables of sums, and the channel names, all of them
   pub record Done : Type 0 where
     pub cells : (i : ℕ) → first ≤ i → i < last → getD t′ i 0 ≡ cellOf w vs ds t i (trace i)
-    pub sums : (i : ℕ) → first ≤ i → i < last → IsSum i → (getD roots (numberAt i) 0 ≡ i - 1) × (getD scopes (numberAt i) 0 ≡ length (trace i .scope))
+    pub sums : (i : ℕ) → first ≤ i → i < last → IsSum i → (getD roots (numberAt i) 0 ≡ i - 1) × (getD scopes (numberAt i) 0 ≡ scopeAt (trace i))
     pub names : (i : ℕ) → first ≤ i → i ≤ last → (more : List ℕ) × (cs ≡ trace i .seen ++ more)
     pub few : length cs ≤ field
 
@@ -51,7 +52,7 @@ module _ (w : ℕ → List ℕ) (vs : List Variable) (ds : List Definition) (cs 
   pub record Mark (s : Resolved.Sum) (n : ℕ) : Type 0 where
     pub node : SumAt n
     pub branches : settled.Branches t′ (s .branches) (getD roots n 0)
-    pub scope : getD scopes n 0 ≡ s .locals
+    pub scope : getD scopes n 0 ≡ scopeOf s
 
   abbrev pub Marked : List Resolved.Sum → ℕ → Type 0
   Marked [] a = Unit {0}
@@ -234,10 +235,10 @@ module _ (w : ℕ → List ℕ) (vs : List Variable) (ds : List Definition) (cs 
         apart-by i j g h g′ h′ s s′ z (no x) (no y) = only i h x ∙ sym (only j h′ y)
 
     -- a sum's node above its branches
-    pub moved-sum : {p : Point} {a n : ℕ} {xs : List Resolved.Sum} {lo r k third : ℕ} (d : ℕ) (bs : List Resolved.Branch) → Moved lo r p (a + 1) n xs (settled.Branches t′ bs r) → k ≡ r + 1 → first ≤ lo → k < last → Node t k node.sum a 0 third
-        → Moved lo k (record { scope = p .scope; seen = p .seen; sums = p .sums + 1; definitions = p .definitions }) a (1 + n) (record { locals = length (p .scope); definition = d; branches = bs } ∷ xs) (Index t′ node.sum a k)
-    unfolding step cellOf stepBy cellBy roleOf numberKind
-    moved-sum {p} {a} {n} {xs} {lo} {r} {k} d bs m e f l o =
+    pub moved-sum : {p : Point} {a n : ℕ} {xs : List Resolved.Sum} {lo r k third : ℕ} (bs : List Resolved.Branch) → Moved lo r p (a + 1) n xs (settled.Branches t′ bs r) → k ≡ r + 1 → first ≤ lo → k < last → Node t k node.sum a 0 third
+        → Moved lo k (record { scope = p .scope; seen = p .seen; sums = p .sums + 1; definitions = p .definitions }) a (1 + n) (record { locals = length (p .scope); definition = p .definitions; branches = bs } ∷ xs) (Index t′ node.sum a k)
+    unfolding step cellOf stepBy cellBy roleOf numberKind scopeOf
+    moved-sum {p} {a} {n} {xs} {lo} {r} {k} bs m e f l o =
         record {
           low = omega (arith, m .low);
           after = steps k reached l ∙ rw (at-node, here);
@@ -265,11 +266,11 @@ module _ (w : ℕ → List ℕ) (vs : List Variable) (ds : List Definition) (cs 
         here : roleAt t k ≡ sum
         here = ap roleOf κ
 
-        mark : Done → Mark (record { locals = length (p .scope); definition = d; branches = bs }) a
+        mark : Done → Mark (record { locals = length (p .scope); definition = p .definitions; branches = bs }) a
         mark x =
             let s = x .sums k reached l here in
             let q : getD roots a 0 ≡ r = ap (λ (i : ℕ). getD roots i 0) (sym number) ∙ s .0 ∙ omega arith in
-            record { node = (k, reached, l, here, number); branches = rw q (m .holds x); scope = ap (λ (i : ℕ). getD scopes i 0) (sym number) ∙ s .1 ∙ ap (λ (y : Point). length (y .scope)) at-node }
+            record { node = (k, reached, l, here, number); branches = rw q (m .holds x); scope = ap (λ (i : ℕ). getD scopes i 0) (sym number) ∙ s .1 ∙ ap scopeAt at-node }
 
         only : (i : ℕ) → i ≤ k → (i ≤ r → ⊥) → i ≡ k
         only i h c = omega (arith, c)

@@ -26,11 +26,11 @@ use Rattle.names.specs.Settings.{Scoped}
 use Rattle.names.proofs.Settled.{root-in, vs-few}
 use Rattle.tables.specs.Represents.{Represents}
 use Rattle.settle.specs.declared.Walk.{Walk}
-use Rattle.settle.specs.Walks.{Role, roleOf, roleAt, Point, paramsAt, cellOf, step, pointAt, begun}
+use Rattle.settle.specs.Walks.{Role, roleOf, roleAt, Point, paramsAt, cellOf, step, pointAt, begun, scopeAt}
 use Rattle.settle.specs.Walks as role
 use Rattle.settle.specs.Places.{Told, Base, Lookup, Kept, kindsIn, definitionsOf, Knows, markedBy, firstNode, lineNode, Standing, Stepped, Resolvable}
 use Rattle.settle.proofs.Kids.{none-hung}
-use Rattle.settle.proofs.Whole.{steps-on, trace-begun, names-few, numbers-few, definitions-below, node-safe, number-below, node-linked, numbers-apart, line-after, sums-after, names-after, sum-node, represented}
+use Rattle.settle.proofs.Whole.{steps-on, trace-begun, names-few, numbers-few, definitions-below, node-safe, number-below, node-linked, numbers-apart, line-after, sums-after, names-after, sum-node, represented, definitions-few}
 use Rattle.settle.specs.Settles.{SumNode, lineIn, Settles}
 use Rattle.settle.proofs.Same.{walked-alike, cell-alike}
 use Rattle.settle.proofs.Roles.{Kinded, as-whole, as-negative, as-name, as-number, as-scale, as-action, as-ending, as-sum, as-call, as-definition, as-start, as-counted, as-plain, kinded}
@@ -109,7 +109,7 @@ module _ {low high t roots₀ scopes₀ heard₀ : List ℕ} {lists : Lists} (h 
     pub numbers : (j : ℕ) → j < firstNode lists → getD nodes j 0 ≡ getD t j 0
     pub done : (j : ℕ) → firstNode lists ≤ j → j < i → getD nodes j 0 ≡ cellOf w vs ds t j (point j)
     pub knows : Knows low high (h .base .world .kinds) heard walk (point i)
-    pub sums : (j : ℕ) → firstNode lists ≤ j → j < i → roleAt t j ≡ role.sum → (getD roots (tokenOf (getD t j 0)) 0 ≡ j - 1) × (getD scopes (tokenOf (getD t j 0)) 0 ≡ length (point j .scope))
+    pub sums : (j : ℕ) → firstNode lists ≤ j → j < i → roleAt t j ≡ role.sum → (getD roots (tokenOf (getD t j 0)) 0 ≡ j - 1) × (getD scopes (tokenOf (getD t j 0)) 0 ≡ scopeAt (point j))
 
   first-is : length vs ≡ lists .variables
   first-is = sym (h .base .world .gathered .variables-are)
@@ -147,7 +147,7 @@ module _ {low high t roots₀ scopes₀ heard₀ : List ℕ} {lists : Lists} (h 
         seen-few = s;
         heard-room = omega (arith, s, x .heard-size, h .heard-room);
         sums-few = omega (arith, c .0, h .base .room);
-        definitions-few = omega (arith, c .1, h .base .room);
+        definitions-few = omega (arith, definitions-few w m t (lists .root) (h .faultless) (h .new) T (h .decimals) (h .literals) (h .base .world .holds) t roots scopes i from to, h .base .few);
       }
 
   pub progressed : (i : ℕ) (nodes roots scopes heard nodes′ roots′ scopes′ heard′ : List ℕ) (walk r : Walk) → firstNode lists ≤ i → i ≤ lineNode lists → Progress i nodes roots scopes heard walk
@@ -166,7 +166,7 @@ module _ {low high t roots₀ scopes₀ heard₀ : List ℕ} {lists : Lists} (h 
       record {
         size = ap length (s .nodes-are) ∙ length-set nodes i c ∙ x .size;
         roots-size = ap length (s .roots-are) ∙ marked-size (getD t i 0) roots (i - 1) ∙ x .roots-size;
-        scopes-size = ap length (s .scopes-are) ∙ marked-size (getD t i 0) scopes (length (point i .scope)) ∙ x .scopes-size;
+        scopes-size = ap length (s .scopes-are) ∙ marked-size (getD t i 0) scopes (scopeAt (point i)) ∙ x .scopes-size;
         heard-size = s .size ∙ x .heard-size;
         ahead = λ j q. other j (λ e. omega arith) ∙ x .ahead j (omega arith);
         numbers = λ j q. other j (λ e. omega arith) ∙ x .numbers j q;
@@ -180,21 +180,21 @@ module _ {low high t roots₀ scopes₀ heard₀ : List ℕ} {lists : Lists} (h 
       done-by j a b (no e) c other before now = other j e ∙ before j a (omega (arith, e))
 
       Placed : ℕ → List ℕ → List ℕ → Type 0
-      Placed j rs ss = (getD rs (tokenOf (getD t j 0)) 0 ≡ j - 1) × (getD ss (tokenOf (getD t j 0)) 0 ≡ length (point j .scope))
+      Placed j rs ss = (getD rs (tokenOf (getD t j 0)) 0 ≡ j - 1) × (getD ss (tokenOf (getD t j 0)) 0 ≡ scopeAt (point j))
 
       sums-by : (j : ℕ) → firstNode lists ≤ j → j < i + 1 → roleAt t j ≡ role.sum → Dec (j ≡ i) → Stepped (standing i nodes roots scopes heard walk f l x) nodes′ roots′ scopes′ heard′ r
           → (roleAt t i ≡ role.sum → (tokenOf (getD t i 0) < length roots) × (tokenOf (getD t i 0) < length scopes) × (0 < i))
           → ((i j : ℕ) → length vs ≤ i → i ≤ lists .root - length vs - length ds → length vs ≤ j → j ≤ lists .root - length vs - length ds → roleAt t i ≡ role.sum → roleAt t j ≡ role.sum → tokenOf (getD t i 0) ≡ tokenOf (getD t j 0) → i ≡ j)
-          → (getD roots′ (tokenOf (getD t j 0)) 0 ≡ j - 1) × (getD scopes′ (tokenOf (getD t j 0)) 0 ≡ length (point j .scope))
+          → (getD roots′ (tokenOf (getD t j 0)) 0 ≡ j - 1) × (getD scopes′ (tokenOf (getD t j 0)) 0 ≡ scopeAt (point j))
       sums-by j a b q (yes e) s below apart =
           let k = sum-kind (kindOf (getD t i 0)) (rw e at q) in
           let z = below (rw e at q) in
-          rw e (ap (λ (l : List ℕ). getD l (tokenOf (getD t i 0)) 0) (s .roots-are) ∙ marked-here (getD t i 0) roots (i - 1) k (z .0), ap (λ (l : List ℕ). getD l (tokenOf (getD t i 0)) 0) (s .scopes-are) ∙ marked-here (getD t i 0) scopes (length (point i .scope)) k (z .1))
+          rw e (ap (λ (l : List ℕ). getD l (tokenOf (getD t i 0)) 0) (s .roots-are) ∙ marked-here (getD t i 0) roots (i - 1) k (z .0), ap (λ (l : List ℕ). getD l (tokenOf (getD t i 0)) 0) (s .scopes-are) ∙ marked-here (getD t i 0) scopes (scopeAt (point i)) k (z .1))
       sums-by j a b q (no e) s below apart =
           let n = tokenOf (getD t j 0) in
           let off : kindOf (getD t i 0) ≡ 49 → n ≡ tokenOf (getD t i 0) → ⊥ = λ k y. e (apart j i (omega (arith, first-is)) (omega (arith, line-is)) (omega (arith, first-is)) (omega (arith, line-is)) q (kind-sum (kindOf (getD t i 0)) k) y) in
           let before = x .sums j a (omega (arith, e)) q in
-          (ap (λ (l : List ℕ). getD l n 0) (s .roots-are) ∙ marked-other (getD t i 0) roots (i - 1) n off ∙ before .0, ap (λ (l : List ℕ). getD l n 0) (s .scopes-are) ∙ marked-other (getD t i 0) scopes (length (point i .scope)) n off ∙ before .1)
+          (ap (λ (l : List ℕ). getD l n 0) (s .roots-are) ∙ marked-other (getD t i 0) roots (i - 1) n off ∙ before .0, ap (λ (l : List ℕ). getD l n 0) (s .scopes-are) ∙ marked-other (getD t i 0) scopes (scopeAt (point i)) n off ∙ before .1)
 
   -- ---- at the start
   pub look : Lookup low high t lists
@@ -300,7 +300,7 @@ module _ {low high t roots₀ scopes₀ heard₀ : List ℕ} {lists : Lists} (h 
             (λ j f l. y .done j (omega (arith, first-is)) l) (λ j f l r. y .sums j (omega (arith, first-is)) l r) (λ j l. y .ahead j l)
             (omega (arith, c .0, a, x .roots-size, h .roots-room)) (omega (arith, c .0, a, x .scopes-size, h .scopes-room)) n (omega arith));
         branches = λ j f l k. let g = table-at j (omega arith) in rw g (y .sums j (omega (arith, first-is)) (omega arith) (rw g at k) .0);
-        locals = λ j f l k. let g = table-at j (omega arith) in rw g (y .sums j (omega (arith, first-is)) (omega arith) (rw g at k) .1 ∙ ap (λ (p : Point). length (p .scope)) (sym (point-same j (omega arith))));
+        locals = λ j f l k. let g = table-at j (omega arith) in rw g (y .sums j (omega (arith, first-is)) (omega arith) (rw g at k) .1 ∙ ap scopeAt (sym (point-same j (omega arith))));
       }
 
 -- ---- the cases of `settle`

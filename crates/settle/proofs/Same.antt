@@ -11,7 +11,7 @@ use Rattle.tree.specs.Node.{tokenOf, leftOf, thirdOf}
 use Rattle.tree.proofs.Alike.{one-table}
 use Rattle.model.specs.Sites.{Variable, Definition, variables, definitions}
 use Rattle.settle.specs.declared.Model.{Model}
-use Rattle.settle.specs.Walks.{Role, sum, roleAt, Point, stepBy, cellOf, step, walked}
+use Rattle.settle.specs.Walks.{Role, sum, roleAt, Point, stepBy, cellOf, step, walked, scopeAt}
 use Rattle.settle.specs.Walks as role
 use Rattle.settle.specs.Settles.{pointIn, lineIn, Settles, SameTables}
 
@@ -97,7 +97,7 @@ module _ {w : ℕ → List ℕ} {m : Syntax.Model} {nodes roots scopes nodes′ 
       let r : roleAt (b .table) i ≡ sum = ap (λ (t : List ℕ). roleAt t i) (sym table-is) ∙ s .is-sum in
       let q : tokenOf (getD (b .table) i 0) ≡ n = ap (λ (t : List ℕ). tokenOf (getD t i 0)) (sym table-is) ∙ k in (
         ap (λ (j : ℕ). getD roots j 0) (sym k) ∙ a .branches i (s .from) (s .to) (s .is-sum) ∙ sym (b .branches i (s .from) u r) ∙ ap (λ (j : ℕ). getD roots′ j 0) q,
-        ap (λ (j : ℕ). getD scopes j 0) (sym k) ∙ a .locals i (s .from) (s .to) (s .is-sum) ∙ ap (λ (t : List ℕ). length (pointIn w m t i .scope)) table-is ∙ sym (b .locals i (s .from) u r) ∙ ap (λ (j : ℕ). getD scopes′ j 0) q,
+        ap (λ (j : ℕ). getD scopes j 0) (sym k) ∙ a .locals i (s .from) (s .to) (s .is-sum) ∙ ap (λ (t : List ℕ). scopeAt (pointIn w m t i)) table-is ∙ sym (b .locals i (s .from) u r) ∙ ap (λ (j : ℕ). getD scopes′ j 0) q,
       )
 
   pub same-numbers : x ≡ y

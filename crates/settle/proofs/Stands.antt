@@ -2,11 +2,12 @@
 use mathlib.Core.Path.{_≡_, refl, sym, ap, ap₂, _∙_, subst}
 use mathlib.Core.List.{List, [], _∷_, _++_}
 use mathlib.Core.Bool.{Bool, true, false, cond}
-use Prim.Native.Nat.{ℕ, zero, suc, _+_, _-_, _≤_, _<_, min}
+use Prim.Native.Nat.{ℕ, zero, suc, _+_, _-_, _≤_, _<_, min, _*_}
 use native.Mathlib.Decide.{decLe}
 use native.Mathlib.Omega.{arith}
 use lib.Dec.{eqb}
 use lib.ListN.{length, getD, take, set, length-take}
+use Rattle.model.specs.Limits.{definitionLimit}
 use Rattle.grammar.specs.Syntax
 use Rattle.tree.specs.Node as node
 use Rattle.tree.specs.Node.{field, cell, kindOf, tokenOf, leftOf, thirdOf, numberKind}
@@ -22,7 +23,7 @@ use Rattle.names.specs.Placed.{IsName, Named, Fits, SortFits, sortOf}
 use Rattle.names.specs.Settings.{World, Scoped}
 use Rattle.names.proofs.Settled.{root-in, vs-few}
 use Rattle.settle.specs.declared.Walk.{Walk}
-use Rattle.settle.specs.Walks.{Role, roleOf, roleAt, Point, nameCell, cellBy, cellOf, stepBy, step, SafeBy, pointAt}
+use Rattle.settle.specs.Walks.{Role, roleOf, roleAt, Point, nameCell, cellBy, cellOf, stepBy, step, SafeBy, pointAt, scopeAt}
 use Rattle.settle.specs.Walks as role
 use Rattle.settle.specs.Places.{Told, Base, Kept, Lookup, Place, wordIn, kindsIn, variablesIn, definitionsOf, meaningAt, Hearing, metNames, NameDone, Leaf, Knows, Turn, turned, markedBy, firstNode, lineNode, Standing, Stepped}
 use Rattle.settle.proofs.Whole.{below}
@@ -233,28 +234,31 @@ module _ {low high nodes roots scopes heard : List ℕ} {lists : Lists} {walk : 
           safe = safe-here;
           other = not-name;
           sums-few = h .sums-few;
-          definitions-few = h .definitions-few;
+          definitions-few = omega (arith, h .definitions-few);
         }
 
     -- what is asked of `mark_sum`
-    pub sum-asked : (n : ℕ) → n ≡ walk .scope .count → (kindOf (getD nodes i 0) ≡ 49 → (tokenOf (getD nodes i 0) < length roots) × (tokenOf (getD nodes i 0) < length scopes) × (0 < i)) × (i < field) × (n < 256)
+    pub sum-asked : (n d : ℕ) → n ≡ walk .scope .count → d ≡ walk .definitions → (kindOf (getD nodes i 0) ≡ 49 → (tokenOf (getD nodes i 0) < length roots) × (tokenOf (getD nodes i 0) < length scopes) × (0 < i)) × (i < field) × (n < 256) × (d ≤ definitionLimit)
     unfolding roleOf numberKind
-    sum-asked n q =
-        (λ z. rw here (h .below (rw (← here, z))), omega (arith, h .before, h .base .room), omega (arith, h .knows .scoped .count))
+    sum-asked n d q u =
+        (λ z. rw here (h .below (rw (← here, z))), omega (arith, h .before, h .base .room), omega (arith, h .knows .scoped .count), omega (arith, h .knows .definitions, h .definitions-few, u))
 
     count-is : walk .scope .count ≡ length (h .point .scope)
     count-is = omega (arith, h .knows .scoped .count, ap length (h .knows .scoped .locals-are (asks lookup)), length-take (walk .scope .count) (walk .scope .names))
 
-    pub node-stepped : (nodes′ roots′ scopes′ : List ℕ) (r : Walk) (n : ℕ) → n ≡ walk .scope .count
+    pub node-stepped : (nodes′ roots′ scopes′ : List ℕ) (r : Walk) (n d : ℕ) → n ≡ walk .scope .count → d ≡ walk .definitions
         → ((g : Turn nodes lists walk (getD nodes i 0)) → Knows (g .low) (g .high) (kindsIn (g .at)) (g .heard) r (turned g))
         → ((g : Leaf low high nodes lists (walk .scope) i) → nodes′ ≡ set nodes i (cellBy (wordIn (g .place .at)) (variablesIn (g .place .at)) (definitionsOf (g .place .at)) (roleAt nodes i) (getD nodes i 0) (g .point)))
-        → roots′ ≡ markedBy (getD nodes i 0) roots (i - 1) → scopes′ ≡ markedBy (getD nodes i 0) scopes n → Stepped h nodes′ roots′ scopes′ heard r
+        → roots′ ≡ markedBy (getD nodes i 0) roots (i - 1) → scopes′ ≡ markedBy (getD nodes i 0) scopes (n + d * 16) → Stepped h nodes′ roots′ scopes′ heard r
     unfolding leaf turn place lookup cellOf step
-    node-stepped nodes′ roots′ scopes′ r n q f g x y =
+    node-stepped nodes′ roots′ scopes′ r n d q o f g x y =
         record {
           nodes-are = rw (← here) (g leaf);
           roots-are = rw (← here) x;
-          scopes-are = rw (← here, ← count-is, ← q) y;
+          scopes-are = rw (← here) (y ∙ ap (markedBy (getD nodes i 0) scopes) marks);
           knows = subst (λ (p : Point). Knows low high (world .kinds) heard r p) (step-bound w vs ds (roleAt nodes i) (getD nodes i 0) (thirdOf (getD nodes (leftOf (getD nodes i 0)) 0)) (thirdOf (getD t (leftOf (getD t i 0)) 0)) (h .point) (λ z. sym (bound-same z)) ∙ ap (λ (c : ℕ). stepBy w vs ds (roleOf (kindOf c)) c (thirdOf (getD t (leftOf (getD t i 0)) 0)) (h .point)) here) (f turn);
           size = refl;
         }
+      where
+        marks : n + d * 16 ≡ scopeAt (h .point)
+        marks = omega (arith, q, o, count-is, h .knows .definitions)

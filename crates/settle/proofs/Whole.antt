@@ -23,7 +23,7 @@ use Rattle.model.specs.Stands.{BranchIn}
 use Rattle.model.proofs.Closes.{Faultless, length-each}
 use Rattle.names.proofs.Chains.{definitions-run}
 use Rattle.tables.specs.Represents.{Represents, Starts}
-use Rattle.settle.specs.Walks.{Role, roleAt, Point, paramsAt, stepBy, cellOf, step, walked, begun, pointAt}
+use Rattle.settle.specs.Walks.{Role, roleAt, Point, paramsAt, stepBy, cellOf, step, walked, begun, pointAt, scopeAt}
 use Rattle.settle.specs.Walks as role
 use Rattle.settle.proofs.Moves.{Safe, IsSum, numberAt, Done, SumAt, Mark, marked-at, Moved}
 use Rattle.settle.proofs.Heard.{met-length}
@@ -120,6 +120,31 @@ module _ (w : ℕ → List ℕ) (vs : List Variable) (ds : List Definition) (t :
   counts-by (role.item b) c q p = (omega arith, omega arith)
   counts-by role.plain c q p = (omega arith, omega arith)
 
+  grows-by : (r : Role) (c b : ℕ) (p : Point) → p .definitions ≤ stepBy w vs ds r c b p .definitions
+  unfolding stepBy
+  grows-by (role.whole b) c q p = omega arith
+  grows-by role.name c q p = omega arith
+  grows-by (role.number b d) c q p = omega arith
+  grows-by role.scale c q p = omega arith
+  grows-by role.action c q p = omega arith
+  grows-by role.ending c q p = omega arith
+  grows-by role.sum c q p = omega arith
+  grows-by role.call c q p = omega arith
+  grows-by role.definition c q p = omega arith
+  grows-by (role.item b) c q p = omega arith
+  grows-by role.plain c q p = omega arith
+
+  -- definitions are never fewer later on
+  pub definitions-more : (first a n : ℕ) (p : Point) → walked w vs ds t first a p .definitions ≤ walked w vs ds t first (a + n) p .definitions
+  unfolding walked step
+  definitions-more first a zero p = let e : a + 0 ≡ a = omega arith in rw e (omega arith)
+  definitions-more first a (suc n) p =
+      let r = definitions-more first a n p in
+      let q = walked w vs ds t first (a + n) p in
+      let g = grows-by (roleAt t (first + (a + n))) (getD t (first + (a + n)) 0) (thirdOf (getD t (leftOf (getD t (first + (a + n)) 0)) 0)) q in
+      let e : a + suc n ≡ suc (a + n) = omega arith in
+      rw e (omega (arith, g, r))
+
   -- sums and definitions are counted one a node at most
   pub counts-few : (first n : ℕ) (p : Point) → (walked w vs ds t first n p .sums ≤ p .sums + n) × (walked w vs ds t first n p .definitions ≤ p .definitions + n)
   unfolding walked step
@@ -172,6 +197,12 @@ module _ (w : ℕ → List ℕ) (m : Syntax.Model) (t : List ℕ) where
   names-more i j f l =
       let e : j - first ≡ i - first + (j - i) = omega arith in
       rw e (seen-more w vs ds t first (i - first) (j - i) (begun w vs ds))
+
+  definitions-later : (i j : ℕ) → first ≤ i → i ≤ j → trace i .definitions ≤ trace j .definitions
+  unfolding pointAt
+  definitions-later i j f l =
+      let e : j - first ≡ i - first + (j - i) = omega arith in
+      rw e (definitions-more w vs ds t first (i - first) (j - i) (begun w vs ds))
 
   module _ (root : ℕ) (ok : Faultless w m) (new : (k : ℕ) → NotNew w m k → ⊥) (told : ℕ → Type 0) (decimals : (sc : Scope) (i k : ℕ) (g : Syntax.Gate) (x : Syntax.Action) (r : Syntax.Rate) (n : Syntax.Next) → BranchIn m sc i (Syntax.branch k g x r n) → (b : Bool) (j : ℕ) → scaleOf r ≡ Syntax.number b true j → told j) (literals : SystemLiteral (system m)) (h : Table.Model t m 0 root) where
     -- the system line's node, and the first after it
@@ -226,12 +257,16 @@ module _ (w : ℕ → List ℕ) (m : Syntax.Model) (t : List ℕ) where
       pub sums-after : trace last .sums ≡ countDefinitions ds
       sums-after = ap (λ (p : Point). p .sums) (moved .after) ∙ omega arith
 
+      -- a node's definition is one of them, or past the last
+      pub definitions-few : (i : ℕ) → first ≤ i → i ≤ line → trace i .definitions ≤ length ds
+      definitions-few i f l = let e = ap (λ (p : Point). p .definitions) (moved .after) in omega (arith, e, definitions-later i last f (omega arith))
+
       pub names-after : trace last .seen ≡ cs
       unfolding channelNames
       names-after = ap (λ (p : Point). p .seen) (moved .after)
 
       module _ (room : root < field) (cells : (i : ℕ) → first ≤ i → i < last → getD t′ i 0 ≡ cellOf w vs ds t i (trace i))
-          (sums : (i : ℕ) → first ≤ i → i < last → roleAt t i ≡ role.sum → (getD roots (tokenOf (getD t i 0)) 0 ≡ i - 1) × (getD scopes (tokenOf (getD t i 0)) 0 ≡ length (trace i .scope)))
+          (sums : (i : ℕ) → first ≤ i → i < last → roleAt t i ≡ role.sum → (getD roots (tokenOf (getD t i 0)) 0 ≡ i - 1) × (getD scopes (tokenOf (getD t i 0)) 0 ≡ scopeAt (trace i)))
           (outside : (i : ℕ) → last ≤ i → getD t′ i 0 ≡ getD t i 0) (roots-fit : countDefinitions ds ≤ length roots) (scopes-fit : countDefinitions ds ≤ length scopes) where
         done : Done w vs ds cs told t t′ roots scopes trace first last
         done =

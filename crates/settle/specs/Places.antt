@@ -32,7 +32,7 @@ use Rattle.tables.specs.Settled.{channel}
 use Rattle.settle.specs.Literals.{SystemLiteral}
 use Rattle.settle.specs.Kids.{Hung}
 use Rattle.settle.specs.declared.Walk.{Walk}
-use Rattle.settle.specs.Walks.{Role, whole, name, number, scale, action, ending, sum, call, definition, item, plain, roleOf, roleAt, Point, NumberSafe, SafeBy, stepBy, cellOf, step, pointAt}
+use Rattle.settle.specs.Walks.{Role, whole, name, number, scale, action, ending, sum, call, definition, item, plain, roleOf, roleAt, Point, NumberSafe, SafeBy, stepBy, cellOf, step, pointAt, scopeAt}
 
 -- a number with `-` before it or not
 unfoldable pub signed : Bool → ℕ → ℤ
@@ -248,13 +248,13 @@ pub record Standing (low high nodes roots scopes heard : List ℕ) (lists : List
   pub seen-few : length (point .seen) ≤ i
   pub heard-room : length (point .seen) < length heard
   pub sums-few : point .sums < field
-  pub definitions-few : point .definitions < field
+  pub definitions-few : point .definitions ≤ definitionLimit
 
 -- and after it
 pub record Stepped {low high nodes roots scopes heard : List ℕ} {lists : Lists} {walk : Walk} {i : ℕ} (h : Standing low high nodes roots scopes heard lists walk i) (nodes′ roots′ scopes′ heard′ : List ℕ) (r : Walk) : Type 0 where
   pub nodes-are : nodes′ ≡ set nodes i (cellOf (h .base .world .word) (variables (h .base .world .model)) (definitions (h .base .world .model)) (h .table) i (h .point))
   pub roots-are : roots′ ≡ markedBy (getD (h .table) i 0) roots (i - 1)
-  pub scopes-are : scopes′ ≡ markedBy (getD (h .table) i 0) scopes (length (h .point .scope))
+  pub scopes-are : scopes′ ≡ markedBy (getD (h .table) i 0) scopes (scopeAt (h .point))
   pub knows : Knows low high (h .base .world .kinds) heard′ r (step (h .base .world .word) (variables (h .base .world .model)) (definitions (h .base .world .model)) (h .table) i (h .point))
   pub size : length heard′ ≡ length heard
 

@@ -8,7 +8,7 @@ use Rattle.tree.specs.Node.{tokenOf}
 use Rattle.tree.specs.Table
 use Rattle.model.specs.Sites.{variables, definitions}
 use Rattle.settle.specs.declared.Model.{Model}
-use Rattle.settle.specs.Walks.{sum, roleAt, Point, cellOf, pointAt}
+use Rattle.settle.specs.Walks.{sum, roleAt, Point, cellOf, pointAt, scopeAt}
 
 -- the node of sum n, among those of the table t from first to line
 pub record SumNode (t : List ℕ) (first line n : ℕ) : Type 0 where
@@ -47,7 +47,7 @@ pub record Settles (w : ℕ → List ℕ) (m : Syntax.Model) (nodes roots scopes
   pub scopes-fit : x .sums ≤ length scopes
   pub numbered : (n : ℕ) → n < x .sums → SumNode table (length (variables m)) (lineIn m (x .root)) n
   pub branches : (i : ℕ) → length (variables m) ≤ i → i ≤ lineIn m (x .root) → roleAt table i ≡ sum → getD roots (tokenOf (getD table i 0)) 0 ≡ i - 1
-  pub locals : (i : ℕ) → length (variables m) ≤ i → i ≤ lineIn m (x .root) → roleAt table i ≡ sum → getD scopes (tokenOf (getD table i 0)) 0 ≡ length (pointIn w m table i .scope)
+  pub locals : (i : ℕ) → length (variables m) ≤ i → i ≤ lineIn m (x .root) → roleAt table i ≡ sum → getD scopes (tokenOf (getD table i 0)) 0 ≡ scopeAt (pointIn w m table i)
 
 -- two sets of tables are the same as far as a model with these numbers uses them: its nodes up to the root, and a row for each sum
 pub record SameTables (nodes roots scopes nodes′ roots′ scopes′ : List ℕ) (x : Model) : Type 0 where

@@ -3,7 +3,7 @@ use mathlib.Core.Path.{_≡_}
 use mathlib.Core.List.{List, [], _∷_, _++_}
 use mathlib.Core.Bool.{Bool, true, false, cond, _&&_, _||_}
 use mathlib.Core.Logic.{_⊎_}
-use Prim.Native.Nat.{ℕ, zero, suc, _+_, _-_, _≤_}
+use Prim.Native.Nat.{ℕ, zero, suc, _+_, _-_, _*_, _≤_}
 use lib.Dec.{eqb, leb}
 use lib.IntN.{natAbs}
 use lib.ListN.{length, getD, take}
@@ -73,6 +73,10 @@ pub record Point : Type 0 where
   -- how many sums and definitions are done
   pub sums : ℕ
   pub definitions : ℕ
+
+-- what a sum at this point has: its locals, and its definition (model: Scope)
+abbrev pub scopeAt : Point → ℕ
+scopeAt p = length (p .scope) + p .definitions * 16
 
 -- the parameters of definition n, none past the last
 unfoldable pub paramsAt : List Definition → ℕ → Scope

@@ -7,7 +7,8 @@ ghost use mathlib.Core.Path.{_≡_};
 ghost use mathlib.Core.List.{List, [], _∷_};
 ghost use mathlib.Core.Bool.{Bool, true, false, _&&_};
 ghost use lib.Dec.{leb};
-ghost use Prim.Native.Nat.{ℕ, _+_, _-_, _≤_, _<_, min};
+ghost use Prim.Native.Nat.{ℕ, _+_, _-_, _*_, _≤_, _<_, min};
+ghost use Rattle.model.specs.Limits.{definitionLimit};
 ghost use lib.ListN.{length, getD, set};
 ghost use Rattle.word.specs.Number.{worth, cap, unit};
 ghost use Rattle.tree.specs.Node.{sum as sumKind};
@@ -259,16 +260,23 @@ fn settle_name(
     settle_channel(low, high, nodes, heard, n, i, k)
 }
 
-// Where the node i is a sum's, keeps the root of its branches and how many locals it has under its number.
-fn mark_sum(roots: &mut [u16], scopes: &mut [u8], node: u64, i: usize, count: usize)
-    requires { ⌜ (kindOf node ≡ sumKind → (tokenOf node < length (now roots)) × (tokenOf node < length (now scopes)) × (0 < i)) × (i < field) × (count < 256) ⌝ }
+// Where the node i is a sum's, keeps the root of its branches, and its locals and definition, under its number.
+fn mark_sum(
+    roots: &mut [u16],
+    scopes: &mut [u16],
+    node: u64,
+    i: usize,
+    count: usize,
+    definitions: usize,
+)
+    requires { ⌜ (kindOf node ≡ sumKind → (tokenOf node < length (now roots)) × (tokenOf node < length (now scopes)) × (0 < i)) × (i < field) × (count < 256) × (definitions ≤ definitionLimit) ⌝ }
     ensures { λ r. ⌜ now (roots .exit) ≡ markedBy node (now (roots .entry)) (i - 1) ⌝ }
-    ensures { λ r. ⌜ now (scopes .exit) ≡ markedBy node (now (scopes .entry)) count ⌝ }
+    ensures { λ r. ⌜ now (scopes .exit) ≡ markedBy node (now (scopes .entry)) (count + definitions * 16) ⌝ }
 {
     if tree::kind_of(node) == NodeKind::SUM {
         let n = tree::token_of(node);
         roots[n] = (i - 1) as u16;
-        scopes[n] = count as u8;
+        scopes[n] = (count + definitions * 16) as u16;
     }
 }
 
@@ -423,7 +431,7 @@ fn settle_node(
     high: &[u64],
     nodes: &mut [u64],
     roots: &mut [u16],
-    scopes: &mut [u8],
+    scopes: &mut [u16],
     heard: &mut [u64],
     lists: Lists,
     walk: Walk,
@@ -456,7 +464,7 @@ fn settle_node(
     }
     let next = walk_after(nodes, lists, walk, node);
     settle_leaf(low, high, nodes, lists, scope, i);
-    mark_sum(roots, scopes, node, i, count);
+    mark_sum(roots, scopes, node, i, count, walk.definitions);
     next
 }
 
@@ -466,7 +474,7 @@ pub fn settle(
     high: &[u64],
     nodes: &mut [u64],
     roots: &mut [u16],
-    scopes: &mut [u8],
+    scopes: &mut [u16],
     heard: &mut [u64],
     root: usize,
 ) -> Model

@@ -10,8 +10,8 @@ use mir.Val.{toZ}
 use lib.ListN.{length, getD, set, take, drop, replicate, length-append, length-take, length-drop, length-set, length-replicate, replicate-append-replicate, List·getD-append, drop-of-length-le}
 use borrow.Rule.Slice.PartMut.{putMid, midOf}
 use lib.Seq.{take-all, take-at, drop-at, take-add, take-append-le, drop-append-le, drop-append-add, take-append-add, drop-drop, getD-take, length-take-le, take-suc-set, drop-set-lt, append-snoc}
-use Rattle.machine.specs.State.{stateLength, padded, flatten, stateNumbers, emptyState}
-use Rattle.state.specs.Change.{rewritten, pairAdded, pairTaken, processReplaced, processAdded}
+use Rattle.machine.specs.State.{stateLength, padded, flatten, stateNumbers, emptyState, pairRoom, pairWidth, processRoom, processWidth}
+use Rattle.state.specs.Change.{rewritten, pairAdded, pairTaken, processReplaced, processAdded, pairsFrom}
 use Rattle.state.specs.Test.{at}
 use Rattle.value.proofs.Kit.{back}
 use Rattle.state.proofs.Mix.{mix, mix-up}
@@ -91,34 +91,34 @@ unfolding rewritten
 rewritten-none cut l h = sym (take-all (length l) (drop cut l ++ replicate cut (pos 0)) (simp (length-append, length-drop, length-replicate) (omega arith)))
 
 -- ---- the whole buffer after each change
-pub added : (s row ys : List ℤ) (place n : ℕ) → length row ≡ 5 → n ≡ natAbs (at s 1) → n < 256
-    → let a = 2306 + place * 5 in ys ≡ rewritten 0 (take 5 row) (midOf a (length s - a) s)
-    → let a = 2306 + place * 5 in set (putMid a (length s - a) s ys) 1 (toZ w64 (n + 1)) ≡ pairAdded place row s
+pub added : (s row ys : List ℤ) (place n : ℕ) → length row ≡ pairWidth → n ≡ natAbs (at s 1) → n < 256
+    → let a = pairsFrom + place * pairWidth in ys ≡ rewritten 0 (take pairWidth row) (midOf a (length s - a) s)
+    → let a = pairsFrom + place * pairWidth in set (putMid a (length s - a) s ys) 1 (toZ w64 (n + 1)) ≡ pairAdded place row s
 unfolding pairAdded
 added s row ys place n w q h e =
-    let a : ℕ = 2306 + place * 5 in
-    let r : take 5 row ≡ row = take-all 5 row (omega arith) in
+    let a : ℕ = pairsFrom + place * pairWidth in
+    let r : take pairWidth row ≡ row = take-all pairWidth row (omega arith) in
     ap₂ (λ (l : List ℤ) (z : ℤ). set l 1 z)
     (tail-changed (rewritten 0 row) a s ys (e ∙ ap (λ (t : List ℤ). rewritten 0 t (midOf a (length s - a) s)) r))
     (back (pos (n + 1)) (omega arith) ∙ ap (λ (m : ℕ). pos (m + 1)) q)
 
-pub taken : (s ys : List ℤ) (place n : ℕ) → length s ≡ 3586 → place < 256 → n ≡ natAbs (at s 1) → n ≤ 256
-    → let a = 2306 + place * 5 in ys ≡ drop 5 (midOf a (length s - a) s) ++ replicate 5 (pos 0)
-    → let a = 2306 + place * 5 in set (putMid a (length s - a) s ys) 1 (toZ w64 (n - 1)) ≡ pairTaken place s
+pub taken : (s ys : List ℤ) (place n : ℕ) → length s ≡ stateLength → place < 256 → n ≡ natAbs (at s 1) → n ≤ 256
+    → let a = pairsFrom + place * pairWidth in ys ≡ drop pairWidth (midOf a (length s - a) s) ++ replicate pairWidth (pos 0)
+    → let a = pairsFrom + place * pairWidth in set (putMid a (length s - a) s ys) 1 (toZ w64 (n - 1)) ≡ pairTaken place s
 unfolding pairTaken
 taken s ys place n w p q h e =
-    let a : ℕ = 2306 + place * 5 in
+    let a : ℕ = pairsFrom + place * pairWidth in
     ap₂ (λ (l : List ℤ) (z : ℤ). set l 1 z)
-    (tail-changed (rewritten 5 []) a s ys (e ∙ rewritten-none 5 (midOf a (length s - a) s) (simp (length-take, length-drop) (omega arith))))
+    (tail-changed (rewritten pairWidth []) a s ys (e ∙ rewritten-none pairWidth (midOf a (length s - a) s) (simp (length-take, length-drop) (omega arith))))
     (back (pos (n - 1)) (omega arith) ∙ ap (λ (m : ℕ). pos (m - 1)) q)
 
 pub replaced : (s new ys : List ℤ) (place n k : ℕ) → place < 256 → n ≡ natAbs (at s 0) → n ≤ 256 → k ≤ 256
-    → let a = 2 + place * 9 in ys ≡ rewritten 9 new (midOf a (2306 - a) s)
-    → let a = 2 + place * 9 in set (putMid a (2306 - a) s ys) 0 (toZ w64 (n - 1 + k)) ≡ processReplaced place k new s
+    → let a = 2 + place * processWidth in ys ≡ rewritten processWidth new (midOf a (pairsFrom - a) s)
+    → let a = 2 + place * processWidth in set (putMid a (pairsFrom - a) s ys) 0 (toZ w64 (n - 1 + k)) ≡ processReplaced place k new s
 unfolding processReplaced
 replaced s new ys place n k p q h g e =
     ap₂ (λ (l : List ℤ) (z : ℤ). set l 0 z)
-    (part-changed (rewritten 9 new) (2 + place * 9) s ys 2306 (omega arith) e)
+    (part-changed (rewritten processWidth new) (2 + place * processWidth) s ys pairsFrom (omega arith) e)
     (back (pos (n - 1 + k)) (omega arith) ∙ ap (λ (m : ℕ). pos (m - 1 + k)) q)
 
 -- numbers written over a tail leave its length
@@ -134,12 +134,12 @@ pub set-length : (s fresh ys : List ℤ) (a i : ℕ) (z v : ℤ) → let u = set
 set-length s fresh ys a i z v l h e = length-set (putMid a (length (set s i z) - a) (set s i z) ys) 0 v ∙ put-length s fresh ys a i z l h e
 
 -- a process written after the others
-pub pushed : (s fresh ys : List ℤ) (sum n : ℕ) → length s ≡ 3586 → n ≡ natAbs (at s 0) → n < 256 → sum < 9223372036854775808
-    → let u = set s (2 + n * 9) (toZ w64 sum) in ys ≡ take (length fresh) fresh ++ drop (length fresh) (midOf (2 + n * 9 + 1) (length u - (2 + n * 9 + 1)) u)
-    → let u = set s (2 + n * 9) (toZ w64 sum) in set (putMid (2 + n * 9 + 1) (length u - (2 + n * 9 + 1)) u ys) 0 (toZ w64 (n + 1)) ≡ processAdded sum fresh s
+pub pushed : (s fresh ys : List ℤ) (sum n : ℕ) → length s ≡ stateLength → n ≡ natAbs (at s 0) → n < 256 → sum < 9223372036854775808
+    → let u = set s (2 + n * processWidth) (toZ w64 sum) in ys ≡ take (length fresh) fresh ++ drop (length fresh) (midOf (2 + n * processWidth + 1) (length u - (2 + n * processWidth + 1)) u)
+    → let u = set s (2 + n * processWidth) (toZ w64 sum) in set (putMid (2 + n * processWidth + 1) (length u - (2 + n * processWidth + 1)) u ys) 0 (toZ w64 (n + 1)) ≡ processAdded sum fresh s
 unfolding processAdded
 pushed s fresh ys sum n w q h g e =
-    let a : ℕ = 2 + n * 9 in
+    let a : ℕ = 2 + n * processWidth in
     let k : ℕ = length fresh in
     let u : List ℤ = set s a (toZ w64 sum) in
     let v : toZ w64 sum ≡ pos sum = back (pos sum) g in
@@ -153,7 +153,12 @@ pushed s fresh ys sum n w q h g e =
     ap₂ (λ (l : List ℤ) (z : ℤ). set l 0 z)
     (tail-changed (λ (l : List ℤ). take k fresh ++ drop k l) (a + 1) u ys e ∙ r)
     (back (pos (n + 1)) (omega arith))
-    ∙ ap (λ (m : ℕ). set (take (2 + m * 9) s ++ (pos sum ∷ (fresh ++ drop (2 + m * 9 + 1 + k) s))) 0 (pos (m + 1))) q
+    ∙ ap (λ (m : ℕ). set (take (2 + m * processWidth) s ++ (pos sum ∷ (fresh ++ drop (2 + m * processWidth + 1 + k) s))) 0 (pos (m + 1))) q
+
+-- a buffer with room for it keeps its length
+pub added-length : (sum : ℕ) (ls zs : List ℤ) → 2 + natAbs (at zs 0) * processWidth + 1 + length ls ≤ length zs → length (processAdded sum ls zs) ≡ length zs
+unfolding processAdded
+added-length sum ls zs h = simp (length-set, length-append, length-take, length-drop) (omega arith)
 
 -- ---- 01, Fresh: no process and no pair are all zeros
 zeros-joined : (a b : ℕ) → pos 0 ∷ pos 0 ∷ (replicate a (pos 0) ++ replicate b (pos 0)) ≡ replicate (suc (suc (a + b))) (pos 0)
@@ -161,4 +166,4 @@ zeros-joined a b = ap (λ (l : List ℤ). pos 0 ∷ pos 0 ∷ l) (replicate-appe
 
 pub empty-numbers : stateNumbers emptyState ≡ replicate stateLength (pos 0)
 unfolding stateNumbers emptyState flatten padded
-empty-numbers = zeros-joined 2304 1280
+empty-numbers = zeros-joined processRoom pairRoom

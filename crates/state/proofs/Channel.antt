@@ -16,7 +16,7 @@ use Rattle.rules.specs.Order.{less, Ascending}
 use Rattle.rules.specs.Pairs.{channelNumbers, Before}
 use Rattle.rules.proofs.Less.{less-irreflexive, less-trans, less-first, less-rest}
 use Rattle.model.specs.Good.{Every}
-use Rattle.machine.specs.State.{State, padded, pairNumbers, stateNumbers}
+use Rattle.machine.specs.State.{State, padded, pairNumbers, stateNumbers, pairWidth}
 use Rattle.machine.proofs.Branches.{get-nth}
 use Rattle.machine.proofs.Everys.{every-nth}
 use Rattle.state.specs.Fits.{FewLocals, FitsPair, Fits}
@@ -134,5 +134,5 @@ named-row n k = refl
 -- ---- the run in a state's numbers
 module _ (scopes : List ℕ) (few : FewLocals scopes) (channels : ℕ) (s : State) (fits : Fits scopes channels s) (c : offers.Channel) where
   pub run-numbers : (q : ℕ) (x : offers.Pair) → getElem? (s .pairs) q ≡ some x
-      → let rs = rows 5 (length (s .pairs)) (pairPart (stateNumbers s)) in ((placeOf (rowOn c 0) rs ≤ q) × (q < placeOf (rowOn c 3) rs)) ↔ (x .channel ≡ c)
+      → let rs = rows pairWidth (length (s .pairs)) (pairPart (stateNumbers s)) in ((placeOf (rowOn c 0) rs ≤ q) × (q < placeOf (rowOn c 3) rs)) ↔ (x .channel ≡ c)
   run-numbers q x e = rw (pair-rows scopes few channels s fits) (run-exact c channels (s .pairs) (fits .pairs) (fits .ascending) q x e)

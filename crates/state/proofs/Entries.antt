@@ -1,28 +1,32 @@
 -- A row that passes its test is the numbers of the process or pair that it decodes to, which fits; and the other way round. By cases of the row's numbers.
 use mathlib.Core.Path.{_≡_, refl, sym, ap, ap₂, _∙_}
 use mathlib.Core.Bool.{Bool, true, false, cond, not, _&&_}
-use mathlib.Core.List.{List, [], _∷_}
+use mathlib.Core.List.{List, [], _∷_, _++_}
 use mathlib.Core.Option.{some}
-use Prim.Native.Nat.{ℕ, zero, suc, _≤_, _<_}
+use Prim.Native.Nat.{ℕ, zero, suc, _+_, _≤_, _<_}
 use native.Mathlib.Omega.{arith}
-use borrow.Author.Tests.{lt-ltb, ne-eqb}
+use borrow.Author.Tests.{lt-ltb, eq-eqb, ne-eqb}
 use lib.IntN.{ℤ, pos, negsuc, natAbs}
 use lib.ListN.{length, getD, getElem?, take, length-append, length-replicate}
-use lib.Seq.{length-take-le}
+use lib.Seq.{length-take-le, take-take, take-suc, take-all, take-at, take-append-le, getD-append-add}
+use native.Mathlib.Nat.{add-zero}
+use Rattle.model.specs.Limits.{localLimit}
 use Rattle.value.specs.Arithmetic.{isSame}
 use Rattle.value.specs.Range.{InRange}
 use Rattle.value.proofs.Kit.{false-not-true, same-eq}
 use Rattle.rules.specs.Offers as offers
 use Rattle.rules.specs.Pairs.{channelNumbers, numbers}
 use Rattle.model.specs.Good.{Every, OneOrTwo}
+use Rattle.model.specs.Scope.{localsIn, definitionIn}
+use Rattle.model.proofs.Scope.{no-locals}
 use Rattle.machine.specs.Offer.{Process}
-use Rattle.machine.specs.State.{padded, processNumbers, pairNumbers}
+use Rattle.machine.specs.State.{padded, processNumbers, pairNumbers, pairWidth, processWidth}
 use Rattle.machine.proofs.Everys.{every-get}
 use Rattle.state.specs.Fits.{FewLocals, FitsChannel, FitsPair, FitsProcess}
-use Rattle.state.specs.Test.{every, isValue, isZero, isBelow, isPadded, isProcess, isChannel, isPair}
+use Rattle.state.specs.Test.{at, every, isValue, isZero, isBelow, isPadded, isProcess, isChannel, isPair}
 use Rattle.state.specs.Decode.{processOf, channelOf, pairOf}
 use Rattle.state.proofs.Tests.{both, below-natural, below-bound}
-use Rattle.state.proofs.Rows.{values-say, padded-back, padded-front, padded-more, padded-passes}
+use Rattle.state.proofs.Rows.{values-say, padded-length, padded-back, padded-front, padded-more, padded-passes}
 
 -- ---- members of a list by their places
 pub get-below : {A : Type 0} (xs : List A) (n : ℕ) (d : A) → n < length xs → getElem? xs n ≡ some (getD xs n d)
@@ -45,51 +49,85 @@ unfolding isPadded
 padded-is n k l e h p = padded-back n k l e h (both (every isValue (take k l)) _ p .1)
 
 -- ---- processes
-module _ (scopes : List ℕ) (few : FewLocals scopes) where
-  few-at : (n : ℕ) → getD scopes n 0 ≤ 8
-  few-at n = every-get (λ (k : ℕ). k ≤ 8) 0 (omega arith) scopes n few
 
-  pub process-row : (r : List ℤ) → length r ≡ 9 → isProcess scopes r ≡ true → FitsProcess scopes (processOf scopes r) × (processNumbers (processOf scopes r) ≡ r)
+-- the numbers after a process's first: its locals, padded, and its definition
+module _ (ls : List ℤ) (d : ℤ) (few : length ls ≤ localLimit) where
+  all-locals : length (padded localLimit ls) ≡ localLimit
+  all-locals = padded-length localLimit ls few
+
+  locals-first : take localLimit (padded localLimit ls ++ d ∷ []) ≡ padded localLimit ls
+  locals-first = take-at (padded localLimit ls) (d ∷ []) localLimit all-locals
+
+  definition-last : at (padded localLimit ls ++ d ∷ []) localLimit ≡ d
+  definition-last = ap (at (padded localLimit ls ++ d ∷ [])) (sym all-locals ∙ sym (add-zero (length (padded localLimit ls)))) ∙ getD-append-add (padded localLimit ls) (d ∷ []) 0 (pos 0)
+
+make-process : ℕ → List ℤ → ℕ → Process
+make-process n ls d = record { sum = n; locals = ls; definition = d }
+
+module _ (scopes : List ℕ) (few : FewLocals scopes) where
+  few-at : (n : ℕ) → localsIn (getD scopes n 0) ≤ localLimit
+  few-at n = every-get (λ (k : ℕ). localsIn k ≤ localLimit) 0 no-locals scopes n few
+
+  pub process-row : (r : List ℤ) → length r ≡ processWidth → isProcess scopes r ≡ true → FitsProcess scopes (processOf scopes r) × (processNumbers (processOf scopes r) ≡ r)
   unfolding isProcess processOf processNumbers
   process-row [] l e = absurd (omega arith)
   process-row (z ∷ ls) l e =
       let b = both _ _ e in
       let n : ℕ = natAbs z in
-      let k : ℕ = getD scopes n 0 in
-      let i : k ≤ 8 = few-at n in
+      let c : ℕ = getD scopes n 0 in
+      let k : ℕ = localsIn c in
+      let p = both (isPadded k (take localLimit ls)) _ (b .1) in
+      let i : k ≤ localLimit = few-at n in
       let j : length (take k ls) ≡ k = length-take-le k ls (omega arith) in
-      let g : getElem? scopes n ≡ some k = get-below scopes n 0 (below-bound (length scopes) z (b .0)) in (
-        record { sum = g ∙ ap some (sym j); values = padded-says k ls (b .1) },
-        ap₂ (λ (y : ℤ) (ys : List ℤ). y ∷ ys) (sym (below-natural (length scopes) z (b .0))) (padded-is 8 k ls (omega arith) i (b .1)),
+      let f : length (take localLimit ls) ≡ localLimit = length-take-le localLimit ls (omega arith) in
+      let t : take k (take localLimit ls) ≡ take k ls = take-take k localLimit ls i in
+      let v : at ls localLimit ≡ pos (definitionIn c) = same-eq (at ls localLimit) (pos (definitionIn c)) (p .1) in
+      let g : getElem? scopes n ≡ some c = get-below scopes n 0 (below-bound (length scopes) z (b .0)) in
+      let u : padded localLimit (take k ls) ≡ take localLimit ls = ap (padded localLimit) (sym t) ∙ padded-is localLimit k (take localLimit ls) f i (p .0) in
+      let q : pos (natAbs (at ls localLimit)) ≡ at ls localLimit = ap (λ (y : ℤ). pos (natAbs y)) v ∙ sym v in (
+        record { scope = c; sum = g; locals = sym j; definition = sym (ap natAbs v); values = rw t at (padded-says k (take localLimit ls) (p .0)) },
+        ap₂ (λ (y : ℤ) (ys : List ℤ). y ∷ ys) (sym (below-natural (length scopes) z (b .0)))
+            (ap₂ (λ (ys : List ℤ) (y : ℤ). ys ++ y ∷ []) u q ∙ sym (take-suc ls localLimit (pos 0) (omega arith)) ∙ take-all (1 + localLimit) ls (omega arith)),
       )
 
-pub row-process : (scopes : List ℕ) (p : Process) → FitsProcess scopes p → isProcess scopes (processNumbers p) ≡ true
-unfolding isProcess processNumbers isBelow
-row-process scopes p f =
-    let g = get-is scopes (p .sum) 0 (length (p .locals)) (f .sum) in
-    rw (lt-ltb (p .sum) (length scopes) (g .0), g .1, padded-passes 8 (p .locals) (f .values))
+  -- a process that fits has at most 8 locals
+  pub few-of-process : (p : Process) → FitsProcess scopes p → length (p .locals) ≤ localLimit
+  few-of-process p f =
+      let g = get-is scopes (p .sum) 0 (f .scope) (f .sum) in
+      omega (arith, ap localsIn (g .1), f .locals, few-at (p .sum))
 
-make-process : ℕ → List ℤ → Process
-make-process n ls = record { sum = n; locals = ls }
+  pub row-process : (p : Process) → FitsProcess scopes p → isProcess scopes (processNumbers p) ≡ true
+  unfolding isProcess processNumbers isBelow
+  row-process p f =
+      let g = get-is scopes (p .sum) 0 (f .scope) (f .sum) in
+      let h = few-of-process p f in
+      rw (
+        lt-ltb (p .sum) (length scopes) (g .0),
+        g .1,
+        f .locals,
+        locals-first (p .locals) (pos (p .definition)) h,
+        padded-passes localLimit (p .locals) (f .values),
+        definition-last (p .locals) (pos (p .definition)) h,
+        f .definition,
+        eq-eqb (p .definition) (p .definition) refl,
+      )
 
-pub process-back : (scopes : List ℕ) (p : Process) → FitsProcess scopes p → processOf scopes (processNumbers p) ≡ p
-unfolding processOf processNumbers make-process
-process-back scopes p f =
-    let g = get-is scopes (p .sum) 0 (length (p .locals)) (f .sum) in
-    ap (make-process (p .sum)) (ap (λ (k : ℕ). take k (padded 8 (p .locals))) (g .1) ∙ padded-front 8 (p .locals))
+  pub process-back : (p : Process) → FitsProcess scopes p → processOf scopes (processNumbers p) ≡ p
+  unfolding processOf processNumbers make-process
+  process-back p f =
+      let g = get-is scopes (p .sum) 0 (f .scope) (f .sum) in
+      let h = few-of-process p f in
+      ap₂ (make-process (p .sum))
+      (ap (λ (k : ℕ). take k (padded localLimit (p .locals) ++ pos (p .definition) ∷ [])) (ap localsIn (g .1) ∙ f .locals)
+      ∙ take-append-le (length (p .locals)) (padded localLimit (p .locals)) (pos (p .definition) ∷ []) (omega (arith, all-locals (p .locals) (pos (p .definition)) h))
+      ∙ padded-front localLimit (p .locals))
+      (ap natAbs (definition-last (p .locals) (pos (p .definition)) h))
 
-pub process-wide : (scopes : List ℕ) → FewLocals scopes → (p : Process) → FitsProcess scopes p → length (processNumbers p) ≡ 9
-unfolding processNumbers padded
-process-wide scopes few p f =
-    let g = get-is scopes (p .sum) 0 (length (p .locals)) (f .sum) in
-    let i : getD scopes (p .sum) 0 ≤ 8 = every-get (λ (k : ℕ). k ≤ 8) 0 (omega arith) scopes (p .sum) few in
-    simp (length-append, length-replicate) (omega (arith, g .1))
-
--- a process that fits has at most 8 locals
-pub few-of-process : (scopes : List ℕ) → FewLocals scopes → (p : Process) → FitsProcess scopes p → length (p .locals) ≤ 8
-few-of-process scopes few p f =
-    let g = get-is scopes (p .sum) 0 (length (p .locals)) (f .sum) in
-    omega (arith, g .1, every-get (λ (k : ℕ). k ≤ 8) 0 (omega arith) scopes (p .sum) few)
+  pub process-wide : (p : Process) → FitsProcess scopes p → length (processNumbers p) ≡ processWidth
+  unfolding processNumbers
+  process-wide p f =
+      let h = few-of-process p f in
+      omega (arith, all-locals (p .locals) (pos (p .definition)) h, length-append (padded localLimit (p .locals)) (pos (p .definition) ∷ []))
 
 -- ---- channels
 channel-row : (channels : ℕ) (k z : ℤ) (l : List ℤ) → isChannel channels k z ≡ true → FitsChannel channels (channelOf k z) × (channelNumbers (channelOf k z) l ≡ k ∷ z ∷ l)
@@ -109,7 +147,7 @@ pub pair-shape : (x : offers.Pair) → pairNumbers x ≡ channelNumbers (x .chan
 unfolding pairNumbers numbers channelNumbers
 pair-shape x = go (x .channel)
   where
-    go : (c : offers.Channel) → padded 5 (channelNumbers c (pos (length (x .values)) ∷ x .values)) ≡ channelNumbers c (pos (length (x .values)) ∷ padded 2 (x .values))
+    go : (c : offers.Channel) → padded pairWidth (channelNumbers c (pos (length (x .values)) ∷ x .values)) ≡ channelNumbers c (pos (length (x .values)) ∷ padded 2 (x .values))
     go (offers.number z) = padded-more 4 _ _ ∙ ap (λ (l : List ℤ). pos 0 ∷ l) (padded-more 3 _ _ ∙ ap (λ (l : List ℤ). z ∷ l) (padded-more 2 _ _))
     go (offers.named n) = padded-more 4 _ _ ∙ ap (λ (l : List ℤ). pos 1 ∷ l) (padded-more 3 _ _ ∙ ap (λ (l : List ℤ). pos n ∷ l) (padded-more 2 _ _))
 
@@ -122,7 +160,7 @@ not-zero (negsuc n) b e = absurd (nothing (below-natural 3 (negsuc n) b))
     nothing : negsuc n ≡ pos (suc n) → ⊥
     nothing q = let z : _≡_ {A = ℕ} 0 1 = cc in omega arith
 
-pub pair-row : (channels : ℕ) (r : List ℤ) → length r ≡ 5 → isPair channels r ≡ true → FitsPair channels (pairOf r) × (pairNumbers (pairOf r) ≡ r)
+pub pair-row : (channels : ℕ) (r : List ℤ) → length r ≡ pairWidth → isPair channels r ≡ true → FitsPair channels (pairOf r) × (pairNumbers (pairOf r) ≡ r)
 unfolding isPair pairOf
 pair-row channels [] l e = absurd (omega arith)
 pair-row channels (k ∷ []) l e = absurd (omega arith)
@@ -181,10 +219,10 @@ pair-back x = ap pairOf (pair-shape x) ∙ go (x .channel) (x .values)
     go (offers.number z) v = ap (make-pair (offers.number z)) (padded-front 2 v)
     go (offers.named n) v = ap (make-pair (offers.named n)) (padded-front 2 v)
 
-pub pair-wide : (channels : ℕ) (x : offers.Pair) → FitsPair channels x → length (pairNumbers x) ≡ 5
+pub pair-wide : (channels : ℕ) (x : offers.Pair) → FitsPair channels x → length (pairNumbers x) ≡ pairWidth
 unfolding channelNumbers padded
 pair-wide channels x f = ap length (pair-shape x) ∙ go (x .channel)
   where
-    go : (c : offers.Channel) → length (channelNumbers c (pos (length (x .values)) ∷ padded 2 (x .values))) ≡ 5
+    go : (c : offers.Channel) → length (channelNumbers c (pos (length (x .values)) ∷ padded 2 (x .values))) ≡ pairWidth
     go (offers.number z) = simp (length-append, length-replicate) (omega (arith, f .number .two))
     go (offers.named n) = simp (length-append, length-replicate) (omega (arith, f .number .two))

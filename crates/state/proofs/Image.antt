@@ -12,7 +12,7 @@ use lib.Seq.{take-at, drop-at}
 use Rattle.rules.specs.Offers as offers
 use Rattle.model.specs.Good.{Every}
 use Rattle.machine.specs.Offer.{Process}
-use Rattle.machine.specs.State.{State, padded, flatten, processNumbers, pairNumbers, stateNumbers, stateLength}
+use Rattle.machine.specs.State.{State, padded, flatten, processNumbers, pairNumbers, stateNumbers, stateLength, pairRoom, pairWidth, processRoom, processWidth}
 use Rattle.machine.proofs.Everys.{every-map}
 use Rattle.state.specs.Fits.{FewLocals, FitsPair, FitsProcess, Fits}
 use Rattle.state.specs.Test.{every, rows, isZero, isBelow, at, isProcess, isPair, ascends, areProcesses, arePairs, processPart, pairPart, isState}
@@ -66,11 +66,11 @@ module _ (scopes : List ℕ) (few : FewLocals scopes) (channels : ℕ) where
     pub record Parts : Type 0 where
       pub processes : isBelow 257 (at zs 0) ≡ true
       pub pairs : isBelow 257 (at zs 1) ≡ true
-      pub process-rows : every (isProcess scopes) (rows 9 (natAbs (at zs 0)) (processPart zs)) ≡ true
-      pub process-rest : every isZero (drop (natAbs (at zs 0) * 9) (processPart zs)) ≡ true
-      pub pair-rows : every (isPair channels) (rows 5 (natAbs (at zs 1)) (pairPart zs)) ≡ true
-      pub pair-order : ascends (rows 5 (natAbs (at zs 1)) (pairPart zs)) ≡ true
-      pub pair-rest : every isZero (drop (natAbs (at zs 1) * 5) (pairPart zs)) ≡ true
+      pub process-rows : every (isProcess scopes) (rows processWidth (natAbs (at zs 0)) (processPart zs)) ≡ true
+      pub process-rest : every isZero (drop (natAbs (at zs 0) * processWidth) (processPart zs)) ≡ true
+      pub pair-rows : every (isPair channels) (rows pairWidth (natAbs (at zs 1)) (pairPart zs)) ≡ true
+      pub pair-order : ascends (rows pairWidth (natAbs (at zs 1)) (pairPart zs)) ≡ true
+      pub pair-rest : every isZero (drop (natAbs (at zs 1) * pairWidth) (pairPart zs)) ≡ true
 
     pub parts : Parts
     unfolding isState areProcesses arePairs
@@ -78,35 +78,35 @@ module _ (scopes : List ℕ) (few : FewLocals scopes) (channels : ℕ) where
         let a = both (isBelow 257 (at zs 0)) _ passes in
         let b = both (isBelow 257 (at zs 1)) _ (a .1) in
         let c = both (areProcesses scopes (natAbs (at zs 0)) (processPart zs)) _ (b .1) in
-        let d = both (every (isProcess scopes) (rows 9 (natAbs (at zs 0)) (processPart zs))) _ (c .0) in
-        let e = both (every (isPair channels) (rows 5 (natAbs (at zs 1)) (pairPart zs))) _ (c .1) in
-        let f = both (ascends (rows 5 (natAbs (at zs 1)) (pairPart zs))) _ (e .1) in
+        let d = both (every (isProcess scopes) (rows processWidth (natAbs (at zs 0)) (processPart zs))) _ (c .0) in
+        let e = both (every (isPair channels) (rows pairWidth (natAbs (at zs 1)) (pairPart zs))) _ (c .1) in
+        let f = both (ascends (rows pairWidth (natAbs (at zs 1)) (pairPart zs))) _ (e .1) in
         record { processes = a .0; pairs = b .0; process-rows = d .0; process-rest = d .1; pair-rows = e .0; pair-order = f .0; pair-rest = f .1 }
 
-    process-long : length (processPart zs) ≡ 2304
+    process-long : length (processPart zs) ≡ processRoom
     process-long = simp (length-take, length-drop) (omega arith)
 
-    pair-long : length (pairPart zs) ≡ 1280
+    pair-long : length (pairPart zs) ≡ pairRoom
     pair-long = simp length-drop (omega arith)
 
-    process-room : natAbs (at zs 0) * 9 ≤ 2304
+    process-room : natAbs (at zs 0) * processWidth ≤ processRoom
     process-room = omega (arith, below-bound 257 (at zs 0) (parts .processes))
 
-    pair-room : natAbs (at zs 1) * 5 ≤ 1280
+    pair-room : natAbs (at zs 1) * pairWidth ≤ pairRoom
     pair-room = omega (arith, below-bound 257 (at zs 1) (parts .pairs))
 
     pub decode-fits : Fits scopes channels (decode scopes zs)
     unfolding decode
     decode-fits =
-        let ps = table-count processNumbers (processOf scopes) 9 (isProcess scopes) (FitsProcess scopes) (process-row scopes few) (natAbs (at zs 0)) 2304 (processPart zs) process-long process-room (parts .process-rows) in
-        let xs = table-count pairNumbers pairOf 5 (isPair channels) (FitsPair channels) (pair-row channels) (natAbs (at zs 1)) 1280 (pairPart zs) pair-long pair-room (parts .pair-rows) in
-        let rs = table-rows pairNumbers pairOf 5 (isPair channels) (FitsPair channels) (pair-row channels) (natAbs (at zs 1)) 1280 (pairPart zs) pair-long pair-room (parts .pair-rows) in
+        let ps = table-count processNumbers (processOf scopes) processWidth (isProcess scopes) (FitsProcess scopes) (process-row scopes few) (natAbs (at zs 0)) processRoom (processPart zs) process-long process-room (parts .process-rows) in
+        let xs = table-count pairNumbers pairOf pairWidth (isPair channels) (FitsPair channels) (pair-row channels) (natAbs (at zs 1)) pairRoom (pairPart zs) pair-long pair-room (parts .pair-rows) in
+        let rs = table-rows pairNumbers pairOf pairWidth (isPair channels) (FitsPair channels) (pair-row channels) (natAbs (at zs 1)) pairRoom (pairPart zs) pair-long pair-room (parts .pair-rows) in
         record {
           few-processes = omega (arith, ps, below-bound 257 (at zs 0) (parts .processes));
-          processes = table-members processNumbers (processOf scopes) 9 (isProcess scopes) (FitsProcess scopes) (process-row scopes few) (natAbs (at zs 0)) 2304 (processPart zs) process-long process-room (parts .process-rows);
+          processes = table-members processNumbers (processOf scopes) processWidth (isProcess scopes) (FitsProcess scopes) (process-row scopes few) (natAbs (at zs 0)) processRoom (processPart zs) process-long process-room (parts .process-rows);
           few-pairs = omega (arith, xs, below-bound 257 (at zs 1) (parts .pairs));
-          pairs = table-members pairNumbers pairOf 5 (isPair channels) (FitsPair channels) (pair-row channels) (natAbs (at zs 1)) 1280 (pairPart zs) pair-long pair-room (parts .pair-rows);
-          ascending = climbs (map pairOf (rows 5 (natAbs (at zs 1)) (pairPart zs))) (ap ascends rs ∙ parts .pair-order);
+          pairs = table-members pairNumbers pairOf pairWidth (isPair channels) (FitsPair channels) (pair-row channels) (natAbs (at zs 1)) pairRoom (pairPart zs) pair-long pair-room (parts .pair-rows);
+          ascending = climbs (map pairOf (rows pairWidth (natAbs (at zs 1)) (pairPart zs))) (ap ascends rs ∙ parts .pair-order);
         }
 
     pub decode-numbers : stateNumbers (decode scopes zs) ≡ zs
@@ -114,10 +114,10 @@ module _ (scopes : List ℕ) (few : FewLocals scopes) (channels : ℕ) where
     decode-numbers =
         let n : ℕ = natAbs (at zs 0) in
         let k : ℕ = natAbs (at zs 1) in
-        let pc = table-count processNumbers (processOf scopes) 9 (isProcess scopes) (FitsProcess scopes) (process-row scopes few) n 2304 (processPart zs) process-long process-room (parts .process-rows) in
-        let xc = table-count pairNumbers pairOf 5 (isPair channels) (FitsPair channels) (pair-row channels) k 1280 (pairPart zs) pair-long pair-room (parts .pair-rows) in
-        let pn = table-numbers processNumbers (processOf scopes) 9 (isProcess scopes) (FitsProcess scopes) (process-row scopes few) n 2304 (processPart zs) process-long process-room (parts .process-rows) (parts .process-rest) in
-        let xn = table-numbers pairNumbers pairOf 5 (isPair channels) (FitsPair channels) (pair-row channels) k 1280 (pairPart zs) pair-long pair-room (parts .pair-rows) (parts .pair-rest) in
+        let pc = table-count processNumbers (processOf scopes) processWidth (isProcess scopes) (FitsProcess scopes) (process-row scopes few) n processRoom (processPart zs) process-long process-room (parts .process-rows) in
+        let xc = table-count pairNumbers pairOf pairWidth (isPair channels) (FitsPair channels) (pair-row channels) k pairRoom (pairPart zs) pair-long pair-room (parts .pair-rows) in
+        let pn = table-numbers processNumbers (processOf scopes) processWidth (isProcess scopes) (FitsProcess scopes) (process-row scopes few) n processRoom (processPart zs) process-long process-room (parts .process-rows) (parts .process-rest) in
+        let xn = table-numbers pairNumbers pairOf pairWidth (isPair channels) (FitsPair channels) (pair-row channels) k pairRoom (pairPart zs) pair-long pair-room (parts .pair-rows) (parts .pair-rest) in
         joined (ap pos pc ∙ sym (below-natural 257 (at zs 0) (parts .processes))) (ap pos xc ∙ sym (below-natural 257 (at zs 1) (parts .pairs))) pn xn ∙ whole zs (omega arith)
       where
         joined : {a b c d : ℤ} {u v p q : List ℤ} → a ≡ b → c ≡ d → u ≡ v → p ≡ q → a ∷ c ∷ (u ++ p) ≡ b ∷ d ∷ (v ++ q)
@@ -126,27 +126,27 @@ module _ (scopes : List ℕ) (few : FewLocals scopes) (channels : ℕ) where
         whole : (l : List ℤ) → 2 ≤ length l → at l 0 ∷ at l 1 ∷ (processPart l ++ pairPart l) ≡ l
         whole [] h = absurd (omega arith)
         whole (x ∷ []) h = absurd (omega arith)
-        whole (x ∷ y ∷ l) h = ap (λ (r : List ℤ). x ∷ y ∷ r) (take-append-drop 2304 l)
+        whole (x ∷ y ∷ l) h = ap (λ (r : List ℤ). x ∷ y ∷ r) (take-append-drop processRoom l)
 
   -- ---- and numbers of a state that fits
   module _ (s : State) (fits : Fits scopes channels s) where
     abbrev processTable : List ℤ
-    processTable = padded 2304 (flatten processNumbers (s .processes))
+    processTable = padded processRoom (flatten processNumbers (s .processes))
 
     abbrev pairTable : List ℤ
-    pairTable = padded 1280 (flatten pairNumbers (s .pairs))
+    pairTable = padded pairRoom (flatten pairNumbers (s .pairs))
 
-    process-numbers : length (flatten processNumbers (s .processes)) ≡ length (s .processes) * 9
-    process-numbers = flatten-length processNumbers 9 (FitsProcess scopes) (process-wide scopes few) (s .processes) (fits .processes)
+    process-numbers : length (flatten processNumbers (s .processes)) ≡ length (s .processes) * processWidth
+    process-numbers = flatten-length processNumbers processWidth (FitsProcess scopes) (process-wide scopes few) (s .processes) (fits .processes)
 
-    pair-numbers : length (flatten pairNumbers (s .pairs)) ≡ length (s .pairs) * 5
-    pair-numbers = flatten-length pairNumbers 5 (FitsPair channels) (pair-wide channels) (s .pairs) (fits .pairs)
+    pair-numbers : length (flatten pairNumbers (s .pairs)) ≡ length (s .pairs) * pairWidth
+    pair-numbers = flatten-length pairNumbers pairWidth (FitsPair channels) (pair-wide channels) (s .pairs) (fits .pairs)
 
-    process-table : length processTable ≡ 2304
-    process-table = padded-length 2304 _ (omega (arith, process-numbers, fits .few-processes))
+    process-table : length processTable ≡ processRoom
+    process-table = padded-length processRoom _ (omega (arith, process-numbers, fits .few-processes))
 
-    pair-table : length pairTable ≡ 1280
-    pair-table = padded-length 1280 _ (omega (arith, pair-numbers, fits .few-pairs))
+    pair-table : length pairTable ≡ pairRoom
+    pair-table = padded-length pairRoom _ (omega (arith, pair-numbers, fits .few-pairs))
 
     pub numbers-length : length (stateNumbers s) ≡ stateLength
     unfolding stateNumbers
@@ -154,27 +154,27 @@ module _ (scopes : List ℕ) (few : FewLocals scopes) (channels : ℕ) where
 
     pub process-part : processPart (stateNumbers s) ≡ processTable
     unfolding stateNumbers
-    process-part = take-at processTable pairTable 2304 process-table
+    process-part = take-at processTable pairTable processRoom process-table
 
     pub pair-part : pairPart (stateNumbers s) ≡ pairTable
     unfolding stateNumbers
-    pair-part = drop-at processTable pairTable 2304 process-table
+    pair-part = drop-at processTable pairTable processRoom process-table
 
     processes-pass : areProcesses scopes (length (s .processes)) processTable ≡ true
     unfolding areProcesses
     processes-pass = rw (
-      table-passes processNumbers (processOf scopes) 9 (isProcess scopes) (FitsProcess scopes) (process-wide scopes few) 2304 (s .processes) (fits .processes) (row-process scopes),
-      padded-end 2304 (length (s .processes) * 9) (flatten processNumbers (s .processes)) process-numbers,
+      table-passes processNumbers (processOf scopes) processWidth (isProcess scopes) (FitsProcess scopes) (process-wide scopes few) processRoom (s .processes) (fits .processes) (row-process scopes few),
+      padded-end processRoom (length (s .processes) * processWidth) (flatten processNumbers (s .processes)) process-numbers,
     )
 
     pairs-pass : arePairs channels (length (s .pairs)) pairTable ≡ true
     unfolding arePairs
     pairs-pass =
-        let r = rows-back pairNumbers pairOf 5 (isPair channels) (FitsPair channels) (pair-wide channels) 1280 (s .pairs) (fits .pairs) in
+        let r = rows-back pairNumbers pairOf pairWidth (isPair channels) (FitsPair channels) (pair-wide channels) pairRoom (s .pairs) (fits .pairs) in
         rw (
-          table-passes pairNumbers pairOf 5 (isPair channels) (FitsPair channels) (pair-wide channels) 1280 (s .pairs) (fits .pairs) (row-pair channels),
+          table-passes pairNumbers pairOf pairWidth (isPair channels) (FitsPair channels) (pair-wide channels) pairRoom (s .pairs) (fits .pairs) (row-pair channels),
           ap ascends r ∙ climbing (s .pairs) (fits .ascending),
-          padded-end 1280 (length (s .pairs) * 5) (flatten pairNumbers (s .pairs)) pair-numbers,
+          padded-end pairRoom (length (s .pairs) * pairWidth) (flatten pairNumbers (s .pairs)) pair-numbers,
         )
 
     state-cases : (p q : ℕ) (zs : List ℤ) → at zs 0 ≡ pos p → at zs 1 ≡ pos q → p < 257 → q < 257
@@ -191,12 +191,12 @@ module _ (scopes : List ℕ) (few : FewLocals scopes) (channels : ℕ) where
     second = refl
 
     -- the rows of the pairs are the pairs' numbers, and ascend
-    pub pair-rows : rows 5 (length (s .pairs)) (pairPart (stateNumbers s)) ≡ map pairNumbers (s .pairs)
+    pub pair-rows : rows pairWidth (length (s .pairs)) (pairPart (stateNumbers s)) ≡ map pairNumbers (s .pairs)
     pair-rows =
-        ap (rows 5 (length (s .pairs))) pair-part
-        ∙ rows-back pairNumbers pairOf 5 (isPair channels) (FitsPair channels) (pair-wide channels) 1280 (s .pairs) (fits .pairs)
+        ap (rows pairWidth (length (s .pairs))) pair-part
+        ∙ rows-back pairNumbers pairOf pairWidth (isPair channels) (FitsPair channels) (pair-wide channels) pairRoom (s .pairs) (fits .pairs)
 
-    pub pairs-ascend : ascends (rows 5 (length (s .pairs)) (pairPart (stateNumbers s))) ≡ true
+    pub pairs-ascend : ascends (rows pairWidth (length (s .pairs)) (pairPart (stateNumbers s))) ≡ true
     pairs-ascend = ap ascends pair-rows ∙ climbing (s .pairs) (fits .ascending)
 
     pub numbers-pass : isState scopes channels (stateNumbers s) ≡ true
@@ -209,10 +209,10 @@ module _ (scopes : List ℕ) (few : FewLocals scopes) (channels : ℕ) where
     unfolding decode stateNumbers make
     decode-back =
         ap₂ make
-        (ap (λ (l : List ℤ). map (processOf scopes) (rows 9 (length (s .processes)) l)) process-part
-        ∙ table-back processNumbers (processOf scopes) 9 (isProcess scopes) (FitsProcess scopes) (process-wide scopes few) 2304 (s .processes) (fits .processes) (process-back scopes))
-        (ap (λ (l : List ℤ). map pairOf (rows 5 (length (s .pairs)) l)) pair-part
-        ∙ table-back pairNumbers pairOf 5 (isPair channels) (FitsPair channels) (pair-wide channels) 1280 (s .pairs) (fits .pairs) (λ x f. pair-back x))
+        (ap (λ (l : List ℤ). map (processOf scopes) (rows processWidth (length (s .processes)) l)) process-part
+        ∙ table-back processNumbers (processOf scopes) processWidth (isProcess scopes) (FitsProcess scopes) (process-wide scopes few) processRoom (s .processes) (fits .processes) (process-back scopes few))
+        (ap (λ (l : List ℤ). map pairOf (rows pairWidth (length (s .pairs)) l)) pair-part
+        ∙ table-back pairNumbers pairOf pairWidth (isPair channels) (FitsPair channels) (pair-wide channels) pairRoom (s .pairs) (fits .pairs) (λ x f. pair-back x))
 
   -- 01, Listing, 11: the test is exact
   pub is-state : (zs : List ℤ) → length zs ≡ stateLength → (isState scopes channels zs ≡ true) ↔ ((s : State) × Fits scopes channels s × (stateNumbers s ≡ zs))

@@ -16,10 +16,10 @@ use Rattle.rules.proofs.Before.{before-trans, before-apart, Compared, under, ov
 use Rattle.rules.proofs.Launched.{launch-lit, launch-counts}
 use Rattle.rules.proofs.Killed.{kill-unlit}
 use Rattle.model.specs.Good.{Every}
-use Rattle.machine.specs.State.{State, padded, flatten, processNumbers, pairNumbers, stateNumbers}
+use Rattle.machine.specs.State.{State, padded, flatten, processNumbers, pairNumbers, stateNumbers, pairRoom, pairWidth, processRoom, processWidth}
 use Rattle.state.specs.Fits.{FewLocals, FitsProcess, FitsPair, Fits}
 use Rattle.state.specs.Test.{placeOf, isLit}
-use Rattle.state.specs.Change.{rewritten, pairRows, pairAdded, pairTaken, pairLaunched, pairKilled}
+use Rattle.state.specs.Change.{rewritten, pairRows, pairAdded, pairTaken, pairLaunched, pairKilled, pairsFrom}
 use Rattle.state.proofs.Rows.{flatten-length, padded-length}
 use Rattle.state.proofs.Entries.{process-wide, pair-wide}
 use Rattle.state.proofs.Climbs.{before-rows}
@@ -103,53 +103,53 @@ lit-at x (y ∷ ys) e = go (compared x y) (lit-at x ys) e
     go (equal f g q) r h = rw (before-rows y x, g) (ap (λ (z : offers.Pair). z ∷ ys) (sym q))
 
 -- ---- the tail of the pairs in a state's numbers
-whole-tail : (n m v : ℤ) (t q : List ℤ) (p : ℕ) (f : List ℤ → List ℤ) → length t ≡ 2304
-    → set (take (2306 + p) (n ∷ m ∷ (t ++ q)) ++ f (drop (2306 + p) (n ∷ m ∷ (t ++ q)))) 1 v ≡ n ∷ v ∷ (t ++ (take p q ++ f (drop p q)))
+whole-tail : (n m v : ℤ) (t q : List ℤ) (p : ℕ) (f : List ℤ → List ℤ) → length t ≡ processRoom
+    → set (take (pairsFrom + p) (n ∷ m ∷ (t ++ q)) ++ f (drop (pairsFrom + p) (n ∷ m ∷ (t ++ q)))) 1 v ≡ n ∷ v ∷ (t ++ (take p q ++ f (drop p q)))
 whole-tail n m v t q p f l =
-    let w : 2306 ≡ length (n ∷ m ∷ t) = omega arith in
-    let e : take (2306 + p) (n ∷ m ∷ (t ++ q)) ≡ n ∷ m ∷ (t ++ take p q) = ap (λ (j : ℕ). take (j + p) (n ∷ m ∷ (t ++ q))) w ∙ take-append-add (n ∷ m ∷ t) q p in
-    let d : drop (2306 + p) (n ∷ m ∷ (t ++ q)) ≡ drop p q = ap (λ (j : ℕ). drop (j + p) (n ∷ m ∷ (t ++ q))) w ∙ drop-append-add (n ∷ m ∷ t) q p in
+    let w : pairsFrom ≡ length (n ∷ m ∷ t) = omega arith in
+    let e : take (pairsFrom + p) (n ∷ m ∷ (t ++ q)) ≡ n ∷ m ∷ (t ++ take p q) = ap (λ (j : ℕ). take (j + p) (n ∷ m ∷ (t ++ q))) w ∙ take-append-add (n ∷ m ∷ t) q p in
+    let d : drop (pairsFrom + p) (n ∷ m ∷ (t ++ q)) ≡ drop p q = ap (λ (j : ℕ). drop (j + p) (n ∷ m ∷ (t ++ q))) w ∙ drop-append-add (n ∷ m ∷ t) q p in
     ap₂ (λ (r u : List ℤ). set (r ++ f u) 1 v) e d ∙ ap (λ (r : List ℤ). n ∷ v ∷ r) (append-assoc t (take p q) (f (drop p q)))
 
 module _ (channels : ℕ) where
-  pairs-wide : (xs : List offers.Pair) → Every (FitsPair channels) xs → length (flatten pairNumbers xs) ≡ length xs * 5
-  pairs-wide xs h = flatten-length pairNumbers 5 (FitsPair channels) (pair-wide channels) xs h
+  pairs-wide : (xs : List offers.Pair) → Every (FitsPair channels) xs → length (flatten pairNumbers xs) ≡ length xs * pairWidth
+  pairs-wide xs h = flatten-length pairNumbers pairWidth (FitsPair channels) (pair-wide channels) xs h
 
   added-table : (es cs : List offers.Pair) (x : offers.Pair) → Every (FitsPair channels) es → FitsPair channels x → Every (FitsPair channels) cs → length es + length cs < 256
-      → let t = padded 1280 (flatten pairNumbers (es ++ cs)) in
-      take (length es * 5) t ++ rewritten 0 (pairNumbers x) (drop (length es * 5) t) ≡ padded 1280 (flatten pairNumbers (es ++ (x ∷ cs)))
+      → let t = padded pairRoom (flatten pairNumbers (es ++ cs)) in
+      take (length es * pairWidth) t ++ rewritten 0 (pairNumbers x) (drop (length es * pairWidth) t) ≡ padded pairRoom (flatten pairNumbers (es ++ (x ∷ cs)))
   unfolding flatten
   added-table es cs x he hx hc m =
       let a : List ℤ = flatten pairNumbers es in
       let c : List ℤ = flatten pairNumbers cs in
-      let la : length a ≡ length es * 5 = pairs-wide es he in
-      let lc : length c ≡ length cs * 5 = pairs-wide cs hc in
-      let lx : length (pairNumbers x) ≡ 5 = pair-wide channels x hx in
-      ap (λ (l : List ℤ). take (length es * 5) (padded 1280 l) ++ rewritten 0 (pairNumbers x) (drop (length es * 5) (padded 1280 l))) (flatten-append pairNumbers es cs)
-      ∙ ap (λ (p : ℕ). take p (padded 1280 (a ++ c)) ++ rewritten 0 (pairNumbers x) (drop p (padded 1280 (a ++ c)))) (sym la)
-      ∙ table-rewritten 1280 a [] c (pairNumbers x) (omega arith) (omega arith)
-      ∙ ap (padded 1280) (sym (flatten-append pairNumbers es (x ∷ cs)))
+      let la : length a ≡ length es * pairWidth = pairs-wide es he in
+      let lc : length c ≡ length cs * pairWidth = pairs-wide cs hc in
+      let lx : length (pairNumbers x) ≡ pairWidth = pair-wide channels x hx in
+      ap (λ (l : List ℤ). take (length es * pairWidth) (padded pairRoom l) ++ rewritten 0 (pairNumbers x) (drop (length es * pairWidth) (padded pairRoom l))) (flatten-append pairNumbers es cs)
+      ∙ ap (λ (p : ℕ). take p (padded pairRoom (a ++ c)) ++ rewritten 0 (pairNumbers x) (drop p (padded pairRoom (a ++ c)))) (sym la)
+      ∙ table-rewritten pairRoom a [] c (pairNumbers x) (omega arith) (omega arith)
+      ∙ ap (padded pairRoom) (sym (flatten-append pairNumbers es (x ∷ cs)))
 
   taken-table : (es cs : List offers.Pair) (x : offers.Pair) → Every (FitsPair channels) es → FitsPair channels x → Every (FitsPair channels) cs → length es + (1 + length cs) ≤ 256
-      → let t = padded 1280 (flatten pairNumbers (es ++ (x ∷ cs))) in
-      take (length es * 5) t ++ rewritten 5 [] (drop (length es * 5) t) ≡ padded 1280 (flatten pairNumbers (es ++ cs))
+      → let t = padded pairRoom (flatten pairNumbers (es ++ (x ∷ cs))) in
+      take (length es * pairWidth) t ++ rewritten pairWidth [] (drop (length es * pairWidth) t) ≡ padded pairRoom (flatten pairNumbers (es ++ cs))
   unfolding flatten
   taken-table es cs x he hx hc m =
       let a : List ℤ = flatten pairNumbers es in
       let b : List ℤ = pairNumbers x in
       let c : List ℤ = flatten pairNumbers cs in
-      let la : length a ≡ length es * 5 = pairs-wide es he in
-      let lb : length b ≡ 5 = pair-wide channels x hx in
-      let lc : length c ≡ length cs * 5 = pairs-wide cs hc in
-      ap (λ (l : List ℤ). take (length es * 5) (padded 1280 l) ++ rewritten 5 [] (drop (length es * 5) (padded 1280 l))) (flatten-append pairNumbers es (x ∷ cs))
-      ∙ ap₂ (λ (p w : ℕ). take p (padded 1280 (a ++ (b ++ c))) ++ rewritten w [] (drop p (padded 1280 (a ++ (b ++ c))))) (sym la) (sym lb)
-      ∙ table-rewritten 1280 a b c [] (omega arith) (omega arith)
-      ∙ ap (padded 1280) (sym (flatten-append pairNumbers es cs))
+      let la : length a ≡ length es * pairWidth = pairs-wide es he in
+      let lb : length b ≡ pairWidth = pair-wide channels x hx in
+      let lc : length c ≡ length cs * pairWidth = pairs-wide cs hc in
+      ap (λ (l : List ℤ). take (length es * pairWidth) (padded pairRoom l) ++ rewritten pairWidth [] (drop (length es * pairWidth) (padded pairRoom l))) (flatten-append pairNumbers es (x ∷ cs))
+      ∙ ap₂ (λ (p w : ℕ). take p (padded pairRoom (a ++ (b ++ c))) ++ rewritten w [] (drop p (padded pairRoom (a ++ (b ++ c))))) (sym la) (sym lb)
+      ∙ table-rewritten pairRoom a b c [] (omega arith) (omega arith)
+      ∙ ap (padded pairRoom) (sym (flatten-append pairNumbers es cs))
 
 -- ---- the whole
 module _ (scopes : List ℕ) (few : FewLocals scopes) (channels : ℕ) (s : State) (fits : Fits scopes channels s) where
-  process-table : length (padded 2304 (flatten processNumbers (s .processes))) ≡ 2304
-  process-table = padded-length 2304 _ (omega (arith, flatten-length processNumbers 9 (FitsProcess scopes) (process-wide scopes few) (s .processes) (fits .processes), fits .few-processes))
+  process-table : length (padded processRoom (flatten processNumbers (s .processes))) ≡ processRoom
+  process-table = padded-length processRoom _ (omega (arith, flatten-length processNumbers processWidth (FitsProcess scopes) (process-wide scopes few) (s .processes) (fits .processes), fits .few-processes))
 
   abbrev with-pairs : List offers.Pair → List ℤ
   with-pairs xs = stateNumbers (record { processes = s .processes; pairs = xs })
@@ -163,18 +163,18 @@ module _ (scopes : List ℕ) (few : FewLocals scopes) (channels : ℕ) (s : Stat
       let p : ℕ = placeOf (pairNumbers x) (map pairNumbers L) in
       let es : List offers.Pair = take p L in
       let cs : List offers.Pair = drop p L in
-      let t : List ℤ = padded 2304 (flatten processNumbers (s .processes)) in
+      let t : List ℤ = padded processRoom (flatten processNumbers (s .processes)) in
       let w : L ≡ es ++ cs = sym (take-append-drop p L) in
       let hs : Every (FitsPair channels) (es ++ cs) = rw w at (fits .pairs) in
       let b : p ≤ length L = omega (arith, place-bound (pairNumbers x) (map pairNumbers L), length-map L pairNumbers) in
       let le : length es ≡ p = length-take-le p L b in
       let lc : length cs ≡ length L - p = length-drop p L in
       let n : length L + 1 ≡ length (insert x L) = omega (arith, launch-counts x L (fits .ascending) .1 h) in
-      let e : take (p * 5) (padded 1280 (flatten pairNumbers L)) ++ rewritten 0 (pairNumbers x) (drop (p * 5) (padded 1280 (flatten pairNumbers L))) ≡ padded 1280 (flatten pairNumbers (es ++ (x ∷ cs))) =
-      ap₂ (λ (j : ℕ) (xs : List offers.Pair). take (j * 5) (padded 1280 (flatten pairNumbers xs)) ++ rewritten 0 (pairNumbers x) (drop (j * 5) (padded 1280 (flatten pairNumbers xs)))) (sym le) w
+      let e : take (p * pairWidth) (padded pairRoom (flatten pairNumbers L)) ++ rewritten 0 (pairNumbers x) (drop (p * pairWidth) (padded pairRoom (flatten pairNumbers L))) ≡ padded pairRoom (flatten pairNumbers (es ++ (x ∷ cs))) =
+      ap₂ (λ (j : ℕ) (xs : List offers.Pair). take (j * pairWidth) (padded pairRoom (flatten pairNumbers xs)) ++ rewritten 0 (pairNumbers x) (drop (j * pairWidth) (padded pairRoom (flatten pairNumbers xs)))) (sym le) w
       ∙ added-table channels es cs x (every-left (FitsPair channels) es cs hs) hx (every-right (FitsPair channels) es cs hs) (omega arith) in
-      whole-tail (pos (length (s .processes))) (pos (length L)) (pos (length L + 1)) t (padded 1280 (flatten pairNumbers L)) (p * 5) (rewritten 0 (pairNumbers x)) process-table
-      ∙ ap₂ (λ (j : ℕ) (u : List ℤ). pos (length (s .processes)) ∷ pos j ∷ (t ++ u)) n (e ∙ ap (λ (xs : List offers.Pair). padded 1280 (flatten pairNumbers xs)) (sym (insert-at x L h)))
+      whole-tail (pos (length (s .processes))) (pos (length L)) (pos (length L + 1)) t (padded pairRoom (flatten pairNumbers L)) (p * pairWidth) (rewritten 0 (pairNumbers x)) process-table
+      ∙ ap₂ (λ (j : ℕ) (u : List ℤ). pos (length (s .processes)) ∷ pos j ∷ (t ++ u)) n (e ∙ ap (λ (xs : List offers.Pair). padded pairRoom (flatten pairNumbers xs)) (sym (insert-at x L h)))
 
   -- 01, State, step: the pair at a place taken away
   pub remove-numbers : (place : ℕ) (x : offers.Pair) → s .pairs ≡ take place (s .pairs) ++ (x ∷ drop (suc place) (s .pairs)) → place < length (s .pairs)
@@ -184,7 +184,7 @@ module _ (scopes : List ℕ) (few : FewLocals scopes) (channels : ℕ) (s : Stat
       let L : List offers.Pair = s .pairs in
       let es : List offers.Pair = take place L in
       let cs : List offers.Pair = drop (suc place) L in
-      let t : List ℤ = padded 2304 (flatten processNumbers (s .processes)) in
+      let t : List ℤ = padded processRoom (flatten processNumbers (s .processes)) in
       let hs : Every (FitsPair channels) (es ++ (x ∷ cs)) = rw w at (fits .pairs) in
       let hr = every-right (FitsPair channels) es (x ∷ cs) hs in
       let a : Ascending Before (es ++ (x ∷ cs)) = rw w at (fits .ascending) in
@@ -192,11 +192,11 @@ module _ (scopes : List ℕ) (few : FewLocals scopes) (channels : ℕ) (s : Stat
       let lc : length cs ≡ length L - suc place = length-drop (suc place) L in
       let r : remove x L ≡ es ++ cs = ap (remove x) w ∙ remove-at x es cs a in
       let n : length L - 1 ≡ length (remove x L) = omega (arith, ap length r, length-append es cs) in
-      let e : take (place * 5) (padded 1280 (flatten pairNumbers L)) ++ rewritten 5 [] (drop (place * 5) (padded 1280 (flatten pairNumbers L))) ≡ padded 1280 (flatten pairNumbers (es ++ cs)) =
-      ap₂ (λ (j : ℕ) (xs : List offers.Pair). take (j * 5) (padded 1280 (flatten pairNumbers xs)) ++ rewritten 5 [] (drop (j * 5) (padded 1280 (flatten pairNumbers xs)))) (sym le) w
+      let e : take (place * pairWidth) (padded pairRoom (flatten pairNumbers L)) ++ rewritten pairWidth [] (drop (place * pairWidth) (padded pairRoom (flatten pairNumbers L))) ≡ padded pairRoom (flatten pairNumbers (es ++ cs)) =
+      ap₂ (λ (j : ℕ) (xs : List offers.Pair). take (j * pairWidth) (padded pairRoom (flatten pairNumbers xs)) ++ rewritten pairWidth [] (drop (j * pairWidth) (padded pairRoom (flatten pairNumbers xs)))) (sym le) w
       ∙ taken-table channels es cs x (every-left (FitsPair channels) es (x ∷ cs) hs) (every-first (FitsPair channels) x cs hr) (every-later (FitsPair channels) x cs hr) (omega (arith, fits .few-pairs)) in
-      whole-tail (pos (length (s .processes))) (pos (length L)) (pos (length L - 1)) t (padded 1280 (flatten pairNumbers L)) (place * 5) (rewritten 5 []) process-table
-      ∙ ap₂ (λ (j : ℕ) (u : List ℤ). pos (length (s .processes)) ∷ pos j ∷ (t ++ u)) n (e ∙ ap (λ (xs : List offers.Pair). padded 1280 (flatten pairNumbers xs)) (sym r))
+      whole-tail (pos (length (s .processes))) (pos (length L)) (pos (length L - 1)) t (padded pairRoom (flatten pairNumbers L)) (place * pairWidth) (rewritten pairWidth []) process-table
+      ∙ ap₂ (λ (j : ℕ) (u : List ℤ). pos (length (s .processes)) ∷ pos j ∷ (t ++ u)) n (e ∙ ap (λ (xs : List offers.Pair). padded pairRoom (flatten pairNumbers xs)) (sym r))
 
   rows-are : pairRows (stateNumbers s) ≡ map pairNumbers (s .pairs)
   unfolding stateNumbers

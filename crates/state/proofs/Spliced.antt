@@ -11,10 +11,10 @@ use Rattle.rules.specs.Step.{replace}
 use Rattle.rules.proofs.Spliced.{spliced, replace-length}
 use Rattle.model.specs.Good.{Every}
 use Rattle.machine.specs.Offer.{Process}
-use Rattle.machine.specs.State.{State, padded, flatten, processNumbers, pairNumbers, stateNumbers}
+use Rattle.machine.specs.State.{State, padded, flatten, processNumbers, pairNumbers, stateNumbers, pairRoom, processRoom, processWidth}
 use Rattle.state.specs.Fits.{FewLocals, FitsProcess, Fits}
 use Rattle.state.specs.Test.{at}
-use Rattle.state.specs.Change.{rewritten, processReplaced}
+use Rattle.state.specs.Change.{rewritten, processReplaced, pairsFrom}
 use Rattle.state.proofs.Rows.{flatten-length, padded-length}
 use Rattle.state.proofs.Entries.{process-wide}
 
@@ -89,44 +89,44 @@ module _ {A : Type 0} (P : A → Type 0) where
 
 -- ---- the processes of a state's numbers
 module _ (scopes : List ℕ) (few : FewLocals scopes) where
-  processes-wide : (ps : List Process) → Every (FitsProcess scopes) ps → length (flatten processNumbers ps) ≡ length ps * 9
-  processes-wide ps h = flatten-length processNumbers 9 (FitsProcess scopes) (process-wide scopes few) ps h
+  processes-wide : (ps : List Process) → Every (FitsProcess scopes) ps → length (flatten processNumbers ps) ≡ length ps * processWidth
+  processes-wide ps h = flatten-length processNumbers processWidth (FitsProcess scopes) (process-wide scopes few) ps h
 
   replaced-table : (es cs ks : List Process) (y : Process) → Every (FitsProcess scopes) es → FitsProcess scopes y → Every (FitsProcess scopes) cs → Every (FitsProcess scopes) ks
       → length es + (1 + length cs) ≤ 256 → length es + (length ks + length cs) ≤ 256
-      → let t = padded 2304 (flatten processNumbers (es ++ (y ∷ cs))) in
-      take (length es * 9) t ++ rewritten 9 (flatten processNumbers ks) (drop (length es * 9) t) ≡ padded 2304 (flatten processNumbers (es ++ (ks ++ cs)))
+      → let t = padded processRoom (flatten processNumbers (es ++ (y ∷ cs))) in
+      take (length es * processWidth) t ++ rewritten processWidth (flatten processNumbers ks) (drop (length es * processWidth) t) ≡ padded processRoom (flatten processNumbers (es ++ (ks ++ cs)))
   unfolding flatten
   replaced-table es cs ks y ha hy hc hk m n =
       let a : List ℤ = flatten processNumbers es in
       let b : List ℤ = processNumbers y in
       let c : List ℤ = flatten processNumbers cs in
       let k : List ℤ = flatten processNumbers ks in
-      let la : length a ≡ length es * 9 = processes-wide es ha in
-      let lb : length b ≡ 9 = process-wide scopes few y hy in
-      let lc : length c ≡ length cs * 9 = processes-wide cs hc in
-      let lk : length k ≡ length ks * 9 = processes-wide ks hk in
+      let la : length a ≡ length es * processWidth = processes-wide es ha in
+      let lb : length b ≡ processWidth = process-wide scopes few y hy in
+      let lc : length c ≡ length cs * processWidth = processes-wide cs hc in
+      let lk : length k ≡ length ks * processWidth = processes-wide ks hk in
       let e : flatten processNumbers (es ++ (y ∷ cs)) ≡ a ++ (b ++ c) = flatten-append processNumbers es (y ∷ cs) in
       let f : flatten processNumbers (es ++ (ks ++ cs)) ≡ a ++ (k ++ c) = flatten-append processNumbers es (ks ++ cs) ∙ ap (λ (r : List ℤ). a ++ r) (flatten-append processNumbers ks cs) in
-      ap (λ (l : List ℤ). take (length es * 9) (padded 2304 l) ++ rewritten 9 k (drop (length es * 9) (padded 2304 l))) e
-      ∙ ap₂ (λ (p w : ℕ). take p (padded 2304 (a ++ (b ++ c))) ++ rewritten w k (drop p (padded 2304 (a ++ (b ++ c))))) (sym la) (sym lb)
-      ∙ table-rewritten 2304 a b c k (omega arith) (omega arith)
-      ∙ ap (padded 2304) (sym f)
+      ap (λ (l : List ℤ). take (length es * processWidth) (padded processRoom l) ++ rewritten processWidth k (drop (length es * processWidth) (padded processRoom l))) e
+      ∙ ap₂ (λ (p w : ℕ). take p (padded processRoom (a ++ (b ++ c))) ++ rewritten w k (drop p (padded processRoom (a ++ (b ++ c))))) (sym la) (sym lb)
+      ∙ table-rewritten processRoom a b c k (omega arith) (omega arith)
+      ∙ ap (padded processRoom) (sym f)
 
   -- ---- the whole
-  whole-replaced : (n m : ℤ) (t q new : List ℤ) (place k : ℕ) → length t ≡ 2304 → place * 9 ≤ 2304
-      → processReplaced place k new (n ∷ m ∷ (t ++ q)) ≡ pos (natAbs n - 1 + k) ∷ m ∷ ((take (place * 9) t ++ rewritten 9 new (drop (place * 9) t)) ++ q)
+  whole-replaced : (n m : ℤ) (t q new : List ℤ) (place k : ℕ) → length t ≡ processRoom → place * processWidth ≤ processRoom
+      → processReplaced place k new (n ∷ m ∷ (t ++ q)) ≡ pos (natAbs n - 1 + k) ∷ m ∷ ((take (place * processWidth) t ++ rewritten processWidth new (drop (place * processWidth) t)) ++ q)
   unfolding processReplaced
   whole-replaced n m t q new place k l h =
-      let p : ℕ = place * 9 in
+      let p : ℕ = place * processWidth in
       let e : take (2 + p) (n ∷ m ∷ (t ++ q)) ≡ n ∷ m ∷ take p t = take-append-add (n ∷ m ∷ []) (t ++ q) p ∙ ap (λ (r : List ℤ). n ∷ m ∷ r) (take-append-le p t q (omega arith)) in
       let d : drop (2 + p) (n ∷ m ∷ (t ++ q)) ≡ drop p t ++ q = drop-append-add (n ∷ m ∷ []) (t ++ q) p ∙ drop-append-le p t q (omega arith) in
-      let f : take (2306 - (2 + p)) (drop p t ++ q) ≡ drop p t = take-at (drop p t) q (2306 - (2 + p)) (simp length-drop (omega arith)) in
-      let g : drop 2304 (t ++ q) ≡ q = drop-at t q 2304 l in
-      ap (λ (r : List ℤ). set (r ++ (rewritten 9 new (take (2306 - (2 + p)) (drop (2 + p) (n ∷ m ∷ (t ++ q)))) ++ drop 2304 (t ++ q))) 0 (pos (natAbs n - 1 + k))) e
-      ∙ ap (λ (r : List ℤ). pos (natAbs n - 1 + k) ∷ m ∷ (take p t ++ (rewritten 9 new (take (2306 - (2 + p)) r) ++ drop 2304 (t ++ q)))) d
-      ∙ ap₂ (λ (r s : List ℤ). pos (natAbs n - 1 + k) ∷ m ∷ (take p t ++ (rewritten 9 new r ++ s))) f g
-      ∙ ap (λ (r : List ℤ). pos (natAbs n - 1 + k) ∷ m ∷ r) (sym (append-assoc (take p t) (rewritten 9 new (drop p t)) q))
+      let f : take (pairsFrom - (2 + p)) (drop p t ++ q) ≡ drop p t = take-at (drop p t) q (pairsFrom - (2 + p)) (simp length-drop (omega arith)) in
+      let g : drop processRoom (t ++ q) ≡ q = drop-at t q processRoom l in
+      ap (λ (r : List ℤ). set (r ++ (rewritten processWidth new (take (pairsFrom - (2 + p)) (drop (2 + p) (n ∷ m ∷ (t ++ q)))) ++ drop processRoom (t ++ q))) 0 (pos (natAbs n - 1 + k))) e
+      ∙ ap (λ (r : List ℤ). pos (natAbs n - 1 + k) ∷ m ∷ (take p t ++ (rewritten processWidth new (take (pairsFrom - (2 + p)) r) ++ drop processRoom (t ++ q)))) d
+      ∙ ap₂ (λ (r s : List ℤ). pos (natAbs n - 1 + k) ∷ m ∷ (take p t ++ (rewritten processWidth new r ++ s))) f g
+      ∙ ap (λ (r : List ℤ). pos (natAbs n - 1 + k) ∷ m ∷ r) (sym (append-assoc (take p t) (rewritten processWidth new (drop p t)) q))
 
   -- 01, State, step: the acting process is replaced at its place by its continuation
   pub splice-numbers : (channels : ℕ) (s : State) → Fits scopes channels s → (place : ℕ) (ks : List Process) → place < length (s .processes) → Every (FitsProcess scopes) ks
@@ -142,14 +142,14 @@ module _ (scopes : List ℕ) (few : FewLocals scopes) where
       let hs : Every (FitsProcess scopes) (es ++ (w .0 ∷ cs)) = rw (w .1) at (f .processes) in
       let la : length es ≡ place = length-take-le place ps (omega arith) in
       let lc : length cs ≡ length ps - suc place = length-drop (suc place) ps in
-      let q : List ℤ = padded 1280 (flatten pairNumbers (s .pairs)) in
-      let t : List ℤ = padded 2304 (flatten processNumbers ps) in
-      let lt : length t ≡ 2304 = padded-length 2304 (flatten processNumbers ps) (omega (arith, processes-wide ps (f .processes), f .few-processes)) in
+      let q : List ℤ = padded pairRoom (flatten pairNumbers (s .pairs)) in
+      let t : List ℤ = padded processRoom (flatten processNumbers ps) in
+      let lt : length t ≡ processRoom = padded-length processRoom (flatten processNumbers ps) (omega (arith, processes-wide ps (f .processes), f .few-processes)) in
       let ha = every-left (FitsProcess scopes) es (w .0 ∷ cs) hs in
       let hb = every-right (FitsProcess scopes) es (w .0 ∷ cs) hs in
-      let e : take (place * 9) t ++ rewritten 9 (flatten processNumbers ks) (drop (place * 9) t) ≡ padded 2304 (flatten processNumbers (es ++ (ks ++ cs))) =
-      ap₂ (λ (j : ℕ) (xs : List Process). take (j * 9) (padded 2304 (flatten processNumbers xs)) ++ rewritten 9 (flatten processNumbers ks) (drop (j * 9) (padded 2304 (flatten processNumbers xs)))) (sym la) (w .1)
+      let e : take (place * processWidth) t ++ rewritten processWidth (flatten processNumbers ks) (drop (place * processWidth) t) ≡ padded processRoom (flatten processNumbers (es ++ (ks ++ cs))) =
+      ap₂ (λ (j : ℕ) (xs : List Process). take (j * processWidth) (padded processRoom (flatten processNumbers xs)) ++ rewritten processWidth (flatten processNumbers ks) (drop (j * processWidth) (padded processRoom (flatten processNumbers xs)))) (sym la) (w .1)
       ∙ replaced-table es cs ks (w .0) ha (every-first (FitsProcess scopes) (w .0) cs hb) (every-later (FitsProcess scopes) (w .0) cs hb) h (omega (arith, f .few-processes)) (omega arith) in
       let n : length ps - 1 + length ks ≡ length (replace place ks ps) = omega (arith, replace-length place ks ps l) in
       whole-replaced (pos (length ps)) (pos (length (s .pairs))) t q (flatten processNumbers ks) place (length ks) lt (omega (arith, f .few-processes))
-      ∙ ap₂ (λ (j : ℕ) (u : List ℤ). pos j ∷ pos (length (s .pairs)) ∷ (u ++ q)) n (e ∙ ap (λ (xs : List Process). padded 2304 (flatten processNumbers xs)) (sym r))
+      ∙ ap₂ (λ (j : ℕ) (u : List ℤ). pos j ∷ pos (length (s .pairs)) ∷ (u ++ q)) n (e ∙ ap (λ (xs : List Process). padded processRoom (flatten processNumbers xs)) (sym r))

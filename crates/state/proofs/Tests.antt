@@ -15,6 +15,8 @@ use lib.ListN.{length, getD, take, drop, drop-of-length-le}
 use lib.Seq.{drop-cons, drop-drop, getD-take, length-take-le}
 use mir.Syntax.{w64}
 use mir.Val.{Fits, SFits, ofZ}
+use Rattle.machine.specs.State.{pairWidth, processWidth}
+use Rattle.model.specs.Limits.{localLimit}
 use Rattle.value.specs.Arithmetic.{isLess, isSame}
 use Rattle.value.specs.Range.{least, greatest}
 use Rattle.value.proofs.Kit.{true-not-false, false-not-true, same-bits, ok-fits}
@@ -22,6 +24,8 @@ use Rattle.rules.specs.Order.{less}
 use Rattle.state.specs.Test.{every, rows, isValue, isZero, isBelow, at, isPadded, isProcess, isChannel, isPair, leads, ascends, areProcesses, arePairs, isState, processPart, pairPart}
 use Rattle.state.specs.Fits.{FewLocals}
 use Rattle.model.specs.Good.{Every}
+use Rattle.model.specs.Scope.{localsIn, definitionIn}
+use Rattle.model.proofs.Scope.{no-locals}
 use Rattle.machine.proofs.Everys.{every-get}
 
 -- ---- both of two tests
@@ -83,6 +87,10 @@ unfolding isBelow
 below-fits n (pos k) f e = (tt, omega (arith, f .sfits))
 below-fits n (negsuc k) f e = false-not-true e
 
+pub positive-fits : (k : ℕ) (z : ℤ) → SFits w64 z → z ≡ pos k → T (nonNeg z) × Fits w64 (natAbs z)
+positive-fits k (pos j) f e = (tt, omega (arith, f .sfits))
+positive-fits k (negsuc j) f e = let y : _≡_ {A = ℕ} 0 1 = cc in absurd (omega arith)
+
 -- a number that passed is natural, and below the bound
 pub below-natural : (n : ℕ) (z : ℤ) → isBelow n z ≡ true → z ≡ pos (natAbs z)
 unfolding isBelow
@@ -128,20 +136,27 @@ module _ (scopes : List ℕ) (sums : ℕ) (row : List ℤ) (l : sums ≤ length 
   unfolding isProcess
   process-fails e = rw (length-take-le sums scopes l, e)
 
-  pub process-rest : isBelow sums (at row 0) ≡ true → isProcess (take sums scopes) row ≡ isPadded (getD scopes (natAbs (at row 0)) 0) (drop 1 row)
-  unfolding isProcess
-  process-rest e = rw (length-take-le sums scopes l, e, getD-take sums scopes (natAbs (at row 0)) 0 (below-bound sums (at row 0) e))
+  -- a sum that exists: its locals, and its definition
+  module _ (e : isBelow sums (at row 0) ≡ true) where
+    pub process-unpadded : isPadded (localsIn (getD scopes (natAbs (at row 0)) 0)) (take localLimit (drop 1 row)) ≡ false → isProcess (take sums scopes) row ≡ false
+    unfolding isProcess
+    process-unpadded p = rw (length-take-le sums scopes l, e, getD-take sums scopes (natAbs (at row 0)) 0 (below-bound sums (at row 0) e), p)
+
+    pub process-rest : isPadded (localsIn (getD scopes (natAbs (at row 0)) 0)) (take localLimit (drop 1 row)) ≡ true
+        → isProcess (take sums scopes) row ≡ isSame (at row (1 + localLimit)) (pos (definitionIn (getD scopes (natAbs (at row 0)) 0)))
+    unfolding isProcess
+    process-rest p = rw (length-take-le sums scopes l, e, getD-take sums scopes (natAbs (at row 0)) 0 (below-bound sums (at row 0) e), p)
 
 -- a sum that exists has at most 8 locals
-pub few-locals : (scopes : List ℕ) (sums i : ℕ) → FewLocals (take sums scopes) → i < sums → getD scopes i 0 ≤ 8
-few-locals scopes sums i h l = rw (getD-take sums scopes i 0 l) at (every-get (λ (k : ℕ). k ≤ 8) 0 (omega arith) (take sums scopes) i h)
+pub few-locals : (scopes : List ℕ) (sums i : ℕ) → FewLocals (take sums scopes) → i < sums → localsIn (getD scopes i 0) ≤ localLimit
+few-locals scopes sums i h l = rw (getD-take sums scopes i 0 l) at (every-get (λ (k : ℕ). localsIn k ≤ localLimit) 0 no-locals (take sums scopes) i h)
 
 -- scopes written out
 pub few-none : FewLocals []
 unfolding Every
 few-none = tt
 
-pub few-more : (k : ℕ) (scopes : List ℕ) → k ≤ 8 → FewLocals scopes → FewLocals (k ∷ scopes)
+pub few-more : (k : ℕ) (scopes : List ℕ) → localsIn k ≤ localLimit → FewLocals scopes → FewLocals (k ∷ scopes)
 unfolding Every
 few-more k scopes l h = (l, h)
 
@@ -271,25 +286,25 @@ module _ (w n : ℕ) (s : List ℤ) (i : ℕ) (e : ascends (rows w n s) ≡ asce
 
 -- ---- the state, case by case
 module _ (scopes : List ℕ) (n : ℕ) (l : List ℤ) where
-  pub processes-fail : every (isProcess scopes) (rows 9 n l) ≡ false → areProcesses scopes n l ≡ false
+  pub processes-fail : every (isProcess scopes) (rows processWidth n l) ≡ false → areProcesses scopes n l ≡ false
   unfolding areProcesses
   processes-fail e = rw e
 
-  pub processes-rest : every (isProcess scopes) (rows 9 n l) ≡ true → areProcesses scopes n l ≡ every isZero (drop (n * 9) l)
+  pub processes-rest : every (isProcess scopes) (rows processWidth n l) ≡ true → areProcesses scopes n l ≡ every isZero (drop (n * processWidth) l)
   unfolding areProcesses
   processes-rest e = rw e
 
 module _ (channels n : ℕ) (l : List ℤ) where
-  pub pairs-fail : every (isPair channels) (rows 5 n l) ≡ false → arePairs channels n l ≡ false
+  pub pairs-fail : every (isPair channels) (rows pairWidth n l) ≡ false → arePairs channels n l ≡ false
   unfolding arePairs
   pairs-fail e = rw e
 
-  module _ (e : every (isPair channels) (rows 5 n l) ≡ true) where
-    pub pairs-unordered : ascends (rows 5 n l) ≡ false → arePairs channels n l ≡ false
+  module _ (e : every (isPair channels) (rows pairWidth n l) ≡ true) where
+    pub pairs-unordered : ascends (rows pairWidth n l) ≡ false → arePairs channels n l ≡ false
     unfolding arePairs
     pairs-unordered f = rw (e, f)
 
-    pub pairs-rest : ascends (rows 5 n l) ≡ true → arePairs channels n l ≡ every isZero (drop (n * 5) l)
+    pub pairs-rest : ascends (rows pairWidth n l) ≡ true → arePairs channels n l ≡ every isZero (drop (n * pairWidth) l)
     unfolding arePairs
     pairs-rest f = rw (e, f)
 

@@ -4,8 +4,8 @@ use mathlib.Core.List.{List, [], _∷_, _++_}
 use Prim.Native.Nat.{ℕ, _+_, _-_, _*_}
 use lib.IntN.{ℤ, pos, natAbs}
 use lib.ListN.{length, set, take, drop, replicate}
-use Rattle.model.specs.Opening.{processLimit}
-use Rattle.machine.specs.State.{processWidth, pairWidth}
+use Rattle.model.specs.Limits.{localLimit}
+use Rattle.machine.specs.State.{processWidth, pairWidth, processRoom}
 use Rattle.state.specs.Test.{at, rows, placeOf, isLit, pairPart}
 
 -- the first numbers of a table's tail replaced; what follows moves, and 0s come in or fall off at its end
@@ -14,7 +14,7 @@ rewritten cut new l = take (length l) (new ++ (drop cut l ++ replicate cut (pos 
 
 -- 01, State: where the pairs begin
 abbrev pub pairsFrom : ℕ
-pairsFrom = 2 + processLimit * processWidth
+pairsFrom = 2 + processRoom
 
 -- 01, State, step: one more pair, at a place
 unfoldable pub pairAdded : ℕ → List ℤ → List ℤ → List ℤ
@@ -46,8 +46,12 @@ pairLaunched row zs = cond (isLit row (pairRows zs)) zs (pairAdded (placeOf row 
 unfoldable pub pairKilled : List ℤ → List ℤ → List ℤ
 pairKilled row zs = cond (isLit row (pairRows zs)) (pairTaken (placeOf row (pairRows zs)) zs) zs
 
--- 01, Open: one more process, after the others
+-- 01, Open: the sum number and the locals of one more process, after the others
 unfoldable pub processAdded : ℕ → List ℤ → List ℤ → List ℤ
 processAdded sum locals zs =
     let from : ℕ = 2 + natAbs (at zs 0) * processWidth in
     set (take from zs ++ (pos sum ∷ (locals ++ drop (from + 1 + length locals) zs))) 0 (pos (natAbs (at zs 0) + 1))
+
+-- 01, Open, and 02, note 6: one more process, after the others; its definition is the last of its numbers
+unfoldable pub processPushed : ℕ → List ℤ → ℕ → List ℤ → List ℤ
+processPushed sum locals definition zs = processAdded sum locals (set zs (2 + natAbs (at zs 0) * processWidth + (1 + localLimit)) (pos definition))

@@ -1,18 +1,24 @@
 -- The state that numbers are those of (01, State). Definitions only.
 use mathlib.Core.Bool.{cond}
 use mathlib.Core.List.{List, map}
-use Prim.Native.Nat.{ℕ}
+use Prim.Native.Nat.{ℕ, _+_}
 use lib.IntN.{ℤ, pos, natAbs}
 use lib.ListN.{getD, take, drop}
 use Rattle.value.specs.Arithmetic.{isSame}
+use Rattle.model.specs.Limits.{localLimit}
+use Rattle.model.specs.Scope.{localsIn}
 use Rattle.rules.specs.Offers as offers
 use Rattle.machine.specs.Offer.{Process}
 use Rattle.machine.specs.State.{State, processWidth, pairWidth}
 use Rattle.state.specs.Test.{rows, at, processPart, pairPart}
 
--- 01, State: sum number, and the locals that the sum has in scope
+-- 01, State: sum number, the locals that the sum has in scope; 02, note 6: the definition number, after all locals
 unfoldable pub processOf : List ℕ → List ℤ → Process
-processOf scopes row = record { sum = natAbs (at row 0); locals = take (getD scopes (natAbs (at row 0)) 0) (drop 1 row) }
+processOf scopes row = record {
+  sum = natAbs (at row 0);
+  locals = take (localsIn (getD scopes (natAbs (at row 0)) 0)) (drop 1 row);
+  definition = natAbs (at row (1 + localLimit));
+}
 
 -- 01, State: channel kind 0 is a number, 1 a name
 unfoldable pub channelOf : ℤ → ℤ → offers.Channel

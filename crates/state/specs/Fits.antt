@@ -1,4 +1,4 @@
--- States over a model of which only the locals of its sums and the number of its channel names are known (01, Listing, question 11). Definitions only.
+-- States over a model of which only the locals and definitions of its sums and the number of its channel names are known (01, Listing, question 11). Definitions only.
 use mathlib.Core.Path.{_≡_}
 use mathlib.Core.List.{List, map}
 use mathlib.Core.Option.{some}
@@ -7,6 +7,7 @@ use lib.ListN.{length, getElem?}
 use Rattle.value.specs.Range.{InRange}
 use Rattle.model.specs.Limits.{localLimit}
 use Rattle.model.specs.Resolved
+use Rattle.model.specs.Scope.{scopeOf, localsIn, definitionIn}
 use Rattle.model.specs.Opening.{processLimit}
 use Rattle.rules.specs.Offers as offers
 use Rattle.rules.specs.Order.{Ascending}
@@ -15,13 +16,13 @@ use Rattle.model.specs.Good.{Every, OneOrTwo}
 use Rattle.machine.specs.Offer.{Process}
 use Rattle.machine.specs.State.{State, pairLimit}
 
--- 01, State: the number of locals of each sum
+-- 01, State, and 02, note 6: the locals and the definition of each sum
 abbrev pub scopesOf : Resolved.Model → List ℕ
-scopesOf m = map (λ (s : Resolved.Sum). s .locals) (m .sums)
+scopesOf m = map scopeOf (m .sums)
 
 -- 01, Opening a text, 7: a sum has at most 8 locals
 abbrev pub FewLocals : List ℕ → Type 0
-FewLocals scopes = Every (λ (k : ℕ). k ≤ localLimit) scopes
+FewLocals scopes = Every (λ (k : ℕ). localsIn k ≤ localLimit) scopes
 
 -- 01, Listing, 11: number channels in range, channel names that exist
 unfoldable pub FitsChannel : ℕ → offers.Channel → Type 0
@@ -34,9 +35,12 @@ pub record FitsPair (channels : ℕ) (x : offers.Pair) : Type 0 where
   pub number : OneOrTwo (x .values)
   pub values : Every InRange (x .values)
 
--- 01, Listing, 11: a sum that exists, with as many locals as it has in scope, in range
+-- 01, Listing, 11: a sum that exists, with as many locals as it has in scope, in range; 02, note 6: its definition
 pub record FitsProcess (scopes : List ℕ) (p : Process) : Type 0 where
-  pub sum : getElem? scopes (p .sum) ≡ some (length (p .locals))
+  pub scope : ℕ
+  pub sum : getElem? scopes (p .sum) ≡ some scope
+  pub locals : localsIn scope ≡ length (p .locals)
+  pub definition : definitionIn scope ≡ p .definition
   pub values : Every InRange (p .locals)
 
 -- 01, Listing, 11: a state over such a model

@@ -5,6 +5,7 @@ use mathlib.Core.List.{List}
 use Prim.Native.Nat.{ℕ, _+_, _*_}
 use lib.IntN.{ℤ, natAbs}
 use lib.ListN.{length, take, drop}
+use Rattle.model.specs.Limits.{localLimit}
 use Rattle.model.specs.Opening.{processLimit}
 use Rattle.machine.specs.State.{processWidth, pairWidth, stateLength}
 use Rattle.state.specs.Fits.{FewLocals}
@@ -33,6 +34,10 @@ sumAt zs place = natAbs (at zs (2 + place * processWidth))
 -- 01, State: the first k locals of the process at a place
 unfoldable pub localsAt : List ℤ → ℕ → ℕ → List ℤ
 localsAt zs place k = take k (drop (2 + place * processWidth + 1) zs)
+
+-- 02, note 6: the definition number of the process at a place, after all its locals
+unfoldable pub definitionNumber : List ℤ → ℕ → ℕ
+definitionNumber zs place = natAbs (at zs (2 + place * processWidth + (1 + localLimit)))
 
 -- 01, State: the numbers of the pair at a place
 unfoldable pub pairRow : List ℤ → ℕ → List ℤ

@@ -1,4 +1,4 @@
--- Whether 3,586 numbers are those of a state, as a test in the code's order (01, State, and Listing, question 11). Definitions only.
+-- Whether 3,842 numbers are those of a state, as a test in the code's order (01, State, and Listing, question 11). Definitions only.
 use mathlib.Core.Bool.{Bool, true, false, cond, not, _&&_}
 use mathlib.Core.List.{List, [], _∷_}
 use Prim.Native.Nat.{ℕ, zero, suc, _+_, _*_}
@@ -8,7 +8,9 @@ use lib.Signed.{leZ}
 use lib.ListN.{length, getD, take, drop}
 use Rattle.value.specs.Arithmetic.{isSame}
 use Rattle.value.specs.Range.{least, greatest}
+use Rattle.model.specs.Limits.{localLimit}
 use Rattle.model.specs.Opening.{processLimit}
+use Rattle.model.specs.Scope.{localsIn, definitionIn}
 use Rattle.rules.specs.Order.{less}
 use Rattle.machine.specs.State.{pairLimit, processWidth, pairWidth}
 
@@ -47,9 +49,11 @@ at l i = getD l i (pos 0)
 unfoldable pub isPadded : ℕ → List ℤ → Bool
 isPadded k l = every isValue (take k l) && every isZero (drop k l)
 
--- 01, Listing, 11: a sum number that exists, the locals that are in scope
+-- 01, Listing, 11: a sum number that exists, the locals that are in scope; 02, note 6: the number of the sum's definition
 unfoldable pub isProcess : List ℕ → List ℤ → Bool
-isProcess scopes row = isBelow (length scopes) (at row 0) && isPadded (getD scopes (natAbs (at row 0)) 0) (drop 1 row)
+isProcess scopes row =
+    isBelow (length scopes) (at row 0)
+    && (isPadded (localsIn (getD scopes (natAbs (at row 0)) 0)) (take localLimit (drop 1 row)) && isSame (at row (1 + localLimit)) (pos (definitionIn (getD scopes (natAbs (at row 0)) 0))))
 
 -- 01, State: channel kind 0 is a number, 1 a name
 unfoldable pub isChannel : ℕ → ℤ → ℤ → Bool

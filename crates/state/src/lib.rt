@@ -7,11 +7,13 @@ ghost use lib.IntN.{ℤ, pos, natAbs};
 ghost use lib.ListN.{length, take, drop, replicate};
 ghost use Rattle.model.specs.Limits.{localLimit};
 ghost use Rattle.model.specs.Opening.{processLimit};
+ghost use Rattle.model.specs.Scope.{localsIn, definitionIn};
+ghost use Rattle.value.specs.Arithmetic.{isSame};
 ghost use Rattle.rules.specs.Order.{less};
 ghost use Rattle.machine.specs.State.{pairLimit, processWidth, pairWidth, stateLength};
-ghost use Rattle.state.specs.Change.{rewritten, pairRows, pairAdded, pairTaken, pairLaunched, pairKilled, processReplaced, processAdded};
+ghost use Rattle.state.specs.Change.{rewritten, pairRows, pairAdded, pairTaken, pairLaunched, pairKilled, processReplaced, processAdded, processPushed};
 ghost use Rattle.state.specs.Fits.{FewLocals};
-ghost use Rattle.state.specs.Read.{Passed, processCount, pairCount, sumAt, localsAt, pairRow};
+ghost use Rattle.state.specs.Read.{Passed, processCount, pairCount, sumAt, localsAt, definitionNumber, pairRow};
 ghost use Rattle.state.specs.Test.{at, placeOf, isLit, channelRow, every, rows, isValue, isZero, isBelow, isPadded, isProcess, isChannel, isPair, ascends, areProcesses, arePairs, isState};
 
 pub struct Layout;
@@ -23,10 +25,13 @@ impl Layout {
     // Where the processes stand, and numbers of one.
     pub const PROCESSES: usize = 2;
 
-    pub const PROCESS: usize = 9;
+    pub const PROCESS: usize = 10;
+
+    // Where the definition stands among the numbers of a process: after the sum and all locals.
+    pub const DEFINITION: usize = 9;
 
     // Where the pairs stand, and numbers of one.
-    pub const PAIRS: usize = 2306;
+    pub const PAIRS: usize = 2562;
 
     pub const PAIR: usize = 5;
 
@@ -96,14 +101,29 @@ fn is_padded(s: &[i64], count: usize) -> bool
     all_zero(&s[count..])
 }
 
-fn wide(x: u8) -> usize
-    ensures { λ r. ⌜ r ≡ x ⌝ }
+// How many locals a sum has, of what is known of it.
+pub fn locals_in(scope: u16) -> usize
+    ensures { λ r. ⌜ r ≡ localsIn scope ⌝ }
 {
-    x as usize
+    (scope % 16) as usize
+}
+
+// The definition whose text holds a sum, of what is known of it.
+pub fn definition_in(scope: u16) -> usize
+    ensures { λ r. ⌜ (r ≡ definitionIn scope) × (r < 65536) ⌝ }
+{
+    (scope / 16) as usize
+}
+
+fn is_number(z: i64, n: usize) -> bool
+    requires { ⌜ n < 9223372036854775808 ⌝ }
+    ensures { λ r. ⌜ r ≡ isSame z (pos n) ⌝ }
+{
+    value::same(z, n as i64)
 }
 
 // Whether a row is a process of a sum that exists.
-fn is_process(row: &[i64], scopes: &[u8], sums: usize) -> bool
+fn is_process(row: &[i64], scopes: &[u16], sums: usize) -> bool
     requires { ⌜ (length (now row) ≡ processWidth) × (sums ≤ length (now scopes)) × FewLocals (take sums (now scopes)) ⌝ }
     ensures { λ r. ⌜ r ≡ isProcess (take sums (now (scopes .entry))) (now (row .entry)) ⌝ }
 {
@@ -112,7 +132,11 @@ fn is_process(row: &[i64], scopes: &[u8], sums: usize) -> bool
         return false;
     }
     let sum = z as usize;
-    is_padded(&row[1..], wide(scopes[sum]))
+    let scope = scopes[sum];
+    if !is_padded(&row[1..Layout::DEFINITION], locals_in(scope)) {
+        return false;
+    }
+    is_number(row[Layout::DEFINITION], definition_in(scope))
 }
 
 fn is_channel(kind: i64, z: i64, channels: usize) -> bool
@@ -145,7 +169,7 @@ fn is_pair(row: &[i64], channels: usize) -> bool
     is_padded(&row[Layout::VALUES..], count as usize)
 }
 
-fn all_processes(s: &[i64], n: usize, scopes: &[u8], sums: usize) -> bool
+fn all_processes(s: &[i64], n: usize, scopes: &[u16], sums: usize) -> bool
     requires { ⌜ (n * processWidth ≤ length (now s)) × (sums ≤ length (now scopes)) × FewLocals (take sums (now scopes)) ⌝ }
     ensures { λ r. ⌜ r ≡ every (isProcess (take sums (now (scopes .entry)))) (rows processWidth n (now (s .entry))) ⌝ }
 {
@@ -214,7 +238,7 @@ fn is_ascending(s: &[i64], n: usize) -> bool
 }
 
 // Whether n processes stand in the part of the processes, and zeros after them.
-fn are_processes(s: &[i64], n: usize, scopes: &[u8], sums: usize) -> bool
+fn are_processes(s: &[i64], n: usize, scopes: &[u16], sums: usize) -> bool
     requires { ⌜ (n * processWidth ≤ length (now s)) × (sums ≤ length (now scopes)) × FewLocals (take sums (now scopes)) ⌝ }
     ensures { λ r. ⌜ r ≡ areProcesses (take sums (now (scopes .entry))) n (now (s .entry)) ⌝ }
 {
@@ -241,7 +265,7 @@ fn are_pairs(s: &[i64], n: usize, channels: usize) -> bool
 }
 
 // Whether the numbers are those of a state over the sums with these scopes and so many channel names.
-pub fn is_state(state: &[i64], scopes: &[u8], sums: usize, channels: usize) -> bool
+pub fn is_state(state: &[i64], scopes: &[u16], sums: usize, channels: usize) -> bool
     requires { ⌜ (length (now state) ≡ stateLength) × (sums ≤ length (now scopes)) × FewLocals (take sums (now scopes)) ⌝ }
     ensures { λ r. ⌜ r ≡ isState (take sums (now (scopes .entry))) channels (now (state .entry)) ⌝ }
 {
@@ -437,8 +461,8 @@ pub fn splice(state: &mut [i64], place: usize, fresh: &[i64], count: usize)
     state[0] = (n - 1 + count) as i64;
 }
 
-// One more process, after the others.
-pub fn push_process(state: &mut [i64], sum: usize, locals: &[i64])
+// The sum and the locals of one more process, after the others.
+fn put_process(state: &mut [i64], sum: usize, locals: &[i64])
     requires { ⌜ (length (now state) ≡ stateLength) × (isBelow (processLimit + 1) (at (now state) 0) ≡ true) × (natAbs (at (now state) 0) < processLimit) × (sum < 9223372036854775808) × (length (now locals) ≤ localLimit) ⌝ }
     ensures { λ _. ⌜ now (state .exit) ≡ processAdded sum (now (locals .entry)) (now (state .entry)) ⌝ }
 {
@@ -448,6 +472,17 @@ pub fn push_process(state: &mut [i64], sum: usize, locals: &[i64])
     state[from] = sum as i64;
     put(&mut state[first..], locals, locals.len());
     state[0] = (n + 1) as i64;
+}
+
+// One more process, after the others.
+pub fn push_process(state: &mut [i64], sum: usize, locals: &[i64], definition: usize)
+    requires { ⌜ (length (now state) ≡ stateLength) × (isBelow (processLimit + 1) (at (now state) 0) ≡ true) × (natAbs (at (now state) 0) < processLimit) × (sum < 9223372036854775808) × (length (now locals) ≤ localLimit) × (definition < 9223372036854775808) ⌝ }
+    ensures { λ _. ⌜ now (state .exit) ≡ processPushed sum (now (locals .entry)) definition (now (state .entry)) ⌝ }
+{
+    let n = counted(&state[..], 0);
+    let last = Layout::PROCESSES + n * Layout::PROCESS + Layout::DEFINITION;
+    state[last] = definition as i64;
+    put_process(state, sum, locals);
 }
 
 // A pair is lit; one that is lit already stays as it is.
@@ -500,6 +535,15 @@ pub fn sum_at(state: &[i64], place: usize) -> usize
     ensures { λ r. ⌜ r ≡ sumAt (now (state .entry)) place ⌝ }
 {
     let from = Layout::PROCESSES + place * Layout::PROCESS;
+    state[from] as usize
+}
+
+// The definition number of the process at a place.
+pub fn definition_at(state: &[i64], place: usize) -> usize
+    requires { ⌜ (Passed (now state)) × (place < processCount (now state)) ⌝ }
+    ensures { λ r. ⌜ r ≡ definitionNumber (now (state .entry)) place ⌝ }
+{
+    let from = Layout::PROCESSES + place * Layout::PROCESS + Layout::DEFINITION;
     state[from] as usize
 }
 

@@ -6,13 +6,13 @@ use libc::STDOUT_FILENO;
 use state::Layout;
 use value::Range;
 
-// The length of a state's numbers, and a model with three sums and two channel names.
+// The length of a state's numbers, and a model with three sums and two channel names. Sum 1 stands in definition 1, the others in definition 0.
 struct Sample;
 
-type Numbers = [i64; 3586];
+type Numbers = [i64; 3842];
 
 impl Sample {
-    const LENGTH: usize = 3586;
+    const LENGTH: usize = 3842;
 
     const SUMS: usize = 3;
 
@@ -26,7 +26,7 @@ fn say(text: &[u8]) {
 fn is_good(state: &Numbers) -> bool
     ensures { λ r. ⌜ (r ≡ true → Passed (now (state .entry))) ⌝ }
 {
-    let scopes = [2, 0, 8];
+    let scopes = [2, 16, 8];
     state::is_state(state, &scopes, Sample::SUMS, Sample::CHANNELS)
 }
 
@@ -39,17 +39,17 @@ fn test(label: &[u8], state: &Numbers) {
     say(b",no\n");
 }
 
-fn push(state: &mut Numbers, sum: u8, locals: &[i64]) {
+fn push(state: &mut Numbers, sum: u8, locals: &[i64], definition: u8) {
     if !is_good(state) {
         return;
     }
     if Layout::COUNTS <= state::process_count(state) + 1 {
         return;
     }
-    if Layout::PROCESS <= locals.len() {
+    if Layout::DEFINITION <= locals.len() {
         return;
     }
-    state::push_process(state, sum as usize, locals);
+    state::push_process(state, sum as usize, locals, definition as usize);
 }
 
 fn launch(state: &mut Numbers, row: &[i64; 5]) {
@@ -81,7 +81,7 @@ fn split(state: &mut Numbers, place: usize) {
     if Layout::COUNTS <= n + 1 {
         return;
     }
-    let fresh = [1, 0, 0, 0, 0, 0, 0, 0, 0, 1, 0, 0, 0, 0, 0, 0, 0, 0];
+    let fresh = [1, 0, 0, 0, 0, 0, 0, 0, 0, 1, 1, 0, 0, 0, 0, 0, 0, 0, 0, 1];
     state::splice(state, place, &fresh, 2);
 }
 
@@ -99,15 +99,15 @@ fn end(state: &mut Numbers, place: usize) {
 
 // Three processes and three pairs.
 fn fill(state: &mut Numbers) {
-    push(state, 0, &[5, 7]);
-    push(state, 2, &[1, 2, 3, 4, 5, 6, 7, 8]);
-    push(state, 1, &[0; 0]);
+    push(state, 0, &[5, 7], 0);
+    push(state, 2, &[1, 2, 3, 4, 5, 6, 7, 8], 0);
+    push(state, 1, &[0; 0], 1);
     launch(state, &[1, 1, 1, 9, 0]);
     launch(state, &[0, 4, 2, 1, 2]);
     launch(state, &[0, 4, 1, 1, 0]);
 }
 
-// The test of the sample with another number at a place: the first process stands at 2, the first pair at 2306.
+// The test of the sample with another number at a place: the first process stands at 2, the first pair at 2562.
 fn damaged(label: &[u8], at: usize, z: i64) {
     let mut state = [0; Sample::LENGTH];
     fill(&mut state);
@@ -158,36 +158,49 @@ fn processes() {
     damaged(b"local above greatest", 4, Range::GREATEST + 1);
     damaged(b"first local past scope", 5, 1);
     damaged(b"last local past scope", 10, 1);
-    damaged(b"eighth local in scope", 19, -1);
-    damaged(b"local of none", 21, 1);
-    damaged(b"first unused process", 29, 1);
-    damaged(b"last of the processes", 2305, 1);
+    damaged(b"eighth local in scope", 20, -1);
+    damaged(b"local of none", 23, 1);
+    damaged(b"first unused process", 32, 1);
+    damaged(b"last of the processes", 2561, 1);
+}
+
+// A process has its definition after its eighth local: the first one at 11, the third at 31.
+fn definitions() {
+    damaged(b"definition one more", 11, 1);
+    damaged(b"definition -1", 11, -1);
+    damaged(b"definition of the sum", 31, 1);
+    damaged(b"definition one less", 31, 0);
+    damaged(b"definition of none", 31, 2);
+    damaged(b"definition least", 31, -9223372036854775808);
+    damaged(b"definition greatest", 31, 9223372036854775807);
+    damaged(b"definition of another sum", 22, 0);
+    damaged(b"definition of no process", 41, 1);
 }
 
 fn channels() {
-    damaged(b"kind 2", 2306, 2);
-    damaged(b"kind -1", 2306, -1);
-    damaged(b"name of no channel", 2306, 1);
-    damaged(b"number least", 2307, Range::LEAST);
-    damaged(b"number below least", 2307, Range::LEAST - 1);
-    damaged(b"number greatest", 2312, Range::GREATEST);
-    damaged(b"number above greatest", 2312, Range::GREATEST + 1);
-    damaged(b"name 0", 2317, 0);
-    damaged(b"name -1", 2317, -1);
-    damaged(b"name 2", 2317, 2);
+    damaged(b"kind 2", 2562, 2);
+    damaged(b"kind -1", 2562, -1);
+    damaged(b"name of no channel", 2562, 1);
+    damaged(b"number least", 2563, Range::LEAST);
+    damaged(b"number below least", 2563, Range::LEAST - 1);
+    damaged(b"number greatest", 2568, Range::GREATEST);
+    damaged(b"number above greatest", 2568, Range::GREATEST + 1);
+    damaged(b"name 0", 2573, 0);
+    damaged(b"name -1", 2573, -1);
+    damaged(b"name 2", 2573, 2);
 }
 
 fn values() {
-    damaged(b"no value", 2308, 0);
-    damaged(b"values -1", 2308, -1);
-    damaged(b"three values", 2313, 3);
-    damaged(b"value least", 2309, Range::LEAST);
-    damaged(b"value below least", 2309, Range::LEAST - 1);
-    damaged(b"second value greatest", 2315, Range::GREATEST);
-    damaged(b"second value above greatest", 2315, Range::GREATEST + 1);
-    damaged(b"second value of one", 2310, 1);
-    damaged(b"first unused pair", 2321, 1);
-    damaged(b"last of the pairs", 3585, 1);
+    damaged(b"no value", 2564, 0);
+    damaged(b"values -1", 2564, -1);
+    damaged(b"three values", 2569, 3);
+    damaged(b"value least", 2565, Range::LEAST);
+    damaged(b"value below least", 2565, Range::LEAST - 1);
+    damaged(b"second value greatest", 2571, Range::GREATEST);
+    damaged(b"second value above greatest", 2571, Range::GREATEST + 1);
+    damaged(b"second value of one", 2566, 1);
+    damaged(b"first unused pair", 2577, 1);
+    damaged(b"last of the pairs", 3841, 1);
 }
 
 fn order() {
@@ -226,9 +239,9 @@ fn show(label: &[u8], state: &Numbers) {
     say(b"counts");
     say_numbers(state, 0, Layout::PROCESSES);
     say(b"\nprocesses");
-    say_numbers(state, Layout::PROCESSES, 38);
+    say_numbers(state, Layout::PROCESSES, 42);
     say(b"\npairs");
-    say_numbers(state, Layout::PAIRS, 2326);
+    say_numbers(state, Layout::PAIRS, 2582);
     say(b"\n");
 }
 
@@ -254,6 +267,7 @@ fn changes() {
 fn main() {
     counts();
     processes();
+    definitions();
     channels();
     values();
     order();

@@ -15,7 +15,7 @@ use Rattle.model.specs.Good.{Every, GoodPart}
 use Rattle.rules.specs.Order.{Ascending}
 use Rattle.tables.specs.Settled as Settled
 use Rattle.machine.specs.Offer.{argumentsGiven, nextProcesses}
-use Rattle.machine.specs.State.{State, flatten, processNumbers, stateNumbers}
+use Rattle.machine.specs.State.{State, flatten, processNumbers, stateNumbers, processRoom, processWidth, stateLength}
 use Rattle.machine.proofs.Continues.{next-good}
 use Rattle.state.specs.Fits.{scopesOf, FitsProcess}
 use Rattle.state.specs.Test.{at, isBelow}
@@ -87,11 +87,11 @@ cut-tells a n = go (ltb most n) refl
     go false e = (λ h. h, λ f h. h)
 
 -- ---- the state with the process at a place replaced
-module _ {t : List ℕ} {root variables : ℕ} {zs : List ℤ} {i : ℕ} {ls : List ℤ} {r : Next} {m : Resolved.Model} {s : State} {ps : List Resolved.Part}
-    (h : Replaces t root variables zs i ls r m s ps) where
+module _ {t scopes : List ℕ} {root variables : ℕ} {zs : List ℤ} {i : ℕ} {ls : List ℤ} {r : Next} {m : Resolved.Model} {s : State} {ps : List Resolved.Part}
+    (h : Replaces t scopes root variables zs i ls r m s ps) where
   next-fits : Every (FitsProcess (scopesOf m)) (nextProcesses m ls ps)
   unfolding Every Ascending
-  next-fits = good-fits m (record { processes = nextProcesses m ls ps; pairs = [] }) (record {
+  next-fits = good-fits m (record { processes = nextProcesses m ls ps; pairs = [] }) (h .stands .good) (record {
     few-processes = omega (arith, h .inside, h .room);
     processes = next-good m (h .stands .good) ls (h .defined .fit .values) ps (h .defined .fit .parts);
     few-pairs = omega arith;
@@ -99,15 +99,15 @@ module _ {t : List ℕ} {root variables : ℕ} {zs : List ℤ} {i : ℕ} {ls : L
     ascending = tt;
   }) .processes
 
-  pub rows-wide : length (flatten processNumbers (nextProcesses m ls ps)) ≡ length (nextProcesses m ls ps) * 9
-  rows-wide = flatten-length processNumbers 9 (FitsProcess (scopesOf m)) (process-wide (scopesOf m) (few (h .stands))) (nextProcesses m ls ps) next-fits
+  pub rows-wide : length (flatten processNumbers (nextProcesses m ls ps)) ≡ length (nextProcesses m ls ps) * processWidth
+  rows-wide = flatten-length processNumbers processWidth (FitsProcess (scopesOf m)) (process-wide (scopesOf m) (few (h .stands))) (nextProcesses m ls ps) next-fits
 
-  pub spaced : (k size : ℕ) → r ≡ At k → size ≡ 2304 → Spaced t root variables ls k size 0
-  spaced k size e l = record { model = m; parts = ps; holds = continues t root variables r k e (h .defined); fits = omega (arith, h .inside, h .room) }
+  pub spaced : (k size : ℕ) → r ≡ At k → size ≡ processRoom → Spaced t scopes root variables ls k size 0
+  spaced k size e l = record { model = m; scoped = h .scoped; parts = ps; holds = continues t root variables r k e (h .defined); fits = omega (arith, h .inside, h .room) }
 
   -- what splice asks
-  pub splice-asks : (count size : ℕ) → count ≡ length (nextProcesses m ls ps) → size ≡ 2304
-      → (length zs ≡ 3586) × (i < 256) × (isBelow 257 (at zs 0) ≡ true) × (1 ≤ natAbs (at zs 0)) × (count + i ≤ 256) × (count * 9 ≤ size)
+  pub splice-asks : (count size : ℕ) → count ≡ length (nextProcesses m ls ps) → size ≡ processRoom
+      → (length zs ≡ stateLength) × (i < 256) × (isBelow 257 (at zs 0) ≡ true) × (1 ≤ natAbs (at zs 0)) × (count + i ≤ 256) × (count * processWidth ≤ size)
   splice-asks count size e l =
       let n = processes-are (h .stands) in
       let f = h .stands .state .few-processes in
@@ -120,10 +120,10 @@ module _ {t : List ℕ} {root variables : ℕ} {zs : List ℤ} {i : ℕ} {ls : L
       ∙ rw (e, f) (splice-numbers (scopesOf m) (few (h .stands)) (m .channels) s (fits (h .stands)) i (nextProcesses m ls ps) (h .inside) next-fits (omega (arith, h .inside, h .room)))
 
   -- the rows that are written first
-  pub rows-put : (f g : List ℤ) (n : ℕ) → length f ≡ 2304 → Rows f 0 (nextProcesses m ls ps) g n → (n ≡ length (nextProcesses m ls ps)) × (take (n * 9) g ≡ flatten processNumbers (nextProcesses m ls ps)) × (length g ≡ 2304)
+  pub rows-put : (f g : List ℤ) (n : ℕ) → length f ≡ processRoom → Rows f 0 (nextProcesses m ls ps) g n → (n ≡ length (nextProcesses m ls ps)) × (take (n * processWidth) g ≡ flatten processNumbers (nextProcesses m ls ps)) × (length g ≡ processRoom)
   rows-put f g n l w =
       let xs : List ℤ = flatten processNumbers (nextProcesses m ls ps) in
       let e : n ≡ length (nextProcesses m ls ps) = omega (arith, w .next) in
-      let q : n * 9 ≡ length xs = omega (arith, rows-wide, e) in
+      let q : n * processWidth ≡ length xs = omega (arith, rows-wide, e) in
       let z : length g ≡ length f = ap length (w .numbers) ∙ lib.Seq.length-sets f 0 xs in
-      (e, ap (take (n * 9)) (w .numbers) ∙ (ap (λ (j : ℕ). take j (sets f 0 xs)) q ∙ filled f xs (omega (arith, rows-wide, h .inside, h .room))), omega arith)
+      (e, ap (take (n * processWidth)) (w .numbers) ∙ (ap (λ (j : ℕ). take j (sets f 0 xs)) q ∙ filled f xs (omega (arith, rows-wide, h .inside, h .room))), omega arith)

@@ -17,6 +17,7 @@ use Rattle.step.specs.declared.Entered.{Entered}
 use Rattle.step.specs.declared.Taken.{Taken}
 use Rattle.step.specs.Enter.{Acts, Enters, valuesOf, localsOf, Fit, Alone, AloneEntry, Answers, entering, changed, bothEntering, Meets, Side, sent, received, HandEntry}
 use Rattle.step.proofs.Offers.{shows-change}
+use Rattle.step.proofs.Tables.{scoped-of}
 
 module _ {t roots scopes : List ℕ} {root variables : ℕ} {zs : List ℤ} {i j q : ℕ} {m : Resolved.Model} {s : State} {p : Process} {b : Resolved.Branch} {g : offers.Guard}
     (h : AloneEntry t roots scopes root variables zs i j q m s p b g) where
@@ -27,8 +28,9 @@ module _ {t roots scopes : List ℕ} {root variables : ℕ} {zs : List ℤ} {i j
     pub locals-bound : take (r .count) l ≡ localsOf p (valuesAt (s .pairs) q) g
     locals-bound = w .locals ∙ ap (λ (x : List ℤ). localsOf p x g) v
 
-    pub alone-of : Alone t root variables zs i (take (r .count) l) (r .next) (r .offer) m s (b .next) (onAction unchanged changeOf g)
+    pub alone-of : Alone t scopes root variables zs i (take (r .count) l) (r .next) (r .offer) m s (b .next) (onAction unchanged changeOf g)
     alone-of = record {
+      scoped = scoped-of (h .lent);
       stands = h .lent .stands;
       defined = record {
         good = h .lent .stands .good;
@@ -57,8 +59,9 @@ module _ {t roots scopes : List ℕ} {root variables : ℕ} {zs : List ℤ} {i j
       unfolding received
       receiver-locals = e .locals ∙ ap (λ (z : List ℤ). localsOf (y .process) z (y .guard)) v
 
-      pub meets-of : Meets t root variables zs i (take (r .count) l) (r .next) k (take (q .count) o) (q .next) m s (x .branch .next) (y .branch .next)
+      pub meets-of : Meets t scopes root variables zs i (take (r .count) l) (r .next) k (take (q .count) o) (q .next) m s (x .branch .next) (y .branch .next)
       meets-of = record {
+        scoped = scoped-of (h .sender .lent);
         stands = h .sender .lent .stands;
         first = record { good = h .sender .lent .stands .good; defines = h .defines; shows = w .next; fit = subst (λ (z : List ℤ). Fit m z (x .branch .next)) (sym sender-locals) (h .sender-fit) };
         second = record { good = h .sender .lent .stands .good; defines = h .defines; shows = e .next; fit = subst (λ (z : List ℤ). Fit m z (y .branch .next)) (sym receiver-locals) (h .receiver-fit) };

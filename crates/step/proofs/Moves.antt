@@ -59,8 +59,8 @@ cut-both a n p = go (ltb most n) refl (ltb most p) refl
     go false e false f = (λ h. h, λ h. h)
 
 -- ---- the state after one replacement
-module _ {t : List ℕ} {root variables : ℕ} {zs : List ℤ} {i : ℕ} {ls : List ℤ} {r : Next} {m : Resolved.Model} {s : State} {ps : List Resolved.Part}
-    (h : Replaces t root variables zs i ls r m s ps) where
+module _ {t scopes : List ℕ} {root variables : ℕ} {zs : List ℤ} {i : ℕ} {ls : List ℤ} {r : Next} {m : Resolved.Model} {s : State} {ps : List Resolved.Part}
+    (h : Replaces t scopes root variables zs i ls r m s ps) where
   pub entering-length : length (entering m s i ls ps .processes) + 1 ≡ length (s .processes) + length (nextProcesses m ls ps)
   unfolding entering
   entering-length = replace-length i (nextProcesses m ls ps) (s .processes) (h .inside)
@@ -80,16 +80,16 @@ module _ {t : List ℕ} {root variables : ℕ} {zs : List ℤ} {i : ℕ} {ls : L
   }
 
 -- ---- a process by itself
-module _ {t : List ℕ} {root variables : ℕ} {zs : List ℤ} {i : ℕ} {ls : List ℤ} {next : Next} {offer : Offer} {m : Resolved.Model} {s : State} {ps : List Resolved.Part} {n : Change}
-    (h : Alone t root variables zs i ls next offer m s ps n) where
+module _ {t scopes : List ℕ} {root variables : ℕ} {zs : List ℤ} {i : ℕ} {ls : List ℤ} {next : Next} {offer : Offer} {m : Resolved.Model} {s : State} {ps : List Resolved.Part} {n : Change}
+    (h : Alone t scopes root variables zs i ls next offer m s ps n) where
   pub continued : Continued t ls next
   continued = record { model = m; parts = ps; shows = h .defined .shows; fit = h .defined .fit }
 
   pub changes : Changes zs offer m s n
   changes = record { stands = h .stands; shows = h .shows; good = h .good }
 
-  pub replaces : length (s .processes) + length (nextProcesses m ls ps) ≤ 257 → Replaces t root variables zs i ls next m s ps
-  replaces l = record { stands = h .stands; defined = h .defined; inside = h .inside; room = l }
+  pub replaces : length (s .processes) + length (nextProcesses m ls ps) ≤ 257 → Replaces t scopes root variables zs i ls next m s ps
+  replaces l = record { scoped = h .scoped; stands = h .stands; defined = h .defined; inside = h .inside; room = l }
 
   pub changes-then : (l : length (s .processes) + length (nextProcesses m ls ps) ≤ 257) (zs′ : List ℤ) → zs′ ≡ stateNumbers (entering m s i ls ps) → Changes zs′ offer m (entering m s i ls ps) n
   changes-then l zs′ e = record { stands = entering-stands (replaces l) zs′ e; shows = h .shows; good = h .good }
@@ -125,14 +125,15 @@ module _ {t : List ℕ} {root variables : ℕ} {zs : List ℤ} {i : ℕ} {ls : L
   room-after f = leb-true (length (pairsAfter n (s .pairs))) 256 f
 
 -- ---- two processes
-module _ {t : List ℕ} {root variables : ℕ} {zs : List ℤ} {i : ℕ} {ls : List ℤ} {next : Next} {k : ℕ} {us : List ℤ} {other : Next} {m : Resolved.Model} {s : State} {ps qs : List Resolved.Part}
-    (h : Both t root variables zs i ls next k us other m s ps qs) where
+module _ {t scopes : List ℕ} {root variables : ℕ} {zs : List ℤ} {i : ℕ} {ls : List ℤ} {next : Next} {k : ℕ} {us : List ℤ} {other : Next} {m : Resolved.Model} {s : State} {ps qs : List Resolved.Part}
+    (h : Both t scopes root variables zs i ls next k us other m s ps qs) where
   module _ (z : length (nextProcesses m ls ps) ≡ 0) where
-    pub first-goes : Replaces t root variables zs i ls next m s ps
-    first-goes = record { stands = h .stands; defined = h .first; inside = omega (arith, h .order, h .inside); room = omega (arith, h .stands .state .few-processes, z) }
+    pub first-goes : Replaces t scopes root variables zs i ls next m s ps
+    first-goes = record { scoped = h .scoped; stands = h .stands; defined = h .first; inside = omega (arith, h .order, h .inside); room = omega (arith, h .stands .state .few-processes, z) }
 
-    pub second-next : (zs′ : List ℤ) → zs′ ≡ stateNumbers (entering m s i ls ps) → Replaces t root variables zs′ (k - 1) us other m (entering m s i ls ps) qs
+    pub second-next : (zs′ : List ℤ) → zs′ ≡ stateNumbers (entering m s i ls ps) → Replaces t scopes root variables zs′ (k - 1) us other m (entering m s i ls ps) qs
     second-next zs′ e = record {
+      scoped = h .scoped;
       stands = entering-stands first-goes zs′ e;
       defined = h .second;
       inside = omega (arith, entering-length first-goes, h .order, h .inside, z);
@@ -147,11 +148,12 @@ module _ {t : List ℕ} {root variables : ℕ} {zs : List ℤ} {i : ℕ} {ls : L
         sym (ap (λ (xs : List Process). stateNumbers (record { processes = xs; pairs = s .pairs })) (e ∙ ap (λ (j : ℕ). replace j (nextProcesses m us qs) (replace i (nextProcesses m ls ps) (s .processes))) q))
 
   module _ (z : 1 ≤ length (nextProcesses m ls ps)) where
-    pub second-goes : Replaces t root variables zs k us other m s qs
-    second-goes = record { stands = h .stands; defined = h .second; inside = h .inside; room = omega (arith, h .room, z) }
+    pub second-goes : Replaces t scopes root variables zs k us other m s qs
+    second-goes = record { scoped = h .scoped; stands = h .stands; defined = h .second; inside = h .inside; room = omega (arith, h .room, z) }
 
-    pub first-next : (zs′ : List ℤ) → zs′ ≡ stateNumbers (entering m s k us qs) → Replaces t root variables zs′ i ls next m (entering m s k us qs) ps
+    pub first-next : (zs′ : List ℤ) → zs′ ≡ stateNumbers (entering m s k us qs) → Replaces t scopes root variables zs′ i ls next m (entering m s k us qs) ps
     first-next zs′ e = record {
+      scoped = h .scoped;
       stands = entering-stands second-goes zs′ e;
       defined = h .first;
       inside = omega (arith, entering-length second-goes, h .order, h .inside);
@@ -163,8 +165,8 @@ module _ {t : List ℕ} {root variables : ℕ} {zs : List ℤ} {i : ℕ} {ls : L
     second-both = sym (ap (λ (xs : List Process). stateNumbers (record { processes = xs; pairs = s .pairs })) (later-first i (nextProcesses m ls ps) k (nextProcesses m us qs) (s .processes) (h .order)))
 
 -- ---- a handshake
-module _ {t : List ℕ} {root variables : ℕ} {zs : List ℤ} {i : ℕ} {ls : List ℤ} {next : Next} {k : ℕ} {us : List ℤ} {other : Next} {m : Resolved.Model} {s : State} {ps qs : List Resolved.Part}
-    (h : Meets t root variables zs i ls next k us other m s ps qs) where
+module _ {t scopes : List ℕ} {root variables : ℕ} {zs : List ℤ} {i : ℕ} {ls : List ℤ} {next : Next} {k : ℕ} {us : List ℤ} {other : Next} {m : Resolved.Model} {s : State} {ps qs : List Resolved.Part}
+    (h : Meets t scopes root variables zs i ls next k us other m s ps qs) where
   pub first-continued : Continued t ls next
   first-continued = record { model = m; parts = ps; shows = h .first .shows; fit = h .first .fit }
 
@@ -201,11 +203,11 @@ module _ {t : List ℕ} {root variables : ℕ} {zs : List ℤ} {i : ℕ} {ls : L
   }
 
   module _ (l : length (s .processes) + length (nextProcesses m ls ps) + length (nextProcesses m us qs) ≤ 258) where
-    pub in-order : i < k → Both t root variables zs i ls next k us other m s ps qs
-    in-order o = record { stands = h .stands; first = h .first; second = h .second; order = o; inside = h .second-inside; room = l }
+    pub in-order : i < k → Both t scopes root variables zs i ls next k us other m s ps qs
+    in-order o = record { scoped = h .scoped; stands = h .stands; first = h .first; second = h .second; order = o; inside = h .second-inside; room = l }
 
-    pub turned : k ≤ i → Both t root variables zs k us other i ls next m s qs ps
-    turned o = record { stands = h .stands; first = h .second; second = h .first; order = omega (arith, o, h .apart); inside = h .first-inside; room = omega (arith, l) }
+    pub turned : k ≤ i → Both t scopes root variables zs k us other i ls next m s qs ps
+    turned o = record { scoped = h .scoped; stands = h .stands; first = h .second; second = h .first; order = omega (arith, o, h .apart); inside = h .first-inside; room = omega (arith, l) }
 
   pub turned-same : stateNumbers (bothEntering m s k us qs i ls ps) ≡ stateNumbers (bothEntering m s i ls ps k us qs)
   unfolding bothEntering

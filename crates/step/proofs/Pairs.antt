@@ -16,7 +16,7 @@ use Rattle.rules.specs.Order.{Ascending}
 use Rattle.rules.specs.Pairs.{Before, insert, pairsAfter}
 use Rattle.rules.proofs.Launched.{launch-lit, launch-counts}
 use Rattle.rules.proofs.Gather.{one-ascends}
-use Rattle.machine.specs.State.{State, GoodPair, pairNumbers, stateNumbers}
+use Rattle.machine.specs.State.{State, GoodPair, pairNumbers, stateNumbers, pairWidth}
 use Rattle.machine.proofs.Full.{no-longer, overfull}
 use Rattle.state.specs.Fits.{scopesOf, FitsPair}
 use Rattle.state.specs.Read.{pairCount}
@@ -24,7 +24,7 @@ use Rattle.state.specs.Test.{isLit, rows, pairPart}
 use Rattle.state.specs.Change.{pairRows, pairLaunched, pairKilled}
 use Rattle.state.proofs.Image.{pair-rows}
 use Rattle.state.proofs.Entries.{pair-wide}
-use Rattle.state.proofs.Over.{good-fits}
+use Rattle.state.proofs.Over.{pair-fits}
 use Rattle.state.proofs.Lit.{lit-in, unlit-in, launch-numbers, kill-numbers}
 use Rattle.eval.specs.declared.offer.Offer.{Offer}
 use Rattle.eval.specs.Shown.{ShowsPair}
@@ -32,7 +32,7 @@ use Rattle.step.specs.Enter.{ShowsChange, launches, kills, neither, Good
 use Rattle.step.proofs.Tables.{few, fits, pairs-are}
 
 -- five numbers written over five
-pub five : (l : List ℤ) (a b c d e : ℤ) → length l ≡ 5 → set (set (set (set (set l 0 a) 1 b) 2 c) 3 d) 4 e ≡ a ∷ b ∷ c ∷ d ∷ e ∷ []
+pub five : (l : List ℤ) (a b c d e : ℤ) → length l ≡ pairWidth → set (set (set (set (set l 0 a) 1 b) 2 c) 3 d) 4 e ≡ a ∷ b ∷ c ∷ d ∷ e ∷ []
 five [] a b c d e h = absurd (omega arith)
 five (v ∷ []) a b c d e h = absurd (omega arith)
 five (v ∷ w ∷ []) a b c d e h = absurd (omega arith)
@@ -44,17 +44,7 @@ five (v ∷ w ∷ x ∷ y ∷ z ∷ u ∷ us) a b c d e h = absurd (omega arith)
 not-full : (n : ℕ) → n ≤ 256 → false ≡ not (leb n 256)
 not-full n h = rw (le-leb n 256 h)
 
-pair-fits : (m : Resolved.Model) (x : offers.Pair) → GoodPair m x → FitsPair (m .channels) x
-unfolding Every
-pair-fits m x g = good-fits m (record { processes = []; pairs = x ∷ [] }) (record {
-  few-processes = omega arith;
-  processes = tt;
-  few-pairs = omega arith;
-  pairs = (g, tt);
-  ascending = one-ascends _ x;
-}) .pairs .0
-
-pub pair-five : (m : Resolved.Model) (x : offers.Pair) → GoodPair m x → length (pairNumbers x) ≡ 5
+pub pair-five : (m : Resolved.Model) (x : offers.Pair) → GoodPair m x → length (pairNumbers x) ≡ pairWidth
 pair-five m x g = pair-wide (m .channels) x (pair-fits m x g)
 
 -- which pair an offer of a kind carries
@@ -115,15 +105,15 @@ module _ (zs : List ℤ) (r : Offer) where
         few-after : length (pairsAfter n (s .pairs)) ≤ 256
         few-after = omega (arith, full)
 
-    rows-are : (k : ℕ) → k ≡ pairCount zs → rows 5 k (pairPart zs) ≡ map pairNumbers (s .pairs)
+    rows-are : (k : ℕ) → k ≡ pairCount zs → rows pairWidth k (pairPart zs) ≡ map pairNumbers (s .pairs)
     rows-are k e =
-        ap (λ (j : ℕ). rows 5 j (pairPart zs)) (e ∙ pairs-are (c .stands))
-        ∙ (ap (λ (l : List ℤ). rows 5 (length (s .pairs)) (pairPart l)) (c .stands .numbers) ∙ pair-rows (scopesOf m) (few (c .stands)) (m .channels) s (fits (c .stands)))
+        ap (λ (j : ℕ). rows pairWidth j (pairPart zs)) (e ∙ pairs-are (c .stands))
+        ∙ (ap (λ (l : List ℤ). rows pairWidth (length (s .pairs)) (pairPart l)) (c .stands .numbers) ∙ pair-rows (scopesOf m) (few (c .stands)) (m .channels) s (fits (c .stands)))
 
-    pub all-taken : (k : ℕ) → k ≡ pairCount zs → 256 ≤ k → (row : List ℤ) (x : offers.Pair) → n ≡ launched x → row ≡ pairNumbers x → (b : Bool) → b ≡ isLit row (rows 5 k (pairPart zs))
+    pub all-taken : (k : ℕ) → k ≡ pairCount zs → 256 ≤ k → (row : List ℤ) (x : offers.Pair) → n ≡ launched x → row ≡ pairNumbers x → (b : Bool) → b ≡ isLit row (rows pairWidth k (pairPart zs))
         → not b ≡ not (leb (length (pairsAfter n (s .pairs))) 256)
     unfolding pairsAfter
-    all-taken k e l row x q w b h = rw q (go b (h ∙ (ap (λ (u : List ℤ). isLit u (rows 5 k (pairPart zs))) w ∙ ap (isLit (pairNumbers x)) (rows-are k e))))
+    all-taken k e l row x q w b h = rw q (go b (h ∙ (ap (λ (u : List ℤ). isLit u (rows pairWidth k (pairPart zs))) w ∙ ap (isLit (pairNumbers x)) (rows-are k e))))
       where
         go : (b : Bool) → b ≡ isLit (pairNumbers x) (map pairNumbers (s .pairs)) → not b ≡ not (leb (length (insert x (s .pairs))) 256)
         go true f = let i = launch-lit x (s .pairs) ascending (lit-in x (s .pairs) (sym f)) in rw i (not-full _ few-pairs)

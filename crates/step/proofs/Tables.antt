@@ -21,6 +21,8 @@ use Rattle.machine.specs.State.{State, GoodProcess, GoodPair, stateLength, pair
 use Rattle.machine.proofs.Branches.{nth-get, get-nth, nth-below}
 use Rattle.machine.proofs.Everys.{every-nth}
 use Rattle.machine.proofs.Continues.{at-good}
+use Rattle.model.specs.Scope.{localsIn}
+use Rattle.model.proofs.Scope.{locals-in}
 use Rattle.state.specs.Fits.{scopesOf, Fits, FitsPair, FewLocals}
 use Rattle.state.specs.Read.{Passed, processCount, pairCount, sumAt, localsAt, pairRow}
 use Rattle.state.specs.Test.{isBelow}
@@ -32,17 +34,17 @@ use Rattle.eval.specs.Held.{Held}
 use Rattle.machine.specs.Evaluate.{evalBranch}
 use Rattle.eval.specs.declared.next.Next.{Next}
 use Rattle.eval.specs.declared.offer.Offer.{Offer}
-use Rattle.eval.specs.Next.{ShowsNext}
+use Rattle.eval.specs.Next.{ShowsNext, Scoped}
 use Rattle.eval.specs.Shown.{ShowsOffer}
 use Rattle.step.specs.declared.Bound.{Bound}
-use Rattle.step.specs.Enter.{Stands, Acts, Chain, Enters, valuesOf, localsOf}
+use Rattle.step.specs.Enter.{Stands, Lent, Acts, Chain, Enters, valuesOf, localsOf}
 use Rattle.step.proofs.Chain.{RootOf}
 use Rattle.step.proofs.Offers.{row-values, values-bound}
 
 -- ---- a state's numbers
 module _ {zs : List ℤ} {m : Resolved.Model} {s : State} (h : Stands zs m s) where
   pub fits : Fits (scopesOf m) (m .channels) s
-  fits = good-fits m s (h .state)
+  fits = good-fits m s (h .good) (h .state)
 
   pub few : FewLocals (scopesOf m)
   few = few-scopes m (h .good)
@@ -58,6 +60,10 @@ module _ {zs : List ℤ} {m : Resolved.Model} {s : State} (h : Stands zs m s) wh
 
   pub pairs-are : pairCount zs ≡ length (s .pairs)
   pairs-are = ap pairCount (h .numbers) ∙ count-numbers (scopesOf m) few (m .channels) s fits .1
+
+-- 02, note 6: what is known of the model's sums
+pub scoped-of : {t roots scopes : List ℕ} {root variables : ℕ} {zs : List ℤ} {m : Resolved.Model} {s : State} → Lent t roots scopes root variables zs m s → Scoped scopes m
+scoped-of h = record { fit = omega (arith, h .represents .sums-are, h .represents .scopes-fit); are = h .represents .scope }
 
 -- ---- the branch that acts
 module _ {t roots scopes : List ℕ} {zs : List ℤ} {i j : ℕ} {m : Resolved.Model} {s : State} {p : Process} {b : Resolved.Branch} {g : offers.Guard} (h : Acts t roots scopes zs i j m s p b g) where
@@ -91,8 +97,8 @@ module _ {t roots scopes : List ℕ} {zs : List ℤ} {i j : ℕ} {m : Resolved.M
   pub in-scopes : p .sum < length scopes
   in-scopes = omega (arith, below, h .lent .represents .sums-are, h .lent .represents .scopes-fit)
 
-  pub own-is : getD scopes (p .sum) 0 ≡ length (p .locals)
-  own-is = h .lent .represents .scope (p .sum) (process .sum .sum) (process .sum .exists) ∙ process .sum .scope
+  pub own-is : localsIn (getD scopes (p .sum) 0) ≡ length (p .locals)
+  own-is = ap localsIn (h .lent .represents .scope (p .sum) (process .sum .sum) (process .sum .exists)) ∙ locals-in (process .sum .sum) (sum-good .few) ∙ process .sum .scope
 
   branches-at : Settled.Branches t (process .sum .sum .branches) (getD roots (p .sum) 0)
   branches-at = h .lent .represents .branches (p .sum) (process .sum .sum) (process .sum .exists)

@@ -20,12 +20,12 @@ use Rattle.tables.specs.Settled as Settled
 use Rattle.tables.specs.Represents.{Represents}
 use Rattle.machine.specs.Evaluate.{evalBranch}
 use Rattle.machine.specs.Offer.{Process, nextProcesses}
-use Rattle.machine.specs.State.{State, GoodPair, GoodState, stateNumbers, pairLimit, processWidth}
+use Rattle.machine.specs.State.{State, GoodPair, GoodState, stateNumbers, pairLimit, processRoom}
 use Rattle.machine.specs.Machine.{entryArguments, entryState}
 use Rattle.machine.specs.Questions.{BranchAt}
 use Rattle.eval.specs.declared.next.Next.{Next}
 use Rattle.eval.specs.declared.offer.Offer.{Offer}
-use Rattle.eval.specs.Next.{Defines, ShowsNext}
+use Rattle.eval.specs.Next.{Defines, ShowsNext, Scoped}
 use Rattle.eval.specs.Shown.{ShowsPair, ShowsOffer}
 use Rattle.step.specs.declared.Bound.{Bound}
 use Rattle.step.specs.declared.Entered.{Entered}
@@ -96,7 +96,7 @@ pub record SomeOffer (r : Offer) : Type 0 where
 
 -- 01, State: the numbers of as many processes as a state holds
 abbrev pub freshLength : ℕ
-freshLength = processLimit * processWidth
+freshLength = processRoom
 
 -- 01, Step: locals in range, and parts that are well formed over as many
 pub record Fit (m : Resolved.Model) (ls : List ℤ) (ps : List Resolved.Part) : Type 0 where
@@ -122,7 +122,8 @@ unfoldable pub entering : Resolved.Model → State → ℕ → List ℤ → List
 entering m s i ls ps = record { processes = replace i (nextProcesses m ls ps) (s .processes); pairs = s .pairs }
 
 -- the process at place i can be replaced
-pub record Replaces (t : List ℕ) (root variables : ℕ) (zs : List ℤ) (i : ℕ) (ls : List ℤ) (r : Next) (m : Resolved.Model) (s : State) (ps : List Resolved.Part) : Type 0 where
+pub record Replaces (t scopes : List ℕ) (root variables : ℕ) (zs : List ℤ) (i : ℕ) (ls : List ℤ) (r : Next) (m : Resolved.Model) (s : State) (ps : List Resolved.Part) : Type 0 where
+  pub scoped : Scoped scopes m
   pub stands : Stands zs m s
   pub defined : Defined t root variables m ls ps r
   pub inside : i < length (s .processes)
@@ -185,7 +186,8 @@ pub record Answers (given : Bool) (s s′ : State) (r : Taken) (zs : List ℤ) :
   pub numbers : zs ≡ stateNumbers (stateOf r s s′)
 
 -- 01, Step: a process that acts by itself, with its continuation and its change of the pairs
-pub record Alone (t : List ℕ) (root variables : ℕ) (zs : List ℤ) (i : ℕ) (ls : List ℤ) (next : Next) (offer : Offer) (m : Resolved.Model) (s : State) (ps : List Resolved.Part) (n : Change) : Type 0 where
+pub record Alone (t scopes : List ℕ) (root variables : ℕ) (zs : List ℤ) (i : ℕ) (ls : List ℤ) (next : Next) (offer : Offer) (m : Resolved.Model) (s : State) (ps : List Resolved.Part) (n : Change) : Type 0 where
+  pub scoped : Scoped scopes m
   pub stands : Stands zs m s
   pub defined : Defined t root variables m ls ps next
   pub inside : i < length (s .processes)
@@ -197,7 +199,8 @@ unfoldable pub bothEntering : Resolved.Model → State → ℕ → List ℤ → 
 bothEntering m s i ls ps k us qs = record { processes = replaceBoth i (nextProcesses m ls ps) k (nextProcesses m us qs) (s .processes); pairs = s .pairs }
 
 -- two processes, the first at i, for which there is room
-pub record Both (t : List ℕ) (root variables : ℕ) (zs : List ℤ) (i : ℕ) (ls : List ℤ) (next : Next) (k : ℕ) (us : List ℤ) (other : Next) (m : Resolved.Model) (s : State) (ps qs : List Resolved.Part) : Type 0 where
+pub record Both (t scopes : List ℕ) (root variables : ℕ) (zs : List ℤ) (i : ℕ) (ls : List ℤ) (next : Next) (k : ℕ) (us : List ℤ) (other : Next) (m : Resolved.Model) (s : State) (ps qs : List Resolved.Part) : Type 0 where
+  pub scoped : Scoped scopes m
   pub stands : Stands zs m s
   pub first : Defined t root variables m ls ps next
   pub second : Defined t root variables m us qs other
@@ -206,7 +209,8 @@ pub record Both (t : List ℕ) (root variables : ℕ) (zs : List ℤ) (i : ℕ) 
   pub room : length (s .processes) + length (nextProcesses m ls ps) + length (nextProcesses m us qs) ≤ processLimit + 2
 
 -- two processes at different places
-pub record Meets (t : List ℕ) (root variables : ℕ) (zs : List ℤ) (i : ℕ) (ls : List ℤ) (next : Next) (k : ℕ) (us : List ℤ) (other : Next) (m : Resolved.Model) (s : State) (ps qs : List Resolved.Part) : Type 0 where
+pub record Meets (t scopes : List ℕ) (root variables : ℕ) (zs : List ℤ) (i : ℕ) (ls : List ℤ) (next : Next) (k : ℕ) (us : List ℤ) (other : Next) (m : Resolved.Model) (s : State) (ps qs : List Resolved.Part) : Type 0 where
+  pub scoped : Scoped scopes m
   pub stands : Stands zs m s
   pub first : Defined t root variables m ls ps next
   pub second : Defined t root variables m us qs other

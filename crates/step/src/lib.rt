@@ -170,12 +170,6 @@ fn put_locals(own: &[i64], bound: Bound, locals: &mut [i64]) -> usize
     n + bound.count
 }
 
-fn wide(x: u8) -> usize
-    ensures { λ r. ⌜ r ≡ x ⌝ }
-{
-    x as usize
-}
-
 fn wide_root(x: u16) -> usize
     ensures { λ r. ⌜ r ≡ x ⌝ }
 {
@@ -192,7 +186,7 @@ pub struct Found {
 fn find_branch(
     nodes: &[u64],
     roots: &[u16],
-    scopes: &[u8],
+    scopes: &[u16],
     state: &[i64],
     i: usize,
     j: usize,
@@ -202,7 +196,7 @@ fn find_branch(
 {
     let sum = state::sum_at(state, i);
     let first = wide_root(roots[sum]);
-    let own = wide(scopes[sum]);
+    let own = state::locals_in(scopes[sum]);
     let root = branch_root(nodes, first, j);
     Found {
         own: own,
@@ -214,7 +208,7 @@ fn find_branch(
 fn enter(
     nodes: &[u64],
     roots: &[u16],
-    scopes: &[u8],
+    scopes: &[u16],
     state: &[i64],
     i: usize,
     j: usize,
@@ -270,13 +264,14 @@ fn replace_process(
     i: usize,
     locals: &[i64],
     next: Next,
+    scopes: &[u16],
 )
-    requires { ⌜ ((m : Resolved.Model) × (s : State) × (ps : List Resolved.Part) × Enter.Replaces (now nodes) root variables (now state) i (now locals) next m s ps) × (length (now fresh) ≡ Enter.freshLength) ⌝ }
-    ensures { λ _. ⌜ ((m : Resolved.Model) (s : State) (ps : List Resolved.Part) → Enter.Replaces (now (nodes .entry)) root variables (now (state .entry)) i (now (locals .entry)) next m s ps → now (state .exit) ≡ stateNumbers (Enter.entering m s i (now (locals .entry)) ps)) ⌝ }
+    requires { ⌜ ((m : Resolved.Model) × (s : State) × (ps : List Resolved.Part) × Enter.Replaces (now nodes) (now scopes) root variables (now state) i (now locals) next m s ps) × (length (now fresh) ≡ Enter.freshLength) ⌝ }
+    ensures { λ _. ⌜ ((m : Resolved.Model) (s : State) (ps : List Resolved.Part) → Enter.Replaces (now (nodes .entry)) (now (scopes .entry)) root variables (now (state .entry)) i (now (locals .entry)) next m s ps → now (state .exit) ≡ stateNumbers (Enter.entering m s i (now (locals .entry)) ps)) ⌝ }
 {
     match next {
         Next::At(k) => {
-            let n = eval::next::put_processes(nodes, root, variables, locals, k, fresh, 0);
+            let n = eval::next::put_processes(nodes, root, variables, locals, k, fresh, 0, scopes);
             state::splice(state, i, &fresh[..], n);
         }
         Next::Nothing => {
@@ -350,9 +345,10 @@ fn move_alone(
     locals: &[i64],
     next: Next,
     offer: Offer,
+    scopes: &[u16],
 ) -> Taken
-    requires { ⌜ ((m : Resolved.Model) × (s : State) × (ps : List Resolved.Part) × (n : Change) × Enter.Alone (now nodes) root variables (now state) i (now locals) next offer m s ps n) × (length (now fresh) ≡ Enter.freshLength) ⌝ }
-    ensures { λ r. ⌜ ((m : Resolved.Model) (s : State) (ps : List Resolved.Part) (n : Change) → Enter.Alone (now (nodes .entry)) root variables (now (state .entry)) i (now (locals .entry)) next offer m s ps n → Enter.Answers (argumentsGiven (now (locals .entry)) ps) s (Enter.changed (Enter.entering m s i (now (locals .entry)) ps) n) r (now (state .exit))) ⌝ }
+    requires { ⌜ ((m : Resolved.Model) × (s : State) × (ps : List Resolved.Part) × (n : Change) × Enter.Alone (now nodes) (now scopes) root variables (now state) i (now locals) next offer m s ps n) × (length (now fresh) ≡ Enter.freshLength) ⌝ }
+    ensures { λ r. ⌜ ((m : Resolved.Model) (s : State) (ps : List Resolved.Part) (n : Change) → Enter.Alone (now (nodes .entry)) (now (scopes .entry)) root variables (now (state .entry)) i (now (locals .entry)) next offer m s ps n → Enter.Answers (argumentsGiven (now (locals .entry)) ps) s (Enter.changed (Enter.entering m s i (now (locals .entry)) ps) n) r (now (state .exit))) ⌝ }
 {
     if !arguments_given(nodes, locals, next) {
         return Taken::Refused(Refusal::ARGUMENT);
@@ -365,7 +361,17 @@ fn move_alone(
     if is_overfull(&state[..], offer) {
         return Taken::Refused(Refusal::PAIRS);
     }
-    replace_process(nodes, root, variables, state, fresh, i, locals, next);
+    replace_process(
+        nodes,
+        root,
+        variables,
+        state,
+        fresh,
+        i,
+        locals,
+        next,
+        scopes,
+    );
     change_pairs(state, offer);
     Taken::Accepted
 }
@@ -383,17 +389,58 @@ fn replace_both(
     k: usize,
     others: &[i64],
     other: Next,
+    scopes: &[u16],
 )
-    requires { ⌜ ((m : Resolved.Model) × (s : State) × (ps : List Resolved.Part) × (qs : List Resolved.Part) × Enter.Both (now nodes) root variables (now state) i (now locals) next k (now others) other m s ps qs) × (length (now fresh) ≡ Enter.freshLength) ⌝ }
-    ensures { λ _. ⌜ ((m : Resolved.Model) (s : State) (ps qs : List Resolved.Part) → Enter.Both (now (nodes .entry)) root variables (now (state .entry)) i (now (locals .entry)) next k (now (others .entry)) other m s ps qs → now (state .exit) ≡ stateNumbers (Enter.bothEntering m s i (now (locals .entry)) ps k (now (others .entry)) qs)) ⌝ }
+    requires { ⌜ ((m : Resolved.Model) × (s : State) × (ps : List Resolved.Part) × (qs : List Resolved.Part) × Enter.Both (now nodes) (now scopes) root variables (now state) i (now locals) next k (now others) other m s ps qs) × (length (now fresh) ≡ Enter.freshLength) ⌝ }
+    ensures { λ _. ⌜ ((m : Resolved.Model) (s : State) (ps qs : List Resolved.Part) → Enter.Both (now (nodes .entry)) (now (scopes .entry)) root variables (now (state .entry)) i (now (locals .entry)) next k (now (others .entry)) other m s ps qs → now (state .exit) ≡ stateNumbers (Enter.bothEntering m s i (now (locals .entry)) ps k (now (others .entry)) qs)) ⌝ }
 {
     if count_next(nodes, root, variables, next) == 0 {
-        replace_process(nodes, root, variables, state, fresh, i, locals, next);
-        replace_process(nodes, root, variables, state, fresh, k - 1, others, other);
+        replace_process(
+            nodes,
+            root,
+            variables,
+            state,
+            fresh,
+            i,
+            locals,
+            next,
+            scopes,
+        );
+        replace_process(
+            nodes,
+            root,
+            variables,
+            state,
+            fresh,
+            k - 1,
+            others,
+            other,
+            scopes,
+        );
         return;
     }
-    replace_process(nodes, root, variables, state, fresh, k, others, other);
-    replace_process(nodes, root, variables, state, fresh, i, locals, next);
+    replace_process(
+        nodes,
+        root,
+        variables,
+        state,
+        fresh,
+        k,
+        others,
+        other,
+        scopes,
+    );
+    replace_process(
+        nodes,
+        root,
+        variables,
+        state,
+        fresh,
+        i,
+        locals,
+        next,
+        scopes,
+    );
 }
 
 // 17 and 18 of a handshake, then its move.
@@ -409,9 +456,10 @@ fn move_both(
     k: usize,
     others: &[i64],
     other: Next,
+    scopes: &[u16],
 ) -> Taken
-    requires { ⌜ ((m : Resolved.Model) × (s : State) × (ps : List Resolved.Part) × (qs : List Resolved.Part) × Enter.Meets (now nodes) root variables (now state) i (now locals) next k (now others) other m s ps qs) × (length (now fresh) ≡ Enter.freshLength) ⌝ }
-    ensures { λ r. ⌜ ((m : Resolved.Model) (s : State) (ps qs : List Resolved.Part) → Enter.Meets (now (nodes .entry)) root variables (now (state .entry)) i (now (locals .entry)) next k (now (others .entry)) other m s ps qs → Enter.Answers (argumentsGiven (now (locals .entry)) ps && argumentsGiven (now (others .entry)) qs) s (Enter.bothEntering m s i (now (locals .entry)) ps k (now (others .entry)) qs) r (now (state .exit))) ⌝ }
+    requires { ⌜ ((m : Resolved.Model) × (s : State) × (ps : List Resolved.Part) × (qs : List Resolved.Part) × Enter.Meets (now nodes) (now scopes) root variables (now state) i (now locals) next k (now others) other m s ps qs) × (length (now fresh) ≡ Enter.freshLength) ⌝ }
+    ensures { λ r. ⌜ ((m : Resolved.Model) (s : State) (ps qs : List Resolved.Part) → Enter.Meets (now (nodes .entry)) (now (scopes .entry)) root variables (now (state .entry)) i (now (locals .entry)) next k (now (others .entry)) other m s ps qs → Enter.Answers (argumentsGiven (now (locals .entry)) ps && argumentsGiven (now (others .entry)) qs) s (Enter.bothEntering m s i (now (locals .entry)) ps k (now (others .entry)) qs) r (now (state .exit))) ⌝ }
 {
     if !arguments_given(nodes, locals, next) {
         return Taken::Refused(Refusal::ARGUMENT);
@@ -438,6 +486,7 @@ fn move_both(
             k,
             others,
             other,
+            scopes,
         );
         return Taken::Accepted;
     }
@@ -453,6 +502,7 @@ fn move_both(
         i,
         locals,
         next,
+        scopes,
     );
     Taken::Accepted
 }
@@ -461,7 +511,7 @@ fn move_both(
 fn take_alone(
     nodes: &[u64],
     roots: &[u16],
-    scopes: &[u8],
+    scopes: &[u16],
     root: usize,
     variables: usize,
     state: &mut [i64],
@@ -498,6 +548,7 @@ fn take_alone(
         &locals[..count],
         next,
         offer,
+        scopes,
     )
 }
 
@@ -505,7 +556,7 @@ fn take_alone(
 fn take_handshake(
     nodes: &[u64],
     roots: &[u16],
-    scopes: &[u8],
+    scopes: &[u16],
     root: usize,
     variables: usize,
     state: &mut [i64],
@@ -557,6 +608,7 @@ fn take_handshake(
         partner,
         &others[..also],
         other,
+        scopes,
     )
 }
 
@@ -571,7 +623,7 @@ impl EntryKind {
 pub fn take_entry(
     nodes: &[u64],
     roots: &[u16],
-    scopes: &[u8],
+    scopes: &[u16],
     root: usize,
     variables: usize,
     state: &mut [i64],

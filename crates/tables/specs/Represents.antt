@@ -8,6 +8,7 @@ use lib.ListN.{length, getD, getElem?}
 use Rattle.tree.specs.Node as node
 use Rattle.tree.specs.Node.{tokenOf, leftOf, thirdOf}
 use Rattle.model.specs.Resolved
+use Rattle.model.specs.Scope.{scopeOf}
 use Rattle.tables.specs.Settled.{kindAt, Number, Index, Pair, Branches}
 
 module _ (t : List ℕ) where
@@ -56,14 +57,14 @@ module _ (t : List ℕ) where
   Starts (s ∷ []) k = Start s k
   Starts (s ∷ r ∷ ss) k = Pair t node.system (Start s) (Starts (r ∷ ss)) k
 
--- the settled nodes t, and for each sum by its number the root of its branches and how many locals it has in scope. The node of definition d
+-- the settled nodes t, and for each sum by its number the root of its branches and what is known of it (model: Scope). The node of definition d
 -- stands left of node root - variables - d; the system line stands below the definitions.
 pub record Represents (t roots scopes : List ℕ) (root variables definitions sums channels : ℕ) (m : Resolved.Model) : Type 0 where
   pub sums-are : sums ≡ length (m .sums)
   pub roots-fit : sums ≤ length roots
   pub scopes-fit : sums ≤ length scopes
   pub branches : (n : ℕ) (s : Resolved.Sum) → getElem? (m .sums) n ≡ some s → Branches t (s .branches) (getD roots n 0)
-  pub scope : (n : ℕ) (s : Resolved.Sum) → getElem? (m .sums) n ≡ some s → getD scopes n 0 ≡ s .locals
+  pub scope : (n : ℕ) (s : Resolved.Sum) → getElem? (m .sums) n ≡ some s → getD scopes n 0 ≡ scopeOf s
   pub definitions-are : definitions ≡ length (m .definitions)
   pub definition : (d : ℕ) (e : Resolved.Defined) → getElem? (m .definitions) d ≡ some e → Definition t e (leftOf (getD t (root - variables - d) 0))
   pub channels-are : channels ≡ m .channels

@@ -3,7 +3,7 @@
 //!     bench [--rounds N]         how many rounds (10 if not given)
 //!
 //! In each round the engines take turns: each opens the model and lists it with no process, again
-//! and again, then runs it from its start, each state listed and then stepped. Rounds make the
+//! and again, then runs it from its start, each state listed, reported and then stepped. Rounds make the
 //! same calls, so each call counts with its least time over all rounds: other work on the machine
 //! only adds. What is printed is the mean of these over the run. Buffers are lent as the call
 //! before left them; none is cleared in between. Without the feature `engine` only the second
@@ -13,7 +13,7 @@ mod models;
 
 use models::Model;
 use second::generate::{Engine, Random};
-use second::{LISTING, MODEL, STATE};
+use second::{LISTING, MODEL, REPORT, STATE};
 use std::time::{Duration, Instant};
 
 /// The draws of every run come from this seed.
@@ -30,7 +30,8 @@ const OPEN: usize = 0;
 const READ: usize = 1;
 const LIST: usize = 2;
 const STEP: usize = 3;
-const PARTS: [&str; 4] = ["open", "read", "list", "step"];
+const SUBTOTALS: usize = 4;
+const PARTS: [&str; 5] = ["open", "read", "list", "step", "report"];
 
 #[cfg(feature = "engine")]
 const ENGINES: [(&str, Engine); 2] = [("engine", compare::linked::ENGINE), ("second", second::generate::SECOND)];
@@ -109,6 +110,7 @@ struct Buffers {
     model: Vec<u8>,
     state: Vec<i64>,
     listing: Vec<u64>,
+    report: Vec<u64>,
 }
 
 impl Times {
@@ -122,7 +124,12 @@ impl Times {
     }
 
     fn round(&mut self, engine: &Engine, model: &Model) {
-        let mut buffers = Buffers { model: vec![0; MODEL], state: vec![0; STATE], listing: vec![0; LISTING] };
+        let mut buffers = Buffers {
+            model: vec![0; MODEL],
+            state: vec![0; STATE],
+            listing: vec![0; LISTING],
+            report: vec![0; REPORT],
+        };
         let begun = Instant::now();
         while begun.elapsed() < REPEATING {
             let start = Instant::now();
@@ -141,7 +148,7 @@ impl Times {
         self.run(engine, &mut buffers);
     }
 
-    /// Runs the model from its start: each state is listed, then a step is taken.
+    /// Runs the model from its start: each state is listed and reported, then a step is taken.
     fn run(&mut self, engine: &Engine, buffers: &mut Buffers) {
         let mut random = Random::new(SEED);
         for step in 0..STEPS {
@@ -149,6 +156,10 @@ impl Times {
             let listed = (engine.list)(&buffers.model, &buffers.state, &mut buffers.listing);
             self.note(LIST, step, start);
             self.entries = self.entries.max(listed.count);
+            let start = Instant::now();
+            let reported = (engine.report)(&buffers.model, &buffers.state, &mut buffers.report);
+            self.note(SUBTOTALS, step, start);
+            assert_eq!(reported, listed);
             if listed.number != 0 || listed.total == 0 {
                 return;
             }

@@ -2,7 +2,7 @@
 
 use crate::met::Met;
 use second::generate::{Buffers, Call, Engine};
-use second::{Answer, LISTING, MODEL, STATE};
+use second::{Answer, LISTING, MODEL, REPORT, STATE};
 use std::fmt;
 
 /// What a difference is in.
@@ -12,6 +12,7 @@ pub enum Place {
     Model,
     State,
     Listing,
+    Report,
 }
 
 /// The first difference between two engines on a list of calls.
@@ -40,7 +41,7 @@ pub fn run(tried: &Engine, oracle: &Engine, calls: &[Call], met: &mut Met) -> Re
     for (number, call) in calls.iter().enumerate() {
         let call = right.exact(call);
         made.push(call.clone());
-        if is_change(&call) {
+        if call.lengths().is_none() {
             left.make(tried, &call);
             right.make(oracle, &call);
             continue;
@@ -59,11 +60,6 @@ pub fn run(tried: &Engine, oracle: &Engine, calls: &[Call], met: &mut Met) -> Re
     Ok(())
 }
 
-/// Is it a change of the buffers and no call?
-fn is_change(call: &Call) -> bool {
-    !matches!(call, Call::Open { .. } | Call::List { .. } | Call::Step { .. })
-}
-
 /// The first difference between two answers and the buffers left with them.
 fn differs(first: &Answer, left: &Buffers, second: &Answer, right: &Buffers) -> Option<(Place, String)> {
     if first != second {
@@ -71,6 +67,7 @@ fn differs(first: &Answer, left: &Buffers, second: &Answer, right: &Buffers) -> 
     }
     part(Place::State, "state", &left.state, &right.state)
         .or_else(|| part(Place::Listing, "listing", &left.listing, &right.listing))
+        .or_else(|| part(Place::Report, "report", &left.report, &right.report))
         .or_else(|| part(Place::Model, "model", &left.model, &right.model))
 }
 
@@ -83,7 +80,7 @@ fn part<T: PartialEq + fmt::Display>(place: Place, name: &str, left: &[T], right
     Some((place, format!("number {at} of the {name} is {} and not {}", left[at], right[at])))
 }
 
-/// What 01 says of the buffers of a call by its number alone: what must be as lent, what zero.
+/// What 01 and 02 say of the buffers of a call by its number alone: what must be as lent, what zero.
 fn kept(call: &Call, lent: &Buffers, answer: &Answer, after: &Buffers) -> Option<(Place, String)> {
     let number = answer.number;
     let opening = matches!(call, Call::Open { .. });
@@ -91,24 +88,44 @@ fn kept(call: &Call, lent: &Buffers, answer: &Answer, after: &Buffers) -> Option
     let closes = opening && (2..=10).contains(&number);
     let model_as_lent = !opening || number == 1;
     let state_as_lent = !moves && (!opening || number == 1);
-    let listing_as_lent = opening || number == 1 || number == 11;
     let faults = [
         (model_as_lent && after.model != lent.model, Place::Model, "changes the model"),
         (state_as_lent && after.state != lent.state, Place::State, "changes the state"),
-        (listing_as_lent && after.listing != lent.listing, Place::Listing, "changes the listing"),
         (closes && !zero(&after.model[..MODEL]), Place::Model, "leaves a part of the model"),
         (closes && !zero(&after.state[..STATE]), Place::State, "leaves a part of the state"),
-        (
-            (12..=14).contains(&number) && !zero(&after.listing[..LISTING]),
-            Place::Listing,
-            "leaves a part of the listing",
-        ),
         (after.model[MODEL..] != lent.model[MODEL..], Place::Model, "writes past the model"),
         (after.state[STATE..] != lent.state[STATE..], Place::State, "writes past the state"),
-        (after.listing[LISTING..] != lent.listing[LISTING..], Place::Listing, "writes past the listing"),
     ];
-    let (_, place, what) = faults.into_iter().find(|(fault, ..)| *fault)?;
+    let listing = (&lent.listing[..], &after.listing[..], LISTING);
+    let report = (&lent.report[..], &after.report[..], REPORT);
+    let (place, what) = faults
+        .into_iter()
+        .find(|(fault, ..)| *fault)
+        .map(|(_, place, what)| (place, what))
+        .or_else(|| shown(matches!(call, Call::List { .. } | Call::Step { .. }), number, listing, Place::Listing))
+        .or_else(|| shown(matches!(call, Call::Report { .. }), number, report, Place::Report))
+        .or_else(|| unequal(call, answer, &after.report))?;
     Some((place, format!("{what} with answer {number}")))
+}
+
+/// The same of a buffer that some calls fill: as it was lent, as it is after the call, its right length.
+fn shown(fills: bool, number: u64, buffer: (&[u64], &[u64], usize), place: Place) -> Option<(Place, &'static str)> {
+    let (lent, after, length) = buffer;
+    let as_lent = !fills || number == 1 || number == 11;
+    if as_lent && after != lent {
+        return Some((place, "changes what it should not fill"));
+    }
+    if fills && (12..=14).contains(&number) && !zero(&after[..length]) {
+        return Some((place, "leaves a part of what it should zero"));
+    }
+    (after[length..] != lent[length..]).then_some((place, "writes past what it fills"))
+}
+
+/// The subtotals of an accepted report add up to the total.
+fn unequal(call: &Call, answer: &Answer, report: &[u64]) -> Option<(Place, &'static str)> {
+    let sum: u128 = report[..REPORT].iter().map(|&subtotal| u128::from(subtotal)).sum();
+    let reported = matches!(call, Call::Report { .. }) && answer.number == 0;
+    (reported && sum != u128::from(answer.total)).then_some((Place::Report, "reports what isn't the total"))
 }
 
 fn zero<T: PartialEq + From<u8>>(numbers: &[T]) -> bool {

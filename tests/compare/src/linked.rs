@@ -42,6 +42,14 @@ extern "C" {
         listing_len: usize,
         draw: u64,
     ) -> CAnswer;
+    fn matgravel_report(
+        model: *const u8,
+        model_len: usize,
+        state: *const i64,
+        state_len: usize,
+        report: *mut u64,
+        report_len: usize,
+    ) -> CAnswer;
 }
 
 impl From<CAnswer> for Answer {
@@ -83,5 +91,13 @@ pub fn step(model: &[u8], state: &mut [i64], listing: &mut [u64], draw: u64) -> 
     answer.into()
 }
 
+pub fn report(model: &[u8], state: &[i64], report: &mut [u64]) -> Answer {
+    // As above; model and state are read only.
+    let answer = unsafe {
+        matgravel_report(model.as_ptr(), model.len(), state.as_ptr(), state.len(), report.as_mut_ptr(), report.len())
+    };
+    answer.into()
+}
+
 /// The library's engine.
-pub const ENGINE: Engine = Engine { open, list, step };
+pub const ENGINE: Engine = Engine { open, list, step, report };

@@ -5,7 +5,7 @@ use crate::met::Met;
 use crate::{shrink, specimens, texts};
 use second::generate::{self, Buffers, Call, Draw, Engine, Random, RIGHT, SECOND};
 use second::limits::{HIGHEST, LOWEST};
-use second::state::{FIRST_PAIR, FIRST_PROCESS, PAIR, PAIRS, PROCESS, PROCESSES};
+use second::state::{DEFINITION, FIRST_PAIR, FIRST_PROCESS, PAIR, PAIRS, PROCESS, PROCESSES};
 use second::{model, script, MODEL, STATE};
 
 /// How many lists the test runs, and how many calls it makes at least.
@@ -40,9 +40,10 @@ pub fn of_seed(seed: u64) -> Vec<Call> {
 
 /// Opens a text, lists it and takes some steps.
 fn opened_and_run(random: &mut Random, text: Vec<u8>, steps: usize) -> Vec<Call> {
-    let mut calls = vec![Call::Open { text, lengths: RIGHT }, Call::List { lengths: RIGHT }];
+    let lengths = RIGHT;
+    let mut calls = vec![Call::Open { text, lengths }, Call::List { lengths }, Call::Report { lengths }];
     for _ in 0..steps {
-        calls.push(Call::Step { lengths: RIGHT, draw: Draw::Inside(random.number()) });
+        calls.push(Call::Step { lengths, draw: Draw::Inside(random.number()) });
     }
     calls
 }
@@ -110,11 +111,33 @@ fn handed_states(random: &mut Random) -> Vec<Call> {
             spoil(random, &mut spoilt);
         }
         hand_in(&mut calls, &mut buffers, &spoilt);
-        calls.push(Call::FillListing { number: random.number() });
+        calls.push(Call::Fill { number: random.number() });
         listed_and_stepped(random, &mut calls, &mut buffers, 1);
     }
     around_the_ends(random, &read, &mut calls, &mut buffers);
+    wrong_definitions(random, &read, &mut calls, &mut buffers);
     calls
+}
+
+/// Processes of every sum, one of which carries another definition's number, and a definition's number in an unused
+/// row.
+fn wrong_definitions(random: &mut Random, model: &model::Model, calls: &mut Vec<Call>, buffers: &mut Buffers) {
+    let mut state = vec![0; STATE];
+    let used = model.sums.len().min(PROCESSES - 1);
+    state[0] = used as i64;
+    for (sum, process) in state[FIRST_PROCESS..FIRST_PAIR].chunks_mut(PROCESS).take(used).enumerate() {
+        process[0] = sum as i64;
+        process[DEFINITION] = model.sums[sum].definition as i64;
+    }
+    hand_in(calls, buffers, &state);
+    for (row, change) in [(random.below(used), 1), (random.below(used), -1), (used, 1)] {
+        let place = FIRST_PROCESS + PROCESS * row + DEFINITION;
+        for number in [state[place] + change, state[place]] {
+            buffers.state[place] = number;
+            calls.push(Call::SetState { place, number });
+            calls.extend([Call::List { lengths: RIGHT }, Call::Report { lengths: RIGHT }]);
+        }
+    }
 }
 
 /// A process and a pair, each number of which that is a value stands in turn at both ends of the range and one
@@ -123,6 +146,7 @@ fn around_the_ends(random: &mut Random, model: &model::Model, calls: &mut Vec<Ca
     let sum = random.below(model.sums.len());
     let mut state = vec![0; STATE];
     state[..=FIRST_PROCESS].copy_from_slice(&[1, 1, sum as i64]);
+    state[FIRST_PROCESS + DEFINITION] = model.sums[sum].definition as i64;
     state[FIRST_PAIR..FIRST_PAIR + PAIR].copy_from_slice(&[0, 1, 2, 1, 1]);
     hand_in(calls, buffers, &state);
     let locals = (0..model.sums[sum].locals).map(|local| FIRST_PROCESS + 1 + local);
@@ -148,6 +172,7 @@ fn some_state(random: &mut Random, model: &model::Model) -> Vec<i64> {
         for local in &mut process[1..1 + model.sums[sum].locals] {
             *local = some_value(random);
         }
+        process[DEFINITION] = model.sums[sum].definition as i64;
     }
     let mut lit = std::collections::BTreeSet::new();
     while lit.len() < pairs {
@@ -178,7 +203,7 @@ fn spoil(random: &mut Random, state: &mut [i64]) {
     let process = FIRST_PROCESS + PROCESS * some_index(random, state[0], PROCESSES);
     let pair = FIRST_PAIR + PAIR * some_index(random, state[1], PAIRS);
     let odd = *random.pick(&[-1, 1, 2, 3, (1 << 32) + 1, HIGHEST + 1, LOWEST - 1, i64::MAX, i64::MIN]);
-    match random.below(9) {
+    match random.below(10) {
         // Counts.
         0 => state[random.below(2)] = *random.pick(&[-1, 0, 1, 255, 256, 257, i64::MAX, i64::MIN]),
         1 => {
@@ -188,15 +213,19 @@ fn spoil(random: &mut Random, state: &mut [i64]) {
         // Sum numbers, locals and numbers past the last process.
         2 => state[process] = odd,
         3 => state[process + 1 + random.below(PROCESS - 1)] = odd,
+        4 => {
+            let definition = &mut state[process + DEFINITION];
+            *definition = definition.wrapping_add(*random.pick(&[-1, 1]));
+        }
         // Parts of a pair.
-        4 => state[pair + random.below(PAIR)] = odd,
-        5 => {
+        5 => state[pair + random.below(PAIR)] = odd,
+        6 => {
             let number = &mut state[pair + random.below(PAIR)];
             *number = number.wrapping_add(*random.pick(&[-1, 1]));
         }
         // Pairs doubled and in the wrong order.
-        6 => state.copy_within(FIRST_PAIR..FIRST_PAIR + PAIR, FIRST_PAIR + PAIR),
-        7 => state[FIRST_PAIR..FIRST_PAIR + 2 * PAIR].rotate_left(PAIR),
+        7 => state.copy_within(FIRST_PAIR..FIRST_PAIR + PAIR, FIRST_PAIR + PAIR),
+        8 => state[FIRST_PAIR..FIRST_PAIR + 2 * PAIR].rotate_left(PAIR),
         _ => state[random.below(STATE)] = odd,
     }
 }
@@ -223,10 +252,10 @@ fn hand_in(calls: &mut Vec<Call>, buffers: &mut Buffers, state: &[i64]) {
     }
 }
 
-/// A listing, the draws that 01 names and some others, each with a step.
+/// A listing, a report, the draws that 01 names and some others, each with a step.
 fn listed_and_stepped(random: &mut Random, calls: &mut Vec<Call>, buffers: &mut Buffers, times: usize) {
     let first = calls.len();
-    calls.push(Call::List { lengths: RIGHT });
+    calls.extend([Call::List { lengths: RIGHT }, Call::Report { lengths: RIGHT }]);
     let number = random.number();
     let draws = [Draw::Exactly(u64::MAX), Draw::Total, Draw::Inside(number), Draw::Last, Draw::Exactly(0)];
     for draw in draws.iter().take(1 + times) {

@@ -2,7 +2,7 @@
 
 use second::generate::{Buffers, Call, Draw};
 use second::limits::{HIGHEST, LOWEST};
-use second::state::{FIRST_PAIR, FIRST_PROCESS, PAIR, PROCESS};
+use second::state::{FIRST_PAIR, FIRST_PROCESS, LOCALS, PAIR, PROCESS};
 use second::Answer;
 use std::collections::{BTreeMap, BTreeSet};
 use std::fmt;
@@ -13,8 +13,10 @@ pub const REFUSALS: std::ops::RangeInclusive<u64> = 1..=19;
 pub const KINDS: std::ops::RangeInclusive<u64> = 1..=7;
 /// Numbers of a listing entry.
 const ENTRY: usize = 7;
-/// The three calls. Each must have been refused for its lengths.
-const CALLS: [&str; 3] = ["open", "list", "step"];
+/// The four calls. Each must have been refused for its lengths.
+const CALLS: [&str; 4] = ["open", "list", "step", "report"];
+/// What a report must have answered besides.
+const REPORTS: [u64; 5] = [0, 11, 12, 13, 14];
 /// Draws at the ends, where there is a total.
 const DRAWS: [&str; 4] = ["0", "total - 1", "total", "the largest"];
 /// Numbers of a state that are values, and where such a number can stand: at an end of the range, or one past it.
@@ -42,11 +44,7 @@ pub struct Met {
 impl Met {
     /// Notes an answer and the buffers left with it.
     pub fn note(&mut self, call: &Call, answer: &Answer, after: &Buffers) {
-        let name = match call {
-            Call::Open { .. } => "open",
-            Call::List { .. } => "list",
-            _ => "step",
-        };
+        let name = call.name();
         self.calls += 1;
         *self.answers.entry((name, answer.number)).or_default() += 1;
         if let Call::Step { draw: Draw::Exactly(draw), .. } = call {
@@ -84,12 +82,13 @@ impl Met {
         self.specimens.insert(name);
     }
 
-    /// What was never met: refusals, refused lengths of each call, kinds of steps, draws at the
+    /// What was never met: refusals, refused lengths of each call, answers of a report, kinds of steps, draws at the
     /// ends, values at the ends, these specimens.
     pub fn missing(&self, specimens: &[&'static str]) -> Vec<String> {
         let refused = |number| self.answers.keys().any(|(_, met)| *met == number);
         let refusals = REFUSALS.filter(|number| !refused(*number)).map(|number| format!("refusal {number}"));
         let lengths = CALLS.iter().filter(|name| !self.answers.contains_key(&(**name, 1)));
+        let reports = REPORTS.iter().filter(|number| !self.answers.contains_key(&("report", **number)));
         let kinds = KINDS.filter(|kind| !self.kinds.contains_key(kind)).map(|kind| format!("a step of kind {kind}"));
         let draws = DRAWS.iter().filter(|name| !self.draws.contains_key(**name));
         let ends = VALUES.iter().flat_map(|what| ENDS.map(|(end, _)| (*what, end)));
@@ -97,6 +96,7 @@ impl Met {
         let specimens = specimens.iter().filter(|name| !self.specimens.contains(**name));
         refusals
             .chain(lengths.map(|name| format!("{name} with a wrong length")))
+            .chain(reports.map(|number| format!("report with {number}")))
             .chain(kinds)
             .chain(draws.map(|name| format!("draw: {name}")))
             .chain(ends.map(|(what, end)| format!("{what} {end}")))
@@ -110,7 +110,7 @@ fn values(state: &[i64]) -> Vec<(&'static str, i64)> {
     let used = |count: i64| usize::try_from(count).unwrap_or(0);
     let mut values = Vec::new();
     for process in state[FIRST_PROCESS..FIRST_PAIR].chunks(PROCESS).take(used(state[0])) {
-        values.extend(process[1..].iter().map(|local| (VALUES[0], *local)));
+        values.extend(process[1..=LOCALS].iter().map(|local| (VALUES[0], *local)));
     }
     for pair in state[FIRST_PAIR..].chunks_exact(PAIR).take(used(state[1])) {
         if pair[0] == 0 {

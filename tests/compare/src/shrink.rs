@@ -34,6 +34,8 @@ const SHORT: [&str; 5] = [
 ];
 /// At most so many steps are tried between the opening of a short model and the last call.
 const STEPS: usize = 2;
+/// A short model with a local, to try each change of a state on by itself.
+const CHANGED: &str = "A[n]={a,1};A[0];";
 
 struct Shrinker<'a> {
     tried: &'a Engine,
@@ -98,17 +100,22 @@ impl Shrinker<'_> {
         }
     }
 
-    /// Tries the last call after a short model and some steps, in the place of all calls before it.
+    /// Tries the last call after a short model and a little more, in the place of all calls before it.
     fn try_short_models(&mut self) {
-        let Some(last) = self.best.made.last().cloned() else { return };
+        let Some((last, before)) = self.best.made.split_last() else { return };
+        let open = |text: &str| Call::Open { text: text.into(), lengths: RIGHT };
+        let step = Call::Step { lengths: RIGHT, draw: Draw::Exactly(0) };
+        let mut lists = Vec::new();
         for text in SHORT {
-            let mut before = vec![Call::Open { text: text.into(), lengths: RIGHT }];
-            for _ in 0..=STEPS {
-                let calls = [&before[..], std::slice::from_ref(&last)].concat();
-                if size(&calls) < self.size() && self.takes_redrawn(calls) {
-                    return;
-                }
-                before.push(Call::Step { lengths: RIGHT, draw: Draw::Exactly(0) });
+            lists.extend((0..=STEPS).map(|steps| [vec![open(text)], vec![step.clone(); steps]].concat()));
+        }
+        let changes = before.iter().filter(|call| matches!(call, Call::SetState { .. }));
+        lists.extend(changes.map(|change| vec![open(CHANGED), change.clone()]));
+        let last = last.clone();
+        for mut calls in lists {
+            calls.push(last.clone());
+            if size(&calls) < self.size() && self.takes_redrawn(calls) {
+                return;
             }
         }
     }

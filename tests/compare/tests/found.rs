@@ -7,8 +7,8 @@ use compare::{compare as core, lists, with_stack};
 use second::generate::{Engine, SECOND};
 use second::limits::HIGHEST;
 use second::script::{self, Form, Line};
-use second::state::{FIRST_PAIR, FIRST_PROCESS, PROCESS};
-use second::{list, open, step, Answer, LISTING};
+use second::state::{DEFINITION, FIRST_PAIR, FIRST_PROCESS, PROCESS};
+use second::{list, open, report, step, Answer, LISTING};
 
 const ENTRY: usize = 7;
 
@@ -50,7 +50,7 @@ fn a_total_that_is_not_the_sum() {
         answer.total += u64::from(answer.count > 2);
         answer
     }
-    found(Engine { list: wrong, ..SECOND }, Place::Answer, 2, 80);
+    found(Engine { list: wrong, ..SECOND }, Place::Answer, 3, 80);
 }
 
 #[test]
@@ -231,6 +231,53 @@ fn a_value_one_past_the_range_that_is_let_pass() {
         list(model, &clamped, listing)
     }
     found(Engine { list: wrong, ..SECOND }, Place::Answer, 5, 120);
+}
+
+#[test]
+fn a_definition_number_that_is_not_judged() {
+    fn wrong(model: &[u8], state: &[i64], listing: &mut [u64]) -> Answer {
+        let answer = list(model, state, listing);
+        let Some(read) = second::model::read_buffer(model).filter(|_| answer.number == 11) else { return answer };
+        let mut mended = state.to_vec();
+        for process in mended[FIRST_PROCESS..FIRST_PAIR].chunks_mut(PROCESS) {
+            let sum = usize::try_from(process[0]).ok().and_then(|sum| read.sums.get(sum));
+            process[DEFINITION] = sum.map_or(0, |sum| sum.definition as i64);
+        }
+        list(model, &mended, listing)
+    }
+    found(Engine { list: wrong, ..SECOND }, Place::Answer, 3, 80);
+}
+
+#[test]
+fn a_report_that_counts_handshakes_for_their_receivers() {
+    fn wrong(model: &[u8], state: &[i64], subtotals: &mut [u64]) -> Answer {
+        let answer = report(model, state, subtotals);
+        if answer.number == 0 {
+            let mut listing = vec![0; LISTING];
+            list(model, state, &mut listing);
+            subtotals.fill(0);
+            for entry in listing.chunks(ENTRY).take(answer.count as usize) {
+                let place = entry[if entry[0] == 7 { 3 } else { 1 }] as usize;
+                subtotals[state[FIRST_PROCESS + PROCESS * place + DEFINITION] as usize] += entry[ENTRY - 1];
+            }
+        }
+        answer
+    }
+    found(Engine { report: wrong, ..SECOND }, Place::Report, 2, 120);
+}
+
+#[test]
+fn a_refused_report_that_is_left() {
+    fn wrong(model: &[u8], state: &[i64], subtotals: &mut [u64]) -> Answer {
+        let lent = subtotals.to_vec();
+        let answer = report(model, state, subtotals);
+        if answer.number == 13 {
+            subtotals.copy_from_slice(&lent);
+        }
+        answer
+    }
+    // The report lent must hold something.
+    found(Engine { report: wrong, ..SECOND }, Place::Report, 4, 160);
 }
 
 #[test]

@@ -32,6 +32,7 @@ fn the_lengths_are_those_of_the_second_engine() {
         ("STATE", second::STATE),
         ("LISTING", second::LISTING),
         ("ENTRIES", second::LISTING / 7),
+        ("REPORT", second::REPORT),
     ];
     for (name, length) in lengths {
         let line = format!("#define MATGRAVEL_{name} {length}");

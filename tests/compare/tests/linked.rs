@@ -7,7 +7,7 @@ use compare::met::Met;
 use compare::{lists, specimens, texts, with_stack};
 use second::generate::{Buffers, SECOND};
 use second::script::{self, Form};
-use second::{LISTING, MODEL, STATE};
+use second::{LISTING, MODEL, REPORT, STATE};
 use std::path::{Path, PathBuf};
 use std::process::{Command, Stdio};
 
@@ -67,7 +67,7 @@ fn defined(name: &str) -> usize {
     line.and_then(|number| number.parse().ok()).expect("a number")
 }
 
-/// Opens, lists and steps the longest texts on a thread with the stack that the header names. A
+/// Opens, lists, reports and steps the longest texts on a thread with the stack that the header names. A
 /// call that needs more ends the test by a signal.
 #[test]
 fn the_stack_that_the_header_names_is_enough() {
@@ -82,6 +82,8 @@ fn the_stack_that_the_header_names_is_enough() {
             model[2..2 + text.len()].copy_from_slice(&text);
             let listing = &mut buffers.listing[..LISTING];
             let listed = (ENGINE.list)(model, state, listing);
+            let reported = (ENGINE.report)(model, state, &mut buffers.report[..REPORT]);
+            assert_eq!(reported, listed);
             let stepped = (ENGINE.step)(model, state, listing, 0);
             [opened, listed, stepped].map(|answer| answer.number)
         };

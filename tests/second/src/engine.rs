@@ -1,10 +1,10 @@
-//! The three calls.
+//! The four calls.
 
 use crate::eval;
 use crate::listing::{self, Entry, Kind, Listing, Offer, Offers};
 use crate::model::{self, Item, Model};
 use crate::state::{self, Process, State};
-use crate::{Answer, LISTING, MODEL, STATE};
+use crate::{Answer, LISTING, MODEL, REPORT, STATE};
 
 /// Reads a text. Questions 1 to 10.
 pub fn open(text: &[u8], model: &mut [u8], state: &mut [i64]) -> Answer {
@@ -14,7 +14,7 @@ pub fn open(text: &[u8], model: &mut [u8], state: &mut [i64]) -> Answer {
     let refusal = match model::read(text) {
         Ok(read) if state::processes_at_start(&read) <= state::PROCESSES => {
             model::write_buffer(text, model);
-            state::write_buffer(&state::start(&read), state);
+            state::write_buffer(&read, &state::start(&read), state);
             return Answer::default();
         }
         Ok(read) => model::Refused { number: 10, place: read.system_start },
@@ -27,7 +27,15 @@ pub fn open(text: &[u8], model: &mut [u8], state: &mut [i64]) -> Answer {
 
 /// Lists what can happen next. Questions 1 and 11 to 14.
 pub fn list(model: &[u8], state: &[i64], listing: &mut [u64]) -> Answer {
-    match present(model, state, listing) {
+    match shown(model, state, listing, LISTING, Present::write_listing) {
+        Err(refusal) => refusal,
+        Ok(present) => present.answer(0),
+    }
+}
+
+/// Sums up by definition what a list would list. Questions 1 and 11 to 14.
+pub fn report(model: &[u8], state: &[i64], report: &mut [u64]) -> Answer {
+    match shown(model, state, report, REPORT, Present::write_report) {
         Err(refusal) => refusal,
         Ok(present) => present.answer(0),
     }
@@ -35,7 +43,7 @@ pub fn list(model: &[u8], state: &[i64], listing: &mut [u64]) -> Answer {
 
 /// Takes the step that the draw chooses. Questions 1 and 11 to 19.
 pub fn step(model: &[u8], state: &mut [i64], listing: &mut [u64], draw: u64) -> Answer {
-    let present = match present(model, state, listing) {
+    let present = match shown(model, state, listing, LISTING, Present::write_listing) {
         Err(refusal) => return refusal,
         Ok(present) => present,
     };
@@ -49,7 +57,7 @@ pub fn step(model: &[u8], state: &mut [i64], listing: &mut [u64], draw: u64) -> 
     match taken(&present, &present.listing.entries[chosen]) {
         Err(number) => present.answer(number),
         Ok(after) => {
-            state::write_buffer(&after, state);
+            state::write_buffer(&present.model, &after, state);
             Answer { chosen: chosen as u64, ..present.answer(0) }
         }
     }
@@ -68,13 +76,38 @@ impl Present {
     fn answer(&self, number: u64) -> Answer {
         Answer { count: self.listing.entries.len() as u64, total: self.listing.total, ..Answer::refusal(number) }
     }
+
+    fn write_listing(&self, buffer: &mut [u64]) {
+        listing::write_buffer(&self.listing, buffer);
+    }
+
+    fn write_report(&self, buffer: &mut [u64]) {
+        listing::write_report(&self.listing, &self.model, &self.state, buffer);
+    }
 }
 
-/// Questions 1 and 11 to 14. The listing buffer is filled, zeroed or left as the answer asks.
-fn present(model: &[u8], state: &[i64], buffer: &mut [u64]) -> Result<Present, Answer> {
-    if model.len() != MODEL || state.len() != STATE || buffer.len() != LISTING {
+/// Questions 1 and 11 to 14. The buffer, which should have this length, is written, zeroed or left as the answer asks.
+fn shown(
+    model: &[u8],
+    state: &[i64],
+    buffer: &mut [u64],
+    length: usize,
+    write: fn(&Present, &mut [u64]),
+) -> Result<Present, Answer> {
+    if model.len() != MODEL || state.len() != STATE || buffer.len() != length {
         return Err(Answer::refusal(1));
     }
+    let present = present(model, state);
+    match &present {
+        Ok(present) => write(present, buffer),
+        Err(refusal) if refusal.number == 11 => {}
+        Err(_) => buffer.fill(0),
+    }
+    present
+}
+
+/// Questions 11 to 14.
+fn present(model: &[u8], state: &[i64]) -> Result<Present, Answer> {
     let Some(model) = model::read_buffer(model) else {
         return Err(Answer::refusal(11));
     };
@@ -84,20 +117,12 @@ fn present(model: &[u8], state: &[i64], buffer: &mut [u64]) -> Result<Present, A
     let listed = listing::offers(&model, &state)
         .and_then(|offers| listing::derive(&offers, &state).map(|listing| (offers, listing)));
     match listed {
-        Ok((offers, listing)) => {
-            listing::write_buffer(&listing, buffer);
-            Ok(Present { model, state, offers, listing })
+        Ok((offers, listing)) => Ok(Present { model, state, offers, listing }),
+        Err(listing::Refused::NoValue { place, branch }) => {
+            Err(Answer { place: place as u64, branch: branch as u64, ..Answer::refusal(12) })
         }
-        Err(refused) => {
-            buffer.fill(0);
-            Err(match refused {
-                listing::Refused::NoValue { place, branch } => {
-                    Answer { place: place as u64, branch: branch as u64, ..Answer::refusal(12) }
-                }
-                listing::Refused::TooManyEntries => Answer::refusal(13),
-                listing::Refused::TotalTooLarge => Answer::refusal(14),
-            })
-        }
+        Err(listing::Refused::TooManyEntries) => Err(Answer::refusal(13)),
+        Err(listing::Refused::TotalTooLarge) => Err(Answer::refusal(14)),
     }
 }
 

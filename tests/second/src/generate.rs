@@ -7,7 +7,7 @@ use crate::limits::{HIGHEST, LOWEST};
 use crate::model;
 use crate::state::{FIRST_PAIR, FIRST_PROCESS, PAIR, PROCESS};
 use crate::tokens::{self, Kind};
-use crate::{Answer, LISTING, MODEL, STATE};
+use crate::{Answer, LISTING, MODEL, REPORT, STATE};
 
 // Random numbers.
 
@@ -927,15 +927,16 @@ fn damage_tokens(random: &mut Random, text: &[u8]) -> Vec<u8> {
 
 // Lists of calls.
 
-/// Lengths of what is lent.
+/// Lengths of what is lent. Those of buffers that a call isn't lent are the right ones.
 #[derive(Clone, Copy, Debug, PartialEq, Eq)]
 pub struct Lengths {
     pub model: usize,
     pub state: usize,
     pub listing: usize,
+    pub report: usize,
 }
 
-pub const RIGHT: Lengths = Lengths { model: MODEL, state: STATE, listing: LISTING };
+pub const RIGHT: Lengths = Lengths { model: MODEL, state: STATE, listing: LISTING, report: REPORT };
 
 /// A draw, given by what it is to the total.
 #[derive(Clone, Copy, Debug, PartialEq, Eq)]
@@ -961,6 +962,9 @@ pub enum Call {
         lengths: Lengths,
         draw: Draw,
     },
+    Report {
+        lengths: Lengths,
+    },
     // Changes of the buffers between calls.
     SetState {
         place: usize,
@@ -979,9 +983,33 @@ pub enum Call {
     Crowd {
         count: usize,
     },
-    FillListing {
+    /// Listing and report hold this number everywhere.
+    Fill {
         number: u64,
     },
+}
+
+impl Call {
+    /// What is lent. `None`: it is no call but a change of the buffers.
+    pub fn lengths(&self) -> Option<&Lengths> {
+        match self {
+            Call::Open { lengths, .. }
+            | Call::List { lengths }
+            | Call::Step { lengths, .. }
+            | Call::Report { lengths } => Some(lengths),
+            _ => None,
+        }
+    }
+
+    pub fn name(&self) -> &'static str {
+        match self {
+            Call::Open { .. } => "open",
+            Call::List { .. } => "list",
+            Call::Step { .. } => "step",
+            Call::Report { .. } => "report",
+            _ => "change",
+        }
+    }
 }
 
 /// An engine to make calls on.
@@ -990,10 +1018,11 @@ pub struct Engine {
     pub open: fn(&[u8], &mut [u8], &mut [i64]) -> Answer,
     pub list: fn(&[u8], &[i64], &mut [u64]) -> Answer,
     pub step: fn(&[u8], &mut [i64], &mut [u64], u64) -> Answer,
+    pub report: fn(&[u8], &[i64], &mut [u64]) -> Answer,
 }
 
 /// This crate's engine.
-pub const SECOND: Engine = Engine { open: crate::open, list: crate::list, step: crate::step };
+pub const SECOND: Engine = Engine { open: crate::open, list: crate::list, step: crate::step, report: crate::report };
 
 /// How much longer the longest lent buffer may be than it should.
 pub const SPARE: usize = 8;
@@ -1004,11 +1033,17 @@ pub struct Buffers {
     pub model: Vec<u8>,
     pub state: Vec<i64>,
     pub listing: Vec<u64>,
+    pub report: Vec<u64>,
 }
 
 impl Default for Buffers {
     fn default() -> Self {
-        Buffers { model: vec![0; MODEL + SPARE], state: vec![0; STATE + SPARE], listing: vec![0; LISTING + SPARE] }
+        Buffers {
+            model: vec![0; MODEL + SPARE],
+            state: vec![0; STATE + SPARE],
+            listing: vec![0; LISTING + SPARE],
+            report: vec![0; REPORT + SPARE],
+        }
     }
 }
 
@@ -1029,6 +1064,10 @@ impl Buffers {
                 let (model, state) = (&self.model[..lengths.model], &mut self.state[..lengths.state]);
                 return Some((engine.step)(model, state, &mut self.listing[..lengths.listing], draw));
             }
+            Call::Report { lengths } => {
+                let (model, state) = (&self.model[..lengths.model], &self.state[..lengths.state]);
+                return Some((engine.report)(model, state, &mut self.report[..lengths.report]));
+            }
             Call::SetState { place, number } => self.state[*place] = *number,
             Call::SetModel { place, byte } => self.model[*place] = *byte,
             Call::Light { count, first } => {
@@ -1048,7 +1087,10 @@ impl Buffers {
                     process.copy_from_slice(&first);
                 }
             }
-            Call::FillListing { number } => self.listing.fill(*number),
+            Call::Fill { number } => {
+                self.listing.fill(*number);
+                self.report.fill(*number);
+            }
         }
         None
     }
@@ -1090,18 +1132,37 @@ fn some_draw(random: &mut Random) -> Draw {
 
 /// Mostly the right lengths.
 fn some_lengths(random: &mut Random) -> Lengths {
-    let mut lengths = RIGHT;
-    if random.chance(2) {
-        let mut wrong = |right: usize| match random.below(8) {
-            0 => 0,
-            1 => right - 1,
-            2 => right + 1,
-            3 => random.below(right + SPARE + 1),
-            _ => right,
-        };
-        lengths = Lengths { model: wrong(MODEL), state: wrong(STATE), listing: wrong(LISTING) };
+    if !random.chance(2) {
+        return RIGHT;
     }
-    lengths
+    let mut wrong = |right: usize| match random.below(8) {
+        0 => 0,
+        1 => right - 1,
+        2 => right + 1,
+        3 => random.below(right + SPARE + 1),
+        _ => right,
+    };
+    Lengths { model: wrong(MODEL), state: wrong(STATE), listing: wrong(LISTING), report: wrong(REPORT) }
+}
+
+// Calls that mostly lend what they should.
+
+fn some_open(random: &mut Random, text: Vec<u8>) -> Call {
+    let lengths = Lengths { listing: LISTING, report: REPORT, ..some_lengths(random) };
+    Call::Open { text, lengths }
+}
+
+fn some_list(random: &mut Random) -> Call {
+    Call::List { lengths: Lengths { report: REPORT, ..some_lengths(random) } }
+}
+
+fn some_step(random: &mut Random) -> Call {
+    let lengths = Lengths { report: REPORT, ..some_lengths(random) };
+    Call::Step { lengths, draw: some_draw(random) }
+}
+
+fn some_report(random: &mut Random) -> Call {
+    Call::Report { lengths: Lengths { listing: LISTING, ..some_lengths(random) } }
 }
 
 /// Any text: lively, near a limit, or either of them damaged.
@@ -1153,7 +1214,7 @@ fn some_change(random: &mut Random) -> Call {
         }
         8 | 9 => Call::Light { count: *random.pick(&[1, 5, 255, 256, 256]), first: random.between(-3, 3) },
         10 => Call::Crowd { count: *random.pick(&[1, 2, 30, 255, 256]) },
-        _ => Call::FillListing { number: random.number() },
+        _ => Call::Fill { number: random.number() },
     }
 }
 
@@ -1163,6 +1224,7 @@ pub fn edge_calls(random: &mut Random) -> Vec<Call> {
     for which in 0..EDGES {
         calls.push(Call::Open { text: edge_of_kind(random, which), lengths: RIGHT });
         calls.push(Call::List { lengths: RIGHT });
+        calls.push(Call::Report { lengths: RIGHT });
         for _ in 0..4 {
             calls.push(Call::Step { lengths: RIGHT, draw: some_draw(random) });
         }
@@ -1176,14 +1238,13 @@ pub fn calls(random: &mut Random, most_steps: usize) -> Vec<Call> {
     let mut calls = Vec::new();
     // Before any text is open.
     if random.chance(10) {
-        calls.push(Call::List { lengths: some_lengths(random) });
-        calls.push(Call::Step { lengths: some_lengths(random), draw: some_draw(random) });
+        calls.extend([some_list(random), some_step(random), some_report(random)]);
     }
     for _ in 0..1 + random.below(3) {
         let text = some_text(random);
         // Few calls on an engine that a refused text has closed.
         let steps = if model::read(&text).is_ok() { most_steps } else { 2 };
-        calls.push(Call::Open { text, lengths: some_lengths(random) });
+        calls.push(some_open(random, text));
         let mut left = random.below(steps + 1);
         while left > 0 {
             left -= 1;
@@ -1196,8 +1257,9 @@ pub fn calls(random: &mut Random, most_steps: usize) -> Vec<Call> {
                     }
                     calls.push(change);
                 }
-                1..=3 => calls.push(Call::List { lengths: some_lengths(random) }),
-                _ => calls.push(Call::Step { lengths: some_lengths(random), draw: some_draw(random) }),
+                1..=3 => calls.push(some_list(random)),
+                4 | 5 => calls.push(some_report(random)),
+                _ => calls.push(some_step(random)),
             }
         }
     }

@@ -19,17 +19,20 @@ pub mod state;
 pub mod syntax;
 pub mod tokens;
 
-pub use engine::{list, open, step};
+pub use engine::{list, open, report, step};
 
 /// Length of the model buffer in bytes: the text's length (2 bytes, the low one first), the text,
 /// zeros.
 pub const MODEL: usize = 16_386;
 /// Length of the state buffer in signed 64-bit numbers.
-pub const STATE: usize = 3_586;
+pub const STATE: usize = 3_842;
 /// Length of the listing buffer in unsigned 64-bit numbers.
 pub const LISTING: usize = 7_168;
+/// Length of the report buffer in unsigned 64-bit numbers: one for each definition there may be.
+pub const REPORT: usize = 64;
 
-const _: () = assert!(model::BUFFER == MODEL && state::BUFFER == STATE && listing::BUFFER == LISTING);
+const _: () = assert!(model::BUFFER == MODEL && state::BUFFER == STATE);
+const _: () = assert!(listing::BUFFER == LISTING && limits::DEFINITIONS == REPORT);
 
 /// All that a call's result carries.
 #[derive(Clone, Copy, Debug, Default, PartialEq, Eq)]
@@ -40,7 +43,7 @@ pub struct Answer {
     pub place: u64,
     /// Of 12 a branch, else 0.
     pub branch: u64,
-    /// How many entries the listing has: of 0 and 15 to 19 from list and step.
+    /// How many entries the listing has: of 0 and 15 to 19 from list, step and report.
     pub count: u64,
     /// The sum of the weights: where `count` is carried.
     pub total: u64,

@@ -12,7 +12,8 @@ const DIGITS_BEFORE: usize = 6;
 const DIGITS_AFTER: usize = 4;
 const COUNT: i64 = 256;
 const VARIABLES: usize = 64;
-const DEFINITIONS: usize = 64;
+/// The most definitions, and so the numbers of a report.
+pub const DEFINITIONS: usize = 64;
 const PARAMETERS: usize = 6;
 const LOCALS: usize = 8;
 const BRANCHES: usize = 16;

@@ -226,6 +226,16 @@ impl Listing {
     }
 }
 
+/// Writes the weights of a listing's entries into a report, summed up by the definition in whose text the acting
+/// process stands (02, note 6); of a handshake that is its sender, at whose place it is listed.
+pub fn write_report(listing: &Listing, model: &Model, state: &State, report: &mut [u64]) {
+    report.fill(0);
+    for entry in &listing.entries {
+        let sum = state.processes[entry.place].sum;
+        report[model.sums[sum].definition] += entry.weight;
+    }
+}
+
 /// Writes a listing into a buffer. Unused numbers are 0.
 pub fn write_buffer(listing: &Listing, buffer: &mut [u64]) {
     buffer.fill(0);

@@ -41,6 +41,8 @@ pub struct SystemItem {
 
 #[derive(Debug)]
 pub struct Sum {
+    /// The number of the definition in whose text it stands.
+    pub definition: usize,
     /// How many locals it has in scope.
     pub locals: usize,
     pub branches: Vec<Branch>,
@@ -280,8 +282,12 @@ impl<'a> Settler<'a> {
 
     fn sum(&self, number: usize) -> Sum {
         let scope = &self.names.scopes[number];
-        let branches = &self.names.tree.sums[number].branches;
-        Sum { locals: scope.len(), branches: branches.iter().map(|branch| self.branch(branch, scope)).collect() }
+        let sum = &self.names.tree.sums[number];
+        Sum {
+            definition: sum.definition,
+            locals: scope.len(),
+            branches: sum.branches.iter().map(|branch| self.branch(branch, scope)).collect(),
+        }
     }
 
     fn branch(&self, branch: &syntax::Branch, scope: &[TokenId]) -> Branch {

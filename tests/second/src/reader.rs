@@ -223,7 +223,8 @@ impl Reader<'_> {
     }
 
     fn new_sum(&mut self) -> usize {
-        self.tree.sums.push(Sum::default());
+        // The definitions before this one are read whole.
+        self.tree.sums.push(Sum { definition: self.tree.definitions.len(), branches: Vec::new() });
         self.tree.sums.len() - 1
     }
 

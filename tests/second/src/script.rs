@@ -1,7 +1,7 @@
 //! Lists of calls as scripts for the program `calls`, and what that program prints for one.
 //!
-//! A script has lines `open N` (N bytes and a newline follow), `list`, `step D` and `state`. Every
-//! line ends with a newline, words stand one blank apart, numbers are digits alone. A line of
+//! A script has lines `open N` (N bytes and a newline follow), `list`, `step D`, `report` and `state`.
+//! Every line ends with a newline, words stand one blank apart, numbers are digits alone. A line of
 //! another form, or an opening without its N bytes, ends the run with `bad` and its number, which
 //! counts every newline before it, those of texts too.
 //!
@@ -9,7 +9,7 @@
 //! lines that begin with `!`. They are read where `Form::Marked` is asked for.
 
 use crate::generate::{Buffers, Call, Draw, Engine, Lengths, RIGHT, SPARE};
-use crate::{Answer, LISTING, MODEL, STATE};
+use crate::{Answer, LISTING, MODEL, REPORT, STATE};
 use std::fmt::Write;
 
 /// Numbers of a listing entry.
@@ -33,11 +33,7 @@ pub enum Line {
 
 /// Can the program `calls` run these, or has the script lines with `!`?
 pub fn is_plain(calls: &[Call]) -> bool {
-    calls.iter().all(|call| match call {
-        Call::Open { lengths, .. } => (lengths.model, lengths.state) == (MODEL, STATE),
-        Call::List { lengths } | Call::Step { lengths, .. } => *lengths == RIGHT,
-        _ => false,
-    })
+    calls.iter().all(|call| call.lengths() == Some(&RIGHT))
 }
 
 /// The script of a list of calls whose draws are numbers.
@@ -58,11 +54,12 @@ fn line(call: &Call) -> Vec<u8> {
         Call::List { lengths } => format!("{}list\n", lengths_line(lengths)),
         Call::Step { lengths, draw: Draw::Exactly(draw) } => format!("{}step {draw}\n", lengths_line(lengths)),
         Call::Step { .. } => unreachable!("a draw that isn't a number"),
+        Call::Report { lengths } => format!("{}report\n", lengths_line(lengths)),
         Call::SetState { place, number } => format!("! state {place} {number}\n"),
         Call::SetModel { place, byte } => format!("! model {place} {byte}\n"),
         Call::Light { count, first } => format!("! light {count} {first}\n"),
         Call::Crowd { count } => format!("! crowd {count}\n"),
-        Call::FillListing { number } => format!("! fill {number}\n"),
+        Call::Fill { number } => format!("! fill {number}\n"),
     };
     text.into_bytes()
 }
@@ -72,7 +69,7 @@ fn lengths_line(lengths: &Lengths) -> String {
     if *lengths == RIGHT {
         return String::new();
     }
-    format!("! lengths {} {} {}\n", lengths.model, lengths.state, lengths.listing)
+    format!("! lengths {} {} {} {}\n", lengths.model, lengths.state, lengths.listing, lengths.report)
 }
 
 /// Reads a script, up to the first line of another form: the lines before it, and its number
@@ -121,9 +118,10 @@ impl Reader<'_> {
             return None;
         }
         let lengths = self.lengths;
-        if let ["!", "lengths", model, state, listing] = words[..] {
+        if let ["!", "lengths", model, state, listing, report] = words[..] {
             let (model, state) = (length(model, MODEL)?, length(state, STATE)?);
-            self.lengths = Lengths { model, state, listing: length(listing, LISTING)? };
+            let (listing, report) = (length(listing, LISTING)?, length(report, REPORT)?);
+            self.lengths = Lengths { model, state, listing, report };
             return Some(None);
         }
         self.lengths = RIGHT;
@@ -141,11 +139,12 @@ fn short_line(words: &[&str], lengths: Lengths) -> Option<Line> {
         ["state"] => return Some(Line::State),
         ["list"] => Call::List { lengths },
         ["step", draw] => Call::Step { lengths, draw: Draw::Exactly(whole(draw)?) },
+        ["report"] => Call::Report { lengths },
         ["!", "state", place, number] => Call::SetState { place: length(place, STATE)?, number: number.parse().ok()? },
         ["!", "model", place, byte] => Call::SetModel { place: length(place, MODEL)?, byte: whole(byte)? },
         ["!", "light", count, first] => Call::Light { count: whole(count)?, first: first.parse().ok()? },
         ["!", "crowd", count] => Call::Crowd { count: whole(count)? },
-        ["!", "fill", number] => Call::FillListing { number: whole(number)? },
+        ["!", "fill", number] => Call::Fill { number: whole(number)? },
         _ => return None,
     };
     Some(Line::Call(call))
@@ -184,11 +183,19 @@ pub fn print(engine: &Engine, script: &[u8], form: Form) -> String {
 fn print_answer(printed: &mut String, call: &Call, answer: &Answer, buffers: &Buffers) {
     let Answer { number, place, branch, count, total, chosen } = answer;
     writeln!(printed, "{number} {place} {branch} {count} {total} {chosen}").expect("a string takes all");
-    let filled = *number == 0 || *number >= 15;
-    if filled && !matches!(call, Call::Open { .. }) {
-        for entry in buffers.listing.chunks(ENTRY).take(*count as usize) {
-            writeln!(printed, "  {}", numbers(entry)).expect("a string takes all");
+    if *number != 0 && *number < 15 {
+        return;
+    }
+    match call {
+        Call::List { .. } | Call::Step { .. } => {
+            for entry in buffers.listing.chunks(ENTRY).take(*count as usize) {
+                writeln!(printed, "  {}", numbers(entry)).expect("a string takes all");
+            }
         }
+        Call::Report { .. } => {
+            writeln!(printed, "  {}", numbers(&buffers.report[..REPORT])).expect("a string takes all");
+        }
+        _ => {}
     }
 }
 

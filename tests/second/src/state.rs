@@ -8,8 +8,10 @@ pub const PROCESSES: usize = 256;
 pub const PAIRS: usize = 256;
 /// The most locals of a process.
 pub const LOCALS: usize = 8;
-/// Numbers of a process: its sum and its locals.
-pub const PROCESS: usize = 1 + LOCALS;
+/// Which number of a process is its definition's: that after its sum's and its locals (02, note 6).
+pub const DEFINITION: usize = 1 + LOCALS;
+/// Numbers of a process.
+pub const PROCESS: usize = DEFINITION + 1;
 /// Numbers of a pair: channel kind, channel, count of values, two values.
 pub const PAIR: usize = 5;
 /// Where the processes begin, after both counts.
@@ -80,8 +82,8 @@ pub fn processes_at_start(model: &Model) -> usize {
     model.system.iter().map(|item| item.count * model.processes_of(item.definition)).sum()
 }
 
-/// Writes a state with at most 256 processes and 256 pairs into a buffer.
-pub fn write_buffer(state: &State, buffer: &mut [i64]) {
+/// Writes a state over this model with at most 256 processes and 256 pairs into a buffer.
+pub fn write_buffer(model: &Model, state: &State, buffer: &mut [i64]) {
     buffer.fill(0);
     buffer[0] = state.processes.len() as i64;
     buffer[1] = state.pairs.len() as i64;
@@ -89,6 +91,7 @@ pub fn write_buffer(state: &State, buffer: &mut [i64]) {
         let place = FIRST_PROCESS + number * PROCESS;
         buffer[place] = process.sum as i64;
         buffer[place + 1..place + 1 + process.locals.len()].copy_from_slice(&process.locals);
+        buffer[place + DEFINITION] = model.sums[process.sum].definition as i64;
     }
     for (number, pair) in state.pairs.iter().enumerate() {
         let place = FIRST_PAIR + number * PAIR;
@@ -132,8 +135,11 @@ pub fn read_buffer(model: &Model, buffer: &[i64]) -> Option<State> {
 
 fn read_process(model: &Model, part: &[i64]) -> Option<Process> {
     let sum = below(part[0], model.sums.len())?;
-    let (locals, unused) = part[1..].split_at(model.sums[sum].locals);
+    let (locals, unused) = part[1..DEFINITION].split_at(model.sums[sum].locals);
     if !locals.iter().all(|&local| is_value(local)) || !all_zero(unused) {
+        return None;
+    }
+    if part[DEFINITION] != model.sums[sum].definition as i64 {
         return None;
     }
     Some(Process { sum, locals: locals.to_vec() })

@@ -50,8 +50,10 @@ pub struct SystemItem {
     pub values: Vec<Number>,
 }
 
-#[derive(Debug, Default)]
+#[derive(Debug)]
 pub struct Sum {
+    /// The number of the definition in whose text it stands.
+    pub definition: usize,
     pub branches: Vec<Branch>,
 }
 

@@ -8,7 +8,7 @@ use second::{Answer, STATE};
 
 #[test]
 fn the_numbers_of_a_state() {
-    assert_eq!((PROCESS, PAIR, FIRST_PAIR, STATE), (9, 5, 2_306, 3_586));
+    assert_eq!((PROCESS, PAIR, FIRST_PAIR, STATE), (10, 5, 2_562, 3_842));
 }
 
 #[test]

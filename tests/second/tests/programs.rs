@@ -69,12 +69,17 @@ fn calls(script: &str) -> String {
 fn calls_runs_a_script() {
     let lamps = format!("open {}\n{}\n", LAMPS.len(), String::from_utf8_lossy(LAMPS));
     // After the first step the lamp's wait has rate 0.5, and 325000000 is below the total.
-    let script = format!("list\n{lamps}list\nstep 325000000\nstep 299999999\nstep 325000000\nopen 3\nA[]\nstep 0\n");
+    let script = format!(
+        "list\n{lamps}list\nreport\nstep 325000000\nstep 299999999\nstep 325000000\nopen 3\nA[]\nstep 0\nreport\n"
+    );
+    let subtotals = format!("325000000{}", " 0".repeat(63));
     let expected = "11 0 0 0 0 0
 0 0 0 0 0 0
 0 0 0 2 325000000 0
   7 0 0 2 0 0 300000000
   1 0 1 0 0 0 25000000
+0 0 0 2 325000000 0
+  SUBTOTALS
 16 0 0 2 325000000 0
   7 0 0 2 0 0 300000000
   1 0 1 0 0 0 25000000
@@ -86,7 +91,9 @@ fn calls_runs_a_script() {
   1 0 1 0 0 0 50000000
 5 3 0 0 0 0
 11 0 0 0 0 0
-";
+11 0 0 0 0 0
+"
+    .replace("SUBTOTALS", &subtotals);
     assert_eq!(calls(&script), expected);
     let file = std::path::Path::new(env!("CARGO_TARGET_TMPDIR")).join("script");
     std::fs::write(&file, &script).unwrap();
@@ -102,12 +109,12 @@ fn calls_prints_a_state() {
     let state = calls("open 15\nA[]={go,1};A[];\nstate\n");
     let (_, numbers) = state.split_once('\n').unwrap();
     let numbers: Vec<&str> = numbers.trim_end().split(' ').collect();
-    assert_eq!((numbers.len(), numbers[0], numbers[1]), (3_586, "1", "0"));
+    assert_eq!((numbers.len(), numbers[0], numbers[1]), (3_842, "1", "0"));
 }
 
 #[test]
 fn a_line_of_another_form_ends_the_run() {
-    let cases: [(&str, &str); 14] = [
+    let cases: [(&str, &str); 16] = [
         ("list\nlists\nlist\n", "11 0 0 0 0 0\nbad,2\n"),
         ("\n", "bad,1\n"),
         ("step\n", "bad,1\n"),
@@ -116,6 +123,8 @@ fn a_line_of_another_form_ends_the_run() {
         ("step 18446744073709551616\n", "bad,1\n"),
         ("step  1\n", "bad,1\n"),
         ("list 1\n", "bad,1\n"),
+        ("report 1\n", "bad,1\n"),
+        ("report\nreports\n", "11 0 0 0 0 0\nbad,2\n"),
         ("open 3\nab\n", "bad,1\n"),
         ("open 2\nabc\n", "bad,1\n"),
         ("open 3\na\nb\nlist \n", "5 2 0 0 0 0\nbad,4\n"),

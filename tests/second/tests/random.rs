@@ -3,7 +3,8 @@
 //! weights, and every refusal is met.
 
 use second::generate::*;
-use second::{model, state, Answer, LISTING, MODEL, STATE};
+use second::state::{DEFINITION, FIRST_PROCESS, PROCESS};
+use second::{model, state, Answer, LISTING, MODEL, REPORT, STATE};
 use std::collections::BTreeMap;
 
 /// How many seeds to try: the number given, unless the environment has SEEDS.
@@ -25,70 +26,86 @@ impl Drop for Named {
 /// Checks what can be told of a call from its answer and the buffers before and after it.
 fn check(call: &Call, before: &Buffers, answer: &Answer, after: &Buffers) {
     let number = answer.number;
-    let kept_model = before.model == after.model;
-    let kept_state = before.state == after.state;
-    let kept_listing = before.listing == after.listing;
-    if number != 12 {
-        assert_eq!(answer.branch, 0);
+    assert!(number == 12 || answer.branch == 0);
+    assert!(number == 0 || answer.chosen == 0);
+    assert_eq!(number == 1, call.lengths() != Some(&RIGHT));
+    if number == 1 {
+        assert!(before == after && *answer == Answer::refusal(1));
+        return;
     }
-    if number != 0 {
-        assert_eq!(answer.chosen, 0);
+    match call {
+        Call::Open { text, .. } => check_opening(text, before, answer, after),
+        Call::List { .. } | Call::Report { .. } => {
+            assert!([0, 11, 12, 13, 14].contains(&number));
+            assert!(before.state == after.state);
+            assert_eq!(answer.chosen, 0);
+            check_shown(call, before, answer, after);
+        }
+        Call::Step { .. } => {
+            assert!(number == 0 || (11..=19).contains(&number));
+            assert!(before.state == after.state || number == 0);
+            check_shown(call, before, answer, after);
+        }
+        _ => unreachable!("changes have no answer"),
     }
-    let lengths = match call {
-        Call::Open { text, lengths } => {
-            assert!(number <= 10);
-            assert_eq!((answer.count, answer.total, answer.chosen), (0, 0, 0));
-            assert!(kept_listing);
-            assert_eq!(number == 1, lengths.model != MODEL || lengths.state != STATE);
-            if number == 1 {
-                assert!(kept_model && kept_state);
-            } else if number > 1 {
-                assert!(answer.place as usize <= text.len());
-                assert!(after.model[..MODEL].iter().all(|&byte| byte == 0));
-                assert!(after.state[..STATE].iter().all(|&number| number == 0));
+}
+
+fn check_opening(text: &[u8], before: &Buffers, answer: &Answer, after: &Buffers) {
+    assert!(answer.number <= 10);
+    assert_eq!((answer.count, answer.total, answer.chosen), (0, 0, 0));
+    assert!(before.listing == after.listing && before.report == after.report);
+    if answer.number > 1 {
+        assert!(answer.place as usize <= text.len());
+        assert!(after.model[..MODEL].iter().all(|&byte| byte == 0));
+        assert!(all_zero(&after.state[..STATE]));
+    } else {
+        assert_eq!(answer.place, 0);
+        assert!(holds_a_state(after));
+        assert_eq!(&after.model[2..2 + text.len()], text);
+    }
+}
+
+/// A list, step or report whose buffers have their lengths: the listing, or of a report the report, is filled, zeroed
+/// or left, the other is left.
+fn check_shown(call: &Call, before: &Buffers, answer: &Answer, after: &Buffers) {
+    let number = answer.number;
+    let report = call.name() == "report";
+    assert!(before.model == after.model);
+    assert!(if report { before.listing == after.listing } else { before.report == after.report });
+    assert_eq!(number == 11, !holds_a_state(before));
+    assert!(number == 12 || answer.place == 0);
+    match number {
+        11 => assert!(before == after),
+        12..=14 => assert!(all_zero(if report { &after.report[..REPORT] } else { &after.listing[..LISTING] })),
+        _ => {
+            assert!(holds_a_state(after));
+            if report {
+                check_report(&after.report[..REPORT], answer, before);
             } else {
-                assert!(holds_a_state(after));
-                assert_eq!(&after.model[2..2 + text.len()], &text[..]);
-            }
-            if number <= 1 {
-                assert_eq!(answer.place, 0);
+                check_listing(&after.listing[..LISTING], answer, before);
             }
             return;
         }
-        Call::List { lengths } => {
-            assert!([0, 1, 11, 12, 13, 14].contains(&number));
-            assert!(kept_state);
-            assert_eq!(answer.chosen, 0);
-            lengths
-        }
-        Call::Step { lengths, .. } => {
-            assert!([0, 1].contains(&number) || (11..=19).contains(&number));
-            assert!(kept_state || number == 0);
-            lengths
-        }
-        _ => unreachable!("changes have no answer"),
-    };
-    assert!(kept_model);
-    assert_eq!(number == 1, *lengths != RIGHT);
-    if number == 1 || number == 11 {
-        assert!(kept_listing);
     }
-    if number != 1 {
-        assert_eq!(number == 11, !holds_a_state(before));
+    assert_eq!((answer.count, answer.total), (0, 0));
+}
+
+fn all_zero<T: PartialEq + Default>(numbers: &[T]) -> bool {
+    numbers.iter().all(|number| *number == T::default())
+}
+
+/// The weights of a listing of the same state, each added where the state has its process's definition.
+fn check_report(report: &[u64], answer: &Answer, before: &Buffers) {
+    let mut listing = vec![0; LISTING];
+    let listed = second::list(&before.model[..MODEL], &before.state[..STATE], &mut listing);
+    assert_eq!(listed, *answer);
+    let mut subtotals = vec![0; REPORT];
+    for entry in listing.chunks(7).take(listed.count as usize) {
+        let process = FIRST_PROCESS + PROCESS * entry[1] as usize;
+        subtotals[before.state[process + DEFINITION] as usize] += entry[6];
     }
-    let listing = &after.listing[..LISTING];
-    if (12..=14).contains(&number) {
-        assert!(listing.iter().all(|&number| number == 0));
-    }
-    if number == 0 || number >= 15 {
-        assert!(holds_a_state(after));
-        check_listing(listing, answer, before);
-    } else {
-        assert_eq!((answer.count, answer.total), (0, 0));
-    }
-    if number != 12 {
-        assert_eq!(answer.place, 0);
-    }
+    assert_eq!(report, subtotals);
+    assert_eq!(report.iter().sum::<u64>(), answer.total);
 }
 
 fn holds_a_state(buffers: &Buffers) -> bool {
@@ -140,11 +157,7 @@ fn calls_of_all_kinds() {
         let list = if seed % 10 == 9 { edge_calls(&mut random) } else { calls(&mut random, 40) };
         for call in list {
             let before = buffers.clone();
-            let name = match call {
-                Call::Open { .. } => "open",
-                Call::List { .. } => "list",
-                _ => "step",
-            };
+            let name = call.name();
             if let Some(answer) = buffers.make(&SECOND, &call) {
                 check(&call, &before, &answer, &buffers);
                 *met.entry((name, answer.number)).or_default() += 1;
@@ -162,6 +175,9 @@ fn calls_of_all_kinds() {
     println!("kinds of accepted steps: {:?}", &kinds[1..]);
     for number in 0..=19 {
         assert!(numbers.contains_key(&number), "{number} is never met");
+    }
+    for number in [0, 1, 11, 12, 13, 14] {
+        assert!(met.contains_key(&("report", number)), "report {number} is never met");
     }
     assert!(kinds[1..].iter().all(|&times| times > 0));
 }

@@ -20,15 +20,7 @@ fn one() {
         }
         assert!(model.iter().all(|&byte| byte == 7) && state.iter().all(|&number| number == -7));
     }
-    for lengths in [
-        (MODEL - 1, STATE, LISTING),
-        (MODEL + 1, STATE, LISTING),
-        (MODEL, STATE - 1, LISTING),
-        (MODEL, STATE + 1, LISTING),
-        (MODEL, STATE, LISTING - 1),
-        (MODEL, STATE, LISTING + 1),
-        (0, 0, 0),
-    ] {
+    for lengths in wrong_lengths(LISTING) {
         let (model, mut state, mut listing) = (vec![7; lengths.0], vec![-7; lengths.1], vec![77; lengths.2]);
         assert_eq!(second::list(&model, &state, &mut listing), Answer::refusal(1));
         assert_eq!(second::step(&model, &mut state, &mut listing, 0), Answer::refusal(1));

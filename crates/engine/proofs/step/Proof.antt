@@ -1,6 +1,6 @@
 -- Question 1 by the lengths, then the step.
 use denote.Ref.{now}
-use Rattle.machine.specs.Machine.{stepsOn}
+use Rattle.machine.specs.Machine.{listingLength, stepsOn}
 use Rattle.buffers.specs.Effect.{machineIn, stepEffect}
 use Rattle.engine.proofs.Lengths.{turn-model, turn-state, turn-listing, turn-right}
 use borrow.Author.Needs.{needs}
@@ -17,7 +17,7 @@ returns c =
     let Z = now (c .before .before .before .before .args .state) in
     let L = now (c .before .before .before .before .args .listing) in
     let t = stepsOn (machineIn B Z) (c .before .before .before .before .args .draw) in
-    rw (c .bare .ensures) (turn-model B Z L t (c .before .if1 .taken))
+    rw (c .bare .ensures) (turn-model B Z listingLength L t (c .before .if1 .taken))
 
 bare-requires-2 : tie.Need-bare-requires-2
 bare-requires-2 c κs = search needs
@@ -29,7 +29,7 @@ returns-2 c =
     let Z = now (c .before .before .before .before .before .args .state) in
     let L = now (c .before .before .before .before .before .args .listing) in
     let t = stepsOn (machineIn B Z) (c .before .before .before .before .before .args .draw) in
-    rw (c .bare2 .ensures) (turn-state B Z L t (c .before .if2 .taken))
+    rw (c .bare2 .ensures) (turn-state B Z listingLength L t (c .before .if2 .taken))
 
 bare-requires-3 : tie.Need-bare-requires-3
 bare-requires-3 c κs = search needs
@@ -41,7 +41,7 @@ returns-3 c =
     let Z = now (c .before .before .before .before .before .before .args .state) in
     let L = now (c .before .before .before .before .before .before .args .listing) in
     let t = stepsOn (machineIn B Z) (c .before .before .before .before .before .before .args .draw) in
-    rw (c .bare3 .ensures) (turn-listing B Z L t (c .before .if3 .taken))
+    rw (c .bare3 .ensures) (turn-listing B Z listingLength L t (c .before .if3 .taken))
 
 step-lent-requires : tie.Need-step-lent-requires
 step-lent-requires c κs =
@@ -60,7 +60,7 @@ returns-4 c =
     let Z = now (c .before .before .before .before .before .before .before .before .before .before .before .args .state) in
     let L = now (c .before .before .before .before .before .before .before .before .before .before .before .args .listing) in
     let t = stepsOn (machineIn B Z) (c .before .before .before .before .before .before .before .before .before .before .before .args .draw) in
-    rw (turn-right B Z L t (c .before .before .before .before .before .before .before .before .if1 .left) (c .before .before .before .before .before .before .before .if2 .left) (c .before .before .before .before .before .before .if3 .left)) (c .before .before .before .step-lent .ensures)
+    rw (turn-right B Z listingLength L t (c .before .before .before .before .before .before .before .before .if1 .left) (c .before .before .before .before .before .before .before .if2 .left) (c .before .before .before .before .before .before .if3 .left)) (c .before .before .before .step-lent .ensures)
 
 pub step-spec : {M : Type 1} → statement M
 step-spec =

@@ -1,4 +1,5 @@
 -- `listing::run_of` meets its contract: two rows of the channel enclose its run. From the laws of states.
+use Rattle.state.specs.Change.{pairsFrom}
 use Rattle.listing.proofs.run_of.Statement.{statement}
 use Rattle.listing.proofs.run_of.Tie as tie
 use Rattle.listing.proofs.run_of.Reads as reads
@@ -37,12 +38,12 @@ part-channel-run-end c =
 channel-run-requires : tie.Need-channel-run-requires
 channel-run-requires c κs =
     let w = c .before .before .before .before .pre .5 in
-    let p = tail-part 2306 (c .before .before .before .before .args .state .now) in
+    let p = tail-part pairsFrom (c .before .before .before .before .args .state .now) in
     let l = passed w .long in rw p (simp length-drop (omega (arith, c .before .before .before .pair-count .ensures .1)), rw (c .before .before .before .pair-count .ensures .0) (rows-ascend w))
 
 returns : tie.Need-returns
 returns c =
-    λ nodes ls q t roots scopes m s sq w. let g = c .before .before .struct-told .given in let p = tail-part 2306 (c .before .before .before .before .before .args .state .now) in
+    λ nodes ls q t roots scopes m s sq w. let g = c .before .before .struct-told .given in let p = tail-part pairsFrom (c .before .before .before .before .before .args .state .now) in
     let k = kind-back (sq .channel-is) in let b = back (c .before .before .before .before .before .args .o .channel) (g .1 .1 .1 .0 .1) in
     run-shown w (c .before .before .before .before .before .args .o .«channel_kind») (c .before .before .before .before .before .args .o .channel) (q .channel) _ _ (sq .channel-is) (c .channel-run .ensures .0 ∙ rw (k, b, p, c .before .before .before .before .pair-count .ensures .0)) (c .channel-run .ensures .1 ∙ rw (k, b, p, c .before .before .before .before .pair-count .ensures .0))
 

@@ -5,7 +5,7 @@ use native.Mathlib.Omega.{arith}
 use borrow.Author.Needs.{needs}
 use lib.ListN.{length, length-take}
 use Rattle.script.proofs.Called.{row-asks}
-use Rattle.script.proofs.Calling.{asks-text, asks-listing, opening-called, listing-called, stepping-called}
+use Rattle.script.proofs.Calling.{asks-text, asks-listing, opening-called, listing-called, reporting-called, stepping-called}
 use Rattle.script.proofs.call.Statement.{statement}
 use Rattle.script.proofs.call.Tie as tie
 
@@ -92,32 +92,32 @@ returns-2 : tie.Need-returns-2
 returns-2 c =
     listing-called (c .before .before .before .before .before .before .before .before .before .before .before .before .before .args .row) (now (c .before .before .before .before .before .before .before .before .before .before .before .before .before .args .texts)) (now (c .before .before .before .before .before .before .before .before .before .before .before .before .before .args .model)) (now (c .before .before .before .before .before .before .before .before .before .before .before .before .before .args .state)) (now (c .before .before .before .before .before .before .before .before .before .before .before .before .before .args .listings)) (c .before .before .list .result) (c .before .before .before .before .before .before .before .before .if1 .left) (c .before .before .before .before .before .before .if2 .taken) (c .before .before .list .last .1 .1 .0) (c .before .before .list .ensures)
 
-slice-reshare-prefix-step : tie.Need-slice-reshare-prefix-step
-slice-reshare-prefix-step c =
-    let a = row-asks (c .before .before .before .before .before .before .before .args .row) (length (now (c .before .before .before .before .before .before .before .args .texts))) (length (now (c .before .before .before .before .before .before .before .args .model))) (length (now (c .before .before .before .before .before .before .before .args .state))) (length (now (c .before .before .before .before .before .before .before .args .listings))) (c .before .before .before .before .before .before .before .pre) in omega (arith, a .model, a .state)
+slice-reshare-prefix-report : tie.Need-slice-reshare-prefix-report
+slice-reshare-prefix-report c =
+    let a = row-asks (c .before .before .before .before .before .before .before .before .before .args .row) (length (now (c .before .before .before .before .before .before .before .before .before .args .texts))) (length (now (c .before .before .before .before .before .before .before .before .before .args .model))) (length (now (c .before .before .before .before .before .before .before .before .before .args .state))) (length (now (c .before .before .before .before .before .before .before .before .before .args .listings))) (c .before .before .before .before .before .before .before .before .before .pre) in omega (arith, a .model, a .state)
 
-slice-aggregate-step : tie.Need-slice-aggregate-step
-slice-aggregate-step c =
-    let a = row-asks (c .before .before .before .before .before .before .before .before .args .row) (length (now (c .before .before .before .before .before .before .before .before .args .texts))) (length (now (c .before .before .before .before .before .before .before .before .args .model))) (length (now (c .before .before .before .before .before .before .before .before .args .state))) (length (now (c .before .before .before .before .before .before .before .before .args .listings))) (c .before .before .before .before .before .before .before .before .pre) in simp length-take (omega (arith, a .model, a .state))
+slice-aggregate-report : tie.Need-slice-aggregate-report
+slice-aggregate-report c =
+    let a = row-asks (c .before .before .before .before .before .before .before .before .before .before .args .row) (length (now (c .before .before .before .before .before .before .before .before .before .before .args .texts))) (length (now (c .before .before .before .before .before .before .before .before .before .before .args .model))) (length (now (c .before .before .before .before .before .before .before .before .before .before .args .state))) (length (now (c .before .before .before .before .before .before .before .before .before .before .args .listings))) (c .before .before .before .before .before .before .before .before .before .before .pre) in simp length-take (omega (arith, a .model, a .state))
 
-slice-relend-prefix-step : tie.Need-slice-relend-prefix-step
-slice-relend-prefix-step c =
-    let a = row-asks (c .before .before .before .before .before .before .before .before .args .row) (length (now (c .before .before .before .before .before .before .before .before .args .texts))) (length (now (c .before .before .before .before .before .before .before .before .args .model))) (length (now (c .before .before .before .before .before .before .before .before .args .state))) (length (now (c .before .before .before .before .before .before .before .before .args .listings))) (c .before .before .before .before .before .before .before .before .pre) in omega (arith, a .model, a .state)
+slice-reshare-prefix-report-2 : tie.Need-slice-reshare-prefix-report-2
+slice-reshare-prefix-report-2 c =
+    let a = row-asks (c .before .before .before .before .before .before .before .before .before .before .args .row) (length (now (c .before .before .before .before .before .before .before .before .before .before .args .texts))) (length (now (c .before .before .before .before .before .before .before .before .before .before .args .model))) (length (now (c .before .before .before .before .before .before .before .before .before .before .args .state))) (length (now (c .before .before .before .before .before .before .before .before .before .before .args .listings))) (c .before .before .before .before .before .before .before .before .before .before .pre) in omega (arith, a .model, a .state)
 
-slice-aggregate-step-2 : tie.Need-slice-aggregate-step-2
-slice-aggregate-step-2 c =
-    let a = row-asks (c .before .before .before .before .before .before .before .before .before .args .row) (length (now (c .before .before .before .before .before .before .before .before .before .args .texts))) (length (now (c .before .before .before .before .before .before .before .before .before .args .model))) (length (now (c .before .before .before .before .before .before .before .before .before .args .state))) (length (now (c .before .before .before .before .before .before .before .before .before .args .listings))) (c .before .before .before .before .before .before .before .before .before .pre) in simp length-take (omega (arith, a .model, a .state))
+slice-aggregate-report-2 : tie.Need-slice-aggregate-report-2
+slice-aggregate-report-2 c =
+    let a = row-asks (c .before .before .before .before .before .before .before .before .before .before .before .args .row) (length (now (c .before .before .before .before .before .before .before .before .before .before .before .args .texts))) (length (now (c .before .before .before .before .before .before .before .before .before .before .before .args .model))) (length (now (c .before .before .before .before .before .before .before .before .before .before .before .args .state))) (length (now (c .before .before .before .before .before .before .before .before .before .before .before .args .listings))) (c .before .before .before .before .before .before .before .before .before .before .before .pre) in simp length-take (omega (arith, a .model, a .state))
 
-slice-relend-prefix-step-2 : tie.Need-slice-relend-prefix-step-2
-slice-relend-prefix-step-2 c =
-    let a = asks-listing (c .before .before .before .before .before .before .before .before .before .args .row) (length (now (c .before .before .before .before .before .before .before .before .before .args .texts))) (length (now (c .before .before .before .before .before .before .before .before .before .args .model))) (length (now (c .before .before .before .before .before .before .before .before .before .args .state))) (length (now (c .before .before .before .before .before .before .before .before .before .args .listings))) (c .before .before .before .before .before .before .before .before .before .pre) (c .before .before .before .before .if1 .left) in omega arith
+slice-relend-prefix-report : tie.Need-slice-relend-prefix-report
+slice-relend-prefix-report c =
+    let a = asks-listing (c .before .before .before .before .before .before .before .before .before .before .before .args .row) (length (now (c .before .before .before .before .before .before .before .before .before .before .before .args .texts))) (length (now (c .before .before .before .before .before .before .before .before .before .before .before .args .model))) (length (now (c .before .before .before .before .before .before .before .before .before .before .before .args .state))) (length (now (c .before .before .before .before .before .before .before .before .before .before .before .args .listings))) (c .before .before .before .before .before .before .before .before .before .before .before .pre) (c .before .before .before .before .before .before .if1 .left) in omega arith
 
-slice-aggregate-step-3 : tie.Need-slice-aggregate-step-3
-slice-aggregate-step-3 c =
-    let a = asks-listing (c .before .before .before .before .before .before .before .before .before .before .args .row) (length (now (c .before .before .before .before .before .before .before .before .before .before .args .texts))) (length (now (c .before .before .before .before .before .before .before .before .before .before .args .model))) (length (now (c .before .before .before .before .before .before .before .before .before .before .args .state))) (length (now (c .before .before .before .before .before .before .before .before .before .before .args .listings))) (c .before .before .before .before .before .before .before .before .before .before .pre) (c .before .before .before .before .before .if1 .left) in simp length-take (omega arith)
+slice-aggregate-report-3 : tie.Need-slice-aggregate-report-3
+slice-aggregate-report-3 c =
+    let a = asks-listing (c .before .before .before .before .before .before .before .before .before .before .before .before .args .row) (length (now (c .before .before .before .before .before .before .before .before .before .before .before .before .args .texts))) (length (now (c .before .before .before .before .before .before .before .before .before .before .before .before .args .model))) (length (now (c .before .before .before .before .before .before .before .before .before .before .before .before .args .state))) (length (now (c .before .before .before .before .before .before .before .before .before .before .before .before .args .listings))) (c .before .before .before .before .before .before .before .before .before .before .before .before .pre) (c .before .before .before .before .before .before .before .if1 .left) in simp length-take (omega arith)
 
-step-requires : tie.Need-step-requires
-step-requires c κs = search needs
+report-requires : tie.Need-report-requires
+report-requires c κs = search needs
 
 same-length-6 : tie.Need-same-length-6
 same-length-6 c = search needs
@@ -130,7 +130,47 @@ same-length-8 c = search needs
 
 returns-3 : tie.Need-returns-3
 returns-3 c =
-    stepping-called (c .before .before .before .before .before .before .before .before .before .before .before .before .before .before .args .row) (now (c .before .before .before .before .before .before .before .before .before .before .before .before .before .before .args .texts)) (now (c .before .before .before .before .before .before .before .before .before .before .before .before .before .before .args .model)) (now (c .before .before .before .before .before .before .before .before .before .before .before .before .before .before .args .state)) (now (c .before .before .before .before .before .before .before .before .before .before .before .before .before .before .args .listings)) (c .before .before .before .step .result) (c .before .before .before .before .before .before .before .before .before .if1 .left) (c .before .before .before .before .before .before .before .if2 .left) (c .before .before .before .step .last .1 .0) (c .before .before .before .step .last .1 .1 .0) (c .before .before .before .step .ensures)
+    reporting-called (c .before .before .before .before .before .before .before .before .before .before .before .before .before .before .before .args .row) (now (c .before .before .before .before .before .before .before .before .before .before .before .before .before .before .before .args .texts)) (now (c .before .before .before .before .before .before .before .before .before .before .before .before .before .before .before .args .model)) (now (c .before .before .before .before .before .before .before .before .before .before .before .before .before .before .before .args .state)) (now (c .before .before .before .before .before .before .before .before .before .before .before .before .before .before .before .args .listings)) (c .before .before .report .result) (c .before .before .before .before .before .before .before .before .before .before .if1 .left) (c .before .before .before .before .before .before .before .before .if2 .left) (c .before .before .before .before .before .before .if3 .taken) (c .before .before .report .last .1 .1 .0) (c .before .before .report .ensures)
+
+slice-reshare-prefix-step : tie.Need-slice-reshare-prefix-step
+slice-reshare-prefix-step c =
+    let a = row-asks (c .before .before .before .before .before .before .before .before .before .args .row) (length (now (c .before .before .before .before .before .before .before .before .before .args .texts))) (length (now (c .before .before .before .before .before .before .before .before .before .args .model))) (length (now (c .before .before .before .before .before .before .before .before .before .args .state))) (length (now (c .before .before .before .before .before .before .before .before .before .args .listings))) (c .before .before .before .before .before .before .before .before .before .pre) in omega (arith, a .model, a .state)
+
+slice-aggregate-step : tie.Need-slice-aggregate-step
+slice-aggregate-step c =
+    let a = row-asks (c .before .before .before .before .before .before .before .before .before .before .args .row) (length (now (c .before .before .before .before .before .before .before .before .before .before .args .texts))) (length (now (c .before .before .before .before .before .before .before .before .before .before .args .model))) (length (now (c .before .before .before .before .before .before .before .before .before .before .args .state))) (length (now (c .before .before .before .before .before .before .before .before .before .before .args .listings))) (c .before .before .before .before .before .before .before .before .before .before .pre) in simp length-take (omega (arith, a .model, a .state))
+
+slice-relend-prefix-step : tie.Need-slice-relend-prefix-step
+slice-relend-prefix-step c =
+    let a = row-asks (c .before .before .before .before .before .before .before .before .before .before .args .row) (length (now (c .before .before .before .before .before .before .before .before .before .before .args .texts))) (length (now (c .before .before .before .before .before .before .before .before .before .before .args .model))) (length (now (c .before .before .before .before .before .before .before .before .before .before .args .state))) (length (now (c .before .before .before .before .before .before .before .before .before .before .args .listings))) (c .before .before .before .before .before .before .before .before .before .before .pre) in omega (arith, a .model, a .state)
+
+slice-aggregate-step-2 : tie.Need-slice-aggregate-step-2
+slice-aggregate-step-2 c =
+    let a = row-asks (c .before .before .before .before .before .before .before .before .before .before .before .args .row) (length (now (c .before .before .before .before .before .before .before .before .before .before .before .args .texts))) (length (now (c .before .before .before .before .before .before .before .before .before .before .before .args .model))) (length (now (c .before .before .before .before .before .before .before .before .before .before .before .args .state))) (length (now (c .before .before .before .before .before .before .before .before .before .before .before .args .listings))) (c .before .before .before .before .before .before .before .before .before .before .before .pre) in simp length-take (omega (arith, a .model, a .state))
+
+slice-relend-prefix-step-2 : tie.Need-slice-relend-prefix-step-2
+slice-relend-prefix-step-2 c =
+    let a = asks-listing (c .before .before .before .before .before .before .before .before .before .before .before .args .row) (length (now (c .before .before .before .before .before .before .before .before .before .before .before .args .texts))) (length (now (c .before .before .before .before .before .before .before .before .before .before .before .args .model))) (length (now (c .before .before .before .before .before .before .before .before .before .before .before .args .state))) (length (now (c .before .before .before .before .before .before .before .before .before .before .before .args .listings))) (c .before .before .before .before .before .before .before .before .before .before .before .pre) (c .before .before .before .before .before .before .if1 .left) in omega arith
+
+slice-aggregate-step-3 : tie.Need-slice-aggregate-step-3
+slice-aggregate-step-3 c =
+    let a = asks-listing (c .before .before .before .before .before .before .before .before .before .before .before .before .args .row) (length (now (c .before .before .before .before .before .before .before .before .before .before .before .before .args .texts))) (length (now (c .before .before .before .before .before .before .before .before .before .before .before .before .args .model))) (length (now (c .before .before .before .before .before .before .before .before .before .before .before .before .args .state))) (length (now (c .before .before .before .before .before .before .before .before .before .before .before .before .args .listings))) (c .before .before .before .before .before .before .before .before .before .before .before .before .pre) (c .before .before .before .before .before .before .before .if1 .left) in simp length-take (omega arith)
+
+step-requires : tie.Need-step-requires
+step-requires c κs = search needs
+
+same-length-9 : tie.Need-same-length-9
+same-length-9 c = search needs
+
+same-length-10 : tie.Need-same-length-10
+same-length-10 c = search needs
+
+same-length-11 : tie.Need-same-length-11
+same-length-11 c = search needs
+
+returns-4 : tie.Need-returns-4
+returns-4 c =
+    stepping-called (c .before .before .before .before .before .before .before .before .before .before .before .before .before .before .before .before .args .row) (now (c .before .before .before .before .before .before .before .before .before .before .before .before .before .before .before .before .args .texts)) (now (c .before .before .before .before .before .before .before .before .before .before .before .before .before .before .before .before .args .model)) (now (c .before .before .before .before .before .before .before .before .before .before .before .before .before .before .before .before .args .state)) (now (c .before .before .before .before .before .before .before .before .before .before .before .before .before .before .before .before .args .listings)) (c .before .before .before .step .result) (c .before .before .before .before .before .before .before .before .before .before .before .if1 .left) (c .before .before .before .before .before .before .before .before .before .if2 .left) (c .before .before .before .before .before .before .before .if3 .left) (c .before .before .before .step .last .1 .0) (c .before .before .before .step .last .1 .1 .0) (c .before .before .before .step .ensures)
 
 pub call-spec : {M : Type 1} → statement M
 call-spec =
@@ -159,6 +199,17 @@ call-spec =
     same-length-4
     same-length-5
     returns-2
+    slice-reshare-prefix-report
+    slice-aggregate-report
+    slice-reshare-prefix-report-2
+    slice-aggregate-report-2
+    slice-relend-prefix-report
+    slice-aggregate-report-3
+    report-requires
+    same-length-6
+    same-length-7
+    same-length-8
+    returns-3
     slice-reshare-prefix-step
     slice-aggregate-step
     slice-relend-prefix-step
@@ -166,7 +217,7 @@ call-spec =
     slice-relend-prefix-step-2
     slice-aggregate-step-3
     step-requires
-    same-length-6
-    same-length-7
-    same-length-8
-    returns-3)
+    same-length-9
+    same-length-10
+    same-length-11
+    returns-4)

@@ -69,7 +69,7 @@ settle-leaf-requires c κs =
 -- src/lib.rt:370:5
 mark-sum-requires : tie.Need-mark-sum-requires
 mark-sum-requires c κs =
-    sum-asked (c .before .before .before .before .before .before .before .before .before .before .before .before .before .before .before .before .before .before .pre) (λ q. c .before .before .before .before .before .before .before .before .if1 .left (c .before .before .before .before .before .before .before .before .before .kind-of .ensures ∙ q)) _ refl
+    sum-asked (c .before .before .before .before .before .before .before .before .before .before .before .before .before .before .before .before .before .before .pre) (λ q. c .before .before .before .before .before .before .before .before .if1 .left (c .before .before .before .before .before .before .before .before .before .kind-of .ensures ∙ q)) _ _ refl refl
 
 -- src/lib.rt:352:1
 same-length-3 : tie.Need-same-length-3
@@ -86,7 +86,7 @@ same-length-5 c = search needs
 -- src/lib.rt:352:1
 returns-2 : tie.Need-returns-2
 returns-2 c =
-    λ h. node-stepped h (λ q. c .before .before .before .before .before .before .before .before .before .before .before .before .before .if1 .left (c .before .before .before .before .before .before .before .before .before .before .before .before .before .before .kind-of .ensures ∙ q)) _ _ _ (c .before .before .before .before .before .before .before .before .before .before .before .walk-after .result) _ refl (c .before .before .before .before .before .before .before .before .before .before .before .walk-after .ensures) (c .before .before .before .before .before .before .before .before .before .settle-leaf .ensures) (c .before .before .before .before .mark-sum .ensures .0) (c .before .before .before .before .mark-sum .ensures .1)
+    λ h. node-stepped h (λ q. c .before .before .before .before .before .before .before .before .before .before .before .before .before .if1 .left (c .before .before .before .before .before .before .before .before .before .before .before .before .before .before .kind-of .ensures ∙ q)) _ _ _ (c .before .before .before .before .before .before .before .before .before .before .before .walk-after .result) _ _ refl refl (c .before .before .before .before .before .before .before .before .before .before .before .walk-after .ensures) (c .before .before .before .before .before .before .before .before .before .settle-leaf .ensures) (c .before .before .before .before .mark-sum .ensures .0) (c .before .before .before .before .mark-sum .ensures .1)
 
 pub settle-node-spec : {M : Type 1} → statement M
 settle-node-spec =

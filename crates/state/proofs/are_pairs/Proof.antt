@@ -2,6 +2,7 @@
 use mathlib.Core.Path.{sym, ap, _∙_}
 use Prim.Native.Nat.{_*_}
 use borrow.Author.Needs.{needs}
+use Rattle.machine.specs.State.{pairWidth}
 use Rattle.state.specs.Test.{every, isZero}
 use Rattle.state.proofs.Part.{tail-part}
 use Rattle.state.proofs.Tests.{refused, passed, pairs-fail, pairs-unordered, pairs-rest}
@@ -42,7 +43,7 @@ all-zero-requires c κs = search needs
 
 returns-3 : tie.Need-returns-3
 returns-3 c =
-    c .all-zero .ensures ∙ ap (every isZero) (tail-part (c .before .before .before .before .before .before .args .n * 5) (c .before .before .before .before .before .before .args .s .now)) ∙ sym (pairs-rest (c .before .before .before .before .before .before .args .channels) (c .before .before .before .before .before .before .args .n) (c .before .before .before .before .before .before .args .s .now) (sym (c .before .before .before .before .before .all-pairs .ensures) ∙ passed (c .before .before .before .before .before .all-pairs .result) (c .before .before .before .before .if1 .left)) (sym (c .before .before .before .is-ascending .ensures) ∙ passed (c .before .before .before .is-ascending .result) (c .before .before .if2 .left)))
+    c .all-zero .ensures ∙ ap (every isZero) (tail-part (c .before .before .before .before .before .before .args .n * pairWidth) (c .before .before .before .before .before .before .args .s .now)) ∙ sym (pairs-rest (c .before .before .before .before .before .before .args .channels) (c .before .before .before .before .before .before .args .n) (c .before .before .before .before .before .before .args .s .now) (sym (c .before .before .before .before .before .all-pairs .ensures) ∙ passed (c .before .before .before .before .before .all-pairs .result) (c .before .before .before .before .if1 .left)) (sym (c .before .before .before .is-ascending .ensures) ∙ passed (c .before .before .before .is-ascending .result) (c .before .before .if2 .left)))
 
 pub are-pairs-spec : {M : Type 1} → statement M
 are-pairs-spec = tie.close (tie.spec all-pairs-requires returns is-ascending-requires returns-2 mul-end mul-all-zero sub-all-zero part-all-zero-start part-all-zero-end all-zero-requires returns-3)

@@ -3,6 +3,7 @@ use mathlib.Core.Path.{sym, ap, _∙_}
 use Prim.Native.Nat.{_*_}
 use borrow.Author.Needs.{needs}
 use lib.ListN.{take}
+use Rattle.machine.specs.State.{processWidth}
 use Rattle.state.specs.Test.{every, isZero}
 use Rattle.state.proofs.Part.{tail-part}
 use Rattle.state.proofs.Tests.{refused, passed, processes-fail, processes-rest}
@@ -36,7 +37,7 @@ all-zero-requires c κs = search needs
 
 returns-2 : tie.Need-returns-2
 returns-2 c =
-    c .all-zero .ensures ∙ ap (every isZero) (tail-part (c .before .before .before .before .before .args .n * 9) (c .before .before .before .before .before .args .s .now)) ∙ sym (processes-rest (take (c .before .before .before .before .before .args .sums) (c .before .before .before .before .before .args .scopes .now)) (c .before .before .before .before .before .args .n) (c .before .before .before .before .before .args .s .now) (sym (c .before .before .before .all-processes .ensures) ∙ passed (c .before .before .before .all-processes .result) (c .before .before .if1 .left)))
+    c .all-zero .ensures ∙ ap (every isZero) (tail-part (c .before .before .before .before .before .args .n * processWidth) (c .before .before .before .before .before .args .s .now)) ∙ sym (processes-rest (take (c .before .before .before .before .before .args .sums) (c .before .before .before .before .before .args .scopes .now)) (c .before .before .before .before .before .args .n) (c .before .before .before .before .before .args .s .now) (sym (c .before .before .before .all-processes .ensures) ∙ passed (c .before .before .before .all-processes .result) (c .before .before .if1 .left)))
 
 pub are-processes-spec : {M : Type 1} → statement M
 are-processes-spec = tie.close (tie.spec all-processes-requires returns mul-end mul-all-zero sub-all-zero part-all-zero-start part-all-zero-end all-zero-requires returns-2)

@@ -5,6 +5,7 @@ use Prim.Native.Nat.{_+_, _-_, _*_, _/_, _≤_}
 use native.Mathlib.Omega.{arith}
 use lib.IntN.{ℤ}
 use lib.ListN.{length-take, length-drop}
+use Rattle.machine.specs.State.{pairWidth}
 use Rattle.rules.specs.Order.{less}
 use Rattle.state.specs.Test.{rows, placeOf}
 use Rattle.state.proofs.Part.{width-part}
@@ -14,14 +15,14 @@ use Rattle.state.proofs.find_pair.Statement.{statement}
 use Rattle.state.proofs.find_pair.Tie as tie
 
 abbrev Inv-loop : tie.InvT-loop
-Inv-loop s n row low₀ high₀ low high = (low ≤ placeOf row (rows 5 n s)) × (placeOf row (rows 5 n s) ≤ high) × (high ≤ n)
+Inv-loop s n row low₀ high₀ low high = (low ≤ placeOf row (rows pairWidth n s)) × (placeOf row (rows pairWidth n s) ≤ high) × (high ≤ n)
 
 abbrev μ-loop : tie.MeasureT-loop
 μ-loop s n row low₀ high₀ low high = high - low
 
 loop-holds : tie.Need-loop-holds Inv-loop μ-loop
 loop-holds c =
-    (omega arith, omega (arith, place-bound (c .args .row .now) (rows 5 (c .args .n) (c .args .s .now)), (rows-length 5 (c .args .n) (c .args .s .now))), omega arith)
+    (omega arith, omega (arith, place-bound (c .args .row .now) (rows pairWidth (c .args .n) (c .args .s .now)), (rows-length pairWidth (c .args .n) (c .args .s .now))), omega arith)
 
 sub-middle : tie.Need-sub-middle Inv-loop μ-loop
 sub-middle c = omega arith
@@ -59,14 +60,14 @@ loop-less c = omega arith
 
 loop-again : tie.Need-loop-again Inv-loop μ-loop
 loop-again c =
-    let h = place-more (c .before .before .before .before .before .args .row .now) (rows 5 (c .before .before .before .before .before .args .n) (c .before .before .before .before .before .args .s .now)) (c .before .before .before .before .loop .low + (c .before .before .before .before .loop .high - c .before .before .before .before .loop .low) / 2) (c .before .before .before .before .before .pre .2) (omega (arith, (rows-length 5 (c .before .before .before .before .before .args .n) (c .before .before .before .before .before .args .s .now)))) (ap (λ (r : List ℤ). less r (c .before .before .before .before .before .args .row .now)) (row-at 5 (c .before .before .before .before .before .args .n) (c .before .before .before .before .loop .low + (c .before .before .before .before .loop .high - c .before .before .before .before .loop .low) / 2) (c .before .before .before .before .before .args .s .now) (omega arith) ∙ sym (width-part ((c .before .before .before .before .loop .low + (c .before .before .before .before .loop .high - c .before .before .before .before .loop .low) / 2) * 5) 5 (c .before .before .before .before .before .args .s .now))) ∙ sym (c .before .is-before .ensures) ∙ c .if1 .taken) in (omega arith, omega arith, omega arith)
+    let h = place-more (c .before .before .before .before .before .args .row .now) (rows pairWidth (c .before .before .before .before .before .args .n) (c .before .before .before .before .before .args .s .now)) (c .before .before .before .before .loop .low + (c .before .before .before .before .loop .high - c .before .before .before .before .loop .low) / 2) (c .before .before .before .before .before .pre .2) (omega (arith, (rows-length pairWidth (c .before .before .before .before .before .args .n) (c .before .before .before .before .before .args .s .now)))) (ap (λ (r : List ℤ). less r (c .before .before .before .before .before .args .row .now)) (row-at pairWidth (c .before .before .before .before .before .args .n) (c .before .before .before .before .loop .low + (c .before .before .before .before .loop .high - c .before .before .before .before .loop .low) / 2) (c .before .before .before .before .before .args .s .now) (omega arith) ∙ sym (width-part ((c .before .before .before .before .loop .low + (c .before .before .before .before .loop .high - c .before .before .before .before .loop .low) / 2) * pairWidth) pairWidth (c .before .before .before .before .before .args .s .now))) ∙ sym (c .before .is-before .ensures) ∙ c .if1 .taken) in (omega arith, omega arith, omega arith)
 
 loop-less-2 : tie.Need-loop-less-2 Inv-loop μ-loop
 loop-less-2 c = omega arith
 
 loop-again-2 : tie.Need-loop-again-2 Inv-loop μ-loop
 loop-again-2 c =
-    let h = place-less (c .before .before .before .before .before .args .row .now) (rows 5 (c .before .before .before .before .before .args .n) (c .before .before .before .before .before .args .s .now)) (c .before .before .before .before .loop .low + (c .before .before .before .before .loop .high - c .before .before .before .before .loop .low) / 2) (omega (arith, (rows-length 5 (c .before .before .before .before .before .args .n) (c .before .before .before .before .before .args .s .now)))) (ap (λ (r : List ℤ). less r (c .before .before .before .before .before .args .row .now)) (row-at 5 (c .before .before .before .before .before .args .n) (c .before .before .before .before .loop .low + (c .before .before .before .before .loop .high - c .before .before .before .before .loop .low) / 2) (c .before .before .before .before .before .args .s .now) (omega arith) ∙ sym (width-part ((c .before .before .before .before .loop .low + (c .before .before .before .before .loop .high - c .before .before .before .before .loop .low) / 2) * 5) 5 (c .before .before .before .before .before .args .s .now))) ∙ sym (c .before .is-before .ensures) ∙ c .if1 .left) in (omega arith, omega arith, omega arith)
+    let h = place-less (c .before .before .before .before .before .args .row .now) (rows pairWidth (c .before .before .before .before .before .args .n) (c .before .before .before .before .before .args .s .now)) (c .before .before .before .before .loop .low + (c .before .before .before .before .loop .high - c .before .before .before .before .loop .low) / 2) (omega (arith, (rows-length pairWidth (c .before .before .before .before .before .args .n) (c .before .before .before .before .before .args .s .now)))) (ap (λ (r : List ℤ). less r (c .before .before .before .before .before .args .row .now)) (row-at pairWidth (c .before .before .before .before .before .args .n) (c .before .before .before .before .loop .low + (c .before .before .before .before .loop .high - c .before .before .before .before .loop .low) / 2) (c .before .before .before .before .before .args .s .now) (omega arith) ∙ sym (width-part ((c .before .before .before .before .loop .low + (c .before .before .before .before .loop .high - c .before .before .before .before .loop .low) / 2) * pairWidth) pairWidth (c .before .before .before .before .before .args .s .now))) ∙ sym (c .before .is-before .ensures) ∙ c .if1 .left) in (omega arith, omega arith, omega arith)
 
 returns : tie.Need-returns Inv-loop μ-loop
 returns c = omega arith

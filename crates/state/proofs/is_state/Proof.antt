@@ -4,6 +4,7 @@ use native.Mathlib.Omega.{arith}
 use borrow.Author.Needs.{needs}
 use lib.IntN.{pos, natAbs}
 use lib.ListN.{getD, take, length-take, length-drop}
+use Rattle.state.specs.Change.{pairsFrom}
 use Rattle.value.proofs.Kit.{back, ok-fits}
 use Rattle.state.specs.Test.{arePairs}
 use Rattle.state.proofs.Part.{tail-part}
@@ -71,7 +72,7 @@ are-pairs-requires c κs =
 
 returns-4 : tie.Need-returns-4
 returns-4 c =
-    rw (back (getD (c .before .before .before .before .before .before .before .before .before .before .before .before .args .state .now) 1 (pos 0)) (c .before .before .before .before .before .before .before .pairs .given)) at (c .are-pairs .ensures) ∙ ap (arePairs (c .before .before .before .before .before .before .before .before .before .before .before .before .args .channels) (natAbs (getD (c .before .before .before .before .before .before .before .before .before .before .before .before .args .state .now) 1 (pos 0)))) (tail-part 2306 (c .before .before .before .before .before .before .before .before .before .before .before .before .args .state .now)) ∙ sym (state-rest (take (c .before .before .before .before .before .before .before .before .before .before .before .before .args .sums) (c .before .before .before .before .before .before .before .before .before .before .before .before .args .scopes .now)) (c .before .before .before .before .before .before .before .before .before .before .before .before .args .channels) (c .before .before .before .before .before .before .before .before .before .before .before .before .args .state .now) (rw (back (getD (c .before .before .before .before .before .before .before .before .before .before .before .before .args .state .now) 0 (pos 0)) (c .before .before .before .before .before .before .before .before .before .before .processes .given)) at (sym (c .before .before .before .before .before .before .before .before .before .is-below .ensures)) ∙ passed (c .before .before .before .before .before .before .before .before .before .is-below .result) (c .before .before .before .before .before .before .before .before .if1 .left)) (rw (back (getD (c .before .before .before .before .before .before .before .before .before .before .before .before .args .state .now) 1 (pos 0)) (c .before .before .before .before .before .before .before .pairs .given)) at (sym (c .before .before .before .before .before .before .is-below2 .ensures)) ∙ passed (c .before .before .before .before .before .before .is-below2 .result) (c .before .before .before .before .before .if2 .left)) (rw (back (getD (c .before .before .before .before .before .before .before .before .before .before .before .before .args .state .now) 0 (pos 0)) (c .before .before .before .before .before .before .before .before .before .before .processes .given)) at (sym (c .before .before .before .are-processes .ensures)) ∙ passed (c .before .before .before .are-processes .result) (c .before .before .if3 .left)))
+    rw (back (getD (c .before .before .before .before .before .before .before .before .before .before .before .before .args .state .now) 1 (pos 0)) (c .before .before .before .before .before .before .before .pairs .given)) at (c .are-pairs .ensures) ∙ ap (arePairs (c .before .before .before .before .before .before .before .before .before .before .before .before .args .channels) (natAbs (getD (c .before .before .before .before .before .before .before .before .before .before .before .before .args .state .now) 1 (pos 0)))) (tail-part pairsFrom (c .before .before .before .before .before .before .before .before .before .before .before .before .args .state .now)) ∙ sym (state-rest (take (c .before .before .before .before .before .before .before .before .before .before .before .before .args .sums) (c .before .before .before .before .before .before .before .before .before .before .before .before .args .scopes .now)) (c .before .before .before .before .before .before .before .before .before .before .before .before .args .channels) (c .before .before .before .before .before .before .before .before .before .before .before .before .args .state .now) (rw (back (getD (c .before .before .before .before .before .before .before .before .before .before .before .before .args .state .now) 0 (pos 0)) (c .before .before .before .before .before .before .before .before .before .before .processes .given)) at (sym (c .before .before .before .before .before .before .before .before .before .is-below .ensures)) ∙ passed (c .before .before .before .before .before .before .before .before .before .is-below .result) (c .before .before .before .before .before .before .before .before .if1 .left)) (rw (back (getD (c .before .before .before .before .before .before .before .before .before .before .before .before .args .state .now) 1 (pos 0)) (c .before .before .before .before .before .before .before .pairs .given)) at (sym (c .before .before .before .before .before .before .is-below2 .ensures)) ∙ passed (c .before .before .before .before .before .before .is-below2 .result) (c .before .before .before .before .before .if2 .left)) (rw (back (getD (c .before .before .before .before .before .before .before .before .before .before .before .before .args .state .now) 0 (pos 0)) (c .before .before .before .before .before .before .before .before .before .before .processes .given)) at (sym (c .before .before .before .are-processes .ensures)) ∙ passed (c .before .before .before .are-processes .result) (c .before .before .if3 .left)))
 
 pub is-state-spec : {M : Type 1} → statement M
 is-state-spec = tie.close (tie.spec shared-slice-copy-out-processes is-below-requires returns shared-slice-copy-out-pairs is-below-requires-2 returns-2 sub-are-processes part-are-processes-start part-are-processes-end cast-are-processes are-processes-requires returns-3 sub-are-pairs part-are-pairs-start part-are-pairs-end cast-are-pairs are-pairs-requires returns-4)

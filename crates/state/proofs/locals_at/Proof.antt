@@ -2,6 +2,7 @@
 use Prim.Native.Nat.{_+_, _*_}
 use native.Mathlib.Omega.{arith}
 use borrow.Author.Needs.{needs}
+use Rattle.machine.specs.State.{processWidth}
 use Rattle.state.specs.Read.{localsAt}
 use Rattle.state.proofs.Part.{width-part}
 use Rattle.state.proofs.locals_at.Statement.{statement}
@@ -33,7 +34,7 @@ part-result-end c = search needs
 
 returns : tie.Need-returns
 unfolding localsAt
-returns c = width-part (2 + c .before .args .place * 9 + 1) (c .before .args .count) (c .before .args .state .now)
+returns c = width-part (2 + c .before .args .place * processWidth + 1) (c .before .args .count) (c .before .args .state .now)
 
 pub locals-at-spec : {M : Type 1} → statement M
 locals-at-spec = tie.close (tie.spec mul-from add-from add-from-2 add-to mul-result sub-result part-result-start part-result-end returns)

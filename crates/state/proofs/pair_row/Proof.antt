@@ -2,6 +2,8 @@
 use Prim.Native.Nat.{_+_, _*_}
 use native.Mathlib.Omega.{arith}
 use borrow.Author.Needs.{needs}
+use Rattle.state.specs.Change.{pairsFrom}
+use Rattle.machine.specs.State.{pairWidth}
 use Rattle.state.specs.Read.{pairRow}
 use Rattle.state.proofs.Part.{width-part}
 use Rattle.state.proofs.pair_row.Statement.{statement}
@@ -30,7 +32,7 @@ part-result-end c = search needs
 
 returns : tie.Need-returns
 unfolding pairRow
-returns c = width-part (2306 + c .before .args .place * 5) 5 (c .before .args .state .now)
+returns c = width-part (pairsFrom + c .before .args .place * pairWidth) pairWidth (c .before .args .state .now)
 
 pub pair-row-spec : {M : Type 1} → statement M
 pair-row-spec = tie.close (tie.spec mul-from add-from add-to mul-result sub-result part-result-start part-result-end returns)

@@ -1,89 +1,83 @@
--- The sum number, the locals, then the count: each as `processAdded` says.
-use Prim.Native.Nat.{_+_, _*_}
+use Rattle.state.proofs.Change.{added-length}
+-- The definition's number, then the rest of the row: each as `processPushed` says.
+use mathlib.Core.Path.{_≡_, ap, ap₂, _∙_}
+use Prim.Native.Nat.{ℕ, _+_, _*_}
 use native.Mathlib.Omega.{arith}
-use borrow.Author.Needs.{needs}
-use lib.ListN.{length, length-take, length-drop, length-set}
+use lib.IntN.{ℤ, pos, natAbs}
+use lib.ListN.{length, set, length-set}
+use lib.Seq.{getD-set-other}
 use mir.Syntax.{w64}
 use mir.Val.{toZ}
-use Rattle.state.proofs.Change.{put-length, set-length, pushed}
+use Rattle.value.proofs.Kit.{back}
+use Rattle.model.specs.Limits.{localLimit}
+use Rattle.machine.specs.State.{processWidth}
+use Rattle.state.specs.Test.{at, isBelow}
+use Rattle.state.specs.Change.{processAdded, processPushed}
+use borrow.Author.Needs.{needs}
 use Rattle.state.proofs.push_process.Statement.{statement}
 use Rattle.state.proofs.push_process.Tie as tie
+use Rattle.state.proofs.push_process.Reads as reads
+use Rattle.state.proofs.push_process.Lts as lts
+use Rattle.state.proofs.counted.Reads as counted-reads
+use Rattle.state.proofs.put_process.Reads as put-process-reads
 
+-- src/lib.rt:482:9
 counted-requires : tie.Need-counted-requires
 counted-requires c κs = search needs
 
-mul-from : tie.Need-mul-from
-mul-from c = search needs
+-- src/lib.rt:483:36
+mul-last : tie.Need-mul-last
+mul-last c = search needs
 
-add-from : tie.Need-add-from
-add-from c = search needs
+-- src/lib.rt:483:16
+add-last : tie.Need-add-last
+add-last c = search needs
 
-add-first : tie.Need-add-first
-add-first c = search needs
+-- src/lib.rt:483:16
+add-last-2 : tie.Need-add-last-2
+add-last-2 c = search needs
 
+-- src/lib.rt:484:19
 cast-state : tie.Need-cast-state
 cast-state c = search needs
 
-mul-state : tie.Need-mul-state
-mul-state c = search needs
+-- src/lib.rt:484:5
+mul-t9 : tie.Need-mul-t9
+mul-t9 c = search needs
 
+-- src/lib.rt:484:5
 slice-set-from-state : tie.Need-slice-set-from-state
 slice-set-from-state c = search needs
 
-mul-put : tie.Need-mul-put
-mul-put c = search needs
+-- src/lib.rt:485:5
+put-process-requires : tie.Need-put-process-requires
+put-process-requires c κs =
+    let e : at (set (c .before .before .before .args .state .now) (2 + c .before .counted .result * processWidth + (1 + localLimit)) (toZ w64 (c .before .before .before .args .definition))) 0 ≡ at (c .before .before .before .args .state .now) 0 = getD-set-other (c .before .before .before .args .state .now) (2 + c .before .counted .result * processWidth + (1 + localLimit)) 0 (toZ w64 (c .before .before .before .args .definition)) (pos 0) (λ q. omega arith) in
+    (length-set (c .before .before .before .args .state .now) (2 + c .before .counted .result * processWidth + (1 + localLimit)) (toZ w64 (c .before .before .before .args .definition)) ∙ c .before .before .before .pre .0, ap (isBelow 257) e ∙ c .before .before .before .pre .1, omega (arith, ap natAbs e, c .before .before .before .pre .2), c .before .before .before .pre .3, c .before .before .before .pre .4)
 
-sub-put : tie.Need-sub-put
-sub-put c =
-    simp length-set (omega (arith, c .before .before .pre .0, c .before .before .pre .2, c .before .before .pre .4, c .counted .ensures .0))
-
-part-put-start : tie.Need-part-put-start
-part-put-start c =
-    simp length-set (omega (arith, c .before .before .pre .0, c .before .before .pre .2, c .before .before .pre .4, c .counted .ensures .0))
-
-part-put-end : tie.Need-part-put-end
-part-put-end c = search needs
-
-put-requires : tie.Need-put-requires
-put-requires c κs =
-    (simp (length-take, length-drop, length-set) (omega (arith, c .before .before .before .pre .0, c .before .before .before .pre .2, c .before .before .before .pre .4, c .before .counted .ensures .0)), omega arith)
-
-add-state : tie.Need-add-state
-add-state c = search needs
-
-cast-state-2 : tie.Need-cast-state-2
-cast-state-2 c = search needs
-
-slice-set-from-state-2 : tie.Need-slice-set-from-state-2
-slice-set-from-state-2 c =
-    omega (arith, put-length (c .before .before .before .before .before .args .state .now) (c .before .before .before .before .before .args .locals .now) (c .before .put .last .0) (2 + c .before .before .before .counted .result * 9 + 1) (2 + c .before .before .before .counted .result * 9) (toZ w64 (c .before .before .before .before .before .args .sum)) (omega (arith, c .before .before .before .before .before .pre .0, c .before .before .before .before .before .pre .2, c .before .before .before .counted .ensures .0)) (omega (arith, c .before .before .before .before .before .pre .0, c .before .before .before .before .before .pre .2, c .before .before .before .before .before .pre .4, c .before .before .before .counted .ensures .0)) (c .before .put .ensures), c .before .before .before .before .before .pre .0)
-
+-- src/lib.rt:478:1
 same-length : tie.Need-same-length
 same-length c =
-    set-length (c .before .before .before .before .before .args .state .now) (c .before .before .before .before .before .args .locals .now) (c .before .put .last .0) (2 + c .before .before .before .counted .result * 9 + 1) (2 + c .before .before .before .counted .result * 9) (toZ w64 (c .before .before .before .before .before .args .sum)) (toZ w64 (c .before .before .before .counted .result + 1)) (omega (arith, c .before .before .before .before .before .pre .0, c .before .before .before .before .before .pre .2, c .before .before .before .counted .ensures .0)) (omega (arith, c .before .before .before .before .before .pre .0, c .before .before .before .before .before .pre .2, c .before .before .before .before .before .pre .4, c .before .before .before .counted .ensures .0)) (c .before .put .ensures)
+    let e : at (set (c .before .before .before .before .before .args .state .now) (2 + c .before .before .before .counted .result * processWidth + (1 + localLimit)) (toZ w64 (c .before .before .before .before .before .args .definition))) 0 ≡ at (c .before .before .before .before .before .args .state .now) 0 = getD-set-other (c .before .before .before .before .before .args .state .now) (2 + c .before .before .before .counted .result * processWidth + (1 + localLimit)) 0 (toZ w64 (c .before .before .before .before .before .args .definition)) (pos 0) (λ q. omega arith) in
+    ap length (c .before .put-process .ensures) ∙ added-length (c .before .before .before .before .before .args .sum) (c .before .before .before .before .before .args .locals .now) (set (c .before .before .before .before .before .args .state .now) (2 + c .before .before .before .counted .result * processWidth + (1 + localLimit)) (toZ w64 (c .before .before .before .before .before .args .definition))) (omega (arith, ap natAbs e, length-set (c .before .before .before .before .before .args .state .now) (2 + c .before .before .before .counted .result * processWidth + (1 + localLimit)) (toZ w64 (c .before .before .before .before .before .args .definition)), c .before .before .before .before .before .pre .0, c .before .before .before .before .before .pre .2, c .before .before .before .before .before .pre .4)) ∙ length-set (c .before .before .before .before .before .args .state .now) (2 + c .before .before .before .counted .result * processWidth + (1 + localLimit)) (toZ w64 (c .before .before .before .before .before .args .definition))
 
+-- src/lib.rt:478:1
 returns : tie.Need-returns
+unfolding processPushed
 returns c =
-    pushed (c .before .before .before .before .before .args .state .now) (c .before .before .before .before .before .args .locals .now) (c .before .put .last .0) (c .before .before .before .before .before .args .sum) (c .before .before .before .counted .result) (c .before .before .before .before .before .pre .0) (c .before .before .before .counted .ensures .0) (omega (arith, c .before .before .before .counted .ensures .0, c .before .before .before .before .before .pre .2)) (c .before .before .before .before .before .pre .3) (c .before .put .ensures)
+    c .before .put-process .ensures ∙ ap₂ (λ (j : ℕ) (z : ℤ). processAdded (c .before .before .before .before .before .args .sum) (c .before .before .before .before .before .args .locals .now) (set (c .before .before .before .before .before .args .state .now) (2 + j * processWidth + (1 + localLimit)) z)) (c .before .before .before .counted .ensures .0) (back (pos (c .before .before .before .before .before .args .definition)) (c .before .before .before .before .before .pre .5))
 
 pub push-process-spec : {M : Type 1} → statement M
 push-process-spec =
     tie.close
     (tie.spec
     counted-requires
-    mul-from
-    add-from
-    add-first
+    mul-last
+    add-last
+    add-last-2
     cast-state
-    mul-state
+    mul-t9
     slice-set-from-state
-    mul-put
-    sub-put
-    part-put-start
-    part-put-end
-    put-requires
-    add-state
-    cast-state-2
-    slice-set-from-state-2
+    put-process-requires
     same-length
     returns)

@@ -3,6 +3,7 @@ use Prim.Native.Nat.{_*_}
 use native.Mathlib.Omega.{arith}
 use borrow.Author.Needs.{needs}
 use lib.ListN.{take}
+use Rattle.machine.specs.State.{processWidth}
 use Rattle.state.proofs.Change.{replaced}
 use Rattle.state.proofs.splice.Statement.{statement}
 use Rattle.state.proofs.splice.Tie as tie
@@ -51,7 +52,7 @@ same-length c = search needs
 
 returns : tie.Need-returns
 returns c =
-    replaced (c .before .before .before .before .before .args .state .now) (take (c .before .before .before .before .before .args .count * 9) (c .before .before .before .before .before .args .fresh .now)) (c .before .rewrite .last .0) (c .before .before .before .before .before .args .place) (c .before .before .before .counted .result) (c .before .before .before .before .before .args .count) (c .before .before .before .before .before .pre .1) (c .before .before .before .counted .ensures .0) (c .before .before .before .counted .ensures .1) (omega (arith, c .before .before .before .before .before .pre .4)) (c .before .rewrite .ensures)
+    replaced (c .before .before .before .before .before .args .state .now) (take (c .before .before .before .before .before .args .count * processWidth) (c .before .before .before .before .before .args .fresh .now)) (c .before .rewrite .last .0) (c .before .before .before .before .before .args .place) (c .before .before .before .counted .result) (c .before .before .before .before .before .args .count) (c .before .before .before .before .before .pre .1) (c .before .before .before .counted .ensures .0) (c .before .before .before .counted .ensures .1) (omega (arith, c .before .before .before .before .before .pre .4)) (c .before .rewrite .ensures)
 
 pub splice-spec : {M : Type 1} → statement M
 splice-spec = tie.close (tie.spec counted-requires mul-from add-from mul-rewrite sub-rewrite part-rewrite-start part-rewrite-end mul-rewrite-2 rewrite-requires sub-state add-state cast-state slice-set-from-state same-length returns)

@@ -27,7 +27,7 @@ returns-3 c = search needs
 
 push-process-requires : tie.Need-push-process-requires
 push-process-requires c κs =
-    let h = c .before .before .before .before .before .before .before .is-good .ensures (passed (c .before .before .before .before .before .before .before .is-good .result) (c .before .before .before .before .before .before .if1 .left)) in (h .long, processes-below (c .before .before .before .before .before .before .before .before .before .args .state .now) h, omega (arith, c .before .before .before .process-count .ensures .0, c .before .before .if2 .left), omega (arith, c .before .before .before .before .before .before .before .before .before .fits .sum .fits), omega (arith, c .before .if3 .left))
+    let h = c .before .before .before .before .before .before .before .is-good .ensures (passed (c .before .before .before .before .before .before .before .is-good .result) (c .before .before .before .before .before .before .if1 .left)) in (h .long, processes-below (c .before .before .before .before .before .before .before .before .before .args .state .now) h, omega (arith, c .before .before .before .process-count .ensures .0, c .before .before .if2 .left), omega (arith, c .before .before .before .before .before .before .before .before .before .fits .sum .fits), omega (arith, c .before .if3 .left), omega (arith, c .before .before .before .before .before .before .before .before .before .fits .definition .fits))
 
 returns-4 : tie.Need-returns-4
 returns-4 c = search needs

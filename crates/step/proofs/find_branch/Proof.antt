@@ -21,12 +21,16 @@ wide-root-requires : tie.Need-wide-root-requires
 wide-root-requires c κs =
     tt
 
-shared-slice-read-wide : tie.Need-shared-slice-read-wide
-shared-slice-read-wide c =
+mul-locals-in : tie.Need-mul-locals-in
+mul-locals-in c =
+    omega (arith, c .before .before .sum-at .ensures, sum-is (c .before .before .before .before .before .before .pre .acts), in-scopes (c .before .before .before .before .before .before .pre .acts), c .before .before .before .before .before .before .good)
+
+shared-slice-read-locals-in : tie.Need-shared-slice-read-locals-in
+shared-slice-read-locals-in c =
     omega (arith, c .before .before .before .sum-at .ensures, sum-is (c .before .before .before .before .before .before .before .pre .acts), in-scopes (c .before .before .before .before .before .before .before .pre .acts))
 
-wide-requires : tie.Need-wide-requires
-wide-requires c κs =
+locals-in-requires : tie.Need-locals-in-requires
+locals-in-requires c κs =
     tt
 
 branch-root-requires : tie.Need-branch-root-requires
@@ -37,7 +41,7 @@ returns : tie.Need-returns
 returns c =
     let a = c .before .before .before .before .before .before .before .before .before .pre .acts in
     let q = c .before .before .before .before .before .sum-at .ensures ∙ sum-is a in
-    (λ m s p b g h. let e = c .before .before .before .before .before .sum-at .ensures ∙ sum-is h in (c .before .wide .ensures ∙ rw e (own-is h), root-is h (c .branch-root .result) (rw (c .before .before .before .wide-root .ensures, e) at (c .branch-root .ensures))), rw (c .before .wide .ensures, q, own-is a) (few-own a))
+    (λ m s p b g h. let e = c .before .before .before .before .before .sum-at .ensures ∙ sum-is h in (c .before .locals-in .ensures ∙ rw e (own-is h), root-is h (c .branch-root .result) (rw (c .before .before .before .wide-root .ensures, e) at (c .branch-root .ensures))), rw (c .before .locals-in .ensures, q, own-is a) (few-own a))
 
 pub find-branch-spec : {M : Type 1} → statement M
 find-branch-spec =
@@ -47,7 +51,8 @@ find-branch-spec =
     mul-wide-root
     shared-slice-read-wide-root
     wide-root-requires
-    shared-slice-read-wide
-    wide-requires
+    mul-locals-in
+    shared-slice-read-locals-in
+    locals-in-requires
     branch-root-requires
     returns)

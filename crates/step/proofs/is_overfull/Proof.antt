@@ -6,6 +6,7 @@ use borrow.Author.Needs.{needs}
 use lib.IntN.{ℤ}
 use lib.ListN.{length}
 use denote.Ref.{now}
+use Rattle.state.specs.Change.{pairsFrom}
 use Rattle.state.proofs.Part.{tail-part}
 use Rattle.state.proofs.Launch.{part-room, part-ascends}
 use Rattle.step.proofs.Tables.{passed, long}
@@ -58,7 +59,7 @@ returns-3 : tie.Need-returns-3
 returns-3 c =
     λ m s n h.
     let x = launching (now (c .before .before .before .before .before .before .before .before .before .args .state)) (c .before .before .before .before .before .before .before .before .before .args .offer) (c .before .before .before .before .before .before .before .before .if1 .left) m s n h in
-    all-taken (now (c .before .before .before .before .before .before .before .before .before .args .state)) (c .before .before .before .before .before .before .before .before .before .args .offer) m s n h (c .before .before .before .before .before .before .before .pair-count .result) (c .before .before .before .before .before .before .before .pair-count .ensures .0) (omega (arith, c .before .before .before .before .before .before .if2 .left)) _ (x .pair) (x .is) (c .before .before .before .before .put-pair .ensures (x .pair) (x .shows)) (c .is-lit .result) (rw (tail-part 2306 (now (c .before .before .before .before .before .before .before .before .before .args .state))) at (c .is-lit .ensures))
+    all-taken (now (c .before .before .before .before .before .before .before .before .before .args .state)) (c .before .before .before .before .before .before .before .before .before .args .offer) m s n h (c .before .before .before .before .before .before .before .pair-count .result) (c .before .before .before .before .before .before .before .pair-count .ensures .0) (omega (arith, c .before .before .before .before .before .before .if2 .left)) _ (x .pair) (x .is) (c .before .before .before .before .put-pair .ensures (x .pair) (x .shows)) (c .is-lit .result) (rw (tail-part pairsFrom (now (c .before .before .before .before .before .before .before .before .before .args .state))) at (c .is-lit .ensures))
 
 pub is-overfull-spec : {M : Type 1} → statement M
 is-overfull-spec =

@@ -15,12 +15,12 @@ enum-known-next c = search needs
 
 put-processes-requires : tie.Need-put-processes-requires
 put-processes-requires c κs =
-    let h = c .before .before .before .before .before .pre .0 .3 in (spaced h (c .before .before .next .given .0 .0) _ (c .before .before .next .given .1) (c .before .before .before .before .before .pre .1), h .defined .fit .values)
+    let h = c .before .before .before .before .before .before .pre .0 .3 in (spaced h (c .before .before .next .given .0 .0) _ (c .before .before .next .given .1) (c .before .before .before .before .before .before .pre .1), h .defined .fit .values)
 
 splice-requires : tie.Need-splice-requires
 splice-requires c κs =
-    let h = c .before .before .before .before .before .before .before .before .before .pre .0 .3 in
-    let w = rows-put h _ _ _ (c .before .before .before .before .before .before .before .before .before .pre .1) (c .before .before .before .put-processes .ensures (c .before .before .before .before .before .before .before .before .before .pre .0 .0) (c .before .before .before .before .before .before .before .before .before .pre .0 .2) (continues (now (c .before .before .before .before .before .before .before .before .before .args .nodes)) (c .before .before .before .before .before .before .before .before .before .args .root) (c .before .before .before .before .before .before .before .before .before .args .variables) (c .before .before .before .before .before .before .before .before .before .args .next) (c .before .before .before .before .before .before .next .given .0 .0) (c .before .before .before .before .before .before .next .given .1) (h .defined))) in
+    let h = c .before .before .before .before .before .before .before .before .before .before .pre .0 .3 in
+    let w = rows-put h _ _ _ (c .before .before .before .before .before .before .before .before .before .before .pre .1) (c .before .before .before .put-processes .ensures (c .before .before .before .before .before .before .before .before .before .before .pre .0 .0) (c .before .before .before .before .before .before .before .before .before .before .pre .0 .2) (continues (now (c .before .before .before .before .before .before .before .before .before .before .args .nodes)) (c .before .before .before .before .before .before .before .before .before .before .args .root) (c .before .before .before .before .before .before .before .before .before .before .args .variables) (c .before .before .before .before .before .before .before .before .before .before .args .next) (c .before .before .before .before .before .before .next .given .0 .0) (c .before .before .before .before .before .before .next .given .1) (h .defined)) (h .scoped)) in
     splice-asks h _ _ (w .0) (w .2)
 
 enum-told : tie.Need-enum-told
@@ -28,8 +28,8 @@ enum-told c = search needs
 
 splice-requires-2 : tie.Need-splice-requires-2
 splice-requires-2 c κs =
-    let h = c .before .before .before .before .before .pre .0 .3 in
-    splice-asks h 0 _ (sym (ap (λ (xs : List Process). length xs) (none-next (now (c .before .before .before .before .before .args .nodes)) (c .before .before .before .before .before .args .root) (c .before .before .before .before .before .args .variables) (c .before .before .before .before .before .args .next) (c .before .before .enum-told .given .1) (h .defined)))) (c .before .before .before .before .before .pre .1)
+    let h = c .before .before .before .before .before .before .pre .0 .3 in
+    splice-asks h 0 _ (sym (ap (λ (xs : List Process). length xs) (none-next (now (c .before .before .before .before .before .before .args .nodes)) (c .before .before .before .before .before .before .args .root) (c .before .before .before .before .before .before .args .variables) (c .before .before .before .before .before .before .args .next) (c .before .before .enum-told .given .1) (h .defined)))) (c .before .before .before .before .before .before .pre .1)
 
 same-length : tie.Need-same-length
 same-length c = search needs
@@ -40,7 +40,7 @@ same-length-2 c = search needs
 returns : tie.Need-returns
 returns c =
     λ m s ps h.
-    let w = rows-put h _ _ _ (c .before .before .before .before .before .before .before .before .before .before .before .pre .1) (c .before .before .before .before .before .put-processes .ensures m ps (continues (now (c .before .before .before .before .before .before .before .before .before .before .before .args .nodes)) (c .before .before .before .before .before .before .before .before .before .before .before .args .root) (c .before .before .before .before .before .before .before .before .before .before .before .args .variables) (c .before .before .before .before .before .before .before .before .before .before .before .args .next) (c .before .before .before .before .before .before .before .before .next .given .0 .0) (c .before .before .before .before .before .before .before .before .next .given .1) (h .defined))) in
+    let w = rows-put h _ _ _ (c .before .before .before .before .before .before .before .before .before .before .before .before .pre .1) (c .before .before .before .before .before .put-processes .ensures m ps (continues (now (c .before .before .before .before .before .before .before .before .before .before .before .before .args .nodes)) (c .before .before .before .before .before .before .before .before .before .before .before .before .args .root) (c .before .before .before .before .before .before .before .before .before .before .before .before .args .variables) (c .before .before .before .before .before .before .before .before .before .before .before .before .args .next) (c .before .before .before .before .before .before .before .before .next .given .0 .0) (c .before .before .before .before .before .before .before .before .next .given .1) (h .defined)) (h .scoped)) in
     replaced h _ _ _ (w .0) (w .1) (c .before .splice .ensures)
 
 same-length-3 : tie.Need-same-length-3
@@ -53,7 +53,7 @@ returns-2 : tie.Need-returns-2
 unfolding flatten
 returns-2 c =
     λ m s ps h.
-    let e = none-next (now (c .before .before .before .before .before .before .before .args .nodes)) (c .before .before .before .before .before .before .before .args .root) (c .before .before .before .before .before .before .before .args .variables) (c .before .before .before .before .before .before .before .args .next) (c .before .before .before .before .enum-told .given .1) (h .defined) in
+    let e = none-next (now (c .before .before .before .before .before .before .before .before .args .nodes)) (c .before .before .before .before .before .before .before .before .args .root) (c .before .before .before .before .before .before .before .before .args .variables) (c .before .before .before .before .before .before .before .before .args .next) (c .before .before .before .before .enum-told .given .1) (h .defined) in
     replaced h 0 [] _ (sym (ap (λ (xs : List Process). length xs) e)) (sym (ap (flatten processNumbers) e)) (c .before .splice2 .ensures)
 
 pub replace-process-spec : {M : Type 1} → statement M

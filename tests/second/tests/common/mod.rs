@@ -2,25 +2,26 @@
 
 #![allow(dead_code)]
 
-use second::state::{FIRST_PAIR, FIRST_PROCESS, PAIR, PROCESS};
-use second::{Answer, LISTING, MODEL, STATE};
+use second::state::{DEFINITION, FIRST_PAIR, FIRST_PROCESS, PAIR, PROCESS};
+use second::{Answer, LISTING, MODEL, REPORT, STATE};
 
 pub struct Bench {
     pub model: Vec<u8>,
     pub state: Vec<i64>,
     pub listing: Vec<u64>,
+    pub report: Vec<u64>,
 }
 
 pub type Entry = [u64; 7];
 
 impl Bench {
     pub fn new() -> Bench {
-        Bench { model: vec![0; MODEL], state: vec![0; STATE], listing: vec![0; LISTING] }
+        Bench { model: vec![0; MODEL], state: vec![0; STATE], listing: vec![0; LISTING], report: vec![0; REPORT] }
     }
 
     /// Buffers full of rubbish, to see what a call leaves alone.
     pub fn dirty() -> Bench {
-        Bench { model: vec![7; MODEL], state: vec![-7; STATE], listing: vec![77; LISTING] }
+        Bench { model: vec![7; MODEL], state: vec![-7; STATE], listing: vec![77; LISTING], report: vec![777; REPORT] }
     }
 
     /// An accepted text.
@@ -40,6 +41,10 @@ impl Bench {
 
     pub fn step(&mut self, draw: u64) -> Answer {
         second::step(&self.model, &mut self.state, &mut self.listing, draw)
+    }
+
+    pub fn report(&mut self) -> Answer {
+        second::report(&self.model, &self.state, &mut self.report)
     }
 
     /// An accepted list's entries.
@@ -67,17 +72,26 @@ impl Bench {
         assert_eq!((answer.number, answer.chosen), (0, chosen as u64));
     }
 
+    /// The rows of the processes. The rows after them are zero.
+    fn rows(&self) -> std::slice::Chunks<'_, i64> {
+        let (used, unused) = self.state[FIRST_PROCESS..FIRST_PAIR].split_at(PROCESS * self.state[0] as usize);
+        assert!(unused.iter().all(|&number| number == 0));
+        used.chunks(PROCESS)
+    }
+
     /// Sum number and locals of each process; locals past the first `locals` are zero.
     pub fn processes(&self, locals: usize) -> Vec<Vec<i64>> {
-        let count = self.state[0] as usize;
-        let (used, unused) = self.state[FIRST_PROCESS..FIRST_PAIR].split_at(PROCESS * count);
-        assert!(unused.iter().all(|&number| number == 0));
         let mut processes = Vec::new();
-        for process in used.chunks(PROCESS) {
-            assert!(process[1 + locals..].iter().all(|&number| number == 0), "{process:?}");
+        for process in self.rows() {
+            assert!(process[1 + locals..DEFINITION].iter().all(|&number| number == 0), "{process:?}");
             processes.push(process[..1 + locals].to_vec());
         }
         processes
+    }
+
+    /// The definition number of each process.
+    pub fn definitions(&self) -> Vec<i64> {
+        self.rows().map(|process| process[DEFINITION]).collect()
     }
 
     pub fn pairs(&self) -> Vec<[i64; PAIR]> {
@@ -86,16 +100,34 @@ impl Bench {
         used.chunks(PAIR).map(|pair| pair.try_into().unwrap()).collect()
     }
 
+    /// Sum number and locals of a process, with its definition's number; no numbers: the row is zeroed.
     pub fn set_process(&mut self, place: usize, numbers: &[i64]) {
         let start = FIRST_PROCESS + PROCESS * place;
         self.state[start..start + PROCESS].fill(0);
         self.state[start..start + numbers.len()].copy_from_slice(numbers);
+        if let Some(&sum) = numbers.first() {
+            let model = second::model::read_buffer(&self.model).expect("an open model");
+            self.state[start + DEFINITION] = model.sums[sum as usize].definition as i64;
+        }
     }
 
     pub fn set_pair(&mut self, place: usize, numbers: [i64; PAIR]) {
         let start = FIRST_PAIR + PAIR * place;
         self.state[start..start + PAIR].copy_from_slice(&numbers);
     }
+}
+
+/// Lengths of model, state and the third buffer of a call, one of them wrong, or all.
+pub fn wrong_lengths(third: usize) -> [(usize, usize, usize); 7] {
+    [
+        (MODEL - 1, STATE, third),
+        (MODEL + 1, STATE, third),
+        (MODEL, STATE - 1, third),
+        (MODEL, STATE + 1, third),
+        (MODEL, STATE, third - 1),
+        (MODEL, STATE, third + 1),
+        (0, 0, 0),
+    ]
 }
 
 /// Number and place of the answer to a text. A refused text leaves zeroed buffers.

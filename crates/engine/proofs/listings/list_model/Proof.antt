@@ -16,7 +16,7 @@ same-length c = search needs
 
 returns : tie.Need-returns
 returns c =
-    λ m bs h. rw (c .listed-answer .ensures) (finds-give bs (now (c .before .before .before .before .before .before .before .before .before .args .state)) (now (c .before .before .before .before .before .before .before .before .before .args .listing)) m (c .before .before .before .list-state .result) _ (c .before .before .before .list-state .ensures m h))
+    λ m bs h. rw (c .listed-answer .ensures) (finds-give bs (now (c .before .before .before .before .before .before .before .before .before .args .state)) (now (c .before .before .before .before .before .before .before .before .before .args .listing)) (c .before .before .before .before .before .before .before .before .before .pre .2) m (c .before .before .before .list-state .result) _ (c .before .before .before .list-state .ensures m h))
 
 pub list-model-spec : {M : Type 1} → statement M
 list-model-spec =

@@ -15,24 +15,26 @@ less-requires-2 c κs = search needs
 
 push-items-requires : tie.Need-push-items-requires
 push-items-requires c κs =
-    let T = now (c .before .before .before .before .args .nodes) in
-    let R = c .before .before .before .before .args .root in
-    let N = c .before .before .before .before .args .variables in
-    let D = c .before .before .before .before .args .definitions in
+    let T = now (c .before .before .before .before .before .args .nodes) in
+    let R = c .before .before .before .before .before .args .root in
+    let N = c .before .before .before .before .before .args .variables in
+    let D = c .before .before .before .before .before .args .definitions in
+    let S = now (c .before .before .before .before .before .args .scopes) in
     let l = c .before .less2 .ensures ∙ ap (λ (x : ℕ). x - D) (c .before .before .less .ensures) in
-    rw l (opens-fit T R N D (now (c .before .before .before .before .args .state)) (c .before .before .before .before .pre .0) (c .before .before .before .before .pre .1 .0) (c .before .before .before .before .pre .1 .1))
+    rw l (opens-fit T S R N D (now (c .before .before .before .before .before .args .state)) (c .before .before .before .before .before .pre .0) (c .before .before .before .before .before .pre .1 .0) (c .before .before .before .before .before .pre .1 .1))
 
 same-length : tie.Need-same-length
 same-length c = search needs
 
 returns : tie.Need-returns
 returns c =
-    let T = now (c .before .before .before .before .before .before .args .nodes) in
-    let R = c .before .before .before .before .before .before .args .root in
-    let N = c .before .before .before .before .before .before .args .variables in
-    let D = c .before .before .before .before .before .before .args .definitions in
+    let T = now (c .before .before .before .before .before .before .before .args .nodes) in
+    let R = c .before .before .before .before .before .before .before .args .root in
+    let N = c .before .before .before .before .before .before .before .args .variables in
+    let D = c .before .before .before .before .before .before .before .args .definitions in
+    let S = now (c .before .before .before .before .before .before .before .args .scopes) in
     let l = c .before .before .before .less2 .ensures ∙ ap (λ (x : ℕ). x - D) (c .before .before .before .before .less .ensures) in
-    opens-state T R N D (now (c .before .before .before .before .before .before .args .state)) (c .before .before .before .before .before .before .pre .0) _ (rw l at (c .before .push-items .ensures))
+    opens-state T S R N D (now (c .before .before .before .before .before .before .before .args .state)) (c .before .before .before .before .before .before .before .pre .0) _ (rw l at (c .before .push-items .ensures))
 
 pub open-state-spec : {M : Type 1} → statement M
 open-state-spec =

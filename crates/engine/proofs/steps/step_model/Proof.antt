@@ -62,7 +62,7 @@ returns c =
     let k = c .before .before .before .before .before .before .before .before .before .before .before .before .before .args .channels in
     let Z = now (c .before .before .before .before .before .before .before .before .before .before .before .before .before .args .state) in
     let L = now (c .before .before .before .before .before .before .before .before .before .before .before .before .before .args .listing) in
-    rw (c .bare .ensures) (refused-gives bs Z L (c .before .before .before .before .before .before .before .before .before .before .before .before .before .args .draw) m _ _ _ _ (rw (c .before .before .listed .given .1) at (c .before .before .before .before .before .before .list-state .ensures m (tables-of T R S o v n k m w))))
+    rw (c .bare .ensures) (refused-gives bs Z L (c .before .before .before .before .before .before .before .before .before .before .before .before .before .args .draw) (c .before .before .before .before .before .before .before .before .before .before .before .before .before .pre .2) m _ _ _ _ (rw (c .before .before .listed .given .1) at (c .before .before .before .before .before .before .list-state .ensures m (tables-of T R S o v n k m w))))
 
 same-length-3 : tie.Need-same-length-3
 same-length-3 c = search needs

@@ -57,11 +57,14 @@ put-text-requires c κs =
 slice-aggregate-open-state : tie.Need-slice-aggregate-open-state
 slice-aggregate-open-state c = search needs
 
+slice-aggregate-open-state-2 : tie.Need-slice-aggregate-open-state-2
+slice-aggregate-open-state-2 c = search needs
+
 open-state-requires : tie.Need-open-state-requires
 open-state-requires c κs =
-    let X = now (c .before .before .before .before .before .before .before .before .before .before .before .before .before .before .before .before .before .before .before .before .before .before .before .before .before .before .before .before .before .before .before .before .before .before .before .before .args .text) in
-    let o = opened-is X _ _ _ (c .before .before .before .before .before .before .before .before .before .before .before .before .before .before .before .before .before .before .open-text .ensures) (c .before .before .before .before .before .before .before .opened2 .given .1) in
-    (c .before .before .before .before .before .before .before .before .before .before .before .before .before .before .before .before .before .before .before .before .before .before .before .before .before .before .before .before .before .before .before .put-fresh .ensures .1, (o .model, starts X _ _ _ o))
+    let X = now (c .before .before .before .before .before .before .before .before .before .before .before .before .before .before .before .before .before .before .before .before .before .before .before .before .before .before .before .before .before .before .before .before .before .before .before .before .before .args .text) in
+    let o = opened-is X _ _ _ (c .before .before .before .before .before .before .before .before .before .before .before .before .before .before .before .before .before .before .before .open-text .ensures) (c .before .before .before .before .before .before .before .before .opened2 .given .1) in
+    (c .before .before .before .before .before .before .before .before .before .before .before .before .before .before .before .before .before .before .before .before .before .before .before .before .before .before .before .before .before .before .before .before .put-fresh .ensures .1, (o .model, starts X _ _ _ o))
 
 bare-requires-2 : tie.Need-bare-requires-2
 bare-requires-2 c κs = search needs
@@ -79,17 +82,17 @@ returns c =
 
 same-length-3 : tie.Need-same-length-3
 same-length-3 c =
-    omega (arith, c .before .before .before .before .before .before .model2 .given, c .before .before .before .before .before .before .before .before .before .before .before .before .before .before .before .before .before .before .before .before .before .before .before .before .before .before .before .before .before .before .before .before .before .model .given)
+    omega (arith, c .before .before .before .before .before .before .before .model2 .given, c .before .before .before .before .before .before .before .before .before .before .before .before .before .before .before .before .before .before .before .before .before .before .before .before .before .before .before .before .before .before .before .before .before .before .model .given)
 
 same-length-4 : tie.Need-same-length-4
 same-length-4 c =
-    omega (arith, c .before .state2 .given, c .before .before .before .before .before .before .before .before .before .before .before .before .before .before .before .before .before .before .before .before .before .before .before .before .before .before .before .before .before .before .before .state .given)
+    omega (arith, c .before .state2 .given, c .before .before .before .before .before .before .before .before .before .before .before .before .before .before .before .before .before .before .before .before .before .before .before .before .before .before .before .before .before .before .before .before .state .given)
 
 returns-2 : tie.Need-returns-2
 returns-2 c =
-    let X = now (c .before .before .before .before .before .before .before .before .before .before .before .before .before .before .before .before .before .before .before .before .before .before .before .before .before .before .before .before .before .before .before .before .before .before .before .before .before .before .before .args .text) in
-    let o = opened-is X _ _ _ (c .before .before .before .before .before .before .before .before .before .before .before .before .before .before .before .before .before .before .before .before .before .open-text .ensures) (c .before .before .before .before .before .before .before .before .before .before .opened2 .given .1) in
-    rw (c .bare2 .ensures) (accepted-gives X (o .model) _ _ (o .opens) (c .before .before .before .before .before .before .before .put-text .ensures) (c .before .before .open-state .ensures (o .model) (starts X _ _ _ o)))
+    let X = now (c .before .before .before .before .before .before .before .before .before .before .before .before .before .before .before .before .before .before .before .before .before .before .before .before .before .before .before .before .before .before .before .before .before .before .before .before .before .before .before .before .args .text) in
+    let o = opened-is X _ _ _ (c .before .before .before .before .before .before .before .before .before .before .before .before .before .before .before .before .before .before .before .before .before .before .open-text .ensures) (c .before .before .before .before .before .before .before .before .before .before .before .opened2 .given .1) in
+    rw (c .bare2 .ensures) (accepted-gives X (o .model) _ _ (o .opens) (c .before .before .before .before .before .before .before .before .put-text .ensures) (c .before .before .open-state .ensures (o .model) (starts X _ _ _ o)))
 
 pub open-lent-spec : {M : Type 1} → statement M
 open-lent-spec =
@@ -111,6 +114,7 @@ open-lent-spec =
     enum-known-opened-2
     put-text-requires
     slice-aggregate-open-state
+    slice-aggregate-open-state-2
     open-state-requires
     bare-requires-2
     same-length

@@ -17,56 +17,56 @@ third-of-requires c κs = search needs
 
 sub-put-arguments : tie.Need-sub-put-arguments
 sub-put-arguments c =
-    let s = c .before .before .before in
+    let s = c .before .before .before .before in
     let T = now (s .args .nodes) in
     let L = now (s .args .locals) in
     let k = s .args .k in
     let b = s .args .body in
-    values-above T (length L) k b _ _ (s .pre .0)
+    values-above T _ (length L) k b _ _ (s .pre .0)
 
 slice-aggregate-put-arguments : tie.Need-slice-aggregate-put-arguments
 slice-aggregate-put-arguments c = search needs
 
 put-arguments-requires : tie.Need-put-arguments-requires
 put-arguments-requires c κs =
-    let s = c .before .before .before .before in
+    let s = c .before .before .before .before .before in
     let T = now (s .args .nodes) in
     let L = now (s .args .locals) in
     let k = s .args .k in
     let b = s .args .body in
-    (values-room T (length L) k b _ _ (s .pre .0), s .pre .1)
+    (values-room T _ (length L) k b _ _ (s .pre .0), s .pre .1)
 
 array-share-prefix-values : tie.Need-array-share-prefix-values
 array-share-prefix-values c =
-    let s = c .before .before .before .before .before .before in
-    let T = now (s .args .nodes) in
-    let L = now (s .args .locals) in
-    let k = s .args .k in
-    let b = s .args .body in
-    let x = c .before .before .before .third-of .ensures ∙ ap thirdOf (c .before .before .before .before .cell-at .ensures) in
-    let h = values-few T (length L) k b _ _ (s .pre .0) in
-    omega (arith, h, x)
-
-slice-aggregate-given : tie.Need-slice-aggregate-given
-slice-aggregate-given c =
     let s = c .before .before .before .before .before .before .before in
     let T = now (s .args .nodes) in
     let L = now (s .args .locals) in
     let k = s .args .k in
     let b = s .args .body in
-    let x = c .before .before .before .before .third-of .ensures ∙ ap thirdOf (c .before .before .before .before .before .cell-at .ensures) in
-    let h = values-few T (length L) k b _ _ (s .pre .0) in
-    simp length-take (omega (arith, h, x))
+    let x = c .before .before .before .third-of .ensures ∙ ap thirdOf (c .before .before .before .before .cell-at .ensures) in
+    let h = values-few T _ (length L) k b _ _ (s .pre .0) in
+    omega (arith, h, x)
 
-put-sums-requires : tie.Need-put-sums-requires
-put-sums-requires c κs =
+slice-aggregate-given : tie.Need-slice-aggregate-given
+slice-aggregate-given c =
     let s = c .before .before .before .before .before .before .before .before in
     let T = now (s .args .nodes) in
     let L = now (s .args .locals) in
     let k = s .args .k in
     let b = s .args .body in
+    let x = c .before .before .before .before .third-of .ensures ∙ ap thirdOf (c .before .before .before .before .before .cell-at .ensures) in
+    let h = values-few T _ (length L) k b _ _ (s .pre .0) in
+    simp length-take (omega (arith, h, x))
+
+put-sums-requires : tie.Need-put-sums-requires
+put-sums-requires c κs =
+    let s = c .before .before .before .before .before .before .before .before .before in
+    let T = now (s .args .nodes) in
+    let L = now (s .args .locals) in
+    let k = s .args .k in
+    let b = s .args .body in
     let x = c .before .before .before .before .before .third-of .ensures ∙ ap thirdOf (c .before .before .before .before .before .before .cell-at .ensures) in
-    let h = values-few T (length L) k b _ _ (s .pre .0) in
+    let h = values-few T _ (length L) k b _ _ (s .pre .0) in
     (s .pre .0 .sums, simp length-take (omega (arith, h, x)))
 
 same-length : tie.Need-same-length
@@ -75,13 +75,13 @@ same-length c =
 
 returns : tie.Need-returns
 returns c d es ns e z =
-    let s = c .before .before .before .before .before .before .before .before .before .before in
+    let s = c .before .before .before .before .before .before .before .before .before .before .before in
     let T = now (s .args .nodes) in
     let L = now (s .args .locals) in
     let k = s .args .k in
     let b = s .args .body in
     let x = c .before .before .before .before .before .before .before .third-of .ensures ∙ ap thirdOf (c .before .before .before .before .before .before .before .before .cell-at .ensures) in
-    let v = values-are T (length L) k b (length (now (s .args .fresh))) (s .args .at) (s .pre .0) L _ (c .before .before .before .before .before .put-arguments .ensures) d es e in
+    let v = values-are T _ (length L) k b (length (now (s .args .fresh))) (s .args .at) (s .pre .0) L _ (c .before .before .before .before .before .put-arguments .ensures) d es e in
     rw (x, v) at (c .before .put-sums .ensures ns z)
 
 pub put-call-spec : {M : Type 1} → statement M

@@ -1,71 +1,51 @@
--- `eval::next::put_row` meets its contract. The loop's invariant: the first j numbers are stored.
-use mathlib.Core.Path.{_≡_, refl, ap, sym, _∙_}
-use Prim.Native.Nat.{ℕ, _+_, _-_, _*_, _≤_, _<_}
-use native.Mathlib.Omega.{arith}
-use borrow.Author.Needs.{needs}
-use lib.IntN.{ℤ, pos}
-use lib.ListN.{length, take, length-set}
-use lib.Seq.{sets, take-all}
+-- The numbers of the process, with the definition that is known of its sum.
+use mathlib.Core.Path.{ap, _∙_}
+use Prim.Native.Nat.{ℕ, _*_}
+use lib.Seq.{sets}
 use denote.Ref.{now}
-use Rattle.value.proofs.Kit.{back}
-use Rattle.machine.specs.Offer.{Process}
-use Rattle.machine.specs.State.{processNumbers}
-use Rattle.eval.proofs.Rows.{row-length, row-step}
+use Rattle.machine.specs.State.{processWidth, processNumbers}
+use Rattle.eval.specs.Next.{known}
+use borrow.Author.Needs.{needs}
 use Rattle.eval.proofs.next.put_row.Statement.{statement}
 use Rattle.eval.proofs.next.put_row.Tie as tie
+use Rattle.eval.proofs.next.put_row.Reads as reads
+use Rattle.eval.proofs.next.put_row.Lts as lts
+use Rattle.eval.proofs.next.put_numbers.Reads as put-numbers-reads
+use Rattle.state.proofs.definition_in.Reads as definition-in-reads
 
-abbrev Inv-loop : tie.InvT-loop
-Inv-loop sum locals fresh₀ at base j₀ fresh j =
-    (j ≤ 9) × (base ≡ at * 9) × (fresh ≡ sets fresh₀ base (take j (processNumbers (record { sum = sum; locals = locals })))) × (length fresh ≡ length fresh₀)
+-- src/next.rt:182:43
+mul-definition-in : tie.Need-mul-definition-in
+mul-definition-in c = search needs
 
-abbrev μ-loop : tie.MeasureT-loop
-μ-loop sum locals fresh₀ at base j₀ fresh j = 9 - j
+-- src/next.rt:182:43
+shared-slice-read-definition-in : tie.Need-shared-slice-read-definition-in
+shared-slice-read-definition-in c = search needs
 
-mul-base : tie.Need-mul-base Inv-loop μ-loop
-mul-base c = omega (arith, c .pre, c .good)
+-- src/next.rt:182:9
+definition-in-requires : tie.Need-definition-in-requires
+definition-in-requires c κs = search needs
 
-loop-holds : tie.Need-loop-holds Inv-loop μ-loop
-loop-holds c = (search needs, refl, refl, refl)
+-- src/next.rt:183:5
+put-numbers-requires : tie.Need-put-numbers-requires
+put-numbers-requires c κs = search needs
 
-row-number-requires : tie.Need-row-number-requires Inv-loop μ-loop
-row-number-requires c κs = let s = c .before .before in (s .pre .0, omega arith, s .pre .1)
+-- src/next.rt:178:1
+same-length : tie.Need-same-length
+same-length c = search needs
 
-add-i : tie.Need-add-i Inv-loop μ-loop
-add-i c = omega (arith, c .before .before .before .pre, c .before .before .before .good)
-
-mul-z : tie.Need-mul-z Inv-loop μ-loop
-mul-z c = omega (arith, c .before .before .before .pre, c .before .before .before .good)
-
-slice-set-from-z : tie.Need-slice-set-from-z Inv-loop μ-loop
-slice-set-from-z c = omega (arith, c .before .before .before .pre, c .before .before .loop .inv .3)
-
-add-j : tie.Need-add-j Inv-loop μ-loop
-add-j c = search needs
-
-loop-less : tie.Need-loop-less Inv-loop μ-loop
-loop-less c = search needs
-
-loop-again : tie.Need-loop-again Inv-loop μ-loop
-loop-again c =
-    let s = c .before .before .before in
-    let l = c .before .before .loop in
-    let p : Process = record { sum = s .args .sum; locals = now (s .args .locals) } in
-    let n = row-length p (s .pre .1) in
-    let d = back (c .row-number .result) (c .row-number .ok) in
-    let f = now (s .args .fresh) in
-    (omega arith, refl, rw d (row-step f (l .fresh) (processNumbers p) (s .args .at * 9) (l .j) (c .row-number .result) (l .inv .2) (c .row-number .ensures) (omega arith)), simp length-set (l .inv .3))
-
-same-length : tie.Need-same-length Inv-loop μ-loop
-same-length c = c .before .loop .inv .3
-
-returns : tie.Need-returns Inv-loop μ-loop
+-- src/next.rt:178:1
+returns : tie.Need-returns
+unfolding known
 returns c =
-    let s = c .before .before in
-    let l = c .before .loop in
-    let p : Process = record { sum = s .args .sum; locals = now (s .args .locals) } in
-    let n = row-length p (s .pre .1) in
-    let e : take (l .j) (processNumbers p) ≡ processNumbers p = take-all (l .j) (processNumbers p) (omega arith) in
-    rw e at (l .inv .2)
+    c .before .put-numbers .ensures ∙ ap (λ (d : ℕ). sets (now (c .before .before .before .before .before .before .args .fresh)) (c .before .before .before .before .before .before .args .at * processWidth) (processNumbers (record { sum = c .before .before .before .before .before .before .args .sum; locals = now (c .before .before .before .before .before .before .args .locals); definition = d }))) (c .before .before .before .definition-in .ensures .0)
 
 pub put-row-spec : {M : Type 1} → statement M
-put-row-spec = tie.close (tie.spec Inv-loop μ-loop mul-base loop-holds row-number-requires add-i mul-z slice-set-from-z add-j loop-less loop-again same-length returns)
+put-row-spec =
+    tie.close
+    (tie.spec
+    mul-definition-in
+    shared-slice-read-definition-in
+    definition-in-requires
+    put-numbers-requires
+    same-length
+    returns)

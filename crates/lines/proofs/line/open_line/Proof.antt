@@ -15,6 +15,9 @@ enum-known-rest c = search needs
 enum-told-2 : tie.Need-enum-told-2
 enum-told-2 c = search needs
 
+enum-told-3 : tie.Need-enum-told-3
+enum-told-3 c = search needs
+
 returns : tie.Need-returns
 returns c = search needs
 
@@ -24,6 +27,9 @@ returns-2 c = sym (ap (numbered Open) (c .before .rest .given .1))
 returns-3 : tie.Need-returns-3
 returns-3 c = search needs
 
+returns-4 : tie.Need-returns-4
+returns-4 c = search needs
+
 pub open-line-spec : {M : Type 1} → statement M
 open-line-spec =
-    tie.close (tie.spec enum-told enum-known-rest enum-told-2 returns returns-2 returns-3)
+    tie.close (tie.spec enum-told enum-known-rest enum-told-2 enum-told-3 returns returns-2 returns-3 returns-4)

@@ -6,11 +6,17 @@ use Rattle.lines.proofs.Rests.{below-digit, above-digit, at-digit}
 use Rattle.lines.proofs.line.with_byte.Statement.{statement}
 use Rattle.lines.proofs.line.with_byte.Tie as tie
 
+with-letter-requires : tie.Need-with-letter-requires
+with-letter-requires c κs = search needs
+
 returns : tie.Need-returns
-returns c = below-digit (c .before .args .rest) (c .before .args .b) (omega arith)
+returns c = c .with-letter .ensures ∙ below-digit (c .before .before .args .rest) (c .before .before .args .b) (omega arith)
+
+with-letter-requires-2 : tie.Need-with-letter-requires-2
+with-letter-requires-2 c κs = search needs
 
 returns-2 : tie.Need-returns-2
-returns-2 c = above-digit (c .before .before .args .rest) (c .before .before .args .b) (omega arith)
+returns-2 c = c .with-letter2 .ensures ∙ above-digit (c .before .before .before .args .rest) (c .before .before .before .args .b) (omega arith)
 
 cast-with-digit : tie.Need-cast-with-digit
 cast-with-digit c = search needs
@@ -23,4 +29,4 @@ returns-3 c = c .with-digit .ensures ∙ at-digit (c .before .before .before .ar
 
 pub with-byte-spec : {M : Type 1} → statement M
 with-byte-spec =
-    tie.close (tie.spec returns returns-2 cast-with-digit with-digit-requires returns-3)
+    tie.close (tie.spec with-letter-requires returns with-letter-requires-2 returns-2 cast-with-digit with-digit-requires returns-3)

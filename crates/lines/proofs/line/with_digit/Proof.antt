@@ -18,6 +18,9 @@ grow-requires c κs = search needs
 enum-told-2 : tie.Need-enum-told-2
 enum-told-2 c = search needs
 
+enum-told-3 : tie.Need-enum-told-3
+enum-told-3 c = search needs
+
 returns : tie.Need-returns
 returns c = sym (ap (λ (r : Rest). digitNext r (c .before .before .args .d)) (c .enum-told .given .1))
 
@@ -27,7 +30,10 @@ returns-2 c = c .grow .ensures ∙ sym (ap (λ (r : Rest). digitNext r (c .befor
 returns-3 : tie.Need-returns-3
 returns-3 c = search needs
 
+returns-4 : tie.Need-returns-4
+returns-4 c = search needs
+
 pub with-digit-spec : {M : Type 1} → statement M
 with-digit-spec =
     tie.close
-    (tie.spec enum-told enum-known-rest grow-requires enum-told-2 returns returns-2 returns-3)
+    (tie.spec enum-told enum-known-rest grow-requires enum-told-2 enum-told-3 returns returns-2 returns-3 returns-4)

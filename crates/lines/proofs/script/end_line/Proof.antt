@@ -2,7 +2,7 @@
 use mathlib.Core.Path.{_≡_, sym, ap, subst, _∙_}
 use Prim.Native.Nat.{ℕ}
 use borrow.Author.Needs.{needs}
-use Rattle.lines.specs.declared.line.Line.the-variants.{List as Listing, Step, State}
+use Rattle.lines.specs.declared.line.Line.the-variants.{List as Listing, Step, State, Report}
 use Rattle.lines.specs.declared.script.Part.the-variants.{InText}
 use Rattle.lines.specs.declared.script.Script.{Script}
 use Rattle.lines.specs.declared.script.Taken.{Taken}
@@ -38,6 +38,12 @@ begin-requires-3 c κs = search needs
 enum-told-3 : tie.Need-enum-told-3
 enum-told-3 c = search needs
 
+begin-requires-4 : tie.Need-begin-requires-4
+begin-requires-4 c κs = search needs
+
+enum-told-4 : tie.Need-enum-told-4
+enum-told-4 c = search needs
+
 returns : tie.Need-returns
 returns c = ap (λ (y : ℕ). Goes (record { line = y; from = c .before .before .before .before .args .line; part = InText (c .before .says .given .0 .0) 0 })) (c .before .before .before .next-line .ensures) ∙ sym (ap (ended (c .before .before .before .before .args .line)) (c .before .says .given .1))
 
@@ -51,7 +57,10 @@ returns-4 : tie.Need-returns-4
 returns-4 c = ap (Asks State) (c .begin3 .ensures ∙ ap fresh (c .before .before .before .next-line .ensures)) ∙ sym (ap (ended (c .before .before .before .before .args .line)) (c .before .enum-told2 .given .1))
 
 returns-5 : tie.Need-returns-5
-returns-5 c = sym (ap (ended (c .before .before .before .args .line)) (c .enum-told3 .given .1))
+returns-5 c = ap (Asks Report) (c .begin4 .ensures ∙ ap fresh (c .before .before .before .next-line .ensures)) ∙ sym (ap (ended (c .before .before .before .before .args .line)) (c .before .enum-told3 .given .1))
+
+returns-6 : tie.Need-returns-6
+returns-6 c = sym (ap (ended (c .before .before .before .args .line)) (c .enum-told4 .given .1))
 
 pub end-line-spec : {M : Type 1} → statement M
 end-line-spec =
@@ -66,8 +75,11 @@ end-line-spec =
     enum-told-2
     begin-requires-3
     enum-told-3
+    begin-requires-4
+    enum-told-4
     returns
     returns-2
     returns-3
     returns-4
-    returns-5)
+    returns-5
+    returns-6)

@@ -1,12 +1,15 @@
--- The head tells which of the four words begins the line.
+-- The head tells which of the five words begins the line.
 use native.Mathlib.Omega.{arith}
 use borrow.Author.Needs.{needs}
-use Rattle.lines.proofs.Heads.{says-list, says-state, says-open, says-step, says-bad}
+use Rattle.lines.proofs.Heads.{says-list, says-state, says-report, says-open, says-step, says-bad}
 use Rattle.lines.proofs.line.Reading.says.Statement.{statement}
 use Rattle.lines.proofs.line.Reading.says.Tie as tie
 
 state-line-requires : tie.Need-state-line-requires
 state-line-requires c κs = search needs
+
+report-line-requires : tie.Need-report-line-requires
+report-line-requires c κs = search needs
 
 open-line-requires : tie.Need-open-line-requires
 open-line-requires c κs = search needs
@@ -21,23 +24,28 @@ returns-2 : tie.Need-returns-2
 returns-2 c = λ s h. says-state h (c .before .match .keys2) (c .state-line .ensures)
 
 returns-3 : tie.Need-returns-3
-returns-3 c = λ s h. says-open h (c .before .match .keys3) (c .open-line .ensures)
+returns-3 c = λ s h. says-report h (c .before .match .keys3) (c .report-line .ensures)
 
 returns-4 : tie.Need-returns-4
-returns-4 c = λ s h. says-step h (c .before .match .keys4) (c .step-line .ensures)
+returns-4 c = λ s h. says-open h (c .before .match .keys4) (c .open-line .ensures)
 
 returns-5 : tie.Need-returns-5
-returns-5 c = λ s h. let m = c .match .rest in says-bad h (m .0 .0 .0 .1) (m .0 .0 .1) (m .0 .1) (m .1)
+returns-5 c = λ s h. says-step h (c .before .match .keys5) (c .step-line .ensures)
+
+returns-6 : tie.Need-returns-6
+returns-6 c = λ s h. let m = c .match .rest in says-bad h (m .0 .0 .0 .0 .1) (m .0 .0 .0 .1) (m .0 .0 .1) (m .0 .1) (m .1)
 
 pub says-spec : {M : Type 1} → statement M
 says-spec =
     tie.close
     (tie.spec
     state-line-requires
+    report-line-requires
     open-line-requires
     step-line-requires
     returns
     returns-2
     returns-3
     returns-4
-    returns-5)
+    returns-5
+    returns-6)

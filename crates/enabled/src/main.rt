@@ -1,6 +1,6 @@
 // The bench sheet: reads a model from standard input and prints its first listing, or `refused`, the refusal's number and its place, and for 12 also the branch.
 use engine::Answer;
-use engine::Engine;
+use store::Engine;
 use libc::STDIN_FILENO;
 use output::Buffer;
 

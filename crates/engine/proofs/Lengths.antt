@@ -16,7 +16,7 @@ use Rattle.machine.specs.Machine.{modelLength, no, lent, Machine, Turn, closed}
 use Rattle.buffers.specs.Held.{lengthIn, textIn, heldIn}
 use Rattle.buffers.specs.Effect.{untouched, machineOver, machineIn, leaves, whenLent, opensWith, openEffect}
 use Rattle.engine.specs.Gives.{Gives, bare}
-use Rattle.engine.specs.Text.{TextOf}
+use Rattle.store.specs.Text.{TextOf}
 
 and-false : (a : Bool) → (a && false) ≡ false
 and-false true = refl

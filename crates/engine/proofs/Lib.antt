@@ -1,8 +1,4 @@
 -- Laws that the proofs of the engine's functions cite.
-pub mod Towards
-pub mod Nodes
-pub mod Opened
-pub mod Bytes
 pub mod Shows
 pub mod Openings
 pub mod Lengths

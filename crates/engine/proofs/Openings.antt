@@ -19,7 +19,7 @@ use Rattle.buffers.specs.Effect.{machineOver, leaves, opensWith}
 use Rattle.engine.specs.Gives.{Gives, bare}
 use Rattle.engine.specs.Tables.{Tables}
 use Rattle.engine.specs.Steps.{Whole}
-use Rattle.engine.specs.Start as start
+use Rattle.store.specs.Start as start
 use Rattle.settle.specs.declared.Model.{Model}
 use Rattle.opening.specs.declared.Held.{Held}
 use Rattle.opening.specs.declared.Held.the-variants.{Refused as HeldRefused, Model as HeldModel}

@@ -1,6 +1,4 @@
 -- What the calls of the engine give, and what is written on the way.
-pub mod Start
-pub mod Text
 pub mod Gives
 pub mod Tables
 pub mod Steps

@@ -1,13 +1,12 @@
-// An engine: its calls open, list, step and report, what they answer, its header and the lengths of its buffers.
-pub mod buffer;
+// An engine: its calls open, list, step and report, and what they answer.
 pub mod listings;
-pub mod start;
 pub mod steps;
 pub mod subtotals;
 pub mod texts;
 
-use buffer::Bytes;
-use buffer::Text;
+use store::Engine;
+use store::buffer::Bytes;
+use store::buffer::Text;
 ghost use mathlib.Core.Path.{_≡_};
 ghost use mathlib.Core.List.{[]};
 ghost use lib.ListN.{length};
@@ -58,35 +57,6 @@ impl Answer {
     }
 }
 
-// The header of an engine: the length of its text, and how many processes and pairs it has.
-pub struct Engine {
-    pub text: usize,
-    pub processes: usize,
-    pub pairs: usize,
-}
-
-impl Engine {
-    // The lengths of the lent buffers.
-    pub const MODEL: usize = 16386;
-
-    pub const STATE: usize = 3842;
-
-    pub const LISTING: usize = 7168;
-
-    pub const REPORT: usize = 64;
-
-    // Closed, no process, no pair.
-    pub fn fresh() -> Self
-        ensures { λ r. ⌜ (r .text ≡ 0) × (r .processes ≡ 0) × (r .pairs ≡ 0) ⌝ }
-    {
-        Engine {
-            text: 0,
-            processes: 0,
-            pairs: 0,
-        }
-    }
-}
-
 // Reads a model text and sets the engine to its start.
 pub fn open(text: &[u8], model: &mut [u8], state: &mut [i64]) -> Answer
     ensures { λ r. ⌜ Gives (openEffect (now (text .entry)) (now (model .entry)) (now (state .entry))) r (now (model .exit)) (now (state .exit)) [] ⌝ }
@@ -105,7 +75,7 @@ fn list_lent(model: &[u8], state: &[i64], listing: &mut [u64]) -> Answer
     requires { ⌜ (length (now model) ≡ modelLength) × (length (now state) ≡ stateLength) × (length (now listing) ≡ listingLength) ⌝ }
     ensures { λ r. ⌜ Gives (leaves (now (model .entry)) (now (state .entry)) (now (listing .entry)) (lists (machineIn (now (model .entry)) (now (state .entry))))) r (now (model .entry)) (now (state .entry)) (now (listing .exit)) ⌝ }
 {
-    let found = buffer::find_text(model);
+    let found = store::buffer::find_text(model);
     match found {
         Text::Nothing => Answer::bare(11, 0, 0),
         Text::Long(n) => {
@@ -136,7 +106,7 @@ fn step_lent(model: &[u8], state: &mut [i64], listing: &mut [u64], draw: u64) ->
     requires { ⌜ (length (now model) ≡ modelLength) × (length (now state) ≡ stateLength) × (length (now listing) ≡ listingLength) ⌝ }
     ensures { λ r. ⌜ Gives (leaves (now (model .entry)) (now (state .entry)) (now (listing .entry)) (stepsOn (machineIn (now (model .entry)) (now (state .entry))) draw)) r (now (model .entry)) (now (state .exit)) (now (listing .exit)) ⌝ }
 {
-    let found = buffer::find_text(model);
+    let found = store::buffer::find_text(model);
     match found {
         Text::Nothing => Answer::bare(11, 0, 0),
         Text::Long(n) => {
@@ -167,7 +137,7 @@ fn report_lent(model: &[u8], state: &[i64], report: &mut [u64]) -> Answer
     requires { ⌜ (length (now model) ≡ modelLength) × (length (now state) ≡ stateLength) × (length (now report) ≡ reportLength) ⌝ }
     ensures { λ r. ⌜ Gives (leaves (now (model .entry)) (now (state .entry)) (now (report .entry)) (reports (machineIn (now (model .entry)) (now (state .entry))))) r (now (model .entry)) (now (state .entry)) (now (report .exit)) ⌝ }
 {
-    let found = buffer::find_text(model);
+    let found = store::buffer::find_text(model);
     match found {
         Text::Nothing => Answer::bare(11, 0, 0),
         Text::Long(n) => {

@@ -30,7 +30,7 @@ pub fn open_lent(text: &[u8], model: &mut [u8], state: &mut [i64]) -> Answer
     let mut roots = [0u16; question::Limits::TOKENS];
     let mut scopes = [0u16; question::Limits::TOKENS];
     let mut names = [0u64; question::Limits::TOKENS];
-    crate::buffer::put_fresh(model, state);
+    store::buffer::put_fresh(model, state);
     let opened = opening::open_text(
         text,
         &mut kinds,
@@ -46,8 +46,8 @@ pub fn open_lent(text: &[u8], model: &mut [u8], state: &mut [i64]) -> Answer
     match opened {
         Opened::Refused(number, place) => Answer::bare(number as u64, place as u64, 0),
         Opened::Accepted(found, _) => {
-            crate::buffer::put_text(model, text);
-            crate::start::open_state(
+            store::buffer::put_text(model, text);
+            store::start::open_state(
                 &nodes,
                 found.root,
                 found.variables,

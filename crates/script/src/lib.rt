@@ -1,6 +1,6 @@
 // A script of calls on one engine: six numbers a row, run in order on lent buffers.
 use engine::Answer;
-use engine::Engine;
+use store::Engine;
 ghost use mathlib.Core.Path.{_≡_};
 ghost use mathlib.Core.Bool.{true};
 ghost use mathlib.Core.List.{_++_};

@@ -1,7 +1,7 @@
 -- The text that the model buffer holds, or 11.
 use native.Mathlib.Omega.{arith}
 use denote.Ref.{now}
-use Rattle.engine.specs.Text.{TextOf, TextIn}
+use Rattle.store.specs.Text.{TextOf, TextIn}
 use Rattle.engine.proofs.Drawn.{eleven-steps}
 use Rattle.engine.proofs.Lengths.{none-in, text-in}
 use borrow.Author.Needs.{needs}

@@ -8,6 +8,7 @@ pub mod Becomes
 pub mod Stepping
 pub mod Everys
 pub mod Parts
+pub mod Offering
 pub mod Ranges
 pub mod Continues
 pub mod Bound

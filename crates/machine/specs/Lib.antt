@@ -1,10 +1,12 @@
 pub mod Evaluate
 pub mod Offer
+pub mod Offering
 pub mod State
 pub mod Report
 pub mod Machine
 pub mod Questions
 pub mod Specimens
+pub mod Rows
 pub mod Refusals
 pub mod Starred
 pub mod Results

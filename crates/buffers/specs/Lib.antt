@@ -1,6 +1,7 @@
 -- What calls leave in the buffers that they are lent, and what is said of lists of calls.
 pub mod Held
 pub mod Listing
+pub mod Rows
 pub mod Effect
 pub mod Calls
 pub mod Transitions

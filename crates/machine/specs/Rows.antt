@@ -1,12 +1,12 @@
 -- What evaluation and the numbers of a state come to, with literal numbers, by computation, one to a row: each operator, relation and join, a local as a scale, the order of
 -- a continuation's processes, the numbers of a state.
 use mathlib.Core.Path.{_≡_, refl}
-use mathlib.Core.List.{List, [], _∷_, _++_}
+use mathlib.Core.List.{[], _∷_}
 use mathlib.Core.Bool.{Bool, true, false}
 use mathlib.Core.Option.{Option, some, Option·elim}
 use Prim.Native.Nat.{ℕ}
 use lib.IntN.{ℤ, pos, negsuc}
-use lib.ListN.{length, take, drop, replicate}
+use lib.ListN.{take}
 use Rattle.value.specs.declared.Value.{Value}
 use Rattle.value.specs.declared.Value.the-variants.{Is}
 use Rattle.value.specs.Range.{valueOf}
@@ -15,12 +15,11 @@ use Rattle.grammar.specs.Grammar.{Relation, less, atMost, greater, atLeast, sam
 use Rattle.grammar.specs.Syntax.{Op, plus, minus, times, maximum, minimum, Join, without, union, inter}
 use Rattle.model.specs.Resolved
 use Rattle.rules.specs.Offers as offers
-use Rattle.rules.specs.Pairs as pairs
 use Rattle.machine.specs.Evaluate as evaluate
 use Rattle.machine.specs.Evaluate.{given, evalExpr, evalSet, evalCond, evalRate}
 use Rattle.machine.specs.Offer as offer
 use Rattle.machine.specs.Offer.{Process}
-use Rattle.machine.specs.State.{State, padded, flatten, processNumbers, pairNumbers, stateNumbers}
+use Rattle.machine.specs.State.{State, padded, flatten, processNumbers, stateNumbers}
 use Rattle.machine.specs.Specimens.{sheet}
 
 -- two constants joined by an operator
@@ -41,12 +40,9 @@ compared r x y = evalCond [] (Resolved.compare false r (Resolved.constant (pos x
 abbrev process : ℕ → ℕ → Process
 process n z = record { sum = n; locals = pos z ∷ []; definition = n }
 
--- two processes and two pairs of the sheet
+-- two processes of the sheet, and no pair
 abbrev two : State
-two = record {
-  processes = process 0 5 ∷ process 1 7 ∷ [];
-  pairs = record { channel = offers.number (pos 3); values = pos 8 ∷ pos 9 ∷ [] } ∷ record { channel = offers.named 0; values = pos 4 ∷ [] } ∷ [];
-}
+two = record { processes = process 0 5 ∷ process 1 7 ∷ []; pairs = [] }
 
 pub rows :
     -- operators: the right side is taken from the left
@@ -90,10 +86,10 @@ pub rows :
         ≡ process 1 5 ∷ process 0 8 ∷ process 0 5 ∷ [])
     -- the numbers of a state: both counts, then the processes, of which unused numbers are 0
     × (take 12 (stateNumbers two)
-        ≡ pos 2 ∷ pos 2 ∷ pos 0 ∷ pos 5 ∷ pos 0 ∷ pos 0 ∷ pos 0 ∷ pos 0 ∷ pos 0 ∷ pos 0 ∷ pos 0 ∷ pos 0 ∷ [])
+        ≡ pos 2 ∷ pos 0 ∷ pos 0 ∷ pos 5 ∷ pos 0 ∷ pos 0 ∷ pos 0 ∷ pos 0 ∷ pos 0 ∷ pos 0 ∷ pos 0 ∷ pos 0 ∷ [])
     × (processNumbers (process 1 7) ≡ pos 1 ∷ pos 7 ∷ pos 0 ∷ pos 0 ∷ pos 0 ∷ pos 0 ∷ pos 0 ∷ pos 0 ∷ pos 0 ∷ pos 1 ∷ [])
 unfolding
     evalExpr evaluate.apply evaluate.withValue evaluate.valued given sumOf differenceOf productOf absOf maxOf minOf valueOf evalSet evaluate.joined offers.within
     evalCond evaluate.related evalRate evaluate.evalScale evaluate.inRate offer.nextProcesses offer.partProcesses offer.called offer.processAt offer.definitionOf offer.orZero
-    stateNumbers padded flatten processNumbers pairNumbers pairs.numbers pairs.channelNumbers Option·elim
+    stateNumbers padded flatten processNumbers Option·elim
 rows = (refl, refl, refl, refl, refl, refl, refl, refl, refl, refl, refl, refl, refl, refl, refl, refl, refl, refl, refl, refl, refl, refl, refl, refl, refl, refl, refl, refl, refl, refl, refl, refl, refl, refl, refl)

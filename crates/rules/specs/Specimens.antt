@@ -6,7 +6,7 @@ use mathlib.Core.Option.{none, some, Option·elim}
 use Prim.Native.Nat.{ℕ, _*_}
 use lib.IntN.{ℤ, pos, natAbs, _+ℤ_}
 use Rattle.value.specs.Arithmetic.{isLess}
-use Rattle.rules.specs.Offers.{Channel, number, named, Pair, Set, range, without, within, Query, wait, receive, bind, check, send, take, takeBind, Guard, bare, opened, shut, Branch, State}
+use Rattle.rules.specs.Offers.{Channel, number, named, Pair, Set, range, without, within, Query, wait, launch, kill, receive, bind, check, send, take, takeBind, Guard, bare, opened, shut, Branch, State}
 use Rattle.rules.specs.Order.{less}
 use Rattle.rules.specs.Kind as kind
 use Rattle.rules.specs.Rules.{key, unchanged, launched, killed}
@@ -99,5 +99,16 @@ pub rows :
     -- one process both sending and receiving: no handshake; two such processes: each sends to the other
     × (entries both (alone []) ≡ [])
     × (entries both (record { processes = tt ∷ tt ∷ []; pairs = [] }) ≡ entry (key kind.handshake 0 0 1 1 0) 1 ∷ entry (key kind.handshake 1 0 0 1 0) 1 ∷ [])
+    -- the kinds of entries, each with its number
+    × (entries (one (bare wait 1)) (alone []) ≡ entry (key 1 0 0 0 0 0) 10000 ∷ [])
+    × (entries (one (bare (launch (pair 3)) 1)) (alone []) ≡ entry (key 2 0 0 0 0 0) 10000 ∷ [])
+    × (entries (one (bare (kill (pair 3)) 1)) (alone []) ≡ entry (key 3 0 0 0 0 0) 10000 ∷ [])
+    × (entries (one (bare (receive query) 1)) (alone (pair 3 ∷ [])) ≡ entry (key 4 0 0 0 0 0) 10000 ∷ [])
+    × (entries (one (bare (bind query) 1)) (alone (pair 3 ∷ [])) ≡ entry (key 5 0 0 0 0 0) 10000 ∷ [])
+    × (entries (one (bare (check query) 1)) (alone []) ≡ entry (key 6 0 0 0 0 0) 10000 ∷ [])
+    × (entries both (record { processes = tt ∷ tt ∷ []; pairs = [] }) ≡ entry (key 7 0 0 1 1 0) 1 ∷ entry (key 7 1 0 0 1 0) 1 ∷ [])
+    -- the numbers of a pair: kind (0 number, 1 name), channel, count, values
+    × (numbers (record { channel = number (pos 6); values = pos 8 ∷ pos 9 ∷ [] }) ≡ pos 0 ∷ pos 6 ∷ pos 2 ∷ pos 8 ∷ pos 9 ∷ [])
+    × (numbers (record { channel = named 6; values = pos 8 ∷ [] }) ≡ pos 1 ∷ pos 6 ∷ pos 1 ∷ pos 8 ∷ [])
 unfolding entries gather when unless ofProcess ofGuard ofAction partnersIn partner partnerAction matches sameChannel allWithin within anyMatch weights weightOf total chosen step atBranch oneActs bothAct onAction changeOf boundBy valuesAt sentBy replace replaceBoth pairsAfter insert remove before numbers channelNumbers less Option·elim
-rows = (refl, refl, refl, refl, refl, refl, refl, refl, refl, refl, refl, refl, refl, refl, refl, refl, refl, refl, refl, refl, refl)
+rows = (refl, refl, refl, refl, refl, refl, refl, refl, refl, refl, refl, refl, refl, refl, refl, refl, refl, refl, refl, refl, refl, refl, refl, refl, refl, refl, refl, refl, refl, refl)

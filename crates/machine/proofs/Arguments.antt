@@ -79,7 +79,7 @@ receiver-binds us (rule18 f) = receiver-binds us f
 binder-binds : {lit : List offers.Pair} {g : offers.Guard} {w : offers.Query} {r q : ℕ} {n : Change} {vs : List ℤ} (us : List ℤ)
     → Offered lit g (label (offers.takeBind w) r q n vs) → onAction [] (boundBy us) g ≡ us
 unfolding onAction boundBy
-binder-binds us (takesBind vs) = refl
+binder-binds us (takesBind x h e) = refl
 binder-binds us (rule18 f) = binder-binds us f
 
 both-true : (a b : Bool) → a && b ≡ true → (a ≡ true) × (b ≡ true)

@@ -77,7 +77,7 @@ label-action (rule12 h m) c = own c
 label-action (rule13 f) c = own c
 label-action sends c = own c
 label-action takes c = own c
-label-action (takesBind vs) c = own c
+label-action (takesBind x h e) c = own c
 label-action (rule18 f) c = label-action f (ungated c)
 
 -- ---- what is bound
@@ -124,5 +124,5 @@ module _ (m : Resolved.Model) where
   change-good (rule13 f) g = tt
   change-good sends g = tt
   change-good takes g = tt
-  change-good (takesBind vs) g = tt
+  change-good (takesBind x h e) g = tt
   change-good (rule18 f) g = change-good f g

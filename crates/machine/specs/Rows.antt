@@ -83,10 +83,10 @@ pub rows :
     × (evalRate (pos 3 ∷ []) (Resolved.scaled (Resolved.fixed (pos 2500)) (Resolved.localAt 0)) ≡ some 7500)
     -- a continuation's processes, left to right: a sum keeps the locals, a call has its arguments
     × (offer.nextProcesses sheet (pos 5 ∷ []) (Resolved.enter 1 ∷ Resolved.call 0 (Resolved.constant (pos 8) ∷ []) ∷ Resolved.enter 0 ∷ [])
-        ≡ process 1 5 ∷ process 0 8 ∷ process 0 5 ∷ [])
+    ≡ process 1 5 ∷ process 0 8 ∷ process 0 5 ∷ [])
     -- the numbers of a state: both counts, then the processes, of which unused numbers are 0
     × (take 12 (stateNumbers two)
-        ≡ pos 2 ∷ pos 0 ∷ pos 0 ∷ pos 5 ∷ pos 0 ∷ pos 0 ∷ pos 0 ∷ pos 0 ∷ pos 0 ∷ pos 0 ∷ pos 0 ∷ pos 0 ∷ [])
+    ≡ pos 2 ∷ pos 0 ∷ pos 0 ∷ pos 5 ∷ pos 0 ∷ pos 0 ∷ pos 0 ∷ pos 0 ∷ pos 0 ∷ pos 0 ∷ pos 0 ∷ pos 0 ∷ [])
     × (processNumbers (process 1 7) ≡ pos 1 ∷ pos 7 ∷ pos 0 ∷ pos 0 ∷ pos 0 ∷ pos 0 ∷ pos 0 ∷ pos 0 ∷ pos 0 ∷ pos 1 ∷ [])
 unfolding
     evalExpr evaluate.apply evaluate.withValue evaluate.valued given sumOf differenceOf productOf absOf maxOf minOf valueOf evalSet evaluate.joined offers.within

@@ -3,6 +3,7 @@ pub mod Decides
 pub mod Gather
 pub mod Places
 pub mod Listed
+pub mod Beacons
 pub mod Less
 pub mod Ascends
 pub mod Once

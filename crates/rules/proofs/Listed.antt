@@ -64,7 +64,7 @@ module _ {Proc : Type 0} (branches : Proc → List (Branch Proc)) (s : State Pro
   partner-action : (x : Pair) (r i j k m r₂ : ℕ) (a : Action) {e : Entry} → In e (partnerAction x r i j k m r₂ a) → Partner x r i j k m (bare a r₂) e
   unfolding partnerAction
   partner-action x r i j k m r₂ (take w) h = let o = when-out _ h in fits (unbound (on (matching w x) (o .0))) takes (List·Memᴰ·eq-of-singleton (o .1))
-  partner-action x r i j k m r₂ (takeBind w) h = let o = when-out _ h in fits (bound (on (matching w x) (o .0))) (takesBind (x .values)) (List·Memᴰ·eq-of-singleton (o .1))
+  partner-action x r i j k m r₂ (takeBind w) h = let o = when-out _ h in let b = on (matching w x) (o .0) in fits (bound b) (takesBind x b refl) (List·Memᴰ·eq-of-singleton (o .1))
   partner-action x r i j k m r₂ wait h = absurd (List·Memᴰ·not-nil h)
   partner-action x r i j k m r₂ (launch y) h = absurd (List·Memᴰ·not-nil h)
   partner-action x r i j k m r₂ (kill y) h = absurd (List·Memᴰ·not-nil h)
@@ -136,7 +136,7 @@ module _ {Proc : Type 0} (branches : Proc → List (Branch Proc)) (s : State Pro
       → Offered (s .pairs) g (label a r₂ q n vs) → Accepts x a us → In (entry (key kind.handshake i j k m 0) (r * r₂)) (partner x r i j k m g)
   unfolding partner partnerAction
   lists-partner x r i j k m (takes {w = w}) (unbound h) = when-in _ (passes (matching w x) h) (List·Memᴰ·head refl)
-  lists-partner x r i j k m (takesBind {w = w} vs) (bound h) = when-in _ (passes (matching w x) h) (List·Memᴰ·head refl)
+  lists-partner x r i j k m (takesBind {w = w} y b e) (bound h) = when-in _ (passes (matching w x) h) (List·Memᴰ·head refl)
   lists-partner x r i j k m (rule18 f) a = lists-partner x r i j k m f a
 
   lists-branch : {i j : ℕ} {p : Proc} {b : Branch Proc} {e : Entry}

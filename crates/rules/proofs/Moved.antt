@@ -58,7 +58,7 @@ offered-change (rule12 h m) = refl
 offered-change (rule13 f) = refl
 offered-change sends = refl
 offered-change takes = refl
-offered-change (takesBind vs) = refl
+offered-change (takesBind x m e) = refl
 offered-change (rule18 f) = offered-change f
 
 pub offered-bound : {lit : List Pair} {g : Guard} {a : Action} {r q c : ℕ} {n : Change} {vs : List ℤ}
@@ -81,7 +81,7 @@ pub offered-received : {lit : List Pair} {g : Guard} {x : Pair} {a : Action} {r 
     → Offered lit g (label a r q n vs) → Accepts x a vs → onAction [] (boundBy (x .values)) g ≡ vs
 unfolding onAction boundBy
 offered-received takes (unbound h) = refl
-offered-received (takesBind vs) (bound h) = refl
+offered-received (takesBind y m e) (bound h) = refl
 offered-received (rule18 f) h = offered-received f h
 
 pub no-handshake : {a : Action} {c : ℕ} → Alone a c → eqb c kind.handshake ≡ false

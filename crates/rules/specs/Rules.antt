@@ -1,5 +1,12 @@
 -- The rules (8) to (18) of document 000, a constructor for each, as 01, Transitions, takes them: over one set of lit pairs, with the places, branches and pair that tell
 -- derivations apart. Processes are abstract: `branches` gives the evaluated branches of one. Definitions only.
+--
+-- (8) wait: rule8        (12) receive with names: rule12   (16) handshake: rule16-left, rule16-right
+-- (9) launch: rule9      (13) check: rule13                (17) handshake with names: rule17-left, rule17-right
+-- (10) kill: rule10      (14) choice: rule14-this, rule14-other
+-- (11) receive: rule11   (15) parallel: rule15-this, rule15-other; around a handshake: rule15-both
+-- (18) gate: rule18; what a gate, a rate, a channel, values and sets come to: machine, Offering
+use mathlib.Core.Path.{_≡_}
 use mathlib.Core.List.{List, [], _∷_, _++_, List·Memᴰ as In}
 use Prim.Native.Nat.{ℕ, zero, suc, _*_}
 use lib.IntN.{ℤ}
@@ -39,10 +46,10 @@ pub data Offered (lit : List Pair) : Guard → Label → Type 0 where
   rule12 : {w : Query} {r q : ℕ} {x : Pair} → Nth lit q x → Matches w x → Offered lit (bare (bind w) r) (label (bind w) r q unchanged (x .values))
   -- (13): a check; no lit pair matches
   rule13 : {w : Query} {r : ℕ} → ((x : Pair) → In x lit → Matches w x → ⊥) → Offered lit (bare (check w) r) (plain (check w) r)
-  -- a handshake's sender, its receiver without names, and its receiver with names, whatever the values that it will bind
+  -- a handshake's sender, its receiver without names, and its receiver with names, which take the values of a pair that matches
   sends : {x : Pair} {r : ℕ} → Offered lit (bare (send x) r) (plain (send x) r)
   takes : {w : Query} {r : ℕ} → Offered lit (bare (take w) r) (plain (take w) r)
-  takesBind : {w : Query} {r : ℕ} (vs : List ℤ) → Offered lit (bare (takeBind w) r) (label (takeBind w) r 0 unchanged vs)
+  takesBind : {w : Query} {r : ℕ} {vs : List ℤ} (x : Pair) → Matches w x → vs ≡ x .values → Offered lit (bare (takeBind w) r) (label (takeBind w) r 0 unchanged vs)
   -- (18): the gate is true
   rule18 : {a : Action} {r : ℕ} {l : Label} → Offered lit (bare a r) l → Offered lit (opened a r) l
 
@@ -88,6 +95,14 @@ pub data Alone : Action → ℕ → Type 0 where
   receives : {w : Query} → Alone (receive w) kind.receive
   binds : {w : Query} → Alone (bind w) kind.bind
   checks : {w : Query} → Alone (check w) kind.check
+
+-- 01, Transitions: launch, kill, receive and check are the beacon transitions
+pub data Beacon : (kind : ℕ) → Type 0 where
+  launch-kind : Beacon kind.launch
+  kill-kind : Beacon kind.kill
+  receive-kind : Beacon kind.receive
+  bind-kind : Beacon kind.bind
+  check-kind : Beacon kind.check
 
 -- 01, Transitions: what tells derivations apart; unused numbers are 0
 pub data Key : Type 0 where

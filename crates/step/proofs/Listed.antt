@@ -43,7 +43,7 @@ offered-change (rule12 h m) = refl
 offered-change (rule13 f) = refl
 offered-change sends = refl
 offered-change takes = refl
-offered-change (takesBind vs) = refl
+offered-change (takesBind x h e) = refl
 offered-change (rule18 f) = offered-change f
 
 new-good : (m : Resolved.Model) (a : offers.Action) → GoodOffer m a → GoodNew m (changeOf a)

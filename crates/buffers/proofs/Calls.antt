@@ -50,13 +50,13 @@ holds-machine (held {m = m} {s = s} text e h f g) = ap₂ machineIn e f ∙ over
 
 -- ---- what is lent
 
-lent-long : {A : Type 0} {right : ℕ} (a : Lending A right) (l : List A) → length l ≡ right → length (lentBuffer a l) ≡ lentLength a
+pub lent-long : {A : Type 0} {right : ℕ} (a : Lending A right) (l : List A) → length l ≡ right → length (lentBuffer a l) ≡ lentLength a
 unfolding lentBuffer lentLength
 lent-long own l e = e
 lent-long (other k w) l e = refl
 
 -- a buffer that is left as it was lent
-kept : {A : Type 0} {right : ℕ} (a : Lending A right) (l : List A) → ownBuffer a l (lentBuffer a l) ≡ l
+pub kept : {A : Type 0} {right : ℕ} (a : Lending A right) (l : List A) → ownBuffer a l (lentBuffer a l) ≡ l
 unfolding ownBuffer lentBuffer
 kept own l = refl
 kept (other k w) l = refl
@@ -71,11 +71,11 @@ unfolding ownBuffer
 own-left a l left e = ap (λ (b : Lending _ _). ownBuffer b l left) e
 
 -- a length is wrong, or both buffers are the engine's own
-data Lends (a : Lending ℕ modelLength) (b : Lending ℤ stateLength) : Bool → Type 0 where
+pub data Lends (a : Lending ℕ modelLength) (b : Lending ℤ stateLength) : Bool → Type 0 where
   right : a ≡ own → b ≡ own → Lends a b true
   wrong : Lends a b false
 
-lends : (a : Lending ℕ modelLength) (b : Lending ℤ stateLength) → Lends a b (lent (lentLength a) (lentLength b))
+pub lends : (a : Lending ℕ modelLength) (b : Lending ℤ stateLength) → Lends a b (lent (lentLength a) (lentLength b))
 unfolding lent lentLength
 lends own own = right refl refl
 lends own (other k w) = rw (ne-eqb (length k) stateLength w) wrong

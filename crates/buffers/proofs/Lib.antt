@@ -5,5 +5,6 @@ pub mod Listings
 pub mod Machines
 pub mod Calls
 pub mod Written
+pub mod Texts
 pub mod Transitions
 pub mod Outcomes

@@ -4,5 +4,6 @@ pub mod Listing
 pub mod Rows
 pub mod Effect
 pub mod Calls
+pub mod Texts
 pub mod Transitions
 pub mod Outcomes

@@ -7,4 +7,5 @@ pub mod Calls
 pub mod Written
 pub mod Texts
 pub mod Transitions
+pub mod Answers
 pub mod Outcomes

@@ -41,7 +41,7 @@ module _ {x : Engine} {y : Machine} (h : Holds x y) where
     where
       by : {t : Bool} → Lends a b t
           → ownBuffer a (x .model) (cond t (opensWith text (reading.opening text)) (untouched (lentBuffer a (x .model)) (lentBuffer b (x .state)) []) .model)
-              ≡ bytesOf (cond t (keeps text (reading.opening text)) o)
+          ≡ bytesOf (cond t (keeps text (reading.opening text)) o)
       by (right f g) = own-left a (x .model) _ f ∙ written text (reading.opening text)
       by wrong = kept a (x .model) ∙ e
 

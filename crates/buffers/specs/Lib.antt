@@ -6,4 +6,5 @@ pub mod Effect
 pub mod Calls
 pub mod Texts
 pub mod Transitions
+pub mod Answers
 pub mod Outcomes

@@ -1,0 +1,24 @@
+-- What a list and a step answer and leave over any buffers that hold a model and a state (01, Listing and stepping): what the questions allow, and nothing else. Definitions only.
+use mathlib.Core.Path.{_≡_}
+use mathlib.Core.List.{List}
+use Prim.Native.Nat.{ℕ}
+use lib.IntN.{ℤ}
+use Rattle.model.specs.Resolved
+use Rattle.rules.specs.Listing.{Entry}
+use Rattle.machine.specs.State.{State, stateNumbers}
+use Rattle.machine.specs.Machine.{Answer, listedAs, entriesAre, refusedWith, Turn}
+use Rattle.machine.specs.Questions.{Lists, Steps}
+use Rattle.buffers.specs.Listing.{shown, listingNumbers}
+use Rattle.buffers.specs.Effect.{Effect}
+
+module _ (m : Resolved.Model) (s : State) (bs : List ℕ) (zs : List ℤ) (l : List ℕ) where
+  -- 01, Listing: 12 to 14, each for its reason, or the listing; the state stays
+  pub data ListsAs : Effect → Type 0 where
+    no14 : {a : Answer} → Lists m s (refusedWith a) → ListsAs (record { answer = a; model = bs; state = zs; listing = shown (a .listing) l })
+    yes14 : {es : List Entry} → Lists m s (entriesAre es) → ListsAs (record { answer = listedAs 0 0 es; model = bs; state = zs; listing = listingNumbers es })
+
+  -- 01, Listing and stepping: 12 to 14, or 15 to 19 or acceptance over the listing; what the turn leads to is the state
+  pub data StepsAs (d : ℕ) : Effect → Type 0 where
+    no14 : {a : Answer} → Lists m s (refusedWith a) → StepsAs d (record { answer = a; model = bs; state = zs; listing = shown (a .listing) l })
+    drawn : {es : List Entry} {t : Turn State} → Lists m s (entriesAre es) → Steps m s es d t
+        → StepsAs d (record { answer = t .answer; model = bs; state = stateNumbers (t .machine); listing = listingNumbers es })

@@ -1,19 +1,19 @@
 -- Channel names are numbered from 0 by their first use: a name's number is how many other names are used before it. So equal names have equal
 -- numbers and different ones different numbers (01, State). By induction on the list of uses.
-use mathlib.Core.Path.{_≡_, refl, sym, ap, _∙_}
+use mathlib.Core.Path.{_≡_, refl, sym, ap, subst, _∙_}
 use mathlib.Core.List.{List, [], _∷_, _++_, append-assoc, append-nil, List·Memᴰ as In, List·Memᴰ·head as head, List·Memᴰ·tail as tail, List·Memᴰ·eq-of-singleton as eq-of-singleton, List·Memᴰ·not-nil as nowhere, List·Memᴰ·append-cases as append-cases}
 use mathlib.Core.Bool.{Bool, true, false, cond}
 use mathlib.Core.Option.{Option, some}
 use mathlib.Core.Logic.{_⊎_, inl, inr, ⊎-elim}
-use Prim.Native.Nat.{ℕ, suc, _+_}
+use Prim.Native.Nat.{ℕ, zero, suc, _+_, _<_}
 use native.Mathlib.Omega.{arith}
-use lib.ListN.{length, getElem?}
+use lib.ListN.{length, getElem?, length-append}
 use Rattle.model.specs.Lists.{each, any}
 use Rattle.model.specs.Sites.{Variable, Definition}
 use Rattle.model.specs.Words.{same}
 use Rattle.model.specs.Given.{placeIn}
 use Rattle.model.specs.Resolved.{definitionUses, firsts, channelNames, orZero}
-use Rattle.model.proofs.Members.{not-so, any-in}
+use Rattle.model.proofs.Members.{not-so, any-in, in-any, not-both, never, got-some, got-in}
 use Rattle.model.proofs.Repeats.{same-bytes, bytes-same}
 use Rattle.model.proofs.Meanings.{Placed, found, absent, placed}
 use Rattle.model.proofs.Used.{first-of}
@@ -130,3 +130,38 @@ module _ (w : ℕ → List ℕ) (vs : List Variable) where
 
       names : firsts w vs [] (each (definitionUses w vs) ds) ≡ seen ++ k ∷ m .0
       names = ap (firsts w vs []) e ∙ firsts-append [] before (k ∷ after) ∙ firsts-new seen k after unseen ∙ m .1 ∙ append-assoc seen (k ∷ []) (m .0)
+
+  -- no name of a list is one of `seen`, or one before it in the list
+  abbrev New : List ℕ → List ℕ → Type 0
+  New seen [] = Unit {0}
+  New seen (k ∷ ks) = ((j : ℕ) → In j seen → w k ≡ w j → ⊥) × New (seen ++ k ∷ []) ks
+
+  firsts-news : (seen ks : List ℕ) → (more : List ℕ) × (firsts w vs seen ks ≡ seen ++ more) × New seen more
+  unfolding firsts
+  firsts-news seen [] = ([], sym (append-nil seen), tt)
+  firsts-news seen (k ∷ ks) = by (any (same w k) seen) refl (firsts-news seen ks) (firsts-news (seen ++ k ∷ []) ks)
+    where
+      by : (b : Bool) → any (same w k) seen ≡ b → (more : List ℕ) × (firsts w vs seen ks ≡ seen ++ more) × New seen more → (more : List ℕ) × (firsts w vs (seen ++ k ∷ []) ks ≡ seen ++ k ∷ [] ++ more) × New (seen ++ k ∷ []) more
+          → (more : List ℕ) × (cond b (firsts w vs seen ks) (firsts w vs (seen ++ k ∷ []) ks) ≡ seen ++ more) × New seen more
+      by true e p q = p
+      by false e p q = (k ∷ q .0, q .1 ∙ append-assoc seen (k ∷ []) (q .0), (λ j i d. not-both (in-any (same w k) seen i (bytes-same w k j d)) e, q .2))
+
+  number-at : (seen more : List ℕ) → New seen more → (i : ℕ) {k : ℕ} → getElem? more i ≡ some k → placeIn w k 0 (seen ++ more) ≡ some (length seen + i)
+  number-at seen [] n i e = never e
+  number-at seen (x ∷ more) n zero {k} e =
+      let d : x ≡ k = cc in
+      let z : 0 + length seen ≡ length seen + 0 = omega arith in
+      subst (λ (y : ℕ). placeIn w y 0 (seen ++ x ∷ more) ≡ some (length seen + 0)) d (place-after x 0 seen more (n .0) ∙ ap (λ (q : ℕ). some q) z)
+  number-at seen (x ∷ more) n (suc i) {k} e =
+      let h = number-at (seen ++ x ∷ []) more (n .1) i e in
+      let z : length (seen ++ x ∷ []) + i ≡ length seen + suc i = omega (arith, length-append seen (x ∷ [])) in
+      ap (placeIn w k 0) (sym (append-assoc seen (x ∷ []) more)) ∙ h ∙ ap (λ (q : ℕ). some q) z
+
+  -- every number below the count is the number of a channel name that is used
+  pub every-number : (ds : List Definition) (i : ℕ) → i < length (channelNames w vs ds) → (k : ℕ) × In k (each (definitionUses w vs) ds) × (numberIn (channelNames w vs ds) k ≡ i)
+  unfolding channelNames orZero
+  every-number ds i l =
+      let f = firsts-news [] (each (definitionUses w vs) ds) in
+      let g = got-some (firsts w vs [] (each (definitionUses w vs) ds)) i l in
+      let p = number-at [] (f .0) (f .2) i (ap (λ (xs : List ℕ). getElem? xs i) (sym (f .1)) ∙ g .1) in
+      (g .0, ⊎-elim (λ (x : In (g .0) []). absurd (nowhere x)) (λ (x : In (g .0) (each (definitionUses w vs) ds)). x) (firsts-from [] _ (got-in _ i (g .1))), ap orZero (ap (placeIn w (g .0) 0) (f .1) ∙ p) ∙ omega arith)

@@ -32,3 +32,6 @@ pub mod Channels
 pub mod InOrder
 pub mod Written
 pub mod Scope
+pub mod Named
+pub mod Line
+pub mod Scopes

@@ -185,3 +185,10 @@ module _ (w : ℕ → List ℕ) (vs : List Variable) (ds : List Definition) (cs 
   -- and some definition's text holds every sum of the text
   pub in-definition : {sc : Scope} {s : Syntax.Sum} → SumIn m sc s → (n : ℕ) × WrittenIn m n s
   in-definition h = let p = written h in (p .0, p .1)
+
+  -- a sum stands at its number, with its branches resolved in its scope, and with the number of the definition whose text holds it
+  pub located-sum : {sc : Scope} {k : ℕ} {b : Syntax.Branches}
+      → SumIn m sc (Syntax.sum k b)
+      → (n : ℕ) × WrittenIn m n (Syntax.sum k b) × (getElem? all k ≡ some (record { locals = length sc; definition = n; branches = resolveBranches w vs ds cs sc b }))
+  unfolding sumTree
+  located-sum h = let p = written h in (p .0, p .1, ap (getElem? all) (p .2 .2 .0) ∙ at-front all (p .2 .0) (p .2 .1 .there))

@@ -10,11 +10,12 @@ use Rattle.grammar.specs.Syntax
 use Rattle.grammar.specs.Syntax.{syntaxOf}
 use Rattle.model.specs.Sites.{Scope, variables, definitions}
 use Rattle.model.specs.Resolved
-use Rattle.model.specs.Resolved.{sumNumber, channelNames, resolved}
-use Rattle.model.specs.Stands.{WrittenIn, own, following}
+use Rattle.model.specs.Resolved.{sumNumber, channelNames, resolveBranches, resolved}
+use Rattle.model.specs.Stands.{SumIn, WrittenIn, own, following}
+use Rattle.model.specs.Sums.{SumIs}
 use Rattle.model.proofs.Members.{got-below}
 use Rattle.model.proofs.Numbered.{numbered}
-use Rattle.model.proofs.Located.{located-in, in-definition}
+use Rattle.model.proofs.Located.{located-in, located-sum, in-definition}
 use Rattle.model.proofs.Ordered.{every-number, as-many}
 
 -- its number is that of a definition
@@ -48,3 +49,25 @@ module _ (w : ℕ → List ℕ) (m : derived.Model) where
       let d = definition-is (i .1) in
       let q : d .0 ≡ x = cc (d .1, f .3, e) in
       (f .1, f .3, subst (λ (n : ℕ). WrittenIn (syntaxOf m) n (f .1)) (sym (d .2) ∙ ap (λ (y : Resolved.Sum). y .definition) q) (i .1))
+
+  -- sum number k of the model is the text's sum k, branches included, in its scope, with its definition
+  pub sum-is : (k : ℕ) (x : Resolved.Sum) → getElem? (model .sums) k ≡ some x → SumIs w (syntaxOf m) k x
+  unfolding resolved sumNumber
+  sum-is k x e =
+      let l = got-below (model .sums) k e in
+      let f = every-number m k (subst (λ (n : ℕ). k < n) (as-many m w) l) in
+      by (f .0) (f .1) (f .2) (f .3)
+    where
+      by : (sc : Scope) (s : Syntax.Sum) → SumIn (syntaxOf m) sc s → sumNumber s ≡ k → SumIs w (syntaxOf m) k x
+      by sc (Syntax.sum j b) h q =
+          let g : SumIn (syntaxOf m) sc (Syntax.sum k b) = subst (λ (n : ℕ). SumIn (syntaxOf m) sc (Syntax.sum n b)) q h in
+          let p = located-sum w (variables (syntaxOf m)) (definitions (syntaxOf m)) (channelNames w (variables (syntaxOf m)) (definitions (syntaxOf m))) (syntaxOf m) (numbered m) g in
+          let d : record { locals = length sc; definition = p .0; branches = resolveBranches w (variables (syntaxOf m)) (definitions (syntaxOf m)) (channelNames w (variables (syntaxOf m)) (definitions (syntaxOf m))) sc b } ≡ x = cc (p .2, e) in
+          record {
+            scope = sc;
+            tree = b;
+            stands = g;
+            written = subst (λ (n : ℕ). WrittenIn (syntaxOf m) n (Syntax.sum k b)) (ap (λ (y : Resolved.Sum). y .definition) d) (p .1);
+            locals = ap (λ (y : Resolved.Sum). y .locals) (sym d);
+            branches = ap (λ (y : Resolved.Sum). y .branches) (sym d);
+          }

@@ -9,6 +9,7 @@ pub mod Opening
 pub mod Good
 pub mod Scope
 pub mod Stands
+pub mod Sums
 pub mod Faults
 pub mod Questions
 pub mod Texts

@@ -1,4 +1,5 @@
--- What a list and a step answer and leave over any buffers that hold a model and a state (01, Listing and stepping): what the questions allow, and nothing else. Definitions only.
+-- What a list, a step and a report answer and leave over any buffers that hold a model and a state (01, Listing and stepping; 02, note 6): what the questions allow, and nothing else.
+-- Definitions only.
 use mathlib.Core.Path.{_≡_}
 use mathlib.Core.List.{List}
 use Prim.Native.Nat.{ℕ}
@@ -6,7 +7,8 @@ use lib.IntN.{ℤ}
 use Rattle.model.specs.Resolved
 use Rattle.rules.specs.Listing.{Entry}
 use Rattle.machine.specs.State.{State, stateNumbers}
-use Rattle.machine.specs.Machine.{Answer, listedAs, entriesAre, refusedWith, Turn}
+use Rattle.machine.specs.Report.{reportOf}
+use Rattle.machine.specs.Machine.{Answer, listedAs, reportedAs, entriesAre, refusedWith, Turn}
 use Rattle.machine.specs.Questions.{Lists, Steps}
 use Rattle.buffers.specs.Listing.{shown, listingNumbers}
 use Rattle.buffers.specs.Effect.{Effect}
@@ -22,3 +24,8 @@ module _ (m : Resolved.Model) (s : State) (bs : List ℕ) (zs : List ℤ) (l : L
     no14 : {a : Answer} → Lists m s (refusedWith a) → StepsAs d (record { answer = a; model = bs; state = zs; listing = shown (a .listing) l })
     drawn : {es : List Entry} {t : Turn State} → Lists m s (entriesAre es) → Steps m s es d t
         → StepsAs d (record { answer = t .answer; model = bs; state = stateNumbers (t .machine); listing = listingNumbers es })
+
+  -- 02, note 6: refused and then zeroed like a listing, or the shares of it; the state stays
+  pub data ReportsAs : Effect → Type 0 where
+    no14 : {a : Answer} → Lists m s (refusedWith a) → ReportsAs (record { answer = a; model = bs; state = zs; listing = shown (a .listing) l })
+    yes14 : {es : List Entry} → Lists m s (entriesAre es) → ReportsAs (record { answer = reportedAs (reportOf m s es) es; model = bs; state = zs; listing = reportOf m s es })

@@ -1,0 +1,2 @@
+-- The three terms hold.
+pub mod Terms

@@ -7,7 +7,6 @@
 // its 64 numbers on one such line; `state` prints the state's numbers.
 // A line of another form prints `bad,LINE` and ends the script; so does `open N` whose text is cut short or has no LF after it. Nothing is called for it.
 // A text is lent to open up to 16,385 bytes: as many are too many already, so the bytes after them change no answer.
-use store::Engine;
 use libc::STDIN_FILENO;
 use libc::STDOUT_FILENO;
 use lines::line::Line;
@@ -17,6 +16,7 @@ use lines::script::Script;
 use lines::script::Taken;
 use output::Buffer;
 use script::Row;
+use store::Engine;
 
 struct Limits;
 

@@ -1,8 +1,8 @@
 // The bench sheet: reads a model from standard input and prints its first listing, or `refused`, the refusal's number and its place, and for 12 also the branch.
 use engine::Answer;
-use store::Engine;
 use libc::STDIN_FILENO;
 use output::Buffer;
+use store::Engine;
 
 struct Input;
 

@@ -5,6 +5,7 @@ use Prim.Native.Nat.{ℕ, _+_, _-_, _*_, _≤_, _<_}
 use lib.IntN.{ℤ, pos}
 use lib.ListN.{length, replicate}
 use Rattle.value.specs.Range.{InRange}
+use Rattle.value.specs.Items.{oneItem, twoItems, threeItems}
 use Rattle.model.specs.Limits.{localLimit}
 use Rattle.model.specs.Opening.{processLimit}
 use Rattle.model.specs.Resolved
@@ -22,9 +23,9 @@ pairLimit = 256
 abbrev pub processWidth : ℕ
 processWidth = 2 + localLimit
 
--- 01, State: kind, channel, count of values and 2 values
+-- 02, note 7: item count, kind and value of 3 items, count of values and 2 values
 abbrev pub pairWidth : ℕ
-pairWidth = 5
+pairWidth = 10
 
 -- 01, State: the numbers of all processes, and of all pairs
 abbrev pub processRoom : ℕ
@@ -43,10 +44,15 @@ State = offers.State Process
 
 -- ---- which states there are
 
--- 01, Listing, 11: number channels in range, channel names that exist
+-- 01, Listing, 11: number items in range, channel names that exist
+unfoldable pub GoodItem : Resolved.Model → offers.Item → Type 0
+GoodItem m (offers.number z) = InRange z
+GoodItem m (offers.named n) = n < m .channels
+
 unfoldable pub GoodChannel : Resolved.Model → offers.Channel → Type 0
-GoodChannel m (offers.number z) = InRange z
-GoodChannel m (offers.named n) = n < m .channels
+GoodChannel m (oneItem a) = GoodItem m a
+GoodChannel m (twoItems a b) = GoodItem m a × GoodItem m b
+GoodChannel m (threeItems a b c) = GoodItem m a × GoodItem m b × GoodItem m c
 
 -- 01, Listing, 11: 1 or 2 values in range
 pub record GoodPair (m : Resolved.Model) (x : offers.Pair) : Type 0 where

@@ -4,16 +4,27 @@ use mathlib.Core.List.{List, [], _∷_}
 use mathlib.Core.Bool.{Bool, true, cond}
 use lib.IntN.{ℤ, pos}
 use lib.ListN.{length}
-use Rattle.rules.specs.Offers.{Channel, number, named, Pair}
+use Rattle.value.specs.Items.{oneItem, twoItems, threeItems}
+use Rattle.rules.specs.Offers.{Item, number, named, Channel, Pair}
 use Rattle.rules.specs.Order.{less}
 use Rattle.rules.specs.Rules.{Change, unchanged, launched, killed}
 
--- 01, State: kind (0 number, 1 name) and channel
-unfoldable pub channelNumbers : Channel → List ℤ → List ℤ
-channelNumbers (number z) l = pos 0 ∷ z ∷ l
-channelNumbers (named n) l = pos 1 ∷ pos n ∷ l
+-- 01, State: an item's kind (0 number, 1 name) and value
+unfoldable pub itemNumbers : Item → List ℤ → List ℤ
+itemNumbers (number z) l = pos 0 ∷ z ∷ l
+itemNumbers (named n) l = pos 1 ∷ pos n ∷ l
 
--- 01, State: kind, channel, count, values
+-- an item that is not there
+abbrev pub noItem : List ℤ → List ℤ
+noItem l = pos 0 ∷ pos 0 ∷ l
+
+-- 02, note 7: the item count, then kind and value of three items
+unfoldable pub channelNumbers : Channel → List ℤ → List ℤ
+channelNumbers (oneItem a) l = pos 1 ∷ itemNumbers a (noItem (noItem l))
+channelNumbers (twoItems a b) l = pos 2 ∷ itemNumbers a (itemNumbers b (noItem l))
+channelNumbers (threeItems a b c) l = pos 3 ∷ itemNumbers a (itemNumbers b (itemNumbers c l))
+
+-- 01, State: channel, count, values
 unfoldable pub numbers : Pair → List ℤ
 numbers x = channelNumbers (x .channel) (pos (length (x .values)) ∷ x .values)
 

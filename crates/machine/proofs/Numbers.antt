@@ -1,4 +1,4 @@
--- A state's numbers are 3,842, and over a good model they tell the state: from the widths of processes and pairs, and since a list is told by what is padded.
+-- A state's numbers are 5,122, and over a good model they tell the state: from the widths of processes and pairs, and since a list is told by what is padded.
 use mathlib.Core.Path.{_≡_, refl, sym, ap, ap₂, _∙_}
 use mathlib.Core.List.{List, [], _∷_, _++_}
 use Prim.Native.Nat.{ℕ, _+_, _-_, _*_, _≤_}
@@ -124,7 +124,7 @@ module _ (m : Resolved.Model) (good : GoodModel m) where
     pairs-length : length (pairRows s) ≡ pairLimit * pairWidth
     pairs-length = padded-length (pairLimit * pairWidth) _ (omega (arith, pairs-flat, g .few-pairs))
 
-    -- 01, State: 3,842 numbers
+    -- 01, State: 5,122 numbers
     pub state-length : length (stateNumbers s) ≡ stateLength
     unfolding stateNumbers
     state-length = omega (arith, processes-length, pairs-length, length-append (processRows s) (pairRows s))

@@ -36,7 +36,7 @@ unfolding answers machine.no machine.listedAs opens machine.turn machine.calls m
     lists.partnerAction lists.matches lists.sameItem lists.sameChannel lists.allWithin lists.anyMatch offers.within machine.drawn machine.taken machine.entryState machine.entryArguments
     machine.branchArguments machine.onGuard offer.argumentsGiven offer.allValues offer.isValue steps.stateAfter steps.step steps.atBranch steps.oneActs
     steps.bothAct steps.onAction steps.changeOf steps.boundBy steps.valuesAt steps.sentBy steps.replace steps.replaceBoth pairs.pairsAfter pairs.insert
-    pairs.remove pairs.before pairs.numbers pairs.itemNumbers pairs.channelNumbers order.less emptyState weights lists.weightOf lists.keyOf total chosen Option·elim
+    pairs.remove pairs.before pairs.numbers pairs.itemNumbers pairs.itemKind pairs.itemValue pairs.channelNumbers order.less emptyState weights lists.weightOf lists.keyOf total chosen Option·elim
 answering o cs = opens o .answer ∷ answers (opens o .machine) cs
 
 -- a text that opens to o

@@ -135,6 +135,6 @@ unfolding
     lists.partnerAction lists.matches lists.sameItem lists.sameChannel lists.allWithin offers.within machine.stepsOn machine.choosing machine.drawn machine.taken
     machine.entryState machine.entryArguments machine.branchArguments machine.onGuard offer.argumentsGiven offer.allValues offer.isValue steps.stateAfter
     steps.step steps.atBranch steps.oneActs steps.bothAct steps.onAction steps.changeOf steps.boundBy steps.valuesAt steps.sentBy steps.replace
-    steps.replaceBoth pairs.pairsAfter pairs.insert pairs.remove pairs.before pairs.numbers pairs.itemNumbers pairs.channelNumbers order.less machine.lists machine.showing
+    steps.replaceBoth pairs.pairsAfter pairs.insert pairs.remove pairs.before pairs.numbers pairs.itemNumbers pairs.itemKind pairs.itemValue pairs.channelNumbers order.less machine.lists machine.showing
     machine.stepped machine.turn machine.listedAs machine.no lamps weights lists.weightOf lists.keyOf total chosen Option·elim
 refusals = (refl, refl, refl, refl, refl, refl, refl, refl, refl, refl, refl, refl, refl, refl)

@@ -199,6 +199,6 @@ unfolding
     lists.partnerAction lists.matches lists.sameItem lists.sameChannel lists.allWithin offers.within stepsOn machine.choosing drawn machine.taken machine.entryState machine.entryArguments
     machine.branchArguments machine.onGuard offer.argumentsGiven offer.allValues offer.isValue steps.stateAfter steps.step steps.atBranch steps.oneActs
     steps.bothAct steps.onAction steps.changeOf steps.boundBy steps.valuesAt steps.sentBy steps.replace steps.replaceBoth pairs.pairsAfter pairs.insert
-    pairs.remove pairs.before pairs.numbers pairs.itemNumbers pairs.channelNumbers order.less emptyState calls machine.lists machine.lent weights lists.weightOf lists.keyOf
+    pairs.remove pairs.before pairs.numbers pairs.itemNumbers pairs.itemKind pairs.itemValue pairs.channelNumbers order.less emptyState calls machine.lists machine.lent weights lists.weightOf lists.keyOf
     total chosen Option·elim
 specimens = (refl, refl, refl, refl, refl, refl, refl, refl, refl, refl, refl, refl, refl, refl, refl, refl, refl, refl, refl, refl, refl, refl, refl, refl, refl, refl, refl)

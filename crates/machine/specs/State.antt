@@ -23,9 +23,13 @@ pairLimit = 256
 abbrev pub processWidth : ℕ
 processWidth = 2 + localLimit
 
--- 02, note 7: item count, kind and value of 3 items, count of values and 2 values
+-- 02, note 7: item count, kind and value of 3 items
+abbrev pub channelWidth : ℕ
+channelWidth = 7
+
+-- 02, note 7: channel, count of values, 2 values
 abbrev pub pairWidth : ℕ
-pairWidth = 10
+pairWidth = channelWidth + 3
 
 -- 01, State: the numbers of all processes, and of all pairs
 abbrev pub processRoom : ℕ
@@ -34,7 +38,7 @@ processRoom = processLimit * processWidth
 abbrev pub pairRoom : ℕ
 pairRoom = pairLimit * pairWidth
 
--- 01, State: both counts, the processes, the pairs: 3,842 numbers
+-- 02, note 7: both counts, the processes, the pairs: 5,122 numbers
 abbrev pub stateLength : ℕ
 stateLength = 2 + processRoom + pairRoom
 
@@ -84,7 +88,7 @@ padded n zs = zs ++ replicate (n - length zs) (pos 0)
 unfoldable pub processNumbers : Process → List ℤ
 processNumbers p = pos (p .sum) ∷ (padded localLimit (p .locals) ++ pos (p .definition) ∷ [])
 
--- 01, State: kind, channel, count of values, 2 values
+-- 02, note 7: channel, count of values, 2 values
 unfoldable pub pairNumbers : offers.Pair → List ℤ
 pairNumbers x = padded pairWidth (numbers x)
 
@@ -93,7 +97,7 @@ unfoldable pub flatten : {A : Type 0} → (A → List ℤ) → List A → List �
 flatten f [] = []
 flatten f (x ∷ xs) = f x ++ flatten f xs
 
--- 01, State: the 3,842 numbers of a state
+-- 02, note 7: the 5,122 numbers of a state
 unfoldable pub stateNumbers : State → List ℤ
 stateNumbers s =
     pos (length (s .processes)) ∷ pos (length (s .pairs))

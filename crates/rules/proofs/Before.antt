@@ -8,11 +8,11 @@ use lib.IntN.{ℤ}
 use Rattle.value.specs.Items.{oneItem, twoItems, threeItems}
 use Rattle.value.proofs.Kit.{true-not-false}
 use Rattle.rules.specs.Offers.{Item, number, named, Channel, Pair}
-use Rattle.rules.specs.Pairs.{itemNumbers, channelNumbers, numbers, before, Before}
+use Rattle.rules.specs.Pairs.{itemKind, itemValue, itemNumbers, channelNumbers, numbers, before, Before}
 use Rattle.rules.proofs.Less.{less-irreflexive, less-trans, less-equal}
 
 item-told : (c d : Item) (us vs : List ℤ) → itemNumbers c us ≡ itemNumbers d vs → (c ≡ d) × (us ≡ vs)
-unfolding itemNumbers
+unfolding itemNumbers itemKind itemValue
 item-told (number x) (number y) us vs e = let p : x ≡ y = cc in (ap number p, cc)
 item-told (number x) (named n) us vs e = let z : _≡_ {A = ℕ} 0 1 = cc in absurd (omega arith)
 item-told (named m) (number y) us vs e = let z : _≡_ {A = ℕ} 0 1 = cc in absurd (omega arith)

@@ -11,13 +11,13 @@ use Rattle.value.specs.Items.{oneItem, twoItems, threeItems}
 use Rattle.value.proofs.Kit.{true-not-false, false-not-true, same-eq}
 use Rattle.rules.specs.Offers.{Item, number, named, Channel}
 use Rattle.rules.specs.Order.{less}
-use Rattle.rules.specs.Pairs.{itemNumbers, noItem, channelNumbers}
+use Rattle.rules.specs.Pairs.{itemKind, itemValue, itemNumbers, noItem, channelNumbers}
 use Rattle.rules.proofs.Less.{less-rest}
 
 -- ---- one item
 
 less-item : (c d : Item) (u v s t : List ℤ) → less u v ≡ less s t → less (itemNumbers c u) (itemNumbers d v) ≡ less (itemNumbers c s) (itemNumbers d t)
-unfolding less itemNumbers
+unfolding less itemNumbers itemKind itemValue
 less-item (number x) (number y) u v s t e = ap (λ (b : Bool). isLess x y || isSame x y && b) e
 less-item (number x) (named n) u v s t e = refl
 less-item (named m) (number y) u v s t e = refl
@@ -25,8 +25,7 @@ less-item (named m) (named n) u v s t e = ap (λ (b : Bool). isLess (pos m) (pos
 
 one-item : (c : Item) (u v : List ℤ) → less u v ≡ true → less (itemNumbers c u) (itemNumbers c v) ≡ true
 unfolding itemNumbers
-one-item (number z) u v e = less-rest (pos 0) (z ∷ u) (z ∷ v) (less-rest z u v e)
-one-item (named n) u v e = less-rest (pos 1) (pos n ∷ u) (pos n ∷ v) (less-rest (pos n) u v e)
+one-item c u v e = less-rest (pos (itemKind c)) (itemValue c ∷ u) (itemValue c ∷ v) (less-rest (itemValue c) u v e)
 
 blank-item : (u v : List ℤ) → less u v ≡ true → less (noItem u) (noItem v) ≡ true
 blank-item u v e = less-rest (pos 0) (pos 0 ∷ u) (pos 0 ∷ v) (less-rest (pos 0) u v e)
@@ -41,7 +40,7 @@ same-number x y t w e f = go (isLess x y) (isSame x y) refl e f
     go false false s e f = false-not-true f
 
 between-item : (c d : Item) (u v w : List ℤ) → less (itemNumbers d u) (itemNumbers c v) ≡ false → less (itemNumbers d u) (itemNumbers c w) ≡ true → (d ≡ c) × (less u v ≡ false) × (less u w ≡ true)
-unfolding less itemNumbers
+unfolding less itemNumbers itemKind itemValue
 between-item (number y) (number x) u v w e f = let r = same-number x y (less u v) (less u w) e f in (ap number (r .0), r .1, r .2)
 between-item (named n) (number x) u v w e f = true-not-false e
 between-item (number y) (named m) u v w e f = false-not-true f
@@ -88,25 +87,14 @@ between (threeItems a b c) (twoItems d e) u v w p q = true-not-false p
 
 -- ---- how many numbers, and the one after them
 
-item-length : (c : Item) (l : List ℤ) → length (itemNumbers c l) ≡ length l + 2
-unfolding itemNumbers
-item-length (number z) l = omega arith
-item-length (named n) l = omega arith
-
 pub channel-length : (c : Channel) (l : List ℤ) → length (channelNumbers c l) ≡ length l + 7
-unfolding channelNumbers
-channel-length (oneItem a) l = omega (arith, item-length a (noItem (noItem l)))
-channel-length (twoItems a b) l = omega (arith, item-length a (itemNumbers b (noItem l)), item-length b (noItem l))
-channel-length (threeItems a b c) l = omega (arith, item-length a (itemNumbers b (itemNumbers c l)), item-length b (itemNumbers c l), item-length c l)
-
--- past an item
-item-past : (c : Item) (l r : List ℤ) (n : ℕ) → getD (itemNumbers c l ++ r) (suc (suc n)) (pos 0) ≡ getD (l ++ r) n (pos 0)
-unfolding itemNumbers
-item-past (number z) l r n = refl
-item-past (named k) l r n = refl
+unfolding channelNumbers itemNumbers
+channel-length (oneItem a) l = omega arith
+channel-length (twoItems a b) l = omega arith
+channel-length (threeItems a b c) l = omega arith
 
 pub channel-eighth : (c : Channel) (k : ℤ) (l r : List ℤ) → getD (channelNumbers c (k ∷ l) ++ r) 7 (pos 0) ≡ k
-unfolding channelNumbers
-channel-eighth (oneItem a) k l r = item-past a (noItem (noItem (k ∷ l))) r 4
-channel-eighth (twoItems a b) k l r = item-past a (itemNumbers b (noItem (k ∷ l))) r 4 ∙ item-past b (noItem (k ∷ l)) r 2
-channel-eighth (threeItems a b c) k l r = item-past a (itemNumbers b (itemNumbers c (k ∷ l))) r 4 ∙ item-past b (itemNumbers c (k ∷ l)) r 2 ∙ item-past c (k ∷ l) r 0
+unfolding channelNumbers itemNumbers
+channel-eighth (oneItem a) k l r = refl
+channel-eighth (twoItems a b) k l r = refl
+channel-eighth (threeItems a b c) k l r = refl

@@ -2,6 +2,7 @@
 use mathlib.Core.Path.{_≡_}
 use mathlib.Core.List.{List, [], _∷_}
 use mathlib.Core.Bool.{Bool, true, cond}
+use Prim.Native.Nat.{ℕ}
 use lib.IntN.{ℤ, pos}
 use lib.ListN.{length}
 use Rattle.value.specs.Items.{oneItem, twoItems, threeItems}
@@ -9,10 +10,19 @@ use Rattle.rules.specs.Offers.{Item, number, named, Channel, Pair}
 use Rattle.rules.specs.Order.{less}
 use Rattle.rules.specs.Rules.{Change, unchanged, launched, killed}
 
--- 01, State: an item's kind (0 number, 1 name) and value
+-- 01, State: an item's kind, 0 for a number, 1 for a name
+unfoldable pub itemKind : Item → ℕ
+itemKind (number z) = 0
+itemKind (named n) = 1
+
+-- 01, State: an item's value, of a name its number
+unfoldable pub itemValue : Item → ℤ
+itemValue (number z) = z
+itemValue (named n) = pos n
+
+-- both, before what follows
 unfoldable pub itemNumbers : Item → List ℤ → List ℤ
-itemNumbers (number z) l = pos 0 ∷ z ∷ l
-itemNumbers (named n) l = pos 1 ∷ pos n ∷ l
+itemNumbers a l = pos (itemKind a) ∷ itemValue a ∷ l
 
 -- an item that is not there
 abbrev pub noItem : List ℤ → List ℤ

@@ -11,7 +11,7 @@ use Rattle.rules.specs.Offers.{Channel, number, named, Pair, Set, range,
 use Rattle.rules.specs.Order.{less}
 use Rattle.rules.specs.Kind as kind
 use Rattle.rules.specs.Rules.{key, unchanged, launched, killed}
-use Rattle.rules.specs.Pairs.{itemNumbers, channelNumbers, numbers, before, insert, remove, pairsAfter}
+use Rattle.rules.specs.Pairs.{itemKind, itemValue, itemNumbers, channelNumbers, numbers, before, insert, remove, pairsAfter}
 use Rattle.rules.specs.Listing.{sameItem, sameChannel, allWithin, matches, anyMatch, entry, weightOf, gather, when, unless, partnerAction, partner, partnersIn, ofAction, ofGuard, ofProcess, entries}
 use Rattle.rules.specs.Draw.{weights, total, chosen}
 use Rattle.rules.specs.Step.{replace, replaceBoth, changeOf, boundBy, valuesAt, sentBy, onAction, goes, atBranch, oneActs, bothAct, step}
@@ -111,5 +111,5 @@ pub rows :
     -- the numbers of a pair: count of items, kind (0 number, 1 name) and value of three, count, values
     × (numbers (record { channel = oneItem (number (pos 6)); values = pos 8 ∷ pos 9 ∷ [] }) ≡ pos 1 ∷ pos 0 ∷ pos 6 ∷ pos 0 ∷ pos 0 ∷ pos 0 ∷ pos 0 ∷ pos 2 ∷ pos 8 ∷ pos 9 ∷ [])
     × (numbers (record { channel = threeItems (named 6) (number (pos 5)) (named 4); values = pos 8 ∷ [] }) ≡ pos 3 ∷ pos 1 ∷ pos 6 ∷ pos 0 ∷ pos 5 ∷ pos 1 ∷ pos 4 ∷ pos 1 ∷ pos 8 ∷ [])
-unfolding entries gather when unless ofProcess ofGuard ofAction partnersIn partner partnerAction matches sameChannel sameItem allWithin within anyMatch weights weightOf total chosen step atBranch oneActs bothAct onAction changeOf boundBy valuesAt sentBy replace replaceBoth pairsAfter insert remove before numbers channelNumbers itemNumbers less Option·elim
+unfolding entries gather when unless ofProcess ofGuard ofAction partnersIn partner partnerAction matches sameChannel sameItem allWithin within anyMatch weights weightOf total chosen step atBranch oneActs bothAct onAction changeOf boundBy valuesAt sentBy replace replaceBoth pairsAfter insert remove before numbers channelNumbers itemNumbers itemKind itemValue less Option·elim
 rows = (refl, refl, refl, refl, refl, refl, refl, refl, refl, refl, refl, refl, refl, refl, refl, refl, refl, refl, refl, refl, refl, refl, refl, refl, refl, refl, refl, refl, refl, refl)

@@ -18,7 +18,7 @@ item-told (number x) (named n) us vs e = let z : _≡_ {A = ℕ} 0 1 = cc in abs
 item-told (named m) (number y) us vs e = let z : _≡_ {A = ℕ} 0 1 = cc in absurd (omega arith)
 item-told (named m) (named n) us vs e = let p : m ≡ n = cc in (ap named p, cc)
 
-channel-told : (c d : Channel) (k l : ℤ) (us vs : List ℤ) → channelNumbers c (k ∷ us) ≡ channelNumbers d (l ∷ vs) → (c ≡ d) × (us ≡ vs)
+pub channel-told : (c d : Channel) (k l : ℤ) (us vs : List ℤ) → channelNumbers c (k ∷ us) ≡ channelNumbers d (l ∷ vs) → (c ≡ d) × (us ≡ vs)
 unfolding channelNumbers
 channel-told (oneItem a) (oneItem d) k l us vs q = let p = item-told a d _ _ (tail-eq-of-cons-eq q) in let r = p .1 in (ap oneItem (p .0), cc)
 channel-told (twoItems a b) (twoItems d e) k l us vs q =

@@ -53,8 +53,13 @@ unfolding numbersOf
 returns c =
     let s = c .args .shape in
     rw (
-      toZ-pos w64 {n = s / 8} (omega arith), toZ-pos w64 {n = s % 2} (omega arith), toZ-pos w64 {n = s / 2 % 2} (omega arith), toZ-pos w64 {n = s / 4 % 2} (omega arith),
-      toZ-ofZ (c .fits .first), toZ-ofZ (c .fits .second), toZ-ofZ (c .fits .third),
+      toZ-pos w64 {n = s / 8} (omega arith),
+      toZ-pos w64 {n = s % 2} (omega arith),
+      toZ-pos w64 {n = s / 2 % 2} (omega arith),
+      toZ-pos w64 {n = s / 4 % 2} (omega arith),
+      toZ-ofZ (c .fits .first),
+      toZ-ofZ (c .fits .second),
+      toZ-ofZ (c .fits .third),
     ) (seven (c .args .row .now) (pos (s / 8)) (pos (s % 2)) (c .args .first) (pos (s / 2 % 2)) (c .args .second) (pos (s / 4 % 2)) (c .args .third) (c .pre))
 
 pub put-channel-spec : {M : Type 1} → statement M

@@ -35,9 +35,15 @@ returns-3 c =
     let f = c .before .struct-told .given in
     let g = c .struct-told2 .given in
     rw (
-      ne-eqb _ _ (c .before .before .before .before .if1 .left), sym (c .before .before .before .is-found .ensures) ∙ not-false _ (c .before .before .if2 .left),
-      back (x .first) (f .1 .0 .1), back (x .second) (f .1 .1 .0 .1), back (x .third) (f .1 .1 .1 .0 .1),
-      back (l .first) (g .1 .0 .1), back (l .«first_end») (g .1 .1 .0 .1), back (l .second) (g .1 .1 .1 .0 .1), back (l .«second_end») (g .1 .1 .1 .1 .0 .1),
+      ne-eqb _ _ (c .before .before .before .before .if1 .left),
+      sym (c .before .before .before .is-found .ensures) ∙ not-false _ (c .before .before .if2 .left),
+      back (x .first) (f .1 .0 .1),
+      back (x .second) (f .1 .1 .0 .1),
+      back (x .third) (f .1 .1 .1 .0 .1),
+      back (l .first) (g .1 .0 .1),
+      back (l .«first_end») (g .1 .1 .0 .1),
+      back (l .second) (g .1 .1 .1 .0 .1),
+      back (l .«second_end») (g .1 .1 .1 .1 .0 .1),
     )
 
 pub assembled-spec : {M : Type 1} → statement M

@@ -74,7 +74,7 @@ item (number x) (named n) = fails (λ e. let z : _≡_ {A = ℕ} 0 1 = cc in ome
 item (named m) (number y) = fails (λ e. let z : _≡_ {A = ℕ} 0 1 = cc in omega arith)
 item (named m) (named n) = along (λ e. ap named e) (λ e. cc) (equal m n)
 
-channel : (x y : Channel) → Decides (x ≡ y) (sameChannel x y)
+pub channel : (x y : Channel) → Decides (x ≡ y) (sameChannel x y)
 unfolding sameChannel
 channel (oneItem a) (oneItem d) = along (λ e. ap oneItem e) (λ e. cc) (item a d)
 channel (twoItems a b) (twoItems d e) = along (λ h. ap₂ twoItems (h .0) (h .1)) (λ h. (cc, cc)) (both (item a d) (item b e))

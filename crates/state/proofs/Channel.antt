@@ -10,11 +10,10 @@ use borrow.Author.Tests.{lt-ltb}
 use lib.IntN.{ℤ, pos}
 use lib.ListN.{length, getD, getElem?, set, take, drop, replicate, length-map}
 use lib.Seq.{take-all}
-use Rattle.value.specs.Items.{oneItem, twoItems, threeItems}
 use Rattle.value.proofs.Kit.{true-not-false}
 use Rattle.rules.specs.Offers as offers
 use Rattle.rules.specs.Order.{less, Ascending}
-use Rattle.rules.specs.Pairs.{itemNumbers, channelNumbers, Before}
+use Rattle.rules.specs.Pairs.{channelNumbers, Before}
 use Rattle.rules.proofs.Channels.{one-channel, between}
 use Rattle.rules.proofs.Less.{less-irreflexive, less-trans, less-first}
 use Rattle.model.specs.Good.{Every}
@@ -104,14 +103,7 @@ module _ (c : offers.Channel) (channels : ℕ) (L : List offers.Pair) (fits : Ev
               place-more (rowOn c 3) rs q (climbing L up) inside (ap (λ (l : List ℤ). less l (rowOn c 3)) r ∙ fewer c n 3 _ _ (omega (arith, f .number .two))),
             )
 
--- the rows that are looked for
-pub row-on : (c : offers.Channel) (k : ℕ) → channelRow (channelNumbers c []) k ≡ rowOn c k
-unfolding channelNumbers itemNumbers
-row-on (oneItem a) k = refl
-row-on (twoItems a b) k = refl
-row-on (threeItems a b c) k = refl
-
--- and how they are written: the channel over zeros, then a count past all
+-- how the rows that are looked for are written: the channel over zeros, then a count past all
 pub rows-written : (c z : List ℤ) → length c ≡ channelWidth → z ≡ take channelWidth c ++ drop channelWidth (replicate pairWidth (pos 0)) → (z ≡ channelRow c 0) × (set z channelWidth (pos 3) ≡ channelRow c 3)
 rows-written c z l e =
     let f : z ≡ channelRow c 0 = e ∙ ap (λ (u : List ℤ). u ++ pos 0 ∷ pos 0 ∷ pos 0 ∷ []) (take-all channelWidth c (omega arith)) in

@@ -8,7 +8,8 @@ state is one point of the picture. Above: the number of forks and the number of 
 (the first value of each lit pair) are lit, from the step that lit them to the one that put them out.
 
 --forks names the processes to count by their sum numbers (docs/USING.md says how sums are numbered), as 2,4-6; all
-processes if it is not given. --channel draws below only the pairs of one channel, as name:0 or number:5.
+processes if it is not given. --channel draws below only the pairs of one channel, its items joined by commas, as name:0
+or number:5,number:7.
 
 Needs python3 alone (Debian package python3).
 """
@@ -18,12 +19,16 @@ import itertools
 import sys
 
 # The state's layout, docs/LAYOUT.md.
-STATE = 3842
 PROCESSES = 256
 PROCESS = 10
 FIRST_PROCESS = 2
 FIRST_PAIR = FIRST_PROCESS + PROCESSES * PROCESS
-PAIR = 5
+PAIRS = 256
+PAIR = 10
+ITEMS = 3
+CHANNEL = 1 + 2 * ITEMS
+FIRST_VALUE = CHANNEL + 1
+STATE = FIRST_PAIR + PAIRS * PAIR
 ANSWER = 6
 
 # The picture, in pixels.
@@ -50,11 +55,15 @@ def sum_numbers(words):
 
 
 def channel(word):
-    """The kind and number of a channel given as name:0 or number:5."""
-    kind, _, number = word.partition(":")
-    if kind not in ("number", "name"):
-        raise argparse.ArgumentTypeError("a channel is name:N or number:N")
-    return (1 if kind == "name" else 0, int(number))
+    """The numbers of a channel given by its items, each name:N or number:N: how many, then kind and value of each."""
+    items = word.split(",")
+    numbers = [len(items)]
+    for item in items:
+        kind, _, number = item.partition(":")
+        if kind not in ("number", "name") or len(items) > ITEMS:
+            raise argparse.ArgumentTypeError("a channel is one to three of name:N or number:N, joined by commas")
+        numbers += [1 if kind == "name" else 0, int(number)]
+    return tuple(numbers + [0] * (CHANNEL - len(numbers)))
 
 
 def states(lines):
@@ -81,7 +90,7 @@ def lit_spans(runs, wanted):
     """For each position, the spans of points in which it is lit: (position, first, last)."""
     spans, since = [], {}
     for point, (_, pairs) in enumerate(runs):
-        lit = {pair[3] for pair in pairs if wanted is None or pair[:2] == wanted}
+        lit = {pair[FIRST_VALUE] for pair in pairs if wanted is None or pair[:CHANNEL] == wanted}
         for position in [position for position in since if position not in lit]:
             spans.append((position, since.pop(position), point))
         for position in lit:

@@ -27,11 +27,6 @@ get-append (z ∷ xs) x (suc k) e =
     ⊎-elim (λ h. inl (omega (arith, h .0), h .1)) (λ h. inr (ap suc (h .0), h .1)) (get-append xs x k e)
 
 -- ---- numbers written one after the other
-written-length : (os : List ℤ) (at c : ℕ) (xs : List ℤ) → length (writtenFrom os at c xs) ≡ length os
-unfolding writtenFrom
-written-length os at c [] = refl
-written-length os at c (x ∷ xs) = written-length (set os (at + c) x) at (suc c) xs ∙ length-set os (at + c) x
-
 -- the numbers before them
 written-other : (os : List ℤ) (at c : ℕ) (xs : List ℤ) (j : ℕ) → j < at + c → getD (writtenFrom os at c xs) j (pos 0) ≡ getD os j (pos 0)
 unfolding writtenFrom

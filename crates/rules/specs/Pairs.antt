@@ -1,5 +1,5 @@
 -- The lit pairs as an ascending list: their order, and what launch and kill do to it. Definitions only.
-use mathlib.Core.Path.{_≡_}
+use mathlib.Core.Path.{_≡_, refl}
 use mathlib.Core.List.{List, [], _∷_}
 use mathlib.Core.Bool.{Bool, true, cond}
 use Prim.Native.Nat.{ℕ}
@@ -41,6 +41,11 @@ numbers x = channelNumbers (x .channel) (pos (length (x .values)) ∷ x .values)
 -- 01, State: pairs ascend by these numbers
 unfoldable pub before : Pair → Pair → Bool
 before x y = less (numbers x) (numbers y)
+
+-- 02, note 7: on one channel a pair with one value stands before one with two, whatever the values
+pub fewer-first : before (record { channel = oneItem (named 0); values = pos 9 ∷ [] }) (record { channel = oneItem (named 0); values = pos 1 ∷ pos 2 ∷ [] }) ≡ true
+unfolding before numbers channelNumbers itemNumbers itemKind itemValue less
+fewer-first = refl
 
 -- the same as a statement
 abbrev pub Before : Pair → Pair → Type 0

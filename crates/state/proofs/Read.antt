@@ -17,14 +17,14 @@ use Rattle.value.proofs.Kit.{same-eq}
 use Rattle.rules.specs.Offers as offers
 use Rattle.model.specs.Good.{GoodModel}
 use Rattle.machine.specs.Offer.{Process}
-use Rattle.machine.specs.State.{State, GoodState, padded, pairNumbers, stateNumbers, channelWidth, pairWidth, processRoom, processWidth}
+use Rattle.machine.specs.State.{State, GoodState, padded, pairNumbers, stateNumbers, pairWidth, processRoom, processWidth}
 use Rattle.state.specs.Fits.{scopesOf, FewLocals, Fits}
 use Rattle.state.specs.Test.{at, every, rows, isBelow, isPadded, isProcess, isPair, processPart, pairPart}
 use Rattle.state.specs.Decode.{processOf, pairOf, decode}
 use Rattle.state.specs.Read.{Passed, processCount, pairCount, sumAt, localsAt, definitionNumber, pairRow}
 use Rattle.state.proofs.Tests.{both, below-bound}
 use Rattle.state.proofs.Rows.{rows-length}
-use Rattle.state.proofs.Entries.{get-is, after-channel, pair-shape, pair-row}
+use Rattle.state.proofs.Entries.{get-is, pair-row}
 use Rattle.state.proofs.Places.{row-at}
 use Rattle.state.proofs.Image.{parts, numbers-length, numbers-pass, decode-back}
 use Rattle.state.proofs.Over.{good-fits, few-scopes}
@@ -194,10 +194,6 @@ module _ (scopes : List ℕ) (few : FewLocals scopes) (channels : ℕ) (s : Stat
   pub row-numbers : (i : ℕ) (x : offers.Pair) → getElem? (s .pairs) i ≡ some x → pairRow (stateNumbers s) i ≡ pairNumbers x
   unfolding numbers-passed
   row-numbers i x e = row-decoded (stateNumbers s) numbers-passed i x (ap (λ (t : State). getElem? (t .pairs) i) back ∙ e)
-
--- a pair's count of values and its values, in its row
-pub row-values : (x : offers.Pair) → (at (pairNumbers x) channelWidth ≡ pos (length (x .values))) × (drop (channelWidth + 1) (pairNumbers x) ≡ padded 2 (x .values))
-row-values x = rw (pair-shape x) (after-channel (x .channel) (pos (length (x .values))) (padded 2 (x .values)))
 
 -- 01, Listing, 11: the numbers of a state over a model
 pub good-passed : (m : Resolved.Model) (s : State) → GoodModel m → GoodState m s → Passed (stateNumbers s)

@@ -243,7 +243,7 @@ fn lists() {
     damaged_list(b"second of three items names channel 1", 2596, 1);
     damaged_list(b"second of three items names no channel", 2596, 2);
     damaged_list(b"third item of kind 2", 2597, 2);
-    damaged_list(b"third item a name", 2597, 1);
+    damaged_list(b"third item names no channel", 2597, 1);
     damaged_list(b"third item greatest", 2598, Range::GREATEST);
     damaged_list(b"third item above greatest", 2598, Range::GREATEST + 1);
     damaged_list(b"third item not counted", 2592, 2);
@@ -251,7 +251,7 @@ fn lists() {
     damaged_list(b"value of two items", 2579, 2);
     damaged_list(b"three values of three items", 2599, 3);
     damaged_list(b"ascending items", 2576, 1);
-    damaged_list(b"descending kinds of items", 2573, 1);
+    damaged_list(b"descending items", 2583, 0);
 }
 
 fn values() {

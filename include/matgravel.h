@@ -18,7 +18,7 @@ extern "C" {
 
 /* The lengths of the lent buffers: bytes, signed and unsigned 64-bit numbers. Any other length is refused with 1. */
 #define MATGRAVEL_MODEL 16386
-#define MATGRAVEL_STATE 3842
+#define MATGRAVEL_STATE 5122
 #define MATGRAVEL_LISTING 7168
 #define MATGRAVEL_REPORT 64
 

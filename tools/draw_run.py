@@ -8,7 +8,7 @@ state is one point of the picture. Above: the number of forks and the number of 
 (the first value of each lit pair) are lit, from the step that lit them to the one that put them out.
 
 --forks names the processes to count by their sum numbers (docs/USING.md says how sums are numbered), as 2,4-6; all
-processes if it is not given. --channel draws below only the pairs of one channel, as name:0 or number:5.
+processes if it is not given. --channel draws below only the pairs of one channel, as name:0 or name:0,number:5.
 
 Needs python3 alone (Debian package python3).
 """
@@ -18,12 +18,15 @@ import itertools
 import sys
 
 # The state's layout, docs/LAYOUT.md.
-STATE = 3842
+STATE = 5122
 PROCESSES = 256
 PROCESS = 10
 FIRST_PROCESS = 2
 FIRST_PAIR = FIRST_PROCESS + PROCESSES * PROCESS
-PAIR = 5
+PAIR = 10
+ITEMS = 3
+CHANNEL = 1 + 2 * ITEMS
+FIRST_VALUE = CHANNEL + 1
 ANSWER = 6
 
 # The picture, in pixels.
@@ -49,12 +52,17 @@ def sum_numbers(words):
     return numbers
 
 
-def channel(word):
-    """The kind and number of a channel given as name:0 or number:5."""
-    kind, _, number = word.partition(":")
-    if kind not in ("number", "name"):
-        raise argparse.ArgumentTypeError("a channel is name:N or number:N")
-    return (1 if kind == "name" else 0, int(number))
+def channel(words):
+    """The item count, kinds and numbers of a channel given as name:0 or name:0,number:5, as a state has them."""
+    items = []
+    for word in words.split(","):
+        kind, _, number = word.partition(":")
+        if kind not in ("number", "name"):
+            raise argparse.ArgumentTypeError("an item of a channel is name:N or number:N")
+        items += [1 if kind == "name" else 0, int(number)]
+    if len(items) > 2 * ITEMS:
+        raise argparse.ArgumentTypeError(f"a channel has at most {ITEMS} items")
+    return (len(items) // 2, *items, *[0] * (2 * ITEMS - len(items)))
 
 
 def states(lines):
@@ -81,7 +89,7 @@ def lit_spans(runs, wanted):
     """For each position, the spans of points in which it is lit: (position, first, last)."""
     spans, since = [], {}
     for point, (_, pairs) in enumerate(runs):
-        lit = {pair[3] for pair in pairs if wanted is None or pair[:2] == wanted}
+        lit = {pair[FIRST_VALUE] for pair in pairs if wanted is None or pair[:CHANNEL] == wanted}
         for position in [position for position in since if position not in lit]:
             spans.append((position, since.pop(position), point))
         for position in lit:
@@ -177,7 +185,7 @@ def picture(runs, options):
 def main():
     parser = argparse.ArgumentParser(description="Draws a run from the output of `calls` as SVG.")
     parser.add_argument("--forks", type=sum_numbers, metavar="SUMS", help="sum numbers to count, as 2,4-6")
-    parser.add_argument("--channel", type=channel, metavar="KIND:N", help="the channel to draw, as name:0 or number:5")
+    parser.add_argument("--channel", type=channel, metavar="ITEMS", help="the channel to draw, as name:0 or name:0,number:5")
     parser.add_argument("--title", default="A run", help="the picture's title")
     options = parser.parse_args()
     runs = list(states(sys.stdin))

@@ -19,7 +19,7 @@ impl Rows {
     // Branches of all processes, and the numbers of an offer beside its head.
     pub const MOST: usize = 4096;
 
-    pub const NUMBERS: usize = 20480;
+    pub const NUMBERS: usize = Rows::MOST * offers::Table::NUMBERS;
 
     pub const BUCKETS: usize = 256;
 }

@@ -19,6 +19,7 @@ use Rattle.tables.proofs.Parts.{over-part, pair-second}
 use Rattle.machine.specs.Evaluate.{evalSet}
 use Rattle.machine.proofs.Parts.{some-is}
 use Rattle.eval.specs.declared.offer.Offer.{Offer}
+use Rattle.eval.proofs.Shapes.{channels-alike}
 use Rattle.eval.specs.Shown
 use Rattle.eval.proofs.Operators.{op-range, op-once}
 use Rattle.eval.proofs.Exprs.{expr-kind}
@@ -91,12 +92,6 @@ module _ {t : List ℕ} {ls : List ℤ} where
       let n : i ≡ j = cc in
       let e = set-once t (h .set) (k .set) j (rw n at (h .at)) (k .at) in
       some-is x y (sym (h .worth) ∙ (ap (evalSet ls) e ∙ k .worth))
-
-pub channels-alike : {c : ℕ} {z : ℤ} {x y : offers.Channel} → Shown.ShowsChannel c z x → Shown.ShowsChannel c z y → x ≡ y
-channels-alike (Shown.number p q) (Shown.number r s) = ap offers.number (sym q ∙ s)
-channels-alike (Shown.number p q) (Shown.named r s) = absurd (omega arith)
-channels-alike (Shown.named p q) (Shown.number r s) = absurd (omega arith)
-channels-alike (Shown.named {n = m} p q) (Shown.named {n = n} r s) = let e : m ≡ n = cc in ap offers.named e
 
 values-alike : {n : ℕ} {a b c d : ℤ} {vs ws : List ℤ} → Shown.ShowsValues n a b c d vs → Shown.ShowsValues n a b c d ws → vs ≡ ws
 values-alike (Shown.one p q r s u) (Shown.one v w x y z) = let e = sym q ∙ w in rw e

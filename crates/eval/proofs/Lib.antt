@@ -7,6 +7,7 @@ pub mod Conds
 pub mod Products
 pub mod Rates
 pub mod Channels
+pub mod Shapes
 pub mod Lists
 pub mod Arguments
 pub mod Ends

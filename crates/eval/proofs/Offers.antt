@@ -20,8 +20,7 @@ use Rattle.tables.specs.Settled.{OneOrTwo}
 use Rattle.tables.proofs.Parts.{pair-above, pair-second}
 use Rattle.model.specs.Good.{GoodExpr, GoodCond, GoodGate, GoodName, GoodRate, GoodAction, GoodBranch}
 use Rattle.machine.specs.Evaluate.{valued, given, evalExpr, evalChannel, evalAll, evalValue, evalPair, evalQuery, evalSet, evalCond, evalRate, evalAction, evalOffer, evalGate, evalBranch}
-use Rattle.eval.specs.declared.Channel.{Channel}
-use Rattle.eval.specs.declared.Channel.the-variants.{Number, Name, Missing as Unnamed}
+use Rattle.eval.specs.declared.channel.Channel.{Channel}
 use Rattle.eval.specs.declared.Rate.the-variants.{Is as RateIs, Missing as NoRate}
 use Rattle.eval.specs.declared.Truth.the-variants.{Yes, No, Missing as Unknown}
 use Rattle.eval.specs.declared.Values.{Values}
@@ -29,29 +28,31 @@ use Rattle.eval.specs.declared.offer.Offer.{Offer}
 use Rattle.eval.specs.declared.offer.Listed.{Listed}
 use Rattle.eval.specs.Held.{Held, Worth}
 use Rattle.eval.specs.Answers.{truthOf, truth}
-use Rattle.eval.specs.Rates.{rateOf, channelOf, channelAnswer, rateAnswer}
+use Rattle.eval.specs.Rates.{rateOf, rateAnswer}
+use Rattle.eval.specs.Channels.{ShowsChannel, channelOf, channelAnswer}
 use Rattle.eval.specs.Lists.{valuesOf, valuesAnswer}
 use Rattle.eval.specs.Shown
 use Rattle.eval.proofs.Channels.{IsChannel}
+use Rattle.eval.proofs.Shapes.{shape-some}
 use Rattle.eval.proofs.Rates.{IsRate, rate-some, rate-none}
 
 -- ---- channels
-
--- a name's number is that of a cell's field
-pub channel-small : (t : List ℕ) (ls : List ℤ) (k : ℕ) (r : Channel) (c : Resolved.Channel) → Settled.Channel t c k → IsChannel t ls k r → Shown.Small r
-unfolding Settled.Channel evalChannel channelAnswer channelOf valued tokenOf
-channel-small t ls k r (Resolved.number e) a w = rw (w (Resolved.number e) a) (go (evalExpr ls e))
-  where
-    go : (v : Value) → Shown.Small (channelOf (valued v (λ z. some (offers.number z))))
-    go (Is z) = tt
-    go Missing = tt
-channel-small t ls k r (Resolved.name n) a w = rw (w (Resolved.name n) a) (omega (arith, a .index-is))
-
 not-found : (o : Option offers.Channel) (r : Channel) → r ≡ channelOf o → Shown.isFound r ≡ false → o ≡ none
 unfolding channelOf Shown.isFound
-not-found (some (offers.number z)) r e h = true-not-false (rw e at h)
-not-found (some (offers.named n)) r e h = true-not-false (rw e at h)
+not-found (some x) r e h = true-not-false (rw (e, shape-some x) at h)
 not-found none r e h = refl
+
+found : (x : offers.Channel) → Shown.isFound (channelOf (some x)) ≡ true
+unfolding channelOf Shown.isFound
+found x = rw (shape-some x)
+
+not-there : Shown.isFound (channelOf none) ≡ false
+unfolding channelOf Shown.isFound
+not-there = refl
+
+shows-itself : (x : offers.Channel) → let c = channelOf (some x) in ShowsChannel (c .shape) (c .first) (c .second) (c .third) x
+unfolding channelOf
+shows-itself x = record { shape-is = refl; first-is = refl; second-is = refl; third-is = refl }
 
 -- ---- values and sets with their channel
 
@@ -70,23 +71,17 @@ both-lacking false x = refl
 module _ (kind rate : ℕ) (l : Listed) where
   pair-assembled : (o : Option offers.Channel) (v : Option (List ℤ)) → Shown.ListsValues l v
       → Shown.ShowsPart Shown.ShowsPair kind rate (Shown.assembled kind rate (channelOf o) l) (given o (λ x. given v (λ vs. some (record { channel = x; values = vs }))))
-  unfolding given channelOf Shown.assembled Shown.withChannel
-  pair-assembled none v h = Shown.missing (both-lacking (eqb (l .count) 0) (Shown.bareOffer 1 0))
+  unfolding given Shown.assembled Shown.withChannel
+  pair-assembled none v h = rw not-there (Shown.missing (both-lacking (eqb (l .count) 0) (Shown.bareOffer 1 0)))
   pair-assembled (some x) none (Shown.missing e) = rw e (Shown.missing refl)
-  pair-assembled (some (offers.number z)) (some vs) (Shown.all h) =
-      rw (values-some h) (Shown.there refl refl (record { channel-is = Shown.number refl refl; values-are = h }))
-  pair-assembled (some (offers.named n)) (some vs) (Shown.all h) =
-      rw (values-some h) (Shown.there refl refl (record { channel-is = Shown.named refl refl; values-are = h }))
+  pair-assembled (some x) (some vs) (Shown.all h) = rw (values-some h, found x) (Shown.there refl refl (record { channel-is = shows-itself x; values-are = h }))
 
   query-assembled : {t : List ℕ} {ls : List ℤ} (o : Option offers.Channel) (v : Option (List offers.Set)) → Shown.ListsSets t ls l v
       → Shown.ShowsPart (Shown.ShowsQuery t ls) kind rate (Shown.assembled kind rate (channelOf o) l) (given o (λ x. given v (λ xs. some (record { channel = x; sets = xs }))))
-  unfolding given channelOf Shown.assembled Shown.withChannel
-  query-assembled none v h = Shown.missing (both-lacking (eqb (l .count) 0) (Shown.bareOffer 1 0))
+  unfolding given Shown.assembled Shown.withChannel
+  query-assembled none v h = rw not-there (Shown.missing (both-lacking (eqb (l .count) 0) (Shown.bareOffer 1 0)))
   query-assembled (some x) none (Shown.missing e) = rw e (Shown.missing refl)
-  query-assembled (some (offers.number z)) (some vs) (Shown.all h) =
-      rw (sets-some h) (Shown.there refl refl (record { channel-is = Shown.number refl refl; sets-are = h }))
-  query-assembled (some (offers.named n)) (some vs) (Shown.all h) =
-      rw (sets-some h) (Shown.there refl refl (record { channel-is = Shown.named refl refl; sets-are = h }))
+  query-assembled (some x) (some vs) (Shown.all h) = rw (sets-some h, found x) (Shown.there refl refl (record { channel-is = shows-itself x; sets-are = h }))
 
 -- one or two values are listed
 values-listed : (t : List ℕ) (ls : List ℤ) (k : ℕ) (es : List Resolved.Expr) → OneOrTwo t (Settled.Expr t) es k

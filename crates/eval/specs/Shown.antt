@@ -1,9 +1,9 @@
 -- What a branch offers as numbers: an offer's kind, rate, channel, and values or sets. Assumes nothing: these are definitions.
 use mathlib.Core.Path.{_≡_}
 use mathlib.Core.List.{List, [], _∷_}
-use mathlib.Core.Bool.{Bool, true, false, cond, _||_}
+use mathlib.Core.Bool.{Bool, cond, not, _||_}
 use mathlib.Core.Option.{Option, none, some}
-use Prim.Native.Nat.{ℕ, _+_, _-_, _<_}
+use Prim.Native.Nat.{ℕ, _+_, _-_}
 use lib.Dec.{eqb}
 use lib.IntN.{ℤ, pos}
 use lib.ListN.{length, getD}
@@ -19,8 +19,8 @@ use Rattle.machine.specs.Evaluate.{evalSet, evalAll, evalPair, evalQuery, evalA
 use Rattle.eval.specs.Held.{Held}
 use Rattle.eval.specs.declared.Values.{Values}
 use Rattle.eval.specs.declared.Values.the-variants.{One, Two, Missing as Unknown}
-use Rattle.eval.specs.declared.Channel.{Channel}
-use Rattle.eval.specs.declared.Channel.the-variants.{Number, Name, Missing as Unnamed}
+use Rattle.eval.specs.declared.channel.Channel.{Channel}
+use Rattle.eval.specs.Channels.{ShowsChannel}
 use Rattle.eval.specs.declared.offer.Offer.{Offer}
 use Rattle.eval.specs.declared.offer.Listed.{Listed}
 use Rattle.eval.specs.declared.offer.Ends.{Ends}
@@ -46,19 +46,16 @@ bareOffer kind rate =
     record {
       kind = kind;
       rate = rate;
-      «channel_kind» = 0;
+      shape = 0;
       channel = pos 0;
       count = 0;
       first = pos 0;
       «first_end» = pos 0;
       second = pos 0;
       «second_end» = pos 0;
+      channel2 = pos 0;
+      channel3 = pos 0;
     }
-
--- 01, State: a channel as kind (0 number, 1 name) and number
-pub data ShowsChannel (kind : ℕ) (z : ℤ) : offers.Channel → Type 0 where
-  number : {x : ℤ} → kind ≡ 0 → z ≡ x → ShowsChannel kind z (offers.number x)
-  named : {n : ℕ} → kind ≡ 1 → z ≡ pos n → ShowsChannel kind z (offers.named n)
 
 -- 01, Model text, actions: one or two values
 pub data ShowsValues (count : ℕ) (a b c d : ℤ) : List ℤ → Type 0 where
@@ -84,12 +81,12 @@ pub data ShowsSets (t : List ℕ) (ls : List ℤ) (count : ℕ) (a b c d : ℤ) 
 
 -- 01, Model text, actions: what is launched, killed or sent
 pub record ShowsPair (r : Offer) (x : offers.Pair) : Type 0 where
-  pub channel-is : ShowsChannel (r .«channel_kind») (r .channel) (x .channel)
+  pub channel-is : ShowsChannel (r .shape) (r .channel) (r .channel2) (r .channel3) (x .channel)
   pub values-are : ShowsValues (r .count) (r .first) (r .«first_end») (r .second) (r .«second_end») (x .values)
 
 -- 01, Model text, actions: what a receive or a check asks for
 pub record ShowsQuery (t : List ℕ) (ls : List ℤ) (r : Offer) (w : offers.Query) : Type 0 where
-  pub channel-is : ShowsChannel (r .«channel_kind») (r .channel) (w .channel)
+  pub channel-is : ShowsChannel (r .shape) (r .channel) (r .channel2) (r .channel3) (w .channel)
   pub sets-are : ShowsSets t ls (r .count) (r .first) (r .«first_end») (r .second) (r .«second_end») (w .sets)
 
 -- 01, Model text, actions: each in turn
@@ -165,47 +162,28 @@ SetsListed t ls k r = (ss : List Resolved.Set) → Settled.OneOrTwo t (Settled.S
 
 -- 01, Values: a channel that has a value
 unfoldable pub isFound : Channel → Bool
-isFound (Number z) = true
-isFound (Name n) = true
-isFound Unnamed = false
+isFound c = not (eqb (c .shape) 0)
 
--- 01, State: a name's number fits its field
-abbrev pub Small : Channel → Type 0
-Small (Number z) = Unit {0}
-Small (Name n) = n < node.field
-Small Unnamed = Unit {0}
-
--- 01, State: kind, rate and list with the channel as kind and number
+-- 02, note 7: kind, rate and list with the channel's four numbers
 unfoldable pub withChannel : ℕ → ℕ → Channel → Listed → Offer
-withChannel kind rate (Number z) l =
+withChannel kind rate c l =
     record {
       kind = kind;
       rate = rate;
-      «channel_kind» = 0;
-      channel = z;
+      shape = c .shape;
+      channel = c .first;
       count = l .count;
       first = l .first;
       «first_end» = l .«first_end»;
       second = l .second;
       «second_end» = l .«second_end»;
+      channel2 = c .second;
+      channel3 = c .third;
     }
-withChannel kind rate (Name n) l =
-    record {
-      kind = kind;
-      rate = rate;
-      «channel_kind» = 1;
-      channel = pos n;
-      count = l .count;
-      first = l .first;
-      «first_end» = l .«first_end»;
-      second = l .second;
-      «second_end» = l .«second_end»;
-    }
-withChannel kind rate Unnamed l = bareOffer lacking 0
 
 -- 01, Values: kind, rate, channel and list, if all are there
 unfoldable pub assembled : ℕ → ℕ → Channel → Listed → Offer
-assembled kind rate c l = cond (eqb (l .count) 0) (bareOffer lacking 0) (withChannel kind rate c l)
+assembled kind rate c l = cond (eqb (l .count) 0) (bareOffer lacking 0) (cond (isFound c) (withChannel kind rate c l) (bareOffer lacking 0))
 
 -- 01, Values: r shows a part of this kind and rate, if it is there
 pub data ShowsPart {A : Type 0} (shows : Offer → A → Type 0) (kind rate : ℕ) (r : Offer) : Option A → Type 0 where

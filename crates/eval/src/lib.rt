@@ -1,4 +1,5 @@
 // Evaluation over settled nodes: a part is given by its root in the table, a process by its locals.
+pub mod channel;
 pub mod next;
 pub mod offer;
 
@@ -20,12 +21,12 @@ ghost use Rattle.tree.specs.Node.{opKind, relationKind, testKind};
 ghost use Rattle.model.specs.Resolved as Resolved;
 ghost use Rattle.rules.specs.Offers.{range, within};
 ghost use Rattle.tables.specs.Settled as Settled;
-ghost use Rattle.model.specs.Good.{Every, GoodExpr, GoodSet, GoodCond, GoodRate, GoodName};
+ghost use Rattle.model.specs.Good.{Every, GoodExpr, GoodSet, GoodCond, GoodRate};
 ghost use Rattle.machine.specs.Evaluate.{withValue, valued, given, apply, related, inRate, evalExpr};
 ghost use Rattle.machine.specs.Offer.{isValue, allValues};
 ghost use Rattle.eval.specs.Held.{Held, Worth, Sound};
 ghost use Rattle.eval.specs.Skips.{settles, skips};
-ghost use Rattle.eval.specs.Rates.{rateOf, scaleAnswer, rateAnswer, channelAnswer};
+ghost use Rattle.eval.specs.Rates.{rateOf, scaleAnswer, rateAnswer};
 ghost use Rattle.eval.specs.Lists.{valuesGiven, valuesAnswer};
 ghost use Rattle.eval.specs.Answers.{Tells, endsKnown, truthOf, truth};
 
@@ -351,31 +352,6 @@ pub fn rate_of(nodes: &[u64], locals: &[i64], k: usize) -> Rate
     let scale = scale_of(nodes, locals, tree::left_of(cell));
     let x = eval_node(nodes, locals, k - 1);
     times(scale, x)
-}
-
-pub enum Channel {
-    Number(i64),
-    Name(u64),
-    Missing,
-}
-
-// The kind of a channel name's node.
-const CHANNEL: u8 = 66;
-
-// What the channel at k comes to.
-pub fn channel_of(nodes: &[u64], locals: &[i64], k: usize) -> Channel
-    requires { ⌜ ((m : Resolved.Model) × Held (Settled.Channel (now nodes)) (GoodName m (length (now locals))) k) × (Every InRange (now locals)) ⌝ }
-    ensures { λ r. ⌜ Worth (Settled.Channel (now (nodes .entry))) (channelAnswer (now (locals .entry))) k r ⌝ }
-{
-    let cell = cell_at(nodes, k);
-    if tree::kind_of(cell) == CHANNEL {
-        return Channel::Name(tree::token_of(cell) as u64);
-    }
-    let x = eval_node(nodes, locals, k);
-    match x {
-        Value::Is(z) => Channel::Number(z),
-        Value::Missing => Channel::Missing,
-    }
 }
 
 pub enum Values {

@@ -1,8 +1,8 @@
 // What a branch offers over settled nodes: its kind, rate, channel, and values or sets, in 01's order of evaluation.
-use crate::Channel;
 use crate::Rate;
 use crate::Truth;
 use crate::Values;
+use crate::channel::Channel;
 use tree::NodeKind;
 use value::Value;
 ghost use mathlib.Core.Path.{_≡_};
@@ -27,17 +27,20 @@ impl OfferSet {
     pub const JOINED: i64 = value::Range::GREATEST + 1;
 }
 
-// What a branch offers. A channel is kind (0 number, 1 name) and number; one or two values, each in `first` or `second`, or sets, each with its end.
+// What a branch offers. A channel is its shape and the values of its items, the first in `channel`; then one or two values, each in `first` or `second`, or sets,
+// each with its end.
 pub struct Offer {
     pub kind: u8,
     pub rate: u64,
-    pub channel_kind: u8,
+    pub shape: u8,
     pub channel: i64,
     pub count: usize,
     pub first: i64,
     pub first_end: i64,
     pub second: i64,
     pub second_end: i64,
+    pub channel2: i64,
+    pub channel3: i64,
 }
 
 impl Offer {
@@ -70,13 +73,15 @@ fn bare_offer(kind: u8, rate: u64) -> Offer
     Offer {
         kind: kind,
         rate: rate,
-        channel_kind: 0,
+        shape: 0,
         channel: 0,
         count: 0,
         first: 0,
         first_end: 0,
         second: 0,
         second_end: 0,
+        channel2: 0,
+        channel3: 0,
     }
 }
 
@@ -210,46 +215,32 @@ fn listed_sets(nodes: &[u64], locals: &[i64], k: usize) -> Listed
 fn is_found(c: Channel) -> bool
     ensures { λ r. ⌜ r ≡ Shown.isFound c ⌝ }
 {
-    match c {
-        Channel::Number(_) => true,
-        Channel::Name(_) => true,
-        Channel::Missing => false,
-    }
+    c.shape != 0
 }
 
 // The parts of an offer put together, if all are there.
 fn assembled(kind: u8, rate: u64, c: Channel, list: Listed) -> Offer
-    requires { ⌜ Shown.Small c ⌝ }
     ensures { λ r. ⌜ r ≡ Shown.assembled kind rate c list ⌝ }
 {
     let count = list.count;
     if count == 0 {
         return bare_offer(Offer::MISSING, 0);
     }
-    match c {
-        Channel::Number(z) => Offer {
-            kind: kind,
-            rate: rate,
-            channel_kind: 0,
-            channel: z,
-            count: count,
-            first: list.first,
-            first_end: list.first_end,
-            second: list.second,
-            second_end: list.second_end,
-        },
-        Channel::Name(n) => Offer {
-            kind: kind,
-            rate: rate,
-            channel_kind: 1,
-            channel: n as i64,
-            count: count,
-            first: list.first,
-            first_end: list.first_end,
-            second: list.second,
-            second_end: list.second_end,
-        },
-        Channel::Missing => bare_offer(Offer::MISSING, 0),
+    if !is_found(c) {
+        return bare_offer(Offer::MISSING, 0);
+    }
+    Offer {
+        kind: kind,
+        rate: rate,
+        shape: c.shape,
+        channel: c.first,
+        count: count,
+        first: list.first,
+        first_end: list.first_end,
+        second: list.second,
+        second_end: list.second_end,
+        channel2: c.second,
+        channel3: c.third,
     }
 }
 
@@ -259,7 +250,7 @@ fn carried_offer(nodes: &[u64], locals: &[i64], k: usize, kind: u8, rate: u64) -
     ensures { λ r. ⌜ Shown.Carried (now (nodes .entry)) (now (locals .entry)) kind rate k r ⌝ }
 {
     let cell = crate::cell_at(nodes, k);
-    let c = crate::channel_of(nodes, locals, tree::left_of(cell));
+    let c = crate::channel::channel_of(nodes, locals, tree::left_of(cell));
     if !is_found(c) {
         return bare_offer(Offer::MISSING, 0);
     }
@@ -273,7 +264,7 @@ fn sought_offer(nodes: &[u64], locals: &[i64], k: usize, kind: u8, rate: u64) ->
     ensures { λ r. ⌜ Shown.Sought (now (nodes .entry)) (now (locals .entry)) kind rate k r ⌝ }
 {
     let cell = crate::cell_at(nodes, k);
-    let c = crate::channel_of(nodes, locals, tree::left_of(cell));
+    let c = crate::channel::channel_of(nodes, locals, tree::left_of(cell));
     if !is_found(c) {
         return bare_offer(Offer::MISSING, 0);
     }

@@ -11,13 +11,14 @@ use lib.IntN.{ℤ, pos, negsuc}
 use lib.ListN.{length}
 use lib.Signed.{mag}
 use Rattle.value.specs.Range.{farthest, least, InRange}
+use Rattle.value.specs.Items.{oneItem}
 use Rattle.grammar.specs.Grammar.{greater}
 use Rattle.grammar.specs.Syntax.{divide, without}
 use Rattle.tree.specs.Node.{kindOf, tokenOf, leftOf, opKind, joinKind, testKind, relationKind}
 use Rattle.model.specs.Resolved
 use Rattle.tables.specs.Settled as Settled
 use Rattle.tables.specs.Settled.{offset, lifted, numberCell}
-use Rattle.model.specs.Good.{Every, GoodExpr, GoodSet, GoodCond, GoodGate, GoodName, GoodScale, GoodRate, GoodAction, GoodBranch, scaleLimit}
+use Rattle.model.specs.Good.{Every, GoodExpr, GoodSet, GoodCond, GoodGate, GoodName, GoodItem, GoodScale, GoodRate, GoodAction, GoodBranch, scaleLimit}
 use Rattle.eval.specs.Held.{Held}
 use Rattle.evals.specs.Cells.{Literal}
 
@@ -104,14 +105,14 @@ module _ (x y : ℕ) (a : Literal x) (b : Literal y) where
 -- [i>0] -> {c![y/i],1} of the locals i and y
 pub gated-holds : (x y : ℕ) → x ≡ numberCell 1 (pos 0) → y ≡ numberCell 29 (pos 10000)
     → (m : Resolved.Model) × Held (Settled.Branch (3 ∷ x ∷ 17 ∷ 66 ∷ 259 ∷ 3 ∷ 67108872 ∷ 50331685 ∷ y ∷ 117440557 ∷ 33554479 ∷ [])) (GoodBranch m 2) 10
-unfolding Settled.Branch Settled.Gated Settled.Cond Settled.Expr Settled.Offer Settled.Action Settled.Channel Settled.OneOrTwo Settled.Rate Settled.Scale
-    Every GoodExpr GoodCond GoodGate GoodName GoodScale GoodRate GoodAction opKind testKind relationKind kindOf tokenOf leftOf
+unfolding Settled.Branch Settled.Gated Settled.Cond Settled.Expr Settled.Offer Settled.Action Settled.Channel Settled.Item Settled.OneOrTwo Settled.Rate Settled.Scale
+    Every GoodExpr GoodCond GoodGate GoodName GoodItem GoodScale GoodRate GoodAction opKind testKind relationKind kindOf tokenOf leftOf
 gated-holds x y e f = (
   record { sums = []; definitions = []; channels = 1; starts = [] },
   record {
     part = record {
       gate = some (Resolved.compare false greater (Resolved.localAt 0) (Resolved.constant (pos 0)));
-      action = Resolved.launch (Resolved.name 0) (Resolved.binary divide (Resolved.localAt 1) (Resolved.localAt 0) ∷ []);
+      action = Resolved.launch (oneItem (Resolved.name 0)) (Resolved.binary divide (Resolved.localAt 1) (Resolved.localAt 0) ∷ []);
       rate = Resolved.plain (Resolved.fixed (pos 10000));
       next = [];
     };

@@ -4,15 +4,17 @@ use mathlib.Core.Path.{_≡_, refl, sym, ap, _∙_}
 use mathlib.Core.Bool.{Bool, true, false, _&&_, _||_}
 use mathlib.Core.List.{List, [], _∷_}
 use native.Mathlib.Omega.{arith}
-use borrow.Author.Tests.{eq-eqb, ne-eqb, eqb-true, eqb-false}
-use lib.Dec.{eqb}
-use lib.IntN.{ℤ, pos, natAbs}
+use lib.IntN.{ℤ, pos}
 use Rattle.value.specs.Arithmetic.{isSame}
-use Rattle.value.proofs.Kit.{true-not-false, same-eq, eq-same, ne-same}
+use Rattle.value.proofs.Kit.{true-not-false, same-eq, eq-same}
+use Rattle.rules.proofs.Decides as decides
+use Rattle.rules.proofs.Decides.{on, passes, refuses}
 use Rattle.rules.specs.Offers as offers
 use Rattle.rules.specs.Listing.{sameChannel, allWithin, matches}
 use Rattle.eval.specs.Shown as shown
-use Rattle.eval.specs.Shown.{ShowsChannel, ShowsValues, ShowsSet, ShowsSets}
+use Rattle.eval.specs.Shown.{ShowsValues, ShowsSet, ShowsSets}
+use Rattle.eval.specs.Channels.{shapeOf, firstOf, secondOf, thirdOf, ShowsChannel}
+use Rattle.eval.proofs.Shapes.{channels-alike}
 
 and-true : (p : Bool) → p ≡ p && true
 and-true true = refl
@@ -64,37 +66,33 @@ module _ {t : List ℕ} {ls : List ℤ} {n : ℕ} {a a′ b b′ : ℤ} where
       rw (← h, ← j) (rw (← o x s) (q x₂ r ∙ and-true (offers.within x₂ u)))
 
 -- ---- channels
-module _ {k l : ℕ} {a b : ℤ} where
-  pub kinds-differ : {c d : offers.Channel} → ShowsChannel k a c → ShowsChannel l b d → (k ≡ l → ⊥) → sameChannel c d ≡ false
-  unfolding sameChannel
-  kinds-differ (shown.number e f) (shown.number g h) n = absurd (n (omega arith))
-  kinds-differ (shown.number e f) (shown.named g h) n = refl
-  kinds-differ (shown.named e f) (shown.number g h) n = refl
-  kinds-differ (shown.named e f) (shown.named g h) n = absurd (n (omega arith))
-
-  pub channel-tells : {c d : offers.Channel} → ShowsChannel k a c → ShowsChannel l b d → k ≡ l → isSame a b ≡ sameChannel c d
-  unfolding sameChannel
-  channel-tells (shown.number e f) (shown.number g h) n = rw (f, h)
-  channel-tells (shown.number e f) (shown.named g h) n = absurd (omega arith)
-  channel-tells (shown.named e f) (shown.number g h) n = absurd (omega arith)
-  channel-tells (shown.named {n = x} e f) (shown.named {n = y} g h) n = ap (λ (z : ℤ). isSame z b) f ∙ ap (isSame (pos x)) h ∙ names x y
-    where
-      names : (x y : ℕ) → isSame (pos x) (pos y) ≡ eqb x y
-      names x y = go (eqb x y) refl
-        where
-          go : (p : Bool) → eqb x y ≡ p → isSame (pos x) (pos y) ≡ p
-          go true e = let z : x ≡ y = eqb-true x y e in eq-same (pos x) (pos y) (ap pos z)
-          go false e = ne-same (pos x) (pos y) (λ z. eqb-false x y e (ap natAbs z))
-
 -- the same channel, as a statement
-pub same-is : (c d : offers.Channel) → sameChannel c d ≡ true → c ≡ d
-unfolding sameChannel
-same-is (offers.number x) (offers.number y) e = ap offers.number (same-eq x y e)
-same-is (offers.number x) (offers.named n) e = true-not-false (sym e)
-same-is (offers.named n) (offers.number x) e = true-not-false (sym e)
-same-is (offers.named n) (offers.named k) e = ap offers.named (eqb-true n k e)
+pub same-is : (x y : offers.Channel) → sameChannel x y ≡ true → x ≡ y
+same-is x y e = on (decides.channel x y) e
 
-pub is-same : (c : offers.Channel) → sameChannel c c ≡ true
-unfolding sameChannel
-is-same (offers.number x) = eq-same x x refl
-is-same (offers.named n) = eq-eqb n n refl
+pub is-same : (x : offers.Channel) → sameChannel x x ≡ true
+is-same x = passes (decides.channel x x) refl
+
+-- numbers of two channels, one of which each
+values-differ : (f : offers.Channel → ℤ) {u v : ℤ} {x y : offers.Channel} → u ≡ f x → v ≡ f y → isSame u v ≡ false → false ≡ sameChannel x y
+values-differ f {u} {v} {x} {y} p q d = sym (refuses (decides.channel x y) (λ e. true-not-false (sym (eq-same u v (p ∙ ap f e ∙ sym q)) ∙ d)))
+
+module _ {s s′ : ℕ} {a b c a′ b′ c′ : ℤ} {x y : offers.Channel} (h : ShowsChannel s a b c x) (g : ShowsChannel s′ a′ b′ c′ y) where
+  pub shapes-differ : (s ≡ s′ → ⊥) → false ≡ sameChannel x y
+  shapes-differ n = sym (refuses (decides.channel x y) (λ e. n (h .shape-is ∙ ap shapeOf e ∙ sym (g .shape-is))))
+
+  pub firsts-differ : isSame a a′ ≡ false → false ≡ sameChannel x y
+  firsts-differ d = values-differ firstOf (h .first-is) (g .first-is) d
+
+  pub seconds-differ : isSame b b′ ≡ false → false ≡ sameChannel x y
+  seconds-differ d = values-differ secondOf (h .second-is) (g .second-is) d
+
+  pub thirds-tell : s ≡ s′ → isSame a a′ ≡ true → isSame b b′ ≡ true → isSame c c′ ≡ sameChannel x y
+  thirds-tell p q r = go (isSame c c′) refl
+    where
+      go : (t : Bool) → isSame c c′ ≡ t → t ≡ sameChannel x y
+      go false d = values-differ thirdOf (h .third-is) (g .third-is) d
+      go true e =
+          let k : ShowsChannel s′ a′ b′ c′ x =
+          record { shape-is = sym p ∙ h .shape-is; first-is = sym (same-eq a a′ q) ∙ h .first-is; second-is = sym (same-eq b b′ r) ∙ h .second-is; third-is = sym (same-eq c c′ e) ∙ h .third-is } in
+          sym (passes (decides.channel x y) (channels-alike k g))

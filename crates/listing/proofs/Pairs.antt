@@ -15,9 +15,10 @@ use Rattle.value.proofs.Kit.{back}
 use Rattle.model.specs.Resolved
 use Rattle.model.proofs.Members.{got-some}
 use Rattle.rules.specs.Offers as offers
-use Rattle.rules.specs.Pairs.{channelNumbers}
+use Rattle.rules.specs.Pairs.{itemNumbers, channelNumbers}
+use Rattle.value.specs.Items.{oneItem, twoItems, threeItems}
 use Rattle.model.specs.Good.{OneOrTwo}
-use Rattle.machine.specs.State.{State, GoodPair, padded, pairNumbers}
+use Rattle.machine.specs.State.{State, GoodPair, padded, pairNumbers, channelWidth, pairWidth}
 use Rattle.machine.proofs.Branches.{get-nth}
 use Rattle.machine.proofs.Everys.{every-nth}
 use Rattle.state.specs.Read.{Passed, pairCount, pairRow}
@@ -26,28 +27,32 @@ use Rattle.state.proofs.Over.{good-fits, few-scopes}
 use Rattle.state.proofs.Read.{count-numbers, row-numbers}
 use Rattle.state.proofs.Entries.{pair-shape}
 use Rattle.eval.specs.Shown as shown
-use Rattle.eval.specs.Shown.{ShowsValues, ShowsChannel}
+use Rattle.eval.specs.Shown.{ShowsValues}
+use Rattle.eval.specs.Channels.{ShowsChannel, numbersOf}
+use Rattle.eval.proofs.Shapes.{numbers-are}
 use Rattle.state.specs.Test.{rows, ascends, placeOf, channelRow, pairPart}
 use Rattle.state.proofs.Image.{pair-rows}
 use Rattle.state.proofs.Climbs.{climbing}
-use Rattle.state.proofs.Channel.{rowOn, run-bound, run-exact, number-row, named-row}
+use Rattle.state.proofs.Channel.{rowOn, run-bound, run-exact}
 use Rattle.listing.specs.Ready.{RunIs}
 use Rattle.offers.specs.Collect.{World}
 
--- a row of five numbers, and the values that it has
+-- the row of a pair, and the values that it has
 pub record PairRow (row vs : List ℤ) : Type 0 where
-  pub wide : length row ≡ 5
-  pub count-is : getD row 2 (pos 0) ≡ pos (length vs)
+  pub wide : length row ≡ pairWidth
+  pub count-is : getD row channelWidth (pos 0) ≡ pos (length vs)
   pub few : length vs ≤ 2
-  pub values : ShowsValues (length vs) (getD row 3 (pos 0)) (pos 0) (getD row 4 (pos 0)) (pos 0) vs
+  pub values : ShowsValues (length vs) (getD row (channelWidth + 1) (pos 0)) (pos 0) (getD row (channelWidth + 2) (pos 0)) (pos 0) vs
 
 numbers-row : (c : offers.Channel) (vs : List ℤ) → OneOrTwo vs → PairRow (channelNumbers c (pos (length vs) ∷ padded 2 vs)) vs
-unfolding channelNumbers padded
+unfolding channelNumbers itemNumbers padded
 numbers-row c [] o = absurd (omega (arith, o .one))
-numbers-row (offers.number z) (v ∷ []) o = record { wide = refl; count-is = refl; few = omega arith; values = shown.ShowsValues.one refl refl refl refl refl }
-numbers-row (offers.named n) (v ∷ []) o = record { wide = refl; count-is = refl; few = omega arith; values = shown.ShowsValues.one refl refl refl refl refl }
-numbers-row (offers.number z) (v ∷ u ∷ []) o = record { wide = refl; count-is = refl; few = omega arith; values = shown.ShowsValues.two refl refl refl refl refl }
-numbers-row (offers.named n) (v ∷ u ∷ []) o = record { wide = refl; count-is = refl; few = omega arith; values = shown.ShowsValues.two refl refl refl refl refl }
+numbers-row (oneItem a) (v ∷ []) o = record { wide = refl; count-is = refl; few = omega arith; values = shown.ShowsValues.one refl refl refl refl refl }
+numbers-row (twoItems a b) (v ∷ []) o = record { wide = refl; count-is = refl; few = omega arith; values = shown.ShowsValues.one refl refl refl refl refl }
+numbers-row (threeItems a b c) (v ∷ []) o = record { wide = refl; count-is = refl; few = omega arith; values = shown.ShowsValues.one refl refl refl refl refl }
+numbers-row (oneItem a) (v ∷ u ∷ []) o = record { wide = refl; count-is = refl; few = omega arith; values = shown.ShowsValues.two refl refl refl refl refl }
+numbers-row (twoItems a b) (v ∷ u ∷ []) o = record { wide = refl; count-is = refl; few = omega arith; values = shown.ShowsValues.two refl refl refl refl refl }
+numbers-row (threeItems a b c) (v ∷ u ∷ []) o = record { wide = refl; count-is = refl; few = omega arith; values = shown.ShowsValues.two refl refl refl refl refl }
 numbers-row c (v ∷ u ∷ w ∷ vs) o = absurd (omega (arith, o .two))
 
 module _ {t roots scopes : List ℕ} {zs : List ℤ} {m : Resolved.Model} {s : State} (w : World t roots scopes zs m s) where
@@ -69,12 +74,12 @@ count-cast z n e l = rw e (rw (back (pos n) (omega arith)) (tt, record { fits = 
 
 -- ---- the run of a channel
 module _ {t roots scopes : List ℕ} {zs : List ℤ} {m : Resolved.Model} {s : State} (w : World t roots scopes zs m s) where
-  rows-are : rows 5 (pairCount zs) (pairPart zs) ≡ map pairNumbers (s .pairs)
+  rows-are : rows pairWidth (pairCount zs) (pairPart zs) ≡ map pairNumbers (s .pairs)
   rows-are =
-      ap (λ (n : ℕ). rows 5 n (pairPart zs)) (pairs-are w) ∙ ap (λ (y : List ℤ). rows 5 (length (s .pairs)) (pairPart y)) (w .numbers)
+      ap (λ (n : ℕ). rows pairWidth n (pairPart zs)) (pairs-are w) ∙ ap (λ (y : List ℤ). rows pairWidth (length (s .pairs)) (pairPart y)) (w .numbers)
       ∙ pair-rows (scopesOf m) (few-scopes m (w .good)) (m .channels) s (good-fits m s (w .good) (w .state))
 
-  pub rows-ascend : ascends (rows 5 (pairCount zs) (pairPart zs)) ≡ true
+  pub rows-ascend : ascends (rows pairWidth (pairCount zs) (pairPart zs)) ≡ true
   rows-ascend = rw rows-are (climbing (s .pairs) (w .state .ascending))
 
   run-at : (c : offers.Channel) → RunIs (s .pairs) c (placeOf (rowOn c 0) (map pairNumbers (s .pairs))) (placeOf (rowOn c 3) (map pairNumbers (s .pairs)))
@@ -83,12 +88,7 @@ module _ {t roots scopes : List ℕ} {zs : List ℤ} {m : Resolved.Model} {s : S
       let b = run-bound c (m .channels) (s .pairs) (f .pairs) (w .state .ascending) in
       record { low = b .0; high = b .1; exact = λ q x e. run-exact c (m .channels) (s .pairs) (f .pairs) (w .state .ascending) q x e }
 
-  pub run-shown : (k : ℕ) (z : ℤ) (c : offers.Channel) (from to : ℕ) → ShowsChannel k z c
-      → from ≡ placeOf (channelRow (pos k) z 0) (rows 5 (pairCount zs) (pairPart zs)) → to ≡ placeOf (channelRow (pos k) z 3) (rows 5 (pairCount zs) (pairPart zs)) → RunIs (s .pairs) c from to
-  run-shown k z c from to (shown.number {x} a b) e f = rw (e, f) (rw rows-are (rw (a, b) (rw (number-row x 0, number-row x 3) (run-at (offers.number x)))))
-  run-shown k z c from to (shown.named {n} a b) e f = rw (e, f) (rw rows-are (rw (a, b) (rw (named-row n 0, named-row n 3) (run-at (offers.named n)))))
-
--- a channel's kind as an i64
-pub kind-back : {k : ℕ} {z : ℤ} {c : offers.Channel} → ShowsChannel k z c → toZ w64 k ≡ pos k
-kind-back (shown.number a b) = rw a
-kind-back (shown.named a b) = rw a
+  pub run-shown : (sh : ℕ) (a b c : ℤ) (x : offers.Channel) (from to : ℕ) → ShowsChannel sh a b c x
+      → from ≡ placeOf (channelRow (numbersOf sh a b c) 0) (rows pairWidth (pairCount zs) (pairPart zs)) → to ≡ placeOf (channelRow (numbersOf sh a b c) 3) (rows pairWidth (pairCount zs) (pairPart zs)) → RunIs (s .pairs) x from to
+  run-shown sh a b c x from to h e f =
+      rw (e, f) (rw rows-are (rw (numbers-are x h (pos 0 ∷ pos 0 ∷ pos 0 ∷ []), numbers-are x h (pos 3 ∷ pos 0 ∷ pos 0 ∷ [])) (run-at x)))

@@ -20,8 +20,9 @@ use Rattle.rules.specs.Listing.{Entry, entry, gather, when, unless, sameChannel
 use Rattle.machine.specs.Evaluate.{rateLimit}
 use Rattle.machine.specs.State.{State}
 use Rattle.eval.specs.declared.offer.Offer.{Offer}
+use Rattle.eval.specs.Channels.{firstOf, secondOf, thirdOf, ShowsChannel}
 use Rattle.eval.specs.Shown as shown
-use Rattle.eval.specs.Shown.{bareOffer, ShowsChannel, ShowsPair, ShowsQuery, ShowsAction}
+use Rattle.eval.specs.Shown.{bareOffer, ShowsPair, ShowsQuery, ShowsAction}
 use Rattle.state.specs.Read.{processCount}
 use Rattle.offers.specs.Slots.{Slot, partnerOf, atNumber, upTo}
 use Rattle.offers.specs.Walk.{slotsOf}
@@ -69,15 +70,10 @@ untaken l (shown.send e p) x r₁ i j k m r₂ = refl
 untaken l (shown.take e p) x r₁ i j k m r₂ = absurd (omega arith)
 untaken l (shown.takeBind e p) x r₁ i j k m r₂ = absurd (omega arith)
 
-one-number : {k l : ℕ} {a b : ℤ} {c d : offers.Channel} → c ≡ d → ShowsChannel k a c → ShowsChannel l b d → a ≡ b
-one-number {c = c} q s u = go c _ q s u
-  where
-    go : {k l : ℕ} {a b : ℤ} (c d : offers.Channel) → c ≡ d → ShowsChannel k a c → ShowsChannel l b d → a ≡ b
-    go c d q s u = last c (rw (← q) at u) s
-      where
-        last : {k l : ℕ} {a b : ℤ} (c : offers.Channel) → ShowsChannel l b c → ShowsChannel k a c → a ≡ b
-        last c (shown.number e f) (shown.number g h) = h ∙ sym f
-        last c (shown.named e f) (shown.named g h) = h ∙ sym f
+-- one channel is in one bucket
+one-bucket : {k l : ℕ} {a b c a′ b′ c′ : ℤ} {x y : offers.Channel} → x ≡ y → ShowsChannel k a b c x → ShowsChannel l a′ b′ c′ y → bucketOf a b c ≡ bucketOf a′ b′ c′
+one-bucket q h g =
+    rw (h .first-is ∙ ap firstOf q ∙ sym (g .first-is), h .second-is ∙ ap secondOf q ∙ sym (g .second-is), h .third-is ∙ ap thirdOf q ∙ sym (g .third-is))
 
 match-channel : (w : offers.Query) (x : offers.Pair) → matches w x ≡ true → w .channel ≡ x .channel
 unfolding matches
@@ -106,7 +102,7 @@ module _ {t roots scopes : List ℕ} {zs : List ℤ} {hs : List ℕ} {os : List 
     abbrev g : ℕ → List Entry
     g = atNumber (λ n. partnerOf x (r .rate) i j) all
 
-    none-there : (q : ℕ) → (InBucket hs os (bucketOf (r .channel)) q → ⊥) → g q ≡ []
+    none-there : (q : ℕ) → (InBucket hs os (bucketOf (r .channel) (r .channel2) (r .channel3)) q → ⊥) → g q ≡ []
     unfolding atNumber partnerOf Option·elim offerIn
     none-there q out = go (getElem? all q) refl
       where
@@ -129,7 +125,7 @@ module _ {t roots scopes : List ℕ} {zs : List ℤ} {hs : List ℕ} {os : List 
                     absurd
                     (out (record {
                       receives = ltb-false (kindIn (getD hs q 0)) 43 e;
-                      bucket = ap bucketOf (one-number (match-channel (T .query) x h) (T .shows .channel-is) (sent .channel-is));
+                      bucket = one-bucket (match-channel (T .query) x h) (T .shows .channel-is) (sent .channel-is);
                     }))
                 tell false h = T .partner-is x (r .rate) i j (y .place) (y .branch) (y .rate) ∙ (unfold when in rw h)
 
@@ -138,7 +134,7 @@ module _ {t roots scopes : List ℕ} {zs : List ℤ} {hs : List ℕ} {os : List 
         go (some y) e = empty (eqb (y .place) i) _ (slot y (ready .holds .shown q y e))
 
     -- up to the first of the bucket, from one to the next, and after the last
-    pub partners-lead : (a b : ℕ) → Leads hs os rows (bucketOf (r .channel)) a b → upTo g b ≡ upTo g a
+    pub partners-lead : (a b : ℕ) → Leads hs os rows (bucketOf (r .channel) (r .channel2) (r .channel3)) a b → upTo g b ≡ upTo g a
     partners-lead a b l = up-skip g a b (l .low) (λ q m n. none-there q (l .none q m n))
 
     pub partners-next : (k : ℕ) (y : Slot) → getElem? all k ≡ some y → upTo g (suc k) ≡ upTo g k ++ partnerOf x (r .rate) i j y

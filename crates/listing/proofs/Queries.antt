@@ -17,7 +17,7 @@ use Rattle.machine.specs.State.{State}
 use Rattle.machine.specs.Offer.{Process, branches}
 use Rattle.eval.specs.declared.offer.Offer.{Offer}
 use Rattle.eval.specs.Shown as shown
-use Rattle.eval.specs.Shown.{bareOffer, ShowsChannel, ShowsValues, ShowsPair, ShowsQuery, ShowsAction}
+use Rattle.eval.specs.Shown.{bareOffer, ShowsValues, ShowsPair, ShowsQuery, ShowsAction}
 use Rattle.state.specs.Read.{processCount, pairCount}
 use Rattle.offers.specs.Table.{localsOf}
 use Rattle.offers.specs.Collect.{World}

@@ -12,7 +12,6 @@ use Rattle.rules.specs.Kind as kind
 use Rattle.rules.specs.Rules.{key, rateWeight}
 use Rattle.rules.specs.Listing.{Entry, entry, when, matches}
 use Rattle.machine.specs.State.{State}
-use Rattle.eval.specs.Shown.{ShowsChannel, ShowsValues}
 use Rattle.offers.specs.Walk.{slotsOf}
 use Rattle.offers.specs.Table.{localsOf, Holds}
 use Rattle.offers.specs.Collect.{World}

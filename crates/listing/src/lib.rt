@@ -21,12 +21,13 @@ ghost use lib.IntN.{ℤ, pos};
 ghost use Rattle.value.specs.Range.{InRange};
 ghost use Rattle.model.specs.Resolved as Resolved;
 ghost use Rattle.rules.specs.Offers as offers;
-ghost use Rattle.rules.specs.Listing.{gather, allWithin, anyMatch, matches};
+ghost use Rattle.rules.specs.Listing.{gather, sameChannel, allWithin, anyMatch, matches};
 ghost use Rattle.model.specs.Good.{Every};
 ghost use Rattle.machine.specs.Evaluate.{rateLimit};
 ghost use Rattle.machine.specs.State.{State};
 ghost use Rattle.state.specs.Read.{Passed, pairCount};
-ghost use Rattle.eval.specs.Shown.{ShowsChannel, ShowsValues, ShowsSets, ShowsQuery, ShowsPair};
+ghost use Rattle.eval.specs.Channels.{ShowsChannel};
+ghost use Rattle.eval.specs.Shown.{ShowsValues, ShowsSets, ShowsQuery, ShowsPair};
 ghost use lib.ListN.{getD};
 ghost use Rattle.rules.specs.Rules.{key, rateWeight};
 ghost use Rattle.rules.specs.Listing.{ofAction, entries};
@@ -241,8 +242,15 @@ fn pair_matches(nodes: &[u64], locals: &[i64], state: &[i64], o: Offer, q: usize
     ensures { λ r. ⌜ ((w : offers.Query) (t roots scopes : List ℕ) (m : Resolved.Model) (s : State) (x : offers.Pair) → ShowsQuery (now (nodes .entry)) (now (locals .entry)) o w → World t roots scopes (now (state .entry)) m s → getElem? (s .pairs) q ≡ some x → r ≡ allWithin (w .sets) (x .values)) ⌝ }
 {
     let row = state::pair_row(state, q);
-    let count = row[2] as usize;
-    values_match(nodes, locals, o, count, row[3], row[4])
+    let count = row[Layout::CHANNEL] as usize;
+    values_match(
+        nodes,
+        locals,
+        o,
+        count,
+        row[Layout::VALUES],
+        row[Layout::VALUES + 1],
+    )
 }
 
 // The run of the lit pairs on the channel of an offer.
@@ -251,9 +259,9 @@ fn run_of(state: &[i64], o: Offer) -> Run
     ensures { λ r. ⌜ ((nodes : List ℕ) (ls : List ℤ) (w : offers.Query) (t roots scopes : List ℕ) (m : Resolved.Model) (s : State) → ShowsQuery nodes ls o w → World t roots scopes (now (state .entry)) m s → RunIs (s .pairs) (w .channel) (r .from) (r .to)) ⌝ }
 {
     let n = state::pair_count(state);
-    let kind = o.channel_kind as i64;
-    let channel = o.channel;
-    state::channel_run(&state[Layout::PAIRS..], n, kind, channel)
+    let mut channel = [0i64; Layout::CHANNEL];
+    eval::channel::put_channel(o.shape, o.channel, o.channel2, o.channel3, &mut channel);
+    state::channel_run(&state[Layout::PAIRS..], n, &channel)
 }
 
 // Whether any lit pair of a run matches what an offer asks for.
@@ -331,6 +339,22 @@ fn list_bound(
     n
 }
 
+// Whether two offers are on the same channel.
+fn same_channel(o: Offer, p: Offer) -> bool
+    ensures { λ r. ⌜ ((x y : offers.Channel) → ShowsChannel (o .shape) (o .channel) (o .channel2) (o .channel3) x → ShowsChannel (p .shape) (p .channel) (p .channel2) (p .channel3) y → r ≡ sameChannel x y) ⌝ }
+{
+    if o.shape != p.shape {
+        return false;
+    }
+    if !value::same(o.channel, p.channel) {
+        return false;
+    }
+    if !value::same(o.channel2, p.channel2) {
+        return false;
+    }
+    value::same(o.channel3, p.channel3)
+}
+
 // Whether the handshake receive in a row matches what a branch sends.
 fn row_matches(
     nodes: &[u64],
@@ -345,10 +369,7 @@ fn row_matches(
     ensures { λ r. ⌜ ((roots : List ℕ) (rows : ℕ) (m : Resolved.Model) (s : State) (y : Slot) (w : offers.Query) (x : offers.Pair) → Ready (now (nodes .entry)) roots (now (scopes .entry)) (now (state .entry)) (now (heads .entry)) (now (numbers .entry)) rows m s → getElem? (slotsOf m 0 (s .processes)) row ≡ some y → ShowsQuery (now (nodes .entry)) (localsOf (s .processes) (y .place)) (offerIn (now (heads .entry)) (now (numbers .entry)) row) w → ShowsPair sender x → r ≡ matches w x) ⌝ }
 {
     let o = offers::offer_at(heads, numbers, row);
-    if o.channel_kind != sender.channel_kind {
-        return false;
-    }
-    if !value::same(o.channel, sender.channel) {
+    if !same_channel(o, sender) {
         return false;
     }
     let place = offers::place_in(heads[row]);
@@ -418,7 +439,7 @@ fn list_partners(
     requires { ⌜ ((roots : List ℕ) × (m : Resolved.Model) × (s : State) × Ready (now nodes) roots (now scopes) (now state) (now heads) (now numbers) rows m s) × (Linked (now heads) (now numbers) rows 0 (now firsts) (now nexts)) × (length (now firsts) ≡ bucketLimit) × (length (now nexts) ≡ rowLimit) × (length (now heads) ≡ rowLimit) × (length (now numbers) ≡ rowLimit * rowWidth) × (sender .rate ≤ rateLimit) × (length (now listing) ≡ listingLength) × (count ≤ suc entryLimit) ⌝ }
     ensures { λ r. ⌜ ((roots : List ℕ) (m : Resolved.Model) (s : State) (x : offers.Pair) → Ready (now (nodes .entry)) roots (now (scopes .entry)) (now (state .entry)) (now (heads .entry)) (now (numbers .entry)) rows m s → ShowsPair sender x → Adds (gather (λ n. partnerOf x (sender .rate) place branch) (slotsOf m 0 (s .processes))) (now (listing .entry)) count (now (listing .exit)) r) × (length (now (listing .exit)) ≡ listingLength) × (r ≤ suc entryLimit) ⌝ }
 {
-    let bucket = offers::bucket_of(sender.channel);
+    let bucket = offers::bucket_of(sender.channel, sender.channel2, sender.channel3);
     let mut row = firsts[bucket] as usize;
     let mut n = count;
     while row < rows {

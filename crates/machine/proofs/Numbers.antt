@@ -1,4 +1,4 @@
--- A state's numbers are 3,842, and over a good model they tell the state: from the widths of processes and pairs, and since a list is told by what is padded.
+-- A state's numbers are 5,122, and over a good model they tell the state: from the widths of processes and pairs, and since a list is told by what is padded.
 use mathlib.Core.Path.{_≡_, refl, sym, ap, ap₂, _∙_}
 use mathlib.Core.List.{List, [], _∷_, _++_}
 use Prim.Native.Nat.{ℕ, _+_, _-_, _*_, _≤_}
@@ -10,7 +10,8 @@ use Rattle.model.specs.Limits.{localLimit}
 use Rattle.model.specs.Opening.{processLimit}
 use Rattle.model.specs.Resolved
 use Rattle.rules.specs.Offers as offers
-use Rattle.rules.specs.Pairs.{channelNumbers, numbers}
+use Rattle.rules.specs.Pairs.{numbers}
+use Rattle.rules.proofs.Channels.{channel-length, channel-eighth}
 use Rattle.rules.proofs.Before.{told}
 use Rattle.model.specs.Good.{Every, GoodSum, GoodModel}
 use Rattle.machine.specs.Offer.{Process}
@@ -55,24 +56,13 @@ module _ {A : Type 0} (P : A → Type 0) (f : A → List ℤ) (w : ℕ) (wide : 
       ap₂ (λ (u : A) (us : List A). u ∷ us) (t x y (h .0) (g .0) (r .0)) (flatten-told t xs ys (h .1) (g .1) (omega arith) (r .1))
 
 -- ---- pairs
-channel-length : (c : offers.Channel) (l : List ℤ) → length (channelNumbers c l) ≡ length l + 2
-unfolding channelNumbers
-channel-length (offers.number z) l = omega arith
-channel-length (offers.named n) l = omega arith
-
--- the third number counts the values
-channel-third : (c : offers.Channel) (k : ℤ) (l r : List ℤ) → getD (channelNumbers c (k ∷ l) ++ r) 2 (pos 0) ≡ k
-unfolding channelNumbers
-channel-third (offers.number z) k l r = refl
-channel-third (offers.named n) k l r = refl
-
-numbers-length : (x : offers.Pair) → length (numbers x) ≡ length (x .values) + 3
+numbers-length : (x : offers.Pair) → length (numbers x) ≡ length (x .values) + 8
 unfolding numbers
 numbers-length x = omega (arith, channel-length (x .channel) (pos (length (x .values)) ∷ x .values))
 
-pair-count : (x : offers.Pair) → getD (pairNumbers x) 2 (pos 0) ≡ pos (length (x .values))
+pair-count : (x : offers.Pair) → getD (pairNumbers x) 7 (pos 0) ≡ pos (length (x .values))
 unfolding pairNumbers padded numbers
-pair-count x = channel-third (x .channel) _ (x .values) _
+pair-count x = channel-eighth (x .channel) _ (x .values) _
 
 pair-length : (m : Resolved.Model) (x : offers.Pair) → GoodPair m x → length (pairNumbers x) ≡ pairWidth
 unfolding pairNumbers
@@ -81,7 +71,7 @@ pair-length m x g = padded-length pairWidth (numbers x) (omega (arith, numbers-l
 pub pair-told : (x y : offers.Pair) → pairNumbers x ≡ pairNumbers y → x ≡ y
 unfolding pairNumbers
 pair-told x y e =
-    let c : pos (length (x .values)) ≡ pos (length (y .values)) = sym (pair-count x) ∙ ap (λ (l : List ℤ). getD l 2 (pos 0)) e ∙ pair-count y in
+    let c : pos (length (x .values)) ≡ pos (length (y .values)) = sym (pair-count x) ∙ ap (λ (l : List ℤ). getD l 7 (pos 0)) e ∙ pair-count y in
     let n : length (x .values) ≡ length (y .values) = cc in
     told x y (padded-told pairWidth (numbers x) (numbers y) (omega (arith, numbers-length x, numbers-length y)) e)
 
@@ -134,7 +124,7 @@ module _ (m : Resolved.Model) (good : GoodModel m) where
     pairs-length : length (pairRows s) ≡ pairLimit * pairWidth
     pairs-length = padded-length (pairLimit * pairWidth) _ (omega (arith, pairs-flat, g .few-pairs))
 
-    -- 01, State: 3,842 numbers
+    -- 01, State: 5,122 numbers
     pub state-length : length (stateNumbers s) ≡ stateLength
     unfolding stateNumbers
     state-length = omega (arith, processes-length, pairs-length, length-append (processRows s) (pairRows s))

@@ -14,11 +14,13 @@ use Rattle.value.specs.Range.{InRange}
 use Rattle.value.specs.Arithmetic.{absOf, maxOf, minOf}
 use Rattle.value.proofs.Results.{sum-good, difference-good, product-good, quotient-good, abs-good, max-good, min-good}
 use Rattle.grammar.specs.Syntax.{Op, plus, minus, times, divide, maximum, minimum, Join, without, union, inter}
+use Rattle.value.specs.Items.{oneItem, twoItems, threeItems}
 use Rattle.model.specs.Resolved
+use Rattle.model.specs.Good as Good
 use Rattle.rules.specs.Offers as offers
-use Rattle.machine.specs.Evaluate.{given, apply, evalExpr, joined, evalSet, rateLimit, inRate, evalScale, evalRate, evalChannel, evalAll, evalValue, evalPair, evalQuery, evalAction, evalBranch}
+use Rattle.machine.specs.Evaluate.{given, apply, evalExpr, joined, evalSet, rateLimit, inRate, evalScale, evalRate, evalItem, evalChannel, evalAll, evalValue, evalPair, evalQuery, evalAction, evalBranch}
 use Rattle.model.specs.Good.{Every, OneOrTwo, GoodExpr, GoodSet, GoodName, GoodValues, GoodSets, GoodAction, GoodBranch}
-use Rattle.machine.specs.State.{GoodChannel, GoodPair}
+use Rattle.machine.specs.State.{GoodItem, GoodChannel, GoodPair}
 use Rattle.machine.proofs.Branches.{none-not-some}
 use Rattle.machine.proofs.Parts.{with-is, valued-is, given-is, some-is, all-length, Comes, bare, opened, shut, comes}
 use Rattle.machine.proofs.Everys.{every-get}
@@ -134,12 +136,27 @@ GoodOffer m (offers.take w) = GoodQuery m w
 GoodOffer m (offers.takeBind w) = GoodQuery m w
 
 module _ (m : Resolved.Model) (ls : List ℤ) (r : Every InRange ls) (n : ℕ) where
+  item-good : (c : Resolved.Item) (x : offers.Item) → Good.GoodItem m n c → evalItem ls c ≡ some x → GoodItem m x
+  unfolding evalItem Good.GoodItem GoodItem
+  item-good (Resolved.number e) x g q =
+      let v = valued-is (evalExpr ls e) _ x q in
+      subst (GoodItem m) (some-is _ x (v .rest)) (expr-good ls r n e (v .part) g (v .is))
+  item-good (Resolved.name k) x g q = subst (GoodItem m) (some-is _ x q) g
+
   pub channel-good : (c : Resolved.Channel) (x : offers.Channel) → GoodName m n c → evalChannel ls c ≡ some x → GoodChannel m x
   unfolding evalChannel GoodName GoodChannel
-  channel-good (Resolved.number e) x g q =
-      let v = valued-is (evalExpr ls e) _ x q in
-      subst (GoodChannel m) (some-is _ x (v .rest)) (expr-good ls r n e (v .part) g (v .is))
-  channel-good (Resolved.name k) x g q = subst (GoodChannel m) (some-is _ x q) g
+  channel-good (oneItem a) x g q =
+      let v = given-is (evalItem ls a) _ x q in
+      subst (GoodChannel m) (some-is _ x (v .rest)) (item-good a (v .part) g (v .is))
+  channel-good (twoItems a b) x g q =
+      let v = given-is (evalItem ls a) _ x q in
+      let u = given-is (evalItem ls b) _ x (v .rest) in
+      subst (GoodChannel m) (some-is _ x (u .rest)) (item-good a (v .part) (g .0) (v .is), item-good b (u .part) (g .1) (u .is))
+  channel-good (threeItems a b c) x g q =
+      let v = given-is (evalItem ls a) _ x q in
+      let u = given-is (evalItem ls b) _ x (v .rest) in
+      let t = given-is (evalItem ls c) _ x (u .rest) in
+      subst (GoodChannel m) (some-is _ x (t .rest)) (item-good a (v .part) (g .0) (v .is), item-good b (u .part) (g .1) (u .is), item-good c (t .part) (g .2) (t .is))
 
   value-good : (e : Resolved.Expr) (z : ℤ) → GoodExpr n e → evalValue ls e ≡ some z → InRange z
   unfolding evalValue

@@ -30,13 +30,13 @@ unfoldable answering : Opening → List Call → List Answer
 unfolding answers machine.no machine.listedAs opens machine.turn machine.calls machine.lent machine.lists machine.showing machine.stepped machine.stepsOn machine.choosing
     machine.openedState machine.startProcesses machine.copies offer.definitionOf offer.processAt offer.called machine.listing machine.counted offer.missing offer.missingBranch offer.isNone offer.branches
     offer.branchesOf offer.offered offer.partProcesses offer.nextProcesses offer.orZero evaluate.evalBranch evaluate.evalGate evaluate.evalOffer evaluate.evalRate
-    evaluate.evalScale evaluate.inRate evaluate.evalAction evaluate.evalPair evaluate.evalQuery evaluate.evalChannel evaluate.evalAll evaluate.evalValue
+    evaluate.evalScale evaluate.inRate evaluate.evalAction evaluate.evalPair evaluate.evalQuery evaluate.evalItem evaluate.evalChannel evaluate.evalAll evaluate.evalValue
     evaluate.evalSet evaluate.joined evaluate.evalCond evaluate.related evaluate.evalExpr evaluate.apply evaluate.withValue evaluate.valued evaluate.given sumOf quotientOf
     floorQuotient valueOf lists.entries lists.gather lists.when lists.unless lists.ofProcess lists.ofGuard lists.ofAction lists.partnersIn lists.partner
-    lists.partnerAction lists.matches lists.sameChannel lists.allWithin lists.anyMatch offers.within machine.drawn machine.taken machine.entryState machine.entryArguments
+    lists.partnerAction lists.matches lists.sameItem lists.sameChannel lists.allWithin lists.anyMatch offers.within machine.drawn machine.taken machine.entryState machine.entryArguments
     machine.branchArguments machine.onGuard offer.argumentsGiven offer.allValues offer.isValue steps.stateAfter steps.step steps.atBranch steps.oneActs
     steps.bothAct steps.onAction steps.changeOf steps.boundBy steps.valuesAt steps.sentBy steps.replace steps.replaceBoth pairs.pairsAfter pairs.insert
-    pairs.remove pairs.before pairs.numbers pairs.channelNumbers order.less emptyState weights lists.weightOf lists.keyOf total chosen Option·elim
+    pairs.remove pairs.before pairs.numbers pairs.itemNumbers pairs.itemKind pairs.itemValue pairs.channelNumbers order.less emptyState weights lists.weightOf lists.keyOf total chosen Option·elim
 answering o cs = opens o .answer ∷ answers (opens o .machine) cs
 
 -- a text that opens to o
@@ -91,10 +91,10 @@ then p = derived.dot (derived.chain p)
 
 -- {c?[s],1}; {c![1],1} and a prefix after it
 abbrev receives : derived.Set → derived.Prefix
-receives s = prefix (derived.receive aName (sets s)) derived.stop
+receives s = prefix (derived.receive (derived.oneItem aName) (sets s)) derived.stop
 
 abbrev launchesThen : derived.Prefix → derived.Prefix
-launchesThen p = prefix (derived.launch aName (derived.oneValue aWhole)) (then p)
+launchesThen p = prefix (derived.launch (derived.oneItem aName) (derived.oneValue aWhole)) (then p)
 
 -- a definition without parameters, and A[];
 abbrev defined : derived.Prefix → derived.Choices → derived.Model
@@ -105,11 +105,11 @@ alone p = defined p derived.noChoices
 
 -- {c![e],1} and a prefix after it
 abbrev launchThen : derived.Expr → derived.Prefix → derived.Model
-launchThen e p = alone (prefix (derived.launch aName (derived.oneValue e)) (then p))
+launchThen e p = alone (prefix (derived.launch (derived.oneItem aName) (derived.oneValue e)) (then p))
 
 -- {@c![1],1}+{@c?[1],1}
 abbrev both : derived.Model
-both = defined (prefix (derived.handSend aName (derived.oneValue aWhole)) derived.stop) (derived.or (prefix (derived.handReceive aName (sets (single aWhole))) derived.stop) derived.noChoices)
+both = defined (prefix (derived.handSend (derived.oneItem aName) (derived.oneValue aWhole)) derived.stop) (derived.or (prefix (derived.handReceive (derived.oneItem aName) (sets (single aWhole))) derived.stop) derived.noChoices)
 
 -- name[whole number]
 abbrev item : derived.Start
@@ -120,8 +120,8 @@ abbrev heard : derived.Model
 heard =
     derived.definitions
     (derived.nextDefinition derived.noParams
-    (derived.body (prefix (derived.handReceive aName (sets (derived.set (derived.range aWhole aWhole) (derived.without (derived.single aWhole) derived.noParts)))) derived.stop) derived.noChoices derived.noSums)
-    (derived.lastDefinition (derived.params derived.lastName) (derived.body (prefix (derived.handSend aName (derived.oneValue aName)) derived.stop) derived.noChoices derived.noSums)
+    (derived.body (prefix (derived.handReceive (derived.oneItem aName) (sets (derived.set (derived.range aWhole aWhole) (derived.without (derived.single aWhole) derived.noParts)))) derived.stop) derived.noChoices derived.noSums)
+    (derived.lastDefinition (derived.params derived.lastName) (derived.body (prefix (derived.handSend (derived.oneItem aName) (derived.oneValue aName)) derived.stop) derived.noChoices derived.noSums)
     (derived.nextStart (derived.once derived.noStarts) (derived.nextStart item (derived.nextStart item (derived.lastStart item))))))
 
 -- 01, Specimens: every row
@@ -135,9 +135,9 @@ holds byMinusTwo = fitting _ (launchThen (quotient derived.whole derived.negativ
 holds bothMinus = fitting _ (launchThen (quotient derived.negative derived.negative) (receives (single aWhole))) refl refl refl
 holds turned = fitting _ (launchThen (quotient derived.negative derived.negative) (receives (single aWhole))) refl refl refl
 holds threeAndFive = fitting _ heard refl refl refl
-holds unlit = fitting _ (launchThen aWhole (launchesThen (prefix (derived.kill aName (derived.oneValue aWhole)) (then (prefix (derived.check aName (sets (single aWhole))) derived.stop))))) refl refl refl
+holds unlit = fitting _ (launchThen aWhole (launchesThen (prefix (derived.kill (derived.oneItem aName) (derived.oneValue aWhole)) (then (prefix (derived.check (derived.oneItem aName) (sets (single aWhole))) derived.stop))))) refl refl refl
 holds unbound = fitting _ (launchThen aWhole (launchesThen (receives oneToTwo))) refl refl refl
-holds twoBound = fitting _ (launchThen aWhole (launchesThen (prefix (derived.bind aName (sets oneToTwo) derived.lastName) derived.stop))) refl refl refl
-holds enabled = fitting _ (alone (prefix (derived.check aName (sets (single aWhole))) derived.stop)) refl refl refl
+holds twoBound = fitting _ (launchThen aWhole (launchesThen (prefix (derived.bind (derived.oneItem aName) (sets oneToTwo) derived.lastName) derived.stop))) refl refl refl
+holds enabled = fitting _ (alone (prefix (derived.check (derived.oneItem aName) (sets (single aWhole))) derived.stop)) refl refl refl
 holds noHandshake = fitting _ both refl refl refl
 holds bracket = opening-to _ (refused 5 15) missing-bracket refl

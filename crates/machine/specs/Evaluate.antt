@@ -13,6 +13,7 @@ use Rattle.value.specs.Arithmetic.{isLess, isAtMost, isSame, sumOf, differenceO
 use Rattle.word.specs.Number.{unit}
 use Rattle.grammar.specs.Grammar.{Relation, less, atMost, greater, atLeast, same, differs}
 use Rattle.grammar.specs.Syntax.{Op, plus, minus, times, divide, maximum, minimum, Join, without, union, inter}
+use Rattle.value.specs.Items.{oneItem, twoItems, threeItems}
 use Rattle.model.specs.Resolved
 use Rattle.rules.specs.Offers as offers
 
@@ -102,10 +103,16 @@ evalRate ls (Resolved.scaled s e) = given (evalScale ls s) (λ n. valued (evalEx
 
 -- ---- channels, values, sets, actions
 
--- 01, Model text, actions: a channel is an expression or a name
+-- 01, Model text, actions: an item of a channel is an expression or a name
+unfoldable pub evalItem : List ℤ → Resolved.Item → Option offers.Item
+evalItem ls (Resolved.number e) = valued (evalExpr ls e) (λ x. some (offers.number x))
+evalItem ls (Resolved.name n) = some (offers.named n)
+
+-- 02, note 7: one to three items, in order
 unfoldable pub evalChannel : List ℤ → Resolved.Channel → Option offers.Channel
-evalChannel ls (Resolved.number e) = valued (evalExpr ls e) (λ x. some (offers.number x))
-evalChannel ls (Resolved.name n) = some (offers.named n)
+evalChannel ls (oneItem a) = given (evalItem ls a) (λ x. some (oneItem x))
+evalChannel ls (twoItems a b) = given (evalItem ls a) (λ x. given (evalItem ls b) (λ y. some (twoItems x y)))
+evalChannel ls (threeItems a b c) = given (evalItem ls a) (λ x. given (evalItem ls b) (λ y. given (evalItem ls c) (λ z. some (threeItems x y z))))
 
 -- 01, Values: every one of a list, in order
 unfoldable pub evalAll : {A B : Type 0} → (A → Option B) → List A → Option (List B)

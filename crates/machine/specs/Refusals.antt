@@ -8,6 +8,7 @@ use lib.ListN.{replicate}
 use Rattle.value.specs.Range.{valueOf}
 use Rattle.value.specs.Arithmetic.{sumOf, floorQuotient, quotientOf}
 use Rattle.grammar.specs.Syntax.{divide}
+use Rattle.value.specs.Items.{oneItem}
 use Rattle.model.specs.Resolved
 use Rattle.rules.specs.Offers as offers
 use Rattle.rules.specs.Listing as lists
@@ -49,8 +50,8 @@ crowd n = record { processes = replicate n (record { sum = 0; locals = []; defin
 abbrev handing : List Resolved.Branch → Resolved.Model
 handing bs =
     alone
-    (sumOver (record { gate = none; action = Resolved.handSend (Resolved.name 0) (Resolved.constant (pos 1) ∷ []); rate = fixed (pos 1000000000); next = [] } ∷ bs)
-    ∷ single (Resolved.handReceive (Resolved.name 0) (Resolved.single (Resolved.constant (pos 1)) ∷ [])) (fixed (pos 1000000000)) [] ∷ [])
+    (sumOver (record { gate = none; action = Resolved.handSend (oneItem (Resolved.name 0)) (Resolved.constant (pos 1) ∷ []); rate = fixed (pos 1000000000); next = [] } ∷ bs)
+    ∷ single (Resolved.handReceive (oneItem (Resolved.name 0)) (Resolved.single (Resolved.constant (pos 1)) ∷ [])) (fixed (pos 1000000000)) [] ∷ [])
 
 -- one process at sum 0, and n at sum 1
 abbrev hall : ℕ → State
@@ -79,8 +80,8 @@ missing = Resolved.binary divide (Resolved.constant (pos 1)) (Resolved.constant 
 abbrev dividing : ℕ → Resolved.Model
 dividing n = record {
   sums =
-      single (Resolved.handSend (Resolved.name 0) (Resolved.constant (pos n) ∷ [])) (fixed (pos 10000)) []
-      ∷ single (Resolved.handBind (Resolved.name 0) (Resolved.single (Resolved.constant (pos n)) ∷ [])) (fixed (pos 10000))
+      single (Resolved.handSend (oneItem (Resolved.name 0)) (Resolved.constant (pos n) ∷ [])) (fixed (pos 10000)) []
+      ∷ single (Resolved.handBind (oneItem (Resolved.name 0)) (Resolved.single (Resolved.constant (pos n)) ∷ [])) (fixed (pos 10000))
       (Resolved.call 1 (Resolved.binary divide (Resolved.constant (pos 10)) (Resolved.localAt 0) ∷ []) ∷ [])
       ∷ record { locals = 1; definition = 1; branches = waits (pos 10000) ∷ [] } ∷ [];
   definitions = record { params = 0; sums = 0 ∷ 1 ∷ [] } ∷ record { params = 1; sums = 2 ∷ [] } ∷ [];
@@ -93,14 +94,14 @@ dividing n = record {
 -- the pairs (c, [k]), (c, [k+1]) and on, n of them
 unfoldable pub lamps : ℕ → ℕ → List offers.Pair
 lamps k zero = []
-lamps k (suc n) = record { channel = offers.named 0; values = pos k ∷ [] } ∷ lamps (suc k) n
+lamps k (suc n) = record { channel = oneItem (offers.named 0); values = pos k ∷ [] } ∷ lamps (suc k) n
 
 -- {c![k],1}, and {c#[k],1}
 abbrev lighting : ℕ → Resolved.Model
-lighting k = alone (single (Resolved.launch (Resolved.name 0) (Resolved.constant (pos k) ∷ [])) (fixed (pos 10000)) [] ∷ [])
+lighting k = alone (single (Resolved.launch (oneItem (Resolved.name 0)) (Resolved.constant (pos k) ∷ [])) (fixed (pos 10000)) [] ∷ [])
 
 abbrev dousing : ℕ → Resolved.Model
-dousing k = alone (single (Resolved.kill (Resolved.name 0) (Resolved.constant (pos k) ∷ [])) (fixed (pos 10000)) [] ∷ [])
+dousing k = alone (single (Resolved.kill (oneItem (Resolved.name 0)) (Resolved.constant (pos k) ∷ [])) (fixed (pos 10000)) [] ∷ [])
 
 pub refusals :
     -- 12 names the second process and its second branch
@@ -128,12 +129,12 @@ pub refusals :
 unfolding
     offer.definitionOf offer.processAt offer.called machine.listing machine.counted offer.missing offer.missingBranch offer.isNone offer.branches offer.branchesOf offer.offered
     offer.partProcesses offer.nextProcesses offer.orZero evaluate.evalBranch evaluate.evalGate evaluate.evalOffer evaluate.evalRate evaluate.evalScale
-    evaluate.inRate evaluate.evalAction evaluate.evalPair evaluate.evalQuery evaluate.evalChannel evaluate.evalAll evaluate.evalValue evaluate.evalSet
+    evaluate.inRate evaluate.evalAction evaluate.evalPair evaluate.evalQuery evaluate.evalItem evaluate.evalChannel evaluate.evalAll evaluate.evalValue evaluate.evalSet
     evaluate.evalCond evaluate.related evaluate.evalExpr evaluate.apply evaluate.withValue evaluate.valued evaluate.given sumOf quotientOf floorQuotient
     valueOf lists.entries lists.gather lists.when lists.unless lists.ofProcess lists.ofGuard lists.ofAction lists.partnersIn lists.partner
-    lists.partnerAction lists.matches lists.sameChannel lists.allWithin offers.within machine.stepsOn machine.choosing machine.drawn machine.taken
+    lists.partnerAction lists.matches lists.sameItem lists.sameChannel lists.allWithin offers.within machine.stepsOn machine.choosing machine.drawn machine.taken
     machine.entryState machine.entryArguments machine.branchArguments machine.onGuard offer.argumentsGiven offer.allValues offer.isValue steps.stateAfter
     steps.step steps.atBranch steps.oneActs steps.bothAct steps.onAction steps.changeOf steps.boundBy steps.valuesAt steps.sentBy steps.replace
-    steps.replaceBoth pairs.pairsAfter pairs.insert pairs.remove pairs.before pairs.numbers pairs.channelNumbers order.less machine.lists machine.showing
+    steps.replaceBoth pairs.pairsAfter pairs.insert pairs.remove pairs.before pairs.numbers pairs.itemNumbers pairs.itemKind pairs.itemValue pairs.channelNumbers order.less machine.lists machine.showing
     machine.stepped machine.turn machine.listedAs machine.no lamps weights lists.weightOf lists.keyOf total chosen Option·elim
 refusals = (refl, refl, refl, refl, refl, refl, refl, refl, refl, refl, refl, refl, refl, refl)

@@ -9,6 +9,7 @@ use Rattle.value.specs.Range.{valueOf}
 use Rattle.value.specs.Arithmetic.{sumOf, floorQuotient, quotientOf}
 use Rattle.grammar.specs.Grammar.{less, greater}
 use Rattle.grammar.specs.Syntax.{plus, divide}
+use Rattle.value.specs.Items.{oneItem}
 use Rattle.model.specs.Resolved
 use Rattle.rules.specs.Offers as offers
 use Rattle.rules.specs.Kind as kind
@@ -40,7 +41,7 @@ lamp = record {
   branches =
       record {
         gate = none;
-        action = Resolved.handSend (Resolved.name 0) (Resolved.localAt 0 ∷ []);
+        action = Resolved.handSend (oneItem (Resolved.name 0)) (Resolved.localAt 0 ∷ []);
         rate = Resolved.plain (Resolved.fixed (pos 20000));
         next = Resolved.call 0 (oneMore ∷ []) ∷ [];
       }
@@ -61,7 +62,7 @@ post = record {
   branches =
       record {
         gate = none;
-        action = Resolved.handBind (Resolved.name 0) (Resolved.range (Resolved.localAt 0) oneMore ∷ []);
+        action = Resolved.handBind (oneItem (Resolved.name 0)) (Resolved.range (Resolved.localAt 0) oneMore ∷ []);
         rate = Resolved.plain (Resolved.fixed (pos 15000));
         next = Resolved.call 1 (Resolved.localAt 1 ∷ []) ∷ [];
       }
@@ -113,13 +114,13 @@ fixed z = Resolved.plain (Resolved.fixed z)
 abbrev lights : Resolved.Model
 lights =
     alone
-    (single (Resolved.launch (Resolved.name 0) (Resolved.constant (pos 1) ∷ [])) (fixed (pos 10000)) (Resolved.enter 1 ∷ [])
-    ∷ single (Resolved.launch (Resolved.name 0) (Resolved.constant (pos 1) ∷ [])) (fixed (pos 10000)) (Resolved.enter 2 ∷ [])
-    ∷ single (Resolved.kill (Resolved.name 0) (Resolved.constant (pos 1) ∷ [])) (fixed (pos 10000)) [] ∷ [])
+    (single (Resolved.launch (oneItem (Resolved.name 0)) (Resolved.constant (pos 1) ∷ [])) (fixed (pos 10000)) (Resolved.enter 1 ∷ [])
+    ∷ single (Resolved.launch (oneItem (Resolved.name 0)) (Resolved.constant (pos 1) ∷ [])) (fixed (pos 10000)) (Resolved.enter 2 ∷ [])
+    ∷ single (Resolved.kill (oneItem (Resolved.name 0)) (Resolved.constant (pos 1) ∷ [])) (fixed (pos 10000)) [] ∷ [])
 
 -- (c, [1])
 abbrev lit : offers.Pair
-lit = record { channel = offers.named 0; values = pos 1 ∷ [] }
+lit = record { channel = oneItem (offers.named 0); values = pos 1 ∷ [] }
 
 -- one process, at sum n
 abbrev pub chain : ℕ → List offers.Pair → State
@@ -192,12 +193,12 @@ pub specimens :
 unfolding
     openedState machine.startProcesses machine.copies offer.definitionOf offer.processAt offer.called listing machine.counted offer.missing offer.missingBranch offer.isNone offer.branches
     offer.branchesOf offer.offered offer.partProcesses offer.nextProcesses offer.orZero evalBranch evaluate.evalGate evaluate.evalOffer evalRate
-    evaluate.evalScale evaluate.inRate evaluate.evalAction evaluate.evalPair evaluate.evalQuery evaluate.evalChannel evaluate.evalAll evaluate.evalValue
+    evaluate.evalScale evaluate.inRate evaluate.evalAction evaluate.evalPair evaluate.evalQuery evaluate.evalItem evaluate.evalChannel evaluate.evalAll evaluate.evalValue
     evaluate.evalSet evalCond evaluate.related evaluate.evalExpr evaluate.apply evaluate.withValue evaluate.valued evaluate.given sumOf quotientOf
     floorQuotient valueOf lists.entries lists.gather lists.when lists.unless lists.ofProcess lists.ofGuard lists.ofAction lists.partnersIn lists.partner
-    lists.partnerAction lists.matches lists.sameChannel lists.allWithin offers.within stepsOn machine.choosing drawn machine.taken machine.entryState machine.entryArguments
+    lists.partnerAction lists.matches lists.sameItem lists.sameChannel lists.allWithin offers.within stepsOn machine.choosing drawn machine.taken machine.entryState machine.entryArguments
     machine.branchArguments machine.onGuard offer.argumentsGiven offer.allValues offer.isValue steps.stateAfter steps.step steps.atBranch steps.oneActs
     steps.bothAct steps.onAction steps.changeOf steps.boundBy steps.valuesAt steps.sentBy steps.replace steps.replaceBoth pairs.pairsAfter pairs.insert
-    pairs.remove pairs.before pairs.numbers pairs.channelNumbers order.less emptyState calls machine.lists machine.lent weights lists.weightOf lists.keyOf
+    pairs.remove pairs.before pairs.numbers pairs.itemNumbers pairs.itemKind pairs.itemValue pairs.channelNumbers order.less emptyState calls machine.lists machine.lent weights lists.weightOf lists.keyOf
     total chosen Option·elim
 specimens = (refl, refl, refl, refl, refl, refl, refl, refl, refl, refl, refl, refl, refl, refl, refl, refl, refl, refl, refl, refl, refl, refl, refl, refl, refl, refl, refl)

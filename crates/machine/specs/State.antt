@@ -5,6 +5,7 @@ use Prim.Native.Nat.{ℕ, _+_, _-_, _*_, _≤_, _<_}
 use lib.IntN.{ℤ, pos}
 use lib.ListN.{length, replicate}
 use Rattle.value.specs.Range.{InRange}
+use Rattle.value.specs.Items.{oneItem, twoItems, threeItems}
 use Rattle.model.specs.Limits.{localLimit}
 use Rattle.model.specs.Opening.{processLimit}
 use Rattle.model.specs.Resolved
@@ -22,9 +23,13 @@ pairLimit = 256
 abbrev pub processWidth : ℕ
 processWidth = 2 + localLimit
 
--- 01, State: kind, channel, count of values and 2 values
+-- 02, note 7: item count, kind and value of 3 items
+abbrev pub channelWidth : ℕ
+channelWidth = 7
+
+-- 02, note 7: channel, count of values, 2 values
 abbrev pub pairWidth : ℕ
-pairWidth = 5
+pairWidth = channelWidth + 3
 
 -- 01, State: the numbers of all processes, and of all pairs
 abbrev pub processRoom : ℕ
@@ -33,7 +38,7 @@ processRoom = processLimit * processWidth
 abbrev pub pairRoom : ℕ
 pairRoom = pairLimit * pairWidth
 
--- 01, State: both counts, the processes, the pairs: 3,842 numbers
+-- 02, note 7: both counts, the processes, the pairs: 5,122 numbers
 abbrev pub stateLength : ℕ
 stateLength = 2 + processRoom + pairRoom
 
@@ -43,10 +48,15 @@ State = offers.State Process
 
 -- ---- which states there are
 
--- 01, Listing, 11: number channels in range, channel names that exist
+-- 01, Listing, 11: number items in range, channel names that exist
+unfoldable pub GoodItem : Resolved.Model → offers.Item → Type 0
+GoodItem m (offers.number z) = InRange z
+GoodItem m (offers.named n) = n < m .channels
+
 unfoldable pub GoodChannel : Resolved.Model → offers.Channel → Type 0
-GoodChannel m (offers.number z) = InRange z
-GoodChannel m (offers.named n) = n < m .channels
+GoodChannel m (oneItem a) = GoodItem m a
+GoodChannel m (twoItems a b) = GoodItem m a × GoodItem m b
+GoodChannel m (threeItems a b c) = GoodItem m a × GoodItem m b × GoodItem m c
 
 -- 01, Listing, 11: 1 or 2 values in range
 pub record GoodPair (m : Resolved.Model) (x : offers.Pair) : Type 0 where
@@ -78,7 +88,7 @@ padded n zs = zs ++ replicate (n - length zs) (pos 0)
 unfoldable pub processNumbers : Process → List ℤ
 processNumbers p = pos (p .sum) ∷ (padded localLimit (p .locals) ++ pos (p .definition) ∷ [])
 
--- 01, State: kind, channel, count of values, 2 values
+-- 02, note 7: channel, count of values, 2 values
 unfoldable pub pairNumbers : offers.Pair → List ℤ
 pairNumbers x = padded pairWidth (numbers x)
 
@@ -87,7 +97,7 @@ unfoldable pub flatten : {A : Type 0} → (A → List ℤ) → List A → List �
 flatten f [] = []
 flatten f (x ∷ xs) = f x ++ flatten f xs
 
--- 01, State: the 3,842 numbers of a state
+-- 02, note 7: the 5,122 numbers of a state
 unfoldable pub stateNumbers : State → List ℤ
 stateNumbers s =
     pos (length (s .processes)) ∷ pos (length (s .pairs))

@@ -12,12 +12,12 @@ use lib.ListN.{drop, getD, getElem?}
 use Rattle.token.specs.Kind as kind
 use Rattle.token.specs.Token.{tokens, kindsOf}
 use Rattle.grammar.specs.Grammar as derived
-use Rattle.grammar.specs.Grammar.{Reads, flatExpr, flatSets, flatNames, flatAction, flatGate, flatPrefix}
+use Rattle.grammar.specs.Grammar.{Reads, flatExpr, flatSets, flatNames, flatChannel, flatAction, flatGate, flatPrefix}
 use Rattle.grammar.specs.Syntax
-use Rattle.grammar.specs.Syntax.{wide, exprAt, setsAt, countNames, namesAt, actionAt, branchAt, syntaxOf}
-use Rattle.grammar.proofs.Wide.{wide-expr, wide-sets, wide-gate}
+use Rattle.grammar.specs.Syntax.{wide, exprAt, setsAt, countNames, namesAt, channelAt, actionAt, branchAt, syntaxOf}
+use Rattle.grammar.proofs.Wide.{wide-sets, wide-channel, wide-gate}
 use Rattle.model.specs.Lists.{everyOther}
-use Rattle.model.specs.Sites.{Scope, Site, value, bound, exprSites, exprsSites, setSites, condSites, gateSites, scaleSites, rateSites, isLone, channelSites, valuesSites, setsSites, countSets, tokensOf, actionSites, argsSites}
+use Rattle.model.specs.Sites.{Scope, Site, value, bound, exprSites, exprsSites, setSites, condSites, gateSites, scaleSites, rateSites, isLone, itemSites, channelSites, valuesSites, setsSites, countSets, tokensOf, actionSites, argsSites}
 use Rattle.model.specs.Words.{wordOf}
 use Rattle.model.specs.Stands.{BranchIn, SiteIn, beginning, inGate, inAction, inRate, calling, inCall}
 use Rattle.model.specs.Questions.{Yes5}
@@ -81,19 +81,25 @@ simple-lone : (k : ℕ) (b : Bool) → AllSimple (cond b [] (value k ∷ []))
 simple-lone k true = λ x i. absurd (nowhere i)
 simple-lone k false = one _ tt
 
-simple-channel : (w : ℕ → List ℕ) (c : Syntax.Expr) → AllSimple (channelSites w c)
-unfolding channelSites
-simple-channel w (Syntax.literal b k) = simple-expr (Syntax.literal b k)
-simple-channel w (Syntax.named k) = simple-lone k (isLone w k)
-simple-channel w (Syntax.absolute e) = simple-expr (Syntax.absolute e)
-simple-channel w (Syntax.binary o e f) = simple-expr (Syntax.binary o e f)
+simple-item : (w : ℕ → List ℕ) (c : Syntax.Expr) → AllSimple (itemSites w c)
+unfolding itemSites
+simple-item w (Syntax.literal b k) = simple-expr (Syntax.literal b k)
+simple-item w (Syntax.named k) = simple-lone k (isLone w k)
+simple-item w (Syntax.absolute e) = simple-expr (Syntax.absolute e)
+simple-item w (Syntax.binary o e f) = simple-expr (Syntax.binary o e f)
 
-simple-values : (w : ℕ → List ℕ) (c : Syntax.Expr) (v : Syntax.Values) → AllSimple (channelSites w c ++ valuesSites v)
+simple-channel : (w : ℕ → List ℕ) (c : Syntax.Channel) → AllSimple (channelSites w c)
+unfolding channelSites
+simple-channel w (Syntax.oneItem e) = simple-item w e
+simple-channel w (Syntax.twoItems e f) = both (itemSites w e) (itemSites w f) (simple-item w e) (simple-item w f)
+simple-channel w (Syntax.threeItems e f g) = both (itemSites w e) (itemSites w f ++ itemSites w g) (simple-item w e) (both (itemSites w f) (itemSites w g) (simple-item w f) (simple-item w g))
+
+simple-values : (w : ℕ → List ℕ) (c : Syntax.Channel) (v : Syntax.Values) → AllSimple (channelSites w c ++ valuesSites v)
 unfolding valuesSites
 simple-values w c (Syntax.oneValue e) = both (channelSites w c) (exprSites e) (simple-channel w c) (simple-expr e)
 simple-values w c (Syntax.twoValues e f) = both (channelSites w c) (exprSites e ++ exprSites f) (simple-channel w c) (both (exprSites e) (exprSites f) (simple-expr e) (simple-expr f))
 
-simple-sets : (w : ℕ → List ℕ) (c : Syntax.Expr) (s : Syntax.Sets) → AllSimple (channelSites w c ++ setsSites s)
+simple-sets : (w : ℕ → List ℕ) (c : Syntax.Channel) (s : Syntax.Sets) → AllSimple (channelSites w c ++ setsSites s)
 unfolding setsSites
 simple-sets w c (Syntax.oneSet s) = both (channelSites w c) (setSites s) (simple-channel w c) (simple-set s)
 simple-sets w c (Syntax.twoSets s r) = both (channelSites w c) (setSites s ++ setSites r) (simple-channel w c) (both (setSites s) (setSites r) (simple-set s) (simple-set r))
@@ -115,21 +121,21 @@ module _ (w : ℕ → List ℕ) (ts : List ℕ) where
   abbrev Bracketed : List ℕ → Type 0
   Bracketed ks = getElem? ts (getD ks 0 0 - 1) ≡ some kind.openRound
 
-  bind-bracket : (c : derived.Expr) (s : derived.Sets) (n : derived.Names) (k : ℕ) (us : List ℕ) (ks : List ℕ) (q : ℕ)
-      → drop k ts ≡ flatExpr c (kind.query ∷ flatSets s (kind.openRound ∷ flatNames n (kind.closeRound ∷ us)))
-      → In (bound ks q) (channelSites w (exprAt c k) ++ setsSites (setsAt s (k + wide (flatExpr c) + 1)) ++ (bound (tokensOf (namesAt n (k + wide (flatExpr c) + 1 + wide (flatSets s) + 1))) (countSets (setsAt s (k + wide (flatExpr c) + 1))) ∷ []))
+  bind-bracket : (c : derived.Channel) (s : derived.Sets) (n : derived.Names) (k : ℕ) (us : List ℕ) (ks : List ℕ) (q : ℕ)
+      → drop k ts ≡ flatChannel c (kind.query ∷ flatSets s (kind.openRound ∷ flatNames n (kind.closeRound ∷ us)))
+      → In (bound ks q) (channelSites w (channelAt c k) ++ setsSites (setsAt s (k + wide (flatChannel c) + 1)) ++ (bound (tokensOf (namesAt n (k + wide (flatChannel c) + 1 + wide (flatSets s) + 1))) (countSets (setsAt s (k + wide (flatChannel c) + 1))) ∷ []))
       → Bracketed ks
   bind-bracket c s n k us ks q d i =
-      ⊎-elim (λ (j : In (bound ks q) (channelSites w (exprAt c k) ++ setsSites (setsAt s (k + wide (flatExpr c) + 1)))). absurd (simple-sets w (exprAt c k) (setsAt s (k + wide (flatExpr c) + 1)) (bound ks q) j))
-      (λ (j : In (bound ks q) (bound (tokensOf (namesAt n (k + wide (flatExpr c) + 1 + wide (flatSets s) + 1))) (countSets (setsAt s (k + wide (flatExpr c) + 1))) ∷ [])). found (eq-of-singleton j)) (append-cases _ i)
+      ⊎-elim (λ (j : In (bound ks q) (channelSites w (channelAt c k) ++ setsSites (setsAt s (k + wide (flatChannel c) + 1)))). absurd (simple-sets w (channelAt c k) (setsAt s (k + wide (flatChannel c) + 1)) (bound ks q) j))
+      (λ (j : In (bound ks q) (bound (tokensOf (namesAt n (k + wide (flatChannel c) + 1 + wide (flatSets s) + 1))) (countSets (setsAt s (k + wide (flatChannel c) + 1))) ∷ [])). found (eq-of-singleton j)) (append-cases _ i)
     where
       p : ℕ
-      p = k + wide (flatExpr c) + 1 + wide (flatSets s)
+      p = k + wide (flatChannel c) + 1 + wide (flatSets s)
 
       there : getElem? ts p ≡ some kind.openRound
-      there = token-is ts p (past ts (k + wide (flatExpr c) + 1) _ (wide-sets s) (next-token ts (k + wide (flatExpr c)) (past ts k _ (wide-expr c) d)))
+      there = token-is ts p (past ts (k + wide (flatChannel c) + 1) _ (wide-sets s) (next-token ts (k + wide (flatChannel c)) (past ts k _ (wide-channel c) d)))
 
-      found : bound ks q ≡ bound (tokensOf (namesAt n (p + 1))) (countSets (setsAt s (k + wide (flatExpr c) + 1))) → Bracketed ks
+      found : bound ks q ≡ bound (tokensOf (namesAt n (p + 1))) (countSets (setsAt s (k + wide (flatChannel c) + 1))) → Bracketed ks
       found e =
           let f : ks ≡ tokensOf (namesAt n (p + 1)) = cc in
           let g : getD ks 0 0 - 1 ≡ p = omega (arith, ap (λ (x : List ℕ). getD x 0 0) f, first-name n (p + 1)) in

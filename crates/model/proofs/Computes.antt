@@ -11,10 +11,10 @@ use Rattle.token.specs.Token.{pairs, sameBytes, wordKind, pointed, nameTok, num
 use Rattle.token.specs.Contents.{fewDigits}
 use Rattle.token.specs.Questions.{tooLong, allowed, strayByte, outside, tooDeep, bytesJudged}
 use Rattle.token.specs.Questions as bytes
-use Rattle.grammar.specs.Grammar.{Model, Reads, flatWhole, flatNumber, flatExpr, flatTerms, flatTerm, flatFactors, flatAtom, flatExprs, flatArgs, flatPart, flatParts, flatSet, relationKind, flatTest, flatAnds, flatOrs, flatCond, flatScale, flatRate, flatValues, flatSets, flatNames, flatAction, flatGate, flatPrefix, flatNext, flatCont, flatItem, flatItems, flatChoices, flatSums, flatBody, flatParams, flatWholes, flatStarts, flatStart, flatSystem, flatDefinitions, flatModel}
+use Rattle.grammar.specs.Grammar.{Model, Reads, flatWhole, flatNumber, flatExpr, flatTerms, flatTerm, flatFactors, flatAtom, flatExprs, flatArgs, flatPart, flatParts, flatSet, relationKind, flatTest, flatAnds, flatOrs, flatCond, flatScale, flatRate, flatValues, flatSets, flatNames, flatChannel, flatAction, flatGate, flatPrefix, flatNext, flatCont, flatItem, flatItems, flatChoices, flatSums, flatBody, flatParams, flatWholes, flatStarts, flatStart, flatSystem, flatDefinitions, flatModel}
 use Rattle.grammar.specs.Machine.{table, rowsOf, isMay, find, onto, step, ending, onward, run, Out, bad, start}
 use Rattle.grammar.specs.Syntax
-use Rattle.grammar.specs.Syntax.{wide, literalAt, numberAt, exprAt, termsAt, termAt, factorsAt, atomAt, exprsAt, argsAt, partAt, partsAt, setAt, testAt, andsAt, conjunctionAt, orsAt, condAt, scaleAt, rateAt, valuesAt, setsAt, countNames, namesAt, actionAt, gateAt, sumsPrefix, sumsNext, sumsCont, sumsItem, sumsItems, sumsChoices, branchAt, nextAt, contAt, itemAt, contsAt, branchesAt, sumAt, sumsAt, bodyAt, sumsSums, sumsBody, paramsAt, wholesAt, startsAt, startAt, systemAt, definitionsAt, modelAt, syntaxOf}
+use Rattle.grammar.specs.Syntax.{wide, literalAt, numberAt, exprAt, termsAt, termAt, factorsAt, atomAt, exprsAt, argsAt, partAt, partsAt, setAt, testAt, andsAt, conjunctionAt, orsAt, condAt, scaleAt, rateAt, valuesAt, setsAt, countNames, namesAt, channelAt, actionAt, gateAt, sumsPrefix, sumsNext, sumsCont, sumsItem, sumsItems, sumsChoices, branchAt, nextAt, contAt, itemAt, contsAt, branchesAt, sumAt, sumsAt, bodyAt, sumsSums, sumsBody, paramsAt, wholesAt, startsAt, startAt, systemAt, definitionsAt, modelAt, syntaxOf}
 use Rattle.grammar.proofs.Judged.{wrong}
 use Rattle.model.specs.Lists
 use Rattle.model.specs.Sites
@@ -45,7 +45,7 @@ kindsIn text = kindsOf (tokensIn text)
 -- the kinds that a derivation is written as
 unfoldable pub written : Model → List ℕ
 unfolding flatWhole flatNumber flatExpr flatTerms flatTerm flatFactors flatAtom flatExprs flatArgs flatPart flatParts flatSet relationKind flatTest flatAnds flatOrs flatCond flatScale flatRate
-    flatValues flatSets flatNames flatAction flatGate flatPrefix flatNext flatCont flatItem flatItems flatChoices flatSums flatBody flatParams flatWholes flatStarts flatStart flatSystem
+    flatValues flatSets flatNames flatChannel flatAction flatGate flatPrefix flatNext flatCont flatItem flatItems flatChoices flatSums flatBody flatParams flatWholes flatStarts flatStart flatSystem
     flatDefinitions flatModel
 written d = flatModel d []
 
@@ -57,14 +57,14 @@ ran ts = run 0 start ts
 -- the syntax tree of a derivation
 unfoldable pub treeOf : Model → Syntax.Model
 unfolding wide literalAt numberAt exprAt termsAt termAt factorsAt atomAt exprsAt argsAt partAt partsAt setAt testAt andsAt conjunctionAt orsAt condAt scaleAt rateAt valuesAt setsAt countNames namesAt
-    actionAt gateAt sumsPrefix sumsNext sumsCont sumsItem sumsItems sumsChoices branchAt nextAt contAt itemAt contsAt branchesAt sumAt sumsAt bodyAt sumsSums sumsBody paramsAt wholesAt startsAt
+    channelAt actionAt gateAt sumsPrefix sumsNext sumsCont sumsItem sumsItems sumsChoices branchAt nextAt contAt itemAt contsAt branchesAt sumAt sumsAt bodyAt sumsSums sumsBody paramsAt wholesAt startsAt
     startAt systemAt definitionsAt modelAt syntaxOf
 treeOf d = syntaxOf d
 
 -- the sites of a tree
 unfoldable pub sitesOf : (ℕ → List ℕ) → Syntax.Model → List Sites.Sited
 unfolding Lists.each Lists.when Lists.any Lists.everyOther Lists.earlier Lists.least Sites.exprSites Sites.exprsSites Sites.setSites Sites.condSites Sites.gateSites Sites.scaleSites Sites.rateSites
-    Sites.isLone Sites.channelSites Sites.valuesSites Sites.setsSites Sites.countSets Sites.tokensOf Sites.actionSites Sites.bindings Sites.countExprs Sites.countArgs Sites.argsSites
+    Sites.isLone Sites.itemSites Sites.channelSites Sites.valuesSites Sites.setsSites Sites.countSets Sites.tokensOf Sites.actionSites Sites.bindings Sites.countExprs Sites.countArgs Sites.argsSites
     Sites.within Sites.branchSites Sites.nextSites Sites.branchesSites Sites.sumSites Sites.contSites Sites.contsSites Sites.sumsSites Sites.paramsOf Sites.definitionsIn Sites.systemIn
     Sites.variables Sites.definitions Sites.system Sites.startsIn Sites.starts Sites.definitionSites Sites.sites Sites.overSites Sites.names Sites.titles
 sitesOf w s = Sites.sites w s
@@ -86,11 +86,11 @@ notGivenIn w s = Given.notGiven w s
 
 -- the resolved model
 unfoldable pub resolvedFrom : (ℕ → List ℕ) → Syntax.Model → Resolved.Model
-unfolding sitesOf notGivenIn worth tenThousandths Words.nth Words.placeOf Words.wordOf Words.same Words.wholeOf Words.decimalOf Resolved.isChannelName Resolved.channelUse Resolved.actionUse
+unfolding sitesOf notGivenIn worth tenThousandths Words.nth Words.placeOf Words.wordOf Words.same Words.wholeOf Words.decimalOf Resolved.isChannelName Resolved.itemUse Resolved.channelUse Resolved.actionUse
     Resolved.branchUses Resolved.nextUses Resolved.branchesUses Resolved.sumUses Resolved.contUses Resolved.contsUses Resolved.sumsUses Resolved.definitionUses Resolved.firsts
     Resolved.channelNames Resolved.orZero Resolved.definitionNumber Resolved.sumNumber Resolved.sumNumbers Resolved.defined Resolved.listOf Resolved.numberValue Resolved.numberScale
-    Resolved.valueNamed Resolved.scaleNamed Resolved.resolveExpr Resolved.resolveSet Resolved.resolveCond Resolved.resolveGate Resolved.resolveScale Resolved.resolveRate Resolved.channelNamed
-    Resolved.resolveChannel Resolved.resolveValues Resolved.resolveSets Resolved.resolveAction Resolved.resolveArgs Resolved.resolveCall Resolved.partsOf Resolved.partsIn Resolved.resolveNext
+    Resolved.valueNamed Resolved.scaleNamed Resolved.resolveExpr Resolved.resolveSet Resolved.resolveCond Resolved.resolveGate Resolved.resolveScale Resolved.resolveRate Resolved.itemNamed
+    Resolved.resolveItem Resolved.resolveChannel Resolved.resolveValues Resolved.resolveSets Resolved.resolveAction Resolved.resolveArgs Resolved.resolveCall Resolved.partsOf Resolved.partsIn Resolved.resolveNext
     Resolved.resolveBranch Resolved.resolveBranches Resolved.sumTree Resolved.branchesTree Resolved.branchTree Resolved.nextTree Resolved.contTree Resolved.contsTree Resolved.sumsTree
     Resolved.allSums Resolved.literalValue Resolved.wholeValues Resolved.startValues Resolved.resolveStart Resolved.resolved
 resolvedFrom w s = Resolved.resolved w s

@@ -8,6 +8,7 @@ use Prim.Native.Nat.{ℕ}
 use lib.IntN.{pos, negℤ}
 use Rattle.grammar.specs.Grammar as derived
 use Rattle.grammar.specs.Syntax.{plus}
+use Rattle.value.specs.Items.{oneItem}
 use Rattle.model.specs.Good.{scaleLimit}
 use Rattle.model.specs.Resolved
 use Rattle.model.specs.Opening.{refused, opened, opening}
@@ -40,7 +41,7 @@ go = waits aRate
 
 -- {c?[1](x),r}, then what follows
 abbrev receives : derived.Rate → derived.Next → derived.Prefix
-receives r n = derived.prefix derived.noGate (derived.bind aName (derived.oneSet (derived.set (derived.single aWhole) derived.noParts)) derived.lastName) r n
+receives r n = derived.prefix derived.noGate (derived.bind (derived.oneItem aName) (derived.oneSet (derived.set (derived.single aWhole) derived.noParts)) derived.lastName) r n
 
 -- a prefix as a continuation
 abbrev then : derived.Prefix → derived.Next
@@ -74,7 +75,7 @@ goes = waiting (Resolved.fixed (pos 10000))
 -- {c?[1](x),1} resolved, then what follows
 abbrev receiving : List Resolved.Part → Resolved.Branch
 receiving next =
-    record { gate = none; action = Resolved.bind (Resolved.name 0) (Resolved.single (Resolved.constant (pos 1)) ∷ []); rate = Resolved.plain (Resolved.fixed (pos 10000)); next = next }
+    record { gate = none; action = Resolved.bind (oneItem (Resolved.name 0)) (Resolved.single (Resolved.constant (pos 1)) ∷ []); rate = Resolved.plain (Resolved.fixed (pos 10000)); next = next }
 
 -- a sum of one branch with n locals, of the first definition
 abbrev sumOf : ℕ → Resolved.Branch → Resolved.Sum
@@ -230,7 +231,7 @@ pub bracketed : opening bracketedText ≡ refused 9 6
 unfolding judgedBytes kindsIn written judgedTree
 bracketed =
     opens-so bracketedText
-    (alone (derived.prefix derived.noGate (derived.launch (derived.sum (derived.product (derived.bracketed aName) derived.noFactors) derived.noTerms) (derived.oneValue aWhole)) aRate derived.stop) once)
+    (alone (derived.prefix derived.noGate (derived.launch (derived.oneItem (derived.sum (derived.product (derived.bracketed aName) derived.noFactors) derived.noTerms)) (derived.oneValue aWhole)) aRate derived.stop) once)
     (refused 9 6) refl refl refl
 
 -- ---- 10
@@ -251,12 +252,12 @@ crowd =
 
 -- {c![1],1}, then what follows
 abbrev send : derived.Next → derived.Prefix
-send n = derived.prefix derived.noGate (derived.launch aName (derived.oneValue aWhole)) aRate n
+send n = derived.prefix derived.noGate (derived.launch (derived.oneItem aName) (derived.oneValue aWhole)) aRate n
 
 -- the same resolved as a sum, on channel name number c, then what follows
 abbrev sends : ℕ → List Resolved.Part → Resolved.Sum
 sends c next =
-    sumOf 0 (record { gate = none; action = Resolved.launch (Resolved.name c) (Resolved.constant (pos 1) ∷ []); rate = Resolved.plain (Resolved.fixed (pos 10000)); next = next })
+    sumOf 0 (record { gate = none; action = Resolved.launch (oneItem (Resolved.name c)) (Resolved.constant (pos 1) ∷ []); rate = Resolved.plain (Resolved.fixed (pos 10000)); next = next })
 
 -- A[]={c![1],1}.{d![1],1}.{c![1],1};A[];
 abbrev channelsText : List ℕ
@@ -274,7 +275,7 @@ channels =
 
 -- {@pass![n],2}.Lamp[n+1]
 abbrev offer : derived.Prefix
-offer = derived.prefix derived.noGate (derived.handSend aName (derived.oneValue aName)) aRate (derived.dot (derived.call (derived.args (derived.lastExpr nextOne))))
+offer = derived.prefix derived.noGate (derived.handSend (derived.oneItem aName) (derived.oneValue aName)) aRate (derived.dot (derived.call (derived.args (derived.lastExpr nextOne))))
 
 -- [n<3] -> {go,g*n}.Lamp[n+1]
 abbrev glow : derived.Prefix
@@ -283,7 +284,7 @@ glow = derived.prefix (derived.gate (derived.cond (derived.holds aName derived.l
 -- {@pass?[a..a+1](v),1.5}.Post[v]
 abbrev accept : derived.Prefix
 accept =
-    derived.prefix derived.noGate (derived.handBind aName (derived.oneSet (derived.set (derived.range aName nextOne) derived.noParts)) derived.lastName) (derived.plain (derived.fixed derived.decimal))
+    derived.prefix derived.noGate (derived.handBind (derived.oneItem aName) (derived.oneSet (derived.set (derived.range aName nextOne) derived.noParts)) derived.lastName) (derived.plain (derived.fixed derived.decimal))
     (derived.dot (derived.call (derived.args (derived.lastExpr aName))))
 
 abbrev item : derived.Start
@@ -309,7 +310,7 @@ sheetModel =
             locals = 1;
             definition = 0;
             branches =
-                record { gate = none; action = Resolved.handSend (Resolved.name 0) (Resolved.localAt 0 ∷ []); rate = Resolved.plain (Resolved.fixed (pos 20000)); next = Resolved.call 0 (increased ∷ []) ∷ [] }
+                record { gate = none; action = Resolved.handSend (oneItem (Resolved.name 0)) (Resolved.localAt 0 ∷ []); rate = Resolved.plain (Resolved.fixed (pos 20000)); next = Resolved.call 0 (increased ∷ []) ∷ [] }
                 ∷ record {
                   gate = some (Resolved.compare false derived.less (Resolved.localAt 0) (Resolved.constant (pos 3)));
                   action = Resolved.wait;
@@ -324,7 +325,7 @@ sheetModel =
             branches =
                 record {
                   gate = none;
-                  action = Resolved.handBind (Resolved.name 0) (Resolved.range (Resolved.localAt 0) increased ∷ []);
+                  action = Resolved.handBind (oneItem (Resolved.name 0)) (Resolved.range (Resolved.localAt 0) increased ∷ []);
                   rate = Resolved.plain (Resolved.fixed (pos 15000));
                   next = Resolved.call 1 (Resolved.localAt 1 ∷ []) ∷ [];
                 }

@@ -9,14 +9,14 @@ use Prim.Native.Nat.{ℕ, suc, _+_, _≤_, _<_}
 use native.Mathlib.Omega.{arith}
 use lib.ListN.{getElem?}
 use Rattle.grammar.specs.Grammar as derived
-use Rattle.grammar.specs.Grammar.{flatNumber, flatExpr, flatTerm, flatAtom, flatAction, flatRate, flatGate, flatPrefix, flatNext, flatCont, flatItem, flatItems, flatChoices, flatSums, flatBody, flatParams}
+use Rattle.grammar.specs.Grammar.{flatNumber, flatExpr, flatTerm, flatAtom, flatChannel, flatAction, flatRate, flatGate, flatPrefix, flatNext, flatCont, flatItem, flatItems, flatChoices, flatSums, flatBody, flatParams}
 use Rattle.grammar.specs.Syntax
-use Rattle.grammar.specs.Syntax.{wide, exprAt, termsAt, termAt, factorsAt, atomAt, actionAt, sumsPrefix, sumsItem, sumsChoices, branchAt, nextAt, contAt, itemAt, contsAt, branchesAt, sumAt, sumsAt, bodyAt, sumsBody, paramsAt, definitionsAt, modelAt, syntaxOf}
-use Rattle.grammar.proofs.Wide.{wide-expr, wide-term, wide-atom, wide-action, wide-prefix, wide-next, wide-cont, wide-item, wide-items, wide-choices, wide-sum, wide-sums, wide-body}
+use Rattle.grammar.specs.Syntax.{wide, exprAt, termsAt, termAt, factorsAt, atomAt, channelAt, actionAt, sumsPrefix, sumsItem, sumsChoices, branchAt, nextAt, contAt, itemAt, contsAt, branchesAt, sumAt, sumsAt, bodyAt, sumsBody, paramsAt, definitionsAt, modelAt, syntaxOf}
+use Rattle.grammar.proofs.Wide.{wide-expr, wide-term, wide-atom, wide-channel, wide-action, wide-prefix, wide-next, wide-cont, wide-item, wide-items, wide-choices, wide-sum, wide-sums, wide-body}
 use Rattle.model.specs.Lists.{each}
 use Rattle.model.specs.Sites.{Scope, isLone, bindings, paramsOf, Variable, definitionsIn, definitions}
 use Rattle.model.specs.Given.{meaning}
-use Rattle.model.specs.Resolved.{isChannelName, channelUse, actionUse, branchUses, nextUses, branchesUses, sumUses, contUses, contsUses, sumsUses, definitionUses}
+use Rattle.model.specs.Resolved.{isChannelName, itemUse, channelUse, actionUse, branchUses, nextUses, branchesUses, sumUses, contUses, contsUses, sumsUses, definitionUses}
 use Rattle.model.specs.Stands.{branchesOf, branchesIn, itemsOf, sumsOf, Holds, itself, grouped, SumIn, defined, continued, BranchIn}
 use Rattle.model.proofs.Ascends.{Ascends, ascends-append, ascends-wider}
 use Rattle.model.proofs.Members.{in-each, got-in}
@@ -58,15 +58,28 @@ module _ (w : ℕ → List ℕ) (vs : List Variable) where
   use-by lo hi k true h g = (h, omega arith)
   use-by lo hi k false h g = omega arith
 
-  channel-ascends : (sc : Scope) (e : Syntax.Expr) (lo hi : ℕ) → lo ≤ hi → ((j : ℕ) → e ≡ Syntax.named j → (lo ≤ j) × (j < hi)) → Ascends number lo (channelUse w vs sc e) hi
-  unfolding channelUse
-  channel-ascends sc (Syntax.literal b k) lo hi l h = l
-  channel-ascends sc (Syntax.named k) lo hi l h = let g = h k refl in use-by lo hi k (isLone w k && isChannelName (meaning w vs sc k)) (g .0) (g .1)
-  channel-ascends sc (Syntax.absolute e) lo hi l h = l
-  channel-ascends sc (Syntax.binary o e f) lo hi l h = l
+  item-ascends : (sc : Scope) (e : Syntax.Expr) (lo hi : ℕ) → lo ≤ hi → ((j : ℕ) → e ≡ Syntax.named j → (lo ≤ j) × (j < hi)) → Ascends number lo (itemUse w vs sc e) hi
+  unfolding itemUse
+  item-ascends sc (Syntax.literal b k) lo hi l h = l
+  item-ascends sc (Syntax.named k) lo hi l h = let g = h k refl in use-by lo hi k (isLone w k && isChannelName (meaning w vs sc k)) (g .0) (g .1)
+  item-ascends sc (Syntax.absolute e) lo hi l h = l
+  item-ascends sc (Syntax.binary o e f) lo hi l h = l
 
-  channel-at : (sc : Scope) (c : derived.Expr) (lo k hi : ℕ) → lo ≤ k → k + wide (flatExpr c) ≤ hi → Ascends number lo (channelUse w vs sc (exprAt c k)) hi
-  channel-at sc c lo k hi l h = channel-ascends sc (exprAt c k) lo hi (omega arith) (λ j q. let g = expr-at c k j q in (omega (arith, g .0), omega (arith, g .1)))
+  item-use-at : (sc : Scope) (c : derived.Expr) (lo k hi : ℕ) → lo ≤ k → k + wide (flatExpr c) ≤ hi → Ascends number lo (itemUse w vs sc (exprAt c k)) hi
+  item-use-at sc c lo k hi l h = item-ascends sc (exprAt c k) lo hi (omega arith) (λ j q. let g = expr-at c k j q in (omega (arith, g .0), omega (arith, g .1)))
+
+  channel-at : (sc : Scope) (c : derived.Channel) (lo k hi : ℕ) → lo ≤ k → k + wide (flatChannel c) ≤ hi → Ascends number lo (channelUse w vs sc (channelAt c k)) hi
+  unfolding channelUse channelAt
+  channel-at sc (derived.oneItem e) lo k hi l h = item-use-at sc e lo k hi l (omega (arith, wide-channel (derived.oneItem e) .width))
+  channel-at sc (derived.twoItems e f) lo k hi l h =
+      let m = k + wide (flatExpr e) + 1 in
+      let n = wide-channel (derived.twoItems e f) .width in
+      ascends-append number lo m hi (itemUse w vs sc (exprAt e k)) (itemUse w vs sc (exprAt f m)) (item-use-at sc e lo k m l (omega arith)) (item-use-at sc f m m hi (omega arith) (omega arith))
+  channel-at sc (derived.threeItems e f g) lo k hi l h =
+      let m = k + wide (flatExpr e) + 1 in
+      let p = m + wide (flatExpr f) + 1 in
+      let n = wide-channel (derived.threeItems e f g) .width in
+      ascends-append number lo m hi (itemUse w vs sc (exprAt e k)) (itemUse w vs sc (exprAt f m) ++ itemUse w vs sc (exprAt g p)) (item-use-at sc e lo k m l (omega arith)) (ascends-append number m p hi (itemUse w vs sc (exprAt f m)) (itemUse w vs sc (exprAt g p)) (item-use-at sc f m m p (omega arith) (omega arith)) (item-use-at sc g p p hi (omega arith) (omega arith)))
 
   action-at : (sc : Scope) (a : derived.Action) (k hi : ℕ) → hi ≡ k + wide (flatAction a) → Ascends number k (actionUse w vs sc (actionAt a k)) hi
   unfolding actionUse actionAt

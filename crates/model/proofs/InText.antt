@@ -7,12 +7,12 @@ use mathlib.Core.Logic.{⊎-elim}
 use Prim.Native.Nat.{ℕ, zero, suc, _+_, _≤_, _<_}
 use native.Mathlib.Omega.{arith}
 use Rattle.grammar.specs.Grammar as derived
-use Rattle.grammar.specs.Grammar.{flatWhole, flatNumber, flatExpr, flatTerms, flatTerm, flatFactors, flatAtom, flatExprs, flatArgs, flatPart, flatParts, flatSet, flatTest, flatAnds, flatOrs, flatCond, flatScale, flatRate, flatValues, flatSets, flatNames, flatAction, flatGate}
+use Rattle.grammar.specs.Grammar.{flatWhole, flatNumber, flatExpr, flatTerms, flatTerm, flatFactors, flatAtom, flatExprs, flatArgs, flatPart, flatParts, flatSet, flatTest, flatAnds, flatOrs, flatCond, flatScale, flatRate, flatValues, flatSets, flatNames, flatChannel, flatAction, flatGate}
 use Rattle.grammar.specs.Syntax
-use Rattle.grammar.specs.Syntax.{wide, literalAt, numberAt, exprAt, termsAt, termAt, factorsAt, atomAt, exprsAt, argsAt, partAt, partsAt, setAt, testAt, andsAt, conjunctionAt, orsAt, condAt, scaleAt, rateAt, valuesAt, setsAt, countNames, namesAt, actionAt, gateAt}
-use Rattle.grammar.proofs.Wide.{wide-whole, wide-number, wide-expr, wide-terms, wide-term, wide-factors, wide-atom, wide-exprs, wide-args, wide-part, wide-parts, wide-set, wide-test, wide-ands, wide-conjunction, wide-ors, wide-cond, wide-scale, wide-rate, wide-values, wide-sets, wide-names, wide-action, wide-gate}
+use Rattle.grammar.specs.Syntax.{wide, literalAt, numberAt, exprAt, termsAt, termAt, factorsAt, atomAt, exprsAt, argsAt, partAt, partsAt, setAt, testAt, andsAt, conjunctionAt, orsAt, condAt, scaleAt, rateAt, valuesAt, setsAt, countNames, namesAt, channelAt, actionAt, gateAt}
+use Rattle.grammar.proofs.Wide.{wide-whole, wide-number, wide-expr, wide-terms, wide-term, wide-factors, wide-atom, wide-exprs, wide-args, wide-part, wide-parts, wide-set, wide-test, wide-ands, wide-conjunction, wide-ors, wide-cond, wide-scale, wide-rate, wide-values, wide-sets, wide-names, wide-channel, wide-action, wide-gate}
 use Rattle.model.specs.Lists.{everyOther}
-use Rattle.model.specs.Sites.{Site, whole, value, scale, bound, branch, call, exprSites, exprsSites, setSites, condSites, gateSites, scaleSites, rateSites, isLone, channelSites, valuesSites, setsSites, countSets, tokensOf, actionSites, argsSites}
+use Rattle.model.specs.Sites.{Site, whole, value, scale, bound, branch, call, exprSites, exprsSites, setSites, condSites, gateSites, scaleSites, rateSites, isLone, itemSites, channelSites, valuesSites, setsSites, countSets, tokensOf, actionSites, argsSites}
 
 -- l: where the part, or the text, ends
 module _ (l : ℕ) where
@@ -199,24 +199,35 @@ module _ (l : ℕ) where
   lone-before k true h = nothing
   lone-before k false h = one (value k) h
 
-  channel-before : (w : ℕ → List ℕ) (e : Syntax.Expr) → AllBefore (exprSites e) → AllBefore (channelSites w e)
-  unfolding channelSites exprSites
-  channel-before w (Syntax.literal b k) h = h
-  channel-before w (Syntax.named k) h = lone-before k (isLone w k) (h (value k) (head refl))
-  channel-before w (Syntax.absolute e) h = h
-  channel-before w (Syntax.binary o e f) h = h
+  item-before : (w : ℕ → List ℕ) (e : Syntax.Expr) → AllBefore (exprSites e) → AllBefore (itemSites w e)
+  unfolding itemSites exprSites
+  item-before w (Syntax.literal b k) h = h
+  item-before w (Syntax.named k) h = lone-before k (isLone w k) (h (value k) (head refl))
+  item-before w (Syntax.absolute e) h = h
+  item-before w (Syntax.binary o e f) h = h
+
+  channel-before : (w : ℕ → List ℕ) (c : derived.Channel) (k : ℕ) → k + wide (flatChannel c) ≤ l → AllBefore (channelSites w (channelAt c k))
+  unfolding channelSites channelAt
+  channel-before w (derived.oneItem e) k h = item-before w (exprAt e k) (expr-before e k (omega (arith, wide-channel (derived.oneItem e) .width)))
+  channel-before w (derived.twoItems e f) k h =
+      let n = wide-channel (derived.twoItems e f) .width in
+      both (itemSites w (exprAt e k)) _ (item-before w (exprAt e k) (expr-before e k (omega arith))) (item-before w (exprAt f (k + wide (flatExpr e) + 1)) (expr-before f (k + wide (flatExpr e) + 1) (omega arith)))
+  channel-before w (derived.threeItems e f g) k h =
+      let n = wide-channel (derived.threeItems e f g) .width in
+      let m = k + wide (flatExpr e) + 1 in
+      both (itemSites w (exprAt e k)) _ (item-before w (exprAt e k) (expr-before e k (omega arith))) (both (itemSites w (exprAt f m)) _ (item-before w (exprAt f m) (expr-before f m (omega arith))) (item-before w (exprAt g (m + wide (flatExpr f) + 1)) (expr-before g (m + wide (flatExpr f) + 1) (omega arith))))
 
   -- a channel, and what follows it and a sign
-  sending-before : (w : ℕ → List ℕ) (c : derived.Expr) (v : derived.Values) (k : ℕ) → k + wide (flatExpr c) + 1 + wide (flatValues v) ≤ l → AllBefore (channelSites w (exprAt c k) ++ valuesSites (valuesAt v (k + wide (flatExpr c) + 1)))
-  sending-before w c v k h = both (channelSites w (exprAt c k)) _ (channel-before w (exprAt c k) (expr-before c k (omega arith))) (values-before v (k + wide (flatExpr c) + 1) (omega arith))
+  sending-before : (w : ℕ → List ℕ) (c : derived.Channel) (v : derived.Values) (k : ℕ) → k + wide (flatChannel c) + 1 + wide (flatValues v) ≤ l → AllBefore (channelSites w (channelAt c k) ++ valuesSites (valuesAt v (k + wide (flatChannel c) + 1)))
+  sending-before w c v k h = both (channelSites w (channelAt c k)) _ (channel-before w c k (omega arith)) (values-before v (k + wide (flatChannel c) + 1) (omega arith))
 
-  asking-before : (w : ℕ → List ℕ) (c : derived.Expr) (s : derived.Sets) (k : ℕ) → k + wide (flatExpr c) + 1 + wide (flatSets s) ≤ l → AllBefore (channelSites w (exprAt c k) ++ setsSites (setsAt s (k + wide (flatExpr c) + 1)))
-  asking-before w c s k h = both (channelSites w (exprAt c k)) _ (channel-before w (exprAt c k) (expr-before c k (omega arith))) (sets-before s (k + wide (flatExpr c) + 1) (omega arith))
+  asking-before : (w : ℕ → List ℕ) (c : derived.Channel) (s : derived.Sets) (k : ℕ) → k + wide (flatChannel c) + 1 + wide (flatSets s) ≤ l → AllBefore (channelSites w (channelAt c k) ++ setsSites (setsAt s (k + wide (flatChannel c) + 1)))
+  asking-before w c s k h = both (channelSites w (channelAt c k)) _ (channel-before w c k (omega arith)) (sets-before s (k + wide (flatChannel c) + 1) (omega arith))
 
-  binding-before : (w : ℕ → List ℕ) (c : derived.Expr) (s : derived.Sets) (n : derived.Names) (k : ℕ) → k + wide (flatExpr c) + 1 + wide (flatSets s) + 1 + wide (flatNames n) ≤ l
-      → AllBefore (channelSites w (exprAt c k) ++ setsSites (setsAt s (k + wide (flatExpr c) + 1)) ++ (bound (tokensOf (namesAt n (k + wide (flatExpr c) + 1 + wide (flatSets s) + 1))) (countSets (setsAt s (k + wide (flatExpr c) + 1))) ∷ []))
+  binding-before : (w : ℕ → List ℕ) (c : derived.Channel) (s : derived.Sets) (n : derived.Names) (k : ℕ) → k + wide (flatChannel c) + 1 + wide (flatSets s) + 1 + wide (flatNames n) ≤ l
+      → AllBefore (channelSites w (channelAt c k) ++ setsSites (setsAt s (k + wide (flatChannel c) + 1)) ++ (bound (tokensOf (namesAt n (k + wide (flatChannel c) + 1 + wide (flatSets s) + 1))) (countSets (setsAt s (k + wide (flatChannel c) + 1))) ∷ []))
   binding-before w c s n k h =
-      both (channelSites w (exprAt c k) ++ setsSites (setsAt s (k + wide (flatExpr c) + 1))) _ (asking-before w c s k (omega arith)) (one _ (names-before n (k + wide (flatExpr c) + 1 + wide (flatSets s) + 1) h))
+      both (channelSites w (channelAt c k) ++ setsSites (setsAt s (k + wide (flatChannel c) + 1))) _ (asking-before w c s k (omega arith)) (one _ (names-before n (k + wide (flatChannel c) + 1 + wide (flatSets s) + 1) h))
 
   pub action-before : (w : ℕ → List ℕ) (a : derived.Action) (k : ℕ) → k + wide (flatAction a) ≤ l → AllBefore (actionSites w (actionAt a k))
   unfolding actionAt actionSites

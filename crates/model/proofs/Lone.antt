@@ -3,9 +3,9 @@
 use mathlib.Core.Path.{_≡_, refl, sym, ap, _∙_}
 use mathlib.Core.List.{List, [], _∷_}
 use mathlib.Core.Bool.{Bool, true, false}
-use mathlib.Core.Option.{Option, none, some}
+use mathlib.Core.Option.{some}
 use mathlib.Core.Logic.{_↔_}
-use Prim.Native.Nat.{ℕ, _+_}
+use Prim.Native.Nat.{ℕ, zero, suc, _+_}
 use native.Mathlib.Omega.{arith}
 use lib.ListN.{drop, getElem?}
 use borrow.Author.Tests.{not-true}
@@ -13,10 +13,10 @@ use Rattle.token.specs.Kind as kind
 use Rattle.token.specs.Token.{sameBytes, Mark, tokens, kindsOf}
 use Rattle.token.proofs.Words.{same-is, is-same}
 use Rattle.grammar.specs.Grammar as derived
-use Rattle.grammar.specs.Grammar.{Reads, flatExpr, flatTerms, flatTerm, flatFactors, flatAtom, flatAction, flatGate, flatPrefix}
+use Rattle.grammar.specs.Grammar.{Reads, flatExpr, flatTerms, flatTerm, flatFactors, flatAtom, flatChannel, flatAction, flatGate, flatPrefix}
 use Rattle.grammar.specs.Syntax
-use Rattle.grammar.specs.Syntax.{wide, literalAt, exprAt, termsAt, termAt, factorsAt, atomAt, actionAt, branchAt, syntaxOf}
-use Rattle.grammar.proofs.Wide.{wide-gate}
+use Rattle.grammar.specs.Syntax.{wide, literalAt, exprAt, termsAt, termAt, factorsAt, atomAt, channelAt, actionAt, branchAt, syntaxOf}
+use Rattle.grammar.proofs.Wide.{wide-expr, wide-gate}
 use Rattle.model.specs.Sites.{Scope, isLone}
 use Rattle.model.specs.Words.{wordOf}
 use Rattle.model.specs.Stands.{BranchIn}
@@ -120,28 +120,39 @@ module _ (ts : List ℕ) where
 
 -- ---- channels
 
--- the channel of an action, in the tree and in the derivation
-abbrev pub channelIn : Syntax.Action → Option Syntax.Expr
-channelIn (Syntax.wait k) = none
-channelIn (Syntax.launch c v) = some c
-channelIn (Syntax.kill c v) = some c
-channelIn (Syntax.receive c s) = some c
-channelIn (Syntax.bind c s n) = some c
-channelIn (Syntax.check c s) = some c
-channelIn (Syntax.handSend c v) = some c
-channelIn (Syntax.handReceive c s) = some c
-channelIn (Syntax.handBind c s n) = some c
+-- the items of a channel, in the tree and in the derivation
+abbrev pub itemsIn : Syntax.Channel → List Syntax.Expr
+itemsIn (Syntax.oneItem e) = e ∷ []
+itemsIn (Syntax.twoItems e f) = e ∷ f ∷ []
+itemsIn (Syntax.threeItems e f g) = e ∷ f ∷ g ∷ []
 
-abbrev pub channelOf : derived.Action → Option derived.Expr
-channelOf derived.wait = none
-channelOf (derived.launch c v) = some c
-channelOf (derived.kill c v) = some c
-channelOf (derived.receive c s) = some c
-channelOf (derived.bind c s n) = some c
-channelOf (derived.check c s) = some c
-channelOf (derived.handSend c v) = some c
-channelOf (derived.handReceive c s) = some c
-channelOf (derived.handBind c s n) = some c
+abbrev pub itemsOf : derived.Channel → List derived.Expr
+itemsOf (derived.oneItem e) = e ∷ []
+itemsOf (derived.twoItems e f) = e ∷ f ∷ []
+itemsOf (derived.threeItems e f g) = e ∷ f ∷ g ∷ []
+
+-- those of an action's
+abbrev pub channelIn : Syntax.Action → List Syntax.Expr
+channelIn (Syntax.wait k) = []
+channelIn (Syntax.launch c v) = itemsIn c
+channelIn (Syntax.kill c v) = itemsIn c
+channelIn (Syntax.receive c s) = itemsIn c
+channelIn (Syntax.bind c s n) = itemsIn c
+channelIn (Syntax.check c s) = itemsIn c
+channelIn (Syntax.handSend c v) = itemsIn c
+channelIn (Syntax.handReceive c s) = itemsIn c
+channelIn (Syntax.handBind c s n) = itemsIn c
+
+abbrev pub channelOf : derived.Action → List derived.Expr
+channelOf derived.wait = []
+channelOf (derived.launch c v) = itemsOf c
+channelOf (derived.kill c v) = itemsOf c
+channelOf (derived.receive c s) = itemsOf c
+channelOf (derived.bind c s n) = itemsOf c
+channelOf (derived.check c s) = itemsOf c
+channelOf (derived.handSend c v) = itemsOf c
+channelOf (derived.handReceive c s) = itemsOf c
+channelOf (derived.handBind c s n) = itemsOf c
 
 abbrev pub actionOf : derived.Prefix → derived.Action
 actionOf (derived.prefix g a r x) = a
@@ -193,34 +204,48 @@ module _ (text : List ℕ) where
 
   -- ---- every channel of the text
 
-  by-channel : (c : derived.Expr) (k j t : ℕ) (us : List ℕ) → drop k kinds ≡ flatExpr c (t ∷ us) → (t ≡ kind.closeRound → ⊥) → some (exprAt c k) ≡ some (Syntax.named j) → (isLone (wordOf text) j ≡ true) ↔ (some c ≡ some aName)
-  by-channel c k j t us d o e =
+  by-item : (c : derived.Expr) (k j t : ℕ) (us : List ℕ) → drop k kinds ≡ flatExpr c (t ∷ us) → (t ≡ kind.closeRound → ⊥) → some (exprAt c k) ≡ some (Syntax.named j) → (isLone (wordOf text) j ≡ true) ↔ (some c ≡ some aName)
+  by-item c k j t us d o e =
       let q : exprAt c k ≡ Syntax.named j = cc in
       let l = lone-so c k j t us d o q in
       (λ x. ap (λ (y : derived.Expr). some y) (l .0 x), λ x. let z : c ≡ aName = cc in l .1 z)
 
-  by-action : (a : derived.Action) (k j : ℕ) (us : List ℕ) → drop k kinds ≡ flatAction a us → channelIn (actionAt a k) ≡ some (Syntax.named j) → (isLone (wordOf text) j ≡ true) ↔ (channelOf a ≡ some aName)
-  unfolding flatAction actionAt
-  by-action derived.wait k j us d e = never e
-  by-action (derived.launch c v) k j us d e = by-channel c k j kind.bang _ d (λ x. omega arith) e
-  by-action (derived.kill c v) k j us d e = by-channel c k j kind.hash _ d (λ x. omega arith) e
-  by-action (derived.receive c s) k j us d e = by-channel c k j kind.query _ d (λ x. omega arith) e
-  by-action (derived.bind c s n) k j us d e = by-channel c k j kind.query _ d (λ x. omega arith) e
-  by-action (derived.check c s) k j us d e = by-channel c (k + 1) j kind.query _ (next-token kinds k d) (λ x. omega arith) e
-  by-action (derived.handSend c v) k j us d e = by-channel c (k + 1) j kind.bang _ (next-token kinds k d) (λ x. omega arith) e
-  by-action (derived.handReceive c s) k j us d e = by-channel c (k + 1) j kind.query _ (next-token kinds k d) (λ x. omega arith) e
-  by-action (derived.handBind c s n) k j us d e = by-channel c (k + 1) j kind.query _ (next-token kinds k d) (λ x. omega arith) e
+  by-channel : (c : derived.Channel) (k j i t : ℕ) (us : List ℕ) → drop k kinds ≡ flatChannel c (t ∷ us) → (t ≡ kind.closeRound → ⊥) → getElem? (itemsIn (channelAt c k)) i ≡ some (Syntax.named j) → (isLone (wordOf text) j ≡ true) ↔ (getElem? (itemsOf c) i ≡ some aName)
+  unfolding flatChannel channelAt
+  by-channel (derived.oneItem e) k j zero t us d o q = by-item e k j t us d o q
+  by-channel (derived.oneItem e) k j (suc i) t us d o q = never q
+  by-channel (derived.twoItems e f) k j zero t us d o q = by-item e k j kind.comma _ d (λ x. omega arith) q
+  by-channel (derived.twoItems e f) k j (suc zero) t us d o q = by-item f (k + wide (flatExpr e) + 1) j t us (next-token kinds (k + wide (flatExpr e)) (past kinds k _ (wide-expr e) d)) o q
+  by-channel (derived.twoItems e f) k j (suc (suc i)) t us d o q = never q
+  by-channel (derived.threeItems e f g) k j zero t us d o q = by-item e k j kind.comma _ d (λ x. omega arith) q
+  by-channel (derived.threeItems e f g) k j (suc zero) t us d o q = by-item f (k + wide (flatExpr e) + 1) j kind.comma _ (next-token kinds (k + wide (flatExpr e)) (past kinds k _ (wide-expr e) d)) (λ x. omega arith) q
+  by-channel (derived.threeItems e f g) k j (suc (suc zero)) t us d o q =
+      let m = k + wide (flatExpr e) + 1 in
+      by-item g (m + wide (flatExpr f) + 1) j t us (next-token kinds (m + wide (flatExpr f)) (past kinds m _ (wide-expr f) (next-token kinds (k + wide (flatExpr e)) (past kinds k _ (wide-expr e) d)))) o q
+  by-channel (derived.threeItems e f g) k j (suc (suc (suc i))) t us d o q = never q
 
-  by-prefix : (p : derived.Prefix) (k n j : ℕ) (us : List ℕ) → drop k kinds ≡ flatPrefix p us → channelIn (actionIn (branchAt p k n)) ≡ some (Syntax.named j) → (isLone (wordOf text) j ≡ true) ↔ (channelOf (actionOf p) ≡ some aName)
+  by-action : (a : derived.Action) (k j i : ℕ) (us : List ℕ) → drop k kinds ≡ flatAction a us → getElem? (channelIn (actionAt a k)) i ≡ some (Syntax.named j) → (isLone (wordOf text) j ≡ true) ↔ (getElem? (channelOf a) i ≡ some aName)
+  unfolding flatAction actionAt
+  by-action derived.wait k j i us d e = never e
+  by-action (derived.launch c v) k j i us d e = by-channel c k j i kind.bang _ d (λ x. omega arith) e
+  by-action (derived.kill c v) k j i us d e = by-channel c k j i kind.hash _ d (λ x. omega arith) e
+  by-action (derived.receive c s) k j i us d e = by-channel c k j i kind.query _ d (λ x. omega arith) e
+  by-action (derived.bind c s n) k j i us d e = by-channel c k j i kind.query _ d (λ x. omega arith) e
+  by-action (derived.check c s) k j i us d e = by-channel c (k + 1) j i kind.query _ (next-token kinds k d) (λ x. omega arith) e
+  by-action (derived.handSend c v) k j i us d e = by-channel c (k + 1) j i kind.bang _ (next-token kinds k d) (λ x. omega arith) e
+  by-action (derived.handReceive c s) k j i us d e = by-channel c (k + 1) j i kind.query _ (next-token kinds k d) (λ x. omega arith) e
+  by-action (derived.handBind c s n) k j i us d e = by-channel c (k + 1) j i kind.query _ (next-token kinds k d) (λ x. omega arith) e
+
+  by-prefix : (p : derived.Prefix) (k n j i : ℕ) (us : List ℕ) → drop k kinds ≡ flatPrefix p us → getElem? (channelIn (actionIn (branchAt p k n))) i ≡ some (Syntax.named j) → (isLone (wordOf text) j ≡ true) ↔ (getElem? (channelOf (actionOf p)) i ≡ some aName)
   unfolding flatPrefix branchAt
-  by-prefix (derived.prefix g a r x) k n j us d e =
+  by-prefix (derived.prefix g a r x) k n j i us d e =
       let d₁ = next-token kinds (k + wide (flatGate g)) (past kinds k _ (wide-gate g) d) in
-      by-action a (k + wide (flatGate g) + 1) j _ d₁ e
+      by-action a (k + wide (flatGate g) + 1) j i _ d₁ e
 
   module _ (m : derived.Model) (r : Reads kinds m) where
-    -- in a text that reads as m, a channel of the syntax tree that is one name is told to be lone exactly where its derivation is just a name
-    pub channels-told : {sc : Scope} {i k : ℕ} {g : Syntax.Gate} {a : Syntax.Action} {q : Syntax.Rate} {n : Syntax.Next} (j : ℕ) (h : BranchIn (syntaxOf m) sc i (Syntax.branch k g a q n)) → channelIn a ≡ some (Syntax.named j)
-        → (isLone (wordOf text) j ≡ true) ↔ (channelOf (actionOf (written kinds m r h .prefix)) ≡ some aName)
-    channels-told j h e =
+    -- in a text that reads as m, an item of a channel in the syntax tree that is one name is told to be lone exactly where its derivation is just a name
+    pub channels-told : {sc : Scope} {b k : ℕ} {g : Syntax.Gate} {a : Syntax.Action} {q : Syntax.Rate} {n : Syntax.Next} (j i : ℕ) (h : BranchIn (syntaxOf m) sc b (Syntax.branch k g a q n)) → getElem? (channelIn a) i ≡ some (Syntax.named j)
+        → (isLone (wordOf text) j ≡ true) ↔ (getElem? (channelOf (actionOf (written kinds m r h .prefix))) i ≡ some aName)
+    channels-told j i h e =
         let b = written kinds m r h in
-        by-prefix (b .prefix) (b .place) (b .number) j (b .rest) (b .text) (ap (λ (x : Syntax.Branch). channelIn (actionIn x)) (sym (b .tree)) ∙ e)
+        by-prefix (b .prefix) (b .place) (b .number) j i (b .rest) (b .text) (ap (λ (x : Syntax.Branch). getElem? (channelIn (actionIn x)) i) (sym (b .tree)) ∙ e)

@@ -12,13 +12,13 @@ use Rattle.value.proofs.Sizes.{abs-mul}
 use Rattle.value.proofs.Bounds.{in-size}
 use Rattle.word.specs.Number.{unit}
 use Rattle.grammar.specs.Syntax
-use Rattle.model.specs.Sites.{Scope, Site, whole, value, scale, bound, branch, call, exprSites, exprsSites, setSites, condSites, gateSites, scaleSites, rateSites, isLone, channelSites, valuesSites, setsSites, countSets, countArgs, countExprs, argsSites, actionSites, bindings, tokensOf, Variable, Definition}
+use Rattle.model.specs.Sites.{Scope, Site, whole, value, scale, bound, branch, call, exprSites, exprsSites, setSites, condSites, gateSites, scaleSites, rateSites, isLone, itemSites, channelSites, valuesSites, setsSites, countSets, countArgs, countExprs, argsSites, actionSites, bindings, tokensOf, Variable, Definition}
 use Rattle.model.specs.Words.{wholeOf, decimalOf}
 use Rattle.model.specs.Limits.{localLimit, branchLimit}
 use Rattle.model.specs.Given.{Meaning, local, variable, nothing, isValue, isGiven, meaning, isCallable, placeIn}
 use Rattle.model.specs.Resolved
-use Rattle.model.specs.Resolved.{isChannelName, channelUse, actionUse, orZero, listOf, numberValue, numberScale, valueNamed, scaleNamed, resolveExpr, resolveSet, resolveCond, resolveGate, resolveScale, resolveRate, channelNamed, resolveChannel, resolveValues, resolveSets, resolveAction, resolveArgs}
-use Rattle.model.specs.Good.{Every, scaleLimit, GoodExpr, GoodSet, GoodCond, GoodGate, GoodScale, GoodRate, OneOrTwo, GoodName, GoodValues, GoodSets, GoodAction, namesBound}
+use Rattle.model.specs.Resolved.{isChannelName, itemUse, channelUse, actionUse, orZero, listOf, numberValue, numberScale, valueNamed, scaleNamed, resolveExpr, resolveSet, resolveCond, resolveGate, resolveScale, resolveRate, itemNamed, resolveItem, resolveChannel, resolveValues, resolveSets, resolveAction, resolveArgs}
+use Rattle.model.specs.Good.{Every, scaleLimit, GoodExpr, GoodSet, GoodCond, GoodGate, GoodScale, GoodRate, OneOrTwo, GoodItem, GoodName, GoodValues, GoodSets, GoodAction, namesBound}
 use Rattle.model.proofs.Members.{not-both, got-below}
 use Rattle.model.proofs.Meanings.{Means, aLocal, aVariable, unknown, means}
 
@@ -165,21 +165,31 @@ module _ (w : ℕ → List ℕ) (vs : List Variable) (ds : List Definition) (cs 
     -- in a model with as many channel names
     module _ (M : Resolved.Model) (counted : M .channels ≡ length cs) where
       name-good : (k : ℕ) (lone : Bool) → isLone w k ≡ lone → AllFine sc (cond lone [] (value k ∷ [])) → Known (cond (lone && isChannelName (meaning w vs sc k)) (k ∷ []) [])
-          → GoodName M n (cond (lone && isChannelName (meaning w vs sc k)) (Resolved.name (orZero (placeIn w k 0 cs))) (Resolved.number (valueNamed w vs ds cs (meaning w vs sc k))))
-      unfolding GoodName
+          → GoodItem M n (cond (lone && isChannelName (meaning w vs sc k)) (Resolved.name (orZero (placeIn w k 0 cs))) (Resolved.number (valueNamed w vs ds cs (meaning w vs sc k))))
+      unfolding GoodItem
       name-good k false e h u = named-good _ (means w k vs sc) (h (value k) (head refl))
       name-good k true e h u = by (isChannelName (meaning w vs sc k)) refl u
         where
-          by : (c : Bool) → isChannelName (meaning w vs sc k) ≡ c → Known (cond c (k ∷ []) []) → GoodName M n (cond c (Resolved.name (orZero (placeIn w k 0 cs))) (Resolved.number (valueNamed w vs ds cs (meaning w vs sc k))))
+          by : (c : Bool) → isChannelName (meaning w vs sc k) ≡ c → Known (cond c (k ∷ []) []) → GoodItem M n (cond c (Resolved.name (orZero (placeIn w k 0 cs))) (Resolved.number (valueNamed w vs ds cs (meaning w vs sc k))))
           by true f u = rw counted (u k (head refl))
           by false f u = named-good _ (means w k vs sc) (given-value _ f)
 
-      channel-good : (c : Syntax.Expr) → AllFine sc (channelSites w c) → Known (channelUse w vs sc c) → GoodName M n (resolveChannel w vs ds cs sc c)
-      unfolding channelSites channelUse resolveChannel channelNamed GoodName
-      channel-good (Syntax.literal b k) h u = expr-good (Syntax.literal b k) h
-      channel-good (Syntax.named k) h u = name-good k (isLone w k) refl h u
-      channel-good (Syntax.absolute e) h u = expr-good (Syntax.absolute e) h
-      channel-good (Syntax.binary o e f) h u = expr-good (Syntax.binary o e f) h
+      item-good : (c : Syntax.Expr) → AllFine sc (itemSites w c) → Known (itemUse w vs sc c) → GoodItem M n (resolveItem w vs ds cs sc c)
+      unfolding itemSites itemUse resolveItem itemNamed GoodItem
+      item-good (Syntax.literal b k) h u = expr-good (Syntax.literal b k) h
+      item-good (Syntax.named k) h u = name-good k (isLone w k) refl h u
+      item-good (Syntax.absolute e) h u = expr-good (Syntax.absolute e) h
+      item-good (Syntax.binary o e f) h u = expr-good (Syntax.binary o e f) h
+
+      channel-good : (c : Syntax.Channel) → AllFine sc (channelSites w c) → Known (channelUse w vs sc c) → GoodName M n (resolveChannel w vs ds cs sc c)
+      unfolding channelSites channelUse resolveChannel GoodName
+      channel-good (Syntax.oneItem e) h u = item-good e h u
+      channel-good (Syntax.twoItems e f) h u = (item-good e (λ x i. h x (left (itemSites w f) i)) (λ x i. u x (left (itemUse w vs sc f) i)), item-good f (λ x i. h x (right (itemSites w e) i)) (λ x i. u x (right (itemUse w vs sc e) i)))
+      channel-good (Syntax.threeItems e f g) h u = (
+        item-good e (λ x i. h x (left (itemSites w f ++ itemSites w g) i)) (λ x i. u x (left (itemUse w vs sc f ++ itemUse w vs sc g) i)),
+        item-good f (λ x i. h x (right (itemSites w e) (left (itemSites w g) i))) (λ x i. u x (right (itemUse w vs sc e) (left (itemUse w vs sc g) i))),
+        item-good g (λ x i. h x (right (itemSites w e) (right (itemSites w f) i))) (λ x i. u x (right (itemUse w vs sc e) (right (itemUse w vs sc f) i))),
+      )
 
       one : {A : Type 0} {x : A} → OneOrTwo (x ∷ [])
       one = record { one = omega arith; two = omega arith }

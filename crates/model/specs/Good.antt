@@ -8,9 +8,10 @@ use Prim.Native.Nat.{ℕ, _+_, _*_, _<_, _≤_}
 use lib.IntN.{natAbs}
 use lib.ListN.{length, getElem?}
 use Rattle.value.specs.Range.{farthest, InRange}
+use Rattle.value.specs.Items.{oneItem, twoItems, threeItems}
 use Rattle.word.specs.Number.{unit}
 use Rattle.model.specs.Limits.{countLimit, definitionLimit, parameterLimit, localLimit, branchLimit}
-use Rattle.model.specs.Resolved.{Expr, constant, localAt, absolute, binary, Set, single, range, joined, Cond, compare, both, either, Scale, fixed, scaleLocal, Rate, plain, scaled, Channel, number, name, Action, wait, launch, kill, receive, bind, check, handSend, handReceive, handBind, Part, enter, call, Branch, Sum, Defined, Start, Model}
+use Rattle.model.specs.Resolved.{Expr, constant, localAt, absolute, binary, Set, single, range, joined, Cond, compare, both, either, Scale, fixed, scaleLocal, Rate, plain, scaled, Item, number, name, Channel, Action, wait, launch, kill, receive, bind, check, handSend, handReceive, handBind, Part, enter, call, Branch, Sum, Defined, Start, Model}
 
 -- each member of a list has it
 unfoldable pub Every : {A : Type 0} → (A → Type 0) → List A → Type 0
@@ -78,9 +79,14 @@ module _ (m : Model) where
   -- ---- actions
 
   -- 01, State: channel names by their numbers
+  unfoldable pub GoodItem : ℕ → Item → Type 0
+  GoodItem n (number e) = GoodExpr n e
+  GoodItem n (name k) = k < m .channels
+
   unfoldable pub GoodName : ℕ → Channel → Type 0
-  GoodName n (number e) = GoodExpr n e
-  GoodName n (name k) = k < m .channels
+  GoodName n (oneItem a) = GoodItem n a
+  GoodName n (twoItems a b) = GoodItem n a × GoodItem n b
+  GoodName n (threeItems a b c) = GoodItem n a × GoodItem n b × GoodItem n c
 
   -- 01, Actions: a channel with one or two values
   pub record GoodValues (n : ℕ) (c : Channel) (v : List Expr) : Type 0 where

@@ -6,6 +6,7 @@ use mathlib.Core.Option.{Option, none, some}
 use Prim.Native.Nat.{ℕ, suc}
 use lib.IntN.{ℤ, pos, _*ℤ_}
 use lib.ListN.{length}
+use Rattle.value.specs.Items.{Items, oneItem, twoItems, threeItems}
 use Rattle.word.specs.Number.{worth, unit}
 use Rattle.grammar.specs.Grammar.{Relation}
 use Rattle.grammar.specs.Syntax
@@ -42,10 +43,14 @@ pub data Rate : Type 0 where
   plain : Scale → Rate
   scaled : Scale → Expr → Rate
 
--- 01, Actions: an expression, or a channel name by its number
-pub data Channel : Type 0 where
-  number : Expr → Channel
-  name : ℕ → Channel
+-- 01, Actions: an item of a channel is an expression, or a channel name by its number
+pub data Item : Type 0 where
+  number : Expr → Item
+  name : ℕ → Item
+
+-- 02, note 7: a channel has one to three items
+abbrev pub Channel : Type 0
+Channel = Items Item
 
 pub data Action : Type 0 where
   wait : Action
@@ -103,11 +108,16 @@ isChannelName nothing = true
 
 -- w: the bytes of each token; vs: the variables
 module _ (w : ℕ → List ℕ) (vs : List Variable) where
-  unfoldable pub channelUse : Scope → Syntax.Expr → List ℕ
-  channelUse sc (Syntax.literal b k) = []
-  channelUse sc (Syntax.named k) = cond (isLone w k && isChannelName (meaning w vs sc k)) (k ∷ []) []
-  channelUse sc (Syntax.absolute e) = []
-  channelUse sc (Syntax.binary o e f) = []
+  unfoldable pub itemUse : Scope → Syntax.Expr → List ℕ
+  itemUse sc (Syntax.literal b k) = []
+  itemUse sc (Syntax.named k) = cond (isLone w k && isChannelName (meaning w vs sc k)) (k ∷ []) []
+  itemUse sc (Syntax.absolute e) = []
+  itemUse sc (Syntax.binary o e f) = []
+
+  unfoldable pub channelUse : Scope → Syntax.Channel → List ℕ
+  channelUse sc (Syntax.oneItem e) = itemUse sc e
+  channelUse sc (Syntax.twoItems e f) = itemUse sc e ++ itemUse sc f
+  channelUse sc (Syntax.threeItems e f g) = itemUse sc e ++ (itemUse sc f ++ itemUse sc g)
 
   unfoldable pub actionUse : Scope → Syntax.Action → List ℕ
   actionUse sc (Syntax.wait k) = []
@@ -236,14 +246,19 @@ module _ (w : ℕ → List ℕ) (vs : List Variable) (ds : List Definition) (cs 
     resolveRate (Syntax.scaled s e) = scaled (resolveScale s) (resolveExpr e)
 
     -- a name's number among the channel names, where it is one
-    unfoldable pub channelNamed : ℕ → Meaning → Channel
-    channelNamed k m = cond (isLone w k && isChannelName m) (name (orZero (placeIn w k 0 cs))) (number (valueNamed m))
+    unfoldable pub itemNamed : ℕ → Meaning → Item
+    itemNamed k m = cond (isLone w k && isChannelName m) (name (orZero (placeIn w k 0 cs))) (number (valueNamed m))
 
-    unfoldable pub resolveChannel : Syntax.Expr → Channel
-    resolveChannel (Syntax.literal b k) = number (resolveExpr (Syntax.literal b k))
-    resolveChannel (Syntax.named k) = channelNamed k (meaning w vs sc k)
-    resolveChannel (Syntax.absolute e) = number (resolveExpr (Syntax.absolute e))
-    resolveChannel (Syntax.binary o e f) = number (resolveExpr (Syntax.binary o e f))
+    unfoldable pub resolveItem : Syntax.Expr → Item
+    resolveItem (Syntax.literal b k) = number (resolveExpr (Syntax.literal b k))
+    resolveItem (Syntax.named k) = itemNamed k (meaning w vs sc k)
+    resolveItem (Syntax.absolute e) = number (resolveExpr (Syntax.absolute e))
+    resolveItem (Syntax.binary o e f) = number (resolveExpr (Syntax.binary o e f))
+
+    unfoldable pub resolveChannel : Syntax.Channel → Channel
+    resolveChannel (Syntax.oneItem e) = oneItem (resolveItem e)
+    resolveChannel (Syntax.twoItems e f) = twoItems (resolveItem e) (resolveItem f)
+    resolveChannel (Syntax.threeItems e f g) = threeItems (resolveItem e) (resolveItem f) (resolveItem g)
 
     unfoldable pub resolveValues : Syntax.Values → List Expr
     resolveValues (Syntax.oneValue e) = resolveExpr e ∷ []

@@ -67,16 +67,21 @@ unfoldable pub rateSites : Syntax.Rate → List Site
 rateSites (Syntax.plain s) = scaleSites s
 rateSites (Syntax.scaled s e) = scaleSites s ++ exprSites e
 
--- 01, Actions: a channel that is a lone name may be given or not; in brackets, which then end right after it, a name is used as a value
+-- 01, Actions: an item of a channel that is a lone name may be given or not; in brackets, which then end right after it, a name is used as a value
 -- (the tree of `(c)` is that of `c`; proofs/Lone.antt shows that this test tells them apart)
 unfoldable pub isLone : (ℕ → List ℕ) → ℕ → Bool
 isLone w k = not (sameBytes (w (k + 1)) (kind.closeRound ∷ []))
 
-unfoldable pub channelSites : (ℕ → List ℕ) → Syntax.Expr → List Site
-channelSites w (Syntax.literal b k) = exprSites (Syntax.literal b k)
-channelSites w (Syntax.named k) = cond (isLone w k) [] (value k ∷ [])
-channelSites w (Syntax.absolute e) = exprSites (Syntax.absolute e)
-channelSites w (Syntax.binary o e f) = exprSites (Syntax.binary o e f)
+unfoldable pub itemSites : (ℕ → List ℕ) → Syntax.Expr → List Site
+itemSites w (Syntax.literal b k) = exprSites (Syntax.literal b k)
+itemSites w (Syntax.named k) = cond (isLone w k) [] (value k ∷ [])
+itemSites w (Syntax.absolute e) = exprSites (Syntax.absolute e)
+itemSites w (Syntax.binary o e f) = exprSites (Syntax.binary o e f)
+
+unfoldable pub channelSites : (ℕ → List ℕ) → Syntax.Channel → List Site
+channelSites w (Syntax.oneItem e) = itemSites w e
+channelSites w (Syntax.twoItems e f) = itemSites w e ++ itemSites w f
+channelSites w (Syntax.threeItems e f g) = itemSites w e ++ (itemSites w f ++ itemSites w g)
 
 unfoldable pub valuesSites : Syntax.Values → List Site
 valuesSites (Syntax.oneValue e) = exprSites e

@@ -5,7 +5,7 @@ use mathlib.Core.Bool.{Bool, true, false, cond, not, _&&_}
 use mathlib.Core.Logic.{_⊎_, inl, inr, ⊎-elim}
 use Prim.Native.Nat.{ℕ, zero, suc, _+_, _-_, _*_, _≤_, _<_, min}
 use native.Mathlib.Omega.{arith}
-use borrow.Author.Tests.{eq-eqb, ne-eqb}
+use borrow.Author.Tests.{eq-eqb, ne-eqb, eqb-true, eqb-false}
 use lib.Dec.{eqb}
 use lib.ListN.{length, getD, drop, length-drop}
 use Rattle.token.specs.declared.Found.{Found}
@@ -16,12 +16,12 @@ use Rattle.grammar.specs.Syntax
 use Rattle.tree.specs.Node as node
 use Rattle.tree.specs.Node.{field, kindOf, tokenOf, leftOf, thirdOf, numberKind}
 use Rattle.tree.specs.Table
-use Rattle.tree.specs.Table.{Two}
+use Rattle.tree.specs.Table.{Two, Three}
 use Rattle.tree.proofs.Cells.{node-kind, node-token, node-left, node-third}
 use Rattle.tree.proofs.Interval.{kindAt, inside}
 use Rattle.tree.proofs.Holds.{expr-interval, set-interval, values-interval, sets-interval, rate-interval, action-interval}
 use Rattle.model.specs.Lists.{each, least, everyOther}
-use Rattle.model.specs.Sites.{Site, value, bound, branch, call, exprSites, exprsSites, channelSites, isLone, valuesSites, setsSites, countSets, tokensOf, actionSites, bindings, rateSites, countArgs, argsSites, variables, definitions}
+use Rattle.model.specs.Sites.{Site, value, bound, branch, call, exprSites, exprsSites, itemSites, channelSites, isLone, valuesSites, setsSites, countSets, tokensOf, actionSites, bindings, rateSites, countArgs, argsSites, variables, definitions}
 use Rattle.model.specs.Sites as sites
 use Rattle.model.specs.Limits.{localLimit, siteBeyond}
 use Rattle.names.specs.declared.Question.{Question}
@@ -56,8 +56,8 @@ module _ (t : List ℕ) where
   one-set (Syntax.oneSet s) lo k e h = refl
   one-set (Syntax.twoSets s r) lo k e h = absurd (e (node-kind (h .node) (omega arith)))
 
--- ---- channels
--- whether a channel's node is that of a lone name; the cases of `is_lone`
+-- ---- a channel's items
+-- whether an item's node is that of a lone name; the cases of `is_lone`
 abbrev pub loneAt : List ℕ → ℕ → Bool
 loneAt kinds c = eqb (kindOf c) node.named && not (eqb (getD kinds (tokenOf c + 1) 0) kind.closeRound)
 
@@ -77,26 +77,26 @@ op-small Syntax.maximum = (omega arith, omega arith)
 op-small Syntax.minimum = (omega arith, omega arith)
 
 module _ (t kinds : List ℕ) (w : ℕ → List ℕ) (closes : Closes kinds w) where
-  channel-is : (c : Syntax.Expr) (lo k : ℕ) → Table.Expr t c lo k → channelSites w c ≡ cond (loneAt kinds (getD t k 0)) [] (exprSites c)
-  unfolding Table.Expr channelSites exprSites isLone
-  channel-is (Syntax.literal false n) lo k h = simp (ne-eqb (kindAt t k) node.named (λ e. omega (arith, node-kind (h .node) (omega arith))))
-  channel-is (Syntax.literal true n) lo k h = simp (ne-eqb (kindAt t k) node.named (λ e. omega (arith, node-kind (h .node) (omega arith))))
-  channel-is (Syntax.named n) lo k h =
+  item-is : (c : Syntax.Expr) (lo k : ℕ) → Table.Expr t c lo k → itemSites w c ≡ cond (loneAt kinds (getD t k 0)) [] (exprSites c)
+  unfolding Table.Expr itemSites exprSites isLone
+  item-is (Syntax.literal false n) lo k h = simp (ne-eqb (kindAt t k) node.named (λ e. omega (arith, node-kind (h .node) (omega arith))))
+  item-is (Syntax.literal true n) lo k h = simp (ne-eqb (kindAt t k) node.named (λ e. omega (arith, node-kind (h .node) (omega arith))))
+  item-is (Syntax.named n) lo k h =
       simp (eq-eqb (kindAt t k) node.named (node-kind (h .node) (omega arith)))
       (rw (node-token (h .node) (omega arith), closes (n + 1)))
-  channel-is (Syntax.absolute e) lo k h = simp (ne-eqb (kindAt t k) node.named (λ e. omega (arith, node-kind (h .node) (omega arith))))
-  channel-is (Syntax.binary o e f) lo k h =
+  item-is (Syntax.absolute e) lo k h = simp (ne-eqb (kindAt t k) node.named (λ e. omega (arith, node-kind (h .node) (omega arith))))
+  item-is (Syntax.binary o e f) lo k h =
       simp (ne-eqb (kindAt t k) node.named (λ q. omega (arith, node-kind (h .node) (op-small o .0), op-small o .1)))
 
   module _ (f : Site → List ℕ) (c : Syntax.Expr) (lo k : ℕ) (h : Table.Expr t c lo k) (b : Bool) (is : b ≡ loneAt kinds (getD t k 0)) where
-    pub lone-none : b ≡ true → Nothing ≡ least (each f (channelSites w c))
+    pub lone-none : b ≡ true → Nothing ≡ least (each f (itemSites w c))
     unfolding each least
-    lone-none e = rw (channel-is c lo k h, ← is, e)
+    lone-none e = rw (item-is c lo k h, ← is, e)
 
-    pub not-lone : b ≡ false → (r : Found) → r ≡ least (each f (between t lo (k + 1 - lo))) → r ≡ least (each f (channelSites w c))
+    pub not-lone : b ≡ false → (r : Found) → r ≡ least (each f (between t lo (k + 1 - lo))) → r ≡ least (each f (itemSites w c))
     not-lone e r q =
         let l = expr-interval c .low h in
-        rw (channel-is c lo k h, ← is, e) (q ∙ ap (λ (xs : List Site). least (each f xs)) (expr-lies t c .leaves h (k + 1 - lo) (omega arith)))
+        rw (item-is c lo k h, ← is, e) (q ∙ ap (λ (xs : List Site). least (each f xs)) (expr-lies t c .leaves h (k + 1 - lo) (omega arith)))
 
 -- ---- what an action binds
 module _ (t : List ℕ) where
@@ -204,14 +204,14 @@ module _ {question : Question} {low high nodes : List ℕ} {lists : Lists} {scop
 module _ (t : List ℕ) where
   -- a channel, values or sets, and names that are bound
   pub record Acted (a : Syntax.Action) (from k : ℕ) : Type 0 where
-    pub channel : Syntax.Expr
+    pub channel : Syntax.Channel
     pub rest : List Site
-    pub holds : Table.Expr t channel from (leftAt t k)
+    pub holds : Table.Channel t channel from (leftAt t k)
     pub rest-are : between t (leftAt t k + 1) (k - (leftAt t k + 1)) ≡ rest
     pub sites : (w : ℕ → List ℕ) → actionSites w a ≡ channelSites w channel ++ rest ++ boundSites a
     pub below : leftAt t k + 1 < k
 
-  sending : {κ : ℕ} {from k : ℕ} (a : Syntax.Action) (c : Syntax.Expr) (v : Syntax.Values) → κ < 256 → ((w : ℕ → List ℕ) → actionSites w a ≡ channelSites w c ++ valuesSites v) → boundSites a ≡ [] → Two t κ 0 0 (Table.Expr t c) (Table.Values t v) from k → Acted a from k
+  sending : {κ : ℕ} {from k : ℕ} (a : Syntax.Action) (c : Syntax.Channel) (v : Syntax.Values) → κ < 256 → ((w : ℕ → List ℕ) → actionSites w a ≡ channelSites w c ++ valuesSites v) → boundSites a ≡ [] → Two t κ 0 0 (Table.Channel t c) (Table.Values t v) from k → Acted a from k
   sending {k = k} a c v l e n h =
       let p = two-parts t l h in
       let b = values-interval v .low (p .1) in
@@ -224,7 +224,7 @@ module _ (t : List ℕ) where
         below = omega (arith, p .2);
       }
 
-  asking : {κ n m : ℕ} {from k : ℕ} (a : Syntax.Action) (c : Syntax.Expr) (s : Syntax.Sets) → κ < 256 → ((w : ℕ → List ℕ) → actionSites w a ≡ channelSites w c ++ setsSites s ++ boundSites a) → Two t κ n m (Table.Expr t c) (Table.Sets t s) from k → Acted a from k
+  asking : {κ n m : ℕ} {from k : ℕ} (a : Syntax.Action) (c : Syntax.Channel) (s : Syntax.Sets) → κ < 256 → ((w : ℕ → List ℕ) → actionSites w a ≡ channelSites w c ++ setsSites s ++ boundSites a) → Two t κ n m (Table.Channel t c) (Table.Sets t s) from k → Acted a from k
   asking {k = k} a c s l e h =
       let p = two-parts t l h in
       let b = sets-interval s .low (p .1) in
@@ -290,9 +290,92 @@ module _ (w : ℕ → List ℕ) where
       let d = action-ends a in
       nothing-second (least (each f (d .0))) _ (sym (ap least (each-append [] f (d .0) (boundSites a)) ∙ least-append (each f (d .0)) (each f (boundSites a))) ∙ ap (λ (xs : List Site). least (each f xs)) (sym (d .1)) ∙ room e)
 
+-- ---- the cases of `channel_fault`
+two-each : (f : Site → List ℕ) (xs ys : List Site) → least (each f (xs ++ ys)) ≡ earlierOf (least (each f xs)) (least (each f ys))
+two-each f xs ys = ap least (each-append [] f xs ys) ∙ least-append (each f xs) (each f ys)
+
+module _ (t : List ℕ) where
+  three-parts : {κ token : ℕ} {P Q R : ℕ → ℕ → Type 0} {lo k : ℕ} → κ < 256 → Three t κ token P Q R lo k → P lo (leftAt t k) × Q (leftAt t k + 1) (thirdAt t k) × R (thirdAt t k + 1) (k - 1) × (0 < k)
+  three-parts {P = P} {Q = Q} {R = R} {lo = lo} {k = k} l h =
+      let e = node-left (h .node) l in
+      let d = node-third (h .node) l in
+      let u : k - 1 ≡ h .right = omega (arith, h .above) in
+      (rw e (h .holds-first), rw (e, d) (h .holds-second), rw (d, u) (h .holds-third), omega (arith, h .above))
+
+  pub record OneItem (c : Syntax.Channel) (from k : ℕ) : Type 0 where
+    pub item : Syntax.Expr
+    pub holds : Table.Expr t item from k
+    pub sites : (w : ℕ → List ℕ) → channelSites w c ≡ itemSites w item
+
+  pub record TwoItems (c : Syntax.Channel) (from k : ℕ) : Type 0 where
+    pub first : Syntax.Expr
+    pub last : Syntax.Expr
+    pub holds-first : Table.Expr t first from (leftAt t k)
+    pub holds-last : Table.Expr t last (leftAt t k + 1) (k - 1)
+    pub sites : (w : ℕ → List ℕ) → channelSites w c ≡ itemSites w first ++ itemSites w last
+    pub below : leftAt t k + 1 < k
+
+  pub record ThreeItems (c : Syntax.Channel) (from k : ℕ) : Type 0 where
+    pub first : Syntax.Expr
+    pub second : Syntax.Expr
+    pub last : Syntax.Expr
+    pub holds-first : Table.Expr t first from (leftAt t k)
+    pub holds-second : Table.Expr t second (leftAt t k + 1) (thirdAt t k)
+    pub holds-last : Table.Expr t last (thirdAt t k + 1) (k - 1)
+    pub sites : (w : ℕ → List ℕ) → channelSites w c ≡ itemSites w first ++ (itemSites w second ++ itemSites w last)
+    pub below : leftAt t k < thirdAt t k
+    pub above : thirdAt t k + 1 < k
+
+  pub one-item : (c : Syntax.Channel) (from k : ℕ) → kindAt t k < node.twoItems → Table.Channel t c from k → OneItem c from k
+  unfolding Table.Channel channelSites
+  one-item (Syntax.oneItem e) from k l h = record { item = e; holds = h; sites = λ w. refl }
+  one-item (Syntax.twoItems e f) from k l h = absurd (omega (arith, node-kind (h .node) (omega arith)))
+  one-item (Syntax.threeItems e f g) from k l h = absurd (omega (arith, node-kind (h .node) (omega arith)))
+
+  pub two-items : (c : Syntax.Channel) (from k : ℕ) → kindAt t k ≡ node.twoItems → Table.Channel t c from k → TwoItems c from k
+  unfolding Table.Channel channelSites
+  two-items (Syntax.oneItem e) from k l h = absurd (omega (arith, expr-interval e .to h))
+  two-items (Syntax.twoItems e f) from k l h =
+      let p = two-parts t (omega arith) h in
+      record { first = e; last = f; holds-first = p .0; holds-last = p .1; sites = λ w. refl; below = omega (arith, expr-interval f .low (p .1), p .2) }
+  two-items (Syntax.threeItems e f g) from k l h = absurd (omega (arith, node-kind (h .node) (omega arith)))
+
+  pub three-items : (c : Syntax.Channel) (from k : ℕ) → (kindAt t k < node.twoItems → ⊥) → (kindAt t k ≡ node.twoItems → ⊥) → Table.Channel t c from k → ThreeItems c from k
+  unfolding Table.Channel channelSites
+  three-items (Syntax.oneItem e) from k l n h = absurd (l (omega (arith, expr-interval e .to h)))
+  three-items (Syntax.twoItems e f) from k l n h = absurd (n (node-kind (h .node) (omega arith)))
+  three-items (Syntax.threeItems e f g) from k l n h =
+      let p = three-parts (omega arith) h in
+      record { first = e; second = f; last = g; holds-first = p .0; holds-second = p .1; holds-last = p .2; sites = λ w. refl; below = omega (arith, expr-interval f .low (p .1)); above = omega (arith, expr-interval g .low (p .2), p .3) }
+
+  pub more-items : (c : Syntax.Channel) (from k : ℕ) → (kindAt t k < node.twoItems → ⊥) → Table.Channel t c from k → leftAt t k + 1 < k
+  more-items c from k l h = by (eqb (kindAt t k) node.twoItems) refl
+    where
+      by : (b : Bool) → eqb (kindAt t k) node.twoItems ≡ b → leftAt t k + 1 < k
+      by true e = two-items c from k (eqb-true (kindAt t k) node.twoItems e) h .below
+      by false e = let x = three-items c from k l (eqb-false (kindAt t k) node.twoItems e) h in omega (arith, x .below, x .above)
+
+  -- by the fields that were read
+  pub two-hold : (c : Syntax.Channel) (from k : ℕ) (x : TwoItems c from k) (l : ℕ) → l ≡ leftAt t k → Table.Expr t (x .first) from l × Table.Expr t (x .last) (l + 1) (k - 1)
+  two-hold c from k x l e = rw e (x .holds-first, x .holds-last)
+
+  pub three-hold : (c : Syntax.Channel) (from k : ℕ) (x : ThreeItems c from k) (l m : ℕ) → l ≡ leftAt t k → m ≡ thirdAt t k → Table.Expr t (x .first) from l × Table.Expr t (x .second) (l + 1) m × Table.Expr t (x .last) (m + 1) (k - 1)
+  three-hold c from k x l m e d = rw (e, d) (x .holds-first, x .holds-second, x .holds-last)
+
+  module _ (w : ℕ → List ℕ) (f : Site → List ℕ) (c : Syntax.Channel) (from k : ℕ) where
+    pub one-judged : (x : OneItem c from k) (r : Found) → r ≡ least (each f (itemSites w (x .item))) → r ≡ least (each f (channelSites w c))
+    one-judged x r e = rw (x .sites w) e
+
+    pub two-judged : (x : TwoItems c from k) (a b r : Found) → a ≡ least (each f (itemSites w (x .first))) → b ≡ least (each f (itemSites w (x .last))) → r ≡ earlierOf a b → r ≡ least (each f (channelSites w c))
+    two-judged x a b r d e q = rw (x .sites w) (rw (q, d, e) (sym (two-each f (itemSites w (x .first)) (itemSites w (x .last)))))
+
+    pub three-judged : (x : ThreeItems c from k) (a b d y r : Found) → a ≡ least (each f (itemSites w (x .first))) → b ≡ least (each f (itemSites w (x .second))) → d ≡ least (each f (itemSites w (x .last))) → y ≡ earlierOf b d → r ≡ earlierOf a y → r ≡ least (each f (channelSites w c))
+    three-judged x a b d y r e g i q z =
+        rw (x .sites w) (rw (z, q, e, g, i) (sym (two-each f (itemSites w (x .first)) (itemSites w (x .second) ++ itemSites w (x .last)) ∙ ap (earlierOf (least (each f (itemSites w (x .first))))) (two-each f (itemSites w (x .second)) (itemSites w (x .last))))))
+
 -- ---- the cases of `action_fault`
 module _ (t : List ℕ) (w : ℕ → List ℕ) (a : Syntax.Action) (from k : ℕ) (h : Acted t a from k) where
-  pub channel-holds : (l : ℕ) → l ≡ leftAt t k → Table.Expr t (h .channel) from l
+  pub channel-holds : (l : ℕ) → l ≡ leftAt t k → Table.Channel t (h .channel) from l
   channel-holds l e = rw e (h .holds)
 
   pub action-judged : (f : Site → List ℕ) (l : ℕ) → l ≡ leftAt t k → (c v b x r : Found) → c ≡ least (each f (channelSites w (h .channel))) → v ≡ least (each f (between t (l + 1) (k - (l + 1)))) → b ≡ least (each f (boundSites a)) → x ≡ earlierOf v b → r ≡ earlierOf c x → r ≡ least (each f (actionSites w a))

@@ -11,10 +11,10 @@ use lib.Dec.{leb}
 use lib.ListN.{getD, drop}
 use Rattle.token.specs.Kind as kind
 use Rattle.grammar.specs.Grammar as derived
-use Rattle.grammar.specs.Grammar.{Relation, less, atMost, greater, atLeast, same, differs, Reads, flatWhole, flatNumber, flatExpr, flatTerms, flatTerm, flatFactors, flatAtom, flatExprs, flatArgs, flatPart, flatParts, flatSet, flatTest, flatAnds, flatOrs, flatCond, flatScale, flatRate, flatValues, flatSets, flatNames, flatAction, flatGate, flatPrefix, flatNext, flatCont, flatItem, flatItems, flatChoices, flatSums, flatBody, flatParams, flatWholes, flatStarts, flatStart, flatSystem, flatDefinitions, flatModel}
+use Rattle.grammar.specs.Grammar.{Relation, less, atMost, greater, atLeast, same, differs, Reads, flatWhole, flatNumber, flatExpr, flatTerms, flatTerm, flatFactors, flatAtom, flatExprs, flatArgs, flatPart, flatParts, flatSet, flatTest, flatAnds, flatOrs, flatCond, flatScale, flatRate, flatValues, flatSets, flatNames, flatChannel, flatAction, flatGate, flatPrefix, flatNext, flatCont, flatItem, flatItems, flatChoices, flatSums, flatBody, flatParams, flatWholes, flatStarts, flatStart, flatSystem, flatDefinitions, flatModel}
 use Rattle.grammar.specs.Syntax
-use Rattle.grammar.specs.Syntax.{Op, plus, minus, times, divide, maximum, minimum, Join, without, union, inter, wide, literalAt, numberAt, exprAt, termsAt, termAt, factorsAt, atomAt, exprsAt, argsAt, partAt, partsAt, setAt, testAt, andsAt, conjunctionAt, orsAt, condAt, scaleAt, rateAt, valuesAt, setsAt, countNames, namesAt, actionAt, gateAt, sumsPrefix, sumsItem, sumsChoices, sumsBody, branchAt, nextAt, contAt, itemAt, contsAt, branchesAt, sumAt, sumsAt, bodyAt, paramsAt, wholesAt, startsAt, startAt, systemAt, definitionsAt, modelAt, syntaxOf}
-use Rattle.grammar.proofs.Wide.{wide-whole, wide-number, wide-expr, wide-terms, wide-term, wide-factors, wide-atom, wide-exprs, wide-args, wide-part, wide-parts, wide-set, wide-test, wide-ands, wide-conjunction, wide-ors, wide-cond, wide-scale, wide-rate, wide-values, wide-sets, wide-names, wide-action, wide-gate, wide-prefix, wide-next, wide-cont, wide-item, wide-items, wide-choices, wide-sum, wide-body, wide-params, wide-wholes, wide-starts, wide-start, wide-system}
+use Rattle.grammar.specs.Syntax.{Op, plus, minus, times, divide, maximum, minimum, Join, without, union, inter, wide, literalAt, numberAt, exprAt, termsAt, termAt, factorsAt, atomAt, exprsAt, argsAt, partAt, partsAt, setAt, testAt, andsAt, conjunctionAt, orsAt, condAt, scaleAt, rateAt, valuesAt, setsAt, countNames, namesAt, channelAt, actionAt, gateAt, sumsPrefix, sumsItem, sumsChoices, sumsBody, branchAt, nextAt, contAt, itemAt, contsAt, branchesAt, sumAt, sumsAt, bodyAt, paramsAt, wholesAt, startsAt, startAt, systemAt, definitionsAt, modelAt, syntaxOf}
+use Rattle.grammar.proofs.Wide.{wide-whole, wide-number, wide-expr, wide-terms, wide-term, wide-factors, wide-atom, wide-exprs, wide-args, wide-part, wide-parts, wide-set, wide-test, wide-ands, wide-conjunction, wide-ors, wide-cond, wide-scale, wide-rate, wide-values, wide-sets, wide-names, wide-channel, wide-action, wide-gate, wide-prefix, wide-next, wide-cont, wide-item, wide-items, wide-choices, wide-sum, wide-body, wide-params, wide-wholes, wide-starts, wide-start, wide-system}
 use Rattle.tree.specs.Node as node
 use Rattle.tree.specs.Node.{opKind, joinKind, relationKind, testKind, numberKind}
 use Rattle.tree.specs.Table
@@ -289,19 +289,27 @@ module _ (ts t : List ℕ) where
       let d₁ = next-token ts k d in
       fit-plain node.pair 0 0 (omega arith) refl (set-fit s (k + 1) _ d₁) (set-fit r (k + 1 + wide (flatSet s) + 1) _ (next-token ts (k + 1 + wide (flatSet s)) (past ts (k + 1) _ (wide-set s) d₁)))
 
+  channel-fit : (c : derived.Channel) (k : ℕ) (us : List ℕ) → drop k ts ≡ flatChannel c us → Fit (Table.Channel t (channelAt c k))
+  unfolding flatChannel channelAt Table.Channel sortOf numberKind
+  channel-fit (derived.oneItem e) k us d = expr-fit e k us d
+  channel-fit (derived.twoItems e f) k us d = fit-plain node.twoItems 0 0 (omega arith) refl (expr-fit e k _ d) (second-fit _ e f k us d)
+  channel-fit (derived.threeItems e f g) k us d =
+      let d₁ = next-token ts (k + wide (flatExpr e)) (past ts k _ (wide-expr e) d) in
+      fit-three node.threeItems 0 (omega arith) refl (expr-fit e k _ d) (expr-fit f (k + wide (flatExpr e) + 1) _ d₁) (second-fit _ f g (k + wide (flatExpr e) + 1) us d₁)
+
   -- a channel, a sign, and values or sets
-  sending-fit : (a κ : ℕ) → κ < 256 → sortOf κ ≡ plain → (c : derived.Expr) (v : derived.Values) (k : ℕ) (us : List ℕ) → drop k ts ≡ flatExpr c (a ∷ flatValues v us) → Fit (Two t κ 0 0 (Table.Expr t (exprAt c k)) (Table.Values t (valuesAt v (k + wide (flatExpr c) + 1))))
-  sending-fit a κ l s c v k us d = fit-plain κ 0 0 l s (expr-fit c k _ d) (values-fit v (k + wide (flatExpr c) + 1) us (next-token ts (k + wide (flatExpr c)) (past ts k _ (wide-expr c) d)))
+  sending-fit : (a κ : ℕ) → κ < 256 → sortOf κ ≡ plain → (c : derived.Channel) (v : derived.Values) (k : ℕ) (us : List ℕ) → drop k ts ≡ flatChannel c (a ∷ flatValues v us) → Fit (Two t κ 0 0 (Table.Channel t (channelAt c k)) (Table.Values t (valuesAt v (k + wide (flatChannel c) + 1))))
+  sending-fit a κ l s c v k us d = fit-plain κ 0 0 l s (channel-fit c k _ d) (values-fit v (k + wide (flatChannel c) + 1) us (next-token ts (k + wide (flatChannel c)) (past ts k _ (wide-channel c) d)))
 
-  asking-fit : (a κ : ℕ) → κ < 256 → sortOf κ ≡ plain → (c : derived.Expr) (s : derived.Sets) (k : ℕ) (us : List ℕ) → drop k ts ≡ flatExpr c (a ∷ flatSets s us) → Fit (Two t κ 0 0 (Table.Expr t (exprAt c k)) (Table.Sets t (setsAt s (k + wide (flatExpr c) + 1))))
-  asking-fit a κ l s c x k us d = fit-plain κ 0 0 l s (expr-fit c k _ d) (sets-fit x (k + wide (flatExpr c) + 1) us (next-token ts (k + wide (flatExpr c)) (past ts k _ (wide-expr c) d)))
+  asking-fit : (a κ : ℕ) → κ < 256 → sortOf κ ≡ plain → (c : derived.Channel) (s : derived.Sets) (k : ℕ) (us : List ℕ) → drop k ts ≡ flatChannel c (a ∷ flatSets s us) → Fit (Two t κ 0 0 (Table.Channel t (channelAt c k)) (Table.Sets t (setsAt s (k + wide (flatChannel c) + 1))))
+  asking-fit a κ l s c x k us d = fit-plain κ 0 0 l s (channel-fit c k _ d) (sets-fit x (k + wide (flatChannel c) + 1) us (next-token ts (k + wide (flatChannel c)) (past ts k _ (wide-channel c) d)))
 
-  binding-fit : (a κ : ℕ) → κ < 256 → sortOf κ ≡ binds → (c : derived.Expr) (s : derived.Sets) (n : derived.Names) (k : ℕ) (us : List ℕ) → drop k ts ≡ flatExpr c (a ∷ flatSets s (kind.openRound ∷ flatNames n us)) → Fit (Two t κ (k + wide (flatExpr c) + 1 + wide (flatSets s) + 1) (countNames n) (Table.Expr t (exprAt c k)) (Table.Sets t (setsAt s (k + wide (flatExpr c) + 1))))
+  binding-fit : (a κ : ℕ) → κ < 256 → sortOf κ ≡ binds → (c : derived.Channel) (s : derived.Sets) (n : derived.Names) (k : ℕ) (us : List ℕ) → drop k ts ≡ flatChannel c (a ∷ flatSets s (kind.openRound ∷ flatNames n us)) → Fit (Two t κ (k + wide (flatChannel c) + 1 + wide (flatSets s) + 1) (countNames n) (Table.Channel t (channelAt c k)) (Table.Sets t (setsAt s (k + wide (flatChannel c) + 1))))
   unfolding SortFits
   binding-fit a κ l q c s n k us d =
-      let d₁ = next-token ts (k + wide (flatExpr c)) (past ts k _ (wide-expr c) d) in
-      let d₂ = next-token ts (k + wide (flatExpr c) + 1 + wide (flatSets s)) (past ts (k + wide (flatExpr c) + 1) _ (wide-sets s) d₁) in
-      fit-two κ (k + wide (flatExpr c) + 1 + wide (flatSets s) + 1) (countNames n) l (rw q (omega arith, some-names ts n, names-named ts n (k + wide (flatExpr c) + 1 + wide (flatSets s) + 1) us d₂)) (expr-fit c k _ d) (sets-fit s (k + wide (flatExpr c) + 1) _ d₁)
+      let d₁ = next-token ts (k + wide (flatChannel c)) (past ts k _ (wide-channel c) d) in
+      let d₂ = next-token ts (k + wide (flatChannel c) + 1 + wide (flatSets s)) (past ts (k + wide (flatChannel c) + 1) _ (wide-sets s) d₁) in
+      fit-two κ (k + wide (flatChannel c) + 1 + wide (flatSets s) + 1) (countNames n) l (rw q (omega arith, some-names ts n, names-named ts n (k + wide (flatChannel c) + 1 + wide (flatSets s) + 1) us d₂)) (channel-fit c k _ d) (sets-fit s (k + wide (flatChannel c) + 1) _ d₁)
 
   action-fit : (a : derived.Action) (k : ℕ) (us : List ℕ) → drop k ts ≡ flatAction a us → Fit (Table.Action t (actionAt a k))
   unfolding flatAction actionAt namesAt Table.Action sortOf SortFits numberKind

@@ -17,7 +17,7 @@ ghost use Rattle.grammar.specs.Syntax;
 ghost use Rattle.tree.specs.Node.{field, kindOf, tokenOf, leftOf, thirdOf, named, counted, countedWith};
 ghost use Rattle.tree.specs.Table;
 ghost use Rattle.model.specs.Lists.{least, when, each, any, everyOther};
-ghost use Rattle.model.specs.Sites.{branch, call, countSets, countArgs, argsSites, channelSites, actionSites, rateSites, names, variables, definitions, startsIn};
+ghost use Rattle.model.specs.Sites.{branch, call, countSets, countArgs, argsSites, itemSites, channelSites, actionSites, rateSites, names, variables, definitions, startsIn};
 ghost use Rattle.model.specs.Words.{same};
 ghost use Rattle.model.specs.Fresh.{repeated};
 ghost use Rattle.model.specs.Limits.{countLimit, localLimit};
@@ -38,7 +38,7 @@ fn set_count(nodes: &[u64], root: usize) -> usize
     1
 }
 
-// Whether a channel's node is a lone name: the token after a name in brackets is `)`.
+// Whether an item's node is a lone name: the token after a name in brackets is `)`.
 fn is_lone(kinds: &[u8], node: u64) -> bool
     ensures { λ r. ⌜ r ≡ (eqb (kindOf node) named && not (eqb (getD (now (kinds .entry)) (tokenOf node + 1) 0) kind.closeRound)) ⌝ }
 {
@@ -48,8 +48,8 @@ fn is_lone(kinds: &[u8], node: u64) -> bool
     token::peek(kinds, tree::token_of(node) + 1) != b')'
 }
 
-// The faults of a channel from the node `from` to its root; a lone name has none.
-fn channel_fault(
+// The faults of a channel's item from the node `from` to its root; a lone name has none.
+fn item_fault(
     question: Question,
     kinds: &[u8],
     low: &[u64],
@@ -61,12 +61,74 @@ fn channel_fault(
     root: usize,
 ) -> Found
     requires { ⌜ Place question (now kinds) (now low) (now high) (now nodes) lists scope × (root ≤ lists .root) ⌝ }
-    ensures { λ r. ⌜ ((h : Place question (now (kinds .entry)) (now (low .entry)) (now (high .entry)) (now (nodes .entry)) lists scope) (c : Syntax.Expr) → Table.Expr (now (nodes .entry)) c from root → r ≡ least (each (faultsAt (h .setting)) (channelSites (h .setting .world .word) c))) ⌝ }
+    ensures { λ r. ⌜ ((h : Place question (now (kinds .entry)) (now (low .entry)) (now (high .entry)) (now (nodes .entry)) lists scope) (c : Syntax.Expr) → Table.Expr (now (nodes .entry)) c from root → r ≡ least (each (faultsAt (h .setting)) (itemSites (h .setting .world .word) c))) ⌝ }
 {
     if is_lone(kinds, nodes[root]) {
         return Found::Nothing;
     }
     crate::leaves_fault(question, low, high, nodes, lists, scope, from, root + 1)
+}
+
+// The faults of a channel from the node `from` to its root.
+fn channel_fault(
+    question: Question,
+    kinds: &[u8],
+    low: &[u64],
+    high: &[u64],
+    nodes: &[u64],
+    lists: Lists,
+    scope: Scope,
+    from: usize,
+    root: usize,
+) -> Found
+    requires { ⌜ (Place question (now kinds) (now low) (now high) (now nodes) lists scope × (c : Syntax.Channel) × Table.Channel (now nodes) c from root) × (root ≤ lists .root) ⌝ }
+    ensures { λ r. ⌜ ((h : Place question (now (kinds .entry)) (now (low .entry)) (now (high .entry)) (now (nodes .entry)) lists scope) (c : Syntax.Channel) → Table.Channel (now (nodes .entry)) c from root → r ≡ least (each (faultsAt (h .setting)) (channelSites (h .setting .world .word) c))) ⌝ }
+{
+    let node = nodes[root];
+    let kind = tree::kind_of(node);
+    if kind < NodeKind::TWO_ITEMS {
+        return item_fault(question, kinds, low, high, nodes, lists, scope, from, root);
+    }
+    let left = tree::left_of(node);
+    let first = item_fault(question, kinds, low, high, nodes, lists, scope, from, left);
+    if kind == NodeKind::TWO_ITEMS {
+        let last = item_fault(
+            question,
+            kinds,
+            low,
+            high,
+            nodes,
+            lists,
+            scope,
+            left + 1,
+            root - 1,
+        );
+        return crate::earlier(first, last);
+    }
+    let mid = tree::third_of(node);
+    let second = item_fault(
+        question,
+        kinds,
+        low,
+        high,
+        nodes,
+        lists,
+        scope,
+        left + 1,
+        mid,
+    );
+    let last = item_fault(
+        question,
+        kinds,
+        low,
+        high,
+        nodes,
+        lists,
+        scope,
+        mid + 1,
+        root - 1,
+    );
+    crate::earlier(first, crate::earlier(second, last))
 }
 
 // The faults of the names that the action at this root binds.

@@ -2,29 +2,29 @@
 use Prim.Native.Nat.{ℕ, _+_, _*_, _/_, _%_, _<_}
 use mathlib.Core.Path.{_≡_, refl}
 use native.Mathlib.Omega.{arith}
-use Rattle.offers.specs.Head.{head, kindIn, channelKindIn, countIn, branchIn, placeIn, rateIn}
+use Rattle.offers.specs.Head.{head, kindIn, shapeIn, countIn, branchIn, placeIn, rateIn}
 
-module _ (kind channel count branch place rate : ℕ) (l₁ : kind < 64) (l₂ : channel < 2) (l₃ : count < 4) (l₄ : branch < 16) (l₅ : place < 256) where
-  pub head-kind : kindIn (head kind channel count branch place rate) ≡ kind
+module _ (kind shape count branch place rate : ℕ) (l₁ : kind < 64) (l₂ : shape < 32) (l₃ : count < 4) (l₄ : branch < 16) (l₅ : place < 256) where
+  pub head-kind : kindIn (head kind shape count branch place rate) ≡ kind
   unfolding kindIn head
   head-kind = omega arith
 
-  pub head-channel : channelKindIn (head kind channel count branch place rate) ≡ channel
-  unfolding channelKindIn head
-  head-channel = omega arith
+  pub head-shape : shapeIn (head kind shape count branch place rate) ≡ shape
+  unfolding shapeIn head
+  head-shape = omega arith
 
-  pub head-count : countIn (head kind channel count branch place rate) ≡ count
+  pub head-count : countIn (head kind shape count branch place rate) ≡ count
   unfolding countIn head
   head-count = omega arith
 
-  pub head-branch : branchIn (head kind channel count branch place rate) ≡ branch
+  pub head-branch : branchIn (head kind shape count branch place rate) ≡ branch
   unfolding branchIn head
   head-branch = omega arith
 
-  pub head-place : placeIn (head kind channel count branch place rate) ≡ place
+  pub head-place : placeIn (head kind shape count branch place rate) ≡ place
   unfolding placeIn head
   head-place = omega arith
 
-  pub head-rate : rateIn (head kind channel count branch place rate) ≡ rate
+  pub head-rate : rateIn (head kind shape count branch place rate) ≡ rate
   unfolding rateIn head
   head-rate = omega arith

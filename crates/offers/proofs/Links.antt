@@ -1,12 +1,14 @@
 -- One row more is linked, whether it is a handshake receive or not. By cases on the bucket.
-use Prim.Native.Nat.{ℕ, zero, suc, _+_, _*_, _%_, _≤_, _<_}
+use mir.Syntax.{w64}
+use mir.Val.{SFits}
+use Prim.Native.Nat.{ℕ, zero, suc, _+_, _-_, _*_, _%_, _≤_, _<_}
 use mathlib.Core.Path.{_≡_, refl, sym, ap, _∙_}
 use mathlib.Core.List.{List}
 use mathlib.Core.Bool.{Bool, true, false}
 use native.Mathlib.Omega.{arith}
-use borrow.Author.Tests.{eqb-true, eqb-false, ltb-true}
+use borrow.Author.Tests.{eqb-true, eqb-false, ltb-true, le-ltb}
 use lib.Dec.{eqb}
-use lib.IntN.{ℤ, pos, negsuc, natAbs}
+use lib.IntN.{ℤ, pos, negsuc, natAbs, _-ℤ_}
 use lib.Signed.{ltZ}
 use Rattle.value.proofs.Kit.{true-not-false}
 use lib.ListN.{length, getD, set, replicate, length-replicate, getD-replicate}
@@ -14,7 +16,7 @@ use Rattle.state.proofs.Mix.{mix, mix-up}
 use lib.Seq.{getD-set-same, getD-set-other}
 use Rattle.tree.specs.Node as node
 use Rattle.offers.specs.Head.{kindIn}
-use Rattle.offers.specs.Links.{rowWidth, bucketLimit, bucketOf, InBucket, Leads, Linked}
+use Rattle.offers.specs.Links.{rowWidth, bucketLimit, bucketPart, bucketOf, InBucket, Leads, Linked}
 
 module _ (hs : List ℕ) (os : List ℤ) (rows : ℕ) where
   -- no row from the number of rows on
@@ -87,18 +89,19 @@ module _ (hs : List ℕ) (os : List ℤ) (rows : ℕ) where
           apart z m = omega arith
 
 -- ---- buckets
-pub bucket-negative : (z : ℤ) → ltZ z (pos 0) ≡ true → bucketOf z ≡ 0
-unfolding bucketOf
-bucket-negative (pos n) e = absurd (never n e)
+-- what a negative number is turned into
+pub turned : (z : ℤ) → SFits w64 z → ltZ z (pos 0) ≡ true → (n : ℕ) × (negsuc 0 -ℤ z ≡ pos n) × (n < 9223372036854775808) × (bucketPart z ≡ n % bucketLimit)
+unfolding bucketPart
+turned (pos n) f e = absurd (never (ltb-true n 0 e))
   where
-    never : (n : ℕ) → ltZ (pos n) (pos 0) ≡ true → ⊥
-    never n e = let z : n < 0 = ltb-true n 0 e in omega arith
-bucket-negative (negsuc n) e = refl
+    never : n < 0 → ⊥
+    never h = omega arith
+turned (negsuc n) f e = (n, rw (le-ltb (suc n) 1 (omega arith)) (ap pos (omega arith)), omega (arith, f .sfits), refl)
 
-pub bucket-natural : (z : ℤ) → ltZ z (pos 0) ≡ false → bucketOf z ≡ natAbs z % bucketLimit
-unfolding bucketOf
-bucket-natural (pos n) e = refl
-bucket-natural (negsuc n) e = true-not-false e
+pub part-natural : (z : ℤ) → ltZ z (pos 0) ≡ false → bucketPart z ≡ natAbs z % bucketLimit
+unfolding bucketPart
+part-natural (pos n) e = refl
+part-natural (negsuc n) e = true-not-false e
 
 -- one more is filled
 pub fill-up : (s₀ s : List ℕ) (v i : ℕ) → i < length s₀ → s ≡ mix i (replicate (length s₀) v) s₀ → set s i v ≡ mix (i + 1) (replicate (length s₀) v) s₀

@@ -15,9 +15,12 @@ use Rattle.machine.specs.Evaluate.{rateLimit, evalBranch}
 use Rattle.machine.specs.Offer.{isNone}
 use Rattle.machine.proofs.Ranges.{GoodGuard, branch-good}
 use Rattle.eval.specs.declared.offer.Offer.{Offer}
+use Rattle.eval.specs.Channels.{ShowsChannel}
 use Rattle.eval.specs.Shown as shown
-use Rattle.eval.specs.Shown.{bareOffer, ShowsChannel, ShowsValues, ShowsSets, ShowsPair, ShowsQuery, ShowsAction, ShowsOffer}
+use Rattle.eval.specs.Shown.{bareOffer, ShowsValues, ShowsSets, ShowsPair, ShowsQuery, ShowsAction, ShowsOffer}
 use Rattle.offers.specs.declared.Walked.the-variants as walked
+use Rattle.eval.proofs.Shapes.{shape-bounds}
+use Rattle.offers.specs.Links.{rowWidth}
 use Rattle.offers.specs.Slots.{Slot, slotOf}
 use Rattle.offers.specs.Walk.{guardOr}
 use Rattle.offers.specs.Table.{headOf, written, Small, Holds}
@@ -26,9 +29,8 @@ use Rattle.offers.proofs.Numbered.{append-nil}
 use Rattle.offers.proofs.Rows.{holds-more}
 
 -- ---- the small numbers of an action's offer
-channel-small : {k : ℕ} {z : ℤ} {c : offers.Channel} → ShowsChannel k z c → k < 2
-channel-small (shown.number e f) = omega arith
-channel-small (shown.named e f) = omega arith
+channel-small : {k : ℕ} {a b c : ℤ} {x : offers.Channel} → ShowsChannel k a b c x → k < 32
+channel-small {x = x} h = omega (arith, h .shape-is, shape-bounds x .1)
 
 values-small : {n : ℕ} {a b c d : ℤ} {vs : List ℤ} → ShowsValues n a b c d vs → n < 4
 values-small (shown.ShowsValues.one e f g h i) = omega arith
@@ -38,11 +40,11 @@ sets-small : {t : List ℕ} {ls : List ℤ} {n : ℕ} {a b c d : ℤ} {xs : List
 sets-small (shown.ShowsSets.one e f g h) = omega arith
 sets-small (shown.ShowsSets.two e f g) = omega arith
 
--- an action's kind, and the bounds of its channel's kind and count
+-- an action's kind, and the bounds of its channel's shape and count
 pub record Kinds (r : Offer) : Type 0 where
   pub low : 36 ≤ r .kind
   pub high : r .kind ≤ 44
-  pub channel : r .«channel_kind» < 2
+  pub channel : r .shape < 32
   pub count : r .count < 4
 
 pair-kinds : {r : Offer} {x : offers.Pair} (k : ℕ) → r .kind ≡ k → 36 ≤ k → k ≤ 44 → ShowsPair r x → Kinds r
@@ -55,7 +57,7 @@ pub action-kinds : {t : List ℕ} {ls : List ℤ} {r : Offer} {a : offers.Action
 unfolding bareOffer
 action-kinds {r = r} (shown.wait e) =
     let k : r .kind ≡ 36 = ap (λ (o : Offer). o .kind) e in
-    let c : r .«channel_kind» ≡ 0 = ap (λ (o : Offer). o .«channel_kind») e in
+    let c : r .shape ≡ 0 = ap (λ (o : Offer). o .shape) e in
     let n : r .count ≡ 0 = ap (λ (o : Offer). o .count) e in
     record { low = omega arith; high = omega arith; channel = omega arith; count = omega arith }
 action-kinds (shown.launch e p) = pair-kinds 37 e (omega arith) (omega arith) p
@@ -104,7 +106,7 @@ module _ (t : List ℕ) (ls : List ℤ) (i j n : ℕ) (hs : List ℕ) (os : List
   one-hidden (some (offers.bare a m)) e (shown.bare s q) = absurd (omega (arith, action-kinds s .low))
   one-hidden (some (offers.opened a m)) e (shown.opened s q) = absurd (omega (arith, action-kinds s .low))
 
-  module _ (small : Small r) (pi : i < 256) (pj : j < 16) (lh : n < length hs) (lo : n * 5 + 5 ≤ length os) where
+  module _ (small : Small r) (pi : i < 256) (pj : j < 16) (lh : n < length hs) (lo : n * rowWidth + rowWidth ≤ length os) where
     one-more : (a : offers.Action) (m : ℕ) → ShowsAction t ls r a → r .rate ≡ m
         → Grows t ls i n hs os (set hs n (headOf i j r)) (written os n r) (record { place = i; branch = j; action = a; rate = m } ∷ []) (n + 1)
     one-more a m s q =

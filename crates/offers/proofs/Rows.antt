@@ -12,10 +12,11 @@ use Rattle.machine.proofs.Branches.{none-not-some}
 use Rattle.rules.specs.Offers as rules
 use Rattle.eval.specs.declared.offer.Offer.{Offer}
 use Rattle.eval.specs.Shown.{ShowsAction}
-use Rattle.offers.specs.Head.{head, kindIn, channelKindIn, countIn, branchIn, placeIn, rateIn}
+use Rattle.offers.specs.Head.{head, kindIn, shapeIn, countIn, branchIn, placeIn, rateIn}
 use Rattle.offers.specs.Slots.{Slot}
-use Rattle.offers.specs.Table.{offerIn, headOf, written, Small, Shown, Holds}
-use Rattle.offers.proofs.Head.{head-kind, head-channel, head-count, head-branch, head-place, head-rate}
+use Rattle.offers.specs.Table.{offerIn, headOf, writtenFrom, written, Small, Shown, Holds}
+use Rattle.offers.specs.Links.{rowWidth}
+use Rattle.offers.proofs.Head.{head-kind, head-shape, head-count, head-branch, head-place, head-rate}
 
 -- a member of a list with one more
 get-append : {A : Type 0} (xs : List A) (x : A) (k : ℕ) {y : A} → getElem? (xs ++ (x ∷ [])) k ≡ some y → ((k < length xs) × (getElem? xs k ≡ some y)) ⊎ ((k ≡ length xs) × (x ≡ y))
@@ -25,67 +26,50 @@ get-append (z ∷ xs) x zero e = inl (omega arith, e)
 get-append (z ∷ xs) x (suc k) e =
     ⊎-elim (λ h. inl (omega (arith, h .0), h .1)) (λ h. inr (ap suc (h .0), h .1)) (get-append xs x k e)
 
--- five numbers written at row n
+-- ---- numbers written one after the other
+-- the numbers before them
+written-other : (os : List ℤ) (at c : ℕ) (xs : List ℤ) (j : ℕ) → j < at + c → getD (writtenFrom os at c xs) j (pos 0) ≡ getD os j (pos 0)
+unfolding writtenFrom
+written-other os at c [] j l = refl
+written-other os at c (x ∷ xs) j l = written-other (set os (at + c) x) at (suc c) xs j (omega arith) ∙ getD-set-other os (at + c) j x (pos 0) (λ e. omega arith)
+
+-- and they themselves
+written-same : (os : List ℤ) (at c : ℕ) (xs : List ℤ) (i : ℕ) → i < length xs → at + c + length xs ≤ length os → getD (writtenFrom os at c xs) (at + (c + i)) (pos 0) ≡ getD xs i (pos 0)
+unfolding writtenFrom
+written-same os at c [] i l h = absurd (omega arith)
+written-same os at c (x ∷ xs) zero l h =
+    let e : at + (c + 0) ≡ at + c = omega arith in
+    ap (λ (j : ℕ). getD (writtenFrom (set os (at + c) x) at (suc c) xs) j (pos 0)) e
+    ∙ written-other (set os (at + c) x) at (suc c) xs (at + c) (omega arith) ∙ getD-set-same os (at + c) x (pos 0) (omega arith)
+written-same os at c (x ∷ xs) (suc i) l h =
+    let e : at + (c + suc i) ≡ at + (suc c + i) = omega arith in
+    ap (λ (j : ℕ). getD (writtenFrom (set os (at + c) x) at (suc c) xs) j (pos 0)) e
+    ∙ written-same (set os (at + c) x) at (suc c) xs i (omega arith) (omega (arith, length-set os (at + c) x))
+
+-- the numbers of an offer after the first
+abbrev numbersIn : Offer → List ℤ
+numbersIn r = r .first ∷ r .«first_end» ∷ r .second ∷ r .«second_end» ∷ r .channel2 ∷ r .channel3 ∷ []
+
+-- written at row n
 module _ (os : List ℤ) (n : ℕ) (r : Offer) where
-  -- after one, two, three and four of them
-  abbrev s₁ : List ℤ
-  s₁ = set os (n * 5) (r .channel)
-
-  abbrev s₂ : List ℤ
-  s₂ = set s₁ (n * 5 + 1) (r .first)
-
-  abbrev s₃ : List ℤ
-  s₃ = set s₂ (n * 5 + 2) (r .«first_end»)
-
-  abbrev s₄ : List ℤ
-  s₄ = set s₃ (n * 5 + 3) (r .second)
-
-  -- the numbers before them
-  pub written-before : (k c : ℕ) → k < n → c < 5 → getD (written os n r) (k * 5 + c) (pos 0) ≡ getD os (k * 5 + c) (pos 0)
+  pub written-before : (k c : ℕ) → k < n → c < rowWidth → getD (written os n r) (k * rowWidth + c) (pos 0) ≡ getD os (k * rowWidth + c) (pos 0)
   unfolding written
   written-before k c l m =
-      getD-set-other s₄ (n * 5 + 4) (k * 5 + c) (r .«second_end») (pos 0) (λ e. omega arith)
-      ∙ getD-set-other s₃ (n * 5 + 3) (k * 5 + c) (r .second) (pos 0) (λ e. omega arith)
-      ∙ getD-set-other s₂ (n * 5 + 2) (k * 5 + c) (r .«first_end») (pos 0) (λ e. omega arith)
-      ∙ getD-set-other s₁ (n * 5 + 1) (k * 5 + c) (r .first) (pos 0) (λ e. omega arith)
-      ∙ getD-set-other os (n * 5) (k * 5 + c) (r .channel) (pos 0) (λ e. omega arith)
+      written-other (set os (n * rowWidth) (r .channel)) (n * rowWidth) 1 (numbersIn r) (k * rowWidth + c) (omega arith)
+      ∙ getD-set-other os (n * rowWidth) (k * rowWidth + c) (r .channel) (pos 0) (λ e. omega arith)
 
-  module _ (room : n * 5 + 5 ≤ length os) where
-    written-0 : getD (written os n r) (n * 5) (pos 0) ≡ r .channel
+  module _ (room : n * rowWidth + rowWidth ≤ length os) where
+    written-first : getD (written os n r) (n * rowWidth) (pos 0) ≡ r .channel
     unfolding written
-    written-0 =
-        getD-set-other s₄ (n * 5 + 4) (n * 5) (r .«second_end») (pos 0) (λ e. omega arith)
-        ∙ getD-set-other s₃ (n * 5 + 3) (n * 5) (r .second) (pos 0) (λ e. omega arith)
-        ∙ getD-set-other s₂ (n * 5 + 2) (n * 5) (r .«first_end») (pos 0) (λ e. omega arith)
-        ∙ getD-set-other s₁ (n * 5 + 1) (n * 5) (r .first) (pos 0) (λ e. omega arith)
-        ∙ getD-set-same os (n * 5) (r .channel) (pos 0) (omega arith)
+    written-first =
+        written-other (set os (n * rowWidth) (r .channel)) (n * rowWidth) 1 (numbersIn r) (n * rowWidth) (omega arith)
+        ∙ getD-set-same os (n * rowWidth) (r .channel) (pos 0) (omega arith)
 
-    written-1 : getD (written os n r) (n * 5 + 1) (pos 0) ≡ r .first
+    written-at : (i : ℕ) → i < 6 → getD (written os n r) (n * rowWidth + (1 + i)) (pos 0) ≡ getD (numbersIn r) i (pos 0)
     unfolding written
-    written-1 =
-        getD-set-other s₄ (n * 5 + 4) (n * 5 + 1) (r .«second_end») (pos 0) (λ e. omega arith)
-        ∙ getD-set-other s₃ (n * 5 + 3) (n * 5 + 1) (r .second) (pos 0) (λ e. omega arith)
-        ∙ getD-set-other s₂ (n * 5 + 2) (n * 5 + 1) (r .«first_end») (pos 0) (λ e. omega arith)
-        ∙ getD-set-same s₁ (n * 5 + 1) (r .first) (pos 0) (simp length-set (omega arith))
+    written-at i l = written-same (set os (n * rowWidth) (r .channel)) (n * rowWidth) 1 (numbersIn r) i l (omega (arith, length-set os (n * rowWidth) (r .channel)))
 
-    written-2 : getD (written os n r) (n * 5 + 2) (pos 0) ≡ r .«first_end»
-    unfolding written
-    written-2 =
-        getD-set-other s₄ (n * 5 + 4) (n * 5 + 2) (r .«second_end») (pos 0) (λ e. omega arith)
-        ∙ getD-set-other s₃ (n * 5 + 3) (n * 5 + 2) (r .second) (pos 0) (λ e. omega arith)
-        ∙ getD-set-same s₂ (n * 5 + 2) (r .«first_end») (pos 0) (simp length-set (omega arith))
-
-    written-3 : getD (written os n r) (n * 5 + 3) (pos 0) ≡ r .second
-    unfolding written
-    written-3 =
-        getD-set-other s₄ (n * 5 + 4) (n * 5 + 3) (r .«second_end») (pos 0) (λ e. omega arith)
-        ∙ getD-set-same s₃ (n * 5 + 3) (r .second) (pos 0) (simp length-set (omega arith))
-
-    written-4 : getD (written os n r) (n * 5 + 4) (pos 0) ≡ r .«second_end»
-    unfolding written
-    written-4 = getD-set-same s₄ (n * 5 + 4) (r .«second_end») (pos 0) (simp length-set (omega arith))
-
-module _ (hs : List ℕ) (os : List ℤ) (n i j : ℕ) (r : Offer) (small : Small r) (pi : i < 256) (pj : j < 16) (lh : n < length hs) (lo : n * 5 + 5 ≤ length os) where
+module _ (hs : List ℕ) (os : List ℤ) (n i j : ℕ) (r : Offer) (small : Small r) (pi : i < 256) (pj : j < 16) (lh : n < length hs) (lo : n * rowWidth + rowWidth ≤ length os) where
   abbrev hs′ : List ℕ
   hs′ = set hs n (headOf i j r)
 
@@ -101,15 +85,17 @@ module _ (hs : List ℕ) (os : List ℤ) (n i j : ℕ) (r : Offer) (small : Smal
   read-back =
       rw (
         here,
-        head-kind (r .kind) (r .«channel_kind») (r .count) j i (r .rate) (small .kind) (small .channel) (small .count) pj pi,
-        head-channel (r .kind) (r .«channel_kind») (r .count) j i (r .rate) (small .kind) (small .channel) (small .count) pj pi,
-        head-count (r .kind) (r .«channel_kind») (r .count) j i (r .rate) (small .kind) (small .channel) (small .count) pj pi,
-        head-rate (r .kind) (r .«channel_kind») (r .count) j i (r .rate) (small .kind) (small .channel) (small .count) pj pi,
-        written-0 os n r lo,
-        written-1 os n r lo,
-        written-2 os n r lo,
-        written-3 os n r lo,
-        written-4 os n r lo,
+        head-kind (r .kind) (r .shape) (r .count) j i (r .rate) (small .kind) (small .channel) (small .count) pj pi,
+        head-shape (r .kind) (r .shape) (r .count) j i (r .rate) (small .kind) (small .channel) (small .count) pj pi,
+        head-count (r .kind) (r .shape) (r .count) j i (r .rate) (small .kind) (small .channel) (small .count) pj pi,
+        head-rate (r .kind) (r .shape) (r .count) j i (r .rate) (small .kind) (small .channel) (small .count) pj pi,
+        written-first os n r lo,
+        written-at os n r lo 0 (omega arith),
+        written-at os n r lo 1 (omega arith),
+        written-at os n r lo 2 (omega arith),
+        written-at os n r lo 3 (omega arith),
+        written-at os n r lo 4 (omega arith),
+        written-at os n r lo 5 (omega arith),
       )
 
   -- the rows before it stay
@@ -117,7 +103,7 @@ module _ (hs : List ℕ) (os : List ℤ) (n i j : ℕ) (r : Offer) (small : Smal
   unfolding offerIn
   read-before k l =
       let e : getD hs′ k 0 ≡ getD hs k 0 = getD-set-other hs n k (headOf i j r) 0 (λ q. omega arith) in
-      let z : k * 5 + 0 ≡ k * 5 = omega arith in (
+      let z : k * rowWidth + 0 ≡ k * rowWidth = omega arith in (
         e,
         rw (
           e,
@@ -126,6 +112,8 @@ module _ (hs : List ℕ) (os : List ℤ) (n i j : ℕ) (r : Offer) (small : Smal
           written-before os n r k 2 l (omega arith),
           written-before os n r k 3 l (omega arith),
           written-before os n r k 4 l (omega arith),
+          written-before os n r k 5 l (omega arith),
+          written-before os n r k 6 l (omega arith),
         ),
       )
 
@@ -152,9 +140,9 @@ module _ (hs : List ℕ) (os : List ℤ) (n i j : ℕ) (r : Offer) (small : Smal
       new : Shown t ls hs′ os′ n (record { place = i; branch = j; action = a; rate = r .rate })
       new =
           record {
-            place-is = ap placeIn here ∙ head-place (r .kind) (r .«channel_kind») (r .count) j i (r .rate) (small .kind) (small .channel) (small .count) pj pi;
-            branch-is = ap branchIn here ∙ head-branch (r .kind) (r .«channel_kind») (r .count) j i (r .rate) (small .kind) (small .channel) (small .count) pj pi;
-            rate-is = ap rateIn here ∙ head-rate (r .kind) (r .«channel_kind») (r .count) j i (r .rate) (small .kind) (small .channel) (small .count) pj pi;
+            place-is = ap placeIn here ∙ head-place (r .kind) (r .shape) (r .count) j i (r .rate) (small .kind) (small .channel) (small .count) pj pi;
+            branch-is = ap branchIn here ∙ head-branch (r .kind) (r .shape) (r .count) j i (r .rate) (small .kind) (small .channel) (small .count) pj pi;
+            rate-is = ap rateIn here ∙ head-rate (r .kind) (r .shape) (r .count) j i (r .rate) (small .kind) (small .channel) (small .count) pj pi;
             rate-fits = small .rate;
             shows = rw read-back sh;
           }
@@ -163,16 +151,17 @@ module _ (hs : List ℕ) (os : List ℤ) (n i j : ℕ) (r : Offer) (small : Smal
       last k y e q = let z : k ≡ n = e ∙ len in rw z (rw (← q) new)
 
 -- an offer read from a row
-pub offer-is : (hs : List ℕ) (os : List ℤ) (k kind : ℕ) (c a a′ b b′ : ℤ) → kind ≡ kindIn (getD hs k 0) → c ≡ getD os (k * 5) (pos 0)
-    → a ≡ getD os (k * 5 + 1) (pos 0) → a′ ≡ getD os (k * 5 + 2) (pos 0) → b ≡ getD os (k * 5 + 3) (pos 0) → b′ ≡ getD os (k * 5 + 4) (pos 0)
-    → _≡_ {A = Offer} (record { kind = kind; rate = getD hs k 0 / 512 / 16 / 256; «channel_kind» = getD hs k 0 / 64 % 2; channel = c; count = getD hs k 0 / 64 / 2 % 4; first = a; «first_end» = a′; second = b; «second_end» = b′ }) (offerIn hs os k)
-unfolding offerIn rateIn channelKindIn countIn
-offer-is hs os k kind c a a′ b b′ e₀ e₁ e₂ e₃ e₄ e₅ =
+pub offer-is : (hs : List ℕ) (os : List ℤ) (k kind : ℕ) (c a a′ b b′ c₂ c₃ : ℤ) → kind ≡ kindIn (getD hs k 0) → c ≡ getD os (k * rowWidth) (pos 0)
+    → a ≡ getD os (k * rowWidth + 1) (pos 0) → a′ ≡ getD os (k * rowWidth + 2) (pos 0) → b ≡ getD os (k * rowWidth + 3) (pos 0) → b′ ≡ getD os (k * rowWidth + 4) (pos 0)
+    → c₂ ≡ getD os (k * rowWidth + 5) (pos 0) → c₃ ≡ getD os (k * rowWidth + 6) (pos 0)
+    → _≡_ {A = Offer} (record { kind = kind; rate = getD hs k 0 / 8192 / 16 / 256; shape = getD hs k 0 / 64 % 32; channel = c; count = getD hs k 0 / 64 / 32 % 4; first = a; «first_end» = a′; second = b; «second_end» = b′; channel2 = c₂; channel3 = c₃ }) (offerIn hs os k)
+unfolding offerIn rateIn shapeIn countIn
+offer-is hs os k kind c a a′ b b′ c₂ c₃ e₀ e₁ e₂ e₃ e₄ e₅ e₆ e₇ =
     let h = getD hs k 0 in
-    let r : h / 512 / 16 / 256 ≡ h / 2097152 = omega arith in
-    let n : h / 64 / 2 % 4 ≡ h / 128 % 4 = omega arith in
-    rw (e₀, e₁, e₂, e₃, e₄, e₅, r, n)
+    let r : h / 8192 / 16 / 256 ≡ h / 33554432 = omega arith in
+    let n : h / 64 / 32 % 4 ≡ h / 2048 % 4 = omega arith in
+    rw (e₀, e₁, e₂, e₃, e₄, e₅, e₆, e₇, r, n)
 
-pub head-is : (kind channel count j i rate : ℕ) → kind + 64 * (channel + 2 * count) + 512 * (j + 16 * (i + 256 * rate)) ≡ head kind channel count j i rate
+pub head-is : (kind shape count j i rate : ℕ) → kind + 64 * (shape + 32 * count) + 8192 * (j + 16 * (i + 256 * rate)) ≡ head kind shape count j i rate
 unfolding head
-head-is kind channel count j i rate = omega arith
+head-is kind shape count j i rate = omega arith

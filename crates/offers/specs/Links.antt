@@ -1,7 +1,7 @@
 -- Handshake receives by the bucket of their channel: the first of each bucket, and after each the next. Assumes nothing: these are definitions.
 use mathlib.Core.Path.{_≡_}
 use mathlib.Core.List.{List}
-use Prim.Native.Nat.{ℕ, suc, _*_, _%_, _≤_, _<_}
+use Prim.Native.Nat.{ℕ, suc, _+_, _*_, _%_, _≤_, _<_}
 use lib.IntN.{ℤ, pos, negsuc}
 use lib.ListN.{getD}
 use Rattle.tree.specs.Node as node
@@ -11,23 +11,27 @@ use Rattle.offers.specs.Head.{kindIn}
 abbrev pub rowLimit : ℕ
 rowLimit = 4096
 
--- how many numbers of a row stand beside its head: channel, first, its end, second, its end
+-- how many numbers of a row stand beside its head: the channel's first item, first, its end, second, its end, the other two items
 abbrev pub rowWidth : ℕ
-rowWidth = 5
+rowWidth = 7
 
 abbrev pub bucketLimit : ℕ
 bucketLimit = 256
 
--- the bucket of a channel's number
-unfoldable pub bucketOf : ℤ → ℕ
-bucketOf (pos n) = n % bucketLimit
-bucketOf (negsuc n) = 0
+-- what an item's value adds to its channel's bucket
+unfoldable pub bucketPart : ℤ → ℕ
+bucketPart (pos n) = n % bucketLimit
+bucketPart (negsuc n) = n % bucketLimit
+
+-- the bucket of a channel by the values of its items
+unfoldable pub bucketOf : ℤ → ℤ → ℤ → ℕ
+bucketOf a b c = (bucketPart a + 5 * bucketPart b + 25 * bucketPart c) % bucketLimit
 
 module _ (hs : List ℕ) (os : List ℤ) where
   -- row q is a handshake receive, and its channel is in bucket h
   pub record InBucket (h q : ℕ) : Type 0 where
     pub receives : node.handReceive ≤ kindIn (getD hs q 0)
-    pub bucket : bucketOf (getD os (q * rowWidth) (pos 0)) ≡ h
+    pub bucket : bucketOf (getD os (q * rowWidth) (pos 0)) (getD os (q * rowWidth + 5) (pos 0)) (getD os (q * rowWidth + 6) (pos 0)) ≡ h
 
   module _ (rows : ℕ) where
     -- of the rows from a on, b is the first in bucket h; there is none if b is the number of rows

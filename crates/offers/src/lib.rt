@@ -22,7 +22,7 @@ ghost use Rattle.eval.specs.Held.{Held};
 ghost use Rattle.offers.specs.Head.{kindIn, placeIn, branchIn, rateIn};
 ghost use Rattle.offers.specs.Table.{offerIn, headOf, written, localsOf, Small};
 ghost use Rattle.offers.specs.Collect as Collect;
-ghost use Rattle.offers.specs.Links.{rowLimit, rowWidth, bucketLimit, bucketOf, Linked};
+ghost use Rattle.offers.specs.Links.{rowLimit, rowWidth, bucketLimit, bucketPart, bucketOf, Linked};
 
 pub struct Table;
 
@@ -30,21 +30,21 @@ impl Table {
     // Rows: 256 processes of 16 branches.
     pub const ROWS: usize = 4096;
 
-    // Numbers of a row beside its head: channel, first, its end, second, its end.
-    pub const NUMBERS: usize = 5;
+    // Numbers of a row beside its head: the channel's first item, first, its end, second, its end, the other two items.
+    pub const NUMBERS: usize = 7;
 
     pub const BUCKETS: usize = 256;
 }
 
-// A head has the kind below KINDS, the channel's kind below CHANNEL_KINDS, the count of values or sets below COUNTS, these three together below SMALL, then
-// branch, place and rate.
+// A head has the kind below KINDS, the channel's shape below SHAPES, the count of values or sets below COUNTS, these three together below SMALL, then branch,
+// place and rate.
 const KINDS: u64 = 64;
 
-const CHANNEL_KINDS: u64 = 2;
+const SHAPES: u64 = 32;
 
 const COUNTS: u64 = 4;
 
-const SMALL: u64 = 512;
+const SMALL: u64 = 8192;
 
 const BRANCHES: u64 = 16;
 
@@ -57,14 +57,24 @@ pub fn kind_in(head: u64) -> u8
     (head % KINDS) as u8
 }
 
-// The bucket of a channel's number.
-pub fn bucket_of(channel: i64) -> usize
-    ensures { λ r. ⌜ (r ≡ bucketOf channel) × (r < bucketLimit) ⌝ }
+// What an item's value adds to its channel's bucket.
+fn bucket_part(z: i64) -> usize
+    ensures { λ r. ⌜ (r ≡ bucketPart z) × (r < bucketLimit) ⌝ }
 {
-    if channel < 0 {
-        return 0;
+    if z < 0 {
+        return (-1 - z) as usize % Table::BUCKETS;
     }
-    channel as usize % Table::BUCKETS
+    z as usize % Table::BUCKETS
+}
+
+// The bucket of a channel by the values of its items.
+pub fn bucket_of(first: i64, second: i64, third: i64) -> usize
+    ensures { λ r. ⌜ (r ≡ bucketOf first second third) × (r < bucketLimit) ⌝ }
+{
+    let a = bucket_part(first);
+    let b = bucket_part(second);
+    let c = bucket_part(third);
+    (a + 5 * b + 25 * c) % Table::BUCKETS
 }
 
 // Links a row to the first of its bucket so far, if it is a handshake receive, and makes it the first.
@@ -76,7 +86,8 @@ fn link_row(heads: &[u64], numbers: &[i64], row: usize, firsts: &mut [u16], next
     if kind < NodeKind::HAND_RECEIVE {
         return;
     }
-    let bucket = bucket_of(numbers[row * Table::NUMBERS]);
+    let at = row * Table::NUMBERS;
+    let bucket = bucket_of(numbers[at], numbers[at + 5], numbers[at + 6]);
     nexts[row] = firsts[bucket];
     firsts[bucket] = row as u16;
 }
@@ -117,7 +128,7 @@ fn put_offer(
     requires { ⌜ (length (now heads) ≡ rowLimit) × (length (now numbers) ≡ rowLimit * rowWidth) × (row < rowLimit) × (place < processLimit) × (branch < branchLimit) × (Small o) ⌝ }
     ensures { λ _. ⌜ (now (heads .exit) ≡ set (now (heads .entry)) row (headOf place branch o)) × (now (numbers .exit) ≡ written (now (numbers .entry)) row o) ⌝ }
 {
-    let small = o.kind as u64 + KINDS * (o.channel_kind as u64 + CHANNEL_KINDS * o.count as u64);
+    let small = o.kind as u64 + KINDS * (o.shape as u64 + SHAPES * o.count as u64);
     heads[row] = small + SMALL * (branch as u64 + BRANCHES * (place as u64 + PLACES * o.rate));
     let at = row * Table::NUMBERS;
     let channel = o.channel;
@@ -125,11 +136,15 @@ fn put_offer(
     let first_end = o.first_end;
     let second = o.second;
     let second_end = o.second_end;
+    let channel2 = o.channel2;
+    let channel3 = o.channel3;
     numbers[at] = channel;
     numbers[at + 1] = first;
     numbers[at + 2] = first_end;
     numbers[at + 3] = second;
     numbers[at + 4] = second_end;
+    numbers[at + 5] = channel2;
+    numbers[at + 6] = channel3;
 }
 
 // The offer in a row.
@@ -142,13 +157,15 @@ pub fn offer_at(heads: &[u64], numbers: &[i64], row: usize) -> Offer
     Offer {
         kind: kind_in(head),
         rate: head / SMALL / BRANCHES / PLACES,
-        channel_kind: (head / KINDS % CHANNEL_KINDS) as u8,
+        shape: (head / KINDS % SHAPES) as u8,
         channel: numbers[at],
-        count: (head / KINDS / CHANNEL_KINDS % COUNTS) as usize,
+        count: (head / KINDS / SHAPES % COUNTS) as usize,
         first: numbers[at + 1],
         first_end: numbers[at + 2],
         second: numbers[at + 3],
         second_end: numbers[at + 4],
+        channel2: numbers[at + 5],
+        channel3: numbers[at + 6],
     }
 }
 

@@ -1,21 +1,43 @@
 -- The order of pairs is a strict total order: a pair is told by its numbers, and their order is one.
 use mathlib.Core.Path.{_≡_, refl, sym, ap, ap₂, _∙_}
 use mathlib.Core.Bool.{Bool, true, false}
-use mathlib.Core.List.{List, _∷_}
+use mathlib.Core.List.{List, _∷_, tail-eq-of-cons-eq}
 use Prim.Native.Nat.{ℕ}
 use native.Mathlib.Omega.{arith}
 use lib.IntN.{ℤ}
+use Rattle.value.specs.Items.{oneItem, twoItems, threeItems}
 use Rattle.value.proofs.Kit.{true-not-false}
-use Rattle.rules.specs.Offers.{Channel, number, named, Pair}
-use Rattle.rules.specs.Pairs.{channelNumbers, numbers, before, Before}
+use Rattle.rules.specs.Offers.{Item, number, named, Channel, Pair}
+use Rattle.rules.specs.Pairs.{itemKind, itemValue, itemNumbers, channelNumbers, numbers, before, Before}
 use Rattle.rules.proofs.Less.{less-irreflexive, less-trans, less-equal}
 
-channel-told : (c d : Channel) (k l : ℤ) (us vs : List ℤ) → channelNumbers c (k ∷ us) ≡ channelNumbers d (l ∷ vs) → (c ≡ d) × (us ≡ vs)
+item-told : (c d : Item) (us vs : List ℤ) → itemNumbers c us ≡ itemNumbers d vs → (c ≡ d) × (us ≡ vs)
+unfolding itemNumbers itemKind itemValue
+item-told (number x) (number y) us vs e = let p : x ≡ y = cc in (ap number p, cc)
+item-told (number x) (named n) us vs e = let z : _≡_ {A = ℕ} 0 1 = cc in absurd (omega arith)
+item-told (named m) (number y) us vs e = let z : _≡_ {A = ℕ} 0 1 = cc in absurd (omega arith)
+item-told (named m) (named n) us vs e = let p : m ≡ n = cc in (ap named p, cc)
+
+pub channel-told : (c d : Channel) (k l : ℤ) (us vs : List ℤ) → channelNumbers c (k ∷ us) ≡ channelNumbers d (l ∷ vs) → (c ≡ d) × (us ≡ vs)
 unfolding channelNumbers
-channel-told (number x) (number y) k l us vs e = let p : x ≡ y = cc in (ap number p, cc)
-channel-told (number x) (named n) k l us vs e = let z : _≡_ {A = ℕ} 0 1 = cc in absurd (omega arith)
-channel-told (named m) (number y) k l us vs e = let z : _≡_ {A = ℕ} 0 1 = cc in absurd (omega arith)
-channel-told (named m) (named n) k l us vs e = let p : m ≡ n = cc in (ap named p, cc)
+channel-told (oneItem a) (oneItem d) k l us vs q = let p = item-told a d _ _ (tail-eq-of-cons-eq q) in let r = p .1 in (ap oneItem (p .0), cc)
+channel-told (twoItems a b) (twoItems d e) k l us vs q =
+    let p = item-told a d _ _ (tail-eq-of-cons-eq q) in
+    let r = item-told b e _ _ (p .1) in
+    let s = r .1 in
+    (ap₂ twoItems (p .0) (r .0), cc)
+channel-told (threeItems a b c) (threeItems d e f) k l us vs q =
+    let p = item-told a d _ _ (tail-eq-of-cons-eq q) in
+    let r = item-told b e _ _ (p .1) in
+    let s = item-told c f _ _ (r .1) in
+    let u = s .1 in
+    (ap₂ (λ (x : Item) (y : Item × Item). threeItems x (y .0) (y .1)) (p .0) (ap₂ (λ (x y : Item). (x, y)) (r .0) (s .0)), cc)
+channel-told (oneItem a) (twoItems d e) k l us vs q = let z : _≡_ {A = ℕ} 1 2 = cc in absurd (omega arith)
+channel-told (oneItem a) (threeItems d e f) k l us vs q = let z : _≡_ {A = ℕ} 1 3 = cc in absurd (omega arith)
+channel-told (twoItems a b) (oneItem d) k l us vs q = let z : _≡_ {A = ℕ} 2 1 = cc in absurd (omega arith)
+channel-told (twoItems a b) (threeItems d e f) k l us vs q = let z : _≡_ {A = ℕ} 2 3 = cc in absurd (omega arith)
+channel-told (threeItems a b c) (oneItem d) k l us vs q = let z : _≡_ {A = ℕ} 3 1 = cc in absurd (omega arith)
+channel-told (threeItems a b c) (twoItems d e) k l us vs q = let z : _≡_ {A = ℕ} 3 2 = cc in absurd (omega arith)
 
 make : Channel → List ℤ → Pair
 make c vs = record { channel = c; values = vs }

@@ -1,5 +1,5 @@
 -- The listing's tests decide what the rules ask: a pair matches, some lit pair matches. By cases, from the laws of `isSame` and `eqb`.
-use mathlib.Core.Path.{_≡_, refl, ap, subst}
+use mathlib.Core.Path.{_≡_, refl, ap, ap₂, subst}
 use mathlib.Core.Bool.{Bool, true, false, _&&_, _||_}
 use mathlib.Core.List.{List, [], _∷_, List·Memᴰ as In, List·Memᴰ·head, List·Memᴰ·tail, List·Memᴰ·cases-cons, List·Memᴰ·not-nil}
 use mathlib.Core.Logic.{_⊎_, inl, inr, ⊎-elim}
@@ -9,9 +9,10 @@ use borrow.Author.Tests.{eqb-true, eqb-false}
 use lib.IntN.{ℤ}
 use lib.Dec.{eqb}
 use Rattle.value.specs.Arithmetic.{isSame}
+use Rattle.value.specs.Items.{oneItem, twoItems, threeItems}
 use Rattle.value.proofs.Kit.{true-not-false, false-not-true, same-eq, eq-same}
-use Rattle.rules.specs.Offers.{Channel, number, named, Pair, Set, within, Query, Each, done, more, Matches}
-use Rattle.rules.specs.Listing.{sameChannel, allWithin, matches, anyMatch}
+use Rattle.rules.specs.Offers.{Item, number, named, Channel, Pair, Set, within, Query, Each, done, more, Matches}
+use Rattle.rules.specs.Listing.{sameItem, sameChannel, allWithin, matches, anyMatch}
 
 -- the test b decides P
 pub data Decides (P : Type 0) : Bool → Type 0 where
@@ -66,12 +67,25 @@ equal m n = go (eqb m n) refl
 same : (x y : ℤ) → Decides (x ≡ y) (isSame x y)
 same x y = along (same-eq x y) (eq-same x y) (itself (isSame x y))
 
-channel : (x y : Channel) → Decides (x ≡ y) (sameChannel x y)
+item : (x y : Item) → Decides (x ≡ y) (sameItem x y)
+unfolding sameItem
+item (number x) (number y) = along (λ e. ap number e) (λ e. cc) (same x y)
+item (number x) (named n) = fails (λ e. let z : _≡_ {A = ℕ} 0 1 = cc in omega arith)
+item (named m) (number y) = fails (λ e. let z : _≡_ {A = ℕ} 0 1 = cc in omega arith)
+item (named m) (named n) = along (λ e. ap named e) (λ e. cc) (equal m n)
+
+pub channel : (x y : Channel) → Decides (x ≡ y) (sameChannel x y)
 unfolding sameChannel
-channel (number x) (number y) = along (λ e. ap number e) (λ e. cc) (same x y)
-channel (number x) (named n) = fails (λ e. let z : _≡_ {A = ℕ} 0 1 = cc in omega arith)
-channel (named m) (number y) = fails (λ e. let z : _≡_ {A = ℕ} 0 1 = cc in omega arith)
-channel (named m) (named n) = along (λ e. ap named e) (λ e. cc) (equal m n)
+channel (oneItem a) (oneItem d) = along (λ e. ap oneItem e) (λ e. cc) (item a d)
+channel (twoItems a b) (twoItems d e) = along (λ h. ap₂ twoItems (h .0) (h .1)) (λ h. (cc, cc)) (both (item a d) (item b e))
+channel (threeItems a b c) (threeItems d e f) =
+    along (λ h. ap₂ (λ (x : Item) (y : Item × Item). threeItems x (y .0) (y .1)) (h .0) (ap₂ (λ (x y : Item). (x, y)) (h .1 .0) (h .1 .1))) (λ h. (cc, (cc, cc))) (both (item a d) (both (item b e) (item c f)))
+channel (oneItem a) (twoItems d e) = fails (λ h. let z : _≡_ {A = ℕ} 0 1 = cc in omega arith)
+channel (oneItem a) (threeItems d e f) = fails (λ h. let z : _≡_ {A = ℕ} 0 1 = cc in omega arith)
+channel (twoItems a b) (oneItem d) = fails (λ h. let z : _≡_ {A = ℕ} 0 1 = cc in omega arith)
+channel (twoItems a b) (threeItems d e f) = fails (λ h. let z : _≡_ {A = ℕ} 0 1 = cc in omega arith)
+channel (threeItems a b c) (oneItem d) = fails (λ h. let z : _≡_ {A = ℕ} 0 1 = cc in omega arith)
+channel (threeItems a b c) (twoItems d e) = fails (λ h. let z : _≡_ {A = ℕ} 0 1 = cc in omega arith)
 
 -- ---- matching
 head-of : {x : Set} {xs : List Set} {v : ℤ} {vs : List ℤ} → Each (x ∷ xs) (v ∷ vs) → within x v ≡ true

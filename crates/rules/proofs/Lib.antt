@@ -12,6 +12,7 @@ pub mod Draws
 pub mod Moved
 pub mod Spliced
 pub mod Before
+pub mod Channels
 pub mod Launched
 pub mod Killed
 pub mod Inside

@@ -6,7 +6,8 @@ use Prim.Native.Nat.{ℕ, zero, suc, _*_}
 use lib.Dec.{eqb}
 use lib.IntN.{ℤ, pos}
 use Rattle.value.specs.Arithmetic.{isSame}
-use Rattle.rules.specs.Offers.{Channel, number, named, Pair, Set, within, Query, Action, wait, launch, kill, receive, bind, check, send, take, takeBind, Guard, bare, opened, shut, Branch, State}
+use Rattle.value.specs.Items.{oneItem, twoItems, threeItems}
+use Rattle.rules.specs.Offers.{Item, number, named, Channel, Pair, Set, within, Query, Action, wait, launch, kill, receive, bind, check, send, take, takeBind, Guard, bare, opened, shut, Branch, State}
 use Rattle.rules.specs.Order.{less}
 use Rattle.rules.specs.Kind as kind
 use Rattle.rules.specs.Rules.{Key, key, rateWeight}
@@ -14,11 +15,23 @@ use Rattle.rules.specs.Rules.{Key, key, rateWeight}
 -- ---- matching as a test
 
 -- 01, Transitions: a name only with that name
+unfoldable pub sameItem : Item → Item → Bool
+sameItem (number x) (number y) = isSame x y
+sameItem (number x) (named n) = false
+sameItem (named m) (number y) = false
+sameItem (named m) (named n) = eqb m n
+
+-- 02, note 7: at equal length, item for item
 unfoldable pub sameChannel : Channel → Channel → Bool
-sameChannel (number x) (number y) = isSame x y
-sameChannel (number x) (named n) = false
-sameChannel (named m) (number y) = false
-sameChannel (named m) (named n) = eqb m n
+sameChannel (oneItem a) (oneItem d) = sameItem a d
+sameChannel (twoItems a b) (twoItems d e) = sameItem a d && sameItem b e
+sameChannel (threeItems a b c) (threeItems d e f) = sameItem a d && (sameItem b e && sameItem c f)
+sameChannel (oneItem a) (twoItems d e) = false
+sameChannel (oneItem a) (threeItems d e f) = false
+sameChannel (twoItems a b) (oneItem d) = false
+sameChannel (twoItems a b) (threeItems d e f) = false
+sameChannel (threeItems a b c) (oneItem d) = false
+sameChannel (threeItems a b c) (twoItems d e) = false
 
 -- 01, Transitions: as many values as sets, each value in its set
 unfoldable pub allWithin : List Set → List ℤ → Bool

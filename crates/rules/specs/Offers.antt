@@ -5,11 +5,16 @@ use mathlib.Core.Bool.{Bool, true, not, _&&_, _||_}
 use Prim.Native.Nat.{ℕ}
 use lib.IntN.{ℤ}
 use Rattle.value.specs.Arithmetic.{isAtMost}
+use Rattle.value.specs.Items.{Items}
 
--- 01, State: a channel is a number, or a name by its number
-pub data Channel : Type 0 where
-  number : ℤ → Channel
-  named : ℕ → Channel
+-- 01, State: an item of a channel is a number, or a name by its number
+pub data Item : Type 0 where
+  number : ℤ → Item
+  named : ℕ → Item
+
+-- 02, note 7: a channel has one to three items
+abbrev pub Channel : Type 0
+Channel = Items Item
 
 -- 01, State: a channel with the values that are lit or sent on it
 pub record Pair : Type 0 where

@@ -6,12 +6,13 @@ use mathlib.Core.Option.{none, some, Option·elim}
 use Prim.Native.Nat.{ℕ, _*_}
 use lib.IntN.{ℤ, pos, natAbs, _+ℤ_}
 use Rattle.value.specs.Arithmetic.{isLess}
-use Rattle.rules.specs.Offers.{Channel, number, named, Pair, Set, range, without, within, Query, wait, launch, kill, receive, bind, check, send, take, takeBind, Guard, bare, opened, shut, Branch, State}
+use Rattle.value.specs.Items.{oneItem, twoItems, threeItems}
+use Rattle.rules.specs.Offers.{Item, number, named, Channel, Pair, Set, range, without, within, Query, wait, launch, kill, receive, bind, check, send, take, takeBind, Guard, bare, opened, shut, Branch, State}
 use Rattle.rules.specs.Order.{less}
 use Rattle.rules.specs.Kind as kind
 use Rattle.rules.specs.Rules.{key, unchanged, launched, killed}
-use Rattle.rules.specs.Pairs.{channelNumbers, numbers, before, insert, remove, pairsAfter}
-use Rattle.rules.specs.Listing.{sameChannel, allWithin, matches, anyMatch, entry, weightOf, gather, when, unless, partnerAction, partner, partnersIn, ofAction, ofGuard, ofProcess, entries}
+use Rattle.rules.specs.Pairs.{itemKind, itemValue, itemNumbers, channelNumbers, numbers, before, insert, remove, pairsAfter}
+use Rattle.rules.specs.Listing.{sameItem, sameChannel, allWithin, matches, anyMatch, entry, weightOf, gather, when, unless, partnerAction, partner, partnersIn, ofAction, ofGuard, ofProcess, entries}
 use Rattle.rules.specs.Draw.{weights, total, chosen}
 use Rattle.rules.specs.Step.{replace, replaceBoth, changeOf, boundBy, valuesAt, sentBy, onAction, goes, atBranch, oneActs, bothAct, step}
 
@@ -20,7 +21,7 @@ pub data Proc : Type 0 where
   lamp post : ℤ → Proc
 
 abbrev pass : Channel
-pass = named 0
+pass = oneItem (named 0)
 
 -- {@pass![n],2}.Lamp[n+1] and a second branch, which goes on as Lamp[n+1] too
 abbrev lampBranches : ℤ → Guard → List (Branch Proc)
@@ -68,6 +69,16 @@ both u = ending (bare (send (pair 3)) 1) ∷ ending (bare (take query) 1) ∷ []
 abbrev alone : List Pair → State (Unit {0})
 alone L = record { processes = tt ∷ []; pairs = L }
 
+-- 02, note 7: channels of one item, of two, and a pair on one of them
+abbrev name : Channel
+name = oneItem (named 0)
+
+abbrev list : Item → Item → Channel
+list a b = twoItems a b
+
+abbrev on : Channel → List ℤ → Pair
+on c vs = record { channel = c; values = vs }
+
 pub rows :
     -- this sheet, and its total
     (entries sheetBranches sheet ≡ entry (key kind.handshake 0 0 2 0 0) 300000000 ∷ entry (key kind.wait 0 1 0 0 0) 25000000 ∷ [])
@@ -94,7 +105,7 @@ pub rows :
     -- a check on no pairs is enabled
     × (entries (one (bare (check query) 10000)) (alone []) ≡ entry (key kind.check 0 0 0 0 0) 100000000 ∷ [])
     -- a name is no number; rate 0 is listed
-    × (matches query (record { channel = number (pos 0); values = pos 3 ∷ [] }) ≡ false)
+    × (matches query (record { channel = oneItem (number (pos 0)); values = pos 3 ∷ [] }) ≡ false)
     × (entries (one (bare wait 0)) (alone []) ≡ entry (key kind.wait 0 0 0 0 0) 0 ∷ [])
     -- one process both sending and receiving: no handshake; two such processes: each sends to the other
     × (entries both (alone []) ≡ [])
@@ -107,8 +118,17 @@ pub rows :
     × (entries (one (bare (bind query) 1)) (alone (pair 3 ∷ [])) ≡ entry (key 5 0 0 0 0 0) 10000 ∷ [])
     × (entries (one (bare (check query) 1)) (alone []) ≡ entry (key 6 0 0 0 0 0) 10000 ∷ [])
     × (entries both (record { processes = tt ∷ tt ∷ []; pairs = [] }) ≡ entry (key 7 0 0 1 1 0) 1 ∷ entry (key 7 1 0 0 1 0) 1 ∷ [])
-    -- the numbers of a pair: kind (0 number, 1 name), channel, count, values
-    × (numbers (record { channel = number (pos 6); values = pos 8 ∷ pos 9 ∷ [] }) ≡ pos 0 ∷ pos 6 ∷ pos 2 ∷ pos 8 ∷ pos 9 ∷ [])
-    × (numbers (record { channel = named 6; values = pos 8 ∷ [] }) ≡ pos 1 ∷ pos 6 ∷ pos 1 ∷ pos 8 ∷ [])
-unfolding entries gather when unless ofProcess ofGuard ofAction partnersIn partner partnerAction matches sameChannel allWithin within anyMatch weights weightOf total chosen step atBranch oneActs bothAct onAction changeOf boundBy valuesAt sentBy replace replaceBoth pairsAfter insert remove before numbers channelNumbers less Option·elim
-rows = (refl, refl, refl, refl, refl, refl, refl, refl, refl, refl, refl, refl, refl, refl, refl, refl, refl, refl, refl, refl, refl, refl, refl, refl, refl, refl, refl, refl, refl, refl)
+    -- the numbers of a pair: count of items, kind (0 number, 1 name) and value of three, count, values
+    × (numbers (record { channel = oneItem (number (pos 6)); values = pos 8 ∷ pos 9 ∷ [] }) ≡ pos 1 ∷ pos 0 ∷ pos 6 ∷ pos 0 ∷ pos 0 ∷ pos 0 ∷ pos 0 ∷ pos 2 ∷ pos 8 ∷ pos 9 ∷ [])
+    × (numbers (record { channel = threeItems (named 6) (number (pos 5)) (named 4); values = pos 8 ∷ [] }) ≡ pos 3 ∷ pos 1 ∷ pos 6 ∷ pos 0 ∷ pos 5 ∷ pos 1 ∷ pos 4 ∷ pos 1 ∷ pos 8 ∷ [])
+    -- 02, note 7: at equal length, item for item, a name only with that name
+    × (sameChannel (list (named 0) (number (pos 1))) (list (named 0) (number (pos 1))) ≡ true)
+    × (sameChannel (list (named 0) (number (pos 1))) (list (named 0) (number (pos 2))) ≡ false)
+    × (sameChannel (list (named 0) (number (pos 1))) (list (number (pos 0)) (number (pos 1))) ≡ false)
+    × (sameChannel (list (named 0) (number (pos 1))) (list (number (pos 1)) (named 0)) ≡ false)
+    × (sameChannel name (list (named 0) (number (pos 0))) ≡ false)
+    -- 02, note 7: fewer items stand first, a number before a name
+    × (before (on (oneItem (number (pos 9))) (pos 9 ∷ [])) (on (list (number (pos 1)) (number (pos 1))) (pos 1 ∷ [])) ≡ true)
+    × (before (on (list (number (pos 9)) (named 0)) (pos 9 ∷ [])) (on (list (named 0) (number (pos 1))) (pos 1 ∷ [])) ≡ true)
+unfolding entries gather when unless ofProcess ofGuard ofAction partnersIn partner partnerAction matches sameChannel sameItem allWithin within anyMatch weights weightOf total chosen step atBranch oneActs bothAct onAction changeOf boundBy valuesAt sentBy replace replaceBoth pairsAfter insert remove before numbers channelNumbers itemNumbers itemKind itemValue less Option·elim
+rows = (refl, refl, refl, refl, refl, refl, refl, refl, refl, refl, refl, refl, refl, refl, refl, refl, refl, refl, refl, refl, refl, refl, refl, refl, refl, refl, refl, refl, refl, refl, refl, refl, refl, refl, refl, refl, refl)

@@ -13,14 +13,15 @@ use Rattle.tree.specs.Node.{field, kindOf, tokenOf, leftOf, thirdOf, numberKind
 use Rattle.tree.specs.Table
 use Rattle.tree.specs.Table.{Node, Leaf, Two}
 use Rattle.tree.proofs.Cells.{node-kind, node-token, node-third}
-use Rattle.tree.proofs.Holds.{values-interval, sets-interval}
+use Rattle.tree.proofs.Holds.{expr-interval, values-interval, sets-interval}
 use Rattle.model.specs.Lists.{everyOther}
-use Rattle.model.specs.Sites.{Scope, Site, value, bound, exprSites, isLone, channelSites, valuesSites, setsSites, countSets, tokensOf, actionSites, bindings, Variable, Definition}
+use Rattle.model.specs.Sites.{Scope, Site, value, bound, exprSites, isLone, itemSites, channelSites, valuesSites, setsSites, countSets, tokensOf, actionSites, bindings, Variable, Definition}
 use Rattle.model.specs.Limits.{localLimit}
 use Rattle.model.specs.Given.{Meaning, local, variable, nothing, isValue, meaning, placeIn}
 use Rattle.model.specs.Good.{GoodExpr}
 use Rattle.model.specs.Resolved
-use Rattle.model.specs.Resolved.{isChannelName, channelUse, actionUse, firsts, orZero, valueNamed, resolveExpr, channelNamed, resolveChannel, resolveValues, resolveSets, resolveAction}
+use Rattle.model.specs.Resolved.{isChannelName, itemUse, channelUse, actionUse, firsts, orZero, valueNamed, resolveExpr, itemNamed, resolveItem, resolveChannel, resolveValues, resolveSets, resolveAction}
+use Rattle.model.proofs.Channels.{firsts-append}
 use Rattle.model.proofs.Members.{not-both}
 use Rattle.model.proofs.Resolves.{AllFine, FineNumber, expr-good}
 use Rattle.names.proofs.Scopes.{every-length}
@@ -28,7 +29,7 @@ use Rattle.tables.specs.Settled as settled
 use Rattle.tables.specs.Settled.{channel, Index, Pair, OneOrTwo}
 use Rattle.settle.specs.Walks.{Role, roleOf, roleAt, Point, nameCell, metAfter, cellBy, stepBy, cellOf, step, Binds, SafeBy}
 use Rattle.settle.specs.Walks as role
-use Rattle.settle.proofs.Moves.{Done, Moved, Moves, Keeps, Does, leaf, two, moved-with}
+use Rattle.settle.proofs.Moves.{Done, Moved, Moves, Keeps, Does, plain-does, leaf, two, three, moved-with}
 use Rattle.settle.proofs.Values.{index-of, value-no-channel, value-holds, expr-stays, values-stays, sets-stays}
 use Rattle.settle.proofs.Heard.{place-kept}
 
@@ -52,17 +53,17 @@ module _ (w : ℕ → List ℕ) (vs : List Variable) (ds : List Definition) (cs 
   entered p us ks = record { scope = p .scope ++ ks; seen = firsts w vs (p .seen) us; sums = p .sums; definitions = p .definitions }
 
   module _ (p : Point) (few : length (p .scope) ≤ localLimit) where
-    abbrev sc : Scope
-    sc = p .scope
+    abbrev own : Scope
+    own = p .scope
 
-    -- ---- channels
+    -- ---- a channel's items
 
-    ChannelMoves : List ℕ → (ℕ → ℕ → Type 0) → (ℕ → Type 0) → Type 0
-    ChannelMoves us P Q = (a : ℕ) → Moves w vs ds cs told t t′ roots scopes trace first last p (met p us) a 0 [] P Q
+    ItemMoves : List ℕ → (ℕ → ℕ → Type 0) → (ℕ → Type 0) → Type 0
+    ItemMoves us P Q = (a : ℕ) → Moves w vs ds cs told t t′ roots scopes trace first last p (met p us) a 0 [] P Q
 
     -- a channel name
-    name-moves : (k : ℕ) → isChannelName (meaning w vs sc k) ≡ true → ChannelMoves (k ∷ []) (Leaf t node.named k) (settled.Channel t′ (Resolved.name (orZero (placeIn w k 0 cs))))
-    unfolding ChannelMoves roleOf numberKind stepBy cellBy nameCell settled.Channel
+    name-moves : (k : ℕ) → isChannelName (meaning w vs own k) ≡ true → ItemMoves (k ∷ []) (Leaf t node.named k) (settled.Item t′ (Resolved.name (orZero (placeIn w k 0 cs))))
+    unfolding ItemMoves roleOf numberKind stepBy cellBy nameCell settled.Item
     name-moves k e =
         leaf w vs ds cs told t t′ roots scopes trace first last steps role.name (omega arith) refl (λ x. absurd (let z : _≡_ {A = ℕ} 0 1 = cc in omega arith)) (λ x. absurd (let z : _≡_ {A = ℕ} 0 1 = cc in omega arith)) (λ c b n z. rw (n, e)) (λ c b n z. tt)
         (λ i c κ n o u v x d y.
@@ -71,26 +72,47 @@ module _ (w : ℕ → List ℕ) (vs : List Variable) (ds : List Definition) (cs 
         let q = place-kept w k vs (p .seen) cs (m .0) (m .1 ∙ ap (λ (l : List ℕ). l ++ m .0) s) in
         index-of channel (orZero (placeIn w k 0 cs)) i (omega arith) (omega (arith, q .1, d .few)) (rw (← q .0) (rw (n, e) at y)))
 
-    one-fine : (k : ℕ) → isValue (meaning w vs sc k) ≡ true → AllFine w vs ds cs sc (value k ∷ [])
+    one-fine : (k : ℕ) → isValue (meaning w vs own k) ≡ true → AllFine w vs ds cs own (value k ∷ [])
     one-fine k e x i = rw (eq-of-singleton i) e
 
     -- a name that has a value
-    value-moves : (k : ℕ) → AllFine w vs ds cs sc (value k ∷ []) → ChannelMoves [] (Leaf t node.named k) (settled.Channel t′ (Resolved.number (valueNamed w vs ds cs (meaning w vs sc k))))
-    unfolding ChannelMoves settled.Channel Table.Expr exprSites resolveExpr firsts
-    value-moves k h = expr-stays w vs ds cs told t t′ roots scopes trace first last steps numbers sc p few (λ j e. refl) (Syntax.named k) h
+    value-moves : (k : ℕ) → AllFine w vs ds cs own (value k ∷ []) → ItemMoves [] (Leaf t node.named k) (settled.Item t′ (Resolved.number (valueNamed w vs ds cs (meaning w vs own k))))
+    unfolding ItemMoves settled.Item Table.Expr exprSites resolveExpr firsts
+    value-moves k h = expr-stays w vs ds cs told t t′ roots scopes trace first last steps numbers own p few (λ j e. refl) (Syntax.named k) h
 
-    named-moves : (k : ℕ) (lone named : Bool) → isChannelName (meaning w vs sc k) ≡ named → AllFine w vs ds cs sc (cond lone [] (value k ∷ []))
-        → ChannelMoves (cond (lone && named) (k ∷ []) []) (Leaf t node.named k) (settled.Channel t′ (cond (lone && named) (Resolved.name (orZero (placeIn w k 0 cs))) (Resolved.number (valueNamed w vs ds cs (meaning w vs sc k)))))
+    named-moves : (k : ℕ) (lone named : Bool) → isChannelName (meaning w vs own k) ≡ named → AllFine w vs ds cs own (cond lone [] (value k ∷ []))
+        → ItemMoves (cond (lone && named) (k ∷ []) []) (Leaf t node.named k) (settled.Item t′ (cond (lone && named) (Resolved.name (orZero (placeIn w k 0 cs))) (Resolved.number (valueNamed w vs ds cs (meaning w vs own k)))))
     named-moves k true true e h = name-moves k e
-    named-moves k true false e h = value-moves k (one-fine k (channel-or-value (meaning w vs sc k) e))
+    named-moves k true false e h = value-moves k (one-fine k (channel-or-value (meaning w vs own k) e))
     named-moves k false named e h = value-moves k h
 
-    channel-moves : (c : Syntax.Expr) → AllFine w vs ds cs sc (channelSites w c) → ChannelMoves (channelUse w vs sc c) (Table.Expr t c) (settled.Channel t′ (resolveChannel w vs ds cs sc c))
-    unfolding ChannelMoves channelSites channelUse resolveChannel channelNamed settled.Channel Table.Expr firsts
-    channel-moves (Syntax.literal b k) h = expr-stays w vs ds cs told t t′ roots scopes trace first last steps numbers sc p few (λ j e. refl) (Syntax.literal b k) h
-    channel-moves (Syntax.named k) h = named-moves k (isLone w k) (isChannelName (meaning w vs sc k)) refl h
-    channel-moves (Syntax.absolute e) h = expr-stays w vs ds cs told t t′ roots scopes trace first last steps numbers sc p few (λ j e. refl) (Syntax.absolute e) h
-    channel-moves (Syntax.binary o e f) h = expr-stays w vs ds cs told t t′ roots scopes trace first last steps numbers sc p few (λ j e. refl) (Syntax.binary o e f) h
+    item-moves : (c : Syntax.Expr) → AllFine w vs ds cs own (itemSites w c) → ItemMoves (itemUse w vs own c) (Table.Expr t c) (settled.Item t′ (resolveItem w vs ds cs own c))
+    unfolding ItemMoves itemSites itemUse resolveItem itemNamed settled.Item Table.Expr firsts
+    item-moves (Syntax.literal b k) h = expr-stays w vs ds cs told t t′ roots scopes trace first last steps numbers own p few (λ j e. refl) (Syntax.literal b k) h
+    item-moves (Syntax.named k) h = named-moves k (isLone w k) (isChannelName (meaning w vs own k)) refl h
+    item-moves (Syntax.absolute e) h = expr-stays w vs ds cs told t t′ roots scopes trace first last steps numbers own p few (λ j e. refl) (Syntax.absolute e) h
+    item-moves (Syntax.binary o e f) h = expr-stays w vs ds cs told t t′ roots scopes trace first last steps numbers own p few (λ j e. refl) (Syntax.binary o e f) h
+
+  module _ (p : Point) (few : length (p .scope) ≤ localLimit) where
+    abbrev sc : Scope
+    sc = p .scope
+
+    -- ---- channels
+
+    channel-moves : (c : Syntax.Channel) → AllFine w vs ds cs sc (channelSites w c) → ItemMoves p few (channelUse w vs sc c) (Table.Channel t c) (settled.Channel t′ (resolveChannel w vs ds cs sc c))
+    unfolding ItemMoves channelSites channelUse resolveChannel settled.Channel Table.Channel roleOf numberKind
+    channel-moves (Syntax.oneItem e) h a = item-moves p few e h a
+    channel-moves (Syntax.twoItems e f) h a =
+        let us = itemUse w vs sc e in
+        let ls = itemUse w vs sc f in
+        rw (firsts-append w vs (p .seen) us ls)
+        (two w vs ds cs told t t′ roots scopes trace first last steps (omega arith) (λ lo left k x u l n. plain-does w vs ds cs told t t′ roots scopes trace first last steps (omega arith) refl n) (λ lo k x. expr-interval f .low x) (item-moves p few e (λ x i. h x (left (itemSites w f) i)) a) (item-moves (met p us) few f (λ x i. h x (right (itemSites w e) i)) (a + 0)))
+    channel-moves (Syntax.threeItems e f g) h a =
+        let us = itemUse w vs sc e in
+        let ls = itemUse w vs sc f in
+        let ms = itemUse w vs sc g in
+        rw (firsts-append w vs (p .seen) us (ls ++ ms), firsts-append w vs (firsts w vs (p .seen) us) ls ms)
+        (three w vs ds cs told t t′ roots scopes trace first last steps (omega arith) (λ k left middle n. plain-does w vs ds cs told t t′ roots scopes trace first last steps (omega arith) refl n) (λ lo k x. expr-interval f .low x) (λ lo k x. expr-interval g .low x) (item-moves p few e (λ x i. h x (left (itemSites w f ++ itemSites w g) i)) a) (item-moves (met p us) few f (λ x i. h x (right (itemSites w e) (left (itemSites w g) i))) a) (item-moves (met (met p us) ls) few g (λ x i. h x (right (itemSites w e) (right (itemSites w f) i))) a))
 
     -- ---- actions
 
@@ -110,10 +132,10 @@ module _ (w : ℕ → List ℕ) (vs : List Variable) (ds : List Definition) (cs 
         }
 
     -- with a channel, and values or sets that stand in the scope
-    module _ {κ token third : ℕ} {B : ℕ → ℕ → Type 0} {B′ : ℕ → Type 0} (c : Syntax.Expr) (κ-small : κ < 256) (acts : roleOf κ ≡ role.action) (binds : Binds κ third) (low : (lo k : ℕ) → B lo k → lo ≤ k) where
+    module _ {κ token third : ℕ} {B : ℕ → ℕ → Type 0} {B′ : ℕ → Type 0} (c : Syntax.Channel) (κ-small : κ < 256) (acts : roleOf κ ≡ role.action) (binds : Binds κ third) (low : (lo k : ℕ) → B lo k → lo ≤ k) where
       with-channel : AllFine w vs ds cs sc (channelSites w c) → length sc + third ≤ localLimit → Keeps w vs ds cs told t t′ roots scopes trace first last (met p (channelUse w vs sc c)) B B′
-          → (a : ℕ) → Moves w vs ds cs told t t′ roots scopes trace first last p (entered p (channelUse w vs sc c) (everyOther token third)) a 0 [] (Two t κ token third (Table.Expr t c) B) (Pair t′ κ (settled.Channel t′ (resolveChannel w vs ds cs sc c)) B′)
-      unfolding ChannelMoves
+          → (a : ℕ) → Moves w vs ds cs told t t′ roots scopes trace first last p (entered p (channelUse w vs sc c) (everyOther token third)) a 0 [] (Two t κ token third (Table.Channel t c) B) (Pair t′ κ (settled.Channel t′ (resolveChannel w vs ds cs sc c)) B′)
+      unfolding ItemMoves
       with-channel h l f a =
           two w vs ds cs told t t′ roots scopes trace first last steps κ-small (λ lo left k x u l′ n. action-does κ-small acts l binds n) low (channel-moves c h a) (f (a + 0))
 

@@ -18,7 +18,7 @@ use Rattle.model.specs.Sites.{Variable, Definition}
 use Rattle.model.specs.Resolved
 use Rattle.model.specs.Scope.{scopeOf}
 use Rattle.tables.specs.Settled as settled
-use Rattle.tables.specs.Settled.{kindAt, Index, Pair, Over}
+use Rattle.tables.specs.Settled.{kindAt, Index, Pair, Triple, Over}
 use Rattle.settle.specs.Walks.{Role, whole, name, number, scale, action, ending, sum, call, definition, item, plain, roleOf, roleAt, Point, cellBy, stepBy, cellOf, step, SafeBy, scopeAt}
 
 module _ (w : ℕ → List ℕ) (vs : List Variable) (ds : List Definition) (cs : List ℕ) (told : ℕ → Type 0) (t t′ roots scopes : List ℕ) (trace : ℕ → Point) (first last : ℕ) where
@@ -340,3 +340,29 @@ module _ (w : ℕ → List ℕ) (vs : List Variable) (ds : List Definition) (cs 
           let y = g (h .left + 1) (h .right) (h .holds-second) (omega (arith, x .low)) (omega arith) (x .after) in
           moved-with (moved-node (moved-then x y) (h .above) u l (does lo (h .left) k (h .holds-first) u (omega (arith, x .low, y .low)) (h .node)))
           (λ d z. pair-of (h .right) P′ Q′ (h .node) (h .above) (omega (arith, x .low, y .low)) (z .1) (z .0 .0) (z .0 .1))
+
+      -- three parts without sums
+      pub three : {p q r s : Point} {a : ℕ} {P Q R : ℕ → ℕ → Type 0} {P′ Q′ R′ : ℕ → Type 0}
+          → ((k left middle : ℕ) → Node t k κ token left middle → Does k s s (getD t k 0)) → ((lo k : ℕ) → Q lo k → lo ≤ k) → ((lo k : ℕ) → R lo k → lo ≤ k)
+          → Moves p q a 0 [] P P′ → Moves q r a 0 [] Q Q′ → Moves r s a 0 [] R R′ → Moves p s a 0 [] (Three t κ token P Q R) (Triple t′ κ P′ Q′ R′)
+      three {P′ = P′} {Q′ = Q′} does low-second low-third f g i lo k h u l e =
+          let o = h .above in
+          let b = low-third (h .middle + 1) (h .right) (h .holds-third) in
+          let c = low-second (h .left + 1) (h .middle) (h .holds-second) in
+          let x = f lo (h .left) (h .holds-first) u (omega arith) e in
+          let y = g (h .left + 1) (h .middle) (h .holds-second) (omega (arith, x .low)) (omega arith) (x .after) in
+          let z = i (h .middle + 1) (h .right) (h .holds-third) (omega (arith, x .low)) (omega arith) (y .after) in
+          moved-with (moved-node (moved-then x (moved-then y z)) (h .above) u l (does k (h .left) (h .middle) (h .node)))
+          (λ d v.
+          let m : leftOf (getD t′ k 0) ≡ h .left = ap leftOf (v .1) ∙ node-left (h .node) κ-small in
+          let n : thirdOf (getD t′ k 0) ≡ h .middle = ap thirdOf (v .1) ∙ node-third (h .node) κ-small in
+          record {
+            right = h .right;
+            above = h .above;
+            kind-is = ap kindOf (v .1) ∙ node-kind (h .node) κ-small;
+            first-below = omega arith;
+            second-below = omega arith;
+            holds-first = subst P′ (sym m) (v .0 .0);
+            holds-second = subst Q′ (sym n) (v .0 .1 .0);
+            holds-third = v .0 .1 .1;
+          })

@@ -1,22 +1,23 @@
 -- The places between the two rows of a channel are those of the pairs on that channel: from the order of the rows, by cases of two channels.
 use mathlib.Core.Path.{_≡_, refl, sym, ap, _∙_}
-use mathlib.Core.Bool.{Bool, true, false, cond, _&&_, _||_}
-use mathlib.Core.List.{List, [], _∷_, map}
+use mathlib.Core.Bool.{Bool, true, false, cond}
+use mathlib.Core.List.{List, [], _∷_, _++_, map}
 use mathlib.Core.Logic.{_↔_}
 use mathlib.Core.Option.{some}
 use Prim.Native.Nat.{ℕ, zero, suc, _≤_, _<_}
 use native.Mathlib.Omega.{arith}
 use borrow.Author.Tests.{lt-ltb}
-use lib.IntN.{ℤ, pos, natAbs}
-use lib.ListN.{length, getD, getElem?, length-map}
-use Rattle.value.specs.Arithmetic.{isLess, isSame}
-use Rattle.value.proofs.Kit.{true-not-false, false-not-true, same-eq}
+use lib.IntN.{ℤ, pos}
+use lib.ListN.{length, getD, getElem?, set, take, drop, replicate, length-map}
+use lib.Seq.{take-all}
+use Rattle.value.proofs.Kit.{true-not-false}
 use Rattle.rules.specs.Offers as offers
 use Rattle.rules.specs.Order.{less, Ascending}
 use Rattle.rules.specs.Pairs.{channelNumbers, Before}
-use Rattle.rules.proofs.Less.{less-irreflexive, less-trans, less-first, less-rest}
+use Rattle.rules.proofs.Channels.{one-channel, between}
+use Rattle.rules.proofs.Less.{less-irreflexive, less-trans, less-first}
 use Rattle.model.specs.Good.{Every}
-use Rattle.machine.specs.State.{State, padded, pairNumbers, stateNumbers, pairWidth}
+use Rattle.machine.specs.State.{State, padded, pairNumbers, stateNumbers, channelWidth, pairWidth}
 use Rattle.machine.proofs.Branches.{get-nth}
 use Rattle.machine.proofs.Everys.{every-nth}
 use Rattle.state.specs.Fits.{FewLocals, FitsPair, Fits}
@@ -44,28 +45,8 @@ place-mono u v (r ∷ rs) e = go (less r u) refl (place-mono u v rs e)
     go false f h = omega arith
 
 -- ---- rows of two channels
-one-channel : (c : offers.Channel) (u v : List ℤ) → less u v ≡ true → less (channelNumbers c u) (channelNumbers c v) ≡ true
-unfolding channelNumbers
-one-channel (offers.number z) u v e = less-rest (pos 0) (z ∷ u) (z ∷ v) (less-rest z u v e)
-one-channel (offers.named n) u v e = less-rest (pos 1) (pos n ∷ u) (pos n ∷ v) (less-rest (pos n) u v e)
-
 fewer : (c : offers.Channel) (m n : ℕ) (u v : List ℤ) → m < n → less (channelNumbers c (pos m ∷ u)) (channelNumbers c (pos n ∷ v)) ≡ true
 fewer c m n u v l = one-channel c (pos m ∷ u) (pos n ∷ v) (less-first (pos m) (pos n) u v (lt-ltb m n l))
-
-same-number : (x y : ℤ) (t w : Bool) → isLess x y || isSame x y && t ≡ false → isLess x y || isSame x y && w ≡ true → x ≡ y
-same-number x y t w e f = go (isLess x y) (isSame x y) refl e f
-  where
-    go : (a b : Bool) → isSame x y ≡ b → a || b && t ≡ false → a || b && w ≡ true → x ≡ y
-    go true b s e f = true-not-false e
-    go false true s e f = same-eq x y s
-    go false false s e f = false-not-true f
-
-between : (c d : offers.Channel) (u v w : List ℤ) → less (channelNumbers d u) (channelNumbers c v) ≡ false → less (channelNumbers d u) (channelNumbers c w) ≡ true → d ≡ c
-unfolding less channelNumbers
-between (offers.number y) (offers.number x) u v w e f = ap offers.number (same-number x y (less u v) (less u w) e f)
-between (offers.named n) (offers.number x) u v w e f = true-not-false e
-between (offers.number y) (offers.named m) u v w e f = false-not-true f
-between (offers.named n) (offers.named m) u v w e f = ap (λ (z : ℤ). offers.named (natAbs z)) (same-number (pos m) (pos n) (less u v) (less u w) e f)
 
 -- ---- the run of a channel among pairs that ascend
 -- a row of the channel with a count of values
@@ -122,14 +103,15 @@ module _ (c : offers.Channel) (channels : ℕ) (L : List offers.Pair) (fits : Ev
               place-more (rowOn c 3) rs q (climbing L up) inside (ap (λ (l : List ℤ). less l (rowOn c 3)) r ∙ fewer c n 3 _ _ (omega (arith, f .number .two))),
             )
 
--- the rows that are looked for
-pub number-row : (z : ℤ) (k : ℕ) → channelRow (pos 0) z k ≡ rowOn (offers.number z) k
-unfolding channelNumbers
-number-row z k = refl
-
-pub named-row : (n k : ℕ) → channelRow (pos 1) (pos n) k ≡ rowOn (offers.named n) k
-unfolding channelNumbers
-named-row n k = refl
+-- how the rows that are looked for are written: the channel over zeros, then a count past all
+pub rows-written : (c z : List ℤ) → length c ≡ channelWidth → z ≡ take channelWidth c ++ drop channelWidth (replicate pairWidth (pos 0)) → (z ≡ channelRow c 0) × (set z channelWidth (pos 3) ≡ channelRow c 3)
+rows-written c z l e =
+    let f : z ≡ channelRow c 0 = e ∙ ap (λ (u : List ℤ). u ++ pos 0 ∷ pos 0 ∷ pos 0 ∷ []) (take-all channelWidth c (omega arith)) in
+    (f, ap (λ (u : List ℤ). set u channelWidth (pos 3)) f ∙ ap (λ (i : ℕ). set (channelRow c 0) i (pos 3)) (sym l) ∙ set-last c)
+  where
+    set-last : (u : List ℤ) → set (channelRow u 0) (length u) (pos 3) ≡ channelRow u 3
+    set-last [] = refl
+    set-last (x ∷ u) = ap (λ (v : List ℤ). x ∷ v) (set-last u)
 
 -- ---- the run in a state's numbers
 module _ (scopes : List ℕ) (few : FewLocals scopes) (channels : ℕ) (s : State) (fits : Fits scopes channels s) (c : offers.Channel) where

@@ -11,9 +11,10 @@ use lib.ListN.{length, replicate}
 use Rattle.value.specs.Arithmetic.{isLess, isSame}
 use Rattle.rules.specs.Offers as offers
 use Rattle.rules.specs.Order.{less, Ascending}
-use Rattle.rules.specs.Pairs.{channelNumbers, numbers, before, Before}
+use Rattle.rules.specs.Pairs.{numbers, before, Before}
 use Rattle.rules.proofs.Less.{less-irreflexive}
 use Rattle.rules.proofs.Before.{before-trans}
+use Rattle.rules.proofs.Channels.{less-channel}
 use Rattle.model.specs.Good.{Every}
 use Rattle.machine.specs.State.{padded, pairNumbers}
 use Rattle.machine.proofs.Everys.{every-in, in-every}
@@ -41,13 +42,6 @@ less-counted n u v = ap (λ (t : Bool). isLess (pos (length u)) (pos (length v))
     go : (t : Bool) → eqb (length u) (length v) ≡ t → t && less (padded n u) (padded n v) ≡ t && less u v
     go true e = less-padded n u v (eqb-true (length u) (length v) e)
     go false e = refl
-
-less-channel : (c d : offers.Channel) (u v s t : List ℤ) → less u v ≡ less s t → less (channelNumbers c u) (channelNumbers d v) ≡ less (channelNumbers c s) (channelNumbers d t)
-unfolding less channelNumbers
-less-channel (offers.number x) (offers.number y) u v s t e = ap (λ (b : Bool). isLess x y || isSame x y && b) e
-less-channel (offers.number x) (offers.named n) u v s t e = refl
-less-channel (offers.named m) (offers.number y) u v s t e = refl
-less-channel (offers.named m) (offers.named n) u v s t e = ap (λ (b : Bool). isLess (pos m) (pos n) || isSame (pos m) (pos n) && b) e
 
 pub before-rows : (x y : offers.Pair) → less (pairNumbers x) (pairNumbers y) ≡ before x y
 unfolding before numbers

@@ -7,26 +7,28 @@ use Prim.Native.Nat.{ℕ, zero, suc, _+_, _≤_, _<_}
 use native.Mathlib.Omega.{arith}
 use borrow.Author.Tests.{lt-ltb, eq-eqb, ne-eqb}
 use lib.IntN.{ℤ, pos, negsuc, natAbs}
-use lib.ListN.{length, getD, getElem?, take, length-append, length-replicate}
+use lib.ListN.{length, getD, getElem?, take, drop, length-append}
 use lib.Seq.{length-take-le, take-take, take-suc, take-all, take-at, take-append-le, getD-append-add}
 use native.Mathlib.Nat.{add-zero}
 use Rattle.model.specs.Limits.{localLimit}
 use Rattle.value.specs.Arithmetic.{isSame}
 use Rattle.value.specs.Range.{InRange}
+use Rattle.value.specs.Items.{oneItem, twoItems, threeItems}
 use Rattle.value.proofs.Kit.{false-not-true, same-eq}
 use Rattle.rules.specs.Offers as offers
-use Rattle.rules.specs.Pairs.{channelNumbers, numbers}
+use Rattle.rules.specs.Pairs.{itemKind, itemValue, itemNumbers, noItem, channelNumbers, numbers}
+use Rattle.rules.proofs.Channels.{channel-length}
 use Rattle.model.specs.Good.{Every, OneOrTwo}
 use Rattle.model.specs.Scope.{localsIn, definitionIn}
 use Rattle.model.proofs.Scope.{no-locals}
 use Rattle.machine.specs.Offer.{Process}
-use Rattle.machine.specs.State.{padded, processNumbers, pairNumbers, pairWidth, processWidth}
+use Rattle.machine.specs.State.{padded, processNumbers, pairNumbers, channelWidth, pairWidth, processWidth}
 use Rattle.machine.proofs.Everys.{every-get}
-use Rattle.state.specs.Fits.{FewLocals, FitsChannel, FitsPair, FitsProcess}
-use Rattle.state.specs.Test.{at, every, isValue, isZero, isBelow, isPadded, isProcess, isChannel, isPair}
-use Rattle.state.specs.Decode.{processOf, channelOf, pairOf}
-use Rattle.state.proofs.Tests.{both, below-natural, below-bound}
-use Rattle.state.proofs.Rows.{values-say, padded-length, padded-back, padded-front, padded-more, padded-passes}
+use Rattle.state.specs.Fits.{FewLocals, FitsItem, FitsChannel, FitsPair, FitsProcess}
+use Rattle.state.specs.Test.{at, every, isValue, isZero, isBelow, isPadded, isProcess, isCount, isItem, isItemOf, isChannel, isPair}
+use Rattle.state.specs.Decode.{processOf, itemOf, channelOf, pairOf}
+use Rattle.state.proofs.Tests.{both, below-natural, below-bound, count-below}
+use Rattle.state.proofs.Rows.{values-say, padded-length, padded-back, padded-front, padded-after, padded-more, padded-passes}
 
 -- ---- members of a list by their places
 pub get-below : {A : Type 0} (xs : List A) (n : ℕ) (d : A) → n < length xs → getElem? xs n ≡ some (getD xs n d)
@@ -130,99 +132,155 @@ module _ (scopes : List ℕ) (few : FewLocals scopes) where
       omega (arith, all-locals (p .locals) (pos (p .definition)) h, length-append (padded localLimit (p .locals)) (pos (p .definition) ∷ []))
 
 -- ---- channels
-channel-row : (channels : ℕ) (k z : ℤ) (l : List ℤ) → isChannel channels k z ≡ true → FitsChannel channels (channelOf k z) × (channelNumbers (channelOf k z) l ≡ k ∷ z ∷ l)
-unfolding isChannel channelOf FitsChannel channelNumbers isValue
-channel-row channels k z l e = go (isSame k (pos 0)) refl e
+item-row : (channels : ℕ) (k z : ℤ) → isItem channels k z ≡ true → FitsItem channels (itemOf k z) × ((l : List ℤ) → itemNumbers (itemOf k z) l ≡ k ∷ z ∷ l)
+unfolding isItem itemOf FitsItem itemNumbers itemKind itemValue isValue
+item-row channels k z e = go (isSame k (pos 0)) refl e
   where
     go : (t : Bool) → isSame k (pos 0) ≡ t → cond t (isValue z) (isSame k (pos 1) && isBelow channels z) ≡ true
-        → FitsChannel channels (cond t (offers.number z) (offers.named (natAbs z))) × (channelNumbers (cond t (offers.number z) (offers.named (natAbs z))) l ≡ k ∷ z ∷ l)
-    go true s e = let b = both _ _ e in (record { low = b .0; high = b .1 }, ap (λ (y : ℤ). y ∷ z ∷ l) (sym (same-eq k (pos 0) s)))
+        → let a = cond t (offers.number z) (offers.named (natAbs z)) in FitsItem channels a × ((l : List ℤ) → itemNumbers a l ≡ k ∷ z ∷ l)
+    go true s e = let b = both _ _ e in (record { low = b .0; high = b .1 }, λ l. ap (λ (y : ℤ). y ∷ z ∷ l) (sym (same-eq k (pos 0) s)))
     go false s e =
         let b = both _ _ e in
-        (below-bound channels z (b .1), ap₂ (λ (y x : ℤ). y ∷ x ∷ l) (sym (same-eq k (pos 1) (b .0))) (sym (below-natural channels z (b .1))))
+        (below-bound channels z (b .1), λ l. ap₂ (λ (y x : ℤ). y ∷ x ∷ l) (sym (same-eq k (pos 1) (b .0))) (sym (below-natural channels z (b .1))))
+
+-- an item that is not there
+unused-row : (k z : ℤ) (l : List ℤ) → isZero k && isZero z ≡ true → noItem l ≡ k ∷ z ∷ l
+unfolding isZero
+unused-row k z l e =
+    let b = both _ _ e in
+    ap₂ (λ (y x : ℤ). y ∷ x ∷ l) (sym (same-eq k (pos 0) (b .0))) (sym (same-eq z (pos 0) (b .1)))
+
+-- the numbers of a channel, and the rest of a row
+channel-row : (channels : ℕ) (n a x b y c z : ℤ) (l : List ℤ) → let row = n ∷ a ∷ x ∷ b ∷ y ∷ c ∷ z ∷ l in isChannel channels row ≡ true
+    → FitsChannel channels (channelOf row) × (channelNumbers (channelOf row) l ≡ row)
+unfolding isChannel isCount isZero isBelow isItemOf channelOf FitsChannel channelNumbers
+channel-row channels n a x b y c z l e = let p = both (isCount 4 n) _ e in go n (p .0) (both (isItemOf channels n (pos 0) a x) _ (p .1))
+  where
+    go : (n : ℤ) → isCount 4 n ≡ true → (isItemOf channels n (pos 0) a x ≡ true) × (isItemOf channels n (pos 1) b y && isItemOf channels n (pos 2) c z ≡ true)
+        → let row = n ∷ a ∷ x ∷ b ∷ y ∷ c ∷ z ∷ l in FitsChannel channels (channelOf row) × (channelNumbers (channelOf row) l ≡ row)
+    go (pos zero) k h = false-not-true k
+    go (pos (suc zero)) k h =
+        let i = item-row channels a x (h .0) in
+        let r = both (isZero b && isZero y) _ (h .1) in
+        (i .0, ap (λ (u : List ℤ). pos 1 ∷ u) (i .1 (noItem (noItem l)) ∙ ap (λ (u : List ℤ). a ∷ x ∷ u) (unused-row b y (noItem l) (r .0) ∙ ap (λ (u : List ℤ). b ∷ y ∷ u) (unused-row c z l (r .1)))))
+    go (pos (suc (suc zero))) k h =
+        let i = item-row channels a x (h .0) in
+        let r = both (isItem channels b y) _ (h .1) in
+        let j = item-row channels b y (r .0) in (
+          (i .0, j .0),
+          ap (λ (u : List ℤ). pos 2 ∷ u) (i .1 (itemNumbers (itemOf b y) (noItem l)) ∙ ap (λ (u : List ℤ). a ∷ x ∷ u) (j .1 (noItem l) ∙ ap (λ (u : List ℤ). b ∷ y ∷ u) (unused-row c z l (r .1)))),
+        )
+    go (pos (suc (suc (suc zero)))) k h =
+        let i = item-row channels a x (h .0) in
+        let r = both (isItem channels b y) _ (h .1) in
+        let j = item-row channels b y (r .0) in
+        let m = item-row channels c z (r .1) in (
+          (i .0, j .0, m .0),
+          ap (λ (u : List ℤ). pos 3 ∷ u) (i .1 (itemNumbers (itemOf b y) (itemNumbers (itemOf c z) l)) ∙ ap (λ (u : List ℤ). a ∷ x ∷ u) (j .1 (itemNumbers (itemOf c z) l) ∙ ap (λ (u : List ℤ). b ∷ y ∷ u) (m .1 l))),
+        )
+    go (pos (suc (suc (suc (suc n))))) k h = absurd (omega (arith, below-bound 4 (pos (suc (suc (suc (suc n))))) (count-below 4 (pos (suc (suc (suc (suc n))))) k)))
+    go (negsuc n) k h = false-not-true (count-below 4 (negsuc n) k)
+
+-- what stands after a channel's numbers
+pub after-channel : (c : offers.Channel) (k : ℤ) (l : List ℤ) → (at (channelNumbers c (k ∷ l)) channelWidth ≡ k) × (drop (channelWidth + 1) (channelNumbers c (k ∷ l)) ≡ l)
+unfolding channelNumbers itemNumbers
+after-channel (oneItem a) k l = (refl, refl)
+after-channel (twoItems a b) k l = (refl, refl)
+after-channel (threeItems a b c) k l = (refl, refl)
 
 -- ---- pairs
 -- the numbers of a pair: channel, count, padded values
 pub pair-shape : (x : offers.Pair) → pairNumbers x ≡ channelNumbers (x .channel) (pos (length (x .values)) ∷ padded 2 (x .values))
-unfolding pairNumbers numbers channelNumbers
+unfolding pairNumbers numbers channelNumbers itemNumbers
 pair-shape x = go (x .channel)
   where
-    go : (c : offers.Channel) → padded pairWidth (channelNumbers c (pos (length (x .values)) ∷ x .values)) ≡ channelNumbers c (pos (length (x .values)) ∷ padded 2 (x .values))
-    go (offers.number z) = padded-more 4 _ _ ∙ ap (λ (l : List ℤ). pos 0 ∷ l) (padded-more 3 _ _ ∙ ap (λ (l : List ℤ). z ∷ l) (padded-more 2 _ _))
-    go (offers.named n) = padded-more 4 _ _ ∙ ap (λ (l : List ℤ). pos 1 ∷ l) (padded-more 3 _ _ ∙ ap (λ (l : List ℤ). pos n ∷ l) (padded-more 2 _ _))
+    v : List ℤ
+    v = pos (length (x .values)) ∷ x .values
 
-not-zero : (z : ℤ) → isBelow 3 z ≡ true → not (isZero z) ≡ true → (1 ≤ natAbs z) × (natAbs z ≤ 2)
-unfolding isZero
-not-zero (pos zero) b e = false-not-true e
-not-zero (pos (suc n)) b e = (omega arith, omega (arith, below-bound 3 (pos (suc n)) b))
-not-zero (negsuc n) b e = absurd (nothing (below-natural 3 (negsuc n) b))
-  where
-    nothing : negsuc n ≡ pos (suc n) → ⊥
-    nothing q = let z : _≡_ {A = ℕ} 0 1 = cc in omega arith
+    go : (c : offers.Channel) → padded pairWidth (channelNumbers c (pos (length (x .values)) ∷ x .values)) ≡ channelNumbers c (pos (length (x .values)) ∷ padded 2 (x .values))
+    go (oneItem a) = padded-after pairWidth 3 (channelNumbers (oneItem a) []) v (omega arith) ∙ ap (λ (l : List ℤ). channelNumbers (oneItem a) l) (padded-more 2 _ _)
+    go (twoItems a b) = padded-after pairWidth 3 (channelNumbers (twoItems a b) []) v (omega arith) ∙ ap (λ (l : List ℤ). channelNumbers (twoItems a b) l) (padded-more 2 _ _)
+    go (threeItems a b c) = padded-after pairWidth 3 (channelNumbers (threeItems a b c) []) v (omega arith) ∙ ap (λ (l : List ℤ). channelNumbers (threeItems a b c) l) (padded-more 2 _ _)
+
+one-or-two : (z : ℤ) → isCount 3 z ≡ true → (1 ≤ natAbs z) × (natAbs z ≤ 2)
+unfolding isCount isZero isBelow
+one-or-two (pos zero) e = false-not-true e
+one-or-two (pos (suc n)) e = (omega arith, omega (arith, below-bound 3 (pos (suc n)) (count-below 3 (pos (suc n)) e)))
+one-or-two (negsuc n) e = false-not-true (count-below 3 (negsuc n) e)
 
 pub pair-row : (channels : ℕ) (r : List ℤ) → length r ≡ pairWidth → isPair channels r ≡ true → FitsPair channels (pairOf r) × (pairNumbers (pairOf r) ≡ r)
 unfolding isPair pairOf
-pair-row channels [] l e = absurd (omega arith)
-pair-row channels (k ∷ []) l e = absurd (omega arith)
-pair-row channels (k ∷ z ∷ []) l e = absurd (omega arith)
-pair-row channels (k ∷ z ∷ c ∷ vs) l e =
-    let a = both (isChannel channels k z) _ e in
-    let b = both (isBelow 3 c) _ (a .1) in
-    let d = both (not (isZero c)) _ (b .1) in
-    let n : ℕ = natAbs c in
-    let m = not-zero c (b .0) (d .0) in
-    let j : length (take n vs) ≡ n = length-take-le n vs (omega (arith, m .1)) in
-    let q : padded 2 (take n vs) ≡ vs = padded-is 2 n vs (omega arith) (m .1) (d .1) in
-    let o : pos (length (take n vs)) ≡ c = ap pos j ∙ sym (below-natural 3 c (b .0)) in
-    let w = channel-row channels k z (c ∷ vs) (a .0) in (
+pair-row channels (n ∷ a ∷ x ∷ b ∷ y ∷ c ∷ z ∷ k ∷ vs) l e =
+    let row : List ℤ = n ∷ a ∷ x ∷ b ∷ y ∷ c ∷ z ∷ k ∷ vs in
+    let p = both (isChannel channels row) _ e in
+    let d = both (isCount 3 k) _ (p .1) in
+    let i : ℕ = natAbs k in
+    let m = one-or-two k (d .0) in
+    let j : length (take i vs) ≡ i = length-take-le i vs (omega (arith, m .1)) in
+    let q : padded 2 (take i vs) ≡ vs = padded-is 2 i vs (omega arith) (m .1) (d .1) in
+    let o : pos (length (take i vs)) ≡ k = ap pos j ∙ sym (below-natural 3 k (count-below 3 k (d .0))) in
+    let w = channel-row channels n a x b y c z (k ∷ vs) (p .0) in (
       record {
         channel = w .0;
         number = record { one = omega (arith, m .0); two = omega (arith, m .1) };
-        values = padded-says n vs (d .1);
+        values = padded-says i vs (d .1);
       },
-      pair-shape (pairOf (k ∷ z ∷ c ∷ vs)) ∙ ap₂ (λ (y : ℤ) (ys : List ℤ). channelNumbers (channelOf k z) (y ∷ ys)) o q ∙ w .1,
+      pair-shape (pairOf row) ∙ ap₂ (λ (u : ℤ) (us : List ℤ). channelNumbers (channelOf row) (u ∷ us)) o q ∙ w .1,
     )
+pair-row channels [] l e = absurd (omega arith)
+pair-row channels (n ∷ []) l e = absurd (omega arith)
+pair-row channels (n ∷ a ∷ []) l e = absurd (omega arith)
+pair-row channels (n ∷ a ∷ x ∷ []) l e = absurd (omega arith)
+pair-row channels (n ∷ a ∷ x ∷ b ∷ []) l e = absurd (omega arith)
+pair-row channels (n ∷ a ∷ x ∷ b ∷ y ∷ []) l e = absurd (omega arith)
+pair-row channels (n ∷ a ∷ x ∷ b ∷ y ∷ c ∷ []) l e = absurd (omega arith)
+pair-row channels (n ∷ a ∷ x ∷ b ∷ y ∷ c ∷ z ∷ []) l e = absurd (omega arith)
 
-few-values : (n : ℕ) → 1 ≤ n → n ≤ 2 → (isBelow 3 (pos n) ≡ true) × (not (isZero (pos n)) ≡ true)
-unfolding isBelow isZero
-few-values n a b = (lt-ltb n 3 (omega arith), ap not (ne-eqb n 0 (λ e. omega arith)))
+few-values : (n : ℕ) → 1 ≤ n → n ≤ 2 → isCount 3 (pos n) ≡ true
+unfolding isCount isBelow isZero
+few-values n a b = rw (ne-eqb n 0 (λ e. omega arith), lt-ltb n 3 (omega arith))
 
-in-range : (z : ℤ) → InRange z → isValue z ≡ true
-unfolding isValue
-in-range z r = rw (r .low, r .high)
+-- an item that fits
+item-passes : (channels : ℕ) (a : offers.Item) → FitsItem channels a → isItem channels (pos (itemKind a)) (itemValue a) ≡ true
+unfolding isItem itemKind itemValue FitsItem isValue isBelow
+item-passes channels (offers.number z) g = rw (g .low, g .high)
+item-passes channels (offers.named n) g = lt-ltb n channels g
 
-is-below : (n m : ℕ) → n < m → isBelow m (pos n) ≡ true
-unfolding isBelow
-is-below n m l = lt-ltb n m l
+channel-passes : (channels : ℕ) (c : offers.Channel) (l : List ℤ) → FitsChannel channels c → isChannel channels (channelNumbers c l) ≡ true
+unfolding isChannel isCount isZero isBelow isItemOf channelNumbers itemNumbers FitsChannel
+channel-passes channels (oneItem a) l g = rw (item-passes channels a g)
+channel-passes channels (twoItems a b) l g = rw (item-passes channels a (g .0), item-passes channels b (g .1))
+channel-passes channels (threeItems a b c) l g = rw (item-passes channels a (g .0), item-passes channels b (g .1), item-passes channels c (g .2))
 
 -- channel, count and values that fit
 counted-pair : (channels : ℕ) (c : offers.Channel) (v : List ℤ) → FitsChannel channels c → OneOrTwo v → Every InRange v → isPair channels (channelNumbers c (pos (length v) ∷ padded 2 v)) ≡ true
-unfolding isPair isChannel channelNumbers FitsChannel
-counted-pair channels (offers.number z) v g o r =
-    let h = few-values (length v) (o .one) (o .two) in
-    rw (in-range z g, h .0, h .1, padded-passes 2 v r)
-counted-pair channels (offers.named n) v g o r =
-    let h = few-values (length v) (o .one) (o .two) in
-    rw (is-below n channels g, h .0, h .1, padded-passes 2 v r)
+unfolding isPair
+counted-pair channels c v g o r =
+    let w = after-channel c (pos (length v)) (padded 2 v) in
+    rw (channel-passes channels c (pos (length v) ∷ padded 2 v) g, w .0, w .1, few-values (length v) (o .one) (o .two), padded-passes 2 v r)
 
 pub row-pair : (channels : ℕ) (x : offers.Pair) → FitsPair channels x → isPair channels (pairNumbers x) ≡ true
 row-pair channels x f = ap (isPair channels) (pair-shape x) ∙ counted-pair channels (x .channel) (x .values) (f .channel) (f .number) (f .values)
+
+item-back : (a : offers.Item) → itemOf (pos (itemKind a)) (itemValue a) ≡ a
+unfolding itemOf itemKind itemValue
+item-back (offers.number z) = refl
+item-back (offers.named n) = refl
 
 make-pair : offers.Channel → List ℤ → offers.Pair
 make-pair c vs = record { channel = c; values = vs }
 
 pub pair-back : (x : offers.Pair) → pairOf (pairNumbers x) ≡ x
-unfolding pairOf channelNumbers channelOf make-pair
+unfolding pairOf channelOf channelNumbers itemNumbers make-pair
 pair-back x = ap pairOf (pair-shape x) ∙ go (x .channel) (x .values)
   where
     go : (c : offers.Channel) (v : List ℤ) → pairOf (channelNumbers c (pos (length v) ∷ padded 2 v)) ≡ make-pair c v
-    go (offers.number z) v = ap (make-pair (offers.number z)) (padded-front 2 v)
-    go (offers.named n) v = ap (make-pair (offers.named n)) (padded-front 2 v)
+    go (oneItem a) v = ap₂ make-pair (ap oneItem (item-back a)) (padded-front 2 v)
+    go (twoItems a b) v = ap₂ make-pair (ap₂ twoItems (item-back a) (item-back b)) (padded-front 2 v)
+    go (threeItems a b c) v =
+        ap₂ make-pair (ap₂ (λ (p : offers.Item × offers.Item) (q : offers.Item). threeItems (p .0) (p .1) q) (ap₂ (λ (p q : offers.Item). (p, q)) (item-back a) (item-back b)) (item-back c)) (padded-front 2 v)
 
 pub pair-wide : (channels : ℕ) (x : offers.Pair) → FitsPair channels x → length (pairNumbers x) ≡ pairWidth
-unfolding channelNumbers padded
-pair-wide channels x f = ap length (pair-shape x) ∙ go (x .channel)
-  where
-    go : (c : offers.Channel) → length (channelNumbers c (pos (length (x .values)) ∷ padded 2 (x .values))) ≡ pairWidth
-    go (offers.number z) = simp (length-append, length-replicate) (omega (arith, f .number .two))
-    go (offers.named n) = simp (length-append, length-replicate) (omega (arith, f .number .two))
+pair-wide channels x f =
+    ap length (pair-shape x)
+    ∙ omega (arith, channel-length (x .channel) (pos (length (x .values)) ∷ padded 2 (x .values)), padded-length 2 (x .values) (f .number .two))

@@ -5,6 +5,7 @@ use mathlib.Core.Option.{some}
 use Prim.Native.Nat.{ℕ, _≤_}
 use native.Mathlib.Omega.{arith}
 use lib.ListN.{length, getElem?}
+use Rattle.value.specs.Items.{oneItem, twoItems, threeItems}
 use Rattle.model.specs.Limits.{localLimit}
 use Rattle.model.specs.Resolved
 use Rattle.rules.specs.Offers as offers
@@ -12,10 +13,10 @@ use Rattle.model.specs.Good.{Every, SumWith, GoodSum, GoodModel}
 use Rattle.model.specs.Scope.{scopeOf, localsIn, definitionIn}
 use Rattle.model.proofs.Scope.{locals-in, definition-in}
 use Rattle.machine.specs.Offer.{Process}
-use Rattle.machine.specs.State.{State, GoodChannel, GoodPair, GoodProcess, GoodState}
+use Rattle.machine.specs.State.{State, GoodItem, GoodChannel, GoodPair, GoodProcess, GoodState}
 use Rattle.machine.proofs.Branches.{nth-map, map-nth, nth-get, get-nth}
 use Rattle.machine.proofs.Everys.{every-in, in-every, every-nth, every-map}
-use Rattle.state.specs.Fits.{scopesOf, FewLocals, FitsChannel, FitsPair, FitsProcess, Fits}
+use Rattle.state.specs.Fits.{scopesOf, FewLocals, FitsItem, FitsChannel, FitsPair, FitsProcess, Fits}
 
 module _ (m : Resolved.Model) where
   process-fits : GoodModel m → (p : Process) → GoodProcess m p → FitsProcess (scopesOf m) p
@@ -40,15 +41,27 @@ module _ (m : Resolved.Model) where
         definition = sym (f .definition) ∙ ap definitionIn (w .is) ∙ definition-in (w .source) few;
       }
 
+  item-fits : (a : offers.Item) → GoodItem m a → FitsItem (m .channels) a
+  unfolding GoodItem FitsItem
+  item-fits (offers.number z) h = h
+  item-fits (offers.named n) h = h
+
+  fits-item : (a : offers.Item) → FitsItem (m .channels) a → GoodItem m a
+  unfolding GoodItem FitsItem
+  fits-item (offers.number z) h = h
+  fits-item (offers.named n) h = h
+
   channel-fits : (c : offers.Channel) → GoodChannel m c → FitsChannel (m .channels) c
   unfolding GoodChannel FitsChannel
-  channel-fits (offers.number z) h = h
-  channel-fits (offers.named n) h = h
+  channel-fits (oneItem a) h = item-fits a h
+  channel-fits (twoItems a b) h = (item-fits a (h .0), item-fits b (h .1))
+  channel-fits (threeItems a b c) h = (item-fits a (h .0), item-fits b (h .1), item-fits c (h .2))
 
   fits-channel : (c : offers.Channel) → FitsChannel (m .channels) c → GoodChannel m c
   unfolding GoodChannel FitsChannel
-  fits-channel (offers.number z) h = h
-  fits-channel (offers.named n) h = h
+  fits-channel (oneItem a) h = fits-item a h
+  fits-channel (twoItems a b) h = (fits-item a (h .0), fits-item b (h .1))
+  fits-channel (threeItems a b c) h = (fits-item a (h .0), fits-item b (h .1), fits-item c (h .2))
 
   pub pair-fits : (x : offers.Pair) → GoodPair m x → FitsPair (m .channels) x
   pair-fits x h = record { channel = channel-fits (x .channel) (h .channel); number = h .number; values = h .values }

@@ -15,7 +15,6 @@ use Rattle.model.specs.Resolved
 use Rattle.model.specs.Scope.{localsIn, definitionIn}
 use Rattle.value.proofs.Kit.{same-eq}
 use Rattle.rules.specs.Offers as offers
-use Rattle.rules.specs.Pairs.{channelNumbers}
 use Rattle.model.specs.Good.{GoodModel}
 use Rattle.machine.specs.Offer.{Process}
 use Rattle.machine.specs.State.{State, GoodState, padded, pairNumbers, stateNumbers, pairWidth, processRoom, processWidth}
@@ -25,7 +24,7 @@ use Rattle.state.specs.Decode.{processOf, pairOf, decode}
 use Rattle.state.specs.Read.{Passed, processCount, pairCount, sumAt, localsAt, definitionNumber, pairRow}
 use Rattle.state.proofs.Tests.{both, below-bound}
 use Rattle.state.proofs.Rows.{rows-length}
-use Rattle.state.proofs.Entries.{get-is, pair-shape, pair-row}
+use Rattle.state.proofs.Entries.{get-is, pair-row}
 use Rattle.state.proofs.Places.{row-at}
 use Rattle.state.proofs.Image.{parts, numbers-length, numbers-pass, decode-back}
 use Rattle.state.proofs.Over.{good-fits, few-scopes}
@@ -195,16 +194,6 @@ module _ (scopes : List ℕ) (few : FewLocals scopes) (channels : ℕ) (s : Stat
   pub row-numbers : (i : ℕ) (x : offers.Pair) → getElem? (s .pairs) i ≡ some x → pairRow (stateNumbers s) i ≡ pairNumbers x
   unfolding numbers-passed
   row-numbers i x e = row-decoded (stateNumbers s) numbers-passed i x (ap (λ (t : State). getElem? (t .pairs) i) back ∙ e)
-
--- a pair's count of values and its values, in its row
-pub row-values : (x : offers.Pair) → (at (pairNumbers x) 2 ≡ pos (length (x .values))) × (drop 3 (pairNumbers x) ≡ padded 2 (x .values))
-unfolding channelNumbers
-row-values x = rw (pair-shape x) (go (x .channel))
-  where
-    go : (c : offers.Channel)
-        → (at (channelNumbers c (pos (length (x .values)) ∷ padded 2 (x .values))) 2 ≡ pos (length (x .values))) × (drop 3 (channelNumbers c (pos (length (x .values)) ∷ padded 2 (x .values))) ≡ padded 2 (x .values))
-    go (offers.number z) = (refl, refl)
-    go (offers.named n) = (refl, refl)
 
 -- 01, Listing, 11: the numbers of a state over a model
 pub good-passed : (m : Resolved.Model) (s : State) → GoodModel m → GoodState m s → Passed (stateNumbers s)

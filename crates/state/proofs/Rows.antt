@@ -68,6 +68,12 @@ pub padded-more : (n : ℕ) (z : ℤ) (l : List ℤ) → padded (suc n) (z ∷ l
 unfolding padded
 padded-more n z l = let e : suc n - suc (length l) ≡ n - length l = omega arith in ap (λ (m : ℕ). z ∷ (l ++ replicate m (pos 0))) e
 
+pub padded-after : (m n : ℕ) (u v : List ℤ) → m ≡ length u + n → padded m (u ++ v) ≡ u ++ padded n v
+unfolding padded
+padded-after m n u v e =
+    let k : m - length (u ++ v) ≡ n - length v = simp length-append (omega arith) in
+    ap (λ (j : ℕ). (u ++ v) ++ replicate j (pos 0)) k ∙ append-assoc u v (replicate (n - length v) (pos 0))
+
 pub padded-passes : (n : ℕ) (l : List ℤ) → Every InRange l → isPadded (length l) (padded n l) ≡ true
 unfolding isPadded
 padded-passes n l r = rw (padded-front n l, say-values l r, padded-end n (length l) l refl)

@@ -15,13 +15,13 @@ use lib.ListN.{length, getD, take, drop, drop-of-length-le}
 use lib.Seq.{drop-cons, drop-drop, getD-take, length-take-le}
 use mir.Syntax.{w64}
 use mir.Val.{Fits, SFits, ofZ}
-use Rattle.machine.specs.State.{pairWidth, processWidth}
+use Rattle.machine.specs.State.{channelWidth, pairWidth, processWidth}
 use Rattle.model.specs.Limits.{localLimit}
 use Rattle.value.specs.Arithmetic.{isLess, isSame}
 use Rattle.value.specs.Range.{least, greatest}
 use Rattle.value.proofs.Kit.{true-not-false, false-not-true, same-bits, ok-fits}
 use Rattle.rules.specs.Order.{less}
-use Rattle.state.specs.Test.{every, rows, isValue, isZero, isBelow, at, isPadded, isProcess, isChannel, isPair, leads, ascends, areProcesses, arePairs, isState, processPart, pairPart}
+use Rattle.state.specs.Test.{every, rows, isValue, isZero, isBelow, at, isPadded, isProcess, isCount, isItem, isItemOf, isChannel, isPair, leads, ascends, areProcesses, arePairs, isState, processPart, pairPart}
 use Rattle.state.specs.Fits.{FewLocals}
 use Rattle.model.specs.Good.{Every}
 use Rattle.model.specs.Scope.{localsIn, definitionIn}
@@ -109,18 +109,44 @@ bits-same x n f h e = sym (same-bits x (pos n) f (ok-fits (pos n) h)) ∙ eq-eqb
 pub bits-differ : (x : ℤ) (n : ℕ) → SFits w64 x → n < 9223372036854775808 → (ofZ w64 x ≡ n → ⊥) → isSame x (pos n) ≡ false
 bits-differ x n f h e = sym (same-bits x (pos n) f (ok-fits (pos n) h)) ∙ ne-eqb _ _ e
 
--- ---- channels and padding, case by case
-pub channel-number : (channels : ℕ) (kind z : ℤ) → isSame kind (pos 0) ≡ true → isChannel channels kind z ≡ isValue z
-unfolding isChannel
-channel-number channels kind z e = rw e
+-- ---- items, counts and padding, case by case
+pub item-number : (channels : ℕ) (kind z : ℤ) → isSame kind (pos 0) ≡ true → isItem channels kind z ≡ isValue z
+unfolding isItem
+item-number channels kind z e = rw e
 
-pub channel-neither : (channels : ℕ) (kind z : ℤ) → isSame kind (pos 0) ≡ false → isSame kind (pos 1) ≡ false → isChannel channels kind z ≡ false
-unfolding isChannel
-channel-neither channels kind z e f = rw (e, f)
+pub item-neither : (channels : ℕ) (kind z : ℤ) → isSame kind (pos 0) ≡ false → isSame kind (pos 1) ≡ false → isItem channels kind z ≡ false
+unfolding isItem
+item-neither channels kind z e f = rw (e, f)
 
-pub channel-name : (channels : ℕ) (kind z : ℤ) → isSame kind (pos 0) ≡ false → isSame kind (pos 1) ≡ true → isChannel channels kind z ≡ isBelow channels z
-unfolding isChannel
-channel-name channels kind z e f = rw (e, f)
+pub item-name : (channels : ℕ) (kind z : ℤ) → isSame kind (pos 0) ≡ false → isSame kind (pos 1) ≡ true → isItem channels kind z ≡ isBelow channels z
+unfolding isItem
+item-name channels kind z e f = rw (e, f)
+
+pub item-there : (channels : ℕ) (items i kind z : ℤ) → isLess i items ≡ true → isItemOf channels items i kind z ≡ isItem channels kind z
+unfolding isItemOf
+item-there channels items i kind z e = rw e
+
+pub item-unused : (channels : ℕ) (items i kind z : ℤ) → isLess i items ≡ false → isItemOf channels items i kind z ≡ isZero kind && isZero z
+unfolding isItemOf
+item-unused channels items i kind z e = rw e
+
+pub zeros-fail : (kind z : ℤ) → isZero kind ≡ false → isZero kind && isZero z ≡ false
+zeros-fail kind z e = rw e
+
+pub zeros-rest : (kind z : ℤ) → isZero kind ≡ true → isZero kind && isZero z ≡ isZero z
+zeros-rest kind z e = rw e
+
+pub count-none : (n : ℕ) (z : ℤ) → isZero z ≡ true → isCount n z ≡ false
+unfolding isCount
+count-none n z e = rw e
+
+pub count-some : (n : ℕ) (z : ℤ) → isZero z ≡ false → isCount n z ≡ isBelow n z
+unfolding isCount
+count-some n z e = rw e
+
+pub count-below : (n : ℕ) (z : ℤ) → isCount n z ≡ true → isBelow n z ≡ true
+unfolding isCount
+count-below n z e = both (not (isZero z)) _ e .1
 
 pub padded-fails : (k : ℕ) (l : List ℤ) → every isValue (take k l) ≡ false → isPadded k l ≡ false
 unfolding isPadded
@@ -161,22 +187,36 @@ unfolding Every
 few-more k scopes l h = (l, h)
 
 module _ (channels : ℕ) (row : List ℤ) where
-  pub pair-channel : isChannel channels (at row 0) (at row 1) ≡ false → isPair channels row ≡ false
+  pub channel-count : isCount 4 (at row 0) ≡ false → isChannel channels row ≡ false
+  unfolding isChannel
+  channel-count e = rw e
+
+  module _ (c : isCount 4 (at row 0) ≡ true) where
+    pub channel-first : isItemOf channels (at row 0) (pos 0) (at row 1) (at row 2) ≡ false → isChannel channels row ≡ false
+    unfolding isChannel
+    channel-first e = rw (c, e)
+
+    module _ (f : isItemOf channels (at row 0) (pos 0) (at row 1) (at row 2) ≡ true) where
+      pub channel-second : isItemOf channels (at row 0) (pos 1) (at row 3) (at row 4) ≡ false → isChannel channels row ≡ false
+      unfolding isChannel
+      channel-second e = rw (c, f, e)
+
+      pub channel-rest : isItemOf channels (at row 0) (pos 1) (at row 3) (at row 4) ≡ true → isChannel channels row ≡ isItemOf channels (at row 0) (pos 2) (at row 5) (at row 6)
+      unfolding isChannel
+      channel-rest e = rw (c, f, e)
+
+  pub pair-channel : isChannel channels row ≡ false → isPair channels row ≡ false
   unfolding isPair
   pair-channel e = rw e
 
-  module _ (c : isChannel channels (at row 0) (at row 1) ≡ true) where
-    pub pair-many : isBelow 3 (at row 2) ≡ false → isPair channels row ≡ false
+  module _ (c : isChannel channels row ≡ true) where
+    pub pair-count : isCount 3 (at row channelWidth) ≡ false → isPair channels row ≡ false
     unfolding isPair
-    pair-many e = rw (c, e)
+    pair-count e = rw (c, e)
 
-    pub pair-none : isBelow 3 (at row 2) ≡ true → isZero (at row 2) ≡ true → isPair channels row ≡ false
+    pub pair-rest : isCount 3 (at row channelWidth) ≡ true → isPair channels row ≡ isPadded (natAbs (at row channelWidth)) (drop (channelWidth + 1) row)
     unfolding isPair
-    pair-none e f = rw (c, e, f)
-
-    pub pair-rest : isBelow 3 (at row 2) ≡ true → isZero (at row 2) ≡ false → isPair channels row ≡ isPadded (natAbs (at row 2)) (drop 3 row)
-    unfolding isPair
-    pair-rest e f = rw (c, e, f)
+    pair-rest e = rw (c, e)
 
 -- ---- every member
 module _ {A : Type 0} (t : A → Bool) where

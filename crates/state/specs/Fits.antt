@@ -5,6 +5,7 @@ use mathlib.Core.Option.{some}
 use Prim.Native.Nat.{ℕ, _≤_, _<_}
 use lib.ListN.{length, getElem?}
 use Rattle.value.specs.Range.{InRange}
+use Rattle.value.specs.Items.{oneItem, twoItems, threeItems}
 use Rattle.model.specs.Limits.{localLimit}
 use Rattle.model.specs.Resolved
 use Rattle.model.specs.Scope.{scopeOf, localsIn, definitionIn}
@@ -24,10 +25,16 @@ scopesOf m = map scopeOf (m .sums)
 abbrev pub FewLocals : List ℕ → Type 0
 FewLocals scopes = Every (λ (k : ℕ). localsIn k ≤ localLimit) scopes
 
--- 01, Listing, 11: number channels in range, channel names that exist
+-- 01, Listing, 11: number items in range, channel names that exist
+unfoldable pub FitsItem : ℕ → offers.Item → Type 0
+FitsItem channels (offers.number z) = InRange z
+FitsItem channels (offers.named n) = n < channels
+
+-- 02, note 7: each item of a channel
 unfoldable pub FitsChannel : ℕ → offers.Channel → Type 0
-FitsChannel channels (offers.number z) = InRange z
-FitsChannel channels (offers.named n) = n < channels
+FitsChannel channels (oneItem a) = FitsItem channels a
+FitsChannel channels (twoItems a b) = FitsItem channels a × FitsItem channels b
+FitsChannel channels (threeItems a b c) = FitsItem channels a × FitsItem channels b × FitsItem channels c
 
 -- 01, Listing, 11: 1 or 2 values in range
 pub record FitsPair (channels : ℕ) (x : offers.Pair) : Type 0 where

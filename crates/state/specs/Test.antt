@@ -1,18 +1,18 @@
--- Whether 3,842 numbers are those of a state, as a test in the code's order (01, State, and Listing, question 11). Definitions only.
+-- Whether 5,122 numbers are those of a state, as a test in the code's order (01, State, and Listing, question 11). Definitions only.
 use mathlib.Core.Bool.{Bool, true, false, cond, not, _&&_}
-use mathlib.Core.List.{List, [], _∷_}
+use mathlib.Core.List.{List, [], _∷_, _++_}
 use Prim.Native.Nat.{ℕ, zero, suc, _+_, _*_}
 use lib.Dec.{ltb}
 use lib.IntN.{ℤ, pos, negsuc, natAbs}
 use lib.Signed.{leZ}
 use lib.ListN.{length, getD, take, drop}
-use Rattle.value.specs.Arithmetic.{isSame}
+use Rattle.value.specs.Arithmetic.{isLess, isSame}
 use Rattle.value.specs.Range.{least, greatest}
 use Rattle.model.specs.Limits.{localLimit}
 use Rattle.model.specs.Opening.{processLimit}
 use Rattle.model.specs.Scope.{localsIn, definitionIn}
 use Rattle.rules.specs.Order.{less}
-use Rattle.machine.specs.State.{pairLimit, processWidth, pairWidth}
+use Rattle.machine.specs.State.{pairLimit, processWidth, channelWidth, pairWidth}
 
 -- a test of every member
 unfoldable pub every : {A : Type 0} → (A → Bool) → List A → Bool
@@ -55,13 +55,27 @@ isProcess scopes row =
     isBelow (length scopes) (at row 0)
     && (isPadded (localsIn (getD scopes (natAbs (at row 0)) 0)) (take localLimit (drop 1 row)) && isSame (at row (1 + localLimit)) (pos (definitionIn (getD scopes (natAbs (at row 0)) 0))))
 
--- 01, State: channel kind 0 is a number, 1 a name
-unfoldable pub isChannel : ℕ → ℤ → ℤ → Bool
-isChannel channels kind z = cond (isSame kind (pos 0)) (isValue z) (isSame kind (pos 1) && isBelow channels z)
+-- 1 to a greatest count, below n
+unfoldable pub isCount : ℕ → ℤ → Bool
+isCount n z = not (isZero z) && isBelow n z
+
+-- 01, State: item kind 0 is a number, 1 a name
+unfoldable pub isItem : ℕ → ℤ → ℤ → Bool
+isItem channels kind z = cond (isSame kind (pos 0)) (isValue z) (isSame kind (pos 1) && isBelow channels z)
+
+-- 02, note 7: item i of so many, or unused numbers
+unfoldable pub isItemOf : ℕ → ℤ → ℤ → ℤ → ℤ → Bool
+isItemOf channels items i kind z = cond (isLess i items) (isItem channels kind z) (isZero kind && isZero z)
+
+-- 02, note 7: 1 to 3 items
+unfoldable pub isChannel : ℕ → List ℤ → Bool
+isChannel channels row =
+    isCount 4 (at row 0)
+    && (isItemOf channels (at row 0) (pos 0) (at row 1) (at row 2) && (isItemOf channels (at row 0) (pos 1) (at row 3) (at row 4) && isItemOf channels (at row 0) (pos 2) (at row 5) (at row 6)))
 
 -- 01, Listing, 11: 1 or 2 values
 unfoldable pub isPair : ℕ → List ℤ → Bool
-isPair channels row = isChannel channels (at row 0) (at row 1) && (isBelow 3 (at row 2) && (not (isZero (at row 2)) && isPadded (natAbs (at row 2)) (drop 3 row)))
+isPair channels row = isChannel channels row && (isCount 3 (at row channelWidth) && isPadded (natAbs (at row channelWidth)) (drop (channelWidth + 1) row))
 
 -- a row stands before the first of those that follow
 unfoldable pub leads : List ℤ → List (List ℤ) → Bool
@@ -83,9 +97,9 @@ unfoldable pub isLit : List ℤ → List (List ℤ) → Bool
 isLit row [] = false
 isLit row (r ∷ rs) = cond (less r row) (isLit row rs) (not (less row r))
 
--- a row before the pairs on a channel, or after them: a count of values that none of them has, and 0s
-abbrev pub channelRow : ℤ → ℤ → ℕ → List ℤ
-channelRow kind z k = kind ∷ z ∷ pos k ∷ pos 0 ∷ pos 0 ∷ []
+-- a row before the pairs on a channel, or after them: the channel's numbers, a count of values that none of them has, and 0s
+abbrev pub channelRow : List ℤ → ℕ → List ℤ
+channelRow c k = c ++ pos k ∷ pos 0 ∷ pos 0 ∷ []
 
 -- ---- the state
 

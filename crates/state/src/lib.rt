@@ -10,11 +10,11 @@ ghost use Rattle.model.specs.Opening.{processLimit};
 ghost use Rattle.model.specs.Scope.{localsIn, definitionIn};
 ghost use Rattle.value.specs.Arithmetic.{isSame};
 ghost use Rattle.rules.specs.Order.{less};
-ghost use Rattle.machine.specs.State.{pairLimit, processWidth, pairWidth, stateLength};
+ghost use Rattle.machine.specs.State.{pairLimit, processWidth, channelWidth, pairWidth, stateLength};
 ghost use Rattle.state.specs.Change.{rewritten, pairRows, pairAdded, pairTaken, pairLaunched, pairKilled, processReplaced, processAdded, processPushed};
 ghost use Rattle.state.specs.Fits.{FewLocals};
 ghost use Rattle.state.specs.Read.{Passed, processCount, pairCount, sumAt, localsAt, definitionNumber, pairRow};
-ghost use Rattle.state.specs.Test.{at, placeOf, isLit, channelRow, every, rows, isValue, isZero, isBelow, isPadded, isProcess, isChannel, isPair, ascends, areProcesses, arePairs, isState};
+ghost use Rattle.state.specs.Test.{at, placeOf, isLit, channelRow, every, rows, isValue, isZero, isBelow, isPadded, isProcess, isCount, isItem, isItemOf, isChannel, isPair, ascends, areProcesses, arePairs, isState};
 
 pub struct Layout;
 
@@ -33,10 +33,15 @@ impl Layout {
     // Where the pairs stand, and numbers of one.
     pub const PAIRS: usize = 2562;
 
-    pub const PAIR: usize = 5;
+    pub const PAIR: usize = 10;
+
+    // Numbers of a pair's channel, after which its count of values stands; and past the greatest count of items.
+    pub const CHANNEL: usize = 7;
+
+    pub const ITEM_COUNTS: usize = 4;
 
     // Numbers of a pair before its values, and past the greatest count of these.
-    pub const VALUES: usize = 3;
+    pub const VALUES: usize = 8;
 
     pub const VALUE_COUNTS: usize = 3;
 }
@@ -139,8 +144,18 @@ fn is_process(row: &[i64], scopes: &[u16], sums: usize) -> bool
     is_number(row[Layout::DEFINITION], definition_in(scope))
 }
 
-fn is_channel(kind: i64, z: i64, channels: usize) -> bool
-    ensures { λ r. ⌜ r ≡ isChannel channels kind z ⌝ }
+// Whether a number is a count of 1 or more, below a bound.
+fn is_count(z: i64, bound: usize) -> bool
+    ensures { λ r. ⌜ r ≡ isCount bound z ⌝ }
+{
+    if is_zero(z) {
+        return false;
+    }
+    is_below(z, bound)
+}
+
+fn is_item(kind: i64, z: i64, channels: usize) -> bool
+    ensures { λ r. ⌜ r ≡ isItem channels kind z ⌝ }
 {
     if kind == 0 {
         return is_value(z);
@@ -151,19 +166,47 @@ fn is_channel(kind: i64, z: i64, channels: usize) -> bool
     is_below(z, channels)
 }
 
+// Whether two numbers are item i of so many, or unused.
+fn is_item_of(items: i64, i: i64, kind: i64, z: i64, channels: usize) -> bool
+    ensures { λ r. ⌜ r ≡ isItemOf channels items i kind z ⌝ }
+{
+    if value::less(i, items) {
+        return is_item(kind, z, channels);
+    }
+    if !is_zero(kind) {
+        return false;
+    }
+    is_zero(z)
+}
+
+// Whether a row begins with the numbers of a channel that exists.
+fn is_channel(row: &[i64], channels: usize) -> bool
+    requires { ⌜ length (now row) ≡ pairWidth ⌝ }
+    ensures { λ r. ⌜ r ≡ isChannel channels (now (row .entry)) ⌝ }
+{
+    let items = row[0];
+    if !is_count(items, Layout::ITEM_COUNTS) {
+        return false;
+    }
+    if !is_item_of(items, 0, row[1], row[2], channels) {
+        return false;
+    }
+    if !is_item_of(items, 1, row[3], row[4], channels) {
+        return false;
+    }
+    is_item_of(items, 2, row[5], row[6], channels)
+}
+
 // Whether a row is a pair on a channel that exists.
 fn is_pair(row: &[i64], channels: usize) -> bool
     requires { ⌜ length (now row) ≡ pairWidth ⌝ }
     ensures { λ r. ⌜ r ≡ isPair channels (now (row .entry)) ⌝ }
 {
-    if !is_channel(row[0], row[1], channels) {
+    if !is_channel(row, channels) {
         return false;
     }
-    let count = row[2];
-    if !is_below(count, Layout::VALUE_COUNTS) {
-        return false;
-    }
-    if is_zero(count) {
+    let count = row[Layout::CHANNEL];
+    if !is_count(count, Layout::VALUE_COUNTS) {
         return false;
     }
     is_padded(&row[Layout::VALUES..], count as usize)
@@ -337,14 +380,15 @@ pub struct Run {
 }
 
 // How many of n ascending pairs stand before those on a channel, and how many up to the last of these.
-pub fn channel_run(s: &[i64], n: usize, kind: i64, channel: i64) -> Run
-    requires { ⌜ (n * pairWidth ≤ length (now s)) × (ascends (rows pairWidth n (now s)) ≡ true) ⌝ }
-    ensures { λ r. ⌜ (r .from ≡ placeOf (channelRow kind channel 0) (rows pairWidth n (now (s .entry)))) × (r .to ≡ placeOf (channelRow kind channel 3) (rows pairWidth n (now (s .entry)))) ⌝ }
+pub fn channel_run(s: &[i64], n: usize, channel: &[i64]) -> Run
+    requires { ⌜ (n * pairWidth ≤ length (now s)) × (ascends (rows pairWidth n (now s)) ≡ true) × (length (now channel) ≡ channelWidth) ⌝ }
+    ensures { λ r. ⌜ (r .from ≡ placeOf (channelRow (now (channel .entry)) 0) (rows pairWidth n (now (s .entry)))) × (r .to ≡ placeOf (channelRow (now (channel .entry)) 3) (rows pairWidth n (now (s .entry)))) ⌝ }
 {
-    let low = [kind, channel, 0, 0, 0];
-    let high = [kind, channel, Layout::VALUE_COUNTS as i64, 0, 0];
-    let from = find_pair(s, n, &low);
-    let to = find_pair(s, n, &high);
+    let mut row = [0i64; Layout::PAIR];
+    put(&mut row, channel, Layout::CHANNEL);
+    let from = find_pair(s, n, &row);
+    row[Layout::CHANNEL] = Layout::VALUE_COUNTS as i64;
+    let to = find_pair(s, n, &row);
     Run { from: from, to: to }
 }
 

@@ -9,10 +9,12 @@ use value::Range;
 // The length of a state's numbers, and a model with three sums and two channel names. Sum 1 stands in definition 1, the others in definition 0.
 struct Sample;
 
-type Numbers = [i64; 3842];
+type Numbers = [i64; 5122];
+
+type Row = [i64; 10];
 
 impl Sample {
-    const LENGTH: usize = 3842;
+    const LENGTH: usize = 5122;
 
     const SUMS: usize = 3;
 
@@ -52,7 +54,7 @@ fn push(state: &mut Numbers, sum: u8, locals: &[i64], definition: u8) {
     state::push_process(state, sum as usize, locals, definition as usize);
 }
 
-fn launch(state: &mut Numbers, row: &[i64; 5]) {
+fn launch(state: &mut Numbers, row: &Row) {
     if !is_good(state) {
         return;
     }
@@ -62,7 +64,7 @@ fn launch(state: &mut Numbers, row: &[i64; 5]) {
     state::launch_pair(state, row);
 }
 
-fn kill(state: &mut Numbers, row: &[i64; 5]) {
+fn kill(state: &mut Numbers, row: &Row) {
     if !is_good(state) {
         return;
     }
@@ -102,9 +104,9 @@ fn fill(state: &mut Numbers) {
     push(state, 0, &[5, 7], 0);
     push(state, 2, &[1, 2, 3, 4, 5, 6, 7, 8], 0);
     push(state, 1, &[0; 0], 1);
-    launch(state, &[1, 1, 1, 9, 0]);
-    launch(state, &[0, 4, 2, 1, 2]);
-    launch(state, &[0, 4, 1, 1, 0]);
+    launch(state, &[1, 1, 1, 0, 0, 0, 0, 1, 9, 0]);
+    launch(state, &[1, 0, 4, 0, 0, 0, 0, 2, 1, 2]);
+    launch(state, &[1, 0, 4, 0, 0, 0, 0, 1, 1, 0]);
 }
 
 // The test of the sample with another number at a place: the first process stands at 2, the first pair at 2562.
@@ -118,7 +120,7 @@ fn damaged(label: &[u8], at: usize, z: i64) {
 }
 
 // The test of the sample with another second pair.
-fn second_pair(label: &[u8], row: &[i64; 5]) {
+fn second_pair(label: &[u8], row: &Row) {
     let mut state = [0; Sample::LENGTH];
     fill(&mut state);
     let at = Layout::PAIRS + Layout::PAIR;
@@ -127,6 +129,11 @@ fn second_pair(label: &[u8], row: &[i64; 5]) {
     state[at + 2] = row[2];
     state[at + 3] = row[3];
     state[at + 4] = row[4];
+    state[at + 5] = row[5];
+    state[at + 6] = row[6];
+    state[at + 7] = row[7];
+    state[at + 8] = row[8];
+    state[at + 9] = row[9];
     test(label, &state);
 }
 
@@ -178,39 +185,101 @@ fn definitions() {
 }
 
 fn channels() {
-    damaged(b"kind 2", 2562, 2);
-    damaged(b"kind -1", 2562, -1);
-    damaged(b"name of no channel", 2562, 1);
-    damaged(b"number least", 2563, Range::LEAST);
-    damaged(b"number below least", 2563, Range::LEAST - 1);
-    damaged(b"number greatest", 2568, Range::GREATEST);
-    damaged(b"number above greatest", 2568, Range::GREATEST + 1);
-    damaged(b"name 0", 2573, 0);
-    damaged(b"name -1", 2573, -1);
-    damaged(b"name 2", 2573, 2);
+    damaged(b"kind 2", 2563, 2);
+    damaged(b"kind -1", 2563, -1);
+    damaged(b"name of no channel", 2563, 1);
+    damaged(b"number least", 2564, Range::LEAST);
+    damaged(b"number below least", 2564, Range::LEAST - 1);
+    damaged(b"number greatest", 2574, Range::GREATEST);
+    damaged(b"number above greatest", 2574, Range::GREATEST + 1);
+    damaged(b"name 0", 2584, 0);
+    damaged(b"name -1", 2584, -1);
+    damaged(b"name 2", 2584, 2);
+}
+
+// The third pair's channel is name 1 alone.
+fn items() {
+    damaged(b"no item", 2582, 0);
+    damaged(b"items -1", 2582, -1);
+    damaged(b"items least", 2582, -9223372036854775808);
+    damaged(b"items greatest", 2582, 9223372036854775807);
+    damaged(b"two items, the second 0", 2582, 2);
+    damaged(b"three items, two of them 0", 2582, 3);
+    damaged(b"four items", 2582, 4);
+    damaged(b"kind of an unused second item", 2585, 1);
+    damaged(b"value of an unused second item", 2586, 1);
+    damaged(b"kind of an unused third item", 2587, 1);
+    damaged(b"value of an unused third item", 2588, 1);
+}
+
+// Pairs on a number, on two numbers, on a name and a number, and on a number, a name and a number.
+fn fill_lists(state: &mut Numbers) {
+    launch(state, &[3, 0, 1, 1, 0, 0, 2, 1, 7, 0]);
+    launch(state, &[2, 1, 1, 0, 5, 0, 0, 2, 3, 4]);
+    launch(state, &[1, 0, 4, 0, 0, 0, 0, 1, 1, 0]);
+    launch(state, &[2, 0, 9, 0, 0, 0, 0, 1, 1, 0]);
+}
+
+// The test of those pairs with another number at a place: the second stands at 2572, the third at 2582, the fourth at 2592.
+fn damaged_list(label: &[u8], at: usize, z: i64) {
+    let mut state = [0; Sample::LENGTH];
+    fill_lists(&mut state);
+    if at < Sample::LENGTH {
+        state[at] = z;
+    }
+    test(label, &state);
+}
+
+fn lists() {
+    damaged_list(b"lists", 0, 0);
+    damaged_list(b"second item of kind 2", 2585, 2);
+    damaged_list(b"second item of kind -1", 2585, -1);
+    damaged_list(b"second item names no channel", 2585, 1);
+    damaged_list(b"second item least", 2586, Range::LEAST);
+    damaged_list(b"second item below least", 2586, Range::LEAST - 1);
+    damaged_list(b"second item greatest", 2586, Range::GREATEST);
+    damaged_list(b"second item above greatest", 2586, Range::GREATEST + 1);
+    damaged_list(b"first of two items names no channel", 2584, 2);
+    damaged_list(b"second of three items names channel 1", 2596, 1);
+    damaged_list(b"second of three items names no channel", 2596, 2);
+    damaged_list(b"third item of kind 2", 2597, 2);
+    damaged_list(b"third item names no channel", 2597, 1);
+    damaged_list(b"third item greatest", 2598, Range::GREATEST);
+    damaged_list(b"third item above greatest", 2598, Range::GREATEST + 1);
+    damaged_list(b"third item not counted", 2592, 2);
+    damaged_list(b"second item not counted", 2582, 1);
+    damaged_list(b"value of two items", 2579, 2);
+    damaged_list(b"three values of three items", 2599, 3);
+    damaged_list(b"ascending items", 2576, 1);
+    damaged_list(b"descending items", 2583, 0);
 }
 
 fn values() {
-    damaged(b"no value", 2564, 0);
-    damaged(b"values -1", 2564, -1);
-    damaged(b"three values", 2569, 3);
-    damaged(b"value least", 2565, Range::LEAST);
-    damaged(b"value below least", 2565, Range::LEAST - 1);
-    damaged(b"second value greatest", 2571, Range::GREATEST);
-    damaged(b"second value above greatest", 2571, Range::GREATEST + 1);
-    damaged(b"second value of one", 2566, 1);
-    damaged(b"first unused pair", 2577, 1);
-    damaged(b"last of the pairs", 3841, 1);
+    damaged(b"no value", 2569, 0);
+    damaged(b"values -1", 2569, -1);
+    damaged(b"three values", 2579, 3);
+    damaged(b"value least", 2570, Range::LEAST);
+    damaged(b"value below least", 2570, Range::LEAST - 1);
+    damaged(b"second value greatest", 2581, Range::GREATEST);
+    damaged(b"second value above greatest", 2581, Range::GREATEST + 1);
+    damaged(b"second value of one", 2571, 1);
+    damaged(b"first unused pair", 2592, 1);
+    damaged(b"last of the pairs", 5121, 1);
 }
 
 fn order() {
-    second_pair(b"ascending values", &[0, 4, 1, 2, 0]);
-    second_pair(b"equal pairs", &[0, 4, 1, 1, 0]);
-    second_pair(b"descending values", &[0, 4, 1, 0, 0]);
-    second_pair(b"descending channels", &[0, 3, 2, 1, 2]);
-    second_pair(b"ascending names", &[1, 0, 1, 9, 0]);
-    second_pair(b"equal names", &[1, 1, 1, 9, 0]);
-    second_pair(b"descending names", &[1, 1, 2, 9, 0]);
+    second_pair(b"ascending values", &[1, 0, 4, 0, 0, 0, 0, 1, 2, 0]);
+    second_pair(b"equal pairs", &[1, 0, 4, 0, 0, 0, 0, 1, 1, 0]);
+    second_pair(b"descending values", &[1, 0, 4, 0, 0, 0, 0, 1, 0, 0]);
+    second_pair(b"descending channels", &[1, 0, 3, 0, 0, 0, 0, 2, 1, 2]);
+    second_pair(b"ascending names", &[1, 1, 0, 0, 0, 0, 0, 1, 9, 0]);
+    second_pair(b"equal names", &[1, 1, 1, 0, 0, 0, 0, 1, 9, 0]);
+    second_pair(b"descending names", &[1, 1, 1, 0, 0, 0, 0, 2, 9, 0]);
+    second_pair(b"more items, then fewer", &[2, 0, 4, 0, 0, 0, 0, 1, 1, 0]);
+    second_pair(
+        b"fewer items, a greater number",
+        &[1, 0, 5, 0, 0, 0, 0, 1, 1, 0],
+    );
 }
 
 fn digits(z: i64) -> u64 {
@@ -241,7 +310,7 @@ fn show(label: &[u8], state: &Numbers) {
     say(b"\nprocesses");
     say_numbers(state, Layout::PROCESSES, 42);
     say(b"\npairs");
-    say_numbers(state, Layout::PAIRS, 2582);
+    say_numbers(state, Layout::PAIRS, 2602);
     say(b"\n");
 }
 
@@ -250,13 +319,13 @@ fn changes() {
     show(b"fresh", &state);
     fill(&mut state);
     show(b"filled", &state);
-    launch(&mut state, &[0, 4, 2, 1, 2]);
+    launch(&mut state, &[1, 0, 4, 0, 0, 0, 0, 2, 1, 2]);
     show(b"lit again", &state);
-    launch(&mut state, &[0, 4, 1, 6, 0]);
+    launch(&mut state, &[1, 0, 4, 0, 0, 0, 0, 1, 6, 0]);
     show(b"one more", &state);
-    kill(&mut state, &[0, 4, 1, 1, 0]);
+    kill(&mut state, &[1, 0, 4, 0, 0, 0, 0, 1, 1, 0]);
     show(b"killed", &state);
-    kill(&mut state, &[0, 4, 1, 1, 0]);
+    kill(&mut state, &[1, 0, 4, 0, 0, 0, 0, 1, 1, 0]);
     show(b"killed again", &state);
     split(&mut state, 1);
     show(b"split", &state);
@@ -264,12 +333,28 @@ fn changes() {
     show(b"ended", &state);
 }
 
+// Lists come in by item count, then item for item, a number before a name.
+fn list_changes() {
+    let mut state = [0; Sample::LENGTH];
+    fill_lists(&mut state);
+    show(b"lists", &state);
+    kill(&mut state, &[2, 0, 9, 0, 0, 0, 0, 1, 2, 0]);
+    kill(&mut state, &[1, 0, 9, 0, 0, 0, 0, 1, 1, 0]);
+    show(b"others killed", &state);
+    kill(&mut state, &[2, 0, 9, 0, 0, 0, 0, 1, 1, 0]);
+    launch(&mut state, &[2, 1, 1, 0, 4, 0, 0, 2, 9, 9]);
+    show(b"one for one", &state);
+}
+
 fn main() {
     counts();
     processes();
     definitions();
     channels();
+    items();
+    lists();
     values();
     order();
     changes();
+    list_changes();
 }

@@ -1,23 +1,26 @@
 -- What an offer's numbers say of the values that are bound or sent and of the pairs that change. By cases of the action that is shown.
 use mathlib.Core.Path.{_≡_, refl, sym, ap, _∙_}
-use mathlib.Core.List.{List, [], _∷_}
+use mathlib.Core.List.{List, [], _∷_, _++_}
 use mathlib.Core.Logic.{_⊎_, inl, inr}
 use mathlib.Core.Option.{some}
-use Prim.Native.Nat.{ℕ, _≤_}
+use Prim.Native.Nat.{ℕ, _+_, _≤_}
 use native.Mathlib.Omega.{arith}
 use lib.IntN.{ℤ, pos, natAbs}
-use lib.ListN.{length, take, getD}
+use lib.ListN.{length, set, take, getD}
+use lib.Seq.{getD-drop}
 use Rattle.model.specs.Good.{OneOrTwo}
 use Rattle.rules.specs.Offers as offers
-use Rattle.rules.specs.Offers.{Channel, number, named, Action, Guard}
+use Rattle.rules.specs.Offers.{Action, Guard}
 use Rattle.rules.specs.Rules.{unchanged}
 use Rattle.rules.specs.Pairs.{channelNumbers}
 use Rattle.rules.specs.Step.{boundBy, sentBy, onAction, changeOf}
-use Rattle.machine.specs.State.{padded, pairNumbers}
-use Rattle.state.proofs.Entries.{pair-shape}
+use Rattle.machine.specs.State.{padded, pairNumbers, channelWidth}
+use Rattle.state.proofs.Entries.{after-channel, pair-shape}
 use Rattle.eval.specs.declared.offer.Offer.{Offer}
+use Rattle.eval.specs.Channels.{numbersOf}
+use Rattle.eval.proofs.Shapes.{numbers-are}
 use Rattle.eval.specs.Shown as Shown
-use Rattle.eval.specs.Shown.{ShowsChannel, ShowsValues, ShowsPair, ShowsAction, ShowsOffer, bareOffer}
+use Rattle.eval.specs.Shown.{ShowsValues, ShowsPair, ShowsAction, ShowsOffer, bareOffer}
 use Rattle.step.specs.Enter.{ShowsChange, launches, kills, neither}
 
 -- the kind of an action's node
@@ -139,31 +142,47 @@ module _ (t : List ℕ) (ls : List ℤ) (r : Offer) where
   shows-change offers.shut (Shown.shut e) = let k = shut-kind e in neither (λ f. omega arith) (λ f. omega arith)
 
 -- ---- the numbers of a pair
-pub shown-row : (r : Offer) (x : offers.Pair) → ShowsPair r x → (pos (r .«channel_kind») ∷ r .channel ∷ pos (r .count) ∷ r .first ∷ r .second ∷ [] ≡ pairNumbers x) × (r .count ≤ 2) × (r .«channel_kind» ≤ 1)
-unfolding channelNumbers padded
-shown-row r x h = let e = go (x .channel) (x .values) (h .channel-is) (h .values-are) in (e .0 ∙ sym (pair-shape x), e .1, e .2)
+pub shown-row : (r : Offer) (x : offers.Pair) → ShowsPair r x
+    → (numbersOf (r .shape) (r .channel) (r .channel2) (r .channel3) ++ pos (r .count) ∷ r .first ∷ r .second ∷ [] ≡ pairNumbers x) × (r .count ≤ 2)
+unfolding padded
+shown-row r x h =
+    let t = tail (x .values) (h .values-are) in
+    (numbers-are (x .channel) (h .channel-is) _ ∙ ap (channelNumbers (x .channel)) (t .0) ∙ sym (pair-shape x), t .1)
   where
     tail : (vs : List ℤ) → ShowsValues (r .count) (r .first) (r .«first_end») (r .second) (r .«second_end») vs
         → (_≡_ {A = List ℤ} (pos (r .count) ∷ r .first ∷ r .second ∷ []) (pos (length vs) ∷ padded 2 vs)) × (r .count ≤ 2)
     tail (v ∷ []) (Shown.one e f g i j) = (rw (e, f, i) refl, omega arith)
     tail (v ∷ w ∷ []) (Shown.two e f g i j) = (rw (e, f, i) refl, omega arith)
 
-    go : (c : Channel) (vs : List ℤ) → ShowsChannel (r .«channel_kind») (r .channel) c → ShowsValues (r .count) (r .first) (r .«first_end») (r .second) (r .«second_end») vs
-        → (pos (r .«channel_kind») ∷ r .channel ∷ pos (r .count) ∷ r .first ∷ r .second ∷ [] ≡ channelNumbers c (pos (length vs) ∷ padded 2 vs)) × (r .count ≤ 2) × (r .«channel_kind» ≤ 1)
-    go (number z) vs (Shown.number e f) v = let q = tail vs v in (rw (e, f) (ap (λ (l : List ℤ). pos 0 ∷ z ∷ l) (q .0)), q .1, omega arith)
-    go (named n) vs (Shown.named e f) v = let q = tail vs v in (rw (e, f) (ap (λ (l : List ℤ). pos 1 ∷ pos n ∷ l) (q .0)), q .1, omega arith)
+-- three numbers written after a channel's
+pub three-written : (s : ℕ) (a b c : ℤ) (u : List ℤ) (n p q : ℤ) → length u ≡ 3
+    → set (set (set (numbersOf s a b c ++ u) channelWidth n) (channelWidth + 1) p) (channelWidth + 2) q ≡ numbersOf s a b c ++ n ∷ p ∷ q ∷ []
+unfolding numbersOf
+three-written s a b c (x ∷ y ∷ z ∷ []) n p q l = refl
+three-written s a b c [] n p q l = absurd (omega arith)
+three-written s a b c (x ∷ []) n p q l = absurd (omega arith)
+three-written s a b c (x ∷ y ∷ []) n p q l = absurd (omega arith)
+three-written s a b c (x ∷ y ∷ z ∷ w ∷ u) n p q l = absurd (omega arith)
 
 -- the values in a pair's row
 pub row-values : (x : offers.Pair) → OneOrTwo (x .values)
-    → let row = pairNumbers x in (take (natAbs (getD row 2 (pos 0))) (getD row 3 (pos 0) ∷ getD row 4 (pos 0) ∷ []) ≡ x .values) × (natAbs (getD row 2 (pos 0)) ≤ 2) × (getD row 2 (pos 0) ≡ pos (natAbs (getD row 2 (pos 0))))
-unfolding channelNumbers padded
-row-values x h = rw (pair-shape x) (go (x .channel) (x .values) h)
+    → let row = pairNumbers x in
+    (take (natAbs (getD row channelWidth (pos 0))) (getD row (channelWidth + 1) (pos 0) ∷ getD row (channelWidth + 2) (pos 0) ∷ []) ≡ x .values)
+    × (natAbs (getD row channelWidth (pos 0)) ≤ 2) × (getD row channelWidth (pos 0) ≡ pos (natAbs (getD row channelWidth (pos 0))))
+unfolding padded
+row-values x h = rw (pair-shape x) (go (x .values) h)
   where
-    go : (c : Channel) (vs : List ℤ) → OneOrTwo vs
-        → let row = channelNumbers c (pos (length vs) ∷ padded 2 vs) in (take (natAbs (getD row 2 (pos 0))) (getD row 3 (pos 0) ∷ getD row 4 (pos 0) ∷ []) ≡ vs) × (natAbs (getD row 2 (pos 0)) ≤ 2) × (getD row 2 (pos 0) ≡ pos (natAbs (getD row 2 (pos 0))))
-    go c [] o = absurd (omega (arith, o .one))
-    go (number z) (v ∷ []) o = (refl, omega arith, refl)
-    go (named z) (v ∷ []) o = (refl, omega arith, refl)
-    go (number z) (v ∷ w ∷ []) o = (refl, omega arith, refl)
-    go (named z) (v ∷ w ∷ []) o = (refl, omega arith, refl)
-    go c (v ∷ w ∷ u ∷ vs) o = absurd (omega (arith, o .two))
+    after : (k v w : ℤ) → let row = channelNumbers (x .channel) (k ∷ v ∷ w ∷ []) in (getD row channelWidth (pos 0) ≡ k) × (getD row (channelWidth + 1) (pos 0) ≡ v) × (getD row (channelWidth + 2) (pos 0) ≡ w)
+    after k v w =
+        let a = after-channel (x .channel) k (v ∷ w ∷ []) in
+        let r : List ℤ = channelNumbers (x .channel) (k ∷ v ∷ w ∷ []) in
+        (a .0, sym (getD-drop (channelWidth + 1) r 0 (pos 0)) ∙ ap (λ (l : List ℤ). getD l 0 (pos 0)) (a .1), sym (getD-drop (channelWidth + 1) r 1 (pos 0)) ∙ ap (λ (l : List ℤ). getD l 1 (pos 0)) (a .1))
+
+    go : (vs : List ℤ) → OneOrTwo vs
+        → let row = channelNumbers (x .channel) (pos (length vs) ∷ padded 2 vs) in
+        (take (natAbs (getD row channelWidth (pos 0))) (getD row (channelWidth + 1) (pos 0) ∷ getD row (channelWidth + 2) (pos 0) ∷ []) ≡ vs)
+        × (natAbs (getD row channelWidth (pos 0)) ≤ 2) × (getD row channelWidth (pos 0) ≡ pos (natAbs (getD row channelWidth (pos 0))))
+    go [] o = absurd (omega (arith, o .one))
+    go (v ∷ []) o = let e = after (pos 1) v (pos 0) in rw (e .0, e .1) (refl, omega arith, refl)
+    go (v ∷ w ∷ []) o = let e = after (pos 2) v w in rw (e .0, e .1, e .2) (refl, omega arith, refl)
+    go (v ∷ w ∷ u ∷ vs) o = absurd (omega (arith, o .two))

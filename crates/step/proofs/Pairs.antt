@@ -1,13 +1,13 @@
 -- What an offer does to the lit pairs of a state, in its numbers. From the laws of launch and kill.
 use mathlib.Core.Path.{_≡_, refl, sym, ap, _∙_}
-use mathlib.Core.List.{List, [], _∷_, map}
+use mathlib.Core.List.{List, map}
 use mathlib.Core.Bool.{Bool, true, false, not}
 use Prim.Native.Nat.{ℕ, _≤_, _<_}
 use native.Mathlib.Omega.{arith}
 use borrow.Author.Tests.{le-leb, lt-leb}
 use lib.Dec.{leb}
 use lib.IntN.{ℤ}
-use lib.ListN.{length, set}
+use lib.ListN.{length}
 use Rattle.model.specs.Resolved
 use Rattle.model.specs.Good.{Every}
 use Rattle.rules.specs.Offers as offers
@@ -31,21 +31,11 @@ use Rattle.eval.specs.Shown.{ShowsPair}
 use Rattle.step.specs.Enter.{ShowsChange, launches, kills, neither, GoodNew, changed, Changes}
 use Rattle.step.proofs.Tables.{few, fits, pairs-are}
 
--- five numbers written over five
-pub five : (l : List ℤ) (a b c d e : ℤ) → length l ≡ pairWidth → set (set (set (set (set l 0 a) 1 b) 2 c) 3 d) 4 e ≡ a ∷ b ∷ c ∷ d ∷ e ∷ []
-five [] a b c d e h = absurd (omega arith)
-five (v ∷ []) a b c d e h = absurd (omega arith)
-five (v ∷ w ∷ []) a b c d e h = absurd (omega arith)
-five (v ∷ w ∷ x ∷ []) a b c d e h = absurd (omega arith)
-five (v ∷ w ∷ x ∷ y ∷ []) a b c d e h = absurd (omega arith)
-five (v ∷ w ∷ x ∷ y ∷ z ∷ []) a b c d e h = refl
-five (v ∷ w ∷ x ∷ y ∷ z ∷ u ∷ us) a b c d e h = absurd (omega arith)
-
 not-full : (n : ℕ) → n ≤ 256 → false ≡ not (leb n 256)
 not-full n h = rw (le-leb n 256 h)
 
-pub pair-five : (m : Resolved.Model) (x : offers.Pair) → GoodPair m x → length (pairNumbers x) ≡ pairWidth
-pair-five m x g = pair-wide (m .channels) x (pair-fits m x g)
+pub pair-width : (m : Resolved.Model) (x : offers.Pair) → GoodPair m x → length (pairNumbers x) ≡ pairWidth
+pair-width m x g = pair-wide (m .channels) x (pair-fits m x g)
 
 -- which pair an offer of a kind carries
 pub record Launching (r : Offer) (m : Resolved.Model) (n : Change) : Type 0 where

@@ -3,7 +3,7 @@ use mathlib.Core.Path.{_≡_, refl, sym, ap, subst, _∙_}
 use mathlib.Core.List.{List, [], _∷_, _++_}
 use mathlib.Core.Logic.{_⊎_}
 use mathlib.Core.Option.{Option, some, Option·elim}
-use Prim.Native.Nat.{ℕ, zero, suc, _≤_, _<_}
+use Prim.Native.Nat.{ℕ, zero, suc, _+_, _≤_, _<_}
 use borrow.Author.Tests.{lt-ltb}
 use mathlib.Core.Bool.{true}
 use native.Mathlib.Omega.{arith}
@@ -17,7 +17,7 @@ use Rattle.rules.specs.Rules.{Nth}
 use Rattle.rules.proofs.Inside.{nth-inside}
 use Rattle.tables.specs.Settled as Settled
 use Rattle.machine.specs.Offer.{Process, branchesOf}
-use Rattle.machine.specs.State.{State, GoodProcess, GoodPair, stateLength, pairNumbers}
+use Rattle.machine.specs.State.{State, GoodProcess, GoodPair, stateLength, channelWidth, pairWidth, pairNumbers}
 use Rattle.machine.proofs.Branches.{nth-get, get-nth, nth-below}
 use Rattle.machine.proofs.Everys.{every-nth}
 use Rattle.machine.proofs.Continues.{at-good}
@@ -133,10 +133,10 @@ none-at (x ∷ L) (suc q) l = none-at L q (omega arith)
 
 -- what a row of a lit pair has
 pub record RowOf (L : List offers.Pair) (q : ℕ) (row : List ℤ) : Type 0 where
-  pub wide : length row ≡ 5
-  pub values : take (natAbs (getD row 2 (pos 0))) (getD row 3 (pos 0) ∷ getD row 4 (pos 0) ∷ []) ≡ valuesAt L q
-  pub two : natAbs (getD row 2 (pos 0)) ≤ 2
-  pub below : isBelow 3 (getD row 2 (pos 0)) ≡ true
+  pub wide : length row ≡ pairWidth
+  pub values : take (natAbs (getD row channelWidth (pos 0))) (getD row (channelWidth + 1) (pos 0) ∷ getD row (channelWidth + 2) (pos 0) ∷ []) ≡ valuesAt L q
+  pub two : natAbs (getD row channelWidth (pos 0)) ≤ 2
+  pub below : isBelow 3 (getD row channelWidth (pos 0)) ≡ true
 
 module _ {zs : List ℤ} {m : Resolved.Model} {s : State} (h : Stands zs m s) (q : ℕ) where
   pub beyond : pairCount zs ≤ q → valuesAt (s .pairs) q ≡ []
@@ -155,7 +155,7 @@ module _ {zs : List ℤ} {m : Resolved.Model} {s : State} (h : Stands zs m s) (q
         wide = ap length r ∙ pair-wide (m .channels) x f;
         values = rw (r, nth-get (w .1)) (v .0);
         two = rw r (v .1);
-        below = rw r (below-three (getD (pairNumbers x) 2 (pos 0)) (v .2) (v .1));
+        below = rw r (below-three (getD (pairNumbers x) channelWidth (pos 0)) (v .2) (v .1));
       }
 
 -- ---- what is entered

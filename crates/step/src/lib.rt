@@ -119,9 +119,9 @@ fn pair_values(state: &[i64], pair: usize) -> Bound
     }
     let row = state::pair_row(state, pair);
     Bound {
-        count: row[2] as usize,
-        first: row[3],
-        second: row[4],
+        count: row[Layout::CHANNEL] as usize,
+        first: row[Layout::VALUES],
+        second: row[Layout::VALUES + 1],
     }
 }
 
@@ -285,16 +285,19 @@ fn put_pair(offer: Offer, row: &mut [i64])
     requires { ⌜ Enter.Carries offer × (length (now row) ≡ pairWidth) ⌝ }
     ensures { λ _. ⌜ ((x : Pair) → ShowsPair offer x → now (row .exit) ≡ pairNumbers x) ⌝ }
 {
-    let kind = offer.channel_kind as i64;
-    let channel = offer.channel;
+    eval::channel::put_channel(
+        offer.shape,
+        offer.channel,
+        offer.channel2,
+        offer.channel3,
+        row,
+    );
     let count = offer.count as i64;
     let first = offer.first;
     let second = offer.second;
-    row[0] = kind;
-    row[1] = channel;
-    row[2] = count;
-    row[3] = first;
-    row[4] = second;
+    row[Layout::CHANNEL] = count;
+    row[Layout::VALUES] = first;
+    row[Layout::VALUES + 1] = second;
 }
 
 // 19: whether a launch finds no place free, and its pair not lit.

@@ -15,7 +15,7 @@ impl Engine {
     // The lengths of the lent buffers.
     pub const MODEL: usize = 16386;
 
-    pub const STATE: usize = 3842;
+    pub const STATE: usize = 5122;
 
     pub const LISTING: usize = 7168;
 

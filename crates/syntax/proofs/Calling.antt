@@ -30,7 +30,7 @@ use Rattle.tree.proofs.Spans.{span-token, _then_, span-as, Wrote, span-wrote, s
 use Rattle.syntax.specs.Processes.{closedExprs, flatCall, callAt}
 use Rattle.syntax.proofs.Symbols.{wants, lacks, taken, past, onward}
 use Rattle.syntax.proofs.Forms.{made-two}
-use Rattle.syntax.proofs.Deeds.{Expr}
+use Rattle.syntax.proofs.Expressions.{Expr}
 
 -- the two promises of a function that reads the symbols x as a tree and counts
 abbrev pub Counts : {T : Type 0} → List Sym → (T → List ℕ → List ℕ) → (T → ℕ) → (List ℕ → T → ℕ → ℕ → Type 0) → List ℕ → List ℕ → List ℕ → ℕ → ℕ → ℕ → Counted → Type 0

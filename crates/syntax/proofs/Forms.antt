@@ -11,6 +11,10 @@ use Rattle.tree.specs.Reading.{Span, Made, Tally}
 use Rattle.tree.proofs.Interval.{Interval}
 use Rattle.tree.proofs.Spans.{span-token, _then_, span-as, Wrote, span-wrote, span-place, seen-later, seen-one, seen-two}
 
+-- one node more, which one of the tokens pays for
+pub span-paid : {f : List ℕ → List ℕ} {ts t t′ : List ℕ} {at used n u : ℕ} → Span f ts t t′ at used n u → u + at < used + n → Span f ts t t′ at used n (u + 1)
+span-paid s h = record { text = s .text; onward = s .onward; within = s .within; more = omega (arith, s .more); fewer = omega arith; kept = s .kept; size = s .size }
+
 -- where a span of known width ends
 pub span-ends : {f : List ℕ → List ℕ} {w : ℕ} {ts t t′ : List ℕ} {at used n u : ℕ} → Prepends f w → Span f ts t t′ at used n u → n ≡ at + w
 span-ends p s = omega (arith, span-place p s, p .width)

@@ -1,7 +1,9 @@
 -- The returns of the reading functions, over plain variables: what each answers follows from what its callees answered.
-pub mod Acting
 pub mod Answers
+pub mod Braces
+pub mod Bracing
 pub mod Calling
+pub mod Channels
 pub mod Conditions
 pub mod Deeds
 pub mod Enclosed
@@ -11,6 +13,7 @@ pub mod Grouping
 pub mod LineReturns
 pub mod LineTrees
 pub mod Lines
+pub mod Lone
 pub mod Naming
 pub mod Offering
 pub mod Openings

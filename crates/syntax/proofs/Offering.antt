@@ -1,36 +1,35 @@
 -- The returns of the readers of guarded prefixes, over plain variables: what each answers follows from the tokens it looked at, the nodes it wrote and what its
 -- callees answered. From the laws of the machine and of spans.
-use mathlib.Core.Path.{_≡_, refl, sym, ap, _∙_}
-use mathlib.Core.List.{List, [], _∷_, _++_}
+use mathlib.Core.Path.{_≡_, refl, _∙_}
+use mathlib.Core.List.{List, [], _∷_}
 use Prim.Native.Nat.{ℕ, _+_, _≤_, _<_}
 use native.Mathlib.Omega.{arith}
 use lib.ListN.{length, getD}
 use Rattle.token.specs.Kind as kind
 use Rattle.grammar.specs.Grammar
 use Rattle.grammar.specs.Grammar.{flatCond, flatRate, flatAction, flatGate, flatPrefix, flatNext, flatCont}
-use Rattle.grammar.specs.Machine.{Sym, Want, Gate′, Next′, Cont′, aCond, aRate, inBraces, inGate, aPrefix, table, rowsOf, isMay, find}
+use Rattle.grammar.specs.Machine.{Sym, Want, Gate′, Braced, Next′, Cont′, aCond, inBraces, aPrefix, table, rowsOf, isMay, find}
 use Rattle.grammar.specs.Follows.{Follows}
-use Rattle.grammar.specs.Syntax
 use Rattle.grammar.specs.Syntax.{wide, condAt, rateAt, actionAt, gateAt, branchAt, nextAt, contAt, sumsPrefix, sumsNext, sumsCont}
-use Rattle.grammar.proofs.Follows.{here, fails, takes, passes}
-use Rattle.grammar.proofs.Wide.{wide-cond, wide-rate, wide-action, wide-gate}
+use Rattle.grammar.proofs.Follows.{fails, takes, passes}
+use Rattle.grammar.proofs.Wide.{wide-cond, wide-gate}
 use Rattle.tree.specs.declared.Read.{Read}
 use Rattle.tree.specs.declared.Read.the-variants.{Next, Fault}
 use Rattle.tree.specs.declared.Counted.{Counted}
 use Rattle.tree.specs.declared.Counted.the-variants.{Next as CountedNext, Fault as CountedFault}
 use Rattle.tree.specs.Node as node
 use Rattle.tree.specs.Table
-use Rattle.tree.specs.Reading.{placeCounted, Ready, Tally, Tallied}
+use Rattle.tree.specs.Reading.{placeCounted, Ready, Tallied}
 use Rattle.tree.proofs.Holds.{cond-interval, rate-interval, action-interval, branch-interval, cont-interval}
-use Rattle.tree.proofs.Spans.{span-token, _then_, span-as, Wrote, span-wrote, span-place, ready-after, ready-token, seen-later, seen-two, seen-three, next-at, fault-at, counted-next-at, counted-fault-at, made-of, tally-of, tallied-as, fault-size, counted-fault-size}
-use Rattle.syntax.specs.Judged.{writtenAction}
+use Rattle.tree.proofs.Spans.{span-token, _then_, Wrote, span-wrote, span-place, ready-after, ready-token, seen-later, seen-two, seen-three, next-at, fault-at, counted-next-at, counted-fault-at, made-of, tally-of, tallied-as, fault-size, counted-fault-size}
+use Rattle.syntax.specs.Braces.{flatClosed, flatRated, flatInside, Inner, Inside}
 use Rattle.syntax.specs.Processes.{Offer, flatOffer, sumsOffer, offerAt, Spare}
 use Rattle.syntax.proofs.Answers.{Answers}
 use Rattle.syntax.proofs.Symbols.{wants, lacks, taken, past, onward}
 use Rattle.syntax.proofs.Forms.{span-ends, tally-as}
-use Rattle.syntax.proofs.Acting.{Acting}
+use Rattle.syntax.proofs.Lone.{Bracing}
 use Rattle.syntax.proofs.Calling.{Counts}
-use Rattle.syntax.proofs.Widths.{wide-written}
+use Rattle.syntax.proofs.Widths.{wide-inside}
 
 -- the three promises of a function that reads the symbols x as a tree and counts, and has a token to spare
 abbrev pub Spares : {T : Type 0} → List Sym → (T → List ℕ → List ℕ) → (T → ℕ) → (List ℕ → T → ℕ → ℕ → Type 0) → List ℕ → List ℕ → List ℕ → ℕ → ℕ → ℕ → Counted → Type 0
@@ -45,9 +44,6 @@ spare-of at used c e s = rw e at s
 abbrev pub Cond : List ℕ → List ℕ → List ℕ → ℕ → ℕ → Read → Type 0
 Cond ts t t′ at = Answers aCond flatCond (λ s c. Table.Cond s (condAt c at)) ts t t′ at
 
-abbrev pub Rate : List ℕ → List ℕ → List ℕ → ℕ → ℕ → Read → Type 0
-Rate ts t t′ at = Answers aRate flatRate (λ s v. Table.Rate s (rateAt v at)) ts t t′ at
-
 abbrev pub Cont : List ℕ → List ℕ → List ℕ → ℕ → ℕ → ℕ → Counted → Type 0
 Cont ts t t′ at used c = Counts (Cont′ ∷ []) flatCont sumsCont (λ s x. Table.Cont s (contAt x at c)) ts t t′ at used c
 
@@ -59,127 +55,98 @@ Prefix ts t t′ at used c = Spares aPrefix flatPrefix sumsPrefix (λ s p. Table
 
 -- ---- braces, and what follows them
 
--- what is left of a prefix after its action, and after its rate
-abbrev rated : List Sym
-rated = aRate ++ Want kind.closeCurly ∷ Next′ ∷ []
-
-abbrev closed : List Sym
-closed = Want kind.closeCurly ∷ Next′ ∷ []
-
 module _ (ts t : List ℕ) (at used sums first : ℕ) where
   pub offer-stray : at ≤ length ts → (getD ts at 0 ≡ kind.openCurly → ⊥) → Offers first ts t t at used sums (CountedFault at)
   unfolding placeCounted Tallied Spare
   offer-stray h n = (lacks ts at inBraces kind.openCurly h n, (refl, tt))
 
-  module _ (o : getD ts at 0 ≡ kind.openCurly) (t₁ : List ℕ) {r : Read} (a : Acting ts t t₁ (at + 1) used r) where
-    pub offer-fault : {k : ℕ} → r ≡ Fault k → Offers first ts t t₁ at used sums (CountedFault k)
-    unfolding placeCounted Tallied Spare
+  module _ (o : getD ts at 0 ≡ kind.openCurly) (t₁ : List ℕ) {r : Counted} (a : Bracing ts t t₁ (at + 1) used r) where
+    pub offer-fault : {k : ℕ} → r ≡ CountedFault k → Offers first ts t t₁ at used sums (CountedFault k)
+    unfolding placeCounted Tallied Spare Inside
     offer-fault {k} e = (
-      wants ts at inBraces kind.openCurly o (omega arith) (λ l. fails ts (at + 1) k _ rated (fault-at e (a .0))),
-      (fault-size _ _ ts t t₁ (at + 1) used e (a .1), tt),
+      wants ts at inBraces kind.openCurly o (omega arith) (λ l. fails ts (at + 1) k (Braced ∷ Want kind.closeCurly ∷ []) (Next′ ∷ []) (counted-fault-at e (a .0))),
+      (rw e at (a .1), tt),
     )
 
-    module _ {n left : ℕ} (e : r ≡ Next n left) where
-      pub offer-ready : Ready ts at used → Ready ts n (left + 1)
-      offer-ready h = ready-after (ready-token h (omega arith)) (made-of e (a .1) .span)
+    module _ {n middle left : ℕ} (e : r ≡ CountedNext n middle left) where
+      pub offer-inner : Inner ts t t₁ (at + 1) used n middle left
+      unfolding Inside
+      offer-inner = rw e at (a .1)
 
-      -- the machine up to the rate
-      to-rate : (r′ : Counted) → Follows ts n rated (placeCounted r′) → Follows ts at (Want kind.openCurly ∷ inBraces) (placeCounted r′)
-      to-rate r′ f = wants ts at inBraces kind.openCurly o (omega arith) (λ l. onward _ rated (next-at e (a .0)) (λ i. f))
+      pub offer-ready : Ready ts at used → Ready ts n (middle + 1)
+      offer-ready h = ready-after (ready-token h (omega arith)) (offer-inner .span)
 
-      module _ (t₂ : List ℕ) {r₂ : Read} (b : Rate ts t₁ t₂ n (left + 1) r₂) where
-        pub offer-unrated : {k : ℕ} → r₂ ≡ Fault k → Offers first ts t t₂ at used sums (CountedFault k)
-        unfolding placeCounted Tallied Spare
-        offer-unrated {k} d = (
-          to-rate (CountedFault k) (fails ts n k aRate closed (fault-at d (b .0))),
-          (fault-size _ _ ts t₁ t₂ n (left + 1) d (b .1) ∙ made-of e (a .1) .span .size, tt),
-        )
+      -- the machine up to what follows
+      to-next : (r′ : Counted) → (n ≤ length ts → Follows ts n (Next′ ∷ []) (placeCounted r′)) → Follows ts at (Want kind.openCurly ∷ inBraces) (placeCounted r′)
+      to-next r′ f = wants ts at inBraces kind.openCurly o (omega arith) (λ l. onward (Braced ∷ Want kind.closeCurly ∷ []) (Next′ ∷ []) (counted-next-at e (a .0)) f)
 
-        module _ {m middle : ℕ} (d : r₂ ≡ Next m middle) where
-          pub offer-open : (getD ts m 0 ≡ kind.closeCurly → ⊥) → Offers first ts t t₂ at used sums (CountedFault m)
-          unfolding placeCounted Tallied Spare
-          offer-open q = (
-            to-rate (CountedFault m) (onward aRate closed (next-at d (b .0)) (λ l. lacks ts m _ kind.closeCurly l q)),
-            (made-of d (b .1) .span .size ∙ made-of e (a .1) .span .size, tt),
+      pub offer-stop : {t₃ : List ℕ} → (getD ts n 0 ≡ kind.point → ⊥) → Wrote t₁ t₃ (middle + 1) node.stop first left 0 → Offers first ts t t₃ at used sums (CountedNext n (middle + 1) sums)
+      unfolding placeCounted Tallied Spare table rowsOf isMay flatInside flatRated flatClosed flatOffer flatNext sumsOffer sumsNext offerAt nextAt Table.Branch Table.Offer
+      offer-stop {t₃} x w =
+          let i = offer-inner in
+          let parts = span-token kind.openCurly o (omega arith) then i .span in
+          let spare : middle + 1 + 1 + at < used + n = omega (arith, i .spare) in (
+            to-next (CountedNext n (middle + 1) sums) (λ l. passes ts n Next′ l refl (x, tt)),
+            (
+              record {
+                made =
+                    record {
+                      tree = (i .action, i .rate, Grammar.stop);
+                      span = span-wrote w parts (omega arith);
+                      shown = λ l. seen-two (action-interval (actionAt (i .action) (at + 1))) (rate-interval (rateAt (i .rate) (at + 1 + wide (flatAction (i .action)) + 1))) w (i .acts) (i .rates) l;
+                    };
+                counted = omega arith;
+                rarer = omega (arith, i .span .onward);
+              },
+              (spare, omega (arith, i .span .onward)),
+            ),
           )
 
-          module _ (q : getD ts m 0 ≡ kind.closeCurly) where
-            -- the machine up to what follows
-            to-next : (r′ : Counted) → (m + 1 ≤ length ts → Follows ts (m + 1) (Next′ ∷ []) (placeCounted r′)) → Follows ts at (Want kind.openCurly ∷ inBraces) (placeCounted r′)
-            to-next r′ f = to-rate r′ (onward aRate closed (next-at d (b .0)) (λ l. wants ts m _ kind.closeCurly q (omega arith) f))
+      module _ (x : getD ts n 0 ≡ kind.point) where
+        pub offer-ready-cont : Ready ts at used → Ready ts (n + 1) (middle + 1)
+        offer-ready-cont h = ready-token (offer-ready h) (omega arith)
 
-            pub offer-stop : {t₃ : List ℕ} → (getD ts (m + 1) 0 ≡ kind.point → ⊥) → Wrote t₂ t₃ (middle + 1) node.stop first left 0 → Offers first ts t t₃ at used sums (CountedNext (m + 1) (middle + 1) sums)
-            unfolding placeCounted Tallied Spare table rowsOf isMay writtenAction flatOffer flatNext sumsOffer sumsNext offerAt nextAt Table.Branch Table.Offer
-            offer-stop {t₃} x w =
-                let p = made-of e (a .1) in
-                let s = made-of d (b .1) in
-                let k : n ≡ at + 1 + wide (flatAction (p .tree)) + 1 = omega (arith, span-ends (wide-written (p .tree)) (p .span)) in
-                let parts = span-token kind.openCurly o (omega arith) then p .span then s .span then span-token kind.closeCurly q (omega arith) in
-                let spare : middle + 1 + 1 + at < used + (m + 1) = omega (arith, p .span .fewer, s .span .fewer) in (
-                  to-next (CountedNext (m + 1) (middle + 1) sums) (λ l. passes ts (m + 1) Next′ l refl (x, tt)),
-                  (
-                    record {
-                      made =
-                          record {
-                            tree = (p .tree, s .tree, Grammar.stop);
-                            span = span-wrote w parts (omega arith);
-                            shown = λ l.
-                                rw (← k)
-                                (seen-two (action-interval (actionAt (p .tree) (at + 1))) (rate-interval (rateAt (s .tree) n)) w (seen-later (action-interval (actionAt (p .tree) (at + 1))) (s .span) (omega arith) (p .shown)) (s .shown) l);
-                          };
-                      counted = omega arith;
-                      rarer = omega (arith, p .span .onward, s .span .onward);
-                    },
-                    (spare, omega (arith, p .span .onward, s .span .onward)),
-                  ),
-                )
+        -- the machine up to the continuation
+        to-cont : (r′ : Counted) → Follows ts (n + 1) (Cont′ ∷ []) (placeCounted r′) → Follows ts at (Want kind.openCurly ∷ inBraces) (placeCounted r′)
+        unfolding table rowsOf find
+        to-cont r′ f = to-next r′ (λ l. takes ts n Next′ kind.point x (omega arith) refl (λ i. f))
 
-            module _ (x : getD ts (m + 1) 0 ≡ kind.point) where
-              pub offer-ready-cont : Ready ts at used → Ready ts (m + 1 + 1) (middle + 1)
-              offer-ready-cont h = ready-token (ready-token (ready-after (offer-ready h) (made-of d (b .1) .span)) (omega arith)) (omega arith)
+        module _ (t₃ : List ℕ) {r₃ : Counted} (y : Cont ts t₁ t₃ (n + 1) (middle + 1) sums r₃) where
+          pub offer-cont-fault : {k : ℕ} → r₃ ≡ CountedFault k → Offers first ts t t₃ at used sums (CountedFault k)
+          unfolding placeCounted Tallied Spare
+          offer-cont-fault {k} z = (
+            to-cont (CountedFault k) (counted-fault-at z (y .0)),
+            (counted-fault-size _ _ _ ts t₁ t₃ (n + 1) (middle + 1) sums z (y .1) ∙ offer-inner .span .size, tt),
+          )
 
-              -- the machine up to the continuation
-              to-cont : (r′ : Counted) → Follows ts (m + 1 + 1) (Cont′ ∷ []) (placeCounted r′) → Follows ts at (Want kind.openCurly ∷ inBraces) (placeCounted r′)
-              unfolding table rowsOf find
-              to-cont r′ f = to-next r′ (λ l. takes ts (m + 1) Next′ kind.point x (omega arith) refl (λ i. f))
-
-              module _ (t₃ : List ℕ) {r₃ : Counted} (y : Cont ts t₂ t₃ (m + 1 + 1) (middle + 1) sums r₃) where
-                pub offer-cont-fault : {k : ℕ} → r₃ ≡ CountedFault k → Offers first ts t t₃ at used sums (CountedFault k)
-                unfolding placeCounted Tallied Spare
-                offer-cont-fault {k} z = (
-                  to-cont (CountedFault k) (counted-fault-at z (y .0)),
-                  (counted-fault-size _ _ _ ts t₂ t₃ (m + 1 + 1) (middle + 1) sums z (y .1) ∙ made-of d (b .1) .span .size ∙ made-of e (a .1) .span .size, tt),
-                )
-
-                pub offer-dot : {i root c : ℕ} {t₄ : List ℕ} → r₃ ≡ CountedNext i root c → Wrote t₃ t₄ (root + 1) node.dot first left middle → Offers first ts t t₄ at used sums (CountedNext i (root + 1) c)
-                unfolding placeCounted Tallied Spare writtenAction flatOffer flatNext sumsOffer sumsNext offerAt nextAt Table.Branch Table.Offer
-                offer-dot {i} {root} {c} {t₄} z w =
-                    let p = made-of e (a .1) in
-                    let s = made-of d (b .1) in
-                    let v = tally-of z (y .1) in
-                    let g = v .made in
-                    let k : n ≡ at + 1 + wide (flatAction (p .tree)) + 1 = omega (arith, span-ends (wide-written (p .tree)) (p .span)) in
-                    let l = span-place (wide-rate (s .tree)) (s .span) in
-                    let signs = span-token kind.closeCurly q (omega arith) then span-token kind.point x (omega arith) in
-                    let parts = span-token kind.openCurly o (omega arith) then p .span then s .span then signs then g .span in
-                    let spare : root + 1 + 1 + at < used + i = omega (arith, p .span .fewer, s .span .fewer, g .span .fewer) in (
-                      to-cont (CountedNext i (root + 1) c) (counted-next-at z (y .0)),
-                      (
+          pub offer-dot : {i root c : ℕ} {t₄ : List ℕ} → r₃ ≡ CountedNext i root c → Wrote t₃ t₄ (root + 1) node.dot first left middle → Offers first ts t t₄ at used sums (CountedNext i (root + 1) c)
+          unfolding placeCounted Tallied Spare flatInside flatRated flatClosed flatOffer flatNext sumsOffer sumsNext offerAt nextAt Table.Branch Table.Offer
+          offer-dot {i} {root} {c} {t₄} z w =
+              let p = offer-inner in
+              let v = tally-of z (y .1) in
+              let g = v .made in
+              let b = at + 1 + wide (flatAction (p .action)) + 1 in
+              let l : n ≡ b + wide (flatRate (p .rate)) + 1 = omega (arith, span-ends (wide-inside (p .action) (p .rate)) (p .span)) in
+              let sign = span-token kind.point x (omega arith) in
+              let parts = span-token kind.openCurly o (omega arith) then p .span then sign then g .span in
+              let spare : root + 1 + 1 + at < used + i = omega (arith, p .spare, g .span .fewer) in (
+                to-cont (CountedNext i (root + 1) c) (counted-next-at z (y .0)),
+                (
+                  record {
+                    made =
                         record {
-                          made =
-                              record {
-                                tree = (p .tree, s .tree, Grammar.dot (g .tree));
-                                span = span-wrote w parts (omega arith);
-                                shown = λ h.
-                                    rw (← k, ← l)
-                                    (seen-three (action-interval (actionAt (p .tree) (at + 1))) (rate-interval (rateAt (s .tree) n)) (cont-interval (contAt (g .tree) (m + 1 + 1) sums)) w (seen-later (action-interval (actionAt (p .tree) (at + 1))) (s .span then signs then g .span) (omega arith) (p .shown)) (seen-later (rate-interval (rateAt (s .tree) n)) (signs then g .span) (omega arith) (s .shown)) (g .shown) h);
-                              };
-                          counted = v .counted;
-                          rarer = omega (arith, p .span .onward, s .span .onward, v .rarer);
-                        },
-                        (spare, omega (arith, p .span .onward, s .span .onward, v .rarer)),
-                      ),
-                    )
+                          tree = (p .action, p .rate, Grammar.dot (g .tree));
+                          span = span-wrote w parts (omega arith);
+                          shown = λ h.
+                              rw (← l)
+                              (seen-three (action-interval (actionAt (p .action) (at + 1))) (rate-interval (rateAt (p .rate) b)) (cont-interval (contAt (g .tree) (n + 1) sums)) w (seen-later (action-interval (actionAt (p .action) (at + 1))) (sign then g .span) (omega (arith, p .below)) (p .acts)) (seen-later (rate-interval (rateAt (p .rate) b)) (sign then g .span) (omega arith) (p .rates)) (g .shown) h);
+                        };
+                    counted = v .counted;
+                    rarer = omega (arith, p .span .onward, v .rarer);
+                  },
+                  (spare, omega (arith, p .span .onward, v .rarer)),
+                ),
+              )
 
 -- ---- a gate
 

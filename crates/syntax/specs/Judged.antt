@@ -1,18 +1,13 @@
 -- What reading a whole text answers (01, Opening a text, question 5), and what the reader's parts are written as where the grammar has no one type for
 -- them. Assumes nothing: these are definitions.
-use mathlib.Core.List.{List, [], _∷_}
+use mathlib.Core.List.{List}
 use Prim.Native.Nat.{ℕ, _+_, _<_}
 use lib.ListN.{length}
-use Rattle.token.specs.Kind as kind
-use Rattle.grammar.specs.Grammar.{Model, Action, Prefix, Choices, flatAction, flatPrefix, flatChoices, Reads, Wrong}
+use Rattle.grammar.specs.Grammar.{Model, Prefix, Choices, flatPrefix, flatChoices, Reads, Wrong}
 use Rattle.grammar.specs.Syntax.{sumsPrefix, sumsChoices, syntaxOf}
 use Rattle.tree.specs.Table
 use Rattle.syntax.specs.declared.line.Text.{Text}
 use Rattle.syntax.specs.declared.line.Text.the-variants.{Fits, Broken}
-
--- an action and the comma after it
-unfoldable pub writtenAction : Action → List ℕ → List ℕ
-writtenAction a ts = flatAction a (kind.comma ∷ ts)
 
 -- a sum: a prefix and those after it
 unfoldable pub writtenSum : Prefix × Choices → List ℕ → List ℕ

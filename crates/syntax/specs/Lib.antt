@@ -1,5 +1,7 @@
 pub mod Actions
 pub mod Asked
+pub mod Braces
+pub mod Channels
 pub mod Condition
 pub mod Expression
 pub mod Judged

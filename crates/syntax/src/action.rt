@@ -1,4 +1,5 @@
 // Reads actions.
+use crate::channel;
 use crate::expression;
 use crate::set;
 use token::Kind;
@@ -10,14 +11,13 @@ ghost use Prim.Native.Nat.{_+_, _≤_, _<_};
 ghost use lib.ListN.{length, getD};
 ghost use Rattle.token.specs.Kind as kind;
 ghost use Rattle.grammar.specs.Grammar.{flatValues, flatSets, flatAction};
-ghost use Rattle.grammar.specs.Machine.{Want, BoundNames, ChannelEnd, Action′, anExpr, theValues, theSets, theNames};
+ghost use Rattle.grammar.specs.Machine.{Want, BoundNames, ChannelEnd, HandEnd, aChannel, theValues, theSets, theNames};
 ghost use Rattle.grammar.specs.Follows.{Follows};
 ghost use Rattle.grammar.specs.Syntax.{valuesAt, setsAt, actionAt};
 ghost use Rattle.tree.specs.Table;
 ghost use Rattle.tree.specs.Reading.{tokenRoom, place, Ready, Parsed, Extended};
-ghost use Rattle.syntax.specs.Judged.{writtenAction};
 ghost use Rattle.syntax.specs.Names.{Listing};
-ghost use Rattle.syntax.specs.Actions.{flatSent, flatHeard, Sent, Heard, withComma};
+ghost use Rattle.syntax.specs.Actions.{flatSent, flatHeard, flatDeed, Sent, Heard, deedAt};
 
 // One or two values in square brackets.
 pub fn values(toks: &[u8], at: usize, nodes: &mut [u64], used: usize) -> Read
@@ -117,7 +117,7 @@ pub fn sending(toks: &[u8], at: usize, nodes: &mut [u64], left: usize, kind: u8)
     requires { ⌜ Ready (now toks) at (left + 1) ⌝ }
     requires { ⌜ 0 < getD (now toks) at 0 ⌝ }
     ensures { λ r. ⌜ Follows (now (toks .entry)) (at + 1) (theValues) (place r) ⌝ }
-    ensures { λ r. ⌜ Extended (flatSent (getD (now (toks .entry)) at 0)) (λ c v. (c, v)) Table.Expr (Sent kind at) (now (toks .entry)) (now (nodes .entry)) (now (nodes .exit)) at left r ⌝ }
+    ensures { λ r. ⌜ Extended (flatSent (getD (now (toks .entry)) at 0)) (λ c v. (c, v)) Table.Channel (Sent kind at) (now (toks .entry)) (now (nodes .entry)) (now (nodes .exit)) at left r ⌝ }
 {
     match values(toks, at + 1, nodes, left + 1) {
         Read::Fault(k) => Read::Fault(k),
@@ -135,7 +135,7 @@ pub fn receiving(toks: &[u8], at: usize, nodes: &mut [u64], left: usize, kind: u
     requires { ⌜ 0 < getD (now toks) at 0 ⌝ }
     requires { ⌜ kind < 255 ⌝ }
     ensures { λ r. ⌜ Follows (now (toks .entry)) (at + 1) (theSets ++ BoundNames ∷ []) (place r) ⌝ }
-    ensures { λ r. ⌜ Extended (flatHeard (getD (now (toks .entry)) at 0)) (λ c h. (c, h)) Table.Expr (Heard kind at) (now (toks .entry)) (now (nodes .entry)) (now (nodes .exit)) at left r ⌝ }
+    ensures { λ r. ⌜ Extended (flatHeard (getD (now (toks .entry)) at 0)) (λ c h. (c, h)) Table.Channel (Heard kind at) (now (toks .entry)) (now (nodes .entry)) (now (nodes .exit)) at left r ⌝ }
 {
     match sets(toks, at + 1, nodes, left + 1) {
         Read::Fault(k) => Read::Fault(k),
@@ -157,27 +157,34 @@ pub fn receiving(toks: &[u8], at: usize, nodes: &mut [u64], left: usize, kind: u
     }
 }
 
+// What is done on the channel at `left`: a launch, kill or receive.
+pub fn deed(toks: &[u8], at: usize, nodes: &mut [u64], left: usize) -> Read
+    requires { ⌜ Ready (now toks) at (left + 1) ⌝ }
+    ensures { λ r. ⌜ Follows (now (toks .entry)) at (ChannelEnd ∷ []) (place r) ⌝ }
+    ensures { λ r. ⌜ Extended flatDeed (λ c d. deedAt c d at) Table.Channel Table.Action (now (toks .entry)) (now (nodes .entry)) (now (nodes .exit)) at left r ⌝ }
+{
+    let t = token::peek(toks, at);
+    if t == b'!' {
+        return sending(toks, at, nodes, left, NodeKind::LAUNCH);
+    }
+    if t == b'#' {
+        return sending(toks, at, nodes, left, NodeKind::KILL);
+    }
+    if t == b'?' {
+        return receiving(toks, at, nodes, left, NodeKind::RECEIVE);
+    }
+    Read::Fault(at)
+}
+
 // A launch, kill or receive, from its channel on.
 pub fn beacon(toks: &[u8], at: usize, nodes: &mut [u64], used: usize) -> Read
     requires { ⌜ Ready (now toks) at used ⌝ }
-    ensures { λ r. ⌜ Follows (now (toks .entry)) at (anExpr ++ ChannelEnd ∷ []) (place r) ⌝ }
+    ensures { λ r. ⌜ Follows (now (toks .entry)) at (aChannel ++ ChannelEnd ∷ []) (place r) ⌝ }
     ensures { λ r. ⌜ Parsed flatAction (λ t a. Table.Action t (actionAt a at)) (now (toks .entry)) (now (nodes .entry)) (now (nodes .exit)) at used r ⌝ }
 {
-    match expression::expr(toks, at, nodes, used) {
+    match channel::channel(toks, at, nodes, used) {
         Read::Fault(k) => Read::Fault(k),
-        Read::Next(n, left) => {
-            let t = token::peek(toks, n);
-            if t == b'!' {
-                return sending(toks, n, nodes, left, NodeKind::LAUNCH);
-            }
-            if t == b'#' {
-                return sending(toks, n, nodes, left, NodeKind::KILL);
-            }
-            if t == b'?' {
-                return receiving(toks, n, nodes, left, NodeKind::RECEIVE);
-            }
-            Read::Fault(n)
-        }
+        Read::Next(n, left) => deed(toks, n, nodes, left),
     }
 }
 
@@ -185,10 +192,10 @@ pub fn beacon(toks: &[u8], at: usize, nodes: &mut [u64], used: usize) -> Read
 pub fn check(toks: &[u8], at: usize, nodes: &mut [u64], used: usize) -> Read
     requires { ⌜ Ready (now toks) at used ⌝ }
     requires { ⌜ getD (now toks) at 0 ≡ kind.tilde ⌝ }
-    ensures { λ r. ⌜ Follows (now (toks .entry)) at (Action′ ∷ []) (place r) ⌝ }
+    ensures { λ r. ⌜ Follows (now (toks .entry)) at (Want kind.tilde ∷ aChannel ++ Want kind.query ∷ theSets) (place r) ⌝ }
     ensures { λ r. ⌜ Parsed flatAction (λ t a. Table.Action t (actionAt a at)) (now (toks .entry)) (now (nodes .entry)) (now (nodes .exit)) at used r ⌝ }
 {
-    match expression::expr(toks, at + 1, nodes, used) {
+    match channel::channel(toks, at + 1, nodes, used) {
         Read::Fault(k) => Read::Fault(k),
         Read::Next(n, left) => {
             if token::peek(toks, n) != b'?' {
@@ -210,10 +217,10 @@ pub fn check(toks: &[u8], at: usize, nodes: &mut [u64], used: usize) -> Read
 pub fn handshake(toks: &[u8], at: usize, nodes: &mut [u64], used: usize) -> Read
     requires { ⌜ Ready (now toks) at used ⌝ }
     requires { ⌜ getD (now toks) at 0 ≡ kind.at ⌝ }
-    ensures { λ r. ⌜ Follows (now (toks .entry)) at (Action′ ∷ []) (place r) ⌝ }
+    ensures { λ r. ⌜ Follows (now (toks .entry)) at (Want kind.at ∷ aChannel ++ HandEnd ∷ []) (place r) ⌝ }
     ensures { λ r. ⌜ Parsed flatAction (λ t a. Table.Action t (actionAt a at)) (now (toks .entry)) (now (nodes .entry)) (now (nodes .exit)) at used r ⌝ }
 {
-    match expression::expr(toks, at + 1, nodes, used) {
+    match channel::channel(toks, at + 1, nodes, used) {
         Read::Fault(k) => Read::Fault(k),
         Read::Next(n, left) => {
             let t = token::peek(toks, n);
@@ -226,45 +233,4 @@ pub fn handshake(toks: &[u8], at: usize, nodes: &mut [u64], used: usize) -> Read
             Read::Fault(n)
         }
     }
-}
-
-// What was read, and the comma after it.
-pub fn comma(toks: &[u8], read: Read) -> Read
-    ensures { λ r. ⌜ r ≡ withComma (now (toks .entry)) read ⌝ }
-{
-    match read {
-        Read::Fault(k) => Read::Fault(k),
-        Read::Next(n, root) => {
-            if token::peek(toks, n) != b',' {
-                return Read::Fault(n);
-            }
-            Read::Next(n + 1, root)
-        }
-    }
-}
-
-// An action and the comma after it.
-pub fn action(toks: &[u8], at: usize, nodes: &mut [u64], used: usize) -> Read
-    requires { ⌜ Ready (now toks) at used ⌝ }
-    ensures { λ r. ⌜ Follows (now (toks .entry)) at (Action′ ∷ Want kind.comma ∷ []) (place r) ⌝ }
-    ensures { λ r. ⌜ Parsed writtenAction (λ t a. Table.Action t (actionAt a at)) (now (toks .entry)) (now (nodes .entry)) (now (nodes .exit)) at used r ⌝ }
-{
-    let t = token::peek(toks, at);
-    if t == b'~' {
-        let r = check(toks, at, nodes, used);
-        return comma(toks, r);
-    }
-    if t == b'@' {
-        let r = handshake(toks, at, nodes, used);
-        return comma(toks, r);
-    }
-    if t == Kind::NAME {
-        let n = at + 1;
-        if token::peek(toks, n) == b',' {
-            tree::node(nodes, used, NodeKind::WAIT, at, 0, 0);
-            return Read::Next(n + 1, used);
-        }
-    }
-    let r = beacon(toks, at, nodes, used);
-    comma(toks, r)
 }

@@ -1,8 +1,7 @@
 // Reads prefixes, continuations, groups and sums, which call one another with fewer tokens left.
-use crate::action;
+use crate::braced;
 use crate::condition;
 use crate::expression;
-use crate::rate;
 use token::Kind;
 use tree::Counted;
 use tree::NodeKind;
@@ -85,30 +84,23 @@ pub fn offer(
     if token::peek(toks, at) != b'{' {
         return Counted::Fault(at);
     }
-    match action::action(toks, at + 1, nodes, used) {
-        Read::Fault(k) => Counted::Fault(k),
-        Read::Next(n, left) => match rate::rate(toks, n, nodes, left + 1) {
-            Read::Fault(k) => Counted::Fault(k),
-            Read::Next(m, middle) => {
-                if token::peek(toks, m) != b'}' {
-                    return Counted::Fault(m);
-                }
-                let point = m + 1;
-                if token::peek(toks, point) != b'.' {
-                    let root = middle + 1;
-                    tree::node(nodes, root, NodeKind::STOP, first, left, 0);
-                    return Counted::Next(point, root, sums);
-                }
-                match cont(toks, point + 1, nodes, middle + 1, sums) {
-                    Counted::Fault(k) => Counted::Fault(k),
-                    Counted::Next(e, r, s) => {
-                        let root = r + 1;
-                        tree::node(nodes, root, NodeKind::DOT, first, left, middle);
-                        Counted::Next(e, root, s)
-                    }
+    match braced::braced(toks, at + 1, nodes, used) {
+        Counted::Fault(k) => Counted::Fault(k),
+        Counted::Next(point, middle, left) => {
+            if token::peek(toks, point) != b'.' {
+                let root = middle + 1;
+                tree::node(nodes, root, NodeKind::STOP, first, left, 0);
+                return Counted::Next(point, root, sums);
+            }
+            match cont(toks, point + 1, nodes, middle + 1, sums) {
+                Counted::Fault(k) => Counted::Fault(k),
+                Counted::Next(e, r, s) => {
+                    let root = r + 1;
+                    tree::node(nodes, root, NodeKind::DOT, first, left, middle);
+                    Counted::Next(e, root, s)
                 }
             }
-        },
+        }
     }
 }
 

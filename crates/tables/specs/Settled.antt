@@ -8,6 +8,7 @@ use lib.IntN.{ℤ, pos, negsuc, natAbs, _-ℤ_}
 use lib.ListN.{length, getD}
 use Rattle.tree.specs.Node as node
 use Rattle.tree.specs.Node.{kindOf, tokenOf, leftOf, thirdOf, opKind, joinKind, testKind}
+use Rattle.value.specs.Items.{oneItem, twoItems, threeItems}
 use Rattle.model.specs.Resolved
 
 -- ---- cells with a number: kind, and the number above this offset, which every value and every scale in ten-thousandths keeps to on both sides
@@ -58,6 +59,16 @@ module _ (t : List ℕ) where
     pub holds-first : first (leftOf (getD t k 0))
     pub holds-second : second right
 
+  pub record Triple (kind : ℕ) (first second third : ℕ → Type 0) (k : ℕ) : Type 0 where
+    pub right : ℕ
+    pub above : k ≡ right + 1
+    pub kind-is : kindAt k ≡ kind
+    pub first-below : leftOf (getD t k 0) < k
+    pub second-below : thirdOf (getD t k 0) < k
+    pub holds-first : first (leftOf (getD t k 0))
+    pub holds-second : second (thirdOf (getD t k 0))
+    pub holds-third : third right
+
   unfoldable pub Expr : Resolved.Expr → ℕ → Type 0
   Expr (Resolved.constant z) = Number node.literal z
   Expr (Resolved.localAt i) = Index node.named i
@@ -82,9 +93,14 @@ module _ (t : List ℕ) where
   Rate (Resolved.plain s) = Scale s
   Rate (Resolved.scaled s e) = Pair node.scaled (Scale s) (Expr e)
 
+  unfoldable pub Item : Resolved.Item → ℕ → Type 0
+  Item (Resolved.number e) = Expr e
+  Item (Resolved.name n) = Index channel n
+
   unfoldable pub Channel : Resolved.Channel → ℕ → Type 0
-  Channel (Resolved.number e) = Expr e
-  Channel (Resolved.name n) = Index channel n
+  Channel (oneItem a) = Item a
+  Channel (twoItems a b) = Pair node.twoItems (Item a) (Item b)
+  Channel (threeItems a b c) = Triple node.threeItems (Item a) (Item b) (Item c)
 
   -- one or two
   unfoldable pub OneOrTwo : {A : Type 0} → (A → ℕ → Type 0) → List A → ℕ → Type 0

@@ -112,17 +112,23 @@ module _ (t t′ : List ℕ) where
   sets (Syntax.oneSet s) = set s
   sets (Syntax.twoSets s r) = two (set s) (set r)
 
+  channel : (c : Syntax.Channel) → Alike (Table.Channel t c) (Table.Channel t′ c)
+  unfolding Table.Channel
+  channel (Syntax.oneItem e) = expr e
+  channel (Syntax.twoItems e f) = two (expr e) (expr f)
+  channel (Syntax.threeItems e f g) = three (expr e) (expr f) (expr g)
+
   action : (a : Syntax.Action) → Alike (Table.Action t a) (Table.Action t′ a)
   unfolding Table.Action
   action (Syntax.wait n) = leaf
-  action (Syntax.launch c v) = two (expr c) (values v)
-  action (Syntax.kill c v) = two (expr c) (values v)
-  action (Syntax.receive c s) = two (expr c) (sets s)
-  action (Syntax.bind c s (Syntax.names n m)) = two (expr c) (sets s)
-  action (Syntax.check c s) = two (expr c) (sets s)
-  action (Syntax.handSend c v) = two (expr c) (values v)
-  action (Syntax.handReceive c s) = two (expr c) (sets s)
-  action (Syntax.handBind c s (Syntax.names n m)) = two (expr c) (sets s)
+  action (Syntax.launch c v) = two (channel c) (values v)
+  action (Syntax.kill c v) = two (channel c) (values v)
+  action (Syntax.receive c s) = two (channel c) (sets s)
+  action (Syntax.bind c s (Syntax.names n m)) = two (channel c) (sets s)
+  action (Syntax.check c s) = two (channel c) (sets s)
+  action (Syntax.handSend c v) = two (channel c) (values v)
+  action (Syntax.handReceive c s) = two (channel c) (sets s)
+  action (Syntax.handBind c s (Syntax.names n m)) = two (channel c) (sets s)
 
   mutual
     unfolding Table.Branch Table.Offer Table.Branches Table.Sum Table.Cont Table.Conts

@@ -92,17 +92,23 @@ unfolding Table.Sets
 sets-interval (Syntax.oneSet s) = wider (set-interval s) refl
 sets-interval (Syntax.twoSets s r) = two refl (set-interval s) (set-interval r)
 
+pub channel-interval : (c : Syntax.Channel) → Interval 1 68 (λ t. Table.Channel t c)
+unfolding Table.Channel
+channel-interval (Syntax.oneItem e) = wider (expr-interval e) refl
+channel-interval (Syntax.twoItems e f) = two refl (expr-interval e) (expr-interval f)
+channel-interval (Syntax.threeItems e f g) = three refl (expr-interval e) (expr-interval f) (expr-interval g)
+
 pub action-interval : (a : Syntax.Action) → Interval 36 44 (λ t. Table.Action t a)
 unfolding Table.Action
 action-interval (Syntax.wait n) = leaf refl
-action-interval (Syntax.launch c v) = two refl (expr-interval c) (values-interval v)
-action-interval (Syntax.kill c v) = two refl (expr-interval c) (values-interval v)
-action-interval (Syntax.receive c s) = two refl (expr-interval c) (sets-interval s)
-action-interval (Syntax.bind c s (Syntax.names n m)) = two refl (expr-interval c) (sets-interval s)
-action-interval (Syntax.check c s) = two refl (expr-interval c) (sets-interval s)
-action-interval (Syntax.handSend c v) = two refl (expr-interval c) (values-interval v)
-action-interval (Syntax.handReceive c s) = two refl (expr-interval c) (sets-interval s)
-action-interval (Syntax.handBind c s (Syntax.names n m)) = two refl (expr-interval c) (sets-interval s)
+action-interval (Syntax.launch c v) = two refl (channel-interval c) (values-interval v)
+action-interval (Syntax.kill c v) = two refl (channel-interval c) (values-interval v)
+action-interval (Syntax.receive c s) = two refl (channel-interval c) (sets-interval s)
+action-interval (Syntax.bind c s (Syntax.names n m)) = two refl (channel-interval c) (sets-interval s)
+action-interval (Syntax.check c s) = two refl (channel-interval c) (sets-interval s)
+action-interval (Syntax.handSend c v) = two refl (channel-interval c) (values-interval v)
+action-interval (Syntax.handReceive c s) = two refl (channel-interval c) (sets-interval s)
+action-interval (Syntax.handBind c s (Syntax.names n m)) = two refl (channel-interval c) (sets-interval s)
 
 mutual
   unfolding Table.Branch Table.Offer Table.Branches Table.Sum Table.Cont Table.Conts

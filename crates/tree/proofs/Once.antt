@@ -15,7 +15,7 @@ use Rattle.tree.specs.Node.{opKind, joinKind, relationKind, testKind, nu
 use Rattle.tree.specs.Table
 use Rattle.tree.proofs.Interval.{kindAt, root, between}
 use Rattle.tree.proofs.Holds.{op-among, join-among, test-among, number-among, expr-interval, set-interval, scale-interval}
-use Rattle.tree.proofs.Fields.{Once, same-kind, other-kind, once-leaf, once-one, once-two}
+use Rattle.tree.proofs.Fields.{Once, same-kind, other-kind, once-leaf, once-one, once-two, once-three}
 
 -- ---- what is read back from a kind
 opOf : ℕ → Op
@@ -86,14 +86,14 @@ same-number b c d e u =
 -- an action by the kind of its node
 pub data ActionAt : ℕ → Syntax.Action → Type 0 where
   wait : (n : ℕ) → ActionAt node.wait (Syntax.wait n)
-  launch : (c : Syntax.Expr) (v : Syntax.Values) → ActionAt node.launch (Syntax.launch c v)
-  kill : (c : Syntax.Expr) (v : Syntax.Values) → ActionAt node.kill (Syntax.kill c v)
-  receive : (c : Syntax.Expr) (s : Syntax.Sets) → ActionAt node.receive (Syntax.receive c s)
-  bind : (c : Syntax.Expr) (s : Syntax.Sets) (n m : ℕ) → ActionAt node.bind (Syntax.bind c s (Syntax.names n m))
-  check : (c : Syntax.Expr) (s : Syntax.Sets) → ActionAt node.check (Syntax.check c s)
-  handSend : (c : Syntax.Expr) (v : Syntax.Values) → ActionAt node.handSend (Syntax.handSend c v)
-  handReceive : (c : Syntax.Expr) (s : Syntax.Sets) → ActionAt node.handReceive (Syntax.handReceive c s)
-  handBind : (c : Syntax.Expr) (s : Syntax.Sets) (n m : ℕ) → ActionAt node.handBind (Syntax.handBind c s (Syntax.names n m))
+  launch : (c : Syntax.Channel) (v : Syntax.Values) → ActionAt node.launch (Syntax.launch c v)
+  kill : (c : Syntax.Channel) (v : Syntax.Values) → ActionAt node.kill (Syntax.kill c v)
+  receive : (c : Syntax.Channel) (s : Syntax.Sets) → ActionAt node.receive (Syntax.receive c s)
+  bind : (c : Syntax.Channel) (s : Syntax.Sets) (n m : ℕ) → ActionAt node.bind (Syntax.bind c s (Syntax.names n m))
+  check : (c : Syntax.Channel) (s : Syntax.Sets) → ActionAt node.check (Syntax.check c s)
+  handSend : (c : Syntax.Channel) (v : Syntax.Values) → ActionAt node.handSend (Syntax.handSend c v)
+  handReceive : (c : Syntax.Channel) (s : Syntax.Sets) → ActionAt node.handReceive (Syntax.handReceive c s)
+  handBind : (c : Syntax.Channel) (s : Syntax.Sets) (n m : ℕ) → ActionAt node.handBind (Syntax.handBind c s (Syntax.names n m))
 
 -- ---- the trees
 module _ (t : List ℕ) where
@@ -196,6 +196,18 @@ module _ (t : List ℕ) where
   sets-once (Syntax.twoSets s r) (Syntax.oneSet s′) lo lo′ k h g = absurd (omega (arith, root (h .node), set-interval s′ .to g))
   sets-once (Syntax.twoSets s r) (Syntax.twoSets s′ r′) lo lo′ k h g = let z = once-two refl (set-once s s′) (set-once r r′) h g in (cc, z .4)
 
+  pub channel-once : (x y : Syntax.Channel) → Once (Table.Channel t x) (Table.Channel t y) (x ≡ y)
+  unfolding Table.Channel
+  channel-once (Syntax.oneItem e) (Syntax.oneItem e′) lo lo′ k h g = let r = expr-once e e′ lo lo′ k h g in (ap Syntax.oneItem (r .0), r .1)
+  channel-once (Syntax.oneItem e) (Syntax.twoItems e′ f′) lo lo′ k h g = absurd (omega (arith, expr-interval e .to h, root (g .node)))
+  channel-once (Syntax.oneItem e) (Syntax.threeItems e′ f′ i′) lo lo′ k h g = absurd (omega (arith, expr-interval e .to h, root (g .node)))
+  channel-once (Syntax.twoItems e f) (Syntax.oneItem e′) lo lo′ k h g = absurd (omega (arith, root (h .node), expr-interval e′ .to g))
+  channel-once (Syntax.twoItems e f) (Syntax.twoItems e′ f′) lo lo′ k h g = let r = once-two refl (expr-once e e′) (expr-once f f′) h g in (cc, r .4)
+  channel-once (Syntax.twoItems e f) (Syntax.threeItems e′ f′ i′) lo lo′ k h g = absurd (other-kind (h .node) (g .node) refl)
+  channel-once (Syntax.threeItems e f i) (Syntax.oneItem e′) lo lo′ k h g = absurd (omega (arith, root (h .node), expr-interval e′ .to g))
+  channel-once (Syntax.threeItems e f i) (Syntax.twoItems e′ f′) lo lo′ k h g = absurd (other-kind (h .node) (g .node) refl)
+  channel-once (Syntax.threeItems e f i) (Syntax.threeItems e′ f′ i′) lo lo′ k h g = let r = once-three refl (expr-once e e′) (expr-once f f′) (expr-once i i′) h g in (cc, r .4)
+
   pub action-at : (a : Syntax.Action) (lo k : ℕ) → Table.Action t a lo k → ActionAt (kindAt t k) a
   unfolding Table.Action
   action-at (Syntax.wait n) lo k h = rw (root (h .node)) (wait n)
@@ -211,14 +223,14 @@ module _ (t : List ℕ) where
   by-kind : {κ : ℕ} {x y : Syntax.Action} → ActionAt κ x → ActionAt κ y → Once (Table.Action t x) (Table.Action t y) (x ≡ y)
   unfolding Table.Action
   by-kind (wait n) (wait n′) lo lo′ k h g = let r = once-leaf refl h g in (ap Syntax.wait (r .0), r .1)
-  by-kind (launch c v) (launch c′ v′) lo lo′ k h g = let r = once-two refl (expr-once c c′) (values-once v v′) h g in (cc, r .4)
-  by-kind (kill c v) (kill c′ v′) lo lo′ k h g = let r = once-two refl (expr-once c c′) (values-once v v′) h g in (cc, r .4)
-  by-kind (receive c s) (receive c′ s′) lo lo′ k h g = let r = once-two refl (expr-once c c′) (sets-once s s′) h g in (cc, r .4)
-  by-kind (bind c s n m) (bind c′ s′ n′ m′) lo lo′ k h g = let r = once-two refl (expr-once c c′) (sets-once s s′) h g in (cc, r .4)
-  by-kind (check c s) (check c′ s′) lo lo′ k h g = let r = once-two refl (expr-once c c′) (sets-once s s′) h g in (cc, r .4)
-  by-kind (handSend c v) (handSend c′ v′) lo lo′ k h g = let r = once-two refl (expr-once c c′) (values-once v v′) h g in (cc, r .4)
-  by-kind (handReceive c s) (handReceive c′ s′) lo lo′ k h g = let r = once-two refl (expr-once c c′) (sets-once s s′) h g in (cc, r .4)
-  by-kind (handBind c s n m) (handBind c′ s′ n′ m′) lo lo′ k h g = let r = once-two refl (expr-once c c′) (sets-once s s′) h g in (cc, r .4)
+  by-kind (launch c v) (launch c′ v′) lo lo′ k h g = let r = once-two refl (channel-once c c′) (values-once v v′) h g in (cc, r .4)
+  by-kind (kill c v) (kill c′ v′) lo lo′ k h g = let r = once-two refl (channel-once c c′) (values-once v v′) h g in (cc, r .4)
+  by-kind (receive c s) (receive c′ s′) lo lo′ k h g = let r = once-two refl (channel-once c c′) (sets-once s s′) h g in (cc, r .4)
+  by-kind (bind c s n m) (bind c′ s′ n′ m′) lo lo′ k h g = let r = once-two refl (channel-once c c′) (sets-once s s′) h g in (cc, r .4)
+  by-kind (check c s) (check c′ s′) lo lo′ k h g = let r = once-two refl (channel-once c c′) (sets-once s s′) h g in (cc, r .4)
+  by-kind (handSend c v) (handSend c′ v′) lo lo′ k h g = let r = once-two refl (channel-once c c′) (values-once v v′) h g in (cc, r .4)
+  by-kind (handReceive c s) (handReceive c′ s′) lo lo′ k h g = let r = once-two refl (channel-once c c′) (sets-once s s′) h g in (cc, r .4)
+  by-kind (handBind c s n m) (handBind c′ s′ n′ m′) lo lo′ k h g = let r = once-two refl (channel-once c c′) (sets-once s s′) h g in (cc, r .4)
 
   pub action-once : (x y : Syntax.Action) → Once (Table.Action t x) (Table.Action t y) (x ≡ y)
   action-once x y lo lo′ k h g = by-kind (action-at x lo k h) (action-at y lo′ k g) lo lo′ k h g

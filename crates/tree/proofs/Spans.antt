@@ -88,6 +88,19 @@ module _ {t t′ : List ℕ} {u kind token left third : ℕ} (w : Wrote t t′ u
         size = wrote-size ∙ s .size;
       }
 
+  -- among those that are there: written anew, once it is known what they are
+  pub span-over : {f : List ℕ → List ℕ} {ts t₀ : List ℕ} {at used n m : ℕ} → Span f ts t₀ t at used n m → used ≤ u → Span f ts t₀ t′ at used n m
+  span-over s h =
+      record {
+        text = s .text;
+        onward = s .onward;
+        within = s .within;
+        more = s .more;
+        fewer = s .fewer;
+        kept = λ i l. ap (λ (x : List ℕ). getD x i 0) (w .written) ∙ getD-set-other t u i (cell kind token left third) 0 (omega arith) ∙ s .kept i l;
+        size = wrote-size ∙ s .size;
+      }
+
 -- where it ends
 pub span-place : {f : List ℕ → List ℕ} {w : ℕ} {ts t t′ : List ℕ} {at used n u : ℕ} → Prepends f w → Span f ts t t′ at used n u → n ≡ at + wide f
 span-place {ts = ts} {at = at} {n = n} p s = prepended p ts at n (omega (arith, s .onward, s .within)) (s .within) (s .text)
@@ -109,6 +122,11 @@ Seen P t lo k = k < length t → P t lo k
 -- what was read before a span is still there after it
 pub seen-later : {a b : ℕ} {P : List ℕ → ℕ → ℕ → Type 0} {f : List ℕ → List ℕ} {ts t t′ : List ℕ} {at used n u lo k : ℕ} → Interval a b P → Span f ts t t′ at used n u → k < used → Seen P t lo k → Seen P t′ lo k
 seen-later {used = used} p s h q l = stays p used h (s .kept) (q (omega (arith, s .size)))
+
+-- what stands above a node stays when that node is written anew
+pub seen-over : {a b : ℕ} {P : List ℕ → ℕ → ℕ → Type 0} {t t′ : List ℕ} {u kind token left third lo k : ℕ} → Interval a b P → Wrote t t′ u kind token left third → u < lo → Seen P t lo k → Seen P t′ lo k
+seen-over {t = t} {u = u} {kind} {token} {left} {third} p w h q l =
+    p .keep (λ i m n. ap (λ (x : List ℕ). getD x i 0) (w .written) ∙ getD-set-other t u i (cell kind token left third) 0 (omega arith)) (q (omega (arith, wrote-size w)))
 
 module _ {t t′ : List ℕ} {kind token : ℕ} where
   pub seen-leaf : {u : ℕ} → Wrote t t′ u kind token 0 0 → Seen (λ s. Leaf s kind token) t′ u u

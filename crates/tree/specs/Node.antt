@@ -186,3 +186,10 @@ next = 64
 
 abbrev pub variable : ℕ
 variable = 65
+
+-- a channel of two items; of three (66 is a channel name's, once it is settled)
+abbrev pub twoItems : ℕ
+twoItems = 67
+
+abbrev pub threeItems : ℕ
+threeItems = 68

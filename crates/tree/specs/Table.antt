@@ -99,17 +99,22 @@ module _ (t : List ℕ) where
   Sets (Syntax.oneSet s) = Set s
   Sets (Syntax.twoSets s r) = Two t node.pair 0 0 (Set s) (Set r)
 
+  unfoldable pub Channel : Syntax.Channel → ℕ → ℕ → Type 0
+  Channel (Syntax.oneItem e) = Expr e
+  Channel (Syntax.twoItems e f) = Two t node.twoItems 0 0 (Expr e) (Expr f)
+  Channel (Syntax.threeItems e f g) = Three t node.threeItems 0 (Expr e) (Expr f) (Expr g)
+
   -- bound names stand in the node: the token of the first and how many
   unfoldable pub Action : Syntax.Action → ℕ → ℕ → Type 0
   Action (Syntax.wait n) = Leaf t node.wait n
-  Action (Syntax.launch c v) = Two t node.launch 0 0 (Expr c) (Values v)
-  Action (Syntax.kill c v) = Two t node.kill 0 0 (Expr c) (Values v)
-  Action (Syntax.receive c s) = Two t node.receive 0 0 (Expr c) (Sets s)
-  Action (Syntax.bind c s (Syntax.names n m)) = Two t node.bind n m (Expr c) (Sets s)
-  Action (Syntax.check c s) = Two t node.check 0 0 (Expr c) (Sets s)
-  Action (Syntax.handSend c v) = Two t node.handSend 0 0 (Expr c) (Values v)
-  Action (Syntax.handReceive c s) = Two t node.handReceive 0 0 (Expr c) (Sets s)
-  Action (Syntax.handBind c s (Syntax.names n m)) = Two t node.handBind n m (Expr c) (Sets s)
+  Action (Syntax.launch c v) = Two t node.launch 0 0 (Channel c) (Values v)
+  Action (Syntax.kill c v) = Two t node.kill 0 0 (Channel c) (Values v)
+  Action (Syntax.receive c s) = Two t node.receive 0 0 (Channel c) (Sets s)
+  Action (Syntax.bind c s (Syntax.names n m)) = Two t node.bind n m (Channel c) (Sets s)
+  Action (Syntax.check c s) = Two t node.check 0 0 (Channel c) (Sets s)
+  Action (Syntax.handSend c v) = Two t node.handSend 0 0 (Channel c) (Values v)
+  Action (Syntax.handReceive c s) = Two t node.handReceive 0 0 (Channel c) (Sets s)
+  Action (Syntax.handBind c s (Syntax.names n m)) = Two t node.handBind n m (Channel c) (Sets s)
 
   -- a branch's first token stands in its nodes; the gate's node stands above the rest
   unfoldable mutual

@@ -125,6 +125,10 @@ impl NodeKind {
     pub const NEXT: u8 = 64;
 
     pub const VARIABLE: u8 = 65;
+    // 66 is a channel name's, once it is settled
+    pub const TWO_ITEMS: u8 = 67;
+
+    pub const THREE_ITEMS: u8 = 68;
 }
 
 // The next token's number and the root of what was read; or the number of the token that doesn't fit.

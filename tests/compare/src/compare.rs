@@ -55,7 +55,7 @@ pub fn run(tried: &Engine, oracle: &Engine, calls: &[Call], met: &mut Met) -> Re
         if let Some((place, what)) = fault {
             return Err(Difference { call: number, place, what, made });
         }
-        met.note(&call, &second, &right);
+        met.note(&call, &second, &lent, &right);
     }
     Ok(())
 }

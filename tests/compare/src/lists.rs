@@ -5,7 +5,10 @@ use crate::met::Met;
 use crate::{shrink, specimens, texts};
 use second::generate::{self, Buffers, Call, Draw, Engine, Random, RIGHT, SECOND};
 use second::limits::{HIGHEST, LOWEST};
-use second::state::{DEFINITION, FIRST_PAIR, FIRST_PROCESS, PAIR, PAIRS, PROCESS, PROCESSES};
+use second::state::{
+    Channel, Item, Pair, DEFINITION, FIRST_PAIR, FIRST_PROCESS, FIRST_VALUE, PAIR, PAIRS, PROCESS, PROCESSES,
+};
+use second::syntax::ITEMS;
 use second::{model, script, MODEL, STATE};
 
 /// How many lists the test runs, and how many calls it makes at least.
@@ -116,7 +119,16 @@ fn handed_states(random: &mut Random) -> Vec<Call> {
     }
     around_the_ends(random, &read, &mut calls, &mut buffers);
     wrong_definitions(random, &read, &mut calls, &mut buffers);
+    wrong_pairs(random, &read, &mut calls, &mut buffers);
     calls
+}
+
+/// Lists and reports with a number of the state changed to each of these, then changed back.
+fn tried_with(numbers: &[i64], place: usize, calls: &mut Vec<Call>, buffers: &Buffers) {
+    for &number in numbers.iter().chain([&buffers.state[place]]) {
+        calls.push(Call::SetState { place, number });
+        calls.extend([Call::List { lengths: RIGHT }, Call::Report { lengths: RIGHT }]);
+    }
 }
 
 /// Processes of every sum, one of which carries another definition's number, and a definition's number in an unused
@@ -132,11 +144,19 @@ fn wrong_definitions(random: &mut Random, model: &model::Model, calls: &mut Vec<
     hand_in(calls, buffers, &state);
     for (row, change) in [(random.below(used), 1), (random.below(used), -1), (used, 1)] {
         let place = FIRST_PROCESS + PROCESS * row + DEFINITION;
-        for number in [state[place] + change, state[place]] {
-            buffers.state[place] = number;
-            calls.push(Call::SetState { place, number });
-            calls.extend([Call::List { lengths: RIGHT }, Call::Report { lengths: RIGHT }]);
-        }
+        tried_with(&[state[place] + change], place, calls, buffers);
+    }
+}
+
+/// A pair, each number of which is one lower and one higher in turn.
+fn wrong_pairs(random: &mut Random, model: &model::Model, calls: &mut Vec<Call>, buffers: &mut Buffers) {
+    let mut state = vec![0; STATE];
+    state[1] = 1;
+    let pair = Pair::new(some_channel(random, model), &[1, 2][..=random.below(2)]);
+    state[FIRST_PAIR..FIRST_PAIR + PAIR].copy_from_slice(&pair.numbers());
+    hand_in(calls, buffers, &state);
+    for place in FIRST_PAIR..FIRST_PAIR + PAIR {
+        tried_with(&[state[place] - 1, state[place] + 1], place, calls, buffers);
     }
 }
 
@@ -147,15 +167,12 @@ fn around_the_ends(random: &mut Random, model: &model::Model, calls: &mut Vec<Ca
     let mut state = vec![0; STATE];
     state[..=FIRST_PROCESS].copy_from_slice(&[1, 1, sum as i64]);
     state[FIRST_PROCESS + DEFINITION] = model.sums[sum].definition as i64;
-    state[FIRST_PAIR..FIRST_PAIR + PAIR].copy_from_slice(&[0, 1, 2, 1, 1]);
+    let channel = Channel::new(&[Item { kind: 0, number: 1 }; ITEMS]);
+    state[FIRST_PAIR..FIRST_PAIR + PAIR].copy_from_slice(&Pair::new(channel, &[1, 1]).numbers());
     hand_in(calls, buffers, &state);
     let locals = (0..model.sums[sum].locals).map(|local| FIRST_PROCESS + 1 + local);
-    for place in locals.chain([1, 3, 4].map(|number| FIRST_PAIR + number)) {
-        for number in [HIGHEST, HIGHEST + 1, LOWEST, LOWEST - 1, state[place]] {
-            buffers.state[place] = number;
-            calls.push(Call::SetState { place, number });
-            calls.push(Call::List { lengths: RIGHT });
-        }
+    for place in locals.chain([2, 4, 6, FIRST_VALUE, FIRST_VALUE + 1].map(|number| FIRST_PAIR + number)) {
+        tried_with(&[HIGHEST, HIGHEST + 1, LOWEST, LOWEST - 1], place, calls, buffers);
     }
 }
 
@@ -176,16 +193,26 @@ fn some_state(random: &mut Random, model: &model::Model) -> Vec<i64> {
     }
     let mut lit = std::collections::BTreeSet::new();
     while lit.len() < pairs {
-        let named = model.channel_names > 0 && random.chance(60);
-        let channel = if named { random.below(model.channel_names) as i64 } else { random.between(-1, 3) };
-        let count = random.between(1, 2);
-        let second = if count == 2 { some_value(random) } else { 0 };
-        lit.insert([i64::from(named), channel, count, some_value(random), second]);
+        let values = [some_value(random), some_value(random)];
+        lit.insert(Pair::new(some_channel(random, model), &values[..=random.below(2)]));
     }
     for (place, pair) in state[FIRST_PAIR..].chunks_mut(PAIR).zip(lit) {
-        place.copy_from_slice(&pair);
+        place.copy_from_slice(&pair.numbers());
     }
     state
+}
+
+/// One to three names of the model and numbers.
+fn some_channel(random: &mut Random, model: &model::Model) -> Channel {
+    let mut items = [Item::default(); ITEMS];
+    for item in &mut items {
+        *item = if model.channel_names > 0 && random.chance(60) {
+            Item { kind: 1, number: random.below(model.channel_names) as i64 }
+        } else {
+            Item { kind: 0, number: random.between(-1, 3) }
+        };
+    }
+    Channel::new(&items[..=random.below(ITEMS)])
 }
 
 fn some_value(random: &mut Random) -> i64 {
@@ -203,7 +230,7 @@ fn spoil(random: &mut Random, state: &mut [i64]) {
     let process = FIRST_PROCESS + PROCESS * some_index(random, state[0], PROCESSES);
     let pair = FIRST_PAIR + PAIR * some_index(random, state[1], PAIRS);
     let odd = *random.pick(&[-1, 1, 2, 3, (1 << 32) + 1, HIGHEST + 1, LOWEST - 1, i64::MAX, i64::MIN]);
-    match random.below(10) {
+    match random.below(12) {
         // Counts.
         0 => state[random.below(2)] = *random.pick(&[-1, 0, 1, 255, 256, 257, i64::MAX, i64::MIN]),
         1 => {
@@ -226,6 +253,9 @@ fn spoil(random: &mut Random, state: &mut [i64]) {
         // Pairs doubled and in the wrong order.
         7 => state.copy_within(FIRST_PAIR..FIRST_PAIR + PAIR, FIRST_PAIR + PAIR),
         8 => state[FIRST_PAIR..FIRST_PAIR + 2 * PAIR].rotate_left(PAIR),
+        // The number of items alone; items in another order.
+        9 => state[pair] = *random.pick(&[0, 1, 2, 3, 4, -1]),
+        10 => state[pair + 1..pair + 1 + 2 * ITEMS].rotate_left(2),
         _ => state[random.below(STATE)] = odd,
     }
 }

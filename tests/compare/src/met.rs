@@ -2,15 +2,17 @@
 
 use second::generate::{Buffers, Call, Draw};
 use second::limits::{HIGHEST, LOWEST};
-use second::state::{FIRST_PAIR, FIRST_PROCESS, LOCALS, PAIR, PROCESS};
-use second::Answer;
+use second::state::{FIRST_PAIR, FIRST_PROCESS, FIRST_VALUE, LOCALS, PAIR, PROCESS, VALUE_COUNT};
+use second::syntax::ITEMS;
+use second::{model, reader, tokens, Answer, MODEL};
 use std::collections::{BTreeMap, BTreeSet};
 use std::fmt;
 
 /// The refusals of 01.
 pub const REFUSALS: std::ops::RangeInclusive<u64> = 1..=19;
-/// The kinds of entries of 01.
-pub const KINDS: std::ops::RangeInclusive<u64> = 1..=7;
+/// The kind of a wait, and those of the entries with a channel.
+const WAIT: u64 = 1;
+const CHANNEL_KINDS: std::ops::RangeInclusive<u64> = 2..=7;
 /// Numbers of a listing entry.
 const ENTRY: usize = 7;
 /// The four calls. Each must have been refused for its lengths.
@@ -33,8 +35,8 @@ pub struct Met {
     pub calls: u64,
     /// By the call's name and the answer's number.
     answers: BTreeMap<(&'static str, u64), u64>,
-    /// Accepted steps by the kind of the entry taken.
-    kinds: BTreeMap<u64, u64>,
+    /// Accepted steps by the kind of the entry taken and the items of its channel.
+    kinds: BTreeMap<(u64, usize), u64>,
     draws: BTreeMap<&'static str, u64>,
     /// By what is at an end or past it and which end: states that a list judged, by 11 if it is past it.
     ends: BTreeMap<(&'static str, &'static str), u64>,
@@ -42,8 +44,8 @@ pub struct Met {
 }
 
 impl Met {
-    /// Notes an answer and the buffers left with it.
-    pub fn note(&mut self, call: &Call, answer: &Answer, after: &Buffers) {
+    /// Notes an answer, the buffers as lent and those left.
+    pub fn note(&mut self, call: &Call, answer: &Answer, lent: &Buffers, after: &Buffers) {
         let name = call.name();
         self.calls += 1;
         *self.answers.entry((name, answer.number)).or_default() += 1;
@@ -54,7 +56,8 @@ impl Met {
             self.note_ends(&after.state, answer.number == 11);
         }
         if name == "step" && answer.number == 0 {
-            *self.kinds.entry(after.listing[answer.chosen as usize * ENTRY]).or_default() += 1;
+            let entry = &after.listing[answer.chosen as usize * ENTRY..][..ENTRY];
+            *self.kinds.entry((entry[0], items(entry, lent))).or_default() += 1;
         }
     }
 
@@ -89,7 +92,8 @@ impl Met {
         let refusals = REFUSALS.filter(|number| !refused(*number)).map(|number| format!("refusal {number}"));
         let lengths = CALLS.iter().filter(|name| !self.answers.contains_key(&(**name, 1)));
         let reports = REPORTS.iter().filter(|number| !self.answers.contains_key(&("report", **number)));
-        let kinds = KINDS.filter(|kind| !self.kinds.contains_key(kind)).map(|kind| format!("a step of kind {kind}"));
+        let kinds = CHANNEL_KINDS.flat_map(|kind| (1..=ITEMS).map(move |items| (kind, items)));
+        let kinds = kinds.chain([(WAIT, 0)]).filter(|kind| !self.kinds.contains_key(kind));
         let draws = DRAWS.iter().filter(|name| !self.draws.contains_key(**name));
         let ends = VALUES.iter().flat_map(|what| ENDS.map(|(end, _)| (*what, end)));
         let ends = ends.filter(|end| !self.ends.contains_key(end));
@@ -97,12 +101,20 @@ impl Met {
         refusals
             .chain(lengths.map(|name| format!("{name} with a wrong length")))
             .chain(reports.map(|number| format!("report with {number}")))
-            .chain(kinds)
+            .chain(kinds.map(|(kind, items)| format!("a step of kind {kind} on {items} items")))
             .chain(draws.map(|name| format!("draw: {name}")))
             .chain(ends.map(|(what, end)| format!("{what} {end}")))
             .chain(specimens.map(|name| format!("specimen: {name}")))
             .collect()
     }
+}
+
+/// How many items the channel of a listed entry has, 0 for a wait.
+fn items(entry: &[u64], lent: &Buffers) -> usize {
+    let text = model::held_text(&lent.model[..MODEL]).expect("a listed model has a text");
+    let tree = reader::read(&tokens::split(text), text.len()).expect("it fits the grammar");
+    let sum = lent.state[FIRST_PROCESS + PROCESS * entry[1] as usize] as usize;
+    tree.sums[sum].branches[entry[2] as usize].action.channel().len()
 }
 
 /// The numbers of a state that are values, each with what it is. The counts may be any.
@@ -113,10 +125,9 @@ fn values(state: &[i64]) -> Vec<(&'static str, i64)> {
         values.extend(process[1..=LOCALS].iter().map(|local| (VALUES[0], *local)));
     }
     for pair in state[FIRST_PAIR..].chunks_exact(PAIR).take(used(state[1])) {
-        if pair[0] == 0 {
-            values.push((VALUES[1], pair[1]));
-        }
-        values.extend(pair[3..].iter().map(|value| (VALUES[2], *value)));
+        let numbers = pair[1..VALUE_COUNT].chunks(2).filter(|item| item[0] == 0);
+        values.extend(numbers.map(|item| (VALUES[1], item[1])));
+        values.extend(pair[FIRST_VALUE..].iter().map(|value| (VALUES[2], *value)));
     }
     values
 }
@@ -129,8 +140,8 @@ impl fmt::Display for Met {
             let counts: Vec<String> = of_name.map(|((_, number), times)| format!("{number}:{times}")).collect();
             writeln!(out, "  {name} {}", counts.join(" "))?;
         }
-        let kinds: Vec<String> = self.kinds.iter().map(|(kind, times)| format!("{kind}:{times}")).collect();
-        writeln!(out, "  kinds of accepted steps {}", kinds.join(" "))?;
+        let kinds = self.kinds.iter().map(|((kind, items), times)| format!("{kind}({items}):{times}"));
+        writeln!(out, "  kinds of accepted steps (items) {}", kinds.collect::<Vec<_>>().join(" "))?;
         let draws: Vec<String> = self.draws.iter().map(|(name, times)| format!("{name}:{times}")).collect();
         writeln!(out, "  draws at the ends {}", draws.join(" "))?;
         let ends: Vec<String> = self.ends.iter().map(|((what, end), times)| format!("{what} {end}:{times}")).collect();

@@ -4,7 +4,7 @@ use crate::compare::{self, Difference};
 use crate::met::Met;
 use second::generate::{Buffers, Call, Draw, Engine, RIGHT};
 use second::tokens::{self, Kind};
-use second::STATE;
+use second::{model, MODEL, STATE};
 
 /// How often a shorter list is tried, at most.
 const TRIES: usize = 60_000;
@@ -88,8 +88,7 @@ impl Shrinker<'_> {
         for call in before {
             held.make(self.oracle, call);
         }
-        let size = usize::from(u16::from_le_bytes([held.model[0], held.model[1]]));
-        let Some(text) = held.model.get(2..2 + size) else { return };
+        let Some(text) = model::held_text(&held.model[..MODEL]) else { return };
         let mut calls = vec![Call::Open { text: text.to_vec(), lengths: RIGHT }];
         opened.make(self.oracle, &calls[0]);
         let changed = (0..STATE).filter(|&place| opened.state[place] != held.state[place]);

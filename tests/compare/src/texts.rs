@@ -18,10 +18,13 @@ const fn list(before: &'static str, part: &'static str, after: &'static str) -> 
 }
 
 /// One for each place of the grammar where something may repeat.
-const LISTS: [List; 22] = [
+const LISTS: [List; 25] = [
     list("A[]={c![1", "+1", "],1};A[];"),
     list("A[]={c![1", "*1", "],1};A[];"),
     list("A[]={c![1", "-(1)", "],1};A[];"),
+    list("A[]={a,1", "+1", "![1],1};A[];"),
+    list("A[]={a,1", "*1", ",b?[1],1};A[];"),
+    list("A[]={a,1*1", "/1", "};A[];"),
     list("A[]={a,1}", ".{a,1}", ";A[];"),
     list("A[]={a,1}", ".[1<2]->{a,1}", ";A[];"),
     list("A[]=[1<2", "&1<2", "]->{a,1};A[];"),
@@ -121,13 +124,15 @@ fn alike(random: &mut Random, mut name: String) -> String {
 fn sum(random: &mut Random, names: &[String]) -> String {
     let branches: Vec<String> = (0..random.between(1, BRANCHES as i64))
         .map(|_| {
-            let name = random.pick(names);
+            let items = *random.pick(&[1, 1, 2, 3]);
+            let channel: Vec<&str> = (0..items).map(|_| random.pick(names).as_str()).collect();
+            let channel = channel.join(",");
             let action = match random.below(8) {
-                0..=3 => format!("{name}![n]"),
-                4 => format!("{name}#[1]"),
-                5 => format!("{name}?[0..1]"),
-                6 => format!("@{name}![n]"),
-                _ => format!("@{name}?[0..1]"),
+                0..=3 => format!("{channel}![n]"),
+                4 => format!("{channel}#[1]"),
+                5 => format!("{channel}?[0..1]"),
+                6 => format!("@{channel}![n]"),
+                _ => format!("@{channel}?[0..1]"),
             };
             let after = *random.pick(&["", "", ".A[n]", ".B[0]"]);
             format!("{{{action},1}}{after}")

@@ -7,7 +7,7 @@ use compare::{compare as core, lists, with_stack};
 use second::generate::{Engine, SECOND};
 use second::limits::HIGHEST;
 use second::script::{self, Form, Line};
-use second::state::{DEFINITION, FIRST_PAIR, FIRST_PROCESS, PROCESS};
+use second::state::{DEFINITION, FIRST_PAIR, FIRST_PROCESS, FIRST_VALUE, PAIR, PROCESS, VALUE_COUNT};
 use second::{list, open, report, step, Answer, LISTING};
 
 const ENTRY: usize = 7;
@@ -111,7 +111,7 @@ fn a_pair_that_is_left_after_a_kill() {
         let before = state.to_vec();
         let answer = step(model, state, listing, draw);
         if answer.number == 0 && state[1] < before[1] {
-            state[FIRST_PAIR + 3] = before[FIRST_PAIR + 3];
+            state[FIRST_PAIR + FIRST_VALUE] = before[FIRST_PAIR + FIRST_VALUE];
         }
         answer
     }
@@ -249,6 +249,39 @@ fn a_definition_number_that_is_not_judged() {
 }
 
 #[test]
+fn an_unused_item_that_is_not_judged() {
+    fn wrong(model: &[u8], state: &[i64], listing: &mut [u64]) -> Answer {
+        let answer = list(model, state, listing);
+        if answer.number != 11 {
+            return answer;
+        }
+        let mut mended = state.to_vec();
+        for pair in mended[FIRST_PAIR..].chunks_mut(PAIR) {
+            let items = pair[0];
+            if (1..=3).contains(&items) {
+                pair[1 + 2 * items as usize..VALUE_COUNT].fill(0);
+            }
+        }
+        list(model, &mended, listing)
+    }
+    found(Engine { list: wrong, ..SECOND }, Place::Answer, 8, 200);
+}
+
+#[test]
+fn a_fault_at_the_comma_of_what_begins_a_channel() {
+    fn wrong(text: &[u8], model: &mut [u8], state: &mut [i64]) -> Answer {
+        let mut answer = open(text, model, state);
+        let before = &text[..text.len().min(answer.place as usize)];
+        let comma = before.iter().rposition(|byte| b"{,".contains(byte)).filter(|&place| before[place] == b',');
+        if let (5, Some(b'}'), Some(comma)) = (answer.number, text.get(answer.place as usize), comma) {
+            answer.place = comma as u64;
+        }
+        answer
+    }
+    found(Engine { open: wrong, ..SECOND }, Place::Answer, 1, 40);
+}
+
+#[test]
 fn a_report_that_counts_handshakes_for_their_receivers() {
     fn wrong(model: &[u8], state: &[i64], subtotals: &mut [u64]) -> Answer {
         let answer = report(model, state, subtotals);
@@ -293,5 +326,5 @@ fn a_nineteen_for_a_pair_already_lit() {
         answer
     }
     // A state with 256 pairs has many numbers.
-    found(Engine { step: wrong, ..SECOND }, Place::Answer, 5 * 256 + 50, 30_000);
+    found(Engine { step: wrong, ..SECOND }, Place::Answer, 256 * PAIR + 50, 60_000);
 }

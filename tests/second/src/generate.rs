@@ -5,7 +5,8 @@
 
 use crate::limits::{HIGHEST, LOWEST};
 use crate::model;
-use crate::state::{FIRST_PAIR, FIRST_PROCESS, PAIR, PROCESS};
+use crate::state::{Channel, Item, Pair, FIRST_PAIR, FIRST_PROCESS, PAIR, PROCESS};
+use crate::syntax::ITEMS;
 use crate::tokens::{self, Kind};
 use crate::{Answer, LISTING, MODEL, REPORT, STATE};
 
@@ -72,8 +73,8 @@ struct Writer<'a> {
     decimals: Vec<&'static str>,
     /// Names and numbers of parameters.
     definitions: Vec<(&'static str, usize)>,
-    /// The channel names of this model, few of them, so that processes meet.
-    channels: Vec<&'static str>,
+    /// The channels of this model, few of them, so that processes meet, each as its tokens.
+    channels: Vec<String>,
     scope: Vec<&'static str>,
 }
 
@@ -91,6 +92,16 @@ pub fn lively(random: &mut Random) -> Vec<u8> {
     writer.model();
     let tokens = writer.tokens;
     spaced(random, &tokens)
+}
+
+/// One to three names and numbers with `,` between them.
+fn some_channel(random: &mut Random) -> String {
+    let items = *random.pick(&[1, 1, 2, 2, 3]);
+    let mut item = || {
+        let some: &[&str] = if random.chance(60) { &CHANNEL_NAMES } else { &["0", "1"] };
+        *random.pick(some)
+    };
+    (0..items).map(|_| item()).collect::<Vec<_>>().join(" , ")
 }
 
 /// Tokens as a text, close together, or with blanks, lines and comments between them.
@@ -167,9 +178,9 @@ impl Writer<'_> {
                 self.put(&format!("{name} = {number} ;"));
             }
         }
-        for _ in 0..*self.random.pick(&[1, 1, 2]) {
-            let name = *self.random.pick(&CHANNEL_NAMES);
-            self.channels.push(name);
+        for _ in 0..*self.random.pick(&[1, 1, 2, 3]) {
+            let channel = some_channel(self.random);
+            self.channels.push(channel);
         }
         let count = *self.random.pick(&[1, 2, 3, 3, 4, 5]);
         let first = self.random.below(DEFINITION_NAMES.len());
@@ -344,14 +355,25 @@ impl Writer<'_> {
     }
 
     fn channel(&mut self) {
-        match self.random.below(20) {
+        if self.random.chance(80) {
+            let channel = self.random.pick(&self.channels).clone();
+            self.put(&channel);
+        } else {
+            let items = 1 + self.random.below(ITEMS);
+            self.list(items, ",", Self::channel_item);
+        }
+    }
+
+    fn channel_item(&mut self) {
+        match self.random.below(4) {
             0 => self.small(1),
-            1..=3 => {
+            1 => {
                 let number = self.random.between(0, 1);
                 self.whole(number);
             }
+            2 => self.small_name(),
             _ => {
-                let name = self.channels[self.random.below(self.channels.len())];
+                let name = *self.random.pick(&CHANNEL_NAMES);
                 self.put(name);
             }
         }
@@ -600,8 +622,49 @@ const PERHAPS_NO_VALUE: [&str; 14] = [
 const DIVIDED: [&str; 12] =
     ["n", "n", "(n-1)", "(0-n)", "2", "-2", "7", "-7", "max(n,1)", "min(n,-1)", "1099511627775", "-1099511627775"];
 
+/// What stands in braces, where a wait and a channel of several items begin alike: some fit, some don't.
+const WAIT_OR_CHANNEL: [&str; 36] = [
+    "a,1*2",
+    "a,n*(n+1)",
+    "a,-1",
+    "a,1.5*n",
+    "a,-0.5",
+    "a,n",
+    "a,1*2![1],1",
+    "a,1*2*n?[1](x),1",
+    "a,n*2/3#[1],1",
+    "a,n+1#[1],1",
+    "a,-1![n],n",
+    "a,(b)![1],1",
+    "a,abs(n)![1,2],1",
+    "a,n,2![n],1",
+    "a,1*n,b?[0..9],1",
+    "a,b,c?[1](x),1",
+    "n,a,n![1],1",
+    "1,2,3#[n],1",
+    "~a,b?[1],1",
+    "~1,b,n?[0..9],1",
+    "@a,b![1],1",
+    "@a,1,n?[1],1",
+    "(n),1![1],1",
+    // From here on none fits.
+    "a,1*2*3",
+    "a,1+2",
+    "a,(b)",
+    "a,1,2",
+    "1,a",
+    "a,1.5,2",
+    "a,-1.5![1],1",
+    "a,b,c,d![1],1",
+    "@a,b,c,d![1],1",
+    "@a,1",
+    "(a),1",
+    "a,abs(n)",
+    "a,,1",
+];
+
 /// How many kinds of texts near a limit there are.
-pub const EDGES: usize = 27;
+pub const EDGES: usize = 28;
 
 /// A text at one of the limits of 01, or just past it.
 pub fn edge(random: &mut Random) -> Vec<u8> {
@@ -739,6 +802,10 @@ pub fn edge_of_kind(random: &mut Random, which: usize) -> Vec<u8> {
             let (dividend, divisor) = (*random.pick(&DIVIDED), *random.pick(&DIVIDED));
             let start = random.between(-SMALL, SMALL);
             format!("A[n]={{c![{dividend}/{divisor}],1}}.A[n-1]+{{go,1}}.A[0-n];A[{start}];")
+        }
+        26 => {
+            let inside = *random.pick(&WAIT_OR_CHANNEL);
+            format!("A[n]={{{inside}}}.A[n]+{{go,1}}.A[n+1];2*A[0];")
         }
         _ => {
             let rate = *random.pick(&[
@@ -1074,8 +1141,9 @@ impl Buffers {
                 self.state[1] = *count as i64;
                 let pairs = &mut self.state[FIRST_PAIR..STATE];
                 pairs.fill(0);
+                let channel = Channel::new(&[Item { kind: 0, number: 5 }]);
                 for (number, pair) in pairs.chunks_mut(PAIR).take(*count).enumerate() {
-                    pair[..4].copy_from_slice(&[0, 5, 1, first + number as i64]);
+                    pair.copy_from_slice(&Pair::new(channel, &[first + number as i64]).numbers());
                 }
             }
             Call::Crowd { count } => {
@@ -1185,7 +1253,7 @@ fn some_change(random: &mut Random) -> Call {
             let place = match random.below(6) {
                 0 => random.below(2),
                 1 | 2 => FIRST_PROCESS + random.below(30),
-                3 => FIRST_PAIR + random.below(15),
+                3 => FIRST_PAIR + random.below(3 * PAIR),
                 _ => random.below(STATE),
             };
             let number = *random.pick(&[

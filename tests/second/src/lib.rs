@@ -25,7 +25,7 @@ pub use engine::{list, open, report, step};
 /// zeros.
 pub const MODEL: usize = 16_386;
 /// Length of the state buffer in signed 64-bit numbers.
-pub const STATE: usize = 3_842;
+pub const STATE: usize = 5_122;
 /// Length of the listing buffer in unsigned 64-bit numbers.
 pub const LISTING: usize = 7_168;
 /// Length of the report buffer in unsigned 64-bit numbers: one for each definition there may be.

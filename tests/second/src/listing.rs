@@ -2,8 +2,8 @@
 //! 12 to 14.
 
 use crate::eval::{self, Ranges};
-use crate::model::{self, Action, Model};
-use crate::state::{Channel, Pair, State};
+use crate::model::{self, Action, ChannelItem, Model};
+use crate::state::{Channel, Item, Pair, State};
 
 /// The most entries a listing has.
 pub const ENTRIES: usize = 1_024;
@@ -79,7 +79,7 @@ pub struct Wanted {
 }
 
 impl Wanted {
-    /// The same channel, as many values as sets, each value in its set.
+    /// The same channel item for item, as many values as sets, each value in its set.
     fn matches(&self, pair: &Pair) -> bool {
         let values = pair.values();
         self.channel == pair.channel
@@ -137,9 +137,14 @@ fn open_branch(branch: &model::Branch, locals: &[i64]) -> Option<Option<Open>> {
 }
 
 fn open_channel(channel: &model::Channel, locals: &[i64]) -> Option<Channel> {
-    Some(match channel {
-        model::Channel::Name(number) => Channel { kind: 1, number: *number },
-        model::Channel::Number(expression) => Channel { kind: 0, number: eval::expression(expression, locals)? },
+    let items: Option<Vec<Item>> = channel.iter().map(|item| open_item(item, locals)).collect();
+    Some(Channel::new(&items?))
+}
+
+fn open_item(item: &ChannelItem, locals: &[i64]) -> Option<Item> {
+    Some(match item {
+        ChannelItem::Name(number) => Item { kind: 1, number: *number },
+        ChannelItem::Number(expression) => Item { kind: 0, number: eval::expression(expression, locals)? },
     })
 }
 

@@ -75,8 +75,11 @@ pub enum Action {
     HandshakeReceive(Channel, Vec<Set>, bool),
 }
 
+/// One to three items.
+pub type Channel = Vec<ChannelItem>;
+
 #[derive(Debug)]
-pub enum Channel {
+pub enum ChannelItem {
     Number(Expression),
     /// The channel name with this number.
     Name(i64),
@@ -195,9 +198,14 @@ pub fn write_buffer(text: &[u8], buffer: &mut [u8]) {
     buffer[2..2 + text.len()].copy_from_slice(text);
 }
 
-/// The model that a buffer holds, if it holds one: the length is at most 16,384, the bytes
-/// after the text are 0, and questions 2 to 9 have the answer yes for the text.
+/// The model that a buffer holds, if it holds one: it holds a text, and questions 2 to 9 have the
+/// answer yes for it.
 pub fn read_buffer(buffer: &[u8]) -> Option<Model> {
+    read(held_text(buffer)?).ok()
+}
+
+/// The text that a buffer holds: the length is at most 16,384, and the bytes after the text are 0.
+pub fn held_text(buffer: &[u8]) -> Option<&[u8]> {
     if buffer.len() != BUFFER {
         return None;
     }
@@ -206,10 +214,7 @@ pub fn read_buffer(buffer: &[u8]) -> Option<Model> {
         return None;
     }
     let (text, rest) = buffer[2..].split_at(length);
-    if rest.iter().any(|&byte| byte != 0) {
-        return None;
-    }
-    read(text).ok()
+    rest.iter().all(|&byte| byte == 0).then_some(text)
 }
 
 impl Model {
@@ -231,9 +236,8 @@ impl<'a> Settler<'a> {
         let mut uses: Vec<TokenId> = Vec::new();
         for (number, sum) in names.tree.sums.iter().enumerate() {
             for branch in &sum.branches {
-                if let Some(channel) = branch.action.channel() {
-                    uses.extend(channel_name(names, channel, &names.scopes[number]));
-                }
+                let items = branch.action.channel().iter();
+                uses.extend(items.filter_map(|item| channel_name(names, item, &names.scopes[number])));
             }
         }
         // The order of the text.
@@ -332,13 +336,17 @@ impl<'a> Settler<'a> {
         }
     }
 
-    fn channel(&self, channel: &syntax::Expression, scope: &[TokenId]) -> Channel {
-        match channel_name(self.names, channel, scope) {
-            None => Channel::Number(self.expression(channel, scope)),
+    fn channel(&self, channel: &syntax::Channel, scope: &[TokenId]) -> Channel {
+        channel.iter().map(|item| self.channel_item(item, scope)).collect()
+    }
+
+    fn channel_item(&self, item: &syntax::Expression, scope: &[TokenId]) -> ChannelItem {
+        match channel_name(self.names, item, scope) {
+            None => ChannelItem::Number(self.expression(item, scope)),
             Some(name) => {
                 let word = self.names.word(name);
                 let number = self.channel_names.iter().position(|&other| other == word);
-                Channel::Name(number.expect("every channel name has a number") as i64)
+                ChannelItem::Name(number.expect("every channel name has a number") as i64)
             }
         }
     }
@@ -441,9 +449,9 @@ impl<'a> Settler<'a> {
     }
 }
 
-/// The name, if this channel is a channel name: a lone name, neither local nor whole variable.
-fn channel_name(names: &Names, channel: &syntax::Expression, scope: &[TokenId]) -> Option<TokenId> {
-    let name = channel.lone_name()?;
+/// The name, if this item of a channel is a channel name: a lone name, neither local nor whole variable.
+fn channel_name(names: &Names, item: &syntax::Expression, scope: &[TokenId]) -> Option<TokenId> {
+    let name = item.lone_name()?;
     match names.meaning(name, scope) {
         Meaning::Local(_) | Meaning::WholeVariable(_) => None,
         Meaning::DecimalVariable(_) | Meaning::Nothing => Some(name),

@@ -124,10 +124,10 @@ impl<'a> Names<'a> {
                 self.note_expression(&relation.right, scope, faults);
             }
         }
-        if let Some(channel) = branch.action.channel() {
+        for item in branch.action.channel() {
             // A lone name that means nothing as a value is a channel name.
-            if channel.lone_name().is_none() {
-                self.note_expression(channel, scope, faults);
+            if item.lone_name().is_none() {
+                self.note_expression(item, scope, faults);
             }
         }
         for value in branch.action.values() {

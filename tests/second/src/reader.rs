@@ -6,8 +6,8 @@
 //! knows what may follow. So the fault is always at the first impossible token. Three places
 //! of the grammar share their beginnings, and are read together until they part:
 //!
-//! - `name` as a wait and as the beginning of a channel: the channel is read as an expression,
-//!   and if it turns out to be a lone name and a `,` follows, it was a wait;
+//! - `name,` as the beginning of a wait and of a channel with more items than one: what follows
+//!   is read as a rate and as an item, as long as it can be both (02, note 7);
 //! - `name[` as the beginning of a definition and of the system line: what follows the `[`
 //!   tells them apart, or, when the list is empty, what follows the `]`;
 //! - a variable and a definition both begin with a name; the next token tells them apart.
@@ -28,6 +28,12 @@ pub fn read(tokens: &[Token], length: usize) -> Read<Tree> {
     let mut reader = Reader { tokens, next: 0, length, tree: Tree::default() };
     reader.model()?;
     Ok(reader.tree)
+}
+
+/// What follows `{`, a name and `,`.
+enum RateOrItem {
+    Rate(Rate),
+    Item(Expression),
 }
 
 struct Reader<'a> {
@@ -269,9 +275,7 @@ impl Reader<'_> {
             self.expect(Kind::Arrow)?;
         }
         self.expect(Kind::OpenBrace)?;
-        let action = self.action()?;
-        self.expect(Kind::Comma)?;
-        let rate = self.rate()?;
+        let (action, rate) = self.action_and_rate()?;
         self.expect(Kind::CloseBrace)?;
         Ok(Branch { first, gate, action, rate, continuation: Vec::new() })
     }
@@ -321,28 +325,52 @@ impl Reader<'_> {
 
     // Actions.
 
-    fn action(&mut self) -> Read<Action> {
-        if self.take(Kind::At) {
-            let channel = self.expression()?;
-            return match self.kind() {
-                Some(Kind::Bang) => Ok(Action::HandshakeSend(channel, self.values()?)),
-                Some(Kind::Question) => {
-                    let sets = self.sets()?;
-                    Ok(Action::HandshakeReceive(channel, sets, self.bound_names()?))
+    fn action_and_rate(&mut self) -> Read<(Action, Rate)> {
+        let action = if self.take(Kind::At) {
+            self.handshake()?
+        } else if self.take(Kind::Tilde) {
+            self.check()?
+        } else {
+            let first = self.expression()?;
+            let mut items = vec![first];
+            if items[0].lone_name().is_some() && self.take(Kind::Comma) {
+                match self.rate_or_item()? {
+                    RateOrItem::Rate(rate) => return Ok((Action::Wait, rate)),
+                    RateOrItem::Item(second) => items.push(second),
                 }
-                _ => self.fault(),
-            };
-        }
-        if self.take(Kind::Tilde) {
-            let channel = self.expression()?;
-            if !self.at(Kind::Question) {
-                return self.fault();
             }
-            return Ok(Action::Check(channel, self.sets()?));
-        }
-        let channel = self.expression()?;
+            self.beacon(items)?
+        };
+        self.expect(Kind::Comma)?;
+        Ok((action, self.rate()?))
+    }
+
+    /// After `@`.
+    fn handshake(&mut self) -> Read<Action> {
+        let channel = self.channel()?;
         match self.kind() {
-            Some(Kind::Comma) if channel.lone_name().is_some() => Ok(Action::Wait),
+            Some(Kind::Bang) => Ok(Action::HandshakeSend(channel, self.values()?)),
+            Some(Kind::Question) => {
+                let sets = self.sets()?;
+                Ok(Action::HandshakeReceive(channel, sets, self.bound_names()?))
+            }
+            _ => self.fault(),
+        }
+    }
+
+    /// After `~`.
+    fn check(&mut self) -> Read<Action> {
+        let channel = self.channel()?;
+        if !self.at(Kind::Question) {
+            return self.fault();
+        }
+        Ok(Action::Check(channel, self.sets()?))
+    }
+
+    /// A launch, kill or receive, of whose channel these items are read.
+    fn beacon(&mut self, items: Vec<Expression>) -> Read<Action> {
+        let channel = self.rest_of_channel(items)?;
+        match self.kind() {
             Some(Kind::Bang) => Ok(Action::Launch(channel, self.values()?)),
             Some(Kind::Hash) => Ok(Action::Kill(channel, self.values()?)),
             Some(Kind::Question) => {
@@ -351,6 +379,41 @@ impl Reader<'_> {
             }
             _ => self.fault(),
         }
+    }
+
+    fn channel(&mut self) -> Read<Channel> {
+        let first = self.expression()?;
+        self.rest_of_channel(vec![first])
+    }
+
+    fn rest_of_channel(&mut self, mut items: Channel) -> Read<Channel> {
+        while items.len() < ITEMS && self.take(Kind::Comma) {
+            items.push(self.expression()?);
+        }
+        Ok(items)
+    }
+
+    /// What follows `{`, a name and `,`: the rate of a wait, if a `}` follows it or it is no expression, else the second
+    /// item of a channel.
+    fn rate_or_item(&mut self) -> Read<RateOrItem> {
+        if !matches!(self.kind(), Some(Kind::Name | Kind::Whole | Kind::Decimal | Kind::Minus)) {
+            return Ok(RateOrItem::Item(self.expression()?));
+        }
+        let rate = self.rate()?;
+        if self.at(Kind::CloseBrace) {
+            return Ok(RateOrItem::Rate(rate));
+        }
+        // A scale without a point and what it is multiplied by begin a term.
+        let first = match rate.scale {
+            Scale::Number(number) if self.tokens[number.token].kind == Kind::Decimal => {
+                return Ok(RateOrItem::Rate(rate));
+            }
+            Scale::Number(number) => Atom::Number(number),
+            Scale::Name(name) => Atom::Name(name),
+        };
+        let rest = rate.atom.map(|atom| (ProductSign::Times, atom)).into_iter().collect();
+        let term = self.rest_of_term(Term { first, rest })?;
+        Ok(RateOrItem::Item(self.rest_of_expression(term)?))
     }
 
     /// `!` or `#`, then one or two expressions in square brackets.
@@ -415,6 +478,10 @@ impl Reader<'_> {
 
     fn expression(&mut self) -> Read<Expression> {
         let first = self.term()?;
+        self.rest_of_expression(first)
+    }
+
+    fn rest_of_expression(&mut self, first: Term) -> Read<Expression> {
         let mut rest = Vec::new();
         loop {
             let sign = match self.kind() {
@@ -429,15 +496,18 @@ impl Reader<'_> {
 
     fn term(&mut self) -> Read<Term> {
         let first = self.atom()?;
-        let mut rest = Vec::new();
+        self.rest_of_term(Term { first, rest: Vec::new() })
+    }
+
+    fn rest_of_term(&mut self, mut term: Term) -> Read<Term> {
         loop {
             let sign = match self.kind() {
                 Some(Kind::Times) => ProductSign::Times,
                 Some(Kind::Over) => ProductSign::Over,
-                _ => return Ok(Term { first, rest }),
+                _ => return Ok(term),
             };
             self.next += 1;
-            rest.push((sign, self.atom()?));
+            term.rest.push((sign, self.atom()?));
         }
     }
 

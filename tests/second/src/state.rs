@@ -3,6 +3,7 @@
 
 use crate::limits::is_value;
 use crate::model::Model;
+use crate::syntax::ITEMS;
 
 pub const PROCESSES: usize = 256;
 pub const PAIRS: usize = 256;
@@ -12,8 +13,14 @@ pub const LOCALS: usize = 8;
 pub const DEFINITION: usize = 1 + LOCALS;
 /// Numbers of a process.
 pub const PROCESS: usize = DEFINITION + 1;
-/// Numbers of a pair: channel kind, channel, count of values, two values.
-pub const PAIR: usize = 5;
+/// Which number of a pair is its count of values: that after the count of items and their kinds and values (02, note 7).
+pub const VALUE_COUNT: usize = 1 + 2 * ITEMS;
+/// Which is the first of its values.
+pub const FIRST_VALUE: usize = VALUE_COUNT + 1;
+/// The most values of a pair.
+pub const VALUES: usize = 2;
+/// Numbers of a pair.
+pub const PAIR: usize = FIRST_VALUE + VALUES;
 /// Where the processes begin, after both counts.
 pub const FIRST_PROCESS: usize = 2;
 pub const FIRST_PAIR: usize = FIRST_PROCESS + PROCESSES * PROCESS;
@@ -35,32 +42,64 @@ pub struct Process {
     pub locals: Vec<i64>,
 }
 
-/// A channel: kind (0 number, 1 name) and number.
-#[derive(Clone, Copy, Debug, PartialEq, Eq, PartialOrd, Ord)]
-pub struct Channel {
+/// An item of a channel: kind (0 number, 1 name) and number.
+#[derive(Clone, Copy, Debug, Default, PartialEq, Eq, PartialOrd, Ord)]
+pub struct Item {
     pub kind: i64,
     pub number: i64,
 }
 
-/// Pairs are ordered by channel kind, channel, count of values, values: the order of the fields.
+/// A channel of one to three items. Equal channels have as many items, each equal to its counterpart.
+#[derive(Clone, Copy, Debug, PartialEq, Eq, PartialOrd, Ord)]
+pub struct Channel {
+    count: usize,
+    /// Those past the count are 0 and 0.
+    items: [Item; ITEMS],
+}
+
+impl Channel {
+    pub fn new(items: &[Item]) -> Channel {
+        Channel { count: items.len(), items: padded(items) }
+    }
+}
+
+/// Pairs are ordered by item count, kind and number of each item, count of values, values: the order of the fields.
 #[derive(Clone, Copy, Debug, PartialEq, Eq, PartialOrd, Ord)]
 pub struct Pair {
     pub channel: Channel,
     /// 1 or 2.
     pub count: usize,
     /// The second is 0 if there is one value only.
-    values: [i64; 2],
+    values: [i64; VALUES],
 }
 
 impl Pair {
     /// A pair with one or two values.
     pub fn new(channel: Channel, values: &[i64]) -> Pair {
-        Pair { channel, count: values.len(), values: [values[0], values.get(1).copied().unwrap_or(0)] }
+        Pair { channel, count: values.len(), values: padded(values) }
     }
 
     pub fn values(&self) -> &[i64] {
         &self.values[..self.count]
     }
+
+    /// As a state has it.
+    pub fn numbers(&self) -> Vec<i64> {
+        let mut numbers = vec![self.channel.count as i64];
+        for item in self.channel.items {
+            numbers.extend([item.kind, item.number]);
+        }
+        numbers.push(self.count as i64);
+        numbers.extend(self.values);
+        numbers
+    }
+}
+
+/// The list, with zeros up to its greatest length.
+fn padded<T: Copy + Default, const LENGTH: usize>(list: &[T]) -> [T; LENGTH] {
+    let mut all = [T::default(); LENGTH];
+    all[..list.len()].copy_from_slice(list);
+    all
 }
 
 /// The state of a model just opened: the system line's items in order, counts written out, each
@@ -93,12 +132,8 @@ pub fn write_buffer(model: &Model, state: &State, buffer: &mut [i64]) {
         buffer[place + 1..place + 1 + process.locals.len()].copy_from_slice(&process.locals);
         buffer[place + DEFINITION] = model.sums[process.sum].definition as i64;
     }
-    for (number, pair) in state.pairs.iter().enumerate() {
-        let place = FIRST_PAIR + number * PAIR;
-        buffer[place] = pair.channel.kind;
-        buffer[place + 1] = pair.channel.number;
-        buffer[place + 2] = pair.count as i64;
-        buffer[place + 3..place + 5].copy_from_slice(&pair.values);
+    for (pair, part) in state.pairs.iter().zip(buffer[FIRST_PAIR..].chunks_mut(PAIR)) {
+        part.copy_from_slice(&pair.numbers());
     }
 }
 
@@ -146,21 +181,27 @@ fn read_process(model: &Model, part: &[i64]) -> Option<Process> {
 }
 
 fn read_pair(model: &Model, part: &[i64]) -> Option<Pair> {
-    let channel = Channel { kind: part[0], number: part[1] };
-    match channel.kind {
-        0 if is_value(channel.number) => {}
-        1 if below(channel.number, model.channel_names).is_some() => {}
+    let (items, unused) = part[1..VALUE_COUNT].split_at(2 * one_to(part[0], ITEMS)?);
+    let items: Option<Vec<Item>> = items.chunks(2).map(|item| read_item(model, item[0], item[1])).collect();
+    let (values, unused_values) = part[FIRST_VALUE..].split_at(one_to(part[VALUE_COUNT], VALUES)?);
+    if !values.iter().all(|&value| is_value(value)) || !all_zero(unused) || !all_zero(unused_values) {
+        return None;
+    }
+    Some(Pair::new(Channel::new(&items?), values))
+}
+
+fn read_item(model: &Model, kind: i64, number: i64) -> Option<Item> {
+    match kind {
+        0 if is_value(number) => {}
+        1 if below(number, model.channel_names).is_some() => {}
         _ => return None,
     }
-    let count = below(part[2], 3)?;
-    if count == 0 {
-        return None;
-    }
-    let (values, unused) = part[3..].split_at(count);
-    if !values.iter().all(|&value| is_value(value)) || !all_zero(unused) {
-        return None;
-    }
-    Some(Pair::new(channel, values))
+    Some(Item { kind, number })
+}
+
+/// The number, if it is from 1 to the most.
+fn one_to(number: i64, most: usize) -> Option<usize> {
+    below(number, most + 1).filter(|&number| number > 0)
 }
 
 /// The number, if it is from 0 to below the end.

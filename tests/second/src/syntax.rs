@@ -82,13 +82,19 @@ pub struct Call {
 #[derive(Debug)]
 pub enum Action {
     Wait,
-    Launch(Expression, Vec<Expression>),
-    Kill(Expression, Vec<Expression>),
-    Receive(Expression, Vec<Set>, Option<Names>),
-    Check(Expression, Vec<Set>),
-    HandshakeSend(Expression, Vec<Expression>),
-    HandshakeReceive(Expression, Vec<Set>, Option<Names>),
+    Launch(Channel, Vec<Expression>),
+    Kill(Channel, Vec<Expression>),
+    Receive(Channel, Vec<Set>, Option<Names>),
+    Check(Channel, Vec<Set>),
+    HandshakeSend(Channel, Vec<Expression>),
+    HandshakeReceive(Channel, Vec<Set>, Option<Names>),
 }
+
+/// One to three items, each an expression or a name (02, note 7).
+pub type Channel = Vec<Expression>;
+
+/// The most items of a channel.
+pub const ITEMS: usize = 3;
 
 /// The names that a receive binds.
 #[derive(Debug)]
@@ -199,15 +205,16 @@ impl Expression {
 }
 
 impl Action {
-    pub fn channel(&self) -> Option<&Expression> {
+    /// The items of its channel; none of a wait.
+    pub fn channel(&self) -> &[Expression] {
         match self {
-            Action::Wait => None,
+            Action::Wait => &[],
             Action::Launch(channel, _)
             | Action::Kill(channel, _)
             | Action::Receive(channel, _, _)
             | Action::Check(channel, _)
             | Action::HandshakeSend(channel, _)
-            | Action::HandshakeReceive(channel, _, _) => Some(channel),
+            | Action::HandshakeReceive(channel, _, _) => channel,
         }
     }
 

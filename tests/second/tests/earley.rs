@@ -55,14 +55,17 @@ Call        name [ Expressions ]
 Expressions Expression
 Expressions Expressions , Expression
 Action      name
-Action      Expression ! [ Values ]
-Action      Expression # [ Values ]
-Action      Expression ? [ Sets ]
-Action      Expression ? [ Sets ] ( Names )
-Action      ~ Expression ? [ Sets ]
-Action      @ Expression ! [ Values ]
-Action      @ Expression ? [ Sets ]
-Action      @ Expression ? [ Sets ] ( Names )
+Action      Channel ! [ Values ]
+Action      Channel # [ Values ]
+Action      Channel ? [ Sets ]
+Action      Channel ? [ Sets ] ( Names )
+Action      ~ Channel ? [ Sets ]
+Action      @ Channel ! [ Values ]
+Action      @ Channel ? [ Sets ]
+Action      @ Channel ? [ Sets ] ( Names )
+Channel     Expression
+Channel     Expression , Expression
+Channel     Expression , Expression , Expression
 Values      Expression
 Values      Expression , Expression
 Sets        Set
@@ -279,6 +282,48 @@ fn random_and_damaged_texts() {
     assert!(faults > 300);
 }
 
+/// Walks over the grammar: mostly tokens that fit, so that the walk goes on, those of channels and rates more often.
+#[test]
+fn walks_through_braces() {
+    let grammar = grammar();
+    let likely = ["name", "7", "1.5", "-", "*", "+", "/", "(", ")", ",", "!", "?", "#", "}", "abs", "@", "~"];
+    let (mut faults, mut fitting) = (0, 0);
+    for seed in 0..4_000 {
+        let mut random = Random::new(seed);
+        let mut text = b"A [ ] = { ".to_vec();
+        for _ in 0..1 + random.below(16) {
+            let possible = possible_after(&grammar, &text);
+            let words: &[&str] = if random.chance(90) { &likely } else { &WORDS };
+            let fits: Vec<&str> =
+                words.iter().copied().filter(|word| possible.contains(&split(word.as_bytes())[0].kind)).collect();
+            let among = if fits.is_empty() || random.chance(5) { words } else { &fits[..] };
+            text.extend(format!("{} ", random.pick(among)).as_bytes());
+        }
+        // The end of what fits so far, and a whole text where it does.
+        for end in ["", "}; A[];", "![1],1}; A[];", "?[1](x),1.5*7}; A[];"] {
+            let whole = [&text[..], end.as_bytes()].concat();
+            match compare(&grammar, &whole) {
+                Some(_) => faults += 1,
+                None => fitting += 1,
+            }
+        }
+    }
+    println!("{faults} texts with a fault, {fitting} that fit");
+    assert!(faults > 8_000 && fitting > 300);
+}
+
+/// The kinds of tokens that some fitting text has after this one; none if it doesn't begin any.
+fn possible_after(grammar: &Grammar, text: &[u8]) -> BTreeSet<Kind> {
+    let mut recogniser = Recogniser::new(grammar);
+    for token in split(text) {
+        if !recogniser.possible().contains(&token.kind) {
+            return BTreeSet::new();
+        }
+        recogniser.read(token.kind);
+    }
+    recogniser.possible()
+}
+
 /// After each beginning of some texts: each kind of token, possible or not.
 #[test]
 fn every_token_after_every_beginning() {
@@ -290,6 +335,11 @@ fn every_token_after_every_beginning() {
         b"v=-1.5;A[n,m]=[~n<1&m>=2|n==abs(m)&n!=1]->{@c?[1..2\\3 union n inter m,4](x,y),-2.5*max(1,n)}.({a,1}+\
           {~n+1?[1],v}.(B[]||(A[1,n*2]))||B[])+{c,n*-1}||{(1)![n,m],1}.[n<=m]->{1#[-1],1};B[]={c?[1](z),1};\
           B[]={go,1};2*A[1,-2]||B[]||3*B[];"
+            .to_vec(),
+    );
+    texts.push(
+        b"A[n]={a,1*2*3,b![1],1}+{a,n*(n)}.{a,1.5*n}+{a,-1?[n](x),2}+{a,(n)#[1],n}+{a,abs(n),n-1?[1,2](x,y),1}+\
+          {1,a![1],1}+{@a,b,1*n![1],1}+{@1,c?[1],1}+{~a,n+1?[1],1}+{~1,2,3?[4],5};A[1];"
             .to_vec(),
     );
     let mut tried = 0;

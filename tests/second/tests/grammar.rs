@@ -103,20 +103,20 @@ fn actions() {
     refused(5, "A[]={¶,1};A[];");
     refused(5, "A[]={go¶};A[];");
     refused(5, "A[]={go,¶};A[];");
-    refused(5, "A[]={go,1¶,};A[];");
-    refused(5, "A[]={(go)¶,1};A[];");
-    refused(5, "A[]={go+1¶,1};A[];");
-    refused(5, "A[]={1¶,1};A[];");
+    refused(5, "A[]={go,1,¶};A[];");
+    refused(5, "A[]={(go),1¶};A[];");
+    refused(5, "A[]={go+1,1¶};A[];");
+    refused(5, "A[]={1,1¶};A[];");
     refused(5, "A[]={¶1.5![1],1};A[];");
     refused(5, "A[]={go¶[1],1};A[];");
     refused(5, "A[]={go¶(1),1};A[];");
     refused(5, "A[]={go¶..1,1};A[];");
     refused(5, "A[]={go ¶go,1};A[];");
-    refused(5, "A[]={@go¶,1};A[];");
+    refused(5, "A[]={@go,1¶};A[];");
     refused(5, "A[]={@go¶#[1],1};A[];");
     refused(5, "A[]={@¶@go![1],1};A[];");
     refused(5, "A[]={@¶~go?[1],1};A[];");
-    refused(5, "A[]={~go¶,1};A[];");
+    refused(5, "A[]={~go,1¶};A[];");
     refused(5, "A[]={~go¶![1],1};A[];");
     refused(5, "A[]={~¶@go?[1],1};A[];");
     refused(5, "A[]={~go?[1]¶(x),1};A[];");
@@ -133,11 +133,87 @@ fn actions() {
     refused(5, "A[]={c?[1](¶1),1};A[];");
     refused(5, "A[]={c?[1](x,¶),1};A[];");
     refused(5, "A[]={c?[1](x¶;");
-    refused(5, "A[]={c,d¶![1],1};A[];");
+    refused(5, "A[]={c,d![1]¶};A[];");
+    refused(5, "A[]={c![1],d¶![1],1};A[];");
     accepted(
         "A[]={c![1],1}+{c#[1,2],1}+{c?[1],1}+{c?[1,2](x,y),1}+{~c?[1],1}+{@c![1],1}+{@c?[1],1}+{@c?[1](x),1};A[];",
     );
     accepted("A[]={1+2![1],1}+{-1![1],1}+{(3)![1],1}+{abs(-3)?[1],1}+{max(1,2)#[1],1};A[];");
+}
+
+/// A wait and a channel of several items that begin alike: the place is the first token that neither could have.
+#[test]
+fn wait_or_channel() {
+    // The wait is no rate any more, and a channel doesn't end with `}`.
+    refused(5, "A[]={a,1*2*3¶};A[];");
+    refused(5, "A[]={a,1+2¶};A[];");
+    refused(5, "A[]={a,(b)¶};A[];");
+    refused(5, "A[]={a,1,2¶};A[];");
+    refused(5, "A[]={1,a¶};A[];");
+    refused(5, "A[]={a,b-c¶};A[];");
+    refused(5, "A[]={a,1/2¶};A[];");
+    refused(5, "A[]={a,b*c/d¶};A[];");
+    refused(5, "A[]={a,b*c,d¶};A[];");
+    refused(5, "A[]={a,b,c¶};A[];");
+    refused(5, "A[]={a,abs(b)¶};A[];");
+    refused(5, "A[]={a,max(b,c)¶};A[];");
+    refused(5, "A[]={a,(b)*c¶};A[];");
+    // The second item has a point: it is a rate alone.
+    refused(5, "A[]={a,1.5¶,2};A[];");
+    refused(5, "A[]={a,1.5¶![1],1};A[];");
+    refused(5, "A[]={a,-1.5¶,2};A[];");
+    refused(5, "A[]={a,1.5¶+1};A[];");
+    refused(5, "A[]={a,1.5*b¶*c};A[];");
+    refused(5, "A[]={a,1.5*b¶,c![1],1};A[];");
+    refused(5, "A[]={a,1.5*b¶#[1],1};A[];");
+    // It is a channel already: no point in an item.
+    refused(5, "A[]={a,b,¶1.5![1],1};A[];");
+    refused(5, "A[]={1,¶1.5};A[];");
+    refused(5, "A[]={a,b*¶1.5};A[];");
+    refused(5, "A[]={a,b+¶1.5};A[];");
+    // A fourth item.
+    refused(5, "A[]={a,b,c¶,d![1],1};A[];");
+    refused(5, "A[]={a,b,c¶,d");
+    refused(5, "A[]={1,2,3¶,4?[1],1};A[];");
+    refused(5, "A[]={@a,b,c¶,d![1],1};A[];");
+    refused(5, "A[]={~a,b,c¶,d?[1],1};A[];");
+    refused(5, "A[]={a,1*2,3¶,4#[1],1};A[];");
+    // Neither.
+    refused(5, "A[]={a,¶,b![1],1};A[];");
+    refused(5, "A[]={a,b,¶![1],1};A[];");
+    refused(5, "A[]={a,¶![1],1};A[];");
+    refused(5, "A[]={a,-¶b};A[];");
+    refused(5, "A[]={a,-¶-1};A[];");
+    refused(5, "A[]={a,1*¶};A[];");
+    refused(5, "A[]={a,b¶[1]};A[];");
+    refused(5, "A[]={a,b¶.};A[];");
+    refused(5, "A[]={a,1¶..2![1],1};A[];");
+    refused(5, "A[]={a,b¶(c)};A[];");
+    refused(5, "A[]={a,b¶!=1};A[];");
+    refused(5, "A[]={a,b¶@};A[];");
+    refused(5, "A[]={a,¶~b?[1],1};A[];");
+    refused(5, "A[]={a,¶@b![1],1};A[];");
+    refused(5, "A[]={a,b¶");
+    refused(5, "A[]={a,b*c¶");
+    refused(5, "A[]={a,(b¶");
+    refused(5, "A[]={a¶");
+    refused(5, "A[]={a,¶");
+    // Signs that only some actions have.
+    refused(5, "A[]={@a,b¶#[1],1};A[];");
+    refused(5, "A[]={@a,1¶};A[];");
+    refused(5, "A[]={~a,b¶![1],1};A[];");
+    refused(5, "A[]={~a,1*2¶};A[];");
+    refused(5, "A[]={~a,b?[1]¶(x),1};A[];");
+}
+
+#[test]
+fn waits_and_channels_that_fit() {
+    accepted(
+        "A[n]={a,1}+{a,n}+{a,1*2}+{a,n*n}+{a,1*(2)}+{a,n*abs(-1)}+{a,1.5}+{a,-0.0}+{a,1.5*n}+{a,0*-1}+{a,-0};A[1];",
+    );
+    accepted("A[n]={a,1![1],1}+{a,1*2![1],1}+{a,1*2*3![1],1}+{a,-1#[1],1}+{a,n*n+1?[1],1}+{a,n-1?[1](x),1};A[1];");
+    accepted("A[n]={a,(n)![1],1}+{a,abs(n)#[1],1}+{1,a?[1],1}+{n,n,n![n],n}+{a,b,c![1],1}+{a,1*2,c![1,2],1};A[1];");
+    accepted("A[n]={~a,b?[1],1}+{~1,2,3?[1,2],1}+{@a,1![1],1}+{@1,a,b?[1],1}+{@n+1-1,b?[1](x),1}+{~a,1*2?[1],1};A[1];");
 }
 
 #[test]
@@ -186,11 +262,12 @@ fn conditions() {
 
 #[test]
 fn rates() {
-    refused(5, "A[]={go,¶(1)};A[];");
-    refused(5, "A[]={go,¶abs(1)};A[];");
-    refused(5, "A[]={go,1¶+1};A[];");
-    refused(5, "A[]={go,1¶/2};A[];");
-    refused(5, "A[]={go,1*2¶*3};A[];");
+    refused(5, "A[]={c![1],¶(1)};A[];");
+    refused(5, "A[]={c![1],¶abs(1)};A[];");
+    refused(5, "A[]={c![1],1¶+1};A[];");
+    refused(5, "A[]={c,d?[1],1¶/2};A[];");
+    refused(5, "A[]={c![1],1*2¶*3};A[];");
+    refused(5, "A[]={c![1],1¶,1};A[];");
     refused(5, "A[]={go,1*¶1.5};A[];");
     refused(5, "A[]={go,-¶x};A[];");
     refused(5, "A[]={go,1*¶};A[];");

@@ -8,7 +8,7 @@ use second::{Answer, STATE};
 
 #[test]
 fn the_numbers_of_a_state() {
-    assert_eq!((PROCESS, PAIR, FIRST_PAIR, STATE), (10, 5, 2_562, 3_842));
+    assert_eq!((PROCESS, PAIR, FIRST_PAIR, STATE), (10, 10, 2_562, 5_122));
 }
 
 #[test]
@@ -301,7 +301,7 @@ fn entries() {
     let mut bench =
         Bench::of("A[]={c?[0..255](x),1}+{c?[0..255](x),1}+{c?[0..255](x),1}+{c?[0..255](x),1};B[]={go,1};A[]||B[];");
     bench.state[1] = 256;
-    (0..256).for_each(|place| bench.set_pair(place, [1, 0, 1, place as i64, 0]));
+    (0..256).for_each(|place| bench.set_short_pair(place, [1, 0, 1, place as i64, 0]));
     assert_eq!(bench.list(), Answer::refusal(13));
     bench.state[0] = 1;
     bench.set_process(1, &[]);

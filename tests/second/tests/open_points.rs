@@ -33,22 +33,46 @@ fn d4_a_bracketed_name_is_no_channel_name() {
     accepted("c=1;A[]={(c)![1],1};A[];");
 }
 
+/// Of each item.
+#[test]
+fn d4_and_9_in_channels_of_several_items() {
+    refused(9, "A[]={a,(¶c)![1],1};A[];");
+    refused(9, "A[]={a,b,¶c+1![1],1};A[];");
+    refused(9, "A[]={(¶c),b?[1],1};A[];");
+    refused(9, "A[]={@a,1*¶c,(d)![1],1};A[];");
+    refused(9, "g=1.5;A[]={a,g,¶g+1![1],1};A[];");
+    accepted("c=1;g=1.5;A[n]={(c),n+1,g![1],1}+{~c,(n)?[1],1}+{@a,b,n*c![1],1};A[1];");
+    // A wait's rate is given, a channel's item need not be.
+    refused(9, "A[]={a,¶b};A[];");
+    refused(9, "A[]={a,1*¶b};A[];");
+    accepted("A[]={a,b![1],1};A[];");
+    // A receive's own channel doesn't see the names it binds.
+    refused(9, "A[]={a,(¶x)?[1](x),1};A[];");
+    accepted("A[]={a,x?[1](x),1}.{a,(x)![1],1};A[];");
+    refused(7, "A[]={a,¶abcdefghijklmnopq![1],1};A[];");
+    refused(7, "A[]={a,¶1099511627776![1],1};A[];");
+    refused(7, "A[]={a,-¶1099511627776,b![1],1};A[];");
+}
+
 #[test]
 fn d5_channel_numbers() {
     // w is a number channel, d a channel name, n a number in A and a name in B.
     let mut bench = Bench::of("w=7;d=1.5;A[n]={w![1],1}.{d![1],1}.{n![1],1}.{z![1],1}.B[];B[]={n![1],1};A[3];");
     (0..5).for_each(|_| bench.take(0));
-    assert_eq!(bench.pairs(), [[0, 3, 1, 1, 0], [0, 7, 1, 1, 0], [1, 0, 1, 1, 0], [1, 1, 1, 1, 0], [1, 2, 1, 1, 0]]);
+    assert_eq!(
+        bench.short_pairs(),
+        [[0, 3, 1, 1, 0], [0, 7, 1, 1, 0], [1, 0, 1, 1, 0], [1, 1, 1, 1, 0], [1, 2, 1, 1, 0]]
+    );
     // By first appearance in the text, not by sum number: a continuation comes before a later branch.
     let mut bench = Bench::of("A[]={a![1],1}.{b![1],1}+{c![1],1};3*A[];");
     bench.take(0); // a
     bench.take(0); // b, which leaves the list
     bench.take(1); // c of the second
-    assert_eq!(bench.pairs(), [[1, 0, 1, 1, 0], [1, 1, 1, 1, 0], [1, 2, 1, 1, 0]]);
+    assert_eq!(bench.short_pairs(), [[1, 0, 1, 1, 0], [1, 1, 1, 1, 0], [1, 2, 1, 1, 0]]);
     // A name used as a wait, a handshake channel, a check.
     let mut bench = Bench::of("A[]={c,0}+{@b?[1],1}+{~a?[1],0}+{c![1],1};A[];");
     bench.step(0);
-    assert_eq!(bench.pairs(), [[1, 2, 1, 1, 0]]);
+    assert_eq!(bench.short_pairs(), [[1, 2, 1, 1, 0]]);
 }
 
 #[test]
@@ -69,9 +93,15 @@ fn d7_counts_and_words() {
     for word in ["abs", "max", "min", "union", "inter"] {
         refused(5, &format!("¶{word}=1;A[]={{go,1}};A[];"));
         refused(5, &format!("A[]={{go,1}}.¶{word}[];A[];"));
-        refused(5, &format!("A[]={{go,¶{word}}};A[];"));
+        refused(5, &format!("A[]={{c?[1],¶{word}}};A[];"));
         refused(5, &format!("A[]={{c?[1](¶{word}),1}};A[];"));
     }
+    // Three of them can begin the second item of a channel.
+    for word in ["abs", "max", "min"] {
+        refused(5, &format!("A[]={{go,{word}¶}};A[];"));
+    }
+    refused(5, "A[]={go,¶union};A[];");
+    refused(5, "A[]={go,¶inter};A[];");
 }
 
 #[test]
@@ -204,12 +234,12 @@ fn sums_are_numbered_by_first_token() {
 fn locals_and_bindings() {
     let mut bench = Bench::of("A[n,m]={c![n,m],1}.{c?[0..9,0..9](x,y),1}.({d![x+y],1}||A[y,x]);A[3,4];");
     bench.take(0);
-    assert_eq!(bench.pairs(), [[1, 0, 2, 3, 4]]);
+    assert_eq!(bench.short_pairs(), [[1, 0, 2, 3, 4]]);
     assert_eq!(bench.processes(2), [[1, 3, 4]]);
     bench.take(0);
     assert_eq!(bench.processes(4), [[2, 3, 4, 3, 4], [0, 4, 3, 0, 0]]);
     bench.take(0);
-    assert_eq!(bench.pairs(), [[1, 0, 2, 3, 4], [1, 1, 1, 7, 0]]);
+    assert_eq!(bench.short_pairs(), [[1, 0, 2, 3, 4], [1, 1, 1, 7, 0]]);
     assert_eq!(bench.processes(2), [[0, 4, 3]]);
 }
 
@@ -217,24 +247,24 @@ fn locals_and_bindings() {
 fn a_binding_receive_takes_the_chosen_pair() {
     let mut bench = Bench::of("A[]={5?[0..9](x),1}.A[]+{5?[0..9](x),1}.{go,x};A[];");
     bench.state[1] = 3;
-    bench.set_pair(0, [0, 5, 1, 2, 0]);
-    bench.set_pair(1, [0, 5, 1, 4, 0]);
-    bench.set_pair(2, [0, 5, 2, 4, 0]);
+    bench.set_short_pair(0, [0, 5, 1, 2, 0]);
+    bench.set_short_pair(1, [0, 5, 1, 4, 0]);
+    bench.set_short_pair(2, [0, 5, 2, 4, 0]);
     let entries = bench.entries();
     assert_eq!(entries.iter().map(|entry| (entry[2], entry[5])).collect::<Vec<_>>(), [(0, 0), (0, 1), (1, 0), (1, 1)]);
     bench.take(3);
     assert_eq!(bench.processes(1), [[1, 4]]);
-    assert_eq!(bench.pairs().len(), 3);
+    assert_eq!(bench.short_pairs().len(), 3);
 }
 
 #[test]
 fn lists_match_at_equal_length_only() {
     let mut bench = Bench::of("A[]={c?[0..9],1}+{c?[0..9,0..9],2}+{~c?[0..9],3}+{~c?[0..9,0..9],4};A[];");
     bench.state[1] = 1;
-    bench.set_pair(0, [1, 0, 2, 1, 1]);
+    bench.set_short_pair(0, [1, 0, 2, 1, 1]);
     let rates = |bench: &mut Bench| bench.entries().iter().map(|entry| entry[6] / 100_000_000).collect::<Vec<_>>();
     assert_eq!(rates(&mut bench), [2, 3]);
-    bench.set_pair(0, [1, 0, 1, 1, 0]);
+    bench.set_short_pair(0, [1, 0, 1, 1, 0]);
     assert_eq!(rates(&mut bench), [1, 4]);
     let mut bench = Bench::of("S[]={@c![1,1],1}+{@c![1],1};R[]={@c?[1],1}+{@c?[1,1],1};S[]||R[];");
     assert_eq!(bench.entries(), [[7, 0, 0, 1, 1, 0, 100_000_000], [7, 0, 1, 1, 0, 0, 100_000_000]]);
@@ -245,7 +275,7 @@ fn names_and_numbers_are_different_channels() {
     let mut bench =
         Bench::of("A[]={0?[1],1}+{c?[1],2}+{@0?[1],3}+{@c?[1],4};B[]={@0![1],1};C[]={@c![1],1};A[]||B[]||C[];");
     bench.state[1] = 1;
-    bench.set_pair(0, [1, 0, 1, 1, 0]);
+    bench.set_short_pair(0, [1, 0, 1, 1, 0]);
     assert_eq!(
         bench.entries(),
         [[4, 0, 1, 0, 0, 0, 200_000_000], [7, 1, 0, 0, 2, 0, 300_000_000], [7, 2, 0, 0, 3, 0, 400_000_000]]
@@ -259,7 +289,7 @@ fn handshakes_touch_no_pair_and_replace_both() {
     bench.take(0);
     // 0 S, 1 s, 2 R, 3 r
     assert_eq!(bench.processes(1), [[0, 2], [1, 1], [3, 1], [2, 0]]);
-    assert!(bench.pairs().is_empty());
+    assert!(bench.short_pairs().is_empty());
     let mut bench = Bench::of(&format!("{text}R[]||S[1];"));
     bench.take(0);
     assert_eq!(bench.processes(1), [[3, 1], [2, 0], [0, 2], [1, 1]]);

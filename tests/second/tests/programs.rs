@@ -109,7 +109,7 @@ fn calls_prints_a_state() {
     let state = calls("open 15\nA[]={go,1};A[];\nstate\n");
     let (_, numbers) = state.split_once('\n').unwrap();
     let numbers: Vec<&str> = numbers.trim_end().split(' ').collect();
-    assert_eq!((numbers.len(), numbers[0], numbers[1]), (3_842, "1", "0"));
+    assert_eq!((numbers.len(), numbers[0], numbers[1]), (5_122, "1", "0"));
 }
 
 #[test]

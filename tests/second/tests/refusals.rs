@@ -4,7 +4,7 @@
 mod common;
 
 use common::*;
-use second::state::{FIRST_PAIR, FIRST_PROCESS, PAIR, PROCESS};
+use second::state::{FIRST_PAIR, FIRST_PROCESS, PROCESS};
 use second::{Answer, LISTING, MODEL, STATE};
 
 const PLAIN: &str = "A[]={go,1};A[];";
@@ -119,18 +119,19 @@ fn eleven_for_states() {
     not_a_state(&mut set(STATE - 1, 1));
 }
 
+/// Pairs on channels of one item.
 #[test]
 fn eleven_for_pairs() {
-    let lit = |pairs: &[[i64; PAIR]]| {
+    let lit = |pairs: &[Short]| {
         let mut bench = Bench::of(STATES);
         bench.state[1] = pairs.len() as i64;
         for (place, pair) in pairs.iter().enumerate() {
-            bench.set_pair(place, *pair);
+            bench.set_short_pair(place, *pair);
         }
         bench
     };
-    let good = |pairs: &[[i64; PAIR]]| assert_eq!(lit(pairs).list().number, 0, "{pairs:?}");
-    let bad = |pairs: &[[i64; PAIR]]| not_a_state(&mut lit(pairs));
+    let good = |pairs: &[Short]| assert_eq!(lit(pairs).list().number, 0, "{pairs:?}");
+    let bad = |pairs: &[Short]| not_a_state(&mut lit(pairs));
     let (low, high) = (-1_099_511_627_775, 1_099_511_627_775);
     good(&[[0, low, 1, low, 0]]);
     good(&[[0, high, 2, high, low]]);
@@ -312,7 +313,7 @@ fn seventeen() {
     // 17 before 18 and 19.
     let mut bench = Bench::of(&format!("A[n]={{c![n],1}}.(A[1/n]{});256*A[0];", "||A[n]".repeat(10)));
     bench.state[1] = 256;
-    (0..256).for_each(|place| bench.set_pair(place, [1, 0, 1, 1 + place as i64, 0]));
+    (0..256).for_each(|place| bench.set_short_pair(place, [1, 0, 1, 1 + place as i64, 0]));
     let entries: Vec<Entry> = (0..256).map(|place| [2, place, 0, 0, 0, 0, 100_000_000]).collect();
     refused_step(&mut bench, 0, answer(256, 25_600_000_000), &entries);
 }
@@ -330,7 +331,7 @@ fn eighteen() {
     // 18 before 19.
     let mut bench = Bench::of("A[]={c![0],1}.({go,1}||{go,1});256*A[];");
     bench.state[1] = 256;
-    (0..256).for_each(|place| bench.set_pair(place, [1, 0, 1, 1 + place as i64, 0]));
+    (0..256).for_each(|place| bench.set_short_pair(place, [1, 0, 1, 1 + place as i64, 0]));
     let entries: Vec<Entry> = (0..256).map(|place| [2, place, 0, 0, 0, 0, 100_000_000]).collect();
     refused_step(&mut bench, 0, answer(256), &entries);
     // Both processes of a handshake go.
@@ -349,7 +350,7 @@ fn nineteen() {
     for _ in 0..256 {
         bench.take(0);
     }
-    assert_eq!(bench.pairs()[255], [1, 0, 1, 255, 0]);
+    assert_eq!(bench.short_pairs()[255], [1, 0, 1, 255, 0]);
     refused_step(
         &mut bench,
         99_999_999,

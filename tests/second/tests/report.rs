@@ -98,8 +98,8 @@ fn every_kind_counts_where_it_is_listed() {
          Go[]||L[]||K[]||R[]||B[]||H[];",
     );
     bench.state[1] = 2;
-    bench.set_pair(0, [1, 0, 1, 1, 0]);
-    bench.set_pair(1, [1, 0, 1, 2, 0]);
+    bench.set_short_pair(0, [1, 0, 1, 1, 0]);
+    bench.set_short_pair(1, [1, 0, 1, 2, 0]);
     // Two bindings.
     assert_eq!(reported(&mut bench, 6), [1, 2, 4, 8, 2 * 16, 32].map(|rate| rate * 100_000_000));
 }

@@ -21,7 +21,7 @@ total,325000000
 ";
     assert_eq!(sheet(LAMPS.as_bytes()), expected);
     assert_eq!(sheet(b"A[]={go,1};"), "refused,5,11\n");
-    assert_eq!(sheet(b"A[]={go,1}+{go,1/0};A[];"), "refused,5,16\n");
+    assert_eq!(sheet(b"A[]={go,1}+{go,1/0};A[];"), "refused,5,18\n");
     assert_eq!(sheet(b"A[]={go,1}+{go,1*(1/0)};A[]||A[];"), "refused,12,0,1\n");
     assert_eq!(sheet(&[b' '; 16_385]), "refused,2,16384\n");
     assert_eq!(sheet(b"A[]={go,1};0*A[];"), "kind,place,branch,partner,pbranch,pair,weight\ntotal,0\n");
@@ -139,11 +139,11 @@ fn sets() {
 fn launch_launch_kill() {
     let mut bench = Bench::of("A[]={c![1],1}.{c![1],1}.{c#[1],1}.{~c?[1],1};A[];");
     bench.take(0);
-    assert_eq!(bench.pairs(), [[1, 0, 1, 1, 0]]);
+    assert_eq!(bench.short_pairs(), [[1, 0, 1, 1, 0]]);
     bench.take(0);
-    assert_eq!(bench.pairs(), [[1, 0, 1, 1, 0]]);
+    assert_eq!(bench.short_pairs(), [[1, 0, 1, 1, 0]]);
     bench.take(0);
-    assert!(bench.pairs().is_empty());
+    assert!(bench.short_pairs().is_empty());
     assert_eq!(bench.entries(), [[6, 0, 0, 0, 0, 0, 100_000_000]]);
     bench.take(0);
     assert!(bench.processes(0).is_empty());
@@ -195,13 +195,13 @@ fn no_19_for_a_lit_pair_or_after_a_kill() {
     let mut bench = Bench::of("A[n]={c![n],1}+{c#[n],1}.A[0];A[0];");
     bench.state[1] = 256;
     for value in 0..256 {
-        bench.set_pair(value, [1, 0, 1, value as i64, 0]);
+        bench.set_short_pair(value, [1, 0, 1, value as i64, 0]);
     }
-    let full = bench.pairs();
+    let full = bench.short_pairs();
     // Lit already.
     let before = bench.state.clone();
     bench.take(0);
-    assert_eq!(bench.pairs(), full);
+    assert_eq!(bench.short_pairs(), full);
     // Not lit.
     bench.state = before.clone();
     bench.set_process(0, &[0, 256]);
@@ -212,15 +212,15 @@ fn no_19_for_a_lit_pair_or_after_a_kill() {
     assert_eq!(bench.filled(2).len(), 2);
     // A kill of an unlit pair takes nothing away.
     bench.take(1);
-    assert_eq!(bench.pairs(), full);
+    assert_eq!(bench.short_pairs(), full);
     // A kill frees a place.
     bench.state = before;
     bench.take(1);
-    assert_eq!(bench.pairs(), full[1..]);
+    assert_eq!(bench.short_pairs(), full[1..]);
     bench.set_process(0, &[0, -1]);
     bench.take(0);
-    assert_eq!(bench.pairs()[0], [1, 0, 1, -1, 0]);
-    assert_eq!(bench.pairs()[1..], full[1..]);
+    assert_eq!(bench.short_pairs()[0], [1, 0, 1, -1, 0]);
+    assert_eq!(bench.short_pairs()[1..], full[1..]);
 }
 
 #[test]

@@ -48,22 +48,22 @@ cast-row c =
 
 loop-holds : tie.Need-loop-holds Inv-loop μ-loop
 loop-holds c =
-    let g = c .before .before .struct-told .given in let E = simp (back (c .before .before .before .before .before .before .before .before .before .args .sender .channel) (g .1 .1 .1 .0 .1)) at (c .before .bucket-of .ensures .0) in
-    let F = c .before .before .before .before .before .before .before .before .before .pre .1 .first (c .before .bucket-of .result) (c .before .bucket-of .ensures .1) in
-    (F .high, F .here, c .before .before .before .before .before .before .before .before .before .pre .7, c .before .before .before .before .before .before .before .before .before .pre .8, λ roots m s x R sp. rw (partners-lead R (c .before .before .before .before .before .before .before .before .before .args .sender) x sp (c .before .before .before .before .before .before .before .before .before .args .place) (c .before .before .before .before .before .before .before .before .before .args .branch) 0 _ (subst (λ (h : ℕ). Leads (c .before .before .before .before .before .before .before .before .before .args .heads .now) (c .before .before .before .before .before .before .before .before .before .args .numbers .now) (c .before .before .before .before .before .before .before .before .before .args .rows) h 0 (getD (c .before .before .before .before .before .before .before .before .before .args .firsts .now) (c .before .bucket-of .result) 0)) E F) ∙ up-none _) (adds-none _ _ (c .before .before .before .before .before .before .before .before .before .pre .8)))
+    let E = simp (back (c .before .before .before .before .before .before .before .before .before .before .before .args .sender .channel) (c .before .before .before .before .struct-told .given .1 .1 .1 .0 .1), back (c .before .before .before .before .before .before .before .before .before .before .before .args .sender .channel2) (c .before .before .before .struct-told2 .given .1 .1 .1 .1 .1 .1 .1 .1 .1 .0 .1), back (c .before .before .before .before .before .before .before .before .before .before .before .args .sender .channel3) (c .before .before .struct-told3 .given .1 .1 .1 .1 .1 .1 .1 .1 .1 .1 .0 .1)) at (c .before .bucket-of .ensures .0) in
+    let F = c .before .before .before .before .before .before .before .before .before .before .before .pre .1 .first (c .before .bucket-of .result) (c .before .bucket-of .ensures .1) in
+    (F .high, F .here, c .before .before .before .before .before .before .before .before .before .before .before .pre .7, c .before .before .before .before .before .before .before .before .before .before .before .pre .8, λ roots m s x R sp. rw (partners-lead R (c .before .before .before .before .before .before .before .before .before .before .before .args .sender) x sp (c .before .before .before .before .before .before .before .before .before .before .before .args .place) (c .before .before .before .before .before .before .before .before .before .before .before .args .branch) 0 _ (subst (λ (h : ℕ). Leads (c .before .before .before .before .before .before .before .before .before .before .before .args .heads .now) (c .before .before .before .before .before .before .before .before .before .before .before .args .numbers .now) (c .before .before .before .before .before .before .before .before .before .before .before .args .rows) h 0 (getD (c .before .before .before .before .before .before .before .before .before .before .before .args .firsts .now) (c .before .bucket-of .result) 0)) E F) ∙ up-none _) (adds-none _ _ (c .before .before .before .before .before .before .before .before .before .before .before .pre .8)))
 
 list-partner-requires : tie.Need-list-partner-requires Inv-loop μ-loop
 list-partner-requires c κs =
-    ((c .before .before .before .before .before .before .before .before .before .before .before .before .pre .0 .0, c .before .before .before .before .before .before .before .before .before .before .before .before .args .rows, c .before .before .before .before .before .before .before .before .before .before .before .before .pre .0 .1, c .before .before .before .before .before .before .before .before .before .before .before .before .pre .0 .2, c .before .before .before .before .before .before .before .before .before .before .before .before .pre .0 .3, omega arith), c .before .before .loop .inv .1 (omega arith) .receives, c .before .before .before .before .before .before .before .before .before .before .before .before .pre .4, c .before .before .before .before .before .before .before .before .before .before .before .before .pre .5, c .before .before .before .before .before .before .before .before .before .before .before .before .pre .6, c .before .before .loop .inv .2, c .before .before .loop .inv .3)
+    ((c .before .before .before .before .before .before .before .before .before .before .before .before .before .before .pre .0 .0, c .before .before .before .before .before .before .before .before .before .before .before .before .before .before .args .rows, c .before .before .before .before .before .before .before .before .before .before .before .before .before .before .pre .0 .1, c .before .before .before .before .before .before .before .before .before .before .before .before .before .before .pre .0 .2, c .before .before .before .before .before .before .before .before .before .before .before .before .before .before .pre .0 .3, omega arith), c .before .before .loop .inv .1 (omega arith) .receives, c .before .before .before .before .before .before .before .before .before .before .before .before .before .before .pre .4, c .before .before .before .before .before .before .before .before .before .before .before .before .before .before .pre .5, c .before .before .before .before .before .before .before .before .before .before .before .before .before .before .pre .6, c .before .before .loop .inv .2, c .before .before .loop .inv .3)
 
 mul-row-2 : tie.Need-mul-row-2 Inv-loop μ-loop
 mul-row-2 c =
-    let l : c .before .before .before .before .before .loop .row < length (c .before .before .before .before .before .before .before .before .before .before .before .before .before .before .before .args .nexts .now) = omega (arith, rows-few (c .before .before .before .before .before .before .before .before .before .before .before .before .before .before .before .pre .0 .3), c .before .before .before .before .before .before .before .before .before .before .before .before .before .before .before .pre .3) in
+    let l : c .before .before .before .before .before .loop .row < length (c .before .before .before .before .before .before .before .before .before .before .before .before .before .before .before .before .before .args .nexts .now) = omega (arith, rows-few (c .before .before .before .before .before .before .before .before .before .before .before .before .before .before .before .before .before .pre .0 .3), c .before .before .before .before .before .before .before .before .before .before .before .before .before .before .before .before .before .pre .3) in
     search needs
 
 shared-slice-read-row-2 : tie.Need-shared-slice-read-row-2 Inv-loop μ-loop
 shared-slice-read-row-2 c =
-    let l : c .before .before .before .before .before .before .loop .row < length (c .before .before .before .before .before .before .before .before .before .before .before .before .before .before .before .before .args .nexts .now) = omega (arith, rows-few (c .before .before .before .before .before .before .before .before .before .before .before .before .before .before .before .before .pre .0 .3), c .before .before .before .before .before .before .before .before .before .before .before .before .before .before .before .before .pre .3) in
+    let l : c .before .before .before .before .before .before .loop .row < length (c .before .before .before .before .before .before .before .before .before .before .before .before .before .before .before .before .before .before .args .nexts .now) = omega (arith, rows-few (c .before .before .before .before .before .before .before .before .before .before .before .before .before .before .before .before .before .before .pre .0 .3), c .before .before .before .before .before .before .before .before .before .before .before .before .before .before .before .before .before .before .pre .3) in
     search needs
 
 cast-row-2 : tie.Need-cast-row-2 Inv-loop μ-loop
@@ -72,21 +72,21 @@ cast-row-2 c =
 
 loop-less : tie.Need-loop-less Inv-loop μ-loop
 loop-less c =
-    let N = c .before .before .before .before .before .before .before .before .before .before .before .before .before .before .before .before .pre .1 .next (c .before .before .before .before .before .before .loop .row) (c .before .before .before .before .before .before .before .before .bucket-of .result) (omega arith) (omega arith) (c .before .before .before .before .before .before .loop .inv .1 (omega arith)) in
+    let N = c .before .before .before .before .before .before .before .before .before .before .before .before .before .before .before .before .before .before .pre .1 .next (c .before .before .before .before .before .before .loop .row) (c .before .before .before .before .before .before .before .before .bucket-of .result) (omega arith) (omega arith) (c .before .before .before .before .before .before .loop .inv .1 (omega arith)) in
     omega (arith, N .low, N .high)
 
 loop-again : tie.Need-loop-again Inv-loop μ-loop
 loop-again c =
-    let g = c .before .before .before .before .before .before .before .before .before .struct-told .given in let E = simp (back (c .before .before .before .before .before .before .before .before .before .before .before .before .before .before .before .before .args .sender .channel) (g .1 .1 .1 .0 .1)) at (c .before .before .before .before .before .before .before .before .bucket-of .ensures .0) in
-    let N = c .before .before .before .before .before .before .before .before .before .before .before .before .before .before .before .before .pre .1 .next (c .before .before .before .before .before .before .loop .row) (c .before .before .before .before .before .before .before .before .bucket-of .result) (omega arith) (omega arith) (c .before .before .before .before .before .before .loop .inv .1 (omega arith)) in
-    (N .high, N .here, c .before .before .before .list-partner .ensures .1, c .before .before .before .list-partner .ensures .2, λ roots m s x R sp. let y = some-row R (c .before .before .before .before .before .before .loop .row) (omega arith) in rw (partners-lead R (c .before .before .before .before .before .before .before .before .before .before .before .before .before .before .before .before .args .sender) x sp (c .before .before .before .before .before .before .before .before .before .before .before .before .before .before .before .before .args .place) (c .before .before .before .before .before .before .before .before .before .before .before .before .before .before .before .before .args .branch) (suc (c .before .before .before .before .before .before .loop .row)) _ (rw E at N) ∙ partners-next R (c .before .before .before .before .before .before .before .before .before .before .before .before .before .before .before .before .args .sender) x sp (c .before .before .before .before .before .before .before .before .before .before .before .before .before .before .before .before .args .place) (c .before .before .before .before .before .before .before .before .before .before .before .before .before .before .before .before .args .branch) (c .before .before .before .before .before .before .loop .row) (y .0) (y .1)) (adds-then (c .before .before .before .before .before .before .loop .inv .4 roots m s x R sp) (c .before .before .before .list-partner .ensures .0 roots (c .before .before .before .before .before .before .before .before .before .before .before .before .before .before .before .before .args .rows) m s (y .0) x R (y .1) sp)))
+    let E = simp (back (c .before .before .before .before .before .before .before .before .before .before .before .before .before .before .before .before .before .before .args .sender .channel) (c .before .before .before .before .before .before .before .before .before .before .before .struct-told .given .1 .1 .1 .0 .1), back (c .before .before .before .before .before .before .before .before .before .before .before .before .before .before .before .before .before .before .args .sender .channel2) (c .before .before .before .before .before .before .before .before .before .before .struct-told2 .given .1 .1 .1 .1 .1 .1 .1 .1 .1 .0 .1), back (c .before .before .before .before .before .before .before .before .before .before .before .before .before .before .before .before .before .before .args .sender .channel3) (c .before .before .before .before .before .before .before .before .before .struct-told3 .given .1 .1 .1 .1 .1 .1 .1 .1 .1 .1 .0 .1)) at (c .before .before .before .before .before .before .before .before .bucket-of .ensures .0) in
+    let N = c .before .before .before .before .before .before .before .before .before .before .before .before .before .before .before .before .before .before .pre .1 .next (c .before .before .before .before .before .before .loop .row) (c .before .before .before .before .before .before .before .before .bucket-of .result) (omega arith) (omega arith) (c .before .before .before .before .before .before .loop .inv .1 (omega arith)) in
+    (N .high, N .here, c .before .before .before .list-partner .ensures .1, c .before .before .before .list-partner .ensures .2, λ roots m s x R sp. let y = some-row R (c .before .before .before .before .before .before .loop .row) (omega arith) in rw (partners-lead R (c .before .before .before .before .before .before .before .before .before .before .before .before .before .before .before .before .before .before .args .sender) x sp (c .before .before .before .before .before .before .before .before .before .before .before .before .before .before .before .before .before .before .args .place) (c .before .before .before .before .before .before .before .before .before .before .before .before .before .before .before .before .before .before .args .branch) (suc (c .before .before .before .before .before .before .loop .row)) _ (rw E at N) ∙ partners-next R (c .before .before .before .before .before .before .before .before .before .before .before .before .before .before .before .before .before .before .args .sender) x sp (c .before .before .before .before .before .before .before .before .before .before .before .before .before .before .before .before .before .before .args .place) (c .before .before .before .before .before .before .before .before .before .before .before .before .before .before .before .before .before .before .args .branch) (c .before .before .before .before .before .before .loop .row) (y .0) (y .1)) (adds-then (c .before .before .before .before .before .before .loop .inv .4 roots m s x R sp) (c .before .before .before .list-partner .ensures .0 roots (c .before .before .before .before .before .before .before .before .before .before .before .before .before .before .before .before .before .before .args .rows) m s (y .0) x R (y .1) sp)))
 
 same-length : tie.Need-same-length Inv-loop μ-loop
 same-length c = search needs
 
 returns : tie.Need-returns Inv-loop μ-loop
 returns c =
-    (λ roots m s x R sp. rw (← partners-all R (c .before .before .before .before .before .before .before .before .before .before .before .args .sender) x sp (c .before .before .before .before .before .before .before .before .before .before .before .args .place) (c .before .before .before .before .before .before .before .before .before .before .before .args .branch) (c .before .loop .row) (omega arith)) (c .before .loop .inv .4 roots m s x R sp), c .before .loop .inv .2, c .before .loop .inv .3)
+    (λ roots m s x R sp. rw (← partners-all R (c .before .before .before .before .before .before .before .before .before .before .before .before .before .args .sender) x sp (c .before .before .before .before .before .before .before .before .before .before .before .before .before .args .place) (c .before .before .before .before .before .before .before .before .before .before .before .before .before .args .branch) (c .before .loop .row) (omega arith)) (c .before .loop .inv .4 roots m s x R sp), c .before .loop .inv .2, c .before .loop .inv .3)
 
 pub list-partners-spec : {M : Type 1} → statement M
 list-partners-spec =

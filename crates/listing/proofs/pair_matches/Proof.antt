@@ -9,7 +9,8 @@ use Rattle.value.proofs.Kit.{back}
 use Rattle.state.proofs.Read.{few-pairs}
 use Rattle.offers.proofs.Places.{passed}
 use Rattle.listing.proofs.Pairs.{some-pair, pair-at, count-cast}
-use Prim.Native.Nat.{_-_}
+use Prim.Native.Nat.{_+_}
+use Rattle.machine.specs.State.{channelWidth}
 use native.Mathlib.Omega.{arith}
 use borrow.Author.Needs.{needs}
 use lib.IntN.{pos}
@@ -38,6 +39,12 @@ shared-slice-copy-out-values-match c =
     let P = pair-at w q (y .0) (y .1) _ (c .before .pair-row .ensures) in
     let l = P .wide in search needs
 
+add-values-match : tie.Need-add-values-match
+add-values-match c = search needs
+
+mul-values-match : tie.Need-mul-values-match
+mul-values-match c = search needs
+
 shared-slice-copy-out-values-match-2 : tie.Need-shared-slice-copy-out-values-match-2
 shared-slice-copy-out-values-match-2 c =
     let w = c .before .before .before .before .pre .2 .5 in let q = c .before .before .before .before .args .q in let y = some-pair w q (c .before .before .before .before .pre .3) in
@@ -51,17 +58,8 @@ values-match-requires c κs =
 returns : tie.Need-returns
 returns c =
     λ w t roots scopes m s x sq W at. let P = pair-at W (c .before .before .before .before .before .before .args .q) x at _ (c .before .before .before .before .pair-row .ensures) in
-    let b₂ = back (getD (c .before .before .before .before .pair-row .result .now) 2 (pos 0)) (c .before .before .before .count .given) in let b₃ = back (getD (c .before .before .before .before .pair-row .result .now) 3 (pos 0)) (c .before .before .values-match-arg .given) in let b₄ = back (getD (c .before .before .before .before .pair-row .result .now) 4 (pos 0)) (c .before .values-match-arg2 .given) in
+    let b₂ = back (getD (c .before .before .before .before .pair-row .result .now) channelWidth (pos 0)) (c .before .before .before .count .given) in let b₃ = back (getD (c .before .before .before .before .pair-row .result .now) (channelWidth + 1) (pos 0)) (c .before .before .values-match-arg .given) in let b₄ = back (getD (c .before .before .before .before .pair-row .result .now) (channelWidth + 2) (pos 0)) (c .before .values-match-arg2 .given) in
     c .values-match .ensures w (x .values) sq (rw (b₂, b₃, b₄) (rw (P .count-is) (P .values)))
 
 pub pair-matches-spec : {M : Type 1} → statement M
-pair-matches-spec =
-    tie.close
-    (tie.spec
-    pair-row-requires
-    shared-slice-copy-out-count
-    cast-count
-    shared-slice-copy-out-values-match
-    shared-slice-copy-out-values-match-2
-    values-match-requires
-    returns)
+pair-matches-spec = tie.close (tie.spec pair-row-requires shared-slice-copy-out-count cast-count shared-slice-copy-out-values-match add-values-match mul-values-match shared-slice-copy-out-values-match-2 values-match-requires returns)

@@ -1,23 +1,40 @@
--- `offers::bucket_of` meets its contract: by the sign of the channel's number. From the laws of buckets.
+-- The parts of the three values added up.
+use mathlib.Core.Path.{ap, _∙_}
+use native.Mathlib.Omega.{arith}
+use borrow.Author.Needs.{needs}
+use mir.Facts.{toZ-ofZ}
+use Rattle.offers.specs.Links.{bucketOf}
 use Rattle.offers.proofs.bucket_of.Statement.{statement}
 use Rattle.offers.proofs.bucket_of.Tie as tie
-use Rattle.offers.proofs.bucket_of.Reads as reads
-use Rattle.offers.proofs.bucket_of.Lts as lts
-use mir.Facts.{toZ-ofZ}
-use Rattle.state.proofs.Tests.{natural-fits}
-use Rattle.offers.proofs.Links.{bucket-negative, bucket-natural}
-use mathlib.Core.Path.{sym}
-use Prim.Native.Nat.{_-_}
-use native.Mathlib.Omega.{arith}
+
+bucket-part-requires : tie.Need-bucket-part-requires
+bucket-part-requires c κs = search needs
+
+bucket-part-requires-2 : tie.Need-bucket-part-requires-2
+bucket-part-requires-2 c κs = search needs
+
+bucket-part-requires-3 : tie.Need-bucket-part-requires-3
+bucket-part-requires-3 c κs = search needs
+
+mul-result : tie.Need-mul-result
+mul-result c = omega arith
+
+add-result : tie.Need-add-result
+add-result c = omega arith
+
+mul-result-2 : tie.Need-mul-result-2
+mul-result-2 c = omega arith
+
+add-result-2 : tie.Need-add-result-2
+add-result-2 c = omega arith
 
 returns : tie.Need-returns
-returns c = (sym (bucket-negative (c .before .args .channel) (simp (toZ-ofZ (c .before .fits .channel)) at (c .if1 .taken))), omega arith)
-
-cast-result : tie.Need-cast-result
-cast-result c = let e = toZ-ofZ (c .before .fits .channel) in simp e (natural-fits (c .before .args .channel) (c .before .fits .channel) (simp e at (c .if1 .left)))
-
-returns-2 : tie.Need-returns-2
-returns-2 c = let e = toZ-ofZ (c .before .fits .channel) in simp e (sym (bucket-natural (c .before .args .channel) (simp e at (c .if1 .left))), omega arith)
+unfolding bucketOf
+returns c =
+    let a = rw (toZ-ofZ (c .before .before .before .fits .first)) at (c .before .before .bucket-part .ensures .0) in
+    let b = rw (toZ-ofZ (c .before .before .before .fits .second)) at (c .before .bucket-part2 .ensures .0) in
+    let d = rw (toZ-ofZ (c .before .before .before .fits .third)) at (c .bucket-part3 .ensures .0) in
+    (rw (← a, ← b, ← d), omega arith)
 
 pub bucket-of-spec : {M : Type 1} → statement M
-bucket-of-spec = tie.close (tie.spec returns cast-result returns-2)
+bucket-of-spec = tie.close (tie.spec bucket-part-requires bucket-part-requires-2 bucket-part-requires-3 mul-result add-result mul-result-2 add-result-2 returns)

@@ -6,7 +6,7 @@ use lib.IntN.{ℤ}
 use lib.ListN.{length}
 use denote.Ref.{now}
 use Rattle.step.proofs.Tables.{passed}
-use Rattle.step.proofs.Pairs.{launching, killing, launch-room, launched-numbers, killed-numbers, same-numbers, pair-five}
+use Rattle.step.proofs.Pairs.{launching, killing, launch-room, launched-numbers, killed-numbers, same-numbers, pair-width}
 use Rattle.step.proofs.change_pairs.Statement.{statement}
 use Rattle.step.proofs.change_pairs.Tie as tie
 
@@ -24,7 +24,7 @@ launch-pair-requires : tie.Need-launch-pair-requires
 launch-pair-requires c κs =
     let x = launching (now (c .before .before .before .before .before .before .args .state)) (c .before .before .before .before .before .before .args .offer) (c .before .before .before .before .before .if1 .taken) (c .before .before .before .before .before .before .pre .0) (c .before .before .before .before .before .before .pre .1) (c .before .before .before .before .before .before .pre .2) (c .before .before .before .before .before .before .pre .3) in
     let e = c .before .before .before .put-pair .ensures (x .pair) (x .shows) in
-    (passed (c .before .before .before .before .before .before .pre .3 .stands), ap (λ (l : List ℤ). length l) e ∙ pair-five (c .before .before .before .before .before .before .pre .0) (x .pair) (x .good), launch-room (now (c .before .before .before .before .before .before .args .state)) (c .before .before .before .before .before .before .args .offer) (c .before .before .before .before .before .before .pre .0) (c .before .before .before .before .before .before .pre .1) (c .before .before .before .before .before .before .pre .2) (c .before .before .before .before .before .before .pre .3) (x .pair) (x .is) (c .before .before .before .before .before .before .pre .4) _ e)
+    (passed (c .before .before .before .before .before .before .pre .3 .stands), ap (λ (l : List ℤ). length l) e ∙ pair-width (c .before .before .before .before .before .before .pre .0) (x .pair) (x .good), launch-room (now (c .before .before .before .before .before .before .args .state)) (c .before .before .before .before .before .before .args .offer) (c .before .before .before .before .before .before .pre .0) (c .before .before .before .before .before .before .pre .1) (c .before .before .before .before .before .before .pre .2) (c .before .before .before .before .before .before .pre .3) (x .pair) (x .is) (c .before .before .before .before .before .before .pre .4) _ e)
 
 same-length : tie.Need-same-length
 same-length c = search needs
@@ -49,7 +49,7 @@ kill-pair-requires : tie.Need-kill-pair-requires
 kill-pair-requires c κs =
     let x = killing (now (c .before .before .before .before .before .before .before .args .state)) (c .before .before .before .before .before .before .before .args .offer) (c .before .before .before .before .before .if2 .taken) (c .before .before .before .before .before .before .before .pre .0) (c .before .before .before .before .before .before .before .pre .1) (c .before .before .before .before .before .before .before .pre .2) (c .before .before .before .before .before .before .before .pre .3) in
     let e = c .before .before .before .put-pair2 .ensures (x .pair) (x .shows) in
-    (passed (c .before .before .before .before .before .before .before .pre .3 .stands), ap (λ (l : List ℤ). length l) e ∙ pair-five (c .before .before .before .before .before .before .before .pre .0) (x .pair) (x .good))
+    (passed (c .before .before .before .before .before .before .before .pre .3 .stands), ap (λ (l : List ℤ). length l) e ∙ pair-width (c .before .before .before .before .before .before .before .pre .0) (x .pair) (x .good))
 
 same-length-2 : tie.Need-same-length-2
 same-length-2 c = search needs

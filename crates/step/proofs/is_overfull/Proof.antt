@@ -10,7 +10,7 @@ use Rattle.state.specs.Change.{pairsFrom}
 use Rattle.state.proofs.Part.{tail-part}
 use Rattle.state.proofs.Launch.{part-room, part-ascends}
 use Rattle.step.proofs.Tables.{passed, long}
-use Rattle.step.proofs.Pairs.{launching, no-launch, place-free, all-taken, pair-five}
+use Rattle.step.proofs.Pairs.{launching, no-launch, place-free, all-taken, pair-width}
 use Rattle.step.proofs.is_overfull.Statement.{statement}
 use Rattle.step.proofs.is_overfull.Tie as tie
 
@@ -53,7 +53,7 @@ is-lit-requires : tie.Need-is-lit-requires
 is-lit-requires c κs =
     let x = launching (now (c .before .before .before .before .before .before .before .before .args .state)) (c .before .before .before .before .before .before .before .before .args .offer) (c .before .before .before .before .before .before .before .if1 .left) (c .before .before .before .before .before .before .before .before .pre .model) (c .before .before .before .before .before .before .before .before .pre .state) (c .before .before .before .before .before .before .before .before .pre .change) (c .before .before .before .before .before .before .before .before .pre .changes) in
     let p = passed (c .before .before .before .before .before .before .before .before .pre .changes .stands) in
-    (part-room (now (c .before .before .before .before .before .before .before .before .args .state)) p (c .before .before .before .before .before .before .pair-count .result) (c .before .before .before .before .before .before .pair-count .ensures .0), ap (λ (l : List ℤ). length l) (c .before .before .before .put-pair .ensures (x .pair) (x .shows)) ∙ pair-five (c .before .before .before .before .before .before .before .before .pre .model) (x .pair) (x .good), part-ascends (now (c .before .before .before .before .before .before .before .before .args .state)) p (c .before .before .before .before .before .before .pair-count .result) (c .before .before .before .before .before .before .pair-count .ensures .0))
+    (part-room (now (c .before .before .before .before .before .before .before .before .args .state)) p (c .before .before .before .before .before .before .pair-count .result) (c .before .before .before .before .before .before .pair-count .ensures .0), ap (λ (l : List ℤ). length l) (c .before .before .before .put-pair .ensures (x .pair) (x .shows)) ∙ pair-width (c .before .before .before .before .before .before .before .before .pre .model) (x .pair) (x .good), part-ascends (now (c .before .before .before .before .before .before .before .before .args .state)) p (c .before .before .before .before .before .before .pair-count .result) (c .before .before .before .before .before .before .pair-count .ensures .0))
 
 returns-3 : tie.Need-returns-3
 returns-3 c =

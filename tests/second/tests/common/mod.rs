@@ -2,7 +2,7 @@
 
 #![allow(dead_code)]
 
-use second::state::{DEFINITION, FIRST_PAIR, FIRST_PROCESS, PAIR, PROCESS};
+use second::state::{DEFINITION, FIRST_PAIR, FIRST_PROCESS, PAIR, PROCESS, VALUE_COUNT};
 use second::{Answer, LISTING, MODEL, REPORT, STATE};
 
 pub struct Bench {
@@ -13,6 +13,9 @@ pub struct Bench {
 }
 
 pub type Entry = [u64; 7];
+
+/// A pair on a channel of one item: its kind and number, count of values, values.
+pub type Short = [i64; 5];
 
 impl Bench {
     pub fn new() -> Bench {
@@ -100,6 +103,15 @@ impl Bench {
         used.chunks(PAIR).map(|pair| pair.try_into().unwrap()).collect()
     }
 
+    /// The pairs, all of them on channels of one item.
+    pub fn short_pairs(&self) -> Vec<Short> {
+        let short = |pair: [i64; PAIR]| {
+            assert_eq!((pair[0], &pair[3..VALUE_COUNT]), (1, &[0; 4][..]));
+            [pair[1], pair[2], pair[7], pair[8], pair[9]]
+        };
+        self.pairs().into_iter().map(short).collect()
+    }
+
     /// Sum number and locals of a process, with its definition's number; no numbers: the row is zeroed.
     pub fn set_process(&mut self, place: usize, numbers: &[i64]) {
         let start = FIRST_PROCESS + PROCESS * place;
@@ -114,6 +126,18 @@ impl Bench {
     pub fn set_pair(&mut self, place: usize, numbers: [i64; PAIR]) {
         let start = FIRST_PAIR + PAIR * place;
         self.state[start..start + PAIR].copy_from_slice(&numbers);
+    }
+
+    pub fn set_short_pair(&mut self, place: usize, [kind, channel, count, first, second]: Short) {
+        self.set_pair(place, [1, kind, channel, 0, 0, 0, 0, count, first, second]);
+    }
+
+    /// Hands in these pairs where none is lit.
+    pub fn light(&mut self, pairs: &[[i64; PAIR]]) {
+        self.state[1] = pairs.len() as i64;
+        for (place, pair) in pairs.iter().enumerate() {
+            self.set_pair(place, *pair);
+        }
     }
 }
 
@@ -174,7 +198,7 @@ pub fn value_of(expression: &str) -> Option<i64> {
     let mut bench = Bench::of(&format!("A[]={{c![{expression}],1}};A[];"));
     let answer = bench.step(0);
     match answer.number {
-        0 => Some(bench.pairs()[0][3]),
+        0 => Some(bench.short_pairs()[0][3]),
         12 => {
             assert_eq!((answer.place, answer.branch), (0, 0));
             None

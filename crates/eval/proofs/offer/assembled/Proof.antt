@@ -1,12 +1,10 @@
--- `eval::offer::assembled` meets its contract. By the cases of the channel.
+-- By the cases of the list and the channel.
+use mathlib.Core.Path.{sym, _∙_}
 use native.Mathlib.Omega.{arith}
-use borrow.Author.Tests.{eq-eqb, ne-eqb}
-use Rattle.value.proofs.Kit.{back}
-use mathlib.Core.Path.{subst}
-use mir.Syntax.{w64}
-use mir.Facts.{toZ-pos}
-use Rattle.eval.specs.Shown.{Small, bareOffer, withChannel, assembled}
+use borrow.Author.Tests.{eq-eqb, ne-eqb, not-true, not-false}
 use borrow.Author.Needs.{needs}
+use Rattle.value.proofs.Kit.{back}
+use Rattle.eval.specs.Shown.{bareOffer, withChannel, assembled}
 use Rattle.eval.proofs.offer.assembled.Statement.{statement}
 use Rattle.eval.proofs.offer.assembled.Tie as tie
 
@@ -18,50 +16,35 @@ unfolding assembled
 returns c =
     rw (eq-eqb _ _ (c .before .if1 .taken)) (c .bare-offer .ensures)
 
-enum-known-c : tie.Need-enum-known-c
-enum-known-c c = search needs
-
-enum-known-c-2 : tie.Need-enum-known-c-2
-enum-known-c-2 c = search needs
-
-cast-t10 : tie.Need-cast-t10
-cast-t10 c =
-    let h = subst Small (c .before .c2 .given .1) (c .before .before .before .before .pre) in omega arith
-
-enum-told : tie.Need-enum-told
-enum-told c = search needs
+is-found-requires : tie.Need-is-found-requires
+is-found-requires c κs = search needs
 
 bare-offer-requires-2 : tie.Need-bare-offer-requires-2
 bare-offer-requires-2 c κs = search needs
 
 returns-2 : tie.Need-returns-2
-unfolding assembled withChannel
+unfolding assembled
 returns-2 c =
-    let l = c .before .before .before .before .before .args .list in
-    let g = c .struct-told .given in
-    let f = back (l .first) (g .1 .0 .1) in
-    let fe = back (l .«first_end») (g .1 .1 .0 .1) in
-    let z = back (l .second) (g .1 .1 .1 .0 .1) in
-    let ze = back (l .«second_end») (g .1 .1 .1 .1 .0 .1) in
-    rw (ne-eqb _ _ (c .before .before .before .before .if1 .left), c .before .before .c .given .1, back (c .before .before .c .given .0 .0) (c .before .known-told .given .0 .1), f, fe, z, ze)
+    rw (ne-eqb _ _ (c .before .before .before .if1 .left), sym (c .before .before .is-found .ensures) ∙ not-true _ (c .before .if2 .taken)) (c .bare-offer2 .ensures)
 
 returns-3 : tie.Need-returns-3
 unfolding assembled withChannel
 returns-3 c =
+    let x = c .before .before .before .before .before .args .c in
     let l = c .before .before .before .before .before .args .list in
+    let f = c .before .struct-told .given in
     let g = c .struct-told2 .given in
-    let f = back (l .first) (g .1 .0 .1) in
-    let fe = back (l .«first_end») (g .1 .1 .0 .1) in
-    let z = back (l .second) (g .1 .1 .1 .0 .1) in
-    let ze = back (l .«second_end») (g .1 .1 .1 .1 .0 .1) in
-    let h = subst Small (c .before .before .c2 .given .1) (c .before .before .before .before .before .pre) in
-    let q = toZ-pos w64 {n = c .before .before .c2 .given .0 .0} (omega arith) in
-    rw (ne-eqb _ _ (c .before .before .before .before .if1 .left), c .before .before .c2 .given .1, q, f, fe, z, ze)
-
-returns-4 : tie.Need-returns-4
-unfolding assembled withChannel
-returns-4 c =
-    rw (ne-eqb _ _ (c .before .before .before .if1 .left), c .before .enum-told .given .1) (c .bare-offer2 .ensures)
+    rw (
+      ne-eqb _ _ (c .before .before .before .before .if1 .left),
+      sym (c .before .before .before .is-found .ensures) ∙ not-false _ (c .before .before .if2 .left),
+      back (x .first) (f .1 .0 .1),
+      back (x .second) (f .1 .1 .0 .1),
+      back (x .third) (f .1 .1 .1 .0 .1),
+      back (l .first) (g .1 .0 .1),
+      back (l .«first_end») (g .1 .1 .0 .1),
+      back (l .second) (g .1 .1 .1 .0 .1),
+      back (l .«second_end») (g .1 .1 .1 .1 .0 .1),
+    )
 
 pub assembled-spec : {M : Type 1} → statement M
-assembled-spec = tie.close (tie.spec bare-offer-requires returns enum-known-c enum-known-c-2 cast-t10 enum-told bare-offer-requires-2 returns-2 returns-3 returns-4)
+assembled-spec = tie.close (tie.spec bare-offer-requires returns is-found-requires bare-offer-requires-2 returns-2 returns-3)

@@ -49,7 +49,8 @@ left-of-requires c κs = search needs
 -- src/walk.rt:107:9
 channel-fault-requires : tie.Need-channel-fault-requires
 channel-fault-requires c κs =
-    (c .before .before .before .before .before .before .before .before .pre .0 .0, omega (arith, (acted-of (c .before .before .before .before .before .before .before .before .args .nodes .now) (c .before .before .before .before .before .before .before .before .pre .0 .1) (c .before .before .before .before .before .before .before .before .args .from) (c .before .before .before .before .before .before .before .before .args .root) (λ e. c .before .if1 .left (c .before .before .kind-of .ensures ∙ e)) (c .before .before .before .before .before .before .before .before .pre .0 .2)) .below, c .left-of .ensures, c .before .before .before .before .before .before .before .before .pre .1))
+    let p = (acted-of (c .before .before .before .before .before .before .before .before .args .nodes .now) (c .before .before .before .before .before .before .before .before .pre .0 .1) (c .before .before .before .before .before .before .before .before .args .from) (c .before .before .before .before .before .before .before .before .args .root) (λ e. c .before .if1 .left (c .before .before .kind-of .ensures ∙ e)) (c .before .before .before .before .before .before .before .before .pre .0 .2)) in
+    ((c .before .before .before .before .before .before .before .before .pre .0 .0, p .channel, channel-holds (c .before .before .before .before .before .before .before .before .args .nodes .now) (c .before .before .before .before .before .before .before .before .pre .0 .0 .setting .world .word) (c .before .before .before .before .before .before .before .before .pre .0 .1) (c .before .before .before .before .before .before .before .before .args .from) (c .before .before .before .before .before .before .before .before .args .root) p (c .left-of .result) (c .left-of .ensures)), omega (arith, p .below, c .left-of .ensures, c .before .before .before .before .before .before .before .before .pre .1))
 
 -- src/walk.rt:108:80
 add-leaves-fault : tie.Need-add-leaves-fault

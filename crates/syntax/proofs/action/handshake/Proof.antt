@@ -8,7 +8,7 @@ use Rattle.syntax.proofs.action.handshake.Reads as reads
 use Rattle.syntax.proofs.action.handshake.Lts as lts
 use Rattle.syntax.proofs.action.receiving.Reads as receiving-reads
 use Rattle.syntax.proofs.action.sending.Reads as sending-reads
-use Rattle.syntax.proofs.expression.expr.Reads as expr-reads
+use Rattle.syntax.proofs.channel.channel.Reads as channel-reads
 use Rattle.token.proofs.peek.Reads as peek-reads
 use mathlib.Core.Path.{_≡_, refl, ap, sym, _∙_}
 use mathlib.Core.List.{List, [], _∷_, _++_}
@@ -22,13 +22,13 @@ use lib.IntN.{ℤ, pos}
 use lib.ListN.{length, getD, set, take, drop, replicate, length-append, length-take, length-drop, length-set, length-replicate}
 
 -- src/action.rt:216:34
-add-expr : tie.Need-add-expr
-add-expr c =
+add-channel : tie.Need-add-channel
+add-channel c =
     omega (arith, inside (c .before .before .args .toks .now) (c .before .before .args .at) (omega arith))
 
 -- src/action.rt:216:11
-expr-requires : tie.Need-expr-requires
-expr-requires c κs =
+channel-requires : tie.Need-channel-requires
+channel-requires c κs =
     ready-token (c .before .before .before .pre .0) (omega arith)
 
 -- src/action.rt:217:21
@@ -48,7 +48,7 @@ peek-requires c κs = tt
 -- src/action.rt:221:17
 sending-requires : tie.Need-sending-requires
 sending-requires c κs =
-    (hand-ready (c .before .before .before .before .before .before .before .before .before .before .before .before .args .toks .now) (c .before .before .before .before .before .before .before .before .before .before .before .before .args .nodes .now) _ (c .before .before .before .before .before .before .before .before .before .before .before .before .args .at) (c .before .before .before .before .before .before .before .before .before .before .before .before .args .used) (c .before .before .before .before .before .before .before .before .before .before .before .before .pre .1) (c .before .before .before .before .before .before .before .before .expr .ensures) (c .before .before .before .before .n .given .1) (c .before .before .before .before .before .before .before .before .before .before .before .before .pre .0), omega arith)
+    (hand-ready (c .before .before .before .before .before .before .before .before .before .before .before .before .args .toks .now) (c .before .before .before .before .before .before .before .before .before .before .before .before .args .nodes .now) _ (c .before .before .before .before .before .before .before .before .before .before .before .before .args .at) (c .before .before .before .before .before .before .before .before .before .before .before .before .args .used) (c .before .before .before .before .before .before .before .before .before .before .before .before .pre .1) (c .before .before .before .before .before .before .before .before .channel .ensures) (c .before .before .before .before .n .given .1) (c .before .before .before .before .before .before .before .before .before .before .before .before .pre .0), omega arith)
 
 -- src/action.rt:221:17
 same-length : tie.Need-same-length
@@ -58,12 +58,12 @@ same-length c =
 -- src/action.rt:221:17
 returns : tie.Need-returns
 returns c =
-    hand-send (c .before .before .before .before .before .before .before .before .before .before .before .before .before .before .before .args .toks .now) (c .before .before .before .before .before .before .before .before .before .before .before .before .before .before .before .args .nodes .now) _ (c .before .before .before .before .before .before .before .before .before .before .before .before .before .before .before .args .at) (c .before .before .before .before .before .before .before .before .before .before .before .before .before .before .before .args .used) (c .before .before .before .before .before .before .before .before .before .before .before .before .before .before .before .pre .1) (c .before .before .before .before .before .before .before .before .before .before .before .expr .ensures) (c .before .before .before .before .before .before .before .n .given .1) _ _ (same (c .before .before .before .before .before .peek .ensures) (c .before .before .before .before .if1 .taken)) (c .before .before .sending .ensures)
+    hand-send (c .before .before .before .before .before .before .before .before .before .before .before .before .before .before .before .args .toks .now) (c .before .before .before .before .before .before .before .before .before .before .before .before .before .before .before .args .nodes .now) _ (c .before .before .before .before .before .before .before .before .before .before .before .before .before .before .before .args .at) (c .before .before .before .before .before .before .before .before .before .before .before .before .before .before .before .args .used) (c .before .before .before .before .before .before .before .before .before .before .before .before .before .before .before .pre .1) (c .before .before .before .before .before .before .before .before .before .before .before .channel .ensures) (c .before .before .before .before .before .before .before .n .given .1) _ _ (same (c .before .before .before .before .before .peek .ensures) (c .before .before .before .before .if1 .taken)) (c .before .before .sending .ensures)
 
 -- src/action.rt:224:17
 receiving-requires : tie.Need-receiving-requires
 receiving-requires c κs =
-    (hand-ready (c .before .before .before .before .before .before .before .before .before .before .before .before .before .args .toks .now) (c .before .before .before .before .before .before .before .before .before .before .before .before .before .args .nodes .now) _ (c .before .before .before .before .before .before .before .before .before .before .before .before .before .args .at) (c .before .before .before .before .before .before .before .before .before .before .before .before .before .args .used) (c .before .before .before .before .before .before .before .before .before .before .before .before .before .pre .1) (c .before .before .before .before .before .before .before .before .before .expr .ensures) (c .before .before .before .before .before .n .given .1) (c .before .before .before .before .before .before .before .before .before .before .before .before .before .pre .0), (omega arith, omega arith))
+    (hand-ready (c .before .before .before .before .before .before .before .before .before .before .before .before .before .args .toks .now) (c .before .before .before .before .before .before .before .before .before .before .before .before .before .args .nodes .now) _ (c .before .before .before .before .before .before .before .before .before .before .before .before .before .args .at) (c .before .before .before .before .before .before .before .before .before .before .before .before .before .args .used) (c .before .before .before .before .before .before .before .before .before .before .before .before .before .pre .1) (c .before .before .before .before .before .before .before .before .before .channel .ensures) (c .before .before .before .before .before .n .given .1) (c .before .before .before .before .before .before .before .before .before .before .before .before .before .pre .0), (omega arith, omega arith))
 
 -- src/action.rt:224:17
 same-length-2 : tie.Need-same-length-2
@@ -73,7 +73,7 @@ same-length-2 c =
 -- src/action.rt:224:17
 returns-2 : tie.Need-returns-2
 returns-2 c =
-    hand-receive (c .before .before .before .before .before .before .before .before .before .before .before .before .before .before .before .before .args .toks .now) (c .before .before .before .before .before .before .before .before .before .before .before .before .before .before .before .before .args .nodes .now) _ (c .before .before .before .before .before .before .before .before .before .before .before .before .before .before .before .before .args .at) (c .before .before .before .before .before .before .before .before .before .before .before .before .before .before .before .before .args .used) (c .before .before .before .before .before .before .before .before .before .before .before .before .before .before .before .before .pre .1) (c .before .before .before .before .before .before .before .before .before .before .before .before .expr .ensures) (c .before .before .before .before .before .before .before .before .n .given .1) _ _ (same (c .before .before .before .before .before .before .peek .ensures) (c .before .before .before .before .if2 .taken)) (c .before .before .receiving .ensures)
+    hand-receive (c .before .before .before .before .before .before .before .before .before .before .before .before .before .before .before .before .args .toks .now) (c .before .before .before .before .before .before .before .before .before .before .before .before .before .before .before .before .args .nodes .now) _ (c .before .before .before .before .before .before .before .before .before .before .before .before .before .before .before .before .args .at) (c .before .before .before .before .before .before .before .before .before .before .before .before .before .before .before .before .args .used) (c .before .before .before .before .before .before .before .before .before .before .before .before .before .before .before .before .pre .1) (c .before .before .before .before .before .before .before .before .before .before .before .before .channel .ensures) (c .before .before .before .before .before .before .before .before .n .given .1) _ _ (same (c .before .before .before .before .before .before .peek .ensures) (c .before .before .before .before .if2 .taken)) (c .before .before .receiving .ensures)
 
 -- src/action.rt:210:1
 same-length-3 : tie.Need-same-length-3
@@ -83,7 +83,7 @@ same-length-3 c =
 -- src/action.rt:210:1
 returns-3 : tie.Need-returns-3
 returns-3 c =
-    hand-fault (c .before .before .before .before .before .before .before .before .before .args .toks .now) (c .before .before .before .before .before .before .before .before .before .args .nodes .now) _ (c .before .before .before .before .before .before .before .before .before .args .at) (c .before .before .before .before .before .before .before .before .before .args .used) (c .before .before .before .before .before .before .before .before .before .pre .1) (c .before .before .before .before .before .expr .ensures) (c .before .k .given .1)
+    hand-fault (c .before .before .before .before .before .before .before .before .before .args .toks .now) (c .before .before .before .before .before .before .before .before .before .args .nodes .now) _ (c .before .before .before .before .before .before .before .before .before .args .at) (c .before .before .before .before .before .before .before .before .before .args .used) (c .before .before .before .before .before .before .before .before .before .pre .1) (c .before .before .before .before .before .channel .ensures) (c .before .k .given .1)
 
 -- src/action.rt:210:1
 same-length-4 : tie.Need-same-length-4
@@ -93,14 +93,14 @@ same-length-4 c =
 -- src/action.rt:210:1
 returns-4 : tie.Need-returns-4
 returns-4 c =
-    hand-stray (c .before .before .before .before .before .before .before .before .before .before .before .before .args .toks .now) (c .before .before .before .before .before .before .before .before .before .before .before .before .args .nodes .now) _ (c .before .before .before .before .before .before .before .before .before .before .before .before .args .at) (c .before .before .before .before .before .before .before .before .before .before .before .before .args .used) (c .before .before .before .before .before .before .before .before .before .before .before .before .pre .1) (c .before .before .before .before .before .before .before .before .expr .ensures) (c .before .before .before .before .n .given .1) (isnt (c .before .before .peek .ensures) (c .before .if1 .left)) (isnt (c .before .before .peek .ensures) (c .if2 .left))
+    hand-stray (c .before .before .before .before .before .before .before .before .before .before .before .before .args .toks .now) (c .before .before .before .before .before .before .before .before .before .before .before .before .args .nodes .now) _ (c .before .before .before .before .before .before .before .before .before .before .before .before .args .at) (c .before .before .before .before .before .before .before .before .before .before .before .before .args .used) (c .before .before .before .before .before .before .before .before .before .before .before .before .pre .1) (c .before .before .before .before .before .before .before .before .channel .ensures) (c .before .before .before .before .n .given .1) (isnt (c .before .before .peek .ensures) (c .before .if1 .left)) (isnt (c .before .before .peek .ensures) (c .if2 .left))
 
 pub handshake-spec : {M : Type 1} → statement M
 handshake-spec =
     tie.close
     (tie.spec
-    add-expr
-    expr-requires
+    add-channel
+    channel-requires
     enum-known-k
     enum-known-n
     peek-requires

@@ -2,7 +2,7 @@
 -- tokens, and where a call keeps its place, the order of the functions: items, item, sum, branches or cont, prefix, gated, offer.
 use Rattle.grammar.proofs.Follows.{inside, same, isnt, in-tok}
 use Rattle.tree.proofs.Spans.{ready-token, made-of, tally-of}
-use Rattle.syntax.proofs.Offering.{spare-of, offer-stray, offer-fault, offer-ready, offer-unrated, offer-open, offer-stop, offer-ready-cont, offer-cont-fault, offer-dot, gated-fault, gated-open, gated-stray, gated-ready, gated-offer-fault, gated-node, prefix-ungated}
+use Rattle.syntax.proofs.Offering.{spare-of, offer-stray, offer-fault, offer-inner, offer-ready, offer-stop, offer-ready-cont, offer-cont-fault, offer-dot, gated-fault, gated-open, gated-stray, gated-ready, gated-offer-fault, gated-node, prefix-ungated}
 use Rattle.syntax.proofs.Grouping.{cont-group, cont-call, cont-fault, cont-chain, sum-fault, sum-node, branches-fault, branches-last, branches-ready, branches-next-fault, branches-next, group-fault, group-node, items-fault, items-close, items-open, items-ready, items-next-fault, items-next, item-group, item-call, item-sum}
 use Prim.Native.Nat.{ℕ, _<_}
 use borrow.Fn.Kinds.{In}
@@ -34,10 +34,9 @@ use Rattle.syntax.proofs.process.+branches+cont+gated+group+item+items+
 use Rattle.syntax.proofs.process.sum.Reads as sum
 use Rattle.syntax.proofs.process.sum.Kinds as sum-kinds
 use Rattle.syntax.proofs.process.+branches+cont+gated+group+item+items+offer+prefix+sum.Lts-sum as sum-lts
-use Rattle.syntax.proofs.action.action.Reads as action-reads
+use Rattle.syntax.proofs.braced.braced.Reads as braced-reads
 use Rattle.syntax.proofs.condition.condition.Reads as condition-reads
 use Rattle.syntax.proofs.process.call.Reads as call-reads
-use Rattle.syntax.proofs.rate.rate.Reads as rate-reads
 use Rattle.token.proofs.peek.Reads as peek-reads
 use Rattle.tree.proofs.node.Reads as node-reads
 use Rattle.syntax.proofs.process.+branches+cont+gated+group+item+items+offer+prefix+sum.{
@@ -1587,14 +1586,11 @@ items-returns-5 t c =
     let ready = items-ready (c .before .before .before .before .before .before .before .before .before .before .before .before .before .before .before .before .before .before .before .before .before .before .before .args .toks .now) (c .before .before .before .before .before .before .before .before .before .before .before .before .before .before .before .before .before .before .before .before .before .before .before .args .nodes .now) _ (c .before .before .before .before .before .before .before .before .before .before .before .before .before .before .before .before .before .before .before .before .before .before .before .args .at) (c .before .before .before .before .before .before .before .before .before .before .before .before .before .before .before .before .before .before .before .before .before .before .before .args .used) (c .before .before .before .before .before .before .before .before .before .before .before .before .before .before .before .before .before .before .before .before .before .before .before .args .sums) (c .before .before .before .before .before .before .before .before .before .before .before .before .before .before .before .before .before .before .before .item .ensures) (c .before .before .before .before .before .before .before .before .before .before .before .before .before .before .before .n .given .1) (same (c .before .before .before .before .before .before .before .before .before .before .before .before .before .peek .ensures) (c .before .before .before .before .before .before .before .before .before .before .before .if2 .left)) (c .before .before .before .before .before .before .before .before .before .before .before .before .before .before .before .before .before .before .before .before .before .before .before .pre .1 .0) in
     items-next (c .before .before .before .before .before .before .before .before .before .before .before .before .before .before .before .before .before .before .before .before .before .before .before .args .toks .now) (c .before .before .before .before .before .before .before .before .before .before .before .before .before .before .before .before .before .before .before .before .before .before .before .args .nodes .now) _ (c .before .before .before .before .before .before .before .before .before .before .before .before .before .before .before .before .before .before .before .before .before .before .before .args .at) (c .before .before .before .before .before .before .before .before .before .before .before .before .before .before .before .before .before .before .before .before .before .before .before .args .used) (c .before .before .before .before .before .before .before .before .before .before .before .before .before .before .before .before .before .before .before .before .before .before .before .args .sums) (c .before .before .before .before .before .before .before .before .before .before .before .before .before .before .before .before .before .before .before .item .ensures) (c .before .before .before .before .before .before .before .before .before .before .before .before .before .before .before .n .given .1) (same (c .before .before .before .before .before .before .before .before .before .before .before .before .before .peek .ensures) (c .before .before .before .before .before .before .before .before .before .before .before .if2 .left)) _ (c .before .before .before .before .before .before .before .before .before .items .ensures) (c .before .before .before .before .before .m .given .1) (record { written = c .before .before .node .ensures; token-fits = omega arith; left-fits = omega (arith, ready .inside, ready .room, ready .few); third-fits = omega arith })
 
--- src/process.rt:78:8
 offer-peek-requires : (t : ℕ) → offer-lts.Need-peek-requires (
   peek-reads.Asked,
   peek-reads.Learnt,
-  action-reads.Asked,
-  action-reads.Learnt,
-  rate-reads.Asked,
-  rate-reads.Learnt,
+  braced-reads.Asked,
+  braced-reads.Learnt,
   node-reads.Asked,
   node-reads.Learnt,
   cont-below t,
@@ -1603,14 +1599,11 @@ offer-peek-requires : (t : ℕ) → offer-lts.Need-peek-requires (
 offer-peek-requires t c κs =
     tt
 
--- src/process.rt:79:9
 offer-returns : (t : ℕ) → offer-lts.Need-returns (
   peek-reads.Asked,
   peek-reads.Learnt,
-  action-reads.Asked,
-  action-reads.Learnt,
-  rate-reads.Asked,
-  rate-reads.Learnt,
+  braced-reads.Asked,
+  braced-reads.Learnt,
   node-reads.Asked,
   node-reads.Learnt,
   cont-below t,
@@ -1619,46 +1612,37 @@ offer-returns : (t : ℕ) → offer-lts.Need-returns (
 offer-returns t c =
     offer-stray (c .before .before .before .before .args .toks .now) (c .before .before .before .before .args .nodes .now) (c .before .before .before .before .args .at) (c .before .before .before .before .args .used) (c .before .before .before .before .args .sums) (c .before .before .before .before .args .first) (c .before .before .before .before .pre .1 .0 .inside) (isnt (c .before .peek .ensures) (c .if1 .taken))
 
--- src/process.rt:81:32
-offer-add-action : (t : ℕ) → offer-lts.Need-add-action (
+offer-add-braced : (t : ℕ) → offer-lts.Need-add-braced (
   peek-reads.Asked,
   peek-reads.Learnt,
-  action-reads.Asked,
-  action-reads.Learnt,
-  rate-reads.Asked,
-  rate-reads.Learnt,
+  braced-reads.Asked,
+  braced-reads.Learnt,
   node-reads.Asked,
   node-reads.Learnt,
   cont-below t,
   cont.Post,
 ) (offer-at t) offer.Post
-offer-add-action t c =
+offer-add-braced t c =
     omega (arith, in-tok (c .before .before .before .before .args .toks .now) (c .before .before .before .before .args .at) (c .before .peek .ensures) (omega arith))
 
--- src/process.rt:81:11
-offer-action-requires : (t : ℕ) → offer-lts.Need-action-requires (
+offer-braced-requires : (t : ℕ) → offer-lts.Need-braced-requires (
   peek-reads.Asked,
   peek-reads.Learnt,
-  action-reads.Asked,
-  action-reads.Learnt,
-  rate-reads.Asked,
-  rate-reads.Learnt,
+  braced-reads.Asked,
+  braced-reads.Learnt,
   node-reads.Asked,
   node-reads.Learnt,
   cont-below t,
   cont.Post,
 ) (offer-at t) offer.Post
-offer-action-requires t c κs =
+offer-braced-requires t c κs =
     ready-token (c .before .before .before .before .before .pre .1 .0) (omega arith)
 
--- src/process.rt:82:21
 offer-enum-known-k : (t : ℕ) → offer-lts.Need-enum-known-k (
   peek-reads.Asked,
   peek-reads.Learnt,
-  action-reads.Asked,
-  action-reads.Learnt,
-  rate-reads.Asked,
-  rate-reads.Learnt,
+  braced-reads.Asked,
+  braced-reads.Learnt,
   node-reads.Asked,
   node-reads.Learnt,
   cont-below t,
@@ -1667,95 +1651,24 @@ offer-enum-known-k : (t : ℕ) → offer-lts.Need-enum-known-k (
 offer-enum-known-k t c =
     c .match .keys1
 
--- src/process.rt:83:20
-offer-enum-known-n : (t : ℕ) → offer-lts.Need-enum-known-n (
+offer-enum-known-point : (t : ℕ) → offer-lts.Need-enum-known-point (
   peek-reads.Asked,
   peek-reads.Learnt,
-  action-reads.Asked,
-  action-reads.Learnt,
-  rate-reads.Asked,
-  rate-reads.Learnt,
+  braced-reads.Asked,
+  braced-reads.Learnt,
   node-reads.Asked,
   node-reads.Learnt,
   cont-below t,
   cont.Post,
 ) (offer-at t) offer.Post
-offer-enum-known-n t c =
+offer-enum-known-point t c =
     c .match .keys2
 
--- src/process.rt:83:65
-offer-add-rate : (t : ℕ) → offer-lts.Need-add-rate (
-  peek-reads.Asked,
-  peek-reads.Learnt,
-  action-reads.Asked,
-  action-reads.Learnt,
-  rate-reads.Asked,
-  rate-reads.Learnt,
-  node-reads.Asked,
-  node-reads.Learnt,
-  cont-below t,
-  cont.Post,
-) (offer-at t) offer.Post
-offer-add-rate t c =
-    let ready = offer-ready (c .before .before .before .before .before .before .before .before .before .before .before .before .args .toks .now) (c .before .before .before .before .before .before .before .before .before .before .before .before .args .nodes .now) (c .before .before .before .before .before .before .before .before .before .before .before .before .args .at) (c .before .before .before .before .before .before .before .before .before .before .before .before .args .used) (c .before .before .before .before .before .before .before .before .before .before .before .before .args .sums) (c .before .before .before .before .before .before .before .before .before .before .before .before .args .first) (same (c .before .before .before .before .before .before .before .before .before .peek .ensures) (c .before .before .before .before .before .before .before .before .if1 .left)) _ (c .before .before .before .before .before .before .action .ensures) (c .before .before .n .given .1) (c .before .before .before .before .before .before .before .before .before .before .before .before .pre .1 .0) in
-    omega (arith, ready .inside, ready .room, ready .few)
-
--- src/process.rt:83:38
-offer-rate-requires : (t : ℕ) → offer-lts.Need-rate-requires (
-  peek-reads.Asked,
-  peek-reads.Learnt,
-  action-reads.Asked,
-  action-reads.Learnt,
-  rate-reads.Asked,
-  rate-reads.Learnt,
-  node-reads.Asked,
-  node-reads.Learnt,
-  cont-below t,
-  cont.Post,
-) (offer-at t) offer.Post
-offer-rate-requires t c κs =
-    offer-ready (c .before .before .before .before .before .before .before .before .before .before .before .before .args .toks .now) (c .before .before .before .before .before .before .before .before .before .before .before .before .args .nodes .now) (c .before .before .before .before .before .before .before .before .before .before .before .before .args .at) (c .before .before .before .before .before .before .before .before .before .before .before .before .args .used) (c .before .before .before .before .before .before .before .before .before .before .before .before .args .sums) (c .before .before .before .before .before .before .before .before .before .before .before .before .args .first) (same (c .before .before .before .before .before .before .before .before .before .peek .ensures) (c .before .before .before .before .before .before .before .before .if1 .left)) _ (c .before .before .before .before .before .before .action .ensures) (c .before .before .n .given .1) (c .before .before .before .before .before .before .before .before .before .before .before .before .pre .1 .0)
-
--- src/process.rt:84:25
-offer-enum-known-k-2 : (t : ℕ) → offer-lts.Need-enum-known-k-2 (
-  peek-reads.Asked,
-  peek-reads.Learnt,
-  action-reads.Asked,
-  action-reads.Learnt,
-  rate-reads.Asked,
-  rate-reads.Learnt,
-  node-reads.Asked,
-  node-reads.Learnt,
-  cont-below t,
-  cont.Post,
-) (offer-at t) offer.Post
-offer-enum-known-k-2 t c =
-    c .match2 .keys1
-
--- src/process.rt:85:24
-offer-enum-known-m : (t : ℕ) → offer-lts.Need-enum-known-m (
-  peek-reads.Asked,
-  peek-reads.Learnt,
-  action-reads.Asked,
-  action-reads.Learnt,
-  rate-reads.Asked,
-  rate-reads.Learnt,
-  node-reads.Asked,
-  node-reads.Learnt,
-  cont-below t,
-  cont.Post,
-) (offer-at t) offer.Post
-offer-enum-known-m t c =
-    c .match2 .keys2
-
--- src/process.rt:86:20
 offer-peek-requires-2 : (t : ℕ) → offer-lts.Need-peek-requires-2 (
   peek-reads.Asked,
   peek-reads.Learnt,
-  action-reads.Asked,
-  action-reads.Learnt,
-  rate-reads.Asked,
-  rate-reads.Learnt,
+  braced-reads.Asked,
+  braced-reads.Learnt,
   node-reads.Asked,
   node-reads.Learnt,
   cont-below t,
@@ -1764,14 +1677,40 @@ offer-peek-requires-2 : (t : ℕ) → offer-lts.Need-peek-requires-2 (
 offer-peek-requires-2 t c κs =
     tt
 
--- src/process.rt:87:21
+offer-add-root : (t : ℕ) → offer-lts.Need-add-root (
+  peek-reads.Asked,
+  peek-reads.Learnt,
+  braced-reads.Asked,
+  braced-reads.Learnt,
+  node-reads.Asked,
+  node-reads.Learnt,
+  cont-below t,
+  cont.Post,
+) (offer-at t) offer.Post
+offer-add-root t c =
+    let ready = offer-ready (c .before .before .before .before .before .before .before .before .before .before .before .before .before .args .toks .now) (c .before .before .before .before .before .before .before .before .before .before .before .before .before .args .nodes .now) (c .before .before .before .before .before .before .before .before .before .before .before .before .before .args .at) (c .before .before .before .before .before .before .before .before .before .before .before .before .before .args .used) (c .before .before .before .before .before .before .before .before .before .before .before .before .before .args .sums) (c .before .before .before .before .before .before .before .before .before .before .before .before .before .args .first) (same (c .before .before .before .before .before .before .before .before .before .before .peek .ensures) (c .before .before .before .before .before .before .before .before .before .if1 .left)) _ (c .before .before .before .before .before .before .before .braced .ensures) (c .before .before .before .point .given .1) (c .before .before .before .before .before .before .before .before .before .before .before .before .before .pre .1 .0) in
+    omega (arith, ready .room, ready .inside, ready .few)
+
+offer-node-requires : (t : ℕ) → offer-lts.Need-node-requires (
+  peek-reads.Asked,
+  peek-reads.Learnt,
+  braced-reads.Asked,
+  braced-reads.Learnt,
+  node-reads.Asked,
+  node-reads.Learnt,
+  cont-below t,
+  cont.Post,
+) (offer-at t) offer.Post
+offer-node-requires t c κs =
+    let ready = offer-ready (c .before .before .before .before .before .before .before .before .before .before .before .before .before .before .args .toks .now) (c .before .before .before .before .before .before .before .before .before .before .before .before .before .before .args .nodes .now) (c .before .before .before .before .before .before .before .before .before .before .before .before .before .before .args .at) (c .before .before .before .before .before .before .before .before .before .before .before .before .before .before .args .used) (c .before .before .before .before .before .before .before .before .before .before .before .before .before .before .args .sums) (c .before .before .before .before .before .before .before .before .before .before .before .before .before .before .args .first) (same (c .before .before .before .before .before .before .before .before .before .before .before .peek .ensures) (c .before .before .before .before .before .before .before .before .before .before .if1 .left)) _ (c .before .before .before .before .before .before .before .before .braced .ensures) (c .before .before .before .before .point .given .1) (c .before .before .before .before .before .before .before .before .before .before .before .before .before .before .pre .1 .0) in
+    let inner = offer-inner (c .before .before .before .before .before .before .before .before .before .before .before .before .before .before .args .toks .now) (c .before .before .before .before .before .before .before .before .before .before .before .before .before .before .args .nodes .now) (c .before .before .before .before .before .before .before .before .before .before .before .before .before .before .args .at) (c .before .before .before .before .before .before .before .before .before .before .before .before .before .before .args .used) (c .before .before .before .before .before .before .before .before .before .before .before .before .before .before .args .sums) (c .before .before .before .before .before .before .before .before .before .before .before .before .before .before .args .first) (same (c .before .before .before .before .before .before .before .before .before .before .before .peek .ensures) (c .before .before .before .before .before .before .before .before .before .before .if1 .left)) _ (c .before .before .before .before .before .before .before .before .braced .ensures) (c .before .before .before .before .point .given .1) in
+    (omega (arith, c .before .before .before .before .before .before .before .before .before .before .before .before .before .before .pre .1 .0 .inside, c .before .before .before .before .before .before .before .before .before .before .before .before .before .before .pre .1 .0 .room, c .before .before .before .before .before .before .before .before .before .before .before .before .before .before .pre .1 .1 .1), omega (arith, ready .inside, ready .room, ready .few, inner .below), omega arith)
+
 offer-same-length : (t : ℕ) → offer-lts.Need-same-length (
   peek-reads.Asked,
   peek-reads.Learnt,
-  action-reads.Asked,
-  action-reads.Learnt,
-  rate-reads.Asked,
-  rate-reads.Learnt,
+  braced-reads.Asked,
+  braced-reads.Learnt,
   node-reads.Asked,
   node-reads.Learnt,
   cont-below t,
@@ -1780,97 +1719,126 @@ offer-same-length : (t : ℕ) → offer-lts.Need-same-length (
 offer-same-length t c =
     omega arith
 
--- src/process.rt:87:21
 offer-returns-2 : (t : ℕ) → offer-lts.Need-returns-2 (
   peek-reads.Asked,
   peek-reads.Learnt,
-  action-reads.Asked,
-  action-reads.Learnt,
-  rate-reads.Asked,
-  rate-reads.Learnt,
+  braced-reads.Asked,
+  braced-reads.Learnt,
   node-reads.Asked,
   node-reads.Learnt,
   cont-below t,
   cont.Post,
 ) (offer-at t) offer.Post
 offer-returns-2 t c =
-    offer-open (c .before .before .before .before .before .before .before .before .before .before .before .before .before .before .before .before .before .before .before .before .args .toks .now) (c .before .before .before .before .before .before .before .before .before .before .before .before .before .before .before .before .before .before .before .before .args .nodes .now) (c .before .before .before .before .before .before .before .before .before .before .before .before .before .before .before .before .before .before .before .before .args .at) (c .before .before .before .before .before .before .before .before .before .before .before .before .before .before .before .before .before .before .before .before .args .used) (c .before .before .before .before .before .before .before .before .before .before .before .before .before .before .before .before .before .before .before .before .args .sums) (c .before .before .before .before .before .before .before .before .before .before .before .before .before .before .before .before .before .before .before .before .args .first) (same (c .before .before .before .before .before .before .before .before .before .before .before .before .before .before .before .before .before .peek .ensures) (c .before .before .before .before .before .before .before .before .before .before .before .before .before .before .before .before .if1 .left)) _ (c .before .before .before .before .before .before .before .before .before .before .before .before .before .before .action .ensures) (c .before .before .before .before .before .before .before .before .before .before .n .given .1) _ (c .before .before .before .before .before .before .before .rate .ensures) (c .before .before .before .m .given .1) (isnt (c .before .peek2 .ensures) (c .if2 .taken))
+    let ready = offer-ready (c .before .before .before .before .before .before .before .before .before .before .before .before .before .before .before .before .before .args .toks .now) (c .before .before .before .before .before .before .before .before .before .before .before .before .before .before .before .before .before .args .nodes .now) (c .before .before .before .before .before .before .before .before .before .before .before .before .before .before .before .before .before .args .at) (c .before .before .before .before .before .before .before .before .before .before .before .before .before .before .before .before .before .args .used) (c .before .before .before .before .before .before .before .before .before .before .before .before .before .before .before .before .before .args .sums) (c .before .before .before .before .before .before .before .before .before .before .before .before .before .before .before .before .before .args .first) (same (c .before .before .before .before .before .before .before .before .before .before .before .before .before .before .peek .ensures) (c .before .before .before .before .before .before .before .before .before .before .before .before .before .if1 .left)) _ (c .before .before .before .before .before .before .before .before .before .before .before .braced .ensures) (c .before .before .before .before .before .before .before .point .given .1) (c .before .before .before .before .before .before .before .before .before .before .before .before .before .before .before .before .before .pre .1 .0) in
+    let inner = offer-inner (c .before .before .before .before .before .before .before .before .before .before .before .before .before .before .before .before .before .args .toks .now) (c .before .before .before .before .before .before .before .before .before .before .before .before .before .before .before .before .before .args .nodes .now) (c .before .before .before .before .before .before .before .before .before .before .before .before .before .before .before .before .before .args .at) (c .before .before .before .before .before .before .before .before .before .before .before .before .before .before .before .before .before .args .used) (c .before .before .before .before .before .before .before .before .before .before .before .before .before .before .before .before .before .args .sums) (c .before .before .before .before .before .before .before .before .before .before .before .before .before .before .before .before .before .args .first) (same (c .before .before .before .before .before .before .before .before .before .before .before .before .before .before .peek .ensures) (c .before .before .before .before .before .before .before .before .before .before .before .before .before .if1 .left)) _ (c .before .before .before .before .before .before .before .before .before .before .before .braced .ensures) (c .before .before .before .before .before .before .before .point .given .1) in
+    offer-stop (c .before .before .before .before .before .before .before .before .before .before .before .before .before .before .before .before .before .args .toks .now) (c .before .before .before .before .before .before .before .before .before .before .before .before .before .before .before .before .before .args .nodes .now) (c .before .before .before .before .before .before .before .before .before .before .before .before .before .before .before .before .before .args .at) (c .before .before .before .before .before .before .before .before .before .before .before .before .before .before .before .before .before .args .used) (c .before .before .before .before .before .before .before .before .before .before .before .before .before .before .before .before .before .args .sums) (c .before .before .before .before .before .before .before .before .before .before .before .before .before .before .before .before .before .args .first) (same (c .before .before .before .before .before .before .before .before .before .before .before .before .before .before .peek .ensures) (c .before .before .before .before .before .before .before .before .before .before .before .before .before .if1 .left)) _ (c .before .before .before .before .before .before .before .before .before .before .before .braced .ensures) (c .before .before .before .before .before .before .before .point .given .1) (isnt (c .before .before .before .before .before .peek2 .ensures) (c .before .before .before .before .if2 .taken)) (record { written = c .before .before .node .ensures; token-fits = omega (arith, c .before .before .before .before .before .before .before .before .before .before .before .before .before .before .before .before .before .pre .1 .0 .inside, c .before .before .before .before .before .before .before .before .before .before .before .before .before .before .before .before .before .pre .1 .0 .room, c .before .before .before .before .before .before .before .before .before .before .before .before .before .before .before .before .before .pre .1 .1 .1); left-fits = omega (arith, ready .inside, ready .room, ready .few, inner .below); third-fits = omega arith })
 
--- src/process.rt:89:29
-offer-add-point : (t : ℕ) → offer-lts.Need-add-point (
+offer-add-cont : (t : ℕ) → offer-lts.Need-add-cont (
   peek-reads.Asked,
   peek-reads.Learnt,
-  action-reads.Asked,
-  action-reads.Learnt,
-  rate-reads.Asked,
-  rate-reads.Learnt,
+  braced-reads.Asked,
+  braced-reads.Learnt,
   node-reads.Asked,
   node-reads.Learnt,
   cont-below t,
   cont.Post,
 ) (offer-at t) offer.Post
-offer-add-point t c =
-    omega (arith, c .before .before .before .before .before .before .before .before .before .before .before .before .before .before .before .before .before .before .before .before .pre .1 .0 .room, in-tok (c .before .before .before .before .before .before .before .before .before .before .before .before .before .before .before .before .before .before .before .before .args .toks .now) (c .before .before .before .m .given .0 .0) (c .before .peek2 .ensures) (omega arith))
+offer-add-cont t c =
+    let later = offer-ready-cont (c .before .before .before .before .before .before .before .before .before .before .before .before .before .args .toks .now) (c .before .before .before .before .before .before .before .before .before .before .before .before .before .args .nodes .now) (c .before .before .before .before .before .before .before .before .before .before .before .before .before .args .at) (c .before .before .before .before .before .before .before .before .before .before .before .before .before .args .used) (c .before .before .before .before .before .before .before .before .before .before .before .before .before .args .sums) (c .before .before .before .before .before .before .before .before .before .before .before .before .before .args .first) (same (c .before .before .before .before .before .before .before .before .before .before .peek .ensures) (c .before .before .before .before .before .before .before .before .before .if1 .left)) _ (c .before .before .before .before .before .before .before .braced .ensures) (c .before .before .before .point .given .1) (same (c .before .peek2 .ensures) (c .if2 .left)) (c .before .before .before .before .before .before .before .before .before .before .before .before .before .pre .1 .0) in
+    omega (arith, later .inside, later .room)
 
--- src/process.rt:90:20
-offer-peek-requires-3 : (t : ℕ) → offer-lts.Need-peek-requires-3 (
+offer-add-cont-2 : (t : ℕ) → offer-lts.Need-add-cont-2 (
   peek-reads.Asked,
   peek-reads.Learnt,
-  action-reads.Asked,
-  action-reads.Learnt,
-  rate-reads.Asked,
-  rate-reads.Learnt,
+  braced-reads.Asked,
+  braced-reads.Learnt,
   node-reads.Asked,
   node-reads.Learnt,
   cont-below t,
   cont.Post,
 ) (offer-at t) offer.Post
-offer-peek-requires-3 t c κs =
-    tt
+offer-add-cont-2 t c =
+    let later = offer-ready-cont (c .before .before .before .before .before .before .before .before .before .before .before .before .before .before .args .toks .now) (c .before .before .before .before .before .before .before .before .before .before .before .before .before .before .args .nodes .now) (c .before .before .before .before .before .before .before .before .before .before .before .before .before .before .args .at) (c .before .before .before .before .before .before .before .before .before .before .before .before .before .before .args .used) (c .before .before .before .before .before .before .before .before .before .before .before .before .before .before .args .sums) (c .before .before .before .before .before .before .before .before .before .before .before .before .before .before .args .first) (same (c .before .before .before .before .before .before .before .before .before .before .before .peek .ensures) (c .before .before .before .before .before .before .before .before .before .before .if1 .left)) _ (c .before .before .before .before .before .before .before .before .braced .ensures) (c .before .before .before .before .point .given .1) (same (c .before .before .peek2 .ensures) (c .before .if2 .left)) (c .before .before .before .before .before .before .before .before .before .before .before .before .before .before .pre .1 .0) in
+    omega (arith, later .inside, later .room, later .few)
 
--- src/process.rt:91:32
-offer-add-root : (t : ℕ) → offer-lts.Need-add-root (
+offer-cont-requires : (t : ℕ) → offer-lts.Need-cont-requires (
   peek-reads.Asked,
   peek-reads.Learnt,
-  action-reads.Asked,
-  action-reads.Learnt,
-  rate-reads.Asked,
-  rate-reads.Learnt,
+  braced-reads.Asked,
+  braced-reads.Learnt,
   node-reads.Asked,
   node-reads.Learnt,
   cont-below t,
   cont.Post,
 ) (offer-at t) offer.Post
-offer-add-root t c =
-    let ready = offer-ready (c .before .before .before .before .before .before .before .before .before .before .before .before .before .before .before .before .before .before .before .before .before .before .args .toks .now) (c .before .before .before .before .before .before .before .before .before .before .before .before .before .before .before .before .before .before .before .before .before .before .args .nodes .now) (c .before .before .before .before .before .before .before .before .before .before .before .before .before .before .before .before .before .before .before .before .before .before .args .at) (c .before .before .before .before .before .before .before .before .before .before .before .before .before .before .before .before .before .before .before .before .before .before .args .used) (c .before .before .before .before .before .before .before .before .before .before .before .before .before .before .before .before .before .before .before .before .before .before .args .sums) (c .before .before .before .before .before .before .before .before .before .before .before .before .before .before .before .before .before .before .before .before .before .before .args .first) (same (c .before .before .before .before .before .before .before .before .before .before .before .before .before .before .before .before .before .before .before .peek .ensures) (c .before .before .before .before .before .before .before .before .before .before .before .before .before .before .before .before .before .before .if1 .left)) _ (c .before .before .before .before .before .before .before .before .before .before .before .before .before .before .before .before .action .ensures) (c .before .before .before .before .before .before .before .before .before .before .before .before .n .given .1) (c .before .before .before .before .before .before .before .before .before .before .before .before .before .before .before .before .before .before .before .before .before .before .pre .1 .0) in
-    let m = made-of (c .before .before .before .before .before .m .given .1) (c .before .before .before .before .before .before .before .before .before .rate .ensures .1) in
-    omega (arith, ready .room, ready .few, m .span .within, m .span .fewer)
+offer-cont-requires t c κs =
+    let later = offer-ready-cont (c .before .before .before .before .before .before .before .before .before .before .before .before .before .before .args .toks .now) (c .before .before .before .before .before .before .before .before .before .before .before .before .before .before .args .nodes .now) (c .before .before .before .before .before .before .before .before .before .before .before .before .before .before .args .at) (c .before .before .before .before .before .before .before .before .before .before .before .before .before .before .args .used) (c .before .before .before .before .before .before .before .before .before .before .before .before .before .before .args .sums) (c .before .before .before .before .before .before .before .before .before .before .before .before .before .before .args .first) (same (c .before .before .before .before .before .before .before .before .before .before .before .peek .ensures) (c .before .before .before .before .before .before .before .before .before .before .if1 .left)) _ (c .before .before .before .before .before .before .before .before .braced .ensures) (c .before .before .before .before .point .given .1) (same (c .before .before .peek2 .ensures) (c .before .if2 .left)) (c .before .before .before .before .before .before .before .before .before .before .before .before .before .before .pre .1 .0) in
+    let inner = offer-inner (c .before .before .before .before .before .before .before .before .before .before .before .before .before .before .args .toks .now) (c .before .before .before .before .before .before .before .before .before .before .before .before .before .before .args .nodes .now) (c .before .before .before .before .before .before .before .before .before .before .before .before .before .before .args .at) (c .before .before .before .before .before .before .before .before .before .before .before .before .before .before .args .used) (c .before .before .before .before .before .before .before .before .before .before .before .before .before .before .args .sums) (c .before .before .before .before .before .before .before .before .before .before .before .before .before .before .args .first) (same (c .before .before .before .before .before .before .before .before .before .before .before .peek .ensures) (c .before .before .before .before .before .before .before .before .before .before .if1 .left)) _ (c .before .before .before .before .before .before .before .before .braced .ensures) (c .before .before .before .before .point .given .1) in
+    (omega (arith, later .inside, inner .span .onward), (later, omega (arith, inner .span .onward, c .before .before .before .before .before .before .before .before .before .before .before .before .before .before .pre .1 .1 .0)))
 
--- src/process.rt:92:21
-offer-node-requires : (t : ℕ) → offer-lts.Need-node-requires (
+offer-enum-known-k-2 : (t : ℕ) → offer-lts.Need-enum-known-k-2 (
   peek-reads.Asked,
   peek-reads.Learnt,
-  action-reads.Asked,
-  action-reads.Learnt,
-  rate-reads.Asked,
-  rate-reads.Learnt,
+  braced-reads.Asked,
+  braced-reads.Learnt,
   node-reads.Asked,
   node-reads.Learnt,
   cont-below t,
   cont.Post,
 ) (offer-at t) offer.Post
-offer-node-requires t c κs =
-    let ready = offer-ready (c .before .before .before .before .before .before .before .before .before .before .before .before .before .before .before .before .before .before .before .before .before .before .before .args .toks .now) (c .before .before .before .before .before .before .before .before .before .before .before .before .before .before .before .before .before .before .before .before .before .before .before .args .nodes .now) (c .before .before .before .before .before .before .before .before .before .before .before .before .before .before .before .before .before .before .before .before .before .before .before .args .at) (c .before .before .before .before .before .before .before .before .before .before .before .before .before .before .before .before .before .before .before .before .before .before .before .args .used) (c .before .before .before .before .before .before .before .before .before .before .before .before .before .before .before .before .before .before .before .before .before .before .before .args .sums) (c .before .before .before .before .before .before .before .before .before .before .before .before .before .before .before .before .before .before .before .before .before .before .before .args .first) (same (c .before .before .before .before .before .before .before .before .before .before .before .before .before .before .before .before .before .before .before .before .peek .ensures) (c .before .before .before .before .before .before .before .before .before .before .before .before .before .before .before .before .before .before .before .if1 .left)) _ (c .before .before .before .before .before .before .before .before .before .before .before .before .before .before .before .before .before .action .ensures) (c .before .before .before .before .before .before .before .before .before .before .before .before .before .n .given .1) (c .before .before .before .before .before .before .before .before .before .before .before .before .before .before .before .before .before .before .before .before .before .before .before .pre .1 .0) in
-    (omega (arith, c .before .before .before .before .before .before .before .before .before .before .before .before .before .before .before .before .before .before .before .before .before .before .before .pre .1 .0 .inside, c .before .before .before .before .before .before .before .before .before .before .before .before .before .before .before .before .before .before .before .before .before .before .before .pre .1 .0 .room, c .before .before .before .before .before .before .before .before .before .before .before .before .before .before .before .before .before .before .before .before .before .before .before .pre .1 .1 .1), omega (arith, ready .inside, ready .room, ready .few), omega arith)
+offer-enum-known-k-2 t c =
+    c .match2 .keys1
 
--- src/process.rt:93:21
+offer-enum-known-e : (t : ℕ) → offer-lts.Need-enum-known-e (
+  peek-reads.Asked,
+  peek-reads.Learnt,
+  braced-reads.Asked,
+  braced-reads.Learnt,
+  node-reads.Asked,
+  node-reads.Learnt,
+  cont-below t,
+  cont.Post,
+) (offer-at t) offer.Post
+offer-enum-known-e t c =
+    c .match2 .keys2
+
+offer-add-root-2 : (t : ℕ) → offer-lts.Need-add-root-2 (
+  peek-reads.Asked,
+  peek-reads.Learnt,
+  braced-reads.Asked,
+  braced-reads.Learnt,
+  node-reads.Asked,
+  node-reads.Learnt,
+  cont-below t,
+  cont.Post,
+) (offer-at t) offer.Post
+offer-add-root-2 t c =
+    let later = offer-ready-cont (c .before .before .before .before .before .before .before .before .before .before .before .before .before .before .before .before .before .before .before .before .args .toks .now) (c .before .before .before .before .before .before .before .before .before .before .before .before .before .before .before .before .before .before .before .before .args .nodes .now) (c .before .before .before .before .before .before .before .before .before .before .before .before .before .before .before .before .before .before .before .before .args .at) (c .before .before .before .before .before .before .before .before .before .before .before .before .before .before .before .before .before .before .before .before .args .used) (c .before .before .before .before .before .before .before .before .before .before .before .before .before .before .before .before .before .before .before .before .args .sums) (c .before .before .before .before .before .before .before .before .before .before .before .before .before .before .before .before .before .before .before .before .args .first) (same (c .before .before .before .before .before .before .before .before .before .before .before .before .before .before .before .before .before .peek .ensures) (c .before .before .before .before .before .before .before .before .before .before .before .before .before .before .before .before .if1 .left)) _ (c .before .before .before .before .before .before .before .before .before .before .before .before .before .before .braced .ensures) (c .before .before .before .before .before .before .before .before .before .before .point .given .1) (same (c .before .before .before .before .before .before .before .before .peek2 .ensures) (c .before .before .before .before .before .before .before .if2 .left)) (c .before .before .before .before .before .before .before .before .before .before .before .before .before .before .before .before .before .before .before .before .pre .1 .0) in
+    let v = tally-of (c .before .e .given .1) (c .before .before .before .before .before .cont .ensures .1) in
+    omega (arith, later .room, later .few, v .made .span .within, v .made .span .fewer)
+
+offer-node-requires-2 : (t : ℕ) → offer-lts.Need-node-requires-2 (
+  peek-reads.Asked,
+  peek-reads.Learnt,
+  braced-reads.Asked,
+  braced-reads.Learnt,
+  node-reads.Asked,
+  node-reads.Learnt,
+  cont-below t,
+  cont.Post,
+) (offer-at t) offer.Post
+offer-node-requires-2 t c κs =
+    let ready = offer-ready (c .before .before .before .before .before .before .before .before .before .before .before .before .before .before .before .before .before .before .before .before .before .args .toks .now) (c .before .before .before .before .before .before .before .before .before .before .before .before .before .before .before .before .before .before .before .before .before .args .nodes .now) (c .before .before .before .before .before .before .before .before .before .before .before .before .before .before .before .before .before .before .before .before .before .args .at) (c .before .before .before .before .before .before .before .before .before .before .before .before .before .before .before .before .before .before .before .before .before .args .used) (c .before .before .before .before .before .before .before .before .before .before .before .before .before .before .before .before .before .before .before .before .before .args .sums) (c .before .before .before .before .before .before .before .before .before .before .before .before .before .before .before .before .before .before .before .before .before .args .first) (same (c .before .before .before .before .before .before .before .before .before .before .before .before .before .before .before .before .before .before .peek .ensures) (c .before .before .before .before .before .before .before .before .before .before .before .before .before .before .before .before .before .if1 .left)) _ (c .before .before .before .before .before .before .before .before .before .before .before .before .before .before .before .braced .ensures) (c .before .before .before .before .before .before .before .before .before .before .before .point .given .1) (c .before .before .before .before .before .before .before .before .before .before .before .before .before .before .before .before .before .before .before .before .before .pre .1 .0) in
+    let inner = offer-inner (c .before .before .before .before .before .before .before .before .before .before .before .before .before .before .before .before .before .before .before .before .before .args .toks .now) (c .before .before .before .before .before .before .before .before .before .before .before .before .before .before .before .before .before .before .before .before .before .args .nodes .now) (c .before .before .before .before .before .before .before .before .before .before .before .before .before .before .before .before .before .before .before .before .before .args .at) (c .before .before .before .before .before .before .before .before .before .before .before .before .before .before .before .before .before .before .before .before .before .args .used) (c .before .before .before .before .before .before .before .before .before .before .before .before .before .before .before .before .before .before .before .before .before .args .sums) (c .before .before .before .before .before .before .before .before .before .before .before .before .before .before .before .before .before .before .before .before .before .args .first) (same (c .before .before .before .before .before .before .before .before .before .before .before .before .before .before .before .before .before .before .peek .ensures) (c .before .before .before .before .before .before .before .before .before .before .before .before .before .before .before .before .before .if1 .left)) _ (c .before .before .before .before .before .before .before .before .before .before .before .before .before .before .before .braced .ensures) (c .before .before .before .before .before .before .before .before .before .before .before .point .given .1) in
+    let later = offer-ready-cont (c .before .before .before .before .before .before .before .before .before .before .before .before .before .before .before .before .before .before .before .before .before .args .toks .now) (c .before .before .before .before .before .before .before .before .before .before .before .before .before .before .before .before .before .before .before .before .before .args .nodes .now) (c .before .before .before .before .before .before .before .before .before .before .before .before .before .before .before .before .before .before .before .before .before .args .at) (c .before .before .before .before .before .before .before .before .before .before .before .before .before .before .before .before .before .before .before .before .before .args .used) (c .before .before .before .before .before .before .before .before .before .before .before .before .before .before .before .before .before .before .before .before .before .args .sums) (c .before .before .before .before .before .before .before .before .before .before .before .before .before .before .before .before .before .before .before .before .before .args .first) (same (c .before .before .before .before .before .before .before .before .before .before .before .before .before .before .before .before .before .before .peek .ensures) (c .before .before .before .before .before .before .before .before .before .before .before .before .before .before .before .before .before .if1 .left)) _ (c .before .before .before .before .before .before .before .before .before .before .before .before .before .before .before .braced .ensures) (c .before .before .before .before .before .before .before .before .before .before .before .point .given .1) (same (c .before .before .before .before .before .before .before .before .before .peek2 .ensures) (c .before .before .before .before .before .before .before .before .if2 .left)) (c .before .before .before .before .before .before .before .before .before .before .before .before .before .before .before .before .before .before .before .before .before .pre .1 .0) in
+    (omega (arith, c .before .before .before .before .before .before .before .before .before .before .before .before .before .before .before .before .before .before .before .before .before .pre .1 .0 .inside, c .before .before .before .before .before .before .before .before .before .before .before .before .before .before .before .before .before .before .before .before .before .pre .1 .0 .room, c .before .before .before .before .before .before .before .before .before .before .before .before .before .before .before .before .before .before .before .before .before .pre .1 .1 .1), omega (arith, ready .inside, ready .room, ready .few, inner .below), omega (arith, later .inside, later .room, later .few))
+
 offer-same-length-2 : (t : ℕ) → offer-lts.Need-same-length-2 (
   peek-reads.Asked,
   peek-reads.Learnt,
-  action-reads.Asked,
-  action-reads.Learnt,
-  rate-reads.Asked,
-  rate-reads.Learnt,
+  braced-reads.Asked,
+  braced-reads.Learnt,
   node-reads.Asked,
   node-reads.Learnt,
   cont-below t,
@@ -1879,152 +1847,24 @@ offer-same-length-2 : (t : ℕ) → offer-lts.Need-same-length-2 (
 offer-same-length-2 t c =
     omega arith
 
--- src/process.rt:93:21
 offer-returns-3 : (t : ℕ) → offer-lts.Need-returns-3 (
   peek-reads.Asked,
   peek-reads.Learnt,
-  action-reads.Asked,
-  action-reads.Learnt,
-  rate-reads.Asked,
-  rate-reads.Learnt,
+  braced-reads.Asked,
+  braced-reads.Learnt,
   node-reads.Asked,
   node-reads.Learnt,
   cont-below t,
   cont.Post,
 ) (offer-at t) offer.Post
 offer-returns-3 t c =
-    let ready = offer-ready (c .before .before .before .before .before .before .before .before .before .before .before .before .before .before .before .before .before .before .before .before .before .before .before .before .before .before .args .toks .now) (c .before .before .before .before .before .before .before .before .before .before .before .before .before .before .before .before .before .before .before .before .before .before .before .before .before .before .args .nodes .now) (c .before .before .before .before .before .before .before .before .before .before .before .before .before .before .before .before .before .before .before .before .before .before .before .before .before .before .args .at) (c .before .before .before .before .before .before .before .before .before .before .before .before .before .before .before .before .before .before .before .before .before .before .before .before .before .before .args .used) (c .before .before .before .before .before .before .before .before .before .before .before .before .before .before .before .before .before .before .before .before .before .before .before .before .before .before .args .sums) (c .before .before .before .before .before .before .before .before .before .before .before .before .before .before .before .before .before .before .before .before .before .before .before .before .before .before .args .first) (same (c .before .before .before .before .before .before .before .before .before .before .before .before .before .before .before .before .before .before .before .before .before .before .before .peek .ensures) (c .before .before .before .before .before .before .before .before .before .before .before .before .before .before .before .before .before .before .before .before .before .before .if1 .left)) _ (c .before .before .before .before .before .before .before .before .before .before .before .before .before .before .before .before .before .before .before .before .action .ensures) (c .before .before .before .before .before .before .before .before .before .before .before .before .before .before .before .before .n .given .1) (c .before .before .before .before .before .before .before .before .before .before .before .before .before .before .before .before .before .before .before .before .before .before .before .before .before .before .pre .1 .0) in
-    offer-stop (c .before .before .before .before .before .before .before .before .before .before .before .before .before .before .before .before .before .before .before .before .before .before .before .before .before .before .args .toks .now) (c .before .before .before .before .before .before .before .before .before .before .before .before .before .before .before .before .before .before .before .before .before .before .before .before .before .before .args .nodes .now) (c .before .before .before .before .before .before .before .before .before .before .before .before .before .before .before .before .before .before .before .before .before .before .before .before .before .before .args .at) (c .before .before .before .before .before .before .before .before .before .before .before .before .before .before .before .before .before .before .before .before .before .before .before .before .before .before .args .used) (c .before .before .before .before .before .before .before .before .before .before .before .before .before .before .before .before .before .before .before .before .before .before .before .before .before .before .args .sums) (c .before .before .before .before .before .before .before .before .before .before .before .before .before .before .before .before .before .before .before .before .before .before .before .before .before .before .args .first) (same (c .before .before .before .before .before .before .before .before .before .before .before .before .before .before .before .before .before .before .before .before .before .before .before .peek .ensures) (c .before .before .before .before .before .before .before .before .before .before .before .before .before .before .before .before .before .before .before .before .before .before .if1 .left)) _ (c .before .before .before .before .before .before .before .before .before .before .before .before .before .before .before .before .before .before .before .before .action .ensures) (c .before .before .before .before .before .before .before .before .before .before .before .before .before .before .before .before .n .given .1) _ (c .before .before .before .before .before .before .before .before .before .before .before .before .before .rate .ensures) (c .before .before .before .before .before .before .before .before .before .m .given .1) (same (c .before .before .before .before .before .before .before .peek2 .ensures) (c .before .before .before .before .before .before .if2 .left)) (isnt (c .before .before .before .before .before .peek3 .ensures) (c .before .before .before .before .if3 .taken)) (record { written = c .before .before .node .ensures; token-fits = omega (arith, c .before .before .before .before .before .before .before .before .before .before .before .before .before .before .before .before .before .before .before .before .before .before .before .before .before .before .pre .1 .0 .inside, c .before .before .before .before .before .before .before .before .before .before .before .before .before .before .before .before .before .before .before .before .before .before .before .before .before .before .pre .1 .0 .room, c .before .before .before .before .before .before .before .before .before .before .before .before .before .before .before .before .before .before .before .before .before .before .before .before .before .before .pre .1 .1 .1); left-fits = omega (arith, ready .inside, ready .room, ready .few); third-fits = omega arith })
+    offer-fault (c .before .before .before .before .before .before .before .before .before .before .before .args .toks .now) (c .before .before .before .before .before .before .before .before .before .before .before .args .nodes .now) (c .before .before .before .before .before .before .before .before .before .before .before .args .at) (c .before .before .before .before .before .before .before .before .before .before .before .args .used) (c .before .before .before .before .before .before .before .before .before .before .before .args .sums) (c .before .before .before .before .before .before .before .before .before .before .before .args .first) (same (c .before .before .before .before .before .before .before .before .peek .ensures) (c .before .before .before .before .before .before .before .if1 .left)) _ (c .before .before .before .before .before .braced .ensures) (c .before .k .given .1)
 
--- src/process.rt:95:34
-offer-add-cont : (t : ℕ) → offer-lts.Need-add-cont (
-  peek-reads.Asked,
-  peek-reads.Learnt,
-  action-reads.Asked,
-  action-reads.Learnt,
-  rate-reads.Asked,
-  rate-reads.Learnt,
-  node-reads.Asked,
-  node-reads.Learnt,
-  cont-below t,
-  cont.Post,
-) (offer-at t) offer.Post
-offer-add-cont t c =
-    let later = offer-ready-cont (c .before .before .before .before .before .before .before .before .before .before .before .before .before .before .before .before .before .before .before .before .before .before .args .toks .now) (c .before .before .before .before .before .before .before .before .before .before .before .before .before .before .before .before .before .before .before .before .before .before .args .nodes .now) (c .before .before .before .before .before .before .before .before .before .before .before .before .before .before .before .before .before .before .before .before .before .before .args .at) (c .before .before .before .before .before .before .before .before .before .before .before .before .before .before .before .before .before .before .before .before .before .before .args .used) (c .before .before .before .before .before .before .before .before .before .before .before .before .before .before .before .before .before .before .before .before .before .before .args .sums) (c .before .before .before .before .before .before .before .before .before .before .before .before .before .before .before .before .before .before .before .before .before .before .args .first) (same (c .before .before .before .before .before .before .before .before .before .before .before .before .before .before .before .before .before .before .before .peek .ensures) (c .before .before .before .before .before .before .before .before .before .before .before .before .before .before .before .before .before .before .if1 .left)) _ (c .before .before .before .before .before .before .before .before .before .before .before .before .before .before .before .before .action .ensures) (c .before .before .before .before .before .before .before .before .before .before .before .before .n .given .1) _ (c .before .before .before .before .before .before .before .before .before .rate .ensures) (c .before .before .before .before .before .m .given .1) (same (c .before .before .before .peek2 .ensures) (c .before .before .if2 .left)) (same (c .before .peek3 .ensures) (c .if3 .left)) (c .before .before .before .before .before .before .before .before .before .before .before .before .before .before .before .before .before .before .before .before .before .before .pre .1 .0) in
-    omega (arith, later .inside, later .room)
-
--- src/process.rt:95:52
-offer-add-cont-2 : (t : ℕ) → offer-lts.Need-add-cont-2 (
-  peek-reads.Asked,
-  peek-reads.Learnt,
-  action-reads.Asked,
-  action-reads.Learnt,
-  rate-reads.Asked,
-  rate-reads.Learnt,
-  node-reads.Asked,
-  node-reads.Learnt,
-  cont-below t,
-  cont.Post,
-) (offer-at t) offer.Post
-offer-add-cont-2 t c =
-    let later = offer-ready-cont (c .before .before .before .before .before .before .before .before .before .before .before .before .before .before .before .before .before .before .before .before .before .before .before .args .toks .now) (c .before .before .before .before .before .before .before .before .before .before .before .before .before .before .before .before .before .before .before .before .before .before .before .args .nodes .now) (c .before .before .before .before .before .before .before .before .before .before .before .before .before .before .before .before .before .before .before .before .before .before .before .args .at) (c .before .before .before .before .before .before .before .before .before .before .before .before .before .before .before .before .before .before .before .before .before .before .before .args .used) (c .before .before .before .before .before .before .before .before .before .before .before .before .before .before .before .before .before .before .before .before .before .before .before .args .sums) (c .before .before .before .before .before .before .before .before .before .before .before .before .before .before .before .before .before .before .before .before .before .before .before .args .first) (same (c .before .before .before .before .before .before .before .before .before .before .before .before .before .before .before .before .before .before .before .before .peek .ensures) (c .before .before .before .before .before .before .before .before .before .before .before .before .before .before .before .before .before .before .before .if1 .left)) _ (c .before .before .before .before .before .before .before .before .before .before .before .before .before .before .before .before .before .action .ensures) (c .before .before .before .before .before .before .before .before .before .before .before .before .before .n .given .1) _ (c .before .before .before .before .before .before .before .before .before .before .rate .ensures) (c .before .before .before .before .before .before .m .given .1) (same (c .before .before .before .before .peek2 .ensures) (c .before .before .before .if2 .left)) (same (c .before .before .peek3 .ensures) (c .before .if3 .left)) (c .before .before .before .before .before .before .before .before .before .before .before .before .before .before .before .before .before .before .before .before .before .before .before .pre .1 .0) in
-    omega (arith, later .inside, later .room, later .few)
-
--- src/process.rt:95:23
-offer-cont-requires : (t : ℕ) → offer-lts.Need-cont-requires (
-  peek-reads.Asked,
-  peek-reads.Learnt,
-  action-reads.Asked,
-  action-reads.Learnt,
-  rate-reads.Asked,
-  rate-reads.Learnt,
-  node-reads.Asked,
-  node-reads.Learnt,
-  cont-below t,
-  cont.Post,
-) (offer-at t) offer.Post
-offer-cont-requires t c κs =
-    let later = offer-ready-cont (c .before .before .before .before .before .before .before .before .before .before .before .before .before .before .before .before .before .before .before .before .before .before .before .args .toks .now) (c .before .before .before .before .before .before .before .before .before .before .before .before .before .before .before .before .before .before .before .before .before .before .before .args .nodes .now) (c .before .before .before .before .before .before .before .before .before .before .before .before .before .before .before .before .before .before .before .before .before .before .before .args .at) (c .before .before .before .before .before .before .before .before .before .before .before .before .before .before .before .before .before .before .before .before .before .before .before .args .used) (c .before .before .before .before .before .before .before .before .before .before .before .before .before .before .before .before .before .before .before .before .before .before .before .args .sums) (c .before .before .before .before .before .before .before .before .before .before .before .before .before .before .before .before .before .before .before .before .before .before .before .args .first) (same (c .before .before .before .before .before .before .before .before .before .before .before .before .before .before .before .before .before .before .before .before .peek .ensures) (c .before .before .before .before .before .before .before .before .before .before .before .before .before .before .before .before .before .before .before .if1 .left)) _ (c .before .before .before .before .before .before .before .before .before .before .before .before .before .before .before .before .before .action .ensures) (c .before .before .before .before .before .before .before .before .before .before .before .before .before .n .given .1) _ (c .before .before .before .before .before .before .before .before .before .before .rate .ensures) (c .before .before .before .before .before .before .m .given .1) (same (c .before .before .before .before .peek2 .ensures) (c .before .before .before .if2 .left)) (same (c .before .before .peek3 .ensures) (c .before .if3 .left)) (c .before .before .before .before .before .before .before .before .before .before .before .before .before .before .before .before .before .before .before .before .before .before .before .pre .1 .0) in
-    let p = made-of (c .before .before .before .before .before .before .before .before .before .before .before .before .before .n .given .1) (c .before .before .before .before .before .before .before .before .before .before .before .before .before .before .before .before .before .action .ensures .1) in
-    let m = made-of (c .before .before .before .before .before .before .m .given .1) (c .before .before .before .before .before .before .before .before .before .before .rate .ensures .1) in
-    (omega (arith, later .inside, p .span .onward, m .span .onward), (later, omega (arith, p .span .onward, m .span .onward, c .before .before .before .before .before .before .before .before .before .before .before .before .before .before .before .before .before .before .before .before .before .before .before .pre .1 .1 .0)))
-
--- src/process.rt:96:36
-offer-enum-known-k-3 : (t : ℕ) → offer-lts.Need-enum-known-k-3 (
-  peek-reads.Asked,
-  peek-reads.Learnt,
-  action-reads.Asked,
-  action-reads.Learnt,
-  rate-reads.Asked,
-  rate-reads.Learnt,
-  node-reads.Asked,
-  node-reads.Learnt,
-  cont-below t,
-  cont.Post,
-) (offer-at t) offer.Post
-offer-enum-known-k-3 t c =
-    c .match3 .keys1
-
--- src/process.rt:97:35
-offer-enum-known-e : (t : ℕ) → offer-lts.Need-enum-known-e (
-  peek-reads.Asked,
-  peek-reads.Learnt,
-  action-reads.Asked,
-  action-reads.Learnt,
-  rate-reads.Asked,
-  rate-reads.Learnt,
-  node-reads.Asked,
-  node-reads.Learnt,
-  cont-below t,
-  cont.Post,
-) (offer-at t) offer.Post
-offer-enum-known-e t c =
-    c .match3 .keys2
-
--- src/process.rt:98:36
-offer-add-root-2 : (t : ℕ) → offer-lts.Need-add-root-2 (
-  peek-reads.Asked,
-  peek-reads.Learnt,
-  action-reads.Asked,
-  action-reads.Learnt,
-  rate-reads.Asked,
-  rate-reads.Learnt,
-  node-reads.Asked,
-  node-reads.Learnt,
-  cont-below t,
-  cont.Post,
-) (offer-at t) offer.Post
-offer-add-root-2 t c =
-    let later = offer-ready-cont (c .before .before .before .before .before .before .before .before .before .before .before .before .before .before .before .before .before .before .before .before .before .before .before .before .before .before .before .before .before .args .toks .now) (c .before .before .before .before .before .before .before .before .before .before .before .before .before .before .before .before .before .before .before .before .before .before .before .before .before .before .before .before .before .args .nodes .now) (c .before .before .before .before .before .before .before .before .before .before .before .before .before .before .before .before .before .before .before .before .before .before .before .before .before .before .before .before .before .args .at) (c .before .before .before .before .before .before .before .before .before .before .before .before .before .before .before .before .before .before .before .before .before .before .before .before .before .before .before .before .before .args .used) (c .before .before .before .before .before .before .before .before .before .before .before .before .before .before .before .before .before .before .before .before .before .before .before .before .before .before .before .before .before .args .sums) (c .before .before .before .before .before .before .before .before .before .before .before .before .before .before .before .before .before .before .before .before .before .before .before .before .before .before .before .before .before .args .first) (same (c .before .before .before .before .before .before .before .before .before .before .before .before .before .before .before .before .before .before .before .before .before .before .before .before .before .before .peek .ensures) (c .before .before .before .before .before .before .before .before .before .before .before .before .before .before .before .before .before .before .before .before .before .before .before .before .before .if1 .left)) _ (c .before .before .before .before .before .before .before .before .before .before .before .before .before .before .before .before .before .before .before .before .before .before .before .action .ensures) (c .before .before .before .before .before .before .before .before .before .before .before .before .before .before .before .before .before .before .before .n .given .1) _ (c .before .before .before .before .before .before .before .before .before .before .before .before .before .before .before .before .rate .ensures) (c .before .before .before .before .before .before .before .before .before .before .before .before .m .given .1) (same (c .before .before .before .before .before .before .before .before .before .before .peek2 .ensures) (c .before .before .before .before .before .before .before .before .before .if2 .left)) (same (c .before .before .before .before .before .before .before .before .peek3 .ensures) (c .before .before .before .before .before .before .before .if3 .left)) (c .before .before .before .before .before .before .before .before .before .before .before .before .before .before .before .before .before .before .before .before .before .before .before .before .before .before .before .before .before .pre .1 .0) in
-    let v = tally-of (c .before .e .given .1) (c .before .before .before .before .before .cont .ensures .1) in
-    omega (arith, later .room, later .few, v .made .span .within, v .made .span .fewer)
-
--- src/process.rt:99:25
-offer-node-requires-2 : (t : ℕ) → offer-lts.Need-node-requires-2 (
-  peek-reads.Asked,
-  peek-reads.Learnt,
-  action-reads.Asked,
-  action-reads.Learnt,
-  rate-reads.Asked,
-  rate-reads.Learnt,
-  node-reads.Asked,
-  node-reads.Learnt,
-  cont-below t,
-  cont.Post,
-) (offer-at t) offer.Post
-offer-node-requires-2 t c κs =
-    let ready = offer-ready (c .before .before .before .before .before .before .before .before .before .before .before .before .before .before .before .before .before .before .before .before .before .before .before .before .before .before .before .before .before .before .args .toks .now) (c .before .before .before .before .before .before .before .before .before .before .before .before .before .before .before .before .before .before .before .before .before .before .before .before .before .before .before .before .before .before .args .nodes .now) (c .before .before .before .before .before .before .before .before .before .before .before .before .before .before .before .before .before .before .before .before .before .before .before .before .before .before .before .before .before .before .args .at) (c .before .before .before .before .before .before .before .before .before .before .before .before .before .before .before .before .before .before .before .before .before .before .before .before .before .before .before .before .before .before .args .used) (c .before .before .before .before .before .before .before .before .before .before .before .before .before .before .before .before .before .before .before .before .before .before .before .before .before .before .before .before .before .before .args .sums) (c .before .before .before .before .before .before .before .before .before .before .before .before .before .before .before .before .before .before .before .before .before .before .before .before .before .before .before .before .before .before .args .first) (same (c .before .before .before .before .before .before .before .before .before .before .before .before .before .before .before .before .before .before .before .before .before .before .before .before .before .before .before .peek .ensures) (c .before .before .before .before .before .before .before .before .before .before .before .before .before .before .before .before .before .before .before .before .before .before .before .before .before .before .if1 .left)) _ (c .before .before .before .before .before .before .before .before .before .before .before .before .before .before .before .before .before .before .before .before .before .before .before .before .action .ensures) (c .before .before .before .before .before .before .before .before .before .before .before .before .before .before .before .before .before .before .before .before .n .given .1) (c .before .before .before .before .before .before .before .before .before .before .before .before .before .before .before .before .before .before .before .before .before .before .before .before .before .before .before .before .before .before .pre .1 .0) in
-    let later = offer-ready-cont (c .before .before .before .before .before .before .before .before .before .before .before .before .before .before .before .before .before .before .before .before .before .before .before .before .before .before .before .before .before .before .args .toks .now) (c .before .before .before .before .before .before .before .before .before .before .before .before .before .before .before .before .before .before .before .before .before .before .before .before .before .before .before .before .before .before .args .nodes .now) (c .before .before .before .before .before .before .before .before .before .before .before .before .before .before .before .before .before .before .before .before .before .before .before .before .before .before .before .before .before .before .args .at) (c .before .before .before .before .before .before .before .before .before .before .before .before .before .before .before .before .before .before .before .before .before .before .before .before .before .before .before .before .before .before .args .used) (c .before .before .before .before .before .before .before .before .before .before .before .before .before .before .before .before .before .before .before .before .before .before .before .before .before .before .before .before .before .before .args .sums) (c .before .before .before .before .before .before .before .before .before .before .before .before .before .before .before .before .before .before .before .before .before .before .before .before .before .before .before .before .before .before .args .first) (same (c .before .before .before .before .before .before .before .before .before .before .before .before .before .before .before .before .before .before .before .before .before .before .before .before .before .before .before .peek .ensures) (c .before .before .before .before .before .before .before .before .before .before .before .before .before .before .before .before .before .before .before .before .before .before .before .before .before .before .if1 .left)) _ (c .before .before .before .before .before .before .before .before .before .before .before .before .before .before .before .before .before .before .before .before .before .before .before .before .action .ensures) (c .before .before .before .before .before .before .before .before .before .before .before .before .before .before .before .before .before .before .before .before .n .given .1) _ (c .before .before .before .before .before .before .before .before .before .before .before .before .before .before .before .before .before .rate .ensures) (c .before .before .before .before .before .before .before .before .before .before .before .before .before .m .given .1) (same (c .before .before .before .before .before .before .before .before .before .before .before .peek2 .ensures) (c .before .before .before .before .before .before .before .before .before .before .if2 .left)) (same (c .before .before .before .before .before .before .before .before .before .peek3 .ensures) (c .before .before .before .before .before .before .before .before .if3 .left)) (c .before .before .before .before .before .before .before .before .before .before .before .before .before .before .before .before .before .before .before .before .before .before .before .before .before .before .before .before .before .before .pre .1 .0) in
-    (omega (arith, c .before .before .before .before .before .before .before .before .before .before .before .before .before .before .before .before .before .before .before .before .before .before .before .before .before .before .before .before .before .before .pre .1 .0 .inside, c .before .before .before .before .before .before .before .before .before .before .before .before .before .before .before .before .before .before .before .before .before .before .before .before .before .before .before .before .before .before .pre .1 .0 .room, c .before .before .before .before .before .before .before .before .before .before .before .before .before .before .before .before .before .before .before .before .before .before .before .before .before .before .before .before .before .before .pre .1 .1 .1), omega (arith, ready .inside, ready .room, ready .few), omega (arith, later .inside, later .room, later .few))
-
--- src/process.rt:70:1
 offer-same-length-3 : (t : ℕ) → offer-lts.Need-same-length-3 (
   peek-reads.Asked,
   peek-reads.Learnt,
-  action-reads.Asked,
-  action-reads.Learnt,
-  rate-reads.Asked,
-  rate-reads.Learnt,
+  braced-reads.Asked,
+  braced-reads.Learnt,
   node-reads.Asked,
   node-reads.Learnt,
   cont-below t,
@@ -2033,30 +1873,24 @@ offer-same-length-3 : (t : ℕ) → offer-lts.Need-same-length-3 (
 offer-same-length-3 t c =
     omega arith
 
--- src/process.rt:70:1
 offer-returns-4 : (t : ℕ) → offer-lts.Need-returns-4 (
   peek-reads.Asked,
   peek-reads.Learnt,
-  action-reads.Asked,
-  action-reads.Learnt,
-  rate-reads.Asked,
-  rate-reads.Learnt,
+  braced-reads.Asked,
+  braced-reads.Learnt,
   node-reads.Asked,
   node-reads.Learnt,
   cont-below t,
   cont.Post,
 ) (offer-at t) offer.Post
 offer-returns-4 t c =
-    offer-fault (c .before .before .before .before .before .before .before .before .before .before .before .args .toks .now) (c .before .before .before .before .before .before .before .before .before .before .before .args .nodes .now) (c .before .before .before .before .before .before .before .before .before .before .before .args .at) (c .before .before .before .before .before .before .before .before .before .before .before .args .used) (c .before .before .before .before .before .before .before .before .before .before .before .args .sums) (c .before .before .before .before .before .before .before .before .before .before .before .args .first) (same (c .before .before .before .before .before .before .before .before .peek .ensures) (c .before .before .before .before .before .before .before .if1 .left)) _ (c .before .before .before .before .before .action .ensures) (c .before .k .given .1)
+    offer-cont-fault (c .before .before .before .before .before .before .before .before .before .before .before .before .before .before .before .before .before .before .before .before .args .toks .now) (c .before .before .before .before .before .before .before .before .before .before .before .before .before .before .before .before .before .before .before .before .args .nodes .now) (c .before .before .before .before .before .before .before .before .before .before .before .before .before .before .before .before .before .before .before .before .args .at) (c .before .before .before .before .before .before .before .before .before .before .before .before .before .before .before .before .before .before .before .before .args .used) (c .before .before .before .before .before .before .before .before .before .before .before .before .before .before .before .before .before .before .before .before .args .sums) (c .before .before .before .before .before .before .before .before .before .before .before .before .before .before .before .before .before .before .before .before .args .first) (same (c .before .before .before .before .before .before .before .before .before .before .before .before .before .before .before .before .before .peek .ensures) (c .before .before .before .before .before .before .before .before .before .before .before .before .before .before .before .before .if1 .left)) _ (c .before .before .before .before .before .before .before .before .before .before .before .before .before .before .braced .ensures) (c .before .before .before .before .before .before .before .before .before .before .point .given .1) (same (c .before .before .before .before .before .before .before .before .peek2 .ensures) (c .before .before .before .before .before .before .before .if2 .left)) _ (c .before .before .before .before .before .cont .ensures) (c .before .k2 .given .1)
 
--- src/process.rt:70:1
 offer-same-length-4 : (t : ℕ) → offer-lts.Need-same-length-4 (
   peek-reads.Asked,
   peek-reads.Learnt,
-  action-reads.Asked,
-  action-reads.Learnt,
-  rate-reads.Asked,
-  rate-reads.Learnt,
+  braced-reads.Asked,
+  braced-reads.Learnt,
   node-reads.Asked,
   node-reads.Learnt,
   cont-below t,
@@ -2065,87 +1899,21 @@ offer-same-length-4 : (t : ℕ) → offer-lts.Need-same-length-4 (
 offer-same-length-4 t c =
     omega arith
 
--- src/process.rt:70:1
 offer-returns-5 : (t : ℕ) → offer-lts.Need-returns-5 (
   peek-reads.Asked,
   peek-reads.Learnt,
-  action-reads.Asked,
-  action-reads.Learnt,
-  rate-reads.Asked,
-  rate-reads.Learnt,
+  braced-reads.Asked,
+  braced-reads.Learnt,
   node-reads.Asked,
   node-reads.Learnt,
   cont-below t,
   cont.Post,
 ) (offer-at t) offer.Post
 offer-returns-5 t c =
-    offer-unrated (c .before .before .before .before .before .before .before .before .before .before .before .before .before .before .before .before .before .before .args .toks .now) (c .before .before .before .before .before .before .before .before .before .before .before .before .before .before .before .before .before .before .args .nodes .now) (c .before .before .before .before .before .before .before .before .before .before .before .before .before .before .before .before .before .before .args .at) (c .before .before .before .before .before .before .before .before .before .before .before .before .before .before .before .before .before .before .args .used) (c .before .before .before .before .before .before .before .before .before .before .before .before .before .before .before .before .before .before .args .sums) (c .before .before .before .before .before .before .before .before .before .before .before .before .before .before .before .before .before .before .args .first) (same (c .before .before .before .before .before .before .before .before .before .before .before .before .before .before .before .peek .ensures) (c .before .before .before .before .before .before .before .before .before .before .before .before .before .before .if1 .left)) _ (c .before .before .before .before .before .before .before .before .before .before .before .before .action .ensures) (c .before .before .before .before .before .before .before .before .n .given .1) _ (c .before .before .before .before .before .rate .ensures) (c .before .k2 .given .1)
-
--- src/process.rt:70:1
-offer-same-length-5 : (t : ℕ) → offer-lts.Need-same-length-5 (
-  peek-reads.Asked,
-  peek-reads.Learnt,
-  action-reads.Asked,
-  action-reads.Learnt,
-  rate-reads.Asked,
-  rate-reads.Learnt,
-  node-reads.Asked,
-  node-reads.Learnt,
-  cont-below t,
-  cont.Post,
-) (offer-at t) offer.Post
-offer-same-length-5 t c =
-    omega arith
-
--- src/process.rt:70:1
-offer-returns-6 : (t : ℕ) → offer-lts.Need-returns-6 (
-  peek-reads.Asked,
-  peek-reads.Learnt,
-  action-reads.Asked,
-  action-reads.Learnt,
-  rate-reads.Asked,
-  rate-reads.Learnt,
-  node-reads.Asked,
-  node-reads.Learnt,
-  cont-below t,
-  cont.Post,
-) (offer-at t) offer.Post
-offer-returns-6 t c =
-    offer-cont-fault (c .before .before .before .before .before .before .before .before .before .before .before .before .before .before .before .before .before .before .before .before .before .before .before .before .before .before .before .before .before .args .toks .now) (c .before .before .before .before .before .before .before .before .before .before .before .before .before .before .before .before .before .before .before .before .before .before .before .before .before .before .before .before .before .args .nodes .now) (c .before .before .before .before .before .before .before .before .before .before .before .before .before .before .before .before .before .before .before .before .before .before .before .before .before .before .before .before .before .args .at) (c .before .before .before .before .before .before .before .before .before .before .before .before .before .before .before .before .before .before .before .before .before .before .before .before .before .before .before .before .before .args .used) (c .before .before .before .before .before .before .before .before .before .before .before .before .before .before .before .before .before .before .before .before .before .before .before .before .before .before .before .before .before .args .sums) (c .before .before .before .before .before .before .before .before .before .before .before .before .before .before .before .before .before .before .before .before .before .before .before .before .before .before .before .before .before .args .first) (same (c .before .before .before .before .before .before .before .before .before .before .before .before .before .before .before .before .before .before .before .before .before .before .before .before .before .before .peek .ensures) (c .before .before .before .before .before .before .before .before .before .before .before .before .before .before .before .before .before .before .before .before .before .before .before .before .before .if1 .left)) _ (c .before .before .before .before .before .before .before .before .before .before .before .before .before .before .before .before .before .before .before .before .before .before .before .action .ensures) (c .before .before .before .before .before .before .before .before .before .before .before .before .before .before .before .before .before .before .before .n .given .1) _ (c .before .before .before .before .before .before .before .before .before .before .before .before .before .before .before .before .rate .ensures) (c .before .before .before .before .before .before .before .before .before .before .before .before .m .given .1) (same (c .before .before .before .before .before .before .before .before .before .before .peek2 .ensures) (c .before .before .before .before .before .before .before .before .before .if2 .left)) (same (c .before .before .before .before .before .before .before .before .peek3 .ensures) (c .before .before .before .before .before .before .before .if3 .left)) _ (c .before .before .before .before .before .cont .ensures) (c .before .k3 .given .1)
-
--- src/process.rt:70:1
-offer-same-length-6 : (t : ℕ) → offer-lts.Need-same-length-6 (
-  peek-reads.Asked,
-  peek-reads.Learnt,
-  action-reads.Asked,
-  action-reads.Learnt,
-  rate-reads.Asked,
-  rate-reads.Learnt,
-  node-reads.Asked,
-  node-reads.Learnt,
-  cont-below t,
-  cont.Post,
-) (offer-at t) offer.Post
-offer-same-length-6 t c =
-    omega (arith, c .before .before .before .before .before .before .before .before .before .before .before .before .before .before .before .before .before .before .before .before .before .before .before .before .before .before .nodes .given)
-
--- src/process.rt:70:1
-offer-returns-7 : (t : ℕ) → offer-lts.Need-returns-7 (
-  peek-reads.Asked,
-  peek-reads.Learnt,
-  action-reads.Asked,
-  action-reads.Learnt,
-  rate-reads.Asked,
-  rate-reads.Learnt,
-  node-reads.Asked,
-  node-reads.Learnt,
-  cont-below t,
-  cont.Post,
-) (offer-at t) offer.Post
-offer-returns-7 t c =
-    let ready = offer-ready (c .before .before .before .before .before .before .before .before .before .before .before .before .before .before .before .before .before .before .before .before .before .before .before .before .before .before .before .before .before .before .before .before .before .args .toks .now) (c .before .before .before .before .before .before .before .before .before .before .before .before .before .before .before .before .before .before .before .before .before .before .before .before .before .before .before .before .before .before .before .before .before .args .nodes .now) (c .before .before .before .before .before .before .before .before .before .before .before .before .before .before .before .before .before .before .before .before .before .before .before .before .before .before .before .before .before .before .before .before .before .args .at) (c .before .before .before .before .before .before .before .before .before .before .before .before .before .before .before .before .before .before .before .before .before .before .before .before .before .before .before .before .before .before .before .before .before .args .used) (c .before .before .before .before .before .before .before .before .before .before .before .before .before .before .before .before .before .before .before .before .before .before .before .before .before .before .before .before .before .before .before .before .before .args .sums) (c .before .before .before .before .before .before .before .before .before .before .before .before .before .before .before .before .before .before .before .before .before .before .before .before .before .before .before .before .before .before .before .before .before .args .first) (same (c .before .before .before .before .before .before .before .before .before .before .before .before .before .before .before .before .before .before .before .before .before .before .before .before .before .before .before .before .before .before .peek .ensures) (c .before .before .before .before .before .before .before .before .before .before .before .before .before .before .before .before .before .before .before .before .before .before .before .before .before .before .before .before .before .if1 .left)) _ (c .before .before .before .before .before .before .before .before .before .before .before .before .before .before .before .before .before .before .before .before .before .before .before .before .before .before .before .action .ensures) (c .before .before .before .before .before .before .before .before .before .before .before .before .before .before .before .before .before .before .before .before .before .before .before .n .given .1) (c .before .before .before .before .before .before .before .before .before .before .before .before .before .before .before .before .before .before .before .before .before .before .before .before .before .before .before .before .before .before .before .before .before .pre .1 .0) in
-    let later = offer-ready-cont (c .before .before .before .before .before .before .before .before .before .before .before .before .before .before .before .before .before .before .before .before .before .before .before .before .before .before .before .before .before .before .before .before .before .args .toks .now) (c .before .before .before .before .before .before .before .before .before .before .before .before .before .before .before .before .before .before .before .before .before .before .before .before .before .before .before .before .before .before .before .before .before .args .nodes .now) (c .before .before .before .before .before .before .before .before .before .before .before .before .before .before .before .before .before .before .before .before .before .before .before .before .before .before .before .before .before .before .before .before .before .args .at) (c .before .before .before .before .before .before .before .before .before .before .before .before .before .before .before .before .before .before .before .before .before .before .before .before .before .before .before .before .before .before .before .before .before .args .used) (c .before .before .before .before .before .before .before .before .before .before .before .before .before .before .before .before .before .before .before .before .before .before .before .before .before .before .before .before .before .before .before .before .before .args .sums) (c .before .before .before .before .before .before .before .before .before .before .before .before .before .before .before .before .before .before .before .before .before .before .before .before .before .before .before .before .before .before .before .before .before .args .first) (same (c .before .before .before .before .before .before .before .before .before .before .before .before .before .before .before .before .before .before .before .before .before .before .before .before .before .before .before .before .before .before .peek .ensures) (c .before .before .before .before .before .before .before .before .before .before .before .before .before .before .before .before .before .before .before .before .before .before .before .before .before .before .before .before .before .if1 .left)) _ (c .before .before .before .before .before .before .before .before .before .before .before .before .before .before .before .before .before .before .before .before .before .before .before .before .before .before .before .action .ensures) (c .before .before .before .before .before .before .before .before .before .before .before .before .before .before .before .before .before .before .before .before .before .before .before .n .given .1) _ (c .before .before .before .before .before .before .before .before .before .before .before .before .before .before .before .before .before .before .before .before .rate .ensures) (c .before .before .before .before .before .before .before .before .before .before .before .before .before .before .before .before .m .given .1) (same (c .before .before .before .before .before .before .before .before .before .before .before .before .before .before .peek2 .ensures) (c .before .before .before .before .before .before .before .before .before .before .before .before .before .if2 .left)) (same (c .before .before .before .before .before .before .before .before .before .before .before .before .peek3 .ensures) (c .before .before .before .before .before .before .before .before .before .before .before .if3 .left)) (c .before .before .before .before .before .before .before .before .before .before .before .before .before .before .before .before .before .before .before .before .before .before .before .before .before .before .before .before .before .before .before .before .before .pre .1 .0) in
-    offer-dot (c .before .before .before .before .before .before .before .before .before .before .before .before .before .before .before .before .before .before .before .before .before .before .before .before .before .before .before .before .before .before .before .before .before .args .toks .now) (c .before .before .before .before .before .before .before .before .before .before .before .before .before .before .before .before .before .before .before .before .before .before .before .before .before .before .before .before .before .before .before .before .before .args .nodes .now) (c .before .before .before .before .before .before .before .before .before .before .before .before .before .before .before .before .before .before .before .before .before .before .before .before .before .before .before .before .before .before .before .before .before .args .at) (c .before .before .before .before .before .before .before .before .before .before .before .before .before .before .before .before .before .before .before .before .before .before .before .before .before .before .before .before .before .before .before .before .before .args .used) (c .before .before .before .before .before .before .before .before .before .before .before .before .before .before .before .before .before .before .before .before .before .before .before .before .before .before .before .before .before .before .before .before .before .args .sums) (c .before .before .before .before .before .before .before .before .before .before .before .before .before .before .before .before .before .before .before .before .before .before .before .before .before .before .before .before .before .before .before .before .before .args .first) (same (c .before .before .before .before .before .before .before .before .before .before .before .before .before .before .before .before .before .before .before .before .before .before .before .before .before .before .before .before .before .before .peek .ensures) (c .before .before .before .before .before .before .before .before .before .before .before .before .before .before .before .before .before .before .before .before .before .before .before .before .before .before .before .before .before .if1 .left)) _ (c .before .before .before .before .before .before .before .before .before .before .before .before .before .before .before .before .before .before .before .before .before .before .before .before .before .before .before .action .ensures) (c .before .before .before .before .before .before .before .before .before .before .before .before .before .before .before .before .before .before .before .before .before .before .before .n .given .1) _ (c .before .before .before .before .before .before .before .before .before .before .before .before .before .before .before .before .before .before .before .before .rate .ensures) (c .before .before .before .before .before .before .before .before .before .before .before .before .before .before .before .before .m .given .1) (same (c .before .before .before .before .before .before .before .before .before .before .before .before .before .before .peek2 .ensures) (c .before .before .before .before .before .before .before .before .before .before .before .before .before .if2 .left)) (same (c .before .before .before .before .before .before .before .before .before .before .before .before .peek3 .ensures) (c .before .before .before .before .before .before .before .before .before .before .before .if3 .left)) _ (c .before .before .before .before .before .before .before .before .before .cont .ensures) (c .before .before .before .before .before .e .given .1) (record { written = c .before .before .node2 .ensures; token-fits = omega (arith, c .before .before .before .before .before .before .before .before .before .before .before .before .before .before .before .before .before .before .before .before .before .before .before .before .before .before .before .before .before .before .before .before .before .pre .1 .0 .inside, c .before .before .before .before .before .before .before .before .before .before .before .before .before .before .before .before .before .before .before .before .before .before .before .before .before .before .before .before .before .before .before .before .before .pre .1 .0 .room, c .before .before .before .before .before .before .before .before .before .before .before .before .before .before .before .before .before .before .before .before .before .before .before .before .before .before .before .before .before .before .before .before .before .pre .1 .1 .1); left-fits = omega (arith, ready .inside, ready .room, ready .few); third-fits = omega (arith, later .inside, later .room, later .few) })
+    let ready = offer-ready (c .before .before .before .before .before .before .before .before .before .before .before .before .before .before .before .before .before .before .before .before .before .before .before .before .args .toks .now) (c .before .before .before .before .before .before .before .before .before .before .before .before .before .before .before .before .before .before .before .before .before .before .before .before .args .nodes .now) (c .before .before .before .before .before .before .before .before .before .before .before .before .before .before .before .before .before .before .before .before .before .before .before .before .args .at) (c .before .before .before .before .before .before .before .before .before .before .before .before .before .before .before .before .before .before .before .before .before .before .before .before .args .used) (c .before .before .before .before .before .before .before .before .before .before .before .before .before .before .before .before .before .before .before .before .before .before .before .before .args .sums) (c .before .before .before .before .before .before .before .before .before .before .before .before .before .before .before .before .before .before .before .before .before .before .before .before .args .first) (same (c .before .before .before .before .before .before .before .before .before .before .before .before .before .before .before .before .before .before .before .before .before .peek .ensures) (c .before .before .before .before .before .before .before .before .before .before .before .before .before .before .before .before .before .before .before .before .if1 .left)) _ (c .before .before .before .before .before .before .before .before .before .before .before .before .before .before .before .before .before .before .braced .ensures) (c .before .before .before .before .before .before .before .before .before .before .before .before .before .before .point .given .1) (c .before .before .before .before .before .before .before .before .before .before .before .before .before .before .before .before .before .before .before .before .before .before .before .before .pre .1 .0) in
+    let inner = offer-inner (c .before .before .before .before .before .before .before .before .before .before .before .before .before .before .before .before .before .before .before .before .before .before .before .before .args .toks .now) (c .before .before .before .before .before .before .before .before .before .before .before .before .before .before .before .before .before .before .before .before .before .before .before .before .args .nodes .now) (c .before .before .before .before .before .before .before .before .before .before .before .before .before .before .before .before .before .before .before .before .before .before .before .before .args .at) (c .before .before .before .before .before .before .before .before .before .before .before .before .before .before .before .before .before .before .before .before .before .before .before .before .args .used) (c .before .before .before .before .before .before .before .before .before .before .before .before .before .before .before .before .before .before .before .before .before .before .before .before .args .sums) (c .before .before .before .before .before .before .before .before .before .before .before .before .before .before .before .before .before .before .before .before .before .before .before .before .args .first) (same (c .before .before .before .before .before .before .before .before .before .before .before .before .before .before .before .before .before .before .before .before .before .peek .ensures) (c .before .before .before .before .before .before .before .before .before .before .before .before .before .before .before .before .before .before .before .before .if1 .left)) _ (c .before .before .before .before .before .before .before .before .before .before .before .before .before .before .before .before .before .before .braced .ensures) (c .before .before .before .before .before .before .before .before .before .before .before .before .before .before .point .given .1) in
+    let later = offer-ready-cont (c .before .before .before .before .before .before .before .before .before .before .before .before .before .before .before .before .before .before .before .before .before .before .before .before .args .toks .now) (c .before .before .before .before .before .before .before .before .before .before .before .before .before .before .before .before .before .before .before .before .before .before .before .before .args .nodes .now) (c .before .before .before .before .before .before .before .before .before .before .before .before .before .before .before .before .before .before .before .before .before .before .before .before .args .at) (c .before .before .before .before .before .before .before .before .before .before .before .before .before .before .before .before .before .before .before .before .before .before .before .before .args .used) (c .before .before .before .before .before .before .before .before .before .before .before .before .before .before .before .before .before .before .before .before .before .before .before .before .args .sums) (c .before .before .before .before .before .before .before .before .before .before .before .before .before .before .before .before .before .before .before .before .before .before .before .before .args .first) (same (c .before .before .before .before .before .before .before .before .before .before .before .before .before .before .before .before .before .before .before .before .before .peek .ensures) (c .before .before .before .before .before .before .before .before .before .before .before .before .before .before .before .before .before .before .before .before .if1 .left)) _ (c .before .before .before .before .before .before .before .before .before .before .before .before .before .before .before .before .before .before .braced .ensures) (c .before .before .before .before .before .before .before .before .before .before .before .before .before .before .point .given .1) (same (c .before .before .before .before .before .before .before .before .before .before .before .before .peek2 .ensures) (c .before .before .before .before .before .before .before .before .before .before .before .if2 .left)) (c .before .before .before .before .before .before .before .before .before .before .before .before .before .before .before .before .before .before .before .before .before .before .before .before .pre .1 .0) in
+    offer-dot (c .before .before .before .before .before .before .before .before .before .before .before .before .before .before .before .before .before .before .before .before .before .before .before .before .args .toks .now) (c .before .before .before .before .before .before .before .before .before .before .before .before .before .before .before .before .before .before .before .before .before .before .before .before .args .nodes .now) (c .before .before .before .before .before .before .before .before .before .before .before .before .before .before .before .before .before .before .before .before .before .before .before .before .args .at) (c .before .before .before .before .before .before .before .before .before .before .before .before .before .before .before .before .before .before .before .before .before .before .before .before .args .used) (c .before .before .before .before .before .before .before .before .before .before .before .before .before .before .before .before .before .before .before .before .before .before .before .before .args .sums) (c .before .before .before .before .before .before .before .before .before .before .before .before .before .before .before .before .before .before .before .before .before .before .before .before .args .first) (same (c .before .before .before .before .before .before .before .before .before .before .before .before .before .before .before .before .before .before .before .before .before .peek .ensures) (c .before .before .before .before .before .before .before .before .before .before .before .before .before .before .before .before .before .before .before .before .if1 .left)) _ (c .before .before .before .before .before .before .before .before .before .before .before .before .before .before .before .before .before .before .braced .ensures) (c .before .before .before .before .before .before .before .before .before .before .before .before .before .before .point .given .1) (same (c .before .before .before .before .before .before .before .before .before .before .before .before .peek2 .ensures) (c .before .before .before .before .before .before .before .before .before .before .before .if2 .left)) _ (c .before .before .before .before .before .before .before .before .before .cont .ensures) (c .before .before .before .before .before .e .given .1) (record { written = c .before .before .node2 .ensures; token-fits = omega (arith, c .before .before .before .before .before .before .before .before .before .before .before .before .before .before .before .before .before .before .before .before .before .before .before .before .pre .1 .0 .inside, c .before .before .before .before .before .before .before .before .before .before .before .before .before .before .before .before .before .before .before .before .before .before .before .before .pre .1 .0 .room, c .before .before .before .before .before .before .before .before .before .before .before .before .before .before .before .before .before .before .before .before .before .before .before .before .pre .1 .1 .1); left-fits = omega (arith, ready .inside, ready .room, ready .few, inner .below); third-fits = omega (arith, later .inside, later .room, later .few) })
 
 -- src/process.rt:32:8
 prefix-peek-requires : (t : ℕ) → prefix-lts.Need-peek-requires (
@@ -2515,10 +2283,8 @@ pub +branches+cont+gated+group+item+items+offer+prefix+sum-spec : {M : Type 1} �
     (λ t. offer-lts.spec (
       peek-reads.Asked,
       peek-reads.Learnt,
-      action-reads.Asked,
-      action-reads.Learnt,
-      rate-reads.Asked,
-      rate-reads.Learnt,
+      braced-reads.Asked,
+      braced-reads.Learnt,
       node-reads.Asked,
       node-reads.Learnt,
       cont-below t,
@@ -2528,38 +2294,28 @@ pub +branches+cont+gated+group+item+items+offer+prefix+sum-spec : {M : Type 1} �
     offer.Post
     (offer-peek-requires t)
     (offer-returns t)
-    (offer-add-action t)
-    (offer-action-requires t)
+    (offer-add-braced t)
+    (offer-braced-requires t)
     (offer-enum-known-k t)
-    (offer-enum-known-n t)
-    (offer-add-rate t)
-    (offer-rate-requires t)
-    (offer-enum-known-k-2 t)
-    (offer-enum-known-m t)
+    (offer-enum-known-point t)
     (offer-peek-requires-2 t)
-    (offer-same-length t)
-    (offer-returns-2 t)
-    (offer-add-point t)
-    (offer-peek-requires-3 t)
     (offer-add-root t)
     (offer-node-requires t)
-    (offer-same-length-2 t)
-    (offer-returns-3 t)
+    (offer-same-length t)
+    (offer-returns-2 t)
     (offer-add-cont t)
     (offer-add-cont-2 t)
     (offer-cont-requires t)
-    (offer-enum-known-k-3 t)
+    (offer-enum-known-k-2 t)
     (offer-enum-known-e t)
     (offer-add-root-2 t)
     (offer-node-requires-2 t)
+    (offer-same-length-2 t)
+    (offer-returns-3 t)
     (offer-same-length-3 t)
     (offer-returns-4 t)
     (offer-same-length-4 t)
-    (offer-returns-5 t)
-    (offer-same-length-5 t)
-    (offer-returns-6 t)
-    (offer-same-length-6 t)
-    (offer-returns-7 t))
+    (offer-returns-5 t))
     (λ t. prefix-lts.spec (
       peek-reads.Asked,
       peek-reads.Learnt,

@@ -19,4 +19,3 @@ scaleAnswer ls s = rateOf (evalScale ls s)
 -- 01, Values: a rate
 unfoldable pub rateAnswer : List ℤ → Resolved.Rate → Rate
 rateAnswer ls r = rateOf (evalRate ls r)
-

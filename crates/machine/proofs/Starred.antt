@@ -20,14 +20,14 @@ use Rattle.machine.specs.Evaluate as evaluate
 use Rattle.machine.specs.Offer as offer
 use Rattle.machine.specs.State.{stateLength, emptyState}
 use Rattle.machine.specs.Machine as machine
-use Rattle.machine.specs.Machine.{modelLength, Answer, Call, open′, closed, opens, answers}
-use Rattle.machine.specs.Starred.{Specimen, sheet, rowOne, rowTwo, minusByTwo, byMinusTwo, bothMinus, turned, threeAndFive, unlit, unbound, twoBound, enabled, noHandshake, bracket, Row, Holds, row}
+use Rattle.machine.specs.Machine.{modelLength, Call, open′, closed, opens, answers, after}
+use Rattle.machine.specs.Starred.{Specimen, sheet, rowOne, rowTwo, minusByTwo, byMinusTwo, bothMinus, turned, threeAndFive, unlit, unbound, twoBound, enabled, noHandshake, bracket, Result, stateOf, Row, Holds, row}
 
 -- ---- what the machine computes
 
--- the answers of a machine that opened to this, to these calls
-unfoldable answering : Opening → List Call → List Answer
-unfolding answers machine.no machine.listedAs opens machine.turn machine.calls machine.lent machine.lists machine.showing machine.stepped machine.stepsOn machine.choosing
+-- what comes of a machine that opened to this, by these calls
+unfoldable answering : Opening → List Call → Result
+unfolding answers after stateOf machine.no machine.listedAs opens machine.turn machine.calls machine.lent machine.lists machine.showing machine.stepped machine.stepsOn machine.choosing
     machine.openedState machine.startProcesses machine.copies offer.definitionOf offer.processAt offer.called machine.listing machine.counted offer.missing offer.missingBranch offer.isNone offer.branches
     offer.branchesOf offer.offered offer.partProcesses offer.nextProcesses offer.orZero evaluate.evalBranch evaluate.evalGate evaluate.evalOffer evaluate.evalRate
     evaluate.evalScale evaluate.inRate evaluate.evalAction evaluate.evalPair evaluate.evalQuery evaluate.evalItem evaluate.evalChannel evaluate.evalAll evaluate.evalValue
@@ -37,12 +37,13 @@ unfolding answers machine.no machine.listedAs opens machine.turn machine.calls m
     machine.branchArguments machine.onGuard offer.argumentsGiven offer.allValues offer.isValue steps.stateAfter steps.step steps.atBranch steps.oneActs
     steps.bothAct steps.onAction steps.changeOf steps.boundBy steps.valuesAt steps.sentBy steps.replace steps.replaceBoth pairs.pairsAfter pairs.insert
     pairs.remove pairs.before pairs.numbers pairs.itemNumbers pairs.itemKind pairs.itemValue pairs.channelNumbers order.less emptyState weights lists.weightOf lists.keyOf total chosen Option·elim
-answering o cs = opens o .answer ∷ answers (opens o .machine) cs
+answering o cs = record { answered = opens o .answer ∷ answers (opens o .machine) cs; left = stateOf (after (opens o .machine) cs) }
 
 -- a text that opens to o
-opened-to : (text : List ℕ) (o : Opening) (cs : List Call) → opening text ≡ o → answers closed (open′ text modelLength stateLength ∷ cs) ≡ answering o cs
-unfolding answers machine.calls machine.lent answering
-opened-to text o cs e = ap (λ (p : Opening). opens p .answer ∷ answers (opens p .machine) cs) e
+opened-to : (text : List ℕ) (o : Opening) (cs : List Call) → opening text ≡ o
+    → record { answered = answers closed (open′ text modelLength stateLength ∷ cs); left = stateOf (after closed (open′ text modelLength stateLength ∷ cs)) } ≡ answering o cs
+unfolding answers after machine.calls machine.lent answering
+opened-to text o cs e = ap (λ (p : Opening). record { answered = opens p .answer ∷ answers (opens p .machine) cs; left = stateOf (after (opens p .machine) cs) }) e
 
 module _ (r : Row) where
   -- a row whose text opens to o

@@ -1,14 +1,20 @@
--- The starred specimens of 01 and 02, a row for each: a text, byte for byte, the calls made once it is opened, and every answer of the rule machine.
+-- The starred specimens of 01 and 02, a row for each: a text, byte for byte, the calls made once it is opened, every answer of the rule machine, and the state
+-- that it is left with.
 -- That each row holds is proofs/Starred.antt. Assumes nothing: these are definitions.
 use mathlib.Core.Path.{_≡_}
-use mathlib.Core.List.{List, [], _∷_}
+use mathlib.Core.List.{List, [], _∷_, map}
+use mathlib.Core.Option.{Option, none, some}
 use Prim.Native.Nat.{ℕ}
+use lib.IntN.{ℤ, pos, negsuc}
+use Rattle.value.specs.Items.{oneItem}
 use Rattle.model.specs.Texts as texts
+use Rattle.rules.specs.Offers as offers
 use Rattle.rules.specs.Kind as kind
 use Rattle.rules.specs.Rules.{key}
 use Rattle.rules.specs.Listing.{Entry, entry}
-use Rattle.machine.specs.State.{stateLength}
-use Rattle.machine.specs.Machine.{modelLength, listingLength, asLent, filled, Answer, no, Call, open′, list′, step′, closed, answers}
+use Rattle.machine.specs.Offer.{Process}
+use Rattle.machine.specs.State.{State, stateLength}
+use Rattle.machine.specs.Machine.{modelLength, listingLength, asLent, filled, Answer, no, Call, open′, list′, step′, Machine, closed, holding, answers, after}
 
 -- 01, Specimens: those with a star, in 01's order
 pub data Specimen : Type 0 where
@@ -27,15 +33,25 @@ pub data Specimen : Type 0 where
   noHandshake : Specimen  -- one process both sending and receiving
   bracket : Specimen  -- a missing bracket gives 5, place 15
 
--- a text that is opened in a fresh machine, the calls made after it, and the answers to all of them
+-- the answers to a list of calls, and the state after them
+pub record Result : Type 0 where
+  pub answered : List Answer
+  pub left : Option State
+
+-- the state that a machine has
+unfoldable pub stateOf : Machine → Option State
+stateOf closed = none
+stateOf (holding m s) = some s
+
+-- a text that is opened in a fresh machine, the calls made after it, and what comes of all of them
 pub record Row : Type 0 where
   pub text : List ℕ
   pub calls : List Call
-  pub expected : List Answer
+  pub expected : Result
 
--- 01, Specimens: the rule machine gives these answers
+-- 01, Specimens: the rule machine gives these answers and this state
 unfoldable pub Holds : Row → Type 0
-Holds r = answers closed (open′ (r .text) modelLength stateLength ∷ r .calls) ≡ r .expected
+Holds r = let cs = open′ (r .text) modelLength stateLength ∷ r .calls in record { answered = answers closed cs; left = stateOf (after closed cs) } ≡ r .expected
 
 -- ---- the texts, but for the two that 01 has in full (crate model, Texts)
 
@@ -109,24 +125,42 @@ only c = listed 1 100000000 0 (one c ∷ [])
 abbrev pub sheetRows : List Entry
 sheetRows = entry (key kind.handshake 0 0 2 0 0) 300000000 ∷ entry (key kind.wait 0 1 0 0 0) 25000000 ∷ []
 
+-- ---- states
+
+-- a process of sum n and definition d with these locals
+abbrev pub process : ℕ → List ℤ → ℕ → Process
+process n ls d = record { sum = n; locals = ls; definition = d }
+
+-- the sheet's two lamps and post
+abbrev pub bench : ℕ → ℕ → ℕ → State
+bench x y z = record { processes = process 0 (pos x ∷ []) 0 ∷ process 0 (pos y ∷ []) 0 ∷ process 1 (pos z ∷ []) 1 ∷ []; pairs = [] }
+
+-- one process, at sum n of the first definition, and these values lit on the channel with the first name
+abbrev pub alone : ℕ → List ℤ → State
+alone n vs = record { processes = process n [] 0 ∷ []; pairs = map (λ v. record { channel = oneItem (offers.named 0); values = v ∷ [] }) vs }
+
+-- answers and the state afterwards
+abbrev pub leaving : List Answer → State → Result
+leaving xs s = record { answered = xs; left = some s }
+
 -- ---- the rows
 
 -- 01, Specimens: what each one says
 unfoldable pub row : Specimen → Row
-row sheet = record { text = texts.sheet; calls = lists ∷ []; expected = isOpen ∷ listed 2 325000000 0 sheetRows ∷ [] }
-row rowOne = record { text = texts.sheet; calls = steps 299999999 ∷ []; expected = isOpen ∷ listed 2 325000000 0 sheetRows ∷ [] }
-row rowTwo = record { text = texts.sheet; calls = steps 300000000 ∷ []; expected = isOpen ∷ listed 2 325000000 1 sheetRows ∷ [] }
+row sheet = record { text = texts.sheet; calls = lists ∷ []; expected = leaving (isOpen ∷ listed 2 325000000 0 sheetRows ∷ []) (bench 1 4 1) }
+row rowOne = record { text = texts.sheet; calls = steps 299999999 ∷ []; expected = leaving (isOpen ∷ listed 2 325000000 0 sheetRows ∷ []) (bench 2 4 1) }
+row rowTwo = record { text = texts.sheet; calls = steps 300000000 ∷ []; expected = leaving (isOpen ∷ listed 2 325000000 1 sheetRows ∷ []) (bench 2 4 1) }
 -- the quotient is launched, and the answer, −4, 3 or 2147483648, is received
-row minusByTwo = record { text = minusByTwoText; calls = steps 0 ∷ lists ∷ []; expected = isOpen ∷ only kind.launch ∷ only kind.receive ∷ [] }
-row byMinusTwo = record { text = byMinusTwoText; calls = steps 0 ∷ lists ∷ []; expected = isOpen ∷ only kind.launch ∷ only kind.receive ∷ [] }
-row bothMinus = record { text = bothMinusText; calls = steps 0 ∷ lists ∷ []; expected = isOpen ∷ only kind.launch ∷ only kind.receive ∷ [] }
-row turned = record { text = turnedText; calls = steps 0 ∷ lists ∷ []; expected = isOpen ∷ only kind.launch ∷ only kind.receive ∷ [] }
+row minusByTwo = record { text = minusByTwoText; calls = steps 0 ∷ lists ∷ []; expected = leaving (isOpen ∷ only kind.launch ∷ only kind.receive ∷ []) (alone 1 (negsuc 3 ∷ [])) }
+row byMinusTwo = record { text = byMinusTwoText; calls = steps 0 ∷ lists ∷ []; expected = leaving (isOpen ∷ only kind.launch ∷ only kind.receive ∷ []) (alone 1 (negsuc 3 ∷ [])) }
+row bothMinus = record { text = bothMinusText; calls = steps 0 ∷ lists ∷ []; expected = leaving (isOpen ∷ only kind.launch ∷ only kind.receive ∷ []) (alone 1 (pos 3 ∷ [])) }
+row turned = record { text = turnedText; calls = steps 0 ∷ lists ∷ []; expected = leaving (isOpen ∷ only kind.launch ∷ only kind.receive ∷ []) (alone 1 (pos 2147483648 ∷ [])) }
 -- of three processes that send 3, 4 and 5, the first and the third are heard
-row threeAndFive = record { text = withoutText; calls = lists ∷ []; expected = isOpen ∷ listed 2 200000000 0 (entry (key kind.handshake 1 0 0 0 0) 100000000 ∷ entry (key kind.handshake 3 0 0 0 0) 100000000 ∷ []) ∷ [] }
+row threeAndFive = record { text = withoutText; calls = lists ∷ []; expected = leaving (isOpen ∷ listed 2 200000000 0 (entry (key kind.handshake 1 0 0 0 0) 100000000 ∷ entry (key kind.handshake 3 0 0 0 0) 100000000 ∷ []) ∷ []) (record { processes = process 0 [] 0 ∷ process 1 (pos 3 ∷ []) 1 ∷ process 1 (pos 4 ∷ []) 1 ∷ process 1 (pos 5 ∷ []) 1 ∷ []; pairs = [] }) }
 -- after them a check for the pair is enabled
-row unlit = record { text = unlitText; calls = steps 0 ∷ steps 0 ∷ steps 0 ∷ lists ∷ []; expected = isOpen ∷ only kind.launch ∷ only kind.launch ∷ only kind.kill ∷ only kind.check ∷ [] }
-row unbound = record { text = unboundText; calls = steps 0 ∷ steps 0 ∷ lists ∷ []; expected = isOpen ∷ only kind.launch ∷ only kind.launch ∷ only kind.receive ∷ [] }
-row twoBound = record { text = boundText; calls = steps 0 ∷ steps 0 ∷ lists ∷ []; expected = isOpen ∷ only kind.launch ∷ only kind.launch ∷ listed 2 200000000 0 (one kind.bind ∷ entry (key kind.bind 0 0 0 0 1) 100000000 ∷ []) ∷ [] }
-row enabled = record { text = checkText; calls = lists ∷ []; expected = isOpen ∷ only kind.check ∷ [] }
-row noHandshake = record { text = bothText; calls = lists ∷ []; expected = isOpen ∷ listed 0 0 0 [] ∷ [] }
-row bracket = record { text = texts.bracket; calls = []; expected = no 5 15 0 asLent ∷ [] }
+row unlit = record { text = unlitText; calls = steps 0 ∷ steps 0 ∷ steps 0 ∷ lists ∷ []; expected = leaving (isOpen ∷ only kind.launch ∷ only kind.launch ∷ only kind.kill ∷ only kind.check ∷ []) (alone 3 []) }
+row unbound = record { text = unboundText; calls = steps 0 ∷ steps 0 ∷ lists ∷ []; expected = leaving (isOpen ∷ only kind.launch ∷ only kind.launch ∷ only kind.receive ∷ []) (alone 2 (pos 1 ∷ pos 2 ∷ [])) }
+row twoBound = record { text = boundText; calls = steps 0 ∷ steps 0 ∷ lists ∷ []; expected = leaving (isOpen ∷ only kind.launch ∷ only kind.launch ∷ listed 2 200000000 0 (one kind.bind ∷ entry (key kind.bind 0 0 0 0 1) 100000000 ∷ []) ∷ []) (alone 2 (pos 1 ∷ pos 2 ∷ [])) }
+row enabled = record { text = checkText; calls = lists ∷ []; expected = leaving (isOpen ∷ only kind.check ∷ []) (alone 0 []) }
+row noHandshake = record { text = bothText; calls = lists ∷ []; expected = leaving (isOpen ∷ listed 0 0 0 [] ∷ []) (alone 0 []) }
+row bracket = record { text = texts.bracket; calls = []; expected = record { answered = no 5 15 0 asLent ∷ []; left = none } }

@@ -23,6 +23,7 @@ use Rattle.grammar.specs.Grammar as derived
 use Rattle.grammar.specs.Syntax
 use Rattle.grammar.specs.Syntax.{syntaxOf}
 use Rattle.grammar.proofs.Judged.{judged}
+use Rattle.grammar.proofs.Fitting.{place-of-texts}
 use Rattle.model.specs.Lists.{least}
 use Rattle.model.specs.Sites.{system}
 use Rattle.model.specs.Words.{wordOf}
@@ -166,7 +167,7 @@ module _ (text : List ℕ) where
   five : Yes2 text → Yes3 text → Yes4 text → (j : ((d : derived.Model) × Reads kinds d) ⊎ ((k : ℕ) × Wrong kinds k)) → Answers text (readJudged text kinds j)
   unfolding readJudged
   five y2 y3 y4 (inl r) = six (syntaxOf (r .0)) y2 y3 y4 (record { reading = r .0; reads = r .1; tree = refl })
-  five y2 y3 y4 (inr x) = no5 y2 y3 y4 (x .1)
+  five y2 y3 y4 (inr x) = no5 y2 y3 y4 (place-of-texts text (x .0) .0 (x .1))
 
   four : (f : Found) → Yes2 text → Yes3 text → First (DepthFault text) f → Answers text (afterBytes text (bytes.asked 4 f Passed))
   unfolding afterBytes bytes.asked
@@ -216,7 +217,7 @@ module _ (text : List ℕ) where
   answers-only (no2 h) = bytes-refused text 2 textLimit (ap (λ (f : Found). bytes.asked 2 f after2) (length-no h))
   answers-only (no3 {p = p} y2 h) = bytes-refused text 3 p (to3 y2 ∙ after-three (At p) h)
   answers-only (no4 {p = p} y2 y3 h) = bytes-refused text 4 p (to4 y2 y3 ∙ after-four (At p) h)
-  answers-only (no5 {k = k} y2 y3 y4 h) = goes-wrong text k (passed y2 y3 y4) h
+  answers-only (no5 {k = k} y2 y3 y4 h) = goes-wrong text k (passed y2 y3 y4) (place-of-texts text k .1 h)
   answers-only (no6 {s = s} y2 y3 y4 y5 h) = reading y2 y3 y4 y5 ∙ ap (λ (f : Found). asked text 6 f (after6 s)) (few-no s h)
   answers-only (no7 {s = s} {k = k} y2 y3 y4 y5 y6 h) = reading y2 y3 y4 y5 ∙ to7 s y6 ∙ after-seven s (At k) h
   answers-only (no8 {s = s} {k = k} y2 y3 y4 y5 y6 y7 h) = reading y2 y3 y4 y5 ∙ to8 s y6 y7 ∙ after-eight s (At k) h

@@ -24,10 +24,11 @@ use Rattle.model.specs.Stands as stands
 use Rattle.model.specs.Faults.{startName, startList, wholesOf, startWholes}
 use Rattle.model.proofs.Members.{never, not-both, got-in, in-got, got-some}
 use Rattle.model.proofs.Meanings.{Defines, found, absent, defines}
-use Rattle.model.proofs.Numbered.{DefinitionsFrom}
+use Rattle.model.specs.Numbering.{DefinitionsFrom}
+use Rattle.model.specs.Faultless.{Faultless}
 use Rattle.model.proofs.Located.{located}
 use Rattle.model.proofs.Used.{branch-used, numbered-below}
-use Rattle.model.proofs.Resolves.{Fine, FineNumber, args-good, args-count, gate-good, scaleOf, rate-good, action-good, action-binds}
+use Rattle.model.proofs.Resolves.{args-good, args-count, gate-good, rate-good, action-good, action-binds}
 
 -- ---- lists
 
@@ -65,19 +66,7 @@ module _ (w : ℕ → List ℕ) (m : Syntax.Model) where
   abbrev M : Model
   M = resolved w m
 
-  -- a syntax tree without faults
-  pub record Faultless : Type 0 where
-    pub numbering : DefinitionsFrom ds 0
-    pub sites : (sc : Scope) (x : Site) → SiteIn w m sc x → Fine w vs ds cs sc x
-    pub variables : (v : Variable) → In v vs → FineNumber w vs ds cs (v .number)
-    pub rates : (sc : Scope) (i k : ℕ) (g : Syntax.Gate) (a : Syntax.Action) (r : Syntax.Rate) (n : Syntax.Next) → BranchIn m sc i (Syntax.branch k g a r n) → FineNumber w vs ds cs (scaleOf r)
-    pub parameters : (d : Definition) → In d ds → length (d .params) ≤ parameterLimit
-    pub definitions : length ds ≤ definitionLimit
-    pub counts : (c k : ℕ) (s : Syntax.Starts) → In (Syntax.counted c k s) (starts m) → worth 0 (w c) ≤ countLimit
-    pub values : (s : Syntax.Start) (b : Bool) (k : ℕ) → In s (starts m) → In (Syntax.literal b k) (startWholes (startList s)) → InRange (wholeOf w b k)
-    pub items : (s : Syntax.Start) → In s (starts m) → isCallable w ds (startName s) (countStarts (startList s)) ≡ true
-
-  module _ (ok : Faultless) where
+  module _ (ok : Faultless w m) where
     -- ---- a scope has at most eight locals
     room : {sc : Scope} {s : Syntax.Sum} → SumIn m sc s → length sc ≤ localLimit
     room (stands.defined {d = d} i j) = let h = ok .parameters d i in omega arith

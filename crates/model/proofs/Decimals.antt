@@ -24,7 +24,7 @@ use Rattle.model.specs.Words.{decimalOf}
 use Rattle.model.specs.Good.{scaleLimit}
 use Rattle.model.proofs.Members.{never}
 use Rattle.model.proofs.Origins.{past, next-token, token-is, Written, NumberWritten}
-use Rattle.model.proofs.Resolves.{scaleOf}
+use Rattle.model.specs.Faultless.{scaleOf}
 
 -- ---- a decimal's token
 

@@ -35,3 +35,4 @@ pub mod Scope
 pub mod Named
 pub mod Line
 pub mod Scopes
+pub mod Lines

@@ -13,7 +13,7 @@ use Rattle.model.specs.Resolved
 use Rattle.model.specs.Resolved.{sumNumber, resolveBranches, sumTree, branchesTree, branchTree, nextTree, contTree, contsTree, sumsTree, allSums}
 use Rattle.model.specs.Stands.{branchesOf, branchesIn, itemsOf, sumsOf, Holds, itself, grouped, SumIn, defined, continued, WrittenIn, own, following}
 use Rattle.model.proofs.Members.{never, got-in, in-got}
-use Rattle.model.proofs.Numbered.{countSum, countBranches, countBranch, countNext, countCont, countConts, countSums, countDefinitions, SumFrom, BranchesFrom, BranchFrom, ContFrom, ContsFrom, SumsFrom, DefinitionsFrom}
+use Rattle.model.specs.Numbering.{countSum, countBranches, countBranch, countNext, countCont, countConts, countSums, countDefinitions, SumFrom, BranchesFrom, BranchFrom, ContFrom, ContsFrom, SumsFrom, DefinitionsFrom}
 
 -- ---- a part of a list from a place on
 

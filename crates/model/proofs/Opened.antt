@@ -31,11 +31,12 @@ use Rattle.model.proofs.Members.{got-some}
 use Rattle.model.proofs.Tokens.{word-at}
 use Rattle.model.proofs.Meanings.{means}
 use Rattle.model.proofs.Ungiven.{not-value, not-scale, callable-wrong}
-use Rattle.model.proofs.Numbered.{DefinitionsFrom, numbered}
+use Rattle.model.specs.Numbering.{DefinitionsFrom}
+use Rattle.model.specs.Faultless.{Fine, FineNumber, scaleOf, Faultless}
+use Rattle.model.proofs.Numbered.{numbered}
 use Rattle.model.proofs.Origins.{written, number-written}
 use Rattle.model.proofs.Decimals.{decimal-rate, decimal-variable, kind-mark, decimal-large}
-use Rattle.model.proofs.Resolves.{Fine, FineNumber, scaleOf}
-use Rattle.model.proofs.Closes.{Faultless, length-each, closes}
+use Rattle.model.proofs.Closes.{length-each, closes}
 use Rattle.model.proofs.Answered.{answered}
 
 -- ---- what is not refuted holds

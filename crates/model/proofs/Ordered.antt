@@ -18,7 +18,8 @@ use Rattle.model.specs.Stands.{branchesOf, branchesIn, itemsOf, sumsOf, 
 use Rattle.model.proofs.Members.{never, got-in, in-got, got-below, got-some}
 use Rattle.model.proofs.Ascends.{Ascends, ascends-append, ascends-wider, ascends-two}
 use Rattle.model.proofs.Located.{length-all}
-use Rattle.model.proofs.Numbered.{countSum, countBranches, countBranch, countNext, countCont, countConts, countSums, countDefinitions, SumFrom, BranchesFrom, BranchFrom, NextFrom, ContFrom, ContsFrom, SumsFrom, DefinitionsFrom, numbered}
+use Rattle.model.specs.Numbering.{countSum, countBranches, countBranch, countNext, countCont, countConts, countSums, countDefinitions, SumFrom, BranchesFrom, BranchFrom, NextFrom, ContFrom, ContsFrom, SumsFrom, DefinitionsFrom}
+use Rattle.model.proofs.Numbered.{numbered}
 
 -- ---- a tree's sums, each before those in its continuations
 

@@ -19,13 +19,9 @@ use Rattle.model.specs.Given.{Meaning, local, variable, nothing, isValue
 use Rattle.model.specs.Resolved
 use Rattle.model.specs.Resolved.{isChannelName, itemUse, channelUse, actionUse, orZero, listOf, numberValue, numberScale, valueNamed, scaleNamed, resolveExpr, resolveSet, resolveCond, resolveGate, resolveScale, resolveRate, itemNamed, resolveItem, resolveChannel, resolveValues, resolveSets, resolveAction, resolveArgs}
 use Rattle.model.specs.Good.{Every, scaleLimit, GoodExpr, GoodSet, GoodCond, GoodGate, GoodScale, GoodRate, OneOrTwo, GoodItem, GoodName, GoodValues, GoodSets, GoodAction, namesBound}
+use Rattle.model.specs.Faultless.{scaleOf, AllFine, FineNumber}
 use Rattle.model.proofs.Members.{not-both, got-below}
 use Rattle.model.proofs.Meanings.{Means, aLocal, aVariable, unknown, means}
-
--- the number or name of a rate
-abbrev pub scaleOf : Syntax.Rate → Syntax.Scale
-scaleOf (Syntax.plain s) = s
-scaleOf (Syntax.scaled s e) = s
 
 -- ---- how large a scale can be
 
@@ -33,32 +29,13 @@ pub whole-scale : (z : ℤ) → InRange z → natAbs (z *ℤ pos unit) ≤ scale
 whole-scale z h = rw (abs-mul z (pos unit)) (mul-le-mul-right unit (in-size z h))
 
 module _ (w : ℕ → List ℕ) (vs : List Variable) (ds : List Definition) (cs : List ℕ) where
-  -- ---- what no fault at a site means
-
-  abbrev pub Fine : Scope → Site → Type 0
-  Fine sc (whole b k) = InRange (wholeOf w b k)
-  Fine sc (value k) = isValue (meaning w vs sc k) ≡ true
-  Fine sc (scale k) = isGiven (meaning w vs sc k) ≡ true
-  Fine sc (bound ks n) = (length ks ≡ n) × (length ks ≤ localLimit - length sc)
-  Fine sc (branch i k) = i < branchLimit
-  Fine sc (call k n) = isCallable w ds k n ≡ true
-
-  abbrev pub AllFine : Scope → List Site → Type 0
-  AllFine sc xs = (x : Site) → In x xs → Fine sc x
-
-  -- of a number: a whole one is in range, a decimal one has few digits
-  abbrev pub FineNumber : Syntax.Scale → Type 0
-  FineNumber (Syntax.number b false k) = InRange (wholeOf w b k)
-  FineNumber (Syntax.number b true k) = natAbs (decimalOf w b k) ≤ scaleLimit
-  FineNumber (Syntax.namedScale k) = Unit {0}
-
-  module _ (numbers : (v : Variable) → In v vs → FineNumber (v .number)) (sc : Scope) where
+  module _ (numbers : (v : Variable) → In v vs → FineNumber w vs ds cs (v .number)) (sc : Scope) where
     abbrev n : ℕ
     n = length sc
 
     -- ---- names
 
-    number-good : (s : Syntax.Scale) → FineNumber s → isValue (variable s) ≡ true → GoodExpr n (Resolved.constant (numberValue w vs ds cs s))
+    number-good : (s : Syntax.Scale) → FineNumber w vs ds cs s → isValue (variable s) ≡ true → GoodExpr n (Resolved.constant (numberValue w vs ds cs s))
     unfolding isValue GoodExpr numberValue
     number-good (Syntax.number b false k) h e = h
     number-good (Syntax.number b true k) h e = not-both e refl
@@ -70,7 +47,7 @@ module _ (w : ℕ → List ℕ) (vs : List Variable) (ds : List Definition) (cs 
     named-good o (aVariable {v = v} l i e) h = number-good (v .number) (numbers v i) h
     named-good o (unknown l f) h = not-both h refl
 
-    scale-fixed : (s : Syntax.Scale) → FineNumber s → natAbs (numberScale w vs ds cs s) ≤ scaleLimit
+    scale-fixed : (s : Syntax.Scale) → FineNumber w vs ds cs s → natAbs (numberScale w vs ds cs s) ≤ scaleLimit
     unfolding numberScale
     scale-fixed (Syntax.number b false k) h = whole-scale (wholeOf w b k) h
     scale-fixed (Syntax.number b true k) h = h
@@ -84,19 +61,19 @@ module _ (w : ℕ → List ℕ) (vs : List Variable) (ds : List Definition) (cs 
 
     -- ---- expressions, sets, conditions, rates
 
-    pub expr-good : (e : Syntax.Expr) → AllFine sc (exprSites e) → GoodExpr n (resolveExpr w vs ds cs sc e)
+    pub expr-good : (e : Syntax.Expr) → AllFine w vs ds cs sc (exprSites e) → GoodExpr n (resolveExpr w vs ds cs sc e)
     unfolding exprSites resolveExpr GoodExpr
     expr-good (Syntax.literal b k) h = h (whole b k) (head refl)
     expr-good (Syntax.named k) h = named-good _ (means w k vs sc) (h (value k) (head refl))
     expr-good (Syntax.absolute e) h = expr-good e h
     expr-good (Syntax.binary o e f) h = (expr-good e (λ x i. h x (left (exprSites f) i)), expr-good f (λ x i. h x (right (exprSites e) i)))
 
-    pub exprs-good : (r : Syntax.Exprs) → AllFine sc (exprsSites r) → Every (GoodExpr n) (listOf (resolveExpr w vs ds cs sc) r)
+    pub exprs-good : (r : Syntax.Exprs) → AllFine w vs ds cs sc (exprsSites r) → Every (GoodExpr n) (listOf (resolveExpr w vs ds cs sc) r)
     unfolding exprsSites listOf Every
     exprs-good (Syntax.lastExpr e) h = (expr-good e h, tt)
     exprs-good (Syntax.nextExpr e r) h = (expr-good e (λ x i. h x (left (exprsSites r) i)), exprs-good r (λ x i. h x (right (exprSites e) i)))
 
-    pub args-good : (a : Syntax.Args) → AllFine sc (argsSites a) → Every (GoodExpr n) (resolveArgs w vs ds cs sc a)
+    pub args-good : (a : Syntax.Args) → AllFine w vs ds cs sc (argsSites a) → Every (GoodExpr n) (resolveArgs w vs ds cs sc a)
     unfolding argsSites resolveArgs Every
     args-good Syntax.noArgs h = tt
     args-good (Syntax.args r) h = exprs-good r h
@@ -111,29 +88,29 @@ module _ (w : ℕ → List ℕ) (vs : List Variable) (ds : List Definition) (cs 
     args-count Syntax.noArgs = refl
     args-count (Syntax.args r) = exprs-count r
 
-    set-good : (s : Syntax.Set) → AllFine sc (setSites s) → GoodSet n (resolveSet w vs ds cs sc s)
+    set-good : (s : Syntax.Set) → AllFine w vs ds cs sc (setSites s) → GoodSet n (resolveSet w vs ds cs sc s)
     unfolding setSites resolveSet GoodSet
     set-good (Syntax.single e) h = expr-good e h
     set-good (Syntax.range e f) h = (expr-good e (λ x i. h x (left (exprSites f) i)), expr-good f (λ x i. h x (right (exprSites e) i)))
     set-good (Syntax.joined j s r) h = (set-good s (λ x i. h x (left (setSites r) i)), set-good r (λ x i. h x (right (setSites s) i)))
 
-    cond-good : (c : Syntax.Cond) → AllFine sc (condSites c) → GoodCond n (resolveCond w vs ds cs sc c)
+    cond-good : (c : Syntax.Cond) → AllFine w vs ds cs sc (condSites c) → GoodCond n (resolveCond w vs ds cs sc c)
     unfolding condSites resolveCond GoodCond
     cond-good (Syntax.compare b r e f) h = (expr-good e (λ x i. h x (left (exprSites f) i)), expr-good f (λ x i. h x (right (exprSites e) i)))
     cond-good (Syntax.both c d) h = (cond-good c (λ x i. h x (left (condSites d) i)), cond-good d (λ x i. h x (right (condSites c) i)))
     cond-good (Syntax.either c d) h = (cond-good c (λ x i. h x (left (condSites d) i)), cond-good d (λ x i. h x (right (condSites c) i)))
 
-    pub gate-good : (g : Syntax.Gate) → AllFine sc (gateSites g) → GoodGate n (resolveGate w vs ds cs sc g)
+    pub gate-good : (g : Syntax.Gate) → AllFine w vs ds cs sc (gateSites g) → GoodGate n (resolveGate w vs ds cs sc g)
     unfolding gateSites resolveGate GoodGate
     gate-good Syntax.noGate h = tt
     gate-good (Syntax.gate c) h = cond-good c h
 
-    scale-good : (s : Syntax.Scale) → FineNumber s → AllFine sc (scaleSites s) → GoodScale n (resolveScale w vs ds cs sc s)
+    scale-good : (s : Syntax.Scale) → FineNumber w vs ds cs s → AllFine w vs ds cs sc (scaleSites s) → GoodScale n (resolveScale w vs ds cs sc s)
     unfolding scaleSites resolveScale GoodScale
     scale-good (Syntax.number b d k) f h = scale-fixed (Syntax.number b d k) f
     scale-good (Syntax.namedScale k) f h = scaled-good _ (means w k vs sc) (h (scale k) (head refl))
 
-    pub rate-good : (r : Syntax.Rate) → FineNumber (scaleOf r) → AllFine sc (rateSites r) → GoodRate n (resolveRate w vs ds cs sc r)
+    pub rate-good : (r : Syntax.Rate) → FineNumber w vs ds cs (scaleOf r) → AllFine w vs ds cs sc (rateSites r) → GoodRate n (resolveRate w vs ds cs sc r)
     unfolding rateSites resolveRate GoodRate
     rate-good (Syntax.plain s) f h = scale-good s f h
     rate-good (Syntax.scaled s e) f h = (scale-good s f (λ x i. h x (left (exprSites e) i)), expr-good e (λ x i. h x (right (scaleSites s) i)))
@@ -164,7 +141,7 @@ module _ (w : ℕ → List ℕ) (vs : List Variable) (ds : List Definition) (cs 
 
     -- in a model with as many channel names
     module _ (M : Resolved.Model) (counted : M .channels ≡ length cs) where
-      name-good : (k : ℕ) (lone : Bool) → isLone w k ≡ lone → AllFine sc (cond lone [] (value k ∷ [])) → Known (cond (lone && isChannelName (meaning w vs sc k)) (k ∷ []) [])
+      name-good : (k : ℕ) (lone : Bool) → isLone w k ≡ lone → AllFine w vs ds cs sc (cond lone [] (value k ∷ [])) → Known (cond (lone && isChannelName (meaning w vs sc k)) (k ∷ []) [])
           → GoodItem M n (cond (lone && isChannelName (meaning w vs sc k)) (Resolved.name (orZero (placeIn w k 0 cs))) (Resolved.number (valueNamed w vs ds cs (meaning w vs sc k))))
       unfolding GoodItem
       name-good k false e h u = named-good _ (means w k vs sc) (h (value k) (head refl))
@@ -174,14 +151,14 @@ module _ (w : ℕ → List ℕ) (vs : List Variable) (ds : List Definition) (cs 
           by true f u = rw counted (u k (head refl))
           by false f u = named-good _ (means w k vs sc) (given-value _ f)
 
-      item-good : (c : Syntax.Expr) → AllFine sc (itemSites w c) → Known (itemUse w vs sc c) → GoodItem M n (resolveItem w vs ds cs sc c)
+      item-good : (c : Syntax.Expr) → AllFine w vs ds cs sc (itemSites w c) → Known (itemUse w vs sc c) → GoodItem M n (resolveItem w vs ds cs sc c)
       unfolding itemSites itemUse resolveItem itemNamed GoodItem
       item-good (Syntax.literal b k) h u = expr-good (Syntax.literal b k) h
       item-good (Syntax.named k) h u = name-good k (isLone w k) refl h u
       item-good (Syntax.absolute e) h u = expr-good (Syntax.absolute e) h
       item-good (Syntax.binary o e f) h u = expr-good (Syntax.binary o e f) h
 
-      channel-good : (c : Syntax.Channel) → AllFine sc (channelSites w c) → Known (channelUse w vs sc c) → GoodName M n (resolveChannel w vs ds cs sc c)
+      channel-good : (c : Syntax.Channel) → AllFine w vs ds cs sc (channelSites w c) → Known (channelUse w vs sc c) → GoodName M n (resolveChannel w vs ds cs sc c)
       unfolding channelSites channelUse resolveChannel GoodName
       channel-good (Syntax.oneItem e) h u = item-good e h u
       channel-good (Syntax.twoItems e f) h u = (item-good e (λ x i. h x (left (itemSites w f) i)) (λ x i. u x (left (itemUse w vs sc f) i)), item-good f (λ x i. h x (right (itemSites w e) i)) (λ x i. u x (right (itemUse w vs sc e) i)))
@@ -197,19 +174,19 @@ module _ (w : ℕ → List ℕ) (vs : List Variable) (ds : List Definition) (cs 
       two : {A : Type 0} {x y : A} → OneOrTwo (x ∷ y ∷ [])
       two = record { one = omega arith; two = omega arith }
 
-      values-good : (c : Resolved.Channel) → GoodName M n c → (v : Syntax.Values) → AllFine sc (valuesSites v) → GoodValues M n c (resolveValues w vs ds cs sc v)
+      values-good : (c : Resolved.Channel) → GoodName M n c → (v : Syntax.Values) → AllFine w vs ds cs sc (valuesSites v) → GoodValues M n c (resolveValues w vs ds cs sc v)
       unfolding valuesSites resolveValues Every
       values-good c g (Syntax.oneValue e) h = record { channel = g; number = one; values = (expr-good e h, tt) }
       values-good c g (Syntax.twoValues e f) h =
           record { channel = g; number = two; values = (expr-good e (λ x i. h x (left (exprSites f) i)), (expr-good f (λ x i. h x (right (exprSites e) i)), tt)) }
 
-      sets-good : (c : Resolved.Channel) → GoodName M n c → (s : Syntax.Sets) → AllFine sc (setsSites s) → GoodSets M n c (resolveSets w vs ds cs sc s)
+      sets-good : (c : Resolved.Channel) → GoodName M n c → (s : Syntax.Sets) → AllFine w vs ds cs sc (setsSites s) → GoodSets M n c (resolveSets w vs ds cs sc s)
       unfolding setsSites resolveSets Every
       sets-good c g (Syntax.oneSet s) h = record { channel = g; number = one; sets = (set-good s h, tt) }
       sets-good c g (Syntax.twoSets s r) h =
           record { channel = g; number = two; sets = (set-good s (λ x i. h x (left (setSites r) i)), (set-good r (λ x i. h x (right (setSites s) i)), tt)) }
 
-      pub action-good : (a : Syntax.Action) → AllFine sc (actionSites w a) → Known (actionUse w vs sc a) → GoodAction M n (resolveAction w vs ds cs sc a)
+      pub action-good : (a : Syntax.Action) → AllFine w vs ds cs sc (actionSites w a) → Known (actionUse w vs sc a) → GoodAction M n (resolveAction w vs ds cs sc a)
       unfolding actionSites actionUse resolveAction GoodAction
       action-good (Syntax.wait k) h u = tt
       action-good (Syntax.launch c v) h u = values-good _ (channel-good c (λ x i. h x (left (valuesSites v) i)) u) v (λ x i. h x (right (channelSites w c) i))
@@ -224,7 +201,7 @@ module _ (w : ℕ → List ℕ) (vs : List Variable) (ds : List Definition) (cs 
           sets-good _ (channel-good c (λ x i. h x (left (bound (tokensOf ns) (countSets s) ∷ []) (left (setsSites s) i))) u) s (λ x i. h x (left (bound (tokensOf ns) (countSets s) ∷ []) (right (channelSites w c) i)))
 
     -- a binding action binds as many names as it has sets, and they have room
-    pub action-binds : (a : Syntax.Action) → n ≤ localLimit → AllFine sc (actionSites w a) → (length (bindings a) ≡ namesBound (resolveAction w vs ds cs sc a)) × (n + length (bindings a) ≤ localLimit)
+    pub action-binds : (a : Syntax.Action) → n ≤ localLimit → AllFine w vs ds cs sc (actionSites w a) → (length (bindings a) ≡ namesBound (resolveAction w vs ds cs sc a)) × (n + length (bindings a) ≤ localLimit)
     unfolding actionSites bindings resolveAction namesBound
     action-binds (Syntax.wait k) l h = (refl, omega arith)
     action-binds (Syntax.launch c v) l h = (refl, omega arith)

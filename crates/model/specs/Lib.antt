@@ -10,7 +10,10 @@ pub mod Good
 pub mod Scope
 pub mod Stands
 pub mod Sums
+pub mod Lines
 pub mod Faults
+pub mod Numbering
+pub mod Faultless
 pub mod Questions
 pub mod Texts
 pub mod Held

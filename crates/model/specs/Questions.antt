@@ -7,8 +7,9 @@ use lib.ListN.{length}
 use Rattle.token.specs.declared.Found.the-variants.{At}
 use Rattle.token.specs.Token.{tokens, kindsOf}
 use Rattle.token.specs.Questions.{textLimit, ByteFault, DepthFault, First}
-use Rattle.grammar.specs.Grammar.{Reads, Wrong}
+use Rattle.grammar.specs.Grammar.{Reads}
 use Rattle.grammar.specs.Grammar as derived
+use Rattle.grammar.specs.Fitting.{Misfits}
 use Rattle.grammar.specs.Syntax
 use Rattle.grammar.specs.Syntax.{syntaxOf}
 use Rattle.model.specs.Sites.{system}
@@ -60,7 +61,7 @@ pub data Answers (text : List ℕ) : Opening → Type 0 where
   no2 : textLimit < length text → Answers text (refused 2 textLimit)
   no3 : {p : ℕ} → Yes2 text → First (ByteFault text) (At p) → Answers text (refused 3 p)
   no4 : {p : ℕ} → Yes2 text → Yes3 text → First (DepthFault text) (At p) → Answers text (refused 4 p)
-  no5 : {k : ℕ} → Yes2 text → Yes3 text → Yes4 text → Wrong (kindsOf (tokens text)) k → Answers text (refused 5 (bytePlace text k))
+  no5 : {k : ℕ} → Yes2 text → Yes3 text → Yes4 text → Misfits text k → Answers text (refused 5 (bytePlace text k))
   no6 : {s : Syntax.Model} → Yes2 text → Yes3 text → Yes4 text → Yes5 text s → tokenLimit < length (tokens text) → Answers text (refused 6 (bytePlace text tokenLimit))
   no7 : {s : Syntax.Model} {k : ℕ} → Yes2 text → Yes3 text → Yes4 text → Yes5 text s → Yes6 text
       → First (Beyond text s) (At k) → Answers text (refused 7 (bytePlace text k))

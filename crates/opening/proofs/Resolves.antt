@@ -34,8 +34,7 @@ use Rattle.model.proofs.Tokens.{nth-got, lexeme-at, word-at, some-fraction}
 use Rattle.model.proofs.Faulty.{beyond-first, new-first, given-first}
 use Rattle.model.proofs.Origins.{NumberWritten, written, number-written}
 use Rattle.model.proofs.Decimals.{decimal-rate, decimal-variable, kind-mark}
-use Rattle.model.proofs.Resolves.{FineNumber, scaleOf}
-use Rattle.model.proofs.Closes.{Faultless}
+use Rattle.model.specs.Faultless.{FineNumber, scaleOf, Faultless}
 use Rattle.model.proofs.Opened.{faultless}
 use Rattle.tables.specs.Represents.{Represents}
 use Rattle.names.specs.declared.Question.the-variants.{Given}

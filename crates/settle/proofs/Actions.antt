@@ -23,7 +23,8 @@ use Rattle.model.specs.Resolved
 use Rattle.model.specs.Resolved.{isChannelName, itemUse, channelUse, actionUse, firsts, orZero, valueNamed, resolveExpr, itemNamed, resolveItem, resolveChannel, resolveValues, resolveSets, resolveAction}
 use Rattle.model.proofs.Channels.{firsts-append}
 use Rattle.model.proofs.Members.{not-both}
-use Rattle.model.proofs.Resolves.{AllFine, FineNumber, expr-good}
+use Rattle.model.specs.Faultless.{AllFine, FineNumber}
+use Rattle.model.proofs.Resolves.{expr-good}
 use Rattle.names.proofs.Scopes.{every-length}
 use Rattle.tables.specs.Settled as settled
 use Rattle.tables.specs.Settled.{channel, Index, Pair, OneOrTwo}

@@ -24,10 +24,10 @@ use Rattle.model.specs.Resolved
 use Rattle.model.specs.Resolved.{channelNames, actionUse, branchUses, nextUses, branchesUses, sumUses, contUses, contsUses, firsts, definitionNumber, sumNumber, listOf, resolveExpr, resolveGate, resolveCond, resolveRate, resolveAction, resolveArgs, resolveCall, partsOf, partsIn, resolveNext, resolveBranch, resolveBranches, sumTree, branchesTree, branchTree, nextTree, contTree, contsTree}
 use Rattle.model.proofs.Members.{got-in, in-got, got-below}
 use Rattle.model.proofs.Meanings.{Defines, found, absent, defines}
-use Rattle.model.proofs.Numbered.{countSum, countBranches, countBranch, countNext, countCont, countConts, SumFrom, BranchesFrom, BranchFrom, NextFrom, ContFrom, ContsFrom}
+use Rattle.model.specs.Numbering.{countSum, countBranches, countBranch, countNext, countCont, countConts, SumFrom, BranchesFrom, BranchFrom, NextFrom, ContFrom, ContsFrom}
+use Rattle.model.specs.Faultless.{AllFine, FineNumber, scaleOf, Faultless}
 use Rattle.model.proofs.Channels.{firsts-append}
-use Rattle.model.proofs.Resolves.{AllFine, FineNumber, scaleOf, action-binds, args-count}
-use Rattle.model.proofs.Closes.{Faultless}
+use Rattle.model.proofs.Resolves.{action-binds, args-count}
 use Rattle.names.proofs.Scopes.{every-length}
 use Rattle.tables.specs.Settled as settled
 use Rattle.tables.specs.Settled.{Index, Pair, Over, Arguments, Called, Parts, entered, called-bare, called, grouped, items, Stops, Goes, Offer, Gated}

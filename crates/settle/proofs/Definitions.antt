@@ -24,10 +24,9 @@ use Rattle.model.specs.Stands.{sumsOf, SumIn, defined, BranchIn}
 use Rattle.model.specs.Faults.{NotNew, startList, startWholes}
 use Rattle.model.specs.Resolved
 use Rattle.model.specs.Resolved.{channelNames, sumUses, sumsUses, definitionUses, firsts, sumNumber, sumNumbers, resolveStart, sumTree, sumsTree, allSums, resolved}
-use Rattle.model.proofs.Numbered.{countSum, countSums, countDefinitions, SumFrom, SumsFrom, DefinitionsFrom}
+use Rattle.model.specs.Numbering.{countSum, countSums, countDefinitions, SumFrom, SumsFrom, DefinitionsFrom}
+use Rattle.model.specs.Faultless.{scaleOf, Faultless}
 use Rattle.model.proofs.Channels.{firsts-append}
-use Rattle.model.proofs.Resolves.{scaleOf}
-use Rattle.model.proofs.Closes.{Faultless}
 use Rattle.names.proofs.Scopes.{every-length}
 use Rattle.tables.specs.Settled.{Index, Pair}
 use Rattle.tables.specs.Represents as represents

@@ -25,7 +25,7 @@ use Rattle.model.specs.Given.{definitionNamed}
 use Rattle.model.specs.Faults.{startList, wholesOf, startWholes}
 use Rattle.model.specs.Resolved
 use Rattle.model.specs.Resolved.{channelNames, definitionNumber, literalValue, wholeValues, startValues, resolveStart}
-use Rattle.model.proofs.Closes.{Faultless}
+use Rattle.model.specs.Faultless.{Faultless}
 use Rattle.tables.specs.Settled.{numberCell, Number, Pair}
 use Rattle.tables.specs.Represents as represents
 use Rattle.tables.specs.Represents.{Wholes, Item, Valued, Start, bare, valued, Starts}

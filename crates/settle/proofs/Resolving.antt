@@ -14,7 +14,7 @@ use Rattle.tree.specs.Node as node
 use Rattle.tree.specs.Node.{field, kindOf, tokenOf, leftOf, thirdOf, numberKind}
 use Rattle.model.specs.Sites.{Variable, Definition, variables, definitions}
 use Rattle.model.specs.Resolved.{resolved, channelNames}
-use Rattle.model.proofs.Numbered.{countDefinitions}
+use Rattle.model.specs.Numbering.{countDefinitions}
 use Rattle.names.specs.declared.Question.the-variants.{Given}
 use Rattle.names.specs.declared.Lists.{Lists}
 use Rattle.names.specs.declared.Scope.{Scope}

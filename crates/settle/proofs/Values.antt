@@ -25,7 +25,8 @@ use Rattle.model.specs.Good.{GoodExpr, GoodScale, GoodRate}
 use Rattle.model.specs.Resolved
 use Rattle.model.specs.Resolved.{isChannelName, listOf, numberValue, numberScale, valueNamed, scaleNamed, resolveExpr, resolveSet, resolveCond, resolveScale, resolveRate, resolveValues, resolveSets}
 use Rattle.model.proofs.Members.{not-both}
-use Rattle.model.proofs.Resolves.{AllFine, FineNumber, scaleOf, expr-good, rate-good}
+use Rattle.model.specs.Faultless.{AllFine, FineNumber, scaleOf}
+use Rattle.model.proofs.Resolves.{expr-good, rate-good}
 use Rattle.tables.specs.Settled as settled
 use Rattle.tables.specs.Settled.{offset, numberCell, Number, Index, Pair, Over, OneOrTwo, Arguments}
 use Rattle.settle.specs.Walks.{Role, roleOf, roleAt, Point, valueCell, scaleCell, nameCell, cellBy, stepBy, step, NumberSafe, SafeBy}

@@ -16,11 +16,11 @@ use Rattle.model.specs.Given.{meaning}
 use Rattle.model.specs.Resolved
 use Rattle.model.specs.Resolved.{isChannelName, channelNames, definitionUses, firsts, resolveStart, allSums, resolved}
 use Rattle.model.proofs.Members.{got-below, got-some}
-use Rattle.model.proofs.Numbered.{countDefinitions, DefinitionsFrom}
+use Rattle.model.specs.Numbering.{countDefinitions, DefinitionsFrom}
+use Rattle.model.specs.Faultless.{scaleOf, Faultless}
 use Rattle.model.proofs.Channels.{firsts-more}
-use Rattle.model.proofs.Resolves.{scaleOf}
 use Rattle.model.specs.Stands.{BranchIn}
-use Rattle.model.proofs.Closes.{Faultless, length-each}
+use Rattle.model.proofs.Closes.{length-each}
 use Rattle.names.proofs.Chains.{definitions-run}
 use Rattle.tables.specs.Represents.{Represents, Starts}
 use Rattle.settle.specs.Walks.{Role, roleAt, Point, paramsAt, stepBy, cellOf, step, walked, begun, pointAt, scopeAt}

@@ -17,8 +17,7 @@ use Rattle.model.specs.Sites.{Variable, Definition, variables, definitions}
 use Rattle.model.specs.Sites.{system}
 use Rattle.model.specs.Stands.{BranchIn}
 use Rattle.model.specs.Faults.{NotNew}
-use Rattle.model.proofs.Resolves.{scaleOf}
-use Rattle.model.proofs.Closes.{Faultless}
+use Rattle.model.specs.Faultless.{scaleOf, Faultless}
 use Rattle.model.specs.Limits.{countLimit, definitionLimit, parameterLimit}
 use Rattle.model.specs.Given.{Meaning, local, variable, nothing, placeIn, meaning}
 use Rattle.model.specs.Resolved.{isChannelName, firsts}

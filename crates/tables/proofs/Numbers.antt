@@ -12,8 +12,8 @@ use Rattle.tables.specs.Settled.{offset, lifted, numberCell, numberOf, N
 -- the number above the offset, less the offset
 lowered : (z : ℤ) → natAbs z < offset → pos (lifted z) -ℤ pos offset ≡ z
 unfolding lifted
-lowered (pos n) h = rw (le-ltb (offset + n) offset (omega arith)) (ap pos (omega arith))
-lowered (negsuc n) h = rw (lt-ltb (offset - suc n) offset (omega arith)) (ap negsuc (omega arith))
+lowered (pos n) h = rw (le-ltb (lifted (pos n)) offset (omega arith)) (ap pos (omega arith))
+lowered (negsuc n) h = rw (lt-ltb (lifted (negsuc n)) offset (omega arith)) (ap negsuc (omega arith))
 
 module _ (kind : ℕ) (z : ℤ) (k : kind < 256) where
   pub number-kind : kindOf (numberCell kind z) ≡ kind

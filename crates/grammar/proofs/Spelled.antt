@@ -12,7 +12,7 @@ use borrow.Author.Tests.{eqb-true}
 use Rattle.token.specs.Bytes.{within, isBlank, isLetter, isDigit, isSign, sortOf, belongs, starts}
 use Rattle.token.specs.Token.{pairs, Mark, tokens, kindsOf, column}
 use Rattle.token.specs.Contents.{bytesOf}
-use Rattle.token.specs.Tiling.{Run, Lexeme, Gap, Stands, Tiled}
+use Rattle.token.specs.Tiling.{Run, Lexeme, Stands, Tiled}
 use Rattle.token.specs.Tiling.Lexeme.{named, whole, decimal, single, double, stray}
 use Rattle.token.specs.Tiling.Gap.{nothing, blank}
 use Rattle.token.proofs.Sorts.{within-is, pairs-first}

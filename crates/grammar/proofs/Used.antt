@@ -11,11 +11,10 @@ use borrow.Author.Tests.{eqb-true}
 use Rattle.token.specs.Kind as kind
 use Rattle.token.specs.Bytes.{within, isBlank, isLetter, isDigit, isSign, sortOf, belongs}
 use Rattle.token.specs.Token.{sameBytes, pairs, absBytes, maxBytes, minBytes, unionBytes, interBytes, wordKind}
-use Rattle.token.specs.Tiling.{Lexeme}
 use Rattle.token.specs.Tiling.Lexeme.{named, whole, decimal, single, double}
 use Rattle.grammar.specs.Grammar
 use Rattle.grammar.specs.Grammar.{Whole, Number, Expr, Terms, Term, Factors, Atom, Exprs, Args, Part, Parts, Set, Relation, Test, Ands, Ors, Cond, Scale, Rate, Values, Sets, Names, Channel, Action, Gate, Prefix, Next, Cont, Item, Items, Choices, Sums, Body, Params, Wholes, Starts, Start, System, Definitions, Model, Reads, Begins}
-use Rattle.grammar.specs.Grammar.{relationKind, flatDefinition, flatWhole, flatNumber, flatExpr, flatTerms, flatTerm, flatFactors, flatAtom, flatExprs, flatArgs, flatPart, flatParts, flatSet, flatTest, flatAnds, flatOrs, flatCond, flatScale, flatRate, flatValues, flatSets, flatNames, flatChannel, flatAction, flatGate, flatPrefix, flatNext, flatCont, flatItem, flatItems, flatChoices, flatSums, flatBody, flatParams, flatWholes, flatStarts, flatStart, flatSystem, flatDefinitions, flatModel}
+use Rattle.grammar.specs.Grammar.{relationKind, flatWhole, flatNumber, flatExpr, flatTerms, flatTerm, flatFactors, flatAtom, flatExprs, flatArgs, flatPart, flatParts, flatSet, flatTest, flatAnds, flatOrs, flatCond, flatScale, flatRate, flatValues, flatSets, flatNames, flatChannel, flatAction, flatGate, flatPrefix, flatNext, flatCont, flatItem, flatItems, flatChoices, flatSums, flatBody, flatParams, flatWholes, flatStarts, flatStart, flatSystem, flatDefinitions, flatModel}
 use Rattle.grammar.proofs.Spelled.{Spelt, kinds}
 
 -- ---- a token of each kind that a tree is written with

@@ -1,5 +1,5 @@
 -- Evaluation gives a branch's guard exactly where the branch offers it: gates, rates and actions are taken apart. By cases.
-use mathlib.Core.Path.{_≡_, refl, sym, ap, subst}
+use mathlib.Core.Path.{_≡_, refl, subst}
 use mathlib.Core.List.{List}
 use mathlib.Core.Bool.{Bool, true, false, cond}
 use mathlib.Core.Logic.{_↔_}

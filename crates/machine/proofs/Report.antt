@@ -1,16 +1,15 @@
 -- A report's subtotals, added in definition order, equal the listing's total, for every state over a good model that lists; it has 64 numbers. From the rules' places
 -- and since every process has the number of a definition.
-use mathlib.Core.Path.{_≡_, refl, sym, ap, _∙_}
+use mathlib.Core.Path.{_≡_, refl, ap, _∙_}
 use mathlib.Core.List.{List, [], _∷_, _++_, List·Memᴰ as In}
-use mathlib.Core.Option.{Option, some, Option·elim}
-use mathlib.Core.Logic.{_↔_}
+use mathlib.Core.Option.{Option, Option·elim}
 use Prim.Native.Nat.{ℕ, zero, suc, _+_, _-_, _≤_, _<_}
 use native.Mathlib.Omega.{arith}
-use lib.ListN.{length, getD, getElem?, replicate, length-append, length-replicate}
+use lib.ListN.{length, getD, replicate, length-append, length-replicate}
 use Rattle.model.specs.Resolved
 use Rattle.model.specs.Good.{GoodSum, GoodModel}
 use Rattle.rules.specs.Rules.{Nth, Key, Derivable}
-use Rattle.rules.specs.Listing.{Entry, entry, keyOf, weightOf}
+use Rattle.rules.specs.Listing.{Entry, entry, keyOf}
 use Rattle.rules.specs.Draw.{weights, total}
 use Rattle.rules.specs.Subtotals.{actor, subtotal, subtotals}
 use Rattle.rules.proofs.Subtotals.{adds-up, as-many, nth-is, counts-for}

@@ -12,9 +12,9 @@ use lib.ListN.{drop, getD, getElem?}
 use Rattle.token.specs.Kind as kind
 use Rattle.token.specs.Token.{tokens, kindsOf}
 use Rattle.grammar.specs.Grammar as derived
-use Rattle.grammar.specs.Grammar.{Reads, flatExpr, flatSets, flatNames, flatChannel, flatAction, flatGate, flatPrefix}
+use Rattle.grammar.specs.Grammar.{Reads, flatSets, flatNames, flatChannel, flatAction, flatGate, flatPrefix}
 use Rattle.grammar.specs.Syntax
-use Rattle.grammar.specs.Syntax.{wide, exprAt, setsAt, countNames, namesAt, channelAt, actionAt, branchAt, syntaxOf}
+use Rattle.grammar.specs.Syntax.{wide, setsAt, countNames, namesAt, channelAt, actionAt, branchAt, syntaxOf}
 use Rattle.grammar.proofs.Wide.{wide-sets, wide-channel, wide-gate}
 use Rattle.model.specs.Lists.{everyOther}
 use Rattle.model.specs.Sites.{Scope, Site, value, bound, exprSites, exprsSites, setSites, condSites, gateSites, scaleSites, rateSites, isLone, itemSites, channelSites, valuesSites, setsSites, countSets, tokensOf, actionSites, argsSites}

@@ -10,12 +10,11 @@ use native.Mathlib.Omega.{arith}
 use lib.ListN.{length, getElem?, length-append}
 use borrow.Author.Tests.{eqb-true}
 use Rattle.value.specs.Range.{InRange}
-use Rattle.word.specs.Number.{worth}
 use Rattle.grammar.specs.Syntax
 use Rattle.model.specs.Lists.{each}
 use Rattle.model.specs.Sites.{Scope, Site, branch, call, countArgs, argsSites, bindings, Variable, variables, Definition, definitions, starts}
 use Rattle.model.specs.Words.{wholeOf}
-use Rattle.model.specs.Limits.{countLimit, definitionLimit, parameterLimit, localLimit, branchLimit}
+use Rattle.model.specs.Limits.{localLimit, branchLimit}
 use Rattle.model.specs.Given.{takes, countWholes, countStarts, definitionNamed, isCallable}
 use Rattle.model.specs.Resolved.{Model, channelNames, definitionNumber, sumNumber, sumNumbers, defined, resolveCall, partsOf, partsIn, resolveNext, resolveBranch, resolveBranches, sumTree, branchesTree, branchTree, nextTree, contTree, contsTree, sumsTree, allSums, literalValue, wholeValues, startValues, resolveStart, resolved}
 use Rattle.model.specs.Good.{Every, SumWith, Callable, GoodPart, GoodBranch, GoodSum, GoodDefined, GoodStart, GoodModel}
@@ -24,7 +23,6 @@ use Rattle.model.specs.Stands as stands
 use Rattle.model.specs.Faults.{startName, startList, wholesOf, startWholes}
 use Rattle.model.proofs.Members.{never, not-both, got-in, in-got, got-some}
 use Rattle.model.proofs.Meanings.{Defines, found, absent, defines}
-use Rattle.model.specs.Numbering.{DefinitionsFrom}
 use Rattle.model.specs.Faultless.{Faultless}
 use Rattle.model.proofs.Located.{located}
 use Rattle.model.proofs.Used.{branch-used, numbered-below}

@@ -2,7 +2,7 @@
 use mathlib.Core.Path.{_≡_, refl, sym, ap, _∙_}
 use mathlib.Core.List.{List, [], _∷_}
 use Prim.Native.Nat.{ℕ, _+_}
-use lib.ListN.{length, drop}
+use lib.ListN.{drop}
 use lib.Seq.{drop-drop}
 use Rattle.token.specs.Kind as kind
 use Rattle.grammar.specs.Grammar as derived

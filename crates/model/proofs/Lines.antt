@@ -2,15 +2,15 @@
 use mathlib.Core.Path.{_≡_, refl, sym, ap, subst, _∙_}
 use mathlib.Core.List.{List, [], _∷_, List·Memᴰ as In, List·Memᴰ·cases-cons as cases, List·Memᴰ·eq-of-singleton as eq-of-singleton, List·Memᴰ·not-nil as nowhere}
 use mathlib.Core.Logic.{⊎-elim}
-use Prim.Native.Nat.{ℕ, zero, suc, _+_}
+use Prim.Native.Nat.{ℕ, suc, _+_}
 use native.Mathlib.Omega.{arith}
 use lib.ListN.{drop}
 use lib.Seq.{drop-drop}
 use Rattle.token.specs.Kind as kind
 use Rattle.grammar.specs.Grammar as derived
-use Rattle.grammar.specs.Grammar.{Reads, flatNumber, flatNames, flatBody, flatParams, flatStart, flatStarts, flatSystem, flatDefinitions, flatModel}
+use Rattle.grammar.specs.Grammar.{Reads, flatNumber, flatNames, flatBody, flatParams, flatStart, flatSystem, flatDefinitions, flatModel}
 use Rattle.grammar.specs.Syntax
-use Rattle.grammar.specs.Syntax.{wide, countNames, namesAt, paramsAt, bodyAt, sumsBody, startsAt, startAt, systemAt, definitionsAt, modelAt, syntaxOf}
+use Rattle.grammar.specs.Syntax.{wide, countNames, namesAt, paramsAt, bodyAt, sumsBody, startAt, systemAt, definitionsAt, modelAt, syntaxOf}
 use Rattle.grammar.proofs.Wide.{wide-number, wide-body, wide-params, wide-start}
 use Rattle.model.specs.Lists.{everyOther}
 use Rattle.model.specs.Sites.{Variable, Definition, tokensOf, paramsOf, definitionsIn, systemIn, startsIn, variables, definitions, system, starts}

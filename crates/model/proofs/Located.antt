@@ -1,8 +1,8 @@
 -- In the resolved model each sum of the text stands at its number, with its scope. From the numbering of the tree; by induction on where the sum stands.
 use mathlib.Core.Path.{_≡_, refl, sym, ap, subst, _∙_}
-use mathlib.Core.List.{List, [], _∷_, _++_, append-assoc, append-nil, List·Memᴰ as In, List·Memᴰ·cases-cons as cases, List·Memᴰ·eq-of-singleton as eq-of-singleton, List·Memᴰ·not-nil as nowhere}
+use mathlib.Core.List.{List, [], _∷_, _++_, append-assoc, append-nil, List·Memᴰ as In, List·Memᴰ·cases-cons as cases, List·Memᴰ·eq-of-singleton as eq-of-singleton}
 use mathlib.Core.Option.{some}
-use mathlib.Core.Logic.{_⊎_, inl, inr, ⊎-elim}
+use mathlib.Core.Logic.{_⊎_, ⊎-elim}
 use Prim.Native.Nat.{ℕ, zero, suc, _+_}
 use native.Mathlib.Omega.{arith}
 use lib.ListN.{length, drop, getElem?, length-append}

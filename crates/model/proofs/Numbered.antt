@@ -1,14 +1,14 @@
 -- The sums of a syntax tree are numbered from 0 in the order in which the tree holds them, each before those in its continuations. By induction
 -- on the derivation; assumes nothing.
 use mathlib.Core.Path.{_≡_, refl}
-use mathlib.Core.List.{List, [], _∷_}
+use mathlib.Core.List.{[]}
 use Prim.Native.Nat.{ℕ, _+_}
 use native.Mathlib.Omega.{arith}
 use Rattle.grammar.specs.Grammar as derived
 use Rattle.grammar.specs.Syntax
 use Rattle.grammar.specs.Syntax.{sumsPrefix, sumsNext, sumsCont, sumsItem, sumsItems, sumsChoices, branchAt, nextAt, contAt, itemAt, contsAt, branchesAt, sumAt, sumsAt, bodyAt, sumsSums, sumsBody, definitionsAt, modelAt, syntaxOf}
-use Rattle.model.specs.Sites.{Definition, definitionsIn, definitions}
-use Rattle.model.specs.Numbering.{countSum, countBranches, countBranch, countNext, countCont, countConts, countSums, countDefinitions, SumFrom, BranchesFrom, BranchFrom, NextFrom, ContFrom, ContsFrom, SumsFrom, DefinitionsFrom}
+use Rattle.model.specs.Sites.{definitionsIn, definitions}
+use Rattle.model.specs.Numbering.{countSum, countBranches, countBranch, countNext, countCont, countConts, countSums, SumFrom, BranchesFrom, BranchFrom, NextFrom, ContFrom, ContsFrom, SumsFrom, DefinitionsFrom}
 
 -- ---- a tree from a derivation has as many sums as the derivation, numbered from n on
 

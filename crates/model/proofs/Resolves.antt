@@ -2,20 +2,20 @@
 use mathlib.Core.Path.{_≡_, refl, sym, _∙_}
 use mathlib.Core.List.{List, [], _∷_, _++_, List·Memᴰ as In, List·Memᴰ·head as head, Memᴰ·append-left as left, Memᴰ·append-right as right}
 use mathlib.Core.Bool.{Bool, true, false, cond, _&&_}
-use Prim.Native.Nat.{ℕ, zero, suc, _+_, _*_, _-_, _≤_, _<_}
+use Prim.Native.Nat.{ℕ, _+_, _*_, _-_, _≤_, _<_}
 use native.Mathlib.Nat.{mul-le-mul-right}
 use native.Mathlib.Omega.{arith}
-use lib.IntN.{ℤ, pos, negsuc, negℤ, natAbs, _*ℤ_}
+use lib.IntN.{ℤ, pos, natAbs, _*ℤ_}
 use lib.ListN.{length}
 use Rattle.value.specs.Range.{InRange}
 use Rattle.value.proofs.Sizes.{abs-mul}
 use Rattle.value.proofs.Bounds.{in-size}
 use Rattle.word.specs.Number.{unit}
 use Rattle.grammar.specs.Syntax
-use Rattle.model.specs.Sites.{Scope, Site, whole, value, scale, bound, branch, call, exprSites, exprsSites, setSites, condSites, gateSites, scaleSites, rateSites, isLone, itemSites, channelSites, valuesSites, setsSites, countSets, countArgs, countExprs, argsSites, actionSites, bindings, tokensOf, Variable, Definition}
-use Rattle.model.specs.Words.{wholeOf, decimalOf}
-use Rattle.model.specs.Limits.{localLimit, branchLimit}
-use Rattle.model.specs.Given.{Meaning, local, variable, nothing, isValue, isGiven, meaning, isCallable, placeIn}
+use Rattle.model.specs.Sites.{Scope, whole, value, scale, bound, exprSites, exprsSites, setSites, condSites, gateSites, scaleSites, rateSites, isLone, itemSites, channelSites, valuesSites, setsSites, countSets, countArgs, countExprs, argsSites, actionSites, bindings, tokensOf, Variable, Definition}
+use Rattle.model.specs.Words.{wholeOf}
+use Rattle.model.specs.Limits.{localLimit}
+use Rattle.model.specs.Given.{Meaning, local, variable, nothing, isValue, isGiven, meaning, placeIn}
 use Rattle.model.specs.Resolved
 use Rattle.model.specs.Resolved.{isChannelName, itemUse, channelUse, actionUse, orZero, listOf, numberValue, numberScale, valueNamed, scaleNamed, resolveExpr, resolveSet, resolveCond, resolveGate, resolveScale, resolveRate, itemNamed, resolveItem, resolveChannel, resolveValues, resolveSets, resolveAction, resolveArgs}
 use Rattle.model.specs.Good.{Every, scaleLimit, GoodExpr, GoodSet, GoodCond, GoodGate, GoodScale, GoodRate, OneOrTwo, GoodItem, GoodName, GoodValues, GoodSets, GoodAction, namesBound}

@@ -1,6 +1,6 @@
 -- The parts of a sum's number are its locals and its definition (Scope): by arithmetic.
-use mathlib.Core.Path.{_≡_, refl}
-use Prim.Native.Nat.{ℕ, _+_, _*_, _≤_, _<_}
+use mathlib.Core.Path.{_≡_}
+use Prim.Native.Nat.{ℕ, _≤_, _<_}
 use native.Mathlib.Omega.{arith}
 use Rattle.model.specs.Limits.{localLimit, definitionLimit}
 use Rattle.model.specs.Resolved.{Sum}

@@ -4,16 +4,14 @@ use mathlib.Core.List.{List, [], _∷_, _++_, List·Memᴰ as In, List·Memᴰ·
 use mathlib.Core.Option.{some}
 use mathlib.Core.Logic.{⊎-elim}
 use Prim.Native.Nat.{ℕ, zero, suc}
-use native.Mathlib.Omega.{arith}
 use lib.ListN.{getElem?}
 use Rattle.grammar.specs.Grammar as derived
 use Rattle.grammar.specs.Syntax
 use Rattle.grammar.specs.Syntax.{syntaxOf}
 use Rattle.model.specs.Sites.{Scope, bindings, Definition, definitions}
-use Rattle.model.specs.Resolved.{sumNumber}
 use Rattle.model.specs.Stands.{branchesOf, branchesIn, itemsOf, sumsOf, Holds, itself, grouped, SumIn, defined, continued}
 use Rattle.model.proofs.Members.{never, in-got}
-use Rattle.model.proofs.Ordered.{sumList, branchesList, branchList, nextList, contList, contsList, sumsList, definitionsList, modelSums, numbered-so}
+use Rattle.model.proofs.Ordered.{sumList, branchesList, branchList, nextList, contList, contsList, sumsList, definitionsList, numbered-so}
 
 pub record Stood : Type 0 where
   pub scope : Scope

@@ -8,6 +8,7 @@ use lib.ListN.{take}
 use Rattle.token.specs.declared.Found.{Found}
 use Rattle.token.specs.declared.Found.the-variants.{At, Nothing}
 use Rattle.token.specs.Token.{tokens}
+use Rattle.token.specs.Questions.{asked}
 use Rattle.grammar.specs.Syntax
 use Rattle.model.specs.Lists.{least}
 use Rattle.model.specs.Words.{wordOf}
@@ -22,7 +23,7 @@ use Rattle.names.specs.Faults.{earlierOf, asksNames, treeFaults}
 use Rattle.names.specs.Lists.{Gathered}
 use Rattle.names.specs.Tables.{Read}
 use Rattle.names.specs.Walks.{Ground, TreeRoom}
-use Rattle.names.specs.Judged.{judging, judgedNames}
+use Rattle.names.specs.Judged.{answerOf, judgedNames}
 use Rattle.names.proofs.Earliest.{least-append, nothing-first, nothing-second}
 use Rattle.names.proofs.Grounds.{world, ground}
 
@@ -48,8 +49,8 @@ module _ {text : List ℕ} {s : Syntax.Model} {kinds low high nodes : List ℕ} 
     unfolding beyond
     limits-judged = e-is ∙ rw (words-is, tree-answer) (sym (least-append (wordsBeyond text 0 (tokens text)) (treeBeyond (wordOf text) s)))
 
-    pub judged-beyond : {k : ℕ} → e ≡ At k → Beyond k ≡ judgedNames text s
-    unfolding judgedNames judging
+    pub judged-beyond : {k : ℕ} → e ≡ At k → answerOf (Beyond k) ≡ judgedNames text s
+    unfolding judgedNames answerOf asked
     judged-beyond q = rw (sym limits-judged ∙ q)
 
     module _ (passed : e ≡ Nothing) where
@@ -73,8 +74,8 @@ module _ {text : List ℕ} {s : Syntax.Model} {kinds low high nodes : List ℕ} 
         unfolding treeFaults
         fresh-answer = names-answer Fresh f f-is
 
-        pub judged-new : {k : ℕ} → f ≡ At k → NotNew k ≡ judgedNames text s
-        unfolding judgedNames judging
+        pub judged-new : {k : ℕ} → f ≡ At k → answerOf (NotNew k) ≡ judgedNames text s
+        unfolding judgedNames answerOf asked
         judged-new q = rw (sym limits-judged ∙ passed, sym fresh-answer ∙ q)
 
         module _ (new : f ≡ Nothing) {g : Found} (g-is : Answers Given g) where
@@ -82,10 +83,10 @@ module _ {text : List ℕ} {s : Syntax.Model} {kinds low high nodes : List ℕ} 
           unfolding treeFaults
           given-answer = names-answer Given g g-is
 
-          pub judged-given : {k : ℕ} → g ≡ At k → NotGiven k ≡ judgedNames text s
-          unfolding judgedNames judging
+          pub judged-given : {k : ℕ} → g ≡ At k → answerOf (NotGiven k) ≡ judgedNames text s
+          unfolding judgedNames answerOf asked
           judged-given q = rw (sym limits-judged ∙ passed, sym fresh-answer ∙ new, sym given-answer ∙ q)
 
-          pub judged-passed : g ≡ Nothing → Passed ≡ judgedNames text s
-          unfolding judgedNames judging
+          pub judged-passed : g ≡ Nothing → answerOf Passed ≡ judgedNames text s
+          unfolding judgedNames answerOf asked
           judged-passed q = rw (sym limits-judged ∙ passed, sym fresh-answer ∙ new, sym given-answer ∙ q)

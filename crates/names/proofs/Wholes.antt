@@ -6,14 +6,15 @@ use Prim.Native.Nat.{ℕ, zero, suc, _≤_, _<_, min}
 use native.Mathlib.Omega.{arith}
 use borrow.Author.Tests.{le-leb, lt-leb, leb-true, leb-false}
 use lib.Dec.{leb, ltb}
-use lib.IntN.{ℤ, pos, negsuc, negℤ, _-ℤ_, +ℤ-idl}
+use lib.IntN.{ℤ, pos, negsuc, negℤ, natAbs}
 use lib.Signed.{mag}
 use mir.Syntax.{w64}
-use mir.Val.{SFits, ofZ, toZ}
-use mir.Facts.{toZ-ofZ, toZ-pos}
+use mir.Val.{toZ}
+use mir.Facts.{toZ-pos}
 use Rattle.value.specs.declared.Value.{Value}
 use Rattle.value.specs.declared.Value.the-variants.{Is, Missing}
 use Rattle.value.specs.Range.{farthest, least, valueOf}
+use Rattle.value.specs.Arithmetic.{negationOf}
 use Rattle.word.specs.Number.{worth, cap}
 use Rattle.token.specs.declared.Found.{Found}
 use Rattle.token.specs.declared.Found.the-variants.{At, Nothing}
@@ -57,21 +58,15 @@ module _ (x : ℕ) (small : x ≤ cap) where
   as-is : toZ w64 x ≡ pos x
   as-is = toZ-pos w64 (omega arith)
 
-  minus-is : pos 0 -ℤ toZ w64 x ≡ negℤ (pos x)
-  minus-is = rw as-is (+ℤ-idl (negℤ (pos x)))
-
-  size : (y : ℕ) → y ≤ cap → mag (negℤ (pos y)) < 9223372036854775808
-  size zero h = omega arith
-  size (suc y) h = omega arith
-
-  pub minus-fits : SFits w64 (pos 0 -ℤ toZ w64 x)
-  minus-fits = rw minus-is (record { sfits = size x small })
+  -- it may be turned round
+  pub has-room : natAbs (toZ w64 x) < 9223372036854775807
+  has-room = rw as-is (omega arith)
 
   module _ {r : Found} {v : Value} (w : ℕ → List ℕ) (b : Bool) (k : ℕ) (is : x ≡ min cap (worth 0 (w k))) (f : r ≡ lists.least (when (isMissing v) k)) where
-    pub whole-negated : b ≡ true → v ≡ valueOf (toZ w64 (ofZ w64 (pos 0 -ℤ toZ w64 x))) → r ≡ lists.least (wholeBeyond w b k)
-    unfolding wholeBeyond wholeOf
+    pub whole-negated : b ≡ true → v ≡ negationOf (toZ w64 x) → r ≡ lists.least (wholeBeyond w b k)
+    unfolding wholeBeyond wholeOf negationOf
     whole-negated t e =
-        let d : isMissing v ≡ isMissing (valueOf (negℤ (pos (worth 0 (w k))))) = ap isMissing (e ∙ ap valueOf (toZ-ofZ minus-fits ∙ minus-is)) ∙ negative (worth 0 (w k)) x is in
+        let d : isMissing v ≡ isMissing (valueOf (negℤ (pos (worth 0 (w k))))) = ap isMissing (e ∙ ap negationOf as-is) ∙ negative (worth 0 (w k)) x is in
         rw t (f ∙ ap (λ (m : Bool). lists.least (when m k)) d)
 
     pub whole-plain : b ≡ false → v ≡ valueOf (toZ w64 x) → r ≡ lists.least (wholeBeyond w b k)

@@ -23,7 +23,7 @@ ghost use Rattle.model.specs.Limits.{localLimit, isMissing, wordsBeyond, wholeB
 ghost use Rattle.model.specs.Fresh.{repeated};
 ghost use Rattle.model.specs.Given.{placeIn, isCallable};
 ghost use Rattle.names.specs.Tables.{Tabled, Read};
-ghost use Rattle.names.specs.Judged.{judgedNames};
+ghost use Rattle.names.specs.Judged.{answerOf, judgedNames};
 ghost use Rattle.names.specs.Faults.{earlierOf, leftOut, siteFaults};
 ghost use Rattle.names.specs.Lists.{packed, foundOf, nameAt, namesDown, InScope, Reach, run, Gathered};
 ghost use Rattle.names.specs.Settings.{Extended, World, Setting, faultsAt, knownIn, Binding};
@@ -210,7 +210,7 @@ fn whole_fault(low: &[u64], negated: bool, k: usize) -> Found
 {
     let z = low[k] as i64;
     if negated {
-        return value_fault(value::value_of(-z), k);
+        return value_fault(value::neg_value(z), k);
     }
     value_fault(value::value_of(z), k)
 }
@@ -518,7 +518,7 @@ pub fn judge_names(
     n: usize,
 ) -> Judgement
     requires { ⌜ ((text : List ℕ) × (s : Syntax.Model) × Read text s (now kinds) (now low) (now high) (now nodes) root n) ⌝ }
-    ensures { λ r. ⌜ ((text : List ℕ) (s : Syntax.Model) → Read text s (now (kinds .entry)) (now (low .entry)) (now (high .entry)) (now (nodes .entry)) root n → r ≡ judgedNames text s) ⌝ }
+    ensures { λ r. ⌜ ((text : List ℕ) (s : Syntax.Model) → Read text s (now (kinds .entry)) (now (low .entry)) (now (high .entry)) (now (nodes .entry)) root n → answerOf r ≡ judgedNames text s) ⌝ }
 {
     let lists = lists_of(nodes, root);
     let toks = &kinds[..n];

@@ -8,6 +8,8 @@ use borrow.Author.Tests.{le-leb}
 use lib.ListN.{length}
 use Rattle.token.specs.declared.Found.{Found}
 use Rattle.token.specs.declared.Found.the-variants.{At, Nothing}
+use Rattle.token.specs.declared.Judged.the-variants.{Refused as No, Passed as bytes-pass}
+use Rattle.token.specs.Questions as bytes
 use Rattle.token.specs.Token.{tokens}
 use Rattle.grammar.specs.Limit.{tokenLimit}
 use Rattle.grammar.specs.Syntax
@@ -21,7 +23,7 @@ use Rattle.model.specs.Resolved
 use Rattle.model.specs.Resolved.{resolved}
 use Rattle.model.specs.Opening.{refused, opened, bytePlace, tooMany, systemToken, crowded, asked, treeJudged, opening}
 use Rattle.model.specs.Held.{treeHeld, modelIn, held}
-use Rattle.names.specs.Judged.{judging, judgedNames}
+use Rattle.names.specs.Judged.{answerOf, judgedNames}
 use Rattle.names.specs.declared.Judgement.{Judgement}
 use Rattle.names.specs.declared.Judgement.the-variants.{Passed, Beyond, NotNew, NotGiven}
 use Rattle.opening.specs.Trees.{Fitted}
@@ -32,29 +34,29 @@ use Rattle.opening.specs.declared.Named.the-variants.{Refused, Passed as
 never : {A : Type 0} → _≡_ {A = ℕ} 0 1 → A
 never e = absurd (omega arith)
 
-at-beyond : (f g h : Found) {k : ℕ} → judging Beyond f (judging NotNew g (judging NotGiven h Passed)) ≡ Beyond k → f ≡ At k
-unfolding judging
+at-beyond : (f g h : Found) {k : ℕ} → bytes.asked 7 f (bytes.asked 8 g (bytes.asked 9 h bytes-pass)) ≡ No 7 k → f ≡ At k
+unfolding bytes.asked
 at-beyond (At i) g h e = cc
 at-beyond Nothing (At i) h e = never (cc)
 at-beyond Nothing Nothing (At i) e = never (cc)
 at-beyond Nothing Nothing Nothing e = never (cc)
 
-at-new : (f g h : Found) {k : ℕ} → judging Beyond f (judging NotNew g (judging NotGiven h Passed)) ≡ NotNew k → (f ≡ Nothing) × (g ≡ At k)
-unfolding judging
+at-new : (f g h : Found) {k : ℕ} → bytes.asked 7 f (bytes.asked 8 g (bytes.asked 9 h bytes-pass)) ≡ No 8 k → (f ≡ Nothing) × (g ≡ At k)
+unfolding bytes.asked
 at-new (At i) g h e = never (cc)
 at-new Nothing (At i) h e = (refl, cc)
 at-new Nothing Nothing (At i) e = never (cc)
 at-new Nothing Nothing Nothing e = never (cc)
 
-at-given : (f g h : Found) {k : ℕ} → judging Beyond f (judging NotNew g (judging NotGiven h Passed)) ≡ NotGiven k → (f ≡ Nothing) × (g ≡ Nothing) × (h ≡ At k)
-unfolding judging
+at-given : (f g h : Found) {k : ℕ} → bytes.asked 7 f (bytes.asked 8 g (bytes.asked 9 h bytes-pass)) ≡ No 9 k → (f ≡ Nothing) × (g ≡ Nothing) × (h ≡ At k)
+unfolding bytes.asked
 at-given (At i) g h e = never (cc)
 at-given Nothing (At i) h e = never (cc)
 at-given Nothing Nothing (At i) e = (refl, refl, cc)
 at-given Nothing Nothing Nothing e = never (cc)
 
-at-none : (f g h : Found) → judging Beyond f (judging NotNew g (judging NotGiven h Passed)) ≡ Passed → (f ≡ Nothing) × (g ≡ Nothing) × (h ≡ Nothing)
-unfolding judging
+at-none : (f g h : Found) → bytes.asked 7 f (bytes.asked 8 g (bytes.asked 9 h bytes-pass)) ≡ bytes-pass → (f ≡ Nothing) × (g ≡ Nothing) × (h ≡ Nothing)
+unfolding bytes.asked
 at-none (At i) g h e = never (cc)
 at-none Nothing (At i) h e = never (cc)
 at-none Nothing Nothing (At i) e = never (cc)
@@ -75,29 +77,29 @@ module _ {text : List ℕ} {s : Syntax.Model} {kinds places low high nodes : Lis
   unfolding tooMany
   few = let l : length (tokens text) ≤ tokenLimit = omega (arith, f .read .few, f .read .tabled .count) in simp (le-leb (length (tokens text)) tokenLimit l)
 
-  module _ {j : Judgement} (e : j ≡ judgedNames text s) {k p : ℕ} (q : p ≡ bytePlace text k) where
+  module _ {j : Judgement} (e : answerOf j ≡ judgedNames text s) {k p : ℕ} (q : p ≡ bytePlace text k) where
     pub beyond-no : j ≡ Beyond k → NamesJudged text s (Refused 7 p)
-    unfolding NamesJudged judgedNames treeJudged treeHeld asked modelIn
+    unfolding NamesJudged answerOf judgedNames treeJudged treeHeld asked modelIn
     beyond-no i =
-        let a = at-beyond f7 f8 f9 (sym e ∙ i) in
+        let a = at-beyond f7 f8 f9 (sym e ∙ ap answerOf i) in
         record { opens = f .opens ∙ simp (few, a) (ap (refused 7) (sym q)); holds = f .holds ∙ simp (few, a) }
 
     pub new-no : j ≡ NotNew k → NamesJudged text s (Refused 8 p)
-    unfolding NamesJudged judgedNames treeJudged treeHeld asked modelIn
+    unfolding NamesJudged answerOf judgedNames treeJudged treeHeld asked modelIn
     new-no i =
-        let a = at-new f7 f8 f9 (sym e ∙ i) in
+        let a = at-new f7 f8 f9 (sym e ∙ ap answerOf i) in
         record { opens = f .opens ∙ simp (few, a .0, a .1) (ap (refused 8) (sym q)); holds = f .holds ∙ simp (few, a .0, a .1) }
 
     pub given-no : j ≡ NotGiven k → NamesJudged text s (Refused 9 p)
-    unfolding NamesJudged judgedNames treeJudged treeHeld asked modelIn
+    unfolding NamesJudged answerOf judgedNames treeJudged treeHeld asked modelIn
     given-no i =
-        let a = at-given f7 f8 f9 (sym e ∙ i) in
+        let a = at-given f7 f8 f9 (sym e ∙ ap answerOf i) in
         record { opens = f .opens ∙ simp (few, a .0, a .1, a .2) (ap (refused 9) (sym q)); holds = f .holds ∙ simp (few, a .0, a .1, a .2) }
 
-  pub names-yes : {j : Judgement} → j ≡ judgedNames text s → j ≡ Passed → {k p : ℕ} → p ≡ bytePlace text k → k ≡ systemToken (system s) → NamesJudged text s (Fine p)
-  unfolding NamesJudged judgedNames
+  pub names-yes : {j : Judgement} → answerOf j ≡ judgedNames text s → j ≡ Passed → {k p : ℕ} → p ≡ bytePlace text k → k ≡ systemToken (system s) → NamesJudged text s (Fine p)
+  unfolding NamesJudged answerOf judgedNames
   names-yes e i q t =
-      let a = at-none f7 f8 f9 (sym e ∙ i) in
+      let a = at-none f7 f8 f9 (sym e ∙ ap answerOf i) in
       (record { within = a .0; new = a .1; given = a .2 }, q ∙ ap (bytePlace text) t)
 
   -- ---- the model of a text that is sound

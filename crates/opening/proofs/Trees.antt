@@ -16,7 +16,7 @@ use Rattle.grammar.specs.Grammar.{Model, Reads}
 use Rattle.grammar.specs.Limit.{tokenLimit}
 use Rattle.grammar.specs.Syntax.{syntaxOf}
 use Rattle.syntax.specs.Judged.{Fitting}
-use Rattle.syntax.specs.Asked.{Asks}
+use Rattle.syntax.specs.Asked.{No as NoTo, no5, no6, Asks}
 use Rattle.syntax.specs.declared.question.Asked.{Asked}
 use Rattle.syntax.specs.declared.question.Asked.the-variants.{Passed as Fit, Misfit, Crowded}
 use Rattle.model.specs.Opening.{refused, tooMany, asked, bytePlace, treeJudged}
@@ -58,7 +58,19 @@ module _ {text kinds₀ places₀ sizes₀ : List ℕ} {n : ℕ} {kinds places s
 
     crowding : {k : ℕ} → r ≡ Crowded k → ((m : Model) × Reads ts m) × (tokenLimit < length ts) × (k ≡ tokenLimit)
     unfolding Asks
-    crowding q = rw q at asks
+    crowding {k} q = by (rw q at asks)
+      where
+        by : NoTo ts 6 k → ((m : Model) × Reads ts m) × (tokenLimit < length ts) × (k ≡ tokenLimit)
+        by (no5 e w) = absurd (omega arith)
+        by (no6 e m h l i) = ((m, h), l, i)
+
+    goes : {k : ℕ} → r ≡ Misfit k → Wrong ts k
+    unfolding Asks
+    goes {k} q = by (rw q at asks)
+      where
+        by : NoTo ts 5 k → Wrong ts k
+        by (no5 e w) = w
+        by (no6 e m h l i) = absurd (omega arith)
 
     pub fit-few : {root : ℕ} → r ≡ Fit root → n ≤ tokenLimit
     fit-few q = omega (arith, few, f .count, fitting q .1)
@@ -66,9 +78,9 @@ module _ {text kinds₀ places₀ sizes₀ : List ℕ} {n : ℕ} {kinds places s
     module _ (passed : Passed ≡ bytesJudged text) where
       -- 5
       pub misfit-no : (low high : List ℕ) {k p : ℕ} → r ≡ Misfit k → p ≡ bytePlace text k → TreeRead text kinds places low high nodes (No 5 p)
-      unfolding TreeRead Asks
+      unfolding TreeRead
       misfit-no low high {k} {p} q e =
-          let w = rw q at asks in
+          let w = goes q in
           record { opens = goes-wrong text k (sym passed) w ∙ ap (refused 5) (sym e); holds = wrong-none text k (sym passed) w }
 
       -- 6

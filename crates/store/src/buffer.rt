@@ -15,7 +15,7 @@ pub struct Bytes;
 
 impl Bytes {
     // The most bytes of a text, and where they stand.
-    pub const MOST: usize = 16384;
+    pub const MOST: usize = token::Limits::TEXT;
 
     pub const FIRST: usize = 2;
 

@@ -13,7 +13,7 @@ pub struct Engine {
 
 impl Engine {
     // The lengths of the lent buffers.
-    pub const MODEL: usize = 16386;
+    pub const MODEL: usize = buffer::Bytes::FIRST + buffer::Bytes::MOST;
 
     pub const STATE: usize = 5122;
 

@@ -5,7 +5,7 @@ use Prim.Native.Nat.{ℕ, _<_, _≤_}
 use lib.ListN.{length}
 use Rattle.grammar.specs.Limit.{tokenLimit}
 use Rattle.syntax.specs.Judged.{Fitting, Judged}
-use Rattle.syntax.specs.Asked.{Asks}
+use Rattle.syntax.specs.Asked.{No, no5, no6, Asks}
 use Rattle.syntax.specs.declared.line.Text.{Text}
 use Rattle.syntax.specs.declared.line.Text.the-variants.{Fits, Broken}
 use Rattle.syntax.specs.declared.question.Asked.the-variants.{Passed, Misfit, Crowded}
@@ -13,11 +13,11 @@ use Rattle.syntax.specs.declared.question.Asked.the-variants.{Passed, Mi
 module _ (ts t : List ℕ) (r : Text) (j : Judged ts t r) where
   pub misfits : {k : ℕ} → r ≡ Broken k → Asks ts t (Misfit k)
   unfolding Judged Asks
-  misfits e = rw e at j
+  misfits e = no5 refl (rw e at j)
 
   pub crowds : {root : ℕ} → r ≡ Fits root → tokenLimit < length ts → Asks ts t (Crowded tokenLimit)
   unfolding Judged Asks
-  crowds {root} e h = let f : Fitting ts t root = rw e at j in ((f .tree, f .reads), h, refl)
+  crowds {root} e h = let f : Fitting ts t root = rw e at j in no6 refl (f .tree) (f .reads) h refl
 
   pub passed : {root : ℕ} → r ≡ Fits root → length ts ≤ tokenLimit → Asks ts t (Passed root)
   unfolding Judged Asks

@@ -10,7 +10,7 @@ use Rattle.tree.specs.declared.Read.the-variants.{Next, Fault}
 use Rattle.tree.specs.declared.Counted.{Counted}
 use Rattle.tree.specs.declared.Counted.the-variants.{Next as CountedNext, Fault as CountedFault}
 
--- the place that an answer gives
+-- 01, Opening a text, 5: where an answer leaves the reader, at the token after what it read, or at the token that no fitting text could have there
 unfoldable pub place : Read → Answer
 place (Next n root) = next n
 place (Fault k) = fault k

@@ -2,7 +2,7 @@
 use mathlib.Core.Path.{_≡_, refl, sym, ap, _∙_}
 use mathlib.Core.List.{List}
 use mathlib.Core.Option.{some}
-use Prim.Native.Nat.{ℕ, _≤_}
+use Prim.Native.Nat.{ℕ, _≤_, _<_}
 use native.Mathlib.Omega.{arith}
 use borrow.Author.Tests.{le-leb}
 use lib.ListN.{length}
@@ -34,24 +34,27 @@ use Rattle.opening.specs.declared.Named.the-variants.{Refused, Passed as
 never : {A : Type 0} → _≡_ {A = ℕ} 0 1 → A
 never e = absurd (omega arith)
 
+unequal : {A : Type 0} (m n : ℕ) → m < n → n ≡ m → A
+unequal m n h e = absurd (omega arith)
+
 at-beyond : (f g h : Found) {k : ℕ} → bytes.asked 7 f (bytes.asked 8 g (bytes.asked 9 h bytes-pass)) ≡ No 7 k → f ≡ At k
 unfolding bytes.asked
 at-beyond (At i) g h e = cc
-at-beyond Nothing (At i) h e = never (cc)
-at-beyond Nothing Nothing (At i) e = never (cc)
+at-beyond Nothing (At i) h e = unequal 7 8 (omega arith) (cc)
+at-beyond Nothing Nothing (At i) e = unequal 7 9 (omega arith) (cc)
 at-beyond Nothing Nothing Nothing e = never (cc)
 
 at-new : (f g h : Found) {k : ℕ} → bytes.asked 7 f (bytes.asked 8 g (bytes.asked 9 h bytes-pass)) ≡ No 8 k → (f ≡ Nothing) × (g ≡ At k)
 unfolding bytes.asked
-at-new (At i) g h e = never (cc)
+at-new (At i) g h e = unequal 7 8 (omega arith) (cc)
 at-new Nothing (At i) h e = (refl, cc)
-at-new Nothing Nothing (At i) e = never (cc)
+at-new Nothing Nothing (At i) e = unequal 8 9 (omega arith) (cc)
 at-new Nothing Nothing Nothing e = never (cc)
 
 at-given : (f g h : Found) {k : ℕ} → bytes.asked 7 f (bytes.asked 8 g (bytes.asked 9 h bytes-pass)) ≡ No 9 k → (f ≡ Nothing) × (g ≡ Nothing) × (h ≡ At k)
 unfolding bytes.asked
-at-given (At i) g h e = never (cc)
-at-given Nothing (At i) h e = never (cc)
+at-given (At i) g h e = unequal 7 9 (omega arith) (cc)
+at-given Nothing (At i) h e = unequal 8 9 (omega arith) (cc)
 at-given Nothing Nothing (At i) e = (refl, refl, cc)
 at-given Nothing Nothing Nothing e = never (cc)
 

@@ -12,7 +12,7 @@ use Rattle.token.specs.Questions.{bytesJudged}
 use Rattle.token.specs.Token.{Mark, tokens, column, kindsOf, Filled}
 use Rattle.token.specs.Contents.{lowOf, highOf, Told}
 use Rattle.token.proofs.Marks.{column-length}
-use Rattle.grammar.specs.Grammar.{Model, Reads}
+use Rattle.grammar.specs.Grammar.{Model, Reads, Wrong}
 use Rattle.grammar.specs.Limit.{tokenLimit}
 use Rattle.grammar.specs.Syntax.{syntaxOf}
 use Rattle.syntax.specs.Judged.{Fitting}

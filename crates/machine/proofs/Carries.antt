@@ -1,5 +1,5 @@
 -- Every answer carries what 01 says, no refusal of a list call or step alters the machine, and a refused opening closes it. By cases of call, machine and answer.
-use mathlib.Core.Path.{_≡_, refl}
+use mathlib.Core.Path.{_≡_, refl, sym, _∙_}
 use mathlib.Core.List.{List}
 use mathlib.Core.Bool.{Bool, true, false, cond, _&&_}
 use mathlib.Core.Logic.{_↔_}
@@ -13,13 +13,13 @@ use Rattle.model.proofs.Answered.{answered}
 use Rattle.rules.specs.Listing.{Entry}
 use Rattle.rules.proofs.Decides.{Decides, holds, fails, passes, both, equal}
 use Rattle.machine.specs.State.{State, stateLength}
-use Rattle.machine.specs.Machine.{modelLength, listingLength, asLent, no, listedAs, Listed, entriesAre, refusedWith, listing, Turn, drawn, Machine, closed, holding}
+use Rattle.machine.specs.Machine.{modelLength, listingLength, asLent, Answer, no, listedAs, Listed, entriesAre, refusedWith, listing, Turn, drawn, Machine, closed, holding}
 use Rattle.machine.specs.Machine.{reportedAs, Call, open′, list′, step′, report′, lent, turn, opens, showing, lists, sharing, reports, stepped, choosing, stepsOn, calls}
 use Rattle.machine.specs.Report.{reportLength}
 use Rattle.machine.specs.Questions.{Lists, no12, no13, no14, yes14, Steps, no15, no16, no17, no18, no19, yes19}
 use Rattle.machine.specs.Results as results
 use Rattle.machine.specs.Results.{Runs, Lent, Carries, under1, under2-10, under11, under12, under13, under14, under15-19}
-use Rattle.machine.proofs.Listing.{asked}
+use Rattle.machine.proofs.Listing.{asked, accepted}
 use Rattle.machine.proofs.Stepping as stepping
 
 -- what a turn from the machine x by the call c carries, when it leaves x, and what 1 and 11 say of it

@@ -2,11 +2,11 @@
 use Prim.Native.Nat.{ℕ, zero, suc, _+_, _*_, _≤_, _<_}
 use mathlib.Core.Path.{_≡_, refl, sym, ap, _∙_}
 use mathlib.Core.Bool.{Bool, true, false}
-use mathlib.Core.List.{List, [], _∷_, map}
+use mathlib.Core.List.{List, [], _∷_, _++_, map}
 use mathlib.Core.Option.{Option, none, some}
 use native.Mathlib.Omega.{arith}
 use lib.IntN.{ℤ, pos, natAbs}
-use lib.ListN.{length, getD, getElem?}
+use lib.ListN.{length, getD, getElem?, set}
 use mir.Syntax.{w64}
 use mir.Val.{toZ, ofZ, Fits}
 use lib.Dec.{T}
@@ -30,7 +30,7 @@ use Rattle.eval.specs.Shown as shown
 use Rattle.eval.specs.Shown.{ShowsValues}
 use Rattle.eval.specs.Channels.{ShowsChannel, numbersOf}
 use Rattle.eval.proofs.Shapes.{numbers-are}
-use Rattle.state.specs.Test.{rows, ascends, placeOf, channelRow, pairPart}
+use Rattle.state.specs.Test.{rows, ascends, placeOf, valuesPast, pairPart}
 use Rattle.state.proofs.Image.{pair-rows}
 use Rattle.state.proofs.Climbs.{climbing}
 use Rattle.state.proofs.Channel.{rowOn, run-bound, run-exact}
@@ -88,7 +88,10 @@ module _ {t roots scopes : List ℕ} {zs : List ℤ} {m : Resolved.Model} {s : S
       let b = run-bound c (m .channels) (s .pairs) (f .pairs) (w .state .ascending) in
       record { low = b .0; high = b .1; exact = λ q x e. run-exact c (m .channels) (s .pairs) (f .pairs) (w .state .ascending) q x e }
 
-  pub run-shown : (sh : ℕ) (a b c : ℤ) (x : offers.Channel) (from to : ℕ) → ShowsChannel sh a b c x
-      → from ≡ placeOf (channelRow (numbersOf sh a b c) 0) (rows pairWidth (pairCount zs) (pairPart zs)) → to ≡ placeOf (channelRow (numbersOf sh a b c) 3) (rows pairWidth (pairCount zs) (pairPart zs)) → RunIs (s .pairs) x from to
-  run-shown sh a b c x from to h e f =
-      rw (e, f) (rw rows-are (rw (numbers-are x h (pos 0 ∷ pos 0 ∷ pos 0 ∷ []), numbers-are x h (pos 3 ∷ pos 0 ∷ pos 0 ∷ [])) (run-at x)))
+  pub run-shown : (sh : ℕ) (a b c : ℤ) (x : offers.Channel) (row : List ℤ) (from to : ℕ) → ShowsChannel sh a b c x → row ≡ numbersOf sh a b c ++ pos 0 ∷ pos 0 ∷ pos 0 ∷ []
+      → from ≡ placeOf row (rows pairWidth (pairCount zs) (pairPart zs)) → to ≡ placeOf (set row channelWidth (pos valuesPast)) (rows pairWidth (pairCount zs) (pairPart zs)) → RunIs (s .pairs) x from to
+  unfolding numbersOf
+  run-shown sh a b c x row from to h w e f =
+      let low : row ≡ rowOn x 0 = w ∙ numbers-are x h (pos 0 ∷ pos 0 ∷ pos 0 ∷ []) in
+      let high : set row channelWidth (pos valuesPast) ≡ rowOn x 3 = ap (λ (l : List ℤ). set l channelWidth (pos valuesPast)) w ∙ numbers-are x h (pos 3 ∷ pos 0 ∷ pos 0 ∷ []) in
+      rw (e, f) (rw rows-are (rw (high, low) (run-at x)))

@@ -259,9 +259,9 @@ fn run_of(state: &[i64], o: Offer) -> Run
     ensures { λ r. ⌜ ((nodes : List ℕ) (ls : List ℤ) (w : offers.Query) (t roots scopes : List ℕ) (m : Resolved.Model) (s : State) → ShowsQuery nodes ls o w → World t roots scopes (now (state .entry)) m s → RunIs (s .pairs) (w .channel) (r .from) (r .to)) ⌝ }
 {
     let n = state::pair_count(state);
-    let mut channel = [0i64; Layout::CHANNEL];
-    eval::channel::put_channel(o.shape, o.channel, o.channel2, o.channel3, &mut channel);
-    state::channel_run(&state[Layout::PAIRS..], n, &channel)
+    let mut row = [0i64; Layout::PAIR];
+    eval::channel::put_channel(o.shape, o.channel, o.channel2, o.channel3, &mut row);
+    state::channel_run(&state[Layout::PAIRS..], n, &mut row)
 }
 
 // Whether any lit pair of a run matches what an offer asks for.

@@ -1,15 +1,14 @@
 -- The places between the two rows of a channel are those of the pairs on that channel: from the order of the rows, by cases of two channels.
 use mathlib.Core.Path.{_≡_, refl, sym, ap, _∙_}
 use mathlib.Core.Bool.{Bool, true, false, cond}
-use mathlib.Core.List.{List, [], _∷_, _++_, map}
+use mathlib.Core.List.{List, [], _∷_, map}
 use mathlib.Core.Logic.{_↔_}
 use mathlib.Core.Option.{some}
 use Prim.Native.Nat.{ℕ, zero, suc, _≤_, _<_}
 use native.Mathlib.Omega.{arith}
 use borrow.Author.Tests.{lt-ltb}
 use lib.IntN.{ℤ, pos}
-use lib.ListN.{length, getD, getElem?, set, take, drop, replicate, length-map}
-use lib.Seq.{take-all}
+use lib.ListN.{length, getD, getElem?, length-map}
 use Rattle.value.proofs.Kit.{true-not-false}
 use Rattle.rules.specs.Offers as offers
 use Rattle.rules.specs.Order.{less, Ascending}
@@ -17,11 +16,11 @@ use Rattle.rules.specs.Pairs.{channelNumbers, Before}
 use Rattle.rules.proofs.Channels.{one-channel, between}
 use Rattle.rules.proofs.Less.{less-irreflexive, less-trans, less-first}
 use Rattle.model.specs.Good.{Every}
-use Rattle.machine.specs.State.{State, padded, pairNumbers, stateNumbers, channelWidth, pairWidth}
+use Rattle.machine.specs.State.{State, padded, pairNumbers, stateNumbers, pairWidth}
 use Rattle.machine.proofs.Branches.{get-nth}
 use Rattle.machine.proofs.Everys.{every-nth}
 use Rattle.state.specs.Fits.{FewLocals, FitsPair, Fits}
-use Rattle.state.specs.Test.{rows, placeOf, channelRow, pairPart}
+use Rattle.state.specs.Test.{rows, placeOf, pairPart}
 use Rattle.state.proofs.Entries.{pair-shape, get-is}
 use Rattle.state.proofs.Climbs.{climbing}
 use Rattle.state.proofs.Places.{place-more, place-less, place-bound}
@@ -102,16 +101,6 @@ module _ (c : offers.Channel) (channels : ℕ) (L : List offers.Pair) (fits : Ev
               place-less (rowOn c 0) rs q inside (ap (λ (l : List ℤ). less l (rowOn c 0)) r ∙ less-back (rowOn c 0) _ (fewer c 0 n _ _ (omega (arith, f .number .one)))),
               place-more (rowOn c 3) rs q (climbing L up) inside (ap (λ (l : List ℤ). less l (rowOn c 3)) r ∙ fewer c n 3 _ _ (omega (arith, f .number .two))),
             )
-
--- how the rows that are looked for are written: the channel over zeros, then a count past all
-pub rows-written : (c z : List ℤ) → length c ≡ channelWidth → z ≡ take channelWidth c ++ drop channelWidth (replicate pairWidth (pos 0)) → (z ≡ channelRow c 0) × (set z channelWidth (pos 3) ≡ channelRow c 3)
-rows-written c z l e =
-    let f : z ≡ channelRow c 0 = e ∙ ap (λ (u : List ℤ). u ++ pos 0 ∷ pos 0 ∷ pos 0 ∷ []) (take-all channelWidth c (omega arith)) in
-    (f, ap (λ (u : List ℤ). set u channelWidth (pos 3)) f ∙ ap (λ (i : ℕ). set (channelRow c 0) i (pos 3)) (sym l) ∙ set-last c)
-  where
-    set-last : (u : List ℤ) → set (channelRow u 0) (length u) (pos 3) ≡ channelRow u 3
-    set-last [] = refl
-    set-last (x ∷ u) = ap (λ (v : List ℤ). x ∷ v) (set-last u)
 
 -- ---- the run in a state's numbers
 module _ (scopes : List ℕ) (few : FewLocals scopes) (channels : ℕ) (s : State) (fits : Fits scopes channels s) (c : offers.Channel) where

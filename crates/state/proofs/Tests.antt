@@ -19,8 +19,9 @@ use Rattle.machine.specs.State.{channelWidth, pairWidth, processWidth}
 use Rattle.model.specs.Limits.{localLimit}
 use Rattle.value.specs.Arithmetic.{isLess, isSame}
 use Rattle.value.specs.Range.{least, greatest}
-use Rattle.value.proofs.Kit.{true-not-false, false-not-true, same-bits, ok-fits}
+use Rattle.value.proofs.Kit.{true-not-false, false-not-true, same-eq, same-bits, ok-fits}
 use Rattle.rules.specs.Order.{less}
+use Rattle.rules.proofs.Less.{less-irreflexive}
 use Rattle.state.specs.Test.{every, rows, isValue, isZero, isBelow, at, isPadded, isProcess, isCount, isItem, isItemOf, isChannel, isPair, leads, ascends, areProcesses, arePairs, isState, processPart, pairPart}
 use Rattle.state.specs.Fits.{FewLocals}
 use Rattle.model.specs.Good.{Every}
@@ -275,26 +276,34 @@ module _ (t : List ℤ → Bool) (w n : ℕ) (s : List ℤ) (i : ℕ) (e : every
   rows-done l = e ∙ ap (every t) (rows-none w n i (drop (i * w) s) l)
 
 -- ---- the order of two rows, number by number
+z-irreflexive : (x : ℤ) → isLess x x ≡ false
+unfolding less
+z-irreflexive x = or-first (isLess x x) (isSame x x && less [] []) (less-irreflexive (x ∷ []))
+  where
+    or-first : (a b : Bool) → a || b ≡ false → a ≡ false
+    or-first true b e = e
+    or-first false b e = refl
+
 module _ (a b : List ℤ) (i : ℕ) (same : length a ≡ length b) (e : less a b ≡ less (drop i a) (drop i b)) where
-  less-next : i < length a → less a b ≡ cond (isLess (getD a i (pos 0)) (getD b i (pos 0))) true (isSame (getD a i (pos 0)) (getD b i (pos 0)) && less (drop (i + 1) a) (drop (i + 1) b))
+  less-next : i < length a → less a b ≡ isLess (getD a i (pos 0)) (getD b i (pos 0)) || isSame (getD a i (pos 0)) (getD b i (pos 0)) && less (drop (i + 1) a) (drop (i + 1) b)
   unfolding less
   less-next l =
       e ∙ ap (λ (x : List ℤ). less x (drop i b)) (drop-cons a i (pos 0) l)
       ∙ ap (λ (y : List ℤ). less (getD a i (pos 0) ∷ drop (suc i) a) y) (drop-cons b i (pos 0) (omega arith))
-      ∙ (rw (add-one i) (as-cond (isLess (getD a i (pos 0)) (getD b i (pos 0))) (isSame (getD a i (pos 0)) (getD b i (pos 0)) && less (drop (suc i) a) (drop (suc i) b))))
+      ∙ rw (add-one i)
+
+  pub less-apart : i < length a → isSame (getD a i (pos 0)) (getD b i (pos 0)) ≡ false → less a b ≡ isLess (getD a i (pos 0)) (getD b i (pos 0))
+  less-apart l f = less-next l ∙ rw f (or-none (isLess (getD a i (pos 0)) (getD b i (pos 0))))
     where
-      as-cond : (x y : Bool) → x || y ≡ cond x true y
-      as-cond true y = refl
-      as-cond false y = refl
+      or-none : (x : Bool) → x || false ≡ x
+      or-none true = refl
+      or-none false = refl
 
-  pub less-found : i < length a → isLess (getD a i (pos 0)) (getD b i (pos 0)) ≡ true → less a b ≡ true
-  less-found l f = less-next l ∙ rw f
-
-  pub less-apart : i < length a → isLess (getD a i (pos 0)) (getD b i (pos 0)) ≡ false → isSame (getD a i (pos 0)) (getD b i (pos 0)) ≡ false → less a b ≡ false
-  less-apart l f g = less-next l ∙ rw (f, g)
-
-  pub less-on : i < length a → isLess (getD a i (pos 0)) (getD b i (pos 0)) ≡ false → isSame (getD a i (pos 0)) (getD b i (pos 0)) ≡ true → less a b ≡ less (drop (i + 1) a) (drop (i + 1) b)
-  less-on l f g = less-next l ∙ rw (f, g)
+  pub less-on : i < length a → isSame (getD a i (pos 0)) (getD b i (pos 0)) ≡ true → less a b ≡ less (drop (i + 1) a) (drop (i + 1) b)
+  less-on l f =
+      let n : isLess (getD a i (pos 0)) (getD b i (pos 0)) ≡ false =
+      ap (λ (x : ℤ). isLess x (getD b i (pos 0))) (same-eq (getD a i (pos 0)) (getD b i (pos 0)) f) ∙ z-irreflexive (getD b i (pos 0)) in
+      less-next l ∙ rw (f, n)
 
   pub less-done : length a ≤ i → less a b ≡ false
   unfolding less

@@ -1,6 +1,6 @@
 -- Whether 5,122 numbers are those of a state, as a test in the code's order (01, State, and Listing, question 11). Definitions only.
 use mathlib.Core.Bool.{Bool, true, false, cond, not, _&&_}
-use mathlib.Core.List.{List, [], _∷_, _++_}
+use mathlib.Core.List.{List, [], _∷_}
 use Prim.Native.Nat.{ℕ, zero, suc, _+_, _*_}
 use lib.Dec.{ltb}
 use lib.IntN.{ℤ, pos, negsuc, natAbs}
@@ -97,9 +97,9 @@ unfoldable pub isLit : List ℤ → List (List ℤ) → Bool
 isLit row [] = false
 isLit row (r ∷ rs) = cond (less r row) (isLit row rs) (not (less row r))
 
--- a row before the pairs on a channel, or after them: the channel's numbers, a count of values that none of them has, and 0s
-abbrev pub channelRow : List ℤ → ℕ → List ℤ
-channelRow c k = c ++ pos k ∷ pos 0 ∷ pos 0 ∷ []
+-- a count of values that no pair has, past all: with it a channel's row stands after the pairs on the channel, with 0 before them
+abbrev pub valuesPast : ℕ
+valuesPast = 3
 
 -- ---- the state
 

@@ -4,7 +4,7 @@ ghost use Prim.Native.Nat.{_+_, _-_, _*_, _≤_, _<_};
 ghost use mathlib.Core.Bool.{true, false};
 ghost use mathlib.Core.List.{_++_};
 ghost use lib.IntN.{ℤ, pos, natAbs};
-ghost use lib.ListN.{length, take, drop, replicate};
+ghost use lib.ListN.{length, set, take, drop, replicate};
 ghost use Rattle.model.specs.Limits.{localLimit};
 ghost use Rattle.model.specs.Opening.{processLimit};
 ghost use Rattle.model.specs.Scope.{localsIn, definitionIn};
@@ -14,7 +14,7 @@ ghost use Rattle.machine.specs.State.{pairLimit, processWidth, channelWidth, pa
 ghost use Rattle.state.specs.Change.{rewritten, pairRows, pairAdded, pairTaken, pairLaunched, pairKilled, processReplaced, processAdded, processPushed};
 ghost use Rattle.state.specs.Fits.{FewLocals};
 ghost use Rattle.state.specs.Read.{Passed, processCount, pairCount, sumAt, localsAt, definitionNumber, pairRow};
-ghost use Rattle.state.specs.Test.{at, placeOf, isLit, channelRow, every, rows, isValue, isZero, isBelow, isPadded, isProcess, isCount, isItem, isItemOf, isChannel, isPair, ascends, areProcesses, arePairs, isState};
+ghost use Rattle.state.specs.Test.{at, placeOf, isLit, valuesPast, every, rows, isValue, isZero, isBelow, isPadded, isProcess, isCount, isItem, isItemOf, isChannel, isPair, ascends, areProcesses, arePairs, isState};
 
 pub struct Layout;
 
@@ -251,11 +251,8 @@ fn is_before(a: &[i64], b: &[i64]) -> bool
 {
     let mut i = 0;
     while i < a.len() {
-        if value::less(a[i], b[i]) {
-            return true;
-        }
         if !value::same(a[i], b[i]) {
-            return false;
+            return value::less(a[i], b[i]);
         }
         i += 1;
     }
@@ -379,16 +376,14 @@ pub struct Run {
     pub to: usize,
 }
 
-// How many of n ascending pairs stand before those on a channel, and how many up to the last of these.
-pub fn channel_run(s: &[i64], n: usize, channel: &[i64]) -> Run
-    requires { ⌜ (n * pairWidth ≤ length (now s)) × (ascends (rows pairWidth n (now s)) ≡ true) × (length (now channel) ≡ channelWidth) ⌝ }
-    ensures { λ r. ⌜ (r .from ≡ placeOf (channelRow (now (channel .entry)) 0) (rows pairWidth n (now (s .entry)))) × (r .to ≡ placeOf (channelRow (now (channel .entry)) 3) (rows pairWidth n (now (s .entry)))) ⌝ }
+// How many of n ascending pairs stand before those on a channel, and how many up to the last of these. The row has the channel's numbers, then zeros.
+pub fn channel_run(s: &[i64], n: usize, row: &mut [i64]) -> Run
+    requires { ⌜ (n * pairWidth ≤ length (now s)) × (ascends (rows pairWidth n (now s)) ≡ true) × (length (now row) ≡ pairWidth) ⌝ }
+    ensures { λ r. ⌜ (r .from ≡ placeOf (now (row .entry)) (rows pairWidth n (now (s .entry)))) × (r .to ≡ placeOf (set (now (row .entry)) channelWidth (pos valuesPast)) (rows pairWidth n (now (s .entry)))) ⌝ }
 {
-    let mut row = [0i64; Layout::PAIR];
-    put(&mut row, channel, Layout::CHANNEL);
-    let from = find_pair(s, n, &row);
+    let from = find_pair(s, n, row);
     row[Layout::CHANNEL] = Layout::VALUE_COUNTS as i64;
-    let to = find_pair(s, n, &row);
+    let to = find_pair(s, n, row);
     Run { from: from, to: to }
 }
 

@@ -48,10 +48,10 @@ returns : tie.Need-returns
 unfolding numbersOf
 returns c =
     λ nodes ls q t roots scopes m s sq w.
-    let o = c .before .before .before .before .before .before .before .before .before .before .args .o in
-    let p = tail-part pairsFrom (c .before .before .before .before .before .before .before .before .before .before .args .state .now) in
-    let e = simp (back (c .before .before .before .before .before .before .before .before .before .before .args .o .channel) (c .before .before .before .before .before .before .before .struct-told .given .1 .1 .1 .0 .1), back (c .before .before .before .before .before .before .before .before .before .before .args .o .channel2) (c .before .before .before .before .before .before .struct-told2 .given .1 .1 .1 .1 .1 .1 .1 .1 .1 .0 .1), back (c .before .before .before .before .before .before .before .before .before .before .args .o .channel3) (c .before .before .before .before .before .struct-told3 .given .1 .1 .1 .1 .1 .1 .1 .1 .1 .1 .0 .1)) at (c .before .before .before .before .put-channel .ensures) in
-    run-shown w (o .shape) (o .channel) (o .channel2) (o .channel3) (q .channel) _ _ (sq .channel-is) (c .channel-run .ensures .0 ∙ rw (e, p, c .before .before .before .before .before .before .before .before .before .pair-count .ensures .0)) (c .channel-run .ensures .1 ∙ rw (e, p, c .before .before .before .before .before .before .before .before .before .pair-count .ensures .0))
+    let o = c .before .before .before .before .before .before .before .before .before .before .before .args .o in
+    let p = tail-part pairsFrom (c .before .before .before .before .before .before .before .before .before .before .before .args .state .now) in
+    let e = simp (back (c .before .before .before .before .before .before .before .before .before .before .before .args .o .channel) (c .before .before .before .before .before .before .before .before .struct-told .given .1 .1 .1 .0 .1), back (c .before .before .before .before .before .before .before .before .before .before .before .args .o .channel2) (c .before .before .before .before .before .before .before .struct-told2 .given .1 .1 .1 .1 .1 .1 .1 .1 .1 .0 .1), back (c .before .before .before .before .before .before .before .before .before .before .before .args .o .channel3) (c .before .before .before .before .before .before .struct-told3 .given .1 .1 .1 .1 .1 .1 .1 .1 .1 .1 .0 .1)) at (c .before .before .before .before .before .put-channel .ensures) in
+    run-shown w (o .shape) (o .channel) (o .channel2) (o .channel3) (q .channel) _ _ _ (sq .channel-is) e (c .before .channel-run .ensures .0 ∙ rw (p, c .before .before .before .before .before .before .before .before .before .before .pair-count .ensures .0)) (c .before .channel-run .ensures .1 ∙ rw (p, c .before .before .before .before .before .before .before .before .before .before .pair-count .ensures .0))
 
 pub run-of-spec : {M : Type 1} → statement M
 run-of-spec = tie.close (tie.spec pair-count-requires slice-aggregate-put-channel put-channel-requires sub-channel-run part-channel-run-start part-channel-run-end slice-aggregate-channel-run channel-run-requires returns)

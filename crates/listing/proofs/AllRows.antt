@@ -21,13 +21,17 @@ use Rattle.eval.specs.Shown as shown
 use Rattle.eval.specs.Shown.{bareOffer, ShowsPair, ShowsAction}
 use Rattle.offers.specs.Slots.{Slot, slots, partnerOf, ofSlot, atNumber, upTo}
 use Rattle.offers.specs.Walk.{slotsOf}
-use Rattle.offers.specs.declared.Collected.the-variants.{Rows, Missing}
+use Rattle.offers.specs.declared.Collected.the-variants.{Rows, Missing, Full}
+use Rattle.offers.specs.Links.{rowLimit}
 use Rattle.offers.specs.Collect as Collect
 use Rattle.offers.specs.Collect.{World, Answers}
 use Rattle.offers.proofs.Numbered.{append-nil, up-one, at-some, gather-up}
 use Rattle.offers.proofs.Slots.{entries-slots, partners-slots}
 use Rattle.offers.proofs.Walk.{slots-are}
-use Rattle.listing.specs.Buffer.{rows, image, cut, Adds}
+use Rattle.listing.specs.declared.Listed.{Listed}
+use Rattle.listing.specs.declared.Tried.the-variants as tried
+use Rattle.listing.specs.Buffer as Buffer
+use Rattle.listing.specs.Buffer.{rows, image, cut, Adds, Lists, Tries}
 use Rattle.listing.specs.Ready.{Ready}
 
 kind-wait : {r : Offer} → r ≡ bareOffer 36 (r .rate) → r .kind ≡ 36
@@ -153,5 +157,18 @@ pub answered-missing : {t hs : List ℕ} {os : List ℤ} {m : Resolved.Model} {p
 answered-missing (Collect.Answers.lacks e) = e
 
 pub answered-rows : {t roots scopes : List ℕ} {zs : List ℤ} {m : Resolved.Model} {s : State} {hs : List ℕ} {os : List ℤ} {n : ℕ} → World t roots scopes zs m s
-    → Answers t hs os m (s .processes) (Rows n) → Ready t roots scopes zs hs os n m s × (missing m 0 (s .processes) ≡ none)
-answered-rows w (Collect.Answers.all e h) = (record { world = w; holds = h; rows-are = refl }, e)
+    → Answers t hs os m (s .processes) (Rows n) → Ready t roots scopes zs hs os n m s × (missing m 0 (s .processes) ≡ none) × (n ≤ length hs)
+answered-rows w (Collect.Answers.all e h l) = (record { world = w; holds = h; rows-are = refl }, e, l)
+
+pub answered-full : {t hs : List ℕ} {os : List ℤ} {m : Resolved.Model} {ps : List Process} → Answers t hs os m ps Full → length hs < rowLimit
+answered-full (Collect.Answers.full l) = l
+
+-- ---- with room for all rows
+pub all-done : {l : machine.Listed} {b : List ℕ} {r : Listed} {n : ℕ} → Tries n l b (tried.Done r) → Lists l r b
+all-done (Buffer.Tries.done h) = h
+
+pub not-full : {l : machine.Listed} {b : List ℕ} {n : ℕ} → n ≡ rowLimit → Tries n l b tried.Full → ⊥
+not-full e (Buffer.Tries.full h) = omega (arith, e, h)
+
+pub as-done : {l : machine.Listed} {b : List ℕ} (n : ℕ) (r : Listed) → Lists l r b → Tries n l b (tried.Done r)
+as-done n r h = Buffer.Tries.done h

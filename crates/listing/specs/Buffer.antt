@@ -3,7 +3,7 @@ use mathlib.Core.Path.{_≡_}
 use mathlib.Core.List.{List, [], _∷_, _++_}
 use mathlib.Core.Bool.{cond}
 use mathlib.Core.Option.{Option, none, some}
-use Prim.Native.Nat.{ℕ, zero, suc, _*_, _-_, _≤_, min}
+use Prim.Native.Nat.{ℕ, zero, suc, _*_, _-_, _≤_, _<_, min}
 use lib.Dec.{leb}
 use lib.ListN.{length, getD, take, drop, replicate}
 use Rattle.rules.specs.Rules.{key}
@@ -18,6 +18,9 @@ use Rattle.listing.specs.declared.Chosen.{Chosen}
 use Rattle.listing.specs.declared.Chosen.the-variants.{At, Nothing}
 use Rattle.listing.specs.declared.Listed.{Listed}
 use Rattle.listing.specs.declared.Listed.the-variants.{Filled, Refused}
+use Rattle.listing.specs.declared.Tried.{Tried}
+use Rattle.listing.specs.declared.Tried.the-variants.{Done, Full}
+use Rattle.offers.specs.Links.{rowLimit}
 
 -- 01, Transitions: an entry by its seven numbers
 unfoldable pub entryOf : Entry → rules.Entry
@@ -64,6 +67,11 @@ listedAnswer (machine.refusedWith a) = Refused (a .number) (a .place) (a .branch
 pub record Lists (l : machine.Listed) (r : Listed) (b : List ℕ) : Type 0 where
   pub answer : r ≡ listedAnswer l
   pub numbers : b ≡ listingNumbers l
+
+-- the same where the table of offers has n rows: all, or too few of them
+pub data Tries (n : ℕ) (l : machine.Listed) (b : List ℕ) : Tried → Type 0 where
+  done : {r : Listed} → Lists l r b → Tries n l b (Done r)
+  full : n < rowLimit → Tries n l b Full
 
 -- ---- weights in the buffer
 

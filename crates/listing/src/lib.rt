@@ -1,6 +1,7 @@
 // The listing of a state: its entries in the listing buffer, their count and total, or a refusal under questions 12 to 14.
 use eval::offer::Offer;
 use offers::Collected;
+use offers::Table;
 use state::Layout;
 use state::Run;
 use tree::NodeKind;
@@ -37,13 +38,13 @@ ghost use Rattle.machine.specs.Offer.{branches};
 ghost use Rattle.state.specs.Read.{processCount};
 ghost use Rattle.eval.specs.Shown.{ShowsAction};
 ghost use Rattle.offers.specs.Head.{kindIn};
-ghost use Rattle.offers.specs.Links.{rowLimit, rowWidth, bucketLimit, Linked};
+ghost use Rattle.offers.specs.Links.{rowLimit, fewRows, rowWidth, bucketLimit, Linked};
 ghost use Rattle.offers.specs.Slots.{Slot, partnerOf, ofSlot};
 ghost use Rattle.offers.specs.Walk.{slotsOf};
 ghost use Rattle.offers.specs.Table.{localsOf, offerIn};
 ghost use Rattle.offers.specs.Collect.{World};
 ghost use Rattle.listing.specs.Ready.{Ready, RunIs, boundAt};
-ghost use Rattle.listing.specs.Buffer.{entryOf, image, cut, Adds, Lists, weightsIn, totalled, chosenAnswer};
+ghost use Rattle.listing.specs.Buffer.{entryOf, image, cut, Adds, Lists, Tries, weightsIn, totalled, chosenAnswer};
 
 pub struct Limits;
 
@@ -101,6 +102,12 @@ pub struct Entry {
 pub enum Listed {
     Filled(usize, u64),
     Refused(u64, usize, usize),
+}
+
+// A listing, or the tables have too few rows for it.
+pub enum Tried {
+    Done(Listed),
+    Full,
 }
 
 // A sum of weights within its limit, or not.
@@ -365,7 +372,7 @@ fn row_matches(
     row: usize,
     sender: Offer,
 ) -> bool
-    requires { ⌜ ((roots : List ℕ) × (rows : ℕ) × (m : Resolved.Model) × (s : State) × Ready (now nodes) roots (now scopes) (now state) (now heads) (now numbers) rows m s × (row < rows)) × (node.handReceive ≤ kindIn (getD (now heads) row 0)) × (length (now heads) ≡ rowLimit) × (length (now numbers) ≡ rowLimit * rowWidth) ⌝ }
+    requires { ⌜ ((roots : List ℕ) × (rows : ℕ) × (m : Resolved.Model) × (s : State) × Ready (now nodes) roots (now scopes) (now state) (now heads) (now numbers) rows m s × (row < rows)) × (node.handReceive ≤ kindIn (getD (now heads) row 0)) × (row < length (now heads)) × (length (now numbers) ≡ length (now heads) * rowWidth) ⌝ }
     ensures { λ r. ⌜ ((roots : List ℕ) (rows : ℕ) (m : Resolved.Model) (s : State) (y : Slot) (w : offers.Query) (x : offers.Pair) → Ready (now (nodes .entry)) roots (now (scopes .entry)) (now (state .entry)) (now (heads .entry)) (now (numbers .entry)) rows m s → getElem? (slotsOf m 0 (s .processes)) row ≡ some y → ShowsQuery (now (nodes .entry)) (localsOf (s .processes) (y .place)) (offerIn (now (heads .entry)) (now (numbers .entry)) row) w → ShowsPair sender x → r ≡ matches w x) ⌝ }
 {
     let o = offers::offer_at(heads, numbers, row);
@@ -391,7 +398,7 @@ fn list_partner(
     listing: &mut [u64],
     count: usize,
 ) -> usize
-    requires { ⌜ ((roots : List ℕ) × (rows : ℕ) × (m : Resolved.Model) × (s : State) × Ready (now nodes) roots (now scopes) (now state) (now heads) (now numbers) rows m s × (row < rows)) × (node.handReceive ≤ kindIn (getD (now heads) row 0)) × (length (now heads) ≡ rowLimit) × (length (now numbers) ≡ rowLimit * rowWidth) × (sender .rate ≤ rateLimit) × (length (now listing) ≡ listingLength) × (count ≤ suc entryLimit) ⌝ }
+    requires { ⌜ ((roots : List ℕ) × (rows : ℕ) × (m : Resolved.Model) × (s : State) × Ready (now nodes) roots (now scopes) (now state) (now heads) (now numbers) rows m s × (row < rows)) × (node.handReceive ≤ kindIn (getD (now heads) row 0)) × (row < length (now heads)) × (length (now numbers) ≡ length (now heads) * rowWidth) × (sender .rate ≤ rateLimit) × (length (now listing) ≡ listingLength) × (count ≤ suc entryLimit) ⌝ }
     ensures { λ r. ⌜ ((roots : List ℕ) (rows : ℕ) (m : Resolved.Model) (s : State) (y : Slot) (x : offers.Pair) → Ready (now (nodes .entry)) roots (now (scopes .entry)) (now (state .entry)) (now (heads .entry)) (now (numbers .entry)) rows m s → getElem? (slotsOf m 0 (s .processes)) row ≡ some y → ShowsPair sender x → Adds (partnerOf x (sender .rate) place branch y) (now (listing .entry)) count (now (listing .exit)) r) × (length (now (listing .exit)) ≡ listingLength) × (r ≤ suc entryLimit) ⌝ }
 {
     let head = heads[row];
@@ -436,7 +443,7 @@ fn list_partners(
     listing: &mut [u64],
     count: usize,
 ) -> usize
-    requires { ⌜ ((roots : List ℕ) × (m : Resolved.Model) × (s : State) × Ready (now nodes) roots (now scopes) (now state) (now heads) (now numbers) rows m s) × (Linked (now heads) (now numbers) rows 0 (now firsts) (now nexts)) × (length (now firsts) ≡ bucketLimit) × (length (now nexts) ≡ rowLimit) × (length (now heads) ≡ rowLimit) × (length (now numbers) ≡ rowLimit * rowWidth) × (sender .rate ≤ rateLimit) × (length (now listing) ≡ listingLength) × (count ≤ suc entryLimit) ⌝ }
+    requires { ⌜ ((roots : List ℕ) × (m : Resolved.Model) × (s : State) × Ready (now nodes) roots (now scopes) (now state) (now heads) (now numbers) rows m s) × (Linked (now heads) (now numbers) rows 0 (now firsts) (now nexts)) × (length (now firsts) ≡ bucketLimit) × (length (now nexts) ≡ length (now heads)) × (rows ≤ length (now heads)) × (length (now numbers) ≡ length (now heads) * rowWidth) × (sender .rate ≤ rateLimit) × (length (now listing) ≡ listingLength) × (count ≤ suc entryLimit) ⌝ }
     ensures { λ r. ⌜ ((roots : List ℕ) (m : Resolved.Model) (s : State) (x : offers.Pair) → Ready (now (nodes .entry)) roots (now (scopes .entry)) (now (state .entry)) (now (heads .entry)) (now (numbers .entry)) rows m s → ShowsPair sender x → Adds (gather (λ n. partnerOf x (sender .rate) place branch) (slotsOf m 0 (s .processes))) (now (listing .entry)) count (now (listing .exit)) r) × (length (now (listing .exit)) ≡ listingLength) × (r ≤ suc entryLimit) ⌝ }
 {
     let bucket = offers::bucket_of(sender.channel, sender.channel2, sender.channel3);
@@ -537,7 +544,7 @@ fn list_row(
     listing: &mut [u64],
     count: usize,
 ) -> usize
-    requires { ⌜ ((roots : List ℕ) × (m : Resolved.Model) × (s : State) × Ready (now nodes) roots (now scopes) (now state) (now heads) (now numbers) rows m s) × (Linked (now heads) (now numbers) rows 0 (now firsts) (now nexts)) × (length (now firsts) ≡ bucketLimit) × (length (now nexts) ≡ rowLimit) × (length (now heads) ≡ rowLimit) × (length (now numbers) ≡ rowLimit * rowWidth) × (row < rows) × (length (now listing) ≡ listingLength) × (count ≤ suc entryLimit) ⌝ }
+    requires { ⌜ ((roots : List ℕ) × (m : Resolved.Model) × (s : State) × Ready (now nodes) roots (now scopes) (now state) (now heads) (now numbers) rows m s) × (Linked (now heads) (now numbers) rows 0 (now firsts) (now nexts)) × (length (now firsts) ≡ bucketLimit) × (length (now nexts) ≡ length (now heads)) × (rows ≤ length (now heads)) × (length (now numbers) ≡ length (now heads) * rowWidth) × (row < rows) × (length (now listing) ≡ listingLength) × (count ≤ suc entryLimit) ⌝ }
     ensures { λ r. ⌜ ((roots : List ℕ) (m : Resolved.Model) (s : State) (y : Slot) → Ready (now (nodes .entry)) roots (now (scopes .entry)) (now (state .entry)) (now (heads .entry)) (now (numbers .entry)) rows m s → getElem? (slotsOf m 0 (s .processes)) row ≡ some y → Adds (ofSlot (branches m) s y) (now (listing .entry)) count (now (listing .exit)) r) × (length (now (listing .exit)) ≡ listingLength) × (r ≤ suc entryLimit) ⌝ }
 {
     let head = heads[row];
@@ -591,7 +598,7 @@ fn list_rows(
     nexts: &[u16],
     listing: &mut [u64],
 ) -> usize
-    requires { ⌜ ((roots : List ℕ) × (m : Resolved.Model) × (s : State) × Ready (now nodes) roots (now scopes) (now state) (now heads) (now numbers) rows m s) × (Linked (now heads) (now numbers) rows 0 (now firsts) (now nexts)) × (length (now firsts) ≡ bucketLimit) × (length (now nexts) ≡ rowLimit) × (length (now heads) ≡ rowLimit) × (length (now numbers) ≡ rowLimit * rowWidth) × (length (now listing) ≡ listingLength) ⌝ }
+    requires { ⌜ ((roots : List ℕ) × (m : Resolved.Model) × (s : State) × Ready (now nodes) roots (now scopes) (now state) (now heads) (now numbers) rows m s) × (Linked (now heads) (now numbers) rows 0 (now firsts) (now nexts)) × (length (now firsts) ≡ bucketLimit) × (length (now nexts) ≡ length (now heads)) × (rows ≤ length (now heads)) × (length (now numbers) ≡ length (now heads) * rowWidth) × (length (now listing) ≡ listingLength) ⌝ }
     ensures { λ r. ⌜ ((roots : List ℕ) (m : Resolved.Model) (s : State) → Ready (now (nodes .entry)) roots (now (scopes .entry)) (now (state .entry)) (now (heads .entry)) (now (numbers .entry)) rows m s → Adds (entries (branches m) s) (now (listing .entry)) 0 (now (listing .exit)) r) × (length (now (listing .exit)) ≡ listingLength) × (r ≤ suc entryLimit) ⌝ }
 {
     let mut count = 0;
@@ -618,8 +625,8 @@ fn list_rows(
     count
 }
 
-// Lists what can happen next: questions 12 to 14. The tables are lent room.
-pub fn list_all(
+// Lists what can happen next, questions 12 to 14, if the lent tables have a row for each offer.
+fn list_into(
     nodes: &[u64],
     roots: &[u16],
     scopes: &[u16],
@@ -629,15 +636,16 @@ pub fn list_all(
     firsts: &mut [u16],
     nexts: &mut [u16],
     listing: &mut [u64],
-) -> Listed
-    requires { ⌜ ((m : Resolved.Model) × (s : State) × World (now nodes) (now roots) (now scopes) (now state) m s) × (length (now heads) ≡ rowLimit) × (length (now numbers) ≡ rowLimit * rowWidth) × (length (now firsts) ≡ bucketLimit) × (length (now nexts) ≡ rowLimit) × (length (now listing) ≡ listingLength) ⌝ }
-    ensures { λ r. ⌜ ((m : Resolved.Model) (s : State) → World (now (nodes .entry)) (now (roots .entry)) (now (scopes .entry)) (now (state .entry)) m s → Lists (machine.listing m s) r (now (listing .exit))) ⌝ }
+) -> Tried
+    requires { ⌜ ((m : Resolved.Model) × (s : State) × World (now nodes) (now roots) (now scopes) (now state) m s) × (length (now numbers) ≡ length (now heads) * rowWidth) × (length (now firsts) ≡ bucketLimit) × (length (now nexts) ≡ length (now heads)) × (length (now listing) ≡ listingLength) ⌝ }
+    ensures { λ r. ⌜ ((m : Resolved.Model) (s : State) → World (now (nodes .entry)) (now (roots .entry)) (now (scopes .entry)) (now (state .entry)) m s → Tries (length (now (heads .entry))) (machine.listing m s) (now (listing .exit)) r) ⌝ }
 {
     let collected = offers::collect(nodes, roots, scopes, state, heads, numbers);
     match collected {
+        Collected::Full => Tried::Full,
         Collected::Missing(place, branch) => {
             clear_from(listing, 0);
-            Listed::Refused(12, place, branch)
+            Tried::Done(Listed::Refused(12, place, branch))
         }
         Collected::Rows(rows) => {
             offers::link(heads, numbers, rows, firsts, nexts);
@@ -652,7 +660,114 @@ pub fn list_all(
                 nexts,
                 listing,
             );
-            judge(listing, count)
+            let listed = judge(listing, count);
+            Tried::Done(listed)
         }
+    }
+}
+
+// The same in lent tables with room for all offers.
+pub fn list_all(
+    nodes: &[u64],
+    roots: &[u16],
+    scopes: &[u16],
+    state: &[i64],
+    heads: &mut [u64],
+    numbers: &mut [i64],
+    firsts: &mut [u16],
+    nexts: &mut [u16],
+    listing: &mut [u64],
+) -> Listed
+    requires { ⌜ ((m : Resolved.Model) × (s : State) × World (now nodes) (now roots) (now scopes) (now state) m s) × (length (now heads) ≡ rowLimit) × (length (now numbers) ≡ rowLimit * rowWidth) × (length (now firsts) ≡ bucketLimit) × (length (now nexts) ≡ rowLimit) × (length (now listing) ≡ listingLength) ⌝ }
+    ensures { λ r. ⌜ ((m : Resolved.Model) (s : State) → World (now (nodes .entry)) (now (roots .entry)) (now (scopes .entry)) (now (state .entry)) m s → Lists (machine.listing m s) r (now (listing .exit))) ⌝ }
+{
+    let tried = list_into(
+        nodes,
+        roots,
+        scopes,
+        state,
+        heads,
+        numbers,
+        firsts,
+        nexts,
+        listing,
+    );
+    match tried {
+        Tried::Done(listed) => listed,
+        Tried::Full => Listed::Refused(12, 0, 0),
+    }
+}
+
+// The same in small tables, if these have room.
+fn list_few(
+    nodes: &[u64],
+    roots: &[u16],
+    scopes: &[u16],
+    state: &[i64],
+    listing: &mut [u64],
+) -> Tried
+    requires { ⌜ ((m : Resolved.Model) × (s : State) × World (now nodes) (now roots) (now scopes) (now state) m s) × (length (now listing) ≡ listingLength) ⌝ }
+    ensures { λ r. ⌜ ((m : Resolved.Model) (s : State) → World (now (nodes .entry)) (now (roots .entry)) (now (scopes .entry)) (now (state .entry)) m s → Tries fewRows (machine.listing m s) (now (listing .exit)) r) ⌝ }
+{
+    let mut heads = [0u64; Table::FEW];
+    let mut numbers = [0i64; Table::FEW_NUMBERS];
+    let mut firsts = [0u16; Table::BUCKETS];
+    let mut nexts = [0u16; Table::FEW];
+    list_into(
+        nodes,
+        roots,
+        scopes,
+        state,
+        &mut heads,
+        &mut numbers,
+        &mut firsts,
+        &mut nexts,
+        listing,
+    )
+}
+
+// The same in tables with room for all offers.
+fn list_many(
+    nodes: &[u64],
+    roots: &[u16],
+    scopes: &[u16],
+    state: &[i64],
+    listing: &mut [u64],
+) -> Listed
+    requires { ⌜ ((m : Resolved.Model) × (s : State) × World (now nodes) (now roots) (now scopes) (now state) m s) × (length (now listing) ≡ listingLength) ⌝ }
+    ensures { λ r. ⌜ ((m : Resolved.Model) (s : State) → World (now (nodes .entry)) (now (roots .entry)) (now (scopes .entry)) (now (state .entry)) m s → Lists (machine.listing m s) r (now (listing .exit))) ⌝ }
+{
+    let mut heads = [0u64; Table::ROWS];
+    let mut numbers = [0i64; Table::ALL_NUMBERS];
+    let mut firsts = [0u16; Table::BUCKETS];
+    let mut nexts = [0u16; Table::ROWS];
+    list_all(
+        nodes,
+        roots,
+        scopes,
+        state,
+        &mut heads,
+        &mut numbers,
+        &mut firsts,
+        &mut nexts,
+        listing,
+    )
+}
+
+// The same in tables of its own: small ones, and large ones where those are full.
+pub fn list_here(
+    nodes: &[u64],
+    roots: &[u16],
+    scopes: &[u16],
+    state: &[i64],
+    listing: &mut [u64],
+) -> Listed
+    requires { ⌜ ((m : Resolved.Model) × (s : State) × World (now nodes) (now roots) (now scopes) (now state) m s) × (length (now listing) ≡ listingLength) ⌝ }
+    ensures { λ r. ⌜ ((m : Resolved.Model) (s : State) → World (now (nodes .entry)) (now (roots .entry)) (now (scopes .entry)) (now (state .entry)) m s → Lists (machine.listing m s) r (now (listing .exit))) ⌝ }
+{
+    let tried = list_few(nodes, roots, scopes, state, listing);
+    match tried {
+        Tried::Done(listed) => listed,
+        Tried::Full => list_many(nodes, roots, scopes, state, listing),
     }
 }

@@ -38,6 +38,7 @@ module _ (t : List ℕ) (ls : List ℤ) (i j n : ℕ) (hs : List ℕ) (os : List
         holds = λ L xs e l h.
             rw (← append-assoc xs ys zs) (q .holds L (xs ++ ys) e (omega (arith, length-append xs ys, p .rows)) (p .holds L xs e l h));
         rows = omega (arith, p .rows, q .rows, length-append ys zs);
+        room = q .room;
       }
 
   -- the first branch lacks a value
@@ -46,6 +47,11 @@ module _ (t : List ℕ) (ls : List ℤ) (i j n : ℕ) (hs : List ℕ) (os : List
   unfolding missingBranch isNone
   first-lacks hs′ os′ b bs q (Collect.CollectsOne.lacks e) = Collect.Collects.lacks {q = j} (rw e)
 
+  -- there is no row for it
+  pub first-full : (hs′ : List ℕ) (os′ : List ℤ) (b : Resolved.Branch) (bs : List Resolved.Branch)
+      → CollectsOne t ls i j n hs os hs′ os′ (evalBranch ls b) walked.Full → Collects t ls i j n hs os hs′ os′ (b ∷ bs) walked.Full
+  first-full hs′ os′ b bs (Collect.CollectsOne.full l) = Collect.Collects.full l
+
   -- it has, and the others follow
   pub first-then : (hs₁ hs₂ : List ℕ) (os₁ os₂ : List ℤ) (b : Resolved.Branch) (bs : List Resolved.Branch) (n₁ : ℕ) (r : Walked)
       → CollectsOne t ls i j n hs os hs₁ os₁ (evalBranch ls b) (walked.Rows n₁) → Collects t ls i (suc j) n₁ hs₁ os₁ hs₂ os₂ bs r → Collects t ls i j n hs os hs₂ os₂ (b ∷ bs) r
@@ -53,6 +59,7 @@ module _ (t : List ℕ) (ls : List ℤ) (i j n : ℕ) (hs : List ℕ) (os : List
   first-then hs₁ hs₂ os₁ os₂ b bs n₁ r (Collect.CollectsOne.all e g) (Collect.Collects.lacks {q} f) = Collect.Collects.lacks {q = q} (rw e f)
   first-then hs₁ hs₂ os₁ os₂ b bs n₁ r (Collect.CollectsOne.all e g) (Collect.Collects.all f h) =
       Collect.Collects.all (rw e f) (grows-then hs₁ hs₂ os₁ os₂ (slotOf i j (guardOr (evalBranch ls b))) (slotsFrom ls i (suc j) bs) g h)
+  first-then hs₁ hs₂ os₁ os₂ b bs n₁ r (Collect.CollectsOne.all e g) (Collect.Collects.full l) = Collect.Collects.full l
 
   -- it is the last
   pub last-one : (hs′ : List ℕ) (os′ : List ℤ) (b : Resolved.Branch) (r : Walked)
@@ -60,9 +67,13 @@ module _ (t : List ℕ) (ls : List ℤ) (i j n : ℕ) (hs : List ℕ) (os : List
   unfolding missingBranch isNone slotsFrom
   last-one hs′ os′ b r (Collect.CollectsOne.lacks e) = Collect.Collects.lacks {q = j} (rw e)
   last-one hs′ os′ b r (Collect.CollectsOne.all {n′} e g) = Collect.Collects.all {n′ = n′} (rw e) (rw (append-nil (slotOf i j (guardOr (evalBranch ls b)))) g)
+  last-one hs′ os′ b r (Collect.CollectsOne.full l) = Collect.Collects.full l
 
   pub one-row : {hs′ : List ℕ} {os′ : List ℤ} {g : Option offers.Guard} {n′ : ℕ} → CollectsOne t ls i j n hs os hs′ os′ g (walked.Rows n′) → n′ ≤ n + 1
   one-row {g = g} (Collect.CollectsOne.all e h) = omega (arith, h .rows, slot-one i j (guardOr g))
+
+  pub one-room : {hs′ : List ℕ} {os′ : List ℤ} {g : Option offers.Guard} {n′ : ℕ} → CollectsOne t ls i j n hs os hs′ os′ g (walked.Rows n′) → n′ ≤ length hs′
+  one-room (Collect.CollectsOne.all e h) = h .room
 
 -- ---- by the node's kind
 module _ (t : List ℕ) (k kind : ℕ) (is : kind ≡ kindOf (getD t k 0)) where
@@ -118,6 +129,14 @@ module _ (t : List ℕ) (k kind : ℕ) (is : kind ≡ kindOf (getD t k 0)) where
       more-lacks hs′ os′ q f [] a = absurd a
       more-lacks hs′ os′ q f (b ∷ []) a = absurd (omega (arith, lone-kind b a))
       more-lacks hs′ os′ q f (b ∷ c ∷ bs) a = first-lacks t ls i j n hs os hs′ os′ b (c ∷ bs) q (f b (a .holds-first))
+
+      pub more-full : (hs′ : List ℕ) (os′ : List ℤ)
+          → ((b : Resolved.Branch) → Branch t b (leftOf (getD t k 0)) → CollectsOne t ls i j n hs os hs′ os′ (evalBranch ls b) walked.Full)
+          → (bs : List Resolved.Branch) → Branches t bs k → Collects t ls i j n hs os hs′ os′ bs walked.Full
+      unfolding Branches
+      more-full hs′ os′ f [] a = absurd a
+      more-full hs′ os′ f (b ∷ []) a = absurd (omega (arith, lone-kind b a))
+      more-full hs′ os′ f (b ∷ c ∷ bs) a = first-full t ls i j n hs os hs′ os′ b (c ∷ bs) (f b (a .holds-first))
 
       pub more-collects : (hs₁ hs₂ : List ℕ) (os₁ os₂ : List ℤ) (n₁ : ℕ) (r : Walked)
           → ((b : Resolved.Branch) → Branch t b (leftOf (getD t k 0)) → CollectsOne t ls i j n hs os hs₁ os₁ (evalBranch ls b) (walked.Rows n₁))

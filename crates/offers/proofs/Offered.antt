@@ -6,7 +6,7 @@ use mathlib.Core.List.{List, [], _∷_, _++_}
 use mathlib.Core.Option.{Option, none, some, Option·elim}
 use native.Mathlib.Omega.{arith}
 use lib.IntN.{ℤ, pos}
-use lib.ListN.{length, set}
+use lib.ListN.{length, set, length-set}
 use Rattle.value.specs.Range.{InRange}
 use Rattle.model.specs.Resolved
 use Rattle.rules.specs.Offers as offers
@@ -96,15 +96,15 @@ module _ (t : List ℕ) (ls : List ℤ) (i j n : ℕ) (hs : List ℕ) (os : List
   one-lacks hs′ os′ (some (offers.bare a m)) e (shown.bare s q) = absurd (omega (arith, action-kinds s .low))
   one-lacks hs′ os′ (some (offers.opened a m)) e (shown.opened s q) = absurd (omega (arith, action-kinds s .low))
 
-  none-more : Grows t ls i n hs os hs os [] n
-  none-more = record { holds = λ L xs e l h. rw (append-nil xs) h; rows = omega arith }
+  none-more : n ≤ length hs → Grows t ls i n hs os hs os [] n
+  none-more l = record { holds = λ L xs e l h. rw (append-nil xs) h; rows = omega arith; room = l }
 
-  pub one-hidden : (g : Option offers.Guard) → r .kind ≡ 0 → ShowsOffer t ls g r → CollectsOne t ls i j n hs os hs os g (walked.Rows n)
+  pub one-hidden : (g : Option offers.Guard) → n ≤ length hs → r .kind ≡ 0 → ShowsOffer t ls g r → CollectsOne t ls i j n hs os hs os g (walked.Rows n)
   unfolding isNone guardOr slotOf Option·elim
-  one-hidden none e (shown.missing q) = absurd (omega (arith, kind-is 1 0 q))
-  one-hidden (some offers.shut) e (shown.shut q) = all refl none-more
-  one-hidden (some (offers.bare a m)) e (shown.bare s q) = absurd (omega (arith, action-kinds s .low))
-  one-hidden (some (offers.opened a m)) e (shown.opened s q) = absurd (omega (arith, action-kinds s .low))
+  one-hidden none l e (shown.missing q) = absurd (omega (arith, kind-is 1 0 q))
+  one-hidden (some offers.shut) l e (shown.shut q) = all refl (none-more l)
+  one-hidden (some (offers.bare a m)) l e (shown.bare s q) = absurd (omega (arith, action-kinds s .low))
+  one-hidden (some (offers.opened a m)) l e (shown.opened s q) = absurd (omega (arith, action-kinds s .low))
 
   module _ (small : Small r) (pi : i < 256) (pj : j < 16) (lh : n < length hs) (lo : n * rowWidth + rowWidth ≤ length os) where
     one-more : (a : offers.Action) (m : ℕ) → ShowsAction t ls r a → r .rate ≡ m
@@ -113,6 +113,7 @@ module _ (t : List ℕ) (ls : List ℤ) (i j n : ℕ) (hs : List ℕ) (os : List
         record {
           holds = λ L xs e l h. rw (← q) (holds-more hs os n i j r small pi pj lh lo t L xs a l h (rw e s));
           rows = omega arith;
+          room = omega (arith, length-set hs n (headOf i j r));
         }
 
     pub one-put : (g : Option offers.Guard) → (r .kind ≡ 1 → ⊥) → (r .kind ≡ 0 → ⊥) → ShowsOffer t ls g r

@@ -27,7 +27,7 @@ use Rattle.model.proofs.Scope.{locals-in}
 use Rattle.state.proofs.Over.{good-fits, few-scopes}
 use Rattle.state.proofs.Read.{good-passed, count-numbers, sum-numbers, locals-numbers}
 use Rattle.offers.specs.declared.Walked.the-variants as walked
-use Rattle.offers.specs.declared.Collected.the-variants.{Rows, Missing}
+use Rattle.offers.specs.declared.Collected.the-variants.{Rows, Missing, Full}
 use Rattle.offers.specs.Slots.{Slot}
 use Rattle.offers.specs.Walk.{slotsFrom, slotsOf}
 use Rattle.offers.specs.Table.{localsOf, Holds}
@@ -115,15 +115,19 @@ pub record Progress (t hs : List ℕ) (os : List ℤ) (m : Resolved.Model) (ps :
   pub missing-is : missing m 0 ps ≡ missing m i (drop i ps)
   pub holds : Holds t (localsOf ps) hs os (slotsOf m 0 (take i ps))
   pub rows : length (slotsOf m 0 (take i ps)) ≡ n
+  pub room : n ≤ length hs
 
 pub progress-none : (t hs : List ℕ) (os : List ℤ) (m : Resolved.Model) (ps : List Process) → Progress t hs os m ps 0 0
 unfolding slotsOf
-progress-none t hs os m ps = record { missing-is = refl; holds = record { shown = λ k x e. none-not-some none _ refl e }; rows = refl }
+progress-none t hs os m ps = record { missing-is = refl; holds = record { shown = λ k x e. none-not-some none _ refl e }; rows = refl; room = omega arith }
 
 module _ {t roots scopes : List ℕ} {zs : List ℤ} {m : Resolved.Model} {s : State} (w : World t roots scopes zs m s) (i n : ℕ) (p : Process) (at : getElem? (s .processes) i ≡ some p)
     (hs hs′ : List ℕ) (os os′ : List ℤ) where
   pub next-rows : (n′ : ℕ) → Collects t (p .locals) i 0 n hs os hs′ os′ (branchesOf m p) (walked.Rows n′) → n′ ≤ n + 16
   next-rows n′ (Collect.Collects.all e g) = omega (arith, g .rows, from-few (p .locals) i 0 (branchesOf m p), few-branches w i p at)
+
+  pub next-room : (n′ : ℕ) → Collects t (p .locals) i 0 n hs os hs′ os′ (branchesOf m p) (walked.Rows n′) → n′ ≤ length hs′
+  next-room n′ (Collect.Collects.all e g) = g .room
 
   pub progress-more : (n′ : ℕ) → Collects t (p .locals) i 0 n hs os hs′ os′ (branchesOf m p) (walked.Rows n′) → Progress t hs os m (s .processes) i n → Progress t hs′ os′ m (s .processes) (i + 1) n′
   progress-more n′ (Collect.Collects.all e g) q =
@@ -133,10 +137,14 @@ module _ {t roots scopes : List ℕ} {zs : List ℤ} {m : Resolved.Model} {s : S
         missing-is = q .missing-is ∙ missing-later m nth e;
         holds = rw o (g .holds (localsOf (s .processes)) (slotsOf m 0 (take i (s .processes))) (locals-of w i p at) (q .rows) (q .holds));
         rows = ap length o ∙ length-append (slotsOf m 0 (take i (s .processes))) (slotsFrom (p .locals) i 0 (branchesOf m p)) ∙ (let z : length (slotsOf m 0 (take i (s .processes))) + length (slotsFrom (p .locals) i 0 (branchesOf m p)) ≡ n′ = omega (arith, g .rows, q .rows) in z);
+        room = g .room;
       }
 
   pub progress-lacks : (j : ℕ) → Collects t (p .locals) i 0 n hs os hs′ os′ (branchesOf m p) (walked.Missing j) → Progress t hs os m (s .processes) i n → Answers t hs′ os′ m (s .processes) (Missing i j)
   progress-lacks j (Collect.Collects.lacks e) q = Collect.Answers.lacks (q .missing-is ∙ missing-here m (get-nth (s .processes) i at) j e)
+
+  pub progress-full : Collects t (p .locals) i 0 n hs os hs′ os′ (branchesOf m p) walked.Full → Answers t hs′ os′ m (s .processes) Full
+  progress-full (Collect.Collects.full l) = Collect.Answers.full l
 
 drop-all : {A : Type 0} (i : ℕ) (xs : List A) → length xs ≤ i → drop i xs ≡ []
 drop-all zero [] l = refl
@@ -146,7 +154,7 @@ drop-all (suc i) (x ∷ xs) l = drop-all i xs (omega arith)
 
 pub progress-all : (t hs : List ℕ) (os : List ℤ) (m : Resolved.Model) (ps : List Process) (i n : ℕ) → length ps ≤ i → Progress t hs os m ps i n → Answers t hs os m ps (Rows n)
 progress-all t hs os m ps i n l q =
-    rw (← q .rows) (rw (take-all i ps l) (Collect.Answers.all (q .missing-is ∙ ended i ps l) (rw (take-all i ps l) at (q .holds))))
+    rw (← q .rows) (rw (take-all i ps l) (Collect.Answers.all (q .missing-is ∙ ended i ps l) (rw (take-all i ps l) at (q .holds)) (rw (take-all i ps l) at (let z : length (slotsOf m 0 (take i ps)) ≤ length hs = omega (arith, q .rows, q .room) in z))))
   where
     ended : (i : ℕ) (qs : List Process) → length qs ≤ i → missing m i (drop i qs) ≡ none
     ended i qs l = ap (missing m i) (drop-all i qs l) ∙ (unfold missing in refl)

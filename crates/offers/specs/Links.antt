@@ -7,9 +7,13 @@ use lib.ListN.{getD}
 use Rattle.tree.specs.Node as node
 use Rattle.offers.specs.Head.{kindIn}
 
--- how many rows the table of offers has: 256 processes of 16 branches
+-- how many rows the table of offers has at most: 256 processes of 16 branches
 abbrev pub rowLimit : ℕ
 rowLimit = 4096
+
+-- how many a small table has
+abbrev pub fewRows : ℕ
+fewRows = 256
 
 -- how many numbers of a row stand beside its head: the channel's first item, first, its end, second, its end, the other two items
 abbrev pub rowWidth : ℕ

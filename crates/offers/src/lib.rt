@@ -27,11 +27,18 @@ ghost use Rattle.offers.specs.Links.{rowLimit, rowWidth, bucketLimit, bu
 pub struct Table;
 
 impl Table {
-    // Rows: 256 processes of 16 branches.
+    // The most rows: 256 processes of 16 branches.
     pub const ROWS: usize = 4096;
+
+    // Rows of a small table.
+    pub const FEW: usize = 256;
 
     // Numbers of a row beside its head: the channel's first item, first, its end, second, its end, the other two items.
     pub const NUMBERS: usize = 7;
+
+    pub const ALL_NUMBERS: usize = Table::ROWS * Table::NUMBERS;
+
+    pub const FEW_NUMBERS: usize = Table::FEW * Table::NUMBERS;
 
     pub const BUCKETS: usize = 256;
 }
@@ -79,7 +86,7 @@ pub fn bucket_of(first: i64, second: i64, third: i64) -> usize
 
 // Links a row to the first of its bucket so far, if it is a handshake receive, and makes it the first.
 fn link_row(heads: &[u64], numbers: &[i64], row: usize, firsts: &mut [u16], nexts: &mut [u16])
-    requires { ⌜ (row < rowLimit) × (length (now heads) ≡ rowLimit) × (length (now numbers) ≡ rowLimit * rowWidth) × (length (now firsts) ≡ bucketLimit) × (length (now nexts) ≡ rowLimit) ⌝ }
+    requires { ⌜ (row < rowLimit) × (row < length (now heads)) × (length (now numbers) ≡ length (now heads) * rowWidth) × (length (now firsts) ≡ bucketLimit) × (length (now nexts) ≡ length (now heads)) ⌝ }
     ensures { λ _. ⌜ ((rows : ℕ) → row < rows → Linked (now (heads .entry)) (now (numbers .entry)) rows (suc row) (now (firsts .entry)) (now (nexts .entry)) → Linked (now (heads .entry)) (now (numbers .entry)) rows row (now (firsts .exit)) (now (nexts .exit))) ⌝ }
 {
     let kind = kind_in(heads[row]);
@@ -105,7 +112,7 @@ fn fill(firsts: &mut [u16], v: u16)
 
 // Links the handshake receives of the first `rows` rows, the last row first.
 pub fn link(heads: &[u64], numbers: &[i64], rows: usize, firsts: &mut [u16], nexts: &mut [u16])
-    requires { ⌜ (rows ≤ rowLimit) × (length (now heads) ≡ rowLimit) × (length (now numbers) ≡ rowLimit * rowWidth) × (length (now firsts) ≡ bucketLimit) × (length (now nexts) ≡ rowLimit) ⌝ }
+    requires { ⌜ (rows ≤ rowLimit) × (rows ≤ length (now heads)) × (length (now numbers) ≡ length (now heads) * rowWidth) × (length (now firsts) ≡ bucketLimit) × (length (now nexts) ≡ length (now heads)) ⌝ }
     ensures { λ _. ⌜ Linked (now (heads .entry)) (now (numbers .entry)) rows 0 (now (firsts .exit)) (now (nexts .exit)) ⌝ }
 {
     fill(firsts, rows as u16);
@@ -125,7 +132,7 @@ fn put_offer(
     branch: usize,
     o: Offer,
 )
-    requires { ⌜ (length (now heads) ≡ rowLimit) × (length (now numbers) ≡ rowLimit * rowWidth) × (row < rowLimit) × (place < processLimit) × (branch < branchLimit) × (Small o) ⌝ }
+    requires { ⌜ (row < rowLimit) × (length (now numbers) ≡ length (now heads) * rowWidth) × (row < length (now heads)) × (place < processLimit) × (branch < branchLimit) × (Small o) ⌝ }
     ensures { λ _. ⌜ (now (heads .exit) ≡ set (now (heads .entry)) row (headOf place branch o)) × (now (numbers .exit) ≡ written (now (numbers .entry)) row o) ⌝ }
 {
     let small = o.kind as u64 + KINDS * (o.shape as u64 + SHAPES * o.count as u64);
@@ -149,7 +156,7 @@ fn put_offer(
 
 // The offer in a row.
 pub fn offer_at(heads: &[u64], numbers: &[i64], row: usize) -> Offer
-    requires { ⌜ (length (now heads) ≡ rowLimit) × (length (now numbers) ≡ rowLimit * rowWidth) × (row < rowLimit) ⌝ }
+    requires { ⌜ (length (now numbers) ≡ length (now heads) * rowWidth) × (row < length (now heads)) ⌝ }
     ensures { λ r. ⌜ r ≡ offerIn (now (heads .entry)) (now (numbers .entry)) row ⌝ }
 {
     let head = heads[row];
@@ -188,19 +195,21 @@ pub fn rate_in(head: u64) -> u64
     head / SMALL / BRANCHES / PLACES
 }
 
-// Up to where the rows are filled; or the first branch without value.
+// Up to where the rows are filled; or the first branch without value; or no row is left.
 pub enum Walked {
     Rows(usize),
     Missing(usize),
+    Full,
 }
 
 // The same of all places.
 pub enum Collected {
     Rows(usize),
     Missing(usize, usize),
+    Full,
 }
 
-// Puts the offer of the branch at k into a row, if it isn't hidden.
+// Puts the offer of the branch at k into a row, if it isn't hidden and there is one.
 fn collect_branch(
     nodes: &[u64],
     locals: &[i64],
@@ -211,7 +220,7 @@ fn collect_branch(
     numbers: &mut [i64],
     row: usize,
 ) -> Walked
-    requires { ⌜ ((m : Resolved.Model) × Held (Settled.Branch (now nodes)) (GoodBranch m (length (now locals))) k) × (Every InRange (now locals)) × (length (now heads) ≡ rowLimit) × (length (now numbers) ≡ rowLimit * rowWidth) × (row < rowLimit) × (place < processLimit) × (branch < branchLimit) ⌝ }
+    requires { ⌜ ((m : Resolved.Model) × Held (Settled.Branch (now nodes)) (GoodBranch m (length (now locals))) k) × (Every InRange (now locals)) × (row ≤ length (now heads)) × (length (now numbers) ≡ length (now heads) * rowWidth) × (row < rowLimit) × (place < processLimit) × (branch < branchLimit) ⌝ }
     ensures { λ r. ⌜ ((b : Resolved.Branch) → Settled.Branch (now (nodes .entry)) b k → Collect.CollectsOne (now (nodes .entry)) (now (locals .entry)) place branch row (now (heads .entry)) (now (numbers .entry)) (now (heads .exit)) (now (numbers .exit)) (evalBranch (now (locals .entry)) b) r) ⌝ }
 {
     let o = eval::offer::offer_of(nodes, locals, k);
@@ -221,6 +230,9 @@ fn collect_branch(
     }
     if kind == Offer::HIDDEN {
         return Walked::Rows(row);
+    }
+    if heads.len() <= row {
+        return Walked::Full;
     }
     put_offer(heads, numbers, row, place, branch, o);
     Walked::Rows(row + 1)
@@ -237,7 +249,7 @@ fn collect_branches(
     numbers: &mut [i64],
     row: usize,
 ) -> Walked
-    requires { ⌜ (Collect.Branched (now nodes) (length (now locals)) branch k) × (Every InRange (now locals)) × (length (now heads) ≡ rowLimit) × (length (now numbers) ≡ rowLimit * rowWidth) × (place < processLimit) × (row ≤ place * branchLimit + branch) ⌝ }
+    requires { ⌜ (Collect.Branched (now nodes) (length (now locals)) branch k) × (Every InRange (now locals)) × (row ≤ length (now heads)) × (length (now numbers) ≡ length (now heads) * rowWidth) × (place < processLimit) × (row ≤ place * branchLimit + branch) ⌝ }
     ensures { λ r. ⌜ ((bs : List Resolved.Branch) → Settled.Branches (now (nodes .entry)) bs k → Collect.Collects (now (nodes .entry)) (now (locals .entry)) place branch row (now (heads .entry)) (now (numbers .entry)) (now (heads .exit)) (now (numbers .exit)) bs r) ⌝ }
 {
     let cell = eval::cell_at(nodes, k);
@@ -259,6 +271,7 @@ fn collect_branches(
             next,
         ),
         Walked::Missing(lacking) => Walked::Missing(lacking),
+        Walked::Full => Walked::Full,
     }
 }
 
@@ -283,7 +296,7 @@ fn collect_place(
     numbers: &mut [i64],
     row: usize,
 ) -> Walked
-    requires { ⌜ ((m : Resolved.Model) × (s : State) × Collect.World (now nodes) (now roots) (now scopes) (now state) m s) × (place < processCount (now state)) × (length (now heads) ≡ rowLimit) × (length (now numbers) ≡ rowLimit * rowWidth) × (row ≤ place * branchLimit) ⌝ }
+    requires { ⌜ ((m : Resolved.Model) × (s : State) × Collect.World (now nodes) (now roots) (now scopes) (now state) m s) × (place < processCount (now state)) × (row ≤ length (now heads)) × (length (now numbers) ≡ length (now heads) * rowWidth) × (row ≤ place * branchLimit) ⌝ }
     ensures { λ r. ⌜ ((m : Resolved.Model) (s : State) (p : Process) → Collect.World (now (nodes .entry)) (now (roots .entry)) (now (scopes .entry)) (now (state .entry)) m s → getElem? (s .processes) place ≡ some p → Collect.Collects (now (nodes .entry)) (p .locals) place 0 row (now (heads .entry)) (now (numbers .entry)) (now (heads .exit)) (now (numbers .exit)) (branchesOf m p) r) ⌝ }
 {
     let sum = state::sum_at(state, place);
@@ -302,7 +315,7 @@ pub fn collect(
     heads: &mut [u64],
     numbers: &mut [i64],
 ) -> Collected
-    requires { ⌜ ((m : Resolved.Model) × (s : State) × Collect.World (now nodes) (now roots) (now scopes) (now state) m s) × (length (now heads) ≡ rowLimit) × (length (now numbers) ≡ rowLimit * rowWidth) ⌝ }
+    requires { ⌜ ((m : Resolved.Model) × (s : State) × Collect.World (now nodes) (now roots) (now scopes) (now state) m s) × (length (now numbers) ≡ length (now heads) * rowWidth) ⌝ }
     ensures { λ r. ⌜ ((m : Resolved.Model) (s : State) → Collect.World (now (nodes .entry)) (now (roots .entry)) (now (scopes .entry)) (now (state .entry)) m s → Collect.Answers (now (nodes .entry)) (now (heads .exit)) (now (numbers .exit)) m (s .processes) r) ⌝ }
 {
     let places = state::process_count(state);
@@ -313,6 +326,7 @@ pub fn collect(
         match walked {
             Walked::Rows(next) => row = next,
             Walked::Missing(branch) => return Collected::Missing(place, branch),
+            Walked::Full => return Collected::Full,
         }
         place += 1;
     }

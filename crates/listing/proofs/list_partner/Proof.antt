@@ -12,7 +12,7 @@ use Rattle.state.proofs.Tests.{refused, passed}
 use Rattle.offers.specs.Table.{offerIn}
 use Rattle.listing.specs.Buffer.{entryOf}
 use Rattle.listing.proofs.Added.{adds-none}
-use Rattle.listing.proofs.Partners.{rows-few, some-row, taken, partner-self, partner-out, partner-in, rates-fit}
+use Rattle.listing.proofs.Partners.{some-row, taken, partner-self, partner-out, partner-in, rates-fit}
 use mathlib.Core.Path.{sym, _∙_}
 use Prim.Native.Nat.{_-_, _<_}
 use native.Mathlib.Omega.{arith}
@@ -21,12 +21,12 @@ use lib.ListN.{length}
 
 mul-head : tie.Need-mul-head
 mul-head c =
-    let l : c .before .before .before .before .args .row < length (c .before .before .before .before .args .heads .now) = omega (arith, rows-few (c .before .before .before .before .pre .0 .4), c .before .before .before .before .pre .0 .5, c .before .before .before .before .pre .2) in
+    let l : c .before .before .before .before .args .row < length (c .before .before .before .before .args .heads .now) = c .before .before .before .before .pre .2 in
     search needs
 
 shared-slice-read-head : tie.Need-shared-slice-read-head
 shared-slice-read-head c =
-    let l : c .before .before .before .before .before .args .row < length (c .before .before .before .before .before .args .heads .now) = omega (arith, rows-few (c .before .before .before .before .before .pre .0 .4), c .before .before .before .before .before .pre .0 .5, c .before .before .before .before .before .pre .2) in
+    let l : c .before .before .before .before .before .args .row < length (c .before .before .before .before .before .args .heads .now) = c .before .before .before .before .before .pre .2 in
     search needs
 
 place-in-requires : tie.Need-place-in-requires

@@ -54,16 +54,16 @@ loop-holds c =
 
 list-partner-requires : tie.Need-list-partner-requires Inv-loop μ-loop
 list-partner-requires c κs =
-    ((c .before .before .before .before .before .before .before .before .before .before .before .before .before .before .pre .0 .0, c .before .before .before .before .before .before .before .before .before .before .before .before .before .before .args .rows, c .before .before .before .before .before .before .before .before .before .before .before .before .before .before .pre .0 .1, c .before .before .before .before .before .before .before .before .before .before .before .before .before .before .pre .0 .2, c .before .before .before .before .before .before .before .before .before .before .before .before .before .before .pre .0 .3, omega arith), c .before .before .loop .inv .1 (omega arith) .receives, c .before .before .before .before .before .before .before .before .before .before .before .before .before .before .pre .4, c .before .before .before .before .before .before .before .before .before .before .before .before .before .before .pre .5, c .before .before .before .before .before .before .before .before .before .before .before .before .before .before .pre .6, c .before .before .loop .inv .2, c .before .before .loop .inv .3)
+    ((c .before .before .before .before .before .before .before .before .before .before .before .before .before .before .pre .0 .0, c .before .before .before .before .before .before .before .before .before .before .before .before .before .before .args .rows, c .before .before .before .before .before .before .before .before .before .before .before .before .before .before .pre .0 .1, c .before .before .before .before .before .before .before .before .before .before .before .before .before .before .pre .0 .2, c .before .before .before .before .before .before .before .before .before .before .before .before .before .before .pre .0 .3, omega arith), c .before .before .loop .inv .1 (omega arith) .receives, omega (arith, c .before .before .before .before .before .before .before .before .before .before .before .before .before .before .pre .4), c .before .before .before .before .before .before .before .before .before .before .before .before .before .before .pre .5, c .before .before .before .before .before .before .before .before .before .before .before .before .before .before .pre .6, c .before .before .loop .inv .2, c .before .before .loop .inv .3)
 
 mul-row-2 : tie.Need-mul-row-2 Inv-loop μ-loop
 mul-row-2 c =
-    let l : c .before .before .before .before .before .loop .row < length (c .before .before .before .before .before .before .before .before .before .before .before .before .before .before .before .before .before .args .nexts .now) = omega (arith, rows-few (c .before .before .before .before .before .before .before .before .before .before .before .before .before .before .before .before .before .pre .0 .3), c .before .before .before .before .before .before .before .before .before .before .before .before .before .before .before .before .before .pre .3) in
+    let l : c .before .before .before .before .before .loop .row < length (c .before .before .before .before .before .before .before .before .before .before .before .before .before .before .before .before .before .args .nexts .now) = omega (arith, c .before .before .before .before .before .before .before .before .before .before .before .before .before .before .before .before .before .pre .3, c .before .before .before .before .before .before .before .before .before .before .before .before .before .before .before .before .before .pre .4) in let k = rows-few (c .before .before .before .before .before .before .before .before .before .before .before .before .before .before .before .before .before .pre .0 .3) in
     search needs
 
 shared-slice-read-row-2 : tie.Need-shared-slice-read-row-2 Inv-loop μ-loop
 shared-slice-read-row-2 c =
-    let l : c .before .before .before .before .before .before .loop .row < length (c .before .before .before .before .before .before .before .before .before .before .before .before .before .before .before .before .before .before .args .nexts .now) = omega (arith, rows-few (c .before .before .before .before .before .before .before .before .before .before .before .before .before .before .before .before .before .before .pre .0 .3), c .before .before .before .before .before .before .before .before .before .before .before .before .before .before .before .before .before .before .pre .3) in
+    let l : c .before .before .before .before .before .before .loop .row < length (c .before .before .before .before .before .before .before .before .before .before .before .before .before .before .before .before .before .before .args .nexts .now) = omega (arith, c .before .before .before .before .before .before .before .before .before .before .before .before .before .before .before .before .before .before .pre .3, c .before .before .before .before .before .before .before .before .before .before .before .before .before .before .before .before .before .before .pre .4) in let k = rows-few (c .before .before .before .before .before .before .before .before .before .before .before .before .before .before .before .before .before .before .pre .0 .3) in
     search needs
 
 cast-row-2 : tie.Need-cast-row-2 Inv-loop μ-loop

@@ -13,7 +13,7 @@ use Rattle.eval.specs.declared.offer.Offer.{Offer}
 use Rattle.offers.specs.Table.{offerIn, localsOf}
 use Rattle.offers.proofs.Offered.{action-kinds}
 use Rattle.listing.proofs.Added.{adds-none}
-use Rattle.listing.proofs.Partners.{rows-few, some-row, row-place}
+use Rattle.listing.proofs.Partners.{some-row, row-place}
 use Rattle.listing.proofs.AllRows.{alone-of, high-of, sends, slot-of, below-last, rate-act}
 use mathlib.Core.Path.{ap, _∙_}
 use Prim.Native.Nat.{_-_, _<_}
@@ -23,12 +23,12 @@ use lib.ListN.{length}
 
 mul-head : tie.Need-mul-head
 mul-head c =
-    let l : c .before .before .before .before .before .before .args .row < length (c .before .before .before .before .before .before .args .heads .now) = omega (arith, rows-few (c .before .before .before .before .before .before .pre .0 .3), c .before .before .before .before .before .before .pre .6, c .before .before .before .before .before .before .pre .4) in
+    let l : c .before .before .before .before .before .before .args .row < length (c .before .before .before .before .before .before .args .heads .now) = omega (arith, c .before .before .before .before .before .before .pre .6, c .before .before .before .before .before .before .pre .4) in
     search needs
 
 shared-slice-read-head : tie.Need-shared-slice-read-head
 shared-slice-read-head c =
-    let l : c .before .before .before .before .before .before .before .args .row < length (c .before .before .before .before .before .before .before .args .heads .now) = omega (arith, rows-few (c .before .before .before .before .before .before .before .pre .0 .3), c .before .before .before .before .before .before .before .pre .6, c .before .before .before .before .before .before .before .pre .4) in
+    let l : c .before .before .before .before .before .before .before .args .row < length (c .before .before .before .before .before .before .before .args .heads .now) = omega (arith, c .before .before .before .before .before .before .before .pre .6, c .before .before .before .before .before .before .before .pre .4) in
     search needs
 
 place-in-requires : tie.Need-place-in-requires
@@ -39,7 +39,7 @@ branch-in-requires c κs = search needs
 
 offer-at-requires : tie.Need-offer-at-requires
 offer-at-requires c κs =
-    (c .before .before .before .before .before .before .before .before .before .pre .4, c .before .before .before .before .before .before .before .before .before .pre .5, omega (arith, rows-few (c .before .before .before .before .before .before .before .before .before .pre .0 .3), c .before .before .before .before .before .before .before .before .before .pre .6))
+    (c .before .before .before .before .before .before .before .before .before .pre .5, omega (arith, c .before .before .before .before .before .before .before .before .before .pre .6, c .before .before .before .before .before .before .before .before .before .pre .4))
 
 returns : tie.Need-returns
 unfolding offerIn

@@ -11,7 +11,7 @@ use Rattle.value.proofs.Kit.{back}
 use Rattle.state.specs.Read.{processCount}
 use Rattle.state.proofs.Tests.{refused, passed}
 use Rattle.offers.specs.Table.{offerIn}
-use Rattle.listing.proofs.Partners.{rows-few, some-row, row-place, taken}
+use Rattle.listing.proofs.Partners.{some-row, row-place, taken}
 use Rattle.listing.proofs.Queries.{place-values, other-channel, one-channel, sent-values}
 use mathlib.Core.Path.{sym, _∙_}
 use Prim.Native.Nat.{_-_, _<_}
@@ -21,7 +21,7 @@ use lib.ListN.{length}
 
 offer-at-requires : tie.Need-offer-at-requires
 offer-at-requires c κs =
-    (c .before .before .before .pre .2, c .before .before .before .pre .3, omega (arith, rows-few (c .before .before .before .pre .0 .4), c .before .before .before .pre .0 .5))
+    (c .before .before .before .pre .3, c .before .before .before .pre .2)
 
 same-channel-requires : tie.Need-same-channel-requires
 same-channel-requires c κs = search needs
@@ -33,12 +33,12 @@ returns c =
 
 mul-place-in : tie.Need-mul-place-in
 mul-place-in c =
-    let l : c .before .before .before .before .before .before .args .row < length (c .before .before .before .before .before .before .args .heads .now) = omega (arith, rows-few (c .before .before .before .before .before .before .pre .0 .4), c .before .before .before .before .before .before .pre .0 .5, c .before .before .before .before .before .before .pre .2) in
+    let l : c .before .before .before .before .before .before .args .row < length (c .before .before .before .before .before .before .args .heads .now) = c .before .before .before .before .before .before .pre .2 in
     search needs
 
 shared-slice-read-place-in : tie.Need-shared-slice-read-place-in
 shared-slice-read-place-in c =
-    let l : c .before .before .before .before .before .before .before .args .row < length (c .before .before .before .before .before .before .before .args .heads .now) = omega (arith, rows-few (c .before .before .before .before .before .before .before .pre .0 .4), c .before .before .before .before .before .before .before .pre .0 .5, c .before .before .before .before .before .before .before .pre .2) in
+    let l : c .before .before .before .before .before .before .before .args .row < length (c .before .before .before .before .before .before .before .args .heads .now) = c .before .before .before .before .before .before .before .pre .2 in
     search needs
 
 place-in-requires : tie.Need-place-in-requires

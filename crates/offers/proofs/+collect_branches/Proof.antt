@@ -4,7 +4,7 @@ use native.Mathlib.Omega.{arith}
 use borrow.Author.Needs.{needs}
 use lib.ListN.{length}
 use Rattle.tree.specs.Node.{kindOf, leftOf}
-use Rattle.offers.proofs.Branched.{lone-part, lone-collects, more-parts, more-lacks, more-collects, one-row}
+use Rattle.offers.proofs.Branched.{lone-part, lone-collects, more-parts, more-lacks, more-full, more-collects, one-row, one-room}
 use Prim.Native.Nat.{ℕ, _<_}
 use borrow.Fn.Kinds.{In}
 use borrow.Fn.PlainCycle.{Measures, is, falls, and}
@@ -233,7 +233,8 @@ collect-branches-collect-branches-requires t c κs =
     let f = more-parts T k kind is (c .before .before .before .before .before .before .before .before .before .before .before .before .if1 .left) (length L) (c .before .before .before .before .before .before .before .before .before .before .before .before .before .before .before .before .before .args .branch) (c .before .before .before .before .before .before .before .before .before .before .before .before .before .before .before .before .before .pre .1 .0) in
     let e = c .before .before .before .before .before .before .before .before .before .before .before .left-of .ensures ∙ ap leftOf (c .before .before .before .before .before .before .before .before .before .before .before .before .before .before .cell-at .ensures) in
     let o = one-row T L (c .before .before .before .before .before .before .before .before .before .before .before .before .before .before .before .before .before .args .place) (c .before .before .before .before .before .before .before .before .before .before .before .before .before .before .before .before .before .args .branch) (c .before .before .before .before .before .before .before .before .before .before .before .before .before .before .before .before .before .args .row) (c .before .before .before .before .before .before .before .before .before .before .before .before .before .before .before .before .before .args .heads .now) (c .before .before .before .before .before .before .before .before .before .before .before .before .before .before .before .before .before .args .numbers .now) (rw (e, c .before .before .before .first .given .1) at (c .before .before .before .before .before .before .before .before .collect-branch2 .ensures) (f .1 .1 .part) (f .1 .1 .at)) in
-    (omega (arith, c .before .before .before .before .before .before .before .before .before .before .before .before .before .before .before .before .before .pre .0, f .0), (f .2, c .before .before .before .before .before .before .before .before .before .before .before .before .before .before .before .before .before .pre .1 .1, search needs, search needs, c .before .before .before .before .before .before .before .before .before .before .before .before .before .before .before .before .before .pre .1 .4, omega (arith, c .before .before .before .before .before .before .before .before .before .before .before .before .before .before .before .before .before .pre .1 .5, o)))
+    let q = one-room T L (c .before .before .before .before .before .before .before .before .before .before .before .before .before .before .before .before .before .args .place) (c .before .before .before .before .before .before .before .before .before .before .before .before .before .before .before .before .before .args .branch) (c .before .before .before .before .before .before .before .before .before .before .before .before .before .before .before .before .before .args .row) (c .before .before .before .before .before .before .before .before .before .before .before .before .before .before .before .before .before .args .heads .now) (c .before .before .before .before .before .before .before .before .before .before .before .before .before .before .before .before .before .args .numbers .now) (rw (e, c .before .before .before .first .given .1) at (c .before .before .before .before .before .before .before .before .collect-branch2 .ensures) (f .1 .1 .part) (f .1 .1 .at)) in
+    (omega (arith, c .before .before .before .before .before .before .before .before .before .before .before .before .before .before .before .before .before .pre .0, f .0), (f .2, c .before .before .before .before .before .before .before .before .before .before .before .before .before .before .before .before .before .pre .1 .1, q, search needs, c .before .before .before .before .before .before .before .before .before .before .before .before .before .before .before .before .before .pre .1 .4, omega (arith, c .before .before .before .before .before .before .before .before .before .before .before .before .before .before .before .before .before .pre .1 .5, o)))
 
 collect-branches-enum-known-first-2 : (t : ℕ) → collect-branches-lts.Need-enum-known-first-2 (
   cell-at-reads.Asked,
@@ -248,6 +249,21 @@ collect-branches-enum-known-first-2 : (t : ℕ) → collect-branches-lts.Need-en
   collect-branches.Post,
 ) (collect-branches-at t) collect-branches.Post
 collect-branches-enum-known-first-2 t c =
+    search needs
+
+collect-branches-enum-told : (t : ℕ) → collect-branches-lts.Need-enum-told (
+  cell-at-reads.Asked,
+  cell-at-reads.Learnt,
+  kind-of-reads.Asked,
+  kind-of-reads.Learnt,
+  collect-branch-reads.Asked,
+  collect-branch-reads.Learnt,
+  left-of-reads.Asked,
+  left-of-reads.Learnt,
+  collect-branches-below t,
+  collect-branches.Post,
+) (collect-branches-at t) collect-branches.Post
+collect-branches-enum-told t c =
     search needs
 
 collect-branches-same-length-3 : (t : ℕ) → collect-branches-lts.Need-same-length-3 (
@@ -344,6 +360,53 @@ collect-branches-returns-3 t c =
     let e = c .before .before .before .before .before .before .before .before .before .left-of .ensures ∙ ap leftOf (c .before .before .before .before .before .before .before .before .before .before .before .before .cell-at .ensures) in
     more-lacks T k kind is (c .before .before .before .before .before .before .before .before .before .before .if1 .left) L (c .before .before .before .before .before .before .before .before .before .before .before .before .before .before .before .args .place) (c .before .before .before .before .before .before .before .before .before .before .before .before .before .before .before .args .branch) (c .before .before .before .before .before .before .before .before .before .before .before .before .before .before .before .args .row) (c .before .before .before .before .before .before .before .before .before .before .before .before .before .before .before .args .heads .now) (c .before .before .before .before .before .before .before .before .before .before .before .before .before .before .before .args .numbers .now) _ _ (c .before .first2 .given .0 .0) (rw (e, c .before .first2 .given .1) at (c .before .before .before .before .before .before .collect-branch2 .ensures))
 
+collect-branches-same-length-7 : (t : ℕ) → collect-branches-lts.Need-same-length-7 (
+  cell-at-reads.Asked,
+  cell-at-reads.Learnt,
+  kind-of-reads.Asked,
+  kind-of-reads.Learnt,
+  collect-branch-reads.Asked,
+  collect-branch-reads.Learnt,
+  left-of-reads.Asked,
+  left-of-reads.Learnt,
+  collect-branches-below t,
+  collect-branches.Post,
+) (collect-branches-at t) collect-branches.Post
+collect-branches-same-length-7 t c =
+    search needs
+
+collect-branches-same-length-8 : (t : ℕ) → collect-branches-lts.Need-same-length-8 (
+  cell-at-reads.Asked,
+  cell-at-reads.Learnt,
+  kind-of-reads.Asked,
+  kind-of-reads.Learnt,
+  collect-branch-reads.Asked,
+  collect-branch-reads.Learnt,
+  left-of-reads.Asked,
+  left-of-reads.Learnt,
+  collect-branches-below t,
+  collect-branches.Post,
+) (collect-branches-at t) collect-branches.Post
+collect-branches-same-length-8 t c =
+    search needs
+
+collect-branches-returns-4 : (t : ℕ) → collect-branches-lts.Need-returns-4 (
+  cell-at-reads.Asked,
+  cell-at-reads.Learnt,
+  kind-of-reads.Asked,
+  kind-of-reads.Learnt,
+  collect-branch-reads.Asked,
+  collect-branch-reads.Learnt,
+  left-of-reads.Asked,
+  left-of-reads.Learnt,
+  collect-branches-below t,
+  collect-branches.Post,
+) (collect-branches-at t) collect-branches.Post
+collect-branches-returns-4 t c =
+    let T = c .before .before .before .before .before .before .before .before .before .before .before .before .before .before .args .nodes .now in let L = c .before .before .before .before .before .before .before .before .before .before .before .before .before .before .args .locals .now in let k = c .before .before .before .before .before .before .before .before .before .before .before .before .before .before .args .k in let kind = c .before .before .before .before .before .before .before .before .before .before .kind-of .result in let is = c .before .before .before .before .before .before .before .before .before .before .kind-of .ensures ∙ ap kindOf (c .before .before .before .before .before .before .before .before .before .before .before .cell-at .ensures) in
+    let e = c .before .before .before .before .before .before .before .before .left-of .ensures ∙ ap leftOf (c .before .before .before .before .before .before .before .before .before .before .before .cell-at .ensures) in
+    more-full T k kind is (c .before .before .before .before .before .before .before .before .before .if1 .left) L (c .before .before .before .before .before .before .before .before .before .before .before .before .before .before .args .place) (c .before .before .before .before .before .before .before .before .before .before .before .before .before .before .args .branch) (c .before .before .before .before .before .before .before .before .before .before .before .before .before .before .args .row) (c .before .before .before .before .before .before .before .before .before .before .before .before .before .before .args .heads .now) (c .before .before .before .before .before .before .before .before .before .before .before .before .before .before .args .numbers .now) _ _ (rw (e, c .enum-told .given .1) at (c .before .before .before .before .before .collect-branch2 .ensures))
+
 pub +collect-branches-spec : {M : Type 1} → statement M
 +collect-branches-spec = close μ-collect-branches λ t. collect-branches-lts.spec (
   cell-at-reads.Asked,
@@ -372,9 +435,13 @@ pub +collect-branches-spec : {M : Type 1} → statement M
     (collect-branches-sub-collect-branches t)
     (collect-branches-collect-branches-requires t)
     (collect-branches-enum-known-first-2 t)
+    (collect-branches-enum-told t)
     (collect-branches-same-length-3 t)
     (collect-branches-same-length-4 t)
     (collect-branches-returns-2 t)
     (collect-branches-same-length-5 t)
     (collect-branches-same-length-6 t)
     (collect-branches-returns-3 t)
+    (collect-branches-same-length-7 t)
+    (collect-branches-same-length-8 t)
+    (collect-branches-returns-4 t)

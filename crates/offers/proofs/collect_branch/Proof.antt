@@ -5,6 +5,7 @@ use Rattle.offers.proofs.collect_branch.Reads as reads
 use Rattle.offers.proofs.collect_branch.Lts as lts
 use Rattle.eval.proofs.offer.offer_of.Reads as offer-of-reads
 use Rattle.offers.proofs.put_offer.Reads as put-offer-reads
+use Rattle.offers.specs.Collect.{full}
 use Rattle.offers.proofs.Offered.{fits-head, one-lacks, one-hidden, one-put}
 use Prim.Native.Nat.{_-_}
 use native.Mathlib.Omega.{arith}
@@ -19,14 +20,17 @@ returns c =
 
 returns-2 : tie.Need-returns-2
 returns-2 c =
-    λ b at. one-hidden (c .before .before .before .before .before .args .nodes .now) (c .before .before .before .before .before .args .locals .now) (c .before .before .before .before .before .args .place) (c .before .before .before .before .before .args .branch) (c .before .before .before .before .before .args .row) (c .before .before .before .before .before .args .heads .now) (c .before .before .before .before .before .args .numbers .now) (c .before .before .offer-of .result) _ (c .if2 .taken) (c .before .before .offer-of .ensures b at)
+    λ b at. one-hidden (c .before .before .before .before .before .args .nodes .now) (c .before .before .before .before .before .args .locals .now) (c .before .before .before .before .before .args .place) (c .before .before .before .before .before .args .branch) (c .before .before .before .before .before .args .row) (c .before .before .before .before .before .args .heads .now) (c .before .before .before .before .before .args .numbers .now) (c .before .before .offer-of .result) _ (c .before .before .before .before .before .pre .2) (c .if2 .taken) (c .before .before .offer-of .ensures b at)
+
+returns-3 : tie.Need-returns-3
+returns-3 c = λ b at. full (omega arith)
 
 put-offer-requires : tie.Need-put-offer-requires
 put-offer-requires c κs =
-    (search needs, search needs, search needs, search needs, search needs, (fits-head (c .before .before .before .before .before .before .before .pre .0 .0) (c .before .before .before .before .before .before .before .args .nodes .now) (c .before .before .before .before .before .before .before .args .locals .now) (c .before .before .before .before .before .before .before .pre .0 .1 .part) (c .before .before .before .before .offer-of .result) (c .before .before .before .before .before .before .before .pre .1) (c .before .before .before .before .before .before .before .pre .0 .1 .fit) (c .before .before .before .before .offer-of .ensures (c .before .before .before .before .before .before .before .pre .0 .1 .part) (c .before .before .before .before .before .before .before .pre .0 .1 .at)) (c .before .before .before .if1 .left) (c .before .before .if2 .left)))
+    (search needs, search needs, search needs, search needs, search needs, (fits-head (c .before .before .before .before .before .before .before .before .pre .0 .0) (c .before .before .before .before .before .before .before .before .args .nodes .now) (c .before .before .before .before .before .before .before .before .args .locals .now) (c .before .before .before .before .before .before .before .before .pre .0 .1 .part) (c .before .before .before .before .before .offer-of .result) (c .before .before .before .before .before .before .before .before .pre .1) (c .before .before .before .before .before .before .before .before .pre .0 .1 .fit) (c .before .before .before .before .before .offer-of .ensures (c .before .before .before .before .before .before .before .before .pre .0 .1 .part) (c .before .before .before .before .before .before .before .before .pre .0 .1 .at)) (c .before .before .before .before .if1 .left) (c .before .before .before .if2 .left)))
 
-add-t17 : tie.Need-add-t17
-add-t17 c = search needs
+add-t12 : tie.Need-add-t12
+add-t12 c = search needs
 
 same-length : tie.Need-same-length
 same-length c = search needs
@@ -34,9 +38,9 @@ same-length c = search needs
 same-length-2 : tie.Need-same-length-2
 same-length-2 c = search needs
 
-returns-3 : tie.Need-returns-3
-returns-3 c =
-    λ b at. rw (c .before .before .before .put-offer .ensures .0, c .before .before .before .put-offer .ensures .1) (one-put (c .before .before .before .before .before .before .before .before .before .before .before .args .nodes .now) (c .before .before .before .before .before .before .before .before .before .before .before .args .locals .now) (c .before .before .before .before .before .before .before .before .before .before .before .args .place) (c .before .before .before .before .before .before .before .before .before .before .before .args .branch) (c .before .before .before .before .before .before .before .before .before .before .before .args .row) (c .before .before .before .before .before .before .before .before .before .before .before .args .heads .now) (c .before .before .before .before .before .before .before .before .before .before .before .args .numbers .now) (c .before .before .before .before .before .before .before .before .offer-of .result) (fits-head (c .before .before .before .before .before .before .before .before .before .before .before .pre .0 .0) (c .before .before .before .before .before .before .before .before .before .before .before .args .nodes .now) (c .before .before .before .before .before .before .before .before .before .before .before .args .locals .now) (c .before .before .before .before .before .before .before .before .before .before .before .pre .0 .1 .part) (c .before .before .before .before .before .before .before .before .offer-of .result) (c .before .before .before .before .before .before .before .before .before .before .before .pre .1) (c .before .before .before .before .before .before .before .before .before .before .before .pre .0 .1 .fit) (c .before .before .before .before .before .before .before .before .offer-of .ensures (c .before .before .before .before .before .before .before .before .before .before .before .pre .0 .1 .part) (c .before .before .before .before .before .before .before .before .before .before .before .pre .0 .1 .at)) (c .before .before .before .before .before .before .before .if1 .left) (c .before .before .before .before .before .before .if2 .left)) (omega arith) (omega arith) (omega arith) (omega arith) _ (c .before .before .before .before .before .before .before .if1 .left) (c .before .before .before .before .before .before .if2 .left) (c .before .before .before .before .before .before .before .before .offer-of .ensures b at))
+returns-4 : tie.Need-returns-4
+returns-4 c =
+    λ b at. rw (c .before .before .before .put-offer .ensures .0, c .before .before .before .put-offer .ensures .1) (one-put (c .before .before .before .before .before .before .before .before .before .before .before .before .args .nodes .now) (c .before .before .before .before .before .before .before .before .before .before .before .before .args .locals .now) (c .before .before .before .before .before .before .before .before .before .before .before .before .args .place) (c .before .before .before .before .before .before .before .before .before .before .before .before .args .branch) (c .before .before .before .before .before .before .before .before .before .before .before .before .args .row) (c .before .before .before .before .before .before .before .before .before .before .before .before .args .heads .now) (c .before .before .before .before .before .before .before .before .before .before .before .before .args .numbers .now) (c .before .before .before .before .before .before .before .before .before .offer-of .result) (fits-head (c .before .before .before .before .before .before .before .before .before .before .before .before .pre .0 .0) (c .before .before .before .before .before .before .before .before .before .before .before .before .args .nodes .now) (c .before .before .before .before .before .before .before .before .before .before .before .before .args .locals .now) (c .before .before .before .before .before .before .before .before .before .before .before .before .pre .0 .1 .part) (c .before .before .before .before .before .before .before .before .before .offer-of .result) (c .before .before .before .before .before .before .before .before .before .before .before .before .pre .1) (c .before .before .before .before .before .before .before .before .before .before .before .before .pre .0 .1 .fit) (c .before .before .before .before .before .before .before .before .before .offer-of .ensures (c .before .before .before .before .before .before .before .before .before .before .before .before .pre .0 .1 .part) (c .before .before .before .before .before .before .before .before .before .before .before .before .pre .0 .1 .at)) (c .before .before .before .before .before .before .before .before .if1 .left) (c .before .before .before .before .before .before .before .if2 .left)) (omega arith) (omega arith) (omega arith) (omega arith) _ (c .before .before .before .before .before .before .before .before .if1 .left) (c .before .before .before .before .before .before .before .if2 .left) (c .before .before .before .before .before .before .before .before .before .offer-of .ensures b at))
 
 pub collect-branch-spec : {M : Type 1} → statement M
 collect-branch-spec =
@@ -45,8 +49,9 @@ collect-branch-spec =
     offer-of-requires
     returns
     returns-2
+    returns-3
     put-offer-requires
-    add-t17
+    add-t12
     same-length
     same-length-2
-    returns-3)
+    returns-4)

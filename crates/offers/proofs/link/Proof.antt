@@ -5,7 +5,7 @@ use Rattle.offers.proofs.link.Reads as reads
 use Rattle.offers.proofs.link.Lts as lts
 use Rattle.offers.proofs.fill.Reads as fill-reads
 use Rattle.offers.proofs.link_row.Reads as link-row-reads
-use Rattle.offers.specs.Links.{rowLimit, bucketLimit, Linked}
+use Rattle.offers.specs.Links.{bucketLimit, Linked}
 use Rattle.offers.proofs.Links.{linked-none}
 use mathlib.Core.Path.{_≡_, ap, _∙_}
 use Prim.Native.Nat.{suc, _-_, _≤_}
@@ -14,7 +14,7 @@ use borrow.Author.Needs.{needs}
 use lib.ListN.{length, length-replicate}
 
 abbrev Inv-loop : tie.InvT-loop
-Inv-loop heads numbers rows firsts₀ nexts₀ row₀ firsts nexts row = (row ≤ rows) × (length firsts ≡ bucketLimit) × (length nexts ≡ rowLimit) × Linked heads numbers rows row firsts nexts
+Inv-loop heads numbers rows firsts₀ nexts₀ row₀ firsts nexts row = (row ≤ rows) × (length firsts ≡ bucketLimit) × (length nexts ≡ length heads) × Linked heads numbers rows row firsts nexts
 
 abbrev μ-loop : tie.MeasureT-loop
 μ-loop heads numbers rows firsts₀ nexts₀ row₀ firsts nexts row = row

@@ -45,6 +45,13 @@ module _ (l new : List ℤ) (cut count : ℕ) (n : length new ≡ count) (c : cu
       ap (λ (r : List ℤ). new ++ (drop cut l ++ r)) z ∙ simp append-assoc in
       ap (take (length l)) e ∙ take-at (new ++ (drop cut l ++ replicate (cut - count) (pos 0))) (replicate count (pos 0)) (length l) (simp (length-append, length-drop, length-replicate) (omega arith))
 
+  -- as many come in as go out: nothing moves
+  pub rewritten-same : count ≡ cut → new ++ drop count l ≡ rewritten cut new l
+  unfolding rewritten
+  rewritten-same h =
+      let z : cut - count ≡ 0 = omega arith in
+      ap (λ (j : ℕ). new ++ drop j l) h ∙ ap (λ (r : List ℤ). new ++ r) (sym (append-nil (drop cut l))) ∙ ap (λ (j : ℕ). new ++ (drop cut l ++ replicate j (pos 0))) (sym z) ∙ sym (cut-off (omega arith))
+
   pub rewritten-left : count < cut → new ++ drop count (drop (cut - count) l ++ replicate (cut - count) (pos 0)) ≡ rewritten cut new l
   unfolding rewritten
   rewritten-left h =

@@ -445,6 +445,10 @@ fn rewrite(s: &mut [i64], cut: usize, fresh: &[i64], count: usize)
     requires { ⌜ (cut ≤ length (now s)) × (count ≤ length (now s)) × (count ≤ length (now fresh)) ⌝ }
     ensures { λ _. ⌜ now (s .exit) ≡ rewritten cut (take count (now (fresh .entry))) (now (s .entry)) ⌝ }
 {
+    if count == cut {
+        put(s, fresh, count);
+        return;
+    }
     if count < cut {
         shift_left(s, cut - count);
         put(s, fresh, count);

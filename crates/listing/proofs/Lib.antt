@@ -4,8 +4,9 @@ pub mod Weights
 pub mod Cleared
 pub mod Finished
 pub mod Matching
-pub mod Pairs
 pub mod Runs
+pub mod Pairs
+pub mod Ranges
 pub mod Partners
 pub mod Queries
 pub mod AllRows

@@ -35,6 +35,8 @@ use Rattle.state.proofs.Image.{pair-rows}
 use Rattle.state.proofs.Climbs.{climbing}
 use Rattle.state.proofs.Channel.{rowOn, run-bound, run-exact}
 use Rattle.listing.specs.Ready.{RunIs}
+use Rattle.listing.proofs.Runs.{matches-off}
+use mathlib.Core.Logic.{⊎-elim}
 use Rattle.offers.specs.Collect.{World}
 
 -- the row of a pair, and the values that it has
@@ -74,7 +76,7 @@ count-cast z n e l = rw e (rw (back (pos n) (omega arith)) (tt, record { fits = 
 
 -- ---- the run of a channel
 module _ {t roots scopes : List ℕ} {zs : List ℤ} {m : Resolved.Model} {s : State} (w : World t roots scopes zs m s) where
-  rows-are : rows pairWidth (pairCount zs) (pairPart zs) ≡ map pairNumbers (s .pairs)
+  pub rows-are : rows pairWidth (pairCount zs) (pairPart zs) ≡ map pairNumbers (s .pairs)
   rows-are =
       ap (λ (n : ℕ). rows pairWidth n (pairPart zs)) (pairs-are w) ∙ ap (λ (y : List ℤ). rows pairWidth (length (s .pairs)) (pairPart y)) (w .numbers)
       ∙ pair-rows (scopesOf m) (few-scopes m (w .good)) (m .channels) s (good-fits m s (w .good) (w .state))
@@ -82,16 +84,24 @@ module _ {t roots scopes : List ℕ} {zs : List ℤ} {m : Resolved.Model} {s : S
   pub rows-ascend : ascends (rows pairWidth (pairCount zs) (pairPart zs)) ≡ true
   rows-ascend = rw rows-are (climbing (s .pairs) (w .state .ascending))
 
-  run-at : (c : offers.Channel) → RunIs (s .pairs) c (placeOf (rowOn c 0) (map pairNumbers (s .pairs))) (placeOf (rowOn c 3) (map pairNumbers (s .pairs)))
-  run-at c =
+  run-at : (y : offers.Query) → let c = y .channel in RunIs (s .pairs) y (placeOf (rowOn c 0) (map pairNumbers (s .pairs))) (placeOf (rowOn c 3) (map pairNumbers (s .pairs)))
+  run-at y =
+      let c = y .channel in
       let f = good-fits m s (w .good) (w .state) in
       let b = run-bound c (m .channels) (s .pairs) (f .pairs) (w .state .ascending) in
-      record { low = b .0; high = b .1; exact = λ q x e. run-exact c (m .channels) (s .pairs) (f .pairs) (w .state .ascending) q x e }
+      let exact = run-exact c (m .channels) (s .pairs) (f .pairs) (w .state .ascending) in
+      record {
+        low = b .0;
+        high = b .1;
+        on = λ q x e l h. exact q x e .0 (l, h);
+        off = λ q x e h. matches-off y x (λ d. let r = exact q x e .1 d in ⊎-elim (λ l. omega (arith, r .0)) (λ l. omega (arith, r .1)) h);
+      }
 
-  pub run-shown : (sh : ℕ) (a b c : ℤ) (x : offers.Channel) (row : List ℤ) (from to : ℕ) → ShowsChannel sh a b c x → row ≡ numbersOf sh a b c ++ pos 0 ∷ pos 0 ∷ pos 0 ∷ []
-      → from ≡ placeOf row (rows pairWidth (pairCount zs) (pairPart zs)) → to ≡ placeOf (set row channelWidth (pos valuesPast)) (rows pairWidth (pairCount zs) (pairPart zs)) → RunIs (s .pairs) x from to
+  pub run-shown : (sh : ℕ) (a b c : ℤ) (y : offers.Query) (row : List ℤ) (from to : ℕ) → ShowsChannel sh a b c (y .channel) → row ≡ numbersOf sh a b c ++ pos 0 ∷ pos 0 ∷ pos 0 ∷ []
+      → from ≡ placeOf row (rows pairWidth (pairCount zs) (pairPart zs)) → to ≡ placeOf (set row channelWidth (pos valuesPast)) (rows pairWidth (pairCount zs) (pairPart zs)) → RunIs (s .pairs) y from to
   unfolding numbersOf
-  run-shown sh a b c x row from to h w e f =
+  run-shown sh a b c y row from to h w e f =
+      let x = y .channel in
       let low : row ≡ rowOn x 0 = w ∙ numbers-are x h (pos 0 ∷ pos 0 ∷ pos 0 ∷ []) in
       let high : set row channelWidth (pos valuesPast) ≡ rowOn x 3 = ap (λ (l : List ℤ). set l channelWidth (pos valuesPast)) w ∙ numbers-are x h (pos 3 ∷ pos 0 ∷ pos 0 ∷ []) in
-      rw (e, f) (rw rows-are (rw (high, low) (run-at x)))
+      rw (e, f) (rw rows-are (rw (high, low) (run-at y)))

@@ -73,7 +73,7 @@ module _ {t roots scopes : List ℕ} {zs : List ℤ} {m : Resolved.Model} {s : S
   pub place-values : (i : ℕ) → i < processCount zs → Every InRange (localsOf (s .processes) i)
   place-values i l = let p = some-place w i l in rw (locals-of w i (p .0) (p .1)) (values-good w i (p .0) (p .1))
 
-  pub run-fits : (c : offers.Channel) (from to : ℕ) → RunIs (s .pairs) c from to → to ≤ pairCount zs
+  pub run-fits : (y : offers.Query) (from to : ℕ) → RunIs (s .pairs) y from to → to ≤ pairCount zs
   run-fits c from to r = omega (arith, r .high, pairs-are w)
 
 -- ---- what is sent

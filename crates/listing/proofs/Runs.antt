@@ -51,12 +51,12 @@ any-none w [] f = refl
 any-none w (y ∷ xs) f = rw (f zero y refl) (any-none w xs (λ q x e. f (suc q) x e))
 
 -- ---- a run
-module _ (w : offers.Query) (xs : List offers.Pair) (from to : ℕ) (run : RunIs xs (w .channel) from to) where
+module _ (w : offers.Query) (xs : List offers.Pair) (from to : ℕ) (run : RunIs xs w from to) where
   pub run-on : (q : ℕ) (x : offers.Pair) → getElem? xs q ≡ some x → from ≤ q → q < to → matches w x ≡ allWithin (w .sets) (x .values)
-  run-on q x e l m = matches-on w x (run .exact q x e .0 (l, m))
+  run-on q x e l m = matches-on w x (run .on q x e l m)
 
   pub run-off : (q : ℕ) (x : offers.Pair) → getElem? xs q ≡ some x → (q < from) ⊎ (to ≤ q) → matches w x ≡ false
-  run-off q x e h = matches-off w x (λ c. let r = run .exact q x e .1 c in ⊎-elim (λ l. omega (arith, r .0)) (λ l. omega (arith, r .1)) h)
+  run-off q x e h = run .off q x e h
 
   -- no pair before q matches, and there is none from the run's end on
   pub run-none : (q : ℕ) → to ≤ q → ((k : ℕ) (x : offers.Pair) → getElem? xs k ≡ some x → k < q → matches w x ≡ false) → anyMatch w xs ≡ false

@@ -1,5 +1,6 @@
 // The listing of a state: its entries in the listing buffer, their count and total, or a refusal under questions 12 to 14.
 use eval::offer::Offer;
+use eval::offer::OfferSet;
 use offers::Collected;
 use offers::Table;
 use state::Layout;
@@ -25,7 +26,9 @@ ghost use Rattle.rules.specs.Offers as offers;
 ghost use Rattle.rules.specs.Listing.{gather, sameChannel, allWithin, anyMatch, matches};
 ghost use Rattle.model.specs.Good.{Every};
 ghost use Rattle.machine.specs.Evaluate.{rateLimit};
-ghost use Rattle.machine.specs.State.{State};
+ghost use Rattle.machine.specs.State.{State, pairWidth};
+ghost use mathlib.Core.Bool.{true};
+ghost use Rattle.state.specs.Test.{rows, ascends, placeOf};
 ghost use Rattle.state.specs.Read.{Passed, pairCount};
 ghost use Rattle.eval.specs.Channels.{ShowsChannel};
 ghost use Rattle.eval.specs.Shown.{ShowsValues, ShowsSets, ShowsQuery, ShowsPair};
@@ -43,7 +46,7 @@ ghost use Rattle.offers.specs.Slots.{Slot, partnerOf, ofSlot};
 ghost use Rattle.offers.specs.Walk.{slotsOf};
 ghost use Rattle.offers.specs.Table.{localsOf, offerIn};
 ghost use Rattle.offers.specs.Collect.{World};
-ghost use Rattle.listing.specs.Ready.{Ready, RunIs, boundAt};
+ghost use Rattle.listing.specs.Ready.{Ready, RunIs, lowRow, highRow, boundAt};
 ghost use Rattle.listing.specs.Buffer.{entryOf, image, cut, Adds, Lists, Tries, weightsIn, totalled, chosenAnswer};
 
 pub struct Limits;
@@ -260,21 +263,54 @@ fn pair_matches(nodes: &[u64], locals: &[i64], state: &[i64], o: Offer, q: usize
     )
 }
 
-// The run of the lit pairs on the channel of an offer.
+// How many of n ascending pairs stand before those with so many values on a channel, the first of them from low to high, and how many up to the last of these. The row has the
+// channel's numbers.
+fn value_run(s: &[i64], n: usize, row: &mut [i64], count: usize, low: i64, high: i64) -> Run
+    requires { ⌜ (n * pairWidth ≤ length (now s)) × (ascends (rows pairWidth n (now s)) ≡ true) × (length (now row) ≡ pairWidth) × (count ≤ 2) ⌝ }
+    ensures { λ r. ⌜ (r .from ≡ placeOf (lowRow (now (row .entry)) count low) (rows pairWidth n (now (s .entry)))) × (r .to ≡ placeOf (highRow (now (row .entry)) count low high) (rows pairWidth n (now (s .entry)))) ⌝ }
+{
+    row[Layout::CHANNEL] = count as i64;
+    row[Layout::VALUES] = low;
+    row[Layout::VALUES + 1] = value::Range::LEAST;
+    let from = state::find_pair(s, n, row);
+    row[Layout::VALUES] = high;
+    row[Layout::VALUES + 1] = OfferSet::JOINED;
+    let to = state::find_pair(s, n, row);
+    Run { from: from, to: to }
+}
+
+// The run of the lit pairs that an offer can match: those on its channel, as far as the first set, if it is a range, holds their first values.
 fn run_of(state: &[i64], o: Offer) -> Run
-    requires { ⌜ ((t : List ℕ) × (roots : List ℕ) × (scopes : List ℕ) × (m : Resolved.Model) × (s : State) × World t roots scopes (now state) m s) ⌝ }
-    ensures { λ r. ⌜ ((nodes : List ℕ) (ls : List ℤ) (w : offers.Query) (t roots scopes : List ℕ) (m : Resolved.Model) (s : State) → ShowsQuery nodes ls o w → World t roots scopes (now (state .entry)) m s → RunIs (s .pairs) (w .channel) (r .from) (r .to)) ⌝ }
+    requires { ⌜ ((t : List ℕ) × (roots : List ℕ) × (scopes : List ℕ) × (m : Resolved.Model) × (s : State) × World t roots scopes (now state) m s) × (o .count ≤ 2) ⌝ }
+    ensures { λ r. ⌜ ((nodes : List ℕ) (ls : List ℤ) (w : offers.Query) (t roots scopes : List ℕ) (m : Resolved.Model) (s : State) → ShowsQuery nodes ls o w → World t roots scopes (now (state .entry)) m s → RunIs (s .pairs) w (r .from) (r .to)) ⌝ }
 {
     let n = state::pair_count(state);
     let mut row = [0i64; Layout::PAIR];
     eval::channel::put_channel(o.shape, o.channel, o.channel2, o.channel3, &mut row);
-    state::channel_run(&state[Layout::PAIRS..], n, &mut row)
+    if o.first_end == OfferSet::JOINED {
+        return state::channel_run(&state[Layout::PAIRS..], n, &mut row);
+    }
+    let run = value_run(
+        &state[Layout::PAIRS..],
+        n,
+        &mut row,
+        o.count,
+        o.first,
+        o.first_end,
+    );
+    if run.to < run.from {
+        return Run {
+            from: run.from,
+            to: run.from,
+        };
+    }
+    run
 }
 
 // Whether any lit pair of a run matches what an offer asks for.
 fn any_match(nodes: &[u64], locals: &[i64], state: &[i64], o: Offer, run: Run) -> bool
     requires { ⌜ ((w : offers.Query) × ShowsQuery (now nodes) (now locals) o w) × (Every InRange (now locals)) × ((t : List ℕ) × (roots : List ℕ) × (scopes : List ℕ) × (m : Resolved.Model) × (s : State) × World t roots scopes (now state) m s) × (run .to ≤ pairCount (now state)) ⌝ }
-    ensures { λ r. ⌜ ((w : offers.Query) (t roots scopes : List ℕ) (m : Resolved.Model) (s : State) → ShowsQuery (now (nodes .entry)) (now (locals .entry)) o w → World t roots scopes (now (state .entry)) m s → RunIs (s .pairs) (w .channel) (run .from) (run .to) → r ≡ anyMatch w (s .pairs)) ⌝ }
+    ensures { λ r. ⌜ ((w : offers.Query) (t roots scopes : List ℕ) (m : Resolved.Model) (s : State) → ShowsQuery (now (nodes .entry)) (now (locals .entry)) o w → World t roots scopes (now (state .entry)) m s → RunIs (s .pairs) w (run .from) (run .to) → r ≡ anyMatch w (s .pairs)) ⌝ }
 {
     let to = run.to;
     let mut q = run.from;
@@ -334,7 +370,7 @@ fn list_bound(
     count: usize,
 ) -> usize
     requires { ⌜ ((w : offers.Query) × ShowsQuery (now nodes) (now locals) o w) × (Every InRange (now locals)) × ((t : List ℕ) × (roots : List ℕ) × (scopes : List ℕ) × (m : Resolved.Model) × (s : State) × World t roots scopes (now state) m s) × (run .to ≤ pairCount (now state)) × (o .rate ≤ rateLimit) × (length (now listing) ≡ listingLength) × (count ≤ suc entryLimit) ⌝ }
-    ensures { λ r. ⌜ ((w : offers.Query) (t roots scopes : List ℕ) (m : Resolved.Model) (s : State) → ShowsQuery (now (nodes .entry)) (now (locals .entry)) o w → World t roots scopes (now (state .entry)) m s → RunIs (s .pairs) (w .channel) (run .from) (run .to) → Adds (gather (boundAt w place branch (o .rate)) (s .pairs)) (now (listing .entry)) count (now (listing .exit)) r) × (length (now (listing .exit)) ≡ listingLength) × (r ≤ suc entryLimit) ⌝ }
+    ensures { λ r. ⌜ ((w : offers.Query) (t roots scopes : List ℕ) (m : Resolved.Model) (s : State) → ShowsQuery (now (nodes .entry)) (now (locals .entry)) o w → World t roots scopes (now (state .entry)) m s → RunIs (s .pairs) w (run .from) (run .to) → Adds (gather (boundAt w place branch (o .rate)) (s .pairs)) (now (listing .entry)) count (now (listing .exit)) r) × (length (now (listing .exit)) ≡ listingLength) × (r ≤ suc entryLimit) ⌝ }
 {
     let to = run.to;
     let mut q = run.from;

@@ -24,7 +24,7 @@ use native.Mathlib.Omega.{arith}
 use borrow.Author.Needs.{needs}
 
 abbrev Inv-loop : tie.InvT-loop
-Inv-loop nodes locals state o to q₀ q = (q₀ ≤ q) × ((w : offers.Query) (t roots scopes : List ℕ) (m : Resolved.Model) (s : State) → ShowsQuery nodes locals o w → World t roots scopes state m s → RunIs (s .pairs) (w .channel) q₀ to → (k : ℕ) (x : offers.Pair) → getElem? (s .pairs) k ≡ some x → k < q → matches w x ≡ false)
+Inv-loop nodes locals state o to q₀ q = (q₀ ≤ q) × ((w : offers.Query) (t roots scopes : List ℕ) (m : Resolved.Model) (s : State) → ShowsQuery nodes locals o w → World t roots scopes state m s → RunIs (s .pairs) w q₀ to → (k : ℕ) (x : offers.Pair) → getElem? (s .pairs) k ≡ some x → k < q → matches w x ≡ false)
 
 abbrev μ-loop : tie.MeasureT-loop
 μ-loop nodes locals state o to q₀ q = to - q

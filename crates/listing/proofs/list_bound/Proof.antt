@@ -24,7 +24,7 @@ use borrow.Author.Needs.{needs}
 use lib.ListN.{length}
 
 abbrev Inv-loop : tie.InvT-loop
-Inv-loop nodes locals state o place branch listing₀ count to q₀ n₀ listing q n = (q₀ ≤ q) × (length listing ≡ listingLength) × (n ≤ suc entryLimit) × ((w : offers.Query) (t roots scopes : List ℕ) (m : Resolved.Model) (s : State) → ShowsQuery nodes locals o w → World t roots scopes state m s → RunIs (s .pairs) (w .channel) q₀ to → (q ≤ to) × Adds (upTo (atNumber (boundAt w place branch (o .rate)) (s .pairs)) q) listing₀ count listing n)
+Inv-loop nodes locals state o place branch listing₀ count to q₀ n₀ listing q n = (q₀ ≤ q) × (length listing ≡ listingLength) × (n ≤ suc entryLimit) × ((w : offers.Query) (t roots scopes : List ℕ) (m : Resolved.Model) (s : State) → ShowsQuery nodes locals o w → World t roots scopes state m s → RunIs (s .pairs) w q₀ to → (q ≤ to) × Adds (upTo (atNumber (boundAt w place branch (o .rate)) (s .pairs)) q) listing₀ count listing n)
 
 abbrev μ-loop : tie.MeasureT-loop
 μ-loop nodes locals state o place branch listing₀ count to q₀ n₀ listing q n = to - q
@@ -45,7 +45,7 @@ loop-less c = search needs
 
 loop-again : tie.Need-loop-again Inv-loop μ-loop
 loop-again c =
-    (omega (arith, c .before .before .before .before .before .loop .inv .0), c .before .before .list-pair .ensures .1, c .before .before .list-pair .ensures .2, λ w t roots scopes m s sq W R. let y = some-pair W (c .before .before .before .before .before .loop .q) (omega (arith, c .before .before .before .before .before .before .before .before .pre .3)) in (omega arith, rw (bound-next w (s .pairs) _ _ R (c .before .before .before .before .before .before .before .before .args .place) (c .before .before .before .before .before .before .before .before .args .branch) (c .before .before .before .before .before .before .before .before .args .o .rate) (c .before .before .before .before .before .loop .q) (y .0) (y .1)) (adds-then (c .before .before .before .before .before .loop .inv .3 w t roots scopes m s sq W R .1) (c .before .before .list-pair .ensures .0 w t roots scopes m s (y .0) sq W (y .1) (sym (R .exact (c .before .before .before .before .before .loop .q) (y .0) (y .1) .0 (c .before .before .before .before .before .loop .inv .0, omega arith)))))))
+    (omega (arith, c .before .before .before .before .before .loop .inv .0), c .before .before .list-pair .ensures .1, c .before .before .list-pair .ensures .2, λ w t roots scopes m s sq W R. let y = some-pair W (c .before .before .before .before .before .loop .q) (omega (arith, c .before .before .before .before .before .before .before .before .pre .3)) in (omega arith, rw (bound-next w (s .pairs) _ _ R (c .before .before .before .before .before .before .before .before .args .place) (c .before .before .before .before .before .before .before .before .args .branch) (c .before .before .before .before .before .before .before .before .args .o .rate) (c .before .before .before .before .before .loop .q) (y .0) (y .1)) (adds-then (c .before .before .before .before .before .loop .inv .3 w t roots scopes m s sq W R .1) (c .before .before .list-pair .ensures .0 w t roots scopes m s (y .0) sq W (y .1) (sym (R .on (c .before .before .before .before .before .loop .q) (y .0) (y .1) (c .before .before .before .before .before .loop .inv .0) (omega arith)))))))
 
 same-length : tie.Need-same-length Inv-loop μ-loop
 same-length c = search needs

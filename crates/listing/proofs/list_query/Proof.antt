@@ -9,6 +9,7 @@ use Rattle.listing.proofs.list_bound.Reads as list-bound-reads
 use Rattle.listing.proofs.run_of.Reads as run-of-reads
 use Rattle.offers.proofs.locals_of.Reads as locals-of-reads
 use Rattle.listing.proofs.Added.{adds-none}
+use Rattle.listing.proofs.Ranges.{count-two}
 use Rattle.listing.proofs.Queries.{asked, place-values, run-fits, when-yes, when-no, unless-yes, unless-no}
 use mathlib.Core.Path.{sym, _∙_}
 use Prim.Native.Nat.{_-_}
@@ -22,7 +23,7 @@ locals-of-requires c κs =
 run-of-requires : tie.Need-run-of-requires
 run-of-requires c κs =
     let w = c .before .before .before .before .pre .0 .4 in let A = asked (c .before .before .before .before .pre .1) (c .before .before .before .before .pre .2) (c .before .before .before .before .pre .0 .5) in
-    (c .before .before .before .before .args .nodes .now, c .before .before .before .before .pre .0 .0, c .before .before .before .before .args .scopes .now, c .before .before .before .before .pre .0 .1, c .before .before .before .before .pre .0 .2, w)
+    ((c .before .before .before .before .args .nodes .now, c .before .before .before .before .pre .0 .0, c .before .before .before .before .args .scopes .now, c .before .before .before .before .pre .0 .1, c .before .before .before .before .pre .0 .2, w), count-two (A .shows .sets-are))
 
 list-bound-requires : tie.Need-list-bound-requires
 list-bound-requires c κs =

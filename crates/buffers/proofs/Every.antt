@@ -217,6 +217,7 @@ pub record Turns (x : Engine) (h : Held) (r : Request) (a : (p : Part) → Lendi
   pub answer : effectOf x (make (on′ r) a l) .answer ≡ acts r h .answer
   pub output : effectOf x (make (on′ r) a l) .output ≡ shown (acts r h .answer .listing) l
   pub lent : (p : Part) → isLent p (uses r) ≡ true → effectOf x (make (on′ r) a l) .left p ≡ numbersOf bytes (acts r h .machine) p
+  pub unlent : (p : Part) → isLent p (uses r) ≡ false → effectOf x (make (on′ r) a l) .left p ≡ lentEngine (make (on′ r) a l) x p
   pub left : (p : Part) → leftBy x (make (on′ r) a l) p ≡ numbersOf bytes (acts r h .machine) p
 
 module _ {x : Engine} (a : (p : Part) → Lending (Cell p) (size p)) (l : List ℕ) (r : Request) (w : hasLengths (on′ r) (lentLengths (make (on′ r) a l)) (length l) ≡ true)
@@ -264,6 +265,7 @@ module _ {x : Engine} (a : (p : Part) → Lending (Cell p) (size p)) (l : List �
         answer = ap (λ (e : Effect). e .answer) effect-is ∙ same;
         output = ap (λ (e : Effect). e .output) effect-is ∙ ap (λ (a : Answer). shown (a .listing) l) same;
         lent = λ p t. ap (λ (e : Effect). e .left p) effect-is ∙ rw t (numbers-after r Z h text m g lent-numbers p t);
+        unlent = λ p t. ap (λ (e : Effect). e .left p) effect-is ∙ rw t refl;
         left = λ p. ap (λ (e : Effect). cond (isLent p (uses r)) (ownBuffer (a p) (x p) (e .left p)) (x p)) effect-is ∙ left-numbers p;
       }
 

@@ -14,7 +14,7 @@ use Rattle.model.proofs.Answered as texts
 use Rattle.rules.specs.Listing.{Entry}
 use Rattle.machine.specs.State.{State}
 use Rattle.machine.specs.Report.{reportLength}
-use Rattle.machine.specs.Machine.{listingLength, asLent, Answer, no, listedAs, reportedAs, Listed, Turn, turn, drawn, showing, lists, sharing, reports, choosing, stepsWith, Held, Machine, closed, holding, onState}
+use Rattle.machine.specs.Machine.{listingLength, asLent, Answer, no, listedAs, reportedAs, Listed, Turn, turn, drawn, showing, lists, sharing, reports, choosing, stepsWith, Held, moved, Machine, closed, holding, onState}
 use Rattle.machine.specs.Machine.{Request, list′, step′, report′, Ask, open′, on′, acts, Part, model, size, lentTo, outputOf, hasLengths, onMachine, after}
 use Rattle.machine.specs.Machine as machine
 use Rattle.machine.specs.Questions.{IsListing, Lists, no12, no13, no14, yes14, Steps, no15, no16, no17, no18, no19, yes19}
@@ -111,7 +111,7 @@ module _ (x : Engine) (a : (p : Part) → Lending (Cell p) (size p)) (l : List �
 
     -- what the questions of a listing answer
     showing-out : Turns x h list′ a l → length l ≡ listingLength → {k : Listed} → Lists m s k
-        → acts list′ h .machine ≡ machine.held m (showing s k .machine) → acts list′ h .answer ≡ showing s k .answer → Out y (on′ list′)
+        → acts list′ h .machine ≡ moved h (showing s k .machine) → acts list′ h .answer ≡ showing s k .answer → Out y (on′ list′)
     unfolding showing
     showing-out u long (no12 {i = i} {j = j} f) w n = unlisted-out list′ u listingLength refl long 12 i j (omega arith) (omega arith) w n
     showing-out u long (no13 g k l) w n = unlisted-out list′ u listingLength refl long 13 0 0 (omega arith) (omega arith) w n
@@ -124,7 +124,7 @@ module _ (x : Engine) (a : (p : Part) → Lending (Cell p) (size p)) (l : List �
 
     -- of a report
     sharing-out : Turns x h report′ a l → length l ≡ reportLength → {k : Listed} → Lists m s k
-        → acts report′ h .machine ≡ machine.held m (sharing m s k .machine) → acts report′ h .answer ≡ sharing m s k .answer → Out y (on′ report′)
+        → acts report′ h .machine ≡ moved h (sharing m s k .machine) → acts report′ h .answer ≡ sharing m s k .answer → Out y (on′ report′)
     unfolding sharing reportedAs shown
     sharing-out u long (no12 {i = i} {j = j} f) w n = unlisted-out report′ u reportLength refl long 12 i j (omega arith) (omega arith) w n
     sharing-out u long (no13 g k l) w n = unlisted-out report′ u reportLength refl long 13 0 0 (omega arith) (omega arith) w n
@@ -138,7 +138,7 @@ module _ (x : Engine) (a : (p : Part) → Lending (Cell p) (size p)) (l : List �
 
     -- and of a step
     drawn-out : {d : ℕ} → Turns x h (step′ d) a l → {es : List Entry} {t : Turn State} → IsListing m s es → Steps m s es d t
-        → acts (step′ d) h .machine ≡ machine.held m (t .machine) → acts (step′ d) h .answer ≡ t .answer → Out y (on′ (step′ d))
+        → acts (step′ d) h .machine ≡ moved h (t .machine) → acts (step′ d) h .answer ≡ t .answer → Out y (on′ (step′ d))
     drawn-out {d} u {es = es} g (no15 l) w n = listed-out (step′ d) u es 15 g (omega arith) (omega arith) w n
     drawn-out {d} u {es = es} g (no16 l k) w n = listed-out (step′ d) u es 16 g (omega arith) (omega arith) w n
     drawn-out {d} u {es = es} g (no17 o k) w n = listed-out (step′ d) u es 17 g (omega arith) (omega arith) w n
@@ -147,7 +147,7 @@ module _ (x : Engine) (a : (p : Part) → Lending (Cell p) (size p)) (l : List �
     drawn-out {d} u {es = es} g (yes19 {c = i} r l k) w n = accepted-out (step′ d) u es i g n
 
     choosing-out : {d : ℕ} → Turns x h (step′ d) a l → length l ≡ listingLength → {k : Listed} → Lists m s k
-        → acts (step′ d) h .machine ≡ machine.held m (choosing m s d k .machine) → acts (step′ d) h .answer ≡ choosing m s d k .answer → Out y (on′ (step′ d))
+        → acts (step′ d) h .machine ≡ moved h (choosing m s d k .machine) → acts (step′ d) h .answer ≡ choosing m s d k .answer → Out y (on′ (step′ d))
     unfolding choosing
     choosing-out {d} u long (no12 {i = i} {j = j} f) w n = unlisted-out (step′ d) u listingLength refl long 12 i j (omega arith) (omega arith) w n
     choosing-out {d} u long (no13 g k l) w n = unlisted-out (step′ d) u listingLength refl long 13 0 0 (omega arith) (omega arith) w n

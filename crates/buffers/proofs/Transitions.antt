@@ -18,7 +18,7 @@ use Rattle.rules.specs.Draw.{weights, total}
 use Rattle.rules.proofs.Chosen.{chooses-first}
 use Rattle.machine.specs.State.{State, stateNumbers, GoodProcess, GoodState}
 use Rattle.machine.specs.Report.{reportLength, reportOf}
-use Rattle.machine.specs.Machine.{listingLength, Shown, filled, asLent, Answer, no, listedAs, reportedAs, Listed, entriesAre, Turn, drawn, showing, lists, sharing, reports, choosing, stepsWith, Held, Machine, closed, holding, onState}
+use Rattle.machine.specs.Machine.{listingLength, Shown, filled, asLent, Answer, no, listedAs, reportedAs, Listed, entriesAre, Turn, drawn, showing, lists, sharing, reports, choosing, stepsWith, Held, moved, Machine, closed, holding, onState}
 use Rattle.machine.specs.Machine.{Request, list′, step′, report′, Ask, on′, acts, Part, model, state, size, lentTo, outputOf, uses, isLent, allParts, hasLengths, onMachine, after}
 use Rattle.machine.specs.Machine as machine
 use Rattle.machine.specs.Questions.{Lists, no12, no13, no14, yes14, Steps, no15, no16, no17, no18, no19, yes19}
@@ -125,7 +125,7 @@ module _ {x : Engine} {h : Held} (b : Holds x (holding h)) (es : List Entry) (q 
 
     list-stays : leftBy x (asks (on′ list′) l) ≡ x
     unfolding acts onState lists showing
-    list-stays = still list-turns (ap (λ (k : Listed). record { model = m; state = showing s k .machine }) q)
+    list-stays = still list-turns (ap (λ (k : Listed). moved h (showing s k .machine)) q)
 
   -- what a step leaves
   leaving : (l : List ℕ) (d : ℕ) → length l ≡ listingLength → Leaves x m s es d (effectOf x (asks (on′ (step′ d)) l))
@@ -166,7 +166,7 @@ module _ {x : Engine} {h : Held} (b : Holds x (holding h)) (es : List Entry) (q 
       let n : effectOf x (asks (on′ report′) l) .output ≡ reportOf m s es = t .output ∙ ap (λ (k : Listed). shown (sharing m s k .answer .listing) l) q in
       record {
         answer = t .answer ∙ ap (λ (k : Listed). sharing m s k .answer) q;
-        stays = still t (ap (λ (k : Listed). record { model = m; state = sharing m s k .machine }) q);
+        stays = still t (ap (λ (k : Listed). moved h (sharing m s k .machine)) q);
         numbers = n;
         long = ap length n ∙ report-length m good s g es;
         each = λ d i. ap (λ (ns : List ℕ). getD ns d 0) n ∙ share-is m good s g es d i;

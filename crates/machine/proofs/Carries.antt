@@ -14,7 +14,7 @@ use Rattle.rules.specs.Listing.{Entry}
 use Rattle.rules.proofs.Decides.{Decides, holds, fails, passes}
 use Rattle.machine.specs.State.{State}
 use Rattle.machine.specs.Machine.{asLent, Answer, no, listedAs, reportedAs, Listed, entriesAre, refusedWith, listing, Turn, turn, drawn, showing, lists, sharing, reports, choosing, stepsWith}
-use Rattle.machine.specs.Machine.{Held, Machine, closed, holding, onState, Request, list′, step′, report′, Ask, open′, on′, acts, Part, hasLengths, Call, call, opens, onMachine, asked, calls}
+use Rattle.machine.specs.Machine.{Held, moved, Machine, closed, holding, onState, Request, list′, step′, report′, Ask, open′, on′, acts, Part, hasLengths, Call, call, opens, onMachine, asked, calls}
 use Rattle.machine.specs.Questions.{no12, no13, no14, yes14, Steps, no15, no16, no17, no18, no19, yes19}
 use Rattle.machine.specs.Questions as questions
 use Rattle.machine.specs.Results as results
@@ -75,7 +75,7 @@ step-kept d m s = go (listing.asked m s (listing m s) .0 refl)
 -- one that turns the state
 state-kept : (r : Request) (f : Resolved.Model → State → Turn State) (h : Held) → Kept (h .state) r (f (h .model) (h .state)) → Kept h r (onState f h)
 unfolding onState
-state-kept r f h k = record { carries = k .carries; stays = λ n. ap (λ (s : State). record { model = h .model; state = s }) (k .stays n); one = k .one; eleven = k .eleven }
+state-kept r f h k = record { carries = k .carries; stays = λ n. ap (moved h) (k .stays n); one = k .one; eleven = k .eleven }
 
 kept : (r : Request) (h : Held) → Kept h r (acts r h)
 unfolding acts
@@ -182,7 +182,7 @@ module _ (r : Request) (stays : (h : Held) → acts r h .machine ≡ h) where
 -- 01, Rule machine: a list call moves nothing
 pub list-stays : (y : Machine) (l : Part → ℕ) (o : ℕ) → calls y (call (on′ list′) l o) .machine ≡ y
 unfolding acts onState lists showing
-list-stays = unmoved list′ (λ h. ap (λ (s : State). record { model = h .model; state = s }) (shown (h .state) (listing (h .model) (h .state))))
+list-stays = unmoved list′ (λ h. ap (moved h) (shown (h .state) (listing (h .model) (h .state))))
   where
     shown : (s : State) (l : Listed) → showing s l .machine ≡ s
     shown s (entriesAre es) = refl
@@ -191,7 +191,7 @@ list-stays = unmoved list′ (λ h. ap (λ (s : State). record { model = h .mode
 -- 02, note 6: nor does a report
 pub report-stays : (y : Machine) (l : Part → ℕ) (o : ℕ) → calls y (call (on′ report′) l o) .machine ≡ y
 unfolding acts onState reports sharing
-report-stays = unmoved report′ (λ h. ap (λ (s : State). record { model = h .model; state = s }) (shared (h .model) (h .state) (listing (h .model) (h .state))))
+report-stays = unmoved report′ (λ h. ap (moved h) (shared (h .model) (h .state) (listing (h .model) (h .state))))
   where
     shared : (m : Resolved.Model) (s : State) (l : Listed) → sharing m s l .machine ≡ s
     shared m s (entriesAre es) = refl

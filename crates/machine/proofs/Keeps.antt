@@ -55,11 +55,16 @@ module _ (m : Resolved.Model) (s : State) (g : GoodState m s) where
 
 -- ---- requests
 
+-- one that turns the state
+state-good : (f : Resolved.Model → State → Turn State) (h : Held) → Good h → GoodState (h .model) (f (h .model) (h .state) .machine) → Good (onState f h .machine)
+unfolding onState
+state-good f h g k = record { state = k }
+
 pub acts-good : (r : Request) (h : Held) → GoodModel (h .model) → Good h → Good (acts r h .machine)
-unfolding acts onState
-acts-good list′ h k g = record { state = list-good (h .model) (h .state) (g .state) }
-acts-good (step′ d) h k g = record { state = step-good (h .model) (h .state) (g .state) k d }
-acts-good report′ h k g = record { state = report-good (h .model) (h .state) (g .state) }
+unfolding acts
+acts-good list′ h k g = state-good lists h g (list-good (h .model) (h .state) (g .state))
+acts-good (step′ d) h k g = state-good (stepsWith d) h g (step-good (h .model) (h .state) (g .state) k d)
+acts-good report′ h k g = state-good reports h g (report-good (h .model) (h .state) (g .state))
 
 -- 01, Rule machine: no request alters the model
 pub same-model : (r : Request) (h : Held) → acts r h .machine .model ≡ h .model

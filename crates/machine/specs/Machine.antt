@@ -186,6 +186,10 @@ pub record Held : Type 0 where
 abbrev pub held : Resolved.Model → State → Held
 held m s = record { model = m; state = s }
 
+-- the same, with this state
+abbrev pub moved : Held → State → Held
+moved h s = record { model = h .model; state = s }
+
 -- 01, Listing, 11: all that is held is over the model
 pub record Good (h : Held) : Type 0 where
   pub state : GoodState (h .model) (h .state)
@@ -199,7 +203,7 @@ pub data Machine : Type 0 where
 
 -- the model is read, the state read and written
 unfoldable pub onState : (Resolved.Model → State → Turn State) → Held → Turn Held
-onState f h = let t = f (h .model) (h .state) in turn (record { model = h .model; state = t .machine }) (t .answer)
+onState f h = let t = f (h .model) (h .state) in turn (moved h (t .machine)) (t .answer)
 
 -- ---- calls
 

@@ -16,6 +16,7 @@ pub mod Stays
 pub mod Reached
 pub mod Opens
 pub mod Numbers
+pub mod Saves
 pub mod Full
 pub mod Called
 pub mod Sheet

@@ -3,6 +3,8 @@ pub mod Offer
 pub mod Offering
 pub mod State
 pub mod Report
+pub mod Saves
+pub mod SavesRows
 pub mod Machine
 pub mod Questions
 pub mod Specimens

@@ -1,0 +1,1 @@
+// The buffer of the saves.

@@ -389,14 +389,16 @@ module _ (n : List ℕ) (zs ss : List ℤ) where
       unfolding forgettingNumbers
       forget-unknown h = rw (e, name-is-at, le-ltb i saveLimit h) (record { number = refl; state = refl; saves = refl })
 
-      pub forget-put : i < saveLimit → (row : List ℤ) → row ≡ replicate placeWidth (pos 0) → (m : ℕ) → m ≡ placeWidth → Stores (forgettingNumbers n zs ss) 0 zs (putMid (i * placeWidth) m ss row)
+      pub forget-put : i < saveLimit → length ss ≡ savesLength → (m : ℕ) → m ≡ placeWidth → (row : List ℤ) → row ≡ replicate (length (take m (drop (i * placeWidth) ss))) (pos 0)
+          → Stores (forgettingNumbers n zs ss) 0 zs (putMid (i * placeWidth) m ss row)
       unfolding forgettingNumbers withRow
-      forget-put h row r m w =
+      forget-put h l m w row r =
+          let k : length (take m (drop (i * placeWidth) ss)) ≡ placeWidth = simp (length-take, length-drop) (omega arith) in
           rw (e, name-is-at, lt-ltb i saveLimit h)
           (record {
             number = refl;
             state = refl;
             saves =
-                ap₂ (λ (l : List ℤ) (k : ℕ). take (i * placeWidth) ss ++ (l ++ drop k (drop (i * placeWidth) ss))) r w
+                ap₂ (λ (l : List ℤ) (k : ℕ). take (i * placeWidth) ss ++ (l ++ drop k (drop (i * placeWidth) ss))) (r ∙ ap (λ (j : ℕ). replicate j (pos 0)) k) w
                 ∙ ap (λ (l : List ℤ). take (i * placeWidth) ss ++ (replicate placeWidth (pos 0) ++ l)) (drop-drop placeWidth (i * placeWidth) ss);
           })

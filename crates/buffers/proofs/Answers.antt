@@ -1,84 +1,113 @@
 -- Over any buffers of right lengths that hold a model and a state, a list, a step and a report answer what the questions allow: from the exact test and the rule machine's own listings and steps.
-use mathlib.Core.Path.{_≡_, refl, sym, ap, ap₂, subst, _∙_}
-use mathlib.Core.Bool.{cond, _&&_}
+use mathlib.Core.Path.{_≡_, refl, sym, ap, subst, _∙_}
+use mathlib.Core.Bool.{Bool, true, cond, _&&_}
 use mathlib.Core.List.{List}
+use mathlib.Core.Option.{Option·elim}
 use Prim.Native.Nat.{ℕ}
 use borrow.Author.Tests.{eq-eqb}
-use lib.IntN.{ℤ}
+use lib.Dec.{eqb}
 use lib.ListN.{length}
 use Rattle.model.specs.Resolved
 use Rattle.rules.specs.Listing.{Entry}
 use Rattle.machine.specs.State.{State, stateLength, stateNumbers}
-use Rattle.machine.specs.Machine.{modelLength, listingLength, Shown, filled, Answer, listedAs, reportedAs, Listed, entriesAre, refusedWith, Turn, Machine, holding, lent, turn, showing, lists, sharing, reports, stepped, choosing, drawn, stepsOn}
+use Rattle.machine.specs.Machine.{modelLength, listingLength, Shown, filled, Answer, listedAs, reportedAs, Listed, entriesAre, refusedWith, turn, drawn, showing, lists, sharing, reports, choosing, stepsWith, held, Machine, holding, onState, list′, step′, report′, on′, acts, Part, model, state, size, twoParts, isLent, allParts, hasLengths, onMachine}
 use Rattle.machine.specs.Machine as machine
 use Rattle.machine.specs.Report.{reportLength, reportOf}
 use Rattle.machine.specs.Questions.{Lists, Steps}
 use Rattle.machine.proofs.Listing.{asked, accepted}
 use Rattle.machine.proofs.Stepping as step
 use Rattle.buffers.specs.Listing.{shown, listingNumbers}
-use Rattle.buffers.specs.Effect.{Effect, machineIn, stateIn, leaves, whenLent, listEffect, stepEffect, reportEffect}
+use Rattle.buffers.specs.Parts.{Engine, numbersOf, withState}
+use Rattle.buffers.specs.Effect.{Effect, machineIn, untouched, leftIn, leaves, requested, answered, effect}
 use Rattle.buffers.specs.Answers as answers
 use Rattle.buffers.specs.Answers.{ListsAs, StepsAs, ReportsAs}
 use Rattle.buffers.proofs.Machines.{machine-over}
+use Rattle.buffers.proofs.Lent.{same-engine}
 use Rattle.buffers.proofs.Transitions.{fills}
 
-module _ (bs : List ℕ) (zs : List ℤ) (l : List ℕ) (long : length bs ≡ modelLength) (numbers : length zs ≡ stateLength)
-    (m : Resolved.Model) (s : State) (holds : machineIn bs zs ≡ holding m s) where
+module _ (x : Engine) (l : List ℕ) (long : length (x model) ≡ modelLength) (numbers : length (x state) ≡ stateLength)
+    (m : Resolved.Model) (s : State) (holds : machineIn twoParts x ≡ holding (held m s)) where
   -- the lengths are right
-  lent-all : (right : ℕ) → length l ≡ right → (t : Turn Machine) → whenLent right bs zs l t ≡ leaves bs zs l t
-  unfolding whenLent lent
-  lent-all right room t = rw (eq-eqb _ _ long, eq-eqb _ _ numbers, eq-eqb _ _ room)
+  lent-all : (right : ℕ) → length l ≡ right
+      → (allParts (λ (p : Part). eqb (length (x p)) (size p)) twoParts && eqb (length l) right) ≡ true
+  unfolding allParts
+  lent-all right room = rw (eq-eqb _ _ long, eq-eqb _ _ numbers, eq-eqb _ _ room)
 
   -- the state's numbers are those lent
-  same : stateNumbers s ≡ zs
-  same = machine-over bs zs m s numbers holds .numbers
+  same : stateNumbers s ≡ x state
+  same = machine-over x m s numbers holds .numbers
+
+  -- what is left by a turn to the state r
+  moved : (r : State) → leftIn twoParts x (holding (held m r)) ≡ withState x (stateNumbers r)
+  unfolding leftIn isLent numbersOf withState
+  moved r = same-engine at
+    where
+      at : (p : Part) → leftIn twoParts x (holding (held m r)) p ≡ withState x (stateNumbers r) p
+      at model = refl
+      at state = refl
+
+  still : withState x (stateNumbers s) ≡ x
+  unfolding withState
+  still = same-engine at
+    where
+      at : (p : Part) → withState x (stateNumbers s) p ≡ x p
+      at model = refl
+      at state = same
 
   leaving : State → Answer → Effect
-  leaving r a = leaves bs zs l (turn (holding m r) a)
+  leaving r a = leaves twoParts x l (turn (holding (held m r)) a)
+
+  gives : (r : State) (a : Answer) → leaving r a ≡ record { answer = a; left = withState x (stateNumbers r); output = shown (a .listing) l }
+  unfolding leaving leaves
+  gives r a = ap (λ (z : Engine). record { answer = a; left = z; output = shown (a .listing) l }) (moved r)
 
   -- an answer that moves nothing
-  kept : (a : Answer) → leaving s a ≡ record { answer = a; model = bs; state = zs; listing = shown (a .listing) l }
-  unfolding leaving leaves turn stateIn
-  kept a = ap (λ (ys : List ℤ). record { answer = a; model = bs; state = ys; listing = shown (a .listing) l }) same
+  kept : (a : Answer) → leaving s a ≡ record { answer = a; left = x; output = shown (a .listing) l }
+  kept a = gives s a ∙ ap (λ (z : Engine). record { answer = a; left = z; output = shown (a .listing) l }) still
 
   -- 01, Listing
-  pub lists-as : length l ≡ listingLength → ListsAs m s bs zs l (listEffect bs zs l)
-  unfolding listEffect lists showing listedAs shown leaving
-  lists-as room = subst (ListsAs m s bs zs l) (sym (lent-all listingLength room (lists (machineIn bs zs)) ∙ ap (λ (y : Machine). leaves bs zs l (lists y)) holds)) (by (machine.listing m s) (asked m s (machine.listing m s) .0 refl))
+  pub lists-as : length l ≡ listingLength → ListsAs m s x l (effect (on′ list′) x l)
+  unfolding effect hasLengths Option·elim answered requested machineIn onMachine acts onState lists showing listedAs shown leaving
+  lists-as room =
+      subst (ListsAs m s x l) (sym (ap (λ (b : Bool). cond b (answered (on′ list′) x l) (untouched x l)) (lent-all listingLength room) ∙ ap (λ (y : Machine). leaves twoParts x l (onMachine list′ y)) holds))
+      (by (machine.listing m s) (asked m s (machine.listing m s) .0 refl))
     where
-      by : (k : Listed) → Lists m s k → ListsAs m s bs zs l (leaves bs zs l (showing m s k))
-      by (entriesAre es) h = subst (ListsAs m s bs zs l) (sym (kept (listedAs 0 0 es))) (answers.ListsAs.yes14 h)
-      by (refusedWith a) h = subst (ListsAs m s bs zs l) (sym (kept a)) (answers.ListsAs.no14 h)
+      by : (k : Listed) → Lists m s k → ListsAs m s x l (leaving (showing s k .machine) (showing s k .answer))
+      by (entriesAre es) h = subst (ListsAs m s x l) (sym (kept (listedAs 0 0 es))) (answers.ListsAs.yes14 h)
+      by (refusedWith a) h = subst (ListsAs m s x l) (sym (kept a)) (answers.ListsAs.no14 h)
 
   filled-so : (k : Shown) (es : List Entry) → k ≡ filled es → shown k l ≡ listingNumbers es
   unfolding shown
   filled-so k es e = ap (λ (k : Shown). shown k l) e
 
   -- 01, Listing and stepping
-  pub steps-as : length l ≡ listingLength → (d : ℕ) → StepsAs m s bs zs l d (stepEffect bs zs l d)
-  unfolding stepEffect stepsOn choosing stepped leaving turn leaves stateIn
+  pub steps-as : length l ≡ listingLength → (d : ℕ) → StepsAs m s x l d (effect (on′ (step′ d)) x l)
+  unfolding effect hasLengths Option·elim answered requested machineIn onMachine acts onState stepsWith choosing leaving
   steps-as room d =
-      subst (StepsAs m s bs zs l d) (sym (lent-all listingLength room (stepsOn (machineIn bs zs) d) ∙ ap (λ (y : Machine). leaves bs zs l (stepsOn y d)) holds)) (by (machine.listing m s) refl)
+      subst (StepsAs m s x l d) (sym (ap (λ (b : Bool). cond b (answered (on′ (step′ d)) x l) (untouched x l)) (lent-all listingLength room) ∙ ap (λ (y : Machine). leaves twoParts x l (onMachine (step′ d) y)) holds))
+      (by (machine.listing m s) refl)
     where
-      taken : (es : List Entry) → machine.listing m s ≡ entriesAre es → StepsAs m s bs zs l d (leaves bs zs l (stepped m (drawn m s es d)))
+      taken : (es : List Entry) → machine.listing m s ≡ entriesAre es → StepsAs m s x l d (leaving (drawn m s es d .machine) (drawn m s es d .answer))
       taken es q =
           let h = subst (Lists m s) q (asked m s (machine.listing m s) .0 refl) in
           let t = step.asked m s es (accepted m s es .0 q .1) d (drawn m s es d) .0 refl in
-          subst
-          (λ (k : List ℕ). StepsAs m s bs zs l d (record { answer = drawn m s es d .answer; model = bs; state = stateNumbers (drawn m s es d .machine); listing = k }))
+          subst (StepsAs m s x l d) (sym (gives (drawn m s es d .machine) (drawn m s es d .answer)))
+          (subst
+          (λ (k : List ℕ). StepsAs m s x l d (record { answer = drawn m s es d .answer; left = withState x (stateNumbers (drawn m s es d .machine)); output = k }))
           (sym (filled-so (drawn m s es d .answer .listing) es (fills t)))
-          (answers.StepsAs.drawn h t)
+          (answers.StepsAs.drawn h t))
 
-      by : (k : Listed) → machine.listing m s ≡ k → StepsAs m s bs zs l d (leaves bs zs l (choosing m s d k))
+      by : (k : Listed) → machine.listing m s ≡ k → StepsAs m s x l d (leaving (choosing m s d k .machine) (choosing m s d k .answer))
       by (entriesAre es) q = taken es q
-      by (refusedWith a) q = subst (StepsAs m s bs zs l d) (sym (kept a)) (answers.StepsAs.no14 (subst (Lists m s) q (asked m s (machine.listing m s) .0 refl)))
+      by (refusedWith a) q = subst (StepsAs m s x l d) (sym (kept a)) (answers.StepsAs.no14 (subst (Lists m s) q (asked m s (machine.listing m s) .0 refl)))
 
   -- 02, note 6
-  pub reports-as : length l ≡ reportLength → ReportsAs m s bs zs l (reportEffect bs zs l)
-  unfolding reportEffect reports sharing reportedAs shown leaving
+  pub reports-as : length l ≡ reportLength → ReportsAs m s x l (effect (on′ report′) x l)
+  unfolding effect hasLengths Option·elim answered requested machineIn onMachine acts onState reports sharing reportedAs shown leaving
   reports-as room =
-      subst (ReportsAs m s bs zs l) (sym (lent-all reportLength room (reports (machineIn bs zs)) ∙ ap (λ (y : Machine). leaves bs zs l (reports y)) holds)) (by (machine.listing m s) (asked m s (machine.listing m s) .0 refl))
+      subst (ReportsAs m s x l) (sym (ap (λ (b : Bool). cond b (answered (on′ report′) x l) (untouched x l)) (lent-all reportLength room) ∙ ap (λ (y : Machine). leaves twoParts x l (onMachine report′ y)) holds))
+      (by (machine.listing m s) (asked m s (machine.listing m s) .0 refl))
     where
-      by : (k : Listed) → Lists m s k → ReportsAs m s bs zs l (leaves bs zs l (sharing m s k))
-      by (entriesAre es) h = subst (ReportsAs m s bs zs l) (sym (kept (reportedAs (reportOf m s es) es))) (answers.ReportsAs.yes14 h)
-      by (refusedWith a) h = subst (ReportsAs m s bs zs l) (sym (kept a)) (answers.ReportsAs.no14 h)
+      by : (k : Listed) → Lists m s k → ReportsAs m s x l (leaving (sharing m s k .machine) (sharing m s k .answer))
+      by (entriesAre es) h = subst (ReportsAs m s x l) (sym (kept (reportedAs (reportOf m s es) es))) (answers.ReportsAs.yes14 h)
+      by (refusedWith a) h = subst (ReportsAs m s x l) (sym (kept a)) (answers.ReportsAs.no14 h)

@@ -1,9 +1,11 @@
--- What is proved of lent buffers: model buffers (Held), listing buffers (Listings), the machine in two buffers (Machines), every list of calls (Calls), what listings and steps show after it
+-- What is proved of lent buffers: model buffers (Held), listing buffers (Listings), the machine in the model and state buffers (Machines), every list of calls (Every, from Local and Lent), what listings and steps show after it
 -- (Transitions), and what each answer leaves (Outcomes).
 pub mod Held
 pub mod Listings
 pub mod Machines
-pub mod Calls
+pub mod Local
+pub mod Lent
+pub mod Every
 pub mod Written
 pub mod Texts
 pub mod Transitions

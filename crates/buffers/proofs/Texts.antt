@@ -1,63 +1,56 @@
 -- After every list of calls the model buffer is that of the last accepted text: by induction on the calls, of which openings alone write it.
-use mathlib.Core.Path.{_≡_, refl, sym, ap, _∙_}
-use mathlib.Core.Bool.{Bool, true, false, cond, _&&_}
+use mathlib.Core.Path.{_≡_, refl, ap, _∙_}
+use mathlib.Core.Bool.{Bool, true, false, cond}
 use mathlib.Core.List.{List, [], _∷_}
-use mathlib.Core.Option.{Option, none, some, Option·elim}
+use mathlib.Core.Option.{Option, none, Option·elim}
 use Prim.Native.Nat.{ℕ}
-use lib.Dec.{eqb}
-use lib.IntN.{ℤ}
-use lib.ListN.{length, replicate}
-use Rattle.model.specs.Opening.{Opening, refused, opened}
-use Rattle.model.specs.Opening as reading
-use Rattle.machine.specs.State.{stateLength}
-use Rattle.machine.specs.Machine.{modelLength, listingLength, Turn, Machine, closed, lent, calls, lists, stepsOn, reports}
-use Rattle.machine.specs.Report.{reportLength}
-use Rattle.buffers.specs.Held.{modelBytes}
-use Rattle.buffers.specs.Effect.{Effect, machineIn, untouched, opensWith, openEffect, leaves, whenLent, listEffect, stepEffect, reportEffect}
-use Rattle.buffers.specs.Calls.{Engine, fresh, Lending, own, lentBuffer, lentLength, ownBuffer, BufferCall, opening, listing, stepping, reporting, lentModel, lentState, effect, leftBy, fed, engineAfter, Holds, zeros}
-use Rattle.buffers.specs.Texts.{keeps, textAfter, bytesOf}
-use Rattle.buffers.proofs.Calls.{model-long, state-long, lent-long, kept, own-left, Lends, right, wrong, lends, call-goes}
+use lib.ListN.{length}
+use Rattle.model.specs.Opening.{Opening, refused, opened, opening}
+use Rattle.machine.specs.Machine.{Turn, Machine, closed, holding, Request, Ask, open′, on′, Part, model, lentTo, uses, isLent, hasLengths}
+use Rattle.buffers.specs.Parts.{Engine, fresh, numbersOf}
+use Rattle.buffers.specs.Effect.{Effect, untouched, opensWith, leftIn, leaves, requested, answered}
+use Rattle.buffers.specs.Calls.{BufferCall, lentEngine, effectOf, leftBy, lentLengths, engineAfter, Holds, zeros}
+use Rattle.buffers.specs.Texts.{keeps, reads, textAfter, bytesOf}
+use Rattle.buffers.proofs.Local.{model-lent}
+use Rattle.buffers.proofs.Every.{all-lent, stays, one-untouched, own-engine, left-as, asks-all, call-goes}
 
--- a call that reads no text leaves the model buffer as it was lent
-stays : (n : ℕ) (bs : List ℕ) (zs : List ℤ) (l : List ℕ) (t : Turn Machine) → whenLent n bs zs l t .model ≡ bs
-unfolding whenLent leaves untouched
-stays n bs zs l t = by (lent (length bs) (length zs) && eqb (length l) n)
-  where
-    by : (b : Bool) → cond b (leaves bs zs l t) (untouched bs zs l) .model ≡ bs
-    by true = refl
-    by false = refl
+-- a request leaves the model buffer as it was lent
+same-bytes : (r : Request) (x : Engine) (y : Machine) → leftIn (uses r) x y model ≡ x model
+unfolding leftIn numbersOf
+same-bytes r x closed = refl
+same-bytes r x (holding h) = rw (model-lent r)
 
 -- an opening with right lengths writes the text's bytes, or zeros
-written : (text : List ℕ) (o : Opening) → opensWith text o .model ≡ bytesOf (keeps text o)
-unfolding opensWith bytesOf keeps Option·elim
-written text (refused n p) = refl
-written text (opened m) = refl
+written : (text : List ℕ) (o : Opening) (l : List ℕ) → opensWith text o l .left model ≡ bytesOf (keeps text o)
+unfolding opensWith bytesOf keeps Option·elim fresh numbersOf
+written text (refused n p) l = refl
+written text (opened m) l = refl
 
-module _ {x : Engine} {y : Machine} (h : Holds x y) where
-  opened-model : (o : Option (List ℕ)) → x .model ≡ bytesOf o → (text : List ℕ) (a : Lending ℕ modelLength) (b : Lending ℤ stateLength)
-      → leftBy x (opening text a b) .model ≡ bytesOf (cond (lent (lentLength a) (lentLength b)) (keeps text (reading.opening text)) o)
-  unfolding leftBy effect openEffect lentModel untouched
-  opened-model o e text a b = rw (lent-long a (x .model) (model-long h), lent-long b (x .state) (state-long h)) (by (lends a b))
+-- what one call leaves in it
+module _ {x : Engine} {y : Machine} (h : Holds x y) (o : Option (List ℕ)) (e : x model ≡ bytesOf o) (c : BufferCall) where
+  left-model : leftBy x c model ≡ bytesOf (reads o (hasLengths (c .ask) (lentLengths c) (length (c .output))) (c .ask))
+  left-model = by (hasLengths (c .ask) (lentLengths c) (length (c .output))) refl (c .ask) refl
     where
-      by : {t : Bool} → Lends a b t
-          → ownBuffer a (x .model) (cond t (opensWith text (reading.opening text)) (untouched (lentBuffer a (x .model)) (lentBuffer b (x .state)) []) .model)
-          ≡ bytesOf (cond t (keeps text (reading.opening text)) o)
-      by (right f g) = own-left a (x .model) _ f ∙ written text (reading.opening text)
-      by wrong = kept a (x .model) ∙ e
+      by : (b : Bool) → hasLengths (c .ask) (lentLengths c) (length (c .output)) ≡ b → (k : Ask) → c .ask ≡ k → leftBy x c model ≡ bytesOf (reads o b k)
+      by true w (open′ text) q = unfold reads answered in
+          left-as h c w model (rw q (all-lent text model)) ∙ ap (λ (e : Effect). e .left model) (asks-all h c w ∙ ap (λ (k : Ask). answered k (lentEngine c x) (c .output)) q) ∙ written text (opening text) (c .output)
+      by true w (on′ r) q = unfold reads answered requested leaves in
+          let t : isLent model (lentTo (c .ask)) ≡ true = rw q (model-lent r) in
+          left-as h c w model t
+          ∙ ap (λ (e : Effect). e .left model) (asks-all h c w ∙ ap (λ (k : Ask). answered k (lentEngine c x) (c .output)) q)
+          ∙ same-bytes r (lentEngine c x) _
+          ∙ own-engine h c w model t
+          ∙ e
+      by false w (open′ text) q = unfold reads untouched in stays h c (ap (λ (e : Effect). e .left) (one-untouched h c w)) model ∙ e
+      by false w (on′ r) q = unfold reads untouched in stays h c (ap (λ (e : Effect). e .left) (one-untouched h c w)) model ∙ e
 
 -- whatever is held, from there on
-from-any : (x : Engine) (y : Machine) → Holds x y → (o : Option (List ℕ)) → x .model ≡ bytesOf o → (cs : List BufferCall) → engineAfter x cs .model ≡ bytesOf (textAfter o cs)
-unfolding engineAfter textAfter leftBy effect listEffect stepEffect reportEffect lentModel
+from-any : (x : Engine) (y : Machine) → Holds x y → (o : Option (List ℕ)) → x model ≡ bytesOf o → (cs : List BufferCall) → engineAfter x cs model ≡ bytesOf (textAfter o cs)
+unfolding engineAfter textAfter
 from-any x y h o e [] = e
-from-any x y h o e (opening text a b ∷ cs) = from-any _ _ (call-goes h (opening text a b) .left) _ (opened-model h o e text a b) cs
-from-any x y h o e (listing a b l ∷ cs) =
-    from-any _ _ (call-goes h (listing a b l) .left) o (ap (ownBuffer a (x .model)) (stays listingLength _ _ l _) ∙ kept a (x .model) ∙ e) cs
-from-any x y h o e (stepping a b l d ∷ cs) =
-    from-any _ _ (call-goes h (stepping a b l d) .left) o (ap (ownBuffer a (x .model)) (stays listingLength _ _ l _) ∙ kept a (x .model) ∙ e) cs
-from-any x y h o e (reporting a b l ∷ cs) =
-    from-any _ _ (call-goes h (reporting a b l) .left) o (ap (ownBuffer a (x .model)) (stays reportLength _ _ l _) ∙ kept a (x .model) ∙ e) cs
+from-any x y h o e (c ∷ cs) = from-any (leftBy x c) _ (call-goes h c .left) _ (left-model h o e c) cs
 
 -- 01, Fresh, Open: from the fresh engine
-pub last-text : (cs : List BufferCall) → engineAfter fresh cs .model ≡ bytesOf (textAfter none cs)
+pub last-text : (cs : List BufferCall) → engineAfter fresh cs model ≡ bytesOf (textAfter none cs)
 unfolding fresh bytesOf Option·elim
-last-text cs = from-any fresh closed (zeros refl) none refl cs
+last-text cs = from-any fresh closed (zeros (λ p. refl)) none refl cs

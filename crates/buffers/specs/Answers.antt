@@ -1,9 +1,7 @@
 -- What a list, a step and a report answer and leave over any buffers that hold a model and a state (01, Listing and stepping; 02, note 6): what the questions allow, and nothing else.
 -- Definitions only.
-use mathlib.Core.Path.{_≡_}
 use mathlib.Core.List.{List}
 use Prim.Native.Nat.{ℕ}
-use lib.IntN.{ℤ}
 use Rattle.model.specs.Resolved
 use Rattle.rules.specs.Listing.{Entry}
 use Rattle.machine.specs.State.{State, stateNumbers}
@@ -11,21 +9,22 @@ use Rattle.machine.specs.Report.{reportOf}
 use Rattle.machine.specs.Machine.{Answer, listedAs, reportedAs, entriesAre, refusedWith, Turn}
 use Rattle.machine.specs.Questions.{Lists, Steps}
 use Rattle.buffers.specs.Listing.{shown, listingNumbers}
+use Rattle.buffers.specs.Parts.{Engine, withState}
 use Rattle.buffers.specs.Effect.{Effect}
 
-module _ (m : Resolved.Model) (s : State) (bs : List ℕ) (zs : List ℤ) (l : List ℕ) where
+module _ (m : Resolved.Model) (s : State) (x : Engine) (l : List ℕ) where
   -- 01, Listing: 12 to 14, each for its reason, or the listing; the state stays
   pub data ListsAs : Effect → Type 0 where
-    no14 : {a : Answer} → Lists m s (refusedWith a) → ListsAs (record { answer = a; model = bs; state = zs; listing = shown (a .listing) l })
-    yes14 : {es : List Entry} → Lists m s (entriesAre es) → ListsAs (record { answer = listedAs 0 0 es; model = bs; state = zs; listing = listingNumbers es })
+    no14 : {a : Answer} → Lists m s (refusedWith a) → ListsAs (record { answer = a; left = x; output = shown (a .listing) l })
+    yes14 : {es : List Entry} → Lists m s (entriesAre es) → ListsAs (record { answer = listedAs 0 0 es; left = x; output = listingNumbers es })
 
   -- 01, Listing and stepping: 12 to 14, or 15 to 19 or acceptance over the listing; what the turn leads to is the state
   pub data StepsAs (d : ℕ) : Effect → Type 0 where
-    no14 : {a : Answer} → Lists m s (refusedWith a) → StepsAs d (record { answer = a; model = bs; state = zs; listing = shown (a .listing) l })
+    no14 : {a : Answer} → Lists m s (refusedWith a) → StepsAs d (record { answer = a; left = x; output = shown (a .listing) l })
     drawn : {es : List Entry} {t : Turn State} → Lists m s (entriesAre es) → Steps m s es d t
-        → StepsAs d (record { answer = t .answer; model = bs; state = stateNumbers (t .machine); listing = listingNumbers es })
+        → StepsAs d (record { answer = t .answer; left = withState x (stateNumbers (t .machine)); output = listingNumbers es })
 
   -- 02, note 6: refused and then zeroed like a listing, or the shares of it; the state stays
   pub data ReportsAs : Effect → Type 0 where
-    no14 : {a : Answer} → Lists m s (refusedWith a) → ReportsAs (record { answer = a; model = bs; state = zs; listing = shown (a .listing) l })
-    yes14 : {es : List Entry} → Lists m s (entriesAre es) → ReportsAs (record { answer = reportedAs (reportOf m s es) es; model = bs; state = zs; listing = reportOf m s es })
+    no14 : {a : Answer} → Lists m s (refusedWith a) → ReportsAs (record { answer = a; left = x; output = shown (a .listing) l })
+    yes14 : {es : List Entry} → Lists m s (entriesAre es) → ReportsAs (record { answer = reportedAs (reportOf m s es) es; left = x; output = reportOf m s es })

@@ -1,7 +1,8 @@
--- What calls leave in the buffers that they are lent, and what is said of lists of calls.
+-- The engine's buffers, what calls leave in those that they are lent, and what is said of lists of calls.
 pub mod Held
 pub mod Listing
 pub mod Rows
+pub mod Parts
 pub mod Effect
 pub mod Calls
 pub mod Texts

@@ -2,39 +2,38 @@
 use mathlib.Core.Path.{_≡_}
 use mathlib.Core.List.{List}
 use mathlib.Core.Logic.{_⊎_}
+use mathlib.Core.Option.{some}
 use Prim.Native.Nat.{ℕ, _≤_}
 use lib.ListN.{replicate}
 use Rattle.model.specs.Resolved
-use Rattle.model.specs.Opening.{opened}
-use Rattle.model.specs.Opening as reading
+use Rattle.model.specs.Opening.{opened, opening}
 use Rattle.rules.specs.Listing.{Entry}
-use Rattle.machine.specs.State.{State, stateNumbers}
 use Rattle.machine.specs.Report.{reportOf}
-use Rattle.machine.specs.Machine.{openedState, Machine, holding}
+use Rattle.machine.specs.Machine.{Held, held, Machine, holding, open′, model, outputOf, openedState}
 use Rattle.machine.specs.Questions.{IsListing}
 use Rattle.buffers.specs.Held.{modelBytes}
 use Rattle.buffers.specs.Listing.{listingNumbers}
+use Rattle.buffers.specs.Parts.{Engine, fresh, numbersOf}
 use Rattle.buffers.specs.Effect.{Effect}
-use Rattle.buffers.specs.Calls.{Engine, fresh, own, lentBuffer, BufferCall, opening, lentModel, lentState, leftBy, listingOf, rightLength}
+use Rattle.buffers.specs.Calls.{BufferCall, lentEngine, leftBy}
 
 -- 01, Opening a text, Listing and stepping: of a call c to an engine x that holds the machine y, with the effect e
 pub data Outcome (x : Engine) (y : Machine) (c : BufferCall) (e : Effect) : Type 0 where
   -- 1 and 11 change nothing that is lent
-  nothing : (e .answer .number ≡ 1) ⊎ (e .answer .number ≡ 11)
-      → e .model ≡ lentBuffer (lentModel c) (x .model) → e .state ≡ lentBuffer (lentState c) (x .state) → e .listing ≡ listingOf c → Outcome x y c e
-  -- 2 to 10 zero both buffers
+  nothing : (e .answer .number ≡ 1) ⊎ (e .answer .number ≡ 11) → e .left ≡ lentEngine c x → e .output ≡ c .output → Outcome x y c e
+  -- 2 to 10 zero all buffers
   zeroed : 2 ≤ e .answer .number → e .answer .number ≤ 10 → leftBy x c ≡ fresh → Outcome x y c e
-  -- an accepted opening fills both
-  opens : {text : List ℕ} {m : Resolved.Model} → c ≡ opening text own own → reading.opening text ≡ opened m
-      → e .answer .number ≡ 0 → e .model ≡ modelBytes text → e .state ≡ stateNumbers (openedState m) → Outcome x y c e
+  -- an accepted opening fills them
+  opens : {text : List ℕ} {m : Resolved.Model} → c .ask ≡ open′ text → opening text ≡ opened m
+      → e .answer .number ≡ 0 → leftBy x c ≡ numbersOf (modelBytes text) (held m (openedState m)) → Outcome x y c e
   -- 12 to 14 zero the listing or report, and change nothing else
-  unlisted : 12 ≤ e .answer .number → e .answer .number ≤ 14 → e .listing ≡ replicate (rightLength c) 0 → leftBy x c ≡ x → Outcome x y c e
+  unlisted : {n : ℕ} → outputOf (c .ask) ≡ some n → 12 ≤ e .answer .number → e .answer .number ≤ 14 → e .output ≡ replicate n 0 → leftBy x c ≡ x → Outcome x y c e
   -- 15 to 19 leave the listing filled, and change nothing else
-  listed : {m : Resolved.Model} {s : State} {es : List Entry} → y ≡ holding m s → IsListing m s es
-      → 15 ≤ e .answer .number → e .answer .number ≤ 19 → e .listing ≡ listingNumbers es → leftBy x c ≡ x → Outcome x y c e
+  listed : {h : Held} {es : List Entry} → y ≡ holding h → IsListing (h .model) (h .state) es
+      → 15 ≤ e .answer .number → e .answer .number ≤ 19 → e .output ≡ listingNumbers es → leftBy x c ≡ x → Outcome x y c e
   -- list and step are accepted: the listing is filled, as Transitions.antt says
-  accepted : {m : Resolved.Model} {s : State} {es : List Entry} → y ≡ holding m s → IsListing m s es
-      → e .answer .number ≡ 0 → e .listing ≡ listingNumbers es → e .model ≡ x .model → Outcome x y c e
+  accepted : {h : Held} {es : List Entry} → y ≡ holding h → IsListing (h .model) (h .state) es
+      → e .answer .number ≡ 0 → e .output ≡ listingNumbers es → leftBy x c model ≡ x model → Outcome x y c e
   -- 02, note 6: a report is accepted: the shares of the listing, as Transitions.antt says, and nothing moves
-  reported : {m : Resolved.Model} {s : State} {es : List Entry} → y ≡ holding m s → IsListing m s es
-      → e .answer .number ≡ 0 → e .listing ≡ reportOf m s es → leftBy x c ≡ x → Outcome x y c e
+  reported : {h : Held} {es : List Entry} → y ≡ holding h → IsListing (h .model) (h .state) es
+      → e .answer .number ≡ 0 → e .output ≡ reportOf (h .model) (h .state) es → leftBy x c ≡ x → Outcome x y c e

@@ -18,21 +18,21 @@ use Rattle.rules.specs.Subtotals.{actor, subtotal}
 use Rattle.machine.specs.Offer.{Process, branches}
 use Rattle.machine.specs.State.{State, stateNumbers}
 use Rattle.machine.specs.Report.{reportLength, definitionAt, reportOf}
-use Rattle.machine.specs.Machine.{entryLimit, listingLength, totalLimit, listedAs, reportedAs, Turn, Machine, holding}
+use Rattle.machine.specs.Machine.{entryLimit, listingLength, totalLimit, listedAs, reportedAs, Turn, Held, Machine, holding, list′, step′, report′, on′, model, state}
 use Rattle.machine.specs.Questions.{Evaluated, IsListing, Chosen, AllGiven, Steps}
 use Rattle.buffers.specs.Held.{modelBytes}
 use Rattle.buffers.specs.Listing.{listingNumbers}
+use Rattle.buffers.specs.Parts.{Engine, withState}
 use Rattle.buffers.specs.Effect.{Effect}
-use Rattle.buffers.specs.Calls.{Engine, own, listing, stepping, reporting, effect, leftBy}
+use Rattle.buffers.specs.Calls.{asks, effectOf, leftBy}
 
 -- 01, Step: what is left of an engine by any step that is lent right lengths, where es is listed: 15 to 19 or acceptance, as the questions say
 pub record Leaves (x : Engine) (m : Resolved.Model) (s : State) (es : List Entry) (d : ℕ) (e : Effect) : Type 0 where
   pub turn : Turn State
   pub asked : Steps m s es d turn
   pub answer : e .answer ≡ turn .answer
-  pub listed : e .listing ≡ listingNumbers es
-  pub model : e .model ≡ x .model
-  pub state : e .state ≡ stateNumbers (turn .machine)
+  pub listed : e .output ≡ listingNumbers es
+  pub left : e .left ≡ withState x (stateNumbers (turn .machine))
 
 -- 01, Step: what an accepted step takes and leaves
 pub record Takes (m : Resolved.Model) (s : State) (es : List Entry) (d : ℕ) (e : Effect) : Type 0 where
@@ -50,8 +50,8 @@ pub record Takes (m : Resolved.Model) (s : State) (es : List Entry) (d : ℕ) (e
   pub moves : Moves (branches m) s key weight change processes
   -- the answer names the entry; the listing is the one before the step; the state is the one moved to
   pub answer : e .answer ≡ listedAs 0 number es
-  pub listed : e .listing ≡ listingNumbers es
-  pub state : e .state ≡ stateNumbers (record { processes = processes; pairs = pairsAfter change (s .pairs) })
+  pub listed : e .output ≡ listingNumbers es
+  pub state : e .left state ≡ stateNumbers (record { processes = processes; pairs = pairsAfter change (s .pairs) })
 
 -- 02, note 6: a process carries the number of the definition whose text holds its sum, as the text reads
 pub record Carried (text : List ℕ) (p : Process) : Type 0 where
@@ -64,45 +64,44 @@ pub record Carried (text : List ℕ) (p : Process) : Type 0 where
 -- 02, note 6: what a report leaves that is lent right lengths, where es is listed
 pub record Shares (x : Engine) (m : Resolved.Model) (s : State) (es : List Entry) (l : List ℕ) : Type 0 where
   -- accepted as the listing is, with its count and total; nothing moves
-  pub answer : effect x (reporting own own l) .answer ≡ reportedAs (reportOf m s es) es
-  pub stays : leftBy x (reporting own own l) ≡ x
+  pub answer : effectOf x (asks (on′ report′) l) .answer ≡ reportedAs (reportOf m s es) es
+  pub stays : leftBy x (asks (on′ report′) l) ≡ x
   -- one weight sum for each definition, then zeros, in 64 numbers
-  pub numbers : effect x (reporting own own l) .listing ≡ reportOf m s es
-  pub long : length (effect x (reporting own own l) .listing) ≡ reportLength
-  pub each : (d : ℕ) → d < length (m .definitions) → getD (effect x (reporting own own l) .listing) d 0 ≡ subtotal (definitionAt s) es d
-  pub beyond : (d : ℕ) → length (m .definitions) ≤ d → getD (effect x (reporting own own l) .listing) d 0 ≡ 0
+  pub numbers : effectOf x (asks (on′ report′) l) .output ≡ reportOf m s es
+  pub long : length (effectOf x (asks (on′ report′) l) .output) ≡ reportLength
+  pub each : (d : ℕ) → d < length (m .definitions) → getD (effectOf x (asks (on′ report′) l) .output) d 0 ≡ subtotal (definitionAt s) es d
+  pub beyond : (d : ℕ) → length (m .definitions) ≤ d → getD (effectOf x (asks (on′ report′) l) .output) d 0 ≡ 0
   -- an entry counts for the definition of the process that acts, a handshake for its sender's
   pub counts : (k : Key) (w : ℕ) → In (entry k w) es → (p : Process) × Nth (s .processes) (actor k) p × (definitionAt s (entry k w) ≡ p .definition)
   -- added in definition order they equal the listing's total
-  pub sum : total (effect x (reporting own own l) .listing) ≡ total (weights es)
+  pub sum : total (effectOf x (asks (on′ report′) l) .output) ≡ total (weights es)
 
 -- 01, Transitions: what an accepted list call of an engine shows, where y is the rule machine that was fed the same calls, and l the listing buffer lent
 pub record Shows (x : Engine) (y : Machine) (l : List ℕ) : Type 0 where
-  -- the model and the state that the buffers hold
+  -- what the machine holds: the model and the state that the buffers hold
   pub text : List ℕ
-  pub model : Resolved.Model
-  pub state : State
-  pub machine : y ≡ holding model state
-  pub model-buffer : x .model ≡ modelBytes text
-  pub text-holds : held text ≡ some model
-  pub state-buffer : x .state ≡ stateNumbers state
-  pub carried : {i : ℕ} {p : Process} → Nth (state .processes) i p → Carried text p
+  pub holds : Held
+  pub machine : y ≡ holding holds
+  pub model-buffer : x model ≡ modelBytes text
+  pub text-holds : held text ≡ some (holds .model)
+  pub state-buffer : x state ≡ stateNumbers (holds .state)
+  pub carried : {i : ℕ} {p : Process} → Nth (holds .state .processes) i p → Carried text p
   -- the entries are the derivable transitions, each once and in order, and nothing that was evaluated lacked a value
   pub entries : List Entry
-  pub derivable : IsListing model state entries
-  pub evaluated : Evaluated model (state .processes)
+  pub derivable : IsListing (holds .model) (holds .state) entries
+  pub evaluated : Evaluated (holds .model) (holds .state .processes)
   pub few : length entries ≤ entryLimit
   pub bounded : total (weights entries) ≤ totalLimit
   -- the listing buffer has them and nothing else; the engine stays as it was
-  pub listed : effect x (listing own own l) .listing ≡ listingNumbers entries
-  pub stays : leftBy x (listing own own l) ≡ x
+  pub listed : effectOf x (asks (on′ list′) l) .output ≡ listingNumbers entries
+  pub stays : leftBy x (asks (on′ list′) l) ≡ x
   -- the answer has their number and the sum of their weights
-  pub number : effect x (listing own own l) .answer .count ≡ length entries
-  pub sum : effect x (listing own own l) .answer .total ≡ total (weights entries)
+  pub number : effectOf x (asks (on′ list′) l) .answer .count ≡ length entries
+  pub sum : effectOf x (asks (on′ list′) l) .answer .total ≡ total (weights entries)
   -- of the draws below that sum, as many choose an entry as its weight says
   pub draws : {i : ℕ} {k : Key} {w : ℕ} → Nth entries i (entry k w) → count (λ d. isChosen i (chosen (weights entries) d)) (total (weights entries)) ≡ w
   -- a step of the same engine draws from this same listing
-  pub steps : (l : List ℕ) (d : ℕ) → length l ≡ listingLength → Leaves x model state entries d (effect x (stepping own own l d))
-  pub takes : (l : List ℕ) (d : ℕ) → length l ≡ listingLength → effect x (stepping own own l d) .answer .number ≡ 0 → Takes model state entries d (effect x (stepping own own l d))
+  pub steps : (l : List ℕ) (d : ℕ) → length l ≡ listingLength → Leaves x (holds .model) (holds .state) entries d (effectOf x (asks (on′ (step′ d)) l))
+  pub takes : (l : List ℕ) (d : ℕ) → length l ≡ listingLength → effectOf x (asks (on′ (step′ d)) l) .answer .number ≡ 0 → Takes (holds .model) (holds .state) entries d (effectOf x (asks (on′ (step′ d)) l))
   -- 02, note 6: a report on the same engine shares this same listing
-  pub shares : (l : List ℕ) → length l ≡ reportLength → Shares x model state entries l
+  pub shares : (l : List ℕ) → length l ≡ reportLength → Shares x (holds .model) (holds .state) entries l

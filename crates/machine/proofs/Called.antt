@@ -1,42 +1,39 @@
 -- A list call that is accepted, after whatever calls, shows the derivable transitions of the state that the machine holds. By cases of machine and answer.
 use mathlib.Core.Path.{_≡_, refl}
 use mathlib.Core.List.{List}
-use mathlib.Core.Bool.{Bool, true, false, cond, _&&_}
+use mathlib.Core.Bool.{Bool, true, false, cond}
 use Prim.Native.Nat.{ℕ}
 use native.Mathlib.Omega.{arith}
-use lib.Dec.{eqb}
-use Rattle.model.specs.Resolved
 use Rattle.rules.specs.Listing.{Entry}
-use Rattle.machine.specs.State.{State}
-use Rattle.machine.specs.Machine.{listingLength, asLent, Answer, no, listedAs, Listed, listing, Machine, closed, holding, list′, lent, turn, showing, lists, calls}
+use Rattle.machine.specs.Machine as machine
+use Rattle.machine.specs.Machine.{asLent, Answer, no, listedAs, Listed, listing, turn, showing, lists, Held, Machine, closed, holding, onState, list′, on′, acts, Part, hasLengths, call, onMachine, calls}
 use Rattle.machine.specs.Questions.{Evaluated, IsListing, Lists, no12, no13, no14, yes14}
 use Rattle.machine.proofs.Listing.{asked}
 
 -- what is shown is the listing of what the machine holds
-pub record Shows (x : Machine) (a : Answer) : Type 0 where
-  pub model : Resolved.Model
-  pub state : State
-  pub holds : x ≡ holding model state
+pub record Shows (y : Machine) (a : Answer) : Type 0 where
+  pub held : Held
+  pub holds : y ≡ holding held
   pub entries : List Entry
   pub shown : a ≡ listedAs 0 0 entries
-  pub evaluated : Evaluated model (state .processes)
-  pub derivable : IsListing model state entries
+  pub evaluated : Evaluated (held .model) (held .state .processes)
+  pub derivable : IsListing (held .model) (held .state) entries
 
-lists-shows : (x : Machine) → lists x .answer .number ≡ 0 → Shows x (lists x .answer)
-unfolding lists showing turn no listedAs
-lists-shows closed e = absurd (omega arith)
-lists-shows (holding m s) e = go (asked m s (listing m s) .0 refl) e
+lists-shows : (h : Held) → lists (h .model) (h .state) .answer .number ≡ 0 → Shows (holding h) (lists (h .model) (h .state) .answer)
+unfolding lists showing no listedAs
+lists-shows h e = go (asked (h .model) (h .state) (listing (h .model) (h .state)) .0 refl) e
   where
-    go : {l : Listed} → Lists m s l → showing m s l .answer .number ≡ 0 → Shows (holding m s) (showing m s l .answer)
+    go : {l : Listed} → Lists (h .model) (h .state) l → showing (h .state) l .answer .number ≡ 0 → Shows (holding h) (showing (h .state) l .answer)
     go (no12 f) e = absurd (omega arith)
-    go (no13 g h l) e = absurd (omega arith)
-    go (no14 g h l f) e = absurd (omega arith)
-    go (yes14 {es = es} g h l f) e = record { model = m; state = s; holds = refl; entries = es; shown = refl; evaluated = g; derivable = h }
+    go (no13 g i l) e = absurd (omega arith)
+    go (no14 g i l f) e = absurd (omega arith)
+    go (yes14 {es = es} g i l f) e = record { held = h; holds = refl; entries = es; shown = refl; evaluated = g; derivable = i }
 
-pub list-shows : (x : Machine) (ml sl ll : ℕ) → calls x (list′ ml sl ll) .answer .number ≡ 0 → Shows x (calls x (list′ ml sl ll) .answer)
-unfolding calls turn no
-list-shows x ml sl ll e = go (lent ml sl && eqb ll listingLength) e
+pub list-shows : (y : Machine) (l : Part → ℕ) (o : ℕ) → calls y (call (on′ list′) l o) .answer .number ≡ 0 → Shows y (calls y (call (on′ list′) l o) .answer)
+unfolding calls machine.asked onMachine acts onState no
+list-shows y l o e = go (hasLengths (on′ list′) l o) y e
   where
-    go : (b : Bool) → cond b (lists x) (turn x (no 1 0 0 asLent)) .answer .number ≡ 0 → Shows x (cond b (lists x) (turn x (no 1 0 0 asLent)) .answer)
-    go true e = lists-shows x e
-    go false e = absurd (omega arith)
+    go : (b : Bool) (y : Machine) → cond b (onMachine list′ y) (turn y (no 1 0 0 asLent)) .answer .number ≡ 0 → Shows y (cond b (onMachine list′ y) (turn y (no 1 0 0 asLent)) .answer)
+    go true closed e = absurd (omega arith)
+    go true (holding h) e = lists-shows h e
+    go false y e = absurd (omega arith)

@@ -1,195 +1,208 @@
--- Every answer carries what 01 says, no refusal of a list call or step alters the machine, and a refused opening closes it. By cases of call, machine and answer.
-use mathlib.Core.Path.{_≡_, refl, sym, _∙_}
+-- Every answer carries what 01 says, no refusal of a list call or step alters the machine, and a refused opening closes it. By cases of what is asked, machine and answer: one
+-- lemma for each request.
+use mathlib.Core.Path.{_≡_, refl, sym, ap, _∙_}
 use mathlib.Core.List.{List}
-use mathlib.Core.Bool.{Bool, true, false, cond, _&&_}
+use mathlib.Core.Bool.{Bool, true, false, cond}
 use mathlib.Core.Logic.{_↔_}
 use Prim.Native.Nat.{ℕ}
 use native.Mathlib.Omega.{arith}
-use lib.Dec.{eqb}
 use Rattle.model.specs.Resolved
 use Rattle.model.specs.Opening.{Opening, opening}
 use Rattle.model.specs.Questions.{Answers, no2, no3, no4, no5, no6, no7, no8, no9, no10, yesToAll}
 use Rattle.model.proofs.Answered.{answered}
 use Rattle.rules.specs.Listing.{Entry}
-use Rattle.rules.proofs.Decides.{Decides, holds, fails, passes, both, equal}
-use Rattle.machine.specs.State.{State, stateLength}
-use Rattle.machine.specs.Machine.{modelLength, listingLength, asLent, Answer, no, listedAs, Listed, entriesAre, refusedWith, listing, Turn, drawn, Machine, closed, holding}
-use Rattle.machine.specs.Machine.{reportedAs, Call, open′, list′, step′, report′, lent, turn, opens, showing, lists, sharing, reports, stepped, choosing, stepsOn, calls}
-use Rattle.machine.specs.Report.{reportLength}
-use Rattle.machine.specs.Questions.{Lists, no12, no13, no14, yes14, Steps, no15, no16, no17, no18, no19, yes19}
+use Rattle.rules.proofs.Decides.{Decides, holds, fails, passes}
+use Rattle.machine.specs.State.{State}
+use Rattle.machine.specs.Machine.{asLent, Answer, no, listedAs, reportedAs, Listed, entriesAre, refusedWith, listing, Turn, turn, drawn, showing, lists, sharing, reports, choosing, stepsWith}
+use Rattle.machine.specs.Machine.{Held, moved, Machine, closed, holding, onState, Request, list′, step′, report′, Ask, open′, on′, acts, Part, hasLengths, Call, call, opens, onMachine, asked, calls}
+use Rattle.machine.specs.Questions.{no12, no13, no14, yes14, Steps, no15, no16, no17, no18, no19, yes19}
+use Rattle.machine.specs.Questions as questions
 use Rattle.machine.specs.Results as results
-use Rattle.machine.specs.Results.{Runs, Lent, Carries, under1, under2-10, under11, under12, under13, under14, under15-19}
-use Rattle.machine.proofs.Listing.{asked, accepted}
+use Rattle.machine.specs.Results.{Runs, Lists, Lent, Carries, under1, under2-10, under11, under12, under13, under14, under15-19}
+use Rattle.machine.proofs.Lent.{lent-so}
+use Rattle.machine.proofs.Listing as listing
 use Rattle.machine.proofs.Stepping as stepping
 
--- what a turn from the machine x by the call c carries, when it leaves x, and what 1 and 11 say of it
-record Kept (x : Machine) (c : Call) (t : Turn Machine) : Type 0 where
-  carries : Carries c (t .answer)
-  stays : Runs c → (t .answer .number ≡ 0 → ⊥) → t .machine ≡ x
-  one : t .answer .number ≡ 1 → Lent c → ⊥
-  eleven : t .answer .number ≡ 11 → x ≡ closed
+-- what a turn from x by a request carries, when it leaves x, and that it is not answered as 1 or 11 are
+record Kept {M : Type 0} (x : M) (r : Request) (t : Turn M) : Type 0 where
+  carries : Carries (on′ r) (t .answer)
+  stays : (t .answer .number ≡ 0 → ⊥) → t .machine ≡ x
+  one : t .answer .number ≡ 1 → ⊥
+  eleven : t .answer .number ≡ 11 → ⊥
 
--- ---- question 1
-lent-so : (ml sl : ℕ) → Decides ((ml ≡ modelLength) × (sl ≡ stateLength)) (lent ml sl)
-unfolding lent
-lent-so ml sl = both (equal ml modelLength) (equal sl stateLength)
+-- ---- turns of a state
 
--- with a third buffer, which has this length
-all-lent : (right ml sl ll : ℕ) → Decides (((ml ≡ modelLength) × (sl ≡ stateLength)) × (ll ≡ right)) (lent ml sl && eqb ll right)
-all-lent right ml sl ll = both (lent-so ml sl) (equal ll right)
-
--- 1, or what comes after it
-either : {x : Machine} {c : Call} {b : Bool} {t : Turn Machine} → Decides (Lent c) b → Kept x c t → Kept x c (cond b t (turn x (no 1 0 0 asLent)))
-unfolding turn no
-either (holds l) k = k
-either (fails n) k = record { carries = under1; stays = λ r q. refl; one = λ e. n; eleven = λ e. absurd (omega arith) }
-
--- ---- opening
-opening-kept : (x : Machine) (text : List ℕ) (ml sl : ℕ) {o : Opening} → Answers text o → Kept x (open′ text ml sl) (opens o)
-unfolding opens turn no Runs
-opening-kept x text ml sl (no2 l) = record { carries = under2-10 2 _ (omega arith) (omega arith); stays = λ r n. absurd r; one = λ e. absurd (omega arith); eleven = λ e. absurd (omega arith) }
-opening-kept x text ml sl (no3 y f) = record { carries = under2-10 3 _ (omega arith) (omega arith); stays = λ r n. absurd r; one = λ e. absurd (omega arith); eleven = λ e. absurd (omega arith) }
-opening-kept x text ml sl (no4 y z f) = record { carries = under2-10 4 _ (omega arith) (omega arith); stays = λ r n. absurd r; one = λ e. absurd (omega arith); eleven = λ e. absurd (omega arith) }
-opening-kept x text ml sl (no5 y z u f) = record { carries = under2-10 5 _ (omega arith) (omega arith); stays = λ r n. absurd r; one = λ e. absurd (omega arith); eleven = λ e. absurd (omega arith) }
-opening-kept x text ml sl (no6 y z u v l) = record { carries = under2-10 6 _ (omega arith) (omega arith); stays = λ r n. absurd r; one = λ e. absurd (omega arith); eleven = λ e. absurd (omega arith) }
-opening-kept x text ml sl (no7 y z u v w f) = record { carries = under2-10 7 _ (omega arith) (omega arith); stays = λ r n. absurd r; one = λ e. absurd (omega arith); eleven = λ e. absurd (omega arith) }
-opening-kept x text ml sl (no8 y z u v w a f) = record { carries = under2-10 8 _ (omega arith) (omega arith); stays = λ r n. absurd r; one = λ e. absurd (omega arith); eleven = λ e. absurd (omega arith) }
-opening-kept x text ml sl (no9 y z u v w a b f) = record { carries = under2-10 9 _ (omega arith) (omega arith); stays = λ r n. absurd r; one = λ e. absurd (omega arith); eleven = λ e. absurd (omega arith) }
-opening-kept x text ml sl (no10 y z u v w a b c l) = record { carries = under2-10 10 _ (omega arith) (omega arith); stays = λ r n. absurd r; one = λ e. absurd (omega arith); eleven = λ e. absurd (omega arith) }
-opening-kept x text ml sl (yesToAll y z u v w a b c d) = record { carries = results.opens; stays = λ r n. absurd r; one = λ e. absurd (omega arith); eleven = λ e. absurd (omega arith) }
-
--- ---- list
-list-kept : (x : Machine) (ml sl ll : ℕ) → Kept x (list′ ml sl ll) (lists x)
-unfolding lists showing turn no listedAs Runs
-list-kept closed ml sl ll = record { carries = under11 tt; stays = λ r n. refl; one = λ e. absurd (omega arith); eleven = λ e. refl }
-list-kept (holding m s) ml sl ll = go (asked m s (listing m s) .0 refl)
+list-kept : (m : Resolved.Model) (s : State) → Kept s list′ (lists m s)
+unfolding lists showing no listedAs Lists
+list-kept m s = go (listing.asked m s (listing m s) .0 refl)
   where
-    go : {l : Listed} → Lists m s l → Kept (holding m s) (list′ ml sl ll) (showing m s l)
-    go (no12 f) = record { carries = under12 _ _ tt; stays = λ r n. refl; one = λ e. absurd (omega arith); eleven = λ e. absurd (omega arith) }
-    go (no13 e h l) = record { carries = under13 tt; stays = λ r n. refl; one = λ e. absurd (omega arith); eleven = λ e. absurd (omega arith) }
-    go (no14 e h l f) = record { carries = under14 tt; stays = λ r n. refl; one = λ e. absurd (omega arith); eleven = λ e. absurd (omega arith) }
-    go (yes14 e h l f) = record { carries = results.lists _; stays = λ r n. refl; one = λ e. absurd (omega arith); eleven = λ e. absurd (omega arith) }
+    go : {l : Listed} → questions.Lists m s l → Kept s list′ (showing s l)
+    go (no12 f) = record { carries = under12 _ _ tt; stays = λ n. refl; one = λ e. omega arith; eleven = λ e. omega arith }
+    go (no13 e h l) = record { carries = under13 tt; stays = λ n. refl; one = λ e. omega arith; eleven = λ e. omega arith }
+    go (no14 e h l f) = record { carries = under14 tt; stays = λ n. refl; one = λ e. omega arith; eleven = λ e. omega arith }
+    go (yes14 e h l f) = record { carries = results.lists _; stays = λ n. refl; one = λ e. omega arith; eleven = λ e. omega arith }
 
--- ---- report
-report-kept : (x : Machine) (ml sl rl : ℕ) → Kept x (report′ ml sl rl) (reports x)
-unfolding reports sharing turn no reportedAs Runs
-report-kept closed ml sl rl = record { carries = under11 tt; stays = λ r n. refl; one = λ e. absurd (omega arith); eleven = λ e. refl }
-report-kept (holding m s) ml sl rl = go (asked m s (listing m s) .0 refl)
+report-kept : (m : Resolved.Model) (s : State) → Kept s report′ (reports m s)
+unfolding reports sharing no reportedAs Lists
+report-kept m s = go (listing.asked m s (listing m s) .0 refl)
   where
-    go : {l : Listed} → Lists m s l → Kept (holding m s) (report′ ml sl rl) (sharing m s l)
-    go (no12 f) = record { carries = under12 _ _ tt; stays = λ r n. refl; one = λ e. absurd (omega arith); eleven = λ e. absurd (omega arith) }
-    go (no13 e h l) = record { carries = under13 tt; stays = λ r n. refl; one = λ e. absurd (omega arith); eleven = λ e. absurd (omega arith) }
-    go (no14 e h l f) = record { carries = under14 tt; stays = λ r n. refl; one = λ e. absurd (omega arith); eleven = λ e. absurd (omega arith) }
-    go (yes14 e h l f) = record { carries = results.reports _ _; stays = λ r n. refl; one = λ e. absurd (omega arith); eleven = λ e. absurd (omega arith) }
+    go : {l : Listed} → questions.Lists m s l → Kept s report′ (sharing m s l)
+    go (no12 f) = record { carries = under12 _ _ tt; stays = λ n. refl; one = λ e. omega arith; eleven = λ e. omega arith }
+    go (no13 e h l) = record { carries = under13 tt; stays = λ n. refl; one = λ e. omega arith; eleven = λ e. omega arith }
+    go (no14 e h l f) = record { carries = under14 tt; stays = λ n. refl; one = λ e. omega arith; eleven = λ e. omega arith }
+    go (yes14 e h l f) = record { carries = results.reports _ _; stays = λ n. refl; one = λ e. omega arith; eleven = λ e. omega arith }
 
--- ---- step
-step-kept : (x : Machine) (ml sl ll d : ℕ) → Kept x (step′ ml sl ll d) (stepsOn x d)
-unfolding stepsOn choosing stepped turn no listedAs Runs
-step-kept closed ml sl ll d = record { carries = under11 tt; stays = λ r n. refl; one = λ e. absurd (omega arith); eleven = λ e. refl }
-step-kept (holding m s) ml sl ll d = go (asked m s (listing m s) .0 refl)
+step-kept : (d : ℕ) (m : Resolved.Model) (s : State) → Kept s (step′ d) (stepsWith d m s)
+unfolding stepsWith choosing no listedAs Lists
+step-kept d m s = go (listing.asked m s (listing m s) .0 refl)
   where
-    taken : {es : List Entry} {t : Turn State} → Steps m s es d t → Kept (holding m s) (step′ ml sl ll d) (stepped m t)
-    taken (no15 e) = record { carries = under15-19 15 _ (omega arith) (omega arith); stays = λ r n. refl; one = λ e. absurd (omega arith); eleven = λ e. absurd (omega arith) }
-    taken (no16 l g) = record { carries = under15-19 16 _ (omega arith) (omega arith); stays = λ r n. refl; one = λ e. absurd (omega arith); eleven = λ e. absurd (omega arith) }
-    taken (no17 o g) = record { carries = under15-19 17 _ (omega arith) (omega arith); stays = λ r n. refl; one = λ e. absurd (omega arith); eleven = λ e. absurd (omega arith) }
-    taken (no18 r l) = record { carries = under15-19 18 _ (omega arith) (omega arith); stays = λ r n. refl; one = λ e. absurd (omega arith); eleven = λ e. absurd (omega arith) }
-    taken (no19 r l f) = record { carries = under15-19 19 _ (omega arith) (omega arith); stays = λ r n. refl; one = λ e. absurd (omega arith); eleven = λ e. absurd (omega arith) }
-    taken (yes19 r l f) = record { carries = results.steps _ _; stays = λ r n. absurd (n refl); one = λ e. absurd (omega arith); eleven = λ e. absurd (omega arith) }
+    taken : {es : List Entry} {t : Turn State} → Steps m s es d t → Kept s (step′ d) t
+    taken (no15 e) = record { carries = under15-19 15 _ (omega arith) (omega arith); stays = λ n. refl; one = λ e. omega arith; eleven = λ e. omega arith }
+    taken (no16 l g) = record { carries = under15-19 16 _ (omega arith) (omega arith); stays = λ n. refl; one = λ e. omega arith; eleven = λ e. omega arith }
+    taken (no17 o g) = record { carries = under15-19 17 _ (omega arith) (omega arith); stays = λ n. refl; one = λ e. omega arith; eleven = λ e. omega arith }
+    taken (no18 r l) = record { carries = under15-19 18 _ (omega arith) (omega arith); stays = λ n. refl; one = λ e. omega arith; eleven = λ e. omega arith }
+    taken (no19 r l f) = record { carries = under15-19 19 _ (omega arith) (omega arith); stays = λ n. refl; one = λ e. omega arith; eleven = λ e. omega arith }
+    taken (yes19 r l f) = record { carries = results.steps _ _; stays = λ n. absurd (n refl); one = λ e. omega arith; eleven = λ e. omega arith }
 
-    go : {l : Listed} → Lists m s l → Kept (holding m s) (step′ ml sl ll d) (choosing m s d l)
-    go (no12 f) = record { carries = under12 _ _ tt; stays = λ r n. refl; one = λ e. absurd (omega arith); eleven = λ e. absurd (omega arith) }
-    go (no13 e h l) = record { carries = under13 tt; stays = λ r n. refl; one = λ e. absurd (omega arith); eleven = λ e. absurd (omega arith) }
-    go (no14 e h l f) = record { carries = under14 tt; stays = λ r n. refl; one = λ e. absurd (omega arith); eleven = λ e. absurd (omega arith) }
+    go : {l : Listed} → questions.Lists m s l → Kept s (step′ d) (choosing m s d l)
+    go (no12 f) = record { carries = under12 _ _ tt; stays = λ n. refl; one = λ e. omega arith; eleven = λ e. omega arith }
+    go (no13 e h l) = record { carries = under13 tt; stays = λ n. refl; one = λ e. omega arith; eleven = λ e. omega arith }
+    go (no14 e h l f) = record { carries = under14 tt; stays = λ n. refl; one = λ e. omega arith; eleven = λ e. omega arith }
     go (yes14 {es = es} e h l f) = taken (stepping.asked m s es h d (drawn m s es d) .0 refl)
 
+-- ---- requests
+
+-- one that turns the state
+state-kept : (r : Request) (f : Resolved.Model → State → Turn State) (h : Held) → Kept (h .state) r (f (h .model) (h .state)) → Kept h r (onState f h)
+unfolding onState
+state-kept r f h k = record { carries = k .carries; stays = λ n. ap (moved h) (k .stays n); one = k .one; eleven = k .eleven }
+
+kept : (r : Request) (h : Held) → Kept h r (acts r h)
+unfolding acts
+kept list′ h = state-kept list′ lists h (list-kept (h .model) (h .state))
+kept (step′ d) h = state-kept (step′ d) (stepsWith d) h (step-kept d (h .model) (h .state))
+kept report′ h = state-kept report′ reports h (report-kept (h .model) (h .state))
+
+-- ---- openings
+
+-- what the answer to a text carries, which numbers it has not, and that a refusal closes the machine
+record Opens (text : List ℕ) (t : Turn Machine) : Type 0 where
+  carries : Carries (open′ text) (t .answer)
+  closes : (t .answer .number ≡ 0 → ⊥) → t .machine ≡ closed
+  one : t .answer .number ≡ 1 → ⊥
+  eleven : t .answer .number ≡ 11 → ⊥
+
+opening-kept : (text : List ℕ) {o : Opening} → Answers text o → Opens text (opens o)
+unfolding opens no
+opening-kept text (no2 l) = record { carries = under2-10 2 _ (omega arith) (omega arith); closes = λ n. refl; one = λ e. omega arith; eleven = λ e. omega arith }
+opening-kept text (no3 y f) = record { carries = under2-10 3 _ (omega arith) (omega arith); closes = λ n. refl; one = λ e. omega arith; eleven = λ e. omega arith }
+opening-kept text (no4 y z f) = record { carries = under2-10 4 _ (omega arith) (omega arith); closes = λ n. refl; one = λ e. omega arith; eleven = λ e. omega arith }
+opening-kept text (no5 y z u f) = record { carries = under2-10 5 _ (omega arith) (omega arith); closes = λ n. refl; one = λ e. omega arith; eleven = λ e. omega arith }
+opening-kept text (no6 y z u v l) = record { carries = under2-10 6 _ (omega arith) (omega arith); closes = λ n. refl; one = λ e. omega arith; eleven = λ e. omega arith }
+opening-kept text (no7 y z u v w f) = record { carries = under2-10 7 _ (omega arith) (omega arith); closes = λ n. refl; one = λ e. omega arith; eleven = λ e. omega arith }
+opening-kept text (no8 y z u v w a f) = record { carries = under2-10 8 _ (omega arith) (omega arith); closes = λ n. refl; one = λ e. omega arith; eleven = λ e. omega arith }
+opening-kept text (no9 y z u v w a b f) = record { carries = under2-10 9 _ (omega arith) (omega arith); closes = λ n. refl; one = λ e. omega arith; eleven = λ e. omega arith }
+opening-kept text (no10 y z u v w a b c l) = record { carries = under2-10 10 _ (omega arith) (omega arith); closes = λ n. refl; one = λ e. omega arith; eleven = λ e. omega arith }
+opening-kept text (yesToAll y z u v w a b c d) = record { carries = results.opens; closes = λ n. absurd (n refl); one = λ e. omega arith; eleven = λ e. omega arith }
+
 -- ---- every call
-kept : (x : Machine) (c : Call) → Kept x c (calls x c)
-unfolding calls Lent
-kept x (open′ text ml sl) = either (lent-so ml sl) (opening-kept x text ml sl (answered text))
-kept x (list′ ml sl ll) = either (all-lent listingLength ml sl ll) (list-kept x ml sl ll)
-kept x (step′ ml sl ll d) = either (all-lent listingLength ml sl ll) (step-kept x ml sl ll d)
-kept x (report′ ml sl rl) = either (all-lent reportLength ml sl rl) (report-kept x ml sl rl)
+
+asked-carries : (y : Machine) (k : Ask) → Carries k (asked y k .answer)
+unfolding asked onMachine
+asked-carries y (open′ text) = opening-kept text (answered text) .carries
+asked-carries closed (on′ r) = under11
+asked-carries (holding h) (on′ r) = kept r h .carries
 
 -- 01, Opening a text, Listing and stepping: what an answer carries
-pub carries : (x : Machine) (c : Call) → Carries c (calls x c .answer)
-carries x c = kept x c .carries
+pub carries : (y : Machine) (c : Call) → Carries (c .ask) (calls y c .answer)
+unfolding calls
+carries y c = by (hasLengths (c .ask) (c .lengths) (c .output))
+  where
+    by : (b : Bool) → Carries (c .ask) (cond b (asked y (c .ask)) (turn y (no 1 0 0 asLent)) .answer)
+    by true = asked-carries y (c .ask)
+    by false = under1
+
+asked-stays : (y : Machine) (k : Ask) → Runs k → (asked y k .answer .number ≡ 0 → ⊥) → asked y k .machine ≡ y
+unfolding asked onMachine Runs
+asked-stays y (open′ text) r n = absurd r
+asked-stays closed (on′ r) u n = refl
+asked-stays (holding h) (on′ r) u n = ap holding (kept r h .stays n)
 
 -- 01, Listing and stepping: no refusal alters the state
-pub refusal-stays : (x : Machine) (c : Call) → Runs c → (calls x c .answer .number ≡ 0 → ⊥) → calls x c .machine ≡ x
-refusal-stays x c r n = kept x c .stays r n
+pub refusal-stays : (y : Machine) (c : Call) → Runs (c .ask) → (calls y c .answer .number ≡ 0 → ⊥) → calls y c .machine ≡ y
+unfolding calls
+refusal-stays y c r = by (hasLengths (c .ask) (c .lengths) (c .output))
+  where
+    by : (b : Bool) → (cond b (asked y (c .ask)) (turn y (no 1 0 0 asLent)) .answer .number ≡ 0 → ⊥) → cond b (asked y (c .ask)) (turn y (no 1 0 0 asLent)) .machine ≡ y
+    by true n = asked-stays y (c .ask) r n
+    by false n = refl
+
+asked-not-1 : (y : Machine) (k : Ask) → asked y k .answer .number ≡ 1 → ⊥
+unfolding asked onMachine no
+asked-not-1 y (open′ text) e = opening-kept text (answered text) .one e
+asked-not-1 closed (on′ r) e = omega arith
+asked-not-1 (holding h) (on′ r) e = kept r h .one e
 
 -- 01, 1: exactly where a buffer that is lent lacks its length; nothing is changed
-pub unlent : (x : Machine) (c : Call) → (calls x c .answer .number ≡ 1) ↔ (Lent c → ⊥)
-unfolding calls turn no Lent
-unlent x c = (kept x c .one, back c)
+pub unlent : (y : Machine) (c : Call) → (calls y c .answer .number ≡ 1) ↔ (Lent c → ⊥)
+unfolding calls no
+unlent y c = by (lent-so c)
   where
-    cut : {P : Type 0} {b : Bool} (t : Turn Machine) → Decides P b → (P → ⊥) → cond b t (turn x (no 1 0 0 asLent)) .answer .number ≡ 1
-    cut t (holds l) n = absurd (n l)
-    cut t (fails l) n = refl
+    by : {b : Bool} → Decides (Lent c) b → (cond b (asked y (c .ask)) (turn y (no 1 0 0 asLent)) .answer .number ≡ 1) ↔ (Lent c → ⊥)
+    by (holds l) = (λ e h. asked-not-1 y (c .ask) e, λ n. absurd (n l))
+    by (fails n) = (λ e. n, λ m. refl)
 
-    back : (c : Call) → (Lent c → ⊥) → calls x c .answer .number ≡ 1
-    back (open′ text ml sl) n = cut (opens (opening text)) (lent-so ml sl) n
-    back (list′ ml sl ll) n = cut (lists x) (all-lent listingLength ml sl ll) n
-    back (step′ ml sl ll d) n = cut (stepsOn x d) (all-lent listingLength ml sl ll) n
-    back (report′ ml sl rl) n = cut (reports x) (all-lent reportLength ml sl rl) n
+asked-eleven : (y : Machine) (k : Ask) → Runs k → (asked y k .answer .number ≡ 11) ↔ (y ≡ closed)
+unfolding asked onMachine Runs no
+asked-eleven y (open′ text) r = absurd r
+asked-eleven closed (on′ r) u = (λ e. refl, λ e. refl)
+asked-eleven (holding h) (on′ r) u = (λ e. absurd (kept r h .eleven e), λ e. absurd (let z : _≡_ {A = ℕ} 0 1 = cc in omega arith))
 
 -- 01, 11: a no exactly where the machine is closed
-pub eleven : (x : Machine) (c : Call) → Runs c → Lent c → (calls x c .answer .number ≡ 11) ↔ (x ≡ closed)
-unfolding calls lists stepsOn reports turn no Lent Runs
-eleven x c r l = (kept x c .eleven, λ e. rw e (back c r l))
-  where
-    back : (c : Call) → Runs c → Lent c → calls closed c .answer .number ≡ 11
-    back (open′ text ml sl) r l = absurd r
-    back (list′ ml sl ll) r l = rw (passes (all-lent listingLength ml sl ll) l)
-    back (step′ ml sl ll d) r l = rw (passes (all-lent listingLength ml sl ll) l)
-    back (report′ ml sl rl) r l = rw (passes (all-lent reportLength ml sl rl) l)
+pub eleven : (y : Machine) (c : Call) → Runs (c .ask) → Lent c → (calls y c .answer .number ≡ 11) ↔ (y ≡ closed)
+unfolding calls
+eleven y c r l = rw (passes (lent-so c) l) (asked-eleven y (c .ask) r)
+
+-- ---- calls that move nothing
+
+module _ (r : Request) (stays : (h : Held) → acts r h .machine ≡ h) where
+  asked-same : (y : Machine) → onMachine r y .machine ≡ y
+  unfolding onMachine
+  asked-same closed = refl
+  asked-same (holding h) = ap holding (stays h)
+
+  unmoved : (y : Machine) (l : Part → ℕ) (o : ℕ) → calls y (call (on′ r) l o) .machine ≡ y
+  unfolding calls asked
+  unmoved y l o = by (hasLengths (on′ r) l o)
+    where
+      by : (b : Bool) → cond b (onMachine r y) (turn y (no 1 0 0 asLent)) .machine ≡ y
+      by true = asked-same y
+      by false = refl
 
 -- 01, Rule machine: a list call moves nothing
-pub list-stays : (x : Machine) (ml sl ll : ℕ) → calls x (list′ ml sl ll) .machine ≡ x
-unfolding calls lists showing turn
-list-stays x ml sl ll = by (lent ml sl && eqb ll listingLength) x
+pub list-stays : (y : Machine) (l : Part → ℕ) (o : ℕ) → calls y (call (on′ list′) l o) .machine ≡ y
+unfolding acts onState lists showing
+list-stays = unmoved list′ (λ h. ap (moved h) (shown (h .state) (listing (h .model) (h .state))))
   where
-    shown : (m : Resolved.Model) (s : State) (l : Listed) → showing m s l .machine ≡ holding m s
-    shown m s (entriesAre es) = refl
-    shown m s (refusedWith a) = refl
-
-    by : (b : Bool) (x : Machine) → cond b (lists x) (turn x (no 1 0 0 asLent)) .machine ≡ x
-    by true closed = refl
-    by true (holding m s) = shown m s (listing m s)
-    by false x = refl
+    shown : (s : State) (l : Listed) → showing s l .machine ≡ s
+    shown s (entriesAre es) = refl
+    shown s (refusedWith a) = refl
 
 -- 02, note 6: nor does a report
-pub report-stays : (x : Machine) (ml sl rl : ℕ) → calls x (report′ ml sl rl) .machine ≡ x
-unfolding calls reports sharing turn
-report-stays x ml sl rl = by (lent ml sl && eqb rl reportLength) x
+pub report-stays : (y : Machine) (l : Part → ℕ) (o : ℕ) → calls y (call (on′ report′) l o) .machine ≡ y
+unfolding acts onState reports sharing
+report-stays = unmoved report′ (λ h. ap (moved h) (shared (h .model) (h .state) (listing (h .model) (h .state))))
   where
-    shared : (m : Resolved.Model) (s : State) (l : Listed) → sharing m s l .machine ≡ holding m s
+    shared : (m : Resolved.Model) (s : State) (l : Listed) → sharing m s l .machine ≡ s
     shared m s (entriesAre es) = refl
     shared m s (refusedWith a) = refl
 
-    by : (b : Bool) (x : Machine) → cond b (reports x) (turn x (no 1 0 0 asLent)) .machine ≡ x
-    by true closed = refl
-    by true (holding m s) = shared m s (listing m s)
-    by false x = refl
-
 -- 01, Opening a text: 1 changes nothing, 2 to 10 close the machine
-pub refused-opening : (x : Machine) (text : List ℕ) (ml sl : ℕ) → (calls x (open′ text ml sl) .answer .number ≡ 0 → ⊥)
-    → calls x (open′ text ml sl) .machine ≡ cond (lent ml sl) closed x
-unfolding calls opens turn no
-refused-opening x text ml sl = by (lent ml sl)
+pub refused-opening : (y : Machine) (text : List ℕ) (l : Part → ℕ) (o : ℕ) → (calls y (call (open′ text) l o) .answer .number ≡ 0 → ⊥)
+    → calls y (call (open′ text) l o) .machine ≡ cond (hasLengths (open′ text) l o) closed y
+unfolding calls asked
+refused-opening y text l o = by (hasLengths (open′ text) l o)
   where
-    closes : {o : Opening} → Answers text o → (opens o .answer .number ≡ 0 → ⊥) → opens o .machine ≡ closed
-    closes (no2 l) n = refl
-    closes (no3 y f) n = refl
-    closes (no4 y z f) n = refl
-    closes (no5 y z u f) n = refl
-    closes (no6 y z u v l) n = refl
-    closes (no7 y z u v w f) n = refl
-    closes (no8 y z u v w a f) n = refl
-    closes (no9 y z u v w a b f) n = refl
-    closes (no10 y z u v w a b c l) n = refl
-    closes (yesToAll y z u v w a b c d) n = absurd (n refl)
-
-    by : (b : Bool) → (cond b (opens (opening text)) (turn x (no 1 0 0 asLent)) .answer .number ≡ 0 → ⊥) → cond b (opens (opening text)) (turn x (no 1 0 0 asLent)) .machine ≡ cond b closed x
-    by true n = closes (answered text) n
+    by : (b : Bool) → (cond b (opens (opening text)) (turn y (no 1 0 0 asLent)) .answer .number ≡ 0 → ⊥) → cond b (opens (opening text)) (turn y (no 1 0 0 asLent)) .machine ≡ cond b closed y
+    by true n = opening-kept text (answered text) .closes n
     by false n = refl

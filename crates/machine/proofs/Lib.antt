@@ -13,6 +13,7 @@ pub mod Ranges
 pub mod Continues
 pub mod Bound
 pub mod Stays
+pub mod Keeps
 pub mod Reached
 pub mod Opens
 pub mod Numbers
@@ -21,5 +22,6 @@ pub mod Full
 pub mod Called
 pub mod Sheet
 pub mod Starred
+pub mod Lent
 pub mod Carries
 pub mod Report

@@ -18,16 +18,16 @@ use Rattle.rules.specs.Draw.{weights, total, chosen}
 use Rattle.rules.specs.Step as steps
 use Rattle.machine.specs.Evaluate as evaluate
 use Rattle.machine.specs.Offer as offer
-use Rattle.machine.specs.State.{stateLength, emptyState}
+use Rattle.machine.specs.State.{emptyState}
 use Rattle.machine.specs.Machine as machine
-use Rattle.machine.specs.Machine.{modelLength, Call, open′, closed, opens, answers, after}
-use Rattle.machine.specs.Starred.{Specimen, sheet, rowOne, rowTwo, minusByTwo, byMinusTwo, bothMinus, turned, threeAndFive, unlit, unbound, twoBound, enabled, noHandshake, bracket, Result, stateOf, Row, Holds, row}
+use Rattle.machine.specs.Machine.{open′, Call, closed, opens, answers, after}
+use Rattle.machine.specs.Starred.{Specimen, sheet, rowOne, rowTwo, minusByTwo, byMinusTwo, bothMinus, turned, threeAndFive, unlit, unbound, twoBound, enabled, noHandshake, bracket, Result, stateOf, lent, Row, Holds, row}
 
 -- ---- what the machine computes
 
 -- what comes of a machine that opened to this, by these calls
 unfoldable answering : Opening → List Call → Result
-unfolding answers after stateOf machine.no machine.listedAs opens machine.turn machine.calls machine.lent machine.lists machine.showing machine.stepped machine.stepsOn machine.choosing
+unfolding answers after stateOf machine.no machine.listedAs opens machine.calls machine.hasLengths machine.allParts machine.asked machine.onMachine machine.acts machine.onState machine.lists machine.showing machine.stepsWith machine.choosing
     machine.openedState machine.startProcesses machine.copies offer.definitionOf offer.processAt offer.called machine.listing machine.counted offer.missing offer.missingBranch offer.isNone offer.branches
     offer.branchesOf offer.offered offer.partProcesses offer.nextProcesses offer.orZero evaluate.evalBranch evaluate.evalGate evaluate.evalOffer evaluate.evalRate
     evaluate.evalScale evaluate.inRate evaluate.evalAction evaluate.evalPair evaluate.evalQuery evaluate.evalItem evaluate.evalChannel evaluate.evalAll evaluate.evalValue
@@ -41,8 +41,8 @@ answering o cs = record { answered = opens o .answer ∷ answers (opens o .machi
 
 -- a text that opens to o
 opened-to : (text : List ℕ) (o : Opening) (cs : List Call) → opening text ≡ o
-    → record { answered = answers closed (open′ text modelLength stateLength ∷ cs); left = stateOf (after closed (open′ text modelLength stateLength ∷ cs)) } ≡ answering o cs
-unfolding answers after machine.calls machine.lent answering
+    → record { answered = answers closed (lent (open′ text) 0 ∷ cs); left = stateOf (after closed (lent (open′ text) 0 ∷ cs)) } ≡ answering o cs
+unfolding answers after machine.calls machine.hasLengths machine.allParts machine.asked Option·elim answering
 opened-to text o cs e = ap (λ (p : Opening). record { answered = opens p .answer ∷ answers (opens p .machine) cs; left = stateOf (after (opens p .machine) cs) }) e
 
 module _ (r : Row) where

@@ -1,8 +1,8 @@
--- The rule machine (01, State and rule machine): fed texts, draws and the lengths of all that is lent, it answers each call and reads no buffer.
--- Assumes nothing: these are definitions.
+-- The rule machine (01, State and rule machine): fed texts, draws and the lengths of all that is lent, it answers each call and reads no buffer. What it holds is a
+-- record, a call asks something and carries the lengths of the parts that it is lent. Assumes nothing: these are definitions.
 use mathlib.Core.List.{List, [], _∷_, _++_}
-use mathlib.Core.Bool.{Bool, true, cond, _&&_}
-use mathlib.Core.Option.{Option·elim}
+use mathlib.Core.Bool.{Bool, true, false, cond, _&&_, _||_}
+use mathlib.Core.Option.{Option, none, some, Option·elim}
 use Prim.Native.Nat.{ℕ, zero, suc, _+_, _*_}
 use lib.Dec.{eqb, leb}
 use lib.IntN.{ℤ}
@@ -17,7 +17,7 @@ use Rattle.rules.specs.Listing.{Entry, keyOf, entries}
 use Rattle.rules.specs.Draw.{weights, total, chosen}
 use Rattle.rules.specs.Step as steps
 use Rattle.machine.specs.Offer.{Process, branchesOf, called, argumentsGiven, branches, missing}
-use Rattle.machine.specs.State.{State, stateLength, pairLimit}
+use Rattle.machine.specs.State.{State, GoodState, stateLength, pairLimit}
 use Rattle.machine.specs.Report.{reportLength, reportOf}
 
 -- ---- lengths of what is lent
@@ -69,6 +69,14 @@ listedAs n c es = record { number = n; place = 0; branch = 0; count = length es;
 unfoldable pub reportedAs : List ℕ → List Entry → Answer
 reportedAs ns es = record { number = 0; place = 0; branch = 0; count = length es; total = total (weights es); chosen = 0; listing = reported ns }
 
+-- what a call leaves, and its answer
+pub record Turn (M : Type 0) : Type 0 where
+  pub machine : M
+  pub answer : Answer
+
+abbrev pub turn : {M : Type 0} → M → Answer → Turn M
+turn x a = record { machine = x; answer = a }
+
 -- ---- listing: 12 to 14
 
 -- 01, Listing: the largest total
@@ -114,18 +122,13 @@ entryArguments m s (key c i j k n q) =
 unfoldable pub entryState : Resolved.Model → State → Key → State
 entryState m s k = steps.stateAfter s (steps.step (branches m) s k)
 
--- what a call leaves, and its answer
-pub record Turn (M : Type 0) : Type 0 where
-  pub machine : M
-  pub answer : Answer
-
 -- 01, Listing and stepping: refused with number n, 15 to 19; the state is as before
 abbrev pub refusing : State → List Entry → ℕ → Turn State
-refusing s es n = record { machine = s; answer = listedAs n 0 es }
+refusing s es n = turn s (listedAs n 0 es)
 
 -- 01, Listing and stepping: accepted; entry number c led to the state s
 abbrev pub accepting : State → List Entry → ℕ → Turn State
-accepting s es c = record { machine = s; answer = listedAs 0 c es }
+accepting s es c = turn s (listedAs 0 c es)
 
 -- 01, Listing and stepping: 17 to 19 of the chosen entry, which has number c and key k
 unfoldable pub taken : Resolved.Model → State → List Entry → ℕ → Key → Turn State
@@ -144,12 +147,144 @@ drawn m s es d =
     (Option·elim (chosen (weights es) d) (refusing s es 16)
     (λ c. Option·elim (getElem? es c) (refusing s es 16) (λ e. taken m s es c (keyOf e))))
 
--- ---- the machine
+-- ---- turns of a state: what each request does where 11 is answered with yes
 
--- 01, Rule machine: closed, or holding the model it read, with a state
+-- 01, Rule machine: a list call moves nothing
+unfoldable pub showing : State → Listed → Turn State
+showing s (entriesAre es) = turn s (listedAs 0 0 es)
+showing s (refusedWith a) = turn s a
+
+-- 01, Listing
+unfoldable pub lists : Resolved.Model → State → Turn State
+lists m s = showing s (listing m s)
+
+-- 02, note 6: a report is refused as a listing is, and moves nothing either
+unfoldable pub sharing : Resolved.Model → State → Listed → Turn State
+sharing m s (entriesAre es) = turn s (reportedAs (reportOf m s es) es)
+sharing m s (refusedWith a) = turn s a
+
+unfoldable pub reports : Resolved.Model → State → Turn State
+reports m s = sharing m s (listing m s)
+
+-- a listing from which a draw chooses, or its refusal
+unfoldable pub choosing : Resolved.Model → State → ℕ → Listed → Turn State
+choosing m s d (entriesAre es) = drawn m s es d
+choosing m s d (refusedWith a) = turn s a
+
+-- 01, Listing and stepping: the listing's questions, then the step's
+unfoldable pub stepsWith : ℕ → Resolved.Model → State → Turn State
+stepsWith d m s = choosing m s d (listing m s)
+
+-- ---- what the machine holds
+
+-- 01, Rule machine: the model it read, with a state
+pub record Held : Type 0 where
+  pub model : Resolved.Model
+  pub state : State
+
+-- this model and this state, and nothing else
+abbrev pub held : Resolved.Model → State → Held
+held m s = record { model = m; state = s }
+
+-- the same, with this state
+abbrev pub moved : Held → State → Held
+moved h s = record { model = h .model; state = s }
+
+-- 01, Listing, 11: all that is held is over the model
+pub record Good (h : Held) : Type 0 where
+  pub state : GoodState (h .model) (h .state)
+
+-- 01, Rule machine: closed, or holding all that
 pub data Machine : Type 0 where
   closed : Machine
-  holding : Resolved.Model → State → Machine
+  holding : Held → Machine
+
+-- ---- shapes: what of it a request reads and writes
+
+-- the model is read, the state read and written
+unfoldable pub onState : (Resolved.Model → State → Turn State) → Held → Turn Held
+onState f h = let t = f (h .model) (h .state) in turn (moved h (t .machine)) (t .answer)
+
+-- ---- calls
+
+-- 01, Listing and stepping, and 02, note 6: requests to a model that is held, of which 11 is asked first
+pub data Request : Type 0 where
+  list′ : Request
+  step′ : (draw : ℕ) → Request
+  report′ : Request
+
+-- 01, Rule machine: what a call asks: to open a text, or a request
+pub data Ask : Type 0 where
+  open′ : (text : List ℕ) → Ask
+  on′ : Request → Ask
+
+-- what each request does to what is held
+unfoldable pub acts : Request → Held → Turn Held
+acts list′ = onState lists
+acts (step′ d) = onState (stepsWith d)
+acts report′ = onState reports
+
+-- ---- what is lent
+
+-- 01, State: the engine's buffers
+pub data Part : Type 0 where
+  model : Part
+  state : Part
+
+-- 01, 1: their lengths
+abbrev pub size : Part → ℕ
+size model = modelLength
+size state = stateLength
+
+abbrev pub partNumber : Part → ℕ
+partNumber model = 0
+partNumber state = 1
+
+-- the two that every list, step and report is lent
+abbrev pub twoParts : List Part
+twoParts = model ∷ state ∷ []
+
+-- a buffer goes only to the calls that use it
+abbrev pub uses : Request → List Part
+uses list′ = twoParts
+uses (step′ d) = twoParts
+uses report′ = twoParts
+
+-- an opening writes them all
+abbrev pub lentTo : Ask → List Part
+lentTo (open′ text) = model ∷ state ∷ []
+lentTo (on′ r) = uses r
+
+-- 01, Transitions, and 02, note 6: the length of the output buffer, the listing or the report, of a call that is lent one
+abbrev pub outputOf : Ask → Option ℕ
+outputOf (open′ text) = none
+outputOf (on′ list′) = some listingLength
+outputOf (on′ (step′ d)) = some listingLength
+outputOf (on′ report′) = some reportLength
+
+unfoldable pub isLent : Part → List Part → Bool
+isLent p [] = false
+isLent p (q ∷ qs) = eqb (partNumber p) (partNumber q) || isLent p qs
+
+-- a test that each of these parts passes
+unfoldable pub allParts : (Part → Bool) → List Part → Bool
+allParts t [] = true
+allParts t (p ∷ ps) = t p && allParts t ps
+
+-- 01, 1: have all lent buffers their lengths?
+unfoldable pub hasLengths : Ask → (Part → ℕ) → ℕ → Bool
+hasLengths k l o = allParts (λ (p : Part). eqb (l p) (size p)) (lentTo k) && Option·elim (outputOf k) true (eqb o)
+
+-- 01, Rule machine: what is asked, and the lengths of all that is lent: of the parts, and of the output
+pub record Call : Type 0 where
+  pub ask : Ask
+  pub lengths : Part → ℕ
+  pub output : ℕ
+
+abbrev pub call : Ask → (Part → ℕ) → ℕ → Call
+call k l o = record { ask = k; lengths = l; output = o }
+
+-- ---- the machine's turns
 
 -- n copies of a list, one after the other
 unfoldable pub copies : {A : Type 0} → ℕ → List A → List A
@@ -165,71 +300,30 @@ startProcesses m (s ∷ ss) = copies (s .count) (called m (s .definition) (s .va
 unfoldable pub openedState : Resolved.Model → State
 openedState m = record { processes = startProcesses m (m .starts); pairs = [] }
 
--- 01, Rule machine: a text or a draw, and the lengths of the model, state and listing buffers that are lent; 02, note 6: of a report its own
-pub data Call : Type 0 where
-  open′ : (text : List ℕ) (model state : ℕ) → Call
-  list′ : (model state listing : ℕ) → Call
-  step′ : (model state listing draw : ℕ) → Call
-  report′ : (model state report : ℕ) → Call
-
--- 01, 1: have model and state buffers their lengths?
-unfoldable pub lent : ℕ → ℕ → Bool
-lent model state = eqb model modelLength && eqb state stateLength
-
-unfoldable pub turn : Machine → Answer → Turn Machine
-turn x a = record { machine = x; answer = a }
-
 -- 01, Fresh: refusals 2 to 10 lead back to it; an accepted text's model is held, with its opened state
 unfoldable pub opens : Opening → Turn Machine
 opens (refused n p) = turn closed (no n p 0 asLent)
-opens (opened m) = turn (holding m (openedState m)) (no 0 0 0 asLent)
-
--- 01, Rule machine: a list call moves nothing
-unfoldable pub showing : Resolved.Model → State → Listed → Turn Machine
-showing m s (entriesAre es) = turn (holding m s) (listedAs 0 0 es)
-showing m s (refusedWith a) = turn (holding m s) a
+opens (opened m) = turn (holding (held m (openedState m))) (no 0 0 0 asLent)
 
 -- 01, 11: a no exactly when the machine is closed
-unfoldable pub lists : Machine → Turn Machine
-lists closed = turn closed (no 11 0 0 asLent)
-lists (holding m s) = showing m s (listing m s)
+unfoldable pub onMachine : Request → Machine → Turn Machine
+onMachine r closed = turn closed (no 11 0 0 asLent)
+onMachine r (holding h) = let t = acts r h in turn (holding (t .machine)) (t .answer)
 
--- 02, note 6: a report is refused as a listing is, and moves nothing either
-unfoldable pub sharing : Resolved.Model → State → Listed → Turn Machine
-sharing m s (entriesAre es) = turn (holding m s) (reportedAs (reportOf m s es) es)
-sharing m s (refusedWith a) = turn (holding m s) a
-
--- 02, note 6: 11, then the listing's questions
-unfoldable pub reports : Machine → Turn Machine
-reports closed = turn closed (no 11 0 0 asLent)
-reports (holding m s) = sharing m s (listing m s)
-
--- the same machine with the state that a step leaves
-unfoldable pub stepped : Resolved.Model → Turn State → Turn Machine
-stepped m t = turn (holding m (t .machine)) (t .answer)
-
--- a listing from which a draw chooses, or its refusal
-unfoldable pub choosing : Resolved.Model → State → ℕ → Listed → Turn Machine
-choosing m s d (entriesAre es) = stepped m (drawn m s es d)
-choosing m s d (refusedWith a) = turn (holding m s) a
-
--- 01, 11, then the listing's questions, then the step's
-unfoldable pub stepsOn : Machine → ℕ → Turn Machine
-stepsOn closed d = turn closed (no 11 0 0 asLent)
-stepsOn (holding m s) d = choosing m s d (listing m s)
+-- what is asked, once 1 is answered with yes
+unfoldable pub asked : Machine → Ask → Turn Machine
+asked y (open′ text) = opens (opening text)
+asked y (on′ r) = onMachine r y
 
 -- 01, Rule machine: one call; 1 comes first and changes nothing
 unfoldable pub calls : Machine → Call → Turn Machine
-calls x (open′ text model state) = cond (lent model state) (opens (opening text)) (turn x (no 1 0 0 asLent))
-calls x (list′ model state listing) = cond (lent model state && eqb listing listingLength) (lists x) (turn x (no 1 0 0 asLent))
-calls x (step′ model state listing draw) = cond (lent model state && eqb listing listingLength) (stepsOn x draw) (turn x (no 1 0 0 asLent))
-calls x (report′ model state report) = cond (lent model state && eqb report reportLength) (reports x) (turn x (no 1 0 0 asLent))
+calls y c = cond (hasLengths (c .ask) (c .lengths) (c .output)) (asked y (c .ask)) (turn y (no 1 0 0 asLent))
 
 -- 01, Rule machine: the answers to a list of calls, in order, and the machine afterwards
 unfoldable pub answers : Machine → List Call → List Answer
-answers x [] = []
-answers x (c ∷ cs) = calls x c .answer ∷ answers (calls x c .machine) cs
+answers y [] = []
+answers y (c ∷ cs) = calls y c .answer ∷ answers (calls y c .machine) cs
 
 unfoldable pub after : Machine → List Call → Machine
-after x [] = x
-after x (c ∷ cs) = after (calls x c .machine) cs
+after y [] = y
+after y (c ∷ cs) = after (calls y c .machine) cs

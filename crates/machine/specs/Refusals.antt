@@ -20,15 +20,14 @@ use Rattle.machine.specs.Evaluate as evaluate
 use Rattle.machine.specs.Offer as offer
 use Rattle.machine.specs.State.{State}
 use Rattle.machine.specs.Machine as machine
-use Rattle.machine.specs.Machine.{holding}
 use Rattle.machine.specs.Specimens.{single, alone, fixed, chain}
 
 -- what a list call and a step with draw 0 are answered
 abbrev listed : Resolved.Model → State → ℕ
-listed m s = machine.lists (holding m s) .answer .number
+listed m s = machine.lists m s .answer .number
 
 abbrev stepped : Resolved.Model → State → ℕ
-stepped m s = machine.stepsOn (holding m s) 0 .answer .number
+stepped m s = machine.stepsWith 0 m s .answer .number
 
 -- ---- 12 and 13
 
@@ -132,9 +131,9 @@ unfolding
     evaluate.inRate evaluate.evalAction evaluate.evalPair evaluate.evalQuery evaluate.evalItem evaluate.evalChannel evaluate.evalAll evaluate.evalValue evaluate.evalSet
     evaluate.evalCond evaluate.related evaluate.evalExpr evaluate.apply evaluate.withValue evaluate.valued evaluate.given sumOf quotientOf floorQuotient
     valueOf lists.entries lists.gather lists.when lists.unless lists.ofProcess lists.ofGuard lists.ofAction lists.partnersIn lists.partner
-    lists.partnerAction lists.matches lists.sameItem lists.sameChannel lists.allWithin offers.within machine.stepsOn machine.choosing machine.drawn machine.taken
+    lists.partnerAction lists.matches lists.sameItem lists.sameChannel lists.allWithin offers.within machine.stepsWith machine.choosing machine.drawn machine.taken
     machine.entryState machine.entryArguments machine.branchArguments machine.onGuard offer.argumentsGiven offer.allValues offer.isValue steps.stateAfter
     steps.step steps.atBranch steps.oneActs steps.bothAct steps.onAction steps.changeOf steps.boundBy steps.valuesAt steps.sentBy steps.replace
     steps.replaceBoth pairs.pairsAfter pairs.insert pairs.remove pairs.before pairs.numbers pairs.itemNumbers pairs.itemKind pairs.itemValue pairs.channelNumbers order.less machine.lists machine.showing
-    machine.stepped machine.turn machine.listedAs machine.no lamps weights lists.weightOf lists.keyOf total chosen Option·elim
+    machine.listedAs machine.no lamps weights lists.weightOf lists.keyOf total chosen Option·elim
 refusals = (refl, refl, refl, refl, refl, refl, refl, refl, refl, refl, refl, refl, refl, refl)

@@ -25,7 +25,7 @@ use Rattle.machine.specs.Offer as offer
 use Rattle.machine.specs.Offer.{Process}
 use Rattle.machine.specs.State.{State, stateLength, emptyState}
 use Rattle.machine.specs.Machine as machine
-use Rattle.machine.specs.Machine.{modelLength, listingLength, asLent, zeroed, no, entriesAre, refusedWith, listing, refusing, accepting, drawn, openedState, closed, holding, list′, turn, stepped, stepsOn, calls}
+use Rattle.machine.specs.Machine.{listingLength, asLent, zeroed, no, entriesAre, refusedWith, listing, refusing, accepting, drawn, openedState, closed, turn, list′, on′, size, call, stepsWith, calls}
 
 -- ---- 01, A bench sheet in full
 
@@ -158,11 +158,11 @@ pub specimens :
     × (listing sheet (openedState sheet) ≡ entriesAre (rows 25000000))
     × (total (weights (rows 25000000)) ≡ 325000000)
     -- draws take row one and row two, or none
-    × (stepsOn (holding sheet (openedState sheet)) 299999999 ≡ stepped sheet (accepting (bench (pos 2) (pos 4) (pos 1)) (rows 25000000) 0))
-    × (stepsOn (holding sheet (openedState sheet)) 300000000 ≡ stepped sheet (accepting (bench (pos 2) (pos 4) (pos 1)) (rows 25000000) 1))
-    × (stepsOn (holding sheet (openedState sheet)) 325000000 ≡ stepped sheet (refusing (openedState sheet) (rows 25000000) 16))
+    × (stepsWith 299999999 sheet (openedState sheet) ≡ accepting (bench (pos 2) (pos 4) (pos 1)) (rows 25000000) 0)
+    × (stepsWith 300000000 sheet (openedState sheet) ≡ accepting (bench (pos 2) (pos 4) (pos 1)) (rows 25000000) 1)
+    × (stepsWith 325000000 sheet (openedState sheet) ≡ refusing (openedState sheet) (rows 25000000) 16)
     -- the next lamp hands over 2, which is bound
-    × (stepsOn (holding sheet (bench (pos 2) (pos 4) (pos 1))) 0 ≡ stepped sheet (accepting (bench (pos 3) (pos 4) (pos 2)) (rows 50000000) 0))
+    × (stepsWith 0 sheet (bench (pos 2) (pos 4) (pos 1)) ≡ accepting (bench (pos 3) (pos 4) (pos 2)) (rows 50000000) 0)
     -- behind a false i>0, y/i is not evaluated; behind a true one it is, and without a gate
     × (evalBranch (pos 0 ∷ pos 7 ∷ []) (gated (some above)) ≡ some offers.shut)
     × (evalBranch (pos 2 ∷ pos 7 ∷ []) (gated (some above)) ≡ some (offers.opened offers.wait 30000))
@@ -182,23 +182,23 @@ pub specimens :
     × (evalRate [] (fixed (negℤ (pos 0))) ≡ some 0)
     -- launch, launch, kill: unlit
     × (openedState lights ≡ chain 0 [])
-    × (stepsOn (holding lights (chain 0 [])) 0 ≡ stepped lights (accepting (chain 1 (lit ∷ [])) (entryOf kind.launch) 0))
-    × (stepsOn (holding lights (chain 1 (lit ∷ []))) 0 ≡ stepped lights (accepting (chain 2 (lit ∷ [])) (entryOf kind.launch) 0))
-    × (stepsOn (holding lights (chain 2 (lit ∷ []))) 0 ≡ stepped lights (accepting emptyState (entryOf kind.kill) 0))
+    × (stepsWith 0 lights (chain 0 []) ≡ accepting (chain 1 (lit ∷ [])) (entryOf kind.launch) 0)
+    × (stepsWith 0 lights (chain 1 (lit ∷ [])) ≡ accepting (chain 2 (lit ∷ [])) (entryOf kind.launch) 0)
+    × (stepsWith 0 lights (chain 2 (lit ∷ [])) ≡ accepting emptyState (entryOf kind.kill) 0)
     -- and then nothing is left to do
-    × (stepsOn (holding lights emptyState) 0 ≡ stepped lights (refusing emptyState [] 15))
+    × (stepsWith 0 lights emptyState ≡ refusing emptyState [] 15)
     -- the fresh machine has no model to list; a buffer of a wrong length is found before that
-    × (calls closed (list′ modelLength stateLength listingLength) ≡ turn closed (no 11 0 0 asLent))
-    × (calls closed (list′ modelLength stateLength 7169) ≡ turn closed (no 1 0 0 asLent))
+    × (calls closed (call (on′ list′) size listingLength) ≡ turn closed (no 11 0 0 asLent))
+    × (calls closed (call (on′ list′) size 7169) ≡ turn closed (no 1 0 0 asLent))
 unfolding
     openedState machine.startProcesses machine.copies offer.definitionOf offer.processAt offer.called listing machine.counted offer.missing offer.missingBranch offer.isNone offer.branches
     offer.branchesOf offer.offered offer.partProcesses offer.nextProcesses offer.orZero evalBranch evaluate.evalGate evaluate.evalOffer evalRate
     evaluate.evalScale evaluate.inRate evaluate.evalAction evaluate.evalPair evaluate.evalQuery evaluate.evalItem evaluate.evalChannel evaluate.evalAll evaluate.evalValue
     evaluate.evalSet evalCond evaluate.related evaluate.evalExpr evaluate.apply evaluate.withValue evaluate.valued evaluate.given sumOf quotientOf
     floorQuotient valueOf lists.entries lists.gather lists.when lists.unless lists.ofProcess lists.ofGuard lists.ofAction lists.partnersIn lists.partner
-    lists.partnerAction lists.matches lists.sameItem lists.sameChannel lists.allWithin offers.within stepsOn machine.choosing drawn machine.taken machine.entryState machine.entryArguments
+    lists.partnerAction lists.matches lists.sameItem lists.sameChannel lists.allWithin offers.within stepsWith machine.choosing drawn machine.taken machine.entryState machine.entryArguments
     machine.branchArguments machine.onGuard offer.argumentsGiven offer.allValues offer.isValue steps.stateAfter steps.step steps.atBranch steps.oneActs
     steps.bothAct steps.onAction steps.changeOf steps.boundBy steps.valuesAt steps.sentBy steps.replace steps.replaceBoth pairs.pairsAfter pairs.insert
-    pairs.remove pairs.before pairs.numbers pairs.itemNumbers pairs.itemKind pairs.itemValue pairs.channelNumbers order.less emptyState calls machine.lists machine.lent weights lists.weightOf lists.keyOf
+    pairs.remove pairs.before pairs.numbers pairs.itemNumbers pairs.itemKind pairs.itemValue pairs.channelNumbers order.less emptyState calls machine.hasLengths machine.allParts machine.asked machine.onMachine weights lists.weightOf lists.keyOf
     total chosen Option·elim
 specimens = (refl, refl, refl, refl, refl, refl, refl, refl, refl, refl, refl, refl, refl, refl, refl, refl, refl, refl, refl, refl, refl, refl, refl, refl, refl, refl, refl)

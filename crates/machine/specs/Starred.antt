@@ -13,8 +13,8 @@ use Rattle.rules.specs.Kind as kind
 use Rattle.rules.specs.Rules.{key}
 use Rattle.rules.specs.Listing.{Entry, entry}
 use Rattle.machine.specs.Offer.{Process}
-use Rattle.machine.specs.State.{State, stateLength}
-use Rattle.machine.specs.Machine.{modelLength, listingLength, asLent, filled, Answer, no, Call, open′, list′, step′, Machine, closed, holding, answers, after}
+use Rattle.machine.specs.State.{State}
+use Rattle.machine.specs.Machine.{listingLength, asLent, filled, Answer, no, list′, step′, Ask, open′, on′, size, Call, call, Machine, closed, holding, answers, after}
 
 -- 01, Specimens: those with a star, in 01's order
 pub data Specimen : Type 0 where
@@ -41,7 +41,11 @@ pub record Result : Type 0 where
 -- the state that a machine has
 unfoldable pub stateOf : Machine → Option State
 stateOf closed = none
-stateOf (holding m s) = some s
+stateOf (holding h) = some (h .state)
+
+-- a call that is lent parts of the right lengths, and an output of this one
+abbrev pub lent : Ask → ℕ → Call
+lent k o = call k size o
 
 -- a text that is opened in a fresh machine, the calls made after it, and what comes of all of them
 pub record Row : Type 0 where
@@ -51,7 +55,7 @@ pub record Row : Type 0 where
 
 -- 01, Specimens: the rule machine gives these answers and this state
 unfoldable pub Holds : Row → Type 0
-Holds r = let cs = open′ (r .text) modelLength stateLength ∷ r .calls in record { answered = answers closed cs; left = stateOf (after closed cs) } ≡ r .expected
+Holds r = let cs = lent (open′ (r .text)) 0 ∷ r .calls in record { answered = answers closed cs; left = stateOf (after closed cs) } ≡ r .expected
 
 -- ---- the texts, but for the two that 01 has in full (crate model, Texts)
 
@@ -99,11 +103,11 @@ bothText = 65 ∷ 91 ∷ 93 ∷ 61 ∷ 123 ∷ 64 ∷ 99 ∷ 33 ∷ 91 ∷ 49 �
 
 -- a list call that is lent what it asks for
 abbrev pub lists : Call
-lists = list′ modelLength stateLength listingLength
+lists = lent (on′ list′) listingLength
 
 -- a step with this draw
 abbrev pub steps : ℕ → Call
-steps d = step′ modelLength stateLength listingLength d
+steps d = lent (on′ (step′ d)) listingLength
 
 -- an accepted opening
 abbrev pub isOpen : Answer

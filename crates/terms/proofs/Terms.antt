@@ -1,15 +1,12 @@
 -- The three terms: from what is proved of texts (token, grammar, model), of listings and steps (machine) and of buffers and lists of calls (buffers).
 use mathlib.Core.Path.{_≡_, refl, sym, ap, subst, _∙_}
-use mathlib.Core.Bool.{Bool, true, false, cond, _&&_}
-use mathlib.Core.List.{List, []}
+use mathlib.Core.Bool.{Bool, true, cond}
+use mathlib.Core.List.{List}
 use mathlib.Core.Logic.{_↔_}
 use mathlib.Core.Option.{Option, none, some}
 use Prim.Native.Nat.{ℕ, _<_}
 use native.Mathlib.Omega.{arith}
-use borrow.Author.Tests.{eq-eqb, ne-eqb, eqb-true, eqb-false}
-use lib.Dec.{eqb}
-use lib.IntN.{ℤ, pos}
-use lib.ListN.{length, getD, replicate}
+use lib.ListN.{length, getD}
 use Rattle.token.specs.Token.{tokens, kindsOf}
 use Rattle.token.proofs.Tiles.{tiled}
 use Rattle.token.proofs.Only.{only}
@@ -26,94 +23,94 @@ use Rattle.model.specs.Opening as reading
 use Rattle.model.specs.Questions.{Answers, no2, no3, no4, no5, no6, no7, no8, no9, yesToAll}
 use Rattle.model.specs.Questions as questions
 use Rattle.model.proofs.Answered.{opening-answers}
-use Rattle.machine.specs.State.{State, stateLength, stateNumbers}
+use Rattle.rules.proofs.Decides.{Decides, holds, fails, passes}
+use Rattle.machine.specs.State.{State, stateLength}
 use Rattle.machine.specs.Report.{reportLength}
-use Rattle.machine.specs.Machine.{modelLength, listingLength, asLent, no, Turn, Machine, closed, holding, lent, turn, lists, stepsOn, reports}
+use Rattle.machine.specs.Machine.{modelLength, listingLength, asLent, no, held, Machine, closed, holding, Request, list′, step′, report′, open′, on′, Part, model, state, size, twoParts, lentTo, isLent, hasLengths, call, onMachine}
+use Rattle.machine.proofs.Lent.{lent-so}
 use Rattle.machine.proofs.Listing.{accepted}
-use Rattle.buffers.specs.Held.{modelBytes}
 use Rattle.buffers.specs.Listing.{shown}
-use Rattle.buffers.specs.Effect.{Effect, machineIn, untouched, opensWith, openEffect, stateIn, leaves, whenLent, listEffect, stepEffect, reportEffect}
-use Rattle.buffers.proofs.Machines.{eleven-exactly, text-machine}
+use Rattle.buffers.specs.Parts.{Engine}
+use Rattle.buffers.specs.Effect.{Effect, machineIn, untouched, opensWith, leftIn, leaves, requested, answered, effect}
+use Rattle.buffers.proofs.Machines.{InTwo, both, in-two, eleven-exactly, text-machine}
+use Rattle.buffers.proofs.Machines as machines
 use Rattle.buffers.proofs.Answers.{lists-as, steps-as, reports-as}
-use Rattle.buffers.proofs.Calls.{every-list}
+use Rattle.buffers.proofs.Every.{every-list}
 use Rattle.terms.specs.One.{Lengths, Hold, Opens, no1, no10, yes10, Asks, TermOne}
 use Rattle.terms.specs.One as one
 use Rattle.terms.specs.Two.{Reading, Passes, TermTwo}
 use Rattle.terms.specs.Three.{TermThree}
 
--- ---- 1
-
--- the test of both lengths, and what it says
-data Lent (bs : List ℕ) (zs : List ℤ) : Bool → Type 0 where
-  right : Lengths bs zs → Lent bs zs true
-  wrong : (Lengths bs zs → ⊥) → Lent bs zs false
-
-lends : (bs : List ℕ) (zs : List ℤ) → Lent bs zs (lent (length bs) (length zs))
-unfolding lent
-lends bs zs = by (eqb (length bs) modelLength) refl (eqb (length zs) stateLength) refl
-  where
-    by : (a : Bool) → eqb (length bs) modelLength ≡ a → (b : Bool) → eqb (length zs) stateLength ≡ b → Lent bs zs (a && b)
-    by true e true f = right (record { model = eqb-true _ _ e; state = eqb-true _ _ f })
-    by true e false f = wrong (λ h. eqb-false _ _ f (h .state))
-    by false e b f = wrong (λ h. eqb-false _ _ e (h .model))
-
 -- ---- an opening
 
-opens : (text bs : List ℕ) (zs : List ℤ) → Opens text bs zs (openEffect text bs zs)
-unfolding openEffect opensWith untouched
-opens text bs zs = by (lends bs zs)
+opens : (text : List ℕ) (x : Engine) (l : List ℕ) → Opens text x l (effect (open′ text) x l)
+unfolding effect answered opensWith untouched
+opens text x l = by (lent-so (call (open′ text) (λ (p : Part). length (x p)) (length l)))
   where
-    with : (o : Opening) → reading.opening text ≡ o → Lengths bs zs → Opens text bs zs (opensWith text o)
+    with : (o : Opening) → reading.opening text ≡ o → Lengths (open′ text) x l → Opens text x l (opensWith text o l)
     with (refused n p) e h = no10 h (opening-answers text (refused n p) .0 e)
     with (opened m) e h = yes10 h (opening-answers text (opened m) .0 e)
 
-    by : {b : Bool} → Lent bs zs b → Opens text bs zs (cond b (opensWith text (reading.opening text)) (untouched bs zs []))
-    by (right h) = with (reading.opening text) refl h
-    by (wrong h) = no1 h
+    by : {b : Bool} → Decides (Lengths (open′ text) x l) b → Opens text x l (cond b (opensWith text (reading.opening text) l) (untouched x l))
+    by (holds h) = with (reading.opening text) refl h
+    by (fails h) = no1 h
 
 -- ---- the other calls
 
-module _ (n : ℕ) (As : Resolved.Model → State → Effect → Type 0) (bs : List ℕ) (zs : List ℤ) (l : List ℕ) (t : Machine → Turn Machine) (byte : getD bs 0 0 < 256)
-    (eleven : t closed ≡ turn closed (no 11 0 0 asLent))
-    (answered : (m : Resolved.Model) (s : State) → length bs ≡ modelLength → length zs ≡ stateLength → length l ≡ n → machineIn bs zs ≡ holding m s → As m s (whenLent n bs zs l (t (machineIn bs zs)))) where
-  lent-all : Lengths bs zs → length l ≡ n → whenLent n bs zs l (t (machineIn bs zs)) ≡ leaves bs zs l (t (machineIn bs zs))
-  unfolding whenLent lent
-  lent-all h r = rw (eq-eqb _ _ (h .model), eq-eqb _ _ (h .state), eq-eqb _ _ r)
-
-  -- where nothing is held, 11 changes nothing
-  leaves-all : machineIn bs zs ≡ closed → leaves bs zs l (t (machineIn bs zs)) ≡ one.left (no 11 0 0 asLent) bs zs l
-  unfolding leaves stateIn shown turn no
-  leaves-all e = ap (λ (y : Machine). leaves bs zs l (t y)) e ∙ ap (leaves bs zs l) eleven
-
-  nothing : machineIn bs zs ≡ closed → (m : Resolved.Model) (s : State) → Hold bs zs m s → ⊥
+module _ (x : Engine) (l : List ℕ) (byte : getD (x model) 0 0 < 256) where
+  nothing : machineIn twoParts x ≡ closed → (m : Resolved.Model) (s : State) → Hold x m s → ⊥
   nothing e m s h =
-      let f : machineIn bs zs ≡ holding m s = ap (λ (x : List ℕ). machineIn x zs) (h .bytes) ∙ ap (machineIn (modelBytes (h .text))) (h .numbers) ∙ text-machine (h .text) m s (h .holds) (h .over) in
+      let f : machineIn twoParts x ≡ holding (held m s) = text-machine x (h .text) m s (h .bytes) (h .holds) (h .numbers) (h .over) in
       let z : _≡_ {A = ℕ} 0 1 = cc (e, f) in
       omega arith
 
-  held : Lengths bs zs → (m : Resolved.Model) (s : State) → machineIn bs zs ≡ holding m s → Hold bs zs m s
-  held h m s e = let k = eleven-exactly bs zs m s (h .model) byte (h .state) .0 e in record { text = k .0; bytes = k .1; holds = k .2; over = k .3; numbers = k .4 }
+  -- a request that is lent model and state
+  module _ (r : Request) (As : Resolved.Model → State → Effect → Type 0) (two : lentTo (on′ r) ≡ twoParts)
+      (asked : effect (on′ r) x l ≡ cond (hasLengths (on′ r) (λ (p : Part). length (x p)) (length l)) (leaves twoParts x l (onMachine r (machineIn twoParts x))) (untouched x l))
+      (answered : (m : Resolved.Model) (s : State) → Lengths (on′ r) x l → length (x model) ≡ modelLength → length (x state) ≡ stateLength → machineIn twoParts x ≡ holding (held m s)
+      → As m s (effect (on′ r) x l)) where
+    long : (p : Part) → isLent p twoParts ≡ true → Lengths (on′ r) x l → length (x p) ≡ size p
+    long p t h = h .parts p (rw two t)
 
-  asks : Asks n As bs zs l (whenLent n bs zs l (t (machineIn bs zs)))
-  unfolding whenLent untouched
-  asks = by (lends bs zs) (eqb (length l) n) refl
-    where
-      of : Lengths bs zs → length l ≡ n → (y : Machine) → machineIn bs zs ≡ y → Asks n As bs zs l (leaves bs zs l (t (machineIn bs zs)))
-      of h r closed e = subst (Asks n As bs zs l) (sym (leaves-all e)) (one.Asks.no11 h r (nothing e))
-      of h r (holding m s) e = one.Asks.yes11 h r (held h m s e) (subst (As m s) (lent-all h r) (answered m s (h .model) (h .state) r e))
+    lent-all : Lengths (on′ r) x l → effect (on′ r) x l ≡ leaves twoParts x l (onMachine r (machineIn twoParts x))
+    lent-all h = asked ∙ ap (λ (b : Bool). cond b (leaves twoParts x l (onMachine r (machineIn twoParts x))) (untouched x l)) (passes (lent-so (call (on′ r) (λ (p : Part). length (x p)) (length l))) h)
 
-      by : {b : Bool} → Lent bs zs b → (c : Bool) → eqb (length l) n ≡ c → Asks n As bs zs l (cond (b && c) (leaves bs zs l (t (machineIn bs zs))) (untouched bs zs l))
-      by (right h) true e = of h (eqb-true _ _ e) (machineIn bs zs) refl
-      by (right h) false e = one.Asks.no1 (λ k. eqb-false _ _ e (k .1))
-      by (wrong h) c e = one.Asks.no1 (λ k. h (k .0))
+    -- where nothing is held, 11 changes nothing
+    leaves-all : machineIn twoParts x ≡ closed → leaves twoParts x l (onMachine r (machineIn twoParts x)) ≡ one.left (no 11 0 0 asLent) x l
+    unfolding leaves onMachine leftIn shown no
+    leaves-all e = ap (λ (y : Machine). leaves twoParts x l (onMachine r y)) e
+
+    of : Lengths (on′ r) x l → Asks r As x l (effect (on′ r) x l)
+    unfolding isLent
+    of h = by (in-two x) refl
+      where
+        a : length (x model) ≡ modelLength
+        a = long model refl h
+
+        b : length (x state) ≡ stateLength
+        b = long state refl h
+
+        by : {y : Machine} → InTwo y → machineIn twoParts x ≡ y → Asks r As x l (effect (on′ r) x l)
+        by machines.nothing e = subst (Asks r As x l) (sym (lent-all h ∙ leaves-all e)) (one.Asks.no11 h (nothing e))
+        by (both m s) e =
+            let k = eleven-exactly x m s a byte b .0 e in
+            one.Asks.yes11 h (record { text = k .0; bytes = k .1; holds = k .2; over = k .3; numbers = k .4 }) (answered m s h a b e)
+
+    asks : Asks r As x l (effect (on′ r) x l)
+    unfolding untouched
+    asks = by (lent-so (call (on′ r) (λ (p : Part). length (x p)) (length l))) asked
+      where
+        by : {b : Bool} → Decides (Lengths (on′ r) x l) b → effect (on′ r) x l ≡ cond b (leaves twoParts x l (onMachine r (machineIn twoParts x))) (untouched x l) → Asks r As x l (effect (on′ r) x l)
+        by (holds h) e = of h
+        by (fails h) e = subst (Asks r As x l) (sym e) (one.Asks.no1 h)
 
 pub term-one : TermOne
-unfolding listEffect stepEffect reportEffect lists stepsOn reports
+unfolding effect answered requested machineIn
 term-one = record {
   opening = opens;
-  listing = λ bs zs l byte. asks listingLength _ bs zs l lists byte refl (λ m s a b r e. lists-as bs zs l a b m s e r);
-  stepping = λ bs zs l d byte. asks listingLength _ bs zs l (λ y. stepsOn y d) byte refl (λ m s a b r e. steps-as bs zs l a b m s e r d);
-  reporting = λ bs zs l byte. asks reportLength _ bs zs l reports byte refl (λ m s a b r e. reports-as bs zs l a b m s e r);
+  listing = λ x l byte. asks x l byte list′ _ refl refl (λ m s h a b e. lists-as x l a b m s e (h .output listingLength refl));
+  stepping = λ x l d byte. asks x l byte (step′ d) _ refl refl (λ m s h a b e. steps-as x l a b m s e (h .output listingLength refl) d);
+  reporting = λ x l byte. asks x l byte report′ _ refl refl (λ m s h a b e. reports-as x l a b m s e (h .output reportLength refl));
 }
 
 -- ---- readings

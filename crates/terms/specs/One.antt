@@ -1,54 +1,54 @@
 -- Term 1: every text, state and draw, however damaged, is read and carried through exactly as 01 says, or refused under the first of its questions that has the answer no, with the
 -- buffers as 01 gives for that number. Definitions only.
 use mathlib.Core.Path.{_≡_}
-use mathlib.Core.List.{List, []}
+use mathlib.Core.List.{List}
 use mathlib.Core.Option.{some}
 use Prim.Native.Nat.{ℕ, _<_}
-use lib.IntN.{ℤ, pos}
-use lib.ListN.{length, getD, replicate}
+use lib.ListN.{length, getD}
 use Rattle.model.specs.Resolved
 use Rattle.model.specs.Held.{held}
 use Rattle.model.specs.Opening.{refused, opened}
 use Rattle.model.specs.Questions.{Answers}
-use Rattle.machine.specs.State.{State, stateLength, stateNumbers, GoodState}
-use Rattle.machine.specs.Report.{reportLength}
-use Rattle.machine.specs.Machine.{modelLength, listingLength, asLent, Answer, no, openedState}
+use Rattle.machine.specs.State.{State, stateNumbers, GoodState}
+use Rattle.machine.specs.Machine as machine
+use Rattle.machine.specs.Machine.{asLent, Answer, no, Request, list′, step′, report′, Ask, open′, on′, Part, model, state, call, openedState}
+use Rattle.machine.specs.Results.{Lent}
 use Rattle.buffers.specs.Held.{modelBytes}
-use Rattle.buffers.specs.Effect.{Effect, openEffect, listEffect, stepEffect, reportEffect}
+use Rattle.buffers.specs.Parts.{Engine, fresh, numbersOf}
+use Rattle.buffers.specs.Effect.{Effect, effect}
 use Rattle.buffers.specs.Answers.{ListsAs, StepsAs, ReportsAs}
 
--- 1: the model and state buffers have their lengths
-pub record Lengths (bs : List ℕ) (zs : List ℤ) : Type 0 where
-  pub model : length bs ≡ modelLength
-  pub state : length zs ≡ stateLength
+-- 1: what a call is lent has its length: its buffers of the engine x, and its output l
+abbrev pub Lengths : Ask → Engine → List ℕ → Type 0
+Lengths k x l = Lent (call k (λ (p : Part). length (x p)) (length l))
 
 -- 11: the buffers hold the model m and the state s over it, number for number
-pub record Hold (bs : List ℕ) (zs : List ℤ) (m : Resolved.Model) (s : State) : Type 0 where
+pub record Hold (x : Engine) (m : Resolved.Model) (s : State) : Type 0 where
   pub text : List ℕ
-  pub bytes : bs ≡ modelBytes text
+  pub bytes : x model ≡ modelBytes text
   pub holds : held text ≡ some m
   pub over : GoodState m s
-  pub numbers : zs ≡ stateNumbers s
+  pub numbers : x state ≡ stateNumbers s
 
 -- an answer, and the buffers after it
-abbrev pub left : Answer → List ℕ → List ℤ → List ℕ → Effect
-left a bs zs l = record { answer = a; model = bs; state = zs; listing = l }
+abbrev pub left : Answer → Engine → List ℕ → Effect
+left a x l = record { answer = a; left = x; output = l }
 
--- 01, Opening a text: 1 changes nothing; 2 to 10, asked in order, zero both buffers; acceptance fills them
-pub data Opens (text bs : List ℕ) (zs : List ℤ) : Effect → Type 0 where
-  no1 : (Lengths bs zs → ⊥) → Opens text bs zs (left (no 1 0 0 asLent) bs zs [])
-  no10 : {n p : ℕ} → Lengths bs zs → Answers text (refused n p) → Opens text bs zs (left (no n p 0 asLent) (replicate modelLength 0) (replicate stateLength (pos 0)) [])
-  yes10 : {m : Resolved.Model} → Lengths bs zs → Answers text (opened m) → Opens text bs zs (left (no 0 0 0 asLent) (modelBytes text) (stateNumbers (openedState m)) [])
+-- 01, Opening a text: 1 changes nothing; 2 to 10, asked in order, zero the buffers; acceptance fills them
+pub data Opens (text : List ℕ) (x : Engine) (l : List ℕ) : Effect → Type 0 where
+  no1 : (Lengths (open′ text) x l → ⊥) → Opens text x l (left (no 1 0 0 asLent) x l)
+  no10 : {n p : ℕ} → Lengths (open′ text) x l → Answers text (refused n p) → Opens text x l (left (no n p 0 asLent) fresh l)
+  yes10 : {m : Resolved.Model} → Lengths (open′ text) x l → Answers text (opened m) → Opens text x l (left (no 0 0 0 asLent) (numbersOf (modelBytes text) (machine.held m (openedState m))) l)
 
--- 01, Listing and stepping: 1, then 11, which change nothing, then what the call asks of the model and the state that are held (As); l: the third buffer, of the length n
-pub data Asks (n : ℕ) (As : Resolved.Model → State → Effect → Type 0) (bs : List ℕ) (zs : List ℤ) (l : List ℕ) : Effect → Type 0 where
-  no1 : (Lengths bs zs × (length l ≡ n) → ⊥) → Asks n As bs zs l (left (no 1 0 0 asLent) bs zs l)
-  no11 : Lengths bs zs → length l ≡ n → ((m : Resolved.Model) (s : State) → Hold bs zs m s → ⊥) → Asks n As bs zs l (left (no 11 0 0 asLent) bs zs l)
-  yes11 : {m : Resolved.Model} {s : State} {e : Effect} → Lengths bs zs → length l ≡ n → Hold bs zs m s → As m s e → Asks n As bs zs l e
+-- 01, Listing and stepping: 1, then 11, which change nothing, then what the request asks of the model and the state that are held (As); l: the output
+pub data Asks (r : Request) (As : Resolved.Model → State → Effect → Type 0) (x : Engine) (l : List ℕ) : Effect → Type 0 where
+  no1 : (Lengths (on′ r) x l → ⊥) → Asks r As x l (left (no 1 0 0 asLent) x l)
+  no11 : Lengths (on′ r) x l → ((m : Resolved.Model) (s : State) → Hold x m s → ⊥) → Asks r As x l (left (no 11 0 0 asLent) x l)
+  yes11 : {m : Resolved.Model} {s : State} {e : Effect} → Lengths (on′ r) x l → Hold x m s → As m s e → Asks r As x l e
 
 -- the term; the first number of a model buffer is a byte
 pub record TermOne : Type 0 where
-  pub opening : (text bs : List ℕ) (zs : List ℤ) → Opens text bs zs (openEffect text bs zs)
-  pub listing : (bs : List ℕ) (zs : List ℤ) (l : List ℕ) → getD bs 0 0 < 256 → Asks listingLength (λ m s. ListsAs m s bs zs l) bs zs l (listEffect bs zs l)
-  pub stepping : (bs : List ℕ) (zs : List ℤ) (l : List ℕ) (d : ℕ) → getD bs 0 0 < 256 → Asks listingLength (λ m s. StepsAs m s bs zs l d) bs zs l (stepEffect bs zs l d)
-  pub reporting : (bs : List ℕ) (zs : List ℤ) (l : List ℕ) → getD bs 0 0 < 256 → Asks reportLength (λ m s. ReportsAs m s bs zs l) bs zs l (reportEffect bs zs l)
+  pub opening : (text : List ℕ) (x : Engine) (l : List ℕ) → Opens text x l (effect (open′ text) x l)
+  pub listing : (x : Engine) (l : List ℕ) → getD (x model) 0 0 < 256 → Asks list′ (λ m s. ListsAs m s x l) x l (effect (on′ list′) x l)
+  pub stepping : (x : Engine) (l : List ℕ) (d : ℕ) → getD (x model) 0 0 < 256 → Asks (step′ d) (λ m s. StepsAs m s x l d) x l (effect (on′ (step′ d)) x l)
+  pub reporting : (x : Engine) (l : List ℕ) → getD (x model) 0 0 < 256 → Asks report′ (λ m s. ReportsAs m s x l) x l (effect (on′ report′) x l)

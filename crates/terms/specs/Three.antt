@@ -2,7 +2,8 @@
 -- for number. Definition only.
 use mathlib.Core.List.{List, map}
 use Rattle.machine.specs.Machine.{closed, answers, after}
-use Rattle.buffers.specs.Calls.{fresh, BufferCall, fed, effects, engineAfter, Holds, Answered}
+use Rattle.buffers.specs.Parts.{fresh}
+use Rattle.buffers.specs.Calls.{BufferCall, fed, effects, engineAfter, Holds, Answered}
 
 -- one claim about the whole list; the machine is fed texts, draws and the lengths of all that is lent, and reads no buffer
 pub record TermThree : Type 0 where

@@ -1,0 +1,55 @@
+-- The engine's buffers as one family over its parts (01, State; docs/LAYOUT.md): their cells, what they hold, the exact test of each and what is read back. Definitions only.
+use mathlib.Core.Bool.{Bool, true, cond}
+use mathlib.Core.List.{List}
+use Prim.Native.Nat.{ℕ}
+use lib.IntN.{ℤ, pos}
+use lib.ListN.{replicate}
+use Rattle.model.specs.Resolved
+use Rattle.state.specs.Fits.{scopesOf}
+use Rattle.state.specs.Test.{isState}
+use Rattle.state.specs.Decode.{decode}
+use Rattle.machine.specs.State.{emptyState, stateNumbers}
+use Rattle.machine.specs.Machine.{Held, Part, model, state, size, isLent}
+
+-- bytes, or whole numbers
+abbrev pub Cell : Part → Type 0
+Cell model = ℕ
+Cell state = ℤ
+
+-- 01, State: the engine is its buffers, all that one call leaves for the next
+abbrev pub Engine : Type 0
+Engine = (p : Part) → List (Cell p)
+
+-- 01, Fresh: zeros
+unfoldable pub fresh : Engine
+fresh model = replicate (size model) 0
+fresh state = replicate (size state) (pos 0)
+
+-- 01, State: the buffers of all that is held, over these bytes of a model
+unfoldable pub numbersOf : List ℕ → Held → Engine
+numbersOf bytes h model = bytes
+numbersOf bytes h state = stateNumbers (h .state)
+
+-- 01, Listing, 11: is the buffer one over the model? the model's own is judged by itself (Held.antt)
+unfoldable pub isPart : Resolved.Model → (p : Part) → List (Cell p) → Bool
+isPart m model l = true
+isPart m state l = isState (scopesOf m) (m .channels) l
+
+-- what buffers hold; a part that is not lent counts as empty
+unfoldable pub readHeld : Resolved.Model → List Part → Engine → Held
+readHeld m ps x = record {
+  model = m;
+  state = cond (isLent state ps) (decode (scopesOf m) (x state)) emptyState;
+}
+
+-- ---- engines
+
+-- the buffers that a call is lent of the model and the state, and nothing else
+unfoldable pub lentTwo : List ℕ → List ℤ → Engine
+lentTwo bs zs model = bs
+lentTwo bs zs state = zs
+
+-- all as it was but the state
+unfoldable pub withState : Engine → List ℤ → Engine
+withState x zs model = x model
+withState x zs state = zs

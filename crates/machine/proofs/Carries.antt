@@ -198,7 +198,7 @@ refusal-stays y c r = by (hasLengths (c .ask) (c .lengths) (c .output))
     by true n = asked-stays y (c .ask) r n
     by false n = refl
 
-asked-not-1 : (y : Machine) (k : Ask) → asked y k .answer .number ≡ 1 → ⊥
+pub asked-not-1 : (y : Machine) (k : Ask) → asked y k .answer .number ≡ 1 → ⊥
 unfolding asked onMachine no
 asked-not-1 y (open′ text) e = opening-kept text (answered text) .one e
 asked-not-1 closed (on′ r) e = omega arith

@@ -24,4 +24,5 @@ pub mod Sheet
 pub mod Starred
 pub mod Lent
 pub mod Carries
+pub mod Latest
 pub mod Report

@@ -197,6 +197,20 @@ module _ (P : State → Type 0) where
       by go true (some y) k e = let q : y .state ≡ s = cc in rw q at (k .state)
       by go false x k e = go e
 
+  pub under-name : (n : List ℕ) (ss : Saves) (s : State) → Every (PlaceOf P) ss → stateUnder n ss ≡ some s → isName n ≡ true
+  unfolding stateUnder Every PlaceOf stateOf named
+  under-name n [] s g e = never e
+  under-name n (x ∷ xs) s g e = by (λ k. under-name n xs s (g .1) k) x (g .0) (named n x) refl e
+    where
+      by : (stateUnder n xs ≡ some s → isName n ≡ true) → (x : Option Save) → PlaceOf P x → (t : Bool) → named n x ≡ t → cond t (stateOf x) (stateUnder n xs) ≡ some s → isName n ≡ true
+      by go none k t f e = go (unless t e)
+        where
+          unless : (t : Bool) → cond t (stateOf none) (stateUnder n xs) ≡ some s → stateUnder n xs ≡ some s
+          unless true e = never e
+          unless false e = e
+      by go (some y) k true f e = ap isName (sym (same-eq (y .name) n f)) ∙ k .name
+      by go (some y) k false f e = go e
+
   -- ---- no saves
 
   none-hold : (k : ℕ) → Every (PlaceOf P) (replicate k none)

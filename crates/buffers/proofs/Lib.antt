@@ -3,6 +3,7 @@
 pub mod Held
 pub mod Listings
 pub mod Machines
+pub mod Three
 pub mod Local
 pub mod Lent
 pub mod Every

@@ -8,7 +8,6 @@ use mathlib.Core.Option.{Option, none, some, Option·elim}
 use Prim.Native.Nat.{ℕ, _≤_}
 use native.Mathlib.Omega.{arith}
 use lib.Dec.{ltb}
-use lib.ListN.{set}
 use Rattle.model.specs.Resolved
 use Rattle.model.specs.Opening.{Opening, opening}
 use Rattle.model.specs.Questions.{Answers, no2, no3, no4, no5, no6, no7, no8, no9, no10, yesToAll}
@@ -16,9 +15,9 @@ use Rattle.model.proofs.Answered.{answered}
 use Rattle.rules.specs.Listing.{Entry}
 use Rattle.rules.proofs.Decides.{Decides, holds, fails, passes}
 use Rattle.machine.specs.State.{State}
-use Rattle.machine.specs.Saves.{isName, Saves, saved, saveLimit, placeOf, placeFor, stateUnder, Stored, stored, saving, returning, forgetting}
+use Rattle.machine.specs.Saves.{isName, Saves, saveLimit, placeOf, placeFor, stateUnder, Stored, stored, replaced, removed, saving, returning, forgetting}
 use Rattle.machine.specs.Machine.{asLent, Answer, no, listedAs, reportedAs, Listed, entriesAre, refusedWith, listing, Turn, turn, drawn, showing, lists, sharing, reports, choosing, stepsWith}
-use Rattle.machine.specs.Machine.{Held, moved, Machine, closed, holding, onState, onSaves, Request, list′, step′, report′, save′, return′, forget′, Ask, open′, on′, acts, Part, hasLengths, Call, call, opens, onMachine, asked, calls}
+use Rattle.machine.specs.Machine.{Held, heldWith, moved, Machine, closed, holding, onState, onSaves, Request, list′, step′, report′, save′, return′, forget′, Ask, open′, on′, acts, Part, hasLengths, Call, call, opens, onMachine, asked, calls}
 use Rattle.machine.specs.Questions.{no12, no13, no14, yes14, Steps, no15, no16, no17, no18, no19, yes19}
 use Rattle.machine.specs.Questions as questions
 use Rattle.machine.specs.Results as results
@@ -95,7 +94,7 @@ module _ (n : List ℕ) (s : State) (ss : Saves) where
   unfolding saving Names
   save-kept = by (isName n) (ltb (placeFor n ss) saveLimit)
     where
-      by : (b c : Bool) → StoredKept s ss (save′ n) (cond b (cond c (stored 0 s (set ss (placeFor n ss) (saved n s))) (stored 22 s ss)) (stored 20 s ss))
+      by : (b c : Bool) → StoredKept s ss (save′ n) (cond b (cond c (stored 0 s (replaced n s ss)) (stored 22 s ss)) (stored 20 s ss))
       by true true = stored-yes s s ss _ (save′ n) tt
       by true false = stored-no 22 (omega arith) s ss (save′ n) save22
       by false c = stored-no 20 (omega arith) s ss (save′ n) (under20 tt)
@@ -113,7 +112,7 @@ module _ (n : List ℕ) (s : State) (ss : Saves) where
   unfolding forgetting Names
   forget-kept = by (isName n) (ltb (placeOf n ss) saveLimit)
     where
-      by : (b c : Bool) → StoredKept s ss (forget′ n) (cond b (cond c (stored 0 s (set ss (placeOf n ss) none)) (stored 21 s ss)) (stored 20 s ss))
+      by : (b c : Bool) → StoredKept s ss (forget′ n) (cond b (cond c (stored 0 s (removed n ss)) (stored 21 s ss)) (stored 20 s ss))
       by true true = stored-yes s s ss _ (forget′ n) tt
       by true false = stored-no 21 (omega arith) s ss (forget′ n) forget21
       by false c = stored-no 20 (omega arith) s ss (forget′ n) (under20 tt)
@@ -130,7 +129,7 @@ saves-kept : (r : Request) (f : State → Saves → Stored) (h : Held) → Store
 unfolding onSaves no
 saves-kept r f h k = record {
   carries = k .carries;
-  stays = λ n. ap₂ (λ (s : State) (ss : Saves). record { model = h .model; state = s; saves = ss }) (k .stays n .0) (k .stays n .1);
+  stays = λ n. ap₂ (heldWith (h .model)) (k .stays n .0) (k .stays n .1);
   one = k .one;
   eleven = k .eleven;
 }

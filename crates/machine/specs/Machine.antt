@@ -184,13 +184,16 @@ pub record Held : Type 0 where
   pub state : State
   pub saves : Saves
 
+abbrev pub heldWith : Resolved.Model → State → Saves → Held
+heldWith m s ss = record { model = m; state = s; saves = ss }
+
 -- this model and this state, and nothing else
 abbrev pub held : Resolved.Model → State → Held
-held m s = record { model = m; state = s; saves = noSaves }
+held m s = heldWith m s noSaves
 
 -- the same, with this state
 abbrev pub moved : Held → State → Held
-moved h s = record { model = h .model; state = s; saves = h .saves }
+moved h s = heldWith (h .model) s (h .saves)
 
 -- 01, Listing, 11, and 02, note 2: all that is held is over the model
 pub record Good (h : Held) : Type 0 where
@@ -210,7 +213,7 @@ onState f h = let t = f (h .model) (h .state) in turn (moved h (t .machine)) (t 
 
 -- 02, note 2: state and saves are read and written; the answer is a number
 unfoldable pub onSaves : (State → Saves → Stored) → Held → Turn Held
-onSaves f h = let x = f (h .state) (h .saves) in turn (record { model = h .model; state = x .state; saves = x .saves }) (no (x .number) 0 0 asLent)
+onSaves f h = let x = f (h .state) (h .saves) in turn (heldWith (h .model) (x .state) (x .saves)) (no (x .number) 0 0 asLent)
 
 -- ---- calls
 

@@ -22,7 +22,7 @@ use Rattle.state.specs.Test.{isState}
 use Rattle.state.specs.Decode.{decode}
 use Rattle.state.proofs.Over.{good-fits, fits-good, few-scopes}
 use Rattle.state.proofs.Image.{decode-fits, decode-numbers, numbers-pass, decode-back}
-use Rattle.state.proofs.Tests as tests
+use Rattle.state.proofs.Tests.{both}
 use Rattle.saves.specs.Places.{savesNumbers, isSaves, savesIn}
 use Rattle.saves.proofs.Over.{saves-fit, fit-saves}
 use Rattle.saves.proofs.Places.{saves-pass, saves-back, saves-good, saves-numbers}
@@ -117,7 +117,7 @@ machine-over x m s ss l w e = by (heldIn (x model)) refl e
         let r : savesIn (scopesOf n) (x saves) ≡ ss = ap (λ (h : Held). h .saves) k in
         let good = held-fits (x model) n h in
         let few = few-scopes n good in
-        let b = tests.both (isState (scopesOf n) (n .channels) (x state)) _ f in
+        let b = both (isState (scopesOf n) (n .channels) (x state)) _ f in
         rw (← p, ← q, ← r) (record {
           model = h;
           good = good;

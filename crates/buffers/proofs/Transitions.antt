@@ -129,7 +129,7 @@ module _ {x : Engine} {h : Held} (b : Holds x (holding h)) (es : List Entry) (q 
 
   -- what a step leaves
   leaving : (l : List ℕ) (d : ℕ) → length l ≡ listingLength → Leaves x m s es d (effectOf x (asks (on′ (step′ d)) l))
-  unfolding acts onState stepsWith choosing numbersOf withState isLent
+  unfolding acts onState stepsWith choosing numbersOf withState isLent lentEngine calls.lentBuffer
   leaving l d long =
       record {
         turn = drawn m s es d;

@@ -10,5 +10,6 @@ pub mod Every
 pub mod Written
 pub mod Texts
 pub mod Transitions
+pub mod Found
 pub mod Answers
 pub mod Outcomes

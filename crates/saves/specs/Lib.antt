@@ -2,3 +2,4 @@
 pub mod Keys
 pub mod Places
 pub mod Change
+pub mod Rows

@@ -3,11 +3,13 @@
 pub mod Held
 pub mod Listings
 pub mod Machines
+pub mod Three
 pub mod Local
 pub mod Lent
 pub mod Every
 pub mod Written
 pub mod Texts
 pub mod Transitions
+pub mod Found
 pub mod Answers
 pub mod Outcomes

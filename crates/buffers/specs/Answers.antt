@@ -1,4 +1,5 @@
--- What a list, a step and a report answer and leave over any buffers that hold a model and a state (01, Listing and stepping; 02, note 6): what the questions allow, and nothing else.
+-- What a list, a step and a report answer and leave over any buffers that hold a model and a state (01, Listing and stepping; 02, note 6): what the questions allow, and nothing else;
+-- and what a save, a return and a forget do (02, note 2).
 -- Definitions only.
 use mathlib.Core.List.{List}
 use Prim.Native.Nat.{ℕ}
@@ -6,10 +7,12 @@ use Rattle.model.specs.Resolved
 use Rattle.rules.specs.Listing.{Entry}
 use Rattle.machine.specs.State.{State, stateNumbers}
 use Rattle.machine.specs.Report.{reportOf}
-use Rattle.machine.specs.Machine.{Answer, listedAs, reportedAs, entriesAre, refusedWith, Turn}
+use Rattle.machine.specs.Saves.{Stored}
+use Rattle.machine.specs.Machine.{asLent, Answer, no, listedAs, reportedAs, entriesAre, refusedWith, Turn}
 use Rattle.machine.specs.Questions.{Lists, Steps}
+use Rattle.saves.specs.Places.{savesNumbers}
 use Rattle.buffers.specs.Listing.{shown, listingNumbers}
-use Rattle.buffers.specs.Parts.{Engine, withState}
+use Rattle.buffers.specs.Parts.{Engine, withState, withStored}
 use Rattle.buffers.specs.Effect.{Effect}
 
 module _ (m : Resolved.Model) (s : State) (x : Engine) (l : List ℕ) where
@@ -28,3 +31,7 @@ module _ (m : Resolved.Model) (s : State) (x : Engine) (l : List ℕ) where
   pub data ReportsAs : Effect → Type 0 where
     no14 : {a : Answer} → Lists m s (refusedWith a) → ReportsAs (record { answer = a; left = x; output = shown (a .listing) l })
     yes14 : {es : List Entry} → Lists m s (entriesAre es) → ReportsAs (record { answer = reportedAs (reportOf m s es) es; left = x; output = reportOf m s es })
+
+-- 02, note 2: the number of a turn of state and saves, and what it leads to in the buffers; nothing else is carried or moved
+unfoldable pub storesAs : Engine → List ℕ → Stored → Effect
+storesAs x l t = record { answer = no (t .number) 0 0 asLent; left = withStored x (stateNumbers (t .state)) (savesNumbers (t .saves)); output = l }

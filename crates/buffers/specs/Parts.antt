@@ -1,6 +1,6 @@
 -- The engine's buffers as one family over its parts (01, State; docs/LAYOUT.md): their cells, what they hold, the exact test of each and what is read back. Definitions only.
 use mathlib.Core.Bool.{Bool, true, cond}
-use mathlib.Core.List.{List}
+use mathlib.Core.List.{List, []}
 use Prim.Native.Nat.{ℕ}
 use lib.IntN.{ℤ, pos}
 use lib.ListN.{replicate}
@@ -9,12 +9,15 @@ use Rattle.state.specs.Fits.{scopesOf}
 use Rattle.state.specs.Test.{isState}
 use Rattle.state.specs.Decode.{decode}
 use Rattle.machine.specs.State.{emptyState, stateNumbers}
-use Rattle.machine.specs.Machine.{Held, Part, model, state, size, isLent}
+use Rattle.machine.specs.Saves.{noSaves}
+use Rattle.machine.specs.Machine.{Held, Part, model, state, saves, size, isLent}
+use Rattle.saves.specs.Places.{savesNumbers, isSaves, savesIn}
 
 -- bytes, or whole numbers
 abbrev pub Cell : Part → Type 0
 Cell model = ℕ
 Cell state = ℤ
+Cell saves = ℤ
 
 -- 01, State: the engine is its buffers, all that one call leaves for the next
 abbrev pub Engine : Type 0
@@ -24,22 +27,26 @@ Engine = (p : Part) → List (Cell p)
 unfoldable pub fresh : Engine
 fresh model = replicate (size model) 0
 fresh state = replicate (size state) (pos 0)
+fresh saves = replicate (size saves) (pos 0)
 
 -- 01, State: the buffers of all that is held, over these bytes of a model
 unfoldable pub numbersOf : List ℕ → Held → Engine
 numbersOf bytes h model = bytes
 numbersOf bytes h state = stateNumbers (h .state)
+numbersOf bytes h saves = savesNumbers (h .saves)
 
 -- 01, Listing, 11: is the buffer one over the model? the model's own is judged by itself (Held.antt)
 unfoldable pub isPart : Resolved.Model → (p : Part) → List (Cell p) → Bool
 isPart m model l = true
 isPart m state l = isState (scopesOf m) (m .channels) l
+isPart m saves l = isSaves (scopesOf m) (m .channels) l
 
 -- what buffers hold; a part that is not lent counts as empty
 unfoldable pub readHeld : Resolved.Model → List Part → Engine → Held
 readHeld m ps x = record {
   model = m;
   state = cond (isLent state ps) (decode (scopesOf m) (x state)) emptyState;
+  saves = cond (isLent saves ps) (savesIn (scopesOf m) (x saves)) noSaves;
 }
 
 -- ---- engines
@@ -48,8 +55,22 @@ readHeld m ps x = record {
 unfoldable pub lentTwo : List ℕ → List ℤ → Engine
 lentTwo bs zs model = bs
 lentTwo bs zs state = zs
+lentTwo bs zs saves = []
+
+-- and those of the saves
+unfoldable pub lentThree : List ℕ → List ℤ → List ℤ → Engine
+lentThree bs zs ss model = bs
+lentThree bs zs ss state = zs
+lentThree bs zs ss saves = ss
 
 -- all as it was but the state
 unfoldable pub withState : Engine → List ℤ → Engine
 withState x zs model = x model
 withState x zs state = zs
+withState x zs saves = x saves
+
+-- 02, note 2: all as it was but the state and the saves
+unfoldable pub withStored : Engine → List ℤ → List ℤ → Engine
+withStored x zs ss model = x model
+withStored x zs ss state = zs
+withStored x zs ss saves = ss

@@ -3,6 +3,8 @@ pub mod Offer
 pub mod Offering
 pub mod State
 pub mod Report
+pub mod Saves
+pub mod SavesRows
 pub mod Machine
 pub mod Questions
 pub mod Specimens
@@ -10,3 +12,4 @@ pub mod Rows
 pub mod Refusals
 pub mod Starred
 pub mod Results
+pub mod Latest

@@ -18,6 +18,7 @@ use Rattle.rules.specs.Draw.{weights, total, chosen}
 use Rattle.rules.specs.Step as steps
 use Rattle.machine.specs.Offer.{Process, branchesOf, called, argumentsGiven, branches, missing}
 use Rattle.machine.specs.State.{State, GoodState, stateLength, pairLimit}
+use Rattle.machine.specs.Saves.{Saves, noSaves, savesLength, GoodSaves, Stored, saving, returning, forgetting}
 use Rattle.machine.specs.Report.{reportLength, reportOf}
 
 -- ---- lengths of what is lent
@@ -177,22 +178,27 @@ stepsWith d m s = choosing m s d (listing m s)
 
 -- ---- what the machine holds
 
--- 01, Rule machine: the model it read, with a state
+-- 01, Rule machine: the model it read, with a state; 02, note 2: and saves
 pub record Held : Type 0 where
   pub model : Resolved.Model
   pub state : State
+  pub saves : Saves
+
+abbrev pub heldWith : Resolved.Model → State → Saves → Held
+heldWith m s ss = record { model = m; state = s; saves = ss }
 
 -- this model and this state, and nothing else
 abbrev pub held : Resolved.Model → State → Held
-held m s = record { model = m; state = s }
+held m s = heldWith m s noSaves
 
 -- the same, with this state
 abbrev pub moved : Held → State → Held
-moved h s = record { model = h .model; state = s }
+moved h s = heldWith (h .model) s (h .saves)
 
--- 01, Listing, 11: all that is held is over the model
+-- 01, Listing, 11, and 02, note 2: all that is held is over the model
 pub record Good (h : Held) : Type 0 where
   pub state : GoodState (h .model) (h .state)
+  pub saves : GoodSaves (h .model) (h .saves)
 
 -- 01, Rule machine: closed, or holding all that
 pub data Machine : Type 0 where
@@ -205,13 +211,20 @@ pub data Machine : Type 0 where
 unfoldable pub onState : (Resolved.Model → State → Turn State) → Held → Turn Held
 onState f h = let t = f (h .model) (h .state) in turn (moved h (t .machine)) (t .answer)
 
+-- 02, note 2: state and saves are read and written; the answer is a number
+unfoldable pub onSaves : (State → Saves → Stored) → Held → Turn Held
+onSaves f h = let x = f (h .state) (h .saves) in turn (heldWith (h .model) (x .state) (x .saves)) (no (x .number) 0 0 asLent)
+
 -- ---- calls
 
--- 01, Listing and stepping, and 02, note 6: requests to a model that is held, of which 11 is asked first
+-- 01, Listing and stepping, and 02, notes 2 and 6: requests to a model that is held, of which 11 is asked first
 pub data Request : Type 0 where
   list′ : Request
   step′ : (draw : ℕ) → Request
   report′ : Request
+  save′ : (name : List ℕ) → Request
+  return′ : (name : List ℕ) → Request
+  forget′ : (name : List ℕ) → Request
 
 -- 01, Rule machine: what a call asks: to open a text, or a request
 pub data Ask : Type 0 where
@@ -223,36 +236,49 @@ unfoldable pub acts : Request → Held → Turn Held
 acts list′ = onState lists
 acts (step′ d) = onState (stepsWith d)
 acts report′ = onState reports
+acts (save′ n) = onSaves (saving n)
+acts (return′ n) = onSaves (returning n)
+acts (forget′ n) = onSaves (forgetting n)
 
 -- ---- what is lent
 
--- 01, State: the engine's buffers
+-- 01, State, and 02, note 2: the engine's buffers
 pub data Part : Type 0 where
   model : Part
   state : Part
+  saves : Part
 
 -- 01, 1: their lengths
 abbrev pub size : Part → ℕ
 size model = modelLength
 size state = stateLength
+size saves = savesLength
 
 abbrev pub partNumber : Part → ℕ
 partNumber model = 0
 partNumber state = 1
+partNumber saves = 2
 
 -- the two that every list, step and report is lent
 abbrev pub twoParts : List Part
 twoParts = model ∷ state ∷ []
 
--- a buffer goes only to the calls that use it
+-- 02, note 2: and the saves, for the three calls on them
+abbrev pub threeParts : List Part
+threeParts = model ∷ state ∷ saves ∷ []
+
+-- 02, note 2: a buffer goes only to the calls that use it
 abbrev pub uses : Request → List Part
 uses list′ = twoParts
 uses (step′ d) = twoParts
 uses report′ = twoParts
+uses (save′ n) = threeParts
+uses (return′ n) = threeParts
+uses (forget′ n) = threeParts
 
 -- an opening writes them all
 abbrev pub lentTo : Ask → List Part
-lentTo (open′ text) = model ∷ state ∷ []
+lentTo (open′ text) = model ∷ state ∷ saves ∷ []
 lentTo (on′ r) = uses r
 
 -- 01, Transitions, and 02, note 6: the length of the output buffer, the listing or the report, of a call that is lent one
@@ -261,6 +287,9 @@ outputOf (open′ text) = none
 outputOf (on′ list′) = some listingLength
 outputOf (on′ (step′ d)) = some listingLength
 outputOf (on′ report′) = some reportLength
+outputOf (on′ (save′ n)) = none
+outputOf (on′ (return′ n)) = none
+outputOf (on′ (forget′ n)) = none
 
 unfoldable pub isLent : Part → List Part → Bool
 isLent p [] = false
@@ -300,7 +329,7 @@ startProcesses m (s ∷ ss) = copies (s .count) (called m (s .definition) (s .va
 unfoldable pub openedState : Resolved.Model → State
 openedState m = record { processes = startProcesses m (m .starts); pairs = [] }
 
--- 01, Fresh: refusals 2 to 10 lead back to it; an accepted text's model is held, with its opened state
+-- 01, Fresh: refusals 2 to 10 lead back to it; an accepted text's model is held, with its opened state; 02, note 2: either way nothing is saved
 unfoldable pub opens : Opening → Turn Machine
 opens (refused n p) = turn closed (no n p 0 asLent)
 opens (opened m) = turn (holding (held m (openedState m))) (no 0 0 0 asLent)

@@ -13,7 +13,7 @@ mod models;
 
 use models::Model;
 use second::generate::{Engine, Random};
-use second::{LISTING, MODEL, REPORT, STATE};
+use second::{Opening, LISTING, MODEL, REPORT, SAVES, STATE};
 use std::time::{Duration, Instant};
 
 /// The draws of every run come from this seed.
@@ -111,6 +111,7 @@ struct Buffers {
     state: Vec<i64>,
     listing: Vec<u64>,
     report: Vec<u64>,
+    saves: Vec<i64>,
 }
 
 impl Times {
@@ -129,11 +130,13 @@ impl Times {
             state: vec![0; STATE],
             listing: vec![0; LISTING],
             report: vec![0; REPORT],
+            saves: vec![0; SAVES],
         };
         let begun = Instant::now();
         while begun.elapsed() < REPEATING {
+            let Buffers { model: held, state, saves, .. } = &mut buffers;
             let start = Instant::now();
-            let opened = (engine.open)(&model.text, &mut buffers.model, &mut buffers.state);
+            let opened = (engine.open)(&model.text, Opening { model: held, state, saves });
             self.note(OPEN, 0, start);
             assert_eq!(opened.number, 0, "{}", model.name);
         }

@@ -1,8 +1,9 @@
 //! The same calls on two engines, each with buffers of its own.
 
 use crate::met::Met;
-use second::generate::{Buffers, Call, Engine};
-use second::{Answer, LISTING, MODEL, REPORT, STATE};
+use second::generate::{Buffer, Buffers, Call, Engine};
+use second::{Answer, LISTING, MODEL, REPORT, SAVES, STATE};
+use std::collections::BTreeMap;
 use std::fmt;
 
 /// What a difference is in.
@@ -13,6 +14,7 @@ pub enum Place {
     State,
     Listing,
     Report,
+    Saves,
 }
 
 /// The first difference between two engines on a list of calls.
@@ -38,20 +40,22 @@ impl fmt::Display for Difference {
 pub fn run(tried: &Engine, oracle: &Engine, calls: &[Call], met: &mut Met) -> Result<(), Difference> {
     let (mut left, mut right) = (Buffers::default(), Buffers::default());
     let mut made = Vec::new();
+    let mut saved = Saved::default();
     for (number, call) in calls.iter().enumerate() {
         let call = right.exact(call);
         made.push(call.clone());
         if call.lengths().is_none() {
             left.make(tried, &call);
             right.make(oracle, &call);
+            saved.note_change(&call);
             continue;
         }
-        let lent = right.clone();
+        let lent = as_lent(&right, &call);
         let answers = (left.make(tried, &call), right.make(oracle, &call));
         let (Some(first), Some(second)) = answers else { continue };
-        let fault = differs(&first, &left, &second, &right)
-            .or_else(|| kept(&call, &lent, &first, &left).map(|(place, what)| (place, format!("the engine {what}"))))
-            .or_else(|| kept(&call, &lent, &second, &right).map(|(place, what)| (place, format!("the oracle {what}"))));
+        let fault = differs(&call, &first, &left, &second, &right)
+            .or_else(|| kept(&call, &lent, &first, &left))
+            .or_else(|| saved.note(&call, &first, &left));
         if let Some((place, what)) = fault {
             return Err(Difference { call: number, place, what, made });
         }
@@ -60,8 +64,51 @@ pub fn run(tried: &Engine, oracle: &Engine, calls: &[Call], met: &mut Met) -> Re
     Ok(())
 }
 
+/// The buffers before a call. The saves, which are long, only if it is lent them.
+fn as_lent(buffers: &Buffers, call: &Call) -> Buffers {
+    let saves = if call.lends(Buffer::Saves) { buffers.saves.clone() } else { Vec::new() };
+    let Buffers { model, state, listing, report, .. } = buffers;
+    Buffers { model: model.clone(), state: state.clone(), listing: listing.clone(), report: report.clone(), saves }
+}
+
+/// The state of the latest accepted save under each name since the last opening, by the list of calls alone.
+#[derive(Default)]
+struct Saved {
+    /// `None` once the saves were changed by hand.
+    states: Option<BTreeMap<Vec<u8>, Vec<i64>>>,
+}
+
+impl Saved {
+    fn note_change(&mut self, change: &Call) {
+        if let Call::SetSaves { .. } = change {
+            self.states = None;
+        }
+    }
+
+    /// The state found after a return is that of the latest accepted save under that name (02, note 2).
+    fn note(&mut self, call: &Call, answer: &Answer, after: &Buffers) -> Option<(Place, String)> {
+        if matches!(call, Call::Open { .. }) && answer.number != 1 {
+            self.states = Some(BTreeMap::new());
+        }
+        let states = self.states.as_mut().filter(|_| answer.number == 0)?;
+        match call {
+            Call::Save { name, .. } => {
+                states.insert(name.clone(), after.state[..STATE].to_vec());
+            }
+            Call::Forget { name, .. } => {
+                states.remove(name);
+            }
+            Call::Return { name, .. } if states.get(name).map(Vec::as_slice) != Some(&after.state[..STATE]) => {
+                return Some((Place::State, "the state isn't that of the latest save".to_string()));
+            }
+            _ => {}
+        }
+        None
+    }
+}
+
 /// The first difference between two answers and the buffers left with them.
-fn differs(first: &Answer, left: &Buffers, second: &Answer, right: &Buffers) -> Option<(Place, String)> {
+fn differs(call: &Call, first: &Answer, left: &Buffers, second: &Answer, right: &Buffers) -> Option<(Place, String)> {
     if first != second {
         return Some((Place::Answer, format!("the answer is {first:?} and not {second:?}")));
     }
@@ -69,6 +116,7 @@ fn differs(first: &Answer, left: &Buffers, second: &Answer, right: &Buffers) -> 
         .or_else(|| part(Place::Listing, "listing", &left.listing, &right.listing))
         .or_else(|| part(Place::Report, "report", &left.report, &right.report))
         .or_else(|| part(Place::Model, "model", &left.model, &right.model))
+        .or_else(|| call.lends(Buffer::Saves).then(|| part(Place::Saves, "saves", &left.saves, &right.saves))?)
 }
 
 fn part<T: PartialEq + fmt::Display>(place: Place, name: &str, left: &[T], right: &[T]) -> Option<(Place, String)> {
@@ -84,7 +132,11 @@ fn part<T: PartialEq + fmt::Display>(place: Place, name: &str, left: &[T], right
 fn kept(call: &Call, lent: &Buffers, answer: &Answer, after: &Buffers) -> Option<(Place, String)> {
     let number = answer.number;
     let opening = matches!(call, Call::Open { .. });
-    let moves = number == 0 && matches!(call, Call::Step { .. });
+    let moves = number == 0 && matches!(call, Call::Step { .. } | Call::Return { .. });
+    let saves = number == 0 && matches!(call, Call::Save { .. } | Call::Forget { .. });
+    let lent_saves = call.lends(Buffer::Saves);
+    let saves_as_lent = lent_saves && !saves && (!opening || number == 1);
+    let forgets = opening && number != 1;
     let closes = opening && (2..=10).contains(&number);
     let model_as_lent = !opening || number == 1;
     let state_as_lent = !moves && (!opening || number == 1);
@@ -93,6 +145,9 @@ fn kept(call: &Call, lent: &Buffers, answer: &Answer, after: &Buffers) -> Option
         (state_as_lent && after.state != lent.state, Place::State, "changes the state"),
         (closes && !zero(&after.model[..MODEL]), Place::Model, "leaves a part of the model"),
         (closes && !zero(&after.state[..STATE]), Place::State, "leaves a part of the state"),
+        (saves_as_lent && after.saves != lent.saves, Place::Saves, "changes the saves"),
+        (forgets && !zero(&after.saves[..SAVES]), Place::Saves, "leaves a part of the saves"),
+        (lent_saves && after.saves[SAVES..] != lent.saves[SAVES..], Place::Saves, "writes past the saves"),
         (after.model[MODEL..] != lent.model[MODEL..], Place::Model, "writes past the model"),
         (after.state[STATE..] != lent.state[STATE..], Place::State, "writes past the state"),
     ];
@@ -105,7 +160,8 @@ fn kept(call: &Call, lent: &Buffers, answer: &Answer, after: &Buffers) -> Option
         .or_else(|| shown(matches!(call, Call::List { .. } | Call::Step { .. }), number, listing, Place::Listing))
         .or_else(|| shown(matches!(call, Call::Report { .. }), number, report, Place::Report))
         .or_else(|| unequal(call, answer, &after.report))?;
-    Some((place, format!("{what} with answer {number}")))
+    // Both do, if they don't differ.
+    Some((place, format!("an engine {what} with answer {number}")))
 }
 
 /// The same of a buffer that some calls fill: as it was lent, as it is after the call, its right length.

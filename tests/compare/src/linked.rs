@@ -3,7 +3,7 @@
 #![allow(unsafe_code)]
 
 use second::generate::Engine;
-use second::Answer;
+use second::{Answer, Opening};
 
 /// As `matgravel_answer` of the header.
 #[repr(C)]
@@ -24,6 +24,8 @@ extern "C" {
         model_len: usize,
         state: *mut i64,
         state_len: usize,
+        saves: *mut i64,
+        saves_len: usize,
     ) -> CAnswer;
     fn matgravel_list(
         model: *const u8,
@@ -50,6 +52,36 @@ extern "C" {
         report: *mut u64,
         report_len: usize,
     ) -> CAnswer;
+    fn matgravel_save(
+        model: *const u8,
+        model_len: usize,
+        state: *const i64,
+        state_len: usize,
+        saves: *mut i64,
+        saves_len: usize,
+        name: *const u8,
+        name_len: usize,
+    ) -> CAnswer;
+    fn matgravel_return(
+        model: *const u8,
+        model_len: usize,
+        state: *mut i64,
+        state_len: usize,
+        saves: *const i64,
+        saves_len: usize,
+        name: *const u8,
+        name_len: usize,
+    ) -> CAnswer;
+    fn matgravel_forget(
+        model: *const u8,
+        model_len: usize,
+        state: *const i64,
+        state_len: usize,
+        saves: *mut i64,
+        saves_len: usize,
+        name: *const u8,
+        name_len: usize,
+    ) -> CAnswer;
 }
 
 impl From<CAnswer> for Answer {
@@ -59,10 +91,20 @@ impl From<CAnswer> for Answer {
     }
 }
 
-pub fn open(text: &[u8], model: &mut [u8], state: &mut [i64]) -> Answer {
+pub fn open(text: &[u8], lent: Opening) -> Answer {
+    let Opening { model, state, saves } = lent;
     // The call keeps no pointer, and reads and writes within the lengths given.
     let answer = unsafe {
-        matgravel_open(text.as_ptr(), text.len(), model.as_mut_ptr(), model.len(), state.as_mut_ptr(), state.len())
+        matgravel_open(
+            text.as_ptr(),
+            text.len(),
+            model.as_mut_ptr(),
+            model.len(),
+            state.as_mut_ptr(),
+            state.len(),
+            saves.as_mut_ptr(),
+            saves.len(),
+        )
     };
     answer.into()
 }
@@ -99,5 +141,56 @@ pub fn report(model: &[u8], state: &[i64], report: &mut [u64]) -> Answer {
     answer.into()
 }
 
+pub fn save(model: &[u8], state: &[i64], saves: &mut [i64], name: &[u8]) -> Answer {
+    // As above; model, state and name are read only.
+    let answer = unsafe {
+        matgravel_save(
+            model.as_ptr(),
+            model.len(),
+            state.as_ptr(),
+            state.len(),
+            saves.as_mut_ptr(),
+            saves.len(),
+            name.as_ptr(),
+            name.len(),
+        )
+    };
+    answer.into()
+}
+
+pub fn return_to(model: &[u8], state: &mut [i64], saves: &[i64], name: &[u8]) -> Answer {
+    // As above; model, saves and name are read only.
+    let answer = unsafe {
+        matgravel_return(
+            model.as_ptr(),
+            model.len(),
+            state.as_mut_ptr(),
+            state.len(),
+            saves.as_ptr(),
+            saves.len(),
+            name.as_ptr(),
+            name.len(),
+        )
+    };
+    answer.into()
+}
+
+pub fn forget(model: &[u8], state: &[i64], saves: &mut [i64], name: &[u8]) -> Answer {
+    // As above; model, state and name are read only.
+    let answer = unsafe {
+        matgravel_forget(
+            model.as_ptr(),
+            model.len(),
+            state.as_ptr(),
+            state.len(),
+            saves.as_mut_ptr(),
+            saves.len(),
+            name.as_ptr(),
+            name.len(),
+        )
+    };
+    answer.into()
+}
+
 /// The library's engine.
-pub const ENGINE: Engine = Engine { open, list, step, report };
+pub const ENGINE: Engine = Engine { open, list, step, report, save, return_to, forget };

@@ -9,7 +9,7 @@ use second::state::{
     Channel, Item, Pair, DEFINITION, FIRST_PAIR, FIRST_PROCESS, FIRST_VALUE, PAIR, PAIRS, PROCESS, PROCESSES,
 };
 use second::syntax::ITEMS;
-use second::{model, script, MODEL, STATE};
+use second::{model, saves, script, MODEL, SAVES, STATE};
 
 /// How many lists the test runs, and how many calls it makes at least.
 pub const LISTS: u64 = 1_200;
@@ -21,13 +21,16 @@ const STEPS: usize = 40;
 const TEXT_START: usize = 2;
 
 /// The list of a seed: mostly random calls; every tenth goes through the limits, every fifth
-/// hands in states and model buffers directly, every tenth has long lists or many names.
+/// hands in states and model buffers directly, every tenth has long lists or many names, every
+/// tenth is of saves.
 pub fn of_seed(seed: u64) -> Vec<Call> {
     let mut random = Random::new(seed);
     match seed % 20 {
         9 | 19 => generate::edge_calls(&mut random),
         4 | 14 => handed_states(&mut random),
         8 | 18 => handed_models(&mut random),
+        2 => handed_saves(&mut random),
+        12 => generate::stored_calls(&mut random, 2 * STEPS),
         6 => {
             let which = (seed / 20) as usize % texts::LONG;
             let text = texts::long(&mut random, which);
@@ -54,6 +57,7 @@ fn opened_and_run(random: &mut Random, text: Vec<u8>, steps: usize) -> Vec<Call>
 /// Runs the specimens, then the lists of these seeds; `Err` says the first difference, shrunk,
 /// with its script.
 pub fn run(tried: &Engine, oracle: &Engine, seeds: std::ops::Range<u64>, met: &mut Met) -> Result<(), Report> {
+    model::keep_last();
     let report = |seed, difference| Report::new(seed, shrink::shrink(tried, oracle, difference));
     specimens::run(tried, oracle, met).map_err(|difference| report(None, difference))?;
     for seed in seeds {
@@ -293,6 +297,83 @@ fn listed_and_stepped(random: &mut Random, calls: &mut Vec<Call>, buffers: &mut 
     }
     for call in &calls[first..] {
         buffers.make(&SECOND, call);
+    }
+}
+
+// Saves handed in directly.
+
+/// Saves that no call left: states that fit the model and spoilt ones under names that are some or none, in any place.
+fn handed_saves(random: &mut Random) -> Vec<Call> {
+    let text = generate::lively(random);
+    let read = model::read(&text).expect("a lively text is legal");
+    let mut calls = vec![Call::Open { text, lengths: RIGHT }];
+    let mut buffers = Buffers::default();
+    buffers.make(&SECOND, &calls[0]);
+    for _ in 0..3 {
+        let mut held = vec![0; SAVES];
+        for place in held.chunks_mut(saves::PLACE) {
+            if random.chance(70) {
+                let name = random.pick(&generate::SAVE_NAMES).as_bytes();
+                place[..saves::NAME].copy_from_slice(&saves::pack(name));
+                let state = if random.chance(50) { vec![0; STATE] } else { small_state(random, &read) };
+                place[saves::NAME..].copy_from_slice(&state);
+            }
+        }
+        hand_in_saves(&mut calls, &mut buffers, &held);
+        stored(random, &mut calls, &mut buffers, 3);
+        for _ in 0..*random.pick(&[1, 1, 2]) {
+            let place = saves::PLACE * random.below(saves::PLACES);
+            spoil_save(random, &mut held[place..place + saves::PLACE]);
+        }
+        hand_in_saves(&mut calls, &mut buffers, &held);
+        stored(random, &mut calls, &mut buffers, 2);
+    }
+    calls
+}
+
+/// A state over the model with few processes and pairs.
+fn small_state(random: &mut Random, model: &model::Model) -> Vec<i64> {
+    loop {
+        let state = some_state(random, model);
+        if state[0] <= 5 && state[1] <= 5 {
+            return state;
+        }
+    }
+}
+
+/// Does one thing to a place of the saves that mostly makes it none.
+fn spoil_save(random: &mut Random, place: &mut [i64]) {
+    match random.below(8) {
+        0 => place[..saves::NAME].copy_from_slice(&[0; saves::NAME]),
+        1 => place[..saves::NAME].rotate_left(1),
+        // A byte of the name that is no letter, or a letter after an end.
+        2 | 3 => {
+            let byte = 8 * random.below(8);
+            let other = *random.pick(&[0, 1, 0x40, 0x5b, 0x60, 0x7b, 0xff, 0x61]);
+            let number = &mut place[random.below(saves::NAME)];
+            *number = (*number & !(0xff << byte)) | (other << byte);
+        }
+        4 => place[random.below(saves::NAME)] = *random.pick(&[-1, i64::MIN, i64::MAX, 1]),
+        _ => spoil(random, &mut place[saves::NAME..]),
+    }
+}
+
+/// Some saves, returns and forgets.
+fn stored(random: &mut Random, calls: &mut Vec<Call>, buffers: &mut Buffers, times: usize) {
+    for _ in 0..times {
+        let call = generate::some_stored(random);
+        buffers.make(&SECOND, &call);
+        calls.push(call);
+    }
+}
+
+/// The changes that make the saves hold these numbers.
+fn hand_in_saves(calls: &mut Vec<Call>, buffers: &mut Buffers, held: &[i64]) {
+    for (place, &number) in held.iter().enumerate() {
+        if buffers.saves[place] != number {
+            buffers.saves[place] = number;
+            calls.push(Call::SetSaves { place, number });
+        }
     }
 }
 

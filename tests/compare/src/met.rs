@@ -4,21 +4,25 @@ use second::generate::{Buffers, Call, Draw};
 use second::limits::{HIGHEST, LOWEST};
 use second::state::{FIRST_PAIR, FIRST_PROCESS, FIRST_VALUE, LOCALS, PAIR, PROCESS, VALUE_COUNT};
 use second::syntax::ITEMS;
-use second::{model, reader, tokens, Answer, MODEL};
+use second::{model, Answer, MODEL};
 use std::collections::{BTreeMap, BTreeSet};
 use std::fmt;
 
-/// The refusals of 01.
-pub const REFUSALS: std::ops::RangeInclusive<u64> = 1..=19;
 /// The kind of a wait, and those of the entries with a channel.
 const WAIT: u64 = 1;
 const CHANNEL_KINDS: std::ops::RangeInclusive<u64> = 2..=7;
 /// Numbers of a listing entry.
 const ENTRY: usize = 7;
-/// The four calls. Each must have been refused for its lengths.
-const CALLS: [&str; 4] = ["open", "list", "step", "report"];
-/// What a report must have answered besides.
-const REPORTS: [u64; 5] = [0, 11, 12, 13, 14];
+/// What each call must have answered.
+const ANSWERS: [(&str, &[u64]); 7] = [
+    ("open", &[0, 1, 2, 3, 4, 5, 6, 7, 8, 9, 10]),
+    ("list", &[0, 1, 11, 12, 13, 14]),
+    ("step", &[0, 1, 11, 12, 13, 14, 15, 16, 17, 18, 19]),
+    ("report", &[0, 1, 11, 12, 13, 14]),
+    ("save", &[0, 1, 11, 20, 22]),
+    ("return", &[0, 1, 11, 20, 21]),
+    ("forget", &[0, 1, 11, 20, 21]),
+];
 /// Draws at the ends, where there is a total.
 const DRAWS: [&str; 4] = ["0", "total - 1", "total", "the largest"];
 /// Numbers of a state that are values, and where such a number can stand: at an end of the range, or one past it.
@@ -85,22 +89,18 @@ impl Met {
         self.specimens.insert(name);
     }
 
-    /// What was never met: refusals, refused lengths of each call, answers of a report, kinds of steps, draws at the
-    /// ends, values at the ends, these specimens.
+    /// What was never met: answers of each call, kinds of steps, draws at the ends, values at the ends, these specimens.
     pub fn missing(&self, specimens: &[&'static str]) -> Vec<String> {
-        let refused = |number| self.answers.keys().any(|(_, met)| *met == number);
-        let refusals = REFUSALS.filter(|number| !refused(*number)).map(|number| format!("refusal {number}"));
-        let lengths = CALLS.iter().filter(|name| !self.answers.contains_key(&(**name, 1)));
-        let reports = REPORTS.iter().filter(|number| !self.answers.contains_key(&("report", **number)));
+        let answers = ANSWERS.iter().flat_map(|(name, numbers)| numbers.iter().map(move |number| (*name, *number)));
+        let answers = answers.filter(|answer| !self.answers.contains_key(answer));
         let kinds = CHANNEL_KINDS.flat_map(|kind| (1..=ITEMS).map(move |items| (kind, items)));
         let kinds = kinds.chain([(WAIT, 0)]).filter(|kind| !self.kinds.contains_key(kind));
         let draws = DRAWS.iter().filter(|name| !self.draws.contains_key(**name));
         let ends = VALUES.iter().flat_map(|what| ENDS.map(|(end, _)| (*what, end)));
         let ends = ends.filter(|end| !self.ends.contains_key(end));
         let specimens = specimens.iter().filter(|name| !self.specimens.contains(**name));
-        refusals
-            .chain(lengths.map(|name| format!("{name} with a wrong length")))
-            .chain(reports.map(|number| format!("report with {number}")))
+        answers
+            .map(|(name, number)| format!("{name} with {number}"))
             .chain(kinds.map(|(kind, items)| format!("a step of kind {kind} on {items} items")))
             .chain(draws.map(|name| format!("draw: {name}")))
             .chain(ends.map(|(what, end)| format!("{what} {end}")))
@@ -111,10 +111,9 @@ impl Met {
 
 /// How many items the channel of a listed entry has, 0 for a wait.
 fn items(entry: &[u64], lent: &Buffers) -> usize {
-    let text = model::held_text(&lent.model[..MODEL]).expect("a listed model has a text");
-    let tree = reader::read(&tokens::split(text), text.len()).expect("it fits the grammar");
+    let read = model::read_buffer(&lent.model[..MODEL]).expect("a listed model");
     let sum = lent.state[FIRST_PROCESS + PROCESS * entry[1] as usize] as usize;
-    tree.sums[sum].branches[entry[2] as usize].action.channel().len()
+    read.sums[sum].branches[entry[2] as usize].action.items()
 }
 
 /// The numbers of a state that are values, each with what it is. The counts may be any.
@@ -135,7 +134,7 @@ fn values(state: &[i64]) -> Vec<(&'static str, i64)> {
 impl fmt::Display for Met {
     fn fmt(&self, out: &mut fmt::Formatter) -> fmt::Result {
         writeln!(out, "{} calls", self.calls)?;
-        for name in CALLS {
+        for (name, _) in ANSWERS {
             let of_name = self.answers.iter().filter(|((call, _), _)| *call == name);
             let counts: Vec<String> = of_name.map(|((_, number), times)| format!("{number}:{times}")).collect();
             writeln!(out, "  {name} {}", counts.join(" "))?;

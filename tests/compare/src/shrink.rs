@@ -4,7 +4,7 @@ use crate::compare::{self, Difference};
 use crate::met::Met;
 use second::generate::{Buffers, Call, Draw, Engine, RIGHT};
 use second::tokens::{self, Kind};
-use second::{model, MODEL, STATE};
+use second::{model, MODEL, SAVES, STATE};
 
 /// How often a shorter list is tried, at most.
 const TRIES: usize = 60_000;
@@ -93,6 +93,8 @@ impl Shrinker<'_> {
         opened.make(self.oracle, &calls[0]);
         let changed = (0..STATE).filter(|&place| opened.state[place] != held.state[place]);
         calls.extend(changed.map(|place| Call::SetState { place, number: held.state[place] }));
+        let changed = (0..SAVES).filter(|&place| held.saves[place] != 0);
+        calls.extend(changed.map(|place| Call::SetSaves { place, number: held.saves[place] }));
         calls.push(last.clone());
         if calls.len() < self.best.made.len() {
             self.takes(&calls);
@@ -108,7 +110,7 @@ impl Shrinker<'_> {
         for text in SHORT {
             lists.extend((0..=STEPS).map(|steps| [vec![open(text)], vec![step.clone(); steps]].concat()));
         }
-        let changes = before.iter().filter(|call| matches!(call, Call::SetState { .. }));
+        let changes = before.iter().filter(|call| matches!(call, Call::SetState { .. } | Call::SetSaves { .. }));
         lists.extend(changes.map(|change| vec![open(CHANGED), change.clone()]));
         let last = last.clone();
         for mut calls in lists {
@@ -280,6 +282,7 @@ fn size(calls: &[Call]) -> usize {
     let size = |call: &Call| match call {
         Call::Open { text, .. } => 10 + text.len(),
         Call::Step { draw: Draw::Exactly(draw), .. } => 10 + draw.to_string().len(),
+        Call::Save { name, .. } | Call::Return { name, .. } | Call::Forget { name, .. } => 10 + name.len(),
         _ => 10,
     };
     calls.iter().map(size).sum()

@@ -3,7 +3,7 @@
 
 use compare::linked::ENGINE;
 use compare::with_stack;
-use second::{MODEL, STATE};
+use second::generate::Buffers;
 use std::collections::BTreeSet;
 use std::io::Write;
 use std::path::Path;
@@ -60,8 +60,7 @@ fn the_table_has_every_kind() {
 
 /// The number and the place with which the engine answers a text.
 fn opened(text: &[u8]) -> (u64, u64) {
-    let (mut model, mut state) = (vec![0; MODEL], vec![0; STATE]);
-    let answer = (ENGINE.open)(text, &mut model, &mut state);
+    let (_, answer) = Buffers::opened(&ENGINE, text);
     (answer.number, answer.place)
 }
 

@@ -8,7 +8,7 @@ use second::generate::{Engine, SECOND};
 use second::limits::HIGHEST;
 use second::script::{self, Form, Line};
 use second::state::{DEFINITION, FIRST_PAIR, FIRST_PROCESS, FIRST_VALUE, PAIR, PROCESS, VALUE_COUNT};
-use second::{list, open, report, step, Answer, LISTING};
+use second::{forget, list, open, report, return_to, save, saves, step, Answer, Opening, LISTING, SAVES};
 
 const ENTRY: usize = 7;
 
@@ -35,8 +35,8 @@ fn call(line: Line) -> Option<second::generate::Call> {
 
 #[test]
 fn a_place_of_a_refused_text_that_is_one_too_high() {
-    fn wrong(text: &[u8], model: &mut [u8], state: &mut [i64]) -> Answer {
-        let mut answer = open(text, model, state);
+    fn wrong(text: &[u8], lent: Opening) -> Answer {
+        let mut answer = open(text, lent);
         answer.place += u64::from(answer.number == 5);
         answer
     }
@@ -144,11 +144,11 @@ fn a_refused_listing_that_clears_what_was_lent() {
 
 #[test]
 fn a_refused_text_that_leaves_the_old_state() {
-    fn wrong(text: &[u8], model: &mut [u8], state: &mut [i64]) -> Answer {
-        let before = state.to_vec();
-        let answer = open(text, model, state);
+    fn wrong(text: &[u8], mut lent: Opening) -> Answer {
+        let before = lent.state.to_vec();
+        let answer = open(text, lent.again());
         if answer.number > 1 {
-            state.copy_from_slice(&before);
+            lent.state.copy_from_slice(&before);
         }
         answer
     }
@@ -157,12 +157,12 @@ fn a_refused_text_that_leaves_the_old_state() {
 
 #[test]
 fn an_opening_that_leaves_old_pairs() {
-    fn wrong(text: &[u8], model: &mut [u8], state: &mut [i64]) -> Answer {
-        let before = state.to_vec();
-        let answer = open(text, model, state);
+    fn wrong(text: &[u8], mut lent: Opening) -> Answer {
+        let before = lent.state.to_vec();
+        let answer = open(text, lent.again());
         if answer.number == 0 {
-            state[1] = before[1];
-            state[FIRST_PAIR..].copy_from_slice(&before[FIRST_PAIR..]);
+            lent.state[1] = before[1];
+            lent.state[FIRST_PAIR..].copy_from_slice(&before[FIRST_PAIR..]);
         }
         answer
     }
@@ -269,8 +269,8 @@ fn an_unused_item_that_is_not_judged() {
 
 #[test]
 fn a_fault_at_the_comma_of_what_begins_a_channel() {
-    fn wrong(text: &[u8], model: &mut [u8], state: &mut [i64]) -> Answer {
-        let mut answer = open(text, model, state);
+    fn wrong(text: &[u8], lent: Opening) -> Answer {
+        let mut answer = open(text, lent);
         let before = &text[..text.len().min(answer.place as usize)];
         let comma = before.iter().rposition(|byte| b"{,".contains(byte)).filter(|&place| before[place] == b',');
         if let (5, Some(b'}'), Some(comma)) = (answer.number, text.get(answer.place as usize), comma) {
@@ -327,4 +327,80 @@ fn a_nineteen_for_a_pair_already_lit() {
     }
     // A state with 256 pairs has many numbers.
     found(Engine { step: wrong, ..SECOND }, Place::Answer, 256 * PAIR + 50, 60_000);
+}
+
+#[test]
+fn a_refused_opening_that_keeps_the_saves() {
+    fn wrong(text: &[u8], mut lent: Opening) -> Answer {
+        let before = lent.saves.to_vec();
+        let answer = open(text, lent.again());
+        if answer.number > 1 {
+            lent.saves.copy_from_slice(&before);
+        }
+        answer
+    }
+    found(Engine { open: wrong, ..SECOND }, Place::Saves, 4, 80);
+}
+
+#[test]
+fn a_save_that_takes_a_free_place_for_a_known_name() {
+    fn wrong(model: &[u8], state: &[i64], places: &mut [i64], name: &[u8]) -> Answer {
+        let before = places.to_vec();
+        let answer = save(model, state, places, name);
+        let used = |place: &[i64]| place[0] != 0;
+        let known = before.chunks(saves::PLACE).position(|place| name.len() <= 16 && place[..2] == saves::pack(name));
+        let free = before.chunks(saves::PLACE).position(|place| !used(place));
+        if let (0, Some(known), Some(free)) = (answer.number, known, free) {
+            let kept = places[known * saves::PLACE..(known + 1) * saves::PLACE].to_vec();
+            places[free * saves::PLACE..(free + 1) * saves::PLACE].copy_from_slice(&kept);
+            places[known * saves::PLACE..(known + 1) * saves::PLACE].fill(0);
+        }
+        answer
+    }
+    found(Engine { save: wrong, ..SECOND }, Place::Saves, 3, 80);
+}
+
+#[test]
+fn a_forget_that_leaves_the_state() {
+    fn wrong(model: &[u8], state: &[i64], places: &mut [i64], name: &[u8]) -> Answer {
+        let before = places.to_vec();
+        let answer = forget(model, state, places, name);
+        if let Some(place) = (0..places.len()).step_by(saves::PLACE).find(|&place| before[place] != places[place]) {
+            places[place + 2..place + saves::PLACE].copy_from_slice(&before[place + 2..place + saves::PLACE]);
+        }
+        answer
+    }
+    found(Engine { forget: wrong, ..SECOND }, Place::Saves, 3, 80);
+}
+
+#[test]
+fn a_return_that_leaves_the_pairs() {
+    fn wrong(model: &[u8], state: &mut [i64], places: &[i64], name: &[u8]) -> Answer {
+        let before = state.to_vec();
+        let answer = return_to(model, state, places, name);
+        if answer.number == 0 {
+            state[1] = before[1];
+            state[FIRST_PAIR..].copy_from_slice(&before[FIRST_PAIR..]);
+        }
+        answer
+    }
+    found(Engine { return_to: wrong, ..SECOND }, Place::State, 6, 160);
+}
+
+#[test]
+fn a_name_twice_that_is_let_pass() {
+    fn wrong(model: &[u8], state: &[i64], places: &mut [i64], name: &[u8]) -> Answer {
+        let answer = save(model, state, places, name);
+        if answer.number != 11 {
+            return answer;
+        }
+        let mut once = places.to_vec();
+        for place in (saves::PLACE..SAVES).step_by(saves::PLACE) {
+            if (0..place).step_by(saves::PLACE).any(|first| places[first..first + 2] == places[place..place + 2]) {
+                once[place..place + saves::PLACE].fill(0);
+            }
+        }
+        Answer { number: save(model, state, &mut once, name).number, ..answer }
+    }
+    found(Engine { save: wrong, ..SECOND }, Place::Answer, 4, 120);
 }

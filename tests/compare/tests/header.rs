@@ -33,6 +33,7 @@ fn the_lengths_are_those_of_the_second_engine() {
         ("LISTING", second::LISTING),
         ("ENTRIES", second::LISTING / 7),
         ("REPORT", second::REPORT),
+        ("SAVES", second::SAVES),
     ];
     for (name, length) in lengths {
         let line = format!("#define MATGRAVEL_{name} {length}");

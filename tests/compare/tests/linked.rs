@@ -7,7 +7,7 @@ use compare::met::Met;
 use compare::{lists, specimens, texts, with_stack};
 use second::generate::{Buffers, SECOND};
 use second::script::{self, Form};
-use second::{LISTING, MODEL, REPORT, STATE};
+use second::{LISTING, MODEL, REPORT, SAVES, STATE};
 use std::path::{Path, PathBuf};
 use std::process::{Command, Stdio};
 
@@ -67,16 +67,16 @@ fn defined(name: &str) -> usize {
     line.and_then(|number| number.parse().ok()).expect("a number")
 }
 
-/// Opens, lists, reports and steps the longest texts on a thread with the stack that the header names. A
+/// Opens, lists, reports, saves and steps the longest texts on a thread with the stack that the header names. A
 /// call that needs more ends the test by a signal.
 #[test]
 fn the_stack_that_the_header_names_is_enough() {
     for which in 0..texts::LONG {
         let calls = move || {
             let text = texts::longest(which);
-            let mut buffers = Buffers::default();
+            let (mut buffers, opened) = Buffers::opened(&ENGINE, &text);
             let (model, state) = (&mut buffers.model[..MODEL], &mut buffers.state[..STATE]);
-            let opened = (ENGINE.open)(&text, model, state);
+            let saves = &mut buffers.saves[..SAVES];
             // The text in the buffer, though it may be none that opens.
             model[..2].copy_from_slice(&(text.len() as u16).to_le_bytes());
             model[2..2 + text.len()].copy_from_slice(&text);
@@ -84,6 +84,10 @@ fn the_stack_that_the_header_names_is_enough() {
             let listed = (ENGINE.list)(model, state, listing);
             let reported = (ENGINE.report)(model, state, &mut buffers.report[..REPORT]);
             assert_eq!(reported, listed);
+            let saved = (ENGINE.save)(model, state, saves, b"a");
+            let returned = (ENGINE.return_to)(model, state, saves, b"a");
+            let forgotten = (ENGINE.forget)(model, state, saves, b"a");
+            assert!([saved, returned, forgotten].iter().all(|answer| [0, 11].contains(&answer.number)));
             let stepped = (ENGINE.step)(model, state, listing, 0);
             [opened, listed, stepped].map(|answer| answer.number)
         };

@@ -1,27 +1,53 @@
-//! The four calls.
+//! The calls.
 
 use crate::eval;
 use crate::listing::{self, Entry, Kind, Listing, Offer, Offers};
 use crate::model::{self, Item, Model};
+use crate::saves::{self, Save, Saves};
 use crate::state::{self, Process, State};
-use crate::{Answer, LISTING, MODEL, REPORT, STATE};
+use crate::{Answer, LISTING, MODEL, REPORT, SAVES, STATE};
+use std::rc::Rc;
+
+/// What an opening is lent besides the text. It zeroes or fills all of it (decision A3).
+pub struct Opening<'a> {
+    pub model: &'a mut [u8],
+    pub state: &'a mut [i64],
+    pub saves: &'a mut [i64],
+}
+
+impl Opening<'_> {
+    /// The same, lent on.
+    pub fn again(&mut self) -> Opening<'_> {
+        Opening { model: self.model, state: self.state, saves: self.saves }
+    }
+
+    fn fits(&self) -> bool {
+        self.model.len() == MODEL && self.state.len() == STATE && self.saves.len() == SAVES
+    }
+
+    /// Makes it a fresh engine, which holds no model and has forgotten all saves.
+    fn clear(&mut self) {
+        self.model.fill(0);
+        self.state.fill(0);
+        self.saves.fill(0);
+    }
+}
 
 /// Reads a text. Questions 1 to 10.
-pub fn open(text: &[u8], model: &mut [u8], state: &mut [i64]) -> Answer {
-    if model.len() != MODEL || state.len() != STATE {
+pub fn open(text: &[u8], mut lent: Opening) -> Answer {
+    if !lent.fits() {
         return Answer::refusal(1);
     }
+    lent.clear();
     let refusal = match model::read(text) {
         Ok(read) if state::processes_at_start(&read) <= state::PROCESSES => {
-            model::write_buffer(text, model);
-            state::write_buffer(&read, &state::start(&read), state);
+            model::write_buffer(text, lent.model);
+            state::write_buffer(&read, &state::start(&read), lent.state);
             return Answer::default();
         }
         Ok(read) => model::Refused { number: 10, place: read.system_start },
         Err(refused) => refused,
     };
-    model.fill(0);
-    state.fill(0);
     Answer { place: refusal.place as u64, ..Answer::refusal(refusal.number) }
 }
 
@@ -63,9 +89,79 @@ pub fn step(model: &[u8], state: &mut [i64], listing: &mut [u64], draw: u64) -> 
     }
 }
 
+/// Stores the state under a name. Questions 1, 11, 20 and 22.
+pub fn save(model: &[u8], state: &[i64], saves: &mut [i64], name: &[u8]) -> Answer {
+    let mut stored = match stored(model, state, saves, name) {
+        Err(refusal) => return refusal,
+        Ok(stored) => stored,
+    };
+    let Some(place) = stored.saves.place(name).or(stored.saves.first_empty()) else {
+        return Answer::refusal(22);
+    };
+    stored.saves.places[place] = Some(Save { name: name.to_vec(), state: stored.state });
+    stored.saves.write_buffer(&stored.model, saves);
+    Answer::default()
+}
+
+/// Makes the state that is saved under a name the present one. Questions 1, 11, 20 and 21.
+pub fn return_to(model: &[u8], state: &mut [i64], saves: &[i64], name: &[u8]) -> Answer {
+    let stored = match stored(model, state, saves, name) {
+        Err(refusal) => return refusal,
+        Ok(stored) => stored,
+    };
+    match stored.saves.find(name) {
+        None => Answer::refusal(21),
+        Some(save) => {
+            state::write_buffer(&stored.model, &save.state, state);
+            Answer::default()
+        }
+    }
+}
+
+/// Frees the place of a name. Questions 1, 11, 20 and 21.
+pub fn forget(model: &[u8], state: &[i64], saves: &mut [i64], name: &[u8]) -> Answer {
+    let mut stored = match stored(model, state, saves, name) {
+        Err(refusal) => return refusal,
+        Ok(stored) => stored,
+    };
+    match stored.saves.place(name) {
+        None => Answer::refusal(21),
+        Some(place) => {
+            stored.saves.places[place] = None;
+            stored.saves.write_buffer(&stored.model, saves);
+            Answer::default()
+        }
+    }
+}
+
+/// What a save, a return or a forget finds.
+struct Stored {
+    model: Rc<Model>,
+    state: State,
+    saves: Saves,
+}
+
+/// Questions 1, 11 and 20 of a save, a return or a forget.
+fn stored(model: &[u8], state: &[i64], saves: &[i64], name: &[u8]) -> Result<Stored, Answer> {
+    if model.len() != MODEL || state.len() != STATE || saves.len() != SAVES {
+        return Err(Answer::refusal(1));
+    }
+    let held = || {
+        let model = model::read_buffer(model)?;
+        let state = state::read_buffer(&model, state)?;
+        let saves = Saves::read_buffer(&model, saves)?;
+        Some(Stored { model, state, saves })
+    };
+    let stored = held().ok_or(Answer::refusal(11))?;
+    if !saves::is_name(name) {
+        return Err(Answer::refusal(20));
+    }
+    Ok(stored)
+}
+
 /// A model, a state and its listing.
 struct Present {
-    model: Model,
+    model: Rc<Model>,
     state: State,
     offers: Offers,
     listing: Listing,

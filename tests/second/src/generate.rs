@@ -5,10 +5,13 @@
 
 use crate::limits::{HIGHEST, LOWEST};
 use crate::model;
-use crate::state::{Channel, Item, Pair, FIRST_PAIR, FIRST_PROCESS, PAIR, PROCESS};
+use crate::saves;
+use crate::state::{FIRST_PAIR, FIRST_PROCESS, PAIR, PROCESS};
 use crate::syntax::ITEMS;
 use crate::tokens::{self, Kind};
-use crate::{Answer, LISTING, MODEL, REPORT, STATE};
+use crate::{LISTING, MODEL, REPORT, SAVES, STATE};
+
+pub use crate::calls::{Buffer, Buffers, Call, Draw, Engine, Lengths, RIGHT, SECOND, SPARE};
 
 // Random numbers.
 
@@ -994,199 +997,6 @@ fn damage_tokens(random: &mut Random, text: &[u8]) -> Vec<u8> {
 
 // Lists of calls.
 
-/// Lengths of what is lent. Those of buffers that a call isn't lent are the right ones.
-#[derive(Clone, Copy, Debug, PartialEq, Eq)]
-pub struct Lengths {
-    pub model: usize,
-    pub state: usize,
-    pub listing: usize,
-    pub report: usize,
-}
-
-pub const RIGHT: Lengths = Lengths { model: MODEL, state: STATE, listing: LISTING, report: REPORT };
-
-/// A draw, given by what it is to the total.
-#[derive(Clone, Copy, Debug, PartialEq, Eq)]
-pub enum Draw {
-    Exactly(u64),
-    /// This number divided by the total: the rest.
-    Inside(u64),
-    /// The total less 1.
-    Last,
-    Total,
-}
-
-#[derive(Clone, Debug)]
-pub enum Call {
-    Open {
-        text: Vec<u8>,
-        lengths: Lengths,
-    },
-    List {
-        lengths: Lengths,
-    },
-    Step {
-        lengths: Lengths,
-        draw: Draw,
-    },
-    Report {
-        lengths: Lengths,
-    },
-    // Changes of the buffers between calls.
-    SetState {
-        place: usize,
-        number: i64,
-    },
-    SetModel {
-        place: usize,
-        byte: u8,
-    },
-    /// The pairs of number channel 5 with one value from `first` on.
-    Light {
-        count: usize,
-        first: i64,
-    },
-    /// This many copies of the first process.
-    Crowd {
-        count: usize,
-    },
-    /// Listing and report hold this number everywhere.
-    Fill {
-        number: u64,
-    },
-}
-
-impl Call {
-    /// What is lent. `None`: it is no call but a change of the buffers.
-    pub fn lengths(&self) -> Option<&Lengths> {
-        match self {
-            Call::Open { lengths, .. }
-            | Call::List { lengths }
-            | Call::Step { lengths, .. }
-            | Call::Report { lengths } => Some(lengths),
-            _ => None,
-        }
-    }
-
-    pub fn name(&self) -> &'static str {
-        match self {
-            Call::Open { .. } => "open",
-            Call::List { .. } => "list",
-            Call::Step { .. } => "step",
-            Call::Report { .. } => "report",
-            _ => "change",
-        }
-    }
-}
-
-/// An engine to make calls on.
-#[derive(Clone, Copy)]
-pub struct Engine {
-    pub open: fn(&[u8], &mut [u8], &mut [i64]) -> Answer,
-    pub list: fn(&[u8], &[i64], &mut [u64]) -> Answer,
-    pub step: fn(&[u8], &mut [i64], &mut [u64], u64) -> Answer,
-    pub report: fn(&[u8], &[i64], &mut [u64]) -> Answer,
-}
-
-/// This crate's engine.
-pub const SECOND: Engine = Engine { open: crate::open, list: crate::list, step: crate::step, report: crate::report };
-
-/// How much longer the longest lent buffer may be than it should.
-pub const SPARE: usize = 8;
-
-/// The buffers, with some numbers to spare for calls that lend too much.
-#[derive(Clone, PartialEq, Eq)]
-pub struct Buffers {
-    pub model: Vec<u8>,
-    pub state: Vec<i64>,
-    pub listing: Vec<u64>,
-    pub report: Vec<u64>,
-}
-
-impl Default for Buffers {
-    fn default() -> Self {
-        Buffers {
-            model: vec![0; MODEL + SPARE],
-            state: vec![0; STATE + SPARE],
-            listing: vec![0; LISTING + SPARE],
-            report: vec![0; REPORT + SPARE],
-        }
-    }
-}
-
-impl Buffers {
-    /// Makes a call, or a change, which has no answer.
-    pub fn make(&mut self, engine: &Engine, call: &Call) -> Option<Answer> {
-        match call {
-            Call::Open { text, lengths } => {
-                let model = &mut self.model[..lengths.model];
-                return Some((engine.open)(text, model, &mut self.state[..lengths.state]));
-            }
-            Call::List { lengths } => {
-                let (model, state) = (&self.model[..lengths.model], &self.state[..lengths.state]);
-                return Some((engine.list)(model, state, &mut self.listing[..lengths.listing]));
-            }
-            Call::Step { lengths, draw } => {
-                let draw = self.draw(*draw);
-                let (model, state) = (&self.model[..lengths.model], &mut self.state[..lengths.state]);
-                return Some((engine.step)(model, state, &mut self.listing[..lengths.listing], draw));
-            }
-            Call::Report { lengths } => {
-                let (model, state) = (&self.model[..lengths.model], &self.state[..lengths.state]);
-                return Some((engine.report)(model, state, &mut self.report[..lengths.report]));
-            }
-            Call::SetState { place, number } => self.state[*place] = *number,
-            Call::SetModel { place, byte } => self.model[*place] = *byte,
-            Call::Light { count, first } => {
-                self.state[1] = *count as i64;
-                let pairs = &mut self.state[FIRST_PAIR..STATE];
-                pairs.fill(0);
-                let channel = Channel::new(&[Item { kind: 0, number: 5 }]);
-                for (number, pair) in pairs.chunks_mut(PAIR).take(*count).enumerate() {
-                    pair.copy_from_slice(&Pair::new(channel, &[first + number as i64]).numbers());
-                }
-            }
-            Call::Crowd { count } => {
-                self.state[0] = *count as i64;
-                let first = self.state[FIRST_PROCESS..FIRST_PROCESS + PROCESS].to_vec();
-                let processes = &mut self.state[FIRST_PROCESS..FIRST_PAIR];
-                processes.fill(0);
-                for process in processes.chunks_mut(PROCESS).take(*count) {
-                    process.copy_from_slice(&first);
-                }
-            }
-            Call::Fill { number } => {
-                self.listing.fill(*number);
-                self.report.fill(*number);
-            }
-        }
-        None
-    }
-
-    /// The call with its draw as a number.
-    pub fn exact(&self, call: &Call) -> Call {
-        match call {
-            Call::Step { lengths, draw } => Call::Step { lengths: *lengths, draw: Draw::Exactly(self.draw(*draw)) },
-            _ => call.clone(),
-        }
-    }
-
-    /// The number that a draw stands for in the present state, by this crate's listing.
-    pub fn draw(&self, draw: Draw) -> u64 {
-        if let Draw::Exactly(number) = draw {
-            return number;
-        }
-        let mut listing = vec![0; LISTING];
-        let total = crate::list(&self.model[..MODEL], &self.state[..STATE], &mut listing).total;
-        match draw {
-            Draw::Exactly(number) => number,
-            Draw::Inside(number) => number % total.max(1),
-            Draw::Last => total.saturating_sub(1),
-            Draw::Total => total,
-        }
-    }
-}
-
 fn some_draw(random: &mut Random) -> Draw {
     match random.below(40) {
         0 | 1 => Draw::Exactly(0),
@@ -1198,10 +1008,10 @@ fn some_draw(random: &mut Random) -> Draw {
     }
 }
 
-/// Mostly the right lengths.
-fn some_lengths(random: &mut Random) -> Lengths {
+/// The call, which mostly lends what it should.
+fn lent(random: &mut Random, call: Call) -> Call {
     if !random.chance(2) {
-        return RIGHT;
+        return call;
     }
     let mut wrong = |right: usize| match random.below(8) {
         0 => 0,
@@ -1210,27 +1020,56 @@ fn some_lengths(random: &mut Random) -> Lengths {
         3 => random.below(right + SPARE + 1),
         _ => right,
     };
-    Lengths { model: wrong(MODEL), state: wrong(STATE), listing: wrong(LISTING), report: wrong(REPORT) }
-}
-
-// Calls that mostly lend what they should.
-
-fn some_open(random: &mut Random, text: Vec<u8>) -> Call {
-    let lengths = Lengths { listing: LISTING, report: REPORT, ..some_lengths(random) };
-    Call::Open { text, lengths }
-}
-
-fn some_list(random: &mut Random) -> Call {
-    Call::List { lengths: Lengths { report: REPORT, ..some_lengths(random) } }
+    call.with(Lengths {
+        model: wrong(MODEL),
+        state: wrong(STATE),
+        listing: wrong(LISTING),
+        report: wrong(REPORT),
+        saves: wrong(SAVES),
+    })
 }
 
 fn some_step(random: &mut Random) -> Call {
-    let lengths = Lengths { report: REPORT, ..some_lengths(random) };
-    Call::Step { lengths, draw: some_draw(random) }
+    let draw = some_draw(random);
+    lent(random, Call::Step { lengths: RIGHT, draw })
 }
 
-fn some_report(random: &mut Random) -> Call {
-    Call::Report { lengths: Lengths { listing: LISTING, ..some_lengths(random) } }
+const LIST: Call = Call::List { lengths: RIGHT };
+const REPORTED: Call = Call::Report { lengths: RIGHT };
+
+/// Names of saves, more than there may be.
+pub const SAVE_NAMES: [&str; 10] =
+    ["a", "b", "A", "stage", "Stage", "abcdefgh", "abcdefghi", "abcdefghijklmnop", "abcdefghijklmnoq", "Z"];
+
+/// Mostly a name of a save that may be known; some are of another form.
+pub fn some_name(random: &mut Random) -> Vec<u8> {
+    match random.below(30) {
+        0 => Vec::new(),
+        1 => b"abcdefghijklmnopq".to_vec(),
+        2 => random.pick(&[&b"a1"[..], b"_", b"a b", b"a\0", b"@", b"[", b"`", b"{", b"\xc3\xa4", b"abc "]).to_vec(),
+        3 => {
+            let length = random.below(20);
+            (0..length).map(|_| *random.pick(b"azAZaz")).collect()
+        }
+        4 => {
+            let length = random.below(20);
+            // A line of a script ends at a newline.
+            (0..length).map(|_| random.number() as u8).filter(|&byte| byte != b'\n').collect()
+        }
+        5..=14 => random.pick(&SAVE_NAMES[..3]).as_bytes().to_vec(),
+        _ => random.pick(&SAVE_NAMES).as_bytes().to_vec(),
+    }
+}
+
+/// A save, a return or a forget.
+pub fn some_stored(random: &mut Random) -> Call {
+    let (lengths, name) = (RIGHT, some_name(random));
+    let call = match random.below(10) {
+        0..=4 => Call::Save { lengths, name },
+        5..=7 => Call::Return { lengths, name },
+        _ => Call::Forget { lengths, name },
+    };
+    lent(random, call)
 }
 
 /// Any text: lively, near a limit, or either of them damaged.
@@ -1248,7 +1087,8 @@ pub fn some_text(random: &mut Random) -> Vec<u8> {
 
 /// A change of the buffers that often spoils them.
 fn some_change(random: &mut Random) -> Call {
-    match random.below(12) {
+    match random.below(13) {
+        12 => some_change_of_saves(random),
         0..=5 => {
             let place = match random.below(6) {
                 0 => random.below(2),
@@ -1286,15 +1126,54 @@ fn some_change(random: &mut Random) -> Call {
     }
 }
 
+/// A number of a save, or a name, changed.
+fn some_change_of_saves(random: &mut Random) -> Call {
+    let start = saves::PLACE * random.below(saves::PLACES);
+    let packed = saves::pack(random.pick(&SAVE_NAMES).as_bytes());
+    let number = *random.pick(&[0, 1, -1, 256, 257, i64::MAX, i64::MIN, packed[0], packed[1], packed[0] << 8]);
+    let offset = match random.below(4) {
+        0 => random.below(saves::NAME),
+        1 => saves::NAME + random.below(2),
+        2 => saves::NAME + FIRST_PROCESS + random.below(PROCESS),
+        _ => random.below(saves::PLACE),
+    };
+    Call::SetSaves { place: start + offset, number }
+}
+
 /// A list of calls on texts near each limit in turn.
 pub fn edge_calls(random: &mut Random) -> Vec<Call> {
     let mut calls = Vec::new();
     for which in 0..EDGES {
         calls.push(Call::Open { text: edge_of_kind(random, which), lengths: RIGHT });
-        calls.push(Call::List { lengths: RIGHT });
-        calls.push(Call::Report { lengths: RIGHT });
+        calls.extend([LIST, REPORTED]);
         for _ in 0..4 {
             calls.push(Call::Step { lengths: RIGHT, draw: some_draw(random) });
+        }
+    }
+    calls
+}
+
+/// A list of calls that saves, returns and forgets more often than it steps, here and there with spoilt saves.
+pub fn stored_calls(random: &mut Random, most: usize) -> Vec<Call> {
+    let mut calls = Vec::new();
+    for _ in 0..1 + random.below(2) {
+        let text = if random.chance(90) { lively(random) } else { some_text(random) };
+        calls.push(lent(random, Call::Open { text, lengths: RIGHT }));
+        for _ in 0..random.below(most + 1) {
+            match random.below(20) {
+                0 => {
+                    let change = some_change_of_saves(random);
+                    let Call::SetSaves { place, .. } = change else { continue };
+                    calls.extend([change, some_stored(random), some_stored(random)]);
+                    // Mostly an empty place again, or no save at all.
+                    if random.chance(80) {
+                        calls.push(Call::SetSaves { place, number: 0 });
+                    }
+                }
+                1..=6 => calls.push(some_step(random)),
+                7 => calls.push(lent(random, LIST)),
+                _ => calls.push(some_stored(random)),
+            }
         }
     }
     calls
@@ -1306,13 +1185,13 @@ pub fn calls(random: &mut Random, most_steps: usize) -> Vec<Call> {
     let mut calls = Vec::new();
     // Before any text is open.
     if random.chance(10) {
-        calls.extend([some_list(random), some_step(random), some_report(random)]);
+        calls.extend([lent(random, LIST), some_step(random), lent(random, REPORTED), some_stored(random)]);
     }
     for _ in 0..1 + random.below(3) {
         let text = some_text(random);
         // Few calls on an engine that a refused text has closed.
         let steps = if model::read(&text).is_ok() { most_steps } else { 2 };
-        calls.push(some_open(random, text));
+        calls.push(lent(random, Call::Open { text, lengths: RIGHT }));
         let mut left = random.below(steps + 1);
         while left > 0 {
             left -= 1;
@@ -1320,13 +1199,14 @@ pub fn calls(random: &mut Random, most_steps: usize) -> Vec<Call> {
                 0 => {
                     let change = some_change(random);
                     // Few calls on buffers that may be spoilt.
-                    if let Call::SetState { .. } | Call::SetModel { .. } = change {
+                    if let Call::SetState { .. } | Call::SetModel { .. } | Call::SetSaves { .. } = change {
                         left = left.min(4);
                     }
                     calls.push(change);
                 }
-                1..=3 => calls.push(some_list(random)),
-                4 | 5 => calls.push(some_report(random)),
+                1..=3 => calls.push(lent(random, LIST)),
+                4 | 5 => calls.push(lent(random, REPORTED)),
+                6..=9 => calls.push(some_stored(random)),
                 _ => calls.push(some_step(random)),
             }
         }

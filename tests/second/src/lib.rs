@@ -1,10 +1,11 @@
 //! A second engine for the Beacon Calculus, written from 01 (the scope paper), 02 (its changes)
 //! and the decisions on their open points alone. It is slow and plain on purpose: it is there to be compared with.
 //!
-//! Each call reads the model's text anew from the model buffer.
+//! Each call reads the model's text anew from the model buffer, unless `model::keep_last` was called.
 
 #![forbid(unsafe_code)]
 
+pub mod calls;
 pub mod engine;
 pub mod eval;
 pub mod generate;
@@ -13,13 +14,14 @@ pub mod listing;
 pub mod model;
 pub mod names;
 pub mod reader;
+pub mod saves;
 pub mod script;
 pub mod sheet;
 pub mod state;
 pub mod syntax;
 pub mod tokens;
 
-pub use engine::{list, open, report, step};
+pub use engine::{forget, list, open, report, return_to, save, step, Opening};
 
 /// Length of the model buffer in bytes: the text's length (2 bytes, the low one first), the text,
 /// zeros.
@@ -30,7 +32,10 @@ pub const STATE: usize = 5_122;
 pub const LISTING: usize = 7_168;
 /// Length of the report buffer in unsigned 64-bit numbers: one for each definition there may be.
 pub const REPORT: usize = 64;
+/// Length of the saves buffer in signed 64-bit numbers: eight places of a name in two numbers and a state.
+pub const SAVES: usize = 40_992;
 
+const _: () = assert!(saves::BUFFER == SAVES);
 const _: () = assert!(model::BUFFER == MODEL && state::BUFFER == STATE);
 const _: () = assert!(listing::BUFFER == LISTING && limits::DEFINITIONS == REPORT);
 

@@ -6,6 +6,8 @@ use crate::names::{scope_after, Meaning, Names};
 use crate::reader;
 use crate::syntax::{self, ProductSign, RelationSign, SetSign, SumSign};
 use crate::tokens::{self, Kind, TokenId};
+use std::cell::{Cell, RefCell};
+use std::rc::Rc;
 
 /// Bytes of the longest text.
 pub const TEXT: usize = 16_384;
@@ -73,6 +75,21 @@ pub enum Action {
     HandshakeSend(Channel, Vec<Expression>),
     /// With true, the values are bound to names.
     HandshakeReceive(Channel, Vec<Set>, bool),
+}
+
+impl Action {
+    /// How many items its channel has; none of a wait.
+    pub fn items(&self) -> usize {
+        match self {
+            Action::Wait => 0,
+            Action::Launch(channel, _)
+            | Action::Kill(channel, _)
+            | Action::Receive(channel, _, _)
+            | Action::Check(channel, _)
+            | Action::HandshakeSend(channel, _)
+            | Action::HandshakeReceive(channel, _, _) => channel.len(),
+        }
+    }
 }
 
 /// One to three items.
@@ -153,8 +170,33 @@ pub struct Refused {
     pub place: usize,
 }
 
+thread_local! {
+    /// With `keep_last`, the text read last and what was read.
+    static LAST: RefCell<Option<(Vec<u8>, Result<Rc<Model>, Refused>)>> = const { RefCell::new(None) };
+    static KEEPS: Cell<bool> = const { Cell::new(false) };
+}
+
+/// From now on this thread doesn't read a text again that it read last: a comparison makes many calls on one text.
+pub fn keep_last() {
+    KEEPS.set(true);
+}
+
 /// Asks questions 2 to 9 of a text.
-pub fn read(text: &[u8]) -> Result<Model, Refused> {
+pub fn read(text: &[u8]) -> Result<Rc<Model>, Refused> {
+    if !KEEPS.get() {
+        return read_anew(text).map(Rc::new);
+    }
+    LAST.with_borrow_mut(|last| match last {
+        Some((kept, read)) if kept == text => read.clone(),
+        _ => {
+            let read = read_anew(text).map(Rc::new);
+            *last = Some((text.to_vec(), read.clone()));
+            read
+        }
+    })
+}
+
+fn read_anew(text: &[u8]) -> Result<Model, Refused> {
     let refuse = |number, place| Err(Refused { number, place });
     if text.len() > TEXT {
         return refuse(2, TEXT);
@@ -200,7 +242,7 @@ pub fn write_buffer(text: &[u8], buffer: &mut [u8]) {
 
 /// The model that a buffer holds, if it holds one: it holds a text, and questions 2 to 9 have the
 /// answer yes for it.
-pub fn read_buffer(buffer: &[u8]) -> Option<Model> {
+pub fn read_buffer(buffer: &[u8]) -> Option<Rc<Model>> {
     read(held_text(buffer)?).ok()
 }
 

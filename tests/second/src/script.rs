@@ -1,6 +1,7 @@
 //! Lists of calls as scripts for the program `calls`, and what that program prints for one.
 //!
-//! A script has lines `open N` (N bytes and a newline follow), `list`, `step D`, `report` and `state`.
+//! A script has lines `open N` (N bytes and a newline follow), `list`, `step D`, `report`, `save NAME`,
+//! `return NAME`, `forget NAME` (all bytes of the line after the blank) and `state`.
 //! Every line ends with a newline, words stand one blank apart, numbers are digits alone. A line of
 //! another form, or an opening without its N bytes, ends the run with `bad` and its number, which
 //! counts every newline before it, those of texts too.
@@ -9,7 +10,7 @@
 //! lines that begin with `!`. They are read where `Form::Marked` is asked for.
 
 use crate::generate::{Buffers, Call, Draw, Engine, Lengths, RIGHT, SPARE};
-use crate::{Answer, LISTING, MODEL, REPORT, STATE};
+use crate::{Answer, LISTING, MODEL, REPORT, SAVES, STATE};
 use std::fmt::Write;
 
 /// Numbers of a listing entry.
@@ -55,6 +56,11 @@ fn line(call: &Call) -> Vec<u8> {
         Call::Step { lengths, draw: Draw::Exactly(draw) } => format!("{}step {draw}\n", lengths_line(lengths)),
         Call::Step { .. } => unreachable!("a draw that isn't a number"),
         Call::Report { lengths } => format!("{}report\n", lengths_line(lengths)),
+        Call::Save { lengths, name } | Call::Return { lengths, name } | Call::Forget { lengths, name } => {
+            let head = format!("{}{} ", lengths_line(lengths), call.name());
+            return [head.as_bytes(), name, b"\n"].concat();
+        }
+        Call::SetSaves { place, number } => format!("! saves {place} {number}\n"),
         Call::SetState { place, number } => format!("! state {place} {number}\n"),
         Call::SetModel { place, byte } => format!("! model {place} {byte}\n"),
         Call::Light { count, first } => format!("! light {count} {first}\n"),
@@ -69,7 +75,8 @@ fn lengths_line(lengths: &Lengths) -> String {
     if *lengths == RIGHT {
         return String::new();
     }
-    format!("! lengths {} {} {} {}\n", lengths.model, lengths.state, lengths.listing, lengths.report)
+    let Lengths { model, state, listing, report, saves } = lengths;
+    format!("! lengths {model} {state} {listing} {report} {saves}\n")
 }
 
 /// Reads a script, up to the first line of another form: the lines before it, and its number
@@ -112,16 +119,21 @@ impl Reader<'_> {
 
     /// What the next line asks for: nothing if it gives lengths. `None`: it has another form.
     fn next(&mut self) -> Option<Option<Line>> {
-        let line = String::from_utf8(self.bytes(None)?).ok()?;
+        let line = self.bytes(None)?;
+        if let Some(call) = named(&line, self.lengths) {
+            self.lengths = RIGHT;
+            return Some(Some(Line::Call(call)));
+        }
+        let line = String::from_utf8(line).ok()?;
         let words: Vec<&str> = line.split(' ').collect();
         if words[0] == "!" && self.form == Form::Plain {
             return None;
         }
         let lengths = self.lengths;
-        if let ["!", "lengths", model, state, listing, report] = words[..] {
+        if let ["!", "lengths", model, state, listing, report, saves] = words[..] {
             let (model, state) = (length(model, MODEL)?, length(state, STATE)?);
             let (listing, report) = (length(listing, LISTING)?, length(report, REPORT)?);
-            self.lengths = Lengths { model, state, listing, report };
+            self.lengths = Lengths { model, state, listing, report, saves: length(saves, SAVES)? };
             return Some(None);
         }
         self.lengths = RIGHT;
@@ -130,6 +142,18 @@ impl Reader<'_> {
             return Some(Some(Line::Call(Call::Open { text, lengths })));
         }
         short_line(&words, lengths).map(Some)
+    }
+}
+
+/// A line whose call is lent a name: all bytes after the first blank, to the line's end.
+fn named(line: &[u8], lengths: Lengths) -> Option<Call> {
+    let blank = line.iter().position(|&byte| byte == b' ')?;
+    let name = line[blank + 1..].to_vec();
+    match &line[..blank] {
+        b"save" => Some(Call::Save { lengths, name }),
+        b"return" => Some(Call::Return { lengths, name }),
+        b"forget" => Some(Call::Forget { lengths, name }),
+        _ => None,
     }
 }
 
@@ -142,6 +166,7 @@ fn short_line(words: &[&str], lengths: Lengths) -> Option<Line> {
         ["report"] => Call::Report { lengths },
         ["!", "state", place, number] => Call::SetState { place: length(place, STATE)?, number: number.parse().ok()? },
         ["!", "model", place, byte] => Call::SetModel { place: length(place, MODEL)?, byte: whole(byte)? },
+        ["!", "saves", place, number] => Call::SetSaves { place: length(place, SAVES)?, number: number.parse().ok()? },
         ["!", "light", count, first] => Call::Light { count: whole(count)?, first: first.parse().ok()? },
         ["!", "crowd", count] => Call::Crowd { count: whole(count)? },
         ["!", "fill", number] => Call::Fill { number: whole(number)? },

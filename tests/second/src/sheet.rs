@@ -1,6 +1,7 @@
 //! The bench sheet: what the program `enabled` of 01 prints.
 
-use crate::{list, open, Answer, LISTING, MODEL, STATE};
+use crate::calls::{Buffers, SECOND};
+use crate::{list, Answer, LISTING, MODEL, STATE};
 
 /// How many bytes a program reads of a model: one past the limit is enough to refuse.
 pub const READ: u64 = 16_385;
@@ -9,14 +10,12 @@ pub const HEADER: &str = "kind,place,branch,partner,pbranch,pair,weight";
 
 /// The sheet of a text.
 pub fn sheet(text: &[u8]) -> String {
-    let mut model = vec![0; MODEL];
-    let mut state = vec![0; STATE];
-    let mut listing = vec![0; LISTING];
-    let opened = open(text, &mut model, &mut state);
+    let (buffers, opened) = Buffers::opened(&SECOND, text);
     if opened.number != 0 {
         return refusal(&opened);
     }
-    let listed = list(&model, &state, &mut listing);
+    let mut listing = vec![0; LISTING];
+    let listed = list(&buffers.model[..MODEL], &buffers.state[..STATE], &mut listing);
     if listed.number != 0 {
         return refusal(&listed);
     }

@@ -113,6 +113,32 @@ fn calls_prints_a_state() {
 }
 
 #[test]
+fn calls_saves_returns_and_forgets() {
+    let text = "A[n]={a,1}.A[n+1];A[0];";
+    let script = format!(
+        "save a\nopen {}\n{text}\nsave a\nstep 0\nsave bc\nstate\nreturn a\nstate\nreturn bc\nstate\n\
+         forget a\nreturn a\nforget a\nsave \nsave a b\nsave a1\nsave \u{e4}\nreturn bc \nlist\nsave\n",
+        text.len()
+    );
+    let printed = calls(&script);
+    let lines: Vec<&str> = printed.lines().map(|line| &line[..line.len().min(16)]).collect();
+    let (start, later) = ("1 0 0 0 0 0 0 0 ", "1 0 0 1 0 0 0 0 ");
+    let [done, unknown, form] = ["0 0 0 0 0 0", "21 0 0 0 0 0", "20 0 0 0 0 0"];
+    let expected = [
+        &["11 0 0 0 0 0", done, done, "0 0 0 1 10000000", "  1 0 0 0 0 0 10", done, later, done, start, done, later][..],
+        &[done, unknown, unknown, form, form, form, form, form, "0 0 0 1 10000000", "  1 0 0 0 0 0 10", "bad,21"],
+    ];
+    assert_eq!(lines, expected.concat());
+    for line in ["saves a\n", "return\n", "forget\n", " save a\n", "save\ta\n", "save a"] {
+        assert_eq!(calls(line), "bad,1\n", "{line:?}");
+    }
+    // Nine names.
+    let names = "abcdefghi".chars().map(|name| format!("save {name}\n")).collect::<String>();
+    let printed = calls(&format!("open {}\n{text}\n{names}save h\n", text.len()));
+    assert_eq!(printed, format!("{}22 0 0 0 0 0\n0 0 0 0 0 0\n", "0 0 0 0 0 0\n".repeat(9)));
+}
+
+#[test]
 fn a_line_of_another_form_ends_the_run() {
     let cases: [(&str, &str); 16] = [
         ("list\nlists\nlist\n", "11 0 0 0 0 0\nbad,2\n"),

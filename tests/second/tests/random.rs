@@ -4,7 +4,7 @@
 
 use second::generate::*;
 use second::state::{DEFINITION, FIRST_PROCESS, PROCESS};
-use second::{model, state, Answer, LISTING, MODEL, REPORT, STATE};
+use second::{model, saves, state, Answer, LISTING, MODEL, REPORT, SAVES, STATE};
 use std::collections::BTreeMap;
 
 /// How many seeds to try: the number given, unless the environment has SEEDS.
@@ -46,6 +46,9 @@ fn check(call: &Call, before: &Buffers, answer: &Answer, after: &Buffers) {
             assert!(before.state == after.state || number == 0);
             check_shown(call, before, answer, after);
         }
+        Call::Save { name, .. } | Call::Return { name, .. } | Call::Forget { name, .. } => {
+            check_stored(call, name, before, answer, after);
+        }
         _ => unreachable!("changes have no answer"),
     }
 }
@@ -54,6 +57,7 @@ fn check_opening(text: &[u8], before: &Buffers, answer: &Answer, after: &Buffers
     assert!(answer.number <= 10);
     assert_eq!((answer.count, answer.total, answer.chosen), (0, 0, 0));
     assert!(before.listing == after.listing && before.report == after.report);
+    assert!(all_zero(&after.saves[..SAVES]));
     if answer.number > 1 {
         assert!(answer.place as usize <= text.len());
         assert!(after.model[..MODEL].iter().all(|&byte| byte == 0));
@@ -63,6 +67,38 @@ fn check_opening(text: &[u8], before: &Buffers, answer: &Answer, after: &Buffers
         assert!(holds_a_state(after));
         assert_eq!(&after.model[2..2 + text.len()], text);
     }
+}
+
+/// A save, a return or a forget whose buffers have their lengths.
+fn check_stored(call: &Call, name: &[u8], before: &Buffers, answer: &Answer, after: &Buffers) {
+    assert_eq!(*answer, Answer::refusal(answer.number));
+    let (returns, saves) = (matches!(call, Call::Return { .. }), matches!(call, Call::Save { .. }));
+    assert!(before.model == after.model && before.listing == after.listing && before.report == after.report);
+    assert!(before.state == after.state || (answer.number == 0 && returns));
+    assert!(before.saves == after.saves || (answer.number == 0 && !returns));
+    let known = |buffers: &Buffers| held_state(buffers, name).is_some();
+    match answer.number {
+        0 => {
+            assert!(saves || known(before));
+            assert_eq!(known(after), !matches!(call, Call::Forget { .. }));
+            if saves {
+                assert_eq!(held_state(after, name), Some(after.state[..STATE].to_vec()));
+            } else if returns {
+                assert_eq!(held_state(before, name), Some(after.state[..STATE].to_vec()));
+            }
+        }
+        20 => assert!(name.is_empty() || name.len() > 16 || !name.iter().all(u8::is_ascii_alphabetic)),
+        21 => assert!(!saves && !known(before)),
+        22 => assert!(saves && !known(before) && (0..8).all(|place| before.saves[place * saves::PLACE] != 0)),
+        number => assert_eq!(number, 11),
+    }
+}
+
+/// The state's numbers under a name, read off the buffer.
+fn held_state(buffers: &Buffers, name: &[u8]) -> Option<Vec<i64>> {
+    let mut places = buffers.saves[..SAVES].chunks(saves::PLACE);
+    let place = places.find(|place| name.len() <= 16 && !name.is_empty() && place[..2] == saves::pack(name))?;
+    Some(place[2..].to_vec())
 }
 
 /// A list, step or report whose buffers have their lengths: the listing, or of a report the report, is filled, zeroed
@@ -149,12 +185,17 @@ fn calls_of_all_kinds() {
     let mut met: BTreeMap<(&str, u64), usize> = BTreeMap::new();
     let mut numbers: BTreeMap<u64, usize> = BTreeMap::new();
     let mut kinds = [0usize; 8];
+    model::keep_last();
     for seed in 0..seeds(300) {
         let _named = Named(seed);
         let mut random = Random::new(seed);
         let mut buffers = Buffers::default();
-        // Every tenth list goes through all limits.
-        let list = if seed % 10 == 9 { edge_calls(&mut random) } else { calls(&mut random, 40) };
+        // Every tenth list goes through all limits, every tenth is mostly of saves.
+        let list = match seed % 10 {
+            9 => edge_calls(&mut random),
+            8 => stored_calls(&mut random, 60),
+            _ => calls(&mut random, 40),
+        };
         for call in list {
             let before = buffers.clone();
             let name = call.name();
@@ -173,11 +214,18 @@ fn calls_of_all_kinds() {
         println!("  {name} {number}: {times}");
     }
     println!("kinds of accepted steps: {:?}", &kinds[1..]);
-    for number in 0..=19 {
+    for number in 0..=22 {
         assert!(numbers.contains_key(&number), "{number} is never met");
     }
     for number in [0, 1, 11, 12, 13, 14] {
         assert!(met.contains_key(&("report", number)), "report {number} is never met");
+    }
+    for (name, numbers) in
+        [("save", [0, 1, 11, 20, 22]), ("return", [0, 1, 11, 20, 21]), ("forget", [0, 1, 11, 20, 21])]
+    {
+        for number in numbers {
+            assert!(met.contains_key(&(name, number)), "{name} {number} is never met");
+        }
     }
     assert!(kinds[1..].iter().all(|&times| times > 0));
 }

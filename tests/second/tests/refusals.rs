@@ -5,20 +5,22 @@ mod common;
 
 use common::*;
 use second::state::{FIRST_PAIR, FIRST_PROCESS, PROCESS};
-use second::{Answer, LISTING, MODEL, STATE};
+use second::{Answer, Opening, LISTING, MODEL, SAVES, STATE};
 
 const PLAIN: &str = "A[]={go,1};A[];";
 
 #[test]
 fn one() {
     let text = PLAIN.as_bytes();
-    for (model, state) in [(MODEL - 1, STATE), (MODEL + 1, STATE), (MODEL, STATE - 1), (MODEL, STATE + 1), (0, 0)] {
-        let (mut model, mut state) = (vec![7; model], vec![-7; state]);
+    for lengths in wrong_lengths(SAVES) {
+        let (mut model, mut state, mut saves) = (vec![7; lengths.0], vec![-7; lengths.1], vec![-77; lengths.2]);
         // Before question 2, too.
         for text in [text, &[0; 20_000]] {
-            assert_eq!(second::open(text, &mut model, &mut state), Answer::refusal(1));
+            let lent = Opening { model: &mut model, state: &mut state, saves: &mut saves };
+            assert_eq!(second::open(text, lent), Answer::refusal(1));
         }
         assert!(model.iter().all(|&byte| byte == 7) && state.iter().all(|&number| number == -7));
+        assert!(saves.iter().all(|&number| number == -77));
     }
     for lengths in wrong_lengths(LISTING) {
         let (model, mut state, mut listing) = (vec![7; lengths.0], vec![-7; lengths.1], vec![77; lengths.2]);

@@ -3,13 +3,15 @@
 #![allow(dead_code)]
 
 use second::state::{DEFINITION, FIRST_PAIR, FIRST_PROCESS, PAIR, PROCESS, VALUE_COUNT};
-use second::{Answer, LISTING, MODEL, REPORT, STATE};
+use second::{Answer, Opening, LISTING, MODEL, REPORT, SAVES, STATE};
 
+#[derive(Clone, PartialEq, Eq)]
 pub struct Bench {
     pub model: Vec<u8>,
     pub state: Vec<i64>,
     pub listing: Vec<u64>,
     pub report: Vec<u64>,
+    pub saves: Vec<i64>,
 }
 
 pub type Entry = [u64; 7];
@@ -19,12 +21,24 @@ pub type Short = [i64; 5];
 
 impl Bench {
     pub fn new() -> Bench {
-        Bench { model: vec![0; MODEL], state: vec![0; STATE], listing: vec![0; LISTING], report: vec![0; REPORT] }
+        Bench {
+            model: vec![0; MODEL],
+            state: vec![0; STATE],
+            listing: vec![0; LISTING],
+            report: vec![0; REPORT],
+            saves: vec![0; SAVES],
+        }
     }
 
     /// Buffers full of rubbish, to see what a call leaves alone.
     pub fn dirty() -> Bench {
-        Bench { model: vec![7; MODEL], state: vec![-7; STATE], listing: vec![77; LISTING], report: vec![777; REPORT] }
+        Bench {
+            model: vec![7; MODEL],
+            state: vec![-7; STATE],
+            listing: vec![77; LISTING],
+            report: vec![777; REPORT],
+            saves: vec![-77; SAVES],
+        }
     }
 
     /// An accepted text.
@@ -35,7 +49,23 @@ impl Bench {
     }
 
     pub fn open(&mut self, text: &str) -> Answer {
-        second::open(text.as_bytes(), &mut self.model, &mut self.state)
+        self.open_bytes(text.as_bytes())
+    }
+
+    pub fn open_bytes(&mut self, text: &[u8]) -> Answer {
+        second::open(text, Opening { model: &mut self.model, state: &mut self.state, saves: &mut self.saves })
+    }
+
+    pub fn save(&mut self, name: &str) -> Answer {
+        second::save(&self.model, &self.state, &mut self.saves, name.as_bytes())
+    }
+
+    pub fn return_to(&mut self, name: &str) -> Answer {
+        second::return_to(&self.model, &mut self.state, &self.saves, name.as_bytes())
+    }
+
+    pub fn forget(&mut self, name: &str) -> Answer {
+        second::forget(&self.model, &self.state, &mut self.saves, name.as_bytes())
     }
 
     pub fn list(&mut self) -> Answer {
@@ -157,7 +187,8 @@ pub fn wrong_lengths(third: usize) -> [(usize, usize, usize); 7] {
 /// Number and place of the answer to a text. A refused text leaves zeroed buffers.
 pub fn answer_to(text: &[u8]) -> (u64, u64) {
     let mut bench = Bench::dirty();
-    let answer = second::open(text, &mut bench.model, &mut bench.state);
+    let answer = bench.open_bytes(text);
+    assert!(bench.saves.iter().all(|&number| number == 0));
     assert_eq!((answer.branch, answer.count, answer.total, answer.chosen), (0, 0, 0, 0));
     if answer.number != 0 {
         assert!(bench.model.iter().all(|&byte| byte == 0));

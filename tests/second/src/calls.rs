@@ -1,0 +1,293 @@
+//! Lists of calls: what a call asks for, the calls of any engine, and the buffers they are made on.
+
+use crate::state::{Channel, Item, Pair, FIRST_PAIR, FIRST_PROCESS, PAIR, PROCESS};
+use crate::{Answer, Opening, LISTING, MODEL, REPORT, SAVES, STATE};
+
+/// The lent buffers that have a length they should have.
+#[derive(Clone, Copy, Debug, PartialEq, Eq)]
+pub enum Buffer {
+    Model,
+    State,
+    Listing,
+    Report,
+    Saves,
+}
+
+/// Lengths of what is lent. Those of buffers that a call isn't lent are the right ones.
+#[derive(Clone, Copy, Debug, PartialEq, Eq)]
+pub struct Lengths {
+    pub model: usize,
+    pub state: usize,
+    pub listing: usize,
+    pub report: usize,
+    pub saves: usize,
+}
+
+pub const RIGHT: Lengths = Lengths { model: MODEL, state: STATE, listing: LISTING, report: REPORT, saves: SAVES };
+
+/// A draw, given by what it is to the total.
+#[derive(Clone, Copy, Debug, PartialEq, Eq)]
+pub enum Draw {
+    Exactly(u64),
+    /// This number divided by the total: the rest.
+    Inside(u64),
+    /// The total less 1.
+    Last,
+    Total,
+}
+
+#[derive(Clone, Debug)]
+pub enum Call {
+    Open {
+        text: Vec<u8>,
+        lengths: Lengths,
+    },
+    List {
+        lengths: Lengths,
+    },
+    Step {
+        lengths: Lengths,
+        draw: Draw,
+    },
+    Report {
+        lengths: Lengths,
+    },
+    Save {
+        lengths: Lengths,
+        name: Vec<u8>,
+    },
+    Return {
+        lengths: Lengths,
+        name: Vec<u8>,
+    },
+    Forget {
+        lengths: Lengths,
+        name: Vec<u8>,
+    },
+    // Changes of the buffers between calls.
+    SetState {
+        place: usize,
+        number: i64,
+    },
+    SetModel {
+        place: usize,
+        byte: u8,
+    },
+    SetSaves {
+        place: usize,
+        number: i64,
+    },
+    /// The pairs of number channel 5 with one value from `first` on.
+    Light {
+        count: usize,
+        first: i64,
+    },
+    /// This many copies of the first process.
+    Crowd {
+        count: usize,
+    },
+    /// Listing and report hold this number everywhere.
+    Fill {
+        number: u64,
+    },
+}
+
+impl Call {
+    /// What is lent. `None`: it is no call but a change of the buffers.
+    pub fn lengths(&self) -> Option<&Lengths> {
+        match self {
+            Call::Open { lengths, .. }
+            | Call::List { lengths }
+            | Call::Step { lengths, .. }
+            | Call::Report { lengths }
+            | Call::Save { lengths, .. }
+            | Call::Return { lengths, .. }
+            | Call::Forget { lengths, .. } => Some(lengths),
+            _ => None,
+        }
+    }
+
+    /// Is the call lent this buffer? A change of the buffers is lent none.
+    pub fn lends(&self, buffer: Buffer) -> bool {
+        let third = match self {
+            Call::List { .. } | Call::Step { .. } => Buffer::Listing,
+            Call::Report { .. } => Buffer::Report,
+            Call::Open { .. } | Call::Save { .. } | Call::Return { .. } | Call::Forget { .. } => Buffer::Saves,
+            _ => return false,
+        };
+        [Buffer::Model, Buffer::State, third].contains(&buffer)
+    }
+
+    /// The call with these lengths, but the right ones for buffers that it isn't lent.
+    pub fn with(mut self, lent: Lengths) -> Call {
+        let of = |buffer, lent, right| if self.lends(buffer) { lent } else { right };
+        let trimmed = Lengths {
+            model: of(Buffer::Model, lent.model, MODEL),
+            state: of(Buffer::State, lent.state, STATE),
+            listing: of(Buffer::Listing, lent.listing, LISTING),
+            report: of(Buffer::Report, lent.report, REPORT),
+            saves: of(Buffer::Saves, lent.saves, SAVES),
+        };
+        match &mut self {
+            Call::Open { lengths, .. }
+            | Call::List { lengths }
+            | Call::Step { lengths, .. }
+            | Call::Report { lengths }
+            | Call::Save { lengths, .. }
+            | Call::Return { lengths, .. }
+            | Call::Forget { lengths, .. } => *lengths = trimmed,
+            _ => {}
+        }
+        self
+    }
+
+    pub fn name(&self) -> &'static str {
+        match self {
+            Call::Open { .. } => "open",
+            Call::List { .. } => "list",
+            Call::Step { .. } => "step",
+            Call::Report { .. } => "report",
+            Call::Save { .. } => "save",
+            Call::Return { .. } => "return",
+            Call::Forget { .. } => "forget",
+            _ => "change",
+        }
+    }
+}
+
+/// An engine to make calls on.
+#[derive(Clone, Copy)]
+pub struct Engine {
+    pub open: fn(&[u8], Opening) -> Answer,
+    pub list: fn(&[u8], &[i64], &mut [u64]) -> Answer,
+    pub step: fn(&[u8], &mut [i64], &mut [u64], u64) -> Answer,
+    pub report: fn(&[u8], &[i64], &mut [u64]) -> Answer,
+    pub save: fn(&[u8], &[i64], &mut [i64], &[u8]) -> Answer,
+    pub return_to: fn(&[u8], &mut [i64], &[i64], &[u8]) -> Answer,
+    pub forget: fn(&[u8], &[i64], &mut [i64], &[u8]) -> Answer,
+}
+
+/// This crate's engine.
+pub const SECOND: Engine = Engine {
+    open: crate::open,
+    list: crate::list,
+    step: crate::step,
+    report: crate::report,
+    save: crate::save,
+    return_to: crate::return_to,
+    forget: crate::forget,
+};
+
+/// How much longer the longest lent buffer may be than it should.
+pub const SPARE: usize = 8;
+
+/// The buffers, with some numbers to spare for calls that lend too much.
+#[derive(Clone, PartialEq, Eq)]
+pub struct Buffers {
+    pub model: Vec<u8>,
+    pub state: Vec<i64>,
+    pub listing: Vec<u64>,
+    pub report: Vec<u64>,
+    pub saves: Vec<i64>,
+}
+
+impl Default for Buffers {
+    fn default() -> Self {
+        Buffers {
+            model: vec![0; MODEL + SPARE],
+            state: vec![0; STATE + SPARE],
+            listing: vec![0; LISTING + SPARE],
+            report: vec![0; REPORT + SPARE],
+            saves: vec![0; SAVES + SPARE],
+        }
+    }
+}
+
+impl Buffers {
+    /// Makes a call, or a change, which has no answer.
+    pub fn make(&mut self, engine: &Engine, call: &Call) -> Option<Answer> {
+        let Some(lengths) = call.lengths() else {
+            self.change(call);
+            return None;
+        };
+        let draw = match call {
+            Call::Step { draw, .. } => self.draw(*draw),
+            _ => 0,
+        };
+        let (model, state) = (&mut self.model[..lengths.model], &mut self.state[..lengths.state]);
+        let (listing, report) = (&mut self.listing[..lengths.listing], &mut self.report[..lengths.report]);
+        let saves = &mut self.saves[..lengths.saves];
+        Some(match call {
+            Call::Open { text, .. } => (engine.open)(text, Opening { model, state, saves }),
+            Call::List { .. } => (engine.list)(model, state, listing),
+            Call::Step { .. } => (engine.step)(model, state, listing, draw),
+            Call::Report { .. } => (engine.report)(model, state, report),
+            Call::Save { name, .. } => (engine.save)(model, state, saves, name),
+            Call::Return { name, .. } => (engine.return_to)(model, state, saves, name),
+            Call::Forget { name, .. } => (engine.forget)(model, state, saves, name),
+            _ => return None,
+        })
+    }
+
+    /// Fresh buffers with this text opened in them, and the answer.
+    pub fn opened(engine: &Engine, text: &[u8]) -> (Buffers, Answer) {
+        let mut buffers = Buffers::default();
+        let answer = buffers.make(engine, &Call::Open { text: text.to_vec(), lengths: RIGHT });
+        (buffers, answer.expect("an opening answers"))
+    }
+
+    /// Changes the buffers between calls.
+    fn change(&mut self, change: &Call) {
+        match change {
+            Call::SetState { place, number } => self.state[*place] = *number,
+            Call::SetModel { place, byte } => self.model[*place] = *byte,
+            Call::SetSaves { place, number } => self.saves[*place] = *number,
+            Call::Light { count, first } => {
+                self.state[1] = *count as i64;
+                let pairs = &mut self.state[FIRST_PAIR..STATE];
+                pairs.fill(0);
+                let channel = Channel::new(&[Item { kind: 0, number: 5 }]);
+                for (number, pair) in pairs.chunks_mut(PAIR).take(*count).enumerate() {
+                    pair.copy_from_slice(&Pair::new(channel, &[first + number as i64]).numbers());
+                }
+            }
+            Call::Crowd { count } => {
+                self.state[0] = *count as i64;
+                let first = self.state[FIRST_PROCESS..FIRST_PROCESS + PROCESS].to_vec();
+                let processes = &mut self.state[FIRST_PROCESS..FIRST_PAIR];
+                processes.fill(0);
+                for process in processes.chunks_mut(PROCESS).take(*count) {
+                    process.copy_from_slice(&first);
+                }
+            }
+            Call::Fill { number } => {
+                self.listing.fill(*number);
+                self.report.fill(*number);
+            }
+            _ => {}
+        }
+    }
+
+    /// The call with its draw as a number.
+    pub fn exact(&self, call: &Call) -> Call {
+        match call {
+            Call::Step { lengths, draw } => Call::Step { lengths: *lengths, draw: Draw::Exactly(self.draw(*draw)) },
+            _ => call.clone(),
+        }
+    }
+
+    /// The number that a draw stands for in the present state, by this crate's listing.
+    pub fn draw(&self, draw: Draw) -> u64 {
+        if let Draw::Exactly(number) = draw {
+            return number;
+        }
+        let mut listing = vec![0; LISTING];
+        let total = crate::list(&self.model[..MODEL], &self.state[..STATE], &mut listing).total;
+        match draw {
+            Draw::Exactly(number) => number,
+            Draw::Inside(number) => number % total.max(1),
+            Draw::Last => total.saturating_sub(1),
+            Draw::Total => total,
+        }
+    }
+}

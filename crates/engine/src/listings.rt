@@ -14,17 +14,6 @@ ghost use Rattle.buffers.specs.Effect.{requested};
 ghost use Rattle.engine.specs.Gives.{Gives};
 ghost use Rattle.engine.specs.Tables.{Tables, answerOf, Finds};
 
-pub struct Rows;
-
-impl Rows {
-    // Branches of all processes, and the numbers of an offer beside its head.
-    pub const MOST: usize = 4096;
-
-    pub const NUMBERS: usize = Rows::MOST * offers::Table::NUMBERS;
-
-    pub const BUCKETS: usize = 256;
-}
-
 // The answer that a listing gives.
 pub fn listed_answer(listed: Listed) -> Answer
     ensures { λ r. ⌜ r ≡ answerOf listed ⌝ }
@@ -53,21 +42,7 @@ pub fn list_state(
     if !state::is_state(state, scopes, sums, channels) {
         return Listed::Refused(11, 0, 0);
     }
-    let mut heads = [0u64; Rows::MOST];
-    let mut numbers = [0i64; Rows::NUMBERS];
-    let mut firsts = [0u16; Rows::BUCKETS];
-    let mut nexts = [0u16; Rows::MOST];
-    listing::list_all(
-        nodes,
-        roots,
-        scopes,
-        state,
-        &mut heads,
-        &mut numbers,
-        &mut firsts,
-        &mut nexts,
-        listing,
-    )
+    listing::list_here(nodes, roots, scopes, state, listing)
 }
 
 // Lists over the tables of a model.

@@ -30,30 +30,18 @@ returns c =
     let Z = now (c .before .before .before .before .before .before .args .state) in
     closed (machine-closed T R S n k m h Z (sym (c .before .is-state .ensures) ∙ refused _ (c .if1 .taken))) refl refl
 
-slice-aggregate-list-all : tie.Need-slice-aggregate-list-all
-slice-aggregate-list-all c = search needs
-
-slice-aggregate-list-all-2 : tie.Need-slice-aggregate-list-all-2
-slice-aggregate-list-all-2 c = search needs
-
-slice-aggregate-list-all-3 : tie.Need-slice-aggregate-list-all-3
-slice-aggregate-list-all-3 c = search needs
-
-slice-aggregate-list-all-4 : tie.Need-slice-aggregate-list-all-4
-slice-aggregate-list-all-4 c = search needs
-
-list-all-requires : tie.Need-list-all-requires
-list-all-requires c κs =
-    let T = now (c .before .before .before .before .before .before .before .before .before .before .before .args .nodes) in
-    let R = now (c .before .before .before .before .before .before .before .before .before .before .before .args .roots) in
-    let S = now (c .before .before .before .before .before .before .before .before .before .before .before .args .scopes) in
-    let n = c .before .before .before .before .before .before .before .before .before .before .before .args .sums in
-    let k = c .before .before .before .before .before .before .before .before .before .before .before .args .channels in
-    let Z = now (c .before .before .before .before .before .before .before .before .before .before .before .args .state) in
-    let m = c .before .before .before .before .before .before .before .before .before .before .before .pre .0 .0 in
-    let h = c .before .before .before .before .before .before .before .before .before .before .before .pre .0 .1 in
-    let e = sym (c .before .before .before .before .before .before .is-state .ensures) ∙ passed _ (c .before .before .before .before .before .if1 .left) in
-    ((m, stateOf T R S n k m h Z, world T R S n k m h Z (c .before .before .before .before .before .before .before .before .before .before .before .pre .1) e), refl, refl, refl, refl, c .before .before .before .before .before .before .before .before .before .before .before .pre .2)
+list-here-requires : tie.Need-list-here-requires
+list-here-requires c κs =
+    let T = now (c .before .before .before .before .before .before .before .args .nodes) in
+    let R = now (c .before .before .before .before .before .before .before .args .roots) in
+    let S = now (c .before .before .before .before .before .before .before .args .scopes) in
+    let n = c .before .before .before .before .before .before .before .args .sums in
+    let k = c .before .before .before .before .before .before .before .args .channels in
+    let Z = now (c .before .before .before .before .before .before .before .args .state) in
+    let m = c .before .before .before .before .before .before .before .pre .0 .0 in
+    let h = c .before .before .before .before .before .before .before .pre .0 .1 in
+    let e = sym (c .before .before .is-state .ensures) ∙ passed _ (c .before .if1 .left) in
+    ((m, stateOf T R S n k m h Z, world T R S n k m h Z (c .before .before .before .before .before .before .before .pre .1) e), c .before .before .before .before .before .before .before .pre .2)
 
 same-length : tie.Need-same-length
 same-length c = search needs
@@ -61,15 +49,15 @@ same-length c = search needs
 returns-2 : tie.Need-returns-2
 returns-2 c =
     λ m h.
-    let T = now (c .before .before .before .before .before .before .before .before .before .before .before .before .before .before .before .before .before .before .args .nodes) in
-    let R = now (c .before .before .before .before .before .before .before .before .before .before .before .before .before .before .before .before .before .before .args .roots) in
-    let S = now (c .before .before .before .before .before .before .before .before .before .before .before .before .before .before .before .before .before .before .args .scopes) in
-    let n = c .before .before .before .before .before .before .before .before .before .before .before .before .before .before .before .before .before .before .args .sums in
-    let k = c .before .before .before .before .before .before .before .before .before .before .before .before .before .before .before .before .before .before .args .channels in
-    let Z = now (c .before .before .before .before .before .before .before .before .before .before .before .before .before .before .before .before .before .before .args .state) in
-    let l = c .before .before .before .before .before .before .before .before .before .before .before .before .before .before .before .before .before .before .pre .1 in
-    let e = sym (c .before .before .before .before .before .before .before .before .before .before .before .before .before .is-state .ensures) ∙ passed _ (c .before .before .before .before .before .before .before .before .before .before .before .before .if1 .left) in
-    holding (machine-is T R S n k m h Z l e) (state-good T R S n k m h Z l e) (sym (numbers-back T R S n k m h Z l e)) (c .before .before .before .before .before .before .list-all .ensures m (stateOf T R S n k m h Z) (world T R S n k m h Z l e))
+    let T = now (c .before .before .before .before .before .before .before .before .before .before .args .nodes) in
+    let R = now (c .before .before .before .before .before .before .before .before .before .before .args .roots) in
+    let S = now (c .before .before .before .before .before .before .before .before .before .before .args .scopes) in
+    let n = c .before .before .before .before .before .before .before .before .before .before .args .sums in
+    let k = c .before .before .before .before .before .before .before .before .before .before .args .channels in
+    let Z = now (c .before .before .before .before .before .before .before .before .before .before .args .state) in
+    let l = c .before .before .before .before .before .before .before .before .before .before .pre .1 in
+    let e = sym (c .before .before .before .before .before .is-state .ensures) ∙ passed _ (c .before .before .before .before .if1 .left) in
+    holding (machine-is T R S n k m h Z l e) (state-good T R S n k m h Z l e) (sym (numbers-back T R S n k m h Z l e)) (c .before .before .list-here .ensures m (stateOf T R S n k m h Z) (world T R S n k m h Z l e))
 
 pub list-state-spec : {M : Type 1} → statement M
 list-state-spec =
@@ -77,10 +65,6 @@ list-state-spec =
     (tie.spec
     is-state-requires
     returns
-    slice-aggregate-list-all
-    slice-aggregate-list-all-2
-    slice-aggregate-list-all-3
-    slice-aggregate-list-all-4
-    list-all-requires
+    list-here-requires
     same-length
     returns-2)

@@ -22,3 +22,4 @@ pub mod Sheet
 pub mod Starred
 pub mod Carries
 pub mod Report
+pub mod Independent

@@ -10,3 +10,4 @@ pub mod Rows
 pub mod Refusals
 pub mod Starred
 pub mod Results
+pub mod Independent

@@ -17,3 +17,6 @@ pub mod Launched
 pub mod Killed
 pub mod Inside
 pub mod Subtotals
+pub mod Rewritten
+pub mod Independent
+pub mod Counted

@@ -8,3 +8,5 @@ pub mod Draw
 pub mod Subtotals
 pub mod Step
 pub mod Specimens
+pub mod Carried
+pub mod Carries

@@ -1,0 +1,93 @@
+-- Over every state that calls reach, two entries that share no process, neither a launch nor a kill, lead to the same state in either order where both orders are accepted (02,
+-- note 14): an accepted step is the entry's own move, and the rules' moves commute.
+use mathlib.Core.Path.{_≡_, refl, sym, ap, _∙_}
+use mathlib.Core.List.{List, List·Memᴰ as In}
+use Prim.Native.Nat.{ℕ, _<_}
+use native.Mathlib.Omega.{arith}
+use Rattle.model.specs.Resolved
+use Rattle.rules.specs.Rules.{Nth, Key}
+use Rattle.rules.specs.Listing.{Entry, entry, keyOf, weightOf, entries}
+use Rattle.rules.specs.Carried.{Apart, Quiet, carried}
+use Rattle.rules.proofs.Once.{nth-in, same-nth}
+use Rattle.rules.proofs.Moved.{steps-state}
+use Rattle.rules.proofs.Independent.{commutes}
+use Rattle.machine.specs.Offer.{branches}
+use Rattle.machine.specs.State.{State}
+use Rattle.machine.specs.Machine.{Shown, asLent, zeroed, filled, reported, Answer, no, listedAs, Listed, entriesAre, refusedWith, listing, entryState, Turn, drawn, Machine, closed, holding, turn, stepped, choosing, stepsOn, Call, after}
+use Rattle.machine.specs.Questions.{IsListing, Lists, no12, no13, no14, yes14, Steps, no15, no16, no17, no18, no19, yes19}
+use Rattle.machine.specs.Independent.{Takes}
+use Rattle.machine.proofs.Listing.{asked, accepted}
+use Rattle.machine.proofs.OneListing.{one-listing}
+use Rattle.machine.proofs.Stepping as stepping
+
+-- the entries that a listing shows
+abbrev shownIn : Shown → List Entry → List Entry
+shownIn asLent es = es
+shownIn zeroed es = es
+shownIn (filled es) ds = es
+shownIn (reported ns) es = es
+
+-- what an accepted step says
+record Taken (m : Resolved.Model) (s : State) (k : Key) (w : ℕ) (y : Machine) : Type 0 where
+  listed : In (entry k w) (entries (branches m) s)
+  leads : y ≡ holding m (entryState m s k)
+
+module _ (m : Resolved.Model) (s : State) (d : ℕ) (y : Machine) (c : ℕ) (es : List Entry) where
+  not-number : {t : Turn Machine} {n : ℕ} {B : Type 0} → t .answer .number ≡ n → 0 < n → t ≡ turn y (listedAs 0 c es) → B
+  unfolding turn listedAs
+  not-number e l q = let z = sym e ∙ ap (λ (t : Turn Machine). t .answer .number) q in absurd (omega arith)
+
+  taken-step : {t : Turn State} {ds : List Entry} {k : Key} {w : ℕ} → IsListing m s ds → Steps m s ds d t → stepped m t ≡ turn y (listedAs 0 c es) → Nth es c (entry k w) → Taken m s k w y
+  unfolding stepped turn listedAs entryState keyOf weightOf
+  taken-step h (no15 e) q n = not-number refl (omega arith) q
+  taken-step h (no16 l g) q n = not-number refl (omega arith) q
+  taken-step h (no17 o g) q n = not-number refl (omega arith) q
+  taken-step h (no18 r l) q n = not-number refl (omega arith) q
+  taken-step h (no19 r l f) q n = not-number refl (omega arith) q
+  taken-step {ds = ds} {k = k} {w = w} h (yes19 {c = c′} r l f) q n =
+      let e : c′ ≡ c = ap (λ (t : Turn Machine). t .answer .chosen) q in
+      let e′ : ds ≡ es = ap (λ (t : Turn Machine). shownIn (t .answer .listing) ds) q in
+      let a : entry (r .key) (r .weight) ≡ entry k w = same-nth (rw (e, e′) at (r .chosen .entry)) n in
+      let a′ : r .key ≡ k = ap keyOf a in
+      let o = one-listing m s ds h in
+      record {
+        listed = rw (← o, e′) (nth-in n);
+        leads = sym (ap (λ (t : Turn Machine). t .machine) q) ∙ ap (holding m) (sym (steps-state (branches m) s (r .moves)) ∙ ap (entryState m s) a′);
+      }
+
+  taken : {k : Key} {w : ℕ} → stepsOn (holding m s) d ≡ turn y (listedAs 0 c es) → Nth es c (entry k w) → Taken m s k w y
+  unfolding stepsOn choosing turn no
+  taken {k} {w} q n = go (asked m s (listing m s) .0 refl) q
+    where
+      go : {l : Listed} → Lists m s l → choosing m s d l ≡ turn y (listedAs 0 c es) → Taken m s k w y
+      go (no12 f) q = not-number refl (omega arith) q
+      go (no13 e h l) q = not-number refl (omega arith) q
+      go (no14 e h l f) q = not-number refl (omega arith) q
+      go (yes14 {es = ds} e h l f) q = taken-step h (stepping.asked m s ds h d (drawn m s ds d) .0 refl) q n
+
+takes : {m : Resolved.Model} {s : State} {k : Key} {y : Machine} (t : Takes (holding m s) k y) → Taken m s k (t .weight) y
+takes {m} {s} {k} {y} t = taken m s (t .draw) y (t .number) (t .shown) (t .answered) (t .chosen)
+
+module _ {m : Resolved.Model} {s : State} {k l : Key} (d : Apart k l) (q : Quiet k) (r : Quiet l) where
+  -- 02, note 14: once the first is taken, the other is listed at its moved places with the same weight, wherever that listing is accepted
+  pub other-listed : {x : Machine} {w : ℕ} {es : List Entry} → Takes (holding m s) k x → In (entry l w) (entries (branches m) s) → listing m (entryState m s k) ≡ entriesAre es
+      → In (entry (carried (branches m) s k l) w) es
+  unfolding entryState
+  other-listed {w = w} {es = es} t h e =
+      let g = commutes (branches m) s k l (t .weight) w (takes t .listed) h d q r .second-listed in
+      let o = one-listing m (entryState m s k) es (accepted m (entryState m s k) es .0 e .1) in
+      rw o g
+
+  -- both orders lead to the same machine
+  pub same-after : {x y x′ y′ : Machine} → Takes (holding m s) k x → Takes (holding m s) l y → Takes x (carried (branches m) s k l) x′ → Takes y (carried (branches m) s l k) y′ → x′ ≡ y′
+  unfolding entryState
+  same-after {x} {y} {x′} {y′} a b a′ b′ =
+      let u = takes a .leads in
+      let v = takes b .leads in
+      let g = commutes (branches m) s k l (a .weight) (b .weight) (takes a .listed) (takes b .listed) d q r .same in
+      takes {m = m} {s = entryState m s k} (rw u at a′) .leads ∙ ap (holding m) g ∙ sym (takes {m = m} {s = entryState m s l} (rw v at b′) .leads)
+
+-- 02, note 14: over every state that calls reach
+pub independent : (cs : List Call) (m : Resolved.Model) (s : State) → after closed cs ≡ holding m s → {k l : Key} → Apart k l → Quiet k → Quiet l → {x y x′ y′ : Machine}
+    → Takes (after closed cs) k x → Takes (after closed cs) l y → Takes x (carried (branches m) s k l) x′ → Takes y (carried (branches m) s l k) y′ → x′ ≡ y′
+independent cs m s e d q r a b a′ b′ = same-after d q r (rw e at a) (rw e at b) a′ b′

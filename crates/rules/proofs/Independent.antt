@@ -266,6 +266,11 @@ module _ {Proc : Type 0} (branches : Proc → List (Branch Proc)) (s : State Pro
   stays : {k l : Key} {v : ℕ} {n : Written} {ps : List Proc} → Apart k l → Moves branches s k v n ps → (i : ℕ) → In i (places l) → change k i ≡ none
   stays {k} d m i h = untaken (becoming branches s k) i (λ g. d .none-shared i (rw (seen m .acted) at g) h)
 
+  -- 01, Step: later places move; a process that doesn't act stands at its moved place afterwards
+  pub others-stand : {k : Key} {w : ℕ} {n : Written} {ps : List Proc} → Moves branches s k w n ps → {i : ℕ} {p : Proc} → (In i (places k) → ⊥) → Nth (s .processes) i p → Nth ps (moved branches s k i) p
+  unfolding moved
+  others-stand {k} m {i} d a = let g = seen m .goes in rw g (nth-moves (change k) a (untaken (becoming branches s k) i (λ h. d (rw (seen m .acted) at h))))
+
   -- the rules move the second entry, at its moved places, from what the first leaves, and both changes are made
   pub after-first : {k l : Key} {v w : ℕ} {n n′ : Written} {ps qs : List Proc} → Apart k l → Moves branches s k v n ps → Moves branches s l w n′ qs
       → Moves branches (with s ps) (carried branches s k l) w n′ (rewritten (changes.together (change k) (change l)) (s .processes))

@@ -20,3 +20,4 @@ pub mod Subtotals
 pub mod Rewritten
 pub mod Independent
 pub mod Counted
+pub mod Judged

@@ -10,3 +10,4 @@ pub mod Step
 pub mod Specimens
 pub mod Carried
 pub mod Carries
+pub mod Independent

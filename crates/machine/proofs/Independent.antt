@@ -1,6 +1,7 @@
 -- Over every state that calls reach, two entries that share no process, neither a launch nor a kill, lead to the same state in either order where both orders are accepted (02,
 -- note 14): an accepted step is the entry's own move, and the rules' moves commute.
 use mathlib.Core.Path.{_≡_, refl, sym, ap, _∙_}
+use mathlib.Core.Bool.{true}
 use mathlib.Core.List.{List, List·Memᴰ as In}
 use Prim.Native.Nat.{ℕ, _<_}
 use native.Mathlib.Omega.{arith}
@@ -8,9 +9,13 @@ use Rattle.model.specs.Resolved
 use Rattle.rules.specs.Rules.{Nth, Key}
 use Rattle.rules.specs.Listing.{Entry, entry, keyOf, weightOf, entries}
 use Rattle.rules.specs.Carried.{Apart, Quiet, carried}
+use Rattle.rules.specs.Independent.{isIndependent}
 use Rattle.rules.proofs.Once.{nth-in, same-nth}
+use Rattle.rules.proofs.Chosen.{chooses-first}
+use Rattle.rules.proofs.Draws.{drawn-above}
 use Rattle.rules.proofs.Moved.{steps-state}
 use Rattle.rules.proofs.Independent.{commutes}
+use Rattle.rules.proofs.Judged.{independent-exactly}
 use Rattle.machine.specs.Offer.{branches}
 use Rattle.machine.specs.State.{State}
 use Rattle.machine.specs.Machine.{Shown, asLent, zeroed, filled, reported, Answer, no, listedAs, Listed, entriesAre, refusedWith, listing, entryState, Turn, drawn, Machine, closed, holding, turn, stepped, choosing, stepsOn, Call, after}
@@ -30,6 +35,7 @@ shownIn (reported ns) es = es
 -- what an accepted step says
 record Taken (m : Resolved.Model) (s : State) (k : Key) (w : ℕ) (y : Machine) : Type 0 where
   listed : In (entry k w) (entries (branches m) s)
+  above : 0 < w
   leads : y ≡ holding m (entryState m s k)
 
 module _ (m : Resolved.Model) (s : State) (d : ℕ) (y : Machine) (c : ℕ) (es : List Entry) where
@@ -52,6 +58,7 @@ module _ (m : Resolved.Model) (s : State) (d : ℕ) (y : Machine) (c : ℕ) (es 
       let o = one-listing m s ds h in
       record {
         listed = rw (← o, e′) (nth-in n);
+        above = rw (ap weightOf a) at (drawn-above d (r .chosen .entry) (chooses-first _ _ _ .1 (r .chosen .first)));
         leads = sym (ap (λ (t : Turn Machine). t .machine) q) ∙ ap (holding m) (sym (steps-state (branches m) s (r .moves)) ∙ ap (entryState m s) a′);
       }
 
@@ -68,6 +75,16 @@ module _ (m : Resolved.Model) (s : State) (d : ℕ) (y : Machine) (c : ℕ) (es 
 takes : {m : Resolved.Model} {s : State} {k : Key} {y : Machine} (t : Takes (holding m s) k y) → Taken m s k (t .weight) y
 takes {m} {s} {k} {y} t = taken m s (t .draw) y (t .number) (t .shown) (t .answered) (t .chosen)
 
+-- 02, note 14: what is taken is an entry of the state's listing, above weight zero, and leads to the state that the entry stands for
+pub taken-listed : {m : Resolved.Model} {s : State} {k : Key} {y : Machine} (t : Takes (holding m s) k y) → In (entry k (t .weight)) (entries (branches m) s)
+taken-listed t = takes t .listed
+
+pub taken-above : {m : Resolved.Model} {s : State} {k : Key} {y : Machine} (t : Takes (holding m s) k y) → 0 < t .weight
+taken-above t = takes t .above
+
+pub taken-leads : {m : Resolved.Model} {s : State} {k : Key} {y : Machine} → Takes (holding m s) k y → y ≡ holding m (entryState m s k)
+taken-leads t = takes t .leads
+
 module _ {m : Resolved.Model} {s : State} {k l : Key} (d : Apart k l) (q : Quiet k) (r : Quiet l) where
   -- 02, note 14: once the first is taken, the other is listed at its moved places with the same weight, wherever that listing is accepted
   pub other-listed : {x : Machine} {w : ℕ} {es : List Entry} → Takes (holding m s) k x → In (entry l w) (entries (branches m) s) → listing m (entryState m s k) ≡ entriesAre es
@@ -78,7 +95,7 @@ module _ {m : Resolved.Model} {s : State} {k l : Key} (d : Apart k l) (q : Quiet
       let o = one-listing m (entryState m s k) es (accepted m (entryState m s k) es .0 e .1) in
       rw o g
 
-  -- both orders lead to the same machine
+  -- 02, note 14: of every state over a model, so of every one that passes 11 (A106): both orders lead to the same machine
   pub same-after : {x y x′ y′ : Machine} → Takes (holding m s) k x → Takes (holding m s) l y → Takes x (carried (branches m) s k l) x′ → Takes y (carried (branches m) s l k) y′ → x′ ≡ y′
   unfolding entryState
   same-after {x} {y} {x′} {y′} a b a′ b′ =
@@ -86,6 +103,13 @@ module _ {m : Resolved.Model} {s : State} {k l : Key} (d : Apart k l) (q : Quiet
       let v = takes b .leads in
       let g = commutes (branches m) s k l (a .weight) (b .weight) (takes a .listed) (takes b .listed) d q r .same in
       takes {m = m} {s = entryState m s k} (rw u at a′) .leads ∙ ap (holding m) g ∙ sym (takes {m = m} {s = entryState m s l} (rw v at b′) .leads)
+
+-- 02, note 14: of every state over a model, so of every one that passes 11, from the test of the two entries
+pub independent-entries : (m : Resolved.Model) (s : State) (e f : Entry) → isIndependent e f ≡ true → {x y x′ y′ : Machine} → Takes (holding m s) (keyOf e) x → Takes (holding m s) (keyOf f) y
+    → Takes x (carried (branches m) s (keyOf e) (keyOf f)) x′ → Takes y (carried (branches m) s (keyOf f) (keyOf e)) y′ → x′ ≡ y′
+independent-entries m s e f t a b a′ b′ =
+    let i = independent-exactly e f .0 t in
+    same-after (i .apart) (i .quiet .0) (i .quiet .1) a b a′ b′
 
 -- 02, note 14: over every state that calls reach
 pub independent : (cs : List Call) (m : Resolved.Model) (s : State) → after closed cs ≡ holding m s → {k l : Key} → Apart k l → Quiet k → Quiet l → {x y x′ y′ : Machine}

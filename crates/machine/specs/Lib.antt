@@ -11,3 +11,4 @@ pub mod Refusals
 pub mod Starred
 pub mod Results
 pub mod Independent
+pub mod Orders

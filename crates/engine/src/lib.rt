@@ -8,6 +8,7 @@ use store::Engine;
 use store::buffer::Bytes;
 use store::buffer::Text;
 ghost use mathlib.Core.Path.{_≡_};
+ghost use mathlib.Core.Bool.{cond};
 ghost use mathlib.Core.List.{[]};
 ghost use lib.ListN.{length};
 ghost use Rattle.machine.specs.State.{stateLength};
@@ -15,6 +16,7 @@ ghost use Rattle.machine.specs.Report.{reportLength};
 ghost use Rattle.machine.specs.Machine.{modelLength, listingLength, list′, step′, report′, open′, on′};
 ghost use Rattle.buffers.specs.Parts.{lentTwo};
 ghost use Rattle.buffers.specs.Effect.{answered, effect};
+ghost use Rattle.independence.specs.Judged.{judged};
 ghost use Rattle.engine.specs.Gives.{bare, filled, Gives, arePartsLong, areLong};
 
 // What a call answers: 0 or a refusal's number; its place and branch; the listing's entries, their total, and the entry that a step took.
@@ -194,4 +196,15 @@ pub extern "C" fn matgravel_report(model: &[u8], state: &[i64], report: &mut [u6
     ensures { λ r. ⌜ Gives (effect (on′ report′) (lentTwo (now (model .entry)) (now (state .entry))) (now (report .entry))) r (lentTwo (now (model .entry)) (now (state .entry))) (now (report .exit)) ⌝ }
 {
     crate::report(model, state, report)
+}
+
+// Whether two entries of one listing lead to one state in either order: 1 or 0.
+#[no_mangle]
+pub extern "C" fn matgravel_independent(entry: &[u64], other: &[u64]) -> u64
+    ensures { λ r. ⌜ r ≡ cond (judged (now (entry .entry)) (now (other .entry))) 1 0 ⌝ }
+{
+    if independence::independent(entry, other) {
+        return 1;
+    }
+    0
 }

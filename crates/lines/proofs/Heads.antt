@@ -11,18 +11,21 @@ use Rattle.token.specs.Bytes.{isDigit, within}
 use Rattle.token.specs.Token.{sameBytes}
 use Rattle.token.proofs.Words.{same-is}
 use Rattle.lines.specs.declared.line.Line.{Line}
-use Rattle.lines.specs.declared.line.Line.the-variants.{Open, List as Listing, Step, State, Report, Bad}
+use Rattle.lines.specs.declared.line.Line.the-variants.{Open, List as Listing, Step, State, Report, Independent, Bad}
 use Rattle.lines.specs.declared.line.Rest.{Rest}
 use Rattle.lines.specs.declared.line.Rest.the-variants.{Nothing, Number, T, Other}
 use Rattle.lines.specs.declared.line.Reading.{Reading}
-use Rattle.lines.specs.Line.{listBytes, stateBytes, reportBytes, openBytes, stepBytes, digitsOnly, isNumber, given, lineOf, restOf, restNext, packed, headOf, numbered, bare, lettered, Bytes, Reads}
+use Rattle.lines.specs.declared.two.Two.{Two}
+use Rattle.lines.specs.Two.{begun, run, twoNext, paired}
+use Rattle.lines.specs.Line.{listBytes, stateBytes, reportBytes, openBytes, stepBytes, independentBytes, digitsOnly, isNumber, given, lineOf, restOf, restNext, packed, headOf, numbered, bare, lettered, Bytes, Reads}
 use Rattle.lines.proofs.Rests.{rest-on}
+use Rattle.lines.proofs.Twos.{run-on, two-then, no-word}
 
 -- the least number of five bytes, 2 ^ 40
 abbrev full : ℕ
 full = 1099511627776
 
--- the numbers of the five words
+-- the numbers of five words
 abbrev listHead : ℕ
 listHead = 6113817460
 
@@ -37,6 +40,10 @@ openHead = 1578138693152
 
 abbrev stepHead : ℕ
 stepHead = 1595385671712
+
+-- and of `indep`
+abbrev indepHead : ℕ
+indepHead = 1552335267184
 
 -- ---- fewer than five bytes, or five and more
 data Size : List ℕ → Type 0 where
@@ -86,15 +93,16 @@ long b three h l = absurd (omega arith)
 long b four h l = absurd (omega arith)
 long b five h l = record { head = refl; rest = refl }
 
-pub short-on : {s : List ℕ} {r : Reading} (b : ℕ) → Reads s r → b < 256 → r .head < full → Reads (s ++ (b ∷ [])) (record { head = r .head * 256 + b; rest = r .rest })
+pub short-on : {s : List ℕ} {r : Reading} (b : ℕ) → Reads s r → b < 256 → r .head < full → Reads (s ++ (b ∷ [])) (record { head = r .head * 256 + b; rest = r .rest; two = r .two })
 short-on {s} {r} b h k l =
     let e = short b (size s) (rw (← h .head) l) in
-    record { bytes = bytes-on s b (h .bytes) k; head = ap (λ (x : ℕ). x * 256 + b) (h .head) ∙ sym (e .head); rest = h .rest ∙ ap restOf (sym (e .rest)) }
+    record { bytes = bytes-on s b (h .bytes) k; head = ap (λ (x : ℕ). x * 256 + b) (h .head) ∙ sym (e .head); rest = h .rest ∙ ap restOf (sym (e .rest)); two = h .two ∙ ap (run begun) (sym (e .rest)) }
 
-pub long-on : {s : List ℕ} {r : Reading} (b : ℕ) (t : Rest) → Reads s r → b < 256 → full ≤ r .head → t ≡ restNext (r .rest) b → Reads (s ++ (b ∷ [])) (record { head = r .head; rest = t })
-long-on {s} {r} b t h k l n =
+pub long-on : {s : List ℕ} {r : Reading} (b : ℕ) (t : Rest) (u : Two) → Reads s r → b < 256 → full ≤ r .head → t ≡ restNext (r .rest) b → u ≡ twoNext (r .two) b
+    → Reads (s ++ (b ∷ [])) (record { head = r .head; rest = t; two = u })
+long-on {s} {r} b t u h k l n w =
     let e = long b (size s) (h .bytes) (rw (← h .head) l) in
-    record { bytes = bytes-on s b (h .bytes) k; head = h .head ∙ sym (e .head); rest = n ∙ ap (λ (x : Rest). restNext x b) (h .rest) ∙ sym (rest-on (drop 5 s) b) ∙ ap restOf (sym (e .rest)) }
+    record { bytes = bytes-on s b (h .bytes) k; head = h .head ∙ sym (e .head); rest = n ∙ ap (λ (x : Rest). restNext x b) (h .rest) ∙ sym (rest-on (drop 5 s) b) ∙ ap restOf (sym (e .rest)); two = w ∙ ap (λ (x : Two). twoNext x b) (h .two) ∙ sym (run-on begun (drop 5 s) b) ∙ ap (run begun) (sym (e .rest)) }
 
 -- ---- no byte at all
 none-by : {s : List ℕ} → Size s → headOf s ≡ 1 → s ≡ []
@@ -241,13 +249,20 @@ module _ {s : List ℕ} {r : Reading} (h : Reads s r) where
       let w = word stepHead stepBytes (omega arith, (omega arith, (omega arith, (omega arith, (omega arith, tt))))) refl (omega arith) refl e in
       f ∙ ap (numbered Step) (h .rest) ∙ step-then (drop 5 s) ∙ ap lineOf (sym w)
 
-  pub says-bad : (r .head ≡ listHead → ⊥) → (r .head ≡ stateHead → ⊥) → (r .head ≡ reportHead → ⊥) → (r .head ≡ openHead → ⊥) → (r .head ≡ stepHead → ⊥) → Bad ≡ lineOf s
+  pub says-independent : {x : Line} → r .head ≡ indepHead → x ≡ paired (r .two) → x ≡ lineOf s
+  unfolding packed
+  says-independent e f =
+      let w = word indepHead (take 5 independentBytes) (omega arith, (omega arith, (omega arith, (omega arith, (omega arith, tt))))) refl (omega arith) refl e in
+      f ∙ ap paired (h .two) ∙ two-then (drop 5 s) ∙ ap lineOf (sym w)
+
+  pub says-bad : (r .head ≡ listHead → ⊥) → (r .head ≡ stateHead → ⊥) → (r .head ≡ reportHead → ⊥) → (r .head ≡ openHead → ⊥) → (r .head ≡ stepHead → ⊥) → (r .head ≡ indepHead → ⊥) → Bad ≡ lineOf s
   unfolding lineOf headOf packed
-  says-bad l t q o p =
+  says-bad l t q o p i =
       simp (
         differ s listBytes (λ e. l (h .head ∙ ap headOf e)),
         differ s stateBytes (λ e. t (h .head ∙ ap headOf e)),
         differ s reportBytes (λ e. q (h .head ∙ ap headOf e)),
         differ (take 5 s) openBytes (λ e. o (h .head ∙ ap (packed 1) e)),
         differ (take 5 s) stepBytes (λ e. p (h .head ∙ ap (packed 1) e)),
+        no-word s (λ e. i (h .head ∙ ap (packed 1) e)),
       )

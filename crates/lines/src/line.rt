@@ -1,4 +1,5 @@
 // A line of a script, read byte by byte, however long it is.
+use crate::two::Two;
 ghost use mathlib.Core.Path.{_≡_};
 ghost use mathlib.Core.List.{List, [], _∷_, _++_};
 ghost use Prim.Native.Nat.{ℕ, _<_};
@@ -11,6 +12,7 @@ pub enum Line {
     Step(u64),
     State,
     Report,
+    Independent(u64, u64),
     Bad,
 }
 
@@ -22,10 +24,11 @@ pub enum Rest {
     Other,
 }
 
-// A line so far: its first five bytes, as digits of base 256 after a 1, and what stands after them.
+// A line so far: its first five bytes, as digits of base 256 after a 1, and what stands after them, as a rest and as a word and two numbers.
 pub struct Reading {
     pub head: u64,
     pub rest: Rest,
+    pub two: Two,
 }
 
 pub struct Head;
@@ -36,7 +39,7 @@ impl Head {
 
     pub const FULL: u64 = 0x100_0000_0000;
 
-    // The heads of `list`, `state`, `report`, `open ` and `step `.
+    // The heads of `list`, `state`, `report`, `open `, `step ` and `independent `.
     pub const LIST: u64 = 0x1_6c69_7374;
 
     pub const STATE: u64 = 0x173_7461_7465;
@@ -46,6 +49,8 @@ impl Head {
     pub const OPEN: u64 = 0x16f_7065_6e20;
 
     pub const STEP: u64 = 0x173_7465_7020;
+
+    pub const INDEPENDENT: u64 = 0x169_6e64_6570;
 }
 
 // A number with one more digit, if it fits.
@@ -151,6 +156,7 @@ impl Reading {
         Reading {
             head: Head::EMPTY,
             rest: Rest::Nothing,
+            two: Two::Word(0),
         }
     }
 
@@ -160,15 +166,18 @@ impl Reading {
     {
         let head = self.head;
         let rest = self.rest;
+        let two = self.two;
         if head < Head::FULL {
             return Reading {
                 head: head * 256 + b as u64,
                 rest: rest,
+                two: two,
             };
         }
         Reading {
             head: head,
             rest: with_byte(rest, b),
+            two: crate::two::with_byte(two, b),
         }
     }
 
@@ -177,6 +186,7 @@ impl Reading {
         ensures { λ r. ⌜ ((s : List ℕ) → Reads s self → r ≡ lineOf s) ⌝ }
     {
         let rest = self.rest;
+        let two = self.two;
         let head = self.head;
         match head {
             Head::LIST => Line::List,
@@ -184,6 +194,7 @@ impl Reading {
             Head::REPORT => report_line(rest),
             Head::OPEN => open_line(rest),
             Head::STEP => step_line(rest),
+            Head::INDEPENDENT => crate::two::says(two),
             _ => Line::Bad,
         }
     }

@@ -76,6 +76,7 @@ fn end_line(line: u64, says: Line) -> Taken
         Line::Step(d) => Taken::Asks(Line::Step(d), begin(next)),
         Line::State => Taken::Asks(Line::State, begin(next)),
         Line::Report => Taken::Asks(Line::Report, begin(next)),
+        Line::Independent(i, j) => Taken::Asks(Line::Independent(i, j), begin(next)),
         Line::Bad => Taken::Wrong(line),
     }
 }

@@ -24,3 +24,4 @@ pub mod Starred
 pub mod Lent
 pub mod Carries
 pub mod Report
+pub mod Independent

@@ -10,3 +10,5 @@ pub mod Rows
 pub mod Refusals
 pub mod Starred
 pub mod Results
+pub mod Independent
+pub mod Orders

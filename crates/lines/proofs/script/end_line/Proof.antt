@@ -2,7 +2,7 @@
 use mathlib.Core.Path.{_≡_, sym, ap, subst, _∙_}
 use Prim.Native.Nat.{ℕ}
 use borrow.Author.Needs.{needs}
-use Rattle.lines.specs.declared.line.Line.the-variants.{List as Listing, Step, State, Report}
+use Rattle.lines.specs.declared.line.Line.the-variants.{List as Listing, Step, State, Report, Independent}
 use Rattle.lines.specs.declared.script.Part.the-variants.{InText}
 use Rattle.lines.specs.declared.script.Script.{Script}
 use Rattle.lines.specs.declared.script.Taken.{Taken}
@@ -41,6 +41,12 @@ enum-told-3 c = search needs
 begin-requires-4 : tie.Need-begin-requires-4
 begin-requires-4 c κs = search needs
 
+enum-known-says-3 : tie.Need-enum-known-says-3
+enum-known-says-3 c = search needs
+
+begin-requires-5 : tie.Need-begin-requires-5
+begin-requires-5 c κs = search needs
+
 enum-told-4 : tie.Need-enum-told-4
 enum-told-4 c = search needs
 
@@ -60,7 +66,10 @@ returns-5 : tie.Need-returns-5
 returns-5 c = ap (Asks Report) (c .begin4 .ensures ∙ ap fresh (c .before .before .before .next-line .ensures)) ∙ sym (ap (ended (c .before .before .before .before .args .line)) (c .before .enum-told3 .given .1))
 
 returns-6 : tie.Need-returns-6
-returns-6 c = sym (ap (ended (c .before .before .before .args .line)) (c .enum-told4 .given .1))
+returns-6 c = ap (Asks (Independent (c .before .before .says3 .given .0 .0) (c .before .before .says3 .given .0 .1 .0))) (c .begin5 .ensures ∙ ap fresh (c .before .before .before .before .next-line .ensures)) ∙ sym (ap (ended (c .before .before .before .before .before .args .line)) (c .before .before .says3 .given .1))
+
+returns-7 : tie.Need-returns-7
+returns-7 c = sym (ap (ended (c .before .before .before .args .line)) (c .enum-told4 .given .1))
 
 pub end-line-spec : {M : Type 1} → statement M
 end-line-spec =
@@ -76,10 +85,13 @@ end-line-spec =
     begin-requires-3
     enum-told-3
     begin-requires-4
+    enum-known-says-3
+    begin-requires-5
     enum-told-4
     returns
     returns-2
     returns-3
     returns-4
     returns-5
-    returns-6)
+    returns-6
+    returns-7)

@@ -1,7 +1,7 @@
--- The head tells which of the five words begins the line.
+-- The head tells which word begins the line.
 use native.Mathlib.Omega.{arith}
 use borrow.Author.Needs.{needs}
-use Rattle.lines.proofs.Heads.{says-list, says-state, says-report, says-open, says-step, says-bad}
+use Rattle.lines.proofs.Heads.{says-list, says-state, says-report, says-open, says-step, says-independent, says-bad}
 use Rattle.lines.proofs.line.Reading.says.Statement.{statement}
 use Rattle.lines.proofs.line.Reading.says.Tie as tie
 
@@ -16,6 +16,9 @@ open-line-requires c κs = search needs
 
 step-line-requires : tie.Need-step-line-requires
 step-line-requires c κs = search needs
+
+says-requires : tie.Need-says-requires
+says-requires c κs = search needs
 
 returns : tie.Need-returns
 returns c = λ s h. says-list h (c .match .keys1)
@@ -33,7 +36,10 @@ returns-5 : tie.Need-returns-5
 returns-5 c = λ s h. says-step h (c .before .match .keys5) (c .step-line .ensures)
 
 returns-6 : tie.Need-returns-6
-returns-6 c = λ s h. let m = c .match .rest in says-bad h (m .0 .0 .0 .0 .1) (m .0 .0 .0 .1) (m .0 .0 .1) (m .0 .1) (m .1)
+returns-6 c = λ s h. says-independent h (c .before .match .keys6) (c .says .ensures)
+
+returns-7 : tie.Need-returns-7
+returns-7 c = λ s h. let m = c .match .rest in says-bad h (m .0 .0 .0 .0 .0 .1) (m .0 .0 .0 .0 .1) (m .0 .0 .0 .1) (m .0 .0 .1) (m .0 .1) (m .1)
 
 pub says-spec : {M : Type 1} → statement M
 says-spec =
@@ -43,9 +49,11 @@ says-spec =
     report-line-requires
     open-line-requires
     step-line-requires
+    says-requires
     returns
     returns-2
     returns-3
     returns-4
     returns-5
-    returns-6)
+    returns-6
+    returns-7)

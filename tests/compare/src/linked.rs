@@ -50,6 +50,7 @@ extern "C" {
         report: *mut u64,
         report_len: usize,
     ) -> CAnswer;
+    fn matgravel_independent(entry: *const u64, entry_len: usize, other: *const u64, other_len: usize) -> u64;
 }
 
 impl From<CAnswer> for Answer {
@@ -99,5 +100,12 @@ pub fn report(model: &[u8], state: &[i64], report: &mut [u64]) -> Answer {
     answer.into()
 }
 
+pub fn independent(entry: &[u64], other: &[u64]) -> bool {
+    // As above; both are read only.
+    let is = unsafe { matgravel_independent(entry.as_ptr(), entry.len(), other.as_ptr(), other.len()) };
+    assert!(is <= 1, "it says {is}");
+    is == 1
+}
+
 /// The library's engine.
-pub const ENGINE: Engine = Engine { open, list, step, report };
+pub const ENGINE: Engine = Engine { open, list, step, report, independent };

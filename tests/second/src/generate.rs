@@ -3,7 +3,9 @@
 //! Everything comes from one small generator of numbers: the same seed gives the same texts and
 //! calls.
 
+use crate::independent;
 use crate::limits::{HIGHEST, LOWEST};
+use crate::listing::FIELDS;
 use crate::model;
 use crate::state::{Channel, Item, Pair, FIRST_PAIR, FIRST_PROCESS, PAIR, PROCESS};
 use crate::syntax::ITEMS;
@@ -1086,10 +1088,18 @@ pub struct Engine {
     pub list: fn(&[u8], &[i64], &mut [u64]) -> Answer,
     pub step: fn(&[u8], &mut [i64], &mut [u64], u64) -> Answer,
     pub report: fn(&[u8], &[i64], &mut [u64]) -> Answer,
+    /// Of two entries of a listing.
+    pub independent: fn(&[u64], &[u64]) -> bool,
 }
 
 /// This crate's engine.
-pub const SECOND: Engine = Engine { open: crate::open, list: crate::list, step: crate::step, report: crate::report };
+pub const SECOND: Engine = Engine {
+    open: crate::open,
+    list: crate::list,
+    step: crate::step,
+    report: crate::report,
+    independent: independent::independent,
+};
 
 /// How much longer the longest lent buffer may be than it should.
 pub const SPARE: usize = 8;
@@ -1161,6 +1171,15 @@ impl Buffers {
             }
         }
         None
+    }
+
+    /// Are two entries of the listing independent? Not if it hasn't both.
+    pub fn independent(&self, engine: &Engine, first: u64, second: u64) -> bool {
+        let row = |number: u64| self.listing[..LISTING].chunks(FIELDS).nth(usize::try_from(number).ok()?);
+        match (row(first), row(second)) {
+            (Some(one), Some(other)) => (engine.independent)(one, other),
+            _ => false,
+        }
     }
 
     /// The call with its draw as a number.

@@ -8,6 +8,7 @@
 pub mod engine;
 pub mod eval;
 pub mod generate;
+pub mod independent;
 pub mod limits;
 pub mod listing;
 pub mod model;

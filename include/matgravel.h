@@ -76,6 +76,12 @@ matgravel_answer matgravel_return(const uint8_t *model, size_t model_len, int64_
  * Refusals: 1, 11, 20 and 21 as for return. Refused, it changes nothing. */
 matgravel_answer matgravel_forget(const uint8_t *model, size_t model_len, const int64_t *state, size_t state_len, int64_t *saves, size_t saves_len, const uint8_t *name, size_t name_len);
 
+/* Of two entries of one listing, MATGRAVEL_ENTRY numbers each as they stand there: 1 if both have a weight above zero, they share no
+ * process, and neither is a launch or a kill; else 0, and so for any other lengths. Where it is 1 and both orders of taking the two are
+ * accepted, the state afterwards is the same, number for number. The entry taken second is then looked for at its moved places: each
+ * place moves by how many processes the first leaves in the places before it, less those that acted there. Nothing is refused. */
+uint64_t matgravel_independent(const uint64_t *entry, size_t entry_len, const uint64_t *other, size_t other_len);
+
 #ifdef __cplusplus
 }
 #endif

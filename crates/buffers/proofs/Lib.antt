@@ -13,3 +13,4 @@ pub mod Transitions
 pub mod Found
 pub mod Answers
 pub mod Outcomes
+pub mod Independent

@@ -10,3 +10,4 @@ pub mod Transitions
 pub mod Found
 pub mod Answers
 pub mod Outcomes
+pub mod Independent

@@ -1,11 +1,12 @@
 // Runs a script of calls from standard input, or from each file that an argument names, after a line `== NAME`. Each script has a fresh engine.
 //
-// A script has lines `open N`, which a text of N bytes and an LF follow, `list`, `step D`, `report`, `save NAME`, `return NAME`, `forget NAME` and `state`. N and D are decimal digits alone,
-// below 2^64, leading zeros or not, after a single blank; NAME is all bytes after the blank, perhaps none. Every line ends with an LF, also the last. Lines are counted from 1 by their LFs,
-// those within texts too.
+// A script has lines `open N`, which a text of N bytes and an LF follow, `list`, `step D`, `report`, `save NAME`, `return NAME`, `forget NAME`, `independent I J` and `state`. N, D, I and J
+// are decimal digits alone, below 2^64, leading zeros or not, each after a single blank; NAME is all bytes after the blank, perhaps none. Every line ends with an LF, also the last. Lines are
+// counted from 1 by their LFs, those within texts too.
 //
 // Each call prints `number place branch count total chosen`, then each entry of the listing on a line of its own, after two blanks, and a report that is accepted
-// its 64 numbers on one such line; `state` prints the state's numbers.
+// its 64 numbers on one such line; `state` prints the state's numbers. `independent` calls nothing: it prints 1 where the entries I and J, counted from 0, of the last listing that
+// was filled are independent, and else 0, also where there is no such entry or listing.
 // A line of another form prints `bad,LINE` and ends the script; so does `open N` whose text is cut short or has no LF after it. Nothing is called for it.
 // A text is lent to open up to 16,385 bytes, a name up to 19: as many are too many already, so the bytes after them change no answer.
 use libc::STDIN_FILENO;
@@ -167,7 +168,12 @@ fn put_numbers(out: &mut Buffer, waits: usize, report: &[u64]) -> usize {
     output::put_line(out, n, &report[..Engine::REPORT], b' ')
 }
 
-// Puts a report's answer, and its numbers where it is accepted.
+// Puts the numbers of a report that stands first in a row's part.
+fn put_part(out: &mut Buffer, waits: usize, part: &Listing) -> usize {
+    put_numbers(out, waits, part)
+}
+
+// Puts a report's answer, and its numbers where it is accepted. The last listing stays.
 fn put_report(
     out: &mut Buffer,
     waits: usize,
@@ -175,8 +181,8 @@ fn put_report(
     model: &mut Model,
     state: &mut State,
     saves: &mut Saves,
-    listing: &mut Listing,
 ) -> usize {
+    let mut part = [0u64; Engine::LISTING];
     let listed = Engine::REPORT as u64;
     let answer = make_call(
         Row::REPORT,
@@ -188,13 +194,35 @@ fn put_report(
         model,
         state,
         saves,
-        listing,
+        &mut part,
     );
     let n = output::put_line(out, waits, &answer, b' ');
     if answer[Limits::NUMBER] != 0 {
         return n;
     }
-    put_numbers(out, n, listing)
+    put_part(out, n, &part)
+}
+
+// Whether the entries i and j of a listing are independent: 1 or 0. Numbers that aren't there are no entry's.
+fn judge(listing: &[u64], i: u64, j: u64) -> u64 {
+    let most = listing::Limits::ENTRIES as u64;
+    if listing.len() < Engine::LISTING {
+        return 0;
+    }
+    if most <= i {
+        return 0;
+    }
+    if most <= j {
+        return 0;
+    }
+    let first = i as usize * listing::Limits::ENTRY;
+    let first_end = first + listing::Limits::ENTRY;
+    let second = j as usize * listing::Limits::ENTRY;
+    let second_end = second + listing::Limits::ENTRY;
+    if independence::independent(&listing[first..first_end], &listing[second..second_end]) {
+        return 1;
+    }
+    0
 }
 
 // Puts the answer of a call on the saves, whose name stands after so many bytes of the line.
@@ -264,7 +292,7 @@ fn ask(
             listing,
         ),
         Line::State => output::put_signed_line(out, waits, state, b' '),
-        Line::Report => put_report(out, waits, text, model, state, saves, listing),
+        Line::Report => put_report(out, waits, text, model, state, saves),
         Line::Save(kept) => put_named(
             out,
             waits,
@@ -301,6 +329,7 @@ fn ask(
             saves,
             listing,
         ),
+        Line::Independent(i, j) => output::put_line(out, waits, &[judge(listing, i, j)], b' '),
         Line::Bad => waits,
     }
 }

@@ -9,6 +9,7 @@ use store::Engine;
 use store::buffer::Bytes;
 use store::buffer::Text;
 ghost use mathlib.Core.Path.{_≡_};
+ghost use mathlib.Core.Bool.{cond};
 ghost use mathlib.Core.List.{[]};
 ghost use lib.ListN.{length};
 ghost use Rattle.machine.specs.State.{stateLength};
@@ -16,6 +17,7 @@ ghost use Rattle.machine.specs.Report.{reportLength};
 ghost use Rattle.machine.specs.Machine.{modelLength, listingLength, list′, step′, report′, save′, return′, forget′, open′, on′};
 ghost use Rattle.buffers.specs.Parts.{lentTwo, lentThree};
 ghost use Rattle.buffers.specs.Effect.{answered, effect};
+ghost use Rattle.independence.specs.Judged.{judged};
 ghost use Rattle.engine.specs.Gives.{bare, filled, Gives, arePartsLong, areLong, areAllLong};
 
 // What a call answers: 0 or a refusal's number; its place and branch; the listing's entries, their total, and the entry that a step took.
@@ -289,4 +291,15 @@ pub extern "C" fn matgravel_forget(
     ensures { λ r. ⌜ Gives (effect (on′ (forget′ (now (name .entry)))) (lentThree (now (model .entry)) (now (state .entry)) (now (saves .entry))) []) r (lentThree (now (model .entry)) (now (state .entry)) (now (saves .exit))) [] ⌝ }
 {
     forget(model, state, saves, name)
+}
+
+// Whether two entries of one listing lead to one state in either order: 1 or 0.
+#[no_mangle]
+pub extern "C" fn matgravel_independent(entry: &[u64], other: &[u64]) -> u64
+    ensures { λ r. ⌜ r ≡ cond (judged (now (entry .entry)) (now (other .entry))) 1 0 ⌝ }
+{
+    if independence::independent(entry, other) {
+        return 1;
+    }
+    0
 }

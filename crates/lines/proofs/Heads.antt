@@ -13,12 +13,15 @@ use Rattle.token.specs.Bytes.{isDigit, within}
 use Rattle.token.specs.Token.{sameBytes}
 use Rattle.token.proofs.Words.{same-is}
 use Rattle.lines.specs.declared.line.Line.{Line}
-use Rattle.lines.specs.declared.line.Line.the-variants.{Open, List as Listing, Step, State, Report, Save, Return, Forget, Bad}
+use Rattle.lines.specs.declared.line.Line.the-variants.{Open, List as Listing, Step, State, Report, Save, Return, Forget, Independent, Bad}
 use Rattle.lines.specs.declared.line.Rest.{Rest}
 use Rattle.lines.specs.declared.line.Rest.the-variants.{Nothing, Number, T, Other}
 use Rattle.lines.specs.declared.line.Reading.{Reading}
-use Rattle.lines.specs.Line.{listBytes, stateBytes, reportBytes, openBytes, stepBytes, saveBytes, returnBytes, forgetBytes, keptLimit, kept, digitsOnly, isNumber, given, lineOf, restOf, restNext, packed, headOf, afterOf, twoBytes, returnEnd, forgetEnd, afterNext, keptNext, ended, numbered, bare, lettered, Bytes, Reads}
+use Rattle.lines.specs.Line.{listBytes, stateBytes, reportBytes, openBytes, stepBytes, saveBytes, returnBytes, forgetBytes, independentBytes, keptLimit, kept, digitsOnly, isNumber, given, lineOf, restOf, restNext, packed, headOf, afterOf, twoBytes, returnEnd, forgetEnd, afterNext, keptNext, ended, numbered, bare, lettered, Bytes, Reads}
+use Rattle.lines.specs.declared.two.Two.{Two}
+use Rattle.lines.specs.Two.{begun, run, twoNext, paired}
 use Rattle.lines.proofs.Rests.{rest-on}
+use Rattle.lines.proofs.Twos.{run-on, two-then, no-word}
 
 -- the least number of five bytes, 2 ^ 40
 abbrev full : ℕ
@@ -48,6 +51,9 @@ returnHead = 1590840030578
 
 abbrev forgetHead : ℕ
 forgetHead = 1539468060517
+-- and of `indep`
+abbrev indepHead : ℕ
+indepHead = 1552335267184
 
 -- ---- fewer than five bytes, or five and more
 data Size : List ℕ → Type 0 where
@@ -117,7 +123,7 @@ kept-on s b = by (ltb (min keptLimit (length s)) keptLimit) refl
     by true e = omega (arith, ltb-true (min keptLimit (length s)) keptLimit e, length-append s (b ∷ []))
     by false e = omega (arith, ltb-false (min keptLimit (length s)) keptLimit e, length-append s (b ∷ []))
 
-pub short-on : {s : List ℕ} {r : Reading} (b k′ : ℕ) → Reads s r → b < 256 → r .head < full → k′ ≡ keptNext (r .kept) → Reads (s ++ (b ∷ [])) (record { head = r .head * 256 + b; rest = r .rest; after = r .after; kept = k′ })
+pub short-on : {s : List ℕ} {r : Reading} (b k′ : ℕ) → Reads s r → b < 256 → r .head < full → k′ ≡ keptNext (r .kept) → Reads (s ++ (b ∷ [])) (record { head = r .head * 256 + b; rest = r .rest; after = r .after; kept = k′; two = r .two })
 unfolding afterOf
 short-on {s} {r} b k′ h k l n =
     let e = short b (size s) (rw (← h .head) l) in
@@ -127,12 +133,13 @@ short-on {s} {r} b k′ h k l n =
       rest = h .rest ∙ ap restOf (sym (e .rest));
       after = h .after ∙ ap (λ (u : List ℕ). packed 1 (take 2 u)) (sym (e .rest));
       kept = n ∙ ap keptNext (h .kept) ∙ kept-on s b;
+      two = h .two ∙ ap (run begun) (sym (e .rest));
     }
 
-pub long-on : {s : List ℕ} {r : Reading} (b : ℕ) (t : Rest) (a k′ : ℕ) → Reads s r → b < 256 → full ≤ r .head → t ≡ restNext (r .rest) b → a ≡ afterNext (r .after) b → k′ ≡ keptNext (r .kept)
-    → Reads (s ++ (b ∷ [])) (record { head = r .head; rest = t; after = a; kept = k′ })
+pub long-on : {s : List ℕ} {r : Reading} (b : ℕ) (t : Rest) (a k′ : ℕ) (u : Two) → Reads s r → b < 256 → full ≤ r .head → t ≡ restNext (r .rest) b → a ≡ afterNext (r .after) b → k′ ≡ keptNext (r .kept) → u ≡ twoNext (r .two) b
+    → Reads (s ++ (b ∷ [])) (record { head = r .head; rest = t; after = a; kept = k′; two = u })
 unfolding afterOf
-long-on {s} {r} b t a k′ h k l n m j =
+long-on {s} {r} b t a k′ u h k l n m j w =
     let e = long b (size s) (h .bytes) (rw (← h .head) l) in
     record {
       bytes = bytes-on s b (h .bytes) k;
@@ -140,6 +147,7 @@ long-on {s} {r} b t a k′ h k l n m j =
       rest = n ∙ ap (λ (x : Rest). restNext x b) (h .rest) ∙ sym (rest-on (drop 5 s) b) ∙ ap restOf (sym (e .rest));
       after = m ∙ ap (λ (x : ℕ). afterNext x b) (h .after) ∙ after-on (drop 5 s) b (bytes-drop 5 s (h .bytes)) ∙ ap (λ (u : List ℕ). packed 1 (take 2 u)) (sym (e .rest));
       kept = j ∙ ap keptNext (h .kept) ∙ kept-on s b;
+      two = w ∙ ap (λ (x : Two). twoNext x b) (h .two) ∙ sym (run-on begun (drop 5 s) b) ∙ ap (run begun) (sym (e .rest));
     }
 
 -- ---- no byte at all
@@ -322,6 +330,12 @@ module _ {s : List ℕ} {r : Reading} (h : Reads s r) where
       let w = word stepHead stepBytes (omega arith, (omega arith, (omega arith, (omega arith, (omega arith, tt))))) refl (omega arith) refl e in
       f ∙ ap (numbered Step) (h .rest) ∙ step-then (drop 5 s) ∙ ap lineOf (sym w)
 
+  pub says-independent : {x : Line} → r .head ≡ indepHead → x ≡ paired (r .two) → x ≡ lineOf s
+  unfolding packed
+  says-independent e f =
+      let w = word indepHead (take 5 independentBytes) (omega arith, (omega arith, (omega arith, (omega arith, (omega arith, tt))))) refl (omega arith) refl e in
+      f ∙ ap paired (h .two) ∙ two-then (drop 5 s) ∙ ap lineOf (sym w)
+
   pub says-save : r .head ≡ saveHead → Save (r .kept) ≡ lineOf s
   unfolding packed
   says-save e =
@@ -348,9 +362,9 @@ module _ {s : List ℕ} {r : Reading} (h : Reads s r) where
   first-five : (t : List ℕ) → take 7 s ≡ t → take 5 s ≡ take 5 t
   first-five t e = sym (take-take 5 7 s (omega arith)) ∙ ap (take 5) e
 
-  pub says-bad : (r .head ≡ listHead → ⊥) → (r .head ≡ stateHead → ⊥) → (r .head ≡ reportHead → ⊥) → (r .head ≡ openHead → ⊥) → (r .head ≡ stepHead → ⊥) → (r .head ≡ saveHead → ⊥) → (r .head ≡ returnHead → ⊥) → (r .head ≡ forgetHead → ⊥) → Bad ≡ lineOf s
+  pub says-bad : (r .head ≡ listHead → ⊥) → (r .head ≡ stateHead → ⊥) → (r .head ≡ reportHead → ⊥) → (r .head ≡ openHead → ⊥) → (r .head ≡ stepHead → ⊥) → (r .head ≡ saveHead → ⊥) → (r .head ≡ returnHead → ⊥) → (r .head ≡ forgetHead → ⊥) → (r .head ≡ indepHead → ⊥) → Bad ≡ lineOf s
   unfolding lineOf headOf packed
-  says-bad l t q o p v m g =
+  says-bad l t q o p v m g i =
       simp (
         differ s listBytes (λ e. l (h .head ∙ ap headOf e)),
         differ s stateBytes (λ e. t (h .head ∙ ap headOf e)),
@@ -360,4 +374,5 @@ module _ {s : List ℕ} {r : Reading} (h : Reads s r) where
         differ (take 5 s) saveBytes (λ e. v (h .head ∙ ap (packed 1) e)),
         differ (take 7 s) returnBytes (λ e. m (h .head ∙ ap (packed 1) (first-five returnBytes e))),
         differ (take 7 s) forgetBytes (λ e. g (h .head ∙ ap (packed 1) (first-five forgetBytes e))),
+        no-word s (λ e. i (h .head ∙ ap (packed 1) e)),
       )

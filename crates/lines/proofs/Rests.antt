@@ -12,7 +12,8 @@ use Rattle.token.specs.Bytes.{isDigit, within}
 use Rattle.token.specs.Token.{sameBytes}
 use Rattle.lines.specs.declared.line.Rest.{Rest}
 use Rattle.lines.specs.declared.line.Rest.the-variants.{Nothing, Number, T, Other}
-use Rattle.lines.specs.Line.{limit, digitsOnly, isNumber, restOf, grown, digitNext, letterNext, restNext}
+use Rattle.lines.specs.Limit.{limit}
+use Rattle.lines.specs.Line.{digitsOnly, isNumber, restOf, grown, digitNext, letterNext, restNext}
 
 -- ---- tests of a byte
 pub below-digit : (r : Rest) (b : ℕ) → b < 48 → letterNext r b ≡ restNext r b

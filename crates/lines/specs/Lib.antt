@@ -1,2 +1,4 @@
+pub mod Limit
+pub mod Two
 pub mod Line
 pub mod Script

@@ -9,12 +9,14 @@ use Rattle.word.specs.Number.{worth, digitOf}
 use Rattle.token.specs.Bytes.{isDigit}
 use Rattle.token.specs.Token.{sameBytes}
 use Rattle.lines.specs.declared.line.Line.{Line}
-use Rattle.lines.specs.declared.line.Line.the-variants.{Open, List as Listing, Step, State, Report, Save, Return, Forget, Bad}
+use Rattle.lines.specs.declared.line.Line.the-variants.{Open, List as Listing, Step, State, Report, Save, Return, Forget, Independent, Bad}
 use Rattle.lines.specs.declared.line.Rest.{Rest}
 use Rattle.lines.specs.declared.line.Rest.the-variants.{Nothing, Number, T, Other}
 use Rattle.lines.specs.declared.line.Reading.{Reading}
+use Rattle.lines.specs.Limit.{limit}
+use Rattle.lines.specs.Two.{begun, run}
 
--- `list`, `state`, `report`, `open ` and `step `
+-- `list`, `state`, `report`, `open `, `step ` and `independent `
 abbrev pub listBytes : List ℕ
 listBytes = 108 ∷ 105 ∷ 115 ∷ 116 ∷ []
 
@@ -47,9 +49,8 @@ keptLimit = 24
 unfoldable pub kept : List ℕ → ℕ
 kept s = min keptLimit (length s)
 
--- 2 ^ 64: a draw and a number of bytes are below it
-abbrev pub limit : ℕ
-limit = 18446744073709551616
+abbrev pub independentBytes : List ℕ
+independentBytes = 105 ∷ 110 ∷ 100 ∷ 101 ∷ 112 ∷ 101 ∷ 110 ∷ 100 ∷ 101 ∷ 110 ∷ 116 ∷ 32 ∷ []
 
 -- digits and nothing else
 unfoldable pub digitsOnly : List ℕ → Bool
@@ -65,7 +66,20 @@ isNumber (b ∷ s) = digitsOnly (b ∷ s) && ltb (worth 0 (b ∷ s)) limit
 unfoldable pub given : (ℕ → Line) → List ℕ → Line
 given says s = cond (isNumber s) (says (worth 0 s)) Bad
 
--- the eight forms; every other line is bad
+-- what stands before the first blank, and after it
+unfoldable pub beforeBlank : List ℕ → List ℕ
+beforeBlank [] = []
+beforeBlank (b ∷ s) = cond (eqb b 32) [] (b ∷ beforeBlank s)
+
+unfoldable pub afterBlank : List ℕ → List ℕ
+afterBlank [] = []
+afterBlank (b ∷ s) = cond (eqb b 32) s (afterBlank s)
+
+-- two numbers with a blank between them
+unfoldable pub givenTwo : List ℕ → Line
+givenTwo s = cond (isNumber (beforeBlank s) && isNumber (afterBlank s)) (Independent (worth 0 (beforeBlank s)) (worth 0 (afterBlank s))) Bad
+
+-- the nine forms; every other line is bad
 unfoldable pub lineOf : List ℕ → Line
 lineOf s =
     cond (sameBytes s listBytes) Listing
@@ -75,12 +89,23 @@ lineOf s =
     (cond (sameBytes (take 5 s) stepBytes) (given Step (drop 5 s))
     (cond (sameBytes (take 5 s) saveBytes) (Save (kept s))
     (cond (sameBytes (take 7 s) returnBytes) (Return (kept s))
-    (cond (sameBytes (take 7 s) forgetBytes) (Forget (kept s)) Bad)))))))
+    (cond (sameBytes (take 7 s) forgetBytes) (Forget (kept s))
+    (cond (sameBytes (take 12 s) independentBytes) (givenTwo (drop 12 s)) Bad))))))))
 
 -- `step 307`
 step-line : lineOf (115 ∷ 116 ∷ 101 ∷ 112 ∷ 32 ∷ 51 ∷ 48 ∷ 55 ∷ []) ≡ Step 307
 unfolding lineOf given isNumber digitsOnly isDigit Rattle.token.specs.Bytes.within sameBytes worth
 step-line = refl
+
+-- `independent 0 12`
+independent-line : lineOf (105 ∷ 110 ∷ 100 ∷ 101 ∷ 112 ∷ 101 ∷ 110 ∷ 100 ∷ 101 ∷ 110 ∷ 116 ∷ 32 ∷ 48 ∷ 32 ∷ 49 ∷ 50 ∷ []) ≡ Independent 0 12
+unfolding lineOf givenTwo beforeBlank afterBlank isNumber digitsOnly isDigit Rattle.token.specs.Bytes.within sameBytes worth
+independent-line = refl
+
+-- `independent 0`
+no-second : lineOf (105 ∷ 110 ∷ 100 ∷ 101 ∷ 112 ∷ 101 ∷ 110 ∷ 100 ∷ 101 ∷ 110 ∷ 116 ∷ 32 ∷ 48 ∷ []) ≡ Bad
+unfolding lineOf givenTwo beforeBlank afterBlank isNumber digitsOnly isDigit Rattle.token.specs.Bytes.within sameBytes worth
+no-second = refl
 
 -- `reports`
 no-report : lineOf (114 ∷ 101 ∷ 112 ∷ 111 ∷ 114 ∷ 116 ∷ 115 ∷ []) ≡ Bad
@@ -197,7 +222,8 @@ pub record Reads (s : List ℕ) (r : Reading) : Type 0 where
   pub rest : r .rest ≡ restOf (drop 5 s)
   pub after : r .after ≡ afterOf s
   pub kept : r .kept ≡ kept s
+  pub two : r .two ≡ run begun (drop 5 s)
 
 -- no byte yet
 abbrev pub empty : Reading
-empty = record { head = 1; rest = Nothing; after = 1; kept = 0 }
+empty = record { head = 1; rest = Nothing; after = 1; kept = 0; two = begun }

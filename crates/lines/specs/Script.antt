@@ -7,7 +7,7 @@ use lib.Dec.{eqb}
 use lib.ListN.{length}
 use Rattle.token.specs.Bytes.{lineFeed}
 use Rattle.lines.specs.declared.line.Line.{Line}
-use Rattle.lines.specs.declared.line.Line.the-variants.{Open, List as Listing, Step, State, Report, Save, Return, Forget, Bad}
+use Rattle.lines.specs.declared.line.Line.the-variants.{Open, List as Listing, Step, State, Report, Save, Return, Forget, Independent, Bad}
 use Rattle.lines.specs.declared.line.Reading.{Reading}
 use Rattle.lines.specs.declared.script.Part.{Part}
 use Rattle.lines.specs.declared.script.Part.the-variants.{InLine, InText}
@@ -16,7 +16,8 @@ use Rattle.lines.specs.declared.script.Taken.{Taken}
 use Rattle.lines.specs.declared.script.Taken.the-variants.{Goes, Asks, Wrong}
 use Rattle.lines.specs.declared.script.Ending.{Ending}
 use Rattle.lines.specs.declared.script.Ending.the-variants.{Done, Broken}
-use Rattle.lines.specs.Line.{limit, lineOf, empty, Reads}
+use Rattle.lines.specs.Limit.{limit}
+use Rattle.lines.specs.Line.{lineOf, empty, Reads}
 
 -- how many lines end in s
 unfoldable pub breaks : List ℕ → ℕ
@@ -27,7 +28,7 @@ breaks (b ∷ s) = cond (eqb b lineFeed) 1 0 + breaks s
 abbrev pub numberAfter : List ℕ → ℕ
 numberAfter s = (1 + breaks s) % limit
 
--- a line that asks for a call, or for the state, by itself
+-- a line that asks for a call, for the state, or of two entries, by itself
 abbrev pub isShort : Line → Bool
 isShort (Open n) = false
 isShort Listing = true
@@ -37,6 +38,7 @@ isShort Report = true
 isShort (Save n) = true
 isShort (Return n) = true
 isShort (Forget n) = true
+isShort (Independent i j) = true
 isShort Bad = false
 
 -- bytes that are whole items: such a line and LF, or a line `open n`, LF, n bytes and LF; and what they ask for in turn
@@ -118,4 +120,5 @@ ended line Report = Asks Report (fresh (next line))
 ended line (Save n) = Asks (Save n) (fresh (next line))
 ended line (Return n) = Asks (Return n) (fresh (next line))
 ended line (Forget n) = Asks (Forget n) (fresh (next line))
+ended line (Independent i j) = Asks (Independent i j) (fresh (next line))
 ended line Bad = Wrong line

@@ -1,4 +1,5 @@
 // A line of a script, read byte by byte, however long it is.
+use crate::two::Two;
 ghost use mathlib.Core.Path.{_≡_};
 ghost use mathlib.Core.List.{List, [], _∷_, _++_};
 ghost use Prim.Native.Nat.{ℕ, _<_};
@@ -15,6 +16,7 @@ pub enum Line {
     Save(u64),
     Return(u64),
     Forget(u64),
+    Independent(u64, u64),
     Bad,
 }
 
@@ -26,12 +28,13 @@ pub enum Rest {
     Other,
 }
 
-// A line so far: its first five bytes, as digits of base 256 after a 1, what stands after them, the first two bytes of that, likewise, and how many bytes of the line are kept.
+// A line so far: its first five bytes, as digits of base 256 after a 1, what stands after them, the first two bytes of that, likewise, how many bytes of the line are kept, and what stands after the first five as a word and two numbers.
 pub struct Reading {
     pub head: u64,
     pub rest: Rest,
     pub after: u64,
     pub kept: u64,
+    pub two: Two,
 }
 
 pub struct Head;
@@ -45,7 +48,7 @@ impl Head {
     // The most bytes of a line that are kept: a word and a name that is too long already.
     pub const KEPT: u64 = 24;
 
-    // The heads of `list`, `state`, `report`, `open `, `step `, `save `, `return ` and `forget `, and what follows those of the last two.
+    // The heads of `list`, `state`, `report`, `open `, `step `, `save `, `return `, `forget ` and `independent `, and what follows those of `return ` and `forget `.
     pub const LIST: u64 = 0x1_6c69_7374;
 
     pub const STATE: u64 = 0x173_7461_7465;
@@ -55,6 +58,8 @@ impl Head {
     pub const OPEN: u64 = 0x16f_7065_6e20;
 
     pub const STEP: u64 = 0x173_7465_7020;
+
+    pub const INDEPENDENT: u64 = 0x169_6e64_6570;
 
     pub const SAVE: u64 = 0x173_6176_6520;
 
@@ -213,6 +218,7 @@ impl Reading {
             rest: Rest::Nothing,
             after: Head::EMPTY,
             kept: 0,
+            two: Two::Word(0),
         }
     }
 
@@ -224,12 +230,14 @@ impl Reading {
         let rest = self.rest;
         let after = self.after;
         let kept = next_kept(self.kept);
+        let two = self.two;
         if head < Head::FULL {
             return Reading {
                 head: head * 256 + b as u64,
                 rest: rest,
                 after: after,
                 kept: kept,
+                two: two,
             };
         }
         Reading {
@@ -237,6 +245,7 @@ impl Reading {
             rest: with_byte(rest, b),
             after: next_after(after, b),
             kept: kept,
+            two: crate::two::with_byte(two, b),
         }
     }
 
@@ -245,6 +254,7 @@ impl Reading {
         ensures { λ r. ⌜ ((s : List ℕ) → Reads s self → r ≡ lineOf s) ⌝ }
     {
         let rest = self.rest;
+        let two = self.two;
         let head = self.head;
         let after = self.after;
         let kept = self.kept;
@@ -257,6 +267,7 @@ impl Reading {
             Head::SAVE => Line::Save(kept),
             Head::RETURN => return_line(after, kept),
             Head::FORGET => forget_line(after, kept),
+            Head::INDEPENDENT => crate::two::says(two),
             _ => Line::Bad,
         }
     }

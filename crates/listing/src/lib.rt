@@ -57,8 +57,12 @@ impl Limits {
 
     pub const ENTRY: usize = 7;
 
-    // Where an entry's place and its weight stand.
+    // Where an entry's kind, its place, its partner and its weight stand.
+    pub const KIND: usize = 0;
+
     pub const PLACE: usize = 1;
+
+    pub const PARTNER: usize = 3;
 
     pub const WEIGHT: usize = 6;
 

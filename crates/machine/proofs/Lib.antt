@@ -26,3 +26,4 @@ pub mod Lent
 pub mod Carries
 pub mod Latest
 pub mod Report
+pub mod Independent

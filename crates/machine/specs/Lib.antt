@@ -13,3 +13,5 @@ pub mod Refusals
 pub mod Starred
 pub mod Results
 pub mod Latest
+pub mod Independent
+pub mod Orders

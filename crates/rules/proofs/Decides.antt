@@ -42,7 +42,7 @@ both (holds p) (fails q) = fails (λ h. q (h .1))
 both (fails p) (holds q) = fails (λ h. p (h .0))
 both (fails p) (fails q) = fails (λ h. p (h .0))
 
-either : {P Q : Type 0} {a b : Bool} → Decides P a → Decides Q b → Decides (P ⊎ Q) (a || b)
+pub either : {P Q : Type 0} {a b : Bool} → Decides P a → Decides Q b → Decides (P ⊎ Q) (a || b)
 either (holds p) (holds q) = holds (inl p)
 either (holds p) (fails q) = holds (inl p)
 either (fails p) (holds q) = holds (inr q)

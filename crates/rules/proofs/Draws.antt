@@ -4,6 +4,7 @@ use mathlib.Core.Path.{_≡_, refl, _∙_}
 use mathlib.Core.Bool.{Bool, true, false, cond}
 use mathlib.Core.List.{List}
 use mathlib.Core.Logic.{_⊎_, inl, inr, ⊎-elim}
+use mathlib.Core.Option.{some}
 use native.Mathlib.Omega.{arith}
 use borrow.Author.Tests.{ltb-true, ltb-false}
 use lib.Dec.{ltb}
@@ -13,7 +14,7 @@ use Rattle.rules.specs.Rules.{Nth, first, later}
 use Rattle.rules.specs.Listing.{Entry, weightOf, entries}
 use Rattle.rules.specs.Draw.{weights, total, chosen, isChosen, count}
 use Rattle.rules.proofs.Decides.{Decides, holds, fails}
-use Rattle.rules.proofs.Chosen.{upTo, up-total, span}
+use Rattle.rules.proofs.Chosen.{upTo, up-total, span, span-chosen, chosen-span}
 
 outside : (a n w : ℕ) → ((a ≤ n) × (n < a + w) → ⊥) → (n < a) ⊎ (a + w ≤ n)
 outside a n w h = go (ltb n a) refl (ltb n (a + w)) refl
@@ -45,3 +46,11 @@ nth-weight (later h) = nth-weight h
 pub entry-draws : {Proc : Type 0} (branches : Proc → List (Branch Proc)) (s : State Proc) {i : ℕ} {e : Entry}
     → Nth (entries branches s) i e → let ws = weights (entries branches s) in count (λ d. isChosen i (chosen ws d)) (total ws) ≡ weightOf e
 entry-draws branches s h = draws (weights (entries branches s)) _ ∙ nth-weight h
+
+-- an entry above weight zero is chosen by some draw
+pub above-drawn : {es : List Entry} {i : ℕ} {e : Entry} → Nth es i e → 0 < weightOf e → (d : ℕ) × (chosen (weights es) d ≡ some i)
+above-drawn {es} {i} h a = let ws = weights es in (upTo ws i, span-chosen ws (upTo ws i) i (omega arith, omega (arith, nth-weight h)))
+
+-- and an entry that a draw chooses is above weight zero
+pub drawn-above : {es : List Entry} {i : ℕ} {e : Entry} (d : ℕ) → Nth es i e → chosen (weights es) d ≡ some i → 0 < weightOf e
+drawn-above {es} {i} d h c = let s = chosen-span (weights es) d i c in omega (arith, s .0, s .1, nth-weight h)

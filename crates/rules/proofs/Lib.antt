@@ -17,3 +17,7 @@ pub mod Launched
 pub mod Killed
 pub mod Inside
 pub mod Subtotals
+pub mod Rewritten
+pub mod Independent
+pub mod Counted
+pub mod Judged

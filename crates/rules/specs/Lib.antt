@@ -8,3 +8,6 @@ pub mod Draw
 pub mod Subtotals
 pub mod Step
 pub mod Specimens
+pub mod Carried
+pub mod Carries
+pub mod Independent

@@ -7,6 +7,7 @@ pub mod compare;
 pub mod linked;
 pub mod lists;
 pub mod met;
+pub mod orders;
 pub mod shrink;
 pub mod specimens;
 pub mod texts;

@@ -82,6 +82,7 @@ extern "C" {
         name: *const u8,
         name_len: usize,
     ) -> CAnswer;
+    fn matgravel_independent(entry: *const u64, entry_len: usize, other: *const u64, other_len: usize) -> u64;
 }
 
 impl From<CAnswer> for Answer {
@@ -192,5 +193,12 @@ pub fn forget(model: &[u8], state: &[i64], saves: &mut [i64], name: &[u8]) -> An
     answer.into()
 }
 
+pub fn independent(entry: &[u64], other: &[u64]) -> bool {
+    // As above; both are read only.
+    let is = unsafe { matgravel_independent(entry.as_ptr(), entry.len(), other.as_ptr(), other.len()) };
+    assert!(is <= 1, "it says {is}");
+    is == 1
+}
+
 /// The library's engine.
-pub const ENGINE: Engine = Engine { open, list, step, report, save, return_to, forget };
+pub const ENGINE: Engine = Engine { open, list, step, report, save, return_to, forget, independent };

@@ -181,7 +181,7 @@ fn around_the_ends(random: &mut Random, model: &model::Model, calls: &mut Vec<Ca
 }
 
 /// A state over the model that no run need ever reach.
-fn some_state(random: &mut Random, model: &model::Model) -> Vec<i64> {
+pub(crate) fn some_state(random: &mut Random, model: &model::Model) -> Vec<i64> {
     let mut state = vec![0; STATE];
     let processes = *random.pick(&[0, 1, 3, 5, 8, 20, 256]);
     let pairs = *random.pick(&[0, 1, 2, 5, 20, 256]);

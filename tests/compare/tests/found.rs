@@ -3,6 +3,7 @@
 
 use compare::compare::Place;
 use compare::met::Met;
+use compare::orders::{self, Tried};
 use compare::{compare as core, lists, with_stack};
 use second::generate::{Engine, SECOND};
 use second::limits::HIGHEST;
@@ -29,7 +30,7 @@ fn found(wrong: Engine, place: Place, calls: usize, bytes: usize) {
 fn call(line: Line) -> Option<second::generate::Call> {
     match line {
         Line::Call(call) => Some(call),
-        Line::State => None,
+        _ => None,
     }
 }
 
@@ -403,4 +404,50 @@ fn a_name_twice_that_is_let_pass() {
         Answer { number: save(model, state, &mut once, name).number, ..answer }
     }
     found(Engine { save: wrong, ..SECOND }, Place::Answer, 4, 120);
+}
+
+/// What is said of an engine for which the order of independent entries matters.
+fn disordered(wrong: Engine) -> String {
+    with_stack(move || orders::run(&wrong, 0..orders::SEEDS, &mut Tried::default()).unwrap_err())
+}
+
+#[test]
+fn a_step_that_puts_what_follows_at_the_end() {
+    fn wrong(model: &[u8], state: &mut [i64], listing: &mut [u64], draw: u64) -> Answer {
+        let before = state[0];
+        let answer = step(model, state, listing, draw);
+        if answer.number == 0 && state[0] == before {
+            let place = FIRST_PROCESS + PROCESS * listing[ENTRY * answer.chosen as usize + 1] as usize;
+            state[place..FIRST_PROCESS + PROCESS * before as usize].rotate_left(PROCESS);
+        }
+        answer
+    }
+    let fault = disordered(Engine { step: wrong, ..SECOND });
+    assert!(fault.contains("the listing has") || fault.contains("ends otherwise"), "{fault}");
+}
+
+#[test]
+fn a_step_that_counts_the_steps_before_it() {
+    // A local of the last process tells which entry was taken first.
+    fn wrong(model: &[u8], state: &mut [i64], listing: &mut [u64], draw: u64) -> Answer {
+        let last = state[0];
+        let answer = step(model, state, listing, draw);
+        let place = FIRST_PROCESS + PROCESS * (state[0] as usize).saturating_sub(1);
+        if answer.number == 0 && state[0] < last && state[place + 1] > 0 {
+            state[place + 1] += answer.chosen as i64;
+        }
+        answer
+    }
+    let fault = disordered(Engine { step: wrong, ..SECOND });
+    assert!(fault.contains("the listing has") || fault.contains("ends otherwise"), "{fault}");
+}
+
+#[test]
+fn entries_that_share_their_receiver_alone() {
+    fn wrong(entry: &[u64], other: &[u64]) -> bool {
+        let sent = |row: &[u64]| row.len() == ENTRY && row[0] == 7 && row[ENTRY - 1] > 0;
+        let senders = sent(entry) && sent(other) && entry[1] != other[1];
+        senders || (SECOND.independent)(entry, other)
+    }
+    assert!(disordered(Engine { independent: wrong, ..SECOND }).contains("says otherwise"));
 }

@@ -4,6 +4,7 @@
 
 use compare::linked::ENGINE;
 use compare::met::Met;
+use compare::orders::{self, Tried};
 use compare::{lists, specimens, texts, with_stack};
 use second::generate::{Buffers, SECOND};
 use second::script::{self, Form};
@@ -25,6 +26,17 @@ fn both_engines_agree_on_the_fixed_seeds() {
     println!("{met}");
     assert_eq!(met.missing(&specimens::names()), Vec::<String>::new());
     assert!(met.calls >= lists::LEAST_CALLS);
+}
+
+#[test]
+fn independent_entries_end_alike_in_both_orders() {
+    let met = with_stack(|| {
+        let mut met = Tried::default();
+        orders::run(&ENGINE, 0..orders::SEEDS, &mut met).unwrap();
+        met
+    });
+    println!("{met}");
+    assert_eq!(met.missing(), Vec::<String>::new());
 }
 
 fn repository() -> PathBuf {

@@ -1,6 +1,7 @@
 //! The second engine against itself on the fixed seeds: nothing differs, and everything is met.
 
 use compare::met::Met;
+use compare::orders::{self, Tried};
 use compare::{lists, specimens, with_stack};
 use second::generate::SECOND;
 
@@ -22,4 +23,16 @@ fn the_fixed_seeds_meet_everything() {
 fn what_was_not_met_is_told() {
     let missing = Met::default().missing(&specimens::names());
     assert_eq!(missing.len(), 11 + 6 + 11 + 6 + 3 * 5 + 1 + 6 * 3 + 4 + 12 + specimens::names().len(), "{missing:?}");
+}
+
+#[test]
+fn independent_entries_end_alike_in_both_orders() {
+    let met = with_stack(|| {
+        let mut met = Tried::default();
+        orders::run(&SECOND, 0..orders::SEEDS, &mut met).unwrap();
+        met
+    });
+    println!("{met}");
+    assert_eq!(met.missing(), Vec::<String>::new());
+    assert_eq!(Tried::default().missing().len(), 17);
 }

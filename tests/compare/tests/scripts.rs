@@ -21,7 +21,7 @@ fn a_written_script_is_read_as_the_same_calls() {
             .into_iter()
             .map(|line| match line {
                 Line::Call(call) => call,
-                Line::State => panic!("no state was asked for"),
+                _ => panic!("calls alone were written"),
             })
             .collect();
         assert_eq!(format!("{read:?}"), format!("{calls:?}"), "seed {seed}");

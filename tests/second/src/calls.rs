@@ -1,5 +1,7 @@
 //! Lists of calls: what a call asks for, the calls of any engine, and the buffers they are made on.
 
+use crate::independent;
+use crate::listing::FIELDS;
 use crate::state::{Channel, Item, Pair, FIRST_PAIR, FIRST_PROCESS, PAIR, PROCESS};
 use crate::{Answer, Opening, LISTING, MODEL, REPORT, SAVES, STATE};
 
@@ -165,6 +167,8 @@ pub struct Engine {
     pub save: fn(&[u8], &[i64], &mut [i64], &[u8]) -> Answer,
     pub return_to: fn(&[u8], &mut [i64], &[i64], &[u8]) -> Answer,
     pub forget: fn(&[u8], &[i64], &mut [i64], &[u8]) -> Answer,
+    /// Of two entries of a listing.
+    pub independent: fn(&[u64], &[u64]) -> bool,
 }
 
 /// This crate's engine.
@@ -176,6 +180,7 @@ pub const SECOND: Engine = Engine {
     save: crate::save,
     return_to: crate::return_to,
     forget: crate::forget,
+    independent: independent::independent,
 };
 
 /// How much longer the longest lent buffer may be than it should.
@@ -265,6 +270,15 @@ impl Buffers {
                 self.report.fill(*number);
             }
             _ => {}
+        }
+    }
+
+    /// Are two entries of the listing independent? Not if it hasn't both.
+    pub fn independent(&self, engine: &Engine, first: u64, second: u64) -> bool {
+        let row = |number: u64| self.listing[..LISTING].chunks(FIELDS).nth(usize::try_from(number).ok()?);
+        match (row(first), row(second)) {
+            (Some(one), Some(other)) => (engine.independent)(one, other),
+            _ => false,
         }
     }
 

@@ -9,6 +9,7 @@ pub mod calls;
 pub mod engine;
 pub mod eval;
 pub mod generate;
+pub mod independent;
 pub mod limits;
 pub mod listing;
 pub mod model;

@@ -7,7 +7,13 @@ use crate::state::{Channel, Item, Pair, State};
 
 /// The most entries a listing has.
 pub const ENTRIES: usize = 1_024;
-const FIELDS: usize = 7;
+/// Numbers of an entry.
+pub const FIELDS: usize = 7;
+/// Which of them are these.
+pub const KIND: usize = 0;
+pub const PLACE: usize = 1;
+pub const PARTNER: usize = 3;
+pub const WEIGHT: usize = 6;
 /// The length of the listing buffer.
 pub const BUFFER: usize = ENTRIES * FIELDS;
 const TOTAL: u128 = 9_000_000_000_000_000_000;
@@ -34,6 +40,30 @@ pub struct Entry {
     /// The pair's place in the state. 0 if it isn't a binding receive.
     pub pair: usize,
     pub weight: u64,
+}
+
+impl Kind {
+    const ALL: [Kind; 7] =
+        [Kind::Wait, Kind::Launch, Kind::Kill, Kind::Receive, Kind::BindingReceive, Kind::Check, Kind::Handshake];
+}
+
+impl Entry {
+    /// As a listing buffer has it.
+    pub fn numbers(&self) -> [u64; FIELDS] {
+        let places =
+            [self.place, self.branch, self.partner, self.partner_branch, self.pair].map(|number| number as u64);
+        let [place, branch, partner, partner_branch, pair] = places;
+        [self.kind as u64, place, branch, partner, partner_branch, pair, self.weight]
+    }
+
+    /// The entry with these numbers, if they are of a kind.
+    pub fn read(numbers: &[u64]) -> Option<Entry> {
+        let &[kind, place, branch, partner, partner_branch, pair, weight] = numbers else { return None };
+        let kind = Kind::ALL.into_iter().find(|&one| one as u64 == kind)?;
+        let [place, branch, partner, partner_branch, pair] =
+            [place, branch, partner, partner_branch, pair].map(|number| number as usize);
+        Some(Entry { kind, place, branch, partner, partner_branch, pair, weight })
+    }
 }
 
 #[derive(Debug)]
@@ -245,12 +275,6 @@ pub fn write_report(listing: &Listing, model: &Model, state: &State, report: &mu
 pub fn write_buffer(listing: &Listing, buffer: &mut [u64]) {
     buffer.fill(0);
     for (entry, part) in listing.entries.iter().zip(buffer.chunks_mut(FIELDS)) {
-        part[0] = entry.kind as u64;
-        part[1] = entry.place as u64;
-        part[2] = entry.branch as u64;
-        part[3] = entry.partner as u64;
-        part[4] = entry.partner_branch as u64;
-        part[5] = entry.pair as u64;
-        part[6] = entry.weight;
+        part.copy_from_slice(&entry.numbers());
     }
 }

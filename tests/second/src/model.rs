@@ -264,6 +264,14 @@ impl Model {
     pub fn processes_of(&self, definition: usize) -> usize {
         self.definitions[definition].sums.len()
     }
+
+    /// How many processes a part of a continuation gives.
+    pub fn processes_of_item(&self, item: &Item) -> usize {
+        match item {
+            Item::Sum(_) => 1,
+            Item::Call { definition, .. } => self.processes_of(*definition),
+        }
+    }
 }
 
 /// Turns a tree into a model. Questions 2 to 9 have the answer yes for the text.

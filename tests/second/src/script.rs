@@ -1,7 +1,8 @@
 //! Lists of calls as scripts for the program `calls`, and what that program prints for one.
 //!
 //! A script has lines `open N` (N bytes and a newline follow), `list`, `step D`, `report`, `save NAME`,
-//! `return NAME`, `forget NAME` (all bytes of the line after the blank) and `state`.
+//! `return NAME`, `forget NAME` (all bytes of the line after the blank), `state` and `independent I J`
+//! (of two entries of the listing buffer: 1 or 0).
 //! Every line ends with a newline, words stand one blank apart, numbers are digits alone. A line of
 //! another form, or an opening without its N bytes, ends the run with `bad` and its number, which
 //! counts every newline before it, those of texts too.
@@ -30,6 +31,8 @@ pub enum Form {
 pub enum Line {
     Call(Call),
     State,
+    /// Are these two entries of the listing buffer independent?
+    Independent(u64, u64),
 }
 
 /// Can the program `calls` run these, or has the script lines with `!`?
@@ -161,6 +164,7 @@ fn named(line: &[u8], lengths: Lengths) -> Option<Call> {
 fn short_line(words: &[&str], lengths: Lengths) -> Option<Line> {
     let call = match *words {
         ["state"] => return Some(Line::State),
+        ["independent", first, second] => return Some(Line::Independent(whole(first)?, whole(second)?)),
         ["list"] => Call::List { lengths },
         ["step", draw] => Call::Step { lengths, draw: Draw::Exactly(whole(draw)?) },
         ["report"] => Call::Report { lengths },
@@ -192,6 +196,10 @@ pub fn print(engine: &Engine, script: &[u8], form: Form) -> String {
     for line in &lines {
         match line {
             Line::State => printed.push_str(&(numbers(&buffers.state[..STATE]) + "\n")),
+            Line::Independent(first, second) => {
+                let is = buffers.independent(engine, *first, *second);
+                printed.push_str(if is { "1\n" } else { "0\n" });
+            }
             Line::Call(call) => {
                 if let Some(answer) = buffers.make(engine, call) {
                     print_answer(&mut printed, call, &answer, &buffers);

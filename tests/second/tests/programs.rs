@@ -139,6 +139,24 @@ fn calls_saves_returns_and_forgets() {
 }
 
 #[test]
+fn calls_tells_which_entries_are_independent() {
+    let text = "A[]={a,1}+{c![1],1};2*A[];";
+    let script = format!(
+        "independent 0 1\nopen {}\n{text}\nindependent 0 2\nlist\nindependent 0 2\nindependent 2 0\n\
+         independent 0 1\nindependent 1 2\nindependent 0 4\nindependent 18446744073709551615 0\nopen 0\n\nlist\n\
+         independent 0 2\nindependent 0\n",
+        text.len()
+    );
+    let printed = calls(&script);
+    let bits: Vec<&str> = printed.lines().filter(|line| line.len() == 1).collect();
+    assert_eq!(bits, ["0", "0", "1", "1", "0", "0", "0", "0", "1"]);
+    assert!(printed.ends_with("bad,16\n"), "{printed}");
+    assert_eq!(calls("independent 0 18446744073709551616\n"), "bad,1\n");
+    assert_eq!(calls("independent 0 1 2\n"), "bad,1\n");
+    assert_eq!(calls("independent 0  1\n"), "bad,1\n");
+}
+
+#[test]
 fn a_line_of_another_form_ends_the_run() {
     let cases: [(&str, &str); 16] = [
         ("list\nlists\nlist\n", "11 0 0 0 0 0\nbad,2\n"),

@@ -7,6 +7,7 @@
 //! A difference is printed with its script, which is also written to `difference.script`.
 
 use compare::met::Met;
+use compare::orders::{self, Tried};
 use compare::{lists, specimens};
 use second::generate::Engine;
 use std::process::ExitCode;
@@ -52,7 +53,7 @@ fn flags() -> Option<(Option<u64>, Option<u64>)> {
 }
 
 fn run(engine: &Engine, from: Option<u64>, seconds: Option<u64>) -> ExitCode {
-    let mut met = Met::default();
+    let (mut met, mut tried) = (Met::default(), Tried::default());
     let fixed = from.is_none() && seconds.is_none();
     let mut seed = if fixed { 0 } else { from.unwrap_or(lists::LISTS) };
     let end = Instant::now() + Duration::from_secs(seconds.unwrap_or(u64::from(u32::MAX)));
@@ -65,10 +66,14 @@ fn run(engine: &Engine, from: Option<u64>, seconds: Option<u64>) -> ExitCode {
             }
             return ExitCode::FAILURE;
         }
+        if let Err(fault) = orders::run(engine, seed..seed + BATCH, &mut tried) {
+            println!("{fault}");
+            return ExitCode::FAILURE;
+        }
         seed += BATCH;
     }
-    println!("{met}");
-    let missing = met.missing(&specimens::names());
+    println!("{met}\n{tried}");
+    let missing = [met.missing(&specimens::names()), tried.missing()].concat();
     for what in &missing {
         println!("never met: {what}");
     }

@@ -1159,6 +1159,11 @@ pub fn stored_calls(random: &mut Random, most: usize) -> Vec<Call> {
     for _ in 0..1 + random.below(2) {
         let text = if random.chance(90) { lively(random) } else { some_text(random) };
         calls.push(lent(random, Call::Open { text, lengths: RIGHT }));
+        // All names at once, one more than there may be.
+        if random.chance(30) {
+            let names = SAVE_NAMES.iter().take(saves::PLACES + 1);
+            calls.extend(names.map(|name| Call::Save { lengths: RIGHT, name: name.as_bytes().to_vec() }));
+        }
         for _ in 0..random.below(most + 1) {
             match random.below(20) {
                 0 => {

@@ -58,14 +58,22 @@ fn definition(number: usize) -> String {
 #[cfg(test)]
 mod tests {
     use super::*;
+    use second::generate::{Buffers, SECOND};
+
+    /// The model and the state that the second engine opens a text to.
+    fn opened(text: &[u8]) -> (Vec<u8>, Vec<i64>) {
+        let (mut buffers, answer) = Buffers::opened(&SECOND, text);
+        assert_eq!(answer.number, 0, "{answer:?}");
+        buffers.model.truncate(second::MODEL);
+        buffers.state.truncate(second::STATE);
+        (buffers.model, buffers.state)
+    }
 
     #[test]
     fn each_model_is_legal_and_takes_a_step() {
         for model in all() {
-            let (mut held, mut state) = (vec![0; second::MODEL], vec![0; second::STATE]);
+            let (held, mut state) = opened(&model.text);
             let mut listing = vec![0; second::LISTING];
-            let opened = second::open(&model.text, &mut held, &mut state);
-            assert_eq!(opened.number, 0, "{} {opened:?}", model.name);
             assert_eq!(second::step(&held, &mut state, &mut listing, 0).number, 0, "{}", model.name);
         }
     }
@@ -73,9 +81,8 @@ mod tests {
     #[test]
     fn the_chromosome_is_copied_whole() {
         let text = include_bytes!("../../../models/chromosome.bc");
-        let (mut held, mut state) = (vec![0; second::MODEL], vec![0; second::STATE]);
+        let (held, mut state) = opened(text);
         let mut listing = vec![0; second::LISTING];
-        second::open(text, &mut held, &mut state);
         let mut random = second::generate::Random::new(1);
         loop {
             let total = second::list(&held, &state, &mut listing).total;

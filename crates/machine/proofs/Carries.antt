@@ -4,8 +4,9 @@ use mathlib.Core.Path.{_≡_, refl, sym, ap, _∙_}
 use mathlib.Core.List.{List}
 use mathlib.Core.Bool.{Bool, true, false, cond}
 use mathlib.Core.Logic.{_↔_}
-use Prim.Native.Nat.{ℕ}
+use Prim.Native.Nat.{ℕ, _≤_, _<_}
 use native.Mathlib.Omega.{arith}
+use Rattle.clock.specs.declared.Clock.{Clock}
 use Rattle.model.specs.Resolved
 use Rattle.model.specs.Opening.{Opening, opening}
 use Rattle.model.specs.Questions.{Answers, no2, no3, no4, no5, no6, no7, no8, no9, no10, yesToAll}
@@ -13,15 +14,16 @@ use Rattle.model.proofs.Answered.{answered}
 use Rattle.rules.specs.Listing.{Entry}
 use Rattle.rules.proofs.Decides.{Decides, holds, fails, passes}
 use Rattle.machine.specs.State.{State}
-use Rattle.machine.specs.Machine.{asLent, Answer, no, listedAs, reportedAs, Listed, entriesAre, refusedWith, listing, Turn, turn, drawn, showing, lists, sharing, reports, choosing, stepsWith}
-use Rattle.machine.specs.Machine.{Held, moved, Machine, closed, holding, onState, Request, list′, step′, report′, Ask, open′, on′, acts, Part, hasLengths, Call, call, opens, onMachine, asked, calls}
-use Rattle.machine.specs.Questions.{no12, no13, no14, yes14, Steps, no15, no16, no17, no18, no19, yes19}
+use Rattle.machine.specs.Machine.{asLent, Answer, no, listedAs, reportedAs, Listed, entriesAre, refusedWith, listing, Turn, turn, refusing, drawn, Timed, timed, stepsIn, timesWith, showing, lists, sharing, reports, choosing, stepsWith}
+use Rattle.machine.specs.Machine.{Held, moved, movedIn, Machine, closed, holding, onState, onClock, Request, list′, step′, report′, timed′, Ask, open′, on′, acts, Part, hasLengths, Call, call, opens, onMachine, asked, calls}
+use Rattle.machine.specs.Questions.{no12, no13, no14, yes14, Steps, no15, no16, no17, no18, no19, yes19, Times, no15-19, no23, no24, no25, yes25}
 use Rattle.machine.specs.Questions as questions
 use Rattle.machine.specs.Results as results
-use Rattle.machine.specs.Results.{Runs, Lists, Lent, Carries, under1, under2-10, under11, under12, under13, under14, under15-19}
+use Rattle.machine.specs.Results.{Runs, Lists, Chooses, Lent, Carries, under1, under2-10, under11, under12, under13, under14, under15-19, under23-25}
 use Rattle.machine.proofs.Lent.{lent-so}
 use Rattle.machine.proofs.Listing as listing
 use Rattle.machine.proofs.Stepping as stepping
+use Rattle.machine.proofs.Timing as timing
 
 -- what a turn from x by a request carries, when it leaves x, and that it is not answered as 1 or 11 are
 record Kept {M : Type 0} (x : M) (r : Request) (t : Turn M) : Type 0 where
@@ -53,22 +55,50 @@ report-kept m s = go (listing.asked m s (listing m s) .0 refl)
     go (yes14 e h l f) = record { carries = results.reports _ _; stays = λ n. refl; one = λ e. omega arith; eleven = λ e. omega arith }
 
 step-kept : (d : ℕ) (m : Resolved.Model) (s : State) → Kept s (step′ d) (stepsWith d m s)
-unfolding stepsWith choosing no listedAs Lists
+unfolding stepsWith choosing no listedAs Lists Chooses
 step-kept d m s = go (listing.asked m s (listing m s) .0 refl)
   where
     taken : {es : List Entry} {t : Turn State} → Steps m s es d t → Kept s (step′ d) t
-    taken (no15 e) = record { carries = under15-19 15 _ (omega arith) (omega arith); stays = λ n. refl; one = λ e. omega arith; eleven = λ e. omega arith }
-    taken (no16 l g) = record { carries = under15-19 16 _ (omega arith) (omega arith); stays = λ n. refl; one = λ e. omega arith; eleven = λ e. omega arith }
-    taken (no17 o g) = record { carries = under15-19 17 _ (omega arith) (omega arith); stays = λ n. refl; one = λ e. omega arith; eleven = λ e. omega arith }
-    taken (no18 r l) = record { carries = under15-19 18 _ (omega arith) (omega arith); stays = λ n. refl; one = λ e. omega arith; eleven = λ e. omega arith }
-    taken (no19 r l f) = record { carries = under15-19 19 _ (omega arith) (omega arith); stays = λ n. refl; one = λ e. omega arith; eleven = λ e. omega arith }
-    taken (yes19 r l f) = record { carries = results.steps _ _; stays = λ n. absurd (n refl); one = λ e. omega arith; eleven = λ e. omega arith }
+    taken (no15 e) = record { carries = under15-19 15 _ tt (omega arith) (omega arith); stays = λ n. refl; one = λ e. omega arith; eleven = λ e. omega arith }
+    taken (no16 l g) = record { carries = under15-19 16 _ tt (omega arith) (omega arith); stays = λ n. refl; one = λ e. omega arith; eleven = λ e. omega arith }
+    taken (no17 o g) = record { carries = under15-19 17 _ tt (omega arith) (omega arith); stays = λ n. refl; one = λ e. omega arith; eleven = λ e. omega arith }
+    taken (no18 r l) = record { carries = under15-19 18 _ tt (omega arith) (omega arith); stays = λ n. refl; one = λ e. omega arith; eleven = λ e. omega arith }
+    taken (no19 r l f) = record { carries = under15-19 19 _ tt (omega arith) (omega arith); stays = λ n. refl; one = λ e. omega arith; eleven = λ e. omega arith }
+    taken (yes19 r l f) = record { carries = results.steps _ _ tt; stays = λ n. absurd (n refl); one = λ e. omega arith; eleven = λ e. omega arith }
 
     go : {l : Listed} → questions.Lists m s l → Kept s (step′ d) (choosing m s d l)
     go (no12 f) = record { carries = under12 _ _ tt; stays = λ n. refl; one = λ e. omega arith; eleven = λ e. omega arith }
     go (no13 e h l) = record { carries = under13 tt; stays = λ n. refl; one = λ e. omega arith; eleven = λ e. omega arith }
     go (no14 e h l f) = record { carries = under14 tt; stays = λ n. refl; one = λ e. omega arith; eleven = λ e. omega arith }
     go (yes14 {es = es} e h l f) = taken (stepping.asked m s es h d (drawn m s es d) .0 refl)
+
+timed-kept : (ds : List ℕ) (d : ℕ) (m : Resolved.Model) (s : State) (c : Clock) → Kept (timed s c) (timed′ ds d) (timesWith ds d m s c)
+unfolding timesWith stepsWith choosing stepsIn no listedAs Lists Chooses
+timed-kept ds d m s c = go (listing.asked m s (listing m s) .0 refl)
+  where
+    step-number : (n : ℕ) {es : List Entry} → 0 < n → Steps m s es d (refusing s es n) → (15 ≤ n) × (n ≤ 19)
+    step-number n l a = by refl a
+      where
+        by : {es : List Entry} {t : Turn State} → t .answer .number ≡ n → Steps m s es d t → (15 ≤ n) × (n ≤ 19)
+        by e (no15 f) = (omega arith, omega arith)
+        by e (no16 l f) = (omega arith, omega arith)
+        by e (no17 o f) = (omega arith, omega arith)
+        by e (no18 r f) = (omega arith, omega arith)
+        by e (no19 r f g) = (omega arith, omega arith)
+        by e (yes19 r f g) = absurd (omega arith)
+
+    taken : {es : List Entry} {t : Turn Timed} → Times m s c es ds d t → Kept (timed s c) (timed′ ds d) t
+    taken (no15-19 n l a) = let k = step-number n l a in record { carries = under15-19 n _ tt (k .0) (k .1); stays = λ n. refl; one = λ e. omega arith; eleven = λ e. omega arith }
+    taken (no23 i a w) = record { carries = under23-25 23 _ (omega arith) (omega arith); stays = λ n. refl; one = λ e. omega arith; eleven = λ e. omega arith }
+    taken (no24 i a w) = record { carries = under23-25 24 _ (omega arith) (omega arith); stays = λ n. refl; one = λ e. omega arith; eleven = λ e. omega arith }
+    taken (no25 i a w p) = record { carries = under23-25 25 _ (omega arith) (omega arith); stays = λ n. refl; one = λ e. omega arith; eleven = λ e. omega arith }
+    taken (yes25 i a w p q) = record { carries = results.steps _ _ tt; stays = λ n. absurd (n refl); one = λ e. omega arith; eleven = λ e. omega arith }
+
+    go : {l : Listed} → questions.Lists m s l → Kept (timed s c) (timed′ ds d) (stepsIn c ds s (choosing m s d l))
+    go (no12 f) = record { carries = under12 _ _ tt; stays = λ n. refl; one = λ e. omega arith; eleven = λ e. omega arith }
+    go (no13 e h l) = record { carries = under13 tt; stays = λ n. refl; one = λ e. omega arith; eleven = λ e. omega arith }
+    go (no14 e h l f) = record { carries = under14 tt; stays = λ n. refl; one = λ e. omega arith; eleven = λ e. omega arith }
+    go (yes14 {es = es} e h l f) = taken (timing.asked m s c es h ds d (stepsIn c ds s (drawn m s es d)) .0 refl)
 
 -- ---- requests
 
@@ -77,11 +107,17 @@ state-kept : (r : Request) (f : Resolved.Model → State → Turn State) (h : He
 unfolding onState
 state-kept r f h k = record { carries = k .carries; stays = λ n. ap (moved h) (k .stays n); one = k .one; eleven = k .eleven }
 
+-- one that turns the state and the clock
+clock-kept : (r : Request) (f : Resolved.Model → State → Clock → Turn Timed) (h : Held) → Kept (timed (h .state) (h .clock)) r (f (h .model) (h .state) (h .clock)) → Kept h r (onClock f h)
+unfolding onClock
+clock-kept r f h k = record { carries = k .carries; stays = λ n. ap (movedIn h) (k .stays n); one = k .one; eleven = k .eleven }
+
 kept : (r : Request) (h : Held) → Kept h r (acts r h)
 unfolding acts
 kept list′ h = state-kept list′ lists h (list-kept (h .model) (h .state))
 kept (step′ d) h = state-kept (step′ d) (stepsWith d) h (step-kept d (h .model) (h .state))
 kept report′ h = state-kept report′ reports h (report-kept (h .model) (h .state))
+kept (timed′ ds d) h = clock-kept (timed′ ds d) (timesWith ds d) h (timed-kept ds d (h .model) (h .state) (h .clock))
 
 -- ---- openings
 

@@ -1,14 +1,24 @@
 -- What the machine holds stays over its model: at an opening, and by every request, one lemma for each.
 use mathlib.Core.Path.{_≡_, refl}
 use mathlib.Core.List.{List}
-use Prim.Native.Nat.{ℕ, _≤_}
+use mathlib.Core.Bool.{Bool, true, false, cond, _&&_}
+use Prim.Native.Nat.{ℕ, _+_, _≤_}
+use native.Mathlib.Omega.{arith}
+use borrow.Author.Tests.{leb-true}
+use lib.Dec.{eqb, leb}
+use Rattle.waits.specs.declared.Wait.{Wait}
+use Rattle.waits.specs.declared.Wait.the-variants.{Given, Ended, Long}
+use Rattle.waits.specs.Runs.{waitOf}
+use Rattle.clock.specs.declared.Clock.{Clock}
+use Rattle.clock.specs.declared.Brought.{Brought}
+use Rattle.clock.specs.Clock.{clockLimit, InRange, ticksOf, brought, forwarded, waited, broughtBy}
 use Rattle.model.specs.Resolved
 use Rattle.model.specs.Opening.{processLimit}
 use Rattle.model.specs.Opening as opening
 use Rattle.model.specs.Good.{GoodModel}
 use Rattle.rules.specs.Listing.{Entry}
 use Rattle.machine.specs.State.{State, GoodState}
-use Rattle.machine.specs.Machine.{Listed, entriesAre, refusedWith, listing, Turn, drawn, showing, lists, sharing, reports, choosing, stepsWith, Held, held, Good, onState, Request, list′, step′, report′, acts, openedState}
+use Rattle.machine.specs.Machine.{Listed, entriesAre, refusedWith, listing, Turn, turn, drawn, Timed, timed, refusedAs, withWait, stepsIn, timesWith, showing, lists, sharing, reports, choosing, stepsWith, Held, held, Good, onState, onClock, Request, list′, step′, report′, timed′, acts, openedState}
 use Rattle.machine.specs.Questions.{Steps, no15, no16, no17, no18, no19, yes19}
 use Rattle.machine.proofs.Listing.{accepted}
 use Rattle.machine.proofs.Stepping as stepping
@@ -16,7 +26,7 @@ use Rattle.machine.proofs.Stays as stays
 
 -- 01, Open
 pub opened-good : (m : Resolved.Model) → GoodModel m → opening.startProcesses (m .definitions) (m .starts) ≤ processLimit → Good (held m (openedState m))
-opened-good m g few = record { state = stays.opened-good m g few }
+opened-good m g few = record { state = stays.opened-good m g few; clock = record { ticks = omega arith; draws = omega arith } }
 
 -- ---- turns of a state
 
@@ -53,22 +63,68 @@ module _ (m : Resolved.Model) (s : State) (g : GoodState m s) where
       by (entriesAre es) e = taken (stepping.asked m s es (accepted m s es .0 e .1) d (drawn m s es d) .0 refl)
       by (refusedWith a) e = g
 
+-- ---- turns of a state and a clock
+
+-- 02, note 4: a clock in its range stays in it
+forward-good : (c : Clock) (t u : ℕ) → InRange c → InRange (forwarded c t u .clock)
+unfolding forwarded
+forward-good c t u g = by (leb (c .ticks + t) clockLimit) refl (leb (c .draws + u) clockLimit) refl
+  where
+    by : (a : Bool) → leb (c .ticks + t) clockLimit ≡ a → (b : Bool) → leb (c .draws + u) clockLimit ≡ b
+        → InRange (cond (a && b) (brought 0 (record { ticks = c .ticks + t; draws = c .draws + u })) (brought 25 c) .clock)
+    by true p true q = record { ticks = leb-true _ _ p; draws = leb-true _ _ q }
+    by true p false q = g
+    by false p b q = g
+
+brought-good : (c : Clock) (ds : List ℕ) (sum : ℕ) → InRange c → InRange (broughtBy c ds sum .clock)
+unfolding broughtBy waited
+brought-good c ds sum g = by (waitOf ds)
+  where
+    by : (w : Wait) → InRange (waited c sum w .clock)
+    by (Given e u) = forward-good c (ticksOf e sum) u g
+    by Ended = g
+    by Long = g
+
+module _ (m : Resolved.Model) (s : State) (c : Clock) (k : GoodModel m) (g : GoodState m s) (r : InRange c) (ds : List ℕ) (d : ℕ) where
+  times-good : GoodState m (timesWith ds d m s c .machine .state) × InRange (timesWith ds d m s c .machine .clock)
+  unfolding timesWith stepsIn withWait
+  times-good = by (stepsWith d m s) (broughtBy c ds (stepsWith d m s .answer .total)) (step-good m s g k d) (brought-good c ds (stepsWith d m s .answer .total) r)
+    where
+      by : (t : Turn State) (b : Brought) → GoodState m (t .machine) → InRange (b .clock)
+          → let u = cond (eqb (t .answer .number) 0) (withWait s c t b) (turn (timed (t .machine) c) (t .answer)) in GoodState m (u .machine .state) × InRange (u .machine .clock)
+      by t b h i = go (eqb (t .answer .number) 0) (eqb (b .number) 0)
+        where
+          go : (x y : Bool)
+              → let u = cond x (cond y (turn (timed (t .machine) (b .clock)) (t .answer)) (turn (timed s c) (refusedAs (b .number) (t .answer)))) (turn (timed (t .machine) c) (t .answer)) in
+              GoodState m (u .machine .state) × InRange (u .machine .clock)
+          go true true = (h, i)
+          go true false = (g, r)
+          go false y = (h, r)
+
 -- ---- requests
 
 -- one that turns the state
 state-good : (f : Resolved.Model → State → Turn State) (h : Held) → Good h → GoodState (h .model) (f (h .model) (h .state) .machine) → Good (onState f h .machine)
 unfolding onState
-state-good f h g k = record { state = k }
+state-good f h g k = record { state = k; clock = g .clock }
+
+-- 02, note 4: the state and the clock
+clock-good : (f : Resolved.Model → State → Clock → Turn Timed) (h : Held) → Good h → GoodState (h .model) (f (h .model) (h .state) (h .clock) .machine .state) × InRange (f (h .model) (h .state) (h .clock) .machine .clock)
+    → Good (onClock f h .machine)
+unfolding onClock
+clock-good f h g k = record { state = k .0; clock = k .1 }
 
 pub acts-good : (r : Request) (h : Held) → GoodModel (h .model) → Good h → Good (acts r h .machine)
 unfolding acts
 acts-good list′ h k g = state-good lists h g (list-good (h .model) (h .state) (g .state))
 acts-good (step′ d) h k g = state-good (stepsWith d) h g (step-good (h .model) (h .state) (g .state) k d)
 acts-good report′ h k g = state-good reports h g (report-good (h .model) (h .state) (g .state))
+acts-good (timed′ ds d) h k g = clock-good (timesWith ds d) h g (times-good (h .model) (h .state) (h .clock) k (g .state) (g .clock) ds d)
 
 -- 01, Rule machine: no request alters the model
 pub same-model : (r : Request) (h : Held) → acts r h .machine .model ≡ h .model
-unfolding acts onState
+unfolding acts onState onClock
 same-model list′ h = refl
 same-model (step′ d) h = refl
 same-model report′ h = refl
+same-model (timed′ ds d) h = refl

@@ -16,6 +16,9 @@ use Rattle.rules.specs.Rules.{Key, key}
 use Rattle.rules.specs.Listing.{Entry, keyOf, entries}
 use Rattle.rules.specs.Draw.{weights, total, chosen}
 use Rattle.rules.specs.Step as steps
+use Rattle.clock.specs.declared.Clock.{Clock}
+use Rattle.clock.specs.declared.Brought.{Brought}
+use Rattle.clock.specs.Clock.{freshClock, InRange, broughtBy}
 use Rattle.machine.specs.Offer.{Process, branchesOf, called, argumentsGiven, branches, missing}
 use Rattle.machine.specs.State.{State, GoodState, stateLength, pairLimit}
 use Rattle.machine.specs.Report.{reportLength, reportOf}
@@ -175,24 +178,54 @@ choosing m s d (refusedWith a) = turn s a
 unfoldable pub stepsWith : ℕ → Resolved.Model → State → Turn State
 stepsWith d m s = choosing m s d (listing m s)
 
+-- ---- turns of a state and a clock (02, note 4)
+
+pub record Timed : Type 0 where
+  pub state : State
+  pub clock : Clock
+
+abbrev pub timed : State → Clock → Timed
+timed s c = record { state = s; clock = c }
+
+-- 02, note 4: 23 to 25 answer as 19 does: with the count and total of the listing, which stays filled, and 0 as chosen entry
+unfoldable pub refusedAs : ℕ → Answer → Answer
+refusedAs n a = record { number = n; place = 0; branch = 0; count = a .count; total = a .total; chosen = 0; listing = a .listing }
+
+-- 02, note 4: a step from s that was accepted, and what the waiting draws made of the clock c: both go on, or neither
+unfoldable pub withWait : State → Clock → Turn State → Brought → Turn Timed
+withWait s c t b = cond (eqb (b .number) 0) (turn (timed (t .machine) (b .clock)) (t .answer)) (turn (timed s c) (refusedAs (b .number) (t .answer)))
+
+-- 02, note 4: a step with the choosing draw d; where it is refused, that is the answer, and the clock stays; where it is accepted, 23 to 25
+unfoldable pub stepsIn : Clock → List ℕ → State → Turn State → Turn Timed
+stepsIn c ds s t = cond (eqb (t .answer .number) 0) (withWait s c t (broughtBy c ds (t .answer .total))) (turn (timed (t .machine) c) (t .answer))
+
+unfoldable pub timesWith : (waiting : List ℕ) (draw : ℕ) → Resolved.Model → State → Clock → Turn Timed
+timesWith ds d m s c = stepsIn c ds s (stepsWith d m s)
+
 -- ---- what the machine holds
 
--- 01, Rule machine: the model it read, with a state
+-- 01, Rule machine: the model it read, with a state; 02, note 4: and a clock
 pub record Held : Type 0 where
   pub model : Resolved.Model
   pub state : State
+  pub clock : Clock
 
--- this model and this state, and nothing else
+-- this model and this state, and a clock at zero
 abbrev pub held : Resolved.Model → State → Held
-held m s = record { model = m; state = s }
+held m s = record { model = m; state = s; clock = freshClock }
 
 -- the same, with this state
 abbrev pub moved : Held → State → Held
-moved h s = record { model = h .model; state = s }
+moved h s = record { model = h .model; state = s; clock = h .clock }
 
--- 01, Listing, 11: all that is held is over the model
+-- with this state and this clock
+abbrev pub movedIn : Held → Timed → Held
+movedIn h t = record { model = h .model; state = t .state; clock = t .clock }
+
+-- 01, Listing, 11: all that is held is over the model; 02, note 4: the clock is in its range
 pub record Good (h : Held) : Type 0 where
   pub state : GoodState (h .model) (h .state)
+  pub clock : InRange (h .clock)
 
 -- 01, Rule machine: closed, or holding all that
 pub data Machine : Type 0 where
@@ -205,13 +238,18 @@ pub data Machine : Type 0 where
 unfoldable pub onState : (Resolved.Model → State → Turn State) → Held → Turn Held
 onState f h = let t = f (h .model) (h .state) in turn (moved h (t .machine)) (t .answer)
 
+-- 02, note 4: the clock too is read and written
+unfoldable pub onClock : (Resolved.Model → State → Clock → Turn Timed) → Held → Turn Held
+onClock f h = let t = f (h .model) (h .state) (h .clock) in turn (movedIn h (t .machine)) (t .answer)
+
 -- ---- calls
 
--- 01, Listing and stepping, and 02, note 6: requests to a model that is held, of which 11 is asked first
+-- 01, Listing and stepping, and 02, notes 4 and 6: requests to a model that is held, of which 11 is asked first
 pub data Request : Type 0 where
   list′ : Request
   step′ : (draw : ℕ) → Request
   report′ : Request
+  timed′ : (waiting : List ℕ) (draw : ℕ) → Request
 
 -- 01, Rule machine: what a call asks: to open a text, or a request
 pub data Ask : Type 0 where
@@ -223,36 +261,49 @@ unfoldable pub acts : Request → Held → Turn Held
 acts list′ = onState lists
 acts (step′ d) = onState (stepsWith d)
 acts report′ = onState reports
+acts (timed′ ds d) = onClock (timesWith ds d)
 
 -- ---- what is lent
 
--- 01, State: the engine's buffers
+-- 01, State: the engine's buffers; 02, note 4: and its clock
 pub data Part : Type 0 where
   model : Part
   state : Part
+  clock : Part
+
+-- 02, note 4: ticks and waiting draws used; a record, which never has another number of them, so that 1 is never the clock's
+abbrev pub clockLength : ℕ
+clockLength = 2
 
 -- 01, 1: their lengths
 abbrev pub size : Part → ℕ
 size model = modelLength
 size state = stateLength
+size clock = clockLength
 
 abbrev pub partNumber : Part → ℕ
 partNumber model = 0
 partNumber state = 1
+partNumber clock = 2
 
 -- the two that every list, step and report is lent
 abbrev pub twoParts : List Part
 twoParts = model ∷ state ∷ []
+
+-- those of a timed step
+abbrev pub timedParts : List Part
+timedParts = model ∷ state ∷ clock ∷ []
 
 -- a buffer goes only to the calls that use it
 abbrev pub uses : Request → List Part
 uses list′ = twoParts
 uses (step′ d) = twoParts
 uses report′ = twoParts
+uses (timed′ ds d) = timedParts
 
 -- an opening writes them all
 abbrev pub lentTo : Ask → List Part
-lentTo (open′ text) = model ∷ state ∷ []
+lentTo (open′ text) = model ∷ state ∷ clock ∷ []
 lentTo (on′ r) = uses r
 
 -- 01, Transitions, and 02, note 6: the length of the output buffer, the listing or the report, of a call that is lent one
@@ -261,6 +312,7 @@ outputOf (open′ text) = none
 outputOf (on′ list′) = some listingLength
 outputOf (on′ (step′ d)) = some listingLength
 outputOf (on′ report′) = some reportLength
+outputOf (on′ (timed′ ds d)) = some listingLength
 
 unfoldable pub isLent : Part → List Part → Bool
 isLent p [] = false

@@ -31,7 +31,10 @@ pub data Outcome (x : Engine) (y : Machine) (c : BufferCall) (e : Effect) : Type
   -- 15 to 19 leave the listing filled, and change nothing else
   listed : {h : Held} {es : List Entry} → y ≡ holding h → IsListing (h .model) (h .state) es
       → 15 ≤ e .answer .number → e .answer .number ≤ 19 → e .output ≡ listingNumbers es → leftBy x c ≡ x → Outcome x y c e
-  -- list and step are accepted: the listing is filled, as Transitions.antt says
+  -- 02, note 4: so do 23 to 25
+  unwaited : {h : Held} {es : List Entry} → y ≡ holding h → IsListing (h .model) (h .state) es
+      → 23 ≤ e .answer .number → e .answer .number ≤ 25 → e .output ≡ listingNumbers es → leftBy x c ≡ x → Outcome x y c e
+  -- a list or a step, timed or not, is accepted: the listing is filled, as Transitions.antt says
   accepted : {h : Held} {es : List Entry} → y ≡ holding h → IsListing (h .model) (h .state) es
       → e .answer .number ≡ 0 → e .output ≡ listingNumbers es → leftBy x c model ≡ x model → Outcome x y c e
   -- 02, note 6: a report is accepted: the shares of the listing, as Transitions.antt says, and nothing moves

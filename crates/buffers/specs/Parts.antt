@@ -1,45 +1,59 @@
 -- The engine's buffers as one family over its parts (01, State; docs/LAYOUT.md): their cells, what they hold, the exact test of each and what is read back. Definitions only.
 use mathlib.Core.Bool.{Bool, true, cond}
-use mathlib.Core.List.{List}
+use mathlib.Core.List.{List, [], _∷_}
 use Prim.Native.Nat.{ℕ}
 use lib.IntN.{ℤ, pos}
-use lib.ListN.{replicate}
+use lib.ListN.{getD, replicate}
+use Rattle.clock.specs.declared.Clock.{Clock}
+use Rattle.clock.specs.Clock.{freshClock, isInRange}
 use Rattle.model.specs.Resolved
 use Rattle.state.specs.Fits.{scopesOf}
 use Rattle.state.specs.Test.{isState}
 use Rattle.state.specs.Decode.{decode}
 use Rattle.machine.specs.State.{emptyState, stateNumbers}
-use Rattle.machine.specs.Machine.{Held, Part, model, state, size, isLent}
+use Rattle.machine.specs.Machine.{Held, Part, model, state, clock, size, isLent}
 
 -- bytes, or whole numbers
 abbrev pub Cell : Part → Type 0
 Cell model = ℕ
 Cell state = ℤ
+Cell clock = ℕ
 
 -- 01, State: the engine is its buffers, all that one call leaves for the next
 abbrev pub Engine : Type 0
 Engine = (p : Part) → List (Cell p)
 
+-- 02, note 4: the clock's two numbers, ticks and then draws, and the clock of two numbers
+abbrev pub clockNumbers : Clock → List ℕ
+clockNumbers c = c .ticks ∷ c .draws ∷ []
+
+abbrev pub clockIn : List ℕ → Clock
+clockIn l = record { ticks = getD l 0 0; draws = getD l 1 0 }
+
 -- 01, Fresh: zeros
 unfoldable pub fresh : Engine
 fresh model = replicate (size model) 0
 fresh state = replicate (size state) (pos 0)
+fresh clock = replicate (size clock) 0
 
 -- 01, State: the buffers of all that is held, over these bytes of a model
 unfoldable pub numbersOf : List ℕ → Held → Engine
 numbersOf bytes h model = bytes
 numbersOf bytes h state = stateNumbers (h .state)
+numbersOf bytes h clock = clockNumbers (h .clock)
 
 -- 01, Listing, 11: is the buffer one over the model? the model's own is judged by itself (Held.antt)
 unfoldable pub isPart : Resolved.Model → (p : Part) → List (Cell p) → Bool
 isPart m model l = true
 isPart m state l = isState (scopesOf m) (m .channels) l
+isPart m clock l = isInRange (clockIn l)
 
 -- what buffers hold; a part that is not lent counts as empty
 unfoldable pub readHeld : Resolved.Model → List Part → Engine → Held
 readHeld m ps x = record {
   model = m;
   state = cond (isLent state ps) (decode (scopesOf m) (x state)) emptyState;
+  clock = cond (isLent clock ps) (clockIn (x clock)) freshClock;
 }
 
 -- ---- engines
@@ -48,8 +62,22 @@ readHeld m ps x = record {
 unfoldable pub lentTwo : List ℕ → List ℤ → Engine
 lentTwo bs zs model = bs
 lentTwo bs zs state = zs
+lentTwo bs zs clock = []
+
+-- of the clock too
+unfoldable pub lentTimed : List ℕ → List ℤ → Clock → Engine
+lentTimed bs zs c model = bs
+lentTimed bs zs c state = zs
+lentTimed bs zs c clock = clockNumbers c
 
 -- all as it was but the state
 unfoldable pub withState : Engine → List ℤ → Engine
 withState x zs model = x model
 withState x zs state = zs
+withState x zs clock = x clock
+
+-- but the state and the clock
+unfoldable pub withTimed : Engine → List ℤ → Clock → Engine
+withTimed x zs c model = x model
+withTimed x zs c state = zs
+withTimed x zs c clock = clockNumbers c

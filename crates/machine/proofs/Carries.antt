@@ -76,19 +76,8 @@ timed-kept : (ds : List ℕ) (d : ℕ) (m : Resolved.Model) (s : State) (c : Clo
 unfolding timesWith stepsWith choosing stepsIn no listedAs Lists Chooses
 timed-kept ds d m s c = go (listing.asked m s (listing m s) .0 refl)
   where
-    step-number : (n : ℕ) {es : List Entry} → 0 < n → Steps m s es d (refusing s es n) → (15 ≤ n) × (n ≤ 19)
-    step-number n l a = by refl a
-      where
-        by : {es : List Entry} {t : Turn State} → t .answer .number ≡ n → Steps m s es d t → (15 ≤ n) × (n ≤ 19)
-        by e (no15 f) = (omega arith, omega arith)
-        by e (no16 l f) = (omega arith, omega arith)
-        by e (no17 o f) = (omega arith, omega arith)
-        by e (no18 r f) = (omega arith, omega arith)
-        by e (no19 r f g) = (omega arith, omega arith)
-        by e (yes19 r f g) = absurd (omega arith)
-
     taken : {es : List Entry} {t : Turn Timed} → Times m s c es ds d t → Kept (timed s c) (timed′ ds d) t
-    taken (no15-19 n l a) = let k = step-number n l a in record { carries = under15-19 n _ tt (k .0) (k .1); stays = λ n. refl; one = λ e. omega arith; eleven = λ e. omega arith }
+    taken (no15-19 n l a) = let k = timing.step-numbers n l a in record { carries = under15-19 n _ tt (k .0) (k .1); stays = λ n. refl; one = λ e. omega arith; eleven = λ e. omega arith }
     taken (no23 i a w) = record { carries = under23-25 23 _ (omega arith) (omega arith); stays = λ n. refl; one = λ e. omega arith; eleven = λ e. omega arith }
     taken (no24 i a w) = record { carries = under23-25 24 _ (omega arith) (omega arith); stays = λ n. refl; one = λ e. omega arith; eleven = λ e. omega arith }
     taken (no25 i a w p) = record { carries = under23-25 25 _ (omega arith) (omega arith); stays = λ n. refl; one = λ e. omega arith; eleven = λ e. omega arith }

@@ -51,6 +51,19 @@ module _ (c : Clock) (e t u : ℕ) where
       by true = lt-leb _ clockLimit l
       by false = refl
 
+-- a step that is refused has a number from 15 to 19
+pub step-numbers : {m : Resolved.Model} {s : State} {es : List Entry} {d : ℕ} (n : ℕ) → 0 < n → Steps m s es d (refusing s es n) → (15 ≤ n) × (n ≤ 19)
+unfolding listedAs
+step-numbers {m} {s} {es} {d} n l a = by refl a
+  where
+    by : {t : Turn State} → t .answer .number ≡ n → Steps m s es d t → (15 ≤ n) × (n ≤ 19)
+    by e (no15 f) = (omega arith, omega arith)
+    by e (no16 l f) = (omega arith, omega arith)
+    by e (no17 o f) = (omega arith, omega arith)
+    by e (no18 r f) = (omega arith, omega arith)
+    by e (no19 r f g) = (omega arith, omega arith)
+    by e (yes19 r f g) = absurd (omega arith)
+
 module _ (m : Resolved.Model) (s : State) (c : Clock) (es : List Entry) (h : IsListing m s es) (ds : List ℕ) (d : ℕ) where
   abbrev sum : ℕ
   sum = total (weights es)

@@ -8,5 +8,6 @@ pub mod Questions
 pub mod Specimens
 pub mod Rows
 pub mod Refusals
+pub mod TimedRows
 pub mod Starred
 pub mod Results

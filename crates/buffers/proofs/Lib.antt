@@ -10,4 +10,5 @@ pub mod Written
 pub mod Texts
 pub mod Transitions
 pub mod Answers
+pub mod Clocks
 pub mod Outcomes

@@ -32,7 +32,7 @@ use Rattle.buffers.specs.Held.{modelBytes}
 use Rattle.buffers.specs.Listing.{shown, listingNumbers}
 use Rattle.buffers.specs.Parts.{Cell, Engine, fresh, numbersOf, withState}
 use Rattle.buffers.specs.Effect.{Effect, leaves}
-use Rattle.buffers.specs.Calls.{Lending, own, lentLength, BufferCall, asks, lentEngine, effectOf, leftBy, lentLengths, fed, engineAfter, Holds, zeros}
+use Rattle.buffers.specs.Calls.{Lending, own, lentLength, lentBuffer, BufferCall, asks, lentEngine, effectOf, leftBy, lentLengths, fed, engineAfter, Holds, zeros}
 use Rattle.buffers.specs.Calls as calls
 use Rattle.buffers.specs.Transitions.{Leaves, Takes, Shares, Shows}
 use Rattle.buffers.proofs.Held.{passes, text-in, held-fits}
@@ -129,7 +129,7 @@ module _ {x : Engine} {h : Held} (b : Holds x (holding h)) (es : List Entry) (q 
 
   -- what a step leaves
   leaving : (l : List ℕ) (d : ℕ) → length l ≡ listingLength → Leaves x m s es d (effectOf x (asks (on′ (step′ d)) l))
-  unfolding acts onState stepsWith choosing numbersOf withState isLent
+  unfolding acts onState stepsWith choosing numbersOf withState isLent lentEngine lentBuffer
   leaving l d long =
       record {
         turn = drawn m s es d;

@@ -18,8 +18,8 @@ use Rattle.model.specs.Resolved
 use Rattle.rules.specs.Listing.{Entry}
 use Rattle.rules.specs.Draw.{weights, total}
 use Rattle.machine.specs.State.{State}
-use Rattle.machine.specs.Machine.{listedAs, Turn, turn, refusing, accepting, drawn, Timed, timed, refusedAs, withWait, stepsIn}
-use Rattle.machine.specs.Questions.{IsListing, Steps, no15, no16, no17, no18, no19, yes19, laterBy, standing, Times, no15-19, no23, no24, no25, yes25}
+use Rattle.machine.specs.Machine.{Answer, no, listedAs, Listed, entriesAre, refusedWith, Turn, turn, refusing, accepting, drawn, Timed, timed, refusedAs, withWait, stepsIn}
+use Rattle.machine.specs.Questions.{IsListing, Lists, no12, no13, no14, yes14, Steps, no15, no16, no17, no18, no19, yes19, laterBy, standing, Times, no15-19, no23, no24, no25, yes25}
 use Rattle.machine.proofs.Stepping as stepping
 
 -- where a number of the clock would pass its range, and where none does
@@ -50,6 +50,11 @@ module _ (c : Clock) (e t u : ℕ) where
       by : (b : Bool) → (b && leb (laterBy c e t u .draws) clockLimit) ≡ false
       by true = lt-leb _ clockLimit l
       by false = refl
+
+-- the number of a listing's answer
+abbrev numberOf : Listed → ℕ
+numberOf (entriesAre es) = 0
+numberOf (refusedWith a) = a .number
 
 -- a step that is refused has a number from 15 to 19
 pub step-numbers : {m : Resolved.Model} {s : State} {es : List Entry} {d : ℕ} (n : ℕ) → 0 < n → Steps m s es d (refusing s es n) → (15 ≤ n) × (n ≤ 19)
@@ -109,3 +114,14 @@ module _ (m : Resolved.Model) (s : State) (c : Clock) (es : List Entry) (h : IsL
   -- 02, note 4: 23 to 25 exactly under their conditions, in order
   pub asked : (t : Turn Timed) → (stepsIn c ds s (drawn m s es d) ≡ t) ↔ Times m s c es ds d t
   asked t = (λ e. rw e at (step-asked (stepping.asked m s es h d (drawn m s es d) .0 refl)), says)
+
+-- a listing that is refused refuses a timed step
+pub refused-stays : {m : Resolved.Model} {s : State} {c : Clock} {a : Answer} (ds : List ℕ) → Lists m s (refusedWith a) → stepsIn c ds s (turn s a) ≡ turn (timed s c) a
+unfolding stepsIn
+refused-stays {m} {s} {c} {a} ds h = rw (ne-eqb (a .number) 0 (not-zero h refl)) refl
+  where
+    not-zero : {k : Listed} → Lists m s k → k ≡ refusedWith a → a .number ≡ 0 → ⊥
+    not-zero (no12 f) e z = unfold no in let n : 12 ≡ a .number = ap numberOf e in omega arith
+    not-zero (no13 f g l) e z = unfold no in let n : 13 ≡ a .number = ap numberOf e in omega arith
+    not-zero (no14 f g l k) e z = unfold no in let n : 14 ≡ a .number = ap numberOf e in omega arith
+    not-zero (yes14 f g l k) e z = absurd (let z : _≡_ {A = ℕ} 0 1 = cc in omega arith)

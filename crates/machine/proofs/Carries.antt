@@ -1,11 +1,14 @@
 -- Every answer carries what 01 says, no refusal of a list call or step alters the machine, and a refused opening closes it. By cases of what is asked, machine and answer: one
 -- lemma for each request.
-use mathlib.Core.Path.{_≡_, refl, sym, ap, _∙_}
+use mathlib.Core.Path.{_≡_, refl, sym, ap, ap₂, _∙_}
 use mathlib.Core.List.{List}
 use mathlib.Core.Bool.{Bool, true, false, cond}
 use mathlib.Core.Logic.{_↔_}
+use mathlib.Core.Option.{Option, none, some, Option·elim}
 use Prim.Native.Nat.{ℕ, _≤_, _<_}
 use native.Mathlib.Omega.{arith}
+use lib.Dec.{ltb}
+use lib.ListN.{set}
 use Rattle.clock.specs.declared.Clock.{Clock}
 use Rattle.model.specs.Resolved
 use Rattle.model.specs.Opening.{Opening, opening}
@@ -14,12 +17,14 @@ use Rattle.model.proofs.Answered.{answered}
 use Rattle.rules.specs.Listing.{Entry}
 use Rattle.rules.proofs.Decides.{Decides, holds, fails, passes}
 use Rattle.machine.specs.State.{State}
-use Rattle.machine.specs.Machine.{asLent, Answer, no, listedAs, reportedAs, Listed, entriesAre, refusedWith, listing, Turn, turn, refusing, drawn, Timed, timed, stepsIn, timesWith, showing, lists, sharing, reports, choosing, stepsWith}
-use Rattle.machine.specs.Machine.{Held, moved, movedIn, Machine, closed, holding, onState, onClock, Request, list′, step′, report′, timed′, Ask, open′, on′, acts, Part, hasLengths, Call, call, opens, onMachine, asked, calls}
+use Rattle.machine.specs.Timed.{Timed, timed}
+use Rattle.machine.specs.Saves.{isName, Saves, saved, saveLimit, placeOf, placeFor, keptUnder, Stored, stored, saving, returning, forgetting}
+use Rattle.machine.specs.Machine.{asLent, Answer, no, listedAs, reportedAs, Listed, entriesAre, refusedWith, listing, Turn, turn, refusing, drawn, stepsIn, timesWith, showing, lists, sharing, reports, choosing, stepsWith}
+use Rattle.machine.specs.Machine.{Held, moved, movedIn, timedOf, storedIn, Machine, closed, holding, onState, onClock, onSaves, Request, list′, step′, report′, timed′, save′, return′, forget′, Ask, open′, on′, acts, Part, hasLengths, Call, call, opens, onMachine, asked, calls}
 use Rattle.machine.specs.Questions.{no12, no13, no14, yes14, Steps, no15, no16, no17, no18, no19, yes19, Times, no15-19, no23, no24, no25, yes25}
 use Rattle.machine.specs.Questions as questions
 use Rattle.machine.specs.Results as results
-use Rattle.machine.specs.Results.{Runs, Lists, Chooses, Lent, Carries, under1, under2-10, under11, under12, under13, under14, under15-19, under23-25}
+use Rattle.machine.specs.Results.{Runs, Lists, Chooses, Names, Lent, Carries, under1, under2-10, under11, under12, under13, under14, under15-19, under23-25, under20, return21, forget21, save22}
 use Rattle.machine.proofs.Lent.{lent-so}
 use Rattle.machine.proofs.Listing as listing
 use Rattle.machine.proofs.Stepping as stepping
@@ -88,6 +93,49 @@ timed-kept ds d m s c = go (listing.asked m s (listing m s) .0 refl)
     go (no13 e h l) = record { carries = under13 tt; stays = λ n. refl; one = λ e. omega arith; eleven = λ e. omega arith }
     go (no14 e h l f) = record { carries = under14 tt; stays = λ n. refl; one = λ e. omega arith; eleven = λ e. omega arith }
     go (yes14 {es = es} e h l f) = taken (timing.asked m s c es h ds d (stepsIn c ds s (drawn m s es d)) .0 refl)
+-- ---- turns of state, clock and saves
+
+-- the same of a turn from s and ss
+record StoredKept (s : Timed) (ss : Saves) (r : Request) (x : Stored) : Type 0 where
+  carries : Carries (on′ r) (no (x .number) 0 0 asLent)
+  stays : (x .number ≡ 0 → ⊥) → (x .kept ≡ s) × (x .saves ≡ ss)
+  one : x .number ≡ 1 → ⊥
+  eleven : x .number ≡ 11 → ⊥
+
+-- accepted, whatever it leaves; or refused, leaving all
+stored-yes : (s t : Timed) (ss ts : Saves) (r : Request) → Names r → StoredKept s ss r (stored 0 t ts)
+stored-yes s t ss ts r k = record { carries = results.stores k; stays = λ n. absurd (n refl); one = λ e. omega arith; eleven = λ e. omega arith }
+
+stored-no : (n : ℕ) → 20 ≤ n → (s : Timed) (ss : Saves) (r : Request) → Carries (on′ r) (no n 0 0 asLent) → StoredKept s ss r (stored n s ss)
+stored-no n l s ss r k = record { carries = k; stays = λ n. (refl, refl); one = λ e. omega arith; eleven = λ e. omega arith }
+
+module _ (n : List ℕ) (s : Timed) (ss : Saves) where
+  save-kept : StoredKept s ss (save′ n) (saving n s ss)
+  unfolding saving Names
+  save-kept = by (isName n) (ltb (placeFor n ss) saveLimit)
+    where
+      by : (b c : Bool) → StoredKept s ss (save′ n) (cond b (cond c (stored 0 s (set ss (placeFor n ss) (saved n s))) (stored 22 s ss)) (stored 20 s ss))
+      by true true = stored-yes s s ss _ (save′ n) tt
+      by true false = stored-no 22 (omega arith) s ss (save′ n) save22
+      by false c = stored-no 20 (omega arith) s ss (save′ n) (under20 tt)
+
+  return-kept : StoredKept s ss (return′ n) (returning n s ss)
+  unfolding returning Names Option·elim
+  return-kept = by (isName n) (keptUnder n ss)
+    where
+      by : (b : Bool) (o : Option Timed) → StoredKept s ss (return′ n) (cond b (Option·elim o (stored 21 s ss) (λ t. stored 0 t ss)) (stored 20 s ss))
+      by true none = stored-no 21 (omega arith) s ss (return′ n) return21
+      by true (some t) = stored-yes s t ss ss (return′ n) tt
+      by false o = stored-no 20 (omega arith) s ss (return′ n) (under20 tt)
+
+  forget-kept : StoredKept s ss (forget′ n) (forgetting n s ss)
+  unfolding forgetting Names
+  forget-kept = by (isName n) (ltb (placeOf n ss) saveLimit)
+    where
+      by : (b c : Bool) → StoredKept s ss (forget′ n) (cond b (cond c (stored 0 s (set ss (placeOf n ss) none)) (stored 21 s ss)) (stored 20 s ss))
+      by true true = stored-yes s s ss _ (forget′ n) tt
+      by true false = stored-no 21 (omega arith) s ss (forget′ n) forget21
+      by false c = stored-no 20 (omega arith) s ss (forget′ n) (under20 tt)
 
 -- ---- requests
 
@@ -100,6 +148,15 @@ state-kept r f h k = record { carries = k .carries; stays = λ n. ap (moved h) (
 clock-kept : (r : Request) (f : Resolved.Model → State → Clock → Turn Timed) (h : Held) → Kept (timed (h .state) (h .clock)) r (f (h .model) (h .state) (h .clock)) → Kept h r (onClock f h)
 unfolding onClock
 clock-kept r f h k = record { carries = k .carries; stays = λ n. ap (movedIn h) (k .stays n); one = k .one; eleven = k .eleven }
+-- one that turns state, clock and saves
+saves-kept : (r : Request) (f : Timed → Saves → Stored) (h : Held) → StoredKept (timedOf h) (h .saves) r (f (timedOf h) (h .saves)) → Kept h r (onSaves f h)
+unfolding onSaves no
+saves-kept r f h k = record {
+  carries = k .carries;
+  stays = λ n. ap₂ (λ (t : Timed) (ss : Saves). storedIn h (stored 0 t ss)) (k .stays n .0) (k .stays n .1);
+  one = k .one;
+  eleven = k .eleven;
+}
 
 kept : (r : Request) (h : Held) → Kept h r (acts r h)
 unfolding acts
@@ -107,6 +164,9 @@ kept list′ h = state-kept list′ lists h (list-kept (h .model) (h .state))
 kept (step′ d) h = state-kept (step′ d) (stepsWith d) h (step-kept d (h .model) (h .state))
 kept report′ h = state-kept report′ reports h (report-kept (h .model) (h .state))
 kept (timed′ ds d) h = clock-kept (timed′ ds d) (timesWith ds d) h (timed-kept ds d (h .model) (h .state) (h .clock))
+kept (save′ n) h = saves-kept (save′ n) (saving n) h (save-kept n (timedOf h) (h .saves))
+kept (return′ n) h = saves-kept (return′ n) (returning n) h (return-kept n (timedOf h) (h .saves))
+kept (forget′ n) h = saves-kept (forget′ n) (forgetting n) h (forget-kept n (timedOf h) (h .saves))
 
 -- ---- openings
 
@@ -162,7 +222,7 @@ refusal-stays y c r = by (hasLengths (c .ask) (c .lengths) (c .output))
     by true n = asked-stays y (c .ask) r n
     by false n = refl
 
-asked-not-1 : (y : Machine) (k : Ask) → asked y k .answer .number ≡ 1 → ⊥
+pub asked-not-1 : (y : Machine) (k : Ask) → asked y k .answer .number ≡ 1 → ⊥
 unfolding asked onMachine no
 asked-not-1 y (open′ text) e = opening-kept text (answered text) .one e
 asked-not-1 closed (on′ r) e = omega arith

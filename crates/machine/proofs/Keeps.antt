@@ -18,15 +18,18 @@ use Rattle.model.specs.Opening as opening
 use Rattle.model.specs.Good.{GoodModel}
 use Rattle.rules.specs.Listing.{Entry}
 use Rattle.machine.specs.State.{State, GoodState}
-use Rattle.machine.specs.Machine.{Listed, entriesAre, refusedWith, listing, Turn, turn, drawn, Timed, timed, refusedAs, withWait, stepsIn, timesWith, showing, lists, sharing, reports, choosing, stepsWith, Held, held, Good, onState, onClock, Request, list′, step′, report′, timed′, acts, openedState}
+use Rattle.machine.specs.Timed.{Timed, timed, GoodTimed}
+use Rattle.machine.specs.Saves.{Saves, Stored, saving, returning, forgetting}
+use Rattle.machine.specs.Machine.{Listed, entriesAre, refusedWith, listing, Turn, turn, drawn, refusedAs, withWait, stepsIn, timesWith, showing, lists, sharing, reports, choosing, stepsWith, Held, held, timedOf, storedIn, Good, onState, onClock, onSaves, Request, list′, step′, report′, timed′, save′, return′, forget′, acts, openedState}
 use Rattle.machine.specs.Questions.{Steps, no15, no16, no17, no18, no19, yes19}
 use Rattle.machine.proofs.Listing.{accepted}
 use Rattle.machine.proofs.Stepping as stepping
 use Rattle.machine.proofs.Stays as stays
+use Rattle.machine.proofs.Saves.{no-saves-hold, StoredOf, saving-holds, returning-holds, forgetting-holds}
 
 -- 01, Open
 pub opened-good : (m : Resolved.Model) → GoodModel m → opening.startProcesses (m .definitions) (m .starts) ≤ processLimit → Good (held m (openedState m))
-opened-good m g few = record { state = stays.opened-good m g few; clock = record { ticks = omega arith; draws = omega arith } }
+opened-good m g few = record { state = stays.opened-good m g few; saves = no-saves-hold (GoodTimed m); clock = record { ticks = omega arith; draws = omega arith } }
 
 -- ---- turns of a state
 
@@ -86,33 +89,40 @@ brought-good c ds sum g = by (waitOf ds)
     by Long = g
 
 module _ (m : Resolved.Model) (s : State) (c : Clock) (k : GoodModel m) (g : GoodState m s) (r : InRange c) (ds : List ℕ) (d : ℕ) where
-  times-good : GoodState m (timesWith ds d m s c .machine .state) × InRange (timesWith ds d m s c .machine .clock)
+  times-good : GoodTimed m (timesWith ds d m s c .machine)
   unfolding timesWith stepsIn withWait
   times-good = by (stepsWith d m s) (broughtBy c ds (stepsWith d m s .answer .total)) (step-good m s g k d) (brought-good c ds (stepsWith d m s .answer .total) r)
     where
       by : (t : Turn State) (b : Brought) → GoodState m (t .machine) → InRange (b .clock)
-          → let u = cond (eqb (t .answer .number) 0) (withWait s c t b) (turn (timed (t .machine) c) (t .answer)) in GoodState m (u .machine .state) × InRange (u .machine .clock)
+          → let u = cond (eqb (t .answer .number) 0) (withWait s c t b) (turn (timed (t .machine) c) (t .answer)) in GoodTimed m (u .machine)
       by t b h i = go (eqb (t .answer .number) 0) (eqb (b .number) 0)
         where
           go : (x y : Bool)
               → let u = cond x (cond y (turn (timed (t .machine) (b .clock)) (t .answer)) (turn (timed s c) (refusedAs (b .number) (t .answer)))) (turn (timed (t .machine) c) (t .answer)) in
-              GoodState m (u .machine .state) × InRange (u .machine .clock)
-          go true true = (h, i)
-          go true false = (g, r)
-          go false y = (h, r)
+              GoodTimed m (u .machine)
+          go true true = record { state = h; clock = i }
+          go true false = record { state = g; clock = r }
+          go false y = record { state = h; clock = r }
 
 -- ---- requests
 
 -- one that turns the state
 state-good : (f : Resolved.Model → State → Turn State) (h : Held) → Good h → GoodState (h .model) (f (h .model) (h .state) .machine) → Good (onState f h .machine)
 unfolding onState
-state-good f h g k = record { state = k; clock = g .clock }
+state-good f h g k = record { state = k; saves = g .saves; clock = g .clock }
 
 -- 02, note 4: the state and the clock
-clock-good : (f : Resolved.Model → State → Clock → Turn Timed) (h : Held) → Good h → GoodState (h .model) (f (h .model) (h .state) (h .clock) .machine .state) × InRange (f (h .model) (h .state) (h .clock) .machine .clock)
-    → Good (onClock f h .machine)
+clock-good : (f : Resolved.Model → State → Clock → Turn Timed) (h : Held) → Good h → GoodTimed (h .model) (f (h .model) (h .state) (h .clock) .machine) → Good (onClock f h .machine)
 unfolding onClock
-clock-good f h g k = record { state = k .0; clock = k .1 }
+clock-good f h g k = record { state = k .state; saves = g .saves; clock = k .clock }
+
+timed-good : (h : Held) → Good h → GoodTimed (h .model) (timedOf h)
+timed-good h g = record { state = g .state; clock = g .clock }
+
+-- one that turns state, clock and saves
+saves-good : (f : Timed → Saves → Stored) (h : Held) → StoredOf (GoodTimed (h .model)) (f (timedOf h) (h .saves)) → Good (onSaves f h .machine)
+unfolding onSaves
+saves-good f h k = record { state = k .kept .state; saves = k .saves; clock = k .kept .clock }
 
 pub acts-good : (r : Request) (h : Held) → GoodModel (h .model) → Good h → Good (acts r h .machine)
 unfolding acts
@@ -120,11 +130,17 @@ acts-good list′ h k g = state-good lists h g (list-good (h .model) (h .state) 
 acts-good (step′ d) h k g = state-good (stepsWith d) h g (step-good (h .model) (h .state) (g .state) k d)
 acts-good report′ h k g = state-good reports h g (report-good (h .model) (h .state) (g .state))
 acts-good (timed′ ds d) h k g = clock-good (timesWith ds d) h g (times-good (h .model) (h .state) (h .clock) k (g .state) (g .clock) ds d)
+acts-good (save′ n) h k g = saves-good (saving n) h (saving-holds (GoodTimed (h .model)) n (timedOf h) (h .saves) (timed-good h g) (g .saves))
+acts-good (return′ n) h k g = saves-good (returning n) h (returning-holds (GoodTimed (h .model)) n (timedOf h) (h .saves) (timed-good h g) (g .saves))
+acts-good (forget′ n) h k g = saves-good (forgetting n) h (forgetting-holds (GoodTimed (h .model)) n (timedOf h) (h .saves) (timed-good h g) (g .saves))
 
 -- 01, Rule machine: no request alters the model
 pub same-model : (r : Request) (h : Held) → acts r h .machine .model ≡ h .model
-unfolding acts onState onClock
+unfolding acts onState onClock onSaves
 same-model list′ h = refl
 same-model (step′ d) h = refl
 same-model report′ h = refl
 same-model (timed′ ds d) h = refl
+same-model (save′ n) h = refl
+same-model (return′ n) h = refl
+same-model (forget′ n) h = refl

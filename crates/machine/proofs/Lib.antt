@@ -18,10 +18,12 @@ pub mod Keeps
 pub mod Reached
 pub mod Opens
 pub mod Numbers
+pub mod Saves
 pub mod Full
 pub mod Called
 pub mod Sheet
 pub mod Starred
 pub mod Lent
 pub mod Carries
+pub mod Latest
 pub mod Report

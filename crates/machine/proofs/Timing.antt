@@ -18,7 +18,8 @@ use Rattle.model.specs.Resolved
 use Rattle.rules.specs.Listing.{Entry}
 use Rattle.rules.specs.Draw.{weights, total}
 use Rattle.machine.specs.State.{State}
-use Rattle.machine.specs.Machine.{Answer, no, listedAs, Listed, entriesAre, refusedWith, Turn, turn, refusing, accepting, drawn, Timed, timed, refusedAs, withWait, stepsIn}
+use Rattle.machine.specs.Timed.{Timed, timed}
+use Rattle.machine.specs.Machine.{Answer, no, listedAs, Listed, entriesAre, refusedWith, Turn, turn, refusing, accepting, drawn, refusedAs, withWait, stepsIn}
 use Rattle.machine.specs.Questions.{IsListing, Lists, no12, no13, no14, yes14, Steps, no15, no16, no17, no18, no19, yes19, laterBy, standing, Times, no15-19, no23, no24, no25, yes25}
 use Rattle.machine.proofs.Stepping as stepping
 

@@ -3,6 +3,9 @@ pub mod Offer
 pub mod Offering
 pub mod State
 pub mod Report
+pub mod Timed
+pub mod Saves
+pub mod SavesRows
 pub mod Machine
 pub mod Questions
 pub mod Specimens
@@ -11,3 +14,4 @@ pub mod Refusals
 pub mod TimedRows
 pub mod Starred
 pub mod Results
+pub mod Latest

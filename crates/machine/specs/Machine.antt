@@ -21,6 +21,8 @@ use Rattle.clock.specs.declared.Brought.{Brought}
 use Rattle.clock.specs.Clock.{freshClock, InRange, broughtBy}
 use Rattle.machine.specs.Offer.{Process, branchesOf, called, argumentsGiven, branches, missing}
 use Rattle.machine.specs.State.{State, GoodState, stateLength, pairLimit}
+use Rattle.machine.specs.Timed.{Timed, timed, clockLength}
+use Rattle.machine.specs.Saves.{Saves, noSaves, savesLength, GoodSaves, Stored, saving, returning, forgetting}
 use Rattle.machine.specs.Report.{reportLength, reportOf}
 
 -- ---- lengths of what is lent
@@ -180,13 +182,6 @@ stepsWith d m s = choosing m s d (listing m s)
 
 -- ---- turns of a state and a clock (02, note 4)
 
-pub record Timed : Type 0 where
-  pub state : State
-  pub clock : Clock
-
-abbrev pub timed : State → Clock → Timed
-timed s c = record { state = s; clock = c }
-
 -- 02, note 4: 23 to 25 answer as 19 does: with the count and total of the listing, which stays filled, and 0 as chosen entry
 unfoldable pub refusedAs : ℕ → Answer → Answer
 refusedAs n a = record { number = n; place = 0; branch = 0; count = a .count; total = a .total; chosen = 0; listing = a .listing }
@@ -204,27 +199,33 @@ timesWith ds d m s c = stepsIn c ds s (stepsWith d m s)
 
 -- ---- what the machine holds
 
--- 01, Rule machine: the model it read, with a state; 02, note 4: and a clock
+-- 01, Rule machine: the model it read, with a state; 02, notes 2 and 4: and saves and a clock
 pub record Held : Type 0 where
   pub model : Resolved.Model
   pub state : State
+  pub saves : Saves
   pub clock : Clock
 
--- this model and this state, and a clock at zero
+-- this model and this state, nothing saved, and a clock at zero
 abbrev pub held : Resolved.Model → State → Held
-held m s = record { model = m; state = s; clock = freshClock }
+held m s = record { model = m; state = s; saves = noSaves; clock = freshClock }
 
 -- the same, with this state
 abbrev pub moved : Held → State → Held
-moved h s = record { model = h .model; state = s; clock = h .clock }
+moved h s = record { model = h .model; state = s; saves = h .saves; clock = h .clock }
 
 -- with this state and this clock
 abbrev pub movedIn : Held → Timed → Held
-movedIn h t = record { model = h .model; state = t .state; clock = t .clock }
+movedIn h t = record { model = h .model; state = t .state; saves = h .saves; clock = t .clock }
 
--- 01, Listing, 11: all that is held is over the model; 02, note 4: the clock is in its range
+-- the state and the clock
+abbrev pub timedOf : Held → Timed
+timedOf h = timed (h .state) (h .clock)
+
+-- 01, Listing, 11, and 02, notes 2 and 4: all that is held is over the model, the clock in its range
 pub record Good (h : Held) : Type 0 where
   pub state : GoodState (h .model) (h .state)
+  pub saves : GoodSaves (h .model) (h .saves)
   pub clock : InRange (h .clock)
 
 -- 01, Rule machine: closed, or holding all that
@@ -242,14 +243,25 @@ onState f h = let t = f (h .model) (h .state) in turn (moved h (t .machine)) (t 
 unfoldable pub onClock : (Resolved.Model → State → Clock → Turn Timed) → Held → Turn Held
 onClock f h = let t = f (h .model) (h .state) (h .clock) in turn (movedIn h (t .machine)) (t .answer)
 
+-- with what a turn of the saves leaves
+abbrev pub storedIn : Held → Stored → Held
+storedIn h x = record { model = h .model; state = x .kept .state; saves = x .saves; clock = x .kept .clock }
+
+-- 02, note 2: state and saves are read and written, 02, note 4: and the clock with the state; the answer is a number
+unfoldable pub onSaves : (Timed → Saves → Stored) → Held → Turn Held
+onSaves f h = let x = f (timedOf h) (h .saves) in turn (storedIn h x) (no (x .number) 0 0 asLent)
+
 -- ---- calls
 
--- 01, Listing and stepping, and 02, notes 4 and 6: requests to a model that is held, of which 11 is asked first
+-- 01, Listing and stepping, and 02, notes 2, 4 and 6: requests to a model that is held, of which 11 is asked first
 pub data Request : Type 0 where
   list′ : Request
   step′ : (draw : ℕ) → Request
   report′ : Request
   timed′ : (waiting : List ℕ) (draw : ℕ) → Request
+  save′ : (name : List ℕ) → Request
+  return′ : (name : List ℕ) → Request
+  forget′ : (name : List ℕ) → Request
 
 -- 01, Rule machine: what a call asks: to open a text, or a request
 pub data Ask : Type 0 where
@@ -262,29 +274,32 @@ acts list′ = onState lists
 acts (step′ d) = onState (stepsWith d)
 acts report′ = onState reports
 acts (timed′ ds d) = onClock (timesWith ds d)
+acts (save′ n) = onSaves (saving n)
+acts (return′ n) = onSaves (returning n)
+acts (forget′ n) = onSaves (forgetting n)
 
 -- ---- what is lent
 
--- 01, State: the engine's buffers; 02, note 4: and its clock
+-- 01, State, and 02, note 2: the engine's buffers; 02, note 4: and its clock
 pub data Part : Type 0 where
   model : Part
   state : Part
+  saves : Part
   clock : Part
 
--- 02, note 4: ticks and waiting draws used; a record, which never has another number of them, so that 1 is never the clock's
-abbrev pub clockLength : ℕ
-clockLength = 2
 
 -- 01, 1: their lengths
 abbrev pub size : Part → ℕ
 size model = modelLength
 size state = stateLength
+size saves = savesLength
 size clock = clockLength
 
 abbrev pub partNumber : Part → ℕ
 partNumber model = 0
 partNumber state = 1
-partNumber clock = 2
+partNumber saves = 2
+partNumber clock = 3
 
 -- the two that every list, step and report is lent
 abbrev pub twoParts : List Part
@@ -294,16 +309,27 @@ twoParts = model ∷ state ∷ []
 abbrev pub timedParts : List Part
 timedParts = model ∷ state ∷ clock ∷ []
 
--- a buffer goes only to the calls that use it
+-- 02, note 2: and the saves, for a forget
+abbrev pub threeParts : List Part
+threeParts = model ∷ state ∷ saves ∷ []
+
+-- 02, note 4: and the clock, for a save and a return
+abbrev pub fourParts : List Part
+fourParts = model ∷ state ∷ saves ∷ clock ∷ []
+
+-- 02, note 2: a buffer goes only to the calls that use it
 abbrev pub uses : Request → List Part
 uses list′ = twoParts
 uses (step′ d) = twoParts
 uses report′ = twoParts
 uses (timed′ ds d) = timedParts
+uses (save′ n) = fourParts
+uses (return′ n) = fourParts
+uses (forget′ n) = threeParts
 
 -- an opening writes them all
 abbrev pub lentTo : Ask → List Part
-lentTo (open′ text) = model ∷ state ∷ clock ∷ []
+lentTo (open′ text) = model ∷ state ∷ saves ∷ clock ∷ []
 lentTo (on′ r) = uses r
 
 -- 01, Transitions, and 02, note 6: the length of the output buffer, the listing or the report, of a call that is lent one
@@ -313,6 +339,9 @@ outputOf (on′ list′) = some listingLength
 outputOf (on′ (step′ d)) = some listingLength
 outputOf (on′ report′) = some reportLength
 outputOf (on′ (timed′ ds d)) = some listingLength
+outputOf (on′ (save′ n)) = none
+outputOf (on′ (return′ n)) = none
+outputOf (on′ (forget′ n)) = none
 
 unfoldable pub isLent : Part → List Part → Bool
 isLent p [] = false
@@ -352,7 +381,7 @@ startProcesses m (s ∷ ss) = copies (s .count) (called m (s .definition) (s .va
 unfoldable pub openedState : Resolved.Model → State
 openedState m = record { processes = startProcesses m (m .starts); pairs = [] }
 
--- 01, Fresh: refusals 2 to 10 lead back to it; an accepted text's model is held, with its opened state
+-- 01, Fresh: refusals 2 to 10 lead back to it; an accepted text's model is held, with its opened state; 02, note 2: either way nothing is saved
 unfoldable pub opens : Opening → Turn Machine
 opens (refused n p) = turn closed (no n p 0 asLent)
 opens (opened m) = turn (holding (held m (openedState m))) (no 0 0 0 asLent)

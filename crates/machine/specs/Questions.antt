@@ -24,7 +24,8 @@ use Rattle.clock.specs.Clock.{clockLimit, ticksOf}
 use Rattle.machine.specs.Evaluate.{evalExpr, evalBranch}
 use Rattle.machine.specs.Offer.{Process, branchesOf, branches}
 use Rattle.machine.specs.State.{State, pairLimit}
-use Rattle.machine.specs.Machine.{entryLimit, totalLimit, zeroed, no, listedAs, Listed, entriesAre, refusedWith, Turn, turn, refusing, accepting, Timed, timed}
+use Rattle.machine.specs.Timed.{Timed, timed}
+use Rattle.machine.specs.Machine.{entryLimit, totalLimit, zeroed, no, listedAs, Listed, entriesAre, refusedWith, Turn, turn, refusing, accepting}
 
 -- ---- 12
 

@@ -6,7 +6,7 @@ use mathlib.Core.Bool.{true}
 use mathlib.Core.Option.{some}
 use Prim.Native.Nat.{ℕ, _≤_}
 use Rattle.rules.specs.Listing.{Entry}
-use Rattle.machine.specs.Machine.{asLent, zeroed, Answer, no, listedAs, reportedAs, Request, list′, step′, report′, timed′, Ask, open′, on′, Part, size, lentTo, outputOf, isLent, Call}
+use Rattle.machine.specs.Machine.{asLent, zeroed, Answer, no, listedAs, reportedAs, Request, list′, step′, report′, timed′, save′, return′, forget′, Ask, open′, on′, Part, size, lentTo, outputOf, isLent, Call}
 
 -- a request, not an opening
 unfoldable pub Runs : Ask → Type 0
@@ -19,6 +19,9 @@ Lists list′ = Unit {0}
 Lists (step′ d) = Unit {0}
 Lists report′ = Unit {0}
 Lists (timed′ ds d) = Unit {0}
+Lists (save′ n) = ⊥
+Lists (return′ n) = ⊥
+Lists (forget′ n) = ⊥
 
 -- those that choose by a draw
 unfoldable pub Chooses : Request → Type 0
@@ -26,6 +29,19 @@ Chooses list′ = ⊥
 Chooses (step′ d) = Unit {0}
 Chooses report′ = ⊥
 Chooses (timed′ ds d) = Unit {0}
+Chooses (save′ n) = ⊥
+Chooses (return′ n) = ⊥
+Chooses (forget′ n) = ⊥
+
+-- 02, note 2: requests that ask 20
+unfoldable pub Names : Request → Type 0
+Names list′ = ⊥
+Names (step′ d) = ⊥
+Names report′ = ⊥
+Names (timed′ ds d) = ⊥
+Names (save′ n) = Unit {0}
+Names (return′ n) = Unit {0}
+Names (forget′ n) = Unit {0}
 
 -- 01, 1: what is lent has its length
 pub record Lent (c : Call) : Type 0 where
@@ -54,3 +70,9 @@ pub data Carries : Ask → Answer → Type 0 where
   under23-25 : {ds : List ℕ} {d : ℕ} (n : ℕ) (es : List Entry) → 23 ≤ n → n ≤ 25 → Carries (on′ (timed′ ds d)) (listedAs n 0 es)
   -- 02, note 6: a report that is accepted carries count and total as a list call does, and its own numbers
   reports : (ns : List ℕ) (es : List Entry) → Carries (on′ report′) (reportedAs ns es)
+  -- 02, note 2: save, return and forget carry a number alone; 21 is of a return or forget, 22 of a save
+  stores : {r : Request} → Names r → Carries (on′ r) (no 0 0 0 asLent)
+  under20 : {r : Request} → Names r → Carries (on′ r) (no 20 0 0 asLent)
+  return21 : {n : List ℕ} → Carries (on′ (return′ n)) (no 21 0 0 asLent)
+  forget21 : {n : List ℕ} → Carries (on′ (forget′ n)) (no 21 0 0 asLent)
+  save22 : {n : List ℕ} → Carries (on′ (save′ n)) (no 22 0 0 asLent)

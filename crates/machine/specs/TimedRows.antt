@@ -21,8 +21,9 @@ use Rattle.clock.specs.Clock.{ticksOf, forwarded, waited, broughtBy}
 use Rattle.machine.specs.Evaluate as evaluate
 use Rattle.machine.specs.Offer as offer
 use Rattle.machine.specs.State.{State}
+use Rattle.machine.specs.Timed.{Timed, timed}
 use Rattle.machine.specs.Machine as machine
-use Rattle.machine.specs.Machine.{Timed, timed, Turn}
+use Rattle.machine.specs.Machine.{Turn}
 use Rattle.machine.specs.Specimens.{single, alone, fixed}
 
 -- A[] = {go,r}, and then these

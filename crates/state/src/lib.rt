@@ -83,7 +83,8 @@ fn all_values(s: &[i64]) -> bool
     true
 }
 
-fn all_zero(s: &[i64]) -> bool
+// Whether all numbers are 0.
+pub fn all_zero(s: &[i64]) -> bool
     ensures { λ r. ⌜ r ≡ every isZero (now (s .entry)) ⌝ }
 {
     let mut bits = 0;
@@ -434,7 +435,7 @@ pub fn clear_state(s: &mut [i64])
 }
 
 // Writes the first numbers of a slice over those of another.
-fn put(s: &mut [i64], fresh: &[i64], count: usize)
+pub fn put(s: &mut [i64], fresh: &[i64], count: usize)
     requires { ⌜ (count ≤ length (now s)) × (count ≤ length (now fresh)) ⌝ }
     ensures { λ _. ⌜ now (s .exit) ≡ take count (now (fresh .entry)) ++ drop count (now (s .entry)) ⌝ }
 {

@@ -93,6 +93,7 @@ timed-kept ds d m s c = go (listing.asked m s (listing m s) .0 refl)
     go (no13 e h l) = record { carries = under13 tt; stays = λ n. refl; one = λ e. omega arith; eleven = λ e. omega arith }
     go (no14 e h l f) = record { carries = under14 tt; stays = λ n. refl; one = λ e. omega arith; eleven = λ e. omega arith }
     go (yes14 {es = es} e h l f) = taken (timing.asked m s c es h ds d (stepsIn c ds s (drawn m s es d)) .0 refl)
+
 -- ---- turns of state, clock and saves
 
 -- the same of a turn from s and ss
@@ -148,6 +149,7 @@ state-kept r f h k = record { carries = k .carries; stays = λ n. ap (moved h) (
 clock-kept : (r : Request) (f : Resolved.Model → State → Clock → Turn Timed) (h : Held) → Kept (timed (h .state) (h .clock)) r (f (h .model) (h .state) (h .clock)) → Kept h r (onClock f h)
 unfolding onClock
 clock-kept r f h k = record { carries = k .carries; stays = λ n. ap (movedIn h) (k .stays n); one = k .one; eleven = k .eleven }
+
 -- one that turns state, clock and saves
 saves-kept : (r : Request) (f : Timed → Saves → Stored) (h : Held) → StoredKept (timedOf h) (h .saves) r (f (timedOf h) (h .saves)) → Kept h r (onSaves f h)
 unfolding onSaves no

@@ -196,6 +196,7 @@ saved-is n (open′ text) a t = not-both true refl (sym t)
 saved-is n (on′ list′) a t = not-both true refl (sym t)
 saved-is n (on′ (step′ d)) a t = not-both true refl (sym t)
 saved-is n (on′ report′) a t = not-both true refl (sym t)
+saved-is n (on′ (timed′ ds d)) a t = not-both true refl (sym t)
 saved-is n (on′ (save′ k)) a t = by (same k n) (eqb a 0) refl refl t
   where
     by : (b c : Bool) → same k n ≡ b → eqb a 0 ≡ c → (b && c) ≡ true → (on′ (save′ k) ≡ on′ (save′ n)) × (a ≡ 0)

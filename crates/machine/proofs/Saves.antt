@@ -235,7 +235,7 @@ module _ (P : Timed → Type 0) where
       where
         by : (b c : Bool) → isName n ≡ b → StoredOf (cond b (cond c (stored 0 s (set ss (placeFor n ss) (saved n s))) (stored 22 s ss)) (stored 20 s ss))
         by true true e = record {
-          state = g;
+          kept = g;
           saves = record {
             long = length-set ss (placeFor n ss) _ ∙ k .long;
             places = every-set (PlaceOf P) ss (placeFor n ss) _ (k .places) (record { name = e; kept = g });
@@ -260,7 +260,7 @@ module _ (P : Timed → Type 0) where
       where
         by : (b c : Bool) → StoredOf (cond b (cond c (stored 0 s (set ss (placeOf n ss) none)) (stored 21 s ss)) (stored 20 s ss))
         by true true = record {
-          state = g;
+          kept = g;
           saves = record {
             long = length-set ss (placeOf n ss) none ∙ k .long;
             places = every-set (PlaceOf P) ss (placeOf n ss) none (k .places) tt;

@@ -287,7 +287,6 @@ pub data Part : Type 0 where
   saves : Part
   clock : Part
 
-
 -- 01, 1: their lengths
 abbrev pub size : Part → ℕ
 size model = modelLength

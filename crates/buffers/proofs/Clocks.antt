@@ -17,8 +17,10 @@ use Rattle.model.specs.Resolved.{Model}
 use Rattle.model.specs.Held.{held}
 use Rattle.rules.specs.Listing.{Entry}
 use Rattle.machine.specs.State.{State, stateLength, stateNumbers, GoodState}
+use Rattle.machine.specs.Timed.{Timed, timed}
+use Rattle.machine.specs.Saves.{noSaves}
 use Rattle.machine.specs.Machine as machine
-use Rattle.machine.specs.Machine.{modelLength, listingLength, Shown, filled, Answer, listedAs, Listed, entriesAre, refusedWith, Turn, turn, drawn, choosing, stepsWith, Timed, timed, stepsIn, timesWith, Held, Machine, closed, holding, onClock, timed′, on′, acts, Part, model, state, clock, size, twoParts, timedParts, isLent, allParts, hasLengths, onMachine}
+use Rattle.machine.specs.Machine.{modelLength, listingLength, Shown, filled, Answer, listedAs, Listed, entriesAre, refusedWith, Turn, turn, drawn, choosing, stepsWith, stepsIn, timesWith, Held, heldAll, Machine, closed, holding, onClock, timed′, on′, acts, Part, model, state, saves, clock, size, twoParts, timedParts, isLent, allParts, hasLengths, onMachine}
 use Rattle.machine.specs.Questions.{Lists, Steps, Times, no15-19, no23, no24, no25, yes25}
 use Rattle.machine.proofs.Listing.{asked, accepted}
 use Rattle.machine.proofs.Timing as timing
@@ -39,12 +41,12 @@ use Rattle.buffers.proofs.Machines.{machine-over, eleven-exactly}
 
 -- what is held of the three
 abbrev pub heldAt : Model → State → Clock → Held
-heldAt m s c = record { model = m; state = s; clock = c }
+heldAt m s c = heldAll m s noSaves c
 
 -- 11 of the clock, where the two others hold a machine
 unfoldable pub clocked : Machine → List ℕ → Machine
 clocked closed l = closed
-clocked (holding h) l = cond (isInRange (clockIn l)) (holding (heldAt (h .model) (h .state) (clockIn l))) closed
+clocked (holding h) l = cond (isInRange (clockIn l)) (holding (heldAll (h .model) (h .state) (h .saves) (clockIn l))) closed
 
 pub timed-over : (x : Engine) (o : Option Model) → machineOver timedParts x o ≡ clocked (machineOver twoParts x o) (x clock)
 unfolding machineOver allParts isPart readHeld isLent clocked
@@ -63,7 +65,7 @@ unfolding machineIn
 timed-in x = timed-over x (heldIn (x model))
 
 -- a clock that is in its range, and its numbers
-in-range : (c : Clock) → isInRange c ≡ true → InRange c
+pub in-range : (c : Clock) → isInRange c ≡ true → InRange c
 unfolding isInRange
 in-range c e = by (leb (c .ticks) clockLimit) refl e
   where
@@ -78,32 +80,32 @@ two-numbers (t ∷ d ∷ []) e = refl
 two-numbers (t ∷ d ∷ x ∷ l) e = absurd (omega arith)
 
 -- all three, or nothing
-pub data InThree : Machine → Type 0 where
-  nothing : InThree closed
-  all : (m : Model) (s : State) (c : Clock) → InThree (holding (heldAt m s c))
+pub data InTimed : Machine → Type 0 where
+  nothing : InTimed closed
+  all : (m : Model) (s : State) (c : Clock) → InTimed (holding (heldAt m s c))
 
-pub in-three : (x : Engine) → InThree (machineIn timedParts x)
-in-three x = rw (timed-in x) (by (machineIn twoParts x))
+pub in-timed : (x : Engine) → InTimed (machineIn timedParts x)
+in-timed x = rw (timed-in x) (by (machines.in-two x))
   where
-    test : (h : Held) (b : Bool) → InThree (cond b (holding (heldAt (h .model) (h .state) (clockIn (x clock)))) closed)
-    test h true = all (h .model) (h .state) (clockIn (x clock))
-    test h false = nothing
+    test : (m : Model) (s : State) (b : Bool) → InTimed (cond b (holding (heldAt m s (clockIn (x clock)))) closed)
+    test m s true = all m s (clockIn (x clock))
+    test m s false = nothing
 
-    by : (y : Machine) → InThree (clocked y (x clock))
-    by closed = unfold clocked in nothing
-    by (holding h) = unfold clocked in test h (isInRange (clockIn (x clock)))
+    by : {y : Machine} → machines.InTwo y → InTimed (clocked y (x clock))
+    by machines.nothing = unfold clocked in nothing
+    by (machines.both m s) = unfold clocked in test m s (isInRange (clockIn (x clock)))
 
 -- what is held of three is held of two, and the clock is the one that was lent
-pub record OfThree (x : Engine) (m : Model) (s : State) (c : Clock) : Type 0 where
+pub record OfTimed (x : Engine) (m : Model) (s : State) (c : Clock) : Type 0 where
   pub two : machineIn twoParts x ≡ holding (machine.held m s)
   pub range : InRange c
   pub numbers : x clock ≡ clockNumbers c
 
-pub of-three : (x : Engine) (m : Model) (s : State) (c : Clock) → length (x clock) ≡ size clock → machineIn timedParts x ≡ holding (heldAt m s c) → OfThree x m s c
-of-three x m s c long e = by (machineIn twoParts x) refl (sym (timed-in x) ∙ e) (machines.in-two x)
+pub of-timed : (x : Engine) (m : Model) (s : State) (c : Clock) → length (x clock) ≡ size clock → machineIn timedParts x ≡ holding (heldAt m s c) → OfTimed x m s c
+of-timed x m s c long e = by (machineIn twoParts x) refl (sym (timed-in x) ∙ e) (machines.in-two x)
   where
     test : (n : Model) (r : State) → machineIn twoParts x ≡ holding (machine.held n r) → (b : Bool) → isInRange (clockIn (x clock)) ≡ b
-        → cond b (holding (heldAt n r (clockIn (x clock)))) closed ≡ holding (heldAt m s c) → OfThree x m s c
+        → cond b (holding (heldAt n r (clockIn (x clock)))) closed ≡ holding (heldAt m s c) → OfTimed x m s c
     test n r p false q e = absurd (let z : _≡_ {A = ℕ} 0 1 = cc in omega arith)
     test n r p true q e =
         let k : heldAt n r (clockIn (x clock)) ≡ heldAt m s c = cc in
@@ -112,13 +114,13 @@ of-three x m s c long e = by (machineIn twoParts x) refl (sym (timed-in x) ∙ e
         let d : clockIn (x clock) ≡ c = ap (λ (h : Held). h .clock) k in
         record { two = rw (← a, ← b) p; range = rw (← d) (in-range (clockIn (x clock)) q); numbers = rw (← d) (two-numbers (x clock) long) }
 
-    by : (y : Machine) → machineIn twoParts x ≡ y → clocked y (x clock) ≡ holding (heldAt m s c) → machines.InTwo y → OfThree x m s c
+    by : (y : Machine) → machineIn twoParts x ≡ y → clocked y (x clock) ≡ holding (heldAt m s c) → machines.InTwo y → OfTimed x m s c
     by y p e machines.nothing = absurd (unfold clocked in let z : _≡_ {A = ℕ} 0 1 = cc in omega arith)
     by y p e (machines.both n r) = unfold clocked in test n r p (isInRange (clockIn (x clock))) refl e
 
-pub three-held : (x : Engine) (m : Model) (s : State) (c : Clock) → OfThree x m s c → machineIn timedParts x ≡ holding (heldAt m s c)
+pub timed-held : (x : Engine) (m : Model) (s : State) (c : Clock) → OfTimed x m s c → machineIn timedParts x ≡ holding (heldAt m s c)
 unfolding clocked
-three-held x m s c h = timed-in x ∙ ap (λ (y : Machine). clocked y (x clock)) (h .two) ∙ rw (h .numbers, sym (both-in c (h .range .ticks) (h .range .draws))) refl
+timed-held x m s c h = timed-in x ∙ ap (λ (y : Machine). clocked y (x clock)) (h .two) ∙ rw (h .numbers, sym (both-in c (h .range .ticks) (h .range .draws))) refl
 
 -- 01, Listing, 11, and 02, note 4, exactly: as of the two, and the clock is in its range
 pub eleven-timed : (x : Engine) (m : Model) (s : State) (c : Clock) → length (x model) ≡ modelLength → getD (x model) 0 0 < 256 → length (x state) ≡ stateLength → length (x clock) ≡ size clock
@@ -128,11 +130,11 @@ eleven-timed x m s c long byte numbers two = (there, back)
   where
     there : machineIn timedParts x ≡ holding (heldAt m s c)
         → (((text : List ℕ) × (x model ≡ modelBytes text) × (held text ≡ some m) × GoodState m s × (x state ≡ stateNumbers s)) × InRange c × (x clock ≡ clockNumbers c))
-    there e = let o = of-three x m s c two e in (eleven-exactly x m s long byte numbers .0 (o .two), o .range, o .numbers)
+    there e = let o = of-timed x m s c two e in (eleven-exactly x m s long byte numbers .0 (o .two), o .range, o .numbers)
 
     back : (((text : List ℕ) × (x model ≡ modelBytes text) × (held text ≡ some m) × GoodState m s × (x state ≡ stateNumbers s)) × InRange c × (x clock ≡ clockNumbers c))
         → machineIn timedParts x ≡ holding (heldAt m s c)
-    back h = three-held x m s c (record { two = eleven-exactly x m s long byte numbers .1 (h .0); range = h .1; numbers = h .2 })
+    back h = timed-held x m s c (record { two = eleven-exactly x m s long byte numbers .1 (h .0); range = h .1; numbers = h .2 })
 
 -- ---- a timed step over any buffers
 
@@ -159,18 +161,20 @@ module _ (x : Engine) (l : List ℕ) (long : length (x model) ≡ modelLength) (
       at : (p : Part) → leftIn timedParts x (holding (heldAt m r k)) p ≡ withTimed x (stateNumbers r) k p
       at model = refl
       at state = refl
+      at saves = refl
       at clock = refl
 
   still : withTimed x (stateNumbers s) c ≡ x
   unfolding withTimed
   still = same-engine at
     where
-      o : OfThree x m s c
-      o = of-three x m s c two holds
+      o : OfTimed x m s c
+      o = of-timed x m s c two holds
 
       at : (p : Part) → withTimed x (stateNumbers s) c p ≡ x p
       at model = refl
       at state = machine-over x m s numbers (o .two) .numbers
+      at saves = refl
       at clock = sym (o .numbers)
 
   leaving : Turn Timed → Effect

@@ -3,12 +3,15 @@
 pub mod Held
 pub mod Listings
 pub mod Machines
+pub mod Three
+pub mod Clocks
+pub mod Four
 pub mod Local
 pub mod Lent
 pub mod Every
 pub mod Written
 pub mod Texts
 pub mod Transitions
+pub mod Found
 pub mod Answers
-pub mod Clocks
 pub mod Outcomes

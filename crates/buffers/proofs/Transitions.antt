@@ -19,7 +19,7 @@ use Rattle.rules.proofs.Chosen.{chooses-first}
 use Rattle.machine.specs.State.{State, stateNumbers, GoodProcess, GoodState}
 use Rattle.machine.specs.Report.{reportLength, reportOf}
 use Rattle.machine.specs.Machine.{listingLength, Shown, filled, asLent, Answer, no, listedAs, reportedAs, Listed, entriesAre, Turn, drawn, showing, lists, sharing, reports, choosing, stepsWith, Held, moved, Machine, closed, holding, onState}
-use Rattle.machine.specs.Machine.{Request, list′, step′, report′, Ask, on′, acts, Part, model, state, clock, size, lentTo, outputOf, uses, isLent, allParts, hasLengths, onMachine, after}
+use Rattle.machine.specs.Machine.{Request, list′, step′, report′, Ask, on′, acts, Part, model, state, saves, clock, size, lentTo, outputOf, uses, isLent, allParts, hasLengths, onMachine, after}
 use Rattle.machine.specs.Machine as machine
 use Rattle.machine.specs.Questions.{Lists, no12, no13, no14, yes14, Steps, no15, no16, no17, no18, no19, yes19}
 use Rattle.machine.proofs.Everys.{every-nth}
@@ -151,6 +151,7 @@ module _ {x : Engine} {h : Held} (b : Holds x (holding h)) (es : List Entry) (q 
       at : (p : Part) → effectOf x (asks (on′ (step′ d)) l) .left p ≡ withState x (stateNumbers (drawn m s es d .machine)) p
       at model = t .lent model refl ∙ sym (t .before model)
       at state = t .lent state refl ∙ ap (λ (k : Listed). stateNumbers (choosing m s d k .machine)) q
+      at saves = t .unlent saves refl
       at clock = t .unlent clock refl
 
   taking : (l : List ℕ) (d : ℕ) → length l ≡ listingLength → effectOf x (asks (on′ (step′ d)) l) .answer .number ≡ 0 → Takes m s es d (effectOf x (asks (on′ (step′ d)) l))

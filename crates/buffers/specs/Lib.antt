@@ -7,5 +7,6 @@ pub mod Effect
 pub mod Calls
 pub mod Texts
 pub mod Transitions
+pub mod Found
 pub mod Answers
 pub mod Outcomes

@@ -9,11 +9,14 @@ use Rattle.model.specs.Resolved
 use Rattle.model.specs.Opening.{opened, opening}
 use Rattle.rules.specs.Listing.{Entry}
 use Rattle.machine.specs.Report.{reportOf}
-use Rattle.machine.specs.Machine.{Held, held, Machine, holding, open′, model, outputOf, openedState}
+use Rattle.machine.specs.State.{stateNumbers}
+use Rattle.machine.specs.Machine.{Held, held, Machine, holding, Request, open′, on′, acts, model, outputOf, openedState}
+use Rattle.machine.specs.Results.{Names}
+use Rattle.saves.specs.Places.{savesNumbers}
 use Rattle.machine.specs.Questions.{IsListing}
 use Rattle.buffers.specs.Held.{modelBytes}
 use Rattle.buffers.specs.Listing.{listingNumbers}
-use Rattle.buffers.specs.Parts.{Engine, fresh, numbersOf}
+use Rattle.buffers.specs.Parts.{Engine, fresh, numbersOf, withKept}
 use Rattle.buffers.specs.Effect.{Effect}
 use Rattle.buffers.specs.Calls.{BufferCall, lentEngine, leftBy}
 
@@ -40,3 +43,8 @@ pub data Outcome (x : Engine) (y : Machine) (c : BufferCall) (e : Effect) : Type
   -- 02, note 6: a report is accepted: the shares of the listing, as Transitions.antt says, and nothing moves
   reported : {h : Held} {es : List Entry} → y ≡ holding h → IsListing (h .model) (h .state) es
       → e .answer .number ≡ 0 → e .output ≡ reportOf (h .model) (h .state) es → leftBy x c ≡ x → Outcome x y c e
+  -- 02, note 2: 20 to 22 change nothing
+  unstored : 20 ≤ e .answer .number → e .answer .number ≤ 22 → leftBy x c ≡ x → e .output ≡ c .output → Outcome x y c e
+  -- 02, notes 2 and 4: save, return and forget are accepted: state, clock and saves are those that the request leads to
+  stored : {h : Held} {r : Request} → y ≡ holding h → c .ask ≡ on′ r → Names r → e .answer .number ≡ 0
+      → leftBy x c ≡ withKept x (stateNumbers (acts r h .machine .state)) (savesNumbers (acts r h .machine .saves)) (acts r h .machine .clock) → e .output ≡ c .output → Outcome x y c e

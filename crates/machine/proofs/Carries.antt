@@ -8,7 +8,6 @@ use mathlib.Core.Option.{Option, none, some, Option·elim}
 use Prim.Native.Nat.{ℕ, _≤_, _<_}
 use native.Mathlib.Omega.{arith}
 use lib.Dec.{ltb}
-use lib.ListN.{set}
 use Rattle.clock.specs.declared.Clock.{Clock}
 use Rattle.model.specs.Resolved
 use Rattle.model.specs.Opening.{Opening, opening}
@@ -18,7 +17,7 @@ use Rattle.rules.specs.Listing.{Entry}
 use Rattle.rules.proofs.Decides.{Decides, holds, fails, passes}
 use Rattle.machine.specs.State.{State}
 use Rattle.machine.specs.Timed.{Timed, timed}
-use Rattle.machine.specs.Saves.{isName, Saves, saved, saveLimit, placeOf, placeFor, keptUnder, Stored, stored, saving, returning, forgetting}
+use Rattle.machine.specs.Saves.{isName, Saves, saveLimit, placeOf, placeFor, keptUnder, Stored, stored, replaced, removed, saving, returning, forgetting}
 use Rattle.machine.specs.Machine.{asLent, Answer, no, listedAs, reportedAs, Listed, entriesAre, refusedWith, listing, Turn, turn, refusing, drawn, stepsIn, timesWith, showing, lists, sharing, reports, choosing, stepsWith}
 use Rattle.machine.specs.Machine.{Held, moved, movedIn, timedOf, storedIn, Machine, closed, holding, onState, onClock, onSaves, Request, list′, step′, report′, timed′, save′, return′, forget′, Ask, open′, on′, acts, Part, hasLengths, Call, call, opens, onMachine, asked, calls}
 use Rattle.machine.specs.Questions.{no12, no13, no14, yes14, Steps, no15, no16, no17, no18, no19, yes19, Times, no15-19, no23, no24, no25, yes25}
@@ -115,7 +114,7 @@ module _ (n : List ℕ) (s : Timed) (ss : Saves) where
   unfolding saving Names
   save-kept = by (isName n) (ltb (placeFor n ss) saveLimit)
     where
-      by : (b c : Bool) → StoredKept s ss (save′ n) (cond b (cond c (stored 0 s (set ss (placeFor n ss) (saved n s))) (stored 22 s ss)) (stored 20 s ss))
+      by : (b c : Bool) → StoredKept s ss (save′ n) (cond b (cond c (stored 0 s (replaced n s ss)) (stored 22 s ss)) (stored 20 s ss))
       by true true = stored-yes s s ss _ (save′ n) tt
       by true false = stored-no 22 (omega arith) s ss (save′ n) save22
       by false c = stored-no 20 (omega arith) s ss (save′ n) (under20 tt)
@@ -133,7 +132,7 @@ module _ (n : List ℕ) (s : Timed) (ss : Saves) where
   unfolding forgetting Names
   forget-kept = by (isName n) (ltb (placeOf n ss) saveLimit)
     where
-      by : (b c : Bool) → StoredKept s ss (forget′ n) (cond b (cond c (stored 0 s (set ss (placeOf n ss) none)) (stored 21 s ss)) (stored 20 s ss))
+      by : (b c : Bool) → StoredKept s ss (forget′ n) (cond b (cond c (stored 0 s (removed n ss)) (stored 21 s ss)) (stored 20 s ss))
       by true true = stored-yes s s ss _ (forget′ n) tt
       by true false = stored-no 21 (omega arith) s ss (forget′ n) forget21
       by false c = stored-no 20 (omega arith) s ss (forget′ n) (under20 tt)

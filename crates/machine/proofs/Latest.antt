@@ -8,13 +8,13 @@ use mathlib.Core.Logic.{_⊎_, inl, inr}
 use Prim.Native.Nat.{ℕ, _<_}
 use native.Mathlib.Omega.{arith}
 use lib.Dec.{eqb, ltb}
-use lib.ListN.{length, getD, set}
+use lib.ListN.{getD}
 use borrow.Author.Tests.{eqb-true, eq-eqb, ltb-true}
 use Rattle.model.specs.Opening.{Opening, refused, opened, opening}
 use Rattle.model.proofs.Opened as opened
 use Rattle.rules.proofs.Decides.{passes}
 use Rattle.machine.specs.Timed.{Timed, GoodTimed}
-use Rattle.machine.specs.Saves.{isName, same, Save, saved, saveLimit, Saves, noSaves, named, placeOf, placeFor, keptUnder, GoodSaves, Stored, stored, saving, returning, forgetting}
+use Rattle.machine.specs.Saves.{isName, same, Save, saved, saveLimit, Saves, noSaves, named, placeOf, placeFor, keptUnder, GoodSaves, Stored, stored, replaced, removed, saving, returning, forgetting}
 use Rattle.machine.specs.Machine.{asLent, no, Turn, turn, timesWith, Held, timedOf, storedIn, Machine, closed, holding, onState, onClock, onSaves, Request, list′, step′, report′, timed′, save′, return′, forget′, Ask, open′, on′, acts, Call, hasLengths, opens, onMachine, asked, calls, after}
 use Rattle.machine.specs.Results.{Lent}
 use Rattle.machine.specs.Latest.{keptIn, savesName, forgetsName, savesUnder, forgets, alters, Without, done, more, Saved, Latest, Known, Finds}
@@ -22,7 +22,7 @@ use Rattle.machine.proofs.Lent.{lent-so}
 use Rattle.machine.proofs.Carries.{asked-not-1}
 use Rattle.machine.proofs.Reached as reached
 use Rattle.machine.proofs.Reached.{GoodMachine}
-use Rattle.machine.proofs.Saves.{not-both, same-eq, same-refl, named-is, first-passes, others-unknown, place-ready, place-other, under-set, under-none, under-other, under-name, none-unknown}
+use Rattle.machine.proofs.Saves.{not-both, same-eq, same-refl, named-is, first-passes, place-other, replaced-under, removed-unknown, under-none, under-other, under-name, none-unknown}
 
 -- ---- Bools and options
 
@@ -71,14 +71,12 @@ module _ (n : List ℕ) where
     make x = storedIn h x
 
     -- a save under a name k that is accepted
-    save-met : (k : List ℕ) → placeFor k ss < saveLimit → Met n (holding h) (on′ (save′ k)) 0 (holding (make (stored 0 (timedOf h) (set ss (placeFor k ss) (saved k (timedOf h))))))
+    save-met : (k : List ℕ) → placeFor k ss < saveLimit → Met n (holding h) (on′ (save′ k)) 0 (holding (make (stored 0 (timedOf h) (replaced k (timedOf h) ss))))
     unfolding savesUnder savesName forgets forgetsName keptIn named make
     save-met k i = record {
-      saves = λ t.
-          let q : k ≡ n = same-eq k n (and-first _ t) in
-          (h, refl, ap (λ (c : List ℕ). keptUnder c (set ss (placeFor k ss) (saved k (timedOf h)))) (sym q) ∙ under-set (record { name = k; kept = timedOf h }) ss (placeFor k ss) (omega (arith, g .long)) (place-ready k ss (g .long) (g .apart)));
+      saves = λ t. (h, refl, ap (λ (c : List ℕ). keptUnder c (replaced k (timedOf h) ss)) (sym (same-eq k n (and-first _ t))) ∙ replaced-under k (timedOf h) ss (g .long) (g .apart) i);
       undone = λ t. not-both true refl (sym t);
-      else = λ t u. under-other n ss (placeFor k ss) (saved k (timedOf h)) (place-other k n ss (g .long) i (not-and _ t)) (not-and _ t);
+      else = λ t u. unfold replaced in under-other n ss (placeFor k ss) (saved k (timedOf h)) (place-other k n ss (g .long) i (not-and _ t)) (not-and _ t);
     }
 
     save-step : (k : List ℕ) → Met n (holding h) (on′ (save′ k)) (saving k (timedOf h) ss .number) (holding (make (saving k (timedOf h) ss)))
@@ -86,7 +84,7 @@ module _ (n : List ℕ) where
     save-step k = by (isName k) (ltb (placeFor k ss) saveLimit) refl
       where
         T : Bool → Bool → Stored
-        T b c = cond b (cond c (stored 0 (timedOf h) (set ss (placeFor k ss) (saved k (timedOf h)))) (stored 22 (timedOf h) ss)) (stored 20 (timedOf h) ss)
+        T b c = cond b (cond c (stored 0 (timedOf h) (replaced k (timedOf h) ss)) (stored 22 (timedOf h) ss)) (stored 20 (timedOf h) ss)
 
         by : (b c : Bool) → ltb (placeFor k ss) saveLimit ≡ c → Met n (holding h) (on′ (save′ k)) (T b c .number) (holding (make (T b c)))
         by true true l = save-met k (ltb-true (placeFor k ss) saveLimit l)
@@ -106,14 +104,12 @@ module _ (n : List ℕ) where
         by false o = refused-left h (return′ k) 20 refl
 
     -- a forget of a name k that is accepted
-    forget-met : (k : List ℕ) → placeOf k ss < saveLimit → Met n (holding h) (on′ (forget′ k)) 0 (holding (make (stored 0 (timedOf h) (set ss (placeOf k ss) none))))
+    forget-met : (k : List ℕ) → placeOf k ss < saveLimit → Met n (holding h) (on′ (forget′ k)) 0 (holding (make (stored 0 (timedOf h) (removed k ss))))
     unfolding savesUnder savesName forgets forgetsName keptIn named make
     forget-met k i = record {
       saves = λ t. not-both true refl (sym t);
-      undone = λ t.
-          let q : k ≡ n = same-eq k n (and-first _ t) in
-          ap (λ (c : List ℕ). keptUnder c (set ss (placeOf k ss) none)) (sym q) ∙ under-none k _ (others-unknown k ss (g .apart));
-      else = λ t u. under-other n ss (placeOf k ss) none (named-is k n (getD ss (placeOf k ss) none) (first-passes (named k) ss none (omega (arith, g .long))) ∙ not-and _ u) refl;
+      undone = λ t. ap (λ (c : List ℕ). keptUnder c (removed k ss)) (sym (same-eq k n (and-first _ t))) ∙ under-none k _ (removed-unknown k ss (g .apart));
+      else = λ t u. unfold removed in under-other n ss (placeOf k ss) none (named-is k n (getD ss (placeOf k ss) none) (first-passes (named k) ss none (omega (arith, g .long))) ∙ not-and _ u) refl;
     }
 
     forget-step : (k : List ℕ) → Met n (holding h) (on′ (forget′ k)) (forgetting k (timedOf h) ss .number) (holding (make (forgetting k (timedOf h) ss)))
@@ -121,7 +117,7 @@ module _ (n : List ℕ) where
     forget-step k = by (isName k) (ltb (placeOf k ss) saveLimit) refl
       where
         T : Bool → Bool → Stored
-        T b c = cond b (cond c (stored 0 (timedOf h) (set ss (placeOf k ss) none)) (stored 21 (timedOf h) ss)) (stored 20 (timedOf h) ss)
+        T b c = cond b (cond c (stored 0 (timedOf h) (removed k ss)) (stored 21 (timedOf h) ss)) (stored 20 (timedOf h) ss)
 
         by : (b c : Bool) → ltb (placeOf k ss) saveLimit ≡ c → Met n (holding h) (on′ (forget′ k)) (T b c .number) (holding (make (T b c)))
         by true true l = forget-met k (ltb-true (placeOf k ss) saveLimit l)

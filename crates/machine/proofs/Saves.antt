@@ -11,7 +11,7 @@ use lib.ListN.{length, getD, set, replicate, length-set, length-replicate}
 use borrow.Author.Tests.{eqb-true, eq-eqb, ltb-true, ltb-false}
 use Rattle.model.specs.Good.{Every}
 use Rattle.machine.specs.Timed.{Timed}
-use Rattle.machine.specs.Saves.{isName, same, Save, saved, saveLimit, Saves, noSaves, named, isEmpty, firstOf, placeOf, placeFor, keptOf, keptUnder, isUnknown, isApart, areApart, SaveOf, PlaceOf, SavesOf, Stored, stored, saving, returning, forgetting}
+use Rattle.machine.specs.Saves.{isName, same, Save, saved, saveLimit, Saves, noSaves, named, isEmpty, firstOf, placeOf, placeFor, keptOf, keptUnder, isUnknown, isApart, areApart, SaveOf, PlaceOf, SavesOf, Stored, stored, replaced, removed, saving, returning, forgetting}
 
 -- ---- tests
 
@@ -166,6 +166,16 @@ under-none n (x ∷ xs) u = by (under-none n xs (both (not (named n x)) _ u .1))
     by go true e = not-both true refl (sym e)
     by go false e = go
 
+-- 02, note 2: a name that is forgotten is unknown
+pub removed-unknown : (n : List ℕ) (ss : Saves) → areApart ss ≡ true → isUnknown n (removed n ss) ≡ true
+unfolding removed
+removed-unknown n ss d = others-unknown n ss d
+
+-- 02, note 2: what is saved stands under the name
+pub replaced-under : (n : List ℕ) (s : Timed) (ss : Saves) → length ss ≡ saveLimit → areApart ss ≡ true → placeFor n ss < saveLimit → keptUnder n (replaced n s ss) ≡ some s
+unfolding replaced
+replaced-under n s ss l d h = under-set (record { name = n; kept = s }) ss (placeFor n ss) (omega arith) (place-ready n ss l d)
+
 -- a change at another name's place leaves the state under this one
 pub under-other : (n : List ℕ) (ss : Saves) (i : ℕ) (v : Option Save) → named n (getD ss i none) ≡ false → named n v ≡ false → keptUnder n (set ss i v) ≡ keptUnder n ss
 unfolding keptUnder
@@ -230,10 +240,10 @@ module _ (P : Timed → Type 0) where
 
   module _ (n : List ℕ) (s : Timed) (ss : Saves) (g : P s) (k : SavesOf P ss) where
     pub saving-holds : StoredOf (saving n s ss)
-    unfolding saving PlaceOf
+    unfolding saving replaced PlaceOf
     saving-holds = by (isName n) (ltb (placeFor n ss) saveLimit) refl
       where
-        by : (b c : Bool) → isName n ≡ b → StoredOf (cond b (cond c (stored 0 s (set ss (placeFor n ss) (saved n s))) (stored 22 s ss)) (stored 20 s ss))
+        by : (b c : Bool) → isName n ≡ b → StoredOf (cond b (cond c (stored 0 s (replaced n s ss)) (stored 22 s ss)) (stored 20 s ss))
         by true true e = record {
           kept = g;
           saves = record {
@@ -255,10 +265,10 @@ module _ (P : Timed → Type 0) where
         by false o e = record { kept = g; saves = k }
 
     pub forgetting-holds : StoredOf (forgetting n s ss)
-    unfolding forgetting PlaceOf
+    unfolding forgetting removed PlaceOf
     forgetting-holds = by (isName n) (ltb (placeOf n ss) saveLimit)
       where
-        by : (b c : Bool) → StoredOf (cond b (cond c (stored 0 s (set ss (placeOf n ss) none)) (stored 21 s ss)) (stored 20 s ss))
+        by : (b c : Bool) → StoredOf (cond b (cond c (stored 0 s (removed n ss)) (stored 21 s ss)) (stored 20 s ss))
         by true true = record {
           kept = g;
           saves = record {
@@ -274,3 +284,41 @@ module _ (P : Timed → Type 0) where
 pub none-unknown : (n : List ℕ) → isUnknown n noSaves ≡ true
 unfolding noSaves isUnknown named
 none-unknown n = refl
+
+-- ---- answers
+
+-- a turn from s and ss is accepted, or refused under 20 to 22 and leaves both
+pub data StoredAnswers (s : Timed) (ss : Saves) (x : Stored) : Type 0 where
+  accepts : x .number ≡ 0 → StoredAnswers s ss x
+  refuses : 20 ≤ x .number → x .number ≤ 22 → (x .kept ≡ s) × (x .saves ≡ ss) → StoredAnswers s ss x
+
+module _ (n : List ℕ) (s : Timed) (ss : Saves) where
+  refusal : (k : ℕ) → 20 ≤ k → k ≤ 22 → StoredAnswers s ss (stored k s ss)
+  refusal k h l = refuses h l (refl, refl)
+
+  pub saving-answers : StoredAnswers s ss (saving n s ss)
+  unfolding saving
+  saving-answers = by (isName n) (ltb (placeFor n ss) saveLimit)
+    where
+      by : (b c : Bool) → StoredAnswers s ss (cond b (cond c (stored 0 s (replaced n s ss)) (stored 22 s ss)) (stored 20 s ss))
+      by true true = accepts refl
+      by true false = refusal 22 (omega arith) (omega arith)
+      by false c = refusal 20 (omega arith) (omega arith)
+
+  pub returning-answers : StoredAnswers s ss (returning n s ss)
+  unfolding returning Option·elim
+  returning-answers = by (isName n) (keptUnder n ss)
+    where
+      by : (b : Bool) (o : Option Timed) → StoredAnswers s ss (cond b (Option·elim o (stored 21 s ss) (λ t. stored 0 t ss)) (stored 20 s ss))
+      by true none = refusal 21 (omega arith) (omega arith)
+      by true (some t) = accepts refl
+      by false o = refusal 20 (omega arith) (omega arith)
+
+  pub forgetting-answers : StoredAnswers s ss (forgetting n s ss)
+  unfolding forgetting
+  forgetting-answers = by (isName n) (ltb (placeOf n ss) saveLimit)
+    where
+      by : (b c : Bool) → StoredAnswers s ss (cond b (cond c (stored 0 s (removed n ss)) (stored 21 s ss)) (stored 20 s ss))
+      by true true = accepts refl
+      by true false = refusal 21 (omega arith) (omega arith)
+      by false c = refusal 20 (omega arith) (omega arith)

@@ -206,17 +206,24 @@ pub record Held : Type 0 where
   pub saves : Saves
   pub clock : Clock
 
+abbrev pub heldAll : Resolved.Model → State → Saves → Clock → Held
+heldAll m s ss c = record { model = m; state = s; saves = ss; clock = c }
+
+-- a clock at zero
+abbrev pub heldWith : Resolved.Model → State → Saves → Held
+heldWith m s ss = heldAll m s ss freshClock
+
 -- this model and this state, nothing saved, and a clock at zero
 abbrev pub held : Resolved.Model → State → Held
-held m s = record { model = m; state = s; saves = noSaves; clock = freshClock }
+held m s = heldWith m s noSaves
 
 -- the same, with this state
 abbrev pub moved : Held → State → Held
-moved h s = record { model = h .model; state = s; saves = h .saves; clock = h .clock }
+moved h s = heldAll (h .model) s (h .saves) (h .clock)
 
 -- with this state and this clock
 abbrev pub movedIn : Held → Timed → Held
-movedIn h t = record { model = h .model; state = t .state; saves = h .saves; clock = t .clock }
+movedIn h t = heldAll (h .model) (t .state) (h .saves) (t .clock)
 
 -- the state and the clock
 abbrev pub timedOf : Held → Timed
@@ -245,7 +252,7 @@ onClock f h = let t = f (h .model) (h .state) (h .clock) in turn (movedIn h (t .
 
 -- with what a turn of the saves leaves
 abbrev pub storedIn : Held → Stored → Held
-storedIn h x = record { model = h .model; state = x .kept .state; saves = x .saves; clock = x .kept .clock }
+storedIn h x = heldAll (h .model) (x .kept .state) (x .saves) (x .kept .clock)
 
 -- 02, note 2: state and saves are read and written, 02, note 4: and the clock with the state; the answer is a number
 unfoldable pub onSaves : (Timed → Saves → Stored) → Held → Turn Held

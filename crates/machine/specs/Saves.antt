@@ -152,20 +152,28 @@ pub record Stored : Type 0 where
 abbrev pub stored : ℕ → Timed → Saves → Stored
 stored k s ss = record { number = k; kept = s; saves = ss }
 
+-- 02, note 2: this state, with its clock, under the name, in its place or the first empty one
+unfoldable pub replaced : List ℕ → Timed → Saves → Saves
+replaced n s ss = set ss (placeFor n ss) (saved n s)
+
+-- 02, note 2: the name's place is empty
+unfoldable pub removed : List ℕ → Saves → Saves
+removed n ss = set ss (placeOf n ss) none
+
 -- 02, note 2: 20, then 22; else the present state and clock stand under the name
 unfoldable pub saving : List ℕ → Timed → Saves → Stored
 saving n s ss =
     cond (isName n)
-    (cond (ltb (placeFor n ss) saveLimit) (stored 0 s (set ss (placeFor n ss) (saved n s))) (stored 22 s ss))
+    (cond (ltb (placeFor n ss) saveLimit) (stored 0 s (replaced n s ss)) (stored 22 s ss))
     (stored 20 s ss)
 
 -- 02, note 2: 20, then 21; else the state and the clock under the name are the present ones, and every save remains
 unfoldable pub returning : List ℕ → Timed → Saves → Stored
 returning n s ss = cond (isName n) (Option·elim (keptUnder n ss) (stored 21 s ss) (λ t. stored 0 t ss)) (stored 20 s ss)
 
--- 02, note 2: 20, then 21; else the name's place is empty
+-- 02, note 2: 20, then 21; else the name is unknown, and its place can be used
 unfoldable pub forgetting : List ℕ → Timed → Saves → Stored
 forgetting n s ss =
     cond (isName n)
-    (cond (ltb (placeOf n ss) saveLimit) (stored 0 s (set ss (placeOf n ss) none)) (stored 21 s ss))
+    (cond (ltb (placeOf n ss) saveLimit) (stored 0 s (removed n ss)) (stored 21 s ss))
     (stored 20 s ss)

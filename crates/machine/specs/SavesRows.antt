@@ -7,7 +7,7 @@ use Prim.Native.Nat.{ℕ}
 use lib.IntN.{pos}
 use lib.ListN.{replicate}
 use Rattle.machine.specs.Timed.{Timed, timed}
-use Rattle.machine.specs.Saves.{isLetter, areLetters, isName, same, Save, saved, Saves, noSaves, named, isEmpty, firstOf, placeFor, keptOf, keptUnder, isUnknown, isApart, areApart, Stored, stored, saving, returning, forgetting}
+use Rattle.machine.specs.Saves.{isLetter, areLetters, isName, same, Save, saved, Saves, noSaves, named, isEmpty, firstOf, placeFor, keptOf, keptUnder, isUnknown, isApart, areApart, Stored, stored, replaced, removed, saving, returning, forgetting}
 
 -- a state of one process with one local, and a clock
 abbrev state : ℕ → Timed
@@ -59,5 +59,5 @@ pub rows :
     -- a name that stands twice
     × (areApart full ≡ true)
     × (areApart (saved (97 ∷ []) (state 1) ∷ none ∷ saved (97 ∷ []) (state 2) ∷ []) ≡ false)
-unfolding isLetter areLetters isName same noSaves named isEmpty firstOf placeFor keptOf keptUnder isUnknown isApart areApart saving returning forgetting Option·elim
+unfolding isLetter areLetters isName same noSaves named isEmpty firstOf placeFor keptOf keptUnder isUnknown isApart areApart replaced removed saving returning forgetting Option·elim
 rows = (refl, refl, refl, refl, refl, refl, refl, refl, refl, refl, refl, refl, refl, refl, refl, refl, refl, refl, refl, refl, refl, refl, refl, refl, refl, refl, refl, refl, refl, refl)

@@ -15,7 +15,7 @@ use lib.Seq.{take-append-add, take-at, drop-at, drop-drop}
 use Rattle.model.specs.Good.{Every}
 use Rattle.machine.specs.State.{flatten}
 use Rattle.machine.specs.Timed.{Timed}
-use Rattle.machine.specs.Saves.{isName, Save, saved, Saves, saveLimit, placeWidth, named, isEmpty, firstOf, placeOf, placeFor, keptOf, keptUnder, SaveOf, PlaceOf, SavesOf, Stored, stored, saving, returning, forgetting}
+use Rattle.machine.specs.Saves.{isName, Save, saved, Saves, saveLimit, placeWidth, named, isEmpty, firstOf, placeOf, placeFor, keptOf, keptUnder, SaveOf, PlaceOf, SavesOf, Stored, stored, replaced, removed, saving, returning, forgetting}
 use Rattle.machine.proofs.Saves.{not-both, first-passes, none-named, under-none, under-place}
 use Rattle.state.specs.Fits.{FewLocals}
 use Rattle.saves.specs.Kept.{keptNumbers, FitsKept}
@@ -143,7 +143,7 @@ module _ (scopes : List ℕ) (few : FewLocals scopes) (channels : ℕ) where
 
     module _ (n : List ℕ) (s : Timed) where
       pub saving-numbers : savingNumbers n (keptNumbers s) zs ≡ storedNumbers (saving n s ss)
-      unfolding savingNumbers saving storedNumbers placeNumbers
+      unfolding savingNumbers saving replaced storedNumbers placeNumbers
       saving-numbers = by (isName n) refl
         where
           at-place : (c : Bool) → ltb (placeFor n ss) saveLimit ≡ c
@@ -161,7 +161,7 @@ module _ (scopes : List ℕ) (few : FewLocals scopes) (channels : ℕ) where
           by false e = refl
 
       pub forgetting-numbers : forgettingNumbers n (keptNumbers s) zs ≡ storedNumbers (forgetting n s ss)
-      unfolding forgettingNumbers forgetting storedNumbers placeNumbers
+      unfolding forgettingNumbers forgetting removed storedNumbers placeNumbers
       forgetting-numbers = by (isName n) refl
         where
           at-place : (c : Bool) → ltb (placeOf n ss) saveLimit ≡ c

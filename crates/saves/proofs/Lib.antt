@@ -6,3 +6,4 @@ pub mod Places
 pub mod Over
 pub mod Change
 pub mod Laws
+pub mod Clocks

@@ -26,7 +26,8 @@ use Rattle.model.proofs.Answered.{opening-answers}
 use Rattle.rules.proofs.Decides.{Decides, holds, fails, passes}
 use Rattle.machine.specs.State.{State, stateLength}
 use Rattle.machine.specs.Report.{reportLength}
-use Rattle.machine.specs.Machine.{modelLength, listingLength, asLent, no, held, Machine, closed, holding, Request, list′, step′, report′, open′, on′, Part, model, state, size, twoParts, lentTo, isLent, hasLengths, call, onMachine}
+use Rattle.machine.specs.Saves.{Saves, Stored, saving, returning, forgetting}
+use Rattle.machine.specs.Machine.{modelLength, listingLength, asLent, no, Held, heldWith, held, Machine, closed, holding, onSaves, Request, list′, step′, report′, save′, return′, forget′, open′, on′, acts, Part, model, state, saves, size, twoParts, threeParts, uses, lentTo, isLent, hasLengths, call, onMachine}
 use Rattle.machine.proofs.Lent.{lent-so}
 use Rattle.machine.proofs.Listing.{accepted}
 use Rattle.buffers.specs.Listing.{shown}
@@ -34,9 +35,11 @@ use Rattle.buffers.specs.Parts.{Engine}
 use Rattle.buffers.specs.Effect.{Effect, machineIn, untouched, opensWith, leftIn, leaves, requested, answered, effect}
 use Rattle.buffers.proofs.Machines.{InTwo, both, in-two, eleven-exactly, text-machine}
 use Rattle.buffers.proofs.Machines as machines
+use Rattle.buffers.proofs.Three as threes
+use Rattle.buffers.proofs.Three.{InThree, all, in-three, stores}
 use Rattle.buffers.proofs.Answers.{lists-as, steps-as, reports-as}
 use Rattle.buffers.proofs.Every.{every-list}
-use Rattle.terms.specs.One.{Lengths, Hold, Opens, no1, no10, yes10, Asks, TermOne}
+use Rattle.terms.specs.One.{Lengths, Hold, Opens, no1, no10, yes10, Asks, HoldSaves, Stores, TermOne}
 use Rattle.terms.specs.One as one
 use Rattle.terms.specs.Two.{Reading, Passes, TermTwo}
 use Rattle.terms.specs.Three.{TermThree}
@@ -104,13 +107,53 @@ module _ (x : Engine) (l : List ℕ) (byte : getD (x model) 0 0 < 256) where
         by (holds h) e = of h
         by (fails h) e = subst (Asks r As x l) (sym e) (one.Asks.no1 h)
 
+-- ---- the calls on the saves
+
+module _ (x : Engine) (l : List ℕ) (byte : getD (x model) 0 0 < 256) (r : Request) (f : State → Saves → Stored) (q : (h : Held) → acts r h ≡ onSaves f h) (three : uses r ≡ threeParts)
+    (asked : effect (on′ r) x l ≡ cond (hasLengths (on′ r) (λ (p : Part). length (x p)) (length l)) (leaves threeParts x l (onMachine r (machineIn threeParts x))) (untouched x l)) where
+  unheld : machineIn threeParts x ≡ closed → (m : Resolved.Model) (s : State) (ss : Saves) → HoldSaves x m s ss → ⊥
+  unheld e m s ss h =
+      let k = h .hold in
+      let f : machineIn threeParts x ≡ holding (heldWith m s ss) = threes.text-machine x (k .text) m s ss (k .bytes) (k .holds) (k .numbers) (h .numbers) (k .over) (h .over) in
+      let z : _≡_ {A = ℕ} 0 1 = cc (e, f) in
+      omega arith
+
+  leaves-three : machineIn threeParts x ≡ closed → leaves threeParts x l (onMachine r (machineIn threeParts x)) ≡ one.left (no 11 0 0 asLent) x l
+  unfolding leaves onMachine leftIn shown no
+  leaves-three e = ap (λ (y : Machine). leaves threeParts x l (onMachine r y)) e
+
+  held-so : Lengths (on′ r) x l → effect (on′ r) x l ≡ leaves threeParts x l (onMachine r (machineIn threeParts x)) → Stores r f x l (effect (on′ r) x l)
+  unfolding isLent
+  held-so h w = by (in-three x) refl
+    where
+      long : (p : Part) → isLent p threeParts ≡ true → length (x p) ≡ size p
+      long p t = h .parts p (rw three t)
+
+      by : {y : Machine} → InThree y → machineIn threeParts x ≡ y → Stores r f x l (effect (on′ r) x l)
+      by threes.nothing e = subst (Stores r f x l) (sym (w ∙ leaves-three e)) (one.Stores.no11 h (unheld e))
+      by (all m s ss) e =
+          let k = threes.eleven-exactly x m s ss (long model refl) byte (long state refl) (long saves refl) .0 e in
+          subst (Stores r f x l) (sym (w ∙ stores r f q three x l m s ss e))
+          (one.Stores.yes11 h (record { hold = record { text = k .0; bytes = k .1; holds = k .2; over = k .3; numbers = k .4 }; over = k .5; numbers = k .6 }))
+
+  asks-saves : Stores r f x l (effect (on′ r) x l)
+  unfolding untouched
+  asks-saves = by (lent-so (call (on′ r) (λ (p : Part). length (x p)) (length l))) asked
+    where
+      by : {b : Bool} → Decides (Lengths (on′ r) x l) b → effect (on′ r) x l ≡ cond b (leaves threeParts x l (onMachine r (machineIn threeParts x))) (untouched x l) → Stores r f x l (effect (on′ r) x l)
+      by (holds h) e = held-so h e
+      by (fails h) e = subst (Stores r f x l) (sym e) (one.Stores.no1 h)
+
 pub term-one : TermOne
-unfolding effect answered requested machineIn
+unfolding effect answered requested machineIn acts
 term-one = record {
   opening = opens;
   listing = λ x l byte. asks x l byte list′ _ refl refl (λ m s h a b e. lists-as x l a b m s e (h .output listingLength refl));
   stepping = λ x l d byte. asks x l byte (step′ d) _ refl refl (λ m s h a b e. steps-as x l a b m s e (h .output listingLength refl) d);
   reporting = λ x l byte. asks x l byte report′ _ refl refl (λ m s h a b e. reports-as x l a b m s e (h .output reportLength refl));
+  saves = λ x l n byte. asks-saves x l byte (save′ n) (saving n) (λ h. refl) refl refl;
+  returns = λ x l n byte. asks-saves x l byte (return′ n) (returning n) (λ h. refl) refl refl;
+  forgets = λ x l n byte. asks-saves x l byte (forget′ n) (forgetting n) (λ h. refl) refl refl;
 }
 
 -- ---- readings

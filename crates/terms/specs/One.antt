@@ -10,13 +10,15 @@ use Rattle.model.specs.Held.{held}
 use Rattle.model.specs.Opening.{refused, opened}
 use Rattle.model.specs.Questions.{Answers}
 use Rattle.machine.specs.State.{State, stateNumbers, GoodState}
+use Rattle.machine.specs.Saves.{Saves, GoodSaves, Stored, saving, returning, forgetting}
 use Rattle.machine.specs.Machine as machine
-use Rattle.machine.specs.Machine.{asLent, Answer, no, Request, list′, step′, report′, Ask, open′, on′, Part, model, state, call, openedState}
+use Rattle.machine.specs.Machine.{asLent, Answer, no, Request, list′, step′, report′, save′, return′, forget′, Ask, open′, on′, Part, model, state, saves, call, openedState}
 use Rattle.machine.specs.Results.{Lent}
+use Rattle.saves.specs.Places.{savesNumbers}
 use Rattle.buffers.specs.Held.{modelBytes}
 use Rattle.buffers.specs.Parts.{Engine, fresh, numbersOf}
 use Rattle.buffers.specs.Effect.{Effect, effect}
-use Rattle.buffers.specs.Answers.{ListsAs, StepsAs, ReportsAs}
+use Rattle.buffers.specs.Answers.{ListsAs, StepsAs, ReportsAs, storesAs}
 
 -- 1: what a call is lent has its length: its buffers of the engine x, and its output l
 abbrev pub Lengths : Ask → Engine → List ℕ → Type 0
@@ -46,9 +48,24 @@ pub data Asks (r : Request) (As : Resolved.Model → State → Effect → Type 0
   no11 : Lengths (on′ r) x l → ((m : Resolved.Model) (s : State) → Hold x m s → ⊥) → Asks r As x l (left (no 11 0 0 asLent) x l)
   yes11 : {m : Resolved.Model} {s : State} {e : Effect} → Lengths (on′ r) x l → Hold x m s → As m s e → Asks r As x l e
 
+-- 02, note 2, 11: and the saves buffer holds saves over the model, number for number
+pub record HoldSaves (x : Engine) (m : Resolved.Model) (s : State) (ss : Saves) : Type 0 where
+  pub hold : Hold x m s
+  pub over : GoodSaves m ss
+  pub numbers : x saves ≡ savesNumbers ss
+
+-- 02, note 2: 1, then 11, which change nothing, then 20 to 22 or acceptance as the turn f of the state and saves that are held says
+pub data Stores (r : Request) (f : State → Saves → Stored) (x : Engine) (l : List ℕ) : Effect → Type 0 where
+  no1 : (Lengths (on′ r) x l → ⊥) → Stores r f x l (left (no 1 0 0 asLent) x l)
+  no11 : Lengths (on′ r) x l → ((m : Resolved.Model) (s : State) (ss : Saves) → HoldSaves x m s ss → ⊥) → Stores r f x l (left (no 11 0 0 asLent) x l)
+  yes11 : {m : Resolved.Model} {s : State} {ss : Saves} → Lengths (on′ r) x l → HoldSaves x m s ss → Stores r f x l (storesAs x l (f s ss))
+
 -- the term; the first number of a model buffer is a byte
 pub record TermOne : Type 0 where
   pub opening : (text : List ℕ) (x : Engine) (l : List ℕ) → Opens text x l (effect (open′ text) x l)
   pub listing : (x : Engine) (l : List ℕ) → getD (x model) 0 0 < 256 → Asks list′ (λ m s. ListsAs m s x l) x l (effect (on′ list′) x l)
   pub stepping : (x : Engine) (l : List ℕ) (d : ℕ) → getD (x model) 0 0 < 256 → Asks (step′ d) (λ m s. StepsAs m s x l d) x l (effect (on′ (step′ d)) x l)
   pub reporting : (x : Engine) (l : List ℕ) → getD (x model) 0 0 < 256 → Asks report′ (λ m s. ReportsAs m s x l) x l (effect (on′ report′) x l)
+  pub saves : (x : Engine) (l n : List ℕ) → getD (x model) 0 0 < 256 → Stores (save′ n) (saving n) x l (effect (on′ (save′ n)) x l)
+  pub returns : (x : Engine) (l n : List ℕ) → getD (x model) 0 0 < 256 → Stores (return′ n) (returning n) x l (effect (on′ (return′ n)) x l)
+  pub forgets : (x : Engine) (l n : List ℕ) → getD (x model) 0 0 < 256 → Stores (forget′ n) (forgetting n) x l (effect (on′ (forget′ n)) x l)

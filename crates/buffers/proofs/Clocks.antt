@@ -4,7 +4,7 @@ use mathlib.Core.Bool.{Bool, true, false, cond, _&&_}
 use mathlib.Core.List.{List, [], _∷_}
 use mathlib.Core.Logic.{_↔_}
 use mathlib.Core.Option.{Option, none, some, Option·elim}
-use Prim.Native.Nat.{ℕ, _≤_, _<_}
+use Prim.Native.Nat.{ℕ, _<_}
 use native.Mathlib.Omega.{arith}
 use borrow.Author.Tests.{eq-eqb, leb-true}
 use lib.Dec.{eqb, leb}
@@ -21,7 +21,7 @@ use Rattle.machine.specs.Timed.{Timed, timed}
 use Rattle.machine.specs.Saves.{noSaves}
 use Rattle.machine.specs.Machine as machine
 use Rattle.machine.specs.Machine.{modelLength, listingLength, Shown, filled, Answer, listedAs, Listed, entriesAre, refusedWith, Turn, turn, drawn, choosing, stepsWith, stepsIn, timesWith, Held, heldAll, Machine, closed, holding, onClock, timed′, on′, acts, Part, model, state, saves, clock, size, twoParts, timedParts, isLent, allParts, hasLengths, onMachine}
-use Rattle.machine.specs.Questions.{Lists, Steps, Times, no15-19, no23, no24, no25, yes25}
+use Rattle.machine.specs.Questions.{Lists, Times, no15-19, no23, no24, no25, yes25}
 use Rattle.machine.proofs.Listing.{asked, accepted}
 use Rattle.machine.proofs.Timing as timing
 use Rattle.state.specs.Fits.{scopesOf}

@@ -14,7 +14,7 @@ use Rattle.model.specs.Good.{GoodModel}
 use Rattle.model.proofs.Held.{opened-held}
 use Rattle.model.proofs.Opened as formed
 use Rattle.machine.specs.State.{State, stateLength, stateNumbers}
-use Rattle.machine.specs.Machine.{modelLength, Shown, asLent, Answer, no, Turn, turn, Held, Good, Machine, closed, holding, Request, Ask, open′, on′, acts, Part, model, state, saves, clock, size, lentTo, uses, isLent, allParts, hasLengths, opens, onMachine, asked, calls, answers, after}
+use Rattle.machine.specs.Machine.{modelLength, Shown, asLent, Answer, no, Turn, turn, Held, Good, Machine, closed, holding, Request, Ask, open′, on′, acts, Part, model, state, saves, clock, size, lentTo, uses, isLent, hasLengths, opens, onMachine, asked, calls, answers, after}
 use Rattle.machine.specs.Saves.{savesLength}
 use Rattle.machine.proofs.Numbers.{state-length}
 use Rattle.machine.proofs.Keeps.{opened-good, acts-good, same-model}
@@ -30,7 +30,7 @@ use Rattle.buffers.specs.Held.{modelBytes, heldIn}
 use Rattle.buffers.specs.Listing.{shown}
 use Rattle.buffers.specs.Parts.{Cell, Engine, clockNumbers, clockIn, fresh, numbersOf, isPart, readHeld}
 use Rattle.buffers.specs.Effect.{Effect, machineOver, machineIn, untouched, opensWith, leftIn, leaves, requested, answered, effect}
-use Rattle.buffers.specs.Calls.{Lending, own, lentBuffer, lentLength, ownBuffer, BufferCall, lentEngine, effectOf, leftBy, lentLengths, fed, effects, engineAfter, Holds, zeros, held, Answered, none, one}
+use Rattle.buffers.specs.Calls.{Lending, own, ownBuffer, BufferCall, lentEngine, effectOf, leftBy, lentLengths, fed, effects, engineAfter, Holds, zeros, held, Answered, none, one}
 use Rattle.buffers.proofs.Held.{bytes-length, length-in, text-held, passes, held-fits}
 use Rattle.buffers.proofs.Machines.{fresh-closed}
 use Rattle.buffers.proofs.Local.{content, Agree, local, model-lent}

@@ -9,7 +9,7 @@ use Prim.Native.Nat.{ℕ, _<_}
 use native.Mathlib.Omega.{arith}
 use lib.ListN.{length, getD}
 use Rattle.clock.specs.declared.Clock.{Clock}
-use Rattle.clock.specs.Clock.{freshClock, InRange, isInRange}
+use Rattle.clock.specs.Clock.{InRange, isInRange}
 use Rattle.clock.proofs.Bringing.{both-in}
 use Rattle.model.specs.Resolved.{Model}
 use Rattle.model.specs.Held.{held}
@@ -25,7 +25,7 @@ use Rattle.saves.specs.Places.{savesNumbers, isSaves, savesIn}
 use Rattle.buffers.specs.Held.{modelBytes, heldIn}
 use Rattle.buffers.specs.Listing.{shown}
 use Rattle.buffers.specs.Parts.{Engine, clockNumbers, clockIn, numbersOf, isPart, readHeld, withKept}
-use Rattle.buffers.specs.Effect.{Effect, machineOver, machineIn, leftIn, leaves}
+use Rattle.buffers.specs.Effect.{machineOver, machineIn, leftIn, leaves}
 use Rattle.buffers.specs.Answers.{keepsAs}
 use Rattle.buffers.proofs.Lent.{same-engine}
 use Rattle.buffers.proofs.Clocks.{clocked, in-range, two-numbers}

@@ -12,6 +12,7 @@ pub mod Every
 pub mod Written
 pub mod Texts
 pub mod Transitions
+pub mod Waiting
 pub mod Found
 pub mod Answers
 pub mod Outcomes

@@ -19,8 +19,8 @@ use Rattle.machine.specs.Results.{Names}
 use Rattle.machine.proofs.Saves.{StoredAnswers, accepts, refuses, saving-answers, returning-answers, forgetting-answers}
 use Rattle.saves.specs.Places.{savesNumbers}
 use Rattle.machine.specs.Report.{reportLength}
-use Rattle.machine.specs.Machine.{listingLength, asLent, Answer, no, listedAs, reportedAs, Listed, Turn, turn, drawn, showing, lists, sharing, reports, choosing, stepsWith, stepsIn, timesWith, Held, moved, movedIn, Machine, closed, holding, onState, onClock}
-use Rattle.machine.specs.Machine.{timedOf, storedIn, onSaves, Request, list′, step′, report′, timed′, save′, return′, forget′, Ask, open′, on′, acts, Part, model, state, saves, clock, size, lentTo, outputOf, hasLengths, onMachine, after}
+use Rattle.machine.specs.Machine.{listingLength, Answer, no, listedAs, reportedAs, Listed, Turn, turn, drawn, showing, lists, sharing, reports, choosing, stepsWith, stepsIn, timesWith, Held, moved, movedIn, Machine, closed, holding, onState, onClock}
+use Rattle.machine.specs.Machine.{timedOf, storedIn, onSaves, Request, list′, step′, report′, timed′, save′, return′, forget′, Ask, open′, on′, acts, Part, model, state, saves, clock, size, outputOf, hasLengths, onMachine, after}
 use Rattle.machine.specs.Machine as machine
 use Rattle.machine.specs.Questions.{IsListing, Lists, no12, no13, no14, yes14, Steps, no15, no16, no17, no18, no19, yes19, Times, no15-19, no23, no24, no25, yes25}
 use Rattle.machine.proofs.Listing.{asked}
@@ -31,7 +31,7 @@ use Rattle.rules.proofs.Decides.{on}
 use Rattle.buffers.specs.Listing.{shown}
 use Rattle.buffers.specs.Parts.{Cell, Engine, fresh, numbersOf, withKept}
 use Rattle.buffers.specs.Effect.{Effect, untouched, opensWith, leftIn, leaves, answered}
-use Rattle.buffers.specs.Calls.{Lending, BufferCall, lentEngine, effectOf, leftBy, lentLengths, fed, engineAfter, Holds, zeros, held}
+use Rattle.buffers.specs.Calls.{Lending, BufferCall, effectOf, leftBy, lentLengths, fed, engineAfter, Holds, zeros, held}
 use Rattle.buffers.specs.Outcomes.{Outcome, nothing, zeroed, opens, unlisted, listed, unwaited, accepted, reported, unstored, stored}
 use Rattle.buffers.proofs.Lent.{same-engine}
 use Rattle.buffers.proofs.Every.{all-lent, one-untouched, left-as, asks-all, make, Turns, shut, request-turns, every-list}

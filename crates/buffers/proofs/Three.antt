@@ -1,14 +1,12 @@
 -- The model, state and saves buffers hold a machine exactly where they are the bytes of a text that holds its model, and the numbers of a state and of saves over it; and what a
 -- forget leaves over them: from the exact tests.
-use mathlib.Core.Path.{_≡_, refl, sym, ap, ap₂, subst, _∙_}
+use mathlib.Core.Path.{_≡_, refl, sym, ap, ap₂, _∙_}
 use mathlib.Core.Bool.{Bool, true, false, cond, _&&_, and-true}
 use mathlib.Core.List.{List}
 use mathlib.Core.Logic.{_↔_}
-use mathlib.Core.Option.{Option, none, some, Option·elim}
+use mathlib.Core.Option.{Option, none, some}
 use Prim.Native.Nat.{ℕ, _<_}
 use native.Mathlib.Omega.{arith}
-use borrow.Author.Tests.{eq-eqb}
-use lib.Dec.{eqb}
 use lib.ListN.{length, getD}
 use Rattle.model.specs.Resolved.{Model}
 use Rattle.model.specs.Held.{held}
@@ -16,9 +14,9 @@ use Rattle.model.specs.Good.{GoodModel}
 use Rattle.clock.specs.Clock.{freshClock}
 use Rattle.machine.specs.State.{State, stateLength, stateNumbers, GoodState}
 use Rattle.machine.specs.Timed.{Timed, timed}
-use Rattle.machine.specs.Saves.{Saves, savesLength, GoodSaves, Stored, saving, returning, forgetting}
+use Rattle.machine.specs.Saves.{Saves, savesLength, GoodSaves, Stored}
 use Rattle.machine.specs.Machine as machine
-use Rattle.machine.specs.Machine.{modelLength, asLent, no, Turn, Held, heldWith, storedIn, Machine, closed, holding, onSaves, Request, save′, return′, forget′, on′, acts, Part, model, state, saves, clock, size, threeParts, lentTo, outputOf, uses, isLent, allParts, hasLengths, onMachine}
+use Rattle.machine.specs.Machine.{modelLength, asLent, no, Turn, Held, heldWith, storedIn, Machine, closed, holding, onSaves, Request, acts, Part, model, state, saves, clock, threeParts, uses, isLent, allParts, onMachine}
 use Rattle.state.specs.Fits.{scopesOf}
 use Rattle.state.specs.Test.{isState}
 use Rattle.state.specs.Decode.{decode}
@@ -30,8 +28,8 @@ use Rattle.saves.proofs.Over.{saves-fit, fit-saves}
 use Rattle.saves.proofs.Places.{saves-pass, saves-back, saves-good, saves-numbers}
 use Rattle.buffers.specs.Held.{modelBytes, heldIn}
 use Rattle.buffers.specs.Listing.{shown}
-use Rattle.buffers.specs.Parts.{Engine, fresh, numbersOf, isPart, readHeld, withStored}
-use Rattle.buffers.specs.Effect.{Effect, machineOver, machineIn, untouched, leftIn, leaves, requested, answered, effect}
+use Rattle.buffers.specs.Parts.{Engine, numbersOf, isPart, readHeld, withStored}
+use Rattle.buffers.specs.Effect.{machineOver, machineIn, leftIn, leaves}
 use Rattle.buffers.specs.Answers.{storesAs}
 use Rattle.buffers.proofs.Held.{text-held, held-exactly, held-fits}
 use Rattle.buffers.proofs.Lent.{same-engine}

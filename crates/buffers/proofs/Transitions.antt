@@ -42,13 +42,13 @@ use Rattle.buffers.proofs.Every.{make, Turns, shut, request-turns, ever
 
 -- ---- a call that lends the engine's own and an output of the right length
 
-own-lengths : (k : Ask) (l : List ℕ) (n : ℕ) → outputOf k ≡ some n → length l ≡ n → hasLengths k (lentLengths (asks k l)) (length l) ≡ true
+pub own-lengths : (k : Ask) (l : List ℕ) (n : ℕ) → outputOf k ≡ some n → length l ≡ n → hasLengths k (lentLengths (asks k l)) (length l) ≡ true
 unfolding hasLengths lentLengths lentLength Option·elim
 own-lengths k l n o e =
     ap₂ (λ (a b : Bool). a && b) (lent-all (λ (p : Part). eqb (size p) (size p)) (lentTo k) (λ p t. eq-eqb (size p) (size p) refl))
     (ap (λ (k : Option ℕ). Option·elim k true (eqb (length l))) o ∙ eq-eqb _ _ e)
 
-own-turns : {x : Engine} {h : Held} → Holds x (holding h) → (r : Request) (l : List ℕ) (n : ℕ) → outputOf (on′ r) ≡ some n → length l ≡ n → Turns x h r (λ (p : Part). own) l
+pub own-turns : {x : Engine} {h : Held} → Holds x (holding h) → (r : Request) (l : List ℕ) (n : ℕ) → outputOf (on′ r) ≡ some n → length l ≡ n → Turns x h r (λ (p : Part). own) l
 own-turns {h = h} b r l n o e = request-turns b (λ (p : Part). own) l b h refl r (own-lengths (on′ r) l n o e)
 
 -- what a request leaves of an engine, where it leaves the machine as it was

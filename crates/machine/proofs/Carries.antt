@@ -1,11 +1,11 @@
 -- Every answer carries what 01 says, no refusal of a list call or step alters the machine, and a refused opening closes it. By cases of what is asked, machine and answer: one
 -- lemma for each request.
-use mathlib.Core.Path.{_≡_, refl, sym, ap, ap₂, _∙_}
+use mathlib.Core.Path.{_≡_, refl, ap, ap₂}
 use mathlib.Core.List.{List}
 use mathlib.Core.Bool.{Bool, true, false, cond}
 use mathlib.Core.Logic.{_↔_}
 use mathlib.Core.Option.{Option, none, some, Option·elim}
-use Prim.Native.Nat.{ℕ, _≤_, _<_}
+use Prim.Native.Nat.{ℕ, _≤_}
 use native.Mathlib.Omega.{arith}
 use lib.Dec.{ltb}
 use Rattle.clock.specs.declared.Clock.{Clock}
@@ -18,7 +18,7 @@ use Rattle.rules.proofs.Decides.{Decides, holds, fails, passes}
 use Rattle.machine.specs.State.{State}
 use Rattle.machine.specs.Timed.{Timed, timed}
 use Rattle.machine.specs.Saves.{isName, Saves, saveLimit, placeOf, placeFor, keptUnder, Stored, stored, replaced, removed, saving, returning, forgetting}
-use Rattle.machine.specs.Machine.{asLent, Answer, no, listedAs, reportedAs, Listed, entriesAre, refusedWith, listing, Turn, turn, refusing, drawn, stepsIn, timesWith, showing, lists, sharing, reports, choosing, stepsWith}
+use Rattle.machine.specs.Machine.{asLent, no, listedAs, reportedAs, Listed, entriesAre, refusedWith, listing, Turn, turn, drawn, stepsIn, timesWith, showing, lists, sharing, reports, choosing, stepsWith}
 use Rattle.machine.specs.Machine.{Held, moved, movedIn, timedOf, storedIn, Machine, closed, holding, onState, onClock, onSaves, Request, list′, step′, report′, timed′, save′, return′, forget′, Ask, open′, on′, acts, Part, hasLengths, Call, call, opens, onMachine, asked, calls}
 use Rattle.machine.specs.Questions.{no12, no13, no14, yes14, Steps, no15, no16, no17, no18, no19, yes19, Times, no15-19, no23, no24, no25, yes25}
 use Rattle.machine.specs.Questions as questions

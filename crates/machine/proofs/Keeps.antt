@@ -20,7 +20,7 @@ use Rattle.rules.specs.Listing.{Entry}
 use Rattle.machine.specs.State.{State, GoodState}
 use Rattle.machine.specs.Timed.{Timed, timed, GoodTimed}
 use Rattle.machine.specs.Saves.{Saves, Stored, saving, returning, forgetting}
-use Rattle.machine.specs.Machine.{Listed, entriesAre, refusedWith, listing, Turn, turn, drawn, refusedAs, withWait, stepsIn, timesWith, showing, lists, sharing, reports, choosing, stepsWith, Held, held, timedOf, storedIn, Good, onState, onClock, onSaves, Request, list′, step′, report′, timed′, save′, return′, forget′, acts, openedState}
+use Rattle.machine.specs.Machine.{Listed, entriesAre, refusedWith, listing, Turn, turn, drawn, refusedAs, withWait, stepsIn, timesWith, showing, lists, sharing, reports, choosing, stepsWith, Held, held, timedOf, Good, onState, onClock, onSaves, Request, list′, step′, report′, timed′, save′, return′, forget′, acts, openedState}
 use Rattle.machine.specs.Questions.{Steps, no15, no16, no17, no18, no19, yes19}
 use Rattle.machine.proofs.Listing.{accepted}
 use Rattle.machine.proofs.Stepping as stepping

@@ -9,13 +9,13 @@ use Prim.Native.Nat.{ℕ, _<_}
 use native.Mathlib.Omega.{arith}
 use lib.Dec.{eqb, ltb}
 use lib.ListN.{getD}
-use borrow.Author.Tests.{eqb-true, eq-eqb, ltb-true}
+use borrow.Author.Tests.{eqb-true, ltb-true}
 use Rattle.model.specs.Opening.{Opening, refused, opened, opening}
 use Rattle.model.proofs.Opened as opened
 use Rattle.rules.proofs.Decides.{passes}
 use Rattle.machine.specs.Timed.{Timed, GoodTimed}
-use Rattle.machine.specs.Saves.{isName, same, Save, saved, saveLimit, Saves, noSaves, named, placeOf, placeFor, keptUnder, GoodSaves, Stored, stored, replaced, removed, saving, returning, forgetting}
-use Rattle.machine.specs.Machine.{asLent, no, Turn, turn, timesWith, Held, timedOf, storedIn, Machine, closed, holding, onState, onClock, onSaves, Request, list′, step′, report′, timed′, save′, return′, forget′, Ask, open′, on′, acts, Call, hasLengths, opens, onMachine, asked, calls, after}
+use Rattle.machine.specs.Saves.{isName, same, saved, saveLimit, Saves, noSaves, named, placeOf, placeFor, keptUnder, GoodSaves, Stored, stored, replaced, removed, saving, returning, forgetting}
+use Rattle.machine.specs.Machine.{asLent, no, turn, Held, timedOf, storedIn, Machine, closed, holding, onState, onClock, onSaves, Request, list′, step′, report′, timed′, save′, return′, forget′, Ask, open′, on′, acts, Call, hasLengths, opens, onMachine, asked, calls, after}
 use Rattle.machine.specs.Results.{Lent}
 use Rattle.machine.specs.Latest.{keptIn, savesName, forgetsName, savesUnder, forgets, alters, Without, done, more, Saved, Latest, Known, Finds}
 use Rattle.machine.proofs.Lent.{lent-so}

@@ -6,12 +6,12 @@ use mathlib.Core.Bool.{Bool, true, false, cond, not, _&&_}
 use mathlib.Core.Option.{Option, none, some, Option·elim}
 use Prim.Native.Nat.{ℕ, zero, suc, _≤_, _<_}
 use native.Mathlib.Omega.{arith}
-use lib.Dec.{eqb, ltb}
+use lib.Dec.{ltb}
 use lib.ListN.{length, getD, set, replicate, length-set, length-replicate}
-use borrow.Author.Tests.{eqb-true, eq-eqb, ltb-true, ltb-false}
+use borrow.Author.Tests.{eqb-true, eq-eqb, ltb-false}
 use Rattle.model.specs.Good.{Every}
 use Rattle.machine.specs.Timed.{Timed}
-use Rattle.machine.specs.Saves.{isName, same, Save, saved, saveLimit, Saves, noSaves, named, isEmpty, firstOf, placeOf, placeFor, keptOf, keptUnder, isUnknown, isApart, areApart, SaveOf, PlaceOf, SavesOf, Stored, stored, replaced, removed, saving, returning, forgetting}
+use Rattle.machine.specs.Saves.{isName, same, Save, saved, saveLimit, Saves, noSaves, named, isEmpty, firstOf, placeOf, placeFor, keptOf, keptUnder, isUnknown, isApart, areApart, PlaceOf, SavesOf, Stored, stored, replaced, removed, saving, returning, forgetting}
 
 -- ---- tests
 

@@ -1,26 +1,26 @@
 -- A timed step answers questions 15 to 19 as the step does, then 23 to 25 as 02 asks them, and moves the state and the clock, or neither. By cases of the step's answer, and of what the draws come to.
-use mathlib.Core.Path.{_≡_, refl, sym, ap, _∙_}
+use mathlib.Core.Path.{_≡_, refl, ap}
 use mathlib.Core.List.{List}
 use mathlib.Core.Bool.{Bool, true, false, cond, _&&_}
 use mathlib.Core.Logic.{_↔_, _⊎_, inl, inr}
-use Prim.Native.Nat.{ℕ, _+_, _≤_, _<_}
+use Prim.Native.Nat.{ℕ, _≤_, _<_}
 use native.Mathlib.Omega.{arith}
 use borrow.Author.Tests.{leb-true, leb-false, le-leb, lt-leb, ne-eqb}
-use lib.Dec.{eqb, leb}
+use lib.Dec.{leb}
 use Rattle.waits.specs.declared.Wait.{Wait}
 use Rattle.waits.specs.declared.Wait.the-variants.{Given, Ended, Long}
 use Rattle.waits.specs.Runs.{waitOf}
 use Rattle.waits.specs.ByRuns.{Waits}
 use Rattle.waits.proofs.Same.{by-runs}
 use Rattle.clock.specs.declared.Clock.{Clock}
-use Rattle.clock.specs.Clock.{clockLimit, ticksOf, forwarded, waited, broughtBy}
+use Rattle.clock.specs.Clock.{clockLimit, forwarded, waited, broughtBy}
 use Rattle.model.specs.Resolved
 use Rattle.rules.specs.Listing.{Entry}
 use Rattle.rules.specs.Draw.{weights, total}
 use Rattle.machine.specs.State.{State}
 use Rattle.machine.specs.Timed.{Timed, timed}
 use Rattle.machine.specs.Machine.{Answer, no, listedAs, Listed, entriesAre, refusedWith, Turn, turn, refusing, accepting, drawn, refusedAs, withWait, stepsIn}
-use Rattle.machine.specs.Questions.{IsListing, Lists, no12, no13, no14, yes14, Steps, no15, no16, no17, no18, no19, yes19, laterBy, standing, Times, no15-19, no23, no24, no25, yes25}
+use Rattle.machine.specs.Questions.{IsListing, Lists, no12, no13, no14, yes14, Steps, no15, no16, no17, no18, no19, yes19, laterBy, Times, no15-19, no23, no24, no25, yes25}
 use Rattle.machine.proofs.Stepping as stepping
 
 -- where a number of the clock would pass its range, and where none does

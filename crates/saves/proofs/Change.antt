@@ -2,9 +2,9 @@
 -- that is replaced replaces its place. By induction on the places.
 use mathlib.Core.Path.{_≡_, refl, sym, ap, ap₂, _∙_}
 use mathlib.Core.List.{List, [], _∷_, _++_, map, append-assoc}
-use mathlib.Core.Bool.{Bool, true, false, cond, _&&_}
+use mathlib.Core.Bool.{Bool, true, false, cond}
 use mathlib.Core.Option.{Option, none, some, Option·elim}
-use Prim.Native.Nat.{ℕ, zero, suc, _+_, _*_, _≤_, _<_}
+use Prim.Native.Nat.{ℕ, zero, suc, _+_, _*_, _<_}
 use native.Mathlib.Nat.{suc-mul, zero-mul}
 use native.Mathlib.Omega.{arith}
 use borrow.Author.Tests.{ltb-true, ltb-false, ne-eqb}
@@ -15,13 +15,13 @@ use lib.Seq.{take-append-add, take-at, drop-at, drop-drop}
 use Rattle.model.specs.Good.{Every}
 use Rattle.machine.specs.State.{flatten}
 use Rattle.machine.specs.Timed.{Timed}
-use Rattle.machine.specs.Saves.{isName, Save, saved, Saves, saveLimit, placeWidth, named, isEmpty, firstOf, placeOf, placeFor, keptOf, keptUnder, SaveOf, PlaceOf, SavesOf, Stored, stored, replaced, removed, saving, returning, forgetting}
+use Rattle.machine.specs.Saves.{isName, Save, saved, Saves, saveLimit, placeWidth, named, isEmpty, firstOf, placeOf, placeFor, keptOf, keptUnder, PlaceOf, SavesOf, stored, replaced, removed, saving, returning, forgetting}
 use Rattle.machine.proofs.Saves.{not-both, first-passes, none-named, under-none, under-place}
 use Rattle.state.specs.Fits.{FewLocals}
 use Rattle.saves.specs.Kept.{keptNumbers, FitsKept}
 use Rattle.saves.proofs.Kept.{kept-length}
 use Rattle.saves.specs.Keys.{lowOf, highOf, keyNumbers}
-use Rattle.saves.specs.Places.{placeNumbers, savesNumbers, keptPart, hasKey, placesOf}
+use Rattle.saves.specs.Places.{placeNumbers, savesNumbers, keptPart, hasKey}
 use Rattle.saves.specs.Change.{placeWith, noKey, placeToTake, rowAt, withRow, written, savingNumbers, returningNumbers, forgettingNumbers, storedNumbers}
 use Rattle.saves.proofs.Names.{low-positive}
 use Rattle.saves.proofs.Places.{whole-part, place-length, key-named, saves-rows}

@@ -1,8 +1,8 @@
 -- What the functions on a clock's two numbers, and on a state with its clock, say: each answer a case of its definition; and what is written.
 use mathlib.Core.Path.{_≡_, refl, sym, ap, ap₂, _∙_}
-use mathlib.Core.Bool.{Bool, true, false, _&&_}
+use mathlib.Core.Bool.{true, false}
 use mathlib.Core.List.{List, [], _∷_, _++_, append-assoc}
-use Prim.Native.Nat.{ℕ, _+_, _≤_, _<_}
+use Prim.Native.Nat.{ℕ, _<_}
 use native.Mathlib.Omega.{arith}
 use borrow.Author.Tests.{le-ltb}
 use lib.Dec.{T}
@@ -20,7 +20,7 @@ use Rattle.machine.specs.State.{stateLength}
 use Rattle.machine.specs.Saves.{timedLength}
 use Rattle.state.specs.Test.{at, isState}
 use Rattle.state.proofs.Tests.{natural-fits}
-use Rattle.saves.specs.Kept.{clockPlace, besides, isNatural, clockAt, isClock, isKept}
+use Rattle.saves.specs.Kept.{besides, isNatural, clockAt, isClock, isKept}
 
 -- ---- numbers that aren't below 0
 

@@ -1,8 +1,8 @@
 -- The numbers of a state with its clock, and back, and the exact test of them: from the laws of a state's numbers.
 use mathlib.Core.Path.{_≡_, refl, sym, ap, ap₂, _∙_}
 use mathlib.Core.List.{List, [], _∷_, _++_}
-use mathlib.Core.Bool.{Bool, true, false, cond, _&&_}
-use Prim.Native.Nat.{ℕ, _+_, _≤_, _<_}
+use mathlib.Core.Bool.{true, _&&_}
+use Prim.Native.Nat.{ℕ}
 use native.Mathlib.Omega.{arith}
 use borrow.Author.Tests.{leb-true}
 use lib.Dec.{leb}
@@ -12,16 +12,16 @@ use lib.Seq.{take-at, drop-at}
 use Rattle.clock.specs.declared.Clock.{Clock}
 use Rattle.clock.specs.Clock.{clockLimit, InRange, isInRange}
 use Rattle.clock.proofs.Bringing.{both-in}
-use Rattle.machine.specs.State.{State, stateLength, stateNumbers}
+use Rattle.machine.specs.State.{stateLength, stateNumbers}
 use Rattle.machine.specs.Timed.{Timed, timed}
 use Rattle.machine.specs.Saves.{timedLength}
 use Rattle.machine.proofs.Saves.{not-both}
 use Rattle.state.specs.Decode.{decode}
-use Rattle.state.specs.Fits.{FewLocals, Fits}
-use Rattle.state.specs.Test.{at, isState}
+use Rattle.state.specs.Fits.{FewLocals}
+use Rattle.state.specs.Test.{isState}
 use Rattle.state.proofs.Tests.{both}
 use Rattle.state.proofs.Image.{numbers-length, numbers-pass, decode-back, decode-fits, decode-numbers}
-use Rattle.saves.specs.Kept.{clockPlace, besides, keptNumbers, isNatural, clockAt, isClock, isKept, keptIn, FitsKept}
+use Rattle.saves.specs.Kept.{clockPlace, keptNumbers, isNatural, clockAt, isClock, isKept, keptIn, FitsKept}
 use Rattle.saves.proofs.Names.{and-true}
 
 -- ---- clocks

@@ -1,29 +1,29 @@
 -- What the loops over letters, words and places say at each turn, and each case of the other functions: from the definitions.
 use mathlib.Core.Path.{_≡_, refl, sym, ap, ap₂, _∙_}
-use mathlib.Core.Bool.{Bool, true, false, cond, not, _&&_, _||_}
+use mathlib.Core.Bool.{Bool, true, false, cond, not, _&&_}
 use mathlib.Core.List.{List, [], _∷_, _++_, append-nil}
 use Prim.Native.Nat.{ℕ, zero, suc, _+_, _-_, _*_, _/_, _%_, _≤_, _<_, _^_}
 use native.Mathlib.Nat.{pow-suc}
 use native.Mathlib.Omega.{arith}
-use borrow.Author.Tests.{eqb-true, eqb-false, eq-eqb, ne-eqb, ltb-true, le-leb, lt-leb, lt-ltb, le-ltb}
+use borrow.Author.Tests.{eq-eqb, ne-eqb, ltb-true, le-leb, lt-leb, lt-ltb, le-ltb}
 use borrow.Rule.Slice.PartMut.{putMid}
-use lib.Dec.{eqb, leb, ltb, eqb·suc-suc}
+use lib.Dec.{eqb, leb, eqb·suc-suc}
 use lib.IntN.{ℤ, pos, negsuc, natAbs}
 use lib.Signed.{ltZ}
-use lib.ListN.{length, getD, set, take, drop, replicate, drop-of-length-le, length-take, length-drop, length-append}
+use lib.ListN.{length, set, take, drop, replicate, drop-of-length-le, length-take, length-drop, length-append}
 use lib.Seq.{take-all, take-at, take-nil, getD-take, drop-drop}
 use mir.Syntax.{w64}
 use mir.Val.{ofZ, toZ}
 use Rattle.value.specs.Arithmetic.{isSame}
 use Rattle.value.proofs.Kit.{true-not-false, back}
 use Rattle.word.specs.Name.{longest, wordBytes, pack}
-use Rattle.machine.specs.Saves.{isLetter, areLetters, isName, firstOf, saveLimit, keyWidth, timedLength, placeWidth, savesLength}
+use Rattle.machine.specs.Saves.{isLetter, isName, firstOf, saveLimit, keyWidth, timedLength, placeWidth, savesLength}
 use Rattle.state.specs.Test.{every, rows, at, isZero}
 use Rattle.state.proofs.Part.{tail-part, next-row}
 use Rattle.state.proofs.Rows.{rows-length}
 use Rattle.state.proofs.Tests.{both, rows-next, rows-none}
 use Rattle.saves.specs.Keys.{isWord, isSecond, isKey, isKeyOf, fullWord, keyNumbers}
-use Rattle.saves.specs.Kept.{isNatural, clockAt, isClock, isKept}
+use Rattle.saves.specs.Kept.{isKept}
 use Rattle.saves.specs.Places.{hasKey, isPlace, isOnce, areOnce, placesOf, isSaves, keptPart}
 use Rattle.saves.specs.Change.{placeWith, noKey, placeToTake, rowAt, withRow, written, savingNumbers, returningNumbers, forgettingNumbers, Stores}
 use Rattle.saves.proofs.Names.{letters-every, letter-is, name-is, every-take, every-drop}

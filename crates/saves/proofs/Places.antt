@@ -4,18 +4,17 @@ use mathlib.Core.List.{List, [], _∷_, _++_, map, append-nil}
 use mathlib.Core.Bool.{Bool, true, false, cond, not, _&&_}
 use mathlib.Core.Logic.{_↔_}
 use mathlib.Core.Option.{Option, none, some}
-use Prim.Native.Nat.{ℕ, suc, _+_, _*_, _≤_, _<_}
+use Prim.Native.Nat.{ℕ, suc, _*_}
 use native.Mathlib.Omega.{arith}
 use lib.Dec.{eqb}
 use lib.IntN.{ℤ, pos, negsuc, natAbs}
-use lib.ListN.{length, getD, take, drop, replicate, length-map, length-replicate, length-drop}
+use lib.ListN.{length, replicate, length-map, length-replicate}
 use lib.Seq.{take-all}
 use borrow.Author.Tests.{eqb-true, ne-eqb, eq-eqb}
-use Rattle.value.specs.Arithmetic.{isSame}
 use Rattle.model.specs.Good.{Every}
 use Rattle.machine.specs.State.{flatten}
 use Rattle.machine.specs.Timed.{Timed}
-use Rattle.machine.specs.Saves.{isName, same, Save, Saves, saveLimit, keyWidth, timedLength, placeWidth, savesLength, named, isUnknown, isApart, areApart, SaveOf, PlaceOf, SavesOf}
+use Rattle.machine.specs.Saves.{isName, same, Save, Saves, saveLimit, timedLength, placeWidth, savesLength, named, isUnknown, isApart, areApart, PlaceOf, SavesOf}
 use Rattle.machine.proofs.Saves.{not-both, same-eq, same-refl}
 use Rattle.state.specs.Fits.{FewLocals}
 use Rattle.state.specs.Test.{every, rows, at, isZero}
@@ -23,7 +22,7 @@ use Rattle.state.proofs.Tests.{both}
 use Rattle.state.proofs.Rows.{zeros, zero-every, rows-flatten, flatten-length, map-back, Row, rows-wide, join-rows, rows-length}
 use Rattle.saves.specs.Kept.{keptNumbers, isKept, keptIn, FitsKept}
 use Rattle.saves.proofs.Kept.{kept-length, kept-passes, kept-back, kept-fits, kept-numbers}
-use Rattle.saves.specs.Keys.{isKey, nameIn, lowOf, highOf, keyNumbers, isKeyOf}
+use Rattle.saves.specs.Keys.{nameIn, lowOf, highOf, keyNumbers, isKeyOf}
 use Rattle.saves.specs.Places.{placeNumbers, savesNumbers, keptPart, isPlace, hasKey, isOnce, areOnce, placesOf, isSaves, placeIn, savesIn}
 use Rattle.saves.proofs.Names.{and-true, name-back, name-passes, low-positive, Key, key-is}
 

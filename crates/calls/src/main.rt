@@ -77,27 +77,30 @@ fn lent(size: u64) -> u64 {
     most
 }
 
-// Makes one call by a row of a script, which is lent so many numbers of the listing, and answers.
+// Makes one call by a row of a script, with the first bytes of the text or a draw, which is lent so many numbers of the listing, and answers.
 fn make_call(
     kind: u64,
-    first: u64,
     size: u64,
+    draw: u64,
     listed: u64,
     text: &Text,
     model: &mut Model,
     state: &mut State,
     listing: &mut Listing,
 ) -> [u64; Row::ANSWER] {
-    let row = [
+    let row: [u64; Row::WIDTH] = [
         kind,
-        first,
+        0,
         size,
+        0,
+        0,
+        draw,
+        listed,
         Engine::MODEL as u64,
         Engine::STATE as u64,
-        listed,
     ];
     let mut answer = [0u64; Row::ANSWER];
-    script::run(&row, text, model, state, listing, &mut answer);
+    script::run(&row, text, &[], model, state, listing, &mut answer);
     answer
 }
 
@@ -106,15 +109,15 @@ fn put_call(
     out: &mut Buffer,
     waits: usize,
     kind: u64,
-    first: u64,
     size: u64,
+    draw: u64,
     text: &Text,
     model: &mut Model,
     state: &mut State,
     listing: &mut Listing,
 ) -> usize {
     let listed = Engine::LISTING as u64;
-    let answer = make_call(kind, first, size, listed, text, model, state, listing);
+    let answer = make_call(kind, size, draw, listed, text, model, state, listing);
     let n = output::put_line(out, waits, &answer, b' ');
     output::put_entries(out, n, listing, answer[Limits::COUNT], b"  ", b' ')
 }
@@ -161,15 +164,15 @@ fn ask(
             out,
             waits,
             Row::OPEN,
-            0,
             lent(size),
+            0,
             text,
             model,
             state,
             listing,
         ),
         Line::List => put_call(out, waits, Row::LIST, 0, 0, text, model, state, listing),
-        Line::Step(draw) => put_call(out, waits, Row::STEP, draw, 0, text, model, state, listing),
+        Line::Step(draw) => put_call(out, waits, Row::STEP, 0, draw, text, model, state, listing),
         Line::State => output::put_signed_line(out, waits, state, b' '),
         Line::Report => put_report(out, waits, text, model, state, listing),
         Line::Bad => waits,

@@ -18,7 +18,7 @@ use Rattle.rules.proofs.Chosen.{chosen-span, span-inside}
 use Rattle.machine.specs.Offer.{branches}
 use Rattle.machine.specs.State.{State, stateNumbers}
 use Rattle.machine.specs.Machine as machine
-use Rattle.machine.specs.Machine.{listingLength, totalLimit, no, listedAs, Listed, entriesAre, refusedWith, Turn, refusing, accepting, entryArguments, entryState, taken, drawn, turn, stepped, choosing, stepsOn}
+use Rattle.machine.specs.Machine.{listingLength, totalLimit, no, listedAs, Listed, entriesAre, refusedWith, Turn, refusing, accepting, entryArguments, entryState, taken, drawn, turn, choosing, stepsWith, onState, step′, acts, twoParts, onMachine}
 use Rattle.machine.proofs.Branches.{none-not-some, nth-get, get-nth, nth-below}
 use Rattle.machine.proofs.Listing.{accepted}
 use Rattle.machine.proofs.OneListing.{one-listing}
@@ -33,12 +33,13 @@ use Rattle.step.specs.declared.Taken.the-variants.{Accepted, Refused as NotTake
 use Rattle.step.specs.Enter.{verdict, Answers}
 use Rattle.step.proofs.Answered.{taken-state}
 use Rattle.buffers.specs.Listing.{shown}
-use Rattle.buffers.specs.Effect.{machineOver, stateIn, leaves}
+use Rattle.buffers.specs.Parts.{lentTwo}
+use Rattle.buffers.specs.Effect.{machineOver, leaves, requested}
 use Rattle.engine.specs.declared.Answer.{Answer}
 use Rattle.engine.specs.Gives.{Gives, bare, filled}
 use Rattle.engine.specs.Tables.{Tables, Finds, closed, holding}
 use Rattle.engine.specs.Steps.{Whole, entryIn, Counted, Row, takenAnswer, Left}
-use Rattle.engine.proofs.Shows.{filled-numbers, Refuses, entries as entriesOf, refuses, listing-is}
+use Rattle.engine.proofs.Shows.{filled-numbers, Refuses, entries as entriesOf, refuses, listing-is, eleven-gives, left-two}
 
 -- ---- an entry in the listing buffer
 shift : (l : List ℕ) (n : ℕ) → entryIn l (suc n) ≡ entryIn (drop 7 l) n
@@ -211,8 +212,9 @@ drawn-fills m s es d = go (eqb (total (weights es)) 0) (chosen (weights es) d)
     go false (some c) = at c (getElem? es c)
 
 module _ (bs : List ℕ) (zs : List ℤ) (l : List ℕ) (d : ℕ) where
-  turn-gives : (m : Resolved.Model) (es : List Entry) (t : Turn State) (r : Answer) (ys : List ℤ) (b : List ℕ) → Fills es t → Left t r ys → b ≡ filledNumbers es → Gives (leaves bs zs l (stepped m t)) r bs ys b
-  unfolding leaves stepped turn stateIn shown
+  turn-gives : (m : Resolved.Model) (es : List Entry) (t : Turn State) (r : Answer) (ys : List ℤ) (b : List ℕ) → Fills es t → Left t r ys → b ≡ filledNumbers es
+      → Gives (leaves twoParts (lentTwo bs zs) l (turn (machine.holding (machine.held m (t .machine))) (t .answer))) r (lentTwo bs ys) b
+  unfolding leaves shown
   turn-gives m es t r ys b f h e = rw (h .answer) (record {
     number = refl;
     place = sym (f .place);
@@ -220,38 +222,32 @@ module _ (bs : List ℕ) (zs : List ℤ) (l : List ℕ) (d : ℕ) where
     count = refl;
     total = refl;
     chosen = refl;
-    model = refl;
-    state = h .state;
-    listing = e ∙ filled-numbers es ∙ ap (λ (x : machine.Shown). shown x l) (sym (f .listing));
+    buffers = left-two bs zs ys m (t .machine) (h .state);
+    output = e ∙ filled-numbers es ∙ ap (λ (x : machine.Shown). shown x l) (sym (f .listing));
   })
-
-  -- 01, 11: changes nothing
-  pub eleven-steps : Gives (leaves bs zs l (stepsOn machine.closed d)) (bare 11 0 0) bs zs l
-  unfolding leaves stepsOn turn no stateIn shown
-  eleven-steps = record { number = refl; place = refl; branch = refl; count = refl; total = refl; chosen = refl; model = refl; state = refl; listing = refl }
 
   -- 01, 12 to 14: zero the listing
   choosing-gives : length l ≡ listingLength → (m : Resolved.Model) (s : State) {x : Listed} → Refuses x → stateNumbers s ≡ zs → (n p c : ℕ) (b : List ℕ) → Refused n p c ≡ listedAnswer x → b ≡ buffer.listingNumbers x
-      → Gives (leaves bs zs l (choosing m s d x)) (bare n p c) bs zs b
-  unfolding leaves choosing turn no stateIn shown listedAnswer buffer.listingNumbers
+      → Gives (leaves twoParts (lentTwo bs zs) l (turn (machine.holding (machine.held m (choosing m s d x .machine))) (choosing m s d x .answer))) (bare n p c) (lentTwo bs zs) b
+  unfolding leaves choosing no shown listedAnswer buffer.listingNumbers
   choosing-gives long m s entriesOf e n p c b q f = let z : _≡_ {A = ℕ} 0 1 = cc in absurd (omega arith)
   choosing-gives long m s (refuses i j k) e n p c b q f =
-      record { number = cc; place = cc; branch = cc; count = refl; total = refl; chosen = refl; model = refl; state = sym e; listing = f ∙ ap (λ (i : ℕ). replicate i 0) (sym long) }
+      record { number = cc; place = cc; branch = cc; count = refl; total = refl; chosen = refl; buffers = left-two bs zs zs m s (sym e); output = f ∙ ap (λ (i : ℕ). replicate i 0) (sym long) }
 
-  pub refused-gives : length l ≡ listingLength → (m : Resolved.Model) (n p c : ℕ) (b : List ℕ) → Finds m zs l (Refused n p c) b → Gives (leaves bs zs l (stepsOn (machineOver zs (some m)) d)) (bare n p c) bs zs b
-  unfolding stepsOn
+  pub refused-gives : length l ≡ listingLength → (m : Resolved.Model) (n p c : ℕ) (b : List ℕ) → Finds m zs l (Refused n p c) b → Gives (requested (step′ d) (lentTwo bs zs) l (some m)) (bare n p c) (lentTwo bs zs) b
+  unfolding requested onMachine acts onState stepsWith
   refused-gives long m n p c b (closed e q f) =
       let i : n ≡ 11 = cc in
       let j : p ≡ 0 = cc in
       let k : c ≡ 0 = cc in
-      rw (e, i, j, k, f) eleven-steps
-  refused-gives long m n p c b (holding {s} e g z h) = rw e (choosing-gives long m s (listing-is m s) (sym z) n p c b (h .answer) (h .numbers))
+      rw (e bs, i, j, k, f) (eleven-gives (step′ d) (lentTwo bs zs) l)
+  refused-gives long m n p c b (holding {s} e g z h) = rw (e bs) (choosing-gives long m s (listing-is m s) (sym z) n p c b (h .answer) (h .numbers))
 
 -- ---- a listing that is found
 pub record Found (t roots scopes : List ℕ) (root variables : ℕ) (zs : List ℤ) (b : List ℕ) (count sum : ℕ) (m : Resolved.Model) : Type 0 where
   pub state : State
   pub entries : List Entry
-  pub holds : machineOver zs (some m) ≡ machine.holding m state
+  pub holds : (bs : List ℕ) → machineOver twoParts (lentTwo bs zs) (some m) ≡ machine.holding (machine.held m state)
   pub counted : Counted t roots scopes root variables zs b count sum m state entries
 
 module _ (t roots scopes : List ℕ) (root variables sums channels : ℕ) (m : Resolved.Model) (w : Whole t roots scopes root variables sums channels m) where
@@ -281,6 +277,6 @@ module _ (t roots scopes : List ℕ) (root variables sums channels : ℕ) (m : R
       }
 
 pub found-gives : (bs : List ℕ) {t roots scopes : List ℕ} {root variables : ℕ} {zs : List ℤ} {b : List ℕ} {count sum : ℕ} {m : Resolved.Model} (l : List ℕ) (d : ℕ) (f : Found t roots scopes root variables zs b count sum m) (r : Answer) (ys : List ℤ)
-    → Left (drawn m (f .state) (f .entries) d) r ys → Gives (leaves bs zs l (stepsOn (machineOver zs (some m)) d)) r bs ys b
-unfolding stepsOn choosing
-found-gives bs {zs = zs} {b = b} {m = m} l d f r ys h = rw (f .holds, f .counted .listing .listed) (turn-gives bs zs l d m (f .entries) (drawn m (f .state) (f .entries) d) r ys b (drawn-fills m (f .state) (f .entries) d) h (f .counted .listing .numbers))
+    → Left (drawn m (f .state) (f .entries) d) r ys → Gives (requested (step′ d) (lentTwo bs zs) l (some m)) r (lentTwo bs ys) b
+unfolding requested onMachine acts onState stepsWith choosing
+found-gives bs {zs = zs} {b = b} {m = m} l d f r ys h = rw (f .holds bs, f .counted .listing .listed) (turn-gives bs zs l d m (f .entries) (drawn m (f .state) (f .entries) d) r ys b (drawn-fills m (f .state) (f .entries) d) h (f .counted .listing .numbers))

@@ -1,84 +1,85 @@
--- Question 1: a wrong length leaves everything as it was; right ones let the call go on. By the test of lengths.
+-- Question 1: a wrong length leaves everything as it was; right ones let the call go on. One law for every request that is lent the model, the state and an output.
 use mathlib.Core.Path.{_≡_, refl, ap, _∙_}
 use mathlib.Core.List.{List, []}
-use mathlib.Core.Bool.{Bool, true, false, _&&_}
-use mathlib.Core.Option.{none}
+use mathlib.Core.Bool.{Bool, true, false, cond, _&&_, and-true}
+use mathlib.Core.Option.{Option, none, some, Option·elim}
 use Prim.Native.Nat.{ℕ, _+_, _-_}
 use native.Mathlib.Omega.{arith}
-use borrow.Author.Tests.{eq-eqb, ne-eqb}
+use borrow.Author.Tests.{eqb-true}
 use lib.Dec.{eqb}
 use lib.IntN.{ℤ}
 use lib.ListN.{length, take, drop}
+use Rattle.value.proofs.Kit.{false-not-true}
 use Rattle.model.specs.Opening.{opening}
 use Rattle.model.specs.Held.{held}
 use Rattle.machine.specs.State.{stateLength}
-use Rattle.machine.specs.Machine.{modelLength, no, lent, Machine, Turn, closed}
+use Rattle.machine.specs.Machine.{modelLength, no, Request, open′, on′, Part, size, twoParts, uses, outputOf, allParts, hasLengths}
+use Rattle.machine.proofs.Lent.{both-true}
 use Rattle.buffers.specs.Held.{lengthIn, textIn, heldIn}
-use Rattle.buffers.specs.Effect.{untouched, machineOver, machineIn, leaves, whenLent, opensWith, openEffect}
-use Rattle.engine.specs.Gives.{Gives, bare}
+use Rattle.buffers.specs.Parts.{Engine, lentTwo}
+use Rattle.buffers.specs.Effect.{untouched, opensWith, requested, answered, effect}
+use Rattle.engine.specs.Gives.{Gives, bare, arePartsLong, areLong}
 use Rattle.store.specs.Text.{TextOf}
 
-and-false : (a : Bool) → (a && false) ≡ false
-and-false true = refl
-and-false false = refl
-
 -- 01: 1 changes nothing
-untouched-gives : (bs : List ℕ) (zs : List ℤ) (l : List ℕ) → Gives (untouched bs zs l) (bare 1 0 0) bs zs l
+untouched-gives : (x : Engine) (l : List ℕ) → Gives (untouched x l) (bare 1 0 0) x l
 unfolding untouched no
-untouched-gives bs zs l = record { number = refl; place = refl; branch = refl; count = refl; total = refl; chosen = refl; model = refl; state = refl; listing = refl }
+untouched-gives x l = record { number = refl; place = refl; branch = refl; count = refl; total = refl; chosen = refl; buffers = λ p. refl; output = refl }
+
+-- what the tests of lengths say
+pub parts-long : (model state : ℕ) → arePartsLong model state ≡ true → (model ≡ modelLength) × (state ≡ stateLength)
+unfolding arePartsLong
+parts-long model state e = let b = both-true (eqb model modelLength) _ e in (eqb-true _ _ (b .0), eqb-true _ _ (b .1))
+
+pub all-long : (model state output right : ℕ) → areLong model state output right ≡ true → (model ≡ modelLength) × (state ≡ stateLength) × (output ≡ right)
+unfolding areLong
+all-long model state output right e =
+    let b = both-true (arePartsLong model state) _ e in
+    let c = parts-long model state (b .0) in
+    (c .0, c .1, eqb-true _ _ (b .1))
 
 module _ (bs : List ℕ) (zs : List ℤ) where
-  lent-model : (length bs ≡ modelLength → ⊥) → lent (length bs) (length zs) ≡ false
-  unfolding lent
-  lent-model h = ap (λ (b : Bool). b && eqb (length zs) stateLength) (ne-eqb (length bs) modelLength h)
-
-  lent-state : (length zs ≡ stateLength → ⊥) → lent (length bs) (length zs) ≡ false
-  unfolding lent
-  lent-state h = ap (λ (b : Bool). eqb (length bs) modelLength && b) (ne-eqb (length zs) stateLength h) ∙ and-false (eqb (length bs) modelLength)
-
-  lent-both : length bs ≡ modelLength → length zs ≡ stateLength → lent (length bs) (length zs) ≡ true
-  unfolding lent
-  lent-both h g = rw (eq-eqb (length bs) modelLength h, eq-eqb (length zs) stateLength g)
+  parts-are : allParts (λ (p : Part). eqb (length (lentTwo bs zs p)) (size p)) twoParts ≡ arePartsLong (length bs) (length zs)
+  unfolding allParts lentTwo arePartsLong
+  parts-are = ap (λ (b : Bool). eqb (length bs) modelLength && b) (and-true (eqb (length zs) stateLength))
 
   -- ---- open
   module _ (text : List ℕ) where
-    open-wrong : lent (length bs) (length zs) ≡ false → Gives (openEffect text bs zs) (bare 1 0 0) bs zs []
-    unfolding openEffect
-    open-wrong e = rw e (untouched-gives bs zs [])
+    open-lengths : hasLengths (open′ text) (λ (p : Part). length (lentTwo bs zs p)) 0 ≡ arePartsLong (length bs) (length zs)
+    unfolding hasLengths Option·elim
+    open-lengths = and-true _ ∙ parts-are
 
-    pub open-model : (length bs ≡ modelLength → ⊥) → Gives (openEffect text bs zs) (bare 1 0 0) bs zs []
-    open-model h = open-wrong (lent-model h)
+    pub open-wrong : arePartsLong (length bs) (length zs) ≡ false → Gives (effect (open′ text) (lentTwo bs zs) []) (bare 1 0 0) (lentTwo bs zs) []
+    unfolding effect
+    open-wrong e = rw (open-lengths, e) (untouched-gives (lentTwo bs zs) [])
 
-    pub open-state : (length zs ≡ stateLength → ⊥) → Gives (openEffect text bs zs) (bare 1 0 0) bs zs []
-    open-state h = open-wrong (lent-state h)
+    pub open-right : arePartsLong (length bs) (length zs) ≡ true → effect (open′ text) (lentTwo bs zs) [] ≡ opensWith text (opening text) []
+    unfolding effect answered
+    open-right e = rw (open-lengths, e)
 
-    pub open-right : length bs ≡ modelLength → length zs ≡ stateLength → openEffect text bs zs ≡ opensWith text (opening text)
-    unfolding openEffect
-    open-right h g = rw (lent-both h g)
+  -- ---- a request that is lent model and state, and an output of this right length
+  module _ (r : Request) (right : ℕ) (u : uses r ≡ twoParts) (o : outputOf (on′ r) ≡ some right) (l : List ℕ) where
+    lengths : hasLengths (on′ r) (λ (p : Part). length (lentTwo bs zs p)) (length l) ≡ areLong (length bs) (length zs) (length l) right
+    unfolding hasLengths areLong Option·elim
+    lengths =
+        ap (λ (ps : List Part). allParts (λ (p : Part). eqb (length (lentTwo bs zs p)) (size p)) ps && Option·elim (outputOf (on′ r)) true (eqb (length l))) u
+        ∙ ap (λ (k : Option ℕ). allParts (λ (p : Part). eqb (length (lentTwo bs zs p)) (size p)) twoParts && Option·elim k true (eqb (length l))) o
+        ∙ ap (λ (b : Bool). b && eqb (length l) right) parts-are
 
-  -- ---- list, step and report, whose third buffer has this right length
-  module _ (right : ℕ) (l : List ℕ) (t : Turn Machine) where
-    pub turn-model : (length bs ≡ modelLength → ⊥) → Gives (whenLent right bs zs l t) (bare 1 0 0) bs zs l
-    unfolding whenLent
-    turn-model h = rw (lent-model h) (untouched-gives bs zs l)
+    pub asked-wrong : areLong (length bs) (length zs) (length l) right ≡ false → Gives (effect (on′ r) (lentTwo bs zs) l) (bare 1 0 0) (lentTwo bs zs) l
+    unfolding effect
+    asked-wrong e = rw (lengths, e) (untouched-gives (lentTwo bs zs) l)
 
-    pub turn-state : (length zs ≡ stateLength → ⊥) → Gives (whenLent right bs zs l t) (bare 1 0 0) bs zs l
-    unfolding whenLent
-    turn-state h = rw (lent-state h) (untouched-gives bs zs l)
+    pub asked-right : areLong (length bs) (length zs) (length l) right ≡ true → effect (on′ r) (lentTwo bs zs) l ≡ answered (on′ r) (lentTwo bs zs) l
+    unfolding effect
+    asked-right e = rw (lengths, e)
 
-    pub turn-listing : (length l ≡ right → ⊥) → Gives (whenLent right bs zs l t) (bare 1 0 0) bs zs l
-    unfolding whenLent
-    turn-listing h = rw (ne-eqb (length l) right h, and-false (lent (length bs) (length zs))) (untouched-gives bs zs l)
+  -- ---- the text in the model buffer
+  module _ (r : Request) (l : List ℕ) where
+    pub none-in : heldIn bs ≡ none → answered (on′ r) (lentTwo bs zs) l ≡ requested r (lentTwo bs zs) l none
+    unfolding answered lentTwo
+    none-in e = ap (requested r (lentTwo bs zs) l) e
 
-    pub turn-right : length bs ≡ modelLength → length zs ≡ stateLength → length l ≡ right → whenLent right bs zs l t ≡ leaves bs zs l t
-    unfolding whenLent
-    turn-right h g f = rw (lent-both h g, eq-eqb (length l) right f)
-
-  -- ---- the machine in the buffers
-  pub none-in : heldIn bs ≡ none → machineIn bs zs ≡ closed
-  unfolding machineIn machineOver
-  none-in e = rw e
-
-  pub text-in : (n : ℕ) → TextOf bs n → machineIn bs zs ≡ machineOver zs (held (take (2 + n - 2) (drop 2 bs)))
-  unfolding machineIn textIn
-  text-in n h = let e : lengthIn bs ≡ 2 + n - 2 = omega (arith, h .long) in ap (machineOver zs) (h .holds ∙ ap (λ (i : ℕ). held (take i (drop 2 bs))) e)
+    pub text-in : (n : ℕ) → TextOf bs n → answered (on′ r) (lentTwo bs zs) l ≡ requested r (lentTwo bs zs) l (held (take (2 + n - 2) (drop 2 bs)))
+    unfolding answered lentTwo textIn
+    text-in n h = let e : lengthIn bs ≡ 2 + n - 2 = omega (arith, h .long) in ap (requested r (lentTwo bs zs) l) (h .holds ∙ ap (λ (i : ℕ). held (take i (drop 2 bs))) e)

@@ -13,9 +13,11 @@ use Rattle.model.specs.Held.{held}
 use Rattle.model.proofs.Opened.{opened-good, opened-few}
 use Rattle.model.proofs.Held.{held-good, opened-short}
 use Rattle.machine.specs.State.{stateLength, stateNumbers}
-use Rattle.machine.specs.Machine.{modelLength, no, openedState, lists, stepsOn}
+use Rattle.machine.specs.Machine as machine
+use Rattle.machine.specs.Machine.{modelLength, no, openedState, Request, Part, model, state}
 use Rattle.buffers.specs.Held.{modelBytes}
-use Rattle.buffers.specs.Effect.{machineOver, leaves, opensWith}
+use Rattle.buffers.specs.Parts.{fresh, numbersOf, lentTwo}
+use Rattle.buffers.specs.Effect.{opensWith, requested}
 use Rattle.engine.specs.Gives.{Gives, bare}
 use Rattle.engine.specs.Tables.{Tables}
 use Rattle.engine.specs.Steps.{Whole}
@@ -27,8 +29,7 @@ use Rattle.opening.specs.declared.Opened.{Opened}
 use Rattle.opening.specs.declared.Opened.the-variants.{Refused, Accepted}
 use Rattle.opening.specs.Trees.{Closed}
 use Rattle.opening.specs.Models.{ModelHeld, ModelRead, ModelOpened, Opens}
-use Rattle.engine.proofs.Shows.{eleven-gives}
-use Rattle.engine.proofs.Drawn.{eleven-steps}
+use Rattle.engine.proofs.Shows.{none-gives}
 
 module _ (text t roots scopes : List ℕ) where
   -- ---- opening
@@ -69,21 +70,24 @@ module _ (text t roots scopes : List ℕ) where
 
 -- 01, Opening a text: 2 to 10 zero both buffers
 pub refused-gives : (text : List ℕ) (n p : ℕ) (bs : List ℕ) (zs : List ℤ) → opening text ≡ refused n p → bs ≡ replicate modelLength 0 → zs ≡ replicate stateLength (pos 0)
-    → Gives (opensWith text (opening text)) (bare n p 0) bs zs []
+    → Gives (opensWith text (opening text) []) (bare n p 0) (lentTwo bs zs) []
 unfolding opensWith no
-refused-gives text n p bs zs e f g = rw e (record { number = refl; place = refl; branch = refl; count = refl; total = refl; chosen = refl; model = f; state = g; listing = refl })
+refused-gives text n p bs zs e f g = rw e (record { number = refl; place = refl; branch = refl; count = refl; total = refl; chosen = refl; buffers = zero; output = refl })
+  where
+    zero : (p : Part) → lentTwo bs zs p ≡ fresh p
+    zero model = unfold lentTwo fresh in f
+    zero state = unfold lentTwo fresh in g
 
 -- 01, Opening a text: acceptance fills both
 pub accepted-gives : (text : List ℕ) (m : Resolved.Model) (bs : List ℕ) (zs : List ℤ) → opening text ≡ opened m → bs ≡ modelBytes text → zs ≡ stateNumbers (openedState m)
-    → Gives (opensWith text (opening text)) (bare 0 0 0) bs zs []
+    → Gives (opensWith text (opening text) []) (bare 0 0 0) (lentTwo bs zs) []
 unfolding opensWith no
-accepted-gives text m bs zs e f g = rw e (record { number = refl; place = refl; branch = refl; count = refl; total = refl; chosen = refl; model = f; state = g; listing = refl })
+accepted-gives text m bs zs e f g = rw e (record { number = refl; place = refl; branch = refl; count = refl; total = refl; chosen = refl; buffers = full; output = refl })
+  where
+    full : (p : Part) → lentTwo bs zs p ≡ numbersOf (modelBytes text) (machine.held m (openedState m)) p
+    full model = unfold lentTwo numbersOf in f
+    full state = unfold lentTwo numbersOf in g
 
 -- 01, Listing, 11: a text that holds no model
-pub closed-gives : (text bs : List ℕ) (zs : List ℤ) (l : List ℕ) → held text ≡ none → Gives (leaves bs zs l (lists (machineOver zs (held text)))) (bare 11 0 0) bs zs l
-unfolding machineOver
-closed-gives text bs zs l e = rw e (eleven-gives bs zs l)
-
-pub closed-steps : (text bs : List ℕ) (zs : List ℤ) (l : List ℕ) (d : ℕ) → held text ≡ none → Gives (leaves bs zs l (stepsOn (machineOver zs (held text)) d)) (bare 11 0 0) bs zs l
-unfolding machineOver
-closed-steps text bs zs l d e = rw e (eleven-steps bs zs l d)
+pub closed-gives : (text bs : List ℕ) (zs : List ℤ) (r : Request) (l : List ℕ) → held text ≡ none → Gives (requested r (lentTwo bs zs) l (held text)) (bare 11 0 0) (lentTwo bs zs) l
+closed-gives text bs zs r l e = rw e (none-gives r (lentTwo bs zs) l)

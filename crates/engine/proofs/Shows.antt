@@ -20,7 +20,7 @@ use Rattle.rules.specs.Draw.{weights, total}
 use Rattle.machine.specs.Offer.{missing, branches}
 use Rattle.machine.specs.State.{State, stateLength, stateNumbers, GoodState}
 use Rattle.machine.specs.Machine as machine
-use Rattle.machine.specs.Machine.{Listed, entriesAre, refusedWith, zeroed, no, listedAs, entryLimit, totalLimit, counted, turn, closed, holding, showing, lists, listingLength}
+use Rattle.machine.specs.Machine.{Listed, entriesAre, refusedWith, zeroed, no, listedAs, entryLimit, totalLimit, counted, turn, showing, lists, listingLength, held, closed, holding, onState, Request, list′, acts, Part, model, state, twoParts, uses, isLent, onMachine}
 use Rattle.machine.proofs.Everys.{every-in, in-every}
 use Rattle.machine.proofs.Branches.{map-nth, nth-get, get-nth}
 use Rattle.state.specs.Test.{isState}
@@ -34,7 +34,9 @@ use Rattle.listing.specs.Buffer.{rows, filledNumbers, listedAnswer, Lists}
 use Rattle.listing.specs.Buffer as buffer
 use Rattle.listing.specs.declared.Listed.{Listed as Found}
 use Rattle.buffers.specs.Listing.{entryNumbers, entriesNumbers, listingNumbers, shown}
-use Rattle.buffers.specs.Effect.{machineOver, stateIn, leaves}
+use Rattle.buffers.specs.Parts.{Engine, numbersOf, lentTwo}
+use Rattle.buffers.specs.Effect.{machineOver, leftIn, leaves, requested}
+use Rattle.buffers.proofs.Machines.{passed, failed}
 use Rattle.engine.specs.Gives.{Gives, bare}
 use Rattle.engine.specs.Tables.{Tables, answerOf, Finds}
 use Rattle.engine.specs.Tables as found
@@ -92,13 +94,13 @@ module _ (t roots scopes : List ℕ) (sums channels : ℕ) (m : Resolved.Model) 
       numbers = sym numbers-back;
     }
 
-    pub machine-is : machineOver zs (some m) ≡ holding m (stateOf zs)
-    unfolding machineOver
-    machine-is = rw passes
+    pub machine-is : (bs : List ℕ) → machineOver twoParts (lentTwo bs zs) (some m) ≡ holding (held m (stateOf zs))
+    unfolding lentTwo
+    machine-is bs = passed (lentTwo bs zs) m passes
 
-  pub machine-closed : (zs : List ℤ) → isState (take sums scopes) channels zs ≡ false → machineOver zs (some m) ≡ closed
-  unfolding machineOver
-  machine-closed zs e = let p : isState (scopesOf m) (m .channels) zs ≡ false = rw (← scopes-are, ← r .channels-are) e in rw p
+  pub machine-closed : (zs : List ℤ) → isState (take sums scopes) channels zs ≡ false → (bs : List ℕ) → machineOver twoParts (lentTwo bs zs) (some m) ≡ closed
+  unfolding lentTwo
+  machine-closed zs e bs = let p : isState (scopesOf m) (m .channels) zs ≡ false = rw (← scopes-are, ← r .channels-are) e in failed (lentTwo bs zs) m p
 
 -- ---- the listing buffer
 numbers-rows : (es : List rules.Entry) (rest : List ℕ) → rows es rest ≡ entriesNumbers es ++ rest
@@ -137,23 +139,42 @@ listing-is m s = by (missing m 0 (s .processes))
     by none = counted-is (rules.entries (branches m) s)
     by (some ij) = refuses 12 (ij .0) (ij .1)
 
+-- ---- what a request gives that is lent model and state
+
+-- 01, Listing, 11: changes nothing
+pub eleven-gives : (r : Request) (x : Engine) (l : List ℕ) → Gives (leaves (uses r) x l (onMachine r closed)) (bare 11 0 0) x l
+unfolding leaves onMachine leftIn no shown
+eleven-gives r x l = record { number = refl; place = refl; branch = refl; count = refl; total = refl; chosen = refl; buffers = λ p. refl; output = refl }
+
+pub none-gives : (r : Request) (x : Engine) (l : List ℕ) → Gives (requested r x l none) (bare 11 0 0) x l
+unfolding requested machineOver
+none-gives r x l = eleven-gives r x l
+
+-- the numbers of a state, and the model as it was lent
+pub left-two : (bs : List ℕ) (zs ys : List ℤ) (m : Resolved.Model) (s : State) → ys ≡ stateNumbers s → (p : Part) → lentTwo bs ys p ≡ leftIn twoParts (lentTwo bs zs) (holding (held m s)) p
+unfolding lentTwo leftIn isLent numbersOf
+left-two bs zs ys m s e model = refl
+left-two bs zs ys m s e state = e
+
 -- ---- what a list call gives
 module _ (bs : List ℕ) (zs : List ℤ) (l : List ℕ) where
-  -- 01, Listing, 11: changes nothing
-  pub eleven-gives : Gives (leaves bs zs l (lists closed)) (bare 11 0 0) bs zs l
-  unfolding leaves lists turn no stateIn shown
-  eleven-gives = record { number = refl; place = refl; branch = refl; count = refl; total = refl; chosen = refl; model = refl; state = refl; listing = refl }
+  abbrev x : Engine
+  x = lentTwo bs zs
 
-  listing-gives : length l ≡ listingLength → (m : Resolved.Model) (s : State) {x : Listed} → Refuses x → stateNumbers s ≡ zs → (b : List ℕ) → b ≡ buffer.listingNumbers x → Gives (leaves bs zs l (showing m s x)) (answerOf (listedAnswer x)) bs zs b
-  unfolding leaves showing turn no listedAs stateIn shown answerOf listedAnswer buffer.listingNumbers
-  listing-gives long m s (entries {es}) e b f = record { number = refl; place = refl; branch = refl; count = refl; total = refl; chosen = refl; model = refl; state = sym e; listing = f ∙ filled-numbers es }
-  listing-gives long m s (refuses n p c) e b f = record { number = refl; place = refl; branch = refl; count = refl; total = refl; chosen = refl; model = refl; state = sym e; listing = f ∙ ap (λ (i : ℕ). replicate i 0) (sym long) }
+  listing-gives : length l ≡ listingLength → (m : Resolved.Model) (s : State) {k : Listed} → Refuses k → stateNumbers s ≡ zs → (b : List ℕ) → b ≡ buffer.listingNumbers k
+      → Gives (leaves twoParts x l (turn (holding (held m (showing s k .machine))) (showing s k .answer))) (answerOf (listedAnswer k)) x b
+  unfolding leaves showing no listedAs shown answerOf listedAnswer buffer.listingNumbers
+  listing-gives long m s (entries {es}) e b f =
+      record { number = refl; place = refl; branch = refl; count = refl; total = refl; chosen = refl; buffers = left-two bs zs zs m s (sym e); output = f ∙ filled-numbers es }
+  listing-gives long m s (refuses n p c) e b f =
+      record { number = refl; place = refl; branch = refl; count = refl; total = refl; chosen = refl; buffers = left-two bs zs zs m s (sym e); output = f ∙ ap (λ (i : ℕ). replicate i 0) (sym long) }
 
-  pub lists-give : length l ≡ listingLength → (m : Resolved.Model) (s : State) (r : Found) (b : List ℕ) → stateNumbers s ≡ zs → Lists (machine.listing m s) r b → Gives (leaves bs zs l (lists (holding m s))) (answerOf r) bs zs b
-  unfolding lists
+  pub lists-give : length l ≡ listingLength → (m : Resolved.Model) (s : State) (r : Found) (b : List ℕ) → stateNumbers s ≡ zs → Lists (machine.listing m s) r b
+      → Gives (leaves twoParts x l (onMachine list′ (holding (held m s)))) (answerOf r) x b
+  unfolding onMachine acts onState lists
   lists-give long m s r b e h = rw (h .answer) (listing-gives long m s (listing-is m s) e b (h .numbers))
 
-  pub finds-give : length l ≡ listingLength → (m : Resolved.Model) (r : Found) (b : List ℕ) → Finds m zs l r b → Gives (leaves bs zs l (lists (machineOver zs (some m)))) (answerOf r) bs zs b
-  unfolding answerOf
-  finds-give long m r b (found.closed e q f) = rw (e, q, f) eleven-gives
-  finds-give long m r b (found.holding {s} e g z h) = rw e (lists-give long m s r b (sym z) h)
+  pub finds-give : length l ≡ listingLength → (m : Resolved.Model) (r : Found) (b : List ℕ) → Finds m zs l r b → Gives (requested list′ x l (some m)) (answerOf r) x b
+  unfolding answerOf requested
+  finds-give long m r b (found.closed e q f) = rw (e bs, q, f) (eleven-gives list′ x l)
+  finds-give long m r b (found.holding {s} e g z h) = rw (e bs) (lists-give long m s r b (sym z) h)

@@ -12,9 +12,10 @@ ghost use mathlib.Core.List.{[]};
 ghost use lib.ListN.{length};
 ghost use Rattle.machine.specs.State.{stateLength};
 ghost use Rattle.machine.specs.Report.{reportLength};
-ghost use Rattle.machine.specs.Machine.{modelLength, listingLength, lists, stepsOn, reports};
-ghost use Rattle.buffers.specs.Effect.{machineIn, leaves, openEffect, listEffect, stepEffect, reportEffect};
-ghost use Rattle.engine.specs.Gives.{bare, filled, Gives};
+ghost use Rattle.machine.specs.Machine.{modelLength, listingLength, list′, step′, report′, open′, on′};
+ghost use Rattle.buffers.specs.Parts.{lentTwo};
+ghost use Rattle.buffers.specs.Effect.{answered, effect};
+ghost use Rattle.engine.specs.Gives.{bare, filled, Gives, arePartsLong, areLong};
 
 // What a call answers: 0 or a refusal's number; its place and branch; the listing's entries, their total, and the entry that a step took.
 #[repr(C)]
@@ -57,14 +58,31 @@ impl Answer {
     }
 }
 
+// Question 1 of the model and the state: have they their lengths?
+fn are_parts_long(model: usize, state: usize) -> bool
+    ensures { λ r. ⌜ r ≡ arePartsLong model state ⌝ }
+{
+    if model != Engine::MODEL {
+        return false;
+    }
+    state == Engine::STATE
+}
+
+// Question 1 of a call that is lent a model, a state and an output of this right length.
+fn are_long(model: usize, state: usize, output: usize, right: usize) -> bool
+    ensures { λ r. ⌜ r ≡ areLong model state output right ⌝ }
+{
+    if !are_parts_long(model, state) {
+        return false;
+    }
+    output == right
+}
+
 // Reads a model text and sets the engine to its start.
 pub fn open(text: &[u8], model: &mut [u8], state: &mut [i64]) -> Answer
-    ensures { λ r. ⌜ Gives (openEffect (now (text .entry)) (now (model .entry)) (now (state .entry))) r (now (model .exit)) (now (state .exit)) [] ⌝ }
+    ensures { λ r. ⌜ Gives (effect (open′ (now (text .entry))) (lentTwo (now (model .entry)) (now (state .entry))) []) r (lentTwo (now (model .exit)) (now (state .exit))) [] ⌝ }
 {
-    if model.len() != Engine::MODEL {
-        return Answer::bare(1, 0, 0);
-    }
-    if state.len() != Engine::STATE {
+    if !are_parts_long(model.len(), state.len()) {
         return Answer::bare(1, 0, 0);
     }
     texts::open_lent(text, model, state)
@@ -73,7 +91,7 @@ pub fn open(text: &[u8], model: &mut [u8], state: &mut [i64]) -> Answer
 // Lists over buffers of the right lengths.
 fn list_lent(model: &[u8], state: &[i64], listing: &mut [u64]) -> Answer
     requires { ⌜ (length (now model) ≡ modelLength) × (length (now state) ≡ stateLength) × (length (now listing) ≡ listingLength) ⌝ }
-    ensures { λ r. ⌜ Gives (leaves (now (model .entry)) (now (state .entry)) (now (listing .entry)) (lists (machineIn (now (model .entry)) (now (state .entry))))) r (now (model .entry)) (now (state .entry)) (now (listing .exit)) ⌝ }
+    ensures { λ r. ⌜ Gives (answered (on′ list′) (lentTwo (now (model .entry)) (now (state .entry))) (now (listing .entry))) r (lentTwo (now (model .entry)) (now (state .entry))) (now (listing .exit)) ⌝ }
 {
     let found = store::buffer::find_text(model);
     match found {
@@ -87,15 +105,9 @@ fn list_lent(model: &[u8], state: &[i64], listing: &mut [u64]) -> Answer
 
 // Lists every transition that can happen next, with its weight.
 pub fn list(model: &[u8], state: &[i64], listing: &mut [u64]) -> Answer
-    ensures { λ r. ⌜ Gives (listEffect (now (model .entry)) (now (state .entry)) (now (listing .entry))) r (now (model .entry)) (now (state .entry)) (now (listing .exit)) ⌝ }
+    ensures { λ r. ⌜ Gives (effect (on′ list′) (lentTwo (now (model .entry)) (now (state .entry))) (now (listing .entry))) r (lentTwo (now (model .entry)) (now (state .entry))) (now (listing .exit)) ⌝ }
 {
-    if model.len() != Engine::MODEL {
-        return Answer::bare(1, 0, 0);
-    }
-    if state.len() != Engine::STATE {
-        return Answer::bare(1, 0, 0);
-    }
-    if listing.len() != Engine::LISTING {
+    if !are_long(model.len(), state.len(), listing.len(), Engine::LISTING) {
         return Answer::bare(1, 0, 0);
     }
     list_lent(model, state, listing)
@@ -104,7 +116,7 @@ pub fn list(model: &[u8], state: &[i64], listing: &mut [u64]) -> Answer
 // Steps over buffers of the right lengths.
 fn step_lent(model: &[u8], state: &mut [i64], listing: &mut [u64], draw: u64) -> Answer
     requires { ⌜ (length (now model) ≡ modelLength) × (length (now state) ≡ stateLength) × (length (now listing) ≡ listingLength) ⌝ }
-    ensures { λ r. ⌜ Gives (leaves (now (model .entry)) (now (state .entry)) (now (listing .entry)) (stepsOn (machineIn (now (model .entry)) (now (state .entry))) draw)) r (now (model .entry)) (now (state .exit)) (now (listing .exit)) ⌝ }
+    ensures { λ r. ⌜ Gives (answered (on′ (step′ draw)) (lentTwo (now (model .entry)) (now (state .entry))) (now (listing .entry))) r (lentTwo (now (model .entry)) (now (state .exit))) (now (listing .exit)) ⌝ }
 {
     let found = store::buffer::find_text(model);
     match found {
@@ -118,15 +130,9 @@ fn step_lent(model: &[u8], state: &mut [i64], listing: &mut [u64], draw: u64) ->
 
 // Lists, then takes the entry that the draw chooses.
 pub fn step(model: &[u8], state: &mut [i64], listing: &mut [u64], draw: u64) -> Answer
-    ensures { λ r. ⌜ Gives (stepEffect (now (model .entry)) (now (state .entry)) (now (listing .entry)) draw) r (now (model .entry)) (now (state .exit)) (now (listing .exit)) ⌝ }
+    ensures { λ r. ⌜ Gives (effect (on′ (step′ draw)) (lentTwo (now (model .entry)) (now (state .entry))) (now (listing .entry))) r (lentTwo (now (model .entry)) (now (state .exit))) (now (listing .exit)) ⌝ }
 {
-    if model.len() != Engine::MODEL {
-        return Answer::bare(1, 0, 0);
-    }
-    if state.len() != Engine::STATE {
-        return Answer::bare(1, 0, 0);
-    }
-    if listing.len() != Engine::LISTING {
+    if !are_long(model.len(), state.len(), listing.len(), Engine::LISTING) {
         return Answer::bare(1, 0, 0);
     }
     step_lent(model, state, listing, draw)
@@ -135,7 +141,7 @@ pub fn step(model: &[u8], state: &mut [i64], listing: &mut [u64], draw: u64) -> 
 // Reports over buffers of the right lengths.
 fn report_lent(model: &[u8], state: &[i64], report: &mut [u64]) -> Answer
     requires { ⌜ (length (now model) ≡ modelLength) × (length (now state) ≡ stateLength) × (length (now report) ≡ reportLength) ⌝ }
-    ensures { λ r. ⌜ Gives (leaves (now (model .entry)) (now (state .entry)) (now (report .entry)) (reports (machineIn (now (model .entry)) (now (state .entry))))) r (now (model .entry)) (now (state .entry)) (now (report .exit)) ⌝ }
+    ensures { λ r. ⌜ Gives (answered (on′ report′) (lentTwo (now (model .entry)) (now (state .entry))) (now (report .entry))) r (lentTwo (now (model .entry)) (now (state .entry))) (now (report .exit)) ⌝ }
 {
     let found = store::buffer::find_text(model);
     match found {
@@ -149,15 +155,9 @@ fn report_lent(model: &[u8], state: &[i64], report: &mut [u64]) -> Answer
 
 // Lists, and reports the sum of the weights of each definition's processes.
 pub fn report(model: &[u8], state: &[i64], report: &mut [u64]) -> Answer
-    ensures { λ r. ⌜ Gives (reportEffect (now (model .entry)) (now (state .entry)) (now (report .entry))) r (now (model .entry)) (now (state .entry)) (now (report .exit)) ⌝ }
+    ensures { λ r. ⌜ Gives (effect (on′ report′) (lentTwo (now (model .entry)) (now (state .entry))) (now (report .entry))) r (lentTwo (now (model .entry)) (now (state .entry))) (now (report .exit)) ⌝ }
 {
-    if model.len() != Engine::MODEL {
-        return Answer::bare(1, 0, 0);
-    }
-    if state.len() != Engine::STATE {
-        return Answer::bare(1, 0, 0);
-    }
-    if report.len() != Engine::REPORT {
+    if !are_long(model.len(), state.len(), report.len(), Engine::REPORT) {
         return Answer::bare(1, 0, 0);
     }
     report_lent(model, state, report)
@@ -165,14 +165,14 @@ pub fn report(model: &[u8], state: &[i64], report: &mut [u64]) -> Answer
 
 #[no_mangle]
 pub extern "C" fn matgravel_open(text: &[u8], model: &mut [u8], state: &mut [i64]) -> Answer
-    ensures { λ r. ⌜ Gives (openEffect (now (text .entry)) (now (model .entry)) (now (state .entry))) r (now (model .exit)) (now (state .exit)) [] ⌝ }
+    ensures { λ r. ⌜ Gives (effect (open′ (now (text .entry))) (lentTwo (now (model .entry)) (now (state .entry))) []) r (lentTwo (now (model .exit)) (now (state .exit))) [] ⌝ }
 {
     open(text, model, state)
 }
 
 #[no_mangle]
 pub extern "C" fn matgravel_list(model: &[u8], state: &[i64], listing: &mut [u64]) -> Answer
-    ensures { λ r. ⌜ Gives (listEffect (now (model .entry)) (now (state .entry)) (now (listing .entry))) r (now (model .entry)) (now (state .entry)) (now (listing .exit)) ⌝ }
+    ensures { λ r. ⌜ Gives (effect (on′ list′) (lentTwo (now (model .entry)) (now (state .entry))) (now (listing .entry))) r (lentTwo (now (model .entry)) (now (state .entry))) (now (listing .exit)) ⌝ }
 {
     list(model, state, listing)
 }
@@ -184,14 +184,14 @@ pub extern "C" fn matgravel_step(
     listing: &mut [u64],
     draw: u64,
 ) -> Answer
-    ensures { λ r. ⌜ Gives (stepEffect (now (model .entry)) (now (state .entry)) (now (listing .entry)) draw) r (now (model .entry)) (now (state .exit)) (now (listing .exit)) ⌝ }
+    ensures { λ r. ⌜ Gives (effect (on′ (step′ draw)) (lentTwo (now (model .entry)) (now (state .entry))) (now (listing .entry))) r (lentTwo (now (model .entry)) (now (state .exit))) (now (listing .exit)) ⌝ }
 {
     step(model, state, listing, draw)
 }
 
 #[no_mangle]
 pub extern "C" fn matgravel_report(model: &[u8], state: &[i64], report: &mut [u64]) -> Answer
-    ensures { λ r. ⌜ Gives (reportEffect (now (model .entry)) (now (state .entry)) (now (report .entry))) r (now (model .entry)) (now (state .entry)) (now (report .exit)) ⌝ }
+    ensures { λ r. ⌜ Gives (effect (on′ report′) (lentTwo (now (model .entry)) (now (state .entry))) (now (report .entry))) r (lentTwo (now (model .entry)) (now (state .entry))) (now (report .exit)) ⌝ }
 {
     crate::report(model, state, report)
 }

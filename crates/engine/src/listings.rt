@@ -8,8 +8,9 @@ ghost use Prim.Native.Nat.{ℕ};
 ghost use lib.ListN.{length};
 ghost use Rattle.model.specs.Resolved as Resolved;
 ghost use Rattle.machine.specs.State.{stateLength};
-ghost use Rattle.machine.specs.Machine.{listingLength, lists};
-ghost use Rattle.buffers.specs.Effect.{machineOver, leaves};
+ghost use Rattle.machine.specs.Machine.{listingLength, list′};
+ghost use Rattle.buffers.specs.Parts.{lentTwo};
+ghost use Rattle.buffers.specs.Effect.{requested};
 ghost use Rattle.engine.specs.Gives.{Gives};
 ghost use Rattle.engine.specs.Tables.{Tables, answerOf, Finds};
 
@@ -80,7 +81,7 @@ pub fn list_model(
     listing: &mut [u64],
 ) -> Answer
     requires { ⌜ ((m : Resolved.Model) × Tables (now nodes) (now roots) (now scopes) sums channels m) × (length (now state) ≡ stateLength) × (length (now listing) ≡ listingLength) ⌝ }
-    ensures { λ r. ⌜ ((m : Resolved.Model) (bs : List ℕ) → Tables (now (nodes .entry)) (now (roots .entry)) (now (scopes .entry)) sums channels m → Gives (leaves bs (now (state .entry)) (now (listing .entry)) (lists (machineOver (now (state .entry)) (some m)))) r bs (now (state .entry)) (now (listing .exit))) ⌝ }
+    ensures { λ r. ⌜ ((m : Resolved.Model) (bs : List ℕ) → Tables (now (nodes .entry)) (now (roots .entry)) (now (scopes .entry)) sums channels m → Gives (requested list′ (lentTwo bs (now (state .entry))) (now (listing .entry)) (some m)) r (lentTwo bs (now (state .entry))) (now (listing .exit))) ⌝ }
 {
     let listed = list_state(nodes, roots, scopes, sums, channels, state, listing);
     listed_answer(listed)

@@ -14,10 +14,11 @@ ghost use lib.ListN.{length};
 ghost use Rattle.model.specs.Resolved as Resolved;
 ghost use Rattle.rules.specs.Listing as rules;
 ghost use Rattle.machine.specs.State.{State, stateLength};
-ghost use Rattle.machine.specs.Machine.{entryWidth, listingLength, entryArguments, entryState, drawn, stepsOn};
+ghost use Rattle.machine.specs.Machine.{entryWidth, listingLength, entryArguments, entryState, drawn, step′};
 ghost use Rattle.listing.specs.Buffer.{entryOf};
 ghost use Rattle.step.specs.Enter.{Answers};
-ghost use Rattle.buffers.specs.Effect.{machineOver, leaves};
+ghost use Rattle.buffers.specs.Parts.{lentTwo};
+ghost use Rattle.buffers.specs.Effect.{requested};
 ghost use Rattle.engine.specs.Gives.{Gives};
 ghost use Rattle.engine.specs.Steps.{Whole, entryIn, Counted, Row, takenAnswer, Left};
 
@@ -131,7 +132,7 @@ pub fn step_model(
     draw: u64,
 ) -> Answer
     requires { ⌜ ((m : Resolved.Model) × Whole (now nodes) (now roots) (now scopes) root variables sums channels m) × (length (now state) ≡ stateLength) × (length (now listing) ≡ listingLength) ⌝ }
-    ensures { λ r. ⌜ ((m : Resolved.Model) (bs : List ℕ) → Whole (now (nodes .entry)) (now (roots .entry)) (now (scopes .entry)) root variables sums channels m → Gives (leaves bs (now (state .entry)) (now (listing .entry)) (stepsOn (machineOver (now (state .entry)) (some m)) draw)) r bs (now (state .exit)) (now (listing .exit))) ⌝ }
+    ensures { λ r. ⌜ ((m : Resolved.Model) (bs : List ℕ) → Whole (now (nodes .entry)) (now (roots .entry)) (now (scopes .entry)) root variables sums channels m → Gives (requested (step′ draw) (lentTwo bs (now (state .entry))) (now (listing .entry)) (some m)) r (lentTwo bs (now (state .exit))) (now (listing .exit))) ⌝ }
 {
     let listed = listings::list_state(nodes, roots, scopes, sums, channels, state, listing);
     match listed {

@@ -12,16 +12,16 @@ ghost use Rattle.model.specs.Resolved as Resolved;
 ghost use Rattle.model.specs.Good.{GoodModel};
 ghost use Rattle.machine.specs.State.{stateLength};
 ghost use Rattle.machine.specs.Report.{reportLength};
-ghost use Rattle.machine.specs.Machine.{reports};
-ghost use Rattle.buffers.specs.Listing.{shown};
-ghost use Rattle.buffers.specs.Effect.{machineOver, leaves};
+ghost use Rattle.machine.specs.Machine.{report′};
+ghost use Rattle.buffers.specs.Parts.{lentTwo};
+ghost use Rattle.buffers.specs.Effect.{requested};
 ghost use Rattle.engine.specs.Gives.{Gives};
 ghost use Rattle.engine.specs.Tables.{Tables, Finds};
 
 // 11 leaves the report as it is lent, 12 to 14 zero it; else it has the shares of the listing.
 fn put_report(listed: Listed, listing: &[u64], state: &[i64], report: &mut [u64])
     requires { ⌜ ((m : Resolved.Model) × (l : List ℕ) × GoodModel m × Finds m (now state) l listed (now listing)) × (length (now report) ≡ reportLength) ⌝ }
-    ensures { λ _. ⌜ ((m : Resolved.Model) (l : List ℕ) → GoodModel m → Finds m (now (state .entry)) l listed (now (listing .entry)) → now (report .exit) ≡ shown (reports (machineOver (now (state .entry)) (some m)) .answer .listing) (now (report .entry))) ⌝ }
+    ensures { λ _. ⌜ ((m : Resolved.Model) (bs l : List ℕ) → GoodModel m → Finds m (now (state .entry)) l listed (now (listing .entry)) → now (report .exit) ≡ requested report′ (lentTwo bs (now (state .entry))) (now (report .entry)) (some m) .output) ⌝ }
 {
     match listed {
         Listed::Refused(number, _, _) => {
@@ -47,7 +47,7 @@ pub fn report_model(
     report: &mut [u64],
 ) -> Answer
     requires { ⌜ ((m : Resolved.Model) × Tables (now nodes) (now roots) (now scopes) sums channels m) × (length (now state) ≡ stateLength) × (length (now report) ≡ reportLength) ⌝ }
-    ensures { λ r. ⌜ ((m : Resolved.Model) (bs : List ℕ) → Tables (now (nodes .entry)) (now (roots .entry)) (now (scopes .entry)) sums channels m → Gives (leaves bs (now (state .entry)) (now (report .entry)) (reports (machineOver (now (state .entry)) (some m)))) r bs (now (state .entry)) (now (report .exit))) ⌝ }
+    ensures { λ r. ⌜ ((m : Resolved.Model) (bs : List ℕ) → Tables (now (nodes .entry)) (now (roots .entry)) (now (scopes .entry)) sums channels m → Gives (requested report′ (lentTwo bs (now (state .entry))) (now (report .entry)) (some m)) r (lentTwo bs (now (state .entry))) (now (report .exit))) ⌝ }
 {
     let mut listing = [0u64; Engine::LISTING];
     let listed = listings::list_state(nodes, roots, scopes, sums, channels, state, &mut listing);

@@ -6,20 +6,23 @@ use syntax::question;
 use token::Limits;
 ghost use mathlib.Core.Path.{_≡_};
 ghost use mathlib.Core.List.{List, []};
-ghost use Prim.Native.Nat.{ℕ};
+ghost use Prim.Native.Nat.{ℕ, _≤_};
 ghost use lib.ListN.{length};
+ghost use Rattle.grammar.specs.Limit.{tokenLimit};
 ghost use Rattle.model.specs.Opening.{opening};
 ghost use Rattle.model.specs.Held.{held};
 ghost use Rattle.machine.specs.State.{stateLength};
 ghost use Rattle.machine.specs.Report.{reportLength};
-ghost use Rattle.machine.specs.Machine.{modelLength, listingLength, lists, stepsOn, reports};
-ghost use Rattle.buffers.specs.Effect.{machineOver, leaves, opensWith};
+ghost use Rattle.machine.specs.Machine.{modelLength, listingLength, list′, step′, report′};
+ghost use Rattle.buffers.specs.Parts.{lentTwo};
+ghost use Rattle.buffers.specs.Effect.{opensWith, requested};
+ghost use Rattle.opening.specs.Models.{ModelRead};
 ghost use Rattle.engine.specs.Gives.{Gives};
 
 // Opens a text into buffers of the right lengths.
 pub fn open_lent(text: &[u8], model: &mut [u8], state: &mut [i64]) -> Answer
     requires { ⌜ (length (now model) ≡ modelLength) × (length (now state) ≡ stateLength) ⌝ }
-    ensures { λ r. ⌜ Gives (opensWith (now (text .entry)) (opening (now (text .entry)))) r (now (model .exit)) (now (state .exit)) [] ⌝ }
+    ensures { λ r. ⌜ Gives (opensWith (now (text .entry)) (opening (now (text .entry))) []) r (lentTwo (now (model .exit)) (now (state .exit))) [] ⌝ }
 {
     let mut kinds = [0u8; Limits::TEXT];
     let mut places = [0u16; Limits::TEXT];
@@ -60,32 +63,40 @@ pub fn open_lent(text: &[u8], model: &mut [u8], state: &mut [i64]) -> Answer
     }
 }
 
-// Lists over a text that a model buffer holds.
-pub fn list_text(text: &[u8], state: &[i64], listing: &mut [u64]) -> Answer
-    requires { ⌜ (length (now state) ≡ stateLength) × (length (now listing) ≡ listingLength) ⌝ }
-    ensures { λ r. ⌜ ((bs : List ℕ) → Gives (leaves bs (now (state .entry)) (now (listing .entry)) (lists (machineOver (now (state .entry)) (held (now (text .entry)))))) r bs (now (state .entry)) (now (listing .exit))) ⌝ }
+// The model of a text that a model buffer holds, in three tables; those that only reading needs are its own.
+fn read_held(text: &[u8], nodes: &mut [u64], roots: &mut [u16], scopes: &mut [u16]) -> Held
+    requires { ⌜ (tokenLimit ≤ length (now nodes)) × (tokenLimit ≤ length (now roots)) × (tokenLimit ≤ length (now scopes)) ⌝ }
+    ensures { λ r. ⌜ ModelRead (now (text .entry)) (now (nodes .exit)) (now (roots .exit)) (now (scopes .exit)) r ⌝ }
 {
     let mut kinds = [0u8; Limits::TEXT];
     let mut places = [0u16; Limits::TEXT];
     let mut sizes = [0u16; Limits::TEXT];
     let mut low = [0u64; question::Limits::TOKENS];
     let mut high = [0u64; question::Limits::TOKENS];
-    let mut nodes = [0u64; question::Limits::TOKENS];
-    let mut roots = [0u16; question::Limits::TOKENS];
-    let mut scopes = [0u16; question::Limits::TOKENS];
     let mut names = [0u64; question::Limits::TOKENS];
-    let read = opening::read_model(
+    opening::read_model(
         text,
         &mut kinds,
         &mut places,
         &mut sizes,
         &mut low,
         &mut high,
-        &mut nodes,
-        &mut roots,
-        &mut scopes,
+        nodes,
+        roots,
+        scopes,
         &mut names,
-    );
+    )
+}
+
+// Lists over a text that a model buffer holds.
+pub fn list_text(text: &[u8], state: &[i64], listing: &mut [u64]) -> Answer
+    requires { ⌜ (length (now state) ≡ stateLength) × (length (now listing) ≡ listingLength) ⌝ }
+    ensures { λ r. ⌜ ((bs : List ℕ) → Gives (requested list′ (lentTwo bs (now (state .entry))) (now (listing .entry)) (held (now (text .entry)))) r (lentTwo bs (now (state .entry))) (now (listing .exit))) ⌝ }
+{
+    let mut nodes = [0u64; question::Limits::TOKENS];
+    let mut roots = [0u16; question::Limits::TOKENS];
+    let mut scopes = [0u16; question::Limits::TOKENS];
+    let read = read_held(text, &mut nodes, &mut roots, &mut scopes);
     match read {
         Held::Refused(_, _) => Answer::bare(11, 0, 0),
         Held::Model(found, _) => {
@@ -105,29 +116,12 @@ pub fn list_text(text: &[u8], state: &[i64], listing: &mut [u64]) -> Answer
 // Steps over a text that a model buffer holds.
 pub fn step_text(text: &[u8], state: &mut [i64], listing: &mut [u64], draw: u64) -> Answer
     requires { ⌜ (length (now state) ≡ stateLength) × (length (now listing) ≡ listingLength) ⌝ }
-    ensures { λ r. ⌜ ((bs : List ℕ) → Gives (leaves bs (now (state .entry)) (now (listing .entry)) (stepsOn (machineOver (now (state .entry)) (held (now (text .entry)))) draw)) r bs (now (state .exit)) (now (listing .exit))) ⌝ }
+    ensures { λ r. ⌜ ((bs : List ℕ) → Gives (requested (step′ draw) (lentTwo bs (now (state .entry))) (now (listing .entry)) (held (now (text .entry)))) r (lentTwo bs (now (state .exit))) (now (listing .exit))) ⌝ }
 {
-    let mut kinds = [0u8; Limits::TEXT];
-    let mut places = [0u16; Limits::TEXT];
-    let mut sizes = [0u16; Limits::TEXT];
-    let mut low = [0u64; question::Limits::TOKENS];
-    let mut high = [0u64; question::Limits::TOKENS];
     let mut nodes = [0u64; question::Limits::TOKENS];
     let mut roots = [0u16; question::Limits::TOKENS];
     let mut scopes = [0u16; question::Limits::TOKENS];
-    let mut names = [0u64; question::Limits::TOKENS];
-    let read = opening::read_model(
-        text,
-        &mut kinds,
-        &mut places,
-        &mut sizes,
-        &mut low,
-        &mut high,
-        &mut nodes,
-        &mut roots,
-        &mut scopes,
-        &mut names,
-    );
+    let read = read_held(text, &mut nodes, &mut roots, &mut scopes);
     match read {
         Held::Refused(_, _) => Answer::bare(11, 0, 0),
         Held::Model(found, _) => {
@@ -150,29 +144,12 @@ pub fn step_text(text: &[u8], state: &mut [i64], listing: &mut [u64], draw: u64)
 // Reports over a text that a model buffer holds.
 pub fn report_text(text: &[u8], state: &[i64], report: &mut [u64]) -> Answer
     requires { ⌜ (length (now state) ≡ stateLength) × (length (now report) ≡ reportLength) ⌝ }
-    ensures { λ r. ⌜ ((bs : List ℕ) → Gives (leaves bs (now (state .entry)) (now (report .entry)) (reports (machineOver (now (state .entry)) (held (now (text .entry)))))) r bs (now (state .entry)) (now (report .exit))) ⌝ }
+    ensures { λ r. ⌜ ((bs : List ℕ) → Gives (requested report′ (lentTwo bs (now (state .entry))) (now (report .entry)) (held (now (text .entry)))) r (lentTwo bs (now (state .entry))) (now (report .exit))) ⌝ }
 {
-    let mut kinds = [0u8; Limits::TEXT];
-    let mut places = [0u16; Limits::TEXT];
-    let mut sizes = [0u16; Limits::TEXT];
-    let mut low = [0u64; question::Limits::TOKENS];
-    let mut high = [0u64; question::Limits::TOKENS];
     let mut nodes = [0u64; question::Limits::TOKENS];
     let mut roots = [0u16; question::Limits::TOKENS];
     let mut scopes = [0u16; question::Limits::TOKENS];
-    let mut names = [0u64; question::Limits::TOKENS];
-    let read = opening::read_model(
-        text,
-        &mut kinds,
-        &mut places,
-        &mut sizes,
-        &mut low,
-        &mut high,
-        &mut nodes,
-        &mut roots,
-        &mut scopes,
-        &mut names,
-    );
+    let read = read_held(text, &mut nodes, &mut roots, &mut scopes);
     match read {
         Held::Refused(_, _) => Answer::bare(11, 0, 0),
         Held::Model(found, _) => {

@@ -1,168 +1,166 @@
--- One call of a row does to the engine in a run's buffers what it does to the rule machine: refused under 1 where a length is wrong, else a call on the engine's own buffers.
+-- One call of a row does to the engine in a run's buffers what it does to the rule machine: it is a call that lends the engine's own buffers, or others of wrong lengths. One argument for
+-- all calls, and one lemma for each request, of how much it shows.
 use mathlib.Core.Path.{_≡_, refl, sym, ap, ap₂, subst, _∙_}
 use mathlib.Core.Bool.{Bool, true, false, cond, _&&_}
 use mathlib.Core.List.{List, [], _∷_, _++_, append-assoc}
 use mathlib.Core.Option.{none, some}
 use Prim.Native.Nat.{ℕ, zero, suc, _+_, _≤_}
 use native.Mathlib.Omega.{arith}
-use borrow.Author.Tests.{leb-true, eqb-true}
+use borrow.Author.Tests.{leb-true, eqb-true, eqb-false}
 use lib.Dec.{eqb, leb}
 use lib.ListN.{length, take, drop, length-append, length-take, length-drop, length-replicate, take-append-drop}
 use lib.Seq.{length-take-le, take-take}
-use Rattle.machine.specs.State.{State, stateLength}
-use Rattle.machine.specs.Machine.{modelLength, entryLimit, listingLength, Shown, asLent, zeroed, filled, reported, no, listedAs, reportedAs, Listed, drawn, Turn, Machine, closed, holding, lent, turn, opens, showing, lists, sharing, reports, stepped, choosing, stepsOn, Call, open′, list′, step′, report′, calls}
+use Rattle.rules.proofs.Decides.{on}
+use Rattle.machine.specs.State.{State}
 use Rattle.machine.specs.Report.{reportLength}
+use Rattle.machine.specs.Machine.{entryLimit, listingLength, Shown, asLent, zeroed, filled, reported, Answer, no, listedAs, reportedAs, Listed, Turn, turn, drawn, showing, lists, sharing, reports, choosing, stepsWith, Held, Good, Machine, closed, holding, onState}
+use Rattle.machine.specs.Machine.{Request, list′, step′, report′, Ask, open′, on′, acts, Part, model, state, size, lentTo, outputOf, uses, isLent, allParts, hasLengths, Call, opens, onMachine, calls}
 use Rattle.machine.specs.Machine as machine
 use Rattle.machine.specs.Questions.{Lists, no12, no13, no14, yes14}
+use Rattle.machine.proofs.Lent.{both-true, each-lent, lent-so}
 use Rattle.machine.proofs.Listing.{asked}
 use Rattle.machine.proofs.Stepping as step
 use Rattle.machine.proofs.Report.{report-length}
 use Rattle.model.specs.Resolved
-use Rattle.model.specs.Opening.{Opening, refused, opened}
-use Rattle.model.specs.Opening as reading
-use Rattle.buffers.specs.Listing.{shown}
-use Rattle.buffers.specs.Effect.{Effect, untouched, openEffect, whenLent, listEffect, stepEffect, reportEffect}
+use Rattle.model.specs.Good.{GoodModel}
+use Rattle.model.specs.Opening.{Opening, refused, opened, opening}
 use Rattle.buffers.specs.Held.{modelBytes}
-use Rattle.buffers.specs.Calls.{Engine, own, lentBuffer, lentLength, BufferCall, opening, listing, stepping, reporting, lentModel, lentState, effect, leftBy, fed, listingOf, Holds, zeros, held}
-use Rattle.buffers.proofs.Calls.{model-long, state-long, make, Goes, call-goes}
+use Rattle.buffers.specs.Listing.{shown}
+use Rattle.buffers.specs.Parts.{Cell, Engine}
+use Rattle.buffers.specs.Effect.{Effect, untouched, leftIn, leaves, requested, answered, effect}
+use Rattle.buffers.specs.Calls.{Lending, own, other, lentBuffer, lentLength, ownBuffer, BufferCall, lentEngine, leftBy, lentLengths, fed, Holds, zeros, held}
+use Rattle.buffers.specs.Calls as buffers
+use Rattle.buffers.proofs.Lent.{kept}
+use Rattle.buffers.proofs.Every.{engine-long, holds-same, all-lent, one-untouched, left-as, Goes, call-goes}
+use Rattle.buffers.proofs.Every as every
 use Rattle.buffers.proofs.Held.{held-fits}
 use Rattle.buffers.proofs.Listings.{listing-length}
-use Rattle.buffers.proofs.Transitions.{fills, left-in}
+use Rattle.buffers.proofs.Transitions.{fills}
 use Rattle.script.specs.declared.Row.{Row}
-use Rattle.script.specs.Rows.{answerWidth, Room, fits, rowCall, callOf}
-use Rattle.script.specs.Run.{Lent, roomOf, modelLent, stateLent, listingLent, effectOf, callLeft}
+use Rattle.script.specs.Rows.{openKind, reportKind, answerWidth, rowParts, rowLengths, Room, fits, rowCall, callOf}
+use Rattle.script.specs.Run.{Lent, roomOf, effectOf, callLeft}
 use Rattle.script.specs.Follows.{engineIn, partShown}
 use Rattle.script.proofs.Front.{front-take, front-drop}
 
 -- ---- what a row's call asks for is there
 
 pub record Fits (c : Call) (x : Room) : Type 0 where
-  pub model : modelLent c ≤ x .model
-  pub state : stateLent c ≤ x .state
-  pub listing : listingLent c ≤ x .listings
+  pub parts : (p : Part) → c .lengths p ≤ x .parts p
+  pub output : c .output ≤ x .outputs
   pub answer : answerWidth ≤ x .answers
 
-and-both : (a b : Bool) → (a && b) ≡ true → (a ≡ true) × (b ≡ true)
-and-both true true e = (refl, refl)
-and-both true false e = absurd (let z : _≡_ {A = ℕ} 0 1 = cc in omega arith)
-and-both false b e = absurd (let z : _≡_ {A = ℕ} 0 1 = cc in omega arith)
+-- every part stands in a row
+in-row : (p : Part) → isLent p rowParts ≡ true
+unfolding isLent
+in-row model = refl
+in-row state = refl
 
 -- what a row that fits asks for
-pub record Asks (r : Row) (t m s l : ℕ) : Type 0 where
-  pub model : r .model ≤ m
-  pub state : r .state ≤ s
-  pub kind : cond (eqb (r .kind) 1) (leb (r .first + r .size) t) (cond (eqb (r .kind) 2) (leb (r .listing) l) (cond (eqb (r .kind) 3) (leb (r .listing) l) (cond (eqb (r .kind) 4) (leb (r .listing) l) false))) ≡ true
+pub record Asks (r : Row) (texts numbers : ℕ) (parts : Part → ℕ) (outputs : ℕ) : Type 0 where
+  pub least : openKind ≤ r .kind
+  pub most : r .kind ≤ reportKind
+  pub text : r .text + r .size ≤ texts
+  pub list : r .from + r .count ≤ numbers
+  pub part : (p : Part) → rowLengths r p ≤ parts p
+  pub output : r .output ≤ outputs
 
-pub row-asks : (r : Row) (t m s l : ℕ) → fits r t m s l ≡ true → Asks r t m s l
+pub row-asks : (r : Row) (texts numbers : ℕ) (parts : Part → ℕ) (outputs : ℕ) → fits r texts numbers parts outputs ≡ true → Asks r texts numbers parts outputs
 unfolding fits
-row-asks r t m s l e =
-    let a = and-both (leb (r .model) m) _ e in
-    let b = and-both (leb (r .state) s) _ (a .1) in
-    record { model = leb-true _ _ (a .0); state = leb-true _ _ (b .0); kind = b .1 }
+row-asks r texts numbers parts outputs e =
+    let a = both-true (leb openKind (r .kind)) _ e in
+    let b = both-true (leb (r .kind) reportKind) _ (a .1) in
+    let c = both-true (leb (r .text + r .size) texts) _ (b .1) in
+    let d = both-true (leb (r .from + r .count) numbers) _ (c .1) in
+    let f = both-true (allParts (λ (p : Part). leb (rowLengths r p) (parts p)) rowParts) _ (d .1) in
+    record {
+      least = leb-true _ _ (a .0);
+      most = leb-true _ _ (b .0);
+      text = leb-true _ _ (c .0);
+      list = leb-true _ _ (d .0);
+      part = λ p. leb-true _ _ (each-lent (λ (p : Part). leb (rowLengths r p) (parts p)) rowParts (f .0) p (in-row p));
+      output = leb-true _ _ (f .1);
+    }
 
-row-fits : (texts : List ℕ) (x : Room) (r : Row) → answerWidth ≤ x .answers → Asks r (length texts) (x .model) (x .state) (x .listings) → Fits (rowCall texts r) x
-unfolding rowCall modelLent stateLent listingLent
-row-fits texts x r h a = by (eqb (r .kind) 1) (eqb (r .kind) 2) (eqb (r .kind) 3) (eqb (r .kind) 4) (a .kind)
+pub call-fits : (texts numbers : List ℕ) (x : Room) (r : Row) (c : Call) → callOf texts numbers x r ≡ some c → Fits c x
+unfolding callOf rowCall
+call-fits texts numbers x r c e = by (leb answerWidth (x .answers) && fits r (length texts) (length numbers) (x .parts) (x .outputs)) refl e
   where
-    listing-fits : (v : Bool) → r .listing ≤ x .listings → Fits (cond v (report′ (r .model) (r .state) (r .listing)) (step′ (r .model) (r .state) (r .listing) (r .first))) x
-    listing-fits true l = record { model = a .model; state = a .state; listing = l; answer = h }
-    listing-fits false l = record { model = a .model; state = a .state; listing = l; answer = h }
-
-    by : (p q u v : Bool) → cond p (leb (r .first + r .size) (length texts)) (cond q (leb (r .listing) (x .listings)) (cond u (leb (r .listing) (x .listings)) (cond v (leb (r .listing) (x .listings)) false))) ≡ true
-        → Fits (cond p (open′ (take (r .size) (drop (r .first) texts)) (r .model) (r .state)) (cond q (list′ (r .model) (r .state) (r .listing)) (cond v (report′ (r .model) (r .state) (r .listing)) (step′ (r .model) (r .state) (r .listing) (r .first))))) x
-    by true q u v e = record { model = a .model; state = a .state; listing = omega arith; answer = h }
-    by false true u v e = record { model = a .model; state = a .state; listing = leb-true _ _ e; answer = h }
-    by false false true v e = listing-fits v (leb-true _ _ e)
-    by false false false true e = listing-fits true (leb-true _ _ e)
-    by false false false false e = absurd (let z : _≡_ {A = ℕ} 0 1 = cc in omega arith)
-
-pub call-fits : (texts : List ℕ) (x : Room) (r : Row) (c : Call) → callOf texts x r ≡ some c → Fits c x
-unfolding callOf
-call-fits texts x r c e = by (leb answerWidth (x .answers) && fits r (length texts) (x .model) (x .state) (x .listings)) refl e
-  where
-    by : (b : Bool) → (leb answerWidth (x .answers) && fits r (length texts) (x .model) (x .state) (x .listings)) ≡ b → cond b (some (rowCall texts r)) none ≡ some c → Fits c x
+    by : (b : Bool) → (leb answerWidth (x .answers) && fits r (length texts) (length numbers) (x .parts) (x .outputs)) ≡ b → cond b (some (rowCall texts r)) none ≡ some c → Fits c x
     by true f e =
-        let a = and-both (leb answerWidth (x .answers)) _ f in
+        let a = both-true (leb answerWidth (x .answers)) _ f in
+        let b = row-asks r _ _ _ _ (a .1) in
         let q : rowCall texts r ≡ c = cc in
-        subst (λ (d : Call). Fits d x) q (row-fits texts x r (leb-true _ _ (a .0)) (row-asks r _ _ _ _ (a .1)))
+        let g : Fits (rowCall texts r) x = record { parts = b .part; output = b .output; answer = leb-true _ _ (a .0) } in
+        subst (λ (d : Call). Fits d x) q g
     by false f e = absurd (let z : _≡_ {A = ℕ} 0 1 = cc in omega arith)
 
--- ---- lengths of what is lent
+-- ---- the same call on the engine's own buffers
 
--- 01, 1: have all lent buffers their lengths?
-right : Call → Bool
-right (open′ text m s) = lent m s
-right (list′ m s l) = lent m s && eqb l listingLength
-right (step′ m s l d) = lent m s && eqb l listingLength
-right (report′ m s l) = lent m s && eqb l reportLength
+-- the engine's own buffer where n is its length, else the first n numbers of the list
+lending : {A : Type 0} (right n : ℕ) (l : List A) → n ≤ length l → (b : Bool) → eqb n right ≡ b → Lending A right
+lending right n l h true e = own
+lending right n l h false e = other (take n l) (λ q. eqb-false _ _ e (sym (length-take-le n l h) ∙ q))
+
+lending-lent : {A : Type 0} (right n : ℕ) (l : List A) (h : n ≤ length l) (b : Bool) (e : eqb n right ≡ b) → lentBuffer (lending right n l h b e) (take right l) ≡ take n l
+unfolding lending lentBuffer
+lending-lent right n l h true e = ap (λ (k : ℕ). take k l) (sym (eqb-true n right e))
+lending-lent right n l h false e = refl
+
+lending-long : {A : Type 0} (right n : ℕ) (l : List A) (h : n ≤ length l) (b : Bool) (e : eqb n right ≡ b) → lentLength (lending right n l h b e) ≡ n
+unfolding lending lentLength
+lending-long right n l h true e = sym (eqb-true n right e)
+lending-long right n l h false e = length-take-le n l h
 
 module _ (c : Call) (x : Lent) (f : Fits c (roomOf x)) where
-  model-lent : length (take (modelLent c) (x .model)) ≡ modelLent c
+  there : (p : Part) → c .lengths p ≤ length (x .engine p)
   unfolding roomOf
-  model-lent = length-take-le (modelLent c) (x .model) (f .model)
+  there = f .parts
 
-  state-lent : length (take (stateLent c) (x .state)) ≡ stateLent c
+  lendings : (p : Part) → Lending (Cell p) (size p)
+  lendings p = lending (size p) (c .lengths p) (x .engine p) (there p) (eqb (c .lengths p) (size p)) refl
+
+  ownCall : BufferCall
+  ownCall = record { ask = c .ask; lending = lendings; output = take (c .output) (x .outputs) }
+
+  output-long : length (take (c .output) (x .outputs)) ≡ c .output
   unfolding roomOf
-  state-lent = length-take-le (stateLent c) (x .state) (f .state)
+  output-long = length-take-le (c .output) (x .outputs) (f .output)
 
-  listing-lent : length (take (listingLent c) (x .listings)) ≡ listingLent c
-  unfolding roomOf
-  listing-lent = length-take-le (listingLent c) (x .listings) (f .listing)
+  own-fed : fed ownCall ≡ c
+  unfolding ownCall lendings fed lentLengths
+  own-fed =
+      λ i. record {
+        ask = c .ask;
+        lengths = λ (p : Part). lending-long (size p) (c .lengths p) (x .engine p) (there p) (eqb (c .lengths p) (size p)) refl i;
+        output = output-long i;
+      }
 
--- 1 leaves all that is lent as it was
-refused-effect : (c : Call) (x : Lent) → Fits c (roomOf x) → right c ≡ false
-    → effectOf c (x .model) (x .state) (x .listings) ≡ untouched (take (modelLent c) (x .model)) (take (stateLent c) (x .state)) (take (listingLent c) (x .listings))
-unfolding right effectOf openEffect listEffect stepEffect reportEffect whenLent modelLent stateLent listingLent
-refused-effect (open′ text m s) x f e = rw (model-lent (open′ text m s) x f, state-lent (open′ text m s) x f, e)
-refused-effect (list′ m s l) x f e = rw (model-lent (list′ m s l) x f, state-lent (list′ m s l) x f, listing-lent (list′ m s l) x f, e)
-refused-effect (step′ m s l d) x f e = rw (model-lent (step′ m s l d) x f, state-lent (step′ m s l d) x f, listing-lent (step′ m s l d) x f, e)
-refused-effect (report′ m s l) x f e = rw (model-lent (report′ m s l) x f, state-lent (report′ m s l) x f, listing-lent (report′ m s l) x f, e)
+  own-lent : lentEngine ownCall (engineIn x) ≡ (λ (p : Part). take (c .lengths p) (x .engine p))
+  unfolding ownCall lendings lentEngine engineIn
+  own-lent = λ i p. lending-lent (size p) (c .lengths p) (x .engine p) (there p) (eqb (c .lengths p) (size p)) refl i
 
--- and the machine too
-refused-call : (y : Machine) (c : Call) → right c ≡ false → calls y c ≡ turn y (no 1 0 0 asLent)
-unfolding right calls
-refused-call y (open′ text m s) e = rw e
-refused-call y (list′ m s l) e = rw e
-refused-call y (step′ m s l d) e = rw e
-refused-call y (report′ m s l) e = rw e
+  own-effect : buffers.effectOf (engineIn x) ownCall ≡ effectOf c (x .engine) (x .outputs)
+  unfolding buffers.effectOf effectOf ownCall
+  own-effect = ap (λ (z : Engine). effect (c .ask) z (take (c .output) (x .outputs))) own-lent
 
--- ---- right lengths
+-- ---- what a call leaves of a part that it is not lent
 
--- the same call on the engine's own buffers
-ownCall : Call → Lent → BufferCall
-ownCall (open′ text m s) x = opening text own own
-ownCall (list′ m s l) x = listing own own (take l (x .listings))
-ownCall (step′ m s l d) x = stepping own own (take l (x .listings)) d
-ownCall (report′ m s l) x = reporting own own (take l (x .listings))
+opening-left : (text : List ℕ) (p : Part) → isLent p (lentTo (open′ text)) ≡ false → ⊥
+opening-left text p e = let q : true ≡ false = sym (all-lent text p) ∙ e in let z : _≡_ {A = ℕ} 0 1 = cc in omega arith
 
-record Right (c : Call) : Type 0 where
-  model : modelLent c ≡ modelLength
-  state : stateLent c ≡ stateLength
+request-left : (ps : List Part) (x : Engine) (y : Machine) (p : Part) → isLent p ps ≡ false → leftIn ps x y p ≡ x p
+unfolding leftIn
+request-left ps x closed p e = refl
+request-left ps x (holding h) p e = rw e
 
-lent-right : (m s : ℕ) → lent m s ≡ true → (m ≡ modelLength) × (s ≡ stateLength)
-unfolding lent
-lent-right m s e = let a = and-both _ _ e in (eqb-true _ _ (a .0), eqb-true _ _ (a .1))
-
-is-right : (c : Call) → right c ≡ true → Right c
-unfolding right modelLent stateLent
-is-right (open′ text m s) e = let a = lent-right m s e in record { model = a .0; state = a .1 }
-is-right (list′ m s l) e = let a = lent-right m s (and-both _ _ e .0) in record { model = a .0; state = a .1 }
-is-right (step′ m s l d) e = let a = lent-right m s (and-both _ _ e .0) in record { model = a .0; state = a .1 }
-is-right (report′ m s l) e = let a = lent-right m s (and-both _ _ e .0) in record { model = a .0; state = a .1 }
-
-own-fed : (c : Call) (x : Lent) → Fits c (roomOf x) → Right c → fed (ownCall c x) ≡ c
-unfolding ownCall fed lentLength modelLent stateLent listingLent
-own-fed (open′ text m s) x f r = ap₂ (open′ text) (sym (r .model)) (sym (r .state))
-own-fed (list′ m s l) x f r = rw (listing-lent (list′ m s l) x f) (ap₂ (λ (a b : ℕ). list′ a b l) (sym (r .model)) (sym (r .state)))
-own-fed (step′ m s l d) x f r = rw (listing-lent (step′ m s l d) x f) (ap₂ (λ (a b : ℕ). step′ a b l d) (sym (r .model)) (sym (r .state)))
-own-fed (report′ m s l) x f r = rw (listing-lent (report′ m s l) x f) (ap₂ (λ (a b : ℕ). report′ a b l) (sym (r .model)) (sym (r .state)))
-
-own-effect : (c : Call) (x : Lent) → Right c → effect (engineIn x) (ownCall c x) ≡ effectOf c (x .model) (x .state) (x .listings)
-unfolding ownCall effect lentBuffer engineIn effectOf modelLent stateLent
-own-effect (open′ text m s) x r = ap₂ (λ (a b : ℕ). openEffect text (take a (x .model)) (take b (x .state))) (sym (r .model)) (sym (r .state))
-own-effect (list′ m s l) x r = ap₂ (λ (a b : ℕ). listEffect (take a (x .model)) (take b (x .state)) (take l (x .listings))) (sym (r .model)) (sym (r .state))
-own-effect (step′ m s l d) x r = ap₂ (λ (a b : ℕ). stepEffect (take a (x .model)) (take b (x .state)) (take l (x .listings)) d) (sym (r .model)) (sym (r .state))
-own-effect (report′ m s l) x r = ap₂ (λ (a b : ℕ). reportEffect (take a (x .model)) (take b (x .state)) (take l (x .listings))) (sym (r .model)) (sym (r .state))
+unlent-left : (k : Ask) (x : Engine) (l : List ℕ) (p : Part) → isLent p (lentTo k) ≡ false → effect k x l .left p ≡ x p
+unfolding effect untouched
+unlent-left k x l p e = by (hasLengths k (λ (p : Part). length (x p)) (length l)) k e
+  where
+    by : (b : Bool) (k : Ask) → isLent p (lentTo k) ≡ false → cond b (answered k x l) (untouched x l) .left p ≡ x p
+    by true (open′ text) e = absurd (opening-left text p e)
+    by true (on′ r) e = unfold answered requested leaves in request-left (uses r) x _ p e
+    by false k e = refl
 
 -- ---- the listing or report that an answer shows
 
@@ -180,111 +178,56 @@ shown-length zeroed l f = length-replicate {A = ℕ} (length l) 0
 shown-length (filled es) l f = listing-length es (f .0) ∙ sym (f .1)
 shown-length (reported ns) l f = f
 
-module _ (n : ℕ) (e : n ≡ listingLength) where
-  shows-fit : {m : Resolved.Model} {s : State} {k : Listed} → Lists m s k → Spans n (showing m s k .answer .listing)
-  unfolding Spans showing turn no listedAs
-  shows-fit (no12 f) = tt
-  shows-fit (no13 g h l) = tt
-  shows-fit (no14 g h l f) = tt
-  shows-fit (yes14 g h l f) = (l, e)
+-- what is shown by an answer to k: nothing, or what spans an output that is within a row's part
+data InPart (k : Ask) (s : Shown) : Type 0 where
+  nothing : s ≡ asLent → InPart k s
+  within : (n : ℕ) → outputOf k ≡ some n → n ≤ listingLength → Spans n s → InPart k s
 
-  chooses-fit : {m : Resolved.Model} {s : State} {k : Listed} (d : ℕ) → Lists m s k → Spans n (choosing m s d k .answer .listing)
-  unfolding Spans choosing stepped turn no
-  chooses-fit d (no12 f) = tt
-  chooses-fit d (no13 g h l) = tt
-  chooses-fit d (no14 g h l f) = tt
-  chooses-fit {m} {s} d (yes14 {es = es} g h l f) = rw (fills (step.asked m s es h d (drawn m s es d) .0 refl)) (l, e)
-
-  lists-fit : (y : Machine) → Spans n (lists y .answer .listing)
-  unfolding Spans lists turn no
-  lists-fit closed = tt
-  lists-fit (holding m s) = shows-fit (asked m s (machine.listing m s) .0 refl)
-
-  steps-fit : (y : Machine) (d : ℕ) → Spans n (stepsOn y d .answer .listing)
-  unfolding Spans stepsOn turn no
-  steps-fit closed d = tt
-  steps-fit (holding m s) d = chooses-fit d (asked m s (machine.listing m s) .0 refl)
-
-shares-fit : (n : ℕ) → n ≡ reportLength → {x : Engine} {y : Machine} → Holds x y → Spans n (reports y .answer .listing)
-unfolding Spans reports turn no
-shares-fit n e (zeros q) = tt
-shares-fit n e (held {m = m} {s = s} text a b q g) = by (asked m s (machine.listing m s) .0 refl)
+lists-within : (m : Resolved.Model) (s : State) → InPart (on′ list′) (lists m s .answer .listing)
+unfolding lists
+lists-within m s = within listingLength refl (omega arith) (by (asked m s (machine.listing m s) .0 refl))
   where
-    by : {k : Listed} → Lists m s k → Spans n (sharing m s k .answer .listing)
-    by (no12 f) = unfold sharing in tt
-    by (no13 c h l) = unfold sharing in tt
-    by (no14 c h l f) = unfold sharing in tt
-    by (yes14 {es = es} c h l f) = unfold sharing reportedAs in report-length m (held-fits (modelBytes text) m b) s g es ∙ sym e
+    by : {k : Listed} → Lists m s k → Spans listingLength (showing s k .answer .listing)
+    by (no12 f) = unfold Spans showing no in tt
+    by (no13 g h l) = unfold Spans showing no in tt
+    by (no14 g h l f) = unfold Spans showing no in tt
+    by (yes14 g h l f) = unfold Spans showing listedAs in (l, refl)
 
--- ---- one call
+steps-within : (d : ℕ) (m : Resolved.Model) (s : State) → InPart (on′ (step′ d)) (stepsWith d m s .answer .listing)
+unfolding stepsWith
+steps-within d m s = within listingLength refl (omega arith) (by (asked m s (machine.listing m s) .0 refl))
+  where
+    by : {k : Listed} → Lists m s k → Spans listingLength (choosing m s d k .answer .listing)
+    by (no12 f) = unfold Spans choosing no in tt
+    by (no13 g h l) = unfold Spans choosing no in tt
+    by (no14 g h l f) = unfold Spans choosing no in tt
+    by (yes14 {es = es} g h l f) = unfold Spans choosing in rw (fills (step.asked m s es h d (drawn m s es d) .0 refl)) (l, refl)
 
--- a row's call turns the machine y and the engine in x alike, and shows what the answer says in the row's own listing
-pub record Done (y : Machine) (c : Call) (x : Lent) : Type 0 where
-  pub answer : effectOf c (x .model) (x .state) (x .listings) .answer ≡ calls y c .answer
-  pub long : length (partShown c (calls y c .answer) (take listingLength (x .listings))) ≡ length (take listingLength (x .listings))
-  pub listed : callLeft c x .listings ≡ partShown c (calls y c .answer) (take listingLength (x .listings)) ++ drop listingLength (x .listings)
-  pub holds : Holds (engineIn (callLeft c x)) (calls y c .machine)
-  pub model-beyond : drop modelLength (callLeft c x .model) ≡ drop modelLength (x .model)
-  pub state-beyond : drop stateLength (callLeft c x .state) ≡ drop stateLength (x .state)
+reports-within : (h : Held) → GoodModel (h .model) → Good h → InPart (on′ report′) (reports (h .model) (h .state) .answer .listing)
+unfolding reports
+reports-within h k g = within reportLength refl (omega arith) (by (asked (h .model) (h .state) (machine.listing (h .model) (h .state)) .0 refl))
+  where
+    by : {l : Listed} → Lists (h .model) (h .state) l → Spans reportLength (sharing (h .model) (h .state) l .answer .listing)
+    by (no12 f) = unfold Spans sharing no in tt
+    by (no13 c i l) = unfold Spans sharing no in tt
+    by (no14 c i l f) = unfold Spans sharing no in tt
+    by (yes14 {es = es} c i l f) = unfold Spans sharing reportedAs in report-length (h .model) k (h .state) (g .state) es
 
-module _ (y : Machine) (c : Call) (x : Lent) (f : Fits c (roomOf x)) (h : Holds (engineIn x) y) where
-  -- refused under 1
-  module _ (w : right c ≡ false) where
-    stays-model : callLeft c x .model ≡ x .model
-    unfolding callLeft untouched
-    stays-model = ap (λ (e : Effect). e .model ++ drop (modelLent c) (x .model)) (refused-effect c x f w) ∙ take-append-drop (modelLent c) (x .model)
+acts-within : (r : Request) (h : Held) → GoodModel (h .model) → Good h → InPart (on′ r) (acts r h .answer .listing)
+unfolding acts onState
+acts-within list′ h k g = lists-within (h .model) (h .state)
+acts-within (step′ d) h k g = steps-within d (h .model) (h .state)
+acts-within report′ h k g = reports-within h k g
 
-    stays-state : callLeft c x .state ≡ x .state
-    unfolding callLeft untouched
-    stays-state = ap (λ (e : Effect). e .state ++ drop (stateLent c) (x .state)) (refused-effect c x f w) ∙ take-append-drop (stateLent c) (x .state)
-
-    stays-listings : callLeft c x .listings ≡ x .listings
-    unfolding callLeft untouched
-    stays-listings = ap (λ (e : Effect). e .listing ++ drop (listingLent c) (x .listings)) (refused-effect c x f w) ∙ take-append-drop (listingLent c) (x .listings)
-
-    -- the row's part is as it was
-    part-same : partShown c (no 1 0 0 asLent) (take listingLength (x .listings)) ≡ take listingLength (x .listings)
-    unfolding partShown no shown
-    part-same = take-append-drop (listingLent c) (take listingLength (x .listings))
-
-    refused-done : Done y c x
-    unfolding untouched turn engineIn
-    refused-done = record {
-      answer = ap (λ (e : Effect). e .answer) (refused-effect c x f w) ∙ sym (ap (λ (t : Turn Machine). t .answer) (refused-call y c w));
-      long = rw (refused-call y c w) (ap length part-same);
-      listed = rw (refused-call y c w, stays-listings) (sym (ap (λ (l : List ℕ). l ++ drop listingLength (x .listings)) part-same ∙ take-append-drop listingLength (x .listings)));
-      holds = rw (refused-call y c w, stays-model, stays-state) h;
-      model-beyond = ap (drop modelLength) stays-model;
-      state-beyond = ap (drop stateLength) stays-state;
-    }
-
--- ---- the row's own part, where the call's lengths are right
-
-opens-lent : (o : Opening) → opens o .answer .listing ≡ asLent
-unfolding opens turn no
-opens-lent (refused n p) = refl
-opens-lent (opened m) = refl
-
--- what is lent is in the row's part, and what the answer shows spans it
-record InPart (y : Machine) (c : Call) : Type 0 where
-  within : listingLent c ≤ listingLength
-  spans : Spans (listingLent c) (calls y c .answer .listing)
-
-in-part : (y : Machine) (c : Call) {x : Engine} → Holds x y → right c ≡ true → InPart y c
-unfolding right calls listingLent Spans
-in-part y (open′ text m s) h e = let q : calls y (open′ text m s) .answer .listing ≡ asLent = rw e (opens-lent (reading.opening text)) in record { within = omega arith; spans = rw q tt }
-in-part y (list′ m s l) h e =
-    let q : calls y (list′ m s l) ≡ lists y = rw e in
-    let n : l ≡ listingLength = eqb-true _ _ (and-both (lent m s) (eqb l listingLength) e .1) in
-    record { within = omega arith; spans = rw q (lists-fit l n y) }
-in-part y (step′ m s l d) h e =
-    let q : calls y (step′ m s l d) ≡ stepsOn y d = rw e in
-    let n : l ≡ listingLength = eqb-true _ _ (and-both (lent m s) (eqb l listingLength) e .1) in
-    record { within = omega arith; spans = rw q (steps-fit l n y d) }
-in-part y (report′ m s l) h e =
-    let q : calls y (report′ m s l) ≡ reports y = rw e in
-    let n : l ≡ reportLength = eqb-true _ _ (and-both (lent m s) (eqb l reportLength) e .1) in
-    record { within = omega arith; spans = rw q (shares-fit l n h) }
+asked-within : {x : Engine} {y : Machine} → Holds x y → (k : Ask) → InPart k (machine.asked y k .answer .listing)
+unfolding machine.asked onMachine
+asked-within h (open′ text) = nothing (by (opening text))
+  where
+    by : (o : Opening) → opens o .answer .listing ≡ asLent
+    by (refused n p) = unfold opens no in refl
+    by (opened m) = unfold opens no in refl
+asked-within (zeros e) (on′ r) = nothing (unfold no in refl)
+asked-within (held {h = h} text m e g) (on′ r) = acts-within r h (held-fits (modelBytes text) (h .model) m) g
 
 -- the first n numbers of the first k
 rest-of : (n k : ℕ) (l : List ℕ) → n ≤ k → drop n (take k l) ++ drop k l ≡ drop n l
@@ -293,99 +236,141 @@ rest-of (suc n) zero l h = absurd (omega arith)
 rest-of (suc n) (suc k) [] h = refl
 rest-of (suc n) (suc k) (a ∷ l) h = rest-of n k l (omega arith)
 
-record OwnPart (y : Machine) (c : Call) (x : Lent) : Type 0 where
-  long : length (partShown c (calls y c .answer) (take listingLength (x .listings))) ≡ length (take listingLength (x .listings))
-  listed : shown (calls y c .answer .listing) (take (listingLent c) (x .listings)) ++ drop (listingLent c) (x .listings) ≡ partShown c (calls y c .answer) (take listingLength (x .listings)) ++ drop listingLength (x .listings)
+-- what stands in the row's own part of the outputs, and that it is all that the call changes
+record OwnPart (c : Call) (s : Shown) (l : List ℕ) : Type 0 where
+  long : length (shown s (take (c .output) (take listingLength l)) ++ drop (c .output) (take listingLength l)) ≡ length (take listingLength l)
+  listed : shown s (take (c .output) l) ++ drop (c .output) l ≡ (shown s (take (c .output) (take listingLength l)) ++ drop (c .output) (take listingLength l)) ++ drop listingLength l
 
-own-part : (y : Machine) (c : Call) (x : Lent) → Fits c (roomOf x) → InPart y c → OwnPart y c x
-unfolding partShown roomOf
-own-part y c x f p =
-    let n = listingLent c in
-    let a : Shown = calls y c .answer .listing in
-    let l : List ℕ = take listingLength (x .listings) in
-    let front : take n l ≡ take n (x .listings) = take-take n listingLength (x .listings) (p .within) in
-    let size : length (take n l) ≡ n = ap length front ∙ length-take-le n (x .listings) (f .listing) in
-    let k : length (shown a (take n l)) ≡ length (take n l) = shown-length a (take n l) (rw size (p .spans)) in
+as-lent : (c : Call) (s : Shown) (l : List ℕ) → s ≡ asLent → OwnPart c s l
+unfolding shown
+as-lent c s l e = rw e (record {
+  long = ap length (take-append-drop (c .output) (take listingLength l));
+  listed = take-append-drop (c .output) l ∙ sym (ap (λ (k : List ℕ). k ++ drop listingLength l) (take-append-drop (c .output) (take listingLength l)) ∙ take-append-drop listingLength l);
+})
+
+in-own : (c : Call) (s : Shown) (l : List ℕ) → c .output ≤ length l → c .output ≤ listingLength → Spans (c .output) s → OwnPart c s l
+in-own c s l f w p =
+    let n = c .output in
+    let k : List ℕ = take listingLength l in
+    let front : take n k ≡ take n l = take-take n listingLength l w in
+    let size : length (take n k) ≡ n = ap length front ∙ length-take-le n l f in
+    let same : length (shown s (take n k)) ≡ length (take n k) = shown-length s (take n k) (rw size p) in
     record {
-      long = omega (arith, length-append (shown a (take n l)) (drop n l), k, size, length-drop n l, length-take n l, ap length (take-append-drop n l), length-append (take n l) (drop n l));
-      listed =
-          ap₂ (λ (u v : List ℕ). shown a u ++ v) (sym front) (sym (rest-of n listingLength (x .listings) (p .within)))
-          ∙ sym (append-assoc (shown a (take n l)) (drop n l) (drop listingLength (x .listings)));
+      long = omega (arith, length-append (shown s (take n k)) (drop n k), same, size, length-drop n k, length-take n k, ap length (take-append-drop n k), length-append (take n k) (drop n k));
+      listed = ap₂ (λ (u v : List ℕ). shown s u ++ v) (sym front) (sym (rest-of n listingLength l w)) ∙ sym (append-assoc (shown s (take n k)) (drop n k) (drop listingLength l));
     }
 
-own-lists : (c : Call) (x : Lent) → listingOf (ownCall c x) ≡ take (listingLent c) (x .listings)
-unfolding listingOf ownCall listingLent
-own-lists (open′ text m s) x = refl
-own-lists (list′ m s l) x = refl
-own-lists (step′ m s l d) x = refl
-own-lists (report′ m s l) x = refl
+-- ---- one call
 
-own-model : (c : Call) (x : Lent) → lentModel (ownCall c x) ≡ own
-unfolding lentModel ownCall
-own-model (open′ text m s) x = refl
-own-model (list′ m s l) x = refl
-own-model (step′ m s l d) x = refl
-own-model (report′ m s l) x = refl
+-- a row's call turns the machine y and the engine in x alike, and shows what the answer says in the row's own output
+pub record Done (y : Machine) (c : Call) (x : Lent) : Type 0 where
+  pub answer : effectOf c (x .engine) (x .outputs) .answer ≡ calls y c .answer
+  pub long : length (partShown c (calls y c .answer) (take listingLength (x .outputs))) ≡ length (take listingLength (x .outputs))
+  pub listed : callLeft c x .outputs ≡ partShown c (calls y c .answer) (take listingLength (x .outputs)) ++ drop listingLength (x .outputs)
+  pub holds : Holds (engineIn (callLeft c x)) (calls y c .machine)
+  pub beyond : (p : Part) → drop (size p) (callLeft c x .engine p) ≡ drop (size p) (x .engine p)
 
-own-state : (c : Call) (x : Lent) → lentState (ownCall c x) ≡ own
-unfolding lentState ownCall
-own-state (open′ text m s) x = refl
-own-state (list′ m s l) x = refl
-own-state (step′ m s l d) x = refl
-own-state (report′ m s l) x = refl
+module _ (y : Machine) (c : Call) (x : Lent) (f : Fits c (roomOf x)) (h : Holds (engineIn x) y) where
+  abbrev C : BufferCall
+  C = ownCall c x f
 
-module _ (y : Machine) (c : Call) (x : Lent) (f : Fits c (roomOf x)) (h : Holds (engineIn x) y) (w : right c ≡ true) where
   abbrev E : Effect
-  E = effectOf c (x .model) (x .state) (x .listings)
+  E = effectOf c (x .engine) (x .outputs)
 
-  -- what the call leaves of the engine
-  left-is : leftBy (engineIn x) (ownCall c x) ≡ make (E .model) (E .state)
-  left-is = left-in (engineIn x) (ownCall c x) (own-model c x) (own-state c x) E (own-effect c x (is-right c w))
+  goes : Goes (engineIn x) y C
+  goes = call-goes h C
 
-  goes : Goes (engineIn x) y (ownCall c x)
-  goes = call-goes h (ownCall c x)
+  turned : calls y (fed C) ≡ calls y c
+  turned = ap (calls y) (own-fed c x f)
 
-  left-holds : Holds (make (E .model) (E .state)) (calls y c .machine)
-  left-holds = subst (λ (d : Call). Holds (make (E .model) (E .state)) (calls y d .machine)) (own-fed c x f (is-right c w)) (rw left-is at (goes .left))
+  left-holds : Holds (leftBy (engineIn x) C) (calls y c .machine)
+  left-holds = subst (λ (t : Turn Machine). Holds (leftBy (engineIn x) C) (t .machine)) turned (goes .left)
 
-  model-same : length (E .model) ≡ length (take modelLength (x .model))
-  unfolding make engineIn
-  model-same = model-long left-holds ∙ sym (model-long h)
+  -- ---- each part: left as it was lent, or the engine's own
+  data PartLeft (p : Part) : Type 0 where
+    same : callLeft c x .engine p ≡ x .engine p → leftBy (engineIn x) C p ≡ take (size p) (x .engine p) → PartLeft p
+    mine : c .lengths p ≡ size p → leftBy (engineIn x) C p ≡ E .left p → PartLeft p
 
-  state-same : length (E .state) ≡ length (take stateLength (x .state))
-  unfolding make engineIn
-  state-same = state-long left-holds ∙ sym (state-long h)
-
-  right-engine : engineIn (callLeft c x) ≡ make (E .model) (E .state)
-  unfolding engineIn callLeft make
-  right-engine =
-      let r = is-right c w in
-      ap₂ make (ap (λ (i : ℕ). take modelLength (E .model ++ drop i (x .model))) (r .model) ∙ front-take modelLength (E .model) (x .model) model-same)
-      (ap (λ (i : ℕ). take stateLength (E .state ++ drop i (x .state))) (r .state) ∙ front-take stateLength (E .state) (x .state) state-same)
-
-  right-done : Done y c x
+  put-back : (p : Part) → E .left p ≡ take (c .lengths p) (x .engine p) → callLeft c x .engine p ≡ x .engine p
   unfolding callLeft
-  right-done =
-      let r = is-right c w in
-      let g = own-fed c x f r in
-      let e = own-effect c x r in
-      let l = own-part y c x f (in-part y c h w) in
-      record {
-        answer = sym (ap (λ (e : Effect). e .answer) e) ∙ goes .answer ∙ ap (λ (d : Call). calls y d .answer) g;
-        long = l .long;
-        listed =
-            ap (λ (s : List ℕ). s ++ drop (listingLent c) (x .listings))
-            (sym (ap (λ (e : Effect). e .listing) e) ∙ goes .listing ∙ ap₂ (λ (d : Call) (l : List ℕ). shown (calls y d .answer .listing) l) g (own-lists c x))
-            ∙ l .listed;
-        holds = rw right-engine left-holds;
-        model-beyond = ap (λ (i : ℕ). drop modelLength (E .model ++ drop i (x .model))) (r .model) ∙ front-drop modelLength (E .model) (x .model) model-same;
-        state-beyond = ap (λ (i : ℕ). drop stateLength (E .state ++ drop i (x .state))) (r .state) ∙ front-drop stateLength (E .state) (x .state) state-same;
-      }
+  put-back p e = ap (λ (l : List (Cell p)). l ++ drop (c .lengths p) (x .engine p)) e ∙ take-append-drop (c .lengths p) (x .engine p)
 
--- 01, Rule machine: one call of a row
-pub done : (y : Machine) (c : Call) (x : Lent) → Fits c (roomOf x) → Holds (engineIn x) y → Done y c x
-done y c x f h = by (right c) refl
-  where
-    by : (t : Bool) → right c ≡ t → Done y c x
-    by true e = right-done y c x f h e
-    by false e = refused-done y c x f h e
+  stays-own : (p : Part) → leftBy (engineIn x) C p ≡ engineIn x p → leftBy (engineIn x) C p ≡ take (size p) (x .engine p)
+  unfolding engineIn
+  stays-own p e = e
+
+  lent-as : hasLengths (c .ask) (lentLengths C) (length (take (c .output) (x .outputs))) ≡ hasLengths (c .ask) (c .lengths) (c .output)
+  unfolding ownCall fed
+  lent-as = ap (λ (d : Call). hasLengths (d .ask) (d .lengths) (d .output)) (own-fed c x f)
+
+  -- 1 leaves what was lent
+  one-left : hasLengths (c .ask) (c .lengths) (c .output) ≡ false → buffers.effectOf (engineIn x) C .left ≡ lentEngine C (engineIn x)
+  unfolding untouched ownCall
+  one-left w = ap (λ (e : Effect). e .left) (one-untouched h C (lent-as ∙ w))
+
+  wrong-left : (p : Part) → hasLengths (c .ask) (c .lengths) (c .output) ≡ false → PartLeft p
+  wrong-left p w =
+      same (put-back p (sym (ap (λ (e : Effect). e .left p) (own-effect c x f)) ∙ ap (λ (z : Engine). z p) (one-left w ∙ own-lent c x f))) (stays-own p (every.stays h C (one-left w) p))
+
+  unlent-same : (p : Part) → isLent p (lentTo (c .ask)) ≡ false → PartLeft p
+  unfolding effectOf leftBy engineIn ownCall
+  unlent-same p a = same (put-back p (unlent-left (c .ask) (λ (p : Part). take (c .lengths p) (x .engine p)) (take (c .output) (x .outputs)) p a)) (rw a)
+
+  right-left : (p : Part) → isLent p (lentTo (c .ask)) ≡ true → hasLengths (c .ask) (c .lengths) (c .output) ≡ true → PartLeft p
+  unfolding ownCall
+  right-left p a b = mine (on (lent-so c) b .parts p a) (left-as h C (lent-as ∙ b) p a ∙ ap (λ (e : Effect). e .left p) (own-effect c x f))
+
+  part-left : (p : Part) → PartLeft p
+  part-left p = by (isLent p (lentTo (c .ask))) refl (hasLengths (c .ask) (c .lengths) (c .output)) refl
+    where
+      by : (a : Bool) → isLent p (lentTo (c .ask)) ≡ a → (b : Bool) → hasLengths (c .ask) (c .lengths) (c .output) ≡ b → PartLeft p
+      by true a true b = right-left p a b
+      by true a false b = wrong-left p b
+      by false a b e = unlent-same p a
+
+  -- as many numbers as the engine's own
+  mine-long : (p : Part) → leftBy (engineIn x) C p ≡ E .left p → length (E .left p) ≡ length (take (size p) (x .engine p))
+  unfolding engineIn
+  mine-long p e = ap length (sym e) ∙ engine-long left-holds p ∙ sym (engine-long h p)
+
+  left-is : (p : Part) → engineIn (callLeft c x) p ≡ leftBy (engineIn x) C p
+  unfolding engineIn callLeft
+  left-is p = by (part-left p)
+    where
+      by : PartLeft p → engineIn (callLeft c x) p ≡ leftBy (engineIn x) C p
+      by (same e q) = ap (take (size p)) e ∙ sym q
+      by (mine n q) = ap (λ (i : ℕ). take (size p) (E .left p ++ drop i (x .engine p))) n ∙ front-take (size p) (E .left p) (x .engine p) (mine-long p q) ∙ sym q
+
+  beyond-is : (p : Part) → drop (size p) (callLeft c x .engine p) ≡ drop (size p) (x .engine p)
+  unfolding callLeft
+  beyond-is p = by (part-left p)
+    where
+      by : PartLeft p → drop (size p) (callLeft c x .engine p) ≡ drop (size p) (x .engine p)
+      by (same e q) = ap (drop (size p)) e
+      by (mine n q) = ap (λ (i : ℕ). drop (size p) (E .left p ++ drop i (x .engine p))) n ∙ front-drop (size p) (E .left p) (x .engine p) (mine-long p q)
+
+  own-part : OwnPart c (calls y c .answer .listing) (x .outputs)
+  unfolding calls no roomOf
+  own-part = by (hasLengths (c .ask) (c .lengths) (c .output)) refl (asked-within h (c .ask))
+    where
+      by : (b : Bool) → hasLengths (c .ask) (c .lengths) (c .output) ≡ b → InPart (c .ask) (machine.asked y (c .ask) .answer .listing)
+          → OwnPart c (cond b (machine.asked y (c .ask)) (turn y (no 1 0 0 asLent)) .answer .listing) (x .outputs)
+      by true b (nothing e) = as-lent c _ (x .outputs) e
+      by true b (within n o w s) =
+          let q : c .output ≡ n = on (lent-so c) b .output n o in
+          in-own c _ (x .outputs) (f .output) (omega arith) (rw q s)
+      by false b i = as-lent c _ (x .outputs) refl
+
+  -- 01, Rule machine: one call of a row
+  pub done : Done y c x
+  unfolding callLeft partShown ownCall
+  done = record {
+    answer = sym (ap (λ (e : Effect). e .answer) (own-effect c x f)) ∙ goes .answer ∙ ap (λ (t : Turn Machine). t .answer) turned;
+    long = own-part .long;
+    listed =
+        ap (λ (s : List ℕ). s ++ drop (c .output) (x .outputs))
+        (sym (ap (λ (e : Effect). e .output) (own-effect c x f)) ∙ goes .output ∙ ap (λ (t : Turn Machine). shown (t .answer .listing) (take (c .output) (x .outputs))) turned)
+        ∙ own-part .listed;
+    holds = holds-same left-is left-holds;
+    beyond = beyond-is;
+  }

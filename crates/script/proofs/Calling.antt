@@ -1,81 +1,128 @@
 -- What a row's call leaves of the buffers, from what the engine's call gives: by the kind of the row.
-use mathlib.Core.Path.{_≡_, sym, ap, _∙_}
+use mathlib.Core.Path.{_≡_, refl, sym, ap, _∙_}
 use mathlib.Core.Bool.{Bool, true, false, cond}
 use mathlib.Core.List.{List, [], _∷_, _++_}
+use mathlib.Core.Option.{Option·elim}
 use Prim.Native.Nat.{ℕ, _+_, _-_, _≤_}
 use native.Mathlib.Omega.{arith}
-use borrow.Author.Tests.{leb-true, eq-eqb, ne-eqb}
-use lib.Dec.{eqb, leb}
+use borrow.Author.Tests.{eq-eqb, ne-eqb}
 use lib.IntN.{ℤ}
-use lib.ListN.{take, drop, take-append-drop}
-use Rattle.machine.specs.Machine.{Call, open′, list′, step′, report′}
-use Rattle.buffers.specs.Effect.{openEffect, listEffect, stepEffect, reportEffect}
+use lib.ListN.{length, take, drop, take-append-drop}
+use Rattle.model.specs.Opening.{Opening, refused, opened, opening}
+use Rattle.machine.specs.Machine.{Answer, list′, step′, report′, Ask, open′, on′, Part, model, state, hasLengths, Call}
+use Rattle.buffers.specs.Parts.{Engine, lentTwo}
+use Rattle.buffers.specs.Effect.{Effect, untouched, opensWith, answered, effect}
+use Rattle.buffers.proofs.Lent.{same-engine}
 use Rattle.engine.specs.declared.Answer as engine
 use Rattle.engine.specs.Gives.{Gives}
 use Rattle.script.specs.declared.Row.{Row}
-use Rattle.script.specs.Rows.{fits, rowCall}
-use Rattle.script.specs.Run.{modelLent, stateLent, listingLent, effectOf, answerNumbers, resultNumbers, Called}
+use Rattle.script.specs.Rows.{rowLengths, fits, rowAsk, rowCall}
+use Rattle.script.specs.Run.{lengthsOf, effectOf, answerNumbers, resultNumbers, Called}
 use Rattle.script.proofs.Called.{row-asks}
-use Rattle.script.proofs.Fitting.{opening-fits}
 
 -- ---- what a row that fits asks for
 
-module _ (r : Row) (t m s l : ℕ) (f : fits r t m s l ≡ true) where
-  pub asks-text : r .kind ≡ 1 → r .first + r .size ≤ t
-  asks-text e = let a = row-asks r t m s l f in leb-true _ _ (sym (opening-fits r t m s l (a .model) (a .state) e) ∙ f)
+pub record There (r : Row) (t m s o : ℕ) : Type 0 where
+  pub text : r .text + r .size ≤ t
+  pub model : r .model ≤ m
+  pub state : r .state ≤ s
+  pub output : r .output ≤ o
 
-  pub asks-listing : (r .kind ≡ 1 → ⊥) → r .listing ≤ l
-  asks-listing p = by (eqb (r .kind) 2) (eqb (r .kind) 3) (eqb (r .kind) 4) (rw (ne-eqb (r .kind) 1 p) at (row-asks r t m s l f .kind))
-    where
-      by : (a b d : Bool) → cond a (leb (r .listing) l) (cond b (leb (r .listing) l) (cond d (leb (r .listing) l) false)) ≡ true → r .listing ≤ l
-      by true b d e = leb-true _ _ e
-      by false true d e = leb-true _ _ e
-      by false false true e = leb-true _ _ e
-      by false false false e = absurd (let z : _≡_ {A = ℕ} 0 1 = cc in omega arith)
+pub there : (r : Row) (t n m s o : ℕ) → fits r t n (lengthsOf m s) o ≡ true → There r t m s o
+unfolding rowLengths lengthsOf
+there r t n m s o f = let a = row-asks r t n (lengthsOf m s) o f in record { text = a .text; model = a .part model; state = a .part state; output = a .output }
 
--- ---- what its call gives
+-- ---- an opening is lent no output
 
-module _ (c : Call) (bs : List ℕ) (zs : List ℤ) (ls : List ℕ) (r : engine.Answer) where
-  gives : (bs′ : List ℕ) (zs′ : List ℤ) (l : List ℕ) → Gives (effectOf c bs zs ls) r bs′ zs′ l
-      → Called c bs zs ls r (bs′ ++ drop (modelLent c) bs) (zs′ ++ drop (stateLent c) zs) (l ++ drop (listingLent c) ls)
-  unfolding resultNumbers answerNumbers
-  gives bs′ zs′ l g = record {
-    numbers = λ i. g .number i ∷ g .place i ∷ g .branch i ∷ g .count i ∷ g .total i ∷ g .chosen i ∷ [];
-    model = ap (λ (k : List ℕ). k ++ drop (modelLent c) bs) (g .model);
-    state = ap (λ (k : List ℤ). k ++ drop (stateLent c) zs) (g .state);
-    listings = ap (λ (k : List ℕ). k ++ drop (listingLent c) ls) (g .listing);
-  }
+record Bare (e d : Effect) (l : List ℕ) : Type 0 where
+  answer : e .answer ≡ d .answer
+  left : e .left ≡ d .left
+  output : e .output ≡ l
+
+opens-bare : (text : List ℕ) (o : Opening) (l : List ℕ) → Bare (opensWith text o l) (opensWith text o []) l
+unfolding opensWith
+opens-bare text (refused n p) l = record { answer = refl; left = refl; output = refl }
+opens-bare text (opened m) l = record { answer = refl; left = refl; output = refl }
+
+open-bare : (text : List ℕ) (x : Engine) (l : List ℕ) → Bare (effect (open′ text) x l) (effect (open′ text) x []) l
+unfolding effect answered untouched hasLengths Option·elim
+open-bare text x l = by (hasLengths (open′ text) (λ (p : Part). length (x p)) 0)
+  where
+    by : (b : Bool) → Bare (cond b (opensWith text (opening text) l) (untouched x l)) (cond b (opensWith text (opening text) []) (untouched x [])) l
+    by true = opens-bare text (opening text) l
+    by false = record { answer = refl; left = refl; output = refl }
+
+-- ---- what a row's call gives
 
 module _ (row : Row) (texts bs : List ℕ) (zs : List ℤ) (ls : List ℕ) (r : engine.Answer) where
+  -- what is lent of the two parts
+  abbrev X : Engine
+  X = lentTwo (take (row .model) bs) (take (row .state) zs)
+
+  lent-is : X ≡ (λ (p : Part). take (rowLengths row p) (lentTwo bs zs p))
+  unfolding lentTwo rowLengths
+  lent-is = same-engine at
+    where
+      at : (p : Part) → X p ≡ take (rowLengths row p) (lentTwo bs zs p)
+      at model = refl
+      at state = refl
+
+  effect-is : (k : Ask) → rowAsk texts row ≡ k → effect k X (take (row .output) ls) ≡ effectOf (rowCall texts row) (lentTwo bs zs) ls
+  unfolding effectOf rowCall
+  effect-is k e =
+      ap (λ (x : Engine). effect k x (take (row .output) ls)) lent-is
+      ∙ ap (λ (j : Ask). effect j (λ (p : Part). take (rowLengths row p) (lentTwo bs zs p)) (take (row .output) ls)) (sym e)
+
+  gives : (k : Ask) → rowAsk texts row ≡ k → (bs′ : List ℕ) (zs′ : List ℤ) (l : List ℕ) → Gives (effect k X (take (row .output) ls)) r (lentTwo bs′ zs′) l
+      → Called (rowCall texts row) (lentTwo bs zs) ls r (lentTwo (bs′ ++ drop (row .model) bs) (zs′ ++ drop (row .state) zs)) (l ++ drop (row .output) ls)
+  unfolding resultNumbers answerNumbers rowCall
+  gives k e bs′ zs′ l g = record { numbers = numbers-are ∙ ap (λ (e : Effect). answerNumbers (e .answer)) (effect-is k e); engine = at; outputs = ap (λ (h : List ℕ). h ++ drop (row .output) ls) (g .output ∙ ap (λ (e : Effect). e .output) (effect-is k e)) }
+    where
+      numbers-are : resultNumbers r ≡ answerNumbers (effect k X (take (row .output) ls) .answer)
+      numbers-are = λ i. g .number i ∷ g .place i ∷ g .branch i ∷ g .count i ∷ g .total i ∷ g .chosen i ∷ []
+
+      at : (p : Part) → lentTwo (bs′ ++ drop (row .model) bs) (zs′ ++ drop (row .state) zs) p ≡ effectOf (rowCall texts row) (lentTwo bs zs) ls .left p ++ drop (rowLengths row p) (lentTwo bs zs p)
+      at model = unfold lentTwo rowLengths in ap (λ (h : List ℕ). h ++ drop (row .model) bs) (g .buffers model ∙ ap (λ (e : Effect). e .left model) (effect-is k e))
+      at state = unfold lentTwo rowLengths in ap (λ (h : List ℤ). h ++ drop (row .state) zs) (g .buffers state ∙ ap (λ (e : Effect). e .left state) (effect-is k e))
+
   pub opening-called : row .kind ≡ 1 → (bs′ : List ℕ) (zs′ : List ℤ)
-      → Gives (openEffect (take (row .first + row .size - row .first) (drop (row .first) texts)) (take (row .model) bs) (take (row .state) zs)) r bs′ zs′ []
-      → Called (rowCall texts row) bs zs ls r (bs′ ++ drop (row .model) bs) (zs′ ++ drop (row .state) zs) ls
-  unfolding rowCall effectOf modelLent stateLent listingLent
+      → Gives (effect (open′ (take (row .text + row .size - row .text) (drop (row .text) texts))) X []) r (lentTwo bs′ zs′) []
+      → Called (rowCall texts row) (lentTwo bs zs) ls r (lentTwo (bs′ ++ drop (row .model) bs) (zs′ ++ drop (row .state) zs)) ls
+  unfolding rowAsk
   opening-called e bs′ zs′ g =
-      let n : row .first + row .size - row .first ≡ row .size = omega arith in
-      rw (eq-eqb (row .kind) 1 e) (gives (open′ (take (row .size) (drop (row .first) texts)) (row .model) (row .state)) bs zs ls r bs′ zs′ [] (rw n at g))
+      let n : row .text + row .size - row .text ≡ row .size = omega arith in
+      let text : List ℕ = take (row .size) (drop (row .text) texts) in
+      let w = open-bare text X (take (row .output) ls) in
+      let h : Gives (effect (open′ text) X []) r (lentTwo bs′ zs′) [] = rw n at g in
+      let k = gives (open′ text) (rw (eq-eqb (row .kind) 1 e)) bs′ zs′ (take (row .output) ls) (record {
+        number = h .number ∙ sym (ap (λ (a : Answer). a .number) (w .answer));
+        place = h .place ∙ sym (ap (λ (a : Answer). a .place) (w .answer));
+        branch = h .branch ∙ sym (ap (λ (a : Answer). a .branch) (w .answer));
+        count = h .count ∙ sym (ap (λ (a : Answer). a .count) (w .answer));
+        total = h .total ∙ sym (ap (λ (a : Answer). a .total) (w .answer));
+        chosen = h .chosen ∙ sym (ap (λ (a : Answer). a .chosen) (w .answer));
+        buffers = λ p. h .buffers p ∙ sym (ap (λ (z : Engine). z p) (w .left));
+        output = sym (w .output);
+      }) in
+      rw (take-append-drop (row .output) ls) at k
 
   module _ (p : row .kind ≡ 1 → ⊥) where
-    pub listing-called : row .kind ≡ 2 → (l : List ℕ)
-        → Gives (listEffect (take (row .model) bs) (take (row .state) zs) (take (row .listing) ls)) r (take (row .model) bs) (take (row .state) zs) l
-        → Called (rowCall texts row) bs zs ls r bs zs (l ++ drop (row .listing) ls)
-    unfolding rowCall effectOf modelLent stateLent listingLent
+    pub listing-called : row .kind ≡ 2 → (l : List ℕ) → Gives (effect (on′ list′) X (take (row .output) ls)) r X l → Called (rowCall texts row) (lentTwo bs zs) ls r (lentTwo bs zs) (l ++ drop (row .output) ls)
+    unfolding rowAsk
     listing-called e l g =
-        rw (ne-eqb (row .kind) 1 p, eq-eqb (row .kind) 2 e)
-        (rw (take-append-drop (row .model) bs, take-append-drop (row .state) zs) at (gives (list′ (row .model) (row .state) (row .listing)) bs zs ls r (take (row .model) bs) (take (row .state) zs) l g))
+        rw (take-append-drop (row .model) bs, take-append-drop (row .state) zs) at
+        (gives (on′ list′) (rw (ne-eqb (row .kind) 1 p, eq-eqb (row .kind) 2 e)) (take (row .model) bs) (take (row .state) zs) l g)
 
-    pub reporting-called : (row .kind ≡ 2 → ⊥) → row .kind ≡ 4 → (l : List ℕ)
-        → Gives (reportEffect (take (row .model) bs) (take (row .state) zs) (take (row .listing) ls)) r (take (row .model) bs) (take (row .state) zs) l
-        → Called (rowCall texts row) bs zs ls r bs zs (l ++ drop (row .listing) ls)
-    unfolding rowCall effectOf modelLent stateLent listingLent
-    reporting-called q e l g =
-        rw (ne-eqb (row .kind) 1 p, ne-eqb (row .kind) 2 q, eq-eqb (row .kind) 4 e)
-        (rw (take-append-drop (row .model) bs, take-append-drop (row .state) zs) at (gives (report′ (row .model) (row .state) (row .listing)) bs zs ls r (take (row .model) bs) (take (row .state) zs) l g))
+    module _ (q : row .kind ≡ 2 → ⊥) where
+      pub reporting-called : row .kind ≡ 4 → (l : List ℕ) → Gives (effect (on′ report′) X (take (row .output) ls)) r X l → Called (rowCall texts row) (lentTwo bs zs) ls r (lentTwo bs zs) (l ++ drop (row .output) ls)
+      unfolding rowAsk
+      reporting-called e l g =
+          rw (take-append-drop (row .model) bs, take-append-drop (row .state) zs) at
+          (gives (on′ report′) (rw (ne-eqb (row .kind) 1 p, ne-eqb (row .kind) 2 q, eq-eqb (row .kind) 4 e)) (take (row .model) bs) (take (row .state) zs) l g)
 
-    pub stepping-called : (row .kind ≡ 2 → ⊥) → (row .kind ≡ 4 → ⊥) → (zs′ : List ℤ) (l : List ℕ)
-        → Gives (stepEffect (take (row .model) bs) (take (row .state) zs) (take (row .listing) ls) (row .first)) r (take (row .model) bs) zs′ l
-        → Called (rowCall texts row) bs zs ls r bs (zs′ ++ drop (row .state) zs) (l ++ drop (row .listing) ls)
-    unfolding rowCall effectOf modelLent stateLent listingLent
-    stepping-called q u zs′ l g =
-        rw (ne-eqb (row .kind) 1 p, ne-eqb (row .kind) 2 q, ne-eqb (row .kind) 4 u)
-        (rw (take-append-drop (row .model) bs) at (gives (step′ (row .model) (row .state) (row .listing) (row .first)) bs zs ls r (take (row .model) bs) zs′ l g))
+      pub stepping-called : (row .kind ≡ 4 → ⊥) → (zs′ : List ℤ) (l : List ℕ) → Gives (effect (on′ (step′ (row .number))) X (take (row .output) ls)) r (lentTwo (take (row .model) bs) zs′) l
+          → Called (rowCall texts row) (lentTwo bs zs) ls r (lentTwo bs (zs′ ++ drop (row .state) zs)) (l ++ drop (row .output) ls)
+      unfolding rowAsk
+      stepping-called u zs′ l g =
+          rw (take-append-drop (row .model) bs) at
+          (gives (on′ (step′ (row .number))) (rw (ne-eqb (row .kind) 1 p, ne-eqb (row .kind) 2 q, ne-eqb (row .kind) 4 u)) (take (row .model) bs) zs′ l g)

@@ -1,16 +1,17 @@
--- Which rows fit, and what the calls of those that do leave: by the kind of the row.
+-- Which rows fit, and an answer's numbers.
 use mathlib.Core.Path.{_≡_, refl, sym, _∙_}
 use mathlib.Core.Bool.{Bool, true, false}
 use mathlib.Core.List.{List, [], _∷_, _++_}
 use Prim.Native.Nat.{ℕ, _+_, _-_, _≤_, _<_}
 use native.Mathlib.Omega.{arith}
-use borrow.Author.Tests.{leb-true, leb-false, le-leb, lt-leb, eq-eqb, ne-eqb}
+use borrow.Author.Tests.{leb-true, leb-false, le-leb, lt-leb}
 use lib.Dec.{leb}
 use lib.ListN.{length, set, drop}
 use Rattle.engine.specs.declared.Answer as engine
 use Rattle.script.specs.declared.Row.{Row}
-use Rattle.script.specs.Rows.{answerWidth, fits}
-use Rattle.script.specs.Run.{resultNumbers}
+use Rattle.machine.specs.Machine.{allParts}
+use Rattle.script.specs.Rows.{openKind, reportKind, answerWidth, rowLengths, fits}
+use Rattle.script.specs.Run.{lengthsOf, resultNumbers}
 
 -- two tests of one fact
 pub same-test : (a b c d : ℕ) → (a ≤ b → c ≤ d) → (c ≤ d → a ≤ b) → leb a b ≡ leb c d
@@ -24,39 +25,43 @@ same-test a b c d f g = by (leb a b) refl
         other true w = let h : a ≤ b = g (leb-true c d w) in absurd (omega (arith, leb-false a b e))
         other false w = w
 
-module _ (r : Row) (t m s l : ℕ) where
-  pub no-model : m < r .model → fits r t m s l ≡ false
+-- each return of the test of a row
+module _ (r : Row) (t n m s o : ℕ) where
+  abbrev Fit : Bool
+  Fit = fits r t n (lengthsOf m s) o
+
+  pub no-least : r .kind < openKind → Fit ≡ false
   unfolding fits
-  no-model h = rw (lt-leb (r .model) m h)
+  no-least e = rw (lt-leb openKind (r .kind) e)
 
-  module _ (h : r .model ≤ m) where
-    pub no-state : s < r .state → fits r t m s l ≡ false
+  module _ (a : openKind ≤ r .kind) where
+    pub no-most : reportKind < r .kind → Fit ≡ false
     unfolding fits
-    no-state g = rw (le-leb (r .model) m h, lt-leb (r .state) s g)
+    no-most e = rw (le-leb openKind (r .kind) a, lt-leb (r .kind) reportKind e)
 
-    module _ (g : r .state ≤ s) where
-      pub opening-fits : r .kind ≡ 1 → fits r t m s l ≡ leb (r .first + r .size) t
+    module _ (b : r .kind ≤ reportKind) where
+      pub no-text : leb (r .text + r .size) t ≡ false → Fit ≡ false
       unfolding fits
-      opening-fits e = rw (le-leb (r .model) m h, le-leb (r .state) s g, eq-eqb (r .kind) 1 e)
+      no-text e = rw (le-leb openKind (r .kind) a, le-leb (r .kind) reportKind b, e)
 
-      module _ (p : r .kind ≡ 1 → ⊥) where
-        pub listing-fits : r .kind ≡ 2 → fits r t m s l ≡ leb (r .listing) l
+      module _ (c : leb (r .text + r .size) t ≡ true) where
+        pub no-list : leb (r .from + r .count) n ≡ false → Fit ≡ false
         unfolding fits
-        listing-fits e = rw (le-leb (r .model) m h, le-leb (r .state) s g, ne-eqb (r .kind) 1 p, eq-eqb (r .kind) 2 e)
+        no-list e = rw (le-leb openKind (r .kind) a, le-leb (r .kind) reportKind b, c, e)
 
-        module _ (q : r .kind ≡ 2 → ⊥) where
-          pub stepping-fits : r .kind ≡ 3 → fits r t m s l ≡ leb (r .listing) l
-          unfolding fits
-          stepping-fits e = rw (le-leb (r .model) m h, le-leb (r .state) s g, ne-eqb (r .kind) 1 p, ne-eqb (r .kind) 2 q, eq-eqb (r .kind) 3 e)
+        module _ (d : leb (r .from + r .count) n ≡ true) where
+          pub no-model : m < r .model → Fit ≡ false
+          unfolding fits allParts rowLengths lengthsOf
+          no-model e = rw (le-leb openKind (r .kind) a, le-leb (r .kind) reportKind b, c, d, lt-leb (r .model) m e)
 
-          module _ (u : r .kind ≡ 3 → ⊥) where
-            pub reporting-fits : r .kind ≡ 4 → fits r t m s l ≡ leb (r .listing) l
-            unfolding fits
-            reporting-fits e = rw (le-leb (r .model) m h, le-leb (r .state) s g, ne-eqb (r .kind) 1 p, ne-eqb (r .kind) 2 q, ne-eqb (r .kind) 3 u, eq-eqb (r .kind) 4 e)
+          module _ (f : r .model ≤ m) where
+            pub no-state : s < r .state → Fit ≡ false
+            unfolding fits allParts rowLengths lengthsOf
+            no-state e = rw (le-leb openKind (r .kind) a, le-leb (r .kind) reportKind b, c, d, le-leb (r .model) m f, lt-leb (r .state) s e)
 
-            pub no-kind : (r .kind ≡ 4 → ⊥) → fits r t m s l ≡ false
-            unfolding fits
-            no-kind e = rw (le-leb (r .model) m h, le-leb (r .state) s g, ne-eqb (r .kind) 1 p, ne-eqb (r .kind) 2 q, ne-eqb (r .kind) 3 u, ne-eqb (r .kind) 4 e)
+            pub output-fits : r .state ≤ s → Fit ≡ leb (r .output) o
+            unfolding fits allParts rowLengths lengthsOf
+            output-fits g = rw (le-leb openKind (r .kind) a, le-leb (r .kind) reportKind b, c, d, le-leb (r .model) m f, le-leb (r .state) s g)
 
 -- an answer's numbers, one after the other
 pub written : (l : List ℕ) (r : engine.Answer) → answerWidth ≤ length l

@@ -6,14 +6,14 @@ use Prim.Native.Nat.{ℕ, suc, _+_, _-_, _*_}
 use native.Mathlib.Omega.{arith}
 use lib.ListN.{length, take, drop, length-take, length-drop}
 use lib.Seq.{length-take-le, drop-drop}
-use Rattle.machine.specs.State.{stateLength}
-use Rattle.machine.specs.Machine.{modelLength, listingLength, Machine, closed, Call, calls, answers, after}
-use Rattle.buffers.specs.Calls.{fresh, Holds, zeros}
-use Rattle.buffers.proofs.Calls.{model-long, state-long}
+use Rattle.machine.specs.Machine.{listingLength, Machine, closed, Part, size, Call, calls, answers, after}
+use Rattle.buffers.specs.Parts.{Engine, fresh}
+use Rattle.buffers.specs.Calls.{Holds, zeros}
+use Rattle.buffers.proofs.Every.{engine-long}
 use Rattle.script.specs.declared.Row.{Row}
 use Rattle.script.specs.Rows.{answerWidth, Room, roomAfter, callOf, callsOf, rowsOf, callsIn}
 use Rattle.script.specs.Run.{Lent, roomOf, effectOf, answerNumbers, callLeft, nextLent, joined, runLeft, Ran}
-use Rattle.script.specs.Follows.{engineIn, answersNumbers, partShown, listingsShown, Follows, Refines}
+use Rattle.script.specs.Follows.{engineIn, answersNumbers, partShown, outputsShown, Follows, Refines}
 use Rattle.script.proofs.Front.{front-take, front-drop}
 use Rattle.script.proofs.Called.{Fits, call-fits, Done, done}
 
@@ -29,36 +29,35 @@ module _ (y : Machine) (c : Call) (x : Lent) (f : Fits c (roomOf x)) (h : Holds 
   z = callLeft c x
 
   -- the row's own answer and listing, and what stands after them
-  answer-long : length (answerNumbers (effectOf c (x .model) (x .state) (x .listings) .answer)) ≡ length (take answerWidth (x .answers))
+  answer-long : length (answerNumbers (effectOf c (x .engine) (x .outputs) .answer)) ≡ length (take answerWidth (x .answers))
   unfolding answerNumbers roomOf
   answer-long = sym (length-take-le answerWidth (x .answers) (f .answer))
 
   answer-is : take answerWidth (z .answers) ≡ answerNumbers (calls y c .answer)
   unfolding callLeft
-  answer-is = front-take answerWidth (answerNumbers (effectOf c (x .model) (x .state) (x .listings) .answer)) (x .answers) answer-long ∙ ap answerNumbers (d .answer)
+  answer-is = front-take answerWidth (answerNumbers (effectOf c (x .engine) (x .outputs) .answer)) (x .answers) answer-long ∙ ap answerNumbers (d .answer)
 
   answers-after : drop answerWidth (z .answers) ≡ drop answerWidth (x .answers)
   unfolding callLeft
-  answers-after = front-drop answerWidth (answerNumbers (effectOf c (x .model) (x .state) (x .listings) .answer)) (x .answers) answer-long
+  answers-after = front-drop answerWidth (answerNumbers (effectOf c (x .engine) (x .outputs) .answer)) (x .answers) answer-long
 
-  listing-is : take listingLength (z .listings) ≡ partShown c (calls y c .answer) (take listingLength (x .listings))
-  listing-is = ap (take listingLength) (d .listed) ∙ front-take listingLength _ (x .listings) (d .long)
+  listing-is : take listingLength (z .outputs) ≡ partShown c (calls y c .answer) (take listingLength (x .outputs))
+  listing-is = ap (take listingLength) (d .listed) ∙ front-take listingLength _ (x .outputs) (d .long)
 
-  listings-after : drop listingLength (z .listings) ≡ drop listingLength (x .listings)
-  listings-after = ap (drop listingLength) (d .listed) ∙ front-drop listingLength (partShown c (calls y c .answer) (take listingLength (x .listings))) (x .listings) (d .long)
+  listings-after : drop listingLength (z .outputs) ≡ drop listingLength (x .outputs)
+  listings-after = ap (drop listingLength) (d .listed) ∙ front-drop listingLength (partShown c (calls y c .answer) (take listingLength (x .outputs))) (x .outputs) (d .long)
 
   -- the room for the next row
-  make-room : ℕ → ℕ → ℕ → ℕ → Room
-  make-room m s l a = record { model = m; state = s; listings = l; answers = a }
+  make-room : (Part → ℕ) → ℕ → ℕ → Room
+  make-room ps l a = record { parts = ps; outputs = l; answers = a }
 
   next-room : roomOf (nextLent z) ≡ roomAfter (roomOf x)
   unfolding roomOf nextLent roomAfter engineIn make-room
   next-room =
-      let m : length (z .model) ≡ length (x .model) = same-length modelLength (z .model) (x .model) (model-long (d .holds)) (model-long h) (d .model-beyond) in
-      let s : length (z .state) ≡ length (x .state) = same-length stateLength (z .state) (x .state) (state-long (d .holds)) (state-long h) (d .state-beyond) in
-      let l : length (drop listingLength (z .listings)) ≡ length (x .listings) - listingLength = ap length listings-after ∙ length-drop listingLength (x .listings) in
+      let m : (p : Part) → length (z .engine p) ≡ length (x .engine p) = λ p. same-length (size p) (z .engine p) (x .engine p) (engine-long (d .holds) p) (engine-long h p) (d .beyond p) in
+      let l : length (drop listingLength (z .outputs)) ≡ length (x .outputs) - listingLength = ap length listings-after ∙ length-drop listingLength (x .outputs) in
       let a : length (drop answerWidth (z .answers)) ≡ length (x .answers) - answerWidth = ap length answers-after ∙ length-drop answerWidth (x .answers) in
-      λ i. make-room (m i) (s i) (l i) (a i)
+      λ i. make-room (λ (p : Part). m p i) (l i) (a i)
 
   next-holds : Holds (engineIn (nextLent z)) (calls y c .machine)
   unfolding engineIn nextLent
@@ -66,7 +65,7 @@ module _ (y : Machine) (c : Call) (x : Lent) (f : Fits c (roomOf x)) (h : Holds 
 
   -- this call, then the others
   more : (cs : List Call) (w : Lent) → Follows (calls y c .machine) cs (nextLent z) w → Follows y (c ∷ cs) x (joined z w)
-  unfolding joined nextLent answers after answersNumbers listingsShown engineIn
+  unfolding joined nextLent answers after answersNumbers outputsShown engineIn
   more cs w g =
       let n = answerNumbers (calls y c .answer) in
       let k : answerWidth + length cs * answerWidth ≡ suc (length cs) * answerWidth = omega arith in
@@ -75,34 +74,33 @@ module _ (y : Machine) (c : Call) (x : Lent) (f : Fits c (roomOf x)) (h : Holds 
             ap₂ (λ (a b : List ℕ). a ++ b) answer-is (g .answered ∙ ap (λ (l : List ℕ). answersNumbers (answers (calls y c .machine) cs) ++ drop (length cs * answerWidth) l) answers-after)
             ∙ sym (append-assoc n (answersNumbers (answers (calls y c .machine) cs)) _)
             ∙ ap (λ (l : List ℕ). (n ++ answersNumbers (answers (calls y c .machine) cs)) ++ l) (drop-drop (length cs * answerWidth) answerWidth (x .answers) ∙ ap (λ (i : ℕ). drop i (x .answers)) k);
-        listed = ap₂ (λ (a b : List ℕ). a ++ b) listing-is (g .listed ∙ ap (listingsShown (calls y c .machine) cs) listings-after);
+        shows = ap₂ (λ (a b : List ℕ). a ++ b) listing-is (g .shows ∙ ap (outputsShown (calls y c .machine) cs) listings-after);
         holds = g .holds;
-        model-beyond = g .model-beyond ∙ d .model-beyond;
-        state-beyond = g .state-beyond ∙ d .state-beyond;
+        beyond = λ p. g .beyond p ∙ d .beyond p;
       }
 
 none-follows : (y : Machine) (x : Lent) → Holds (engineIn x) y → Follows y [] x x
-unfolding answers after answersNumbers listingsShown
-none-follows y x h = record { answered = refl; listed = refl; holds = h; model-beyond = refl; state-beyond = refl }
+unfolding answers after answersNumbers outputsShown
+none-follows y x h = record { answered = refl; shows = refl; holds = h; beyond = λ p. refl }
 
-module _ (texts : List ℕ) where
+module _ (texts numbers : List ℕ) where
   -- the rows after the first follow, whatever it leaves
   abbrev Rest : List Row → Type 0
-  Rest rs = (x : Lent) (y : Machine) → Holds (engineIn x) y → Follows y (callsOf texts (roomOf x) rs) x (runLeft (callsOf texts (roomOf x) rs) x)
+  Rest rs = (x : Lent) (y : Machine) → Holds (engineIn x) y → Follows y (callsOf texts numbers (roomOf x) rs) x (runLeft (callsOf texts numbers (roomOf x) rs) x)
 
   first-follows : (r : Row) (rs : List Row) → Rest rs → Rest (r ∷ rs)
   unfolding callsOf runLeft Option·elim
-  first-follows r rs g x y h = by (callOf texts (roomOf x) r) refl
+  first-follows r rs g x y h = by (callOf texts numbers (roomOf x) r) refl
     where
       cs : List Call
-      cs = callsOf texts (roomAfter (roomOf x)) rs
+      cs = callsOf texts numbers (roomAfter (roomOf x)) rs
 
-      by : (o : Option Call) → callOf texts (roomOf x) r ≡ o → Follows y (Option·elim o [] (λ c. c ∷ cs)) x (runLeft (Option·elim o [] (λ c. c ∷ cs)) x)
+      by : (o : Option Call) → callOf texts numbers (roomOf x) r ≡ o → Follows y (Option·elim o [] (λ c. c ∷ cs)) x (runLeft (Option·elim o [] (λ c. c ∷ cs)) x)
       by none e = none-follows y x h
       by (some c) e =
-          let f = call-fits texts (roomOf x) r c e in
+          let f = call-fits texts numbers (roomOf x) r c e in
           more y c x f h cs (runLeft cs (nextLent (callLeft c x)))
-          (subst (λ (n : Room). Follows (calls y c .machine) (callsOf texts n rs) (nextLent (callLeft c x)) (runLeft (callsOf texts n rs) (nextLent (callLeft c x))))
+          (subst (λ (n : Room). Follows (calls y c .machine) (callsOf texts numbers n rs) (nextLent (callLeft c x)) (runLeft (callsOf texts numbers n rs) (nextLent (callLeft c x))))
           (next-room y c x f h) (g (nextLent (callLeft c x)) (calls y c .machine) (next-holds y c x f h)))
 
   rows-follow : (rs : List Row) → Rest rs
@@ -111,13 +109,13 @@ module _ (texts : List ℕ) where
   rows-follow (r ∷ rs) x y h = first-follows r rs (rows-follow rs) x y h
 
 -- 01, State and rule machine: every script, whatever machine the engine holds
-script-follows : (script texts : List ℕ) (x : Lent) → Refines script texts x (runLeft (callsIn script texts (roomOf x)) x)
+script-follows : (script texts numbers : List ℕ) (x : Lent) → Refines script texts numbers x (runLeft (callsIn script texts numbers (roomOf x)) x)
 unfolding callsIn
-script-follows script texts x y h = rows-follow texts (rowsOf script) x y h
+script-follows script texts numbers x y h = rows-follow texts numbers (rowsOf script) x y h
 
-pub ran-refines : (script texts : List ℕ) (x : Lent) (r : ℕ) (x′ : Lent) → Ran script texts x r x′ → Refines script texts x x′
-ran-refines script texts x r x′ h = subst (Refines script texts x) (sym (h .buffers)) (script-follows script texts x)
+pub ran-refines : (script texts numbers : List ℕ) (x : Lent) (r : ℕ) (x′ : Lent) → Ran script texts numbers x r x′ → Refines script texts numbers x x′
+ran-refines script texts numbers x r x′ h = subst (Refines script texts numbers x) (sym (h .buffers)) (script-follows script texts numbers x)
 
 -- 01, Fresh: on the fresh engine, what the closed machine answers
-pub fresh-follows : (script texts : List ℕ) (x x′ : Lent) → Refines script texts x x′ → engineIn x ≡ fresh → Follows closed (callsIn script texts (roomOf x)) x x′
-fresh-follows script texts x x′ r e = r closed (zeros e)
+pub fresh-follows : (script texts numbers : List ℕ) (x x′ : Lent) → Refines script texts numbers x x′ → ((p : Part) → engineIn x p ≡ fresh p) → Follows closed (callsIn script texts numbers (roomOf x)) x x′
+fresh-follows script texts numbers x x′ r e = r closed (zeros e)

@@ -1,5 +1,5 @@
 -- What running the first row of a script gives: by whether there is one, room for its answer, and whether it fits.
-use mathlib.Core.Path.{_≡_, refl, ap, _∙_}
+use mathlib.Core.Path.{_≡_, refl, sym, ap, _∙_}
 use mathlib.Core.Bool.{Bool, true, false, cond}
 use mathlib.Core.List.{List, _++_}
 use mathlib.Core.Option.{none, some}
@@ -7,15 +7,16 @@ use Prim.Native.Nat.{ℕ, _≤_, _<_}
 use borrow.Author.Tests.{le-leb, lt-leb}
 use lib.IntN.{ℤ}
 use lib.ListN.{length, drop}
-use Rattle.machine.specs.Machine.{Call}
+use Rattle.machine.specs.Machine.{Part, model, state, Call}
+use Rattle.buffers.specs.Parts.{Engine, lentTwo}
 use Rattle.engine.specs.declared.Answer as engine
 use Rattle.script.specs.declared.Row.{Row}
 use Rattle.script.specs.Rows.{rowWidth, answerWidth, rowOf, fits, rowCall, callOf, firstCall}
-use Rattle.script.specs.Run.{Lent, lentOf, roomOf, callLeft, resultNumbers, Called, RowRan}
+use Rattle.script.specs.Run.{Lent, lentOf, roomOf, lengthsOf, callLeft, resultNumbers, Called, RowRan}
 
-module _ (script texts : List ℕ) (x : Lent) where
+module _ (script texts numbers : List ℕ) (x : Lent) where
   abbrev Runs : Bool → Lent → Type 0
-  Runs r y = RowRan (firstCall script texts (roomOf x)) x r y
+  Runs r y = RowRan (firstCall script texts numbers (roomOf x)) x r y
 
   -- there is no row
   pub no-row : length script < rowWidth → Runs false x
@@ -30,9 +31,9 @@ module _ (script texts : List ℕ) (x : Lent) where
 
     module _ (g : answerWidth ≤ length (x .answers)) (row : Row) (e : row ≡ rowOf script) where
       abbrev Fitting : Bool → Type 0
-      Fitting t = fits row (length texts) (length (x .model)) (length (x .state)) (length (x .listings)) ≡ t
+      Fitting t = fits row (length texts) (length numbers) (λ (p : Part). length (x .engine p)) (length (x .outputs)) ≡ t
 
-      tested : (t : Bool) → Fitting t → firstCall script texts (roomOf x) ≡ cond t (some (rowCall texts row)) none
+      tested : (t : Bool) → Fitting t → firstCall script texts numbers (roomOf x) ≡ cond t (some (rowCall texts row)) none
       unfolding firstCall callOf roomOf
       tested t f = rw (le-leb rowWidth (length script) h, le-leb answerWidth (length (x .answers)) g, ← e, f)
 
@@ -46,10 +47,18 @@ module _ (script texts : List ℕ) (x : Lent) where
       unfolding RowRan
       made f y q = rw (tested true f) (refl, q)
 
+-- the lengths of the model and the state are those of the engine that they are
+pub two-fits : (row : Row) (t n o : ℕ) (bs : List ℕ) (zs : List ℤ) (b : Bool) → fits row t n (lengthsOf (length bs) (length zs)) o ≡ b → fits row t n (λ (p : Part). length (lentTwo bs zs p)) o ≡ b
+two-fits row t n o bs zs b e = ap (λ (l : Part → ℕ). fits row t n l o) (λ i p. sym (at p) i) ∙ e
+  where
+    at : (p : Part) → lengthsOf (length bs) (length zs) p ≡ length (lentTwo bs zs p)
+    at model = unfold lengthsOf lentTwo in refl
+    at state = unfold lengthsOf lentTwo in refl
+
 -- the call and the answer together
-pub call-left : (c : Call) (bs : List ℕ) (zs : List ℤ) (ls ns : List ℕ) (r : engine.Answer) (bs′ : List ℕ) (zs′ : List ℤ) (ls′ ns′ : List ℕ)
-    → Called c bs zs ls r bs′ zs′ ls′ → ns′ ≡ resultNumbers r ++ drop answerWidth ns → lentOf bs′ zs′ ls′ ns′ ≡ callLeft c (lentOf bs zs ls ns)
+pub call-left : (c : Call) (x : Engine) (ls ns : List ℕ) (r : engine.Answer) (x′ : Engine) (ls′ ns′ : List ℕ)
+    → Called c x ls r x′ ls′ → ns′ ≡ resultNumbers r ++ drop answerWidth ns → lentOf x′ ls′ ns′ ≡ callLeft c (lentOf x ls ns)
 unfolding callLeft
-call-left c bs zs ls ns r bs′ zs′ ls′ ns′ k e =
+call-left c x ls ns r x′ ls′ ns′ k e =
     let a = e ∙ ap (λ (l : List ℕ). l ++ drop answerWidth ns) (k .numbers) in
-    λ i. lentOf (k .model i) (k .state i) (k .listings i) (a i)
+    λ i. lentOf (λ (p : Part). k .engine p i) (k .outputs i) (a i)

@@ -1,16 +1,16 @@
--- A script: six numbers a row, each row a call on what is lent (01, Rule machine: texts, draws, and the lengths of all that is lent). Definitions only.
-use mathlib.Core.Bool.{Bool, false, cond, _&&_}
+-- A script: nine numbers a row, each row a call on what is lent (01, Rule machine: texts, draws, and the lengths of all that is lent). Definitions only.
+use mathlib.Core.Bool.{Bool, cond, _&&_}
 use mathlib.Core.List.{List, [], _∷_}
 use mathlib.Core.Option.{Option, none, some, Option·elim}
 use Prim.Native.Nat.{ℕ, zero, suc, _+_, _-_, _/_}
 use lib.Dec.{eqb, leb}
 use lib.ListN.{length, getD, take, drop}
-use Rattle.machine.specs.Machine.{listingLength, Call, open′, list′, step′, report′}
+use Rattle.machine.specs.Machine.{listingLength, list′, step′, report′, Ask, open′, on′, Part, model, state, allParts, Call, call}
 use Rattle.script.specs.declared.Row.{Row}
 
 -- numbers of a row, and of an answer
 abbrev pub rowWidth : ℕ
-rowWidth = 6
+rowWidth = 9
 
 abbrev pub answerWidth : ℕ
 answerWidth = 6
@@ -30,9 +30,19 @@ reportKind = 4
 
 -- ---- rows
 
--- kind; a text's place or a draw; the text's size; how many numbers of the model, the state and the listing or report are lent
+-- kind; place and size of a text, and of a list of numbers; a draw; how many numbers of the output and of each part are lent
 unfoldable pub rowOf : List ℕ → Row
-rowOf l = record { kind = getD l 0 0; first = getD l 1 0; size = getD l 2 0; model = getD l 3 0; state = getD l 4 0; listing = getD l 5 0 }
+rowOf l = record {
+  kind = getD l 0 0;
+  text = getD l 1 0;
+  size = getD l 2 0;
+  from = getD l 3 0;
+  count = getD l 4 0;
+  number = getD l 5 0;
+  output = getD l 6 0;
+  model = getD l 7 0;
+  state = getD l 8 0;
+}
 
 -- so many rows, one after the other
 unfoldable pub rows : ℕ → List ℕ → List Row
@@ -43,48 +53,57 @@ rows (suc n) l = rowOf l ∷ rows n (drop rowWidth l)
 unfoldable pub rowsOf : List ℕ → List Row
 rowsOf l = rows (length l / rowWidth) l
 
+-- the parts of the engine, in the order of a row
+abbrev pub rowParts : List Part
+rowParts = model ∷ state ∷ []
+
+-- how many numbers of each a row lends
+unfoldable pub rowLengths : Row → Part → ℕ
+rowLengths r model = r .model
+rowLengths r state = r .state
+
 -- ---- calls
 
--- how many numbers there are to lend of model, state, listings and answers
+-- how many numbers there are to lend of each part, of outputs and of answers
 pub record Room : Type 0 where
-  pub model : ℕ
-  pub state : ℕ
-  pub listings : ℕ
+  pub parts : Part → ℕ
+  pub outputs : ℕ
   pub answers : ℕ
 
--- each row has a listing and an answer of its own
+-- each row has an output, of a listing's length, and an answer of its own
 unfoldable pub roomAfter : Room → Room
-roomAfter x = record { model = x .model; state = x .state; listings = x .listings - listingLength; answers = x .answers - answerWidth }
+roomAfter x = record { parts = x .parts; outputs = x .outputs - listingLength; answers = x .answers - answerWidth }
 
--- a row of one of the four kinds, that asks for no more than there is: a part of the texts, numbers of the model, the state and the listings
-unfoldable pub fits : Row → (texts model state listings : ℕ) → Bool
-fits r texts model state listings =
-    leb (r .model) model && (leb (r .state) state
-    && cond (eqb (r .kind) openKind) (leb (r .first + r .size) texts)
-    (cond (eqb (r .kind) listKind) (leb (r .listing) listings)
-    (cond (eqb (r .kind) stepKind) (leb (r .listing) listings)
-    (cond (eqb (r .kind) reportKind) (leb (r .listing) listings) false))))
+-- a row of one of the kinds, that asks for no more than there is: its text and its list stand in so many bytes and numbers, and what it lends is there
+unfoldable pub fits : Row → (texts numbers : ℕ) → (Part → ℕ) → (outputs : ℕ) → Bool
+fits r texts numbers parts outputs =
+    leb openKind (r .kind) && (leb (r .kind) reportKind
+    && (leb (r .text + r .size) texts && (leb (r .from + r .count) numbers
+    && (allParts (λ (p : Part). leb (rowLengths r p) (parts p)) rowParts && leb (r .output) outputs))))
 
--- 01, Rule machine: the call of a row that fits: a text or a draw, and the lengths of what is lent
+-- 01, Rule machine: what a row that fits asks: a text or a draw
+unfoldable pub rowAsk : List ℕ → Row → Ask
+rowAsk texts r =
+    cond (eqb (r .kind) openKind) (open′ (take (r .size) (drop (r .text) texts)))
+    (cond (eqb (r .kind) listKind) (on′ list′) (cond (eqb (r .kind) reportKind) (on′ report′) (on′ (step′ (r .number)))))
+
+-- 01, Rule machine: its call, with the lengths of what is lent
 unfoldable pub rowCall : List ℕ → Row → Call
-rowCall texts r =
-    cond (eqb (r .kind) openKind) (open′ (take (r .size) (drop (r .first) texts)) (r .model) (r .state))
-    (cond (eqb (r .kind) listKind) (list′ (r .model) (r .state) (r .listing))
-    (cond (eqb (r .kind) reportKind) (report′ (r .model) (r .state) (r .listing)) (step′ (r .model) (r .state) (r .listing) (r .first))))
+rowCall texts r = call (rowAsk texts r) (rowLengths r) (r .output)
 
 -- a row is a call where it fits and there is room for its answer
-unfoldable pub callOf : List ℕ → Room → Row → Option Call
-callOf texts x r = cond (leb answerWidth (x .answers) && fits r (length texts) (x .model) (x .state) (x .listings)) (some (rowCall texts r)) none
+unfoldable pub callOf : (texts numbers : List ℕ) → Room → Row → Option Call
+callOf texts numbers x r = cond (leb answerWidth (x .answers) && fits r (length texts) (length numbers) (x .parts) (x .outputs)) (some (rowCall texts r)) none
 
 -- the call of the first row of a script
-unfoldable pub firstCall : List ℕ → List ℕ → Room → Option Call
-firstCall script texts x = cond (leb rowWidth (length script)) (callOf texts x (rowOf script)) none
+unfoldable pub firstCall : (script texts numbers : List ℕ) → Room → Option Call
+firstCall script texts numbers x = cond (leb rowWidth (length script)) (callOf texts numbers x (rowOf script)) none
 
 -- 01, Rule machine: the calls of rows, up to the first that is none
-unfoldable pub callsOf : List ℕ → Room → List Row → List Call
-callsOf texts x [] = []
-callsOf texts x (r ∷ rs) = Option·elim (callOf texts x r) [] (λ c. c ∷ callsOf texts (roomAfter x) rs)
+unfoldable pub callsOf : (texts numbers : List ℕ) → Room → List Row → List Call
+callsOf texts numbers x [] = []
+callsOf texts numbers x (r ∷ rs) = Option·elim (callOf texts numbers x r) [] (λ c. c ∷ callsOf texts numbers (roomAfter x) rs)
 
--- 01, Rule machine: the calls that a script makes, told by the script, the texts and the lengths of what is lent
-unfoldable pub callsIn : List ℕ → List ℕ → Room → List Call
-callsIn script texts x = callsOf texts x (rowsOf script)
+-- 01, Rule machine: the calls that a script makes, told by the script, the texts, the numbers and the lengths of what is lent
+unfoldable pub callsIn : (script texts numbers : List ℕ) → Room → List Call
+callsIn script texts numbers x = callsOf texts numbers x (rowsOf script)

@@ -1,33 +1,37 @@
-// A script of calls on one engine: six numbers a row, run in order on lent buffers.
+// A script of calls on one engine: nine numbers a row, run in order on lent buffers.
 use engine::Answer;
 use store::Engine;
 ghost use mathlib.Core.Path.{_≡_};
 ghost use mathlib.Core.Bool.{true};
 ghost use mathlib.Core.List.{_++_};
-ghost use Prim.Native.Nat.{_+_, _*_, _≤_, min};
+ghost use Prim.Native.Nat.{ℕ, _+_, _*_, _≤_, min};
 ghost use lib.Dec.{leb};
 ghost use lib.ListN.{length, drop};
+ghost use Rattle.buffers.specs.Parts.{lentTwo};
 ghost use Rattle.script.specs.Rows.{rowWidth, answerWidth, rowOf, fits, rowCall, firstCall};
-ghost use Rattle.script.specs.Run.{lentOf, roomOf, resultNumbers, Called, RowRan, RowRanAt, Ran};
+ghost use Rattle.script.specs.Run.{lentOf, roomOf, lengthsOf, resultNumbers, Called, RowRan, RowRanAt, Ran};
 ghost use Rattle.script.specs.Follows.{Refines};
 
-// A row: the kind of call; the place of its text, or its draw; the text's size; how many numbers of the model, the state and the listing or report it is lent.
+// A row: the kind of call; place and size of its text, and of its list of numbers; its draw; how many numbers of the output, the model and the state it is lent.
 pub struct Row {
     pub kind: u64,
-    pub first: u64,
+    pub text: usize,
     pub size: usize,
+    pub from: usize,
+    pub count: usize,
+    pub number: u64,
+    pub output: usize,
     pub model: usize,
     pub state: usize,
-    pub listing: usize,
 }
 
 impl Row {
     // Numbers of a row, and of an answer.
-    pub const WIDTH: usize = 6;
+    pub const WIDTH: usize = 9;
 
     pub const ANSWER: usize = 6;
 
-    // The kinds of calls.
+    // The kinds of calls, from OPEN to LAST.
     pub const OPEN: u64 = 1;
 
     pub const LIST: u64 = 2;
@@ -35,6 +39,8 @@ impl Row {
     pub const STEP: u64 = 3;
 
     pub const REPORT: u64 = 4;
+
+    pub const LAST: u64 = Row::REPORT;
 }
 
 // The first row of a script.
@@ -44,69 +50,79 @@ fn read_row(script: &[u64]) -> Row
 {
     Row {
         kind: script[0],
-        first: script[1],
+        text: script[1] as usize,
         size: script[2] as usize,
-        model: script[3] as usize,
-        state: script[4] as usize,
-        listing: script[5] as usize,
+        from: script[3] as usize,
+        count: script[4] as usize,
+        number: script[5],
+        output: script[6] as usize,
+        model: script[7] as usize,
+        state: script[8] as usize,
     }
 }
 
-// Whether a part of so many bytes is there.
-fn has_part(texts: usize, first: usize, size: usize) -> bool
-    ensures { λ r. ⌜ r ≡ leb (first + size) texts ⌝ }
+// Whether so many numbers from a place on are among this many.
+fn has_part(all: usize, first: usize, size: usize) -> bool
+    ensures { λ r. ⌜ r ≡ leb (first + size) all ⌝ }
 {
-    if texts < size {
+    if all < size {
         return false;
     }
-    first <= texts - size
+    first <= all - size
 }
 
-// Whether a row is a call on so much: bytes of texts, numbers of a model, a state and listings.
-fn is_call(row: Row, texts: usize, model: usize, state: usize, listings: usize) -> bool
-    ensures { λ r. ⌜ r ≡ fits row texts model state listings ⌝ }
+// Whether a row is a call on so much: bytes of texts, numbers, numbers of a model, a state and outputs.
+fn is_call(
+    row: Row,
+    texts: usize,
+    numbers: usize,
+    model: usize,
+    state: usize,
+    outputs: usize,
+) -> bool
+    ensures { λ r. ⌜ r ≡ fits row texts numbers (lengthsOf model state) outputs ⌝ }
 {
+    if row.kind < Row::OPEN {
+        return false;
+    }
+    if Row::LAST < row.kind {
+        return false;
+    }
+    if !has_part(texts, row.text, row.size) {
+        return false;
+    }
+    if !has_part(numbers, row.from, row.count) {
+        return false;
+    }
     if model < row.model {
         return false;
     }
     if state < row.state {
         return false;
     }
-    if row.kind == Row::OPEN {
-        return has_part(texts, row.first as usize, row.size);
-    }
-    if row.kind == Row::LIST {
-        return row.listing <= listings;
-    }
-    if row.kind == Row::STEP {
-        return row.listing <= listings;
-    }
-    if row.kind == Row::REPORT {
-        return row.listing <= listings;
-    }
-    false
+    row.output <= outputs
 }
 
 // Makes the call of a row.
-fn call(row: Row, texts: &[u8], model: &mut [u8], state: &mut [i64], listings: &mut [u64]) -> Answer
-    requires { ⌜ fits row (length (now texts)) (length (now model)) (length (now state)) (length (now listings)) ≡ true ⌝ }
-    ensures { λ r. ⌜ Called (rowCall (now (texts .entry)) row) (now (model .entry)) (now (state .entry)) (now (listings .entry)) r (now (model .exit)) (now (state .exit)) (now (listings .exit)) ⌝ }
+fn call(row: Row, texts: &[u8], model: &mut [u8], state: &mut [i64], outputs: &mut [u64]) -> Answer
+    requires { ⌜ ((n : ℕ) × (fits row (length (now texts)) n (lengthsOf (length (now model)) (length (now state))) (length (now outputs)) ≡ true)) ⌝ }
+    ensures { λ r. ⌜ Called (rowCall (now (texts .entry)) row) (lentTwo (now (model .entry)) (now (state .entry))) (now (outputs .entry)) r (lentTwo (now (model .exit)) (now (state .exit))) (now (outputs .exit)) ⌝ }
 {
     let m = row.model;
     let s = row.state;
     if row.kind == Row::OPEN {
-        let first = row.first as usize;
+        let first = row.text;
         let end = first + row.size;
         return engine::open(&texts[first..end], &mut model[..m], &mut state[..s]);
     }
-    let l = row.listing;
+    let l = row.output;
     if row.kind == Row::LIST {
-        return engine::list(&model[..m], &state[..s], &mut listings[..l]);
+        return engine::list(&model[..m], &state[..s], &mut outputs[..l]);
     }
     if row.kind == Row::REPORT {
-        return engine::report(&model[..m], &state[..s], &mut listings[..l]);
+        return engine::report(&model[..m], &state[..s], &mut outputs[..l]);
     }
-    engine::step(&model[..m], &mut state[..s], &mut listings[..l], row.first)
+    engine::step(&model[..m], &mut state[..s], &mut outputs[..l], row.number)
 }
 
 // Writes an answer's numbers over the first of answers.
@@ -126,12 +142,13 @@ fn put_answer(answers: &mut [u64], answer: Answer)
 fn run_row(
     script: &[u64],
     texts: &[u8],
+    numbers: &[u64],
     model: &mut [u8],
     state: &mut [i64],
-    listings: &mut [u64],
+    outputs: &mut [u64],
     answers: &mut [u64],
 ) -> bool
-    ensures { λ r. ⌜ RowRan (firstCall (now (script .entry)) (now (texts .entry)) (roomOf (lentOf (now (model .entry)) (now (state .entry)) (now (listings .entry)) (now (answers .entry))))) (lentOf (now (model .entry)) (now (state .entry)) (now (listings .entry)) (now (answers .entry))) r (lentOf (now (model .exit)) (now (state .exit)) (now (listings .exit)) (now (answers .exit))) ⌝ }
+    ensures { λ r. ⌜ RowRan (firstCall (now (script .entry)) (now (texts .entry)) (now (numbers .entry)) (roomOf (lentOf (lentTwo (now (model .entry)) (now (state .entry))) (now (outputs .entry)) (now (answers .entry))))) (lentOf (lentTwo (now (model .entry)) (now (state .entry))) (now (outputs .entry)) (now (answers .entry))) r (lentOf (lentTwo (now (model .exit)) (now (state .exit))) (now (outputs .exit)) (now (answers .exit))) ⌝ }
 {
     if script.len() < Row::WIDTH {
         return false;
@@ -140,10 +157,17 @@ fn run_row(
         return false;
     }
     let row = read_row(script);
-    if !is_call(row, texts.len(), model.len(), state.len(), listings.len()) {
+    if !is_call(
+        row,
+        texts.len(),
+        numbers.len(),
+        model.len(),
+        state.len(),
+        outputs.len(),
+    ) {
         return false;
     }
-    let answer = call(row, texts, model, state, listings);
+    let answer = call(row, texts, model, state, outputs);
     put_answer(answers, answer);
     true
 }
@@ -164,22 +188,24 @@ fn run_at(
     i: usize,
     script: &[u64],
     texts: &[u8],
+    numbers: &[u64],
     model: &mut [u8],
     state: &mut [i64],
-    listings: &mut [u64],
+    outputs: &mut [u64],
     answers: &mut [u64],
 ) -> bool
-    ensures { λ r. ⌜ RowRanAt i (now (script .entry)) (now (texts .entry)) (lentOf (now (model .entry)) (now (state .entry)) (now (listings .entry)) (now (answers .entry))) r (lentOf (now (model .exit)) (now (state .exit)) (now (listings .exit)) (now (answers .exit))) ⌝ }
+    ensures { λ r. ⌜ RowRanAt i (now (script .entry)) (now (texts .entry)) (now (numbers .entry)) (lentOf (lentTwo (now (model .entry)) (now (state .entry))) (now (outputs .entry)) (now (answers .entry))) r (lentOf (lentTwo (now (model .exit)) (now (state .exit))) (now (outputs .exit)) (now (answers .exit))) ⌝ }
 {
     let row = place_of(i, Row::WIDTH, script.len());
-    let listing = place_of(i, Engine::LISTING, listings.len());
+    let output = place_of(i, Engine::LISTING, outputs.len());
     let answer = place_of(i, Row::ANSWER, answers.len());
     run_row(
         &script[row..],
         texts,
+        numbers,
         model,
         state,
-        &mut listings[listing..],
+        &mut outputs[output..],
         &mut answers[answer..],
     )
 }
@@ -188,16 +214,17 @@ fn run_at(
 pub fn run(
     script: &[u64],
     texts: &[u8],
+    numbers: &[u64],
     model: &mut [u8],
     state: &mut [i64],
-    listings: &mut [u64],
+    outputs: &mut [u64],
     answers: &mut [u64],
 ) -> usize
-    ensures { λ r. ⌜ Ran (now (script .entry)) (now (texts .entry)) (lentOf (now (model .entry)) (now (state .entry)) (now (listings .entry)) (now (answers .entry))) r (lentOf (now (model .exit)) (now (state .exit)) (now (listings .exit)) (now (answers .exit))) ⌝ }
-    ensures { λ _. ⌜ Refines (now (script .entry)) (now (texts .entry)) (lentOf (now (model .entry)) (now (state .entry)) (now (listings .entry)) (now (answers .entry))) (lentOf (now (model .exit)) (now (state .exit)) (now (listings .exit)) (now (answers .exit))) ⌝ }
+    ensures { λ r. ⌜ Ran (now (script .entry)) (now (texts .entry)) (now (numbers .entry)) (lentOf (lentTwo (now (model .entry)) (now (state .entry))) (now (outputs .entry)) (now (answers .entry))) r (lentOf (lentTwo (now (model .exit)) (now (state .exit))) (now (outputs .exit)) (now (answers .exit))) ⌝ }
+    ensures { λ _. ⌜ Refines (now (script .entry)) (now (texts .entry)) (now (numbers .entry)) (lentOf (lentTwo (now (model .entry)) (now (state .entry))) (now (outputs .entry)) (now (answers .entry))) (lentOf (lentTwo (now (model .exit)) (now (state .exit))) (now (outputs .exit)) (now (answers .exit))) ⌝ }
 {
     let mut i = 0;
-    while run_at(i, script, texts, model, state, listings, answers) {
+    while run_at(i, script, texts, numbers, model, state, outputs, answers) {
         i += 1;
     }
     i

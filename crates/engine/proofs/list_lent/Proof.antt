@@ -2,11 +2,13 @@
 use native.Mathlib.Omega.{arith}
 use denote.Ref.{now}
 use borrow.Author.Needs.{needs}
+use Rattle.machine.specs.Machine.{list′}
+use Rattle.buffers.specs.Parts.{lentTwo}
+use Rattle.store.specs.Text.{TextOf, TextIn}
+use Rattle.engine.proofs.Shows.{none-gives}
+use Rattle.engine.proofs.Lengths.{none-in, text-in}
 use Rattle.engine.proofs.list_lent.Statement.{statement}
 use Rattle.engine.proofs.list_lent.Tie as tie
-use Rattle.store.specs.Text.{TextOf, TextIn}
-use Rattle.engine.proofs.Shows.{eleven-gives}
-use Rattle.engine.proofs.Lengths.{none-in, text-in}
 
 find-text-requires : tie.Need-find-text-requires
 find-text-requires c κs = search needs
@@ -45,7 +47,10 @@ list-text-requires c κs =
 returns : tie.Need-returns
 unfolding TextIn
 returns c =
-    rw (c .bare .ensures, none-in (now (c .before .before .before .before .before .before .args .model)) (now (c .before .before .before .before .before .before .args .state)) (rw (c .before .enum-told .given .1) at (c .before .before .before .find-text .ensures))) (eleven-gives (now (c .before .before .before .before .before .before .args .model)) (now (c .before .before .before .before .before .before .args .state)) (now (c .before .before .before .before .before .before .args .listing)))
+    let B = now (c .before .before .before .before .before .before .args .model) in
+    let Z = now (c .before .before .before .before .before .before .args .state) in
+    let L = now (c .before .before .before .before .before .before .args .listing) in
+    rw (c .bare .ensures, none-in B Z list′ L (rw (c .before .enum-told .given .1) at (c .before .before .before .find-text .ensures))) (none-gives list′ (lentTwo B Z) L)
 
 same-length : tie.Need-same-length
 same-length c = search needs
@@ -53,8 +58,11 @@ same-length c = search needs
 returns-2 : tie.Need-returns-2
 unfolding TextIn
 returns-2 c =
+    let B = now (c .before .before .before .before .before .before .before .before .before .before .before .args .model) in
+    let Z = now (c .before .before .before .before .before .before .before .before .before .before .before .args .state) in
+    let L = now (c .before .before .before .before .before .before .before .before .before .before .before .args .listing) in
     let h : TextOf (now (c .before .before .before .before .before .before .before .before .before .before .before .args .model)) (c .before .before .before .before .before .before .found .given .0 .0) = rw (c .before .before .before .before .before .before .found .given .1) at (c .before .before .before .before .before .before .before .before .find-text .ensures) in
-    rw (text-in (now (c .before .before .before .before .before .before .before .before .before .before .before .args .model)) (now (c .before .before .before .before .before .before .before .before .before .before .before .args .state)) (c .before .before .before .before .before .before .found .given .0 .0) h) (c .before .before .list-text .ensures (now (c .before .before .before .before .before .before .before .before .before .before .before .args .model)))
+    rw (text-in B Z list′ L (c .before .before .before .before .before .before .found .given .0 .0) h) (c .before .before .list-text .ensures B)
 
 pub list-lent-spec : {M : Type 1} → statement M
 list-lent-spec =

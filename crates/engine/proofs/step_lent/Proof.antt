@@ -1,10 +1,12 @@
 -- The text that the model buffer holds, or 11.
 use native.Mathlib.Omega.{arith}
 use denote.Ref.{now}
-use Rattle.store.specs.Text.{TextOf, TextIn}
-use Rattle.engine.proofs.Drawn.{eleven-steps}
-use Rattle.engine.proofs.Lengths.{none-in, text-in}
 use borrow.Author.Needs.{needs}
+use Rattle.machine.specs.Machine.{step′}
+use Rattle.buffers.specs.Parts.{lentTwo}
+use Rattle.store.specs.Text.{TextOf, TextIn}
+use Rattle.engine.proofs.Shows.{none-gives}
+use Rattle.engine.proofs.Lengths.{none-in, text-in}
 use Rattle.engine.proofs.step_lent.Statement.{statement}
 use Rattle.engine.proofs.step_lent.Tie as tie
 
@@ -47,7 +49,8 @@ unfolding TextIn
 returns c =
     let B = now (c .before .before .before .before .before .before .args .model) in
     let Z = now (c .before .before .before .before .before .before .args .state) in
-    rw (c .bare .ensures, none-in B Z (rw (c .before .enum-told .given .1) at (c .before .before .before .find-text .ensures))) (eleven-steps B Z (now (c .before .before .before .before .before .before .args .listing)) (c .before .before .before .before .before .before .args .draw))
+    let L = now (c .before .before .before .before .before .before .args .listing) in
+    rw (c .bare .ensures, none-in B Z (step′ (c .before .before .before .before .before .before .args .draw)) L (rw (c .before .enum-told .given .1) at (c .before .before .before .find-text .ensures))) (none-gives (step′ (c .before .before .before .before .before .before .args .draw)) (lentTwo B Z) L)
 
 same-length : tie.Need-same-length
 same-length c = search needs
@@ -58,9 +61,11 @@ same-length-2 c = search needs
 returns-2 : tie.Need-returns-2
 unfolding TextIn
 returns-2 c =
-    let h : TextOf (now (c .before .before .before .before .before .before .before .before .before .before .before .before .before .args .model)) (c .before .before .before .before .before .before .before .before .found .given .0 .0) = rw (c .before .before .before .before .before .before .before .before .found .given .1) at (c .before .before .before .before .before .before .before .before .before .before .find-text .ensures) in
     let B = now (c .before .before .before .before .before .before .before .before .before .before .before .before .before .args .model) in
-    rw (text-in B (now (c .before .before .before .before .before .before .before .before .before .before .before .before .before .args .state)) (c .before .before .before .before .before .before .before .before .found .given .0 .0) h) (c .before .before .before .step-text .ensures B)
+    let Z = now (c .before .before .before .before .before .before .before .before .before .before .before .before .before .args .state) in
+    let L = now (c .before .before .before .before .before .before .before .before .before .before .before .before .before .args .listing) in
+    let h : TextOf (now (c .before .before .before .before .before .before .before .before .before .before .before .before .before .args .model)) (c .before .before .before .before .before .before .before .before .found .given .0 .0) = rw (c .before .before .before .before .before .before .before .before .found .given .1) at (c .before .before .before .before .before .before .before .before .before .before .find-text .ensures) in
+    rw (text-in B Z (step′ (c .before .before .before .before .before .before .before .before .before .before .before .before .before .args .draw)) L (c .before .before .before .before .before .before .before .before .found .given .0 .0) h) (c .before .before .before .step-text .ensures B)
 
 pub step-lent-spec : {M : Type 1} → statement M
 step-lent-spec =

@@ -4,14 +4,14 @@ use Prim.Native.Nat.{_-_}
 use native.Mathlib.Omega.{arith}
 use borrow.Author.Needs.{needs}
 use lib.ListN.{length, length-take}
-use Rattle.script.proofs.Called.{row-asks}
-use Rattle.script.proofs.Calling.{asks-text, asks-listing, opening-called, listing-called, reporting-called, stepping-called}
+use Rattle.script.proofs.Calling.{there, opening-called, listing-called, reporting-called, stepping-called}
 use Rattle.script.proofs.call.Statement.{statement}
 use Rattle.script.proofs.call.Tie as tie
 
 add-end : tie.Need-add-end
 add-end c =
-    omega (arith, asks-text (c .before .before .before .before .before .before .args .row) (length (now (c .before .before .before .before .before .before .args .texts))) (length (now (c .before .before .before .before .before .before .args .model))) (length (now (c .before .before .before .before .before .before .args .state))) (length (now (c .before .before .before .before .before .before .args .listings))) (c .before .before .before .before .before .before .pre) (c .before .if1 .taken))
+    let a = there (c .before .before .before .before .before .before .args .row) (length (now (c .before .before .before .before .before .before .args .texts))) (c .before .before .before .before .before .before .pre .0) (length (now (c .before .before .before .before .before .before .args .model))) (length (now (c .before .before .before .before .before .before .args .state))) (length (now (c .before .before .before .before .before .before .args .outputs))) (c .before .before .before .before .before .before .pre .1) in
+    omega (arith, a .text)
 
 sub-open : tie.Need-sub-open
 sub-open c = search needs
@@ -21,23 +21,28 @@ part-open-start c = search needs
 
 part-open-end : tie.Need-part-open-end
 part-open-end c =
-    omega (arith, asks-text (c .before .before .before .before .before .before .args .row) (length (now (c .before .before .before .before .before .before .args .texts))) (length (now (c .before .before .before .before .before .before .args .model))) (length (now (c .before .before .before .before .before .before .args .state))) (length (now (c .before .before .before .before .before .before .args .listings))) (c .before .before .before .before .before .before .pre) (c .before .if1 .taken))
+    let a = there (c .before .before .before .before .before .before .args .row) (length (now (c .before .before .before .before .before .before .args .texts))) (c .before .before .before .before .before .before .pre .0) (length (now (c .before .before .before .before .before .before .args .model))) (length (now (c .before .before .before .before .before .before .args .state))) (length (now (c .before .before .before .before .before .before .args .outputs))) (c .before .before .before .before .before .before .pre .1) in
+    omega (arith, a .text)
 
 slice-relend-prefix-open : tie.Need-slice-relend-prefix-open
 slice-relend-prefix-open c =
-    let a = row-asks (c .before .before .before .before .before .before .before .args .row) (length (now (c .before .before .before .before .before .before .before .args .texts))) (length (now (c .before .before .before .before .before .before .before .args .model))) (length (now (c .before .before .before .before .before .before .before .args .state))) (length (now (c .before .before .before .before .before .before .before .args .listings))) (c .before .before .before .before .before .before .before .pre) in omega (arith, a .model, a .state)
+    let a = there (c .before .before .before .before .before .before .before .args .row) (length (now (c .before .before .before .before .before .before .before .args .texts))) (c .before .before .before .before .before .before .before .pre .0) (length (now (c .before .before .before .before .before .before .before .args .model))) (length (now (c .before .before .before .before .before .before .before .args .state))) (length (now (c .before .before .before .before .before .before .before .args .outputs))) (c .before .before .before .before .before .before .before .pre .1) in
+    omega (arith, a .model, a .state, a .output)
 
 slice-aggregate-open : tie.Need-slice-aggregate-open
 slice-aggregate-open c =
-    let a = row-asks (c .before .before .before .before .before .before .before .before .args .row) (length (now (c .before .before .before .before .before .before .before .before .args .texts))) (length (now (c .before .before .before .before .before .before .before .before .args .model))) (length (now (c .before .before .before .before .before .before .before .before .args .state))) (length (now (c .before .before .before .before .before .before .before .before .args .listings))) (c .before .before .before .before .before .before .before .before .pre) in simp length-take (omega (arith, a .model, a .state))
+    let a = there (c .before .before .before .before .before .before .before .before .args .row) (length (now (c .before .before .before .before .before .before .before .before .args .texts))) (c .before .before .before .before .before .before .before .before .pre .0) (length (now (c .before .before .before .before .before .before .before .before .args .model))) (length (now (c .before .before .before .before .before .before .before .before .args .state))) (length (now (c .before .before .before .before .before .before .before .before .args .outputs))) (c .before .before .before .before .before .before .before .before .pre .1) in
+    simp length-take (omega (arith, a .model, a .state, a .output))
 
 slice-relend-prefix-open-2 : tie.Need-slice-relend-prefix-open-2
 slice-relend-prefix-open-2 c =
-    let a = row-asks (c .before .before .before .before .before .before .before .before .args .row) (length (now (c .before .before .before .before .before .before .before .before .args .texts))) (length (now (c .before .before .before .before .before .before .before .before .args .model))) (length (now (c .before .before .before .before .before .before .before .before .args .state))) (length (now (c .before .before .before .before .before .before .before .before .args .listings))) (c .before .before .before .before .before .before .before .before .pre) in omega (arith, a .model, a .state)
+    let a = there (c .before .before .before .before .before .before .before .before .args .row) (length (now (c .before .before .before .before .before .before .before .before .args .texts))) (c .before .before .before .before .before .before .before .before .pre .0) (length (now (c .before .before .before .before .before .before .before .before .args .model))) (length (now (c .before .before .before .before .before .before .before .before .args .state))) (length (now (c .before .before .before .before .before .before .before .before .args .outputs))) (c .before .before .before .before .before .before .before .before .pre .1) in
+    omega (arith, a .model, a .state, a .output)
 
 slice-aggregate-open-2 : tie.Need-slice-aggregate-open-2
 slice-aggregate-open-2 c =
-    let a = row-asks (c .before .before .before .before .before .before .before .before .before .args .row) (length (now (c .before .before .before .before .before .before .before .before .before .args .texts))) (length (now (c .before .before .before .before .before .before .before .before .before .args .model))) (length (now (c .before .before .before .before .before .before .before .before .before .args .state))) (length (now (c .before .before .before .before .before .before .before .before .before .args .listings))) (c .before .before .before .before .before .before .before .before .before .pre) in simp length-take (omega (arith, a .model, a .state))
+    let a = there (c .before .before .before .before .before .before .before .before .before .args .row) (length (now (c .before .before .before .before .before .before .before .before .before .args .texts))) (c .before .before .before .before .before .before .before .before .before .pre .0) (length (now (c .before .before .before .before .before .before .before .before .before .args .model))) (length (now (c .before .before .before .before .before .before .before .before .before .args .state))) (length (now (c .before .before .before .before .before .before .before .before .before .args .outputs))) (c .before .before .before .before .before .before .before .before .before .pre .1) in
+    simp length-take (omega (arith, a .model, a .state, a .output))
 
 open-requires : tie.Need-open-requires
 open-requires c κs = search needs
@@ -50,31 +55,37 @@ same-length-2 c = search needs
 
 returns : tie.Need-returns
 returns c =
-    opening-called (c .before .before .before .before .before .before .before .before .before .before .before .before .before .args .row) (now (c .before .before .before .before .before .before .before .before .before .before .before .before .before .args .texts)) (now (c .before .before .before .before .before .before .before .before .before .before .before .before .before .args .model)) (now (c .before .before .before .before .before .before .before .before .before .before .before .before .before .args .state)) (now (c .before .before .before .before .before .before .before .before .before .before .before .before .before .args .listings)) (c .before .before .before .«open» .result) (c .before .before .before .before .before .before .before .before .if1 .taken) (c .before .before .before .«open» .last .1 .0) (c .before .before .before .«open» .last .1 .1 .0) (c .before .before .before .«open» .ensures)
+    opening-called (c .before .before .before .before .before .before .before .before .before .before .before .before .before .args .row) (now (c .before .before .before .before .before .before .before .before .before .before .before .before .before .args .texts)) (now (c .before .before .before .before .before .before .before .before .before .before .before .before .before .args .model)) (now (c .before .before .before .before .before .before .before .before .before .before .before .before .before .args .state)) (now (c .before .before .before .before .before .before .before .before .before .before .before .before .before .args .outputs)) (c .before .before .before .«open» .result) (c .before .before .before .before .before .before .before .before .if1 .taken) (c .before .before .before .«open» .last .1 .0) (c .before .before .before .«open» .last .1 .1 .0) (c .before .before .before .«open» .ensures)
 
 slice-reshare-prefix-list : tie.Need-slice-reshare-prefix-list
 slice-reshare-prefix-list c =
-    let a = row-asks (c .before .before .before .before .before .before .before .args .row) (length (now (c .before .before .before .before .before .before .before .args .texts))) (length (now (c .before .before .before .before .before .before .before .args .model))) (length (now (c .before .before .before .before .before .before .before .args .state))) (length (now (c .before .before .before .before .before .before .before .args .listings))) (c .before .before .before .before .before .before .before .pre) in omega (arith, a .model, a .state)
+    let a = there (c .before .before .before .before .before .before .before .args .row) (length (now (c .before .before .before .before .before .before .before .args .texts))) (c .before .before .before .before .before .before .before .pre .0) (length (now (c .before .before .before .before .before .before .before .args .model))) (length (now (c .before .before .before .before .before .before .before .args .state))) (length (now (c .before .before .before .before .before .before .before .args .outputs))) (c .before .before .before .before .before .before .before .pre .1) in
+    omega (arith, a .model, a .state, a .output)
 
 slice-aggregate-list : tie.Need-slice-aggregate-list
 slice-aggregate-list c =
-    let a = row-asks (c .before .before .before .before .before .before .before .before .args .row) (length (now (c .before .before .before .before .before .before .before .before .args .texts))) (length (now (c .before .before .before .before .before .before .before .before .args .model))) (length (now (c .before .before .before .before .before .before .before .before .args .state))) (length (now (c .before .before .before .before .before .before .before .before .args .listings))) (c .before .before .before .before .before .before .before .before .pre) in simp length-take (omega (arith, a .model, a .state))
+    let a = there (c .before .before .before .before .before .before .before .before .args .row) (length (now (c .before .before .before .before .before .before .before .before .args .texts))) (c .before .before .before .before .before .before .before .before .pre .0) (length (now (c .before .before .before .before .before .before .before .before .args .model))) (length (now (c .before .before .before .before .before .before .before .before .args .state))) (length (now (c .before .before .before .before .before .before .before .before .args .outputs))) (c .before .before .before .before .before .before .before .before .pre .1) in
+    simp length-take (omega (arith, a .model, a .state, a .output))
 
 slice-reshare-prefix-list-2 : tie.Need-slice-reshare-prefix-list-2
 slice-reshare-prefix-list-2 c =
-    let a = row-asks (c .before .before .before .before .before .before .before .before .args .row) (length (now (c .before .before .before .before .before .before .before .before .args .texts))) (length (now (c .before .before .before .before .before .before .before .before .args .model))) (length (now (c .before .before .before .before .before .before .before .before .args .state))) (length (now (c .before .before .before .before .before .before .before .before .args .listings))) (c .before .before .before .before .before .before .before .before .pre) in omega (arith, a .model, a .state)
+    let a = there (c .before .before .before .before .before .before .before .before .args .row) (length (now (c .before .before .before .before .before .before .before .before .args .texts))) (c .before .before .before .before .before .before .before .before .pre .0) (length (now (c .before .before .before .before .before .before .before .before .args .model))) (length (now (c .before .before .before .before .before .before .before .before .args .state))) (length (now (c .before .before .before .before .before .before .before .before .args .outputs))) (c .before .before .before .before .before .before .before .before .pre .1) in
+    omega (arith, a .model, a .state, a .output)
 
 slice-aggregate-list-2 : tie.Need-slice-aggregate-list-2
 slice-aggregate-list-2 c =
-    let a = row-asks (c .before .before .before .before .before .before .before .before .before .args .row) (length (now (c .before .before .before .before .before .before .before .before .before .args .texts))) (length (now (c .before .before .before .before .before .before .before .before .before .args .model))) (length (now (c .before .before .before .before .before .before .before .before .before .args .state))) (length (now (c .before .before .before .before .before .before .before .before .before .args .listings))) (c .before .before .before .before .before .before .before .before .before .pre) in simp length-take (omega (arith, a .model, a .state))
+    let a = there (c .before .before .before .before .before .before .before .before .before .args .row) (length (now (c .before .before .before .before .before .before .before .before .before .args .texts))) (c .before .before .before .before .before .before .before .before .before .pre .0) (length (now (c .before .before .before .before .before .before .before .before .before .args .model))) (length (now (c .before .before .before .before .before .before .before .before .before .args .state))) (length (now (c .before .before .before .before .before .before .before .before .before .args .outputs))) (c .before .before .before .before .before .before .before .before .before .pre .1) in
+    simp length-take (omega (arith, a .model, a .state, a .output))
 
 slice-relend-prefix-list : tie.Need-slice-relend-prefix-list
 slice-relend-prefix-list c =
-    let a = asks-listing (c .before .before .before .before .before .before .before .before .before .args .row) (length (now (c .before .before .before .before .before .before .before .before .before .args .texts))) (length (now (c .before .before .before .before .before .before .before .before .before .args .model))) (length (now (c .before .before .before .before .before .before .before .before .before .args .state))) (length (now (c .before .before .before .before .before .before .before .before .before .args .listings))) (c .before .before .before .before .before .before .before .before .before .pre) (c .before .before .before .before .if1 .left) in omega arith
+    let a = there (c .before .before .before .before .before .before .before .before .before .args .row) (length (now (c .before .before .before .before .before .before .before .before .before .args .texts))) (c .before .before .before .before .before .before .before .before .before .pre .0) (length (now (c .before .before .before .before .before .before .before .before .before .args .model))) (length (now (c .before .before .before .before .before .before .before .before .before .args .state))) (length (now (c .before .before .before .before .before .before .before .before .before .args .outputs))) (c .before .before .before .before .before .before .before .before .before .pre .1) in
+    omega (arith, a .model, a .state, a .output)
 
 slice-aggregate-list-3 : tie.Need-slice-aggregate-list-3
 slice-aggregate-list-3 c =
-    let a = asks-listing (c .before .before .before .before .before .before .before .before .before .before .args .row) (length (now (c .before .before .before .before .before .before .before .before .before .before .args .texts))) (length (now (c .before .before .before .before .before .before .before .before .before .before .args .model))) (length (now (c .before .before .before .before .before .before .before .before .before .before .args .state))) (length (now (c .before .before .before .before .before .before .before .before .before .before .args .listings))) (c .before .before .before .before .before .before .before .before .before .before .pre) (c .before .before .before .before .before .if1 .left) in simp length-take (omega arith)
+    let a = there (c .before .before .before .before .before .before .before .before .before .before .args .row) (length (now (c .before .before .before .before .before .before .before .before .before .before .args .texts))) (c .before .before .before .before .before .before .before .before .before .before .pre .0) (length (now (c .before .before .before .before .before .before .before .before .before .before .args .model))) (length (now (c .before .before .before .before .before .before .before .before .before .before .args .state))) (length (now (c .before .before .before .before .before .before .before .before .before .before .args .outputs))) (c .before .before .before .before .before .before .before .before .before .before .pre .1) in
+    simp length-take (omega (arith, a .model, a .state, a .output))
 
 list-requires : tie.Need-list-requires
 list-requires c κs = search needs
@@ -90,31 +101,37 @@ same-length-5 c = search needs
 
 returns-2 : tie.Need-returns-2
 returns-2 c =
-    listing-called (c .before .before .before .before .before .before .before .before .before .before .before .before .before .args .row) (now (c .before .before .before .before .before .before .before .before .before .before .before .before .before .args .texts)) (now (c .before .before .before .before .before .before .before .before .before .before .before .before .before .args .model)) (now (c .before .before .before .before .before .before .before .before .before .before .before .before .before .args .state)) (now (c .before .before .before .before .before .before .before .before .before .before .before .before .before .args .listings)) (c .before .before .list .result) (c .before .before .before .before .before .before .before .before .if1 .left) (c .before .before .before .before .before .before .if2 .taken) (c .before .before .list .last .1 .1 .0) (c .before .before .list .ensures)
+    listing-called (c .before .before .before .before .before .before .before .before .before .before .before .before .before .args .row) (now (c .before .before .before .before .before .before .before .before .before .before .before .before .before .args .texts)) (now (c .before .before .before .before .before .before .before .before .before .before .before .before .before .args .model)) (now (c .before .before .before .before .before .before .before .before .before .before .before .before .before .args .state)) (now (c .before .before .before .before .before .before .before .before .before .before .before .before .before .args .outputs)) (c .before .before .list .result) (c .before .before .before .before .before .before .before .before .if1 .left) (c .before .before .before .before .before .before .if2 .taken) (c .before .before .list .last .1 .1 .0) (c .before .before .list .ensures)
 
 slice-reshare-prefix-report : tie.Need-slice-reshare-prefix-report
 slice-reshare-prefix-report c =
-    let a = row-asks (c .before .before .before .before .before .before .before .before .before .args .row) (length (now (c .before .before .before .before .before .before .before .before .before .args .texts))) (length (now (c .before .before .before .before .before .before .before .before .before .args .model))) (length (now (c .before .before .before .before .before .before .before .before .before .args .state))) (length (now (c .before .before .before .before .before .before .before .before .before .args .listings))) (c .before .before .before .before .before .before .before .before .before .pre) in omega (arith, a .model, a .state)
+    let a = there (c .before .before .before .before .before .before .before .before .before .args .row) (length (now (c .before .before .before .before .before .before .before .before .before .args .texts))) (c .before .before .before .before .before .before .before .before .before .pre .0) (length (now (c .before .before .before .before .before .before .before .before .before .args .model))) (length (now (c .before .before .before .before .before .before .before .before .before .args .state))) (length (now (c .before .before .before .before .before .before .before .before .before .args .outputs))) (c .before .before .before .before .before .before .before .before .before .pre .1) in
+    omega (arith, a .model, a .state, a .output)
 
 slice-aggregate-report : tie.Need-slice-aggregate-report
 slice-aggregate-report c =
-    let a = row-asks (c .before .before .before .before .before .before .before .before .before .before .args .row) (length (now (c .before .before .before .before .before .before .before .before .before .before .args .texts))) (length (now (c .before .before .before .before .before .before .before .before .before .before .args .model))) (length (now (c .before .before .before .before .before .before .before .before .before .before .args .state))) (length (now (c .before .before .before .before .before .before .before .before .before .before .args .listings))) (c .before .before .before .before .before .before .before .before .before .before .pre) in simp length-take (omega (arith, a .model, a .state))
+    let a = there (c .before .before .before .before .before .before .before .before .before .before .args .row) (length (now (c .before .before .before .before .before .before .before .before .before .before .args .texts))) (c .before .before .before .before .before .before .before .before .before .before .pre .0) (length (now (c .before .before .before .before .before .before .before .before .before .before .args .model))) (length (now (c .before .before .before .before .before .before .before .before .before .before .args .state))) (length (now (c .before .before .before .before .before .before .before .before .before .before .args .outputs))) (c .before .before .before .before .before .before .before .before .before .before .pre .1) in
+    simp length-take (omega (arith, a .model, a .state, a .output))
 
 slice-reshare-prefix-report-2 : tie.Need-slice-reshare-prefix-report-2
 slice-reshare-prefix-report-2 c =
-    let a = row-asks (c .before .before .before .before .before .before .before .before .before .before .args .row) (length (now (c .before .before .before .before .before .before .before .before .before .before .args .texts))) (length (now (c .before .before .before .before .before .before .before .before .before .before .args .model))) (length (now (c .before .before .before .before .before .before .before .before .before .before .args .state))) (length (now (c .before .before .before .before .before .before .before .before .before .before .args .listings))) (c .before .before .before .before .before .before .before .before .before .before .pre) in omega (arith, a .model, a .state)
+    let a = there (c .before .before .before .before .before .before .before .before .before .before .args .row) (length (now (c .before .before .before .before .before .before .before .before .before .before .args .texts))) (c .before .before .before .before .before .before .before .before .before .before .pre .0) (length (now (c .before .before .before .before .before .before .before .before .before .before .args .model))) (length (now (c .before .before .before .before .before .before .before .before .before .before .args .state))) (length (now (c .before .before .before .before .before .before .before .before .before .before .args .outputs))) (c .before .before .before .before .before .before .before .before .before .before .pre .1) in
+    omega (arith, a .model, a .state, a .output)
 
 slice-aggregate-report-2 : tie.Need-slice-aggregate-report-2
 slice-aggregate-report-2 c =
-    let a = row-asks (c .before .before .before .before .before .before .before .before .before .before .before .args .row) (length (now (c .before .before .before .before .before .before .before .before .before .before .before .args .texts))) (length (now (c .before .before .before .before .before .before .before .before .before .before .before .args .model))) (length (now (c .before .before .before .before .before .before .before .before .before .before .before .args .state))) (length (now (c .before .before .before .before .before .before .before .before .before .before .before .args .listings))) (c .before .before .before .before .before .before .before .before .before .before .before .pre) in simp length-take (omega (arith, a .model, a .state))
+    let a = there (c .before .before .before .before .before .before .before .before .before .before .before .args .row) (length (now (c .before .before .before .before .before .before .before .before .before .before .before .args .texts))) (c .before .before .before .before .before .before .before .before .before .before .before .pre .0) (length (now (c .before .before .before .before .before .before .before .before .before .before .before .args .model))) (length (now (c .before .before .before .before .before .before .before .before .before .before .before .args .state))) (length (now (c .before .before .before .before .before .before .before .before .before .before .before .args .outputs))) (c .before .before .before .before .before .before .before .before .before .before .before .pre .1) in
+    simp length-take (omega (arith, a .model, a .state, a .output))
 
 slice-relend-prefix-report : tie.Need-slice-relend-prefix-report
 slice-relend-prefix-report c =
-    let a = asks-listing (c .before .before .before .before .before .before .before .before .before .before .before .args .row) (length (now (c .before .before .before .before .before .before .before .before .before .before .before .args .texts))) (length (now (c .before .before .before .before .before .before .before .before .before .before .before .args .model))) (length (now (c .before .before .before .before .before .before .before .before .before .before .before .args .state))) (length (now (c .before .before .before .before .before .before .before .before .before .before .before .args .listings))) (c .before .before .before .before .before .before .before .before .before .before .before .pre) (c .before .before .before .before .before .before .if1 .left) in omega arith
+    let a = there (c .before .before .before .before .before .before .before .before .before .before .before .args .row) (length (now (c .before .before .before .before .before .before .before .before .before .before .before .args .texts))) (c .before .before .before .before .before .before .before .before .before .before .before .pre .0) (length (now (c .before .before .before .before .before .before .before .before .before .before .before .args .model))) (length (now (c .before .before .before .before .before .before .before .before .before .before .before .args .state))) (length (now (c .before .before .before .before .before .before .before .before .before .before .before .args .outputs))) (c .before .before .before .before .before .before .before .before .before .before .before .pre .1) in
+    omega (arith, a .model, a .state, a .output)
 
 slice-aggregate-report-3 : tie.Need-slice-aggregate-report-3
 slice-aggregate-report-3 c =
-    let a = asks-listing (c .before .before .before .before .before .before .before .before .before .before .before .before .args .row) (length (now (c .before .before .before .before .before .before .before .before .before .before .before .before .args .texts))) (length (now (c .before .before .before .before .before .before .before .before .before .before .before .before .args .model))) (length (now (c .before .before .before .before .before .before .before .before .before .before .before .before .args .state))) (length (now (c .before .before .before .before .before .before .before .before .before .before .before .before .args .listings))) (c .before .before .before .before .before .before .before .before .before .before .before .before .pre) (c .before .before .before .before .before .before .before .if1 .left) in simp length-take (omega arith)
+    let a = there (c .before .before .before .before .before .before .before .before .before .before .before .before .args .row) (length (now (c .before .before .before .before .before .before .before .before .before .before .before .before .args .texts))) (c .before .before .before .before .before .before .before .before .before .before .before .before .pre .0) (length (now (c .before .before .before .before .before .before .before .before .before .before .before .before .args .model))) (length (now (c .before .before .before .before .before .before .before .before .before .before .before .before .args .state))) (length (now (c .before .before .before .before .before .before .before .before .before .before .before .before .args .outputs))) (c .before .before .before .before .before .before .before .before .before .before .before .before .pre .1) in
+    simp length-take (omega (arith, a .model, a .state, a .output))
 
 report-requires : tie.Need-report-requires
 report-requires c κs = search needs
@@ -130,31 +147,37 @@ same-length-8 c = search needs
 
 returns-3 : tie.Need-returns-3
 returns-3 c =
-    reporting-called (c .before .before .before .before .before .before .before .before .before .before .before .before .before .before .before .args .row) (now (c .before .before .before .before .before .before .before .before .before .before .before .before .before .before .before .args .texts)) (now (c .before .before .before .before .before .before .before .before .before .before .before .before .before .before .before .args .model)) (now (c .before .before .before .before .before .before .before .before .before .before .before .before .before .before .before .args .state)) (now (c .before .before .before .before .before .before .before .before .before .before .before .before .before .before .before .args .listings)) (c .before .before .report .result) (c .before .before .before .before .before .before .before .before .before .before .if1 .left) (c .before .before .before .before .before .before .before .before .if2 .left) (c .before .before .before .before .before .before .if3 .taken) (c .before .before .report .last .1 .1 .0) (c .before .before .report .ensures)
+    reporting-called (c .before .before .before .before .before .before .before .before .before .before .before .before .before .before .before .args .row) (now (c .before .before .before .before .before .before .before .before .before .before .before .before .before .before .before .args .texts)) (now (c .before .before .before .before .before .before .before .before .before .before .before .before .before .before .before .args .model)) (now (c .before .before .before .before .before .before .before .before .before .before .before .before .before .before .before .args .state)) (now (c .before .before .before .before .before .before .before .before .before .before .before .before .before .before .before .args .outputs)) (c .before .before .report .result) (c .before .before .before .before .before .before .before .before .before .before .if1 .left) (c .before .before .before .before .before .before .before .before .if2 .left) (c .before .before .before .before .before .before .if3 .taken) (c .before .before .report .last .1 .1 .0) (c .before .before .report .ensures)
 
 slice-reshare-prefix-step : tie.Need-slice-reshare-prefix-step
 slice-reshare-prefix-step c =
-    let a = row-asks (c .before .before .before .before .before .before .before .before .before .args .row) (length (now (c .before .before .before .before .before .before .before .before .before .args .texts))) (length (now (c .before .before .before .before .before .before .before .before .before .args .model))) (length (now (c .before .before .before .before .before .before .before .before .before .args .state))) (length (now (c .before .before .before .before .before .before .before .before .before .args .listings))) (c .before .before .before .before .before .before .before .before .before .pre) in omega (arith, a .model, a .state)
+    let a = there (c .before .before .before .before .before .before .before .before .before .args .row) (length (now (c .before .before .before .before .before .before .before .before .before .args .texts))) (c .before .before .before .before .before .before .before .before .before .pre .0) (length (now (c .before .before .before .before .before .before .before .before .before .args .model))) (length (now (c .before .before .before .before .before .before .before .before .before .args .state))) (length (now (c .before .before .before .before .before .before .before .before .before .args .outputs))) (c .before .before .before .before .before .before .before .before .before .pre .1) in
+    omega (arith, a .model, a .state, a .output)
 
 slice-aggregate-step : tie.Need-slice-aggregate-step
 slice-aggregate-step c =
-    let a = row-asks (c .before .before .before .before .before .before .before .before .before .before .args .row) (length (now (c .before .before .before .before .before .before .before .before .before .before .args .texts))) (length (now (c .before .before .before .before .before .before .before .before .before .before .args .model))) (length (now (c .before .before .before .before .before .before .before .before .before .before .args .state))) (length (now (c .before .before .before .before .before .before .before .before .before .before .args .listings))) (c .before .before .before .before .before .before .before .before .before .before .pre) in simp length-take (omega (arith, a .model, a .state))
+    let a = there (c .before .before .before .before .before .before .before .before .before .before .args .row) (length (now (c .before .before .before .before .before .before .before .before .before .before .args .texts))) (c .before .before .before .before .before .before .before .before .before .before .pre .0) (length (now (c .before .before .before .before .before .before .before .before .before .before .args .model))) (length (now (c .before .before .before .before .before .before .before .before .before .before .args .state))) (length (now (c .before .before .before .before .before .before .before .before .before .before .args .outputs))) (c .before .before .before .before .before .before .before .before .before .before .pre .1) in
+    simp length-take (omega (arith, a .model, a .state, a .output))
 
 slice-relend-prefix-step : tie.Need-slice-relend-prefix-step
 slice-relend-prefix-step c =
-    let a = row-asks (c .before .before .before .before .before .before .before .before .before .before .args .row) (length (now (c .before .before .before .before .before .before .before .before .before .before .args .texts))) (length (now (c .before .before .before .before .before .before .before .before .before .before .args .model))) (length (now (c .before .before .before .before .before .before .before .before .before .before .args .state))) (length (now (c .before .before .before .before .before .before .before .before .before .before .args .listings))) (c .before .before .before .before .before .before .before .before .before .before .pre) in omega (arith, a .model, a .state)
+    let a = there (c .before .before .before .before .before .before .before .before .before .before .args .row) (length (now (c .before .before .before .before .before .before .before .before .before .before .args .texts))) (c .before .before .before .before .before .before .before .before .before .before .pre .0) (length (now (c .before .before .before .before .before .before .before .before .before .before .args .model))) (length (now (c .before .before .before .before .before .before .before .before .before .before .args .state))) (length (now (c .before .before .before .before .before .before .before .before .before .before .args .outputs))) (c .before .before .before .before .before .before .before .before .before .before .pre .1) in
+    omega (arith, a .model, a .state, a .output)
 
 slice-aggregate-step-2 : tie.Need-slice-aggregate-step-2
 slice-aggregate-step-2 c =
-    let a = row-asks (c .before .before .before .before .before .before .before .before .before .before .before .args .row) (length (now (c .before .before .before .before .before .before .before .before .before .before .before .args .texts))) (length (now (c .before .before .before .before .before .before .before .before .before .before .before .args .model))) (length (now (c .before .before .before .before .before .before .before .before .before .before .before .args .state))) (length (now (c .before .before .before .before .before .before .before .before .before .before .before .args .listings))) (c .before .before .before .before .before .before .before .before .before .before .before .pre) in simp length-take (omega (arith, a .model, a .state))
+    let a = there (c .before .before .before .before .before .before .before .before .before .before .before .args .row) (length (now (c .before .before .before .before .before .before .before .before .before .before .before .args .texts))) (c .before .before .before .before .before .before .before .before .before .before .before .pre .0) (length (now (c .before .before .before .before .before .before .before .before .before .before .before .args .model))) (length (now (c .before .before .before .before .before .before .before .before .before .before .before .args .state))) (length (now (c .before .before .before .before .before .before .before .before .before .before .before .args .outputs))) (c .before .before .before .before .before .before .before .before .before .before .before .pre .1) in
+    simp length-take (omega (arith, a .model, a .state, a .output))
 
 slice-relend-prefix-step-2 : tie.Need-slice-relend-prefix-step-2
 slice-relend-prefix-step-2 c =
-    let a = asks-listing (c .before .before .before .before .before .before .before .before .before .before .before .args .row) (length (now (c .before .before .before .before .before .before .before .before .before .before .before .args .texts))) (length (now (c .before .before .before .before .before .before .before .before .before .before .before .args .model))) (length (now (c .before .before .before .before .before .before .before .before .before .before .before .args .state))) (length (now (c .before .before .before .before .before .before .before .before .before .before .before .args .listings))) (c .before .before .before .before .before .before .before .before .before .before .before .pre) (c .before .before .before .before .before .before .if1 .left) in omega arith
+    let a = there (c .before .before .before .before .before .before .before .before .before .before .before .args .row) (length (now (c .before .before .before .before .before .before .before .before .before .before .before .args .texts))) (c .before .before .before .before .before .before .before .before .before .before .before .pre .0) (length (now (c .before .before .before .before .before .before .before .before .before .before .before .args .model))) (length (now (c .before .before .before .before .before .before .before .before .before .before .before .args .state))) (length (now (c .before .before .before .before .before .before .before .before .before .before .before .args .outputs))) (c .before .before .before .before .before .before .before .before .before .before .before .pre .1) in
+    omega (arith, a .model, a .state, a .output)
 
 slice-aggregate-step-3 : tie.Need-slice-aggregate-step-3
 slice-aggregate-step-3 c =
-    let a = asks-listing (c .before .before .before .before .before .before .before .before .before .before .before .before .args .row) (length (now (c .before .before .before .before .before .before .before .before .before .before .before .before .args .texts))) (length (now (c .before .before .before .before .before .before .before .before .before .before .before .before .args .model))) (length (now (c .before .before .before .before .before .before .before .before .before .before .before .before .args .state))) (length (now (c .before .before .before .before .before .before .before .before .before .before .before .before .args .listings))) (c .before .before .before .before .before .before .before .before .before .before .before .before .pre) (c .before .before .before .before .before .before .before .if1 .left) in simp length-take (omega arith)
+    let a = there (c .before .before .before .before .before .before .before .before .before .before .before .before .args .row) (length (now (c .before .before .before .before .before .before .before .before .before .before .before .before .args .texts))) (c .before .before .before .before .before .before .before .before .before .before .before .before .pre .0) (length (now (c .before .before .before .before .before .before .before .before .before .before .before .before .args .model))) (length (now (c .before .before .before .before .before .before .before .before .before .before .before .before .args .state))) (length (now (c .before .before .before .before .before .before .before .before .before .before .before .before .args .outputs))) (c .before .before .before .before .before .before .before .before .before .before .before .before .pre .1) in
+    simp length-take (omega (arith, a .model, a .state, a .output))
 
 step-requires : tie.Need-step-requires
 step-requires c κs = search needs
@@ -170,7 +193,7 @@ same-length-11 c = search needs
 
 returns-4 : tie.Need-returns-4
 returns-4 c =
-    stepping-called (c .before .before .before .before .before .before .before .before .before .before .before .before .before .before .before .before .args .row) (now (c .before .before .before .before .before .before .before .before .before .before .before .before .before .before .before .before .args .texts)) (now (c .before .before .before .before .before .before .before .before .before .before .before .before .before .before .before .before .args .model)) (now (c .before .before .before .before .before .before .before .before .before .before .before .before .before .before .before .before .args .state)) (now (c .before .before .before .before .before .before .before .before .before .before .before .before .before .before .before .before .args .listings)) (c .before .before .before .step .result) (c .before .before .before .before .before .before .before .before .before .before .before .if1 .left) (c .before .before .before .before .before .before .before .before .before .if2 .left) (c .before .before .before .before .before .before .before .if3 .left) (c .before .before .before .step .last .1 .0) (c .before .before .before .step .last .1 .1 .0) (c .before .before .before .step .ensures)
+    stepping-called (c .before .before .before .before .before .before .before .before .before .before .before .before .before .before .before .before .args .row) (now (c .before .before .before .before .before .before .before .before .before .before .before .before .before .before .before .before .args .texts)) (now (c .before .before .before .before .before .before .before .before .before .before .before .before .before .before .before .before .args .model)) (now (c .before .before .before .before .before .before .before .before .before .before .before .before .before .before .before .before .args .state)) (now (c .before .before .before .before .before .before .before .before .before .before .before .before .before .before .before .before .args .outputs)) (c .before .before .before .step .result) (c .before .before .before .before .before .before .before .before .before .before .before .if1 .left) (c .before .before .before .before .before .before .before .before .before .if2 .left) (c .before .before .before .before .before .before .before .if3 .left) (c .before .before .before .step .last .1 .0) (c .before .before .before .step .last .1 .1 .0) (c .before .before .before .step .ensures)
 
 pub call-spec : {M : Type 1} → statement M
 call-spec =

@@ -1,4 +1,4 @@
--- The first six numbers, each where the definition reads it.
+-- The first nine numbers, each where the definition reads it.
 use Prim.Native.Nat.{_-_}
 use borrow.Author.Needs.{needs}
 use Rattle.script.specs.Rows.{rowOf}
@@ -11,22 +11,30 @@ shared-slice-read-t3 c = search needs
 shared-slice-read-t5 : tie.Need-shared-slice-read-t5
 shared-slice-read-t5 c = search needs
 
-shared-slice-read-t7 : tie.Need-shared-slice-read-t7
-shared-slice-read-t7 c = search needs
+shared-slice-read-t8 : tie.Need-shared-slice-read-t8
+shared-slice-read-t8 c = search needs
 
-shared-slice-read-t10 : tie.Need-shared-slice-read-t10
-shared-slice-read-t10 c = search needs
+shared-slice-read-t11 : tie.Need-shared-slice-read-t11
+shared-slice-read-t11 c = search needs
 
-shared-slice-read-t13 : tie.Need-shared-slice-read-t13
-shared-slice-read-t13 c = search needs
+shared-slice-read-t14 : tie.Need-shared-slice-read-t14
+shared-slice-read-t14 c = search needs
 
-shared-slice-read-t16 : tie.Need-shared-slice-read-t16
-shared-slice-read-t16 c = search needs
+shared-slice-read-t17 : tie.Need-shared-slice-read-t17
+shared-slice-read-t17 c = search needs
+
+shared-slice-read-t19 : tie.Need-shared-slice-read-t19
+shared-slice-read-t19 c = search needs
+
+shared-slice-read-t22 : tie.Need-shared-slice-read-t22
+shared-slice-read-t22 c = search needs
+
+shared-slice-read-t25 : tie.Need-shared-slice-read-t25
+shared-slice-read-t25 c = search needs
 
 returns : tie.Need-returns
 unfolding rowOf
-returns c =
-    search needs
+returns c = search needs
 
 pub read-row-spec : {M : Type 1} → statement M
 read-row-spec =
@@ -34,8 +42,11 @@ read-row-spec =
     (tie.spec
     shared-slice-read-t3
     shared-slice-read-t5
-    shared-slice-read-t7
-    shared-slice-read-t10
-    shared-slice-read-t13
-    shared-slice-read-t16
+    shared-slice-read-t8
+    shared-slice-read-t11
+    shared-slice-read-t14
+    shared-slice-read-t17
+    shared-slice-read-t19
+    shared-slice-read-t22
+    shared-slice-read-t25
     returns)

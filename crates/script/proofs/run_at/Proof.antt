@@ -1,7 +1,8 @@
--- The row's parts of listings and answers, lent and put back.
+-- The row's parts of outputs and answers, lent and put back.
 use denote.Ref.{now}
 use Prim.Native.Nat.{_-_}
 use borrow.Author.Needs.{needs}
+use Rattle.buffers.specs.Parts.{lentTwo}
 use Rattle.script.proofs.Places.{ran-at}
 use Rattle.script.proofs.run_at.Statement.{statement}
 use Rattle.script.proofs.run_at.Tie as tie
@@ -68,9 +69,11 @@ same-length-4 c = search needs
 
 returns : tie.Need-returns
 returns c =
-    ran-at (c .before .before .before .before .before .before .before .before .before .before .before .before .before .before .before .before .before .before .before .before .before .args .i) (c .before .before .before .before .before .before .before .before .before .before .before .before .before .before .before .place-of .result) (c .before .before .before .before .before .before .before .before .before .before .before .before .before .before .place-of2 .result) (c .before .before .before .before .before .before .before .before .before .before .before .before .before .place-of3 .result) (now (c .before .before .before .before .before .before .before .before .before .before .before .before .before .before .before .before .before .before .before .before .before .args .script)) (now (c .before .before .before .before .before .before .before .before .before .before .before .before .before .before .before .before .before .before .before .before .before .args .texts)) (now (c .before .before .before .before .before .before .before .before .before .before .before .before .before .before .before .before .before .before .before .before .before .args .model)) (now (c .before .before .before .before .before .before .before .before .before .before .before .before .before .before .before .before .before .before .before .before .before .args .state)) (now (c .before .before .before .before .before .before .before .before .before .before .before .before .before .before .before .before .before .before .before .before .before .args .listings)) (now (c .before .before .before .before .before .before .before .before .before .before .before .before .before .before .before .before .before .before .before .before .before .args .answers))
-    (c .before .before .before .before .before .before .before .before .before .before .before .before .before .before .before .place-of .ensures) (c .before .before .before .before .before .before .before .before .before .before .before .before .before .before .place-of2 .ensures) (c .before .before .before .before .before .before .before .before .before .before .before .before .before .place-of3 .ensures) (c .before .before .before .before .before .before .before .run-row .result) (c .before .before .before .before .before .before .before .run-row .last .1 .1 .0) (c .before .before .before .before .before .before .before .run-row .last .1 .1 .1 .0) (c .before .before .before .before .before .before .before .run-row .last .1 .1 .1 .1 .0) (c .before .before .before .before .before .before .before .run-row .last .1 .1 .1 .1 .1 .0)
-    (c .before .before .before .before .before .before .before .run-row .kept .1 .1 .1 .1 .0) (c .before .before .before .before .before .before .before .run-row .kept .1 .1 .1 .1 .1 .0) (c .before .before .before .before .before .before .before .run-row .ensures)
+    let B = now (c .before .before .before .before .before .before .before .before .before .before .before .before .before .before .before .before .before .before .before .before .before .before .args .model) in
+    let Z = now (c .before .before .before .before .before .before .before .before .before .before .before .before .before .before .before .before .before .before .before .before .before .before .args .state) in
+    ran-at (c .before .before .before .before .before .before .before .before .before .before .before .before .before .before .before .before .before .before .before .before .before .before .args .i) (c .before .before .before .before .before .before .before .before .before .before .before .before .before .before .before .place-of .result) (c .before .before .before .before .before .before .before .before .before .before .before .before .before .before .place-of2 .result) (c .before .before .before .before .before .before .before .before .before .before .before .before .before .place-of3 .result) (now (c .before .before .before .before .before .before .before .before .before .before .before .before .before .before .before .before .before .before .before .before .before .before .args .script)) (now (c .before .before .before .before .before .before .before .before .before .before .before .before .before .before .before .before .before .before .before .before .before .before .args .texts)) (now (c .before .before .before .before .before .before .before .before .before .before .before .before .before .before .before .before .before .before .before .before .before .before .args .numbers)) (lentTwo B Z) (now (c .before .before .before .before .before .before .before .before .before .before .before .before .before .before .before .before .before .before .before .before .before .before .args .outputs)) (now (c .before .before .before .before .before .before .before .before .before .before .before .before .before .before .before .before .before .before .before .before .before .before .args .answers))
+    (c .before .before .before .before .before .before .before .before .before .before .before .before .before .before .before .place-of .ensures) (c .before .before .before .before .before .before .before .before .before .before .before .before .before .before .place-of2 .ensures) (c .before .before .before .before .before .before .before .before .before .before .before .before .before .place-of3 .ensures) (c .before .before .before .before .before .before .before .run-row .result) (lentTwo (c .before .before .before .before .before .before .before .run-row .last .1 .1 .1 .0) (c .before .before .before .before .before .before .before .run-row .last .1 .1 .1 .1 .0)) (c .before .before .before .before .before .before .before .run-row .last .1 .1 .1 .1 .1 .0) (c .before .before .before .before .before .before .before .run-row .last .1 .1 .1 .1 .1 .1 .0)
+    (c .before .before .before .before .before .before .before .run-row .kept .1 .1 .1 .1 .1 .0) (c .before .before .before .before .before .before .before .run-row .kept .1 .1 .1 .1 .1 .1 .0) (c .before .before .before .before .before .before .before .run-row .ensures)
 
 pub run-at-spec : {M : Type 1} → statement M
 run-at-spec =

@@ -10,7 +10,7 @@ enum-known-listed c = search needs
 
 returns : tie.Need-returns
 returns c =
-    λ m l good f. as-lent (c .before .before .before .before .before .before .args .state .now) m _ _ _ _ _ _ (c .if1 .taken) (rw (c .before .before .listed .given .1) at f)
+    λ m bs l good f. as-lent (c .before .before .before .before .before .before .args .state .now) m _ _ _ bs _ _ _ (c .if1 .taken) (rw (c .before .before .listed .given .1) at f)
 
 clear-from-requires : tie.Need-clear-from-requires
 clear-from-requires c κs = search needs
@@ -28,14 +28,14 @@ same-length c = search needs
 
 returns-2 : tie.Need-returns-2
 returns-2 c =
-    λ m l good f. c .before .before .clear-from .ensures ∙ as-zeros (c .before .before .before .before .before .before .before .before .before .before .args .state .now) m _ _ _ _ _ _ (c .before .before .before .before .if1 .left) (rw (c .before .before .before .before .before .before .listed .given .1) at f)
+    λ m bs l good f. c .before .before .clear-from .ensures ∙ as-zeros (c .before .before .before .before .before .before .before .before .before .before .args .state .now) m _ _ _ bs _ _ _ (c .before .before .before .before .if1 .left) (rw (c .before .before .before .before .before .before .listed .given .1) at f)
 
 same-length-2 : tie.Need-same-length-2
 same-length-2 c = search needs
 
 returns-3 : tie.Need-returns-3
 returns-3 c =
-    λ m l good f. let s = shares-of (c .before .before .before .before .before .before .before .before .before .args .state .now) m good _ _ _ _ (rw (c .before .before .before .before .before .listed2 .given .1) at f) in c .before .before .share .ensures m (s .state) (s .entries) (s .shared) ∙ s .left _
+    λ m bs l good f. let s = shares-of (c .before .before .before .before .before .before .before .before .before .args .state .now) m good _ _ _ _ (rw (c .before .before .before .before .before .listed2 .given .1) at f) in c .before .before .share .ensures m (s .state) (s .entries) (s .shared) ∙ s .left bs _
 
 pub put-report-spec : {M : Type 1} → statement M
 put-report-spec =

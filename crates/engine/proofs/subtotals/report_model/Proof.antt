@@ -28,7 +28,7 @@ returns : tie.Need-returns
 returns c =
     λ m bs h.
     let e = c .before .before .before .before .before .before .before .list-state .ensures m h in
-    rw (c .listed-answer .ensures) (finds-report bs (c .before .before .before .before .before .before .before .before .before .before .before .before .before .args .state .now) (c .before .before .before .before .before .before .before .before .before .before .before .before .before .args .report .now) m (c .before .before .before .before .before .before .before .list-state .result) _ _ _ e (c .before .before .before .put-report .ensures m _ (h .good) e))
+    rw (c .listed-answer .ensures) (finds-report bs (c .before .before .before .before .before .before .before .before .before .before .before .before .before .args .state .now) (c .before .before .before .before .before .before .before .before .before .before .before .before .before .args .report .now) m (c .before .before .before .before .before .before .before .list-state .result) _ _ _ e (c .before .before .before .put-report .ensures m bs _ (h .good) e))
 
 pub report-model-spec : {M : Type 1} → statement M
 report-model-spec =

@@ -1,7 +1,7 @@
 /* Matgravel: an engine for the Beacon Calculus.
  *
- * One engine is a model buffer and a state buffer. A fresh engine has zeros in both. No call keeps anything elsewhere: engines are
- * independent of one another, and a copy of both buffers is a copy of the engine.
+ * One engine is a model buffer, a state buffer and a buffer for saves. A fresh engine has zeros in all. No call keeps anything elsewhere:
+ * engines are independent of one another, and a copy of the buffers is a copy of the engine.
  *
  * Every call may be given any bytes, numbers and lengths: it answers, or refuses with a number, and never reads or writes beyond the
  * lengths given. Each pointer is to as many elements as its length says, is not null, and the buffers of a call do not overlap.
@@ -21,6 +21,7 @@ extern "C" {
 #define MATGRAVEL_STATE 5122
 #define MATGRAVEL_LISTING 7168
 #define MATGRAVEL_REPORT 64
+#define MATGRAVEL_SAVES 40992
 
 /* The listing's entries: how many there may be, and the numbers of one (kind, place, branch, partner, partner branch, pair, weight). */
 #define MATGRAVEL_ENTRIES 1024
@@ -40,11 +41,11 @@ typedef struct {
     uint64_t number, place, branch, count, total, chosen;
 } matgravel_answer;
 
-/* Reads a model text and sets the engine to its start.
+/* Reads a model text, sets the engine to its start and forgets every save.
  * Refusals: 1 a buffer has a wrong length: nothing is changed.
  *   2 more than 16,384 bytes, 3 a byte that no text has, 4 brackets too deep, 5 not a text of the grammar, 6 more than 4,096 tokens,
- *   7 beyond a limit, 8 a name is not new, 9 a name is not given, 10 more than 256 processes: both buffers are zeroed. */
-matgravel_answer matgravel_open(const uint8_t *text, size_t text_len, uint8_t *model, size_t model_len, int64_t *state, size_t state_len);
+ *   7 beyond a limit, 8 a name is not new, 9 a name is not given, 10 more than 256 processes: model, state and saves are zeroed. */
+matgravel_answer matgravel_open(const uint8_t *text, size_t text_len, uint8_t *model, size_t model_len, int64_t *state, size_t state_len, int64_t *saves, size_t saves_len);
 
 /* Lists every transition that can happen next, with its weight. Changes neither model nor state.
  * Refusals: 1 a buffer has a wrong length, 11 the buffers hold no open model with a state of it: the listing is left as it was.
@@ -61,6 +62,19 @@ matgravel_answer matgravel_step(const uint8_t *model, size_t model_len, int64_t 
  * 0 in the text's order; a handshake counts for its sender. The numbers add up to the total. Changes neither model nor state.
  * Refusals: 1 and 11 to 14 as for list, with the report in the place of the listing. */
 matgravel_answer matgravel_report(const uint8_t *model, size_t model_len, const int64_t *state, size_t state_len, uint64_t *report, size_t report_len);
+
+/* Keeps the state under a name, which replaces what was kept under it before; there is room for eight names. Changes the saves alone.
+ * Refusals: 1 a buffer has a wrong length, 11 the buffers hold no open model with a state and saves of it, 20 the name is not 1 to 16
+ *   letters (A to Z, a to z), 22 the name is unknown and eight others are in use. Refused, it changes nothing. */
+matgravel_answer matgravel_save(const uint8_t *model, size_t model_len, const int64_t *state, size_t state_len, int64_t *saves, size_t saves_len, const uint8_t *name, size_t name_len);
+
+/* Makes the state that was saved under the name the present one. Changes the state alone: every save remains.
+ * Refusals: 1, 11 and 20 as for save, 21 nothing is saved under the name. Refused, it changes nothing. */
+matgravel_answer matgravel_return(const uint8_t *model, size_t model_len, int64_t *state, size_t state_len, const int64_t *saves, size_t saves_len, const uint8_t *name, size_t name_len);
+
+/* Forgets what was saved under the name; its place can be used for another. Changes the saves alone.
+ * Refusals: 1, 11, 20 and 21 as for return. Refused, it changes nothing. */
+matgravel_answer matgravel_forget(const uint8_t *model, size_t model_len, const int64_t *state, size_t state_len, int64_t *saves, size_t saves_len, const uint8_t *name, size_t name_len);
 
 #ifdef __cplusplus
 }

@@ -1,7 +1,8 @@
--- Question 1: a wrong length leaves everything as it was; right ones let the call go on. One law for every request that is lent the model, the state and an output.
-use mathlib.Core.Path.{_≡_, refl, ap, _∙_}
+-- Question 1: a wrong length leaves everything as it was; right ones let the call go on. One law for every request that is lent the model, the state and an output, and one for those that
+-- are lent the saves.
+use mathlib.Core.Path.{_≡_, refl, sym, ap, _∙_}
 use mathlib.Core.List.{List, []}
-use mathlib.Core.Bool.{Bool, true, false, cond, _&&_, and-true}
+use mathlib.Core.Bool.{Bool, true, false, cond, _&&_, and-true, and-assoc}
 use mathlib.Core.Option.{Option, none, some, Option·elim}
 use Prim.Native.Nat.{ℕ, _+_, _-_}
 use native.Mathlib.Omega.{arith}
@@ -10,15 +11,15 @@ use lib.Dec.{eqb}
 use lib.IntN.{ℤ}
 use lib.ListN.{length, take, drop}
 use Rattle.value.proofs.Kit.{false-not-true}
-use Rattle.model.specs.Opening.{opening}
 use Rattle.model.specs.Held.{held}
 use Rattle.machine.specs.State.{stateLength}
-use Rattle.machine.specs.Machine.{modelLength, no, Request, open′, on′, Part, size, twoParts, uses, outputOf, allParts, hasLengths}
+use Rattle.machine.specs.Saves.{savesLength}
+use Rattle.machine.specs.Machine.{modelLength, no, closed, Request, Ask, on′, Part, size, twoParts, threeParts, uses, lentTo, outputOf, allParts, hasLengths}
 use Rattle.machine.proofs.Lent.{both-true}
 use Rattle.buffers.specs.Held.{lengthIn, textIn, heldIn}
-use Rattle.buffers.specs.Parts.{Engine, lentTwo}
-use Rattle.buffers.specs.Effect.{untouched, opensWith, requested, answered, effect}
-use Rattle.engine.specs.Gives.{Gives, bare, arePartsLong, areLong}
+use Rattle.buffers.specs.Parts.{Engine, lentTwo, lentThree}
+use Rattle.buffers.specs.Effect.{machineOver, machineIn, untouched, requested, answered, effect}
+use Rattle.engine.specs.Gives.{Gives, bare, arePartsLong, areLong, areAllLong}
 use Rattle.store.specs.Text.{TextOf}
 
 -- 01: 1 changes nothing
@@ -42,20 +43,6 @@ module _ (bs : List ℕ) (zs : List ℤ) where
   parts-are : allParts (λ (p : Part). eqb (length (lentTwo bs zs p)) (size p)) twoParts ≡ arePartsLong (length bs) (length zs)
   unfolding allParts lentTwo arePartsLong
   parts-are = ap (λ (b : Bool). eqb (length bs) modelLength && b) (and-true (eqb (length zs) stateLength))
-
-  -- ---- open
-  module _ (text : List ℕ) where
-    open-lengths : hasLengths (open′ text) (λ (p : Part). length (lentTwo bs zs p)) 0 ≡ arePartsLong (length bs) (length zs)
-    unfolding hasLengths Option·elim
-    open-lengths = and-true _ ∙ parts-are
-
-    pub open-wrong : arePartsLong (length bs) (length zs) ≡ false → Gives (effect (open′ text) (lentTwo bs zs) []) (bare 1 0 0) (lentTwo bs zs) []
-    unfolding effect
-    open-wrong e = rw (open-lengths, e) (untouched-gives (lentTwo bs zs) [])
-
-    pub open-right : arePartsLong (length bs) (length zs) ≡ true → effect (open′ text) (lentTwo bs zs) [] ≡ opensWith text (opening text) []
-    unfolding effect answered
-    open-right e = rw (open-lengths, e)
 
   -- ---- a request that is lent model and state, and an output of this right length
   module _ (r : Request) (right : ℕ) (u : uses r ≡ twoParts) (o : outputOf (on′ r) ≡ some right) (l : List ℕ) where
@@ -83,3 +70,46 @@ module _ (bs : List ℕ) (zs : List ℤ) where
     pub text-in : (n : ℕ) → TextOf bs n → answered (on′ r) (lentTwo bs zs) l ≡ requested r (lentTwo bs zs) l (held (take (2 + n - 2) (drop 2 bs)))
     unfolding answered lentTwo textIn
     text-in n h = let e : lengthIn bs ≡ 2 + n - 2 = omega (arith, h .long) in ap (requested r (lentTwo bs zs) l) (h .holds ∙ ap (λ (i : ℕ). held (take i (drop 2 bs))) e)
+
+-- ---- the model, the state and the saves
+
+pub three-long : (model state saves : ℕ) → areAllLong model state saves ≡ true → (model ≡ modelLength) × (state ≡ stateLength) × (saves ≡ savesLength)
+unfolding areAllLong
+three-long model state saves e =
+    let b = both-true (arePartsLong model state) _ e in
+    let c = parts-long model state (b .0) in
+    (c .0, c .1, eqb-true _ _ (b .1))
+
+module _ (bs : List ℕ) (zs ss : List ℤ) where
+  three-are : allParts (λ (p : Part). eqb (length (lentThree bs zs ss p)) (size p)) threeParts ≡ areAllLong (length bs) (length zs) (length ss)
+  unfolding allParts lentThree areAllLong arePartsLong
+  three-are =
+      ap (λ (b : Bool). eqb (length bs) modelLength && (eqb (length zs) stateLength && b)) (and-true (eqb (length ss) savesLength))
+      ∙ sym (and-assoc (eqb (length bs) modelLength) (eqb (length zs) stateLength) (eqb (length ss) savesLength))
+
+  -- what is asked by a call that is lent the three and no output
+  module _ (k : Ask) (u : lentTo k ≡ threeParts) (o : outputOf k ≡ none) where
+    three-lengths : hasLengths k (λ (p : Part). length (lentThree bs zs ss p)) 0 ≡ areAllLong (length bs) (length zs) (length ss)
+    unfolding hasLengths Option·elim
+    three-lengths =
+        ap (λ (ps : List Part). allParts (λ (p : Part). eqb (length (lentThree bs zs ss p)) (size p)) ps && Option·elim (outputOf k) true (eqb 0)) u
+        ∙ ap (λ (n : Option ℕ). allParts (λ (p : Part). eqb (length (lentThree bs zs ss p)) (size p)) threeParts && Option·elim n true (eqb 0)) o
+        ∙ and-true _ ∙ three-are
+
+    pub three-wrong : areAllLong (length bs) (length zs) (length ss) ≡ false → Gives (effect k (lentThree bs zs ss) []) (bare 1 0 0) (lentThree bs zs ss) []
+    unfolding effect
+    three-wrong e = rw (three-lengths, e) (untouched-gives (lentThree bs zs ss) [])
+
+    pub three-right : areAllLong (length bs) (length zs) (length ss) ≡ true → effect k (lentThree bs zs ss) [] ≡ answered k (lentThree bs zs ss) []
+    unfolding effect
+    three-right e = rw (three-lengths, e)
+
+  -- ---- the text in the model buffer
+
+  pub three-none : heldIn bs ≡ none → machineIn threeParts (lentThree bs zs ss) ≡ closed
+  unfolding machineIn machineOver lentThree
+  three-none e = ap (machineOver threeParts (lentThree bs zs ss)) e
+
+  pub three-text : (n : ℕ) → TextOf bs n → machineIn threeParts (lentThree bs zs ss) ≡ machineOver threeParts (lentThree bs zs ss) (held (take (2 + n - 2) (drop 2 bs)))
+  unfolding machineIn lentThree textIn
+  three-text n h = let e : lengthIn bs ≡ 2 + n - 2 = omega (arith, h .long) in ap (machineOver threeParts (lentThree bs zs ss)) (h .holds ∙ ap (λ (i : ℕ). held (take i (drop 2 bs))) e)

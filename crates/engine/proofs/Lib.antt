@@ -2,5 +2,6 @@
 pub mod Shows
 pub mod Openings
 pub mod Lengths
+pub mod Stored
 pub mod Drawn
 pub mod Reported

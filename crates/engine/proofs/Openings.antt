@@ -1,5 +1,5 @@
 -- What opening a text gives, and which tables list and step are given, from the answers that reading the text gives.
-use mathlib.Core.Path.{_≡_, refl}
+use mathlib.Core.Path.{_≡_, refl, sym, _∙_}
 use mathlib.Core.List.{List, []}
 use mathlib.Core.Option.{none}
 use Prim.Native.Nat.{ℕ, _≤_}
@@ -13,10 +13,12 @@ use Rattle.model.specs.Held.{held}
 use Rattle.model.proofs.Opened.{opened-good, opened-few}
 use Rattle.model.proofs.Held.{held-good, opened-short}
 use Rattle.machine.specs.State.{stateLength, stateNumbers}
+use Rattle.machine.specs.Saves.{savesLength}
+use Rattle.saves.proofs.Places.{no-saves-numbers}
 use Rattle.machine.specs.Machine as machine
-use Rattle.machine.specs.Machine.{modelLength, no, openedState, Request, Part, model, state}
+use Rattle.machine.specs.Machine.{modelLength, no, openedState, Request, Part, model, state, saves}
 use Rattle.buffers.specs.Held.{modelBytes}
-use Rattle.buffers.specs.Parts.{fresh, numbersOf, lentTwo}
+use Rattle.buffers.specs.Parts.{fresh, numbersOf, lentTwo, lentThree}
 use Rattle.buffers.specs.Effect.{opensWith, requested}
 use Rattle.engine.specs.Gives.{Gives, bare}
 use Rattle.engine.specs.Tables.{Tables}
@@ -68,25 +70,27 @@ module _ (text t roots scopes : List ℕ) where
   pub whole : {x : Model} {p : ℕ} (o : ModelHeld text t roots scopes x p) → Whole t roots scopes (x .root) (x .variables) (x .sums) (x .channels) (o .model)
   whole {x} o = record { definitions = x .definitions; represents = o .shown; good = held-good text (o .model) (o .holds) }
 
--- 01, Opening a text: 2 to 10 zero both buffers
-pub refused-gives : (text : List ℕ) (n p : ℕ) (bs : List ℕ) (zs : List ℤ) → opening text ≡ refused n p → bs ≡ replicate modelLength 0 → zs ≡ replicate stateLength (pos 0)
-    → Gives (opensWith text (opening text) []) (bare n p 0) (lentTwo bs zs) []
+-- 01, Opening a text: 2 to 10 zero all buffers
+pub refused-gives : (text : List ℕ) (n p : ℕ) (bs : List ℕ) (zs ss : List ℤ) → opening text ≡ refused n p → bs ≡ replicate modelLength 0 → zs ≡ replicate stateLength (pos 0) → ss ≡ replicate savesLength (pos 0)
+    → Gives (opensWith text (opening text) []) (bare n p 0) (lentThree bs zs ss) []
 unfolding opensWith no
-refused-gives text n p bs zs e f g = rw e (record { number = refl; place = refl; branch = refl; count = refl; total = refl; chosen = refl; buffers = zero; output = refl })
+refused-gives text n p bs zs ss e f g h = rw e (record { number = refl; place = refl; branch = refl; count = refl; total = refl; chosen = refl; buffers = zero; output = refl })
   where
-    zero : (p : Part) → lentTwo bs zs p ≡ fresh p
-    zero model = unfold lentTwo fresh in f
-    zero state = unfold lentTwo fresh in g
+    zero : (p : Part) → lentThree bs zs ss p ≡ fresh p
+    zero model = unfold lentThree fresh in f
+    zero state = unfold lentThree fresh in g
+    zero saves = unfold lentThree fresh in h
 
--- 01, Opening a text: acceptance fills both
-pub accepted-gives : (text : List ℕ) (m : Resolved.Model) (bs : List ℕ) (zs : List ℤ) → opening text ≡ opened m → bs ≡ modelBytes text → zs ≡ stateNumbers (openedState m)
-    → Gives (opensWith text (opening text) []) (bare 0 0 0) (lentTwo bs zs) []
+-- 01, Opening a text: acceptance fills model and state; 02, note 2: nothing is saved
+pub accepted-gives : (text : List ℕ) (m : Resolved.Model) (bs : List ℕ) (zs ss : List ℤ) → opening text ≡ opened m → bs ≡ modelBytes text → zs ≡ stateNumbers (openedState m) → ss ≡ replicate savesLength (pos 0)
+    → Gives (opensWith text (opening text) []) (bare 0 0 0) (lentThree bs zs ss) []
 unfolding opensWith no
-accepted-gives text m bs zs e f g = rw e (record { number = refl; place = refl; branch = refl; count = refl; total = refl; chosen = refl; buffers = full; output = refl })
+accepted-gives text m bs zs ss e f g h = rw e (record { number = refl; place = refl; branch = refl; count = refl; total = refl; chosen = refl; buffers = full; output = refl })
   where
-    full : (p : Part) → lentTwo bs zs p ≡ numbersOf (modelBytes text) (machine.held m (openedState m)) p
-    full model = unfold lentTwo numbersOf in f
-    full state = unfold lentTwo numbersOf in g
+    full : (p : Part) → lentThree bs zs ss p ≡ numbersOf (modelBytes text) (machine.held m (openedState m)) p
+    full model = unfold lentThree numbersOf in f
+    full state = unfold lentThree numbersOf in g
+    full saves = unfold lentThree numbersOf in h ∙ sym no-saves-numbers
 
 -- 01, Listing, 11: a text that holds no model
 pub closed-gives : (text bs : List ℕ) (zs : List ℤ) (r : Request) (l : List ℕ) → held text ≡ none → Gives (requested r (lentTwo bs zs) l (held text)) (bare 11 0 0) (lentTwo bs zs) l

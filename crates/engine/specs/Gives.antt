@@ -1,11 +1,12 @@
 -- What a call gives: the answer, number by number, and the buffers as an effect says (01, Rule machine). Definitions only.
 use mathlib.Core.Path.{_≡_}
-use mathlib.Core.Bool.{Bool, _&&_}
+use mathlib.Core.Bool.{Bool, true, false, _&&_}
 use mathlib.Core.List.{List}
 use Prim.Native.Nat.{ℕ}
 use lib.Dec.{eqb}
 use Rattle.machine.specs.State.{stateLength}
-use Rattle.machine.specs.Machine.{modelLength, Part}
+use Rattle.machine.specs.Saves.{savesLength}
+use Rattle.machine.specs.Machine.{modelLength, Machine, closed, holding, Part}
 use Rattle.buffers.specs.Parts.{Engine}
 use Rattle.buffers.specs.Effect.{Effect}
 use Rattle.engine.specs.declared.Answer.{Answer}
@@ -37,3 +38,12 @@ arePartsLong model state = eqb model modelLength && eqb state stateLength
 
 unfoldable pub areLong : (model state output right : ℕ) → Bool
 areLong model state output right = arePartsLong model state && eqb output right
+
+-- 02, note 2, 1: of the model, the state and the saves
+unfoldable pub areAllLong : (model state saves : ℕ) → Bool
+areAllLong model state saves = arePartsLong model state && eqb saves savesLength
+
+-- 01, 11
+unfoldable pub isHolding : Machine → Bool
+isHolding closed = false
+isHolding (holding h) = true

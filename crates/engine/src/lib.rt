@@ -1,4 +1,5 @@
-// An engine: its calls open, list, step and report, and what they answer.
+// An engine: its calls open, list, step, report, save, return and forget, and what they answer.
+pub mod held;
 pub mod listings;
 pub mod steps;
 pub mod subtotals;
@@ -12,10 +13,10 @@ ghost use mathlib.Core.List.{[]};
 ghost use lib.ListN.{length};
 ghost use Rattle.machine.specs.State.{stateLength};
 ghost use Rattle.machine.specs.Report.{reportLength};
-ghost use Rattle.machine.specs.Machine.{modelLength, listingLength, list′, step′, report′, open′, on′};
-ghost use Rattle.buffers.specs.Parts.{lentTwo};
+ghost use Rattle.machine.specs.Machine.{modelLength, listingLength, list′, step′, report′, save′, return′, forget′, open′, on′};
+ghost use Rattle.buffers.specs.Parts.{lentTwo, lentThree};
 ghost use Rattle.buffers.specs.Effect.{answered, effect};
-ghost use Rattle.engine.specs.Gives.{bare, filled, Gives, arePartsLong, areLong};
+ghost use Rattle.engine.specs.Gives.{bare, filled, Gives, arePartsLong, areLong, areAllLong};
 
 // What a call answers: 0 or a refusal's number; its place and branch; the listing's entries, their total, and the entry that a step took.
 #[repr(C)]
@@ -78,13 +79,24 @@ fn are_long(model: usize, state: usize, output: usize, right: usize) -> bool
     output == right
 }
 
-// Reads a model text and sets the engine to its start.
-pub fn open(text: &[u8], model: &mut [u8], state: &mut [i64]) -> Answer
-    ensures { λ r. ⌜ Gives (effect (open′ (now (text .entry))) (lentTwo (now (model .entry)) (now (state .entry))) []) r (lentTwo (now (model .exit)) (now (state .exit))) [] ⌝ }
+// Question 1 of the model, the state and the saves.
+fn are_all_long(model: usize, state: usize, saves: usize) -> bool
+    ensures { λ r. ⌜ r ≡ areAllLong model state saves ⌝ }
 {
-    if !are_parts_long(model.len(), state.len()) {
+    if !are_parts_long(model, state) {
+        return false;
+    }
+    saves == Engine::SAVES
+}
+
+// Reads a model text, sets the engine to its start and forgets every save.
+pub fn open(text: &[u8], model: &mut [u8], state: &mut [i64], saves: &mut [i64]) -> Answer
+    ensures { λ r. ⌜ Gives (effect (open′ (now (text .entry))) (lentThree (now (model .entry)) (now (state .entry)) (now (saves .entry))) []) r (lentThree (now (model .exit)) (now (state .exit)) (now (saves .exit))) [] ⌝ }
+{
+    if !are_all_long(model.len(), state.len(), saves.len()) {
         return Answer::bare(1, 0, 0);
     }
+    state::clear_state(saves);
     texts::open_lent(text, model, state)
 }
 
@@ -163,11 +175,58 @@ pub fn report(model: &[u8], state: &[i64], report: &mut [u64]) -> Answer
     report_lent(model, state, report)
 }
 
-#[no_mangle]
-pub extern "C" fn matgravel_open(text: &[u8], model: &mut [u8], state: &mut [i64]) -> Answer
-    ensures { λ r. ⌜ Gives (effect (open′ (now (text .entry))) (lentTwo (now (model .entry)) (now (state .entry))) []) r (lentTwo (now (model .exit)) (now (state .exit))) [] ⌝ }
+// Saves the state under a name.
+pub fn save(model: &[u8], state: &[i64], saves: &mut [i64], name: &[u8]) -> Answer
+    ensures { λ r. ⌜ Gives (effect (on′ (save′ (now (name .entry)))) (lentThree (now (model .entry)) (now (state .entry)) (now (saves .entry))) []) r (lentThree (now (model .entry)) (now (state .entry)) (now (saves .exit))) [] ⌝ }
 {
-    open(text, model, state)
+    if !are_all_long(model.len(), state.len(), saves.len()) {
+        return Answer::bare(1, 0, 0);
+    }
+    if !held::holds(model, state, &saves[..]) {
+        return Answer::bare(11, 0, 0);
+    }
+    let number = saves::save(saves, state, name);
+    Answer::bare(number, 0, 0)
+}
+
+// Makes the state that was saved under a name the present one.
+pub fn return_to(model: &[u8], state: &mut [i64], saves: &[i64], name: &[u8]) -> Answer
+    ensures { λ r. ⌜ Gives (effect (on′ (return′ (now (name .entry)))) (lentThree (now (model .entry)) (now (state .entry)) (now (saves .entry))) []) r (lentThree (now (model .entry)) (now (state .exit)) (now (saves .entry))) [] ⌝ }
+{
+    if !are_all_long(model.len(), state.len(), saves.len()) {
+        return Answer::bare(1, 0, 0);
+    }
+    if !held::holds(model, &state[..], saves) {
+        return Answer::bare(11, 0, 0);
+    }
+    let number = saves::return_to(state, saves, name);
+    Answer::bare(number, 0, 0)
+}
+
+// Forgets what was saved under a name.
+pub fn forget(model: &[u8], state: &[i64], saves: &mut [i64], name: &[u8]) -> Answer
+    ensures { λ r. ⌜ Gives (effect (on′ (forget′ (now (name .entry)))) (lentThree (now (model .entry)) (now (state .entry)) (now (saves .entry))) []) r (lentThree (now (model .entry)) (now (state .entry)) (now (saves .exit))) [] ⌝ }
+{
+    if !are_all_long(model.len(), state.len(), saves.len()) {
+        return Answer::bare(1, 0, 0);
+    }
+    if !held::holds(model, state, &saves[..]) {
+        return Answer::bare(11, 0, 0);
+    }
+    let number = saves::forget(saves, state, name);
+    Answer::bare(number, 0, 0)
+}
+
+#[no_mangle]
+pub extern "C" fn matgravel_open(
+    text: &[u8],
+    model: &mut [u8],
+    state: &mut [i64],
+    saves: &mut [i64],
+) -> Answer
+    ensures { λ r. ⌜ Gives (effect (open′ (now (text .entry))) (lentThree (now (model .entry)) (now (state .entry)) (now (saves .entry))) []) r (lentThree (now (model .exit)) (now (state .exit)) (now (saves .exit))) [] ⌝ }
+{
+    open(text, model, state, saves)
 }
 
 #[no_mangle]
@@ -194,4 +253,40 @@ pub extern "C" fn matgravel_report(model: &[u8], state: &[i64], report: &mut [u6
     ensures { λ r. ⌜ Gives (effect (on′ report′) (lentTwo (now (model .entry)) (now (state .entry))) (now (report .entry))) r (lentTwo (now (model .entry)) (now (state .entry))) (now (report .exit)) ⌝ }
 {
     crate::report(model, state, report)
+}
+
+#[no_mangle]
+pub extern "C" fn matgravel_save(
+    model: &[u8],
+    state: &[i64],
+    saves: &mut [i64],
+    name: &[u8],
+) -> Answer
+    ensures { λ r. ⌜ Gives (effect (on′ (save′ (now (name .entry)))) (lentThree (now (model .entry)) (now (state .entry)) (now (saves .entry))) []) r (lentThree (now (model .entry)) (now (state .entry)) (now (saves .exit))) [] ⌝ }
+{
+    save(model, state, saves, name)
+}
+
+#[no_mangle]
+pub extern "C" fn matgravel_return(
+    model: &[u8],
+    state: &mut [i64],
+    saves: &[i64],
+    name: &[u8],
+) -> Answer
+    ensures { λ r. ⌜ Gives (effect (on′ (return′ (now (name .entry)))) (lentThree (now (model .entry)) (now (state .entry)) (now (saves .entry))) []) r (lentThree (now (model .entry)) (now (state .exit)) (now (saves .entry))) [] ⌝ }
+{
+    return_to(model, state, saves, name)
+}
+
+#[no_mangle]
+pub extern "C" fn matgravel_forget(
+    model: &[u8],
+    state: &[i64],
+    saves: &mut [i64],
+    name: &[u8],
+) -> Answer
+    ensures { λ r. ⌜ Gives (effect (on′ (forget′ (now (name .entry)))) (lentThree (now (model .entry)) (now (state .entry)) (now (saves .entry))) []) r (lentThree (now (model .entry)) (now (state .entry)) (now (saves .exit))) [] ⌝ }
+{
+    forget(model, state, saves, name)
 }

@@ -7,22 +7,24 @@ use token::Limits;
 ghost use mathlib.Core.Path.{_≡_};
 ghost use mathlib.Core.List.{List, []};
 ghost use Prim.Native.Nat.{ℕ, _≤_};
-ghost use lib.ListN.{length};
+ghost use lib.IntN.{ℤ, pos};
+ghost use lib.ListN.{length, replicate};
 ghost use Rattle.grammar.specs.Limit.{tokenLimit};
 ghost use Rattle.model.specs.Opening.{opening};
 ghost use Rattle.model.specs.Held.{held};
 ghost use Rattle.machine.specs.State.{stateLength};
+ghost use Rattle.machine.specs.Saves.{savesLength};
 ghost use Rattle.machine.specs.Report.{reportLength};
 ghost use Rattle.machine.specs.Machine.{modelLength, listingLength, list′, step′, report′};
-ghost use Rattle.buffers.specs.Parts.{lentTwo};
+ghost use Rattle.buffers.specs.Parts.{lentTwo, lentThree};
 ghost use Rattle.buffers.specs.Effect.{opensWith, requested};
 ghost use Rattle.opening.specs.Models.{ModelRead};
 ghost use Rattle.engine.specs.Gives.{Gives};
 
-// Opens a text into buffers of the right lengths.
+// Opens a text into buffers of the right lengths, where nothing is saved.
 pub fn open_lent(text: &[u8], model: &mut [u8], state: &mut [i64]) -> Answer
     requires { ⌜ (length (now model) ≡ modelLength) × (length (now state) ≡ stateLength) ⌝ }
-    ensures { λ r. ⌜ Gives (opensWith (now (text .entry)) (opening (now (text .entry))) []) r (lentTwo (now (model .exit)) (now (state .exit))) [] ⌝ }
+    ensures { λ r. ⌜ ((ss : List ℤ) → ss ≡ replicate savesLength (pos 0) → Gives (opensWith (now (text .entry)) (opening (now (text .entry))) []) r (lentThree (now (model .exit)) (now (state .exit)) ss) []) ⌝ }
 {
     let mut kinds = [0u8; Limits::TEXT];
     let mut places = [0u16; Limits::TEXT];
@@ -64,7 +66,7 @@ pub fn open_lent(text: &[u8], model: &mut [u8], state: &mut [i64]) -> Answer
 }
 
 // The model of a text that a model buffer holds, in three tables; those that only reading needs are its own.
-fn read_held(text: &[u8], nodes: &mut [u64], roots: &mut [u16], scopes: &mut [u16]) -> Held
+pub fn read_held(text: &[u8], nodes: &mut [u64], roots: &mut [u16], scopes: &mut [u16]) -> Held
     requires { ⌜ (tokenLimit ≤ length (now nodes)) × (tokenLimit ≤ length (now roots)) × (tokenLimit ≤ length (now scopes)) ⌝ }
     ensures { λ r. ⌜ ModelRead (now (text .entry)) (now (nodes .exit)) (now (roots .exit)) (now (scopes .exit)) r ⌝ }
 {

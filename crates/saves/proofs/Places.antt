@@ -4,17 +4,18 @@ use mathlib.Core.List.{List, [], _∷_, _++_, map, append-nil}
 use mathlib.Core.Bool.{Bool, true, false, cond, not, _&&_}
 use mathlib.Core.Logic.{_↔_}
 use mathlib.Core.Option.{Option, none, some}
-use Prim.Native.Nat.{ℕ, suc, _*_}
+use Prim.Native.Nat.{ℕ, zero, suc, _+_, _*_}
+use native.Mathlib.Nat.{suc-mul, zero-mul}
 use native.Mathlib.Omega.{arith}
 use lib.Dec.{eqb}
 use lib.IntN.{ℤ, pos, negsuc, natAbs}
-use lib.ListN.{length, replicate, length-map, length-replicate}
+use lib.ListN.{length, replicate, length-map, length-replicate, replicate-append-replicate}
 use lib.Seq.{take-all}
 use borrow.Author.Tests.{eqb-true, ne-eqb, eq-eqb}
 use Rattle.model.specs.Good.{Every}
 use Rattle.machine.specs.State.{flatten}
 use Rattle.machine.specs.Timed.{Timed}
-use Rattle.machine.specs.Saves.{isName, same, Save, Saves, saveLimit, timedLength, placeWidth, savesLength, named, isUnknown, isApart, areApart, PlaceOf, SavesOf}
+use Rattle.machine.specs.Saves.{isName, same, Save, Saves, noSaves, saveLimit, timedLength, placeWidth, savesLength, named, isUnknown, isApart, areApart, PlaceOf, SavesOf}
 use Rattle.machine.proofs.Saves.{not-both, same-eq, same-refl}
 use Rattle.state.specs.Fits.{FewLocals}
 use Rattle.state.specs.Test.{every, rows, at, isZero}
@@ -25,6 +26,18 @@ use Rattle.saves.proofs.Kept.{kept-length, kept-passes, kept-back, kept
 use Rattle.saves.specs.Keys.{nameIn, lowOf, highOf, keyNumbers, isKeyOf}
 use Rattle.saves.specs.Places.{placeNumbers, savesNumbers, keptPart, isPlace, hasKey, isOnce, areOnce, placesOf, isSaves, placeIn, savesIn}
 use Rattle.saves.proofs.Names.{and-true, name-back, name-passes, low-positive, Key, key-is}
+
+-- empty places, one after the other, are zeros
+joined-zeros : (f : Option Save → List ℤ) (w : ℕ) → f none ≡ replicate w (pos 0) → (k : ℕ) → flatten f (replicate k none) ≡ replicate (k * w) (pos 0)
+unfolding flatten
+joined-zeros f w e zero = rw (zero-mul w)
+joined-zeros f w e (suc k) =
+    let n : w + k * w ≡ suc k * w = omega (arith, suc-mul k w) in
+    ap₂ (λ (a b : List ℤ). a ++ b) e (joined-zeros f w e k) ∙ replicate-append-replicate w (k * w) (pos 0) ∙ ap (λ (j : ℕ). replicate j (pos 0)) n
+
+pub no-saves-numbers : savesNumbers noSaves ≡ replicate savesLength (pos 0)
+unfolding savesNumbers noSaves placeNumbers
+no-saves-numbers = joined-zeros placeNumbers placeWidth refl saveLimit
 
 full-place : (n : List ℕ) → isName n ≡ true → isZero (pos (lowOf n)) ≡ false
 unfolding isZero

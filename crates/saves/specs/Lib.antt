@@ -3,3 +3,4 @@ pub mod Keys
 pub mod Kept
 pub mod Places
 pub mod Change
+pub mod Rows

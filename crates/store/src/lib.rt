@@ -21,6 +21,8 @@ impl Engine {
 
     pub const REPORT: usize = 64;
 
+    pub const SAVES: usize = 41008;
+
     // Closed, no process, no pair.
     pub fn fresh() -> Self
         ensures { λ r. ⌜ (r .text ≡ 0) × (r .processes ≡ 0) × (r .pairs ≡ 0) ⌝ }

@@ -77,8 +77,9 @@ same-length-2 c = search needs
 
 returns : tie.Need-returns
 returns c =
+    λ ss z.
     let X = now (c .before .before .before .before .before .before .before .before .before .before .before .before .before .before .before .before .before .before .before .before .before .before .before .before .before .before .before .before .before .before .before .args .text) in
-    rw (c .bare .ensures) (refused-gives X _ _ _ _ (refused-is X _ _ _ (c .before .before .before .before .before .before .before .before .before .before .before .before .before .open-text .ensures) (c .before .before .opened .given .1)) (c .before .before .before .before .before .before .before .before .before .before .before .before .before .before .before .before .before .before .before .before .before .before .before .before .before .before .put-fresh .ensures .0) (c .before .before .before .before .before .before .before .before .before .before .before .before .before .before .before .before .before .before .before .before .before .before .before .before .before .before .put-fresh .ensures .1))
+    rw (c .bare .ensures) (refused-gives X _ _ _ _ ss (refused-is X _ _ _ (c .before .before .before .before .before .before .before .before .before .before .before .before .before .open-text .ensures) (c .before .before .opened .given .1)) (c .before .before .before .before .before .before .before .before .before .before .before .before .before .before .before .before .before .before .before .before .before .before .before .before .before .before .put-fresh .ensures .0) (c .before .before .before .before .before .before .before .before .before .before .before .before .before .before .before .before .before .before .before .before .before .before .before .before .before .before .put-fresh .ensures .1) z)
 
 same-length-3 : tie.Need-same-length-3
 same-length-3 c =
@@ -90,9 +91,10 @@ same-length-4 c =
 
 returns-2 : tie.Need-returns-2
 returns-2 c =
+    λ ss z.
     let X = now (c .before .before .before .before .before .before .before .before .before .before .before .before .before .before .before .before .before .before .before .before .before .before .before .before .before .before .before .before .before .before .before .before .before .before .before .before .before .before .before .before .args .text) in
     let o = opened-is X _ _ _ (c .before .before .before .before .before .before .before .before .before .before .before .before .before .before .before .before .before .before .before .before .before .before .open-text .ensures) (c .before .before .before .before .before .before .before .before .before .before .before .opened2 .given .1) in
-    rw (c .bare2 .ensures) (accepted-gives X (o .model) _ _ (o .opens) (c .before .before .before .before .before .before .before .before .put-text .ensures) (c .before .before .open-state .ensures (o .model) (starts X _ _ _ o)))
+    rw (c .bare2 .ensures) (accepted-gives X (o .model) _ _ ss (o .opens) (c .before .before .before .before .before .before .before .before .put-text .ensures) (c .before .before .open-state .ensures (o .model) (starts X _ _ _ o)) z)
 
 pub open-lent-spec : {M : Type 1} → statement M
 open-lent-spec =

@@ -23,7 +23,7 @@ use Rattle.engine.specs.Gives.{Gives, bare, arePartsLong, areLong, areAl
 use Rattle.store.specs.Text.{TextOf}
 
 -- 01: 1 changes nothing
-untouched-gives : (x : Engine) (l : List ℕ) → Gives (untouched x l) (bare 1 0 0) x l
+pub untouched-gives : (x : Engine) (l : List ℕ) → Gives (untouched x l) (bare 1 0 0) x l
 unfolding untouched no
 untouched-gives x l = record { number = refl; place = refl; branch = refl; count = refl; total = refl; chosen = refl; buffers = λ p. refl; output = refl }
 

@@ -20,13 +20,7 @@ ghost use Rattle.buffers.specs.Effect.{machineOver, machineIn};
 ghost use Rattle.engine.specs.Gives.{isHolding};
 
 // Whether a state and saves are over the sums with these scopes and so many channel names.
-fn holds_model(
-    scopes: &[u16],
-    sums: usize,
-    channels: usize,
-    state: &[i64],
-    saves: &[i64],
-) -> bool
+fn holds_model(scopes: &[u16], sums: usize, channels: usize, state: &[i64], saves: &[i64]) -> bool
     requires { ⌜ (length (now state) ≡ stateLength) × (length (now saves) ≡ savesLength) × (sums ≤ length (now scopes)) × FewLocals (take sums (now scopes)) ⌝ }
     ensures { λ r. ⌜ r ≡ (isState (take sums (now (scopes .entry))) channels (now (state .entry)) && isSaves (take sums (now (scopes .entry))) channels (now (saves .entry))) ⌝ }
 {
@@ -47,9 +41,7 @@ fn holds_text(text: &[u8], state: &[i64], saves: &[i64]) -> bool
     let read = crate::texts::read_held(text, &mut nodes, &mut roots, &mut scopes);
     match read {
         Held::Refused(_, _) => false,
-        Held::Model(found, _) => {
-            holds_model(&scopes, found.sums, found.channels, state, saves)
-        }
+        Held::Model(found, _) => { holds_model(&scopes, found.sums, found.channels, state, saves) }
     }
 }
 

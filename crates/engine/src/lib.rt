@@ -3,8 +3,10 @@ pub mod held;
 pub mod listings;
 pub mod steps;
 pub mod subtotals;
+pub mod waiting;
 pub mod texts;
 
+use clock::Clock;
 use store::Engine;
 use store::buffer::Bytes;
 use store::buffer::Text;
@@ -13,10 +15,11 @@ ghost use mathlib.Core.List.{[]};
 ghost use lib.ListN.{length};
 ghost use Rattle.machine.specs.State.{stateLength};
 ghost use Rattle.machine.specs.Report.{reportLength};
-ghost use Rattle.machine.specs.Machine.{modelLength, listingLength, list′, step′, report′, save′, return′, forget′, open′, on′};
-ghost use Rattle.buffers.specs.Parts.{lentTwo, lentThree};
+ghost use Rattle.machine.specs.Machine.{modelLength, listingLength, list′, step′, report′, timed′, save′, return′, forget′, open′, on′};
+ghost use Rattle.buffers.specs.Parts.{lentTwo, lentThree, lentTimed};
 ghost use Rattle.buffers.specs.Effect.{answered, effect};
 ghost use Rattle.engine.specs.Gives.{bare, filled, Gives, arePartsLong, areLong, areAllLong};
+ghost use Rattle.engine.specs.Waited.{timed};
 
 // What a call answers: 0 or a refusal's number; its place and branch; the listing's entries, their total, and the entry that a step took.
 #[repr(C)]
@@ -56,6 +59,36 @@ impl Answer {
             total: total,
             chosen: chosen,
         }
+    }
+}
+
+// What a call that moves the clock gives: its answer, and the clock afterwards.
+pub struct Timed {
+    pub answer: Answer,
+    pub clock: Clock,
+}
+
+impl Timed {
+    pub fn of(answer: Answer, clock: Clock) -> Self
+        ensures { λ r. ⌜ r ≡ timed answer clock ⌝ }
+    {
+        Timed {
+            answer: answer,
+            clock: clock,
+        }
+    }
+
+    // The parts, each by itself, for the functions that are lent the clock.
+    pub fn clock(self) -> Clock
+        ensures { λ r. ⌜ r ≡ self .clock ⌝ }
+    {
+        self.clock
+    }
+
+    pub fn answer(self) -> Answer
+        ensures { λ r. ⌜ r ≡ self .answer ⌝ }
+    {
+        self.answer
     }
 }
 
@@ -148,6 +181,33 @@ pub fn step(model: &[u8], state: &mut [i64], listing: &mut [u64], draw: u64) -> 
         return Answer::bare(1, 0, 0);
     }
     step_lent(model, state, listing, draw)
+}
+
+// Steps, and then waits: both the state and the clock, which goes by value, move, or neither does.
+pub fn step_timed(
+    model: &[u8],
+    state: &mut [i64],
+    listing: &mut [u64],
+    waiting: &[u16],
+    draw: u64,
+    clock: Clock,
+) -> Timed
+    ensures { λ r. ⌜ Gives (effect (on′ (timed′ (now (waiting .entry)) draw)) (lentTimed (now (model .entry)) (now (state .entry)) clock) (now (listing .entry))) (r .answer) (lentTimed (now (model .entry)) (now (state .exit)) (r .clock)) (now (listing .exit)) ⌝ }
+{
+    if !are_long(model.len(), state.len(), listing.len(), Engine::LISTING) {
+        return Timed::of(Answer::bare(1, 0, 0), clock);
+    }
+    if !clock::in_range(clock) {
+        return Timed::of(Answer::bare(11, 0, 0), clock);
+    }
+    let mut before = [0i64; Engine::STATE];
+    state::put(&mut before, &state[..], Engine::STATE);
+    let told = step_lent(model, state, listing, draw);
+    let number = told.number;
+    if number != 0 {
+        return Timed::of(told, clock);
+    }
+    waiting::wait_after(told, &before, state, waiting, clock)
 }
 
 // Reports over buffers of the right lengths.
@@ -246,6 +306,22 @@ pub extern "C" fn matgravel_step(
     ensures { λ r. ⌜ Gives (effect (on′ (step′ draw)) (lentTwo (now (model .entry)) (now (state .entry))) (now (listing .entry))) r (lentTwo (now (model .entry)) (now (state .exit))) (now (listing .exit)) ⌝ }
 {
     step(model, state, listing, draw)
+}
+
+#[no_mangle]
+pub extern "C" fn matgravel_timed_step(
+    model: &[u8],
+    state: &mut [i64],
+    listing: &mut [u64],
+    waiting: &[u16],
+    draw: u64,
+    clock: &mut Clock,
+) -> Answer
+    ensures { λ r. ⌜ Gives (effect (on′ (timed′ (now (waiting .entry)) draw)) (lentTimed (now (model .entry)) (now (state .entry)) (now (clock .entry))) (now (listing .entry))) r (lentTimed (now (model .entry)) (now (state .exit)) (now (clock .exit))) (now (listing .exit)) ⌝ }
+{
+    let t = step_timed(model, state, listing, waiting, draw, *clock);
+    *clock = Timed::clock(t);
+    Timed::answer(t)
 }
 
 #[no_mangle]

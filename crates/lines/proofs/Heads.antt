@@ -2,27 +2,29 @@
 use mathlib.Core.Path.{_≡_, refl, sym, ap, ap₂, _∙_, subst}
 use mathlib.Core.List.{List, [], _∷_, _++_}
 use mathlib.Core.Bool.{Bool, true, false, cond, _&&_}
-use Prim.Native.Nat.{ℕ, suc, _+_, _*_, _-_, _≤_, _<_}
+use Prim.Native.Nat.{ℕ, zero, suc, _+_, _*_, _-_, _≤_, _<_, min}
 use native.Mathlib.Omega.{arith}
-use lib.Dec.{eqb}
-use lib.ListN.{length, take, drop}
+use lib.Dec.{eqb, ltb}
+use borrow.Author.Tests.{eqb-true, eqb-false, eq-eqb, ne-eqb, lt-ltb, le-ltb, ltb-true, ltb-false}
+use lib.ListN.{length, take, drop, length-append}
+use lib.Seq.{take-take}
 use Rattle.word.specs.Number.{worth}
 use Rattle.token.specs.Bytes.{isDigit, within}
 use Rattle.token.specs.Token.{sameBytes}
 use Rattle.token.proofs.Words.{same-is}
 use Rattle.lines.specs.declared.line.Line.{Line}
-use Rattle.lines.specs.declared.line.Line.the-variants.{Open, List as Listing, Step, State, Report, Bad}
+use Rattle.lines.specs.declared.line.Line.the-variants.{Open, List as Listing, Step, State, Report, Save, Return, Forget, Bad}
 use Rattle.lines.specs.declared.line.Rest.{Rest}
 use Rattle.lines.specs.declared.line.Rest.the-variants.{Nothing, Number, T, Other}
 use Rattle.lines.specs.declared.line.Reading.{Reading}
-use Rattle.lines.specs.Line.{listBytes, stateBytes, reportBytes, openBytes, stepBytes, digitsOnly, isNumber, given, lineOf, restOf, restNext, packed, headOf, numbered, bare, lettered, Bytes, Reads}
+use Rattle.lines.specs.Line.{listBytes, stateBytes, reportBytes, openBytes, stepBytes, saveBytes, returnBytes, forgetBytes, keptLimit, kept, digitsOnly, isNumber, given, lineOf, restOf, restNext, packed, headOf, afterOf, twoBytes, returnEnd, forgetEnd, afterNext, keptNext, ended, numbered, bare, lettered, Bytes, Reads}
 use Rattle.lines.proofs.Rests.{rest-on}
 
 -- the least number of five bytes, 2 ^ 40
 abbrev full : ℕ
 full = 1099511627776
 
--- the numbers of the five words
+-- the numbers of the words
 abbrev listHead : ℕ
 listHead = 6113817460
 
@@ -37,6 +39,15 @@ openHead = 1578138693152
 
 abbrev stepHead : ℕ
 stepHead = 1595385671712
+
+abbrev saveHead : ℕ
+saveHead = 1595068015904
+
+abbrev returnHead : ℕ
+returnHead = 1590840030578
+
+abbrev forgetHead : ℕ
+forgetHead = 1539468060517
 
 -- ---- fewer than five bytes, or five and more
 data Size : List ℕ → Type 0 where
@@ -86,15 +97,50 @@ long b three h l = absurd (omega arith)
 long b four h l = absurd (omega arith)
 long b five h l = record { head = refl; rest = refl }
 
-pub short-on : {s : List ℕ} {r : Reading} (b : ℕ) → Reads s r → b < 256 → r .head < full → Reads (s ++ (b ∷ [])) (record { head = r .head * 256 + b; rest = r .rest })
-short-on {s} {r} b h k l =
-    let e = short b (size s) (rw (← h .head) l) in
-    record { bytes = bytes-on s b (h .bytes) k; head = ap (λ (x : ℕ). x * 256 + b) (h .head) ∙ sym (e .head); rest = h .rest ∙ ap restOf (sym (e .rest)) }
+-- the two bytes after the first five, with one more
+bytes-drop : (n : ℕ) (s : List ℕ) → Bytes s → Bytes (drop n s)
+bytes-drop zero s h = h
+bytes-drop (suc n) [] h = tt
+bytes-drop (suc n) (b ∷ s) h = bytes-drop n s (h .1)
 
-pub long-on : {s : List ℕ} {r : Reading} (b : ℕ) (t : Rest) → Reads s r → b < 256 → full ≤ r .head → t ≡ restNext (r .rest) b → Reads (s ++ (b ∷ [])) (record { head = r .head; rest = t })
-long-on {s} {r} b t h k l n =
+after-on : (u : List ℕ) (b : ℕ) → Bytes u → afterNext (packed 1 (take 2 u)) b ≡ packed 1 (take 2 (u ++ (b ∷ [])))
+unfolding packed afterNext
+after-on [] b h = refl
+after-on (x ∷ []) b h = rw (lt-ltb (256 + x) twoBytes (omega (arith, h .0)))
+after-on (x ∷ y ∷ u) b h = rw (le-ltb ((256 + x) * 256 + y) twoBytes (omega arith))
+
+kept-on : (s : List ℕ) (b : ℕ) → keptNext (kept s) ≡ kept (s ++ (b ∷ []))
+unfolding kept keptNext
+kept-on s b = by (ltb (min keptLimit (length s)) keptLimit) refl
+  where
+    by : (t : Bool) → ltb (min keptLimit (length s)) keptLimit ≡ t → cond t (min keptLimit (length s) + 1) (min keptLimit (length s)) ≡ min keptLimit (length (s ++ (b ∷ [])))
+    by true e = omega (arith, ltb-true _ _ e, length-append s (b ∷ []))
+    by false e = omega (arith, ltb-false _ _ e, length-append s (b ∷ []))
+
+pub short-on : {s : List ℕ} {r : Reading} (b k′ : ℕ) → Reads s r → b < 256 → r .head < full → k′ ≡ keptNext (r .kept) → Reads (s ++ (b ∷ [])) (record { head = r .head * 256 + b; rest = r .rest; after = r .after; kept = k′ })
+unfolding afterOf
+short-on {s} {r} b k′ h k l n =
+    let e = short b (size s) (rw (← h .head) l) in
+    record {
+      bytes = bytes-on s b (h .bytes) k;
+      head = ap (λ (x : ℕ). x * 256 + b) (h .head) ∙ sym (e .head);
+      rest = h .rest ∙ ap restOf (sym (e .rest));
+      after = h .after ∙ ap (λ (u : List ℕ). packed 1 (take 2 u)) (sym (e .rest));
+      kept = n ∙ ap keptNext (h .kept) ∙ kept-on s b;
+    }
+
+pub long-on : {s : List ℕ} {r : Reading} (b : ℕ) (t : Rest) (a k′ : ℕ) → Reads s r → b < 256 → full ≤ r .head → t ≡ restNext (r .rest) b → a ≡ afterNext (r .after) b → k′ ≡ keptNext (r .kept)
+    → Reads (s ++ (b ∷ [])) (record { head = r .head; rest = t; after = a; kept = k′ })
+unfolding afterOf
+long-on {s} {r} b t a k′ h k l n m j =
     let e = long b (size s) (h .bytes) (rw (← h .head) l) in
-    record { bytes = bytes-on s b (h .bytes) k; head = h .head ∙ sym (e .head); rest = n ∙ ap (λ (x : Rest). restNext x b) (h .rest) ∙ sym (rest-on (drop 5 s) b) ∙ ap restOf (sym (e .rest)) }
+    record {
+      bytes = bytes-on s b (h .bytes) k;
+      head = h .head ∙ sym (e .head);
+      rest = n ∙ ap (λ (x : Rest). restNext x b) (h .rest) ∙ sym (rest-on (drop 5 s) b) ∙ ap restOf (sym (e .rest));
+      after = m ∙ ap (λ (x : ℕ). afterNext x b) (h .after) ∙ after-on (drop 5 s) b (bytes-drop 5 s (h .bytes)) ∙ ap (λ (u : List ℕ). packed 1 (take 2 u)) (sym (e .rest));
+      kept = j ∙ ap keptNext (h .kept) ∙ kept-on s b;
+    }
 
 -- ---- no byte at all
 none-by : {s : List ℕ} → Size s → headOf s ≡ 1 → s ≡ []
@@ -202,6 +248,41 @@ unfolding lineOf sameBytes restOf given isNumber
 step-then [] = refl
 step-then (b ∷ u) = by-number Step (isNumber (b ∷ u)) (eqb b 116 && sameBytes u []) (worth 0 (b ∷ u))
 
+save-then : (u : List ℕ) → Save (kept (saveBytes ++ u)) ≡ lineOf (saveBytes ++ u)
+unfolding lineOf sameBytes
+save-then u = refl
+
+-- two bytes by their number
+pair-is : (x y : ℕ) (u : List ℕ) → Bytes u → x < 256 → y < 256 → eqb (packed 1 (take 2 u)) ((256 + x) * 256 + y) ≡ sameBytes (take 2 u) (x ∷ y ∷ [])
+unfolding packed sameBytes
+pair-is x y [] h k l = ne-eqb 1 _ (λ e. omega arith)
+pair-is x y (a ∷ []) h k l = ne-eqb (256 + a) _ (λ e. omega (arith, h .0)) ∙ sym (and-none (eqb a x))
+  where
+    and-none : (t : Bool) → (t && false) ≡ false
+    and-none true = refl
+    and-none false = refl
+pair-is x y (a ∷ b ∷ u) h k l = by (eqb a x) (eqb b y) refl refl
+  where
+    by : (s t : Bool) → eqb a x ≡ s → eqb b y ≡ t → eqb ((256 + a) * 256 + b) ((256 + x) * 256 + y) ≡ (eqb a x && (eqb b y && true))
+    by true true e f = eq-eqb _ _ (omega (arith, eqb-true a x e, eqb-true b y f)) ∙ sym (rw (e, f))
+    by true false e f = ne-eqb _ _ (λ q. eqb-false b y f (omega (arith, h .0, h .1 .0))) ∙ sym (rw (e, f))
+    by false t e f = ne-eqb _ _ (λ q. eqb-false a x e (omega (arith, h .0, h .1 .0))) ∙ sym (rw e)
+
+-- the first five bytes of `return ` and `forget `
+abbrev retur : List ℕ
+retur = take 5 returnBytes
+
+abbrev forge : List ℕ
+forge = take 5 forgetBytes
+
+return-then : (u : List ℕ) → Bytes u → ended Return returnEnd (packed 1 (take 2 u)) (kept (retur ++ u)) ≡ lineOf (retur ++ u)
+unfolding lineOf sameBytes ended
+return-then u h = ap (λ (t : Bool). cond t (Return (kept (retur ++ u))) Bad) (pair-is 110 32 u h (omega arith) (omega arith))
+
+forget-then : (u : List ℕ) → Bytes u → ended Forget forgetEnd (packed 1 (take 2 u)) (kept (forge ++ u)) ≡ lineOf (forge ++ u)
+unfolding lineOf sameBytes ended
+forget-then u h = ap (λ (t : Bool). cond t (Forget (kept (forge ++ u))) Bad) (pair-is 116 32 u h (omega arith) (omega arith))
+
 differ : (s t : List ℕ) → (s ≡ t → ⊥) → sameBytes s t ≡ false
 differ s t n = by (sameBytes s t) refl
   where
@@ -241,13 +322,42 @@ module _ {s : List ℕ} {r : Reading} (h : Reads s r) where
       let w = word stepHead stepBytes (omega arith, (omega arith, (omega arith, (omega arith, (omega arith, tt))))) refl (omega arith) refl e in
       f ∙ ap (numbered Step) (h .rest) ∙ step-then (drop 5 s) ∙ ap lineOf (sym w)
 
-  pub says-bad : (r .head ≡ listHead → ⊥) → (r .head ≡ stateHead → ⊥) → (r .head ≡ reportHead → ⊥) → (r .head ≡ openHead → ⊥) → (r .head ≡ stepHead → ⊥) → Bad ≡ lineOf s
+  pub says-save : r .head ≡ saveHead → Save (r .kept) ≡ lineOf s
+  unfolding packed
+  says-save e =
+      let w = word saveHead saveBytes (omega arith, (omega arith, (omega arith, (omega arith, (omega arith, tt))))) refl (omega arith) refl e in
+      ap Save (h .kept) ∙ ap (λ (u : List ℕ). Save (kept u)) w ∙ save-then (drop 5 s) ∙ ap lineOf (sym w)
+
+  -- a word of seven bytes
+  ends-so : (says : ℕ → Line) (end w : ℕ) (t : List ℕ) → s ≡ t ++ drop 5 s → ((u : List ℕ) → Bytes u → ended says end (packed 1 (take 2 u)) (kept (t ++ u)) ≡ lineOf (t ++ u)) → {x : Line} → x ≡ ended says end (r .after) (r .kept) → x ≡ lineOf s
+  unfolding afterOf
+  ends-so says end w t v then f =
+      f ∙ ap₂ (ended says end) (h .after) (h .kept ∙ ap kept v) ∙ then (drop 5 s) (bytes-drop 5 s (h .bytes)) ∙ ap lineOf (sym v)
+
+  pub says-return : {x : Line} → r .head ≡ returnHead → x ≡ ended Return returnEnd (r .after) (r .kept) → x ≡ lineOf s
+  unfolding packed
+  says-return e f =
+      ends-so Return returnEnd returnHead retur (word returnHead retur (omega arith, (omega arith, (omega arith, (omega arith, (omega arith, tt))))) refl (omega arith) refl e) return-then f
+
+  pub says-forget : {x : Line} → r .head ≡ forgetHead → x ≡ ended Forget forgetEnd (r .after) (r .kept) → x ≡ lineOf s
+  unfolding packed
+  says-forget e f =
+      ends-so Forget forgetEnd forgetHead forge (word forgetHead forge (omega arith, (omega arith, (omega arith, (omega arith, (omega arith, tt))))) refl (omega arith) refl e) forget-then f
+
+  -- a word of seven bytes has its first five
+  first-five : (t : List ℕ) → take 7 s ≡ t → take 5 s ≡ take 5 t
+  first-five t e = sym (take-take 5 7 s (omega arith)) ∙ ap (take 5) e
+
+  pub says-bad : (r .head ≡ listHead → ⊥) → (r .head ≡ stateHead → ⊥) → (r .head ≡ reportHead → ⊥) → (r .head ≡ openHead → ⊥) → (r .head ≡ stepHead → ⊥) → (r .head ≡ saveHead → ⊥) → (r .head ≡ returnHead → ⊥) → (r .head ≡ forgetHead → ⊥) → Bad ≡ lineOf s
   unfolding lineOf headOf packed
-  says-bad l t q o p =
+  says-bad l t q o p v m g =
       simp (
         differ s listBytes (λ e. l (h .head ∙ ap headOf e)),
         differ s stateBytes (λ e. t (h .head ∙ ap headOf e)),
         differ s reportBytes (λ e. q (h .head ∙ ap headOf e)),
         differ (take 5 s) openBytes (λ e. o (h .head ∙ ap (packed 1) e)),
         differ (take 5 s) stepBytes (λ e. p (h .head ∙ ap (packed 1) e)),
+        differ (take 5 s) saveBytes (λ e. v (h .head ∙ ap (packed 1) e)),
+        differ (take 7 s) returnBytes (λ e. m (h .head ∙ ap (packed 1) (first-five returnBytes e))),
+        differ (take 7 s) forgetBytes (λ e. g (h .head ∙ ap (packed 1) (first-five forgetBytes e))),
       )

@@ -11,7 +11,7 @@ use lib.ListN.{length, length-append}
 use borrow.Author.Tests.{eq-eqb, ne-eqb}
 use Rattle.token.specs.Bytes.{lineFeed}
 use Rattle.lines.specs.declared.line.Line.{Line}
-use Rattle.lines.specs.declared.line.Line.the-variants.{Open, List as Listing, Step, State, Report, Bad}
+use Rattle.lines.specs.declared.line.Line.the-variants.{Open, List as Listing, Step, State, Report, Save, Return, Forget, Bad}
 use Rattle.lines.specs.declared.line.Rest.the-variants.{Nothing}
 use Rattle.lines.specs.declared.line.Reading.{Reading}
 use Rattle.lines.specs.declared.script.Part.{Part}
@@ -20,7 +20,7 @@ use Rattle.lines.specs.declared.script.Script.{Script}
 use Rattle.lines.specs.declared.script.Taken.{Taken}
 use Rattle.lines.specs.declared.script.Taken.the-variants.{Goes, Asks, Wrong}
 use Rattle.lines.specs.declared.script.Ending.the-variants.{Done, Broken}
-use Rattle.lines.specs.Line.{limit, lineOf, empty, restOf, packed, headOf, Reads}
+use Rattle.lines.specs.Line.{limit, lineOf, empty, restOf, packed, headOf, afterOf, kept, Reads}
 use Rattle.lines.proofs.Heads.{none-read, some-read}
 use Rattle.lines.specs.Script.{breaks, numberAfter, isShort, Items, LineBegun, TextBegun, Stands, Misplaced, Takes, Cut, Ends, next, fresh, ended}
 
@@ -54,8 +54,8 @@ after-other s b line n h = h ∙ same-number s (s ++ (b ∷ [])) (let e = breaks
 
 -- ---- no byte of a line
 empty-reads : Reads [] empty
-unfolding headOf packed restOf
-empty-reads = record { bytes = tt; head = refl; rest = refl }
+unfolding headOf packed restOf afterOf kept
+empty-reads = record { bytes = tt; head = refl; rest = refl; after = refl; kept = refl }
 
 no-breaks : breaks [] ≡ 0
 unfolding breaks
@@ -126,6 +126,9 @@ module _ {s : List ℕ} {qs : List Line} {from : ℕ} {r : Reading} (x : LineBeg
   ends-so (Step d) e h = subst (λ (l : Line). Stands (s ++ (b ∷ [])) (qs ++ (l ∷ [])) (fresh (next from))) h (line-short e (ap isShort h))
   ends-so State e h = subst (λ (l : Line). Stands (s ++ (b ∷ [])) (qs ++ (l ∷ [])) (fresh (next from))) h (line-short e (ap isShort h))
   ends-so Report e h = subst (λ (l : Line). Stands (s ++ (b ∷ [])) (qs ++ (l ∷ [])) (fresh (next from))) h (line-short e (ap isShort h))
+  ends-so (Save n) e h = subst (λ (l : Line). Stands (s ++ (b ∷ [])) (qs ++ (l ∷ [])) (fresh (next from))) h (line-short e (ap isShort h))
+  ends-so (Return n) e h = subst (λ (l : Line). Stands (s ++ (b ∷ [])) (qs ++ (l ∷ [])) (fresh (next from))) h (line-short e (ap isShort h))
+  ends-so (Forget n) e h = subst (λ (l : Line). Stands (s ++ (b ∷ [])) (qs ++ (l ∷ [])) (fresh (next from))) h (line-short e (ap isShort h))
   ends-so Bad e h = Misplaced.of-line x e h
 
   pub line-ends : {l : Line} {y : Taken} → b ≡ lineFeed → l ≡ lineOf (x .line) → y ≡ ended from l → Takes s qs b y

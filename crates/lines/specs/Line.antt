@@ -1,15 +1,15 @@
 -- What a line of a script says, from its bytes. Definitions, and examples by computation.
 use mathlib.Core.Path.{_≡_, refl}
-use mathlib.Core.List.{List, [], _∷_}
+use mathlib.Core.List.{List, [], _∷_, _++_}
 use mathlib.Core.Bool.{Bool, true, false, cond, _&&_}
-use Prim.Native.Nat.{ℕ, _+_, _*_, _<_}
+use Prim.Native.Nat.{ℕ, _+_, _*_, _<_, min}
 use lib.Dec.{eqb, ltb}
-use lib.ListN.{take, drop}
+use lib.ListN.{length, take, drop}
 use Rattle.word.specs.Number.{worth, digitOf}
 use Rattle.token.specs.Bytes.{isDigit}
 use Rattle.token.specs.Token.{sameBytes}
 use Rattle.lines.specs.declared.line.Line.{Line}
-use Rattle.lines.specs.declared.line.Line.the-variants.{Open, List as Listing, Step, State, Report, Bad}
+use Rattle.lines.specs.declared.line.Line.the-variants.{Open, List as Listing, Step, State, Report, Save, Return, Forget, Bad}
 use Rattle.lines.specs.declared.line.Rest.{Rest}
 use Rattle.lines.specs.declared.line.Rest.the-variants.{Nothing, Number, T, Other}
 use Rattle.lines.specs.declared.line.Reading.{Reading}
@@ -30,6 +30,23 @@ openBytes = 111 ∷ 112 ∷ 101 ∷ 110 ∷ 32 ∷ []
 abbrev pub stepBytes : List ℕ
 stepBytes = 115 ∷ 116 ∷ 101 ∷ 112 ∷ 32 ∷ []
 
+-- `save `, `return ` and `forget `
+abbrev pub saveBytes : List ℕ
+saveBytes = 115 ∷ 97 ∷ 118 ∷ 101 ∷ 32 ∷ []
+
+abbrev pub returnBytes : List ℕ
+returnBytes = 114 ∷ 101 ∷ 116 ∷ 117 ∷ 114 ∷ 110 ∷ 32 ∷ []
+
+abbrev pub forgetBytes : List ℕ
+forgetBytes = 102 ∷ 111 ∷ 114 ∷ 103 ∷ 101 ∷ 116 ∷ 32 ∷ []
+
+-- how many bytes of a line are kept: all, up to a word and a name that is too long already
+abbrev pub keptLimit : ℕ
+keptLimit = 24
+
+unfoldable pub kept : List ℕ → ℕ
+kept s = min keptLimit (length s)
+
 -- 2 ^ 64: a draw and a number of bytes are below it
 abbrev pub limit : ℕ
 limit = 18446744073709551616
@@ -48,14 +65,17 @@ isNumber (b ∷ s) = digitsOnly (b ∷ s) && ltb (worth 0 (b ∷ s)) limit
 unfoldable pub given : (ℕ → Line) → List ℕ → Line
 given says s = cond (isNumber s) (says (worth 0 s)) Bad
 
--- the five forms; every other line is bad
+-- the eight forms; every other line is bad
 unfoldable pub lineOf : List ℕ → Line
 lineOf s =
     cond (sameBytes s listBytes) Listing
     (cond (sameBytes s stateBytes) State
     (cond (sameBytes s reportBytes) Report
     (cond (sameBytes (take 5 s) openBytes) (given Open (drop 5 s))
-    (cond (sameBytes (take 5 s) stepBytes) (given Step (drop 5 s)) Bad))))
+    (cond (sameBytes (take 5 s) stepBytes) (given Step (drop 5 s))
+    (cond (sameBytes (take 5 s) saveBytes) (Save (kept s))
+    (cond (sameBytes (take 7 s) returnBytes) (Return (kept s))
+    (cond (sameBytes (take 7 s) forgetBytes) (Forget (kept s)) Bad)))))))
 
 -- `step 307`
 step-line : lineOf (115 ∷ 116 ∷ 101 ∷ 112 ∷ 32 ∷ 51 ∷ 48 ∷ 55 ∷ []) ≡ Step 307
@@ -66,6 +86,19 @@ step-line = refl
 no-report : lineOf (114 ∷ 101 ∷ 112 ∷ 111 ∷ 114 ∷ 116 ∷ 115 ∷ []) ≡ Bad
 unfolding lineOf sameBytes
 no-report = refl
+
+-- `return a`, `forget` and `save ` with no name
+return-line : lineOf (returnBytes ++ (97 ∷ [])) ≡ Return 8
+unfolding lineOf kept sameBytes
+return-line = refl
+
+no-forget : lineOf (take 6 forgetBytes) ≡ Bad
+unfolding lineOf sameBytes
+no-forget = refl
+
+save-nothing : lineOf saveBytes ≡ Save 5
+unfolding lineOf kept sameBytes
+save-nothing = refl
 
 -- `open` without a number
 no-number : lineOf openBytes ≡ Bad
@@ -129,6 +162,30 @@ lettered says (Number n) = Bad
 lettered says T = says
 lettered says Other = Bad
 
+-- the first two bytes after the first five, after a 1
+unfoldable pub afterOf : List ℕ → ℕ
+afterOf s = packed 1 (take 2 (drop 5 s))
+
+-- the least number of two bytes, and the ends of `return ` and `forget `
+abbrev pub twoBytes : ℕ
+twoBytes = 65536
+
+abbrev pub returnEnd : ℕ
+returnEnd = 93728
+
+abbrev pub forgetEnd : ℕ
+forgetEnd = 95264
+
+unfoldable pub afterNext : ℕ → ℕ → ℕ
+afterNext a b = cond (ltb a twoBytes) (a * 256 + b) a
+
+unfoldable pub keptNext : ℕ → ℕ
+keptNext k = cond (ltb k keptLimit) (k + 1) k
+
+-- a line that ends a word so, and has so many bytes
+unfoldable pub ended : (ℕ → Line) → ℕ → ℕ → ℕ → Line
+ended says end after k = cond (eqb after end) (says k) Bad
+
 abbrev pub Bytes : List ℕ → Type 0
 Bytes [] = Unit {0}
 Bytes (b ∷ s) = (b < 256) × Bytes s
@@ -138,7 +195,9 @@ pub record Reads (s : List ℕ) (r : Reading) : Type 0 where
   pub bytes : Bytes s
   pub head : r .head ≡ headOf s
   pub rest : r .rest ≡ restOf (drop 5 s)
+  pub after : r .after ≡ afterOf s
+  pub kept : r .kept ≡ kept s
 
 -- no byte yet
 abbrev pub empty : Reading
-empty = record { head = 1; rest = Nothing }
+empty = record { head = 1; rest = Nothing; after = 1; kept = 0 }

@@ -7,7 +7,7 @@ use lib.Dec.{eqb}
 use lib.ListN.{length}
 use Rattle.token.specs.Bytes.{lineFeed}
 use Rattle.lines.specs.declared.line.Line.{Line}
-use Rattle.lines.specs.declared.line.Line.the-variants.{Open, List as Listing, Step, State, Report, Bad}
+use Rattle.lines.specs.declared.line.Line.the-variants.{Open, List as Listing, Step, State, Report, Save, Return, Forget, Bad}
 use Rattle.lines.specs.declared.line.Reading.{Reading}
 use Rattle.lines.specs.declared.script.Part.{Part}
 use Rattle.lines.specs.declared.script.Part.the-variants.{InLine, InText}
@@ -34,6 +34,9 @@ isShort Listing = true
 isShort (Step d) = true
 isShort State = true
 isShort Report = true
+isShort (Save n) = true
+isShort (Return n) = true
+isShort (Forget n) = true
 isShort Bad = false
 
 -- bytes that are whole items: such a line and LF, or a line `open n`, LF, n bytes and LF; and what they ask for in turn
@@ -112,4 +115,7 @@ ended line Listing = Asks Listing (fresh (next line))
 ended line (Step d) = Asks (Step d) (fresh (next line))
 ended line State = Asks State (fresh (next line))
 ended line Report = Asks Report (fresh (next line))
+ended line (Save n) = Asks (Save n) (fresh (next line))
+ended line (Return n) = Asks (Return n) (fresh (next line))
+ended line (Forget n) = Asks (Forget n) (fresh (next line))
 ended line Bad = Wrong line

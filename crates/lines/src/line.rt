@@ -2,7 +2,7 @@
 ghost use mathlib.Core.Path.{_≡_};
 ghost use mathlib.Core.List.{List, [], _∷_, _++_};
 ghost use Prim.Native.Nat.{ℕ, _<_};
-ghost use Rattle.lines.specs.Line.{lineOf, grown, digitNext, letterNext, restNext, numbered, lettered, bare, empty, Reads};
+ghost use Rattle.lines.specs.Line.{lineOf, grown, digitNext, letterNext, restNext, numbered, lettered, bare, ended, returnEnd, forgetEnd, afterNext, keptNext, empty, Reads};
 
 // What a line says.
 pub enum Line {
@@ -11,6 +11,10 @@ pub enum Line {
     Step(u64),
     State,
     Report,
+    // How many bytes of the line are kept, the word's own among them: the others are the name.
+    Save(u64),
+    Return(u64),
+    Forget(u64),
     Bad,
 }
 
@@ -22,10 +26,12 @@ pub enum Rest {
     Other,
 }
 
-// A line so far: its first five bytes, as digits of base 256 after a 1, and what stands after them.
+// A line so far: its first five bytes, as digits of base 256 after a 1, what stands after them, the first two bytes of that, likewise, and how many bytes of the line are kept.
 pub struct Reading {
     pub head: u64,
     pub rest: Rest,
+    pub after: u64,
+    pub kept: u64,
 }
 
 pub struct Head;
@@ -36,7 +42,10 @@ impl Head {
 
     pub const FULL: u64 = 0x100_0000_0000;
 
-    // The heads of `list`, `state`, `report`, `open ` and `step `.
+    // The most bytes of a line that are kept: a word and a name that is too long already.
+    pub const KEPT: u64 = 24;
+
+    // The heads of `list`, `state`, `report`, `open `, `step `, `save `, `return ` and `forget `, and what follows those of the last two.
     pub const LIST: u64 = 0x1_6c69_7374;
 
     pub const STATE: u64 = 0x173_7461_7465;
@@ -46,6 +55,19 @@ impl Head {
     pub const OPEN: u64 = 0x16f_7065_6e20;
 
     pub const STEP: u64 = 0x173_7465_7020;
+
+    pub const SAVE: u64 = 0x173_6176_6520;
+
+    pub const RETURN: u64 = 0x172_6574_7572;
+
+    pub const FORGET: u64 = 0x166_6f72_6765;
+
+    // The least number of two bytes.
+    pub const TWO: u64 = 0x1_0000;
+
+    pub const RETURN_END: u64 = 0x1_6e20;
+
+    pub const FORGET_END: u64 = 0x1_7420;
 }
 
 // A number with one more digit, if it fits.
@@ -144,6 +166,44 @@ fn report_line(rest: Rest) -> Line
     }
 }
 
+fn return_line(after: u64, kept: u64) -> Line
+    ensures { λ r. ⌜ r ≡ ended Line.Return returnEnd after kept ⌝ }
+{
+    if after == Head::RETURN_END {
+        return Line::Return(kept);
+    }
+    Line::Bad
+}
+
+fn forget_line(after: u64, kept: u64) -> Line
+    ensures { λ r. ⌜ r ≡ ended Line.Forget forgetEnd after kept ⌝ }
+{
+    if after == Head::FORGET_END {
+        return Line::Forget(kept);
+    }
+    Line::Bad
+}
+
+// The two bytes after the first five, with one more byte.
+fn next_after(after: u64, b: u8) -> u64
+    ensures { λ r. ⌜ r ≡ afterNext after b ⌝ }
+{
+    if after < Head::TWO {
+        return after * 256 + b as u64;
+    }
+    after
+}
+
+// How many bytes are kept with one more.
+fn next_kept(kept: u64) -> u64
+    ensures { λ r. ⌜ r ≡ keptNext kept ⌝ }
+{
+    if kept < Head::KEPT {
+        return kept + 1;
+    }
+    kept
+}
+
 impl Reading {
     pub fn new() -> Self
         ensures { λ r. ⌜ r ≡ empty ⌝ }
@@ -151,6 +211,8 @@ impl Reading {
         Reading {
             head: Head::EMPTY,
             rest: Rest::Nothing,
+            after: Head::EMPTY,
+            kept: 0,
         }
     }
 
@@ -160,15 +222,21 @@ impl Reading {
     {
         let head = self.head;
         let rest = self.rest;
+        let after = self.after;
+        let kept = next_kept(self.kept);
         if head < Head::FULL {
             return Reading {
                 head: head * 256 + b as u64,
                 rest: rest,
+                after: after,
+                kept: kept,
             };
         }
         Reading {
             head: head,
             rest: with_byte(rest, b),
+            after: next_after(after, b),
+            kept: kept,
         }
     }
 
@@ -178,12 +246,17 @@ impl Reading {
     {
         let rest = self.rest;
         let head = self.head;
+        let after = self.after;
+        let kept = self.kept;
         match head {
             Head::LIST => Line::List,
             Head::STATE => state_line(rest),
             Head::REPORT => report_line(rest),
             Head::OPEN => open_line(rest),
             Head::STEP => step_line(rest),
+            Head::SAVE => Line::Save(kept),
+            Head::RETURN => return_line(after, kept),
+            Head::FORGET => forget_line(after, kept),
             _ => Line::Bad,
         }
     }

@@ -76,6 +76,9 @@ fn end_line(line: u64, says: Line) -> Taken
         Line::Step(d) => Taken::Asks(Line::Step(d), begin(next)),
         Line::State => Taken::Asks(Line::State, begin(next)),
         Line::Report => Taken::Asks(Line::Report, begin(next)),
+        Line::Save(n) => Taken::Asks(Line::Save(n), begin(next)),
+        Line::Return(n) => Taken::Asks(Line::Return(n), begin(next)),
+        Line::Forget(n) => Taken::Asks(Line::Forget(n), begin(next)),
         Line::Bad => Taken::Wrong(line),
     }
 }

@@ -1,29 +1,33 @@
--- Question 1 by the lengths, then the opening of the text.
-use mathlib.Core.Path.{sym, _∙_}
-use denote.Ref.{now}
+-- Question 1 by the lengths; then the saves are cleared and the text is opened.
+use mathlib.Core.Path.{refl, ap, sym, _∙_}
+use Prim.Native.Nat.{ℕ}
 use borrow.Author.Needs.{needs}
+use lib.IntN.{pos}
+use lib.ListN.{replicate}
+use Rattle.machine.specs.Machine.{open′}
 use Rattle.state.proofs.Tests.{refused, passed}
-use Rattle.engine.proofs.Lengths.{parts-long, open-wrong, open-right}
+use Rattle.buffers.specs.Effect.{answered}
+use Rattle.engine.proofs.Lengths.{three-long, three-wrong, three-right}
 use Rattle.engine.proofs.open.Statement.{statement}
 use Rattle.engine.proofs.open.Tie as tie
 
-are-parts-long-requires : tie.Need-are-parts-long-requires
-are-parts-long-requires c κs = search needs
+are-all-long-requires : tie.Need-are-all-long-requires
+are-all-long-requires c κs = search needs
 
 bare-requires : tie.Need-bare-requires
 bare-requires c κs = search needs
 
 returns : tie.Need-returns
 returns c =
-    let B = now (c .before .before .before .before .before .args .model) in
-    let Z = now (c .before .before .before .before .before .args .state) in
-    rw (c .bare .ensures) (open-wrong B Z (now (c .before .before .before .before .before .args .text)) (sym (c .before .before .are-parts-long .ensures) ∙ refused _ (c .before .if1 .taken)))
+    rw (c .bare .ensures) (three-wrong (c .before .before .before .before .before .args .model .now) (c .before .before .before .before .before .args .state .now) (c .before .before .before .before .before .args .saves .now) (open′ (c .before .before .before .before .before .args .text .now)) refl refl (sym (c .before .before .are-all-long .ensures) ∙ refused _ (c .before .if1 .taken)))
+
+clear-state-requires : tie.Need-clear-state-requires
+clear-state-requires c κs = search needs
 
 open-lent-requires : tie.Need-open-lent-requires
 open-lent-requires c κs =
-    let B = now (c .before .before .before .before .before .before .args .model) in
-    let Z = now (c .before .before .before .before .before .before .args .state) in
-    parts-long _ _ (sym (c .before .before .before .are-parts-long .ensures) ∙ passed _ (c .before .before .if1 .left))
+    let l = three-long _ _ _ (sym (c .before .before .before .before .before .before .are-all-long .ensures) ∙ passed _ (c .before .before .before .before .before .if1 .left)) in
+    (l .0, l .1)
 
 same-length : tie.Need-same-length
 same-length c = search needs
@@ -31,20 +35,16 @@ same-length c = search needs
 same-length-2 : tie.Need-same-length-2
 same-length-2 c = search needs
 
+same-length-3 : tie.Need-same-length-3
+same-length-3 c = search needs
+
 returns-2 : tie.Need-returns-2
+unfolding answered
 returns-2 c =
-    let B = now (c .before .before .before .before .before .before .before .before .before .before .args .model) in
-    let Z = now (c .before .before .before .before .before .before .before .before .before .before .args .state) in
-    rw (open-right B Z (now (c .before .before .before .before .before .before .before .before .before .before .args .text)) (sym (c .before .before .before .before .before .before .before .are-parts-long .ensures) ∙ passed _ (c .before .before .before .before .before .before .if1 .left))) (c .before .before .before .open-lent .ensures)
+    let l = three-long _ _ _ (sym (c .before .before .before .before .before .before .before .before .before .before .are-all-long .ensures) ∙ passed _ (c .before .before .before .before .before .before .before .before .before .if1 .left)) in
+    rw (three-right (c .before .before .before .before .before .before .before .before .before .before .before .before .before .args .model .now) (c .before .before .before .before .before .before .before .before .before .before .before .before .before .args .state .now) (c .before .before .before .before .before .before .before .before .before .before .before .before .before .args .saves .now) (open′ (c .before .before .before .before .before .before .before .before .before .before .before .before .before .args .text .now)) refl refl (sym (c .before .before .before .before .before .before .before .before .before .before .are-all-long .ensures) ∙ passed _ (c .before .before .before .before .before .before .before .before .before .if1 .left))) (c .before .before .before .open-lent .ensures _ (c .before .before .before .before .before .before .before .clear-state .ensures ∙ ap (λ (n : ℕ). replicate n (pos 0)) (l .2)))
 
 pub open-spec : {M : Type 1} → statement M
 open-spec =
     tie.close
-    (tie.spec
-    are-parts-long-requires
-    bare-requires
-    returns
-    open-lent-requires
-    same-length
-    same-length-2
-    returns-2)
+    (tie.spec are-all-long-requires bare-requires returns clear-state-requires open-lent-requires same-length same-length-2 same-length-3 returns-2)

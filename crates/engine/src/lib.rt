@@ -7,6 +7,7 @@ pub mod waiting;
 pub mod texts;
 
 use clock::Clock;
+use saves::Layout;
 use store::Engine;
 use store::buffer::Bytes;
 use store::buffer::Text;
@@ -16,7 +17,7 @@ ghost use lib.ListN.{length};
 ghost use Rattle.machine.specs.State.{stateLength};
 ghost use Rattle.machine.specs.Report.{reportLength};
 ghost use Rattle.machine.specs.Machine.{modelLength, listingLength, list′, step′, report′, timed′, save′, return′, forget′, open′, on′};
-ghost use Rattle.buffers.specs.Parts.{lentTwo, lentThree, lentTimed};
+ghost use Rattle.buffers.specs.Parts.{lentTwo, lentThree, lentTimed, lentAll};
 ghost use Rattle.buffers.specs.Effect.{answered, effect};
 ghost use Rattle.engine.specs.Gives.{bare, filled, Gives, arePartsLong, areLong, areAllLong};
 ghost use Rattle.engine.specs.Waited.{timed};
@@ -122,15 +123,22 @@ fn are_all_long(model: usize, state: usize, saves: usize) -> bool
     saves == Engine::SAVES
 }
 
-// Reads a model text, sets the engine to its start and forgets every save.
-pub fn open(text: &[u8], model: &mut [u8], state: &mut [i64], saves: &mut [i64]) -> Answer
-    ensures { λ r. ⌜ Gives (effect (open′ (now (text .entry))) (lentThree (now (model .entry)) (now (state .entry)) (now (saves .entry))) []) r (lentThree (now (model .exit)) (now (state .exit)) (now (saves .exit))) [] ⌝ }
+// Reads a model text, sets the engine to its start, forgets every save and sets the clock, which goes by value, to zero.
+pub fn open(
+    text: &[u8],
+    model: &mut [u8],
+    state: &mut [i64],
+    saves: &mut [i64],
+    clock: Clock,
+) -> Timed
+    ensures { λ r. ⌜ Gives (effect (open′ (now (text .entry))) (lentAll (now (model .entry)) (now (state .entry)) (now (saves .entry)) clock) []) (r .answer) (lentAll (now (model .exit)) (now (state .exit)) (now (saves .exit)) (r .clock)) [] ⌝ }
 {
     if !are_all_long(model.len(), state.len(), saves.len()) {
-        return Answer::bare(1, 0, 0);
+        return Timed::of(Answer::bare(1, 0, 0), clock);
     }
     state::clear_state(saves);
-    texts::open_lent(text, model, state)
+    let answer = texts::open_lent(text, model, state);
+    Timed::of(answer, Clock::fresh())
 }
 
 // Lists over buffers of the right lengths.
@@ -235,32 +243,45 @@ pub fn report(model: &[u8], state: &[i64], report: &mut [u64]) -> Answer
     report_lent(model, state, report)
 }
 
-// Saves the state under a name.
-pub fn save(model: &[u8], state: &[i64], saves: &mut [i64], name: &[u8]) -> Answer
-    ensures { λ r. ⌜ Gives (effect (on′ (save′ (now (name .entry)))) (lentThree (now (model .entry)) (now (state .entry)) (now (saves .entry))) []) r (lentThree (now (model .entry)) (now (state .entry)) (now (saves .exit))) [] ⌝ }
+// Saves the state and the clock under a name.
+pub fn save(
+    model: &[u8],
+    state: &[i64],
+    saves: &mut [i64],
+    name: &[u8],
+    clock: Clock,
+) -> Answer
+    ensures { λ r. ⌜ Gives (effect (on′ (save′ (now (name .entry)))) (lentAll (now (model .entry)) (now (state .entry)) (now (saves .entry)) clock) []) r (lentAll (now (model .entry)) (now (state .entry)) (now (saves .exit)) clock) [] ⌝ }
 {
     if !are_all_long(model.len(), state.len(), saves.len()) {
         return Answer::bare(1, 0, 0);
     }
-    if !held::holds(model, state, &saves[..]) {
+    if !held::holds_all(model, state, &saves[..], clock) {
         return Answer::bare(11, 0, 0);
     }
-    let number = saves::save(saves, state, name);
+    let mut kept = [0i64; Layout::KEPT];
+    saves::put_kept(&mut kept, state, clock);
+    let number = saves::save(saves, &kept, name);
     Answer::bare(number, 0, 0)
 }
 
-// Makes the state that was saved under a name the present one.
-pub fn return_to(model: &[u8], state: &mut [i64], saves: &[i64], name: &[u8]) -> Answer
-    ensures { λ r. ⌜ Gives (effect (on′ (return′ (now (name .entry)))) (lentThree (now (model .entry)) (now (state .entry)) (now (saves .entry))) []) r (lentThree (now (model .entry)) (now (state .exit)) (now (saves .entry))) [] ⌝ }
+// Makes the state and the clock, which goes by value, that were saved under a name the present ones.
+pub fn return_to(
+    model: &[u8],
+    state: &mut [i64],
+    saves: &[i64],
+    name: &[u8],
+    clock: Clock,
+) -> Timed
+    ensures { λ r. ⌜ Gives (effect (on′ (return′ (now (name .entry)))) (lentAll (now (model .entry)) (now (state .entry)) (now (saves .entry)) clock) []) (r .answer) (lentAll (now (model .entry)) (now (state .exit)) (now (saves .entry)) (r .clock)) [] ⌝ }
 {
     if !are_all_long(model.len(), state.len(), saves.len()) {
-        return Answer::bare(1, 0, 0);
+        return Timed::of(Answer::bare(1, 0, 0), clock);
     }
-    if !held::holds(model, &state[..], saves) {
-        return Answer::bare(11, 0, 0);
+    if !held::holds_all(model, &state[..], saves, clock) {
+        return Timed::of(Answer::bare(11, 0, 0), clock);
     }
-    let number = saves::return_to(state, saves, name);
-    Answer::bare(number, 0, 0)
+    held::return_held(state, saves, name, clock)
 }
 
 // Forgets what was saved under a name.
@@ -283,10 +304,13 @@ pub extern "C" fn matgravel_open(
     model: &mut [u8],
     state: &mut [i64],
     saves: &mut [i64],
+    clock: &mut Clock,
 ) -> Answer
-    ensures { λ r. ⌜ Gives (effect (open′ (now (text .entry))) (lentThree (now (model .entry)) (now (state .entry)) (now (saves .entry))) []) r (lentThree (now (model .exit)) (now (state .exit)) (now (saves .exit))) [] ⌝ }
+    ensures { λ r. ⌜ Gives (effect (open′ (now (text .entry))) (lentAll (now (model .entry)) (now (state .entry)) (now (saves .entry)) (now (clock .entry))) []) r (lentAll (now (model .exit)) (now (state .exit)) (now (saves .exit)) (now (clock .exit))) [] ⌝ }
 {
-    open(text, model, state, saves)
+    let t = open(text, model, state, saves, *clock);
+    *clock = Timed::clock(t);
+    Timed::answer(t)
 }
 
 #[no_mangle]
@@ -337,10 +361,11 @@ pub extern "C" fn matgravel_save(
     state: &[i64],
     saves: &mut [i64],
     name: &[u8],
+    clock: Clock,
 ) -> Answer
-    ensures { λ r. ⌜ Gives (effect (on′ (save′ (now (name .entry)))) (lentThree (now (model .entry)) (now (state .entry)) (now (saves .entry))) []) r (lentThree (now (model .entry)) (now (state .entry)) (now (saves .exit))) [] ⌝ }
+    ensures { λ r. ⌜ Gives (effect (on′ (save′ (now (name .entry)))) (lentAll (now (model .entry)) (now (state .entry)) (now (saves .entry)) clock) []) r (lentAll (now (model .entry)) (now (state .entry)) (now (saves .exit)) clock) [] ⌝ }
 {
-    save(model, state, saves, name)
+    save(model, state, saves, name, clock)
 }
 
 #[no_mangle]
@@ -349,10 +374,13 @@ pub extern "C" fn matgravel_return(
     state: &mut [i64],
     saves: &[i64],
     name: &[u8],
+    clock: &mut Clock,
 ) -> Answer
-    ensures { λ r. ⌜ Gives (effect (on′ (return′ (now (name .entry)))) (lentThree (now (model .entry)) (now (state .entry)) (now (saves .entry))) []) r (lentThree (now (model .entry)) (now (state .exit)) (now (saves .entry))) [] ⌝ }
+    ensures { λ r. ⌜ Gives (effect (on′ (return′ (now (name .entry)))) (lentAll (now (model .entry)) (now (state .entry)) (now (saves .entry)) (now (clock .entry))) []) r (lentAll (now (model .entry)) (now (state .exit)) (now (saves .entry)) (now (clock .exit))) [] ⌝ }
 {
-    return_to(model, state, saves, name)
+    let t = return_to(model, state, saves, name, *clock);
+    *clock = Timed::clock(t);
+    Timed::answer(t)
 }
 
 #[no_mangle]

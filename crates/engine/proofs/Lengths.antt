@@ -12,6 +12,9 @@ use lib.IntN.{ℤ}
 use lib.ListN.{length, take, drop}
 use Rattle.value.proofs.Kit.{false-not-true}
 use Rattle.clock.specs.declared.Clock.{Clock}
+use Rattle.clock.specs.Clock.{freshClock}
+use Rattle.engine.specs.declared.Answer as result
+use Rattle.engine.specs.declared.Timed as results
 use Rattle.model.specs.Held.{held}
 use Rattle.machine.specs.State.{stateLength}
 use Rattle.machine.specs.Saves.{savesLength}
@@ -19,7 +22,7 @@ use Rattle.machine.specs.Machine.{modelLength, no, closed, Request, Ask, on′,
 use Rattle.machine.proofs.Lent.{both-true}
 use Rattle.buffers.specs.Held.{lengthIn, textIn, heldIn}
 use Rattle.buffers.specs.Parts.{Engine, lentTwo, lentThree, lentAll}
-use Rattle.buffers.specs.Effect.{machineOver, machineIn, untouched, requested, answered, effect}
+use Rattle.buffers.specs.Effect.{Effect, machineOver, machineIn, untouched, requested, answered, effect}
 use Rattle.engine.specs.Gives.{Gives, bare, arePartsLong, areLong, areAllLong}
 use Rattle.store.specs.Text.{TextOf}
 
@@ -140,3 +143,13 @@ module _ (bs : List ℕ) (zs ss : List ℤ) (c : Clock) where
     pub four-right : areAllLong (length bs) (length zs) (length ss) ≡ true → effect k (lentAll bs zs ss c) [] ≡ answered k (lentAll bs zs ss c) []
     unfolding effect
     four-right e = rw (four-lengths, e)
+
+-- a result that is made of an answer and a clock
+pub of-all : (E : Effect) (bs : List ℕ) (zs ss : List ℤ) (r : results.Timed) (a b : result.Answer) (c : Clock) → r ≡ record { answer = a; clock = c } → a ≡ b → Gives E b (lentAll bs zs ss c) []
+    → Gives E (r .answer) (lentAll bs zs ss (r .clock)) []
+of-all E bs zs ss r a b c p q g = rw (p, q) g
+
+pub of-fresh : (E : Effect) (bs : List ℕ) (zs ss : List ℤ) (r : results.Timed) (a : result.Answer) (c : Clock) → r ≡ record { answer = a; clock = c } → c ≡ freshClock → Gives E a (lentAll bs zs ss freshClock) []
+    → Gives E (r .answer) (lentAll bs zs ss (r .clock)) []
+of-fresh E bs zs ss r a c p q g = rw (p, q) g
+

@@ -5,4 +5,4 @@ pub mod Lengths
 pub mod Stored
 pub mod Drawn
 pub mod Reported
-pub mod Waiting
+pub mod Waits

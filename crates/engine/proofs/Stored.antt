@@ -1,26 +1,26 @@
 -- What a save, a return and a forget give over buffers of right lengths: 11, or what the numbers say, which is what the rule machine's turn leaves.
 use mathlib.Core.Path.{_≡_, refl, sym, ap, ap₂, _∙_}
 use mathlib.Core.Bool.{Bool, true, false, cond, _&&_}
-use mathlib.Core.List.{List, []}
+use mathlib.Core.List.{List, [], _++_, append-nil}
 use mathlib.Core.Option.{Option, none, some, Option·elim}
 use Prim.Native.Nat.{ℕ}
 use native.Mathlib.Omega.{arith}
 use borrow.Author.Tests.{eqb-true, eq-eqb, ne-eqb}
 use lib.Dec.{eqb, ltb}
 use lib.IntN.{ℤ, pos}
-use lib.ListN.{length, take, drop, replicate}
-use lib.Seq.{take-at, drop-at}
+use lib.ListN.{length, take, drop, replicate, length-append, length-drop, drop-of-length-le}
+use lib.Seq.{take-all, take-at, drop-at}
 use Rattle.clock.specs.declared.Clock.{Clock}
 use Rattle.clock.specs.Clock.{freshClock, InRange, isInRange}
 use Rattle.clock.proofs.Bringing.{both-in}
 use Rattle.value.proofs.Kit.{true-not-false, false-not-true}
 use Rattle.model.specs.Resolved
 use Rattle.machine.specs.State.{State, stateLength, stateNumbers}
-use Rattle.machine.specs.Timed.{Timed, timed, GoodTimed}
+use Rattle.machine.specs.Timed.{Timed, timed, GoodTimed, clockLength}
 use Rattle.machine.proofs.Numbers.{state-length}
 use Rattle.machine.proofs.Saves.{returning-holds, StoredAnswers, accepts, refuses, returning-answers}
 use Rattle.state.specs.Test.{at}
-use Rattle.machine.specs.Saves.{isName, Saves, SavesOf, saveLimit, placeOf, placeFor, keptUnder, savesLength, Stored, stored, replaced, removed, saving, returning, forgetting}
+use Rattle.machine.specs.Saves.{isName, Saves, SavesOf, saveLimit, placeOf, placeFor, keptUnder, placeWidth, timedLength, savesLength, Stored, stored, replaced, removed, saving, returning, forgetting}
 use Rattle.machine.specs.Machine.{asLent, no, Held, heldAll, heldWith, Machine, closed, holding, onSaves, Request, save′, return′, forget′, on′, acts, Part, model, state, saves, clock, threeParts, fourParts, uses, isLent, allParts, onMachine}
 use Rattle.state.specs.Fits.{scopesOf, FewLocals}
 use Rattle.state.specs.Test.{isState}
@@ -39,6 +39,7 @@ use Rattle.buffers.proofs.Clocks as clocks
 use Rattle.buffers.proofs.Clocks.{clocked}
 use Rattle.buffers.proofs.Four.{four-in, keeps}
 use Rattle.buffers.proofs.Three.{InThree, nothing, all, in-three, Over, machine-over, tested, stores}
+use Rattle.engine.specs.declared.Answer as result
 use Rattle.engine.specs.declared.Timed as results
 use Rattle.engine.specs.Gives.{Gives, bare, isHolding}
 use Rattle.engine.specs.Waited.{Keeping, Returned}
@@ -88,7 +89,7 @@ unfolding forgettingNumbers
 forget-numbers n ks zs ss = by (isName n) (ltb (placeWith (keyNumbers n) ss) saveLimit)
   where
     T : List ℤ → Bool → Bool → Written
-    T ks b c = cond b (cond c (written 0 ks (withRow (placeWith (keyNumbers n) ss) (replicate _ (pos 0)) ss)) (written 21 ks ss)) (written 20 ks ss)
+    T ks b c = cond b (cond c (written 0 ks (withRow (placeWith (keyNumbers n) ss) (replicate placeWidth (pos 0)) ss)) (written 21 ks ss)) (written 20 ks ss)
 
     by : (b c : Bool) → (T ks b c .number ≡ T zs b c .number) × (T ks b c .saves ≡ T zs b c .saves) × (T ks b c .kept ≡ ks)
     by true true = (refl, refl, refl)
@@ -286,13 +287,13 @@ module _ (bs : List ℕ) (zs ss : List ℤ) (c : Clock) where
     -- ---- a return
 
     module _ (n : List ℕ) where
-      abbrev V : Written
-      V = returningNumbers n (besides zs c) ss
+      abbrev Vn : Written
+      Vn = returningNumbers n (besides zs c) ss
 
       abbrev t : Stored
       t = returning n (timed s c) rs
 
-      found : V ≡ storedNumbers t
+      found : Vn ≡ storedNumbers t
       found = ap₂ (returningNumbers n) kept-so saves-so ∙ returning-numbers (scopesOf m) (few-scopes m (o .good)) (m .channels) rs (saves-fit m (o .good) rs (o .saves)) n (timed s c)
 
       kept-good : GoodTimed m (t .kept)
@@ -301,15 +302,15 @@ module _ (bs : List ℕ) (zs ss : List ℤ) (c : Clock) where
       kept-long : length (stateNumbers (t .kept .state)) ≡ stateLength
       kept-long = state-length m (o .good) (t .kept .state) (kept-good .state)
 
-      kept-is : V .kept ≡ keptNumbers (t .kept)
+      kept-is : Vn .kept ≡ keptNumbers (t .kept)
       unfolding storedNumbers
       kept-is = ap (λ (k : Written). k .kept) found
 
-      clock-part : drop stateLength (V .kept) ≡ clockPlace (t .kept .clock)
+      clock-part : drop stateLength (Vn .kept) ≡ clockPlace (t .kept .clock)
       unfolding keptNumbers
       clock-part = ap (drop stateLength) kept-is ∙ drop-at (stateNumbers (t .kept .state)) (clockPlace (t .kept .clock)) stateLength kept-long
 
-      state-part : take stateLength (V .kept) ≡ stateNumbers (t .kept .state)
+      state-part : take stateLength (Vn .kept) ≡ stateNumbers (t .kept .state)
       unfolding keptNumbers
       state-part = ap (take stateLength) kept-is ∙ take-at (stateNumbers (t .kept .state)) (clockPlace (t .kept .clock)) stateLength kept-long
 
@@ -317,27 +318,66 @@ module _ (bs : List ℕ) (zs ss : List ℤ) (c : Clock) where
       unfolding isNatural
       keeping = record { ticks = λ z. ap (λ (l : List ℤ). isNatural (at l 0)) clock-part; draws = λ z. ap (λ (l : List ℤ). isNatural (at l 1)) clock-part }
 
-      pub return-gives : (r : results.Timed) (ys : List ℤ) → Returned V zs c r ys → Gives (answered (on′ (return′ n)) Y []) (r .answer) (lentAll bs ys ss (r .clock)) []
+      pub return-gives : (r : results.Timed) (ys : List ℤ) → Returned Vn zs c r ys → Gives (answered (on′ (return′ n)) Y []) (r .answer) (lentAll bs ys ss (r .clock)) []
       unfolding acts storedNumbers
       return-gives r ys w =
           rw (w .answer)
-          (given (return′ n) (returning n) (λ h. refl) refl (V .number) ys ss (r .clock) number (w .state ∙ state-at (eqb (V .number) 0) refl) (saves-so ∙ ap savesNumbers (sym (returning-saves n (timed s c) rs))) (w .clock ∙ clock-at (eqb (V .number) 0) refl))
+          (given (return′ n) (returning n) (λ h. refl) refl (Vn .number) ys ss (r .clock) number (w .state ∙ state-at (eqb (Vn .number) 0) refl) (saves-so ∙ ap savesNumbers (sym (returning-saves n (timed s c) rs))) (w .clock ∙ clock-at (eqb (Vn .number) 0) refl))
         where
-          number : V .number ≡ t .number
+          number : Vn .number ≡ t .number
           number = unfold storedNumbers in ap (λ (k : Written). k .number) found
 
           -- refused, it leaves all
-          same : eqb (V .number) 0 ≡ false → t .kept ≡ timed s c
+          same : eqb (Vn .number) 0 ≡ false → t .kept ≡ timed s c
           same q = by (returning-answers n (timed s c) rs)
             where
               by : StoredAnswers (timed s c) rs t → t .kept ≡ timed s c
-              by (accepts z) = true-not-false (sym (eq-eqb (V .number) 0 (number ∙ z)) ∙ q)
+              by (accepts z) = true-not-false (sym (eq-eqb (Vn .number) 0 (number ∙ z)) ∙ q)
               by (refuses a b k) = k .0
 
-          state-at : (b : Bool) → eqb (V .number) 0 ≡ b → cond b (take stateLength (V .kept)) zs ≡ stateNumbers (t .kept .state)
+          state-at : (b : Bool) → eqb (Vn .number) 0 ≡ b → cond b (take stateLength (Vn .kept)) zs ≡ stateNumbers (t .kept .state)
           state-at true q = state-part
           state-at false q = state-so ∙ sym (ap (λ (k : Timed). stateNumbers (k .state)) (same q))
 
-          clock-at : (b : Bool) → eqb (V .number) 0 ≡ b → cond b (clockAt (drop stateLength (V .kept))) c ≡ t .kept .clock
+          clock-at : (b : Bool) → eqb (Vn .number) 0 ≡ b → cond b (clockAt (drop stateLength (Vn .kept))) c ≡ t .kept .clock
           clock-at true q = ap clockAt clock-part
           clock-at false q = sym (ap (λ (k : Timed). k .clock) (same q))
+
+-- ---- the functions' cases
+
+pub besides-long : (zs : List ℤ) (c : Clock) {ks : List ℤ} → length zs ≡ stateLength → ks ≡ besides zs c → length ks ≡ timedLength
+besides-long zs c h e = ap length e ∙ length-append zs (clockPlace c) ∙ omega arith
+
+pub stores-from : (n : List ℕ) (ss : List ℤ) {ks zs : List ℤ} {k : ℕ} {ss′ : List ℤ} → ks ≡ zs → Stores (savingNumbers n ks ss) k ks ss′ → Stores (savingNumbers n zs ss) k zs ss′
+stores-from n ss e w = rw e at w
+
+pub returned-no : (n : List ℕ) (zs ss : List ℤ) (c : Clock) (ks ks′ ss′ : List ℤ) (k : ℕ) (a : result.Answer) (r : results.Timed) → r ≡ record { answer = a; clock = c } → a ≡ bare k 0 0 → ks ≡ besides zs c
+    → Stores (returningNumbers n ks ss) k ks′ ss′ → (k ≡ 0 → ⊥) → Returned (returningNumbers n (besides zs c) ss) zs c r zs
+returned-no n zs ss c ks ks′ ss′ k a r p q e w z =
+    let i : k ≡ returningNumbers n (besides zs c) ss .number = w .number ∙ ap (λ (l : List ℤ). returningNumbers n l ss .number) e in
+    let b : eqb (returningNumbers n (besides zs c) ss .number) 0 ≡ false = ne-eqb _ 0 (λ y. z (i ∙ y)) in
+    record { answer = ap (λ (t : results.Timed). t .answer) p ∙ q ∙ ap (λ (k : ℕ). bare k 0 0) i; state = rw b refl; clock = rw b (ap (λ (t : results.Timed). t .clock) p) }
+
+pub returned-yes : (n : List ℕ) (zs ss : List ℤ) (c : Clock) (ks ks′ ss′ : List ℤ) (k : ℕ) (a : result.Answer) (b : Clock) (r : results.Timed) (ys : List ℤ) → r ≡ record { answer = a; clock = b } → a ≡ bare 0 0 0 → ks ≡ besides zs c
+    → Stores (returningNumbers n ks ss) k ks′ ss′ → k ≡ 0 → b ≡ clockAt (drop stateLength ks′) → ys ≡ take stateLength ks′ ++ drop stateLength zs → length zs ≡ stateLength → Returned (returningNumbers n (besides zs c) ss) zs c r ys
+returned-yes n zs ss c ks ks′ ss′ k a b r ys p q e w z f g h =
+    let w′ : Stores (returningNumbers n (besides zs c) ss) k ks′ ss′ = rw e at w in
+    let i : eqb (returningNumbers n (besides zs c) ss .number) 0 ≡ true = eq-eqb _ 0 (sym (w′ .number) ∙ z) in
+    record {
+      answer = ap (λ (t : results.Timed). t .answer) p ∙ q ∙ ap (λ (k : ℕ). bare k 0 0) (sym z ∙ w′ .number);
+      state = rw i (g ∙ ap (λ (l : List ℤ). take stateLength ks′ ++ l) (drop-of-length-le zs {i = stateLength} (omega arith)) ∙ append-nil (take stateLength ks′) ∙ ap (take stateLength) (w′ .kept));
+      clock = rw i (ap (λ (t : results.Timed). t .clock) p ∙ f ∙ ap (λ (l : List ℤ). clockAt (drop stateLength l)) (w′ .kept));
+    }
+
+-- a clock's numbers are all that is left after a state's
+pub two-left : (l : List ℤ) → length l ≡ timedLength → take 2 (drop stateLength l) ≡ drop stateLength l
+two-left l h = take-all 2 (drop stateLength l) (simp length-drop (omega arith))
+
+pub readable : (n : List ℕ) (zs ss : List ℤ) (c : Clock) {ks ks′ ss′ : List ℤ} {k : ℕ} → ks ≡ besides zs c → Stores (returningNumbers n ks ss) k ks′ ss′ → k ≡ 0 → Keeping n (besides zs c) ss → length ks′ ≡ timedLength
+    → (length (take 2 (drop stateLength ks′)) ≡ clockLength) × (isNatural (at (take 2 (drop stateLength ks′)) 0) ≡ true) × (isNatural (at (take 2 (drop stateLength ks′)) 1) ≡ true)
+readable n zs ss c {ks} {ks′} {ss′} {k} e w z g h =
+    let w′ : Stores (returningNumbers n (besides zs c) ss) k ks′ ss′ = rw e at w in
+    let y = sym (w′ .number) ∙ z in
+    let q = ap (drop stateLength) (w′ .kept) in
+    rw (two-left ks′ h) (simp length-drop (omega arith), ap (λ (l : List ℤ). isNatural (at l 0)) q ∙ g .ticks y, ap (λ (l : List ℤ). isNatural (at l 1)) q ∙ g .draws y)
+

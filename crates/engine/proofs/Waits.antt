@@ -1,14 +1,15 @@
 -- What a timed step gives: 1 and 11, and else what the step gave, with the state put back and the clock as it was where the wait is refused. By cases of the machine that the model and the state hold, and of both answers.
 use mathlib.Core.Path.{_≡_, refl, sym, ap, ap₂, _∙_}
 use mathlib.Core.Bool.{Bool, true, false, cond, _&&_, and-true}
-use mathlib.Core.List.{List}
+use mathlib.Core.List.{List, _++_, append-nil}
 use mathlib.Core.Option.{Option, none, some, Option·elim}
 use Prim.Native.Nat.{ℕ, zero, suc, _≤_, _<_}
 use native.Mathlib.Omega.{arith}
 use borrow.Author.Tests.{eqb-true, eqb-false, eq-eqb, ne-eqb}
 use lib.Dec.{eqb}
 use lib.IntN.{ℤ}
-use lib.ListN.{length}
+use lib.ListN.{length, take, drop, drop-of-length-le}
+use lib.Seq.{take-all}
 use Rattle.clock.specs.declared.Clock.{Clock}
 use Rattle.clock.specs.declared.Brought.{Brought}
 use Rattle.clock.specs.Clock.{isInRange, broughtBy}
@@ -237,3 +238,36 @@ module _ (bs : List ℕ) (zs : List ℤ) (c : Clock) (ds : List ℕ) (d : ℕ) (
         by : {v : Machine} → InTwo v → y ≡ v → Gives (leaves twoParts (lentTwo bs zs) l (onMachine (step′ d) y)) r (lentTwo bs zs′) l′ → After r zs′ l′
         by machines.nothing q g = after-closed q (rw q at g)
         by (both m s) q g = unfold onMachine acts onState in after-held m s q (rw q at g)
+
+-- ---- the functions' cases
+
+-- a result that is made of an answer and a clock
+pub of-gives : (E : Effect) (bs : List ℕ) (zs : List ℤ) (l : List ℕ) (r : results.Timed) (a b : result.Answer) (c : Clock) → r ≡ record { answer = a; clock = c } → a ≡ b → Gives E b (lentTimed bs zs c) l
+    → Gives E (r .answer) (lentTimed bs zs (r .clock)) l
+of-gives E bs zs l r a b c p q g = rw (p, q) g
+
+pub waited-yes : (a : result.Answer) (c : Clock) (b b′ : Brought) (before zs : List ℤ) (r : results.Timed) → b′ ≡ b → b′ .number ≡ 0 → r ≡ record { answer = a; clock = b′ .clock } → Waited a c b before zs r zs
+unfolding afterWait
+waited-yes a c b b′ before zs r e z p =
+    let q : eqb (b .number) 0 ≡ true = ap (λ (b : Brought). eqb (b .number) 0) (sym e) ∙ eq-eqb (b′ .number) 0 z in
+    record { timed = rw q (p ∙ ap (λ (b : Brought). record { answer = a; clock = b .clock }) e); state = rw q refl }
+
+-- numbers put over as many
+pub put-over : (n : ℕ) (xs ys : List ℤ) → length xs ≡ n → length ys ≡ n → take n xs ++ drop n ys ≡ xs
+put-over n xs ys h k = ap₂ (λ (a b : List ℤ). a ++ b) (take-all n xs (omega arith)) (drop-of-length-le ys {i = n} (omega arith)) ∙ append-nil xs
+
+pub waited-no : (a f : result.Answer) (c : Clock) (b b′ : Brought) (before zs zs′ : List ℤ) (r : results.Timed) → b′ ≡ b → (b′ .number ≡ 0 → ⊥) → f ≡ filled (b′ .number) (a .count) (a .total) 0 → r ≡ record { answer = f; clock = c }
+    → length before ≡ stateLength → length zs ≡ stateLength → zs′ ≡ take stateLength before ++ drop stateLength zs → Waited a c b before zs r zs′
+unfolding afterWait
+waited-no a f c b b′ before zs zs′ r e z p g h k o =
+    let q : eqb (b .number) 0 ≡ false = ap (λ (b : Brought). eqb (b .number) 0) (sym e) ∙ ne-eqb (b′ .number) 0 z in
+    record {
+      timed = rw q (g ∙ ap (λ (f : result.Answer). record { answer = f; clock = c }) (p ∙ ap (λ (b : Brought). filled (b .number) (a .count) (a .total) 0) e));
+      state = rw q (o ∙ put-over stateLength before zs h k);
+    }
+
+pub waited-from : {a : result.Answer} {c : Clock} {b : Brought} {before before′ zs ys : List ℤ} {r : results.Timed} → before ≡ before′ → Waited a c b before zs r ys → Waited a c b before′ zs r ys
+waited-from {b = b} {zs = zs} e w = record { timed = w .timed; state = w .state ∙ ap (λ (l : List ℤ). cond (eqb (b .number) 0) zs l) e }
+
+pub put-long : (n : ℕ) (xs ys zs : List ℤ) → zs ≡ take n xs ++ drop n ys → length xs ≡ n → length ys ≡ n → length zs ≡ n
+put-long n xs ys zs e h k = ap length (e ∙ put-over n xs ys h k) ∙ h

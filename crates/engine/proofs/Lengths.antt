@@ -152,4 +152,3 @@ of-all E bs zs ss r a b c p q g = rw (p, q) g
 pub of-fresh : (E : Effect) (bs : List ℕ) (zs ss : List ℤ) (r : results.Timed) (a : result.Answer) (c : Clock) → r ≡ record { answer = a; clock = c } → c ≡ freshClock → Gives E a (lentAll bs zs ss freshClock) []
     → Gives E (r .answer) (lentAll bs zs ss (r .clock)) []
 of-fresh E bs zs ss r a c p q g = rw (p, q) g
-

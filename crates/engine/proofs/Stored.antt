@@ -232,7 +232,9 @@ module _ (bs : List ℕ) (zs ss : List ℤ) (c : Clock) where
         by : {y : Machine} → InThree y → machineIn threeParts (lentThree bs zs ss) ≡ y → Facts
         by nothing q = false-not-true (sym (in-range bs zs ss c in-c ∙ ap isHolding q) ∙ e)
         by (all m s rs) q = record {
-          m = m; s = s; rs = rs;
+          m = m;
+          s = s;
+          rs = rs;
           held-all = four-is bs zs ss c ∙ ap (λ (y : Machine). clocked y (clockNumbers c)) q ∙ (unfold clocked in rw in-c refl);
           over = machine-over (lentThree bs zs ss) m s rs long wide q;
           range = range-so;
@@ -380,4 +382,3 @@ readable n zs ss c {ks} {ks′} {ss′} {k} e w z g h =
     let y = sym (w′ .number) ∙ z in
     let q = ap (drop stateLength) (w′ .kept) in
     rw (two-left ks′ h) (simp length-drop (omega arith), ap (λ (l : List ℤ). isNatural (at l 0)) q ∙ g .ticks y, ap (λ (l : List ℤ). isNatural (at l 1)) q ∙ g .draws y)
-

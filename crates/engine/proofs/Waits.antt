@@ -130,7 +130,12 @@ module _ (bs : List ℕ) (zs : List ℤ) (c : Clock) (ds : List ℕ) (d : ℕ) (
       → Gives (leaves timedParts x l (turn (holding (heldAt m (u .machine .state) (u .machine .clock))) (u .answer))) r (lentTimed bs ys (u .machine .clock)) l′
   unfolding leaves
   gives-turn m u r ys l′ a b e f g h z o = record {
-    number = a; place = b; branch = e; count = f; total = g; chosen = h;
+    number = a;
+    place = b;
+    branch = e;
+    count = f;
+    total = g;
+    chosen = h;
     buffers = left-timed ys m (u .machine .state) (u .machine .clock) z;
     output = o;
   }

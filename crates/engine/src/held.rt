@@ -92,5 +92,8 @@ pub fn return_held(state: &mut [i64], saves: &[i64], name: &[u8], clock: Clock) 
         return Timed::of(Answer::bare(number, 0, 0), clock);
     }
     state::put(state, &kept, Engine::STATE);
-    Timed::of(Answer::bare(0, 0, 0), saves::clock_at(&kept[Engine::STATE..]))
+    Timed::of(
+        Answer::bare(0, 0, 0),
+        saves::clock_at(&kept[Engine::STATE..]),
+    )
 }

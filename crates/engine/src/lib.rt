@@ -3,8 +3,8 @@ pub mod held;
 pub mod listings;
 pub mod steps;
 pub mod subtotals;
-pub mod waiting;
 pub mod texts;
+pub mod waiting;
 
 use clock::Clock;
 use saves::Layout;
@@ -244,13 +244,7 @@ pub fn report(model: &[u8], state: &[i64], report: &mut [u64]) -> Answer
 }
 
 // Saves the state and the clock under a name.
-pub fn save(
-    model: &[u8],
-    state: &[i64],
-    saves: &mut [i64],
-    name: &[u8],
-    clock: Clock,
-) -> Answer
+pub fn save(model: &[u8], state: &[i64], saves: &mut [i64], name: &[u8], clock: Clock) -> Answer
     ensures { λ r. ⌜ Gives (effect (on′ (save′ (now (name .entry)))) (lentAll (now (model .entry)) (now (state .entry)) (now (saves .entry)) clock) []) r (lentAll (now (model .entry)) (now (state .entry)) (now (saves .exit)) clock) [] ⌝ }
 {
     if !are_all_long(model.len(), state.len(), saves.len()) {
@@ -266,13 +260,7 @@ pub fn save(
 }
 
 // Makes the state and the clock, which goes by value, that were saved under a name the present ones.
-pub fn return_to(
-    model: &[u8],
-    state: &mut [i64],
-    saves: &[i64],
-    name: &[u8],
-    clock: Clock,
-) -> Timed
+pub fn return_to(model: &[u8], state: &mut [i64], saves: &[i64], name: &[u8], clock: Clock) -> Timed
     ensures { λ r. ⌜ Gives (effect (on′ (return′ (now (name .entry)))) (lentAll (now (model .entry)) (now (state .entry)) (now (saves .entry)) clock) []) (r .answer) (lentAll (now (model .entry)) (now (state .exit)) (now (saves .entry)) (r .clock)) [] ⌝ }
 {
     if !are_all_long(model.len(), state.len(), saves.len()) {

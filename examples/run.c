@@ -10,6 +10,7 @@
 static uint8_t text[16385]; /* one byte more than a text may have: a longer file is refused with 2 */
 static uint8_t model[MATGRAVEL_MODEL];
 static int64_t state[MATGRAVEL_STATE];
+static int64_t saves[MATGRAVEL_SAVES];
 static uint64_t listing[MATGRAVEL_LISTING];
 
 /* SplitMix64. */
@@ -43,7 +44,7 @@ int main(int words, char **word) {
     fclose(file);
     uint64_t seed = strtoull(word[2], NULL, 10), steps = strtoull(word[3], NULL, 10);
 
-    matgravel_answer a = matgravel_open(text, size, model, MATGRAVEL_MODEL, state, MATGRAVEL_STATE);
+    matgravel_answer a = matgravel_open(text, size, model, MATGRAVEL_MODEL, state, MATGRAVEL_STATE, saves, MATGRAVEL_SAVES);
     if (a.number != 0) return refused(a);
     printf("open %zu\n", size);
     fwrite(text, 1, size, stdout);

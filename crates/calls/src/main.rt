@@ -1,12 +1,13 @@
 // Runs a script of calls from standard input, or from each file that an argument names, after a line `== NAME`. Each script has a fresh engine.
 //
-// A script has lines `open N`, which a text of N bytes and an LF follow, `list`, `step D`, `report` and `state`. N and D are decimal digits alone, below 2^64, leading zeros or not, after
-// a single blank. Every line ends with an LF, also the last. Lines are counted from 1 by their LFs, those within texts too.
+// A script has lines `open N`, which a text of N bytes and an LF follow, `list`, `step D`, `report`, `save NAME`, `return NAME`, `forget NAME` and `state`. N and D are decimal digits alone,
+// below 2^64, leading zeros or not, after a single blank; NAME is all bytes after the blank, perhaps none. Every line ends with an LF, also the last. Lines are counted from 1 by their LFs,
+// those within texts too.
 //
-// open, list, step and report print `number place branch count total chosen`, then each entry of the listing on a line of its own, after two blanks, and a report that is accepted
+// Each call prints `number place branch count total chosen`, then each entry of the listing on a line of its own, after two blanks, and a report that is accepted
 // its 64 numbers on one such line; `state` prints the state's numbers.
 // A line of another form prints `bad,LINE` and ends the script; so does `open N` whose text is cut short or has no LF after it. Nothing is called for it.
-// A text is lent to open up to 16,385 bytes: as many are too many already, so the bytes after them change no answer.
+// A text is lent to open up to 16,385 bytes, a name up to 19: as many are too many already, so the bytes after them change no answer.
 use libc::STDIN_FILENO;
 use libc::STDOUT_FILENO;
 use lines::line::Line;
@@ -31,6 +32,11 @@ impl Limits {
     const NUMBER: usize = 0;
 
     const COUNT: usize = 3;
+
+    // Bytes of a line before its name: `save `, and `return ` or `forget `.
+    const SAVE: u64 = 5;
+
+    const RETURN: u64 = 7;
 }
 
 type Text = [u8; Limits::TEXT];
@@ -40,6 +46,8 @@ type Model = [u8; Engine::MODEL];
 type State = [i64; Engine::STATE];
 
 type Listing = [u64; Engine::LISTING];
+
+type Saves = [i64; Engine::SAVES];
 
 // Where a run stands: the script, how many bytes of output wait, and whether it has ended.
 struct Run {
@@ -52,12 +60,17 @@ fn put(s: &[u8]) {
     io::write_all(STDOUT_FILENO, s);
 }
 
-// Keeps a byte of a text.
+// Where the next byte of a line or a text is kept.
+fn kept_at(part: Part) -> u64 {
+    match part {
+        Part::InLine(reading) => reading.kept,
+        Part::InText(_, taken) => taken,
+    }
+}
+
+// Keeps a byte of a line or a text.
 fn keep(part: Part, b: u8, text: &mut [u8]) {
-    let Part::InText(_, taken) = part else {
-        return;
-    };
-    let at = taken as usize;
+    let at = kept_at(part) as usize;
     if at < text.len() {
         text[at] = b;
     }
@@ -77,20 +90,30 @@ fn lent(size: u64) -> u64 {
     most
 }
 
+// Bytes of a name, of a line of which so many are kept, after so many.
+fn name_size(kept: u64, first: u64) -> u64 {
+    if kept < first {
+        return 0;
+    }
+    kept - first
+}
+
 // Makes one call by a row of a script, with the first bytes of the text or a draw, which is lent so many numbers of the listing, and answers.
 fn make_call(
     kind: u64,
+    first: u64,
     size: u64,
     draw: u64,
     listed: u64,
     text: &Text,
     model: &mut Model,
     state: &mut State,
+    saves: &mut Saves,
     listing: &mut Listing,
 ) -> [u64; Row::ANSWER] {
     let row: [u64; Row::WIDTH] = [
         kind,
-        0,
+        first,
         size,
         0,
         0,
@@ -98,9 +121,10 @@ fn make_call(
         listed,
         Engine::MODEL as u64,
         Engine::STATE as u64,
+        Engine::SAVES as u64,
     ];
     let mut answer = [0u64; Row::ANSWER];
-    script::run(&row, text, &[], model, state, listing, &mut answer);
+    script::run(&row, text, &[], model, state, saves, listing, &mut answer);
     answer
 }
 
@@ -114,10 +138,22 @@ fn put_call(
     text: &Text,
     model: &mut Model,
     state: &mut State,
+    saves: &mut Saves,
     listing: &mut Listing,
 ) -> usize {
     let listed = Engine::LISTING as u64;
-    let answer = make_call(kind, size, draw, listed, text, model, state, listing);
+    let answer = make_call(
+        kind,
+        0,
+        size,
+        draw,
+        listed,
+        text,
+        model,
+        state,
+        saves,
+        listing,
+    );
     let n = output::put_line(out, waits, &answer, b' ');
     output::put_entries(out, n, listing, answer[Limits::COUNT], b"  ", b' ')
 }
@@ -138,15 +174,45 @@ fn put_report(
     text: &Text,
     model: &mut Model,
     state: &mut State,
+    saves: &mut Saves,
     listing: &mut Listing,
 ) -> usize {
     let listed = Engine::REPORT as u64;
-    let answer = make_call(Row::REPORT, 0, 0, listed, text, model, state, listing);
+    let answer = make_call(
+        Row::REPORT,
+        0,
+        0,
+        0,
+        listed,
+        text,
+        model,
+        state,
+        saves,
+        listing,
+    );
     let n = output::put_line(out, waits, &answer, b' ');
     if answer[Limits::NUMBER] != 0 {
         return n;
     }
     put_numbers(out, n, listing)
+}
+
+// Puts the answer of a call on the saves, whose name stands after so many bytes of the line.
+fn put_named(
+    out: &mut Buffer,
+    waits: usize,
+    kind: u64,
+    first: u64,
+    kept: u64,
+    text: &Text,
+    model: &mut Model,
+    state: &mut State,
+    saves: &mut Saves,
+    listing: &mut Listing,
+) -> usize {
+    let size = name_size(kept, first);
+    let answer = make_call(kind, first, size, 0, 0, text, model, state, saves, listing);
+    output::put_line(out, waits, &answer, b' ')
 }
 
 // Does what an item of the script asks for.
@@ -157,6 +223,7 @@ fn ask(
     text: &Text,
     model: &mut Model,
     state: &mut State,
+    saves: &mut Saves,
     listing: &mut Listing,
 ) -> usize {
     match asked {
@@ -169,12 +236,71 @@ fn ask(
             text,
             model,
             state,
+            saves,
             listing,
         ),
-        Line::List => put_call(out, waits, Row::LIST, 0, 0, text, model, state, listing),
-        Line::Step(draw) => put_call(out, waits, Row::STEP, 0, draw, text, model, state, listing),
+        Line::List => put_call(
+            out,
+            waits,
+            Row::LIST,
+            0,
+            0,
+            text,
+            model,
+            state,
+            saves,
+            listing,
+        ),
+        Line::Step(draw) => put_call(
+            out,
+            waits,
+            Row::STEP,
+            0,
+            draw,
+            text,
+            model,
+            state,
+            saves,
+            listing,
+        ),
         Line::State => output::put_signed_line(out, waits, state, b' '),
-        Line::Report => put_report(out, waits, text, model, state, listing),
+        Line::Report => put_report(out, waits, text, model, state, saves, listing),
+        Line::Save(kept) => put_named(
+            out,
+            waits,
+            Row::SAVE,
+            Limits::SAVE,
+            kept,
+            text,
+            model,
+            state,
+            saves,
+            listing,
+        ),
+        Line::Return(kept) => put_named(
+            out,
+            waits,
+            Row::RETURN,
+            Limits::RETURN,
+            kept,
+            text,
+            model,
+            state,
+            saves,
+            listing,
+        ),
+        Line::Forget(kept) => put_named(
+            out,
+            waits,
+            Row::FORGET,
+            Limits::RETURN,
+            kept,
+            text,
+            model,
+            state,
+            saves,
+            listing,
+        ),
         Line::Bad => waits,
     }
 }
@@ -186,6 +312,7 @@ fn run_byte(
     text: &mut Text,
     model: &mut Model,
     state: &mut State,
+    saves: &mut Saves,
     listing: &mut Listing,
 ) -> Run {
     let script = run.script;
@@ -201,7 +328,7 @@ fn run_byte(
         },
         Taken::Asks(asked, next) => Run {
             script: next,
-            waits: ask(out, waits, asked, text, model, state, listing),
+            waits: ask(out, waits, asked, text, model, state, saves, listing),
             over: false,
         },
         Taken::Wrong(line) => Run {
@@ -219,12 +346,13 @@ fn run_bytes(
     text: &mut Text,
     model: &mut Model,
     state: &mut State,
+    saves: &mut Saves,
     listing: &mut Listing,
 ) -> Run {
     let mut now = run;
     let mut i = 0;
     while i < bytes.len() {
-        now = run_byte(now, bytes[i], out, text, model, state, listing);
+        now = run_byte(now, bytes[i], out, text, model, state, saves, listing);
         if now.over {
             return now;
         }
@@ -270,6 +398,7 @@ fn run_some(
     text: &mut Text,
     model: &mut Model,
     state: &mut State,
+    saves: &mut Saves,
     listing: &mut Listing,
 ) -> Run {
     let mut space = [0u8; Limits::READ];
@@ -279,7 +408,7 @@ fn run_some(
         return flushed(end(run, out), out);
     }
     flushed(
-        run_bytes(&space[..n], run, out, text, model, state, listing),
+        run_bytes(&space[..n], run, out, text, model, state, saves, listing),
         out,
     )
 }
@@ -290,6 +419,7 @@ fn run_script(fd: i32) {
     let mut text = [0u8; Limits::TEXT];
     let mut model = [0u8; Engine::MODEL];
     let mut state = [0i64; Engine::STATE];
+    let mut saves = [0i64; Engine::SAVES];
     let mut listing = [0u64; Engine::LISTING];
     let mut run = Run {
         script: Script::new(),
@@ -305,6 +435,7 @@ fn run_script(fd: i32) {
             &mut text,
             &mut model,
             &mut state,
+            &mut saves,
             &mut listing,
         );
         if run.over {

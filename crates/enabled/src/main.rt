@@ -36,8 +36,9 @@ fn put_sheet(out: &mut Buffer, answer: Answer, listing: &[u64]) -> usize {
 fn put_model(out: &mut Buffer, text: &[u8]) -> usize {
     let mut model = [0u8; Engine::MODEL];
     let mut state = [0i64; Engine::STATE];
+    let mut saves = [0i64; Engine::SAVES];
     let mut listing = [0u64; Engine::LISTING];
-    let opened = engine::open(text, &mut model, &mut state);
+    let opened = engine::open(text, &mut model, &mut state, &mut saves);
     if opened.number != 0 {
         return put_refused(out, opened);
     }

@@ -114,8 +114,8 @@ unfolding kept keptNext
 kept-on s b = by (ltb (min keptLimit (length s)) keptLimit) refl
   where
     by : (t : Bool) → ltb (min keptLimit (length s)) keptLimit ≡ t → cond t (min keptLimit (length s) + 1) (min keptLimit (length s)) ≡ min keptLimit (length (s ++ (b ∷ [])))
-    by true e = omega (arith, ltb-true _ _ e, length-append s (b ∷ []))
-    by false e = omega (arith, ltb-false _ _ e, length-append s (b ∷ []))
+    by true e = omega (arith, ltb-true (min keptLimit (length s)) keptLimit e, length-append s (b ∷ []))
+    by false e = omega (arith, ltb-false (min keptLimit (length s)) keptLimit e, length-append s (b ∷ []))
 
 pub short-on : {s : List ℕ} {r : Reading} (b k′ : ℕ) → Reads s r → b < 256 → r .head < full → k′ ≡ keptNext (r .kept) → Reads (s ++ (b ∷ [])) (record { head = r .head * 256 + b; rest = r .rest; after = r .after; kept = k′ })
 unfolding afterOf
@@ -255,8 +255,8 @@ save-then u = refl
 -- two bytes by their number
 pair-is : (x y : ℕ) (u : List ℕ) → Bytes u → x < 256 → y < 256 → eqb (packed 1 (take 2 u)) ((256 + x) * 256 + y) ≡ sameBytes (take 2 u) (x ∷ y ∷ [])
 unfolding packed sameBytes
-pair-is x y [] h k l = ne-eqb 1 _ (λ e. omega arith)
-pair-is x y (a ∷ []) h k l = ne-eqb (256 + a) _ (λ e. omega (arith, h .0)) ∙ sym (and-none (eqb a x))
+pair-is x y [] h k l = ne-eqb 1 ((256 + x) * 256 + y) (λ (q : 1 ≡ (256 + x) * 256 + y). omega arith)
+pair-is x y (a ∷ []) h k l = ne-eqb (256 + a) ((256 + x) * 256 + y) (λ (q : 256 + a ≡ (256 + x) * 256 + y). omega (arith, h .0)) ∙ sym (and-none (eqb a x))
   where
     and-none : (t : Bool) → (t && false) ≡ false
     and-none true = refl
@@ -264,9 +264,9 @@ pair-is x y (a ∷ []) h k l = ne-eqb (256 + a) _ (λ e. omega (arith, h .0)) �
 pair-is x y (a ∷ b ∷ u) h k l = by (eqb a x) (eqb b y) refl refl
   where
     by : (s t : Bool) → eqb a x ≡ s → eqb b y ≡ t → eqb ((256 + a) * 256 + b) ((256 + x) * 256 + y) ≡ (eqb a x && (eqb b y && true))
-    by true true e f = eq-eqb _ _ (omega (arith, eqb-true a x e, eqb-true b y f)) ∙ sym (rw (e, f))
-    by true false e f = ne-eqb _ _ (λ q. eqb-false b y f (omega (arith, h .0, h .1 .0))) ∙ sym (rw (e, f))
-    by false t e f = ne-eqb _ _ (λ q. eqb-false a x e (omega (arith, h .0, h .1 .0))) ∙ sym (rw e)
+    by true true e f = let u = eqb-true a x e in let v = eqb-true b y f in eq-eqb ((256 + a) * 256 + b) ((256 + x) * 256 + y) (omega arith) ∙ sym (rw (e, f))
+    by true false e f = ne-eqb ((256 + a) * 256 + b) ((256 + x) * 256 + y) (λ (q : (256 + a) * 256 + b ≡ (256 + x) * 256 + y). eqb-false b y f (omega (arith, h .0, h .1 .0))) ∙ sym (rw (e, f))
+    by false t e f = ne-eqb ((256 + a) * 256 + b) ((256 + x) * 256 + y) (λ (q : (256 + a) * 256 + b ≡ (256 + x) * 256 + y). eqb-false a x e (omega (arith, h .0, h .1 .0))) ∙ sym (rw e)
 
 -- the first five bytes of `return ` and `forget `
 abbrev retur : List ℕ

@@ -14,7 +14,7 @@ use Rattle.rules.proofs.Decides.{on}
 use Rattle.machine.specs.State.{State}
 use Rattle.machine.specs.Report.{reportLength}
 use Rattle.machine.specs.Machine.{entryLimit, listingLength, Shown, asLent, zeroed, filled, reported, Answer, no, listedAs, reportedAs, Listed, Turn, turn, drawn, showing, lists, sharing, reports, choosing, stepsWith, Held, Good, Machine, closed, holding, onState}
-use Rattle.machine.specs.Machine.{Request, list′, step′, report′, Ask, open′, on′, acts, Part, model, state, size, lentTo, outputOf, uses, isLent, allParts, hasLengths, Call, opens, onMachine, calls}
+use Rattle.machine.specs.Machine.{onSaves, Request, list′, step′, report′, save′, return′, forget′, Ask, open′, on′, acts, Part, model, state, saves, size, lentTo, outputOf, uses, isLent, allParts, hasLengths, Call, opens, onMachine, calls}
 use Rattle.machine.specs.Machine as machine
 use Rattle.machine.specs.Questions.{Lists, no12, no13, no14, yes14}
 use Rattle.machine.proofs.Lent.{both-true, each-lent, lent-so}
@@ -37,7 +37,7 @@ use Rattle.buffers.proofs.Held.{held-fits}
 use Rattle.buffers.proofs.Listings.{listing-length}
 use Rattle.buffers.proofs.Transitions.{fills}
 use Rattle.script.specs.declared.Row.{Row}
-use Rattle.script.specs.Rows.{openKind, reportKind, answerWidth, rowParts, rowLengths, Room, fits, rowCall, callOf}
+use Rattle.script.specs.Rows.{openKind, forgetKind, answerWidth, rowParts, rowLengths, Room, fits, rowCall, callOf}
 use Rattle.script.specs.Run.{Lent, roomOf, effectOf, callLeft}
 use Rattle.script.specs.Follows.{engineIn, partShown}
 use Rattle.script.proofs.Front.{front-take, front-drop}
@@ -54,11 +54,12 @@ in-row : (p : Part) → isLent p rowParts ≡ true
 unfolding isLent
 in-row model = refl
 in-row state = refl
+in-row saves = refl
 
 -- what a row that fits asks for
 pub record Asks (r : Row) (texts numbers : ℕ) (parts : Part → ℕ) (outputs : ℕ) : Type 0 where
   pub least : openKind ≤ r .kind
-  pub most : r .kind ≤ reportKind
+  pub most : r .kind ≤ forgetKind
   pub text : r .text + r .size ≤ texts
   pub list : r .from + r .count ≤ numbers
   pub part : (p : Part) → rowLengths r p ≤ parts p
@@ -68,7 +69,7 @@ pub row-asks : (r : Row) (texts numbers : ℕ) (parts : Part → ℕ) (outputs :
 unfolding fits
 row-asks r texts numbers parts outputs e =
     let a = both-true (leb openKind (r .kind)) _ e in
-    let b = both-true (leb (r .kind) reportKind) _ (a .1) in
+    let b = both-true (leb (r .kind) forgetKind) _ (a .1) in
     let c = both-true (leb (r .text + r .size) texts) _ (b .1) in
     let d = both-true (leb (r .from + r .count) numbers) _ (c .1) in
     let f = both-true (allParts (λ (p : Part). leb (rowLengths r p) (parts p)) rowParts) _ (d .1) in
@@ -214,10 +215,13 @@ reports-within h k g = within reportLength refl (omega arith) (by (asked (h .mod
     by (yes14 {es = es} c i l f) = unfold Spans sharing reportedAs in report-length (h .model) k (h .state) (g .state) es
 
 acts-within : (r : Request) (h : Held) → GoodModel (h .model) → Good h → InPart (on′ r) (acts r h .answer .listing)
-unfolding acts onState
+unfolding acts onState onSaves no
 acts-within list′ h k g = lists-within (h .model) (h .state)
 acts-within (step′ d) h k g = steps-within d (h .model) (h .state)
 acts-within report′ h k g = reports-within h k g
+acts-within (save′ n) h k g = nothing refl
+acts-within (return′ n) h k g = nothing refl
+acts-within (forget′ n) h k g = nothing refl
 
 asked-within : {x : Engine} {y : Machine} → Holds x y → (k : Ask) → InPart k (machine.asked y k .answer .listing)
 unfolding machine.asked onMachine

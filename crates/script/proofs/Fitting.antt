@@ -10,7 +10,7 @@ use lib.ListN.{length, set, drop}
 use Rattle.engine.specs.declared.Answer as engine
 use Rattle.script.specs.declared.Row.{Row}
 use Rattle.machine.specs.Machine.{allParts}
-use Rattle.script.specs.Rows.{openKind, reportKind, answerWidth, rowLengths, fits}
+use Rattle.script.specs.Rows.{openKind, forgetKind, answerWidth, rowLengths, fits}
 use Rattle.script.specs.Run.{lengthsOf, resultNumbers}
 
 -- two tests of one fact
@@ -26,42 +26,47 @@ same-test a b c d f g = by (leb a b) refl
         other false w = w
 
 -- each return of the test of a row
-module _ (r : Row) (t n m s o : ℕ) where
+module _ (r : Row) (t n m s v o : ℕ) where
   abbrev Fit : Bool
-  Fit = fits r t n (lengthsOf m s) o
+  Fit = fits r t n (lengthsOf m s v) o
 
   pub no-least : r .kind < openKind → Fit ≡ false
   unfolding fits
   no-least e = rw (lt-leb openKind (r .kind) e)
 
   module _ (a : openKind ≤ r .kind) where
-    pub no-most : reportKind < r .kind → Fit ≡ false
+    pub no-most : forgetKind < r .kind → Fit ≡ false
     unfolding fits
-    no-most e = rw (le-leb openKind (r .kind) a, lt-leb (r .kind) reportKind e)
+    no-most e = rw (le-leb openKind (r .kind) a, lt-leb (r .kind) forgetKind e)
 
-    module _ (b : r .kind ≤ reportKind) where
+    module _ (b : r .kind ≤ forgetKind) where
       pub no-text : leb (r .text + r .size) t ≡ false → Fit ≡ false
       unfolding fits
-      no-text e = rw (le-leb openKind (r .kind) a, le-leb (r .kind) reportKind b, e)
+      no-text e = rw (le-leb openKind (r .kind) a, le-leb (r .kind) forgetKind b, e)
 
       module _ (c : leb (r .text + r .size) t ≡ true) where
         pub no-list : leb (r .from + r .count) n ≡ false → Fit ≡ false
         unfolding fits
-        no-list e = rw (le-leb openKind (r .kind) a, le-leb (r .kind) reportKind b, c, e)
+        no-list e = rw (le-leb openKind (r .kind) a, le-leb (r .kind) forgetKind b, c, e)
 
         module _ (d : leb (r .from + r .count) n ≡ true) where
           pub no-model : m < r .model → Fit ≡ false
           unfolding fits allParts rowLengths lengthsOf
-          no-model e = rw (le-leb openKind (r .kind) a, le-leb (r .kind) reportKind b, c, d, lt-leb (r .model) m e)
+          no-model e = rw (le-leb openKind (r .kind) a, le-leb (r .kind) forgetKind b, c, d, lt-leb (r .model) m e)
 
           module _ (f : r .model ≤ m) where
             pub no-state : s < r .state → Fit ≡ false
             unfolding fits allParts rowLengths lengthsOf
-            no-state e = rw (le-leb openKind (r .kind) a, le-leb (r .kind) reportKind b, c, d, le-leb (r .model) m f, lt-leb (r .state) s e)
+            no-state e = rw (le-leb openKind (r .kind) a, le-leb (r .kind) forgetKind b, c, d, le-leb (r .model) m f, lt-leb (r .state) s e)
 
-            pub output-fits : r .state ≤ s → Fit ≡ leb (r .output) o
-            unfolding fits allParts rowLengths lengthsOf
-            output-fits g = rw (le-leb openKind (r .kind) a, le-leb (r .kind) reportKind b, c, d, le-leb (r .model) m f, le-leb (r .state) s g)
+            module _ (g : r .state ≤ s) where
+              pub no-saves : v < r .saves → Fit ≡ false
+              unfolding fits allParts rowLengths lengthsOf
+              no-saves e = rw (le-leb openKind (r .kind) a, le-leb (r .kind) forgetKind b, c, d, le-leb (r .model) m f, le-leb (r .state) s g, lt-leb (r .saves) v e)
+
+              pub output-fits : r .saves ≤ v → Fit ≡ leb (r .output) o
+              unfolding fits allParts rowLengths lengthsOf
+              output-fits e = rw (le-leb openKind (r .kind) a, le-leb (r .kind) forgetKind b, c, d, le-leb (r .model) m f, le-leb (r .state) s g, le-leb (r .saves) v e)
 
 -- an answer's numbers, one after the other
 pub written : (l : List ℕ) (r : engine.Answer) → answerWidth ≤ length l

@@ -7,8 +7,8 @@ use Prim.Native.Nat.{ℕ, _≤_, _<_}
 use borrow.Author.Tests.{le-leb, lt-leb}
 use lib.IntN.{ℤ}
 use lib.ListN.{length, drop}
-use Rattle.machine.specs.Machine.{Part, model, state, Call}
-use Rattle.buffers.specs.Parts.{Engine, lentTwo}
+use Rattle.machine.specs.Machine.{Part, model, state, saves, Call}
+use Rattle.buffers.specs.Parts.{Engine, lentThree}
 use Rattle.engine.specs.declared.Answer as engine
 use Rattle.script.specs.declared.Row.{Row}
 use Rattle.script.specs.Rows.{rowWidth, answerWidth, rowOf, fits, rowCall, callOf, firstCall}
@@ -47,13 +47,14 @@ module _ (script texts numbers : List ℕ) (x : Lent) where
       unfolding RowRan
       made f y q = rw (tested true f) (refl, q)
 
--- the lengths of the model and the state are those of the engine that they are
-pub two-fits : (row : Row) (t n o : ℕ) (bs : List ℕ) (zs : List ℤ) (b : Bool) → fits row t n (lengthsOf (length bs) (length zs)) o ≡ b → fits row t n (λ (p : Part). length (lentTwo bs zs p)) o ≡ b
-two-fits row t n o bs zs b e = ap (λ (l : Part → ℕ). fits row t n l o) (λ i p. sym (at p) i) ∙ e
+-- the lengths of the parts are those of the engine that they are
+pub three-fits : (row : Row) (t n o : ℕ) (bs : List ℕ) (zs ss : List ℤ) (b : Bool) → fits row t n (lengthsOf (length bs) (length zs) (length ss)) o ≡ b → fits row t n (λ (p : Part). length (lentThree bs zs ss p)) o ≡ b
+three-fits row t n o bs zs ss b e = ap (λ (l : Part → ℕ). fits row t n l o) (λ i p. sym (at p) i) ∙ e
   where
-    at : (p : Part) → lengthsOf (length bs) (length zs) p ≡ length (lentTwo bs zs p)
-    at model = unfold lengthsOf lentTwo in refl
-    at state = unfold lengthsOf lentTwo in refl
+    at : (p : Part) → lengthsOf (length bs) (length zs) (length ss) p ≡ length (lentThree bs zs ss p)
+    at model = unfold lengthsOf lentThree in refl
+    at state = unfold lengthsOf lentThree in refl
+    at saves = unfold lengthsOf lentThree in refl
 
 -- the call and the answer together
 pub call-left : (c : Call) (x : Engine) (ls ns : List ℕ) (r : engine.Answer) (x′ : Engine) (ls′ ns′ : List ℕ)

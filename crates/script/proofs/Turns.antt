@@ -11,8 +11,8 @@ use lib.Dec.{leb}
 use lib.IntN.{ℤ}
 use lib.ListN.{length, take, drop, length-drop, take-append-drop}
 use lib.Seq.{drop-drop, take-add}
-use Rattle.machine.specs.Machine.{listingLength, Part, model, state, Call}
-use Rattle.buffers.specs.Parts.{lentTwo}
+use Rattle.machine.specs.Machine.{listingLength, Part, model, state, saves, Call}
+use Rattle.buffers.specs.Parts.{lentThree}
 use Rattle.script.specs.Rows.{rowWidth, answerWidth, rowOf, rows, rowsOf, Room, roomAfter, callOf, firstCall, callsOf, callsIn}
 use Rattle.script.specs.Run.{Lent, lentOf, roomOf, callLeft, nextLent, joined, runLeft, RowRan, lentFrom, RowRanAt, Ran}
 
@@ -53,22 +53,28 @@ pub record Long (x y : Lent) : Type 0 where
   pub outputs : length (y .outputs) ≡ length (x .outputs)
   pub answers : length (y .answers) ≡ length (x .answers)
 
--- where the engine is a model and a state
-module _ (bs bs′ : List ℕ) (zs zs′ : List ℤ) {ls ls′ ns ns′ : List ℕ} where
-  pub two-long : length bs′ ≡ length bs → length zs′ ≡ length zs → length ls′ ≡ length ls → length ns′ ≡ length ns → Long (lentOf (lentTwo bs zs) ls ns) (lentOf (lentTwo bs′ zs′) ls′ ns′)
-  two-long e f g h = record { parts = at; outputs = g; answers = h }
+-- where the engine is a model, a state and saves
+module _ (bs bs′ : List ℕ) (zs zs′ ss ss′ : List ℤ) {ls ls′ ns ns′ : List ℕ} where
+  pub three-long : length bs′ ≡ length bs → length zs′ ≡ length zs → length ss′ ≡ length ss → length ls′ ≡ length ls → length ns′ ≡ length ns
+      → Long (lentOf (lentThree bs zs ss) ls ns) (lentOf (lentThree bs′ zs′ ss′) ls′ ns′)
+  three-long e f k g h = record { parts = at; outputs = g; answers = h }
     where
-      at : (p : Part) → length (lentTwo bs′ zs′ p) ≡ length (lentTwo bs zs p)
-      at model = unfold lentTwo in e
-      at state = unfold lentTwo in f
+      at : (p : Part) → length (lentThree bs′ zs′ ss′ p) ≡ length (lentThree bs zs ss p)
+      at model = unfold lentThree in e
+      at state = unfold lentThree in f
+      at saves = unfold lentThree in k
 
-  pub model-long : Long (lentOf (lentTwo bs zs) ls ns) (lentOf (lentTwo bs′ zs′) ls′ ns′) → length bs′ ≡ length bs
-  unfolding lentTwo
+  pub model-long : Long (lentOf (lentThree bs zs ss) ls ns) (lentOf (lentThree bs′ zs′ ss′) ls′ ns′) → length bs′ ≡ length bs
+  unfolding lentThree
   model-long l = l .parts model
 
-  pub state-long : Long (lentOf (lentTwo bs zs) ls ns) (lentOf (lentTwo bs′ zs′) ls′ ns′) → length zs′ ≡ length zs
-  unfolding lentTwo
+  pub state-long : Long (lentOf (lentThree bs zs ss) ls ns) (lentOf (lentThree bs′ zs′ ss′) ls′ ns′) → length zs′ ≡ length zs
+  unfolding lentThree
   state-long l = l .parts state
+
+  pub saves-long : Long (lentOf (lentThree bs zs ss) ls ns) (lentOf (lentThree bs′ zs′ ss′) ls′ ns′) → length ss′ ≡ length ss
+  unfolding lentThree
+  saves-long l = l .parts saves
 
 -- what rows before i have written, then what the others are lent and leave
 abbrev onto : ℕ → Lent → Lent → Lent

@@ -1,16 +1,16 @@
--- A script: nine numbers a row, each row a call on what is lent (01, Rule machine: texts, draws, and the lengths of all that is lent). Definitions only.
+-- A script: ten numbers a row, each row a call on what is lent (01, Rule machine: texts, draws, and the lengths of all that is lent). Definitions only.
 use mathlib.Core.Bool.{Bool, cond, _&&_}
 use mathlib.Core.List.{List, [], _∷_}
 use mathlib.Core.Option.{Option, none, some, Option·elim}
 use Prim.Native.Nat.{ℕ, zero, suc, _+_, _-_, _/_}
 use lib.Dec.{eqb, leb}
 use lib.ListN.{length, getD, take, drop}
-use Rattle.machine.specs.Machine.{listingLength, list′, step′, report′, Ask, open′, on′, Part, model, state, allParts, Call, call}
+use Rattle.machine.specs.Machine.{listingLength, list′, step′, report′, save′, return′, forget′, Ask, open′, on′, Part, model, state, saves, allParts, Call, call}
 use Rattle.script.specs.declared.Row.{Row}
 
 -- numbers of a row, and of an answer
 abbrev pub rowWidth : ℕ
-rowWidth = 9
+rowWidth = 10
 
 abbrev pub answerWidth : ℕ
 answerWidth = 6
@@ -28,9 +28,18 @@ stepKind = 3
 abbrev pub reportKind : ℕ
 reportKind = 4
 
+abbrev pub saveKind : ℕ
+saveKind = 5
+
+abbrev pub returnKind : ℕ
+returnKind = 6
+
+abbrev pub forgetKind : ℕ
+forgetKind = 7
+
 -- ---- rows
 
--- kind; place and size of a text, and of a list of numbers; a draw; how many numbers of the output and of each part are lent
+-- kind; place and size of a text or name, and of a list of numbers; a draw; how many numbers of the output and of each part are lent
 unfoldable pub rowOf : List ℕ → Row
 rowOf l = record {
   kind = getD l 0 0;
@@ -42,6 +51,7 @@ rowOf l = record {
   output = getD l 6 0;
   model = getD l 7 0;
   state = getD l 8 0;
+  saves = getD l 9 0;
 }
 
 -- so many rows, one after the other
@@ -55,12 +65,13 @@ rowsOf l = rows (length l / rowWidth) l
 
 -- the parts of the engine, in the order of a row
 abbrev pub rowParts : List Part
-rowParts = model ∷ state ∷ []
+rowParts = model ∷ state ∷ saves ∷ []
 
 -- how many numbers of each a row lends
 unfoldable pub rowLengths : Row → Part → ℕ
 rowLengths r model = r .model
 rowLengths r state = r .state
+rowLengths r saves = r .saves
 
 -- ---- calls
 
@@ -77,15 +88,23 @@ roomAfter x = record { parts = x .parts; outputs = x .outputs - listingLength; a
 -- a row of one of the kinds, that asks for no more than there is: its text and its list stand in so many bytes and numbers, and what it lends is there
 unfoldable pub fits : Row → (texts numbers : ℕ) → (Part → ℕ) → (outputs : ℕ) → Bool
 fits r texts numbers parts outputs =
-    leb openKind (r .kind) && (leb (r .kind) reportKind
+    leb openKind (r .kind) && (leb (r .kind) forgetKind
     && (leb (r .text + r .size) texts && (leb (r .from + r .count) numbers
     && (allParts (λ (p : Part). leb (rowLengths r p) (parts p)) rowParts && leb (r .output) outputs))))
 
--- 01, Rule machine: what a row that fits asks: a text or a draw
+-- the bytes of a row's text or name
+unfoldable pub rowText : List ℕ → Row → List ℕ
+rowText texts r = take (r .size) (drop (r .text) texts)
+
+-- 01, Rule machine: what a row that fits asks: a text or a draw; 02, note 2: or a name
 unfoldable pub rowAsk : List ℕ → Row → Ask
 rowAsk texts r =
-    cond (eqb (r .kind) openKind) (open′ (take (r .size) (drop (r .text) texts)))
-    (cond (eqb (r .kind) listKind) (on′ list′) (cond (eqb (r .kind) reportKind) (on′ report′) (on′ (step′ (r .number)))))
+    cond (eqb (r .kind) openKind) (open′ (rowText texts r))
+    (cond (eqb (r .kind) listKind) (on′ list′)
+    (cond (eqb (r .kind) reportKind) (on′ report′)
+    (cond (eqb (r .kind) stepKind) (on′ (step′ (r .number)))
+    (cond (eqb (r .kind) saveKind) (on′ (save′ (rowText texts r)))
+    (cond (eqb (r .kind) returnKind) (on′ (return′ (rowText texts r))) (on′ (forget′ (rowText texts r))))))))
 
 -- 01, Rule machine: its call, with the lengths of what is lent
 unfoldable pub rowCall : List ℕ → Row → Call

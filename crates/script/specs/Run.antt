@@ -5,7 +5,7 @@ use mathlib.Core.List.{List, [], _∷_, _++_}
 use mathlib.Core.Option.{Option, none, some}
 use Prim.Native.Nat.{ℕ, _*_}
 use lib.ListN.{length, take, drop}
-use Rattle.machine.specs.Machine.{listingLength, Answer, Part, model, state, Call}
+use Rattle.machine.specs.Machine.{listingLength, Answer, Part, model, state, saves, Call}
 use Rattle.buffers.specs.Parts.{Engine}
 use Rattle.buffers.specs.Effect.{Effect, effect}
 use Rattle.engine.specs.declared.Answer as engine
@@ -24,10 +24,11 @@ lentOf x ls ns = record { engine = x; outputs = ls; answers = ns }
 unfoldable pub roomOf : Lent → Room
 roomOf x = record { parts = λ (p : Part). length (x .engine p); outputs = length (x .outputs); answers = length (x .answers) }
 
--- the same of the model and the state alone
-unfoldable pub lengthsOf : (model state : ℕ) → Part → ℕ
-lengthsOf m s model = m
-lengthsOf m s state = s
+-- the same of the parts one by one
+unfoldable pub lengthsOf : (model state saves : ℕ) → Part → ℕ
+lengthsOf m s v model = m
+lengthsOf m s v state = s
+lengthsOf m s v saves = v
 
 -- 01, Opening a text, Listing and stepping: what a call answers and leaves, which is lent the first numbers of each part and of the outputs
 unfoldable pub effectOf : Call → Engine → List ℕ → Effect

@@ -1,18 +1,18 @@
-// A script of calls on one engine: nine numbers a row, run in order on lent buffers.
+// A script of calls on one engine: ten numbers a row, run in order on lent buffers.
 use engine::Answer;
 use store::Engine;
 ghost use mathlib.Core.Path.{_≡_};
 ghost use mathlib.Core.Bool.{true};
-ghost use mathlib.Core.List.{_++_};
+ghost use mathlib.Core.List.{List, _++_};
 ghost use Prim.Native.Nat.{ℕ, _+_, _*_, _≤_, min};
 ghost use lib.Dec.{leb};
 ghost use lib.ListN.{length, drop};
-ghost use Rattle.buffers.specs.Parts.{lentTwo};
-ghost use Rattle.script.specs.Rows.{rowWidth, answerWidth, rowOf, fits, rowCall, firstCall};
+ghost use Rattle.buffers.specs.Parts.{lentThree};
+ghost use Rattle.script.specs.Rows.{rowWidth, answerWidth, saveKind, rowOf, fits, rowCall, firstCall};
 ghost use Rattle.script.specs.Run.{lentOf, roomOf, lengthsOf, resultNumbers, Called, RowRan, RowRanAt, Ran};
 ghost use Rattle.script.specs.Follows.{Refines};
 
-// A row: the kind of call; place and size of its text, and of its list of numbers; its draw; how many numbers of the output, the model and the state it is lent.
+// A row: the kind of call; place and size of its text or name, and of its list of numbers; its draw; how many numbers of the output, the model, the state and the saves it is lent.
 pub struct Row {
     pub kind: u64,
     pub text: usize,
@@ -23,11 +23,12 @@ pub struct Row {
     pub output: usize,
     pub model: usize,
     pub state: usize,
+    pub saves: usize,
 }
 
 impl Row {
     // Numbers of a row, and of an answer.
-    pub const WIDTH: usize = 9;
+    pub const WIDTH: usize = 10;
 
     pub const ANSWER: usize = 6;
 
@@ -40,7 +41,13 @@ impl Row {
 
     pub const REPORT: u64 = 4;
 
-    pub const LAST: u64 = Row::REPORT;
+    pub const SAVE: u64 = 5;
+
+    pub const RETURN: u64 = 6;
+
+    pub const FORGET: u64 = 7;
+
+    pub const LAST: u64 = Row::FORGET;
 }
 
 // The first row of a script.
@@ -58,6 +65,7 @@ fn read_row(script: &[u64]) -> Row
         output: script[6] as usize,
         model: script[7] as usize,
         state: script[8] as usize,
+        saves: script[9] as usize,
     }
 }
 
@@ -71,16 +79,17 @@ fn has_part(all: usize, first: usize, size: usize) -> bool
     first <= all - size
 }
 
-// Whether a row is a call on so much: bytes of texts, numbers, numbers of a model, a state and outputs.
+// Whether a row is a call on so much: bytes of texts, numbers, numbers of a model, a state, saves and outputs.
 fn is_call(
     row: Row,
     texts: usize,
     numbers: usize,
     model: usize,
     state: usize,
+    saves: usize,
     outputs: usize,
 ) -> bool
-    ensures { λ r. ⌜ r ≡ fits row texts numbers (lengthsOf model state) outputs ⌝ }
+    ensures { λ r. ⌜ r ≡ fits row texts numbers (lengthsOf model state saves) outputs ⌝ }
 {
     if row.kind < Row::OPEN {
         return false;
@@ -100,20 +109,70 @@ fn is_call(
     if state < row.state {
         return false;
     }
+    if saves < row.saves {
+        return false;
+    }
     row.output <= outputs
 }
 
+// Makes the call of a row on the saves.
+fn call_named(row: Row, texts: &[u8], model: &[u8], state: &mut [i64], saves: &mut [i64]) -> Answer
+    requires { ⌜ (saveKind ≤ row .kind) × ((n : ℕ) × ((o : ℕ) × (fits row (length (now texts)) n (lengthsOf (length (now model)) (length (now state)) (length (now saves))) o ≡ true))) ⌝ }
+    ensures { λ r. ⌜ ((ls : List ℕ) → Called (rowCall (now (texts .entry)) row) (lentThree (now (model .entry)) (now (state .entry)) (now (saves .entry))) ls r (lentThree (now (model .entry)) (now (state .exit)) (now (saves .exit))) ls) ⌝ }
+{
+    let m = row.model;
+    let s = row.state;
+    let v = row.saves;
+    let first = row.text;
+    let end = first + row.size;
+    if row.kind == Row::SAVE {
+        return engine::save(
+            &model[..m],
+            &state[..s],
+            &mut saves[..v],
+            &texts[first..end],
+        );
+    }
+    if row.kind == Row::RETURN {
+        return engine::return_to(
+            &model[..m],
+            &mut state[..s],
+            &saves[..v],
+            &texts[first..end],
+        );
+    }
+    engine::forget(
+        &model[..m],
+        &state[..s],
+        &mut saves[..v],
+        &texts[first..end],
+    )
+}
+
 // Makes the call of a row.
-fn call(row: Row, texts: &[u8], model: &mut [u8], state: &mut [i64], outputs: &mut [u64]) -> Answer
-    requires { ⌜ ((n : ℕ) × (fits row (length (now texts)) n (lengthsOf (length (now model)) (length (now state))) (length (now outputs)) ≡ true)) ⌝ }
-    ensures { λ r. ⌜ Called (rowCall (now (texts .entry)) row) (lentTwo (now (model .entry)) (now (state .entry))) (now (outputs .entry)) r (lentTwo (now (model .exit)) (now (state .exit))) (now (outputs .exit)) ⌝ }
+fn call(
+    row: Row,
+    texts: &[u8],
+    model: &mut [u8],
+    state: &mut [i64],
+    saves: &mut [i64],
+    outputs: &mut [u64],
+) -> Answer
+    requires { ⌜ ((n : ℕ) × (fits row (length (now texts)) n (lengthsOf (length (now model)) (length (now state)) (length (now saves))) (length (now outputs)) ≡ true)) ⌝ }
+    ensures { λ r. ⌜ Called (rowCall (now (texts .entry)) row) (lentThree (now (model .entry)) (now (state .entry)) (now (saves .entry))) (now (outputs .entry)) r (lentThree (now (model .exit)) (now (state .exit)) (now (saves .exit))) (now (outputs .exit)) ⌝ }
 {
     let m = row.model;
     let s = row.state;
     if row.kind == Row::OPEN {
+        let v = row.saves;
         let first = row.text;
         let end = first + row.size;
-        return engine::open(&texts[first..end], &mut model[..m], &mut state[..s]);
+        return engine::open(
+            &texts[first..end],
+            &mut model[..m],
+            &mut state[..s],
+            &mut saves[..v],
+        );
     }
     let l = row.output;
     if row.kind == Row::LIST {
@@ -122,7 +181,10 @@ fn call(row: Row, texts: &[u8], model: &mut [u8], state: &mut [i64], outputs: &m
     if row.kind == Row::REPORT {
         return engine::report(&model[..m], &state[..s], &mut outputs[..l]);
     }
-    engine::step(&model[..m], &mut state[..s], &mut outputs[..l], row.number)
+    if row.kind == Row::STEP {
+        return engine::step(&model[..m], &mut state[..s], &mut outputs[..l], row.number);
+    }
+    call_named(row, texts, &model[..], state, saves)
 }
 
 // Writes an answer's numbers over the first of answers.
@@ -145,10 +207,11 @@ fn run_row(
     numbers: &[u64],
     model: &mut [u8],
     state: &mut [i64],
+    saves: &mut [i64],
     outputs: &mut [u64],
     answers: &mut [u64],
 ) -> bool
-    ensures { λ r. ⌜ RowRan (firstCall (now (script .entry)) (now (texts .entry)) (now (numbers .entry)) (roomOf (lentOf (lentTwo (now (model .entry)) (now (state .entry))) (now (outputs .entry)) (now (answers .entry))))) (lentOf (lentTwo (now (model .entry)) (now (state .entry))) (now (outputs .entry)) (now (answers .entry))) r (lentOf (lentTwo (now (model .exit)) (now (state .exit))) (now (outputs .exit)) (now (answers .exit))) ⌝ }
+    ensures { λ r. ⌜ RowRan (firstCall (now (script .entry)) (now (texts .entry)) (now (numbers .entry)) (roomOf (lentOf (lentThree (now (model .entry)) (now (state .entry)) (now (saves .entry))) (now (outputs .entry)) (now (answers .entry))))) (lentOf (lentThree (now (model .entry)) (now (state .entry)) (now (saves .entry))) (now (outputs .entry)) (now (answers .entry))) r (lentOf (lentThree (now (model .exit)) (now (state .exit)) (now (saves .exit))) (now (outputs .exit)) (now (answers .exit))) ⌝ }
 {
     if script.len() < Row::WIDTH {
         return false;
@@ -163,11 +226,12 @@ fn run_row(
         numbers.len(),
         model.len(),
         state.len(),
+        saves.len(),
         outputs.len(),
     ) {
         return false;
     }
-    let answer = call(row, texts, model, state, outputs);
+    let answer = call(row, texts, model, state, saves, outputs);
     put_answer(answers, answer);
     true
 }
@@ -191,10 +255,11 @@ fn run_at(
     numbers: &[u64],
     model: &mut [u8],
     state: &mut [i64],
+    saves: &mut [i64],
     outputs: &mut [u64],
     answers: &mut [u64],
 ) -> bool
-    ensures { λ r. ⌜ RowRanAt i (now (script .entry)) (now (texts .entry)) (now (numbers .entry)) (lentOf (lentTwo (now (model .entry)) (now (state .entry))) (now (outputs .entry)) (now (answers .entry))) r (lentOf (lentTwo (now (model .exit)) (now (state .exit))) (now (outputs .exit)) (now (answers .exit))) ⌝ }
+    ensures { λ r. ⌜ RowRanAt i (now (script .entry)) (now (texts .entry)) (now (numbers .entry)) (lentOf (lentThree (now (model .entry)) (now (state .entry)) (now (saves .entry))) (now (outputs .entry)) (now (answers .entry))) r (lentOf (lentThree (now (model .exit)) (now (state .exit)) (now (saves .exit))) (now (outputs .exit)) (now (answers .exit))) ⌝ }
 {
     let row = place_of(i, Row::WIDTH, script.len());
     let output = place_of(i, Engine::LISTING, outputs.len());
@@ -205,6 +270,7 @@ fn run_at(
         numbers,
         model,
         state,
+        saves,
         &mut outputs[output..],
         &mut answers[answer..],
     )
@@ -217,14 +283,25 @@ pub fn run(
     numbers: &[u64],
     model: &mut [u8],
     state: &mut [i64],
+    saves: &mut [i64],
     outputs: &mut [u64],
     answers: &mut [u64],
 ) -> usize
-    ensures { λ r. ⌜ Ran (now (script .entry)) (now (texts .entry)) (now (numbers .entry)) (lentOf (lentTwo (now (model .entry)) (now (state .entry))) (now (outputs .entry)) (now (answers .entry))) r (lentOf (lentTwo (now (model .exit)) (now (state .exit))) (now (outputs .exit)) (now (answers .exit))) ⌝ }
-    ensures { λ _. ⌜ Refines (now (script .entry)) (now (texts .entry)) (now (numbers .entry)) (lentOf (lentTwo (now (model .entry)) (now (state .entry))) (now (outputs .entry)) (now (answers .entry))) (lentOf (lentTwo (now (model .exit)) (now (state .exit))) (now (outputs .exit)) (now (answers .exit))) ⌝ }
+    ensures { λ r. ⌜ Ran (now (script .entry)) (now (texts .entry)) (now (numbers .entry)) (lentOf (lentThree (now (model .entry)) (now (state .entry)) (now (saves .entry))) (now (outputs .entry)) (now (answers .entry))) r (lentOf (lentThree (now (model .exit)) (now (state .exit)) (now (saves .exit))) (now (outputs .exit)) (now (answers .exit))) ⌝ }
+    ensures { λ _. ⌜ Refines (now (script .entry)) (now (texts .entry)) (now (numbers .entry)) (lentOf (lentThree (now (model .entry)) (now (state .entry)) (now (saves .entry))) (now (outputs .entry)) (now (answers .entry))) (lentOf (lentThree (now (model .exit)) (now (state .exit)) (now (saves .exit))) (now (outputs .exit)) (now (answers .exit))) ⌝ }
 {
     let mut i = 0;
-    while run_at(i, script, texts, numbers, model, state, outputs, answers) {
+    while run_at(
+        i,
+        script,
+        texts,
+        numbers,
+        model,
+        state,
+        saves,
+        outputs,
+        answers,
+    ) {
         i += 1;
     }
     i

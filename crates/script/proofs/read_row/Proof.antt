@@ -1,5 +1,4 @@
--- The first nine numbers, each where the definition reads it.
-use Prim.Native.Nat.{_-_}
+-- The first ten numbers, each where the definition reads it.
 use borrow.Author.Needs.{needs}
 use Rattle.script.specs.Rows.{rowOf}
 use Rattle.script.proofs.read_row.Statement.{statement}
@@ -32,6 +31,9 @@ shared-slice-read-t22 c = search needs
 shared-slice-read-t25 : tie.Need-shared-slice-read-t25
 shared-slice-read-t25 c = search needs
 
+shared-slice-read-t28 : tie.Need-shared-slice-read-t28
+shared-slice-read-t28 c = search needs
+
 returns : tie.Need-returns
 unfolding rowOf
 returns c = search needs
@@ -39,14 +41,4 @@ returns c = search needs
 pub read-row-spec : {M : Type 1} → statement M
 read-row-spec =
     tie.close
-    (tie.spec
-    shared-slice-read-t3
-    shared-slice-read-t5
-    shared-slice-read-t8
-    shared-slice-read-t11
-    shared-slice-read-t14
-    shared-slice-read-t17
-    shared-slice-read-t19
-    shared-slice-read-t22
-    shared-slice-read-t25
-    returns)
+    (tie.spec shared-slice-read-t3 shared-slice-read-t5 shared-slice-read-t8 shared-slice-read-t11 shared-slice-read-t14 shared-slice-read-t17 shared-slice-read-t19 shared-slice-read-t22 shared-slice-read-t25 shared-slice-read-t28 returns)

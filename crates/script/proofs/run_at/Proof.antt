@@ -1,8 +1,6 @@
 -- The row's parts of outputs and answers, lent and put back.
-use denote.Ref.{now}
-use Prim.Native.Nat.{_-_}
 use borrow.Author.Needs.{needs}
-use Rattle.buffers.specs.Parts.{lentTwo}
+use Rattle.buffers.specs.Parts.{lentThree}
 use Rattle.script.proofs.Places.{ran-at}
 use Rattle.script.proofs.run_at.Statement.{statement}
 use Rattle.script.proofs.run_at.Tie as tie
@@ -67,36 +65,16 @@ same-length-3 c = search needs
 same-length-4 : tie.Need-same-length-4
 same-length-4 c = search needs
 
+same-length-5 : tie.Need-same-length-5
+same-length-5 c = search needs
+
 returns : tie.Need-returns
 returns c =
-    let B = now (c .before .before .before .before .before .before .before .before .before .before .before .before .before .before .before .before .before .before .before .before .before .before .args .model) in
-    let Z = now (c .before .before .before .before .before .before .before .before .before .before .before .before .before .before .before .before .before .before .before .before .before .before .args .state) in
-    ran-at (c .before .before .before .before .before .before .before .before .before .before .before .before .before .before .before .before .before .before .before .before .before .before .args .i) (c .before .before .before .before .before .before .before .before .before .before .before .before .before .before .before .place-of .result) (c .before .before .before .before .before .before .before .before .before .before .before .before .before .before .place-of2 .result) (c .before .before .before .before .before .before .before .before .before .before .before .before .before .place-of3 .result) (now (c .before .before .before .before .before .before .before .before .before .before .before .before .before .before .before .before .before .before .before .before .before .before .args .script)) (now (c .before .before .before .before .before .before .before .before .before .before .before .before .before .before .before .before .before .before .before .before .before .before .args .texts)) (now (c .before .before .before .before .before .before .before .before .before .before .before .before .before .before .before .before .before .before .before .before .before .before .args .numbers)) (lentTwo B Z) (now (c .before .before .before .before .before .before .before .before .before .before .before .before .before .before .before .before .before .before .before .before .before .before .args .outputs)) (now (c .before .before .before .before .before .before .before .before .before .before .before .before .before .before .before .before .before .before .before .before .before .before .args .answers))
-    (c .before .before .before .before .before .before .before .before .before .before .before .before .before .before .before .place-of .ensures) (c .before .before .before .before .before .before .before .before .before .before .before .before .before .before .place-of2 .ensures) (c .before .before .before .before .before .before .before .before .before .before .before .before .before .place-of3 .ensures) (c .before .before .before .before .before .before .before .run-row .result) (lentTwo (c .before .before .before .before .before .before .before .run-row .last .1 .1 .1 .0) (c .before .before .before .before .before .before .before .run-row .last .1 .1 .1 .1 .0)) (c .before .before .before .before .before .before .before .run-row .last .1 .1 .1 .1 .1 .0) (c .before .before .before .before .before .before .before .run-row .last .1 .1 .1 .1 .1 .1 .0)
-    (c .before .before .before .before .before .before .before .run-row .kept .1 .1 .1 .1 .1 .0) (c .before .before .before .before .before .before .before .run-row .kept .1 .1 .1 .1 .1 .1 .0) (c .before .before .before .before .before .before .before .run-row .ensures)
+    ran-at (c .before .before .before .before .before .before .before .before .before .before .before .before .before .before .before .before .before .before .before .before .before .before .before .before .args .i) (c .before .before .before .before .before .before .before .before .before .before .before .before .before .before .before .before .before .place-of .result) (c .before .before .before .before .before .before .before .before .before .before .before .before .before .before .before .before .place-of2 .result) (c .before .before .before .before .before .before .before .before .before .before .before .before .before .before .before .place-of3 .result) (c .before .before .before .before .before .before .before .before .before .before .before .before .before .before .before .before .before .before .before .before .before .before .before .before .args .script .now) (c .before .before .before .before .before .before .before .before .before .before .before .before .before .before .before .before .before .before .before .before .before .before .before .before .args .texts .now) (c .before .before .before .before .before .before .before .before .before .before .before .before .before .before .before .before .before .before .before .before .before .before .before .before .args .numbers .now) (lentThree (c .before .before .before .before .before .before .before .before .before .before .before .before .before .before .before .before .before .before .before .before .before .before .before .before .args .model .now) (c .before .before .before .before .before .before .before .before .before .before .before .before .before .before .before .before .before .before .before .before .before .before .before .before .args .state .now) (c .before .before .before .before .before .before .before .before .before .before .before .before .before .before .before .before .before .before .before .before .before .before .before .before .args .saves .now)) (c .before .before .before .before .before .before .before .before .before .before .before .before .before .before .before .before .before .before .before .before .before .before .before .before .args .outputs .now) (c .before .before .before .before .before .before .before .before .before .before .before .before .before .before .before .before .before .before .before .before .before .before .before .before .args .answers .now)
+    (c .before .before .before .before .before .before .before .before .before .before .before .before .before .before .before .before .before .place-of .ensures) (c .before .before .before .before .before .before .before .before .before .before .before .before .before .before .before .before .place-of2 .ensures) (c .before .before .before .before .before .before .before .before .before .before .before .before .before .before .before .place-of3 .ensures) (c .before .before .before .before .before .before .before .before .run-row .result) (lentThree (c .before .before .before .before .before .before .before .before .run-row .last .1 .1 .1 .0) (c .before .before .before .before .before .before .before .before .run-row .last .1 .1 .1 .1 .0) (c .before .before .before .before .before .before .before .before .run-row .last .1 .1 .1 .1 .1 .0)) (c .before .before .before .before .before .before .before .before .run-row .last .1 .1 .1 .1 .1 .1 .0) (c .before .before .before .before .before .before .before .before .run-row .last .1 .1 .1 .1 .1 .1 .1 .0)
+    (c .before .before .before .before .before .before .before .before .run-row .kept .1 .1 .1 .1 .1 .1 .0) (c .before .before .before .before .before .before .before .before .run-row .kept .1 .1 .1 .1 .1 .1 .1 .0) (c .before .before .before .before .before .before .before .before .run-row .ensures)
 
 pub run-at-spec : {M : Type 1} → statement M
 run-at-spec =
     tie.close
-    (tie.spec
-    place-of-requires
-    place-of-requires-2
-    place-of-requires-3
-    mul-run-row
-    sub-run-row
-    part-run-row-start
-    part-run-row-end
-    mul-run-row-2
-    sub-run-row-2
-    part-run-row-start-2
-    part-run-row-end-2
-    mul-run-row-3
-    sub-run-row-3
-    part-run-row-start-3
-    part-run-row-end-3
-    run-row-requires
-    same-length
-    same-length-2
-    same-length-3
-    same-length-4
-    returns)
+    (tie.spec place-of-requires place-of-requires-2 place-of-requires-3 mul-run-row sub-run-row part-run-row-start part-run-row-end mul-run-row-2 sub-run-row-2 part-run-row-start-2 part-run-row-end-2 mul-run-row-3 sub-run-row-3 part-run-row-start-3 part-run-row-end-3 run-row-requires same-length same-length-2 same-length-3 same-length-4 same-length-5 returns)

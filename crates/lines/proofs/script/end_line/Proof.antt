@@ -1,13 +1,12 @@
 -- By the cases of what the line says.
-use mathlib.Core.Path.{_≡_, sym, ap, subst, _∙_}
+use mathlib.Core.Path.{ap, sym, _∙_}
 use Prim.Native.Nat.{ℕ}
 use borrow.Author.Needs.{needs}
-use Rattle.lines.specs.declared.line.Line.the-variants.{List as Listing, Step, State, Report}
+use Rattle.lines.specs.declared.line.Line.the-variants.{List as Listing, Step, State, Report, Save, Return, Forget}
 use Rattle.lines.specs.declared.script.Part.the-variants.{InText}
-use Rattle.lines.specs.declared.script.Script.{Script}
-use Rattle.lines.specs.declared.script.Taken.{Taken}
 use Rattle.lines.specs.declared.script.Taken.the-variants.{Goes, Asks}
-use Rattle.lines.specs.Script.{next, fresh, ended}
+use Rattle.lines.specs.Script.{fresh}
+use Rattle.lines.specs.Script.{ended}
 use Rattle.lines.proofs.script.end_line.Statement.{statement}
 use Rattle.lines.proofs.script.end_line.Tie as tie
 
@@ -41,26 +40,62 @@ enum-told-3 c = search needs
 begin-requires-4 : tie.Need-begin-requires-4
 begin-requires-4 c κs = search needs
 
+enum-known-says-3 : tie.Need-enum-known-says-3
+enum-known-says-3 c = search needs
+
+begin-requires-5 : tie.Need-begin-requires-5
+begin-requires-5 c κs = search needs
+
+enum-known-says-4 : tie.Need-enum-known-says-4
+enum-known-says-4 c = search needs
+
+begin-requires-6 : tie.Need-begin-requires-6
+begin-requires-6 c κs = search needs
+
+enum-known-says-5 : tie.Need-enum-known-says-5
+enum-known-says-5 c = search needs
+
+begin-requires-7 : tie.Need-begin-requires-7
+begin-requires-7 c κs = search needs
+
 enum-told-4 : tie.Need-enum-told-4
 enum-told-4 c = search needs
 
 returns : tie.Need-returns
-returns c = ap (λ (y : ℕ). Goes (record { line = y; from = c .before .before .before .before .args .line; part = InText (c .before .says .given .0 .0) 0 })) (c .before .before .before .next-line .ensures) ∙ sym (ap (ended (c .before .before .before .before .args .line)) (c .before .says .given .1))
+returns c =
+    ap (λ (y : ℕ). Goes (record { line = y; from = c .before .before .before .before .args .line; part = InText (c .before .says .given .0 .0) 0 })) (c .before .before .before .next-line .ensures) ∙ sym (ap (ended (c .before .before .before .before .args .line)) (c .before .says .given .1))
 
 returns-2 : tie.Need-returns-2
-returns-2 c = ap (Asks Listing) (c .begin .ensures ∙ ap fresh (c .before .before .before .next-line .ensures)) ∙ sym (ap (ended (c .before .before .before .before .args .line)) (c .before .enum-told .given .1))
+returns-2 c =
+    ap (Asks Listing) (c .begin .ensures ∙ ap fresh (c .before .before .before .next-line .ensures)) ∙ sym (ap (ended (c .before .before .before .before .args .line)) (c .before .enum-told .given .1))
 
 returns-3 : tie.Need-returns-3
-returns-3 c = ap (Asks (Step (c .before .before .says2 .given .0 .0))) (c .begin2 .ensures ∙ ap fresh (c .before .before .before .before .next-line .ensures)) ∙ sym (ap (ended (c .before .before .before .before .before .args .line)) (c .before .before .says2 .given .1))
+returns-3 c =
+    ap (Asks (Step (c .before .before .says2 .given .0 .0))) (c .begin2 .ensures ∙ ap fresh (c .before .before .before .before .next-line .ensures)) ∙ sym (ap (ended (c .before .before .before .before .before .args .line)) (c .before .before .says2 .given .1))
 
 returns-4 : tie.Need-returns-4
-returns-4 c = ap (Asks State) (c .begin3 .ensures ∙ ap fresh (c .before .before .before .next-line .ensures)) ∙ sym (ap (ended (c .before .before .before .before .args .line)) (c .before .enum-told2 .given .1))
+returns-4 c =
+    ap (Asks State) (c .begin3 .ensures ∙ ap fresh (c .before .before .before .next-line .ensures)) ∙ sym (ap (ended (c .before .before .before .before .args .line)) (c .before .enum-told2 .given .1))
 
 returns-5 : tie.Need-returns-5
-returns-5 c = ap (Asks Report) (c .begin4 .ensures ∙ ap fresh (c .before .before .before .next-line .ensures)) ∙ sym (ap (ended (c .before .before .before .before .args .line)) (c .before .enum-told3 .given .1))
+returns-5 c =
+    ap (Asks Report) (c .begin4 .ensures ∙ ap fresh (c .before .before .before .next-line .ensures)) ∙ sym (ap (ended (c .before .before .before .before .args .line)) (c .before .enum-told3 .given .1))
 
 returns-6 : tie.Need-returns-6
-returns-6 c = sym (ap (ended (c .before .before .before .args .line)) (c .enum-told4 .given .1))
+returns-6 c =
+    ap (Asks (Save (c .before .before .says3 .given .0 .0))) (c .begin5 .ensures ∙ ap fresh (c .before .before .before .before .next-line .ensures)) ∙ sym (ap (ended (c .before .before .before .before .before .args .line)) (c .before .before .says3 .given .1))
+
+returns-7 : tie.Need-returns-7
+returns-7 c =
+    ap (Asks (Return (c .before .before .says4 .given .0 .0))) (c .begin6 .ensures ∙ ap fresh (c .before .before .before .before .next-line .ensures)) ∙ sym (ap (ended (c .before .before .before .before .before .args .line)) (c .before .before .says4 .given .1))
+
+returns-8 : tie.Need-returns-8
+returns-8 c =
+    ap (Asks (Forget (c .before .before .says5 .given .0 .0))) (c .begin7 .ensures ∙ ap fresh (c .before .before .before .before .next-line .ensures)) ∙ sym (ap (ended (c .before .before .before .before .before .args .line)) (c .before .before .says5 .given .1))
+
+returns-9 : tie.Need-returns-9
+returns-9 c =
+    sym (ap (ended (c .before .before .before .args .line)) (c .enum-told4 .given .1))
 
 pub end-line-spec : {M : Type 1} → statement M
 end-line-spec =
@@ -76,10 +111,19 @@ end-line-spec =
     begin-requires-3
     enum-told-3
     begin-requires-4
+    enum-known-says-3
+    begin-requires-5
+    enum-known-says-4
+    begin-requires-6
+    enum-known-says-5
+    begin-requires-7
     enum-told-4
     returns
     returns-2
     returns-3
     returns-4
     returns-5
-    returns-6)
+    returns-6
+    returns-7
+    returns-8
+    returns-9)

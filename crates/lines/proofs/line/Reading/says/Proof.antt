@@ -1,7 +1,6 @@
--- The head tells which of the five words begins the line.
-use native.Mathlib.Omega.{arith}
+-- The head tells which of the words begins the line.
 use borrow.Author.Needs.{needs}
-use Rattle.lines.proofs.Heads.{says-list, says-state, says-report, says-open, says-step, says-bad}
+use Rattle.lines.proofs.Heads.{says-list, says-state, says-report, says-open, says-step, says-save, says-return, says-forget, says-bad}
 use Rattle.lines.proofs.line.Reading.says.Statement.{statement}
 use Rattle.lines.proofs.line.Reading.says.Tie as tie
 
@@ -17,23 +16,49 @@ open-line-requires c κs = search needs
 step-line-requires : tie.Need-step-line-requires
 step-line-requires c κs = search needs
 
+return-line-requires : tie.Need-return-line-requires
+return-line-requires c κs = search needs
+
+forget-line-requires : tie.Need-forget-line-requires
+forget-line-requires c κs = search needs
+
 returns : tie.Need-returns
-returns c = λ s h. says-list h (c .match .keys1)
+returns c =
+    λ s h. says-list h (c .match .keys1)
 
 returns-2 : tie.Need-returns-2
-returns-2 c = λ s h. says-state h (c .before .match .keys2) (c .state-line .ensures)
+returns-2 c =
+    λ s h. says-state h (c .before .match .keys2) (c .state-line .ensures)
 
 returns-3 : tie.Need-returns-3
-returns-3 c = λ s h. says-report h (c .before .match .keys3) (c .report-line .ensures)
+returns-3 c =
+    λ s h. says-report h (c .before .match .keys3) (c .report-line .ensures)
 
 returns-4 : tie.Need-returns-4
-returns-4 c = λ s h. says-open h (c .before .match .keys4) (c .open-line .ensures)
+returns-4 c =
+    λ s h. says-open h (c .before .match .keys4) (c .open-line .ensures)
 
 returns-5 : tie.Need-returns-5
-returns-5 c = λ s h. says-step h (c .before .match .keys5) (c .step-line .ensures)
+returns-5 c =
+    λ s h. says-step h (c .before .match .keys5) (c .step-line .ensures)
 
 returns-6 : tie.Need-returns-6
-returns-6 c = λ s h. let m = c .match .rest in says-bad h (m .0 .0 .0 .0 .1) (m .0 .0 .0 .1) (m .0 .0 .1) (m .0 .1) (m .1)
+returns-6 c =
+    λ s h. says-save h (c .match .keys6)
+
+returns-7 : tie.Need-returns-7
+returns-7 c =
+    λ s h. says-return h (c .before .match .keys7) (c .return-line .ensures)
+
+returns-8 : tie.Need-returns-8
+returns-8 c =
+    λ s h. says-forget h (c .before .match .keys8) (c .forget-line .ensures)
+
+returns-9 : tie.Need-returns-9
+returns-9 c =
+    λ s h.
+    let m = c .match .rest in
+    says-bad h (m .0 .0 .0 .0 .0 .0 .0 .1) (m .0 .0 .0 .0 .0 .0 .1) (m .0 .0 .0 .0 .0 .1) (m .0 .0 .0 .0 .1) (m .0 .0 .0 .1) (m .0 .0 .1) (m .0 .1) (m .1)
 
 pub says-spec : {M : Type 1} → statement M
 says-spec =
@@ -43,9 +68,14 @@ says-spec =
     report-line-requires
     open-line-requires
     step-line-requires
+    return-line-requires
+    forget-line-requires
     returns
     returns-2
     returns-3
     returns-4
     returns-5
-    returns-6)
+    returns-6
+    returns-7
+    returns-8
+    returns-9)

@@ -7,7 +7,7 @@ use lib.Dec.{eqb}
 use lib.ListN.{length}
 use Rattle.token.specs.Bytes.{lineFeed}
 use Rattle.lines.specs.declared.line.Line.{Line}
-use Rattle.lines.specs.declared.line.Line.the-variants.{Open, List as Listing, Step, State, Report, Save, Return, Forget, Bad}
+use Rattle.lines.specs.declared.line.Line.the-variants.{Open, List as Listing, Step, State, Report, Save, Return, Forget, Time, Wait, Clock, Bad}
 use Rattle.lines.specs.declared.line.Reading.{Reading}
 use Rattle.lines.specs.declared.script.Part.{Part}
 use Rattle.lines.specs.declared.script.Part.the-variants.{InLine, InText}
@@ -27,7 +27,7 @@ breaks (b ∷ s) = cond (eqb b lineFeed) 1 0 + breaks s
 abbrev pub numberAfter : List ℕ → ℕ
 numberAfter s = (1 + breaks s) % limit
 
--- a line that asks for a call, or for the state, by itself
+-- a line that asks for a call, for the state or the clock, or gives a waiting draw, by itself
 abbrev pub isShort : Line → Bool
 isShort (Open n) = false
 isShort Listing = true
@@ -37,6 +37,9 @@ isShort Report = true
 isShort (Save n) = true
 isShort (Return n) = true
 isShort (Forget n) = true
+isShort (Time d) = true
+isShort (Wait d) = true
+isShort Clock = true
 isShort Bad = false
 
 -- bytes that are whole items: such a line and LF, or a line `open n`, LF, n bytes and LF; and what they ask for in turn
@@ -118,4 +121,7 @@ ended line Report = Asks Report (fresh (next line))
 ended line (Save n) = Asks (Save n) (fresh (next line))
 ended line (Return n) = Asks (Return n) (fresh (next line))
 ended line (Forget n) = Asks (Forget n) (fresh (next line))
+ended line (Time d) = Asks (Time d) (fresh (next line))
+ended line (Wait d) = Asks (Wait d) (fresh (next line))
+ended line Clock = Asks Clock (fresh (next line))
 ended line Bad = Wrong line

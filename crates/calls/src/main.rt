@@ -290,8 +290,11 @@ fn put_timed(
     )
 }
 
-// Keeps a waiting draw, if there is room.
+// Keeps a waiting draw, if there is room. A line gives none of more than 16 bits.
 fn keep_draw(waits: usize, draw: u64, drawn: usize, waiting: &mut Waiting) -> usize {
+    if 65535 < draw {
+        return waits;
+    }
     if drawn < Limits::DRAWS {
         waiting[drawn] = draw as u16;
     }

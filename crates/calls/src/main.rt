@@ -264,14 +264,14 @@ fn put_timed(
     draw: u64,
     drawn: usize,
     text: &Text,
-    waiting: &Waiting,
+    waiting: &[u16],
     model: &mut Model,
     state: &mut State,
     saves: &mut Saves,
     clock: &mut Time,
     listing: &mut Listing,
 ) -> usize {
-    if Limits::DRAWS < drawn {
+    if waiting.len() < drawn {
         return waits;
     }
     put_call(

@@ -499,7 +499,18 @@ fn run_bytes(
     let mut now = run;
     let mut i = 0;
     while i < bytes.len() {
-        now = run_byte(now, bytes[i], out, text, waiting, model, state, saves, clock, listing);
+        now = run_byte(
+            now,
+            bytes[i],
+            out,
+            text,
+            waiting,
+            model,
+            state,
+            saves,
+            clock,
+            listing,
+        );
         if now.over {
             return now;
         }
@@ -561,7 +572,18 @@ fn run_some(
         return flushed(end(run, out), out);
     }
     flushed(
-        run_bytes(&space[..n], run, out, text, waiting, model, state, saves, clock, listing),
+        run_bytes(
+            &space[..n],
+            run,
+            out,
+            text,
+            waiting,
+            model,
+            state,
+            saves,
+            clock,
+            listing,
+        ),
         out,
     )
 }

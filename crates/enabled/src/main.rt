@@ -39,14 +39,7 @@ fn put_model(out: &mut Buffer, text: &[u8]) -> usize {
     let mut state = [0i64; Engine::STATE];
     let mut saves = [0i64; Engine::SAVES];
     let mut listing = [0u64; Engine::LISTING];
-    let opened = engine::open(
-        text,
-        &mut model,
-        &mut state,
-        &mut saves,
-        Clock::fresh(),
-    )
-    .answer;
+    let opened = engine::open(text, &mut model, &mut state, &mut saves, Clock::fresh()).answer;
     if opened.number != 0 {
         return put_refused(out, opened);
     }

@@ -1,6 +1,7 @@
 // A script of calls on one engine: ten numbers a row, run in order on lent buffers.
 use clock::Clock;
-use engine::{Answer, Timed};
+use engine::Answer;
+use engine::Timed;
 use store::Engine;
 ghost use mathlib.Core.Path.{_≡_};
 ghost use mathlib.Core.Bool.{true};
@@ -127,7 +128,14 @@ fn is_call(
 }
 
 // Makes the call of a row on the saves.
-fn call_named(row: Row, texts: &[u8], model: &[u8], state: &mut [i64], saves: &mut [i64], clock: Clock) -> Timed
+fn call_named(
+    row: Row,
+    texts: &[u8],
+    model: &[u8],
+    state: &mut [i64],
+    saves: &mut [i64],
+    clock: Clock,
+) -> Timed
     requires { ⌜ (saveKind ≤ row .kind) × ((row .kind ≤ forgetKind) × ((n : ℕ) × ((t : ℕ) × ((o : ℕ) × (fits row (length (now texts)) n (lengthsOf (length (now model)) (length (now state)) (length (now saves)) t) o ≡ true))))) ⌝ }
     ensures { λ r. ⌜ ((ns ls : List ℕ) → Called (rowCall (now (texts .entry)) ns row) (lentAll (now (model .entry)) (now (state .entry)) (now (saves .entry)) clock) ls (r .answer) (lentAll (now (model .entry)) (now (state .exit)) (now (saves .exit)) (r .clock)) ls) ⌝ }
 {
@@ -165,7 +173,14 @@ fn call_named(row: Row, texts: &[u8], model: &[u8], state: &mut [i64], saves: &m
 }
 
 // Makes the timed step of a row.
-fn call_timed(row: Row, numbers: &[u16], model: &[u8], state: &mut [i64], outputs: &mut [u64], clock: Clock) -> Timed
+fn call_timed(
+    row: Row,
+    numbers: &[u16],
+    model: &[u8],
+    state: &mut [i64],
+    outputs: &mut [u64],
+    clock: Clock,
+) -> Timed
     requires { ⌜ (row .kind ≡ timedKind) × ((t : ℕ) × ((v : ℕ) × ((k : ℕ) × (fits row t (length (now numbers)) (lengthsOf (length (now model)) (length (now state)) v k) (length (now outputs)) ≡ true)))) ⌝ }
     ensures { λ r. ⌜ ((texts : List ℕ) (ss : List ℤ) → Called (rowCall texts (now (numbers .entry)) row) (lentAll (now (model .entry)) (now (state .entry)) ss clock) (now (outputs .entry)) (r .answer) (lentAll (now (model .entry)) (now (state .exit)) ss (r .clock)) (now (outputs .exit))) ⌝ }
 {

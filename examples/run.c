@@ -1,6 +1,7 @@
-/* run MODEL SEED STEPS: runs a model and prints the run as a script for the program `calls`: the text, then each draw, and after each
- * step a `state`. The run ends after STEPS steps or when nothing can happen. The draws come from a plain generator: a seed gives the
- * same run everywhere. */
+/* run MODEL SEED STEPS: runs a model by timed steps and prints the run as a script for the program `calls`: the text, then for each step
+ * the waiting draws that it used and its draw, and after the text and each step a `clock` and a `state`, so that `calls` prints the time
+ * of each step before its state. The run ends after STEPS steps or when nothing can happen. The draws come from a plain generator: a seed
+ * gives the same run everywhere. */
 #include <inttypes.h>
 #include <stdio.h>
 #include <stdlib.h>
@@ -12,6 +13,8 @@ static uint8_t model[MATGRAVEL_MODEL];
 static int64_t state[MATGRAVEL_STATE];
 static int64_t saves[MATGRAVEL_SAVES];
 static uint64_t listing[MATGRAVEL_LISTING];
+static uint16_t waiting[256]; /* a step uses about 4.3 of them; that 256 are too few does not happen with an even generator */
+static matgravel_clock now;
 
 /* SplitMix64. */
 static uint64_t next_number(uint64_t *seed) {
@@ -29,6 +32,20 @@ static uint64_t draw_below(uint64_t total, uint64_t *seed) {
     return number % total;
 }
 
+/* Each number of the generator gives four waiting draws. */
+static void draw_waiting(uint64_t *seed) {
+    for (size_t i = 0; i < sizeof waiting / sizeof *waiting; i += 4) {
+        uint64_t number = next_number(seed);
+        for (size_t part = 0; part < 4; part++) waiting[i + part] = (uint16_t)(number >> 16 * part);
+    }
+}
+
+/* The lines of a timed step that used so many waiting draws. */
+static void print_step(uint64_t used, uint64_t draw) {
+    for (uint64_t i = 0; i < used; i++) printf("wait %" PRIu16 "\n", waiting[i]);
+    printf("time %" PRIu64 "\nclock\nstate\n", draw);
+}
+
 static int refused(matgravel_answer a) {
     fprintf(stderr, "refused,%" PRIu64 ",%" PRIu64 ",%" PRIu64 "\n", a.number, a.place, a.branch);
     return 1;
@@ -44,19 +61,21 @@ int main(int words, char **word) {
     fclose(file);
     uint64_t seed = strtoull(word[2], NULL, 10), steps = strtoull(word[3], NULL, 10);
 
-    matgravel_answer a = matgravel_open(text, size, model, MATGRAVEL_MODEL, state, MATGRAVEL_STATE, saves, MATGRAVEL_SAVES);
+    matgravel_answer a = matgravel_open(text, size, model, MATGRAVEL_MODEL, state, MATGRAVEL_STATE, saves, MATGRAVEL_SAVES, &now);
     if (a.number != 0) return refused(a);
     printf("open %zu\n", size);
     fwrite(text, 1, size, stdout);
-    printf("\nstate\n");
+    printf("\nclock\nstate\n");
     for (uint64_t taken = 0; taken < steps; taken++) {
         a = matgravel_list(model, MATGRAVEL_MODEL, state, MATGRAVEL_STATE, listing, MATGRAVEL_LISTING);
         if (a.number != 0) return refused(a);
         if (a.total == 0) break;
-        uint64_t draw = draw_below(a.total, &seed);
-        a = matgravel_step(model, MATGRAVEL_MODEL, state, MATGRAVEL_STATE, listing, MATGRAVEL_LISTING, draw);
+        uint64_t draw = draw_below(a.total, &seed), before = now.draws;
+        draw_waiting(&seed);
+        a = matgravel_timed_step(model, MATGRAVEL_MODEL, state, MATGRAVEL_STATE, listing, MATGRAVEL_LISTING, waiting,
+                                 sizeof waiting / sizeof *waiting, draw, &now);
         if (a.number != 0) return refused(a);
-        printf("step %" PRIu64 "\nstate\n", draw);
+        print_step(now.draws - before, draw);
     }
     return 0;
 }

@@ -1,6 +1,6 @@
 /* Matgravel: an engine for the Beacon Calculus.
  *
- * One engine is a model buffer, a state buffer and a buffer for saves. A fresh engine has zeros in all. No call keeps anything elsewhere:
+ * One engine is a model buffer, a state buffer, a buffer for saves and a clock. A fresh engine has zeros in all. No call keeps anything elsewhere:
  * engines are independent of one another, and a copy of the buffers is a copy of the engine.
  *
  * Every call may be given any bytes, numbers and lengths: it answers, or refuses with a number, and never reads or writes beyond the
@@ -21,7 +21,7 @@ extern "C" {
 #define MATGRAVEL_STATE 5122
 #define MATGRAVEL_LISTING 7168
 #define MATGRAVEL_REPORT 64
-#define MATGRAVEL_SAVES 40992
+#define MATGRAVEL_SAVES 41008
 
 /* The listing's entries: how many there may be, and the numbers of one (kind, place, branch, partner, partner branch, pair, weight). */
 #define MATGRAVEL_ENTRIES 1024
@@ -35,17 +35,22 @@ extern "C" {
 
 /* number: 0 for acceptance, or that of the refusal.
  * place: of 2 to 10 a byte of the text, of 12 a process; branch: of 12 a branch. Else 0.
- * count, total: entries and the sum of their weights; with 0 from list, step and report and with 15 to 19. Else 0.
+ * count, total: entries and the sum of their weights; with 0 from list, step, timed_step and report, with 15 to 19 and with 23 to 25. Else 0.
  * chosen: the entry that an accepted step took. Else 0. */
 typedef struct {
     uint64_t number, place, branch, count, total, chosen;
 } matgravel_answer;
 
-/* Reads a model text, sets the engine to its start and forgets every save.
+/* Model time in ten-thousandths of a unit (ticks), and the waiting draws used so far. Each is at most 9,223,372,036,854,775,807. */
+typedef struct {
+    uint64_t ticks, draws;
+} matgravel_clock;
+
+/* Reads a model text, sets the engine to its start, forgets every save and sets the clock to zero.
  * Refusals: 1 a buffer has a wrong length: nothing is changed.
  *   2 more than 16,384 bytes, 3 a byte that no text has, 4 brackets too deep, 5 not a text of the grammar, 6 more than 4,096 tokens,
- *   7 beyond a limit, 8 a name is not new, 9 a name is not given, 10 more than 256 processes: model, state and saves are zeroed. */
-matgravel_answer matgravel_open(const uint8_t *text, size_t text_len, uint8_t *model, size_t model_len, int64_t *state, size_t state_len, int64_t *saves, size_t saves_len);
+ *   7 beyond a limit, 8 a name is not new, 9 a name is not given, 10 more than 256 processes: model, state, saves and clock are zeroed. */
+matgravel_answer matgravel_open(const uint8_t *text, size_t text_len, uint8_t *model, size_t model_len, int64_t *state, size_t state_len, int64_t *saves, size_t saves_len, matgravel_clock *clock);
 
 /* Lists every transition that can happen next, with its weight. Changes neither model nor state.
  * Refusals: 1 a buffer has a wrong length, 11 the buffers hold no open model with a state of it: the listing is left as it was.
@@ -58,19 +63,26 @@ matgravel_answer matgravel_list(const uint8_t *model, size_t model_len, const in
  *   18 more than 256 processes, 19 more than 256 pairs: the listing is filled. No refusal alters the state. */
 matgravel_answer matgravel_step(const uint8_t *model, size_t model_len, int64_t *state, size_t state_len, uint64_t *listing, size_t listing_len, uint64_t draw);
 
+/* Steps with the draw, and brings the clock forward by the time that the waiting draws give (docs/USING.md, Time): the state and the clock
+ * move, or neither does. Draws that are left over are neither used nor counted.
+ * Refusals: 1 and 11 to 19 as for step; 11 also where a number of the clock is above its limit. Then 23 the waiting draws end first,
+ *   24 they gave 32 runs of even length, 25 a number of the clock would pass its limit: the listing is filled, count and total are set.
+ *   No refusal alters the state or the clock. */
+matgravel_answer matgravel_timed_step(const uint8_t *model, size_t model_len, int64_t *state, size_t state_len, uint64_t *listing, size_t listing_len, const uint16_t *waiting, size_t waiting_len, uint64_t draw, matgravel_clock *clock);
+
 /* Sums up the weights that list would list by the definition in whose text the acting process's sum stands, definitions numbered from
  * 0 in the text's order; a handshake counts for its sender. The numbers add up to the total. Changes neither model nor state.
  * Refusals: 1 and 11 to 14 as for list, with the report in the place of the listing. */
 matgravel_answer matgravel_report(const uint8_t *model, size_t model_len, const int64_t *state, size_t state_len, uint64_t *report, size_t report_len);
 
-/* Keeps the state under a name, which replaces what was kept under it before; there is room for eight names. Changes the saves alone.
- * Refusals: 1 a buffer has a wrong length, 11 the buffers hold no open model with a state and saves of it, 20 the name is not 1 to 16
+/* Keeps the state and the clock under a name, which replaces what was kept under it before; there is room for eight names. Changes the saves alone.
+ * Refusals: 1 a buffer has a wrong length, 11 the buffers hold no open model with a state and saves of it, or the clock is beyond its limit, 20 the name is not 1 to 16
  *   letters (A to Z, a to z), 22 the name is unknown and eight others are in use. Refused, it changes nothing. */
-matgravel_answer matgravel_save(const uint8_t *model, size_t model_len, const int64_t *state, size_t state_len, int64_t *saves, size_t saves_len, const uint8_t *name, size_t name_len);
+matgravel_answer matgravel_save(const uint8_t *model, size_t model_len, const int64_t *state, size_t state_len, int64_t *saves, size_t saves_len, const uint8_t *name, size_t name_len, matgravel_clock clock);
 
-/* Makes the state that was saved under the name the present one. Changes the state alone: every save remains.
+/* Makes the state and the clock that were saved under the name the present ones. Changes these two alone: every save remains.
  * Refusals: 1, 11 and 20 as for save, 21 nothing is saved under the name. Refused, it changes nothing. */
-matgravel_answer matgravel_return(const uint8_t *model, size_t model_len, int64_t *state, size_t state_len, const int64_t *saves, size_t saves_len, const uint8_t *name, size_t name_len);
+matgravel_answer matgravel_return(const uint8_t *model, size_t model_len, int64_t *state, size_t state_len, const int64_t *saves, size_t saves_len, const uint8_t *name, size_t name_len, matgravel_clock *clock);
 
 /* Forgets what was saved under the name; its place can be used for another. Changes the saves alone.
  * Refusals: 1, 11, 20 and 21 as for return. Refused, it changes nothing. */

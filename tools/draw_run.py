@@ -3,9 +3,10 @@
 
     calls < script | tools/draw_run.py --forks 2-5 --title "chromosome II" > run.svg
 
-The script has a `state` after its opening and after each step; examples/run.c writes such scripts. Each printed
-state is one point of the picture. Above: the number of forks and the number of lit pairs. Below: which positions
-(the first value of each lit pair) are lit, from the step that lit them to the one that put them out.
+The script has a `clock` and a `state` after its opening and after each step; examples/run.c writes such scripts. Each
+printed state is one point of the picture, at the time that the clock before it has. Without any `clock` the points
+stand one step apart. Above: the number of forks and the number of lit pairs. Below: which positions (the first value
+of each lit pair) are lit, from the step that lit them to the one that put them out.
 
 --forks names the processes to count by their sum numbers (docs/USING.md says how sums are numbered), as 2,4-6; all
 processes if it is not given. --channel draws below only the pairs of one channel, as name:0 or name:0,number:5.
@@ -28,6 +29,10 @@ ITEMS = 3
 CHANNEL = 1 + 2 * ITEMS
 FIRST_VALUE = CHANNEL + 1
 ANSWER = 6
+CLOCK = 2
+
+# Ticks of a unit of the model's time.
+UNIT = 10000
 
 # The picture, in pixels.
 WIDTH = 900
@@ -66,7 +71,8 @@ def channel(words):
 
 
 def states(lines):
-    """The states that were printed, each as its list of sum numbers and its list of pairs."""
+    """The states that were printed: each one's sum numbers, its pairs, and the ticks of the last clock before it, if any."""
+    time = None
     for place, line in enumerate(lines, 1):
         if line.startswith("  "):
             continue
@@ -76,19 +82,31 @@ def states(lines):
         if len(numbers) == ANSWER:
             if numbers[0] != 0:
                 sys.stderr.write(f"line {place}: refused, {numbers[0]}\n")
+        elif len(numbers) == CLOCK:
+            time = numbers[0]
         elif len(numbers) == STATE:
             ends = FIRST_PROCESS + PROCESS * numbers[0], FIRST_PAIR + PAIR * numbers[1]
             sums = numbers[FIRST_PROCESS : ends[0] : PROCESS]
             pairs = [tuple(numbers[at : at + PAIR]) for at in range(FIRST_PAIR, ends[1], PAIR)]
-            yield sums, pairs
+            yield sums, pairs, time
         else:
             sys.exit(f"line {place} is no line of `calls`")
+
+
+def along(runs):
+    """Where each point stands, how many of that are a unit, and what it is: the ticks of its clock, or its step."""
+    times = [time for _, _, time in runs]
+    if None in times:
+        return range(len(runs)), 1, "steps"
+    if any(later < earlier for earlier, later in zip(times, times[1:])):
+        sys.exit("the clock goes back: one run is drawn, without a return or a second opening")
+    return times, UNIT, "time"
 
 
 def lit_spans(runs, wanted):
     """For each position, the spans of points in which it is lit: (position, first, last)."""
     spans, since = [], {}
-    for point, (_, pairs) in enumerate(runs):
+    for point, (_, pairs, _) in enumerate(runs):
         lit = {pair[FIRST_VALUE] for pair in pairs if wanted is None or pair[:CHANNEL] == wanted}
         for position in [position for position in since if position not in lit]:
             spans.append((position, since.pop(position), point))
@@ -107,13 +125,17 @@ def ticks(low, high):
 
 
 class Panel:
-    """A part of the picture with its own vertical scale."""
+    """A part of the picture with its own vertical scale, over the places of the points."""
 
-    def __init__(self, top, height, low, high, points):
-        self.top, self.height, self.low, self.high, self.points = top, height, low, max(high, low + 1), max(points, 1)
+    def __init__(self, top, height, low, high, places, unit):
+        self.top, self.height, self.low, self.high = top, height, low, max(high, low + 1)
+        self.places, self.unit, self.last = places, unit, max(places[-1], 1)
+
+    def across(self, place):
+        return LEFT + (WIDTH - LEFT - RIGHT) * place / self.last
 
     def x(self, point):
-        return LEFT + (WIDTH - LEFT - RIGHT) * point / self.points
+        return self.across(self.places[point])
 
     def y(self, value):
         return self.top + self.height * (self.high - value) / (self.high - self.low)
@@ -126,8 +148,8 @@ class Panel:
         for value in ticks(self.low, self.high):
             yield text(LEFT - 8, self.y(value) + 4, value, "end")
             yield f'<path d="M{LEFT - 4} {self.y(value):.1f}h4" stroke="{AXIS}"/>'
-        for point in ticks(0, self.points):
-            yield text(self.x(point), self.top + self.height + 16, point, "middle")
+        for place in ticks(0, self.last):
+            yield text(self.across(place), self.top + self.height + 16, f"{place / self.unit:.10g}", "middle")
         middle = self.top + self.height / 2
         yield (
             f'<text x="18" y="{middle}" text-anchor="middle" transform="rotate(-90 18 {middle})" '
@@ -151,10 +173,10 @@ def text(x, y, words, anchor, colour=AXIS):
 
 
 def picture(runs, options):
-    forks = [sum(options.forks is None or number in options.forks for number in sums) for sums, _ in runs]
-    lit = [len(pairs) for _, pairs in runs]
+    forks = [sum(options.forks is None or number in options.forks for number in sums) for sums, _, _ in runs]
+    lit = [len(pairs) for _, pairs, _ in runs]
     spans = lit_spans(runs, options.channel)
-    points = len(runs) - 1
+    places, unit, axis = along(runs)
     counted = "processes" if options.forks is None else "forks"
     height = TOP + CURVES + GAP + MAP + BOTTOM
     yield (
@@ -165,12 +187,12 @@ def picture(runs, options):
     yield text(LEFT, 22, options.title, "start", "black")
     yield text(WIDTH - RIGHT - 120, 40, counted, "end", FORKS)
     yield text(WIDTH - RIGHT, 40, "lit pairs", "end", LIT)
-    curves = Panel(TOP, CURVES, 0, max(forks + lit), points)
+    curves = Panel(TOP, CURVES, 0, max(forks + lit), places, unit)
     yield from curves.frame("how many")
     yield curves.curve(lit, LIT)
     yield curves.curve(forks, FORKS)
     positions = [position for position, _, _ in spans] or [0]
-    below = Panel(TOP + CURVES + GAP, MAP, min(positions), max(positions) + 1, points)
+    below = Panel(TOP + CURVES + GAP, MAP, min(positions), max(positions) + 1, places, unit)
     yield from below.frame("lit positions")
     for position, first, last in spans:
         top, bottom = below.y(position + 1), below.y(position)
@@ -178,7 +200,7 @@ def picture(runs, options):
             f'<rect x="{below.x(first):.1f}" y="{top:.1f}" width="{below.x(last) - below.x(first):.1f}" '
             f'height="{bottom - top:.1f}" fill="{LIT}"/>'
         )
-    yield text(LEFT + (WIDTH - LEFT - RIGHT) / 2, height - 14, "steps", "middle")
+    yield text(LEFT + (WIDTH - LEFT - RIGHT) / 2, height - 14, axis, "middle")
     yield "</svg>"
 
 

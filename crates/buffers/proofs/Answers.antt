@@ -10,7 +10,7 @@ use lib.ListN.{length}
 use Rattle.model.specs.Resolved
 use Rattle.rules.specs.Listing.{Entry}
 use Rattle.machine.specs.State.{State, stateLength, stateNumbers}
-use Rattle.machine.specs.Machine.{modelLength, listingLength, Shown, filled, Answer, listedAs, reportedAs, Listed, entriesAre, refusedWith, turn, drawn, showing, lists, sharing, reports, choosing, stepsWith, held, Machine, holding, onState, list′, step′, report′, on′, acts, Part, model, state, saves, size, twoParts, isLent, allParts, hasLengths, onMachine}
+use Rattle.machine.specs.Machine.{modelLength, listingLength, Shown, filled, Answer, listedAs, reportedAs, Listed, entriesAre, refusedWith, turn, drawn, showing, lists, sharing, reports, choosing, stepsWith, held, Machine, holding, onState, list′, step′, report′, on′, acts, Part, model, state, saves, clock, size, twoParts, isLent, allParts, hasLengths, onMachine}
 use Rattle.machine.specs.Machine as machine
 use Rattle.machine.specs.Report.{reportLength, reportOf}
 use Rattle.machine.specs.Questions.{Lists, Steps}
@@ -46,6 +46,7 @@ module _ (x : Engine) (l : List ℕ) (long : length (x model) ≡ modelLength) (
       at model = refl
       at state = refl
       at saves = refl
+      at clock = refl
 
   still : withState x (stateNumbers s) ≡ x
   unfolding withState
@@ -55,6 +56,7 @@ module _ (x : Engine) (l : List ℕ) (long : length (x model) ≡ modelLength) (
       at model = refl
       at state = same
       at saves = refl
+      at clock = refl
 
   leaving : State → Answer → Effect
   leaving r a = leaves twoParts x l (turn (holding (held m r)) a)

@@ -7,13 +7,14 @@ use Prim.Native.Nat.{ℕ}
 use native.Mathlib.Omega.{arith}
 use lib.IntN.{pos}
 use lib.ListN.{length, length-replicate}
+use Rattle.clock.proofs.Bringing.{both-in}
 use Rattle.model.specs.Resolved
 use Rattle.model.specs.Opening.{Opening, refused, opened, opening}
 use Rattle.model.specs.Good.{GoodModel}
 use Rattle.model.proofs.Held.{opened-held}
 use Rattle.model.proofs.Opened as formed
 use Rattle.machine.specs.State.{State, stateLength, stateNumbers}
-use Rattle.machine.specs.Machine.{modelLength, Shown, asLent, Answer, no, Turn, turn, Held, Good, Machine, closed, holding, Request, Ask, open′, on′, acts, Part, model, state, saves, size, lentTo, uses, isLent, allParts, hasLengths, opens, onMachine, asked, calls, answers, after}
+use Rattle.machine.specs.Machine.{modelLength, Shown, asLent, Answer, no, Turn, turn, Held, Good, Machine, closed, holding, Request, Ask, open′, on′, acts, Part, model, state, saves, clock, size, lentTo, uses, isLent, hasLengths, opens, onMachine, asked, calls, answers, after}
 use Rattle.machine.specs.Saves.{savesLength}
 use Rattle.machine.proofs.Numbers.{state-length}
 use Rattle.machine.proofs.Keeps.{opened-good, acts-good, same-model}
@@ -27,9 +28,9 @@ use Rattle.saves.proofs.Over.{saves-fit}
 use Rattle.saves.proofs.Places.{saves-length, saves-pass, saves-back}
 use Rattle.buffers.specs.Held.{modelBytes, heldIn}
 use Rattle.buffers.specs.Listing.{shown}
-use Rattle.buffers.specs.Parts.{Cell, Engine, fresh, numbersOf, isPart, readHeld}
+use Rattle.buffers.specs.Parts.{Cell, Engine, clockNumbers, clockIn, fresh, numbersOf, isPart, readHeld}
 use Rattle.buffers.specs.Effect.{Effect, machineOver, machineIn, untouched, opensWith, leftIn, leaves, requested, answered, effect}
-use Rattle.buffers.specs.Calls.{Lending, own, lentBuffer, lentLength, ownBuffer, BufferCall, lentEngine, effectOf, leftBy, lentLengths, fed, effects, engineAfter, Holds, zeros, held, Answered, none, one}
+use Rattle.buffers.specs.Calls.{Lending, own, ownBuffer, BufferCall, lentEngine, effectOf, leftBy, lentLengths, fed, effects, engineAfter, Holds, zeros, held, Answered, none, one}
 use Rattle.buffers.proofs.Held.{bytes-length, length-in, text-held, passes, held-fits}
 use Rattle.buffers.proofs.Machines.{fresh-closed}
 use Rattle.buffers.proofs.Local.{content, Agree, local, model-lent}
@@ -46,12 +47,14 @@ module _ (text : List ℕ) (h : Held) (m : heldIn (modelBytes text) ≡ some (h 
   held-long model = bytes-length text (omega (arith, passes (modelBytes text) (h .model) m .short, length-in text))
   held-long state = state-length (h .model) good (h .state) (g .state)
   held-long saves = saves-length (scopesOf (h .model)) (few-scopes (h .model) good) (h .model .channels) (h .saves) (saves-fit (h .model) good (h .saves) (g .saves))
+  held-long clock = refl
 
   part-passes : (p : Part) → isPart (h .model) p (numbersOf (modelBytes text) h p) ≡ true
   unfolding numbersOf isPart
   part-passes model = refl
   part-passes state = numbers-pass (scopesOf (h .model)) (few-scopes (h .model) good) (h .model .channels) (h .state) (good-fits (h .model) (h .state) good (g .state))
   part-passes saves = saves-pass (scopesOf (h .model)) (few-scopes (h .model) good) (h .model .channels) (h .saves) (saves-fit (h .model) good (h .saves) (g .saves))
+  part-passes clock = sym (both-in (h .clock) (g .clock .ticks) (g .clock .draws))
 
   -- what is read back of the parts that are lent
   read-back : (ps : List Part) (x : Engine) → ((p : Part) → isLent p ps ≡ true → x p ≡ numbersOf (modelBytes text) h p) → Agree ps (readHeld (h .model) ps x) h
@@ -65,24 +68,28 @@ module _ (text : List ℕ) (h : Held) (m : heldIn (modelBytes text) ≡ some (h 
       rw l
       (ap (savesIn (scopesOf (h .model))) (e saves l)
       ∙ saves-back (scopesOf (h .model)) (few-scopes (h .model) good) (h .model .channels) (h .saves) (saves-fit (h .model) good (h .saves) (g .saves)))
+  read-back ps x e clock l = rw l (ap clockIn (e clock l))
 
 fresh-long : (p : Part) → length (fresh p) ≡ size p
 unfolding fresh
 fresh-long model = length-replicate {A = ℕ} modelLength 0
 fresh-long state = length-replicate stateLength (pos 0)
 fresh-long saves = length-replicate savesLength (pos 0)
+fresh-long clock = refl
 
 numbers-agree : (bytes bytes′ : List ℕ) (h k : Held) → bytes ≡ bytes′ → (p : Part) → content p h ≡ content p k → numbersOf bytes h p ≡ numbersOf bytes′ k p
 unfolding numbersOf content
 numbers-agree bytes bytes′ h k b model e = b
 numbers-agree bytes bytes′ h k b state e = ap stateNumbers e
 numbers-agree bytes bytes′ h k b saves e = ap savesNumbers e
+numbers-agree bytes bytes′ h k b clock e = ap clockNumbers e
 
 pub all-lent : (text : List ℕ) (p : Part) → isLent p (lentTo (open′ text)) ≡ true
 unfolding isLent
 all-lent text model = refl
 all-lent text state = refl
 all-lent text saves = refl
+all-lent text clock = refl
 
 -- ---- engines
 

@@ -4,12 +4,15 @@ pub mod Held
 pub mod Listings
 pub mod Machines
 pub mod Three
+pub mod Clocks
+pub mod Four
 pub mod Local
 pub mod Lent
 pub mod Every
 pub mod Written
 pub mod Texts
 pub mod Transitions
+pub mod Waiting
 pub mod Found
 pub mod Answers
 pub mod Outcomes

@@ -12,25 +12,27 @@ use Rattle.model.specs.Opening.{Opening, refused, opened, opening}
 use Rattle.model.specs.Questions.{Answers, no2, no3, no4, no5, no6, no7, no8, no9, no10, yesToAll}
 use Rattle.model.proofs.Answered as texts
 use Rattle.rules.specs.Listing.{Entry}
+use Rattle.machine.specs.Timed.{Timed}
 use Rattle.machine.specs.State.{State, stateNumbers}
 use Rattle.machine.specs.Saves.{Saves, Stored, saving, returning, forgetting}
 use Rattle.machine.specs.Results.{Names}
 use Rattle.machine.proofs.Saves.{StoredAnswers, accepts, refuses, saving-answers, returning-answers, forgetting-answers}
 use Rattle.saves.specs.Places.{savesNumbers}
 use Rattle.machine.specs.Report.{reportLength}
-use Rattle.machine.specs.Machine.{listingLength, asLent, Answer, no, listedAs, reportedAs, Listed, Turn, turn, drawn, showing, lists, sharing, reports, choosing, stepsWith, Held, moved, Machine, closed, holding, onState}
-use Rattle.machine.specs.Machine.{onSaves, Request, list′, step′, report′, save′, return′, forget′, Ask, open′, on′, acts, Part, model, state, saves, size, lentTo, outputOf, hasLengths, onMachine, after}
+use Rattle.machine.specs.Machine.{listingLength, Answer, no, listedAs, reportedAs, Listed, Turn, turn, drawn, showing, lists, sharing, reports, choosing, stepsWith, stepsIn, timesWith, Held, moved, movedIn, Machine, closed, holding, onState, onClock}
+use Rattle.machine.specs.Machine.{timedOf, storedIn, onSaves, Request, list′, step′, report′, timed′, save′, return′, forget′, Ask, open′, on′, acts, Part, model, state, saves, clock, size, outputOf, hasLengths, onMachine, after}
 use Rattle.machine.specs.Machine as machine
-use Rattle.machine.specs.Questions.{IsListing, Lists, no12, no13, no14, yes14, Steps, no15, no16, no17, no18, no19, yes19}
+use Rattle.machine.specs.Questions.{IsListing, Lists, no12, no13, no14, yes14, Steps, no15, no16, no17, no18, no19, yes19, Times, no15-19, no23, no24, no25, yes25}
 use Rattle.machine.proofs.Listing.{asked}
 use Rattle.machine.proofs.Lent.{lent-so}
 use Rattle.machine.proofs.Stepping as step
+use Rattle.machine.proofs.Timing as timing
 use Rattle.rules.proofs.Decides.{on}
 use Rattle.buffers.specs.Listing.{shown}
-use Rattle.buffers.specs.Parts.{Cell, Engine, fresh, numbersOf, withStored}
+use Rattle.buffers.specs.Parts.{Cell, Engine, fresh, numbersOf, withKept}
 use Rattle.buffers.specs.Effect.{Effect, untouched, opensWith, leftIn, leaves, answered}
-use Rattle.buffers.specs.Calls.{Lending, BufferCall, lentEngine, effectOf, leftBy, lentLengths, fed, engineAfter, Holds, zeros, held}
-use Rattle.buffers.specs.Outcomes.{Outcome, nothing, zeroed, opens, unlisted, listed, accepted, reported, unstored, stored}
+use Rattle.buffers.specs.Calls.{Lending, BufferCall, effectOf, leftBy, lentLengths, fed, engineAfter, Holds, zeros, held}
+use Rattle.buffers.specs.Outcomes.{Outcome, nothing, zeroed, opens, unlisted, listed, unwaited, accepted, reported, unstored, stored}
 use Rattle.buffers.proofs.Lent.{same-engine}
 use Rattle.buffers.proofs.Every.{all-lent, one-untouched, left-as, asks-all, make, Turns, shut, request-turns, every-list}
 use Rattle.buffers.proofs.Transitions.{still}
@@ -107,6 +109,13 @@ module _ (x : Engine) (a : (p : Part) → Lending (Cell p) (size p)) (l : List �
           let q : effectOf x (make (on′ r) a l) .answer .number ≡ n = ap (λ (a : Answer). a .number) (u .answer ∙ g) in
           listed e k (omega arith) (omega arith) (u .output ∙ ap (λ (a : Answer). shown (a .listing) l) g) (still u f)
 
+      -- 23 to 25
+      unwaited-out : (es : List Entry) (n : ℕ) → IsListing m s es → 23 ≤ n → n ≤ 25 → acts r h .machine ≡ h → acts r h .answer ≡ listedAs n 0 es → Out y (on′ r)
+      unfolding listedAs shown
+      unwaited-out es n k b c f g =
+          let q : effectOf x (make (on′ r) a l) .answer .number ≡ n = ap (λ (a : Answer). a .number) (u .answer ∙ g) in
+          unwaited e k (omega arith) (omega arith) (u .output ∙ ap (λ (a : Answer). shown (a .listing) l) g) (still u f)
+
       -- acceptance
       accepted-out : (es : List Entry) (i : ℕ) → IsListing m s es → acts r h .answer ≡ listedAs 0 i es → Out y (on′ r)
       unfolding listedAs shown numbersOf
@@ -162,29 +171,53 @@ module _ (x : Engine) (a : (p : Part) → Lending (Cell p) (size p)) (l : List �
     unfolding acts onState stepsWith
     step-out u long = choosing-out u long (asked m s (machine.listing m s) .0 refl) refl refl
 
-    -- of a turn of state and saves, accepted or refused under 20 to 22
-    saves-out : (r : Request) (f : State → Saves → Stored) → Names r → ((k : Held) → acts r k ≡ onSaves f k) → Turns x h r a l → StoredAnswers s (h .saves) (f s (h .saves)) → Out y (on′ r)
+    -- of a turn of state, clock and saves, accepted or refused under 20 to 22
+    saves-out : (r : Request) (f : Timed → Saves → Stored) → Names r → ((k : Held) → acts r k ≡ onSaves f k) → Turns x h r a l → StoredAnswers (timedOf h) (h .saves) (f (timedOf h) (h .saves)) → Out y (on′ r)
     unfolding onSaves no shown
     saves-out r f k q u (accepts z) =
         stored e refl k (ap (λ (a : Answer). a .number) (u .answer) ∙ ap (λ (t : Turn Held). t .answer .number) (q h) ∙ z) (same-engine left-so) (u .output ∙ ap (λ (t : Turn Held). shown (t .answer .listing) l) (q h))
       where
-        left-so : (p : Part) → leftBy x (make (on′ r) a l) p ≡ withStored x (stateNumbers (acts r h .machine .state)) (savesNumbers (acts r h .machine .saves)) p
-        left-so model = unfold withStored numbersOf in u .left model ∙ sym (u .before model)
-        left-so state = unfold withStored numbersOf in u .left state
-        left-so saves = unfold withStored numbersOf in u .left saves
+        left-so : (p : Part) → leftBy x (make (on′ r) a l) p ≡ withKept x (stateNumbers (acts r h .machine .state)) (savesNumbers (acts r h .machine .saves)) (acts r h .machine .clock) p
+        left-so model = unfold withKept numbersOf in u .left model ∙ sym (u .before model)
+        left-so state = unfold withKept numbersOf in u .left state
+        left-so saves = unfold withKept numbersOf in u .left saves
+        left-so clock = unfold withKept numbersOf in u .left clock
     saves-out r f k q u (refuses b c z) =
-        let n : effectOf x (make (on′ r) a l) .answer .number ≡ f s (h .saves) .number = ap (λ (a : Answer). a .number) (u .answer) ∙ ap (λ (t : Turn Held). t .answer .number) (q h) in
-        unstored (omega arith) (omega arith) (still u (ap (λ (t : Turn Held). t .machine) (q h) ∙ ap₂ (λ (s : State) (ss : Saves). record { model = h .model; state = s; saves = ss }) (z .0) (z .1)))
+        let n : effectOf x (make (on′ r) a l) .answer .number ≡ f (timedOf h) (h .saves) .number = ap (λ (a : Answer). a .number) (u .answer) ∙ ap (λ (t : Turn Held). t .answer .number) (q h) in
+        unstored (omega arith) (omega arith) (still u (ap (λ (t : Turn Held). t .machine) (q h) ∙ ap₂ (λ (t : Timed) (ss : Saves). storedIn h (record { number = 0; kept = t; saves = ss })) (z .0) (z .1)))
         (u .output ∙ ap (λ (t : Turn Held). shown (t .answer .listing) l) (q h))
+
+    -- and of a timed step
+    timing-out : {ds : List ℕ} {d : ℕ} → Turns x h (timed′ ds d) a l → {es : List Entry} {t : Turn Timed} → IsListing m s es → Times m s (h .clock) es ds d t
+        → acts (timed′ ds d) h .machine ≡ movedIn h (t .machine) → acts (timed′ ds d) h .answer ≡ t .answer → Out y (on′ (timed′ ds d))
+    timing-out {ds} {d} u {es = es} g (no15-19 k l r) w n = let b = timing.step-numbers k l r in listed-out (timed′ ds d) u es k g (b .0) (b .1) w n
+    timing-out {ds} {d} u {es = es} g (no23 i r f) w n = unwaited-out (timed′ ds d) u es 23 g (omega arith) (omega arith) w n
+    timing-out {ds} {d} u {es = es} g (no24 i r f) w n = unwaited-out (timed′ ds d) u es 24 g (omega arith) (omega arith) w n
+    timing-out {ds} {d} u {es = es} g (no25 i r f k) w n = unwaited-out (timed′ ds d) u es 25 g (omega arith) (omega arith) w n
+    timing-out {ds} {d} u {es = es} g (yes25 i r f k o) w n = accepted-out (timed′ ds d) u es i g n
+
+    choosing-in : {ds : List ℕ} {d : ℕ} → Turns x h (timed′ ds d) a l → length l ≡ listingLength → {k : Listed} → Lists m s k
+        → acts (timed′ ds d) h .machine ≡ movedIn h (stepsIn (h .clock) ds s (choosing m s d k) .machine) → acts (timed′ ds d) h .answer ≡ stepsIn (h .clock) ds s (choosing m s d k) .answer
+        → Out y (on′ (timed′ ds d))
+    unfolding choosing stepsIn no
+    choosing-in {ds} {d} u long (no12 {i = i} {j = j} f) w n = unlisted-out (timed′ ds d) u listingLength refl long 12 i j (omega arith) (omega arith) w n
+    choosing-in {ds} {d} u long (no13 g k l) w n = unlisted-out (timed′ ds d) u listingLength refl long 13 0 0 (omega arith) (omega arith) w n
+    choosing-in {ds} {d} u long (no14 g k l f) w n = unlisted-out (timed′ ds d) u listingLength refl long 14 0 0 (omega arith) (omega arith) w n
+    choosing-in {ds} {d} u long (yes14 {es = es} g k l f) w n = timing-out u k (timing.asked m s (h .clock) es k ds d (stepsIn (h .clock) ds s (drawn m s es d)) .0 refl) w n
+
+    timed-out : {ds : List ℕ} {d : ℕ} → Turns x h (timed′ ds d) a l → length l ≡ listingLength → Out y (on′ (timed′ ds d))
+    unfolding acts onClock timesWith stepsWith
+    timed-out u long = choosing-in u long (asked m s (machine.listing m s) .0 refl) refl refl
 
     request-out : (r : Request) → Turns x h r a l → ((n : ℕ) → outputOf (on′ r) ≡ some n → length l ≡ n) → Out y (on′ r)
     unfolding acts Names
     request-out list′ u long = list-out u (long listingLength refl)
     request-out (step′ d) u long = step-out u (long listingLength refl)
     request-out report′ u long = report-out u (long reportLength refl)
-    request-out (save′ n) u long = saves-out (save′ n) (saving n) tt (λ k. refl) u (saving-answers n s (h .saves))
-    request-out (return′ n) u long = saves-out (return′ n) (returning n) tt (λ k. refl) u (returning-answers n s (h .saves))
-    request-out (forget′ n) u long = saves-out (forget′ n) (forgetting n) tt (λ k. refl) u (forgetting-answers n s (h .saves))
+    request-out (save′ n) u long = saves-out (save′ n) (saving n) tt (λ k. refl) u (saving-answers n (timedOf h) (h .saves))
+    request-out (return′ n) u long = saves-out (return′ n) (returning n) tt (λ k. refl) u (returning-answers n (timedOf h) (h .saves))
+    request-out (forget′ n) u long = saves-out (forget′ n) (forgetting n) tt (λ k. refl) u (forgetting-answers n (timedOf h) (h .saves))
+    request-out (timed′ ds d) u long = timed-out u (long listingLength refl)
 
   -- ---- every call
 

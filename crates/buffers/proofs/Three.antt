@@ -1,22 +1,22 @@
--- The model, state and saves buffers hold a machine exactly where they are the bytes of a text that holds its model, and the numbers of a state and of saves over it; and what a save, a
--- return and a forget leave over them: from the exact tests.
-use mathlib.Core.Path.{_≡_, refl, sym, ap, ap₂, subst, _∙_}
+-- The model, state and saves buffers hold a machine exactly where they are the bytes of a text that holds its model, and the numbers of a state and of saves over it; and what a
+-- forget leaves over them: from the exact tests.
+use mathlib.Core.Path.{_≡_, refl, sym, ap, ap₂, _∙_}
 use mathlib.Core.Bool.{Bool, true, false, cond, _&&_, and-true}
 use mathlib.Core.List.{List}
 use mathlib.Core.Logic.{_↔_}
-use mathlib.Core.Option.{Option, none, some, Option·elim}
+use mathlib.Core.Option.{Option, none, some}
 use Prim.Native.Nat.{ℕ, _<_}
 use native.Mathlib.Omega.{arith}
-use borrow.Author.Tests.{eq-eqb}
-use lib.Dec.{eqb}
 use lib.ListN.{length, getD}
 use Rattle.model.specs.Resolved.{Model}
 use Rattle.model.specs.Held.{held}
 use Rattle.model.specs.Good.{GoodModel}
+use Rattle.clock.specs.Clock.{freshClock}
 use Rattle.machine.specs.State.{State, stateLength, stateNumbers, GoodState}
-use Rattle.machine.specs.Saves.{Saves, savesLength, GoodSaves, Stored, saving, returning, forgetting}
+use Rattle.machine.specs.Timed.{Timed, timed}
+use Rattle.machine.specs.Saves.{Saves, savesLength, GoodSaves, Stored}
 use Rattle.machine.specs.Machine as machine
-use Rattle.machine.specs.Machine.{modelLength, asLent, no, Turn, Held, heldWith, Machine, closed, holding, onSaves, Request, save′, return′, forget′, on′, acts, Part, model, state, saves, size, threeParts, lentTo, outputOf, uses, isLent, allParts, hasLengths, onMachine}
+use Rattle.machine.specs.Machine.{modelLength, asLent, no, Turn, Held, heldWith, storedIn, Machine, closed, holding, onSaves, Request, acts, Part, model, state, saves, clock, threeParts, uses, isLent, allParts, onMachine}
 use Rattle.state.specs.Fits.{scopesOf}
 use Rattle.state.specs.Test.{isState}
 use Rattle.state.specs.Decode.{decode}
@@ -28,8 +28,8 @@ use Rattle.saves.proofs.Over.{saves-fit, fit-saves}
 use Rattle.saves.proofs.Places.{saves-pass, saves-back, saves-good, saves-numbers}
 use Rattle.buffers.specs.Held.{modelBytes, heldIn}
 use Rattle.buffers.specs.Listing.{shown}
-use Rattle.buffers.specs.Parts.{Engine, fresh, numbersOf, isPart, readHeld, withStored}
-use Rattle.buffers.specs.Effect.{Effect, machineOver, machineIn, untouched, leftIn, leaves, requested, answered, effect}
+use Rattle.buffers.specs.Parts.{Engine, numbersOf, isPart, readHeld, withStored}
+use Rattle.buffers.specs.Effect.{machineOver, machineIn, leftIn, leaves}
 use Rattle.buffers.specs.Answers.{storesAs}
 use Rattle.buffers.proofs.Held.{text-held, held-exactly, held-fits}
 use Rattle.buffers.proofs.Lent.{same-engine}
@@ -150,16 +150,20 @@ eleven-exactly x m s ss long byte numbers wide = (there, back)
 
 -- ---- what a request on the saves leaves
 
--- one that turns state and saves
-pub stores : (r : Request) (f : State → Saves → Stored) → ((h : Held) → acts r h ≡ onSaves f h) → uses r ≡ threeParts → (x : Engine) (l : List ℕ) (m : Model) (s : State) (ss : Saves)
-    → machineIn threeParts x ≡ holding (heldWith m s ss) → leaves threeParts x l (onMachine r (machineIn threeParts x)) ≡ storesAs x l (f s ss)
+-- one that is lent the three
+pub stores : (r : Request) (f : Timed → Saves → Stored) → ((h : Held) → acts r h ≡ onSaves f h) → uses r ≡ threeParts → (x : Engine) (l : List ℕ) (m : Model) (s : State) (ss : Saves)
+    → machineIn threeParts x ≡ holding (heldWith m s ss) → leaves threeParts x l (onMachine r (machineIn threeParts x)) ≡ storesAs x l (f (timed s freshClock) ss)
 unfolding onMachine leaves leftIn onSaves storesAs shown no
 stores r f q u x l m s ss e =
     ap (λ (y : Machine). leaves threeParts x l (onMachine r y)) e
     ∙ ap (λ (t : Turn Held). record { answer = t .answer; left = leftIn threeParts x (holding (t .machine)); output = shown (t .answer .listing) l }) (q (heldWith m s ss))
-    ∙ ap (λ (z : Engine). record { answer = no (f s ss .number) 0 0 asLent; left = z; output = l }) (same-engine at)
+    ∙ ap (λ (z : Engine). record { answer = no (f (timed s freshClock) ss .number) 0 0 asLent; left = z; output = l }) (same-engine at)
   where
-    at : (p : Part) → leftIn threeParts x (holding (heldWith m (f s ss .state) (f s ss .saves))) p ≡ withStored x (stateNumbers (f s ss .state)) (savesNumbers (f s ss .saves)) p
+    t : Stored
+    t = f (timed s freshClock) ss
+
+    at : (p : Part) → leftIn threeParts x (holding (storedIn (heldWith m s ss) t)) p ≡ withStored x (stateNumbers (t .kept .state)) (savesNumbers (t .saves)) p
     at model = unfold leftIn isLent numbersOf withStored in refl
     at state = unfold leftIn isLent numbersOf withStored in refl
     at saves = unfold leftIn isLent numbersOf withStored in refl
+    at clock = unfold leftIn isLent numbersOf withStored in refl

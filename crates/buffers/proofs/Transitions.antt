@@ -19,7 +19,7 @@ use Rattle.rules.proofs.Chosen.{chooses-first}
 use Rattle.machine.specs.State.{State, stateNumbers, GoodProcess, GoodState}
 use Rattle.machine.specs.Report.{reportLength, reportOf}
 use Rattle.machine.specs.Machine.{listingLength, Shown, filled, asLent, Answer, no, listedAs, reportedAs, Listed, entriesAre, Turn, drawn, showing, lists, sharing, reports, choosing, stepsWith, Held, moved, Machine, closed, holding, onState}
-use Rattle.machine.specs.Machine.{Request, list′, step′, report′, Ask, on′, acts, Part, model, state, saves, size, lentTo, outputOf, uses, isLent, allParts, hasLengths, onMachine, after}
+use Rattle.machine.specs.Machine.{Request, list′, step′, report′, Ask, on′, acts, Part, model, state, saves, clock, size, lentTo, outputOf, uses, isLent, allParts, hasLengths, onMachine, after}
 use Rattle.machine.specs.Machine as machine
 use Rattle.machine.specs.Questions.{Lists, no12, no13, no14, yes14, Steps, no15, no16, no17, no18, no19, yes19}
 use Rattle.machine.proofs.Everys.{every-nth}
@@ -32,7 +32,7 @@ use Rattle.buffers.specs.Held.{modelBytes}
 use Rattle.buffers.specs.Listing.{shown, listingNumbers}
 use Rattle.buffers.specs.Parts.{Cell, Engine, fresh, numbersOf, withState}
 use Rattle.buffers.specs.Effect.{Effect, leaves}
-use Rattle.buffers.specs.Calls.{Lending, own, lentLength, BufferCall, asks, lentEngine, effectOf, leftBy, lentLengths, fed, engineAfter, Holds, zeros}
+use Rattle.buffers.specs.Calls.{Lending, own, lentLength, lentBuffer, BufferCall, asks, lentEngine, effectOf, leftBy, lentLengths, fed, engineAfter, Holds, zeros}
 use Rattle.buffers.specs.Calls as calls
 use Rattle.buffers.specs.Transitions.{Leaves, Takes, Shares, Shows}
 use Rattle.buffers.proofs.Held.{passes, text-in, held-fits}
@@ -42,13 +42,13 @@ use Rattle.buffers.proofs.Every.{make, Turns, shut, request-turns, ever
 
 -- ---- a call that lends the engine's own and an output of the right length
 
-own-lengths : (k : Ask) (l : List ℕ) (n : ℕ) → outputOf k ≡ some n → length l ≡ n → hasLengths k (lentLengths (asks k l)) (length l) ≡ true
+pub own-lengths : (k : Ask) (l : List ℕ) (n : ℕ) → outputOf k ≡ some n → length l ≡ n → hasLengths k (lentLengths (asks k l)) (length l) ≡ true
 unfolding hasLengths lentLengths lentLength Option·elim
 own-lengths k l n o e =
     ap₂ (λ (a b : Bool). a && b) (lent-all (λ (p : Part). eqb (size p) (size p)) (lentTo k) (λ p t. eq-eqb (size p) (size p) refl))
     (ap (λ (k : Option ℕ). Option·elim k true (eqb (length l))) o ∙ eq-eqb _ _ e)
 
-own-turns : {x : Engine} {h : Held} → Holds x (holding h) → (r : Request) (l : List ℕ) (n : ℕ) → outputOf (on′ r) ≡ some n → length l ≡ n → Turns x h r (λ (p : Part). own) l
+pub own-turns : {x : Engine} {h : Held} → Holds x (holding h) → (r : Request) (l : List ℕ) (n : ℕ) → outputOf (on′ r) ≡ some n → length l ≡ n → Turns x h r (λ (p : Part). own) l
 own-turns {h = h} b r l n o e = request-turns b (λ (p : Part). own) l b h refl r (own-lengths (on′ r) l n o e)
 
 -- what a request leaves of an engine, where it leaves the machine as it was
@@ -129,7 +129,7 @@ module _ {x : Engine} {h : Held} (b : Holds x (holding h)) (es : List Entry) (q 
 
   -- what a step leaves
   leaving : (l : List ℕ) (d : ℕ) → length l ≡ listingLength → Leaves x m s es d (effectOf x (asks (on′ (step′ d)) l))
-  unfolding acts onState stepsWith choosing numbersOf withState isLent lentEngine calls.lentBuffer
+  unfolding acts onState stepsWith choosing numbersOf withState isLent lentEngine lentBuffer
   leaving l d long =
       record {
         turn = drawn m s es d;
@@ -152,6 +152,7 @@ module _ {x : Engine} {h : Held} (b : Holds x (holding h)) (es : List Entry) (q 
       at model = t .lent model refl ∙ sym (t .before model)
       at state = t .lent state refl ∙ ap (λ (k : Listed). stateNumbers (choosing m s d k .machine)) q
       at saves = t .unlent saves refl
+      at clock = t .unlent clock refl
 
   taking : (l : List ℕ) (d : ℕ) → length l ≡ listingLength → effectOf x (asks (on′ (step′ d)) l) .answer .number ≡ 0 → Takes m s es d (effectOf x (asks (on′ (step′ d)) l))
   unfolding withState

@@ -7,6 +7,7 @@ pub mod Effect
 pub mod Calls
 pub mod Texts
 pub mod Transitions
+pub mod Waiting
 pub mod Found
 pub mod Answers
 pub mod Outcomes

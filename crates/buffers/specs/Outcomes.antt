@@ -16,7 +16,7 @@ use Rattle.saves.specs.Places.{savesNumbers}
 use Rattle.machine.specs.Questions.{IsListing}
 use Rattle.buffers.specs.Held.{modelBytes}
 use Rattle.buffers.specs.Listing.{listingNumbers}
-use Rattle.buffers.specs.Parts.{Engine, fresh, numbersOf, withStored}
+use Rattle.buffers.specs.Parts.{Engine, fresh, numbersOf, withKept}
 use Rattle.buffers.specs.Effect.{Effect}
 use Rattle.buffers.specs.Calls.{BufferCall, lentEngine, leftBy}
 
@@ -34,7 +34,10 @@ pub data Outcome (x : Engine) (y : Machine) (c : BufferCall) (e : Effect) : Type
   -- 15 to 19 leave the listing filled, and change nothing else
   listed : {h : Held} {es : List Entry} → y ≡ holding h → IsListing (h .model) (h .state) es
       → 15 ≤ e .answer .number → e .answer .number ≤ 19 → e .output ≡ listingNumbers es → leftBy x c ≡ x → Outcome x y c e
-  -- list and step are accepted: the listing is filled, as Transitions.antt says
+  -- 02, note 4: so do 23 to 25
+  unwaited : {h : Held} {es : List Entry} → y ≡ holding h → IsListing (h .model) (h .state) es
+      → 23 ≤ e .answer .number → e .answer .number ≤ 25 → e .output ≡ listingNumbers es → leftBy x c ≡ x → Outcome x y c e
+  -- a list or a step, timed or not, is accepted: the listing is filled, as Transitions.antt says
   accepted : {h : Held} {es : List Entry} → y ≡ holding h → IsListing (h .model) (h .state) es
       → e .answer .number ≡ 0 → e .output ≡ listingNumbers es → leftBy x c model ≡ x model → Outcome x y c e
   -- 02, note 6: a report is accepted: the shares of the listing, as Transitions.antt says, and nothing moves
@@ -42,6 +45,6 @@ pub data Outcome (x : Engine) (y : Machine) (c : BufferCall) (e : Effect) : Type
       → e .answer .number ≡ 0 → e .output ≡ reportOf (h .model) (h .state) es → leftBy x c ≡ x → Outcome x y c e
   -- 02, note 2: 20 to 22 change nothing
   unstored : 20 ≤ e .answer .number → e .answer .number ≤ 22 → leftBy x c ≡ x → e .output ≡ c .output → Outcome x y c e
-  -- 02, note 2: save, return and forget are accepted: state and saves are those that the request leads to
+  -- 02, notes 2 and 4: save, return and forget are accepted: state, clock and saves are those that the request leads to
   stored : {h : Held} {r : Request} → y ≡ holding h → c .ask ≡ on′ r → Names r → e .answer .number ≡ 0
-      → leftBy x c ≡ withStored x (stateNumbers (acts r h .machine .state)) (savesNumbers (acts r h .machine .saves)) → e .output ≡ c .output → Outcome x y c e
+      → leftBy x c ≡ withKept x (stateNumbers (acts r h .machine .state)) (savesNumbers (acts r h .machine .saves)) (acts r h .machine .clock) → e .output ≡ c .output → Outcome x y c e

@@ -1,12 +1,13 @@
 // Runs a script of calls from standard input, or from each file that an argument names, after a line `== NAME`. Each script has a fresh engine.
 //
-// A script has lines `open N`, which a text of N bytes and an LF follow, `list`, `step D`, `report`, `save NAME`, `return NAME`, `forget NAME`, `independent I J` and `state`. N, D, I and J
-// are decimal digits alone, below 2^64, leading zeros or not, each after a single blank; NAME is all bytes after the blank, perhaps none. Every line ends with an LF, also the last. Lines are
-// counted from 1 by their LFs, those within texts too.
+// A script has lines `open N`, which a text of N bytes and an LF follow, `list`, `step D`, `report`, `save NAME`, `return NAME`, `forget NAME`, `independent I J`, `state`, `wait W`, `time D`
+// and `clock`. N, D, I, J and W are decimal digits alone, below 2^64, W below 65,536, leading zeros or not, each after a single blank; NAME is all bytes after the blank, perhaps none. Every line
+// ends with an LF, also the last. Lines are counted from 1 by their LFs, those within texts too.
 //
 // Each call prints `number place branch count total chosen`, then each entry of the listing on a line of its own, after two blanks, and a report that is accepted
 // its 64 numbers on one such line; `state` prints the state's numbers. `independent` calls nothing: it prints 1 where the entries I and J, counted from 0, of the last listing that
 // was filled are independent, and else 0, also where there is no such entry or listing.
+// `wait W` prints nothing: it puts a waiting draw after those so far. `time D` is a timed step with these, up to 4,096 of them, after which there are none; `clock` prints the clock's ticks and draws.
 // A line of another form prints `bad,LINE` and ends the script; so does `open N` whose text is cut short or has no LF after it. Nothing is called for it.
 // A text is lent to open up to 16,385 bytes, a name up to 19: as many are too many already, so the bytes after them change no answer.
 use libc::STDIN_FILENO;
@@ -38,6 +39,9 @@ impl Limits {
     const SAVE: u64 = 5;
 
     const RETURN: u64 = 7;
+
+    // Waiting draws that are kept.
+    const DRAWS: usize = 4096;
 }
 
 type Text = [u8; Limits::TEXT];
@@ -50,10 +54,15 @@ type Listing = [u64; Engine::LISTING];
 
 type Saves = [i64; Engine::SAVES];
 
-// Where a run stands: the script, how many bytes of output wait, and whether it has ended.
+type Time = [u64; Row::CLOCK];
+
+type Waiting = [u16; Limits::DRAWS];
+
+// Where a run stands: the script, how many bytes of output wait, how many waiting draws are kept, and whether it has ended.
 struct Run {
     script: Script,
     waits: usize,
+    drawn: usize,
     over: bool,
 }
 
@@ -99,7 +108,7 @@ fn name_size(kept: u64, first: u64) -> u64 {
     kept - first
 }
 
-// Makes one call by a row of a script, with the first bytes of the text or a draw, which is lent so many numbers of the listing, and answers.
+// Makes one call by a row of a script, with the first bytes of the text, a draw, or waiting draws too, which is lent so many numbers of the listing, and answers.
 fn make_call(
     kind: u64,
     first: u64,
@@ -107,9 +116,11 @@ fn make_call(
     draw: u64,
     listed: u64,
     text: &Text,
+    waiting: &[u16],
     model: &mut Model,
     state: &mut State,
     saves: &mut Saves,
+    clock: &mut Time,
     listing: &mut Listing,
 ) -> [u64; Row::ANSWER] {
     let row: [u64; Row::WIDTH] = [
@@ -117,7 +128,7 @@ fn make_call(
         first,
         size,
         0,
-        0,
+        waiting.len() as u64,
         draw,
         listed,
         Engine::MODEL as u64,
@@ -125,7 +136,17 @@ fn make_call(
         Engine::SAVES as u64,
     ];
     let mut answer = [0u64; Row::ANSWER];
-    script::run(&row, text, &[], model, state, saves, listing, &mut answer);
+    script::run(
+        &row,
+        text,
+        waiting,
+        model,
+        state,
+        saves,
+        clock,
+        listing,
+        &mut answer,
+    );
     answer
 }
 
@@ -137,9 +158,11 @@ fn put_call(
     size: u64,
     draw: u64,
     text: &Text,
+    waiting: &[u16],
     model: &mut Model,
     state: &mut State,
     saves: &mut Saves,
+    clock: &mut Time,
     listing: &mut Listing,
 ) -> usize {
     let listed = Engine::LISTING as u64;
@@ -150,9 +173,11 @@ fn put_call(
         draw,
         listed,
         text,
+        waiting,
         model,
         state,
         saves,
+        clock,
         listing,
     );
     let n = output::put_line(out, waits, &answer, b' ');
@@ -181,6 +206,7 @@ fn put_report(
     model: &mut Model,
     state: &mut State,
     saves: &mut Saves,
+    clock: &mut Time,
 ) -> usize {
     let mut part = [0u64; Engine::LISTING];
     let listed = Engine::REPORT as u64;
@@ -191,9 +217,11 @@ fn put_report(
         0,
         listed,
         text,
+        &[],
         model,
         state,
         saves,
+        clock,
         &mut part,
     );
     let n = output::put_line(out, waits, &answer, b' ');
@@ -236,11 +264,83 @@ fn put_named(
     model: &mut Model,
     state: &mut State,
     saves: &mut Saves,
+    clock: &mut Time,
     listing: &mut Listing,
 ) -> usize {
     let size = name_size(kept, first);
-    let answer = make_call(kind, first, size, 0, 0, text, model, state, saves, listing);
+    let answer = make_call(
+        kind,
+        first,
+        size,
+        0,
+        0,
+        text,
+        &[],
+        model,
+        state,
+        saves,
+        clock,
+        listing,
+    );
     output::put_line(out, waits, &answer, b' ')
+}
+
+// Puts a timed step with the first waiting draws.
+fn put_timed(
+    out: &mut Buffer,
+    waits: usize,
+    draw: u64,
+    drawn: usize,
+    text: &Text,
+    waiting: &[u16],
+    model: &mut Model,
+    state: &mut State,
+    saves: &mut Saves,
+    clock: &mut Time,
+    listing: &mut Listing,
+) -> usize {
+    if waiting.len() < drawn {
+        return waits;
+    }
+    put_call(
+        out,
+        waits,
+        Row::TIMED,
+        0,
+        draw,
+        text,
+        &waiting[..drawn],
+        model,
+        state,
+        saves,
+        clock,
+        listing,
+    )
+}
+
+// Keeps a waiting draw, if there is room. A line gives none of more than 16 bits.
+fn keep_draw(waits: usize, draw: u64, drawn: usize, waiting: &mut Waiting) -> usize {
+    if 65535 < draw {
+        return waits;
+    }
+    if drawn < Limits::DRAWS {
+        waiting[drawn] = draw as u16;
+    }
+    waits
+}
+
+// How many waiting draws are kept after an item.
+fn drawn_after(asked: Line, drawn: usize) -> usize {
+    match asked {
+        Line::Time(_) => 0,
+        Line::Wait(_) => {
+            if drawn < Limits::DRAWS {
+                return drawn + 1;
+            }
+            drawn
+        }
+        _ => drawn,
+    }
 }
 
 // Does what an item of the script asks for.
@@ -248,10 +348,13 @@ fn ask(
     out: &mut Buffer,
     waits: usize,
     asked: Line,
+    drawn: usize,
     text: &Text,
+    waiting: &mut Waiting,
     model: &mut Model,
     state: &mut State,
     saves: &mut Saves,
+    clock: &mut Time,
     listing: &mut Listing,
 ) -> usize {
     match asked {
@@ -262,9 +365,11 @@ fn ask(
             lent(size),
             0,
             text,
+            &[],
             model,
             state,
             saves,
+            clock,
             listing,
         ),
         Line::List => put_call(
@@ -274,9 +379,11 @@ fn ask(
             0,
             0,
             text,
+            &[],
             model,
             state,
             saves,
+            clock,
             listing,
         ),
         Line::Step(draw) => put_call(
@@ -286,13 +393,15 @@ fn ask(
             0,
             draw,
             text,
+            &[],
             model,
             state,
             saves,
+            clock,
             listing,
         ),
         Line::State => output::put_signed_line(out, waits, state, b' '),
-        Line::Report => put_report(out, waits, text, model, state, saves),
+        Line::Report => put_report(out, waits, text, model, state, saves, clock),
         Line::Save(kept) => put_named(
             out,
             waits,
@@ -303,6 +412,7 @@ fn ask(
             model,
             state,
             saves,
+            clock,
             listing,
         ),
         Line::Return(kept) => put_named(
@@ -315,6 +425,7 @@ fn ask(
             model,
             state,
             saves,
+            clock,
             listing,
         ),
         Line::Forget(kept) => put_named(
@@ -327,8 +438,24 @@ fn ask(
             model,
             state,
             saves,
+            clock,
             listing,
         ),
+        Line::Time(draw) => put_timed(
+            out,
+            waits,
+            draw,
+            drawn,
+            text,
+            waiting,
+            model,
+            state,
+            saves,
+            clock,
+            listing,
+        ),
+        Line::Wait(draw) => keep_draw(waits, draw, drawn, waiting),
+        Line::Clock => output::put_line(out, waits, clock, b' '),
         Line::Independent(i, j) => output::put_line(out, waits, &[judge(listing, i, j)], b' '),
         Line::Bad => waits,
     }
@@ -339,13 +466,16 @@ fn run_byte(
     b: u8,
     out: &mut Buffer,
     text: &mut Text,
+    waiting: &mut Waiting,
     model: &mut Model,
     state: &mut State,
     saves: &mut Saves,
+    clock: &mut Time,
     listing: &mut Listing,
 ) -> Run {
     let script = run.script;
     let waits = run.waits;
+    let drawn = run.drawn;
     let part = script.part;
     keep(part, b, text);
     let taken = script.take(b);
@@ -353,16 +483,31 @@ fn run_byte(
         Taken::Goes(next) => Run {
             script: next,
             waits: waits,
+            drawn: drawn,
             over: false,
         },
         Taken::Asks(asked, next) => Run {
             script: next,
-            waits: ask(out, waits, asked, text, model, state, saves, listing),
+            waits: ask(
+                out,
+                waits,
+                asked,
+                drawn,
+                text,
+                waiting,
+                model,
+                state,
+                saves,
+                clock,
+                listing,
+            ),
+            drawn: drawn_after(asked, drawn),
             over: false,
         },
         Taken::Wrong(line) => Run {
             script: script,
             waits: put_bad(out, waits, line),
+            drawn: drawn,
             over: true,
         },
     }
@@ -373,15 +518,28 @@ fn run_bytes(
     run: Run,
     out: &mut Buffer,
     text: &mut Text,
+    waiting: &mut Waiting,
     model: &mut Model,
     state: &mut State,
     saves: &mut Saves,
+    clock: &mut Time,
     listing: &mut Listing,
 ) -> Run {
     let mut now = run;
     let mut i = 0;
     while i < bytes.len() {
-        now = run_byte(now, bytes[i], out, text, model, state, saves, listing);
+        now = run_byte(
+            now,
+            bytes[i],
+            out,
+            text,
+            waiting,
+            model,
+            state,
+            saves,
+            clock,
+            listing,
+        );
         if now.over {
             return now;
         }
@@ -394,16 +552,19 @@ fn run_bytes(
 fn end(run: Run, out: &mut Buffer) -> Run {
     let script = run.script;
     let waits = run.waits;
+    let drawn = run.drawn;
     let ending = script.at_end();
     match ending {
         Ending::Done => Run {
             script: script,
             waits: waits,
+            drawn: drawn,
             over: true,
         },
         Ending::Broken(line) => Run {
             script: script,
             waits: put_bad(out, waits, line),
+            drawn: drawn,
             over: true,
         },
     }
@@ -415,6 +576,7 @@ fn flushed(run: Run, out: &Buffer) -> Run {
     Run {
         script: script,
         waits: output::flush(out, run.waits),
+        drawn: run.drawn,
         over: over,
     }
 }
@@ -425,9 +587,11 @@ fn run_some(
     run: Run,
     out: &mut Buffer,
     text: &mut Text,
+    waiting: &mut Waiting,
     model: &mut Model,
     state: &mut State,
     saves: &mut Saves,
+    clock: &mut Time,
     listing: &mut Listing,
 ) -> Run {
     let mut space = [0u8; Limits::READ];
@@ -437,7 +601,18 @@ fn run_some(
         return flushed(end(run, out), out);
     }
     flushed(
-        run_bytes(&space[..n], run, out, text, model, state, saves, listing),
+        run_bytes(
+            &space[..n],
+            run,
+            out,
+            text,
+            waiting,
+            model,
+            state,
+            saves,
+            clock,
+            listing,
+        ),
         out,
     )
 }
@@ -446,13 +621,16 @@ fn run_some(
 fn run_script(fd: i32) {
     let mut out = output::empty();
     let mut text = [0u8; Limits::TEXT];
+    let mut waiting = [0u16; Limits::DRAWS];
     let mut model = [0u8; Engine::MODEL];
     let mut state = [0i64; Engine::STATE];
     let mut saves = [0i64; Engine::SAVES];
+    let mut clock = [0u64; Row::CLOCK];
     let mut listing = [0u64; Engine::LISTING];
     let mut run = Run {
         script: Script::new(),
         waits: 0,
+        drawn: 0,
         over: false,
     };
     let mut reads = u64::MAX;
@@ -462,9 +640,11 @@ fn run_script(fd: i32) {
             run,
             &mut out,
             &mut text,
+            &mut waiting,
             &mut model,
             &mut state,
             &mut saves,
+            &mut clock,
             &mut listing,
         );
         if run.over {

@@ -1,4 +1,5 @@
 // The bench sheet: reads a model from standard input and prints its first listing, or `refused`, the refusal's number and its place, and for 12 also the branch.
+use clock::Clock;
 use engine::Answer;
 use libc::STDIN_FILENO;
 use output::Buffer;
@@ -38,7 +39,7 @@ fn put_model(out: &mut Buffer, text: &[u8]) -> usize {
     let mut state = [0i64; Engine::STATE];
     let mut saves = [0i64; Engine::SAVES];
     let mut listing = [0u64; Engine::LISTING];
-    let opened = engine::open(text, &mut model, &mut state, &mut saves);
+    let opened = engine::open(text, &mut model, &mut state, &mut saves, Clock::fresh()).answer;
     if opened.number != 0 {
         return put_refused(out, opened);
     }

@@ -11,19 +11,23 @@ use lib.Dec.{eqb}
 use lib.IntN.{ℤ}
 use lib.ListN.{length, take, drop}
 use Rattle.value.proofs.Kit.{false-not-true}
+use Rattle.clock.specs.declared.Clock.{Clock}
+use Rattle.clock.specs.Clock.{freshClock}
+use Rattle.engine.specs.declared.Answer as result
+use Rattle.engine.specs.declared.Timed as results
 use Rattle.model.specs.Held.{held}
 use Rattle.machine.specs.State.{stateLength}
 use Rattle.machine.specs.Saves.{savesLength}
-use Rattle.machine.specs.Machine.{modelLength, no, closed, Request, Ask, on′, Part, size, twoParts, threeParts, uses, lentTo, outputOf, allParts, hasLengths}
+use Rattle.machine.specs.Machine.{modelLength, no, closed, Request, Ask, on′, Part, size, twoParts, threeParts, fourParts, uses, lentTo, outputOf, allParts, hasLengths}
 use Rattle.machine.proofs.Lent.{both-true}
 use Rattle.buffers.specs.Held.{lengthIn, textIn, heldIn}
-use Rattle.buffers.specs.Parts.{Engine, lentTwo, lentThree}
-use Rattle.buffers.specs.Effect.{machineOver, machineIn, untouched, requested, answered, effect}
+use Rattle.buffers.specs.Parts.{Engine, lentTwo, lentThree, lentAll}
+use Rattle.buffers.specs.Effect.{Effect, machineOver, machineIn, untouched, requested, answered, effect}
 use Rattle.engine.specs.Gives.{Gives, bare, arePartsLong, areLong, areAllLong}
 use Rattle.store.specs.Text.{TextOf}
 
 -- 01: 1 changes nothing
-untouched-gives : (x : Engine) (l : List ℕ) → Gives (untouched x l) (bare 1 0 0) x l
+pub untouched-gives : (x : Engine) (l : List ℕ) → Gives (untouched x l) (bare 1 0 0) x l
 unfolding untouched no
 untouched-gives x l = record { number = refl; place = refl; branch = refl; count = refl; total = refl; chosen = refl; buffers = λ p. refl; output = refl }
 
@@ -113,3 +117,38 @@ module _ (bs : List ℕ) (zs ss : List ℤ) where
   pub three-text : (n : ℕ) → TextOf bs n → machineIn threeParts (lentThree bs zs ss) ≡ machineOver threeParts (lentThree bs zs ss) (held (take (2 + n - 2) (drop 2 bs)))
   unfolding machineIn lentThree textIn
   three-text n h = let e : lengthIn bs ≡ 2 + n - 2 = omega (arith, h .long) in ap (machineOver threeParts (lentThree bs zs ss)) (h .holds ∙ ap (λ (i : ℕ). held (take i (drop 2 bs))) e)
+
+-- ---- the model, the state, the saves and the clock
+
+module _ (bs : List ℕ) (zs ss : List ℤ) (c : Clock) where
+  four-are : allParts (λ (p : Part). eqb (length (lentAll bs zs ss c p)) (size p)) fourParts ≡ areAllLong (length bs) (length zs) (length ss)
+  unfolding allParts lentAll areAllLong arePartsLong
+  four-are =
+      ap (λ (b : Bool). eqb (length bs) modelLength && (eqb (length zs) stateLength && b)) (and-true (eqb (length ss) savesLength))
+      ∙ sym (and-assoc (eqb (length bs) modelLength) (eqb (length zs) stateLength) (eqb (length ss) savesLength))
+
+  -- what is asked by a call that is lent the four and no output
+  module _ (k : Ask) (u : lentTo k ≡ fourParts) (o : outputOf k ≡ none) where
+    four-lengths : hasLengths k (λ (p : Part). length (lentAll bs zs ss c p)) 0 ≡ areAllLong (length bs) (length zs) (length ss)
+    unfolding hasLengths Option·elim
+    four-lengths =
+        ap (λ (ps : List Part). allParts (λ (p : Part). eqb (length (lentAll bs zs ss c p)) (size p)) ps && Option·elim (outputOf k) true (eqb 0)) u
+        ∙ ap (λ (n : Option ℕ). allParts (λ (p : Part). eqb (length (lentAll bs zs ss c p)) (size p)) fourParts && Option·elim n true (eqb 0)) o
+        ∙ and-true _ ∙ four-are
+
+    pub four-wrong : areAllLong (length bs) (length zs) (length ss) ≡ false → Gives (effect k (lentAll bs zs ss c) []) (bare 1 0 0) (lentAll bs zs ss c) []
+    unfolding effect
+    four-wrong e = rw (four-lengths, e) (untouched-gives (lentAll bs zs ss c) [])
+
+    pub four-right : areAllLong (length bs) (length zs) (length ss) ≡ true → effect k (lentAll bs zs ss c) [] ≡ answered k (lentAll bs zs ss c) []
+    unfolding effect
+    four-right e = rw (four-lengths, e)
+
+-- a result that is made of an answer and a clock
+pub of-all : (E : Effect) (bs : List ℕ) (zs ss : List ℤ) (r : results.Timed) (a b : result.Answer) (c : Clock) → r ≡ record { answer = a; clock = c } → a ≡ b → Gives E b (lentAll bs zs ss c) []
+    → Gives E (r .answer) (lentAll bs zs ss (r .clock)) []
+of-all E bs zs ss r a b c p q g = rw (p, q) g
+
+pub of-fresh : (E : Effect) (bs : List ℕ) (zs ss : List ℤ) (r : results.Timed) (a : result.Answer) (c : Clock) → r ≡ record { answer = a; clock = c } → c ≡ freshClock → Gives E a (lentAll bs zs ss freshClock) []
+    → Gives E (r .answer) (lentAll bs zs ss (r .clock)) []
+of-fresh E bs zs ss r a c p q g = rw (p, q) g

@@ -5,3 +5,4 @@ pub mod Lengths
 pub mod Stored
 pub mod Drawn
 pub mod Reported
+pub mod Waits

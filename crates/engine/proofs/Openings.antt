@@ -7,6 +7,7 @@ use native.Mathlib.Omega.{arith}
 use lib.IntN.{ℤ, pos}
 use lib.ListN.{length, replicate}
 use Rattle.token.specs.Questions.{textLimit}
+use Rattle.clock.specs.Clock.{freshClock}
 use Rattle.model.specs.Resolved
 use Rattle.model.specs.Opening.{refused, opened, opening}
 use Rattle.model.specs.Held.{held}
@@ -16,9 +17,9 @@ use Rattle.machine.specs.State.{stateLength, stateNumbers}
 use Rattle.machine.specs.Saves.{savesLength}
 use Rattle.saves.proofs.Places.{no-saves-numbers}
 use Rattle.machine.specs.Machine as machine
-use Rattle.machine.specs.Machine.{modelLength, no, openedState, Request, Part, model, state, saves}
+use Rattle.machine.specs.Machine.{modelLength, no, openedState, Request, Part, model, state, saves, clock}
 use Rattle.buffers.specs.Held.{modelBytes}
-use Rattle.buffers.specs.Parts.{fresh, numbersOf, lentTwo, lentThree}
+use Rattle.buffers.specs.Parts.{fresh, numbersOf, lentTwo, lentAll}
 use Rattle.buffers.specs.Effect.{opensWith, requested}
 use Rattle.engine.specs.Gives.{Gives, bare}
 use Rattle.engine.specs.Tables.{Tables}
@@ -72,25 +73,27 @@ module _ (text t roots scopes : List ℕ) where
 
 -- 01, Opening a text: 2 to 10 zero all buffers
 pub refused-gives : (text : List ℕ) (n p : ℕ) (bs : List ℕ) (zs ss : List ℤ) → opening text ≡ refused n p → bs ≡ replicate modelLength 0 → zs ≡ replicate stateLength (pos 0) → ss ≡ replicate savesLength (pos 0)
-    → Gives (opensWith text (opening text) []) (bare n p 0) (lentThree bs zs ss) []
+    → Gives (opensWith text (opening text) []) (bare n p 0) (lentAll bs zs ss freshClock) []
 unfolding opensWith no
 refused-gives text n p bs zs ss e f g h = rw e (record { number = refl; place = refl; branch = refl; count = refl; total = refl; chosen = refl; buffers = zero; output = refl })
   where
-    zero : (p : Part) → lentThree bs zs ss p ≡ fresh p
-    zero model = unfold lentThree fresh in f
-    zero state = unfold lentThree fresh in g
-    zero saves = unfold lentThree fresh in h
+    zero : (p : Part) → lentAll bs zs ss freshClock p ≡ fresh p
+    zero model = unfold lentAll fresh in f
+    zero state = unfold lentAll fresh in g
+    zero saves = unfold lentAll fresh in h
+    zero clock = unfold lentAll fresh in refl
 
--- 01, Opening a text: acceptance fills model and state; 02, note 2: nothing is saved
+-- 01, Opening a text: acceptance fills model and state; 02, notes 2 and 4: nothing is saved, and the clock is zero
 pub accepted-gives : (text : List ℕ) (m : Resolved.Model) (bs : List ℕ) (zs ss : List ℤ) → opening text ≡ opened m → bs ≡ modelBytes text → zs ≡ stateNumbers (openedState m) → ss ≡ replicate savesLength (pos 0)
-    → Gives (opensWith text (opening text) []) (bare 0 0 0) (lentThree bs zs ss) []
+    → Gives (opensWith text (opening text) []) (bare 0 0 0) (lentAll bs zs ss freshClock) []
 unfolding opensWith no
 accepted-gives text m bs zs ss e f g h = rw e (record { number = refl; place = refl; branch = refl; count = refl; total = refl; chosen = refl; buffers = full; output = refl })
   where
-    full : (p : Part) → lentThree bs zs ss p ≡ numbersOf (modelBytes text) (machine.held m (openedState m)) p
-    full model = unfold lentThree numbersOf in f
-    full state = unfold lentThree numbersOf in g
-    full saves = unfold lentThree numbersOf in h ∙ sym no-saves-numbers
+    full : (p : Part) → lentAll bs zs ss freshClock p ≡ numbersOf (modelBytes text) (machine.held m (openedState m)) p
+    full model = unfold lentAll numbersOf in f
+    full state = unfold lentAll numbersOf in g
+    full saves = unfold lentAll numbersOf in h ∙ sym no-saves-numbers
+    full clock = unfold lentAll numbersOf in refl
 
 -- 01, Listing, 11: a text that holds no model
 pub closed-gives : (text bs : List ℕ) (zs : List ℤ) (r : Request) (l : List ℕ) → held text ≡ none → Gives (requested r (lentTwo bs zs) l (held text)) (bare 11 0 0) (lentTwo bs zs) l

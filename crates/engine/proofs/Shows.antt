@@ -20,7 +20,7 @@ use Rattle.rules.specs.Draw.{weights, total}
 use Rattle.machine.specs.Offer.{missing, branches}
 use Rattle.machine.specs.State.{State, stateLength, stateNumbers, GoodState}
 use Rattle.machine.specs.Machine as machine
-use Rattle.machine.specs.Machine.{Listed, entriesAre, refusedWith, zeroed, no, listedAs, entryLimit, totalLimit, counted, turn, showing, lists, listingLength, held, closed, holding, onState, Request, list′, acts, Part, model, state, saves, twoParts, uses, isLent, onMachine}
+use Rattle.machine.specs.Machine.{Listed, entriesAre, refusedWith, zeroed, no, listedAs, entryLimit, totalLimit, counted, turn, showing, lists, listingLength, held, closed, holding, onState, Request, list′, acts, Part, model, state, saves, clock, twoParts, uses, isLent, onMachine}
 use Rattle.machine.proofs.Everys.{every-in, in-every}
 use Rattle.machine.proofs.Branches.{map-nth, nth-get, get-nth}
 use Rattle.state.specs.Test.{isState}
@@ -156,6 +156,7 @@ unfolding lentTwo leftIn isLent numbersOf
 left-two bs zs ys m s e model = refl
 left-two bs zs ys m s e state = e
 left-two bs zs ys m s e saves = refl
+left-two bs zs ys m s e clock = refl
 
 -- ---- what a list call gives
 module _ (bs : List ℕ) (zs : List ℤ) (l : List ℕ) where

@@ -4,7 +4,10 @@ pub mod listings;
 pub mod steps;
 pub mod subtotals;
 pub mod texts;
+pub mod waiting;
 
+use clock::Clock;
+use saves::Layout;
 use store::Engine;
 use store::buffer::Bytes;
 use store::buffer::Text;
@@ -14,11 +17,12 @@ ghost use mathlib.Core.List.{[]};
 ghost use lib.ListN.{length};
 ghost use Rattle.machine.specs.State.{stateLength};
 ghost use Rattle.machine.specs.Report.{reportLength};
-ghost use Rattle.machine.specs.Machine.{modelLength, listingLength, list′, step′, report′, save′, return′, forget′, open′, on′};
-ghost use Rattle.buffers.specs.Parts.{lentTwo, lentThree};
+ghost use Rattle.machine.specs.Machine.{modelLength, listingLength, list′, step′, report′, timed′, save′, return′, forget′, open′, on′};
+ghost use Rattle.buffers.specs.Parts.{lentTwo, lentThree, lentTimed, lentAll};
 ghost use Rattle.buffers.specs.Effect.{answered, effect};
 ghost use Rattle.independence.specs.Judged.{judged};
 ghost use Rattle.engine.specs.Gives.{bare, filled, Gives, arePartsLong, areLong, areAllLong};
+ghost use Rattle.engine.specs.Waited.{timed};
 
 // What a call answers: 0 or a refusal's number; its place and branch; the listing's entries, their total, and the entry that a step took.
 #[repr(C)]
@@ -61,6 +65,36 @@ impl Answer {
     }
 }
 
+// What a call that moves the clock gives: its answer, and the clock afterwards.
+pub struct Timed {
+    pub answer: Answer,
+    pub clock: Clock,
+}
+
+impl Timed {
+    pub fn of(answer: Answer, clock: Clock) -> Self
+        ensures { λ r. ⌜ r ≡ timed answer clock ⌝ }
+    {
+        Timed {
+            answer: answer,
+            clock: clock,
+        }
+    }
+
+    // The parts, each by itself, for the functions that are lent the clock.
+    pub fn clock(self) -> Clock
+        ensures { λ r. ⌜ r ≡ self .clock ⌝ }
+    {
+        self.clock
+    }
+
+    pub fn answer(self) -> Answer
+        ensures { λ r. ⌜ r ≡ self .answer ⌝ }
+    {
+        self.answer
+    }
+}
+
 // Question 1 of the model and the state: have they their lengths?
 fn are_parts_long(model: usize, state: usize) -> bool
     ensures { λ r. ⌜ r ≡ arePartsLong model state ⌝ }
@@ -91,15 +125,22 @@ fn are_all_long(model: usize, state: usize, saves: usize) -> bool
     saves == Engine::SAVES
 }
 
-// Reads a model text, sets the engine to its start and forgets every save.
-pub fn open(text: &[u8], model: &mut [u8], state: &mut [i64], saves: &mut [i64]) -> Answer
-    ensures { λ r. ⌜ Gives (effect (open′ (now (text .entry))) (lentThree (now (model .entry)) (now (state .entry)) (now (saves .entry))) []) r (lentThree (now (model .exit)) (now (state .exit)) (now (saves .exit))) [] ⌝ }
+// Reads a model text, sets the engine to its start, forgets every save and sets the clock, which goes by value, to zero.
+pub fn open(
+    text: &[u8],
+    model: &mut [u8],
+    state: &mut [i64],
+    saves: &mut [i64],
+    clock: Clock,
+) -> Timed
+    ensures { λ r. ⌜ Gives (effect (open′ (now (text .entry))) (lentAll (now (model .entry)) (now (state .entry)) (now (saves .entry)) clock) []) (r .answer) (lentAll (now (model .exit)) (now (state .exit)) (now (saves .exit)) (r .clock)) [] ⌝ }
 {
     if !are_all_long(model.len(), state.len(), saves.len()) {
-        return Answer::bare(1, 0, 0);
+        return Timed::of(Answer::bare(1, 0, 0), clock);
     }
     state::clear_state(saves);
-    texts::open_lent(text, model, state)
+    let answer = texts::open_lent(text, model, state);
+    Timed::of(answer, Clock::fresh())
 }
 
 // Lists over buffers of the right lengths.
@@ -152,6 +193,33 @@ pub fn step(model: &[u8], state: &mut [i64], listing: &mut [u64], draw: u64) -> 
     step_lent(model, state, listing, draw)
 }
 
+// Steps, and then waits: both the state and the clock, which goes by value, move, or neither does.
+pub fn step_timed(
+    model: &[u8],
+    state: &mut [i64],
+    listing: &mut [u64],
+    waiting: &[u16],
+    draw: u64,
+    clock: Clock,
+) -> Timed
+    ensures { λ r. ⌜ Gives (effect (on′ (timed′ (now (waiting .entry)) draw)) (lentTimed (now (model .entry)) (now (state .entry)) clock) (now (listing .entry))) (r .answer) (lentTimed (now (model .entry)) (now (state .exit)) (r .clock)) (now (listing .exit)) ⌝ }
+{
+    if !are_long(model.len(), state.len(), listing.len(), Engine::LISTING) {
+        return Timed::of(Answer::bare(1, 0, 0), clock);
+    }
+    if !clock::in_range(clock) {
+        return Timed::of(Answer::bare(11, 0, 0), clock);
+    }
+    let mut before = [0i64; Engine::STATE];
+    state::put(&mut before, &state[..], Engine::STATE);
+    let told = step_lent(model, state, listing, draw);
+    let number = told.number;
+    if number != 0 {
+        return Timed::of(told, clock);
+    }
+    waiting::wait_after(told, &before, state, waiting, clock)
+}
+
 // Reports over buffers of the right lengths.
 fn report_lent(model: &[u8], state: &[i64], report: &mut [u64]) -> Answer
     requires { ⌜ (length (now model) ≡ modelLength) × (length (now state) ≡ stateLength) × (length (now report) ≡ reportLength) ⌝ }
@@ -177,32 +245,33 @@ pub fn report(model: &[u8], state: &[i64], report: &mut [u64]) -> Answer
     report_lent(model, state, report)
 }
 
-// Saves the state under a name.
-pub fn save(model: &[u8], state: &[i64], saves: &mut [i64], name: &[u8]) -> Answer
-    ensures { λ r. ⌜ Gives (effect (on′ (save′ (now (name .entry)))) (lentThree (now (model .entry)) (now (state .entry)) (now (saves .entry))) []) r (lentThree (now (model .entry)) (now (state .entry)) (now (saves .exit))) [] ⌝ }
+// Saves the state and the clock under a name.
+pub fn save(model: &[u8], state: &[i64], saves: &mut [i64], name: &[u8], clock: Clock) -> Answer
+    ensures { λ r. ⌜ Gives (effect (on′ (save′ (now (name .entry)))) (lentAll (now (model .entry)) (now (state .entry)) (now (saves .entry)) clock) []) r (lentAll (now (model .entry)) (now (state .entry)) (now (saves .exit)) clock) [] ⌝ }
 {
     if !are_all_long(model.len(), state.len(), saves.len()) {
         return Answer::bare(1, 0, 0);
     }
-    if !held::holds(model, state, &saves[..]) {
+    if !held::holds_all(model, state, &saves[..], clock) {
         return Answer::bare(11, 0, 0);
     }
-    let number = saves::save(saves, state, name);
+    let mut kept = [0i64; Layout::KEPT];
+    saves::put_kept(&mut kept, state, clock);
+    let number = saves::save(saves, &kept, name);
     Answer::bare(number, 0, 0)
 }
 
-// Makes the state that was saved under a name the present one.
-pub fn return_to(model: &[u8], state: &mut [i64], saves: &[i64], name: &[u8]) -> Answer
-    ensures { λ r. ⌜ Gives (effect (on′ (return′ (now (name .entry)))) (lentThree (now (model .entry)) (now (state .entry)) (now (saves .entry))) []) r (lentThree (now (model .entry)) (now (state .exit)) (now (saves .entry))) [] ⌝ }
+// Makes the state and the clock, which goes by value, that were saved under a name the present ones.
+pub fn return_to(model: &[u8], state: &mut [i64], saves: &[i64], name: &[u8], clock: Clock) -> Timed
+    ensures { λ r. ⌜ Gives (effect (on′ (return′ (now (name .entry)))) (lentAll (now (model .entry)) (now (state .entry)) (now (saves .entry)) clock) []) (r .answer) (lentAll (now (model .entry)) (now (state .exit)) (now (saves .entry)) (r .clock)) [] ⌝ }
 {
     if !are_all_long(model.len(), state.len(), saves.len()) {
-        return Answer::bare(1, 0, 0);
+        return Timed::of(Answer::bare(1, 0, 0), clock);
     }
-    if !held::holds(model, &state[..], saves) {
-        return Answer::bare(11, 0, 0);
+    if !held::holds_all(model, &state[..], saves, clock) {
+        return Timed::of(Answer::bare(11, 0, 0), clock);
     }
-    let number = saves::return_to(state, saves, name);
-    Answer::bare(number, 0, 0)
+    held::return_held(state, saves, name, clock)
 }
 
 // Forgets what was saved under a name.
@@ -225,10 +294,13 @@ pub extern "C" fn matgravel_open(
     model: &mut [u8],
     state: &mut [i64],
     saves: &mut [i64],
+    clock: &mut Clock,
 ) -> Answer
-    ensures { λ r. ⌜ Gives (effect (open′ (now (text .entry))) (lentThree (now (model .entry)) (now (state .entry)) (now (saves .entry))) []) r (lentThree (now (model .exit)) (now (state .exit)) (now (saves .exit))) [] ⌝ }
+    ensures { λ r. ⌜ Gives (effect (open′ (now (text .entry))) (lentAll (now (model .entry)) (now (state .entry)) (now (saves .entry)) (now (clock .entry))) []) r (lentAll (now (model .exit)) (now (state .exit)) (now (saves .exit)) (now (clock .exit))) [] ⌝ }
 {
-    open(text, model, state, saves)
+    let t = open(text, model, state, saves, *clock);
+    *clock = Timed::clock(t);
+    Timed::answer(t)
 }
 
 #[no_mangle]
@@ -251,6 +323,22 @@ pub extern "C" fn matgravel_step(
 }
 
 #[no_mangle]
+pub extern "C" fn matgravel_timed_step(
+    model: &[u8],
+    state: &mut [i64],
+    listing: &mut [u64],
+    waiting: &[u16],
+    draw: u64,
+    clock: &mut Clock,
+) -> Answer
+    ensures { λ r. ⌜ Gives (effect (on′ (timed′ (now (waiting .entry)) draw)) (lentTimed (now (model .entry)) (now (state .entry)) (now (clock .entry))) (now (listing .entry))) r (lentTimed (now (model .entry)) (now (state .exit)) (now (clock .exit))) (now (listing .exit)) ⌝ }
+{
+    let t = step_timed(model, state, listing, waiting, draw, *clock);
+    *clock = Timed::clock(t);
+    Timed::answer(t)
+}
+
+#[no_mangle]
 pub extern "C" fn matgravel_report(model: &[u8], state: &[i64], report: &mut [u64]) -> Answer
     ensures { λ r. ⌜ Gives (effect (on′ report′) (lentTwo (now (model .entry)) (now (state .entry))) (now (report .entry))) r (lentTwo (now (model .entry)) (now (state .entry))) (now (report .exit)) ⌝ }
 {
@@ -263,10 +351,11 @@ pub extern "C" fn matgravel_save(
     state: &[i64],
     saves: &mut [i64],
     name: &[u8],
+    clock: Clock,
 ) -> Answer
-    ensures { λ r. ⌜ Gives (effect (on′ (save′ (now (name .entry)))) (lentThree (now (model .entry)) (now (state .entry)) (now (saves .entry))) []) r (lentThree (now (model .entry)) (now (state .entry)) (now (saves .exit))) [] ⌝ }
+    ensures { λ r. ⌜ Gives (effect (on′ (save′ (now (name .entry)))) (lentAll (now (model .entry)) (now (state .entry)) (now (saves .entry)) clock) []) r (lentAll (now (model .entry)) (now (state .entry)) (now (saves .exit)) clock) [] ⌝ }
 {
-    save(model, state, saves, name)
+    save(model, state, saves, name, clock)
 }
 
 #[no_mangle]
@@ -275,10 +364,13 @@ pub extern "C" fn matgravel_return(
     state: &mut [i64],
     saves: &[i64],
     name: &[u8],
+    clock: &mut Clock,
 ) -> Answer
-    ensures { λ r. ⌜ Gives (effect (on′ (return′ (now (name .entry)))) (lentThree (now (model .entry)) (now (state .entry)) (now (saves .entry))) []) r (lentThree (now (model .entry)) (now (state .exit)) (now (saves .entry))) [] ⌝ }
+    ensures { λ r. ⌜ Gives (effect (on′ (return′ (now (name .entry)))) (lentAll (now (model .entry)) (now (state .entry)) (now (saves .entry)) (now (clock .entry))) []) r (lentAll (now (model .entry)) (now (state .exit)) (now (saves .entry)) (now (clock .exit))) [] ⌝ }
 {
-    return_to(model, state, saves, name)
+    let t = return_to(model, state, saves, name, *clock);
+    *clock = Timed::clock(t);
+    Timed::answer(t)
 }
 
 #[no_mangle]

@@ -16,7 +16,8 @@ ghost use Rattle.machine.specs.State.{stateLength};
 ghost use Rattle.machine.specs.Saves.{savesLength};
 ghost use Rattle.machine.specs.Report.{reportLength};
 ghost use Rattle.machine.specs.Machine.{modelLength, listingLength, list′, step′, report′};
-ghost use Rattle.buffers.specs.Parts.{lentTwo, lentThree};
+ghost use Rattle.clock.specs.Clock.{freshClock};
+ghost use Rattle.buffers.specs.Parts.{lentTwo, lentAll};
 ghost use Rattle.buffers.specs.Effect.{opensWith, requested};
 ghost use Rattle.opening.specs.Models.{ModelRead};
 ghost use Rattle.engine.specs.Gives.{Gives};
@@ -24,7 +25,7 @@ ghost use Rattle.engine.specs.Gives.{Gives};
 // Opens a text into buffers of the right lengths, where nothing is saved.
 pub fn open_lent(text: &[u8], model: &mut [u8], state: &mut [i64]) -> Answer
     requires { ⌜ (length (now model) ≡ modelLength) × (length (now state) ≡ stateLength) ⌝ }
-    ensures { λ r. ⌜ ((ss : List ℤ) → ss ≡ replicate savesLength (pos 0) → Gives (opensWith (now (text .entry)) (opening (now (text .entry))) []) r (lentThree (now (model .exit)) (now (state .exit)) ss) []) ⌝ }
+    ensures { λ r. ⌜ ((ss : List ℤ) → ss ≡ replicate savesLength (pos 0) → Gives (opensWith (now (text .entry)) (opening (now (text .entry))) []) r (lentAll (now (model .exit)) (now (state .exit)) ss freshClock) []) ⌝ }
 {
     let mut kinds = [0u8; Limits::TEXT];
     let mut places = [0u16; Limits::TEXT];

@@ -13,11 +13,11 @@ use Rattle.token.specs.Bytes.{isDigit, within}
 use Rattle.token.specs.Token.{sameBytes}
 use Rattle.token.proofs.Words.{same-is}
 use Rattle.lines.specs.declared.line.Line.{Line}
-use Rattle.lines.specs.declared.line.Line.the-variants.{Open, List as Listing, Step, State, Report, Save, Return, Forget, Independent, Bad}
+use Rattle.lines.specs.declared.line.Line.the-variants.{Open, List as Listing, Step, State, Report, Save, Return, Forget, Time, Wait, Clock, Independent, Bad}
 use Rattle.lines.specs.declared.line.Rest.{Rest}
 use Rattle.lines.specs.declared.line.Rest.the-variants.{Nothing, Number, T, Other}
 use Rattle.lines.specs.declared.line.Reading.{Reading}
-use Rattle.lines.specs.Line.{listBytes, stateBytes, reportBytes, openBytes, stepBytes, saveBytes, returnBytes, forgetBytes, independentBytes, keptLimit, kept, digitsOnly, isNumber, given, lineOf, restOf, restNext, packed, headOf, afterOf, twoBytes, returnEnd, forgetEnd, afterNext, keptNext, ended, numbered, bare, lettered, Bytes, Reads}
+use Rattle.lines.specs.Line.{listBytes, stateBytes, reportBytes, openBytes, stepBytes, saveBytes, returnBytes, forgetBytes, timeBytes, waitBytes, clockBytes, independentBytes, small, keptLimit, kept, digitsOnly, isNumber, given, lineOf, restOf, restNext, packed, headOf, afterOf, twoBytes, returnEnd, forgetEnd, afterNext, keptNext, ended, numbered, bare, lettered, Bytes, Reads}
 use Rattle.lines.specs.declared.two.Two.{Two}
 use Rattle.lines.specs.Two.{begun, run, twoNext, paired}
 use Rattle.lines.proofs.Rests.{rest-on}
@@ -51,9 +51,19 @@ returnHead = 1590840030578
 
 abbrev forgetHead : ℕ
 forgetHead = 1539468060517
+
 -- and of `indep`
 abbrev indepHead : ℕ
 indepHead = 1552335267184
+
+abbrev timeHead : ℕ
+timeHead = 1599496611104
+
+abbrev waitHead : ℕ
+waitHead = 1612247036960
+
+abbrev clockHead : ℕ
+clockHead = 1526532629355
 
 -- ---- fewer than five bytes, or five and more
 data Size : List ℕ → Type 0 where
@@ -213,10 +223,10 @@ word-is w t (five {a} {b} {c} {d} {e = x} {s = u}) h k l m n e =
     ap (λ (v : List ℕ). v ++ u) (same-packed 1 1 (a ∷ b ∷ c ∷ d ∷ x ∷ []) t (sym l) (h .0, (h .1 .0, (h .1 .1 .0, (h .1 .1 .1 .0, (h .1 .1 .1 .1 .0, tt))))) k (e ∙ sym n) .bytes)
 
 -- ---- what the line says
-by-none : (t u : Bool) (n : ℕ) → bare State (cond t (Number n) (cond u T Other)) ≡ Bad
-by-none true u n = refl
-by-none false true n = refl
-by-none false false n = refl
+by-none : (says : Line) (t u : Bool) (n : ℕ) → bare says (cond t (Number n) (cond u T Other)) ≡ Bad
+by-none says true u n = refl
+by-none says false true n = refl
+by-none says false false n = refl
 
 by-number : (says : ℕ → Line) (t u : Bool) (n : ℕ) → numbered says (cond t (Number n) (cond u T Other)) ≡ cond t (says n) Bad
 by-number says true u n = refl
@@ -230,7 +240,7 @@ by-letter false n = refl
 state-then : (u : List ℕ) → bare State (restOf u) ≡ lineOf (stateBytes ++ u)
 unfolding lineOf sameBytes restOf
 state-then [] = refl
-state-then (b ∷ u) = by-none (isNumber (b ∷ u)) (eqb b 116 && sameBytes u []) (worth 0 (b ∷ u))
+state-then (b ∷ u) = by-none State (isNumber (b ∷ u)) (eqb b 116 && sameBytes u []) (worth 0 (b ∷ u))
 
 -- the first five bytes of `report`, and the last
 abbrev repor : List ℕ
@@ -255,6 +265,21 @@ step-then : (u : List ℕ) → numbered Step (restOf u) ≡ lineOf (stepBytes ++
 unfolding lineOf sameBytes restOf given isNumber
 step-then [] = refl
 step-then (b ∷ u) = by-number Step (isNumber (b ∷ u)) (eqb b 116 && sameBytes u []) (worth 0 (b ∷ u))
+
+time-then : (u : List ℕ) → numbered Time (restOf u) ≡ lineOf (timeBytes ++ u)
+unfolding lineOf sameBytes restOf given isNumber
+time-then [] = refl
+time-then (b ∷ u) = by-number Time (isNumber (b ∷ u)) (eqb b 116 && sameBytes u []) (worth 0 (b ∷ u))
+
+wait-then : (u : List ℕ) → numbered small (restOf u) ≡ lineOf (waitBytes ++ u)
+unfolding lineOf sameBytes restOf given isNumber
+wait-then [] = refl
+wait-then (b ∷ u) = by-number small (isNumber (b ∷ u)) (eqb b 116 && sameBytes u []) (worth 0 (b ∷ u))
+
+clock-then : (u : List ℕ) → bare Clock (restOf u) ≡ lineOf (clockBytes ++ u)
+unfolding lineOf sameBytes restOf
+clock-then [] = refl
+clock-then (b ∷ u) = by-none Clock (isNumber (b ∷ u)) (eqb b 116 && sameBytes u []) (worth 0 (b ∷ u))
 
 save-then : (u : List ℕ) → Save (kept (saveBytes ++ u)) ≡ lineOf (saveBytes ++ u)
 unfolding lineOf sameBytes
@@ -358,13 +383,32 @@ module _ {s : List ℕ} {r : Reading} (h : Reads s r) where
   says-forget e f =
       ends-so Forget forgetEnd forgetHead forge (word forgetHead forge (omega arith, (omega arith, (omega arith, (omega arith, (omega arith, tt))))) refl (omega arith) refl e) forget-then f
 
+  pub says-time : {x : Line} → r .head ≡ timeHead → x ≡ numbered Time (r .rest) → x ≡ lineOf s
+  unfolding packed
+  says-time e f =
+      let w = word timeHead timeBytes (omega arith, (omega arith, (omega arith, (omega arith, (omega arith, tt))))) refl (omega arith) refl e in
+      f ∙ ap (numbered Time) (h .rest) ∙ time-then (drop 5 s) ∙ ap lineOf (sym w)
+
+  pub says-wait : {x : Line} → r .head ≡ waitHead → x ≡ numbered small (r .rest) → x ≡ lineOf s
+  unfolding packed
+  says-wait e f =
+      let w = word waitHead waitBytes (omega arith, (omega arith, (omega arith, (omega arith, (omega arith, tt))))) refl (omega arith) refl e in
+      f ∙ ap (numbered small) (h .rest) ∙ wait-then (drop 5 s) ∙ ap lineOf (sym w)
+
+  pub says-clock : {x : Line} → r .head ≡ clockHead → x ≡ bare Clock (r .rest) → x ≡ lineOf s
+  unfolding packed
+  says-clock e f =
+      let w = word clockHead clockBytes (omega arith, (omega arith, (omega arith, (omega arith, (omega arith, tt))))) refl (omega arith) refl e in
+      f ∙ ap (bare Clock) (h .rest) ∙ clock-then (drop 5 s) ∙ ap lineOf (sym w)
+
   -- a word of seven bytes has its first five
   first-five : (t : List ℕ) → take 7 s ≡ t → take 5 s ≡ take 5 t
   first-five t e = sym (take-take 5 7 s (omega arith)) ∙ ap (take 5) e
 
-  pub says-bad : (r .head ≡ listHead → ⊥) → (r .head ≡ stateHead → ⊥) → (r .head ≡ reportHead → ⊥) → (r .head ≡ openHead → ⊥) → (r .head ≡ stepHead → ⊥) → (r .head ≡ saveHead → ⊥) → (r .head ≡ returnHead → ⊥) → (r .head ≡ forgetHead → ⊥) → (r .head ≡ indepHead → ⊥) → Bad ≡ lineOf s
+  pub says-bad : (r .head ≡ listHead → ⊥) → (r .head ≡ stateHead → ⊥) → (r .head ≡ reportHead → ⊥) → (r .head ≡ openHead → ⊥) → (r .head ≡ stepHead → ⊥) → (r .head ≡ saveHead → ⊥) → (r .head ≡ returnHead → ⊥) → (r .head ≡ forgetHead → ⊥)
+      → (r .head ≡ timeHead → ⊥) → (r .head ≡ waitHead → ⊥) → (r .head ≡ clockHead → ⊥) → (r .head ≡ indepHead → ⊥) → Bad ≡ lineOf s
   unfolding lineOf headOf packed
-  says-bad l t q o p v m g i =
+  says-bad l t q o p v m g i j k z =
       simp (
         differ s listBytes (λ e. l (h .head ∙ ap headOf e)),
         differ s stateBytes (λ e. t (h .head ∙ ap headOf e)),
@@ -374,5 +418,8 @@ module _ {s : List ℕ} {r : Reading} (h : Reads s r) where
         differ (take 5 s) saveBytes (λ e. v (h .head ∙ ap (packed 1) e)),
         differ (take 7 s) returnBytes (λ e. m (h .head ∙ ap (packed 1) (first-five returnBytes e))),
         differ (take 7 s) forgetBytes (λ e. g (h .head ∙ ap (packed 1) (first-five forgetBytes e))),
-        no-word s (λ e. i (h .head ∙ ap (packed 1) e)),
+        differ (take 5 s) timeBytes (λ e. i (h .head ∙ ap (packed 1) e)),
+        differ (take 5 s) waitBytes (λ e. j (h .head ∙ ap (packed 1) e)),
+        differ s clockBytes (λ e. k (h .head ∙ ap headOf e)),
+        no-word s (λ e. z (h .head ∙ ap (packed 1) e)),
       )

@@ -9,7 +9,7 @@ use Rattle.word.specs.Number.{worth, digitOf}
 use Rattle.token.specs.Bytes.{isDigit}
 use Rattle.token.specs.Token.{sameBytes}
 use Rattle.lines.specs.declared.line.Line.{Line}
-use Rattle.lines.specs.declared.line.Line.the-variants.{Open, List as Listing, Step, State, Report, Save, Return, Forget, Independent, Bad}
+use Rattle.lines.specs.declared.line.Line.the-variants.{Open, List as Listing, Step, State, Report, Save, Return, Forget, Time, Wait, Clock, Independent, Bad}
 use Rattle.lines.specs.declared.line.Rest.{Rest}
 use Rattle.lines.specs.declared.line.Rest.the-variants.{Nothing, Number, T, Other}
 use Rattle.lines.specs.declared.line.Reading.{Reading}
@@ -41,6 +41,16 @@ returnBytes = 114 ∷ 101 ∷ 116 ∷ 117 ∷ 114 ∷ 110 ∷ 32 ∷ []
 
 abbrev pub forgetBytes : List ℕ
 forgetBytes = 102 ∷ 111 ∷ 114 ∷ 103 ∷ 101 ∷ 116 ∷ 32 ∷ []
+
+-- `time `, `wait ` and `clock`
+abbrev pub timeBytes : List ℕ
+timeBytes = 116 ∷ 105 ∷ 109 ∷ 101 ∷ 32 ∷ []
+
+abbrev pub waitBytes : List ℕ
+waitBytes = 119 ∷ 97 ∷ 105 ∷ 116 ∷ 32 ∷ []
+
+abbrev pub clockBytes : List ℕ
+clockBytes = 99 ∷ 108 ∷ 111 ∷ 99 ∷ 107 ∷ []
 
 -- how many bytes of a line are kept: all, up to a word and a name that is too long already
 abbrev pub keptLimit : ℕ
@@ -79,7 +89,11 @@ afterBlank (b ∷ s) = cond (eqb b 32) s (afterBlank s)
 unfoldable pub givenTwo : List ℕ → Line
 givenTwo s = cond (isNumber (beforeBlank s) && isNumber (afterBlank s)) (Independent (worth 0 (beforeBlank s)) (worth 0 (afterBlank s))) Bad
 
--- the nine forms; every other line is bad
+-- a waiting draw has sixteen bits
+unfoldable pub small : ℕ → Line
+small n = cond (ltb n 65536) (Wait n) Bad
+
+-- the twelve forms; every other line is bad
 unfoldable pub lineOf : List ℕ → Line
 lineOf s =
     cond (sameBytes s listBytes) Listing
@@ -90,12 +104,20 @@ lineOf s =
     (cond (sameBytes (take 5 s) saveBytes) (Save (kept s))
     (cond (sameBytes (take 7 s) returnBytes) (Return (kept s))
     (cond (sameBytes (take 7 s) forgetBytes) (Forget (kept s))
-    (cond (sameBytes (take 12 s) independentBytes) (givenTwo (drop 12 s)) Bad))))))))
+    (cond (sameBytes (take 5 s) timeBytes) (given Time (drop 5 s))
+    (cond (sameBytes (take 5 s) waitBytes) (given small (drop 5 s))
+    (cond (sameBytes s clockBytes) Clock
+    (cond (sameBytes (take 12 s) independentBytes) (givenTwo (drop 12 s)) Bad)))))))))))
 
 -- `step 307`
 step-line : lineOf (115 ∷ 116 ∷ 101 ∷ 112 ∷ 32 ∷ 51 ∷ 48 ∷ 55 ∷ []) ≡ Step 307
 unfolding lineOf given isNumber digitsOnly isDigit Rattle.token.specs.Bytes.within sameBytes worth
 step-line = refl
+
+-- `wait 65535` and `wait 65536`
+wait-lines : (lineOf (waitBytes ++ (54 ∷ 53 ∷ 53 ∷ 51 ∷ 53 ∷ [])) ≡ Wait 65535) × (lineOf (waitBytes ++ (54 ∷ 53 ∷ 53 ∷ 51 ∷ 54 ∷ [])) ≡ Bad)
+unfolding lineOf given small isNumber digitsOnly isDigit Rattle.token.specs.Bytes.within sameBytes worth
+wait-lines = (refl, refl)
 
 -- `independent 0 12`
 independent-line : lineOf (105 ∷ 110 ∷ 100 ∷ 101 ∷ 112 ∷ 101 ∷ 110 ∷ 100 ∷ 101 ∷ 110 ∷ 116 ∷ 32 ∷ 48 ∷ 32 ∷ 49 ∷ 50 ∷ []) ≡ Independent 0 12

@@ -7,7 +7,7 @@ use lib.Dec.{eqb}
 use lib.ListN.{length}
 use Rattle.token.specs.Bytes.{lineFeed}
 use Rattle.lines.specs.declared.line.Line.{Line}
-use Rattle.lines.specs.declared.line.Line.the-variants.{Open, List as Listing, Step, State, Report, Save, Return, Forget, Independent, Bad}
+use Rattle.lines.specs.declared.line.Line.the-variants.{Open, List as Listing, Step, State, Report, Save, Return, Forget, Time, Wait, Clock, Independent, Bad}
 use Rattle.lines.specs.declared.line.Reading.{Reading}
 use Rattle.lines.specs.declared.script.Part.{Part}
 use Rattle.lines.specs.declared.script.Part.the-variants.{InLine, InText}
@@ -28,7 +28,7 @@ breaks (b ∷ s) = cond (eqb b lineFeed) 1 0 + breaks s
 abbrev pub numberAfter : List ℕ → ℕ
 numberAfter s = (1 + breaks s) % limit
 
--- a line that asks for a call, for the state, or of two entries, by itself
+-- a line that asks for a call, for the state or the clock, or of two entries, or gives a waiting draw, by itself
 abbrev pub isShort : Line → Bool
 isShort (Open n) = false
 isShort Listing = true
@@ -38,6 +38,9 @@ isShort Report = true
 isShort (Save n) = true
 isShort (Return n) = true
 isShort (Forget n) = true
+isShort (Time d) = true
+isShort (Wait d) = true
+isShort Clock = true
 isShort (Independent i j) = true
 isShort Bad = false
 
@@ -120,5 +123,8 @@ ended line Report = Asks Report (fresh (next line))
 ended line (Save n) = Asks (Save n) (fresh (next line))
 ended line (Return n) = Asks (Return n) (fresh (next line))
 ended line (Forget n) = Asks (Forget n) (fresh (next line))
+ended line (Time d) = Asks (Time d) (fresh (next line))
+ended line (Wait d) = Asks (Wait d) (fresh (next line))
+ended line Clock = Asks Clock (fresh (next line))
 ended line (Independent i j) = Asks (Independent i j) (fresh (next line))
 ended line Bad = Wrong line

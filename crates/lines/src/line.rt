@@ -3,7 +3,7 @@ use crate::two::Two;
 ghost use mathlib.Core.Path.{_≡_};
 ghost use mathlib.Core.List.{List, [], _∷_, _++_};
 ghost use Prim.Native.Nat.{ℕ, _<_};
-ghost use Rattle.lines.specs.Line.{lineOf, grown, digitNext, letterNext, restNext, numbered, lettered, bare, ended, returnEnd, forgetEnd, afterNext, keptNext, empty, Reads};
+ghost use Rattle.lines.specs.Line.{lineOf, grown, digitNext, letterNext, restNext, numbered, small, lettered, bare, ended, returnEnd, forgetEnd, afterNext, keptNext, empty, Reads};
 
 // What a line says.
 pub enum Line {
@@ -16,6 +16,9 @@ pub enum Line {
     Save(u64),
     Return(u64),
     Forget(u64),
+    Time(u64),
+    Wait(u64),
+    Clock,
     Independent(u64, u64),
     Bad,
 }
@@ -48,7 +51,7 @@ impl Head {
     // The most bytes of a line that are kept: a word and a name that is too long already.
     pub const KEPT: u64 = 24;
 
-    // The heads of `list`, `state`, `report`, `open `, `step `, `save `, `return `, `forget ` and `independent `, and what follows those of `return ` and `forget `.
+    // The heads of `list`, `state`, `report`, `open `, `step `, `save `, `return `, `forget `, `time `, `wait `, `clock` and `independent `, and what follows those of `return ` and `forget `.
     pub const LIST: u64 = 0x1_6c69_7374;
 
     pub const STATE: u64 = 0x173_7461_7465;
@@ -66,6 +69,15 @@ impl Head {
     pub const RETURN: u64 = 0x172_6574_7572;
 
     pub const FORGET: u64 = 0x166_6f72_6765;
+
+    pub const TIME: u64 = 0x174_696d_6520;
+
+    pub const WAIT: u64 = 0x177_6169_7420;
+
+    pub const CLOCK: u64 = 0x163_6c6f_636b;
+
+    // A waiting draw is below this.
+    pub const DRAWS: u64 = 0x1_0000;
 
     // The least number of two bytes.
     pub const TWO: u64 = 0x1_0000;
@@ -154,6 +166,49 @@ fn state_line(rest: Rest) -> Line
 {
     match rest {
         Rest::Nothing => Line::State,
+        Rest::Number(_) => Line::Bad,
+        Rest::T => Line::Bad,
+        Rest::Other => Line::Bad,
+    }
+}
+
+fn time_line(rest: Rest) -> Line
+    ensures { λ r. ⌜ r ≡ numbered Line.Time rest ⌝ }
+{
+    match rest {
+        Rest::Nothing => Line::Bad,
+        Rest::Number(n) => Line::Time(n),
+        Rest::T => Line::Bad,
+        Rest::Other => Line::Bad,
+    }
+}
+
+// A line with a waiting draw, if it is one.
+fn draw_line(n: u64) -> Line
+    ensures { λ r. ⌜ r ≡ small n ⌝ }
+{
+    if n < Head::DRAWS {
+        return Line::Wait(n);
+    }
+    Line::Bad
+}
+
+fn wait_line(rest: Rest) -> Line
+    ensures { λ r. ⌜ r ≡ numbered small rest ⌝ }
+{
+    match rest {
+        Rest::Nothing => Line::Bad,
+        Rest::Number(n) => draw_line(n),
+        Rest::T => Line::Bad,
+        Rest::Other => Line::Bad,
+    }
+}
+
+fn clock_line(rest: Rest) -> Line
+    ensures { λ r. ⌜ r ≡ bare Line.Clock rest ⌝ }
+{
+    match rest {
+        Rest::Nothing => Line::Clock,
         Rest::Number(_) => Line::Bad,
         Rest::T => Line::Bad,
         Rest::Other => Line::Bad,
@@ -267,6 +322,9 @@ impl Reading {
             Head::SAVE => Line::Save(kept),
             Head::RETURN => return_line(after, kept),
             Head::FORGET => forget_line(after, kept),
+            Head::TIME => time_line(rest),
+            Head::WAIT => wait_line(rest),
+            Head::CLOCK => clock_line(rest),
             Head::INDEPENDENT => crate::two::says(two),
             _ => Line::Bad,
         }

@@ -79,6 +79,9 @@ fn end_line(line: u64, says: Line) -> Taken
         Line::Save(n) => Taken::Asks(Line::Save(n), begin(next)),
         Line::Return(n) => Taken::Asks(Line::Return(n), begin(next)),
         Line::Forget(n) => Taken::Asks(Line::Forget(n), begin(next)),
+        Line::Time(d) => Taken::Asks(Line::Time(d), begin(next)),
+        Line::Wait(d) => Taken::Asks(Line::Wait(d), begin(next)),
+        Line::Clock => Taken::Asks(Line::Clock, begin(next)),
         Line::Independent(i, j) => Taken::Asks(Line::Independent(i, j), begin(next)),
         Line::Bad => Taken::Wrong(line),
     }

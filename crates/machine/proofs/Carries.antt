@@ -1,6 +1,6 @@
 -- Every answer carries what 01 says, no refusal of a list call or step alters the machine, and a refused opening closes it. By cases of what is asked, machine and answer: one
 -- lemma for each request.
-use mathlib.Core.Path.{_≡_, refl, sym, ap, ap₂, _∙_}
+use mathlib.Core.Path.{_≡_, refl, ap, ap₂}
 use mathlib.Core.List.{List}
 use mathlib.Core.Bool.{Bool, true, false, cond}
 use mathlib.Core.Logic.{_↔_}
@@ -8,6 +8,7 @@ use mathlib.Core.Option.{Option, none, some, Option·elim}
 use Prim.Native.Nat.{ℕ, _≤_}
 use native.Mathlib.Omega.{arith}
 use lib.Dec.{ltb}
+use Rattle.clock.specs.declared.Clock.{Clock}
 use Rattle.model.specs.Resolved
 use Rattle.model.specs.Opening.{Opening, opening}
 use Rattle.model.specs.Questions.{Answers, no2, no3, no4, no5, no6, no7, no8, no9, no10, yesToAll}
@@ -15,16 +16,18 @@ use Rattle.model.proofs.Answered.{answered}
 use Rattle.rules.specs.Listing.{Entry}
 use Rattle.rules.proofs.Decides.{Decides, holds, fails, passes}
 use Rattle.machine.specs.State.{State}
-use Rattle.machine.specs.Saves.{isName, Saves, saveLimit, placeOf, placeFor, stateUnder, Stored, stored, replaced, removed, saving, returning, forgetting}
-use Rattle.machine.specs.Machine.{asLent, Answer, no, listedAs, reportedAs, Listed, entriesAre, refusedWith, listing, Turn, turn, drawn, showing, lists, sharing, reports, choosing, stepsWith}
-use Rattle.machine.specs.Machine.{Held, heldWith, moved, Machine, closed, holding, onState, onSaves, Request, list′, step′, report′, save′, return′, forget′, Ask, open′, on′, acts, Part, hasLengths, Call, call, opens, onMachine, asked, calls}
-use Rattle.machine.specs.Questions.{no12, no13, no14, yes14, Steps, no15, no16, no17, no18, no19, yes19}
+use Rattle.machine.specs.Timed.{Timed, timed}
+use Rattle.machine.specs.Saves.{isName, Saves, saveLimit, placeOf, placeFor, keptUnder, Stored, stored, replaced, removed, saving, returning, forgetting}
+use Rattle.machine.specs.Machine.{asLent, no, listedAs, reportedAs, Listed, entriesAre, refusedWith, listing, Turn, turn, drawn, stepsIn, timesWith, showing, lists, sharing, reports, choosing, stepsWith}
+use Rattle.machine.specs.Machine.{Held, moved, movedIn, timedOf, storedIn, Machine, closed, holding, onState, onClock, onSaves, Request, list′, step′, report′, timed′, save′, return′, forget′, Ask, open′, on′, acts, Part, hasLengths, Call, call, opens, onMachine, asked, calls}
+use Rattle.machine.specs.Questions.{no12, no13, no14, yes14, Steps, no15, no16, no17, no18, no19, yes19, Times, no15-19, no23, no24, no25, yes25}
 use Rattle.machine.specs.Questions as questions
 use Rattle.machine.specs.Results as results
-use Rattle.machine.specs.Results.{Runs, Lists, Names, Lent, Carries, under1, under2-10, under11, under12, under13, under14, under15-19, under20, return21, forget21, save22}
+use Rattle.machine.specs.Results.{Runs, Lists, Chooses, Names, Lent, Carries, under1, under2-10, under11, under12, under13, under14, under15-19, under23-25, under20, return21, forget21, save22}
 use Rattle.machine.proofs.Lent.{lent-so}
 use Rattle.machine.proofs.Listing as listing
 use Rattle.machine.proofs.Stepping as stepping
+use Rattle.machine.proofs.Timing as timing
 
 -- what a turn from x by a request carries, when it leaves x, and that it is not answered as 1 or 11 are
 record Kept {M : Type 0} (x : M) (r : Request) (t : Turn M) : Type 0 where
@@ -56,16 +59,16 @@ report-kept m s = go (listing.asked m s (listing m s) .0 refl)
     go (yes14 e h l f) = record { carries = results.reports _ _; stays = λ n. refl; one = λ e. omega arith; eleven = λ e. omega arith }
 
 step-kept : (d : ℕ) (m : Resolved.Model) (s : State) → Kept s (step′ d) (stepsWith d m s)
-unfolding stepsWith choosing no listedAs Lists
+unfolding stepsWith choosing no listedAs Lists Chooses
 step-kept d m s = go (listing.asked m s (listing m s) .0 refl)
   where
     taken : {es : List Entry} {t : Turn State} → Steps m s es d t → Kept s (step′ d) t
-    taken (no15 e) = record { carries = under15-19 15 _ (omega arith) (omega arith); stays = λ n. refl; one = λ e. omega arith; eleven = λ e. omega arith }
-    taken (no16 l g) = record { carries = under15-19 16 _ (omega arith) (omega arith); stays = λ n. refl; one = λ e. omega arith; eleven = λ e. omega arith }
-    taken (no17 o g) = record { carries = under15-19 17 _ (omega arith) (omega arith); stays = λ n. refl; one = λ e. omega arith; eleven = λ e. omega arith }
-    taken (no18 r l) = record { carries = under15-19 18 _ (omega arith) (omega arith); stays = λ n. refl; one = λ e. omega arith; eleven = λ e. omega arith }
-    taken (no19 r l f) = record { carries = under15-19 19 _ (omega arith) (omega arith); stays = λ n. refl; one = λ e. omega arith; eleven = λ e. omega arith }
-    taken (yes19 r l f) = record { carries = results.steps _ _; stays = λ n. absurd (n refl); one = λ e. omega arith; eleven = λ e. omega arith }
+    taken (no15 e) = record { carries = under15-19 15 _ tt (omega arith) (omega arith); stays = λ n. refl; one = λ e. omega arith; eleven = λ e. omega arith }
+    taken (no16 l g) = record { carries = under15-19 16 _ tt (omega arith) (omega arith); stays = λ n. refl; one = λ e. omega arith; eleven = λ e. omega arith }
+    taken (no17 o g) = record { carries = under15-19 17 _ tt (omega arith) (omega arith); stays = λ n. refl; one = λ e. omega arith; eleven = λ e. omega arith }
+    taken (no18 r l) = record { carries = under15-19 18 _ tt (omega arith) (omega arith); stays = λ n. refl; one = λ e. omega arith; eleven = λ e. omega arith }
+    taken (no19 r l f) = record { carries = under15-19 19 _ tt (omega arith) (omega arith); stays = λ n. refl; one = λ e. omega arith; eleven = λ e. omega arith }
+    taken (yes19 r l f) = record { carries = results.steps _ _ tt; stays = λ n. absurd (n refl); one = λ e. omega arith; eleven = λ e. omega arith }
 
     go : {l : Listed} → questions.Lists m s l → Kept s (step′ d) (choosing m s d l)
     go (no12 f) = record { carries = under12 _ _ tt; stays = λ n. refl; one = λ e. omega arith; eleven = λ e. omega arith }
@@ -73,23 +76,40 @@ step-kept d m s = go (listing.asked m s (listing m s) .0 refl)
     go (no14 e h l f) = record { carries = under14 tt; stays = λ n. refl; one = λ e. omega arith; eleven = λ e. omega arith }
     go (yes14 {es = es} e h l f) = taken (stepping.asked m s es h d (drawn m s es d) .0 refl)
 
--- ---- turns of state and saves
+timed-kept : (ds : List ℕ) (d : ℕ) (m : Resolved.Model) (s : State) (c : Clock) → Kept (timed s c) (timed′ ds d) (timesWith ds d m s c)
+unfolding timesWith stepsWith choosing stepsIn no listedAs Lists Chooses
+timed-kept ds d m s c = go (listing.asked m s (listing m s) .0 refl)
+  where
+    taken : {es : List Entry} {t : Turn Timed} → Times m s c es ds d t → Kept (timed s c) (timed′ ds d) t
+    taken (no15-19 n l a) = let k = timing.step-numbers n l a in record { carries = under15-19 n _ tt (k .0) (k .1); stays = λ n. refl; one = λ e. omega arith; eleven = λ e. omega arith }
+    taken (no23 i a w) = record { carries = under23-25 23 _ (omega arith) (omega arith); stays = λ n. refl; one = λ e. omega arith; eleven = λ e. omega arith }
+    taken (no24 i a w) = record { carries = under23-25 24 _ (omega arith) (omega arith); stays = λ n. refl; one = λ e. omega arith; eleven = λ e. omega arith }
+    taken (no25 i a w p) = record { carries = under23-25 25 _ (omega arith) (omega arith); stays = λ n. refl; one = λ e. omega arith; eleven = λ e. omega arith }
+    taken (yes25 i a w p q) = record { carries = results.steps _ _ tt; stays = λ n. absurd (n refl); one = λ e. omega arith; eleven = λ e. omega arith }
+
+    go : {l : Listed} → questions.Lists m s l → Kept (timed s c) (timed′ ds d) (stepsIn c ds s (choosing m s d l))
+    go (no12 f) = record { carries = under12 _ _ tt; stays = λ n. refl; one = λ e. omega arith; eleven = λ e. omega arith }
+    go (no13 e h l) = record { carries = under13 tt; stays = λ n. refl; one = λ e. omega arith; eleven = λ e. omega arith }
+    go (no14 e h l f) = record { carries = under14 tt; stays = λ n. refl; one = λ e. omega arith; eleven = λ e. omega arith }
+    go (yes14 {es = es} e h l f) = taken (timing.asked m s c es h ds d (stepsIn c ds s (drawn m s es d)) .0 refl)
+
+-- ---- turns of state, clock and saves
 
 -- the same of a turn from s and ss
-record StoredKept (s : State) (ss : Saves) (r : Request) (x : Stored) : Type 0 where
+record StoredKept (s : Timed) (ss : Saves) (r : Request) (x : Stored) : Type 0 where
   carries : Carries (on′ r) (no (x .number) 0 0 asLent)
-  stays : (x .number ≡ 0 → ⊥) → (x .state ≡ s) × (x .saves ≡ ss)
+  stays : (x .number ≡ 0 → ⊥) → (x .kept ≡ s) × (x .saves ≡ ss)
   one : x .number ≡ 1 → ⊥
   eleven : x .number ≡ 11 → ⊥
 
 -- accepted, whatever it leaves; or refused, leaving all
-stored-yes : (s t : State) (ss ts : Saves) (r : Request) → Names r → StoredKept s ss r (stored 0 t ts)
+stored-yes : (s t : Timed) (ss ts : Saves) (r : Request) → Names r → StoredKept s ss r (stored 0 t ts)
 stored-yes s t ss ts r k = record { carries = results.stores k; stays = λ n. absurd (n refl); one = λ e. omega arith; eleven = λ e. omega arith }
 
-stored-no : (n : ℕ) → 20 ≤ n → (s : State) (ss : Saves) (r : Request) → Carries (on′ r) (no n 0 0 asLent) → StoredKept s ss r (stored n s ss)
+stored-no : (n : ℕ) → 20 ≤ n → (s : Timed) (ss : Saves) (r : Request) → Carries (on′ r) (no n 0 0 asLent) → StoredKept s ss r (stored n s ss)
 stored-no n l s ss r k = record { carries = k; stays = λ n. (refl, refl); one = λ e. omega arith; eleven = λ e. omega arith }
 
-module _ (n : List ℕ) (s : State) (ss : Saves) where
+module _ (n : List ℕ) (s : Timed) (ss : Saves) where
   save-kept : StoredKept s ss (save′ n) (saving n s ss)
   unfolding saving Names
   save-kept = by (isName n) (ltb (placeFor n ss) saveLimit)
@@ -101,9 +121,9 @@ module _ (n : List ℕ) (s : State) (ss : Saves) where
 
   return-kept : StoredKept s ss (return′ n) (returning n s ss)
   unfolding returning Names Option·elim
-  return-kept = by (isName n) (stateUnder n ss)
+  return-kept = by (isName n) (keptUnder n ss)
     where
-      by : (b : Bool) (o : Option State) → StoredKept s ss (return′ n) (cond b (Option·elim o (stored 21 s ss) (λ t. stored 0 t ss)) (stored 20 s ss))
+      by : (b : Bool) (o : Option Timed) → StoredKept s ss (return′ n) (cond b (Option·elim o (stored 21 s ss) (λ t. stored 0 t ss)) (stored 20 s ss))
       by true none = stored-no 21 (omega arith) s ss (return′ n) return21
       by true (some t) = stored-yes s t ss ss (return′ n) tt
       by false o = stored-no 20 (omega arith) s ss (return′ n) (under20 tt)
@@ -124,12 +144,17 @@ state-kept : (r : Request) (f : Resolved.Model → State → Turn State) (h : He
 unfolding onState
 state-kept r f h k = record { carries = k .carries; stays = λ n. ap (moved h) (k .stays n); one = k .one; eleven = k .eleven }
 
--- one that turns state and saves
-saves-kept : (r : Request) (f : State → Saves → Stored) (h : Held) → StoredKept (h .state) (h .saves) r (f (h .state) (h .saves)) → Kept h r (onSaves f h)
+-- one that turns the state and the clock
+clock-kept : (r : Request) (f : Resolved.Model → State → Clock → Turn Timed) (h : Held) → Kept (timed (h .state) (h .clock)) r (f (h .model) (h .state) (h .clock)) → Kept h r (onClock f h)
+unfolding onClock
+clock-kept r f h k = record { carries = k .carries; stays = λ n. ap (movedIn h) (k .stays n); one = k .one; eleven = k .eleven }
+
+-- one that turns state, clock and saves
+saves-kept : (r : Request) (f : Timed → Saves → Stored) (h : Held) → StoredKept (timedOf h) (h .saves) r (f (timedOf h) (h .saves)) → Kept h r (onSaves f h)
 unfolding onSaves no
 saves-kept r f h k = record {
   carries = k .carries;
-  stays = λ n. ap₂ (heldWith (h .model)) (k .stays n .0) (k .stays n .1);
+  stays = λ n. ap₂ (λ (t : Timed) (ss : Saves). storedIn h (stored 0 t ss)) (k .stays n .0) (k .stays n .1);
   one = k .one;
   eleven = k .eleven;
 }
@@ -139,9 +164,10 @@ unfolding acts
 kept list′ h = state-kept list′ lists h (list-kept (h .model) (h .state))
 kept (step′ d) h = state-kept (step′ d) (stepsWith d) h (step-kept d (h .model) (h .state))
 kept report′ h = state-kept report′ reports h (report-kept (h .model) (h .state))
-kept (save′ n) h = saves-kept (save′ n) (saving n) h (save-kept n (h .state) (h .saves))
-kept (return′ n) h = saves-kept (return′ n) (returning n) h (return-kept n (h .state) (h .saves))
-kept (forget′ n) h = saves-kept (forget′ n) (forgetting n) h (forget-kept n (h .state) (h .saves))
+kept (timed′ ds d) h = clock-kept (timed′ ds d) (timesWith ds d) h (timed-kept ds d (h .model) (h .state) (h .clock))
+kept (save′ n) h = saves-kept (save′ n) (saving n) h (save-kept n (timedOf h) (h .saves))
+kept (return′ n) h = saves-kept (return′ n) (returning n) h (return-kept n (timedOf h) (h .saves))
+kept (forget′ n) h = saves-kept (forget′ n) (forgetting n) h (forget-kept n (timedOf h) (h .saves))
 
 -- ---- openings
 

@@ -9,19 +9,20 @@ use lib.Dec.{eqb}
 use borrow.Author.Tests.{eqb-true, eqb-false, eq-eqb}
 use Rattle.value.proofs.Kit.{true-not-false, false-not-true}
 use Rattle.rules.proofs.Decides.{Decides, holds, fails, both}
-use Rattle.machine.specs.Machine.{Ask, Part, model, state, saves, size, partNumber, lentTo, outputOf, isLent, allParts, hasLengths, Call}
+use Rattle.machine.specs.Machine.{Ask, Part, model, state, saves, clock, size, partNumber, lentTo, outputOf, isLent, allParts, hasLengths, Call}
 use Rattle.machine.specs.Results.{Lent}
 
 -- ---- parts by their number
 
 partAt : ℕ → Part
-partAt n = cond (eqb n 0) model (cond (eqb n 1) state saves)
+partAt n = cond (eqb n 0) model (cond (eqb n 1) state (cond (eqb n 2) saves clock))
 
 number-part : (p : Part) → partAt (partNumber p) ≡ p
 unfolding partAt
 number-part model = refl
 number-part state = refl
 number-part saves = refl
+number-part clock = refl
 
 same-part : (p q : Part) → eqb (partNumber p) (partNumber q) ≡ true → p ≡ q
 same-part p q e = sym (number-part p) ∙ ap partAt (eqb-true _ _ e) ∙ number-part q

@@ -6,6 +6,7 @@ pub mod Listing
 pub mod Arguments
 pub mod Becomes
 pub mod Stepping
+pub mod Timing
 pub mod Everys
 pub mod Parts
 pub mod Offering

@@ -6,12 +6,12 @@ use mathlib.Core.Bool.{Bool, true, false, cond, not, _&&_}
 use mathlib.Core.Option.{Option, none, some, Option·elim}
 use Prim.Native.Nat.{ℕ, zero, suc, _≤_, _<_}
 use native.Mathlib.Omega.{arith}
-use lib.Dec.{eqb, ltb}
+use lib.Dec.{ltb}
 use lib.ListN.{length, getD, set, replicate, length-set, length-replicate}
-use borrow.Author.Tests.{eqb-true, eq-eqb, ltb-true, ltb-false}
+use borrow.Author.Tests.{eqb-true, eq-eqb, ltb-false}
 use Rattle.model.specs.Good.{Every}
-use Rattle.machine.specs.State.{State}
-use Rattle.machine.specs.Saves.{isName, same, Save, saved, saveLimit, Saves, noSaves, named, isEmpty, firstOf, placeOf, placeFor, stateOf, stateUnder, isUnknown, isApart, areApart, SaveOf, PlaceOf, SavesOf, Stored, stored, replaced, removed, saving, returning, forgetting}
+use Rattle.machine.specs.Timed.{Timed}
+use Rattle.machine.specs.Saves.{isName, same, Save, saved, saveLimit, Saves, noSaves, named, isEmpty, firstOf, placeOf, placeFor, keptOf, keptUnder, isUnknown, isApart, areApart, PlaceOf, SavesOf, Stored, stored, replaced, removed, saving, returning, forgetting}
 
 -- ---- tests
 
@@ -147,22 +147,22 @@ module _ (v : Save) where
 
   -- ---- the state under a name
 
-  pub under-set : (ss : Saves) (i : ℕ) → i < length ss → isUnknown (v .name) (set ss i none) ≡ true → stateUnder (v .name) (set ss i (some v)) ≡ some (v .state)
-  unfolding stateUnder named isUnknown stateOf
+  pub under-set : (ss : Saves) (i : ℕ) → i < length ss → isUnknown (v .name) (set ss i none) ≡ true → keptUnder (v .name) (set ss i (some v)) ≡ some (v .kept)
+  unfolding keptUnder named isUnknown keptOf
   under-set [] i h u = absurd (omega arith)
   under-set (x ∷ xs) zero h u = rw (same-refl (v .name))
   under-set (x ∷ xs) (suc i) h u = by (under-set xs i (omega arith) (both (not (named (v .name) x)) _ u .1)) (named (v .name) x) (both _ _ u .0)
     where
-      by : stateUnder (v .name) (set xs i (some v)) ≡ some (v .state) → (t : Bool) → not t ≡ true → cond t (stateOf x) (stateUnder (v .name) (set xs i (some v))) ≡ some (v .state)
+      by : keptUnder (v .name) (set xs i (some v)) ≡ some (v .kept) → (t : Bool) → not t ≡ true → cond t (keptOf x) (keptUnder (v .name) (set xs i (some v))) ≡ some (v .kept)
       by go true f = not-both true refl (sym f)
       by go false f = go
 
-pub under-none : (n : List ℕ) (ss : Saves) → isUnknown n ss ≡ true → stateUnder n ss ≡ none
-unfolding stateUnder isUnknown
+pub under-none : (n : List ℕ) (ss : Saves) → isUnknown n ss ≡ true → keptUnder n ss ≡ none
+unfolding keptUnder isUnknown
 under-none n [] u = refl
 under-none n (x ∷ xs) u = by (under-none n xs (both (not (named n x)) _ u .1)) (named n x) (both _ _ u .0)
   where
-    by : stateUnder n xs ≡ none → (t : Bool) → not t ≡ true → cond t (stateOf x) (stateUnder n xs) ≡ none
+    by : keptUnder n xs ≡ none → (t : Bool) → not t ≡ true → cond t (keptOf x) (keptUnder n xs) ≡ none
     by go true e = not-both true refl (sym e)
     by go false e = go
 
@@ -171,51 +171,51 @@ pub removed-unknown : (n : List ℕ) (ss : Saves) → areApart ss ≡ true → i
 unfolding removed
 removed-unknown n ss d = others-unknown n ss d
 
--- 02, note 2: the state that is saved stands under the name
-pub replaced-under : (n : List ℕ) (s : State) (ss : Saves) → length ss ≡ saveLimit → areApart ss ≡ true → placeFor n ss < saveLimit → stateUnder n (replaced n s ss) ≡ some s
+-- 02, note 2: what is saved stands under the name
+pub replaced-under : (n : List ℕ) (s : Timed) (ss : Saves) → length ss ≡ saveLimit → areApart ss ≡ true → placeFor n ss < saveLimit → keptUnder n (replaced n s ss) ≡ some s
 unfolding replaced
-replaced-under n s ss l d h = under-set (record { name = n; state = s }) ss (placeFor n ss) (omega arith) (place-ready n ss l d)
+replaced-under n s ss l d h = under-set (record { name = n; kept = s }) ss (placeFor n ss) (omega arith) (place-ready n ss l d)
 
 -- a change at another name's place leaves the state under this one
-pub under-other : (n : List ℕ) (ss : Saves) (i : ℕ) (v : Option Save) → named n (getD ss i none) ≡ false → named n v ≡ false → stateUnder n (set ss i v) ≡ stateUnder n ss
-unfolding stateUnder
+pub under-other : (n : List ℕ) (ss : Saves) (i : ℕ) (v : Option Save) → named n (getD ss i none) ≡ false → named n v ≡ false → keptUnder n (set ss i v) ≡ keptUnder n ss
+unfolding keptUnder
 under-other n [] i v e f = refl
 under-other n (x ∷ xs) zero v e f = rw (e, f)
-under-other n (x ∷ xs) (suc i) v e f = ap (cond (named n x) (stateOf x)) (under-other n xs i v e f)
+under-other n (x ∷ xs) (suc i) v e f = ap (cond (named n x) (keptOf x)) (under-other n xs i v e f)
 
 -- it is the one at the name's place
-pub under-place : (n : List ℕ) (ss : Saves) → stateUnder n ss ≡ stateOf (getD ss (placeOf n ss) none)
-unfolding stateUnder firstOf stateOf
+pub under-place : (n : List ℕ) (ss : Saves) → keptUnder n ss ≡ keptOf (getD ss (placeOf n ss) none)
+unfolding keptUnder firstOf keptOf
 under-place n [] = refl
 under-place n (x ∷ xs) = by (under-place n xs) (named n x)
   where
-    by : stateUnder n xs ≡ stateOf (getD xs (placeOf n xs) none) → (b : Bool) → cond b (stateOf x) (stateUnder n xs) ≡ stateOf (getD (x ∷ xs) (cond b 0 (suc (placeOf n xs))) none)
+    by : keptUnder n xs ≡ keptOf (getD xs (placeOf n xs) none) → (b : Bool) → cond b (keptOf x) (keptUnder n xs) ≡ keptOf (getD (x ∷ xs) (cond b 0 (suc (placeOf n xs))) none)
     by go true = refl
     by go false = go
 
 never : {A B : Type 0} {x : A} → _≡_ {A = Option A} none (some x) → B
 never e = absurd (let z : _≡_ {A = ℕ} 0 1 = cc in omega arith)
 
-module _ (P : State → Type 0) where
-  pub under-holds : (n : List ℕ) (ss : Saves) (s : State) → Every (PlaceOf P) ss → stateUnder n ss ≡ some s → P s
-  unfolding stateUnder Every PlaceOf stateOf
+module _ (P : Timed → Type 0) where
+  pub under-holds : (n : List ℕ) (ss : Saves) (s : Timed) → Every (PlaceOf P) ss → keptUnder n ss ≡ some s → P s
+  unfolding keptUnder Every PlaceOf keptOf
   under-holds n [] s g e = never e
   under-holds n (x ∷ xs) s g e = by (λ k. under-holds n xs s (g .1) k) (named n x) x (g .0) e
     where
-      by : (stateUnder n xs ≡ some s → P s) → (t : Bool) (x : Option Save) → PlaceOf P x → cond t (stateOf x) (stateUnder n xs) ≡ some s → P s
+      by : (keptUnder n xs ≡ some s → P s) → (t : Bool) (x : Option Save) → PlaceOf P x → cond t (keptOf x) (keptUnder n xs) ≡ some s → P s
       by go true none k e = never e
-      by go true (some y) k e = let q : y .state ≡ s = cc in rw q at (k .state)
+      by go true (some y) k e = let q : y .kept ≡ s = cc in rw q at (k .kept)
       by go false x k e = go e
 
-  pub under-name : (n : List ℕ) (ss : Saves) (s : State) → Every (PlaceOf P) ss → stateUnder n ss ≡ some s → isName n ≡ true
-  unfolding stateUnder Every PlaceOf stateOf named
+  pub under-name : (n : List ℕ) (ss : Saves) (s : Timed) → Every (PlaceOf P) ss → keptUnder n ss ≡ some s → isName n ≡ true
+  unfolding keptUnder Every PlaceOf keptOf named
   under-name n [] s g e = never e
   under-name n (x ∷ xs) s g e = by (λ k. under-name n xs s (g .1) k) x (g .0) (named n x) refl e
     where
-      by : (stateUnder n xs ≡ some s → isName n ≡ true) → (x : Option Save) → PlaceOf P x → (t : Bool) → named n x ≡ t → cond t (stateOf x) (stateUnder n xs) ≡ some s → isName n ≡ true
+      by : (keptUnder n xs ≡ some s → isName n ≡ true) → (x : Option Save) → PlaceOf P x → (t : Bool) → named n x ≡ t → cond t (keptOf x) (keptUnder n xs) ≡ some s → isName n ≡ true
       by go none k t f e = go (unless t e)
         where
-          unless : (t : Bool) → cond t (stateOf none) (stateUnder n xs) ≡ some s → stateUnder n xs ≡ some s
+          unless : (t : Bool) → cond t (keptOf none) (keptUnder n xs) ≡ some s → keptUnder n xs ≡ some s
           unless true e = never e
           unless false e = e
       by go (some y) k true f e = ap isName (sym (same-eq (y .name) n f)) ∙ k .name
@@ -235,34 +235,34 @@ module _ (P : State → Type 0) where
   -- ---- every turn leaves such a state and such saves
 
   pub record StoredOf (x : Stored) : Type 0 where
-    pub state : P (x .state)
+    pub kept : P (x .kept)
     pub saves : SavesOf P (x .saves)
 
-  module _ (n : List ℕ) (s : State) (ss : Saves) (g : P s) (k : SavesOf P ss) where
+  module _ (n : List ℕ) (s : Timed) (ss : Saves) (g : P s) (k : SavesOf P ss) where
     pub saving-holds : StoredOf (saving n s ss)
     unfolding saving replaced PlaceOf
     saving-holds = by (isName n) (ltb (placeFor n ss) saveLimit) refl
       where
         by : (b c : Bool) → isName n ≡ b → StoredOf (cond b (cond c (stored 0 s (replaced n s ss)) (stored 22 s ss)) (stored 20 s ss))
         by true true e = record {
-          state = g;
+          kept = g;
           saves = record {
             long = length-set ss (placeFor n ss) _ ∙ k .long;
-            places = every-set (PlaceOf P) ss (placeFor n ss) _ (k .places) (record { name = e; state = g });
-            apart = apart-set (record { name = n; state = s }) ss (placeFor n ss) (k .apart) (place-ready n ss (k .long) (k .apart));
+            places = every-set (PlaceOf P) ss (placeFor n ss) _ (k .places) (record { name = e; kept = g });
+            apart = apart-set (record { name = n; kept = s }) ss (placeFor n ss) (k .apart) (place-ready n ss (k .long) (k .apart));
           };
         }
-        by true false e = record { state = g; saves = k }
-        by false c e = record { state = g; saves = k }
+        by true false e = record { kept = g; saves = k }
+        by false c e = record { kept = g; saves = k }
 
     pub returning-holds : StoredOf (returning n s ss)
     unfolding returning Option·elim
-    returning-holds = by (isName n) (stateUnder n ss) refl
+    returning-holds = by (isName n) (keptUnder n ss) refl
       where
-        by : (b : Bool) (o : Option State) → stateUnder n ss ≡ o → StoredOf (cond b (Option·elim o (stored 21 s ss) (λ t. stored 0 t ss)) (stored 20 s ss))
-        by true none e = record { state = g; saves = k }
-        by true (some t) e = record { state = under-holds n ss t (k .places) e; saves = k }
-        by false o e = record { state = g; saves = k }
+        by : (b : Bool) (o : Option Timed) → keptUnder n ss ≡ o → StoredOf (cond b (Option·elim o (stored 21 s ss) (λ t. stored 0 t ss)) (stored 20 s ss))
+        by true none e = record { kept = g; saves = k }
+        by true (some t) e = record { kept = under-holds n ss t (k .places) e; saves = k }
+        by false o e = record { kept = g; saves = k }
 
     pub forgetting-holds : StoredOf (forgetting n s ss)
     unfolding forgetting removed PlaceOf
@@ -270,15 +270,15 @@ module _ (P : State → Type 0) where
       where
         by : (b c : Bool) → StoredOf (cond b (cond c (stored 0 s (removed n ss)) (stored 21 s ss)) (stored 20 s ss))
         by true true = record {
-          state = g;
+          kept = g;
           saves = record {
             long = length-set ss (placeOf n ss) none ∙ k .long;
             places = every-set (PlaceOf P) ss (placeOf n ss) none (k .places) tt;
             apart = apart-none ss (placeOf n ss) (k .apart);
           };
         }
-        by true false = record { state = g; saves = k }
-        by false c = record { state = g; saves = k }
+        by true false = record { kept = g; saves = k }
+        by false c = record { kept = g; saves = k }
 
 -- no name is known where nothing is saved
 pub none-unknown : (n : List ℕ) → isUnknown n noSaves ≡ true
@@ -288,11 +288,11 @@ none-unknown n = refl
 -- ---- answers
 
 -- a turn from s and ss is accepted, or refused under 20 to 22 and leaves both
-pub data StoredAnswers (s : State) (ss : Saves) (x : Stored) : Type 0 where
+pub data StoredAnswers (s : Timed) (ss : Saves) (x : Stored) : Type 0 where
   accepts : x .number ≡ 0 → StoredAnswers s ss x
-  refuses : 20 ≤ x .number → x .number ≤ 22 → (x .state ≡ s) × (x .saves ≡ ss) → StoredAnswers s ss x
+  refuses : 20 ≤ x .number → x .number ≤ 22 → (x .kept ≡ s) × (x .saves ≡ ss) → StoredAnswers s ss x
 
-module _ (n : List ℕ) (s : State) (ss : Saves) where
+module _ (n : List ℕ) (s : Timed) (ss : Saves) where
   refusal : (k : ℕ) → 20 ≤ k → k ≤ 22 → StoredAnswers s ss (stored k s ss)
   refusal k h l = refuses h l (refl, refl)
 
@@ -307,9 +307,9 @@ module _ (n : List ℕ) (s : State) (ss : Saves) where
 
   pub returning-answers : StoredAnswers s ss (returning n s ss)
   unfolding returning Option·elim
-  returning-answers = by (isName n) (stateUnder n ss)
+  returning-answers = by (isName n) (keptUnder n ss)
     where
-      by : (b : Bool) (o : Option State) → StoredAnswers s ss (cond b (Option·elim o (stored 21 s ss) (λ t. stored 0 t ss)) (stored 20 s ss))
+      by : (b : Bool) (o : Option Timed) → StoredAnswers s ss (cond b (Option·elim o (stored 21 s ss) (λ t. stored 0 t ss)) (stored 20 s ss))
       by true none = refusal 21 (omega arith) (omega arith)
       by true (some t) = accepts refl
       by false o = refusal 20 (omega arith) (omega arith)

@@ -1,4 +1,4 @@
--- Over lists of calls, the state found after a return is that of the latest accepted save under that name; and which calls leave a save (02, note 2). Assumes nothing: these are
+-- Over lists of calls, the state and the clock found after a return are those of the latest accepted save under that name; and which calls leave a save (02, note 2). Assumes nothing: these are
 -- definitions.
 use mathlib.Core.Path.{_≡_}
 use mathlib.Core.List.{List, [], _∷_, _++_}
@@ -6,14 +6,14 @@ use mathlib.Core.Bool.{Bool, true, false, not, _&&_, _||_}
 use mathlib.Core.Option.{Option, none}
 use Prim.Native.Nat.{ℕ}
 use lib.Dec.{eqb}
-use Rattle.machine.specs.State.{State}
-use Rattle.machine.specs.Saves.{same, stateUnder}
-use Rattle.machine.specs.Machine.{Held, Machine, closed, holding, Request, list′, step′, report′, save′, return′, forget′, Ask, open′, on′, Call, calls, after}
+use Rattle.machine.specs.Timed.{Timed}
+use Rattle.machine.specs.Saves.{same, keptUnder}
+use Rattle.machine.specs.Machine.{Held, timedOf, Machine, closed, holding, Request, list′, step′, report′, timed′, save′, return′, forget′, Ask, open′, on′, Call, calls, after}
 
--- the state that the machine has under a name
-unfoldable pub stateIn : List ℕ → Machine → Option State
-stateIn n closed = none
-stateIn n (holding h) = stateUnder n (h .saves)
+-- the state and the clock that the machine has under a name
+unfoldable pub keptIn : List ℕ → Machine → Option Timed
+keptIn n closed = none
+keptIn n (holding h) = keptUnder n (h .saves)
 
 -- ---- calls on a name
 
@@ -21,6 +21,7 @@ unfoldable pub savesName : List ℕ → Request → Bool
 savesName n list′ = false
 savesName n (step′ d) = false
 savesName n report′ = false
+savesName n (timed′ ds d) = false
 savesName n (save′ k) = same k n
 savesName n (return′ k) = false
 savesName n (forget′ k) = false
@@ -29,6 +30,7 @@ unfoldable pub forgetsName : List ℕ → Request → Bool
 forgetsName n list′ = false
 forgetsName n (step′ d) = false
 forgetsName n report′ = false
+forgetsName n (timed′ ds d) = false
 forgetsName n (save′ k) = false
 forgetsName n (return′ k) = false
 forgetsName n (forget′ k) = same k n
@@ -53,8 +55,8 @@ pub data Without (t : Ask → ℕ → Bool) : Machine → List Call → Type 0 w
 
 -- ---- the latest save
 
--- of calls made to the machine, a save under the name that is accepted, the state then, and of the calls since none that is tested
-pub record Saved (n : List ℕ) (t : Ask → ℕ → Bool) (y : Machine) (cs : List Call) (s : State) : Type 0 where
+-- of calls made to the machine, a save under the name that is accepted, the state and the clock then, and of the calls since none that is tested
+pub record Saved (n : List ℕ) (t : Ask → ℕ → Bool) (y : Machine) (cs : List Call) (t′ : Timed) : Type 0 where
   pub before : List Call
   pub call : Call
   pub since : List Call
@@ -63,21 +65,21 @@ pub record Saved (n : List ℕ) (t : Ask → ℕ → Bool) (y : Machine) (cs : L
   pub accepted : calls (after y before) call .answer .number ≡ 0
   pub then-held : Held
   pub machine : after y before ≡ holding then-held
-  pub state : then-held .state ≡ s
+  pub kept-then : timedOf then-held ≡ t′
   pub kept : Without t (calls (after y before) call .machine) since
 
 -- 02, note 2: the latest accepted save under the name, which no opening and no forget has undone since
-abbrev pub Latest : List ℕ → Machine → List Call → State → Type 0
+abbrev pub Latest : List ℕ → Machine → List Call → Timed → Type 0
 Latest n = Saved n (alters n)
 
 -- an accepted save under the name, the latest or not, that no opening and no forget has undone since
-abbrev pub Known : List ℕ → Machine → List Call → State → Type 0
+abbrev pub Known : List ℕ → Machine → List Call → Timed → Type 0
 Known n = Saved n (forgets n)
 
--- 02, note 2: the machine has the state of the latest accepted save under the name, of calls made to the fresh machine
+-- 02, notes 2 and 4: the machine has the state and the clock of the latest accepted save under the name, of calls made to the fresh machine
 pub record Finds (n : List ℕ) (cs : List Call) (y : Machine) : Type 0 where
-  pub state : State
-  pub latest : Latest n closed cs state
+  pub kept : Timed
+  pub latest : Latest n closed cs kept
   pub then-held : Held
   pub machine : y ≡ holding then-held
-  pub is : then-held .state ≡ state
+  pub is : timedOf then-held ≡ kept

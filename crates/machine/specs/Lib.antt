@@ -3,6 +3,7 @@ pub mod Offer
 pub mod Offering
 pub mod State
 pub mod Report
+pub mod Timed
 pub mod Saves
 pub mod SavesRows
 pub mod Machine
@@ -10,6 +11,7 @@ pub mod Questions
 pub mod Specimens
 pub mod Rows
 pub mod Refusals
+pub mod TimedRows
 pub mod Starred
 pub mod Results
 pub mod Latest

@@ -16,8 +16,12 @@ use Rattle.rules.specs.Rules.{Key, key}
 use Rattle.rules.specs.Listing.{Entry, keyOf, entries}
 use Rattle.rules.specs.Draw.{weights, total, chosen}
 use Rattle.rules.specs.Step as steps
+use Rattle.clock.specs.declared.Clock.{Clock}
+use Rattle.clock.specs.declared.Brought.{Brought}
+use Rattle.clock.specs.Clock.{freshClock, InRange, broughtBy}
 use Rattle.machine.specs.Offer.{Process, branchesOf, called, argumentsGiven, branches, missing}
 use Rattle.machine.specs.State.{State, GoodState, stateLength, pairLimit}
+use Rattle.machine.specs.Timed.{Timed, timed, clockLength}
 use Rattle.machine.specs.Saves.{Saves, noSaves, savesLength, GoodSaves, Stored, saving, returning, forgetting}
 use Rattle.machine.specs.Report.{reportLength, reportOf}
 
@@ -176,29 +180,60 @@ choosing m s d (refusedWith a) = turn s a
 unfoldable pub stepsWith : ℕ → Resolved.Model → State → Turn State
 stepsWith d m s = choosing m s d (listing m s)
 
+-- ---- turns of a state and a clock (02, note 4)
+
+-- 02, note 4: 23 to 25 answer as 19 does: with the count and total of the listing, which stays filled, and 0 as chosen entry
+unfoldable pub refusedAs : ℕ → Answer → Answer
+refusedAs n a = record { number = n; place = 0; branch = 0; count = a .count; total = a .total; chosen = 0; listing = a .listing }
+
+-- 02, note 4: a step from s that was accepted, and what the waiting draws made of the clock c: both go on, or neither
+unfoldable pub withWait : State → Clock → Turn State → Brought → Turn Timed
+withWait s c t b = cond (eqb (b .number) 0) (turn (timed (t .machine) (b .clock)) (t .answer)) (turn (timed s c) (refusedAs (b .number) (t .answer)))
+
+-- 02, note 4: a step with the choosing draw d; where it is refused, that is the answer, and the clock stays; where it is accepted, 23 to 25
+unfoldable pub stepsIn : Clock → List ℕ → State → Turn State → Turn Timed
+stepsIn c ds s t = cond (eqb (t .answer .number) 0) (withWait s c t (broughtBy c ds (t .answer .total))) (turn (timed (t .machine) c) (t .answer))
+
+unfoldable pub timesWith : (waiting : List ℕ) (draw : ℕ) → Resolved.Model → State → Clock → Turn Timed
+timesWith ds d m s c = stepsIn c ds s (stepsWith d m s)
+
 -- ---- what the machine holds
 
--- 01, Rule machine: the model it read, with a state; 02, note 2: and saves
+-- 01, Rule machine: the model it read, with a state; 02, notes 2 and 4: and saves and a clock
 pub record Held : Type 0 where
   pub model : Resolved.Model
   pub state : State
   pub saves : Saves
+  pub clock : Clock
 
+abbrev pub heldAll : Resolved.Model → State → Saves → Clock → Held
+heldAll m s ss c = record { model = m; state = s; saves = ss; clock = c }
+
+-- a clock at zero
 abbrev pub heldWith : Resolved.Model → State → Saves → Held
-heldWith m s ss = record { model = m; state = s; saves = ss }
+heldWith m s ss = heldAll m s ss freshClock
 
--- this model and this state, and nothing else
+-- this model and this state, nothing saved, and a clock at zero
 abbrev pub held : Resolved.Model → State → Held
 held m s = heldWith m s noSaves
 
 -- the same, with this state
 abbrev pub moved : Held → State → Held
-moved h s = heldWith (h .model) s (h .saves)
+moved h s = heldAll (h .model) s (h .saves) (h .clock)
 
--- 01, Listing, 11, and 02, note 2: all that is held is over the model
+-- with this state and this clock
+abbrev pub movedIn : Held → Timed → Held
+movedIn h t = heldAll (h .model) (t .state) (h .saves) (t .clock)
+
+-- the state and the clock
+abbrev pub timedOf : Held → Timed
+timedOf h = timed (h .state) (h .clock)
+
+-- 01, Listing, 11, and 02, notes 2 and 4: all that is held is over the model, the clock in its range
 pub record Good (h : Held) : Type 0 where
   pub state : GoodState (h .model) (h .state)
   pub saves : GoodSaves (h .model) (h .saves)
+  pub clock : InRange (h .clock)
 
 -- 01, Rule machine: closed, or holding all that
 pub data Machine : Type 0 where
@@ -211,17 +246,26 @@ pub data Machine : Type 0 where
 unfoldable pub onState : (Resolved.Model → State → Turn State) → Held → Turn Held
 onState f h = let t = f (h .model) (h .state) in turn (moved h (t .machine)) (t .answer)
 
--- 02, note 2: state and saves are read and written; the answer is a number
-unfoldable pub onSaves : (State → Saves → Stored) → Held → Turn Held
-onSaves f h = let x = f (h .state) (h .saves) in turn (heldWith (h .model) (x .state) (x .saves)) (no (x .number) 0 0 asLent)
+-- 02, note 4: the clock too is read and written
+unfoldable pub onClock : (Resolved.Model → State → Clock → Turn Timed) → Held → Turn Held
+onClock f h = let t = f (h .model) (h .state) (h .clock) in turn (movedIn h (t .machine)) (t .answer)
+
+-- with what a turn of the saves leaves
+abbrev pub storedIn : Held → Stored → Held
+storedIn h x = heldAll (h .model) (x .kept .state) (x .saves) (x .kept .clock)
+
+-- 02, note 2: state and saves are read and written, 02, note 4: and the clock with the state; the answer is a number
+unfoldable pub onSaves : (Timed → Saves → Stored) → Held → Turn Held
+onSaves f h = let x = f (timedOf h) (h .saves) in turn (storedIn h x) (no (x .number) 0 0 asLent)
 
 -- ---- calls
 
--- 01, Listing and stepping, and 02, notes 2 and 6: requests to a model that is held, of which 11 is asked first
+-- 01, Listing and stepping, and 02, notes 2, 4 and 6: requests to a model that is held, of which 11 is asked first
 pub data Request : Type 0 where
   list′ : Request
   step′ : (draw : ℕ) → Request
   report′ : Request
+  timed′ : (waiting : List ℕ) (draw : ℕ) → Request
   save′ : (name : List ℕ) → Request
   return′ : (name : List ℕ) → Request
   forget′ : (name : List ℕ) → Request
@@ -236,49 +280,62 @@ unfoldable pub acts : Request → Held → Turn Held
 acts list′ = onState lists
 acts (step′ d) = onState (stepsWith d)
 acts report′ = onState reports
+acts (timed′ ds d) = onClock (timesWith ds d)
 acts (save′ n) = onSaves (saving n)
 acts (return′ n) = onSaves (returning n)
 acts (forget′ n) = onSaves (forgetting n)
 
 -- ---- what is lent
 
--- 01, State, and 02, note 2: the engine's buffers
+-- 01, State, and 02, note 2: the engine's buffers; 02, note 4: and its clock
 pub data Part : Type 0 where
   model : Part
   state : Part
   saves : Part
+  clock : Part
 
 -- 01, 1: their lengths
 abbrev pub size : Part → ℕ
 size model = modelLength
 size state = stateLength
 size saves = savesLength
+size clock = clockLength
 
 abbrev pub partNumber : Part → ℕ
 partNumber model = 0
 partNumber state = 1
 partNumber saves = 2
+partNumber clock = 3
 
 -- the two that every list, step and report is lent
 abbrev pub twoParts : List Part
 twoParts = model ∷ state ∷ []
 
--- 02, note 2: and the saves, for the three calls on them
+-- those of a timed step
+abbrev pub timedParts : List Part
+timedParts = model ∷ state ∷ clock ∷ []
+
+-- 02, note 2: and the saves, for a forget
 abbrev pub threeParts : List Part
 threeParts = model ∷ state ∷ saves ∷ []
+
+-- 02, note 4: and the clock, for a save and a return
+abbrev pub fourParts : List Part
+fourParts = model ∷ state ∷ saves ∷ clock ∷ []
 
 -- 02, note 2: a buffer goes only to the calls that use it
 abbrev pub uses : Request → List Part
 uses list′ = twoParts
 uses (step′ d) = twoParts
 uses report′ = twoParts
-uses (save′ n) = threeParts
-uses (return′ n) = threeParts
+uses (timed′ ds d) = timedParts
+uses (save′ n) = fourParts
+uses (return′ n) = fourParts
 uses (forget′ n) = threeParts
 
 -- an opening writes them all
 abbrev pub lentTo : Ask → List Part
-lentTo (open′ text) = model ∷ state ∷ saves ∷ []
+lentTo (open′ text) = model ∷ state ∷ saves ∷ clock ∷ []
 lentTo (on′ r) = uses r
 
 -- 01, Transitions, and 02, note 6: the length of the output buffer, the listing or the report, of a call that is lent one
@@ -287,6 +344,7 @@ outputOf (open′ text) = none
 outputOf (on′ list′) = some listingLength
 outputOf (on′ (step′ d)) = some listingLength
 outputOf (on′ report′) = some reportLength
+outputOf (on′ (timed′ ds d)) = some listingLength
 outputOf (on′ (save′ n)) = none
 outputOf (on′ (return′ n)) = none
 outputOf (on′ (forget′ n)) = none

@@ -1,10 +1,10 @@
--- What questions 12 to 19 ask, said without the functions that answer them (01, Listing and stepping): a constructor for each answer, in the order of asking.
+-- What questions 12 to 19 and 23 to 25 ask, said without the functions that answer them (01, Listing and stepping): a constructor for each answer, in the order of asking.
 -- Assumes nothing: these are definitions.
 use mathlib.Core.Path.{_≡_}
 use mathlib.Core.List.{List, _++_, List·Memᴰ as In}
 use mathlib.Core.Logic.{_↔_, _⊎_}
 use mathlib.Core.Option.{none, some}
-use Prim.Native.Nat.{ℕ, _≤_, _<_}
+use Prim.Native.Nat.{ℕ, _+_, _≤_, _<_}
 use lib.IntN.{ℤ}
 use lib.ListN.{length}
 use Rattle.value.specs.declared.Value.the-variants.{Is}
@@ -17,10 +17,15 @@ use Rattle.rules.specs.Rules.{Nth, Change, unchanged, label, plain, Offered, Al
 use Rattle.rules.specs.Listing.{Entry, entry, Earlier}
 use Rattle.rules.specs.Pairs.{pairsAfter}
 use Rattle.rules.specs.Draw.{weights, total, First}
+use Rattle.waits.specs.declared.Wait.the-variants as wait
+use Rattle.waits.specs.ByRuns.{Waits}
+use Rattle.clock.specs.declared.Clock.{Clock}
+use Rattle.clock.specs.Clock.{clockLimit, ticksOf}
 use Rattle.machine.specs.Evaluate.{evalExpr, evalBranch}
 use Rattle.machine.specs.Offer.{Process, branchesOf, branches}
 use Rattle.machine.specs.State.{State, pairLimit}
-use Rattle.machine.specs.Machine.{entryLimit, totalLimit, zeroed, no, Listed, entriesAre, refusedWith, Turn, refusing, accepting}
+use Rattle.machine.specs.Timed.{Timed, timed}
+use Rattle.machine.specs.Machine.{entryLimit, totalLimit, zeroed, no, listedAs, Listed, entriesAre, refusedWith, Turn, turn, refusing, accepting}
 
 -- ---- 12
 
@@ -120,3 +125,28 @@ pub data Steps (m : Resolved.Model) (s : State) (es : List Entry) (d : ℕ) : Tu
   -- accepted: the state is the one that the rules move to
   yes19 : {c : ℕ} {n : Change} {ps : List Process} → Ready m s es d c n ps → length ps ≤ processLimit → length (pairsAfter n (s .pairs)) ≤ pairLimit
       → Steps m s es d (accepting (record { processes = ps; pairs = pairsAfter n (s .pairs) }) es c)
+
+-- ---- 23 to 25
+
+-- 02, note 4: the clock c later by the time of E at a total, and by u waiting draws
+abbrev pub laterBy : Clock → (e total u : ℕ) → Clock
+laterBy c e total u = record { ticks = c .ticks + ticksOf e total; draws = c .draws + u }
+
+-- 02, note 4: refused with number n, neither the state nor the clock moves
+abbrev pub standing : State → Clock → List Entry → ℕ → Turn Timed
+standing s c es n = turn (timed s c) (listedAs n 0 es)
+
+-- 02, note 4: what a timed step with the choosing draw d and the waiting draws ds answers, and the state and clock afterwards, where es is listed
+pub data Times (m : Resolved.Model) (s : State) (c : Clock) (es : List Entry) (ds : List ℕ) (d : ℕ) : Turn Timed → Type 0 where
+  -- refused as the step is
+  no15-19 : (n : ℕ) → 0 < n → Steps m s es d (refusing s es n) → Times m s c es ds d (standing s c es n)
+  -- the step is accepted: the draws end first, k would be 32, or a number of the clock would pass its range
+  no23 : {s′ : State} (i : ℕ) → Steps m s es d (accepting s′ es i) → Waits 0 ds wait.Ended → Times m s c es ds d (standing s c es 23)
+  no24 : {s′ : State} (i : ℕ) → Steps m s es d (accepting s′ es i) → Waits 0 ds wait.Long → Times m s c es ds d (standing s c es 24)
+  no25 : {s′ : State} {e u : ℕ} (i : ℕ) → Steps m s es d (accepting s′ es i) → Waits 0 ds (wait.Given e u)
+      → (clockLimit < laterBy c e (total (weights es)) u .ticks) ⊎ (clockLimit < laterBy c e (total (weights es)) u .draws)
+      → Times m s c es ds d (standing s c es 25)
+  -- accepted: the state is the step's, and the clock goes on
+  yes25 : {s′ : State} {e u : ℕ} (i : ℕ) → Steps m s es d (accepting s′ es i) → Waits 0 ds (wait.Given e u)
+      → laterBy c e (total (weights es)) u .ticks ≤ clockLimit → laterBy c e (total (weights es)) u .draws ≤ clockLimit
+      → Times m s c es ds d (turn (timed s′ (laterBy c e (total (weights es)) u)) (listedAs 0 i es))

@@ -6,27 +6,39 @@ use mathlib.Core.Bool.{true}
 use mathlib.Core.Option.{some}
 use Prim.Native.Nat.{ℕ, _≤_}
 use Rattle.rules.specs.Listing.{Entry}
-use Rattle.machine.specs.Machine.{asLent, zeroed, Answer, no, listedAs, reportedAs, Request, list′, step′, report′, save′, return′, forget′, Ask, open′, on′, Part, size, lentTo, outputOf, isLent, Call}
+use Rattle.machine.specs.Machine.{asLent, zeroed, Answer, no, listedAs, reportedAs, Request, list′, step′, report′, timed′, save′, return′, forget′, Ask, open′, on′, Part, size, lentTo, outputOf, isLent, Call}
 
 -- a request, not an opening
 unfoldable pub Runs : Ask → Type 0
 Runs (open′ text) = ⊥
 Runs (on′ r) = Unit {0}
 
--- 01, Listing and stepping, and 02, note 6: requests that ask 12 to 14
+-- 01, Listing and stepping, and 02, notes 4 and 6: requests that ask 12 to 14
 unfoldable pub Lists : Request → Type 0
 Lists list′ = Unit {0}
 Lists (step′ d) = Unit {0}
 Lists report′ = Unit {0}
+Lists (timed′ ds d) = Unit {0}
 Lists (save′ n) = ⊥
 Lists (return′ n) = ⊥
 Lists (forget′ n) = ⊥
+
+-- those that choose by a draw
+unfoldable pub Chooses : Request → Type 0
+Chooses list′ = ⊥
+Chooses (step′ d) = Unit {0}
+Chooses report′ = ⊥
+Chooses (timed′ ds d) = Unit {0}
+Chooses (save′ n) = ⊥
+Chooses (return′ n) = ⊥
+Chooses (forget′ n) = ⊥
 
 -- 02, note 2: requests that ask 20
 unfoldable pub Names : Request → Type 0
 Names list′ = ⊥
 Names (step′ d) = ⊥
 Names report′ = ⊥
+Names (timed′ ds d) = ⊥
 Names (save′ n) = Unit {0}
 Names (return′ n) = Unit {0}
 Names (forget′ n) = Unit {0}
@@ -51,9 +63,11 @@ pub data Carries : Ask → Answer → Type 0 where
   under14 : {r : Request} → Lists r → Carries (on′ r) (no 14 0 0 zeroed)
   -- a list call that is accepted fills it
   lists : (es : List Entry) → Carries (on′ list′) (listedAs 0 0 es)
-  -- a step fills it, refused under 15 to 19 or accepted
-  under15-19 : {d : ℕ} (n : ℕ) (es : List Entry) → 15 ≤ n → n ≤ 19 → Carries (on′ (step′ d)) (listedAs n 0 es)
-  steps : {d : ℕ} (c : ℕ) (es : List Entry) → Carries (on′ (step′ d)) (listedAs 0 c es)
+  -- a step, timed or not, fills it, refused under 15 to 19 or accepted
+  under15-19 : {r : Request} (n : ℕ) (es : List Entry) → Chooses r → 15 ≤ n → n ≤ 19 → Carries (on′ r) (listedAs n 0 es)
+  steps : {r : Request} (c : ℕ) (es : List Entry) → Chooses r → Carries (on′ r) (listedAs 0 c es)
+  -- 02, note 4: 23 to 25 answer as 19 does
+  under23-25 : {ds : List ℕ} {d : ℕ} (n : ℕ) (es : List Entry) → 23 ≤ n → n ≤ 25 → Carries (on′ (timed′ ds d)) (listedAs n 0 es)
   -- 02, note 6: a report that is accepted carries count and total as a list call does, and its own numbers
   reports : (ns : List ℕ) (es : List Entry) → Carries (on′ report′) (reportedAs ns es)
   -- 02, note 2: save, return and forget carry a number alone; 21 is of a return or forget, 22 of a save

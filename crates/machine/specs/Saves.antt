@@ -1,4 +1,4 @@
--- Named states to come back to (02, note 2): eight places, each empty or with a state under a name; what a save, a return and a forget do to the state and the places.
+-- Named states to come back to (02, note 2), each with the clock of its time (02, note 4): eight places, each empty or with both under a name; what a save, a return and a forget do to state, clock and places.
 -- Assumes nothing: these are definitions.
 use mathlib.Core.Path.{_≡_}
 use mathlib.Core.List.{List, [], _∷_}
@@ -10,7 +10,8 @@ use lib.ListN.{length, set, replicate}
 use Rattle.word.specs.Name.{longest}
 use Rattle.model.specs.Resolved
 use Rattle.model.specs.Good.{Every}
-use Rattle.machine.specs.State.{State, GoodState, stateLength}
+use Rattle.machine.specs.State.{stateLength}
+use Rattle.machine.specs.Timed.{Timed, GoodTimed, clockLength}
 
 -- ---- names
 
@@ -35,13 +36,13 @@ same (x ∷ xs) (y ∷ ys) = eqb x y && same xs ys
 
 -- ---- places
 
--- 02, note 2: processes and pairs under a name
+-- 02, note 2: processes and pairs under a name; 02, note 4: and the clock
 pub record Save : Type 0 where
   pub name : List ℕ
-  pub state : State
+  pub kept : Timed
 
-abbrev pub saved : List ℕ → State → Option Save
-saved n s = some (record { name = n; state = s })
+abbrev pub saved : List ℕ → Timed → Option Save
+saved n t = some (record { name = n; kept = t })
 
 -- 02, note 2: up to eight names
 abbrev pub saveLimit : ℕ
@@ -77,14 +78,14 @@ placeOf n ss = firstOf (named n) ss
 unfoldable pub placeFor : List ℕ → Saves → ℕ
 placeFor n ss = cond (ltb (placeOf n ss) saveLimit) (placeOf n ss) (firstOf isEmpty ss)
 
-unfoldable pub stateOf : Option Save → Option State
-stateOf none = none
-stateOf (some x) = some (x .state)
+unfoldable pub keptOf : Option Save → Option Timed
+keptOf none = none
+keptOf (some x) = some (x .kept)
 
--- the state under a name, if it is known
-unfoldable pub stateUnder : List ℕ → Saves → Option State
-stateUnder n [] = none
-stateUnder n (x ∷ xs) = cond (named n x) (stateOf x) (stateUnder n xs)
+-- what is kept under a name, if it is known
+unfoldable pub keptUnder : List ℕ → Saves → Option Timed
+keptUnder n [] = none
+keptUnder n (x ∷ xs) = cond (named n x) (keptOf x) (keptUnder n xs)
 
 -- ---- lengths (docs/LAYOUT.md)
 
@@ -92,9 +93,13 @@ stateUnder n (x ∷ xs) = cond (named n x) (stateOf x) (stateUnder n xs)
 abbrev pub keyWidth : ℕ
 keyWidth = 2
 
--- 02, note 2: the numbers of a place, free; those of a name, those of a state
+-- the numbers of a state and a clock
+abbrev pub timedLength : ℕ
+timedLength = stateLength + clockLength
+
+-- 02, note 2: the numbers of a place, free; those of a name, those of a state and a clock
 abbrev pub placeWidth : ℕ
-placeWidth = keyWidth + stateLength
+placeWidth = keyWidth + timedLength
 
 -- 02, note 2: the buffer of the saves
 abbrev pub savesLength : ℕ
@@ -117,57 +122,57 @@ unfoldable pub areApart : Saves → Bool
 areApart [] = true
 areApart (x ∷ xs) = isApart x xs && areApart xs
 
--- a save under a name, of a state that has P
-pub record SaveOf (P : State → Type 0) (x : Save) : Type 0 where
+-- a save under a name, of what has P
+pub record SaveOf (P : Timed → Type 0) (x : Save) : Type 0 where
   pub name : isName (x .name) ≡ true
-  pub state : P (x .state)
+  pub kept : P (x .kept)
 
-unfoldable pub PlaceOf : (State → Type 0) → Option Save → Type 0
+unfoldable pub PlaceOf : (Timed → Type 0) → Option Save → Type 0
 PlaceOf P none = Unit {0}
 PlaceOf P (some x) = SaveOf P x
 
--- eight places, whose states have P, no name twice
-pub record SavesOf (P : State → Type 0) (ss : Saves) : Type 0 where
+-- eight places, where all that is kept has P, no name twice
+pub record SavesOf (P : Timed → Type 0) (ss : Saves) : Type 0 where
   pub long : length ss ≡ saveLimit
   pub places : Every (PlaceOf P) ss
   pub apart : areApart ss ≡ true
 
--- 02, note 2, 11: the saves are judged like the state, each state over the model
+-- 02, note 2, 11: the saves are judged like the state, each state over the model, each clock in its range
 abbrev pub GoodSaves : Resolved.Model → Saves → Type 0
-GoodSaves m = SavesOf (GoodState m)
+GoodSaves m = SavesOf (GoodTimed m)
 
 -- ---- save, return, forget, where 1 and 11 have the answer yes
 
--- the number of the answer, and the state and the saves afterwards
+-- the number of the answer, and the state with its clock and the saves afterwards
 pub record Stored : Type 0 where
   pub number : ℕ
-  pub state : State
+  pub kept : Timed
   pub saves : Saves
 
-abbrev pub stored : ℕ → State → Saves → Stored
-stored k s ss = record { number = k; state = s; saves = ss }
+abbrev pub stored : ℕ → Timed → Saves → Stored
+stored k s ss = record { number = k; kept = s; saves = ss }
 
--- 02, note 2: this state under the name, in its place or the first empty one
-unfoldable pub replaced : List ℕ → State → Saves → Saves
+-- 02, note 2: this state, with its clock, under the name, in its place or the first empty one
+unfoldable pub replaced : List ℕ → Timed → Saves → Saves
 replaced n s ss = set ss (placeFor n ss) (saved n s)
 
 -- 02, note 2: the name's place is empty
 unfoldable pub removed : List ℕ → Saves → Saves
 removed n ss = set ss (placeOf n ss) none
 
--- 02, note 2: 20, then 22; else the present state stands under the name
-unfoldable pub saving : List ℕ → State → Saves → Stored
+-- 02, note 2: 20, then 22; else the present state and clock stand under the name
+unfoldable pub saving : List ℕ → Timed → Saves → Stored
 saving n s ss =
     cond (isName n)
     (cond (ltb (placeFor n ss) saveLimit) (stored 0 s (replaced n s ss)) (stored 22 s ss))
     (stored 20 s ss)
 
--- 02, note 2: 20, then 21; else the state under the name is the present one, and every save remains
-unfoldable pub returning : List ℕ → State → Saves → Stored
-returning n s ss = cond (isName n) (Option·elim (stateUnder n ss) (stored 21 s ss) (λ t. stored 0 t ss)) (stored 20 s ss)
+-- 02, note 2: 20, then 21; else the state and the clock under the name are the present ones, and every save remains
+unfoldable pub returning : List ℕ → Timed → Saves → Stored
+returning n s ss = cond (isName n) (Option·elim (keptUnder n ss) (stored 21 s ss) (λ t. stored 0 t ss)) (stored 20 s ss)
 
 -- 02, note 2: 20, then 21; else the name is unknown, and its place can be used
-unfoldable pub forgetting : List ℕ → State → Saves → Stored
+unfoldable pub forgetting : List ℕ → Timed → Saves → Stored
 forgetting n s ss =
     cond (isName n)
     (cond (ltb (placeOf n ss) saveLimit) (stored 0 s (removed n ss)) (stored 21 s ss))

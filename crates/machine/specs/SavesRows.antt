@@ -6,12 +6,12 @@ use mathlib.Core.Option.{none, some, Option·elim}
 use Prim.Native.Nat.{ℕ}
 use lib.IntN.{pos}
 use lib.ListN.{replicate}
-use Rattle.machine.specs.State.{State}
-use Rattle.machine.specs.Saves.{isLetter, areLetters, isName, same, Save, saved, Saves, noSaves, named, isEmpty, firstOf, placeFor, stateOf, stateUnder, isUnknown, isApart, areApart, Stored, stored, replaced, removed, saving, returning, forgetting}
+use Rattle.machine.specs.Timed.{Timed, timed}
+use Rattle.machine.specs.Saves.{isLetter, areLetters, isName, same, Save, saved, Saves, noSaves, named, isEmpty, firstOf, placeFor, keptOf, keptUnder, isUnknown, isApart, areApart, Stored, stored, replaced, removed, saving, returning, forgetting}
 
--- a state of one process with one local
-abbrev state : ℕ → State
-state k = record { processes = record { sum = 0; locals = pos k ∷ []; definition = 0 } ∷ []; pairs = [] }
+-- a state of one process with one local, and a clock
+abbrev state : ℕ → Timed
+state k = timed (record { processes = record { sum = 0; locals = pos k ∷ []; definition = 0 } ∷ []; pairs = [] }) (record { ticks = k; draws = 2 })
 
 -- places 0 to 2 are a, b and c's, with states 1 to 3, the others empty
 abbrev three : Saves
@@ -40,7 +40,7 @@ pub rows :
     -- a save: the first empty place, the name's own place, at eight names too; case counts
     × (saving (100 ∷ []) (state 9) three ≡ stored 0 (state 9) (saved (97 ∷ []) (state 1) ∷ saved (98 ∷ []) (state 2) ∷ saved (99 ∷ []) (state 3) ∷ saved (100 ∷ []) (state 9) ∷ replicate 4 none))
     × (saving (98 ∷ []) (state 9) three ≡ stored 0 (state 9) (saved (97 ∷ []) (state 1) ∷ saved (98 ∷ []) (state 9) ∷ saved (99 ∷ []) (state 3) ∷ replicate 5 none))
-    × (stateUnder (104 ∷ []) (saving (104 ∷ []) (state 9) full .saves) ≡ some (state 9))
+    × (keptUnder (104 ∷ []) (saving (104 ∷ []) (state 9) full .saves) ≡ some (state 9))
     × (saving (72 ∷ []) (state 9) full ≡ stored 22 (state 9) full)
     × (saving (105 ∷ []) (state 9) full ≡ stored 22 (state 9) full)
     × (saving (95 ∷ []) (state 9) full ≡ stored 20 (state 9) full)
@@ -59,5 +59,5 @@ pub rows :
     -- a name that stands twice
     × (areApart full ≡ true)
     × (areApart (saved (97 ∷ []) (state 1) ∷ none ∷ saved (97 ∷ []) (state 2) ∷ []) ≡ false)
-unfolding isLetter areLetters isName same noSaves named isEmpty firstOf placeFor stateOf stateUnder isUnknown isApart areApart replaced removed saving returning forgetting Option·elim
+unfolding isLetter areLetters isName same noSaves named isEmpty firstOf placeFor keptOf keptUnder isUnknown isApart areApart replaced removed saving returning forgetting Option·elim
 rows = (refl, refl, refl, refl, refl, refl, refl, refl, refl, refl, refl, refl, refl, refl, refl, refl, refl, refl, refl, refl, refl, refl, refl, refl, refl, refl, refl, refl, refl, refl)

@@ -2,9 +2,9 @@
 -- that is replaced replaces its place. By induction on the places.
 use mathlib.Core.Path.{_≡_, refl, sym, ap, ap₂, _∙_}
 use mathlib.Core.List.{List, [], _∷_, _++_, map, append-assoc}
-use mathlib.Core.Bool.{Bool, true, false, cond, _&&_}
+use mathlib.Core.Bool.{Bool, true, false, cond}
 use mathlib.Core.Option.{Option, none, some, Option·elim}
-use Prim.Native.Nat.{ℕ, zero, suc, _+_, _*_, _≤_, _<_}
+use Prim.Native.Nat.{ℕ, zero, suc, _+_, _*_, _<_}
 use native.Mathlib.Nat.{suc-mul, zero-mul}
 use native.Mathlib.Omega.{arith}
 use borrow.Author.Tests.{ltb-true, ltb-false, ne-eqb}
@@ -13,13 +13,15 @@ use lib.IntN.{ℤ, pos}
 use lib.ListN.{length, getD, set, take, drop, replicate}
 use lib.Seq.{take-append-add, take-at, drop-at, drop-drop}
 use Rattle.model.specs.Good.{Every}
-use Rattle.machine.specs.State.{State, stateNumbers, flatten}
-use Rattle.machine.specs.Saves.{isName, Save, saved, Saves, saveLimit, placeWidth, named, isEmpty, firstOf, placeOf, placeFor, stateOf, stateUnder, SaveOf, PlaceOf, SavesOf, Stored, stored, replaced, removed, saving, returning, forgetting}
+use Rattle.machine.specs.State.{flatten}
+use Rattle.machine.specs.Timed.{Timed}
+use Rattle.machine.specs.Saves.{isName, Save, saved, Saves, saveLimit, placeWidth, named, isEmpty, firstOf, placeOf, placeFor, keptOf, keptUnder, PlaceOf, SavesOf, stored, replaced, removed, saving, returning, forgetting}
 use Rattle.machine.proofs.Saves.{not-both, first-passes, none-named, under-none, under-place}
-use Rattle.state.specs.Fits.{FewLocals, Fits}
-use Rattle.state.proofs.Image.{numbers-length}
+use Rattle.state.specs.Fits.{FewLocals}
+use Rattle.saves.specs.Kept.{keptNumbers, FitsKept}
+use Rattle.saves.proofs.Kept.{kept-length}
 use Rattle.saves.specs.Keys.{lowOf, highOf, keyNumbers}
-use Rattle.saves.specs.Places.{placeNumbers, savesNumbers, statePart, hasKey, placesOf}
+use Rattle.saves.specs.Places.{placeNumbers, savesNumbers, keptPart, hasKey}
 use Rattle.saves.specs.Change.{placeWith, noKey, placeToTake, rowAt, withRow, written, savingNumbers, returningNumbers, forgettingNumbers, storedNumbers}
 use Rattle.saves.proofs.Names.{low-positive}
 use Rattle.saves.proofs.Places.{whole-part, place-length, key-named, saves-rows}
@@ -81,14 +83,14 @@ module _ {A : Type 0} (f : A → List ℤ) (w : ℕ) (P : A → Type 0) (wide : 
 
 module _ (scopes : List ℕ) (few : FewLocals scopes) (channels : ℕ) where
   abbrev Good : Option Save → Type 0
-  Good = PlaceOf (Fits scopes channels)
+  Good = PlaceOf (FitsKept scopes channels)
 
   empty-row : (x : Option Save) → Good x → hasKey noKey (placeNumbers x) ≡ isEmpty x
   unfolding hasKey placeNumbers isEmpty PlaceOf
   empty-row none g = refl
   empty-row (some x) g = rw (ne-eqb (lowOf (x .name)) 0 (λ (q : lowOf (x .name) ≡ 0). omega (arith, low-positive (x .name) (g .name))))
 
-  module _ (ss : Saves) (g : SavesOf (Fits scopes channels) ss) where
+  module _ (ss : Saves) (g : SavesOf (FitsKept scopes channels) ss) where
     abbrev zs : List ℤ
     zs = savesNumbers ss
 
@@ -118,11 +120,11 @@ module _ (scopes : List ℕ) (few : FewLocals scopes) (channels : ℕ) where
       place-to-take = ap₂ (λ (a b : ℕ). cond (ltb a saveLimit) a b) name-place empty-place
 
       -- the numbers of the state under a known name
-      known-state : (x : Option Save) → Good x → named n x ≡ true → (s : State) × (stateOf x ≡ some s) × (statePart (placeNumbers x) ≡ stateNumbers s)
-      unfolding named stateOf placeNumbers PlaceOf
+      known-state : (x : Option Save) → Good x → named n x ≡ true → (s : Timed) × (keptOf x ≡ some s) × (keptPart (placeNumbers x) ≡ keptNumbers s)
+      unfolding named keptOf placeNumbers PlaceOf
       known-state none k t = not-both true refl (sym t)
       known-state (some x) k t =
-          (x .state, refl, whole-part (pos (lowOf (x .name))) (pos (highOf (x .name))) (stateNumbers (x .state)) (numbers-length scopes few channels (x .state) (k .state)))
+          (x .kept, refl, whole-part (pos (lowOf (x .name))) (pos (highOf (x .name))) (keptNumbers (x .kept)) (kept-length scopes few channels (x .kept) (k .kept)))
 
       good-at : (xs : Saves) (i : ℕ) → Every Good xs → Good (getD xs i none)
       unfolding Every PlaceOf
@@ -131,65 +133,65 @@ module _ (scopes : List ℕ) (few : FewLocals scopes) (channels : ℕ) where
       good-at (x ∷ xs) zero h = h .0
       good-at (x ∷ xs) (suc i) h = good-at xs i (h .1)
 
-      known : placeOf n ss < saveLimit → (s : State) × (stateUnder n ss ≡ some s) × (statePart (rowAt (placeOf n ss) zs) ≡ stateNumbers s)
+      known : placeOf n ss < saveLimit → (s : Timed) × (keptUnder n ss ≡ some s) × (keptPart (rowAt (placeOf n ss) zs) ≡ keptNumbers s)
       known h =
           let x = getD ss (placeOf n ss) none in
           let u = known-state x (good-at ss (placeOf n ss) (g .places)) (first-passes (named n) ss none (omega (arith, g .long))) in
-          (u .0, under-place n ss ∙ u .1, ap statePart (row-get (placeOf n ss) h) ∙ u .2)
+          (u .0, under-place n ss ∙ u .1, ap keptPart (row-get (placeOf n ss) h) ∙ u .2)
 
     -- ---- the three turns
 
-    module _ (n : List ℕ) (s : State) where
-      pub saving-numbers : savingNumbers n (stateNumbers s) zs ≡ storedNumbers (saving n s ss)
+    module _ (n : List ℕ) (s : Timed) where
+      pub saving-numbers : savingNumbers n (keptNumbers s) zs ≡ storedNumbers (saving n s ss)
       unfolding savingNumbers saving replaced storedNumbers placeNumbers
       saving-numbers = by (isName n) refl
         where
           at-place : (c : Bool) → ltb (placeFor n ss) saveLimit ≡ c
-              → cond c (written 0 (stateNumbers s) (withRow (placeFor n ss) (keyNumbers n ++ stateNumbers s) zs)) (written 22 (stateNumbers s) zs)
+              → cond c (written 0 (keptNumbers s) (withRow (placeFor n ss) (keyNumbers n ++ keptNumbers s) zs)) (written 22 (keptNumbers s) zs)
               ≡ storedNumbers (cond c (stored 0 s (set ss (placeFor n ss) (saved n s))) (stored 22 s ss))
-          at-place true f = ap (λ (l : List ℤ). written 0 (stateNumbers s) l) (row-set (placeFor n ss) (saved n s) (ltb-true _ _ f))
+          at-place true f = ap (λ (l : List ℤ). written 0 (keptNumbers s) l) (row-set (placeFor n ss) (saved n s) (ltb-true _ _ f))
           at-place false f = refl
 
           by : (b : Bool) → isName n ≡ b
-              → cond b (cond (ltb (placeToTake (keyNumbers n) zs) saveLimit) (written 0 (stateNumbers s) (withRow (placeToTake (keyNumbers n) zs) (keyNumbers n ++ stateNumbers s) zs)) (written 22 (stateNumbers s) zs)) (written 20 (stateNumbers s) zs)
+              → cond b (cond (ltb (placeToTake (keyNumbers n) zs) saveLimit) (written 0 (keptNumbers s) (withRow (placeToTake (keyNumbers n) zs) (keyNumbers n ++ keptNumbers s) zs)) (written 22 (keptNumbers s) zs)) (written 20 (keptNumbers s) zs)
               ≡ storedNumbers (cond b (cond (ltb (placeFor n ss) saveLimit) (stored 0 s (set ss (placeFor n ss) (saved n s))) (stored 22 s ss)) (stored 20 s ss))
           by true e =
-              ap (λ (k : ℕ). cond (ltb k saveLimit) (written 0 (stateNumbers s) (withRow k (keyNumbers n ++ stateNumbers s) zs)) (written 22 (stateNumbers s) zs)) (place-to-take n e)
+              ap (λ (k : ℕ). cond (ltb k saveLimit) (written 0 (keptNumbers s) (withRow k (keyNumbers n ++ keptNumbers s) zs)) (written 22 (keptNumbers s) zs)) (place-to-take n e)
               ∙ at-place (ltb (placeFor n ss) saveLimit) refl
           by false e = refl
 
-      pub forgetting-numbers : forgettingNumbers n (stateNumbers s) zs ≡ storedNumbers (forgetting n s ss)
+      pub forgetting-numbers : forgettingNumbers n (keptNumbers s) zs ≡ storedNumbers (forgetting n s ss)
       unfolding forgettingNumbers forgetting removed storedNumbers placeNumbers
       forgetting-numbers = by (isName n) refl
         where
           at-place : (c : Bool) → ltb (placeOf n ss) saveLimit ≡ c
-              → cond c (written 0 (stateNumbers s) (withRow (placeOf n ss) (replicate placeWidth (pos 0)) zs)) (written 21 (stateNumbers s) zs)
+              → cond c (written 0 (keptNumbers s) (withRow (placeOf n ss) (replicate placeWidth (pos 0)) zs)) (written 21 (keptNumbers s) zs)
               ≡ storedNumbers (cond c (stored 0 s (set ss (placeOf n ss) none)) (stored 21 s ss))
-          at-place true f = ap (λ (l : List ℤ). written 0 (stateNumbers s) l) (row-set (placeOf n ss) none (ltb-true _ _ f))
+          at-place true f = ap (λ (l : List ℤ). written 0 (keptNumbers s) l) (row-set (placeOf n ss) none (ltb-true _ _ f))
           at-place false f = refl
 
           by : (b : Bool) → isName n ≡ b
-              → cond b (cond (ltb (placeWith (keyNumbers n) zs) saveLimit) (written 0 (stateNumbers s) (withRow (placeWith (keyNumbers n) zs) (replicate placeWidth (pos 0)) zs)) (written 21 (stateNumbers s) zs)) (written 20 (stateNumbers s) zs)
+              → cond b (cond (ltb (placeWith (keyNumbers n) zs) saveLimit) (written 0 (keptNumbers s) (withRow (placeWith (keyNumbers n) zs) (replicate placeWidth (pos 0)) zs)) (written 21 (keptNumbers s) zs)) (written 20 (keptNumbers s) zs)
               ≡ storedNumbers (cond b (cond (ltb (placeOf n ss) saveLimit) (stored 0 s (set ss (placeOf n ss) none)) (stored 21 s ss)) (stored 20 s ss))
           by true e =
-              ap (λ (k : ℕ). cond (ltb k saveLimit) (written 0 (stateNumbers s) (withRow k (replicate placeWidth (pos 0)) zs)) (written 21 (stateNumbers s) zs)) (name-place n e)
+              ap (λ (k : ℕ). cond (ltb k saveLimit) (written 0 (keptNumbers s) (withRow k (replicate placeWidth (pos 0)) zs)) (written 21 (keptNumbers s) zs)) (name-place n e)
               ∙ at-place (ltb (placeOf n ss) saveLimit) refl
           by false e = refl
 
-      pub returning-numbers : returningNumbers n (stateNumbers s) zs ≡ storedNumbers (returning n s ss)
+      pub returning-numbers : returningNumbers n (keptNumbers s) zs ≡ storedNumbers (returning n s ss)
       unfolding returningNumbers returning storedNumbers Option·elim
       returning-numbers = by (isName n) refl
         where
           at-place : isName n ≡ true → (c : Bool) → ltb (placeOf n ss) saveLimit ≡ c
-              → cond c (written 0 (statePart (rowAt (placeOf n ss) zs)) zs) (written 21 (stateNumbers s) zs)
-              ≡ storedNumbers (Option·elim (stateUnder n ss) (stored 21 s ss) (λ t. stored 0 t ss))
+              → cond c (written 0 (keptPart (rowAt (placeOf n ss) zs)) zs) (written 21 (keptNumbers s) zs)
+              ≡ storedNumbers (Option·elim (keptUnder n ss) (stored 21 s ss) (λ t. stored 0 t ss))
           at-place e true f = let k = known n e (ltb-true _ _ f) in rw (k .1) (ap (λ (l : List ℤ). written 0 l zs) (k .2))
           at-place e false f = rw (under-none n ss (none-named n ss (omega (arith, g .long, ltb-false (placeOf n ss) saveLimit f))))
 
           by : (b : Bool) → isName n ≡ b
-              → cond b (cond (ltb (placeWith (keyNumbers n) zs) saveLimit) (written 0 (statePart (rowAt (placeWith (keyNumbers n) zs) zs)) zs) (written 21 (stateNumbers s) zs)) (written 20 (stateNumbers s) zs)
-              ≡ storedNumbers (cond b (Option·elim (stateUnder n ss) (stored 21 s ss) (λ t. stored 0 t ss)) (stored 20 s ss))
+              → cond b (cond (ltb (placeWith (keyNumbers n) zs) saveLimit) (written 0 (keptPart (rowAt (placeWith (keyNumbers n) zs) zs)) zs) (written 21 (keptNumbers s) zs)) (written 20 (keptNumbers s) zs)
+              ≡ storedNumbers (cond b (Option·elim (keptUnder n ss) (stored 21 s ss) (λ t. stored 0 t ss)) (stored 20 s ss))
           by true e =
-              ap (λ (k : ℕ). cond (ltb k saveLimit) (written 0 (statePart (rowAt k zs)) zs) (written 21 (stateNumbers s) zs)) (name-place n e)
+              ap (λ (k : ℕ). cond (ltb k saveLimit) (written 0 (keptPart (rowAt k zs)) zs) (written 21 (keptNumbers s) zs)) (name-place n e)
               ∙ at-place e (ltb (placeOf n ss) saveLimit) refl
           by false e = refl

@@ -1,30 +1,30 @@
 -- What the loops over letters, words and places say at each turn, and each case of the other functions: from the definitions.
 use mathlib.Core.Path.{_≡_, refl, sym, ap, ap₂, _∙_}
-use mathlib.Core.Bool.{Bool, true, false, cond, not, _&&_, _||_}
+use mathlib.Core.Bool.{Bool, true, false, cond, not, _&&_}
 use mathlib.Core.List.{List, [], _∷_, _++_, append-nil}
 use Prim.Native.Nat.{ℕ, zero, suc, _+_, _-_, _*_, _/_, _%_, _≤_, _<_, _^_}
 use native.Mathlib.Nat.{pow-suc}
 use native.Mathlib.Omega.{arith}
-use borrow.Author.Tests.{eqb-true, eqb-false, eq-eqb, ne-eqb, ltb-true, le-leb, lt-leb, lt-ltb, le-ltb}
+use borrow.Author.Tests.{eq-eqb, ne-eqb, ltb-true, le-leb, lt-leb, lt-ltb, le-ltb}
 use borrow.Rule.Slice.PartMut.{putMid}
-use lib.Dec.{eqb, leb, ltb, eqb·suc-suc}
+use lib.Dec.{eqb, leb, eqb·suc-suc}
 use lib.IntN.{ℤ, pos, negsuc, natAbs}
 use lib.Signed.{ltZ}
-use lib.ListN.{length, getD, set, take, drop, replicate, drop-of-length-le, length-take, length-drop, length-append}
+use lib.ListN.{length, set, take, drop, replicate, drop-of-length-le, length-take, length-drop, length-append}
 use lib.Seq.{take-all, take-at, take-nil, getD-take, drop-drop}
 use mir.Syntax.{w64}
 use mir.Val.{ofZ, toZ}
 use Rattle.value.specs.Arithmetic.{isSame}
 use Rattle.value.proofs.Kit.{true-not-false, back}
 use Rattle.word.specs.Name.{longest, wordBytes, pack}
-use Rattle.machine.specs.State.{stateLength}
-use Rattle.machine.specs.Saves.{isLetter, areLetters, isName, firstOf, saveLimit, keyWidth, placeWidth, savesLength}
-use Rattle.state.specs.Test.{every, rows, at, isZero, isState}
+use Rattle.machine.specs.Saves.{isLetter, isName, firstOf, saveLimit, keyWidth, timedLength, placeWidth, savesLength}
+use Rattle.state.specs.Test.{every, rows, at, isZero}
 use Rattle.state.proofs.Part.{tail-part, next-row}
 use Rattle.state.proofs.Rows.{rows-length}
 use Rattle.state.proofs.Tests.{both, rows-next, rows-none}
 use Rattle.saves.specs.Keys.{isWord, isSecond, isKey, isKeyOf, fullWord, keyNumbers}
-use Rattle.saves.specs.Places.{hasKey, isPlace, isOnce, areOnce, placesOf, isSaves, statePart}
+use Rattle.saves.specs.Kept.{isKept}
+use Rattle.saves.specs.Places.{hasKey, isPlace, isOnce, areOnce, placesOf, isSaves, keptPart}
 use Rattle.saves.specs.Change.{placeWith, noKey, placeToTake, rowAt, withRow, written, savingNumbers, returningNumbers, forgettingNumbers, Stores}
 use Rattle.saves.proofs.Names.{letters-every, letter-is, name-is, every-take, every-drop}
 
@@ -252,7 +252,7 @@ module _ (scopes : List ℕ) (channels : ℕ) (r : List ℤ) where
     unfolding isPlace isZero
     place-bad f = rw (e, f)
 
-    pub place-full : isKeyOf (at r 0) (at r 1) ≡ true → isPlace scopes channels r ≡ isState scopes channels (statePart r)
+    pub place-full : isKeyOf (at r 0) (at r 1) ≡ true → isPlace scopes channels r ≡ isKept scopes channels (keptPart r)
     unfolding isPlace isZero
     place-full f = rw (e, f)
 
@@ -332,15 +332,15 @@ row-end k w p ss = ap (take w) (sym (drop-drop k p ss)) ∙ sym (take-twice w (d
 module _ (n : List ℕ) (zs ss : List ℤ) where
   pub save-unnamed : isName n ≡ false → Stores (savingNumbers n zs ss) 20 zs ss
   unfolding savingNumbers
-  save-unnamed e = rw e (record { number = refl; state = refl; saves = refl })
+  save-unnamed e = rw e (record { number = refl; kept = refl; saves = refl })
 
   pub return-unnamed : isName n ≡ false → Stores (returningNumbers n zs ss) 20 zs ss
   unfolding returningNumbers
-  return-unnamed e = rw e (record { number = refl; state = refl; saves = refl })
+  return-unnamed e = rw e (record { number = refl; kept = refl; saves = refl })
 
   pub forget-unnamed : isName n ≡ false → Stores (forgettingNumbers n zs ss) 20 zs ss
   unfolding forgettingNumbers
-  forget-unnamed e = rw e (record { number = refl; state = refl; saves = refl })
+  forget-unnamed e = rw e (record { number = refl; kept = refl; saves = refl })
 
   module _ (e : isName n ≡ true) (key : List ℤ) (q : key ≡ keyNumbers n) (i : ℕ) where
     module _ (f : i ≡ placeToTake key ss) where
@@ -349,7 +349,7 @@ module _ (n : List ℕ) (zs ss : List ℤ) where
 
       pub save-full : saveLimit ≤ i → Stores (savingNumbers n zs ss) 22 zs ss
       unfolding savingNumbers
-      save-full h = rw (e, place-is, le-ltb i saveLimit h) (record { number = refl; state = refl; saves = refl })
+      save-full h = rw (e, place-is, le-ltb i saveLimit h) (record { number = refl; kept = refl; saves = refl })
 
       pub save-put : i < saveLimit → (row : List ℤ) → row ≡ key ++ zs → (m : ℕ) → m ≡ placeWidth → Stores (savingNumbers n zs ss) 0 zs (putMid (i * placeWidth) m ss row)
       unfolding savingNumbers withRow
@@ -357,7 +357,7 @@ module _ (n : List ℕ) (zs ss : List ℤ) where
           rw (e, place-is, lt-ltb i saveLimit h)
           (record {
             number = refl;
-            state = refl;
+            kept = refl;
             saves =
                 ap₂ (λ (l : List ℤ) (k : ℕ). take (i * placeWidth) ss ++ (l ++ drop k (drop (i * placeWidth) ss))) (r ∙ ap (λ (k : List ℤ). k ++ zs) q) w
                 ∙ ap (λ (l : List ℤ). take (i * placeWidth) ss ++ ((keyNumbers n ++ zs) ++ l)) (drop-drop placeWidth (i * placeWidth) ss);
@@ -369,25 +369,25 @@ module _ (n : List ℕ) (zs ss : List ℤ) where
 
       pub return-unknown : saveLimit ≤ i → Stores (returningNumbers n zs ss) 21 zs ss
       unfolding returningNumbers
-      return-unknown h = rw (e, name-is-at, le-ltb i saveLimit h) (record { number = refl; state = refl; saves = refl })
+      return-unknown h = rw (e, name-is-at, le-ltb i saveLimit h) (record { number = refl; kept = refl; saves = refl })
 
-      pub return-put : i < saveLimit → length zs ≡ stateLength → (m : ℕ) → m ≡ stateLength → (zs′ : List ℤ) → zs′ ≡ take stateLength (take m (drop (i * placeWidth + keyWidth) ss)) ++ drop stateLength zs
+      pub return-put : i < saveLimit → length zs ≡ timedLength → (m : ℕ) → m ≡ timedLength → (zs′ : List ℤ) → zs′ ≡ take timedLength (take m (drop (i * placeWidth + keyWidth) ss)) ++ drop timedLength zs
           → Stores (returningNumbers n zs ss) 0 zs′ ss
       unfolding returningNumbers rowAt
       return-put h l m w zs′ g =
           rw (e, name-is-at, lt-ltb i saveLimit h)
           (record {
             number = refl;
-            state =
-                g ∙ ap₂ (λ (a b : List ℤ). a ++ b) (ap (λ (k : ℕ). take stateLength (take k (drop (i * placeWidth + keyWidth) ss))) w ∙ take-all stateLength (take stateLength (drop (i * placeWidth + keyWidth) ss)) (simp length-take (omega arith))) (drop-of-length-le zs {i = stateLength} (omega arith))
-                ∙ append-nil (take stateLength (drop (i * placeWidth + keyWidth) ss))
-                ∙ row-end keyWidth stateLength (i * placeWidth) ss;
+            kept =
+                g ∙ ap₂ (λ (a b : List ℤ). a ++ b) (ap (λ (k : ℕ). take timedLength (take k (drop (i * placeWidth + keyWidth) ss))) w ∙ take-all timedLength (take timedLength (drop (i * placeWidth + keyWidth) ss)) (simp length-take (omega arith))) (drop-of-length-le zs {i = timedLength} (omega arith))
+                ∙ append-nil (take timedLength (drop (i * placeWidth + keyWidth) ss))
+                ∙ row-end keyWidth timedLength (i * placeWidth) ss;
             saves = refl;
           })
 
       pub forget-unknown : saveLimit ≤ i → Stores (forgettingNumbers n zs ss) 21 zs ss
       unfolding forgettingNumbers
-      forget-unknown h = rw (e, name-is-at, le-ltb i saveLimit h) (record { number = refl; state = refl; saves = refl })
+      forget-unknown h = rw (e, name-is-at, le-ltb i saveLimit h) (record { number = refl; kept = refl; saves = refl })
 
       pub forget-put : i < saveLimit → length ss ≡ savesLength → (m : ℕ) → m ≡ placeWidth → (row : List ℤ) → row ≡ replicate (length (take m (drop (i * placeWidth) ss))) (pos 0)
           → Stores (forgettingNumbers n zs ss) 0 zs (putMid (i * placeWidth) m ss row)
@@ -397,7 +397,7 @@ module _ (n : List ℕ) (zs ss : List ℤ) where
           rw (e, name-is-at, lt-ltb i saveLimit h)
           (record {
             number = refl;
-            state = refl;
+            kept = refl;
             saves =
                 ap₂ (λ (l : List ℤ) (k : ℕ). take (i * placeWidth) ss ++ (l ++ drop k (drop (i * placeWidth) ss))) (r ∙ ap (λ (j : ℕ). replicate j (pos 0)) k) w
                 ∙ ap (λ (l : List ℤ). take (i * placeWidth) ss ++ (replicate placeWidth (pos 0) ++ l)) (drop-drop placeWidth (i * placeWidth) ss);

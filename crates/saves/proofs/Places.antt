@@ -4,27 +4,27 @@ use mathlib.Core.List.{List, [], _∷_, _++_, map, append-nil}
 use mathlib.Core.Bool.{Bool, true, false, cond, not, _&&_}
 use mathlib.Core.Logic.{_↔_}
 use mathlib.Core.Option.{Option, none, some}
-use Prim.Native.Nat.{ℕ, zero, suc, _+_, _*_, _≤_, _<_}
+use Prim.Native.Nat.{ℕ, zero, suc, _+_, _*_}
 use native.Mathlib.Nat.{suc-mul, zero-mul}
 use native.Mathlib.Omega.{arith}
 use lib.Dec.{eqb}
 use lib.IntN.{ℤ, pos, negsuc, natAbs}
-use lib.ListN.{length, getD, take, drop, replicate, length-map, length-replicate, replicate-append-replicate, length-drop}
+use lib.ListN.{length, replicate, length-map, length-replicate, replicate-append-replicate}
 use lib.Seq.{take-all}
 use borrow.Author.Tests.{eqb-true, ne-eqb, eq-eqb}
-use Rattle.value.specs.Arithmetic.{isSame}
 use Rattle.model.specs.Good.{Every}
-use Rattle.machine.specs.State.{State, stateLength, stateNumbers, flatten}
-use Rattle.machine.specs.Saves.{isName, same, Save, Saves, noSaves, saveLimit, keyWidth, placeWidth, savesLength, named, isUnknown, isApart, areApart, SaveOf, PlaceOf, SavesOf}
+use Rattle.machine.specs.State.{flatten}
+use Rattle.machine.specs.Timed.{Timed}
+use Rattle.machine.specs.Saves.{isName, same, Save, Saves, noSaves, saveLimit, timedLength, placeWidth, savesLength, named, isUnknown, isApart, areApart, PlaceOf, SavesOf}
 use Rattle.machine.proofs.Saves.{not-both, same-eq, same-refl}
-use Rattle.state.specs.Decode.{decode}
-use Rattle.state.specs.Fits.{FewLocals, Fits}
-use Rattle.state.specs.Test.{every, rows, at, isZero, isState}
+use Rattle.state.specs.Fits.{FewLocals}
+use Rattle.state.specs.Test.{every, rows, at, isZero}
 use Rattle.state.proofs.Tests.{both}
 use Rattle.state.proofs.Rows.{zeros, zero-every, rows-flatten, flatten-length, map-back, Row, rows-wide, join-rows, rows-length}
-use Rattle.state.proofs.Image.{numbers-length, numbers-pass, decode-back, decode-fits, decode-numbers}
-use Rattle.saves.specs.Keys.{isKey, nameIn, lowOf, highOf, keyNumbers, isKeyOf}
-use Rattle.saves.specs.Places.{placeNumbers, savesNumbers, statePart, isPlace, hasKey, isOnce, areOnce, placesOf, isSaves, placeIn, savesIn}
+use Rattle.saves.specs.Kept.{keptNumbers, isKept, keptIn, FitsKept}
+use Rattle.saves.proofs.Kept.{kept-length, kept-passes, kept-back, kept-fits, kept-numbers}
+use Rattle.saves.specs.Keys.{nameIn, lowOf, highOf, keyNumbers, isKeyOf}
+use Rattle.saves.specs.Places.{placeNumbers, savesNumbers, keptPart, isPlace, hasKey, isOnce, areOnce, placesOf, isSaves, placeIn, savesIn}
 use Rattle.saves.proofs.Names.{and-true, name-back, name-passes, low-positive, Key, key-is}
 
 -- empty places, one after the other, are zeros
@@ -43,20 +43,20 @@ full-place : (n : List ℕ) → isName n ≡ true → isZero (pos (lowOf n)) ≡
 unfolding isZero
 full-place n e = ne-eqb (lowOf n) 0 (λ (q : lowOf n ≡ 0). omega (arith, low-positive n e))
 
--- a state's numbers fill a place after its name
-pub whole-part : (y z : ℤ) (zs : List ℤ) → length zs ≡ stateLength → statePart (y ∷ z ∷ zs) ≡ zs
-whole-part y z zs l = take-all stateLength zs (omega arith)
+-- the numbers of a state and a clock fill a place after its name
+pub whole-part : (y z : ℤ) (zs : List ℤ) → length zs ≡ timedLength → keptPart (y ∷ z ∷ zs) ≡ zs
+whole-part y z zs l = take-all timedLength zs (omega arith)
 
 module _ (scopes : List ℕ) (few : FewLocals scopes) (channels : ℕ) where
   abbrev Good : Option Save → Type 0
-  Good = PlaceOf (Fits scopes channels)
+  Good = PlaceOf (FitsKept scopes channels)
 
   -- ---- places
 
   pub place-length : (x : Option Save) → Good x → length (placeNumbers x) ≡ placeWidth
   unfolding placeNumbers PlaceOf
   place-length none g = length-replicate placeWidth (pos 0)
-  place-length (some x) g = ap (λ (k : ℕ). suc (suc k)) (numbers-length scopes few channels (x .state) (g .state))
+  place-length (some x) g = ap (λ (k : ℕ). suc (suc k)) (kept-length scopes few channels (x .kept) (g .kept))
 
   zeros-pass : (r : List ℤ) → at r 0 ≡ pos 0 → every isZero r ≡ true → isPlace scopes channels r ≡ true
   unfolding isPlace isZero
@@ -68,17 +68,17 @@ module _ (scopes : List ℕ) (few : FewLocals scopes) (channels : ℕ) where
   place-passes (some x) g =
       rw (full-place (x .name) (g .name))
       (and-true (name-passes (x .name) (g .name))
-      (ap (isState scopes channels) (whole-part (pos (lowOf (x .name))) (pos (highOf (x .name))) (stateNumbers (x .state)) (numbers-length scopes few channels (x .state) (g .state)))
-      ∙ numbers-pass scopes few channels (x .state) (g .state)))
+      (ap (isKept scopes channels) (whole-part (pos (lowOf (x .name))) (pos (highOf (x .name))) (keptNumbers (x .kept)) (kept-length scopes few channels (x .kept) (g .kept)))
+      ∙ kept-passes scopes few channels (x .kept) (g .kept)))
 
   pub place-back : (x : Option Save) → Good x → placeIn scopes (placeNumbers x) ≡ x
   unfolding placeNumbers PlaceOf placeIn isZero
   place-back none g = refl
   place-back (some x) g =
       rw (full-place (x .name) (g .name))
-      (ap₂ (λ (n : List ℕ) (s : State). some (record { name = n; state = s })) (name-back (x .name) (g .name))
-      (ap (decode scopes) (whole-part (pos (lowOf (x .name))) (pos (highOf (x .name))) (stateNumbers (x .state)) (numbers-length scopes few channels (x .state) (g .state)))
-      ∙ decode-back scopes few channels (x .state) (g .state)))
+      (ap₂ (λ (n : List ℕ) (t : Timed). some (record { name = n; kept = t })) (name-back (x .name) (g .name))
+      (ap (keptIn scopes) (whole-part (pos (lowOf (x .name))) (pos (highOf (x .name))) (keptNumbers (x .kept)) (kept-length scopes few channels (x .kept) (g .kept)))
+      ∙ kept-back scopes few channels (x .kept) (g .kept)))
 
   -- what a row that passes is
   pub record Place (r : List ℤ) : Type 0 where
@@ -97,16 +97,16 @@ module _ (scopes : List ℕ) (few : FewLocals scopes) (channels : ℕ) where
   place-is (y ∷ []) l e = absurd (omega arith)
   place-is (y ∷ z ∷ zs) l e = by (isZero y) refl e
     where
-      by : (b : Bool) → isZero y ≡ b → cond b (every isZero (y ∷ z ∷ zs)) (isKeyOf y z && isState scopes channels (statePart (y ∷ z ∷ zs))) ≡ true → Place (y ∷ z ∷ zs)
+      by : (b : Bool) → isZero y ≡ b → cond b (every isZero (y ∷ z ∷ zs)) (isKeyOf y z && isKept scopes channels (keptPart (y ∷ z ∷ zs))) ≡ true → Place (y ∷ z ∷ zs)
       by true f e = record { good = rw f tt; numbers = rw f (sym (zeros (y ∷ z ∷ zs) e ∙ ap (λ (k : ℕ). replicate k (pos 0)) l)) }
       by false f e =
           let q = both (isKeyOf y z) _ e in
           let k = key-of y z (q .0) in
           let w = whole-part y z zs (omega arith) in
-          let n : length (statePart (y ∷ z ∷ zs)) ≡ stateLength = ap length w ∙ omega arith in
+          let n : length (keptPart (y ∷ z ∷ zs)) ≡ timedLength = ap length w ∙ omega arith in
           record {
-            good = rw f (record { name = k .0 .name; state = decode-fits scopes few channels (statePart (y ∷ z ∷ zs)) n (q .1) });
-            numbers = rw f (λ i. sym (k .1 ∙ ap pos (sym (k .0 .low))) i ∷ sym (k .2 ∙ ap pos (sym (k .0 .high))) i ∷ (decode-numbers scopes few channels (statePart (y ∷ z ∷ zs)) n (q .1) ∙ w) i);
+            good = rw f (record { name = k .0 .name; kept = kept-fits scopes few channels (keptPart (y ∷ z ∷ zs)) n (q .1) });
+            numbers = rw f (λ i. sym (k .1 ∙ ap pos (sym (k .0 .low))) i ∷ sym (k .2 ∙ ap pos (sym (k .0 .high))) i ∷ (kept-numbers scopes few channels (keptPart (y ∷ z ∷ zs)) n (q .1) ∙ w) i);
           }
 
   -- ---- names stand once
@@ -154,7 +154,7 @@ module _ (scopes : List ℕ) (few : FewLocals scopes) (channels : ℕ) where
   every-passes [] g = refl
   every-passes (x ∷ xs) g = and-true (place-passes x (g .0)) (every-passes xs (g .1))
 
-  module _ (ss : Saves) (g : SavesOf (Fits scopes channels) ss) where
+  module _ (ss : Saves) (g : SavesOf (FitsKept scopes channels) ss) where
     pub saves-length : length (savesNumbers ss) ≡ savesLength
     unfolding savesNumbers
     saves-length = flatten-length placeNumbers placeWidth Good place-length ss (g .places) ∙ ap (λ (k : ℕ). k * placeWidth) (g .long)
@@ -188,7 +188,7 @@ module _ (scopes : List ℕ) (few : FewLocals scopes) (channels : ℕ) where
     unfolding isSaves
     rows-are = places-are (placesOf zs) (rows-wide (isPlace scopes channels) placeWidth saveLimit zs (omega arith) (both (every (isPlace scopes channels) (placesOf zs)) _ e .0))
 
-    pub saves-good : SavesOf (Fits scopes channels) (savesIn scopes zs)
+    pub saves-good : SavesOf (FitsKept scopes channels) (savesIn scopes zs)
     unfolding isSaves savesIn
     saves-good = record {
       long = length-map (placesOf zs) (placeIn scopes) ∙ rows-length placeWidth saveLimit zs;
@@ -201,7 +201,7 @@ module _ (scopes : List ℕ) (few : FewLocals scopes) (channels : ℕ) where
     saves-numbers = join-rows placeNumbers placeWidth saveLimit zs (map (placeIn scopes) (placesOf zs)) (rows-are .1) ∙ take-all (saveLimit * placeWidth) zs (omega arith)
 
   -- 02, note 2, 11: the test is exact
-  pub is-saves : (zs : List ℤ) → length zs ≡ savesLength → (isSaves scopes channels zs ≡ true) ↔ ((ss : Saves) × SavesOf (Fits scopes channels) ss × (savesNumbers ss ≡ zs))
+  pub is-saves : (zs : List ℤ) → length zs ≡ savesLength → (isSaves scopes channels zs ≡ true) ↔ ((ss : Saves) × SavesOf (FitsKept scopes channels) ss × (savesNumbers ss ≡ zs))
   is-saves zs l = (
     λ e. (savesIn scopes zs, saves-good zs l e, saves-numbers zs l e),
     λ w. rw (w .2) at (saves-pass (w .0) (w .1)),

@@ -1,4 +1,4 @@
--- What a save, a return and a forget make of the numbers of a state and of the saves (02, note 2). Definitions only.
+-- What a save, a return and a forget make of the numbers of a state with its clock, zs, and of the saves (02, notes 2 and 4). Definitions only.
 use mathlib.Core.Path.{_≡_}
 use mathlib.Core.List.{List, [], _∷_, _++_}
 use mathlib.Core.Bool.{Bool, true, cond}
@@ -6,10 +6,10 @@ use Prim.Native.Nat.{ℕ, _+_, _*_}
 use lib.Dec.{ltb}
 use lib.IntN.{ℤ, pos}
 use lib.ListN.{take, drop, replicate}
-use Rattle.machine.specs.State.{stateNumbers}
 use Rattle.machine.specs.Saves.{isName, firstOf, saveLimit, placeWidth, Stored}
+use Rattle.saves.specs.Kept.{keptNumbers}
 use Rattle.saves.specs.Keys.{keyNumbers}
-use Rattle.saves.specs.Places.{hasKey, placesOf, statePart, savesNumbers}
+use Rattle.saves.specs.Places.{hasKey, placesOf, keptPart, savesNumbers}
 
 -- whether a lent name is one, and then its two numbers
 pub record KeyPut (n : List ℕ) (r : Bool) (key : List ℤ) : Type 0 where
@@ -35,14 +35,14 @@ rowAt i ss = take placeWidth (drop (i * placeWidth) ss)
 unfoldable pub withRow : ℕ → List ℤ → List ℤ → List ℤ
 withRow i row ss = take (i * placeWidth) ss ++ (row ++ drop (i * placeWidth + placeWidth) ss)
 
--- the number of the answer, and the numbers of the state and of the saves afterwards
+-- the number of the answer, and the numbers of the state with its clock and of the saves afterwards
 pub record Written : Type 0 where
   pub number : ℕ
-  pub state : List ℤ
+  pub kept : List ℤ
   pub saves : List ℤ
 
 abbrev pub written : ℕ → List ℤ → List ℤ → Written
-written k zs ss = record { number = k; state = zs; saves = ss }
+written k zs ss = record { number = k; kept = zs; saves = ss }
 
 -- 02, note 2, save
 unfoldable pub savingNumbers : List ℕ → List ℤ → List ℤ → Written
@@ -55,7 +55,7 @@ savingNumbers n zs ss =
 unfoldable pub returningNumbers : List ℕ → List ℤ → List ℤ → Written
 returningNumbers n zs ss =
     cond (isName n)
-    (cond (ltb (placeWith (keyNumbers n) ss) saveLimit) (written 0 (statePart (rowAt (placeWith (keyNumbers n) ss) ss)) ss) (written 21 zs ss))
+    (cond (ltb (placeWith (keyNumbers n) ss) saveLimit) (written 0 (keptPart (rowAt (placeWith (keyNumbers n) ss) ss)) ss) (written 21 zs ss))
     (written 20 zs ss)
 
 -- 02, note 2, forget
@@ -67,10 +67,10 @@ forgettingNumbers n zs ss =
 
 -- the numbers of what the rule machine's turn leaves
 unfoldable pub storedNumbers : Stored → Written
-storedNumbers x = written (x .number) (stateNumbers (x .state)) (savesNumbers (x .saves))
+storedNumbers x = written (x .number) (keptNumbers (x .kept)) (savesNumbers (x .saves))
 
 -- the parts of what is written
 pub record Stores (w : Written) (r : ℕ) (zs ss : List ℤ) : Type 0 where
   pub number : r ≡ w .number
-  pub state : zs ≡ w .state
+  pub kept : zs ≡ w .kept
   pub saves : ss ≡ w .saves

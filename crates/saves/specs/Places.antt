@@ -1,4 +1,4 @@
--- The buffer of the saves: eight places of one width, each all zero or a name in two numbers and then a state's (02, note 2; docs/LAYOUT.md). Its exact test, and the saves that
+-- The buffer of the saves: eight places of one width, each all zero or a name in two numbers, then a state's, then a clock's two (02, notes 2 and 4; docs/LAYOUT.md). Its exact test, and the saves that
 -- it holds. Definitions only.
 use mathlib.Core.List.{List, [], _∷_, _++_, map}
 use mathlib.Core.Bool.{Bool, true, cond, not, _&&_}
@@ -7,10 +7,10 @@ use Prim.Native.Nat.{ℕ}
 use lib.IntN.{ℤ, pos, natAbs}
 use lib.ListN.{take, drop, replicate}
 use Rattle.value.specs.Arithmetic.{isSame}
-use Rattle.machine.specs.State.{stateLength, stateNumbers, flatten}
-use Rattle.machine.specs.Saves.{Save, Saves, saveLimit, keyWidth, placeWidth}
-use Rattle.state.specs.Test.{every, rows, at, isZero, isState}
-use Rattle.state.specs.Decode.{decode}
+use Rattle.machine.specs.State.{flatten}
+use Rattle.machine.specs.Saves.{Save, Saves, saveLimit, keyWidth, timedLength, placeWidth}
+use Rattle.state.specs.Test.{every, rows, at, isZero}
+use Rattle.saves.specs.Kept.{keptNumbers, isKept, keptIn}
 use Rattle.saves.specs.Keys.{keyNumbers, isKeyOf, nameIn}
 
 -- ---- the numbers of saves
@@ -18,19 +18,19 @@ use Rattle.saves.specs.Keys.{keyNumbers, isKeyOf, nameIn}
 -- 02, note 2: zeros mean that nothing is saved
 unfoldable pub placeNumbers : Option Save → List ℤ
 placeNumbers none = replicate placeWidth (pos 0)
-placeNumbers (some x) = keyNumbers (x .name) ++ stateNumbers (x .state)
+placeNumbers (some x) = keyNumbers (x .name) ++ keptNumbers (x .kept)
 
 unfoldable pub savesNumbers : Saves → List ℤ
 savesNumbers ss = flatten placeNumbers ss
 
 -- ---- the test
 
-abbrev pub statePart : List ℤ → List ℤ
-statePart r = take stateLength (drop keyWidth r)
+abbrev pub keptPart : List ℤ → List ℤ
+keptPart r = take timedLength (drop keyWidth r)
 
--- 02, note 2, 11: all zero; or a name, and a state that passes
+-- 02, notes 2 and 4, 11: all zero; or a name, and a state and a clock that pass
 unfoldable pub isPlace : List ℕ → ℕ → List ℤ → Bool
-isPlace scopes channels r = cond (isZero (at r 0)) (every isZero r) (isKeyOf (at r 0) (at r 1) && isState scopes channels (statePart r))
+isPlace scopes channels r = cond (isZero (at r 0)) (every isZero r) (isKeyOf (at r 0) (at r 1) && isKept scopes channels (keptPart r))
 
 -- a row that begins with the two numbers of this one
 unfoldable pub hasKey : List ℤ → List ℤ → Bool
@@ -54,7 +54,7 @@ isSaves scopes channels zs = every (isPlace scopes channels) (placesOf zs) && ar
 -- ---- the saves that numbers are those of
 
 unfoldable pub placeIn : List ℕ → List ℤ → Option Save
-placeIn scopes r = cond (isZero (at r 0)) none (some (record { name = nameIn (natAbs (at r 0)) (natAbs (at r 1)); state = decode scopes (statePart r) }))
+placeIn scopes r = cond (isZero (at r 0)) none (some (record { name = nameIn (natAbs (at r 0)) (natAbs (at r 1)); kept = keptIn scopes (keptPart r) }))
 
 unfoldable pub savesIn : List ℕ → List ℤ → Saves
 savesIn scopes zs = map (placeIn scopes) (placesOf zs)

@@ -1,4 +1,5 @@
-// The buffer of the saves: names as two numbers, the exact test of question 11, and what a save, a return and a forget write.
+// The buffer of the saves: names as two numbers, a state with its clock, the exact test of question 11, and what a save, a return and a forget write.
+use clock::Clock;
 ghost use mathlib.Core.Path.{_≡_};
 ghost use mathlib.Core.Bool.{true};
 ghost use mathlib.Core.List.{_++_};
@@ -6,29 +7,34 @@ ghost use Prim.Native.Nat.{_+_, _*_, _≤_, _<_};
 ghost use lib.IntN.{ℤ, pos};
 ghost use lib.ListN.{length, take, drop};
 ghost use Rattle.word.specs.Name.{wordBytes, pack};
+ghost use Rattle.clock.specs.Clock.{InRange};
 ghost use Rattle.machine.specs.State.{stateLength};
-ghost use Rattle.machine.specs.Saves.{isLetter, isName, saveLimit, firstOf, keyWidth, placeWidth, savesLength};
+ghost use Rattle.machine.specs.Timed.{clockLength};
+ghost use Rattle.machine.specs.Saves.{isLetter, isName, saveLimit, firstOf, keyWidth, timedLength, placeWidth, savesLength};
 ghost use Rattle.state.specs.Fits.{FewLocals};
-ghost use Rattle.state.specs.Test.{every, rows};
+ghost use Rattle.state.specs.Test.{every, rows, at};
 ghost use Rattle.saves.specs.Keys.{isWord, isKey, isKeyOf};
+ghost use Rattle.saves.specs.Kept.{besides, isNatural, clockAt, isClock, isKept};
 ghost use Rattle.saves.specs.Places.{hasKey, isPlace, isOnce, areOnce, placesOf, isSaves};
 ghost use Rattle.saves.specs.Change.{KeyPut, placeToTake, savingNumbers, returningNumbers, forgettingNumbers, Stores};
 
 pub struct Layout;
 
 impl Layout {
-    // Numbers of a name, and of a state, which stands after it.
+    // Numbers of a name; of a state, which stands after it; of that and a clock's two.
     pub const KEY: usize = 2;
 
     pub const STATE: usize = 5122;
 
+    pub const KEPT: usize = 5124;
+
     // Numbers of a place.
-    pub const PLACE: usize = 5124;
+    pub const PLACE: usize = 5126;
 
     // Places, and the numbers of all.
     pub const PLACES: usize = 8;
 
-    pub const SAVES: usize = 40992;
+    pub const SAVES: usize = 41008;
 
     // No word of fewer than eight letters is as large.
     pub const FULL: u64 = 72057594037927936;
@@ -201,9 +207,57 @@ pub fn place_for(saves: &[i64], key: &[i64]) -> usize
     find_place(saves, Layout::PLACES, &none)
 }
 
+// ---- a state with its clock
+
+// The clock of two numbers that aren't below 0.
+pub fn clock_at(clock: &[i64]) -> Clock
+    requires { ⌜ (length (now clock) ≡ clockLength) × (isNatural (at (now clock) 0) ≡ true) × (isNatural (at (now clock) 1) ≡ true) ⌝ }
+    ensures { λ r. ⌜ r ≡ clockAt (now (clock .entry)) ⌝ }
+{
+    Clock {
+        ticks: clock[0] as u64,
+        draws: clock[1] as u64,
+    }
+}
+
+// Writes a state's numbers, and a clock's after them.
+pub fn put_kept(kept: &mut [i64], state: &[i64], clock: Clock)
+    requires { ⌜ (length (now kept) ≡ timedLength) × (length (now state) ≡ stateLength) × InRange clock ⌝ }
+    ensures { λ _. ⌜ now (kept .exit) ≡ besides (now (state .entry)) clock ⌝ }
+{
+    state::put(kept, state, Layout::STATE);
+    kept[Layout::STATE] = clock.ticks as i64;
+    kept[Layout::STATE + 1] = clock.draws as i64;
+}
+
 // ---- question 11
 
-// Whether a place is empty, or has a name and a state over the sums with these scopes and so many channel names.
+// Whether two numbers are a clock's.
+fn is_clock(clock: &[i64]) -> bool
+    requires { ⌜ length (now clock) ≡ clockLength ⌝ }
+    ensures { λ r. ⌜ r ≡ isClock (now (clock .entry)) ⌝ }
+{
+    if clock[0] < 0 {
+        return false;
+    }
+    if clock[1] < 0 {
+        return false;
+    }
+    clock::in_range(clock_at(clock))
+}
+
+// Whether numbers are those of a state over the sums with these scopes and so many channel names, and of a clock.
+fn is_kept(kept: &[i64], scopes: &[u16], sums: usize, channels: usize) -> bool
+    requires { ⌜ (length (now kept) ≡ timedLength) × (sums ≤ length (now scopes)) × FewLocals (take sums (now scopes)) ⌝ }
+    ensures { λ r. ⌜ r ≡ isKept (take sums (now (scopes .entry))) channels (now (kept .entry)) ⌝ }
+{
+    if !state::is_state(&kept[..Layout::STATE], scopes, sums, channels) {
+        return false;
+    }
+    is_clock(&kept[Layout::STATE..])
+}
+
+// Whether a place is empty, or has a name, and a state and a clock.
 fn is_place(row: &[i64], scopes: &[u16], sums: usize, channels: usize) -> bool
     requires { ⌜ (length (now row) ≡ placeWidth) × (sums ≤ length (now scopes)) × FewLocals (take sums (now scopes)) ⌝ }
     ensures { λ r. ⌜ r ≡ isPlace (take sums (now (scopes .entry))) channels (now (row .entry)) ⌝ }
@@ -214,7 +268,7 @@ fn is_place(row: &[i64], scopes: &[u16], sums: usize, channels: usize) -> bool
     if !is_key(row[0], row[1]) {
         return false;
     }
-    state::is_state(&row[Layout::KEY..Layout::PLACE], scopes, sums, channels)
+    is_kept(&row[Layout::KEY..Layout::PLACE], scopes, sums, channels)
 }
 
 fn are_places(saves: &[i64], scopes: &[u16], sums: usize, channels: usize) -> bool
@@ -272,19 +326,19 @@ pub fn is_saves(saves: &[i64], scopes: &[u16], sums: usize, channels: usize) -> 
 
 // ---- save, return, forget
 
-// Writes a name's numbers and a state's into a place.
-fn put_place(place: &mut [i64], key: &[i64], state: &[i64])
-    requires { ⌜ (length (now place) ≡ placeWidth) × (length (now key) ≡ keyWidth) × (length (now state) ≡ stateLength) ⌝ }
-    ensures { λ _. ⌜ now (place .exit) ≡ now (key .entry) ++ now (state .entry) ⌝ }
+// Writes a name's numbers and what is kept under it into a place.
+fn put_place(place: &mut [i64], key: &[i64], kept: &[i64])
+    requires { ⌜ (length (now place) ≡ placeWidth) × (length (now key) ≡ keyWidth) × (length (now kept) ≡ timedLength) ⌝ }
+    ensures { λ _. ⌜ now (place .exit) ≡ now (key .entry) ++ now (kept .entry) ⌝ }
 {
     state::put(place, key, Layout::KEY);
-    state::put(&mut place[Layout::KEY..], state, Layout::STATE);
+    state::put(&mut place[Layout::KEY..], kept, Layout::KEPT);
 }
 
-// Saves a state under a name: the number of the answer.
-pub fn save(saves: &mut [i64], state: &[i64], name: &[u8]) -> u64
-    requires { ⌜ (length (now saves) ≡ savesLength) × (length (now state) ≡ stateLength) ⌝ }
-    ensures { λ r. ⌜ Stores (savingNumbers (now (name .entry)) (now (state .entry)) (now (saves .entry))) r (now (state .entry)) (now (saves .exit)) ⌝ }
+// Saves a state with its clock under a name: the number of the answer.
+pub fn save(saves: &mut [i64], kept: &[i64], name: &[u8]) -> u64
+    requires { ⌜ (length (now saves) ≡ savesLength) × (length (now kept) ≡ timedLength) ⌝ }
+    ensures { λ r. ⌜ Stores (savingNumbers (now (name .entry)) (now (kept .entry)) (now (saves .entry))) r (now (kept .entry)) (now (saves .exit)) ⌝ }
 {
     let mut key = [0i64; Layout::KEY];
     if !put_key(&mut key, name) {
@@ -296,14 +350,14 @@ pub fn save(saves: &mut [i64], state: &[i64], name: &[u8]) -> u64
     }
     let from = at * Layout::PLACE;
     let to = from + Layout::PLACE;
-    put_place(&mut saves[from..to], &key, state);
+    put_place(&mut saves[from..to], &key, kept);
     0
 }
 
-// Copies the state under a name: the number of the answer.
-pub fn return_to(state: &mut [i64], saves: &[i64], name: &[u8]) -> u64
-    requires { ⌜ (length (now saves) ≡ savesLength) × (length (now state) ≡ stateLength) ⌝ }
-    ensures { λ r. ⌜ Stores (returningNumbers (now (name .entry)) (now (state .entry)) (now (saves .entry))) r (now (state .exit)) (now (saves .entry)) ⌝ }
+// Copies the state and the clock under a name: the number of the answer.
+pub fn return_to(kept: &mut [i64], saves: &[i64], name: &[u8]) -> u64
+    requires { ⌜ (length (now saves) ≡ savesLength) × (length (now kept) ≡ timedLength) ⌝ }
+    ensures { λ r. ⌜ Stores (returningNumbers (now (name .entry)) (now (kept .entry)) (now (saves .entry))) r (now (kept .exit)) (now (saves .entry)) ⌝ }
 {
     let mut key = [0i64; Layout::KEY];
     if !put_key(&mut key, name) {
@@ -314,15 +368,15 @@ pub fn return_to(state: &mut [i64], saves: &[i64], name: &[u8]) -> u64
         return 21;
     }
     let from = at * Layout::PLACE + Layout::KEY;
-    let to = from + Layout::STATE;
-    state::put(state, &saves[from..to], Layout::STATE);
+    let to = from + Layout::KEPT;
+    state::put(kept, &saves[from..to], Layout::KEPT);
     0
 }
 
 // Empties the place of a name: the number of the answer.
-pub fn forget(saves: &mut [i64], state: &[i64], name: &[u8]) -> u64
+pub fn forget(saves: &mut [i64], kept: &[i64], name: &[u8]) -> u64
     requires { ⌜ length (now saves) ≡ savesLength ⌝ }
-    ensures { λ r. ⌜ Stores (forgettingNumbers (now (name .entry)) (now (state .entry)) (now (saves .entry))) r (now (state .entry)) (now (saves .exit)) ⌝ }
+    ensures { λ r. ⌜ Stores (forgettingNumbers (now (name .entry)) (now (kept .entry)) (now (saves .entry))) r (now (kept .entry)) (now (saves .exit)) ⌝ }
 {
     let mut key = [0i64; Layout::KEY];
     if !put_key(&mut key, name) {

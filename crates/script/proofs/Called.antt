@@ -11,10 +11,13 @@ use lib.Dec.{eqb, leb}
 use lib.ListN.{length, take, drop, length-append, length-take, length-drop, length-replicate, take-append-drop}
 use lib.Seq.{length-take-le, take-take}
 use Rattle.rules.proofs.Decides.{on}
+use Rattle.clock.specs.declared.Brought.{Brought}
+use Rattle.clock.specs.Clock.{broughtBy}
 use Rattle.machine.specs.State.{State}
+use Rattle.machine.specs.Timed.{timed}
 use Rattle.machine.specs.Report.{reportLength}
-use Rattle.machine.specs.Machine.{entryLimit, listingLength, Shown, asLent, zeroed, filled, reported, Answer, no, listedAs, reportedAs, Listed, Turn, turn, drawn, showing, lists, sharing, reports, choosing, stepsWith, Held, Good, Machine, closed, holding, onState}
-use Rattle.machine.specs.Machine.{onSaves, Request, list′, step′, report′, save′, return′, forget′, Ask, open′, on′, acts, Part, model, state, saves, size, lentTo, outputOf, uses, isLent, allParts, hasLengths, Call, opens, onMachine, calls}
+use Rattle.machine.specs.Machine.{entryLimit, listingLength, Shown, asLent, zeroed, filled, reported, Answer, no, listedAs, reportedAs, Listed, Turn, turn, drawn, showing, lists, sharing, reports, choosing, stepsWith, refusedAs, withWait, stepsIn, timesWith, Held, Good, Machine, closed, holding, onState}
+use Rattle.machine.specs.Machine.{onClock, onSaves, Request, list′, step′, report′, timed′, save′, return′, forget′, Ask, open′, on′, acts, Part, model, state, saves, clock, size, lentTo, outputOf, uses, isLent, allParts, hasLengths, Call, opens, onMachine, calls}
 use Rattle.machine.specs.Machine as machine
 use Rattle.machine.specs.Questions.{Lists, no12, no13, no14, yes14}
 use Rattle.machine.proofs.Lent.{both-true, each-lent, lent-so}
@@ -37,7 +40,7 @@ use Rattle.buffers.proofs.Held.{held-fits}
 use Rattle.buffers.proofs.Listings.{listing-length}
 use Rattle.buffers.proofs.Transitions.{fills}
 use Rattle.script.specs.declared.Row.{Row}
-use Rattle.script.specs.Rows.{openKind, forgetKind, answerWidth, rowParts, rowLengths, Room, fits, rowCall, callOf}
+use Rattle.script.specs.Rows.{openKind, timedKind, answerWidth, rowParts, rowLengths, Room, fits, rowCall, callOf}
 use Rattle.script.specs.Run.{Lent, roomOf, effectOf, callLeft}
 use Rattle.script.specs.Follows.{engineIn, partShown}
 use Rattle.script.proofs.Front.{front-take, front-drop}
@@ -55,11 +58,12 @@ unfolding isLent
 in-row model = refl
 in-row state = refl
 in-row saves = refl
+in-row clock = refl
 
 -- what a row that fits asks for
 pub record Asks (r : Row) (texts numbers : ℕ) (parts : Part → ℕ) (outputs : ℕ) : Type 0 where
   pub least : openKind ≤ r .kind
-  pub most : r .kind ≤ forgetKind
+  pub most : r .kind ≤ timedKind
   pub text : r .text + r .size ≤ texts
   pub list : r .from + r .count ≤ numbers
   pub part : (p : Part) → rowLengths r p ≤ parts p
@@ -69,7 +73,7 @@ pub row-asks : (r : Row) (texts numbers : ℕ) (parts : Part → ℕ) (outputs :
 unfolding fits
 row-asks r texts numbers parts outputs e =
     let a = both-true (leb openKind (r .kind)) _ e in
-    let b = both-true (leb (r .kind) forgetKind) _ (a .1) in
+    let b = both-true (leb (r .kind) timedKind) _ (a .1) in
     let c = both-true (leb (r .text + r .size) texts) _ (b .1) in
     let d = both-true (leb (r .from + r .count) numbers) _ (c .1) in
     let f = both-true (allParts (λ (p : Part). leb (rowLengths r p) (parts p)) rowParts) _ (d .1) in
@@ -86,12 +90,12 @@ pub call-fits : (texts numbers : List ℕ) (x : Room) (r : Row) (c : Call) → c
 unfolding callOf rowCall
 call-fits texts numbers x r c e = by (leb answerWidth (x .answers) && fits r (length texts) (length numbers) (x .parts) (x .outputs)) refl e
   where
-    by : (b : Bool) → (leb answerWidth (x .answers) && fits r (length texts) (length numbers) (x .parts) (x .outputs)) ≡ b → cond b (some (rowCall texts r)) none ≡ some c → Fits c x
+    by : (b : Bool) → (leb answerWidth (x .answers) && fits r (length texts) (length numbers) (x .parts) (x .outputs)) ≡ b → cond b (some (rowCall texts numbers r)) none ≡ some c → Fits c x
     by true f e =
         let a = both-true (leb answerWidth (x .answers)) _ f in
         let b = row-asks r _ _ _ _ (a .1) in
-        let q : rowCall texts r ≡ c = cc in
-        let g : Fits (rowCall texts r) x = record { parts = b .part; output = b .output; answer = leb-true _ _ (a .0) } in
+        let q : rowCall texts numbers r ≡ c = cc in
+        let g : Fits (rowCall texts numbers r) x = record { parts = b .part; output = b .output; answer = leb-true _ _ (a .0) } in
         subst (λ (d : Call). Fits d x) q g
     by false f e = absurd (let z : _≡_ {A = ℕ} 0 1 = cc in omega arith)
 
@@ -214,11 +218,39 @@ reports-within h k g = within reportLength refl (omega arith) (by (asked (h .mod
     by (no14 c i l f) = unfold Spans sharing no in tt
     by (yes14 {es = es} c i l f) = unfold Spans sharing reportedAs in report-length (h .model) k (h .state) (g .state) es
 
+-- 02, note 4: a timed step shows what its step shows
+module _ (ds : List ℕ) (d : ℕ) (h : Held) where
+  abbrev stepped : Turn State
+  stepped = stepsWith d (h .model) (h .state)
+
+  abbrev waited : Brought
+  waited = broughtBy (h .clock) ds (stepped .answer .total)
+
+  shows-same : stepsIn (h .clock) ds (h .state) stepped .answer .listing ≡ stepped .answer .listing
+  unfolding stepsIn withWait refusedAs
+  shows-same = by (eqb (stepped .answer .number) 0) (eqb (waited .number) 0)
+    where
+      by : (a b : Bool)
+          → cond a (cond b (turn (timed (stepped .machine) (waited .clock)) (stepped .answer)) (turn (timed (h .state) (h .clock)) (refusedAs (waited .number) (stepped .answer)))) (turn (timed (stepped .machine) (h .clock)) (stepped .answer)) .answer .listing
+          ≡ stepped .answer .listing
+      by true true = refl
+      by true false = refl
+      by false b = refl
+
+  timed-within : InPart (on′ (timed′ ds d)) (acts (timed′ ds d) h .answer .listing)
+  unfolding acts onClock timesWith
+  timed-within = by (steps-within d (h .model) (h .state))
+    where
+      by : InPart (on′ (step′ d)) (stepped .answer .listing) → InPart (on′ (timed′ ds d)) (stepsIn (h .clock) ds (h .state) stepped .answer .listing)
+      by (nothing e) = nothing (shows-same ∙ e)
+      by (within n o w s) = within n o w (rw shows-same s)
+
 acts-within : (r : Request) (h : Held) → GoodModel (h .model) → Good h → InPart (on′ r) (acts r h .answer .listing)
-unfolding acts onState onSaves no
+unfolding acts onState onClock onSaves no
 acts-within list′ h k g = lists-within (h .model) (h .state)
 acts-within (step′ d) h k g = steps-within d (h .model) (h .state)
 acts-within report′ h k g = reports-within h k g
+acts-within (timed′ ds d) h k g = timed-within ds d h
 acts-within (save′ n) h k g = nothing refl
 acts-within (return′ n) h k g = nothing refl
 acts-within (forget′ n) h k g = nothing refl

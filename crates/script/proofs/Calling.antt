@@ -1,7 +1,7 @@
 -- What a row's call leaves of the buffers, from what the engine's call gives: by the kind of the row.
 use mathlib.Core.Path.{_≡_, refl, sym, ap, _∙_}
 use mathlib.Core.Bool.{Bool, true, false, cond, _&&_}
-use mathlib.Core.List.{List, [], _∷_, _++_}
+use mathlib.Core.List.{List, [], _∷_, _++_, append-nil}
 use mathlib.Core.Option.{Option, none, some, Option·elim}
 use Prim.Native.Nat.{ℕ, zero, suc, _+_, _-_, _≤_}
 use native.Mathlib.Omega.{arith}
@@ -12,36 +12,44 @@ use lib.ListN.{length, take, drop, take-append-drop}
 use Rattle.model.specs.Resolved
 use Rattle.model.specs.Opening.{Opening, refused, opened, opening}
 use Rattle.machine.specs.State.{State}
+use Rattle.clock.specs.declared.Clock.{Clock}
+use Rattle.machine.specs.Timed.{Timed}
 use Rattle.machine.specs.Saves.{Saves, Stored, saving, returning, forgetting}
-use Rattle.machine.specs.Machine.{asLent, Answer, no, Turn, Held, Machine, closed, holding, onSaves, Request, list′, step′, report′, save′, return′, forget′, Ask, open′, on′, acts, Part, model, state, saves, size, twoParts, uses, outputOf, isLent, allParts, hasLengths, Call, onMachine}
+use Rattle.machine.specs.Machine.{asLent, Answer, no, Turn, Held, Machine, closed, holding, onSaves, Request, list′, step′, report′, timed′, save′, return′, forget′, Ask, open′, on′, acts, Part, model, state, saves, clock, size, twoParts, timedParts, threeParts, uses, outputOf, isLent, allParts, hasLengths, Call, onMachine}
 use Rattle.buffers.specs.Held.{heldIn}
 use Rattle.buffers.specs.Listing.{shown}
-use Rattle.buffers.specs.Parts.{Engine, numbersOf, isPart, readHeld, lentTwo, lentThree}
+use Rattle.buffers.specs.Parts.{Engine, numbersOf, isPart, readHeld, clockNumbers, clockIn, lentTwo, lentThree, lentTimed, lentAll}
 use Rattle.buffers.specs.Effect.{Effect, machineOver, untouched, opensWith, leftIn, leaves, requested, answered, effect}
 use Rattle.buffers.proofs.Lent.{same-engine}
 use Rattle.engine.specs.declared.Answer as engine
 use Rattle.engine.specs.Gives.{Gives}
 use Rattle.script.specs.declared.Row.{Row}
-use Rattle.script.specs.Rows.{rowLengths, fits, rowText, rowAsk, rowCall}
+use Rattle.script.specs.Rows.{rowLengths, fits, rowText, rowDraws, rowAsk, rowCall}
 use Rattle.script.specs.Run.{lengthsOf, effectOf, answerNumbers, resultNumbers, Called}
 use Rattle.script.proofs.Called.{row-asks}
 
 -- ---- what a row that fits asks for
 
-pub record There (r : Row) (t m s v o : ℕ) : Type 0 where
+pub record There (r : Row) (t n m s v o : ℕ) : Type 0 where
   pub text : r .text + r .size ≤ t
+  pub list : r .from + r .count ≤ n
   pub model : r .model ≤ m
   pub state : r .state ≤ s
   pub saves : r .saves ≤ v
   pub output : r .output ≤ o
-  pub most : r .kind ≤ 7
+  pub most : r .kind ≤ 8
   pub least : 1 ≤ r .kind
 
-pub there : (r : Row) (t n m s v o : ℕ) → fits r t n (lengthsOf m s v) o ≡ true → There r t m s v o
+pub there : (r : Row) (t n m s v k o : ℕ) → fits r t n (lengthsOf m s v k) o ≡ true → There r t n m s v o
 unfolding rowLengths lengthsOf
-there r t n m s v o f =
-    let a = row-asks r t n (lengthsOf m s v) o f in
-    record { text = a .text; model = a .part model; state = a .part state; saves = a .part saves; output = a .output; most = a .most; least = a .least }
+there r t n m s v k o f =
+    let a = row-asks r t n (lengthsOf m s v k) o f in
+    record { text = a .text; list = a .list; model = a .part model; state = a .part state; saves = a .part saves; output = a .output; most = a .most; least = a .least }
+
+-- 02, note 4: and the clock is there
+pub clock-there : (r : Row) (t n m s v k o : ℕ) → fits r t n (lengthsOf m s v k) o ≡ true → 2 ≤ k
+unfolding rowLengths lengthsOf
+clock-there r t n m s v k o f = row-asks r t n (lengthsOf m s v k) o f .part clock
 
 -- ---- calls that are lent no output
 
@@ -67,12 +75,12 @@ open-bare text x l = by (hasLengths (open′ text) (λ (p : Part). length (x p))
     by false = bare-refl
 
 -- 02, note 2: a request that turns state and saves shows nothing
-stored-bare : (r : Request) (f : State → Saves → Stored) → ((h : Held) → acts r h ≡ onSaves f h) → (y : Machine) (x : Engine) (l : List ℕ) → Bare (leaves (uses r) x l (onMachine r y)) (leaves (uses r) x [] (onMachine r y)) l
+stored-bare : (r : Request) (f : Timed → Saves → Stored) → ((h : Held) → acts r h ≡ onSaves f h) → (y : Machine) (x : Engine) (l : List ℕ) → Bare (leaves (uses r) x l (onMachine r y)) (leaves (uses r) x [] (onMachine r y)) l
 unfolding leaves onMachine onSaves shown no
 stored-bare r f q closed x l = bare-refl
 stored-bare r f q (holding h) x l = record { answer = refl; left = refl; output = ap (λ (t : Turn Held). shown (t .answer .listing) l) (q h) }
 
-named-bare : (r : Request) (f : State → Saves → Stored) → ((h : Held) → acts r h ≡ onSaves f h) → outputOf (on′ r) ≡ none → (x : Engine) (l : List ℕ) → Bare (effect (on′ r) x l) (effect (on′ r) x []) l
+named-bare : (r : Request) (f : Timed → Saves → Stored) → ((h : Held) → acts r h ≡ onSaves f h) → outputOf (on′ r) ≡ none → (x : Engine) (l : List ℕ) → Bare (effect (on′ r) x l) (effect (on′ r) x []) l
 unfolding effect answered requested untouched hasLengths Option·elim
 named-bare r f q o x l = rw o (by (allParts (λ (p : Part). eqb (length (x p)) (size p)) (uses r) && true))
   where
@@ -82,66 +90,133 @@ named-bare r f q o x l = rw o (by (allParts (λ (p : Part). eqb (length (x p)) (
     by true = stored-bare r f q (machineOver (uses r) x (heldIn (x model))) x l
     by false = unfold untouched in bare-refl
 
--- ---- a request that is lent model and state asks nothing of the saves
+-- ---- a request asks nothing of the parts that it is not lent
 
-two-machine : (x : Engine) (o : Option Resolved.Model) → machineOver twoParts (lentTwo (x model) (x state)) o ≡ machineOver twoParts x o
-unfolding machineOver allParts isPart readHeld isLent lentTwo
-two-machine x none = refl
-two-machine x (some m) = refl
-
--- d is what e is where the saves are not there
-record Alike (d e : Effect) (x : Engine) : Type 0 where
+-- d is what e is where the parts besides ps are not there
+record Alike (ps : List Part) (d e : Effect) (x : Engine) : Type 0 where
   answer : d .answer ≡ e .answer
   output : d .output ≡ e .output
-  in-model : d .left model ≡ e .left model
-  in-state : d .left state ≡ e .left state
-  in-saves : x saves ≡ e .left saves
+  lent : (p : Part) → isLent p ps ≡ true → d .left p ≡ e .left p
+  others : (p : Part) → isLent p ps ≡ false → x p ≡ e .left p
 
-two-leaves : (x : Engine) (l : List ℕ) (a : Answer) (y : Machine)
-    → Alike (leaves twoParts (lentTwo (x model) (x state)) l (record { machine = y; answer = a })) (leaves twoParts x l (record { machine = y; answer = a })) x
-unfolding leaves leftIn isLent numbersOf lentTwo
-two-leaves x l a closed = record { answer = refl; output = refl; in-model = refl; in-state = refl; in-saves = refl }
-two-leaves x l a (holding h) = record { answer = refl; output = refl; in-model = refl; in-state = refl; in-saves = refl }
+module _ (ps : List Part) (x z : Engine) (same-model : z model ≡ x model) (same-lent : (p : Part) → isLent p ps ≡ true → z p ≡ x p) where
+  alike-leaves : (l : List ℕ) (a : Answer) (y : Machine) → Alike ps (leaves ps z l (record { machine = y; answer = a })) (leaves ps x l (record { machine = y; answer = a })) x
+  unfolding leaves leftIn
+  alike-leaves l a closed = record { answer = refl; output = refl; lent = same-lent; others = λ p e. refl }
+  alike-leaves l a (holding h) = record {
+    answer = refl;
+    output = refl;
+    lent = λ p e. rw (e, same-model) refl;
+    others = λ p e. rw e refl;
+  }
 
-two-effect : (r : Request) → uses r ≡ twoParts → (x : Engine) (l : List ℕ) → Alike (effect (on′ r) (lentTwo (x model) (x state)) l) (effect (on′ r) x l) x
-unfolding effect answered requested hasLengths allParts lentTwo
-two-effect r u x l = rw u (by ((eqb (length (x model)) (size model) && (eqb (length (x state)) (size state) && true)) && Option·elim (outputOf (on′ r)) true (eqb (length l))))
+  alike-effect : (r : Request) → uses r ≡ ps → ((o : Option Resolved.Model) → machineOver ps z o ≡ machineOver ps x o)
+      → allParts (λ (p : Part). eqb (length (z p)) (size p)) ps ≡ allParts (λ (p : Part). eqb (length (x p)) (size p)) ps → (l : List ℕ) → Alike ps (effect (on′ r) z l) (effect (on′ r) x l) x
+  unfolding effect answered requested hasLengths
+  alike-effect r u m k l = rw (u, k, same-model, m (heldIn (x model))) (by (allParts (λ (p : Part). eqb (length (x p)) (size p)) ps && Option·elim (outputOf (on′ r)) true (eqb (length l))))
+    where
+      by : (b : Bool)
+          → Alike ps (cond b (leaves ps z l (onMachine r (machineOver ps x (heldIn (x model))))) (untouched z l)) (cond b (leaves ps x l (onMachine r (machineOver ps x (heldIn (x model))))) (untouched x l)) x
+      by true = alike-leaves l (onMachine r (machineOver ps x (heldIn (x model))) .answer) (onMachine r (machineOver ps x (heldIn (x model))) .machine)
+      by false = unfold untouched in record { answer = refl; output = refl; lent = same-lent; others = λ p e. refl }
+
+-- model and state
+module _ (bs : List ℕ) (zs ss : List ℤ) (c : Clock) where
+  two-machine : (o : Option Resolved.Model) → machineOver twoParts (lentTwo bs zs) o ≡ machineOver twoParts (lentAll bs zs ss c) o
+  unfolding machineOver allParts isPart readHeld isLent lentTwo lentAll
+  two-machine none = refl
+  two-machine (some m) = refl
+
+  two-effect : (r : Request) → uses r ≡ twoParts → (l : List ℕ) → Alike twoParts (effect (on′ r) (lentTwo bs zs) l) (effect (on′ r) (lentAll bs zs ss c) l) (lentAll bs zs ss c)
+  two-effect r u l = alike-effect twoParts (lentAll bs zs ss c) (lentTwo bs zs) (unfold lentTwo lentAll in refl) at r u two-machine (unfold allParts lentTwo lentAll in refl) l
+    where
+      at : (p : Part) → isLent p twoParts ≡ true → lentTwo bs zs p ≡ lentAll bs zs ss c p
+      at model e = unfold lentTwo lentAll isLent in refl
+      at state e = unfold lentTwo lentAll isLent in refl
+      at saves e = unfold lentTwo lentAll isLent in absurd (let z : _≡_ {A = ℕ} 0 1 = cc in omega arith)
+      at clock e = unfold lentTwo lentAll isLent in absurd (let z : _≡_ {A = ℕ} 0 1 = cc in omega arith)
+
+  -- 02, note 4: model, state and clock
+  timed-machine : (o : Option Resolved.Model) → machineOver timedParts (lentTimed bs zs c) o ≡ machineOver timedParts (lentAll bs zs ss c) o
+  unfolding machineOver allParts isPart readHeld isLent lentTimed lentAll
+  timed-machine none = refl
+  timed-machine (some m) = refl
+
+  timed-effect : (r : Request) → uses r ≡ timedParts → (l : List ℕ) → Alike timedParts (effect (on′ r) (lentTimed bs zs c) l) (effect (on′ r) (lentAll bs zs ss c) l) (lentAll bs zs ss c)
+  timed-effect r u l = alike-effect timedParts (lentAll bs zs ss c) (lentTimed bs zs c) (unfold lentTimed lentAll in refl) at r u timed-machine (unfold allParts lentTimed lentAll in refl) l
+    where
+      at : (p : Part) → isLent p timedParts ≡ true → lentTimed bs zs c p ≡ lentAll bs zs ss c p
+      at model e = unfold lentTimed lentAll isLent in refl
+      at state e = unfold lentTimed lentAll isLent in refl
+      at saves e = unfold lentTimed lentAll isLent in absurd (let z : _≡_ {A = ℕ} 0 1 = cc in omega arith)
+      at clock e = unfold lentTimed lentAll isLent in refl
+
+  -- 02, note 2: model, state and saves
+  three-machine : (o : Option Resolved.Model) → machineOver threeParts (lentThree bs zs ss) o ≡ machineOver threeParts (lentAll bs zs ss c) o
+  unfolding machineOver allParts isPart readHeld isLent lentThree lentAll
+  three-machine none = refl
+  three-machine (some m) = refl
+
+  three-effect : (r : Request) → uses r ≡ threeParts → (l : List ℕ) → Alike threeParts (effect (on′ r) (lentThree bs zs ss) l) (effect (on′ r) (lentAll bs zs ss c) l) (lentAll bs zs ss c)
+  three-effect r u l = alike-effect threeParts (lentAll bs zs ss c) (lentThree bs zs ss) (unfold lentThree lentAll in refl) at r u three-machine (unfold allParts lentThree lentAll in refl) l
+    where
+      at : (p : Part) → isLent p threeParts ≡ true → lentThree bs zs ss p ≡ lentAll bs zs ss c p
+      at model e = unfold lentThree lentAll isLent in refl
+      at state e = unfold lentThree lentAll isLent in refl
+      at saves e = unfold lentThree lentAll isLent in refl
+      at clock e = unfold lentThree lentAll isLent in absurd (let z : _≡_ {A = ℕ} 0 1 = cc in omega arith)
+
+-- the same result of an effect that is alike
+alike-gives : {ps : List Part} {d e : Effect} {x : Engine} {r : engine.Answer} (z y : Engine) (l : List ℕ) → Alike ps d e x → Gives d r z l
+    → ((p : Part) → isLent p ps ≡ true → y p ≡ z p) → ((p : Part) → isLent p ps ≡ false → y p ≡ x p) → Gives e r y l
+alike-gives {ps} {d} {e} {x} {r} z y l a h f g = record {
+  number = h .number ∙ ap (λ (b : Answer). b .number) (a .answer);
+  place = h .place ∙ ap (λ (b : Answer). b .place) (a .answer);
+  branch = h .branch ∙ ap (λ (b : Answer). b .branch) (a .answer);
+  count = h .count ∙ ap (λ (b : Answer). b .count) (a .answer);
+  total = h .total ∙ ap (λ (b : Answer). b .total) (a .answer);
+  chosen = h .chosen ∙ ap (λ (b : Answer). b .chosen) (a .answer);
+  buffers = λ p. by p (isLent p ps) refl;
+  output = h .output ∙ a .output;
+}
   where
-    by : (b : Bool)
-        → Alike (cond b (leaves twoParts (lentTwo (x model) (x state)) l (onMachine r (machineOver twoParts (lentTwo (x model) (x state)) (heldIn (x model))))) (untouched (lentTwo (x model) (x state)) l))
-        (cond b (leaves twoParts x l (onMachine r (machineOver twoParts x (heldIn (x model))))) (untouched x l)) x
-    by true = rw (two-machine x (heldIn (x model))) (two-leaves x l (onMachine r (machineOver twoParts x (heldIn (x model))) .answer) (onMachine r (machineOver twoParts x (heldIn (x model))) .machine))
-    by false = unfold untouched lentTwo in record { answer = refl; output = refl; in-model = refl; in-state = refl; in-saves = refl }
+    by : (p : Part) (b : Bool) → isLent p ps ≡ b → y p ≡ e .left p
+    by p true i = f p i ∙ h .buffers p ∙ a .lent p i
+    by p false i = g p i ∙ a .others p i
 
 -- ---- what a row's call gives
 
-module _ (row : Row) (texts bs : List ℕ) (zs ss : List ℤ) (ls : List ℕ) (r : engine.Answer) where
+module _ (row : Row) (texts numbers bs : List ℕ) (zs ss : List ℤ) (c : Clock) (ls : List ℕ) (r : engine.Answer) where
   -- what is lent of the parts
   abbrev X : Engine
-  X = lentThree (take (row .model) bs) (take (row .state) zs) (take (row .saves) ss)
+  X = lentAll (take (row .model) bs) (take (row .state) zs) (take (row .saves) ss) c
 
   abbrev L : List ℕ
   L = take (row .output) ls
 
-  lent-is : X ≡ (λ (p : Part). take (rowLengths row p) (lentThree bs zs ss p))
-  unfolding lentThree rowLengths
+  abbrev C : Call
+  C = rowCall texts numbers row
+
+  lent-is : X ≡ (λ (p : Part). take (rowLengths row p) (lentAll bs zs ss c p))
+  unfolding lentAll rowLengths
   lent-is = same-engine at
     where
-      at : (p : Part) → X p ≡ take (rowLengths row p) (lentThree bs zs ss p)
+      at : (p : Part) → X p ≡ take (rowLengths row p) (lentAll bs zs ss c p)
       at model = refl
       at state = refl
       at saves = refl
+      at clock = refl
 
-  effect-is : (k : Ask) → rowAsk texts row ≡ k → effect k X L ≡ effectOf (rowCall texts row) (lentThree bs zs ss) ls
+  effect-is : (k : Ask) → rowAsk texts numbers row ≡ k → effect k X L ≡ effectOf C (lentAll bs zs ss c) ls
   unfolding effectOf rowCall
   effect-is k e =
       ap (λ (x : Engine). effect k x L) lent-is
-      ∙ ap (λ (j : Ask). effect j (λ (p : Part). take (rowLengths row p) (lentThree bs zs ss p)) L) (sym e)
+      ∙ ap (λ (j : Ask). effect j (λ (p : Part). take (rowLengths row p) (lentAll bs zs ss c p)) L) (sym e)
 
-  gives : (k : Ask) → rowAsk texts row ≡ k → (bs′ : List ℕ) (zs′ ss′ : List ℤ) (l : List ℕ) → Gives (effect k X L) r (lentThree bs′ zs′ ss′) l
-      → Called (rowCall texts row) (lentThree bs zs ss) ls r (lentThree (bs′ ++ drop (row .model) bs) (zs′ ++ drop (row .state) zs) (ss′ ++ drop (row .saves) ss)) (l ++ drop (row .output) ls)
+  gives : (k : Ask) → rowAsk texts numbers row ≡ k → (bs′ : List ℕ) (zs′ ss′ : List ℤ) (c′ : Clock) (l : List ℕ) → Gives (effect k X L) r (lentAll bs′ zs′ ss′ c′) l
+      → Called C (lentAll bs zs ss c) ls r (lentAll (bs′ ++ drop (row .model) bs) (zs′ ++ drop (row .state) zs) (ss′ ++ drop (row .saves) ss) c′) (l ++ drop (row .output) ls)
   unfolding resultNumbers answerNumbers rowCall
-  gives k e bs′ zs′ ss′ l g = record {
+  gives k e bs′ zs′ ss′ c′ l g = record {
     numbers = numbers-are ∙ ap (λ (e : Effect). answerNumbers (e .answer)) (effect-is k e);
     engine = at;
     outputs = ap (λ (h : List ℕ). h ++ drop (row .output) ls) (g .output ∙ ap (λ (e : Effect). e .output) (effect-is k e));
@@ -150,18 +225,19 @@ module _ (row : Row) (texts bs : List ℕ) (zs ss : List ℤ) (ls : List ℕ) (r
       numbers-are : resultNumbers r ≡ answerNumbers (effect k X L .answer)
       numbers-are = λ i. g .number i ∷ g .place i ∷ g .branch i ∷ g .count i ∷ g .total i ∷ g .chosen i ∷ []
 
-      at : (p : Part) → lentThree (bs′ ++ drop (row .model) bs) (zs′ ++ drop (row .state) zs) (ss′ ++ drop (row .saves) ss) p
-          ≡ effectOf (rowCall texts row) (lentThree bs zs ss) ls .left p ++ drop (rowLengths row p) (lentThree bs zs ss p)
-      at model = unfold lentThree rowLengths in ap (λ (h : List ℕ). h ++ drop (row .model) bs) (g .buffers model ∙ ap (λ (e : Effect). e .left model) (effect-is k e))
-      at state = unfold lentThree rowLengths in ap (λ (h : List ℤ). h ++ drop (row .state) zs) (g .buffers state ∙ ap (λ (e : Effect). e .left state) (effect-is k e))
-      at saves = unfold lentThree rowLengths in ap (λ (h : List ℤ). h ++ drop (row .saves) ss) (g .buffers saves ∙ ap (λ (e : Effect). e .left saves) (effect-is k e))
+      at : (p : Part) → lentAll (bs′ ++ drop (row .model) bs) (zs′ ++ drop (row .state) zs) (ss′ ++ drop (row .saves) ss) c′ p
+          ≡ effectOf C (lentAll bs zs ss c) ls .left p ++ drop (rowLengths row p) (lentAll bs zs ss c p)
+      at model = unfold lentAll rowLengths in ap (λ (h : List ℕ). h ++ drop (row .model) bs) (g .buffers model ∙ ap (λ (e : Effect). e .left model) (effect-is k e))
+      at state = unfold lentAll rowLengths in ap (λ (h : List ℤ). h ++ drop (row .state) zs) (g .buffers state ∙ ap (λ (e : Effect). e .left state) (effect-is k e))
+      at saves = unfold lentAll rowLengths in ap (λ (h : List ℤ). h ++ drop (row .saves) ss) (g .buffers saves ∙ ap (λ (e : Effect). e .left saves) (effect-is k e))
+      at clock = unfold lentAll rowLengths in g .buffers clock ∙ ap (λ (e : Effect). e .left clock) (effect-is k e) ∙ sym (append-nil _)
 
   -- a call that is lent no output leaves the outputs
-  bare-gives : (k : Ask) → rowAsk texts row ≡ k → Bare (effect k X L) (effect k X []) L → (bs′ : List ℕ) (zs′ ss′ : List ℤ) → Gives (effect k X []) r (lentThree bs′ zs′ ss′) []
-      → Called (rowCall texts row) (lentThree bs zs ss) ls r (lentThree (bs′ ++ drop (row .model) bs) (zs′ ++ drop (row .state) zs) (ss′ ++ drop (row .saves) ss)) ls
-  bare-gives k e w bs′ zs′ ss′ h =
+  bare-gives : (k : Ask) → rowAsk texts numbers row ≡ k → Bare (effect k X L) (effect k X []) L → (bs′ : List ℕ) (zs′ ss′ : List ℤ) (c′ : Clock) → Gives (effect k X []) r (lentAll bs′ zs′ ss′ c′) []
+      → Called C (lentAll bs zs ss c) ls r (lentAll (bs′ ++ drop (row .model) bs) (zs′ ++ drop (row .state) zs) (ss′ ++ drop (row .saves) ss) c′) ls
+  bare-gives k e w bs′ zs′ ss′ c′ h =
       rw (take-append-drop (row .output) ls) at
-      (gives k e bs′ zs′ ss′ L (record {
+      (gives k e bs′ zs′ ss′ c′ L (record {
         number = h .number ∙ sym (ap (λ (a : Answer). a .number) (w .answer));
         place = h .place ∙ sym (ap (λ (a : Answer). a .place) (w .answer));
         branch = h .branch ∙ sym (ap (λ (a : Answer). a .branch) (w .answer));
@@ -172,103 +248,141 @@ module _ (row : Row) (texts bs : List ℕ) (zs ss : List ℤ) (ls : List ℕ) (r
         output = sym (w .output);
       }))
 
-  two-model : (w : Effect) (bs′ : List ℕ) (zs′ : List ℤ) (l : List ℕ) → Gives w r (lentTwo bs′ zs′) l → bs′ ≡ w .left model
-  unfolding lentTwo
-  two-model w bs′ zs′ l g = g .buffers model
-
-  two-state : (w : Effect) (bs′ : List ℕ) (zs′ : List ℤ) (l : List ℕ) → Gives w r (lentTwo bs′ zs′) l → zs′ ≡ w .left state
-  unfolding lentTwo
-  two-state w bs′ zs′ l g = g .buffers state
-
-  -- a request that is lent model and state leaves the saves
-  two-gives : (q : Request) → uses q ≡ twoParts → rowAsk texts row ≡ on′ q → (bs′ : List ℕ) (zs′ : List ℤ) (l : List ℕ)
+  -- a request that is lent model and state leaves the saves and the clock
+  two-gives : (q : Request) → uses q ≡ twoParts → rowAsk texts numbers row ≡ on′ q → (bs′ : List ℕ) (zs′ : List ℤ) (l : List ℕ)
       → Gives (effect (on′ q) (lentTwo (take (row .model) bs) (take (row .state) zs)) L) r (lentTwo bs′ zs′) l
-      → Called (rowCall texts row) (lentThree bs zs ss) ls r (lentThree (bs′ ++ drop (row .model) bs) (zs′ ++ drop (row .state) zs) ss) (l ++ drop (row .output) ls)
-  unfolding lentThree
+      → Called C (lentAll bs zs ss c) ls r (lentAll (bs′ ++ drop (row .model) bs) (zs′ ++ drop (row .state) zs) ss c) (l ++ drop (row .output) ls)
   two-gives q u e bs′ zs′ l h =
-      let a = two-effect q u X L in
       rw (take-append-drop (row .saves) ss) at
-      (gives (on′ q) e bs′ zs′ (take (row .saves) ss) l (record {
-        number = h .number ∙ ap (λ (b : Answer). b .number) (a .answer);
-        place = h .place ∙ ap (λ (b : Answer). b .place) (a .answer);
-        branch = h .branch ∙ ap (λ (b : Answer). b .branch) (a .answer);
-        count = h .count ∙ ap (λ (b : Answer). b .count) (a .answer);
-        total = h .total ∙ ap (λ (b : Answer). b .total) (a .answer);
-        chosen = h .chosen ∙ ap (λ (b : Answer). b .chosen) (a .answer);
-        buffers = at h a;
-        output = h .output ∙ a .output;
-      }))
+      (gives (on′ q) e bs′ zs′ (take (row .saves) ss) c l
+      (alike-gives (lentTwo bs′ zs′) (lentAll bs′ zs′ (take (row .saves) ss) c) l (two-effect (take (row .model) bs) (take (row .state) zs) (take (row .saves) ss) c q u L) h at others))
     where
-      at : Gives (effect (on′ q) (lentTwo (take (row .model) bs) (take (row .state) zs)) L) r (lentTwo bs′ zs′) l → Alike (effect (on′ q) (lentTwo (take (row .model) bs) (take (row .state) zs)) L) (effect (on′ q) X L) X
-          → (p : Part) → lentThree bs′ zs′ (take (row .saves) ss) p ≡ effect (on′ q) X L .left p
-      at h a model = unfold lentThree in two-model _ bs′ zs′ l h ∙ a .in-model
-      at h a state = unfold lentThree in two-state _ bs′ zs′ l h ∙ a .in-state
-      at h a saves = unfold lentThree in a .in-saves
+      at : (p : Part) → isLent p twoParts ≡ true → lentAll bs′ zs′ (take (row .saves) ss) c p ≡ lentTwo bs′ zs′ p
+      at model e = unfold lentTwo lentAll isLent in refl
+      at state e = unfold lentTwo lentAll isLent in refl
+      at saves e = unfold lentTwo lentAll isLent in absurd (let z : _≡_ {A = ℕ} 0 1 = cc in omega arith)
+      at clock e = unfold lentTwo lentAll isLent in absurd (let z : _≡_ {A = ℕ} 0 1 = cc in omega arith)
+
+      others : (p : Part) → isLent p twoParts ≡ false → lentAll bs′ zs′ (take (row .saves) ss) c p ≡ X p
+      others model e = unfold lentAll isLent in absurd (let z : _≡_ {A = ℕ} 0 1 = cc in omega arith)
+      others state e = unfold lentAll isLent in absurd (let z : _≡_ {A = ℕ} 0 1 = cc in omega arith)
+      others saves e = unfold lentAll isLent in refl
+      others clock e = unfold lentAll isLent in refl
 
   -- ---- by the kind
 
-  -- the bytes of the text or name, as the code lends them
+  -- the bytes of the text or name, and the waiting draws, as the code lends them
   abbrev T : List ℕ
   T = take (row .text + row .size - row .text) (drop (row .text) texts)
+
+  abbrev D : List ℕ
+  D = take (row .from + row .count - row .from) (drop (row .from) numbers)
 
   text-is : T ≡ rowText texts row
   unfolding rowText
   text-is = let n : row .text + row .size - row .text ≡ row .size = omega arith in ap (λ (k : ℕ). take k (drop (row .text) texts)) n
 
-  pub opening-called : row .kind ≡ 1 → (bs′ : List ℕ) (zs′ ss′ : List ℤ) → Gives (effect (open′ T) X []) r (lentThree bs′ zs′ ss′) []
-      → Called (rowCall texts row) (lentThree bs zs ss) ls r (lentThree (bs′ ++ drop (row .model) bs) (zs′ ++ drop (row .state) zs) (ss′ ++ drop (row .saves) ss)) ls
+  draws-are : D ≡ rowDraws numbers row
+  unfolding rowDraws
+  draws-are = let n : row .from + row .count - row .from ≡ row .count = omega arith in ap (λ (k : ℕ). take k (drop (row .from) numbers)) n
+
+  pub opening-called : row .kind ≡ 1 → (bs′ : List ℕ) (zs′ ss′ : List ℤ) (c′ : Clock) → Gives (effect (open′ T) X []) r (lentAll bs′ zs′ ss′ c′) []
+      → Called C (lentAll bs zs ss c) ls r (lentAll (bs′ ++ drop (row .model) bs) (zs′ ++ drop (row .state) zs) (ss′ ++ drop (row .saves) ss) c′) ls
   unfolding rowAsk
-  opening-called e bs′ zs′ ss′ g = bare-gives (open′ (rowText texts row)) (rw e) (open-bare (rowText texts row) X L) bs′ zs′ ss′ (rw text-is at g)
+  opening-called e bs′ zs′ ss′ c′ g = bare-gives (open′ (rowText texts row)) (rw e) (open-bare (rowText texts row) X L) bs′ zs′ ss′ c′ (rw text-is at g)
 
   pub listing-called : row .kind ≡ 2 → (l : List ℕ) → Gives (effect (on′ list′) (lentTwo (take (row .model) bs) (take (row .state) zs)) L) r (lentTwo (take (row .model) bs) (take (row .state) zs)) l
-      → Called (rowCall texts row) (lentThree bs zs ss) ls r (lentThree bs zs ss) (l ++ drop (row .output) ls)
+      → Called C (lentAll bs zs ss c) ls r (lentAll bs zs ss c) (l ++ drop (row .output) ls)
   unfolding rowAsk
   listing-called e l g = rw (take-append-drop (row .model) bs, take-append-drop (row .state) zs) at (two-gives list′ refl (rw e) (take (row .model) bs) (take (row .state) zs) l g)
 
   pub reporting-called : row .kind ≡ 4 → (l : List ℕ) → Gives (effect (on′ report′) (lentTwo (take (row .model) bs) (take (row .state) zs)) L) r (lentTwo (take (row .model) bs) (take (row .state) zs)) l
-      → Called (rowCall texts row) (lentThree bs zs ss) ls r (lentThree bs zs ss) (l ++ drop (row .output) ls)
+      → Called C (lentAll bs zs ss c) ls r (lentAll bs zs ss c) (l ++ drop (row .output) ls)
   unfolding rowAsk
   reporting-called e l g = rw (take-append-drop (row .model) bs, take-append-drop (row .state) zs) at (two-gives report′ refl (rw e) (take (row .model) bs) (take (row .state) zs) l g)
 
   pub stepping-called : row .kind ≡ 3 → (zs′ : List ℤ) (l : List ℕ) → Gives (effect (on′ (step′ (row .number))) (lentTwo (take (row .model) bs) (take (row .state) zs)) L) r (lentTwo (take (row .model) bs) zs′) l
-      → Called (rowCall texts row) (lentThree bs zs ss) ls r (lentThree bs (zs′ ++ drop (row .state) zs) ss) (l ++ drop (row .output) ls)
+      → Called C (lentAll bs zs ss c) ls r (lentAll bs (zs′ ++ drop (row .state) zs) ss c) (l ++ drop (row .output) ls)
   unfolding rowAsk
   stepping-called e zs′ l g = rw (take-append-drop (row .model) bs) at (two-gives (step′ (row .number)) refl (rw e) (take (row .model) bs) zs′ l g)
 
+  -- 02, note 4: a timed step leaves the saves
+  pub timing-called : row .kind ≡ 8 → (zs′ : List ℤ) (c′ : Clock) (l : List ℕ)
+      → Gives (effect (on′ (timed′ D (row .number))) (lentTimed (take (row .model) bs) (take (row .state) zs) c) L) r (lentTimed (take (row .model) bs) zs′ c′) l
+      → Called C (lentAll bs zs ss c) ls r (lentAll bs (zs′ ++ drop (row .state) zs) ss c′) (l ++ drop (row .output) ls)
+  unfolding rowAsk
+  timing-called e zs′ c′ l g =
+      let q = timed′ (rowDraws numbers row) (row .number) in
+      let a = timed-effect (take (row .model) bs) (take (row .state) zs) (take (row .saves) ss) c q refl L in
+      rw (take-append-drop (row .model) bs, take-append-drop (row .saves) ss) at
+      (gives (on′ q) (rw e) (take (row .model) bs) zs′ (take (row .saves) ss) c′ l
+      (alike-gives (lentTimed (take (row .model) bs) zs′ c′) (lentAll (take (row .model) bs) zs′ (take (row .saves) ss) c′) l a (rw draws-are at g) at others))
+    where
+      at : (p : Part) → isLent p timedParts ≡ true → lentAll (take (row .model) bs) zs′ (take (row .saves) ss) c′ p ≡ lentTimed (take (row .model) bs) zs′ c′ p
+      at model e = unfold lentTimed lentAll isLent in refl
+      at state e = unfold lentTimed lentAll isLent in refl
+      at saves e = unfold lentTimed lentAll isLent in absurd (let z : _≡_ {A = ℕ} 0 1 = cc in omega arith)
+      at clock e = unfold lentTimed lentAll isLent in refl
+
+      others : (p : Part) → isLent p timedParts ≡ false → lentAll (take (row .model) bs) zs′ (take (row .saves) ss) c′ p ≡ X p
+      others model e = unfold lentAll isLent in absurd (let z : _≡_ {A = ℕ} 0 1 = cc in omega arith)
+      others state e = unfold lentAll isLent in absurd (let z : _≡_ {A = ℕ} 0 1 = cc in omega arith)
+      others saves e = unfold lentAll isLent in refl
+      others clock e = unfold lentAll isLent in absurd (let z : _≡_ {A = ℕ} 0 1 = cc in omega arith)
+
   -- 02, note 2
-  pub saving-called : row .kind ≡ 5 → (ss′ : List ℤ) → Gives (effect (on′ (save′ T)) X []) r (lentThree (take (row .model) bs) (take (row .state) zs) ss′) []
-      → Called (rowCall texts row) (lentThree bs zs ss) ls r (lentThree bs zs (ss′ ++ drop (row .saves) ss)) ls
+  pub saving-called : row .kind ≡ 5 → (ss′ : List ℤ) → Gives (effect (on′ (save′ T)) X []) r (lentAll (take (row .model) bs) (take (row .state) zs) ss′ c) []
+      → Called C (lentAll bs zs ss c) ls r (lentAll bs zs (ss′ ++ drop (row .saves) ss) c) ls
   unfolding rowAsk acts
   saving-called e ss′ g =
       let n = rowText texts row in
       rw (take-append-drop (row .model) bs, take-append-drop (row .state) zs) at
-      (bare-gives (on′ (save′ n)) (rw e) (named-bare (save′ n) (saving n) (λ h. refl) refl X L) (take (row .model) bs) (take (row .state) zs) ss′ (rw text-is at g))
+      (bare-gives (on′ (save′ n)) (rw e) (named-bare (save′ n) (saving n) (λ h. refl) refl X L) (take (row .model) bs) (take (row .state) zs) ss′ c (rw text-is at g))
 
-  pub returning-called : row .kind ≡ 6 → (zs′ : List ℤ) → Gives (effect (on′ (return′ T)) X []) r (lentThree (take (row .model) bs) zs′ (take (row .saves) ss)) []
-      → Called (rowCall texts row) (lentThree bs zs ss) ls r (lentThree bs (zs′ ++ drop (row .state) zs) ss) ls
+  pub returning-called : row .kind ≡ 6 → (zs′ : List ℤ) (c′ : Clock) → Gives (effect (on′ (return′ T)) X []) r (lentAll (take (row .model) bs) zs′ (take (row .saves) ss) c′) []
+      → Called C (lentAll bs zs ss c) ls r (lentAll bs (zs′ ++ drop (row .state) zs) ss c′) ls
   unfolding rowAsk acts
-  returning-called e zs′ g =
+  returning-called e zs′ c′ g =
       let n = rowText texts row in
       rw (take-append-drop (row .model) bs, take-append-drop (row .saves) ss) at
-      (bare-gives (on′ (return′ n)) (rw e) (named-bare (return′ n) (returning n) (λ h. refl) refl X L) (take (row .model) bs) zs′ (take (row .saves) ss) (rw text-is at g))
+      (bare-gives (on′ (return′ n)) (rw e) (named-bare (return′ n) (returning n) (λ h. refl) refl X L) (take (row .model) bs) zs′ (take (row .saves) ss) c′ (rw text-is at g))
 
-  pub forgetting-called : row .kind ≡ 7 → (ss′ : List ℤ) → Gives (effect (on′ (forget′ T)) X []) r (lentThree (take (row .model) bs) (take (row .state) zs) ss′) []
-      → Called (rowCall texts row) (lentThree bs zs ss) ls r (lentThree bs zs (ss′ ++ drop (row .saves) ss)) ls
+  pub forgetting-called : row .kind ≡ 7 → (ss′ : List ℤ)
+      → Gives (effect (on′ (forget′ T)) (lentThree (take (row .model) bs) (take (row .state) zs) (take (row .saves) ss)) []) r (lentThree (take (row .model) bs) (take (row .state) zs) ss′) []
+      → Called C (lentAll bs zs ss c) ls r (lentAll bs zs (ss′ ++ drop (row .saves) ss) c) ls
   unfolding rowAsk acts
   forgetting-called e ss′ g =
       let n = rowText texts row in
+      let a = three-effect (take (row .model) bs) (take (row .state) zs) (take (row .saves) ss) c (forget′ n) refl [] in
       rw (take-append-drop (row .model) bs, take-append-drop (row .state) zs) at
-      (bare-gives (on′ (forget′ n)) (rw e) (named-bare (forget′ n) (forgetting n) (λ h. refl) refl X L) (take (row .model) bs) (take (row .state) zs) ss′ (rw text-is at g))
+      (bare-gives (on′ (forget′ n)) (rw e) (named-bare (forget′ n) (forgetting n) (λ h. refl) refl X L) (take (row .model) bs) (take (row .state) zs) ss′ c
+      (alike-gives (lentThree (take (row .model) bs) (take (row .state) zs) ss′) (lentAll (take (row .model) bs) (take (row .state) zs) ss′ c) [] a (rw text-is at g) at others))
+    where
+      at : (p : Part) → isLent p threeParts ≡ true → lentAll (take (row .model) bs) (take (row .state) zs) ss′ c p ≡ lentThree (take (row .model) bs) (take (row .state) zs) ss′ p
+      at model e = unfold lentThree lentAll isLent in refl
+      at state e = unfold lentThree lentAll isLent in refl
+      at saves e = unfold lentThree lentAll isLent in refl
+      at clock e = unfold lentThree lentAll isLent in absurd (let z : _≡_ {A = ℕ} 0 1 = cc in omega arith)
+
+      others : (p : Part) → isLent p threeParts ≡ false → lentAll (take (row .model) bs) (take (row .state) zs) ss′ c p ≡ X p
+      others model e = unfold lentAll isLent in absurd (let z : _≡_ {A = ℕ} 0 1 = cc in omega arith)
+      others state e = unfold lentAll isLent in absurd (let z : _≡_ {A = ℕ} 0 1 = cc in omega arith)
+      others saves e = unfold lentAll isLent in absurd (let z : _≡_ {A = ℕ} 0 1 = cc in omega arith)
+      others clock e = unfold lentAll isLent in refl
 
 -- ---- kinds that are left
 
-pub named-kind : (k : ℕ) → 1 ≤ k → (k ≡ 1 → ⊥) → (k ≡ 2 → ⊥) → (k ≡ 4 → ⊥) → (k ≡ 3 → ⊥) → 5 ≤ k
-named-kind zero l a b c d = absurd (omega arith)
-named-kind (suc zero) l a b c d = absurd (a refl)
-named-kind (suc (suc zero)) l a b c d = absurd (b refl)
-named-kind (suc (suc (suc zero))) l a b c d = absurd (d refl)
-named-kind (suc (suc (suc (suc zero)))) l a b c d = absurd (c refl)
-named-kind (suc (suc (suc (suc (suc k))))) l a b c d = omega arith
+pub named-kind : (k : ℕ) → 1 ≤ k → k ≤ 8 → (k ≡ 1 → ⊥) → (k ≡ 2 → ⊥) → (k ≡ 4 → ⊥) → (k ≡ 3 → ⊥) → (k ≡ 8 → ⊥) → (5 ≤ k) × (k ≤ 7)
+named-kind zero l m a b c d e = absurd (omega arith)
+named-kind (suc zero) l m a b c d e = absurd (a refl)
+named-kind (suc (suc zero)) l m a b c d e = absurd (b refl)
+named-kind (suc (suc (suc zero))) l m a b c d e = absurd (d refl)
+named-kind (suc (suc (suc (suc zero)))) l m a b c d e = absurd (c refl)
+named-kind (suc (suc (suc (suc (suc zero))))) l m a b c d e = (omega arith, omega arith)
+named-kind (suc (suc (suc (suc (suc (suc zero)))))) l m a b c d e = (omega arith, omega arith)
+named-kind (suc (suc (suc (suc (suc (suc (suc zero))))))) l m a b c d e = (omega arith, omega arith)
+named-kind (suc (suc (suc (suc (suc (suc (suc (suc zero)))))))) l m a b c d e = absurd (e refl)
+named-kind (suc (suc (suc (suc (suc (suc (suc (suc (suc k))))))))) l m a b c d e = absurd (omega arith)
 
 pub last-kind : (k : ℕ) → 5 ≤ k → k ≤ 7 → (k ≡ 5 → ⊥) → (k ≡ 6 → ⊥) → k ≡ 7
 last-kind k l m a b = by (k - 5) (omega arith)

@@ -7,10 +7,12 @@ use native.Mathlib.Omega.{arith}
 use borrow.Author.Tests.{leb-true, leb-false, le-leb, lt-leb}
 use lib.Dec.{leb}
 use lib.ListN.{length, set, drop}
+use Rattle.clock.specs.declared.Clock.{Clock}
+use Rattle.buffers.specs.Parts.{clockNumbers}
 use Rattle.engine.specs.declared.Answer as engine
 use Rattle.script.specs.declared.Row.{Row}
 use Rattle.machine.specs.Machine.{allParts}
-use Rattle.script.specs.Rows.{openKind, forgetKind, answerWidth, rowLengths, fits}
+use Rattle.script.specs.Rows.{openKind, timedKind, answerWidth, rowLengths, fits}
 use Rattle.script.specs.Run.{lengthsOf, resultNumbers}
 
 -- two tests of one fact
@@ -26,47 +28,52 @@ same-test a b c d f g = by (leb a b) refl
         other false w = w
 
 -- each return of the test of a row
-module _ (r : Row) (t n m s v o : ℕ) where
+module _ (r : Row) (t n m s v k o : ℕ) where
   abbrev Fit : Bool
-  Fit = fits r t n (lengthsOf m s v) o
+  Fit = fits r t n (lengthsOf m s v k) o
 
   pub no-least : r .kind < openKind → Fit ≡ false
   unfolding fits
   no-least e = rw (lt-leb openKind (r .kind) e)
 
   module _ (a : openKind ≤ r .kind) where
-    pub no-most : forgetKind < r .kind → Fit ≡ false
+    pub no-most : timedKind < r .kind → Fit ≡ false
     unfolding fits
-    no-most e = rw (le-leb openKind (r .kind) a, lt-leb (r .kind) forgetKind e)
+    no-most e = rw (le-leb openKind (r .kind) a, lt-leb (r .kind) timedKind e)
 
-    module _ (b : r .kind ≤ forgetKind) where
+    module _ (b : r .kind ≤ timedKind) where
       pub no-text : leb (r .text + r .size) t ≡ false → Fit ≡ false
       unfolding fits
-      no-text e = rw (le-leb openKind (r .kind) a, le-leb (r .kind) forgetKind b, e)
+      no-text e = rw (le-leb openKind (r .kind) a, le-leb (r .kind) timedKind b, e)
 
       module _ (c : leb (r .text + r .size) t ≡ true) where
         pub no-list : leb (r .from + r .count) n ≡ false → Fit ≡ false
         unfolding fits
-        no-list e = rw (le-leb openKind (r .kind) a, le-leb (r .kind) forgetKind b, c, e)
+        no-list e = rw (le-leb openKind (r .kind) a, le-leb (r .kind) timedKind b, c, e)
 
         module _ (d : leb (r .from + r .count) n ≡ true) where
           pub no-model : m < r .model → Fit ≡ false
           unfolding fits allParts rowLengths lengthsOf
-          no-model e = rw (le-leb openKind (r .kind) a, le-leb (r .kind) forgetKind b, c, d, lt-leb (r .model) m e)
+          no-model e = rw (le-leb openKind (r .kind) a, le-leb (r .kind) timedKind b, c, d, lt-leb (r .model) m e)
 
           module _ (f : r .model ≤ m) where
             pub no-state : s < r .state → Fit ≡ false
             unfolding fits allParts rowLengths lengthsOf
-            no-state e = rw (le-leb openKind (r .kind) a, le-leb (r .kind) forgetKind b, c, d, le-leb (r .model) m f, lt-leb (r .state) s e)
+            no-state e = rw (le-leb openKind (r .kind) a, le-leb (r .kind) timedKind b, c, d, le-leb (r .model) m f, lt-leb (r .state) s e)
 
             module _ (g : r .state ≤ s) where
               pub no-saves : v < r .saves → Fit ≡ false
               unfolding fits allParts rowLengths lengthsOf
-              no-saves e = rw (le-leb openKind (r .kind) a, le-leb (r .kind) forgetKind b, c, d, le-leb (r .model) m f, le-leb (r .state) s g, lt-leb (r .saves) v e)
+              no-saves e = rw (le-leb openKind (r .kind) a, le-leb (r .kind) timedKind b, c, d, le-leb (r .model) m f, le-leb (r .state) s g, lt-leb (r .saves) v e)
 
-              pub output-fits : r .saves ≤ v → Fit ≡ leb (r .output) o
-              unfolding fits allParts rowLengths lengthsOf
-              output-fits e = rw (le-leb openKind (r .kind) a, le-leb (r .kind) forgetKind b, c, d, le-leb (r .model) m f, le-leb (r .state) s g, le-leb (r .saves) v e)
+              module _ (i : r .saves ≤ v) where
+                pub no-clock : k < 2 → Fit ≡ false
+                unfolding fits allParts rowLengths lengthsOf
+                no-clock e = rw (le-leb openKind (r .kind) a, le-leb (r .kind) timedKind b, c, d, le-leb (r .model) m f, le-leb (r .state) s g, le-leb (r .saves) v i, lt-leb 2 k e)
+
+                pub output-fits : 2 ≤ k → Fit ≡ leb (r .output) o
+                unfolding fits allParts rowLengths lengthsOf
+                output-fits e = rw (le-leb openKind (r .kind) a, le-leb (r .kind) timedKind b, c, d, le-leb (r .model) m f, le-leb (r .state) s g, le-leb (r .saves) v i, le-leb 2 k e)
 
 -- an answer's numbers, one after the other
 pub written : (l : List ℕ) (r : engine.Answer) → answerWidth ≤ length l
@@ -79,3 +86,9 @@ written (a ∷ b ∷ c ∷ []) r h = absurd (omega arith)
 written (a ∷ b ∷ c ∷ d ∷ []) r h = absurd (omega arith)
 written (a ∷ b ∷ c ∷ d ∷ e ∷ []) r h = absurd (omega arith)
 written (a ∷ b ∷ c ∷ d ∷ e ∷ f ∷ l) r h = refl
+
+-- and a clock's
+pub clock-written : (l : List ℕ) (c : Clock) → 2 ≤ length l → set (set l 0 (c .ticks)) 1 (c .draws) ≡ clockNumbers c ++ drop 2 l
+clock-written [] c h = absurd (omega arith)
+clock-written (a ∷ []) c h = absurd (omega arith)
+clock-written (a ∷ b ∷ l) c h = refl

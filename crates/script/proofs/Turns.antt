@@ -11,10 +11,9 @@ use lib.Dec.{leb}
 use lib.IntN.{ℤ}
 use lib.ListN.{length, take, drop, length-drop, take-append-drop}
 use lib.Seq.{drop-drop, take-add}
-use Rattle.machine.specs.Machine.{listingLength, Part, model, state, saves, Call}
-use Rattle.buffers.specs.Parts.{lentThree}
+use Rattle.machine.specs.Machine.{listingLength, Part, model, state, saves, clock, Call}
 use Rattle.script.specs.Rows.{rowWidth, answerWidth, rowOf, rows, rowsOf, Room, roomAfter, callOf, firstCall, callsOf, callsIn}
-use Rattle.script.specs.Run.{Lent, lentOf, roomOf, callLeft, nextLent, joined, runLeft, RowRan, lentFrom, RowRanAt, Ran}
+use Rattle.script.specs.Run.{Lent, lentFour, lentOf, roomOf, callLeft, nextLent, joined, runLeft, RowRan, lentFrom, RowRanAt, Ran}
 
 -- ---- the first row of a script, and the others
 
@@ -53,28 +52,33 @@ pub record Long (x y : Lent) : Type 0 where
   pub outputs : length (y .outputs) ≡ length (x .outputs)
   pub answers : length (y .answers) ≡ length (x .answers)
 
--- where the engine is a model, a state and saves
-module _ (bs bs′ : List ℕ) (zs zs′ ss ss′ : List ℤ) {ls ls′ ns ns′ : List ℕ} where
-  pub three-long : length bs′ ≡ length bs → length zs′ ≡ length zs → length ss′ ≡ length ss → length ls′ ≡ length ls → length ns′ ≡ length ns
-      → Long (lentOf (lentThree bs zs ss) ls ns) (lentOf (lentThree bs′ zs′ ss′) ls′ ns′)
-  three-long e f k g h = record { parts = at; outputs = g; answers = h }
+-- where the engine is a model, a state, saves and a clock
+module _ (bs bs′ : List ℕ) (zs zs′ ss ss′ : List ℤ) (cs cs′ : List ℕ) {ls ls′ ns ns′ : List ℕ} where
+  pub four-long : length bs′ ≡ length bs → length zs′ ≡ length zs → length ss′ ≡ length ss → length cs′ ≡ length cs → length ls′ ≡ length ls → length ns′ ≡ length ns
+      → Long (lentOf (lentFour bs zs ss cs) ls ns) (lentOf (lentFour bs′ zs′ ss′ cs′) ls′ ns′)
+  four-long e f k t g h = record { parts = at; outputs = g; answers = h }
     where
-      at : (p : Part) → length (lentThree bs′ zs′ ss′ p) ≡ length (lentThree bs zs ss p)
-      at model = unfold lentThree in e
-      at state = unfold lentThree in f
-      at saves = unfold lentThree in k
+      at : (p : Part) → length (lentFour bs′ zs′ ss′ cs′ p) ≡ length (lentFour bs zs ss cs p)
+      at model = unfold lentFour in e
+      at state = unfold lentFour in f
+      at saves = unfold lentFour in k
+      at clock = unfold lentFour in t
 
-  pub model-long : Long (lentOf (lentThree bs zs ss) ls ns) (lentOf (lentThree bs′ zs′ ss′) ls′ ns′) → length bs′ ≡ length bs
-  unfolding lentThree
+  pub model-long : Long (lentOf (lentFour bs zs ss cs) ls ns) (lentOf (lentFour bs′ zs′ ss′ cs′) ls′ ns′) → length bs′ ≡ length bs
+  unfolding lentFour
   model-long l = l .parts model
 
-  pub state-long : Long (lentOf (lentThree bs zs ss) ls ns) (lentOf (lentThree bs′ zs′ ss′) ls′ ns′) → length zs′ ≡ length zs
-  unfolding lentThree
+  pub state-long : Long (lentOf (lentFour bs zs ss cs) ls ns) (lentOf (lentFour bs′ zs′ ss′ cs′) ls′ ns′) → length zs′ ≡ length zs
+  unfolding lentFour
   state-long l = l .parts state
 
-  pub saves-long : Long (lentOf (lentThree bs zs ss) ls ns) (lentOf (lentThree bs′ zs′ ss′) ls′ ns′) → length ss′ ≡ length ss
-  unfolding lentThree
+  pub saves-long : Long (lentOf (lentFour bs zs ss cs) ls ns) (lentOf (lentFour bs′ zs′ ss′ cs′) ls′ ns′) → length ss′ ≡ length ss
+  unfolding lentFour
   saves-long l = l .parts saves
+
+  pub clock-long : Long (lentOf (lentFour bs zs ss cs) ls ns) (lentOf (lentFour bs′ zs′ ss′ cs′) ls′ ns′) → length cs′ ≡ length cs
+  unfolding lentFour
+  clock-long l = l .parts clock
 
 -- what rows before i have written, then what the others are lent and leave
 abbrev onto : ℕ → Lent → Lent → Lent

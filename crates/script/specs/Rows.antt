@@ -5,7 +5,7 @@ use mathlib.Core.Option.{Option, none, some, Option·elim}
 use Prim.Native.Nat.{ℕ, zero, suc, _+_, _-_, _/_}
 use lib.Dec.{eqb, leb}
 use lib.ListN.{length, getD, take, drop}
-use Rattle.machine.specs.Machine.{listingLength, list′, step′, report′, save′, return′, forget′, Ask, open′, on′, Part, model, state, saves, allParts, Call, call}
+use Rattle.machine.specs.Machine.{listingLength, list′, step′, report′, timed′, save′, return′, forget′, Ask, open′, on′, Part, model, state, saves, clock, size, allParts, Call, call}
 use Rattle.script.specs.declared.Row.{Row}
 
 -- numbers of a row, and of an answer
@@ -37,6 +37,9 @@ returnKind = 6
 abbrev pub forgetKind : ℕ
 forgetKind = 7
 
+abbrev pub timedKind : ℕ
+timedKind = 8
+
 -- ---- rows
 
 -- kind; place and size of a text or name, and of a list of numbers; a draw; how many numbers of the output and of each part are lent
@@ -65,13 +68,14 @@ rowsOf l = rows (length l / rowWidth) l
 
 -- the parts of the engine, in the order of a row
 abbrev pub rowParts : List Part
-rowParts = model ∷ state ∷ saves ∷ []
+rowParts = model ∷ state ∷ saves ∷ clock ∷ []
 
--- how many numbers of each a row lends
+-- how many numbers of each a row lends; 02, note 4: the clock is lent whole
 unfoldable pub rowLengths : Row → Part → ℕ
 rowLengths r model = r .model
 rowLengths r state = r .state
 rowLengths r saves = r .saves
+rowLengths r clock = size clock
 
 -- ---- calls
 
@@ -88,7 +92,7 @@ roomAfter x = record { parts = x .parts; outputs = x .outputs - listingLength; a
 -- a row of one of the kinds, that asks for no more than there is: its text and its list stand in so many bytes and numbers, and what it lends is there
 unfoldable pub fits : Row → (texts numbers : ℕ) → (Part → ℕ) → (outputs : ℕ) → Bool
 fits r texts numbers parts outputs =
-    leb openKind (r .kind) && (leb (r .kind) forgetKind
+    leb openKind (r .kind) && (leb (r .kind) timedKind
     && (leb (r .text + r .size) texts && (leb (r .from + r .count) numbers
     && (allParts (λ (p : Part). leb (rowLengths r p) (parts p)) rowParts && leb (r .output) outputs))))
 
@@ -96,23 +100,28 @@ fits r texts numbers parts outputs =
 unfoldable pub rowText : List ℕ → Row → List ℕ
 rowText texts r = take (r .size) (drop (r .text) texts)
 
--- 01, Rule machine: what a row that fits asks: a text or a draw; 02, note 2: or a name
-unfoldable pub rowAsk : List ℕ → Row → Ask
-rowAsk texts r =
+-- 02, note 4: the waiting draws of a row
+unfoldable pub rowDraws : List ℕ → Row → List ℕ
+rowDraws numbers r = take (r .count) (drop (r .from) numbers)
+
+-- 01, Rule machine: what a row that fits asks: a text or a draw; 02, note 2: or a name; note 4: or waiting draws and a draw
+unfoldable pub rowAsk : (texts numbers : List ℕ) → Row → Ask
+rowAsk texts numbers r =
     cond (eqb (r .kind) openKind) (open′ (rowText texts r))
     (cond (eqb (r .kind) listKind) (on′ list′)
     (cond (eqb (r .kind) reportKind) (on′ report′)
     (cond (eqb (r .kind) stepKind) (on′ (step′ (r .number)))
+    (cond (eqb (r .kind) timedKind) (on′ (timed′ (rowDraws numbers r) (r .number)))
     (cond (eqb (r .kind) saveKind) (on′ (save′ (rowText texts r)))
-    (cond (eqb (r .kind) returnKind) (on′ (return′ (rowText texts r))) (on′ (forget′ (rowText texts r))))))))
+    (cond (eqb (r .kind) returnKind) (on′ (return′ (rowText texts r))) (on′ (forget′ (rowText texts r)))))))))
 
 -- 01, Rule machine: its call, with the lengths of what is lent
-unfoldable pub rowCall : List ℕ → Row → Call
-rowCall texts r = call (rowAsk texts r) (rowLengths r) (r .output)
+unfoldable pub rowCall : (texts numbers : List ℕ) → Row → Call
+rowCall texts numbers r = call (rowAsk texts numbers r) (rowLengths r) (r .output)
 
 -- a row is a call where it fits and there is room for its answer
 unfoldable pub callOf : (texts numbers : List ℕ) → Room → Row → Option Call
-callOf texts numbers x r = cond (leb answerWidth (x .answers) && fits r (length texts) (length numbers) (x .parts) (x .outputs)) (some (rowCall texts r)) none
+callOf texts numbers x r = cond (leb answerWidth (x .answers) && fits r (length texts) (length numbers) (x .parts) (x .outputs)) (some (rowCall texts numbers r)) none
 
 -- the call of the first row of a script
 unfoldable pub firstCall : (script texts numbers : List ℕ) → Room → Option Call

@@ -4,8 +4,9 @@ use mathlib.Core.Bool.{Bool, true, false}
 use mathlib.Core.List.{List, [], _∷_, _++_}
 use mathlib.Core.Option.{Option, none, some}
 use Prim.Native.Nat.{ℕ, _*_}
+use lib.IntN.{ℤ}
 use lib.ListN.{length, take, drop}
-use Rattle.machine.specs.Machine.{listingLength, Answer, Part, model, state, saves, Call}
+use Rattle.machine.specs.Machine.{listingLength, Answer, Part, model, state, saves, clock, Call}
 use Rattle.buffers.specs.Parts.{Engine}
 use Rattle.buffers.specs.Effect.{Effect, effect}
 use Rattle.engine.specs.declared.Answer as engine
@@ -24,11 +25,19 @@ lentOf x ls ns = record { engine = x; outputs = ls; answers = ns }
 unfoldable pub roomOf : Lent → Room
 roomOf x = record { parts = λ (p : Part). length (x .engine p); outputs = length (x .outputs); answers = length (x .answers) }
 
--- the same of the parts one by one
-unfoldable pub lengthsOf : (model state saves : ℕ) → Part → ℕ
-lengthsOf m s v model = m
-lengthsOf m s v state = s
-lengthsOf m s v saves = v
+-- the engine of a run, part by part
+unfoldable pub lentFour : List ℕ → List ℤ → List ℤ → List ℕ → Engine
+lentFour bs zs ss cs model = bs
+lentFour bs zs ss cs state = zs
+lentFour bs zs ss cs saves = ss
+lentFour bs zs ss cs clock = cs
+
+-- and the lengths of its parts
+unfoldable pub lengthsOf : (model state saves clock : ℕ) → Part → ℕ
+lengthsOf m s v t model = m
+lengthsOf m s v t state = s
+lengthsOf m s v t saves = v
+lengthsOf m s v t clock = t
 
 -- 01, Opening a text, Listing and stepping: what a call answers and leaves, which is lent the first numbers of each part and of the outputs
 unfoldable pub effectOf : Call → Engine → List ℕ → Effect

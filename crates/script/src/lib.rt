@@ -1,18 +1,21 @@
 // A script of calls on one engine: ten numbers a row, run in order on lent buffers.
+use clock::Clock;
 use engine::Answer;
+use engine::Timed;
 use store::Engine;
 ghost use mathlib.Core.Path.{_≡_};
 ghost use mathlib.Core.Bool.{true};
 ghost use mathlib.Core.List.{List, _++_};
 ghost use Prim.Native.Nat.{ℕ, _+_, _*_, _≤_, min};
 ghost use lib.Dec.{leb};
+ghost use lib.IntN.{ℤ};
 ghost use lib.ListN.{length, drop};
-ghost use Rattle.buffers.specs.Parts.{lentThree};
-ghost use Rattle.script.specs.Rows.{rowWidth, answerWidth, saveKind, rowOf, fits, rowCall, firstCall};
-ghost use Rattle.script.specs.Run.{lentOf, roomOf, lengthsOf, resultNumbers, Called, RowRan, RowRanAt, Ran};
+ghost use Rattle.buffers.specs.Parts.{clockNumbers, clockIn, lentAll};
+ghost use Rattle.script.specs.Rows.{rowWidth, answerWidth, saveKind, forgetKind, timedKind, rowOf, fits, rowCall, firstCall};
+ghost use Rattle.script.specs.Run.{lentFour, lentOf, roomOf, lengthsOf, resultNumbers, Called, RowRan, RowRanAt, Ran};
 ghost use Rattle.script.specs.Follows.{Refines};
 
-// A row: the kind of call; place and size of its text or name, and of its list of numbers; its draw; how many numbers of the output, the model, the state and the saves it is lent.
+// A row: the kind of call; place and size of its text or name, and of its waiting draws; its draw; how many numbers of the output, the model, the state and the saves it is lent.
 pub struct Row {
     pub kind: u64,
     pub text: usize,
@@ -32,6 +35,9 @@ impl Row {
 
     pub const ANSWER: usize = 6;
 
+    // Numbers of a clock.
+    pub const CLOCK: usize = 2;
+
     // The kinds of calls, from OPEN to LAST.
     pub const OPEN: u64 = 1;
 
@@ -47,7 +53,9 @@ impl Row {
 
     pub const FORGET: u64 = 7;
 
-    pub const LAST: u64 = Row::FORGET;
+    pub const TIMED: u64 = 8;
+
+    pub const LAST: u64 = Row::TIMED;
 }
 
 // The first row of a script.
@@ -79,7 +87,7 @@ fn has_part(all: usize, first: usize, size: usize) -> bool
     first <= all - size
 }
 
-// Whether a row is a call on so much: bytes of texts, numbers, numbers of a model, a state, saves and outputs.
+// Whether a row is a call on so much: bytes of texts, waiting draws, numbers of a model, a state, saves, a clock and outputs.
 fn is_call(
     row: Row,
     texts: usize,
@@ -87,9 +95,10 @@ fn is_call(
     model: usize,
     state: usize,
     saves: usize,
+    clock: usize,
     outputs: usize,
 ) -> bool
-    ensures { λ r. ⌜ r ≡ fits row texts numbers (lengthsOf model state saves) outputs ⌝ }
+    ensures { λ r. ⌜ r ≡ fits row texts numbers (lengthsOf model state saves clock) outputs ⌝ }
 {
     if row.kind < Row::OPEN {
         return false;
@@ -112,13 +121,23 @@ fn is_call(
     if saves < row.saves {
         return false;
     }
+    if clock < Row::CLOCK {
+        return false;
+    }
     row.output <= outputs
 }
 
 // Makes the call of a row on the saves.
-fn call_named(row: Row, texts: &[u8], model: &[u8], state: &mut [i64], saves: &mut [i64]) -> Answer
-    requires { ⌜ (saveKind ≤ row .kind) × ((n : ℕ) × ((o : ℕ) × (fits row (length (now texts)) n (lengthsOf (length (now model)) (length (now state)) (length (now saves))) o ≡ true))) ⌝ }
-    ensures { λ r. ⌜ ((ls : List ℕ) → Called (rowCall (now (texts .entry)) row) (lentThree (now (model .entry)) (now (state .entry)) (now (saves .entry))) ls r (lentThree (now (model .entry)) (now (state .exit)) (now (saves .exit))) ls) ⌝ }
+fn call_named(
+    row: Row,
+    texts: &[u8],
+    model: &[u8],
+    state: &mut [i64],
+    saves: &mut [i64],
+    clock: Clock,
+) -> Timed
+    requires { ⌜ (saveKind ≤ row .kind) × ((row .kind ≤ forgetKind) × ((n : ℕ) × ((t : ℕ) × ((o : ℕ) × (fits row (length (now texts)) n (lengthsOf (length (now model)) (length (now state)) (length (now saves)) t) o ≡ true))))) ⌝ }
+    ensures { λ r. ⌜ ((ns ls : List ℕ) → Called (rowCall (now (texts .entry)) ns row) (lentAll (now (model .entry)) (now (state .entry)) (now (saves .entry)) clock) ls (r .answer) (lentAll (now (model .entry)) (now (state .exit)) (now (saves .exit)) (r .clock)) ls) ⌝ }
 {
     let m = row.model;
     let s = row.state;
@@ -126,12 +145,14 @@ fn call_named(row: Row, texts: &[u8], model: &[u8], state: &mut [i64], saves: &m
     let first = row.text;
     let end = first + row.size;
     if row.kind == Row::SAVE {
-        return engine::save(
+        let answer = engine::save(
             &model[..m],
             &state[..s],
             &mut saves[..v],
             &texts[first..end],
+            clock,
         );
+        return Timed::of(answer, clock);
     }
     if row.kind == Row::RETURN {
         return engine::return_to(
@@ -139,13 +160,42 @@ fn call_named(row: Row, texts: &[u8], model: &[u8], state: &mut [i64], saves: &m
             &mut state[..s],
             &saves[..v],
             &texts[first..end],
+            clock,
         );
     }
-    engine::forget(
+    let answer = engine::forget(
         &model[..m],
         &state[..s],
         &mut saves[..v],
         &texts[first..end],
+    );
+    Timed::of(answer, clock)
+}
+
+// Makes the timed step of a row.
+fn call_timed(
+    row: Row,
+    numbers: &[u16],
+    model: &[u8],
+    state: &mut [i64],
+    outputs: &mut [u64],
+    clock: Clock,
+) -> Timed
+    requires { ⌜ (row .kind ≡ timedKind) × ((t : ℕ) × ((v : ℕ) × ((k : ℕ) × (fits row t (length (now numbers)) (lengthsOf (length (now model)) (length (now state)) v k) (length (now outputs)) ≡ true)))) ⌝ }
+    ensures { λ r. ⌜ ((texts : List ℕ) (ss : List ℤ) → Called (rowCall texts (now (numbers .entry)) row) (lentAll (now (model .entry)) (now (state .entry)) ss clock) (now (outputs .entry)) (r .answer) (lentAll (now (model .entry)) (now (state .exit)) ss (r .clock)) (now (outputs .exit))) ⌝ }
+{
+    let m = row.model;
+    let s = row.state;
+    let l = row.output;
+    let from = row.from;
+    let end = from + row.count;
+    engine::step_timed(
+        &model[..m],
+        &mut state[..s],
+        &mut outputs[..l],
+        &numbers[from..end],
+        row.number,
+        clock,
     )
 }
 
@@ -153,13 +203,15 @@ fn call_named(row: Row, texts: &[u8], model: &[u8], state: &mut [i64], saves: &m
 fn call(
     row: Row,
     texts: &[u8],
+    numbers: &[u16],
     model: &mut [u8],
     state: &mut [i64],
     saves: &mut [i64],
     outputs: &mut [u64],
-) -> Answer
-    requires { ⌜ ((n : ℕ) × (fits row (length (now texts)) n (lengthsOf (length (now model)) (length (now state)) (length (now saves))) (length (now outputs)) ≡ true)) ⌝ }
-    ensures { λ r. ⌜ Called (rowCall (now (texts .entry)) row) (lentThree (now (model .entry)) (now (state .entry)) (now (saves .entry))) (now (outputs .entry)) r (lentThree (now (model .exit)) (now (state .exit)) (now (saves .exit))) (now (outputs .exit)) ⌝ }
+    clock: Clock,
+) -> Timed
+    requires { ⌜ ((t : ℕ) × (fits row (length (now texts)) (length (now numbers)) (lengthsOf (length (now model)) (length (now state)) (length (now saves)) t) (length (now outputs)) ≡ true)) ⌝ }
+    ensures { λ r. ⌜ Called (rowCall (now (texts .entry)) (now (numbers .entry)) row) (lentAll (now (model .entry)) (now (state .entry)) (now (saves .entry)) clock) (now (outputs .entry)) (r .answer) (lentAll (now (model .exit)) (now (state .exit)) (now (saves .exit)) (r .clock)) (now (outputs .exit)) ⌝ }
 {
     let m = row.model;
     let s = row.state;
@@ -172,19 +224,46 @@ fn call(
             &mut model[..m],
             &mut state[..s],
             &mut saves[..v],
+            clock,
         );
     }
     let l = row.output;
     if row.kind == Row::LIST {
-        return engine::list(&model[..m], &state[..s], &mut outputs[..l]);
+        let answer = engine::list(&model[..m], &state[..s], &mut outputs[..l]);
+        return Timed::of(answer, clock);
     }
     if row.kind == Row::REPORT {
-        return engine::report(&model[..m], &state[..s], &mut outputs[..l]);
+        let answer = engine::report(&model[..m], &state[..s], &mut outputs[..l]);
+        return Timed::of(answer, clock);
     }
     if row.kind == Row::STEP {
-        return engine::step(&model[..m], &mut state[..s], &mut outputs[..l], row.number);
+        let answer = engine::step(&model[..m], &mut state[..s], &mut outputs[..l], row.number);
+        return Timed::of(answer, clock);
     }
-    call_named(row, texts, &model[..], state, saves)
+    if row.kind == Row::TIMED {
+        return call_timed(row, numbers, &model[..], state, outputs, clock);
+    }
+    call_named(row, texts, &model[..], state, saves, clock)
+}
+
+// The clock in its two numbers.
+fn clock_of(clock: &[u64]) -> Clock
+    requires { ⌜ 2 ≤ length (now clock) ⌝ }
+    ensures { λ r. ⌜ r ≡ clockIn (now (clock .entry)) ⌝ }
+{
+    Clock {
+        ticks: clock[0],
+        draws: clock[1],
+    }
+}
+
+// Writes a clock over its two numbers.
+fn put_clock(clock: &mut [u64], left: Clock)
+    requires { ⌜ 2 ≤ length (now clock) ⌝ }
+    ensures { λ _. ⌜ now (clock .exit) ≡ clockNumbers left ++ drop 2 (now (clock .entry)) ⌝ }
+{
+    clock[0] = left.ticks;
+    clock[1] = left.draws;
 }
 
 // Writes an answer's numbers over the first of answers.
@@ -204,14 +283,15 @@ fn put_answer(answers: &mut [u64], answer: Answer)
 fn run_row(
     script: &[u64],
     texts: &[u8],
-    numbers: &[u64],
+    numbers: &[u16],
     model: &mut [u8],
     state: &mut [i64],
     saves: &mut [i64],
+    clock: &mut [u64],
     outputs: &mut [u64],
     answers: &mut [u64],
 ) -> bool
-    ensures { λ r. ⌜ RowRan (firstCall (now (script .entry)) (now (texts .entry)) (now (numbers .entry)) (roomOf (lentOf (lentThree (now (model .entry)) (now (state .entry)) (now (saves .entry))) (now (outputs .entry)) (now (answers .entry))))) (lentOf (lentThree (now (model .entry)) (now (state .entry)) (now (saves .entry))) (now (outputs .entry)) (now (answers .entry))) r (lentOf (lentThree (now (model .exit)) (now (state .exit)) (now (saves .exit))) (now (outputs .exit)) (now (answers .exit))) ⌝ }
+    ensures { λ r. ⌜ RowRan (firstCall (now (script .entry)) (now (texts .entry)) (now (numbers .entry)) (roomOf (lentOf (lentFour (now (model .entry)) (now (state .entry)) (now (saves .entry)) (now (clock .entry))) (now (outputs .entry)) (now (answers .entry))))) (lentOf (lentFour (now (model .entry)) (now (state .entry)) (now (saves .entry)) (now (clock .entry))) (now (outputs .entry)) (now (answers .entry))) r (lentOf (lentFour (now (model .exit)) (now (state .exit)) (now (saves .exit)) (now (clock .exit))) (now (outputs .exit)) (now (answers .exit))) ⌝ }
 {
     if script.len() < Row::WIDTH {
         return false;
@@ -227,12 +307,15 @@ fn run_row(
         model.len(),
         state.len(),
         saves.len(),
+        clock.len(),
         outputs.len(),
     ) {
         return false;
     }
-    let answer = call(row, texts, model, state, saves, outputs);
-    put_answer(answers, answer);
+    let now = clock_of(&clock[..]);
+    let timed = call(row, texts, numbers, model, state, saves, outputs, now);
+    put_clock(clock, timed.clock);
+    put_answer(answers, timed.answer);
     true
 }
 
@@ -252,14 +335,15 @@ fn run_at(
     i: usize,
     script: &[u64],
     texts: &[u8],
-    numbers: &[u64],
+    numbers: &[u16],
     model: &mut [u8],
     state: &mut [i64],
     saves: &mut [i64],
+    clock: &mut [u64],
     outputs: &mut [u64],
     answers: &mut [u64],
 ) -> bool
-    ensures { λ r. ⌜ RowRanAt i (now (script .entry)) (now (texts .entry)) (now (numbers .entry)) (lentOf (lentThree (now (model .entry)) (now (state .entry)) (now (saves .entry))) (now (outputs .entry)) (now (answers .entry))) r (lentOf (lentThree (now (model .exit)) (now (state .exit)) (now (saves .exit))) (now (outputs .exit)) (now (answers .exit))) ⌝ }
+    ensures { λ r. ⌜ RowRanAt i (now (script .entry)) (now (texts .entry)) (now (numbers .entry)) (lentOf (lentFour (now (model .entry)) (now (state .entry)) (now (saves .entry)) (now (clock .entry))) (now (outputs .entry)) (now (answers .entry))) r (lentOf (lentFour (now (model .exit)) (now (state .exit)) (now (saves .exit)) (now (clock .exit))) (now (outputs .exit)) (now (answers .exit))) ⌝ }
 {
     let row = place_of(i, Row::WIDTH, script.len());
     let output = place_of(i, Engine::LISTING, outputs.len());
@@ -271,6 +355,7 @@ fn run_at(
         model,
         state,
         saves,
+        clock,
         &mut outputs[output..],
         &mut answers[answer..],
     )
@@ -280,15 +365,16 @@ fn run_at(
 pub fn run(
     script: &[u64],
     texts: &[u8],
-    numbers: &[u64],
+    numbers: &[u16],
     model: &mut [u8],
     state: &mut [i64],
     saves: &mut [i64],
+    clock: &mut [u64],
     outputs: &mut [u64],
     answers: &mut [u64],
 ) -> usize
-    ensures { λ r. ⌜ Ran (now (script .entry)) (now (texts .entry)) (now (numbers .entry)) (lentOf (lentThree (now (model .entry)) (now (state .entry)) (now (saves .entry))) (now (outputs .entry)) (now (answers .entry))) r (lentOf (lentThree (now (model .exit)) (now (state .exit)) (now (saves .exit))) (now (outputs .exit)) (now (answers .exit))) ⌝ }
-    ensures { λ _. ⌜ Refines (now (script .entry)) (now (texts .entry)) (now (numbers .entry)) (lentOf (lentThree (now (model .entry)) (now (state .entry)) (now (saves .entry))) (now (outputs .entry)) (now (answers .entry))) (lentOf (lentThree (now (model .exit)) (now (state .exit)) (now (saves .exit))) (now (outputs .exit)) (now (answers .exit))) ⌝ }
+    ensures { λ r. ⌜ Ran (now (script .entry)) (now (texts .entry)) (now (numbers .entry)) (lentOf (lentFour (now (model .entry)) (now (state .entry)) (now (saves .entry)) (now (clock .entry))) (now (outputs .entry)) (now (answers .entry))) r (lentOf (lentFour (now (model .exit)) (now (state .exit)) (now (saves .exit)) (now (clock .exit))) (now (outputs .exit)) (now (answers .exit))) ⌝ }
+    ensures { λ _. ⌜ Refines (now (script .entry)) (now (texts .entry)) (now (numbers .entry)) (lentOf (lentFour (now (model .entry)) (now (state .entry)) (now (saves .entry)) (now (clock .entry))) (now (outputs .entry)) (now (answers .entry))) (lentOf (lentFour (now (model .exit)) (now (state .exit)) (now (saves .exit)) (now (clock .exit))) (now (outputs .exit)) (now (answers .exit))) ⌝ }
 {
     let mut i = 0;
     while run_at(
@@ -299,6 +385,7 @@ pub fn run(
         model,
         state,
         saves,
+        clock,
         outputs,
         answers,
     ) {

@@ -21,7 +21,7 @@ impl Engine {
 
     pub const REPORT: usize = 64;
 
-    pub const SAVES: usize = 40992;
+    pub const SAVES: usize = 41008;
 
     // Closed, no process, no pair.
     pub fn fresh() -> Self

@@ -3,7 +3,6 @@ use mathlib.Core.Path.{_≡_, refl, sym, ap, subst, _∙_}
 use mathlib.Core.Bool.{Bool, true, cond}
 use mathlib.Core.List.{List}
 use mathlib.Core.Logic.{_↔_}
-use mathlib.Core.Option.{Option, none, some}
 use Prim.Native.Nat.{ℕ, _<_}
 use native.Mathlib.Omega.{arith}
 use lib.ListN.{length, getD}
@@ -24,10 +23,12 @@ use Rattle.model.specs.Questions.{Answers, no2, no3, no4, no5, no6, no7, no8, n
 use Rattle.model.specs.Questions as questions
 use Rattle.model.proofs.Answered.{opening-answers}
 use Rattle.rules.proofs.Decides.{Decides, holds, fails, passes}
+use Rattle.clock.specs.declared.Clock.{Clock}
 use Rattle.machine.specs.State.{State, stateLength}
+use Rattle.machine.specs.Timed.{Timed}
 use Rattle.machine.specs.Report.{reportLength}
 use Rattle.machine.specs.Saves.{Saves, Stored, saving, returning, forgetting}
-use Rattle.machine.specs.Machine.{modelLength, listingLength, asLent, no, Held, heldWith, held, Machine, closed, holding, onSaves, Request, list′, step′, report′, save′, return′, forget′, open′, on′, acts, Part, model, state, saves, size, twoParts, threeParts, uses, lentTo, isLent, hasLengths, call, onMachine}
+use Rattle.machine.specs.Machine.{modelLength, listingLength, asLent, no, Held, heldAll, heldWith, held, Machine, closed, holding, onSaves, Request, list′, step′, report′, timed′, save′, return′, forget′, open′, on′, acts, Part, model, state, saves, clock, size, twoParts, timedParts, threeParts, fourParts, uses, lentTo, isLent, hasLengths, call, onMachine}
 use Rattle.machine.proofs.Lent.{lent-so}
 use Rattle.machine.proofs.Listing.{accepted}
 use Rattle.buffers.specs.Listing.{shown}
@@ -35,11 +36,15 @@ use Rattle.buffers.specs.Parts.{Engine}
 use Rattle.buffers.specs.Effect.{Effect, machineIn, untouched, opensWith, leftIn, leaves, requested, answered, effect}
 use Rattle.buffers.proofs.Machines.{InTwo, both, in-two, eleven-exactly, text-machine}
 use Rattle.buffers.proofs.Machines as machines
+use Rattle.buffers.proofs.Clocks as clocks
+use Rattle.buffers.proofs.Clocks.{InTimed, in-timed, heldAt, times-as}
+use Rattle.buffers.proofs.Four as fours
+use Rattle.buffers.proofs.Four.{InFour, in-four, keeps}
 use Rattle.buffers.proofs.Three as threes
 use Rattle.buffers.proofs.Three.{InThree, all, in-three, stores}
 use Rattle.buffers.proofs.Answers.{lists-as, steps-as, reports-as}
 use Rattle.buffers.proofs.Every.{every-list}
-use Rattle.terms.specs.One.{Lengths, Hold, Opens, no1, no10, yes10, Asks, HoldSaves, Stores, TermOne}
+use Rattle.terms.specs.One.{Lengths, Hold, Opens, no1, no10, yes10, Asks, HoldSaves, Waits, Keeps, Stores, TermOne}
 use Rattle.terms.specs.One as one
 use Rattle.terms.specs.Two.{Reading, Passes, TermTwo}
 use Rattle.terms.specs.Three.{TermThree}
@@ -109,7 +114,7 @@ module _ (x : Engine) (l : List ℕ) (byte : getD (x model) 0 0 < 256) where
 
 -- ---- the calls on the saves
 
-module _ (x : Engine) (l : List ℕ) (byte : getD (x model) 0 0 < 256) (r : Request) (f : State → Saves → Stored) (q : (h : Held) → acts r h ≡ onSaves f h) (three : uses r ≡ threeParts)
+module _ (x : Engine) (l : List ℕ) (byte : getD (x model) 0 0 < 256) (r : Request) (f : Timed → Saves → Stored) (q : (h : Held) → acts r h ≡ onSaves f h) (three : uses r ≡ threeParts)
     (asked : effect (on′ r) x l ≡ cond (hasLengths (on′ r) (λ (p : Part). length (x p)) (length l)) (leaves threeParts x l (onMachine r (machineIn threeParts x))) (untouched x l)) where
   unheld : machineIn threeParts x ≡ closed → (m : Resolved.Model) (s : State) (ss : Saves) → HoldSaves x m s ss → ⊥
   unheld e m s ss h =
@@ -144,6 +149,78 @@ module _ (x : Engine) (l : List ℕ) (byte : getD (x model) 0 0 < 256) (r : Requ
       by (holds h) e = held-so h e
       by (fails h) e = subst (Stores r f x l) (sym e) (one.Stores.no1 h)
 
+-- ---- a timed step
+
+module _ (x : Engine) (l : List ℕ) (byte : getD (x model) 0 0 < 256) (ds : List ℕ) (d : ℕ)
+    (asked : effect (on′ (timed′ ds d)) x l ≡ cond (hasLengths (on′ (timed′ ds d)) (λ (p : Part). length (x p)) (length l)) (leaves timedParts x l (onMachine (timed′ ds d) (machineIn timedParts x))) (untouched x l)) where
+  timed-held : Lengths (on′ (timed′ ds d)) x l → effect (on′ (timed′ ds d)) x l ≡ leaves timedParts x l (onMachine (timed′ ds d) (machineIn timedParts x)) → Waits ds d x l (effect (on′ (timed′ ds d)) x l)
+  unfolding isLent
+  timed-held h w = by (in-timed x) refl
+    where
+      long : (p : Part) → isLent p timedParts ≡ true → length (x p) ≡ size p
+      long p t = h .parts p t
+
+      none-held : machineIn timedParts x ≡ closed → (m : Resolved.Model) (s : State) (c : Clock) → Hold x m s → one.HoldClock x c → ⊥
+      none-held e m s c k q =
+          let f : machineIn timedParts x ≡ holding (heldAt m s c) = clocks.eleven-timed x m s c (long model refl) byte (long state refl) (long clock refl) .1 ((k .text, k .bytes, k .holds, k .over, k .numbers), q .range, q .numbers) in
+          let z : _≡_ {A = ℕ} 0 1 = cc (e, f) in
+          omega arith
+
+      shut : machineIn timedParts x ≡ closed → leaves timedParts x l (onMachine (timed′ ds d) (machineIn timedParts x)) ≡ one.left (no 11 0 0 asLent) x l
+      shut e = unfold leaves onMachine leftIn shown no in ap (λ (y : Machine). leaves timedParts x l (onMachine (timed′ ds d) y)) e
+
+      by : {y : Machine} → InTimed y → machineIn timedParts x ≡ y → Waits ds d x l (effect (on′ (timed′ ds d)) x l)
+      by clocks.nothing e = subst (Waits ds d x l) (sym (w ∙ shut e)) (one.Waits.no11 h (none-held e))
+      by (clocks.all m s c) e =
+          let k = clocks.eleven-timed x m s c (long model refl) byte (long state refl) (long clock refl) .0 e in
+          one.Waits.yes11 h (record { text = k .0 .0; bytes = k .0 .1; holds = k .0 .2; over = k .0 .3; numbers = k .0 .4 }) (record { range = k .1; numbers = k .2 })
+          (times-as x l (long model refl) (long state refl) (long clock refl) m s c e (h .output listingLength refl) ds d)
+
+  asks-timed : Waits ds d x l (effect (on′ (timed′ ds d)) x l)
+  unfolding untouched
+  asks-timed = by (lent-so (call (on′ (timed′ ds d)) (λ (p : Part). length (x p)) (length l))) asked
+    where
+      by : {b : Bool} → Decides (Lengths (on′ (timed′ ds d)) x l) b → effect (on′ (timed′ ds d)) x l ≡ cond b (leaves timedParts x l (onMachine (timed′ ds d) (machineIn timedParts x))) (untouched x l)
+          → Waits ds d x l (effect (on′ (timed′ ds d)) x l)
+      by (holds h) e = timed-held h e
+      by (fails h) e = subst (Waits ds d x l) (sym e) (one.Waits.no1 h)
+
+-- ---- a save and a return
+
+module _ (x : Engine) (l : List ℕ) (byte : getD (x model) 0 0 < 256) (r : Request) (f : Timed → Saves → Stored) (q : (h : Held) → acts r h ≡ onSaves f h) (four : uses r ≡ fourParts)
+    (asked : effect (on′ r) x l ≡ cond (hasLengths (on′ r) (λ (p : Part). length (x p)) (length l)) (leaves fourParts x l (onMachine r (machineIn fourParts x))) (untouched x l)) where
+  four-held : Lengths (on′ r) x l → effect (on′ r) x l ≡ leaves fourParts x l (onMachine r (machineIn fourParts x)) → Keeps r f x l (effect (on′ r) x l)
+  unfolding isLent
+  four-held h w = by (in-four x) refl
+    where
+      long : (p : Part) → isLent p fourParts ≡ true → length (x p) ≡ size p
+      long p t = h .parts p (rw four t)
+
+      none-held : machineIn fourParts x ≡ closed → (m : Resolved.Model) (s : State) (ss : Saves) (c : Clock) → HoldSaves x m s ss → one.HoldClock x c → ⊥
+      none-held e m s ss c k q =
+          let o = k .hold in
+          let f : machineIn fourParts x ≡ holding (heldAll m s ss c) = fours.eleven-four x m s ss c (long model refl) byte (long state refl) (long saves refl) (long clock refl) .1 ((o .text, o .bytes, o .holds, o .over, o .numbers, k .over, k .numbers), q .range, q .numbers) in
+          let z : _≡_ {A = ℕ} 0 1 = cc (e, f) in
+          omega arith
+
+      shut : machineIn fourParts x ≡ closed → leaves fourParts x l (onMachine r (machineIn fourParts x)) ≡ one.left (no 11 0 0 asLent) x l
+      shut e = unfold leaves onMachine leftIn shown no in ap (λ (y : Machine). leaves fourParts x l (onMachine r y)) e
+
+      by : {y : Machine} → InFour y → machineIn fourParts x ≡ y → Keeps r f x l (effect (on′ r) x l)
+      by fours.nothing e = subst (Keeps r f x l) (sym (w ∙ shut e)) (one.Keeps.no11 h (none-held e))
+      by (fours.all m s ss c) e =
+          let k = fours.eleven-four x m s ss c (long model refl) byte (long state refl) (long saves refl) (long clock refl) .0 e in
+          subst (Keeps r f x l) (sym (w ∙ keeps r f q four x l m s ss c e))
+          (one.Keeps.yes11 h (record { hold = record { text = k .0 .0; bytes = k .0 .1; holds = k .0 .2; over = k .0 .3; numbers = k .0 .4 }; over = k .0 .5; numbers = k .0 .6 }) (record { range = k .1; numbers = k .2 }))
+
+  asks-kept : Keeps r f x l (effect (on′ r) x l)
+  unfolding untouched
+  asks-kept = by (lent-so (call (on′ r) (λ (p : Part). length (x p)) (length l))) asked
+    where
+      by : {b : Bool} → Decides (Lengths (on′ r) x l) b → effect (on′ r) x l ≡ cond b (leaves fourParts x l (onMachine r (machineIn fourParts x))) (untouched x l) → Keeps r f x l (effect (on′ r) x l)
+      by (holds h) e = four-held h e
+      by (fails h) e = subst (Keeps r f x l) (sym e) (one.Keeps.no1 h)
+
 pub term-one : TermOne
 unfolding effect answered requested machineIn acts
 term-one = record {
@@ -151,8 +228,9 @@ term-one = record {
   listing = λ x l byte. asks x l byte list′ _ refl refl (λ m s h a b e. lists-as x l a b m s e (h .output listingLength refl));
   stepping = λ x l d byte. asks x l byte (step′ d) _ refl refl (λ m s h a b e. steps-as x l a b m s e (h .output listingLength refl) d);
   reporting = λ x l byte. asks x l byte report′ _ refl refl (λ m s h a b e. reports-as x l a b m s e (h .output reportLength refl));
-  saves = λ x l n byte. asks-saves x l byte (save′ n) (saving n) (λ h. refl) refl refl;
-  returns = λ x l n byte. asks-saves x l byte (return′ n) (returning n) (λ h. refl) refl refl;
+  timing = λ x l ds d byte. asks-timed x l byte ds d refl;
+  saves = λ x l n byte. asks-kept x l byte (save′ n) (saving n) (λ h. refl) refl refl;
+  returns = λ x l n byte. asks-kept x l byte (return′ n) (returning n) (λ h. refl) refl refl;
   forgets = λ x l n byte. asks-saves x l byte (forget′ n) (forgetting n) (λ h. refl) refl refl;
 }
 

@@ -9,16 +9,19 @@ use Rattle.model.specs.Resolved
 use Rattle.model.specs.Held.{held}
 use Rattle.model.specs.Opening.{refused, opened}
 use Rattle.model.specs.Questions.{Answers}
+use Rattle.clock.specs.declared.Clock.{Clock}
+use Rattle.clock.specs.Clock.{freshClock, InRange}
 use Rattle.machine.specs.State.{State, stateNumbers, GoodState}
+use Rattle.machine.specs.Timed.{Timed, timed}
 use Rattle.machine.specs.Saves.{Saves, GoodSaves, Stored, saving, returning, forgetting}
 use Rattle.machine.specs.Machine as machine
-use Rattle.machine.specs.Machine.{asLent, Answer, no, Request, list′, step′, report′, save′, return′, forget′, Ask, open′, on′, Part, model, state, saves, call, openedState}
+use Rattle.machine.specs.Machine.{asLent, Answer, no, Request, list′, step′, report′, timed′, save′, return′, forget′, Ask, open′, on′, Part, model, state, saves, clock, call, openedState}
 use Rattle.machine.specs.Results.{Lent}
 use Rattle.saves.specs.Places.{savesNumbers}
 use Rattle.buffers.specs.Held.{modelBytes}
-use Rattle.buffers.specs.Parts.{Engine, fresh, numbersOf}
+use Rattle.buffers.specs.Parts.{Engine, clockNumbers, fresh, numbersOf}
 use Rattle.buffers.specs.Effect.{Effect, effect}
-use Rattle.buffers.specs.Answers.{ListsAs, StepsAs, ReportsAs, storesAs}
+use Rattle.buffers.specs.Answers.{ListsAs, StepsAs, ReportsAs, TimesAs, storesAs, keepsAs}
 
 -- 1: what a call is lent has its length: its buffers of the engine x, and its output l
 abbrev pub Lengths : Ask → Engine → List ℕ → Type 0
@@ -54,11 +57,28 @@ pub record HoldSaves (x : Engine) (m : Resolved.Model) (s : State) (ss : Saves) 
   pub over : GoodSaves m ss
   pub numbers : x saves ≡ savesNumbers ss
 
--- 02, note 2: 1, then 11, which change nothing, then 20 to 22 or acceptance as the turn f of the state and saves that are held says
-pub data Stores (r : Request) (f : State → Saves → Stored) (x : Engine) (l : List ℕ) : Effect → Type 0 where
+-- 02, note 4, 11: the clock is in its range, number for number
+pub record HoldClock (x : Engine) (c : Clock) : Type 0 where
+  pub range : InRange c
+  pub numbers : x clock ≡ clockNumbers c
+
+-- 02, note 4: 1, then 11, which change nothing, then what a timed step asks of the model, the state and the clock that are held
+pub data Waits (ds : List ℕ) (d : ℕ) (x : Engine) (l : List ℕ) : Effect → Type 0 where
+  no1 : (Lengths (on′ (timed′ ds d)) x l → ⊥) → Waits ds d x l (left (no 1 0 0 asLent) x l)
+  no11 : Lengths (on′ (timed′ ds d)) x l → ((m : Resolved.Model) (s : State) (c : Clock) → Hold x m s → HoldClock x c → ⊥) → Waits ds d x l (left (no 11 0 0 asLent) x l)
+  yes11 : {m : Resolved.Model} {s : State} {c : Clock} {e : Effect} → Lengths (on′ (timed′ ds d)) x l → Hold x m s → HoldClock x c → TimesAs m s x l c ds d e → Waits ds d x l e
+
+-- 02, notes 2 and 4: 1, then 11, which change nothing, then 20 to 22 or acceptance as the turn f of the state, the clock and the saves that are held says
+pub data Keeps (r : Request) (f : Timed → Saves → Stored) (x : Engine) (l : List ℕ) : Effect → Type 0 where
+  no1 : (Lengths (on′ r) x l → ⊥) → Keeps r f x l (left (no 1 0 0 asLent) x l)
+  no11 : Lengths (on′ r) x l → ((m : Resolved.Model) (s : State) (ss : Saves) (c : Clock) → HoldSaves x m s ss → HoldClock x c → ⊥) → Keeps r f x l (left (no 11 0 0 asLent) x l)
+  yes11 : {m : Resolved.Model} {s : State} {ss : Saves} {c : Clock} → Lengths (on′ r) x l → HoldSaves x m s ss → HoldClock x c → Keeps r f x l (keepsAs x l (f (timed s c) ss))
+
+-- 02, note 2: the same of a forget, which is lent no clock: its turn f reads none
+pub data Stores (r : Request) (f : Timed → Saves → Stored) (x : Engine) (l : List ℕ) : Effect → Type 0 where
   no1 : (Lengths (on′ r) x l → ⊥) → Stores r f x l (left (no 1 0 0 asLent) x l)
   no11 : Lengths (on′ r) x l → ((m : Resolved.Model) (s : State) (ss : Saves) → HoldSaves x m s ss → ⊥) → Stores r f x l (left (no 11 0 0 asLent) x l)
-  yes11 : {m : Resolved.Model} {s : State} {ss : Saves} → Lengths (on′ r) x l → HoldSaves x m s ss → Stores r f x l (storesAs x l (f s ss))
+  yes11 : {m : Resolved.Model} {s : State} {ss : Saves} → Lengths (on′ r) x l → HoldSaves x m s ss → Stores r f x l (storesAs x l (f (timed s freshClock) ss))
 
 -- the term; the first number of a model buffer is a byte
 pub record TermOne : Type 0 where
@@ -66,6 +86,7 @@ pub record TermOne : Type 0 where
   pub listing : (x : Engine) (l : List ℕ) → getD (x model) 0 0 < 256 → Asks list′ (λ m s. ListsAs m s x l) x l (effect (on′ list′) x l)
   pub stepping : (x : Engine) (l : List ℕ) (d : ℕ) → getD (x model) 0 0 < 256 → Asks (step′ d) (λ m s. StepsAs m s x l d) x l (effect (on′ (step′ d)) x l)
   pub reporting : (x : Engine) (l : List ℕ) → getD (x model) 0 0 < 256 → Asks report′ (λ m s. ReportsAs m s x l) x l (effect (on′ report′) x l)
-  pub saves : (x : Engine) (l n : List ℕ) → getD (x model) 0 0 < 256 → Stores (save′ n) (saving n) x l (effect (on′ (save′ n)) x l)
-  pub returns : (x : Engine) (l n : List ℕ) → getD (x model) 0 0 < 256 → Stores (return′ n) (returning n) x l (effect (on′ (return′ n)) x l)
+  pub timing : (x : Engine) (l ds : List ℕ) (d : ℕ) → getD (x model) 0 0 < 256 → Waits ds d x l (effect (on′ (timed′ ds d)) x l)
+  pub saves : (x : Engine) (l n : List ℕ) → getD (x model) 0 0 < 256 → Keeps (save′ n) (saving n) x l (effect (on′ (save′ n)) x l)
+  pub returns : (x : Engine) (l n : List ℕ) → getD (x model) 0 0 < 256 → Keeps (return′ n) (returning n) x l (effect (on′ (return′ n)) x l)
   pub forgets : (x : Engine) (l n : List ℕ) → getD (x model) 0 0 < 256 → Stores (forget′ n) (forgetting n) x l (effect (on′ (forget′ n)) x l)

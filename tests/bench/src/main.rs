@@ -13,7 +13,7 @@ mod models;
 
 use models::Model;
 use second::generate::{Engine, Random};
-use second::{Opening, LISTING, MODEL, REPORT, SAVES, STATE};
+use second::{Clock, Opening, LISTING, MODEL, REPORT, SAVES, STATE};
 use std::time::{Duration, Instant};
 
 /// The draws of every run come from this seed.
@@ -135,8 +135,9 @@ impl Times {
         let begun = Instant::now();
         while begun.elapsed() < REPEATING {
             let Buffers { model: held, state, saves, .. } = &mut buffers;
+            let mut clock = Clock::default();
             let start = Instant::now();
-            let opened = (engine.open)(&model.text, Opening { model: held, state, saves });
+            let opened = (engine.open)(&model.text, Opening { model: held, state, saves, clock: &mut clock });
             self.note(OPEN, 0, start);
             assert_eq!(opened.number, 0, "{}", model.name);
         }

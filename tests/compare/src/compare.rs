@@ -2,7 +2,7 @@
 
 use crate::met::Met;
 use second::generate::{Buffer, Buffers, Call, Engine};
-use second::{Answer, LISTING, MODEL, REPORT, SAVES, STATE};
+use second::{Answer, Clock, LISTING, MODEL, REPORT, SAVES, STATE};
 use std::collections::BTreeMap;
 use std::fmt;
 
@@ -15,6 +15,7 @@ pub enum Place {
     Listing,
     Report,
     Saves,
+    Clock,
 }
 
 /// The first difference between two engines on a list of calls.
@@ -55,7 +56,8 @@ pub fn run(tried: &Engine, oracle: &Engine, calls: &[Call], met: &mut Met) -> Re
         let (Some(first), Some(second)) = answers else { continue };
         let fault = differs(&call, &first, &left, &second, &right)
             .or_else(|| kept(&call, &lent, &first, &left))
-            .or_else(|| saved.note(&call, &first, &left));
+            .or_else(|| saved.note(&call, &first, &left))
+            .or_else(|| untimed(oracle, &call, &lent, &first, &left));
         if let Some((place, what)) = fault {
             return Err(Difference { call: number, place, what, made });
         }
@@ -67,15 +69,29 @@ pub fn run(tried: &Engine, oracle: &Engine, calls: &[Call], met: &mut Met) -> Re
 /// The buffers before a call. The saves, which are long, only if it is lent them.
 fn as_lent(buffers: &Buffers, call: &Call) -> Buffers {
     let saves = if call.lends(Buffer::Saves) { buffers.saves.clone() } else { Vec::new() };
-    let Buffers { model, state, listing, report, .. } = buffers;
-    Buffers { model: model.clone(), state: state.clone(), listing: listing.clone(), report: report.clone(), saves }
+    let Buffers { model, state, listing, report, clock, .. } = buffers;
+    let (model, state, listing, report) = (model.clone(), state.clone(), listing.clone(), report.clone());
+    Buffers { model, state, listing, report, saves, clock: *clock }
 }
 
-/// The state of the latest accepted save under each name since the last opening, by the list of calls alone.
+/// An accepted timed step alters state and listing as a step with its choosing draw does (02, note 4).
+fn untimed(engine: &Engine, call: &Call, lent: &Buffers, answer: &Answer, after: &Buffers) -> Option<(Place, String)> {
+    let Call::Timed { lengths, draw, .. } = call else { return None };
+    if answer.number != 0 {
+        return None;
+    }
+    let mut plain = lent.clone();
+    plain.saves = Buffers::default().saves;
+    let stepped = plain.make(engine, &Call::Step { lengths: *lengths, draw: *draw });
+    let alike = stepped == Some(*answer) && plain.state == after.state && plain.listing == after.listing;
+    (!alike).then(|| (Place::State, "a timed step isn't the step with its draw".to_string()))
+}
+
+/// State and clock of the latest accepted save under each name since the last opening, by the list of calls alone.
 #[derive(Default)]
 struct Saved {
     /// `None` once the saves were changed by hand.
-    states: Option<BTreeMap<Vec<u8>, Vec<i64>>>,
+    states: Option<BTreeMap<Vec<u8>, (Vec<i64>, Clock)>>,
 }
 
 impl Saved {
@@ -91,15 +107,16 @@ impl Saved {
             self.states = Some(BTreeMap::new());
         }
         let states = self.states.as_mut().filter(|_| answer.number == 0)?;
+        let now = || (after.state[..STATE].to_vec(), after.clock);
         match call {
             Call::Save { name, .. } => {
-                states.insert(name.clone(), after.state[..STATE].to_vec());
+                states.insert(name.clone(), now());
             }
             Call::Forget { name, .. } => {
                 states.remove(name);
             }
-            Call::Return { name, .. } if states.get(name).map(Vec::as_slice) != Some(&after.state[..STATE]) => {
-                return Some((Place::State, "the state isn't that of the latest save".to_string()));
+            Call::Return { name, .. } if states.get(name) != Some(&now()) => {
+                return Some((Place::State, "state and clock aren't those of the latest save".to_string()));
             }
             _ => {}
         }
@@ -111,6 +128,9 @@ impl Saved {
 fn differs(call: &Call, first: &Answer, left: &Buffers, second: &Answer, right: &Buffers) -> Option<(Place, String)> {
     if first != second {
         return Some((Place::Answer, format!("the answer is {first:?} and not {second:?}")));
+    }
+    if left.clock != right.clock {
+        return Some((Place::Clock, format!("the clock is {:?} and not {:?}", left.clock, right.clock)));
     }
     part(Place::State, "state", &left.state, &right.state)
         .or_else(|| part(Place::Listing, "listing", &left.listing, &right.listing))
@@ -132,7 +152,8 @@ fn part<T: PartialEq + fmt::Display>(place: Place, name: &str, left: &[T], right
 fn kept(call: &Call, lent: &Buffers, answer: &Answer, after: &Buffers) -> Option<(Place, String)> {
     let number = answer.number;
     let opening = matches!(call, Call::Open { .. });
-    let moves = number == 0 && matches!(call, Call::Step { .. } | Call::Return { .. });
+    let timed = number == 0 && matches!(call, Call::Timed { .. } | Call::Return { .. });
+    let moves = timed || (number == 0 && matches!(call, Call::Step { .. }));
     let saves = number == 0 && matches!(call, Call::Save { .. } | Call::Forget { .. });
     let lent_saves = call.lends(Buffer::Saves);
     let saves_as_lent = lent_saves && !saves && (!opening || number == 1);
@@ -145,6 +166,8 @@ fn kept(call: &Call, lent: &Buffers, answer: &Answer, after: &Buffers) -> Option
         (state_as_lent && after.state != lent.state, Place::State, "changes the state"),
         (closes && !zero(&after.model[..MODEL]), Place::Model, "leaves a part of the model"),
         (closes && !zero(&after.state[..STATE]), Place::State, "leaves a part of the state"),
+        (!timed && !forgets && after.clock != lent.clock, Place::Clock, "changes the clock"),
+        (forgets && after.clock != Clock::default(), Place::Clock, "leaves a part of the clock"),
         (saves_as_lent && after.saves != lent.saves, Place::Saves, "changes the saves"),
         (forgets && !zero(&after.saves[..SAVES]), Place::Saves, "leaves a part of the saves"),
         (lent_saves && after.saves[SAVES..] != lent.saves[SAVES..], Place::Saves, "writes past the saves"),
@@ -157,8 +180,8 @@ fn kept(call: &Call, lent: &Buffers, answer: &Answer, after: &Buffers) -> Option
         .into_iter()
         .find(|(fault, ..)| *fault)
         .map(|(_, place, what)| (place, what))
-        .or_else(|| shown(matches!(call, Call::List { .. } | Call::Step { .. }), number, listing, Place::Listing))
-        .or_else(|| shown(matches!(call, Call::Report { .. }), number, report, Place::Report))
+        .or_else(|| shown(call.lends(Buffer::Listing), number, listing, Place::Listing))
+        .or_else(|| shown(call.lends(Buffer::Report), number, report, Place::Report))
         .or_else(|| unequal(call, answer, &after.report))?;
     // Both do, if they don't differ.
     Some((place, format!("an engine {what} with answer {number}")))

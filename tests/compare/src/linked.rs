@@ -3,7 +3,7 @@
 #![allow(unsafe_code)]
 
 use second::generate::Engine;
-use second::{Answer, Opening};
+use second::{Answer, Clock, Opening};
 
 /// As `matgravel_answer` of the header.
 #[repr(C)]
@@ -16,6 +16,27 @@ struct CAnswer {
     chosen: u64,
 }
 
+/// As `matgravel_clock` of the header.
+#[repr(C)]
+struct CClock {
+    ticks: u64,
+    draws: u64,
+}
+
+impl From<Clock> for CClock {
+    fn from(clock: Clock) -> CClock {
+        CClock { ticks: clock.ticks, draws: clock.draws }
+    }
+}
+
+/// Makes a call that is lent a clock.
+fn with_clock(clock: &mut Clock, call: impl FnOnce(&mut CClock) -> CAnswer) -> Answer {
+    let mut lent = CClock::from(*clock);
+    let answer = call(&mut lent);
+    *clock = Clock { ticks: lent.ticks, draws: lent.draws };
+    answer.into()
+}
+
 extern "C" {
     fn matgravel_open(
         text: *const u8,
@@ -26,6 +47,7 @@ extern "C" {
         state_len: usize,
         saves: *mut i64,
         saves_len: usize,
+        clock: *mut CClock,
     ) -> CAnswer;
     fn matgravel_list(
         model: *const u8,
@@ -44,6 +66,18 @@ extern "C" {
         listing_len: usize,
         draw: u64,
     ) -> CAnswer;
+    fn matgravel_timed_step(
+        model: *const u8,
+        model_len: usize,
+        state: *mut i64,
+        state_len: usize,
+        listing: *mut u64,
+        listing_len: usize,
+        waiting: *const u16,
+        waiting_len: usize,
+        draw: u64,
+        clock: *mut CClock,
+    ) -> CAnswer;
     fn matgravel_report(
         model: *const u8,
         model_len: usize,
@@ -61,6 +95,7 @@ extern "C" {
         saves_len: usize,
         name: *const u8,
         name_len: usize,
+        clock: CClock,
     ) -> CAnswer;
     fn matgravel_return(
         model: *const u8,
@@ -71,6 +106,7 @@ extern "C" {
         saves_len: usize,
         name: *const u8,
         name_len: usize,
+        clock: *mut CClock,
     ) -> CAnswer;
     fn matgravel_forget(
         model: *const u8,
@@ -93,9 +129,9 @@ impl From<CAnswer> for Answer {
 }
 
 pub fn open(text: &[u8], lent: Opening) -> Answer {
-    let Opening { model, state, saves } = lent;
+    let Opening { model, state, saves, clock } = lent;
     // The call keeps no pointer, and reads and writes within the lengths given.
-    let answer = unsafe {
+    with_clock(clock, |clock| unsafe {
         matgravel_open(
             text.as_ptr(),
             text.len(),
@@ -105,9 +141,9 @@ pub fn open(text: &[u8], lent: Opening) -> Answer {
             state.len(),
             saves.as_mut_ptr(),
             saves.len(),
+            clock,
         )
-    };
-    answer.into()
+    })
 }
 
 pub fn list(model: &[u8], state: &[i64], listing: &mut [u64]) -> Answer {
@@ -134,6 +170,31 @@ pub fn step(model: &[u8], state: &mut [i64], listing: &mut [u64], draw: u64) -> 
     answer.into()
 }
 
+pub fn timed_step(
+    model: &[u8],
+    state: &mut [i64],
+    listing: &mut [u64],
+    waiting: &[u16],
+    draw: u64,
+    clock: &mut Clock,
+) -> Answer {
+    // As above; model and waiting draws are read only.
+    with_clock(clock, |clock| unsafe {
+        matgravel_timed_step(
+            model.as_ptr(),
+            model.len(),
+            state.as_mut_ptr(),
+            state.len(),
+            listing.as_mut_ptr(),
+            listing.len(),
+            waiting.as_ptr(),
+            waiting.len(),
+            draw,
+            clock,
+        )
+    })
+}
+
 pub fn report(model: &[u8], state: &[i64], report: &mut [u64]) -> Answer {
     // As above; model and state are read only.
     let answer = unsafe {
@@ -142,7 +203,7 @@ pub fn report(model: &[u8], state: &[i64], report: &mut [u64]) -> Answer {
     answer.into()
 }
 
-pub fn save(model: &[u8], state: &[i64], saves: &mut [i64], name: &[u8]) -> Answer {
+pub fn save(model: &[u8], state: &[i64], saves: &mut [i64], name: &[u8], clock: Clock) -> Answer {
     // As above; model, state and name are read only.
     let answer = unsafe {
         matgravel_save(
@@ -154,14 +215,15 @@ pub fn save(model: &[u8], state: &[i64], saves: &mut [i64], name: &[u8]) -> Answ
             saves.len(),
             name.as_ptr(),
             name.len(),
+            clock.into(),
         )
     };
     answer.into()
 }
 
-pub fn return_to(model: &[u8], state: &mut [i64], saves: &[i64], name: &[u8]) -> Answer {
+pub fn return_to(model: &[u8], state: &mut [i64], saves: &[i64], name: &[u8], clock: &mut Clock) -> Answer {
     // As above; model, saves and name are read only.
-    let answer = unsafe {
+    with_clock(clock, |clock| unsafe {
         matgravel_return(
             model.as_ptr(),
             model.len(),
@@ -171,9 +233,9 @@ pub fn return_to(model: &[u8], state: &mut [i64], saves: &[i64], name: &[u8]) ->
             saves.len(),
             name.as_ptr(),
             name.len(),
+            clock,
         )
-    };
-    answer.into()
+    })
 }
 
 pub fn forget(model: &[u8], state: &[i64], saves: &mut [i64], name: &[u8]) -> Answer {
@@ -201,4 +263,4 @@ pub fn independent(entry: &[u64], other: &[u64]) -> bool {
 }
 
 /// The library's engine.
-pub const ENGINE: Engine = Engine { open, list, step, report, save, return_to, forget, independent };
+pub const ENGINE: Engine = Engine { open, list, step, timed_step, report, save, return_to, forget, independent };

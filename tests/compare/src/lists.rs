@@ -295,6 +295,8 @@ fn listed_and_stepped(random: &mut Random, calls: &mut Vec<Call>, buffers: &mut 
     for draw in draws.iter().take(1 + times) {
         calls.push(Call::Step { lengths: RIGHT, draw: *draw });
     }
+    let waiting = generate::some_waiting(random);
+    calls.push(Call::Timed { lengths: RIGHT, draw: Draw::Inside(number), waiting });
     for call in &calls[first..] {
         buffers.make(&SECOND, call);
     }
@@ -316,7 +318,8 @@ fn handed_saves(random: &mut Random) -> Vec<Call> {
                 let name = random.pick(&generate::SAVE_NAMES).as_bytes();
                 place[..saves::NAME].copy_from_slice(&saves::pack(name));
                 let state = if random.chance(50) { vec![0; STATE] } else { small_state(random, &read) };
-                place[saves::NAME..].copy_from_slice(&state);
+                place[saves::NAME..saves::CLOCK].copy_from_slice(&state);
+                place[saves::CLOCK..].copy_from_slice(&[random.between(0, 9), *random.pick(&[0, 1, i64::MAX])]);
             }
         }
         hand_in_saves(&mut calls, &mut buffers, &held);
@@ -354,7 +357,8 @@ fn spoil_save(random: &mut Random, place: &mut [i64]) {
             *number = (*number & !(0xff << byte)) | (other << byte);
         }
         4 => place[random.below(saves::NAME)] = *random.pick(&[-1, i64::MIN, i64::MAX, 1]),
-        _ => spoil(random, &mut place[saves::NAME..]),
+        5 => place[saves::CLOCK + random.below(2)] = *random.pick(&[-1, i64::MIN, i64::MAX, 1]),
+        _ => spoil(random, &mut place[saves::NAME..saves::CLOCK]),
     }
 }
 

@@ -6,8 +6,9 @@ use second::generate::{Buffers, Call, Draw, Engine, RIGHT};
 use second::tokens::{self, Kind};
 use second::{model, MODEL, SAVES, STATE};
 
-/// How often a shorter list is tried, at most.
-const TRIES: usize = 60_000;
+/// How many calls are made on shorter lists, at most, and what a list costs besides its calls.
+const WORK: usize = 1_200_000;
+const LIST: usize = 20;
 /// Runs of at most so many calls are tried wherever they begin.
 const CALLS: usize = 4;
 /// How many tokens in a row are taken out of a text, at most, once halves no longer help.
@@ -40,13 +41,14 @@ const CHANGED: &str = "A[n]={a,1};A[0];";
 struct Shrinker<'a> {
     tried: &'a Engine,
     oracle: &'a Engine,
-    tries: usize,
+    /// Calls that may still be made.
+    left: usize,
     best: Difference,
 }
 
 /// The same difference, or another one, on a shorter list.
 pub fn shrink(tried: &Engine, oracle: &Engine, found: Difference) -> Difference {
-    let mut shrinker = Shrinker { tried, oracle, tries: TRIES, best: found };
+    let mut shrinker = Shrinker { tried, oracle, left: WORK, best: found };
     shrinker.hand_in();
     shrinker.try_short_models();
     loop {
@@ -54,7 +56,8 @@ pub fn shrink(tried: &Engine, oracle: &Engine, found: Difference) -> Difference 
         shrinker.drop_calls();
         shrinker.shorten_texts();
         shrinker.lower_draws();
-        if shrinker.size() >= before || shrinker.tries == 0 {
+        shrinker.drop_waiting();
+        if shrinker.size() >= before || shrinker.left == 0 {
             return shrinker.best;
         }
     }
@@ -67,10 +70,10 @@ impl Shrinker<'_> {
 
     /// Takes the list in place of the best one if the engines differ on it.
     fn takes(&mut self, calls: &[Call]) -> bool {
-        if self.tries == 0 {
+        if self.left == 0 {
             return false;
         }
-        self.tries -= 1;
+        self.left = self.left.saturating_sub(LIST + calls.len());
         match compare::run(self.tried, self.oracle, calls, &mut Met::default()) {
             Ok(()) => false,
             Err(difference) => {
@@ -95,6 +98,9 @@ impl Shrinker<'_> {
         calls.extend(changed.map(|place| Call::SetState { place, number: held.state[place] }));
         let changed = (0..SAVES).filter(|&place| held.saves[place] != 0);
         calls.extend(changed.map(|place| Call::SetSaves { place, number: held.saves[place] }));
+        if held.clock != opened.clock {
+            calls.push(Call::SetClock(held.clock));
+        }
         calls.push(last.clone());
         if calls.len() < self.best.made.len() {
             self.takes(&calls);
@@ -110,7 +116,7 @@ impl Shrinker<'_> {
         for text in SHORT {
             lists.extend((0..=STEPS).map(|steps| [vec![open(text)], vec![step.clone(); steps]].concat()));
         }
-        let changes = before.iter().filter(|call| matches!(call, Call::SetState { .. } | Call::SetSaves { .. }));
+        let changes = before.iter().filter(|call| call.lengths().is_none());
         lists.extend(changes.map(|change| vec![open(CHANGED), change.clone()]));
         let last = last.clone();
         for mut calls in lists {
@@ -205,7 +211,7 @@ impl Shrinker<'_> {
             let after = split.iter().filter(|token| token.start > start.start && ends.contains(&token.kind));
             let without = |end: usize| [&text[..start.start], &text[end..]].concat();
             let cut = after.take(ENDS).any(|end| self.takes_text(call, without(end.start)));
-            if self.tries == 0 || !cut {
+            if self.left == 0 || !cut {
                 part += 1;
             }
         }
@@ -218,7 +224,7 @@ impl Shrinker<'_> {
             let places: Vec<usize> = tokens::split(&text).iter().map(|token| token.start).collect();
             let Some(&from) = places.get(start) else { return };
             let to = places.get(start + run).copied().unwrap_or(text.len());
-            if self.tries == 0 || !self.takes_text(call, [&text[..from], &text[to..]].concat()) {
+            if self.left == 0 || !self.takes_text(call, [&text[..from], &text[to..]].concat()) {
                 start += stride;
             }
         }
@@ -228,7 +234,7 @@ impl Shrinker<'_> {
         let mut place = 0;
         while let Some(mut text) = self.text(call).filter(|text| place < text.len()) {
             text.remove(place);
-            if self.tries == 0 || !self.takes_text(call, text) {
+            if self.left == 0 || !self.takes_text(call, text) {
                 place += 1;
             }
         }
@@ -249,7 +255,7 @@ impl Shrinker<'_> {
         }
         for other in [Draw::Exactly(0), Draw::Last] {
             match calls.last_mut() {
-                Some(Call::Step { draw, .. }) => *draw = other,
+                Some(Call::Step { draw, .. } | Call::Timed { draw, .. }) => *draw = other,
                 _ => return false,
             }
             if self.takes(&calls) {
@@ -259,13 +265,37 @@ impl Shrinker<'_> {
         false
     }
 
+    /// Tries each timed step without the last of its waiting draws, or without any three of them.
+    fn drop_waiting(&mut self) {
+        let mut call = 0;
+        while call < self.best.made.len() {
+            let mut start = 0;
+            while let Some(Call::Timed { waiting, .. }) = self.best.made.get(call) {
+                let (length, last) = (waiting.len(), waiting.len().saturating_sub(1));
+                if start > length || length == 0 {
+                    break;
+                }
+                let mut calls = self.best.made.clone();
+                if let Call::Timed { waiting, .. } = &mut calls[call] {
+                    waiting.drain(if start == 0 { last..length } else { start - 1..(start + 2).min(length) });
+                }
+                if !self.takes(&calls) {
+                    start += 1;
+                }
+            }
+            call += 1;
+        }
+    }
+
     fn lower_draws(&mut self) {
         let mut call = 0;
         while call < self.best.made.len() {
             for lower in [0, 1] {
                 let mut calls = self.best.made.clone();
                 match &mut calls[call] {
-                    Call::Step { draw, .. } if *draw != Draw::Exactly(lower) => *draw = Draw::Exactly(lower),
+                    Call::Step { draw, .. } | Call::Timed { draw, .. } if *draw != Draw::Exactly(lower) => {
+                        *draw = Draw::Exactly(lower)
+                    }
                     _ => break,
                 }
                 if self.takes(&calls) {
@@ -282,6 +312,7 @@ fn size(calls: &[Call]) -> usize {
     let size = |call: &Call| match call {
         Call::Open { text, .. } => 10 + text.len(),
         Call::Step { draw: Draw::Exactly(draw), .. } => 10 + draw.to_string().len(),
+        Call::Timed { draw: Draw::Exactly(draw), waiting, .. } => 10 + draw.to_string().len() + 10 * waiting.len(),
         Call::Save { name, .. } | Call::Return { name, .. } | Call::Forget { name, .. } => 10 + name.len(),
         _ => 10,
     };

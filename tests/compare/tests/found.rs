@@ -9,21 +9,39 @@ use second::generate::{Engine, SECOND};
 use second::limits::HIGHEST;
 use second::script::{self, Form, Line};
 use second::state::{DEFINITION, FIRST_PAIR, FIRST_PROCESS, FIRST_VALUE, PAIR, PROCESS, VALUE_COUNT};
-use second::{forget, list, open, report, return_to, save, saves, step, Answer, Opening, LISTING, SAVES};
+use second::{
+    forget, list, open, report, return_to, save, saves, step, timed_step, Answer, Clock, Opening, LISTING, SAVES,
+};
 
 const ENTRY: usize = 7;
 
+/// How many of the lists on which a fault shows are shrunk, at most, until one is short enough.
+const SHRUNK: usize = 4;
+
 /// Finds and shrinks the fault, and holds its script to these lengths.
 fn found(wrong: Engine, place: Place, calls: usize, bytes: usize) {
-    let report = with_stack(move || lists::run(&wrong, &SECOND, 0..lists::LISTS, &mut Met::default()).unwrap_err());
-    println!("{report}");
-    assert_eq!(report.difference.place, place);
-    assert!(report.difference.made.len() <= calls, "{} calls", report.difference.made.len());
-    assert!(report.script.len() <= bytes, "{} bytes", report.script.len());
+    with_stack(move || {
+        let mut seed = 0;
+        for _ in 0..SHRUNK {
+            let report = lists::run(&wrong, &SECOND, seed..lists::LISTS, &mut Met::default()).unwrap_err();
+            shows_it_again(&wrong, &report);
+            let short = report.difference.made.len() <= calls && report.script.len() <= bytes;
+            if short && report.difference.place == place {
+                return;
+            }
+            println!("{} calls, {} bytes, {:?}", report.difference.made.len(), report.script.len(), report.difference);
+            seed = report.seed.map_or(0, |seed| seed + 1);
+        }
+        panic!("none was short enough");
+    })
+}
+
+/// The script of a difference has it again.
+fn shows_it_again(wrong: &Engine, report: &lists::Report) {
     let (lines, bad) = script::read(&report.script, Form::Marked);
     assert_eq!(bad, None);
     let again: Vec<_> = lines.into_iter().filter_map(call).collect();
-    let difference = core::run(&wrong, &SECOND, &again, &mut Met::default()).unwrap_err();
+    let difference = core::run(wrong, &SECOND, &again, &mut Met::default()).unwrap_err();
     assert_eq!(difference.what, report.difference.what);
 }
 
@@ -345,9 +363,9 @@ fn a_refused_opening_that_keeps_the_saves() {
 
 #[test]
 fn a_save_that_takes_a_free_place_for_a_known_name() {
-    fn wrong(model: &[u8], state: &[i64], places: &mut [i64], name: &[u8]) -> Answer {
+    fn wrong(model: &[u8], state: &[i64], places: &mut [i64], name: &[u8], clock: Clock) -> Answer {
         let before = places.to_vec();
-        let answer = save(model, state, places, name);
+        let answer = save(model, state, places, name, clock);
         let used = |place: &[i64]| place[0] != 0;
         let known = before.chunks(saves::PLACE).position(|place| name.len() <= 16 && place[..2] == saves::pack(name));
         let free = before.chunks(saves::PLACE).position(|place| !used(place));
@@ -367,7 +385,8 @@ fn a_forget_that_leaves_the_state() {
         let before = places.to_vec();
         let answer = forget(model, state, places, name);
         if let Some(place) = (0..places.len()).step_by(saves::PLACE).find(|&place| before[place] != places[place]) {
-            places[place + 2..place + saves::PLACE].copy_from_slice(&before[place + 2..place + saves::PLACE]);
+            let kept = place + saves::NAME..place + saves::CLOCK;
+            places[kept.clone()].copy_from_slice(&before[kept]);
         }
         answer
     }
@@ -376,9 +395,9 @@ fn a_forget_that_leaves_the_state() {
 
 #[test]
 fn a_return_that_leaves_the_pairs() {
-    fn wrong(model: &[u8], state: &mut [i64], places: &[i64], name: &[u8]) -> Answer {
+    fn wrong(model: &[u8], state: &mut [i64], places: &[i64], name: &[u8], clock: &mut Clock) -> Answer {
         let before = state.to_vec();
-        let answer = return_to(model, state, places, name);
+        let answer = return_to(model, state, places, name, clock);
         if answer.number == 0 {
             state[1] = before[1];
             state[FIRST_PAIR..].copy_from_slice(&before[FIRST_PAIR..]);
@@ -390,8 +409,8 @@ fn a_return_that_leaves_the_pairs() {
 
 #[test]
 fn a_name_twice_that_is_let_pass() {
-    fn wrong(model: &[u8], state: &[i64], places: &mut [i64], name: &[u8]) -> Answer {
-        let answer = save(model, state, places, name);
+    fn wrong(model: &[u8], state: &[i64], places: &mut [i64], name: &[u8], clock: Clock) -> Answer {
+        let answer = save(model, state, places, name, clock);
         if answer.number != 11 {
             return answer;
         }
@@ -401,9 +420,56 @@ fn a_name_twice_that_is_let_pass() {
                 once[place..place + saves::PLACE].fill(0);
             }
         }
-        Answer { number: save(model, state, &mut once, name).number, ..answer }
+        Answer { number: save(model, state, &mut once, name, clock).number, ..answer }
     }
     found(Engine { save: wrong, ..SECOND }, Place::Answer, 4, 120);
+}
+
+#[test]
+fn a_draw_that_ends_a_run_and_begins_the_next() {
+    fn wrong(
+        model: &[u8],
+        state: &mut [i64],
+        listing: &mut [u64],
+        waiting: &[u16],
+        draw: u64,
+        clock: &mut Clock,
+    ) -> Answer {
+        // The end of a run of two is put in once more.
+        let mut longer = waiting.to_vec();
+        if waiting.len() > 2 && waiting[1] < waiting[0] && waiting[2] >= waiting[1] {
+            longer.insert(2, waiting[2]);
+        }
+        timed_step(model, state, listing, &longer, draw, clock)
+    }
+    // With fewest draws the other engine has none left.
+    found(Engine { timed_step: wrong, ..SECOND }, Place::Answer, 2, 120);
+}
+
+#[test]
+fn a_refused_timed_step_that_uses_draws() {
+    fn wrong(
+        model: &[u8],
+        state: &mut [i64],
+        listing: &mut [u64],
+        waiting: &[u16],
+        draw: u64,
+        clock: &mut Clock,
+    ) -> Answer {
+        let answer = timed_step(model, state, listing, waiting, draw, clock);
+        clock.draws += u64::from(answer.number == 23 && clock.draws == 0);
+        answer
+    }
+    found(Engine { timed_step: wrong, ..SECOND }, Place::Clock, 2, 80);
+}
+
+#[test]
+fn a_return_that_leaves_the_clock() {
+    fn wrong(model: &[u8], state: &mut [i64], places: &[i64], name: &[u8], clock: &mut Clock) -> Answer {
+        let mut other = *clock;
+        return_to(model, state, places, name, &mut other)
+    }
+    found(Engine { return_to: wrong, ..SECOND }, Place::Clock, 5, 160);
 }
 
 /// What is said of an engine for which the order of independent entries matters.

@@ -79,7 +79,7 @@ fn defined(name: &str) -> usize {
     line.and_then(|number| number.parse().ok()).expect("a number")
 }
 
-/// Opens, lists, reports, saves and steps the longest texts on a thread with the stack that the header names. A
+/// Makes every call on the longest texts, on a thread with the stack that the header names. A
 /// call that needs more ends the test by a signal.
 #[test]
 fn the_stack_that_the_header_names_is_enough() {
@@ -88,7 +88,7 @@ fn the_stack_that_the_header_names_is_enough() {
             let text = texts::longest(which);
             let (mut buffers, opened) = Buffers::opened(&ENGINE, &text);
             let (model, state) = (&mut buffers.model[..MODEL], &mut buffers.state[..STATE]);
-            let saves = &mut buffers.saves[..SAVES];
+            let (saves, clock) = (&mut buffers.saves[..SAVES], &mut buffers.clock);
             // The text in the buffer, though it may be none that opens.
             model[..2].copy_from_slice(&(text.len() as u16).to_le_bytes());
             model[2..2 + text.len()].copy_from_slice(&text);
@@ -96,10 +96,12 @@ fn the_stack_that_the_header_names_is_enough() {
             let listed = (ENGINE.list)(model, state, listing);
             let reported = (ENGINE.report)(model, state, &mut buffers.report[..REPORT]);
             assert_eq!(reported, listed);
-            let saved = (ENGINE.save)(model, state, saves, b"a");
-            let returned = (ENGINE.return_to)(model, state, saves, b"a");
+            let saved = (ENGINE.save)(model, state, saves, b"a", *clock);
+            let returned = (ENGINE.return_to)(model, state, saves, b"a", clock);
             let forgotten = (ENGINE.forget)(model, state, saves, b"a");
             assert!([saved, returned, forgotten].iter().all(|answer| [0, 11].contains(&answer.number)));
+            let timed = (ENGINE.timed_step)(model, state, listing, &[7, 7], 0, clock);
+            assert!(timed.number == 0 || timed.number >= 11);
             let stepped = (ENGINE.step)(model, state, listing, 0);
             [opened, listed, stepped].map(|answer| answer.number)
         };

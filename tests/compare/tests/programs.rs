@@ -34,7 +34,7 @@ fn printed(name: &str, input: &[u8]) -> String {
     String::from_utf8(output.stdout).expect("text")
 }
 
-/// The script of a seed's calls, those that `calls` knows, with the state and a question about two entries here and there.
+/// The script of a seed's calls, those that `calls` knows, with state, clock and a question about two entries here and there.
 fn script_of(seed: u64) -> Vec<u8> {
     let mut script = Vec::new();
     let mut buffers = Buffers::default();
@@ -44,7 +44,7 @@ fn script_of(seed: u64) -> Vec<u8> {
             buffers.make(&SECOND, &call);
             script.extend(script::write(&[call]));
             if number % 7 == 0 {
-                script.extend(b"state\n");
+                script.extend(b"state\nclock\n");
             }
             if number % 5 == 1 {
                 script.extend(format!("independent {} {}\n", number % 3, seed % 11).as_bytes());

@@ -1,5 +1,6 @@
 //! Lists of calls: what a call asks for, the calls of any engine, and the buffers they are made on.
 
+use crate::clock::Clock;
 use crate::independent;
 use crate::listing::FIELDS;
 use crate::state::{Channel, Item, Pair, FIRST_PAIR, FIRST_PROCESS, PAIR, PROCESS};
@@ -51,6 +52,11 @@ pub enum Call {
         lengths: Lengths,
         draw: Draw,
     },
+    Timed {
+        lengths: Lengths,
+        draw: Draw,
+        waiting: Vec<u16>,
+    },
     Report {
         lengths: Lengths,
     },
@@ -79,6 +85,7 @@ pub enum Call {
         place: usize,
         number: i64,
     },
+    SetClock(Clock),
     /// The pairs of number channel 5 with one value from `first` on.
     Light {
         count: usize,
@@ -101,6 +108,7 @@ impl Call {
             Call::Open { lengths, .. }
             | Call::List { lengths }
             | Call::Step { lengths, .. }
+            | Call::Timed { lengths, .. }
             | Call::Report { lengths }
             | Call::Save { lengths, .. }
             | Call::Return { lengths, .. }
@@ -112,7 +120,7 @@ impl Call {
     /// Is the call lent this buffer? A change of the buffers is lent none.
     pub fn lends(&self, buffer: Buffer) -> bool {
         let third = match self {
-            Call::List { .. } | Call::Step { .. } => Buffer::Listing,
+            Call::List { .. } | Call::Step { .. } | Call::Timed { .. } => Buffer::Listing,
             Call::Report { .. } => Buffer::Report,
             Call::Open { .. } | Call::Save { .. } | Call::Return { .. } | Call::Forget { .. } => Buffer::Saves,
             _ => return false,
@@ -134,6 +142,7 @@ impl Call {
             Call::Open { lengths, .. }
             | Call::List { lengths }
             | Call::Step { lengths, .. }
+            | Call::Timed { lengths, .. }
             | Call::Report { lengths }
             | Call::Save { lengths, .. }
             | Call::Return { lengths, .. }
@@ -148,6 +157,7 @@ impl Call {
             Call::Open { .. } => "open",
             Call::List { .. } => "list",
             Call::Step { .. } => "step",
+            Call::Timed { .. } => "timed",
             Call::Report { .. } => "report",
             Call::Save { .. } => "save",
             Call::Return { .. } => "return",
@@ -157,6 +167,9 @@ impl Call {
     }
 }
 
+/// Model, state, listing, waiting draws, choosing draw, clock.
+pub type TimedStep = fn(&[u8], &mut [i64], &mut [u64], &[u16], u64, &mut Clock) -> Answer;
+
 /// An engine to make calls on.
 #[derive(Clone, Copy)]
 pub struct Engine {
@@ -164,8 +177,9 @@ pub struct Engine {
     pub list: fn(&[u8], &[i64], &mut [u64]) -> Answer,
     pub step: fn(&[u8], &mut [i64], &mut [u64], u64) -> Answer,
     pub report: fn(&[u8], &[i64], &mut [u64]) -> Answer,
-    pub save: fn(&[u8], &[i64], &mut [i64], &[u8]) -> Answer,
-    pub return_to: fn(&[u8], &mut [i64], &[i64], &[u8]) -> Answer,
+    pub timed_step: TimedStep,
+    pub save: fn(&[u8], &[i64], &mut [i64], &[u8], Clock) -> Answer,
+    pub return_to: fn(&[u8], &mut [i64], &[i64], &[u8], &mut Clock) -> Answer,
     pub forget: fn(&[u8], &[i64], &mut [i64], &[u8]) -> Answer,
     /// Of two entries of a listing.
     pub independent: fn(&[u64], &[u64]) -> bool,
@@ -177,6 +191,7 @@ pub const SECOND: Engine = Engine {
     list: crate::list,
     step: crate::step,
     report: crate::report,
+    timed_step: crate::timed_step,
     save: crate::save,
     return_to: crate::return_to,
     forget: crate::forget,
@@ -194,6 +209,7 @@ pub struct Buffers {
     pub listing: Vec<u64>,
     pub report: Vec<u64>,
     pub saves: Vec<i64>,
+    pub clock: Clock,
 }
 
 impl Default for Buffers {
@@ -204,6 +220,7 @@ impl Default for Buffers {
             listing: vec![0; LISTING + SPARE],
             report: vec![0; REPORT + SPARE],
             saves: vec![0; SAVES + SPARE],
+            clock: Clock::default(),
         }
     }
 }
@@ -216,19 +233,20 @@ impl Buffers {
             return None;
         };
         let draw = match call {
-            Call::Step { draw, .. } => self.draw(*draw),
+            Call::Step { draw, .. } | Call::Timed { draw, .. } => self.draw(*draw),
             _ => 0,
         };
         let (model, state) = (&mut self.model[..lengths.model], &mut self.state[..lengths.state]);
         let (listing, report) = (&mut self.listing[..lengths.listing], &mut self.report[..lengths.report]);
-        let saves = &mut self.saves[..lengths.saves];
+        let (saves, clock) = (&mut self.saves[..lengths.saves], &mut self.clock);
         Some(match call {
-            Call::Open { text, .. } => (engine.open)(text, Opening { model, state, saves }),
+            Call::Open { text, .. } => (engine.open)(text, Opening { model, state, saves, clock }),
             Call::List { .. } => (engine.list)(model, state, listing),
             Call::Step { .. } => (engine.step)(model, state, listing, draw),
+            Call::Timed { waiting, .. } => (engine.timed_step)(model, state, listing, waiting, draw, clock),
             Call::Report { .. } => (engine.report)(model, state, report),
-            Call::Save { name, .. } => (engine.save)(model, state, saves, name),
-            Call::Return { name, .. } => (engine.return_to)(model, state, saves, name),
+            Call::Save { name, .. } => (engine.save)(model, state, saves, name, *clock),
+            Call::Return { name, .. } => (engine.return_to)(model, state, saves, name, clock),
             Call::Forget { name, .. } => (engine.forget)(model, state, saves, name),
             _ => return None,
         })
@@ -247,6 +265,7 @@ impl Buffers {
             Call::SetState { place, number } => self.state[*place] = *number,
             Call::SetModel { place, byte } => self.model[*place] = *byte,
             Call::SetSaves { place, number } => self.saves[*place] = *number,
+            Call::SetClock(clock) => self.clock = *clock,
             Call::Light { count, first } => {
                 self.state[1] = *count as i64;
                 let pairs = &mut self.state[FIRST_PAIR..STATE];
@@ -286,6 +305,10 @@ impl Buffers {
     pub fn exact(&self, call: &Call) -> Call {
         match call {
             Call::Step { lengths, draw } => Call::Step { lengths: *lengths, draw: Draw::Exactly(self.draw(*draw)) },
+            Call::Timed { lengths, draw, waiting } => {
+                let (draw, waiting) = (Draw::Exactly(self.draw(*draw)), waiting.clone());
+                Call::Timed { lengths: *lengths, draw, waiting }
+            }
             _ => call.clone(),
         }
     }

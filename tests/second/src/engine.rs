@@ -1,5 +1,6 @@
 //! The calls.
 
+use crate::clock::{self, Clock};
 use crate::eval;
 use crate::listing::{self, Entry, Kind, Listing, Offer, Offers};
 use crate::model::{self, Item, Model};
@@ -13,12 +14,13 @@ pub struct Opening<'a> {
     pub model: &'a mut [u8],
     pub state: &'a mut [i64],
     pub saves: &'a mut [i64],
+    pub clock: &'a mut Clock,
 }
 
 impl Opening<'_> {
     /// The same, lent on.
     pub fn again(&mut self) -> Opening<'_> {
-        Opening { model: self.model, state: self.state, saves: self.saves }
+        Opening { model: self.model, state: self.state, saves: self.saves, clock: self.clock }
     }
 
     fn fits(&self) -> bool {
@@ -30,6 +32,7 @@ impl Opening<'_> {
         self.model.fill(0);
         self.state.fill(0);
         self.saves.fill(0);
+        *self.clock = Clock::default();
     }
 }
 
@@ -73,39 +76,64 @@ pub fn step(model: &[u8], state: &mut [i64], listing: &mut [u64], draw: u64) -> 
         Err(refusal) => return refusal,
         Ok(present) => present,
     };
-    if present.listing.total == 0 {
-        return present.answer(15);
-    }
-    if draw >= present.listing.total {
-        return present.answer(16);
-    }
-    let chosen = present.listing.choose(draw).expect("a draw below the total chooses an entry");
-    match taken(&present, &present.listing.entries[chosen]) {
+    match present.chosen(draw) {
         Err(number) => present.answer(number),
-        Ok(after) => {
+        Ok((chosen, after)) => {
             state::write_buffer(&present.model, &after, state);
             Answer { chosen: chosen as u64, ..present.answer(0) }
         }
     }
 }
 
-/// Stores the state under a name. Questions 1, 11, 20 and 22.
-pub fn save(model: &[u8], state: &[i64], saves: &mut [i64], name: &[u8]) -> Answer {
-    let mut stored = match stored(model, state, saves, name) {
+/// Takes the step that the draw chooses, after a wait that the waiting draws give. Questions 1, 11 to 19 and 23 to 25.
+pub fn timed_step(
+    model: &[u8],
+    state: &mut [i64],
+    listing: &mut [u64],
+    waiting: &[u16],
+    draw: u64,
+    clock: &mut Clock,
+) -> Answer {
+    let lengths = model.len() == MODEL && state.len() == STATE && listing.len() == LISTING;
+    if lengths && !clock.is_in_range() {
+        return Answer::refusal(11);
+    }
+    let present = match shown(model, state, listing, LISTING, Present::write_listing) {
+        Err(refusal) => return refusal,
+        Ok(present) => present,
+    };
+    let (chosen, after) = match present.chosen(draw) {
+        Err(number) => return present.answer(number),
+        Ok(both) => both,
+    };
+    let total = present.listing.total;
+    match clock::wait(waiting).and_then(|wait| clock.after(&wait, total).ok_or(25)) {
+        Err(number) => present.answer(number),
+        Ok(later) => {
+            *clock = later;
+            state::write_buffer(&present.model, &after, state);
+            Answer { chosen: chosen as u64, ..present.answer(0) }
+        }
+    }
+}
+
+/// Stores state and clock under a name. Questions 1, 11, 20 and 22.
+pub fn save(model: &[u8], state: &[i64], saves: &mut [i64], name: &[u8], clock: Clock) -> Answer {
+    let mut stored = match stored(model, state, saves, name, &clock) {
         Err(refusal) => return refusal,
         Ok(stored) => stored,
     };
     let Some(place) = stored.saves.place(name).or(stored.saves.first_empty()) else {
         return Answer::refusal(22);
     };
-    stored.saves.places[place] = Some(Save { name: name.to_vec(), state: stored.state });
+    stored.saves.places[place] = Some(Save { name: name.to_vec(), state: stored.state, clock });
     stored.saves.write_buffer(&stored.model, saves);
     Answer::default()
 }
 
-/// Makes the state that is saved under a name the present one. Questions 1, 11, 20 and 21.
-pub fn return_to(model: &[u8], state: &mut [i64], saves: &[i64], name: &[u8]) -> Answer {
-    let stored = match stored(model, state, saves, name) {
+/// Makes state and clock that are saved under a name the present ones. Questions 1, 11, 20 and 21.
+pub fn return_to(model: &[u8], state: &mut [i64], saves: &[i64], name: &[u8], clock: &mut Clock) -> Answer {
+    let stored = match stored(model, state, saves, name, clock) {
         Err(refusal) => return refusal,
         Ok(stored) => stored,
     };
@@ -113,6 +141,7 @@ pub fn return_to(model: &[u8], state: &mut [i64], saves: &[i64], name: &[u8]) ->
         None => Answer::refusal(21),
         Some(save) => {
             state::write_buffer(&stored.model, &save.state, state);
+            *clock = save.clock;
             Answer::default()
         }
     }
@@ -120,7 +149,7 @@ pub fn return_to(model: &[u8], state: &mut [i64], saves: &[i64], name: &[u8]) ->
 
 /// Frees the place of a name. Questions 1, 11, 20 and 21.
 pub fn forget(model: &[u8], state: &[i64], saves: &mut [i64], name: &[u8]) -> Answer {
-    let mut stored = match stored(model, state, saves, name) {
+    let mut stored = match stored(model, state, saves, name, &Clock::default()) {
         Err(refusal) => return refusal,
         Ok(stored) => stored,
     };
@@ -141,8 +170,8 @@ struct Stored {
     saves: Saves,
 }
 
-/// Questions 1, 11 and 20 of a save, a return or a forget.
-fn stored(model: &[u8], state: &[i64], saves: &[i64], name: &[u8]) -> Result<Stored, Answer> {
+/// Questions 1, 11 and 20 of a save, a return or a forget, which isn't lent a clock.
+fn stored(model: &[u8], state: &[i64], saves: &[i64], name: &[u8], clock: &Clock) -> Result<Stored, Answer> {
     if model.len() != MODEL || state.len() != STATE || saves.len() != SAVES {
         return Err(Answer::refusal(1));
     }
@@ -152,7 +181,7 @@ fn stored(model: &[u8], state: &[i64], saves: &[i64], name: &[u8]) -> Result<Sto
         let saves = Saves::read_buffer(&model, saves)?;
         Some(Stored { model, state, saves })
     };
-    let stored = held().ok_or(Answer::refusal(11))?;
+    let stored = held().filter(|_| clock.is_in_range()).ok_or(Answer::refusal(11))?;
     if !saves::is_name(name) {
         return Err(Answer::refusal(20));
     }
@@ -171,6 +200,15 @@ impl Present {
     /// An answer that carries entry count and total.
     fn answer(&self, number: u64) -> Answer {
         Answer { count: self.listing.entries.len() as u64, total: self.listing.total, ..Answer::refusal(number) }
+    }
+
+    /// Questions 15 to 19: the entry that a draw chooses, by its number, and the state after it is taken.
+    fn chosen(&self, draw: u64) -> Result<(usize, State), u64> {
+        if self.listing.total == 0 {
+            return Err(15);
+        }
+        let chosen = self.listing.choose(draw).ok_or(16u64)?;
+        Ok((chosen, taken(self, &self.listing.entries[chosen])?))
     }
 
     fn write_listing(&self, buffer: &mut [u64]) {

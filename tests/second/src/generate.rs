@@ -3,6 +3,7 @@
 //! Everything comes from one small generator of numbers: the same seed gives the same texts and
 //! calls.
 
+use crate::clock::{Clock, MOST};
 use crate::limits::{HIGHEST, LOWEST};
 use crate::model;
 use crate::saves;
@@ -1034,6 +1035,44 @@ fn some_step(random: &mut Random) -> Call {
     lent(random, Call::Step { lengths: RIGHT, draw })
 }
 
+fn some_timed(random: &mut Random) -> Call {
+    let (draw, waiting) = (some_draw(random), some_waiting(random));
+    lent(random, Call::Timed { lengths: RIGHT, draw, waiting })
+}
+
+/// Waiting draws: enough of them, mostly; few; many runs of even length, or a long one.
+pub fn some_waiting(random: &mut Random) -> Vec<u16> {
+    let mut waiting = Vec::new();
+    match random.below(12) {
+        0 => {
+            let length = random.below(4);
+            waiting.extend((0..length).map(|_| random.number() as u16));
+            return waiting;
+        }
+        // Runs of two, each ended by a draw that is as low as the second or higher.
+        1 => {
+            for _ in 0..*random.pick(&[1, 5, 30, 31, 31, 32, 33]) {
+                let (first, more) = (random.between(1, 65_535) as u16, random.number() as u16);
+                let second = random.below(usize::from(first)) as u16;
+                waiting.extend([first, second, second.max(*random.pick(&[0, second, more]))]);
+            }
+        }
+        2 => {
+            let length = *random.pick(&[1, 2, 3, 8, 9, 300, 301]);
+            let first = random.between(length, 65_535) as u16;
+            waiting.extend((0..length as u16).map(|number| first - number));
+        }
+        // Few values: many are equal.
+        3 => waiting.extend((0..20).map(|_| random.below(3) as u16)),
+        4 => waiting.extend(*random.pick(&[[65_535, 65_535], [40_000, 50_000]])),
+        _ => {}
+    }
+    if random.chance(90) {
+        waiting.extend((0..12).map(|_| random.number() as u16));
+    }
+    waiting
+}
+
 const LIST: Call = Call::List { lengths: RIGHT };
 const REPORTED: Call = Call::Report { lengths: RIGHT };
 
@@ -1087,8 +1126,9 @@ pub fn some_text(random: &mut Random) -> Vec<u8> {
 
 /// A change of the buffers that often spoils them.
 fn some_change(random: &mut Random) -> Call {
-    match random.below(13) {
+    match random.below(14) {
         12 => some_change_of_saves(random),
+        13 => Call::SetClock(some_clock(random)),
         0..=5 => {
             let place = match random.below(6) {
                 0 => random.below(2),
@@ -1126,6 +1166,15 @@ fn some_change(random: &mut Random) -> Call {
     }
 }
 
+/// A clock near the ends of its range, past it, or anywhere.
+fn some_clock(random: &mut Random) -> Clock {
+    let mut number = || {
+        let any = random.number();
+        *random.pick(&[0, 1, any, MOST, MOST - 1, MOST - 5, MOST - 100_000, MOST - 100_000_000_000, MOST + 1, u64::MAX])
+    };
+    Clock { ticks: number(), draws: number() }
+}
+
 /// A number of a save, or a name, changed.
 fn some_change_of_saves(random: &mut Random) -> Call {
     let start = saves::PLACE * random.below(saves::PLACES);
@@ -1134,6 +1183,7 @@ fn some_change_of_saves(random: &mut Random) -> Call {
     let offset = match random.below(4) {
         0 => random.below(saves::NAME),
         1 => saves::NAME + random.below(2),
+        2 if random.chance(50) => saves::CLOCK + random.below(2),
         2 => saves::NAME + FIRST_PROCESS + random.below(PROCESS),
         _ => random.below(saves::PLACE),
     };
@@ -1149,6 +1199,7 @@ pub fn edge_calls(random: &mut Random) -> Vec<Call> {
         for _ in 0..4 {
             calls.push(Call::Step { lengths: RIGHT, draw: some_draw(random) });
         }
+        calls.push(some_timed(random));
     }
     calls
 }
@@ -1175,7 +1226,8 @@ pub fn stored_calls(random: &mut Random, most: usize) -> Vec<Call> {
                         calls.push(Call::SetSaves { place, number: 0 });
                     }
                 }
-                1..=6 => calls.push(some_step(random)),
+                1..=3 => calls.push(some_step(random)),
+                4..=6 => calls.push(some_timed(random)),
                 7 => calls.push(lent(random, LIST)),
                 _ => calls.push(some_stored(random)),
             }
@@ -1191,6 +1243,7 @@ pub fn calls(random: &mut Random, most_steps: usize) -> Vec<Call> {
     // Before any text is open.
     if random.chance(10) {
         calls.extend([lent(random, LIST), some_step(random), lent(random, REPORTED), some_stored(random)]);
+        calls.push(some_timed(random));
     }
     for _ in 0..1 + random.below(3) {
         let text = some_text(random);
@@ -1212,6 +1265,7 @@ pub fn calls(random: &mut Random, most_steps: usize) -> Vec<Call> {
                 1..=3 => calls.push(lent(random, LIST)),
                 4 | 5 => calls.push(lent(random, REPORTED)),
                 6..=9 => calls.push(some_stored(random)),
+                10..=16 => calls.push(some_timed(random)),
                 _ => calls.push(some_step(random)),
             }
         }

@@ -6,6 +6,7 @@
 #![forbid(unsafe_code)]
 
 pub mod calls;
+pub mod clock;
 pub mod engine;
 pub mod eval;
 pub mod generate;
@@ -22,7 +23,8 @@ pub mod state;
 pub mod syntax;
 pub mod tokens;
 
-pub use engine::{forget, list, open, report, return_to, save, step, Opening};
+pub use clock::Clock;
+pub use engine::{forget, list, open, report, return_to, save, step, timed_step, Opening};
 
 /// Length of the model buffer in bytes: the text's length (2 bytes, the low one first), the text,
 /// zeros.
@@ -33,8 +35,9 @@ pub const STATE: usize = 5_122;
 pub const LISTING: usize = 7_168;
 /// Length of the report buffer in unsigned 64-bit numbers: one for each definition there may be.
 pub const REPORT: usize = 64;
-/// Length of the saves buffer in signed 64-bit numbers: eight places of a name in two numbers and a state.
-pub const SAVES: usize = 40_992;
+/// Length of the saves buffer in signed 64-bit numbers: eight places of a name in two numbers, a state and a
+/// clock in two numbers.
+pub const SAVES: usize = 41_008;
 
 const _: () = assert!(saves::BUFFER == SAVES);
 const _: () = assert!(model::BUFFER == MODEL && state::BUFFER == STATE);

@@ -1,5 +1,6 @@
 //! Named states to come back to (02, note 2), and the buffer of signed 64-bit numbers that holds them.
 
+use crate::clock::Clock;
 use crate::model::Model;
 use crate::state::{self, State};
 
@@ -11,8 +12,10 @@ pub const LETTERS: usize = 16;
 const PACKED: usize = 8;
 /// Numbers of a packed name.
 pub const NAME: usize = LETTERS / PACKED;
-/// Numbers of a place: name and state.
-pub const PLACE: usize = NAME + state::BUFFER;
+/// Where the clock's two numbers stand in a place, after name and state.
+pub const CLOCK: usize = NAME + state::BUFFER;
+/// Numbers of a place.
+pub const PLACE: usize = CLOCK + 2;
 /// The length of the saves buffer.
 pub const BUFFER: usize = PLACES * PLACE;
 
@@ -20,6 +23,7 @@ pub const BUFFER: usize = PLACES * PLACE;
 pub struct Save {
     pub name: Vec<u8>,
     pub state: State,
+    pub clock: Clock,
 }
 
 #[derive(Clone, Debug, PartialEq, Eq)]
@@ -81,7 +85,8 @@ impl Saves {
         for (place, part) in self.places.iter().zip(buffer.chunks_mut(PLACE)) {
             if let Some(save) = place {
                 part[..NAME].copy_from_slice(&pack(&save.name));
-                state::write_buffer(model, &save.state, &mut part[NAME..]);
+                state::write_buffer(model, &save.state, &mut part[NAME..CLOCK]);
+                part[CLOCK..].copy_from_slice(&[save.clock.ticks as i64, save.clock.draws as i64]);
             }
         }
     }
@@ -93,6 +98,9 @@ fn read_place(model: &Model, part: &[i64]) -> Option<Option<Save>> {
         return Some(None);
     }
     let name = unpack(&part[..NAME])?;
-    let state = state::read_buffer(model, &part[NAME..])?;
-    Some(Some(Save { name, state }))
+    let state = state::read_buffer(model, &part[NAME..CLOCK])?;
+    // None of its numbers is negative; both are in range then.
+    let [ticks, draws] = [part[CLOCK], part[CLOCK + 1]].map(|number| u64::try_from(number).ok());
+    let clock = Clock { ticks: ticks?, draws: draws? };
+    Some(Some(Save { name, state, clock }))
 }

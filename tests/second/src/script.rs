@@ -1,8 +1,8 @@
 //! Lists of calls as scripts for the program `calls`, and what that program prints for one.
 //!
-//! A script has lines `open N` (N bytes and a newline follow), `list`, `step D`, `report`, `save NAME`,
-//! `return NAME`, `forget NAME` (all bytes of the line after the blank), `state` and `independent I J`
-//! (of two entries of the listing buffer: 1 or 0).
+//! A script has lines `open N` (N bytes and a newline follow), `list`, `step D`, `wait W` (a waiting
+//! draw for the next timed step), `time D` (a timed step), `report`, `save NAME`, `return NAME`, `forget NAME` (all bytes
+//! of the line after the blank), `state`, `clock` and `independent I J` (of two entries of the listing buffer: 1 or 0).
 //! Every line ends with a newline, words stand one blank apart, numbers are digits alone. A line of
 //! another form, or an opening without its N bytes, ends the run with `bad` and its number, which
 //! counts every newline before it, those of texts too.
@@ -10,12 +10,16 @@
 //! What `calls` can't do, changes of the buffers and other lengths than the right ones, stands on
 //! lines that begin with `!`. They are read where `Form::Marked` is asked for.
 
+use crate::clock::Clock;
 use crate::generate::{Buffers, Call, Draw, Engine, Lengths, RIGHT, SPARE};
 use crate::{Answer, LISTING, MODEL, REPORT, SAVES, STATE};
 use std::fmt::Write;
 
 /// Numbers of a listing entry.
 const ENTRY: usize = 7;
+
+/// The program `calls` lends so many waiting draws at most.
+pub const WAITING: usize = 4_096;
 
 /// Which lines a script may have.
 #[derive(Clone, Copy, Debug, PartialEq, Eq)]
@@ -31,13 +35,15 @@ pub enum Form {
 pub enum Line {
     Call(Call),
     State,
+    Clock,
     /// Are these two entries of the listing buffer independent?
     Independent(u64, u64),
 }
 
-/// Can the program `calls` run these, or has the script lines with `!`?
+/// Can the program `calls` run these, or has the script lines with `!`, or too many waiting draws?
 pub fn is_plain(calls: &[Call]) -> bool {
-    calls.iter().all(|call| call.lengths() == Some(&RIGHT))
+    let short = |call: &Call| !matches!(call, Call::Timed { waiting, .. } if waiting.len() > WAITING);
+    calls.iter().all(|call| call.lengths() == Some(&RIGHT) && short(call))
 }
 
 /// The script of a list of calls whose draws are numbers.
@@ -57,13 +63,18 @@ fn line(call: &Call) -> Vec<u8> {
         }
         Call::List { lengths } => format!("{}list\n", lengths_line(lengths)),
         Call::Step { lengths, draw: Draw::Exactly(draw) } => format!("{}step {draw}\n", lengths_line(lengths)),
-        Call::Step { .. } => unreachable!("a draw that isn't a number"),
+        Call::Timed { lengths, draw: Draw::Exactly(draw), waiting } => {
+            let waits: String = waiting.iter().map(|wait| format!("wait {wait}\n")).collect();
+            format!("{waits}{}time {draw}\n", lengths_line(lengths))
+        }
+        Call::Step { .. } | Call::Timed { .. } => unreachable!("a draw that isn't a number"),
         Call::Report { lengths } => format!("{}report\n", lengths_line(lengths)),
         Call::Save { lengths, name } | Call::Return { lengths, name } | Call::Forget { lengths, name } => {
             let head = format!("{}{} ", lengths_line(lengths), call.name());
             return [head.as_bytes(), name, b"\n"].concat();
         }
         Call::SetSaves { place, number } => format!("! saves {place} {number}\n"),
+        Call::SetClock(clock) => format!("! clock {} {}\n", clock.ticks, clock.draws),
         Call::SetState { place, number } => format!("! state {place} {number}\n"),
         Call::SetModel { place, byte } => format!("! model {place} {byte}\n"),
         Call::Light { count, first } => format!("! light {count} {first}\n"),
@@ -85,7 +96,7 @@ fn lengths_line(lengths: &Lengths) -> String {
 /// Reads a script, up to the first line of another form: the lines before it, and its number
 /// from 1 if there is one.
 pub fn read(script: &[u8], form: Form) -> (Vec<Line>, Option<usize>) {
-    let mut reader = Reader { script, form, place: 0, number: 0, lengths: RIGHT };
+    let mut reader = Reader { script, form, place: 0, number: 0, lengths: RIGHT, waiting: Vec::new() };
     let mut lines = Vec::new();
     while reader.place < script.len() {
         let here = reader.number + 1;
@@ -105,6 +116,8 @@ struct Reader<'a> {
     number: usize,
     /// What the next call is lent.
     lengths: Lengths,
+    /// The waiting draws for the next timed step.
+    waiting: Vec<u16>,
 }
 
 impl Reader<'_> {
@@ -139,12 +152,30 @@ impl Reader<'_> {
             self.lengths = Lengths { model, state, listing, report, saves: length(saves, SAVES)? };
             return Some(None);
         }
+        if let ["wait", draw] = words[..] {
+            self.waiting.push(whole(draw)?);
+            return Some(None);
+        }
         self.lengths = RIGHT;
+        if let ["time", draw] = words[..] {
+            return Some(Some(Line::Call(self.timed(whole(draw)?, lengths))));
+        }
         if let ["open", size] = words[..] {
             let text = self.bytes(Some(whole(size)?))?;
             return Some(Some(Line::Call(Call::Open { text, lengths })));
         }
         short_line(&words, lengths).map(Some)
+    }
+}
+
+impl Reader<'_> {
+    /// A timed step by the waiting draws so far, of which the program `calls` takes the first ones only.
+    fn timed(&mut self, draw: u64, lengths: Lengths) -> Call {
+        let mut waiting = std::mem::take(&mut self.waiting);
+        if self.form == Form::Plain {
+            waiting.truncate(WAITING);
+        }
+        Call::Timed { lengths, draw: Draw::Exactly(draw), waiting }
     }
 }
 
@@ -164,6 +195,7 @@ fn named(line: &[u8], lengths: Lengths) -> Option<Call> {
 fn short_line(words: &[&str], lengths: Lengths) -> Option<Line> {
     let call = match *words {
         ["state"] => return Some(Line::State),
+        ["clock"] => return Some(Line::Clock),
         ["independent", first, second] => return Some(Line::Independent(whole(first)?, whole(second)?)),
         ["list"] => Call::List { lengths },
         ["step", draw] => Call::Step { lengths, draw: Draw::Exactly(whole(draw)?) },
@@ -171,6 +203,7 @@ fn short_line(words: &[&str], lengths: Lengths) -> Option<Line> {
         ["!", "state", place, number] => Call::SetState { place: length(place, STATE)?, number: number.parse().ok()? },
         ["!", "model", place, byte] => Call::SetModel { place: length(place, MODEL)?, byte: whole(byte)? },
         ["!", "saves", place, number] => Call::SetSaves { place: length(place, SAVES)?, number: number.parse().ok()? },
+        ["!", "clock", ticks, draws] => Call::SetClock(Clock { ticks: whole(ticks)?, draws: whole(draws)? }),
         ["!", "light", count, first] => Call::Light { count: whole(count)?, first: first.parse().ok()? },
         ["!", "crowd", count] => Call::Crowd { count: whole(count)? },
         ["!", "fill", number] => Call::Fill { number: whole(number)? },
@@ -196,6 +229,7 @@ pub fn print(engine: &Engine, script: &[u8], form: Form) -> String {
     for line in &lines {
         match line {
             Line::State => printed.push_str(&(numbers(&buffers.state[..STATE]) + "\n")),
+            Line::Clock => printed.push_str(&format!("{} {}\n", buffers.clock.ticks, buffers.clock.draws)),
             Line::Independent(first, second) => {
                 let is = buffers.independent(engine, *first, *second);
                 printed.push_str(if is { "1\n" } else { "0\n" });
@@ -220,7 +254,7 @@ fn print_answer(printed: &mut String, call: &Call, answer: &Answer, buffers: &Bu
         return;
     }
     match call {
-        Call::List { .. } | Call::Step { .. } => {
+        Call::List { .. } | Call::Step { .. } | Call::Timed { .. } => {
             for entry in buffers.listing.chunks(ENTRY).take(*count as usize) {
                 writeln!(printed, "  {}", numbers(entry)).expect("a string takes all");
             }

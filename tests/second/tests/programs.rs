@@ -139,6 +139,35 @@ fn calls_saves_returns_and_forgets() {
 }
 
 #[test]
+fn calls_takes_timed_steps() {
+    let text = "A[n]={a,1}.A[n+1];A[0];";
+    let script = format!(
+        "clock\ntime 0\nopen {}\n{text}\nwait 40000\nlist\nwait 50000\ntime 0\nclock\ntime 0\nwait 7\ntime 0\n\
+         wait 7\nwait 007\nsave a\ntime 99\nclock\nreturn a\nclock\nopen 0\n\nclock\nwait 65536\n",
+        text.len()
+    );
+    let printed = calls(&script);
+    let lines: Vec<&str> = printed.lines().filter(|line| !line.starts_with("  ")).collect();
+    let [done, taken, ended] = ["0 0 0 0 0 0", "0 0 0 1 100000000 0", "23 0 0 1 100000000 0"];
+    let expected = [
+        &["0 0", "11 0 0 0 0 0", done, taken, taken, "6103 2", ended, ended][..],
+        &[done, taken, "6104 4", done, "6103 2", "5 0 0 0 0 0", "0 0", "bad,23"],
+    ];
+    assert_eq!(lines, expected.concat());
+    for line in ["wait\n", "wait -1\n", "wait 1 2\n", "time\n", "time 1 2\n", "clock 1\n", "wait 65535"] {
+        assert_eq!(calls(line), "bad,1\n", "{line:?}");
+    }
+    // The first 4,096 draws alone: a falling run and what ends it.
+    let waits =
+        |last: u32| (0..4_095).map(|number| format!("wait {}\n", 5_000 - number)).chain([format!("wait {last}\n")]);
+    let open = format!("open {}\n{text}\n", text.len());
+    let long: String = waits(5_000).collect();
+    assert!(calls(&format!("{open}{long}time 0\nclock\n")).ends_with("762 4096\n"));
+    let longer: String = waits(1).chain(["wait 7\n".to_string()]).collect();
+    assert!(calls(&format!("{open}{longer}time 0\nclock\n")).contains("23 0 0 1 100000000 0"));
+}
+
+#[test]
 fn calls_tells_which_entries_are_independent() {
     let text = "A[]={a,1}+{c![1],1};2*A[];";
     let script = format!(

@@ -4,7 +4,7 @@
 
 use second::generate::*;
 use second::state::{DEFINITION, FIRST_PROCESS, PROCESS};
-use second::{model, saves, state, Answer, LISTING, MODEL, REPORT, SAVES, STATE};
+use second::{model, saves, state, Answer, Clock, LISTING, MODEL, REPORT, SAVES, STATE};
 use std::collections::BTreeMap;
 
 /// How many seeds to try: the number given, unless the environment has SEEDS.
@@ -46,6 +46,12 @@ fn check(call: &Call, before: &Buffers, answer: &Answer, after: &Buffers) {
             assert!(before.state == after.state || number == 0);
             check_shown(call, before, answer, after);
         }
+        Call::Timed { draw, waiting, .. } => {
+            assert!(number == 0 || (11..=19).contains(&number) || (23..=25).contains(&number));
+            assert!((before.state == after.state && before.clock == after.clock) || number == 0);
+            check_shown(call, before, answer, after);
+            check_time(*draw, waiting, before, answer, after);
+        }
         Call::Save { name, .. } | Call::Return { name, .. } | Call::Forget { name, .. } => {
             check_stored(call, name, before, answer, after);
         }
@@ -57,7 +63,7 @@ fn check_opening(text: &[u8], before: &Buffers, answer: &Answer, after: &Buffers
     assert!(answer.number <= 10);
     assert_eq!((answer.count, answer.total, answer.chosen), (0, 0, 0));
     assert!(before.listing == after.listing && before.report == after.report);
-    assert!(all_zero(&after.saves[..SAVES]));
+    assert!(all_zero(&after.saves[..SAVES]) && after.clock == Clock::default());
     if answer.number > 1 {
         assert!(answer.place as usize <= text.len());
         assert!(after.model[..MODEL].iter().all(|&byte| byte == 0));
@@ -69,6 +75,22 @@ fn check_opening(text: &[u8], before: &Buffers, answer: &Answer, after: &Buffers
     }
 }
 
+/// A timed step: one that isn't refused for its draws or its clock is a step with the same choosing draw.
+fn check_time(draw: Draw, waiting: &[u16], before: &Buffers, answer: &Answer, after: &Buffers) {
+    let mut plain = before.clone();
+    let step = plain.make(&SECOND, &Call::Step { lengths: RIGHT, draw }).unwrap();
+    match answer.number {
+        23..=25 => assert_eq!((step.number, answer.chosen), (0, 0)),
+        0 => {
+            assert_eq!(step, *answer);
+            assert!(plain.state == after.state && plain.listing == after.listing);
+            let used = after.clock.draws - before.clock.draws;
+            assert!((2..=waiting.len() as u64).contains(&used));
+        }
+        number => assert_eq!(number == 11 || step.number == number, number == 11 || step == *answer),
+    }
+}
+
 /// A save, a return or a forget whose buffers have their lengths.
 fn check_stored(call: &Call, name: &[u8], before: &Buffers, answer: &Answer, after: &Buffers) {
     assert_eq!(*answer, Answer::refusal(answer.number));
@@ -76,6 +98,7 @@ fn check_stored(call: &Call, name: &[u8], before: &Buffers, answer: &Answer, aft
     assert!(before.model == after.model && before.listing == after.listing && before.report == after.report);
     assert!(before.state == after.state || (answer.number == 0 && returns));
     assert!(before.saves == after.saves || (answer.number == 0 && !returns));
+    assert!(before.clock == after.clock || (answer.number == 0 && returns));
     let known = |buffers: &Buffers| held_state(buffers, name).is_some();
     match answer.number {
         0 => {
@@ -98,7 +121,7 @@ fn check_stored(call: &Call, name: &[u8], before: &Buffers, answer: &Answer, aft
 fn held_state(buffers: &Buffers, name: &[u8]) -> Option<Vec<i64>> {
     let mut places = buffers.saves[..SAVES].chunks(saves::PLACE);
     let place = places.find(|place| name.len() <= 16 && !name.is_empty() && place[..2] == saves::pack(name))?;
-    Some(place[2..].to_vec())
+    Some(place[saves::NAME..saves::CLOCK].to_vec())
 }
 
 /// A list, step or report whose buffers have their lengths: the listing, or of a report the report, is filled, zeroed
@@ -108,7 +131,8 @@ fn check_shown(call: &Call, before: &Buffers, answer: &Answer, after: &Buffers) 
     let report = call.name() == "report";
     assert!(before.model == after.model);
     assert!(if report { before.listing == after.listing } else { before.report == after.report });
-    assert_eq!(number == 11, !holds_a_state(before));
+    let judged = holds_a_state(before) && (call.name() != "timed" || before.clock.is_in_range());
+    assert_eq!(number == 11, !judged);
     assert!(number == 12 || answer.place == 0);
     match number {
         11 => assert!(before == after),
@@ -214,7 +238,7 @@ fn calls_of_all_kinds() {
         println!("  {name} {number}: {times}");
     }
     println!("kinds of accepted steps: {:?}", &kinds[1..]);
-    for number in 0..=22 {
+    for number in 0..=25 {
         assert!(numbers.contains_key(&number), "{number} is never met");
     }
     for number in [0, 1, 11, 12, 13, 14] {

@@ -5,7 +5,7 @@ mod common;
 
 use common::*;
 use second::state::{FIRST_PAIR, FIRST_PROCESS, PROCESS};
-use second::{Answer, Opening, LISTING, MODEL, SAVES, STATE};
+use second::{Answer, Clock, Opening, LISTING, MODEL, SAVES, STATE};
 
 const PLAIN: &str = "A[]={go,1};A[];";
 
@@ -16,8 +16,10 @@ fn one() {
         let (mut model, mut state, mut saves) = (vec![7; lengths.0], vec![-7; lengths.1], vec![-77; lengths.2]);
         // Before question 2, too.
         for text in [text, &[0; 20_000]] {
-            let lent = Opening { model: &mut model, state: &mut state, saves: &mut saves };
+            let mut clock = Clock { ticks: 7, draws: u64::MAX };
+            let lent = Opening { model: &mut model, state: &mut state, saves: &mut saves, clock: &mut clock };
             assert_eq!(second::open(text, lent), Answer::refusal(1));
+            assert_eq!(clock, Clock { ticks: 7, draws: u64::MAX });
         }
         assert!(model.iter().all(|&byte| byte == 7) && state.iter().all(|&number| number == -7));
         assert!(saves.iter().all(|&number| number == -77));

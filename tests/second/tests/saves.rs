@@ -3,9 +3,10 @@
 mod common;
 
 use common::*;
-use second::saves::{pack, LETTERS, NAME, PLACE, PLACES};
+use second::clock::MOST;
+use second::saves::{pack, CLOCK, LETTERS, NAME, PLACE, PLACES};
 use second::state::{FIRST_PAIR, FIRST_PROCESS, PAIR, PROCESS};
-use second::{Answer, SAVES, STATE};
+use second::{Answer, Clock, SAVES, STATE};
 
 const DONE: Answer = Answer { number: 0, place: 0, branch: 0, count: 0, total: 0, chosen: 0 };
 
@@ -84,7 +85,7 @@ fn a_known_name_is_replaced() {
     let second = bench.state.clone();
     assert_eq!(bench.save("a"), DONE);
     // In its own place.
-    assert_eq!((&place(&bench, 0)[NAME..], place(&bench, 2)), (&second[..], &[0; PLACE][..]));
+    assert_eq!((&place(&bench, 0)[NAME..CLOCK], place(&bench, 2)), (&second[..], &[0; PLACE][..]));
     bench.return_to("b");
     assert_ne!(bench.state, second);
     bench.return_to("a");
@@ -113,7 +114,7 @@ fn a_ninth_name_is_refused() {
     for (number, name) in EIGHT.iter().enumerate() {
         let mut bench = bench.clone();
         assert_eq!(bench.save(name), DONE);
-        assert_eq!(&place(&bench, number)[NAME..], &bench.state[..]);
+        assert_eq!(&place(&bench, number)[NAME..CLOCK], &bench.state[..]);
     }
     // Every one is there.
     for name in EIGHT {
@@ -158,7 +159,7 @@ fn names_are_1_to_16_letters() {
         all_refuse(&bench, 20, name);
     }
     all_refuse(&bench, 20, &"a".repeat(100_000));
-    refuses(&bench, 20, |bench| second::save(&bench.model, &bench.state, &mut bench.saves, &[0xff]));
+    refuses(&bench, 20, |bench| second::save(&bench.model, &bench.state, &mut bench.saves, &[0xff], bench.clock));
     assert_eq!(LETTERS, 16);
 }
 
@@ -230,10 +231,13 @@ fn eleven_judges_the_saves() {
         // The second number continues the first only if that one is full.
         assert_eq!(judged(place, 1, own[0]), 11);
         // A state that is none.
-        for (offset, number) in [(state, 257), (state, -1), (process, 1), (process, -1), (pair, 4), (PLACE - 1, 1)] {
+        for (offset, number) in [(state, 257), (state, -1), (process, 1), (process, -1), (pair, 4), (CLOCK - 1, 1)] {
             assert_eq!(judged(place, offset, number), 11, "{offset} {number}");
         }
         assert_eq!(judged(place, process + 1, 9), 0);
+        for offset in [CLOCK, CLOCK + 1] {
+            assert_eq!([1, i64::MAX, -1, i64::MIN].map(|number| judged(place, offset, number)), [0, 0, 11, 11]);
+        }
         // A row of zeros is a process, too.
         assert_eq!(judged(place, state, 3), 0);
     }
@@ -255,7 +259,7 @@ fn a_buffer_that_passes_is_judged_as_the_saves_it_holds() {
     let [first, second] = pack(b"abcdefghijklmnop");
     bench.saves[5 * PLACE] = first;
     bench.saves[5 * PLACE + 1] = second;
-    bench.saves[5 * PLACE + NAME..6 * PLACE].copy_from_slice(&bench.state);
+    bench.saves[5 * PLACE + NAME..5 * PLACE + CLOCK].copy_from_slice(&bench.state);
     bench.saves[5 * PLACE + NAME + FIRST_PROCESS + PROCESS + 1] = -3;
     assert_eq!(bench.return_to("abcdefghijklmnop"), DONE);
     assert_eq!(bench.processes(1), [[0, 5], [0, -3]]);
@@ -312,7 +316,7 @@ fn the_largest_state_is_saved() {
     bench.state.fill(0);
     assert_eq!(bench.return_to("h"), DONE);
     assert_eq!(bench.state, state);
-    assert_eq!((state.len(), bench.saves.len()), (STATE, 8 * (2 + STATE)));
+    assert_eq!((state.len(), bench.saves.len()), (STATE, 8 * (2 + STATE + 2)));
 }
 
 #[test]
@@ -331,4 +335,30 @@ fn returns_are_to_the_latest_accepted_save() {
     bench.state[0] = spoilt;
     assert_eq!(bench.return_to("a"), DONE);
     assert_eq!(bench.state, state);
+}
+
+#[test]
+fn saves_include_the_clock() {
+    let mut bench = counter();
+    bench.clock = Clock { ticks: 17, draws: MOST };
+    assert_eq!(bench.save("a"), DONE);
+    assert_eq!(place(&bench, 0)[CLOCK..], [17, MOST as i64]);
+    bench.clock = Clock { ticks: MOST, draws: 3 };
+    assert_eq!(bench.save("b"), DONE);
+    for (name, clock) in [("a", Clock { ticks: 17, draws: MOST }), ("b", Clock { ticks: MOST, draws: 3 })] {
+        bench.clock = Clock { ticks: 1, draws: 1 };
+        assert_eq!(bench.return_to(name), DONE);
+        assert_eq!(bench.clock, clock);
+    }
+    // 11 judges a lent clock too, before 20 to 22; a forget isn't lent one.
+    for clock in
+        [Clock { ticks: MOST + 1, draws: 0 }, Clock { ticks: 0, draws: MOST + 1 }, Clock { ticks: u64::MAX, draws: 0 }]
+    {
+        bench.clock = clock;
+        for name in ["a", "", "new"] {
+            refuses(&bench, 11, |bench| bench.save(name));
+            refuses(&bench, 11, |bench| bench.return_to(name));
+        }
+        refuses(&bench, 21, |bench| bench.forget("new"));
+    }
 }

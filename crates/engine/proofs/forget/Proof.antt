@@ -30,7 +30,7 @@ same-length c = search needs
 
 returns-2 : tie.Need-returns-2
 returns-2 c =
-    rw (c .bare2 .ensures, three-right (c .before .before .before .before .before .before .before .before .args .model .now) (c .before .before .before .before .before .before .before .before .args .state .now) (c .before .before .before .before .before .before .before .before .args .saves .now) (on′ (forget′ (c .before .before .before .before .before .before .before .before .args .name .now))) refl refl (sym (c .before .before .before .before .before .are-all-long .ensures) ∙ passed _ (c .before .before .before .before .if1 .left))) (unheld-gives (forget′ (c .before .before .before .before .before .before .before .before .args .name .now)) refl (c .before .before .before .before .before .before .before .before .args .model .now) (c .before .before .before .before .before .before .before .before .args .state .now) (c .before .before .before .before .before .before .before .before .args .saves .now) (sym (c .before .before .holds .ensures) ∙ refused _ (c .before .if2 .taken)))
+    rw (c .bare2 .ensures, three-right (c .before .before .before .before .before .before .before .before .args .model .now) (c .before .before .before .before .before .before .before .before .args .state .now) (c .before .before .before .before .before .before .before .before .args .saves .now) (on′ (forget′ (c .before .before .before .before .before .before .before .before .args .name .now))) refl refl (sym (c .before .before .before .before .before .are-all-long .ensures) ∙ passed _ (c .before .before .before .before .if1 .left))) (unheld-gives (c .before .before .before .before .before .before .before .before .args .name .now) (c .before .before .before .before .before .before .before .before .args .model .now) (c .before .before .before .before .before .before .before .before .args .state .now) (c .before .before .before .before .before .before .before .before .args .saves .now) (sym (c .before .before .holds .ensures) ∙ refused _ (c .before .if2 .taken)))
 
 forget-requires : tie.Need-forget-requires
 forget-requires c κs =

@@ -1,13 +1,13 @@
--- Question 1 by the lengths; then the saves are cleared and the text is opened.
+-- Question 1 by the lengths; then the saves are cleared, the text is opened and the clock is zero.
 use mathlib.Core.Path.{refl, ap, sym, _∙_}
 use Prim.Native.Nat.{ℕ}
-use borrow.Author.Needs.{needs}
 use lib.IntN.{pos}
 use lib.ListN.{replicate}
 use Rattle.machine.specs.Machine.{open′}
 use Rattle.state.proofs.Tests.{refused, passed}
 use Rattle.buffers.specs.Effect.{answered}
-use Rattle.engine.proofs.Lengths.{three-long, three-wrong, three-right}
+use Rattle.engine.proofs.Lengths.{three-long, four-wrong, four-right, of-all, of-fresh}
+use borrow.Author.Needs.{needs}
 use Rattle.engine.proofs.open.Statement.{statement}
 use Rattle.engine.proofs.open.Tie as tie
 
@@ -17,17 +17,25 @@ are-all-long-requires c κs = search needs
 bare-requires : tie.Need-bare-requires
 bare-requires c κs = search needs
 
+of-requires : tie.Need-of-requires
+of-requires c κs = search needs
+
 returns : tie.Need-returns
 returns c =
-    rw (c .bare .ensures) (three-wrong (c .before .before .before .before .before .args .model .now) (c .before .before .before .before .before .args .state .now) (c .before .before .before .before .before .args .saves .now) (open′ (c .before .before .before .before .before .args .text .now)) refl refl (sym (c .before .before .are-all-long .ensures) ∙ refused _ (c .before .if1 .taken)))
+    of-all _ (c .before .before .before .before .before .before .args .model .now) (c .before .before .before .before .before .before .args .state .now) (c .before .before .before .before .before .before .args .saves .now) _ _ _ _ (c .of .ensures) (c .before .bare .ensures) (four-wrong (c .before .before .before .before .before .before .args .model .now) (c .before .before .before .before .before .before .args .state .now) (c .before .before .before .before .before .before .args .saves .now) (c .before .before .before .before .before .before .args .clock) (open′ (c .before .before .before .before .before .before .args .text .now)) refl refl (sym (c .before .before .before .are-all-long .ensures) ∙ refused _ (c .before .before .if1 .taken)))
 
 clear-state-requires : tie.Need-clear-state-requires
 clear-state-requires c κs = search needs
 
 open-lent-requires : tie.Need-open-lent-requires
 open-lent-requires c κs =
-    let l = three-long _ _ _ (sym (c .before .before .before .before .before .before .are-all-long .ensures) ∙ passed _ (c .before .before .before .before .before .if1 .left)) in
-    (l .0, l .1)
+    let l = (three-long _ _ _ (sym (c .before .before .before .before .before .before .are-all-long .ensures) ∙ passed _ (c .before .before .before .before .before .if1 .left))) in (l .0, l .1)
+
+fresh-requires : tie.Need-fresh-requires
+fresh-requires c κs = search needs
+
+of-requires-2 : tie.Need-of-requires-2
+of-requires-2 c κs = search needs
 
 same-length : tie.Need-same-length
 same-length c = search needs
@@ -41,10 +49,22 @@ same-length-3 c = search needs
 returns-2 : tie.Need-returns-2
 unfolding answered
 returns-2 c =
-    let l = three-long _ _ _ (sym (c .before .before .before .before .before .before .before .before .before .before .are-all-long .ensures) ∙ passed _ (c .before .before .before .before .before .before .before .before .before .if1 .left)) in
-    rw (three-right (c .before .before .before .before .before .before .before .before .before .before .before .before .before .args .model .now) (c .before .before .before .before .before .before .before .before .before .before .before .before .before .args .state .now) (c .before .before .before .before .before .before .before .before .before .before .before .before .before .args .saves .now) (open′ (c .before .before .before .before .before .before .before .before .before .before .before .before .before .args .text .now)) refl refl (sym (c .before .before .before .before .before .before .before .before .before .before .are-all-long .ensures) ∙ passed _ (c .before .before .before .before .before .before .before .before .before .if1 .left))) (c .before .before .before .open-lent .ensures _ (c .before .before .before .before .before .before .before .clear-state .ensures ∙ ap (λ (n : ℕ). replicate n (pos 0)) (l .2)))
+    let l = (three-long _ _ _ (sym (c .before .before .before .before .before .before .before .before .before .before .before .before .are-all-long .ensures) ∙ passed _ (c .before .before .before .before .before .before .before .before .before .before .before .if1 .left))) in
+    of-fresh _ _ _ _ _ _ _ (c .of2 .ensures) (c .before .fresh .ensures) (rw (four-right (c .before .before .before .before .before .before .before .before .before .before .before .before .before .before .before .args .model .now) (c .before .before .before .before .before .before .before .before .before .before .before .before .before .before .before .args .state .now) (c .before .before .before .before .before .before .before .before .before .before .before .before .before .before .before .args .saves .now) (c .before .before .before .before .before .before .before .before .before .before .before .before .before .before .before .args .clock) (open′ (c .before .before .before .before .before .before .before .before .before .before .before .before .before .before .before .args .text .now)) refl refl (sym (c .before .before .before .before .before .before .before .before .before .before .before .before .are-all-long .ensures) ∙ passed _ (c .before .before .before .before .before .before .before .before .before .before .before .if1 .left))) (c .before .before .before .before .before .open-lent .ensures _ (c .before .before .before .before .before .before .before .before .before .clear-state .ensures ∙ ap (λ (n : ℕ). replicate n (pos 0)) (l .2))))
 
 pub open-spec : {M : Type 1} → statement M
 open-spec =
     tie.close
-    (tie.spec are-all-long-requires bare-requires returns clear-state-requires open-lent-requires same-length same-length-2 same-length-3 returns-2)
+    (tie.spec
+    are-all-long-requires
+    bare-requires
+    of-requires
+    returns
+    clear-state-requires
+    open-lent-requires
+    fresh-requires
+    of-requires-2
+    same-length
+    same-length-2
+    same-length-3
+    returns-2)

@@ -1,10 +1,10 @@
--- Question 1 by the lengths, 11 by the buffers, then what the numbers say.
+-- Question 1 by the lengths, 11 by the buffers and the clock, then what is kept under the name.
 use mathlib.Core.Path.{refl, sym, _∙_}
-use borrow.Author.Needs.{needs}
 use Rattle.machine.specs.Machine.{return′, on′}
 use Rattle.state.proofs.Tests.{refused, passed}
-use Rattle.engine.proofs.Lengths.{three-long, three-wrong, three-right}
-use Rattle.engine.proofs.Stored.{unheld-gives, return-gives}
+use Rattle.engine.proofs.Lengths.{three-long, four-wrong, four-right, of-all}
+use Rattle.engine.proofs.Stored.{unheld-four, range-so, keeping, return-gives}
+use borrow.Author.Needs.{needs}
 use Rattle.engine.proofs.return_to.Statement.{statement}
 use Rattle.engine.proofs.return_to.Tie as tie
 
@@ -14,39 +14,41 @@ are-all-long-requires c κs = search needs
 bare-requires : tie.Need-bare-requires
 bare-requires c κs = search needs
 
+of-requires : tie.Need-of-requires
+of-requires c κs = search needs
+
 returns : tie.Need-returns
 returns c =
-    rw (c .bare .ensures) (three-wrong (c .before .before .before .before .before .args .model .now) (c .before .before .before .before .before .args .state .now) (c .before .before .before .before .before .args .saves .now) (on′ (return′ (c .before .before .before .before .before .args .name .now))) refl refl (sym (c .before .before .are-all-long .ensures) ∙ refused _ (c .before .if1 .taken)))
+    of-all _ (c .before .before .before .before .before .before .args .model .now) (c .before .before .before .before .before .before .args .state .now) (c .before .before .before .before .before .before .args .saves .now) _ _ _ _ (c .of .ensures) (c .before .bare .ensures) (four-wrong (c .before .before .before .before .before .before .args .model .now) (c .before .before .before .before .before .before .args .state .now) (c .before .before .before .before .before .before .args .saves .now) (c .before .before .before .before .before .before .args .clock) (on′ (return′ (c .before .before .before .before .before .before .args .name .now))) refl refl (sym (c .before .before .before .are-all-long .ensures) ∙ refused _ (c .before .before .if1 .taken)))
 
-holds-requires : tie.Need-holds-requires
-holds-requires c κs =
-    three-long _ _ _ (sym (c .before .before .are-all-long .ensures) ∙ passed _ (c .before .if1 .left))
+holds-all-requires : tie.Need-holds-all-requires
+holds-all-requires c κs =
+    (three-long _ _ _ (sym (c .before .before .are-all-long .ensures) ∙ passed _ (c .before .if1 .left)))
 
 bare-requires-2 : tie.Need-bare-requires-2
 bare-requires-2 c κs = search needs
+
+of-requires-2 : tie.Need-of-requires-2
+of-requires-2 c κs = search needs
 
 same-length : tie.Need-same-length
 same-length c = search needs
 
 returns-2 : tie.Need-returns-2
 returns-2 c =
-    rw (c .bare2 .ensures, three-right (c .before .before .before .before .before .before .before .before .args .model .now) (c .before .before .before .before .before .before .before .before .args .state .now) (c .before .before .before .before .before .before .before .before .args .saves .now) (on′ (return′ (c .before .before .before .before .before .before .before .before .args .name .now))) refl refl (sym (c .before .before .before .before .before .are-all-long .ensures) ∙ passed _ (c .before .before .before .before .if1 .left))) (unheld-gives (return′ (c .before .before .before .before .before .before .before .before .args .name .now)) refl (c .before .before .before .before .before .before .before .before .args .model .now) (c .before .before .before .before .before .before .before .before .args .state .now) (c .before .before .before .before .before .before .before .before .args .saves .now) (sym (c .before .before .holds .ensures) ∙ refused _ (c .before .if2 .taken)))
+    of-all _ (c .before .before .before .before .before .before .before .before .before .args .model .now) (c .before .before .before .before .before .before .before .before .before .args .state .now) (c .before .before .before .before .before .before .before .before .before .args .saves .now) _ _ _ _ (c .of2 .ensures) (c .before .bare2 .ensures) (rw (four-right (c .before .before .before .before .before .before .before .before .before .args .model .now) (c .before .before .before .before .before .before .before .before .before .args .state .now) (c .before .before .before .before .before .before .before .before .before .args .saves .now) (c .before .before .before .before .before .before .before .before .before .args .clock) (on′ (return′ (c .before .before .before .before .before .before .before .before .before .args .name .now))) refl refl (sym (c .before .before .before .before .before .before .are-all-long .ensures) ∙ passed _ (c .before .before .before .before .before .if1 .left))) (unheld-four (c .before .before .before .before .before .before .before .before .before .args .model .now) (c .before .before .before .before .before .before .before .before .before .args .state .now) (c .before .before .before .before .before .before .before .before .before .args .saves .now) (c .before .before .before .before .before .before .before .before .before .args .clock) (return′ (c .before .before .before .before .before .before .before .before .before .args .name .now)) refl (sym (c .before .before .before .holds-all .ensures) ∙ refused _ (c .before .before .if2 .taken))))
 
-return-to-requires : tie.Need-return-to-requires
-return-to-requires c κs =
-    let l = three-long _ _ _ (sym (c .before .before .before .before .before .are-all-long .ensures) ∙ passed _ (c .before .before .before .before .if1 .left)) in
-    (l .2, l .1)
-
-bare-requires-3 : tie.Need-bare-requires-3
-bare-requires-3 c κs = search needs
+return-held-requires : tie.Need-return-held-requires
+return-held-requires c κs =
+    let l = (three-long _ _ _ (sym (c .before .before .before .before .before .are-all-long .ensures) ∙ passed _ (c .before .before .before .before .if1 .left))) in (l .1, l .2, range-so (c .before .before .before .before .before .before .before .before .args .model .now) (c .before .before .before .before .before .before .before .before .args .state .now) (c .before .before .before .before .before .before .before .before .args .saves .now) (c .before .before .before .before .before .before .before .before .args .clock) (l .1) (l .2) (sym (c .before .before .holds-all .ensures) ∙ passed _ (c .before .if2 .left)), keeping (c .before .before .before .before .before .before .before .before .args .model .now) (c .before .before .before .before .before .before .before .before .args .state .now) (c .before .before .before .before .before .before .before .before .args .saves .now) (c .before .before .before .before .before .before .before .before .args .clock) (l .1) (l .2) (sym (c .before .before .holds-all .ensures) ∙ passed _ (c .before .if2 .left)) (c .before .before .before .before .before .before .before .before .args .name .now))
 
 same-length-2 : tie.Need-same-length-2
 same-length-2 c = search needs
 
 returns-3 : tie.Need-returns-3
 returns-3 c =
-    let l = three-long _ _ _ (sym (c .before .before .before .before .before .before .before .before .are-all-long .ensures) ∙ passed _ (c .before .before .before .before .before .before .before .if1 .left)) in
-    rw (c .bare3 .ensures, three-right (c .before .before .before .before .before .before .before .before .before .before .before .args .model .now) (c .before .before .before .before .before .before .before .before .before .before .before .args .state .now) (c .before .before .before .before .before .before .before .before .before .before .before .args .saves .now) (on′ (return′ (c .before .before .before .before .before .before .before .before .before .before .before .args .name .now))) refl refl (sym (c .before .before .before .before .before .before .before .before .are-all-long .ensures) ∙ passed _ (c .before .before .before .before .before .before .before .if1 .left))) (return-gives (c .before .before .before .before .before .before .before .before .before .before .before .args .name .now) (c .before .before .before .before .before .before .before .before .before .before .before .args .model .now) (c .before .before .before .before .before .before .before .before .before .before .before .args .state .now) (c .before .before .before .before .before .before .before .before .before .before .before .args .saves .now) (l .1) (l .2) (sym (c .before .before .before .before .before .holds .ensures) ∙ passed _ (c .before .before .before .before .if2 .left)) _ _ _ (c .before .before .return-to .ensures))
+    let l = (three-long _ _ _ (sym (c .before .before .before .before .before .before .before .are-all-long .ensures) ∙ passed _ (c .before .before .before .before .before .before .if1 .left))) in
+    rw (four-right (c .before .before .before .before .before .before .before .before .before .before .args .model .now) (c .before .before .before .before .before .before .before .before .before .before .args .state .now) (c .before .before .before .before .before .before .before .before .before .before .args .saves .now) (c .before .before .before .before .before .before .before .before .before .before .args .clock) (on′ (return′ (c .before .before .before .before .before .before .before .before .before .before .args .name .now))) refl refl (sym (c .before .before .before .before .before .before .before .are-all-long .ensures) ∙ passed _ (c .before .before .before .before .before .before .if1 .left))) (return-gives (c .before .before .before .before .before .before .before .before .before .before .args .model .now) (c .before .before .before .before .before .before .before .before .before .before .args .state .now) (c .before .before .before .before .before .before .before .before .before .before .args .saves .now) (c .before .before .before .before .before .before .before .before .before .before .args .clock) (l .1) (l .2) (sym (c .before .before .before .before .holds-all .ensures) ∙ passed _ (c .before .before .before .if2 .left)) (c .before .before .before .before .before .before .before .before .before .before .args .name .now) _ _ (c .before .return-held .ensures))
 
 pub return-to-spec : {M : Type 1} → statement M
 return-to-spec =
@@ -54,12 +56,13 @@ return-to-spec =
     (tie.spec
     are-all-long-requires
     bare-requires
+    of-requires
     returns
-    holds-requires
+    holds-all-requires
     bare-requires-2
+    of-requires-2
     same-length
     returns-2
-    return-to-requires
-    bare-requires-3
+    return-held-requires
     same-length-2
     returns-3)

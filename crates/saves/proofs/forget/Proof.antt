@@ -17,7 +17,7 @@ put-key-requires c κs = search needs
 
 returns : tie.Need-returns
 returns c =
-    forget-unnamed (c .before .before .before .before .before .args .name .now) (c .before .before .before .before .before .args .state .now) (c .before .before .before .before .before .args .saves .now) (sym (c .before .before .put-key .ensures .answer) ∙ refused (c .before .before .put-key .result) (c .if1 .taken))
+    forget-unnamed (c .before .before .before .before .before .args .name .now) (c .before .before .before .before .before .args .kept .now) (c .before .before .before .before .before .args .saves .now) (sym (c .before .before .put-key .ensures .answer) ∙ refused (c .before .before .put-key .result) (c .if1 .taken))
 
 slice-aggregate-find-place : tie.Need-slice-aggregate-find-place
 slice-aggregate-find-place c = search needs
@@ -30,7 +30,7 @@ same-length c = search needs
 
 returns-2 : tie.Need-returns-2
 returns-2 c =
-    forget-unknown (c .before .before .before .before .before .before .before .before .before .args .name .now) (c .before .before .before .before .before .before .before .before .before .args .state .now) (c .before .before .before .before .before .before .before .before .before .args .saves .now) (sym (c .before .before .before .before .before .before .put-key .ensures .answer) ∙ passed (c .before .before .before .before .before .before .put-key .result) (c .before .before .before .before .if1 .left)) _ (c .before .before .before .before .before .before .put-key .ensures .numbers (passed (c .before .before .before .before .before .before .put-key .result) (c .before .before .before .before .if1 .left))) (c .before .find-place .result) (c .before .find-place .ensures .0) (c .if2 .taken)
+    forget-unknown (c .before .before .before .before .before .before .before .before .before .args .name .now) (c .before .before .before .before .before .before .before .before .before .args .kept .now) (c .before .before .before .before .before .before .before .before .before .args .saves .now) (sym (c .before .before .before .before .before .before .put-key .ensures .answer) ∙ passed (c .before .before .before .before .before .before .put-key .result) (c .before .before .before .before .if1 .left)) _ (c .before .before .before .before .before .before .put-key .ensures .numbers (passed (c .before .before .before .before .before .before .put-key .result) (c .before .before .before .before .if1 .left))) (c .before .find-place .result) (c .before .find-place .ensures .0) (c .if2 .taken)
 
 mul-from : tie.Need-mul-from
 mul-from c = search needs
@@ -58,7 +58,7 @@ same-length-2 c = search needs
 
 returns-3 : tie.Need-returns-3
 returns-3 c =
-    forget-put (c .before .before .before .before .before .before .before .before .before .before .before .before .args .name .now) (c .before .before .before .before .before .before .before .before .before .before .before .before .args .state .now) (c .before .before .before .before .before .before .before .before .before .before .before .before .args .saves .now) (sym (c .before .before .before .before .before .before .before .before .before .put-key .ensures .answer) ∙ passed (c .before .before .before .before .before .before .before .before .before .put-key .result) (c .before .before .before .before .before .before .before .if1 .left)) _ (c .before .before .before .before .before .before .before .before .before .put-key .ensures .numbers (passed (c .before .before .before .before .before .before .before .before .before .put-key .result) (c .before .before .before .before .before .before .before .if1 .left))) (c .before .before .before .before .find-place .result) (c .before .before .before .before .find-place .ensures .0) (c .before .before .before .if2 .left) (c .before .before .before .before .before .before .before .before .before .before .before .before .pre) (c .before .before .before .before .find-place .result * placeWidth + placeWidth - c .before .before .before .before .find-place .result * placeWidth) (omega arith) (c .before .clear-state .last .0) (c .before .clear-state .ensures)
+    forget-put (c .before .before .before .before .before .before .before .before .before .before .before .before .args .name .now) (c .before .before .before .before .before .before .before .before .before .before .before .before .args .kept .now) (c .before .before .before .before .before .before .before .before .before .before .before .before .args .saves .now) (sym (c .before .before .before .before .before .before .before .before .before .put-key .ensures .answer) ∙ passed (c .before .before .before .before .before .before .before .before .before .put-key .result) (c .before .before .before .before .before .before .before .if1 .left)) _ (c .before .before .before .before .before .before .before .before .before .put-key .ensures .numbers (passed (c .before .before .before .before .before .before .before .before .before .put-key .result) (c .before .before .before .before .before .before .before .if1 .left))) (c .before .before .before .before .find-place .result) (c .before .before .before .before .find-place .ensures .0) (c .before .before .before .if2 .left) (c .before .before .before .before .before .before .before .before .before .before .before .before .pre) (c .before .before .before .before .find-place .result * placeWidth + placeWidth - c .before .before .before .before .find-place .result * placeWidth) (omega arith) (c .before .clear-state .last .0) (c .before .clear-state .ensures)
 
 pub forget-spec : {M : Type 1} → statement M
 forget-spec =

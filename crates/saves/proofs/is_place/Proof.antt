@@ -35,21 +35,21 @@ returns-2 : tie.Need-returns-2
 returns-2 c =
     sym (place-bad (take (c .before .before .before .before .before .before .before .args .sums) (c .before .before .before .before .before .before .before .args .scopes .now)) (c .before .before .before .before .before .before .before .args .channels) (c .before .before .before .before .before .before .before .args .row .now) (sym (same-bits (getD (c .before .before .before .before .before .before .before .args .row .now) 0 (pos 0)) (pos 0) (ok-fits _ (c .before .before .before .before .before .if12 .given)) (ok-fits (pos 0) (omega arith))) ∙ ne-eqb _ _ (c .before .before .before .before .if1 .left)) (ap₂ isKeyOf (sym (back (getD (c .before .before .before .before .before .before .before .args .row .now) 0 (pos 0)) (c .before .before .before .is-key-arg .given))) (sym (back (getD (c .before .before .before .before .before .before .before .args .row .now) 1 (pos 0)) (c .before .before .is-key-arg2 .given))) ∙ sym (c .before .is-key .ensures) ∙ refused (c .before .is-key .result) (c .if2 .taken)))
 
-sub-is-state : tie.Need-sub-is-state
-sub-is-state c = search needs
+sub-is-kept : tie.Need-sub-is-kept
+sub-is-kept c = search needs
 
-part-is-state-start : tie.Need-part-is-state-start
-part-is-state-start c = search needs
+part-is-kept-start : tie.Need-part-is-kept-start
+part-is-kept-start c = search needs
 
-part-is-state-end : tie.Need-part-is-state-end
-part-is-state-end c = search needs
+part-is-kept-end : tie.Need-part-is-kept-end
+part-is-kept-end c = search needs
 
-is-state-requires : tie.Need-is-state-requires
-is-state-requires c κs = search needs
+is-kept-requires : tie.Need-is-kept-requires
+is-kept-requires c κs = search needs
 
 returns-3 : tie.Need-returns-3
 returns-3 c =
-    c .is-state .ensures ∙ sym (place-full (take (c .before .before .before .before .before .before .before .before .before .args .sums) (c .before .before .before .before .before .before .before .before .before .args .scopes .now)) (c .before .before .before .before .before .before .before .before .before .args .channels) (c .before .before .before .before .before .before .before .before .before .args .row .now) (sym (same-bits (getD (c .before .before .before .before .before .before .before .before .before .args .row .now) 0 (pos 0)) (pos 0) (ok-fits _ (c .before .before .before .before .before .before .before .if12 .given)) (ok-fits (pos 0) (omega arith))) ∙ ne-eqb _ _ (c .before .before .before .before .before .before .if1 .left)) (ap₂ isKeyOf (sym (back (getD (c .before .before .before .before .before .before .before .before .before .args .row .now) 0 (pos 0)) (c .before .before .before .before .before .is-key-arg .given))) (sym (back (getD (c .before .before .before .before .before .before .before .before .before .args .row .now) 1 (pos 0)) (c .before .before .before .before .is-key-arg2 .given))) ∙ sym (c .before .before .before .is-key .ensures) ∙ passed (c .before .before .before .is-key .result) (c .before .before .if2 .left)))
+    c .is-kept .ensures ∙ sym (place-full (take (c .before .before .before .before .before .before .before .before .before .args .sums) (c .before .before .before .before .before .before .before .before .before .args .scopes .now)) (c .before .before .before .before .before .before .before .before .before .args .channels) (c .before .before .before .before .before .before .before .before .before .args .row .now) (sym (same-bits (getD (c .before .before .before .before .before .before .before .before .before .args .row .now) 0 (pos 0)) (pos 0) (ok-fits _ (c .before .before .before .before .before .before .before .if12 .given)) (ok-fits (pos 0) (omega arith))) ∙ ne-eqb _ _ (c .before .before .before .before .before .before .if1 .left)) (ap₂ isKeyOf (sym (back (getD (c .before .before .before .before .before .before .before .before .before .args .row .now) 0 (pos 0)) (c .before .before .before .before .before .is-key-arg .given))) (sym (back (getD (c .before .before .before .before .before .before .before .before .before .args .row .now) 1 (pos 0)) (c .before .before .before .before .is-key-arg2 .given))) ∙ sym (c .before .before .before .is-key .ensures) ∙ passed (c .before .before .before .is-key .result) (c .before .before .if2 .left)))
 
 pub is-place-spec : {M : Type 1} → statement M
 is-place-spec =
@@ -62,8 +62,8 @@ is-place-spec =
     shared-slice-copy-out-is-key-2
     is-key-requires
     returns-2
-    sub-is-state
-    part-is-state-start
-    part-is-state-end
-    is-state-requires
+    sub-is-kept
+    part-is-kept-start
+    part-is-kept-end
+    is-kept-requires
     returns-3)

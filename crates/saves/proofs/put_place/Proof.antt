@@ -1,7 +1,6 @@
 -- Two writes, one after the other, fill the place.
 use borrow.Author.Needs.{needs}
-use Rattle.machine.specs.State.{stateLength}
-use Rattle.machine.specs.Saves.{keyWidth}
+use Rattle.machine.specs.Saves.{keyWidth, timedLength}
 use Rattle.saves.proofs.Laws.{place-put}
 use Rattle.saves.proofs.put_place.Statement.{statement}
 use Rattle.saves.proofs.put_place.Tie as tie
@@ -26,7 +25,7 @@ same-length c = search needs
 
 returns : tie.Need-returns
 returns c =
-    place-put keyWidth stateLength (c .before .before .before .before .before .before .args .place .now) (c .before .before .before .before .before .before .args .key .now) (c .before .before .before .before .before .before .args .state .now) (c .before .before .before .before .put .last .0) (c .before .put2 .last .0) (c .before .before .before .before .before .before .pre .1) (c .before .before .before .before .before .before .pre .0) (c .before .before .before .before .before .before .pre .2) (c .before .before .before .before .put .ensures) (c .before .put2 .ensures)
+    place-put keyWidth timedLength (c .before .before .before .before .before .before .args .place .now) (c .before .before .before .before .before .before .args .key .now) (c .before .before .before .before .before .before .args .kept .now) (c .before .before .before .before .put .last .0) (c .before .put2 .last .0) (c .before .before .before .before .before .before .pre .1) (c .before .before .before .before .before .before .pre .0) (c .before .before .before .before .before .before .pre .2) (c .before .before .before .before .put .ensures) (c .before .put2 .ensures)
 
 pub put-place-spec : {M : Type 1} → statement M
 put-place-spec =

@@ -3,8 +3,7 @@ use mathlib.Core.Path.{sym, _∙_}
 use Prim.Native.Nat.{_+_, _-_, _*_}
 use native.Mathlib.Omega.{arith}
 use borrow.Author.Needs.{needs}
-use Rattle.machine.specs.State.{stateLength}
-use Rattle.machine.specs.Saves.{keyWidth, placeWidth}
+use Rattle.machine.specs.Saves.{keyWidth, timedLength, placeWidth}
 use Rattle.state.proofs.Tests.{refused, passed}
 use Rattle.saves.proofs.Laws.{return-unnamed, return-unknown, return-put}
 use Rattle.saves.proofs.return_to.Statement.{statement}
@@ -18,7 +17,7 @@ put-key-requires c κs = search needs
 
 returns : tie.Need-returns
 returns c =
-    return-unnamed (c .before .before .before .before .before .args .name .now) (c .before .before .before .before .before .args .state .now) (c .before .before .before .before .before .args .saves .now) (sym (c .before .before .put-key .ensures .answer) ∙ refused (c .before .before .put-key .result) (c .if1 .taken))
+    return-unnamed (c .before .before .before .before .before .args .name .now) (c .before .before .before .before .before .args .kept .now) (c .before .before .before .before .before .args .saves .now) (sym (c .before .before .put-key .ensures .answer) ∙ refused (c .before .before .put-key .result) (c .if1 .taken))
 
 slice-aggregate-find-place : tie.Need-slice-aggregate-find-place
 slice-aggregate-find-place c = search needs
@@ -28,7 +27,7 @@ find-place-requires c κs = search needs
 
 returns-2 : tie.Need-returns-2
 returns-2 c =
-    return-unknown (c .before .before .before .before .before .before .before .before .args .name .now) (c .before .before .before .before .before .before .before .before .args .state .now) (c .before .before .before .before .before .before .before .before .args .saves .now) (sym (c .before .before .before .before .before .put-key .ensures .answer) ∙ passed (c .before .before .before .before .before .put-key .result) (c .before .before .before .if1 .left)) _ (c .before .before .before .before .before .put-key .ensures .numbers (passed (c .before .before .before .before .before .put-key .result) (c .before .before .before .if1 .left))) (c .before .find-place .result) (c .before .find-place .ensures .0) (c .if2 .taken)
+    return-unknown (c .before .before .before .before .before .before .before .before .args .name .now) (c .before .before .before .before .before .before .before .before .args .kept .now) (c .before .before .before .before .before .before .before .before .args .saves .now) (sym (c .before .before .before .before .before .put-key .ensures .answer) ∙ passed (c .before .before .before .before .before .put-key .result) (c .before .before .before .if1 .left)) _ (c .before .before .before .before .before .put-key .ensures .numbers (passed (c .before .before .before .before .before .put-key .result) (c .before .before .before .if1 .left))) (c .before .find-place .result) (c .before .find-place .ensures .0) (c .if2 .taken)
 
 mul-from : tie.Need-mul-from
 mul-from c = search needs
@@ -59,7 +58,7 @@ same-length c = search needs
 
 returns-3 : tie.Need-returns-3
 returns-3 c =
-    return-put (c .before .before .before .before .before .before .before .before .before .before .before .before .args .name .now) (c .before .before .before .before .before .before .before .before .before .before .before .before .args .state .now) (c .before .before .before .before .before .before .before .before .before .before .before .before .args .saves .now) (sym (c .before .before .before .before .before .before .before .before .before .put-key .ensures .answer) ∙ passed (c .before .before .before .before .before .before .before .before .before .put-key .result) (c .before .before .before .before .before .before .before .if1 .left)) _ (c .before .before .before .before .before .before .before .before .before .put-key .ensures .numbers (passed (c .before .before .before .before .before .before .before .before .before .put-key .result) (c .before .before .before .before .before .before .before .if1 .left))) (c .before .before .before .before .before .find-place .result) (c .before .before .before .before .before .find-place .ensures .0) (c .before .before .before .before .if2 .left) (c .before .before .before .before .before .before .before .before .before .before .before .before .pre .1) (c .before .before .before .before .before .find-place .result * placeWidth + keyWidth + stateLength - (c .before .before .before .before .before .find-place .result * placeWidth + keyWidth)) (omega arith) (c .before .put .last .0) (c .before .put .ensures)
+    return-put (c .before .before .before .before .before .before .before .before .before .before .before .before .args .name .now) (c .before .before .before .before .before .before .before .before .before .before .before .before .args .kept .now) (c .before .before .before .before .before .before .before .before .before .before .before .before .args .saves .now) (sym (c .before .before .before .before .before .before .before .before .before .put-key .ensures .answer) ∙ passed (c .before .before .before .before .before .before .before .before .before .put-key .result) (c .before .before .before .before .before .before .before .if1 .left)) _ (c .before .before .before .before .before .before .before .before .before .put-key .ensures .numbers (passed (c .before .before .before .before .before .before .before .before .before .put-key .result) (c .before .before .before .before .before .before .before .if1 .left))) (c .before .before .before .before .before .find-place .result) (c .before .before .before .before .before .find-place .ensures .0) (c .before .before .before .before .if2 .left) (c .before .before .before .before .before .before .before .before .before .before .before .before .pre .1) (c .before .before .before .before .before .find-place .result * placeWidth + keyWidth + timedLength - (c .before .before .before .before .before .find-place .result * placeWidth + keyWidth)) (omega arith) (c .before .put .last .0) (c .before .put .ensures)
 
 pub return-to-spec : {M : Type 1} → statement M
 return-to-spec =

@@ -17,7 +17,7 @@ put-key-requires c κs = search needs
 
 returns : tie.Need-returns
 returns c =
-    save-unnamed (c .before .before .before .before .before .args .name .now) (c .before .before .before .before .before .args .state .now) (c .before .before .before .before .before .args .saves .now) (sym (c .before .before .put-key .ensures .answer) ∙ refused (c .before .before .put-key .result) (c .if1 .taken))
+    save-unnamed (c .before .before .before .before .before .args .name .now) (c .before .before .before .before .before .args .kept .now) (c .before .before .before .before .before .args .saves .now) (sym (c .before .before .put-key .ensures .answer) ∙ refused (c .before .before .put-key .result) (c .if1 .taken))
 
 slice-aggregate-place-for : tie.Need-slice-aggregate-place-for
 slice-aggregate-place-for c = search needs
@@ -30,7 +30,7 @@ same-length c = search needs
 
 returns-2 : tie.Need-returns-2
 returns-2 c =
-    save-full (c .before .before .before .before .before .before .before .before .before .args .name .now) (c .before .before .before .before .before .before .before .before .before .args .state .now) (c .before .before .before .before .before .before .before .before .before .args .saves .now) (sym (c .before .before .before .before .before .before .put-key .ensures .answer) ∙ passed (c .before .before .before .before .before .before .put-key .result) (c .before .before .before .before .if1 .left)) _ (c .before .before .before .before .before .before .put-key .ensures .numbers (passed (c .before .before .before .before .before .before .put-key .result) (c .before .before .before .before .if1 .left))) (c .before .place-for .result) (c .before .place-for .ensures .0) (c .if2 .taken)
+    save-full (c .before .before .before .before .before .before .before .before .before .args .name .now) (c .before .before .before .before .before .before .before .before .before .args .kept .now) (c .before .before .before .before .before .before .before .before .before .args .saves .now) (sym (c .before .before .before .before .before .before .put-key .ensures .answer) ∙ passed (c .before .before .before .before .before .before .put-key .result) (c .before .before .before .before .if1 .left)) _ (c .before .before .before .before .before .before .put-key .ensures .numbers (passed (c .before .before .before .before .before .before .put-key .result) (c .before .before .before .before .if1 .left))) (c .before .place-for .result) (c .before .place-for .ensures .0) (c .if2 .taken)
 
 mul-from : tie.Need-mul-from
 mul-from c = search needs
@@ -61,7 +61,7 @@ same-length-2 c = search needs
 
 returns-3 : tie.Need-returns-3
 returns-3 c =
-    save-put (c .before .before .before .before .before .before .before .before .before .before .before .before .before .args .name .now) (c .before .before .before .before .before .before .before .before .before .before .before .before .before .args .state .now) (c .before .before .before .before .before .before .before .before .before .before .before .before .before .args .saves .now) (sym (c .before .before .before .before .before .before .before .before .before .before .put-key .ensures .answer) ∙ passed (c .before .before .before .before .before .before .before .before .before .before .put-key .result) (c .before .before .before .before .before .before .before .before .if1 .left)) _ (c .before .before .before .before .before .before .before .before .before .before .put-key .ensures .numbers (passed (c .before .before .before .before .before .before .before .before .before .before .put-key .result) (c .before .before .before .before .before .before .before .before .if1 .left))) (c .before .before .before .before .before .place-for .result) (c .before .before .before .before .before .place-for .ensures .0) (c .before .before .before .before .if2 .left) (c .before .put-place .last .0) (c .before .put-place .ensures) (c .before .before .before .before .before .place-for .result * placeWidth + placeWidth - c .before .before .before .before .before .place-for .result * placeWidth) (omega arith)
+    save-put (c .before .before .before .before .before .before .before .before .before .before .before .before .before .args .name .now) (c .before .before .before .before .before .before .before .before .before .before .before .before .before .args .kept .now) (c .before .before .before .before .before .before .before .before .before .before .before .before .before .args .saves .now) (sym (c .before .before .before .before .before .before .before .before .before .before .put-key .ensures .answer) ∙ passed (c .before .before .before .before .before .before .before .before .before .before .put-key .result) (c .before .before .before .before .before .before .before .before .if1 .left)) _ (c .before .before .before .before .before .before .before .before .before .before .put-key .ensures .numbers (passed (c .before .before .before .before .before .before .before .before .before .before .put-key .result) (c .before .before .before .before .before .before .before .before .if1 .left))) (c .before .before .before .before .before .place-for .result) (c .before .before .before .before .before .place-for .ensures .0) (c .before .before .before .before .if2 .left) (c .before .put-place .last .0) (c .before .put-place .ensures) (c .before .before .before .before .before .place-for .result * placeWidth + placeWidth - c .before .before .before .before .before .place-for .result * placeWidth) (omega arith)
 
 pub save-spec : {M : Type 1} → statement M
 save-spec =

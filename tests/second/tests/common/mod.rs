@@ -3,7 +3,7 @@
 #![allow(dead_code)]
 
 use second::state::{DEFINITION, FIRST_PAIR, FIRST_PROCESS, PAIR, PROCESS, VALUE_COUNT};
-use second::{Answer, Opening, LISTING, MODEL, REPORT, SAVES, STATE};
+use second::{Answer, Clock, Opening, LISTING, MODEL, REPORT, SAVES, STATE};
 
 #[derive(Clone, PartialEq, Eq)]
 pub struct Bench {
@@ -12,6 +12,7 @@ pub struct Bench {
     pub listing: Vec<u64>,
     pub report: Vec<u64>,
     pub saves: Vec<i64>,
+    pub clock: Clock,
 }
 
 pub type Entry = [u64; 7];
@@ -27,6 +28,7 @@ impl Bench {
             listing: vec![0; LISTING],
             report: vec![0; REPORT],
             saves: vec![0; SAVES],
+            clock: Clock::default(),
         }
     }
 
@@ -38,6 +40,7 @@ impl Bench {
             listing: vec![77; LISTING],
             report: vec![777; REPORT],
             saves: vec![-77; SAVES],
+            clock: Clock { ticks: u64::MAX, draws: u64::MAX },
         }
     }
 
@@ -53,15 +56,21 @@ impl Bench {
     }
 
     pub fn open_bytes(&mut self, text: &[u8]) -> Answer {
-        second::open(text, Opening { model: &mut self.model, state: &mut self.state, saves: &mut self.saves })
+        let Bench { model, state, saves, clock, .. } = self;
+        second::open(text, Opening { model, state, saves, clock })
+    }
+
+    pub fn timed_step(&mut self, draw: u64, waiting: &[u16]) -> Answer {
+        let Bench { model, state, listing, clock, .. } = self;
+        second::timed_step(model, state, listing, waiting, draw, clock)
     }
 
     pub fn save(&mut self, name: &str) -> Answer {
-        second::save(&self.model, &self.state, &mut self.saves, name.as_bytes())
+        second::save(&self.model, &self.state, &mut self.saves, name.as_bytes(), self.clock)
     }
 
     pub fn return_to(&mut self, name: &str) -> Answer {
-        second::return_to(&self.model, &mut self.state, &self.saves, name.as_bytes())
+        second::return_to(&self.model, &mut self.state, &self.saves, name.as_bytes(), &mut self.clock)
     }
 
     pub fn forget(&mut self, name: &str) -> Answer {
@@ -189,6 +198,7 @@ pub fn answer_to(text: &[u8]) -> (u64, u64) {
     let mut bench = Bench::dirty();
     let answer = bench.open_bytes(text);
     assert!(bench.saves.iter().all(|&number| number == 0));
+    assert_eq!(bench.clock, Clock::default());
     assert_eq!((answer.branch, answer.count, answer.total, answer.chosen), (0, 0, 0, 0));
     if answer.number != 0 {
         assert!(bench.model.iter().all(|&byte| byte == 0));

@@ -2,7 +2,7 @@
 use mathlib.Core.Path.{ap, sym, _∙_}
 use Prim.Native.Nat.{ℕ}
 use borrow.Author.Needs.{needs}
-use Rattle.lines.specs.declared.line.Line.the-variants.{List as Listing, Step, State, Report, Save, Return, Forget, Independent}
+use Rattle.lines.specs.declared.line.Line.the-variants.{List as Listing, Step, State, Report, Save, Return, Forget, Time, Wait, Clock, Independent}
 use Rattle.lines.specs.declared.script.Part.the-variants.{InText}
 use Rattle.lines.specs.declared.script.Taken.the-variants.{Goes, Asks}
 use Rattle.lines.specs.Script.{fresh}
@@ -64,8 +64,26 @@ enum-known-says-6 c = search needs
 begin-requires-8 : tie.Need-begin-requires-8
 begin-requires-8 c κs = search needs
 
+enum-known-says-7 : tie.Need-enum-known-says-7
+enum-known-says-7 c = search needs
+
+begin-requires-9 : tie.Need-begin-requires-9
+begin-requires-9 c κs = search needs
+
 enum-told-4 : tie.Need-enum-told-4
 enum-told-4 c = search needs
+
+begin-requires-10 : tie.Need-begin-requires-10
+begin-requires-10 c κs = search needs
+
+enum-known-says-8 : tie.Need-enum-known-says-8
+enum-known-says-8 c = search needs
+
+begin-requires-11 : tie.Need-begin-requires-11
+begin-requires-11 c κs = search needs
+
+enum-told-5 : tie.Need-enum-told-5
+enum-told-5 c = search needs
 
 returns : tie.Need-returns
 returns c =
@@ -101,11 +119,23 @@ returns-8 c =
 
 returns-9 : tie.Need-returns-9
 returns-9 c =
-    ap (Asks (Independent (c .before .before .says6 .given .0 .0) (c .before .before .says6 .given .0 .1 .0))) (c .begin8 .ensures ∙ ap fresh (c .before .before .before .before .next-line .ensures)) ∙ sym (ap (ended (c .before .before .before .before .before .args .line)) (c .before .before .says6 .given .1))
+    ap (Asks (Time (c .before .before .says6 .given .0 .0))) (c .begin8 .ensures ∙ ap fresh (c .before .before .before .before .next-line .ensures)) ∙ sym (ap (ended (c .before .before .before .before .before .args .line)) (c .before .before .says6 .given .1))
 
 returns-10 : tie.Need-returns-10
 returns-10 c =
-    sym (ap (ended (c .before .before .before .args .line)) (c .enum-told4 .given .1))
+    ap (Asks (Wait (c .before .before .says7 .given .0 .0))) (c .begin9 .ensures ∙ ap fresh (c .before .before .before .before .next-line .ensures)) ∙ sym (ap (ended (c .before .before .before .before .before .args .line)) (c .before .before .says7 .given .1))
+
+returns-11 : tie.Need-returns-11
+returns-11 c =
+    ap (Asks Clock) (c .begin10 .ensures ∙ ap fresh (c .before .before .before .next-line .ensures)) ∙ sym (ap (ended (c .before .before .before .before .args .line)) (c .before .enum-told4 .given .1))
+
+returns-12 : tie.Need-returns-12
+returns-12 c =
+    ap (Asks (Independent (c .before .before .says8 .given .0 .0) (c .before .before .says8 .given .0 .1 .0))) (c .begin11 .ensures ∙ ap fresh (c .before .before .before .before .next-line .ensures)) ∙ sym (ap (ended (c .before .before .before .before .before .args .line)) (c .before .before .says8 .given .1))
+
+returns-13 : tie.Need-returns-13
+returns-13 c =
+    sym (ap (ended (c .before .before .before .args .line)) (c .enum-told5 .given .1))
 
 pub end-line-spec : {M : Type 1} → statement M
 end-line-spec =
@@ -129,7 +159,13 @@ end-line-spec =
     begin-requires-7
     enum-known-says-6
     begin-requires-8
+    enum-known-says-7
+    begin-requires-9
     enum-told-4
+    begin-requires-10
+    enum-known-says-8
+    begin-requires-11
+    enum-told-5
     returns
     returns-2
     returns-3
@@ -139,4 +175,7 @@ end-line-spec =
     returns-7
     returns-8
     returns-9
-    returns-10)
+    returns-10
+    returns-11
+    returns-12
+    returns-13)

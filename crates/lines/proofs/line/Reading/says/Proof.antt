@@ -1,6 +1,6 @@
 -- The head tells which of the words begins the line.
 use borrow.Author.Needs.{needs}
-use Rattle.lines.proofs.Heads.{says-list, says-state, says-report, says-open, says-step, says-save, says-return, says-forget, says-independent, says-bad}
+use Rattle.lines.proofs.Heads.{says-list, says-state, says-report, says-open, says-step, says-save, says-return, says-forget, says-time, says-wait, says-clock, says-independent, says-bad}
 use Rattle.lines.proofs.line.Reading.says.Statement.{statement}
 use Rattle.lines.proofs.line.Reading.says.Tie as tie
 
@@ -21,6 +21,16 @@ return-line-requires c κs = search needs
 
 forget-line-requires : tie.Need-forget-line-requires
 forget-line-requires c κs = search needs
+
+time-line-requires : tie.Need-time-line-requires
+time-line-requires c κs = search needs
+
+wait-line-requires : tie.Need-wait-line-requires
+wait-line-requires c κs = search needs
+
+clock-line-requires : tie.Need-clock-line-requires
+clock-line-requires c κs = search needs
+
 says-requires : tie.Need-says-requires
 says-requires c κs = search needs
 
@@ -58,13 +68,25 @@ returns-8 c =
 
 returns-9 : tie.Need-returns-9
 returns-9 c =
-    λ s h. says-independent h (c .before .match .keys9) (c .says .ensures)
+    λ s h. says-time h (c .before .match .keys9) (c .time-line .ensures)
 
 returns-10 : tie.Need-returns-10
 returns-10 c =
+    λ s h. says-wait h (c .before .match .keys10) (c .wait-line .ensures)
+
+returns-11 : tie.Need-returns-11
+returns-11 c =
+    λ s h. says-clock h (c .before .match .keys11) (c .clock-line .ensures)
+
+returns-12 : tie.Need-returns-12
+returns-12 c =
+    λ s h. says-independent h (c .before .match .keys12) (c .says .ensures)
+
+returns-13 : tie.Need-returns-13
+returns-13 c =
     λ s h.
     let m = c .match .rest in
-    says-bad h (m .0 .0 .0 .0 .0 .0 .0 .0 .1) (m .0 .0 .0 .0 .0 .0 .0 .1) (m .0 .0 .0 .0 .0 .0 .1) (m .0 .0 .0 .0 .0 .1) (m .0 .0 .0 .0 .1) (m .0 .0 .0 .1) (m .0 .0 .1) (m .0 .1) (m .1)
+    says-bad h (m .0 .0 .0 .0 .0 .0 .0 .0 .0 .0 .0 .1) (m .0 .0 .0 .0 .0 .0 .0 .0 .0 .0 .1) (m .0 .0 .0 .0 .0 .0 .0 .0 .0 .1) (m .0 .0 .0 .0 .0 .0 .0 .0 .1) (m .0 .0 .0 .0 .0 .0 .0 .1) (m .0 .0 .0 .0 .0 .0 .1) (m .0 .0 .0 .0 .0 .1) (m .0 .0 .0 .0 .1) (m .0 .0 .0 .1) (m .0 .0 .1) (m .0 .1) (m .1)
 
 pub says-spec : {M : Type 1} → statement M
 says-spec =
@@ -76,6 +98,9 @@ says-spec =
     step-line-requires
     return-line-requires
     forget-line-requires
+    time-line-requires
+    wait-line-requires
+    clock-line-requires
     says-requires
     returns
     returns-2
@@ -86,4 +111,7 @@ says-spec =
     returns-7
     returns-8
     returns-9
-    returns-10)
+    returns-10
+    returns-11
+    returns-12
+    returns-13)

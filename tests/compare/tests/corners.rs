@@ -21,8 +21,12 @@ struct Bench {
 }
 
 fn opened() -> Bench {
-    let mut bench =
-        Bench { model: vec![0; MODEL], state: vec![0; STATE], saves: vec![7; SAVES], clock: Clock { ticks: 5, draws: 6 } };
+    let mut bench = Bench {
+        model: vec![0; MODEL],
+        state: vec![0; STATE],
+        saves: vec![7; SAVES],
+        clock: Clock { ticks: 5, draws: 6 },
+    };
     let Bench { model, state, saves, clock } = &mut bench;
     assert_eq!(linked::open(PLAIN, Opening { model, state, saves, clock }).number, 0);
     assert_eq!(bench.clock, Clock { ticks: 0, draws: 0 });

@@ -1,4 +1,4 @@
--- What is promised of a text that the steady profile let through, up to the next opening (02, note 11; A74): none of the calls meets 18, and no step raises the number of
+-- What is promised of a text that the steady profile let through, up to the next opening (02, note 11): none of the calls meets 18, and no step raises the number of
 -- processes. Nothing in the machine says under which profile a text was opened. Assumes nothing: these are definitions.
 use mathlib.Core.Path.{_≡_}
 use mathlib.Core.List.{List, [], _∷_}

@@ -53,7 +53,7 @@ typedef struct {
 matgravel_answer matgravel_open(const uint8_t *text, size_t text_len, uint8_t *model, size_t model_len, int64_t *state, size_t state_len, int64_t *saves, size_t saves_len, matgravel_clock *clock);
 
 /* The same under the steady profile: a text in which every continuation leaves at most one process. From an accepted one on and up to
- * the next opening, no call is refused with 18, and no step raises the number of processes.
+ * the next opening, no call is refused with 18, no step raises the number of processes, and there are never more than at the start.
  * Refusals: those of open, and 29 a group has more than one item, or a call is of a definition with more than one sum; its place is the
  *   first such `(` or call name. 29 zeroes model, state, saves and clock too. */
 matgravel_answer matgravel_open_steady(const uint8_t *text, size_t text_len, uint8_t *model, size_t model_len, int64_t *state, size_t state_len, int64_t *saves, size_t saves_len, matgravel_clock *clock);

@@ -15,6 +15,7 @@ pub mod Continues
 pub mod Bound
 pub mod Stays
 pub mod Keeps
+pub mod Steady
 pub mod Reached
 pub mod Opens
 pub mod Numbers
@@ -28,3 +29,4 @@ pub mod Carries
 pub mod Latest
 pub mod Report
 pub mod Independent
+pub mod Profile

@@ -14,6 +14,7 @@ pub mod Refusals
 pub mod TimedRows
 pub mod Starred
 pub mod Results
+pub mod Steady
 pub mod Latest
 pub mod Independent
 pub mod Orders

@@ -10,7 +10,8 @@ use second::limits::HIGHEST;
 use second::script::{self, Form, Line};
 use second::state::{DEFINITION, FIRST_PAIR, FIRST_PROCESS, FIRST_VALUE, PAIR, PROCESS, VALUE_COUNT};
 use second::{
-    forget, list, open, report, return_to, save, saves, step, timed_step, Answer, Clock, Opening, LISTING, SAVES,
+    forget, list, open, open_steady, report, return_to, save, saves, step, timed_step, Answer, Clock, Opening, LISTING,
+    SAVES,
 };
 
 const ENTRY: usize = 7;
@@ -367,7 +368,7 @@ fn a_save_that_takes_a_free_place_for_a_known_name() {
         let before = places.to_vec();
         let answer = save(model, state, places, name, clock);
         let used = |place: &[i64]| place[0] != 0;
-        let known = before.chunks(saves::PLACE).position(|place| name.len() <= 16 && place[..2] == saves::pack(name));
+        let known = before.chunks(saves::PLACE).position(|place| answer.number == 0 && place[..2] == saves::pack(name));
         let free = before.chunks(saves::PLACE).position(|place| !used(place));
         if let (0, Some(known), Some(free)) = (answer.number, known, free) {
             let kept = places[known * saves::PLACE..(known + 1) * saves::PLACE].to_vec();
@@ -470,6 +471,30 @@ fn a_return_that_leaves_the_clock() {
         return_to(model, state, places, name, &mut other)
     }
     found(Engine { return_to: wrong, ..SECOND }, Place::Clock, 5, 160);
+}
+
+#[test]
+fn a_steady_opening_that_looks_at_calls_alone() {
+    fn wrong(text: &[u8], mut lent: Opening) -> Answer {
+        let answer = open_steady(text, lent.again());
+        if answer.number == 29 && text[answer.place as usize] == b'(' {
+            return open(text, lent);
+        }
+        answer
+    }
+    found(Engine { open_steady: wrong, ..SECOND }, Place::Answer, 1, 60);
+}
+
+#[test]
+fn a_steady_opening_that_keeps_what_it_refuses() {
+    fn wrong(text: &[u8], mut lent: Opening) -> Answer {
+        let answer = open_steady(text, lent.again());
+        if answer.number == 29 {
+            open(text, lent);
+        }
+        answer
+    }
+    found(Engine { open_steady: wrong, ..SECOND }, Place::State, 1, 60);
 }
 
 /// What is said of an engine for which the order of independent entries matters.

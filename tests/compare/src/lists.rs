@@ -304,6 +304,7 @@ fn listed_and_stepped(random: &mut Random, calls: &mut Vec<Call>, buffers: &mut 
     }
     let waiting = generate::some_waiting(random);
     calls.push(Call::Timed { lengths: RIGHT, draw: Draw::Inside(number), waiting });
+    calls.push(generate::some_search(random));
     for call in &calls[first..] {
         buffers.make(&SECOND, call);
     }

@@ -110,7 +110,7 @@ pub fn run(tried: &Engine, oracle: &Engine, met: &mut Met) -> Result<(), Differe
         compare::run(tried, oracle, &specimen.calls, met)?;
         let mut buffers = second::generate::Buffers::default();
         let answers = specimen.calls.iter().map(|call| buffers.make(tried, call));
-        if answers.last().flatten() == Some(specimen.answer) {
+        if answers.last().flatten() == Some(specimen.answer.into()) {
             met.note_specimen(specimen.name);
         }
     }

@@ -101,7 +101,9 @@ fn the_stack_that_the_header_names_is_enough() {
             let forgotten = (ENGINE.forget)(model, state, saves, b"a");
             assert!([saved, returned, forgotten].iter().all(|answer| [0, 11].contains(&answer.number)));
             let steady = Buffers::default().make(&ENGINE, &Call::Steady { text: text.clone(), lengths: RIGHT });
-            assert!(steady.is_some_and(|answer| [opened.number, 29].contains(&answer.number)));
+            assert!(steady.is_some_and(|given| [opened.number, 29].contains(&given.number())));
+            let found = (ENGINE.search)(model, state, b"a", 1);
+            assert!([0, 11, 27].contains(&found.number));
             let timed = (ENGINE.timed_step)(model, state, listing, &[7, 7], 0, clock);
             assert!(timed.number == 0 || timed.number >= 11);
             let stepped = (ENGINE.step)(model, state, listing, 0);

@@ -1022,7 +1022,7 @@ fn some_draw(random: &mut Random) -> Draw {
 }
 
 /// The call, which mostly lends what it should.
-fn lent(random: &mut Random, call: Call) -> Call {
+pub(crate) fn lent(random: &mut Random, call: Call) -> Call {
     if !random.chance(2) {
         return call;
     }
@@ -1042,7 +1042,7 @@ fn lent(random: &mut Random, call: Call) -> Call {
     })
 }
 
-fn some_step(random: &mut Random) -> Call {
+pub(crate) fn some_step(random: &mut Random) -> Call {
     let draw = some_draw(random);
     lent(random, Call::Step { lengths: RIGHT, draw })
 }

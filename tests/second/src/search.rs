@@ -1,8 +1,10 @@
-//! Can this ever happen? (02, notes 8 and 9): every run is walked, by length, then by entry numbers.
+//! Can this ever happen? (02, notes 8 and 9): the first of all runs to a wait. And a walk of the runs by length, then by
+//! entry numbers.
 
 use crate::engine::{self, Present};
 use crate::listing::Entry;
 use crate::model::{Action, Model};
+use crate::runs::Runs;
 use crate::state::State;
 use crate::{MODEL, STATE};
 use std::collections::VecDeque;
@@ -46,16 +48,12 @@ pub fn search(model: &[u8], state: &[i64], name: &[u8], depth: u64) -> Found {
     let Some(depth) = depth_of(depth) else {
         return Found::refusal(26);
     };
-    let mut walk = Walk::new(model, state, depth);
-    while let Some(run) = walk.next() {
-        if walk.performs(&run, name) {
-            return Found::run(&run.entries);
-        }
+    let runs = Runs::of(&model, &state, name, depth);
+    match runs.first() {
+        Some(run) => Found::run(run),
+        None if runs.refusals.is_empty() => Found::default(),
+        None => Found::refusal(27),
     }
-    if walk.meets_refusal {
-        return Found::refusal(27);
-    }
-    Found::default()
 }
 
 /// The depth, if it is from 1 to 8.

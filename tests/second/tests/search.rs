@@ -4,6 +4,9 @@ mod common;
 
 use common::*;
 use second::generate::{edge_of_kind, lively, Random};
+use second::mazes::maze;
+use second::runs::Runs;
+use second::search::Walk;
 use second::{Found, MODEL, STATE};
 
 /// A run of these entries is found.
@@ -232,6 +235,17 @@ fn by_steps(bench: &Bench, before: &[u64], depth: usize, name: &str, met: &mut b
     }
 }
 
+/// What a search is to answer, by lists and steps alone.
+fn expected(bench: &Bench, depth: usize, name: &str) -> Found {
+    let (mut met, mut best) = (false, None);
+    by_steps(bench, &[], depth, name, &mut met, &mut best);
+    match (best, met) {
+        (Some(entries), _) => run(&entries),
+        (None, true) => Found::refusal(27),
+        (None, false) => NONE,
+    }
+}
+
 #[test]
 fn random_models_by_lists_and_steps() {
     second::model::keep_last();
@@ -244,17 +258,52 @@ fn random_models_by_lists_and_steps() {
             continue;
         }
         let (depth, name) = (1 + random.below(2), *random.pick(&["go", "tick", "n", "A", "c", "zz"]));
-        let (mut met, mut best) = (false, None);
-        by_steps(&bench, &[], depth, name, &mut met, &mut best);
-        let expected = match (best, met) {
-            (Some(entries), _) => run(&entries),
-            (None, true) => Found::refusal(27),
-            (None, false) => NONE,
-        };
+        let expected = expected(&bench, depth, name);
         assert_eq!(bench.search(depth as u64, name), expected, "seed {seed}");
         found += u32::from(expected.length > 0);
         none += u32::from(expected == NONE);
         refused += u32::from(expected.number == 27);
     }
     assert!(found > 10 && none > 10 && refused > 0, "{found} {none} {refused}");
+}
+
+/// Each name of a maze, at a depth with few runs: what the search answers, by lists and steps.
+#[test]
+fn mazes_by_lists_and_steps() {
+    second::model::keep_last();
+    let (mut lengths, mut refused) = ([0; 9], 0);
+    for seed in 0..150 {
+        let mut random = Random::new(seed);
+        let text = String::from_utf8(maze(&mut random)).unwrap();
+        let bench = Bench::of(&text);
+        let (model, state) = second::engine::held(&bench.model, &bench.state).unwrap();
+        for name in ["go", "step", "never"] {
+            let few = |depth: &usize| Runs::of(&model, &state, name.as_bytes(), *depth).all.len() <= 100;
+            let depth = (1..=8).take_while(few).last().unwrap_or(1);
+            let expected = expected(&bench, depth, name);
+            assert_eq!(bench.search(depth as u64, name), expected, "{text} {depth} {name}");
+            lengths[expected.length as usize] += u32::from(expected.number == 0);
+            refused += u32::from(expected.number == 27);
+        }
+    }
+    assert!(lengths.iter().all(|&times| times > 0) && refused > 20, "{lengths:?} {refused}");
+}
+
+/// The walk has every run once, by length, then by entry numbers, and meets what the runs meet.
+#[test]
+fn the_walk_is_in_order() {
+    second::model::keep_last();
+    for seed in 0..150 {
+        let mut random = Random::new(seed);
+        let bench = Bench::of(&String::from_utf8(maze(&mut random)).unwrap());
+        let (model, state) = second::engine::held(&bench.model, &bench.state).unwrap();
+        let depth = 1 + random.below(3);
+        let runs = Runs::of(&model, &state, b"go", depth);
+        let mut all = runs.all.clone();
+        all.sort_by_key(|run| (run.len(), run.clone()));
+        let mut walk = Walk::new(model, state, depth);
+        let walked: Vec<Vec<u64>> = walk.by_ref().map(|run| run.entries).collect();
+        assert!(walked == all && walked.windows(2).all(|pair| pair[0] != pair[1]), "seed {seed}");
+        assert_eq!(walk.meets_refusal, !runs.refusals.is_empty());
+    }
 }

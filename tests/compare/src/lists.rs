@@ -9,7 +9,7 @@ use second::state::{
     Channel, Item, Pair, DEFINITION, FIRST_PAIR, FIRST_PROCESS, FIRST_VALUE, PAIR, PAIRS, PROCESS, PROCESSES,
 };
 use second::syntax::ITEMS;
-use second::{model, saves, script, MODEL, SAVES, STATE};
+use second::{mazes, model, saves, script, MODEL, SAVES, STATE};
 
 /// How many lists the test runs, and how many calls it makes at least.
 pub const LISTS: u64 = 1_200;
@@ -22,7 +22,7 @@ const TEXT_START: usize = 2;
 
 /// The list of a seed: mostly random calls; every tenth goes through the limits, every fifth
 /// hands in states and model buffers directly, every tenth has long lists or many names, every
-/// tenth is of saves, one in twenty of a steady model.
+/// tenth is of saves, one in twenty of a steady model and one of searches.
 pub fn of_seed(seed: u64) -> Vec<Call> {
     let mut random = Random::new(seed);
     match seed % 20 {
@@ -40,6 +40,7 @@ pub fn of_seed(seed: u64) -> Vec<Call> {
             let text = texts::many_names(&mut random);
             opened_and_run(&mut random, text, STEPS)
         }
+        7 => mazes::searches(&mut random),
         17 => {
             let text = generate::steady(&mut random);
             let mut calls = opened_and_run(&mut random, text, STEPS);

@@ -1,5 +1,6 @@
 //! What the calls of a comparison have met: answers, kinds of steps, specimens.
 
+use crate::searched;
 use second::generate::{Buffers, Call, Draw, Given};
 use second::limits::{HIGHEST, LOWEST};
 use second::state::{FIRST_PAIR, FIRST_PROCESS, FIRST_VALUE, LOCALS, PAIR, PROCESS, VALUE_COUNT};
@@ -27,7 +28,9 @@ const ANSWERS: [(&str, &[u64]); 10] = [
     ("search", &[0, 1, 11, 26, 27]),
 ];
 /// Lengths of runs that searches must have found, 0 for none.
-const LENGTHS: std::ops::RangeInclusive<u64> = 0..=3;
+const LENGTHS: std::ops::RangeInclusive<u64> = 0..=8;
+/// Where a text was found not to be steady.
+const UNSTEADY: [&str; 2] = ["29 at a bracket", "29 at a call"];
 /// Draws at the ends, where there is a total.
 const DRAWS: [&str; 4] = ["0", "total - 1", "total", "the largest"];
 /// Numbers of a state that are values, and where such a number can stand: at an end of the range, or one past it.
@@ -49,6 +52,10 @@ pub struct Met {
     draws: BTreeMap<&'static str, u64>,
     /// Accepted searches by the length of the run found, 0 for none.
     lengths: BTreeMap<u64, u64>,
+    /// What searches met besides.
+    searches: BTreeMap<&'static str, u64>,
+    /// By what stands at the place of a 29.
+    unsteady: BTreeMap<&'static str, u64>,
     /// By what is at an end or past it and which end: states that a list judged, by 11 if it is past it.
     ends: BTreeMap<(&'static str, &'static str), u64>,
     specimens: BTreeSet<&'static str>,
@@ -62,8 +69,15 @@ impl Met {
         *self.answers.entry((name, given.number())).or_default() += 1;
         if let Given::Found(found) = given {
             *self.lengths.entry(found.length).or_default() += u64::from(found.number == 0);
+            for what in searched::met(call, found, lent) {
+                *self.searches.entry(what).or_default() += 1;
+            }
         }
         let Some(answer) = given.answer() else { return };
+        if let (Call::Steady { text, .. }, 29) = (call, answer.number) {
+            let bracket = text[answer.place as usize] == b'(';
+            *self.unsteady.entry(UNSTEADY[usize::from(!bracket)]).or_default() += 1;
+        }
         if let Call::Step { draw: Draw::Exactly(draw), .. } = call {
             self.note_draw(*draw, answer.total);
         }
@@ -101,7 +115,7 @@ impl Met {
     }
 
     /// What was never met: answers of each call, kinds of steps, draws at the ends, lengths of runs
-    /// found, values at the ends, these specimens.
+    /// found and what else searches meet, places of a 29, values at the ends, these specimens.
     pub fn missing(&self, specimens: &[&'static str]) -> Vec<String> {
         let answers = ANSWERS.iter().flat_map(|(name, numbers)| numbers.iter().map(move |number| (*name, *number)));
         let answers = answers.filter(|answer| !self.answers.contains_key(answer));
@@ -111,11 +125,14 @@ impl Met {
         let ends = VALUES.iter().flat_map(|what| ENDS.map(|(end, _)| (*what, end)));
         let ends = ends.filter(|end| !self.ends.contains_key(end));
         let lengths = LENGTHS.filter(|length| self.lengths.get(length).is_none_or(|times| *times == 0));
+        let searches = searched::all().into_iter().filter(|what| !self.searches.contains_key(what));
+        let unsteady = UNSTEADY.into_iter().filter(|what| !self.unsteady.contains_key(what));
         let specimens = specimens.iter().filter(|name| !self.specimens.contains(**name));
         answers
             .map(|(name, number)| format!("{name} with {number}"))
             .chain(kinds.map(|(kind, items)| format!("a step of kind {kind} on {items} items")))
             .chain(lengths.map(|length| format!("a run of {length} entries found")))
+            .chain(searches.chain(unsteady).map(str::to_string))
             .chain(draws.map(|name| format!("draw: {name}")))
             .chain(ends.map(|(what, end)| format!("{what} {end}")))
             .chain(specimens.map(|name| format!("specimen: {name}")))
@@ -159,6 +176,9 @@ impl fmt::Display for Met {
         writeln!(out, "  draws at the ends {}", draws.join(" "))?;
         let lengths: Vec<String> = self.lengths.iter().map(|(length, times)| format!("{length}:{times}")).collect();
         writeln!(out, "  runs found (entries) {}", lengths.join(" "))?;
+        let both = self.searches.iter().chain(&self.unsteady);
+        let searches: Vec<String> = both.map(|(what, times)| format!("{what}:{times}")).collect();
+        writeln!(out, "  searches {}", searches.join(", "))?;
         let ends: Vec<String> = self.ends.iter().map(|((what, end), times)| format!("{what} {end}:{times}")).collect();
         writeln!(out, "  values {}", ends.join(", "))?;
         write!(out, "  specimens {}", self.specimens.len())

@@ -18,7 +18,7 @@ enum Beside {
     Nobody,
     /// Processes up to one or two below the limit: a fork gives 18.
     Crowd,
-    /// 1,023 entries of weight zero: one process more gives 13.
+    /// 992 entries of weight zero: two processes more give 13.
     Handshakes,
     /// A total of 8 times 10^18: two processes more give 14.
     Rates,
@@ -49,7 +49,7 @@ pub fn maze(random: &mut Random) -> Vec<u8> {
     let system = match beside {
         Beside::Nobody => (*random.pick(&["W[0]", "W[0]", "W[0]||P[]", "W[0]||W[1]", "P[]||W[0]"])).to_string(),
         Beside::Crowd => format!("W[0]||{}*I[]", random.pick(&[254, 255])),
-        Beside::Handshakes => "W[0]||31*S[]||33*R[]".to_string(),
+        Beside::Handshakes => "W[0]||31*S[]||32*R[]".to_string(),
         Beside::Rates => "W[0]||8*T[]||U[]".to_string(),
     };
     let others = "I[]={idle,0};P[]={@h?[0..9](m),1}.W[m];S[]={@d![1],0};R[]={@d?[1],1};\
@@ -84,7 +84,7 @@ fn branch(random: &mut Random, goal: i64) -> String {
 fn last_straw(random: &mut Random, goal: i64, beside: Beside) -> String {
     let at = random.between(0, goal.min(2));
     let more = match beside {
-        Beside::Handshakes => "W[n+1]||S[]",
+        Beside::Handshakes => "W[n+1]||S[]||S[]",
         Beside::Rates => "W[n+1]||T[]||T[]",
         Beside::Crowd | Beside::Nobody => "W[n+1]||I[]",
     };

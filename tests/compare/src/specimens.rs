@@ -134,6 +134,16 @@ fn steady_texts() -> Vec<Specimen> {
         steady("a definition that nobody calls", "A[]={a,1}.A[];B[]={b,1}.(B[]||B[]);A[];", 29, 24),
         steady("two sums in the system line alone", "A[]={a,1}||{b,1};A[]||2*A[];", 0, 0),
         steady("brackets of an expression", "A[n]={c![(n)],1*(2)}.A[(n+1)];A[1]||A[2];", 0, 0),
+        Specimen {
+            name: "256 processes take a step",
+            calls: vec![Call::Steady { text: b"A[n]={a,1}.(A[n+1]);256*A[0];".to_vec(), lengths: RIGHT }, step(0)],
+            answer: counted(0, 256, 25_600_000_000).into(),
+        },
+        Specimen {
+            name: "29 closes",
+            calls: vec![open(SHEET), steady("", "A[]={a,1}.(A[]||A[]);A[];", 29, 10).calls.remove(0), LIST],
+            answer: refused(11, 0).into(),
+        },
         steady("10 before 29", "A[]={a,1}.(A[]||A[]);256*A[]||A[];", 10, 21),
         steady("9 before 29", "A[]={a,1}.(A[]||B[]);A[];", 9, 16),
     ]

@@ -16,7 +16,7 @@ const MANY: usize = 300;
 #[derive(Clone, Copy, PartialEq, Eq)]
 enum Beside {
     Nobody,
-    /// Processes up to one or two below the limit: a fork gives 18.
+    /// Processes up to the limit or one below it: a fork gives 18.
     Crowd,
     /// 992 entries of weight zero: two processes more give 13.
     Handshakes,

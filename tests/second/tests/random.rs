@@ -4,7 +4,7 @@
 
 use second::generate::*;
 use second::state::{DEFINITION, FIRST_PROCESS, PROCESS};
-use second::{model, saves, state, Answer, Clock, Found, LISTING, MODEL, REPORT, SAVES, STATE};
+use second::{mazes, model, saves, state, Answer, Clock, Found, LISTING, MODEL, REPORT, SAVES, STATE};
 use std::collections::BTreeMap;
 
 /// How many seeds to try: the number given, unless the environment has SEEDS.
@@ -239,10 +239,11 @@ fn calls_of_all_kinds() {
         let _named = Named(seed);
         let mut random = Random::new(seed);
         let mut buffers = Buffers::default();
-        // Every tenth list goes through all limits, every tenth is mostly of saves.
+        // Every tenth list goes through all limits, every tenth is mostly of saves, every tenth of searches.
         let list = match seed % 10 {
             9 => edge_calls(&mut random),
             8 => stored_calls(&mut random, 60),
+            7 => mazes::searches(&mut random),
             _ => calls(&mut random, 40),
         };
         for call in list {

@@ -31,6 +31,7 @@ pub fn of_seed(seed: u64) -> Vec<Call> {
         8 | 18 => handed_models(&mut random),
         2 => handed_saves(&mut random),
         12 => generate::stored_calls(&mut random, 2 * STEPS),
+        13 => mazes::searches(&mut random),
         6 => {
             let which = (seed / 20) as usize % texts::LONG;
             let text = texts::long(&mut random, which);
@@ -40,7 +41,6 @@ pub fn of_seed(seed: u64) -> Vec<Call> {
             let text = texts::many_names(&mut random);
             opened_and_run(&mut random, text, STEPS)
         }
-        7 => mazes::searches(&mut random),
         17 => {
             let text = generate::steady(&mut random);
             let mut calls = opened_and_run(&mut random, text, STEPS);

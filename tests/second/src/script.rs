@@ -2,7 +2,7 @@
 //!
 //! A script has lines `open N` and `steady N` (N bytes and a newline follow), `list`, `step D`, `wait W` (a waiting
 //! draw for the next timed step), `time D` (a timed step), `report`, `save NAME`, `return NAME`, `forget NAME` (all bytes
-//! of the line after the blank), `search DEPTH NAME` (all bytes after the second), `state`, `clock` and `independent I J` (of two entries of the listing buffer: 1 or 0).
+//! of the line after the blank), `seek D NAME` (a search to the depth D, one digit; all bytes after the second), `state`, `clock` and `independent I J` (of two entries of the listing buffer: 1 or 0).
 //! Every line ends with a newline, words stand one blank apart, numbers are digits alone. A line of
 //! another form, or an opening without its N bytes, ends the run with `bad` and its number, which
 //! counts every newline before it, those of texts too.
@@ -74,7 +74,7 @@ fn line(call: &Call) -> Vec<u8> {
             return [head.as_bytes(), name, b"\n"].concat();
         }
         Call::Search { lengths, name, depth: Depth::Exactly(depth) } => {
-            let head = format!("{}search {depth} ", lengths_line(lengths));
+            let head = format!("{}seek {depth} ", lengths_line(lengths));
             return [head.as_bytes(), name, b"\n"].concat();
         }
         Call::Search { .. } => unreachable!("a depth that isn't a number"),
@@ -141,7 +141,7 @@ impl Reader<'_> {
     /// What the next line asks for: nothing if it gives lengths. `None`: it has another form.
     fn next(&mut self) -> Option<Option<Line>> {
         let line = self.bytes(None)?;
-        if let Some(call) = named(&line, self.lengths) {
+        if let Some(call) = named(&line, self.lengths, self.form) {
             self.lengths = RIGHT;
             return Some(Some(Line::Call(call)));
         }
@@ -186,14 +186,17 @@ impl Reader<'_> {
 }
 
 /// A line whose call is lent a name: all bytes after the first blank, of a search after the second, to the line's end.
-fn named(line: &[u8], lengths: Lengths) -> Option<Call> {
+fn named(line: &[u8], lengths: Lengths, form: Form) -> Option<Call> {
     let (word, name) = parted(line)?;
     match word {
         b"save" => Some(Call::Save { lengths, name: name.to_vec() }),
         b"return" => Some(Call::Return { lengths, name: name.to_vec() }),
         b"forget" => Some(Call::Forget { lengths, name: name.to_vec() }),
-        b"search" => {
+        b"seek" => {
             let (depth, name) = parted(name)?;
+            if form == Form::Plain && depth.len() != 1 {
+                return None;
+            }
             let depth = Depth::Exactly(whole(std::str::from_utf8(depth).ok()?)?);
             Some(Call::Search { lengths, name: name.to_vec(), depth })
         }

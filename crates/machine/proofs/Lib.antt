@@ -26,5 +26,6 @@ pub mod Starred
 pub mod Lent
 pub mod Carries
 pub mod Latest
+pub mod Searching
 pub mod Report
 pub mod Independent

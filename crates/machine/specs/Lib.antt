@@ -12,8 +12,10 @@ pub mod Specimens
 pub mod Rows
 pub mod Refusals
 pub mod TimedRows
+pub mod SearchRows
 pub mod Starred
 pub mod Results
 pub mod Latest
 pub mod Independent
 pub mod Orders
+pub mod Searching

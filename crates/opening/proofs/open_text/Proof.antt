@@ -17,15 +17,15 @@ enum-known-held-2 c = search needs
 
 sub-first : tie.Need-sub-first
 sub-first c =
-    let g = (held-model _ _ _ _ _ (c .before .before .before .before .before .before .before .before .before .before .before .before .before .before .before .before .before .before .before .before .before .before .read-model .ensures) (c .before .before .held2 .given .1)) in omega (arith, g .rooted)
+    let g = (held-model _ _ _ _ _ (c .before .before .before .before .before .before .before .before .before .before .before .before .before .before .before .before .before .before .before .before .before .before .read-model .ensures .0) (c .before .before .held2 .given .1)) in omega (arith, g .rooted)
 
 sub-line : tie.Need-sub-line
 sub-line c =
-    let g = (held-model _ _ _ _ _ (c .before .before .before .before .before .before .before .before .before .before .before .before .before .before .before .before .before .before .before .before .before .before .before .read-model .ensures) (c .before .before .before .held2 .given .1)) in omega (arith, g .rooted)
+    let g = (held-model _ _ _ _ _ (c .before .before .before .before .before .before .before .before .before .before .before .before .before .before .before .before .before .before .before .before .before .before .before .read-model .ensures .0) (c .before .before .before .held2 .given .1)) in omega (arith, g .rooted)
 
 start-count-requires : tie.Need-start-count-requires
 start-count-requires c κs =
-    let g = (held-model _ _ _ _ _ (c .before .before .before .before .before .before .before .before .before .before .before .before .before .before .before .before .before .before .before .before .before .before .before .before .read-model .ensures) (c .before .before .before .before .held2 .given .1)) in (g .model, countable g)
+    let g = (held-model _ _ _ _ _ (c .before .before .before .before .before .before .before .before .before .before .before .before .before .before .before .before .before .before .before .before .before .before .before .before .read-model .ensures .0) (c .before .before .before .before .held2 .given .1)) in (g .model, countable g)
 
 same-length : tie.Need-same-length
 same-length c = search needs
@@ -56,7 +56,7 @@ same-length-9 c = search needs
 
 returns : tie.Need-returns
 returns c =
-    let g = (held-model _ _ _ _ _ (c .before .before .before .before .before .before .before .before .before .before .before .before .before .before .before .before .before .before .before .before .before .before .before .before .before .before .read-model .ensures) (c .before .before .before .before .before .before .held2 .given .1)) in many-no g (c .before .start-count .ensures (g .model) (countable g)) (c .if1 .taken)
+    let g = (held-model _ _ _ _ _ (c .before .before .before .before .before .before .before .before .before .before .before .before .before .before .before .before .before .before .before .before .before .before .before .before .before .before .read-model .ensures .0) (c .before .before .before .before .before .before .held2 .given .1)) in many-no g (c .before .start-count .ensures (g .model) (countable g)) (c .if1 .taken)
 
 same-length-10 : tie.Need-same-length-10
 same-length-10 c = search needs
@@ -87,7 +87,7 @@ same-length-18 c = search needs
 
 returns-2 : tie.Need-returns-2
 returns-2 c =
-    held-no _ _ _ _ _ (c .before .before .before .before .before .before .before .before .before .before .before .before .before .before .before .before .before .before .before .before .before .read-model .ensures) (c .before .held .given .1)
+    held-no _ _ _ _ _ (c .before .before .before .before .before .before .before .before .before .before .before .before .before .before .before .before .before .before .before .before .before .read-model .ensures .0) (c .before .held .given .1)
 
 same-length-19 : tie.Need-same-length-19
 same-length-19 c = search needs
@@ -118,7 +118,7 @@ same-length-27 c = search needs
 
 returns-3 : tie.Need-returns-3
 returns-3 c =
-    let g = (held-model _ _ _ _ _ (c .before .before .before .before .before .before .before .before .before .before .before .before .before .before .before .before .before .before .before .before .before .before .before .before .before .before .read-model .ensures) (c .before .before .before .before .before .before .held2 .given .1)) in few-yes g (c .before .start-count .ensures (g .model) (countable g)) (c .if1 .left)
+    let g = (held-model _ _ _ _ _ (c .before .before .before .before .before .before .before .before .before .before .before .before .before .before .before .before .before .before .before .before .before .before .before .before .before .before .read-model .ensures .0) (c .before .before .before .before .before .before .held2 .given .1)) in few-yes g (c .before .start-count .ensures (g .model) (countable g)) (c .if1 .left)
 
 pub open-text-spec : {M : Type 1} → statement M
 open-text-spec =

@@ -147,12 +147,12 @@ module _ {S : Type 0} (blank : S) where
 
   -- ---- one state
 
-  pub walk-found : (ways : S → Listed S) (d n c : ℕ) (h m : Bool) (run : List ℕ) (states : List S) → h ≡ true
+  pub walk-found : (ways : S → Listed S) (d n c : ℕ) (h m : Bool) (run : List ℕ) (states : List S) → n ≤ length run → h ≡ true
       → Reaches blank ways (getD states 0 blank) d (suc c) run states run states (walked ways (getD states 0 blank) d c (placeOf run n h m)) (Found n)
   unfolding walked
-  walk-found ways d n c h m run states z =
+  walk-found ways d n c h m run states l z =
       let a : walked ways (getD states 0 blank) d c (placeOf run n h m) ≡ ended (suc c) (found (take n run)) = rw z refl in
-      finds-run a (record { head = refl; entries = refl; ends = refl })
+      finds-run a l (record { head = refl; entries = refl; ends = refl })
 
   -- what walking a run that isn't the wait's gives, by what comes next
   pub walked-on : (ways : S → Listed S) (s : S) (d c : ℕ) (p : Place) (x : walk.Next) → p .wait ≡ false → metBefore (p .met) (onwards ways s d (p .run)) ≡ x → walked ways s d c p ≡ onto (suc c) x
@@ -217,7 +217,7 @@ module _ {S : Type 0} (blank : S) where
 
   pub reaches-kept : {ways : S → Listed S} {s : S} {d c : ℕ} {run : List ℕ} {states : List S} {run′ : List ℕ} {states′ : List S} {x : Carried} {r : Walked} → Reaches blank ways s d c run states run′ states′ x r → Kept blank s run states run′ states′
   reaches-kept (going p a k) = k
-  reaches-kept (finds-run p k) = k
+  reaches-kept (finds-run p l k) = k
   reaches-kept (finds-none p k) = k
   reaches-kept (is-unsure p k) = k
 
@@ -229,14 +229,14 @@ module _ {S : Type 0} (blank : S) where
       let i : n′ ≡ n = cc in
       let j : under c (placeOf run′ n′ h′ m′) ≡ under c (placeOf run′ n h m) = cc in
       (p ∙ j, subst (λ (u : ℕ). Ready blank ways d u run′ states′) i a)
-  reaches-on z (finds-run p k) = let w : _≡_ {A = ℕ} 0 1 = cc in absurd (omega arith)
+  reaches-on z (finds-run p l k) = let w : _≡_ {A = ℕ} 0 1 = cc in absurd (omega arith)
   reaches-on z (finds-none p k) = let w : _≡_ {A = ℕ} 0 1 = cc in absurd (omega arith)
   reaches-on z (is-unsure p k) = let w : _≡_ {A = ℕ} 0 1 = cc in absurd (omega arith)
 
   -- an end stays, however many more states are asked
   reaches-end : {ways : S → Listed S} {s : S} {d c : ℕ} {run : List ℕ} {states : List S} {run′ : List ℕ} {states′ : List S} {x : Carried} {r : Walked} (more : ℕ) (run₀ : List ℕ) (states₀ : List S) → Ends r → Kept blank s run₀ states₀ run states
       → Reaches blank ways s d c run states run′ states′ x r → Reaches blank ways s d c run₀ states₀ run′ states′ (carry ways s d more x) r
-  reaches-end {ways} {s} {d} {c} more run₀ states₀ by-found k (finds-run p j) = finds-run (ap (carry ways s d more) p ∙ stays ways s d more c _) (kept-kept k j)
+  reaches-end {ways} {s} {d} {c} more run₀ states₀ by-found k (finds-run p l j) = finds-run (ap (carry ways s d more) p ∙ stays ways s d more c _) l (kept-kept k j)
   reaches-end {ways} {s} {d} {c} more run₀ states₀ by-nothing k (finds-none p j) = finds-none (ap (carry ways s d more) p ∙ stays ways s d more c _) (kept-kept k j)
   reaches-end {ways} {s} {d} {c} more run₀ states₀ by-unsure k (is-unsure p j) = is-unsure (ap (carry ways s d more) p ∙ stays ways s d more c _) (kept-kept k j)
 
@@ -322,7 +322,7 @@ module _ {S : Type 0} (blank : S) where
   stands-answer ways s d c a x p (over {c = k} {a = b} e t) = let i : b ≡ a = cc in e ∙ i
 
   answered : (ways : S → Listed S) (s : S) (d c : ℕ) (run : List ℕ) (states : List S) (run′ : List ℕ) (states′ : List S) (x : Carried) (r : Walked) → Stands ways s d x → Ends r → Reaches blank ways s d c run states run′ states′ x r → Answered (search ways s d) r run′
-  answered ways s d c run states run′ states′ x r f by-found (finds-run p k) = a-run (stands-answer ways s d c _ x p f)
+  answered ways s d c run states run′ states′ x r f by-found (finds-run p l k) = a-run l (stands-answer ways s d c _ x p f)
   answered ways s d c run states run′ states′ x r f by-nothing (finds-none p k) = no-run (stands-answer ways s d c _ x p f)
   answered ways s d c run states run′ states′ x r f by-unsure (is-unsure p k) = not-known (stands-answer ways s d c _ x p f)
 

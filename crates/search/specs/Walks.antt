@@ -26,7 +26,7 @@ placeOf run n h m = record { run = take n run; wait = h; met = m }
 
 -- the search's answer
 pub data Answered (a : Answer) : Walked → List ℕ → Type 0 where
-  a-run : {n : ℕ} {run : List ℕ} → a ≡ found (take n run) → Answered a (Found n) run
+  a-run : {n : ℕ} {run : List ℕ} → n ≤ length run → a ≡ found (take n run) → Answered a (Found n) run
   no-run : {run : List ℕ} → a ≡ nothing → Answered a Nothing run
   not-known : {run : List ℕ} → a ≡ unsure → Answered a Unsure run
 
@@ -56,6 +56,6 @@ module _ {S : Type 0} where
     -- x is reached, c states walked: a place, or an answer
     pub data Reaches (ways : S → Listed S) (s : S) (d c : ℕ) (run : List ℕ) (states : List S) (run′ : List ℕ) (states′ : List S) : steps.Carried → Walked → Type 0 where
       going : {x : steps.Carried} {m h : Bool} {n : ℕ} → x ≡ under c (placeOf run′ n h m) → Ready ways d n run′ states′ → Kept blank s run states run′ states′ → Reaches ways s d c run states run′ states′ x (Under m h n)
-      finds-run : {x : steps.Carried} {n : ℕ} → x ≡ ended c (found (take n run′)) → Kept blank s run states run′ states′ → Reaches ways s d c run states run′ states′ x (Found n)
+      finds-run : {x : steps.Carried} {n : ℕ} → x ≡ ended c (found (take n run′)) → n ≤ length run′ → Kept blank s run states run′ states′ → Reaches ways s d c run states run′ states′ x (Found n)
       finds-none : {x : steps.Carried} → x ≡ ended c nothing → Kept blank s run states run′ states′ → Reaches ways s d c run states run′ states′ x Nothing
       is-unsure : {x : steps.Carried} → x ≡ ended c unsure → Kept blank s run states run′ states′ → Reaches ways s d c run states run′ states′ x Unsure

@@ -1,0 +1,116 @@
+-- What each return of the search says: 11, 26 and what a walk comes to, as the effect of the call has it; and the entries as they are written.
+use mathlib.Core.Path.{_≡_, refl, sym, ap, _∙_}
+use mathlib.Core.List.{List, [], _∷_, _++_}
+use mathlib.Core.Bool.{Bool, true, false, cond}
+use mathlib.Core.Option.{none, some}
+use Prim.Native.Nat.{ℕ, zero, suc, _+_, _-_, _≤_, _<_}
+use native.Mathlib.Omega.{arith}
+use lib.IntN.{ℤ}
+use lib.ListN.{length, getD, set, take, drop, replicate, length-take}
+use mathlib.Core.List.{append-assoc}
+use lib.Seq.{take-suc, length-take-le, set-at}
+use Rattle.runs.specs.Tree as tree
+use Rattle.runs.specs.Walk as walk
+use Rattle.model.specs.Resolved
+use Rattle.machine.specs.State.{State, stateNumbers}
+use Rattle.machine.specs.Machine.{asLent, no, foundAs, movesTo, depthLimit, isDepth, searchedAs, searches, held, Machine, closed, holding, onState, Request, search′, acts, twoParts, uses, onMachine}
+use Rattle.buffers.specs.Parts.{Engine, lentTwo}
+use Rattle.buffers.specs.Effect.{machineOver, leftIn, leaves, requested}
+use Rattle.store.proofs.Tables.{left-two}
+use Rattle.search.specs.Walks.{Answered, a-run, no-run, not-known}
+use Rattle.search.specs.declared.Walked.{Walked}
+use Rattle.search.specs.declared.Walked.the-variants as walked
+use Rattle.searching.specs.Run.{entriesOf, bare, GivesRun, resultOf}
+use Rattle.searching.specs.declared.Found.{Found}
+
+-- ---- entries
+
+-- the first i entries, then zeros
+abbrev pub written : List ℕ → ℕ → List ℕ
+written run i = take i run ++ replicate (depthLimit - i) 0
+
+pub written-more : (run : List ℕ) (i : ℕ) → i < length run → length run ≡ depthLimit → set (written run i) i (getD run i 0) ≡ written run (i + 1)
+written-more run i l e =
+    let z : replicate (depthLimit - i) 0 ≡ 0 ∷ replicate (depthLimit - (i + 1)) 0 = let d : depthLimit - i ≡ suc (depthLimit - (i + 1)) = omega arith in ap (λ (k : ℕ). replicate k 0) d in
+    ap (λ (xs : List ℕ). set (take i run ++ xs) i (getD run i 0)) z
+    ∙ set-at (take i run) 0 (replicate (depthLimit - (i + 1)) 0) (getD run i 0) i (length-take-le i run (omega arith))
+    ∙ sym (append-assoc (take i run) (getD run i 0 ∷ []) (replicate (depthLimit - (i + 1)) 0))
+    ∙ ap (λ (xs : List ℕ). xs ++ replicate (depthLimit - (i + 1)) 0) (sym (ap (λ (k : ℕ). take k run) (add-one i) ∙ take-suc run i 0 l))
+
+-- all entries are written
+pub written-all : (run : List ℕ) (n : ℕ) → n ≤ length run → written run n ≡ entriesOf (take n run)
+unfolding entriesOf
+written-all run n l = ap (λ (k : ℕ). take n run ++ replicate (depthLimit - k) 0) (sym (length-take-le n run l))
+
+pub run-result : (run : List ℕ) (n : ℕ) (es : List ℕ) → n ≤ length run → es ≡ written run n → _≡_ {A = Found} (record { number = 0; length = n; run = es }) (resultOf (tree.found (take n run)))
+unfolding resultOf
+run-result run n es l e =
+    let a : n ≡ length (take n run) = sym (length-take-le n run l) in
+    let b : es ≡ entriesOf (take n run) = e ∙ written-all run n l in
+    rw (b, ← a) refl
+
+-- ---- what a walk comes to
+
+module _ {a : tree.Answer} {run : List ℕ} {w : Walked} where
+  pub none-under : {m h : Bool} {n : ℕ} → w ≡ walked.Under m h n → Answered a w run → ⊥
+  none-under e (a-run l p) = let z : _≡_ {A = ℕ} 0 1 = cc in omega arith
+  none-under e (no-run p) = let z : _≡_ {A = ℕ} 0 1 = cc in omega arith
+  none-under e (not-known p) = let z : _≡_ {A = ℕ} 0 1 = cc in omega arith
+
+  pub found-run : {n : ℕ} → w ≡ walked.Found n → Answered a w run → (n ≤ length run) × (a ≡ tree.found (take n run))
+  found-run {n} e (a-run {n = k} l p) = let z : k ≡ n = cc in rw z at (l, p)
+  found-run e (no-run p) = let z : _≡_ {A = ℕ} 0 1 = cc in absurd (omega arith)
+  found-run e (not-known p) = let z : _≡_ {A = ℕ} 0 1 = cc in absurd (omega arith)
+
+  pub found-none : w ≡ walked.Nothing → Answered a w run → a ≡ tree.nothing
+  found-none e (a-run l p) = let z : _≡_ {A = ℕ} 0 1 = cc in absurd (omega arith)
+  found-none e (no-run p) = p
+  found-none e (not-known p) = let z : _≡_ {A = ℕ} 0 1 = cc in absurd (omega arith)
+
+  pub found-unsure : w ≡ walked.Unsure → Answered a w run → a ≡ tree.unsure
+  found-unsure e (a-run l p) = let z : _≡_ {A = ℕ} 0 1 = cc in absurd (omega arith)
+  found-unsure e (no-run p) = let z : _≡_ {A = ℕ} 0 1 = cc in absurd (omega arith)
+  found-unsure e (not-known p) = p
+
+pub none-result : {a : tree.Answer} → a ≡ tree.nothing → bare 0 ≡ resultOf a
+unfolding resultOf
+none-result e = rw e refl
+
+pub unsure-result : {a : tree.Answer} → a ≡ tree.unsure → bare 27 ≡ resultOf a
+unfolding resultOf
+unsure-result e = rw e refl
+
+-- ---- as the effect of the call says
+
+-- 01, Listing, 11: changes nothing
+pub eleven-run : (r : Request) (x : Engine) → GivesRun (leaves (uses r) x [] (onMachine r closed)) (bare 11) x
+unfolding leaves onMachine leftIn no entriesOf
+eleven-run r x = record { number = refl; long = refl; run = refl; buffers = λ p. refl }
+
+pub none-run : (r : Request) (x : Engine) → GivesRun (requested r x [] none) (bare 11) x
+unfolding requested machineOver
+none-run r x = eleven-run r x
+
+module _ (bs : List ℕ) (zs : List ℤ) (m : Resolved.Model) (x : List ℕ) (d : ℕ) where
+  abbrev X : Engine
+  X = lentTwo bs zs
+
+  pub closed-run : machineOver twoParts X (some m) ≡ closed → GivesRun (requested (search′ x d) X [] (some m)) (bare 11) X
+  unfolding requested
+  closed-run e = rw e (eleven-run (search′ x d) X)
+
+  module _ (s : State) (holds : machineOver twoParts X (some m) ≡ holding (held m s)) (numbers : zs ≡ stateNumbers s) where
+    -- 26
+    pub deep-run : isDepth d ≡ false → GivesRun (requested (search′ x d) X [] (some m)) (bare 26) X
+    unfolding requested leaves onMachine acts onState searches no entriesOf
+    deep-run e = rw (holds, e) (record { number = refl; long = refl; run = refl; buffers = left-two bs zs zs m s numbers })
+
+    answer-run : (a : tree.Answer) → GivesRun (leaves twoParts X [] (record { machine = holding (held m s); answer = searchedAs a })) (resultOf a) X
+    unfolding leaves searchedAs foundAs no resultOf entriesOf
+    answer-run (tree.found r) = record { number = refl; long = refl; run = refl; buffers = left-two bs zs zs m s numbers }
+    answer-run tree.nothing = record { number = refl; long = refl; run = refl; buffers = left-two bs zs zs m s numbers }
+    answer-run tree.unsure = record { number = refl; long = refl; run = refl; buffers = left-two bs zs zs m s numbers }
+
+    pub walked-run : isDepth d ≡ true → (r : Found) → r ≡ resultOf (walk.search (movesTo m x) s d) → GivesRun (requested (search′ x d) X [] (some m)) r X
+    unfolding requested onMachine acts onState searches
+    walked-run e r q = rw (q, holds, e) (answer-run (walk.search (movesTo m x) s d))

@@ -18,22 +18,21 @@ use Rattle.machine.specs.Evaluate as evaluate
 use Rattle.machine.specs.Offer as offer
 use Rattle.machine.specs.Offer.{Process, branches}
 use Rattle.machine.specs.State.{State}
-use Rattle.machine.specs.Specimens.{unnamed}
 use Rattle.machine.specs.Machine as machine
 use Rattle.machine.specs.Machine.{accepting, openedState, stepsWith}
 
--- a sum of definition d that waits, its name being token k, with rate 1 and goes on so
-abbrev waits : (d k : ℕ) → List Resolved.Part → Resolved.Sum
-waits d k next = record { locals = 0; definition = d; branches = record { gate = none; action = Resolved.wait k; rate = Resolved.plain (Resolved.fixed (pos 10000)); next = next } ∷ [] }
+-- a sum of definition d that waits with rate 1 and goes on so
+abbrev waits : ℕ → List Resolved.Part → Resolved.Sum
+waits d next = record { locals = 0; definition = d; branches = record { gate = none; action = Resolved.wait 0; rate = Resolved.plain (Resolved.fixed (pos 10000)); next = next } ∷ [] }
 
 -- P[] = {a,1}.Q[]; Q[] = {b,1} || {c,1}; P[] || P[]
 abbrev several : Resolved.Model
 several = record {
-  sums = waits 0 5 (Resolved.call 1 [] ∷ []) ∷ waits 1 19 [] ∷ waits 1 25 [] ∷ [];
+  sums = waits 0 (Resolved.call 1 [] ∷ []) ∷ waits 1 [] ∷ waits 1 [] ∷ [];
   definitions = record { params = 0; sums = 0 ∷ [] } ∷ record { params = 0; sums = 1 ∷ 2 ∷ [] } ∷ [];
   channels = 0;
   starts = record { definition = 0; count = 2; values = [] } ∷ [];
-  words = unnamed;
+  words = λ k. [];
 }
 
 -- P's process, and Q's two

@@ -31,8 +31,8 @@ use Rattle.step.specs.declared.Taken.the-variants.{Accepted, Refused}
 use Rattle.step.specs.Enter as enter
 use Rattle.step.specs.Enter.{Lent, Answers, verdict, numberOf, stateOf}
 use Rattle.step.proofs.Answered.{taken-number, taken-state}
-use Rattle.walk.specs.declared.Move as code
-use Rattle.walk.specs.declared.Move.the-variants as code
+use Rattle.walk.specs.declared.Move.{Move}
+use Rattle.walk.specs.declared.Move.the-variants as move
 use Rattle.walk.specs.Entries.{entryIn, Listing, Row}
 use Rattle.walk.specs.Held.{Held, Seen, Stands, Lists, wayFound, Takes}
 use Rattle.walk.proofs.Rows.{row-is, row-in, row-fits, mid-twice, back-first, back-second, twice}
@@ -118,7 +118,7 @@ module _ {t roots scopes : List ℕ} {root variables : ℕ} {text places sizes :
 
       -- ---- the three answers
       module _ (x : List ℕ) where
-        pub takes-idle : y .weight ≡ 0 → Takes m x s e z z code.Idle
+        pub takes-idle : y .weight ≡ 0 → Takes m x s e z z move.Idle
         unfolding entryOf wayFound
         takes-idle w = record {
           after = s;
@@ -132,7 +132,7 @@ module _ {t roots scopes : List ℕ} {root variables : ℕ} {text places sizes :
           kept : take stateLength (putMid stateLength stateLength z₁ ys) ≡ take stateLength z
           kept = rw copied (back-first z stateLength deep ys)
 
-          pub takes-refused : (c : ℕ) → r ≡ Refused c → Takes m x s e z (putMid stateLength stateLength z₁ ys) code.Refused
+          pub takes-refused : (c : ℕ) → r ≡ Refused c → Takes m x s e z (putMid stateLength stateLength z₁ ys) move.Refused
           unfolding entryOf keyOf wayFound
           takes-refused c q = record {
             after = s;
@@ -142,7 +142,7 @@ module _ {t roots scopes : List ℕ} {root variables : ℕ} {text places sizes :
           }
 
           pub takes-accepted : (h : Bool) → h ≡ isSought m x s (key (y .kind) (y .place) (y .branch) (y .partner) (y .pbranch) (y .pair)) → r ≡ Accepted
-              → Takes m x s e z (putMid stateLength stateLength z₁ ys) (code.Leads h)
+              → Takes m x s e z (putMid stateLength stateLength z₁ ys) (move.Leads h)
           unfolding entryOf keyOf wayFound
           takes-accepted h o q =
               let k = key (y .kind) (y .place) (y .branch) (y .partner) (y .pbranch) (y .pair) in

@@ -32,8 +32,8 @@ use Rattle.listing.specs.Buffer as buffer
 use Rattle.listing.specs.Buffer.{filledNumbers, listingNumbers, listedAnswer}
 use Rattle.walk.specs.declared.Hit.{Hit}
 use Rattle.walk.specs.declared.Hit.the-variants.{Lost, Found}
-use Rattle.walk.specs.declared.Move as code
-use Rattle.walk.specs.declared.Move.the-variants as code
+use Rattle.walk.specs.declared.Move.{Move}
+use Rattle.walk.specs.declared.Move.the-variants as move
 use Rattle.walk.specs.Hunted.{Hunted, gone, hits, orElse, behindHunted, huntAnswer, huntAt, huntFrom, huntLonger, Hunts, none, one}
 use Rattle.walk.specs.Held.{Held, Stands, Lists, Room, wayFound, Takes}
 use Rattle.walk.proofs.Hunting.{search-is, at-idle, at-refused, at-wait, at-other, at-more, from-step, from-none, from-unlisted, longer-step, longer-none, pass-start, pass-lost, pass-found, pass-over}
@@ -41,7 +41,7 @@ use Rattle.walk.proofs.Hunting.{search-is, at-idle, at-refused, at-wait
 -- ---- what was found, taken apart
 
 lost-is : {run : List ℕ} {n : ℕ} {x : Hunted} {r : Hit} {m : Bool} → Hunts run n x r → r ≡ Lost m → x ≡ gone m
-lost-is (none {m = k} p) e = let i : k ≡ _ = cc in p ∙ ap gone i
+lost-is {m = n} (none {m = k} p) e = let i : k ≡ n = cc in p ∙ ap gone i
 lost-is (one p) e = let z : _≡_ {A = ℕ} 0 1 = cc in absurd (omega arith)
 
 found-is : {run : List ℕ} {n : ℕ} {x : Hunted} {r : Hit} → Hunts run n x r → r ≡ Found → x ≡ hits (take n run)
@@ -51,18 +51,18 @@ found-is (one p) e = p
 -- ---- one entry
 
 module _ {m : Resolved.Model} {x : List ℕ} {s : State} {e : ℕ} {zs zs′ : List ℤ} (more : ℕ) (run : List ℕ) where
-  pub entry-idle : {r : code.Move} → Takes m x s e zs zs′ r → r ≡ code.Idle → Hunts run (more + 1) (huntAt (movesTo m x) s more e) (Lost false)
+  pub entry-idle : {r : Move} → Takes m x s e zs zs′ r → r ≡ move.Idle → Hunts run (more + 1) (huntAt (movesTo m x) s more e) (Lost false)
   unfolding wayFound
-  entry-idle {r} t q = none (at-idle (movesTo m x) s more e (ap (λ (u : code.Move). wayFound u (t .after)) (sym q) ∙ t .way))
+  entry-idle {r} t q = none (at-idle (movesTo m x) s more e (ap (λ (u : Move). wayFound u (t .after)) (sym q) ∙ t .way))
 
-  pub entry-refused : {r : code.Move} → Takes m x s e zs zs′ r → r ≡ code.Refused → Hunts run (more + 1) (huntAt (movesTo m x) s more e) (Lost true)
+  pub entry-refused : {r : Move} → Takes m x s e zs zs′ r → r ≡ move.Refused → Hunts run (more + 1) (huntAt (movesTo m x) s more e) (Lost true)
   unfolding wayFound
-  entry-refused {r} t q = none (at-refused (movesTo m x) s more e (ap (λ (u : code.Move). wayFound u (t .after)) (sym q) ∙ t .way))
+  entry-refused {r} t q = none (at-refused (movesTo m x) s more e (ap (λ (u : Move). wayFound u (t .after)) (sym q) ∙ t .way))
 
-  module _ {r : code.Move} (t : Takes m x s e zs zs′ r) (h : Bool) (q : r ≡ code.Leads h) where
+  module _ {r : Move} (t : Takes m x s e zs zs′ r) (h : Bool) (q : r ≡ move.Leads h) where
     leads-to : leads h (t .after) ≡ wayIn (movesTo m x s) e
     unfolding wayFound
-    leads-to = ap (λ (u : code.Move). wayFound u (t .after)) (sym q) ∙ t .way
+    leads-to = ap (λ (u : Move). wayFound u (t .after)) (sym q) ∙ t .way
 
     pub entry-wait : more ≡ 0 → h ≡ true → 1 ≤ length run → Hunts (set run 0 e) (more + 1) (huntAt (movesTo m x) s more e) Found
     entry-wait o w l = by run l

@@ -16,4 +16,5 @@ pub mod Waiting
 pub mod Found
 pub mod Answers
 pub mod Outcomes
+pub mod Runs
 pub mod Independent

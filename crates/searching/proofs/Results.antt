@@ -1,13 +1,13 @@
 -- What each return of the search says: 11, 26 and what a walk comes to, as the effect of the call has it; and the entries as they are written.
 use mathlib.Core.Path.{_≡_, refl, sym, ap, _∙_}
-use mathlib.Core.List.{List, [], _∷_, _++_}
+use mathlib.Core.List.{List, [], _∷_, _++_, append-assoc}
 use mathlib.Core.Bool.{Bool, true, false, cond}
 use mathlib.Core.Option.{none, some}
 use Prim.Native.Nat.{ℕ, zero, suc, _+_, _-_, _≤_, _<_}
+use native.Mathlib.Numerals.{add-one}
 use native.Mathlib.Omega.{arith}
 use lib.IntN.{ℤ}
 use lib.ListN.{length, getD, set, take, drop, replicate, length-take}
-use mathlib.Core.List.{append-assoc}
 use lib.Seq.{take-suc, length-take-le, set-at}
 use Rattle.runs.specs.Tree as tree
 use Rattle.runs.specs.Walk as walk
@@ -25,52 +25,69 @@ use Rattle.searching.specs.declared.Found.{Found}
 
 -- ---- entries
 
+abbrev zeros : ℕ → List ℕ
+zeros n = replicate n 0
+
+zeros-take : (k n : ℕ) → k ≤ n → take k (zeros n) ≡ zeros k
+zeros-take zero n l = refl
+zeros-take (suc k) zero l = absurd (omega arith)
+zeros-take (suc k) (suc n) l = ap (λ (xs : List ℕ). 0 ∷ xs) (zeros-take k n (omega arith))
+
+take-past : (xs ys : List ℕ) (n k : ℕ) → length xs ≡ n → take (n + k) (xs ++ ys) ≡ xs ++ take k ys
+take-past [] ys zero k e = ap (λ (j : ℕ). take j ys) (omega arith)
+take-past [] ys (suc n) k e = absurd (omega arith)
+take-past (x ∷ xs) ys zero k e = absurd (omega arith)
+take-past (x ∷ xs) ys (suc n) k e = ap (λ (r : List ℕ). x ∷ r) (take-past xs ys n k (omega arith))
+
 -- the first i entries, then zeros
 abbrev pub written : List ℕ → ℕ → List ℕ
-written run i = take i run ++ replicate (depthLimit - i) 0
+written run i = take i run ++ zeros (depthLimit - i)
 
 pub written-more : (run : List ℕ) (i : ℕ) → i < length run → length run ≡ depthLimit → set (written run i) i (getD run i 0) ≡ written run (i + 1)
 written-more run i l e =
-    let z : replicate (depthLimit - i) 0 ≡ 0 ∷ replicate (depthLimit - (i + 1)) 0 = let d : depthLimit - i ≡ suc (depthLimit - (i + 1)) = omega arith in ap (λ (k : ℕ). replicate k 0) d in
+    let z : zeros (depthLimit - i) ≡ 0 ∷ zeros (depthLimit - (i + 1)) = let d : depthLimit - i ≡ suc (depthLimit - (i + 1)) = omega arith in ap zeros d in
     ap (λ (xs : List ℕ). set (take i run ++ xs) i (getD run i 0)) z
-    ∙ set-at (take i run) 0 (replicate (depthLimit - (i + 1)) 0) (getD run i 0) i (length-take-le i run (omega arith))
-    ∙ sym (append-assoc (take i run) (getD run i 0 ∷ []) (replicate (depthLimit - (i + 1)) 0))
-    ∙ ap (λ (xs : List ℕ). xs ++ replicate (depthLimit - (i + 1)) 0) (sym (ap (λ (k : ℕ). take k run) (add-one i) ∙ take-suc run i 0 l))
+    ∙ set-at (take i run) 0 (zeros (depthLimit - (i + 1))) (getD run i 0) i (length-take-le i run (omega arith))
+    ∙ sym (append-assoc (take i run) (getD run i 0 ∷ []) (zeros (depthLimit - (i + 1))))
+    ∙ ap (λ (xs : List ℕ). xs ++ zeros (depthLimit - (i + 1))) (sym (ap (λ (k : ℕ). take k run) (add-one i) ∙ take-suc run i 0 l))
 
 -- all entries are written
-pub written-all : (run : List ℕ) (n : ℕ) → n ≤ length run → written run n ≡ entriesOf (take n run)
+pub written-all : (run : List ℕ) (n : ℕ) → n ≤ length run → length run ≡ depthLimit → written run n ≡ entriesOf (take n run)
 unfolding entriesOf
-written-all run n l = ap (λ (k : ℕ). take n run ++ replicate (depthLimit - k) 0) (sym (length-take-le n run l))
+written-all run n l e =
+    let k : length (take n run) ≡ n = length-take-le n run l in
+    let d : n + (depthLimit - n) ≡ depthLimit = omega arith in
+    let z : take (depthLimit - n) (zeros depthLimit) ≡ zeros (depthLimit - n) = zeros-take (depthLimit - n) depthLimit (omega arith) in
+    sym (ap (λ (j : ℕ). take j (take n run ++ zeros depthLimit)) (sym d) ∙ take-past (take n run) (zeros depthLimit) n (depthLimit - n) k ∙ ap (λ (xs : List ℕ). take n run ++ xs) z)
 
-pub run-result : (run : List ℕ) (n : ℕ) (es : List ℕ) → n ≤ length run → es ≡ written run n → _≡_ {A = Found} (record { number = 0; length = n; run = es }) (resultOf (tree.found (take n run)))
+pub run-result : (run : List ℕ) (n : ℕ) (es : List ℕ) → n ≤ length run → length run ≡ depthLimit → es ≡ written run n → _≡_ {A = Found} (record { number = 0; length = n; run = es }) (resultOf (tree.found (take n run)))
 unfolding resultOf
-run-result run n es l e =
+run-result run n es l f e =
     let a : n ≡ length (take n run) = sym (length-take-le n run l) in
-    let b : es ≡ entriesOf (take n run) = e ∙ written-all run n l in
+    let b : es ≡ entriesOf (take n run) = e ∙ written-all run n l f in
     rw (b, ← a) refl
 
 -- ---- what a walk comes to
 
-module _ {a : tree.Answer} {run : List ℕ} {w : Walked} where
-  pub none-under : {m h : Bool} {n : ℕ} → w ≡ walked.Under m h n → Answered a w run → ⊥
-  none-under e (a-run l p) = let z : _≡_ {A = ℕ} 0 1 = cc in omega arith
-  none-under e (no-run p) = let z : _≡_ {A = ℕ} 0 1 = cc in omega arith
-  none-under e (not-known p) = let z : _≡_ {A = ℕ} 0 1 = cc in omega arith
+pub none-under : {a : tree.Answer} {run : List ℕ} {w : Walked} {m h : Bool} {n : ℕ} → w ≡ walked.Under m h n → Answered a w run → ⊥
+none-under e (a-run l p) = let z : _≡_ {A = ℕ} 0 1 = cc in omega arith
+none-under e (no-run p) = let z : _≡_ {A = ℕ} 0 1 = cc in omega arith
+none-under e (not-known p) = let z : _≡_ {A = ℕ} 0 1 = cc in omega arith
 
-  pub found-run : {n : ℕ} → w ≡ walked.Found n → Answered a w run → (n ≤ length run) × (a ≡ tree.found (take n run))
-  found-run {n} e (a-run {n = k} l p) = let z : k ≡ n = cc in rw z at (l, p)
-  found-run e (no-run p) = let z : _≡_ {A = ℕ} 0 1 = cc in absurd (omega arith)
-  found-run e (not-known p) = let z : _≡_ {A = ℕ} 0 1 = cc in absurd (omega arith)
+pub found-run : {a : tree.Answer} {run : List ℕ} {w : Walked} {n : ℕ} → w ≡ walked.Found n → Answered a w run → (n ≤ length run) × (a ≡ tree.found (take n run))
+found-run {a} {run} {w} {n} e (a-run {n = k} l p) = let z : k ≡ n = cc in (omega arith, p ∙ ap (λ (j : ℕ). tree.found (take j run)) z)
+found-run e (no-run p) = let z : _≡_ {A = ℕ} 0 1 = cc in absurd (omega arith)
+found-run e (not-known p) = let z : _≡_ {A = ℕ} 0 1 = cc in absurd (omega arith)
 
-  pub found-none : w ≡ walked.Nothing → Answered a w run → a ≡ tree.nothing
-  found-none e (a-run l p) = let z : _≡_ {A = ℕ} 0 1 = cc in absurd (omega arith)
-  found-none e (no-run p) = p
-  found-none e (not-known p) = let z : _≡_ {A = ℕ} 0 1 = cc in absurd (omega arith)
+pub found-none : {a : tree.Answer} {run : List ℕ} {w : Walked} → w ≡ walked.Nothing → Answered a w run → a ≡ tree.nothing
+found-none e (a-run l p) = let z : _≡_ {A = ℕ} 0 1 = cc in absurd (omega arith)
+found-none e (no-run p) = p
+found-none e (not-known p) = let z : _≡_ {A = ℕ} 0 1 = cc in absurd (omega arith)
 
-  pub found-unsure : w ≡ walked.Unsure → Answered a w run → a ≡ tree.unsure
-  found-unsure e (a-run l p) = let z : _≡_ {A = ℕ} 0 1 = cc in absurd (omega arith)
-  found-unsure e (no-run p) = let z : _≡_ {A = ℕ} 0 1 = cc in absurd (omega arith)
-  found-unsure e (not-known p) = p
+pub found-unsure : {a : tree.Answer} {run : List ℕ} {w : Walked} → w ≡ walked.Unsure → Answered a w run → a ≡ tree.unsure
+found-unsure e (a-run l p) = let z : _≡_ {A = ℕ} 0 1 = cc in absurd (omega arith)
+found-unsure e (no-run p) = let z : _≡_ {A = ℕ} 0 1 = cc in absurd (omega arith)
+found-unsure e (not-known p) = p
 
 pub none-result : {a : tree.Answer} → a ≡ tree.nothing → bare 0 ≡ resultOf a
 unfolding resultOf

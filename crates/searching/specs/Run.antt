@@ -1,8 +1,8 @@
 -- What a search gives (02, notes 8 and 9): its result, number by number, and the buffers as an effect says. Definitions only.
 use mathlib.Core.Path.{_≡_}
 use mathlib.Core.List.{List, _++_}
-use Prim.Native.Nat.{ℕ, _-_}
-use lib.ListN.{length, replicate}
+use Prim.Native.Nat.{ℕ}
+use lib.ListN.{length, take, replicate}
 use Rattle.runs.specs.Tree as tree
 use Rattle.machine.specs.Machine.{depthLimit, Part}
 use Rattle.buffers.specs.Parts.{Engine}
@@ -11,7 +11,7 @@ use Rattle.searching.specs.declared.Found.{Found}
 
 -- 02, note 8: eight entry numbers, unused ones 0
 unfoldable pub entriesOf : List ℕ → List ℕ
-entriesOf r = r ++ replicate (depthLimit - length r) 0
+entriesOf r = take depthLimit (r ++ replicate depthLimit 0)
 
 -- 02, note 8: none and refusals give zeros
 abbrev pub bare : ℕ → Found

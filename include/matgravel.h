@@ -34,7 +34,7 @@ extern "C" {
 #define MATGRAVEL_STACK 3145728
 
 /* number: 0 for acceptance, or that of the refusal.
- * place: of 2 to 10 a byte of the text, of 12 a process; branch: of 12 a branch. Else 0.
+ * place: of 2 to 10 and 29 a byte of the text, of 12 a process; branch: of 12 a branch. Else 0.
  * count, total: entries and the sum of their weights; with 0 from list, step, timed_step and report, with 15 to 19 and with 23 to 25. Else 0.
  * chosen: the entry that an accepted step took. Else 0. */
 typedef struct {
@@ -51,6 +51,12 @@ typedef struct {
  *   2 more than 16,384 bytes, 3 a byte that no text has, 4 brackets too deep, 5 not a text of the grammar, 6 more than 4,096 tokens,
  *   7 beyond a limit, 8 a name is not new, 9 a name is not given, 10 more than 256 processes: model, state, saves and clock are zeroed. */
 matgravel_answer matgravel_open(const uint8_t *text, size_t text_len, uint8_t *model, size_t model_len, int64_t *state, size_t state_len, int64_t *saves, size_t saves_len, matgravel_clock *clock);
+
+/* The same under the steady profile: a text in which every continuation leaves at most one process. From an accepted one on and up to
+ * the next opening, no call is refused with 18, and no step raises the number of processes.
+ * Refusals: those of open, and 29 a group has more than one item, or a call is of a definition with more than one sum; its place is the
+ *   first such `(` or call name. 29 zeroes model, state, saves and clock too. */
+matgravel_answer matgravel_open_steady(const uint8_t *text, size_t text_len, uint8_t *model, size_t model_len, int64_t *state, size_t state_len, int64_t *saves, size_t saves_len, matgravel_clock *clock);
 
 /* Lists every transition that can happen next, with its weight. Changes neither model nor state.
  * Refusals: 1 a buffer has a wrong length, 11 the buffers hold no open model with a state of it: the listing is left as it was.

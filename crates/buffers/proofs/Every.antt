@@ -10,11 +10,13 @@ use lib.ListN.{length, length-replicate}
 use Rattle.clock.proofs.Bringing.{both-in}
 use Rattle.model.specs.Resolved
 use Rattle.model.specs.Opening.{Opening, refused, opened, opening}
+use Rattle.profile.specs.Opening.{openingSteady}
+use Rattle.profile.proofs.Opened.{opened-plain}
 use Rattle.model.specs.Good.{GoodModel}
 use Rattle.model.proofs.Held.{opened-held}
 use Rattle.model.proofs.Opened as formed
 use Rattle.machine.specs.State.{State, stateLength, stateNumbers}
-use Rattle.machine.specs.Machine.{modelLength, Shown, asLent, Answer, no, Turn, turn, Held, Good, Machine, closed, holding, Request, Ask, open′, on′, acts, Part, model, state, saves, clock, size, lentTo, uses, isLent, hasLengths, opens, onMachine, asked, calls, answers, after}
+use Rattle.machine.specs.Machine.{modelLength, Shown, asLent, Answer, no, Turn, turn, Held, Good, Machine, closed, holding, Request, Ask, open′, openSteady′, on′, acts, Part, model, state, saves, clock, size, lentTo, uses, isLent, hasLengths, opens, onMachine, asked, calls, answers, after}
 use Rattle.machine.specs.Saves.{savesLength}
 use Rattle.machine.proofs.Numbers.{state-length}
 use Rattle.machine.proofs.Keeps.{opened-good, acts-good, same-model}
@@ -186,10 +188,27 @@ module _ {x : Engine} {y : Machine} (h : Holds x y) (c : BufferCall) where
 
 -- ---- openings
 
-open-holds : (text : List ℕ) (o : Opening) (l : List ℕ) (z : Engine) → opening text ≡ o → ((p : Part) → z p ≡ opensWith text o l .left p) → Holds z (opens o .machine)
+-- a call that opens a text with this answer: a model that is opened is the one that a plain opening opens
+pub record IsOpening (k : Ask) (text : List ℕ) (o : Opening) : Type 0 where
+  pub lent : (p : Part) → isLent p (lentTo k) ≡ true
+  pub effect-is : (x : Engine) (l : List ℕ) → answered k x l ≡ opensWith text o l
+  pub turn-is : (y : Machine) → asked y k ≡ opens o
+  pub plain : (m : Resolved.Model) → o ≡ opened m → opening text ≡ opened m
+
+pub plainly : (text : List ℕ) → IsOpening (open′ text) text (opening text)
+unfolding answered asked
+plainly text = record { lent = all-lent text; effect-is = λ x l. refl; turn-is = λ y. refl; plain = λ m e. e }
+
+-- 02, note 11
+pub steadily : (text : List ℕ) → IsOpening (openSteady′ text) text (openingSteady text)
+unfolding answered asked
+steadily text = record { lent = all-lent text; effect-is = λ x l. refl; turn-is = λ y. refl; plain = opened-plain text }
+
+open-holds : (text : List ℕ) (o : Opening) (l : List ℕ) (z : Engine) → ((m : Resolved.Model) → o ≡ opened m → opening text ≡ opened m) → ((p : Part) → z p ≡ opensWith text o l .left p) → Holds z (opens o .machine)
 unfolding opensWith opens
-open-holds text (refused n p) l z e q = zeros q
-open-holds text (opened m) l z e q =
+open-holds text (refused n p) l z f q = zeros q
+open-holds text (opened m) l z f q =
+    let e = f m refl in
     held text (text-held text m (opened-held text m e)) q (opened-good m (formed.opened-good text m e) (formed.opened-few text m e))
 
 open-answers : (text : List ℕ) (o : Opening) (l : List ℕ) → (opensWith text o l .answer ≡ opens o .answer) × (opensWith text o l .output ≡ shown (opens o .answer .listing) l)
@@ -290,14 +309,12 @@ module _ {x : Engine} (a : (p : Part) → Lending (Cell p) (size p)) (l : List �
       }
 
 module _ {x : Engine} {y : Machine} (b : Holds x y) (a : (p : Part) → Lending (Cell p) (size p)) (l : List ℕ) where
-  open-goes : (text : List ℕ) → hasLengths (open′ text) (lentLengths (make (open′ text) a l)) (length l) ≡ true → Goes x y (make (open′ text) a l)
-  unfolding answered asked
-  open-goes text w =
-      let c = make (open′ text) a l in
-      let o = opening text in
-      let k = open-answers text o l in
-      goes b c (opensWith text o l) (opens o) (asks-all b c w) (turns b c w) (k .0) (k .1)
-      (open-holds text o l _ refl (λ p. left-lent b c w (opensWith text o l .left) p (all-lent text p)))
+  open-goes : (k : Ask) (text : List ℕ) (o : Opening) → IsOpening k text o → hasLengths k (lentLengths (make k a l)) (length l) ≡ true → Goes x y (make k a l)
+  open-goes k text o i w =
+      let c = make k a l in
+      let r = open-answers text o l in
+      goes b c (opensWith text o l) (opens o) (asks-all b c w ∙ i .effect-is _ l) (turns b c w ∙ i .turn-is y) (r .0) (r .1)
+      (open-holds text o l _ (i .plain) (λ p. left-lent b c w (opensWith text o l .left) p (i .lent p)))
 
   -- 11
   pub shut : {y : Machine} → Holds x y → y ≡ closed → (r : Request) → hasLengths (on′ r) (lentLengths (make (on′ r) a l)) (length l) ≡ true
@@ -328,7 +345,8 @@ module _ {x : Engine} {y : Machine} (b : Holds x y) (a : (p : Part) → Lending 
   call-at k = by k (hasLengths k (lentLengths (make k a l)) (length l)) refl
     where
       by : (k : Ask) (t : Bool) → hasLengths k (lentLengths (make k a l)) (length l) ≡ t → Goes x y (make k a l)
-      by (open′ text) true w = open-goes text w
+      by (open′ text) true w = open-goes (open′ text) text (opening text) (plainly text) w
+      by (openSteady′ text) true w = open-goes (openSteady′ text) text (openingSteady text) (steadily text) w
       by (on′ r) true w = request-goes r w
       by k false w = wrong-goes b (make k a l) w
 

@@ -18,3 +18,4 @@ pub mod Answers
 pub mod Outcomes
 pub mod Runs
 pub mod Independent
+pub mod Steady

@@ -2,15 +2,17 @@
 use mathlib.Core.Path.{_≡_, refl, sym, ap, ap₂, subst, _∙_}
 use mathlib.Core.Bool.{Bool, true, false}
 use mathlib.Core.List.{List, map}
-use mathlib.Core.Logic.{inl, inr}
+use mathlib.Core.Logic.{inl, inr, ⊎-elim}
 use mathlib.Core.Option.{some}
 use Prim.Native.Nat.{ℕ, _≤_}
 use native.Mathlib.Omega.{arith}
 use lib.ListN.{length, replicate}
 use Rattle.model.specs.Resolved
 use Rattle.model.specs.Opening.{Opening, refused, opened, opening}
-use Rattle.model.specs.Questions.{Answers, no2, no3, no4, no5, no6, no7, no8, no9, no10, yesToAll}
 use Rattle.model.proofs.Answered as texts
+use Rattle.profile.specs.Opening.{openingSteady}
+use Rattle.profile.proofs.Asks.{plain-numbers}
+use Rattle.profile.proofs.InOrder.{answered-steady, steady-numbers}
 use Rattle.rules.specs.Listing.{Entry}
 use Rattle.machine.specs.Timed.{Timed}
 use Rattle.machine.specs.State.{State, stateNumbers}
@@ -20,7 +22,7 @@ use Rattle.machine.proofs.Saves.{StoredAnswers, accepts, refuses, saving-answer
 use Rattle.saves.specs.Places.{savesNumbers}
 use Rattle.machine.specs.Report.{reportLength}
 use Rattle.machine.specs.Machine.{listingLength, Answer, no, listedAs, reportedAs, Listed, Turn, turn, drawn, showing, lists, sharing, reports, choosing, stepsWith, searches, stepsIn, timesWith, Held, moved, movedIn, Machine, closed, holding, onState, onClock}
-use Rattle.machine.specs.Machine.{timedOf, storedIn, onSaves, Request, list′, step′, report′, search′, timed′, save′, return′, forget′, Ask, open′, on′, acts, Part, model, state, saves, clock, size, outputOf, hasLengths, onMachine, after}
+use Rattle.machine.specs.Machine.{timedOf, storedIn, onSaves, Request, list′, step′, report′, search′, timed′, save′, return′, forget′, Ask, open′, openSteady′, on′, acts, Part, model, state, saves, clock, size, outputOf, hasLengths, onMachine, after}
 use Rattle.machine.specs.Machine as machine
 use Rattle.machine.specs.Questions.{IsListing, Lists, no12, no13, no14, yes14, Steps, no15, no16, no17, no18, no19, yes19, Times, no15-19, no23, no24, no25, yes25}
 use Rattle.machine.proofs.Listing.{asked}
@@ -30,34 +32,16 @@ use Rattle.machine.proofs.Timing as timing
 use Rattle.machine.specs.Searching.{Searches}
 use Rattle.machine.proofs.Searching as searching
 use Rattle.rules.proofs.Decides.{on}
+use Rattle.buffers.specs.Held.{modelBytes}
 use Rattle.buffers.specs.Listing.{shown}
 use Rattle.buffers.specs.Parts.{Cell, Engine, fresh, numbersOf, withKept}
 use Rattle.buffers.specs.Effect.{Effect, untouched, opensWith, leftIn, leaves, answered}
 use Rattle.buffers.specs.Calls.{Lending, BufferCall, effectOf, leftBy, lentLengths, fed, engineAfter, Holds, zeros, held}
-use Rattle.buffers.specs.Outcomes.{Outcome, nothing, zeroed, opens, unlisted, listed, unwaited, accepted, reported, searched, unstored, stored}
+use Rattle.buffers.specs.Outcomes.{Outcome, nothing, zeroed, opens, unlisted, listed, unwaited, accepted, reported, searched, unstored, stored, opensSteady, unsteady}
 use Rattle.buffers.proofs.Lent.{same-engine}
-use Rattle.buffers.proofs.Every.{all-lent, one-untouched, left-as, asks-all, make, Turns, shut, request-turns, every-list}
+use Rattle.buffers.proofs.Every.{IsOpening, plainly, steadily, one-untouched, left-as, asks-all, make, Turns, shut, request-turns, every-list}
 use Rattle.buffers.proofs.Transitions.{still}
 use Rattle.buffers.proofs.Answers.{search-shows}
-
--- 2 to 10 are the numbers under which a text is refused
-text-numbers : (text : List ℕ) (n p : ℕ) → opening text ≡ refused n p → (2 ≤ n) × (n ≤ 10)
-text-numbers text n p e = by (opening text) (texts.answered text) e
-  where
-    is : (k q : ℕ) → refused k q ≡ refused n p → 2 ≤ k → k ≤ 10 → (2 ≤ n) × (n ≤ 10)
-    is k q e l h = let r : k ≡ n = cc in (omega arith, omega arith)
-
-    by : (o : Opening) → Answers text o → o ≡ refused n p → (2 ≤ n) × (n ≤ 10)
-    by o (no2 h) e = is 2 _ e (omega arith) (omega arith)
-    by o (no3 y2 h) e = is 3 _ e (omega arith) (omega arith)
-    by o (no4 y2 y3 h) e = is 4 _ e (omega arith) (omega arith)
-    by o (no5 y2 y3 y4 h) e = is 5 _ e (omega arith) (omega arith)
-    by o (no6 y2 y3 y4 y5 h) e = is 6 _ e (omega arith) (omega arith)
-    by o (no7 y2 y3 y4 y5 y6 h) e = is 7 _ e (omega arith) (omega arith)
-    by o (no8 y2 y3 y4 y5 y6 y7 h) e = is 8 _ e (omega arith) (omega arith)
-    by o (no9 y2 y3 y4 y5 y6 y7 y8 h) e = is 9 _ e (omega arith) (omega arith)
-    by o (no10 y2 y3 y4 y5 y6 y7 y8 y9 h) e = is 10 _ e (omega arith) (omega arith)
-    by o (yesToAll y2 y3 y4 y5 y6 y7 y8 y9 y10) e = absurd (let z : _≡_ {A = ℕ} 0 1 = cc in omega arith)
 
 module _ (x : Engine) (a : (p : Part) → Lending (Cell p) (size p)) (l : List ℕ) where
   abbrev Out : Machine → Ask → Type 0
@@ -65,20 +49,31 @@ module _ (x : Engine) (a : (p : Part) → Lending (Cell p) (size p)) (l : List �
 
   -- ---- open
 
-  open-right : {y : Machine} → Holds x y → (text : List ℕ) → hasLengths (open′ text) (lentLengths (make (open′ text) a l)) (length l) ≡ true → Out y (open′ text)
-  unfolding answered
-  open-right {y} h text w = by (opening text) refl (asks-all h (make (open′ text) a l) w)
+  -- what an opening leaves, by its answer
+  open-right : {y : Machine} → Holds x y → (k : Ask) (text : List ℕ) (o : Opening) → IsOpening k text o → hasLengths k (lentLengths (make k a l)) (length l) ≡ true
+      → ((n p : ℕ) → o ≡ refused n p → effectOf x (make k a l) .answer .number ≡ n → leftBy x (make k a l) ≡ fresh → Out y k)
+      → ((m : Resolved.Model) → o ≡ opened m → effectOf x (make k a l) .answer .number ≡ 0 → leftBy x (make k a l) ≡ numbersOf (modelBytes text) (machine.held m (machine.openedState m)) → Out y k)
+      → Out y k
+  open-right {y} h k text o i w f g = by o refl (asks-all h (make k a l) w ∙ i .effect-is _ l)
     where
-      left-so : (z : Engine) → effectOf x (make (open′ text) a l) .left ≡ z → leftBy x (make (open′ text) a l) ≡ z
-      left-so z e = same-engine (λ p. left-as h (make (open′ text) a l) w p (all-lent text p) ∙ ap (λ (z : Engine). z p) e)
+      left-so : (z : Engine) → effectOf x (make k a l) .left ≡ z → leftBy x (make k a l) ≡ z
+      left-so z e = same-engine (λ p. left-as h (make k a l) w p (i .lent p) ∙ ap (λ (z : Engine). z p) e)
 
-      by : (o : Opening) → opening text ≡ o → effectOf x (make (open′ text) a l) ≡ opensWith text o l → Out y (open′ text)
-      by (refused n q) e p = unfold opensWith no in
-          let r : effectOf x (make (open′ text) a l) .answer .number ≡ n = ap (λ (e : Effect). e .answer .number) p in
-          let k = text-numbers text n q e in
-          zeroed (omega (arith, k .0)) (omega (arith, k .1)) (left-so fresh (ap (λ (e : Effect). e .left) p))
-      by (opened m) e p = unfold opensWith no in
-          opens refl e (ap (λ (e : Effect). e .answer .number) p) (left-so _ (ap (λ (e : Effect). e .left) p))
+      by : (q : Opening) → o ≡ q → effectOf x (make k a l) ≡ opensWith text q l → Out y k
+      by (refused n q) e p = unfold opensWith no in f n q e (ap (λ (e : Effect). e .answer .number) p) (left-so fresh (ap (λ (e : Effect). e .left) p))
+      by (opened m) e p = unfold opensWith no in g m e (ap (λ (e : Effect). e .answer .number) p) (left-so _ (ap (λ (e : Effect). e .left) p))
+
+  plain-right : {y : Machine} → Holds x y → (text : List ℕ) → hasLengths (open′ text) (lentLengths (make (open′ text) a l)) (length l) ≡ true → Out y (open′ text)
+  plain-right h text w =
+      open-right h (open′ text) text (opening text) (plainly text) w
+      (λ n p e r z. let k = plain-numbers text (opening text) (texts.answered text) e in zeroed (omega (arith, k .0)) (omega (arith, k .1)) z)
+      (λ m e r z. opens refl e r z)
+
+  steady-right : {y : Machine} → Holds x y → (text : List ℕ) → hasLengths (openSteady′ text) (lentLengths (make (openSteady′ text) a l)) (length l) ≡ true → Out y (openSteady′ text)
+  steady-right {y} h text w =
+      open-right h (openSteady′ text) text (openingSteady text) (steadily text) w
+      (λ n p e r z. ⊎-elim (λ k. zeroed (omega (arith, k .0)) (omega (arith, k .1)) z) (λ k. unsteady (r ∙ k) z) (steady-numbers text (openingSteady text) (answered-steady text) e))
+      (λ m e r z. opensSteady refl e r z)
 
   -- ---- requests
 
@@ -246,7 +241,8 @@ module _ (x : Engine) (a : (p : Part) → Lending (Cell p) (size p)) (l : List �
   outcome-at {y} h k = by k (hasLengths k (lentLengths (make k a l)) (length l)) refl
     where
       by : (k : Ask) (t : Bool) → hasLengths k (lentLengths (make k a l)) (length l) ≡ t → Out y k
-      by (open′ text) true w = open-right h text w
+      by (open′ text) true w = plain-right h text w
+      by (openSteady′ text) true w = steady-right h text w
       by (on′ r) true w = request-right h r w
       by k false w =
           let p = one-untouched h (make k a l) w in

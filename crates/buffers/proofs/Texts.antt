@@ -6,13 +6,13 @@ use mathlib.Core.Option.{Option, none, Option·elim}
 use Prim.Native.Nat.{ℕ}
 use lib.ListN.{length}
 use Rattle.model.specs.Opening.{Opening, refused, opened, opening}
-use Rattle.machine.specs.Machine.{Turn, Machine, closed, holding, Request, Ask, open′, on′, Part, model, lentTo, uses, isLent, hasLengths}
+use Rattle.machine.specs.Machine.{Turn, Machine, closed, holding, Request, Ask, open′, openSteady′, on′, Part, model, lentTo, uses, isLent, hasLengths}
 use Rattle.buffers.specs.Parts.{Engine, fresh, numbersOf}
 use Rattle.buffers.specs.Effect.{Effect, untouched, opensWith, leftIn, leaves, requested, answered}
 use Rattle.buffers.specs.Calls.{BufferCall, lentEngine, effectOf, leftBy, lentLengths, engineAfter, Holds, zeros}
 use Rattle.buffers.specs.Texts.{keeps, reads, textAfter, bytesOf}
 use Rattle.buffers.proofs.Local.{model-lent}
-use Rattle.buffers.proofs.Every.{all-lent, stays, one-untouched, own-engine, left-as, asks-all, call-goes}
+use Rattle.buffers.proofs.Every.{IsOpening, plainly, steadily, stays, one-untouched, own-engine, left-as, asks-all, call-goes}
 
 -- a request leaves the model buffer as it was lent
 same-bytes : (r : Request) (x : Engine) (y : Machine) → leftIn (uses r) x y model ≡ x model
@@ -28,12 +28,16 @@ written text (opened m) l = refl
 
 -- what one call leaves in it
 module _ {x : Engine} {y : Machine} (h : Holds x y) (o : Option (List ℕ)) (e : x model ≡ bytesOf o) (c : BufferCall) where
+  opens : {k : Ask} {text : List ℕ} {o : Opening} → hasLengths (c .ask) (lentLengths c) (length (c .output)) ≡ true → IsOpening k text o → c .ask ≡ k → leftBy x c model ≡ bytesOf (keeps text o)
+  opens {k} {text} {o} w i q =
+      left-as h c w model (rw q (i .lent model)) ∙ ap (λ (e : Effect). e .left model) (asks-all h c w ∙ ap (λ (k : Ask). answered k (lentEngine c x) (c .output)) q ∙ i .effect-is _ (c .output)) ∙ written text o (c .output)
+
   left-model : leftBy x c model ≡ bytesOf (reads o (hasLengths (c .ask) (lentLengths c) (length (c .output))) (c .ask))
   left-model = by (hasLengths (c .ask) (lentLengths c) (length (c .output))) refl (c .ask) refl
     where
       by : (b : Bool) → hasLengths (c .ask) (lentLengths c) (length (c .output)) ≡ b → (k : Ask) → c .ask ≡ k → leftBy x c model ≡ bytesOf (reads o b k)
-      by true w (open′ text) q = unfold reads answered in
-          left-as h c w model (rw q (all-lent text model)) ∙ ap (λ (e : Effect). e .left model) (asks-all h c w ∙ ap (λ (k : Ask). answered k (lentEngine c x) (c .output)) q) ∙ written text (opening text) (c .output)
+      by true w (open′ text) q = unfold reads in opens w (plainly text) q
+      by true w (openSteady′ text) q = unfold reads in opens w (steadily text) q
       by true w (on′ r) q = unfold reads answered requested leaves in
           let t : isLent model (lentTo (c .ask)) ≡ true = rw q (model-lent r) in
           left-as h c w model t
@@ -42,6 +46,7 @@ module _ {x : Engine} {y : Machine} (h : Holds x y) (o : Option (List ℕ)) (e :
           ∙ own-engine h c w model t
           ∙ e
       by false w (open′ text) q = unfold reads untouched in stays h c (ap (λ (e : Effect). e .left) (one-untouched h c w)) model ∙ e
+      by false w (openSteady′ text) q = unfold reads untouched in stays h c (ap (λ (e : Effect). e .left) (one-untouched h c w)) model ∙ e
       by false w (on′ r) q = unfold reads untouched in stays h c (ap (λ (e : Effect). e .left) (one-untouched h c w)) model ∙ e
 
 -- whatever is held, from there on

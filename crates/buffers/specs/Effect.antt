@@ -6,7 +6,8 @@ use Prim.Native.Nat.{ℕ}
 use lib.ListN.{length}
 use Rattle.model.specs.Resolved
 use Rattle.model.specs.Opening.{Opening, refused, opened, opening}
-use Rattle.machine.specs.Machine.{asLent, Answer, no, Turn, held, Machine, closed, holding, Request, Ask, open′, on′, Part, model, uses, isLent, allParts, hasLengths, openedState, onMachine}
+use Rattle.profile.specs.Opening.{openingSteady}
+use Rattle.machine.specs.Machine.{asLent, Answer, no, Turn, held, Machine, closed, holding, Request, Ask, open′, openSteady′, on′, Part, model, uses, isLent, allParts, hasLengths, openedState, onMachine}
 use Rattle.buffers.specs.Held.{modelBytes, heldIn}
 use Rattle.buffers.specs.Listing.{shown}
 use Rattle.buffers.specs.Parts.{Engine, fresh, numbersOf, isPart, readHeld}
@@ -34,7 +35,7 @@ untouched x l = record { answer = no 1 0 0 asLent; left = x; output = l }
 
 -- ---- openings
 
--- 01, Opening a text: 2 to 10 zero all buffers; acceptance fills them
+-- 01, Opening a text, and 02, note 11: 2 to 10 and 29 zero all buffers; acceptance fills them
 unfoldable pub opensWith : List ℕ → Opening → List ℕ → Effect
 opensWith text (refused n p) l = record { answer = no n p 0 asLent; left = fresh; output = l }
 opensWith text (opened m) l = record { answer = no 0 0 0 asLent; left = numbersOf (modelBytes text) (held m (openedState m)); output = l }
@@ -59,6 +60,7 @@ requested r x l o = leaves (uses r) x l (onMachine r (machineOver (uses r) x o))
 -- what is asked, where 1 is answered with yes
 unfoldable pub answered : Ask → Engine → List ℕ → Effect
 answered (open′ text) x l = opensWith text (opening text) l
+answered (openSteady′ text) x l = opensWith text (openingSteady text) l
 answered (on′ r) x l = requested r x l (heldIn (x model))
 
 -- 01, Opening a text, Listing and stepping: 1, then what is asked

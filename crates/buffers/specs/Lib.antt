@@ -12,3 +12,4 @@ pub mod Found
 pub mod Answers
 pub mod Outcomes
 pub mod Independent
+pub mod Steady

@@ -7,10 +7,11 @@ use Prim.Native.Nat.{ℕ, _≤_}
 use lib.ListN.{replicate}
 use Rattle.model.specs.Resolved
 use Rattle.model.specs.Opening.{opened, opening}
+use Rattle.profile.specs.Opening.{openingSteady}
 use Rattle.rules.specs.Listing.{Entry}
 use Rattle.machine.specs.Report.{reportOf}
 use Rattle.machine.specs.State.{stateNumbers}
-use Rattle.machine.specs.Machine.{Held, held, Machine, holding, Request, search′, open′, on′, acts, model, outputOf, openedState}
+use Rattle.machine.specs.Machine.{Held, held, Machine, holding, Request, search′, open′, openSteady′, on′, acts, model, outputOf, openedState}
 use Rattle.machine.specs.Results.{Names}
 use Rattle.saves.specs.Places.{savesNumbers}
 use Rattle.machine.specs.Questions.{IsListing}
@@ -29,6 +30,10 @@ pub data Outcome (x : Engine) (y : Machine) (c : BufferCall) (e : Effect) : Type
   zeroed : 2 ≤ e .answer .number → e .answer .number ≤ 10 → leftBy x c ≡ fresh → Outcome x y c e
   -- an accepted opening fills them
   opens : {text : List ℕ} {m : Resolved.Model} → c .ask ≡ open′ text → opening text ≡ opened m
+      → e .answer .number ≡ 0 → leftBy x c ≡ numbersOf (modelBytes text) (held m (openedState m)) → Outcome x y c e
+  -- 02, note 11: under the steady profile 29 zeroes them too, and an accepted opening fills them alike
+  unsteady : e .answer .number ≡ 29 → leftBy x c ≡ fresh → Outcome x y c e
+  opensSteady : {text : List ℕ} {m : Resolved.Model} → c .ask ≡ openSteady′ text → openingSteady text ≡ opened m
       → e .answer .number ≡ 0 → leftBy x c ≡ numbersOf (modelBytes text) (held m (openedState m)) → Outcome x y c e
   -- 12 to 14 zero the listing or report, and change nothing else
   unlisted : {n : ℕ} → outputOf (c .ask) ≡ some n → 12 ≤ e .answer .number → e .answer .number ≤ 14 → e .output ≡ replicate n 0 → leftBy x c ≡ x → Outcome x y c e

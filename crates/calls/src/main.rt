@@ -74,7 +74,7 @@ fn put(s: &[u8]) {
 fn kept_at(part: Part) -> u64 {
     match part {
         Part::InLine(reading) => reading.kept,
-        Part::InText(_, taken) => taken,
+        Part::InText(_, _, taken) => taken,
     }
 }
 
@@ -362,6 +362,20 @@ fn ask(
             out,
             waits,
             Row::OPEN,
+            lent(size),
+            0,
+            text,
+            &[],
+            model,
+            state,
+            saves,
+            clock,
+            listing,
+        ),
+        Line::Steady(size) => put_call(
+            out,
+            waits,
+            Row::STEADY,
             lent(size),
             0,
             text,

@@ -9,7 +9,7 @@ use lib.ListN.{length, replicate}
 use Rattle.token.specs.Questions.{textLimit}
 use Rattle.clock.specs.Clock.{freshClock}
 use Rattle.model.specs.Resolved
-use Rattle.model.specs.Opening.{refused, opened, opening}
+use Rattle.model.specs.Opening.{Opening, refused, opened}
 use Rattle.model.specs.Held.{held}
 use Rattle.model.proofs.Opened.{opened-good, opened-few}
 use Rattle.model.proofs.Held.{held-good, opened-short}
@@ -17,10 +17,10 @@ use Rattle.machine.specs.State.{stateLength, stateNumbers}
 use Rattle.machine.specs.Saves.{savesLength}
 use Rattle.saves.proofs.Places.{no-saves-numbers}
 use Rattle.machine.specs.Machine as machine
-use Rattle.machine.specs.Machine.{modelLength, no, openedState, Request, Part, model, state, saves, clock}
+use Rattle.machine.specs.Machine.{modelLength, no, openedState, Request, Part, model, state, saves, clock, fourParts, lentTo, outputOf}
 use Rattle.buffers.specs.Held.{modelBytes}
-use Rattle.buffers.specs.Parts.{fresh, numbersOf, lentTwo, lentAll}
-use Rattle.buffers.specs.Effect.{opensWith, requested}
+use Rattle.buffers.specs.Parts.{Engine, fresh, numbersOf, lentTwo, lentAll}
+use Rattle.buffers.specs.Effect.{opensWith, requested, answered}
 use Rattle.engine.specs.Gives.{Gives, bare}
 use Rattle.store.specs.Tables.{Tables}
 use Rattle.engine.specs.Steps.{Whole}
@@ -31,18 +31,22 @@ use Rattle.opening.specs.declared.Held.the-variants.{Refused as HeldRefused, Mo
 use Rattle.opening.specs.declared.Opened.{Opened}
 use Rattle.opening.specs.declared.Opened.the-variants.{Refused, Accepted}
 use Rattle.opening.specs.Trees.{Closed}
-use Rattle.opening.specs.Models.{ModelHeld, ModelRead, ModelOpened, Opens}
+use Rattle.opening.specs.Models.{ModelHeld, ModelRead, ModelOpened}
+use Rattle.steady.specs.declared.Profile.{Profile}
+use Rattle.steady.specs.declared.Profile.the-variants.{Plain, Steady}
+use Rattle.steady.specs.Opens.{openingUnder, OpenedUnder, OpensUnder}
+use Rattle.engine.specs.Asks.{askUnder}
 use Rattle.engine.proofs.Shows.{none-gives}
 
 module _ (text t roots scopes : List ℕ) where
   -- ---- opening
-  pub opened-is : {r : Opened} {x : Model} {k : ℕ} → Opens text t roots scopes r → r ≡ Accepted x k → ModelOpened text t roots scopes x k
-  unfolding Opens
-  opened-is o e = rw e at o
+  pub opened-is : (q : Profile) {r : Opened} {x : Model} {k : ℕ} → OpensUnder q text t roots scopes r → r ≡ Accepted x k → OpenedUnder q text t roots scopes x k
+  unfolding OpensUnder
+  opened-is q o e = rw e at o
 
-  pub refused-is : {r : Opened} {n p : ℕ} → Opens text t roots scopes r → r ≡ Refused n p → opening text ≡ refused n p
-  unfolding Opens
-  refused-is o e = rw e at o
+  pub refused-is : (q : Profile) {r : Opened} {n p : ℕ} → OpensUnder q text t roots scopes r → r ≡ Refused n p → openingUnder q text ≡ refused n p
+  unfolding OpensUnder
+  refused-is q o e = rw e at o
 
   pub short : {x : Model} {k : ℕ} → ModelOpened text t roots scopes x k → length text ≤ textLimit
   short o = opened-short text (o .model) (o .opens)
@@ -71,9 +75,9 @@ module _ (text t roots scopes : List ℕ) where
   pub whole : {x : Model} {p : ℕ} (o : ModelHeld text t roots scopes x p) → Whole t roots scopes (x .root) (x .variables) (x .sums) (x .channels) (o .model)
   whole {x} o = record { definitions = x .definitions; represents = o .shown; good = held-good text (o .model) (o .holds) }
 
--- 01, Opening a text: 2 to 10 zero all buffers
-pub refused-gives : (text : List ℕ) (n p : ℕ) (bs : List ℕ) (zs ss : List ℤ) → opening text ≡ refused n p → bs ≡ replicate modelLength 0 → zs ≡ replicate stateLength (pos 0) → ss ≡ replicate savesLength (pos 0)
-    → Gives (opensWith text (opening text) []) (bare n p 0) (lentAll bs zs ss freshClock) []
+-- 01, Opening a text, and 02, note 11: 2 to 10 and 29 zero all buffers
+pub refused-gives : (text : List ℕ) {o : Opening} (n p : ℕ) (bs : List ℕ) (zs ss : List ℤ) → o ≡ refused n p → bs ≡ replicate modelLength 0 → zs ≡ replicate stateLength (pos 0) → ss ≡ replicate savesLength (pos 0)
+    → Gives (opensWith text o []) (bare n p 0) (lentAll bs zs ss freshClock) []
 unfolding opensWith no
 refused-gives text n p bs zs ss e f g h = rw e (record { number = refl; place = refl; branch = refl; count = refl; total = refl; chosen = refl; buffers = zero; output = refl })
   where
@@ -84,8 +88,8 @@ refused-gives text n p bs zs ss e f g h = rw e (record { number = refl; place = 
     zero clock = unfold lentAll fresh in refl
 
 -- 01, Opening a text: acceptance fills model and state; 02, notes 2 and 4: nothing is saved, and the clock is zero
-pub accepted-gives : (text : List ℕ) (m : Resolved.Model) (bs : List ℕ) (zs ss : List ℤ) → opening text ≡ opened m → bs ≡ modelBytes text → zs ≡ stateNumbers (openedState m) → ss ≡ replicate savesLength (pos 0)
-    → Gives (opensWith text (opening text) []) (bare 0 0 0) (lentAll bs zs ss freshClock) []
+pub accepted-gives : (text : List ℕ) {o : Opening} (m : Resolved.Model) (bs : List ℕ) (zs ss : List ℤ) → o ≡ opened m → bs ≡ modelBytes text → zs ≡ stateNumbers (openedState m) → ss ≡ replicate savesLength (pos 0)
+    → Gives (opensWith text o []) (bare 0 0 0) (lentAll bs zs ss freshClock) []
 unfolding opensWith no
 accepted-gives text m bs zs ss e f g h = rw e (record { number = refl; place = refl; branch = refl; count = refl; total = refl; chosen = refl; buffers = full; output = refl })
   where
@@ -94,6 +98,21 @@ accepted-gives text m bs zs ss e f g h = rw e (record { number = refl; place = r
     full state = unfold lentAll numbersOf in g
     full saves = unfold lentAll numbersOf in h ∙ sym no-saves-numbers
     full clock = unfold lentAll numbersOf in refl
+
+-- ---- what an opening is lent, and what it answers, under either profile
+module _ (text : List ℕ) where
+  pub under-lent : (q : Profile) → lentTo (askUnder q text) ≡ fourParts
+  under-lent Plain = refl
+  under-lent Steady = refl
+
+  pub under-output : (q : Profile) → outputOf (askUnder q text) ≡ none
+  under-output Plain = refl
+  under-output Steady = refl
+
+  pub under-answers : (q : Profile) (x : Engine) (l : List ℕ) → answered (askUnder q text) x l ≡ opensWith text (openingUnder q text) l
+  unfolding answered openingUnder
+  under-answers Plain x l = refl
+  under-answers Steady x l = refl
 
 -- 01, Listing, 11: a text that holds no model
 pub closed-gives : (text bs : List ℕ) (zs : List ℤ) (r : Request) (l : List ℕ) → held text ≡ none → Gives (requested r (lentTwo bs zs) l (held text)) (bare 11 0 0) (lentTwo bs zs) l

@@ -3,3 +3,4 @@ pub mod Gives
 pub mod Waited
 pub mod Tables
 pub mod Steps
+pub mod Asks

@@ -1,4 +1,4 @@
-// An engine: its calls open, list, step, report, save, return and forget, and what they answer.
+// An engine: its calls open, open_steady, list, step, step_timed, report, save, return and forget, and what they answer.
 pub mod held;
 pub mod listings;
 pub mod searches;
@@ -9,6 +9,7 @@ pub mod waiting;
 
 use clock::Clock;
 use saves::Layout;
+use steady::Profile;
 use store::Engine;
 use store::buffer::Bytes;
 use store::buffer::Text;
@@ -18,12 +19,13 @@ ghost use mathlib.Core.List.{[]};
 ghost use lib.ListN.{length};
 ghost use Rattle.machine.specs.State.{stateLength};
 ghost use Rattle.machine.specs.Report.{reportLength};
-ghost use Rattle.machine.specs.Machine.{modelLength, listingLength, list′, step′, report′, timed′, save′, return′, forget′, open′, on′};
+ghost use Rattle.machine.specs.Machine.{modelLength, listingLength, list′, step′, report′, timed′, save′, return′, forget′, open′, openSteady′, on′};
 ghost use Rattle.buffers.specs.Parts.{lentTwo, lentThree, lentTimed, lentAll};
 ghost use Rattle.buffers.specs.Effect.{answered, effect};
 ghost use Rattle.independence.specs.Judged.{judged};
 ghost use Rattle.engine.specs.Gives.{bare, filled, Gives, arePartsLong, areLong, areAllLong};
 ghost use Rattle.engine.specs.Waited.{timed};
+ghost use Rattle.engine.specs.Asks.{askUnder};
 
 // What a call answers: 0 or a refusal's number; its place and branch; the listing's entries, their total, and the entry that a step took.
 #[repr(C)]
@@ -126,6 +128,25 @@ fn are_all_long(model: usize, state: usize, saves: usize) -> bool
     saves == Engine::SAVES
 }
 
+// Opens a text under a profile.
+fn open_under(
+    profile: Profile,
+    text: &[u8],
+    model: &mut [u8],
+    state: &mut [i64],
+    saves: &mut [i64],
+    clock: Clock,
+) -> Timed
+    ensures { λ r. ⌜ Gives (effect (askUnder profile (now (text .entry))) (lentAll (now (model .entry)) (now (state .entry)) (now (saves .entry)) clock) []) (r .answer) (lentAll (now (model .exit)) (now (state .exit)) (now (saves .exit)) (r .clock)) [] ⌝ }
+{
+    if !are_all_long(model.len(), state.len(), saves.len()) {
+        return Timed::of(Answer::bare(1, 0, 0), clock);
+    }
+    state::clear_state(saves);
+    let answer = texts::open_lent(profile, text, model, state);
+    Timed::of(answer, Clock::fresh())
+}
+
 // Reads a model text, sets the engine to its start, forgets every save and sets the clock, which goes by value, to zero.
 pub fn open(
     text: &[u8],
@@ -136,12 +157,20 @@ pub fn open(
 ) -> Timed
     ensures { λ r. ⌜ Gives (effect (open′ (now (text .entry))) (lentAll (now (model .entry)) (now (state .entry)) (now (saves .entry)) clock) []) (r .answer) (lentAll (now (model .exit)) (now (state .exit)) (now (saves .exit)) (r .clock)) [] ⌝ }
 {
-    if !are_all_long(model.len(), state.len(), saves.len()) {
-        return Timed::of(Answer::bare(1, 0, 0), clock);
-    }
-    state::clear_state(saves);
-    let answer = texts::open_lent(text, model, state);
-    Timed::of(answer, Clock::fresh())
+    open_under(Profile::Plain, text, model, state, saves, clock)
+}
+
+// The same under the steady profile: a text is refused where a continuation may leave more than one process.
+pub fn open_steady(
+    text: &[u8],
+    model: &mut [u8],
+    state: &mut [i64],
+    saves: &mut [i64],
+    clock: Clock,
+) -> Timed
+    ensures { λ r. ⌜ Gives (effect (openSteady′ (now (text .entry))) (lentAll (now (model .entry)) (now (state .entry)) (now (saves .entry)) clock) []) (r .answer) (lentAll (now (model .exit)) (now (state .exit)) (now (saves .exit)) (r .clock)) [] ⌝ }
+{
+    open_under(Profile::Steady, text, model, state, saves, clock)
 }
 
 // Lists over buffers of the right lengths.
@@ -300,6 +329,21 @@ pub extern "C" fn matgravel_open(
     ensures { λ r. ⌜ Gives (effect (open′ (now (text .entry))) (lentAll (now (model .entry)) (now (state .entry)) (now (saves .entry)) (now (clock .entry))) []) r (lentAll (now (model .exit)) (now (state .exit)) (now (saves .exit)) (now (clock .exit))) [] ⌝ }
 {
     let t = open(text, model, state, saves, *clock);
+    *clock = Timed::clock(t);
+    Timed::answer(t)
+}
+
+#[no_mangle]
+pub extern "C" fn matgravel_open_steady(
+    text: &[u8],
+    model: &mut [u8],
+    state: &mut [i64],
+    saves: &mut [i64],
+    clock: &mut Clock,
+) -> Answer
+    ensures { λ r. ⌜ Gives (effect (openSteady′ (now (text .entry))) (lentAll (now (model .entry)) (now (state .entry)) (now (saves .entry)) (now (clock .entry))) []) r (lentAll (now (model .exit)) (now (state .exit)) (now (saves .exit)) (now (clock .exit))) [] ⌝ }
+{
+    let t = open_steady(text, model, state, saves, *clock);
     *clock = Timed::clock(t);
     Timed::answer(t)
 }

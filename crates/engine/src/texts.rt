@@ -2,6 +2,7 @@
 use crate::Answer;
 use opening::Held;
 use opening::Opened;
+use steady::Profile;
 use syntax::question;
 use token::Limits;
 ghost use mathlib.Core.Path.{_≡_};
@@ -10,7 +11,6 @@ ghost use Prim.Native.Nat.{ℕ, _≤_};
 ghost use lib.IntN.{ℤ, pos};
 ghost use lib.ListN.{length, replicate};
 ghost use Rattle.grammar.specs.Limit.{tokenLimit};
-ghost use Rattle.model.specs.Opening.{opening};
 ghost use Rattle.model.specs.Held.{held};
 ghost use Rattle.machine.specs.State.{stateLength};
 ghost use Rattle.machine.specs.Saves.{savesLength};
@@ -20,12 +20,13 @@ ghost use Rattle.clock.specs.Clock.{freshClock};
 ghost use Rattle.buffers.specs.Parts.{lentTwo, lentAll};
 ghost use Rattle.buffers.specs.Effect.{opensWith, requested};
 ghost use Rattle.opening.specs.Models.{ModelRead};
+ghost use Rattle.steady.specs.Opens.{openingUnder};
 ghost use Rattle.engine.specs.Gives.{Gives};
 
-// Opens a text into buffers of the right lengths, where nothing is saved.
-pub fn open_lent(text: &[u8], model: &mut [u8], state: &mut [i64]) -> Answer
+// Opens a text under a profile into buffers of the right lengths, where nothing is saved.
+pub fn open_lent(profile: Profile, text: &[u8], model: &mut [u8], state: &mut [i64]) -> Answer
     requires { ⌜ (length (now model) ≡ modelLength) × (length (now state) ≡ stateLength) ⌝ }
-    ensures { λ r. ⌜ ((ss : List ℤ) → ss ≡ replicate savesLength (pos 0) → Gives (opensWith (now (text .entry)) (opening (now (text .entry))) []) r (lentAll (now (model .exit)) (now (state .exit)) ss freshClock) []) ⌝ }
+    ensures { λ r. ⌜ ((ss : List ℤ) → ss ≡ replicate savesLength (pos 0) → Gives (opensWith (now (text .entry)) (openingUnder profile (now (text .entry))) []) r (lentAll (now (model .exit)) (now (state .exit)) ss freshClock) []) ⌝ }
 {
     let mut kinds = [0u8; Limits::TEXT];
     let mut places = [0u16; Limits::TEXT];
@@ -37,7 +38,8 @@ pub fn open_lent(text: &[u8], model: &mut [u8], state: &mut [i64]) -> Answer
     let mut scopes = [0u16; question::Limits::TOKENS];
     let mut names = [0u64; question::Limits::TOKENS];
     store::buffer::put_fresh(model, state);
-    let opened = opening::open_text(
+    let opened = steady::open_under(
+        profile,
         text,
         &mut kinds,
         &mut places,

@@ -13,11 +13,11 @@ use Rattle.token.specs.Bytes.{isDigit, within}
 use Rattle.token.specs.Token.{sameBytes}
 use Rattle.token.proofs.Words.{same-is}
 use Rattle.lines.specs.declared.line.Line.{Line}
-use Rattle.lines.specs.declared.line.Line.the-variants.{Open, List as Listing, Step, State, Report, Save, Return, Forget, Time, Wait, Clock, Independent, Bad}
+use Rattle.lines.specs.declared.line.Line.the-variants.{Open, Steady, List as Listing, Step, State, Report, Save, Return, Forget, Time, Wait, Clock, Independent, Bad}
 use Rattle.lines.specs.declared.line.Rest.{Rest}
 use Rattle.lines.specs.declared.line.Rest.the-variants.{Nothing, Number, T, Other}
 use Rattle.lines.specs.declared.line.Reading.{Reading}
-use Rattle.lines.specs.Line.{listBytes, stateBytes, reportBytes, openBytes, stepBytes, saveBytes, returnBytes, forgetBytes, timeBytes, waitBytes, clockBytes, independentBytes, small, keptLimit, kept, digitsOnly, isNumber, given, lineOf, restOf, restNext, packed, headOf, afterOf, twoBytes, returnEnd, forgetEnd, afterNext, keptNext, ended, numbered, bare, lettered, Bytes, Reads}
+use Rattle.lines.specs.Line.{listBytes, stateBytes, reportBytes, openBytes, steadyBytes, stepBytes, saveBytes, returnBytes, forgetBytes, timeBytes, waitBytes, clockBytes, independentBytes, small, keptLimit, kept, digitsOnly, isNumber, given, lineOf, restOf, restNext, packed, headOf, afterOf, twoBytes, returnEnd, forgetEnd, steadyEnd, afterNext, lateNext, keptNext, ended, steadied, numbered, bare, lettered, Bytes, Reads}
 use Rattle.lines.specs.declared.two.Two.{Two}
 use Rattle.lines.specs.Two.{begun, run, twoNext, paired}
 use Rattle.lines.proofs.Rests.{rest-on}
@@ -65,6 +65,9 @@ waitHead = 1612247036960
 abbrev clockHead : ℕ
 clockHead = 1526532629355
 
+abbrev steadyHead : ℕ
+steadyHead = 1595385667940
+
 -- ---- fewer than five bytes, or five and more
 data Size : List ℕ → Type 0 where
   none : Size []
@@ -90,19 +93,22 @@ bytes-on (a ∷ s) b h k = (h .0, bytes-on s b (h .1) k)
 record Short (s : List ℕ) (b : ℕ) : Type 0 where
   head : headOf (s ++ (b ∷ [])) ≡ headOf s * 256 + b
   rest : drop 5 (s ++ (b ∷ [])) ≡ drop 5 s
+  late : drop 7 (s ++ (b ∷ [])) ≡ drop 7 s
 
 short : {s : List ℕ} (b : ℕ) → Size s → headOf s < full → Short s b
 unfolding headOf packed
-short b none l = record { head = refl; rest = refl }
-short b one l = record { head = refl; rest = refl }
-short b two l = record { head = refl; rest = refl }
-short b three l = record { head = refl; rest = refl }
-short b four l = record { head = refl; rest = refl }
+short b none l = record { head = refl; rest = refl; late = refl }
+short b one l = record { head = refl; rest = refl; late = refl }
+short b two l = record { head = refl; rest = refl; late = refl }
+short b three l = record { head = refl; rest = refl; late = refl }
+short b four l = record { head = refl; rest = refl; late = refl }
 short b five l = absurd (omega arith)
 
 record Long (s : List ℕ) (b : ℕ) : Type 0 where
   head : headOf (s ++ (b ∷ [])) ≡ headOf s
   rest : drop 5 (s ++ (b ∷ [])) ≡ drop 5 s ++ (b ∷ [])
+  late : drop 7 s ≡ drop 2 (drop 5 s)
+  late-on : drop 7 (s ++ (b ∷ [])) ≡ drop 2 (drop 5 s ++ (b ∷ []))
 
 long : {s : List ℕ} (b : ℕ) → Size s → Bytes s → full ≤ headOf s → Long s b
 unfolding headOf packed
@@ -111,7 +117,7 @@ long b one h l = absurd (omega arith)
 long b two h l = absurd (omega arith)
 long b three h l = absurd (omega arith)
 long b four h l = absurd (omega arith)
-long b five h l = record { head = refl; rest = refl }
+long b five h l = record { head = refl; rest = refl; late = refl; late-on = refl }
 
 -- the two bytes after the first five, with one more
 bytes-drop : (n : ℕ) (s : List ℕ) → Bytes s → Bytes (drop n s)
@@ -125,6 +131,13 @@ after-on [] b h = refl
 after-on (x ∷ []) b h = rw (lt-ltb (256 + x) twoBytes (omega (arith, h .0)))
 after-on (x ∷ y ∷ u) b h = rw (le-ltb ((256 + x) * 256 + y) twoBytes (omega arith))
 
+-- what stands after these, with one more
+late-after : (u : List ℕ) (b : ℕ) → Bytes u → lateNext (packed 1 (take 2 u)) (restOf (drop 2 u)) b ≡ restOf (drop 2 (u ++ (b ∷ [])))
+unfolding packed lateNext
+late-after [] b h = refl
+late-after (x ∷ []) b h = rw (lt-ltb (256 + x) twoBytes (omega (arith, h .0)))
+late-after (x ∷ y ∷ u) b h = rw (le-ltb ((256 + x) * 256 + y) twoBytes (omega arith)) (sym (rest-on u b))
+
 kept-on : (s : List ℕ) (b : ℕ) → keptNext (kept s) ≡ kept (s ++ (b ∷ []))
 unfolding kept keptNext
 kept-on s b = by (ltb (min keptLimit (length s)) keptLimit) refl
@@ -133,7 +146,7 @@ kept-on s b = by (ltb (min keptLimit (length s)) keptLimit) refl
     by true e = omega (arith, ltb-true (min keptLimit (length s)) keptLimit e, length-append s (b ∷ []))
     by false e = omega (arith, ltb-false (min keptLimit (length s)) keptLimit e, length-append s (b ∷ []))
 
-pub short-on : {s : List ℕ} {r : Reading} (b k′ : ℕ) → Reads s r → b < 256 → r .head < full → k′ ≡ keptNext (r .kept) → Reads (s ++ (b ∷ [])) (record { head = r .head * 256 + b; rest = r .rest; after = r .after; kept = k′; two = r .two })
+pub short-on : {s : List ℕ} {r : Reading} (b k′ : ℕ) → Reads s r → b < 256 → r .head < full → k′ ≡ keptNext (r .kept) → Reads (s ++ (b ∷ [])) (record { head = r .head * 256 + b; rest = r .rest; after = r .after; late = r .late; kept = k′; two = r .two })
 unfolding afterOf
 short-on {s} {r} b k′ h k l n =
     let e = short b (size s) (rw (← h .head) l) in
@@ -142,20 +155,23 @@ short-on {s} {r} b k′ h k l n =
       head = ap (λ (x : ℕ). x * 256 + b) (h .head) ∙ sym (e .head);
       rest = h .rest ∙ ap restOf (sym (e .rest));
       after = h .after ∙ ap (λ (u : List ℕ). packed 1 (take 2 u)) (sym (e .rest));
+      late = h .late ∙ ap restOf (sym (e .late));
       kept = n ∙ ap keptNext (h .kept) ∙ kept-on s b;
       two = h .two ∙ ap (run begun) (sym (e .rest));
     }
 
-pub long-on : {s : List ℕ} {r : Reading} (b : ℕ) (t : Rest) (a k′ : ℕ) (u : Two) → Reads s r → b < 256 → full ≤ r .head → t ≡ restNext (r .rest) b → a ≡ afterNext (r .after) b → k′ ≡ keptNext (r .kept) → u ≡ twoNext (r .two) b
-    → Reads (s ++ (b ∷ [])) (record { head = r .head; rest = t; after = a; kept = k′; two = u })
+pub long-on : {s : List ℕ} {r : Reading} (b : ℕ) (t : Rest) (a : ℕ) (q : Rest) (k′ : ℕ) (u : Two) → Reads s r → b < 256 → full ≤ r .head → t ≡ restNext (r .rest) b → a ≡ afterNext (r .after) b → q ≡ lateNext (r .after) (r .late) b → k′ ≡ keptNext (r .kept) → u ≡ twoNext (r .two) b
+    → Reads (s ++ (b ∷ [])) (record { head = r .head; rest = t; after = a; late = q; kept = k′; two = u })
 unfolding afterOf
-long-on {s} {r} b t a k′ u h k l n m j w =
+long-on {s} {r} b t a q k′ u h k l n m p j w =
     let e = long b (size s) (h .bytes) (rw (← h .head) l) in
     record {
       bytes = bytes-on s b (h .bytes) k;
       head = h .head ∙ sym (e .head);
       rest = n ∙ ap (λ (x : Rest). restNext x b) (h .rest) ∙ sym (rest-on (drop 5 s) b) ∙ ap restOf (sym (e .rest));
       after = m ∙ ap (λ (x : ℕ). afterNext x b) (h .after) ∙ after-on (drop 5 s) b (bytes-drop 5 s (h .bytes)) ∙ ap (λ (u : List ℕ). packed 1 (take 2 u)) (sym (e .rest));
+      late =
+          p ∙ ap₂ (λ (x : ℕ) (y : Rest). lateNext x y b) (h .after) (h .late ∙ ap restOf (e .late)) ∙ late-after (drop 5 s) b (bytes-drop 5 s (h .bytes)) ∙ ap restOf (sym (e .late-on));
       kept = j ∙ ap keptNext (h .kept) ∙ kept-on s b;
       two = w ∙ ap (λ (x : Two). twoNext x b) (h .two) ∙ sym (run-on begun (drop 5 s) b) ∙ ap (run begun) (sym (e .rest));
     }
@@ -316,6 +332,19 @@ forget-then : (u : List ℕ) → Bytes u → ended Forget forgetEnd (packed 1 (t
 unfolding lineOf sameBytes ended
 forget-then u h = ap (λ (t : Bool). cond t (Forget (kept (forge ++ u))) Bad) (pair-is 116 32 u h (omega arith) (omega arith))
 
+-- the first five bytes of `steady `
+abbrev stead : List ℕ
+stead = take 5 steadyBytes
+
+late-then : (u : List ℕ) → numbered Steady (restOf u) ≡ given Steady u
+unfolding restOf given isNumber sameBytes
+late-then [] = refl
+late-then (b ∷ u) = by-number Steady (isNumber (b ∷ u)) (eqb b 116 && sameBytes u []) (worth 0 (b ∷ u))
+
+steady-then : (u : List ℕ) → Bytes u → steadied (packed 1 (take 2 u)) (restOf (drop 2 u)) ≡ lineOf (stead ++ u)
+unfolding lineOf sameBytes steadied
+steady-then u h = ap₂ (λ (t : Bool) (l : Line). cond t l Bad) (pair-is 121 32 u h (omega arith) (omega arith)) (late-then (drop 2 u))
+
 differ : (s t : List ℕ) → (s ≡ t → ⊥) → sameBytes s t ≡ false
 differ s t n = by (sameBytes s t) refl
   where
@@ -401,19 +430,26 @@ module _ {s : List ℕ} {r : Reading} (h : Reads s r) where
       let w = word clockHead clockBytes (omega arith, (omega arith, (omega arith, (omega arith, (omega arith, tt))))) refl (omega arith) refl e in
       f ∙ ap (bare Clock) (h .rest) ∙ clock-then (drop 5 s) ∙ ap lineOf (sym w)
 
+  pub says-steady : {x : Line} → r .head ≡ steadyHead → x ≡ steadied (r .after) (r .late) → x ≡ lineOf s
+  unfolding packed afterOf
+  says-steady e f =
+      let w = word steadyHead stead (omega arith, (omega arith, (omega arith, (omega arith, (omega arith, tt))))) refl (omega arith) refl e in
+      f ∙ ap₂ steadied (h .after) (h .late ∙ ap (λ (u : List ℕ). restOf (drop 7 u)) w) ∙ steady-then (drop 5 s) (bytes-drop 5 s (h .bytes)) ∙ ap lineOf (sym w)
+
   -- a word of seven bytes has its first five
   first-five : (t : List ℕ) → take 7 s ≡ t → take 5 s ≡ take 5 t
   first-five t e = sym (take-take 5 7 s (omega arith)) ∙ ap (take 5) e
 
   pub says-bad : (r .head ≡ listHead → ⊥) → (r .head ≡ stateHead → ⊥) → (r .head ≡ reportHead → ⊥) → (r .head ≡ openHead → ⊥) → (r .head ≡ stepHead → ⊥) → (r .head ≡ saveHead → ⊥) → (r .head ≡ returnHead → ⊥) → (r .head ≡ forgetHead → ⊥)
-      → (r .head ≡ timeHead → ⊥) → (r .head ≡ waitHead → ⊥) → (r .head ≡ clockHead → ⊥) → (r .head ≡ indepHead → ⊥) → Bad ≡ lineOf s
+      → (r .head ≡ timeHead → ⊥) → (r .head ≡ waitHead → ⊥) → (r .head ≡ clockHead → ⊥) → (r .head ≡ indepHead → ⊥) → (r .head ≡ steadyHead → ⊥) → Bad ≡ lineOf s
   unfolding lineOf headOf packed
-  says-bad l t q o p v m g i j k z =
+  says-bad l t q o p v m g i j k z y =
       simp (
         differ s listBytes (λ e. l (h .head ∙ ap headOf e)),
         differ s stateBytes (λ e. t (h .head ∙ ap headOf e)),
         differ s reportBytes (λ e. q (h .head ∙ ap headOf e)),
         differ (take 5 s) openBytes (λ e. o (h .head ∙ ap (packed 1) e)),
+        differ (take 7 s) steadyBytes (λ e. y (h .head ∙ ap (packed 1) (first-five steadyBytes e))),
         differ (take 5 s) stepBytes (λ e. p (h .head ∙ ap (packed 1) e)),
         differ (take 5 s) saveBytes (λ e. v (h .head ∙ ap (packed 1) e)),
         differ (take 7 s) returnBytes (λ e. m (h .head ∙ ap (packed 1) (first-five returnBytes e))),

@@ -2,6 +2,7 @@
 use mathlib.Core.Path.{_≡_, refl, sym, ap, _∙_, subst}
 use mathlib.Core.List.{List, [], _∷_, _++_, append-assoc, append-nil}
 use mathlib.Core.Bool.{Bool, true, false, cond}
+use mathlib.Core.Option.{some}
 use Prim.Native.Nat.{ℕ, _+_, _%_, _≤_, _<_}
 use native.Mathlib.Nat.{mod-add-mod}
 use native.Mathlib.Numerals.{add-one}
@@ -11,7 +12,7 @@ use lib.ListN.{length, length-append}
 use borrow.Author.Tests.{eq-eqb, ne-eqb}
 use Rattle.token.specs.Bytes.{lineFeed}
 use Rattle.lines.specs.declared.line.Line.{Line}
-use Rattle.lines.specs.declared.line.Line.the-variants.{Open, List as Listing, Step, State, Report, Save, Return, Forget, Time, Wait, Clock, Independent, Bad}
+use Rattle.lines.specs.declared.line.Line.the-variants.{Open, Steady, List as Listing, Step, State, Report, Save, Return, Forget, Time, Wait, Clock, Independent, Bad}
 use Rattle.lines.specs.declared.line.Rest.the-variants.{Nothing}
 use Rattle.lines.specs.declared.line.Reading.{Reading}
 use Rattle.lines.specs.declared.script.Part.{Part}
@@ -24,7 +25,7 @@ use Rattle.lines.specs.Limit.{limit}
 use Rattle.lines.specs.Two.{run}
 use Rattle.lines.specs.Line.{lineOf, empty, restOf, packed, headOf, afterOf, kept, Reads}
 use Rattle.lines.proofs.Heads.{none-read, some-read}
-use Rattle.lines.specs.Script.{breaks, numberAfter, isShort, Items, LineBegun, TextBegun, Stands, Misplaced, Takes, Cut, Ends, next, fresh, ended}
+use Rattle.lines.specs.Script.{breaks, numberAfter, isShort, textOf, Items, LineBegun, TextBegun, Stands, Misplaced, Takes, Cut, Ends, next, fresh, ended}
 
 -- ---- lines are counted
 breaks-append : (s t : List ℕ) → breaks (s ++ t) ≡ breaks s + breaks t
@@ -57,7 +58,7 @@ after-other s b line n h = h ∙ same-number s (s ++ (b ∷ [])) (let e = breaks
 -- ---- no byte of a line
 empty-reads : Reads [] empty
 unfolding headOf packed restOf afterOf kept run
-empty-reads = record { bytes = tt; head = refl; rest = refl; after = refl; kept = refl; two = refl }
+empty-reads = record { bytes = tt; head = refl; rest = refl; after = refl; late = refl; kept = refl; two = refl }
 
 no-breaks : breaks [] ≡ 0
 unfolding breaks
@@ -102,8 +103,8 @@ module _ {s : List ℕ} {qs : List Line} {from : ℕ} {r : Reading} (x : LineBeg
       (subst (λ (u : List ℕ). Items u (qs ++ (lineOf (x .line) ∷ []))) (ap (λ (y : ℕ). x .items ++ (x .line ++ (y ∷ []))) (sym e) ∙ sym line-on) (Items.short (x .line) (x .whole) (x .unbroken) h))
       (after-break s b from e from-here)
 
-  line-open : {n : ℕ} → b ≡ lineFeed → lineOf (x .line) ≡ Open n → Stands (s ++ (b ∷ [])) qs (record { line = next from; from = from; part = InText n 0 })
-  line-open e h =
+  line-open : {q : Line} {n : ℕ} → b ≡ lineFeed → lineOf (x .line) ≡ q → textOf q ≡ some n → Stands (s ++ (b ∷ [])) qs (record { line = next from; from = from; part = InText q n 0 })
+  line-open e h a =
       record {
         line-is = after-break s b from e from-here;
         begun =
@@ -115,6 +116,7 @@ module _ {s : List ℕ} {qs : List Line} {from : ℕ} {r : Reading} (x : LineBeg
               whole = x .whole;
               unbroken = x .unbroken;
               opens = h;
+              asks = a;
               size = refl;
               fits = omega arith;
               from-is = x .from-is;
@@ -123,7 +125,8 @@ module _ {s : List ℕ} {qs : List Line} {from : ℕ} {r : Reading} (x : LineBeg
 
   -- by what the line says
   ends-so : (l : Line) → b ≡ lineFeed → lineOf (x .line) ≡ l → Takes s qs b (ended from l)
-  ends-so (Open n) e h = line-open e h
+  ends-so (Open n) e h = line-open e h refl
+  ends-so (Steady n) e h = line-open e h refl
   ends-so Listing e h = subst (λ (l : Line). Stands (s ++ (b ∷ [])) (qs ++ (l ∷ [])) (fresh (next from))) h (line-short e (ap isShort h))
   ends-so (Step d) e h = subst (λ (l : Line). Stands (s ++ (b ∷ [])) (qs ++ (l ∷ [])) (fresh (next from))) h (line-short e (ap isShort h))
   ends-so State e h = subst (λ (l : Line). Stands (s ++ (b ∷ [])) (qs ++ (l ∷ [])) (fresh (next from))) h (line-short e (ap isShort h))
@@ -141,14 +144,14 @@ module _ {s : List ℕ} {qs : List Line} {from : ℕ} {r : Reading} (x : LineBeg
   line-ends {l} e h t = subst (Takes s qs b) (sym t) (ends-so l e (sym h))
 
 -- ---- in a text
-module _ {s : List ℕ} {qs : List Line} {from n k : ℕ} (x : TextBegun s qs from n k) (b : ℕ) where
+module _ {s : List ℕ} {qs : List Line} {from : ℕ} {q : Line} {n k : ℕ} (x : TextBegun s qs from q n k) (b : ℕ) where
   text-on : s ++ (b ∷ []) ≡ x .items ++ (x .line ++ (lineFeed ∷ (x .text ++ (b ∷ []))))
   text-on =
       ap (λ (u : List ℕ). u ++ (b ∷ [])) (x .is)
       ∙ append-assoc (x .items) (x .line ++ (lineFeed ∷ x .text)) (b ∷ [])
       ∙ ap (λ (u : List ℕ). x .items ++ u) (append-assoc (x .line) (lineFeed ∷ x .text) (b ∷ []))
 
-  pub text-goes : {line : ℕ} → k < n → line ≡ numberAfter (s ++ (b ∷ [])) → Stands (s ++ (b ∷ [])) qs (record { line = line; from = from; part = InText n (k + 1) })
+  pub text-goes : {line : ℕ} → k < n → line ≡ numberAfter (s ++ (b ∷ [])) → Stands (s ++ (b ∷ [])) qs (record { line = line; from = from; part = InText q n (k + 1) })
   text-goes l e =
       record {
         line-is = e;
@@ -161,22 +164,24 @@ module _ {s : List ℕ} {qs : List Line} {from n k : ℕ} (x : TextBegun s qs fr
               whole = x .whole;
               unbroken = x .unbroken;
               opens = x .opens;
+              asks = x .asks;
               size = ap (λ (y : ℕ). y + 1) (x .size) ∙ sym (length-append (x .text) (b ∷ []));
               fits = omega arith;
               from-is = x .from-is;
             };
       }
 
-  pub text-ends : {line : ℕ} → n ≤ k → b ≡ lineFeed → line ≡ numberAfter s → Stands (s ++ (b ∷ [])) (qs ++ (Open n ∷ [])) (fresh (next line))
+  pub text-ends : {line : ℕ} → n ≤ k → b ≡ lineFeed → line ≡ numberAfter s → Stands (s ++ (b ∷ [])) (qs ++ (q ∷ [])) (fresh (next line))
   text-ends {line} l e h =
       let f = x .fits in
       let z = x .size in
       begins
-      (subst (λ (u : List ℕ). Items u (qs ++ (Open n ∷ []))) (ap (λ (y : ℕ). x .items ++ (x .line ++ (lineFeed ∷ (x .text ++ (y ∷ []))))) (sym e) ∙ sym text-on) (Items.text (x .line) (x .text) (x .whole) (x .unbroken) (x .opens) (omega arith)))
+      (subst (λ (u : List ℕ). Items u (qs ++ (q ∷ []))) (ap (λ (y : ℕ). x .items ++ (x .line ++ (lineFeed ∷ (x .text ++ (y ∷ []))))) (sym e) ∙ sym text-on)
+      (subst (λ (l : Line). Items (x .items ++ (x .line ++ (lineFeed ∷ (x .text ++ (lineFeed ∷ []))))) (qs ++ (l ∷ []))) (x .opens) (Items.text (x .line) (x .text) (x .whole) (x .unbroken) (ap textOf (x .opens) ∙ x .asks) (omega arith))))
       (after-break s b line e h)
 
   pub text-wrong : n ≤ k → (b ≡ lineFeed → ⊥) → Misplaced s b from
-  text-wrong l h = Misplaced.of-text (subst (λ (y : ℕ). TextBegun s qs from y k) same x) h
+  text-wrong l h = Misplaced.of-text (subst (λ (y : ℕ). TextBegun s qs from q y k) same x) h
     where
       same : n ≡ k
       same = let f = x .fits in omega arith

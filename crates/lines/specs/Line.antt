@@ -9,14 +9,14 @@ use Rattle.word.specs.Number.{worth, digitOf}
 use Rattle.token.specs.Bytes.{isDigit}
 use Rattle.token.specs.Token.{sameBytes}
 use Rattle.lines.specs.declared.line.Line.{Line}
-use Rattle.lines.specs.declared.line.Line.the-variants.{Open, List as Listing, Step, State, Report, Save, Return, Forget, Time, Wait, Clock, Independent, Bad}
+use Rattle.lines.specs.declared.line.Line.the-variants.{Open, Steady, List as Listing, Step, State, Report, Save, Return, Forget, Time, Wait, Clock, Independent, Bad}
 use Rattle.lines.specs.declared.line.Rest.{Rest}
 use Rattle.lines.specs.declared.line.Rest.the-variants.{Nothing, Number, T, Other}
 use Rattle.lines.specs.declared.line.Reading.{Reading}
 use Rattle.lines.specs.Limit.{limit}
 use Rattle.lines.specs.Two.{begun, run}
 
--- `list`, `state`, `report`, `open `, `step ` and `independent `
+-- `list`, `state`, `report`, `open `, `steady `, `step ` and `independent `
 abbrev pub listBytes : List ℕ
 listBytes = 108 ∷ 105 ∷ 115 ∷ 116 ∷ []
 
@@ -28,6 +28,9 @@ reportBytes = 114 ∷ 101 ∷ 112 ∷ 111 ∷ 114 ∷ 116 ∷ []
 
 abbrev pub openBytes : List ℕ
 openBytes = 111 ∷ 112 ∷ 101 ∷ 110 ∷ 32 ∷ []
+
+abbrev pub steadyBytes : List ℕ
+steadyBytes = 115 ∷ 116 ∷ 101 ∷ 97 ∷ 100 ∷ 121 ∷ 32 ∷ []
 
 abbrev pub stepBytes : List ℕ
 stepBytes = 115 ∷ 116 ∷ 101 ∷ 112 ∷ 32 ∷ []
@@ -93,13 +96,14 @@ givenTwo s = cond (isNumber (beforeBlank s) && isNumber (afterBlank s)) (Indepen
 unfoldable pub small : ℕ → Line
 small n = cond (ltb n 65536) (Wait n) Bad
 
--- the twelve forms; every other line is bad
+-- the thirteen forms; every other line is bad
 unfoldable pub lineOf : List ℕ → Line
 lineOf s =
     cond (sameBytes s listBytes) Listing
     (cond (sameBytes s stateBytes) State
     (cond (sameBytes s reportBytes) Report
     (cond (sameBytes (take 5 s) openBytes) (given Open (drop 5 s))
+    (cond (sameBytes (take 7 s) steadyBytes) (given Steady (drop 7 s))
     (cond (sameBytes (take 5 s) stepBytes) (given Step (drop 5 s))
     (cond (sameBytes (take 5 s) saveBytes) (Save (kept s))
     (cond (sameBytes (take 7 s) returnBytes) (Return (kept s))
@@ -107,12 +111,17 @@ lineOf s =
     (cond (sameBytes (take 5 s) timeBytes) (given Time (drop 5 s))
     (cond (sameBytes (take 5 s) waitBytes) (given small (drop 5 s))
     (cond (sameBytes s clockBytes) Clock
-    (cond (sameBytes (take 12 s) independentBytes) (givenTwo (drop 12 s)) Bad)))))))))))
+    (cond (sameBytes (take 12 s) independentBytes) (givenTwo (drop 12 s)) Bad))))))))))))
 
 -- `step 307`
 step-line : lineOf (115 ∷ 116 ∷ 101 ∷ 112 ∷ 32 ∷ 51 ∷ 48 ∷ 55 ∷ []) ≡ Step 307
 unfolding lineOf given isNumber digitsOnly isDigit Rattle.token.specs.Bytes.within sameBytes worth
 step-line = refl
+
+-- `steady 23`, `steady` and `steady23`
+steady-lines : (lineOf (steadyBytes ++ (50 ∷ 51 ∷ [])) ≡ Steady 23) × ((lineOf (take 6 steadyBytes) ≡ Bad) × (lineOf (take 6 steadyBytes ++ (50 ∷ 51 ∷ [])) ≡ Bad))
+unfolding lineOf given isNumber digitsOnly isDigit Rattle.token.specs.Bytes.within sameBytes worth
+steady-lines = (refl, (refl, refl))
 
 -- `wait 65535` and `wait 65536`
 wait-lines : (lineOf (waitBytes ++ (54 ∷ 53 ∷ 53 ∷ 51 ∷ 53 ∷ [])) ≡ Wait 65535) × (lineOf (waitBytes ++ (54 ∷ 53 ∷ 53 ∷ 51 ∷ 54 ∷ [])) ≡ Bad)
@@ -213,7 +222,7 @@ lettered says Other = Bad
 unfoldable pub afterOf : List ℕ → ℕ
 afterOf s = packed 1 (take 2 (drop 5 s))
 
--- the least number of two bytes, and the ends of `return ` and `forget `
+-- the least number of two bytes, and the ends of `return `, `forget ` and `steady `
 abbrev pub twoBytes : ℕ
 twoBytes = 65536
 
@@ -223,8 +232,15 @@ returnEnd = 93728
 abbrev pub forgetEnd : ℕ
 forgetEnd = 95264
 
+abbrev pub steadyEnd : ℕ
+steadyEnd = 96544
+
 unfoldable pub afterNext : ℕ → ℕ → ℕ
 afterNext a b = cond (ltb a twoBytes) (a * 256 + b) a
+
+-- what stands after the first seven bytes with one more byte, from the two before them
+unfoldable pub lateNext : ℕ → Rest → ℕ → Rest
+lateNext a r b = cond (ltb a twoBytes) r (restNext r b)
 
 unfoldable pub keptNext : ℕ → ℕ
 keptNext k = cond (ltb k keptLimit) (k + 1) k
@@ -232,6 +248,10 @@ keptNext k = cond (ltb k keptLimit) (k + 1) k
 -- a line that ends a word so, and has so many bytes
 unfoldable pub ended : (ℕ → Line) → ℕ → ℕ → ℕ → Line
 ended says end after k = cond (eqb after end) (says k) Bad
+
+-- a line that ends its word as `steady ` does, and what stands after that
+unfoldable pub steadied : ℕ → Rest → Line
+steadied after late = cond (eqb after steadyEnd) (numbered Steady late) Bad
 
 abbrev pub Bytes : List ℕ → Type 0
 Bytes [] = Unit {0}
@@ -243,9 +263,10 @@ pub record Reads (s : List ℕ) (r : Reading) : Type 0 where
   pub head : r .head ≡ headOf s
   pub rest : r .rest ≡ restOf (drop 5 s)
   pub after : r .after ≡ afterOf s
+  pub late : r .late ≡ restOf (drop 7 s)
   pub kept : r .kept ≡ kept s
   pub two : r .two ≡ run begun (drop 5 s)
 
 -- no byte yet
 abbrev pub empty : Reading
-empty = record { head = 1; rest = Nothing; after = 1; kept = 0; two = begun }
+empty = record { head = 1; rest = Nothing; after = 1; late = Nothing; kept = 0; two = begun }

@@ -2,12 +2,13 @@
 use mathlib.Core.Path.{_≡_}
 use mathlib.Core.List.{List, [], _∷_, _++_}
 use mathlib.Core.Bool.{Bool, true, false, cond}
+use mathlib.Core.Option.{Option, none as nothing, some}
 use Prim.Native.Nat.{ℕ, _+_, _%_, _≤_, _<_}
 use lib.Dec.{eqb}
 use lib.ListN.{length}
 use Rattle.token.specs.Bytes.{lineFeed}
 use Rattle.lines.specs.declared.line.Line.{Line}
-use Rattle.lines.specs.declared.line.Line.the-variants.{Open, List as Listing, Step, State, Report, Save, Return, Forget, Time, Wait, Clock, Independent, Bad}
+use Rattle.lines.specs.declared.line.Line.the-variants.{Open, Steady, List as Listing, Step, State, Report, Save, Return, Forget, Time, Wait, Clock, Independent, Bad}
 use Rattle.lines.specs.declared.line.Reading.{Reading}
 use Rattle.lines.specs.declared.script.Part.{Part}
 use Rattle.lines.specs.declared.script.Part.the-variants.{InLine, InText}
@@ -31,6 +32,7 @@ numberAfter s = (1 + breaks s) % limit
 -- a line that asks for a call, for the state or the clock, or of two entries, or gives a waiting draw, by itself
 abbrev pub isShort : Line → Bool
 isShort (Open n) = false
+isShort (Steady n) = false
 isShort Listing = true
 isShort (Step d) = true
 isShort State = true
@@ -44,11 +46,28 @@ isShort Clock = true
 isShort (Independent i j) = true
 isShort Bad = false
 
--- bytes that are whole items: such a line and LF, or a line `open n`, LF, n bytes and LF; and what they ask for in turn
+-- how many bytes of a text a line asks for
+abbrev pub textOf : Line → Option ℕ
+textOf (Open n) = some n
+textOf (Steady n) = some n
+textOf Listing = nothing
+textOf (Step d) = nothing
+textOf State = nothing
+textOf Report = nothing
+textOf (Save n) = nothing
+textOf (Return n) = nothing
+textOf (Forget n) = nothing
+textOf (Time d) = nothing
+textOf (Wait d) = nothing
+textOf Clock = nothing
+textOf (Independent i j) = nothing
+textOf Bad = nothing
+
+-- bytes that are whole items: such a line and LF, or a line `open n` or `steady n`, LF, n bytes and LF; and what they ask for in turn
 pub data Items : List ℕ → List Line → Type 0 where
   none : Items [] []
   short : {s : List ℕ} {qs : List Line} (l : List ℕ) → Items s qs → breaks l ≡ 0 → isShort (lineOf l) ≡ true → Items (s ++ (l ++ (lineFeed ∷ []))) (qs ++ (lineOf l ∷ []))
-  text : {s : List ℕ} {qs : List Line} {n : ℕ} (l t : List ℕ) → Items s qs → breaks l ≡ 0 → lineOf l ≡ Open n → length t ≡ n → Items (s ++ (l ++ (lineFeed ∷ (t ++ (lineFeed ∷ []))))) (qs ++ (Open n ∷ []))
+  text : {s : List ℕ} {qs : List Line} {n : ℕ} (l t : List ℕ) → Items s qs → breaks l ≡ 0 → textOf (lineOf l) ≡ some n → length t ≡ n → Items (s ++ (l ++ (lineFeed ∷ (t ++ (lineFeed ∷ []))))) (qs ++ (lineOf l ∷ []))
 
 -- s is whole items, and then a line that has not ended
 pub record LineBegun (s : List ℕ) (qs : List Line) (from : ℕ) (r : Reading) : Type 0 where
@@ -60,22 +79,23 @@ pub record LineBegun (s : List ℕ) (qs : List Line) (from : ℕ) (r : Reading) 
   pub reads : Reads line r
   pub from-is : from ≡ numberAfter items
 
--- s is whole items, and then a line `open n` with LF and k of the n bytes
-pub record TextBegun (s : List ℕ) (qs : List Line) (from n k : ℕ) : Type 0 where
+-- s is whole items, and then a line q, which asks for n bytes, with LF and k of them
+pub record TextBegun (s : List ℕ) (qs : List Line) (from : ℕ) (q : Line) (n k : ℕ) : Type 0 where
   pub items : List ℕ
   pub line : List ℕ
   pub text : List ℕ
   pub is : s ≡ items ++ (line ++ (lineFeed ∷ text))
   pub whole : Items items qs
   pub unbroken : breaks line ≡ 0
-  pub opens : lineOf line ≡ Open n
+  pub opens : lineOf line ≡ q
+  pub asks : textOf q ≡ some n
   pub size : k ≡ length text
   pub fits : k ≤ n
   pub from-is : from ≡ numberAfter items
 
 abbrev pub Begun : List ℕ → List Line → ℕ → Part → Type 0
 Begun s qs from (InLine r) = LineBegun s qs from r
-Begun s qs from (InText n k) = TextBegun s qs from n k
+Begun s qs from (InText q n k) = TextBegun s qs from q n k
 
 -- after the bytes s, which have asked for qs, a script stands so; line is the number of the line it is in, from that of the line its last item began with
 pub record Stands (s : List ℕ) (qs : List Line) (x : Script) : Type 0 where
@@ -85,7 +105,7 @@ pub record Stands (s : List ℕ) (qs : List Line) (x : Script) : Type 0 where
 -- the byte b ends a line of no form, or stands where the LF after a text should; the item began with line n
 pub data Misplaced (s : List ℕ) (b n : ℕ) : Type 0 where
   of-line : {qs : List Line} {r : Reading} (x : LineBegun s qs n r) → b ≡ lineFeed → lineOf (x .line) ≡ Bad → Misplaced s b n
-  of-text : {qs : List Line} {k : ℕ} → TextBegun s qs n k k → (b ≡ lineFeed → ⊥) → Misplaced s b n
+  of-text : {qs : List Line} {q : Line} {k : ℕ} → TextBegun s qs n q k k → (b ≡ lineFeed → ⊥) → Misplaced s b n
 
 -- what the byte b does after s: it goes on; it ends an item, which asks for l; or it is wrong
 abbrev pub Takes : List ℕ → List Line → ℕ → Taken → Type 0
@@ -96,7 +116,7 @@ Takes s qs b (Wrong n) = Misplaced s b n
 -- s ends within the item that began with line n
 pub data Cut (s : List ℕ) (n : ℕ) : Type 0 where
   in-line : {qs : List Line} {r : Reading} (x : LineBegun s qs n r) → 0 < length (x .line) → Cut s n
-  in-text : {qs : List Line} {k j : ℕ} → TextBegun s qs n k j → Cut s n
+  in-text : {qs : List Line} {q : Line} {k j : ℕ} → TextBegun s qs n q k j → Cut s n
 
 -- what the end of the script finds after s
 abbrev pub Ends : List ℕ → List Line → Ending → Type 0
@@ -115,7 +135,8 @@ fresh line = record { line = line; from = line; part = InLine empty }
 
 -- the line ends that an item began with
 abbrev pub ended : ℕ → Line → Taken
-ended line (Open n) = Goes (record { line = next line; from = line; part = InText n 0 })
+ended line (Open n) = Goes (record { line = next line; from = line; part = InText (Open n) n 0 })
+ended line (Steady n) = Goes (record { line = next line; from = line; part = InText (Steady n) n 0 })
 ended line Listing = Asks Listing (fresh (next line))
 ended line (Step d) = Asks (Step d) (fresh (next line))
 ended line State = Asks State (fresh (next line))

@@ -3,11 +3,12 @@ use crate::two::Two;
 ghost use mathlib.Core.Path.{_≡_};
 ghost use mathlib.Core.List.{List, [], _∷_, _++_};
 ghost use Prim.Native.Nat.{ℕ, _<_};
-ghost use Rattle.lines.specs.Line.{lineOf, grown, digitNext, letterNext, restNext, numbered, small, lettered, bare, ended, returnEnd, forgetEnd, afterNext, keptNext, empty, Reads};
+ghost use Rattle.lines.specs.Line.{lineOf, grown, digitNext, letterNext, restNext, numbered, small, lettered, bare, ended, returnEnd, forgetEnd, steadied, afterNext, lateNext, keptNext, empty, Reads};
 
 // What a line says.
 pub enum Line {
     Open(u64),
+    Steady(u64),
     List,
     Step(u64),
     State,
@@ -31,11 +32,12 @@ pub enum Rest {
     Other,
 }
 
-// A line so far: its first five bytes, as digits of base 256 after a 1, what stands after them, the first two bytes of that, likewise, how many bytes of the line are kept, and what stands after the first five as a word and two numbers.
+// A line so far: its first five bytes, as digits of base 256 after a 1, what stands after them, the first two bytes of that, likewise, what stands after these, how many bytes of the line are kept, and what stands after the first five as a word and two numbers.
 pub struct Reading {
     pub head: u64,
     pub rest: Rest,
     pub after: u64,
+    pub late: Rest,
     pub kept: u64,
     pub two: Two,
 }
@@ -51,7 +53,7 @@ impl Head {
     // The most bytes of a line that are kept: a word and a name that is too long already.
     pub const KEPT: u64 = 24;
 
-    // The heads of `list`, `state`, `report`, `open `, `step `, `save `, `return `, `forget `, `time `, `wait `, `clock` and `independent `, and what follows those of `return ` and `forget `.
+    // The heads of `list`, `state`, `report`, `open `, `step `, `save `, `return `, `forget `, `time `, `wait `, `clock`, `independent ` and `steady `, and what follows those of `return `, `forget ` and `steady `.
     pub const LIST: u64 = 0x1_6c69_7374;
 
     pub const STATE: u64 = 0x173_7461_7465;
@@ -76,6 +78,8 @@ impl Head {
 
     pub const CLOCK: u64 = 0x163_6c6f_636b;
 
+    pub const STEADY: u64 = 0x173_7465_6164;
+
     // A waiting draw is below this.
     pub const DRAWS: u64 = 0x1_0000;
 
@@ -85,6 +89,8 @@ impl Head {
     pub const RETURN_END: u64 = 0x1_6e20;
 
     pub const FORGET_END: u64 = 0x1_7420;
+
+    pub const STEADY_END: u64 = 0x1_7920;
 }
 
 // A number with one more digit, if it fits.
@@ -244,6 +250,26 @@ fn forget_line(after: u64, kept: u64) -> Line
     Line::Bad
 }
 
+fn steady_of(late: Rest) -> Line
+    ensures { λ r. ⌜ r ≡ numbered Line.Steady late ⌝ }
+{
+    match late {
+        Rest::Nothing => Line::Bad,
+        Rest::Number(n) => Line::Steady(n),
+        Rest::T => Line::Bad,
+        Rest::Other => Line::Bad,
+    }
+}
+
+fn steady_line(after: u64, late: Rest) -> Line
+    ensures { λ r. ⌜ r ≡ steadied after late ⌝ }
+{
+    if after == Head::STEADY_END {
+        return steady_of(late);
+    }
+    Line::Bad
+}
+
 // The two bytes after the first five, with one more byte.
 fn next_after(after: u64, b: u8) -> u64
     ensures { λ r. ⌜ r ≡ afterNext after b ⌝ }
@@ -252,6 +278,16 @@ fn next_after(after: u64, b: u8) -> u64
         return after * 256 + b as u64;
     }
     after
+}
+
+// What stands after the first seven bytes, with one more byte, from the two before them.
+fn next_late(after: u64, late: Rest, b: u8) -> Rest
+    ensures { λ r. ⌜ r ≡ lateNext after late b ⌝ }
+{
+    if after < Head::TWO {
+        return late;
+    }
+    with_byte(late, b)
 }
 
 // How many bytes are kept with one more.
@@ -272,6 +308,7 @@ impl Reading {
             head: Head::EMPTY,
             rest: Rest::Nothing,
             after: Head::EMPTY,
+            late: Rest::Nothing,
             kept: 0,
             two: Two::Word(0),
         }
@@ -284,6 +321,7 @@ impl Reading {
         let head = self.head;
         let rest = self.rest;
         let after = self.after;
+        let late = self.late;
         let kept = next_kept(self.kept);
         let two = self.two;
         if head < Head::FULL {
@@ -291,6 +329,7 @@ impl Reading {
                 head: head * 256 + b as u64,
                 rest: rest,
                 after: after,
+                late: late,
                 kept: kept,
                 two: two,
             };
@@ -299,6 +338,7 @@ impl Reading {
             head: head,
             rest: with_byte(rest, b),
             after: next_after(after, b),
+            late: next_late(after, late, b),
             kept: kept,
             two: crate::two::with_byte(two, b),
         }
@@ -312,6 +352,7 @@ impl Reading {
         let two = self.two;
         let head = self.head;
         let after = self.after;
+        let late = self.late;
         let kept = self.kept;
         match head {
             Head::LIST => Line::List,
@@ -326,6 +367,7 @@ impl Reading {
             Head::WAIT => wait_line(rest),
             Head::CLOCK => clock_line(rest),
             Head::INDEPENDENT => crate::two::says(two),
+            Head::STEADY => steady_line(after, late),
             _ => Line::Bad,
         }
     }

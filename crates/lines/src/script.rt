@@ -8,10 +8,10 @@ ghost use Prim.Native.Nat.{ℕ};
 ghost use Rattle.lines.specs.declared.line.Line.{Line as Asked};
 ghost use Rattle.lines.specs.Script.{numberAfter, LineBegun, TextBegun, Stands, Takes, Ends, next, fresh, ended};
 
-// Where a script stands: in a line; or in a text of so many bytes, of which so many were taken.
+// Where a script stands: in a line; or in the text that a line asks for, of so many bytes, of which so many were taken.
 pub enum Part {
     InLine(Reading),
-    InText(u64, u64),
+    InText(Line, u64, u64),
 }
 
 // The line that goes on, and the line that the present item began with, from 1.
@@ -70,7 +70,12 @@ fn end_line(line: u64, says: Line) -> Taken
         Line::Open(n) => Taken::Goes(Script {
             line: next,
             from: line,
-            part: Part::InText(n, 0),
+            part: Part::InText(Line::Open(n), n, 0),
+        }),
+        Line::Steady(n) => Taken::Goes(Script {
+            line: next,
+            from: line,
+            part: Part::InText(Line::Steady(n), n, 0),
         }),
         Line::List => Taken::Asks(Line::List, begin(next)),
         Line::Step(d) => Taken::Asks(Line::Step(d), begin(next)),
@@ -100,18 +105,18 @@ fn take_in_line(from: u64, reading: Reading, b: u8) -> Taken
     })
 }
 
-fn take_in_text(line: u64, from: u64, size: u64, taken: u64, b: u8) -> Taken
-    ensures { λ r. ⌜ ((s : List ℕ) (qs : List Asked) → line ≡ numberAfter s → TextBegun s qs from size taken → Takes s qs b r) ⌝ }
+fn take_in_text(line: u64, from: u64, asked: Line, size: u64, taken: u64, b: u8) -> Taken
+    ensures { λ r. ⌜ ((s : List ℕ) (qs : List Asked) → line ≡ numberAfter s → TextBegun s qs from asked size taken → Takes s qs b r) ⌝ }
 {
     if taken < size {
         return Taken::Goes(Script {
             line: line_after(line, b),
             from: from,
-            part: Part::InText(size, taken + 1),
+            part: Part::InText(asked, size, taken + 1),
         });
     }
     if b == b'\n' {
-        return Taken::Asks(Line::Open(size), begin(next_line(line)));
+        return Taken::Asks(asked, begin(next_line(line)));
     }
     Taken::Wrong(from)
 }
@@ -141,7 +146,7 @@ impl Script {
         let part = self.part;
         match part {
             Part::InLine(reading) => take_in_line(from, reading, b),
-            Part::InText(size, taken) => take_in_text(line, from, size, taken, b),
+            Part::InText(asked, size, taken) => take_in_text(line, from, asked, size, taken, b),
         }
     }
 
@@ -153,7 +158,7 @@ impl Script {
         let part = self.part;
         match part {
             Part::InLine(reading) => line_at_end(from, reading),
-            Part::InText(_, _) => Ending::Broken(from),
+            Part::InText(_, _, _) => Ending::Broken(from),
         }
     }
 }

@@ -1,9 +1,9 @@
 -- Every answer carries what 01 says, no refusal of a list call or step alters the machine, and a refused opening closes it. By cases of what is asked, machine and answer: one
 -- lemma for each request.
-use mathlib.Core.Path.{_≡_, refl, ap, ap₂}
+use mathlib.Core.Path.{_≡_, refl, ap, ap₂, sym, _∙_}
 use mathlib.Core.List.{List, []}
 use mathlib.Core.Bool.{Bool, true, false, cond, _&&_}
-use mathlib.Core.Logic.{_↔_}
+use mathlib.Core.Logic.{_↔_, inl, inr}
 use mathlib.Core.Option.{Option, none, some, Option·elim}
 use Prim.Native.Nat.{ℕ, _≤_}
 use native.Mathlib.Omega.{arith}
@@ -16,20 +16,24 @@ use Rattle.runs.specs.Walk as walk
 use Rattle.runs.proofs.Judged as judged
 use Rattle.clock.specs.declared.Clock.{Clock}
 use Rattle.model.specs.Resolved
-use Rattle.model.specs.Opening.{Opening, opening}
+use Rattle.model.specs.Opening.{Opening, refused, opening}
 use Rattle.model.specs.Questions.{Answers, no2, no3, no4, no5, no6, no7, no8, no9, no10, yesToAll}
 use Rattle.model.proofs.Answered.{answered}
+use Rattle.profile.specs.Opening.{openingSteady, AnswersSteady, no2to10, no29}
+use Rattle.profile.specs.Opening as steady
+use Rattle.profile.proofs.Asks.{plain-numbers}
+use Rattle.profile.proofs.InOrder.{answered-steady}
 use Rattle.rules.specs.Listing.{Entry}
 use Rattle.rules.proofs.Decides.{Decides, holds, fails, passes}
 use Rattle.machine.specs.State.{State}
 use Rattle.machine.specs.Timed.{Timed, timed}
 use Rattle.machine.specs.Saves.{isName, Saves, saveLimit, placeOf, placeFor, keptUnder, Stored, stored, replaced, removed, saving, returning, forgetting}
 use Rattle.machine.specs.Machine.{asLent, no, listedAs, reportedAs, Listed, entriesAre, refusedWith, listing, Turn, turn, drawn, stepsIn, timesWith, showing, lists, sharing, reports, choosing, stepsWith, foundAs, movesTo, depthLimit, isDepth, searchedAs, searches}
-use Rattle.machine.specs.Machine.{Held, moved, movedIn, timedOf, storedIn, Machine, closed, holding, onState, onClock, onSaves, Request, list′, step′, report′, search′, timed′, save′, return′, forget′, Ask, open′, on′, acts, Part, hasLengths, Call, call, opens, onMachine, asked, calls}
+use Rattle.machine.specs.Machine.{Held, moved, movedIn, timedOf, storedIn, Machine, closed, holding, onState, onClock, onSaves, Request, list′, step′, report′, search′, timed′, save′, return′, forget′, Ask, open′, openSteady′, on′, acts, Part, hasLengths, Call, call, opens, onMachine, asked, calls}
 use Rattle.machine.specs.Questions.{no12, no13, no14, yes14, Steps, no15, no16, no17, no18, no19, yes19, Times, no15-19, no23, no24, no25, yes25}
 use Rattle.machine.specs.Questions as questions
 use Rattle.machine.specs.Results as results
-use Rattle.machine.specs.Results.{Runs, Lists, Chooses, Names, Lent, Carries, under1, under2-10, under11, under12, under13, under14, under15-19, under23-25, under20, return21, forget21, save22, under26, under27}
+use Rattle.machine.specs.Results.{Runs, Lists, Chooses, Names, Lent, Carries, under1, under2-10, under11, under12, under13, under14, under15-19, under23-25, under20, return21, forget21, save22, under2-29, under26, under27}
 use Rattle.machine.proofs.Lent.{lent-so}
 use Rattle.machine.proofs.Listing as listing
 use Rattle.machine.proofs.Stepping as stepping
@@ -193,13 +197,13 @@ kept (forget′ n) h = saves-kept (forget′ n) (forgetting n) h (forget-kept n 
 -- ---- openings
 
 -- what the answer to a text carries, which numbers it has not, and that a refusal closes the machine
-record Opens (text : List ℕ) (t : Turn Machine) : Type 0 where
-  carries : Carries (open′ text) (t .answer)
+record Opens (k : Ask) (t : Turn Machine) : Type 0 where
+  carries : Carries k (t .answer)
   closes : (t .answer .number ≡ 0 → ⊥) → t .machine ≡ closed
   one : t .answer .number ≡ 1 → ⊥
   eleven : t .answer .number ≡ 11 → ⊥
 
-opening-kept : (text : List ℕ) {o : Opening} → Answers text o → Opens text (opens o)
+opening-kept : (text : List ℕ) {o : Opening} → Answers text o → Opens (open′ text) (opens o)
 unfolding opens no
 opening-kept text (no2 l) = record { carries = under2-10 2 _ (omega arith) (omega arith); closes = λ n. refl; one = λ e. omega arith; eleven = λ e. omega arith }
 opening-kept text (no3 y f) = record { carries = under2-10 3 _ (omega arith) (omega arith); closes = λ n. refl; one = λ e. omega arith; eleven = λ e. omega arith }
@@ -212,11 +216,21 @@ opening-kept text (no9 y z u v w a b f) = record { carries = under2-10 9 _ (omeg
 opening-kept text (no10 y z u v w a b c l) = record { carries = under2-10 10 _ (omega arith) (omega arith); closes = λ n. refl; one = λ e. omega arith; eleven = λ e. omega arith }
 opening-kept text (yesToAll y z u v w a b c d) = record { carries = results.opens; closes = λ n. absurd (n refl); one = λ e. omega arith; eleven = λ e. omega arith }
 
+-- 02, note 11: the same under the steady profile, with 29
+steady-kept : (text : List ℕ) {o : Opening} → AnswersSteady text o → Opens (openSteady′ text) (opens o)
+unfolding opens no
+steady-kept text (no2to10 {n = n} {p = p} a) =
+    let k = plain-numbers text (refused n p) a refl in
+    record { carries = under2-29 n p (inl k); closes = λ n. refl; one = λ e. omega arith; eleven = λ e. omega arith }
+steady-kept text (no29 a y f) = record { carries = under2-29 29 _ (inr refl); closes = λ n. refl; one = λ e. omega arith; eleven = λ e. omega arith }
+steady-kept text (steady.yesToAll a y f) = record { carries = results.opensSteady; closes = λ n. absurd (n refl); one = λ e. omega arith; eleven = λ e. omega arith }
+
 -- ---- every call
 
 asked-carries : (y : Machine) (k : Ask) → Carries k (asked y k .answer)
 unfolding asked onMachine
 asked-carries y (open′ text) = opening-kept text (answered text) .carries
+asked-carries y (openSteady′ text) = steady-kept text (answered-steady text) .carries
 asked-carries closed (on′ r) = under11
 asked-carries (holding h) (on′ r) = kept r h .carries
 
@@ -232,6 +246,7 @@ carries y c = by (hasLengths (c .ask) (c .lengths) (c .output))
 asked-stays : (y : Machine) (k : Ask) → Runs k → (asked y k .answer .number ≡ 0 → ⊥) → asked y k .machine ≡ y
 unfolding asked onMachine Runs
 asked-stays y (open′ text) r n = absurd r
+asked-stays y (openSteady′ text) r n = absurd r
 asked-stays closed (on′ r) u n = refl
 asked-stays (holding h) (on′ r) u n = ap holding (kept r h .stays n)
 
@@ -247,6 +262,7 @@ refusal-stays y c r = by (hasLengths (c .ask) (c .lengths) (c .output))
 pub asked-not-1 : (y : Machine) (k : Ask) → asked y k .answer .number ≡ 1 → ⊥
 unfolding asked onMachine no
 asked-not-1 y (open′ text) e = opening-kept text (answered text) .one e
+asked-not-1 y (openSteady′ text) e = steady-kept text (answered-steady text) .one e
 asked-not-1 closed (on′ r) e = omega arith
 asked-not-1 (holding h) (on′ r) e = kept r h .one e
 
@@ -262,6 +278,7 @@ unlent y c = by (lent-so c)
 asked-eleven : (y : Machine) (k : Ask) → Runs k → (asked y k .answer .number ≡ 11) ↔ (y ≡ closed)
 unfolding asked onMachine Runs no
 asked-eleven y (open′ text) r = absurd r
+asked-eleven y (openSteady′ text) r = absurd r
 asked-eleven closed (on′ r) u = (λ e. refl, λ e. refl)
 asked-eleven (holding h) (on′ r) u = (λ e. absurd (kept r h .eleven e), λ e. absurd (let z : _≡_ {A = ℕ} 0 1 = cc in omega arith))
 
@@ -309,12 +326,22 @@ pub search-stays : (x : List ℕ) (d : ℕ) (y : Machine) (l : Part → ℕ) (o 
 unfolding acts onState searches
 search-stays x d = unmoved (search′ x d) (λ h. refl)
 
--- 01, Opening a text: 1 changes nothing, 2 to 10 close the machine
+-- 01, Opening a text: 1 changes nothing, 2 to 10 close the machine; 02, note 11: so does 29
+module _ (k : Ask) (o : Opening) (is : (y : Machine) → asked y k ≡ opens o) (h : Opens k (opens o)) where
+  refused-closes : (y : Machine) (l : Part → ℕ) (n : ℕ) → (calls y (call k l n) .answer .number ≡ 0 → ⊥) → calls y (call k l n) .machine ≡ cond (hasLengths k l n) closed y
+  unfolding calls
+  refused-closes y l n = by (hasLengths k l n)
+    where
+      by : (b : Bool) → (cond b (asked y k) (turn y (no 1 0 0 asLent)) .answer .number ≡ 0 → ⊥) → cond b (asked y k) (turn y (no 1 0 0 asLent)) .machine ≡ cond b closed y
+      by true f = ap (λ (t : Turn Machine). t .machine) (is y) ∙ h .closes (λ e. f (ap (λ (t : Turn Machine). t .answer .number) (is y) ∙ e))
+      by false f = refl
+
 pub refused-opening : (y : Machine) (text : List ℕ) (l : Part → ℕ) (o : ℕ) → (calls y (call (open′ text) l o) .answer .number ≡ 0 → ⊥)
     → calls y (call (open′ text) l o) .machine ≡ cond (hasLengths (open′ text) l o) closed y
-unfolding calls asked
-refused-opening y text l o = by (hasLengths (open′ text) l o)
-  where
-    by : (b : Bool) → (cond b (opens (opening text)) (turn y (no 1 0 0 asLent)) .answer .number ≡ 0 → ⊥) → cond b (opens (opening text)) (turn y (no 1 0 0 asLent)) .machine ≡ cond b closed y
-    by true n = opening-kept text (answered text) .closes n
-    by false n = refl
+unfolding asked
+refused-opening y text l o = refused-closes (open′ text) (opening text) (λ z. refl) (opening-kept text (answered text)) y l o
+
+pub refused-steady : (y : Machine) (text : List ℕ) (l : Part → ℕ) (o : ℕ) → (calls y (call (openSteady′ text) l o) .answer .number ≡ 0 → ⊥)
+    → calls y (call (openSteady′ text) l o) .machine ≡ cond (hasLengths (openSteady′ text) l o) closed y
+unfolding asked
+refused-steady y text l o = refused-closes (openSteady′ text) (openingSteady text) (λ z. refl) (steady-kept text (answered-steady text)) y l o

@@ -11,11 +11,12 @@ use lib.Dec.{eqb, ltb}
 use lib.ListN.{getD}
 use borrow.Author.Tests.{eqb-true, ltb-true}
 use Rattle.model.specs.Opening.{Opening, refused, opened, opening}
+use Rattle.profile.specs.Opening.{openingSteady}
 use Rattle.model.proofs.Opened as opened
 use Rattle.rules.proofs.Decides.{passes}
 use Rattle.machine.specs.Timed.{Timed, GoodTimed}
 use Rattle.machine.specs.Saves.{isName, same, saved, saveLimit, Saves, noSaves, named, placeOf, placeFor, keptUnder, GoodSaves, Stored, stored, replaced, removed, saving, returning, forgetting}
-use Rattle.machine.specs.Machine.{asLent, no, turn, Held, timedOf, storedIn, Machine, closed, holding, onState, onClock, onSaves, Request, list′, step′, report′, search′, timed′, save′, return′, forget′, Ask, open′, on′, acts, Call, hasLengths, opens, onMachine, asked, calls, after}
+use Rattle.machine.specs.Machine.{asLent, no, turn, Held, timedOf, storedIn, Machine, closed, holding, onState, onClock, onSaves, Request, list′, step′, report′, search′, timed′, save′, return′, forget′, Ask, open′, openSteady′, on′, acts, Call, hasLengths, opens, onMachine, asked, calls, after}
 use Rattle.machine.specs.Results.{Lent}
 use Rattle.machine.specs.Latest.{keptIn, savesName, forgetsName, savesUnder, forgets, alters, Without, done, more, Saved, Latest, Known, Finds}
 use Rattle.machine.proofs.Lent.{lent-so}
@@ -142,9 +143,8 @@ module _ (n : List ℕ) where
   opened-none (refused k p) = refl
   opened-none (opened m) = under-none n noSaves (none-unknown n)
 
-  opened-met : (y z : Machine) (text : List ℕ) (a : ℕ) → (a ≡ 1 → ⊥) → keptIn n z ≡ none → Met n y (open′ text) a z
-  unfolding savesUnder forgets
-  opened-met y z text a h e = record { saves = λ t. not-both true refl (sym t); undone = λ t. e; else = λ t u. absurd (h (eqb-true a 1 (turned (eqb a 1) u))) }
+  opened-met : (y z : Machine) (k : Ask) (a : ℕ) → savesUnder n k a ≡ false → forgets n k a ≡ not (eqb a 1) → (a ≡ 1 → ⊥) → keptIn n z ≡ none → Met n y k a z
+  opened-met y z k a s f h e = record { saves = λ t. not-both _ t s; undone = λ t. e; else = λ t u. absurd (h (eqb-true a 1 (turned (eqb a 1) (sym f ∙ u)))) }
     where
       turned : (b : Bool) → not b ≡ false → b ≡ true
       turned true e = refl
@@ -157,11 +157,13 @@ module _ (n : List ℕ) where
   unasked-met : (y : Machine) (k : Ask) → Met n y k 1 y
   unfolding savesUnder forgets
   unasked-met y (open′ text) = record { saves = λ t. not-both true refl (sym t); undone = λ t. not-both true refl (sym t); else = λ t u. refl }
+  unasked-met y (openSteady′ text) = record { saves = λ t. not-both true refl (sym t); undone = λ t. not-both true refl (sym t); else = λ t u. refl }
   unasked-met y (on′ r) = record { saves = λ t. and-false (savesName n r) t; undone = λ t. and-false (forgetsName n r) t; else = λ t u. refl }
 
   asked-met : (y : Machine) (k : Ask) → GoodMachine y → Met n y k (asked y k .answer .number) (asked y k .machine)
-  unfolding asked onMachine GoodMachine no
-  asked-met y (open′ text) g = opened-met y _ text _ (asked-not-1 y (open′ text)) (opened-none (opening text))
+  unfolding asked onMachine GoodMachine no savesUnder forgets
+  asked-met y (open′ text) g = opened-met y _ (open′ text) _ refl refl (asked-not-1 y (open′ text)) (opened-none (opening text))
+  asked-met y (openSteady′ text) g = opened-met y _ (openSteady′ text) _ refl refl (asked-not-1 y (openSteady′ text)) (opened-none (openingSteady text))
   asked-met closed (on′ r) g = closed-met r
   asked-met (holding h) (on′ r) g = acts-met h (g .good .saves) r
 
@@ -190,6 +192,7 @@ after-append y (c ∷ xs) ys = after-append (calls y c .machine) xs ys
 saved-is : (n : List ℕ) (k : Ask) (a : ℕ) → savesUnder n k a ≡ true → (k ≡ on′ (save′ n)) × (a ≡ 0)
 unfolding savesUnder savesName
 saved-is n (open′ text) a t = not-both true refl (sym t)
+saved-is n (openSteady′ text) a t = not-both true refl (sym t)
 saved-is n (on′ list′) a t = not-both true refl (sym t)
 saved-is n (on′ (step′ d)) a t = not-both true refl (sym t)
 saved-is n (on′ report′) a t = not-both true refl (sym t)

@@ -15,6 +15,7 @@ pub mod Continues
 pub mod Bound
 pub mod Stays
 pub mod Keeps
+pub mod Steady
 pub mod Reached
 pub mod Opens
 pub mod Numbers
@@ -29,3 +30,4 @@ pub mod Latest
 pub mod Searching
 pub mod Report
 pub mod Independent
+pub mod Profile

@@ -7,7 +7,9 @@ use Rattle.model.specs.Resolved
 use Rattle.model.specs.Opening.{processLimit, Opening, refused, opened, opening}
 use Rattle.model.specs.Opening as opening
 use Rattle.model.specs.Good.{GoodModel}
-use Rattle.machine.specs.Machine.{asLent, no, Turn, turn, Held, Good, Machine, closed, holding, Request, Ask, open′, on′, acts, hasLengths, Call, opens, onMachine, asked, calls, after}
+use Rattle.profile.specs.Opening.{openingSteady}
+use Rattle.profile.proofs.Opened.{opened-plain}
+use Rattle.machine.specs.Machine.{asLent, no, Turn, turn, Held, Good, Machine, closed, holding, Request, Ask, open′, openSteady′, on′, acts, hasLengths, Call, opens, onMachine, asked, calls, after}
 use Rattle.machine.proofs.Keeps.{opened-good, acts-good, same-model}
 
 -- a model that some text opened, and all that is held over it
@@ -22,13 +24,11 @@ GoodMachine closed = Unit {0}
 GoodMachine (holding h) = Holds h
 
 module _ (opened-model : (text : List ℕ) (m : Resolved.Model) → opening text ≡ opened m → GoodModel m × (opening.startProcesses (m .definitions) (m .starts) ≤ processLimit)) where
-  opening-good : (text : List ℕ) → GoodMachine (opens (opening text) .machine)
+  -- an opening that opens no other model than a plain one does
+  opening-good : (text : List ℕ) (o : Opening) → ((m : Resolved.Model) → o ≡ opened m → opening text ≡ opened m) → GoodMachine (opens o .machine)
   unfolding opens GoodMachine
-  opening-good text = go (opening text) refl
-    where
-      go : (o : Opening) → opening text ≡ o → GoodMachine (opens o .machine)
-      go (refused n p) e = tt
-      go (opened m) e = let g = opened-model text m e in record { text = text; read = e; model = g .0; good = opened-good m (g .0) (g .1) }
+  opening-good text (refused n p) h = tt
+  opening-good text (opened m) h = let g = opened-model text m (h m refl) in record { text = text; read = h m refl; model = g .0; good = opened-good m (g .0) (g .1) }
 
   request-good : (r : Request) (h : Held) → Holds h → Holds (acts r h .machine)
   request-good r h g = record {
@@ -40,7 +40,8 @@ module _ (opened-model : (text : List ℕ) (m : Resolved.Model) → opening text
 
   asked-good : (y : Machine) (k : Ask) → GoodMachine y → GoodMachine (asked y k .machine)
   unfolding asked onMachine GoodMachine
-  asked-good y (open′ text) g = opening-good text
+  asked-good y (open′ text) g = opening-good text (opening text) (λ m e. e)
+  asked-good y (openSteady′ text) g = opening-good text (openingSteady text) (λ m e. opened-plain text m e)
   asked-good closed (on′ r) g = tt
   asked-good (holding h) (on′ r) g = request-good r h g
 

@@ -40,7 +40,7 @@ unfolding copies
 copies-length zero xs = sym (zero-mul (length xs))
 copies-length (suc n) xs = omega (arith, length-append xs (copies n xs), copies-length n xs, suc-mul n (length xs))
 
-sums-in : (f : ℕ → Process) (ds : List Resolved.Defined) (d : ℕ) → length (Option·elim (getElem? ds d) [] (λ (e : Resolved.Defined). map f (e .sums))) ≡ opening.sumsIn ds d
+pub sums-in : (f : ℕ → Process) (ds : List Resolved.Defined) (d : ℕ) → length (Option·elim (getElem? ds d) [] (λ (e : Resolved.Defined). map f (e .sums))) ≡ opening.sumsIn ds d
 unfolding Option·elim opening.sumsIn
 sums-in f [] d = refl
 sums-in f (e ∷ ds) zero = length-map (e .sums) f

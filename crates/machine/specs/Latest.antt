@@ -8,7 +8,7 @@ use Prim.Native.Nat.{ℕ}
 use lib.Dec.{eqb}
 use Rattle.machine.specs.Timed.{Timed}
 use Rattle.machine.specs.Saves.{same, keptUnder}
-use Rattle.machine.specs.Machine.{Held, timedOf, Machine, closed, holding, Request, list′, step′, report′, search′, timed′, save′, return′, forget′, Ask, open′, on′, Call, calls, after}
+use Rattle.machine.specs.Machine.{Held, timedOf, Machine, closed, holding, Request, list′, step′, report′, search′, timed′, save′, return′, forget′, Ask, open′, openSteady′, on′, Call, calls, after}
 
 -- the state and the clock that the machine has under a name
 unfoldable pub keptIn : List ℕ → Machine → Option Timed
@@ -40,11 +40,13 @@ forgetsName n (forget′ k) = same k n
 -- a save under the name that is accepted, of what was asked and the number of the answer
 unfoldable pub savesUnder : List ℕ → Ask → ℕ → Bool
 savesUnder n (open′ text) a = false
+savesUnder n (openSteady′ text) a = false
 savesUnder n (on′ r) a = savesName n r && eqb a 0
 
--- 02, note 2: an opening, accepted or refused with 2 to 10; or a forget of the name that is accepted
+-- 02, notes 2 and 11: an opening, accepted or refused with 2 to 10 or 29; or a forget of the name that is accepted
 unfoldable pub forgets : List ℕ → Ask → ℕ → Bool
 forgets n (open′ text) a = not (eqb a 1)
+forgets n (openSteady′ text) a = not (eqb a 1)
 forgets n (on′ r) a = forgetsName n r && eqb a 0
 
 unfoldable pub alters : List ℕ → Ask → ℕ → Bool

@@ -15,6 +15,7 @@ pub mod TimedRows
 pub mod SearchRows
 pub mod Starred
 pub mod Results
+pub mod Steady
 pub mod Latest
 pub mod Independent
 pub mod Orders

@@ -11,6 +11,7 @@ use Rattle.token.specs.Token.{sameBytes}
 use Rattle.token.specs.Questions.{textLimit}
 use Rattle.model.specs.Resolved
 use Rattle.model.specs.Opening.{processLimit, Opening, refused, opened, opening}
+use Rattle.profile.specs.Opening.{openingSteady}
 use Rattle.rules.specs.Offers as offers
 use Rattle.rules.specs.Kind as kind
 use Rattle.rules.specs.Rules.{Key, key}
@@ -333,9 +334,10 @@ pub data Request : Type 0 where
   return′ : (name : List ℕ) → Request
   forget′ : (name : List ℕ) → Request
 
--- 01, Rule machine: what a call asks: to open a text, or a request
+-- 01, Rule machine, and 02, note 11: what a call asks: to open a text, plainly or under the steady profile, or a request
 pub data Ask : Type 0 where
   open′ : (text : List ℕ) → Ask
+  openSteady′ : (text : List ℕ) → Ask
   on′ : Request → Ask
 
 -- what each request does to what is held
@@ -401,11 +403,13 @@ uses (forget′ n) = threeParts
 -- an opening writes them all
 abbrev pub lentTo : Ask → List Part
 lentTo (open′ text) = model ∷ state ∷ saves ∷ clock ∷ []
+lentTo (openSteady′ text) = model ∷ state ∷ saves ∷ clock ∷ []
 lentTo (on′ r) = uses r
 
 -- 01, Transitions, and 02, note 6: the length of the output buffer, the listing or the report, of a call that is lent one
 abbrev pub outputOf : Ask → Option ℕ
 outputOf (open′ text) = none
+outputOf (openSteady′ text) = none
 outputOf (on′ list′) = some listingLength
 outputOf (on′ (step′ d)) = some listingLength
 outputOf (on′ report′) = some reportLength
@@ -453,7 +457,7 @@ startProcesses m (s ∷ ss) = copies (s .count) (called m (s .definition) (s .va
 unfoldable pub openedState : Resolved.Model → State
 openedState m = record { processes = startProcesses m (m .starts); pairs = [] }
 
--- 01, Fresh: refusals 2 to 10 lead back to it; an accepted text's model is held, with its opened state; 02, note 2: either way nothing is saved
+-- 01, Fresh, and 02, note 11: refusals 2 to 10 and 29 lead back to it; an accepted text's model is held, with its opened state; 02, note 2: either way nothing is saved
 unfoldable pub opens : Opening → Turn Machine
 opens (refused n p) = turn closed (no n p 0 asLent)
 opens (opened m) = turn (holding (held m (openedState m))) (no 0 0 0 asLent)
@@ -466,6 +470,7 @@ onMachine r (holding h) = let t = acts r h in turn (holding (t .machine)) (t .an
 -- what is asked, once 1 is answered with yes
 unfoldable pub asked : Machine → Ask → Turn Machine
 asked y (open′ text) = opens (opening text)
+asked y (openSteady′ text) = opens (openingSteady text)
 asked y (on′ r) = onMachine r y
 
 -- 01, Rule machine: one call; 1 comes first and changes nothing

@@ -3,15 +3,17 @@
 use mathlib.Core.Path.{_≡_}
 use mathlib.Core.List.{List}
 use mathlib.Core.Bool.{true}
+use mathlib.Core.Logic.{_⊎_}
 use mathlib.Core.Option.{some}
 use Prim.Native.Nat.{ℕ, _≤_}
 use lib.ListN.{length}
 use Rattle.rules.specs.Listing.{Entry}
-use Rattle.machine.specs.Machine.{asLent, zeroed, Answer, no, listedAs, reportedAs, foundAs, depthLimit, Request, list′, step′, report′, search′, timed′, save′, return′, forget′, Ask, open′, on′, Part, size, lentTo, outputOf, isLent, Call}
+use Rattle.machine.specs.Machine.{asLent, zeroed, Answer, no, listedAs, reportedAs, foundAs, depthLimit, Request, list′, step′, report′, search′, timed′, save′, return′, forget′, Ask, open′, openSteady′, on′, Part, size, lentTo, outputOf, isLent, Call}
 
 -- a request, not an opening
 unfoldable pub Runs : Ask → Type 0
 Runs (open′ text) = ⊥
+Runs (openSteady′ text) = ⊥
 Runs (on′ r) = Unit {0}
 
 -- 01, Listing and stepping, and 02, notes 4 and 6: requests that ask 12 to 14
@@ -59,6 +61,9 @@ pub data Carries : Ask → Answer → Type 0 where
   -- an opening: accepted, or refused with a byte's place
   opens : {text : List ℕ} → Carries (open′ text) (no 0 0 0 asLent)
   under2-10 : {text : List ℕ} (n p : ℕ) → 2 ≤ n → n ≤ 10 → Carries (open′ text) (no n p 0 asLent)
+  -- 02, note 11: under the steady profile the same, and 29
+  opensSteady : {text : List ℕ} → Carries (openSteady′ text) (no 0 0 0 asLent)
+  under2-29 : {text : List ℕ} (n p : ℕ) → ((2 ≤ n) × (n ≤ 10)) ⊎ (n ≡ 29) → Carries (openSteady′ text) (no n p 0 asLent)
   -- 11 leaves it as lent
   under11 : {r : Request} → Carries (on′ r) (no 11 0 0 asLent)
   -- 12 to 14 zero it

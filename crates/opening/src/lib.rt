@@ -8,6 +8,7 @@ use syntax::question::Asked;
 use token::Judged;
 use tree::NodeKind;
 ghost use mathlib.Core.Path.{_≡_};
+ghost use mathlib.Core.List.{List};
 ghost use Prim.Native.Nat.{ℕ, _≤_, _<_};
 ghost use lib.ListN.{length};
 ghost use Rattle.token.specs.declared.Judged.the-variants.{Passed};
@@ -20,7 +21,7 @@ ghost use Rattle.model.specs.Opening.{bytePlace, systemToken};
 ghost use Rattle.opening.specs.Trees.{Room, Placed, Fitted, TreeRead};
 ghost use Rattle.opening.specs.Marked.{Marked, TreeMarked, ModelMarked};
 ghost use Rattle.opening.specs.Sound.{NamesJudged};
-ghost use Rattle.opening.specs.Models.{SumRoom, ModelRead, Opens};
+ghost use Rattle.opening.specs.Models.{SumRoom, ModelHeld, ModelRead, Opens};
 ghost use Rattle.opening.specs.System.{firstItem, beforeName, itemToken};
 
 pub struct Limits;
@@ -58,7 +59,7 @@ pub enum Opened {
 }
 
 // The byte at which token k stands, or the text's end past the last of n.
-fn byte_place(text: &[u8], places: &[u16], n: usize, k: usize) -> usize
+pub fn byte_place(text: &[u8], places: &[u16], n: usize, k: usize) -> usize
     requires { ⌜ Placed (now text) (now places) n ⌝ }
     ensures { λ r. ⌜ r ≡ bytePlace (now (text .entry)) k ⌝ }
 {
@@ -152,7 +153,7 @@ fn system_token(nodes: &[u64], root: usize) -> usize
 }
 
 // Questions 7 to 9 of a text that fits.
-fn judge_tree(
+pub fn judge_tree(
     text: &[u8],
     kinds: &[u8],
     places: &[u16],
@@ -244,6 +245,20 @@ pub fn read_model(
     }
 }
 
+// Question 10 of a model in these nodes, with the place of its system line.
+pub fn judge_start(nodes: &[u64], model: Model, place: usize) -> Opened
+    requires { ⌜ ((text : List ℕ) × (roots : List ℕ) × (scopes : List ℕ) × ModelHeld text (now nodes) roots scopes model place) ⌝ }
+    ensures { λ r. ⌜ ((text roots scopes : List ℕ) → ModelHeld text (now (nodes .entry)) roots scopes model place → Opens text (now (nodes .entry)) roots scopes r) ⌝ }
+{
+    let first = model.root - model.variables;
+    let line = first - model.definitions;
+    let count = count::start_count(nodes, first, line);
+    if Limits::PROCESSES < count {
+        return Opened::Refused(10, place);
+    }
+    Opened::Accepted(model, count)
+}
+
 // All questions, and the model.
 pub fn open_text(
     text: &[u8],
@@ -275,14 +290,6 @@ pub fn open_text(
     );
     match held {
         Held::Refused(number, place) => Opened::Refused(number, place),
-        Held::Model(model, place) => {
-            let first = model.root - model.variables;
-            let line = first - model.definitions;
-            let count = count::start_count(nodes, first, line);
-            if Limits::PROCESSES < count {
-                return Opened::Refused(10, place);
-            }
-            Opened::Accepted(model, count)
-        }
+        Held::Model(model, place) => judge_start(nodes, model, place),
     }
 }

@@ -17,7 +17,7 @@ use Rattle.machine.specs.State.{State}
 use Rattle.machine.specs.Timed.{timed}
 use Rattle.machine.specs.Report.{reportLength}
 use Rattle.machine.specs.Machine.{entryLimit, listingLength, Shown, asLent, zeroed, filled, reported, Answer, no, listedAs, reportedAs, Listed, Turn, turn, drawn, showing, lists, sharing, reports, choosing, stepsWith, refusedAs, withWait, stepsIn, timesWith, Held, Good, Machine, closed, holding, onState}
-use Rattle.machine.specs.Machine.{onClock, onSaves, Request, list′, step′, report′, timed′, save′, return′, forget′, Ask, open′, on′, acts, Part, model, state, saves, clock, size, lentTo, outputOf, uses, isLent, allParts, hasLengths, Call, opens, onMachine, calls}
+use Rattle.machine.specs.Machine.{onClock, onSaves, Request, list′, step′, report′, timed′, save′, return′, forget′, Ask, open′, openSteady′, on′, acts, Part, model, state, saves, clock, size, lentTo, outputOf, uses, isLent, allParts, hasLengths, Call, opens, onMachine, calls}
 use Rattle.machine.specs.Machine as machine
 use Rattle.machine.specs.Questions.{Lists, no12, no13, no14, yes14}
 use Rattle.machine.proofs.Lent.{both-true, each-lent, lent-so}
@@ -27,6 +27,7 @@ use Rattle.machine.proofs.Report.{report-length}
 use Rattle.model.specs.Resolved
 use Rattle.model.specs.Good.{GoodModel}
 use Rattle.model.specs.Opening.{Opening, refused, opened, opening}
+use Rattle.profile.specs.Opening.{openingSteady}
 use Rattle.buffers.specs.Held.{modelBytes}
 use Rattle.buffers.specs.Listing.{shown}
 use Rattle.buffers.specs.Parts.{Cell, Engine}
@@ -40,7 +41,7 @@ use Rattle.buffers.proofs.Held.{held-fits}
 use Rattle.buffers.proofs.Listings.{listing-length}
 use Rattle.buffers.proofs.Transitions.{fills}
 use Rattle.script.specs.declared.Row.{Row}
-use Rattle.script.specs.Rows.{openKind, timedKind, answerWidth, rowParts, rowLengths, Room, fits, rowCall, callOf}
+use Rattle.script.specs.Rows.{openKind, lastKind, answerWidth, rowParts, rowLengths, Room, fits, rowCall, callOf}
 use Rattle.script.specs.Run.{Lent, roomOf, effectOf, callLeft}
 use Rattle.script.specs.Follows.{engineIn, partShown}
 use Rattle.script.proofs.Front.{front-take, front-drop}
@@ -63,7 +64,7 @@ in-row clock = refl
 -- what a row that fits asks for
 pub record Asks (r : Row) (texts numbers : ℕ) (parts : Part → ℕ) (outputs : ℕ) : Type 0 where
   pub least : openKind ≤ r .kind
-  pub most : r .kind ≤ timedKind
+  pub most : r .kind ≤ lastKind
   pub text : r .text + r .size ≤ texts
   pub list : r .from + r .count ≤ numbers
   pub part : (p : Part) → rowLengths r p ≤ parts p
@@ -73,7 +74,7 @@ pub row-asks : (r : Row) (texts numbers : ℕ) (parts : Part → ℕ) (outputs :
 unfolding fits
 row-asks r texts numbers parts outputs e =
     let a = both-true (leb openKind (r .kind)) _ e in
-    let b = both-true (leb (r .kind) timedKind) _ (a .1) in
+    let b = both-true (leb (r .kind) lastKind) _ (a .1) in
     let c = both-true (leb (r .text + r .size) texts) _ (b .1) in
     let d = both-true (leb (r .from + r .count) numbers) _ (c .1) in
     let f = both-true (allParts (λ (p : Part). leb (rowLengths r p) (parts p)) rowParts) _ (d .1) in
@@ -164,6 +165,7 @@ unlent-left k x l p e = by (hasLengths k (λ (p : Part). length (x p)) (length l
   where
     by : (b : Bool) (k : Ask) → isLent p (lentTo k) ≡ false → cond b (answered k x l) (untouched x l) .left p ≡ x p
     by true (open′ text) e = absurd (opening-left text p e)
+    by true (openSteady′ text) e = absurd (opening-left text p e)
     by true (on′ r) e = unfold answered requested leaves in request-left (uses r) x _ p e
     by false k e = refl
 
@@ -255,13 +257,15 @@ acts-within (save′ n) h k g = nothing refl
 acts-within (return′ n) h k g = nothing refl
 acts-within (forget′ n) h k g = nothing refl
 
+opening-shows : (o : Opening) → opens o .answer .listing ≡ asLent
+unfolding opens no
+opening-shows (refused n p) = refl
+opening-shows (opened m) = refl
+
 asked-within : {x : Engine} {y : Machine} → Holds x y → (k : Ask) → InPart k (machine.asked y k .answer .listing)
 unfolding machine.asked onMachine
-asked-within h (open′ text) = nothing (by (opening text))
-  where
-    by : (o : Opening) → opens o .answer .listing ≡ asLent
-    by (refused n p) = unfold opens no in refl
-    by (opened m) = unfold opens no in refl
+asked-within h (open′ text) = nothing (opening-shows (opening text))
+asked-within h (openSteady′ text) = nothing (opening-shows (openingSteady text))
 asked-within (zeros e) (on′ r) = nothing (unfold no in refl)
 asked-within (held {h = h} text m e g) (on′ r) = acts-within r h (held-fits (modelBytes text) (h .model) m) g
 

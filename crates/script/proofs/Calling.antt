@@ -11,11 +11,12 @@ use lib.IntN.{ℤ}
 use lib.ListN.{length, take, drop, take-append-drop}
 use Rattle.model.specs.Resolved
 use Rattle.model.specs.Opening.{Opening, refused, opened, opening}
+use Rattle.profile.specs.Opening.{openingSteady}
 use Rattle.machine.specs.State.{State}
 use Rattle.clock.specs.declared.Clock.{Clock}
 use Rattle.machine.specs.Timed.{Timed}
 use Rattle.machine.specs.Saves.{Saves, Stored, saving, returning, forgetting}
-use Rattle.machine.specs.Machine.{asLent, Answer, no, Turn, Held, Machine, closed, holding, onSaves, Request, list′, step′, report′, timed′, save′, return′, forget′, Ask, open′, on′, acts, Part, model, state, saves, clock, size, twoParts, timedParts, threeParts, uses, outputOf, isLent, allParts, hasLengths, Call, onMachine}
+use Rattle.machine.specs.Machine.{asLent, Answer, no, Turn, Held, Machine, closed, holding, onSaves, Request, list′, step′, report′, timed′, save′, return′, forget′, Ask, open′, openSteady′, on′, acts, Part, model, state, saves, clock, size, twoParts, timedParts, threeParts, uses, outputOf, isLent, allParts, hasLengths, Call, onMachine}
 use Rattle.buffers.specs.Held.{heldIn}
 use Rattle.buffers.specs.Listing.{shown}
 use Rattle.buffers.specs.Parts.{Engine, numbersOf, isPart, readHeld, clockNumbers, clockIn, lentTwo, lentThree, lentTimed, lentAll}
@@ -37,7 +38,7 @@ pub record There (r : Row) (t n m s v o : ℕ) : Type 0 where
   pub state : r .state ≤ s
   pub saves : r .saves ≤ v
   pub output : r .output ≤ o
-  pub most : r .kind ≤ 8
+  pub most : r .kind ≤ 9
   pub least : 1 ≤ r .kind
 
 pub there : (r : Row) (t n m s v k o : ℕ) → fits r t n (lengthsOf m s v k) o ≡ true → There r t n m s v o
@@ -72,6 +73,15 @@ open-bare text x l = by (hasLengths (open′ text) (λ (p : Part). length (x p))
   where
     by : (b : Bool) → Bare (cond b (opensWith text (opening text) l) (untouched x l)) (cond b (opensWith text (opening text) []) (untouched x [])) l
     by true = opens-bare text (opening text) l
+    by false = bare-refl
+
+-- 02, note 11
+steady-bare : (text : List ℕ) (x : Engine) (l : List ℕ) → Bare (effect (openSteady′ text) x l) (effect (openSteady′ text) x []) l
+unfolding effect answered untouched hasLengths Option·elim
+steady-bare text x l = by (hasLengths (openSteady′ text) (λ (p : Part). length (x p)) 0)
+  where
+    by : (b : Bool) → Bare (cond b (opensWith text (openingSteady text) l) (untouched x l)) (cond b (opensWith text (openingSteady text) []) (untouched x [])) l
+    by true = opens-bare text (openingSteady text) l
     by false = bare-refl
 
 -- 02, note 2: a request that turns state and saves shows nothing
@@ -291,6 +301,12 @@ module _ (row : Row) (texts numbers bs : List ℕ) (zs ss : List ℤ) (c : Clock
   unfolding rowAsk
   opening-called e bs′ zs′ ss′ c′ g = bare-gives (open′ (rowText texts row)) (rw e) (open-bare (rowText texts row) X L) bs′ zs′ ss′ c′ (rw text-is at g)
 
+  -- 02, note 11
+  pub steady-called : row .kind ≡ 9 → (bs′ : List ℕ) (zs′ ss′ : List ℤ) (c′ : Clock) → Gives (effect (openSteady′ T) X []) r (lentAll bs′ zs′ ss′ c′) []
+      → Called C (lentAll bs zs ss c) ls r (lentAll (bs′ ++ drop (row .model) bs) (zs′ ++ drop (row .state) zs) (ss′ ++ drop (row .saves) ss) c′) ls
+  unfolding rowAsk
+  steady-called e bs′ zs′ ss′ c′ g = bare-gives (openSteady′ (rowText texts row)) (rw e) (steady-bare (rowText texts row) X L) bs′ zs′ ss′ c′ (rw text-is at g)
+
   pub listing-called : row .kind ≡ 2 → (l : List ℕ) → Gives (effect (on′ list′) (lentTwo (take (row .model) bs) (take (row .state) zs)) L) r (lentTwo (take (row .model) bs) (take (row .state) zs)) l
       → Called C (lentAll bs zs ss c) ls r (lentAll bs zs ss c) (l ++ drop (row .output) ls)
   unfolding rowAsk
@@ -372,17 +388,18 @@ module _ (row : Row) (texts numbers bs : List ℕ) (zs ss : List ℤ) (c : Clock
 
 -- ---- kinds that are left
 
-pub named-kind : (k : ℕ) → 1 ≤ k → k ≤ 8 → (k ≡ 1 → ⊥) → (k ≡ 2 → ⊥) → (k ≡ 4 → ⊥) → (k ≡ 3 → ⊥) → (k ≡ 8 → ⊥) → (5 ≤ k) × (k ≤ 7)
-named-kind zero l m a b c d e = absurd (omega arith)
-named-kind (suc zero) l m a b c d e = absurd (a refl)
-named-kind (suc (suc zero)) l m a b c d e = absurd (b refl)
-named-kind (suc (suc (suc zero))) l m a b c d e = absurd (d refl)
-named-kind (suc (suc (suc (suc zero)))) l m a b c d e = absurd (c refl)
-named-kind (suc (suc (suc (suc (suc zero))))) l m a b c d e = (omega arith, omega arith)
-named-kind (suc (suc (suc (suc (suc (suc zero)))))) l m a b c d e = (omega arith, omega arith)
-named-kind (suc (suc (suc (suc (suc (suc (suc zero))))))) l m a b c d e = (omega arith, omega arith)
-named-kind (suc (suc (suc (suc (suc (suc (suc (suc zero)))))))) l m a b c d e = absurd (e refl)
-named-kind (suc (suc (suc (suc (suc (suc (suc (suc (suc k))))))))) l m a b c d e = absurd (omega arith)
+pub named-kind : (k : ℕ) → 1 ≤ k → k ≤ 9 → (k ≡ 1 → ⊥) → (k ≡ 2 → ⊥) → (k ≡ 4 → ⊥) → (k ≡ 3 → ⊥) → (k ≡ 8 → ⊥) → (k ≡ 9 → ⊥) → (5 ≤ k) × (k ≤ 7)
+named-kind zero l m a b c d e f = absurd (omega arith)
+named-kind (suc zero) l m a b c d e f = absurd (a refl)
+named-kind (suc (suc zero)) l m a b c d e f = absurd (b refl)
+named-kind (suc (suc (suc zero))) l m a b c d e f = absurd (d refl)
+named-kind (suc (suc (suc (suc zero)))) l m a b c d e f = absurd (c refl)
+named-kind (suc (suc (suc (suc (suc zero))))) l m a b c d e f = (omega arith, omega arith)
+named-kind (suc (suc (suc (suc (suc (suc zero)))))) l m a b c d e f = (omega arith, omega arith)
+named-kind (suc (suc (suc (suc (suc (suc (suc zero))))))) l m a b c d e f = (omega arith, omega arith)
+named-kind (suc (suc (suc (suc (suc (suc (suc (suc zero)))))))) l m a b c d e f = absurd (e refl)
+named-kind (suc (suc (suc (suc (suc (suc (suc (suc (suc zero))))))))) l m a b c d e f = absurd (f refl)
+named-kind (suc (suc (suc (suc (suc (suc (suc (suc (suc (suc k)))))))))) l m a b c d e f = absurd (omega arith)
 
 pub last-kind : (k : ℕ) → 5 ≤ k → k ≤ 7 → (k ≡ 5 → ⊥) → (k ≡ 6 → ⊥) → k ≡ 7
 last-kind k l m a b = by (k - 5) (omega arith)

@@ -12,7 +12,7 @@ use Rattle.buffers.specs.Parts.{clockNumbers}
 use Rattle.engine.specs.declared.Answer as engine
 use Rattle.script.specs.declared.Row.{Row}
 use Rattle.machine.specs.Machine.{allParts}
-use Rattle.script.specs.Rows.{openKind, timedKind, answerWidth, rowLengths, fits}
+use Rattle.script.specs.Rows.{openKind, lastKind, answerWidth, rowLengths, fits}
 use Rattle.script.specs.Run.{lengthsOf, resultNumbers}
 
 -- two tests of one fact
@@ -37,43 +37,43 @@ module _ (r : Row) (t n m s v k o : ℕ) where
   no-least e = rw (lt-leb openKind (r .kind) e)
 
   module _ (a : openKind ≤ r .kind) where
-    pub no-most : timedKind < r .kind → Fit ≡ false
+    pub no-most : lastKind < r .kind → Fit ≡ false
     unfolding fits
-    no-most e = rw (le-leb openKind (r .kind) a, lt-leb (r .kind) timedKind e)
+    no-most e = rw (le-leb openKind (r .kind) a, lt-leb (r .kind) lastKind e)
 
-    module _ (b : r .kind ≤ timedKind) where
+    module _ (b : r .kind ≤ lastKind) where
       pub no-text : leb (r .text + r .size) t ≡ false → Fit ≡ false
       unfolding fits
-      no-text e = rw (le-leb openKind (r .kind) a, le-leb (r .kind) timedKind b, e)
+      no-text e = rw (le-leb openKind (r .kind) a, le-leb (r .kind) lastKind b, e)
 
       module _ (c : leb (r .text + r .size) t ≡ true) where
         pub no-list : leb (r .from + r .count) n ≡ false → Fit ≡ false
         unfolding fits
-        no-list e = rw (le-leb openKind (r .kind) a, le-leb (r .kind) timedKind b, c, e)
+        no-list e = rw (le-leb openKind (r .kind) a, le-leb (r .kind) lastKind b, c, e)
 
         module _ (d : leb (r .from + r .count) n ≡ true) where
           pub no-model : m < r .model → Fit ≡ false
           unfolding fits allParts rowLengths lengthsOf
-          no-model e = rw (le-leb openKind (r .kind) a, le-leb (r .kind) timedKind b, c, d, lt-leb (r .model) m e)
+          no-model e = rw (le-leb openKind (r .kind) a, le-leb (r .kind) lastKind b, c, d, lt-leb (r .model) m e)
 
           module _ (f : r .model ≤ m) where
             pub no-state : s < r .state → Fit ≡ false
             unfolding fits allParts rowLengths lengthsOf
-            no-state e = rw (le-leb openKind (r .kind) a, le-leb (r .kind) timedKind b, c, d, le-leb (r .model) m f, lt-leb (r .state) s e)
+            no-state e = rw (le-leb openKind (r .kind) a, le-leb (r .kind) lastKind b, c, d, le-leb (r .model) m f, lt-leb (r .state) s e)
 
             module _ (g : r .state ≤ s) where
               pub no-saves : v < r .saves → Fit ≡ false
               unfolding fits allParts rowLengths lengthsOf
-              no-saves e = rw (le-leb openKind (r .kind) a, le-leb (r .kind) timedKind b, c, d, le-leb (r .model) m f, le-leb (r .state) s g, lt-leb (r .saves) v e)
+              no-saves e = rw (le-leb openKind (r .kind) a, le-leb (r .kind) lastKind b, c, d, le-leb (r .model) m f, le-leb (r .state) s g, lt-leb (r .saves) v e)
 
               module _ (i : r .saves ≤ v) where
                 pub no-clock : k < 2 → Fit ≡ false
                 unfolding fits allParts rowLengths lengthsOf
-                no-clock e = rw (le-leb openKind (r .kind) a, le-leb (r .kind) timedKind b, c, d, le-leb (r .model) m f, le-leb (r .state) s g, le-leb (r .saves) v i, lt-leb 2 k e)
+                no-clock e = rw (le-leb openKind (r .kind) a, le-leb (r .kind) lastKind b, c, d, le-leb (r .model) m f, le-leb (r .state) s g, le-leb (r .saves) v i, lt-leb 2 k e)
 
                 pub output-fits : 2 ≤ k → Fit ≡ leb (r .output) o
                 unfolding fits allParts rowLengths lengthsOf
-                output-fits e = rw (le-leb openKind (r .kind) a, le-leb (r .kind) timedKind b, c, d, le-leb (r .model) m f, le-leb (r .state) s g, le-leb (r .saves) v i, le-leb 2 k e)
+                output-fits e = rw (le-leb openKind (r .kind) a, le-leb (r .kind) lastKind b, c, d, le-leb (r .model) m f, le-leb (r .state) s g, le-leb (r .saves) v i, le-leb 2 k e)
 
 -- an answer's numbers, one after the other
 pub written : (l : List ℕ) (r : engine.Answer) → answerWidth ≤ length l

@@ -5,7 +5,7 @@ use mathlib.Core.Option.{Option, none, some, Option·elim}
 use Prim.Native.Nat.{ℕ, zero, suc, _+_, _-_, _/_}
 use lib.Dec.{eqb, leb}
 use lib.ListN.{length, getD, take, drop}
-use Rattle.machine.specs.Machine.{listingLength, list′, step′, report′, timed′, save′, return′, forget′, Ask, open′, on′, Part, model, state, saves, clock, size, allParts, Call, call}
+use Rattle.machine.specs.Machine.{listingLength, list′, step′, report′, timed′, save′, return′, forget′, Ask, open′, openSteady′, on′, Part, model, state, saves, clock, size, allParts, Call, call}
 use Rattle.script.specs.declared.Row.{Row}
 
 -- numbers of a row, and of an answer
@@ -39,6 +39,12 @@ forgetKind = 7
 
 abbrev pub timedKind : ℕ
 timedKind = 8
+
+abbrev pub steadyKind : ℕ
+steadyKind = 9
+
+abbrev pub lastKind : ℕ
+lastKind = steadyKind
 
 -- ---- rows
 
@@ -92,7 +98,7 @@ roomAfter x = record { parts = x .parts; outputs = x .outputs - listingLength; a
 -- a row of one of the kinds, that asks for no more than there is: its text and its list stand in so many bytes and numbers, and what it lends is there
 unfoldable pub fits : Row → (texts numbers : ℕ) → (Part → ℕ) → (outputs : ℕ) → Bool
 fits r texts numbers parts outputs =
-    leb openKind (r .kind) && (leb (r .kind) timedKind
+    leb openKind (r .kind) && (leb (r .kind) lastKind
     && (leb (r .text + r .size) texts && (leb (r .from + r .count) numbers
     && (allParts (λ (p : Part). leb (rowLengths r p) (parts p)) rowParts && leb (r .output) outputs))))
 
@@ -104,16 +110,17 @@ rowText texts r = take (r .size) (drop (r .text) texts)
 unfoldable pub rowDraws : List ℕ → Row → List ℕ
 rowDraws numbers r = take (r .count) (drop (r .from) numbers)
 
--- 01, Rule machine: what a row that fits asks: a text or a draw; 02, note 2: or a name; note 4: or waiting draws and a draw
+-- 01, Rule machine: what a row that fits asks: a text or a draw; 02, note 11: or a text under the steady profile; note 2: or a name; note 4: or waiting draws and a draw
 unfoldable pub rowAsk : (texts numbers : List ℕ) → Row → Ask
 rowAsk texts numbers r =
     cond (eqb (r .kind) openKind) (open′ (rowText texts r))
+    (cond (eqb (r .kind) steadyKind) (openSteady′ (rowText texts r))
     (cond (eqb (r .kind) listKind) (on′ list′)
     (cond (eqb (r .kind) reportKind) (on′ report′)
     (cond (eqb (r .kind) stepKind) (on′ (step′ (r .number)))
     (cond (eqb (r .kind) timedKind) (on′ (timed′ (rowDraws numbers r) (r .number)))
     (cond (eqb (r .kind) saveKind) (on′ (save′ (rowText texts r)))
-    (cond (eqb (r .kind) returnKind) (on′ (return′ (rowText texts r))) (on′ (forget′ (rowText texts r)))))))))
+    (cond (eqb (r .kind) returnKind) (on′ (return′ (rowText texts r))) (on′ (forget′ (rowText texts r))))))))))
 
 -- 01, Rule machine: its call, with the lengths of what is lent
 unfoldable pub rowCall : (texts numbers : List ℕ) → Row → Call

@@ -11,7 +11,7 @@ ghost use lib.Dec.{leb};
 ghost use lib.IntN.{ℤ};
 ghost use lib.ListN.{length, drop};
 ghost use Rattle.buffers.specs.Parts.{clockNumbers, clockIn, lentAll};
-ghost use Rattle.script.specs.Rows.{rowWidth, answerWidth, saveKind, forgetKind, timedKind, rowOf, fits, rowCall, firstCall};
+ghost use Rattle.script.specs.Rows.{rowWidth, answerWidth, saveKind, forgetKind, timedKind, steadyKind, rowOf, fits, rowCall, firstCall};
 ghost use Rattle.script.specs.Run.{lentFour, lentOf, roomOf, lengthsOf, resultNumbers, Called, RowRan, RowRanAt, Ran};
 ghost use Rattle.script.specs.Follows.{Refines};
 
@@ -55,7 +55,9 @@ impl Row {
 
     pub const TIMED: u64 = 8;
 
-    pub const LAST: u64 = Row::TIMED;
+    pub const STEADY: u64 = 9;
+
+    pub const LAST: u64 = Row::STEADY;
 }
 
 // The first row of a script.
@@ -199,6 +201,32 @@ fn call_timed(
     )
 }
 
+// Makes the opening of a row under the steady profile.
+fn call_steady(
+    row: Row,
+    texts: &[u8],
+    model: &mut [u8],
+    state: &mut [i64],
+    saves: &mut [i64],
+    clock: Clock,
+) -> Timed
+    requires { ⌜ (row .kind ≡ steadyKind) × ((n : ℕ) × ((t : ℕ) × ((o : ℕ) × (fits row (length (now texts)) n (lengthsOf (length (now model)) (length (now state)) (length (now saves)) t) o ≡ true)))) ⌝ }
+    ensures { λ r. ⌜ ((ns ls : List ℕ) → Called (rowCall (now (texts .entry)) ns row) (lentAll (now (model .entry)) (now (state .entry)) (now (saves .entry)) clock) ls (r .answer) (lentAll (now (model .exit)) (now (state .exit)) (now (saves .exit)) (r .clock)) ls) ⌝ }
+{
+    let m = row.model;
+    let s = row.state;
+    let v = row.saves;
+    let first = row.text;
+    let end = first + row.size;
+    engine::open_steady(
+        &texts[first..end],
+        &mut model[..m],
+        &mut state[..s],
+        &mut saves[..v],
+        clock,
+    )
+}
+
 // Makes the call of a row.
 fn call(
     row: Row,
@@ -242,6 +270,9 @@ fn call(
     }
     if row.kind == Row::TIMED {
         return call_timed(row, numbers, &model[..], state, outputs, clock);
+    }
+    if row.kind == Row::STEADY {
+        return call_steady(row, texts, model, state, saves, clock);
     }
     call_named(row, texts, &model[..], state, saves, clock)
 }

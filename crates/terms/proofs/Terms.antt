@@ -22,13 +22,15 @@ use Rattle.model.specs.Opening as reading
 use Rattle.model.specs.Questions.{Answers, no2, no3, no4, no5, no6, no7, no8, no9, yesToAll}
 use Rattle.model.specs.Questions as questions
 use Rattle.model.proofs.Answered.{opening-answers}
+use Rattle.profile.specs.Opening.{openingSteady, AnswersSteady}
+use Rattle.profile.proofs.InOrder.{answered-steady}
 use Rattle.rules.proofs.Decides.{Decides, holds, fails, passes}
 use Rattle.clock.specs.declared.Clock.{Clock}
 use Rattle.machine.specs.State.{State, stateLength}
 use Rattle.machine.specs.Timed.{Timed}
 use Rattle.machine.specs.Report.{reportLength}
 use Rattle.machine.specs.Saves.{Saves, Stored, saving, returning, forgetting}
-use Rattle.machine.specs.Machine.{modelLength, listingLength, asLent, no, Held, heldAll, heldWith, held, Machine, closed, holding, onSaves, Request, list′, step′, report′, search′, timed′, save′, return′, forget′, open′, on′, acts, Part, model, state, saves, clock, size, twoParts, timedParts, threeParts, fourParts, uses, lentTo, isLent, hasLengths, call, onMachine}
+use Rattle.machine.specs.Machine.{modelLength, listingLength, asLent, no, Held, heldAll, heldWith, held, Machine, closed, holding, onSaves, Request, list′, step′, report′, search′, timed′, save′, return′, forget′, open′, openSteady′, on′, acts, Part, model, state, saves, clock, size, twoParts, timedParts, threeParts, fourParts, uses, lentTo, isLent, hasLengths, call, onMachine}
 use Rattle.machine.proofs.Lent.{lent-so}
 use Rattle.machine.proofs.Listing.{accepted}
 use Rattle.buffers.specs.Listing.{shown}
@@ -44,7 +46,7 @@ use Rattle.buffers.proofs.Three as threes
 use Rattle.buffers.proofs.Three.{InThree, all, in-three, stores}
 use Rattle.buffers.proofs.Answers.{lists-as, steps-as, reports-as, searches-as}
 use Rattle.buffers.proofs.Every.{every-list}
-use Rattle.terms.specs.One.{Lengths, Hold, Opens, no1, no10, yes10, Asks, HoldSaves, Waits, Keeps, Stores, TermOne}
+use Rattle.terms.specs.One.{Lengths, Hold, Opens, no1, no10, yes10, OpensSteady, no29, yes29, Asks, HoldSaves, Waits, Keeps, Stores, TermOne}
 use Rattle.terms.specs.One as one
 use Rattle.terms.specs.Two.{Reading, Passes, TermTwo}
 use Rattle.terms.specs.Three.{TermThree}
@@ -62,6 +64,19 @@ opens text x l = by (lent-so (call (open′ text) (λ (p : Part). length (x p)) 
     by : {b : Bool} → Decides (Lengths (open′ text) x l) b → Opens text x l (cond b (opensWith text (reading.opening text) l) (untouched x l))
     by (holds h) = with (reading.opening text) refl h
     by (fails h) = no1 h
+
+-- 02, note 11: under the steady profile
+opens-steady : (text : List ℕ) (x : Engine) (l : List ℕ) → OpensSteady text x l (effect (openSteady′ text) x l)
+unfolding effect answered opensWith untouched
+opens-steady text x l = by (lent-so (call (openSteady′ text) (λ (p : Part). length (x p)) (length l)))
+  where
+    with : (o : Opening) → AnswersSteady text o → Lengths (openSteady′ text) x l → OpensSteady text x l (opensWith text o l)
+    with (refused n p) a h = no29 h a
+    with (opened m) a h = yes29 h a
+
+    by : {b : Bool} → Decides (Lengths (openSteady′ text) x l) b → OpensSteady text x l (cond b (opensWith text (openingSteady text) l) (untouched x l))
+    by (holds h) = with (openingSteady text) (answered-steady text) h
+    by (fails h) = one.OpensSteady.no1 h
 
 -- ---- the other calls
 
@@ -225,6 +240,7 @@ pub term-one : TermOne
 unfolding effect answered requested machineIn acts
 term-one = record {
   opening = opens;
+  steady = opens-steady;
   listing = λ x l byte. asks x l byte list′ _ refl refl (λ m s h a b e. lists-as x l a b m s e (h .output listingLength refl));
   stepping = λ x l d byte. asks x l byte (step′ d) _ refl refl (λ m s h a b e. steps-as x l a b m s e (h .output listingLength refl) d);
   reporting = λ x l byte. asks x l byte report′ _ refl refl (λ m s h a b e. reports-as x l a b m s e (h .output reportLength refl));

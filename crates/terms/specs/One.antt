@@ -11,11 +11,12 @@ use Rattle.model.specs.Opening.{refused, opened}
 use Rattle.model.specs.Questions.{Answers}
 use Rattle.clock.specs.declared.Clock.{Clock}
 use Rattle.clock.specs.Clock.{freshClock, InRange}
+use Rattle.profile.specs.Opening.{AnswersSteady}
 use Rattle.machine.specs.State.{State, stateNumbers, GoodState}
 use Rattle.machine.specs.Timed.{Timed, timed}
 use Rattle.machine.specs.Saves.{Saves, GoodSaves, Stored, saving, returning, forgetting}
 use Rattle.machine.specs.Machine as machine
-use Rattle.machine.specs.Machine.{asLent, Answer, no, Request, list′, step′, report′, search′, timed′, save′, return′, forget′, Ask, open′, on′, Part, model, state, saves, clock, call, openedState}
+use Rattle.machine.specs.Machine.{asLent, Answer, no, Request, list′, step′, report′, search′, timed′, save′, return′, forget′, Ask, open′, openSteady′, on′, Part, model, state, saves, clock, call, openedState}
 use Rattle.machine.specs.Results.{Lent}
 use Rattle.saves.specs.Places.{savesNumbers}
 use Rattle.buffers.specs.Held.{modelBytes}
@@ -44,6 +45,13 @@ pub data Opens (text : List ℕ) (x : Engine) (l : List ℕ) : Effect → Type 0
   no1 : (Lengths (open′ text) x l → ⊥) → Opens text x l (left (no 1 0 0 asLent) x l)
   no10 : {n p : ℕ} → Lengths (open′ text) x l → Answers text (refused n p) → Opens text x l (left (no n p 0 asLent) fresh l)
   yes10 : {m : Resolved.Model} → Lengths (open′ text) x l → Answers text (opened m) → Opens text x l (left (no 0 0 0 asLent) (numbersOf (modelBytes text) (machine.held m (openedState m))) l)
+
+-- 02, note 11: under the steady profile the same, with 29 after 10; acceptance fills the buffers as an opening without the profile does
+pub data OpensSteady (text : List ℕ) (x : Engine) (l : List ℕ) : Effect → Type 0 where
+  no1 : (Lengths (openSteady′ text) x l → ⊥) → OpensSteady text x l (left (no 1 0 0 asLent) x l)
+  no29 : {n p : ℕ} → Lengths (openSteady′ text) x l → AnswersSteady text (refused n p) → OpensSteady text x l (left (no n p 0 asLent) fresh l)
+  yes29 : {m : Resolved.Model} → Lengths (openSteady′ text) x l → AnswersSteady text (opened m)
+      → OpensSteady text x l (left (no 0 0 0 asLent) (numbersOf (modelBytes text) (machine.held m (openedState m))) l)
 
 -- 01, Listing and stepping: 1, then 11, which change nothing, then what the request asks of the model and the state that are held (As); l: the output
 pub data Asks (r : Request) (As : Resolved.Model → State → Effect → Type 0) (x : Engine) (l : List ℕ) : Effect → Type 0 where
@@ -83,6 +91,7 @@ pub data Stores (r : Request) (f : Timed → Saves → Stored) (x : Engine) (l :
 -- the term; the first number of a model buffer is a byte
 pub record TermOne : Type 0 where
   pub opening : (text : List ℕ) (x : Engine) (l : List ℕ) → Opens text x l (effect (open′ text) x l)
+  pub steady : (text : List ℕ) (x : Engine) (l : List ℕ) → OpensSteady text x l (effect (openSteady′ text) x l)
   pub listing : (x : Engine) (l : List ℕ) → getD (x model) 0 0 < 256 → Asks list′ (λ m s. ListsAs m s x l) x l (effect (on′ list′) x l)
   pub stepping : (x : Engine) (l : List ℕ) (d : ℕ) → getD (x model) 0 0 < 256 → Asks (step′ d) (λ m s. StepsAs m s x l d) x l (effect (on′ (step′ d)) x l)
   pub reporting : (x : Engine) (l : List ℕ) → getD (x model) 0 0 < 256 → Asks report′ (λ m s. ReportsAs m s x l) x l (effect (on′ report′) x l)

@@ -42,6 +42,7 @@ pub fn run(tried: &Engine, oracle: &Engine, calls: &[Call], met: &mut Met) -> Re
     let (mut left, mut right) = (Buffers::default(), Buffers::default());
     let mut made = Vec::new();
     let mut saved = Saved::default();
+    let mut profile = Profile::default();
     for (number, call) in calls.iter().enumerate() {
         let call = right.exact(call);
         made.push(call.clone());
@@ -49,6 +50,7 @@ pub fn run(tried: &Engine, oracle: &Engine, calls: &[Call], met: &mut Met) -> Re
             left.make(tried, &call);
             right.make(oracle, &call);
             saved.note_change(&call);
+            profile.steady = false;
             continue;
         }
         let lent = as_lent(&right, &call);
@@ -57,7 +59,8 @@ pub fn run(tried: &Engine, oracle: &Engine, calls: &[Call], met: &mut Met) -> Re
         let fault = differs(&call, &first, &left, &second, &right)
             .or_else(|| kept(&call, &lent, &first, &left))
             .or_else(|| saved.note(&call, &first, &left))
-            .or_else(|| untimed(oracle, &call, &lent, &first, &left));
+            .or_else(|| untimed(oracle, &call, &lent, &first, &left))
+            .or_else(|| profile.note(&call, &first, &lent, &left));
         if let Some((place, what)) = fault {
             return Err(Difference { call: number, place, what, made });
         }
@@ -103,7 +106,7 @@ impl Saved {
 
     /// The state found after a return is that of the latest accepted save under that name (02, note 2).
     fn note(&mut self, call: &Call, answer: &Answer, after: &Buffers) -> Option<(Place, String)> {
-        if matches!(call, Call::Open { .. }) && answer.number != 1 {
+        if call.opens() && answer.number != 1 {
             self.states = Some(BTreeMap::new());
         }
         let states = self.states.as_mut().filter(|_| answer.number == 0)?;
@@ -121,6 +124,27 @@ impl Saved {
             _ => {}
         }
         None
+    }
+}
+
+/// Was the text opened under the steady profile, and nothing changed by hand since?
+#[derive(Default)]
+struct Profile {
+    steady: bool,
+}
+
+impl Profile {
+    /// Up to the next opening no call meets 18, and no step raises the number of processes (02, note 11).
+    fn note(&mut self, call: &Call, answer: &Answer, lent: &Buffers, after: &Buffers) -> Option<(Place, String)> {
+        if call.opens() && answer.number != 1 {
+            self.steady = answer.number == 0 && matches!(call, Call::Steady { .. });
+        }
+        let steps = matches!(call, Call::Step { .. } | Call::Timed { .. });
+        if self.steady && answer.number == 18 {
+            return Some((Place::Answer, "18 under the steady profile".to_string()));
+        }
+        let raises = self.steady && steps && after.state[0] > lent.state[0];
+        raises.then(|| (Place::State, "a step raises the number of processes".to_string()))
     }
 }
 
@@ -151,14 +175,14 @@ fn part<T: PartialEq + fmt::Display>(place: Place, name: &str, left: &[T], right
 /// What 01 and 02 say of the buffers of a call by its number alone: what must be as lent, what zero.
 fn kept(call: &Call, lent: &Buffers, answer: &Answer, after: &Buffers) -> Option<(Place, String)> {
     let number = answer.number;
-    let opening = matches!(call, Call::Open { .. });
+    let opening = call.opens();
     let timed = number == 0 && matches!(call, Call::Timed { .. } | Call::Return { .. });
     let moves = timed || (number == 0 && matches!(call, Call::Step { .. }));
     let saves = number == 0 && matches!(call, Call::Save { .. } | Call::Forget { .. });
     let lent_saves = call.lends(Buffer::Saves);
     let saves_as_lent = lent_saves && !saves && (!opening || number == 1);
     let forgets = opening && number != 1;
-    let closes = opening && (2..=10).contains(&number);
+    let closes = opening && number > 1;
     let model_as_lent = !opening || number == 1;
     let state_as_lent = !moves && (!opening || number == 1);
     let faults = [

@@ -49,6 +49,17 @@ extern "C" {
         saves_len: usize,
         clock: *mut CClock,
     ) -> CAnswer;
+    fn matgravel_open_steady(
+        text: *const u8,
+        text_len: usize,
+        model: *mut u8,
+        model_len: usize,
+        state: *mut i64,
+        state_len: usize,
+        saves: *mut i64,
+        saves_len: usize,
+        clock: *mut CClock,
+    ) -> CAnswer;
     fn matgravel_list(
         model: *const u8,
         model_len: usize,
@@ -133,6 +144,24 @@ pub fn open(text: &[u8], lent: Opening) -> Answer {
     // The call keeps no pointer, and reads and writes within the lengths given.
     with_clock(clock, |clock| unsafe {
         matgravel_open(
+            text.as_ptr(),
+            text.len(),
+            model.as_mut_ptr(),
+            model.len(),
+            state.as_mut_ptr(),
+            state.len(),
+            saves.as_mut_ptr(),
+            saves.len(),
+            clock,
+        )
+    })
+}
+
+pub fn open_steady(text: &[u8], lent: Opening) -> Answer {
+    let Opening { model, state, saves, clock } = lent;
+    // As above.
+    with_clock(clock, |clock| unsafe {
+        matgravel_open_steady(
             text.as_ptr(),
             text.len(),
             model.as_mut_ptr(),
@@ -263,4 +292,5 @@ pub fn independent(entry: &[u64], other: &[u64]) -> bool {
 }
 
 /// The library's engine.
-pub const ENGINE: Engine = Engine { open, list, step, timed_step, report, save, return_to, forget, independent };
+pub const ENGINE: Engine =
+    Engine { open, open_steady, list, step, timed_step, report, save, return_to, forget, independent };

@@ -22,7 +22,7 @@ const TEXT_START: usize = 2;
 
 /// The list of a seed: mostly random calls; every tenth goes through the limits, every fifth
 /// hands in states and model buffers directly, every tenth has long lists or many names, every
-/// tenth is of saves.
+/// tenth is of saves, one in twenty of a steady model.
 pub fn of_seed(seed: u64) -> Vec<Call> {
     let mut random = Random::new(seed);
     match seed % 20 {
@@ -39,6 +39,13 @@ pub fn of_seed(seed: u64) -> Vec<Call> {
         16 => {
             let text = texts::many_names(&mut random);
             opened_and_run(&mut random, text, STEPS)
+        }
+        17 => {
+            let text = generate::steady(&mut random);
+            let mut calls = opened_and_run(&mut random, text, STEPS);
+            let Call::Open { text, lengths } = calls.remove(0) else { unreachable!("it opens first") };
+            calls.insert(0, Call::Steady { text, lengths });
+            calls
         }
         _ => generate::calls(&mut random, STEPS),
     }

@@ -14,8 +14,9 @@ const CHANNEL_KINDS: std::ops::RangeInclusive<u64> = 2..=7;
 /// Numbers of a listing entry.
 const ENTRY: usize = 7;
 /// What each call must have answered.
-const ANSWERS: [(&str, &[u64]); 8] = [
+const ANSWERS: [(&str, &[u64]); 9] = [
     ("open", &[0, 1, 2, 3, 4, 5, 6, 7, 8, 9, 10]),
+    ("steady", &[0, 1, 2, 3, 4, 5, 6, 7, 8, 9, 10, 29]),
     ("list", &[0, 1, 11, 12, 13, 14]),
     ("step", &[0, 1, 11, 12, 13, 14, 15, 16, 17, 18, 19]),
     ("timed", &[0, 1, 11, 12, 13, 14, 15, 16, 17, 18, 19, 23, 24, 25]),

@@ -160,7 +160,7 @@ impl Shrinker<'_> {
 
     fn text(&self, call: usize) -> Option<Vec<u8>> {
         match self.best.made.get(call)? {
-            Call::Open { text, .. } => Some(text.clone()),
+            Call::Open { text, .. } | Call::Steady { text, .. } => Some(text.clone()),
             _ => None,
         }
     }
@@ -242,7 +242,7 @@ impl Shrinker<'_> {
 
     fn takes_text(&mut self, call: usize, new: Vec<u8>) -> bool {
         let mut calls = self.best.made.clone();
-        if let Some(Call::Open { text, .. }) = calls.get_mut(call) {
+        if let Some(Call::Open { text, .. } | Call::Steady { text, .. }) = calls.get_mut(call) {
             *text = new;
         }
         self.takes_redrawn(calls)
@@ -310,7 +310,7 @@ impl Shrinker<'_> {
 /// How long a list is: calls, bytes of texts, digits of draws.
 fn size(calls: &[Call]) -> usize {
     let size = |call: &Call| match call {
-        Call::Open { text, .. } => 10 + text.len(),
+        Call::Open { text, .. } | Call::Steady { text, .. } => 10 + text.len(),
         Call::Step { draw: Draw::Exactly(draw), .. } => 10 + draw.to_string().len(),
         Call::Timed { draw: Draw::Exactly(draw), waiting, .. } => 10 + draw.to_string().len() + 10 * waiting.len(),
         Call::Save { name, .. } | Call::Return { name, .. } | Call::Forget { name, .. } => 10 + name.len(),

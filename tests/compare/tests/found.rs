@@ -10,7 +10,8 @@ use second::limits::HIGHEST;
 use second::script::{self, Form, Line};
 use second::state::{DEFINITION, FIRST_PAIR, FIRST_PROCESS, FIRST_VALUE, PAIR, PROCESS, VALUE_COUNT};
 use second::{
-    forget, list, open, report, return_to, save, saves, step, timed_step, Answer, Clock, Opening, LISTING, SAVES,
+    forget, list, open, open_steady, report, return_to, save, saves, step, timed_step, Answer, Clock, Opening, LISTING,
+    SAVES,
 };
 
 const ENTRY: usize = 7;
@@ -470,6 +471,30 @@ fn a_return_that_leaves_the_clock() {
         return_to(model, state, places, name, &mut other)
     }
     found(Engine { return_to: wrong, ..SECOND }, Place::Clock, 5, 160);
+}
+
+#[test]
+fn a_steady_opening_that_looks_at_calls_alone() {
+    fn wrong(text: &[u8], mut lent: Opening) -> Answer {
+        let answer = open_steady(text, lent.again());
+        if answer.number == 29 && text[answer.place as usize] == b'(' {
+            return open(text, lent);
+        }
+        answer
+    }
+    found(Engine { open_steady: wrong, ..SECOND }, Place::Answer, 1, 60);
+}
+
+#[test]
+fn a_steady_opening_that_keeps_what_it_refuses() {
+    fn wrong(text: &[u8], mut lent: Opening) -> Answer {
+        let answer = open_steady(text, lent.again());
+        if answer.number == 29 {
+            open(text, lent);
+        }
+        answer
+    }
+    found(Engine { open_steady: wrong, ..SECOND }, Place::State, 1, 60);
 }
 
 /// What is said of an engine for which the order of independent entries matters.

@@ -6,7 +6,7 @@ use compare::linked::ENGINE;
 use compare::met::Met;
 use compare::orders::{self, Tried};
 use compare::{lists, specimens, texts, with_stack};
-use second::generate::{Buffers, SECOND};
+use second::generate::{Buffers, Call, RIGHT, SECOND};
 use second::script::{self, Form};
 use second::{LISTING, MODEL, REPORT, SAVES, STATE};
 use std::path::{Path, PathBuf};
@@ -100,6 +100,8 @@ fn the_stack_that_the_header_names_is_enough() {
             let returned = (ENGINE.return_to)(model, state, saves, b"a", clock);
             let forgotten = (ENGINE.forget)(model, state, saves, b"a");
             assert!([saved, returned, forgotten].iter().all(|answer| [0, 11].contains(&answer.number)));
+            let steady = Buffers::default().make(&ENGINE, &Call::Steady { text: text.clone(), lengths: RIGHT });
+            assert!(steady.is_some_and(|answer| [opened.number, 29].contains(&answer.number)));
             let timed = (ENGINE.timed_step)(model, state, listing, &[7, 7], 0, clock);
             assert!(timed.number == 0 || timed.number >= 11);
             let stepped = (ENGINE.step)(model, state, listing, 0);

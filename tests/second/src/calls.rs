@@ -45,6 +45,10 @@ pub enum Call {
         text: Vec<u8>,
         lengths: Lengths,
     },
+    Steady {
+        text: Vec<u8>,
+        lengths: Lengths,
+    },
     List {
         lengths: Lengths,
     },
@@ -106,6 +110,7 @@ impl Call {
     pub fn lengths(&self) -> Option<&Lengths> {
         match self {
             Call::Open { lengths, .. }
+            | Call::Steady { lengths, .. }
             | Call::List { lengths }
             | Call::Step { lengths, .. }
             | Call::Timed { lengths, .. }
@@ -117,12 +122,18 @@ impl Call {
         }
     }
 
+    /// Is it an opening, of either kind?
+    pub fn opens(&self) -> bool {
+        matches!(self, Call::Open { .. } | Call::Steady { .. })
+    }
+
     /// Is the call lent this buffer? A change of the buffers is lent none.
     pub fn lends(&self, buffer: Buffer) -> bool {
         let third = match self {
             Call::List { .. } | Call::Step { .. } | Call::Timed { .. } => Buffer::Listing,
             Call::Report { .. } => Buffer::Report,
-            Call::Open { .. } | Call::Save { .. } | Call::Return { .. } | Call::Forget { .. } => Buffer::Saves,
+            Call::Open { .. } | Call::Steady { .. } => Buffer::Saves,
+            Call::Save { .. } | Call::Return { .. } | Call::Forget { .. } => Buffer::Saves,
             _ => return false,
         };
         [Buffer::Model, Buffer::State, third].contains(&buffer)
@@ -140,6 +151,7 @@ impl Call {
         };
         match &mut self {
             Call::Open { lengths, .. }
+            | Call::Steady { lengths, .. }
             | Call::List { lengths }
             | Call::Step { lengths, .. }
             | Call::Timed { lengths, .. }
@@ -155,6 +167,7 @@ impl Call {
     pub fn name(&self) -> &'static str {
         match self {
             Call::Open { .. } => "open",
+            Call::Steady { .. } => "steady",
             Call::List { .. } => "list",
             Call::Step { .. } => "step",
             Call::Timed { .. } => "timed",
@@ -174,6 +187,7 @@ pub type TimedStep = fn(&[u8], &mut [i64], &mut [u64], &[u16], u64, &mut Clock) 
 #[derive(Clone, Copy)]
 pub struct Engine {
     pub open: fn(&[u8], Opening) -> Answer,
+    pub open_steady: fn(&[u8], Opening) -> Answer,
     pub list: fn(&[u8], &[i64], &mut [u64]) -> Answer,
     pub step: fn(&[u8], &mut [i64], &mut [u64], u64) -> Answer,
     pub report: fn(&[u8], &[i64], &mut [u64]) -> Answer,
@@ -188,6 +202,7 @@ pub struct Engine {
 /// This crate's engine.
 pub const SECOND: Engine = Engine {
     open: crate::open,
+    open_steady: crate::open_steady,
     list: crate::list,
     step: crate::step,
     report: crate::report,
@@ -241,6 +256,7 @@ impl Buffers {
         let (saves, clock) = (&mut self.saves[..lengths.saves], &mut self.clock);
         Some(match call {
             Call::Open { text, .. } => (engine.open)(text, Opening { model, state, saves, clock }),
+            Call::Steady { text, .. } => (engine.open_steady)(text, Opening { model, state, saves, clock }),
             Call::List { .. } => (engine.list)(model, state, listing),
             Call::Step { .. } => (engine.step)(model, state, listing, draw),
             Call::Timed { waiting, .. } => (engine.timed_step)(model, state, listing, waiting, draw, clock),

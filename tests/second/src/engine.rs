@@ -37,21 +37,35 @@ impl Opening<'_> {
 }
 
 /// Reads a text. Questions 1 to 10.
-pub fn open(text: &[u8], mut lent: Opening) -> Answer {
+pub fn open(text: &[u8], lent: Opening) -> Answer {
+    opens(text, lent, |_| None)
+}
+
+/// Reads a text whose continuations leave at most one process each. Questions 1 to 10 and 29.
+pub fn open_steady(text: &[u8], lent: Opening) -> Answer {
+    opens(text, lent, |model| model.unsteady.map(|place| model::Refused { number: 29, place }))
+}
+
+/// Questions 1 to 10, then one more.
+fn opens(text: &[u8], mut lent: Opening, last: fn(&Model) -> Option<model::Refused>) -> Answer {
     if !lent.fits() {
         return Answer::refusal(1);
     }
     lent.clear();
-    let refusal = match model::read(text) {
-        Ok(read) if state::processes_at_start(&read) <= state::PROCESSES => {
+    let read = model::read(text).and_then(|read| {
+        if state::processes_at_start(&read) > state::PROCESSES {
+            return Err(model::Refused { number: 10, place: read.system_start });
+        }
+        last(&read).map_or(Ok(read), Err)
+    });
+    match read {
+        Err(refused) => Answer { place: refused.place as u64, ..Answer::refusal(refused.number) },
+        Ok(read) => {
             model::write_buffer(text, lent.model);
             state::write_buffer(&read, &state::start(&read), lent.state);
-            return Answer::default();
+            Answer::default()
         }
-        Ok(read) => model::Refused { number: 10, place: read.system_start },
-        Err(refused) => refused,
-    };
-    Answer { place: refusal.place as u64, ..Answer::refusal(refusal.number) }
+    }
 }
 
 /// Lists what can happen next. Questions 1 and 11 to 14.

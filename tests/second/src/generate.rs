@@ -80,10 +80,21 @@ struct Writer<'a> {
     /// The channels of this model, few of them, so that processes meet, each as its tokens.
     channels: Vec<String>,
     scope: Vec<&'static str>,
+    /// Leaves every continuation at most one process (02, note 11)?
+    steady: bool,
 }
 
 /// A legal model whose processes mostly go on.
 pub fn lively(random: &mut Random) -> Vec<u8> {
+    written(random, false)
+}
+
+/// The same, and no continuation leaves more than one process.
+pub fn steady(random: &mut Random) -> Vec<u8> {
+    written(random, true)
+}
+
+fn written(random: &mut Random, steady: bool) -> Vec<u8> {
     let mut writer = Writer {
         random,
         tokens: Vec::new(),
@@ -92,6 +103,7 @@ pub fn lively(random: &mut Random) -> Vec<u8> {
         definitions: Vec::new(),
         channels: Vec::new(),
         scope: Vec::new(),
+        steady,
     };
     writer.model();
     let tokens = writer.tokens;
@@ -228,7 +240,7 @@ impl Writer<'_> {
         self.scope.clear();
         self.new_locals(parameters);
         self.put("] =");
-        let sums = *self.random.pick(&[1, 1, 1, 1, 2]);
+        let sums = if self.steady { 1 } else { *self.random.pick(&[1, 1, 1, 1, 2]) };
         self.list(sums, "||", |writer| writer.sum(0));
         self.put(";");
     }
@@ -475,7 +487,7 @@ impl Writer<'_> {
 
     fn group(&mut self, depth: usize) {
         self.put("(");
-        let items = *self.random.pick(&[1, 1, 2, 2, 3]);
+        let items = if self.steady { 1 } else { *self.random.pick(&[1, 1, 2, 2, 3]) };
         for item in 0..items {
             if item > 0 {
                 self.put("||");
@@ -1124,6 +1136,16 @@ pub fn some_text(random: &mut Random) -> Vec<u8> {
     }
 }
 
+/// An opening of any text, sometimes under the steady profile, and then often of one that it accepts.
+fn some_opening(random: &mut Random) -> Call {
+    let lengths = RIGHT;
+    match random.below(10) {
+        0 => Call::Steady { text: some_text(random), lengths },
+        1 | 2 => Call::Steady { text: steady(random), lengths },
+        _ => Call::Open { text: some_text(random), lengths },
+    }
+}
+
 /// A change of the buffers that often spoils them.
 fn some_change(random: &mut Random) -> Call {
     match random.below(14) {
@@ -1194,7 +1216,8 @@ fn some_change_of_saves(random: &mut Random) -> Call {
 pub fn edge_calls(random: &mut Random) -> Vec<Call> {
     let mut calls = Vec::new();
     for which in 0..EDGES {
-        calls.push(Call::Open { text: edge_of_kind(random, which), lengths: RIGHT });
+        let (text, lengths) = (edge_of_kind(random, which), RIGHT);
+        calls.push(if random.chance(50) { Call::Open { text, lengths } } else { Call::Steady { text, lengths } });
         calls.extend([LIST, REPORTED]);
         for _ in 0..4 {
             calls.push(Call::Step { lengths: RIGHT, draw: some_draw(random) });
@@ -1246,10 +1269,11 @@ pub fn calls(random: &mut Random, most_steps: usize) -> Vec<Call> {
         calls.push(some_timed(random));
     }
     for _ in 0..1 + random.below(3) {
-        let text = some_text(random);
+        let opening = some_opening(random);
+        let (Call::Open { text, .. } | Call::Steady { text, .. }) = &opening else { continue };
         // Few calls on an engine that a refused text has closed.
-        let steps = if model::read(&text).is_ok() { most_steps } else { 2 };
-        calls.push(lent(random, Call::Open { text, lengths: RIGHT }));
+        let steps = if model::read(text).is_ok() { most_steps } else { 2 };
+        calls.push(lent(random, opening));
         let mut left = random.below(steps + 1);
         while left > 0 {
             left -= 1;

@@ -24,7 +24,7 @@ pub mod syntax;
 pub mod tokens;
 
 pub use clock::Clock;
-pub use engine::{forget, list, open, report, return_to, save, step, timed_step, Opening};
+pub use engine::{forget, list, open, open_steady, report, return_to, save, step, timed_step, Opening};
 
 /// Length of the model buffer in bytes: the text's length (2 bytes, the low one first), the text,
 /// zeros.
@@ -48,7 +48,7 @@ const _: () = assert!(listing::BUFFER == LISTING && limits::DEFINITIONS == REPOR
 pub struct Answer {
     /// 0 for acceptance, or the number of the first question with the answer no.
     pub number: u64,
-    /// Of 1 to 10 a byte place, of 12 a process place, else 0.
+    /// Of 1 to 10 and 29 a byte place, of 12 a process place, else 0.
     pub place: u64,
     /// Of 12 a branch, else 0.
     pub branch: u64,

@@ -27,6 +27,8 @@ pub struct Model {
     pub system_start: usize,
     /// How many channel names there are.
     pub channel_names: usize,
+    /// The place of the first `(` or call name after which a continuation can leave more than one process (02, note 11).
+    pub unsteady: Option<usize>,
 }
 
 #[derive(Debug)]
@@ -315,7 +317,21 @@ impl<'a> Settler<'a> {
             system: tree.system.iter().map(|item| self.system_item(item)).collect(),
             system_start: self.names.tokens[tree.system_start].start,
             channel_names: self.channel_names.len(),
+            unsteady: self.unsteady(),
         }
+    }
+
+    /// The place of the first group with more than one item of its own, or call of a definition with more than one sum.
+    fn unsteady(&self) -> Option<usize> {
+        let tree = self.names.tree;
+        let groups = tree.groups.iter().filter(|group| group.items > 1).map(|group| group.bracket);
+        let branches = tree.sums.iter().flat_map(|sum| &sum.branches);
+        let calls = branches.flat_map(|branch| &branch.continuation).filter_map(|item| match item {
+            syntax::Item::Call(call) => Some(call.name),
+            syntax::Item::Sum(_) => None,
+        });
+        let calls = calls.filter(|name| tree.definitions[self.definition(*name)].sums.len() > 1);
+        groups.chain(calls).min().map(|token| self.names.tokens[token].start)
     }
 
     fn system_item(&self, item: &syntax::SystemItem) -> SystemItem {

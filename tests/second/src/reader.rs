@@ -297,12 +297,15 @@ impl Reader<'_> {
     /// Round brackets around items joined by `||`, each a sum, call or group. They are added to
     /// `items`; what a group inside has is added in its place.
     fn group(&mut self, items: &mut Vec<Item>) -> Read<()> {
-        self.expect(Kind::OpenRound)?;
+        let bracket = self.expect(Kind::OpenRound)?;
         self.group_item(items)?;
+        let mut own = 1;
         while self.take(Kind::Parallel) {
             self.group_item(items)?;
+            own += 1;
         }
         self.expect(Kind::CloseRound)?;
+        self.tree.groups.push(Group { bracket, items: own });
         Ok(())
     }
 

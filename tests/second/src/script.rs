@@ -1,6 +1,6 @@
 //! Lists of calls as scripts for the program `calls`, and what that program prints for one.
 //!
-//! A script has lines `open N` (N bytes and a newline follow), `list`, `step D`, `wait W` (a waiting
+//! A script has lines `open N` and `steady N` (N bytes and a newline follow), `list`, `step D`, `wait W` (a waiting
 //! draw for the next timed step), `time D` (a timed step), `report`, `save NAME`, `return NAME`, `forget NAME` (all bytes
 //! of the line after the blank), `state`, `clock` and `independent I J` (of two entries of the listing buffer: 1 or 0).
 //! Every line ends with a newline, words stand one blank apart, numbers are digits alone. A line of
@@ -57,8 +57,8 @@ pub fn write(calls: &[Call]) -> Vec<u8> {
 
 fn line(call: &Call) -> Vec<u8> {
     let text = match call {
-        Call::Open { text, lengths } => {
-            let head = format!("{}open {}\n", lengths_line(lengths), text.len());
+        Call::Open { text, lengths } | Call::Steady { text, lengths } => {
+            let head = format!("{}{} {}\n", lengths_line(lengths), call.name(), text.len());
             return [head.as_bytes(), text, b"\n"].concat();
         }
         Call::List { lengths } => format!("{}list\n", lengths_line(lengths)),
@@ -160,9 +160,10 @@ impl Reader<'_> {
         if let ["time", draw] = words[..] {
             return Some(Some(Line::Call(self.timed(whole(draw)?, lengths))));
         }
-        if let ["open", size] = words[..] {
+        if let [word @ ("open" | "steady"), size] = words[..] {
             let text = self.bytes(Some(whole(size)?))?;
-            return Some(Some(Line::Call(Call::Open { text, lengths })));
+            let call = if word == "open" { Call::Open { text, lengths } } else { Call::Steady { text, lengths } };
+            return Some(Some(Line::Call(call)));
         }
         short_line(&words, lengths).map(Some)
     }

@@ -17,6 +17,17 @@ pub struct Tree {
     pub system_start: TokenId,
     /// Every number of the text.
     pub numbers: Vec<Number>,
+    /// Every group of the text.
+    pub groups: Vec<Group>,
+}
+
+/// Round brackets around items of a continuation.
+#[derive(Clone, Copy, Debug)]
+pub struct Group {
+    /// The `(`.
+    pub bracket: TokenId,
+    /// How many items it has of its own; a group inside is one.
+    pub items: usize,
 }
 
 /// A number, perhaps with a `-` of its own before it.

@@ -168,6 +168,24 @@ fn calls_takes_timed_steps() {
 }
 
 #[test]
+fn calls_opens_under_the_steady_profile() {
+    let (one, two) = ("A[]={a,1}.(A[]);A[];", "A[]={a,1}.(A[]||A[]);A[];");
+    let script = format!(
+        "steady {}\n{one}\nstep 0\nsteady {}\n{two}\nlist\nopen {}\n{two}\nstep 0\nsteady 3\na\n",
+        one.len(),
+        two.len(),
+        two.len()
+    );
+    let printed = calls(&script);
+    let lines: Vec<&str> = printed.lines().filter(|line| !line.starts_with("  ")).collect();
+    let taken = "0 0 0 1 100000000 0";
+    assert_eq!(lines, ["0 0 0 0 0 0", taken, "29 10 0 0 0 0", "11 0 0 0 0 0", "0 0 0 0 0 0", taken, "bad,10"]);
+    for line in ["steady\n", "steady 1\n", "steady a\nb\n", "steady 1\nab\n"] {
+        assert_eq!(calls(line), "bad,1\n", "{line:?}");
+    }
+}
+
+#[test]
 fn calls_tells_which_entries_are_independent() {
     let text = "A[]={a,1}+{c![1],1};2*A[];";
     let script = format!(

@@ -1,7 +1,6 @@
 -- A case for each return, from Models.antt: 10 is asked of the model.
-use native.Mathlib.Omega.{arith}
 use borrow.Author.Needs.{needs}
-use Rattle.opening.proofs.Models.{held-no, held-model, countable, many-no, few-yes}
+use Rattle.opening.proofs.Models.{held-no, held-model}
 use Rattle.opening.proofs.open_text.Statement.{statement}
 use Rattle.opening.proofs.open_text.Tie as tie
 
@@ -15,17 +14,9 @@ enum-known-held c = search needs
 enum-known-held-2 : tie.Need-enum-known-held-2
 enum-known-held-2 c = search needs
 
-sub-first : tie.Need-sub-first
-sub-first c =
-    let g = (held-model _ _ _ _ _ (c .before .before .before .before .before .before .before .before .before .before .before .before .before .before .before .before .before .before .before .before .before .before .read-model .ensures .0) (c .before .before .held2 .given .1)) in omega (arith, g .rooted)
-
-sub-line : tie.Need-sub-line
-sub-line c =
-    let g = (held-model _ _ _ _ _ (c .before .before .before .before .before .before .before .before .before .before .before .before .before .before .before .before .before .before .before .before .before .before .before .read-model .ensures .0) (c .before .before .before .held2 .given .1)) in omega (arith, g .rooted)
-
-start-count-requires : tie.Need-start-count-requires
-start-count-requires c κs =
-    let g = (held-model _ _ _ _ _ (c .before .before .before .before .before .before .before .before .before .before .before .before .before .before .before .before .before .before .before .before .before .before .before .before .read-model .ensures .0) (c .before .before .before .before .held2 .given .1)) in (g .model, countable g)
+judge-start-requires : tie.Need-judge-start-requires
+judge-start-requires c κs =
+    (_, _, _, held-model _ _ _ _ _ (c .before .before .before .before .before .before .before .before .before .before .before .before .before .before .before .before .before .before .before .before .before .before .read-model .ensures .0) (c .before .before .held2 .given .1))
 
 same-length : tie.Need-same-length
 same-length c = search needs
@@ -56,7 +47,7 @@ same-length-9 c = search needs
 
 returns : tie.Need-returns
 returns c =
-    let g = (held-model _ _ _ _ _ (c .before .before .before .before .before .before .before .before .before .before .before .before .before .before .before .before .before .before .before .before .before .before .before .before .before .before .read-model .ensures .0) (c .before .before .before .before .before .before .held2 .given .1)) in many-no g (c .before .start-count .ensures (g .model) (countable g)) (c .if1 .taken)
+    held-no _ _ _ _ _ (c .before .before .before .before .before .before .before .before .before .before .before .before .before .before .before .before .before .before .before .before .before .read-model .ensures .0) (c .before .held .given .1)
 
 same-length-10 : tie.Need-same-length-10
 same-length-10 c = search needs
@@ -87,38 +78,7 @@ same-length-18 c = search needs
 
 returns-2 : tie.Need-returns-2
 returns-2 c =
-    held-no _ _ _ _ _ (c .before .before .before .before .before .before .before .before .before .before .before .before .before .before .before .before .before .before .before .before .before .read-model .ensures .0) (c .before .held .given .1)
-
-same-length-19 : tie.Need-same-length-19
-same-length-19 c = search needs
-
-same-length-20 : tie.Need-same-length-20
-same-length-20 c = search needs
-
-same-length-21 : tie.Need-same-length-21
-same-length-21 c = search needs
-
-same-length-22 : tie.Need-same-length-22
-same-length-22 c = search needs
-
-same-length-23 : tie.Need-same-length-23
-same-length-23 c = search needs
-
-same-length-24 : tie.Need-same-length-24
-same-length-24 c = search needs
-
-same-length-25 : tie.Need-same-length-25
-same-length-25 c = search needs
-
-same-length-26 : tie.Need-same-length-26
-same-length-26 c = search needs
-
-same-length-27 : tie.Need-same-length-27
-same-length-27 c = search needs
-
-returns-3 : tie.Need-returns-3
-returns-3 c =
-    let g = (held-model _ _ _ _ _ (c .before .before .before .before .before .before .before .before .before .before .before .before .before .before .before .before .before .before .before .before .before .before .before .before .before .before .read-model .ensures .0) (c .before .before .before .before .before .before .held2 .given .1)) in few-yes g (c .before .start-count .ensures (g .model) (countable g)) (c .if1 .left)
+    c .judge-start .ensures _ _ _ (held-model _ _ _ _ _ (c .before .before .before .before .before .before .before .before .before .before .before .before .before .before .before .before .before .before .before .before .before .before .before .read-model .ensures .0) (c .before .before .before .held2 .given .1))
 
 pub open-text-spec : {M : Type 1} → statement M
 open-text-spec =
@@ -127,9 +87,7 @@ open-text-spec =
     read-model-requires
     enum-known-held
     enum-known-held-2
-    sub-first
-    sub-line
-    start-count-requires
+    judge-start-requires
     same-length
     same-length-2
     same-length-3
@@ -149,14 +107,4 @@ open-text-spec =
     same-length-16
     same-length-17
     same-length-18
-    returns-2
-    same-length-19
-    same-length-20
-    same-length-21
-    same-length-22
-    same-length-23
-    same-length-24
-    same-length-25
-    same-length-26
-    same-length-27
-    returns-3)
+    returns-2)

@@ -60,6 +60,11 @@ impl Bench {
         second::open(text, Opening { model, state, saves, clock })
     }
 
+    pub fn open_steady(&mut self, text: &str) -> Answer {
+        let Bench { model, state, saves, clock, .. } = self;
+        second::open_steady(text.as_bytes(), Opening { model, state, saves, clock })
+    }
+
     pub fn timed_step(&mut self, draw: u64, waiting: &[u16]) -> Answer {
         let Bench { model, state, listing, clock, .. } = self;
         second::timed_step(model, state, listing, waiting, draw, clock)

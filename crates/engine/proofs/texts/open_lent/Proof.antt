@@ -9,35 +9,35 @@ use Rattle.engine.proofs.Openings.{opened-is, refused-is, short, starts
 put-fresh-requires : tie.Need-put-fresh-requires
 put-fresh-requires c κs = search needs
 
-slice-aggregate-open-text : tie.Need-slice-aggregate-open-text
-slice-aggregate-open-text c = search needs
+slice-aggregate-open-under : tie.Need-slice-aggregate-open-under
+slice-aggregate-open-under c = search needs
 
-slice-aggregate-open-text-2 : tie.Need-slice-aggregate-open-text-2
-slice-aggregate-open-text-2 c = search needs
+slice-aggregate-open-under-2 : tie.Need-slice-aggregate-open-under-2
+slice-aggregate-open-under-2 c = search needs
 
-slice-aggregate-open-text-3 : tie.Need-slice-aggregate-open-text-3
-slice-aggregate-open-text-3 c = search needs
+slice-aggregate-open-under-3 : tie.Need-slice-aggregate-open-under-3
+slice-aggregate-open-under-3 c = search needs
 
-slice-aggregate-open-text-4 : tie.Need-slice-aggregate-open-text-4
-slice-aggregate-open-text-4 c = search needs
+slice-aggregate-open-under-4 : tie.Need-slice-aggregate-open-under-4
+slice-aggregate-open-under-4 c = search needs
 
-slice-aggregate-open-text-5 : tie.Need-slice-aggregate-open-text-5
-slice-aggregate-open-text-5 c = search needs
+slice-aggregate-open-under-5 : tie.Need-slice-aggregate-open-under-5
+slice-aggregate-open-under-5 c = search needs
 
-slice-aggregate-open-text-6 : tie.Need-slice-aggregate-open-text-6
-slice-aggregate-open-text-6 c = search needs
+slice-aggregate-open-under-6 : tie.Need-slice-aggregate-open-under-6
+slice-aggregate-open-under-6 c = search needs
 
-slice-aggregate-open-text-7 : tie.Need-slice-aggregate-open-text-7
-slice-aggregate-open-text-7 c = search needs
+slice-aggregate-open-under-7 : tie.Need-slice-aggregate-open-under-7
+slice-aggregate-open-under-7 c = search needs
 
-slice-aggregate-open-text-8 : tie.Need-slice-aggregate-open-text-8
-slice-aggregate-open-text-8 c = search needs
+slice-aggregate-open-under-8 : tie.Need-slice-aggregate-open-under-8
+slice-aggregate-open-under-8 c = search needs
 
-slice-aggregate-open-text-9 : tie.Need-slice-aggregate-open-text-9
-slice-aggregate-open-text-9 c = search needs
+slice-aggregate-open-under-9 : tie.Need-slice-aggregate-open-under-9
+slice-aggregate-open-under-9 c = search needs
 
-open-text-requires : tie.Need-open-text-requires
-open-text-requires c κs = search needs
+open-under-requires : tie.Need-open-under-requires
+open-under-requires c κs = search needs
 
 enum-known-opened : tie.Need-enum-known-opened
 enum-known-opened c = search needs
@@ -51,8 +51,8 @@ enum-known-opened-2 c = search needs
 put-text-requires : tie.Need-put-text-requires
 put-text-requires c κs =
     let X = now (c .before .before .before .before .before .before .before .before .before .before .before .before .before .before .before .before .before .before .before .before .before .before .before .before .before .before .before .before .before .before .before .args .text) in
-    let o = opened-is X _ _ _ (c .before .before .before .before .before .before .before .before .before .before .before .before .before .open-text .ensures) (c .before .before .opened2 .given .1) in
-    (c .before .before .before .before .before .before .before .before .before .before .before .before .before .before .before .before .before .before .before .before .before .before .before .before .before .before .put-fresh .ensures .0, short X _ _ _ o)
+    let o = opened-is X _ _ _ (c .before .before .before .before .before .before .before .before .before .before .before .before .before .before .before .before .before .before .before .before .before .before .before .before .before .before .before .before .before .before .before .args .profile) (c .before .before .before .before .before .before .before .before .before .before .before .before .before .open-under .ensures) (c .before .before .opened2 .given .1) in
+    (c .before .before .before .before .before .before .before .before .before .before .before .before .before .before .before .before .before .before .before .before .before .before .before .before .before .before .put-fresh .ensures .0, short X _ _ _ (o .plain))
 
 slice-aggregate-open-state : tie.Need-slice-aggregate-open-state
 slice-aggregate-open-state c = search needs
@@ -63,8 +63,8 @@ slice-aggregate-open-state-2 c = search needs
 open-state-requires : tie.Need-open-state-requires
 open-state-requires c κs =
     let X = now (c .before .before .before .before .before .before .before .before .before .before .before .before .before .before .before .before .before .before .before .before .before .before .before .before .before .before .before .before .before .before .before .before .before .before .before .before .before .args .text) in
-    let o = opened-is X _ _ _ (c .before .before .before .before .before .before .before .before .before .before .before .before .before .before .before .before .before .before .before .open-text .ensures) (c .before .before .before .before .before .before .before .before .opened2 .given .1) in
-    (c .before .before .before .before .before .before .before .before .before .before .before .before .before .before .before .before .before .before .before .before .before .before .before .before .before .before .before .before .before .before .before .before .put-fresh .ensures .1, (o .model, starts X _ _ _ o))
+    let o = opened-is X _ _ _ (c .before .before .before .before .before .before .before .before .before .before .before .before .before .before .before .before .before .before .before .before .before .before .before .before .before .before .before .before .before .before .before .before .before .before .before .before .before .args .profile) (c .before .before .before .before .before .before .before .before .before .before .before .before .before .before .before .before .before .before .before .open-under .ensures) (c .before .before .before .before .before .before .before .before .opened2 .given .1) in
+    (c .before .before .before .before .before .before .before .before .before .before .before .before .before .before .before .before .before .before .before .before .before .before .before .before .before .before .before .before .before .before .before .before .put-fresh .ensures .1, (o .plain .model, starts X _ _ _ (o .plain)))
 
 bare-requires-2 : tie.Need-bare-requires-2
 bare-requires-2 c κs = search needs
@@ -79,7 +79,7 @@ returns : tie.Need-returns
 returns c =
     λ ss z.
     let X = now (c .before .before .before .before .before .before .before .before .before .before .before .before .before .before .before .before .before .before .before .before .before .before .before .before .before .before .before .before .before .before .before .args .text) in
-    rw (c .bare .ensures) (refused-gives X _ _ _ _ ss (refused-is X _ _ _ (c .before .before .before .before .before .before .before .before .before .before .before .before .before .open-text .ensures) (c .before .before .opened .given .1)) (c .before .before .before .before .before .before .before .before .before .before .before .before .before .before .before .before .before .before .before .before .before .before .before .before .before .before .put-fresh .ensures .0) (c .before .before .before .before .before .before .before .before .before .before .before .before .before .before .before .before .before .before .before .before .before .before .before .before .before .before .put-fresh .ensures .1) z)
+    rw (c .bare .ensures) (refused-gives X _ _ _ _ ss (refused-is X _ _ _ (c .before .before .before .before .before .before .before .before .before .before .before .before .before .before .before .before .before .before .before .before .before .before .before .before .before .before .before .before .before .before .before .args .profile) (c .before .before .before .before .before .before .before .before .before .before .before .before .before .open-under .ensures) (c .before .before .opened .given .1)) (c .before .before .before .before .before .before .before .before .before .before .before .before .before .before .before .before .before .before .before .before .before .before .before .before .before .before .put-fresh .ensures .0) (c .before .before .before .before .before .before .before .before .before .before .before .before .before .before .before .before .before .before .before .before .before .before .before .before .before .before .put-fresh .ensures .1) z)
 
 same-length-3 : tie.Need-same-length-3
 same-length-3 c =
@@ -93,24 +93,24 @@ returns-2 : tie.Need-returns-2
 returns-2 c =
     λ ss z.
     let X = now (c .before .before .before .before .before .before .before .before .before .before .before .before .before .before .before .before .before .before .before .before .before .before .before .before .before .before .before .before .before .before .before .before .before .before .before .before .before .before .before .before .args .text) in
-    let o = opened-is X _ _ _ (c .before .before .before .before .before .before .before .before .before .before .before .before .before .before .before .before .before .before .before .before .before .before .open-text .ensures) (c .before .before .before .before .before .before .before .before .before .before .before .opened2 .given .1) in
-    rw (c .bare2 .ensures) (accepted-gives X (o .model) _ _ ss (o .opens) (c .before .before .before .before .before .before .before .before .put-text .ensures) (c .before .before .open-state .ensures (o .model) (starts X _ _ _ o)) z)
+    let o = opened-is X _ _ _ (c .before .before .before .before .before .before .before .before .before .before .before .before .before .before .before .before .before .before .before .before .before .before .before .before .before .before .before .before .before .before .before .before .before .before .before .before .before .before .before .before .args .profile) (c .before .before .before .before .before .before .before .before .before .before .before .before .before .before .before .before .before .before .before .before .before .before .open-under .ensures) (c .before .before .before .before .before .before .before .before .before .before .before .opened2 .given .1) in
+    rw (c .bare2 .ensures) (accepted-gives X (o .plain .model) _ _ ss (o .opens) (c .before .before .before .before .before .before .before .before .put-text .ensures) (c .before .before .open-state .ensures (o .plain .model) (starts X _ _ _ (o .plain))) z)
 
 pub open-lent-spec : {M : Type 1} → statement M
 open-lent-spec =
     tie.close
     (tie.spec
     put-fresh-requires
-    slice-aggregate-open-text
-    slice-aggregate-open-text-2
-    slice-aggregate-open-text-3
-    slice-aggregate-open-text-4
-    slice-aggregate-open-text-5
-    slice-aggregate-open-text-6
-    slice-aggregate-open-text-7
-    slice-aggregate-open-text-8
-    slice-aggregate-open-text-9
-    open-text-requires
+    slice-aggregate-open-under
+    slice-aggregate-open-under-2
+    slice-aggregate-open-under-3
+    slice-aggregate-open-under-4
+    slice-aggregate-open-under-5
+    slice-aggregate-open-under-6
+    slice-aggregate-open-under-7
+    slice-aggregate-open-under-8
+    slice-aggregate-open-under-9
+    open-under-requires
     enum-known-opened
     bare-requires
     enum-known-opened-2

@@ -1,6 +1,6 @@
 -- The head tells which of the words begins the line.
 use borrow.Author.Needs.{needs}
-use Rattle.lines.proofs.Heads.{says-list, says-state, says-report, says-open, says-step, says-save, says-return, says-forget, says-time, says-wait, says-clock, says-independent, says-bad}
+use Rattle.lines.proofs.Heads.{says-list, says-state, says-report, says-open, says-step, says-save, says-return, says-forget, says-time, says-wait, says-clock, says-independent, says-steady, says-bad}
 use Rattle.lines.proofs.line.Reading.says.Statement.{statement}
 use Rattle.lines.proofs.line.Reading.says.Tie as tie
 
@@ -33,6 +33,9 @@ clock-line-requires c κs = search needs
 
 says-requires : tie.Need-says-requires
 says-requires c κs = search needs
+
+steady-line-requires : tie.Need-steady-line-requires
+steady-line-requires c κs = search needs
 
 returns : tie.Need-returns
 returns c =
@@ -84,9 +87,13 @@ returns-12 c =
 
 returns-13 : tie.Need-returns-13
 returns-13 c =
+    λ s h. says-steady h (c .before .match .keys13) (c .steady-line .ensures)
+
+returns-14 : tie.Need-returns-14
+returns-14 c =
     λ s h.
     let m = c .match .rest in
-    says-bad h (m .0 .0 .0 .0 .0 .0 .0 .0 .0 .0 .0 .1) (m .0 .0 .0 .0 .0 .0 .0 .0 .0 .0 .1) (m .0 .0 .0 .0 .0 .0 .0 .0 .0 .1) (m .0 .0 .0 .0 .0 .0 .0 .0 .1) (m .0 .0 .0 .0 .0 .0 .0 .1) (m .0 .0 .0 .0 .0 .0 .1) (m .0 .0 .0 .0 .0 .1) (m .0 .0 .0 .0 .1) (m .0 .0 .0 .1) (m .0 .0 .1) (m .0 .1) (m .1)
+    says-bad h (m .0 .0 .0 .0 .0 .0 .0 .0 .0 .0 .0 .0 .1) (m .0 .0 .0 .0 .0 .0 .0 .0 .0 .0 .0 .1) (m .0 .0 .0 .0 .0 .0 .0 .0 .0 .0 .1) (m .0 .0 .0 .0 .0 .0 .0 .0 .0 .1) (m .0 .0 .0 .0 .0 .0 .0 .0 .1) (m .0 .0 .0 .0 .0 .0 .0 .1) (m .0 .0 .0 .0 .0 .0 .1) (m .0 .0 .0 .0 .0 .1) (m .0 .0 .0 .0 .1) (m .0 .0 .0 .1) (m .0 .0 .1) (m .0 .1) (m .1)
 
 pub says-spec : {M : Type 1} → statement M
 says-spec =
@@ -102,6 +109,7 @@ says-spec =
     wait-line-requires
     clock-line-requires
     says-requires
+    steady-line-requires
     returns
     returns-2
     returns-3
@@ -114,4 +122,5 @@ says-spec =
     returns-10
     returns-11
     returns-12
-    returns-13)
+    returns-13
+    returns-14)

@@ -8,11 +8,11 @@ use Rattle.lines.proofs.line.Reading.with.Tie as tie
 next-kept-requires : tie.Need-next-kept-requires
 next-kept-requires c κs = search needs
 
-mul-t9 : tie.Need-mul-t9
-mul-t9 c = search needs
+mul-t10 : tie.Need-mul-t10
+mul-t10 c = search needs
 
-add-t11 : tie.Need-add-t11
-add-t11 c = search needs
+add-t12 : tie.Need-add-t12
+add-t12 c = search needs
 
 returns : tie.Need-returns
 returns c =
@@ -24,22 +24,26 @@ with-byte-requires c κs = search needs
 next-after-requires : tie.Need-next-after-requires
 next-after-requires c κs = search needs
 
+next-late-requires : tie.Need-next-late-requires
+next-late-requires c κs = search needs
+
 with-byte-requires-2 : tie.Need-with-byte-requires-2
 with-byte-requires-2 c κs = search needs
 
 returns-2 : tie.Need-returns-2
 returns-2 c =
-    λ s h. long-on (c .before .before .before .before .before .args .b) (c .before .before .with-byte .result) (c .before .next-after .result) (c .before .before .before .before .next-kept .result) (c .with-byte2 .result) h (omega arith) (c .before .before .before .if1 .left) (c .before .before .with-byte .ensures) (c .before .next-after .ensures) (c .before .before .before .before .next-kept .ensures) (c .with-byte2 .ensures)
+    λ s h. long-on (c .before .before .before .before .before .before .args .b) (c .before .before .before .with-byte .result) (c .before .before .next-after .result) (c .before .next-late .result) (c .before .before .before .before .before .next-kept .result) (c .with-byte2 .result) h (omega arith) (c .before .before .before .before .if1 .left) (c .before .before .before .with-byte .ensures) (c .before .before .next-after .ensures) (c .before .next-late .ensures) (c .before .before .before .before .before .next-kept .ensures) (c .with-byte2 .ensures)
 
 pub with-spec : {M : Type 1} → statement M
 with-spec =
     tie.close
     (tie.spec
     next-kept-requires
-    mul-t9
-    add-t11
+    mul-t10
+    add-t12
     returns
     with-byte-requires
     next-after-requires
+    next-late-requires
     with-byte-requires-2
     returns-2)

@@ -1,0 +1,3 @@
+pub mod Unsteady
+pub mod Opening
+pub mod Steady

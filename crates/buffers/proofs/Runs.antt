@@ -6,15 +6,17 @@ use Prim.Native.Nat.{ℕ}
 use lib.ListN.{length}
 use Rattle.value.proofs.Kit.{false-not-true, true-not-false}
 use Rattle.model.specs.Opening.{Opening, refused, opened, opening}
-use Rattle.machine.specs.Machine.{asLent, Answer, no, listedAs, reportedAs, foundAs, turn, Machine, closed, Request, list′, step′, report′, search′, timed′, save′, return′, forget′, Ask, open′, on′, Part, uses, hasLengths, call, opens, asked, calls}
+use Rattle.profile.specs.Opening.{openingSteady}
+use Rattle.machine.specs.Machine.{asLent, Answer, no, listedAs, reportedAs, foundAs, turn, Machine, closed, Request, list′, step′, report′, search′, timed′, save′, return′, forget′, Ask, open′, openSteady′, on′, Part, uses, hasLengths, call, opens, asked, calls}
 use Rattle.machine.specs.Results as results
-use Rattle.machine.specs.Results.{Lists, Chooses, Names, Carries, under1, under2-10, under11, under12, under13, under14, under15-19, under23-25, under20, return21, forget21, save22, under26, under27}
+use Rattle.machine.specs.Results.{Lists, Chooses, Names, Carries, under1, under2-10, under11, under12, under13, under14, under15-19, under23-25, under20, return21, forget21, save22, under2-29, under26, under27}
 use Rattle.machine.proofs.Carries.{carries}
 use Rattle.buffers.specs.Parts.{Engine}
 use Rattle.buffers.specs.Effect.{machineIn, untouched, opensWith, leaves, requested, answered, effect}
 
 unfoldable pub isSearch : Ask → Bool
 isSearch (open′ text) = false
+isSearch (openSteady′ text) = false
 isSearch (on′ list′) = false
 isSearch (on′ (step′ d)) = false
 isSearch (on′ report′) = false
@@ -28,6 +30,7 @@ isSearch (on′ (forget′ n)) = false
 
 unfoldable over : Ask → Engine → Machine
 over (open′ text) x = closed
+over (openSteady′ text) x = closed
 over (on′ r) x = machineIn (uses r) x
 
 opens-answer : (text : List ℕ) (o : Opening) (l : List ℕ) → opensWith text o l .answer ≡ opens o .answer
@@ -41,6 +44,7 @@ answer-is k x l = by (hasLengths k (λ (p : Part). length (x p)) (length l)) k
   where
     by : (b : Bool) (k : Ask) → cond b (answered k x l) (untouched x l) .answer ≡ cond b (asked (over k x) k) (turn (over k x) (no 1 0 0 asLent)) .answer
     by true (open′ text) = unfold answered asked in opens-answer text (opening text) l
+    by true (openSteady′ text) = unfold answered asked in opens-answer text (openingSteady text) l
     by true (on′ r) = unfold answered requested leaves asked over machineIn in refl
     by false k = unfold untouched in refl
 
@@ -54,6 +58,8 @@ unfolding no listedAs reportedAs isSearch
 no-run under1 e = refl
 no-run results.opens e = refl
 no-run (under2-10 n p l m) e = refl
+no-run results.opensSteady e = refl
+no-run (under2-29 n p h) e = refl
 no-run under11 e = refl
 no-run (under12 i j h) e = refl
 no-run (under13 h) e = refl
@@ -112,6 +118,8 @@ unfolding no foundAs isSearch
 alone under1 e = record { place = refl; branch = refl; count = refl; total = refl; chosen = refl }
 alone results.opens e = record { place = refl; branch = refl; count = refl; total = refl; chosen = refl }
 alone (under2-10 n p l m) e = absurd (false-not-true e)
+alone results.opensSteady e = record { place = refl; branch = refl; count = refl; total = refl; chosen = refl }
+alone (under2-29 n p h) e = absurd (false-not-true e)
 alone under11 e = record { place = refl; branch = refl; count = refl; total = refl; chosen = refl }
 alone (under12 {r = r} i j h) e = absurd (no-lists r e h)
 alone (under13 h) e = record { place = refl; branch = refl; count = refl; total = refl; chosen = refl }

@@ -1,4 +1,4 @@
--- What the steady profile promises of an engine's buffers, up to the next opening (02, note 11; A74): no call is answered with 18, and after no step does the state hold more
+-- What the steady profile promises of an engine's buffers, up to the next opening (02, note 11): no call is answered with 18, and after no step does the state hold more
 -- processes. Definitions only.
 use mathlib.Core.Path.{_≡_}
 use mathlib.Core.List.{List, [], _∷_}

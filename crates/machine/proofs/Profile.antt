@@ -1,5 +1,5 @@
--- After an accepted opening under the steady profile, and up to the next opening, no call is answered with 18, and no step raises the number of processes (02, note 11). By
--- induction on the calls: every request keeps the model, which is steady, and what is held is over it.
+-- After an accepted opening under the steady profile, and up to the next opening, no call is answered with 18, no step raises the number of processes, and there are never more
+-- than the opening left (02, note 11). By induction on the calls: every request keeps the model, which is steady, what is held is over it, and no save has more processes.
 use mathlib.Core.Path.{_≡_, refl, sym, ap, subst, _∙_}
 use mathlib.Core.List.{List, [], _∷_}
 use mathlib.Core.Bool.{Bool, true, false, cond, _&&_}
@@ -23,11 +23,13 @@ use Rattle.profile.specs.Opening.{openingSteady}
 use Rattle.profile.specs.Steady.{Steady}
 use Rattle.profile.proofs.InOrder.{answered-steady, steady-numbers}
 use Rattle.profile.proofs.Opened.{opened-plain, opened-steady}
+use Rattle.runs.specs.Tree as tree
+use Rattle.runs.specs.Walk as walk
 use Rattle.machine.specs.State.{State}
 use Rattle.machine.specs.Timed.{Timed, timed}
-use Rattle.machine.specs.Saves.{isName, Saves, saveLimit, placeOf, placeFor, keptUnder, Stored, stored, replaced, removed, saving, returning, forgetting}
-use Rattle.machine.specs.Machine.{asLent, Answer, no, listedAs, reportedAs, entryLimit, totalLimit, Listed, entriesAre, refusedWith, counted, listing, Turn, turn, drawn, refusedAs, withWait, stepsIn, timesWith, showing, lists, sharing, reports, choosing, stepsWith}
-use Rattle.machine.specs.Machine.{Held, held, timedOf, Good, Machine, closed, holding, onState, onClock, onSaves, Request, list′, step′, report′, timed′, save′, return′, forget′, Ask, open′, openSteady′, on′, acts, Part, hasLengths, Call, call, openedState, onMachine, asked, calls, after}
+use Rattle.machine.specs.Saves.{isName, Saves, SavesOf, saveLimit, placeOf, placeFor, keptUnder, Stored, stored, replaced, removed, saving, returning, forgetting}
+use Rattle.machine.specs.Machine.{asLent, Answer, no, listedAs, reportedAs, entryLimit, totalLimit, Listed, entriesAre, refusedWith, counted, listing, Turn, turn, drawn, refusedAs, withWait, stepsIn, timesWith, showing, lists, sharing, reports, choosing, stepsWith, foundAs, movesTo, isDepth, searchedAs, searches}
+use Rattle.machine.specs.Machine.{Held, held, timedOf, Good, Machine, closed, holding, onState, onClock, onSaves, Request, list′, step′, report′, search′, timed′, save′, return′, forget′, Ask, open′, openSteady′, on′, acts, Part, hasLengths, Call, call, openedState, onMachine, asked, calls, after}
 use Rattle.machine.specs.Machine as machine
 use Rattle.machine.specs.Questions.{no12, no13, no14, yes14}
 use Rattle.machine.specs.Questions as questions
@@ -37,6 +39,7 @@ use Rattle.machine.specs.Steady as steadily
 use Rattle.machine.proofs.Listing as listing
 use Rattle.machine.proofs.Keeps.{acts-good, same-model}
 use Rattle.machine.proofs.Keeps as keeps
+use Rattle.machine.proofs.Saves.{no-saves-hold, saving-holds, returning-holds, forgetting-holds}
 use Rattle.machine.proofs.Steady.{Kept, drawn-kept}
 
 -- ---- requests
@@ -65,6 +68,32 @@ module _ (m : Resolved.Model) (s : State) where
       by (no13 e h l) = λ e. omega arith
       by (no14 e h l f) = λ e. omega arith
       by (yes14 e h l f) = λ e. omega arith
+
+  search-not : (x : List ℕ) (d : ℕ) → Not18 (searches x d m s)
+  unfolding searches searchedAs foundAs no
+  search-not x d = by (isDepth d) (walk.search (movesTo m x) s d)
+    where
+      by : (b : Bool) (w : tree.Answer) → cond b (searchedAs w) (no 26 0 0 asLent) .number ≡ 18 → ⊥
+      by true (tree.found r) e = omega arith
+      by true tree.nothing e = omega arith
+      by true tree.unsure e = omega arith
+      by false w e = omega arith
+
+  list-few : length (lists m s .machine .processes) ≤ length (s .processes)
+  unfolding lists showing
+  list-few = by (listing m s)
+    where
+      by : (l : Listed) → length (showing s l .machine .processes) ≤ length (s .processes)
+      by (entriesAre es) = omega arith
+      by (refusedWith a) = omega arith
+
+  report-few : length (reports m s .machine .processes) ≤ length (s .processes)
+  unfolding reports sharing
+  report-few = by (listing m s)
+    where
+      by : (l : Listed) → length (sharing m s l .machine .processes) ≤ length (s .processes)
+      by (entriesAre es) = omega arith
+      by (refusedWith a) = omega arith
 
   step-kept : Steady m → (d : ℕ) → Kept s (stepsWith d m s)
   unfolding stepsWith choosing no
@@ -145,105 +174,142 @@ module _ (n : List ℕ) (s : Timed) (ss : Saves) where
       by true false e = omega arith
       by false c e = omega arith
 
--- a steady model, with all that is held over it
-record Fit (h : Held) : Type 0 where
+-- n processes at most
+abbrev Few : ℕ → Timed → Type 0
+Few n t = length (t .state .processes) ≤ n
+
+-- a steady model, with all that is held over it, and n processes at most, in every save too
+record Fit (n : ℕ) (h : Held) : Type 0 where
   steady : Steady (h .model)
   model : GoodModel (h .model)
   good : Good h
+  now : Few n (timedOf h)
+  kept : SavesOf (Few n) (h .saves)
 
-request-not : (r : Request) (h : Held) → Fit h → acts r h .answer .number ≡ 18 → ⊥
+request-not : {n : ℕ} (r : Request) (h : Held) → Fit n h → acts r h .answer .number ≡ 18 → ⊥
 unfolding acts onState onClock timesWith onSaves no
 request-not list′ h f = list-not (h .model) (h .state)
 request-not (step′ d) h f = step-kept (h .model) (h .state) (f .steady) d .not-eighteen (f .good .state .few-processes)
 request-not report′ h f = report-not (h .model) (h .state)
+request-not (search′ x d) h f = search-not (h .model) (h .state) x d
 request-not (timed′ ds d) h f = timed-not (h .state) (h .clock) ds _ (step-kept (h .model) (h .state) (f .steady) d) (f .good .state .few-processes)
 request-not (save′ n) h f = save-not n (timedOf h) (h .saves)
 request-not (return′ n) h f = return-not n (timedOf h) (h .saves)
 request-not (forget′ n) h f = forget-not n (timedOf h) (h .saves)
 
-step-few : (r : Request) (h : Held) → Fit h → IsStep r → length (acts r h .machine .state .processes) ≤ length (h .state .processes)
+step-few : {n : ℕ} (r : Request) (h : Held) → Fit n h → IsStep r → length (acts r h .machine .state .processes) ≤ length (h .state .processes)
 unfolding acts onState onClock timesWith IsStep
 step-few list′ h f i = absurd i
 step-few (step′ d) h f i = step-kept (h .model) (h .state) (f .steady) d .few
 step-few report′ h f i = absurd i
+step-few (search′ x d) h f i = absurd i
 step-few (timed′ ds d) h f i = timed-few (h .state) (h .clock) ds _ (step-kept (h .model) (h .state) (f .steady) d)
 step-few (save′ n) h f i = absurd i
 step-few (return′ n) h f i = absurd i
 step-few (forget′ n) h f i = absurd i
 
-request-fit : (r : Request) (h : Held) → Fit h → Fit (acts r h .machine)
-request-fit r h f = record { steady = rw (same-model r h) (f .steady); model = rw (same-model r h) (f .model); good = acts-good r h (f .model) (f .good) }
+-- what is held afterwards has n processes at most
+record Within (n : ℕ) (h : Held) : Type 0 where
+  now : Few n (timedOf h)
+  kept : SavesOf (Few n) (h .saves)
+
+request-within : {n : ℕ} (r : Request) (h : Held) → Fit n h → Within n (acts r h .machine)
+unfolding acts onState onClock timesWith onSaves
+request-within list′ h f = record { now = omega (arith, list-few (h .model) (h .state), f .now); kept = f .kept }
+request-within (step′ d) h f = record { now = omega (arith, step-kept (h .model) (h .state) (f .steady) d .few, f .now); kept = f .kept }
+request-within report′ h f = record { now = omega (arith, report-few (h .model) (h .state), f .now); kept = f .kept }
+request-within (search′ x d) h f = record { now = unfold searches in f .now; kept = f .kept }
+request-within (timed′ ds d) h f = record { now = omega (arith, timed-few (h .state) (h .clock) ds _ (step-kept (h .model) (h .state) (f .steady) d), f .now); kept = f .kept }
+request-within {n} (save′ k) h f = let x = saving-holds (Few n) k (timedOf h) (h .saves) (f .now) (f .kept) in record { now = x .kept; kept = x .saves }
+request-within {n} (return′ k) h f = let x = returning-holds (Few n) k (timedOf h) (h .saves) (f .now) (f .kept) in record { now = x .kept; kept = x .saves }
+request-within {n} (forget′ k) h f = let x = forgetting-holds (Few n) k (timedOf h) (h .saves) (f .now) (f .kept) in record { now = x .kept; kept = x .saves }
+
+request-fit : {n : ℕ} (r : Request) (h : Held) → Fit n h → Fit n (acts r h .machine)
+request-fit r h f =
+    let w = request-within r h f in
+    record { steady = rw (same-model r h) (f .steady); model = rw (same-model r h) (f .model); good = acts-good r h (f .model) (f .good); now = w .now; kept = w .kept }
 
 -- ---- calls
 
 -- a machine that holds such a model
-record Held-fit (y : Machine) : Type 0 where
+record Held-fit (n : ℕ) (y : Machine) : Type 0 where
   held : Held
   is : y ≡ holding held
-  fit : Fit held
+  fit : Fit n held
 
-module _ (h : Held) (f : Fit h) where
+module _ {n : ℕ} (h : Held) (f : Fit n h) where
   -- a call whose turn is this one
-  turned : (c : Call) (t : Turn Machine) → calls (holding h) c ≡ t → (t .answer .number ≡ 18 → ⊥) → ((r : Request) → c .ask ≡ on′ r → IsStep r → processesIn (t .machine) ≤ processesIn (holding h)) → Held-fit (t .machine)
-      → Steadily (holding h) c × Held-fit (calls (holding h) c .machine)
+  turned : (c : Call) (t : Turn Machine) → calls (holding h) c ≡ t → (t .answer .number ≡ 18 → ⊥) → ((r : Request) → c .ask ≡ on′ r → IsStep r → processesIn (t .machine) ≤ processesIn (holding h)) → Held-fit n (t .machine)
+      → Steadily (holding h) c × Held-fit n (calls (holding h) c .machine)
   turned c t e a b d = (
     record {
       not-eighteen = λ q. a (ap (λ (u : Turn Machine). u .answer .number) (sym e) ∙ q);
       no-more = λ r p i. subst (λ (u : Turn Machine). processesIn (u .machine) ≤ processesIn (holding h)) (sym e) (b r p i);
     },
-    subst (λ (u : Turn Machine). Held-fit (u .machine)) (sym e) d,
+    subst (λ (u : Turn Machine). Held-fit n (u .machine)) (sym e) d,
   )
 
   same-request : {r q : Request} → on′ r ≡ on′ q → r ≡ q
   same-request p = cc
 
-  asked-steadily : (r : Request) (l : Part → ℕ) (o : ℕ) → hasLengths (on′ r) l o ≡ true → Steadily (holding h) (call (on′ r) l o) × Held-fit (calls (holding h) (call (on′ r) l o) .machine)
+  asked-steadily : (r : Request) (l : Part → ℕ) (o : ℕ) → hasLengths (on′ r) l o ≡ true → Steadily (holding h) (call (on′ r) l o) × Held-fit n (calls (holding h) (call (on′ r) l o) .machine)
   unfolding calls asked onMachine processesIn
   asked-steadily r l o e =
       turned (call (on′ r) l o) (onMachine r (holding h)) (rw e) (request-not r h f)
       (λ q p i. step-few r h f (subst (λ (k : Request). IsStep k) (sym (same-request p)) i))
       (record { held = acts r h .machine; is = refl; fit = request-fit r h f })
 
-  unasked-steadily : (c : Call) → hasLengths (c .ask) (c .lengths) (c .output) ≡ false → Steadily (holding h) c × Held-fit (calls (holding h) c .machine)
+  unasked-steadily : (c : Call) → hasLengths (c .ask) (c .lengths) (c .output) ≡ false → Steadily (holding h) c × Held-fit n (calls (holding h) c .machine)
   unfolding calls no
   unasked-steadily c e =
       turned c (turn (holding h) (no 1 0 0 asLent)) (rw e) (λ q. omega arith) (λ r p i. omega arith) (record { held = h; is = refl; fit = f })
 
-  call-steadily : (c : Call) → OpensNothing c → Steadily (holding h) c × Held-fit (calls (holding h) c .machine)
+  call-steadily : (c : Call) → OpensNothing c → Steadily (holding h) c × Held-fit n (calls (holding h) c .machine)
   call-steadily c g = by (c .ask) refl (hasLengths (c .ask) (c .lengths) (c .output)) refl g
     where
-      never : (k : Ask) → c .ask ≡ k → (Runs k → ⊥) → hasLengths (c .ask) (c .lengths) (c .output) ≡ true → OpensNothing c → Steadily (holding h) c × Held-fit (calls (holding h) c .machine)
+      never : (k : Ask) → c .ask ≡ k → (Runs k → ⊥) → hasLengths (c .ask) (c .lengths) (c .output) ≡ true → OpensNothing c → Steadily (holding h) c × Held-fit n (calls (holding h) c .machine)
       never k e r t (inl x) = absurd (r (subst (λ (k : Ask). Runs k) e x))
       never k e r t (inr x) = unasked-steadily c x
 
-      by : (k : Ask) → c .ask ≡ k → (b : Bool) → hasLengths (c .ask) (c .lengths) (c .output) ≡ b → OpensNothing c → Steadily (holding h) c × Held-fit (calls (holding h) c .machine)
+      by : (k : Ask) → c .ask ≡ k → (b : Bool) → hasLengths (c .ask) (c .lengths) (c .output) ≡ b → OpensNothing c → Steadily (holding h) c × Held-fit n (calls (holding h) c .machine)
       by k e false t g = unasked-steadily c t
       by (open′ text) e true t g = unfold Runs in never (open′ text) e (λ x. x) t g
       by (openSteady′ text) e true t g = unfold Runs in never (openSteady′ text) e (λ x. x) t g
       by (on′ r) e true t g =
           let d : call (on′ r) (c .lengths) (c .output) ≡ c = ap (λ (k : Ask). call k (c .lengths) (c .output)) (sym e) in
-          subst (λ (x : Call). Steadily (holding h) x × Held-fit (calls (holding h) x .machine)) d (asked-steadily r (c .lengths) (c .output) (ap (λ (k : Ask). hasLengths k (c .lengths) (c .output)) (sym e) ∙ t))
+          subst (λ (x : Call). Steadily (holding h) x × Held-fit n (calls (holding h) x .machine)) d (asked-steadily r (c .lengths) (c .output) (ap (λ (k : Ask). hasLengths k (c .lengths) (c .output)) (sym e) ∙ t))
 
-from-fit : (y : Machine) → Held-fit y → (cs : List Call) → Every OpensNothing cs → AllSteadily y cs
+from-fit : {n : ℕ} (y : Machine) → Held-fit n y → (cs : List Call) → Every OpensNothing cs → AllSteadily y cs
 unfolding Every
 from-fit y f [] g = steadily.none
-from-fit y f (c ∷ cs) g =
-    let t : Steadily y c × Held-fit (calls y c .machine) = subst (λ (z : Machine). Steadily z c × Held-fit (calls z c .machine)) (sym (f .is)) (call-steadily (f .held) (f .fit) c (g .0)) in
+from-fit {n} y f (c ∷ cs) g =
+    let t : Steadily y c × Held-fit n (calls y c .machine) = subst (λ (z : Machine). Steadily z c × Held-fit n (calls z c .machine)) (sym (f .is)) (call-steadily (f .held) (f .fit) c (g .0)) in
     steadily.more (t .0) (from-fit (calls y c .machine) (t .1) cs (g .1))
+
+fit-after : {n : ℕ} (y : Machine) → Held-fit n y → (cs : List Call) → Every OpensNothing cs → Held-fit n (after y cs)
+unfolding Every after
+fit-after y f [] g = f
+fit-after {n} y f (c ∷ cs) g =
+    let t : Steadily y c × Held-fit n (calls y c .machine) = subst (λ (z : Machine). Steadily z c × Held-fit n (calls z c .machine)) (sym (f .is)) (call-steadily (f .held) (f .fit) c (g .0)) in
+    fit-after (calls y c .machine) (t .1) cs (g .1)
+
+few-in : {n : ℕ} (y : Machine) → Held-fit n y → processesIn y ≤ n
+unfolding processesIn
+few-in {n} y f = subst (λ (z : Machine). processesIn z ≤ n) (sym (f .is)) (f .fit .now)
 
 -- ---- the opening
 
-opened-fit : (text : List ℕ) (m : Resolved.Model) → openingSteady text ≡ opened m → Fit (held m (openedState m))
+opened-fit : (text : List ℕ) (m : Resolved.Model) → openingSteady text ≡ opened m → Fit (length (openedState m .processes)) (held m (openedState m))
 opened-fit text m e =
     let p = opened-plain text m e in
     let g = opens.opened-good text m p in
-    record { steady = opened-steady text m e; model = g; good = keeps.opened-good m g (opens.opened-few text m p) }
+    record { steady = opened-steady text m e; model = g; good = keeps.opened-good m g (opens.opened-few text m p); now = omega arith; kept = no-saves-hold (Few (length (openedState m .processes))) }
 
-steady-holds : (y : Machine) (text : List ℕ) (l : Part → ℕ) (o : ℕ) → calls y (call (openSteady′ text) l o) .answer .number ≡ 0 → Held-fit (calls y (call (openSteady′ text) l o) .machine)
-unfolding calls asked machine.opens no
+steady-holds : (y : Machine) (text : List ℕ) (l : Part → ℕ) (o : ℕ) → let t = calls y (call (openSteady′ text) l o) in t .answer .number ≡ 0 → Held-fit (processesIn (t .machine)) (t .machine)
+unfolding calls asked machine.opens no processesIn
 steady-holds y text l o e = by (hasLengths (openSteady′ text) l o) (openingSteady text) refl e
   where
-    by : (b : Bool) (r : Opening) → openingSteady text ≡ r → cond b (machine.opens r) (turn y (no 1 0 0 asLent)) .answer .number ≡ 0 → Held-fit (cond b (machine.opens r) (turn y (no 1 0 0 asLent)) .machine)
+    by : (b : Bool) (r : Opening) → openingSteady text ≡ r → let t = cond b (machine.opens r) (turn y (no 1 0 0 asLent)) in t .answer .number ≡ 0 → Held-fit (processesIn (t .machine)) (t .machine)
     by false r q e = absurd (omega arith)
     by true (refused n p) q e = absurd (⊎-elim (λ k. omega (arith, k .0)) (λ k. omega arith) (steady-numbers text (openingSteady text) (answered-steady text) q))
     by true (opened m) q e = record { held = held m (openedState m); is = refl; fit = opened-fit text m q }
@@ -252,3 +318,8 @@ steady-holds y text l o e = by (hasLengths (openSteady′ text) l o) (openingSte
 pub steady-calls : (y : Machine) (text : List ℕ) (l : Part → ℕ) (o : ℕ) → calls y (call (openSteady′ text) l o) .answer .number ≡ 0
     → (cs : List Call) → Every OpensNothing cs → AllSteadily (calls y (call (openSteady′ text) l o) .machine) cs
 steady-calls y text l o e cs g = from-fit _ (steady-holds y text l o e) cs g
+
+-- 02, note 11: and after them there are no more processes than the opening left
+pub steady-within : (y : Machine) (text : List ℕ) (l : Part → ℕ) (o : ℕ) → calls y (call (openSteady′ text) l o) .answer .number ≡ 0
+    → (cs : List Call) → Every OpensNothing cs → let z = calls y (call (openSteady′ text) l o) .machine in processesIn (after z cs) ≤ processesIn z
+steady-within y text l o e cs g = few-in _ (fit-after _ (steady-holds y text l o e) cs g)

@@ -1,4 +1,4 @@
--- Small texts and what opening them under the steady profile gives, by computation (02, note 11; A69 to A72). A text comes with its derivation.
+-- Small texts and what opening them under the steady profile gives, by computation (02, note 11). A text comes with its derivation.
 use mathlib.Core.Path.{_≡_, refl, _∙_}
 use mathlib.Core.List.{List, [], _∷_}
 use mathlib.Core.Option.{Option·elim}

@@ -28,9 +28,9 @@ pub record Follows (m : Syntax.Model) (x : Syntax.Cont) : Type 0 where
   pub branch : In (Syntax.branch first gate action rate (Syntax.dot cont)) (branchesIn sum)
   pub held : Holds x cont
 
--- 02, note 11: token k offends; w: the bytes of each token. An item of the system line follows no prefix, and isn't asked (A69)
+-- 02, note 11: token k offends; w: the bytes of each token. An item of the system line follows no prefix, and isn't asked
 pub data Offends (w : ℕ → List ℕ) (m : Syntax.Model) : ℕ → Type 0 where
-  -- a group with more than one item of its own, at its `(`; groups in it each by theirs (A70)
+  -- a group with more than one item of its own, at its `(`; groups in it each by theirs
   grouping : {k : ℕ} {cs : Syntax.Conts} → Follows m (Syntax.group k cs) → 1 < length (itemsOf cs) → Offends w m k
   -- a call of a definition with more than one sum, at the name
   calling : {k : ℕ} {es : Syntax.Args} {d : Definition} → Follows m (Syntax.call k es) → In d (definitions m) → w k ≡ w (d .name) → 1 < length (sumsOf (d .sums)) → Offends w m k

@@ -368,7 +368,7 @@ fn a_save_that_takes_a_free_place_for_a_known_name() {
         let before = places.to_vec();
         let answer = save(model, state, places, name, clock);
         let used = |place: &[i64]| place[0] != 0;
-        let known = before.chunks(saves::PLACE).position(|place| name.len() <= 16 && place[..2] == saves::pack(name));
+        let known = before.chunks(saves::PLACE).position(|place| answer.number == 0 && place[..2] == saves::pack(name));
         let free = before.chunks(saves::PLACE).position(|place| !used(place));
         if let (0, Some(known), Some(free)) = (answer.number, known, free) {
             let kept = places[known * saves::PLACE..(known + 1) * saves::PLACE].to_vec();

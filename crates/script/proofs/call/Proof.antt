@@ -256,11 +256,9 @@ returns-5 : tie.Need-returns-5
 returns-5 c =
     c .before .before .before .call-timed .ensures (c .before .before .before .before .before .before .before .before .before .before .before .before .before .before .before .before .before .before .before .before .before .args .texts .now) (c .before .before .before .before .before .before .before .before .before .before .before .before .before .before .before .before .before .before .before .before .before .args .saves .now)
 
-call-named-requires : tie.Need-call-named-requires
-call-named-requires c κs =
-    let a = there (c .before .before .before .before .before .before .before .before .before .before .before .before .before .before .before .before .before .args .row) (length (c .before .before .before .before .before .before .before .before .before .before .before .before .before .before .before .before .before .args .texts .now)) (length (c .before .before .before .before .before .before .before .before .before .before .before .before .before .before .before .before .before .args .numbers .now)) (length (c .before .before .before .before .before .before .before .before .before .before .before .before .before .before .before .before .before .args .model .now)) (length (c .before .before .before .before .before .before .before .before .before .before .before .before .before .before .before .before .before .args .state .now)) (length (c .before .before .before .before .before .before .before .before .before .before .before .before .before .before .before .before .before .args .saves .now)) (c .before .before .before .before .before .before .before .before .before .before .before .before .before .before .before .before .before .pre .0) (length (c .before .before .before .before .before .before .before .before .before .before .before .before .before .before .before .before .before .args .outputs .now)) (c .before .before .before .before .before .before .before .before .before .before .before .before .before .before .before .before .before .pre .1) in
-    let k = named-kind (c .before .before .before .before .before .before .before .before .before .before .before .before .before .before .before .before .before .args .row .kind) (a .least) (a .most) (c .before .before .before .before .before .before .before .before .before .before .before .if1 .left) (c .before .before .before .before .before .before .before .before .before .if2 .left) (c .before .before .before .before .before .before .before .if3 .left) (c .before .before .before .before .before .if4 .left) (c .before .before .before .if5 .left) in
-    (k .0, (k .1, (_, (c .before .before .before .before .before .before .before .before .before .before .before .before .before .before .before .before .before .pre .0, (_, c .before .before .before .before .before .before .before .before .before .before .before .before .before .before .before .before .before .pre .1)))))
+call-steady-requires : tie.Need-call-steady-requires
+call-steady-requires c κs =
+    (c .before .before .before .if6 .taken, (_, (c .before .before .before .before .before .before .before .before .before .before .before .before .before .before .before .before .before .before .before .pre .0, (_, c .before .before .before .before .before .before .before .before .before .before .before .before .before .before .before .before .before .before .before .pre .1))))
 
 same-length-16 : tie.Need-same-length-16
 same-length-16 c =
@@ -276,9 +274,31 @@ same-length-18 c =
 
 returns-6 : tie.Need-returns-6
 returns-6 c =
-    c .before .before .call-named .ensures (c .before .before .before .before .before .before .before .before .before .before .before .before .before .before .before .before .before .before .before .before .args .numbers .now) (c .before .before .before .before .before .before .before .before .before .before .before .before .before .before .before .before .before .before .before .before .args .outputs .now)
+    c .before .before .before .before .call-steady .ensures (c .before .before .before .before .before .before .before .before .before .before .before .before .before .before .before .before .before .before .before .before .before .before .before .before .args .numbers .now) (c .before .before .before .before .before .before .before .before .before .before .before .before .before .before .before .before .before .before .before .before .before .before .before .before .args .outputs .now)
+
+call-named-requires : tie.Need-call-named-requires
+call-named-requires c κs =
+    let a = there (c .before .before .before .before .before .before .before .before .before .before .before .before .before .before .before .before .before .before .before .args .row) (length (c .before .before .before .before .before .before .before .before .before .before .before .before .before .before .before .before .before .before .before .args .texts .now)) (length (c .before .before .before .before .before .before .before .before .before .before .before .before .before .before .before .before .before .before .before .args .numbers .now)) (length (c .before .before .before .before .before .before .before .before .before .before .before .before .before .before .before .before .before .before .before .args .model .now)) (length (c .before .before .before .before .before .before .before .before .before .before .before .before .before .before .before .before .before .before .before .args .state .now)) (length (c .before .before .before .before .before .before .before .before .before .before .before .before .before .before .before .before .before .before .before .args .saves .now)) (c .before .before .before .before .before .before .before .before .before .before .before .before .before .before .before .before .before .before .before .pre .0) (length (c .before .before .before .before .before .before .before .before .before .before .before .before .before .before .before .before .before .before .before .args .outputs .now)) (c .before .before .before .before .before .before .before .before .before .before .before .before .before .before .before .before .before .before .before .pre .1) in
+    let k = named-kind (c .before .before .before .before .before .before .before .before .before .before .before .before .before .before .before .before .before .before .before .args .row .kind) (a .least) (a .most) (c .before .before .before .before .before .before .before .before .before .before .before .before .before .if1 .left) (c .before .before .before .before .before .before .before .before .before .before .before .if2 .left) (c .before .before .before .before .before .before .before .before .before .if3 .left) (c .before .before .before .before .before .before .before .if4 .left) (c .before .before .before .before .before .if5 .left) (c .before .before .before .if6 .left) in
+    (k .0, (k .1, (_, (c .before .before .before .before .before .before .before .before .before .before .before .before .before .before .before .before .before .before .before .pre .0, (_, c .before .before .before .before .before .before .before .before .before .before .before .before .before .before .before .before .before .before .before .pre .1)))))
+
+same-length-19 : tie.Need-same-length-19
+same-length-19 c =
+    search needs
+
+same-length-20 : tie.Need-same-length-20
+same-length-20 c =
+    search needs
+
+same-length-21 : tie.Need-same-length-21
+same-length-21 c =
+    search needs
+
+returns-7 : tie.Need-returns-7
+returns-7 c =
+    c .before .before .call-named .ensures (c .before .before .before .before .before .before .before .before .before .before .before .before .before .before .before .before .before .before .before .before .before .before .args .numbers .now) (c .before .before .before .before .before .before .before .before .before .before .before .before .before .before .before .before .before .before .before .before .before .before .args .outputs .now)
 
 pub call-spec : {M : Type 1} → statement M
 call-spec =
     tie.close
-    (tie.spec add-end sub-open part-open-start part-open-end slice-relend-prefix-open slice-aggregate-open slice-relend-prefix-open-2 slice-aggregate-open-2 slice-relend-prefix-open-3 slice-aggregate-open-3 open-requires same-length same-length-2 same-length-3 returns slice-reshare-prefix-list slice-aggregate-list slice-reshare-prefix-list-2 slice-aggregate-list-2 slice-relend-prefix-list slice-aggregate-list-3 list-requires of-requires same-length-4 same-length-5 same-length-6 returns-2 slice-reshare-prefix-report slice-aggregate-report slice-reshare-prefix-report-2 slice-aggregate-report-2 slice-relend-prefix-report slice-aggregate-report-3 report-requires of-requires-2 same-length-7 same-length-8 same-length-9 returns-3 slice-reshare-prefix-step slice-aggregate-step slice-relend-prefix-step slice-aggregate-step-2 slice-relend-prefix-step-2 slice-aggregate-step-3 step-requires of-requires-3 same-length-10 same-length-11 same-length-12 returns-4 call-timed-requires same-length-13 same-length-14 same-length-15 returns-5 call-named-requires same-length-16 same-length-17 same-length-18 returns-6)
+    (tie.spec add-end sub-open part-open-start part-open-end slice-relend-prefix-open slice-aggregate-open slice-relend-prefix-open-2 slice-aggregate-open-2 slice-relend-prefix-open-3 slice-aggregate-open-3 open-requires same-length same-length-2 same-length-3 returns slice-reshare-prefix-list slice-aggregate-list slice-reshare-prefix-list-2 slice-aggregate-list-2 slice-relend-prefix-list slice-aggregate-list-3 list-requires of-requires same-length-4 same-length-5 same-length-6 returns-2 slice-reshare-prefix-report slice-aggregate-report slice-reshare-prefix-report-2 slice-aggregate-report-2 slice-relend-prefix-report slice-aggregate-report-3 report-requires of-requires-2 same-length-7 same-length-8 same-length-9 returns-3 slice-reshare-prefix-step slice-aggregate-step slice-relend-prefix-step slice-aggregate-step-2 slice-relend-prefix-step-2 slice-aggregate-step-3 step-requires of-requires-3 same-length-10 same-length-11 same-length-12 returns-4 call-timed-requires same-length-13 same-length-14 same-length-15 returns-5 call-steady-requires same-length-16 same-length-17 same-length-18 returns-6 call-named-requires same-length-19 same-length-20 same-length-21 returns-7)

@@ -61,12 +61,18 @@ pub enum Hit {
 
 // ---- the wait of a name
 
+fn wide(x: u16) -> usize
+    ensures { λ r. ⌜ r ≡ x ⌝ }
+{
+    x as usize
+}
+
 // Number n of a table, 0 beyond its end.
 fn number_at(table: &[u16], n: usize) -> usize
     ensures { λ r. ⌜ r ≡ getD (now (table .entry)) n 0 ⌝ }
 {
     if n < table.len() {
-        return table[n] as usize;
+        return wide(table[n]);
     }
     0
 }

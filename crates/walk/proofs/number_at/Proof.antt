@@ -1,0 +1,39 @@
+use Rattle.walk.proofs.number_at.Statement.{statement}
+use Rattle.walk.proofs.number_at.Tie as tie
+use Rattle.walk.proofs.number_at.Reads as reads
+use Rattle.walk.proofs.number_at.Lts as lts
+use Rattle.walk.proofs.wide.Reads as wide-reads
+use mathlib.Core.Path.{_≡_, refl, ap, sym, _∙_}
+use mathlib.Core.List.{List, [], _∷_, _++_}
+use mathlib.Core.Bool.{Bool, true, false, cond}
+use mathlib.Core.Logic.{⊎-elim}
+use Prim.Native.Nat.{ℕ, zero, suc, _+_, _-_, _*_, _≤_, _<_}
+use native.Mathlib.Omega.{arith}
+use borrow.Author.Needs.{needs}
+use borrow.Author.Tests.{lt-ltb, le-ltb, le-leb, lt-leb, eq-eqb, ne-eqb}
+use lib.IntN.{ℤ, pos}
+use lib.ListN.{length, getD, set, take, drop, replicate, length-append, length-take, length-drop, length-set, length-replicate}
+
+-- src/lib.rt:75:21
+mul-wide : tie.Need-mul-wide
+mul-wide c = search needs
+
+-- src/lib.rt:75:21
+shared-slice-read-wide : tie.Need-shared-slice-read-wide
+shared-slice-read-wide c = search needs
+
+-- src/lib.rt:75:9
+wide-requires : tie.Need-wide-requires
+wide-requires c κs = search needs
+
+-- src/lib.rt:75:9
+returns : tie.Need-returns
+returns c = search needs
+
+-- src/lib.rt:71:1
+returns-2 : tie.Need-returns-2
+returns-2 c = search needs
+
+pub number-at-spec : {M : Type 1} → statement M
+number-at-spec =
+    tie.close (tie.spec mul-wide shared-slice-read-wide wide-requires returns returns-2)

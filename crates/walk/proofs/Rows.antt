@@ -136,3 +136,9 @@ module _ {t roots scopes : List ℕ} {root variables : ℕ} {zs : List ℤ} {l :
 
   pub row-in : In e (entries (branches m) s)
   row-in = let q = entries-are m s es (h .listing .listed) in rw (← q) (in-nth (get-nth es c (h .at)))
+
+-- beyond the end of a table
+pub beyond : (l : List ℕ) (n : ℕ) → length l ≤ n → getD l n 0 ≡ 0
+beyond [] n h = refl
+beyond (x ∷ l) zero h = absurd (omega arith)
+beyond (x ∷ l) (suc n) h = beyond l n (omega arith)

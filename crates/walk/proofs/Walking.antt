@@ -36,6 +36,7 @@ use Rattle.walk.specs.declared.Move.{Move}
 use Rattle.walk.specs.declared.Move.the-variants as move
 use Rattle.walk.specs.Hunted.{Hunted, gone, hits, orElse, behindHunted, huntAnswer, huntAt, huntFrom, huntLonger, Hunts, none, one}
 use Rattle.walk.specs.Held.{Held, Stands, Lists, Room, wayFound, Takes}
+use Rattle.walk.proofs.Rows.{first-part, same-first}
 use Rattle.walk.proofs.Hunting.{search-is, at-idle, at-refused, at-wait, at-other, at-more, from-step, from-none, from-unlisted, longer-step, longer-none, pass-start, pass-lost, pass-found, pass-over}
 
 -- ---- what was found, taken apart
@@ -184,3 +185,35 @@ module _ (m : Resolved.Model) (x : List ℕ) (s : State) (d more : ℕ) (met : B
 
 pub longer-start : (m : Resolved.Model) (x : List ℕ) (s : State) (d : ℕ) → huntLonger (movesTo m x) s d 0 ≡ orElse (gone false) (huntLonger (movesTo m x) s d 0)
 longer-start m x s d = pass-start (huntLonger (movesTo m x) s d 0)
+
+-- ---- tables of rows
+
+pub stands-kept : {zs zs′ : List ℤ} {m : Resolved.Model} {s : State} → take stateLength zs′ ≡ take stateLength zs → Stands zs m s → Stands zs′ m s
+stands-kept e h = record { good = h .good; numbers = e ∙ h .numbers }
+
+pub lists-kept : {l l′ : List ℕ} {m : Resolved.Model} {s : State} {es : List Entry} → take listingLength l′ ≡ take listingLength l → Lists l m s es → Lists l′ m s es
+lists-kept e h = record { listed = h .listed; numbers = e ∙ h .numbers }
+
+pub room-kept : {n : ℕ} {zs : List ℤ} {l run : List ℕ} {zs′ : List ℤ} {l′ run′ : List ℕ} → length zs′ ≡ length zs → length l′ ≡ length l → length run′ ≡ length run → Room n zs l run → Room n zs′ l′ run′
+room-kept a b c h = let p = h .states in let q = h .listings in let r = h .entries in record { states = omega arith; listings = omega arith; entries = omega arith }
+
+-- room for one entry less behind the first rows
+pub room-tail : (more : ℕ) (zs : List ℤ) (l run : List ℕ) (zs′ : List ℤ) (run′ : List ℕ) → length zs′ ≡ length zs → length run′ ≡ length run → 1 ≤ more → Room (more + 1) zs l run
+    → Room (more - 1 + 1) (midOf stateLength (length zs′ - stateLength) zs′) (midOf listingLength (length l - listingLength) l) (midOf 1 (length run′ - 1) run′)
+room-tail more zs l run zs′ run′ a b k h =
+    let p = h .states in
+    let q = h .listings in
+    let r = h .entries in
+    rw (tail-mid stateLength zs′, tail-mid listingLength l, tail-mid 1 run′) (record { states = simp length-drop (omega arith); listings = simp length-drop (omega arith); entries = simp length-drop (omega arith) })
+
+-- the state after an entry stands first in the rows behind the first
+pub stands-tail : {m : Resolved.Model} {x : List ℕ} {s : State} {e : ℕ} {zs zs′ : List ℤ} {r : Move} (t : Takes m x s e zs zs′ r) (h : Bool) → r ≡ move.Leads h
+    → Stands (midOf stateLength (length zs′ - stateLength) zs′) m (t .after)
+stands-tail {zs′ = zs′} t h q = rw (tail-mid stateLength zs′) (record { good = t .second h q .0; numbers = t .second h q .1 })
+
+-- a listing that was filled stands first
+pub lists-filled : {b : List ℕ} {m : Resolved.Model} {s : State} {count : ℕ} (l : List ℕ) (f : Filling b m s count) → length b ≡ listingLength → Lists (b ++ drop listingLength l) m s (f .entries)
+lists-filled {b = b} l f e = record { listed = f .listed; numbers = first-part listingLength l b e ∙ f .numbers }
+
+pub lists-first : {l : List ℕ} {m : Resolved.Model} {s : State} {es : List Entry} → Lists l m s es → Lists (take listingLength l) m s es
+lists-first {l} h = record { listed = h .listed; numbers = same-first listingLength l ∙ h .numbers }

@@ -1,3 +1,7 @@
+-- The bytes at the token's place are its word.
+use denote.Ref.{now}
+use Rattle.token.specs.Token.{sameBytes}
+use Rattle.walk.proofs.Sought.{word-is}
 use Rattle.walk.proofs.is_named.Statement.{statement}
 use Rattle.walk.proofs.is_named.Tie as tie
 use Rattle.walk.proofs.is_named.Reads as reads
@@ -15,37 +19,33 @@ use borrow.Author.Tests.{lt-ltb, le-ltb, le-leb, lt-leb, eq-eqb, ne-eqb}
 use lib.IntN.{ℤ, pos}
 use lib.ListN.{length, getD, set, take, drop, replicate, length-append, length-take, length-drop, length-set, length-replicate}
 
--- src/lib.rt:101:9
 number-at-requires : tie.Need-number-at-requires
 number-at-requires c κs = search needs
 
--- src/lib.rt:102:9
 number-at-requires-2 : tie.Need-number-at-requires-2
 number-at-requires-2 c κs = search needs
 
--- src/lib.rt:103:14
 add-to : tie.Need-add-to
-add-to c = search needs
+add-to c =
+    let w = c .before .before .before .before .before .before .pre .1 .within (c .before .before .before .before .before .before .args .token) in let a = c .before .number-at .ensures in let b = c .number-at2 .ensures in let g = c .before .before .before .before .before .before .good in omega arith
 
--- src/lib.rt:104:16
 sub-same-bytes : tie.Need-sub-same-bytes
 sub-same-bytes c = search needs
 
--- src/lib.rt:104:16
 part-same-bytes-start : tie.Need-part-same-bytes-start
 part-same-bytes-start c = search needs
 
--- src/lib.rt:104:16
 part-same-bytes-end : tie.Need-part-same-bytes-end
-part-same-bytes-end c = search needs
+part-same-bytes-end c =
+    let w = c .before .before .before .before .before .before .pre .1 .within (c .before .before .before .before .before .before .args .token) in let a = c .before .number-at .ensures in let b = c .number-at2 .ensures in let g = c .before .before .before .before .before .before .good in omega arith
 
--- src/lib.rt:104:5
 same-bytes-requires : tie.Need-same-bytes-requires
 same-bytes-requires c κs = search needs
 
--- src/lib.rt:97:1
 returns : tie.Need-returns
-returns c = search needs
+returns c =
+    λ u h.
+    c .same-bytes .ensures ∙ ap (λ (l : List ℕ). sameBytes l (now (c .before .before .before .before .before .before .before .before .args .name))) (word-is u (now (c .before .before .before .before .before .before .before .before .args .text)) (now (c .before .before .before .before .before .before .before .before .args .places)) (now (c .before .before .before .before .before .before .before .before .args .sizes)) (c .before .before .before .before .before .before .before .before .args .token) (c .before .before .before .number-at .result) (c .before .before .number-at2 .result) h (c .before .before .before .number-at .ensures) (c .before .before .number-at2 .ensures))
 
 pub is-named-spec : {M : Type 1} → statement M
 is-named-spec =

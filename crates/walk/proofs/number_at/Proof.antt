@@ -1,3 +1,6 @@
+-- Beyond the end it is 0.
+use denote.Ref.{now}
+use Rattle.walk.proofs.Rows.{beyond}
 use Rattle.walk.proofs.number_at.Statement.{statement}
 use Rattle.walk.proofs.number_at.Tie as tie
 use Rattle.walk.proofs.number_at.Reads as reads
@@ -14,25 +17,21 @@ use borrow.Author.Tests.{lt-ltb, le-ltb, le-leb, lt-leb, eq-eqb, ne-eqb}
 use lib.IntN.{ℤ, pos}
 use lib.ListN.{length, getD, set, take, drop, replicate, length-append, length-take, length-drop, length-set, length-replicate}
 
--- src/lib.rt:75:21
 mul-wide : tie.Need-mul-wide
 mul-wide c = search needs
 
--- src/lib.rt:75:21
 shared-slice-read-wide : tie.Need-shared-slice-read-wide
 shared-slice-read-wide c = search needs
 
--- src/lib.rt:75:9
 wide-requires : tie.Need-wide-requires
 wide-requires c κs = search needs
 
--- src/lib.rt:75:9
 returns : tie.Need-returns
 returns c = search needs
 
--- src/lib.rt:71:1
 returns-2 : tie.Need-returns-2
-returns-2 c = search needs
+returns-2 c =
+    sym (beyond (now (c .before .before .args .table)) (c .before .before .args .n) (omega arith))
 
 pub number-at-spec : {M : Type 1} → statement M
 number-at-spec =

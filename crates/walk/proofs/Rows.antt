@@ -113,6 +113,10 @@ pub filled-fits : (es : List Entry) → length es * 7 ≤ length (filledNumbers 
 unfolding filledNumbers
 filled-fits es = omega (arith, rows-length es (replicate (listingLength - length es * 7) 0))
 
+pub filled-length : (es : List Entry) → length es ≤ 1024 → length (filledNumbers es) ≡ listingLength
+unfolding filledNumbers
+filled-length es l = omega (arith, rows-length es (replicate (listingLength - length es * 7) 0), length-replicate {A = ℕ} (listingLength - length es * 7) 0)
+
 pub in-nth : {A : Type 0} {xs : List A} {n : ℕ} {x : A} → Nth xs n x → In x xs
 in-nth first = List·Memᴰ·head refl
 in-nth (later h) = List·Memᴰ·tail (in-nth h)

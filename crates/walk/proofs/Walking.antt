@@ -36,7 +36,7 @@ use Rattle.walk.specs.declared.Move.{Move}
 use Rattle.walk.specs.declared.Move.the-variants as move
 use Rattle.walk.specs.Hunted.{Hunted, gone, hits, orElse, behindHunted, huntAnswer, huntAt, huntFrom, huntLonger, Hunts, none, one}
 use Rattle.walk.specs.Held.{Held, Stands, Lists, Room, wayFound, Takes}
-use Rattle.walk.proofs.Rows.{first-part, same-first}
+use Rattle.walk.proofs.Rows.{first-part, same-first, filled-length}
 use Rattle.walk.proofs.Hunting.{search-is, at-idle, at-refused, at-wait, at-other, at-more, from-step, from-none, from-unlisted, longer-step, longer-none, pass-start, pass-lost, pass-found, pass-over}
 
 -- ---- what was found, taken apart
@@ -212,8 +212,14 @@ pub stands-tail : {m : Resolved.Model} {x : List ℕ} {s : State} {e : ℕ} {zs 
 stands-tail {zs′ = zs′} t h q = rw (tail-mid stateLength zs′) (record { good = t .second h q .0; numbers = t .second h q .1 })
 
 -- a listing that was filled stands first
-pub lists-filled : {b : List ℕ} {m : Resolved.Model} {s : State} {count : ℕ} (l : List ℕ) (f : Filling b m s count) → length b ≡ listingLength → Lists (b ++ drop listingLength l) m s (f .entries)
-lists-filled {b = b} l f e = record { listed = f .listed; numbers = first-part listingLength l b e ∙ f .numbers }
+pub filling-length : {b : List ℕ} {m : Resolved.Model} {s : State} {count : ℕ} (f : Filling b m s count) → length b ≡ listingLength
+filling-length {m = m} {s = s} f = ap length (f .numbers) ∙ filled-length (f .entries) (accepted m s (f .entries) .0 (f .listed) .2)
+
+pub lists-filled : {b : List ℕ} {m : Resolved.Model} {s : State} {count : ℕ} (l : List ℕ) (f : Filling b m s count) → Lists (b ++ drop listingLength l) m s (f .entries)
+lists-filled {b = b} l f = record { listed = f .listed; numbers = first-part listingLength l b (filling-length f) ∙ f .numbers }
+
+pub filled-size : {b : List ℕ} {m : Resolved.Model} {s : State} {count : ℕ} (l : List ℕ) (f : Filling b m s count) → listingLength ≤ length l → length (b ++ drop listingLength l) ≡ length l
+filled-size {b = b} l f k = let e = filling-length f in simp (length-append, length-drop) (omega arith)
 
 pub lists-first : {l : List ℕ} {m : Resolved.Model} {s : State} {es : List Entry} → Lists l m s es → Lists (take listingLength l) m s es
 lists-first {l} h = record { listed = h .listed; numbers = same-first listingLength l ∙ h .numbers }

@@ -7,7 +7,7 @@ use native.Mathlib.Omega.{arith}
 use native.Mathlib.Numerals.{add-one}
 use lib.IntN.{ℤ}
 use lib.ListN.{length, set, take, drop, length-map, length-take, length-drop, length-set, length-append}
-use lib.Seq.{length-take-le, take-take}
+use lib.Seq.{length-take-le, take-at, take-all}
 use borrow.Rule.Slice.PartMut.{putMid, midOf}
 use Rattle.model.specs.Resolved
 use Rattle.model.specs.Limits.{branchLimit}
@@ -25,11 +25,13 @@ use Rattle.machine.specs.Machine as machine
 use Rattle.machine.specs.Machine.{listing, listingLength, entryLimit, entriesAre, refusedWith, wayOf, movesOf, movesTo}
 use Rattle.machine.proofs.Everys.{every-in, in-every}
 use Rattle.machine.proofs.Listing.{accepted}
+use Rattle.machine.proofs.Numbers.{state-length}
 use Rattle.offers.specs.Collect.{FewBranches, World}
 use Rattle.listing.specs.declared.Listed.{Listed}
 use Rattle.listing.specs.declared.Listed.the-variants.{Filled, Refused}
 use Rattle.listing.specs.Buffer as buffer
 use Rattle.listing.specs.Buffer.{filledNumbers, listingNumbers, listedAnswer}
+use Rattle.step.specs.Enter as enter
 use Rattle.walk.specs.declared.Hit.{Hit}
 use Rattle.walk.specs.declared.Hit.the-variants.{Lost, Found}
 use Rattle.walk.specs.declared.Move.{Move}
@@ -223,3 +225,19 @@ filled-size {b = b} l f k = let e = filling-length f in simp (length-append, len
 
 pub lists-first : {l : List ℕ} {m : Resolved.Model} {s : State} {es : List Entry} → Lists l m s es → Lists (take listingLength l) m s es
 lists-first {l} h = record { listed = h .listed; numbers = same-first listingLength l ∙ h .numbers }
+
+-- ---- the state that is lent stands first
+
+module _ {state : List ℤ} {m : Resolved.Model} {s : State} (h : enter.Stands state m s) where
+  pub start-length : length state ≡ stateLength
+  start-length = ap length (h .numbers) ∙ state-length m (h .good) s (h .state)
+
+  pub start-stands : (rest : List ℤ) → Stands (take stateLength state ++ rest) m s
+  start-stands rest = record {
+    good = h .state;
+    numbers = take-at (take stateLength state) rest stateLength (length-take-le stateLength state (omega (arith, start-length))) ∙ take-all stateLength state (omega (arith, start-length)) ∙ h .numbers;
+  }
+
+-- room in the tables of a search
+pub start-room : (depth : ℕ) (zs : List ℤ) (l run : List ℕ) → depth ≤ 8 → length zs ≡ 46098 → length l ≡ 57344 → length run ≡ 8 → Room depth zs l run
+start-room depth zs l run a b c d = record { states = omega arith; listings = omega arith; entries = omega arith }

@@ -1,13 +1,13 @@
 -- Rows of a table: the first copied over the second, a part put back, and entries in the numbers of a listing. From the laws of lists.
 use mathlib.Core.Path.{_≡_, refl, sym, ap, _∙_}
 use mathlib.Core.List.{List, [], _∷_, _++_, List·Memᴰ as In, List·Memᴰ·head, List·Memᴰ·tail}
-use mathlib.Core.Option.{Option, none, some}
+use mathlib.Core.Option.{none, some}
 use Prim.Native.Nat.{ℕ, zero, suc, _+_, _-_, _*_, _≤_, _<_}
 use native.Mathlib.Nat.{le-refl}
 use native.Mathlib.Numerals.{add-one}
 use native.Mathlib.Omega.{arith}
 use lib.IntN.{ℤ}
-use lib.ListN.{length, getD, getElem?, set, take, drop, replicate, length-append, length-take, length-drop, length-replicate, List·getD-append}
+use lib.ListN.{length, getD, getElem?, set, take, drop, replicate, length-append, length-take, length-replicate, List·getD-append}
 use lib.Seq.{paste, paste-zero, paste-suc, length-take-le, take-at, drop-at, take-append-le, drop-append-le, take-take, getD-take, getD-drop}
 use borrow.Rule.Slice.PartMut.{putMid, midOf}
 use Rattle.model.specs.Resolved

@@ -1,26 +1,24 @@
 -- What each arm of the walk gives: an entry, the entries of a listing in turn, a state that is still to be listed, and one length after the other. From what is hunted for, over plain lists.
-use mathlib.Core.Path.{_≡_, refl, sym, ap, subst, _∙_}
+use mathlib.Core.Path.{_≡_, refl, sym, ap, _∙_}
 use mathlib.Core.List.{List, [], _∷_, _++_, map}
 use mathlib.Core.Bool.{Bool, true, false, _||_}
-use Prim.Native.Nat.{ℕ, zero, suc, _+_, _-_, _*_, _≤_, _<_}
+use Prim.Native.Nat.{ℕ, suc, _+_, _-_, _≤_, _<_}
 use native.Mathlib.Omega.{arith}
-use native.Mathlib.Numerals.{add-one}
 use lib.IntN.{ℤ}
-use lib.ListN.{length, set, take, drop, length-map, length-take, length-drop, length-set, length-append}
+use lib.ListN.{length, set, take, drop, length-map, length-drop, length-append}
 use lib.Seq.{length-take-le, take-at, take-all}
 use borrow.Rule.Slice.PartMut.{putMid, midOf}
 use Rattle.model.specs.Resolved
 use Rattle.model.specs.Limits.{branchLimit}
-use Rattle.model.specs.Good.{GoodSum, GoodModel}
+use Rattle.model.specs.Good.{GoodSum}
 use Rattle.rules.specs.Listing.{Entry}
-use Rattle.rules.specs.Draw.{weights, total}
-use Rattle.runs.specs.Tree.{Way, idle, refused, leads, unlisted, lists, wayIn, found}
+use Rattle.runs.specs.Tree.{leads, unlisted, lists, wayIn, found}
 use Rattle.runs.specs.Walk.{search, ending}
 use Rattle.search.specs.Walks.{Answered, a-run}
 use Rattle.search.specs.declared.Walked.{Walked}
 use Rattle.search.specs.declared.Walked.the-variants as walked
 use Rattle.search.proofs.Part.{tail-put, tail-mid}
-use Rattle.machine.specs.State.{State, GoodState, stateLength, stateNumbers}
+use Rattle.machine.specs.State.{State, stateLength}
 use Rattle.machine.specs.Machine as machine
 use Rattle.machine.specs.Machine.{listing, listingLength, entryLimit, entriesAre, refusedWith, wayOf, movesOf, movesTo}
 use Rattle.machine.proofs.Everys.{every-in, in-every}

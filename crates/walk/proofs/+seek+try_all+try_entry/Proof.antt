@@ -25,16 +25,12 @@ use Rattle.search.proofs.either.Reads as either-reads
 use Rattle.walk.proofs.take_at.Reads as take-at-reads
 use Rattle.walk.proofs.+seek+try_all+try_entry.{statement}
 use Rattle.walk.proofs.+seek+try_all+try_entry.Tie.{close}
-use mathlib.Core.Path.{_≡_, refl, ap, sym, _∙_}
-use mathlib.Core.List.{List, [], _∷_, _++_}
-use mathlib.Core.Bool.{Bool, true, false, cond}
-use mathlib.Core.Logic.{⊎-elim}
-use Prim.Native.Nat.{ℕ, zero, suc, _+_, _-_, _*_, _≤_, _<_}
+use mathlib.Core.Path.{_≡_, refl, _∙_}
+use mathlib.Core.List.{List}
+use Prim.Native.Nat.{ℕ, _+_, _-_, _*_, _≤_, _<_}
 use native.Mathlib.Omega.{arith}
 use borrow.Author.Needs.{needs}
-use borrow.Author.Tests.{lt-ltb, le-ltb, le-leb, lt-leb, eq-eqb, ne-eqb}
-use lib.IntN.{ℤ, pos}
-use lib.ListN.{length, getD, set, take, drop, replicate, length-append, length-take, length-drop, length-set, length-replicate}
+use lib.ListN.{length, set, take, length-take, length-set}
 
 abbrev μ-seek : Measures 10 seek-kinds.ps ℕ
 μ-seek κs a =
@@ -192,10 +188,12 @@ seek-returns-2 : (t : ℕ) → seek-lts.Need-returns-2 (
   try-all-below t,
   try-all.Post,
 ) (seek-at t) seek.Post
-seek-returns-2 t c =
-    (λ m s h st.
-    let f = seek-filled m s _ _ _ _ (c .before .before .before .before .before .before .before .before .before .before .before .before .before .before .list-here .ensures m s (world-of h st)) (c .before .before .before .before .before .before .before .before .before .before .listed .given .1) in
-    c .before .before .before .before .before .try-all .ensures .0 m s (f .entries) h st (lists-filled (c .before .before .before .before .before .before .before .before .before .before .before .before .before .before .before .before .before .before .before .before .before .before .before .before .before .before .args .listings .now) f) (f .count-is), c .before .before .before .before .before .try-all .ensures .1)
+seek-returns-2 t c = (
+  λ m s h st.
+      let f = seek-filled m s _ _ _ _ (c .before .before .before .before .before .before .before .before .before .before .before .before .before .before .list-here .ensures m s (world-of h st)) (c .before .before .before .before .before .before .before .before .before .before .listed .given .1) in
+      c .before .before .before .before .before .try-all .ensures .0 m s (f .entries) h st (lists-filled (c .before .before .before .before .before .before .before .before .before .before .before .before .before .before .before .before .before .before .before .before .before .before .before .before .before .before .args .listings .now) f) (f .count-is),
+  c .before .before .before .before .before .try-all .ensures .1,
+)
 
 abbrev try-all-Inv-loop : try-all-lts.InvT-loop
 try-all-Inv-loop nodes roots scopes root variables text places sizes name states₀ listings₀ run₀ more n met₀ e₀ states listings run met e =
@@ -264,11 +262,13 @@ try-all-returns : (t : ℕ) → try-all-lts.Need-returns (
   either-reads.Asked,
   either-reads.Learnt,
 ) (try-all-at t) try-all.Post try-all-Inv-loop try-all-μ-loop
-try-all-returns t c =
-    (λ m s es h st l i.
-    let j : c .before .before .before .before .before .before .before .before .before .before .before .before .loop .e < length es = omega arith in
-    let u = c .before .before .before .before .before .before .before .try-entry .ensures .0 m s es h (stands-kept (c .before .before .before .before .before .before .before .before .before .before .before .before .loop .inv .0) st) (lists-kept (c .before .before .before .before .before .before .before .before .before .before .before .before .loop .inv .1) l) j in
-    all-found m (now (c .before .before .before .before .before .before .before .before .before .before .before .before .before .before .before .before .before .before .before .before .before .before .args .name)) s es (l .listed) (c .before .before .before .before .before .before .before .before .before .before .before .before .before .before .before .before .before .before .before .before .before .before .args .more) (c .before .before .before .before .before .before .before .before .before .before .before .before .loop .e) (c .before .before .before .before .before .before .before .before .before .before .before .before .loop .met) (c .before .before .before .before .before .before .before .before .before .before .before .before .loop .inv .5 m s es h st l i) _ _ _ j u (c .enum-told .given .1), c .before .before .before .before .before .before .before .try-entry .ensures .1 ∙ c .before .before .before .before .before .before .before .before .before .before .before .before .loop .inv .0)
+try-all-returns t c = (
+  λ m s es h st l i.
+      let j : c .before .before .before .before .before .before .before .before .before .before .before .before .loop .e < length es = omega arith in
+      let u = c .before .before .before .before .before .before .before .try-entry .ensures .0 m s es h (stands-kept (c .before .before .before .before .before .before .before .before .before .before .before .before .loop .inv .0) st) (lists-kept (c .before .before .before .before .before .before .before .before .before .before .before .before .loop .inv .1) l) j in
+      all-found m (now (c .before .before .before .before .before .before .before .before .before .before .before .before .before .before .before .before .before .before .before .before .before .before .args .name)) s es (l .listed) (c .before .before .before .before .before .before .before .before .before .before .before .before .before .before .before .before .before .before .before .before .before .before .args .more) (c .before .before .before .before .before .before .before .before .before .before .before .before .loop .e) (c .before .before .before .before .before .before .before .before .before .before .before .before .loop .met) (c .before .before .before .before .before .before .before .before .before .before .before .before .loop .inv .5 m s es h st l i) _ _ _ j u (c .enum-told .given .1),
+  c .before .before .before .before .before .before .before .try-entry .ensures .1 ∙ c .before .before .before .before .before .before .before .before .before .before .before .before .loop .inv .0,
+)
 
 try-all-enum-known-tried : (t : ℕ) → try-all-lts.Need-enum-known-tried (
   try-entry-below t,
@@ -308,11 +308,17 @@ try-all-loop-again : (t : ℕ) → try-all-lts.Need-loop-again (
   either-reads.Asked,
   either-reads.Learnt,
 ) (try-all-at t) try-all.Post try-all-Inv-loop try-all-μ-loop
-try-all-loop-again t c =
-    (c .before .before .before .before .before .before .before .before .before .try-entry .ensures .1 ∙ c .before .before .before .before .before .before .before .before .before .before .before .before .before .before .loop .inv .0, c .before .before .before .before .before .before .before .before .before .try-entry .ensures .2 ∙ c .before .before .before .before .before .before .before .before .before .before .before .before .before .before .loop .inv .1, search needs, search needs, search needs, λ m s es h st l i.
-    let j : c .before .before .before .before .before .before .before .before .before .before .before .before .before .before .loop .e < length es = omega arith in
-    let u = c .before .before .before .before .before .before .before .before .before .try-entry .ensures .0 m s es h (stands-kept (c .before .before .before .before .before .before .before .before .before .before .before .before .before .before .loop .inv .0) st) (lists-kept (c .before .before .before .before .before .before .before .before .before .before .before .before .before .before .loop .inv .1) l) j in
-    all-lost m (now (c .before .before .before .before .before .before .before .before .before .before .before .before .before .before .before .before .before .before .before .before .before .before .before .before .args .name)) s es (l .listed) (c .before .before .before .before .before .before .before .before .before .before .before .before .before .before .before .before .before .before .before .before .before .before .before .before .args .more) (c .before .before .before .before .before .before .before .before .before .before .before .before .before .before .loop .e) (c .before .before .before .before .before .before .before .before .before .before .before .before .before .before .loop .met) (c .before .before .before .before .before .before .before .before .before .before .before .before .before .before .loop .inv .5 m s es h st l i) _ _ _ _ _ j u (c .before .before .tried .given .1) (c .either .ensures))
+try-all-loop-again t c = (
+  c .before .before .before .before .before .before .before .before .before .try-entry .ensures .1 ∙ c .before .before .before .before .before .before .before .before .before .before .before .before .before .before .loop .inv .0,
+  c .before .before .before .before .before .before .before .before .before .try-entry .ensures .2 ∙ c .before .before .before .before .before .before .before .before .before .before .before .before .before .before .loop .inv .1,
+  search needs,
+  search needs,
+  search needs,
+  λ m s es h st l i.
+      let j : c .before .before .before .before .before .before .before .before .before .before .before .before .before .before .loop .e < length es = omega arith in
+      let u = c .before .before .before .before .before .before .before .before .before .try-entry .ensures .0 m s es h (stands-kept (c .before .before .before .before .before .before .before .before .before .before .before .before .before .before .loop .inv .0) st) (lists-kept (c .before .before .before .before .before .before .before .before .before .before .before .before .before .before .loop .inv .1) l) j in
+      all-lost m (now (c .before .before .before .before .before .before .before .before .before .before .before .before .before .before .before .before .before .before .before .before .before .before .before .before .args .name)) s es (l .listed) (c .before .before .before .before .before .before .before .before .before .before .before .before .before .before .before .before .before .before .before .before .before .before .before .before .args .more) (c .before .before .before .before .before .before .before .before .before .before .before .before .before .before .loop .e) (c .before .before .before .before .before .before .before .before .before .before .before .before .before .before .loop .met) (c .before .before .before .before .before .before .before .before .before .before .before .before .before .before .loop .inv .5 m s es h st l i) _ _ _ _ _ j u (c .before .before .tried .given .1) (c .either .ensures),
+)
 
 try-all-same-length-4 : (t : ℕ) → try-all-lts.Need-same-length-4 (
   try-entry-below t,
@@ -344,10 +350,12 @@ try-all-returns-2 : (t : ℕ) → try-all-lts.Need-returns-2 (
   either-reads.Asked,
   either-reads.Learnt,
 ) (try-all-at t) try-all.Post try-all-Inv-loop try-all-μ-loop
-try-all-returns-2 t c =
-    (λ m s es h st l i.
-    let j : length es ≤ c .before .loop .e = omega arith in
-    all-over m (now (c .before .before .before .before .before .before .before .before .before .before .before .args .name)) s es (l .listed) (c .before .before .before .before .before .before .before .before .before .before .before .args .more) (c .before .loop .e) (c .before .loop .met) (c .before .loop .inv .5 m s es h st l i) _ _ j, c .before .loop .inv .0)
+try-all-returns-2 t c = (
+  λ m s es h st l i.
+      let j : length es ≤ c .before .loop .e = omega arith in
+      all-over m (now (c .before .before .before .before .before .before .before .before .before .before .before .args .name)) s es (l .listed) (c .before .before .before .before .before .before .before .before .before .before .before .args .more) (c .before .loop .e) (c .before .loop .met) (c .before .loop .inv .5 m s es h st l i) _ _ j,
+  c .before .loop .inv .0,
+)
 
 try-entry-slice-reshare-prefix-take-at : (t : ℕ) → try-entry-lts.Need-slice-reshare-prefix-take-at (
   take-at-reads.Asked,
@@ -666,9 +674,12 @@ try-entry-returns-5 : (t : ℕ) → try-entry-lts.Need-returns-5 (
   seek-below t,
   seek.Post,
 ) (try-entry-at t) try-entry.Post
-try-entry-returns-5 t c =
-    (λ m s es h st l i. let t = c .before .before .before .before .before .before .before .before .before .before .before .before .before .before .take-at .ensures m s es h st (lists-first l) i in let p = c .before .before .before .before .before .before .before .before .before .before .before .before .before .before .before .before .before .before .before .before .before .before .before .before .before .before .pre .1 .1 .states in let q = c .before .before .before .before .before .before .before .before .before .before .before .before .before .before .before .before .before .before .before .before .before .before .before .before .before .before .pre .1 .1 .listings in let r = c .before .before .before .before .before .before .before .before .before .before .before .before .before .before .before .before .before .before .before .before .before .before .before .before .before .before .pre .1 .1 .entries in let o : 1 ≤ c .before .before .before .before .before .before .before .before .before .before .before .before .before .before .before .before .before .before .before .before .before .before .before .before .before .before .args .more = omega arith in
-    entry-more (c .before .before .before .before .before .before .before .before .before .before .before .before .before .before .before .before .before .before .before .before .before .before .before .before .before .before .args .more) (c .before .before .before .before .before .before .before .before .before .before .before .before .before .before .before .before .before .before .before .before .before .before .before .before .before .before .args .run .now) t _ (c .before .before .before .before .before .before .before .before .before .before .before .taken .given .1) _ _ o (omega arith) (c .before .before .before .before .before .seek .ensures .0 m (t .after) h (stands-tail t _ (c .before .before .before .before .before .before .before .before .before .before .before .taken .given .1))), before-part stateLength (length (c .before .before .before .before .before .before .before .before .before .before .before .before .before .before .take-at .last .1 .1 .1 .1 .1 .1 .1 .1 .1 .0) - stateLength) (c .before .before .before .before .before .before .before .before .before .before .before .before .before .before .take-at .last .1 .1 .1 .1 .1 .1 .1 .1 .1 .0) (c .before .before .before .before .before .seek .last .1 .1 .1 .1 .1 .1 .1 .1 .1 .0) (let p = c .before .before .before .before .before .before .before .before .before .before .before .before .before .before .before .before .before .before .before .before .before .before .before .before .before .before .pre .1 .1 .states in let g = c .before .before .before .before .before .before .before .before .before .before .before .before .before .states .given in omega arith) ∙ (c .before .before .before .before .before .before .before .before .before .before .before .before .before .before .take-at .ensures (c .before .before .before .before .before .before .before .before .before .before .before .before .before .before .before .before .before .before .before .before .before .before .before .before .before .before .pre .1 .0 .0) (c .before .before .before .before .before .before .before .before .before .before .before .before .before .before .before .before .before .before .before .before .before .before .before .before .before .before .pre .1 .0 .1) (c .before .before .before .before .before .before .before .before .before .before .before .before .before .before .before .before .before .before .before .before .before .before .before .before .before .before .pre .1 .0 .2) (c .before .before .before .before .before .before .before .before .before .before .before .before .before .before .before .before .before .before .before .before .before .before .before .before .before .before .pre .1 .0 .3) (c .before .before .before .before .before .before .before .before .before .before .before .before .before .before .before .before .before .before .before .before .before .before .before .before .before .before .pre .1 .0 .4) (lists-first (c .before .before .before .before .before .before .before .before .before .before .before .before .before .before .before .before .before .before .before .before .before .before .before .before .before .before .pre .1 .0 .5)) (c .before .before .before .before .before .before .before .before .before .before .before .before .before .before .before .before .before .before .before .before .before .before .before .before .before .before .pre .1 .0 .6)) .first, before-part listingLength (length (c .before .before .before .before .before .before .before .before .before .before .before .before .before .before .before .before .before .before .before .before .before .before .before .before .before .before .args .listings .now) - listingLength) (c .before .before .before .before .before .before .before .before .before .before .before .before .before .before .before .before .before .before .before .before .before .before .before .before .before .before .args .listings .now) (c .before .before .before .before .before .seek .last .1 .1 .1 .1 .1 .1 .1 .1 .1 .1 .0) (let p = c .before .before .before .before .before .before .before .before .before .before .before .before .before .before .before .before .before .before .before .before .before .before .before .before .before .before .pre .1 .1 .listings in omega arith))
+try-entry-returns-5 t c = (
+  λ m s es h st l i. let t = c .before .before .before .before .before .before .before .before .before .before .before .before .before .before .take-at .ensures m s es h st (lists-first l) i in let p = c .before .before .before .before .before .before .before .before .before .before .before .before .before .before .before .before .before .before .before .before .before .before .before .before .before .before .pre .1 .1 .states in let q = c .before .before .before .before .before .before .before .before .before .before .before .before .before .before .before .before .before .before .before .before .before .before .before .before .before .before .pre .1 .1 .listings in let r = c .before .before .before .before .before .before .before .before .before .before .before .before .before .before .before .before .before .before .before .before .before .before .before .before .before .before .pre .1 .1 .entries in let o : 1 ≤ c .before .before .before .before .before .before .before .before .before .before .before .before .before .before .before .before .before .before .before .before .before .before .before .before .before .before .args .more = omega arith in
+      entry-more (c .before .before .before .before .before .before .before .before .before .before .before .before .before .before .before .before .before .before .before .before .before .before .before .before .before .before .args .more) (c .before .before .before .before .before .before .before .before .before .before .before .before .before .before .before .before .before .before .before .before .before .before .before .before .before .before .args .run .now) t _ (c .before .before .before .before .before .before .before .before .before .before .before .taken .given .1) _ _ o (omega arith) (c .before .before .before .before .before .seek .ensures .0 m (t .after) h (stands-tail t _ (c .before .before .before .before .before .before .before .before .before .before .before .taken .given .1))),
+  before-part stateLength (length (c .before .before .before .before .before .before .before .before .before .before .before .before .before .before .take-at .last .1 .1 .1 .1 .1 .1 .1 .1 .1 .0) - stateLength) (c .before .before .before .before .before .before .before .before .before .before .before .before .before .before .take-at .last .1 .1 .1 .1 .1 .1 .1 .1 .1 .0) (c .before .before .before .before .before .seek .last .1 .1 .1 .1 .1 .1 .1 .1 .1 .0) (let p = c .before .before .before .before .before .before .before .before .before .before .before .before .before .before .before .before .before .before .before .before .before .before .before .before .before .before .pre .1 .1 .states in let g = c .before .before .before .before .before .before .before .before .before .before .before .before .before .states .given in omega arith) ∙ (c .before .before .before .before .before .before .before .before .before .before .before .before .before .before .take-at .ensures (c .before .before .before .before .before .before .before .before .before .before .before .before .before .before .before .before .before .before .before .before .before .before .before .before .before .before .pre .1 .0 .0) (c .before .before .before .before .before .before .before .before .before .before .before .before .before .before .before .before .before .before .before .before .before .before .before .before .before .before .pre .1 .0 .1) (c .before .before .before .before .before .before .before .before .before .before .before .before .before .before .before .before .before .before .before .before .before .before .before .before .before .before .pre .1 .0 .2) (c .before .before .before .before .before .before .before .before .before .before .before .before .before .before .before .before .before .before .before .before .before .before .before .before .before .before .pre .1 .0 .3) (c .before .before .before .before .before .before .before .before .before .before .before .before .before .before .before .before .before .before .before .before .before .before .before .before .before .before .pre .1 .0 .4) (lists-first (c .before .before .before .before .before .before .before .before .before .before .before .before .before .before .before .before .before .before .before .before .before .before .before .before .before .before .pre .1 .0 .5)) (c .before .before .before .before .before .before .before .before .before .before .before .before .before .before .before .before .before .before .before .before .before .before .before .before .before .before .pre .1 .0 .6)) .first,
+  before-part listingLength (length (c .before .before .before .before .before .before .before .before .before .before .before .before .before .before .before .before .before .before .before .before .before .before .before .before .before .before .args .listings .now) - listingLength) (c .before .before .before .before .before .before .before .before .before .before .before .before .before .before .before .before .before .before .before .before .before .before .before .before .before .before .args .listings .now) (c .before .before .before .before .before .seek .last .1 .1 .1 .1 .1 .1 .1 .1 .1 .1 .0) (let p = c .before .before .before .before .before .before .before .before .before .before .before .before .before .before .before .before .before .before .before .before .before .before .before .before .before .before .pre .1 .1 .listings in omega arith),
+)
 
 pub +seek+try-all+try-entry-spec : {M : Type 1} → statement M
 +seek+try-all+try-entry-spec = close μ-seek μ-try-all μ-try-entry (λ t. seek-lts.spec (

@@ -5,18 +5,12 @@ use Rattle.value.proofs.Kit.{back}
 use Rattle.walk.proofs.Rows.{copy-start, copy-on}
 use Rattle.walk.proofs.copy_row.Statement.{statement}
 use Rattle.walk.proofs.copy_row.Tie as tie
-use Rattle.walk.proofs.copy_row.Reads as reads
-use Rattle.walk.proofs.copy_row.Lts as lts
-use mathlib.Core.Path.{_≡_, refl, ap, sym, _∙_}
-use mathlib.Core.List.{List, [], _∷_, _++_}
-use mathlib.Core.Bool.{Bool, true, false, cond}
-use mathlib.Core.Logic.{⊎-elim}
-use Prim.Native.Nat.{ℕ, zero, suc, _+_, _-_, _*_, _≤_, _<_}
+use mathlib.Core.Path.{_≡_, refl, ap, _∙_}
+use Prim.Native.Nat.{ℕ, _-_, _≤_}
 use native.Mathlib.Omega.{arith}
 use borrow.Author.Needs.{needs}
-use borrow.Author.Tests.{lt-ltb, le-ltb, le-leb, lt-leb, eq-eqb, ne-eqb}
-use lib.IntN.{ℤ, pos}
-use lib.ListN.{length, getD, set, take, drop, replicate, length-append, length-take, length-drop, length-set, length-replicate}
+use lib.IntN.{pos}
+use lib.ListN.{length, length-set}
 
 abbrev Inv-loop : tie.InvT-loop
 Inv-loop states₀ i₀ states i =

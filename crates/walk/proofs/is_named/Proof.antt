@@ -4,20 +4,11 @@ use Rattle.token.specs.Token.{sameBytes}
 use Rattle.walk.proofs.Sought.{word-is}
 use Rattle.walk.proofs.is_named.Statement.{statement}
 use Rattle.walk.proofs.is_named.Tie as tie
-use Rattle.walk.proofs.is_named.Reads as reads
-use Rattle.walk.proofs.is_named.Lts as lts
-use Rattle.walk.proofs.number_at.Reads as number-at-reads
-use Rattle.walk.proofs.same_bytes.Reads as same-bytes-reads
-use mathlib.Core.Path.{_≡_, refl, ap, sym, _∙_}
-use mathlib.Core.List.{List, [], _∷_, _++_}
-use mathlib.Core.Bool.{Bool, true, false, cond}
-use mathlib.Core.Logic.{⊎-elim}
-use Prim.Native.Nat.{ℕ, zero, suc, _+_, _-_, _*_, _≤_, _<_}
+use mathlib.Core.Path.{ap, _∙_}
+use mathlib.Core.List.{List}
+use Prim.Native.Nat.{ℕ}
 use native.Mathlib.Omega.{arith}
 use borrow.Author.Needs.{needs}
-use borrow.Author.Tests.{lt-ltb, le-ltb, le-leb, lt-leb, eq-eqb, ne-eqb}
-use lib.IntN.{ℤ, pos}
-use lib.ListN.{length, getD, set, take, drop, replicate, length-append, length-take, length-drop, length-set, length-replicate}
 
 number-at-requires : tie.Need-number-at-requires
 number-at-requires c κs = search needs

@@ -3,19 +3,9 @@ use denote.Ref.{now}
 use Rattle.walk.proofs.Rows.{beyond}
 use Rattle.walk.proofs.number_at.Statement.{statement}
 use Rattle.walk.proofs.number_at.Tie as tie
-use Rattle.walk.proofs.number_at.Reads as reads
-use Rattle.walk.proofs.number_at.Lts as lts
-use Rattle.walk.proofs.wide.Reads as wide-reads
-use mathlib.Core.Path.{_≡_, refl, ap, sym, _∙_}
-use mathlib.Core.List.{List, [], _∷_, _++_}
-use mathlib.Core.Bool.{Bool, true, false, cond}
-use mathlib.Core.Logic.{⊎-elim}
-use Prim.Native.Nat.{ℕ, zero, suc, _+_, _-_, _*_, _≤_, _<_}
+use mathlib.Core.Path.{sym}
 use native.Mathlib.Omega.{arith}
 use borrow.Author.Needs.{needs}
-use borrow.Author.Tests.{lt-ltb, le-ltb, le-leb, lt-leb, eq-eqb, ne-eqb}
-use lib.IntN.{ℤ, pos}
-use lib.ListN.{length, getD, set, take, drop, replicate, length-append, length-take, length-drop, length-set, length-replicate}
 
 mul-wide : tie.Need-mul-wide
 mul-wide c = search needs

@@ -3,18 +3,11 @@ use Rattle.token.specs.Token.{sameBytes}
 use Rattle.walk.proofs.Sought.{differ-long, bytes-differ, bytes-on, bytes-all}
 use Rattle.walk.proofs.same_bytes.Statement.{statement}
 use Rattle.walk.proofs.same_bytes.Tie as tie
-use Rattle.walk.proofs.same_bytes.Reads as reads
-use Rattle.walk.proofs.same_bytes.Lts as lts
-use mathlib.Core.Path.{_≡_, refl, ap, sym, _∙_}
-use mathlib.Core.List.{List, [], _∷_, _++_}
-use mathlib.Core.Bool.{Bool, true, false, cond}
-use mathlib.Core.Logic.{⊎-elim}
-use Prim.Native.Nat.{ℕ, zero, suc, _+_, _-_, _*_, _≤_, _<_}
+use mathlib.Core.Path.{_≡_, refl, sym}
+use Prim.Native.Nat.{_-_, _≤_}
 use native.Mathlib.Omega.{arith}
 use borrow.Author.Needs.{needs}
-use borrow.Author.Tests.{lt-ltb, le-ltb, le-leb, lt-leb, eq-eqb, ne-eqb}
-use lib.IntN.{ℤ, pos}
-use lib.ListN.{length, getD, set, take, drop, replicate, length-append, length-take, length-drop, length-set, length-replicate}
+use lib.ListN.{length, drop}
 
 abbrev Inv-loop : tie.InvT-loop
 Inv-loop a b i₀ i =

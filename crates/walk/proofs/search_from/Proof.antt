@@ -8,21 +8,11 @@ use Rattle.walk.specs.Held.{Held, Stands}
 use Rattle.walk.proofs.Walking.{longer-start, longer-lost, longer-found, longer-over, stands-kept}
 use Rattle.walk.proofs.search_from.Statement.{statement}
 use Rattle.walk.proofs.search_from.Tie as tie
-use Rattle.walk.proofs.search_from.Reads as reads
-use Rattle.walk.proofs.search_from.Lts as lts
-use Rattle.search.proofs.either.Reads as either-reads
-use Rattle.walk.proofs.ended.Reads as ended-reads
-use Rattle.walk.proofs.seek.Reads as seek-reads
-use mathlib.Core.Path.{_≡_, refl, ap, sym, _∙_}
-use mathlib.Core.List.{List, [], _∷_, _++_}
-use mathlib.Core.Bool.{Bool, true, false, cond}
-use mathlib.Core.Logic.{⊎-elim}
-use Prim.Native.Nat.{ℕ, zero, suc, _+_, _-_, _*_, _≤_, _<_}
+use mathlib.Core.Path.{_≡_, refl, _∙_}
+use Prim.Native.Nat.{_-_, _<_}
 use native.Mathlib.Omega.{arith}
 use borrow.Author.Needs.{needs}
-use borrow.Author.Tests.{lt-ltb, le-ltb, le-leb, lt-leb, eq-eqb, ne-eqb}
-use lib.IntN.{ℤ, pos}
-use lib.ListN.{length, getD, set, take, drop, replicate, length-append, length-take, length-drop, length-set, length-replicate}
+use lib.ListN.{length, take}
 
 abbrev Inv-loop : tie.InvT-loop
 Inv-loop nodes roots scopes root variables text places sizes name states₀ listings₀ run₀ depth met₀ more₀ states listings run met more =
@@ -82,11 +72,16 @@ loop-less : tie.Need-loop-less Inv-loop μ-loop
 loop-less c = search needs
 
 loop-again : tie.Need-loop-again Inv-loop μ-loop
-loop-again c =
-    (c .before .before .before .before .before .before .before .before .before .seek .ensures .1 ∙ c .before .before .before .before .before .before .before .before .before .before .before .before .before .before .loop .inv .0, search needs, search needs, search needs, λ m s h st.
-    let j : c .before .before .before .before .before .before .before .before .before .before .before .before .before .before .loop .more < c .before .before .before .before .before .before .before .before .before .before .before .before .before .before .before .before .before .before .before .before .before .before .before .before .args .depth = omega arith in
-    let u = c .before .before .before .before .before .before .before .before .before .seek .ensures .0 m s h (stands-kept (c .before .before .before .before .before .before .before .before .before .before .before .before .before .before .loop .inv .0) st) in
-    longer-lost m (now (c .before .before .before .before .before .before .before .before .before .before .before .before .before .before .before .before .before .before .before .before .before .before .before .before .args .name)) s (c .before .before .before .before .before .before .before .before .before .before .before .before .before .before .before .before .before .before .before .before .before .before .before .before .args .depth) (c .before .before .before .before .before .before .before .before .before .before .before .before .before .before .loop .more) (c .before .before .before .before .before .before .before .before .before .before .before .before .before .before .loop .met) (c .before .before .before .before .before .before .before .before .before .before .before .before .before .before .loop .inv .4 m s h st) _ _ _ _ _ j u (c .before .before .hit .given .1) (c .either .ensures))
+loop-again c = (
+  c .before .before .before .before .before .before .before .before .before .seek .ensures .1 ∙ c .before .before .before .before .before .before .before .before .before .before .before .before .before .before .loop .inv .0,
+  search needs,
+  search needs,
+  search needs,
+  λ m s h st.
+      let j : c .before .before .before .before .before .before .before .before .before .before .before .before .before .before .loop .more < c .before .before .before .before .before .before .before .before .before .before .before .before .before .before .before .before .before .before .before .before .before .before .before .before .args .depth = omega arith in
+      let u = c .before .before .before .before .before .before .before .before .before .seek .ensures .0 m s h (stands-kept (c .before .before .before .before .before .before .before .before .before .before .before .before .before .before .loop .inv .0) st) in
+      longer-lost m (now (c .before .before .before .before .before .before .before .before .before .before .before .before .before .before .before .before .before .before .before .before .before .before .before .before .args .name)) s (c .before .before .before .before .before .before .before .before .before .before .before .before .before .before .before .before .before .before .before .before .before .before .before .before .args .depth) (c .before .before .before .before .before .before .before .before .before .before .before .before .before .before .loop .more) (c .before .before .before .before .before .before .before .before .before .before .before .before .before .before .loop .met) (c .before .before .before .before .before .before .before .before .before .before .before .before .before .before .loop .inv .4 m s h st) _ _ _ _ _ j u (c .before .before .hit .given .1) (c .either .ensures),
+)
 
 ended-requires : tie.Need-ended-requires Inv-loop μ-loop
 ended-requires c κs = search needs

@@ -1,34 +1,33 @@
--- The state is written first into a table of states.
-use denote.Ref.{now}
-use native.Mathlib.Omega.{arith}
-use borrow.Author.Needs.{needs}
-use lib.ListN.{length, length-replicate}
-use Rattle.walk.proofs.Walking.{start-length, start-stands, start-room}
+-- The tables have room for runs of eight entries.
+use Rattle.walk.proofs.Walking.{start-room}
 use Rattle.walk.proofs.search_model.Statement.{statement}
 use Rattle.walk.proofs.search_model.Tie as tie
+use mathlib.Core.Path.{refl}
+use borrow.Author.Needs.{needs}
 
-slice-aggregate-put : tie.Need-slice-aggregate-put
-slice-aggregate-put c = search needs
+slice-aggregate-search-in : tie.Need-slice-aggregate-search-in
+slice-aggregate-search-in c = search needs
 
-put-requires : tie.Need-put-requires
-put-requires c κs = ?
+slice-aggregate-search-in-2 : tie.Need-slice-aggregate-search-in-2
+slice-aggregate-search-in-2 c = search needs
 
-slice-aggregate-search-from : tie.Need-slice-aggregate-search-from
-slice-aggregate-search-from c = ?
-
-slice-aggregate-search-from-2 : tie.Need-slice-aggregate-search-from-2
-slice-aggregate-search-from-2 c = search needs
-
-search-from-requires : tie.Need-search-from-requires
-search-from-requires c κs = ?
+search-in-requires : tie.Need-search-in-requires
+search-in-requires c κs =
+    (c .before .before .before .before .before .before .before .before .before .before .before .pre .0, start-room (c .before .before .before .before .before .before .before .before .before .before .before .args .depth) _ _ _ (c .before .before .before .before .before .before .before .before .before .before .before .pre .1) refl refl (c .before .before .before .before .before .before .before .before .before .before .before .pre .2))
 
 same-length : tie.Need-same-length
 same-length c = search needs
 
 returns : tie.Need-returns
-returns c = ?
+returns c =
+    c .before .before .before .before .search-in .ensures
 
 pub search-model-spec : {M : Type 1} → statement M
 search-model-spec =
     tie.close
-    (tie.spec slice-aggregate-put put-requires slice-aggregate-search-from slice-aggregate-search-from-2 search-from-requires same-length returns)
+    (tie.spec
+    slice-aggregate-search-in
+    slice-aggregate-search-in-2
+    search-in-requires
+    same-length
+    returns)

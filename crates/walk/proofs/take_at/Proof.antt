@@ -7,22 +7,10 @@ use Rattle.walk.proofs.Rows.{mid-twice}
 use Rattle.walk.proofs.Taking.{entry-fits, row-of, seen, takes-idle, takes-accepted, takes-refused}
 use Rattle.walk.proofs.take_at.Statement.{statement}
 use Rattle.walk.proofs.take_at.Tie as tie
-use Rattle.walk.proofs.take_at.Reads as reads
-use Rattle.walk.proofs.take_at.Lts as lts
-use Rattle.walk.proofs.copy_row.Reads as copy-row-reads
-use Rattle.walk.proofs.entry_at.Reads as entry-at-reads
-use Rattle.walk.proofs.is_sought.Reads as is-sought-reads
-use Rattle.walk.proofs.take_row.Reads as take-row-reads
-use mathlib.Core.Path.{_≡_, refl, ap, sym, _∙_}
-use mathlib.Core.List.{List, [], _∷_, _++_}
-use mathlib.Core.Bool.{Bool, true, false, cond}
-use mathlib.Core.Logic.{⊎-elim}
-use Prim.Native.Nat.{ℕ, zero, suc, _+_, _-_, _*_, _≤_, _<_}
+use mathlib.Core.Path.{ap, _∙_}
 use native.Mathlib.Omega.{arith}
 use borrow.Author.Needs.{needs}
-use borrow.Author.Tests.{lt-ltb, le-ltb, le-leb, lt-leb, eq-eqb, ne-eqb}
-use lib.IntN.{ℤ, pos}
-use lib.ListN.{length, getD, set, take, drop, replicate, length-append, length-take, length-drop, length-set, length-replicate}
+use lib.ListN.{length-take}
 
 entry-at-requires : tie.Need-entry-at-requires
 entry-at-requires c κs =

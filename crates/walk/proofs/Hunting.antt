@@ -2,13 +2,13 @@
 use mathlib.Core.Path.{_≡_, refl, sym, ap, _∙_}
 use mathlib.Core.List.{List, [], _∷_, _++_, map}
 use mathlib.Core.Bool.{Bool, true, false, _||_}
-use Prim.Native.Nat.{ℕ, zero, suc, _+_, _-_, _≤_, _<_}
+use Prim.Native.Nat.{ℕ, suc, _+_, _-_, _≤_, _<_}
 use native.Mathlib.Omega.{arith}
 use native.Mathlib.Numerals.{add-one}
 use lib.ListN.{length, getD, drop, drop-of-length-le}
 use lib.Seq.{drop-cons}
-use Rattle.runs.specs.Tree.{Way, idle, refused, leads, Listed, unlisted, lists, wayIn, Answer}
-use Rattle.runs.specs.Walk.{Event, meets, reaches, behind, ofWay, ofWays, ofListed, events, eventsFrom, levels, walk, ending, judge, search}
+use Rattle.runs.specs.Tree.{Way, idle, refused, leads, Listed, unlisted, lists, wayIn}
+use Rattle.runs.specs.Walk.{Event, meets, reaches, behind, ofWay, ofWays, ofListed, events, eventsFrom, levels, walk, judge, search}
 use Rattle.walk.specs.Hunted.{Hunted, gone, hits, orElse, behindHunted, hunted, huntAnswer, huntAt, huntFrom, huntLonger}
 
 -- ---- parts joined

@@ -1,13 +1,13 @@
 -- Rows of a table: the first copied over the second, a part put back, and entries in the numbers of a listing. From the laws of lists.
 use mathlib.Core.Path.{_≡_, refl, sym, ap, _∙_}
 use mathlib.Core.List.{List, [], _∷_, _++_, List·Memᴰ as In, List·Memᴰ·head, List·Memᴰ·tail}
-use mathlib.Core.Option.{Option, none, some}
+use mathlib.Core.Option.{none, some}
 use Prim.Native.Nat.{ℕ, zero, suc, _+_, _-_, _*_, _≤_, _<_}
 use native.Mathlib.Nat.{le-refl}
 use native.Mathlib.Numerals.{add-one}
 use native.Mathlib.Omega.{arith}
 use lib.IntN.{ℤ}
-use lib.ListN.{length, getD, getElem?, set, take, drop, replicate, length-append, length-take, length-drop, length-replicate, List·getD-append}
+use lib.ListN.{length, getD, getElem?, set, take, drop, replicate, length-append, length-take, length-replicate, List·getD-append}
 use lib.Seq.{paste, paste-zero, paste-suc, length-take-le, take-at, drop-at, take-append-le, drop-append-le, take-take, getD-take, getD-drop}
 use borrow.Rule.Slice.PartMut.{putMid, midOf}
 use Rattle.model.specs.Resolved
@@ -113,6 +113,10 @@ pub filled-fits : (es : List Entry) → length es * 7 ≤ length (filledNumbers 
 unfolding filledNumbers
 filled-fits es = omega (arith, rows-length es (replicate (listingLength - length es * 7) 0))
 
+pub filled-length : (es : List Entry) → length es ≤ 1024 → length (filledNumbers es) ≡ listingLength
+unfolding filledNumbers
+filled-length es l = omega (arith, rows-length es (replicate (listingLength - length es * 7) 0), length-replicate {A = ℕ} (listingLength - length es * 7) 0)
+
 pub in-nth : {A : Type 0} {xs : List A} {n : ℕ} {x : A} → Nth xs n x → In x xs
 in-nth first = List·Memᴰ·head refl
 in-nth (later h) = List·Memᴰ·tail (in-nth h)
@@ -136,3 +140,9 @@ module _ {t roots scopes : List ℕ} {root variables : ℕ} {zs : List ℤ} {l :
 
   pub row-in : In e (entries (branches m) s)
   row-in = let q = entries-are m s es (h .listing .listed) in rw (← q) (in-nth (get-nth es c (h .at)))
+
+-- beyond the end of a table
+pub beyond : (l : List ℕ) (n : ℕ) → length l ≤ n → getD l n 0 ≡ 0
+beyond [] n h = refl
+beyond (x ∷ l) zero h = absurd (omega arith)
+beyond (x ∷ l) (suc n) h = beyond l n (omega arith)

@@ -1,6 +1,6 @@
 -- The wait of a name: bytes compared, and the wait that a listed entry of its kind is. By cases of the rules that derive an entry.
 use mathlib.Core.Path.{_≡_, refl, sym, ap, _∙_}
-use mathlib.Core.List.{List, [], _∷_, List·Memᴰ as In}
+use mathlib.Core.List.{List, [], _∷_}
 use mathlib.Core.Bool.{Bool, true, false, _&&_}
 use mathlib.Core.Option.{Option, none, some, Option·elim}
 use Prim.Native.Nat.{ℕ, suc, _+_, _-_, _≤_, _<_}
@@ -17,14 +17,13 @@ use Rattle.model.specs.Resolved
 use Rattle.tables.specs.Spelled.{Spells}
 use Rattle.rules.specs.Offers as offers
 use Rattle.rules.specs.Rules.{Change, Alone as Lone, waits, launches, kills, receives, binds, checks, key, Moves, alone, together, Derivable}
-use Rattle.rules.specs.Listing.{entry, entries}
+use Rattle.rules.specs.Listing.{entry}
 use Rattle.rules.proofs.Places.{acting, branching}
 use Rattle.rules.proofs.Listed.{listed}
-use Rattle.machine.specs.Evaluate.{given, evalAction, evalBranch, evalPair, evalQuery}
-use Rattle.machine.specs.Offer.{Process, branches, branchesOf}
+use Rattle.machine.specs.Evaluate.{given, evalAction, evalPair, evalQuery}
+use Rattle.machine.specs.Offer.{Process, branches}
 use Rattle.machine.specs.State.{State}
 use Rattle.machine.specs.Machine.{isWait, isSought}
-use Rattle.machine.specs.Questions.{BranchAt}
 use Rattle.machine.proofs.Branches.{nth-get, writes}
 use Rattle.machine.proofs.Parts.{comes}
 use Rattle.machine.proofs.Bound.{label-action}

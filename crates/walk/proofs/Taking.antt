@@ -1,26 +1,24 @@
 -- What taking an entry comes to is what the machine's search goes over. From the contract of the step, by cases of its answer.
-use mathlib.Core.Path.{_≡_, refl, sym, ap, subst, _∙_}
-use mathlib.Core.List.{List, [], _∷_, map, List·Memᴰ as In}
+use mathlib.Core.Path.{_≡_, refl, sym, ap, _∙_}
+use mathlib.Core.List.{List, map}
 use mathlib.Core.Bool.{Bool, true, false, cond}
 use mathlib.Core.Option.{some}
-use Prim.Native.Nat.{ℕ, zero, suc, _+_, _*_, _≤_, _<_}
+use Prim.Native.Nat.{ℕ, _+_, _*_, _≤_, _<_}
 use native.Mathlib.Omega.{arith}
-use borrow.Author.Tests.{eq-eqb, ne-eqb}
-use lib.Dec.{eqb, leb}
+use borrow.Author.Tests.{ne-eqb}
+use lib.Dec.{leb}
 use lib.IntN.{ℤ}
 use lib.ListN.{length, getD, getElem?, take, drop}
 use lib.Seq.{take-all}
-use borrow.Rule.Slice.PartMut.{putMid, midOf}
+use borrow.Rule.Slice.PartMut.{putMid}
 use Rattle.model.specs.Resolved
 use Rattle.model.specs.Good.{GoodModel}
 use Rattle.rules.specs.Rules.{Key, key, Nth, first, later}
-use Rattle.rules.specs.Listing.{Entry, entry, keyOf, entries}
-use Rattle.runs.specs.Tree.{Way, idle, refused, leads, wayIn}
-use Rattle.machine.specs.Offer.{branches}
+use Rattle.rules.specs.Listing.{Entry, entry, keyOf}
+use Rattle.runs.specs.Tree.{idle, refused, leads, wayIn}
 use Rattle.machine.specs.State.{State, GoodState, stateLength, stateNumbers}
-use Rattle.machine.specs.Machine.{listing, listingLength, entryLimit, entriesAre, entryArguments, entryState, taken, isSought, wayTaken, wayOf, movesOf, movesTo}
+use Rattle.machine.specs.Machine.{listing, listingLength, entriesAre, entryArguments, entryState, taken, isSought, wayTaken, wayOf, movesOf, movesTo}
 use Rattle.machine.proofs.Branches.{get-nth, nth-get, nth-below}
-use Rattle.machine.proofs.Listing.{accepted}
 use Rattle.machine.proofs.Numbers.{state-length}
 use Rattle.machine.proofs.Searching.{takes-so}
 use Rattle.machine.proofs.Stays.{moves-good}
@@ -28,14 +26,12 @@ use Rattle.listing.specs.declared.Entry as listed
 use Rattle.listing.specs.Buffer.{entryOf, filledNumbers}
 use Rattle.step.specs.declared.Taken.{Taken}
 use Rattle.step.specs.declared.Taken.the-variants.{Accepted, Refused}
-use Rattle.step.specs.Enter as enter
-use Rattle.step.specs.Enter.{Lent, Answers, verdict, numberOf, stateOf}
+use Rattle.step.specs.Enter.{Lent, Answers, verdict, numberOf}
 use Rattle.step.proofs.Answered.{taken-number, taken-state}
-use Rattle.walk.specs.declared.Move.{Move}
 use Rattle.walk.specs.declared.Move.the-variants as move
 use Rattle.walk.specs.Entries.{entryIn, Listing, Row}
 use Rattle.walk.specs.Held.{Held, Seen, Stands, Lists, wayFound, Takes}
-use Rattle.walk.proofs.Rows.{row-is, row-in, row-fits, mid-twice, back-first, back-second, twice}
+use Rattle.walk.proofs.Rows.{row-is, row-in, row-fits, back-first, back-second, twice}
 
 nth-way : {A B : Type 0} {xs : List A} {n : ℕ} {x : A} (f : A → B) (d : B) → Nth xs n x → getD (map f xs) n d ≡ f x
 nth-way f d first = refl

@@ -1,41 +1,42 @@
 -- What each arm of the walk gives: an entry, the entries of a listing in turn, a state that is still to be listed, and one length after the other. From what is hunted for, over plain lists.
-use mathlib.Core.Path.{_≡_, refl, sym, ap, subst, _∙_}
+use mathlib.Core.Path.{_≡_, refl, sym, ap, _∙_}
 use mathlib.Core.List.{List, [], _∷_, _++_, map}
 use mathlib.Core.Bool.{Bool, true, false, _||_}
-use Prim.Native.Nat.{ℕ, zero, suc, _+_, _-_, _*_, _≤_, _<_}
+use Prim.Native.Nat.{ℕ, suc, _+_, _-_, _≤_, _<_}
 use native.Mathlib.Omega.{arith}
-use native.Mathlib.Numerals.{add-one}
 use lib.IntN.{ℤ}
-use lib.ListN.{length, set, take, drop, length-map, length-take, length-drop, length-set, length-append}
-use lib.Seq.{length-take-le, take-take}
+use lib.ListN.{length, set, take, drop, length-map, length-drop, length-append}
+use lib.Seq.{length-take-le, take-at, take-all}
 use borrow.Rule.Slice.PartMut.{putMid, midOf}
 use Rattle.model.specs.Resolved
 use Rattle.model.specs.Limits.{branchLimit}
-use Rattle.model.specs.Good.{GoodSum, GoodModel}
+use Rattle.model.specs.Good.{GoodSum}
 use Rattle.rules.specs.Listing.{Entry}
-use Rattle.rules.specs.Draw.{weights, total}
-use Rattle.runs.specs.Tree.{Way, idle, refused, leads, unlisted, lists, wayIn, found}
+use Rattle.runs.specs.Tree.{leads, unlisted, lists, wayIn, found}
 use Rattle.runs.specs.Walk.{search, ending}
 use Rattle.search.specs.Walks.{Answered, a-run}
 use Rattle.search.specs.declared.Walked.{Walked}
 use Rattle.search.specs.declared.Walked.the-variants as walked
 use Rattle.search.proofs.Part.{tail-put, tail-mid}
-use Rattle.machine.specs.State.{State, GoodState, stateLength, stateNumbers}
+use Rattle.machine.specs.State.{State, stateLength}
 use Rattle.machine.specs.Machine as machine
 use Rattle.machine.specs.Machine.{listing, listingLength, entryLimit, entriesAre, refusedWith, wayOf, movesOf, movesTo}
 use Rattle.machine.proofs.Everys.{every-in, in-every}
 use Rattle.machine.proofs.Listing.{accepted}
+use Rattle.machine.proofs.Numbers.{state-length}
 use Rattle.offers.specs.Collect.{FewBranches, World}
 use Rattle.listing.specs.declared.Listed.{Listed}
 use Rattle.listing.specs.declared.Listed.the-variants.{Filled, Refused}
 use Rattle.listing.specs.Buffer as buffer
 use Rattle.listing.specs.Buffer.{filledNumbers, listingNumbers, listedAnswer}
+use Rattle.step.specs.Enter as enter
 use Rattle.walk.specs.declared.Hit.{Hit}
 use Rattle.walk.specs.declared.Hit.the-variants.{Lost, Found}
 use Rattle.walk.specs.declared.Move.{Move}
 use Rattle.walk.specs.declared.Move.the-variants as move
 use Rattle.walk.specs.Hunted.{Hunted, gone, hits, orElse, behindHunted, huntAnswer, huntAt, huntFrom, huntLonger, Hunts, none, one}
 use Rattle.walk.specs.Held.{Held, Stands, Lists, Room, wayFound, Takes}
+use Rattle.walk.proofs.Rows.{first-part, same-first, filled-length}
 use Rattle.walk.proofs.Hunting.{search-is, at-idle, at-refused, at-wait, at-other, at-more, from-step, from-none, from-unlisted, longer-step, longer-none, pass-start, pass-lost, pass-found, pass-over}
 
 -- ---- what was found, taken apart
@@ -184,3 +185,57 @@ module _ (m : Resolved.Model) (x : List ℕ) (s : State) (d more : ℕ) (met : B
 
 pub longer-start : (m : Resolved.Model) (x : List ℕ) (s : State) (d : ℕ) → huntLonger (movesTo m x) s d 0 ≡ orElse (gone false) (huntLonger (movesTo m x) s d 0)
 longer-start m x s d = pass-start (huntLonger (movesTo m x) s d 0)
+
+-- ---- tables of rows
+
+pub stands-kept : {zs zs′ : List ℤ} {m : Resolved.Model} {s : State} → take stateLength zs′ ≡ take stateLength zs → Stands zs m s → Stands zs′ m s
+stands-kept e h = record { good = h .good; numbers = e ∙ h .numbers }
+
+pub lists-kept : {l l′ : List ℕ} {m : Resolved.Model} {s : State} {es : List Entry} → take listingLength l′ ≡ take listingLength l → Lists l m s es → Lists l′ m s es
+lists-kept e h = record { listed = h .listed; numbers = e ∙ h .numbers }
+
+pub room-kept : {n : ℕ} {zs : List ℤ} {l run : List ℕ} {zs′ : List ℤ} {l′ run′ : List ℕ} → length zs′ ≡ length zs → length l′ ≡ length l → length run′ ≡ length run → Room n zs l run → Room n zs′ l′ run′
+room-kept a b c h = let p = h .states in let q = h .listings in let r = h .entries in record { states = omega arith; listings = omega arith; entries = omega arith }
+
+-- room for one entry less behind the first rows
+pub room-tail : (more : ℕ) (zs : List ℤ) (l run : List ℕ) (zs′ : List ℤ) (run′ : List ℕ) → length zs′ ≡ length zs → length run′ ≡ length run → 1 ≤ more → Room (more + 1) zs l run
+    → Room (more - 1 + 1) (midOf stateLength (length zs′ - stateLength) zs′) (midOf listingLength (length l - listingLength) l) (midOf 1 (length run′ - 1) run′)
+room-tail more zs l run zs′ run′ a b k h =
+    let p = h .states in
+    let q = h .listings in
+    let r = h .entries in
+    rw (tail-mid stateLength zs′, tail-mid listingLength l, tail-mid 1 run′) (record { states = simp length-drop (omega arith); listings = simp length-drop (omega arith); entries = simp length-drop (omega arith) })
+
+-- the state after an entry stands first in the rows behind the first
+pub stands-tail : {m : Resolved.Model} {x : List ℕ} {s : State} {e : ℕ} {zs zs′ : List ℤ} {r : Move} (t : Takes m x s e zs zs′ r) (h : Bool) → r ≡ move.Leads h
+    → Stands (midOf stateLength (length zs′ - stateLength) zs′) m (t .after)
+stands-tail {zs′ = zs′} t h q = rw (tail-mid stateLength zs′) (record { good = t .second h q .0; numbers = t .second h q .1 })
+
+-- a listing that was filled stands first
+pub filling-length : {b : List ℕ} {m : Resolved.Model} {s : State} {count : ℕ} (f : Filling b m s count) → length b ≡ listingLength
+filling-length {m = m} {s = s} f = ap length (f .numbers) ∙ filled-length (f .entries) (accepted m s (f .entries) .0 (f .listed) .2)
+
+pub lists-filled : {b : List ℕ} {m : Resolved.Model} {s : State} {count : ℕ} (l : List ℕ) (f : Filling b m s count) → Lists (b ++ drop listingLength l) m s (f .entries)
+lists-filled {b = b} l f = record { listed = f .listed; numbers = first-part listingLength l b (filling-length f) ∙ f .numbers }
+
+pub filled-size : {b : List ℕ} {m : Resolved.Model} {s : State} {count : ℕ} (l : List ℕ) (f : Filling b m s count) → listingLength ≤ length l → length (b ++ drop listingLength l) ≡ length l
+filled-size {b = b} l f k = let e = filling-length f in simp (length-append, length-drop) (omega arith)
+
+pub lists-first : {l : List ℕ} {m : Resolved.Model} {s : State} {es : List Entry} → Lists l m s es → Lists (take listingLength l) m s es
+lists-first {l} h = record { listed = h .listed; numbers = same-first listingLength l ∙ h .numbers }
+
+-- ---- the state that is lent stands first
+
+module _ {state : List ℤ} {m : Resolved.Model} {s : State} (h : enter.Stands state m s) where
+  pub start-length : length state ≡ stateLength
+  start-length = ap length (h .numbers) ∙ state-length m (h .good) s (h .state)
+
+  pub start-stands : (rest : List ℤ) → Stands (take stateLength state ++ rest) m s
+  start-stands rest = record {
+    good = h .state;
+    numbers = take-at (take stateLength state) rest stateLength (length-take-le stateLength state (omega (arith, start-length))) ∙ take-all stateLength state (omega (arith, start-length)) ∙ h .numbers;
+  }
+
+-- room in the tables of a search
+pub start-room : (depth : ℕ) (zs : List ℤ) (l run : List ℕ) → depth ≤ 8 → length zs ≡ 46098 → length l ≡ 57344 → length run ≡ 8 → Room depth zs l run
+start-room depth zs l run a b c d = record { states = omega arith; listings = omega arith; entries = omega arith }

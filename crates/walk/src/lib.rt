@@ -61,12 +61,18 @@ pub enum Hit {
 
 // ---- the wait of a name
 
+fn wide(x: u16) -> usize
+    ensures { λ r. ⌜ r ≡ x ⌝ }
+{
+    x as usize
+}
+
 // Number n of a table, 0 beyond its end.
 fn number_at(table: &[u16], n: usize) -> usize
     ensures { λ r. ⌜ r ≡ getD (now (table .entry)) n 0 ⌝ }
 {
     if n < table.len() {
-        return table[n] as usize;
+        return wide(table[n]);
     }
     0
 }
@@ -467,6 +473,44 @@ fn search_from(
     ended(met)
 }
 
+// The same from a state that is lent, in lent tables.
+fn search_in(
+    nodes: &[u64],
+    roots: &[u16],
+    scopes: &[u16],
+    root: usize,
+    variables: usize,
+    text: &[u8],
+    places: &[u16],
+    sizes: &[u16],
+    state: &[i64],
+    name: &[u8],
+    states: &mut [i64],
+    listings: &mut [u64],
+    run: &mut [u16],
+    depth: usize,
+) -> Walked
+    requires { ⌜ ((m : Resolved.Model) × (s : State) × Held (now nodes) (now roots) (now scopes) root variables (now text) (now places) (now sizes) m × Enter.Stands (now state) m s) × Room depth (now states) (now listings) (now run) ⌝ }
+    ensures { λ r. ⌜ ((m : Resolved.Model) (s : State) → Held (now (nodes .entry)) (now (roots .entry)) (now (scopes .entry)) root variables (now (text .entry)) (now (places .entry)) (now (sizes .entry)) m → Enter.Stands (now (state .entry)) m s → Answered (walk.search (movesTo m (now (name .entry))) s depth) r (now (run .exit))) ⌝ }
+{
+    state::put(states, state, Level::STATE);
+    search_from(
+        nodes,
+        roots,
+        scopes,
+        root,
+        variables,
+        text,
+        places,
+        sizes,
+        name,
+        states,
+        listings,
+        run,
+        depth,
+    )
+}
+
 // Notes 8 and 9: the first run of at most `depth` entries from a state to the wait of this name, none, or 27.
 pub fn search_model(
     nodes: &[u64],
@@ -487,8 +531,7 @@ pub fn search_model(
 {
     let mut states = [0i64; Level::STATES];
     let mut listings = [0u64; Level::LISTINGS];
-    state::put(&mut states, state, Level::STATE);
-    search_from(
+    search_in(
         nodes,
         roots,
         scopes,
@@ -497,6 +540,7 @@ pub fn search_model(
         text,
         places,
         sizes,
+        state,
         name,
         &mut states,
         &mut listings,

@@ -23,7 +23,7 @@ use Rattle.state.specs.Test.{isState}
 use Rattle.store.specs.Tables.{Tables}
 use Rattle.store.proofs.Tables.{stateOf, numbers-back, state-good}
 use Rattle.step.specs.Enter.{Stands}
-use Rattle.searching.specs.Held as walk
+use Rattle.walk.specs.Held as walk
 use Rattle.searching.specs.Lent.{Worded}
 
 -- ---- what was read

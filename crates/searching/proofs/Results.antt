@@ -34,7 +34,7 @@ zeros-take (suc k) zero l = absurd (omega arith)
 zeros-take (suc k) (suc n) l = ap (λ (xs : List ℕ). 0 ∷ xs) (zeros-take k n (omega arith))
 
 take-past : (xs ys : List ℕ) (n k : ℕ) → length xs ≡ n → take (n + k) (xs ++ ys) ≡ xs ++ take k ys
-take-past [] ys zero k e = ap (λ (j : ℕ). take j ys) (omega arith)
+take-past [] ys zero k e = let d : 0 + k ≡ k = omega arith in ap (λ (j : ℕ). take j ys) d
 take-past [] ys (suc n) k e = absurd (omega arith)
 take-past (x ∷ xs) ys zero k e = absurd (omega arith)
 take-past (x ∷ xs) ys (suc n) k e = ap (λ (r : List ℕ). x ∷ r) (take-past xs ys n k (omega arith))

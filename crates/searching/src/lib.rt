@@ -1,6 +1,4 @@
 // The search over a text that a model buffer holds: questions 11 and 26, the walk over its model, and what that comes to.
-mod walk;
-
 use opening::Held;
 use search::Walked;
 use syntax::question;

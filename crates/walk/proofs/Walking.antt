@@ -172,10 +172,10 @@ module _ (m : Resolved.Model) (x : List ℕ) (s : State) (d more : ℕ) (met : B
       → huntLonger (movesTo m x) s d 0 ≡ orElse (gone b) (huntLonger (movesTo m x) s d (more + 1))
   longer-lost run n r k b l h q o = pass-lost _ _ _ _ met k b i (longer-step (movesTo m x) s d more l) (lost-is h q) o
 
-  pub longer-found : (run : List ℕ) (r : Hit) → more < d → Hunts run (more + 1) (huntFrom (movesTo m x) s more 0) r → r ≡ Found → Answered (search (movesTo m x) s d) (walked.Found (more + 1)) run
+  pub longer-found : (run : List ℕ) (r : Hit) → more + 1 ≤ length run → more < d → Hunts run (more + 1) (huntFrom (movesTo m x) s more 0) r → r ≡ Found → Answered (search (movesTo m x) s d) (walked.Found (more + 1)) run
   unfolding huntAnswer
-  longer-found run r l h q =
-      a-run (search-is (movesTo m x) s d ∙ ap huntAnswer (pass-found _ _ _ _ met (take (more + 1) run) i (longer-step (movesTo m x) s d more l) (found-is h q)))
+  longer-found run r w l h q =
+      a-run w (search-is (movesTo m x) s d ∙ ap huntAnswer (pass-found _ _ _ _ met (take (more + 1) run) i (longer-step (movesTo m x) s d more l) (found-is h q)))
 
   pub longer-over : (run : List ℕ) (r : Walked) → d ≤ more → ((l : List ℕ) → Answered (ending met) r l) → Answered (search (movesTo m x) s d) r run
   unfolding huntAnswer

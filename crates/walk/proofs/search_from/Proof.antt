@@ -57,7 +57,7 @@ returns c =
     λ m s h st.
     let j : c .before .before .before .before .before .before .before .before .before .before .before .before .loop .more < c .before .before .before .before .before .before .before .before .before .before .before .before .before .before .before .before .before .before .before .before .before .before .args .depth = omega arith in
     let u = c .before .before .before .before .before .before .before .seek .ensures .0 m s h (stands-kept (c .before .before .before .before .before .before .before .before .before .before .before .before .loop .inv .0) st) in
-    longer-found m (now (c .before .before .before .before .before .before .before .before .before .before .before .before .before .before .before .before .before .before .before .before .before .before .args .name)) s (c .before .before .before .before .before .before .before .before .before .before .before .before .before .before .before .before .before .before .before .before .before .before .args .depth) (c .before .before .before .before .before .before .before .before .before .before .before .before .loop .more) (c .before .before .before .before .before .before .before .before .before .before .before .before .loop .met) (c .before .before .before .before .before .before .before .before .before .before .before .before .loop .inv .4 m s h st) _ _ j u (c .enum-told .given .1)
+    longer-found m (now (c .before .before .before .before .before .before .before .before .before .before .before .before .before .before .before .before .before .before .before .before .before .before .args .name)) s (c .before .before .before .before .before .before .before .before .before .before .before .before .before .before .before .before .before .before .before .before .before .before .args .depth) (c .before .before .before .before .before .before .before .before .before .before .before .before .loop .more) (c .before .before .before .before .before .before .before .before .before .before .before .before .loop .met) (c .before .before .before .before .before .before .before .before .before .before .before .before .loop .inv .4 m s h st) _ _ (omega (arith, c .before .before .before .before .before .before .before .before .before .before .before .before .before .before .before .before .before .before .before .before .before .before .pre .1 .entries, c .before .before .before .before .before .before .before .before .before .before .before .before .loop .inv .3, same-length-3 c)) j u (c .enum-told .given .1)
 
 enum-known-hit : tie.Need-enum-known-hit Inv-loop μ-loop
 enum-known-hit c = search needs

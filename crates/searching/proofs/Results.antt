@@ -1,11 +1,13 @@
 -- What each return of the search says: 11, 26 and what a walk comes to, as the effect of the call has it; and the entries as they are written.
 use mathlib.Core.Path.{_≡_, refl, sym, ap, _∙_}
 use mathlib.Core.List.{List, [], _∷_, _++_, append-assoc}
-use mathlib.Core.Bool.{Bool, true, false, cond}
+use mathlib.Core.Bool.{Bool, true, false, cond, _&&_}
 use mathlib.Core.Option.{none, some}
 use Prim.Native.Nat.{ℕ, zero, suc, _+_, _-_, _≤_, _<_}
 use native.Mathlib.Numerals.{add-one}
 use native.Mathlib.Omega.{arith}
+use borrow.Author.Tests.{le-leb, lt-leb, leb-true}
+use lib.Dec.{leb}
 use lib.IntN.{ℤ}
 use lib.ListN.{length, getD, set, take, drop, replicate, length-take}
 use lib.Seq.{take-suc, length-take-le, set-at}
@@ -37,11 +39,16 @@ take-past : (xs ys : List ℕ) (n k : ℕ) → length xs ≡ n → take (n + k) 
 take-past [] ys zero k e = let d : 0 + k ≡ k = omega arith in ap (λ (j : ℕ). take j ys) d
 take-past [] ys (suc n) k e = absurd (omega arith)
 take-past (x ∷ xs) ys zero k e = absurd (omega arith)
-take-past (x ∷ xs) ys (suc n) k e = ap (λ (r : List ℕ). x ∷ r) (take-past xs ys n k (omega arith))
+take-past (x ∷ xs) ys (suc n) k e =
+    let d : suc n + k ≡ suc (n + k) = omega arith in
+    ap (λ (j : ℕ). take j (x ∷ xs ++ ys)) d ∙ ap (λ (r : List ℕ). x ∷ r) (take-past xs ys n k (omega arith))
 
 -- the first i entries, then zeros
 abbrev pub written : List ℕ → ℕ → List ℕ
 written run i = take i run ++ zeros (depthLimit - i)
+
+pub written-start : (run : List ℕ) → zeros depthLimit ≡ written run 0
+written-start run = refl
 
 pub written-more : (run : List ℕ) (i : ℕ) → i < length run → length run ≡ depthLimit → set (written run i) i (getD run i 0) ≡ written run (i + 1)
 written-more run i l e =
@@ -66,6 +73,24 @@ run-result run n es l f e =
     let a : n ≡ length (take n run) = sym (length-take-le n run l) in
     let b : es ≡ entriesOf (take n run) = e ∙ written-all run n l f in
     rw (b, ← a) refl
+
+-- ---- 26
+
+pub too-low : (d : ℕ) → d < 1 → false ≡ isDepth d
+unfolding isDepth
+too-low d l = rw (lt-leb 1 d l) refl
+
+pub is-deep : (d : ℕ) → 1 ≤ d → leb d 8 ≡ isDepth d
+unfolding isDepth
+is-deep d l = rw (le-leb 1 d l) refl
+
+pub depth-few : (d : ℕ) → isDepth d ≡ true → d ≤ depthLimit
+unfolding isDepth
+depth-few d e = by (leb 1 d) e
+  where
+    by : (b : Bool) → (b && leb d 8) ≡ true → d ≤ 8
+    by true q = leb-true d 8 q
+    by false q = absurd (let z : _≡_ {A = ℕ} 0 1 = cc in omega arith)
 
 -- ---- what a walk comes to
 

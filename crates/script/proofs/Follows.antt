@@ -32,7 +32,7 @@ module _ (y : Machine) (c : Call) (x : Lent) (f : Fits c (roomOf x)) (h : Holds 
   -- the row's own answer and listing, and what stands after them
   answer-long : length (answerNumbers (effectOf c (x .engine) (x .outputs) .answer)) ≡ length (take answerWidth (x .answers))
   unfolding answerNumbers roomOf
-  answer-long = ap (λ (n : ℕ). 7 + n) (eight-entries (effectOf c (x .engine) (x .outputs) .answer .run)) ∙ sym (length-take-le answerWidth (x .answers) (f .answer))
+  answer-long = ap (λ (n : ℕ). suc (suc (suc (suc (suc (suc (suc n))))))) (eight-entries (effectOf c (x .engine) (x .outputs) .answer .run)) ∙ sym (length-take-le answerWidth (x .answers) (f .answer))
 
   answer-is : take answerWidth (z .answers) ≡ answerNumbers (calls y c .answer)
   unfolding callLeft

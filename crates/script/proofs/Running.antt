@@ -69,6 +69,12 @@ clock-numbers [] h = absurd (omega arith)
 clock-numbers (a ∷ []) h = absurd (omega arith)
 clock-numbers (a ∷ b ∷ cs) h = refl
 
+-- two numbers are those of their clock
+pub clock-whole : (cs : List ℕ) → 2 ≤ length cs → cs ≡ clockNumbers (clockIn cs) ++ drop 2 cs
+clock-whole [] h = absurd (omega arith)
+clock-whole (a ∷ []) h = absurd (omega arith)
+clock-whole (a ∷ b ∷ cs) h = refl
+
 -- a call that is given the clock, on the numbers of a clock
 module _ (texts numbers : List ℕ) (row : Row) (bs : List ℕ) (zs ss : List ℤ) (cs ls ns : List ℕ) (bs′ : List ℕ) (zs′ ss′ : List ℤ) (c′ : Clock) (cs′ ls′ : List ℕ) where
   abbrev C : Call

@@ -36,9 +36,6 @@ impl Limits {
 
     const COUNT: usize = 3;
 
-    // The first numbers of an answer, which every call but a search has.
-    const SHOWN: usize = 6;
-
     // Bytes of a line before its name: `save `, and `return `, `forget ` or `seek D `.
     const SAVE: u64 = 5;
 
@@ -154,6 +151,19 @@ fn make_call(
     answer
 }
 
+// Puts the six numbers that every call answers on a line.
+fn put_shown(out: &mut Buffer, waits: usize, answer: &[u64; Row::ANSWER]) -> usize {
+    let shown = [
+        answer[0],
+        answer[1],
+        answer[2],
+        answer[3],
+        answer[4],
+        answer[5],
+    ];
+    output::put_line(out, waits, &shown, b' ')
+}
+
 // Puts a call's answer and as many entries as it counts: none where the listing isn't filled.
 fn put_call(
     out: &mut Buffer,
@@ -184,7 +194,7 @@ fn put_call(
         clock,
         listing,
     );
-    let n = output::put_line(out, waits, &answer[..Limits::SHOWN], b' ');
+    let n = put_shown(out, waits, &answer);
     output::put_entries(out, n, listing, answer[Limits::COUNT], b"  ", b' ')
 }
 
@@ -228,7 +238,7 @@ fn put_report(
         clock,
         &mut part,
     );
-    let n = output::put_line(out, waits, &answer[..Limits::SHOWN], b' ');
+    let n = put_shown(out, waits, &answer);
     if answer[Limits::NUMBER] != 0 {
         return n;
     }
@@ -286,7 +296,7 @@ fn put_named(
         clock,
         listing,
     );
-    output::put_line(out, waits, &answer[..Limits::SHOWN], b' ')
+    put_shown(out, waits, &answer)
 }
 
 // Puts the answer of a search: its number, the run's length and eight entry numbers.

@@ -41,6 +41,12 @@ typedef struct {
     uint64_t number, place, branch, count, total, chosen;
 } matgravel_answer;
 
+/* number: 0, or that of the refusal. length: how many entries the run has, 0 where there is none. run: their numbers in the listings, from 0;
+ * unused ones are 0. */
+typedef struct {
+    uint64_t number, length, run[8];
+} matgravel_found;
+
 /* Model time in ten-thousandths of a unit (ticks), and the waiting draws used so far. Each is at most 9,223,372,036,854,775,807. */
 typedef struct {
     uint64_t ticks, draws;
@@ -80,6 +86,13 @@ matgravel_answer matgravel_timed_step(const uint8_t *model, size_t model_len, in
  * 0 in the text's order; a handshake counts for its sender. The numbers add up to the total. Changes neither model nor state.
  * Refusals: 1 and 11 to 14 as for list, with the report in the place of the listing. */
 matgravel_answer matgravel_report(const uint8_t *model, size_t model_len, const int64_t *state, size_t state_len, uint64_t *report, size_t report_len);
+
+/* Looks for a run of at most `depth` entries from the present state whose last is the wait of this name: each entry has a weight above
+ * zero and is taken, as a step does it. The run that is found is the first: the shortest, and of the shortest the one whose entry
+ * numbers come first, compared from the left. A length of 0 says that there is none. Changes nothing.
+ * Refusals: 1 and 11 as for list, 26 a depth that is not 1 to 8, 27 there is no such run, but within the depth a listing was refused
+ *   with 12 to 14 or an entry with 17 to 19. The time grows with the number of runs: the product of the entry counts along them. */
+matgravel_found matgravel_search(const uint8_t *model, size_t model_len, const int64_t *state, size_t state_len, const uint8_t *name, size_t name_len, uint64_t depth);
 
 /* Keeps the state and the clock under a name, which replaces what was kept under it before; there is room for eight names. Changes the saves alone.
  * Refusals: 1 a buffer has a wrong length, 11 the buffers hold no open model with a state and saves of it, or the clock is beyond its limit, 20 the name is not 1 to 16

@@ -1,6 +1,6 @@
--- Over any buffers of right lengths that hold a model and a state, a list, a step and a report answer what the questions allow: from the exact test and the rule machine's own listings and steps.
+-- Over any buffers of right lengths that hold a model and a state, a list, a step, a report and a search answer what the questions allow: from the exact test and the rule machine's own listings and steps.
 use mathlib.Core.Path.{_≡_, refl, sym, ap, subst, _∙_}
-use mathlib.Core.Bool.{Bool, true, cond, _&&_}
+use mathlib.Core.Bool.{Bool, true, false, cond, _&&_}
 use mathlib.Core.List.{List}
 use mathlib.Core.Option.{Option·elim}
 use Prim.Native.Nat.{ℕ}
@@ -10,20 +10,34 @@ use lib.ListN.{length}
 use Rattle.model.specs.Resolved
 use Rattle.rules.specs.Listing.{Entry}
 use Rattle.machine.specs.State.{State, stateLength, stateNumbers}
-use Rattle.machine.specs.Machine.{modelLength, listingLength, Shown, filled, Answer, listedAs, reportedAs, Listed, entriesAre, refusedWith, turn, drawn, showing, lists, sharing, reports, choosing, stepsWith, held, Machine, holding, onState, list′, step′, report′, on′, acts, Part, model, state, saves, clock, size, twoParts, isLent, allParts, hasLengths, onMachine}
+use Rattle.machine.specs.Machine.{modelLength, listingLength, Shown, asLent, filled, Answer, no, listedAs, reportedAs, foundAs, movesTo, isDepth, searchedAs, searches, Listed, entriesAre, refusedWith, turn, drawn, showing, lists, sharing, reports, choosing, stepsWith, held, Machine, holding, onState, list′, step′, report′, search′, on′, acts, Part, model, state, saves, clock, size, twoParts, isLent, allParts, hasLengths, onMachine}
 use Rattle.machine.specs.Machine as machine
 use Rattle.machine.specs.Report.{reportLength, reportOf}
 use Rattle.machine.specs.Questions.{Lists, Steps}
 use Rattle.machine.proofs.Listing.{asked, accepted}
 use Rattle.machine.proofs.Stepping as step
+use Rattle.machine.proofs.Searching as searching
+use Rattle.runs.specs.Tree as tree
+use Rattle.runs.specs.Walk as walk
 use Rattle.buffers.specs.Listing.{shown, listingNumbers}
 use Rattle.buffers.specs.Parts.{Engine, numbersOf, withState}
 use Rattle.buffers.specs.Effect.{Effect, machineIn, untouched, leftIn, leaves, requested, answered, effect}
 use Rattle.buffers.specs.Answers as answers
-use Rattle.buffers.specs.Answers.{ListsAs, StepsAs, ReportsAs}
+use Rattle.buffers.specs.Answers.{ListsAs, StepsAs, ReportsAs, SearchesAs}
 use Rattle.buffers.proofs.Machines.{machine-over}
 use Rattle.buffers.proofs.Lent.{same-engine}
 use Rattle.buffers.proofs.Transitions.{fills}
+
+-- a search is lent no output
+pub search-shows : (m : Resolved.Model) (n : List ℕ) (s : State) (d : ℕ) → searches n d m s .answer .listing ≡ asLent
+unfolding searches searchedAs foundAs no
+search-shows m n s d = by (isDepth d) (walk.search (movesTo m n) s d)
+  where
+    by : (b : Bool) (w : tree.Answer) → cond b (searchedAs w) (no 26 0 0 asLent) .listing ≡ asLent
+    by true (tree.found r) = refl
+    by true tree.nothing = refl
+    by true tree.unsure = refl
+    by false w = refl
 
 module _ (x : Engine) (l : List ℕ) (long : length (x model) ≡ modelLength) (numbers : length (x state) ≡ stateLength)
     (m : Resolved.Model) (s : State) (holds : machineIn twoParts x ≡ holding (held m s)) where
@@ -115,3 +129,16 @@ module _ (x : Engine) (l : List ℕ) (long : length (x model) ≡ modelLength) (
       by : (k : Listed) → Lists m s k → ReportsAs m s x l (leaving (sharing m s k .machine) (sharing m s k .answer))
       by (entriesAre es) h = subst (ReportsAs m s x l) (sym (kept (reportedAs (reportOf m s es) es))) (answers.ReportsAs.yes14 h)
       by (refusedWith a) h = subst (ReportsAs m s x l) (sym (kept a)) (answers.ReportsAs.no14 h)
+
+  lent-both : (allParts (λ (p : Part). eqb (length (x p)) (size p)) twoParts && true) ≡ true
+  unfolding allParts
+  lent-both = rw (eq-eqb _ _ long, eq-eqb _ _ numbers)
+
+  -- 02, notes 8 and 9
+  pub searches-as : (n : List ℕ) (d : ℕ) → SearchesAs m s x l n d (effect (on′ (search′ n d)) x l)
+  unfolding effect hasLengths Option·elim answered requested machineIn onMachine acts onState searches shown leaving
+  searches-as n d =
+      subst (SearchesAs m s x l n d) (sym (ap (λ (b : Bool). cond b (answered (on′ (search′ n d)) x l) (untouched x l)) lent-both ∙ ap (λ (y : Machine). leaves twoParts x l (onMachine (search′ n d) y)) holds))
+      (subst (SearchesAs m s x l n d)
+      (sym (kept (searches n d m s .answer) ∙ ap (λ (k : Shown). record { answer = searches n d m s .answer; left = x; output = shown k l }) (search-shows m n s d)))
+      (answers.SearchesAs.searched (searching.asked m n s d (searches n d m s .answer) .0 refl)))

@@ -16,5 +16,6 @@ pub mod Waiting
 pub mod Found
 pub mod Answers
 pub mod Outcomes
+pub mod Runs
 pub mod Independent
 pub mod Steady

@@ -1,5 +1,5 @@
 -- Each call to an engine has one of the outcomes of 01, by its number: by cases of what is lent, and of what the questions answer; one lemma for each request.
-use mathlib.Core.Path.{_≡_, refl, sym, ap, ap₂, _∙_}
+use mathlib.Core.Path.{_≡_, refl, sym, ap, ap₂, subst, _∙_}
 use mathlib.Core.Bool.{Bool, true, false}
 use mathlib.Core.List.{List, map}
 use mathlib.Core.Logic.{inl, inr, ⊎-elim}
@@ -21,24 +21,27 @@ use Rattle.machine.specs.Results.{Names}
 use Rattle.machine.proofs.Saves.{StoredAnswers, accepts, refuses, saving-answers, returning-answers, forgetting-answers}
 use Rattle.saves.specs.Places.{savesNumbers}
 use Rattle.machine.specs.Report.{reportLength}
-use Rattle.machine.specs.Machine.{listingLength, Answer, no, listedAs, reportedAs, Listed, Turn, turn, drawn, showing, lists, sharing, reports, choosing, stepsWith, stepsIn, timesWith, Held, moved, movedIn, Machine, closed, holding, onState, onClock}
-use Rattle.machine.specs.Machine.{timedOf, storedIn, onSaves, Request, list′, step′, report′, timed′, save′, return′, forget′, Ask, open′, openSteady′, on′, acts, Part, model, state, saves, clock, size, outputOf, hasLengths, onMachine, after}
+use Rattle.machine.specs.Machine.{listingLength, Answer, no, listedAs, reportedAs, Listed, Turn, turn, drawn, showing, lists, sharing, reports, choosing, stepsWith, searches, stepsIn, timesWith, Held, moved, movedIn, Machine, closed, holding, onState, onClock}
+use Rattle.machine.specs.Machine.{timedOf, storedIn, onSaves, Request, list′, step′, report′, search′, timed′, save′, return′, forget′, Ask, open′, openSteady′, on′, acts, Part, model, state, saves, clock, size, outputOf, hasLengths, onMachine, after}
 use Rattle.machine.specs.Machine as machine
 use Rattle.machine.specs.Questions.{IsListing, Lists, no12, no13, no14, yes14, Steps, no15, no16, no17, no18, no19, yes19, Times, no15-19, no23, no24, no25, yes25}
 use Rattle.machine.proofs.Listing.{asked}
 use Rattle.machine.proofs.Lent.{lent-so}
 use Rattle.machine.proofs.Stepping as step
 use Rattle.machine.proofs.Timing as timing
+use Rattle.machine.specs.Searching.{Searches}
+use Rattle.machine.proofs.Searching as searching
 use Rattle.rules.proofs.Decides.{on}
 use Rattle.buffers.specs.Held.{modelBytes}
 use Rattle.buffers.specs.Listing.{shown}
 use Rattle.buffers.specs.Parts.{Cell, Engine, fresh, numbersOf, withKept}
 use Rattle.buffers.specs.Effect.{Effect, untouched, opensWith, leftIn, leaves, answered}
 use Rattle.buffers.specs.Calls.{Lending, BufferCall, effectOf, leftBy, lentLengths, fed, engineAfter, Holds, zeros, held}
-use Rattle.buffers.specs.Outcomes.{Outcome, nothing, zeroed, opens, unlisted, listed, unwaited, accepted, reported, unstored, stored, opensSteady, unsteady}
+use Rattle.buffers.specs.Outcomes.{Outcome, nothing, zeroed, opens, unlisted, listed, unwaited, accepted, reported, searched, unstored, stored, opensSteady, unsteady}
 use Rattle.buffers.proofs.Lent.{same-engine}
 use Rattle.buffers.proofs.Every.{IsOpening, plainly, steadily, one-untouched, left-as, asks-all, make, Turns, shut, request-turns, every-list}
 use Rattle.buffers.proofs.Transitions.{still}
+use Rattle.buffers.proofs.Answers.{search-shows}
 
 module _ (x : Engine) (a : (p : Part) → Lending (Cell p) (size p)) (l : List ℕ) where
   abbrev Out : Machine → Ask → Type 0
@@ -144,6 +147,16 @@ module _ (x : Engine) (a : (p : Part) → Lending (Cell p) (size p)) (l : List �
     unfolding acts onState reports
     report-out u long = sharing-out u long (asked m s (machine.listing m s) .0 refl) refl refl
 
+    -- of a search
+    search-out : (n : List ℕ) (d : ℕ) → Turns x h (search′ n d) a l → Out y (on′ (search′ n d))
+    unfolding acts onState shown
+    search-out n d u =
+        searched e refl (subst (Searches m n s d) (sym (u .answer)) (searching.asked m n s d (searches n d m s .answer) .0 refl)) (still u (unmoved n d))
+        (u .output ∙ ap (λ (k : machine.Shown). shown k l) (search-shows m n s d))
+      where
+        unmoved : (n : List ℕ) (d : ℕ) → acts (search′ n d) h .machine ≡ h
+        unmoved n d = unfold searches in refl
+
     -- and of a step
     drawn-out : {d : ℕ} → Turns x h (step′ d) a l → {es : List Entry} {t : Turn State} → IsListing m s es → Steps m s es d t
         → acts (step′ d) h .machine ≡ moved h (t .machine) → acts (step′ d) h .answer ≡ t .answer → Out y (on′ (step′ d))
@@ -209,6 +222,7 @@ module _ (x : Engine) (a : (p : Part) → Lending (Cell p) (size p)) (l : List �
     request-out list′ u long = list-out u (long listingLength refl)
     request-out (step′ d) u long = step-out u (long listingLength refl)
     request-out report′ u long = report-out u (long reportLength refl)
+    request-out (search′ n d) u long = search-out n d u
     request-out (save′ n) u long = saves-out (save′ n) (saving n) tt (λ k. refl) u (saving-answers n (timedOf h) (h .saves))
     request-out (return′ n) u long = saves-out (return′ n) (returning n) tt (λ k. refl) u (returning-answers n (timedOf h) (h .saves))
     request-out (forget′ n) u long = saves-out (forget′ n) (forgetting n) tt (λ k. refl) u (forgetting-answers n (timedOf h) (h .saves))

@@ -1,4 +1,4 @@
--- What a list, a step, a report and a timed step answer and leave over any buffers that hold a model and a state (01, Listing and stepping; 02, notes 4 and 6): what the questions allow, and nothing else;
+-- What a list, a step, a report, a search and a timed step answer and leave over any buffers that hold a model and a state (01, Listing and stepping; 02, notes 4, 6 and 8): what the questions allow, and nothing else;
 -- and what a save, a return and a forget do (02, notes 2 and 4).
 -- Definitions only.
 use mathlib.Core.List.{List}
@@ -12,6 +12,7 @@ use Rattle.machine.specs.Timed.{Timed}
 use Rattle.machine.specs.Saves.{Stored}
 use Rattle.machine.specs.Machine.{asLent, Answer, no, listedAs, reportedAs, entriesAre, refusedWith, Turn}
 use Rattle.machine.specs.Questions.{Lists, Steps, Times}
+use Rattle.machine.specs.Searching.{Searches}
 use Rattle.saves.specs.Places.{savesNumbers}
 use Rattle.buffers.specs.Listing.{shown, listingNumbers}
 use Rattle.buffers.specs.Parts.{Engine, withState, withTimed, withStored, withKept}
@@ -33,6 +34,10 @@ module _ (m : Resolved.Model) (s : State) (x : Engine) (l : List ℕ) where
   pub data ReportsAs : Effect → Type 0 where
     no14 : {a : Answer} → Lists m s (refusedWith a) → ReportsAs (record { answer = a; left = x; output = shown (a .listing) l })
     yes14 : {es : List Entry} → Lists m s (entriesAre es) → ReportsAs (record { answer = reportedAs (reportOf m s es) es; left = x; output = reportOf m s es })
+
+  -- 02, notes 8 and 9: 26, the first run, none or 27; nothing moves
+  pub data SearchesAs (name : List ℕ) (d : ℕ) : Effect → Type 0 where
+    searched : {a : Answer} → Searches m name s d a → SearchesAs name d (record { answer = a; left = x; output = l })
 
   -- 02, note 4: 12 to 14, or over the listing 15 to 19, 23 to 25 or acceptance; what the turn leads to are the state and the clock, which was c
   pub data TimesAs (c : Clock) (ds : List ℕ) (d : ℕ) : Effect → Type 0 where

@@ -11,10 +11,11 @@ use Rattle.profile.specs.Opening.{openingSteady}
 use Rattle.rules.specs.Listing.{Entry}
 use Rattle.machine.specs.Report.{reportOf}
 use Rattle.machine.specs.State.{stateNumbers}
-use Rattle.machine.specs.Machine.{Held, held, Machine, holding, Request, open′, openSteady′, on′, acts, model, outputOf, openedState}
+use Rattle.machine.specs.Machine.{Held, held, Machine, holding, Request, search′, open′, openSteady′, on′, acts, model, outputOf, openedState}
 use Rattle.machine.specs.Results.{Names}
 use Rattle.saves.specs.Places.{savesNumbers}
 use Rattle.machine.specs.Questions.{IsListing}
+use Rattle.machine.specs.Searching.{Searches}
 use Rattle.buffers.specs.Held.{modelBytes}
 use Rattle.buffers.specs.Listing.{listingNumbers}
 use Rattle.buffers.specs.Parts.{Engine, fresh, numbersOf, withKept}
@@ -48,6 +49,8 @@ pub data Outcome (x : Engine) (y : Machine) (c : BufferCall) (e : Effect) : Type
   -- 02, note 6: a report is accepted: the shares of the listing, as Transitions.antt says, and nothing moves
   reported : {h : Held} {es : List Entry} → y ≡ holding h → IsListing (h .model) (h .state) es
       → e .answer .number ≡ 0 → e .output ≡ reportOf (h .model) (h .state) es → leftBy x c ≡ x → Outcome x y c e
+  -- 02, notes 8 and 9: a search answers 26, the first run, none or 27, and changes nothing
+  searched : {h : Held} {name : List ℕ} {d : ℕ} → y ≡ holding h → c .ask ≡ on′ (search′ name d) → Searches (h .model) name (h .state) d (e .answer) → leftBy x c ≡ x → e .output ≡ c .output → Outcome x y c e
   -- 02, note 2: 20 to 22 change nothing
   unstored : 20 ≤ e .answer .number → e .answer .number ≤ 22 → leftBy x c ≡ x → e .output ≡ c .output → Outcome x y c e
   -- 02, notes 2 and 4: save, return and forget are accepted: state, clock and saves are those that the request leads to

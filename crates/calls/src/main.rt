@@ -1,13 +1,14 @@
 // Runs a script of calls from standard input, or from each file that an argument names, after a line `== NAME`. Each script has a fresh engine.
 //
-// A script has lines `open N`, which a text of N bytes and an LF follow, `list`, `step D`, `report`, `save NAME`, `return NAME`, `forget NAME`, `independent I J`, `state`, `wait W`, `time D`
-// and `clock`. N, D, I, J and W are decimal digits alone, below 2^64, W below 65,536, leading zeros or not, each after a single blank; NAME is all bytes after the blank, perhaps none. Every line
+// A script has lines `open N`, which a text of N bytes and an LF follow, `list`, `step D`, `report`, `save NAME`, `return NAME`, `forget NAME`, `independent I J`, `state`, `wait W`, `time D`,
+// `clock` and `seek D NAME`. N, D, I, J and W are decimal digits alone, below 2^64, W below 65,536, leading zeros or not, each after a single blank; NAME is all bytes after the blank, perhaps none. Every line
 // ends with an LF, also the last. Lines are counted from 1 by their LFs, those within texts too.
 //
 // Each call prints `number place branch count total chosen`, then each entry of the listing on a line of its own, after two blanks, and a report that is accepted
 // its 64 numbers on one such line; `state` prints the state's numbers. `independent` calls nothing: it prints 1 where the entries I and J, counted from 0, of the last listing that
 // was filled are independent, and else 0, also where there is no such entry or listing.
 // `wait W` prints nothing: it puts a waiting draw after those so far. `time D` is a timed step with these, up to 4,096 of them, after which there are none; `clock` prints the clock's ticks and draws.
+// `seek D NAME`, D being one digit, searches to the depth D for the wait NAME, and prints its number, the run's length and eight entry numbers.
 // A line of another form prints `bad,LINE` and ends the script; so does `open N` whose text is cut short or has no LF after it. Nothing is called for it.
 // A text is lent to open up to 16,385 bytes, a name up to 19: as many are too many already, so the bytes after them change no answer.
 use libc::STDIN_FILENO;
@@ -35,7 +36,7 @@ impl Limits {
 
     const COUNT: usize = 3;
 
-    // Bytes of a line before its name: `save `, and `return ` or `forget `.
+    // Bytes of a line before its name: `save `, and `return `, `forget ` or `seek D `.
     const SAVE: u64 = 5;
 
     const RETURN: u64 = 7;
@@ -150,6 +151,19 @@ fn make_call(
     answer
 }
 
+// Puts the six numbers that every call answers on a line.
+fn put_shown(out: &mut Buffer, waits: usize, answer: &[u64; Row::ANSWER]) -> usize {
+    let shown = [
+        answer[0],
+        answer[1],
+        answer[2],
+        answer[3],
+        answer[4],
+        answer[5],
+    ];
+    output::put_line(out, waits, &shown, b' ')
+}
+
 // Puts a call's answer and as many entries as it counts: none where the listing isn't filled.
 fn put_call(
     out: &mut Buffer,
@@ -180,7 +194,7 @@ fn put_call(
         clock,
         listing,
     );
-    let n = output::put_line(out, waits, &answer, b' ');
+    let n = put_shown(out, waits, &answer);
     output::put_entries(out, n, listing, answer[Limits::COUNT], b"  ", b' ')
 }
 
@@ -224,7 +238,7 @@ fn put_report(
         clock,
         &mut part,
     );
-    let n = output::put_line(out, waits, &answer, b' ');
+    let n = put_shown(out, waits, &answer);
     if answer[Limits::NUMBER] != 0 {
         return n;
     }
@@ -282,7 +296,50 @@ fn put_named(
         clock,
         listing,
     );
-    output::put_line(out, waits, &answer, b' ')
+    put_shown(out, waits, &answer)
+}
+
+// Puts the answer of a search: its number, the run's length and eight entry numbers.
+fn put_search(
+    out: &mut Buffer,
+    waits: usize,
+    depth: u64,
+    kept: u64,
+    text: &Text,
+    model: &mut Model,
+    state: &mut State,
+    saves: &mut Saves,
+    clock: &mut Time,
+    listing: &mut Listing,
+) -> usize {
+    let size = name_size(kept, Limits::RETURN);
+    let answer = make_call(
+        Row::SEARCH,
+        Limits::RETURN,
+        size,
+        depth,
+        0,
+        text,
+        &[],
+        model,
+        state,
+        saves,
+        clock,
+        listing,
+    );
+    let found: [u64; 10] = [
+        answer[0],
+        answer[6],
+        answer[7],
+        answer[8],
+        answer[9],
+        answer[10],
+        answer[11],
+        answer[12],
+        answer[13],
+        answer[14],
+    ];
+    output::put_line(out, waits, &found, b' ')
 }
 
 // Puts a timed step with the first waiting draws.
@@ -471,6 +528,18 @@ fn ask(
         Line::Wait(draw) => keep_draw(waits, draw, drawn, waiting),
         Line::Clock => output::put_line(out, waits, clock, b' '),
         Line::Independent(i, j) => output::put_line(out, waits, &[judge(listing, i, j)], b' '),
+        Line::Search(depth, kept) => put_search(
+            out,
+            waits,
+            depth,
+            kept,
+            text,
+            model,
+            state,
+            saves,
+            clock,
+            listing,
+        ),
         Line::Bad => waits,
     }
 }

@@ -37,9 +37,11 @@ use Rattle.buffers.specs.Parts.{lentTwo}
 use Rattle.buffers.specs.Effect.{machineOver, leaves, requested}
 use Rattle.engine.specs.declared.Answer.{Answer}
 use Rattle.engine.specs.Gives.{Gives, bare, filled}
-use Rattle.engine.specs.Tables.{Tables, Finds, closed, holding}
+use Rattle.store.specs.Tables.{Tables}
+use Rattle.engine.specs.Tables.{Finds, closed, holding}
 use Rattle.engine.specs.Steps.{Whole, entryIn, Counted, Row, takenAnswer, Left}
-use Rattle.engine.proofs.Shows.{filled-numbers, Refuses, entries as entriesOf, refuses, listing-is, eleven-gives, left-two}
+use Rattle.store.proofs.Tables.{left-two}
+use Rattle.engine.proofs.Shows.{filled-numbers, Refuses, entries as entriesOf, refuses, listing-is, eleven-gives}
 
 -- ---- an entry in the listing buffer
 shift : (l : List ℕ) (n : ℕ) → entryIn l (suc n) ≡ entryIn (drop 7 l) n

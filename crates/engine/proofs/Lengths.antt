@@ -44,7 +44,7 @@ all-long model state output right e =
     (c .0, c .1, eqb-true _ _ (b .1))
 
 module _ (bs : List ℕ) (zs : List ℤ) where
-  parts-are : allParts (λ (p : Part). eqb (length (lentTwo bs zs p)) (size p)) twoParts ≡ arePartsLong (length bs) (length zs)
+  pub parts-are : allParts (λ (p : Part). eqb (length (lentTwo bs zs p)) (size p)) twoParts ≡ arePartsLong (length bs) (length zs)
   unfolding allParts lentTwo arePartsLong
   parts-are = ap (λ (b : Bool). eqb (length bs) modelLength && b) (and-true (eqb (length zs) stateLength))
 

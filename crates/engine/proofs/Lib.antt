@@ -2,6 +2,7 @@
 pub mod Shows
 pub mod Openings
 pub mod Lengths
+pub mod Searched
 pub mod Stored
 pub mod Drawn
 pub mod Reported

@@ -22,7 +22,7 @@ use Rattle.buffers.specs.Held.{modelBytes}
 use Rattle.buffers.specs.Parts.{Engine, fresh, numbersOf, lentTwo, lentAll}
 use Rattle.buffers.specs.Effect.{opensWith, requested, answered}
 use Rattle.engine.specs.Gives.{Gives, bare}
-use Rattle.engine.specs.Tables.{Tables}
+use Rattle.store.specs.Tables.{Tables}
 use Rattle.engine.specs.Steps.{Whole}
 use Rattle.store.specs.Start as start
 use Rattle.settle.specs.declared.Model.{Model}

@@ -25,7 +25,8 @@ use Rattle.buffers.specs.Parts.{lentTwo}
 use Rattle.buffers.specs.Effect.{leaves, requested}
 use Rattle.engine.specs.Gives.{Gives}
 use Rattle.engine.specs.Tables.{answerOf, Finds, closed, holding}
-use Rattle.engine.proofs.Shows.{Refuses, entries, refuses, listing-is, eleven-gives, left-two}
+use Rattle.store.proofs.Tables.{left-two}
+use Rattle.engine.proofs.Shows.{Refuses, entries, refuses, listing-is, eleven-gives}
 
 module _ (zs : List ℤ) (m : Resolved.Model) where
   -- the report buffer after a report that was lent l

@@ -43,8 +43,9 @@ use Rattle.engine.specs.declared.Answer as result
 use Rattle.engine.specs.declared.Timed as results
 use Rattle.engine.specs.Gives.{Gives, bare, isHolding}
 use Rattle.engine.specs.Waited.{Keeping, Returned}
-use Rattle.engine.specs.Tables.{Tables}
-use Rattle.engine.proofs.Shows.{scopes-are, eleven-gives}
+use Rattle.store.specs.Tables.{Tables}
+use Rattle.store.proofs.Tables.{scopes-are}
+use Rattle.engine.proofs.Shows.{eleven-gives}
 
 -- ---- question 11
 

@@ -1,12 +1,10 @@
--- The tables of a model that is held, and the answer that a listing gives (01, Listing and stepping). Definitions only.
+-- What is found over the tables of a model, and the answer that a listing gives (01, Listing and stepping). Definitions only.
 use mathlib.Core.Path.{_≡_}
 use mathlib.Core.List.{List}
 use mathlib.Core.Option.{some}
 use Prim.Native.Nat.{ℕ}
 use lib.IntN.{ℤ}
 use Rattle.model.specs.Resolved
-use Rattle.model.specs.Good.{GoodModel}
-use Rattle.tables.specs.Represents.{Represents}
 use Rattle.machine.specs.State.{State, GoodState, stateNumbers}
 use Rattle.machine.specs.Machine as machine
 use Rattle.listing.specs.Buffer.{Lists}
@@ -16,14 +14,6 @@ use Rattle.buffers.specs.Parts.{lentTwo}
 use Rattle.buffers.specs.Effect.{machineOver}
 use Rattle.engine.specs.declared.Answer.{Answer}
 use Rattle.engine.specs.Gives.{bare, filled}
-
--- nodes, roots and scopes hold a good model with so many sums and channel names
-pub record Tables (t roots scopes : List ℕ) (sums channels : ℕ) (m : Resolved.Model) : Type 0 where
-  pub root : ℕ
-  pub variables : ℕ
-  pub definitions : ℕ
-  pub represents : Represents t roots scopes root variables definitions sums channels m
-  pub good : GoodModel m
 
 -- 01, Listing: acceptance with entry count and total, or a refusal with its places
 unfoldable pub answerOf : Listed → Answer

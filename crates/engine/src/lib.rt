@@ -1,6 +1,7 @@
 // An engine: its calls open, open_steady, list, step, step_timed, report, save, return and forget, and what they answer.
 pub mod held;
 pub mod listings;
+pub mod searches;
 pub mod steps;
 pub mod subtotals;
 pub mod texts;

@@ -11,8 +11,9 @@ ghost use Rattle.machine.specs.State.{stateLength};
 ghost use Rattle.machine.specs.Machine.{listingLength, list′};
 ghost use Rattle.buffers.specs.Parts.{lentTwo};
 ghost use Rattle.buffers.specs.Effect.{requested};
+ghost use Rattle.store.specs.Tables.{Tables};
 ghost use Rattle.engine.specs.Gives.{Gives};
-ghost use Rattle.engine.specs.Tables.{Tables, answerOf, Finds};
+ghost use Rattle.engine.specs.Tables.{answerOf, Finds};
 
 // The answer that a listing gives.
 pub fn listed_answer(listed: Listed) -> Answer

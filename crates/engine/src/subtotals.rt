@@ -15,8 +15,9 @@ ghost use Rattle.machine.specs.Report.{reportLength};
 ghost use Rattle.machine.specs.Machine.{report′};
 ghost use Rattle.buffers.specs.Parts.{lentTwo};
 ghost use Rattle.buffers.specs.Effect.{requested};
+ghost use Rattle.store.specs.Tables.{Tables};
 ghost use Rattle.engine.specs.Gives.{Gives};
-ghost use Rattle.engine.specs.Tables.{Tables, Finds};
+ghost use Rattle.engine.specs.Tables.{Finds};
 
 // 11 leaves the report as it is lent, 12 to 14 zero it; else it has the shares of the listing.
 fn put_report(listed: Listed, listing: &[u64], state: &[i64], report: &mut [u64])

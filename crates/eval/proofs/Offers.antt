@@ -136,7 +136,7 @@ led f mk (Shown.missing e) = Shown.no-action e
 module _ (t : List ℕ) (k kind : ℕ) (is : kind ≡ kindOf (getD t k 0)) where
   pub wait-shown : (ls : List ℤ) (rate : ℕ) → kind ≡ 36 → Shown.ActionShown t ls rate k (Shown.bareOffer kind rate)
   unfolding Settled.Action evalAction Shown.bareOffer
-  wait-shown ls rate h Resolved.wait a = Shown.both (Shown.wait (rw h)) refl
+  wait-shown ls rate h (Resolved.wait n) a = Shown.both (Shown.wait (rw h)) refl
   wait-shown ls rate h (Resolved.launch c v) a = absurd (omega (arith, a .kind-is))
   wait-shown ls rate h (Resolved.kill c v) a = absurd (omega (arith, a .kind-is))
   wait-shown ls rate h (Resolved.receive c s) a = absurd (omega (arith, a .kind-is))
@@ -160,7 +160,7 @@ module _ (t : List ℕ) (k kind : ℕ) (is : kind ≡ kindOf (getD t k 0)) where
     carrier m n s = rw is (go (s .part) (s .at) (s .fit))
       where
         go : (x : Resolved.Action) → Settled.Action t x k → GoodAction m n x → Shown.Carrier t n (kindOf (getD t k 0)) k
-        go Resolved.wait a g = carries-not 36 a h refl
+        go (Resolved.wait n) a g = carries-not 36 (a .kind-is) h refl
         go (Resolved.launch c v) a g = rw (a .kind-is) (record { model = m; channel = c; values = v; at = a; fit = g })
         go (Resolved.kill c v) a g = rw (a .kind-is) (record { model = m; channel = c; values = v; at = a; fit = g })
         go (Resolved.receive c v) a g = carries-not 39 (a .kind-is) h refl
@@ -172,7 +172,7 @@ module _ (t : List ℕ) (k kind : ℕ) (is : kind ≡ kindOf (getD t k 0)) where
 
     pub carried-shown : (ls : List ℤ) (rate : ℕ) (r : Offer) → Shown.Carried t ls kind rate k r → Shown.ActionShown t ls rate k r
     unfolding Settled.Action evalAction Shown.carries
-    carried-shown ls rate r w Resolved.wait a = carries-not 36 a h refl
+    carried-shown ls rate r w (Resolved.wait n) a = carries-not 36 (a .kind-is) h refl
     carried-shown ls rate r w (Resolved.launch c v) a = led offers.launch (λ x e q. Shown.launch (e ∙ is ∙ a .kind-is) q) (w c v (rw (is ∙ a .kind-is) a))
     carried-shown ls rate r w (Resolved.kill c v) a = led offers.kill (λ x e q. Shown.kill (e ∙ is ∙ a .kind-is) q) (w c v (rw (is ∙ a .kind-is) a))
     carried-shown ls rate r w (Resolved.receive c v) a = carries-not 39 (a .kind-is) h refl
@@ -189,7 +189,7 @@ module _ (t : List ℕ) (k kind : ℕ) (is : kind ≡ kindOf (getD t k 0)) where
     seeker m n s = rw is (go (s .part) (s .at) (s .fit))
       where
         go : (x : Resolved.Action) → Settled.Action t x k → GoodAction m n x → Shown.Seeker t n (kindOf (getD t k 0)) k
-        go Resolved.wait a g = absurd (n36 (is ∙ a))
+        go (Resolved.wait n) a g = absurd (n36 (is ∙ a .kind-is))
         go (Resolved.launch c v) a g = seeks-not 37 (a .kind-is) h refl
         go (Resolved.kill c v) a g = seeks-not 38 (a .kind-is) h refl
         go (Resolved.receive c v) a g = rw (a .kind-is) (record { model = m; channel = c; sets = v; at = a; fit = g })
@@ -201,7 +201,7 @@ module _ (t : List ℕ) (k kind : ℕ) (is : kind ≡ kindOf (getD t k 0)) where
 
     pub sought-shown : (ls : List ℤ) (rate : ℕ) (r : Offer) → Shown.Sought t ls kind rate k r → Shown.ActionShown t ls rate k r
     unfolding Settled.Action evalAction Shown.carries
-    sought-shown ls rate r w Resolved.wait a = absurd (n36 (is ∙ a))
+    sought-shown ls rate r w (Resolved.wait n) a = absurd (n36 (is ∙ a .kind-is))
     sought-shown ls rate r w (Resolved.launch c v) a = seeks-not 37 (a .kind-is) h refl
     sought-shown ls rate r w (Resolved.kill c v) a = seeks-not 38 (a .kind-is) h refl
     sought-shown ls rate r w (Resolved.receive c v) a = led offers.receive (λ x e q. Shown.receive (e ∙ is ∙ a .kind-is) q) (w c v (rw (is ∙ a .kind-is) a))

@@ -108,7 +108,7 @@ pub gated-holds : (x y : ℕ) → x ≡ numberCell 1 (pos 0) → y ≡ numberCel
 unfolding Settled.Branch Settled.Gated Settled.Cond Settled.Expr Settled.Offer Settled.Action Settled.Channel Settled.Item Settled.OneOrTwo Settled.Rate Settled.Scale
     Every GoodExpr GoodCond GoodGate GoodName GoodItem GoodScale GoodRate GoodAction opKind testKind relationKind kindOf tokenOf leftOf
 gated-holds x y e f = (
-  record { sums = []; definitions = []; channels = 1; starts = [] },
+  record { sums = []; definitions = []; channels = 1; starts = []; words = λ k. [] },
   record {
     part = record {
       gate = some (Resolved.compare false greater (Resolved.localAt 0) (Resolved.constant (pos 0)));

@@ -2,10 +2,10 @@
 use mathlib.Core.Path.{_≡_, refl, sym, ap, ap₂, _∙_, subst}
 use mathlib.Core.List.{List, [], _∷_, _++_}
 use mathlib.Core.Bool.{Bool, true, false, cond, _&&_}
-use Prim.Native.Nat.{ℕ, zero, suc, _+_, _*_, _-_, _≤_, _<_, min}
+use Prim.Native.Nat.{ℕ, zero, suc, _+_, _*_, _-_, _/_, _%_, _≤_, _<_, min}
 use native.Mathlib.Omega.{arith}
-use lib.Dec.{eqb, ltb}
-use borrow.Author.Tests.{eqb-true, eqb-false, eq-eqb, ne-eqb, lt-ltb, le-ltb, ltb-true, ltb-false}
+use lib.Dec.{eqb, leb, ltb}
+use borrow.Author.Tests.{eqb-true, eqb-false, eq-eqb, ne-eqb, lt-ltb, le-ltb, le-leb, lt-leb, leb-true, leb-false, ltb-true, ltb-false}
 use lib.ListN.{length, take, drop, length-append}
 use lib.Seq.{take-take}
 use Rattle.word.specs.Number.{worth}
@@ -13,11 +13,11 @@ use Rattle.token.specs.Bytes.{isDigit, within}
 use Rattle.token.specs.Token.{sameBytes}
 use Rattle.token.proofs.Words.{same-is}
 use Rattle.lines.specs.declared.line.Line.{Line}
-use Rattle.lines.specs.declared.line.Line.the-variants.{Open, Steady, List as Listing, Step, State, Report, Save, Return, Forget, Time, Wait, Clock, Independent, Bad}
+use Rattle.lines.specs.declared.line.Line.the-variants.{Open, Steady, List as Listing, Step, State, Report, Save, Return, Forget, Time, Wait, Clock, Independent, Search, Bad}
 use Rattle.lines.specs.declared.line.Rest.{Rest}
 use Rattle.lines.specs.declared.line.Rest.the-variants.{Nothing, Number, T, Other}
 use Rattle.lines.specs.declared.line.Reading.{Reading}
-use Rattle.lines.specs.Line.{listBytes, stateBytes, reportBytes, openBytes, steadyBytes, stepBytes, saveBytes, returnBytes, forgetBytes, timeBytes, waitBytes, clockBytes, independentBytes, small, keptLimit, kept, digitsOnly, isNumber, given, lineOf, restOf, restNext, packed, headOf, afterOf, twoBytes, returnEnd, forgetEnd, steadyEnd, afterNext, lateNext, keptNext, ended, steadied, numbered, bare, lettered, Bytes, Reads}
+use Rattle.lines.specs.Line.{listBytes, stateBytes, reportBytes, openBytes, steadyBytes, stepBytes, saveBytes, returnBytes, forgetBytes, timeBytes, waitBytes, clockBytes, independentBytes, seekBytes, small, keptLimit, kept, digitsOnly, isNumber, given, sought, lineOf, restOf, restNext, packed, headOf, afterOf, twoBytes, returnEnd, forgetEnd, steadyEnd, afterNext, lateNext, keptNext, ended, steadied, soughtBy, numbered, bare, lettered, Bytes, Reads}
 use Rattle.lines.specs.declared.two.Two.{Two}
 use Rattle.lines.specs.Two.{begun, run, twoNext, paired}
 use Rattle.lines.proofs.Rests.{rest-on}
@@ -67,6 +67,9 @@ clockHead = 1526532629355
 
 abbrev steadyHead : ℕ
 steadyHead = 1595385667940
+
+abbrev seekHead : ℕ
+seekHead = 1595134012192
 
 -- ---- fewer than five bytes, or five and more
 data Size : List ℕ → Type 0 where
@@ -345,6 +348,62 @@ steady-then : (u : List ℕ) → Bytes u → steadied (packed 1 (take 2 u)) (res
 unfolding lineOf sameBytes steadied
 steady-then u h = ap₂ (λ (t : Bool) (l : Line). cond t l Bad) (pair-is 121 32 u h (omega arith) (omega arith)) (late-then (drop 2 u))
 
+-- the cases of `seek_line`
+module _ (a k : ℕ) where
+  pub seek-unparted : (a % 256 ≡ 32 → ⊥) → Bad ≡ soughtBy a k
+  unfolding soughtBy
+  seek-unparted n = rw (ne-eqb (a % 256) 32 n) refl
+
+  module _ (e : a % 256 ≡ 32) where
+    pub seek-low : a / 256 < 304 → Bad ≡ soughtBy a k
+    unfolding soughtBy within
+    seek-low l = rw (eq-eqb (a % 256) 32 e, lt-leb 304 (a / 256) l) refl
+
+    pub seek-high : 304 ≤ a / 256 → 313 < a / 256 → Bad ≡ soughtBy a k
+    unfolding soughtBy within
+    seek-high m l = rw (eq-eqb (a % 256) 32 e, le-leb 304 (a / 256) m, lt-leb (a / 256) 313 l) refl
+
+    pub seek-digit : 304 ≤ a / 256 → a / 256 ≤ 313 → Search (a / 256 - 304) k ≡ soughtBy a k
+    unfolding soughtBy within
+    seek-digit m l = rw (eq-eqb (a % 256) 32 e, le-leb 304 (a / 256) m, le-leb (a / 256) 313 l) refl
+
+-- a digit and a blank by their number
+seek-then : (u : List ℕ) (k : ℕ) → Bytes u → soughtBy (packed 1 (take 2 u)) k ≡ sought u k
+unfolding packed soughtBy sought within isDigit
+seek-then [] k h = refl
+seek-then (x ∷ []) k h =
+    let e : (256 + x) / 256 ≡ 1 = omega (arith, h .0) in
+    rw e (both-bad (eqb ((256 + x) % 256) 32))
+  where
+    both-bad : (t : Bool) → cond t Bad Bad ≡ Bad
+    both-bad true = refl
+    both-bad false = refl
+seek-then (x ∷ y ∷ u) k h =
+    let e : ((256 + x) * 256 + y) / 256 ≡ 256 + x = omega (arith, h .1 .0) in
+    let f : ((256 + x) * 256 + y) % 256 ≡ y = omega (arith, h .1 .0) in
+    rw (e, f) (ap (λ (l : Line). cond (eqb y 32) l Bad) (by (leb 48 x) (leb x 57) refl refl))
+  where
+    by : (s t : Bool) → leb 48 x ≡ s → leb x 57 ≡ t → cond (leb 304 (256 + x) && leb (256 + x) 313) (Search (256 + x - 304) k) Bad ≡ cond (leb 48 x && leb x 57) (Search (min 9 (x - 48)) k) Bad
+    by true true p q =
+        let a = leb-true 48 x p in
+        let b = leb-true x 57 q in
+        let n : 256 + x - 304 ≡ min 9 (x - 48) = omega arith in
+        rw (p, q, le-leb 304 (256 + x) (omega arith), le-leb (256 + x) 313 (omega arith), n) refl
+    by true false p q =
+        let b = leb-false x 57 q in
+        rw (p, q, lt-leb (256 + x) 313 (omega arith)) (no-and (leb 304 (256 + x)))
+      where
+        no-and : (t : Bool) → cond (t && false) (Search (256 + x - 304) k) Bad ≡ Bad
+        no-and true = refl
+        no-and false = refl
+    by false t p q =
+        let a = leb-false 48 x p in
+        rw (p, lt-leb 304 (256 + x) (omega arith)) refl
+
+seeks-then : (u : List ℕ) → Bytes u → soughtBy (packed 1 (take 2 u)) (kept (seekBytes ++ u)) ≡ lineOf (seekBytes ++ u)
+unfolding lineOf sameBytes
+seeks-then u h = seek-then u (kept (seekBytes ++ u)) h
+
 differ : (s t : List ℕ) → (s ≡ t → ⊥) → sameBytes s t ≡ false
 differ s t n = by (sameBytes s t) refl
   where
@@ -436,14 +495,20 @@ module _ {s : List ℕ} {r : Reading} (h : Reads s r) where
       let w = word steadyHead stead (omega arith, (omega arith, (omega arith, (omega arith, (omega arith, tt))))) refl (omega arith) refl e in
       f ∙ ap₂ steadied (h .after) (h .late ∙ ap (λ (u : List ℕ). restOf (drop 7 u)) w) ∙ steady-then (drop 5 s) (bytes-drop 5 s (h .bytes)) ∙ ap lineOf (sym w)
 
+  pub says-seek : {x : Line} → r .head ≡ seekHead → x ≡ soughtBy (r .after) (r .kept) → x ≡ lineOf s
+  unfolding packed afterOf
+  says-seek e f =
+      let w = word seekHead seekBytes (omega arith, (omega arith, (omega arith, (omega arith, (omega arith, tt))))) refl (omega arith) refl e in
+      f ∙ ap₂ soughtBy (h .after) (h .kept ∙ ap kept w) ∙ seeks-then (drop 5 s) (bytes-drop 5 s (h .bytes)) ∙ ap lineOf (sym w)
+
   -- a word of seven bytes has its first five
   first-five : (t : List ℕ) → take 7 s ≡ t → take 5 s ≡ take 5 t
   first-five t e = sym (take-take 5 7 s (omega arith)) ∙ ap (take 5) e
 
   pub says-bad : (r .head ≡ listHead → ⊥) → (r .head ≡ stateHead → ⊥) → (r .head ≡ reportHead → ⊥) → (r .head ≡ openHead → ⊥) → (r .head ≡ stepHead → ⊥) → (r .head ≡ saveHead → ⊥) → (r .head ≡ returnHead → ⊥) → (r .head ≡ forgetHead → ⊥)
-      → (r .head ≡ timeHead → ⊥) → (r .head ≡ waitHead → ⊥) → (r .head ≡ clockHead → ⊥) → (r .head ≡ indepHead → ⊥) → (r .head ≡ steadyHead → ⊥) → Bad ≡ lineOf s
+      → (r .head ≡ timeHead → ⊥) → (r .head ≡ waitHead → ⊥) → (r .head ≡ clockHead → ⊥) → (r .head ≡ indepHead → ⊥) → (r .head ≡ steadyHead → ⊥) → (r .head ≡ seekHead → ⊥) → Bad ≡ lineOf s
   unfolding lineOf headOf packed
-  says-bad l t q o p v m g i j k z y =
+  says-bad l t q o p v m g i j k z y x =
       simp (
         differ s listBytes (λ e. l (h .head ∙ ap headOf e)),
         differ s stateBytes (λ e. t (h .head ∙ ap headOf e)),
@@ -458,4 +523,5 @@ module _ {s : List ℕ} {r : Reading} (h : Reads s r) where
         differ (take 5 s) waitBytes (λ e. j (h .head ∙ ap (packed 1) e)),
         differ s clockBytes (λ e. k (h .head ∙ ap headOf e)),
         no-word s (λ e. z (h .head ∙ ap (packed 1) e)),
+        differ (take 5 s) seekBytes (λ e. x (h .head ∙ ap (packed 1) e)),
       )

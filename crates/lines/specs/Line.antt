@@ -2,14 +2,14 @@
 use mathlib.Core.Path.{_≡_, refl}
 use mathlib.Core.List.{List, [], _∷_, _++_}
 use mathlib.Core.Bool.{Bool, true, false, cond, _&&_}
-use Prim.Native.Nat.{ℕ, _+_, _*_, _<_, min}
+use Prim.Native.Nat.{ℕ, _+_, _-_, _*_, _/_, _%_, _<_, min}
 use lib.Dec.{eqb, ltb}
 use lib.ListN.{length, take, drop}
 use Rattle.word.specs.Number.{worth, digitOf}
-use Rattle.token.specs.Bytes.{isDigit}
+use Rattle.token.specs.Bytes.{within, isDigit}
 use Rattle.token.specs.Token.{sameBytes}
 use Rattle.lines.specs.declared.line.Line.{Line}
-use Rattle.lines.specs.declared.line.Line.the-variants.{Open, Steady, List as Listing, Step, State, Report, Save, Return, Forget, Time, Wait, Clock, Independent, Bad}
+use Rattle.lines.specs.declared.line.Line.the-variants.{Open, Steady, List as Listing, Step, State, Report, Save, Return, Forget, Time, Wait, Clock, Independent, Search, Bad}
 use Rattle.lines.specs.declared.line.Rest.{Rest}
 use Rattle.lines.specs.declared.line.Rest.the-variants.{Nothing, Number, T, Other}
 use Rattle.lines.specs.declared.line.Reading.{Reading}
@@ -62,6 +62,10 @@ keptLimit = 24
 unfoldable pub kept : List ℕ → ℕ
 kept s = min keptLimit (length s)
 
+-- `seek `
+abbrev pub seekBytes : List ℕ
+seekBytes = 115 ∷ 101 ∷ 101 ∷ 107 ∷ 32 ∷ []
+
 abbrev pub independentBytes : List ℕ
 independentBytes = 105 ∷ 110 ∷ 100 ∷ 101 ∷ 112 ∷ 101 ∷ 110 ∷ 100 ∷ 101 ∷ 110 ∷ 116 ∷ 32 ∷ []
 
@@ -96,7 +100,13 @@ givenTwo s = cond (isNumber (beforeBlank s) && isNumber (afterBlank s)) (Indepen
 unfoldable pub small : ℕ → Line
 small n = cond (ltb n 65536) (Wait n) Bad
 
--- the thirteen forms; every other line is bad
+-- a depth of one digit and a blank, and a line of which so many bytes are kept
+unfoldable pub sought : List ℕ → ℕ → Line
+sought [] k = Bad
+sought (d ∷ []) k = Bad
+sought (d ∷ b ∷ s) k = cond (eqb b 32) (cond (isDigit d) (Search (digitOf d) k) Bad) Bad
+
+-- the fourteen forms; every other line is bad
 unfoldable pub lineOf : List ℕ → Line
 lineOf s =
     cond (sameBytes s listBytes) Listing
@@ -111,7 +121,8 @@ lineOf s =
     (cond (sameBytes (take 5 s) timeBytes) (given Time (drop 5 s))
     (cond (sameBytes (take 5 s) waitBytes) (given small (drop 5 s))
     (cond (sameBytes s clockBytes) Clock
-    (cond (sameBytes (take 12 s) independentBytes) (givenTwo (drop 12 s)) Bad))))))))))))
+    (cond (sameBytes (take 12 s) independentBytes) (givenTwo (drop 12 s))
+    (cond (sameBytes (take 5 s) seekBytes) (sought (drop 5 s) (kept s)) Bad)))))))))))))
 
 -- `step 307`
 step-line : lineOf (115 ∷ 116 ∷ 101 ∷ 112 ∷ 32 ∷ 51 ∷ 48 ∷ 55 ∷ []) ≡ Step 307
@@ -155,6 +166,11 @@ no-forget = refl
 save-nothing : lineOf saveBytes ≡ Save 5
 unfolding lineOf kept sameBytes
 save-nothing = refl
+
+-- `seek 3 a`, `seek 3`, `seek 10 a`
+seek-lines : (lineOf (seekBytes ++ (51 ∷ 32 ∷ 97 ∷ [])) ≡ Search 3 8) × ((lineOf (seekBytes ++ (51 ∷ [])) ≡ Bad) × (lineOf (seekBytes ++ (49 ∷ 48 ∷ 32 ∷ 97 ∷ [])) ≡ Bad))
+unfolding lineOf sought kept isDigit Rattle.token.specs.Bytes.within sameBytes
+seek-lines = (refl, (refl, refl))
 
 -- `open` without a number
 no-number : lineOf openBytes ≡ Bad
@@ -252,6 +268,10 @@ ended says end after k = cond (eqb after end) (says k) Bad
 -- a line that ends its word as `steady ` does, and what stands after that
 unfoldable pub steadied : ℕ → Rest → Line
 steadied after late = cond (eqb after steadyEnd) (numbered Steady late) Bad
+
+-- a line whose word ends with its fifth byte, and that has a digit and a blank after it
+unfoldable pub soughtBy : ℕ → ℕ → Line
+soughtBy after k = cond (eqb (after % 256) 32) (cond (within 304 313 (after / 256)) (Search (after / 256 - 304) k) Bad) Bad
 
 abbrev pub Bytes : List ℕ → Type 0
 Bytes [] = Unit {0}

@@ -8,7 +8,7 @@ use lib.Dec.{eqb}
 use lib.ListN.{length}
 use Rattle.token.specs.Bytes.{lineFeed}
 use Rattle.lines.specs.declared.line.Line.{Line}
-use Rattle.lines.specs.declared.line.Line.the-variants.{Open, Steady, List as Listing, Step, State, Report, Save, Return, Forget, Time, Wait, Clock, Independent, Bad}
+use Rattle.lines.specs.declared.line.Line.the-variants.{Open, Steady, List as Listing, Step, State, Report, Save, Return, Forget, Time, Wait, Clock, Independent, Search, Bad}
 use Rattle.lines.specs.declared.line.Reading.{Reading}
 use Rattle.lines.specs.declared.script.Part.{Part}
 use Rattle.lines.specs.declared.script.Part.the-variants.{InLine, InText}
@@ -44,6 +44,7 @@ isShort (Time d) = true
 isShort (Wait d) = true
 isShort Clock = true
 isShort (Independent i j) = true
+isShort (Search d n) = true
 isShort Bad = false
 
 -- how many bytes of a text a line asks for
@@ -61,6 +62,7 @@ textOf (Time d) = nothing
 textOf (Wait d) = nothing
 textOf Clock = nothing
 textOf (Independent i j) = nothing
+textOf (Search d n) = nothing
 textOf Bad = nothing
 
 -- bytes that are whole items: such a line and LF, or a line `open n` or `steady n`, LF, n bytes and LF; and what they ask for in turn
@@ -148,4 +150,5 @@ ended line (Time d) = Asks (Time d) (fresh (next line))
 ended line (Wait d) = Asks (Wait d) (fresh (next line))
 ended line Clock = Asks Clock (fresh (next line))
 ended line (Independent i j) = Asks (Independent i j) (fresh (next line))
+ended line (Search d n) = Asks (Search d n) (fresh (next line))
 ended line Bad = Wrong line

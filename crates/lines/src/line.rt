@@ -3,7 +3,7 @@ use crate::two::Two;
 ghost use mathlib.Core.Path.{_≡_};
 ghost use mathlib.Core.List.{List, [], _∷_, _++_};
 ghost use Prim.Native.Nat.{ℕ, _<_};
-ghost use Rattle.lines.specs.Line.{lineOf, grown, digitNext, letterNext, restNext, numbered, small, lettered, bare, ended, returnEnd, forgetEnd, steadied, afterNext, lateNext, keptNext, empty, Reads};
+ghost use Rattle.lines.specs.Line.{lineOf, grown, digitNext, letterNext, restNext, numbered, small, lettered, bare, ended, returnEnd, forgetEnd, steadied, soughtBy, afterNext, lateNext, keptNext, empty, Reads};
 
 // What a line says.
 pub enum Line {
@@ -21,6 +21,8 @@ pub enum Line {
     Wait(u64),
     Clock,
     Independent(u64, u64),
+    // A depth, and how many bytes of the line are kept.
+    Search(u64, u64),
     Bad,
 }
 
@@ -53,7 +55,7 @@ impl Head {
     // The most bytes of a line that are kept: a word and a name that is too long already.
     pub const KEPT: u64 = 24;
 
-    // The heads of `list`, `state`, `report`, `open `, `step `, `save `, `return `, `forget `, `time `, `wait `, `clock`, `independent ` and `steady `, and what follows those of `return `, `forget ` and `steady `.
+    // The heads of `list`, `state`, `report`, `open `, `step `, `save `, `return `, `forget `, `time `, `wait `, `clock`, `independent `, `steady ` and `seek `, and what follows those of `return `, `forget ` and `steady `.
     pub const LIST: u64 = 0x1_6c69_7374;
 
     pub const STATE: u64 = 0x173_7461_7465;
@@ -80,6 +82,8 @@ impl Head {
 
     pub const STEADY: u64 = 0x173_7465_6164;
 
+    pub const SEEK: u64 = 0x173_6565_6b20;
+
     // A waiting draw is below this.
     pub const DRAWS: u64 = 0x1_0000;
 
@@ -91,6 +95,13 @@ impl Head {
     pub const FORGET_END: u64 = 0x1_7420;
 
     pub const STEADY_END: u64 = 0x1_7920;
+
+    // A digit after a 1: from `0` to `9`.
+    pub const ZERO: u64 = 0x130;
+
+    pub const NINE: u64 = 0x139;
+
+    pub const BLANK: u64 = 0x20;
 }
 
 // A number with one more digit, if it fits.
@@ -270,6 +281,23 @@ fn steady_line(after: u64, late: Rest) -> Line
     Line::Bad
 }
 
+// A digit and a blank after the first five bytes.
+fn seek_line(after: u64, kept: u64) -> Line
+    ensures { λ r. ⌜ r ≡ soughtBy after kept ⌝ }
+{
+    if after % 256 != Head::BLANK {
+        return Line::Bad;
+    }
+    let digit = after / 256;
+    if digit < Head::ZERO {
+        return Line::Bad;
+    }
+    if Head::NINE < digit {
+        return Line::Bad;
+    }
+    Line::Search(digit - Head::ZERO, kept)
+}
+
 // The two bytes after the first five, with one more byte.
 fn next_after(after: u64, b: u8) -> u64
     ensures { λ r. ⌜ r ≡ afterNext after b ⌝ }
@@ -368,6 +396,7 @@ impl Reading {
             Head::CLOCK => clock_line(rest),
             Head::INDEPENDENT => crate::two::says(two),
             Head::STEADY => steady_line(after, late),
+            Head::SEEK => seek_line(after, kept),
             _ => Line::Bad,
         }
     }

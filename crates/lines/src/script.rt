@@ -88,6 +88,7 @@ fn end_line(line: u64, says: Line) -> Taken
         Line::Wait(d) => Taken::Asks(Line::Wait(d), begin(next)),
         Line::Clock => Taken::Asks(Line::Clock, begin(next)),
         Line::Independent(i, j) => Taken::Asks(Line::Independent(i, j), begin(next)),
+        Line::Search(d, n) => Taken::Asks(Line::Search(d, n), begin(next)),
         Line::Bad => Taken::Wrong(line),
     }
 }

@@ -50,7 +50,7 @@ module _ (ls : List ℤ) (a : offers.Action) where
 
   pub names-bound : (b : Resolved.Action) → evalAction ls b ≡ some a → namesBound b ≡ namesOf a
   unfolding evalAction namesBound
-  names-bound Resolved.wait q = rw (← (some-is _ a q))
+  names-bound (Resolved.wait k) q = rw (← (some-is _ a q))
   names-bound (Resolved.launch c v) q = paired offers.launch (λ x. refl) c v q
   names-bound (Resolved.kill c v) q = paired offers.kill (λ x. refl) c v q
   names-bound (Resolved.receive c s) q = queried offers.receive 0 c s (λ w e. refl) q

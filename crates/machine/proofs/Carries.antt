@@ -1,13 +1,19 @@
 -- Every answer carries what 01 says, no refusal of a list call or step alters the machine, and a refused opening closes it. By cases of what is asked, machine and answer: one
 -- lemma for each request.
 use mathlib.Core.Path.{_≡_, refl, ap, ap₂, sym, _∙_}
-use mathlib.Core.List.{List}
-use mathlib.Core.Bool.{Bool, true, false, cond}
+use mathlib.Core.List.{List, []}
+use mathlib.Core.Bool.{Bool, true, false, cond, _&&_}
 use mathlib.Core.Logic.{_↔_, inl, inr}
 use mathlib.Core.Option.{Option, none, some, Option·elim}
 use Prim.Native.Nat.{ℕ, _≤_}
 use native.Mathlib.Omega.{arith}
-use lib.Dec.{ltb}
+use borrow.Author.Tests.{leb-true}
+use lib.Dec.{leb, ltb}
+use lib.ListN.{length}
+use Rattle.runs.specs.Tree as tree
+use Rattle.runs.specs.Tree.{Means, earliest, none-at-all, none-known}
+use Rattle.runs.specs.Walk as walk
+use Rattle.runs.proofs.Judged as judged
 use Rattle.clock.specs.declared.Clock.{Clock}
 use Rattle.model.specs.Resolved
 use Rattle.model.specs.Opening.{Opening, refused, opening}
@@ -22,12 +28,12 @@ use Rattle.rules.proofs.Decides.{Decides, holds, fails, passes}
 use Rattle.machine.specs.State.{State}
 use Rattle.machine.specs.Timed.{Timed, timed}
 use Rattle.machine.specs.Saves.{isName, Saves, saveLimit, placeOf, placeFor, keptUnder, Stored, stored, replaced, removed, saving, returning, forgetting}
-use Rattle.machine.specs.Machine.{asLent, no, listedAs, reportedAs, Listed, entriesAre, refusedWith, listing, Turn, turn, drawn, stepsIn, timesWith, showing, lists, sharing, reports, choosing, stepsWith}
-use Rattle.machine.specs.Machine.{Held, moved, movedIn, timedOf, storedIn, Machine, closed, holding, onState, onClock, onSaves, Request, list′, step′, report′, timed′, save′, return′, forget′, Ask, open′, openSteady′, on′, acts, Part, hasLengths, Call, call, opens, onMachine, asked, calls}
+use Rattle.machine.specs.Machine.{asLent, no, listedAs, reportedAs, Listed, entriesAre, refusedWith, listing, Turn, turn, drawn, stepsIn, timesWith, showing, lists, sharing, reports, choosing, stepsWith, foundAs, movesTo, depthLimit, isDepth, searchedAs, searches}
+use Rattle.machine.specs.Machine.{Held, moved, movedIn, timedOf, storedIn, Machine, closed, holding, onState, onClock, onSaves, Request, list′, step′, report′, search′, timed′, save′, return′, forget′, Ask, open′, openSteady′, on′, acts, Part, hasLengths, Call, call, opens, onMachine, asked, calls}
 use Rattle.machine.specs.Questions.{no12, no13, no14, yes14, Steps, no15, no16, no17, no18, no19, yes19, Times, no15-19, no23, no24, no25, yes25}
 use Rattle.machine.specs.Questions as questions
 use Rattle.machine.specs.Results as results
-use Rattle.machine.specs.Results.{Runs, Lists, Chooses, Names, Lent, Carries, under1, under2-10, under11, under12, under13, under14, under15-19, under23-25, under20, return21, forget21, save22, under2-29}
+use Rattle.machine.specs.Results.{Runs, Lists, Chooses, Names, Lent, Carries, under1, under2-10, under11, under12, under13, under14, under15-19, under23-25, under20, return21, forget21, save22, under2-29, under26, under27}
 use Rattle.machine.proofs.Lent.{lent-so}
 use Rattle.machine.proofs.Listing as listing
 use Rattle.machine.proofs.Stepping as stepping
@@ -79,6 +85,20 @@ step-kept d m s = go (listing.asked m s (listing m s) .0 refl)
     go (no13 e h l) = record { carries = under13 tt; stays = λ n. refl; one = λ e. omega arith; eleven = λ e. omega arith }
     go (no14 e h l f) = record { carries = under14 tt; stays = λ n. refl; one = λ e. omega arith; eleven = λ e. omega arith }
     go (yes14 {es = es} e h l f) = taken (stepping.asked m s es h d (drawn m s es d) .0 refl)
+
+search-kept : (x : List ℕ) (d : ℕ) (m : Resolved.Model) (s : State) → Kept s (search′ x d) (searches x d m s)
+unfolding searches isDepth searchedAs foundAs no
+search-kept x d m s = by (leb 1 d) (leb d depthLimit) refl (walk.search (movesTo m x) s d) (judged.answers (movesTo m x) s d)
+  where
+    by : (a b : Bool) → leb d depthLimit ≡ b → (w : tree.Answer) → Means (movesTo m x) s d w → Kept s (search′ x d) (turn s (cond (a && b) (searchedAs w) (no 26 0 0 asLent)))
+    by true true l w (earliest {r = r} p f) =
+        let k : length r ≤ d = p .short in
+        let e : d ≤ depthLimit = leb-true d depthLimit l in
+        record { carries = results.searches r (omega arith); stays = λ n. refl; one = λ e. omega arith; eleven = λ e. omega arith }
+    by true true l w (none-at-all f k) = record { carries = results.searches [] (omega arith); stays = λ n. refl; one = λ e. omega arith; eleven = λ e. omega arith }
+    by true true l w (none-known f k) = record { carries = under27; stays = λ n. refl; one = λ e. omega arith; eleven = λ e. omega arith }
+    by true false l w k = record { carries = under26; stays = λ n. refl; one = λ e. omega arith; eleven = λ e. omega arith }
+    by false b l w k = record { carries = under26; stays = λ n. refl; one = λ e. omega arith; eleven = λ e. omega arith }
 
 timed-kept : (ds : List ℕ) (d : ℕ) (m : Resolved.Model) (s : State) (c : Clock) → Kept (timed s c) (timed′ ds d) (timesWith ds d m s c)
 unfolding timesWith stepsWith choosing stepsIn no listedAs Lists Chooses
@@ -168,6 +188,7 @@ unfolding acts
 kept list′ h = state-kept list′ lists h (list-kept (h .model) (h .state))
 kept (step′ d) h = state-kept (step′ d) (stepsWith d) h (step-kept d (h .model) (h .state))
 kept report′ h = state-kept report′ reports h (report-kept (h .model) (h .state))
+kept (search′ x d) h = state-kept (search′ x d) (searches x d) h (search-kept x d (h .model) (h .state))
 kept (timed′ ds d) h = clock-kept (timed′ ds d) (timesWith ds d) h (timed-kept ds d (h .model) (h .state) (h .clock))
 kept (save′ n) h = saves-kept (save′ n) (saving n) h (save-kept n (timedOf h) (h .saves))
 kept (return′ n) h = saves-kept (return′ n) (returning n) h (return-kept n (timedOf h) (h .saves))
@@ -299,6 +320,11 @@ report-stays = unmoved report′ (λ h. ap (moved h) (shared (h .model) (h .stat
     shared : (m : Resolved.Model) (s : State) (l : Listed) → sharing m s l .machine ≡ s
     shared m s (entriesAre es) = refl
     shared m s (refusedWith a) = refl
+
+-- 02, note 8: nor does a search
+pub search-stays : (x : List ℕ) (d : ℕ) (y : Machine) (l : Part → ℕ) (o : ℕ) → calls y (call (on′ (search′ x d)) l o) .machine ≡ y
+unfolding acts onState searches
+search-stays x d = unmoved (search′ x d) (λ h. refl)
 
 -- 01, Opening a text: 1 changes nothing, 2 to 10 close the machine; 02, note 11: so does 29
 module _ (k : Ask) (o : Opening) (is : (y : Machine) → asked y k ≡ opens o) (h : Opens k (opens o)) where

@@ -20,7 +20,7 @@ use Rattle.rules.specs.Listing.{Entry}
 use Rattle.machine.specs.State.{State, GoodState}
 use Rattle.machine.specs.Timed.{Timed, timed, GoodTimed}
 use Rattle.machine.specs.Saves.{Saves, Stored, saving, returning, forgetting}
-use Rattle.machine.specs.Machine.{Listed, entriesAre, refusedWith, listing, Turn, turn, drawn, refusedAs, withWait, stepsIn, timesWith, showing, lists, sharing, reports, choosing, stepsWith, Held, held, timedOf, Good, onState, onClock, onSaves, Request, list′, step′, report′, timed′, save′, return′, forget′, acts, openedState}
+use Rattle.machine.specs.Machine.{Listed, entriesAre, refusedWith, listing, Turn, turn, drawn, refusedAs, withWait, stepsIn, timesWith, showing, lists, sharing, reports, choosing, stepsWith, searches, Held, held, timedOf, Good, onState, onClock, onSaves, Request, list′, step′, report′, search′, timed′, save′, return′, forget′, acts, openedState}
 use Rattle.machine.specs.Questions.{Steps, no15, no16, no17, no18, no19, yes19}
 use Rattle.machine.proofs.Listing.{accepted}
 use Rattle.machine.proofs.Stepping as stepping
@@ -49,6 +49,10 @@ module _ (m : Resolved.Model) (s : State) (g : GoodState m s) where
       by : (l : Listed) → GoodState m (sharing m s l .machine)
       by (entriesAre es) = g
       by (refusedWith a) = g
+
+  search-good : (x : List ℕ) (d : ℕ) → GoodState m (searches x d m s .machine)
+  unfolding searches
+  search-good x d = g
 
   step-good : GoodModel m → (d : ℕ) → GoodState m (stepsWith d m s .machine)
   unfolding stepsWith choosing
@@ -129,6 +133,7 @@ unfolding acts
 acts-good list′ h k g = state-good lists h g (list-good (h .model) (h .state) (g .state))
 acts-good (step′ d) h k g = state-good (stepsWith d) h g (step-good (h .model) (h .state) (g .state) k d)
 acts-good report′ h k g = state-good reports h g (report-good (h .model) (h .state) (g .state))
+acts-good (search′ x d) h k g = state-good (searches x d) h g (search-good (h .model) (h .state) (g .state) x d)
 acts-good (timed′ ds d) h k g = clock-good (timesWith ds d) h g (times-good (h .model) (h .state) (h .clock) k (g .state) (g .clock) ds d)
 acts-good (save′ n) h k g = saves-good (saving n) h (saving-holds (GoodTimed (h .model)) n (timedOf h) (h .saves) (timed-good h g) (g .saves))
 acts-good (return′ n) h k g = saves-good (returning n) h (returning-holds (GoodTimed (h .model)) n (timedOf h) (h .saves) (timed-good h g) (g .saves))
@@ -140,6 +145,7 @@ unfolding acts onState onClock onSaves
 same-model list′ h = refl
 same-model (step′ d) h = refl
 same-model report′ h = refl
+same-model (search′ x d) h = refl
 same-model (timed′ ds d) h = refl
 same-model (save′ n) h = refl
 same-model (return′ n) h = refl

@@ -27,6 +27,7 @@ pub mod Starred
 pub mod Lent
 pub mod Carries
 pub mod Latest
+pub mod Searching
 pub mod Report
 pub mod Independent
 pub mod Profile

@@ -39,7 +39,7 @@ module _ (ls : List ℤ) where
 
   acting : (p : Resolved.Action) (a : offers.Action) → evalAction ls p ≡ some a → Acting ls p a
   unfolding evalAction
-  acting Resolved.wait a e = subst (Acting ls Resolved.wait) (some-is _ a e) waits
+  acting (Resolved.wait k) a e = subst (Acting ls (Resolved.wait k)) (some-is _ a e) waits
   acting (Resolved.launch c es) a e = of-pair offers.launch _ c es a (λ x h. launches h) e
   acting (Resolved.kill c es) a e = of-pair offers.kill _ c es a (λ x h. kills h) e
   acting (Resolved.receive c ss) a e = of-query offers.receive _ c ss a (λ w h. receives h) e

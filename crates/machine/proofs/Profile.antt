@@ -23,11 +23,13 @@ use Rattle.profile.specs.Opening.{openingSteady}
 use Rattle.profile.specs.Steady.{Steady}
 use Rattle.profile.proofs.InOrder.{answered-steady, steady-numbers}
 use Rattle.profile.proofs.Opened.{opened-plain, opened-steady}
+use Rattle.runs.specs.Tree as tree
+use Rattle.runs.specs.Walk as walk
 use Rattle.machine.specs.State.{State}
 use Rattle.machine.specs.Timed.{Timed, timed}
 use Rattle.machine.specs.Saves.{isName, Saves, SavesOf, saveLimit, placeOf, placeFor, keptUnder, Stored, stored, replaced, removed, saving, returning, forgetting}
-use Rattle.machine.specs.Machine.{asLent, Answer, no, listedAs, reportedAs, entryLimit, totalLimit, Listed, entriesAre, refusedWith, counted, listing, Turn, turn, drawn, refusedAs, withWait, stepsIn, timesWith, showing, lists, sharing, reports, choosing, stepsWith}
-use Rattle.machine.specs.Machine.{Held, held, timedOf, Good, Machine, closed, holding, onState, onClock, onSaves, Request, list′, step′, report′, timed′, save′, return′, forget′, Ask, open′, openSteady′, on′, acts, Part, hasLengths, Call, call, openedState, onMachine, asked, calls, after}
+use Rattle.machine.specs.Machine.{asLent, Answer, no, listedAs, reportedAs, entryLimit, totalLimit, Listed, entriesAre, refusedWith, counted, listing, Turn, turn, drawn, refusedAs, withWait, stepsIn, timesWith, showing, lists, sharing, reports, choosing, stepsWith, foundAs, movesTo, isDepth, searchedAs, searches}
+use Rattle.machine.specs.Machine.{Held, held, timedOf, Good, Machine, closed, holding, onState, onClock, onSaves, Request, list′, step′, report′, search′, timed′, save′, return′, forget′, Ask, open′, openSteady′, on′, acts, Part, hasLengths, Call, call, openedState, onMachine, asked, calls, after}
 use Rattle.machine.specs.Machine as machine
 use Rattle.machine.specs.Questions.{no12, no13, no14, yes14}
 use Rattle.machine.specs.Questions as questions
@@ -66,6 +68,16 @@ module _ (m : Resolved.Model) (s : State) where
       by (no13 e h l) = λ e. omega arith
       by (no14 e h l f) = λ e. omega arith
       by (yes14 e h l f) = λ e. omega arith
+
+  search-not : (x : List ℕ) (d : ℕ) → Not18 (searches x d m s)
+  unfolding searches searchedAs foundAs no
+  search-not x d = by (isDepth d) (walk.search (movesTo m x) s d)
+    where
+      by : (b : Bool) (w : tree.Answer) → cond b (searchedAs w) (no 26 0 0 asLent) .number ≡ 18 → ⊥
+      by true (tree.found r) e = omega arith
+      by true tree.nothing e = omega arith
+      by true tree.unsure e = omega arith
+      by false w e = omega arith
 
   list-few : length (lists m s .machine .processes) ≤ length (s .processes)
   unfolding lists showing
@@ -179,6 +191,7 @@ unfolding acts onState onClock timesWith onSaves no
 request-not list′ h f = list-not (h .model) (h .state)
 request-not (step′ d) h f = step-kept (h .model) (h .state) (f .steady) d .not-eighteen (f .good .state .few-processes)
 request-not report′ h f = report-not (h .model) (h .state)
+request-not (search′ x d) h f = search-not (h .model) (h .state) x d
 request-not (timed′ ds d) h f = timed-not (h .state) (h .clock) ds _ (step-kept (h .model) (h .state) (f .steady) d) (f .good .state .few-processes)
 request-not (save′ n) h f = save-not n (timedOf h) (h .saves)
 request-not (return′ n) h f = return-not n (timedOf h) (h .saves)
@@ -189,6 +202,7 @@ unfolding acts onState onClock timesWith IsStep
 step-few list′ h f i = absurd i
 step-few (step′ d) h f i = step-kept (h .model) (h .state) (f .steady) d .few
 step-few report′ h f i = absurd i
+step-few (search′ x d) h f i = absurd i
 step-few (timed′ ds d) h f i = timed-few (h .state) (h .clock) ds _ (step-kept (h .model) (h .state) (f .steady) d)
 step-few (save′ n) h f i = absurd i
 step-few (return′ n) h f i = absurd i
@@ -204,6 +218,7 @@ unfolding acts onState onClock timesWith onSaves
 request-within list′ h f = record { now = omega (arith, list-few (h .model) (h .state), f .now); kept = f .kept }
 request-within (step′ d) h f = record { now = omega (arith, step-kept (h .model) (h .state) (f .steady) d .few, f .now); kept = f .kept }
 request-within report′ h f = record { now = omega (arith, report-few (h .model) (h .state), f .now); kept = f .kept }
+request-within (search′ x d) h f = record { now = unfold searches in f .now; kept = f .kept }
 request-within (timed′ ds d) h f = record { now = omega (arith, timed-few (h .state) (h .clock) ds _ (step-kept (h .model) (h .state) (f .steady) d), f .now); kept = f .kept }
 request-within {n} (save′ k) h f = let x = saving-holds (Few n) k (timedOf h) (h .saves) (f .now) (f .kept) in record { now = x .kept; kept = x .saves }
 request-within {n} (return′ k) h f = let x = returning-holds (Few n) k (timedOf h) (h .saves) (f .now) (f .kept) in record { now = x .kept; kept = x .saves }

@@ -203,7 +203,7 @@ module _ (m : Resolved.Model) (ls : List ℤ) (r : Every InRange ls) (n : ℕ) w
 
   pub action-good : (b : Resolved.Action) (a : offers.Action) → GoodAction m n b → evalAction ls b ≡ some a → GoodOffer m a
   unfolding evalAction GoodAction GoodOffer
-  action-good Resolved.wait a g q = subst (GoodOffer m) (some-is _ a q) tt
+  action-good (Resolved.wait k) a g q = subst (GoodOffer m) (some-is _ a q) tt
   action-good (Resolved.launch c v) a g q = paired offers.launch (λ x h. h) c v a g q
   action-good (Resolved.kill c v) a g q = paired offers.kill (λ x h. h) c v a g q
   action-good (Resolved.receive c s) a g q = queried offers.receive (λ x h. h) c s a g q

@@ -143,12 +143,12 @@ module _ (m : Resolved.Model) (good : GoodModel m) where
           change = tt;
         }
 
-    -- ---- an accepted step
-    pub step-good : {es : List Entry} {d c : ℕ} {n : Change} {ps : List Process}
-        → Ready m s es d c n ps → length ps ≤ processLimit → length (pairsAfter n (s .pairs)) ≤ pairLimit
+    -- ---- what the rules move to, within the limits
+    pub moves-good : {k : Key} {v : ℕ} {n : Change} {ps : List Process}
+        → Moves (branches m) s k v n ps → length ps ≤ processLimit → length (pairsAfter n (s .pairs)) ≤ pairLimit
         → GoodState m (record { processes = ps; pairs = pairsAfter n (s .pairs) })
-    step-good {n = n} r l f =
-        let t = moved (r .moves) in
+    moves-good {n = n} h l f =
+        let t = moved h in
         record {
           few-processes = l;
           processes = t .processes;
@@ -156,3 +156,9 @@ module _ (m : Resolved.Model) (good : GoodModel m) where
           pairs = pairs-good n (s .pairs) (state .ascending) (t .change) (state .pairs);
           ascending = pairs-ascend n (s .pairs) (state .ascending);
         }
+
+    -- an accepted step
+    pub step-good : {es : List Entry} {d c : ℕ} {n : Change} {ps : List Process}
+        → Ready m s es d c n ps → length ps ≤ processLimit → length (pairsAfter n (s .pairs)) ≤ pairLimit
+        → GoodState m (record { processes = ps; pairs = pairsAfter n (s .pairs) })
+    step-good r l f = moves-good (r .moves) l f

@@ -133,7 +133,7 @@ evalQuery ls c ss = given (evalChannel ls c) (λ x. given (evalAll (evalSet ls) 
 
 -- 01, Model text, actions: each in turn
 unfoldable pub evalAction : List ℤ → Resolved.Action → Option offers.Action
-evalAction ls Resolved.wait = some offers.wait
+evalAction ls (Resolved.wait k) = some offers.wait
 evalAction ls (Resolved.launch c v) = given (evalPair ls c v) (λ x. some (offers.launch x))
 evalAction ls (Resolved.kill c v) = given (evalPair ls c v) (λ x. some (offers.kill x))
 evalAction ls (Resolved.receive c s) = given (evalQuery ls c s) (λ w. some (offers.receive w))

@@ -8,7 +8,7 @@ use Prim.Native.Nat.{ℕ}
 use lib.Dec.{eqb}
 use Rattle.machine.specs.Timed.{Timed}
 use Rattle.machine.specs.Saves.{same, keptUnder}
-use Rattle.machine.specs.Machine.{Held, timedOf, Machine, closed, holding, Request, list′, step′, report′, timed′, save′, return′, forget′, Ask, open′, openSteady′, on′, Call, calls, after}
+use Rattle.machine.specs.Machine.{Held, timedOf, Machine, closed, holding, Request, list′, step′, report′, search′, timed′, save′, return′, forget′, Ask, open′, openSteady′, on′, Call, calls, after}
 
 -- the state and the clock that the machine has under a name
 unfoldable pub keptIn : List ℕ → Machine → Option Timed
@@ -21,6 +21,7 @@ unfoldable pub savesName : List ℕ → Request → Bool
 savesName n list′ = false
 savesName n (step′ d) = false
 savesName n report′ = false
+savesName n (search′ x d) = false
 savesName n (timed′ ds d) = false
 savesName n (save′ k) = same k n
 savesName n (return′ k) = false
@@ -30,6 +31,7 @@ unfoldable pub forgetsName : List ℕ → Request → Bool
 forgetsName n list′ = false
 forgetsName n (step′ d) = false
 forgetsName n report′ = false
+forgetsName n (search′ x d) = false
 forgetsName n (timed′ ds d) = false
 forgetsName n (save′ k) = false
 forgetsName n (return′ k) = false

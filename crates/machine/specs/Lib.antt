@@ -12,9 +12,11 @@ pub mod Specimens
 pub mod Rows
 pub mod Refusals
 pub mod TimedRows
+pub mod SearchRows
 pub mod Starred
 pub mod Results
 pub mod Steady
 pub mod Latest
 pub mod Independent
 pub mod Orders
+pub mod Searching

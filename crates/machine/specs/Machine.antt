@@ -1,12 +1,13 @@
 -- The rule machine (01, State and rule machine): fed texts, draws and the lengths of all that is lent, it answers each call and reads no buffer. What it holds is a
 -- record, a call asks something and carries the lengths of the parts that it is lent. Assumes nothing: these are definitions.
-use mathlib.Core.List.{List, [], _∷_, _++_}
+use mathlib.Core.List.{List, [], _∷_, _++_, map}
 use mathlib.Core.Bool.{Bool, true, false, cond, _&&_, _||_}
 use mathlib.Core.Option.{Option, none, some, Option·elim}
 use Prim.Native.Nat.{ℕ, zero, suc, _+_, _*_}
 use lib.Dec.{eqb, leb}
 use lib.IntN.{ℤ}
 use lib.ListN.{length, getElem?}
+use Rattle.token.specs.Token.{sameBytes}
 use Rattle.token.specs.Questions.{textLimit}
 use Rattle.model.specs.Resolved
 use Rattle.model.specs.Opening.{processLimit, Opening, refused, opened, opening}
@@ -14,9 +15,11 @@ use Rattle.profile.specs.Opening.{openingSteady}
 use Rattle.rules.specs.Offers as offers
 use Rattle.rules.specs.Kind as kind
 use Rattle.rules.specs.Rules.{Key, key}
-use Rattle.rules.specs.Listing.{Entry, keyOf, entries}
+use Rattle.rules.specs.Listing.{Entry, entry, keyOf, entries}
 use Rattle.rules.specs.Draw.{weights, total, chosen}
 use Rattle.rules.specs.Step as steps
+use Rattle.runs.specs.Tree as tree
+use Rattle.runs.specs.Walk as walk
 use Rattle.clock.specs.declared.Clock.{Clock}
 use Rattle.clock.specs.declared.Brought.{Brought}
 use Rattle.clock.specs.Clock.{freshClock, InRange, broughtBy}
@@ -61,19 +64,24 @@ pub record Answer : Type 0 where
   pub count : ℕ
   pub total : ℕ
   pub chosen : ℕ
+  pub run : List ℕ  -- 02, note 8: the entry numbers of the run that a search answers
   pub listing : Shown
 
 -- 01, Opening a text, Listing and stepping: a refusal carries 0 beyond its number and places, as does an opening's acceptance
 unfoldable pub no : ℕ → ℕ → ℕ → Shown → Answer
-no n p b l = record { number = n; place = p; branch = b; count = 0; total = 0; chosen = 0; listing = l }
+no n p b l = record { number = n; place = p; branch = b; count = 0; total = 0; chosen = 0; run = []; listing = l }
 
 -- 01, Listing and stepping: acceptance and 15 to 19 carry entry count and total, and leave the listing filled
 unfoldable pub listedAs : ℕ → ℕ → List Entry → Answer
-listedAs n c es = record { number = n; place = 0; branch = 0; count = length es; total = total (weights es); chosen = c; listing = filled es }
+listedAs n c es = record { number = n; place = 0; branch = 0; count = length es; total = total (weights es); chosen = c; run = []; listing = filled es }
 
 -- 02, note 6: an accepted report carries entry count and total as a list call does, and leaves these numbers
 unfoldable pub reportedAs : List ℕ → List Entry → Answer
-reportedAs ns es = record { number = 0; place = 0; branch = 0; count = length es; total = total (weights es); chosen = 0; listing = reported ns }
+reportedAs ns es = record { number = 0; place = 0; branch = 0; count = length es; total = total (weights es); chosen = 0; run = []; listing = reported ns }
+
+-- 02, note 8: a search answers a run, the empty one where there is none
+unfoldable pub foundAs : List ℕ → Answer
+foundAs r = record { number = 0; place = 0; branch = 0; count = 0; total = 0; chosen = 0; run = r; listing = asLent }
 
 -- what a call leaves, and its answer
 pub record Turn (M : Type 0) : Type 0 where
@@ -181,11 +189,65 @@ choosing m s d (refusedWith a) = turn s a
 unfoldable pub stepsWith : ℕ → Resolved.Model → State → Turn State
 stepsWith d m s = choosing m s d (listing m s)
 
+-- ---- the search for a wait (02, notes 8 and 9)
+
+-- 02, note 8: is the action a wait of this name?
+unfoldable pub isWait : Resolved.Model → (name : List ℕ) → Resolved.Action → Bool
+isWait m x (Resolved.wait k) = sameBytes (m .words k) x
+isWait m x (Resolved.launch c v) = false
+isWait m x (Resolved.kill c v) = false
+isWait m x (Resolved.receive c q) = false
+isWait m x (Resolved.bind c q) = false
+isWait m x (Resolved.check c q) = false
+isWait m x (Resolved.handSend c v) = false
+isWait m x (Resolved.handReceive c q) = false
+isWait m x (Resolved.handBind c q) = false
+
+-- 02, note 8: is an entry's branch one?
+unfoldable pub isSought : Resolved.Model → (name : List ℕ) → State → Key → Bool
+isSought m x s (key c i j k n q) =
+    eqb c kind.wait && Option·elim (getElem? (s .processes) i) false (λ p. Option·elim (getElem? (branchesOf m p) j) false (λ b. isWait m x (b .action)))
+
+-- 02, note 8: 17 to 19, or the state that taking an entry leads to; h: whether it is the wait
+unfoldable pub wayTaken : Bool → Turn State → tree.Way State
+wayTaken h t = cond (eqb (t .answer .number) 0) (tree.leads h (t .machine)) tree.refused
+
+-- 02, note 8: only entries above weight zero are taken, without a draw
+unfoldable pub wayOf : Resolved.Model → (name : List ℕ) → State → List Entry → Entry → tree.Way State
+wayOf m x s es (entry k w) = cond (eqb w 0) tree.idle (wayTaken (isSought m x s k) (taken m s es 0 k))
+
+-- 02, note 8: 12 to 14, or the entries
+unfoldable pub movesOf : Resolved.Model → (name : List ℕ) → State → Listed → tree.Listed State
+movesOf m x s (refusedWith a) = tree.unlisted
+movesOf m x s (entriesAre es) = tree.lists (map (wayOf m x s es) es)
+
+-- what a search goes over
+unfoldable pub movesTo : Resolved.Model → (name : List ℕ) → State → tree.Listed State
+movesTo m x s = movesOf m x s (listing m s)
+
+-- 02, note 8: the deepest search, and how many entry numbers an answer has
+abbrev pub depthLimit : ℕ
+depthLimit = 8
+
+-- 02, note 8, 26
+unfoldable pub isDepth : ℕ → Bool
+isDepth d = leb 1 d && leb d depthLimit
+
+-- 02, note 8: the run, none, or 27
+unfoldable pub searchedAs : tree.Answer → Answer
+searchedAs (tree.found r) = foundAs r
+searchedAs tree.nothing = no 0 0 0 asLent
+searchedAs tree.unsure = no 27 0 0 asLent
+
+-- 02, notes 8 and 9: 26, then the first run of at most d entries to the wait of this name; the state isn't touched
+unfoldable pub searches : (name : List ℕ) (depth : ℕ) → Resolved.Model → State → Turn State
+searches x d m s = turn s (cond (isDepth d) (searchedAs (walk.search (movesTo m x) s d)) (no 26 0 0 asLent))
+
 -- ---- turns of a state and a clock (02, note 4)
 
 -- 02, note 4: 23 to 25 answer as 19 does: with the count and total of the listing, which stays filled, and 0 as chosen entry
 unfoldable pub refusedAs : ℕ → Answer → Answer
-refusedAs n a = record { number = n; place = 0; branch = 0; count = a .count; total = a .total; chosen = 0; listing = a .listing }
+refusedAs n a = record { number = n; place = 0; branch = 0; count = a .count; total = a .total; chosen = 0; run = []; listing = a .listing }
 
 -- 02, note 4: a step from s that was accepted, and what the waiting draws made of the clock c: both go on, or neither
 unfoldable pub withWait : State → Clock → Turn State → Brought → Turn Timed
@@ -261,11 +323,12 @@ onSaves f h = let x = f (timedOf h) (h .saves) in turn (storedIn h x) (no (x .nu
 
 -- ---- calls
 
--- 01, Listing and stepping, and 02, notes 2, 4 and 6: requests to a model that is held, of which 11 is asked first
+-- 01, Listing and stepping, and 02, notes 2, 4, 6 and 8: requests to a model that is held, of which 11 is asked first
 pub data Request : Type 0 where
   list′ : Request
   step′ : (draw : ℕ) → Request
   report′ : Request
+  search′ : (name : List ℕ) (depth : ℕ) → Request
   timed′ : (waiting : List ℕ) (draw : ℕ) → Request
   save′ : (name : List ℕ) → Request
   return′ : (name : List ℕ) → Request
@@ -282,6 +345,7 @@ unfoldable pub acts : Request → Held → Turn Held
 acts list′ = onState lists
 acts (step′ d) = onState (stepsWith d)
 acts report′ = onState reports
+acts (search′ x d) = onState (searches x d)
 acts (timed′ ds d) = onClock (timesWith ds d)
 acts (save′ n) = onSaves (saving n)
 acts (return′ n) = onSaves (returning n)
@@ -309,7 +373,7 @@ partNumber state = 1
 partNumber saves = 2
 partNumber clock = 3
 
--- the two that every list, step and report is lent
+-- the two that every list, step, report and search is lent
 abbrev pub twoParts : List Part
 twoParts = model ∷ state ∷ []
 
@@ -330,6 +394,7 @@ abbrev pub uses : Request → List Part
 uses list′ = twoParts
 uses (step′ d) = twoParts
 uses report′ = twoParts
+uses (search′ x d) = twoParts
 uses (timed′ ds d) = timedParts
 uses (save′ n) = fourParts
 uses (return′ n) = fourParts
@@ -348,6 +413,7 @@ outputOf (openSteady′ text) = none
 outputOf (on′ list′) = some listingLength
 outputOf (on′ (step′ d)) = some listingLength
 outputOf (on′ report′) = some reportLength
+outputOf (on′ (search′ x d)) = none
 outputOf (on′ (timed′ ds d)) = some listingLength
 outputOf (on′ (save′ n)) = none
 outputOf (on′ (return′ n)) = none

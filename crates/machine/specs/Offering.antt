@@ -22,7 +22,7 @@ pub record Asked (ls : List ℤ) (c : Resolved.Channel) (ss : List Resolved.Set)
 
 -- 01, Model text, actions: each kind of action keeps its kind
 pub data Acting (ls : List ℤ) : Resolved.Action → offers.Action → Type 0 where
-  waits : Acting ls Resolved.wait offers.wait  -- (8)
+  waits : {k : ℕ} → Acting ls (Resolved.wait k) offers.wait  -- (8)
   launches : {c : Resolved.Channel} {es : List Resolved.Expr} {x : offers.Pair} → Sent ls c es x → Acting ls (Resolved.launch c es) (offers.launch x)  -- (9)
   kills : {c : Resolved.Channel} {es : List Resolved.Expr} {x : offers.Pair} → Sent ls c es x → Acting ls (Resolved.kill c es) (offers.kill x)  -- (10)
   receives : {c : Resolved.Channel} {ss : List Resolved.Set} {w : offers.Query} → Asked ls c ss w → Acting ls (Resolved.receive c ss) (offers.receive w)  -- (11)

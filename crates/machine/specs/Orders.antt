@@ -23,7 +23,7 @@ use Rattle.machine.specs.Machine.{accepting, openedState, stepsWith}
 
 -- a sum of definition d that waits with rate 1 and goes on so
 abbrev waits : ℕ → List Resolved.Part → Resolved.Sum
-waits d next = record { locals = 0; definition = d; branches = record { gate = none; action = Resolved.wait; rate = Resolved.plain (Resolved.fixed (pos 10000)); next = next } ∷ [] }
+waits d next = record { locals = 0; definition = d; branches = record { gate = none; action = Resolved.wait 0; rate = Resolved.plain (Resolved.fixed (pos 10000)); next = next } ∷ [] }
 
 -- P[] = {a,1}.Q[]; Q[] = {b,1} || {c,1}; P[] || P[]
 abbrev several : Resolved.Model
@@ -32,6 +32,7 @@ several = record {
   definitions = record { params = 0; sums = 0 ∷ [] } ∷ record { params = 0; sums = 1 ∷ 2 ∷ [] } ∷ [];
   channels = 0;
   starts = record { definition = 0; count = 2; values = [] } ∷ [];
+  words = λ k. [];
 }
 
 -- P's process, and Q's two

@@ -20,7 +20,7 @@ use Rattle.machine.specs.Evaluate as evaluate
 use Rattle.machine.specs.Offer as offer
 use Rattle.machine.specs.State.{State}
 use Rattle.machine.specs.Machine as machine
-use Rattle.machine.specs.Specimens.{single, alone, fixed, chain}
+use Rattle.machine.specs.Specimens.{single, alone, fixed, chain, unnamed}
 
 -- what a list call and a step with draw 0 are answered
 abbrev listed : Resolved.Model → State → ℕ
@@ -33,7 +33,7 @@ stepped m s = machine.stepsWith 0 m s .answer .number
 
 -- {go,r}
 abbrev waits : ℤ → Resolved.Branch
-waits r = record { gate = none; action = Resolved.wait; rate = fixed r; next = [] }
+waits r = record { gate = none; action = Resolved.wait 0; rate = fixed r; next = [] }
 
 -- a sum without locals
 abbrev sumOver : List Resolved.Branch → Resolved.Sum
@@ -61,10 +61,11 @@ hall n = record { processes = record { sum = 0; locals = []; definition = 0 } �
 -- A[x] = {go,1}, and then these
 abbrev going : List Resolved.Part → Resolved.Model
 going xs = record {
-  sums = record { locals = 1; definition = 0; branches = record { gate = none; action = Resolved.wait; rate = fixed (pos 10000); next = xs } ∷ [] } ∷ [];
+  sums = record { locals = 1; definition = 0; branches = record { gate = none; action = Resolved.wait 0; rate = fixed (pos 10000); next = xs } ∷ [] } ∷ [];
   definitions = record { params = 1; sums = 0 ∷ [] } ∷ [];
   channels = 0;
   starts = record { definition = 0; count = 1; values = pos 1 ∷ [] } ∷ [];
+  words = unnamed;
 }
 
 -- A[1]
@@ -86,6 +87,7 @@ dividing n = record {
   definitions = record { params = 0; sums = 0 ∷ 1 ∷ [] } ∷ record { params = 1; sums = 2 ∷ [] } ∷ [];
   channels = 1;
   starts = record { definition = 0; count = 1; values = [] } ∷ [];
+  words = unnamed;
 }
 
 -- ---- 19

@@ -6,8 +6,9 @@ use mathlib.Core.Bool.{true}
 use mathlib.Core.Logic.{_⊎_}
 use mathlib.Core.Option.{some}
 use Prim.Native.Nat.{ℕ, _≤_}
+use lib.ListN.{length}
 use Rattle.rules.specs.Listing.{Entry}
-use Rattle.machine.specs.Machine.{asLent, zeroed, Answer, no, listedAs, reportedAs, Request, list′, step′, report′, timed′, save′, return′, forget′, Ask, open′, openSteady′, on′, Part, size, lentTo, outputOf, isLent, Call}
+use Rattle.machine.specs.Machine.{asLent, zeroed, Answer, no, listedAs, reportedAs, foundAs, depthLimit, Request, list′, step′, report′, search′, timed′, save′, return′, forget′, Ask, open′, openSteady′, on′, Part, size, lentTo, outputOf, isLent, Call}
 
 -- a request, not an opening
 unfoldable pub Runs : Ask → Type 0
@@ -20,6 +21,7 @@ unfoldable pub Lists : Request → Type 0
 Lists list′ = Unit {0}
 Lists (step′ d) = Unit {0}
 Lists report′ = Unit {0}
+Lists (search′ x d) = ⊥
 Lists (timed′ ds d) = Unit {0}
 Lists (save′ n) = ⊥
 Lists (return′ n) = ⊥
@@ -30,6 +32,7 @@ unfoldable pub Chooses : Request → Type 0
 Chooses list′ = ⊥
 Chooses (step′ d) = Unit {0}
 Chooses report′ = ⊥
+Chooses (search′ x d) = ⊥
 Chooses (timed′ ds d) = Unit {0}
 Chooses (save′ n) = ⊥
 Chooses (return′ n) = ⊥
@@ -40,6 +43,7 @@ unfoldable pub Names : Request → Type 0
 Names list′ = ⊥
 Names (step′ d) = ⊥
 Names report′ = ⊥
+Names (search′ x d) = ⊥
 Names (timed′ ds d) = ⊥
 Names (save′ n) = Unit {0}
 Names (return′ n) = Unit {0}
@@ -81,3 +85,7 @@ pub data Carries : Ask → Answer → Type 0 where
   return21 : {n : List ℕ} → Carries (on′ (return′ n)) (no 21 0 0 asLent)
   forget21 : {n : List ℕ} → Carries (on′ (forget′ n)) (no 21 0 0 asLent)
   save22 : {n : List ℕ} → Carries (on′ (save′ n)) (no 22 0 0 asLent)
+  -- 02, note 8: a search carries a run, empty where there is none, that has at most as many entries as its result has room for; or a number alone
+  searches : {x : List ℕ} {d : ℕ} (r : List ℕ) → length r ≤ depthLimit → Carries (on′ (search′ x d)) (foundAs r)
+  under26 : {x : List ℕ} {d : ℕ} → Carries (on′ (search′ x d)) (no 26 0 0 asLent)
+  under27 : {x : List ℕ} {d : ℕ} → Carries (on′ (search′ x d)) (no 27 0 0 asLent)

@@ -10,6 +10,8 @@ use Rattle.value.specs.Arithmetic.{sumOf, floorQuotient, quotientOf}
 use Rattle.grammar.specs.Grammar.{less, greater}
 use Rattle.grammar.specs.Syntax.{plus, divide}
 use Rattle.value.specs.Items.{oneItem}
+use Rattle.model.specs.Texts as texts
+use Rattle.model.specs.Words.{wordOf}
 use Rattle.model.specs.Resolved
 use Rattle.rules.specs.Offers as offers
 use Rattle.rules.specs.Kind as kind
@@ -47,7 +49,7 @@ lamp = record {
       }
       ∷ record {
         gate = some (Resolved.compare false less (Resolved.localAt 0) (Resolved.constant (pos 3)));
-        action = Resolved.wait;
+        action = Resolved.wait 34;
         rate = Resolved.scaled (Resolved.fixed (pos 2500)) (Resolved.localAt 0);
         next = Resolved.call 0 (oneMore ∷ []) ∷ [];
       }
@@ -78,6 +80,7 @@ sheet = record {
   starts =
       record { definition = 0; count = 1; values = pos 1 ∷ [] } ∷ record { definition = 0; count = 1; values = pos 4 ∷ [] }
       ∷ record { definition = 1; count = 1; values = pos 1 ∷ [] } ∷ [];
+  words = wordOf texts.sheet;
 }
 
 -- a process of sum n with one local; here each definition has one sum, of the same number
@@ -98,13 +101,17 @@ rows w = lists.entry (key kind.handshake 0 0 2 0 0) 300000000 ∷ lists.entry (k
 abbrev pub single : Resolved.Action → Resolved.Rate → List Resolved.Part → Resolved.Sum
 single a r next = record { locals = 0; definition = 0; branches = record { gate = none; action = a; rate = r; next = next } ∷ [] }
 
+-- tokens that tell no name
+abbrev pub unnamed : ℕ → List ℕ
+unnamed k = []
+
 -- one definition, whose sum is the first
 abbrev pub alone : List Resolved.Sum → Resolved.Model
-alone ss = record { sums = ss; definitions = record { params = 0; sums = 0 ∷ [] } ∷ []; channels = 1; starts = record { definition = 0; count = 1; values = [] } ∷ [] }
+alone ss = record { sums = ss; definitions = record { params = 0; sums = 0 ∷ [] } ∷ []; channels = 1; starts = record { definition = 0; count = 1; values = [] } ∷ []; words = unnamed }
 
 -- A[] = {go,r}
 abbrev rated : Resolved.Rate → Resolved.Model
-rated r = alone (single Resolved.wait r [] ∷ [])
+rated r = alone (single (Resolved.wait 5) r [] ∷ [])
 
 -- a rate in ten-thousandths
 abbrev pub fixed : ℤ → Resolved.Rate
@@ -150,7 +157,7 @@ divided = Resolved.compare false less quotient (Resolved.constant (pos 1))
 
 -- {go,1*(y/i)} behind this gate
 abbrev gated : Option Resolved.Cond → Resolved.Branch
-gated g = record { gate = g; action = Resolved.wait; rate = Resolved.scaled (Resolved.fixed (pos 10000)) quotient; next = [] }
+gated g = record { gate = g; action = Resolved.wait 0; rate = Resolved.scaled (Resolved.fixed (pos 10000)) quotient; next = [] }
 
 pub specimens :
     -- this sheet and its total

@@ -6,7 +6,7 @@ use mathlib.Core.Bool.{false}
 use mathlib.Core.Logic.{_⊎_}
 use Prim.Native.Nat.{ℕ, _≤_}
 use lib.ListN.{length}
-use Rattle.machine.specs.Machine.{Held, Machine, closed, holding, Request, list′, step′, report′, timed′, save′, return′, forget′, Ask, open′, openSteady′, on′, hasLengths, Call, calls}
+use Rattle.machine.specs.Machine.{Held, Machine, closed, holding, Request, list′, step′, report′, search′, timed′, save′, return′, forget′, Ask, open′, openSteady′, on′, hasLengths, Call, calls}
 use Rattle.machine.specs.Results.{Runs}
 
 -- how many processes there are
@@ -19,6 +19,7 @@ unfoldable pub IsStep : Request → Type 0
 IsStep list′ = ⊥
 IsStep (step′ d) = Unit {0}
 IsStep report′ = ⊥
+IsStep (search′ x d) = ⊥
 IsStep (timed′ ds d) = Unit {0}
 IsStep (save′ n) = ⊥
 IsStep (return′ n) = ⊥

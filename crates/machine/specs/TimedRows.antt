@@ -28,7 +28,7 @@ use Rattle.machine.specs.Specimens.{single, alone, fixed}
 
 -- A[] = {go,r}, and then these
 abbrev going : ℤ → List Resolved.Part → Resolved.Model
-going r xs = alone (single Resolved.wait (fixed r) xs ∷ [])
+going r xs = alone (single (Resolved.wait 5) (fixed r) xs ∷ [])
 
 -- 1/0, for a definition that takes no value: an argument all the same
 abbrev missing : Resolved.Expr

@@ -11,6 +11,7 @@ use Rattle.grammar.specs.Syntax.{plus}
 use Rattle.value.specs.Items.{oneItem}
 use Rattle.model.specs.Good.{scaleLimit}
 use Rattle.model.specs.Resolved
+use Rattle.model.specs.Words.{wordOf}
 use Rattle.model.specs.Opening.{refused, opened, opening}
 use Rattle.model.specs.Texts.{sheet, bracket}
 use Rattle.model.proofs.Computes.{judgedBytes, kindsIn, written, ran, judgedTree, placed, opens-so, stops-so}
@@ -65,12 +66,12 @@ unfolding judgedBytes kindsIn ran placed
 missing-bracket = stops-so bracket 14 15 refl refl refl
 
 -- a wait resolved, at a rate that is this scale
-abbrev waiting : Resolved.Scale → Resolved.Branch
-waiting r = record { gate = none; action = Resolved.wait; rate = Resolved.plain r; next = [] }
+abbrev waiting : ℕ → Resolved.Scale → Resolved.Branch
+waiting n r = record { gate = none; action = Resolved.wait n; rate = Resolved.plain r; next = [] }
 
 -- {go,1} resolved
 abbrev goes : Resolved.Branch
-goes = waiting (Resolved.fixed (pos 10000))
+goes = waiting 5 (Resolved.fixed (pos 10000))
 
 -- {c?[1](x),1} resolved, then what follows
 abbrev receiving : List Resolved.Part → Resolved.Branch
@@ -81,14 +82,14 @@ receiving next =
 abbrev sumOf : ℕ → Resolved.Branch → Resolved.Sum
 sumOf n b = record { locals = n; definition = 0; branches = b ∷ [] }
 
--- one definition without parameters, of which the first sum is its own, with c channel names, started n times
-abbrev several : List Resolved.Sum → ℕ → ℕ → Resolved.Model
-several ss c n =
-    record { sums = ss; definitions = record { params = 0; sums = 0 ∷ [] } ∷ []; channels = c; starts = record { definition = 0; count = n; values = [] } ∷ [] }
+-- one definition without parameters, of which the first sum is its own, with c channel names, started n times, in this text
+abbrev several : List ℕ → List Resolved.Sum → ℕ → ℕ → Resolved.Model
+several text ss c n =
+    record { sums = ss; definitions = record { params = 0; sums = 0 ∷ [] } ∷ []; channels = c; starts = record { definition = 0; count = n; values = [] } ∷ []; words = wordOf text }
 
 -- with one sum
-abbrev single : List Resolved.Branch → ℕ → ℕ → Resolved.Model
-single bs c n = several (record { locals = 0; definition = 0; branches = bs } ∷ []) c n
+abbrev single : List ℕ → List Resolved.Branch → ℕ → ℕ → Resolved.Model
+single text bs c n = several text (record { locals = 0; definition = 0; branches = bs } ∷ []) c n
 
 -- ---- 7
 
@@ -97,9 +98,9 @@ abbrev mostText : List ℕ
 mostText = 65 ∷ 91 ∷ 93 ∷ 61 ∷ 123 ∷ 103 ∷ 111 ∷ 44 ∷ 49 ∷ 125 ∷ 59 ∷ 50 ∷ 53 ∷ 54 ∷ 42 ∷ 65 ∷ 91 ∷ 93 ∷ 59 ∷ []
 
 -- a count of 256 stands
-pub most : opening mostText ≡ opened (single (goes ∷ []) 0 256)
+pub most : opening mostText ≡ opened (single mostText (goes ∷ []) 0 256)
 unfolding judgedBytes kindsIn written judgedTree
-most = opens-so mostText (alone go counted) (opened (single (goes ∷ []) 0 256)) refl refl refl
+most = opens-so mostText (alone go counted) (opened (single mostText (goes ∷ []) 0 256)) refl refl refl
 
 -- A[]={go,1};257*A[];
 abbrev moreText : List ℕ
@@ -127,9 +128,9 @@ abbrev turned : derived.Model
 turned = alone (waits (derived.plain (derived.fixed (derived.integer derived.negative)))) once
 
 -- the least whole number stands
-pub least : opening leastText ≡ opened (single (waiting (Resolved.fixed (negℤ (pos scaleLimit))) ∷ []) 0 1)
+pub least : opening leastText ≡ opened (single leastText (waiting 5 (Resolved.fixed (negℤ (pos scaleLimit))) ∷ []) 0 1)
 unfolding judgedBytes kindsIn written judgedTree
-least = opens-so leastText turned (opened (single (waiting (Resolved.fixed (negℤ (pos scaleLimit))) ∷ []) 0 1)) refl refl refl
+least = opens-so leastText turned (opened (single leastText (waiting 5 (Resolved.fixed (negℤ (pos scaleLimit))) ∷ []) 0 1)) refl refl refl
 
 -- A[]={go,-1099511627776};A[];
 abbrev belowText : List ℕ
@@ -159,12 +160,12 @@ abbrev apartText : List ℕ
 apartText = 65 ∷ 91 ∷ 93 ∷ 61 ∷ 123 ∷ 99 ∷ 63 ∷ 91 ∷ 49 ∷ 93 ∷ 40 ∷ 120 ∷ 41 ∷ 44 ∷ 49 ∷ 125 ∷ 43 ∷ 123 ∷ 99 ∷ 63 ∷ 91 ∷ 49 ∷ 93 ∷ 40 ∷ 120 ∷ 41 ∷ 44 ∷ 49 ∷ 125 ∷ 59 ∷ 65 ∷ 91 ∷ 93 ∷ 59 ∷ []
 
 -- two branches may bind the same name, as they don't meet
-pub apart : opening apartText ≡ opened (single (receiving [] ∷ receiving [] ∷ []) 1 1)
+pub apart : opening apartText ≡ opened (single apartText (receiving [] ∷ receiving [] ∷ []) 1 1)
 unfolding judgedBytes kindsIn written judgedTree
 apart =
     opens-so apartText
     (derived.definitions (derived.lastDefinition derived.noParams (derived.body (receives aRate derived.stop) (derived.or (receives aRate derived.stop) derived.noChoices) derived.noSums) (derived.lastStart once)))
-    (opened (single (receiving [] ∷ receiving [] ∷ []) 1 1)) refl refl refl
+    (opened (single apartText (receiving [] ∷ receiving [] ∷ []) 1 1)) refl refl refl
 
 -- A[]={c?[1](x),1}.{c?[1](x),1};A[];
 abbrev meetingText : List ℕ
@@ -191,12 +192,12 @@ abbrev followsText : List ℕ
 followsText = 65 ∷ 91 ∷ 93 ∷ 61 ∷ 123 ∷ 99 ∷ 63 ∷ 91 ∷ 49 ∷ 93 ∷ 40 ∷ 120 ∷ 41 ∷ 44 ∷ 49 ∷ 125 ∷ 46 ∷ 123 ∷ 103 ∷ 111 ∷ 44 ∷ 120 ∷ 125 ∷ 59 ∷ 65 ∷ 91 ∷ 93 ∷ 59 ∷ []
 
 -- what follows it does
-pub follows : opening followsText ≡ opened (several (sumOf 0 (receiving (Resolved.enter 1 ∷ [])) ∷ sumOf 1 (waiting (Resolved.scaleLocal 0)) ∷ []) 1 1)
+pub follows : opening followsText ≡ opened (several followsText (sumOf 0 (receiving (Resolved.enter 1 ∷ [])) ∷ sumOf 1 (waiting 18 (Resolved.scaleLocal 0)) ∷ []) 1 1)
 unfolding judgedBytes kindsIn written judgedTree
 follows =
     opens-so followsText
     (alone (receives aRate (then (waits (derived.plain derived.named)))) once)
-    (opened (several (sumOf 0 (receiving (Resolved.enter 1 ∷ [])) ∷ sumOf 1 (waiting (Resolved.scaleLocal 0)) ∷ []) 1 1)) refl refl refl
+    (opened (several followsText (sumOf 0 (receiving (Resolved.enter 1 ∷ [])) ∷ sumOf 1 (waiting 18 (Resolved.scaleLocal 0)) ∷ []) 1 1)) refl refl refl
 
 -- g=0.5;A[]={go,1*g};A[];
 abbrev decimalValueText : List ℕ
@@ -215,12 +216,12 @@ abbrev decimalScaleText : List ℕ
 decimalScaleText = 103 ∷ 61 ∷ 48 ∷ 46 ∷ 53 ∷ 59 ∷ 65 ∷ 91 ∷ 93 ∷ 61 ∷ 123 ∷ 103 ∷ 111 ∷ 44 ∷ 103 ∷ 125 ∷ 59 ∷ 65 ∷ 91 ∷ 93 ∷ 59 ∷ []
 
 -- as a rate's scale it is one
-pub decimalScale : opening decimalScaleText ≡ opened (single (waiting (Resolved.fixed (pos 5000)) ∷ []) 0 1)
+pub decimalScale : opening decimalScaleText ≡ opened (single decimalScaleText (waiting 9 (Resolved.fixed (pos 5000)) ∷ []) 0 1)
 unfolding judgedBytes kindsIn written judgedTree
 decimalScale =
     opens-so decimalScaleText
     (derived.variable derived.decimal (alone (waits (derived.plain derived.named)) once))
-    (opened (single (waiting (Resolved.fixed (pos 5000)) ∷ []) 0 1)) refl refl refl
+    (opened (single decimalScaleText (waiting 9 (Resolved.fixed (pos 5000)) ∷ []) 0 1)) refl refl refl
 
 -- A[]={(c)![1],1};A[];
 abbrev bracketedText : List ℕ
@@ -264,12 +265,12 @@ abbrev channelsText : List ℕ
 channelsText = 65 ∷ 91 ∷ 93 ∷ 61 ∷ 123 ∷ 99 ∷ 33 ∷ 91 ∷ 49 ∷ 93 ∷ 44 ∷ 49 ∷ 125 ∷ 46 ∷ 123 ∷ 100 ∷ 33 ∷ 91 ∷ 49 ∷ 93 ∷ 44 ∷ 49 ∷ 125 ∷ 46 ∷ 123 ∷ 99 ∷ 33 ∷ 91 ∷ 49 ∷ 93 ∷ 44 ∷ 49 ∷ 125 ∷ 59 ∷ 65 ∷ 91 ∷ 93 ∷ 59 ∷ []
 
 -- they are numbered by first use
-pub channels : opening channelsText ≡ opened (several (sends 0 (Resolved.enter 1 ∷ []) ∷ sends 1 (Resolved.enter 2 ∷ []) ∷ sends 0 [] ∷ []) 2 1)
+pub channels : opening channelsText ≡ opened (several channelsText (sends 0 (Resolved.enter 1 ∷ []) ∷ sends 1 (Resolved.enter 2 ∷ []) ∷ sends 0 [] ∷ []) 2 1)
 unfolding judgedBytes kindsIn written judgedTree
 channels =
     opens-so channelsText
     (alone (send (then (send (then (send derived.stop))))) once)
-    (opened (several (sends 0 (Resolved.enter 1 ∷ []) ∷ sends 1 (Resolved.enter 2 ∷ []) ∷ sends 0 [] ∷ []) 2 1)) refl refl refl
+    (opened (several channelsText (sends 0 (Resolved.enter 1 ∷ []) ∷ sends 1 (Resolved.enter 2 ∷ []) ∷ sends 0 [] ∷ []) 2 1)) refl refl refl
 
 -- ---- the bench sheet
 
@@ -313,7 +314,7 @@ sheetModel =
                 record { gate = none; action = Resolved.handSend (oneItem (Resolved.name 0)) (Resolved.localAt 0 ∷ []); rate = Resolved.plain (Resolved.fixed (pos 20000)); next = Resolved.call 0 (increased ∷ []) ∷ [] }
                 ∷ record {
                   gate = some (Resolved.compare false derived.less (Resolved.localAt 0) (Resolved.constant (pos 3)));
-                  action = Resolved.wait;
+                  action = Resolved.wait 34;
                   rate = Resolved.scaled (Resolved.fixed (pos 2500)) (Resolved.localAt 0);
                   next = Resolved.call 0 (increased ∷ []) ∷ [];
                 }
@@ -336,6 +337,7 @@ sheetModel =
       channels = 1;
       starts =
           record { definition = 0; count = 1; values = pos 1 ∷ [] } ∷ record { definition = 0; count = 1; values = pos 4 ∷ [] } ∷ record { definition = 1; count = 1; values = pos 1 ∷ [] } ∷ [];
+      words = wordOf sheet;
     }
 
 -- 01, A bench sheet in full: the model it opens to

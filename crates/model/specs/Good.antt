@@ -65,7 +65,7 @@ GoodRate n (scaled s e) = GoodScale n s × GoodExpr n e
 
 -- 01, 9: as many names as sets
 unfoldable pub namesBound : Action → ℕ
-namesBound wait = 0
+namesBound (wait k) = 0
 namesBound (launch c v) = 0
 namesBound (kill c v) = 0
 namesBound (receive c s) = 0
@@ -102,7 +102,7 @@ module _ (m : Model) where
 
   -- 01, Actions: each with its channel, values or sets
   unfoldable pub GoodAction : ℕ → Action → Type 0
-  GoodAction n wait = Unit {0}
+  GoodAction n (wait k) = Unit {0}
   GoodAction n (launch c v) = GoodValues n c v
   GoodAction n (kill c v) = GoodValues n c v
   GoodAction n (receive c s) = GoodSets n c s

@@ -1,5 +1,6 @@
 -- The resolved model: what evaluation, listing and step go by. Names are gone: a local is its place among the locals, a variable its value,
--- a channel name its number, a call its definition's number, a continuation the numbers of its sums. Assumes nothing: these are definitions.
+-- a channel name its number, a call its definition's number, a continuation the numbers of its sums. A wait keeps its token, so that it is found by its
+-- name (02, note 8). Assumes nothing: these are definitions.
 use mathlib.Core.List.{List, [], _∷_, _++_}
 use mathlib.Core.Bool.{Bool, true, false, cond, _&&_}
 use mathlib.Core.Option.{Option, none, some}
@@ -53,7 +54,7 @@ abbrev pub Channel : Type 0
 Channel = Items Item
 
 pub data Action : Type 0 where
-  wait : Action
+  wait : ℕ → Action  -- its token, whose bytes are its name
   launch : Channel → List Expr → Action
   kill : Channel → List Expr → Action
   receive : Channel → List Set → Action
@@ -96,6 +97,7 @@ pub record Model : Type 0 where
   pub definitions : List Defined
   pub channels : ℕ
   pub starts : List Start
+  pub words : ℕ → List ℕ  -- 02, note 8: the bytes of each token, which are a wait's name
 
 -- ---- channel names
 
@@ -269,7 +271,7 @@ module _ (w : ℕ → List ℕ) (vs : List Variable) (ds : List Definition) (cs 
     resolveSets (Syntax.twoSets s r) = resolveSet s ∷ resolveSet r ∷ []
 
     unfoldable pub resolveAction : Syntax.Action → Action
-    resolveAction (Syntax.wait k) = wait
+    resolveAction (Syntax.wait k) = wait k
     resolveAction (Syntax.launch c v) = launch (resolveChannel c) (resolveValues v)
     resolveAction (Syntax.kill c v) = kill (resolveChannel c) (resolveValues v)
     resolveAction (Syntax.receive c s) = receive (resolveChannel c) (resolveSets s)
@@ -372,4 +374,5 @@ resolved w m =
       definitions = each (λ d. defined d ∷ []) ds;
       channels = length cs;
       starts = each (λ s. resolveStart w vs ds cs s ∷ []) (starts m);
+      words = w;
     }

@@ -6,4 +6,5 @@ pub mod Judges
 pub mod Counting
 pub mod Resolves
 pub mod Models
+pub mod Marked
 pub mod Same

@@ -1,5 +1,5 @@
 -- The returns of `settle_tree`, `read_model` and `open_text`, over plain variables: the model of a text, and question 10.
-use mathlib.Core.Path.{_≡_, sym, ap, _∙_}
+use mathlib.Core.Path.{_≡_, refl, sym, ap, _∙_}
 use mathlib.Core.List.{List, [], _∷_}
 use mathlib.Core.Option.{some}
 use Prim.Native.Nat.{ℕ, zero, suc, _-_, _≤_, _<_}
@@ -46,10 +46,10 @@ module _ {text : List ℕ} {s : Syntax.Model} {kinds places low high nodes : Lis
     named-place e = let b = rw e at d in b .1
 
     pub named-yes : {nodes′ roots scopes : List ℕ} {x : Model} {p : ℕ} → j ≡ NamedPassed p → Shown nodes′ roots scopes x (resolved (wordOf text) s) → Rooted x → Settles (wordOf text) s nodes′ roots scopes x → ModelRead text nodes′ roots scopes (HeldModel x p)
-    unfolding ModelRead
+    unfolding ModelRead resolved
     named-yes e h r t =
         let v = named-sound e in
-        record { tree = s; model = resolved (wordOf text) s; holds = holds-model f v; opens = asks-ten f v; shown = h; written = record { fits = yes5 f v; settles = t }; rooted = r; place-is = named-place e }
+        record { tree = s; model = resolved (wordOf text) s; holds = holds-model f v; worded = refl; opens = asks-ten f v; shown = h; written = record { fits = yes5 f v; settles = t }; rooted = r; place-is = named-place e }
 
 -- ---- 2 to 9
 module _ (text kinds places low high nodes : List ℕ) (r : Tree) (d : TreeRead text kinds places low high nodes r) where

@@ -1,4 +1,5 @@
 pub mod Trees
+pub mod Marked
 pub mod System
 pub mod Sound
 pub mod Counts

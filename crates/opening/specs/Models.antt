@@ -45,6 +45,7 @@ pub record ModelHeld (text nodes roots scopes : List ℕ) (x : Model) (p : ℕ) 
   pub tree : Syntax.Model
   pub model : Resolved.Model
   pub holds : held text ≡ some model
+  pub worded : model .words ≡ wordOf text
   pub opens : opening text ≡ asked text 10 (crowded tree model) (opened model)
   pub shown : Shown nodes roots scopes x model
   pub written : Written text tree nodes roots scopes x

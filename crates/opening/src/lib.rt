@@ -19,6 +19,7 @@ ghost use Rattle.tree.specs.Table;
 ghost use Rattle.model.specs.Sites.{system};
 ghost use Rattle.model.specs.Opening.{bytePlace, systemToken};
 ghost use Rattle.opening.specs.Trees.{Room, Placed, Fitted, TreeRead};
+ghost use Rattle.opening.specs.Marked.{Marked, TreeMarked, ModelMarked};
 ghost use Rattle.opening.specs.Sound.{NamesJudged};
 ghost use Rattle.opening.specs.Models.{SumRoom, ModelHeld, ModelRead, Opens};
 ghost use Rattle.opening.specs.System.{firstItem, beforeName, itemToken};
@@ -81,6 +82,7 @@ fn read_tokens(
     requires { ⌜ Passed ≡ bytesJudged (now text) ⌝ }
     requires { ⌜ Room (now kinds) (now places) (now sizes) (now low) (now high) (now nodes) ⌝ }
     ensures { λ r. ⌜ TreeRead (now (text .entry)) (now (kinds .exit)) (now (places .exit)) (now (low .exit)) (now (high .exit)) (now (nodes .exit)) r ⌝ }
+    ensures { λ _. ⌜ Marked (now (text .entry)) (now (places .entry)) (now (sizes .entry)) (now (places .exit)) (now (sizes .exit)) ⌝ }
 {
     let n = token::fill(text, kinds, places, sizes);
     let asked = question::judge_text(&kinds[..n], nodes);
@@ -106,6 +108,7 @@ pub fn read_tree(
 ) -> Tree
     requires { ⌜ Room (now kinds) (now places) (now sizes) (now low) (now high) (now nodes) ⌝ }
     ensures { λ r. ⌜ TreeRead (now (text .entry)) (now (kinds .exit)) (now (places .exit)) (now (low .exit)) (now (high .exit)) (now (nodes .exit)) r ⌝ }
+    ensures { λ r. ⌜ TreeMarked (now (text .entry)) (now (places .entry)) (now (sizes .entry)) (now (places .exit)) (now (sizes .exit)) r ⌝ }
 {
     let judged = token::judge_bytes(text);
     match judged {
@@ -219,6 +222,7 @@ pub fn read_model(
     requires { ⌜ Room (now kinds) (now places) (now sizes) (now low) (now high) (now nodes) ⌝ }
     requires { ⌜ SumRoom (now roots) (now scopes) (now names) ⌝ }
     ensures { λ r. ⌜ ModelRead (now (text .entry)) (now (nodes .exit)) (now (roots .exit)) (now (scopes .exit)) r ⌝ }
+    ensures { λ r. ⌜ ModelMarked (now (text .entry)) (now (places .entry)) (now (sizes .entry)) (now (places .exit)) (now (sizes .exit)) r ⌝ }
 {
     let tree = read_tree(text, kinds, places, sizes, low, high, nodes);
     match tree {

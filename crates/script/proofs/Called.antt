@@ -17,7 +17,7 @@ use Rattle.machine.specs.State.{State}
 use Rattle.machine.specs.Timed.{timed}
 use Rattle.machine.specs.Report.{reportLength}
 use Rattle.machine.specs.Machine.{entryLimit, listingLength, Shown, asLent, zeroed, filled, reported, Answer, no, listedAs, reportedAs, Listed, Turn, turn, drawn, showing, lists, sharing, reports, choosing, stepsWith, refusedAs, withWait, stepsIn, timesWith, Held, Good, Machine, closed, holding, onState}
-use Rattle.machine.specs.Machine.{onClock, onSaves, Request, list′, step′, report′, timed′, save′, return′, forget′, Ask, open′, openSteady′, on′, acts, Part, model, state, saves, clock, size, lentTo, outputOf, uses, isLent, allParts, hasLengths, Call, opens, onMachine, calls}
+use Rattle.machine.specs.Machine.{onClock, onSaves, Request, list′, step′, report′, search′, timed′, save′, return′, forget′, Ask, open′, openSteady′, on′, acts, Part, model, state, saves, clock, size, lentTo, outputOf, uses, isLent, allParts, hasLengths, Call, opens, onMachine, calls}
 use Rattle.machine.specs.Machine as machine
 use Rattle.machine.specs.Questions.{Lists, no12, no13, no14, yes14}
 use Rattle.machine.proofs.Lent.{both-true, each-lent, lent-so}
@@ -40,6 +40,7 @@ use Rattle.buffers.proofs.Every as every
 use Rattle.buffers.proofs.Held.{held-fits}
 use Rattle.buffers.proofs.Listings.{listing-length}
 use Rattle.buffers.proofs.Transitions.{fills}
+use Rattle.buffers.proofs.Answers.{search-shows}
 use Rattle.script.specs.declared.Row.{Row}
 use Rattle.script.specs.Rows.{openKind, lastKind, answerWidth, rowParts, rowLengths, Room, fits, rowCall, callOf}
 use Rattle.script.specs.Run.{Lent, roomOf, effectOf, callLeft}
@@ -252,6 +253,7 @@ unfolding acts onState onClock onSaves no
 acts-within list′ h k g = lists-within (h .model) (h .state)
 acts-within (step′ d) h k g = steps-within d (h .model) (h .state)
 acts-within report′ h k g = reports-within h k g
+acts-within (search′ n d) h k g = nothing (search-shows (h .model) n (h .state) d)
 acts-within (timed′ ds d) h k g = timed-within ds d h
 acts-within (save′ n) h k g = nothing refl
 acts-within (return′ n) h k g = nothing refl

@@ -8,7 +8,8 @@ use native.Mathlib.Omega.{arith}
 use borrow.Author.Tests.{eq-eqb, ne-eqb}
 use lib.Dec.{eqb}
 use lib.IntN.{ℤ}
-use lib.ListN.{length, take, drop, take-append-drop}
+use lib.ListN.{length, getD, take, drop, replicate, length-append, take-append-drop}
+use lib.Seq.{length-take-le}
 use Rattle.model.specs.Resolved
 use Rattle.model.specs.Opening.{Opening, refused, opened, opening}
 use Rattle.profile.specs.Opening.{openingSteady}
@@ -16,17 +17,21 @@ use Rattle.machine.specs.State.{State}
 use Rattle.clock.specs.declared.Clock.{Clock}
 use Rattle.machine.specs.Timed.{Timed}
 use Rattle.machine.specs.Saves.{Saves, Stored, saving, returning, forgetting}
-use Rattle.machine.specs.Machine.{asLent, Answer, no, Turn, Held, Machine, closed, holding, onSaves, Request, list′, step′, report′, timed′, save′, return′, forget′, Ask, open′, openSteady′, on′, acts, Part, model, state, saves, clock, size, twoParts, timedParts, threeParts, uses, outputOf, isLent, allParts, hasLengths, Call, onMachine}
+use Rattle.machine.specs.Machine.{Shown, asLent, Answer, no, Turn, Held, Machine, closed, holding, onState, onSaves, Request, list′, step′, report′, search′, timed′, save′, return′, forget′, Ask, open′, openSteady′, on′, acts, Part, model, state, saves, clock, size, twoParts, timedParts, threeParts, uses, outputOf, isLent, allParts, hasLengths, Call, onMachine}
 use Rattle.buffers.specs.Held.{heldIn}
 use Rattle.buffers.specs.Listing.{shown}
 use Rattle.buffers.specs.Parts.{Engine, numbersOf, isPart, readHeld, clockNumbers, clockIn, lentTwo, lentThree, lentTimed, lentAll}
 use Rattle.buffers.specs.Effect.{Effect, machineOver, untouched, opensWith, leftIn, leaves, requested, answered, effect}
 use Rattle.buffers.proofs.Lent.{same-engine}
+use Rattle.buffers.proofs.Answers.{search-shows}
+use Rattle.buffers.proofs.Runs.{isSearch, without-run, Alone, run-alone}
 use Rattle.engine.specs.declared.Answer as engine
-use Rattle.engine.specs.Gives.{Gives}
+use Rattle.engine.specs.Gives.{Gives, bare}
+use Rattle.searching.specs.declared.Found.{Found}
+use Rattle.searching.specs.Run.{entriesOf, GivesRun}
 use Rattle.script.specs.declared.Row.{Row}
 use Rattle.script.specs.Rows.{rowLengths, fits, rowText, rowDraws, rowAsk, rowCall}
-use Rattle.script.specs.Run.{lengthsOf, effectOf, answerNumbers, resultNumbers, Called}
+use Rattle.script.specs.Run.{lengthsOf, effectOf, answerNumbers, resultNumbers, foundNumbers, Called}
 use Rattle.script.proofs.Called.{row-asks}
 
 -- ---- what a row that fits asks for
@@ -38,7 +43,7 @@ pub record There (r : Row) (t n m s v o : ℕ) : Type 0 where
   pub state : r .state ≤ s
   pub saves : r .saves ≤ v
   pub output : r .output ≤ o
-  pub most : r .kind ≤ 9
+  pub most : r .kind ≤ 10
   pub least : 1 ≤ r .kind
 
 pub there : (r : Row) (t n m s v k o : ℕ) → fits r t n (lengthsOf m s v k) o ≡ true → There r t n m s v o
@@ -99,6 +104,39 @@ named-bare r f q o x l = rw o (by (allParts (λ (p : Part). eqb (length (x p)) (
         (cond b (leaves (uses r) x [] (onMachine r (machineOver (uses r) x (heldIn (x model))))) (untouched x [])) l
     by true = stored-bare r f q (machineOver (uses r) x (heldIn (x model))) x l
     by false = unfold untouched in bare-refl
+
+-- 02, note 8: a search shows nothing
+searched-bare : (n : List ℕ) (d : ℕ) (y : Machine) (x : Engine) (l : List ℕ) → Bare (leaves twoParts x l (onMachine (search′ n d) y)) (leaves twoParts x [] (onMachine (search′ n d) y)) l
+unfolding leaves onMachine acts onState shown no
+searched-bare n d closed x l = bare-refl
+searched-bare n d (holding h) x l = record { answer = refl; left = refl; output = ap (λ (k : Shown). shown k l) (search-shows (h .model) n (h .state) d) }
+
+search-bare : (n : List ℕ) (d : ℕ) (x : Engine) (l : List ℕ) → Bare (effect (on′ (search′ n d)) x l) (effect (on′ (search′ n d)) x []) l
+unfolding effect answered requested hasLengths Option·elim
+search-bare n d x l = by (allParts (λ (p : Part). eqb (length (x p)) (size p)) twoParts && true)
+  where
+    by : (b : Bool)
+        → Bare (cond b (leaves twoParts x l (onMachine (search′ n d) (machineOver twoParts x (heldIn (x model))))) (untouched x l))
+        (cond b (leaves twoParts x [] (onMachine (search′ n d) (machineOver twoParts x (heldIn (x model))))) (untouched x [])) l
+    by true = searched-bare n d (machineOver twoParts x (heldIn (x model))) x l
+    by false = unfold untouched in bare-refl
+
+-- eight numbers, one by one
+eight : (l : List ℕ) → length l ≡ 8 → getD l 0 0 ∷ getD l 1 0 ∷ getD l 2 0 ∷ getD l 3 0 ∷ getD l 4 0 ∷ getD l 5 0 ∷ getD l 6 0 ∷ getD l 7 0 ∷ [] ≡ l
+eight (a ∷ b ∷ c ∷ d ∷ e ∷ f ∷ g ∷ h ∷ []) q = refl
+eight [] q = absurd (omega arith)
+eight (a ∷ []) q = absurd (omega arith)
+eight (a ∷ b ∷ []) q = absurd (omega arith)
+eight (a ∷ b ∷ c ∷ []) q = absurd (omega arith)
+eight (a ∷ b ∷ c ∷ d ∷ []) q = absurd (omega arith)
+eight (a ∷ b ∷ c ∷ d ∷ e ∷ []) q = absurd (omega arith)
+eight (a ∷ b ∷ c ∷ d ∷ e ∷ f ∷ []) q = absurd (omega arith)
+eight (a ∷ b ∷ c ∷ d ∷ e ∷ f ∷ g ∷ []) q = absurd (omega arith)
+eight (a ∷ b ∷ c ∷ d ∷ e ∷ f ∷ g ∷ h ∷ i ∷ l) q = absurd (omega arith)
+
+pub eight-entries : (r : List ℕ) → length (entriesOf r) ≡ 8
+unfolding entriesOf
+eight-entries r = length-take-le 8 (r ++ replicate 8 0) (omega (arith, length-append r (replicate 8 0)))
 
 -- ---- a request asks nothing of the parts that it is not lent
 
@@ -223,18 +261,16 @@ module _ (row : Row) (texts numbers bs : List ℕ) (zs ss : List ℤ) (c : Clock
       ap (λ (x : Engine). effect k x L) lent-is
       ∙ ap (λ (j : Ask). effect j (λ (p : Part). take (rowLengths row p) (lentAll bs zs ss c p)) L) (sym e)
 
-  gives : (k : Ask) → rowAsk texts numbers row ≡ k → (bs′ : List ℕ) (zs′ ss′ : List ℤ) (c′ : Clock) (l : List ℕ) → Gives (effect k X L) r (lentAll bs′ zs′ ss′ c′) l
-      → Called C (lentAll bs zs ss c) ls r (lentAll (bs′ ++ drop (row .model) bs) (zs′ ++ drop (row .state) zs) (ss′ ++ drop (row .saves) ss) c′) (l ++ drop (row .output) ls)
-  unfolding resultNumbers answerNumbers rowCall
-  gives k e bs′ zs′ ss′ c′ l g = record {
-    numbers = numbers-are ∙ ap (λ (e : Effect). answerNumbers (e .answer)) (effect-is k e);
+  gives-numbers : (k : Ask) → rowAsk texts numbers row ≡ k → (ns : List ℕ) → ns ≡ answerNumbers (effect k X L .answer)
+      → (bs′ : List ℕ) (zs′ ss′ : List ℤ) (c′ : Clock) (l : List ℕ) → Gives (effect k X L) r (lentAll bs′ zs′ ss′ c′) l
+      → Called C (lentAll bs zs ss c) ls ns (lentAll (bs′ ++ drop (row .model) bs) (zs′ ++ drop (row .state) zs) (ss′ ++ drop (row .saves) ss) c′) (l ++ drop (row .output) ls)
+  unfolding rowCall
+  gives-numbers k e ns q bs′ zs′ ss′ c′ l g = record {
+    numbers = q ∙ ap (λ (e : Effect). answerNumbers (e .answer)) (effect-is k e);
     engine = at;
     outputs = ap (λ (h : List ℕ). h ++ drop (row .output) ls) (g .output ∙ ap (λ (e : Effect). e .output) (effect-is k e));
   }
     where
-      numbers-are : resultNumbers r ≡ answerNumbers (effect k X L .answer)
-      numbers-are = λ i. g .number i ∷ g .place i ∷ g .branch i ∷ g .count i ∷ g .total i ∷ g .chosen i ∷ []
-
       at : (p : Part) → lentAll (bs′ ++ drop (row .model) bs) (zs′ ++ drop (row .state) zs) (ss′ ++ drop (row .saves) ss) c′ p
           ≡ effectOf C (lentAll bs zs ss c) ls .left p ++ drop (rowLengths row p) (lentAll bs zs ss c p)
       at model = unfold lentAll rowLengths in ap (λ (h : List ℕ). h ++ drop (row .model) bs) (g .buffers model ∙ ap (λ (e : Effect). e .left model) (effect-is k e))
@@ -242,12 +278,23 @@ module _ (row : Row) (texts numbers bs : List ℕ) (zs ss : List ℤ) (c : Clock
       at saves = unfold lentAll rowLengths in ap (λ (h : List ℤ). h ++ drop (row .saves) ss) (g .buffers saves ∙ ap (λ (e : Effect). e .left saves) (effect-is k e))
       at clock = unfold lentAll rowLengths in g .buffers clock ∙ ap (λ (e : Effect). e .left clock) (effect-is k e) ∙ sym (append-nil _)
 
+  -- a call that is no search answers without a run
+  gives : (k : Ask) → rowAsk texts numbers row ≡ k → isSearch k ≡ false → (bs′ : List ℕ) (zs′ ss′ : List ℤ) (c′ : Clock) (l : List ℕ) → Gives (effect k X L) r (lentAll bs′ zs′ ss′ c′) l
+      → Called C (lentAll bs zs ss c) ls (resultNumbers r) (lentAll (bs′ ++ drop (row .model) bs) (zs′ ++ drop (row .state) zs) (ss′ ++ drop (row .saves) ss) c′) (l ++ drop (row .output) ls)
+  gives k e f bs′ zs′ ss′ c′ l g = gives-numbers k e (resultNumbers r) numbers-are bs′ zs′ ss′ c′ l g
+    where
+      no-entries : 0 ∷ 0 ∷ 0 ∷ 0 ∷ 0 ∷ 0 ∷ 0 ∷ 0 ∷ 0 ∷ [] ≡ length (effect k X L .answer .run) ∷ entriesOf (effect k X L .answer .run)
+      no-entries = unfold entriesOf in ap (λ (r : List ℕ). length r ∷ entriesOf r) (sym (without-run k X L f))
+
+      numbers-are : resultNumbers r ≡ answerNumbers (effect k X L .answer)
+      numbers-are = unfold resultNumbers answerNumbers in λ i. g .number i ∷ g .place i ∷ g .branch i ∷ g .count i ∷ g .total i ∷ g .chosen i ∷ no-entries i
+
   -- a call that is lent no output leaves the outputs
-  bare-gives : (k : Ask) → rowAsk texts numbers row ≡ k → Bare (effect k X L) (effect k X []) L → (bs′ : List ℕ) (zs′ ss′ : List ℤ) (c′ : Clock) → Gives (effect k X []) r (lentAll bs′ zs′ ss′ c′) []
-      → Called C (lentAll bs zs ss c) ls r (lentAll (bs′ ++ drop (row .model) bs) (zs′ ++ drop (row .state) zs) (ss′ ++ drop (row .saves) ss) c′) ls
-  bare-gives k e w bs′ zs′ ss′ c′ h =
+  bare-gives : (k : Ask) → rowAsk texts numbers row ≡ k → isSearch k ≡ false → Bare (effect k X L) (effect k X []) L → (bs′ : List ℕ) (zs′ ss′ : List ℤ) (c′ : Clock) → Gives (effect k X []) r (lentAll bs′ zs′ ss′ c′) []
+      → Called C (lentAll bs zs ss c) ls (resultNumbers r) (lentAll (bs′ ++ drop (row .model) bs) (zs′ ++ drop (row .state) zs) (ss′ ++ drop (row .saves) ss) c′) ls
+  bare-gives k e f w bs′ zs′ ss′ c′ h =
       rw (take-append-drop (row .output) ls) at
-      (gives k e bs′ zs′ ss′ c′ L (record {
+      (gives k e f bs′ zs′ ss′ c′ L (record {
         number = h .number ∙ sym (ap (λ (a : Answer). a .number) (w .answer));
         place = h .place ∙ sym (ap (λ (a : Answer). a .place) (w .answer));
         branch = h .branch ∙ sym (ap (λ (a : Answer). a .branch) (w .answer));
@@ -259,12 +306,12 @@ module _ (row : Row) (texts numbers bs : List ℕ) (zs ss : List ℤ) (c : Clock
       }))
 
   -- a request that is lent model and state leaves the saves and the clock
-  two-gives : (q : Request) → uses q ≡ twoParts → rowAsk texts numbers row ≡ on′ q → (bs′ : List ℕ) (zs′ : List ℤ) (l : List ℕ)
+  two-gives : (q : Request) → uses q ≡ twoParts → rowAsk texts numbers row ≡ on′ q → isSearch (on′ q) ≡ false → (bs′ : List ℕ) (zs′ : List ℤ) (l : List ℕ)
       → Gives (effect (on′ q) (lentTwo (take (row .model) bs) (take (row .state) zs)) L) r (lentTwo bs′ zs′) l
-      → Called C (lentAll bs zs ss c) ls r (lentAll (bs′ ++ drop (row .model) bs) (zs′ ++ drop (row .state) zs) ss c) (l ++ drop (row .output) ls)
-  two-gives q u e bs′ zs′ l h =
+      → Called C (lentAll bs zs ss c) ls (resultNumbers r) (lentAll (bs′ ++ drop (row .model) bs) (zs′ ++ drop (row .state) zs) ss c) (l ++ drop (row .output) ls)
+  two-gives q u e f bs′ zs′ l h =
       rw (take-append-drop (row .saves) ss) at
-      (gives (on′ q) e bs′ zs′ (take (row .saves) ss) c l
+      (gives (on′ q) e f bs′ zs′ (take (row .saves) ss) c l
       (alike-gives (lentTwo bs′ zs′) (lentAll bs′ zs′ (take (row .saves) ss) c) l (two-effect (take (row .model) bs) (take (row .state) zs) (take (row .saves) ss) c q u L) h at others))
     where
       at : (p : Part) → isLent p twoParts ≡ true → lentAll bs′ zs′ (take (row .saves) ss) c p ≡ lentTwo bs′ zs′ p
@@ -297,41 +344,41 @@ module _ (row : Row) (texts numbers bs : List ℕ) (zs ss : List ℤ) (c : Clock
   draws-are = let n : row .from + row .count - row .from ≡ row .count = omega arith in ap (λ (k : ℕ). take k (drop (row .from) numbers)) n
 
   pub opening-called : row .kind ≡ 1 → (bs′ : List ℕ) (zs′ ss′ : List ℤ) (c′ : Clock) → Gives (effect (open′ T) X []) r (lentAll bs′ zs′ ss′ c′) []
-      → Called C (lentAll bs zs ss c) ls r (lentAll (bs′ ++ drop (row .model) bs) (zs′ ++ drop (row .state) zs) (ss′ ++ drop (row .saves) ss) c′) ls
+      → Called C (lentAll bs zs ss c) ls (resultNumbers r) (lentAll (bs′ ++ drop (row .model) bs) (zs′ ++ drop (row .state) zs) (ss′ ++ drop (row .saves) ss) c′) ls
   unfolding rowAsk
-  opening-called e bs′ zs′ ss′ c′ g = bare-gives (open′ (rowText texts row)) (rw e) (open-bare (rowText texts row) X L) bs′ zs′ ss′ c′ (rw text-is at g)
+  opening-called e bs′ zs′ ss′ c′ g = bare-gives (open′ (rowText texts row)) (rw e) (unfold isSearch in refl) (open-bare (rowText texts row) X L) bs′ zs′ ss′ c′ (rw text-is at g)
 
   -- 02, note 11
   pub steady-called : row .kind ≡ 9 → (bs′ : List ℕ) (zs′ ss′ : List ℤ) (c′ : Clock) → Gives (effect (openSteady′ T) X []) r (lentAll bs′ zs′ ss′ c′) []
-      → Called C (lentAll bs zs ss c) ls r (lentAll (bs′ ++ drop (row .model) bs) (zs′ ++ drop (row .state) zs) (ss′ ++ drop (row .saves) ss) c′) ls
+      → Called C (lentAll bs zs ss c) ls (resultNumbers r) (lentAll (bs′ ++ drop (row .model) bs) (zs′ ++ drop (row .state) zs) (ss′ ++ drop (row .saves) ss) c′) ls
   unfolding rowAsk
-  steady-called e bs′ zs′ ss′ c′ g = bare-gives (openSteady′ (rowText texts row)) (rw e) (steady-bare (rowText texts row) X L) bs′ zs′ ss′ c′ (rw text-is at g)
+  steady-called e bs′ zs′ ss′ c′ g = bare-gives (openSteady′ (rowText texts row)) (rw e) (unfold isSearch in refl) (steady-bare (rowText texts row) X L) bs′ zs′ ss′ c′ (rw text-is at g)
 
   pub listing-called : row .kind ≡ 2 → (l : List ℕ) → Gives (effect (on′ list′) (lentTwo (take (row .model) bs) (take (row .state) zs)) L) r (lentTwo (take (row .model) bs) (take (row .state) zs)) l
-      → Called C (lentAll bs zs ss c) ls r (lentAll bs zs ss c) (l ++ drop (row .output) ls)
+      → Called C (lentAll bs zs ss c) ls (resultNumbers r) (lentAll bs zs ss c) (l ++ drop (row .output) ls)
   unfolding rowAsk
-  listing-called e l g = rw (take-append-drop (row .model) bs, take-append-drop (row .state) zs) at (two-gives list′ refl (rw e) (take (row .model) bs) (take (row .state) zs) l g)
+  listing-called e l g = rw (take-append-drop (row .model) bs, take-append-drop (row .state) zs) at (two-gives list′ refl (rw e) (unfold isSearch in refl) (take (row .model) bs) (take (row .state) zs) l g)
 
   pub reporting-called : row .kind ≡ 4 → (l : List ℕ) → Gives (effect (on′ report′) (lentTwo (take (row .model) bs) (take (row .state) zs)) L) r (lentTwo (take (row .model) bs) (take (row .state) zs)) l
-      → Called C (lentAll bs zs ss c) ls r (lentAll bs zs ss c) (l ++ drop (row .output) ls)
+      → Called C (lentAll bs zs ss c) ls (resultNumbers r) (lentAll bs zs ss c) (l ++ drop (row .output) ls)
   unfolding rowAsk
-  reporting-called e l g = rw (take-append-drop (row .model) bs, take-append-drop (row .state) zs) at (two-gives report′ refl (rw e) (take (row .model) bs) (take (row .state) zs) l g)
+  reporting-called e l g = rw (take-append-drop (row .model) bs, take-append-drop (row .state) zs) at (two-gives report′ refl (rw e) (unfold isSearch in refl) (take (row .model) bs) (take (row .state) zs) l g)
 
   pub stepping-called : row .kind ≡ 3 → (zs′ : List ℤ) (l : List ℕ) → Gives (effect (on′ (step′ (row .number))) (lentTwo (take (row .model) bs) (take (row .state) zs)) L) r (lentTwo (take (row .model) bs) zs′) l
-      → Called C (lentAll bs zs ss c) ls r (lentAll bs (zs′ ++ drop (row .state) zs) ss c) (l ++ drop (row .output) ls)
+      → Called C (lentAll bs zs ss c) ls (resultNumbers r) (lentAll bs (zs′ ++ drop (row .state) zs) ss c) (l ++ drop (row .output) ls)
   unfolding rowAsk
-  stepping-called e zs′ l g = rw (take-append-drop (row .model) bs) at (two-gives (step′ (row .number)) refl (rw e) (take (row .model) bs) zs′ l g)
+  stepping-called e zs′ l g = rw (take-append-drop (row .model) bs) at (two-gives (step′ (row .number)) refl (rw e) (unfold isSearch in refl) (take (row .model) bs) zs′ l g)
 
   -- 02, note 4: a timed step leaves the saves
   pub timing-called : row .kind ≡ 8 → (zs′ : List ℤ) (c′ : Clock) (l : List ℕ)
       → Gives (effect (on′ (timed′ D (row .number))) (lentTimed (take (row .model) bs) (take (row .state) zs) c) L) r (lentTimed (take (row .model) bs) zs′ c′) l
-      → Called C (lentAll bs zs ss c) ls r (lentAll bs (zs′ ++ drop (row .state) zs) ss c′) (l ++ drop (row .output) ls)
+      → Called C (lentAll bs zs ss c) ls (resultNumbers r) (lentAll bs (zs′ ++ drop (row .state) zs) ss c′) (l ++ drop (row .output) ls)
   unfolding rowAsk
   timing-called e zs′ c′ l g =
       let q = timed′ (rowDraws numbers row) (row .number) in
       let a = timed-effect (take (row .model) bs) (take (row .state) zs) (take (row .saves) ss) c q refl L in
       rw (take-append-drop (row .model) bs, take-append-drop (row .saves) ss) at
-      (gives (on′ q) (rw e) (take (row .model) bs) zs′ (take (row .saves) ss) c′ l
+      (gives (on′ q) (rw e) (unfold isSearch in refl) (take (row .model) bs) zs′ (take (row .saves) ss) c′ l
       (alike-gives (lentTimed (take (row .model) bs) zs′ c′) (lentAll (take (row .model) bs) zs′ (take (row .saves) ss) c′) l a (rw draws-are at g) at others))
     where
       at : (p : Part) → isLent p timedParts ≡ true → lentAll (take (row .model) bs) zs′ (take (row .saves) ss) c′ p ≡ lentTimed (take (row .model) bs) zs′ c′ p
@@ -348,30 +395,30 @@ module _ (row : Row) (texts numbers bs : List ℕ) (zs ss : List ℤ) (c : Clock
 
   -- 02, note 2
   pub saving-called : row .kind ≡ 5 → (ss′ : List ℤ) → Gives (effect (on′ (save′ T)) X []) r (lentAll (take (row .model) bs) (take (row .state) zs) ss′ c) []
-      → Called C (lentAll bs zs ss c) ls r (lentAll bs zs (ss′ ++ drop (row .saves) ss) c) ls
+      → Called C (lentAll bs zs ss c) ls (resultNumbers r) (lentAll bs zs (ss′ ++ drop (row .saves) ss) c) ls
   unfolding rowAsk acts
   saving-called e ss′ g =
       let n = rowText texts row in
       rw (take-append-drop (row .model) bs, take-append-drop (row .state) zs) at
-      (bare-gives (on′ (save′ n)) (rw e) (named-bare (save′ n) (saving n) (λ h. refl) refl X L) (take (row .model) bs) (take (row .state) zs) ss′ c (rw text-is at g))
+      (bare-gives (on′ (save′ n)) (rw e) (unfold isSearch in refl) (named-bare (save′ n) (saving n) (λ h. refl) refl X L) (take (row .model) bs) (take (row .state) zs) ss′ c (rw text-is at g))
 
   pub returning-called : row .kind ≡ 6 → (zs′ : List ℤ) (c′ : Clock) → Gives (effect (on′ (return′ T)) X []) r (lentAll (take (row .model) bs) zs′ (take (row .saves) ss) c′) []
-      → Called C (lentAll bs zs ss c) ls r (lentAll bs (zs′ ++ drop (row .state) zs) ss c′) ls
+      → Called C (lentAll bs zs ss c) ls (resultNumbers r) (lentAll bs (zs′ ++ drop (row .state) zs) ss c′) ls
   unfolding rowAsk acts
   returning-called e zs′ c′ g =
       let n = rowText texts row in
       rw (take-append-drop (row .model) bs, take-append-drop (row .saves) ss) at
-      (bare-gives (on′ (return′ n)) (rw e) (named-bare (return′ n) (returning n) (λ h. refl) refl X L) (take (row .model) bs) zs′ (take (row .saves) ss) c′ (rw text-is at g))
+      (bare-gives (on′ (return′ n)) (rw e) (unfold isSearch in refl) (named-bare (return′ n) (returning n) (λ h. refl) refl X L) (take (row .model) bs) zs′ (take (row .saves) ss) c′ (rw text-is at g))
 
   pub forgetting-called : row .kind ≡ 7 → (ss′ : List ℤ)
       → Gives (effect (on′ (forget′ T)) (lentThree (take (row .model) bs) (take (row .state) zs) (take (row .saves) ss)) []) r (lentThree (take (row .model) bs) (take (row .state) zs) ss′) []
-      → Called C (lentAll bs zs ss c) ls r (lentAll bs zs (ss′ ++ drop (row .saves) ss) c) ls
+      → Called C (lentAll bs zs ss c) ls (resultNumbers r) (lentAll bs zs (ss′ ++ drop (row .saves) ss) c) ls
   unfolding rowAsk acts
   forgetting-called e ss′ g =
       let n = rowText texts row in
       let a = three-effect (take (row .model) bs) (take (row .state) zs) (take (row .saves) ss) c (forget′ n) refl [] in
       rw (take-append-drop (row .model) bs, take-append-drop (row .state) zs) at
-      (bare-gives (on′ (forget′ n)) (rw e) (named-bare (forget′ n) (forgetting n) (λ h. refl) refl X L) (take (row .model) bs) (take (row .state) zs) ss′ c
+      (bare-gives (on′ (forget′ n)) (rw e) (unfold isSearch in refl) (named-bare (forget′ n) (forgetting n) (λ h. refl) refl X L) (take (row .model) bs) (take (row .state) zs) ss′ c
       (alike-gives (lentThree (take (row .model) bs) (take (row .state) zs) ss′) (lentAll (take (row .model) bs) (take (row .state) zs) ss′ c) [] a (rw text-is at g) at others))
     where
       at : (p : Part) → isLent p threeParts ≡ true → lentAll (take (row .model) bs) (take (row .state) zs) ss′ c p ≡ lentThree (take (row .model) bs) (take (row .state) zs) ss′ p
@@ -386,20 +433,111 @@ module _ (row : Row) (texts numbers bs : List ℕ) (zs ss : List ℤ) (c : Clock
       others saves e = unfold lentAll isLent in absurd (let z : _≡_ {A = ℕ} 0 1 = cc in omega arith)
       others clock e = unfold lentAll isLent in refl
 
+-- 02, note 8: a search changes nothing
+module _ (row : Row) (texts numbers bs : List ℕ) (zs ss : List ℤ) (c : Clock) (ls : List ℕ) (f : Found) where
+  abbrev B : List ℕ
+  B = take (row .model) bs
+
+  abbrev Z : List ℤ
+  Z = take (row .state) zs
+
+  abbrev W : Engine
+  W = lentAll B Z (take (row .saves) ss) c
+
+  abbrev K : Ask
+  K = on′ (search′ (rowText texts row) (row .number))
+
+  abbrev r : engine.Answer
+  r = bare (f .number) 0 0
+
+  module _ (g : GivesRun (effect K (lentTwo B Z) []) f (lentTwo B Z)) where
+    abbrev alone : Alone (effect K (lentTwo B Z) [] .answer)
+    alone = run-alone (rowText texts row) (row .number) (lentTwo B Z) []
+
+    alike : Alike twoParts (effect K (lentTwo B Z) []) (effect K W []) W
+    alike = two-effect B Z (take (row .saves) ss) c (search′ (rowText texts row) (row .number)) refl []
+
+    answers-same : effect K (lentTwo B Z) [] .answer ≡ effect K W (take (row .output) ls) .answer
+    answers-same = alike .answer ∙ sym (search-bare (rowText texts row) (row .number) W (take (row .output) ls) .answer)
+
+    numbers-are : foundNumbers f ≡ answerNumbers (effect K W (take (row .output) ls) .answer)
+    numbers-are = by ∙ ap answerNumbers answers-same
+      where
+        entries : getD (f .run) 0 0 ∷ getD (f .run) 1 0 ∷ getD (f .run) 2 0 ∷ getD (f .run) 3 0 ∷ getD (f .run) 4 0 ∷ getD (f .run) 5 0 ∷ getD (f .run) 6 0 ∷ getD (f .run) 7 0 ∷ []
+            ≡ entriesOf (effect K (lentTwo B Z) [] .answer .run)
+        entries = eight (f .run) (ap length (g .run) ∙ eight-entries (effect K (lentTwo B Z) [] .answer .run)) ∙ g .run
+
+        by : foundNumbers f ≡ answerNumbers (effect K (lentTwo B Z) [] .answer)
+        by = unfold foundNumbers answerNumbers in λ i. g .number i ∷ sym (alone .place) i ∷ sym (alone .branch) i ∷ sym (alone .count) i ∷ sym (alone .total) i ∷ sym (alone .chosen) i ∷ g .long i ∷ entries i
+
+    same-two : Gives (effect K (lentTwo B Z) []) r (lentTwo B Z) []
+    same-two = record {
+      number = g .number;
+      place = sym (alone .place);
+      branch = sym (alone .branch);
+      count = sym (alone .count);
+      total = sym (alone .total);
+      chosen = sym (alone .chosen);
+      buffers = g .buffers;
+      output = sym (search-bare (rowText texts row) (row .number) (lentTwo B Z) [] .output);
+    }
+
+    same-all : Gives (effect K W []) r W []
+    same-all = alike-gives (lentTwo B Z) W [] alike same-two at others
+      where
+        at : (p : Part) → isLent p twoParts ≡ true → W p ≡ lentTwo B Z p
+        at model e = unfold lentTwo lentAll isLent in refl
+        at state e = unfold lentTwo lentAll isLent in refl
+        at saves e = unfold lentTwo lentAll isLent in absurd (let z : _≡_ {A = ℕ} 0 1 = cc in omega arith)
+        at clock e = unfold lentTwo lentAll isLent in absurd (let z : _≡_ {A = ℕ} 0 1 = cc in omega arith)
+
+        others : (p : Part) → isLent p twoParts ≡ false → W p ≡ W p
+        others p e = refl
+
+    abbrev L₁ : List ℕ
+    L₁ = take (row .output) ls
+
+    same-bare : Bare (effect K W L₁) (effect K W []) L₁
+    same-bare = search-bare (rowText texts row) (row .number) W L₁
+
+    same-lent : Gives (effect K W L₁) r W L₁
+    same-lent = record {
+      number = same-all .number ∙ sym (ap (λ (a : Answer). a .number) (same-bare .answer));
+      place = same-all .place ∙ sym (ap (λ (a : Answer). a .place) (same-bare .answer));
+      branch = same-all .branch ∙ sym (ap (λ (a : Answer). a .branch) (same-bare .answer));
+      count = same-all .count ∙ sym (ap (λ (a : Answer). a .count) (same-bare .answer));
+      total = same-all .total ∙ sym (ap (λ (a : Answer). a .total) (same-bare .answer));
+      chosen = same-all .chosen ∙ sym (ap (λ (a : Answer). a .chosen) (same-bare .answer));
+      buffers = λ p. same-all .buffers p ∙ sym (ap (λ (z : Engine). z p) (same-bare .left));
+      output = sym (same-bare .output);
+    }
+
+    searched : row .kind ≡ 10 → Called (rowCall texts numbers row) (lentAll bs zs ss c) ls (foundNumbers f) (lentAll bs zs ss c) ls
+    unfolding rowAsk
+    searched e =
+        rw (take-append-drop (row .model) bs, take-append-drop (row .state) zs, take-append-drop (row .saves) ss, take-append-drop (row .output) ls) at
+        (gives-numbers row texts numbers bs zs ss c ls r K (rw e) (foundNumbers f) numbers-are B Z (take (row .saves) ss) c L₁ same-lent)
+
+  pub searching-called : row .kind ≡ 10
+      → GivesRun (effect (on′ (search′ (take (row .text + row .size - row .text) (drop (row .text) texts)) (row .number))) (lentTwo B Z) []) f (lentTwo B Z)
+      → Called (rowCall texts numbers row) (lentAll bs zs ss c) ls (foundNumbers f) (lentAll bs zs ss c) ls
+  searching-called e g = searched (rw (text-is row texts numbers bs zs ss c ls r) at g) e
+
 -- ---- kinds that are left
 
-pub named-kind : (k : ℕ) → 1 ≤ k → k ≤ 9 → (k ≡ 1 → ⊥) → (k ≡ 2 → ⊥) → (k ≡ 4 → ⊥) → (k ≡ 3 → ⊥) → (k ≡ 8 → ⊥) → (k ≡ 9 → ⊥) → (5 ≤ k) × (k ≤ 7)
-named-kind zero l m a b c d e f = absurd (omega arith)
-named-kind (suc zero) l m a b c d e f = absurd (a refl)
-named-kind (suc (suc zero)) l m a b c d e f = absurd (b refl)
-named-kind (suc (suc (suc zero))) l m a b c d e f = absurd (d refl)
-named-kind (suc (suc (suc (suc zero)))) l m a b c d e f = absurd (c refl)
-named-kind (suc (suc (suc (suc (suc zero))))) l m a b c d e f = (omega arith, omega arith)
-named-kind (suc (suc (suc (suc (suc (suc zero)))))) l m a b c d e f = (omega arith, omega arith)
-named-kind (suc (suc (suc (suc (suc (suc (suc zero))))))) l m a b c d e f = (omega arith, omega arith)
-named-kind (suc (suc (suc (suc (suc (suc (suc (suc zero)))))))) l m a b c d e f = absurd (e refl)
-named-kind (suc (suc (suc (suc (suc (suc (suc (suc (suc zero))))))))) l m a b c d e f = absurd (f refl)
-named-kind (suc (suc (suc (suc (suc (suc (suc (suc (suc (suc k)))))))))) l m a b c d e f = absurd (omega arith)
+pub named-kind : (k : ℕ) → 1 ≤ k → k ≤ 10 → (k ≡ 10 → ⊥) → (k ≡ 1 → ⊥) → (k ≡ 2 → ⊥) → (k ≡ 4 → ⊥) → (k ≡ 3 → ⊥) → (k ≡ 8 → ⊥) → (k ≡ 9 → ⊥) → (5 ≤ k) × (k ≤ 7)
+named-kind zero l m g a b c d e f = absurd (omega arith)
+named-kind (suc zero) l m g a b c d e f = absurd (a refl)
+named-kind (suc (suc zero)) l m g a b c d e f = absurd (b refl)
+named-kind (suc (suc (suc zero))) l m g a b c d e f = absurd (d refl)
+named-kind (suc (suc (suc (suc zero)))) l m g a b c d e f = absurd (c refl)
+named-kind (suc (suc (suc (suc (suc zero))))) l m g a b c d e f = (omega arith, omega arith)
+named-kind (suc (suc (suc (suc (suc (suc zero)))))) l m g a b c d e f = (omega arith, omega arith)
+named-kind (suc (suc (suc (suc (suc (suc (suc zero))))))) l m g a b c d e f = (omega arith, omega arith)
+named-kind (suc (suc (suc (suc (suc (suc (suc (suc zero)))))))) l m g a b c d e f = absurd (e refl)
+named-kind (suc (suc (suc (suc (suc (suc (suc (suc (suc zero))))))))) l m g a b c d e f = absurd (f refl)
+named-kind (suc (suc (suc (suc (suc (suc (suc (suc (suc (suc zero)))))))))) l m g a b c d e f = absurd (g refl)
+named-kind (suc (suc (suc (suc (suc (suc (suc (suc (suc (suc (suc k))))))))))) l m g a b c d e f = absurd (omega arith)
 
 pub last-kind : (k : ℕ) → 5 ≤ k → k ≤ 7 → (k ≡ 5 → ⊥) → (k ≡ 6 → ⊥) → k ≡ 7
 last-kind k l m a b = by (k - 5) (omega arith)

@@ -6,14 +6,15 @@ use Prim.Native.Nat.{ℕ, _+_, _-_, _≤_, _<_}
 use native.Mathlib.Omega.{arith}
 use borrow.Author.Tests.{leb-true, leb-false, le-leb, lt-leb}
 use lib.Dec.{leb}
-use lib.ListN.{length, set, drop}
+use lib.ListN.{length, getD, set, drop}
 use Rattle.clock.specs.declared.Clock.{Clock}
 use Rattle.buffers.specs.Parts.{clockNumbers}
 use Rattle.engine.specs.declared.Answer as engine
 use Rattle.script.specs.declared.Row.{Row}
 use Rattle.machine.specs.Machine.{allParts}
 use Rattle.script.specs.Rows.{openKind, lastKind, answerWidth, rowLengths, fits}
-use Rattle.script.specs.Run.{lengthsOf, resultNumbers}
+use Rattle.searching.specs.declared.Found.{Found}
+use Rattle.script.specs.Run.{lengthsOf, resultNumbers, foundNumbers}
 
 -- two tests of one fact
 pub same-test : (a b c d : ℕ) → (a ≤ b → c ≤ d) → (c ≤ d → a ≤ b) → leb a b ≡ leb c d
@@ -75,17 +76,37 @@ module _ (r : Row) (t n m s v k o : ℕ) where
                 unfolding fits allParts rowLengths lengthsOf
                 output-fits e = rw (le-leb openKind (r .kind) a, le-leb (r .kind) lastKind b, c, d, le-leb (r .model) m f, le-leb (r .state) s g, le-leb (r .saves) v i, le-leb 2 k e)
 
--- an answer's numbers, one after the other
+-- fifteen numbers, one after the other
+pub fifteen : (l : List ℕ) (a b c d e f g h i j k m n o p : ℕ) → answerWidth ≤ length l
+    → set (set (set (set (set (set (set (set (set (set (set (set (set (set (set l 0 a) 1 b) 2 c) 3 d) 4 e) 5 f) 6 g) 7 h) 8 i) 9 j) 10 k) 11 m) 12 n) 13 o) 14 p ≡ a ∷ b ∷ c ∷ d ∷ e ∷ f ∷ g ∷ h ∷ i ∷ j ∷ k ∷ m ∷ n ∷ o ∷ p ∷ drop answerWidth l
+fifteen [] a b c d e f g h i j k m n o p q = absurd (omega arith)
+fifteen (x0 ∷ []) a b c d e f g h i j k m n o p q = absurd (omega arith)
+fifteen (x0 ∷ x1 ∷ []) a b c d e f g h i j k m n o p q = absurd (omega arith)
+fifteen (x0 ∷ x1 ∷ x2 ∷ []) a b c d e f g h i j k m n o p q = absurd (omega arith)
+fifteen (x0 ∷ x1 ∷ x2 ∷ x3 ∷ []) a b c d e f g h i j k m n o p q = absurd (omega arith)
+fifteen (x0 ∷ x1 ∷ x2 ∷ x3 ∷ x4 ∷ []) a b c d e f g h i j k m n o p q = absurd (omega arith)
+fifteen (x0 ∷ x1 ∷ x2 ∷ x3 ∷ x4 ∷ x5 ∷ []) a b c d e f g h i j k m n o p q = absurd (omega arith)
+fifteen (x0 ∷ x1 ∷ x2 ∷ x3 ∷ x4 ∷ x5 ∷ x6 ∷ []) a b c d e f g h i j k m n o p q = absurd (omega arith)
+fifteen (x0 ∷ x1 ∷ x2 ∷ x3 ∷ x4 ∷ x5 ∷ x6 ∷ x7 ∷ []) a b c d e f g h i j k m n o p q = absurd (omega arith)
+fifteen (x0 ∷ x1 ∷ x2 ∷ x3 ∷ x4 ∷ x5 ∷ x6 ∷ x7 ∷ x8 ∷ []) a b c d e f g h i j k m n o p q = absurd (omega arith)
+fifteen (x0 ∷ x1 ∷ x2 ∷ x3 ∷ x4 ∷ x5 ∷ x6 ∷ x7 ∷ x8 ∷ x9 ∷ []) a b c d e f g h i j k m n o p q = absurd (omega arith)
+fifteen (x0 ∷ x1 ∷ x2 ∷ x3 ∷ x4 ∷ x5 ∷ x6 ∷ x7 ∷ x8 ∷ x9 ∷ x10 ∷ []) a b c d e f g h i j k m n o p q = absurd (omega arith)
+fifteen (x0 ∷ x1 ∷ x2 ∷ x3 ∷ x4 ∷ x5 ∷ x6 ∷ x7 ∷ x8 ∷ x9 ∷ x10 ∷ x11 ∷ []) a b c d e f g h i j k m n o p q = absurd (omega arith)
+fifteen (x0 ∷ x1 ∷ x2 ∷ x3 ∷ x4 ∷ x5 ∷ x6 ∷ x7 ∷ x8 ∷ x9 ∷ x10 ∷ x11 ∷ x12 ∷ []) a b c d e f g h i j k m n o p q = absurd (omega arith)
+fifteen (x0 ∷ x1 ∷ x2 ∷ x3 ∷ x4 ∷ x5 ∷ x6 ∷ x7 ∷ x8 ∷ x9 ∷ x10 ∷ x11 ∷ x12 ∷ x13 ∷ []) a b c d e f g h i j k m n o p q = absurd (omega arith)
+fifteen (x0 ∷ x1 ∷ x2 ∷ x3 ∷ x4 ∷ x5 ∷ x6 ∷ x7 ∷ x8 ∷ x9 ∷ x10 ∷ x11 ∷ x12 ∷ x13 ∷ x14 ∷ l) a b c d e f g h i j k m n o p q = refl
+
+-- those of an answer
 pub written : (l : List ℕ) (r : engine.Answer) → answerWidth ≤ length l
-    → set (set (set (set (set (set l 0 (r .number)) 1 (r .place)) 2 (r .branch)) 3 (r .count)) 4 (r .total)) 5 (r .chosen) ≡ resultNumbers r ++ drop answerWidth l
+    → set (set (set (set (set (set (set (set (set (set (set (set (set (set (set l 0 (r .number)) 1 (r .place)) 2 (r .branch)) 3 (r .count)) 4 (r .total)) 5 (r .chosen)) 6 0) 7 0) 8 0) 9 0) 10 0) 11 0) 12 0) 13 0) 14 0 ≡ resultNumbers r ++ drop answerWidth l
 unfolding resultNumbers
-written [] r h = absurd (omega arith)
-written (a ∷ []) r h = absurd (omega arith)
-written (a ∷ b ∷ []) r h = absurd (omega arith)
-written (a ∷ b ∷ c ∷ []) r h = absurd (omega arith)
-written (a ∷ b ∷ c ∷ d ∷ []) r h = absurd (omega arith)
-written (a ∷ b ∷ c ∷ d ∷ e ∷ []) r h = absurd (omega arith)
-written (a ∷ b ∷ c ∷ d ∷ e ∷ f ∷ l) r h = refl
+written l r h = fifteen l (r .number) (r .place) (r .branch) (r .count) (r .total) (r .chosen) 0 0 0 0 0 0 0 0 0 h
+
+-- 02, note 8: and of what a search found
+pub found-written : (l : List ℕ) (f : Found) → answerWidth ≤ length l
+    → set (set (set (set (set (set (set (set (set (set (set (set (set (set (set l 0 (f .number)) 1 0) 2 0) 3 0) 4 0) 5 0) 6 (f .length)) 7 (getD (f .run) 0 0)) 8 (getD (f .run) 1 0)) 9 (getD (f .run) 2 0)) 10 (getD (f .run) 3 0)) 11 (getD (f .run) 4 0)) 12 (getD (f .run) 5 0)) 13 (getD (f .run) 6 0)) 14 (getD (f .run) 7 0) ≡ foundNumbers f ++ drop answerWidth l
+unfolding foundNumbers
+found-written l f h = fifteen l (f .number) 0 0 0 0 0 (f .length) (getD (f .run) 0 0) (getD (f .run) 1 0) (getD (f .run) 2 0) (getD (f .run) 3 0) (getD (f .run) 4 0) (getD (f .run) 5 0) (getD (f .run) 6 0) (getD (f .run) 7 0) h
 
 -- and a clock's
 pub clock-written : (l : List ℕ) (c : Clock) → 2 ≤ length l → set (set l 0 (c .ticks)) 1 (c .draws) ≡ clockNumbers c ++ drop 2 l

@@ -16,6 +16,7 @@ use Rattle.script.specs.Run.{Lent, roomOf, effectOf, answerNumbers, call
 use Rattle.script.specs.Follows.{engineIn, answersNumbers, partShown, outputsShown, Follows, Refines}
 use Rattle.script.proofs.Front.{front-take, front-drop}
 use Rattle.script.proofs.Called.{Fits, call-fits, Done, done}
+use Rattle.script.proofs.Calling.{eight-entries}
 
 -- a list whose first n numbers are all there, and whose others are as many as another's
 same-length : {A : Type 0} (n : ℕ) (l k : List A) → length (take n l) ≡ n → length (take n k) ≡ n → drop n l ≡ drop n k → length l ≡ length k
@@ -31,7 +32,7 @@ module _ (y : Machine) (c : Call) (x : Lent) (f : Fits c (roomOf x)) (h : Holds 
   -- the row's own answer and listing, and what stands after them
   answer-long : length (answerNumbers (effectOf c (x .engine) (x .outputs) .answer)) ≡ length (take answerWidth (x .answers))
   unfolding answerNumbers roomOf
-  answer-long = sym (length-take-le answerWidth (x .answers) (f .answer))
+  answer-long = ap (λ (n : ℕ). suc (suc (suc (suc (suc (suc (suc n))))))) (eight-entries (effectOf c (x .engine) (x .outputs) .answer .run)) ∙ sym (length-take-le answerWidth (x .answers) (f .answer))
 
   answer-is : take answerWidth (z .answers) ≡ answerNumbers (calls y c .answer)
   unfolding callLeft

@@ -69,8 +69,14 @@ clock-numbers [] h = absurd (omega arith)
 clock-numbers (a ∷ []) h = absurd (omega arith)
 clock-numbers (a ∷ b ∷ cs) h = refl
 
+-- two numbers are those of their clock
+pub clock-whole : (cs : List ℕ) → 2 ≤ length cs → cs ≡ clockNumbers (clockIn cs) ++ drop 2 cs
+clock-whole [] h = absurd (omega arith)
+clock-whole (a ∷ []) h = absurd (omega arith)
+clock-whole (a ∷ b ∷ cs) h = refl
+
 -- a call that is given the clock, on the numbers of a clock
-module _ (texts numbers : List ℕ) (row : Row) (bs : List ℕ) (zs ss : List ℤ) (cs ls : List ℕ) (r : engine.Answer) (bs′ : List ℕ) (zs′ ss′ : List ℤ) (c′ : Clock) (cs′ ls′ : List ℕ) where
+module _ (texts numbers : List ℕ) (row : Row) (bs : List ℕ) (zs ss : List ℤ) (cs ls ns : List ℕ) (bs′ : List ℕ) (zs′ ss′ : List ℤ) (c′ : Clock) (cs′ ls′ : List ℕ) where
   abbrev C : Call
   C = rowCall texts numbers row
 
@@ -95,12 +101,12 @@ module _ (texts numbers : List ℕ) (row : Row) (bs : List ℕ) (zs ss : List �
     left-same p = ap (λ (w : Effect). w .left p) same
 
     -- the clock's own numbers, all that a call leaves there
-    clock-left : Called C (lentAll bs zs ss (clockIn cs)) ls r (lentAll bs′ zs′ ss′ c′) ls′ → clockNumbers c′ ≡ given .left clock
+    clock-left : Called C (lentAll bs zs ss (clockIn cs)) ls ns (lentAll bs′ zs′ ss′ c′) ls′ → clockNumbers c′ ≡ given .left clock
     unfolding lentAll rowCall rowLengths
     clock-left k = k .engine clock ∙ append-nil _
 
-    pub clock-called : Called C (lentAll bs zs ss (clockIn cs)) ls r (lentAll bs′ zs′ ss′ c′) ls′ → cs′ ≡ clockNumbers c′ ++ drop 2 cs
-        → Called C (lentFour bs zs ss cs) ls r (lentFour bs′ zs′ ss′ cs′) ls′
+    pub clock-called : Called C (lentAll bs zs ss (clockIn cs)) ls ns (lentAll bs′ zs′ ss′ c′) ls′ → cs′ ≡ clockNumbers c′ ++ drop 2 cs
+        → Called C (lentFour bs zs ss cs) ls ns (lentFour bs′ zs′ ss′ cs′) ls′
     clock-called k e = record {
       numbers = k .numbers ∙ ap (λ (w : Effect). answerNumbers (w .answer)) same;
       engine = at;
@@ -114,9 +120,9 @@ module _ (texts numbers : List ℕ) (row : Row) (bs : List ℕ) (zs ss : List �
         at clock = unfold lentFour rowCall rowLengths in e ∙ ap (λ (l : List ℕ). l ++ drop 2 cs) (clock-left k ∙ left-same clock)
 
 -- the call and the answer together
-pub call-left : (c : Call) (x : Engine) (ls ns : List ℕ) (r : engine.Answer) (x′ : Engine) (ls′ ns′ : List ℕ)
-    → Called c x ls r x′ ls′ → ns′ ≡ resultNumbers r ++ drop answerWidth ns → lentOf x′ ls′ ns′ ≡ callLeft c (lentOf x ls ns)
+pub call-left : (c : Call) (x : Engine) (ls ns qs : List ℕ) (x′ : Engine) (ls′ ns′ : List ℕ)
+    → Called c x ls qs x′ ls′ → ns′ ≡ qs ++ drop answerWidth ns → lentOf x′ ls′ ns′ ≡ callLeft c (lentOf x ls ns)
 unfolding callLeft
-call-left c x ls ns r x′ ls′ ns′ k e =
+call-left c x ls ns qs x′ ls′ ns′ k e =
     let a = e ∙ ap (λ (l : List ℕ). l ++ drop answerWidth ns) (k .numbers) in
     λ i. lentOf (λ (p : Part). k .engine p i) (k .outputs i) (a i)

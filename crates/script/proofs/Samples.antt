@@ -1,11 +1,12 @@
--- A script of ten rows, by computation: it opens a text, lists, steps with a listing one number short, reports, saves, returns with saves one number short, forgets, makes a timed step with two waiting draws, opens under the steady profile, and ends at a row of no kind.
+-- A script of eleven rows, by computation: it opens a text, lists, steps with a listing one number short, reports, saves, returns with saves one number short, forgets, makes a timed step with two waiting draws,
+-- opens a text under the steady profile, searches for a wait to depth 3, and ends at a row of no kind.
 use mathlib.Core.Path.{_≡_, refl}
 use mathlib.Core.List.{List, [], _∷_}
 use mathlib.Core.Option.{Option·elim}
 use Prim.Native.Nat.{ℕ}
 use Rattle.machine.specs.State.{stateLength}
 use Rattle.machine.specs.Saves.{savesLength}
-use Rattle.machine.specs.Machine.{asLent, no, closed, list′, step′, report′, timed′, save′, return′, forget′, Ask, open′, openSteady′, on′, model, state, saves, size, allParts, hasLengths, Call, call, onMachine, asked, calls}
+use Rattle.machine.specs.Machine.{asLent, no, closed, list′, step′, report′, search′, timed′, save′, return′, forget′, Ask, open′, openSteady′, on′, model, state, saves, size, allParts, hasLengths, Call, call, onMachine, asked, calls}
 use Rattle.script.specs.Rows.{rowOf, rows, rowsOf, rowLengths, Room, roomAfter, fits, rowText, rowDraws, rowAsk, rowCall, callOf, callsOf, callsIn}
 
 abbrev texts : List ℕ
@@ -22,11 +23,12 @@ script =
     ∷ 7 ∷ 3 ∷ 0 ∷ 0 ∷ 0 ∷ 0 ∷ 0 ∷ 16386 ∷ stateLength ∷ savesLength
     ∷ 8 ∷ 0 ∷ 0 ∷ 1 ∷ 2 ∷ 250 ∷ 7168 ∷ 16386 ∷ stateLength ∷ 0
     ∷ 9 ∷ 0 ∷ 1 ∷ 0 ∷ 0 ∷ 0 ∷ 0 ∷ 16386 ∷ stateLength ∷ savesLength
-    ∷ 10 ∷ 0 ∷ 0 ∷ 0 ∷ 0 ∷ 0 ∷ 7168 ∷ 16386 ∷ stateLength ∷ 0
+    ∷ 10 ∷ 1 ∷ 2 ∷ 0 ∷ 0 ∷ 3 ∷ 0 ∷ 16386 ∷ stateLength ∷ 0
+    ∷ 11 ∷ 0 ∷ 0 ∷ 0 ∷ 0 ∷ 0 ∷ 7168 ∷ 16386 ∷ stateLength ∷ 0
     ∷ []
 
 abbrev room : Room
-room = record { parts = size; outputs = 71680; answers = 60 }
+room = record { parts = size; outputs = 78848; answers = 165 }
 
 -- what each call asks, with the lengths of model, state, saves and output
 pub record Told : Type 0 where
@@ -47,7 +49,7 @@ pub sample-calls :
     tell (callsIn script texts (7 ∷ 40000 ∷ 50000 ∷ []) room)
     ≡ told (open′ (66 ∷ 67 ∷ [])) 16386 stateLength savesLength 0 ∷ told (on′ list′) 16386 stateLength 0 7168 ∷ told (on′ (step′ 250)) 16386 stateLength 0 7167 ∷ told (on′ report′) 16386 stateLength 0 64
     ∷ told (on′ (save′ (65 ∷ 66 ∷ 67 ∷ []))) 16386 stateLength savesLength 0 ∷ told (on′ (return′ (66 ∷ 67 ∷ []))) 16386 stateLength 41007 0 ∷ told (on′ (forget′ [])) 16386 stateLength savesLength 0
-    ∷ told (on′ (timed′ (40000 ∷ 50000 ∷ []) 250)) 16386 stateLength 0 7168 ∷ told (openSteady′ (65 ∷ [])) 16386 stateLength savesLength 0 ∷ []
+    ∷ told (on′ (timed′ (40000 ∷ 50000 ∷ []) 250)) 16386 stateLength 0 7168 ∷ told (openSteady′ (65 ∷ [])) 16386 stateLength savesLength 0 ∷ told (on′ (search′ (66 ∷ 67 ∷ []) 3)) 16386 stateLength 0 0 ∷ []
 unfolding tell callsIn callsOf rowsOf rows rowOf rowLengths roomAfter fits allParts rowText rowDraws rowAsk rowCall callOf Option·elim
 sample-calls = refl
 

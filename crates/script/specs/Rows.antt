@@ -5,7 +5,7 @@ use mathlib.Core.Option.{Option, none, some, Option·elim}
 use Prim.Native.Nat.{ℕ, zero, suc, _+_, _-_, _/_}
 use lib.Dec.{eqb, leb}
 use lib.ListN.{length, getD, take, drop}
-use Rattle.machine.specs.Machine.{listingLength, list′, step′, report′, timed′, save′, return′, forget′, Ask, open′, openSteady′, on′, Part, model, state, saves, clock, size, allParts, Call, call}
+use Rattle.machine.specs.Machine.{listingLength, list′, step′, report′, search′, timed′, save′, return′, forget′, Ask, open′, openSteady′, on′, Part, model, state, saves, clock, size, allParts, Call, call}
 use Rattle.script.specs.declared.Row.{Row}
 
 -- numbers of a row, and of an answer
@@ -13,7 +13,7 @@ abbrev pub rowWidth : ℕ
 rowWidth = 10
 
 abbrev pub answerWidth : ℕ
-answerWidth = 6
+answerWidth = 15
 
 -- the kinds of rows
 abbrev pub openKind : ℕ
@@ -43,12 +43,15 @@ timedKind = 8
 abbrev pub steadyKind : ℕ
 steadyKind = 9
 
+abbrev pub searchKind : ℕ
+searchKind = 10
+
 abbrev pub lastKind : ℕ
-lastKind = steadyKind
+lastKind = searchKind
 
 -- ---- rows
 
--- kind; place and size of a text or name, and of a list of numbers; a draw; how many numbers of the output and of each part are lent
+-- kind; place and size of a text or name, and of a list of numbers; a draw or a depth; how many numbers of the output and of each part are lent
 unfoldable pub rowOf : List ℕ → Row
 rowOf l = record {
   kind = getD l 0 0;
@@ -110,17 +113,18 @@ rowText texts r = take (r .size) (drop (r .text) texts)
 unfoldable pub rowDraws : List ℕ → Row → List ℕ
 rowDraws numbers r = take (r .count) (drop (r .from) numbers)
 
--- 01, Rule machine: what a row that fits asks: a text or a draw; 02, note 11: or a text under the steady profile; note 2: or a name; note 4: or waiting draws and a draw
+-- 01, Rule machine: what a row that fits asks: a text or a draw; 02, note 11: or a text under the steady profile; note 2: or a name; note 4: or waiting draws and a draw; note 8: or a name and a depth
 unfoldable pub rowAsk : (texts numbers : List ℕ) → Row → Ask
 rowAsk texts numbers r =
     cond (eqb (r .kind) openKind) (open′ (rowText texts r))
     (cond (eqb (r .kind) steadyKind) (openSteady′ (rowText texts r))
+    (cond (eqb (r .kind) searchKind) (on′ (search′ (rowText texts r) (r .number)))
     (cond (eqb (r .kind) listKind) (on′ list′)
     (cond (eqb (r .kind) reportKind) (on′ report′)
     (cond (eqb (r .kind) stepKind) (on′ (step′ (r .number)))
     (cond (eqb (r .kind) timedKind) (on′ (timed′ (rowDraws numbers r) (r .number)))
     (cond (eqb (r .kind) saveKind) (on′ (save′ (rowText texts r)))
-    (cond (eqb (r .kind) returnKind) (on′ (return′ (rowText texts r))) (on′ (forget′ (rowText texts r))))))))))
+    (cond (eqb (r .kind) returnKind) (on′ (return′ (rowText texts r))) (on′ (forget′ (rowText texts r)))))))))))
 
 -- 01, Rule machine: its call, with the lengths of what is lent
 unfoldable pub rowCall : (texts numbers : List ℕ) → Row → Call

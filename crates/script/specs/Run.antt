@@ -5,10 +5,12 @@ use mathlib.Core.List.{List, [], _∷_, _++_}
 use mathlib.Core.Option.{Option, none, some}
 use Prim.Native.Nat.{ℕ, _*_}
 use lib.IntN.{ℤ}
-use lib.ListN.{length, take, drop}
+use lib.ListN.{length, getD, take, drop}
 use Rattle.machine.specs.Machine.{listingLength, Answer, Part, model, state, saves, clock, Call}
 use Rattle.buffers.specs.Parts.{Engine}
 use Rattle.buffers.specs.Effect.{Effect, effect}
+use Rattle.searching.specs.declared.Found.{Found}
+use Rattle.searching.specs.Run.{entriesOf}
 use Rattle.engine.specs.declared.Answer as engine
 use Rattle.script.specs.Rows.{rowWidth, answerWidth, Room, firstCall, callsIn}
 
@@ -43,9 +45,9 @@ lengthsOf m s v t clock = t
 unfoldable pub effectOf : Call → Engine → List ℕ → Effect
 effectOf c x ls = effect (c .ask) (λ (p : Part). take (c .lengths p) (x p)) (take (c .output) ls)
 
--- 01, Rule machine: the numbers that an answer carries
+-- 01, Rule machine: the numbers that an answer carries; 02, note 8: with the length of its run and eight entry numbers
 unfoldable pub answerNumbers : Answer → List ℕ
-answerNumbers a = a .number ∷ a .place ∷ a .branch ∷ a .count ∷ a .total ∷ a .chosen ∷ []
+answerNumbers a = a .number ∷ a .place ∷ a .branch ∷ a .count ∷ a .total ∷ a .chosen ∷ length (a .run) ∷ entriesOf (a .run)
 
 -- one call: the first numbers of each buffer are what it leaves there, the rest is as it was
 unfoldable pub callLeft : Call → Lent → Lent
@@ -72,13 +74,19 @@ runLeft (c ∷ cs) x = let y = callLeft c x in joined y (runLeft cs (nextLent y)
 
 -- ---- what the code gives
 
--- the numbers of a call's result
+-- the numbers of a call's result, which has no run
 unfoldable pub resultNumbers : engine.Answer → List ℕ
-resultNumbers r = r .number ∷ r .place ∷ r .branch ∷ r .count ∷ r .total ∷ r .chosen ∷ []
+resultNumbers r = r .number ∷ r .place ∷ r .branch ∷ r .count ∷ r .total ∷ r .chosen ∷ 0 ∷ 0 ∷ 0 ∷ 0 ∷ 0 ∷ 0 ∷ 0 ∷ 0 ∷ 0 ∷ []
 
--- one call: its result, and the buffers of which it was lent the first numbers
-pub record Called (c : Call) (x : Engine) (ls : List ℕ) (r : engine.Answer) (x′ : Engine) (ls′ : List ℕ) : Type 0 where
-  pub numbers : resultNumbers r ≡ answerNumbers (effectOf c x ls .answer)
+-- 02, note 8: those of a search's, which has no more than a run
+unfoldable pub foundNumbers : Found → List ℕ
+foundNumbers f =
+    f .number ∷ 0 ∷ 0 ∷ 0 ∷ 0 ∷ 0 ∷ f .length ∷ getD (f .run) 0 0 ∷ getD (f .run) 1 0 ∷ getD (f .run) 2 0 ∷ getD (f .run) 3 0
+    ∷ getD (f .run) 4 0 ∷ getD (f .run) 5 0 ∷ getD (f .run) 6 0 ∷ getD (f .run) 7 0 ∷ []
+
+-- one call: the numbers ns of its result, and the buffers of which it was lent the first numbers
+pub record Called (c : Call) (x : Engine) (ls ns : List ℕ) (x′ : Engine) (ls′ : List ℕ) : Type 0 where
+  pub numbers : ns ≡ answerNumbers (effectOf c x ls .answer)
   pub engine : (p : Part) → x′ p ≡ effectOf c x ls .left p ++ drop (c .lengths p) (x p)
   pub outputs : ls′ ≡ effectOf c x ls .output ++ drop (c .output) ls
 

@@ -2,6 +2,7 @@
 use clock::Clock;
 use engine::Answer;
 use engine::Timed;
+use searching::Found;
 use store::Engine;
 ghost use mathlib.Core.Path.{_≡_};
 ghost use mathlib.Core.Bool.{true};
@@ -11,11 +12,11 @@ ghost use lib.Dec.{leb};
 ghost use lib.IntN.{ℤ};
 ghost use lib.ListN.{length, drop};
 ghost use Rattle.buffers.specs.Parts.{clockNumbers, clockIn, lentAll};
-ghost use Rattle.script.specs.Rows.{rowWidth, answerWidth, saveKind, forgetKind, timedKind, steadyKind, rowOf, fits, rowCall, firstCall};
-ghost use Rattle.script.specs.Run.{lentFour, lentOf, roomOf, lengthsOf, resultNumbers, Called, RowRan, RowRanAt, Ran};
+ghost use Rattle.script.specs.Rows.{rowWidth, answerWidth, saveKind, forgetKind, timedKind, steadyKind, searchKind, rowOf, fits, rowCall, firstCall};
+ghost use Rattle.script.specs.Run.{lentFour, lentOf, roomOf, lengthsOf, resultNumbers, foundNumbers, Called, RowRan, RowRanAt, Ran};
 ghost use Rattle.script.specs.Follows.{Refines};
 
-// A row: the kind of call; place and size of its text or name, and of its waiting draws; its draw; how many numbers of the output, the model, the state and the saves it is lent.
+// A row: the kind of call; place and size of its text or name, and of its waiting draws; its draw or depth; how many numbers of the output, the model, the state and the saves it is lent.
 pub struct Row {
     pub kind: u64,
     pub text: usize,
@@ -33,7 +34,7 @@ impl Row {
     // Numbers of a row, and of an answer.
     pub const WIDTH: usize = 10;
 
-    pub const ANSWER: usize = 6;
+    pub const ANSWER: usize = 15;
 
     // Numbers of a clock.
     pub const CLOCK: usize = 2;
@@ -57,7 +58,9 @@ impl Row {
 
     pub const STEADY: u64 = 9;
 
-    pub const LAST: u64 = Row::STEADY;
+    pub const SEARCH: u64 = 10;
+
+    pub const LAST: u64 = Row::SEARCH;
 }
 
 // The first row of a script.
@@ -139,7 +142,7 @@ fn call_named(
     clock: Clock,
 ) -> Timed
     requires { ⌜ (saveKind ≤ row .kind) × ((row .kind ≤ forgetKind) × ((n : ℕ) × ((t : ℕ) × ((o : ℕ) × (fits row (length (now texts)) n (lengthsOf (length (now model)) (length (now state)) (length (now saves)) t) o ≡ true))))) ⌝ }
-    ensures { λ r. ⌜ ((ns ls : List ℕ) → Called (rowCall (now (texts .entry)) ns row) (lentAll (now (model .entry)) (now (state .entry)) (now (saves .entry)) clock) ls (r .answer) (lentAll (now (model .entry)) (now (state .exit)) (now (saves .exit)) (r .clock)) ls) ⌝ }
+    ensures { λ r. ⌜ ((ns ls : List ℕ) → Called (rowCall (now (texts .entry)) ns row) (lentAll (now (model .entry)) (now (state .entry)) (now (saves .entry)) clock) ls (resultNumbers (r .answer)) (lentAll (now (model .entry)) (now (state .exit)) (now (saves .exit)) (r .clock)) ls) ⌝ }
 {
     let m = row.model;
     let s = row.state;
@@ -184,7 +187,7 @@ fn call_timed(
     clock: Clock,
 ) -> Timed
     requires { ⌜ (row .kind ≡ timedKind) × ((t : ℕ) × ((v : ℕ) × ((k : ℕ) × (fits row t (length (now numbers)) (lengthsOf (length (now model)) (length (now state)) v k) (length (now outputs)) ≡ true)))) ⌝ }
-    ensures { λ r. ⌜ ((texts : List ℕ) (ss : List ℤ) → Called (rowCall texts (now (numbers .entry)) row) (lentAll (now (model .entry)) (now (state .entry)) ss clock) (now (outputs .entry)) (r .answer) (lentAll (now (model .entry)) (now (state .exit)) ss (r .clock)) (now (outputs .exit))) ⌝ }
+    ensures { λ r. ⌜ ((texts : List ℕ) (ss : List ℤ) → Called (rowCall texts (now (numbers .entry)) row) (lentAll (now (model .entry)) (now (state .entry)) ss clock) (now (outputs .entry)) (resultNumbers (r .answer)) (lentAll (now (model .entry)) (now (state .exit)) ss (r .clock)) (now (outputs .exit))) ⌝ }
 {
     let m = row.model;
     let s = row.state;
@@ -211,7 +214,7 @@ fn call_steady(
     clock: Clock,
 ) -> Timed
     requires { ⌜ (row .kind ≡ steadyKind) × ((n : ℕ) × ((t : ℕ) × ((o : ℕ) × (fits row (length (now texts)) n (lengthsOf (length (now model)) (length (now state)) (length (now saves)) t) o ≡ true)))) ⌝ }
-    ensures { λ r. ⌜ ((ns ls : List ℕ) → Called (rowCall (now (texts .entry)) ns row) (lentAll (now (model .entry)) (now (state .entry)) (now (saves .entry)) clock) ls (r .answer) (lentAll (now (model .exit)) (now (state .exit)) (now (saves .exit)) (r .clock)) ls) ⌝ }
+    ensures { λ r. ⌜ ((ns ls : List ℕ) → Called (rowCall (now (texts .entry)) ns row) (lentAll (now (model .entry)) (now (state .entry)) (now (saves .entry)) clock) ls (resultNumbers (r .answer)) (lentAll (now (model .exit)) (now (state .exit)) (now (saves .exit)) (r .clock)) ls) ⌝ }
 {
     let m = row.model;
     let s = row.state;
@@ -227,6 +230,18 @@ fn call_steady(
     )
 }
 
+// Makes the search of a row.
+fn call_search(row: Row, texts: &[u8], model: &[u8], state: &[i64]) -> Found
+    requires { ⌜ (row .kind ≡ searchKind) × ((n : ℕ) × ((v : ℕ) × ((t : ℕ) × ((o : ℕ) × (fits row (length (now texts)) n (lengthsOf (length (now model)) (length (now state)) v t) o ≡ true))))) ⌝ }
+    ensures { λ r. ⌜ ((ns ls : List ℕ) (ss : List ℤ) (c : Clock) → Called (rowCall (now (texts .entry)) ns row) (lentAll (now (model .entry)) (now (state .entry)) ss c) ls (foundNumbers r) (lentAll (now (model .entry)) (now (state .entry)) ss c) ls) ⌝ }
+{
+    let m = row.model;
+    let s = row.state;
+    let first = row.text;
+    let end = first + row.size;
+    engine::searches::search(&model[..m], &state[..s], &texts[first..end], row.number)
+}
+
 // Makes the call of a row.
 fn call(
     row: Row,
@@ -238,8 +253,9 @@ fn call(
     outputs: &mut [u64],
     clock: Clock,
 ) -> Timed
+    requires { ⌜ (row .kind ≡ searchKind → ⊥) ⌝ }
     requires { ⌜ ((t : ℕ) × (fits row (length (now texts)) (length (now numbers)) (lengthsOf (length (now model)) (length (now state)) (length (now saves)) t) (length (now outputs)) ≡ true)) ⌝ }
-    ensures { λ r. ⌜ Called (rowCall (now (texts .entry)) (now (numbers .entry)) row) (lentAll (now (model .entry)) (now (state .entry)) (now (saves .entry)) clock) (now (outputs .entry)) (r .answer) (lentAll (now (model .exit)) (now (state .exit)) (now (saves .exit)) (r .clock)) (now (outputs .exit)) ⌝ }
+    ensures { λ r. ⌜ Called (rowCall (now (texts .entry)) (now (numbers .entry)) row) (lentAll (now (model .entry)) (now (state .entry)) (now (saves .entry)) clock) (now (outputs .entry)) (resultNumbers (r .answer)) (lentAll (now (model .exit)) (now (state .exit)) (now (saves .exit)) (r .clock)) (now (outputs .exit)) ⌝ }
 {
     let m = row.model;
     let s = row.state;
@@ -308,6 +324,38 @@ fn put_answer(answers: &mut [u64], answer: Answer)
     answers[3] = answer.count;
     answers[4] = answer.total;
     answers[5] = answer.chosen;
+    answers[6] = 0;
+    answers[7] = 0;
+    answers[8] = 0;
+    answers[9] = 0;
+    answers[10] = 0;
+    answers[11] = 0;
+    answers[12] = 0;
+    answers[13] = 0;
+    answers[14] = 0;
+}
+
+// Writes the numbers of what a search found over the first of answers.
+fn put_found(answers: &mut [u64], found: Found)
+    requires { ⌜ answerWidth ≤ length (now answers) ⌝ }
+    ensures { λ _. ⌜ now (answers .exit) ≡ foundNumbers found ++ drop answerWidth (now (answers .entry)) ⌝ }
+{
+    let run = found.run;
+    answers[0] = found.number;
+    answers[1] = 0;
+    answers[2] = 0;
+    answers[3] = 0;
+    answers[4] = 0;
+    answers[5] = 0;
+    answers[6] = found.length;
+    answers[7] = run[0];
+    answers[8] = run[1];
+    answers[9] = run[2];
+    answers[10] = run[3];
+    answers[11] = run[4];
+    answers[12] = run[5];
+    answers[13] = run[6];
+    answers[14] = run[7];
 }
 
 // Runs the first row of a script, if it is a call.
@@ -342,6 +390,11 @@ fn run_row(
         outputs.len(),
     ) {
         return false;
+    }
+    if row.kind == Row::SEARCH {
+        let found = call_search(row, texts, &model[..], &state[..]);
+        put_found(answers, found);
+        return true;
     }
     let now = clock_of(&clock[..]);
     let timed = call(row, texts, numbers, model, state, saves, outputs, now);

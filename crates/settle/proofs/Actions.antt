@@ -154,7 +154,7 @@ module _ (w : ℕ → List ℕ) (vs : List Variable) (ds : List Definition) (cs 
         → (a : ℕ) → Moves w vs ds cs told t t′ roots scopes trace first last p (entered p (actionUse w vs sc x) (bindings x)) a 0 [] (Table.Action t x) (settled.Action t′ (resolveAction w vs ds cs sc x))
     unfolding Table.Action actionSites actionUse bindings tokensOf everyOther resolveAction settled.Action roleOf numberKind firsts stepBy cellBy
     action-moves (Syntax.wait n) h =
-        leaf w vs ds cs told t t′ roots scopes trace first last steps role.action (omega arith) refl (λ x. absurd (let z : _≡_ {A = ℕ} 0 1 = cc in omega arith)) (λ x. absurd (let z : _≡_ {A = ℕ} 0 1 = cc in omega arith)) (λ c b e z. rw z) (λ c b e z. rw z (omega arith, inr (inr refl))) (λ k c κ n o u v x d y. ap kindOf y ∙ κ)
+        leaf w vs ds cs told t t′ roots scopes trace first last steps role.action (omega arith) refl (λ x. absurd (let z : _≡_ {A = ℕ} 0 1 = cc in omega arith)) (λ x. absurd (let z : _≡_ {A = ℕ} 0 1 = cc in omega arith)) (λ c b e z. rw z) (λ c b e z. rw z (omega arith, inr (inr refl))) (λ k c κ n o u v x d y. record { kind-is = ap kindOf y ∙ κ; index-is = ap tokenOf y ∙ n })
     action-moves (Syntax.launch c v) h =
         with-channel c (omega arith) refl (inr (inr refl)) (λ lo k x. values-interval v .low x) (λ x i. h x (left (valuesSites v) i)) (omega arith) (values-keep (channelUse w vs sc c) v (λ x i. h x (right (channelSites w c) i)))
     action-moves (Syntax.kill c v) h =

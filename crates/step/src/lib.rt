@@ -204,6 +204,36 @@ fn find_branch(
     }
 }
 
+// The branch at k behind its gate, if it has one.
+fn past_gate(nodes: &[u64], k: usize) -> usize
+    requires { ⌜ ((b : Resolved.Branch) × Settled.Branch (now nodes) b k) ⌝ }
+    ensures { λ r. ⌜ ((b : Resolved.Branch) → Settled.Branch (now (nodes .entry)) b k → Settled.Offer (now (nodes .entry)) (b .action) (b .rate) (b .next) r) ⌝ }
+{
+    if tree::kind_of(eval::cell_at(nodes, k)) != NodeKind::GATE {
+        return k;
+    }
+    k - 1
+}
+
+// The token of the wait that branch j of the process at place i is.
+pub fn wait_token(
+    nodes: &[u64],
+    roots: &[u16],
+    scopes: &[u16],
+    state: &[i64],
+    i: usize,
+    j: usize,
+) -> usize
+    requires { ⌜ Enter.Acting (now nodes) (now roots) (now scopes) (now state) i j ⌝ }
+    ensures { λ r. ⌜ ((m : Resolved.Model) (s : State) (p : Process) (b : Resolved.Branch) (g : Guard) (n : ℕ) → Enter.Acts (now (nodes .entry)) (now (roots .entry)) (now (scopes .entry)) (now (state .entry)) i j m s p b g → b .action ≡ Resolved.wait n → r ≡ n) ⌝ }
+{
+    let found = find_branch(nodes, roots, scopes, state, i, j);
+    let k = past_gate(nodes, found.root);
+    let prefix = eval::cell_at(nodes, k);
+    let action = eval::cell_at(nodes, tree::left_of(prefix));
+    tree::token_of(action)
+}
+
 // What the process at place i enters by branch j, whose names take the values.
 fn enter(
     nodes: &[u64],

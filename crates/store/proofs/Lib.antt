@@ -3,3 +3,4 @@ pub mod Towards
 pub mod Nodes
 pub mod Opened
 pub mod Bytes
+pub mod Tables

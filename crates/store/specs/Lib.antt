@@ -1,3 +1,4 @@
--- How the opened state is written, and what the test of a model buffer finds.
+-- How the opened state is written, what the test of a model buffer finds, and the tables of its model.
 pub mod Start
 pub mod Text
+pub mod Tables

@@ -110,7 +110,7 @@ module _ (t : List ℕ) where
   OneOrTwo P (x ∷ y ∷ z ∷ xs) k = ⊥
 
   unfoldable pub Action : Resolved.Action → ℕ → Type 0
-  Action Resolved.wait k = kindAt k ≡ node.wait
+  Action (Resolved.wait n) k = Index node.wait n k
   Action (Resolved.launch c v) k = Pair node.launch (Channel c) (OneOrTwo Expr v) k
   Action (Resolved.kill c v) k = Pair node.kill (Channel c) (OneOrTwo Expr v) k
   Action (Resolved.receive c s) k = Pair node.receive (Channel c) (OneOrTwo Set s) k

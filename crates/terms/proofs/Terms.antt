@@ -30,7 +30,7 @@ use Rattle.machine.specs.State.{State, stateLength}
 use Rattle.machine.specs.Timed.{Timed}
 use Rattle.machine.specs.Report.{reportLength}
 use Rattle.machine.specs.Saves.{Saves, Stored, saving, returning, forgetting}
-use Rattle.machine.specs.Machine.{modelLength, listingLength, asLent, no, Held, heldAll, heldWith, held, Machine, closed, holding, onSaves, Request, list′, step′, report′, timed′, save′, return′, forget′, open′, openSteady′, on′, acts, Part, model, state, saves, clock, size, twoParts, timedParts, threeParts, fourParts, uses, lentTo, isLent, hasLengths, call, onMachine}
+use Rattle.machine.specs.Machine.{modelLength, listingLength, asLent, no, Held, heldAll, heldWith, held, Machine, closed, holding, onSaves, Request, list′, step′, report′, search′, timed′, save′, return′, forget′, open′, openSteady′, on′, acts, Part, model, state, saves, clock, size, twoParts, timedParts, threeParts, fourParts, uses, lentTo, isLent, hasLengths, call, onMachine}
 use Rattle.machine.proofs.Lent.{lent-so}
 use Rattle.machine.proofs.Listing.{accepted}
 use Rattle.buffers.specs.Listing.{shown}
@@ -44,7 +44,7 @@ use Rattle.buffers.proofs.Four as fours
 use Rattle.buffers.proofs.Four.{InFour, in-four, keeps}
 use Rattle.buffers.proofs.Three as threes
 use Rattle.buffers.proofs.Three.{InThree, all, in-three, stores}
-use Rattle.buffers.proofs.Answers.{lists-as, steps-as, reports-as}
+use Rattle.buffers.proofs.Answers.{lists-as, steps-as, reports-as, searches-as}
 use Rattle.buffers.proofs.Every.{every-list}
 use Rattle.terms.specs.One.{Lengths, Hold, Opens, no1, no10, yes10, OpensSteady, no29, yes29, Asks, HoldSaves, Waits, Keeps, Stores, TermOne}
 use Rattle.terms.specs.One as one
@@ -244,6 +244,7 @@ term-one = record {
   listing = λ x l byte. asks x l byte list′ _ refl refl (λ m s h a b e. lists-as x l a b m s e (h .output listingLength refl));
   stepping = λ x l d byte. asks x l byte (step′ d) _ refl refl (λ m s h a b e. steps-as x l a b m s e (h .output listingLength refl) d);
   reporting = λ x l byte. asks x l byte report′ _ refl refl (λ m s h a b e. reports-as x l a b m s e (h .output reportLength refl));
+  searching = λ x l n d byte. asks x l byte (search′ n d) _ refl refl (λ m s h a b e. searches-as x l a b m s e n d);
   timing = λ x l ds d byte. asks-timed x l byte ds d refl;
   saves = λ x l n byte. asks-kept x l byte (save′ n) (saving n) (λ h. refl) refl refl;
   returns = λ x l n byte. asks-kept x l byte (return′ n) (returning n) (λ h. refl) refl refl;

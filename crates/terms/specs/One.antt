@@ -16,13 +16,13 @@ use Rattle.machine.specs.State.{State, stateNumbers, GoodState}
 use Rattle.machine.specs.Timed.{Timed, timed}
 use Rattle.machine.specs.Saves.{Saves, GoodSaves, Stored, saving, returning, forgetting}
 use Rattle.machine.specs.Machine as machine
-use Rattle.machine.specs.Machine.{asLent, Answer, no, Request, list′, step′, report′, timed′, save′, return′, forget′, Ask, open′, openSteady′, on′, Part, model, state, saves, clock, call, openedState}
+use Rattle.machine.specs.Machine.{asLent, Answer, no, Request, list′, step′, report′, search′, timed′, save′, return′, forget′, Ask, open′, openSteady′, on′, Part, model, state, saves, clock, call, openedState}
 use Rattle.machine.specs.Results.{Lent}
 use Rattle.saves.specs.Places.{savesNumbers}
 use Rattle.buffers.specs.Held.{modelBytes}
 use Rattle.buffers.specs.Parts.{Engine, clockNumbers, fresh, numbersOf}
 use Rattle.buffers.specs.Effect.{Effect, effect}
-use Rattle.buffers.specs.Answers.{ListsAs, StepsAs, ReportsAs, TimesAs, storesAs, keepsAs}
+use Rattle.buffers.specs.Answers.{ListsAs, StepsAs, ReportsAs, SearchesAs, TimesAs, storesAs, keepsAs}
 
 -- 1: what a call is lent has its length: its buffers of the engine x, and its output l
 abbrev pub Lengths : Ask → Engine → List ℕ → Type 0
@@ -95,6 +95,7 @@ pub record TermOne : Type 0 where
   pub listing : (x : Engine) (l : List ℕ) → getD (x model) 0 0 < 256 → Asks list′ (λ m s. ListsAs m s x l) x l (effect (on′ list′) x l)
   pub stepping : (x : Engine) (l : List ℕ) (d : ℕ) → getD (x model) 0 0 < 256 → Asks (step′ d) (λ m s. StepsAs m s x l d) x l (effect (on′ (step′ d)) x l)
   pub reporting : (x : Engine) (l : List ℕ) → getD (x model) 0 0 < 256 → Asks report′ (λ m s. ReportsAs m s x l) x l (effect (on′ report′) x l)
+  pub searching : (x : Engine) (l n : List ℕ) (d : ℕ) → getD (x model) 0 0 < 256 → Asks (search′ n d) (λ m s. SearchesAs m s x l n d) x l (effect (on′ (search′ n d)) x l)
   pub timing : (x : Engine) (l ds : List ℕ) (d : ℕ) → getD (x model) 0 0 < 256 → Waits ds d x l (effect (on′ (timed′ ds d)) x l)
   pub saves : (x : Engine) (l n : List ℕ) → getD (x model) 0 0 < 256 → Keeps (save′ n) (saving n) x l (effect (on′ (save′ n)) x l)
   pub returns : (x : Engine) (l n : List ℕ) → getD (x model) 0 0 < 256 → Keeps (return′ n) (returning n) x l (effect (on′ (return′ n)) x l)

@@ -6,10 +6,12 @@
 //! and again, then runs it from its start, each state listed, reported and then stepped. Rounds make the
 //! same calls, so each call counts with its least time over all rounds: other work on the machine
 //! only adds. What is printed is the mean of these over the run. Buffers are lent as the call
-//! before left them; none is cleared in between. Without the feature `engine` only the second
-//! engine is timed.
+//! before left them; none is cleared in between. Then each searches for a wait that there is not, in at
+//! most three rounds: the states that it walks in a second. Without the feature `engine` only the
+//! second engine is timed.
 
 mod models;
+mod searches;
 
 use models::Model;
 use second::generate::{Engine, Random};
@@ -23,6 +25,8 @@ const STEPS: usize = 1_000;
 /// How long a round repeats each of the calls that are the same each time.
 const REPEATING: Duration = Duration::from_millis(20);
 const ROUNDS: usize = 10;
+/// A search takes long: so many rounds are enough.
+const SEARCHES: usize = 3;
 
 // What is timed. `read` is a listing of the model with no process: the reading, the tests of the
 // buffers and the clearing that every list and step begins with.
@@ -45,7 +49,10 @@ fn main() {
         [flag, number] if flag == "--rounds" => number.parse().expect("--rounds N"),
         _ => panic!("bench [--rounds N]"),
     };
-    compare::with_stack(move || run(rounds));
+    compare::with_stack(move || {
+        run(rounds);
+        search(rounds.min(SEARCHES));
+    });
 }
 
 fn run(rounds: usize) {
@@ -62,6 +69,24 @@ fn run(rounds: usize) {
             println!("{:12} {name:6} {}", model.name, microseconds(&times));
         }
         println!("{:12} {}", "", facts(&model, &timed));
+    }
+}
+
+/// Prints the states that each engine walks in a second, in the shortest of all rounds.
+fn search(rounds: usize) {
+    let names: Vec<String> = ENGINES.iter().map(|(name, _)| format!("{:>12}", format!("{name}/s"))).collect();
+    println!("{:12} {:>6} {:>8} {}", "search", "depth", "states", names.join(" "));
+    for search in searches::ALL {
+        let buffers = ENGINES.map(|(_, engine)| search.begun(&engine, SEED));
+        let mut least = ENGINES.map(|_| f64::INFINITY);
+        for _ in 0..rounds {
+            for (((_, engine), buffers), least) in ENGINES.iter().zip(&buffers).zip(&mut least) {
+                *least = least.min(search.seconds(engine, buffers));
+            }
+        }
+        let states = search.states(SEED);
+        let rates: Vec<String> = least.iter().map(|time| format!("{:12.0}", states as f64 / time)).collect();
+        println!("{:12} {:6} {states:8} {}", search.name, search.depth, rates.join(" "));
     }
 }
 

@@ -3,7 +3,7 @@
 #![allow(unsafe_code)]
 
 use second::generate::Engine;
-use second::{Answer, Clock, Opening};
+use second::{Answer, Clock, Found, Opening};
 
 /// As `matgravel_answer` of the header.
 #[repr(C)]
@@ -14,6 +14,14 @@ struct CAnswer {
     count: u64,
     total: u64,
     chosen: u64,
+}
+
+/// As `matgravel_found` of the header.
+#[repr(C)]
+struct CFound {
+    number: u64,
+    length: u64,
+    run: [u64; 8],
 }
 
 /// As `matgravel_clock` of the header.
@@ -129,6 +137,15 @@ extern "C" {
         name: *const u8,
         name_len: usize,
     ) -> CAnswer;
+    fn matgravel_search(
+        model: *const u8,
+        model_len: usize,
+        state: *const i64,
+        state_len: usize,
+        name: *const u8,
+        name_len: usize,
+        depth: u64,
+    ) -> CFound;
     fn matgravel_independent(entry: *const u64, entry_len: usize, other: *const u64, other_len: usize) -> u64;
 }
 
@@ -284,6 +301,14 @@ pub fn forget(model: &[u8], state: &[i64], saves: &mut [i64], name: &[u8]) -> An
     answer.into()
 }
 
+pub fn search(model: &[u8], state: &[i64], name: &[u8], depth: u64) -> Found {
+    // As above; all is read only.
+    let CFound { number, length, run } = unsafe {
+        matgravel_search(model.as_ptr(), model.len(), state.as_ptr(), state.len(), name.as_ptr(), name.len(), depth)
+    };
+    Found { number, length, run }
+}
+
 pub fn independent(entry: &[u64], other: &[u64]) -> bool {
     // As above; both are read only.
     let is = unsafe { matgravel_independent(entry.as_ptr(), entry.len(), other.as_ptr(), other.len()) };
@@ -293,4 +318,4 @@ pub fn independent(entry: &[u64], other: &[u64]) -> bool {
 
 /// The library's engine.
 pub const ENGINE: Engine =
-    Engine { open, open_steady, list, step, timed_step, report, save, return_to, forget, independent };
+    Engine { open, open_steady, list, step, timed_step, report, save, return_to, forget, search, independent };

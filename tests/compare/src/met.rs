@@ -1,10 +1,11 @@
 //! What the calls of a comparison have met: answers, kinds of steps, specimens.
 
-use second::generate::{Buffers, Call, Draw};
+use crate::searched;
+use second::generate::{Buffers, Call, Draw, Given};
 use second::limits::{HIGHEST, LOWEST};
 use second::state::{FIRST_PAIR, FIRST_PROCESS, FIRST_VALUE, LOCALS, PAIR, PROCESS, VALUE_COUNT};
 use second::syntax::ITEMS;
-use second::{model, Answer, MODEL};
+use second::{model, MODEL};
 use std::collections::{BTreeMap, BTreeSet};
 use std::fmt;
 
@@ -14,7 +15,7 @@ const CHANNEL_KINDS: std::ops::RangeInclusive<u64> = 2..=7;
 /// Numbers of a listing entry.
 const ENTRY: usize = 7;
 /// What each call must have answered.
-const ANSWERS: [(&str, &[u64]); 9] = [
+const ANSWERS: [(&str, &[u64]); 10] = [
     ("open", &[0, 1, 2, 3, 4, 5, 6, 7, 8, 9, 10]),
     ("steady", &[0, 1, 2, 3, 4, 5, 6, 7, 8, 9, 10, 29]),
     ("list", &[0, 1, 11, 12, 13, 14]),
@@ -24,7 +25,12 @@ const ANSWERS: [(&str, &[u64]); 9] = [
     ("save", &[0, 1, 11, 20, 22]),
     ("return", &[0, 1, 11, 20, 21]),
     ("forget", &[0, 1, 11, 20, 21]),
+    ("search", &[0, 1, 11, 26, 27]),
 ];
+/// Lengths of runs that searches must have found, 0 for none.
+const LENGTHS: std::ops::RangeInclusive<u64> = 0..=8;
+/// Where a text was found not to be steady.
+const UNSTEADY: [&str; 2] = ["29 at a bracket", "29 at a call"];
 /// Draws at the ends, where there is a total.
 const DRAWS: [&str; 4] = ["0", "total - 1", "total", "the largest"];
 /// Numbers of a state that are values, and where such a number can stand: at an end of the range, or one past it.
@@ -44,6 +50,12 @@ pub struct Met {
     /// Accepted steps by the kind of the entry taken and the items of its channel.
     kinds: BTreeMap<(u64, usize), u64>,
     draws: BTreeMap<&'static str, u64>,
+    /// Accepted searches by the length of the run found, 0 for none.
+    lengths: BTreeMap<u64, u64>,
+    /// What searches met besides.
+    searches: BTreeMap<&'static str, u64>,
+    /// By what stands at the place of a 29.
+    unsteady: BTreeMap<&'static str, u64>,
     /// By what is at an end or past it and which end: states that a list judged, by 11 if it is past it.
     ends: BTreeMap<(&'static str, &'static str), u64>,
     specimens: BTreeSet<&'static str>,
@@ -51,10 +63,21 @@ pub struct Met {
 
 impl Met {
     /// Notes an answer, the buffers as lent and those left.
-    pub fn note(&mut self, call: &Call, answer: &Answer, lent: &Buffers, after: &Buffers) {
+    pub fn note(&mut self, call: &Call, given: &Given, lent: &Buffers, after: &Buffers) {
         let name = call.name();
         self.calls += 1;
-        *self.answers.entry((name, answer.number)).or_default() += 1;
+        *self.answers.entry((name, given.number())).or_default() += 1;
+        if let Given::Found(found) = given {
+            *self.lengths.entry(found.length).or_default() += u64::from(found.number == 0);
+            for what in searched::met(call, found, lent) {
+                *self.searches.entry(what).or_default() += 1;
+            }
+        }
+        let Some(answer) = given.answer() else { return };
+        if let (Call::Steady { text, .. }, 29) = (call, answer.number) {
+            let bracket = text[answer.place as usize] == b'(';
+            *self.unsteady.entry(UNSTEADY[usize::from(!bracket)]).or_default() += 1;
+        }
         if let Call::Step { draw: Draw::Exactly(draw), .. } = call {
             self.note_draw(*draw, answer.total);
         }
@@ -91,7 +114,8 @@ impl Met {
         self.specimens.insert(name);
     }
 
-    /// What was never met: answers of each call, kinds of steps, draws at the ends, values at the ends, these specimens.
+    /// What was never met: answers of each call, kinds of steps, draws at the ends, lengths of runs
+    /// found and what else searches meet, places of a 29, values at the ends, these specimens.
     pub fn missing(&self, specimens: &[&'static str]) -> Vec<String> {
         let answers = ANSWERS.iter().flat_map(|(name, numbers)| numbers.iter().map(move |number| (*name, *number)));
         let answers = answers.filter(|answer| !self.answers.contains_key(answer));
@@ -100,10 +124,15 @@ impl Met {
         let draws = DRAWS.iter().filter(|name| !self.draws.contains_key(**name));
         let ends = VALUES.iter().flat_map(|what| ENDS.map(|(end, _)| (*what, end)));
         let ends = ends.filter(|end| !self.ends.contains_key(end));
+        let lengths = LENGTHS.filter(|length| self.lengths.get(length).is_none_or(|times| *times == 0));
+        let searches = searched::all().into_iter().filter(|what| !self.searches.contains_key(what));
+        let unsteady = UNSTEADY.into_iter().filter(|what| !self.unsteady.contains_key(what));
         let specimens = specimens.iter().filter(|name| !self.specimens.contains(**name));
         answers
             .map(|(name, number)| format!("{name} with {number}"))
             .chain(kinds.map(|(kind, items)| format!("a step of kind {kind} on {items} items")))
+            .chain(lengths.map(|length| format!("a run of {length} entries found")))
+            .chain(searches.chain(unsteady).map(str::to_string))
             .chain(draws.map(|name| format!("draw: {name}")))
             .chain(ends.map(|(what, end)| format!("{what} {end}")))
             .chain(specimens.map(|name| format!("specimen: {name}")))
@@ -145,6 +174,11 @@ impl fmt::Display for Met {
         writeln!(out, "  kinds of accepted steps (items) {}", kinds.collect::<Vec<_>>().join(" "))?;
         let draws: Vec<String> = self.draws.iter().map(|(name, times)| format!("{name}:{times}")).collect();
         writeln!(out, "  draws at the ends {}", draws.join(" "))?;
+        let lengths: Vec<String> = self.lengths.iter().map(|(length, times)| format!("{length}:{times}")).collect();
+        writeln!(out, "  runs found (entries) {}", lengths.join(" "))?;
+        let both = self.searches.iter().chain(&self.unsteady);
+        let searches: Vec<String> = both.map(|(what, times)| format!("{what}:{times}")).collect();
+        writeln!(out, "  searches {}", searches.join(", "))?;
         let ends: Vec<String> = self.ends.iter().map(|((what, end), times)| format!("{what} {end}:{times}")).collect();
         writeln!(out, "  values {}", ends.join(", "))?;
         write!(out, "  specimens {}", self.specimens.len())

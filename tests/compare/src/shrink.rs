@@ -2,7 +2,7 @@
 
 use crate::compare::{self, Difference};
 use crate::met::Met;
-use second::generate::{Buffers, Call, Draw, Engine, RIGHT};
+use second::generate::{Buffers, Call, Depth, Draw, Engine, RIGHT};
 use second::tokens::{self, Kind};
 use second::{model, MODEL, SAVES, STATE};
 
@@ -57,6 +57,7 @@ pub fn shrink(tried: &Engine, oracle: &Engine, found: Difference) -> Difference 
         shrinker.shorten_texts();
         shrinker.lower_draws();
         shrinker.drop_waiting();
+        shrinker.lower_depths();
         if shrinker.size() >= before || shrinker.left == 0 {
             return shrinker.best;
         }
@@ -287,6 +288,24 @@ impl Shrinker<'_> {
         }
     }
 
+    /// Tries the least depths of each search.
+    fn lower_depths(&mut self) {
+        for call in 0..self.best.made.len() {
+            for lower in 1..=3 {
+                let mut calls = self.best.made.clone();
+                match calls.get_mut(call) {
+                    Some(Call::Search { depth, .. }) if *depth != Depth::Exactly(lower) => {
+                        *depth = Depth::Exactly(lower);
+                    }
+                    _ => break,
+                }
+                if self.takes(&calls) {
+                    break;
+                }
+            }
+        }
+    }
+
     fn lower_draws(&mut self) {
         let mut call = 0;
         while call < self.best.made.len() {
@@ -313,6 +332,7 @@ fn size(calls: &[Call]) -> usize {
         Call::Open { text, .. } | Call::Steady { text, .. } => 10 + text.len(),
         Call::Step { draw: Draw::Exactly(draw), .. } => 10 + draw.to_string().len(),
         Call::Timed { draw: Draw::Exactly(draw), waiting, .. } => 10 + draw.to_string().len() + 10 * waiting.len(),
+        Call::Search { name, depth: Depth::Exactly(depth), .. } => 10 + name.len() + depth.to_string().len(),
         Call::Save { name, .. } | Call::Return { name, .. } | Call::Forget { name, .. } => 10 + name.len(),
         _ => 10,
     };

@@ -7,11 +7,12 @@ use compare::orders::{self, Tried};
 use compare::{compare as core, lists, with_stack};
 use second::generate::{Engine, SECOND};
 use second::limits::HIGHEST;
+use second::runs::Runs;
 use second::script::{self, Form, Line};
 use second::state::{DEFINITION, FIRST_PAIR, FIRST_PROCESS, FIRST_VALUE, PAIR, PROCESS, VALUE_COUNT};
 use second::{
-    forget, list, open, open_steady, report, return_to, save, saves, step, timed_step, Answer, Clock, Opening, LISTING,
-    SAVES,
+    engine, forget, list, open, open_steady, report, return_to, save, saves, search, step, timed_step, Answer, Clock,
+    Found, Opening, LISTING, SAVES,
 };
 
 const ENTRY: usize = 7;
@@ -471,6 +472,80 @@ fn a_return_that_leaves_the_clock() {
         return_to(model, state, places, name, &mut other)
     }
     found(Engine { return_to: wrong, ..SECOND }, Place::Clock, 5, 160);
+}
+
+#[test]
+fn a_search_that_answers_a_later_run() {
+    fn wrong(model: &[u8], state: &[i64], name: &[u8], depth: u64) -> Found {
+        let mut found = search(model, state, name, depth);
+        // Another entry of the same listing that is a wait by that name, too.
+        let mut listing = vec![0; LISTING];
+        if found.length == 1 && list(model, state, &mut listing).number == 0 {
+            let first = found.run[0] as usize * ENTRY;
+            let like = |entry: &[u64]| entry[0] == 1 && entry[2] == listing[first + 2] && entry[ENTRY - 1] > 0;
+            let sum = |entry: &[u64]| state[FIRST_PROCESS + PROCESS * entry[1] as usize];
+            let same = |entry: &[u64]| like(entry) && sum(entry) == sum(&listing[first..first + ENTRY]);
+            let last = listing.chunks(ENTRY).rposition(same).expect("the one found");
+            found.run[0] = last as u64;
+        }
+        found
+    }
+    found(Engine { search: wrong, ..SECOND }, Place::Answer, 3, 120);
+}
+
+#[test]
+fn a_none_in_place_of_a_twenty_seven() {
+    fn wrong(model: &[u8], state: &[i64], name: &[u8], depth: u64) -> Found {
+        let found = search(model, state, name, depth);
+        Found { number: if found.number == 27 { 0 } else { found.number }, ..found }
+    }
+    found(Engine { search: wrong, ..SECOND }, Place::Answer, 3, 120);
+}
+
+/// The runs of an accepted search.
+fn runs(model: &[u8], state: &[i64], name: &[u8], depth: u64) -> Runs {
+    let (model, state) = engine::held(model, state).expect("an accepted search");
+    Runs::of(&model, &state, name, depth as usize)
+}
+
+#[test]
+fn a_search_that_answers_the_least_numbers_first() {
+    fn wrong(model: &[u8], state: &[i64], name: &[u8], depth: u64) -> Found {
+        let found = search(model, state, name, depth);
+        if found.length == 0 {
+            return found;
+        }
+        Found::run(runs(model, state, name, depth).performing.iter().min().expect("the one found"))
+    }
+    found(Engine { search: wrong, ..SECOND }, Place::Answer, 3, 400);
+}
+
+#[test]
+fn a_twenty_seven_in_place_of_a_run() {
+    fn wrong(model: &[u8], state: &[i64], name: &[u8], depth: u64) -> Found {
+        let found = search(model, state, name, depth);
+        if found.length > 0 && !runs(model, state, name, depth).refusals.is_empty() {
+            return Found::refusal(27);
+        }
+        found
+    }
+    found(Engine { search: wrong, ..SECOND }, Place::Answer, 3, 400);
+}
+
+#[test]
+fn a_search_that_looks_at_sixteen_letters_alone() {
+    fn wrong(model: &[u8], state: &[i64], name: &[u8], depth: u64) -> Found {
+        search(model, state, &name[..name.len().min(16)], depth)
+    }
+    found(Engine { search: wrong, ..SECOND }, Place::Answer, 2, 100);
+}
+
+#[test]
+fn a_depth_of_nine() {
+    fn wrong(model: &[u8], state: &[i64], name: &[u8], depth: u64) -> Found {
+        search(model, state, name, if depth == 9 { 8 } else { depth })
+    }
+    found(Engine { search: wrong, ..SECOND }, Place::Answer, 2, 60);
 }
 
 #[test]

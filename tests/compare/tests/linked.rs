@@ -6,9 +6,9 @@ use compare::linked::ENGINE;
 use compare::met::Met;
 use compare::orders::{self, Tried};
 use compare::{lists, specimens, texts, with_stack};
-use second::generate::{Buffers, Call, RIGHT, SECOND};
+use second::generate::{Buffers, Call, Depth, Random, RIGHT, SECOND};
 use second::script::{self, Form};
-use second::{LISTING, MODEL, REPORT, SAVES, STATE};
+use second::{mazes, LISTING, MODEL, REPORT, SAVES, STATE};
 use std::path::{Path, PathBuf};
 use std::process::{Command, Stdio};
 
@@ -87,6 +87,7 @@ fn the_stack_that_the_header_names_is_enough() {
         let calls = move || {
             let text = texts::longest(which);
             let (mut buffers, opened) = Buffers::opened(&ENGINE, &text);
+            let depth = buffers.depth(Depth::Within(8, 60));
             let (model, state) = (&mut buffers.model[..MODEL], &mut buffers.state[..STATE]);
             let (saves, clock) = (&mut buffers.saves[..SAVES], &mut buffers.clock);
             // The text in the buffer, though it may be none that opens.
@@ -101,7 +102,9 @@ fn the_stack_that_the_header_names_is_enough() {
             let forgotten = (ENGINE.forget)(model, state, saves, b"a");
             assert!([saved, returned, forgotten].iter().all(|answer| [0, 11].contains(&answer.number)));
             let steady = Buffers::default().make(&ENGINE, &Call::Steady { text: text.clone(), lengths: RIGHT });
-            assert!(steady.is_some_and(|answer| [opened.number, 29].contains(&answer.number)));
+            assert!(steady.is_some_and(|given| [opened.number, 29].contains(&given.number())));
+            let found = (ENGINE.search)(model, state, b"a", depth);
+            assert!([0, 11, 27].contains(&found.number));
             let timed = (ENGINE.timed_step)(model, state, listing, &[7, 7], 0, clock);
             assert!(timed.number == 0 || timed.number >= 11);
             let stepped = (ENGINE.step)(model, state, listing, 0);
@@ -111,6 +114,23 @@ fn the_stack_that_the_header_names_is_enough() {
         let [opened, listed, _] = thread.join().expect("no panic");
         assert!((opened == 0 || opened >= 5) && (listed == 0 || listed >= 11), "{which}: {opened} {listed}");
     }
+}
+
+/// Searches of mazes, many of them eight entries deep, on a thread with that stack.
+#[test]
+fn a_search_needs_no_more_stack() {
+    let searches = || {
+        for seed in 0..40 {
+            let mut buffers = Buffers::default();
+            for call in mazes::searches(&mut Random::new(seed)) {
+                let call = buffers.exact(&call);
+                let mut second = buffers.clone();
+                assert_eq!(buffers.make(&ENGINE, &call), second.make(&SECOND, &call), "seed {seed}");
+            }
+        }
+    };
+    let thread = std::thread::Builder::new().stack_size(defined("STACK")).spawn(searches).expect("a thread");
+    thread.join().expect("no panic");
 }
 
 /// The example's script is one that the second engine accepts to its end.

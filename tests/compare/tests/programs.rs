@@ -4,7 +4,7 @@
 
 use compare::{lists, with_stack};
 use second::generate::{self, Buffers, Call, Random, SECOND};
-use second::script::{self, Form};
+use second::script::{self, Form, Line};
 use second::sheet;
 use std::io::Write;
 use std::path::{Path, PathBuf};
@@ -64,6 +64,19 @@ fn calls_prints_what_the_second_engine_does() {
     });
 }
 
+/// Does a script search where very many runs are walked, as one with another depth may?
+fn walks_many(script: &[u8]) -> bool {
+    let mut buffers = Buffers::default();
+    script::read(script, Form::Plain).0.iter().any(|line| match line {
+        Line::Call(call) if buffers.walks_many(call) => true,
+        Line::Call(call) => {
+            buffers.make(&SECOND, call);
+            false
+        }
+        _ => false,
+    })
+}
+
 /// Lines of other forms, of which nothing may be guessed.
 #[test]
 fn calls_ends_at_a_line_of_another_form() {
@@ -85,6 +98,9 @@ fn calls_ends_at_a_line_of_another_form() {
                 })
                 .collect();
             let script = generate::damaged(&mut random, &script::write(&exact));
+            if walks_many(&script) {
+                continue;
+            }
             let expected = script::print(&SECOND, &script, Form::Plain);
             ended += u32::from(expected.contains("bad,"));
             assert_eq!(printed("calls", &script), expected, "{:?}", String::from_utf8_lossy(&script));

@@ -24,7 +24,7 @@ fn what_was_not_met_is_told() {
     let missing = Met::default().missing(&specimens::names());
     assert_eq!(
         missing.len(),
-        11 + 12 + 6 + 11 + 14 + 6 + 3 * 5 + 1 + 6 * 3 + 4 + 12 + specimens::names().len(),
+        11 + 12 + 6 + 11 + 14 + 6 + 4 * 5 + 9 + 29 + 2 + 1 + 6 * 3 + 4 + 12 + specimens::names().len(),
         "{missing:?}"
     );
 }

@@ -1,10 +1,12 @@
 //! Lists of calls: what a call asks for, the calls of any engine, and the buffers they are made on.
 
 use crate::clock::Clock;
+use crate::engine;
 use crate::independent;
 use crate::listing::FIELDS;
+use crate::search::{self, Walk};
 use crate::state::{Channel, Item, Pair, FIRST_PAIR, FIRST_PROCESS, PAIR, PROCESS};
-use crate::{Answer, Opening, LISTING, MODEL, REPORT, SAVES, STATE};
+use crate::{Answer, Found, Opening, LISTING, MODEL, REPORT, SAVES, STATE};
 
 /// The lent buffers that have a length they should have.
 #[derive(Clone, Copy, Debug, PartialEq, Eq)]
@@ -37,6 +39,57 @@ pub enum Draw {
     /// The total less 1.
     Last,
     Total,
+}
+
+/// A search that walks more runs takes too long.
+const MANY: usize = 3_000;
+
+/// A depth of a search, given by what it makes of it.
+#[derive(Clone, Copy, Debug, PartialEq, Eq)]
+pub enum Depth {
+    Exactly(u64),
+    /// The greatest up to this one for which at most so many runs are walked.
+    Within(u64, usize),
+}
+
+/// What a call gives back.
+#[derive(Clone, Copy, Debug, PartialEq, Eq)]
+pub enum Given {
+    Answer(Answer),
+    Found(Found),
+}
+
+impl Given {
+    pub fn number(&self) -> u64 {
+        match self {
+            Given::Answer(answer) => answer.number,
+            Given::Found(found) => found.number,
+        }
+    }
+
+    /// The answer of a call that gives one: every call but a search.
+    pub fn answer(&self) -> Option<&Answer> {
+        match self {
+            Given::Answer(answer) => Some(answer),
+            Given::Found(_) => None,
+        }
+    }
+
+    /// All its numbers, in the order of the C interface.
+    pub fn numbers(&self) -> Vec<u64> {
+        match self {
+            Given::Answer(Answer { number, place, branch, count, total, chosen }) => {
+                vec![*number, *place, *branch, *count, *total, *chosen]
+            }
+            Given::Found(Found { number, length, run }) => [&[*number, *length], &run[..]].concat(),
+        }
+    }
+}
+
+impl From<Answer> for Given {
+    fn from(answer: Answer) -> Given {
+        Given::Answer(answer)
+    }
 }
 
 #[derive(Clone, Debug)]
@@ -75,6 +128,11 @@ pub enum Call {
     Forget {
         lengths: Lengths,
         name: Vec<u8>,
+    },
+    Search {
+        lengths: Lengths,
+        name: Vec<u8>,
+        depth: Depth,
     },
     // Changes of the buffers between calls.
     SetState {
@@ -117,7 +175,8 @@ impl Call {
             | Call::Report { lengths }
             | Call::Save { lengths, .. }
             | Call::Return { lengths, .. }
-            | Call::Forget { lengths, .. } => Some(lengths),
+            | Call::Forget { lengths, .. }
+            | Call::Search { lengths, .. } => Some(lengths),
             _ => None,
         }
     }
@@ -134,6 +193,7 @@ impl Call {
             Call::Report { .. } => Buffer::Report,
             Call::Open { .. } | Call::Steady { .. } => Buffer::Saves,
             Call::Save { .. } | Call::Return { .. } | Call::Forget { .. } => Buffer::Saves,
+            Call::Search { .. } => Buffer::Model,
             _ => return false,
         };
         [Buffer::Model, Buffer::State, third].contains(&buffer)
@@ -158,7 +218,8 @@ impl Call {
             | Call::Report { lengths }
             | Call::Save { lengths, .. }
             | Call::Return { lengths, .. }
-            | Call::Forget { lengths, .. } => *lengths = trimmed,
+            | Call::Forget { lengths, .. }
+            | Call::Search { lengths, .. } => *lengths = trimmed,
             _ => {}
         }
         self
@@ -175,6 +236,7 @@ impl Call {
             Call::Save { .. } => "save",
             Call::Return { .. } => "return",
             Call::Forget { .. } => "forget",
+            Call::Search { .. } => "search",
             _ => "change",
         }
     }
@@ -195,6 +257,7 @@ pub struct Engine {
     pub save: fn(&[u8], &[i64], &mut [i64], &[u8], Clock) -> Answer,
     pub return_to: fn(&[u8], &mut [i64], &[i64], &[u8], &mut Clock) -> Answer,
     pub forget: fn(&[u8], &[i64], &mut [i64], &[u8]) -> Answer,
+    pub search: fn(&[u8], &[i64], &[u8], u64) -> Found,
     /// Of two entries of a listing.
     pub independent: fn(&[u64], &[u64]) -> bool,
 }
@@ -210,6 +273,7 @@ pub const SECOND: Engine = Engine {
     save: crate::save,
     return_to: crate::return_to,
     forget: crate::forget,
+    search: crate::search,
     independent: independent::independent,
 };
 
@@ -241,20 +305,22 @@ impl Default for Buffers {
 }
 
 impl Buffers {
-    /// Makes a call, or a change, which has no answer.
-    pub fn make(&mut self, engine: &Engine, call: &Call) -> Option<Answer> {
+    /// Makes a call, or a change, which gives nothing.
+    pub fn make(&mut self, engine: &Engine, call: &Call) -> Option<Given> {
         let Some(lengths) = call.lengths() else {
             self.change(call);
             return None;
         };
-        let draw = match call {
-            Call::Step { draw, .. } | Call::Timed { draw, .. } => self.draw(*draw),
-            _ => 0,
+        let (draw, depth) = match call {
+            Call::Step { draw, .. } | Call::Timed { draw, .. } => (self.draw(*draw), 0),
+            Call::Search { depth, .. } => (0, self.depth(*depth)),
+            _ => (0, 0),
         };
         let (model, state) = (&mut self.model[..lengths.model], &mut self.state[..lengths.state]);
         let (listing, report) = (&mut self.listing[..lengths.listing], &mut self.report[..lengths.report]);
         let (saves, clock) = (&mut self.saves[..lengths.saves], &mut self.clock);
-        Some(match call {
+        let answer = match call {
+            Call::Search { name, .. } => return Some(Given::Found((engine.search)(model, state, name, depth))),
             Call::Open { text, .. } => (engine.open)(text, Opening { model, state, saves, clock }),
             Call::Steady { text, .. } => (engine.open_steady)(text, Opening { model, state, saves, clock }),
             Call::List { .. } => (engine.list)(model, state, listing),
@@ -265,14 +331,16 @@ impl Buffers {
             Call::Return { name, .. } => (engine.return_to)(model, state, saves, name, clock),
             Call::Forget { name, .. } => (engine.forget)(model, state, saves, name),
             _ => return None,
-        })
+        };
+        Some(Given::Answer(answer))
     }
 
     /// Fresh buffers with this text opened in them, and the answer.
     pub fn opened(engine: &Engine, text: &[u8]) -> (Buffers, Answer) {
         let mut buffers = Buffers::default();
-        let answer = buffers.make(engine, &Call::Open { text: text.to_vec(), lengths: RIGHT });
-        (buffers, answer.expect("an opening answers"))
+        let given = buffers.make(engine, &Call::Open { text: text.to_vec(), lengths: RIGHT });
+        let answer = *given.as_ref().and_then(Given::answer).expect("an opening answers");
+        (buffers, answer)
     }
 
     /// Changes the buffers between calls.
@@ -317,13 +385,16 @@ impl Buffers {
         }
     }
 
-    /// The call with its draw as a number.
+    /// The call with its draw and its depth as numbers.
     pub fn exact(&self, call: &Call) -> Call {
         match call {
             Call::Step { lengths, draw } => Call::Step { lengths: *lengths, draw: Draw::Exactly(self.draw(*draw)) },
             Call::Timed { lengths, draw, waiting } => {
                 let (draw, waiting) = (Draw::Exactly(self.draw(*draw)), waiting.clone());
                 Call::Timed { lengths: *lengths, draw, waiting }
+            }
+            Call::Search { lengths, name, depth } => {
+                Call::Search { lengths: *lengths, name: name.clone(), depth: Depth::Exactly(self.depth(*depth)) }
             }
             _ => call.clone(),
         }
@@ -342,5 +413,23 @@ impl Buffers {
             Draw::Last => total.saturating_sub(1),
             Draw::Total => total,
         }
+    }
+
+    /// The number that a depth stands for in the present state. At least 1 if it isn't given exactly.
+    pub fn depth(&self, depth: Depth) -> u64 {
+        let (most, runs) = match depth {
+            Depth::Exactly(number) => return number,
+            Depth::Within(most, runs) => (most, runs),
+        };
+        let Some((model, state)) = engine::held(&self.model[..MODEL], &self.state[..STATE]) else { return most };
+        let few = |depth: &u64| Walk::new(model.clone(), state.clone(), *depth as usize).nth(runs).is_none();
+        (1..=most).take_while(few).last().unwrap_or(1)
+    }
+
+    /// Is it a search, with its depth as a number, that walks very many runs?
+    pub fn walks_many(&self, call: &Call) -> bool {
+        let &Call::Search { depth: Depth::Exactly(depth), .. } = call else { return false };
+        let within = |depth| self.depth(Depth::Within(depth, MANY)) == depth;
+        depth > 1 && depth <= search::DEPTH as u64 && !within(depth)
     }
 }

@@ -203,11 +203,11 @@ fn stored(model: &[u8], state: &[i64], saves: &[i64], name: &[u8], clock: &Clock
 }
 
 /// A model, a state and its listing.
-struct Present {
-    model: Rc<Model>,
-    state: State,
+pub struct Present {
+    pub model: Rc<Model>,
+    pub state: State,
     offers: Offers,
-    listing: Listing,
+    pub listing: Listing,
 }
 
 impl Present {
@@ -256,22 +256,29 @@ fn shown(
 
 /// Questions 11 to 14.
 fn present(model: &[u8], state: &[i64]) -> Result<Present, Answer> {
-    let Some(model) = model::read_buffer(model) else {
-        return Err(Answer::refusal(11));
-    };
-    let Some(state) = state::read_buffer(&model, state) else {
-        return Err(Answer::refusal(11));
-    };
-    let listed = listing::offers(&model, &state)
-        .and_then(|offers| listing::derive(&offers, &state).map(|listing| (offers, listing)));
-    match listed {
-        Ok((offers, listing)) => Ok(Present { model, state, offers, listing }),
+    let (model, state) = held(model, state).ok_or(Answer::refusal(11))?;
+    match listed(&model, state) {
+        Ok(present) => Ok(present),
         Err(listing::Refused::NoValue { place, branch }) => {
             Err(Answer { place: place as u64, branch: branch as u64, ..Answer::refusal(12) })
         }
         Err(listing::Refused::TooManyEntries) => Err(Answer::refusal(13)),
         Err(listing::Refused::TotalTooLarge) => Err(Answer::refusal(14)),
     }
+}
+
+/// Question 11 of model and state: what the buffers hold.
+pub fn held(model: &[u8], state: &[i64]) -> Option<(Rc<Model>, State)> {
+    let model = model::read_buffer(model)?;
+    let state = state::read_buffer(&model, state)?;
+    Some((model, state))
+}
+
+/// Questions 12 to 14 of a state.
+pub fn listed(model: &Rc<Model>, state: State) -> Result<Present, listing::Refused> {
+    let offers = listing::offers(model, &state)?;
+    let listing = listing::derive(&offers, &state)?;
+    Ok(Present { model: model.clone(), state, offers, listing })
 }
 
 /// A part of a continuation with its values: what comes in the place of a process that acted.
@@ -281,7 +288,7 @@ enum Follower {
 }
 
 /// The state after an entry is taken, or the number of the question (17 to 19) with a no.
-fn taken(present: &Present, entry: &Entry) -> Result<State, u64> {
+pub fn taken(present: &Present, entry: &Entry) -> Result<State, u64> {
     let Present { model, state, .. } = present;
 
     // 17: who acts, and what follows in the place of each.

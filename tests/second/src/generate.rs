@@ -12,7 +12,7 @@ use crate::syntax::ITEMS;
 use crate::tokens::{self, Kind};
 use crate::{LISTING, MODEL, REPORT, SAVES, STATE};
 
-pub use crate::calls::{Buffer, Buffers, Call, Draw, Engine, Lengths, RIGHT, SECOND, SPARE};
+pub use crate::calls::{Buffer, Buffers, Call, Depth, Draw, Engine, Given, Lengths, RIGHT, SECOND, SPARE};
 
 // Random numbers.
 
@@ -1022,7 +1022,7 @@ fn some_draw(random: &mut Random) -> Draw {
 }
 
 /// The call, which mostly lends what it should.
-fn lent(random: &mut Random, call: Call) -> Call {
+pub(crate) fn lent(random: &mut Random, call: Call) -> Call {
     if !random.chance(2) {
         return call;
     }
@@ -1042,7 +1042,7 @@ fn lent(random: &mut Random, call: Call) -> Call {
     })
 }
 
-fn some_step(random: &mut Random) -> Call {
+pub(crate) fn some_step(random: &mut Random) -> Call {
     let draw = some_draw(random);
     lent(random, Call::Step { lengths: RIGHT, draw })
 }
@@ -1110,6 +1110,34 @@ pub fn some_name(random: &mut Random) -> Vec<u8> {
         5..=14 => random.pick(&SAVE_NAMES[..3]).as_bytes().to_vec(),
         _ => random.pick(&SAVE_NAMES).as_bytes().to_vec(),
     }
+}
+
+/// Names of waits that models have, one that none has, and others.
+fn some_wait(random: &mut Random) -> Vec<u8> {
+    match random.below(12) {
+        0 => b"never".to_vec(),
+        1 => some_name(random),
+        2 => random.pick(&["a", "b", "tock", "go2", "g", "gogogogogogogogogo"]).as_bytes().to_vec(),
+        _ => random.pick(&WAIT_NAMES).as_bytes().to_vec(),
+    }
+}
+
+/// Runs that a search walks, at most, but for those of depth 1.
+const FEW: usize = 60;
+const MANY: usize = 400;
+
+fn some_depth(random: &mut Random, runs: usize) -> Depth {
+    match random.below(20) {
+        0 => Depth::Exactly(*random.pick(&[0, 9, 10, 255, 256, 1 << 32, (1 << 32) + 1, u64::MAX])),
+        1..=8 => Depth::Within(8, runs),
+        _ => Depth::Within(random.between(1, 8) as u64, runs),
+    }
+}
+
+pub fn some_search(random: &mut Random) -> Call {
+    let runs = if random.chance(10) { MANY } else { FEW };
+    let (name, depth) = (some_wait(random), some_depth(random, runs));
+    lent(random, Call::Search { lengths: RIGHT, name, depth })
 }
 
 /// A save, a return or a forget.
@@ -1222,7 +1250,7 @@ pub fn edge_calls(random: &mut Random) -> Vec<Call> {
         for _ in 0..4 {
             calls.push(Call::Step { lengths: RIGHT, draw: some_draw(random) });
         }
-        calls.push(some_timed(random));
+        calls.extend([some_timed(random), some_search(random)]);
     }
     calls
 }
@@ -1266,7 +1294,7 @@ pub fn calls(random: &mut Random, most_steps: usize) -> Vec<Call> {
     // Before any text is open.
     if random.chance(10) {
         calls.extend([lent(random, LIST), some_step(random), lent(random, REPORTED), some_stored(random)]);
-        calls.push(some_timed(random));
+        calls.extend([some_timed(random), some_search(random)]);
     }
     for _ in 0..1 + random.below(3) {
         let opening = some_opening(random);
@@ -1289,7 +1317,8 @@ pub fn calls(random: &mut Random, most_steps: usize) -> Vec<Call> {
                 1..=3 => calls.push(lent(random, LIST)),
                 4 | 5 => calls.push(lent(random, REPORTED)),
                 6..=9 => calls.push(some_stored(random)),
-                10..=16 => calls.push(some_timed(random)),
+                10..=15 => calls.push(some_timed(random)),
+                16 => calls.push(some_search(random)),
                 _ => calls.push(some_step(random)),
             }
         }

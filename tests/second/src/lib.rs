@@ -13,11 +13,14 @@ pub mod generate;
 pub mod independent;
 pub mod limits;
 pub mod listing;
+pub mod mazes;
 pub mod model;
 pub mod names;
 pub mod reader;
+pub mod runs;
 pub mod saves;
 pub mod script;
+pub mod search;
 pub mod sheet;
 pub mod state;
 pub mod syntax;
@@ -25,6 +28,7 @@ pub mod tokens;
 
 pub use clock::Clock;
 pub use engine::{forget, list, open, open_steady, report, return_to, save, step, timed_step, Opening};
+pub use search::{search, Found};
 
 /// Length of the model buffer in bytes: the text's length (2 bytes, the low one first), the text,
 /// zeros.

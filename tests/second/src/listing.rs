@@ -154,7 +154,7 @@ fn open_branch(branch: &model::Branch, locals: &[i64]) -> Option<Option<Open>> {
         Some(Wanted { channel, sets: eval::sets(sets, locals)? })
     };
     let offer = match &branch.action {
-        Action::Wait => Offer::Wait,
+        Action::Wait(_) => Offer::Wait,
         Action::Launch(channel, values) => Offer::Launch(pair(channel, values)?),
         Action::Kill(channel, values) => Offer::Kill(pair(channel, values)?),
         Action::Receive(channel, sets, false) => Offer::Receive(wanted(channel, sets)?),

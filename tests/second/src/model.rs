@@ -68,7 +68,8 @@ pub enum Item {
 
 #[derive(Debug)]
 pub enum Action {
-    Wait,
+    /// With its name.
+    Wait(Vec<u8>),
     Launch(Channel, Vec<Expression>),
     Kill(Channel, Vec<Expression>),
     /// With true, the values are bound to names.
@@ -83,7 +84,7 @@ impl Action {
     /// How many items its channel has; none of a wait.
     pub fn items(&self) -> usize {
         match self {
-            Action::Wait => 0,
+            Action::Wait(_) => 0,
             Action::Launch(channel, _)
             | Action::Kill(channel, _)
             | Action::Receive(channel, _, _)
@@ -382,7 +383,7 @@ impl<'a> Settler<'a> {
 
     fn action(&self, action: &syntax::Action, scope: &[TokenId]) -> Action {
         match action {
-            syntax::Action::Wait => Action::Wait,
+            syntax::Action::Wait(name) => Action::Wait(self.names.word(*name).to_vec()),
             syntax::Action::Launch(channel, values) => {
                 Action::Launch(self.channel(channel, scope), self.expressions(values, scope))
             }

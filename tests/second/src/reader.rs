@@ -335,10 +335,11 @@ impl Reader<'_> {
             self.check()?
         } else {
             let first = self.expression()?;
+            let name = first.lone_name();
             let mut items = vec![first];
-            if items[0].lone_name().is_some() && self.take(Kind::Comma) {
+            if let Some(name) = name.filter(|_| self.take(Kind::Comma)) {
                 match self.rate_or_item()? {
-                    RateOrItem::Rate(rate) => return Ok((Action::Wait, rate)),
+                    RateOrItem::Rate(rate) => return Ok((Action::Wait(name), rate)),
                     RateOrItem::Item(second) => items.push(second),
                 }
             }

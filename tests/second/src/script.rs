@@ -2,7 +2,7 @@
 //!
 //! A script has lines `open N` and `steady N` (N bytes and a newline follow), `list`, `step D`, `wait W` (a waiting
 //! draw for the next timed step), `time D` (a timed step), `report`, `save NAME`, `return NAME`, `forget NAME` (all bytes
-//! of the line after the blank), `state`, `clock` and `independent I J` (of two entries of the listing buffer: 1 or 0).
+//! of the line after the blank), `seek D NAME` (a search to the depth D, one digit; all bytes after the second), `state`, `clock` and `independent I J` (of two entries of the listing buffer: 1 or 0).
 //! Every line ends with a newline, words stand one blank apart, numbers are digits alone. A line of
 //! another form, or an opening without its N bytes, ends the run with `bad` and its number, which
 //! counts every newline before it, those of texts too.
@@ -11,7 +11,7 @@
 //! lines that begin with `!`. They are read where `Form::Marked` is asked for.
 
 use crate::clock::Clock;
-use crate::generate::{Buffers, Call, Draw, Engine, Lengths, RIGHT, SPARE};
+use crate::generate::{Buffers, Call, Depth, Draw, Engine, Given, Lengths, RIGHT, SPARE};
 use crate::{Answer, LISTING, MODEL, REPORT, SAVES, STATE};
 use std::fmt::Write;
 
@@ -73,6 +73,11 @@ fn line(call: &Call) -> Vec<u8> {
             let head = format!("{}{} ", lengths_line(lengths), call.name());
             return [head.as_bytes(), name, b"\n"].concat();
         }
+        Call::Search { lengths, name, depth: Depth::Exactly(depth) } => {
+            let head = format!("{}seek {depth} ", lengths_line(lengths));
+            return [head.as_bytes(), name, b"\n"].concat();
+        }
+        Call::Search { .. } => unreachable!("a depth that isn't a number"),
         Call::SetSaves { place, number } => format!("! saves {place} {number}\n"),
         Call::SetClock(clock) => format!("! clock {} {}\n", clock.ticks, clock.draws),
         Call::SetState { place, number } => format!("! state {place} {number}\n"),
@@ -136,7 +141,7 @@ impl Reader<'_> {
     /// What the next line asks for: nothing if it gives lengths. `None`: it has another form.
     fn next(&mut self) -> Option<Option<Line>> {
         let line = self.bytes(None)?;
-        if let Some(call) = named(&line, self.lengths) {
+        if let Some(call) = named(&line, self.lengths, self.form) {
             self.lengths = RIGHT;
             return Some(Some(Line::Call(call)));
         }
@@ -180,16 +185,29 @@ impl Reader<'_> {
     }
 }
 
-/// A line whose call is lent a name: all bytes after the first blank, to the line's end.
-fn named(line: &[u8], lengths: Lengths) -> Option<Call> {
-    let blank = line.iter().position(|&byte| byte == b' ')?;
-    let name = line[blank + 1..].to_vec();
-    match &line[..blank] {
-        b"save" => Some(Call::Save { lengths, name }),
-        b"return" => Some(Call::Return { lengths, name }),
-        b"forget" => Some(Call::Forget { lengths, name }),
+/// A line whose call is lent a name: all bytes after the first blank, of a search after the second, to the line's end.
+fn named(line: &[u8], lengths: Lengths, form: Form) -> Option<Call> {
+    let (word, name) = parted(line)?;
+    match word {
+        b"save" => Some(Call::Save { lengths, name: name.to_vec() }),
+        b"return" => Some(Call::Return { lengths, name: name.to_vec() }),
+        b"forget" => Some(Call::Forget { lengths, name: name.to_vec() }),
+        b"seek" => {
+            let (depth, name) = parted(name)?;
+            if form == Form::Plain && depth.len() != 1 {
+                return None;
+            }
+            let depth = Depth::Exactly(whole(std::str::from_utf8(depth).ok()?)?);
+            Some(Call::Search { lengths, name: name.to_vec(), depth })
+        }
         _ => None,
     }
+}
+
+/// What stands before the first blank and after it.
+fn parted(line: &[u8]) -> Option<(&[u8], &[u8])> {
+    let blank = line.iter().position(|&byte| byte == b' ')?;
+    Some((&line[..blank], &line[blank + 1..]))
 }
 
 /// A line that has all it says on it.
@@ -236,8 +254,8 @@ pub fn print(engine: &Engine, script: &[u8], form: Form) -> String {
                 printed.push_str(if is { "1\n" } else { "0\n" });
             }
             Line::Call(call) => {
-                if let Some(answer) = buffers.make(engine, call) {
-                    print_answer(&mut printed, call, &answer, &buffers);
+                if let Some(given) = buffers.make(engine, call) {
+                    print_given(&mut printed, call, &given, &buffers);
                 }
             }
         }
@@ -248,9 +266,9 @@ pub fn print(engine: &Engine, script: &[u8], form: Form) -> String {
     printed
 }
 
-fn print_answer(printed: &mut String, call: &Call, answer: &Answer, buffers: &Buffers) {
-    let Answer { number, place, branch, count, total, chosen } = answer;
-    writeln!(printed, "{number} {place} {branch} {count} {total} {chosen}").expect("a string takes all");
+fn print_given(printed: &mut String, call: &Call, given: &Given, buffers: &Buffers) {
+    writeln!(printed, "{}", numbers(&given.numbers())).expect("a string takes all");
+    let Some(Answer { number, count, .. }) = given.answer() else { return };
     if *number != 0 && *number < 15 {
         return;
     }

@@ -92,7 +92,8 @@ pub struct Call {
 
 #[derive(Debug)]
 pub enum Action {
-    Wait,
+    /// With its name.
+    Wait(TokenId),
     Launch(Channel, Vec<Expression>),
     Kill(Channel, Vec<Expression>),
     Receive(Channel, Vec<Set>, Option<Names>),
@@ -219,7 +220,7 @@ impl Action {
     /// The items of its channel; none of a wait.
     pub fn channel(&self) -> &[Expression] {
         match self {
-            Action::Wait => &[],
+            Action::Wait(_) => &[],
             Action::Launch(channel, _)
             | Action::Kill(channel, _)
             | Action::Receive(channel, _, _)

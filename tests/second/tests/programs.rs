@@ -168,6 +168,26 @@ fn calls_takes_timed_steps() {
 }
 
 #[test]
+fn calls_searches() {
+    let text = "A[n]={a,1}.A[n+1]+[n>0]->{b b,1};A[0];".replace("b b", "bb");
+    let script =
+        format!("seek 1 a\nopen {}\n{text}\nseek 8 bb\nseek 1 bb\nseek 0 a\nseek 3 \nseek 2 b b\nseek 3\n", text.len());
+    let expected = "11 0 0 0 0 0 0 0 0 0
+0 0 0 0 0 0
+0 2 0 1 0 0 0 0 0 0
+0 0 0 0 0 0 0 0 0 0
+26 0 0 0 0 0 0 0 0 0
+0 0 0 0 0 0 0 0 0 0
+0 0 0 0 0 0 0 0 0 0
+bad,9
+";
+    assert_eq!(calls(&script), expected);
+    for line in ["seek\n", "seek \n", "seek a\n", "seek -1 a\n", "seek 10 a\n", "seek  a\n"] {
+        assert_eq!(calls(line), "bad,1\n", "{line:?}");
+    }
+}
+
+#[test]
 fn calls_opens_under_the_steady_profile() {
     let (one, two) = ("A[]={a,1}.(A[]);A[];", "A[]={a,1}.(A[]||A[]);A[];");
     let script = format!(

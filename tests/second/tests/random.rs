@@ -4,7 +4,7 @@
 
 use second::generate::*;
 use second::state::{DEFINITION, FIRST_PROCESS, PROCESS};
-use second::{model, saves, state, Answer, Clock, LISTING, MODEL, REPORT, SAVES, STATE};
+use second::{mazes, model, saves, state, Answer, Clock, Found, LISTING, MODEL, REPORT, SAVES, STATE};
 use std::collections::BTreeMap;
 
 /// How many seeds to try: the number given, unless the environment has SEEDS.
@@ -24,7 +24,11 @@ impl Drop for Named {
 }
 
 /// Checks what can be told of a call from its answer and the buffers before and after it.
-fn check(call: &Call, before: &Buffers, answer: &Answer, after: &Buffers) {
+fn check(call: &Call, before: &Buffers, given: &Given, after: &Buffers) {
+    let Some(answer) = given.answer() else {
+        check_search(call, before, given, after);
+        return;
+    };
     let number = answer.number;
     assert!(number == 12 || answer.branch == 0);
     assert!(number == 0 || answer.chosen == 0);
@@ -59,6 +63,27 @@ fn check(call: &Call, before: &Buffers, answer: &Answer, after: &Buffers) {
     }
 }
 
+/// A search moves nothing; the run it found is one, and its last entry a wait.
+fn check_search(call: &Call, before: &Buffers, given: &Given, after: &Buffers) {
+    assert!(before == after);
+    let Given::Found(found) = given else { unreachable!("only searches") };
+    let number = found.number;
+    assert_eq!(number == 1, call.lengths() != Some(&RIGHT));
+    assert!([0, 1, 11, 26, 27].contains(&number) && (number == 0 || *found == Found::refusal(number)));
+    let length = found.length as usize;
+    assert!(length <= 8 && all_zero(&found.run[length..]));
+    let mut buffers = before.clone();
+    for (place, &entry) in found.run[..length].iter().enumerate() {
+        let listed = *buffers.make(&SECOND, &Call::List { lengths: RIGHT }).unwrap().answer().unwrap();
+        let weights: Vec<u64> = buffers.listing[..7 * listed.count as usize].chunks(7).map(|row| row[6]).collect();
+        assert!(weights[entry as usize] > 0);
+        assert!(place + 1 < length || buffers.listing[7 * entry as usize] == 1);
+        let draw = Draw::Exactly(weights[..entry as usize].iter().sum());
+        let taken = buffers.make(&SECOND, &Call::Step { lengths: RIGHT, draw }).unwrap();
+        assert_eq!((taken.number(), taken.answer().unwrap().chosen), (0, entry));
+    }
+}
+
 fn check_opening(call: &Call, text: &[u8], before: &Buffers, answer: &Answer, after: &Buffers) {
     assert!(answer.number <= 10 || (answer.number == 29 && call.name() == "steady"));
     assert_eq!((answer.count, answer.total, answer.chosen), (0, 0, 0));
@@ -78,7 +103,7 @@ fn check_opening(call: &Call, text: &[u8], before: &Buffers, answer: &Answer, af
 /// A timed step: one that isn't refused for its draws or its clock is a step with the same choosing draw.
 fn check_time(draw: Draw, waiting: &[u16], before: &Buffers, answer: &Answer, after: &Buffers) {
     let mut plain = before.clone();
-    let step = plain.make(&SECOND, &Call::Step { lengths: RIGHT, draw }).unwrap();
+    let step = *plain.make(&SECOND, &Call::Step { lengths: RIGHT, draw }).unwrap().answer().unwrap();
     match answer.number {
         23..=25 => assert_eq!((step.number, answer.chosen), (0, 0)),
         0 => {
@@ -214,21 +239,22 @@ fn calls_of_all_kinds() {
         let _named = Named(seed);
         let mut random = Random::new(seed);
         let mut buffers = Buffers::default();
-        // Every tenth list goes through all limits, every tenth is mostly of saves.
+        // Every tenth list goes through all limits, every tenth is mostly of saves, every tenth of searches.
         let list = match seed % 10 {
             9 => edge_calls(&mut random),
             8 => stored_calls(&mut random, 60),
+            7 => mazes::searches(&mut random),
             _ => calls(&mut random, 40),
         };
         for call in list {
             let before = buffers.clone();
             let name = call.name();
-            if let Some(answer) = buffers.make(&SECOND, &call) {
-                check(&call, &before, &answer, &buffers);
-                *met.entry((name, answer.number)).or_default() += 1;
-                *numbers.entry(answer.number).or_default() += 1;
-                if name == "step" && answer.number == 0 {
-                    kinds[buffers.listing[answer.chosen as usize * 7] as usize] += 1;
+            if let Some(given) = buffers.make(&SECOND, &call) {
+                check(&call, &before, &given, &buffers);
+                *met.entry((name, given.number())).or_default() += 1;
+                *numbers.entry(given.number()).or_default() += 1;
+                if name == "step" && given.number() == 0 {
+                    kinds[buffers.listing[given.answer().unwrap().chosen as usize * 7] as usize] += 1;
                 }
             }
         }
@@ -238,7 +264,7 @@ fn calls_of_all_kinds() {
         println!("  {name} {number}: {times}");
     }
     println!("kinds of accepted steps: {:?}", &kinds[1..]);
-    for number in (0..=25).chain([29]) {
+    for number in (0..=27).chain([29]) {
         assert!(numbers.contains_key(&number), "{number} is never met");
     }
     for number in [0, 1, 11, 12, 13, 14] {
@@ -265,12 +291,12 @@ fn lively_models_are_legal_and_live() {
         let text = lively(&mut Random::new(seed));
         let mut buffers = Buffers::default();
         let opened = buffers.make(&SECOND, &Call::Open { text: text.clone(), lengths: RIGHT });
-        assert_eq!(opened, Some(Answer::default()), "{}", String::from_utf8_lossy(&text));
+        assert_eq!(opened, Some(Answer::default().into()), "{}", String::from_utf8_lossy(&text));
         let mut random = Random::new(seed);
         let mut end = 0;
         for _ in 0..100 {
             let draw = Draw::Inside(random.number());
-            let answer = buffers.make(&SECOND, &Call::Step { lengths: RIGHT, draw }).unwrap();
+            let answer = *buffers.make(&SECOND, &Call::Step { lengths: RIGHT, draw }).unwrap().answer().unwrap();
             if answer.number != 0 {
                 end = answer.number;
                 break;

@@ -16,7 +16,7 @@ enum-known-held-2 c = search needs
 
 judge-start-requires : tie.Need-judge-start-requires
 judge-start-requires c κs =
-    (_, _, _, held-model _ _ _ _ _ (c .before .before .before .before .before .before .before .before .before .before .before .before .before .before .before .before .before .before .before .before .before .before .read-model .ensures) (c .before .before .held2 .given .1))
+    (_, _, _, held-model _ _ _ _ _ (c .before .before .before .before .before .before .before .before .before .before .before .before .before .before .before .before .before .before .before .before .before .before .read-model .ensures .0) (c .before .before .held2 .given .1))
 
 same-length : tie.Need-same-length
 same-length c = search needs
@@ -47,7 +47,7 @@ same-length-9 c = search needs
 
 returns : tie.Need-returns
 returns c =
-    held-no _ _ _ _ _ (c .before .before .before .before .before .before .before .before .before .before .before .before .before .before .before .before .before .before .before .before .before .read-model .ensures) (c .before .held .given .1)
+    held-no _ _ _ _ _ (c .before .before .before .before .before .before .before .before .before .before .before .before .before .before .before .before .before .before .before .before .before .read-model .ensures .0) (c .before .held .given .1)
 
 same-length-10 : tie.Need-same-length-10
 same-length-10 c = search needs
@@ -78,7 +78,7 @@ same-length-18 c = search needs
 
 returns-2 : tie.Need-returns-2
 returns-2 c =
-    c .judge-start .ensures _ _ _ (held-model _ _ _ _ _ (c .before .before .before .before .before .before .before .before .before .before .before .before .before .before .before .before .before .before .before .before .before .before .before .read-model .ensures) (c .before .before .before .held2 .given .1))
+    c .judge-start .ensures _ _ _ (held-model _ _ _ _ _ (c .before .before .before .before .before .before .before .before .before .before .before .before .before .before .before .before .before .before .before .before .before .before .before .read-model .ensures .0) (c .before .before .before .held2 .given .1))
 
 pub open-text-spec : {M : Type 1} → statement M
 open-text-spec =

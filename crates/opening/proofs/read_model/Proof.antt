@@ -1,5 +1,6 @@
 -- A case for each return, from Models.antt: the tree is refused, or its names are asked.
 use borrow.Author.Needs.{needs}
+use Rattle.opening.proofs.Marked.{fits-marked, model-unmarked, model-marked}
 use Rattle.opening.proofs.Models.{tree-no, tree-fits}
 use Rattle.opening.proofs.read_model.Statement.{statement}
 use Rattle.opening.proofs.read_model.Tie as tie
@@ -16,7 +17,7 @@ enum-known-tree-2 c = search needs
 
 settle-tree-requires : tie.Need-settle-tree-requires
 settle-tree-requires c κs =
-    (tree-fits _ _ _ _ _ _ _ (c .before .before .before .before .before .before .before .before .before .before .before .before .before .before .before .before .before .before .before .before .before .before .before .read-tree .ensures) (c .before .before .before .before .before .before .before .before .before .tree2 .given .1), c .before .before .before .before .before .before .before .before .before .before .before .before .before .before .before .before .before .before .before .before .before .before .before .before .before .before .before .before .before .before .before .before .before .before .before .before .before .before .before .before .pre .1)
+    (tree-fits _ _ _ _ _ _ _ (c .before .before .before .before .before .before .before .before .before .before .before .before .before .before .before .before .before .before .before .before .before .before .before .read-tree .ensures .0) (c .before .before .before .before .before .before .before .before .before .tree2 .given .1), c .before .before .before .before .before .before .before .before .before .before .before .before .before .before .before .before .before .before .before .before .before .before .before .before .before .before .before .before .before .before .before .before .before .before .before .before .before .before .before .before .pre .1)
 
 same-length : tie.Need-same-length
 same-length c = search needs
@@ -38,7 +39,7 @@ same-length-6 c = search needs
 
 returns : tie.Need-returns
 returns c =
-    tree-no _ _ _ _ _ _ _ (c .before .before .before .before .before .before .before .before .before .before .before .before .before .before .before .read-tree .ensures) _ _ _ (c .before .tree .given .1)
+    (tree-no _ _ _ _ _ _ _ (c .before .before .before .before .before .before .before .before .before .before .before .before .before .before .before .read-tree .ensures .0) _ _ _ (c .before .tree .given .1), model-unmarked _ _ _ _ _ _ _)
 
 same-length-7 : tie.Need-same-length-7
 same-length-7 c = search needs
@@ -69,7 +70,7 @@ same-length-15 c = search needs
 
 returns-2 : tie.Need-returns-2
 returns-2 c =
-    c .before .before .before .before .before .before .before .before .settle-tree .ensures
+    (c .before .before .before .before .before .before .before .before .settle-tree .ensures, model-marked _ (fits-marked (c .before .before .before .before .before .before .before .before .before .before .before .before .before .before .before .before .before .before .before .before .before .before .before .before .before .before .before .before .before .before .before .before .read-tree .ensures .1) (c .before .before .before .before .before .before .before .before .before .before .before .before .before .before .before .before .before .before .tree2 .given .1)))
 
 pub read-model-spec : {M : Type 1} → statement M
 read-model-spec =

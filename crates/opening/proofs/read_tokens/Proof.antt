@@ -5,6 +5,7 @@ use lib.ListN.{length-take}
 use Rattle.token.proofs.Tells.{filled-held}
 use Rattle.token.proofs.Up.{token-count}
 use Rattle.opening.proofs.Places.{passed-short, filled-kinds, filled-placed}
+use Rattle.opening.proofs.Marked.{filled-marked}
 use Rattle.opening.proofs.Trees.{fit-few, misfit-no, crowded-no, fits-yes}
 use Rattle.opening.proofs.read_tokens.Statement.{statement}
 use Rattle.opening.proofs.read_tokens.Tie as tie
@@ -60,7 +61,7 @@ same-length-4 c = search needs
 
 returns : tie.Need-returns
 returns c =
-    misfit-no (c .before .before .before .before .before .before .before .before .before .before .before .before .before .before .before .before .fill .ensures) _ _ (c .before .before .before .before .before .before .before .judge-text .ensures) (c .before .before .before .before .before .before .before .before .before .before .before .before .before .before .before .before .before .before .before .before .before .before .before .before .before .before .before .pre .0) _ _ (c .before .before .before .asked .given .1) (c .byte-place .ensures)
+    (misfit-no (c .before .before .before .before .before .before .before .before .before .before .before .before .before .before .before .before .fill .ensures) _ _ (c .before .before .before .before .before .before .before .judge-text .ensures) (c .before .before .before .before .before .before .before .before .before .before .before .before .before .before .before .before .before .before .before .before .before .before .before .before .before .before .before .pre .0) _ _ (c .before .before .before .asked .given .1) (c .byte-place .ensures), filled-marked (c .before .before .before .before .before .before .before .before .before .before .before .before .before .before .before .before .fill .ensures))
 
 same-length-5 : tie.Need-same-length-5
 same-length-5 c = search needs
@@ -76,7 +77,7 @@ same-length-8 c = search needs
 
 returns-2 : tie.Need-returns-2
 returns-2 c =
-    crowded-no (c .before .before .before .before .before .before .before .before .before .before .before .before .before .before .before .before .fill .ensures) _ _ (c .before .before .before .before .before .before .before .judge-text .ensures) (c .before .before .before .before .before .before .before .before .before .before .before .before .before .before .before .before .before .before .before .before .before .before .before .before .before .before .before .pre .0) _ _ (c .before .before .before .asked2 .given .1) (c .byte-place2 .ensures)
+    (crowded-no (c .before .before .before .before .before .before .before .before .before .before .before .before .before .before .before .before .fill .ensures) _ _ (c .before .before .before .before .before .before .before .judge-text .ensures) (c .before .before .before .before .before .before .before .before .before .before .before .before .before .before .before .before .before .before .before .before .before .before .before .before .before .before .before .pre .0) _ _ (c .before .before .before .asked2 .given .1) (c .byte-place2 .ensures), filled-marked (c .before .before .before .before .before .before .before .before .before .before .before .before .before .before .before .before .fill .ensures))
 
 same-length-9 : tie.Need-same-length-9
 same-length-9 c = search needs
@@ -98,7 +99,7 @@ same-length-14 c = search needs
 
 returns-3 : tie.Need-returns-3
 returns-3 c =
-    fits-yes (c .before .before .before .before .before .before .before .before .before .before .before .before .before .before .before .before .before .before .before .before .before .before .before .before .fill .ensures) _ _ (c .before .before .before .before .before .before .before .before .before .before .before .before .before .before .before .judge-text .ensures) (c .before .before .before .before .before .before .before .before .before .before .before .before .before .before .before .before .before .before .before .before .before .before .before .before .before .before .before .before .before .before .before .before .before .before .before .pre .0) (omega (arith, c .before .before .before .before .before .before .before .before .before .before .before .before .before .before .before .before .before .before .before .before .before .before .before .before .before .before .before .before .before .before .before .before .before .before .before .pre .1)) (c .before .before .before .before .before .before .before .before .before .before .before .asked3 .given .1) (c .before .before .before .before .contents .ensures)
+    (fits-yes (c .before .before .before .before .before .before .before .before .before .before .before .before .before .before .before .before .before .before .before .before .before .before .before .before .fill .ensures) _ _ (c .before .before .before .before .before .before .before .before .before .before .before .before .before .before .before .judge-text .ensures) (c .before .before .before .before .before .before .before .before .before .before .before .before .before .before .before .before .before .before .before .before .before .before .before .before .before .before .before .before .before .before .before .before .before .before .before .pre .0) (omega (arith, c .before .before .before .before .before .before .before .before .before .before .before .before .before .before .before .before .before .before .before .before .before .before .before .before .before .before .before .before .before .before .before .before .before .before .before .pre .1)) (c .before .before .before .before .before .before .before .before .before .before .before .asked3 .given .1) (c .before .before .before .before .contents .ensures), filled-marked (c .before .before .before .before .before .before .before .before .before .before .before .before .before .before .before .before .before .before .before .before .before .before .before .before .fill .ensures))
 
 pub read-tokens-spec : {M : Type 1} → statement M
 read-tokens-spec =

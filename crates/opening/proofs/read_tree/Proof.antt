@@ -2,6 +2,7 @@
 use mathlib.Core.Path.{sym, _∙_}
 use borrow.Author.Needs.{needs}
 use Rattle.opening.proofs.Trees.{bytes-no}
+use Rattle.opening.proofs.Marked.{tree-unmarked, tree-marked}
 use Rattle.opening.proofs.read_tree.Statement.{statement}
 use Rattle.opening.proofs.read_tree.Tie as tie
 
@@ -20,7 +21,7 @@ read-tokens-requires c κs =
 
 returns : tie.Need-returns
 returns c =
-    bytes-no _ _ _ _ _ _ (c .before .before .before .judge-bytes .ensures) (c .before .judged .given .1)
+    (bytes-no _ _ _ _ _ _ (c .before .before .before .judge-bytes .ensures) (c .before .judged .given .1), tree-unmarked _ _ _ _ _ _ _)
 
 same-length : tie.Need-same-length
 same-length c = search needs
@@ -42,7 +43,7 @@ same-length-6 c = search needs
 
 returns-2 : tie.Need-returns-2
 returns-2 c =
-    c .before .before .before .before .before .before .before .before .before .before .before .before .read-tokens .ensures
+    (c .before .before .before .before .before .before .before .before .before .before .before .before .read-tokens .ensures .0, tree-marked _ (c .before .before .before .before .before .before .before .before .before .before .before .before .read-tokens .ensures .1))
 
 pub read-tree-spec : {M : Type 1} → statement M
 read-tree-spec =

@@ -8,7 +8,7 @@ use Rattle.script.proofs.call.Tie as tie
 
 add-end : tie.Need-add-end
 add-end c =
-    let a = there (c .before .before .before .before .before .before .before .args .row) (length (c .before .before .before .before .before .before .before .args .texts .now)) (length (c .before .before .before .before .before .before .before .args .numbers .now)) (length (c .before .before .before .before .before .before .before .args .model .now)) (length (c .before .before .before .before .before .before .before .args .state .now)) (length (c .before .before .before .before .before .before .before .args .saves .now)) (c .before .before .before .before .before .before .before .pre .0) (length (c .before .before .before .before .before .before .before .args .outputs .now)) (c .before .before .before .before .before .before .before .pre .1) in
+    let a = there (c .before .before .before .before .before .before .before .args .row) (length (c .before .before .before .before .before .before .before .args .texts .now)) (length (c .before .before .before .before .before .before .before .args .numbers .now)) (length (c .before .before .before .before .before .before .before .args .model .now)) (length (c .before .before .before .before .before .before .before .args .state .now)) (length (c .before .before .before .before .before .before .before .args .saves .now)) (c .before .before .before .before .before .before .before .pre .1 .0) (length (c .before .before .before .before .before .before .before .args .outputs .now)) (c .before .before .before .before .before .before .before .pre .1 .1) in
     omega (arith, a .text)
 
 sub-open : tie.Need-sub-open
@@ -21,37 +21,37 @@ part-open-start c =
 
 part-open-end : tie.Need-part-open-end
 part-open-end c =
-    let a = there (c .before .before .before .before .before .before .before .args .row) (length (c .before .before .before .before .before .before .before .args .texts .now)) (length (c .before .before .before .before .before .before .before .args .numbers .now)) (length (c .before .before .before .before .before .before .before .args .model .now)) (length (c .before .before .before .before .before .before .before .args .state .now)) (length (c .before .before .before .before .before .before .before .args .saves .now)) (c .before .before .before .before .before .before .before .pre .0) (length (c .before .before .before .before .before .before .before .args .outputs .now)) (c .before .before .before .before .before .before .before .pre .1) in
+    let a = there (c .before .before .before .before .before .before .before .args .row) (length (c .before .before .before .before .before .before .before .args .texts .now)) (length (c .before .before .before .before .before .before .before .args .numbers .now)) (length (c .before .before .before .before .before .before .before .args .model .now)) (length (c .before .before .before .before .before .before .before .args .state .now)) (length (c .before .before .before .before .before .before .before .args .saves .now)) (c .before .before .before .before .before .before .before .pre .1 .0) (length (c .before .before .before .before .before .before .before .args .outputs .now)) (c .before .before .before .before .before .before .before .pre .1 .1) in
     omega (arith, a .text)
 
 slice-relend-prefix-open : tie.Need-slice-relend-prefix-open
 slice-relend-prefix-open c =
-    let a = there (c .before .before .before .before .before .before .before .before .args .row) (length (c .before .before .before .before .before .before .before .before .args .texts .now)) (length (c .before .before .before .before .before .before .before .before .args .numbers .now)) (length (c .before .before .before .before .before .before .before .before .args .model .now)) (length (c .before .before .before .before .before .before .before .before .args .state .now)) (length (c .before .before .before .before .before .before .before .before .args .saves .now)) (c .before .before .before .before .before .before .before .before .pre .0) (length (c .before .before .before .before .before .before .before .before .args .outputs .now)) (c .before .before .before .before .before .before .before .before .pre .1) in
+    let a = there (c .before .before .before .before .before .before .before .before .args .row) (length (c .before .before .before .before .before .before .before .before .args .texts .now)) (length (c .before .before .before .before .before .before .before .before .args .numbers .now)) (length (c .before .before .before .before .before .before .before .before .args .model .now)) (length (c .before .before .before .before .before .before .before .before .args .state .now)) (length (c .before .before .before .before .before .before .before .before .args .saves .now)) (c .before .before .before .before .before .before .before .before .pre .1 .0) (length (c .before .before .before .before .before .before .before .before .args .outputs .now)) (c .before .before .before .before .before .before .before .before .pre .1 .1) in
     omega (arith, a .model, a .state, a .saves, a .output)
 
 slice-aggregate-open : tie.Need-slice-aggregate-open
 slice-aggregate-open c =
-    let a = there (c .before .before .before .before .before .before .before .before .before .args .row) (length (c .before .before .before .before .before .before .before .before .before .args .texts .now)) (length (c .before .before .before .before .before .before .before .before .before .args .numbers .now)) (length (c .before .before .before .before .before .before .before .before .before .args .model .now)) (length (c .before .before .before .before .before .before .before .before .before .args .state .now)) (length (c .before .before .before .before .before .before .before .before .before .args .saves .now)) (c .before .before .before .before .before .before .before .before .before .pre .0) (length (c .before .before .before .before .before .before .before .before .before .args .outputs .now)) (c .before .before .before .before .before .before .before .before .before .pre .1) in
+    let a = there (c .before .before .before .before .before .before .before .before .before .args .row) (length (c .before .before .before .before .before .before .before .before .before .args .texts .now)) (length (c .before .before .before .before .before .before .before .before .before .args .numbers .now)) (length (c .before .before .before .before .before .before .before .before .before .args .model .now)) (length (c .before .before .before .before .before .before .before .before .before .args .state .now)) (length (c .before .before .before .before .before .before .before .before .before .args .saves .now)) (c .before .before .before .before .before .before .before .before .before .pre .1 .0) (length (c .before .before .before .before .before .before .before .before .before .args .outputs .now)) (c .before .before .before .before .before .before .before .before .before .pre .1 .1) in
     simp length-take (omega (arith, a .model, a .state, a .saves, a .output))
 
 slice-relend-prefix-open-2 : tie.Need-slice-relend-prefix-open-2
 slice-relend-prefix-open-2 c =
-    let a = there (c .before .before .before .before .before .before .before .before .before .args .row) (length (c .before .before .before .before .before .before .before .before .before .args .texts .now)) (length (c .before .before .before .before .before .before .before .before .before .args .numbers .now)) (length (c .before .before .before .before .before .before .before .before .before .args .model .now)) (length (c .before .before .before .before .before .before .before .before .before .args .state .now)) (length (c .before .before .before .before .before .before .before .before .before .args .saves .now)) (c .before .before .before .before .before .before .before .before .before .pre .0) (length (c .before .before .before .before .before .before .before .before .before .args .outputs .now)) (c .before .before .before .before .before .before .before .before .before .pre .1) in
+    let a = there (c .before .before .before .before .before .before .before .before .before .args .row) (length (c .before .before .before .before .before .before .before .before .before .args .texts .now)) (length (c .before .before .before .before .before .before .before .before .before .args .numbers .now)) (length (c .before .before .before .before .before .before .before .before .before .args .model .now)) (length (c .before .before .before .before .before .before .before .before .before .args .state .now)) (length (c .before .before .before .before .before .before .before .before .before .args .saves .now)) (c .before .before .before .before .before .before .before .before .before .pre .1 .0) (length (c .before .before .before .before .before .before .before .before .before .args .outputs .now)) (c .before .before .before .before .before .before .before .before .before .pre .1 .1) in
     omega (arith, a .model, a .state, a .saves, a .output)
 
 slice-aggregate-open-2 : tie.Need-slice-aggregate-open-2
 slice-aggregate-open-2 c =
-    let a = there (c .before .before .before .before .before .before .before .before .before .before .args .row) (length (c .before .before .before .before .before .before .before .before .before .before .args .texts .now)) (length (c .before .before .before .before .before .before .before .before .before .before .args .numbers .now)) (length (c .before .before .before .before .before .before .before .before .before .before .args .model .now)) (length (c .before .before .before .before .before .before .before .before .before .before .args .state .now)) (length (c .before .before .before .before .before .before .before .before .before .before .args .saves .now)) (c .before .before .before .before .before .before .before .before .before .before .pre .0) (length (c .before .before .before .before .before .before .before .before .before .before .args .outputs .now)) (c .before .before .before .before .before .before .before .before .before .before .pre .1) in
+    let a = there (c .before .before .before .before .before .before .before .before .before .before .args .row) (length (c .before .before .before .before .before .before .before .before .before .before .args .texts .now)) (length (c .before .before .before .before .before .before .before .before .before .before .args .numbers .now)) (length (c .before .before .before .before .before .before .before .before .before .before .args .model .now)) (length (c .before .before .before .before .before .before .before .before .before .before .args .state .now)) (length (c .before .before .before .before .before .before .before .before .before .before .args .saves .now)) (c .before .before .before .before .before .before .before .before .before .before .pre .1 .0) (length (c .before .before .before .before .before .before .before .before .before .before .args .outputs .now)) (c .before .before .before .before .before .before .before .before .before .before .pre .1 .1) in
     simp length-take (omega (arith, a .model, a .state, a .saves, a .output))
 
 slice-relend-prefix-open-3 : tie.Need-slice-relend-prefix-open-3
 slice-relend-prefix-open-3 c =
-    let a = there (c .before .before .before .before .before .before .before .before .before .before .args .row) (length (c .before .before .before .before .before .before .before .before .before .before .args .texts .now)) (length (c .before .before .before .before .before .before .before .before .before .before .args .numbers .now)) (length (c .before .before .before .before .before .before .before .before .before .before .args .model .now)) (length (c .before .before .before .before .before .before .before .before .before .before .args .state .now)) (length (c .before .before .before .before .before .before .before .before .before .before .args .saves .now)) (c .before .before .before .before .before .before .before .before .before .before .pre .0) (length (c .before .before .before .before .before .before .before .before .before .before .args .outputs .now)) (c .before .before .before .before .before .before .before .before .before .before .pre .1) in
+    let a = there (c .before .before .before .before .before .before .before .before .before .before .args .row) (length (c .before .before .before .before .before .before .before .before .before .before .args .texts .now)) (length (c .before .before .before .before .before .before .before .before .before .before .args .numbers .now)) (length (c .before .before .before .before .before .before .before .before .before .before .args .model .now)) (length (c .before .before .before .before .before .before .before .before .before .before .args .state .now)) (length (c .before .before .before .before .before .before .before .before .before .before .args .saves .now)) (c .before .before .before .before .before .before .before .before .before .before .pre .1 .0) (length (c .before .before .before .before .before .before .before .before .before .before .args .outputs .now)) (c .before .before .before .before .before .before .before .before .before .before .pre .1 .1) in
     omega (arith, a .model, a .state, a .saves, a .output)
 
 slice-aggregate-open-3 : tie.Need-slice-aggregate-open-3
 slice-aggregate-open-3 c =
-    let a = there (c .before .before .before .before .before .before .before .before .before .before .before .args .row) (length (c .before .before .before .before .before .before .before .before .before .before .before .args .texts .now)) (length (c .before .before .before .before .before .before .before .before .before .before .before .args .numbers .now)) (length (c .before .before .before .before .before .before .before .before .before .before .before .args .model .now)) (length (c .before .before .before .before .before .before .before .before .before .before .before .args .state .now)) (length (c .before .before .before .before .before .before .before .before .before .before .before .args .saves .now)) (c .before .before .before .before .before .before .before .before .before .before .before .pre .0) (length (c .before .before .before .before .before .before .before .before .before .before .before .args .outputs .now)) (c .before .before .before .before .before .before .before .before .before .before .before .pre .1) in
+    let a = there (c .before .before .before .before .before .before .before .before .before .before .before .args .row) (length (c .before .before .before .before .before .before .before .before .before .before .before .args .texts .now)) (length (c .before .before .before .before .before .before .before .before .before .before .before .args .numbers .now)) (length (c .before .before .before .before .before .before .before .before .before .before .before .args .model .now)) (length (c .before .before .before .before .before .before .before .before .before .before .before .args .state .now)) (length (c .before .before .before .before .before .before .before .before .before .before .before .args .saves .now)) (c .before .before .before .before .before .before .before .before .before .before .before .pre .1 .0) (length (c .before .before .before .before .before .before .before .before .before .before .before .args .outputs .now)) (c .before .before .before .before .before .before .before .before .before .before .before .pre .1 .1) in
     simp length-take (omega (arith, a .model, a .state, a .saves, a .output))
 
 open-requires : tie.Need-open-requires
@@ -76,32 +76,32 @@ returns c =
 
 slice-reshare-prefix-list : tie.Need-slice-reshare-prefix-list
 slice-reshare-prefix-list c =
-    let a = there (c .before .before .before .before .before .before .before .before .args .row) (length (c .before .before .before .before .before .before .before .before .args .texts .now)) (length (c .before .before .before .before .before .before .before .before .args .numbers .now)) (length (c .before .before .before .before .before .before .before .before .args .model .now)) (length (c .before .before .before .before .before .before .before .before .args .state .now)) (length (c .before .before .before .before .before .before .before .before .args .saves .now)) (c .before .before .before .before .before .before .before .before .pre .0) (length (c .before .before .before .before .before .before .before .before .args .outputs .now)) (c .before .before .before .before .before .before .before .before .pre .1) in
+    let a = there (c .before .before .before .before .before .before .before .before .args .row) (length (c .before .before .before .before .before .before .before .before .args .texts .now)) (length (c .before .before .before .before .before .before .before .before .args .numbers .now)) (length (c .before .before .before .before .before .before .before .before .args .model .now)) (length (c .before .before .before .before .before .before .before .before .args .state .now)) (length (c .before .before .before .before .before .before .before .before .args .saves .now)) (c .before .before .before .before .before .before .before .before .pre .1 .0) (length (c .before .before .before .before .before .before .before .before .args .outputs .now)) (c .before .before .before .before .before .before .before .before .pre .1 .1) in
     omega (arith, a .model, a .state, a .saves, a .output)
 
 slice-aggregate-list : tie.Need-slice-aggregate-list
 slice-aggregate-list c =
-    let a = there (c .before .before .before .before .before .before .before .before .before .args .row) (length (c .before .before .before .before .before .before .before .before .before .args .texts .now)) (length (c .before .before .before .before .before .before .before .before .before .args .numbers .now)) (length (c .before .before .before .before .before .before .before .before .before .args .model .now)) (length (c .before .before .before .before .before .before .before .before .before .args .state .now)) (length (c .before .before .before .before .before .before .before .before .before .args .saves .now)) (c .before .before .before .before .before .before .before .before .before .pre .0) (length (c .before .before .before .before .before .before .before .before .before .args .outputs .now)) (c .before .before .before .before .before .before .before .before .before .pre .1) in
+    let a = there (c .before .before .before .before .before .before .before .before .before .args .row) (length (c .before .before .before .before .before .before .before .before .before .args .texts .now)) (length (c .before .before .before .before .before .before .before .before .before .args .numbers .now)) (length (c .before .before .before .before .before .before .before .before .before .args .model .now)) (length (c .before .before .before .before .before .before .before .before .before .args .state .now)) (length (c .before .before .before .before .before .before .before .before .before .args .saves .now)) (c .before .before .before .before .before .before .before .before .before .pre .1 .0) (length (c .before .before .before .before .before .before .before .before .before .args .outputs .now)) (c .before .before .before .before .before .before .before .before .before .pre .1 .1) in
     simp length-take (omega (arith, a .model, a .state, a .saves, a .output))
 
 slice-reshare-prefix-list-2 : tie.Need-slice-reshare-prefix-list-2
 slice-reshare-prefix-list-2 c =
-    let a = there (c .before .before .before .before .before .before .before .before .before .args .row) (length (c .before .before .before .before .before .before .before .before .before .args .texts .now)) (length (c .before .before .before .before .before .before .before .before .before .args .numbers .now)) (length (c .before .before .before .before .before .before .before .before .before .args .model .now)) (length (c .before .before .before .before .before .before .before .before .before .args .state .now)) (length (c .before .before .before .before .before .before .before .before .before .args .saves .now)) (c .before .before .before .before .before .before .before .before .before .pre .0) (length (c .before .before .before .before .before .before .before .before .before .args .outputs .now)) (c .before .before .before .before .before .before .before .before .before .pre .1) in
+    let a = there (c .before .before .before .before .before .before .before .before .before .args .row) (length (c .before .before .before .before .before .before .before .before .before .args .texts .now)) (length (c .before .before .before .before .before .before .before .before .before .args .numbers .now)) (length (c .before .before .before .before .before .before .before .before .before .args .model .now)) (length (c .before .before .before .before .before .before .before .before .before .args .state .now)) (length (c .before .before .before .before .before .before .before .before .before .args .saves .now)) (c .before .before .before .before .before .before .before .before .before .pre .1 .0) (length (c .before .before .before .before .before .before .before .before .before .args .outputs .now)) (c .before .before .before .before .before .before .before .before .before .pre .1 .1) in
     omega (arith, a .model, a .state, a .saves, a .output)
 
 slice-aggregate-list-2 : tie.Need-slice-aggregate-list-2
 slice-aggregate-list-2 c =
-    let a = there (c .before .before .before .before .before .before .before .before .before .before .args .row) (length (c .before .before .before .before .before .before .before .before .before .before .args .texts .now)) (length (c .before .before .before .before .before .before .before .before .before .before .args .numbers .now)) (length (c .before .before .before .before .before .before .before .before .before .before .args .model .now)) (length (c .before .before .before .before .before .before .before .before .before .before .args .state .now)) (length (c .before .before .before .before .before .before .before .before .before .before .args .saves .now)) (c .before .before .before .before .before .before .before .before .before .before .pre .0) (length (c .before .before .before .before .before .before .before .before .before .before .args .outputs .now)) (c .before .before .before .before .before .before .before .before .before .before .pre .1) in
+    let a = there (c .before .before .before .before .before .before .before .before .before .before .args .row) (length (c .before .before .before .before .before .before .before .before .before .before .args .texts .now)) (length (c .before .before .before .before .before .before .before .before .before .before .args .numbers .now)) (length (c .before .before .before .before .before .before .before .before .before .before .args .model .now)) (length (c .before .before .before .before .before .before .before .before .before .before .args .state .now)) (length (c .before .before .before .before .before .before .before .before .before .before .args .saves .now)) (c .before .before .before .before .before .before .before .before .before .before .pre .1 .0) (length (c .before .before .before .before .before .before .before .before .before .before .args .outputs .now)) (c .before .before .before .before .before .before .before .before .before .before .pre .1 .1) in
     simp length-take (omega (arith, a .model, a .state, a .saves, a .output))
 
 slice-relend-prefix-list : tie.Need-slice-relend-prefix-list
 slice-relend-prefix-list c =
-    let a = there (c .before .before .before .before .before .before .before .before .before .before .args .row) (length (c .before .before .before .before .before .before .before .before .before .before .args .texts .now)) (length (c .before .before .before .before .before .before .before .before .before .before .args .numbers .now)) (length (c .before .before .before .before .before .before .before .before .before .before .args .model .now)) (length (c .before .before .before .before .before .before .before .before .before .before .args .state .now)) (length (c .before .before .before .before .before .before .before .before .before .before .args .saves .now)) (c .before .before .before .before .before .before .before .before .before .before .pre .0) (length (c .before .before .before .before .before .before .before .before .before .before .args .outputs .now)) (c .before .before .before .before .before .before .before .before .before .before .pre .1) in
+    let a = there (c .before .before .before .before .before .before .before .before .before .before .args .row) (length (c .before .before .before .before .before .before .before .before .before .before .args .texts .now)) (length (c .before .before .before .before .before .before .before .before .before .before .args .numbers .now)) (length (c .before .before .before .before .before .before .before .before .before .before .args .model .now)) (length (c .before .before .before .before .before .before .before .before .before .before .args .state .now)) (length (c .before .before .before .before .before .before .before .before .before .before .args .saves .now)) (c .before .before .before .before .before .before .before .before .before .before .pre .1 .0) (length (c .before .before .before .before .before .before .before .before .before .before .args .outputs .now)) (c .before .before .before .before .before .before .before .before .before .before .pre .1 .1) in
     omega (arith, a .model, a .state, a .saves, a .output)
 
 slice-aggregate-list-3 : tie.Need-slice-aggregate-list-3
 slice-aggregate-list-3 c =
-    let a = there (c .before .before .before .before .before .before .before .before .before .before .before .args .row) (length (c .before .before .before .before .before .before .before .before .before .before .before .args .texts .now)) (length (c .before .before .before .before .before .before .before .before .before .before .before .args .numbers .now)) (length (c .before .before .before .before .before .before .before .before .before .before .before .args .model .now)) (length (c .before .before .before .before .before .before .before .before .before .before .before .args .state .now)) (length (c .before .before .before .before .before .before .before .before .before .before .before .args .saves .now)) (c .before .before .before .before .before .before .before .before .before .before .before .pre .0) (length (c .before .before .before .before .before .before .before .before .before .before .before .args .outputs .now)) (c .before .before .before .before .before .before .before .before .before .before .before .pre .1) in
+    let a = there (c .before .before .before .before .before .before .before .before .before .before .before .args .row) (length (c .before .before .before .before .before .before .before .before .before .before .before .args .texts .now)) (length (c .before .before .before .before .before .before .before .before .before .before .before .args .numbers .now)) (length (c .before .before .before .before .before .before .before .before .before .before .before .args .model .now)) (length (c .before .before .before .before .before .before .before .before .before .before .before .args .state .now)) (length (c .before .before .before .before .before .before .before .before .before .before .before .args .saves .now)) (c .before .before .before .before .before .before .before .before .before .before .before .pre .1 .0) (length (c .before .before .before .before .before .before .before .before .before .before .before .args .outputs .now)) (c .before .before .before .before .before .before .before .before .before .before .before .pre .1 .1) in
     simp length-take (omega (arith, a .model, a .state, a .saves, a .output))
 
 list-requires : tie.Need-list-requires
@@ -130,32 +130,32 @@ returns-2 c =
 
 slice-reshare-prefix-report : tie.Need-slice-reshare-prefix-report
 slice-reshare-prefix-report c =
-    let a = there (c .before .before .before .before .before .before .before .before .before .before .args .row) (length (c .before .before .before .before .before .before .before .before .before .before .args .texts .now)) (length (c .before .before .before .before .before .before .before .before .before .before .args .numbers .now)) (length (c .before .before .before .before .before .before .before .before .before .before .args .model .now)) (length (c .before .before .before .before .before .before .before .before .before .before .args .state .now)) (length (c .before .before .before .before .before .before .before .before .before .before .args .saves .now)) (c .before .before .before .before .before .before .before .before .before .before .pre .0) (length (c .before .before .before .before .before .before .before .before .before .before .args .outputs .now)) (c .before .before .before .before .before .before .before .before .before .before .pre .1) in
+    let a = there (c .before .before .before .before .before .before .before .before .before .before .args .row) (length (c .before .before .before .before .before .before .before .before .before .before .args .texts .now)) (length (c .before .before .before .before .before .before .before .before .before .before .args .numbers .now)) (length (c .before .before .before .before .before .before .before .before .before .before .args .model .now)) (length (c .before .before .before .before .before .before .before .before .before .before .args .state .now)) (length (c .before .before .before .before .before .before .before .before .before .before .args .saves .now)) (c .before .before .before .before .before .before .before .before .before .before .pre .1 .0) (length (c .before .before .before .before .before .before .before .before .before .before .args .outputs .now)) (c .before .before .before .before .before .before .before .before .before .before .pre .1 .1) in
     omega (arith, a .model, a .state, a .saves, a .output)
 
 slice-aggregate-report : tie.Need-slice-aggregate-report
 slice-aggregate-report c =
-    let a = there (c .before .before .before .before .before .before .before .before .before .before .before .args .row) (length (c .before .before .before .before .before .before .before .before .before .before .before .args .texts .now)) (length (c .before .before .before .before .before .before .before .before .before .before .before .args .numbers .now)) (length (c .before .before .before .before .before .before .before .before .before .before .before .args .model .now)) (length (c .before .before .before .before .before .before .before .before .before .before .before .args .state .now)) (length (c .before .before .before .before .before .before .before .before .before .before .before .args .saves .now)) (c .before .before .before .before .before .before .before .before .before .before .before .pre .0) (length (c .before .before .before .before .before .before .before .before .before .before .before .args .outputs .now)) (c .before .before .before .before .before .before .before .before .before .before .before .pre .1) in
+    let a = there (c .before .before .before .before .before .before .before .before .before .before .before .args .row) (length (c .before .before .before .before .before .before .before .before .before .before .before .args .texts .now)) (length (c .before .before .before .before .before .before .before .before .before .before .before .args .numbers .now)) (length (c .before .before .before .before .before .before .before .before .before .before .before .args .model .now)) (length (c .before .before .before .before .before .before .before .before .before .before .before .args .state .now)) (length (c .before .before .before .before .before .before .before .before .before .before .before .args .saves .now)) (c .before .before .before .before .before .before .before .before .before .before .before .pre .1 .0) (length (c .before .before .before .before .before .before .before .before .before .before .before .args .outputs .now)) (c .before .before .before .before .before .before .before .before .before .before .before .pre .1 .1) in
     simp length-take (omega (arith, a .model, a .state, a .saves, a .output))
 
 slice-reshare-prefix-report-2 : tie.Need-slice-reshare-prefix-report-2
 slice-reshare-prefix-report-2 c =
-    let a = there (c .before .before .before .before .before .before .before .before .before .before .before .args .row) (length (c .before .before .before .before .before .before .before .before .before .before .before .args .texts .now)) (length (c .before .before .before .before .before .before .before .before .before .before .before .args .numbers .now)) (length (c .before .before .before .before .before .before .before .before .before .before .before .args .model .now)) (length (c .before .before .before .before .before .before .before .before .before .before .before .args .state .now)) (length (c .before .before .before .before .before .before .before .before .before .before .before .args .saves .now)) (c .before .before .before .before .before .before .before .before .before .before .before .pre .0) (length (c .before .before .before .before .before .before .before .before .before .before .before .args .outputs .now)) (c .before .before .before .before .before .before .before .before .before .before .before .pre .1) in
+    let a = there (c .before .before .before .before .before .before .before .before .before .before .before .args .row) (length (c .before .before .before .before .before .before .before .before .before .before .before .args .texts .now)) (length (c .before .before .before .before .before .before .before .before .before .before .before .args .numbers .now)) (length (c .before .before .before .before .before .before .before .before .before .before .before .args .model .now)) (length (c .before .before .before .before .before .before .before .before .before .before .before .args .state .now)) (length (c .before .before .before .before .before .before .before .before .before .before .before .args .saves .now)) (c .before .before .before .before .before .before .before .before .before .before .before .pre .1 .0) (length (c .before .before .before .before .before .before .before .before .before .before .before .args .outputs .now)) (c .before .before .before .before .before .before .before .before .before .before .before .pre .1 .1) in
     omega (arith, a .model, a .state, a .saves, a .output)
 
 slice-aggregate-report-2 : tie.Need-slice-aggregate-report-2
 slice-aggregate-report-2 c =
-    let a = there (c .before .before .before .before .before .before .before .before .before .before .before .before .args .row) (length (c .before .before .before .before .before .before .before .before .before .before .before .before .args .texts .now)) (length (c .before .before .before .before .before .before .before .before .before .before .before .before .args .numbers .now)) (length (c .before .before .before .before .before .before .before .before .before .before .before .before .args .model .now)) (length (c .before .before .before .before .before .before .before .before .before .before .before .before .args .state .now)) (length (c .before .before .before .before .before .before .before .before .before .before .before .before .args .saves .now)) (c .before .before .before .before .before .before .before .before .before .before .before .before .pre .0) (length (c .before .before .before .before .before .before .before .before .before .before .before .before .args .outputs .now)) (c .before .before .before .before .before .before .before .before .before .before .before .before .pre .1) in
+    let a = there (c .before .before .before .before .before .before .before .before .before .before .before .before .args .row) (length (c .before .before .before .before .before .before .before .before .before .before .before .before .args .texts .now)) (length (c .before .before .before .before .before .before .before .before .before .before .before .before .args .numbers .now)) (length (c .before .before .before .before .before .before .before .before .before .before .before .before .args .model .now)) (length (c .before .before .before .before .before .before .before .before .before .before .before .before .args .state .now)) (length (c .before .before .before .before .before .before .before .before .before .before .before .before .args .saves .now)) (c .before .before .before .before .before .before .before .before .before .before .before .before .pre .1 .0) (length (c .before .before .before .before .before .before .before .before .before .before .before .before .args .outputs .now)) (c .before .before .before .before .before .before .before .before .before .before .before .before .pre .1 .1) in
     simp length-take (omega (arith, a .model, a .state, a .saves, a .output))
 
 slice-relend-prefix-report : tie.Need-slice-relend-prefix-report
 slice-relend-prefix-report c =
-    let a = there (c .before .before .before .before .before .before .before .before .before .before .before .before .args .row) (length (c .before .before .before .before .before .before .before .before .before .before .before .before .args .texts .now)) (length (c .before .before .before .before .before .before .before .before .before .before .before .before .args .numbers .now)) (length (c .before .before .before .before .before .before .before .before .before .before .before .before .args .model .now)) (length (c .before .before .before .before .before .before .before .before .before .before .before .before .args .state .now)) (length (c .before .before .before .before .before .before .before .before .before .before .before .before .args .saves .now)) (c .before .before .before .before .before .before .before .before .before .before .before .before .pre .0) (length (c .before .before .before .before .before .before .before .before .before .before .before .before .args .outputs .now)) (c .before .before .before .before .before .before .before .before .before .before .before .before .pre .1) in
+    let a = there (c .before .before .before .before .before .before .before .before .before .before .before .before .args .row) (length (c .before .before .before .before .before .before .before .before .before .before .before .before .args .texts .now)) (length (c .before .before .before .before .before .before .before .before .before .before .before .before .args .numbers .now)) (length (c .before .before .before .before .before .before .before .before .before .before .before .before .args .model .now)) (length (c .before .before .before .before .before .before .before .before .before .before .before .before .args .state .now)) (length (c .before .before .before .before .before .before .before .before .before .before .before .before .args .saves .now)) (c .before .before .before .before .before .before .before .before .before .before .before .before .pre .1 .0) (length (c .before .before .before .before .before .before .before .before .before .before .before .before .args .outputs .now)) (c .before .before .before .before .before .before .before .before .before .before .before .before .pre .1 .1) in
     omega (arith, a .model, a .state, a .saves, a .output)
 
 slice-aggregate-report-3 : tie.Need-slice-aggregate-report-3
 slice-aggregate-report-3 c =
-    let a = there (c .before .before .before .before .before .before .before .before .before .before .before .before .before .args .row) (length (c .before .before .before .before .before .before .before .before .before .before .before .before .before .args .texts .now)) (length (c .before .before .before .before .before .before .before .before .before .before .before .before .before .args .numbers .now)) (length (c .before .before .before .before .before .before .before .before .before .before .before .before .before .args .model .now)) (length (c .before .before .before .before .before .before .before .before .before .before .before .before .before .args .state .now)) (length (c .before .before .before .before .before .before .before .before .before .before .before .before .before .args .saves .now)) (c .before .before .before .before .before .before .before .before .before .before .before .before .before .pre .0) (length (c .before .before .before .before .before .before .before .before .before .before .before .before .before .args .outputs .now)) (c .before .before .before .before .before .before .before .before .before .before .before .before .before .pre .1) in
+    let a = there (c .before .before .before .before .before .before .before .before .before .before .before .before .before .args .row) (length (c .before .before .before .before .before .before .before .before .before .before .before .before .before .args .texts .now)) (length (c .before .before .before .before .before .before .before .before .before .before .before .before .before .args .numbers .now)) (length (c .before .before .before .before .before .before .before .before .before .before .before .before .before .args .model .now)) (length (c .before .before .before .before .before .before .before .before .before .before .before .before .before .args .state .now)) (length (c .before .before .before .before .before .before .before .before .before .before .before .before .before .args .saves .now)) (c .before .before .before .before .before .before .before .before .before .before .before .before .before .pre .1 .0) (length (c .before .before .before .before .before .before .before .before .before .before .before .before .before .args .outputs .now)) (c .before .before .before .before .before .before .before .before .before .before .before .before .before .pre .1 .1) in
     simp length-take (omega (arith, a .model, a .state, a .saves, a .output))
 
 report-requires : tie.Need-report-requires
@@ -184,32 +184,32 @@ returns-3 c =
 
 slice-reshare-prefix-step : tie.Need-slice-reshare-prefix-step
 slice-reshare-prefix-step c =
-    let a = there (c .before .before .before .before .before .before .before .before .before .before .before .before .args .row) (length (c .before .before .before .before .before .before .before .before .before .before .before .before .args .texts .now)) (length (c .before .before .before .before .before .before .before .before .before .before .before .before .args .numbers .now)) (length (c .before .before .before .before .before .before .before .before .before .before .before .before .args .model .now)) (length (c .before .before .before .before .before .before .before .before .before .before .before .before .args .state .now)) (length (c .before .before .before .before .before .before .before .before .before .before .before .before .args .saves .now)) (c .before .before .before .before .before .before .before .before .before .before .before .before .pre .0) (length (c .before .before .before .before .before .before .before .before .before .before .before .before .args .outputs .now)) (c .before .before .before .before .before .before .before .before .before .before .before .before .pre .1) in
+    let a = there (c .before .before .before .before .before .before .before .before .before .before .before .before .args .row) (length (c .before .before .before .before .before .before .before .before .before .before .before .before .args .texts .now)) (length (c .before .before .before .before .before .before .before .before .before .before .before .before .args .numbers .now)) (length (c .before .before .before .before .before .before .before .before .before .before .before .before .args .model .now)) (length (c .before .before .before .before .before .before .before .before .before .before .before .before .args .state .now)) (length (c .before .before .before .before .before .before .before .before .before .before .before .before .args .saves .now)) (c .before .before .before .before .before .before .before .before .before .before .before .before .pre .1 .0) (length (c .before .before .before .before .before .before .before .before .before .before .before .before .args .outputs .now)) (c .before .before .before .before .before .before .before .before .before .before .before .before .pre .1 .1) in
     omega (arith, a .model, a .state, a .saves, a .output)
 
 slice-aggregate-step : tie.Need-slice-aggregate-step
 slice-aggregate-step c =
-    let a = there (c .before .before .before .before .before .before .before .before .before .before .before .before .before .args .row) (length (c .before .before .before .before .before .before .before .before .before .before .before .before .before .args .texts .now)) (length (c .before .before .before .before .before .before .before .before .before .before .before .before .before .args .numbers .now)) (length (c .before .before .before .before .before .before .before .before .before .before .before .before .before .args .model .now)) (length (c .before .before .before .before .before .before .before .before .before .before .before .before .before .args .state .now)) (length (c .before .before .before .before .before .before .before .before .before .before .before .before .before .args .saves .now)) (c .before .before .before .before .before .before .before .before .before .before .before .before .before .pre .0) (length (c .before .before .before .before .before .before .before .before .before .before .before .before .before .args .outputs .now)) (c .before .before .before .before .before .before .before .before .before .before .before .before .before .pre .1) in
+    let a = there (c .before .before .before .before .before .before .before .before .before .before .before .before .before .args .row) (length (c .before .before .before .before .before .before .before .before .before .before .before .before .before .args .texts .now)) (length (c .before .before .before .before .before .before .before .before .before .before .before .before .before .args .numbers .now)) (length (c .before .before .before .before .before .before .before .before .before .before .before .before .before .args .model .now)) (length (c .before .before .before .before .before .before .before .before .before .before .before .before .before .args .state .now)) (length (c .before .before .before .before .before .before .before .before .before .before .before .before .before .args .saves .now)) (c .before .before .before .before .before .before .before .before .before .before .before .before .before .pre .1 .0) (length (c .before .before .before .before .before .before .before .before .before .before .before .before .before .args .outputs .now)) (c .before .before .before .before .before .before .before .before .before .before .before .before .before .pre .1 .1) in
     simp length-take (omega (arith, a .model, a .state, a .saves, a .output))
 
 slice-relend-prefix-step : tie.Need-slice-relend-prefix-step
 slice-relend-prefix-step c =
-    let a = there (c .before .before .before .before .before .before .before .before .before .before .before .before .before .args .row) (length (c .before .before .before .before .before .before .before .before .before .before .before .before .before .args .texts .now)) (length (c .before .before .before .before .before .before .before .before .before .before .before .before .before .args .numbers .now)) (length (c .before .before .before .before .before .before .before .before .before .before .before .before .before .args .model .now)) (length (c .before .before .before .before .before .before .before .before .before .before .before .before .before .args .state .now)) (length (c .before .before .before .before .before .before .before .before .before .before .before .before .before .args .saves .now)) (c .before .before .before .before .before .before .before .before .before .before .before .before .before .pre .0) (length (c .before .before .before .before .before .before .before .before .before .before .before .before .before .args .outputs .now)) (c .before .before .before .before .before .before .before .before .before .before .before .before .before .pre .1) in
+    let a = there (c .before .before .before .before .before .before .before .before .before .before .before .before .before .args .row) (length (c .before .before .before .before .before .before .before .before .before .before .before .before .before .args .texts .now)) (length (c .before .before .before .before .before .before .before .before .before .before .before .before .before .args .numbers .now)) (length (c .before .before .before .before .before .before .before .before .before .before .before .before .before .args .model .now)) (length (c .before .before .before .before .before .before .before .before .before .before .before .before .before .args .state .now)) (length (c .before .before .before .before .before .before .before .before .before .before .before .before .before .args .saves .now)) (c .before .before .before .before .before .before .before .before .before .before .before .before .before .pre .1 .0) (length (c .before .before .before .before .before .before .before .before .before .before .before .before .before .args .outputs .now)) (c .before .before .before .before .before .before .before .before .before .before .before .before .before .pre .1 .1) in
     omega (arith, a .model, a .state, a .saves, a .output)
 
 slice-aggregate-step-2 : tie.Need-slice-aggregate-step-2
 slice-aggregate-step-2 c =
-    let a = there (c .before .before .before .before .before .before .before .before .before .before .before .before .before .before .args .row) (length (c .before .before .before .before .before .before .before .before .before .before .before .before .before .before .args .texts .now)) (length (c .before .before .before .before .before .before .before .before .before .before .before .before .before .before .args .numbers .now)) (length (c .before .before .before .before .before .before .before .before .before .before .before .before .before .before .args .model .now)) (length (c .before .before .before .before .before .before .before .before .before .before .before .before .before .before .args .state .now)) (length (c .before .before .before .before .before .before .before .before .before .before .before .before .before .before .args .saves .now)) (c .before .before .before .before .before .before .before .before .before .before .before .before .before .before .pre .0) (length (c .before .before .before .before .before .before .before .before .before .before .before .before .before .before .args .outputs .now)) (c .before .before .before .before .before .before .before .before .before .before .before .before .before .before .pre .1) in
+    let a = there (c .before .before .before .before .before .before .before .before .before .before .before .before .before .before .args .row) (length (c .before .before .before .before .before .before .before .before .before .before .before .before .before .before .args .texts .now)) (length (c .before .before .before .before .before .before .before .before .before .before .before .before .before .before .args .numbers .now)) (length (c .before .before .before .before .before .before .before .before .before .before .before .before .before .before .args .model .now)) (length (c .before .before .before .before .before .before .before .before .before .before .before .before .before .before .args .state .now)) (length (c .before .before .before .before .before .before .before .before .before .before .before .before .before .before .args .saves .now)) (c .before .before .before .before .before .before .before .before .before .before .before .before .before .before .pre .1 .0) (length (c .before .before .before .before .before .before .before .before .before .before .before .before .before .before .args .outputs .now)) (c .before .before .before .before .before .before .before .before .before .before .before .before .before .before .pre .1 .1) in
     simp length-take (omega (arith, a .model, a .state, a .saves, a .output))
 
 slice-relend-prefix-step-2 : tie.Need-slice-relend-prefix-step-2
 slice-relend-prefix-step-2 c =
-    let a = there (c .before .before .before .before .before .before .before .before .before .before .before .before .before .before .args .row) (length (c .before .before .before .before .before .before .before .before .before .before .before .before .before .before .args .texts .now)) (length (c .before .before .before .before .before .before .before .before .before .before .before .before .before .before .args .numbers .now)) (length (c .before .before .before .before .before .before .before .before .before .before .before .before .before .before .args .model .now)) (length (c .before .before .before .before .before .before .before .before .before .before .before .before .before .before .args .state .now)) (length (c .before .before .before .before .before .before .before .before .before .before .before .before .before .before .args .saves .now)) (c .before .before .before .before .before .before .before .before .before .before .before .before .before .before .pre .0) (length (c .before .before .before .before .before .before .before .before .before .before .before .before .before .before .args .outputs .now)) (c .before .before .before .before .before .before .before .before .before .before .before .before .before .before .pre .1) in
+    let a = there (c .before .before .before .before .before .before .before .before .before .before .before .before .before .before .args .row) (length (c .before .before .before .before .before .before .before .before .before .before .before .before .before .before .args .texts .now)) (length (c .before .before .before .before .before .before .before .before .before .before .before .before .before .before .args .numbers .now)) (length (c .before .before .before .before .before .before .before .before .before .before .before .before .before .before .args .model .now)) (length (c .before .before .before .before .before .before .before .before .before .before .before .before .before .before .args .state .now)) (length (c .before .before .before .before .before .before .before .before .before .before .before .before .before .before .args .saves .now)) (c .before .before .before .before .before .before .before .before .before .before .before .before .before .before .pre .1 .0) (length (c .before .before .before .before .before .before .before .before .before .before .before .before .before .before .args .outputs .now)) (c .before .before .before .before .before .before .before .before .before .before .before .before .before .before .pre .1 .1) in
     omega (arith, a .model, a .state, a .saves, a .output)
 
 slice-aggregate-step-3 : tie.Need-slice-aggregate-step-3
 slice-aggregate-step-3 c =
-    let a = there (c .before .before .before .before .before .before .before .before .before .before .before .before .before .before .before .args .row) (length (c .before .before .before .before .before .before .before .before .before .before .before .before .before .before .before .args .texts .now)) (length (c .before .before .before .before .before .before .before .before .before .before .before .before .before .before .before .args .numbers .now)) (length (c .before .before .before .before .before .before .before .before .before .before .before .before .before .before .before .args .model .now)) (length (c .before .before .before .before .before .before .before .before .before .before .before .before .before .before .before .args .state .now)) (length (c .before .before .before .before .before .before .before .before .before .before .before .before .before .before .before .args .saves .now)) (c .before .before .before .before .before .before .before .before .before .before .before .before .before .before .before .pre .0) (length (c .before .before .before .before .before .before .before .before .before .before .before .before .before .before .before .args .outputs .now)) (c .before .before .before .before .before .before .before .before .before .before .before .before .before .before .before .pre .1) in
+    let a = there (c .before .before .before .before .before .before .before .before .before .before .before .before .before .before .before .args .row) (length (c .before .before .before .before .before .before .before .before .before .before .before .before .before .before .before .args .texts .now)) (length (c .before .before .before .before .before .before .before .before .before .before .before .before .before .before .before .args .numbers .now)) (length (c .before .before .before .before .before .before .before .before .before .before .before .before .before .before .before .args .model .now)) (length (c .before .before .before .before .before .before .before .before .before .before .before .before .before .before .before .args .state .now)) (length (c .before .before .before .before .before .before .before .before .before .before .before .before .before .before .before .args .saves .now)) (c .before .before .before .before .before .before .before .before .before .before .before .before .before .before .before .pre .1 .0) (length (c .before .before .before .before .before .before .before .before .before .before .before .before .before .before .before .args .outputs .now)) (c .before .before .before .before .before .before .before .before .before .before .before .before .before .before .before .pre .1 .1) in
     simp length-take (omega (arith, a .model, a .state, a .saves, a .output))
 
 step-requires : tie.Need-step-requires
@@ -238,7 +238,7 @@ returns-4 c =
 
 call-timed-requires : tie.Need-call-timed-requires
 call-timed-requires c κs =
-    (c .before .before .before .if5 .taken, (_, (_, (c .before .before .before .before .before .before .before .before .before .before .before .before .before .before .before .before .before .pre .0, c .before .before .before .before .before .before .before .before .before .before .before .before .before .before .before .before .before .pre .1))))
+    (c .before .before .before .if5 .taken, (_, (_, (c .before .before .before .before .before .before .before .before .before .before .before .before .before .before .before .before .before .pre .1 .0, c .before .before .before .before .before .before .before .before .before .before .before .before .before .before .before .before .before .pre .1 .1))))
 
 same-length-13 : tie.Need-same-length-13
 same-length-13 c =
@@ -258,7 +258,7 @@ returns-5 c =
 
 call-steady-requires : tie.Need-call-steady-requires
 call-steady-requires c κs =
-    (c .before .before .before .if6 .taken, (_, (c .before .before .before .before .before .before .before .before .before .before .before .before .before .before .before .before .before .before .before .pre .0, (_, c .before .before .before .before .before .before .before .before .before .before .before .before .before .before .before .before .before .before .before .pre .1))))
+    (c .before .before .before .if6 .taken, (_, (c .before .before .before .before .before .before .before .before .before .before .before .before .before .before .before .before .before .before .before .pre .1 .0, (_, c .before .before .before .before .before .before .before .before .before .before .before .before .before .before .before .before .before .before .before .pre .1 .1))))
 
 same-length-16 : tie.Need-same-length-16
 same-length-16 c =
@@ -278,9 +278,9 @@ returns-6 c =
 
 call-named-requires : tie.Need-call-named-requires
 call-named-requires c κs =
-    let a = there (c .before .before .before .before .before .before .before .before .before .before .before .before .before .before .before .before .before .before .before .args .row) (length (c .before .before .before .before .before .before .before .before .before .before .before .before .before .before .before .before .before .before .before .args .texts .now)) (length (c .before .before .before .before .before .before .before .before .before .before .before .before .before .before .before .before .before .before .before .args .numbers .now)) (length (c .before .before .before .before .before .before .before .before .before .before .before .before .before .before .before .before .before .before .before .args .model .now)) (length (c .before .before .before .before .before .before .before .before .before .before .before .before .before .before .before .before .before .before .before .args .state .now)) (length (c .before .before .before .before .before .before .before .before .before .before .before .before .before .before .before .before .before .before .before .args .saves .now)) (c .before .before .before .before .before .before .before .before .before .before .before .before .before .before .before .before .before .before .before .pre .0) (length (c .before .before .before .before .before .before .before .before .before .before .before .before .before .before .before .before .before .before .before .args .outputs .now)) (c .before .before .before .before .before .before .before .before .before .before .before .before .before .before .before .before .before .before .before .pre .1) in
-    let k = named-kind (c .before .before .before .before .before .before .before .before .before .before .before .before .before .before .before .before .before .before .before .args .row .kind) (a .least) (a .most) (c .before .before .before .before .before .before .before .before .before .before .before .before .before .if1 .left) (c .before .before .before .before .before .before .before .before .before .before .before .if2 .left) (c .before .before .before .before .before .before .before .before .before .if3 .left) (c .before .before .before .before .before .before .before .if4 .left) (c .before .before .before .before .before .if5 .left) (c .before .before .before .if6 .left) in
-    (k .0, (k .1, (_, (c .before .before .before .before .before .before .before .before .before .before .before .before .before .before .before .before .before .before .before .pre .0, (_, c .before .before .before .before .before .before .before .before .before .before .before .before .before .before .before .before .before .before .before .pre .1)))))
+    let a = there (c .before .before .before .before .before .before .before .before .before .before .before .before .before .before .before .before .before .before .before .args .row) (length (c .before .before .before .before .before .before .before .before .before .before .before .before .before .before .before .before .before .before .before .args .texts .now)) (length (c .before .before .before .before .before .before .before .before .before .before .before .before .before .before .before .before .before .before .before .args .numbers .now)) (length (c .before .before .before .before .before .before .before .before .before .before .before .before .before .before .before .before .before .before .before .args .model .now)) (length (c .before .before .before .before .before .before .before .before .before .before .before .before .before .before .before .before .before .before .before .args .state .now)) (length (c .before .before .before .before .before .before .before .before .before .before .before .before .before .before .before .before .before .before .before .args .saves .now)) (c .before .before .before .before .before .before .before .before .before .before .before .before .before .before .before .before .before .before .before .pre .1 .0) (length (c .before .before .before .before .before .before .before .before .before .before .before .before .before .before .before .before .before .before .before .args .outputs .now)) (c .before .before .before .before .before .before .before .before .before .before .before .before .before .before .before .before .before .before .before .pre .1 .1) in
+    let k = named-kind (c .before .before .before .before .before .before .before .before .before .before .before .before .before .before .before .before .before .before .before .args .row .kind) (a .least) (a .most) (c .before .before .before .before .before .before .before .before .before .before .before .before .before .before .before .before .before .before .before .pre .0) (c .before .before .before .before .before .before .before .before .before .before .before .before .before .if1 .left) (c .before .before .before .before .before .before .before .before .before .before .before .if2 .left) (c .before .before .before .before .before .before .before .before .before .if3 .left) (c .before .before .before .before .before .before .before .if4 .left) (c .before .before .before .before .before .if5 .left) (c .before .before .before .if6 .left) in
+    (k .0, (k .1, (_, (c .before .before .before .before .before .before .before .before .before .before .before .before .before .before .before .before .before .before .before .pre .1 .0, (_, c .before .before .before .before .before .before .before .before .before .before .before .before .before .before .before .before .before .before .before .pre .1 .1)))))
 
 same-length-19 : tie.Need-same-length-19
 same-length-19 c =

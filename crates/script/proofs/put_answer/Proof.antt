@@ -1,4 +1,4 @@
--- Six stores over the first six numbers.
+-- Fifteen stores over the first fifteen numbers.
 use denote.Ref.{now}
 use Prim.Native.Nat.{_-_}
 use native.Mathlib.Omega.{arith}
@@ -32,6 +32,42 @@ slice-write-answers-6 : tie.Need-slice-write-answers-6
 slice-write-answers-6 c =
     simp length-set (omega arith)
 
+slice-write-answers-7 : tie.Need-slice-write-answers-7
+slice-write-answers-7 c =
+    simp length-set (omega arith)
+
+slice-write-answers-8 : tie.Need-slice-write-answers-8
+slice-write-answers-8 c =
+    simp length-set (omega arith)
+
+slice-write-answers-9 : tie.Need-slice-write-answers-9
+slice-write-answers-9 c =
+    simp length-set (omega arith)
+
+slice-write-answers-10 : tie.Need-slice-write-answers-10
+slice-write-answers-10 c =
+    simp length-set (omega arith)
+
+slice-write-answers-11 : tie.Need-slice-write-answers-11
+slice-write-answers-11 c =
+    simp length-set (omega arith)
+
+slice-write-answers-12 : tie.Need-slice-write-answers-12
+slice-write-answers-12 c =
+    simp length-set (omega arith)
+
+slice-write-answers-13 : tie.Need-slice-write-answers-13
+slice-write-answers-13 c =
+    simp length-set (omega arith)
+
+slice-write-answers-14 : tie.Need-slice-write-answers-14
+slice-write-answers-14 c =
+    simp length-set (omega arith)
+
+slice-write-answers-15 : tie.Need-slice-write-answers-15
+slice-write-answers-15 c =
+    simp length-set (omega arith)
+
 same-length : tie.Need-same-length
 same-length c =
     simp length-set
@@ -50,5 +86,14 @@ put-answer-spec =
     slice-write-answers-4
     slice-write-answers-5
     slice-write-answers-6
+    slice-write-answers-7
+    slice-write-answers-8
+    slice-write-answers-9
+    slice-write-answers-10
+    slice-write-answers-11
+    slice-write-answers-12
+    slice-write-answers-13
+    slice-write-answers-14
+    slice-write-answers-15
     same-length
     returns)

@@ -17,7 +17,7 @@ enum-known-tree-2 c = search needs
 
 settle-steady-requires : tie.Need-settle-steady-requires
 settle-steady-requires c κs =
-    (tree-fits _ _ _ _ _ _ _ (c .before .before .before .before .before .before .before .before .before .before .before .before .before .before .before .before .before .before .before .before .before .before .before .read-tree .ensures) (c .before .before .before .before .before .before .before .before .before .tree2 .given .1), c .before .before .before .before .before .before .before .before .before .before .before .before .before .before .before .before .before .before .before .before .before .before .before .before .before .before .before .before .before .before .before .before .before .before .before .before .before .before .before .before .pre .1)
+    (tree-fits _ _ _ _ _ _ _ (c .before .before .before .before .before .before .before .before .before .before .before .before .before .before .before .before .before .before .before .before .before .before .before .read-tree .ensures .0) (c .before .before .before .before .before .before .before .before .before .tree2 .given .1), c .before .before .before .before .before .before .before .before .before .before .before .before .before .before .before .before .before .before .before .before .before .before .before .before .before .before .before .before .before .before .before .before .before .before .before .before .before .before .before .before .pre .1)
 
 same-length : tie.Need-same-length
 same-length c = search needs
@@ -39,7 +39,7 @@ same-length-6 c = search needs
 
 returns : tie.Need-returns
 returns c =
-    tree-no _ _ _ _ _ _ _ _ _ (c .before .before .before .before .before .before .before .before .before .before .before .before .before .before .before .read-tree .ensures) (c .before .tree .given .1)
+    tree-no _ _ _ _ _ _ _ _ _ (c .before .before .before .before .before .before .before .before .before .before .before .before .before .before .before .read-tree .ensures .0) (c .before .tree .given .1)
 
 same-length-7 : tie.Need-same-length-7
 same-length-7 c = search needs

@@ -31,7 +31,7 @@ fn run(text: Vec<u8>, seed: u64, steps: usize) -> Vec<u8> {
     let mut next = Call::Open { text, lengths: RIGHT };
     for _ in 0..=steps {
         let call = buffers.exact(&next);
-        let number = buffers.make(&SECOND, &call).map_or(0, |answer| answer.number);
+        let number = buffers.make(&SECOND, &call).map_or(0, |given| given.number());
         if number != 0 && !matches!(call, Call::Open { .. }) {
             break;
         }

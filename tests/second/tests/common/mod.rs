@@ -3,7 +3,7 @@
 #![allow(dead_code)]
 
 use second::state::{DEFINITION, FIRST_PAIR, FIRST_PROCESS, PAIR, PROCESS, VALUE_COUNT};
-use second::{Answer, Clock, Opening, LISTING, MODEL, REPORT, SAVES, STATE};
+use second::{Answer, Clock, Found, Opening, LISTING, MODEL, REPORT, SAVES, STATE};
 
 #[derive(Clone, PartialEq, Eq)]
 pub struct Bench {
@@ -92,6 +92,10 @@ impl Bench {
 
     pub fn report(&mut self) -> Answer {
         second::report(&self.model, &self.state, &mut self.report)
+    }
+
+    pub fn search(&self, depth: u64, name: &str) -> Found {
+        second::search(&self.model, &self.state, name.as_bytes(), depth)
     }
 
     /// An accepted list's entries.

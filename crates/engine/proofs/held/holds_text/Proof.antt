@@ -2,7 +2,7 @@
 use mathlib.Core.Path.{sym, _∙_}
 use borrow.Author.Needs.{needs}
 use Rattle.buffers.specs.Parts.{lentThree}
-use Rattle.engine.proofs.Shows.{few-taken}
+use Rattle.store.proofs.Tables.{few-taken}
 use Rattle.engine.proofs.Openings.{held-is, closed-is, tables}
 use Rattle.engine.proofs.Stored.{no-text, tables-hold}
 use Rattle.engine.proofs.held.holds_text.Statement.{statement}

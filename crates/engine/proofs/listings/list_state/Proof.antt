@@ -3,7 +3,8 @@ use mathlib.Core.Path.{refl, sym, _∙_}
 use denote.Ref.{now}
 use Rattle.state.proofs.Tests.{refused, passed}
 use Rattle.engine.specs.Tables.{closed, holding}
-use Rattle.engine.proofs.Shows.{few-taken, stateOf, numbers-back, state-good, world, machine-is, machine-closed}
+use Rattle.store.proofs.Tables.{few-taken, stateOf, numbers-back, state-good, machine-is, machine-closed}
+use Rattle.engine.proofs.Shows.{world}
 use borrow.Author.Needs.{needs}
 use Rattle.engine.proofs.listings.list_state.Statement.{statement}
 use Rattle.engine.proofs.listings.list_state.Tie as tie

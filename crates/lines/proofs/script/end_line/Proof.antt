@@ -2,7 +2,7 @@
 use mathlib.Core.Path.{ap, sym, _∙_}
 use Prim.Native.Nat.{ℕ}
 use borrow.Author.Needs.{needs}
-use Rattle.lines.specs.declared.line.Line.the-variants.{Open, Steady, List as Listing, Step, State, Report, Save, Return, Forget, Time, Wait, Clock, Independent}
+use Rattle.lines.specs.declared.line.Line.the-variants.{Open, Steady, List as Listing, Step, State, Report, Save, Return, Forget, Time, Wait, Clock, Independent, Search}
 use Rattle.lines.specs.declared.script.Part.the-variants.{InText}
 use Rattle.lines.specs.declared.script.Taken.the-variants.{Goes, Asks}
 use Rattle.lines.specs.Script.{fresh}
@@ -85,6 +85,12 @@ enum-known-says-9 c = search needs
 begin-requires-11 : tie.Need-begin-requires-11
 begin-requires-11 c κs = search needs
 
+enum-known-says-10 : tie.Need-enum-known-says-10
+enum-known-says-10 c = search needs
+
+begin-requires-12 : tie.Need-begin-requires-12
+begin-requires-12 c κs = search needs
+
 enum-told-5 : tie.Need-enum-told-5
 enum-told-5 c = search needs
 
@@ -142,6 +148,10 @@ returns-13 c =
 
 returns-14 : tie.Need-returns-14
 returns-14 c =
+    ap (Asks (Search (c .before .before .says10 .given .0 .0) (c .before .before .says10 .given .0 .1 .0))) (c .begin12 .ensures ∙ ap fresh (c .before .before .before .before .next-line .ensures)) ∙ sym (ap (ended (c .before .before .before .before .before .args .line)) (c .before .before .says10 .given .1))
+
+returns-15 : tie.Need-returns-15
+returns-15 c =
     sym (ap (ended (c .before .before .before .args .line)) (c .enum-told5 .given .1))
 
 pub end-line-spec : {M : Type 1} → statement M
@@ -173,6 +183,8 @@ end-line-spec =
     begin-requires-10
     enum-known-says-9
     begin-requires-11
+    enum-known-says-10
+    begin-requires-12
     enum-told-5
     returns
     returns-2
@@ -187,4 +199,5 @@ end-line-spec =
     returns-11
     returns-12
     returns-13
-    returns-14)
+    returns-14
+    returns-15)

@@ -1,6 +1,6 @@
 -- The head tells which of the words begins the line.
 use borrow.Author.Needs.{needs}
-use Rattle.lines.proofs.Heads.{says-list, says-state, says-report, says-open, says-step, says-save, says-return, says-forget, says-time, says-wait, says-clock, says-independent, says-steady, says-bad}
+use Rattle.lines.proofs.Heads.{says-list, says-state, says-report, says-open, says-step, says-save, says-return, says-forget, says-time, says-wait, says-clock, says-independent, says-steady, says-seek, says-bad}
 use Rattle.lines.proofs.line.Reading.says.Statement.{statement}
 use Rattle.lines.proofs.line.Reading.says.Tie as tie
 
@@ -36,6 +36,9 @@ says-requires c κs = search needs
 
 steady-line-requires : tie.Need-steady-line-requires
 steady-line-requires c κs = search needs
+
+seek-line-requires : tie.Need-seek-line-requires
+seek-line-requires c κs = search needs
 
 returns : tie.Need-returns
 returns c =
@@ -91,9 +94,13 @@ returns-13 c =
 
 returns-14 : tie.Need-returns-14
 returns-14 c =
+    λ s h. says-seek h (c .before .match .keys14) (c .seek-line .ensures)
+
+returns-15 : tie.Need-returns-15
+returns-15 c =
     λ s h.
     let m = c .match .rest in
-    says-bad h (m .0 .0 .0 .0 .0 .0 .0 .0 .0 .0 .0 .0 .1) (m .0 .0 .0 .0 .0 .0 .0 .0 .0 .0 .0 .1) (m .0 .0 .0 .0 .0 .0 .0 .0 .0 .0 .1) (m .0 .0 .0 .0 .0 .0 .0 .0 .0 .1) (m .0 .0 .0 .0 .0 .0 .0 .0 .1) (m .0 .0 .0 .0 .0 .0 .0 .1) (m .0 .0 .0 .0 .0 .0 .1) (m .0 .0 .0 .0 .0 .1) (m .0 .0 .0 .0 .1) (m .0 .0 .0 .1) (m .0 .0 .1) (m .0 .1) (m .1)
+    says-bad h (m .0 .0 .0 .0 .0 .0 .0 .0 .0 .0 .0 .0 .0 .1) (m .0 .0 .0 .0 .0 .0 .0 .0 .0 .0 .0 .0 .1) (m .0 .0 .0 .0 .0 .0 .0 .0 .0 .0 .0 .1) (m .0 .0 .0 .0 .0 .0 .0 .0 .0 .0 .1) (m .0 .0 .0 .0 .0 .0 .0 .0 .0 .1) (m .0 .0 .0 .0 .0 .0 .0 .0 .1) (m .0 .0 .0 .0 .0 .0 .0 .1) (m .0 .0 .0 .0 .0 .0 .1) (m .0 .0 .0 .0 .0 .1) (m .0 .0 .0 .0 .1) (m .0 .0 .0 .1) (m .0 .0 .1) (m .0 .1) (m .1)
 
 pub says-spec : {M : Type 1} → statement M
 says-spec =
@@ -110,6 +117,7 @@ says-spec =
     clock-line-requires
     says-requires
     steady-line-requires
+    seek-line-requires
     returns
     returns-2
     returns-3
@@ -123,4 +131,5 @@ says-spec =
     returns-11
     returns-12
     returns-13
-    returns-14)
+    returns-14
+    returns-15)

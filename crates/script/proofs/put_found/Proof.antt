@@ -1,0 +1,138 @@
+-- Fifteen stores over the first fifteen numbers.
+use denote.Ref.{now}
+use native.Mathlib.Omega.{arith}
+use borrow.Author.Needs.{needs}
+use lib.ListN.{length-set}
+use Rattle.script.proofs.Fitting.{found-written}
+use Rattle.script.proofs.put_found.Statement.{statement}
+use Rattle.script.proofs.put_found.Tie as tie
+
+slice-write-answers : tie.Need-slice-write-answers
+slice-write-answers c =
+    search needs
+
+slice-write-answers-2 : tie.Need-slice-write-answers-2
+slice-write-answers-2 c =
+    simp length-set (omega arith)
+
+slice-write-answers-3 : tie.Need-slice-write-answers-3
+slice-write-answers-3 c =
+    simp length-set (omega arith)
+
+slice-write-answers-4 : tie.Need-slice-write-answers-4
+slice-write-answers-4 c =
+    simp length-set (omega arith)
+
+slice-write-answers-5 : tie.Need-slice-write-answers-5
+slice-write-answers-5 c =
+    simp length-set (omega arith)
+
+slice-write-answers-6 : tie.Need-slice-write-answers-6
+slice-write-answers-6 c =
+    simp length-set (omega arith)
+
+slice-write-answers-7 : tie.Need-slice-write-answers-7
+slice-write-answers-7 c =
+    simp length-set (omega arith)
+
+array-read-answers : tie.Need-array-read-answers
+array-read-answers c =
+    search needs
+
+slice-write-answers-8 : tie.Need-slice-write-answers-8
+slice-write-answers-8 c =
+    simp length-set (omega arith)
+
+array-read-answers-2 : tie.Need-array-read-answers-2
+array-read-answers-2 c =
+    search needs
+
+slice-write-answers-9 : tie.Need-slice-write-answers-9
+slice-write-answers-9 c =
+    simp length-set (omega arith)
+
+array-read-answers-3 : tie.Need-array-read-answers-3
+array-read-answers-3 c =
+    search needs
+
+slice-write-answers-10 : tie.Need-slice-write-answers-10
+slice-write-answers-10 c =
+    simp length-set (omega arith)
+
+array-read-answers-4 : tie.Need-array-read-answers-4
+array-read-answers-4 c =
+    search needs
+
+slice-write-answers-11 : tie.Need-slice-write-answers-11
+slice-write-answers-11 c =
+    simp length-set (omega arith)
+
+array-read-answers-5 : tie.Need-array-read-answers-5
+array-read-answers-5 c =
+    search needs
+
+slice-write-answers-12 : tie.Need-slice-write-answers-12
+slice-write-answers-12 c =
+    simp length-set (omega arith)
+
+array-read-answers-6 : tie.Need-array-read-answers-6
+array-read-answers-6 c =
+    search needs
+
+slice-write-answers-13 : tie.Need-slice-write-answers-13
+slice-write-answers-13 c =
+    simp length-set (omega arith)
+
+array-read-answers-7 : tie.Need-array-read-answers-7
+array-read-answers-7 c =
+    search needs
+
+slice-write-answers-14 : tie.Need-slice-write-answers-14
+slice-write-answers-14 c =
+    simp length-set (omega arith)
+
+array-read-answers-8 : tie.Need-array-read-answers-8
+array-read-answers-8 c =
+    search needs
+
+slice-write-answers-15 : tie.Need-slice-write-answers-15
+slice-write-answers-15 c =
+    simp length-set (omega arith)
+
+same-length : tie.Need-same-length
+same-length c =
+    simp length-set
+
+returns : tie.Need-returns
+returns c =
+    found-written (now (c .before .args .answers)) (c .before .args .found) (c .before .pre)
+
+pub put-found-spec : {M : Type 1} → statement M
+put-found-spec =
+    tie.close
+    (tie.spec
+    slice-write-answers
+    slice-write-answers-2
+    slice-write-answers-3
+    slice-write-answers-4
+    slice-write-answers-5
+    slice-write-answers-6
+    slice-write-answers-7
+    array-read-answers
+    slice-write-answers-8
+    array-read-answers-2
+    slice-write-answers-9
+    array-read-answers-3
+    slice-write-answers-10
+    array-read-answers-4
+    slice-write-answers-11
+    array-read-answers-5
+    slice-write-answers-12
+    array-read-answers-6
+    slice-write-answers-13
+    array-read-answers-7
+    slice-write-answers-14
+    array-read-answers-8
+    slice-write-answers-15
+    same-length
+    returns)

@@ -1,0 +1,3 @@
+-- Laws that the proofs of the search's functions cite.
+pub mod Results
+pub mod Held

@@ -1,0 +1,3 @@
+-- What a search gives, and the tables that it is lent.
+pub mod Run
+pub mod Lent

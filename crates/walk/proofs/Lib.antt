@@ -1,0 +1,5 @@
+pub mod Rows
+pub mod Hunting
+pub mod Sought
+pub mod Taking
+pub mod Walking

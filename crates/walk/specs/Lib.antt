@@ -1,0 +1,3 @@
+pub mod Hunted
+pub mod Entries
+pub mod Held

@@ -1,0 +1,1 @@
+// Names of waits and their numbers: definitions and theorems, no code.

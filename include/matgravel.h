@@ -28,9 +28,9 @@ extern "C" {
 #define MATGRAVEL_ENTRY 7
 
 /* Bytes of stack that a thread should have for any call, with room to spare. Measured, not proved, on x86-64: a text of one expression
- * of 8,171 terms took open 1,935,504, list 1,935,584, step 1,956,608 and report 1,992,944; the models of this repository take 244,000,
- * 442,000, 463,000 and 499,000. Before report there was, of some fifty long texts of every kind, none took more than 1,948,880; report
- * was not measured on those. */
+ * of 8,171 terms took open 1,936,176, list 1,935,760, step 1,935,856, report 1,960,352 and run 2,165,840; the models of this repository
+ * take 244,000, 508,000, 508,000, 533,000 and 474,000. Before report and run there were, of some fifty long texts of every kind, none took
+ * more than 1,948,880; report and run were not measured on those. */
 #define MATGRAVEL_STACK 3145728
 
 /* number: 0 for acceptance, or that of the refusal.
@@ -51,6 +51,15 @@ typedef struct {
 typedef struct {
     uint64_t ticks, draws;
 } matgravel_clock;
+
+/* number: 0, or that of the refusal that ended the run. steps, words, waiting: the steps that were taken, and the words and waiting draws that these
+ * used. count, total: entries and the sum of their weights in the last listing that was made, 0 and 0 where none was and with 1 and 11 to 14. */
+typedef struct {
+    uint64_t number, steps, words, waiting, count, total;
+} matgravel_ran;
+
+/* The numbers of an event of a run: the ticks of the clock after a step, and the MATGRAVEL_ENTRY numbers of the entry that it took. */
+#define MATGRAVEL_EVENT 8
 
 /* Reads a model text, sets the engine to its start, forgets every save and sets the clock to zero.
  * Refusals: 1 a buffer has a wrong length: nothing is changed.
@@ -81,6 +90,14 @@ matgravel_answer matgravel_step(const uint8_t *model, size_t model_len, int64_t 
  *   24 they gave 32 runs of even length, 25 a number of the clock would pass its limit: the listing is filled, count and total are set.
  *   No refusal alters the state or the clock. */
 matgravel_answer matgravel_timed_step(const uint8_t *model, size_t model_len, int64_t *state, size_t state_len, uint64_t *listing, size_t listing_len, const uint16_t *waiting, size_t waiting_len, uint64_t draw, matgravel_clock *clock);
+
+/* Takes timed steps, at most `limit`, while there are words and room for their events (events_len / MATGRAVEL_EVENT), up to the first that is
+ * refused. The text is read once. The choosing draw of a step comes from the words: one below the largest multiple of the total that fits into
+ * 2^64 gives itself modulo the total, any other is turned away for the next. Limit, room and words end a run with the number 0. Events are
+ * written in order; numbers after the last stay as they were, and words and waiting draws of a step that isn't taken count as unused.
+ * Refusals: 1 the model or the state has a wrong length, 11 as for timed_step: nothing is changed. 12 to 15, 17 to 19 and 23 to 25 as for
+ *   timed_step, by the step after those that were taken: state, clock and events are those after the last step that was taken. */
+matgravel_ran matgravel_run(const uint8_t *model, size_t model_len, int64_t *state, size_t state_len, const uint64_t *words, size_t words_len, const uint16_t *waiting, size_t waiting_len, uint64_t *events, size_t events_len, uint64_t limit, matgravel_clock *clock);
 
 /* Sums up the weights that list would list by the definition in whose text the acting process's sum stands, definitions numbered from
  * 0 in the text's order; a handshake counts for its sender. The numbers add up to the total. Changes neither model nor state.

@@ -4,7 +4,7 @@ use mathlib.Core.Bool.{Bool, true, false, cond, _&&_}
 use mathlib.Core.List.{List, [], _∷_}
 use mathlib.Core.Logic.{_↔_}
 use mathlib.Core.Option.{Option, none, some, Option·elim}
-use Prim.Native.Nat.{ℕ, _<_}
+use Prim.Native.Nat.{ℕ, _/_, _<_}
 use native.Mathlib.Omega.{arith}
 use borrow.Author.Tests.{eq-eqb, leb-true}
 use lib.Dec.{eqb, leb}
@@ -20,7 +20,7 @@ use Rattle.machine.specs.State.{State, stateLength, stateNumbers, GoodState}
 use Rattle.machine.specs.Timed.{Timed, timed}
 use Rattle.machine.specs.Saves.{noSaves}
 use Rattle.machine.specs.Machine as machine
-use Rattle.machine.specs.Machine.{modelLength, listingLength, Shown, filled, Answer, listedAs, Listed, entriesAre, refusedWith, Turn, turn, drawn, choosing, stepsWith, stepsIn, timesWith, Held, heldAll, Machine, closed, holding, onClock, timed′, on′, acts, Part, model, state, saves, clock, size, twoParts, timedParts, isLent, allParts, hasLengths, onMachine}
+use Rattle.machine.specs.Machine.{modelLength, listingLength, Shown, filled, Answer, listedAs, Listed, entriesAre, refusedWith, Turn, turn, drawn, choosing, stepsWith, stepsIn, timesWith, runsWith, ranAs, ran, runsOver, eventWidth, Held, heldAll, Machine, closed, holding, onClock, timed′, run′, on′, acts, Part, model, state, saves, clock, size, twoParts, timedParts, isLent, allParts, hasLengths, onMachine}
 use Rattle.machine.specs.Questions.{Lists, Times, no15-19, no23, no24, no25, yes25}
 use Rattle.machine.proofs.Listing.{asked, accepted}
 use Rattle.machine.proofs.Timing as timing
@@ -32,7 +32,7 @@ use Rattle.buffers.specs.Listing.{shown, listingNumbers}
 use Rattle.buffers.specs.Parts.{Engine, clockNumbers, clockIn, numbersOf, isPart, readHeld, withTimed}
 use Rattle.buffers.specs.Effect.{Effect, machineOver, machineIn, untouched, leftIn, leaves, requested, answered, effect}
 use Rattle.buffers.specs.Answers as answers
-use Rattle.buffers.specs.Answers.{TimesAs}
+use Rattle.buffers.specs.Answers.{TimesAs, runsAs}
 use Rattle.buffers.proofs.Lent.{same-engine}
 use Rattle.buffers.proofs.Machines as machines
 use Rattle.buffers.proofs.Machines.{machine-over, eleven-exactly}
@@ -149,7 +149,7 @@ timed-fills (yes25 i a w p o) = refl
 
 module _ (x : Engine) (l : List ℕ) (long : length (x model) ≡ modelLength) (numbers : length (x state) ≡ stateLength) (two : length (x clock) ≡ size clock)
     (m : Model) (s : State) (c : Clock) (holds : machineIn timedParts x ≡ holding (heldAt m s c)) where
-  lent-all : length l ≡ listingLength → (allParts (λ (p : Part). eqb (length (x p)) (size p)) timedParts && eqb (length l) listingLength) ≡ true
+  lent-all : {k : ℕ} → length l ≡ k → (allParts (λ (p : Part). eqb (length (x p)) (size p)) timedParts && eqb (length l) k) ≡ true
   unfolding allParts
   lent-all room = rw (eq-eqb _ _ long, eq-eqb _ _ numbers, eq-eqb _ _ two, eq-eqb _ _ room)
 
@@ -216,3 +216,10 @@ module _ (x : Engine) (l : List ℕ) (long : length (x model) ≡ modelLength) (
       by : (k : Listed) → machine.listing m s ≡ k → TimesAs m s x l c ds d (leaving (stepsIn c ds s (choosing m s d k)))
       by (entriesAre es) q = unfold choosing in taken es q
       by (refusedWith a) q = unfold choosing in refused a (subst (Lists m s) q (asked m s (machine.listing m s) .0 refl))
+
+  -- R.4 to R.7
+  pub runs-as : (ws vs : List ℕ) (n : ℕ) → effect (on′ (run′ ws vs n (length l))) x l ≡ runsAs x l (runsWith n (length l / eventWidth) ws vs m s c)
+  unfolding effect hasLengths Option·elim answered requested machineIn onMachine acts onClock runsOver ranAs runsAs shown leaving
+  runs-as ws vs n =
+      ap (λ (b : Bool). cond b (answered (on′ (run′ ws vs n (length l))) x l) (untouched x l)) (lent-all refl) ∙ ap (λ (y : Machine). leaves timedParts x l (onMachine (run′ ws vs n (length l)) y)) holds
+      ∙ gives (ran (runsWith n (length l / eventWidth) ws vs m s c))

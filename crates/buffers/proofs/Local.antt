@@ -10,7 +10,7 @@ use Rattle.model.specs.Resolved
 use Rattle.machine.specs.State.{State}
 use Rattle.machine.specs.Timed.{Timed, timed}
 use Rattle.machine.specs.Saves.{isName, Saves, saveLimit, placeOf, Stored, stored, removed, saving, returning, forgetting}
-use Rattle.machine.specs.Machine.{asLent, no, Turn, lists, reports, stepsWith, searches, timesWith, Held, timedOf, onState, onClock, onSaves, Request, list′, step′, report′, search′, timed′, save′, return′, forget′, acts, Part, model, state, saves, clock, twoParts, timedParts, threeParts, fourParts, uses, isLent}
+use Rattle.machine.specs.Machine.{asLent, no, Turn, lists, reports, stepsWith, searches, timesWith, runsOver, Held, timedOf, onState, onClock, onSaves, Request, list′, step′, report′, search′, timed′, run′, save′, return′, forget′, acts, Part, model, state, saves, clock, twoParts, timedParts, threeParts, fourParts, uses, isLent}
 
 abbrev pub Content : Part → Type 0
 Content model = Resolved.Model
@@ -142,6 +142,7 @@ local (step′ d) = state-local (stepsWith d)
 local report′ = state-local reports
 local (search′ n d) = state-local (searches n d)
 local (timed′ ds d) = clock-local (timesWith ds d)
+local (run′ ws vs n l) = clock-local (runsOver ws vs n l)
 local (save′ n) = saves-local (saving n)
 local (return′ n) = saves-local (returning n)
 local (forget′ n) = forget-local n
@@ -153,6 +154,7 @@ model-lent (step′ d) = refl
 model-lent report′ = refl
 model-lent (search′ n d) = refl
 model-lent (timed′ ds d) = refl
+model-lent (run′ ws vs n l) = refl
 model-lent (save′ n) = refl
 model-lent (return′ n) = refl
 model-lent (forget′ n) = refl

@@ -18,11 +18,12 @@ use Rattle.machine.specs.Timed.{Timed}
 use Rattle.machine.specs.State.{State, stateNumbers}
 use Rattle.machine.specs.Saves.{Saves, Stored, saving, returning, forgetting}
 use Rattle.machine.specs.Results.{Names}
+use Rattle.machine.proofs.Running.{run-carries}
 use Rattle.machine.proofs.Saves.{StoredAnswers, accepts, refuses, saving-answers, returning-answers, forgetting-answers}
 use Rattle.saves.specs.Places.{savesNumbers}
 use Rattle.machine.specs.Report.{reportLength}
-use Rattle.machine.specs.Machine.{listingLength, Answer, no, listedAs, reportedAs, Listed, Turn, turn, drawn, showing, lists, sharing, reports, choosing, stepsWith, searches, stepsIn, timesWith, Held, moved, movedIn, Machine, closed, holding, onState, onClock}
-use Rattle.machine.specs.Machine.{timedOf, storedIn, onSaves, Request, list′, step′, report′, search′, timed′, save′, return′, forget′, Ask, open′, openSteady′, on′, acts, Part, model, state, saves, clock, size, outputOf, hasLengths, onMachine, after}
+use Rattle.machine.specs.Machine.{listingLength, Answer, no, listedAs, reportedAs, Listed, Turn, turn, drawn, showing, lists, sharing, reports, choosing, stepsWith, searches, stepsIn, timesWith, runsWith, ranAs, runsOver, eventWidth, Held, moved, movedIn, Machine, closed, holding, onState, onClock}
+use Rattle.machine.specs.Machine.{timedOf, storedIn, onSaves, Request, list′, step′, report′, search′, timed′, run′, save′, return′, forget′, Ask, open′, openSteady′, on′, acts, Part, model, state, saves, clock, size, outputOf, hasLengths, onMachine, after}
 use Rattle.machine.specs.Machine as machine
 use Rattle.machine.specs.Questions.{IsListing, Lists, no12, no13, no14, yes14, Steps, no15, no16, no17, no18, no19, yes19, Times, no15-19, no23, no24, no25, yes25}
 use Rattle.machine.proofs.Listing.{asked}
@@ -34,10 +35,11 @@ use Rattle.machine.proofs.Searching as searching
 use Rattle.rules.proofs.Decides.{on}
 use Rattle.buffers.specs.Held.{modelBytes}
 use Rattle.buffers.specs.Listing.{shown}
-use Rattle.buffers.specs.Parts.{Cell, Engine, fresh, numbersOf, withKept}
+use Rattle.buffers.specs.Parts.{Cell, Engine, fresh, numbersOf, withTimed, withKept}
 use Rattle.buffers.specs.Effect.{Effect, untouched, opensWith, leftIn, leaves, answered}
+use Rattle.buffers.specs.Answers.{runsAs}
 use Rattle.buffers.specs.Calls.{Lending, BufferCall, effectOf, leftBy, lentLengths, fed, engineAfter, Holds, zeros, held}
-use Rattle.buffers.specs.Outcomes.{Outcome, nothing, zeroed, opens, unlisted, listed, unwaited, accepted, reported, searched, unstored, stored, opensSteady, unsteady}
+use Rattle.buffers.specs.Outcomes.{Outcome, nothing, zeroed, opens, unlisted, listed, unwaited, accepted, reported, searched, unstored, stored, ran, opensSteady, unsteady}
 use Rattle.buffers.proofs.Lent.{same-engine}
 use Rattle.buffers.proofs.Every.{IsOpening, plainly, steadily, one-untouched, left-as, asks-all, make, Turns, shut, request-turns, every-list}
 use Rattle.buffers.proofs.Transitions.{still}
@@ -217,6 +219,17 @@ module _ (x : Engine) (a : (p : Part) → Lending (Cell p) (size p)) (l : List �
     unfolding acts onClock timesWith stepsWith
     timed-out u long = choosing-in u long (asked m s (machine.listing m s) .0 refl) refl refl
 
+    -- of a run
+    run-out : (ws vs : List ℕ) (n k : ℕ) → Turns x h (run′ ws vs n k) a l → Out y (on′ (run′ ws vs n k))
+    unfolding acts onClock runsOver ranAs runsAs shown
+    run-out ws vs n k u = ran e refl refl (run-carries ws vs n k m s (h .clock)) (u .answer) (u .output) (same-engine left-so)
+      where
+        left-so : (p : Part) → leftBy x (make (on′ (run′ ws vs n k)) a l) p ≡ withTimed x (stateNumbers (acts (run′ ws vs n k) h .machine .state)) (acts (run′ ws vs n k) h .machine .clock) p
+        left-so model = unfold withTimed numbersOf in u .left model ∙ sym (u .before model)
+        left-so state = unfold withTimed numbersOf in u .left state
+        left-so saves = unfold withTimed numbersOf in u .left saves ∙ sym (u .before saves)
+        left-so clock = unfold withTimed numbersOf in u .left clock
+
     request-out : (r : Request) → Turns x h r a l → ((n : ℕ) → outputOf (on′ r) ≡ some n → length l ≡ n) → Out y (on′ r)
     unfolding acts Names
     request-out list′ u long = list-out u (long listingLength refl)
@@ -227,6 +240,7 @@ module _ (x : Engine) (a : (p : Part) → Lending (Cell p) (size p)) (l : List �
     request-out (return′ n) u long = saves-out (return′ n) (returning n) tt (λ k. refl) u (returning-answers n (timedOf h) (h .saves))
     request-out (forget′ n) u long = saves-out (forget′ n) (forgetting n) tt (λ k. refl) u (forgetting-answers n (timedOf h) (h .saves))
     request-out (timed′ ds d) u long = timed-out u (long listingLength refl)
+    request-out (run′ ws vs n k) u long = run-out ws vs n k u
 
   -- ---- every call
 

@@ -7,7 +7,7 @@ use lib.ListN.{length}
 use Rattle.value.proofs.Kit.{false-not-true, true-not-false}
 use Rattle.model.specs.Opening.{Opening, refused, opened, opening}
 use Rattle.profile.specs.Opening.{openingSteady}
-use Rattle.machine.specs.Machine.{asLent, Answer, no, listedAs, reportedAs, foundAs, turn, Machine, closed, Request, list′, step′, report′, search′, timed′, save′, return′, forget′, Ask, open′, openSteady′, on′, Part, uses, hasLengths, call, opens, asked, calls}
+use Rattle.machine.specs.Machine.{asLent, Answer, no, listedAs, reportedAs, foundAs, ranAs, turn, Machine, closed, Request, list′, step′, report′, search′, timed′, run′, save′, return′, forget′, Ask, open′, openSteady′, on′, Part, uses, hasLengths, call, opens, asked, calls}
 use Rattle.machine.specs.Results as results
 use Rattle.machine.specs.Results.{Lists, Chooses, Names, Carries, under1, under2-10, under11, under12, under13, under14, under15-19, under23-25, under20, return21, forget21, save22, under2-29, under26, under27}
 use Rattle.machine.proofs.Carries.{carries}
@@ -22,6 +22,7 @@ isSearch (on′ (step′ d)) = false
 isSearch (on′ report′) = false
 isSearch (on′ (search′ x d)) = true
 isSearch (on′ (timed′ ds d)) = false
+isSearch (on′ (run′ ws vs n l)) = false
 isSearch (on′ (save′ n)) = false
 isSearch (on′ (return′ n)) = false
 isSearch (on′ (forget′ n)) = false
@@ -54,7 +55,7 @@ carried k x l = subst (Carries k) (sym (answer-is k x l)) (carries (over k x) (c
 -- ---- no run
 
 no-run : {k : Ask} {a : Answer} → Carries k a → isSearch k ≡ false → a .run ≡ []
-unfolding no listedAs reportedAs isSearch
+unfolding no listedAs reportedAs ranAs isSearch
 no-run under1 e = refl
 no-run results.opens e = refl
 no-run (under2-10 n p l m) e = refl
@@ -68,6 +69,7 @@ no-run (results.lists es) e = refl
 no-run (under15-19 n es h l m) e = refl
 no-run (results.steps c es h) e = refl
 no-run (under23-25 n es l m) e = refl
+no-run (results.runs r k) e = refl
 no-run (results.reports ns es) e = refl
 no-run (results.stores h) e = refl
 no-run (under20 h) e = refl
@@ -98,6 +100,7 @@ no-lists (step′ d) e h = false-not-true e
 no-lists report′ e h = false-not-true e
 no-lists (search′ x d) e h = h
 no-lists (timed′ ds d) e h = false-not-true e
+no-lists (run′ ws vs n l) e h = h
 no-lists (save′ n) e h = h
 no-lists (return′ n) e h = h
 no-lists (forget′ n) e h = h
@@ -109,6 +112,7 @@ no-choice (step′ d) e h = false-not-true e
 no-choice report′ e h = h
 no-choice (search′ x d) e h = h
 no-choice (timed′ ds d) e h = false-not-true e
+no-choice (run′ ws vs n l) e h = h
 no-choice (save′ n) e h = h
 no-choice (return′ n) e h = h
 no-choice (forget′ n) e h = h
@@ -128,6 +132,7 @@ alone (results.lists es) e = absurd (false-not-true e)
 alone (under15-19 {r = r} n es h l m) e = absurd (no-choice r e h)
 alone (results.steps {r = r} c es h) e = absurd (no-choice r e h)
 alone (under23-25 n es l m) e = absurd (false-not-true e)
+alone (results.runs r k) e = absurd (false-not-true e)
 alone (results.reports ns es) e = absurd (false-not-true e)
 alone (results.stores h) e = record { place = refl; branch = refl; count = refl; total = refl; chosen = refl }
 alone (under20 h) e = record { place = refl; branch = refl; count = refl; total = refl; chosen = refl }

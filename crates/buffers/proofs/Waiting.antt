@@ -21,7 +21,7 @@ use Rattle.machine.specs.State.{State, stateNumbers}
 use Rattle.machine.specs.Timed.{Timed, timed}
 use Rattle.machine.specs.Machine.{listingLength, Answer, no, Turn, turn, refusedAs, withWait, stepsIn, timesWith, stepsWith, Held, Machine, holding, onState, onClock, step′, timed′, on′, acts, Part, state, clock, size, isLent, allParts, hasLengths, call, onMachine, asked, calls}
 use Rattle.machine.specs.Questions.{laterBy}
-use Rattle.machine.specs.Results.{Runs}
+use Rattle.machine.specs.Results.{Whole, WholeAsk}
 use Rattle.machine.proofs.Carries.{refusal-stays}
 use Rattle.buffers.specs.Listing.{shown}
 use Rattle.buffers.specs.Parts.{Engine, clockNumbers, numbersOf}
@@ -83,7 +83,7 @@ module _ (ds : List ℕ) (s : State) (c : Clock) (t : Turn State) where
 
 -- a timed step that is refused leaves what is held
 refused-stays : (ds : List ℕ) (d : ℕ) (h : Held) → (acts (timed′ ds d) h .answer .number ≡ 0 → ⊥) → acts (timed′ ds d) h .machine ≡ h
-unfolding calls asked onMachine Runs hasLengths allParts Option·elim
+unfolding calls asked onMachine Whole WholeAsk hasLengths allParts Option·elim
 refused-stays ds d h z =
     let k : holding (acts (timed′ ds d) h .machine) ≡ holding h = refusal-stays (holding h) (call (on′ (timed′ ds d)) size listingLength) tt z in
     let e : acts (timed′ ds d) h .machine ≡ h = cc in

@@ -1,5 +1,5 @@
 -- What a list, a step, a report, a search and a timed step answer and leave over any buffers that hold a model and a state (01, Listing and stepping; 02, notes 4, 6 and 8): what the questions allow, and nothing else;
--- and what a save, a return and a forget do (02, notes 2 and 4).
+-- what a save, a return and a forget do (02, notes 2 and 4); and a run (docs/DECISIONS.md, R.4 to R.7).
 -- Definitions only.
 use mathlib.Core.List.{List}
 use Prim.Native.Nat.{ℕ}
@@ -10,7 +10,8 @@ use Rattle.machine.specs.Report.{reportOf}
 use Rattle.clock.specs.declared.Clock.{Clock}
 use Rattle.machine.specs.Timed.{Timed}
 use Rattle.machine.specs.Saves.{Stored}
-use Rattle.machine.specs.Machine.{asLent, Answer, no, listedAs, reportedAs, entriesAre, refusedWith, Turn}
+use Rattle.machine.specs.Machine.{asLent, Answer, no, listedAs, reportedAs, entriesAre, refusedWith, Turn, Run, ranAs}
+use Rattle.machine.specs.Runs.{eventNumbers}
 use Rattle.machine.specs.Questions.{Lists, Steps, Times}
 use Rattle.machine.specs.Searching.{Searches}
 use Rattle.saves.specs.Places.{savesNumbers}
@@ -52,3 +53,7 @@ storesAs x l t = record { answer = no (t .number) 0 0 asLent; left = withStored 
 -- 02, note 4: and of the clock
 unfoldable pub keepsAs : Engine → List ℕ → Stored → Effect
 keepsAs x l t = record { answer = no (t .number) 0 0 asLent; left = withKept x (stateNumbers (t .kept .state)) (savesNumbers (t .saves)) (t .kept .clock); output = l }
+
+-- R.4 to R.7: what a run came to: its answer, its state and its clock, and its events over what was lent
+unfoldable pub runsAs : Engine → List ℕ → Run → Effect
+runsAs x l r = record { answer = ranAs r; left = withTimed x (stateNumbers (r .timed .state)) (r .timed .clock); output = eventNumbers (r .events) l }

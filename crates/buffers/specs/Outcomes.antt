@@ -3,7 +3,7 @@ use mathlib.Core.Path.{_≡_}
 use mathlib.Core.List.{List}
 use mathlib.Core.Logic.{_⊎_}
 use mathlib.Core.Option.{some}
-use Prim.Native.Nat.{ℕ, _≤_}
+use Prim.Native.Nat.{ℕ, _/_, _≤_}
 use lib.ListN.{replicate}
 use Rattle.model.specs.Resolved
 use Rattle.model.specs.Opening.{opened, opening}
@@ -11,8 +11,8 @@ use Rattle.profile.specs.Opening.{openingSteady}
 use Rattle.rules.specs.Listing.{Entry}
 use Rattle.machine.specs.Report.{reportOf}
 use Rattle.machine.specs.State.{stateNumbers}
-use Rattle.machine.specs.Machine.{Held, held, Machine, holding, Request, search′, open′, openSteady′, on′, acts, model, outputOf, openedState}
-use Rattle.machine.specs.Results.{Names}
+use Rattle.machine.specs.Machine.{eventWidth, Run, runsWith, Held, held, Machine, holding, Request, search′, run′, open′, openSteady′, on′, acts, model, outputOf, openedState}
+use Rattle.machine.specs.Results.{Names, RunCarries}
 use Rattle.saves.specs.Places.{savesNumbers}
 use Rattle.machine.specs.Questions.{IsListing}
 use Rattle.machine.specs.Searching.{Searches}
@@ -20,6 +20,7 @@ use Rattle.buffers.specs.Held.{modelBytes}
 use Rattle.buffers.specs.Listing.{listingNumbers}
 use Rattle.buffers.specs.Parts.{Engine, fresh, numbersOf, withKept}
 use Rattle.buffers.specs.Effect.{Effect}
+use Rattle.buffers.specs.Answers.{runsAs}
 use Rattle.buffers.specs.Calls.{BufferCall, lentEngine, leftBy}
 
 -- 01, Opening a text, Listing and stepping: of a call c to an engine x that holds the machine y, with the effect e
@@ -56,3 +57,6 @@ pub data Outcome (x : Engine) (y : Machine) (c : BufferCall) (e : Effect) : Type
   -- 02, notes 2 and 4: save, return and forget are accepted: state, clock and saves are those that the request leads to
   stored : {h : Held} {r : Request} → y ≡ holding h → c .ask ≡ on′ r → Names r → e .answer .number ≡ 0
       → leftBy x c ≡ withKept x (stateNumbers (acts r h .machine .state)) (savesNumbers (acts r h .machine .saves)) (acts r h .machine .clock) → e .output ≡ c .output → Outcome x y c e
+  -- R.4 to R.7: a run leaves the state and the clock after its last accepted step, and its events, whatever ended it
+  ran : {h : Held} {ws vs : List ℕ} {n k : ℕ} {r : Run} → y ≡ holding h → c .ask ≡ on′ (run′ ws vs n k) → runsWith n (k / eventWidth) ws vs (h .model) (h .state) (h .clock) ≡ r
+      → RunCarries ws vs n k r → e .answer ≡ runsAs x (c .output) r .answer → e .output ≡ runsAs x (c .output) r .output → leftBy x c ≡ runsAs x (c .output) r .left → Outcome x y c e

@@ -1,16 +1,21 @@
 // Runs a script of calls from standard input, or from each file that an argument names, after a line `== NAME`. Each script has a fresh engine.
 //
 // A script has lines `open N`, which a text of N bytes and an LF follow, `list`, `step D`, `report`, `save NAME`, `return NAME`, `forget NAME`, `independent I J`, `state`, `wait W`, `time D`,
-// `clock` and `seek D NAME`. N, D, I, J and W are decimal digits alone, below 2^64, W below 65,536, leading zeros or not, each after a single blank; NAME is all bytes after the blank, perhaps none. Every line
+// `clock`, `seek D NAME`, `word U` and `run N`. N, D, I, J, U and W are decimal digits alone, below 2^64, W below 65,536, leading zeros or not, each after a single blank; NAME is all bytes after the blank, perhaps none. Every line
 // ends with an LF, also the last. Lines are counted from 1 by their LFs, those within texts too.
 //
 // Each call prints `number place branch count total chosen`, then each entry of the listing on a line of its own, after two blanks, and a report that is accepted
 // its 64 numbers on one such line; `state` prints the state's numbers. `independent` calls nothing: it prints 1 where the entries I and J, counted from 0, of the last listing that
 // was filled are independent, and else 0, also where there is no such entry or listing.
 // `wait W` prints nothing: it puts a waiting draw after those so far. `time D` is a timed step with these, up to 4,096 of them, after which there are none; `clock` prints the clock's ticks and draws.
+// `word U` prints nothing: it puts a word after those so far. `run N` is a run of at most N steps with these words and waiting draws, up to 4,096 of each, after which there are none, and room for 1,024 events:
+// it prints its number, the steps, words and waiting draws that it used, the count and the total of its last listing, then the eight numbers of each event on a line of its own, after two blanks.
 // `seek D NAME`, D being one digit, searches to the depth D for the wait NAME, and prints its number, the run's length and eight entry numbers.
 // A line of another form prints `bad,LINE` and ends the script; so does `open N` whose text is cut short or has no LF after it. Nothing is called for it.
+// The argument `rows` names no file: it runs the rows of rows.rt, of right lengths and of wrong ones, by one call of script::run, and prints how many were run, the answers, the first numbers of the outputs and the clock.
 // A text is lent to open up to 16,385 bytes, a name up to 19: as many are too many already, so the bytes after them change no answer.
+mod rows;
+
 use libc::STDIN_FILENO;
 use libc::STDOUT_FILENO;
 use lines::line::Line;
@@ -41,8 +46,15 @@ impl Limits {
 
     const RETURN: u64 = 7;
 
-    // Waiting draws that are kept.
+    // Waiting draws and words that are kept.
     const DRAWS: usize = 4096;
+
+    const WORDS: usize = 4096;
+
+    // Numbers of an event, and the steps of a run among an answer's numbers.
+    const EVENT: usize = 8;
+
+    const STEPS: usize = 15;
 }
 
 type Text = [u8; Limits::TEXT];
@@ -59,11 +71,14 @@ type Time = [u64; Row::CLOCK];
 
 type Waiting = [u16; Limits::DRAWS];
 
-// Where a run stands: the script, how many bytes of output wait, how many waiting draws are kept, and whether it has ended.
+type Words = [u64; Limits::WORDS];
+
+// Where a run stands: the script, how many bytes of output wait, how many waiting draws and words are kept, and whether it has ended.
 struct Run {
     script: Script,
     waits: usize,
     drawn: usize,
+    worded: usize,
     over: bool,
 }
 
@@ -109,7 +124,7 @@ fn name_size(kept: u64, first: u64) -> u64 {
     kept - first
 }
 
-// Makes one call by a row of a script, with the first bytes of the text, a draw, or waiting draws too, which is lent so many numbers of the listing, and answers.
+// Makes one call by a row of a script, with the first bytes of the text, a draw, or waiting draws and words too, which is lent so many numbers of the outputs, and answers.
 fn make_call(
     kind: u64,
     first: u64,
@@ -118,11 +133,12 @@ fn make_call(
     listed: u64,
     text: &Text,
     waiting: &[u16],
+    words: &[u64],
     model: &mut Model,
     state: &mut State,
     saves: &mut Saves,
     clock: &mut Time,
-    listing: &mut Listing,
+    outputs: &mut [u64],
 ) -> [u64; Row::ANSWER] {
     let row: [u64; Row::WIDTH] = [
         kind,
@@ -135,17 +151,20 @@ fn make_call(
         Engine::MODEL as u64,
         Engine::STATE as u64,
         Engine::SAVES as u64,
+        0,
+        words.len() as u64,
     ];
     let mut answer = [0u64; Row::ANSWER];
     script::run(
         &row,
         text,
         waiting,
+        words,
         model,
         state,
         saves,
         clock,
-        listing,
+        outputs,
         &mut answer,
     );
     answer
@@ -188,6 +207,7 @@ fn put_call(
         listed,
         text,
         waiting,
+        &[],
         model,
         state,
         saves,
@@ -231,6 +251,7 @@ fn put_report(
         0,
         listed,
         text,
+        &[],
         &[],
         model,
         state,
@@ -290,6 +311,7 @@ fn put_named(
         0,
         text,
         &[],
+        &[],
         model,
         state,
         saves,
@@ -320,6 +342,7 @@ fn put_search(
         depth,
         0,
         text,
+        &[],
         &[],
         model,
         state,
@@ -375,6 +398,90 @@ fn put_timed(
     )
 }
 
+// Puts what a run answers, and the events that it wrote.
+fn put_told(out: &mut Buffer, waits: usize, answer: &[u64; Row::ANSWER], events: &[u64]) -> usize {
+    let told = [
+        answer[0],
+        answer[15],
+        answer[16],
+        answer[17],
+        answer[3],
+        answer[4],
+    ];
+    let n = output::put_line(out, waits, &told, b' ');
+    output::put_rows(
+        out,
+        n,
+        events,
+        Limits::EVENT,
+        answer[Limits::STEPS],
+        b"  ",
+        b' ',
+    )
+}
+
+// Puts a run with the first waiting draws and words. The last listing stays.
+fn put_run(
+    out: &mut Buffer,
+    waits: usize,
+    limit: u64,
+    drawn: usize,
+    worded: usize,
+    text: &Text,
+    waiting: &[u16],
+    words: &[u64],
+    model: &mut Model,
+    state: &mut State,
+    saves: &mut Saves,
+    clock: &mut Time,
+) -> usize {
+    if waiting.len() < drawn {
+        return waits;
+    }
+    if words.len() < worded {
+        return waits;
+    }
+    let mut events = [0u64; Row::OUTPUT];
+    let answer = make_call(
+        Row::RUN,
+        0,
+        0,
+        limit,
+        Row::OUTPUT as u64,
+        text,
+        &waiting[..drawn],
+        &words[..worded],
+        model,
+        state,
+        saves,
+        clock,
+        &mut events,
+    );
+    put_told(out, waits, &answer, &events)
+}
+
+// Keeps a word, if there is room.
+fn keep_word(waits: usize, word: u64, worded: usize, words: &mut Words) -> usize {
+    if worded < Limits::WORDS {
+        words[worded] = word;
+    }
+    waits
+}
+
+// How many words are kept after an item.
+fn worded_after(asked: Line, worded: usize) -> usize {
+    match asked {
+        Line::Run(_) => 0,
+        Line::Word(_) => {
+            if worded < Limits::WORDS {
+                return worded + 1;
+            }
+            worded
+        }
+        _ => worded,
+    }
+}
+
 // Keeps a waiting draw, if there is room. A line gives none of more than 16 bits.
 fn keep_draw(waits: usize, draw: u64, drawn: usize, waiting: &mut Waiting) -> usize {
     if 65535 < draw {
@@ -390,6 +497,7 @@ fn keep_draw(waits: usize, draw: u64, drawn: usize, waiting: &mut Waiting) -> us
 fn drawn_after(asked: Line, drawn: usize) -> usize {
     match asked {
         Line::Time(_) => 0,
+        Line::Run(_) => 0,
         Line::Wait(_) => {
             if drawn < Limits::DRAWS {
                 return drawn + 1;
@@ -400,14 +508,154 @@ fn drawn_after(asked: Line, drawn: usize) -> usize {
     }
 }
 
+// Does what an item asks for that is about model time, or gives draws and words.
+fn ask_timed(
+    out: &mut Buffer,
+    waits: usize,
+    asked: Line,
+    drawn: usize,
+    worded: usize,
+    text: &Text,
+    waiting: &mut Waiting,
+    words: &mut Words,
+    model: &mut Model,
+    state: &mut State,
+    saves: &mut Saves,
+    clock: &mut Time,
+    listing: &mut Listing,
+) -> usize {
+    match asked {
+        Line::Time(draw) => put_timed(
+            out,
+            waits,
+            draw,
+            drawn,
+            text,
+            waiting,
+            model,
+            state,
+            saves,
+            clock,
+            listing,
+        ),
+        Line::Wait(draw) => keep_draw(waits, draw, drawn, waiting),
+        Line::Clock => output::put_line(out, waits, clock, b' '),
+        Line::Word(word) => keep_word(waits, word, worded, words),
+        Line::Run(limit) => put_run(
+            out,
+            waits,
+            limit,
+            drawn,
+            worded,
+            text,
+            waiting,
+            words,
+            model,
+            state,
+            saves,
+            clock,
+        ),
+        _ => waits,
+    }
+}
+
+// Does what an item with a name or of two entries asks for, or one about model time.
+fn ask_named(
+    out: &mut Buffer,
+    waits: usize,
+    asked: Line,
+    drawn: usize,
+    worded: usize,
+    text: &Text,
+    waiting: &mut Waiting,
+    words: &mut Words,
+    model: &mut Model,
+    state: &mut State,
+    saves: &mut Saves,
+    clock: &mut Time,
+    listing: &mut Listing,
+) -> usize {
+    match asked {
+        Line::Save(kept) => put_named(
+            out,
+            waits,
+            Row::SAVE,
+            Limits::SAVE,
+            kept,
+            text,
+            model,
+            state,
+            saves,
+            clock,
+            listing,
+        ),
+        Line::Return(kept) => put_named(
+            out,
+            waits,
+            Row::RETURN,
+            Limits::RETURN,
+            kept,
+            text,
+            model,
+            state,
+            saves,
+            clock,
+            listing,
+        ),
+        Line::Forget(kept) => put_named(
+            out,
+            waits,
+            Row::FORGET,
+            Limits::RETURN,
+            kept,
+            text,
+            model,
+            state,
+            saves,
+            clock,
+            listing,
+        ),
+        Line::Independent(i, j) => output::put_line(out, waits, &[judge(listing, i, j)], b' '),
+        Line::Search(depth, kept) => put_search(
+            out,
+            waits,
+            depth,
+            kept,
+            text,
+            model,
+            state,
+            saves,
+            clock,
+            listing,
+        ),
+        _ => ask_timed(
+            out,
+            waits,
+            asked,
+            drawn,
+            worded,
+            text,
+            waiting,
+            words,
+            model,
+            state,
+            saves,
+            clock,
+            listing,
+        ),
+    }
+}
+
 // Does what an item of the script asks for.
 fn ask(
     out: &mut Buffer,
     waits: usize,
     asked: Line,
     drawn: usize,
+    worded: usize,
     text: &Text,
     waiting: &mut Waiting,
+    words: &mut Words,
     model: &mut Model,
     state: &mut State,
     saves: &mut Saves,
@@ -473,74 +721,21 @@ fn ask(
         ),
         Line::State => output::put_signed_line(out, waits, state, b' '),
         Line::Report => put_report(out, waits, text, model, state, saves, clock),
-        Line::Save(kept) => put_named(
+        _ => ask_named(
             out,
             waits,
-            Row::SAVE,
-            Limits::SAVE,
-            kept,
-            text,
-            model,
-            state,
-            saves,
-            clock,
-            listing,
-        ),
-        Line::Return(kept) => put_named(
-            out,
-            waits,
-            Row::RETURN,
-            Limits::RETURN,
-            kept,
-            text,
-            model,
-            state,
-            saves,
-            clock,
-            listing,
-        ),
-        Line::Forget(kept) => put_named(
-            out,
-            waits,
-            Row::FORGET,
-            Limits::RETURN,
-            kept,
-            text,
-            model,
-            state,
-            saves,
-            clock,
-            listing,
-        ),
-        Line::Time(draw) => put_timed(
-            out,
-            waits,
-            draw,
+            asked,
             drawn,
+            worded,
             text,
             waiting,
+            words,
             model,
             state,
             saves,
             clock,
             listing,
         ),
-        Line::Wait(draw) => keep_draw(waits, draw, drawn, waiting),
-        Line::Clock => output::put_line(out, waits, clock, b' '),
-        Line::Independent(i, j) => output::put_line(out, waits, &[judge(listing, i, j)], b' '),
-        Line::Search(depth, kept) => put_search(
-            out,
-            waits,
-            depth,
-            kept,
-            text,
-            model,
-            state,
-            saves,
-            clock,
-            listing,
-        ),
-        Line::Bad => waits,
     }
 }
 
@@ -550,6 +745,7 @@ fn run_byte(
     out: &mut Buffer,
     text: &mut Text,
     waiting: &mut Waiting,
+    words: &mut Words,
     model: &mut Model,
     state: &mut State,
     saves: &mut Saves,
@@ -559,6 +755,7 @@ fn run_byte(
     let script = run.script;
     let waits = run.waits;
     let drawn = run.drawn;
+    let worded = run.worded;
     let part = script.part;
     keep(part, b, text);
     let taken = script.take(b);
@@ -567,6 +764,7 @@ fn run_byte(
             script: next,
             waits: waits,
             drawn: drawn,
+            worded: worded,
             over: false,
         },
         Taken::Asks(asked, next) => Run {
@@ -576,8 +774,10 @@ fn run_byte(
                 waits,
                 asked,
                 drawn,
+                worded,
                 text,
                 waiting,
+                words,
                 model,
                 state,
                 saves,
@@ -585,12 +785,14 @@ fn run_byte(
                 listing,
             ),
             drawn: drawn_after(asked, drawn),
+            worded: worded_after(asked, worded),
             over: false,
         },
         Taken::Wrong(line) => Run {
             script: script,
             waits: put_bad(out, waits, line),
             drawn: drawn,
+            worded: worded,
             over: true,
         },
     }
@@ -602,6 +804,7 @@ fn run_bytes(
     out: &mut Buffer,
     text: &mut Text,
     waiting: &mut Waiting,
+    words: &mut Words,
     model: &mut Model,
     state: &mut State,
     saves: &mut Saves,
@@ -617,6 +820,7 @@ fn run_bytes(
             out,
             text,
             waiting,
+            words,
             model,
             state,
             saves,
@@ -636,18 +840,21 @@ fn end(run: Run, out: &mut Buffer) -> Run {
     let script = run.script;
     let waits = run.waits;
     let drawn = run.drawn;
+    let worded = run.worded;
     let ending = script.at_end();
     match ending {
         Ending::Done => Run {
             script: script,
             waits: waits,
             drawn: drawn,
+            worded: worded,
             over: true,
         },
         Ending::Broken(line) => Run {
             script: script,
             waits: put_bad(out, waits, line),
             drawn: drawn,
+            worded: worded,
             over: true,
         },
     }
@@ -660,6 +867,7 @@ fn flushed(run: Run, out: &Buffer) -> Run {
         script: script,
         waits: output::flush(out, run.waits),
         drawn: run.drawn,
+        worded: run.worded,
         over: over,
     }
 }
@@ -671,6 +879,7 @@ fn run_some(
     out: &mut Buffer,
     text: &mut Text,
     waiting: &mut Waiting,
+    words: &mut Words,
     model: &mut Model,
     state: &mut State,
     saves: &mut Saves,
@@ -690,6 +899,7 @@ fn run_some(
             out,
             text,
             waiting,
+            words,
             model,
             state,
             saves,
@@ -705,6 +915,7 @@ fn run_script(fd: i32) {
     let mut out = output::empty();
     let mut text = [0u8; Limits::TEXT];
     let mut waiting = [0u16; Limits::DRAWS];
+    let mut words = [0u64; Limits::WORDS];
     let mut model = [0u8; Engine::MODEL];
     let mut state = [0i64; Engine::STATE];
     let mut saves = [0i64; Engine::SAVES];
@@ -714,6 +925,7 @@ fn run_script(fd: i32) {
         script: Script::new(),
         waits: 0,
         drawn: 0,
+        worded: 0,
         over: false,
     };
     let mut reads = u64::MAX;
@@ -724,6 +936,7 @@ fn run_script(fd: i32) {
             &mut out,
             &mut text,
             &mut waiting,
+            &mut words,
             &mut model,
             &mut state,
             &mut saves,
@@ -737,12 +950,33 @@ fn run_script(fd: i32) {
     }
 }
 
+// Whether a name is the word `rows`.
+fn is_rows(name: &[u8]) -> bool {
+    if name.len() != 4 {
+        return false;
+    }
+    if name[0] != b'r' {
+        return false;
+    }
+    if name[1] != b'o' {
+        return false;
+    }
+    if name[2] != b'w' {
+        return false;
+    }
+    name[3] == b's'
+}
+
 fn run_file(i: usize) {
     let mut name = io::buffer();
     let n = os::arg(i, &mut name);
     put(b"== ");
     put(&name[..n]);
     put(b"\n");
+    if is_rows(&name[..n]) {
+        rows::run();
+        return;
+    }
     let fd = os::open_read(&name[..n]);
     if fd < 0 {
         os::fail(&name[..n]);

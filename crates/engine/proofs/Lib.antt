@@ -7,3 +7,4 @@ pub mod Stored
 pub mod Drawn
 pub mod Reported
 pub mod Waits
+pub mod Runs

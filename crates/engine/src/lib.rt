@@ -8,6 +8,7 @@ pub mod texts;
 pub mod waiting;
 
 use clock::Clock;
+use running::Progress;
 use saves::Layout;
 use steady::Profile;
 use store::Engine;
@@ -19,12 +20,13 @@ ghost use mathlib.Core.List.{[]};
 ghost use lib.ListN.{length};
 ghost use Rattle.machine.specs.State.{stateLength};
 ghost use Rattle.machine.specs.Report.{reportLength};
-ghost use Rattle.machine.specs.Machine.{modelLength, listingLength, list′, step′, report′, timed′, save′, return′, forget′, open′, openSteady′, on′};
+ghost use Rattle.machine.specs.Machine.{modelLength, listingLength, list′, step′, report′, timed′, run′, save′, return′, forget′, open′, openSteady′, on′};
 ghost use Rattle.buffers.specs.Parts.{lentTwo, lentThree, lentTimed, lentAll};
 ghost use Rattle.buffers.specs.Effect.{answered, effect};
 ghost use Rattle.independence.specs.Judged.{judged};
 ghost use Rattle.engine.specs.Gives.{bare, filled, Gives, arePartsLong, areLong, areAllLong};
 ghost use Rattle.engine.specs.Waited.{timed};
+ghost use Rattle.engine.specs.Ran.{simulated, GivesRan, toldOf};
 ghost use Rattle.engine.specs.Asks.{askUnder};
 
 // What a call answers: 0 or a refusal's number; its place and branch; the listing's entries, their total, and the entry that a step took.
@@ -95,6 +97,56 @@ impl Timed {
         ensures { λ r. ⌜ r ≡ self .answer ⌝ }
     {
         self.answer
+    }
+}
+
+// What a run answers: 0 or the number of the refusal that ended it; the steps that it took, the words and waiting draws that these used; the count and total of its last listing.
+#[repr(C)]
+pub struct Ran {
+    pub number: u64,
+    pub steps: u64,
+    pub words: u64,
+    pub waiting: u64,
+    pub count: u64,
+    pub total: u64,
+}
+
+// What a run gives: its answer, and the clock after its last accepted step.
+pub struct Simulated {
+    pub ran: Ran,
+    pub clock: Clock,
+}
+
+impl Simulated {
+    // What a run has come to.
+    pub fn of(p: Progress) -> Self
+        ensures { λ r. ⌜ r ≡ toldOf p ⌝ }
+    {
+        let clock = p.clock;
+        Simulated {
+            ran: Ran {
+                number: p.number,
+                steps: p.steps as u64,
+                words: p.words as u64,
+                waiting: p.waiting as u64,
+                count: p.count as u64,
+                total: p.total,
+            },
+            clock: clock,
+        }
+    }
+
+    // The parts, each by itself, for the function that is lent the clock.
+    pub fn clock(self) -> Clock
+        ensures { λ r. ⌜ r ≡ self .clock ⌝ }
+    {
+        self.clock
+    }
+
+    pub fn ran(self) -> Ran
+        ensures { λ r. ⌜ r ≡ self .ran ⌝ }
+    {
+        self.ran
     }
 }
 
@@ -250,6 +302,22 @@ pub fn step_timed(
     waiting::wait_after(told, &before, state, waiting, clock)
 }
 
+// Many timed steps, with choosing draws from words: up to the limit, the end of the room for events or of the words, or a refusal. The clock goes by value.
+pub fn run(
+    model: &[u8],
+    state: &mut [i64],
+    words: &[u64],
+    waiting: &[u16],
+    events: &mut [u64],
+    limit: u64,
+    clock: Clock,
+) -> Simulated
+    ensures { λ r. ⌜ GivesRan (effect (on′ (run′ (now (words .entry)) (now (waiting .entry)) limit (length (now (events .entry))))) (lentTimed (now (model .entry)) (now (state .entry)) clock) (now (events .entry))) (r .ran) (lentTimed (now (model .entry)) (now (state .exit)) (r .clock)) (now (events .exit)) ⌝ }
+{
+    let p = simulation::run(model, state, words, waiting, events, limit, clock);
+    Simulated::of(p)
+}
+
 // Reports over buffers of the right lengths.
 fn report_lent(model: &[u8], state: &[i64], report: &mut [u64]) -> Answer
     requires { ⌜ (length (now model) ≡ modelLength) × (length (now state) ≡ stateLength) × (length (now report) ≡ reportLength) ⌝ }
@@ -381,6 +449,23 @@ pub extern "C" fn matgravel_timed_step(
     let t = step_timed(model, state, listing, waiting, draw, *clock);
     *clock = Timed::clock(t);
     Timed::answer(t)
+}
+
+#[no_mangle]
+pub extern "C" fn matgravel_run(
+    model: &[u8],
+    state: &mut [i64],
+    words: &[u64],
+    waiting: &[u16],
+    events: &mut [u64],
+    limit: u64,
+    clock: &mut Clock,
+) -> Ran
+    ensures { λ r. ⌜ GivesRan (effect (on′ (run′ (now (words .entry)) (now (waiting .entry)) limit (length (now (events .entry))))) (lentTimed (now (model .entry)) (now (state .entry)) (now (clock .entry))) (now (events .entry))) r (lentTimed (now (model .entry)) (now (state .exit)) (now (clock .exit))) (now (events .exit)) ⌝ }
+{
+    let t = run(model, state, words, waiting, events, limit, *clock);
+    *clock = Simulated::clock(t);
+    Simulated::ran(t)
 }
 
 #[no_mangle]

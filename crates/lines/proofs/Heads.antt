@@ -6,18 +6,18 @@ use Prim.Native.Nat.{ℕ, zero, suc, _+_, _*_, _-_, _/_, _%_, _≤_, _<_, min}
 use native.Mathlib.Omega.{arith}
 use lib.Dec.{eqb, leb, ltb}
 use borrow.Author.Tests.{eqb-true, eqb-false, eq-eqb, ne-eqb, lt-ltb, le-ltb, le-leb, lt-leb, leb-true, leb-false, ltb-true, ltb-false}
-use lib.ListN.{length, take, drop, length-append}
+use lib.ListN.{length, take, drop, length-append, length-take}
 use lib.Seq.{take-take}
 use Rattle.word.specs.Number.{worth}
 use Rattle.token.specs.Bytes.{isDigit, within}
 use Rattle.token.specs.Token.{sameBytes}
 use Rattle.token.proofs.Words.{same-is}
 use Rattle.lines.specs.declared.line.Line.{Line}
-use Rattle.lines.specs.declared.line.Line.the-variants.{Open, Steady, List as Listing, Step, State, Report, Save, Return, Forget, Time, Wait, Clock, Independent, Search, Bad}
+use Rattle.lines.specs.declared.line.Line.the-variants.{Open, Steady, List as Listing, Step, State, Report, Save, Return, Forget, Time, Wait, Clock, Independent, Search, Word, Run, Bad}
 use Rattle.lines.specs.declared.line.Rest.{Rest}
 use Rattle.lines.specs.declared.line.Rest.the-variants.{Nothing, Number, T, Other}
 use Rattle.lines.specs.declared.line.Reading.{Reading}
-use Rattle.lines.specs.Line.{listBytes, stateBytes, reportBytes, openBytes, steadyBytes, stepBytes, saveBytes, returnBytes, forgetBytes, timeBytes, waitBytes, clockBytes, independentBytes, seekBytes, small, keptLimit, kept, digitsOnly, isNumber, given, sought, lineOf, restOf, restNext, packed, headOf, afterOf, twoBytes, returnEnd, forgetEnd, steadyEnd, afterNext, lateNext, keptNext, ended, steadied, soughtBy, numbered, bare, lettered, Bytes, Reads}
+use Rattle.lines.specs.Line.{listBytes, stateBytes, reportBytes, openBytes, steadyBytes, stepBytes, saveBytes, returnBytes, forgetBytes, timeBytes, waitBytes, clockBytes, independentBytes, seekBytes, wordBytes, runBytes, small, keptLimit, kept, digitsOnly, isNumber, given, sought, lineOf, restOf, restNext, packed, headOf, afterOf, twoBytes, returnEnd, forgetEnd, steadyEnd, fourBytes, runHead, afterNext, lateNext, earlyNext, keptNext, ended, steadied, soughtBy, ranBy, numbered, bare, lettered, Bytes, Reads}
 use Rattle.lines.specs.declared.two.Two.{Two}
 use Rattle.lines.specs.Two.{begun, run, twoNext, paired}
 use Rattle.lines.proofs.Rests.{rest-on}
@@ -71,6 +71,9 @@ steadyHead = 1595385667940
 abbrev seekHead : ℕ
 seekHead = 1595134012192
 
+abbrev wordHead : ℕ
+wordHead = 1612482503712
+
 -- ---- fewer than five bytes, or five and more
 data Size : List ℕ → Type 0 where
   none : Size []
@@ -92,6 +95,16 @@ size (a ∷ b ∷ c ∷ d ∷ e ∷ s) = five
 bytes-on : (s : List ℕ) (b : ℕ) → Bytes s → b < 256 → Bytes (s ++ (b ∷ []))
 bytes-on [] b h k = (k, tt)
 bytes-on (a ∷ s) b h k = (h .0, bytes-on s b (h .1) k)
+
+-- what stands after the first four bytes, with one more
+early-on : {s : List ℕ} (b : ℕ) → Size s → Bytes s → earlyNext (headOf s) (restOf (drop 4 s)) b ≡ restOf (drop 4 (s ++ (b ∷ [])))
+unfolding headOf packed earlyNext
+early-on b none h = refl
+early-on b (one {a}) h = rw (lt-ltb (256 + a) fourBytes (omega (arith, h .0)))
+early-on b (two {a} {b = x}) h = rw (lt-ltb ((256 + a) * 256 + x) fourBytes (omega (arith, h .0, h .1 .0)))
+early-on b (three {a} {b = x} {c}) h = rw (lt-ltb (((256 + a) * 256 + x) * 256 + c) fourBytes (omega (arith, h .0, h .1 .0, h .1 .1 .0)))
+early-on b (four {a} {b = x} {c} {d}) h = rw (le-ltb ((((256 + a) * 256 + x) * 256 + c) * 256 + d) fourBytes (omega arith)) (sym (rest-on [] b))
+early-on b (five {a} {b = x} {c} {d} {e} {s}) h = rw (le-ltb (((((256 + a) * 256 + x) * 256 + c) * 256 + d) * 256 + e) fourBytes (omega arith)) (sym (rest-on (e ∷ s) b))
 
 record Short (s : List ℕ) (b : ℕ) : Type 0 where
   head : headOf (s ++ (b ∷ [])) ≡ headOf s * 256 + b
@@ -149,13 +162,14 @@ kept-on s b = by (ltb (min keptLimit (length s)) keptLimit) refl
     by true e = omega (arith, ltb-true (min keptLimit (length s)) keptLimit e, length-append s (b ∷ []))
     by false e = omega (arith, ltb-false (min keptLimit (length s)) keptLimit e, length-append s (b ∷ []))
 
-pub short-on : {s : List ℕ} {r : Reading} (b k′ : ℕ) → Reads s r → b < 256 → r .head < full → k′ ≡ keptNext (r .kept) → Reads (s ++ (b ∷ [])) (record { head = r .head * 256 + b; rest = r .rest; after = r .after; late = r .late; kept = k′; two = r .two })
+pub short-on : {s : List ℕ} {r : Reading} (b : ℕ) (y : Rest) (k′ : ℕ) → Reads s r → b < 256 → r .head < full → y ≡ earlyNext (r .head) (r .early) b → k′ ≡ keptNext (r .kept) → Reads (s ++ (b ∷ [])) (record { head = r .head * 256 + b; early = y; rest = r .rest; after = r .after; late = r .late; kept = k′; two = r .two })
 unfolding afterOf
-short-on {s} {r} b k′ h k l n =
+short-on {s} {r} b y k′ h k l i n =
     let e = short b (size s) (rw (← h .head) l) in
     record {
       bytes = bytes-on s b (h .bytes) k;
       head = ap (λ (x : ℕ). x * 256 + b) (h .head) ∙ sym (e .head);
+      early = i ∙ ap₂ (λ (x : ℕ) (z : Rest). earlyNext x z b) (h .head) (h .early) ∙ early-on b (size s) (h .bytes);
       rest = h .rest ∙ ap restOf (sym (e .rest));
       after = h .after ∙ ap (λ (u : List ℕ). packed 1 (take 2 u)) (sym (e .rest));
       late = h .late ∙ ap restOf (sym (e .late));
@@ -163,14 +177,15 @@ short-on {s} {r} b k′ h k l n =
       two = h .two ∙ ap (run begun) (sym (e .rest));
     }
 
-pub long-on : {s : List ℕ} {r : Reading} (b : ℕ) (t : Rest) (a : ℕ) (q : Rest) (k′ : ℕ) (u : Two) → Reads s r → b < 256 → full ≤ r .head → t ≡ restNext (r .rest) b → a ≡ afterNext (r .after) b → q ≡ lateNext (r .after) (r .late) b → k′ ≡ keptNext (r .kept) → u ≡ twoNext (r .two) b
-    → Reads (s ++ (b ∷ [])) (record { head = r .head; rest = t; after = a; late = q; kept = k′; two = u })
+pub long-on : {s : List ℕ} {r : Reading} (b : ℕ) (y t : Rest) (a : ℕ) (q : Rest) (k′ : ℕ) (u : Two) → Reads s r → b < 256 → full ≤ r .head → y ≡ earlyNext (r .head) (r .early) b → t ≡ restNext (r .rest) b → a ≡ afterNext (r .after) b → q ≡ lateNext (r .after) (r .late) b → k′ ≡ keptNext (r .kept) → u ≡ twoNext (r .two) b
+    → Reads (s ++ (b ∷ [])) (record { head = r .head; early = y; rest = t; after = a; late = q; kept = k′; two = u })
 unfolding afterOf
-long-on {s} {r} b t a q k′ u h k l n m p j w =
+long-on {s} {r} b y t a q k′ u h k l i n m p j w =
     let e = long b (size s) (h .bytes) (rw (← h .head) l) in
     record {
       bytes = bytes-on s b (h .bytes) k;
       head = h .head ∙ sym (e .head);
+      early = i ∙ ap₂ (λ (x : ℕ) (z : Rest). earlyNext x z b) (h .head) (h .early) ∙ early-on b (size s) (h .bytes);
       rest = n ∙ ap (λ (x : Rest). restNext x b) (h .rest) ∙ sym (rest-on (drop 5 s) b) ∙ ap restOf (sym (e .rest));
       after = m ∙ ap (λ (x : ℕ). afterNext x b) (h .after) ∙ after-on (drop 5 s) b (bytes-drop 5 s (h .bytes)) ∙ ap (λ (u : List ℕ). packed 1 (take 2 u)) (sym (e .rest));
       late =
@@ -411,6 +426,59 @@ differ s t n = by (sameBytes s t) refl
     by true e = absurd (n (same-is s t e))
     by false e = refl
 
+words-then : (u : List ℕ) → numbered Word (restOf u) ≡ lineOf (wordBytes ++ u)
+unfolding lineOf sameBytes restOf given isNumber
+words-then [] = refl
+words-then (b ∷ u) = by-number Word (isNumber (b ∷ u)) (eqb b 116 && sameBytes u []) (worth 0 (b ∷ u))
+
+-- `run ` by the head, which has one byte more
+run-then : (u : List ℕ) → numbered Run (restOf u) ≡ given Run u
+unfolding restOf given isNumber sameBytes
+run-then [] = refl
+run-then (b ∷ u) = by-number Run (isNumber (b ∷ u)) (eqb b 116 && sameBytes u []) (worth 0 (b ∷ u))
+
+both-bad : (t : Bool) → cond t Bad Bad ≡ Bad
+both-bad true = refl
+both-bad false = refl
+
+head-low : (n : ℕ) (e : Rest) → n < full → ranBy n e ≡ Bad
+unfolding ranBy
+head-low n e l = rw (ne-eqb (n / 256) runHead (λ (q : n / 256 ≡ runHead). omega arith)) refl
+
+too-short : (s : List ℕ) (l : Line) → length s < 4 → cond (sameBytes (take 4 s) runBytes) l Bad ≡ Bad
+too-short s l h = rw (differ (take 4 s) runBytes (λ (q : take 4 s ≡ runBytes). omega (arith, ap length q, length-take 4 s))) refl
+
+run-same : sameBytes runBytes runBytes ≡ true
+unfolding sameBytes
+run-same = refl
+
+four-same : (a b c d : ℕ) → a < 256 → b < 256 → c < 256 → d < 256 → eqb (packed 1 (a ∷ b ∷ c ∷ d ∷ [])) runHead ≡ sameBytes (a ∷ b ∷ c ∷ d ∷ []) runBytes
+unfolding packed
+four-same a b c d h i j k = by (sameBytes (a ∷ b ∷ c ∷ d ∷ []) runBytes) refl
+  where
+    by : (t : Bool) → sameBytes (a ∷ b ∷ c ∷ d ∷ []) runBytes ≡ t → eqb (packed 1 (a ∷ b ∷ c ∷ d ∷ [])) runHead ≡ t
+    by true e = eq-eqb (packed 1 (a ∷ b ∷ c ∷ d ∷ [])) runHead (ap (packed 1) (same-is (a ∷ b ∷ c ∷ d ∷ []) runBytes e))
+    by false e =
+        ne-eqb (packed 1 (a ∷ b ∷ c ∷ d ∷ [])) runHead
+        (λ q. let v = same-packed 1 1 (a ∷ b ∷ c ∷ d ∷ []) runBytes refl (h, (i, (j, (k, tt)))) (omega arith, (omega arith, (omega arith, (omega arith, tt)))) q .bytes in
+        apart-bool (ap (λ (s : List ℕ). sameBytes s runBytes) v ∙ run-same) e)
+      where
+        apart-bool : sameBytes (a ∷ b ∷ c ∷ d ∷ []) runBytes ≡ true → sameBytes (a ∷ b ∷ c ∷ d ∷ []) runBytes ≡ false → ⊥
+        apart-bool p q = let z : _≡_ {A = ℕ} 0 1 = cc in omega arith
+
+runs-then : {s : List ℕ} → Size s → Bytes s → ranBy (headOf s) (restOf (drop 4 s)) ≡ cond (sameBytes (take 4 s) runBytes) (given Run (drop 4 s)) Bad
+unfolding headOf packed
+runs-then none h = head-low 1 (restOf []) (omega arith) ∙ sym (too-short [] (given Run []) (omega arith))
+runs-then (one {a}) h = head-low (256 + a) (restOf []) (omega (arith, h .0)) ∙ sym (too-short (a ∷ []) (given Run []) (omega arith))
+runs-then (two {a} {b}) h = head-low ((256 + a) * 256 + b) (restOf []) (omega (arith, h .0, h .1 .0)) ∙ sym (too-short (a ∷ b ∷ []) (given Run []) (omega arith))
+runs-then (three {a} {b} {c}) h = head-low (((256 + a) * 256 + b) * 256 + c) (restOf []) (omega (arith, h .0, h .1 .0, h .1 .1 .0)) ∙ sym (too-short (a ∷ b ∷ c ∷ []) (given Run []) (omega arith))
+runs-then (four {a} {b} {c} {d}) h =
+    head-low ((((256 + a) * 256 + b) * 256 + c) * 256 + d) (restOf []) (omega (arith, h .0, h .1 .0, h .1 .1 .0, h .1 .1 .1 .0)) ∙ sym (unfold given isNumber in both-bad (sameBytes (a ∷ b ∷ c ∷ d ∷ []) runBytes))
+runs-then (five {a} {b} {c} {d} {e = x} {s = u}) h =
+    unfold ranBy in
+    let q : (((((256 + a) * 256 + b) * 256 + c) * 256 + d) * 256 + x) / 256 ≡ (((256 + a) * 256 + b) * 256 + c) * 256 + d = omega (arith, h .1 .1 .1 .1 .0) in
+    ap₂ (λ (t : Bool) (l : Line). cond t l Bad) (ap (λ (n : ℕ). eqb n runHead) q ∙ four-same a b c d (h .0) (h .1 .0) (h .1 .1 .0) (h .1 .1 .1 .0)) (run-then (x ∷ u))
+
 module _ {s : List ℕ} {r : Reading} (h : Reads s r) where
   word : (w : ℕ) (t : List ℕ) → Bytes t → length t ≡ 5 → full ≤ w → packed 1 t ≡ w → r .head ≡ w → s ≡ t ++ drop 5 s
   word w t k l m n e = word-is w t (size s) (h .bytes) k l m n (sym (h .head) ∙ e)
@@ -505,11 +573,20 @@ module _ {s : List ℕ} {r : Reading} (h : Reads s r) where
   first-five : (t : List ℕ) → take 7 s ≡ t → take 5 s ≡ take 5 t
   first-five t e = sym (take-take 5 7 s (omega arith)) ∙ ap (take 5) e
 
-  pub says-bad : (r .head ≡ listHead → ⊥) → (r .head ≡ stateHead → ⊥) → (r .head ≡ reportHead → ⊥) → (r .head ≡ openHead → ⊥) → (r .head ≡ stepHead → ⊥) → (r .head ≡ saveHead → ⊥) → (r .head ≡ returnHead → ⊥) → (r .head ≡ forgetHead → ⊥)
-      → (r .head ≡ timeHead → ⊥) → (r .head ≡ waitHead → ⊥) → (r .head ≡ clockHead → ⊥) → (r .head ≡ indepHead → ⊥) → (r .head ≡ steadyHead → ⊥) → (r .head ≡ seekHead → ⊥) → Bad ≡ lineOf s
+  pub says-word : {x : Line} → r .head ≡ wordHead → x ≡ numbered Word (r .rest) → x ≡ lineOf s
+  unfolding packed
+  says-word e f =
+      let w = word wordHead wordBytes (omega arith, (omega arith, (omega arith, (omega arith, (omega arith, tt))))) refl (omega arith) refl e in
+      f ∙ ap (numbered Word) (h .rest) ∙ words-then (drop 5 s) ∙ ap lineOf (sym w)
+
+  pub says-run : {x : Line} → (r .head ≡ listHead → ⊥) → (r .head ≡ stateHead → ⊥) → (r .head ≡ reportHead → ⊥) → (r .head ≡ openHead → ⊥) → (r .head ≡ stepHead → ⊥) → (r .head ≡ saveHead → ⊥) → (r .head ≡ returnHead → ⊥) → (r .head ≡ forgetHead → ⊥)
+      → (r .head ≡ timeHead → ⊥) → (r .head ≡ waitHead → ⊥) → (r .head ≡ clockHead → ⊥) → (r .head ≡ indepHead → ⊥) → (r .head ≡ steadyHead → ⊥) → (r .head ≡ seekHead → ⊥) → (r .head ≡ wordHead → ⊥) → x ≡ ranBy (r .head) (r .early) → x ≡ lineOf s
   unfolding lineOf headOf packed
-  says-bad l t q o p v m g i j k z y x =
-      simp (
+  says-run l t q o p v m g i j k z y x w f =
+      f ∙ ap₂ ranBy (h .head) (h .early) ∙ runs-then (size s) (h .bytes) ∙ sym no-other
+    where
+      no-other : lineOf s ≡ cond (sameBytes (take 4 s) runBytes) (given Run (drop 4 s)) Bad
+      no-other = simp (
         differ s listBytes (λ e. l (h .head ∙ ap headOf e)),
         differ s stateBytes (λ e. t (h .head ∙ ap headOf e)),
         differ s reportBytes (λ e. q (h .head ∙ ap headOf e)),
@@ -524,4 +601,5 @@ module _ {s : List ℕ} {r : Reading} (h : Reads s r) where
         differ s clockBytes (λ e. k (h .head ∙ ap headOf e)),
         no-word s (λ e. z (h .head ∙ ap (packed 1) e)),
         differ (take 5 s) seekBytes (λ e. x (h .head ∙ ap (packed 1) e)),
+        differ (take 5 s) wordBytes (λ e. w (h .head ∙ ap (packed 1) e)),
       )

@@ -12,7 +12,7 @@ use lib.ListN.{length, length-append}
 use borrow.Author.Tests.{eq-eqb, ne-eqb}
 use Rattle.token.specs.Bytes.{lineFeed}
 use Rattle.lines.specs.declared.line.Line.{Line}
-use Rattle.lines.specs.declared.line.Line.the-variants.{Open, Steady, List as Listing, Step, State, Report, Save, Return, Forget, Time, Wait, Clock, Independent, Search, Bad}
+use Rattle.lines.specs.declared.line.Line.the-variants.{Open, Steady, List as Listing, Step, State, Report, Save, Return, Forget, Time, Wait, Clock, Independent, Search, Word, Run, Bad}
 use Rattle.lines.specs.declared.line.Rest.the-variants.{Nothing}
 use Rattle.lines.specs.declared.line.Reading.{Reading}
 use Rattle.lines.specs.declared.script.Part.{Part}
@@ -58,7 +58,7 @@ after-other s b line n h = h ∙ same-number s (s ++ (b ∷ [])) (let e = breaks
 -- ---- no byte of a line
 empty-reads : Reads [] empty
 unfolding headOf packed restOf afterOf kept run
-empty-reads = record { bytes = tt; head = refl; rest = refl; after = refl; late = refl; kept = refl; two = refl }
+empty-reads = record { bytes = tt; head = refl; early = refl; rest = refl; after = refl; late = refl; kept = refl; two = refl }
 
 no-breaks : breaks [] ≡ 0
 unfolding breaks
@@ -139,6 +139,8 @@ module _ {s : List ℕ} {qs : List Line} {from : ℕ} {r : Reading} (x : LineBeg
   ends-so Clock e h = subst (λ (l : Line). Stands (s ++ (b ∷ [])) (qs ++ (l ∷ [])) (fresh (next from))) h (line-short e (ap isShort h))
   ends-so (Independent i j) e h = subst (λ (l : Line). Stands (s ++ (b ∷ [])) (qs ++ (l ∷ [])) (fresh (next from))) h (line-short e (ap isShort h))
   ends-so (Search d n) e h = subst (λ (l : Line). Stands (s ++ (b ∷ [])) (qs ++ (l ∷ [])) (fresh (next from))) h (line-short e (ap isShort h))
+  ends-so (Word w) e h = subst (λ (l : Line). Stands (s ++ (b ∷ [])) (qs ++ (l ∷ [])) (fresh (next from))) h (line-short e (ap isShort h))
+  ends-so (Run n) e h = subst (λ (l : Line). Stands (s ++ (b ∷ [])) (qs ++ (l ∷ [])) (fresh (next from))) h (line-short e (ap isShort h))
   ends-so Bad e h = Misplaced.of-line x e h
 
   pub line-ends : {l : Line} {y : Taken} → b ≡ lineFeed → l ≡ lineOf (x .line) → y ≡ ended from l → Takes s qs b y

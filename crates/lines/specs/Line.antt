@@ -9,7 +9,7 @@ use Rattle.word.specs.Number.{worth, digitOf}
 use Rattle.token.specs.Bytes.{within, isDigit}
 use Rattle.token.specs.Token.{sameBytes}
 use Rattle.lines.specs.declared.line.Line.{Line}
-use Rattle.lines.specs.declared.line.Line.the-variants.{Open, Steady, List as Listing, Step, State, Report, Save, Return, Forget, Time, Wait, Clock, Independent, Search, Bad}
+use Rattle.lines.specs.declared.line.Line.the-variants.{Open, Steady, List as Listing, Step, State, Report, Save, Return, Forget, Time, Wait, Clock, Independent, Search, Word, Run, Bad}
 use Rattle.lines.specs.declared.line.Rest.{Rest}
 use Rattle.lines.specs.declared.line.Rest.the-variants.{Nothing, Number, T, Other}
 use Rattle.lines.specs.declared.line.Reading.{Reading}
@@ -69,6 +69,13 @@ seekBytes = 115 ∷ 101 ∷ 101 ∷ 107 ∷ 32 ∷ []
 abbrev pub independentBytes : List ℕ
 independentBytes = 105 ∷ 110 ∷ 100 ∷ 101 ∷ 112 ∷ 101 ∷ 110 ∷ 100 ∷ 101 ∷ 110 ∷ 116 ∷ 32 ∷ []
 
+-- `word ` and `run `
+abbrev pub wordBytes : List ℕ
+wordBytes = 119 ∷ 111 ∷ 114 ∷ 100 ∷ 32 ∷ []
+
+abbrev pub runBytes : List ℕ
+runBytes = 114 ∷ 117 ∷ 110 ∷ 32 ∷ []
+
 -- digits and nothing else
 unfoldable pub digitsOnly : List ℕ → Bool
 digitsOnly [] = true
@@ -106,7 +113,7 @@ sought [] k = Bad
 sought (d ∷ []) k = Bad
 sought (d ∷ b ∷ s) k = cond (eqb b 32) (cond (isDigit d) (Search (digitOf d) k) Bad) Bad
 
--- the fourteen forms; every other line is bad
+-- the sixteen forms; every other line is bad
 unfoldable pub lineOf : List ℕ → Line
 lineOf s =
     cond (sameBytes s listBytes) Listing
@@ -122,7 +129,9 @@ lineOf s =
     (cond (sameBytes (take 5 s) waitBytes) (given small (drop 5 s))
     (cond (sameBytes s clockBytes) Clock
     (cond (sameBytes (take 12 s) independentBytes) (givenTwo (drop 12 s))
-    (cond (sameBytes (take 5 s) seekBytes) (sought (drop 5 s) (kept s)) Bad)))))))))))))
+    (cond (sameBytes (take 5 s) seekBytes) (sought (drop 5 s) (kept s))
+    (cond (sameBytes (take 5 s) wordBytes) (given Word (drop 5 s))
+    (cond (sameBytes (take 4 s) runBytes) (given Run (drop 4 s)) Bad)))))))))))))))
 
 -- `step 307`
 step-line : lineOf (115 ∷ 116 ∷ 101 ∷ 112 ∷ 32 ∷ 51 ∷ 48 ∷ 55 ∷ []) ≡ Step 307
@@ -171,6 +180,18 @@ save-nothing = refl
 seek-lines : (lineOf (seekBytes ++ (51 ∷ 32 ∷ 97 ∷ [])) ≡ Search 3 8) × ((lineOf (seekBytes ++ (51 ∷ [])) ≡ Bad) × (lineOf (seekBytes ++ (49 ∷ 48 ∷ 32 ∷ 97 ∷ [])) ≡ Bad))
 unfolding lineOf sought kept isDigit Rattle.token.specs.Bytes.within sameBytes
 seek-lines = (refl, (refl, refl))
+
+-- `word 18446744073709551615` and `word 18446744073709551616`
+word-lines :
+    (lineOf (wordBytes ++ (49 ∷ 56 ∷ 52 ∷ 52 ∷ 54 ∷ 55 ∷ 52 ∷ 52 ∷ 48 ∷ 55 ∷ 51 ∷ 55 ∷ 48 ∷ 57 ∷ 53 ∷ 53 ∷ 49 ∷ 54 ∷ 49 ∷ 53 ∷ [])) ≡ Word 18446744073709551615)
+    × (lineOf (wordBytes ++ (49 ∷ 56 ∷ 52 ∷ 52 ∷ 54 ∷ 55 ∷ 52 ∷ 52 ∷ 48 ∷ 55 ∷ 51 ∷ 55 ∷ 48 ∷ 57 ∷ 53 ∷ 53 ∷ 49 ∷ 54 ∷ 49 ∷ 54 ∷ [])) ≡ Bad)
+unfolding lineOf given isNumber digitsOnly isDigit Rattle.token.specs.Bytes.within sameBytes worth
+word-lines = (refl, refl)
+
+-- `run 10`, `run ` and `run`
+run-lines : (lineOf (runBytes ++ (49 ∷ 48 ∷ [])) ≡ Run 10) × ((lineOf runBytes ≡ Bad) × (lineOf (take 3 runBytes) ≡ Bad))
+unfolding lineOf given isNumber digitsOnly isDigit Rattle.token.specs.Bytes.within sameBytes worth
+run-lines = (refl, (refl, refl))
 
 -- `open` without a number
 no-number : lineOf openBytes ≡ Bad
@@ -258,6 +279,21 @@ afterNext a b = cond (ltb a twoBytes) (a * 256 + b) a
 unfoldable pub lateNext : ℕ → Rest → ℕ → Rest
 lateNext a r b = cond (ltb a twoBytes) r (restNext r b)
 
+-- the least head of four bytes, and that of `run `
+abbrev pub fourBytes : ℕ
+fourBytes = 4294967296
+
+abbrev pub runHead : ℕ
+runHead = 6215265824
+
+-- what stands after the first four bytes with one more byte, from the head before it
+unfoldable pub earlyNext : ℕ → Rest → ℕ → Rest
+earlyNext h r b = cond (ltb h fourBytes) r (restNext r b)
+
+-- a line whose first four bytes are `run `, and what stands after them
+unfoldable pub ranBy : ℕ → Rest → Line
+ranBy head early = cond (eqb (head / 256) runHead) (numbered Run early) Bad
+
 unfoldable pub keptNext : ℕ → ℕ
 keptNext k = cond (ltb k keptLimit) (k + 1) k
 
@@ -281,6 +317,7 @@ Bytes (b ∷ s) = (b < 256) × Bytes s
 pub record Reads (s : List ℕ) (r : Reading) : Type 0 where
   pub bytes : Bytes s
   pub head : r .head ≡ headOf s
+  pub early : r .early ≡ restOf (drop 4 s)
   pub rest : r .rest ≡ restOf (drop 5 s)
   pub after : r .after ≡ afterOf s
   pub late : r .late ≡ restOf (drop 7 s)
@@ -289,4 +326,4 @@ pub record Reads (s : List ℕ) (r : Reading) : Type 0 where
 
 -- no byte yet
 abbrev pub empty : Reading
-empty = record { head = 1; rest = Nothing; after = 1; late = Nothing; kept = 0; two = begun }
+empty = record { head = 1; early = Nothing; rest = Nothing; after = 1; late = Nothing; kept = 0; two = begun }

@@ -8,7 +8,7 @@ use lib.Dec.{eqb}
 use lib.ListN.{length}
 use Rattle.token.specs.Bytes.{lineFeed}
 use Rattle.lines.specs.declared.line.Line.{Line}
-use Rattle.lines.specs.declared.line.Line.the-variants.{Open, Steady, List as Listing, Step, State, Report, Save, Return, Forget, Time, Wait, Clock, Independent, Search, Bad}
+use Rattle.lines.specs.declared.line.Line.the-variants.{Open, Steady, List as Listing, Step, State, Report, Save, Return, Forget, Time, Wait, Clock, Independent, Search, Word, Run, Bad}
 use Rattle.lines.specs.declared.line.Reading.{Reading}
 use Rattle.lines.specs.declared.script.Part.{Part}
 use Rattle.lines.specs.declared.script.Part.the-variants.{InLine, InText}
@@ -29,7 +29,7 @@ breaks (b ∷ s) = cond (eqb b lineFeed) 1 0 + breaks s
 abbrev pub numberAfter : List ℕ → ℕ
 numberAfter s = (1 + breaks s) % limit
 
--- a line that asks for a call, for the state or the clock, or of two entries, or gives a waiting draw, by itself
+-- a line that asks for a call, for the state or the clock, or of two entries, or gives a waiting draw or a word, by itself
 abbrev pub isShort : Line → Bool
 isShort (Open n) = false
 isShort (Steady n) = false
@@ -45,6 +45,8 @@ isShort (Wait d) = true
 isShort Clock = true
 isShort (Independent i j) = true
 isShort (Search d n) = true
+isShort (Word w) = true
+isShort (Run n) = true
 isShort Bad = false
 
 -- how many bytes of a text a line asks for
@@ -63,6 +65,8 @@ textOf (Wait d) = nothing
 textOf Clock = nothing
 textOf (Independent i j) = nothing
 textOf (Search d n) = nothing
+textOf (Word w) = nothing
+textOf (Run n) = nothing
 textOf Bad = nothing
 
 -- bytes that are whole items: such a line and LF, or a line `open n` or `steady n`, LF, n bytes and LF; and what they ask for in turn
@@ -151,4 +155,6 @@ ended line (Wait d) = Asks (Wait d) (fresh (next line))
 ended line Clock = Asks Clock (fresh (next line))
 ended line (Independent i j) = Asks (Independent i j) (fresh (next line))
 ended line (Search d n) = Asks (Search d n) (fresh (next line))
+ended line (Word w) = Asks (Word w) (fresh (next line))
+ended line (Run n) = Asks (Run n) (fresh (next line))
 ended line Bad = Wrong line

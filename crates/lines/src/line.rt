@@ -3,7 +3,7 @@ use crate::two::Two;
 ghost use mathlib.Core.Path.{_≡_};
 ghost use mathlib.Core.List.{List, [], _∷_, _++_};
 ghost use Prim.Native.Nat.{ℕ, _<_};
-ghost use Rattle.lines.specs.Line.{lineOf, grown, digitNext, letterNext, restNext, numbered, small, lettered, bare, ended, returnEnd, forgetEnd, steadied, soughtBy, afterNext, lateNext, keptNext, empty, Reads};
+ghost use Rattle.lines.specs.Line.{lineOf, grown, digitNext, letterNext, restNext, numbered, small, lettered, bare, ended, returnEnd, forgetEnd, steadied, soughtBy, ranBy, afterNext, lateNext, earlyNext, keptNext, empty, Reads};
 
 // What a line says.
 pub enum Line {
@@ -23,6 +23,8 @@ pub enum Line {
     Independent(u64, u64),
     // A depth, and how many bytes of the line are kept.
     Search(u64, u64),
+    Word(u64),
+    Run(u64),
     Bad,
 }
 
@@ -34,9 +36,10 @@ pub enum Rest {
     Other,
 }
 
-// A line so far: its first five bytes, as digits of base 256 after a 1, what stands after them, the first two bytes of that, likewise, what stands after these, how many bytes of the line are kept, and what stands after the first five as a word and two numbers.
+// A line so far: its first five bytes, as digits of base 256 after a 1, what stands after the first four, what stands after all five, the first two bytes of that, likewise, what stands after these, how many bytes of the line are kept, and what stands after the first five as a word and two numbers.
 pub struct Reading {
     pub head: u64,
+    pub early: Rest,
     pub rest: Rest,
     pub after: u64,
     pub late: Rest,
@@ -55,7 +58,7 @@ impl Head {
     // The most bytes of a line that are kept: a word and a name that is too long already.
     pub const KEPT: u64 = 24;
 
-    // The heads of `list`, `state`, `report`, `open `, `step `, `save `, `return `, `forget `, `time `, `wait `, `clock`, `independent `, `steady ` and `seek `, and what follows those of `return `, `forget ` and `steady `.
+    // The heads of `list`, `state`, `report`, `open `, `step `, `save `, `return `, `forget `, `time `, `wait `, `clock`, `independent `, `steady `, `seek ` and `word `, and what follows those of `return `, `forget ` and `steady `.
     pub const LIST: u64 = 0x1_6c69_7374;
 
     pub const STATE: u64 = 0x173_7461_7465;
@@ -83,6 +86,13 @@ impl Head {
     pub const STEADY: u64 = 0x173_7465_6164;
 
     pub const SEEK: u64 = 0x173_6565_6b20;
+
+    pub const WORD: u64 = 0x177_6f72_6420;
+
+    // The least head of four bytes, and that of `run `.
+    pub const FOUR: u64 = 0x1_0000_0000;
+
+    pub const RUN: u64 = 0x1_7275_6e20;
 
     // A waiting draw is below this.
     pub const DRAWS: u64 = 0x1_0000;
@@ -298,6 +308,38 @@ fn seek_line(after: u64, kept: u64) -> Line
     Line::Search(digit - Head::ZERO, kept)
 }
 
+fn word_line(rest: Rest) -> Line
+    ensures { λ r. ⌜ r ≡ numbered Line.Word rest ⌝ }
+{
+    match rest {
+        Rest::Nothing => Line::Bad,
+        Rest::Number(n) => Line::Word(n),
+        Rest::T => Line::Bad,
+        Rest::Other => Line::Bad,
+    }
+}
+
+fn run_of(early: Rest) -> Line
+    ensures { λ r. ⌜ r ≡ numbered Line.Run early ⌝ }
+{
+    match early {
+        Rest::Nothing => Line::Bad,
+        Rest::Number(n) => Line::Run(n),
+        Rest::T => Line::Bad,
+        Rest::Other => Line::Bad,
+    }
+}
+
+// A word of four bytes, of which the head has one byte more.
+fn run_line(head: u64, early: Rest) -> Line
+    ensures { λ r. ⌜ r ≡ ranBy head early ⌝ }
+{
+    if head / 256 == Head::RUN {
+        return run_of(early);
+    }
+    Line::Bad
+}
+
 // The two bytes after the first five, with one more byte.
 fn next_after(after: u64, b: u8) -> u64
     ensures { λ r. ⌜ r ≡ afterNext after b ⌝ }
@@ -318,6 +360,16 @@ fn next_late(after: u64, late: Rest, b: u8) -> Rest
     with_byte(late, b)
 }
 
+// What stands after the first four bytes, with one more byte, from the head before it.
+fn next_early(head: u64, early: Rest, b: u8) -> Rest
+    ensures { λ r. ⌜ r ≡ earlyNext head early b ⌝ }
+{
+    if head < Head::FOUR {
+        return early;
+    }
+    with_byte(early, b)
+}
+
 // How many bytes are kept with one more.
 fn next_kept(kept: u64) -> u64
     ensures { λ r. ⌜ r ≡ keptNext kept ⌝ }
@@ -334,6 +386,7 @@ impl Reading {
     {
         Reading {
             head: Head::EMPTY,
+            early: Rest::Nothing,
             rest: Rest::Nothing,
             after: Head::EMPTY,
             late: Rest::Nothing,
@@ -350,11 +403,14 @@ impl Reading {
         let rest = self.rest;
         let after = self.after;
         let late = self.late;
+        let so_far = self.early;
         let kept = next_kept(self.kept);
+        let early = next_early(head, so_far, b);
         let two = self.two;
         if head < Head::FULL {
             return Reading {
                 head: head * 256 + b as u64,
+                early: early,
                 rest: rest,
                 after: after,
                 late: late,
@@ -364,6 +420,7 @@ impl Reading {
         }
         Reading {
             head: head,
+            early: early,
             rest: with_byte(rest, b),
             after: next_after(after, b),
             late: next_late(after, late, b),
@@ -382,6 +439,7 @@ impl Reading {
         let after = self.after;
         let late = self.late;
         let kept = self.kept;
+        let early = self.early;
         match head {
             Head::LIST => Line::List,
             Head::STATE => state_line(rest),
@@ -397,7 +455,8 @@ impl Reading {
             Head::INDEPENDENT => crate::two::says(two),
             Head::STEADY => steady_line(after, late),
             Head::SEEK => seek_line(after, kept),
-            _ => Line::Bad,
+            Head::WORD => word_line(rest),
+            _ => run_line(head, early),
         }
     }
 }

@@ -89,6 +89,8 @@ fn end_line(line: u64, says: Line) -> Taken
         Line::Clock => Taken::Asks(Line::Clock, begin(next)),
         Line::Independent(i, j) => Taken::Asks(Line::Independent(i, j), begin(next)),
         Line::Search(d, n) => Taken::Asks(Line::Search(d, n), begin(next)),
+        Line::Word(w) => Taken::Asks(Line::Word(w), begin(next)),
+        Line::Run(n) => Taken::Asks(Line::Run(n), begin(next)),
         Line::Bad => Taken::Wrong(line),
     }
 }

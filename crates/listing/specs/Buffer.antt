@@ -68,7 +68,27 @@ pub record Lists (l : machine.Listed) (r : Listed) (b : List ℕ) : Type 0 where
   pub answer : r ≡ listedAnswer l
   pub numbers : b ≡ listingNumbers l
 
--- the same where the table of offers has n rows: all, or too few of them
+-- the entries of l, where it has any, stand first in the buffer b
+pub data Leading (b : List ℕ) : machine.Listed → Type 0 where
+  leading : {es : List rules.Entry} (rest : List ℕ) → b ≡ rows es rest → Leading b (machine.entriesAre es)
+  nothing : {a : machine.Answer} → Leading b (machine.refusedWith a)
+
+-- the answer r is that of l, and its entries stand first in b
+pub record Leads (l : machine.Listed) (r : Listed) (b : List ℕ) : Type 0 where
+  pub answer : r ≡ listedAnswer l
+  pub entries : Leading b l
+
+-- how many numbers the entries of a listing take
+unfoldable pub usedNumbers : Listed → ℕ
+usedNumbers (Filled count sum) = count * entryWidth
+usedNumbers (Refused n p b) = 0
+
+-- where the table of offers has n rows: all of that, or too few rows
+pub data TriesOver (n : ℕ) (l : machine.Listed) (b : List ℕ) : Tried → Type 0 where
+  led : {r : Listed} → Leads l r b → TriesOver n l b (Done r)
+  short : n < rowLimit → TriesOver n l b Full
+
+-- the same, with zeros after the entries
 pub data Tries (n : ℕ) (l : machine.Listed) (b : List ℕ) : Tried → Type 0 where
   done : {r : Listed} → Lists l r b → Tries n l b (Done r)
   full : n < rowLimit → Tries n l b Full

@@ -47,7 +47,7 @@ ghost use Rattle.offers.specs.Walk.{slotsOf};
 ghost use Rattle.offers.specs.Table.{localsOf, offerIn};
 ghost use Rattle.offers.specs.Collect.{World};
 ghost use Rattle.listing.specs.Ready.{Ready, RunIs, lowRow, highRow, boundAt};
-ghost use Rattle.listing.specs.Buffer.{entryOf, image, cut, Adds, Lists, Tries, weightsIn, totalled, chosenAnswer};
+ghost use Rattle.listing.specs.Buffer.{entryOf, image, cut, Adds, usedNumbers, Lists, Leads, Tries, TriesOver, weightsIn, totalled, chosenAnswer};
 
 pub struct Limits;
 
@@ -205,24 +205,28 @@ pub fn choose(listing: &[u64], count: usize, draw: u64) -> Chosen
 }
 
 // Questions 13 and 14 of the entries that stand in the buffer.
-fn judge(listing: &mut [u64], count: usize) -> Listed
+fn judge(listing: &[u64], count: usize) -> Listed
     requires { ⌜ (length (now listing) ≡ listingLength) × (count ≤ suc entryLimit) ⌝ }
-    ensures { λ r. ⌜ ((z : List ℕ) (es : List rules.Entry) → now (listing .entry) ≡ image z es → count ≡ cut es → Lists (counted es) r (now (listing .exit))) ⌝ }
+    ensures { λ r. ⌜ ((z : List ℕ) (es : List rules.Entry) → now (listing .entry) ≡ image z es → count ≡ cut es → Leads (counted es) r (now (listing .entry))) ⌝ }
 {
     if Limits::ENTRIES < count {
-        clear_from(listing, 0);
         return Listed::Refused(13, 0, 0);
     }
     let sum = total_of(listing, count);
     match sum {
-        Total::Is(total) => {
-            clear_from(listing, count * Limits::ENTRY);
-            Listed::Filled(count, total)
-        }
-        Total::Over => {
-            clear_from(listing, 0);
-            Listed::Refused(14, 0, 0)
-        }
+        Total::Is(total) => Listed::Filled(count, total),
+        Total::Over => Listed::Refused(14, 0, 0),
+    }
+}
+
+// Zeros after the entries of a listing, and all over the buffer of a refused one.
+fn clear_unused(listing: &mut [u64], listed: Listed)
+    requires { ⌜ usedNumbers listed ≤ length (now listing) ⌝ }
+    ensures { λ _. ⌜ now (listing .exit) ≡ take (usedNumbers listed) (now (listing .entry)) ++ replicate (length (now (listing .entry)) - usedNumbers listed) 0 ⌝ }
+{
+    match listed {
+        Listed::Filled(count, _) => clear_from(listing, count * Limits::ENTRY),
+        Listed::Refused(_, _, _) => clear_from(listing, 0),
     }
 }
 
@@ -665,8 +669,8 @@ fn list_rows(
     count
 }
 
-// Lists what can happen next, questions 12 to 14, if the lent tables have a row for each offer.
-fn list_into(
+// Lists what can happen next, questions 12 to 14, if the lent tables have a row for each offer. What stands in the buffer after the entries stays.
+fn try_over(
     nodes: &[u64],
     roots: &[u16],
     scopes: &[u16],
@@ -678,15 +682,12 @@ fn list_into(
     listing: &mut [u64],
 ) -> Tried
     requires { ⌜ ((m : Resolved.Model) × (s : State) × World (now nodes) (now roots) (now scopes) (now state) m s) × (length (now numbers) ≡ length (now heads) * rowWidth) × (length (now firsts) ≡ bucketLimit) × (length (now nexts) ≡ length (now heads)) × (length (now listing) ≡ listingLength) ⌝ }
-    ensures { λ r. ⌜ ((m : Resolved.Model) (s : State) → World (now (nodes .entry)) (now (roots .entry)) (now (scopes .entry)) (now (state .entry)) m s → Tries (length (now (heads .entry))) (machine.listing m s) (now (listing .exit)) r) ⌝ }
+    ensures { λ r. ⌜ ((m : Resolved.Model) (s : State) → World (now (nodes .entry)) (now (roots .entry)) (now (scopes .entry)) (now (state .entry)) m s → TriesOver (length (now (heads .entry))) (machine.listing m s) (now (listing .exit)) r) ⌝ }
 {
     let collected = offers::collect(nodes, roots, scopes, state, heads, numbers);
     match collected {
         Collected::Full => Tried::Full,
-        Collected::Missing(place, branch) => {
-            clear_from(listing, 0);
-            Tried::Done(Listed::Refused(12, place, branch))
-        }
+        Collected::Missing(place, branch) => Tried::Done(Listed::Refused(12, place, branch)),
         Collected::Rows(rows) => {
             offers::link(heads, numbers, rows, firsts, nexts);
             let count = list_rows(
@@ -701,6 +702,73 @@ fn list_into(
                 listing,
             );
             let listed = judge(listing, count);
+            Tried::Done(listed)
+        }
+    }
+}
+
+// The same in lent tables with room for all offers.
+pub fn list_over(
+    nodes: &[u64],
+    roots: &[u16],
+    scopes: &[u16],
+    state: &[i64],
+    heads: &mut [u64],
+    numbers: &mut [i64],
+    firsts: &mut [u16],
+    nexts: &mut [u16],
+    listing: &mut [u64],
+) -> Listed
+    requires { ⌜ ((m : Resolved.Model) × (s : State) × World (now nodes) (now roots) (now scopes) (now state) m s) × (length (now heads) ≡ rowLimit) × (length (now numbers) ≡ rowLimit * rowWidth) × (length (now firsts) ≡ bucketLimit) × (length (now nexts) ≡ rowLimit) × (length (now listing) ≡ listingLength) ⌝ }
+    ensures { λ r. ⌜ ((m : Resolved.Model) (s : State) → World (now (nodes .entry)) (now (roots .entry)) (now (scopes .entry)) (now (state .entry)) m s → Leads (machine.listing m s) r (now (listing .exit))) ⌝ }
+{
+    let tried = try_over(
+        nodes,
+        roots,
+        scopes,
+        state,
+        heads,
+        numbers,
+        firsts,
+        nexts,
+        listing,
+    );
+    match tried {
+        Tried::Done(listed) => listed,
+        Tried::Full => Listed::Refused(12, 0, 0),
+    }
+}
+
+// The same if the lent tables have a row for each offer, with zeros after the entries.
+fn list_into(
+    nodes: &[u64],
+    roots: &[u16],
+    scopes: &[u16],
+    state: &[i64],
+    heads: &mut [u64],
+    numbers: &mut [i64],
+    firsts: &mut [u16],
+    nexts: &mut [u16],
+    listing: &mut [u64],
+) -> Tried
+    requires { ⌜ ((m : Resolved.Model) × (s : State) × World (now nodes) (now roots) (now scopes) (now state) m s) × (length (now numbers) ≡ length (now heads) * rowWidth) × (length (now firsts) ≡ bucketLimit) × (length (now nexts) ≡ length (now heads)) × (length (now listing) ≡ listingLength) ⌝ }
+    ensures { λ r. ⌜ ((m : Resolved.Model) (s : State) → World (now (nodes .entry)) (now (roots .entry)) (now (scopes .entry)) (now (state .entry)) m s → Tries (length (now (heads .entry))) (machine.listing m s) (now (listing .exit)) r) ⌝ }
+{
+    let tried = try_over(
+        nodes,
+        roots,
+        scopes,
+        state,
+        heads,
+        numbers,
+        firsts,
+        nexts,
+        listing,
+    );
+    match tried {
+        Tried::Full => Tried::Full,
+        Tried::Done(listed) => {
+            clear_unused(listing, listed);
             Tried::Done(listed)
         }
     }

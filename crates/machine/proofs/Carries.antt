@@ -28,21 +28,22 @@ use Rattle.rules.proofs.Decides.{Decides, holds, fails, passes}
 use Rattle.machine.specs.State.{State}
 use Rattle.machine.specs.Timed.{Timed, timed}
 use Rattle.machine.specs.Saves.{isName, Saves, saveLimit, placeOf, placeFor, keptUnder, Stored, stored, replaced, removed, saving, returning, forgetting}
-use Rattle.machine.specs.Machine.{asLent, no, listedAs, reportedAs, Listed, entriesAre, refusedWith, listing, Turn, turn, drawn, stepsIn, timesWith, showing, lists, sharing, reports, choosing, stepsWith, foundAs, movesTo, depthLimit, isDepth, searchedAs, searches}
-use Rattle.machine.specs.Machine.{Held, moved, movedIn, timedOf, storedIn, Machine, closed, holding, onState, onClock, onSaves, Request, list′, step′, report′, search′, timed′, save′, return′, forget′, Ask, open′, openSteady′, on′, acts, Part, hasLengths, Call, call, opens, onMachine, asked, calls}
+use Rattle.machine.specs.Machine.{asLent, no, listedAs, reportedAs, Listed, entriesAre, refusedWith, listing, Turn, turn, drawn, stepsIn, timesWith, ranAs, runsOver, showing, lists, sharing, reports, choosing, stepsWith, foundAs, movesTo, depthLimit, isDepth, searchedAs, searches}
+use Rattle.machine.specs.Machine.{Held, moved, movedIn, timedOf, storedIn, Machine, closed, holding, onState, onClock, onSaves, Request, list′, step′, report′, search′, timed′, run′, save′, return′, forget′, Ask, open′, openSteady′, on′, acts, Part, hasLengths, Call, call, opens, onMachine, asked, calls}
 use Rattle.machine.specs.Questions.{no12, no13, no14, yes14, Steps, no15, no16, no17, no18, no19, yes19, Times, no15-19, no23, no24, no25, yes25}
 use Rattle.machine.specs.Questions as questions
 use Rattle.machine.specs.Results as results
-use Rattle.machine.specs.Results.{Runs, Lists, Chooses, Names, Lent, Carries, under1, under2-10, under11, under12, under13, under14, under15-19, under23-25, under20, return21, forget21, save22, under2-29, under26, under27}
+use Rattle.machine.specs.Results.{Runs, Lists, Chooses, Names, Whole, WholeAsk, RunEnds, unrefused, refused12-15, refused17-19, refused23-25, Lent, Carries, under1, under2-10, under11, under12, under13, under14, under15-19, under23-25, under20, return21, forget21, save22, under2-29, under26, under27}
 use Rattle.machine.proofs.Lent.{lent-so}
 use Rattle.machine.proofs.Listing as listing
 use Rattle.machine.proofs.Stepping as stepping
 use Rattle.machine.proofs.Timing as timing
+use Rattle.machine.proofs.Running.{run-carries}
 
 -- what a turn from x by a request carries, when it leaves x, and that it is not answered as 1 or 11 are
 record Kept {M : Type 0} (x : M) (r : Request) (t : Turn M) : Type 0 where
   carries : Carries (on′ r) (t .answer)
-  stays : (t .answer .number ≡ 0 → ⊥) → t .machine ≡ x
+  stays : Whole r → (t .answer .number ≡ 0 → ⊥) → t .machine ≡ x
   one : t .answer .number ≡ 1 → ⊥
   eleven : t .answer .number ≡ 11 → ⊥
 
@@ -53,37 +54,37 @@ unfolding lists showing no listedAs Lists
 list-kept m s = go (listing.asked m s (listing m s) .0 refl)
   where
     go : {l : Listed} → questions.Lists m s l → Kept s list′ (showing s l)
-    go (no12 f) = record { carries = under12 _ _ tt; stays = λ n. refl; one = λ e. omega arith; eleven = λ e. omega arith }
-    go (no13 e h l) = record { carries = under13 tt; stays = λ n. refl; one = λ e. omega arith; eleven = λ e. omega arith }
-    go (no14 e h l f) = record { carries = under14 tt; stays = λ n. refl; one = λ e. omega arith; eleven = λ e. omega arith }
-    go (yes14 e h l f) = record { carries = results.lists _; stays = λ n. refl; one = λ e. omega arith; eleven = λ e. omega arith }
+    go (no12 f) = record { carries = under12 _ _ tt; stays = λ w n. refl; one = λ e. omega arith; eleven = λ e. omega arith }
+    go (no13 e h l) = record { carries = under13 tt; stays = λ w n. refl; one = λ e. omega arith; eleven = λ e. omega arith }
+    go (no14 e h l f) = record { carries = under14 tt; stays = λ w n. refl; one = λ e. omega arith; eleven = λ e. omega arith }
+    go (yes14 e h l f) = record { carries = results.lists _; stays = λ w n. refl; one = λ e. omega arith; eleven = λ e. omega arith }
 
 report-kept : (m : Resolved.Model) (s : State) → Kept s report′ (reports m s)
 unfolding reports sharing no reportedAs Lists
 report-kept m s = go (listing.asked m s (listing m s) .0 refl)
   where
     go : {l : Listed} → questions.Lists m s l → Kept s report′ (sharing m s l)
-    go (no12 f) = record { carries = under12 _ _ tt; stays = λ n. refl; one = λ e. omega arith; eleven = λ e. omega arith }
-    go (no13 e h l) = record { carries = under13 tt; stays = λ n. refl; one = λ e. omega arith; eleven = λ e. omega arith }
-    go (no14 e h l f) = record { carries = under14 tt; stays = λ n. refl; one = λ e. omega arith; eleven = λ e. omega arith }
-    go (yes14 e h l f) = record { carries = results.reports _ _; stays = λ n. refl; one = λ e. omega arith; eleven = λ e. omega arith }
+    go (no12 f) = record { carries = under12 _ _ tt; stays = λ w n. refl; one = λ e. omega arith; eleven = λ e. omega arith }
+    go (no13 e h l) = record { carries = under13 tt; stays = λ w n. refl; one = λ e. omega arith; eleven = λ e. omega arith }
+    go (no14 e h l f) = record { carries = under14 tt; stays = λ w n. refl; one = λ e. omega arith; eleven = λ e. omega arith }
+    go (yes14 e h l f) = record { carries = results.reports _ _; stays = λ w n. refl; one = λ e. omega arith; eleven = λ e. omega arith }
 
 step-kept : (d : ℕ) (m : Resolved.Model) (s : State) → Kept s (step′ d) (stepsWith d m s)
 unfolding stepsWith choosing no listedAs Lists Chooses
 step-kept d m s = go (listing.asked m s (listing m s) .0 refl)
   where
     taken : {es : List Entry} {t : Turn State} → Steps m s es d t → Kept s (step′ d) t
-    taken (no15 e) = record { carries = under15-19 15 _ tt (omega arith) (omega arith); stays = λ n. refl; one = λ e. omega arith; eleven = λ e. omega arith }
-    taken (no16 l g) = record { carries = under15-19 16 _ tt (omega arith) (omega arith); stays = λ n. refl; one = λ e. omega arith; eleven = λ e. omega arith }
-    taken (no17 o g) = record { carries = under15-19 17 _ tt (omega arith) (omega arith); stays = λ n. refl; one = λ e. omega arith; eleven = λ e. omega arith }
-    taken (no18 r l) = record { carries = under15-19 18 _ tt (omega arith) (omega arith); stays = λ n. refl; one = λ e. omega arith; eleven = λ e. omega arith }
-    taken (no19 r l f) = record { carries = under15-19 19 _ tt (omega arith) (omega arith); stays = λ n. refl; one = λ e. omega arith; eleven = λ e. omega arith }
-    taken (yes19 r l f) = record { carries = results.steps _ _ tt; stays = λ n. absurd (n refl); one = λ e. omega arith; eleven = λ e. omega arith }
+    taken (no15 e) = record { carries = under15-19 15 _ tt (omega arith) (omega arith); stays = λ w n. refl; one = λ e. omega arith; eleven = λ e. omega arith }
+    taken (no16 l g) = record { carries = under15-19 16 _ tt (omega arith) (omega arith); stays = λ w n. refl; one = λ e. omega arith; eleven = λ e. omega arith }
+    taken (no17 o g) = record { carries = under15-19 17 _ tt (omega arith) (omega arith); stays = λ w n. refl; one = λ e. omega arith; eleven = λ e. omega arith }
+    taken (no18 r l) = record { carries = under15-19 18 _ tt (omega arith) (omega arith); stays = λ w n. refl; one = λ e. omega arith; eleven = λ e. omega arith }
+    taken (no19 r l f) = record { carries = under15-19 19 _ tt (omega arith) (omega arith); stays = λ w n. refl; one = λ e. omega arith; eleven = λ e. omega arith }
+    taken (yes19 r l f) = record { carries = results.steps _ _ tt; stays = λ w n. absurd (n refl); one = λ e. omega arith; eleven = λ e. omega arith }
 
     go : {l : Listed} → questions.Lists m s l → Kept s (step′ d) (choosing m s d l)
-    go (no12 f) = record { carries = under12 _ _ tt; stays = λ n. refl; one = λ e. omega arith; eleven = λ e. omega arith }
-    go (no13 e h l) = record { carries = under13 tt; stays = λ n. refl; one = λ e. omega arith; eleven = λ e. omega arith }
-    go (no14 e h l f) = record { carries = under14 tt; stays = λ n. refl; one = λ e. omega arith; eleven = λ e. omega arith }
+    go (no12 f) = record { carries = under12 _ _ tt; stays = λ w n. refl; one = λ e. omega arith; eleven = λ e. omega arith }
+    go (no13 e h l) = record { carries = under13 tt; stays = λ w n. refl; one = λ e. omega arith; eleven = λ e. omega arith }
+    go (no14 e h l f) = record { carries = under14 tt; stays = λ w n. refl; one = λ e. omega arith; eleven = λ e. omega arith }
     go (yes14 {es = es} e h l f) = taken (stepping.asked m s es h d (drawn m s es d) .0 refl)
 
 search-kept : (x : List ℕ) (d : ℕ) (m : Resolved.Model) (s : State) → Kept s (search′ x d) (searches x d m s)
@@ -94,28 +95,41 @@ search-kept x d m s = by (leb 1 d) (leb d depthLimit) refl (walk.search (movesTo
     by true true l w (earliest {r = r} p f) =
         let k : length r ≤ d = p .short in
         let e : d ≤ depthLimit = leb-true d depthLimit l in
-        record { carries = results.searches r (omega arith); stays = λ n. refl; one = λ e. omega arith; eleven = λ e. omega arith }
-    by true true l w (none-at-all f k) = record { carries = results.searches [] (omega arith); stays = λ n. refl; one = λ e. omega arith; eleven = λ e. omega arith }
-    by true true l w (none-known f k) = record { carries = under27; stays = λ n. refl; one = λ e. omega arith; eleven = λ e. omega arith }
-    by true false l w k = record { carries = under26; stays = λ n. refl; one = λ e. omega arith; eleven = λ e. omega arith }
-    by false b l w k = record { carries = under26; stays = λ n. refl; one = λ e. omega arith; eleven = λ e. omega arith }
+        record { carries = results.searches r (omega arith); stays = λ w n. refl; one = λ e. omega arith; eleven = λ e. omega arith }
+    by true true l w (none-at-all f k) = record { carries = results.searches [] (omega arith); stays = λ w n. refl; one = λ e. omega arith; eleven = λ e. omega arith }
+    by true true l w (none-known f k) = record { carries = under27; stays = λ w n. refl; one = λ e. omega arith; eleven = λ e. omega arith }
+    by true false l w k = record { carries = under26; stays = λ w n. refl; one = λ e. omega arith; eleven = λ e. omega arith }
+    by false b l w k = record { carries = under26; stays = λ w n. refl; one = λ e. omega arith; eleven = λ e. omega arith }
 
 timed-kept : (ds : List ℕ) (d : ℕ) (m : Resolved.Model) (s : State) (c : Clock) → Kept (timed s c) (timed′ ds d) (timesWith ds d m s c)
 unfolding timesWith stepsWith choosing stepsIn no listedAs Lists Chooses
 timed-kept ds d m s c = go (listing.asked m s (listing m s) .0 refl)
   where
     taken : {es : List Entry} {t : Turn Timed} → Times m s c es ds d t → Kept (timed s c) (timed′ ds d) t
-    taken (no15-19 n l a) = let k = timing.step-numbers n l a in record { carries = under15-19 n _ tt (k .0) (k .1); stays = λ n. refl; one = λ e. omega arith; eleven = λ e. omega arith }
-    taken (no23 i a w) = record { carries = under23-25 23 _ (omega arith) (omega arith); stays = λ n. refl; one = λ e. omega arith; eleven = λ e. omega arith }
-    taken (no24 i a w) = record { carries = under23-25 24 _ (omega arith) (omega arith); stays = λ n. refl; one = λ e. omega arith; eleven = λ e. omega arith }
-    taken (no25 i a w p) = record { carries = under23-25 25 _ (omega arith) (omega arith); stays = λ n. refl; one = λ e. omega arith; eleven = λ e. omega arith }
-    taken (yes25 i a w p q) = record { carries = results.steps _ _ tt; stays = λ n. absurd (n refl); one = λ e. omega arith; eleven = λ e. omega arith }
+    taken (no15-19 n l a) = let k = timing.step-numbers n l a in record { carries = under15-19 n _ tt (k .0) (k .1); stays = λ w n. refl; one = λ e. omega arith; eleven = λ e. omega arith }
+    taken (no23 i a w) = record { carries = under23-25 23 _ (omega arith) (omega arith); stays = λ w n. refl; one = λ e. omega arith; eleven = λ e. omega arith }
+    taken (no24 i a w) = record { carries = under23-25 24 _ (omega arith) (omega arith); stays = λ w n. refl; one = λ e. omega arith; eleven = λ e. omega arith }
+    taken (no25 i a w p) = record { carries = under23-25 25 _ (omega arith) (omega arith); stays = λ w n. refl; one = λ e. omega arith; eleven = λ e. omega arith }
+    taken (yes25 i a w p q) = record { carries = results.steps _ _ tt; stays = λ w n. absurd (n refl); one = λ e. omega arith; eleven = λ e. omega arith }
 
     go : {l : Listed} → questions.Lists m s l → Kept (timed s c) (timed′ ds d) (stepsIn c ds s (choosing m s d l))
-    go (no12 f) = record { carries = under12 _ _ tt; stays = λ n. refl; one = λ e. omega arith; eleven = λ e. omega arith }
-    go (no13 e h l) = record { carries = under13 tt; stays = λ n. refl; one = λ e. omega arith; eleven = λ e. omega arith }
-    go (no14 e h l f) = record { carries = under14 tt; stays = λ n. refl; one = λ e. omega arith; eleven = λ e. omega arith }
+    go (no12 f) = record { carries = under12 _ _ tt; stays = λ w n. refl; one = λ e. omega arith; eleven = λ e. omega arith }
+    go (no13 e h l) = record { carries = under13 tt; stays = λ w n. refl; one = λ e. omega arith; eleven = λ e. omega arith }
+    go (no14 e h l f) = record { carries = under14 tt; stays = λ w n. refl; one = λ e. omega arith; eleven = λ e. omega arith }
     go (yes14 {es = es} e h l f) = taken (timing.asked m s c es h ds d (stepsIn c ds s (drawn m s es d)) .0 refl)
+
+-- R.6: neither 1 nor 11 is a run's
+run-not : {n : ℕ} → RunEnds n → (n ≡ 1 → ⊥) × (n ≡ 11 → ⊥)
+run-not unrefused = (λ e. omega arith, λ e. omega arith)
+run-not (refused12-15 a b) = (λ e. omega arith, λ e. omega arith)
+run-not (refused17-19 a b) = (λ e. omega arith, λ e. omega arith)
+run-not (refused23-25 a b) = (λ e. omega arith, λ e. omega arith)
+
+run-kept : (ws vs : List ℕ) (n l : ℕ) (m : Resolved.Model) (s : State) (c : Clock) → Kept (timed s c) (run′ ws vs n l) (runsOver ws vs n l m s c)
+unfolding runsOver ranAs Whole
+run-kept ws vs n l m s c =
+    let k = run-carries ws vs n l m s c in
+    record { carries = results.runs _ k; stays = λ w z. absurd w; one = run-not (k .ends) .0; eleven = run-not (k .ends) .1 }
 
 -- ---- turns of state, clock and saves
 
@@ -166,19 +180,19 @@ module _ (n : List ℕ) (s : Timed) (ss : Saves) where
 -- one that turns the state
 state-kept : (r : Request) (f : Resolved.Model → State → Turn State) (h : Held) → Kept (h .state) r (f (h .model) (h .state)) → Kept h r (onState f h)
 unfolding onState
-state-kept r f h k = record { carries = k .carries; stays = λ n. ap (moved h) (k .stays n); one = k .one; eleven = k .eleven }
+state-kept r f h k = record { carries = k .carries; stays = λ w n. ap (moved h) (k .stays w n); one = k .one; eleven = k .eleven }
 
 -- one that turns the state and the clock
 clock-kept : (r : Request) (f : Resolved.Model → State → Clock → Turn Timed) (h : Held) → Kept (timed (h .state) (h .clock)) r (f (h .model) (h .state) (h .clock)) → Kept h r (onClock f h)
 unfolding onClock
-clock-kept r f h k = record { carries = k .carries; stays = λ n. ap (movedIn h) (k .stays n); one = k .one; eleven = k .eleven }
+clock-kept r f h k = record { carries = k .carries; stays = λ w n. ap (movedIn h) (k .stays w n); one = k .one; eleven = k .eleven }
 
 -- one that turns state, clock and saves
 saves-kept : (r : Request) (f : Timed → Saves → Stored) (h : Held) → StoredKept (timedOf h) (h .saves) r (f (timedOf h) (h .saves)) → Kept h r (onSaves f h)
 unfolding onSaves no
 saves-kept r f h k = record {
   carries = k .carries;
-  stays = λ n. ap₂ (λ (t : Timed) (ss : Saves). storedIn h (stored 0 t ss)) (k .stays n .0) (k .stays n .1);
+  stays = λ w n. ap₂ (λ (t : Timed) (ss : Saves). storedIn h (stored 0 t ss)) (k .stays n .0) (k .stays n .1);
   one = k .one;
   eleven = k .eleven;
 }
@@ -190,6 +204,7 @@ kept (step′ d) h = state-kept (step′ d) (stepsWith d) h (step-kept d (h .mod
 kept report′ h = state-kept report′ reports h (report-kept (h .model) (h .state))
 kept (search′ x d) h = state-kept (search′ x d) (searches x d) h (search-kept x d (h .model) (h .state))
 kept (timed′ ds d) h = clock-kept (timed′ ds d) (timesWith ds d) h (timed-kept ds d (h .model) (h .state) (h .clock))
+kept (run′ ws vs n l) h = clock-kept (run′ ws vs n l) (runsOver ws vs n l) h (run-kept ws vs n l (h .model) (h .state) (h .clock))
 kept (save′ n) h = saves-kept (save′ n) (saving n) h (save-kept n (timedOf h) (h .saves))
 kept (return′ n) h = saves-kept (return′ n) (returning n) h (return-kept n (timedOf h) (h .saves))
 kept (forget′ n) h = saves-kept (forget′ n) (forgetting n) h (forget-kept n (timedOf h) (h .saves))
@@ -243,15 +258,15 @@ carries y c = by (hasLengths (c .ask) (c .lengths) (c .output))
     by true = asked-carries y (c .ask)
     by false = under1
 
-asked-stays : (y : Machine) (k : Ask) → Runs k → (asked y k .answer .number ≡ 0 → ⊥) → asked y k .machine ≡ y
-unfolding asked onMachine Runs
+asked-stays : (y : Machine) (k : Ask) → WholeAsk k → (asked y k .answer .number ≡ 0 → ⊥) → asked y k .machine ≡ y
+unfolding asked onMachine WholeAsk
 asked-stays y (open′ text) r n = absurd r
 asked-stays y (openSteady′ text) r n = absurd r
 asked-stays closed (on′ r) u n = refl
-asked-stays (holding h) (on′ r) u n = ap holding (kept r h .stays n)
+asked-stays (holding h) (on′ r) u n = ap holding (kept r h .stays u n)
 
--- 01, Listing and stepping: no refusal alters the state
-pub refusal-stays : (y : Machine) (c : Call) → Runs (c .ask) → (calls y c .answer .number ≡ 0 → ⊥) → calls y c .machine ≡ y
+-- 01, Listing and stepping: no refusal alters the state, but for a run's, R.7
+pub refusal-stays : (y : Machine) (c : Call) → WholeAsk (c .ask) → (calls y c .answer .number ≡ 0 → ⊥) → calls y c .machine ≡ y
 unfolding calls
 refusal-stays y c r = by (hasLengths (c .ask) (c .lengths) (c .output))
   where

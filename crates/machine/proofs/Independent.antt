@@ -18,7 +18,7 @@ use Rattle.rules.proofs.Independent.{commutes}
 use Rattle.rules.proofs.Judged.{independent-exactly}
 use Rattle.machine.specs.Offer.{branches}
 use Rattle.machine.specs.State.{State}
-use Rattle.machine.specs.Machine.{Shown, asLent, zeroed, filled, reported, Answer, no, listedAs, Listed, entriesAre, refusedWith, listing, entryState, Turn, turn, drawn, choosing, stepsWith, Held, moved, Machine, closed, holding, onState, step′, acts, onMachine, Call, after}
+use Rattle.machine.specs.Machine.{Shown, asLent, zeroed, filled, reported, happened, Answer, no, listedAs, Listed, entriesAre, refusedWith, listing, entryState, Turn, turn, drawn, choosing, stepsWith, Held, moved, Machine, closed, holding, onState, step′, acts, onMachine, Call, after}
 use Rattle.machine.specs.Questions.{IsListing, Lists, no12, no13, no14, yes14, Steps, no15, no16, no17, no18, no19, yes19}
 use Rattle.machine.specs.Independent.{Takes}
 use Rattle.machine.proofs.Listing.{asked, accepted}
@@ -31,6 +31,7 @@ shownIn asLent es = es
 shownIn zeroed es = es
 shownIn (filled es) ds = es
 shownIn (reported ns) es = es
+shownIn (happened ds) es = es
 
 -- all that is held, once the entry with key k is taken: the state is the one that it stands for
 abbrev pub after-entry : Held → Key → Held

@@ -20,10 +20,11 @@ use Rattle.rules.specs.Listing.{Entry}
 use Rattle.machine.specs.State.{State, GoodState}
 use Rattle.machine.specs.Timed.{Timed, timed, GoodTimed}
 use Rattle.machine.specs.Saves.{Saves, Stored, saving, returning, forgetting}
-use Rattle.machine.specs.Machine.{Listed, entriesAre, refusedWith, listing, Turn, turn, drawn, refusedAs, withWait, stepsIn, timesWith, showing, lists, sharing, reports, choosing, stepsWith, searches, Held, held, timedOf, Good, onState, onClock, onSaves, Request, list′, step′, report′, search′, timed′, save′, return′, forget′, acts, openedState}
+use Rattle.machine.specs.Machine.{Listed, entriesAre, refusedWith, listing, Turn, turn, drawn, refusedAs, withWait, stepsIn, timesWith, runsOver, showing, lists, sharing, reports, choosing, stepsWith, searches, Held, held, timedOf, Good, onState, onClock, onSaves, Request, list′, step′, report′, search′, timed′, run′, save′, return′, forget′, acts, openedState}
 use Rattle.machine.specs.Questions.{Steps, no15, no16, no17, no18, no19, yes19}
 use Rattle.machine.proofs.Listing.{accepted}
 use Rattle.machine.proofs.Stepping as stepping
+use Rattle.machine.proofs.Running.{run-keeps}
 use Rattle.machine.proofs.Stays as stays
 use Rattle.machine.proofs.Saves.{no-saves-hold, StoredOf, saving-holds, returning-holds, forgetting-holds}
 
@@ -108,6 +109,12 @@ module _ (m : Resolved.Model) (s : State) (c : Clock) (k : GoodModel m) (g : Goo
           go true false = record { state = g; clock = r }
           go false y = record { state = h; clock = r }
 
+-- R.7: a run keeps what its timed steps keep
+runs-good : (ws vs : List ℕ) (n l : ℕ) (m : Resolved.Model) (s : State) (c : Clock) → GoodModel m → GoodState m s → InRange c → GoodTimed m (runsOver ws vs n l m s c .machine)
+unfolding runsOver
+runs-good ws vs n l m s c k g r =
+    run-keeps ws vs m (GoodTimed m) (λ a. Unit {0}) tt (λ ds d t f h. (times-good m (t .state) (t .clock) k (h .state) (h .clock) ds d, tt)) n _ s c (record { state = g; clock = r }) .0
+
 -- ---- requests
 
 -- one that turns the state
@@ -135,6 +142,7 @@ acts-good (step′ d) h k g = state-good (stepsWith d) h g (step-good (h .model)
 acts-good report′ h k g = state-good reports h g (report-good (h .model) (h .state) (g .state))
 acts-good (search′ x d) h k g = state-good (searches x d) h g (search-good (h .model) (h .state) (g .state) x d)
 acts-good (timed′ ds d) h k g = clock-good (timesWith ds d) h g (times-good (h .model) (h .state) (h .clock) k (g .state) (g .clock) ds d)
+acts-good (run′ ws vs n l) h k g = clock-good (runsOver ws vs n l) h g (runs-good ws vs n l (h .model) (h .state) (h .clock) k (g .state) (g .clock))
 acts-good (save′ n) h k g = saves-good (saving n) h (saving-holds (GoodTimed (h .model)) n (timedOf h) (h .saves) (timed-good h g) (g .saves))
 acts-good (return′ n) h k g = saves-good (returning n) h (returning-holds (GoodTimed (h .model)) n (timedOf h) (h .saves) (timed-good h g) (g .saves))
 acts-good (forget′ n) h k g = saves-good (forgetting n) h (forgetting-holds (GoodTimed (h .model)) n (timedOf h) (h .saves) (timed-good h g) (g .saves))
@@ -147,6 +155,7 @@ same-model (step′ d) h = refl
 same-model report′ h = refl
 same-model (search′ x d) h = refl
 same-model (timed′ ds d) h = refl
+same-model (run′ ws vs n l) h = refl
 same-model (save′ n) h = refl
 same-model (return′ n) h = refl
 same-model (forget′ n) h = refl

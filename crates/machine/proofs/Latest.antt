@@ -16,7 +16,7 @@ use Rattle.model.proofs.Opened as opened
 use Rattle.rules.proofs.Decides.{passes}
 use Rattle.machine.specs.Timed.{Timed, GoodTimed}
 use Rattle.machine.specs.Saves.{isName, same, saved, saveLimit, Saves, noSaves, named, placeOf, placeFor, keptUnder, GoodSaves, Stored, stored, replaced, removed, saving, returning, forgetting}
-use Rattle.machine.specs.Machine.{asLent, no, turn, Held, timedOf, storedIn, Machine, closed, holding, onState, onClock, onSaves, Request, list′, step′, report′, search′, timed′, save′, return′, forget′, Ask, open′, openSteady′, on′, acts, Call, hasLengths, opens, onMachine, asked, calls, after}
+use Rattle.machine.specs.Machine.{asLent, no, turn, Held, timedOf, storedIn, Machine, closed, holding, onState, onClock, onSaves, Request, list′, step′, report′, search′, timed′, run′, save′, return′, forget′, Ask, open′, openSteady′, on′, acts, Call, hasLengths, opens, onMachine, asked, calls, after}
 use Rattle.machine.specs.Results.{Lent}
 use Rattle.machine.specs.Latest.{keptIn, savesName, forgetsName, savesUnder, forgets, alters, Without, done, more, Saved, Latest, Known, Finds}
 use Rattle.machine.proofs.Lent.{lent-so}
@@ -132,6 +132,7 @@ module _ (n : List ℕ) where
     acts-met report′ = left h _ report′ _ refl refl refl
     acts-met (search′ x d) = left h _ (search′ x d) _ refl refl refl
     acts-met (timed′ ds d) = left h _ (timed′ ds d) _ refl refl refl
+    acts-met (run′ ws vs k l) = left h _ (run′ ws vs k l) _ refl refl refl
     acts-met (save′ k) = save-step k
     acts-met (return′ k) = return-step k
     acts-met (forget′ k) = forget-step k
@@ -198,6 +199,7 @@ saved-is n (on′ (step′ d)) a t = not-both true refl (sym t)
 saved-is n (on′ report′) a t = not-both true refl (sym t)
 saved-is n (on′ (search′ x d)) a t = not-both true refl (sym t)
 saved-is n (on′ (timed′ ds d)) a t = not-both true refl (sym t)
+saved-is n (on′ (run′ ws vs k l)) a t = not-both true refl (sym t)
 saved-is n (on′ (save′ k)) a t = by (same k n) (eqb a 0) refl refl t
   where
     by : (b c : Bool) → same k n ≡ b → eqb a 0 ≡ c → (b && c) ≡ true → (on′ (save′ k) ≡ on′ (save′ n)) × (a ≡ 0)

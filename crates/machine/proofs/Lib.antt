@@ -7,6 +7,7 @@ pub mod Arguments
 pub mod Becomes
 pub mod Stepping
 pub mod Timing
+pub mod Running
 pub mod Everys
 pub mod Parts
 pub mod Offering

@@ -28,8 +28,8 @@ use Rattle.runs.specs.Walk as walk
 use Rattle.machine.specs.State.{State}
 use Rattle.machine.specs.Timed.{Timed, timed}
 use Rattle.machine.specs.Saves.{isName, Saves, SavesOf, saveLimit, placeOf, placeFor, keptUnder, Stored, stored, replaced, removed, saving, returning, forgetting}
-use Rattle.machine.specs.Machine.{asLent, Answer, no, listedAs, reportedAs, entryLimit, totalLimit, Listed, entriesAre, refusedWith, counted, listing, Turn, turn, drawn, refusedAs, withWait, stepsIn, timesWith, showing, lists, sharing, reports, choosing, stepsWith, foundAs, movesTo, isDepth, searchedAs, searches}
-use Rattle.machine.specs.Machine.{Held, held, timedOf, Good, Machine, closed, holding, onState, onClock, onSaves, Request, list′, step′, report′, search′, timed′, save′, return′, forget′, Ask, open′, openSteady′, on′, acts, Part, hasLengths, Call, call, openedState, onMachine, asked, calls, after}
+use Rattle.machine.specs.Machine.{asLent, Answer, no, listedAs, reportedAs, entryLimit, totalLimit, Listed, entriesAre, refusedWith, counted, listing, Turn, turn, drawn, refusedAs, withWait, stepsIn, timesWith, ranAs, runsOver, showing, lists, sharing, reports, choosing, stepsWith, foundAs, movesTo, isDepth, searchedAs, searches}
+use Rattle.machine.specs.Machine.{Held, held, timedOf, Good, Machine, closed, holding, onState, onClock, onSaves, Request, list′, step′, report′, search′, timed′, run′, save′, return′, forget′, Ask, open′, openSteady′, on′, acts, Part, hasLengths, Call, call, openedState, onMachine, asked, calls, after}
 use Rattle.machine.specs.Machine as machine
 use Rattle.machine.specs.Questions.{no12, no13, no14, yes14}
 use Rattle.machine.specs.Questions as questions
@@ -40,6 +40,7 @@ use Rattle.machine.proofs.Listing as listing
 use Rattle.machine.proofs.Keeps.{acts-good, same-model}
 use Rattle.machine.proofs.Keeps as keeps
 use Rattle.machine.proofs.Saves.{no-saves-hold, saving-holds, returning-holds, forgetting-holds}
+use Rattle.machine.proofs.Running.{run-keeps}
 use Rattle.machine.proofs.Steady.{Kept, drawn-kept}
 
 -- ---- requests
@@ -145,6 +146,20 @@ module _ (s : State) (c : Clock) (ds : List ℕ) (t : Turn State) (k : Kept s t)
           go true = k .not-eighteen l
           go false = n
 
+-- a run keeps what its timed steps keep
+run-steady : (ws vs : List ℕ) (n l : ℕ) (h : Held) → Steady (h .model) → length (h .state .processes) ≤ processLimit
+    → let t = runsOver ws vs n l (h .model) (h .state) (h .clock) in (length (t .machine .state .processes) ≤ length (h .state .processes)) × (t .answer .number ≡ 18 → ⊥)
+unfolding runsOver ranAs timesWith
+run-steady ws vs n l h k few =
+    run-keeps ws vs (h .model) (λ t. length (t .state .processes) ≤ length (h .state .processes)) (λ a. a ≡ 18 → ⊥) (λ e. omega arith)
+    (λ ds d t f g. by ds d t g) n _ (h .state) (h .clock) (omega arith)
+  where
+    by : (ds : List ℕ) (d : ℕ) (t : Timed) → length (t .state .processes) ≤ length (h .state .processes)
+        → let x = timesWith ds d (h .model) (t .state) (t .clock) in (length (x .machine .state .processes) ≤ length (h .state .processes)) × (x .answer .number ≡ 18 → ⊥)
+    by ds d t g =
+        let a = step-kept (h .model) (t .state) k d in
+        (omega (arith, timed-few (t .state) (t .clock) ds _ a), timed-not (t .state) (t .clock) ds _ a (omega arith))
+
 -- what is kept of all that is held
 module _ (n : List ℕ) (s : Timed) (ss : Saves) where
   save-not : saving n s ss .number ≡ 18 → ⊥
@@ -193,6 +208,7 @@ request-not (step′ d) h f = step-kept (h .model) (h .state) (f .steady) d .not
 request-not report′ h f = report-not (h .model) (h .state)
 request-not (search′ x d) h f = search-not (h .model) (h .state) x d
 request-not (timed′ ds d) h f = timed-not (h .state) (h .clock) ds _ (step-kept (h .model) (h .state) (f .steady) d) (f .good .state .few-processes)
+request-not (run′ ws vs n l) h f = run-steady ws vs n l h (f .steady) (f .good .state .few-processes) .1
 request-not (save′ n) h f = save-not n (timedOf h) (h .saves)
 request-not (return′ n) h f = return-not n (timedOf h) (h .saves)
 request-not (forget′ n) h f = forget-not n (timedOf h) (h .saves)
@@ -204,6 +220,7 @@ step-few (step′ d) h f i = step-kept (h .model) (h .state) (f .steady) d .few
 step-few report′ h f i = absurd i
 step-few (search′ x d) h f i = absurd i
 step-few (timed′ ds d) h f i = timed-few (h .state) (h .clock) ds _ (step-kept (h .model) (h .state) (f .steady) d)
+step-few (run′ ws vs n l) h f i = run-steady ws vs n l h (f .steady) (f .good .state .few-processes) .0
 step-few (save′ n) h f i = absurd i
 step-few (return′ n) h f i = absurd i
 step-few (forget′ n) h f i = absurd i
@@ -220,6 +237,7 @@ request-within (step′ d) h f = record { now = omega (arith, step-kept (h .mode
 request-within report′ h f = record { now = omega (arith, report-few (h .model) (h .state), f .now); kept = f .kept }
 request-within (search′ x d) h f = record { now = unfold searches in f .now; kept = f .kept }
 request-within (timed′ ds d) h f = record { now = omega (arith, timed-few (h .state) (h .clock) ds _ (step-kept (h .model) (h .state) (f .steady) d), f .now); kept = f .kept }
+request-within (run′ ws vs k l) h f = record { now = omega (arith, run-steady ws vs k l h (f .steady) (f .good .state .few-processes) .0, f .now); kept = f .kept }
 request-within {n} (save′ k) h f = let x = saving-holds (Few n) k (timedOf h) (h .saves) (f .now) (f .kept) in record { now = x .kept; kept = x .saves }
 request-within {n} (return′ k) h f = let x = returning-holds (Few n) k (timedOf h) (h .saves) (f .now) (f .kept) in record { now = x .kept; kept = x .saves }
 request-within {n} (forget′ k) h f = let x = forgetting-holds (Few n) k (timedOf h) (h .saves) (f .now) (f .kept) in record { now = x .kept; kept = x .saves }

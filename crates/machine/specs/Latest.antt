@@ -8,7 +8,7 @@ use Prim.Native.Nat.{ℕ}
 use lib.Dec.{eqb}
 use Rattle.machine.specs.Timed.{Timed}
 use Rattle.machine.specs.Saves.{same, keptUnder}
-use Rattle.machine.specs.Machine.{Held, timedOf, Machine, closed, holding, Request, list′, step′, report′, search′, timed′, save′, return′, forget′, Ask, open′, openSteady′, on′, Call, calls, after}
+use Rattle.machine.specs.Machine.{Held, timedOf, Machine, closed, holding, Request, list′, step′, report′, search′, timed′, run′, save′, return′, forget′, Ask, open′, openSteady′, on′, Call, calls, after}
 
 -- the state and the clock that the machine has under a name
 unfoldable pub keptIn : List ℕ → Machine → Option Timed
@@ -23,6 +23,7 @@ savesName n (step′ d) = false
 savesName n report′ = false
 savesName n (search′ x d) = false
 savesName n (timed′ ds d) = false
+savesName n (run′ ws vs k l) = false
 savesName n (save′ k) = same k n
 savesName n (return′ k) = false
 savesName n (forget′ k) = false
@@ -33,6 +34,7 @@ forgetsName n (step′ d) = false
 forgetsName n report′ = false
 forgetsName n (search′ x d) = false
 forgetsName n (timed′ ds d) = false
+forgetsName n (run′ ws vs k l) = false
 forgetsName n (save′ k) = false
 forgetsName n (return′ k) = false
 forgetsName n (forget′ k) = same k n

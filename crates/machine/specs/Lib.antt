@@ -7,6 +7,7 @@ pub mod Timed
 pub mod Saves
 pub mod SavesRows
 pub mod Machine
+pub mod Runs
 pub mod Questions
 pub mod Specimens
 pub mod Rows

@@ -3,10 +3,10 @@
 use mathlib.Core.List.{List, [], _∷_, _++_, map}
 use mathlib.Core.Bool.{Bool, true, false, cond, _&&_, _||_}
 use mathlib.Core.Option.{Option, none, some, Option·elim}
-use Prim.Native.Nat.{ℕ, zero, suc, _+_, _*_}
+use Prim.Native.Nat.{ℕ, zero, suc, _+_, _-_, _*_, _/_, min}
 use lib.Dec.{eqb, leb}
 use lib.IntN.{ℤ}
-use lib.ListN.{length, getElem?}
+use lib.ListN.{length, drop, getElem?}
 use Rattle.token.specs.Token.{sameBytes}
 use Rattle.token.specs.Questions.{textLimit}
 use Rattle.model.specs.Resolved
@@ -20,6 +20,9 @@ use Rattle.rules.specs.Draw.{weights, total, chosen}
 use Rattle.rules.specs.Step as steps
 use Rattle.runs.specs.Tree as tree
 use Rattle.runs.specs.Walk as walk
+use Rattle.words.specs.declared.Drawn.{Drawn}
+use Rattle.words.specs.declared.Drawn.the-variants.{Given, Ended}
+use Rattle.words.specs.Words.{drawOf}
 use Rattle.clock.specs.declared.Clock.{Clock}
 use Rattle.clock.specs.declared.Brought.{Brought}
 use Rattle.clock.specs.Clock.{freshClock, InRange, broughtBy}
@@ -47,14 +50,25 @@ entryWidth = 7
 abbrev pub listingLength : ℕ
 listingLength = entryLimit * entryWidth
 
+-- R.4: the numbers of an event: the ticks, and the seven of the entry
+abbrev pub eventWidth : ℕ
+eventWidth = 8
+
 -- ---- answers
 
--- 01, Rule machine: the listing buffer after a call, as it was lent where this document neither fills nor zeroes it; 02, note 6: or the report, by its numbers
+-- R.4: an accepted step of a run: the ticks of the clock after it, and the entry that it took
+pub record Event : Type 0 where
+  pub ticks : ℕ
+  pub entry : Entry
+
+-- 01, Rule machine: the listing buffer after a call, as it was lent where this document neither fills nor zeroes it; 02, note 6: or the report, by its numbers; R.4: or the events of a
+-- run, over what was lent
 pub data Shown : Type 0 where
   asLent : Shown
   zeroed : Shown
   filled : List Entry → Shown
   reported : List ℕ → Shown
+  happened : List Event → Shown
 
 -- 01, Rule machine: all that the result carries, and the listing or report; place is a byte's of a text, or a process's
 pub record Answer : Type 0 where
@@ -65,23 +79,24 @@ pub record Answer : Type 0 where
   pub total : ℕ
   pub chosen : ℕ
   pub run : List ℕ  -- 02, note 8: the entry numbers of the run that a search answers
+  pub used : List ℕ  -- R.5: the steps, words and waiting draws that a run of timed steps used
   pub listing : Shown
 
 -- 01, Opening a text, Listing and stepping: a refusal carries 0 beyond its number and places, as does an opening's acceptance
 unfoldable pub no : ℕ → ℕ → ℕ → Shown → Answer
-no n p b l = record { number = n; place = p; branch = b; count = 0; total = 0; chosen = 0; run = []; listing = l }
+no n p b l = record { number = n; place = p; branch = b; count = 0; total = 0; chosen = 0; run = []; used = []; listing = l }
 
 -- 01, Listing and stepping: acceptance and 15 to 19 carry entry count and total, and leave the listing filled
 unfoldable pub listedAs : ℕ → ℕ → List Entry → Answer
-listedAs n c es = record { number = n; place = 0; branch = 0; count = length es; total = total (weights es); chosen = c; run = []; listing = filled es }
+listedAs n c es = record { number = n; place = 0; branch = 0; count = length es; total = total (weights es); chosen = c; run = []; used = []; listing = filled es }
 
 -- 02, note 6: an accepted report carries entry count and total as a list call does, and leaves these numbers
 unfoldable pub reportedAs : List ℕ → List Entry → Answer
-reportedAs ns es = record { number = 0; place = 0; branch = 0; count = length es; total = total (weights es); chosen = 0; run = []; listing = reported ns }
+reportedAs ns es = record { number = 0; place = 0; branch = 0; count = length es; total = total (weights es); chosen = 0; run = []; used = []; listing = reported ns }
 
 -- 02, note 8: a search answers a run, the empty one where there is none
 unfoldable pub foundAs : List ℕ → Answer
-foundAs r = record { number = 0; place = 0; branch = 0; count = 0; total = 0; chosen = 0; run = r; listing = asLent }
+foundAs r = record { number = 0; place = 0; branch = 0; count = 0; total = 0; chosen = 0; run = r; used = []; listing = asLent }
 
 -- what a call leaves, and its answer
 pub record Turn (M : Type 0) : Type 0 where
@@ -247,7 +262,7 @@ searches x d m s = turn s (cond (isDepth d) (searchedAs (walk.search (movesTo m 
 
 -- 02, note 4: 23 to 25 answer as 19 does: with the count and total of the listing, which stays filled, and 0 as chosen entry
 unfoldable pub refusedAs : ℕ → Answer → Answer
-refusedAs n a = record { number = n; place = 0; branch = 0; count = a .count; total = a .total; chosen = 0; run = []; listing = a .listing }
+refusedAs n a = record { number = n; place = 0; branch = 0; count = a .count; total = a .total; chosen = 0; run = []; used = []; listing = a .listing }
 
 -- 02, note 4: a step from s that was accepted, and what the waiting draws made of the clock c: both go on, or neither
 unfoldable pub withWait : State → Clock → Turn State → Brought → Turn Timed
@@ -259,6 +274,103 @@ stepsIn c ds s t = cond (eqb (t .answer .number) 0) (withWait s c t (broughtBy c
 
 unfoldable pub timesWith : (waiting : List ℕ) (draw : ℕ) → Resolved.Model → State → Clock → Turn Timed
 timesWith ds d m s c = stepsIn c ds s (stepsWith d m s)
+
+-- ---- runs: many timed steps, with choosing draws from words (docs/DECISIONS.md, R.1 to R.7)
+
+-- R.5: what a run has come to: 0 or the refusal that ended it, the words and waiting draws that accepted steps used, count and total of the last listing, the state and the clock after the
+-- last accepted step, and an event for each accepted step
+pub record Run : Type 0 where
+  pub number : ℕ
+  pub words : ℕ
+  pub waiting : ℕ
+  pub count : ℕ
+  pub total : ℕ
+  pub timed : Timed
+  pub events : List Event
+
+-- R.5: how many steps were taken
+abbrev pub stepsOf : Run → ℕ
+stepsOf r = length (r .events)
+
+-- before the first step
+abbrev pub begun : Timed → Run
+begun t = record { number = 0; words = 0; waiting = 0; count = 0; total = 0; timed = t; events = [] }
+
+-- R.6: after a step the run goes on, or it has ended
+pub data Next : Type 0 where
+  on : Run → Next
+  over : Run → Next
+
+-- R.6: ended without another step: with this number, at a listing of this count and total, and here
+abbrev pub endedWith : (number count total : ℕ) → Timed → Run → Run
+endedWith n c s t r = record { number = n; words = r .words; waiting = r .waiting; count = c; total = s; timed = t; events = r .events }
+
+-- R.4: the entry with number c of a listing that stayed filled; an accepted step's answer has it
+unfoldable pub entryShown : Shown → (c : ℕ) → Entry
+entryShown (filled es) c = Option·elim (getElem? es c) (entry (key 0 0 0 0 0 0) 0) (λ e. e)
+entryShown asLent c = entry (key 0 0 0 0 0 0) 0
+entryShown zeroed c = entry (key 0 0 0 0 0 0) 0
+entryShown (reported ns) c = entry (key 0 0 0 0 0 0) 0
+entryShown (happened es) c = entry (key 0 0 0 0 0 0) 0
+
+-- R.4: the event of an accepted timed step
+abbrev pub eventOf : Turn Timed → Event
+eventOf t = record { ticks = t .machine .clock .ticks; entry = entryShown (t .answer .listing) (t .answer .chosen) }
+
+-- R.5: one more step, accepted, which used u words; the clock says how many waiting draws it used
+abbrev pub longer : (u : ℕ) → Turn Timed → Run → Run
+longer u t r = record {
+  number = 0;
+  words = r .words + u;
+  waiting = r .waiting + (t .machine .clock .draws - r .timed .clock .draws);
+  count = t .answer .count;
+  total = t .answer .total;
+  timed = t .machine;
+  events = r .events ++ (eventOf t ∷ []);
+}
+
+-- R.6: a timed step of the machine: accepted, the run goes on; refused, it has ended with that number
+unfoldable pub follows : (u : ℕ) → Turn Timed → Run → Next
+follows u t r =
+    cond (eqb (t .answer .number) 0) (on (longer u t r)) (over (endedWith (t .answer .number) (t .answer .count) (t .answer .total) (t .machine) r))
+
+-- R.3: the choosing draw at a total; at 0 no word is looked at, since every draw is refused alike, with 12 to 15
+unfoldable pub drawAt : (total : ℕ) → List ℕ → Drawn
+drawAt total ws = cond (eqb total 0) (Given 0 0) (drawOf total ws)
+
+-- R.3, R.6: with the draw and as many words as it used, the machine's timed step; where the words end first, the run has ended, at the listing that a list call gives here
+unfoldable pub drawnStep : (waiting : List ℕ) → Resolved.Model → Run → Drawn → Next
+drawnStep vs m r (Given d u) = follows u (timesWith (drop (r .waiting) vs) d m (r .timed .state) (r .timed .clock)) r
+drawnStep vs m r Ended = let a = lists m (r .timed .state) .answer in over (endedWith 0 (a .count) (a .total) (r .timed) r)
+
+-- R.6: one step from where the run is, with the words and waiting draws that are left
+unfoldable pub runStep : (words waiting : List ℕ) → Resolved.Model → Run → Next
+runStep ws vs m r = drawnStep vs m r (drawAt (lists m (r .timed .state) .answer .total) (drop (r .words) ws))
+
+unfoldable pub goingOn : Next → (Run → Run) → Run
+goingOn (on r) f = f r
+goingOn (over r) f = r
+
+-- R.6: up to n steps more
+unfoldable pub running : (n : ℕ) (words waiting : List ℕ) → Resolved.Model → Run → Run
+running zero ws vs m r = r
+running (suc n) ws vs m r = goingOn (runStep ws vs m r) (running n ws vs m)
+
+-- R.6: a run from a state and a clock: no more steps than the limit, and none for whose event there is no room
+unfoldable pub runsWith : (limit room : ℕ) (words waiting : List ℕ) → Resolved.Model → State → Clock → Run
+runsWith limit room ws vs m s c = running (min limit room) ws vs m (begun (timed s c))
+
+-- R.5, R.7: what a run answers: how it ended, what it used, count and total of its last listing, and its events
+unfoldable pub ranAs : Run → Answer
+ranAs r = record { number = r .number; place = 0; branch = 0; count = r .count; total = r .total; chosen = 0; run = []; used = stepsOf r ∷ r .words ∷ r .waiting ∷ []; listing = happened (r .events) }
+
+-- R.7: its state and clock, and that answer
+abbrev pub ran : Run → Turn Timed
+ran r = turn (r .timed) (ranAs r)
+
+-- R.6: a run whose events go into a buffer of this length
+unfoldable pub runsOver : (words waiting : List ℕ) (limit length : ℕ) → Resolved.Model → State → Clock → Turn Timed
+runsOver ws vs n l m s c = ran (runsWith n (l / eventWidth) ws vs m s c)
 
 -- ---- what the machine holds
 
@@ -323,13 +435,14 @@ onSaves f h = let x = f (timedOf h) (h .saves) in turn (storedIn h x) (no (x .nu
 
 -- ---- calls
 
--- 01, Listing and stepping, and 02, notes 2, 4, 6 and 8: requests to a model that is held, of which 11 is asked first
+-- 01, Listing and stepping, 02, notes 2, 4, 6 and 8, and R.6: requests to a model that is held, of which 11 is asked first; a run says how long its events' buffer is
 pub data Request : Type 0 where
   list′ : Request
   step′ : (draw : ℕ) → Request
   report′ : Request
   search′ : (name : List ℕ) (depth : ℕ) → Request
   timed′ : (waiting : List ℕ) (draw : ℕ) → Request
+  run′ : (words waiting : List ℕ) (limit length : ℕ) → Request
   save′ : (name : List ℕ) → Request
   return′ : (name : List ℕ) → Request
   forget′ : (name : List ℕ) → Request
@@ -347,6 +460,7 @@ acts (step′ d) = onState (stepsWith d)
 acts report′ = onState reports
 acts (search′ x d) = onState (searches x d)
 acts (timed′ ds d) = onClock (timesWith ds d)
+acts (run′ ws vs n l) = onClock (runsOver ws vs n l)
 acts (save′ n) = onSaves (saving n)
 acts (return′ n) = onSaves (returning n)
 acts (forget′ n) = onSaves (forgetting n)
@@ -377,7 +491,7 @@ partNumber clock = 3
 abbrev pub twoParts : List Part
 twoParts = model ∷ state ∷ []
 
--- those of a timed step
+-- those of a timed step and of a run
 abbrev pub timedParts : List Part
 timedParts = model ∷ state ∷ clock ∷ []
 
@@ -396,6 +510,7 @@ uses (step′ d) = twoParts
 uses report′ = twoParts
 uses (search′ x d) = twoParts
 uses (timed′ ds d) = timedParts
+uses (run′ ws vs n l) = timedParts
 uses (save′ n) = fourParts
 uses (return′ n) = fourParts
 uses (forget′ n) = threeParts
@@ -406,7 +521,7 @@ lentTo (open′ text) = model ∷ state ∷ saves ∷ clock ∷ []
 lentTo (openSteady′ text) = model ∷ state ∷ saves ∷ clock ∷ []
 lentTo (on′ r) = uses r
 
--- 01, Transitions, and 02, note 6: the length of the output buffer, the listing or the report, of a call that is lent one
+-- 01, Transitions, and 02, note 6: the length of the output buffer, the listing or the report, of a call that is lent one; R.6: of a run's events, which may have any, the one it says
 abbrev pub outputOf : Ask → Option ℕ
 outputOf (open′ text) = none
 outputOf (openSteady′ text) = none
@@ -415,6 +530,7 @@ outputOf (on′ (step′ d)) = some listingLength
 outputOf (on′ report′) = some reportLength
 outputOf (on′ (search′ x d)) = none
 outputOf (on′ (timed′ ds d)) = some listingLength
+outputOf (on′ (run′ ws vs n l)) = some l
 outputOf (on′ (save′ n)) = none
 outputOf (on′ (return′ n)) = none
 outputOf (on′ (forget′ n)) = none

@@ -5,10 +5,10 @@ use mathlib.Core.List.{List}
 use mathlib.Core.Bool.{true}
 use mathlib.Core.Logic.{_⊎_}
 use mathlib.Core.Option.{some}
-use Prim.Native.Nat.{ℕ, _≤_}
+use Prim.Native.Nat.{ℕ, _*_, _≤_}
 use lib.ListN.{length}
 use Rattle.rules.specs.Listing.{Entry}
-use Rattle.machine.specs.Machine.{asLent, zeroed, Answer, no, listedAs, reportedAs, foundAs, depthLimit, Request, list′, step′, report′, search′, timed′, save′, return′, forget′, Ask, open′, openSteady′, on′, Part, size, lentTo, outputOf, isLent, Call}
+use Rattle.machine.specs.Machine.{eventWidth, asLent, zeroed, Answer, no, listedAs, reportedAs, foundAs, depthLimit, Run, stepsOf, ranAs, Request, list′, step′, report′, search′, timed′, run′, save′, return′, forget′, Ask, open′, openSteady′, on′, Part, size, lentTo, outputOf, isLent, Call}
 
 -- a request, not an opening
 unfoldable pub Runs : Ask → Type 0
@@ -23,6 +23,7 @@ Lists (step′ d) = Unit {0}
 Lists report′ = Unit {0}
 Lists (search′ x d) = ⊥
 Lists (timed′ ds d) = Unit {0}
+Lists (run′ ws vs n l) = ⊥
 Lists (save′ n) = ⊥
 Lists (return′ n) = ⊥
 Lists (forget′ n) = ⊥
@@ -34,6 +35,7 @@ Chooses (step′ d) = Unit {0}
 Chooses report′ = ⊥
 Chooses (search′ x d) = ⊥
 Chooses (timed′ ds d) = Unit {0}
+Chooses (run′ ws vs n l) = ⊥
 Chooses (save′ n) = ⊥
 Chooses (return′ n) = ⊥
 Chooses (forget′ n) = ⊥
@@ -45,9 +47,40 @@ Names (step′ d) = ⊥
 Names report′ = ⊥
 Names (search′ x d) = ⊥
 Names (timed′ ds d) = ⊥
+Names (run′ ws vs n l) = ⊥
 Names (save′ n) = Unit {0}
 Names (return′ n) = Unit {0}
 Names (forget′ n) = Unit {0}
+
+-- 01, Listing and stepping: requests that move nothing where they are refused; R.7: a run keeps the steps that were accepted before
+unfoldable pub Whole : Request → Type 0
+Whole list′ = Unit {0}
+Whole (step′ d) = Unit {0}
+Whole report′ = Unit {0}
+Whole (search′ x d) = Unit {0}
+Whole (timed′ ds d) = Unit {0}
+Whole (run′ ws vs n l) = ⊥
+Whole (save′ n) = Unit {0}
+Whole (return′ n) = Unit {0}
+Whole (forget′ n) = Unit {0}
+
+unfoldable pub WholeAsk : Ask → Type 0
+WholeAsk (open′ text) = ⊥
+WholeAsk (openSteady′ text) = ⊥
+WholeAsk (on′ r) = Whole r
+
+-- R.6: the numbers that a run ends with: 0 at its limit, without room and without words, else that of the step that was refused; 16 is not among them
+pub data RunEnds : ℕ → Type 0 where
+  unrefused : RunEnds 0
+  refused12-15 : {n : ℕ} → 12 ≤ n → n ≤ 15 → RunEnds n
+  refused17-19 : {n : ℕ} → 17 ≤ n → n ≤ 19 → RunEnds n
+  refused23-25 : {n : ℕ} → 23 ≤ n → n ≤ 25 → RunEnds n
+
+-- R.5, R.6: how a run with these words and waiting draws, up to n steps and over a buffer of l numbers, has ended
+pub record RunCarries (ws vs : List ℕ) (n l : ℕ) (r : Run) : Type 0 where
+  pub ends : RunEnds (r .number)
+  pub limit : stepsOf r ≤ n
+  pub room : stepsOf r * eventWidth ≤ l
 
 -- 01, 1: what is lent has its length
 pub record Lent (c : Call) : Type 0 where
@@ -77,6 +110,8 @@ pub data Carries : Ask → Answer → Type 0 where
   steps : {r : Request} (c : ℕ) (es : List Entry) → Chooses r → Carries (on′ r) (listedAs 0 c es)
   -- 02, note 4: 23 to 25 answer as 19 does
   under23-25 : {ds : List ℕ} {d : ℕ} (n : ℕ) (es : List Entry) → 23 ≤ n → n ≤ 25 → Carries (on′ (timed′ ds d)) (listedAs n 0 es)
+  -- R.5 to R.7: a run carries what it used, and its events
+  runs : {ws vs : List ℕ} {n l : ℕ} (r : Run) → RunCarries ws vs n l r → Carries (on′ (run′ ws vs n l)) (ranAs r)
   -- 02, note 6: a report that is accepted carries count and total as a list call does, and its own numbers
   reports : (ns : List ℕ) (es : List Entry) → Carries (on′ report′) (reportedAs ns es)
   -- 02, note 2: save, return and forget carry a number alone; 21 is of a return or forget, 22 of a save

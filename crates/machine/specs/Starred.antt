@@ -119,7 +119,7 @@ one c = entry (key c 0 0 0 0 0) 100000000
 
 -- an accepted list or step: entry count, total, the chosen entry's number, the entries
 abbrev pub listed : ℕ → ℕ → ℕ → List Entry → Answer
-listed n t c es = record { number = 0; place = 0; branch = 0; count = n; total = t; chosen = c; run = []; listing = filled es }
+listed n t c es = record { number = 0; place = 0; branch = 0; count = n; total = t; chosen = c; run = []; used = []; listing = filled es }
 
 -- the only entry is of this kind, with rate 1; a step takes it
 abbrev pub only : ℕ → Answer

@@ -6,7 +6,7 @@ use mathlib.Core.Bool.{false}
 use mathlib.Core.Logic.{_⊎_}
 use Prim.Native.Nat.{ℕ, _≤_}
 use lib.ListN.{length}
-use Rattle.machine.specs.Machine.{Held, Machine, closed, holding, Request, list′, step′, report′, search′, timed′, save′, return′, forget′, Ask, open′, openSteady′, on′, hasLengths, Call, calls}
+use Rattle.machine.specs.Machine.{Held, Machine, closed, holding, Request, list′, step′, report′, search′, timed′, run′, save′, return′, forget′, Ask, open′, openSteady′, on′, hasLengths, Call, calls}
 use Rattle.machine.specs.Results.{Runs}
 
 -- how many processes there are
@@ -14,13 +14,14 @@ unfoldable pub processesIn : Machine → ℕ
 processesIn closed = 0
 processesIn (holding h) = length (h .state .processes)
 
--- 02, note 4: a step, timed or not
+-- 02, note 4: a step, timed or not, or a run of them
 unfoldable pub IsStep : Request → Type 0
 IsStep list′ = ⊥
 IsStep (step′ d) = Unit {0}
 IsStep report′ = ⊥
 IsStep (search′ x d) = ⊥
 IsStep (timed′ ds d) = Unit {0}
+IsStep (run′ ws vs n l) = Unit {0}
 IsStep (save′ n) = ⊥
 IsStep (return′ n) = ⊥
 IsStep (forget′ n) = ⊥

@@ -114,11 +114,12 @@ pub fn put_signed_line(out: &mut Buffer, waits: usize, numbers: &[i64], gap: u8)
     n
 }
 
-// The first entries of a listing, each on a line of its own that begins so.
-pub fn put_entries(
+// The first rows of so many numbers each, as far as they are there, each on a line of its own that begins so.
+pub fn put_rows(
     out: &mut Buffer,
     waits: usize,
-    listing: &[u64],
+    numbers: &[u64],
+    width: usize,
     count: u64,
     begin: &[u8],
     gap: u8,
@@ -127,14 +128,34 @@ pub fn put_entries(
     let mut left = count;
     let mut at = 0;
     while 0 < left {
-        if listing.len() - at < listing::Limits::ENTRY {
+        if numbers.len() - at < width {
             return n;
         }
-        let end = at + listing::Limits::ENTRY;
+        let end = at + width;
         n = put(out, n, begin);
-        n = put_line(out, n, &listing[at..end], gap);
+        n = put_line(out, n, &numbers[at..end], gap);
         at = end;
         left -= 1;
     }
     n
+}
+
+// The first entries of a listing.
+pub fn put_entries(
+    out: &mut Buffer,
+    waits: usize,
+    listing: &[u64],
+    count: u64,
+    begin: &[u8],
+    gap: u8,
+) -> usize {
+    put_rows(
+        out,
+        waits,
+        listing,
+        listing::Limits::ENTRY,
+        count,
+        begin,
+        gap,
+    )
 }

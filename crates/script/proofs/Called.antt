@@ -4,25 +4,29 @@ use mathlib.Core.Path.{_≡_, refl, sym, ap, ap₂, subst, _∙_}
 use mathlib.Core.Bool.{Bool, true, false, cond, _&&_}
 use mathlib.Core.List.{List, [], _∷_, _++_, append-assoc}
 use mathlib.Core.Option.{none, some}
-use Prim.Native.Nat.{ℕ, zero, suc, _+_, _≤_}
+use Prim.Native.Nat.{ℕ, zero, suc, _+_, _*_, _≤_}
 use native.Mathlib.Omega.{arith}
 use borrow.Author.Tests.{leb-true, eqb-true, eqb-false}
 use lib.Dec.{eqb, leb}
 use lib.ListN.{length, take, drop, length-append, length-take, length-drop, length-replicate, take-append-drop}
 use lib.Seq.{length-take-le, take-take}
+use Rattle.rules.specs.Rules.{key}
+use Rattle.rules.specs.Listing.{Entry, entry}
 use Rattle.rules.proofs.Decides.{on}
 use Rattle.clock.specs.declared.Brought.{Brought}
 use Rattle.clock.specs.Clock.{broughtBy}
 use Rattle.machine.specs.State.{State}
 use Rattle.machine.specs.Timed.{timed}
 use Rattle.machine.specs.Report.{reportLength}
-use Rattle.machine.specs.Machine.{entryLimit, listingLength, Shown, asLent, zeroed, filled, reported, Answer, no, listedAs, reportedAs, Listed, Turn, turn, drawn, showing, lists, sharing, reports, choosing, stepsWith, refusedAs, withWait, stepsIn, timesWith, Held, Good, Machine, closed, holding, onState}
-use Rattle.machine.specs.Machine.{onClock, onSaves, Request, list′, step′, report′, search′, timed′, save′, return′, forget′, Ask, open′, openSteady′, on′, acts, Part, model, state, saves, clock, size, lentTo, outputOf, uses, isLent, allParts, hasLengths, Call, opens, onMachine, calls}
+use Rattle.machine.specs.Machine.{entryLimit, listingLength, eventWidth, Event, Shown, asLent, zeroed, filled, reported, happened, Answer, no, listedAs, reportedAs, Listed, Turn, turn, drawn, showing, lists, sharing, reports, choosing, stepsWith, refusedAs, withWait, stepsIn, timesWith, ranAs, runsOver, Held, Good, Machine, closed, holding, onState}
+use Rattle.machine.specs.Machine.{onClock, onSaves, Request, list′, step′, report′, search′, timed′, run′, save′, return′, forget′, Ask, open′, openSteady′, on′, acts, Part, model, state, saves, clock, size, lentTo, outputOf, uses, isLent, allParts, hasLengths, Call, opens, onMachine, calls}
 use Rattle.machine.specs.Machine as machine
+use Rattle.machine.specs.Runs.{eventRow, eventRows, eventNumbers}
 use Rattle.machine.specs.Questions.{Lists, no12, no13, no14, yes14}
 use Rattle.machine.proofs.Lent.{both-true, each-lent, lent-so}
 use Rattle.machine.proofs.Listing.{asked}
 use Rattle.machine.proofs.Stepping as step
+use Rattle.machine.proofs.Running.{run-carries}
 use Rattle.machine.proofs.Report.{report-length}
 use Rattle.model.specs.Resolved
 use Rattle.model.specs.Good.{GoodModel}
@@ -42,7 +46,7 @@ use Rattle.buffers.proofs.Listings.{listing-length}
 use Rattle.buffers.proofs.Transitions.{fills}
 use Rattle.buffers.proofs.Answers.{search-shows}
 use Rattle.script.specs.declared.Row.{Row}
-use Rattle.script.specs.Rows.{openKind, lastKind, answerWidth, rowParts, rowLengths, Room, fits, rowCall, callOf}
+use Rattle.script.specs.Rows.{openKind, lastKind, answerWidth, outputWidth, rowParts, rowLengths, Room, fits, rowCall, callOf}
 use Rattle.script.specs.Run.{Lent, roomOf, effectOf, callLeft}
 use Rattle.script.specs.Follows.{engineIn, partShown}
 use Rattle.script.proofs.Front.{front-take, front-drop}
@@ -52,6 +56,7 @@ use Rattle.script.proofs.Front.{front-take, front-drop}
 pub record Fits (c : Call) (x : Room) : Type 0 where
   pub parts : (p : Part) → c .lengths p ≤ x .parts p
   pub output : c .output ≤ x .outputs
+  pub own : c .output ≤ outputWidth
   pub answer : answerWidth ≤ x .answers
 
 -- every part stands in a row
@@ -63,41 +68,47 @@ in-row saves = refl
 in-row clock = refl
 
 -- what a row that fits asks for
-pub record Asks (r : Row) (texts numbers : ℕ) (parts : Part → ℕ) (outputs : ℕ) : Type 0 where
+pub record Asks (r : Row) (texts numbers words : ℕ) (parts : Part → ℕ) (outputs : ℕ) : Type 0 where
   pub least : openKind ≤ r .kind
   pub most : r .kind ≤ lastKind
   pub text : r .text + r .size ≤ texts
   pub list : r .from + r .count ≤ numbers
+  pub supply : r .start + r .words ≤ words
   pub part : (p : Part) → rowLengths r p ≤ parts p
   pub output : r .output ≤ outputs
+  pub own : r .output ≤ outputWidth
 
-pub row-asks : (r : Row) (texts numbers : ℕ) (parts : Part → ℕ) (outputs : ℕ) → fits r texts numbers parts outputs ≡ true → Asks r texts numbers parts outputs
+pub row-asks : (r : Row) (texts numbers words : ℕ) (parts : Part → ℕ) (outputs : ℕ) → fits r texts numbers words parts outputs ≡ true → Asks r texts numbers words parts outputs
 unfolding fits
-row-asks r texts numbers parts outputs e =
+row-asks r texts numbers words parts outputs e =
     let a = both-true (leb openKind (r .kind)) _ e in
     let b = both-true (leb (r .kind) lastKind) _ (a .1) in
     let c = both-true (leb (r .text + r .size) texts) _ (b .1) in
     let d = both-true (leb (r .from + r .count) numbers) _ (c .1) in
-    let f = both-true (allParts (λ (p : Part). leb (rowLengths r p) (parts p)) rowParts) _ (d .1) in
+    let i = both-true (leb (r .start + r .words) words) _ (d .1) in
+    let f = both-true (allParts (λ (p : Part). leb (rowLengths r p) (parts p)) rowParts) _ (i .1) in
+    let g = both-true (leb (r .output) outputs) _ (f .1) in
     record {
       least = leb-true _ _ (a .0);
       most = leb-true _ _ (b .0);
       text = leb-true _ _ (c .0);
       list = leb-true _ _ (d .0);
+      supply = leb-true _ _ (i .0);
       part = λ p. leb-true _ _ (each-lent (λ (p : Part). leb (rowLengths r p) (parts p)) rowParts (f .0) p (in-row p));
-      output = leb-true _ _ (f .1);
+      output = leb-true _ _ (g .0);
+      own = leb-true _ _ (g .1);
     }
 
-pub call-fits : (texts numbers : List ℕ) (x : Room) (r : Row) (c : Call) → callOf texts numbers x r ≡ some c → Fits c x
+pub call-fits : (texts numbers words : List ℕ) (x : Room) (r : Row) (c : Call) → callOf texts numbers words x r ≡ some c → Fits c x
 unfolding callOf rowCall
-call-fits texts numbers x r c e = by (leb answerWidth (x .answers) && fits r (length texts) (length numbers) (x .parts) (x .outputs)) refl e
+call-fits texts numbers words x r c e = by (leb answerWidth (x .answers) && fits r (length texts) (length numbers) (length words) (x .parts) (x .outputs)) refl e
   where
-    by : (b : Bool) → (leb answerWidth (x .answers) && fits r (length texts) (length numbers) (x .parts) (x .outputs)) ≡ b → cond b (some (rowCall texts numbers r)) none ≡ some c → Fits c x
+    by : (b : Bool) → (leb answerWidth (x .answers) && fits r (length texts) (length numbers) (length words) (x .parts) (x .outputs)) ≡ b → cond b (some (rowCall texts numbers words r)) none ≡ some c → Fits c x
     by true f e =
         let a = both-true (leb answerWidth (x .answers)) _ f in
-        let b = row-asks r _ _ _ _ (a .1) in
-        let q : rowCall texts numbers r ≡ c = cc in
-        let g : Fits (rowCall texts numbers r) x = record { parts = b .part; output = b .output; answer = leb-true _ _ (a .0) } in
+        let b = row-asks r _ _ _ _ _ (a .1) in
+        let q : rowCall texts numbers words r ≡ c = cc in
+        let g : Fits (rowCall texts numbers words r) x = record { parts = b .part; output = b .output; own = b .own; answer = leb-true _ _ (a .0) } in
         subst (λ (d : Call). Fits d x) q g
     by false f e = absurd (let z : _≡_ {A = ℕ} 0 1 = cc in omega arith)
 
@@ -178,6 +189,20 @@ Spans n asLent = Unit {0}
 Spans n zeroed = Unit {0}
 Spans n (filled es) = (length es ≤ entryLimit) × (n ≡ listingLength)
 Spans n (reported ns) = length ns ≡ n
+Spans n (happened es) = length es * eventWidth ≤ n
+
+-- R.4: as many numbers as were lent
+rows-length : (es : List Event) (rest : List ℕ) → length (eventRows es rest) ≡ length es * eventWidth + length rest
+unfolding eventRows
+rows-length [] rest = omega arith
+rows-length (e ∷ es) rest = row-length (e .ticks) (e .entry) (eventRows es rest) ∙ omega (arith, rows-length es rest)
+  where
+    row-length : (t : ℕ) (x : Entry) (l : List ℕ) → length (eventRow t x l) ≡ eventWidth + length l
+    row-length t (entry (key c i j k m q) w) l = unfold eventRow in omega arith
+
+events-length : (es : List Event) (l : List ℕ) → length es * eventWidth ≤ length l → length (eventNumbers es l) ≡ length l
+unfolding eventNumbers
+events-length es l h = omega (arith, rows-length es (drop (length es * eventWidth) l), length-drop (length es * eventWidth) l)
 
 shown-length : (a : Shown) (l : List ℕ) → Spans (length l) a → length (shown a l) ≡ length l
 unfolding Spans shown
@@ -185,15 +210,16 @@ shown-length asLent l f = refl
 shown-length zeroed l f = length-replicate {A = ℕ} (length l) 0
 shown-length (filled es) l f = listing-length es (f .0) ∙ sym (f .1)
 shown-length (reported ns) l f = f
+shown-length (happened es) l f = events-length es l f
 
--- what is shown by an answer to k: nothing, or what spans an output that is within a row's part
+-- what is shown by an answer to k: nothing, or what spans its output
 data InPart (k : Ask) (s : Shown) : Type 0 where
   nothing : s ≡ asLent → InPart k s
-  within : (n : ℕ) → outputOf k ≡ some n → n ≤ listingLength → Spans n s → InPart k s
+  within : (n : ℕ) → outputOf k ≡ some n → Spans n s → InPart k s
 
 lists-within : (m : Resolved.Model) (s : State) → InPart (on′ list′) (lists m s .answer .listing)
 unfolding lists
-lists-within m s = within listingLength refl (omega arith) (by (asked m s (machine.listing m s) .0 refl))
+lists-within m s = within listingLength refl (by (asked m s (machine.listing m s) .0 refl))
   where
     by : {k : Listed} → Lists m s k → Spans listingLength (showing s k .answer .listing)
     by (no12 f) = unfold Spans showing no in tt
@@ -203,7 +229,7 @@ lists-within m s = within listingLength refl (omega arith) (by (asked m s (machi
 
 steps-within : (d : ℕ) (m : Resolved.Model) (s : State) → InPart (on′ (step′ d)) (stepsWith d m s .answer .listing)
 unfolding stepsWith
-steps-within d m s = within listingLength refl (omega arith) (by (asked m s (machine.listing m s) .0 refl))
+steps-within d m s = within listingLength refl (by (asked m s (machine.listing m s) .0 refl))
   where
     by : {k : Listed} → Lists m s k → Spans listingLength (choosing m s d k .answer .listing)
     by (no12 f) = unfold Spans choosing no in tt
@@ -213,7 +239,7 @@ steps-within d m s = within listingLength refl (omega arith) (by (asked m s (mac
 
 reports-within : (h : Held) → GoodModel (h .model) → Good h → InPart (on′ report′) (reports (h .model) (h .state) .answer .listing)
 unfolding reports
-reports-within h k g = within reportLength refl (omega arith) (by (asked (h .model) (h .state) (machine.listing (h .model) (h .state)) .0 refl))
+reports-within h k g = within reportLength refl (by (asked (h .model) (h .state) (machine.listing (h .model) (h .state)) .0 refl))
   where
     by : {l : Listed} → Lists (h .model) (h .state) l → Spans reportLength (sharing (h .model) (h .state) l .answer .listing)
     by (no12 f) = unfold Spans sharing no in tt
@@ -246,7 +272,12 @@ module _ (ds : List ℕ) (d : ℕ) (h : Held) where
     where
       by : InPart (on′ (step′ d)) (stepped .answer .listing) → InPart (on′ (timed′ ds d)) (stepsIn (h .clock) ds (h .state) stepped .answer .listing)
       by (nothing e) = nothing (shows-same ∙ e)
-      by (within n o w s) = within n o w (rw shows-same s)
+      by (within n o s) = within n o (rw shows-same s)
+
+-- R.6: the events of a run are in the buffer that it says
+run-within : (ws vs : List ℕ) (n l : ℕ) (h : Held) → InPart (on′ (run′ ws vs n l)) (acts (run′ ws vs n l) h .answer .listing)
+unfolding acts onClock runsOver ranAs
+run-within ws vs n l h = within l refl (unfold Spans in run-carries ws vs n l (h .model) (h .state) (h .clock) .room)
 
 acts-within : (r : Request) (h : Held) → GoodModel (h .model) → Good h → InPart (on′ r) (acts r h .answer .listing)
 unfolding acts onState onClock onSaves no
@@ -255,6 +286,7 @@ acts-within (step′ d) h k g = steps-within d (h .model) (h .state)
 acts-within report′ h k g = reports-within h k g
 acts-within (search′ n d) h k g = nothing (search-shows (h .model) n (h .state) d)
 acts-within (timed′ ds d) h k g = timed-within ds d h
+acts-within (run′ ws vs n l) h k g = run-within ws vs n l h
 acts-within (save′ n) h k g = nothing refl
 acts-within (return′ n) h k g = nothing refl
 acts-within (forget′ n) h k g = nothing refl
@@ -280,26 +312,26 @@ rest-of (suc n) (suc k) (a ∷ l) h = rest-of n k l (omega arith)
 
 -- what stands in the row's own part of the outputs, and that it is all that the call changes
 record OwnPart (c : Call) (s : Shown) (l : List ℕ) : Type 0 where
-  long : length (shown s (take (c .output) (take listingLength l)) ++ drop (c .output) (take listingLength l)) ≡ length (take listingLength l)
-  listed : shown s (take (c .output) l) ++ drop (c .output) l ≡ (shown s (take (c .output) (take listingLength l)) ++ drop (c .output) (take listingLength l)) ++ drop listingLength l
+  long : length (shown s (take (c .output) (take outputWidth l)) ++ drop (c .output) (take outputWidth l)) ≡ length (take outputWidth l)
+  listed : shown s (take (c .output) l) ++ drop (c .output) l ≡ (shown s (take (c .output) (take outputWidth l)) ++ drop (c .output) (take outputWidth l)) ++ drop outputWidth l
 
 as-lent : (c : Call) (s : Shown) (l : List ℕ) → s ≡ asLent → OwnPart c s l
 unfolding shown
 as-lent c s l e = rw e (record {
-  long = ap length (take-append-drop (c .output) (take listingLength l));
-  listed = take-append-drop (c .output) l ∙ sym (ap (λ (k : List ℕ). k ++ drop listingLength l) (take-append-drop (c .output) (take listingLength l)) ∙ take-append-drop listingLength l);
+  long = ap length (take-append-drop (c .output) (take outputWidth l));
+  listed = take-append-drop (c .output) l ∙ sym (ap (λ (k : List ℕ). k ++ drop outputWidth l) (take-append-drop (c .output) (take outputWidth l)) ∙ take-append-drop outputWidth l);
 })
 
-in-own : (c : Call) (s : Shown) (l : List ℕ) → c .output ≤ length l → c .output ≤ listingLength → Spans (c .output) s → OwnPart c s l
+in-own : (c : Call) (s : Shown) (l : List ℕ) → c .output ≤ length l → c .output ≤ outputWidth → Spans (c .output) s → OwnPart c s l
 in-own c s l f w p =
     let n = c .output in
-    let k : List ℕ = take listingLength l in
-    let front : take n k ≡ take n l = take-take n listingLength l w in
+    let k : List ℕ = take outputWidth l in
+    let front : take n k ≡ take n l = take-take n outputWidth l w in
     let size : length (take n k) ≡ n = ap length front ∙ length-take-le n l f in
     let same : length (shown s (take n k)) ≡ length (take n k) = shown-length s (take n k) (rw size p) in
     record {
       long = omega (arith, length-append (shown s (take n k)) (drop n k), same, size, length-drop n k, length-take n k, ap length (take-append-drop n k), length-append (take n k) (drop n k));
-      listed = ap₂ (λ (u v : List ℕ). shown s u ++ v) (sym front) (sym (rest-of n listingLength l w)) ∙ sym (append-assoc (shown s (take n k)) (drop n k) (drop listingLength l));
+      listed = ap₂ (λ (u v : List ℕ). shown s u ++ v) (sym front) (sym (rest-of n outputWidth l w)) ∙ sym (append-assoc (shown s (take n k)) (drop n k) (drop outputWidth l));
     }
 
 -- ---- one call
@@ -307,8 +339,8 @@ in-own c s l f w p =
 -- a row's call turns the machine y and the engine in x alike, and shows what the answer says in the row's own output
 pub record Done (y : Machine) (c : Call) (x : Lent) : Type 0 where
   pub answer : effectOf c (x .engine) (x .outputs) .answer ≡ calls y c .answer
-  pub long : length (partShown c (calls y c .answer) (take listingLength (x .outputs))) ≡ length (take listingLength (x .outputs))
-  pub listed : callLeft c x .outputs ≡ partShown c (calls y c .answer) (take listingLength (x .outputs)) ++ drop listingLength (x .outputs)
+  pub long : length (partShown c (calls y c .answer) (take outputWidth (x .outputs))) ≡ length (take outputWidth (x .outputs))
+  pub listed : callLeft c x .outputs ≡ partShown c (calls y c .answer) (take outputWidth (x .outputs)) ++ drop outputWidth (x .outputs)
   pub holds : Holds (engineIn (callLeft c x)) (calls y c .machine)
   pub beyond : (p : Part) → drop (size p) (callLeft c x .engine p) ≡ drop (size p) (x .engine p)
 
@@ -398,9 +430,9 @@ module _ (y : Machine) (c : Call) (x : Lent) (f : Fits c (roomOf x)) (h : Holds 
       by : (b : Bool) → hasLengths (c .ask) (c .lengths) (c .output) ≡ b → InPart (c .ask) (machine.asked y (c .ask) .answer .listing)
           → OwnPart c (cond b (machine.asked y (c .ask)) (turn y (no 1 0 0 asLent)) .answer .listing) (x .outputs)
       by true b (nothing e) = as-lent c _ (x .outputs) e
-      by true b (within n o w s) =
+      by true b (within n o s) =
           let q : c .output ≡ n = on (lent-so c) b .output n o in
-          in-own c _ (x .outputs) (f .output) (omega arith) (rw q s)
+          in-own c _ (x .outputs) (f .output) (f .own) (rw q s)
       by false b i = as-lent c _ (x .outputs) refl
 
   -- 01, Rule machine: one call of a row

@@ -1,5 +1,5 @@
 -- What a row's call leaves of the buffers, from what the engine's call gives: by the kind of the row.
-use mathlib.Core.Path.{_≡_, refl, sym, ap, _∙_}
+use mathlib.Core.Path.{_≡_, refl, sym, ap, ap₂, subst, _∙_}
 use mathlib.Core.Bool.{Bool, true, false, cond, _&&_}
 use mathlib.Core.List.{List, [], _∷_, _++_, append-nil}
 use mathlib.Core.Option.{Option, none, some, Option·elim}
@@ -17,7 +17,7 @@ use Rattle.machine.specs.State.{State}
 use Rattle.clock.specs.declared.Clock.{Clock}
 use Rattle.machine.specs.Timed.{Timed}
 use Rattle.machine.specs.Saves.{Saves, Stored, saving, returning, forgetting}
-use Rattle.machine.specs.Machine.{Shown, asLent, Answer, no, Turn, Held, Machine, closed, holding, onState, onSaves, Request, list′, step′, report′, search′, timed′, save′, return′, forget′, Ask, open′, openSteady′, on′, acts, Part, model, state, saves, clock, size, twoParts, timedParts, threeParts, uses, outputOf, isLent, allParts, hasLengths, Call, onMachine}
+use Rattle.machine.specs.Machine.{Shown, asLent, Answer, no, Turn, Held, Machine, closed, holding, onState, onSaves, Request, list′, step′, report′, search′, timed′, run′, save′, return′, forget′, Ask, open′, openSteady′, on′, acts, Part, model, state, saves, clock, size, twoParts, timedParts, threeParts, uses, outputOf, isLent, allParts, hasLengths, Call, onMachine}
 use Rattle.buffers.specs.Held.{heldIn}
 use Rattle.buffers.specs.Listing.{shown}
 use Rattle.buffers.specs.Parts.{Engine, numbersOf, isPart, readHeld, clockNumbers, clockIn, lentTwo, lentThree, lentTimed, lentAll}
@@ -26,36 +26,41 @@ use Rattle.buffers.proofs.Lent.{same-engine}
 use Rattle.buffers.proofs.Answers.{search-shows}
 use Rattle.buffers.proofs.Runs.{isSearch, without-run, Alone, run-alone}
 use Rattle.engine.specs.declared.Answer as engine
+use Rattle.engine.specs.declared.Ran.{Ran as Told}
+use Rattle.engine.specs.Ran.{GivesRan}
 use Rattle.engine.specs.Gives.{Gives, bare}
 use Rattle.searching.specs.declared.Found.{Found}
 use Rattle.searching.specs.Run.{entriesOf, GivesRun}
 use Rattle.script.specs.declared.Row.{Row}
-use Rattle.script.specs.Rows.{rowLengths, fits, rowText, rowDraws, rowAsk, rowCall}
-use Rattle.script.specs.Run.{lengthsOf, effectOf, answerNumbers, resultNumbers, foundNumbers, Called}
+use Rattle.script.specs.Rows.{outputWidth, rowLengths, fits, rowText, rowDraws, rowWords, rowAsk, rowCall}
+use Rattle.script.specs.Run.{lengthsOf, effectOf, usedOf, answerNumbers, resultNumbers, foundNumbers, ranNumbers, Called}
 use Rattle.script.proofs.Called.{row-asks}
+use Rattle.script.proofs.Used.{isRun, without-used, run-bare}
+use Rattle.script.proofs.Used as used
 
 -- ---- what a row that fits asks for
 
-pub record There (r : Row) (t n m s v o : ℕ) : Type 0 where
+pub record There (r : Row) (t n w m s v o : ℕ) : Type 0 where
   pub text : r .text + r .size ≤ t
   pub list : r .from + r .count ≤ n
+  pub supply : r .start + r .words ≤ w
   pub model : r .model ≤ m
   pub state : r .state ≤ s
   pub saves : r .saves ≤ v
   pub output : r .output ≤ o
-  pub most : r .kind ≤ 10
+  pub most : r .kind ≤ 11
   pub least : 1 ≤ r .kind
 
-pub there : (r : Row) (t n m s v k o : ℕ) → fits r t n (lengthsOf m s v k) o ≡ true → There r t n m s v o
+pub there : (r : Row) (t n w m s v k o : ℕ) → fits r t n w (lengthsOf m s v k) o ≡ true → There r t n w m s v o
 unfolding rowLengths lengthsOf
-there r t n m s v k o f =
-    let a = row-asks r t n (lengthsOf m s v k) o f in
-    record { text = a .text; list = a .list; model = a .part model; state = a .part state; saves = a .part saves; output = a .output; most = a .most; least = a .least }
+there r t n w m s v k o f =
+    let a = row-asks r t n w (lengthsOf m s v k) o f in
+    record { text = a .text; list = a .list; supply = a .supply; model = a .part model; state = a .part state; saves = a .part saves; output = a .output; most = a .most; least = a .least }
 
 -- 02, note 4: and the clock is there
-pub clock-there : (r : Row) (t n m s v k o : ℕ) → fits r t n (lengthsOf m s v k) o ≡ true → 2 ≤ k
+pub clock-there : (r : Row) (t n w m s v k o : ℕ) → fits r t n w (lengthsOf m s v k) o ≡ true → 2 ≤ k
 unfolding rowLengths lengthsOf
-clock-there r t n m s v k o f = row-asks r t n (lengthsOf m s v k) o f .part clock
+clock-there r t n w m s v k o f = row-asks r t n w (lengthsOf m s v k) o f .part clock
 
 -- ---- calls that are lent no output
 
@@ -137,6 +142,11 @@ eight (a ∷ b ∷ c ∷ d ∷ e ∷ f ∷ g ∷ h ∷ i ∷ l) q = absurd (omeg
 pub eight-entries : (r : List ℕ) → length (entriesOf r) ≡ 8
 unfolding entriesOf
 eight-entries r = length-take-le 8 (r ++ replicate 8 0) (omega (arith, length-append r (replicate 8 0)))
+
+-- R.5: with what a run used
+pub eleven-entries : (r us : List ℕ) → length (entriesOf r ++ usedOf us) ≡ 11
+unfolding usedOf
+eleven-entries r us = length-append (entriesOf r) (usedOf us) ∙ ap (λ (n : ℕ). n + 3) (eight-entries r)
 
 -- ---- a request asks nothing of the parts that it is not lent
 
@@ -234,7 +244,7 @@ alike-gives {ps} {d} {e} {x} {r} z y l a h f g = record {
 
 -- ---- what a row's call gives
 
-module _ (row : Row) (texts numbers bs : List ℕ) (zs ss : List ℤ) (c : Clock) (ls : List ℕ) (r : engine.Answer) where
+module _ (row : Row) (texts numbers words bs : List ℕ) (zs ss : List ℤ) (c : Clock) (ls : List ℕ) (r : engine.Answer) where
   -- what is lent of the parts
   abbrev X : Engine
   X = lentAll (take (row .model) bs) (take (row .state) zs) (take (row .saves) ss) c
@@ -243,7 +253,7 @@ module _ (row : Row) (texts numbers bs : List ℕ) (zs ss : List ℤ) (c : Clock
   L = take (row .output) ls
 
   abbrev C : Call
-  C = rowCall texts numbers row
+  C = rowCall texts numbers words row
 
   lent-is : X ≡ (λ (p : Part). take (rowLengths row p) (lentAll bs zs ss c p))
   unfolding lentAll rowLengths
@@ -255,13 +265,13 @@ module _ (row : Row) (texts numbers bs : List ℕ) (zs ss : List ℤ) (c : Clock
       at saves = refl
       at clock = refl
 
-  effect-is : (k : Ask) → rowAsk texts numbers row ≡ k → effect k X L ≡ effectOf C (lentAll bs zs ss c) ls
+  effect-is : (k : Ask) → rowAsk texts numbers words row ≡ k → effect k X L ≡ effectOf C (lentAll bs zs ss c) ls
   unfolding effectOf rowCall
   effect-is k e =
       ap (λ (x : Engine). effect k x L) lent-is
       ∙ ap (λ (j : Ask). effect j (λ (p : Part). take (rowLengths row p) (lentAll bs zs ss c p)) L) (sym e)
 
-  gives-numbers : (k : Ask) → rowAsk texts numbers row ≡ k → (ns : List ℕ) → ns ≡ answerNumbers (effect k X L .answer)
+  gives-numbers : (k : Ask) → rowAsk texts numbers words row ≡ k → (ns : List ℕ) → ns ≡ answerNumbers (effect k X L .answer)
       → (bs′ : List ℕ) (zs′ ss′ : List ℤ) (c′ : Clock) (l : List ℕ) → Gives (effect k X L) r (lentAll bs′ zs′ ss′ c′) l
       → Called C (lentAll bs zs ss c) ls ns (lentAll (bs′ ++ drop (row .model) bs) (zs′ ++ drop (row .state) zs) (ss′ ++ drop (row .saves) ss) c′) (l ++ drop (row .output) ls)
   unfolding rowCall
@@ -278,19 +288,19 @@ module _ (row : Row) (texts numbers bs : List ℕ) (zs ss : List ℤ) (c : Clock
       at saves = unfold lentAll rowLengths in ap (λ (h : List ℤ). h ++ drop (row .saves) ss) (g .buffers saves ∙ ap (λ (e : Effect). e .left saves) (effect-is k e))
       at clock = unfold lentAll rowLengths in g .buffers clock ∙ ap (λ (e : Effect). e .left clock) (effect-is k e) ∙ sym (append-nil _)
 
-  -- a call that is no search answers without a run
-  gives : (k : Ask) → rowAsk texts numbers row ≡ k → isSearch k ≡ false → (bs′ : List ℕ) (zs′ ss′ : List ℤ) (c′ : Clock) (l : List ℕ) → Gives (effect k X L) r (lentAll bs′ zs′ ss′ c′) l
+  -- a call that is no search answers without a run, and one that is no run uses nothing
+  gives : (k : Ask) → rowAsk texts numbers words row ≡ k → (isSearch k ≡ false) × (isRun k ≡ false) → (bs′ : List ℕ) (zs′ ss′ : List ℤ) (c′ : Clock) (l : List ℕ) → Gives (effect k X L) r (lentAll bs′ zs′ ss′ c′) l
       → Called C (lentAll bs zs ss c) ls (resultNumbers r) (lentAll (bs′ ++ drop (row .model) bs) (zs′ ++ drop (row .state) zs) (ss′ ++ drop (row .saves) ss) c′) (l ++ drop (row .output) ls)
   gives k e f bs′ zs′ ss′ c′ l g = gives-numbers k e (resultNumbers r) numbers-are bs′ zs′ ss′ c′ l g
     where
-      no-entries : 0 ∷ 0 ∷ 0 ∷ 0 ∷ 0 ∷ 0 ∷ 0 ∷ 0 ∷ 0 ∷ [] ≡ length (effect k X L .answer .run) ∷ entriesOf (effect k X L .answer .run)
-      no-entries = unfold entriesOf in ap (λ (r : List ℕ). length r ∷ entriesOf r) (sym (without-run k X L f))
+      no-entries : 0 ∷ 0 ∷ 0 ∷ 0 ∷ 0 ∷ 0 ∷ 0 ∷ 0 ∷ 0 ∷ 0 ∷ 0 ∷ 0 ∷ [] ≡ length (effect k X L .answer .run) ∷ (entriesOf (effect k X L .answer .run) ++ usedOf (effect k X L .answer .used))
+      no-entries = unfold entriesOf usedOf in ap₂ (λ (r us : List ℕ). length r ∷ (entriesOf r ++ usedOf us)) (sym (without-run k X L (f .0))) (sym (without-used k X L (f .1)))
 
       numbers-are : resultNumbers r ≡ answerNumbers (effect k X L .answer)
       numbers-are = unfold resultNumbers answerNumbers in λ i. g .number i ∷ g .place i ∷ g .branch i ∷ g .count i ∷ g .total i ∷ g .chosen i ∷ no-entries i
 
   -- a call that is lent no output leaves the outputs
-  bare-gives : (k : Ask) → rowAsk texts numbers row ≡ k → isSearch k ≡ false → Bare (effect k X L) (effect k X []) L → (bs′ : List ℕ) (zs′ ss′ : List ℤ) (c′ : Clock) → Gives (effect k X []) r (lentAll bs′ zs′ ss′ c′) []
+  bare-gives : (k : Ask) → rowAsk texts numbers words row ≡ k → (isSearch k ≡ false) × (isRun k ≡ false) → Bare (effect k X L) (effect k X []) L → (bs′ : List ℕ) (zs′ ss′ : List ℤ) (c′ : Clock) → Gives (effect k X []) r (lentAll bs′ zs′ ss′ c′) []
       → Called C (lentAll bs zs ss c) ls (resultNumbers r) (lentAll (bs′ ++ drop (row .model) bs) (zs′ ++ drop (row .state) zs) (ss′ ++ drop (row .saves) ss) c′) ls
   bare-gives k e f w bs′ zs′ ss′ c′ h =
       rw (take-append-drop (row .output) ls) at
@@ -306,7 +316,7 @@ module _ (row : Row) (texts numbers bs : List ℕ) (zs ss : List ℤ) (c : Clock
       }))
 
   -- a request that is lent model and state leaves the saves and the clock
-  two-gives : (q : Request) → uses q ≡ twoParts → rowAsk texts numbers row ≡ on′ q → isSearch (on′ q) ≡ false → (bs′ : List ℕ) (zs′ : List ℤ) (l : List ℕ)
+  two-gives : (q : Request) → uses q ≡ twoParts → rowAsk texts numbers words row ≡ on′ q → (isSearch (on′ q) ≡ false) × (isRun (on′ q) ≡ false) → (bs′ : List ℕ) (zs′ : List ℤ) (l : List ℕ)
       → Gives (effect (on′ q) (lentTwo (take (row .model) bs) (take (row .state) zs)) L) r (lentTwo bs′ zs′) l
       → Called C (lentAll bs zs ss c) ls (resultNumbers r) (lentAll (bs′ ++ drop (row .model) bs) (zs′ ++ drop (row .state) zs) ss c) (l ++ drop (row .output) ls)
   two-gives q u e f bs′ zs′ l h =
@@ -346,28 +356,28 @@ module _ (row : Row) (texts numbers bs : List ℕ) (zs ss : List ℤ) (c : Clock
   pub opening-called : row .kind ≡ 1 → (bs′ : List ℕ) (zs′ ss′ : List ℤ) (c′ : Clock) → Gives (effect (open′ T) X []) r (lentAll bs′ zs′ ss′ c′) []
       → Called C (lentAll bs zs ss c) ls (resultNumbers r) (lentAll (bs′ ++ drop (row .model) bs) (zs′ ++ drop (row .state) zs) (ss′ ++ drop (row .saves) ss) c′) ls
   unfolding rowAsk
-  opening-called e bs′ zs′ ss′ c′ g = bare-gives (open′ (rowText texts row)) (rw e) (unfold isSearch in refl) (open-bare (rowText texts row) X L) bs′ zs′ ss′ c′ (rw text-is at g)
+  opening-called e bs′ zs′ ss′ c′ g = bare-gives (open′ (rowText texts row)) (rw e) (unfold isSearch isRun in (refl, refl)) (open-bare (rowText texts row) X L) bs′ zs′ ss′ c′ (rw text-is at g)
 
   -- 02, note 11
   pub steady-called : row .kind ≡ 9 → (bs′ : List ℕ) (zs′ ss′ : List ℤ) (c′ : Clock) → Gives (effect (openSteady′ T) X []) r (lentAll bs′ zs′ ss′ c′) []
       → Called C (lentAll bs zs ss c) ls (resultNumbers r) (lentAll (bs′ ++ drop (row .model) bs) (zs′ ++ drop (row .state) zs) (ss′ ++ drop (row .saves) ss) c′) ls
   unfolding rowAsk
-  steady-called e bs′ zs′ ss′ c′ g = bare-gives (openSteady′ (rowText texts row)) (rw e) (unfold isSearch in refl) (steady-bare (rowText texts row) X L) bs′ zs′ ss′ c′ (rw text-is at g)
+  steady-called e bs′ zs′ ss′ c′ g = bare-gives (openSteady′ (rowText texts row)) (rw e) (unfold isSearch isRun in (refl, refl)) (steady-bare (rowText texts row) X L) bs′ zs′ ss′ c′ (rw text-is at g)
 
   pub listing-called : row .kind ≡ 2 → (l : List ℕ) → Gives (effect (on′ list′) (lentTwo (take (row .model) bs) (take (row .state) zs)) L) r (lentTwo (take (row .model) bs) (take (row .state) zs)) l
       → Called C (lentAll bs zs ss c) ls (resultNumbers r) (lentAll bs zs ss c) (l ++ drop (row .output) ls)
   unfolding rowAsk
-  listing-called e l g = rw (take-append-drop (row .model) bs, take-append-drop (row .state) zs) at (two-gives list′ refl (rw e) (unfold isSearch in refl) (take (row .model) bs) (take (row .state) zs) l g)
+  listing-called e l g = rw (take-append-drop (row .model) bs, take-append-drop (row .state) zs) at (two-gives list′ refl (rw e) (unfold isSearch isRun in (refl, refl)) (take (row .model) bs) (take (row .state) zs) l g)
 
   pub reporting-called : row .kind ≡ 4 → (l : List ℕ) → Gives (effect (on′ report′) (lentTwo (take (row .model) bs) (take (row .state) zs)) L) r (lentTwo (take (row .model) bs) (take (row .state) zs)) l
       → Called C (lentAll bs zs ss c) ls (resultNumbers r) (lentAll bs zs ss c) (l ++ drop (row .output) ls)
   unfolding rowAsk
-  reporting-called e l g = rw (take-append-drop (row .model) bs, take-append-drop (row .state) zs) at (two-gives report′ refl (rw e) (unfold isSearch in refl) (take (row .model) bs) (take (row .state) zs) l g)
+  reporting-called e l g = rw (take-append-drop (row .model) bs, take-append-drop (row .state) zs) at (two-gives report′ refl (rw e) (unfold isSearch isRun in (refl, refl)) (take (row .model) bs) (take (row .state) zs) l g)
 
   pub stepping-called : row .kind ≡ 3 → (zs′ : List ℤ) (l : List ℕ) → Gives (effect (on′ (step′ (row .number))) (lentTwo (take (row .model) bs) (take (row .state) zs)) L) r (lentTwo (take (row .model) bs) zs′) l
       → Called C (lentAll bs zs ss c) ls (resultNumbers r) (lentAll bs (zs′ ++ drop (row .state) zs) ss c) (l ++ drop (row .output) ls)
   unfolding rowAsk
-  stepping-called e zs′ l g = rw (take-append-drop (row .model) bs) at (two-gives (step′ (row .number)) refl (rw e) (unfold isSearch in refl) (take (row .model) bs) zs′ l g)
+  stepping-called e zs′ l g = rw (take-append-drop (row .model) bs) at (two-gives (step′ (row .number)) refl (rw e) (unfold isSearch isRun in (refl, refl)) (take (row .model) bs) zs′ l g)
 
   -- 02, note 4: a timed step leaves the saves
   pub timing-called : row .kind ≡ 8 → (zs′ : List ℤ) (c′ : Clock) (l : List ℕ)
@@ -378,7 +388,7 @@ module _ (row : Row) (texts numbers bs : List ℕ) (zs ss : List ℤ) (c : Clock
       let q = timed′ (rowDraws numbers row) (row .number) in
       let a = timed-effect (take (row .model) bs) (take (row .state) zs) (take (row .saves) ss) c q refl L in
       rw (take-append-drop (row .model) bs, take-append-drop (row .saves) ss) at
-      (gives (on′ q) (rw e) (unfold isSearch in refl) (take (row .model) bs) zs′ (take (row .saves) ss) c′ l
+      (gives (on′ q) (rw e) (unfold isSearch isRun in (refl, refl)) (take (row .model) bs) zs′ (take (row .saves) ss) c′ l
       (alike-gives (lentTimed (take (row .model) bs) zs′ c′) (lentAll (take (row .model) bs) zs′ (take (row .saves) ss) c′) l a (rw draws-are at g) at others))
     where
       at : (p : Part) → isLent p timedParts ≡ true → lentAll (take (row .model) bs) zs′ (take (row .saves) ss) c′ p ≡ lentTimed (take (row .model) bs) zs′ c′ p
@@ -400,7 +410,7 @@ module _ (row : Row) (texts numbers bs : List ℕ) (zs ss : List ℤ) (c : Clock
   saving-called e ss′ g =
       let n = rowText texts row in
       rw (take-append-drop (row .model) bs, take-append-drop (row .state) zs) at
-      (bare-gives (on′ (save′ n)) (rw e) (unfold isSearch in refl) (named-bare (save′ n) (saving n) (λ h. refl) refl X L) (take (row .model) bs) (take (row .state) zs) ss′ c (rw text-is at g))
+      (bare-gives (on′ (save′ n)) (rw e) (unfold isSearch isRun in (refl, refl)) (named-bare (save′ n) (saving n) (λ h. refl) refl X L) (take (row .model) bs) (take (row .state) zs) ss′ c (rw text-is at g))
 
   pub returning-called : row .kind ≡ 6 → (zs′ : List ℤ) (c′ : Clock) → Gives (effect (on′ (return′ T)) X []) r (lentAll (take (row .model) bs) zs′ (take (row .saves) ss) c′) []
       → Called C (lentAll bs zs ss c) ls (resultNumbers r) (lentAll bs (zs′ ++ drop (row .state) zs) ss c′) ls
@@ -408,7 +418,7 @@ module _ (row : Row) (texts numbers bs : List ℕ) (zs ss : List ℤ) (c : Clock
   returning-called e zs′ c′ g =
       let n = rowText texts row in
       rw (take-append-drop (row .model) bs, take-append-drop (row .saves) ss) at
-      (bare-gives (on′ (return′ n)) (rw e) (unfold isSearch in refl) (named-bare (return′ n) (returning n) (λ h. refl) refl X L) (take (row .model) bs) zs′ (take (row .saves) ss) c′ (rw text-is at g))
+      (bare-gives (on′ (return′ n)) (rw e) (unfold isSearch isRun in (refl, refl)) (named-bare (return′ n) (returning n) (λ h. refl) refl X L) (take (row .model) bs) zs′ (take (row .saves) ss) c′ (rw text-is at g))
 
   pub forgetting-called : row .kind ≡ 7 → (ss′ : List ℤ)
       → Gives (effect (on′ (forget′ T)) (lentThree (take (row .model) bs) (take (row .state) zs) (take (row .saves) ss)) []) r (lentThree (take (row .model) bs) (take (row .state) zs) ss′) []
@@ -418,7 +428,7 @@ module _ (row : Row) (texts numbers bs : List ℕ) (zs ss : List ℤ) (c : Clock
       let n = rowText texts row in
       let a = three-effect (take (row .model) bs) (take (row .state) zs) (take (row .saves) ss) c (forget′ n) refl [] in
       rw (take-append-drop (row .model) bs, take-append-drop (row .state) zs) at
-      (bare-gives (on′ (forget′ n)) (rw e) (unfold isSearch in refl) (named-bare (forget′ n) (forgetting n) (λ h. refl) refl X L) (take (row .model) bs) (take (row .state) zs) ss′ c
+      (bare-gives (on′ (forget′ n)) (rw e) (unfold isSearch isRun in (refl, refl)) (named-bare (forget′ n) (forgetting n) (λ h. refl) refl X L) (take (row .model) bs) (take (row .state) zs) ss′ c
       (alike-gives (lentThree (take (row .model) bs) (take (row .state) zs) ss′) (lentAll (take (row .model) bs) (take (row .state) zs) ss′ c) [] a (rw text-is at g) at others))
     where
       at : (p : Part) → isLent p threeParts ≡ true → lentAll (take (row .model) bs) (take (row .state) zs) ss′ c p ≡ lentThree (take (row .model) bs) (take (row .state) zs) ss′ p
@@ -434,7 +444,7 @@ module _ (row : Row) (texts numbers bs : List ℕ) (zs ss : List ℤ) (c : Clock
       others clock e = unfold lentAll isLent in refl
 
 -- 02, note 8: a search changes nothing
-module _ (row : Row) (texts numbers bs : List ℕ) (zs ss : List ℤ) (c : Clock) (ls : List ℕ) (f : Found) where
+module _ (row : Row) (texts numbers words bs : List ℕ) (zs ss : List ℤ) (c : Clock) (ls : List ℕ) (f : Found) where
   abbrev B : List ℕ
   B = take (row .model) bs
 
@@ -463,9 +473,16 @@ module _ (row : Row) (texts numbers bs : List ℕ) (zs ss : List ℤ) (c : Clock
     numbers-are : foundNumbers f ≡ answerNumbers (effect K W (take (row .output) ls) .answer)
     numbers-are = by ∙ ap answerNumbers answers-same
       where
-        entries : getD (f .run) 0 0 ∷ getD (f .run) 1 0 ∷ getD (f .run) 2 0 ∷ getD (f .run) 3 0 ∷ getD (f .run) 4 0 ∷ getD (f .run) 5 0 ∷ getD (f .run) 6 0 ∷ getD (f .run) 7 0 ∷ []
+        entries-eight : getD (f .run) 0 0 ∷ getD (f .run) 1 0 ∷ getD (f .run) 2 0 ∷ getD (f .run) 3 0 ∷ getD (f .run) 4 0 ∷ getD (f .run) 5 0 ∷ getD (f .run) 6 0 ∷ getD (f .run) 7 0 ∷ []
             ≡ entriesOf (effect K (lentTwo B Z) [] .answer .run)
-        entries = eight (f .run) (ap length (g .run) ∙ eight-entries (effect K (lentTwo B Z) [] .answer .run)) ∙ g .run
+        entries-eight = eight (f .run) (ap length (g .run) ∙ eight-entries (effect K (lentTwo B Z) [] .answer .run)) ∙ g .run
+
+        none-used : 0 ∷ 0 ∷ 0 ∷ [] ≡ usedOf (effect K (lentTwo B Z) [] .answer .used)
+        none-used = unfold usedOf in ap usedOf (sym (without-used K (lentTwo B Z) [] (unfold isRun in refl)))
+
+        entries : getD (f .run) 0 0 ∷ getD (f .run) 1 0 ∷ getD (f .run) 2 0 ∷ getD (f .run) 3 0 ∷ getD (f .run) 4 0 ∷ getD (f .run) 5 0 ∷ getD (f .run) 6 0 ∷ getD (f .run) 7 0 ∷ 0 ∷ 0 ∷ 0 ∷ []
+            ≡ entriesOf (effect K (lentTwo B Z) [] .answer .run) ++ usedOf (effect K (lentTwo B Z) [] .answer .used)
+        entries = ap₂ (λ (a b : List ℕ). a ++ b) entries-eight none-used
 
         by : foundNumbers f ≡ answerNumbers (effect K (lentTwo B Z) [] .answer)
         by = unfold foundNumbers answerNumbers in λ i. g .number i ∷ sym (alone .place) i ∷ sym (alone .branch) i ∷ sym (alone .count) i ∷ sym (alone .total) i ∷ sym (alone .chosen) i ∷ g .long i ∷ entries i
@@ -512,32 +529,124 @@ module _ (row : Row) (texts numbers bs : List ℕ) (zs ss : List ℤ) (c : Clock
       output = sym (same-bare .output);
     }
 
-    searched : row .kind ≡ 10 → Called (rowCall texts numbers row) (lentAll bs zs ss c) ls (foundNumbers f) (lentAll bs zs ss c) ls
+    searched : row .kind ≡ 10 → Called (rowCall texts numbers words row) (lentAll bs zs ss c) ls (foundNumbers f) (lentAll bs zs ss c) ls
     unfolding rowAsk
     searched e =
         rw (take-append-drop (row .model) bs, take-append-drop (row .state) zs, take-append-drop (row .saves) ss, take-append-drop (row .output) ls) at
-        (gives-numbers row texts numbers bs zs ss c ls r K (rw e) (foundNumbers f) numbers-are B Z (take (row .saves) ss) c L₁ same-lent)
+        (gives-numbers row texts numbers words bs zs ss c ls r K (rw e) (foundNumbers f) numbers-are B Z (take (row .saves) ss) c L₁ same-lent)
 
   pub searching-called : row .kind ≡ 10
       → GivesRun (effect (on′ (search′ (take (row .text + row .size - row .text) (drop (row .text) texts)) (row .number))) (lentTwo B Z) []) f (lentTwo B Z)
-      → Called (rowCall texts numbers row) (lentAll bs zs ss c) ls (foundNumbers f) (lentAll bs zs ss c) ls
-  searching-called e g = searched (rw (text-is row texts numbers bs zs ss c ls r) at g) e
+      → Called (rowCall texts numbers words row) (lentAll bs zs ss c) ls (foundNumbers f) (lentAll bs zs ss c) ls
+  searching-called e g = searched (rw (text-is row texts numbers words bs zs ss c ls r) at g) e
+
+-- R.4 to R.7: a run leaves the saves, and its events stand in the output
+module _ (row : Row) (texts numbers words bs : List ℕ) (zs ss : List ℤ) (c : Clock) (ls : List ℕ) (r : Told) where
+  abbrev B₂ : List ℕ
+  B₂ = take (row .model) bs
+
+  abbrev Z₂ : List ℤ
+  Z₂ = take (row .state) zs
+
+  abbrev S₂ : List ℤ
+  S₂ = take (row .saves) ss
+
+  abbrev L₂ : List ℕ
+  L₂ = take (row .output) ls
+
+  abbrev Q : Request
+  Q = run′ (rowWords words row) (rowDraws numbers row) (row .number) (row .output)
+
+  -- what the code's result says of the effect
+  abbrev a : engine.Answer
+  a = record { number = r .number; place = 0; branch = 0; count = r .count; total = r .total; chosen = 0 }
+
+  abbrev E : Effect
+  E = effect (on′ Q) (lentTimed B₂ Z₂ c) L₂
+
+  module _ (zs′ : List ℤ) (c′ : Clock) (l : List ℕ) (g : GivesRan E r (lentTimed B₂ zs′ c′) l) where
+    abbrev says : used.Bare (E .answer)
+    says = run-bare (rowWords words row) (rowDraws numbers row) (row .number) (row .output) (lentTimed B₂ Z₂ c) L₂
+
+    alike-run : Alike timedParts E (effect (on′ Q) (lentAll B₂ Z₂ S₂ c) L₂) (lentAll B₂ Z₂ S₂ c)
+    alike-run = timed-effect B₂ Z₂ S₂ c Q refl L₂
+
+    ran-numbers : ranNumbers r ≡ answerNumbers (effect (on′ Q) (lentAll B₂ Z₂ S₂ c) L₂ .answer)
+    ran-numbers = by ∙ ap answerNumbers (alike-run .answer)
+      where
+        no-run : [] ≡ E .answer .run
+        no-run = sym (without-run (on′ Q) (lentTimed B₂ Z₂ c) L₂ (unfold isSearch in refl))
+
+        rest : 0 ∷ 0 ∷ 0 ∷ 0 ∷ 0 ∷ 0 ∷ 0 ∷ 0 ∷ 0 ∷ r .steps ∷ r .words ∷ r .waiting ∷ [] ≡ length (E .answer .run) ∷ (entriesOf (E .answer .run) ++ usedOf (E .answer .used))
+        rest = unfold entriesOf usedOf in λ i. length (no-run i) ∷ (entriesOf (no-run i) ++ (g .steps i ∷ g .words i ∷ g .waiting i ∷ []))
+
+        by : ranNumbers r ≡ answerNumbers (E .answer)
+        by = unfold ranNumbers answerNumbers in λ i. g .number i ∷ sym (says .place) i ∷ sym (says .branch) i ∷ g .count i ∷ g .total i ∷ sym (says .chosen) i ∷ rest i
+
+    given : Gives E a (lentTimed B₂ zs′ c′) l
+    given = record {
+      number = g .number;
+      place = sym (says .place);
+      branch = sym (says .branch);
+      count = g .count;
+      total = g .total;
+      chosen = sym (says .chosen);
+      buffers = g .buffers;
+      output = g .output;
+    }
+
+    given-all : Gives (effect (on′ Q) (lentAll B₂ Z₂ S₂ c) L₂) a (lentAll B₂ zs′ S₂ c′) l
+    given-all = alike-gives (lentTimed B₂ zs′ c′) (lentAll B₂ zs′ S₂ c′) l alike-run given at others
+      where
+        at : (p : Part) → isLent p timedParts ≡ true → lentAll B₂ zs′ S₂ c′ p ≡ lentTimed B₂ zs′ c′ p
+        at model e = unfold lentTimed lentAll isLent in refl
+        at state e = unfold lentTimed lentAll isLent in refl
+        at saves e = unfold lentTimed lentAll isLent in absurd (let z : _≡_ {A = ℕ} 0 1 = cc in omega arith)
+        at clock e = unfold lentTimed lentAll isLent in refl
+
+        others : (p : Part) → isLent p timedParts ≡ false → lentAll B₂ zs′ S₂ c′ p ≡ lentAll B₂ Z₂ S₂ c p
+        others model e = unfold lentAll isLent in absurd (let z : _≡_ {A = ℕ} 0 1 = cc in omega arith)
+        others state e = unfold lentAll isLent in absurd (let z : _≡_ {A = ℕ} 0 1 = cc in omega arith)
+        others saves e = unfold lentAll isLent in refl
+        others clock e = unfold lentAll isLent in absurd (let z : _≡_ {A = ℕ} 0 1 = cc in omega arith)
+
+    ran-so : row .kind ≡ 11 → Called (rowCall texts numbers words row) (lentAll bs zs ss c) ls (ranNumbers r) (lentAll bs (zs′ ++ drop (row .state) zs) ss c′) (l ++ drop (row .output) ls)
+    unfolding rowAsk
+    ran-so e =
+        rw (take-append-drop (row .model) bs, take-append-drop (row .saves) ss) at
+        (gives-numbers row texts numbers words bs zs ss c ls a (on′ Q) (rw e) (ranNumbers r) ran-numbers B₂ zs′ S₂ c′ l given-all)
+
+  words-are : take (row .start + row .words - row .start) (drop (row .start) words) ≡ rowWords words row
+  unfolding rowWords
+  words-are = let n : row .start + row .words - row .start ≡ row .words = omega arith in ap (λ (k : ℕ). take k (drop (row .start) words)) n
+
+  -- with the words, the waiting draws and the length as the code lends them
+  lent-so : row .output ≤ length ls
+      → effect (on′ (run′ (take (row .start + row .words - row .start) (drop (row .start) words)) (take (row .from + row .count - row .from) (drop (row .from) numbers)) (row .number) (length L₂))) (lentTimed B₂ Z₂ c) L₂ ≡ E
+  lent-so h =
+      λ i. effect (on′ (run′ (words-are i) (draws-are row texts numbers words bs zs ss c ls a i) (row .number) (length-take-le (row .output) ls h i))) (lentTimed B₂ Z₂ c) L₂
+
+  pub running-called : row .kind ≡ 11 → row .output ≤ length ls → (zs′ : List ℤ) (c′ : Clock) (l : List ℕ)
+      → GivesRan (effect (on′ (run′ (take (row .start + row .words - row .start) (drop (row .start) words)) (take (row .from + row .count - row .from) (drop (row .from) numbers)) (row .number) (length L₂))) (lentTimed B₂ Z₂ c) L₂) r (lentTimed B₂ zs′ c′) l
+      → Called (rowCall texts numbers words row) (lentAll bs zs ss c) ls (ranNumbers r) (lentAll bs (zs′ ++ drop (row .state) zs) ss c′) (l ++ drop (row .output) ls)
+  running-called e h zs′ c′ l g = ran-so zs′ c′ l (subst (λ (w : Effect). GivesRan w r (lentTimed B₂ zs′ c′) l) (lent-so h) g) e
 
 -- ---- kinds that are left
 
-pub named-kind : (k : ℕ) → 1 ≤ k → k ≤ 10 → (k ≡ 10 → ⊥) → (k ≡ 1 → ⊥) → (k ≡ 2 → ⊥) → (k ≡ 4 → ⊥) → (k ≡ 3 → ⊥) → (k ≡ 8 → ⊥) → (k ≡ 9 → ⊥) → (5 ≤ k) × (k ≤ 7)
-named-kind zero l m g a b c d e f = absurd (omega arith)
-named-kind (suc zero) l m g a b c d e f = absurd (a refl)
-named-kind (suc (suc zero)) l m g a b c d e f = absurd (b refl)
-named-kind (suc (suc (suc zero))) l m g a b c d e f = absurd (d refl)
-named-kind (suc (suc (suc (suc zero)))) l m g a b c d e f = absurd (c refl)
-named-kind (suc (suc (suc (suc (suc zero))))) l m g a b c d e f = (omega arith, omega arith)
-named-kind (suc (suc (suc (suc (suc (suc zero)))))) l m g a b c d e f = (omega arith, omega arith)
-named-kind (suc (suc (suc (suc (suc (suc (suc zero))))))) l m g a b c d e f = (omega arith, omega arith)
-named-kind (suc (suc (suc (suc (suc (suc (suc (suc zero)))))))) l m g a b c d e f = absurd (e refl)
-named-kind (suc (suc (suc (suc (suc (suc (suc (suc (suc zero))))))))) l m g a b c d e f = absurd (f refl)
-named-kind (suc (suc (suc (suc (suc (suc (suc (suc (suc (suc zero)))))))))) l m g a b c d e f = absurd (g refl)
-named-kind (suc (suc (suc (suc (suc (suc (suc (suc (suc (suc (suc k))))))))))) l m g a b c d e f = absurd (omega arith)
+pub named-kind : (k : ℕ) → 1 ≤ k → k ≤ 11 → (k ≡ 11 → ⊥) → (k ≡ 10 → ⊥) → (k ≡ 1 → ⊥) → (k ≡ 2 → ⊥) → (k ≡ 4 → ⊥) → (k ≡ 3 → ⊥) → (k ≡ 8 → ⊥) → (k ≡ 9 → ⊥) → (5 ≤ k) × (k ≤ 7)
+named-kind zero l m o g a b c d e f = absurd (omega arith)
+named-kind (suc zero) l m o g a b c d e f = absurd (a refl)
+named-kind (suc (suc zero)) l m o g a b c d e f = absurd (b refl)
+named-kind (suc (suc (suc zero))) l m o g a b c d e f = absurd (d refl)
+named-kind (suc (suc (suc (suc zero)))) l m o g a b c d e f = absurd (c refl)
+named-kind (suc (suc (suc (suc (suc zero))))) l m o g a b c d e f = (omega arith, omega arith)
+named-kind (suc (suc (suc (suc (suc (suc zero)))))) l m o g a b c d e f = (omega arith, omega arith)
+named-kind (suc (suc (suc (suc (suc (suc (suc zero))))))) l m o g a b c d e f = (omega arith, omega arith)
+named-kind (suc (suc (suc (suc (suc (suc (suc (suc zero)))))))) l m o g a b c d e f = absurd (e refl)
+named-kind (suc (suc (suc (suc (suc (suc (suc (suc (suc zero))))))))) l m o g a b c d e f = absurd (f refl)
+named-kind (suc (suc (suc (suc (suc (suc (suc (suc (suc (suc zero)))))))))) l m o g a b c d e f = absurd (g refl)
+named-kind (suc (suc (suc (suc (suc (suc (suc (suc (suc (suc (suc zero))))))))))) l m o g a b c d e f = absurd (o refl)
+named-kind (suc (suc (suc (suc (suc (suc (suc (suc (suc (suc (suc (suc k)))))))))))) l m o g a b c d e f = absurd (omega arith)
 
 pub last-kind : (k : ℕ) → 5 ≤ k → k ≤ 7 → (k ≡ 5 → ⊥) → (k ≡ 6 → ⊥) → k ≡ 7
 last-kind k l m a b = by (k - 5) (omega arith)

@@ -1,6 +1,7 @@
 pub mod Front
 pub mod Called
 pub mod Fitting
+pub mod Used
 pub mod Calling
 pub mod Running
 pub mod Places

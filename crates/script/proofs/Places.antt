@@ -8,9 +8,8 @@ use borrow.Author.Tests.{leb-true, leb-false}
 use lib.Dec.{leb}
 use lib.ListN.{length, take, drop, length-take, length-drop}
 use lib.Seq.{take-all, take-at, drop-at, length-take-le}
-use Rattle.machine.specs.Machine.{listingLength}
 use Rattle.buffers.specs.Parts.{Engine}
-use Rattle.script.specs.Rows.{rowWidth, answerWidth, firstCall}
+use Rattle.script.specs.Rows.{rowWidth, answerWidth, outputWidth, firstCall}
 use Rattle.script.specs.Run.{lentOf, roomOf, RowRan, lentFrom, RowRanAt}
 use Rattle.script.proofs.Front.{drop-all}
 
@@ -70,17 +69,17 @@ module _ {A : Type 0} (i w p : ℕ) (l : List A) (e : p ≡ min (i * w) (length 
 
 -- ---- a row run from its place
 
-module _ (i p q a : ℕ) (script texts numbers : List ℕ) (x : Engine) (ls ns : List ℕ)
-    (ep : p ≡ min (i * rowWidth) (length script)) (eq : q ≡ min (i * listingLength) (length ls)) (ea : a ≡ min (i * answerWidth) (length ns)) where
+module _ (i p q a : ℕ) (script texts numbers words : List ℕ) (x : Engine) (ls ns : List ℕ)
+    (ep : p ≡ min (i * rowWidth) (length script)) (eq : q ≡ min (i * outputWidth) (length ls)) (ea : a ≡ min (i * answerWidth) (length ns)) where
   pub ran-at : (r : Bool) (x′ : Engine) (ls′ ns′ : List ℕ)
       → (kl : length ls′ ≡ length (take (length ls - q) (drop q ls))) (kn : length ns′ ≡ length (take (length ns - a) (drop a ns)))
-      → RowRan (firstCall (take (length script - p) (drop p script)) texts numbers (roomOf (lentOf x (take (length ls - q) (drop q ls)) (take (length ns - a) (drop a ns)))))
+      → RowRan (firstCall (take (length script - p) (drop p script)) texts numbers words (roomOf (lentOf x (take (length ls - q) (drop q ls)) (take (length ns - a) (drop a ns)))))
       (lentOf x (take (length ls - q) (drop q ls)) (take (length ns - a) (drop a ns))) r (lentOf x′ ls′ ns′)
-      → RowRanAt i script texts numbers (lentOf x ls ns) r (lentOf x′ (put i listingLength q ls eq ls′ kl) (put i answerWidth a ns ea ns′ kn))
+      → RowRanAt i script texts numbers words (lentOf x ls ns) r (lentOf x′ (put i outputWidth q ls eq ls′ kl) (put i answerWidth a ns ea ns′ kn))
   unfolding lentFrom
   ran-at r x′ ls′ ns′ kl kn h = record {
-    ran = rw (put-after i listingLength q ls eq ls′ kl, put-after i answerWidth a ns ea ns′ kn)
-        (rw (part-is i rowWidth p script ep, part-is i listingLength q ls eq, part-is i answerWidth a ns ea) at h);
-    outputs-before = put-before i listingLength q ls eq ls′ kl;
+    ran = rw (put-after i outputWidth q ls eq ls′ kl, put-after i answerWidth a ns ea ns′ kn)
+        (rw (part-is i rowWidth p script ep, part-is i outputWidth q ls eq, part-is i answerWidth a ns ea) at h);
+    outputs-before = put-before i outputWidth q ls eq ls′ kl;
     answers-before = put-before i answerWidth a ns ea ns′ kn;
   }

@@ -19,9 +19,9 @@ use Rattle.script.specs.declared.Row.{Row}
 use Rattle.script.specs.Rows.{rowWidth, answerWidth, rowOf, rowLengths, fits, rowCall, callOf, firstCall}
 use Rattle.script.specs.Run.{Lent, lentFour, lentOf, roomOf, lengthsOf, effectOf, answerNumbers, callLeft, resultNumbers, Called, RowRan}
 
-module _ (script texts numbers : List ℕ) (x : Lent) where
+module _ (script texts numbers words : List ℕ) (x : Lent) where
   abbrev Runs : Bool → Lent → Type 0
-  Runs r y = RowRan (firstCall script texts numbers (roomOf x)) x r y
+  Runs r y = RowRan (firstCall script texts numbers words (roomOf x)) x r y
 
   -- there is no row
   pub no-row : length script < rowWidth → Runs false x
@@ -36,9 +36,9 @@ module _ (script texts numbers : List ℕ) (x : Lent) where
 
     module _ (g : answerWidth ≤ length (x .answers)) (row : Row) (e : row ≡ rowOf script) where
       abbrev Fitting : Bool → Type 0
-      Fitting t = fits row (length texts) (length numbers) (λ (p : Part). length (x .engine p)) (length (x .outputs)) ≡ t
+      Fitting t = fits row (length texts) (length numbers) (length words) (λ (p : Part). length (x .engine p)) (length (x .outputs)) ≡ t
 
-      tested : (t : Bool) → Fitting t → firstCall script texts numbers (roomOf x) ≡ cond t (some (rowCall texts numbers row)) none
+      tested : (t : Bool) → Fitting t → firstCall script texts numbers words (roomOf x) ≡ cond t (some (rowCall texts numbers words row)) none
       unfolding firstCall callOf roomOf
       tested t f = rw (le-leb rowWidth (length script) h, le-leb answerWidth (length (x .answers)) g, ← e, f)
 
@@ -48,14 +48,14 @@ module _ (script texts numbers : List ℕ) (x : Lent) where
       no-call f = rw (tested false f) (refl, refl)
 
       -- a call
-      pub made : Fitting true → (y : Lent) → y ≡ callLeft (rowCall texts numbers row) x → Runs true y
+      pub made : Fitting true → (y : Lent) → y ≡ callLeft (rowCall texts numbers words row) x → Runs true y
       unfolding RowRan
       made f y q = rw (tested true f) (refl, q)
 
 -- the lengths of the parts are those of the engine that they are
-pub four-fits : (row : Row) (t n o : ℕ) (bs : List ℕ) (zs ss : List ℤ) (cs : List ℕ) (b : Bool)
-    → fits row t n (lengthsOf (length bs) (length zs) (length ss) (length cs)) o ≡ b → fits row t n (λ (p : Part). length (lentFour bs zs ss cs p)) o ≡ b
-four-fits row t n o bs zs ss cs b e = ap (λ (l : Part → ℕ). fits row t n l o) (λ i p. sym (at p) i) ∙ e
+pub four-fits : (row : Row) (t n w o : ℕ) (bs : List ℕ) (zs ss : List ℤ) (cs : List ℕ) (b : Bool)
+    → fits row t n w (lengthsOf (length bs) (length zs) (length ss) (length cs)) o ≡ b → fits row t n w (λ (p : Part). length (lentFour bs zs ss cs p)) o ≡ b
+four-fits row t n w o bs zs ss cs b e = ap (λ (l : Part → ℕ). fits row t n w l o) (λ i p. sym (at p) i) ∙ e
   where
     at : (p : Part) → lengthsOf (length bs) (length zs) (length ss) (length cs) p ≡ length (lentFour bs zs ss cs p)
     at model = unfold lengthsOf lentFour in refl
@@ -76,9 +76,9 @@ clock-whole (a ∷ []) h = absurd (omega arith)
 clock-whole (a ∷ b ∷ cs) h = refl
 
 -- a call that is given the clock, on the numbers of a clock
-module _ (texts numbers : List ℕ) (row : Row) (bs : List ℕ) (zs ss : List ℤ) (cs ls ns : List ℕ) (bs′ : List ℕ) (zs′ ss′ : List ℤ) (c′ : Clock) (cs′ ls′ : List ℕ) where
+module _ (texts numbers words : List ℕ) (row : Row) (bs : List ℕ) (zs ss : List ℤ) (cs ls ns : List ℕ) (bs′ : List ℕ) (zs′ ss′ : List ℤ) (c′ : Clock) (cs′ ls′ : List ℕ) where
   abbrev C : Call
-  C = rowCall texts numbers row
+  C = rowCall texts numbers words row
 
   abbrev given : Effect
   given = effectOf C (lentAll bs zs ss (clockIn cs)) ls

@@ -11,36 +11,36 @@ use lib.Dec.{leb}
 use lib.IntN.{ℤ}
 use lib.ListN.{length, take, drop, length-drop, take-append-drop}
 use lib.Seq.{drop-drop, take-add}
-use Rattle.machine.specs.Machine.{listingLength, Part, model, state, saves, clock, Call}
-use Rattle.script.specs.Rows.{rowWidth, answerWidth, rowOf, rows, rowsOf, Room, roomAfter, callOf, firstCall, callsOf, callsIn}
+use Rattle.machine.specs.Machine.{Part, model, state, saves, clock, Call}
+use Rattle.script.specs.Rows.{rowWidth, answerWidth, outputWidth, rowOf, rows, rowsOf, Room, roomAfter, callOf, firstCall, callsOf, callsIn}
 use Rattle.script.specs.Run.{Lent, lentFour, lentOf, roomOf, callLeft, nextLent, joined, runLeft, RowRan, lentFrom, RowRanAt, Ran}
 
 -- ---- the first row of a script, and the others
 
-module _ (script texts numbers : List ℕ) (x : Room) where
+module _ (script texts numbers words : List ℕ) (x : Room) where
   abbrev After : Option Call → List Call
-  After o = Option·elim o [] (λ c. c ∷ callsIn (drop rowWidth script) texts numbers (roomAfter x))
+  After o = Option·elim o [] (λ c. c ∷ callsIn (drop rowWidth script) texts numbers words (roomAfter x))
 
-  calls-first : callsIn script texts numbers x ≡ After (firstCall script texts numbers x)
+  calls-first : callsIn script texts numbers words x ≡ After (firstCall script texts numbers words x)
   unfolding callsIn rowsOf rows callsOf firstCall Option·elim
   calls-first = by (leb rowWidth (length script)) refl
     where
-      by : (t : Bool) → leb rowWidth (length script) ≡ t → callsOf texts numbers x (rows (length script / rowWidth) script) ≡ After (cond t (callOf texts numbers x (rowOf script)) none)
+      by : (t : Bool) → leb rowWidth (length script) ≡ t → callsOf texts numbers words x (rows (length script / rowWidth) script) ≡ After (cond t (callOf texts numbers words x (rowOf script)) none)
       by true e =
           let h : rowWidth ≤ length script = leb-true rowWidth (length script) e in
           let n : length script / rowWidth ≡ suc (length (drop rowWidth script) / rowWidth) = omega (arith, length-drop rowWidth script) in
-          ap (λ (k : ℕ). callsOf texts numbers x (rows k script)) n
+          ap (λ (k : ℕ). callsOf texts numbers words x (rows k script)) n
       by false e =
           let h : length script < rowWidth = leb-false rowWidth (length script) e in
           let n : length script / rowWidth ≡ 0 = omega arith in
-          ap (λ (k : ℕ). callsOf texts numbers x (rows k script)) n
+          ap (λ (k : ℕ). callsOf texts numbers words x (rows k script)) n
 
   -- there is one only where the script has its numbers
-  first-long : (c : Call) → firstCall script texts numbers x ≡ some c → rowWidth ≤ length script
+  first-long : (c : Call) → firstCall script texts numbers words x ≡ some c → rowWidth ≤ length script
   unfolding firstCall
   first-long c e = by (leb rowWidth (length script)) refl e
     where
-      by : (t : Bool) → leb rowWidth (length script) ≡ t → cond t (callOf texts numbers x (rowOf script)) none ≡ some c → rowWidth ≤ length script
+      by : (t : Bool) → leb rowWidth (length script) ≡ t → cond t (callOf texts numbers words x (rowOf script)) none ≡ some c → rowWidth ≤ length script
       by true f e = leb-true rowWidth (length script) f
       by false f e = absurd (let z : _≡_ {A = ℕ} 0 1 = cc in omega arith)
 
@@ -82,7 +82,7 @@ module _ (bs bs′ : List ℕ) (zs zs′ ss ss′ : List ℤ) (cs cs′ : List �
 
 -- what rows before i have written, then what the others are lent and leave
 abbrev onto : ℕ → Lent → Lent → Lent
-onto i x y = lentOf (y .engine) (take (i * listingLength) (x .outputs) ++ y .outputs) (take (i * answerWidth) (x .answers) ++ y .answers)
+onto i x y = lentOf (y .engine) (take (i * outputWidth) (x .outputs) ++ y .outputs) (take (i * answerWidth) (x .answers) ++ y .answers)
 
 -- the part of row i joins those before it
 row-joined : (i w n : ℕ) (l k v : List ℕ) → n ≡ i * w + w → take (i * w) k ≡ take (i * w) l → take n k ++ v ≡ take (i * w) l ++ (take w (drop (i * w) k) ++ v)
@@ -90,19 +90,19 @@ row-joined i w n l k v e h =
     ap (λ (j : ℕ). take j k ++ v) e ∙ ap (λ (r : List ℕ). r ++ v) (take-add (i * w) w k) ∙ append-assoc (take (i * w) k) (take w (drop (i * w) k)) v
     ∙ ap (λ (r : List ℕ). r ++ (take w (drop (i * w) k) ++ v)) h
 
-parted : (i : ℕ) (x y v : Lent) → take (i * listingLength) (y .outputs) ≡ take (i * listingLength) (x .outputs) → take (i * answerWidth) (y .answers) ≡ take (i * answerWidth) (x .answers)
+parted : (i : ℕ) (x y v : Lent) → take (i * outputWidth) (y .outputs) ≡ take (i * outputWidth) (x .outputs) → take (i * answerWidth) (y .answers) ≡ take (i * answerWidth) (x .answers)
     → onto (i + 1) y v ≡ onto i x (joined (lentFrom i y) v)
 unfolding joined lentFrom
 parted i x y v e f =
-    ap₂ (λ (l n : List ℕ). lentOf (v .engine) l n) (row-joined i listingLength ((i + 1) * listingLength) (x .outputs) (y .outputs) (v .outputs) (omega arith) e)
+    ap₂ (λ (l n : List ℕ). lentOf (v .engine) l n) (row-joined i outputWidth ((i + 1) * outputWidth) (x .outputs) (y .outputs) (v .outputs) (omega arith) e)
     (row-joined i answerWidth ((i + 1) * answerWidth) (x .answers) (y .answers) (v .answers) (omega arith) f)
 
-whole : (i : ℕ) (x y : Lent) → take (i * listingLength) (y .outputs) ≡ take (i * listingLength) (x .outputs) → take (i * answerWidth) (y .answers) ≡ take (i * answerWidth) (x .answers)
+whole : (i : ℕ) (x y : Lent) → take (i * outputWidth) (y .outputs) ≡ take (i * outputWidth) (x .outputs) → take (i * answerWidth) (y .answers) ≡ take (i * answerWidth) (x .answers)
     → lentFrom i y ≡ lentFrom i x → y ≡ onto i x (lentFrom i x)
 unfolding lentFrom
 whole i x y e f g =
     ap₂ (λ (l n : List ℕ). lentOf (y .engine) l n)
-    (sym (take-append-drop (i * listingLength) (y .outputs)) ∙ ap (λ (l : List ℕ). l ++ drop (i * listingLength) (y .outputs)) e)
+    (sym (take-append-drop (i * outputWidth) (y .outputs)) ∙ ap (λ (l : List ℕ). l ++ drop (i * outputWidth) (y .outputs)) e)
     (sym (take-append-drop (i * answerWidth) (y .answers)) ∙ ap (λ (l : List ℕ). l ++ drop (i * answerWidth) (y .answers)) f)
     ∙ ap (onto i x) g
 
@@ -110,17 +110,17 @@ first-left : (c : Call) (cs : List Call) (x : Lent) → runLeft (c ∷ cs) x ≡
 unfolding runLeft
 first-left c cs x = refl
 
-module _ (script texts numbers : List ℕ) where
+module _ (script texts numbers words : List ℕ) where
   -- the calls from row i on
   abbrev callsFrom : ℕ → Lent → List Call
-  callsFrom i x = callsIn (drop (i * rowWidth) script) texts numbers (roomOf (lentFrom i x))
+  callsFrom i x = callsIn (drop (i * rowWidth) script) texts numbers words (roomOf (lentFrom i x))
 
   -- rows before i are run, the engine and the buffers x are left, and the other rows lead where all lead from x₀
   pub record Turn (x₀ x : Lent) (i : ℕ) : Type 0 where
     pub within : i * rowWidth ≤ length script
     pub long : Long x₀ x
-    pub count : i + length (callsFrom i x) ≡ length (callsIn script texts numbers (roomOf x₀))
-    pub buffers : onto i x (runLeft (callsFrom i x) (lentFrom i x)) ≡ runLeft (callsIn script texts numbers (roomOf x₀)) x₀
+    pub count : i + length (callsFrom i x) ≡ length (callsIn script texts numbers words (roomOf x₀))
+    pub buffers : onto i x (runLeft (callsFrom i x) (lentFrom i x)) ≡ runLeft (callsIn script texts numbers words (roomOf x₀)) x₀
 
   pub begins : (x : Lent) → Turn x x 0
   unfolding lentFrom
@@ -138,10 +138,10 @@ module _ (script texts numbers : List ℕ) where
     next-lent : lentFrom (i + 1) y ≡ nextLent (lentFrom i y)
     unfolding lentFrom nextLent
     next-lent =
-        let a : i * listingLength + listingLength ≡ (i + 1) * listingLength = omega arith in
+        let a : i * outputWidth + outputWidth ≡ (i + 1) * outputWidth = omega arith in
         let b : i * answerWidth + answerWidth ≡ (i + 1) * answerWidth = omega arith in
         ap₂ (λ (l n : List ℕ). lentOf (y .engine) l n)
-        (sym (drop-drop listingLength (i * listingLength) (y .outputs) ∙ ap (λ (k : ℕ). drop k (y .outputs)) a))
+        (sym (drop-drop outputWidth (i * outputWidth) (y .outputs) ∙ ap (λ (k : ℕ). drop k (y .outputs)) a))
         (sym (drop-drop answerWidth (i * answerWidth) (y .answers) ∙ ap (λ (k : ℕ). drop k (y .answers)) b))
 
     room : (Part → ℕ) → ℕ → ℕ → Room
@@ -150,8 +150,8 @@ module _ (script texts numbers : List ℕ) where
     next-room : roomOf (lentFrom (i + 1) y) ≡ roomAfter (roomOf (lentFrom i x))
     unfolding roomOf lentFrom roomAfter room
     next-room =
-        let l : length (drop ((i + 1) * listingLength) (y .outputs)) ≡ length (drop (i * listingLength) (x .outputs)) - listingLength =
-        omega (arith, length-drop ((i + 1) * listingLength) (y .outputs), length-drop (i * listingLength) (x .outputs), g .outputs) in
+        let l : length (drop ((i + 1) * outputWidth) (y .outputs)) ≡ length (drop (i * outputWidth) (x .outputs)) - outputWidth =
+        omega (arith, length-drop ((i + 1) * outputWidth) (y .outputs), length-drop (i * outputWidth) (x .outputs), g .outputs) in
         let a : length (drop ((i + 1) * answerWidth) (y .answers)) ≡ length (drop (i * answerWidth) (x .answers)) - answerWidth =
         omega (arith, length-drop ((i + 1) * answerWidth) (y .answers), length-drop (i * answerWidth) (x .answers), g .answers) in
         λ j. room (λ (p : Part). g .parts p j) (l j) (a j)
@@ -160,20 +160,20 @@ module _ (script texts numbers : List ℕ) where
     next-script = let a : i * rowWidth + rowWidth ≡ (i + 1) * rowWidth = omega arith in drop-drop rowWidth (i * rowWidth) script ∙ ap (λ (k : ℕ). drop k script) a
 
     -- a row that was run
-    module _ (c : Call) (f : firstCall (drop (i * rowWidth) script) texts numbers (roomOf (lentFrom i x)) ≡ some c) where
+    module _ (c : Call) (f : firstCall (drop (i * rowWidth) script) texts numbers words (roomOf (lentFrom i x)) ≡ some c) where
       calls-next : callsFrom i x ≡ c ∷ callsFrom (i + 1) y
       unfolding Option·elim
       calls-next =
-          calls-first (drop (i * rowWidth) script) texts numbers (roomOf (lentFrom i x)) ∙ ap (After (drop (i * rowWidth) script) texts numbers (roomOf (lentFrom i x))) f
-          ∙ ap₂ (λ (s : List ℕ) (r : Room). c ∷ callsIn s texts numbers r) next-script (sym next-room)
+          calls-first (drop (i * rowWidth) script) texts numbers words (roomOf (lentFrom i x)) ∙ ap (After (drop (i * rowWidth) script) texts numbers words (roomOf (lentFrom i x))) f
+          ∙ ap₂ (λ (s : List ℕ) (r : Room). c ∷ callsIn s texts numbers words r) next-script (sym next-room)
 
-      more : lentFrom i y ≡ callLeft c (lentFrom i x) → take (i * listingLength) (y .outputs) ≡ take (i * listingLength) (x .outputs)
+      more : lentFrom i y ≡ callLeft c (lentFrom i x) → take (i * outputWidth) (y .outputs) ≡ take (i * outputWidth) (x .outputs)
           → take (i * answerWidth) (y .answers) ≡ take (i * answerWidth) (x .answers) → Turn x₀ y (i + 1)
       more e p q =
           let d = callsFrom (i + 1) y in
           let v = runLeft d (lentFrom (i + 1) y) in
           record {
-            within = omega (arith, first-long (drop (i * rowWidth) script) texts numbers (roomOf (lentFrom i x)) c f, length-drop (i * rowWidth) script);
+            within = omega (arith, first-long (drop (i * rowWidth) script) texts numbers words (roomOf (lentFrom i x)) c f, length-drop (i * rowWidth) script);
             long = longer;
             count = omega (arith, ap length calls-next, w .count);
             buffers =
@@ -182,11 +182,11 @@ module _ (script texts numbers : List ℕ) where
           }
 
     -- a row that was no call
-    ends : firstCall (drop (i * rowWidth) script) texts numbers (roomOf (lentFrom i x)) ≡ none → lentFrom i y ≡ lentFrom i x
-        → take (i * listingLength) (y .outputs) ≡ take (i * listingLength) (x .outputs) → take (i * answerWidth) (y .answers) ≡ take (i * answerWidth) (x .answers) → Ran script texts numbers x₀ i y
+    ends : firstCall (drop (i * rowWidth) script) texts numbers words (roomOf (lentFrom i x)) ≡ none → lentFrom i y ≡ lentFrom i x
+        → take (i * outputWidth) (y .outputs) ≡ take (i * outputWidth) (x .outputs) → take (i * answerWidth) (y .answers) ≡ take (i * answerWidth) (x .answers) → Ran script texts numbers words x₀ i y
     unfolding Option·elim runLeft
     ends f e p b =
-        let q : callsFrom i x ≡ [] = calls-first (drop (i * rowWidth) script) texts numbers (roomOf (lentFrom i x)) ∙ ap (After (drop (i * rowWidth) script) texts numbers (roomOf (lentFrom i x))) f in
+        let q : callsFrom i x ≡ [] = calls-first (drop (i * rowWidth) script) texts numbers words (roomOf (lentFrom i x)) ∙ ap (After (drop (i * rowWidth) script) texts numbers words (roomOf (lentFrom i x))) f in
         record {
           count = omega (arith, ap length q, w .count);
           buffers = whole i x y p b e ∙ ap (λ (l : List Call). onto i x (runLeft l (lentFrom i x))) (sym q) ∙ w .buffers;
@@ -195,18 +195,18 @@ module _ (script texts numbers : List ℕ) where
     abbrev Row-ran : Option Call → Bool → Type 0
     Row-ran o r = RowRan o (lentFrom i x) r (lentFrom i y)
 
-    pub turns : {r : Bool} → r ≡ true → RowRanAt i script texts numbers x r y → Turn x₀ y (i + 1)
+    pub turns : {r : Bool} → r ≡ true → RowRanAt i script texts numbers words x r y → Turn x₀ y (i + 1)
     unfolding RowRan
-    turns {r} e h = by (firstCall (drop (i * rowWidth) script) texts numbers (roomOf (lentFrom i x))) refl (h .ran)
+    turns {r} e h = by (firstCall (drop (i * rowWidth) script) texts numbers words (roomOf (lentFrom i x))) refl (h .ran)
       where
-        by : (o : Option Call) → firstCall (drop (i * rowWidth) script) texts numbers (roomOf (lentFrom i x)) ≡ o → Row-ran o r → Turn x₀ y (i + 1)
+        by : (o : Option Call) → firstCall (drop (i * rowWidth) script) texts numbers words (roomOf (lentFrom i x)) ≡ o → Row-ran o r → Turn x₀ y (i + 1)
         by none f g = let z : _≡_ {A = ℕ} 0 1 = cc (g .0) in absurd (omega arith)
         by (some c) f g = more c f (g .1) (h .outputs-before) (h .answers-before)
 
-    pub stops : {r : Bool} → r ≡ false → RowRanAt i script texts numbers x r y → Ran script texts numbers x₀ i y
+    pub stops : {r : Bool} → r ≡ false → RowRanAt i script texts numbers words x r y → Ran script texts numbers words x₀ i y
     unfolding RowRan
-    stops {r} e h = by (firstCall (drop (i * rowWidth) script) texts numbers (roomOf (lentFrom i x))) refl (h .ran)
+    stops {r} e h = by (firstCall (drop (i * rowWidth) script) texts numbers words (roomOf (lentFrom i x))) refl (h .ran)
       where
-        by : (o : Option Call) → firstCall (drop (i * rowWidth) script) texts numbers (roomOf (lentFrom i x)) ≡ o → Row-ran o r → Ran script texts numbers x₀ i y
+        by : (o : Option Call) → firstCall (drop (i * rowWidth) script) texts numbers words (roomOf (lentFrom i x)) ≡ o → Row-ran o r → Ran script texts numbers words x₀ i y
         by none f g = ends f (g .1) (h .outputs-before) (h .answers-before)
         by (some c) f g = let z : _≡_ {A = ℕ} 0 1 = cc (g .0) in absurd (omega arith)

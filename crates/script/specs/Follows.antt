@@ -3,11 +3,11 @@ use mathlib.Core.Path.{_≡_}
 use mathlib.Core.List.{List, [], _∷_, _++_}
 use Prim.Native.Nat.{ℕ, _*_}
 use lib.ListN.{length, take, drop}
-use Rattle.machine.specs.Machine.{listingLength, Answer, Machine, Part, size, Call, calls, answers, after}
+use Rattle.machine.specs.Machine.{Answer, Machine, Part, size, Call, calls, answers, after}
 use Rattle.buffers.specs.Listing.{shown}
 use Rattle.buffers.specs.Parts.{Engine}
 use Rattle.buffers.specs.Calls.{Holds}
-use Rattle.script.specs.Rows.{answerWidth, callsIn}
+use Rattle.script.specs.Rows.{answerWidth, outputWidth, callsIn}
 use Rattle.script.specs.Run.{Lent, roomOf, answerNumbers}
 
 -- 01, State: the engine is the first numbers of each part
@@ -26,7 +26,7 @@ partShown c a l = shown (a .listing) (take (c .output) l) ++ drop (c .output) l
 -- 01, Rule machine: the outputs of calls that the machine y is fed, each in a part of its own
 unfoldable pub outputsShown : Machine → List Call → List ℕ → List ℕ
 outputsShown y [] l = l
-outputsShown y (c ∷ cs) l = partShown c (calls y c .answer) (take listingLength l) ++ outputsShown (calls y c .machine) cs (drop listingLength l)
+outputsShown y (c ∷ cs) l = partShown c (calls y c .answer) (take outputWidth l) ++ outputsShown (calls y c .machine) cs (drop outputWidth l)
 
 -- 01, Rule machine: the machine y is fed the calls cs; the answers are its answers, each output is as its answer says, the engine holds the machine afterwards, and nothing else is changed
 pub record Follows (y : Machine) (cs : List Call) (x x′ : Lent) : Type 0 where
@@ -36,5 +36,5 @@ pub record Follows (y : Machine) (cs : List Call) (x x′ : Lent) : Type 0 where
   pub beyond : (p : Part) → drop (size p) (x′ .engine p) ≡ drop (size p) (x .engine p)
 
 -- 01, State and rule machine: whatever machine the engine holds at first, the closed one where it is fresh, a script does to the engine what its calls do to the rule machine
-abbrev pub Refines : (script texts numbers : List ℕ) → Lent → Lent → Type 0
-Refines script texts numbers x x′ = (y : Machine) → Holds (engineIn x) y → Follows y (callsIn script texts numbers (roomOf x)) x x′
+abbrev pub Refines : (script texts numbers words : List ℕ) → Lent → Lent → Type 0
+Refines script texts numbers words x x′ = (y : Machine) → Holds (engineIn x) y → Follows y (callsIn script texts numbers words (roomOf x)) x x′

@@ -1,9 +1,9 @@
-// A script of calls on one engine: ten numbers a row, run in order on lent buffers.
+// A script of calls on one engine: twelve numbers a row, run in order on lent buffers.
 use clock::Clock;
 use engine::Answer;
+use engine::Simulated;
 use engine::Timed;
 use searching::Found;
-use store::Engine;
 ghost use mathlib.Core.Path.{_≡_};
 ghost use mathlib.Core.Bool.{true};
 ghost use mathlib.Core.List.{List, _++_};
@@ -12,11 +12,11 @@ ghost use lib.Dec.{leb};
 ghost use lib.IntN.{ℤ};
 ghost use lib.ListN.{length, drop};
 ghost use Rattle.buffers.specs.Parts.{clockNumbers, clockIn, lentAll};
-ghost use Rattle.script.specs.Rows.{rowWidth, answerWidth, saveKind, forgetKind, timedKind, steadyKind, searchKind, rowOf, fits, rowCall, firstCall};
-ghost use Rattle.script.specs.Run.{lentFour, lentOf, roomOf, lengthsOf, resultNumbers, foundNumbers, Called, RowRan, RowRanAt, Ran};
+ghost use Rattle.script.specs.Rows.{rowWidth, answerWidth, saveKind, forgetKind, timedKind, steadyKind, searchKind, runKind, rowOf, fits, rowCall, firstCall};
+ghost use Rattle.script.specs.Run.{lentFour, lentOf, roomOf, lengthsOf, callLeft, resultNumbers, foundNumbers, ranNumbers, Called, RowRan, RowRanAt, Ran};
 ghost use Rattle.script.specs.Follows.{Refines};
 
-// A row: the kind of call; place and size of its text or name, and of its waiting draws; its draw or depth; how many numbers of the output, the model, the state and the saves it is lent.
+// A row: the kind of call; place and size of its text or name, and of its waiting draws; its draw, depth or limit; how many numbers of the output, the model, the state and the saves it is lent; place and size of its words.
 pub struct Row {
     pub kind: u64,
     pub text: usize,
@@ -28,13 +28,18 @@ pub struct Row {
     pub model: usize,
     pub state: usize,
     pub saves: usize,
+    pub start: usize,
+    pub words: usize,
 }
 
 impl Row {
     // Numbers of a row, and of an answer.
-    pub const WIDTH: usize = 10;
+    pub const WIDTH: usize = 12;
 
-    pub const ANSWER: usize = 15;
+    pub const ANSWER: usize = 18;
+
+    // Numbers of a row's part of the outputs.
+    pub const OUTPUT: usize = 8192;
 
     // Numbers of a clock.
     pub const CLOCK: usize = 2;
@@ -60,7 +65,9 @@ impl Row {
 
     pub const SEARCH: u64 = 10;
 
-    pub const LAST: u64 = Row::SEARCH;
+    pub const RUN: u64 = 11;
+
+    pub const LAST: u64 = Row::RUN;
 }
 
 // The first row of a script.
@@ -79,6 +86,8 @@ fn read_row(script: &[u64]) -> Row
         model: script[7] as usize,
         state: script[8] as usize,
         saves: script[9] as usize,
+        start: script[10] as usize,
+        words: script[11] as usize,
     }
 }
 
@@ -92,18 +101,19 @@ fn has_part(all: usize, first: usize, size: usize) -> bool
     first <= all - size
 }
 
-// Whether a row is a call on so much: bytes of texts, waiting draws, numbers of a model, a state, saves, a clock and outputs.
+// Whether a row is a call on so much: bytes of texts, waiting draws, words, numbers of a model, a state, saves, a clock and outputs.
 fn is_call(
     row: Row,
     texts: usize,
     numbers: usize,
+    words: usize,
     model: usize,
     state: usize,
     saves: usize,
     clock: usize,
     outputs: usize,
 ) -> bool
-    ensures { λ r. ⌜ r ≡ fits row texts numbers (lengthsOf model state saves clock) outputs ⌝ }
+    ensures { λ r. ⌜ r ≡ fits row texts numbers words (lengthsOf model state saves clock) outputs ⌝ }
 {
     if row.kind < Row::OPEN {
         return false;
@@ -115,6 +125,9 @@ fn is_call(
         return false;
     }
     if !has_part(numbers, row.from, row.count) {
+        return false;
+    }
+    if !has_part(words, row.start, row.words) {
         return false;
     }
     if model < row.model {
@@ -129,7 +142,10 @@ fn is_call(
     if clock < Row::CLOCK {
         return false;
     }
-    row.output <= outputs
+    if outputs < row.output {
+        return false;
+    }
+    row.output <= Row::OUTPUT
 }
 
 // Makes the call of a row on the saves.
@@ -141,8 +157,8 @@ fn call_named(
     saves: &mut [i64],
     clock: Clock,
 ) -> Timed
-    requires { ⌜ (saveKind ≤ row .kind) × ((row .kind ≤ forgetKind) × ((n : ℕ) × ((t : ℕ) × ((o : ℕ) × (fits row (length (now texts)) n (lengthsOf (length (now model)) (length (now state)) (length (now saves)) t) o ≡ true))))) ⌝ }
-    ensures { λ r. ⌜ ((ns ls : List ℕ) → Called (rowCall (now (texts .entry)) ns row) (lentAll (now (model .entry)) (now (state .entry)) (now (saves .entry)) clock) ls (resultNumbers (r .answer)) (lentAll (now (model .entry)) (now (state .exit)) (now (saves .exit)) (r .clock)) ls) ⌝ }
+    requires { ⌜ (saveKind ≤ row .kind) × ((row .kind ≤ forgetKind) × ((n : ℕ) × ((w : ℕ) × ((t : ℕ) × ((o : ℕ) × (fits row (length (now texts)) n w (lengthsOf (length (now model)) (length (now state)) (length (now saves)) t) o ≡ true)))))) ⌝ }
+    ensures { λ r. ⌜ ((ns ws ls : List ℕ) → Called (rowCall (now (texts .entry)) ns ws row) (lentAll (now (model .entry)) (now (state .entry)) (now (saves .entry)) clock) ls (resultNumbers (r .answer)) (lentAll (now (model .entry)) (now (state .exit)) (now (saves .exit)) (r .clock)) ls) ⌝ }
 {
     let m = row.model;
     let s = row.state;
@@ -186,8 +202,8 @@ fn call_timed(
     outputs: &mut [u64],
     clock: Clock,
 ) -> Timed
-    requires { ⌜ (row .kind ≡ timedKind) × ((t : ℕ) × ((v : ℕ) × ((k : ℕ) × (fits row t (length (now numbers)) (lengthsOf (length (now model)) (length (now state)) v k) (length (now outputs)) ≡ true)))) ⌝ }
-    ensures { λ r. ⌜ ((texts : List ℕ) (ss : List ℤ) → Called (rowCall texts (now (numbers .entry)) row) (lentAll (now (model .entry)) (now (state .entry)) ss clock) (now (outputs .entry)) (resultNumbers (r .answer)) (lentAll (now (model .entry)) (now (state .exit)) ss (r .clock)) (now (outputs .exit))) ⌝ }
+    requires { ⌜ (row .kind ≡ timedKind) × ((t : ℕ) × ((w : ℕ) × ((v : ℕ) × ((k : ℕ) × (fits row t (length (now numbers)) w (lengthsOf (length (now model)) (length (now state)) v k) (length (now outputs)) ≡ true))))) ⌝ }
+    ensures { λ r. ⌜ ((texts ws : List ℕ) (ss : List ℤ) → Called (rowCall texts (now (numbers .entry)) ws row) (lentAll (now (model .entry)) (now (state .entry)) ss clock) (now (outputs .entry)) (resultNumbers (r .answer)) (lentAll (now (model .entry)) (now (state .exit)) ss (r .clock)) (now (outputs .exit))) ⌝ }
 {
     let m = row.model;
     let s = row.state;
@@ -213,8 +229,8 @@ fn call_steady(
     saves: &mut [i64],
     clock: Clock,
 ) -> Timed
-    requires { ⌜ (row .kind ≡ steadyKind) × ((n : ℕ) × ((t : ℕ) × ((o : ℕ) × (fits row (length (now texts)) n (lengthsOf (length (now model)) (length (now state)) (length (now saves)) t) o ≡ true)))) ⌝ }
-    ensures { λ r. ⌜ ((ns ls : List ℕ) → Called (rowCall (now (texts .entry)) ns row) (lentAll (now (model .entry)) (now (state .entry)) (now (saves .entry)) clock) ls (resultNumbers (r .answer)) (lentAll (now (model .exit)) (now (state .exit)) (now (saves .exit)) (r .clock)) ls) ⌝ }
+    requires { ⌜ (row .kind ≡ steadyKind) × ((n : ℕ) × ((w : ℕ) × ((t : ℕ) × ((o : ℕ) × (fits row (length (now texts)) n w (lengthsOf (length (now model)) (length (now state)) (length (now saves)) t) o ≡ true))))) ⌝ }
+    ensures { λ r. ⌜ ((ns ws ls : List ℕ) → Called (rowCall (now (texts .entry)) ns ws row) (lentAll (now (model .entry)) (now (state .entry)) (now (saves .entry)) clock) ls (resultNumbers (r .answer)) (lentAll (now (model .exit)) (now (state .exit)) (now (saves .exit)) (r .clock)) ls) ⌝ }
 {
     let m = row.model;
     let s = row.state;
@@ -232,14 +248,45 @@ fn call_steady(
 
 // Makes the search of a row.
 fn call_search(row: Row, texts: &[u8], model: &[u8], state: &[i64]) -> Found
-    requires { ⌜ (row .kind ≡ searchKind) × ((n : ℕ) × ((v : ℕ) × ((t : ℕ) × ((o : ℕ) × (fits row (length (now texts)) n (lengthsOf (length (now model)) (length (now state)) v t) o ≡ true))))) ⌝ }
-    ensures { λ r. ⌜ ((ns ls : List ℕ) (ss : List ℤ) (c : Clock) → Called (rowCall (now (texts .entry)) ns row) (lentAll (now (model .entry)) (now (state .entry)) ss c) ls (foundNumbers r) (lentAll (now (model .entry)) (now (state .entry)) ss c) ls) ⌝ }
+    requires { ⌜ (row .kind ≡ searchKind) × ((n : ℕ) × ((w : ℕ) × ((v : ℕ) × ((t : ℕ) × ((o : ℕ) × (fits row (length (now texts)) n w (lengthsOf (length (now model)) (length (now state)) v t) o ≡ true)))))) ⌝ }
+    ensures { λ r. ⌜ ((ns ws ls : List ℕ) (ss : List ℤ) (c : Clock) → Called (rowCall (now (texts .entry)) ns ws row) (lentAll (now (model .entry)) (now (state .entry)) ss c) ls (foundNumbers r) (lentAll (now (model .entry)) (now (state .entry)) ss c) ls) ⌝ }
 {
     let m = row.model;
     let s = row.state;
     let first = row.text;
     let end = first + row.size;
     engine::searches::search(&model[..m], &state[..s], &texts[first..end], row.number)
+}
+
+// Makes the run of a row.
+fn call_run(
+    row: Row,
+    numbers: &[u16],
+    words: &[u64],
+    model: &[u8],
+    state: &mut [i64],
+    outputs: &mut [u64],
+    clock: Clock,
+) -> Simulated
+    requires { ⌜ (row .kind ≡ runKind) × ((t : ℕ) × ((v : ℕ) × ((k : ℕ) × (fits row t (length (now numbers)) (length (now words)) (lengthsOf (length (now model)) (length (now state)) v k) (length (now outputs)) ≡ true)))) ⌝ }
+    ensures { λ r. ⌜ ((texts : List ℕ) (ss : List ℤ) → Called (rowCall texts (now (numbers .entry)) (now (words .entry)) row) (lentAll (now (model .entry)) (now (state .entry)) ss clock) (now (outputs .entry)) (ranNumbers (r .ran)) (lentAll (now (model .entry)) (now (state .exit)) ss (r .clock)) (now (outputs .exit))) ⌝ }
+{
+    let m = row.model;
+    let s = row.state;
+    let l = row.output;
+    let from = row.from;
+    let end = from + row.count;
+    let start = row.start;
+    let stop = start + row.words;
+    engine::run(
+        &model[..m],
+        &mut state[..s],
+        &words[start..stop],
+        &numbers[from..end],
+        &mut outputs[..l],
+        row.number,
+        clock,
+    )
 }
 
 // Makes the call of a row.
@@ -253,9 +300,9 @@ fn call(
     outputs: &mut [u64],
     clock: Clock,
 ) -> Timed
-    requires { ⌜ (row .kind ≡ searchKind → ⊥) ⌝ }
-    requires { ⌜ ((t : ℕ) × (fits row (length (now texts)) (length (now numbers)) (lengthsOf (length (now model)) (length (now state)) (length (now saves)) t) (length (now outputs)) ≡ true)) ⌝ }
-    ensures { λ r. ⌜ Called (rowCall (now (texts .entry)) (now (numbers .entry)) row) (lentAll (now (model .entry)) (now (state .entry)) (now (saves .entry)) clock) (now (outputs .entry)) (resultNumbers (r .answer)) (lentAll (now (model .exit)) (now (state .exit)) (now (saves .exit)) (r .clock)) (now (outputs .exit)) ⌝ }
+    requires { ⌜ (row .kind ≡ searchKind → ⊥) × (row .kind ≡ runKind → ⊥) ⌝ }
+    requires { ⌜ ((w : ℕ) × ((t : ℕ) × (fits row (length (now texts)) (length (now numbers)) w (lengthsOf (length (now model)) (length (now state)) (length (now saves)) t) (length (now outputs)) ≡ true))) ⌝ }
+    ensures { λ r. ⌜ ((ws : List ℕ) → Called (rowCall (now (texts .entry)) (now (numbers .entry)) ws row) (lentAll (now (model .entry)) (now (state .entry)) (now (saves .entry)) clock) (now (outputs .entry)) (resultNumbers (r .answer)) (lentAll (now (model .exit)) (now (state .exit)) (now (saves .exit)) (r .clock)) (now (outputs .exit))) ⌝ }
 {
     let m = row.model;
     let s = row.state;
@@ -333,6 +380,9 @@ fn put_answer(answers: &mut [u64], answer: Answer)
     answers[12] = 0;
     answers[13] = 0;
     answers[14] = 0;
+    answers[15] = 0;
+    answers[16] = 0;
+    answers[17] = 0;
 }
 
 // Writes the numbers of what a search found over the first of answers.
@@ -356,6 +406,68 @@ fn put_found(answers: &mut [u64], found: Found)
     answers[12] = run[5];
     answers[13] = run[6];
     answers[14] = run[7];
+    answers[15] = 0;
+    answers[16] = 0;
+    answers[17] = 0;
+}
+
+// Writes the numbers of what a run came to over the first of answers.
+fn put_ran(answers: &mut [u64], ran: engine::Ran)
+    requires { ⌜ answerWidth ≤ length (now answers) ⌝ }
+    ensures { λ _. ⌜ now (answers .exit) ≡ ranNumbers ran ++ drop answerWidth (now (answers .entry)) ⌝ }
+{
+    answers[0] = ran.number;
+    answers[1] = 0;
+    answers[2] = 0;
+    answers[3] = ran.count;
+    answers[4] = ran.total;
+    answers[5] = 0;
+    answers[6] = 0;
+    answers[7] = 0;
+    answers[8] = 0;
+    answers[9] = 0;
+    answers[10] = 0;
+    answers[11] = 0;
+    answers[12] = 0;
+    answers[13] = 0;
+    answers[14] = 0;
+    answers[15] = ran.steps;
+    answers[16] = ran.words;
+    answers[17] = ran.waiting;
+}
+
+// Makes the call of a row that fits, on the engine and its clock, and writes its answer.
+fn make_row(
+    row: Row,
+    texts: &[u8],
+    numbers: &[u16],
+    words: &[u64],
+    model: &mut [u8],
+    state: &mut [i64],
+    saves: &mut [i64],
+    clock: &mut [u64],
+    outputs: &mut [u64],
+    answers: &mut [u64],
+)
+    requires { ⌜ fits row (length (now texts)) (length (now numbers)) (length (now words)) (lengthsOf (length (now model)) (length (now state)) (length (now saves)) (length (now clock))) (length (now outputs)) ≡ true ⌝ }
+    requires { ⌜ answerWidth ≤ length (now answers) ⌝ }
+    ensures { λ _. ⌜ lentOf (lentFour (now (model .exit)) (now (state .exit)) (now (saves .exit)) (now (clock .exit))) (now (outputs .exit)) (now (answers .exit)) ≡ callLeft (rowCall (now (texts .entry)) (now (numbers .entry)) (now (words .entry)) row) (lentOf (lentFour (now (model .entry)) (now (state .entry)) (now (saves .entry)) (now (clock .entry))) (now (outputs .entry)) (now (answers .entry))) ⌝ }
+{
+    if row.kind == Row::SEARCH {
+        let found = call_search(row, texts, &model[..], &state[..]);
+        put_found(answers, found);
+        return;
+    }
+    let now = clock_of(&clock[..]);
+    if row.kind == Row::RUN {
+        let told = call_run(row, numbers, words, &model[..], state, outputs, now);
+        put_clock(clock, told.clock);
+        put_ran(answers, told.ran);
+        return;
+    }
+    let timed = call(row, texts, numbers, model, state, saves, outputs, now);
+    put_clock(clock, timed.clock);
+    put_answer(answers, timed.answer);
 }
 
 // Runs the first row of a script, if it is a call.
@@ -363,6 +475,7 @@ fn run_row(
     script: &[u64],
     texts: &[u8],
     numbers: &[u16],
+    words: &[u64],
     model: &mut [u8],
     state: &mut [i64],
     saves: &mut [i64],
@@ -370,7 +483,7 @@ fn run_row(
     outputs: &mut [u64],
     answers: &mut [u64],
 ) -> bool
-    ensures { λ r. ⌜ RowRan (firstCall (now (script .entry)) (now (texts .entry)) (now (numbers .entry)) (roomOf (lentOf (lentFour (now (model .entry)) (now (state .entry)) (now (saves .entry)) (now (clock .entry))) (now (outputs .entry)) (now (answers .entry))))) (lentOf (lentFour (now (model .entry)) (now (state .entry)) (now (saves .entry)) (now (clock .entry))) (now (outputs .entry)) (now (answers .entry))) r (lentOf (lentFour (now (model .exit)) (now (state .exit)) (now (saves .exit)) (now (clock .exit))) (now (outputs .exit)) (now (answers .exit))) ⌝ }
+    ensures { λ r. ⌜ RowRan (firstCall (now (script .entry)) (now (texts .entry)) (now (numbers .entry)) (now (words .entry)) (roomOf (lentOf (lentFour (now (model .entry)) (now (state .entry)) (now (saves .entry)) (now (clock .entry))) (now (outputs .entry)) (now (answers .entry))))) (lentOf (lentFour (now (model .entry)) (now (state .entry)) (now (saves .entry)) (now (clock .entry))) (now (outputs .entry)) (now (answers .entry))) r (lentOf (lentFour (now (model .exit)) (now (state .exit)) (now (saves .exit)) (now (clock .exit))) (now (outputs .exit)) (now (answers .exit))) ⌝ }
 {
     if script.len() < Row::WIDTH {
         return false;
@@ -383,6 +496,7 @@ fn run_row(
         row,
         texts.len(),
         numbers.len(),
+        words.len(),
         model.len(),
         state.len(),
         saves.len(),
@@ -391,15 +505,18 @@ fn run_row(
     ) {
         return false;
     }
-    if row.kind == Row::SEARCH {
-        let found = call_search(row, texts, &model[..], &state[..]);
-        put_found(answers, found);
-        return true;
-    }
-    let now = clock_of(&clock[..]);
-    let timed = call(row, texts, numbers, model, state, saves, outputs, now);
-    put_clock(clock, timed.clock);
-    put_answer(answers, timed.answer);
+    make_row(
+        row,
+        texts,
+        numbers,
+        words,
+        model,
+        state,
+        saves,
+        clock,
+        outputs,
+        answers,
+    );
     true
 }
 
@@ -420,6 +537,7 @@ fn run_at(
     script: &[u64],
     texts: &[u8],
     numbers: &[u16],
+    words: &[u64],
     model: &mut [u8],
     state: &mut [i64],
     saves: &mut [i64],
@@ -427,15 +545,16 @@ fn run_at(
     outputs: &mut [u64],
     answers: &mut [u64],
 ) -> bool
-    ensures { λ r. ⌜ RowRanAt i (now (script .entry)) (now (texts .entry)) (now (numbers .entry)) (lentOf (lentFour (now (model .entry)) (now (state .entry)) (now (saves .entry)) (now (clock .entry))) (now (outputs .entry)) (now (answers .entry))) r (lentOf (lentFour (now (model .exit)) (now (state .exit)) (now (saves .exit)) (now (clock .exit))) (now (outputs .exit)) (now (answers .exit))) ⌝ }
+    ensures { λ r. ⌜ RowRanAt i (now (script .entry)) (now (texts .entry)) (now (numbers .entry)) (now (words .entry)) (lentOf (lentFour (now (model .entry)) (now (state .entry)) (now (saves .entry)) (now (clock .entry))) (now (outputs .entry)) (now (answers .entry))) r (lentOf (lentFour (now (model .exit)) (now (state .exit)) (now (saves .exit)) (now (clock .exit))) (now (outputs .exit)) (now (answers .exit))) ⌝ }
 {
     let row = place_of(i, Row::WIDTH, script.len());
-    let output = place_of(i, Engine::LISTING, outputs.len());
+    let output = place_of(i, Row::OUTPUT, outputs.len());
     let answer = place_of(i, Row::ANSWER, answers.len());
     run_row(
         &script[row..],
         texts,
         numbers,
+        words,
         model,
         state,
         saves,
@@ -450,6 +569,7 @@ pub fn run(
     script: &[u64],
     texts: &[u8],
     numbers: &[u16],
+    words: &[u64],
     model: &mut [u8],
     state: &mut [i64],
     saves: &mut [i64],
@@ -457,8 +577,8 @@ pub fn run(
     outputs: &mut [u64],
     answers: &mut [u64],
 ) -> usize
-    ensures { λ r. ⌜ Ran (now (script .entry)) (now (texts .entry)) (now (numbers .entry)) (lentOf (lentFour (now (model .entry)) (now (state .entry)) (now (saves .entry)) (now (clock .entry))) (now (outputs .entry)) (now (answers .entry))) r (lentOf (lentFour (now (model .exit)) (now (state .exit)) (now (saves .exit)) (now (clock .exit))) (now (outputs .exit)) (now (answers .exit))) ⌝ }
-    ensures { λ _. ⌜ Refines (now (script .entry)) (now (texts .entry)) (now (numbers .entry)) (lentOf (lentFour (now (model .entry)) (now (state .entry)) (now (saves .entry)) (now (clock .entry))) (now (outputs .entry)) (now (answers .entry))) (lentOf (lentFour (now (model .exit)) (now (state .exit)) (now (saves .exit)) (now (clock .exit))) (now (outputs .exit)) (now (answers .exit))) ⌝ }
+    ensures { λ r. ⌜ Ran (now (script .entry)) (now (texts .entry)) (now (numbers .entry)) (now (words .entry)) (lentOf (lentFour (now (model .entry)) (now (state .entry)) (now (saves .entry)) (now (clock .entry))) (now (outputs .entry)) (now (answers .entry))) r (lentOf (lentFour (now (model .exit)) (now (state .exit)) (now (saves .exit)) (now (clock .exit))) (now (outputs .exit)) (now (answers .exit))) ⌝ }
+    ensures { λ _. ⌜ Refines (now (script .entry)) (now (texts .entry)) (now (numbers .entry)) (now (words .entry)) (lentOf (lentFour (now (model .entry)) (now (state .entry)) (now (saves .entry)) (now (clock .entry))) (now (outputs .entry)) (now (answers .entry))) (lentOf (lentFour (now (model .exit)) (now (state .exit)) (now (saves .exit)) (now (clock .exit))) (now (outputs .exit)) (now (answers .exit))) ⌝ }
 {
     let mut i = 0;
     while run_at(
@@ -466,6 +586,7 @@ pub fn run(
         script,
         texts,
         numbers,
+        words,
         model,
         state,
         saves,

@@ -30,7 +30,7 @@ use Rattle.machine.specs.State.{State, stateLength}
 use Rattle.machine.specs.Timed.{Timed}
 use Rattle.machine.specs.Report.{reportLength}
 use Rattle.machine.specs.Saves.{Saves, Stored, saving, returning, forgetting}
-use Rattle.machine.specs.Machine.{modelLength, listingLength, asLent, no, Held, heldAll, heldWith, held, Machine, closed, holding, onSaves, Request, list′, step′, report′, search′, timed′, save′, return′, forget′, open′, openSteady′, on′, acts, Part, model, state, saves, clock, size, twoParts, timedParts, threeParts, fourParts, uses, lentTo, isLent, hasLengths, call, onMachine}
+use Rattle.machine.specs.Machine.{modelLength, listingLength, asLent, no, Held, heldAll, heldWith, held, Machine, closed, holding, onSaves, Request, list′, step′, report′, search′, timed′, run′, save′, return′, forget′, open′, openSteady′, on′, acts, Part, model, state, saves, clock, size, twoParts, timedParts, threeParts, fourParts, uses, lentTo, isLent, hasLengths, call, onMachine}
 use Rattle.machine.proofs.Lent.{lent-so}
 use Rattle.machine.proofs.Listing.{accepted}
 use Rattle.buffers.specs.Listing.{shown}
@@ -39,14 +39,14 @@ use Rattle.buffers.specs.Effect.{Effect, machineIn, untouched, opensWith, leftI
 use Rattle.buffers.proofs.Machines.{InTwo, both, in-two, eleven-exactly, text-machine}
 use Rattle.buffers.proofs.Machines as machines
 use Rattle.buffers.proofs.Clocks as clocks
-use Rattle.buffers.proofs.Clocks.{InTimed, in-timed, heldAt, times-as}
+use Rattle.buffers.proofs.Clocks.{InTimed, in-timed, heldAt, times-as, runs-as}
 use Rattle.buffers.proofs.Four as fours
 use Rattle.buffers.proofs.Four.{InFour, in-four, keeps}
 use Rattle.buffers.proofs.Three as threes
 use Rattle.buffers.proofs.Three.{InThree, all, in-three, stores}
 use Rattle.buffers.proofs.Answers.{lists-as, steps-as, reports-as, searches-as}
 use Rattle.buffers.proofs.Every.{every-list}
-use Rattle.terms.specs.One.{Lengths, Hold, Opens, no1, no10, yes10, OpensSteady, no29, yes29, Asks, HoldSaves, Waits, Keeps, Stores, TermOne}
+use Rattle.terms.specs.One.{Lengths, Hold, Opens, no1, no10, yes10, OpensSteady, no29, yes29, Asks, HoldSaves, Waits, Runs, Keeps, Stores, TermOne}
 use Rattle.terms.specs.One as one
 use Rattle.terms.specs.Two.{Reading, Passes, TermTwo}
 use Rattle.terms.specs.Three.{TermThree}
@@ -200,6 +200,42 @@ module _ (x : Engine) (l : List ℕ) (byte : getD (x model) 0 0 < 256) (ds : Lis
       by (holds h) e = timed-held h e
       by (fails h) e = subst (Waits ds d x l) (sym e) (one.Waits.no1 h)
 
+-- ---- a run
+
+module _ (x : Engine) (l : List ℕ) (byte : getD (x model) 0 0 < 256) (ws vs : List ℕ) (n : ℕ)
+    (asked : effect (on′ (run′ ws vs n (length l))) x l ≡ cond (hasLengths (on′ (run′ ws vs n (length l))) (λ (p : Part). length (x p)) (length l)) (leaves timedParts x l (onMachine (run′ ws vs n (length l)) (machineIn timedParts x))) (untouched x l)) where
+  run-held : Lengths (on′ (run′ ws vs n (length l))) x l → effect (on′ (run′ ws vs n (length l))) x l ≡ leaves timedParts x l (onMachine (run′ ws vs n (length l)) (machineIn timedParts x)) → Runs ws vs n x l (effect (on′ (run′ ws vs n (length l))) x l)
+  unfolding isLent
+  run-held h w = by (in-timed x) refl
+    where
+      long : (p : Part) → isLent p timedParts ≡ true → length (x p) ≡ size p
+      long p t = h .parts p t
+
+      none-held : machineIn timedParts x ≡ closed → (m : Resolved.Model) (s : State) (c : Clock) → Hold x m s → one.HoldClock x c → ⊥
+      none-held e m s c k q =
+          let f : machineIn timedParts x ≡ holding (heldAt m s c) = clocks.eleven-timed x m s c (long model refl) byte (long state refl) (long clock refl) .1 ((k .text, k .bytes, k .holds, k .over, k .numbers), q .range, q .numbers) in
+          let z : _≡_ {A = ℕ} 0 1 = cc (e, f) in
+          omega arith
+
+      shut : machineIn timedParts x ≡ closed → leaves timedParts x l (onMachine (run′ ws vs n (length l)) (machineIn timedParts x)) ≡ one.left (no 11 0 0 asLent) x l
+      shut e = unfold leaves onMachine leftIn shown no in ap (λ (y : Machine). leaves timedParts x l (onMachine (run′ ws vs n (length l)) y)) e
+
+      by : {y : Machine} → InTimed y → machineIn timedParts x ≡ y → Runs ws vs n x l (effect (on′ (run′ ws vs n (length l))) x l)
+      by clocks.nothing e = subst (Runs ws vs n x l) (sym (w ∙ shut e)) (one.Runs.no11 h (none-held e))
+      by (clocks.all m s c) e =
+          let k = clocks.eleven-timed x m s c (long model refl) byte (long state refl) (long clock refl) .0 e in
+          subst (Runs ws vs n x l) (sym (runs-as x l (long model refl) (long state refl) (long clock refl) m s c e ws vs n))
+          (one.Runs.yes11 h (record { text = k .0 .0; bytes = k .0 .1; holds = k .0 .2; over = k .0 .3; numbers = k .0 .4 }) (record { range = k .1; numbers = k .2 }))
+
+  asks-run : Runs ws vs n x l (effect (on′ (run′ ws vs n (length l))) x l)
+  unfolding untouched
+  asks-run = by (lent-so (call (on′ (run′ ws vs n (length l))) (λ (p : Part). length (x p)) (length l))) asked
+    where
+      by : {b : Bool} → Decides (Lengths (on′ (run′ ws vs n (length l))) x l) b → effect (on′ (run′ ws vs n (length l))) x l ≡ cond b (leaves timedParts x l (onMachine (run′ ws vs n (length l)) (machineIn timedParts x))) (untouched x l)
+          → Runs ws vs n x l (effect (on′ (run′ ws vs n (length l))) x l)
+      by (holds h) e = run-held h e
+      by (fails h) e = subst (Runs ws vs n x l) (sym e) (one.Runs.no1 h)
+
 -- ---- a save and a return
 
 module _ (x : Engine) (l : List ℕ) (byte : getD (x model) 0 0 < 256) (r : Request) (f : Timed → Saves → Stored) (q : (h : Held) → acts r h ≡ onSaves f h) (four : uses r ≡ fourParts)
@@ -246,6 +282,7 @@ term-one = record {
   reporting = λ x l byte. asks x l byte report′ _ refl refl (λ m s h a b e. reports-as x l a b m s e (h .output reportLength refl));
   searching = λ x l n d byte. asks x l byte (search′ n d) _ refl refl (λ m s h a b e. searches-as x l a b m s e n d);
   timing = λ x l ds d byte. asks-timed x l byte ds d refl;
+  runs = λ x l ws vs n byte. asks-run x l byte ws vs n refl;
   saves = λ x l n byte. asks-kept x l byte (save′ n) (saving n) (λ h. refl) refl refl;
   returns = λ x l n byte. asks-kept x l byte (return′ n) (returning n) (λ h. refl) refl refl;
   forgets = λ x l n byte. asks-saves x l byte (forget′ n) (forgetting n) (λ h. refl) refl refl;

@@ -3,7 +3,7 @@
 use mathlib.Core.Path.{_≡_}
 use mathlib.Core.List.{List}
 use mathlib.Core.Option.{some}
-use Prim.Native.Nat.{ℕ, _<_}
+use Prim.Native.Nat.{ℕ, _/_, _<_}
 use lib.ListN.{length, getD}
 use Rattle.model.specs.Resolved
 use Rattle.model.specs.Held.{held}
@@ -16,13 +16,13 @@ use Rattle.machine.specs.State.{State, stateNumbers, GoodState}
 use Rattle.machine.specs.Timed.{Timed, timed}
 use Rattle.machine.specs.Saves.{Saves, GoodSaves, Stored, saving, returning, forgetting}
 use Rattle.machine.specs.Machine as machine
-use Rattle.machine.specs.Machine.{asLent, Answer, no, Request, list′, step′, report′, search′, timed′, save′, return′, forget′, Ask, open′, openSteady′, on′, Part, model, state, saves, clock, call, openedState}
+use Rattle.machine.specs.Machine.{eventWidth, asLent, Answer, no, runsWith, Request, list′, step′, report′, search′, timed′, run′, save′, return′, forget′, Ask, open′, openSteady′, on′, Part, model, state, saves, clock, call, openedState}
 use Rattle.machine.specs.Results.{Lent}
 use Rattle.saves.specs.Places.{savesNumbers}
 use Rattle.buffers.specs.Held.{modelBytes}
 use Rattle.buffers.specs.Parts.{Engine, clockNumbers, fresh, numbersOf}
 use Rattle.buffers.specs.Effect.{Effect, effect}
-use Rattle.buffers.specs.Answers.{ListsAs, StepsAs, ReportsAs, SearchesAs, TimesAs, storesAs, keepsAs}
+use Rattle.buffers.specs.Answers.{ListsAs, StepsAs, ReportsAs, SearchesAs, TimesAs, storesAs, keepsAs, runsAs}
 
 -- 1: what a call is lent has its length: its buffers of the engine x, and its output l
 abbrev pub Lengths : Ask → Engine → List ℕ → Type 0
@@ -76,6 +76,13 @@ pub data Waits (ds : List ℕ) (d : ℕ) (x : Engine) (l : List ℕ) : Effect �
   no11 : Lengths (on′ (timed′ ds d)) x l → ((m : Resolved.Model) (s : State) (c : Clock) → Hold x m s → HoldClock x c → ⊥) → Waits ds d x l (left (no 11 0 0 asLent) x l)
   yes11 : {m : Resolved.Model} {s : State} {c : Clock} {e : Effect} → Lengths (on′ (timed′ ds d)) x l → Hold x m s → HoldClock x c → TimesAs m s x l c ds d e → Waits ds d x l e
 
+-- R.1 to R.7: 1, of the model and the state alone, then 11, which change nothing, then the run from the state and the clock that are held
+pub data Runs (ws vs : List ℕ) (n : ℕ) (x : Engine) (l : List ℕ) : Effect → Type 0 where
+  no1 : (Lengths (on′ (run′ ws vs n (length l))) x l → ⊥) → Runs ws vs n x l (left (no 1 0 0 asLent) x l)
+  no11 : Lengths (on′ (run′ ws vs n (length l))) x l → ((m : Resolved.Model) (s : State) (c : Clock) → Hold x m s → HoldClock x c → ⊥) → Runs ws vs n x l (left (no 11 0 0 asLent) x l)
+  yes11 : {m : Resolved.Model} {s : State} {c : Clock} → Lengths (on′ (run′ ws vs n (length l))) x l → Hold x m s → HoldClock x c
+      → Runs ws vs n x l (runsAs x l (runsWith n (length l / eventWidth) ws vs m s c))
+
 -- 02, notes 2 and 4: 1, then 11, which change nothing, then 20 to 22 or acceptance as the turn f of the state, the clock and the saves that are held says
 pub data Keeps (r : Request) (f : Timed → Saves → Stored) (x : Engine) (l : List ℕ) : Effect → Type 0 where
   no1 : (Lengths (on′ r) x l → ⊥) → Keeps r f x l (left (no 1 0 0 asLent) x l)
@@ -97,6 +104,7 @@ pub record TermOne : Type 0 where
   pub reporting : (x : Engine) (l : List ℕ) → getD (x model) 0 0 < 256 → Asks report′ (λ m s. ReportsAs m s x l) x l (effect (on′ report′) x l)
   pub searching : (x : Engine) (l n : List ℕ) (d : ℕ) → getD (x model) 0 0 < 256 → Asks (search′ n d) (λ m s. SearchesAs m s x l n d) x l (effect (on′ (search′ n d)) x l)
   pub timing : (x : Engine) (l ds : List ℕ) (d : ℕ) → getD (x model) 0 0 < 256 → Waits ds d x l (effect (on′ (timed′ ds d)) x l)
+  pub runs : (x : Engine) (l ws vs : List ℕ) (n : ℕ) → getD (x model) 0 0 < 256 → Runs ws vs n x l (effect (on′ (run′ ws vs n (length l))) x l)
   pub saves : (x : Engine) (l n : List ℕ) → getD (x model) 0 0 < 256 → Keeps (save′ n) (saving n) x l (effect (on′ (save′ n)) x l)
   pub returns : (x : Engine) (l n : List ℕ) → getD (x model) 0 0 < 256 → Keeps (return′ n) (returning n) x l (effect (on′ (return′ n)) x l)
   pub forgets : (x : Engine) (l n : List ℕ) → getD (x model) 0 0 < 256 → Stores (forget′ n) (forgetting n) x l (effect (on′ (forget′ n)) x l)

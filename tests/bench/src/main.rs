@@ -7,13 +7,16 @@
 //! same calls, so each call counts with its least time over all rounds: other work on the machine
 //! only adds. What is printed is the mean of these over the run. Buffers are lent as the call
 //! before left them; none is cleared in between. Then each searches for a wait that there is not, in at
-//! most three rounds: the states that it walks in a second. Without the feature `engine` only the
+//! most three rounds: the states that it walks in a second. And each runs the models in one call, and by
+//! listings and timed steps one by one: nanoseconds a step; at last the seconds of 500 runs to the end. Without the feature `engine` only the
 //! second engine is timed.
 
 mod models;
+mod runs;
 mod searches;
 
 use models::Model;
+use runs::Start;
 use second::generate::{Engine, Random};
 use second::{Clock, Opening, LISTING, MODEL, REPORT, SAVES, STATE};
 use std::time::{Duration, Instant};
@@ -27,6 +30,11 @@ const REPEATING: Duration = Duration::from_millis(20);
 const ROUNDS: usize = 10;
 /// A search takes long: so many rounds are enough.
 const SEARCHES: usize = 3;
+/// The models that are run in one call.
+const RUN: [&str; 4] = ["chromosome", "crowd", "kinesin", "sheet"];
+/// The model that is run to its end, and how often.
+const WHOLE: &str = "chromosome";
+const WHOLE_RUNS: u64 = 500;
 
 // What is timed. `read` is a listing of the model with no process: the reading, the tests of the
 // buffers and the clearing that every list and step begins with.
@@ -52,6 +60,8 @@ fn main() {
     compare::with_stack(move || {
         run(rounds);
         search(rounds.min(SEARCHES));
+        run_at_once(rounds);
+        run_whole();
     });
 }
 
@@ -87,6 +97,42 @@ fn search(rounds: usize) {
         let states = search.states(SEED);
         let rates: Vec<String> = least.iter().map(|time| format!("{:12.0}", states as f64 / time)).collect();
         println!("{:12} {:6} {states:8} {}", search.name, search.depth, rates.join(" "));
+    }
+}
+
+/// Prints nanoseconds a step of runs in one call and one by one, the least over all rounds.
+fn run_at_once(rounds: usize) {
+    let names = ENGINES.iter().flat_map(|(name, _)| [format!("{name} run"), format!("{name} single")]);
+    let names: Vec<String> = names.map(|name| format!("{name:>16}")).collect();
+    println!("{:12} {:>6} {}", "ns a step", "steps", names.join(" "));
+    for model in models::all().iter().filter(|model| RUN.contains(&model.name)) {
+        let starts = ENGINES.map(|(_, engine)| Start::new(&engine, model, SEED));
+        let mut least = ENGINES.map(|_| [f64::INFINITY; 2]);
+        let mut steps = 0;
+        for _ in 0..rounds {
+            for (((_, engine), start), least) in ENGINES.iter().zip(&starts).zip(&mut least) {
+                let both = [start.at_once(engine), start.one_by_one(engine)];
+                assert!(both[0].1 == both[1].1, "{}", model.name);
+                steps = both[0].1.ran.steps;
+                for (least, (time, _)) in least.iter_mut().zip(&both) {
+                    *least = least.min(*time);
+                }
+            }
+        }
+        let times: Vec<String> = least.iter().flatten().map(|time| format!("{time:16.0}")).collect();
+        println!("{:12} {steps:6} {}", model.name, times.join(" "));
+    }
+}
+
+/// Prints the seconds of many runs from the model's start until nothing is left, each in one call and by words of its own.
+fn run_whole() {
+    let names: Vec<String> = ENGINES.iter().map(|(name, _)| format!("{:>12}", format!("{name} s"))).collect();
+    println!("{:12} {:>6} {}", "whole runs", "runs", names.join(" "));
+    for model in models::all().iter().filter(|model| model.name == WHOLE) {
+        let seconds = |engine: &Engine| (0..WHOLE_RUNS).map(|seed| Start::new(engine, model, seed).whole(engine)).sum();
+        let times = ENGINES.map(|(_, engine)| -> f64 { seconds(&engine) });
+        let times: Vec<String> = times.iter().map(|time| format!("{time:12.3}")).collect();
+        println!("{:12} {WHOLE_RUNS:6} {}", model.name, times.join(" "));
     }
 }
 

@@ -1,7 +1,9 @@
 //! The same calls on two engines, each with buffers of its own.
 
 use crate::met::Met;
+use crate::ran;
 use second::generate::{Buffer, Buffers, Call, Engine, Given};
+use second::ran::EVENT;
 use second::{Clock, LISTING, MODEL, REPORT, SAVES, STATE};
 use std::collections::BTreeMap;
 use std::fmt;
@@ -15,6 +17,7 @@ pub enum Place {
     Listing,
     Report,
     Saves,
+    Events,
     Clock,
 }
 
@@ -64,6 +67,7 @@ pub fn run(tried: &Engine, oracle: &Engine, calls: &[Call], met: &mut Met) -> Re
             .or_else(|| kept(&call, &lent, &first, &left))
             .or_else(|| saved.note(&call, &first, &left))
             .or_else(|| untimed(oracle, &call, &lent, &first, &left))
+            .or_else(|| unlike_steps(tried, &call, &lent, &first, &left))
             .or_else(|| profile.note(&call, &first, &lent, &left));
         if let Some((place, what)) = fault {
             return Err(Difference { call: number, place, what, made });
@@ -73,12 +77,13 @@ pub fn run(tried: &Engine, oracle: &Engine, calls: &[Call], met: &mut Met) -> Re
     Ok(())
 }
 
-/// The buffers before a call. The saves, which are long, only if it is lent them.
+/// The buffers before a call. Saves and events, which are long, only if it is lent them.
 fn as_lent(buffers: &Buffers, call: &Call) -> Buffers {
     let saves = if call.lends(Buffer::Saves) { buffers.saves.clone() } else { Vec::new() };
+    let events = if call.lends(Buffer::Events) { buffers.events.clone() } else { Vec::new() };
     let Buffers { model, state, listing, report, clock, .. } = buffers;
     let (model, state, listing, report) = (model.clone(), state.clone(), listing.clone(), report.clone());
-    Buffers { model, state, listing, report, saves, clock: *clock }
+    Buffers { model, state, listing, report, saves, events, clock: *clock }
 }
 
 /// An accepted timed step alters state and listing as a step with its choosing draw does (02, note 4).
@@ -88,10 +93,32 @@ fn untimed(engine: &Engine, call: &Call, lent: &Buffers, given: &Given, after: &
         return None;
     }
     let mut plain = lent.clone();
-    plain.saves = Buffers::default().saves;
+    (plain.saves, plain.events) = (Buffers::default().saves, Buffers::default().events);
     let stepped = plain.make(engine, &Call::Step { lengths: *lengths, draw: *draw });
     let alike = stepped == Some(*given) && plain.state == after.state && plain.listing == after.listing;
     (!alike).then(|| (Place::State, "a timed step isn't the step with its draw".to_string()))
+}
+
+/// A run's steps are the timed steps of the same engine by the same draws, one after the other.
+fn unlike_steps(
+    engine: &Engine,
+    call: &Call,
+    lent: &Buffers,
+    given: &Given,
+    after: &Buffers,
+) -> Option<(Place, String)> {
+    let Given::Ran(ran) = given else { return None };
+    let steps = ran::singly(engine, call, lent, ran.steps);
+    let events: Vec<u64> = steps.iter().flat_map(|step| step.event).collect();
+    if events != after.events[..EVENT * ran.steps as usize] {
+        return Some((Place::Events, "the events aren't what the timed steps give".to_string()));
+    }
+    let words: usize = steps.iter().map(|step| step.words.len()).sum();
+    let waiting: usize = steps.iter().map(|step| step.waiting).sum();
+    let (state, clock) = steps.last().map_or((&lent.state, lent.clock), |step| (&step.state, step.clock));
+    let alike = *state == after.state && clock == after.clock;
+    let used = (words as u64, waiting as u64) == (ran.words, ran.waiting);
+    (!alike || !used).then(|| (Place::State, "a run isn't its timed steps".to_string()))
 }
 
 /// State and clock of the latest accepted save under each name since the last opening, by the list of calls alone.
@@ -143,7 +170,7 @@ impl Profile {
         if call.opens() && given.number() != 1 {
             self.steady = given.number() == 0 && matches!(call, Call::Steady { .. });
         }
-        let steps = matches!(call, Call::Step { .. } | Call::Timed { .. });
+        let steps = matches!(call, Call::Step { .. } | Call::Timed { .. } | Call::Run { .. });
         if self.steady && given.number() == 18 {
             return Some((Place::Answer, "18 under the steady profile".to_string()));
         }
@@ -165,6 +192,7 @@ fn differs(call: &Call, first: &Given, left: &Buffers, second: &Given, right: &B
         .or_else(|| part(Place::Report, "report", &left.report, &right.report))
         .or_else(|| part(Place::Model, "model", &left.model, &right.model))
         .or_else(|| call.lends(Buffer::Saves).then(|| part(Place::Saves, "saves", &left.saves, &right.saves))?)
+        .or_else(|| call.lends(Buffer::Events).then(|| part(Place::Events, "events", &left.events, &right.events))?)
 }
 
 fn part<T: PartialEq + fmt::Display>(place: Place, name: &str, left: &[T], right: &[T]) -> Option<(Place, String)> {
@@ -180,10 +208,12 @@ fn part<T: PartialEq + fmt::Display>(place: Place, name: &str, left: &[T], right
 fn kept(call: &Call, lent: &Buffers, given: &Given, after: &Buffers) -> Option<(Place, String)> {
     let number = given.number();
     let opening = call.opens();
-    let timed = number == 0 && matches!(call, Call::Timed { .. } | Call::Return { .. });
+    let ran = if let Given::Ran(ran) = given { ran.steps as usize } else { 0 };
+    let timed = ran > 0 || number == 0 && matches!(call, Call::Timed { .. } | Call::Return { .. });
     let moves = timed || (number == 0 && matches!(call, Call::Step { .. }));
     let saves = number == 0 && matches!(call, Call::Save { .. } | Call::Forget { .. });
-    let lent_saves = call.lends(Buffer::Saves);
+    let (lent_saves, lent_events) = (call.lends(Buffer::Saves), call.lends(Buffer::Events));
+    let past = (EVENT * ran).min(after.events.len());
     let saves_as_lent = lent_saves && !saves && (!opening || number == 1);
     let forgets = opening && number != 1;
     let closes = opening && number > 1;
@@ -199,6 +229,7 @@ fn kept(call: &Call, lent: &Buffers, given: &Given, after: &Buffers) -> Option<(
         (saves_as_lent && after.saves != lent.saves, Place::Saves, "changes the saves"),
         (forgets && !zero(&after.saves[..SAVES]), Place::Saves, "leaves a part of the saves"),
         (lent_saves && after.saves[SAVES..] != lent.saves[SAVES..], Place::Saves, "writes past the saves"),
+        (lent_events && after.events[past..] != lent.events[past..], Place::Events, "writes past its events"),
         (after.model[MODEL..] != lent.model[MODEL..], Place::Model, "writes past the model"),
         (after.state[STATE..] != lent.state[STATE..], Place::State, "writes past the state"),
     ];

@@ -3,7 +3,7 @@
 #![allow(unsafe_code)]
 
 use second::generate::Engine;
-use second::{Answer, Clock, Found, Opening};
+use second::{Answer, Clock, Found, Opening, Ran, Running};
 
 /// As `matgravel_answer` of the header.
 #[repr(C)]
@@ -24,6 +24,17 @@ struct CFound {
     run: [u64; 8],
 }
 
+/// As `matgravel_ran` of the header.
+#[repr(C)]
+struct CRan {
+    number: u64,
+    steps: u64,
+    words: u64,
+    waiting: u64,
+    count: u64,
+    total: u64,
+}
+
 /// As `matgravel_clock` of the header.
 #[repr(C)]
 struct CClock {
@@ -38,11 +49,11 @@ impl From<Clock> for CClock {
 }
 
 /// Makes a call that is lent a clock.
-fn with_clock(clock: &mut Clock, call: impl FnOnce(&mut CClock) -> CAnswer) -> Answer {
+fn with_clock<C: Into<T>, T>(clock: &mut Clock, call: impl FnOnce(&mut CClock) -> C) -> T {
     let mut lent = CClock::from(*clock);
-    let answer = call(&mut lent);
+    let result = call(&mut lent);
     *clock = Clock { ticks: lent.ticks, draws: lent.draws };
-    answer.into()
+    result.into()
 }
 
 extern "C" {
@@ -146,6 +157,20 @@ extern "C" {
         name_len: usize,
         depth: u64,
     ) -> CFound;
+    fn matgravel_run(
+        model: *const u8,
+        model_len: usize,
+        state: *mut i64,
+        state_len: usize,
+        words: *const u64,
+        words_len: usize,
+        waiting: *const u16,
+        waiting_len: usize,
+        events: *mut u64,
+        events_len: usize,
+        limit: u64,
+        clock: *mut CClock,
+    ) -> CRan;
     fn matgravel_independent(entry: *const u64, entry_len: usize, other: *const u64, other_len: usize) -> u64;
 }
 
@@ -153,6 +178,13 @@ impl From<CAnswer> for Answer {
     fn from(answer: CAnswer) -> Answer {
         let CAnswer { number, place, branch, count, total, chosen } = answer;
         Answer { number, place, branch, count, total, chosen }
+    }
+}
+
+impl From<CRan> for Ran {
+    fn from(ran: CRan) -> Ran {
+        let CRan { number, steps, words, waiting, count, total } = ran;
+        Ran { number, steps, words, waiting, count, total }
     }
 }
 
@@ -309,6 +341,27 @@ pub fn search(model: &[u8], state: &[i64], name: &[u8], depth: u64) -> Found {
     Found { number, length, run }
 }
 
+pub fn run(model: &[u8], lent: Running) -> Ran {
+    let Running { state, words, waiting, events, limit, clock } = lent;
+    // As above; model, words and waiting draws are read only.
+    with_clock(clock, |clock| unsafe {
+        matgravel_run(
+            model.as_ptr(),
+            model.len(),
+            state.as_mut_ptr(),
+            state.len(),
+            words.as_ptr(),
+            words.len(),
+            waiting.as_ptr(),
+            waiting.len(),
+            events.as_mut_ptr(),
+            events.len(),
+            limit,
+            clock,
+        )
+    })
+}
+
 pub fn independent(entry: &[u64], other: &[u64]) -> bool {
     // As above; both are read only.
     let is = unsafe { matgravel_independent(entry.as_ptr(), entry.len(), other.as_ptr(), other.len()) };
@@ -318,4 +371,4 @@ pub fn independent(entry: &[u64], other: &[u64]) -> bool {
 
 /// The library's engine.
 pub const ENGINE: Engine =
-    Engine { open, open_steady, list, step, timed_step, report, save, return_to, forget, search, independent };
+    Engine { open, open_steady, list, step, timed_step, report, save, return_to, forget, search, run, independent };

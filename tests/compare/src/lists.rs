@@ -9,7 +9,7 @@ use second::state::{
     Channel, Item, Pair, DEFINITION, FIRST_PAIR, FIRST_PROCESS, FIRST_VALUE, PAIR, PAIRS, PROCESS, PROCESSES,
 };
 use second::syntax::ITEMS;
-use second::{mazes, model, saves, script, MODEL, SAVES, STATE};
+use second::{mazes, model, saves, script, walks, MODEL, SAVES, STATE};
 
 /// How many lists the test runs, and how many calls it makes at least.
 pub const LISTS: u64 = 1_200;
@@ -22,7 +22,7 @@ const TEXT_START: usize = 2;
 
 /// The list of a seed: mostly random calls; every tenth goes through the limits, every fifth
 /// hands in states and model buffers directly, every tenth has long lists or many names, every
-/// tenth is of saves, one in twenty of a steady model and one of searches.
+/// tenth is of saves, one in twenty of a steady model, one of searches and one of runs.
 pub fn of_seed(seed: u64) -> Vec<Call> {
     let mut random = Random::new(seed);
     match seed % 20 {
@@ -32,6 +32,7 @@ pub fn of_seed(seed: u64) -> Vec<Call> {
         2 => handed_saves(&mut random),
         12 => generate::stored_calls(&mut random, 2 * STEPS),
         13 => mazes::searches(&mut random),
+        7 => walks::walks(&mut random, (seed / 20) as usize),
         6 => {
             let which = (seed / 20) as usize % texts::LONG;
             let text = texts::long(&mut random, which);
@@ -305,7 +306,7 @@ fn listed_and_stepped(random: &mut Random, calls: &mut Vec<Call>, buffers: &mut 
     }
     let waiting = generate::some_waiting(random);
     calls.push(Call::Timed { lengths: RIGHT, draw: Draw::Inside(number), waiting });
-    calls.push(generate::some_search(random));
+    calls.extend([generate::some_search(random), generate::some_run(random)]);
     for call in &calls[first..] {
         buffers.make(&SECOND, call);
     }

@@ -1,6 +1,6 @@
 //! What the calls of a comparison have met: answers, kinds of steps, specimens.
 
-use crate::searched;
+use crate::{ran, searched};
 use second::generate::{Buffers, Call, Draw, Given};
 use second::limits::{HIGHEST, LOWEST};
 use second::state::{FIRST_PAIR, FIRST_PROCESS, FIRST_VALUE, LOCALS, PAIR, PROCESS, VALUE_COUNT};
@@ -15,7 +15,7 @@ const CHANNEL_KINDS: std::ops::RangeInclusive<u64> = 2..=7;
 /// Numbers of a listing entry.
 const ENTRY: usize = 7;
 /// What each call must have answered.
-const ANSWERS: [(&str, &[u64]); 10] = [
+const ANSWERS: [(&str, &[u64]); 11] = [
     ("open", &[0, 1, 2, 3, 4, 5, 6, 7, 8, 9, 10]),
     ("steady", &[0, 1, 2, 3, 4, 5, 6, 7, 8, 9, 10, 29]),
     ("list", &[0, 1, 11, 12, 13, 14]),
@@ -26,6 +26,7 @@ const ANSWERS: [(&str, &[u64]); 10] = [
     ("return", &[0, 1, 11, 20, 21]),
     ("forget", &[0, 1, 11, 20, 21]),
     ("search", &[0, 1, 11, 26, 27]),
+    ("run", &[0, 1, 11, 12, 13, 14, 15, 17, 18, 19, 23, 24, 25]),
 ];
 /// Lengths of runs that searches must have found, 0 for none.
 const LENGTHS: std::ops::RangeInclusive<u64> = 0..=8;
@@ -54,6 +55,8 @@ pub struct Met {
     lengths: BTreeMap<u64, u64>,
     /// What searches met besides.
     searches: BTreeMap<&'static str, u64>,
+    /// How runs ended, and what words they met.
+    runs: BTreeMap<&'static str, u64>,
     /// By what stands at the place of a 29.
     unsteady: BTreeMap<&'static str, u64>,
     /// By what is at an end or past it and which end: states that a list judged, by 11 if it is past it.
@@ -71,6 +74,11 @@ impl Met {
             *self.lengths.entry(found.length).or_default() += u64::from(found.number == 0);
             for what in searched::met(call, found, lent) {
                 *self.searches.entry(what).or_default() += 1;
+            }
+        }
+        if let Given::Ran(ran) = given {
+            for what in ran::met(call, ran, lent) {
+                *self.runs.entry(what).or_default() += 1;
             }
         }
         let Some(answer) = given.answer() else { return };
@@ -115,7 +123,7 @@ impl Met {
     }
 
     /// What was never met: answers of each call, kinds of steps, draws at the ends, lengths of runs
-    /// found and what else searches meet, places of a 29, values at the ends, these specimens.
+    /// found and what else searches meet, ends of runs, places of a 29, values at the ends, these specimens.
     pub fn missing(&self, specimens: &[&'static str]) -> Vec<String> {
         let answers = ANSWERS.iter().flat_map(|(name, numbers)| numbers.iter().map(move |number| (*name, *number)));
         let answers = answers.filter(|answer| !self.answers.contains_key(answer));
@@ -126,13 +134,14 @@ impl Met {
         let ends = ends.filter(|end| !self.ends.contains_key(end));
         let lengths = LENGTHS.filter(|length| self.lengths.get(length).is_none_or(|times| *times == 0));
         let searches = searched::all().into_iter().filter(|what| !self.searches.contains_key(what));
+        let runs = ran::all().into_iter().filter(|what| !self.runs.contains_key(what));
         let unsteady = UNSTEADY.into_iter().filter(|what| !self.unsteady.contains_key(what));
         let specimens = specimens.iter().filter(|name| !self.specimens.contains(**name));
         answers
             .map(|(name, number)| format!("{name} with {number}"))
             .chain(kinds.map(|(kind, items)| format!("a step of kind {kind} on {items} items")))
             .chain(lengths.map(|length| format!("a run of {length} entries found")))
-            .chain(searches.chain(unsteady).map(str::to_string))
+            .chain(searches.chain(runs).chain(unsteady).map(str::to_string))
             .chain(draws.map(|name| format!("draw: {name}")))
             .chain(ends.map(|(what, end)| format!("{what} {end}")))
             .chain(specimens.map(|name| format!("specimen: {name}")))
@@ -179,6 +188,8 @@ impl fmt::Display for Met {
         let both = self.searches.iter().chain(&self.unsteady);
         let searches: Vec<String> = both.map(|(what, times)| format!("{what}:{times}")).collect();
         writeln!(out, "  searches {}", searches.join(", "))?;
+        let runs: Vec<String> = self.runs.iter().map(|(what, times)| format!("{what}:{times}")).collect();
+        writeln!(out, "  runs {}", runs.join(", "))?;
         let ends: Vec<String> = self.ends.iter().map(|((what, end), times)| format!("{what} {end}:{times}")).collect();
         writeln!(out, "  values {}", ends.join(", "))?;
         write!(out, "  specimens {}", self.specimens.len())

@@ -2,13 +2,14 @@
 
 use crate::compare::{self, Difference};
 use crate::met::Met;
-use second::generate::{Buffers, Call, Depth, Draw, Engine, RIGHT};
+use second::generate::{Buffers, Call, Depth, Draw, Engine, Word, RIGHT};
 use second::tokens::{self, Kind};
 use second::{model, MODEL, SAVES, STATE};
 
-/// How many calls are made on shorter lists, at most, and what a list costs besides its calls.
+/// How many calls are made on shorter lists, at most, what a list costs besides its calls, and what a word of a run does.
 const WORK: usize = 1_200_000;
 const LIST: usize = 20;
+const WORD: usize = 4;
 /// Runs of at most so many calls are tried wherever they begin.
 const CALLS: usize = 4;
 /// How many tokens in a row are taken out of a text, at most, once halves no longer help.
@@ -56,6 +57,8 @@ pub fn shrink(tried: &Engine, oracle: &Engine, found: Difference) -> Difference 
         shrinker.drop_calls();
         shrinker.shorten_texts();
         shrinker.lower_draws();
+        shrinker.lower_limits();
+        shrinker.drop_words();
         shrinker.drop_waiting();
         shrinker.lower_depths();
         if shrinker.size() >= before || shrinker.left == 0 {
@@ -74,7 +77,8 @@ impl Shrinker<'_> {
         if self.left == 0 {
             return false;
         }
-        self.left = self.left.saturating_sub(LIST + calls.len());
+        let words = |call: &Call| if let Call::Run { words, .. } = call { WORD * words.len() } else { 0 };
+        self.left = self.left.saturating_sub(LIST + calls.iter().map(|call| 1 + words(call)).sum::<usize>());
         match compare::run(self.tried, self.oracle, calls, &mut Met::default()) {
             Ok(()) => false,
             Err(difference) => {
@@ -266,18 +270,18 @@ impl Shrinker<'_> {
         false
     }
 
-    /// Tries each timed step without the last of its waiting draws, or without any three of them.
+    /// Tries each timed step and each run without the last of its waiting draws, or without any three of them.
     fn drop_waiting(&mut self) {
         let mut call = 0;
         while call < self.best.made.len() {
             let mut start = 0;
-            while let Some(Call::Timed { waiting, .. }) = self.best.made.get(call) {
+            while let Some(Call::Timed { waiting, .. } | Call::Run { waiting, .. }) = self.best.made.get(call) {
                 let (length, last) = (waiting.len(), waiting.len().saturating_sub(1));
                 if start > length || length == 0 {
                     break;
                 }
                 let mut calls = self.best.made.clone();
-                if let Call::Timed { waiting, .. } = &mut calls[call] {
+                if let Call::Timed { waiting, .. } | Call::Run { waiting, .. } = &mut calls[call] {
                     waiting.drain(if start == 0 { last..length } else { start - 1..(start + 2).min(length) });
                 }
                 if !self.takes(&calls) {
@@ -285,6 +289,71 @@ impl Shrinker<'_> {
                 }
             }
             call += 1;
+        }
+    }
+
+    /// Tries each run without half of its words, a quarter and so on, and with 0 in the place of each.
+    fn drop_words(&mut self) {
+        for call in 0..self.best.made.len() {
+            let Some(Call::Run { words, .. }) = self.best.made.get(call) else { continue };
+            let mut piece = words.len().div_ceil(2);
+            while piece > 0 {
+                self.drop_pieces(call, piece);
+                piece /= 2;
+            }
+            let mut place = 0;
+            while let Some(Call::Run { words, .. }) = self.best.made.get(call).filter(|_| self.left > 0) {
+                let Some(&word) = words.get(place) else { break };
+                if word != Word::Exactly(0) {
+                    self.takes_run(call, |words, _, _| words[place] = Word::Exactly(0));
+                }
+                place += 1;
+            }
+        }
+    }
+
+    /// Tries a run without each piece of so many words.
+    fn drop_pieces(&mut self, call: usize, piece: usize) {
+        let mut start = 0;
+        while let Some(Call::Run { words, .. }) = self.best.made.get(call).filter(|_| self.left > 0) {
+            let end = (start + piece).min(words.len());
+            if start >= end {
+                return;
+            }
+            if !self.takes_run(call, |words, _, _| drop(words.drain(start..end))) {
+                start += piece;
+            }
+        }
+    }
+
+    /// Takes the list with a run changed in its words, its waiting draws and its limit, if it is one.
+    fn takes_run(&mut self, call: usize, change: impl FnOnce(&mut Vec<Word>, &mut Vec<u16>, &mut u64)) -> bool {
+        let mut calls = self.best.made.clone();
+        let Some(Call::Run { words, waiting, limit, .. }) = calls.get_mut(call) else { return false };
+        change(words, waiting, limit);
+        self.takes(&calls)
+    }
+
+    /// Tries a limit of few steps for each run, halves of its waiting draws, and all the room there is.
+    fn lower_limits(&mut self) {
+        for call in 0..self.best.made.len() {
+            for lower in 0..=3 {
+                let Some(&Call::Run { limit, .. }) = self.best.made.get(call) else { break };
+                if limit > lower && self.takes_run(call, |_, _, limit| *limit = lower) {
+                    break;
+                }
+            }
+            while let Some(Call::Run { waiting, .. }) = self.best.made.get(call).filter(|_| self.left > 0) {
+                let half = waiting.len() / 2;
+                if half == 0 || !self.takes_run(call, |_, waiting, _| waiting.truncate(half)) {
+                    break;
+                }
+            }
+            let mut calls = self.best.made.clone();
+            if let Some(Call::Run { lengths, .. }) = calls.get_mut(call).filter(|_| call + 1 < self.best.made.len()) {
+                *lengths = RIGHT;
+                self.takes(&calls);
+            }
         }
     }
 
@@ -332,6 +401,11 @@ fn size(calls: &[Call]) -> usize {
         Call::Open { text, .. } | Call::Steady { text, .. } => 10 + text.len(),
         Call::Step { draw: Draw::Exactly(draw), .. } => 10 + draw.to_string().len(),
         Call::Timed { draw: Draw::Exactly(draw), waiting, .. } => 10 + draw.to_string().len() + 10 * waiting.len(),
+        Call::Run { words, waiting, limit, .. } => {
+            let digits = |word: &Word| if let Word::Exactly(word) = word { word.to_string().len() } else { 20 };
+            let words: usize = words.iter().map(|word| 10 + digits(word)).sum();
+            10 + words + 10 * waiting.len() + limit.to_string().len()
+        }
         Call::Search { name, depth: Depth::Exactly(depth), .. } => 10 + name.len() + depth.to_string().len(),
         Call::Save { name, .. } | Call::Return { name, .. } | Call::Forget { name, .. } => 10 + name.len(),
         _ => 10,

@@ -1,10 +1,10 @@
 //! The specimens of 01 that have no star, the bench sheet, the starred divisions and products beyond
-//! 64 bits, steady texts and searches, as lists of calls whose last answer is known.
+//! 64 bits, steady texts, searches and runs, as lists of calls whose last answer is known.
 
 use crate::compare::{self, Difference};
 use crate::met::Met;
-use second::generate::{Call, Depth, Draw, Engine, Given, RIGHT};
-use second::{Answer, Found};
+use second::generate::{Call, Depth, Draw, Engine, Given, Lengths, Word, RIGHT};
+use second::{Answer, Found, Ran};
 
 /// The bench sheet's model, as 01 has it.
 pub const SHEET: &str = "\
@@ -193,8 +193,53 @@ fn searches() -> Vec<Specimen> {
     ]
 }
 
+/// What a run of a text with room for two events gives: number, steps, words, waiting draws, count, total.
+fn ran(name: &'static str, text: &str, words: &[u64], waiting: &[u16], limit: u64, numbers: [u64; 6]) -> Specimen {
+    let words = words.iter().copied().map(Word::Exactly).collect();
+    let lengths = Lengths { events: 23, ..RIGHT };
+    let call = Call::Run { lengths, words, waiting: waiting.to_vec(), limit };
+    let [number, steps, words, waiting, count, total] = numbers;
+    let answer = Given::Ran(Ran { number, steps, words, waiting, count, total });
+    Specimen { name, calls: vec![open(text), call], answer }
+}
+
+/// Ways in which a run ends, and words around the bound of a total.
+fn runs() -> Vec<Specimen> {
+    let (one, most) = ("A[n]={go,1}.A[n+1];A[0];", u64::MAX);
+    let (nothing, slower) = ("A[]={go,0};A[];", "A[n]={go,1*n}.A[n-1];A[1];");
+    let (unlisted, untaken) = ("A[n]={go,1*(1/n)}.A[n-1];A[1];", "A[n]={go,1}.A[n-1+0/n];A[1];");
+    // 256 times 256 hundred-millionths: 2^16.
+    let even = "S[]={@c![1],0.0256}.S[];R[]={@c?[1],0.0256}.R[];S[]||R[];";
+    // 2^64 is 18,446,744,073,709,551,616.
+    let bound = 18_446_744_073_700_000_000;
+    let (waiting, evens) = ([7; 6], [2, 1, 1].repeat(32));
+    let unit = 100_000_000;
+    vec![
+        ran("two steps of the sheet", SHEET, &[299_999_999, 325_000_000], &waiting, 2, [0, 2, 2, 4, 2, 350_000_000]),
+        ran("a limit of 0", one, &[0; 3], &waiting, 0, [0; 6]),
+        ran("a limit of 1", one, &[0; 3], &waiting, 1, [0, 1, 1, 2, 1, unit]),
+        ran("room for two", one, &[0; 3], &waiting, most, [0, 2, 2, 4, 1, unit]),
+        ran("no word", one, &[], &waiting, most, [0, 0, 0, 0, 1, unit]),
+        ran("one word", one, &[5], &waiting, most, [0, 1, 1, 2, 1, unit]),
+        ran("a word at the bound", one, &[bound], &waiting, most, [0, 0, 0, 0, 1, unit]),
+        ran("a word at the bound and one below it", one, &[bound, bound - 1], &waiting, 1, [0, 1, 2, 2, 1, unit]),
+        ran("words turned away at the end", one, &[0, most, most], &waiting, most, [0, 1, 1, 2, 1, unit]),
+        ran("no word is turned away", even, &[most, most - 1], &waiting, most, [0, 2, 2, 4, 1, 65_536]),
+        ran("12 after a step", unlisted, &[0; 3], &waiting, most, [12, 1, 1, 2, 0, 0]),
+        ran("15 before the words", nothing, &[], &[], 1, [15, 0, 0, 0, 1, 0]),
+        ran("15 after a step", slower, &[0; 3], &waiting, most, [15, 1, 1, 2, 1, 0]),
+        ran("17 after a step", untaken, &[0; 3], &waiting, most, [17, 1, 1, 2, 1, unit]),
+        ran("17 uses no word", untaken, &[0, most, 0], &waiting, most, [17, 1, 1, 2, 1, unit]),
+        ran("17 before 23", untaken, &[0; 3], &[7; 2], most, [17, 1, 1, 2, 1, unit]),
+        ran("23 at once", one, &[0; 3], &[7], most, [23, 0, 0, 0, 1, unit]),
+        ran("23 after a step", one, &[0; 3], &[7; 3], most, [23, 1, 1, 2, 1, unit]),
+        ran("24 at once", one, &[0; 3], &evens, most, [24, 0, 0, 0, 1, unit]),
+        ran("11 of a run", "A[]={go,1}", &[0; 3], &waiting, 0, [11, 0, 0, 0, 0, 0]),
+    ]
+}
+
 pub fn all() -> Vec<Specimen> {
-    [specimens(), steady_texts(), searches()].into_iter().flatten().collect()
+    [specimens(), steady_texts(), searches(), runs()].into_iter().flatten().collect()
 }
 
 pub fn names() -> Vec<&'static str> {

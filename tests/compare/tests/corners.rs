@@ -1,4 +1,4 @@
-//! The library at corners that no script of `calls` reaches: a clock at the ends of its range, saves
+//! The library at corners that no script of `calls` reaches: a clock at the ends of its range, also in a run, saves
 //! that are damaged, and saves of a wrong length.
 #![cfg(feature = "engine")]
 
@@ -6,7 +6,8 @@ use compare::linked;
 use compare::with_stack;
 use second::clock::Clock;
 use second::engine::Opening;
-use second::{LISTING, MODEL, SAVES, STATE};
+use second::ran::EVENT;
+use second::{Running, LISTING, MODEL, SAVES, STATE};
 
 const MOST: u64 = (1 << 63) - 1;
 
@@ -64,6 +65,41 @@ fn a_clock_at_the_ends_of_its_range() {
         assert_eq!(timed(Clock { ticks: MOST, draws: 0 }, &[0, 0]), (0, Clock { ticks: MOST, draws: 2 }));
         for clock in [Clock { ticks: MOST + 1, draws: 0 }, Clock { ticks: 0, draws: MOST + 1 }] {
             assert_eq!(timed(clock, &waiting), (11, clock));
+        }
+    });
+}
+
+/// A run by a rate of 1 with a tick and two draws for each step, from this clock: its number, its steps, and the clock
+/// after it.
+fn ran(clock: Clock) -> (u64, u64, Clock) {
+    let mut bench = opened();
+    bench.clock = clock;
+    let mut lent = vec![77; 48];
+    let Bench { model, state, clock, .. } = &mut bench;
+    let (words, waiting, events) = (&[0; 9], &[7; 18], &mut lent);
+    let ran = linked::run(model, Running { state, words, waiting, events, limit: 9, clock });
+    let (filled, left) = lent.split_at(EVENT * ran.steps as usize);
+    assert!(left.iter().all(|&number| number == 77));
+    assert_eq!(filled.chunks(EVENT).last().map_or(bench.clock.ticks, |event| event[0]), bench.clock.ticks);
+    assert_eq!((ran.words, ran.waiting), (ran.steps, 2 * ran.steps));
+    (ran.number, ran.steps, bench.clock)
+}
+
+#[test]
+fn a_run_at_the_ends_of_the_clock() {
+    with_stack(|| {
+        for left in 0..9 {
+            for clock in [Clock { ticks: MOST - left, draws: 5 }, Clock { ticks: 5, draws: MOST - 2 * left }] {
+                // There is room for six events.
+                let steps = left.min(6);
+                let number = if left < 6 { 25 } else { 0 };
+                let after = Clock { ticks: clock.ticks + steps, draws: clock.draws + 2 * steps };
+                assert_eq!(ran(clock), (number, steps, after));
+            }
+        }
+        assert_eq!(ran(Clock { ticks: 0, draws: MOST - 3 }), (25, 1, Clock { ticks: 1, draws: MOST - 1 }));
+        for clock in [Clock { ticks: MOST + 1, draws: 0 }, Clock { ticks: 0, draws: MOST + 1 }] {
+            assert_eq!(ran(clock), (11, 0, clock));
         }
     });
 }

@@ -11,8 +11,8 @@ use second::runs::Runs;
 use second::script::{self, Form, Line};
 use second::state::{DEFINITION, FIRST_PAIR, FIRST_PROCESS, FIRST_VALUE, PAIR, PROCESS, VALUE_COUNT};
 use second::{
-    engine, forget, list, open, open_steady, report, return_to, save, saves, search, step, timed_step, Answer, Clock,
-    Found, Opening, LISTING, SAVES,
+    engine, forget, list, open, open_steady, ran, report, return_to, run, save, saves, search, step, timed_step,
+    Answer, Clock, Found, Opening, Ran, Running, LISTING, SAVES,
 };
 
 const ENTRY: usize = 7;
@@ -570,6 +570,134 @@ fn a_steady_opening_that_keeps_what_it_refuses() {
         answer
     }
     found(Engine { open_steady: wrong, ..SECOND }, Place::State, 1, 60);
+}
+
+/// The total of a state, 0 where it has no listing.
+fn total(model: &[u8], state: &[i64]) -> u64 {
+    list(model, state, &mut vec![0; LISTING]).total
+}
+
+#[test]
+fn a_first_word_that_is_never_turned_away() {
+    fn wrong(model: &[u8], lent: Running) -> Ran {
+        let (mut words, total) = (lent.words.to_vec(), total(model, lent.state));
+        if let Some(first) = words.first_mut().filter(|_| total > 0) {
+            *first %= total;
+        }
+        run(model, Running { words: &words, ..lent })
+    }
+    found(Engine { run: wrong, ..SECOND }, Place::Answer, 2, 120);
+}
+
+#[test]
+fn a_word_at_the_bound_that_is_used() {
+    fn wrong(model: &[u8], lent: Running) -> Ran {
+        let (mut words, total) = (lent.words.to_vec(), total(model, lent.state));
+        if let Some(first) = words.first_mut().filter(|first| total > 0 && u128::from(**first) == ran::bound(total)) {
+            *first = 0;
+        }
+        run(model, Running { words: &words, ..lent })
+    }
+    found(Engine { run: wrong, ..SECOND }, Place::Answer, 2, 120);
+}
+
+#[test]
+fn words_turned_away_at_the_end_that_are_counted() {
+    fn wrong(model: &[u8], lent: Running) -> Ran {
+        let (words, most) = (lent.words.len() as u64, lent.limit.min((lent.events.len() / ran::EVENT) as u64));
+        let ran = run(model, lent);
+        let ended = ran.number == 0 && ran.steps < most;
+        Ran { words: if ended { words } else { ran.words }, ..ran }
+    }
+    found(Engine { run: wrong, ..SECOND }, Place::Answer, 2, 120);
+}
+
+#[test]
+fn a_run_that_counts_the_words_of_a_refused_step() {
+    fn wrong(model: &[u8], lent: Running) -> Ran {
+        let ran = run(model, lent);
+        Ran { words: ran.words + u64::from(ran.number >= 23), ..ran }
+    }
+    found(Engine { run: wrong, ..SECOND }, Place::Answer, 2, 100);
+}
+
+#[test]
+fn a_run_that_asks_for_a_word_before_fifteen() {
+    fn wrong(model: &[u8], lent: Running) -> Ran {
+        let words = lent.words.len() as u64;
+        let ran = run(model, lent);
+        let ended = ran.number == 15 && ran.words == words;
+        Ran { number: if ended { 0 } else { ran.number }, ..ran }
+    }
+    found(Engine { run: wrong, ..SECOND }, Place::Answer, 2, 100);
+}
+
+#[test]
+fn an_event_with_the_ticks_before_the_step() {
+    fn wrong(model: &[u8], mut lent: Running) -> Ran {
+        let mut ticks = lent.clock.ticks;
+        let ran = run(model, lent.again());
+        for event in lent.events.chunks_mut(ran::EVENT).take(ran.steps as usize) {
+            std::mem::swap(&mut event[0], &mut ticks);
+        }
+        ran
+    }
+    found(Engine { run: wrong, ..SECOND }, Place::Events, 2, 120);
+}
+
+#[test]
+fn numbers_past_the_last_event_that_are_zeroed() {
+    fn wrong(model: &[u8], mut lent: Running) -> Ran {
+        let ran = run(model, lent.again());
+        if ran.number != 1 && ran.number != 11 {
+            lent.events[ran::EVENT * ran.steps as usize..].fill(0);
+        }
+        ran
+    }
+    // The events lent must hold something.
+    found(Engine { run: wrong, ..SECOND }, Place::Events, 3, 120);
+}
+
+#[test]
+fn a_run_that_lists_once_more_at_its_limit() {
+    fn wrong(model: &[u8], mut lent: Running) -> Ran {
+        let ran = run(model, lent.again());
+        if ran.number != 0 || ran.steps != lent.limit {
+            return ran;
+        }
+        let listed = list(model, lent.state, &mut vec![0; LISTING]);
+        Ran { count: listed.count, total: listed.total, ..ran }
+    }
+    found(Engine { run: wrong, ..SECOND }, Place::Answer, 2, 120);
+}
+
+#[test]
+fn a_refused_run_that_goes_back() {
+    fn wrong(model: &[u8], mut lent: Running) -> Ran {
+        let (before, start) = (lent.state.to_vec(), *lent.clock);
+        let ran = run(model, lent.again());
+        if ran.number != 0 {
+            lent.state.copy_from_slice(&before);
+            *lent.clock = start;
+        }
+        ran
+    }
+    found(Engine { run: wrong, ..SECOND }, Place::Clock, 2, 160);
+}
+
+#[test]
+fn a_run_whose_steps_share_their_waiting_draws() {
+    fn wrong(model: &[u8], mut lent: Running) -> Ran {
+        let ran = run(model, lent.again());
+        if ran.number != 23 || ran.steps != 1 {
+            return ran;
+        }
+        // One step more, by the draws of the first.
+        let (words, events) = (&lent.words[ran.words as usize..], &mut lent.events[ran::EVENT..]);
+        let more = run(model, Running { words, events, limit: lent.limit - 1, ..lent });
+        Ran { number: more.number, steps: 1 + more.steps, words: ran.words + more.words, ..ran }
+    }
+    found(Engine { run: wrong, ..SECOND }, Place::Answer, 2, 120);
 }
 
 /// What is said of an engine for which the order of independent entries matters.

@@ -31,7 +31,9 @@ fn the_lengths_are_those_of_the_second_engine() {
         ("MODEL", second::MODEL),
         ("STATE", second::STATE),
         ("LISTING", second::LISTING),
-        ("ENTRIES", second::LISTING / 7),
+        ("ENTRIES", second::listing::ENTRIES),
+        ("ENTRY", second::listing::FIELDS),
+        ("EVENT", second::ran::EVENT),
         ("REPORT", second::REPORT),
         ("SAVES", second::SAVES),
     ];

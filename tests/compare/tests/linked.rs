@@ -8,7 +8,7 @@ use compare::orders::{self, Tried};
 use compare::{lists, specimens, texts, with_stack};
 use second::generate::{Buffers, Call, Depth, Random, RIGHT, SECOND};
 use second::script::{self, Form};
-use second::{mazes, LISTING, MODEL, REPORT, SAVES, STATE};
+use second::{mazes, walks, Running, LISTING, MODEL, REPORT, SAVES, STATE};
 use std::path::{Path, PathBuf};
 use std::process::{Command, Stdio};
 
@@ -105,6 +105,10 @@ fn the_stack_that_the_header_names_is_enough() {
             assert!(steady.is_some_and(|given| [opened.number, 29].contains(&given.number())));
             let found = (ENGINE.search)(model, state, b"a", depth);
             assert!([0, 11, 27].contains(&found.number));
+            let (later, time, events) = (&mut state.to_vec(), &mut clock.clone(), &mut buffers.events[..16]);
+            let lent = Running { state: later, words: &[0, 0], waiting: &[7; 4], events, limit: 2, clock: time };
+            let ran = (ENGINE.run)(model, lent);
+            assert!(ran.number == 0 || ran.number >= 11);
             let timed = (ENGINE.timed_step)(model, state, listing, &[7, 7], 0, clock);
             assert!(timed.number == 0 || timed.number >= 11);
             let stepped = (ENGINE.step)(model, state, listing, 0);
@@ -130,6 +134,23 @@ fn a_search_needs_no_more_stack() {
         }
     };
     let thread = std::thread::Builder::new().stack_size(defined("STACK")).spawn(searches).expect("a thread");
+    thread.join().expect("no panic");
+}
+
+/// Runs through small models, on a thread with that stack.
+#[test]
+fn a_run_needs_no_more_stack() {
+    let runs = || {
+        for seed in 0..40 {
+            let mut buffers = Buffers::default();
+            for call in walks::walks(&mut Random::new(seed), seed as usize) {
+                let call = buffers.exact(&call);
+                let mut second = buffers.clone();
+                assert_eq!(buffers.make(&ENGINE, &call), second.make(&SECOND, &call), "seed {seed}");
+            }
+        }
+    };
+    let thread = std::thread::Builder::new().stack_size(defined("STACK")).spawn(runs).expect("a thread");
     thread.join().expect("no panic");
 }
 

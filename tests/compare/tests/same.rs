@@ -22,11 +22,10 @@ fn the_fixed_seeds_meet_everything() {
 #[test]
 fn what_was_not_met_is_told() {
     let missing = Met::default().missing(&specimens::names());
-    assert_eq!(
-        missing.len(),
-        11 + 12 + 6 + 11 + 14 + 6 + 4 * 5 + 9 + 29 + 2 + 1 + 6 * 3 + 4 + 12 + specimens::names().len(),
-        "{missing:?}"
-    );
+    let answers = [11, 12, 6, 11, 14, 6, 5, 5, 5, 5, 13];
+    // Kinds of steps, draws, values at the ends; lengths found, what searches and runs meet, places of a 29.
+    let others = [1 + 6 * 3, 4, 3 * 4, 9, 29, 35, 2, specimens::names().len()];
+    assert_eq!(missing.len(), answers.iter().chain(&others).sum::<usize>(), "{missing:?}");
 }
 
 #[test]

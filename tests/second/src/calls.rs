@@ -4,11 +4,12 @@ use crate::clock::Clock;
 use crate::engine;
 use crate::independent;
 use crate::listing::FIELDS;
+use crate::ran::{self, Ran, Running, EVENT};
 use crate::search::{self, Walk};
 use crate::state::{Channel, Item, Pair, FIRST_PAIR, FIRST_PROCESS, PAIR, PROCESS};
-use crate::{Answer, Found, Opening, LISTING, MODEL, REPORT, SAVES, STATE};
+use crate::{Answer, Found, Opening, EVENTS, LISTING, MODEL, REPORT, SAVES, STATE};
 
-/// The lent buffers that have a length they should have.
+/// The lent buffers. All have a length they should have, but for a run's events, which may have any.
 #[derive(Clone, Copy, Debug, PartialEq, Eq)]
 pub enum Buffer {
     Model,
@@ -16,6 +17,7 @@ pub enum Buffer {
     Listing,
     Report,
     Saves,
+    Events,
 }
 
 /// Lengths of what is lent. Those of buffers that a call isn't lent are the right ones.
@@ -26,9 +28,11 @@ pub struct Lengths {
     pub listing: usize,
     pub report: usize,
     pub saves: usize,
+    pub events: usize,
 }
 
-pub const RIGHT: Lengths = Lengths { model: MODEL, state: STATE, listing: LISTING, report: REPORT, saves: SAVES };
+pub const RIGHT: Lengths =
+    Lengths { model: MODEL, state: STATE, listing: LISTING, report: REPORT, saves: SAVES, events: EVENTS };
 
 /// A draw, given by what it is to the total.
 #[derive(Clone, Copy, Debug, PartialEq, Eq)]
@@ -39,6 +43,14 @@ pub enum Draw {
     /// The total less 1.
     Last,
     Total,
+}
+
+/// A word of a run, given by what it is to the total that it meets.
+#[derive(Clone, Copy, Debug, PartialEq, Eq)]
+pub enum Word {
+    Exactly(u64),
+    /// The first word that is turned away, or this much more or less, as near as there is one.
+    Bound(i64),
 }
 
 /// A search that walks more runs takes too long.
@@ -57,6 +69,7 @@ pub enum Depth {
 pub enum Given {
     Answer(Answer),
     Found(Found),
+    Ran(Ran),
 }
 
 impl Given {
@@ -64,14 +77,15 @@ impl Given {
         match self {
             Given::Answer(answer) => answer.number,
             Given::Found(found) => found.number,
+            Given::Ran(ran) => ran.number,
         }
     }
 
-    /// The answer of a call that gives one: every call but a search.
+    /// The answer of a call that gives one: every call but a search and a run.
     pub fn answer(&self) -> Option<&Answer> {
         match self {
             Given::Answer(answer) => Some(answer),
-            Given::Found(_) => None,
+            Given::Found(_) | Given::Ran(_) => None,
         }
     }
 
@@ -82,6 +96,9 @@ impl Given {
                 vec![*number, *place, *branch, *count, *total, *chosen]
             }
             Given::Found(Found { number, length, run }) => [&[*number, *length], &run[..]].concat(),
+            Given::Ran(Ran { number, steps, words, waiting, count, total }) => {
+                vec![*number, *steps, *words, *waiting, *count, *total]
+            }
         }
     }
 }
@@ -134,6 +151,12 @@ pub enum Call {
         name: Vec<u8>,
         depth: Depth,
     },
+    Run {
+        lengths: Lengths,
+        words: Vec<Word>,
+        waiting: Vec<u16>,
+        limit: u64,
+    },
     // Changes of the buffers between calls.
     SetState {
         place: usize,
@@ -157,7 +180,7 @@ pub enum Call {
     Crowd {
         count: usize,
     },
-    /// Listing and report hold this number everywhere.
+    /// Listing, report and events hold this number everywhere.
     Fill {
         number: u64,
     },
@@ -176,7 +199,8 @@ impl Call {
             | Call::Save { lengths, .. }
             | Call::Return { lengths, .. }
             | Call::Forget { lengths, .. }
-            | Call::Search { lengths, .. } => Some(lengths),
+            | Call::Search { lengths, .. }
+            | Call::Run { lengths, .. } => Some(lengths),
             _ => None,
         }
     }
@@ -194,6 +218,7 @@ impl Call {
             Call::Open { .. } | Call::Steady { .. } => Buffer::Saves,
             Call::Save { .. } | Call::Return { .. } | Call::Forget { .. } => Buffer::Saves,
             Call::Search { .. } => Buffer::Model,
+            Call::Run { .. } => Buffer::Events,
             _ => return false,
         };
         [Buffer::Model, Buffer::State, third].contains(&buffer)
@@ -208,6 +233,7 @@ impl Call {
             listing: of(Buffer::Listing, lent.listing, LISTING),
             report: of(Buffer::Report, lent.report, REPORT),
             saves: of(Buffer::Saves, lent.saves, SAVES),
+            events: of(Buffer::Events, lent.events, EVENTS),
         };
         match &mut self {
             Call::Open { lengths, .. }
@@ -219,7 +245,8 @@ impl Call {
             | Call::Save { lengths, .. }
             | Call::Return { lengths, .. }
             | Call::Forget { lengths, .. }
-            | Call::Search { lengths, .. } => *lengths = trimmed,
+            | Call::Search { lengths, .. }
+            | Call::Run { lengths, .. } => *lengths = trimmed,
             _ => {}
         }
         self
@@ -237,6 +264,7 @@ impl Call {
             Call::Return { .. } => "return",
             Call::Forget { .. } => "forget",
             Call::Search { .. } => "search",
+            Call::Run { .. } => "run",
             _ => "change",
         }
     }
@@ -258,6 +286,7 @@ pub struct Engine {
     pub return_to: fn(&[u8], &mut [i64], &[i64], &[u8], &mut Clock) -> Answer,
     pub forget: fn(&[u8], &[i64], &mut [i64], &[u8]) -> Answer,
     pub search: fn(&[u8], &[i64], &[u8], u64) -> Found,
+    pub run: fn(&[u8], Running) -> Ran,
     /// Of two entries of a listing.
     pub independent: fn(&[u64], &[u64]) -> bool,
 }
@@ -274,6 +303,7 @@ pub const SECOND: Engine = Engine {
     return_to: crate::return_to,
     forget: crate::forget,
     search: crate::search,
+    run: crate::run,
     independent: independent::independent,
 };
 
@@ -288,6 +318,7 @@ pub struct Buffers {
     pub listing: Vec<u64>,
     pub report: Vec<u64>,
     pub saves: Vec<i64>,
+    pub events: Vec<u64>,
     pub clock: Clock,
 }
 
@@ -299,6 +330,7 @@ impl Default for Buffers {
             listing: vec![0; LISTING + SPARE],
             report: vec![0; REPORT + SPARE],
             saves: vec![0; SAVES + SPARE],
+            events: vec![0; EVENTS + SPARE],
             clock: Clock::default(),
         }
     }
@@ -316,11 +348,20 @@ impl Buffers {
             Call::Search { depth, .. } => (0, self.depth(*depth)),
             _ => (0, 0),
         };
+        let words = match call {
+            Call::Run { words, waiting, .. } => self.words(words, waiting),
+            _ => Vec::new(),
+        };
         let (model, state) = (&mut self.model[..lengths.model], &mut self.state[..lengths.state]);
         let (listing, report) = (&mut self.listing[..lengths.listing], &mut self.report[..lengths.report]);
         let (saves, clock) = (&mut self.saves[..lengths.saves], &mut self.clock);
         let answer = match call {
             Call::Search { name, .. } => return Some(Given::Found((engine.search)(model, state, name, depth))),
+            Call::Run { waiting, limit, .. } => {
+                let (events, limit) = (&mut self.events[..lengths.events], *limit);
+                let lent = Running { state, words: &words, waiting, events, limit, clock };
+                return Some(Given::Ran((engine.run)(model, lent)));
+            }
             Call::Open { text, .. } => (engine.open)(text, Opening { model, state, saves, clock }),
             Call::Steady { text, .. } => (engine.open_steady)(text, Opening { model, state, saves, clock }),
             Call::List { .. } => (engine.list)(model, state, listing),
@@ -371,6 +412,7 @@ impl Buffers {
             Call::Fill { number } => {
                 self.listing.fill(*number);
                 self.report.fill(*number);
+                self.events.fill(*number);
             }
             _ => {}
         }
@@ -385,7 +427,7 @@ impl Buffers {
         }
     }
 
-    /// The call with its draw and its depth as numbers.
+    /// The call with its draw, its depth and its words as numbers.
     pub fn exact(&self, call: &Call) -> Call {
         match call {
             Call::Step { lengths, draw } => Call::Step { lengths: *lengths, draw: Draw::Exactly(self.draw(*draw)) },
@@ -395,6 +437,10 @@ impl Buffers {
             }
             Call::Search { lengths, name, depth } => {
                 Call::Search { lengths: *lengths, name: name.clone(), depth: Depth::Exactly(self.depth(*depth)) }
+            }
+            Call::Run { lengths, words, waiting, limit } => {
+                let words = self.words(words, waiting).into_iter().map(Word::Exactly).collect();
+                Call::Run { lengths: *lengths, words, waiting: waiting.clone(), limit: *limit }
             }
             _ => call.clone(),
         }
@@ -413,6 +459,28 @@ impl Buffers {
             Draw::Last => total.saturating_sub(1),
             Draw::Total => total,
         }
+    }
+
+    /// The numbers that the words of a run from the present state stand for.
+    pub fn words(&self, words: &[Word], waiting: &[u16]) -> Vec<u64> {
+        let mut exact = Vec::new();
+        for word in words {
+            exact.push(match *word {
+                Word::Exactly(number) => number,
+                Word::Bound(more) => self.bound(&exact, waiting, more),
+            });
+        }
+        exact
+    }
+
+    /// The word at the bound of the total that a run meets after these words, or this much more or less.
+    fn bound(&self, words: &[u64], waiting: &[u16], more: i64) -> u64 {
+        let (model, state, clock) = (&self.model[..MODEL], &mut self.state[..STATE].to_vec(), &mut self.clock.clone());
+        let events = &mut vec![0; EVENT * words.len()];
+        crate::run(model, Running { state, words, waiting, events, limit: u64::MAX, clock });
+        let total = crate::list(model, state, &mut vec![0; LISTING]).total;
+        let word = ran::bound(total.max(1)) as i128 + i128::from(more);
+        word.clamp(0, i128::from(u64::MAX)) as u64
     }
 
     /// The number that a depth stands for in the present state. At least 1 if it isn't given exactly.

@@ -6,13 +6,14 @@
 use crate::clock::{Clock, MOST};
 use crate::limits::{HIGHEST, LOWEST};
 use crate::model;
+use crate::ran::EVENT;
 use crate::saves;
 use crate::state::{FIRST_PAIR, FIRST_PROCESS, PAIR, PROCESS};
 use crate::syntax::ITEMS;
 use crate::tokens::{self, Kind};
-use crate::{LISTING, MODEL, REPORT, SAVES, STATE};
+use crate::{EVENTS, LISTING, MODEL, REPORT, SAVES, STATE};
 
-pub use crate::calls::{Buffer, Buffers, Call, Depth, Draw, Engine, Given, Lengths, RIGHT, SECOND, SPARE};
+pub use crate::calls::{Buffer, Buffers, Call, Depth, Draw, Engine, Given, Lengths, Word, RIGHT, SECOND, SPARE};
 
 // Random numbers.
 
@@ -1026,6 +1027,8 @@ pub(crate) fn lent(random: &mut Random, call: Call) -> Call {
     if !random.chance(2) {
         return call;
     }
+    // A run's events may have any length.
+    let events = call.lengths().map_or(EVENTS, |lengths| lengths.events);
     let mut wrong = |right: usize| match random.below(8) {
         0 => 0,
         1 => right - 1,
@@ -1039,6 +1042,7 @@ pub(crate) fn lent(random: &mut Random, call: Call) -> Call {
         listing: wrong(LISTING),
         report: wrong(REPORT),
         saves: wrong(SAVES),
+        events,
     })
 }
 
@@ -1083,6 +1087,55 @@ pub fn some_waiting(random: &mut Random) -> Vec<u16> {
         waiting.extend((0..12).map(|_| random.number() as u16));
     }
     waiting
+}
+
+/// Mostly any word; some at the bound from which words are turned away, near 2^64, or small.
+fn some_word(random: &mut Random) -> Word {
+    match random.below(24) {
+        0 => Word::Bound(*random.pick(&[-1, -1, 0, 0, 1])),
+        1 => Word::Exactly(u64::MAX - random.below(3) as u64),
+        2 => {
+            let digits = random.below(13) as u32;
+            Word::Exactly(u64::MAX - random.number() % 10u64.pow(digits))
+        }
+        3 => Word::Exactly(random.below(3) as u64),
+        _ => Word::Exactly(random.number()),
+    }
+}
+
+/// So many words; sometimes all of them small, so that the first entry is taken again and again.
+fn some_words(random: &mut Random, count: usize) -> Vec<Word> {
+    let small = random.chance(10);
+    (0..count).map(|_| if small { Word::Exactly(random.below(3) as u64) } else { some_word(random) }).collect()
+}
+
+/// Waiting draws for so many steps: enough of them, mostly; else as for one step, or 32 runs of even length after some.
+fn some_waits(random: &mut Random, steps: usize) -> Vec<u16> {
+    let any = |random: &mut Random, count: usize| (0..count).map(|_| random.number() as u16).collect::<Vec<_>>();
+    match random.below(10) {
+        0 => some_waiting(random),
+        1 => {
+            let steps = random.below(4);
+            [[7, 7].repeat(steps), [2, 1, 1].repeat(32), vec![7, 7]].concat()
+        }
+        2 => {
+            let count = random.below(4 * steps + 4);
+            any(random, count)
+        }
+        _ => any(random, 8 * steps + 20),
+    }
+}
+
+/// A run of few steps or many, with room for few or many.
+pub fn some_run(random: &mut Random) -> Call {
+    let steps = *random.pick(&[0, 1, 2, 3, 8, 8, 20, 40]);
+    let words = some_words(random, steps);
+    let waiting = some_waits(random, steps);
+    let limit = *random.pick(&[0, 1, 2, 5, 10, 1_024, 1_025, 1 << 32, u64::MAX, u64::MAX, u64::MAX, u64::MAX]);
+    let some = EVENT * random.below(12) + random.below(EVENT);
+    let events = *random.pick(&[0, EVENT - 1, EVENT, EVENT + 1, some, some, EVENTS, EVENTS, EVENTS, EVENTS + SPARE]);
+    let lengths = Lengths { events, ..RIGHT };
+    lent(random, Call::Run { lengths, words, waiting, limit })
 }
 
 const LIST: Call = Call::List { lengths: RIGHT };
@@ -1217,7 +1270,7 @@ fn some_change(random: &mut Random) -> Call {
 }
 
 /// A clock near the ends of its range, past it, or anywhere.
-fn some_clock(random: &mut Random) -> Clock {
+pub(crate) fn some_clock(random: &mut Random) -> Clock {
     let mut number = || {
         let any = random.number();
         *random.pick(&[0, 1, any, MOST, MOST - 1, MOST - 5, MOST - 100_000, MOST - 100_000_000_000, MOST + 1, u64::MAX])
@@ -1250,7 +1303,7 @@ pub fn edge_calls(random: &mut Random) -> Vec<Call> {
         for _ in 0..4 {
             calls.push(Call::Step { lengths: RIGHT, draw: some_draw(random) });
         }
-        calls.extend([some_timed(random), some_search(random)]);
+        calls.extend([some_timed(random), some_search(random), some_run(random)]);
     }
     calls
 }
@@ -1294,7 +1347,7 @@ pub fn calls(random: &mut Random, most_steps: usize) -> Vec<Call> {
     // Before any text is open.
     if random.chance(10) {
         calls.extend([lent(random, LIST), some_step(random), lent(random, REPORTED), some_stored(random)]);
-        calls.extend([some_timed(random), some_search(random)]);
+        calls.extend([some_timed(random), some_search(random), some_run(random)]);
     }
     for _ in 0..1 + random.below(3) {
         let opening = some_opening(random);
@@ -1319,6 +1372,7 @@ pub fn calls(random: &mut Random, most_steps: usize) -> Vec<Call> {
                 6..=9 => calls.push(some_stored(random)),
                 10..=15 => calls.push(some_timed(random)),
                 16 => calls.push(some_search(random)),
+                17 => calls.push(some_run(random)),
                 _ => calls.push(some_step(random)),
             }
         }

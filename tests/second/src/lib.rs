@@ -16,6 +16,7 @@ pub mod listing;
 pub mod mazes;
 pub mod model;
 pub mod names;
+pub mod ran;
 pub mod reader;
 pub mod runs;
 pub mod saves;
@@ -25,9 +26,11 @@ pub mod sheet;
 pub mod state;
 pub mod syntax;
 pub mod tokens;
+pub mod walks;
 
 pub use clock::Clock;
 pub use engine::{forget, list, open, open_steady, report, return_to, save, step, timed_step, Opening};
+pub use ran::{run, Ran, Running};
 pub use search::{search, Found};
 
 /// Length of the model buffer in bytes: the text's length (2 bytes, the low one first), the text,
@@ -43,6 +46,10 @@ pub const REPORT: usize = 64;
 /// clock in two numbers.
 pub const SAVES: usize = 41_008;
 
+/// Numbers of the events that the program `calls` lends to a run, which may be lent any number of them.
+pub const EVENTS: usize = 8_192;
+
+const _: () = assert!(EVENTS == listing::ENTRIES * ran::EVENT);
 const _: () = assert!(saves::BUFFER == SAVES);
 const _: () = assert!(model::BUFFER == MODEL && state::BUFFER == STATE);
 const _: () = assert!(listing::BUFFER == LISTING && limits::DEFINITIONS == REPORT);

@@ -1,7 +1,8 @@
 //! Lists of calls as scripts for the program `calls`, and what that program prints for one.
 //!
 //! A script has lines `open N` and `steady N` (N bytes and a newline follow), `list`, `step D`, `wait W` (a waiting
-//! draw for the next timed step), `time D` (a timed step), `report`, `save NAME`, `return NAME`, `forget NAME` (all bytes
+//! draw for the next timed step or run), `time D` (a timed step), `word W` (a word for the next run), `run N` (a run of at
+//! most N steps, with room for 1,024 events, which are printed), `report`, `save NAME`, `return NAME`, `forget NAME` (all bytes
 //! of the line after the blank), `seek D NAME` (a search to the depth D, one digit; all bytes after the second), `state`, `clock` and `independent I J` (of two entries of the listing buffer: 1 or 0).
 //! Every line ends with a newline, words stand one blank apart, numbers are digits alone. A line of
 //! another form, or an opening without its N bytes, ends the run with `bad` and its number, which
@@ -11,15 +12,17 @@
 //! lines that begin with `!`. They are read where `Form::Marked` is asked for.
 
 use crate::clock::Clock;
-use crate::generate::{Buffers, Call, Depth, Draw, Engine, Given, Lengths, RIGHT, SPARE};
-use crate::{Answer, LISTING, MODEL, REPORT, SAVES, STATE};
+use crate::generate::{Buffers, Call, Depth, Draw, Engine, Given, Lengths, Word, RIGHT, SPARE};
+use crate::ran::EVENT;
+use crate::{Answer, EVENTS, LISTING, MODEL, REPORT, SAVES, STATE};
 use std::fmt::Write;
 
 /// Numbers of a listing entry.
 const ENTRY: usize = 7;
 
-/// The program `calls` lends so many waiting draws at most.
+/// The program `calls` lends so many waiting draws and so many words at most.
 pub const WAITING: usize = 4_096;
+pub const WORDS: usize = 4_096;
 
 /// Which lines a script may have.
 #[derive(Clone, Copy, Debug, PartialEq, Eq)]
@@ -40,9 +43,13 @@ pub enum Line {
     Independent(u64, u64),
 }
 
-/// Can the program `calls` run these, or has the script lines with `!`, or too many waiting draws?
+/// Can the program `calls` run these, or has the script lines with `!`, or too many waiting draws or words?
 pub fn is_plain(calls: &[Call]) -> bool {
-    let short = |call: &Call| !matches!(call, Call::Timed { waiting, .. } if waiting.len() > WAITING);
+    let short = |call: &Call| match call {
+        Call::Timed { waiting, .. } => waiting.len() <= WAITING,
+        Call::Run { words, waiting, .. } => waiting.len() <= WAITING && words.len() <= WORDS,
+        _ => true,
+    };
     calls.iter().all(|call| call.lengths() == Some(&RIGHT) && short(call))
 }
 
@@ -64,8 +71,12 @@ fn line(call: &Call) -> Vec<u8> {
         Call::List { lengths } => format!("{}list\n", lengths_line(lengths)),
         Call::Step { lengths, draw: Draw::Exactly(draw) } => format!("{}step {draw}\n", lengths_line(lengths)),
         Call::Timed { lengths, draw: Draw::Exactly(draw), waiting } => {
-            let waits: String = waiting.iter().map(|wait| format!("wait {wait}\n")).collect();
-            format!("{waits}{}time {draw}\n", lengths_line(lengths))
+            format!("{}{}time {draw}\n", lines("wait", waiting), lengths_line(lengths))
+        }
+        Call::Run { lengths, words, waiting, limit } => {
+            let words: Vec<u64> = words.iter().map(exact_word).collect();
+            let put = lines("word", &words) + &lines("wait", waiting);
+            format!("{put}{}run {limit}\n", lengths_line(lengths))
         }
         Call::Step { .. } | Call::Timed { .. } => unreachable!("a draw that isn't a number"),
         Call::Report { lengths } => format!("{}report\n", lengths_line(lengths)),
@@ -89,19 +100,32 @@ fn line(call: &Call) -> Vec<u8> {
     text.into_bytes()
 }
 
+/// A line for each number.
+fn lines<T: ToString>(word: &str, numbers: &[T]) -> String {
+    numbers.iter().map(|number| format!("{word} {}\n", number.to_string())).collect()
+}
+
+fn exact_word(word: &Word) -> u64 {
+    match word {
+        Word::Exactly(number) => *number,
+        Word::Bound(_) => unreachable!("a word that isn't a number"),
+    }
+}
+
 /// Lengths that aren't the right ones hold for the call on the next line.
 fn lengths_line(lengths: &Lengths) -> String {
     if *lengths == RIGHT {
         return String::new();
     }
-    let Lengths { model, state, listing, report, saves } = lengths;
-    format!("! lengths {model} {state} {listing} {report} {saves}\n")
+    let Lengths { model, state, listing, report, saves, events } = lengths;
+    format!("! lengths {model} {state} {listing} {report} {saves} {events}\n")
 }
 
 /// Reads a script, up to the first line of another form: the lines before it, and its number
 /// from 1 if there is one.
 pub fn read(script: &[u8], form: Form) -> (Vec<Line>, Option<usize>) {
-    let mut reader = Reader { script, form, place: 0, number: 0, lengths: RIGHT, waiting: Vec::new() };
+    let mut reader =
+        Reader { script, form, place: 0, number: 0, lengths: RIGHT, waiting: Vec::new(), words: Vec::new() };
     let mut lines = Vec::new();
     while reader.place < script.len() {
         let here = reader.number + 1;
@@ -121,8 +145,10 @@ struct Reader<'a> {
     number: usize,
     /// What the next call is lent.
     lengths: Lengths,
-    /// The waiting draws for the next timed step.
+    /// The waiting draws for the next timed step or run.
     waiting: Vec<u16>,
+    /// The words for the next run.
+    words: Vec<Word>,
 }
 
 impl Reader<'_> {
@@ -151,10 +177,15 @@ impl Reader<'_> {
             return None;
         }
         let lengths = self.lengths;
-        if let ["!", "lengths", model, state, listing, report, saves] = words[..] {
+        if let ["!", "lengths", model, state, listing, report, saves, events] = words[..] {
             let (model, state) = (length(model, MODEL)?, length(state, STATE)?);
             let (listing, report) = (length(listing, LISTING)?, length(report, REPORT)?);
-            self.lengths = Lengths { model, state, listing, report, saves: length(saves, SAVES)? };
+            let (saves, events) = (length(saves, SAVES)?, length(events, EVENTS)?);
+            self.lengths = Lengths { model, state, listing, report, saves, events };
+            return Some(None);
+        }
+        if let ["word", word] = words[..] {
+            self.words.push(Word::Exactly(whole(word)?));
             return Some(None);
         }
         if let ["wait", draw] = words[..] {
@@ -164,6 +195,9 @@ impl Reader<'_> {
         self.lengths = RIGHT;
         if let ["time", draw] = words[..] {
             return Some(Some(Line::Call(self.timed(whole(draw)?, lengths))));
+        }
+        if let ["run", limit] = words[..] {
+            return Some(Some(Line::Call(self.run(whole(limit)?, lengths))));
         }
         if let [word @ ("open" | "steady"), size] = words[..] {
             let text = self.bytes(Some(whole(size)?))?;
@@ -175,14 +209,26 @@ impl Reader<'_> {
 }
 
 impl Reader<'_> {
-    /// A timed step by the waiting draws so far, of which the program `calls` takes the first ones only.
+    /// A timed step by the waiting draws so far.
     fn timed(&mut self, draw: u64, lengths: Lengths) -> Call {
-        let mut waiting = std::mem::take(&mut self.waiting);
-        if self.form == Form::Plain {
-            waiting.truncate(WAITING);
-        }
+        let waiting = taken(&mut self.waiting, self.form, WAITING);
         Call::Timed { lengths, draw: Draw::Exactly(draw), waiting }
     }
+
+    /// A run by the words and waiting draws so far.
+    fn run(&mut self, limit: u64, lengths: Lengths) -> Call {
+        let waiting = taken(&mut self.waiting, self.form, WAITING);
+        Call::Run { lengths, words: taken(&mut self.words, self.form, WORDS), waiting, limit }
+    }
+}
+
+/// All that was put so far, of which the program `calls` takes the first ones only.
+fn taken<T>(put: &mut Vec<T>, form: Form, most: usize) -> Vec<T> {
+    let mut taken = std::mem::take(put);
+    if form == Form::Plain {
+        taken.truncate(most);
+    }
+    taken
 }
 
 /// A line whose call is lent a name: all bytes after the first blank, of a search after the second, to the line's end.
@@ -268,6 +314,11 @@ pub fn print(engine: &Engine, script: &[u8], form: Form) -> String {
 
 fn print_given(printed: &mut String, call: &Call, given: &Given, buffers: &Buffers) {
     writeln!(printed, "{}", numbers(&given.numbers())).expect("a string takes all");
+    if let Given::Ran(ran) = given {
+        for event in buffers.events.chunks(EVENT).take(ran.steps as usize) {
+            writeln!(printed, "  {}", numbers(event)).expect("a string takes all");
+        }
+    }
     let Some(Answer { number, count, .. }) = given.answer() else { return };
     if *number != 0 && *number < 15 {
         return;

@@ -168,6 +168,58 @@ fn calls_takes_timed_steps() {
 }
 
 #[test]
+fn calls_runs() {
+    // Draws below 10^8 take a, those from there on b.
+    let text = "A[n]={a,1}.A[n+1]+[n<2]->{b,0.5}.A[n+1];A[0];";
+    let script = format!(
+        "word 0\nrun 1\nopen {}\n{text}\nrun 1\nword 18446744073709551615\nword 100000000\nlist\nwait 40000\nword 7\n\
+         wait 50000\nrun 9\nclock\nrun 9\nword 5\nwait 7\nwait 7\ntime 0\nwait 7\nwait 007\nrun 9\nrun 0\nword 1\n\
+         open 0\n\nrun 1\nopen {}\n{text}\nrun 0\nword 18446744073709551616\n",
+        text.len(),
+        text.len()
+    );
+    let printed = calls(&script);
+    let lines: Vec<&str> = printed.lines().collect();
+    let [done, entry] = ["0 0 0 0 0 0", "  1 0 0 0 0 0 100000000"];
+    let expected = [
+        &["11 0 0 0 0 0", done, "0 0 0 0 2 150000000", "0 0 0 2 150000000 0", entry, "  1 0 1 0 0 0 50000000"][..],
+        // The first word is turned away; the third isn't used, for the waiting draws end.
+        &["23 1 2 2 2 150000000", "  4069 1 0 1 0 0 0 50000000", "4069 2", "0 0 0 0 2 150000000"],
+        // The word is kept past the timed step, its waiting draws aren't.
+        &[
+            "0 0 0 2 150000000 0",
+            entry,
+            "  1 0 1 0 0 0 50000000",
+            "0 1 1 2 1 100000000",
+            "  4070 1 0 0 0 0 0 100000000",
+        ],
+        &["0 0 0 0 0 0", "5 0 0 0 0 0", "11 0 0 0 0 0", done, "0 0 0 0 0 0", "bad,30"],
+    ];
+    assert_eq!(lines, expected.concat());
+    for line in
+        ["word\n", "word -1\n", "word 1 2\n", "word a\n", "word 1", "run\n", "run -1\n", "run 1 2\n", "runs 1\n"]
+    {
+        assert_eq!(calls(line), "bad,1\n", "{line:?}");
+    }
+}
+
+#[test]
+fn calls_runs_with_room_for_1024_events() {
+    let text = "A[n]={a,1}.A[n+1];A[0];";
+    let put: String = (0..1_030).map(|_| "word 0\nwait 7\nwait 7\n").collect();
+    let printed = calls(&format!("open {}\n{text}\n{put}run 2000\nrun 2000\nclock\n", text.len()));
+    let lines: Vec<&str> = printed.lines().collect();
+    assert_eq!((lines.len(), lines[1]), (1_024 + 4, "0 1024 1024 2048 1 100000000"));
+    assert_eq!(lines[1_025..], ["  1024 1 0 0 0 0 0 100000000", "0 0 0 0 1 100000000", "1024 2048"]);
+    // The first 4,096 words alone, of which all but the last are turned away, and waiting draws.
+    let words = |last: &str| format!("{}{last}", "word 18446744073709551615\n".repeat(4_095));
+    let open = format!("open {}\n{text}\nwait 7\nwait 7\n", text.len());
+    assert!(calls(&format!("{open}{}run 5\n", words("word 0\n"))).contains("\n0 1 4096 2 1 100000000\n"));
+    let longer = words("word 18446744073709551615\nword 0\n");
+    assert!(calls(&format!("{open}{longer}run 5\n")).ends_with("\n0 0 0 0 1 100000000\n"));
+}
+
+#[test]
 fn calls_searches() {
     let text = "A[n]={a,1}.A[n+1]+[n>0]->{b b,1};A[0];".replace("b b", "bb");
     let script =

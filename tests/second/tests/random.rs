@@ -3,8 +3,10 @@
 //! weights, and every refusal is met.
 
 use second::generate::*;
+use second::ran::EVENT;
 use second::state::{DEFINITION, FIRST_PROCESS, PROCESS};
-use second::{mazes, model, saves, state, Answer, Clock, Found, LISTING, MODEL, REPORT, SAVES, STATE};
+use second::{mazes, model, saves, state, walks};
+use second::{Answer, Clock, Found, Ran, LISTING, MODEL, REPORT, SAVES, STATE};
 use std::collections::BTreeMap;
 
 /// How many seeds to try: the number given, unless the environment has SEEDS.
@@ -25,9 +27,10 @@ impl Drop for Named {
 
 /// Checks what can be told of a call from its answer and the buffers before and after it.
 fn check(call: &Call, before: &Buffers, given: &Given, after: &Buffers) {
-    let Some(answer) = given.answer() else {
-        check_search(call, before, given, after);
-        return;
+    let answer = match given {
+        Given::Answer(answer) => answer,
+        Given::Found(_) => return check_search(call, before, given, after),
+        Given::Ran(ran) => return check_run(call, before, ran, after),
     };
     let number = answer.number;
     assert!(number == 12 || answer.branch == 0);
@@ -82,6 +85,46 @@ fn check_search(call: &Call, before: &Buffers, given: &Given, after: &Buffers) {
         let taken = buffers.make(&SECOND, &Call::Step { lengths: RIGHT, draw }).unwrap();
         assert_eq!((taken.number(), taken.answer().unwrap().chosen), (0, entry));
     }
+}
+
+/// A run: what its numbers, its events and the buffers say of one another.
+fn check_run(call: &Call, before: &Buffers, ran: &Ran, after: &Buffers) {
+    let Call::Run { lengths, words, waiting, limit } = call else { unreachable!("only runs") };
+    let Ran { number, steps, .. } = *ran;
+    assert_eq!(number == 1, (lengths.model, lengths.state) != (MODEL, STATE));
+    let judged = number != 1 && holds_a_state(before) && before.clock.is_in_range();
+    assert!(number == 1 || (number == 11) != judged);
+    if [1, 11].contains(&number) {
+        assert!(*ran == Ran::refusal(number) && before == after);
+        return;
+    }
+    assert!([0, 12, 13, 14, 15, 17, 18, 19, 23, 24, 25].contains(&number));
+    let room = (lengths.events / EVENT) as u64;
+    assert!(steps <= *limit && steps <= room && (number == 0 || (steps < *limit && steps < room)));
+    assert!(steps <= ran.words && ran.words <= words.len() as u64 && ran.waiting <= waiting.len() as u64);
+    assert_eq!(after.clock.draws - before.clock.draws, ran.waiting);
+    assert_eq!(ran.total == 0, [12, 13, 14, 15].contains(&number) || *limit == 0 || room == 0);
+    assert!(ran.count > 0 || ran.total == 0);
+    let (events, left) = after.events.split_at(EVENT * steps as usize);
+    assert!(left == &before.events[events.len()..]);
+    let mut rest = before.clone();
+    rest.events[..events.len()].copy_from_slice(events);
+    (rest.state, rest.clock) = (after.state.clone(), after.clock);
+    assert!(rest == *after && holds_a_state(after));
+    assert!(steps > 0 || (before.state == after.state && before.clock == after.clock));
+    // Each event's entry is one of its state's listing; taken one by one they lead to the same state.
+    let mut taken = before.clone();
+    let mut ticks = before.clock.ticks;
+    for event in events.chunks(EVENT) {
+        let listed = *taken.make(&SECOND, &Call::List { lengths: RIGHT }).unwrap().answer().unwrap();
+        let entries: Vec<&[u64]> = taken.listing[..7 * listed.count as usize].chunks(7).collect();
+        let chosen = entries.iter().position(|entry| entry == &&event[1..]).expect("a listed entry");
+        let draw = Draw::Exactly(entries[..chosen].iter().map(|entry| entry[6]).sum());
+        assert!(event[7] > 0 && event[0] >= ticks);
+        ticks = event[0];
+        assert_eq!(taken.make(&SECOND, &Call::Step { lengths: RIGHT, draw }).unwrap().number(), 0);
+    }
+    assert!(taken.state == after.state && ticks == after.clock.ticks);
 }
 
 fn check_opening(call: &Call, text: &[u8], before: &Buffers, answer: &Answer, after: &Buffers) {
@@ -239,11 +282,12 @@ fn calls_of_all_kinds() {
         let _named = Named(seed);
         let mut random = Random::new(seed);
         let mut buffers = Buffers::default();
-        // Every tenth list goes through all limits, every tenth is mostly of saves, every tenth of searches.
+        // Every tenth list goes through all limits, every tenth is mostly of saves, one of searches and one of runs.
         let list = match seed % 10 {
             9 => edge_calls(&mut random),
             8 => stored_calls(&mut random, 60),
             7 => mazes::searches(&mut random),
+            6 => walks::walks(&mut random, seed as usize / 10),
             _ => calls(&mut random, 40),
         };
         for call in list {
@@ -276,6 +320,9 @@ fn calls_of_all_kinds() {
         for number in numbers {
             assert!(met.contains_key(&(name, number)), "{name} {number} is never met");
         }
+    }
+    for number in [0, 1, 11, 12, 13, 14, 15, 17, 18, 19, 23, 24, 25] {
+        assert!(met.contains_key(&("run", number)), "run {number} is never met");
     }
     assert!(kinds[1..].iter().all(|&times| times > 0));
 }

@@ -6,10 +6,10 @@ use Rattle.calls.proofs.run_bytes.Statement.{statement}
 use Rattle.calls.proofs.run_bytes.Tie as tie
 
 abbrev Inv-loop : tie.InvT-loop
-Inv-loop bytes out₀ text₀ waiting₀ model₀ state₀ saves₀ clock₀ listing₀ now₀ i₀ out text waiting model state saves clock listing now i = Unit {0}
+Inv-loop bytes out₀ text₀ waiting₀ words₀ model₀ state₀ saves₀ clock₀ listing₀ now₀ i₀ out text waiting words model state saves clock listing now i = Unit {0}
 
 abbrev μ-loop : tie.MeasureT-loop
-μ-loop bytes out₀ text₀ waiting₀ model₀ state₀ saves₀ clock₀ listing₀ now₀ i₀ out text waiting model state saves clock listing now i = length bytes - i
+μ-loop bytes out₀ text₀ waiting₀ words₀ model₀ state₀ saves₀ clock₀ listing₀ now₀ i₀ out text waiting words model state saves clock listing now i = length bytes - i
 
 loop-holds : tie.Need-loop-holds Inv-loop μ-loop
 loop-holds c = search needs

@@ -4,10 +4,10 @@ use Rattle.calls.proofs.run_script.Statement.{statement}
 use Rattle.calls.proofs.run_script.Tie as tie
 
 abbrev Inv-loop : tie.InvT-loop
-Inv-loop fd out₀ text₀ waiting₀ model₀ state₀ saves₀ clock₀ listing₀ run₀ reads₀ out text waiting model state saves clock listing run reads = Unit {0}
+Inv-loop fd out₀ text₀ waiting₀ words₀ model₀ state₀ saves₀ clock₀ listing₀ run₀ reads₀ out text waiting words model state saves clock listing run reads = Unit {0}
 
 abbrev μ-loop : tie.MeasureT-loop
-μ-loop fd out₀ text₀ waiting₀ model₀ state₀ saves₀ clock₀ listing₀ run₀ reads₀ out text waiting model state saves clock listing run reads = reads
+μ-loop fd out₀ text₀ waiting₀ words₀ model₀ state₀ saves₀ clock₀ listing₀ run₀ reads₀ out text waiting words model state saves clock listing run reads = reads
 
 empty-requires : tie.Need-empty-requires Inv-loop μ-loop
 empty-requires c κs = search needs

@@ -8,18 +8,15 @@ use Rattle.script.proofs.call_search.Tie as tie
 
 add-end : tie.Need-add-end
 add-end c =
-    let a = there (c .before .before .before .args .row) (length (c .before .before .before .args .texts .now)) (c .before .before .before .pre .1 .0) (length (c .before .before .before .args .model .now)) (length (c .before .before .before .args .state .now)) (c .before .before .before .pre .1 .1 .0) (c .before .before .before .pre .1 .1 .1 .0) (c .before .before .before .pre .1 .1 .1 .1 .0) (c .before .before .before .pre .1 .1 .1 .1 .1) in
-    omega (arith, a .text)
+    let a = there _ _ _ _ _ _ _ _ _ (c .before .before .before .pre .1 .1 .1 .1 .1 .1) in omega (arith, a .text)
 
 slice-aggregate-search : tie.Need-slice-aggregate-search
 slice-aggregate-search c =
-    let a = there (c .before .before .before .before .args .row) (length (c .before .before .before .before .args .texts .now)) (c .before .before .before .before .pre .1 .0) (length (c .before .before .before .before .args .model .now)) (length (c .before .before .before .before .args .state .now)) (c .before .before .before .before .pre .1 .1 .0) (c .before .before .before .before .pre .1 .1 .1 .0) (c .before .before .before .before .pre .1 .1 .1 .1 .0) (c .before .before .before .before .pre .1 .1 .1 .1 .1) in
-    simp length-take (omega (arith, a .model, a .state, a .saves))
+    let a = there _ _ _ _ _ _ _ _ _ (c .before .before .before .before .pre .1 .1 .1 .1 .1 .1) in simp length-take (omega (arith, a .model, a .state, a .saves))
 
 slice-aggregate-search-2 : tie.Need-slice-aggregate-search-2
 slice-aggregate-search-2 c =
-    let a = there (c .before .before .before .before .before .args .row) (length (c .before .before .before .before .before .args .texts .now)) (c .before .before .before .before .before .pre .1 .0) (length (c .before .before .before .before .before .args .model .now)) (length (c .before .before .before .before .before .args .state .now)) (c .before .before .before .before .before .pre .1 .1 .0) (c .before .before .before .before .before .pre .1 .1 .1 .0) (c .before .before .before .before .before .pre .1 .1 .1 .1 .0) (c .before .before .before .before .before .pre .1 .1 .1 .1 .1) in
-    simp length-take (omega (arith, a .model, a .state, a .saves))
+    let a = there _ _ _ _ _ _ _ _ _ (c .before .before .before .before .before .pre .1 .1 .1 .1 .1 .1) in simp length-take (omega (arith, a .model, a .state, a .saves))
 
 sub-search : tie.Need-sub-search
 sub-search c =
@@ -31,8 +28,7 @@ part-search-start c =
 
 part-search-end : tie.Need-part-search-end
 part-search-end c =
-    let a = there (c .before .before .before .before .before .args .row) (length (c .before .before .before .before .before .args .texts .now)) (c .before .before .before .before .before .pre .1 .0) (length (c .before .before .before .before .before .args .model .now)) (length (c .before .before .before .before .before .args .state .now)) (c .before .before .before .before .before .pre .1 .1 .0) (c .before .before .before .before .before .pre .1 .1 .1 .0) (c .before .before .before .before .before .pre .1 .1 .1 .1 .0) (c .before .before .before .before .before .pre .1 .1 .1 .1 .1) in
-    omega (arith, a .text)
+    let a = there _ _ _ _ _ _ _ _ _ (c .before .before .before .before .before .pre .1 .1 .1 .1 .1 .1) in omega (arith, a .text)
 
 search-requires : tie.Need-search-requires
 search-requires c κs =
@@ -40,9 +36,17 @@ search-requires c κs =
 
 returns : tie.Need-returns
 returns c =
-    λ ns ls ss t. searching-called (c .before .before .before .before .before .before .before .args .row) (c .before .before .before .before .before .before .before .args .texts .now) ns (c .before .before .before .before .before .before .before .args .model .now) (c .before .before .before .before .before .before .before .args .state .now) ss t ls (c .search .result) (c .before .before .before .before .before .before .before .pre .0) (c .search .ensures)
+    λ ns ws ls ss t. searching-called (c .before .before .before .before .before .before .before .args .row) (c .before .before .before .before .before .before .before .args .texts .now) ns ws (c .before .before .before .before .before .before .before .args .model .now) (c .before .before .before .before .before .before .before .args .state .now) ss t ls (c .search .result) (c .before .before .before .before .before .before .before .pre .0) (c .search .ensures)
 
 pub call-search-spec : {M : Type 1} → statement M
 call-search-spec =
     tie.close
-    (tie.spec add-end slice-aggregate-search slice-aggregate-search-2 sub-search part-search-start part-search-end search-requires returns)
+    (tie.spec
+    add-end
+    slice-aggregate-search
+    slice-aggregate-search-2
+    sub-search
+    part-search-start
+    part-search-end
+    search-requires
+    returns)

@@ -8,8 +8,7 @@ use Rattle.script.proofs.call_steady.Tie as tie
 
 add-end : tie.Need-add-end
 add-end c =
-    let a = there (c .before .before .before .args .row) (length (c .before .before .before .args .texts .now)) (c .before .before .before .pre .1 .0) (length (c .before .before .before .args .model .now)) (length (c .before .before .before .args .state .now)) (length (c .before .before .before .args .saves .now)) (c .before .before .before .pre .1 .1 .0) (c .before .before .before .pre .1 .1 .1 .0) (c .before .before .before .pre .1 .1 .1 .1) in
-    omega (arith, a .text)
+    let a = there _ _ _ _ _ _ _ _ _ (c .before .before .before .pre .1 .1 .1 .1 .1) in omega (arith, a .text)
 
 sub-open-steady : tie.Need-sub-open-steady
 sub-open-steady c =
@@ -21,38 +20,31 @@ part-open-steady-start c =
 
 part-open-steady-end : tie.Need-part-open-steady-end
 part-open-steady-end c =
-    let a = there (c .before .before .before .args .row) (length (c .before .before .before .args .texts .now)) (c .before .before .before .pre .1 .0) (length (c .before .before .before .args .model .now)) (length (c .before .before .before .args .state .now)) (length (c .before .before .before .args .saves .now)) (c .before .before .before .pre .1 .1 .0) (c .before .before .before .pre .1 .1 .1 .0) (c .before .before .before .pre .1 .1 .1 .1) in
-    omega (arith, a .text)
+    let a = there _ _ _ _ _ _ _ _ _ (c .before .before .before .pre .1 .1 .1 .1 .1) in omega (arith, a .text)
 
 slice-relend-prefix-open-steady : tie.Need-slice-relend-prefix-open-steady
 slice-relend-prefix-open-steady c =
-    let a = there (c .before .before .before .before .args .row) (length (c .before .before .before .before .args .texts .now)) (c .before .before .before .before .pre .1 .0) (length (c .before .before .before .before .args .model .now)) (length (c .before .before .before .before .args .state .now)) (length (c .before .before .before .before .args .saves .now)) (c .before .before .before .before .pre .1 .1 .0) (c .before .before .before .before .pre .1 .1 .1 .0) (c .before .before .before .before .pre .1 .1 .1 .1) in
-    omega (arith, a .model, a .state, a .saves)
+    let a = there _ _ _ _ _ _ _ _ _ (c .before .before .before .before .pre .1 .1 .1 .1 .1) in omega (arith, a .model, a .state, a .saves)
 
 slice-aggregate-open-steady : tie.Need-slice-aggregate-open-steady
 slice-aggregate-open-steady c =
-    let a = there (c .before .before .before .before .before .args .row) (length (c .before .before .before .before .before .args .texts .now)) (c .before .before .before .before .before .pre .1 .0) (length (c .before .before .before .before .before .args .model .now)) (length (c .before .before .before .before .before .args .state .now)) (length (c .before .before .before .before .before .args .saves .now)) (c .before .before .before .before .before .pre .1 .1 .0) (c .before .before .before .before .before .pre .1 .1 .1 .0) (c .before .before .before .before .before .pre .1 .1 .1 .1) in
-    simp length-take (omega (arith, a .model, a .state, a .saves))
+    let a = there _ _ _ _ _ _ _ _ _ (c .before .before .before .before .before .pre .1 .1 .1 .1 .1) in simp length-take (omega (arith, a .model, a .state, a .saves))
 
 slice-relend-prefix-open-steady-2 : tie.Need-slice-relend-prefix-open-steady-2
 slice-relend-prefix-open-steady-2 c =
-    let a = there (c .before .before .before .before .before .args .row) (length (c .before .before .before .before .before .args .texts .now)) (c .before .before .before .before .before .pre .1 .0) (length (c .before .before .before .before .before .args .model .now)) (length (c .before .before .before .before .before .args .state .now)) (length (c .before .before .before .before .before .args .saves .now)) (c .before .before .before .before .before .pre .1 .1 .0) (c .before .before .before .before .before .pre .1 .1 .1 .0) (c .before .before .before .before .before .pre .1 .1 .1 .1) in
-    omega (arith, a .model, a .state, a .saves)
+    let a = there _ _ _ _ _ _ _ _ _ (c .before .before .before .before .before .pre .1 .1 .1 .1 .1) in omega (arith, a .model, a .state, a .saves)
 
 slice-aggregate-open-steady-2 : tie.Need-slice-aggregate-open-steady-2
 slice-aggregate-open-steady-2 c =
-    let a = there (c .before .before .before .before .before .before .args .row) (length (c .before .before .before .before .before .before .args .texts .now)) (c .before .before .before .before .before .before .pre .1 .0) (length (c .before .before .before .before .before .before .args .model .now)) (length (c .before .before .before .before .before .before .args .state .now)) (length (c .before .before .before .before .before .before .args .saves .now)) (c .before .before .before .before .before .before .pre .1 .1 .0) (c .before .before .before .before .before .before .pre .1 .1 .1 .0) (c .before .before .before .before .before .before .pre .1 .1 .1 .1) in
-    simp length-take (omega (arith, a .model, a .state, a .saves))
+    let a = there _ _ _ _ _ _ _ _ _ (c .before .before .before .before .before .before .pre .1 .1 .1 .1 .1) in simp length-take (omega (arith, a .model, a .state, a .saves))
 
 slice-relend-prefix-open-steady-3 : tie.Need-slice-relend-prefix-open-steady-3
 slice-relend-prefix-open-steady-3 c =
-    let a = there (c .before .before .before .before .before .before .args .row) (length (c .before .before .before .before .before .before .args .texts .now)) (c .before .before .before .before .before .before .pre .1 .0) (length (c .before .before .before .before .before .before .args .model .now)) (length (c .before .before .before .before .before .before .args .state .now)) (length (c .before .before .before .before .before .before .args .saves .now)) (c .before .before .before .before .before .before .pre .1 .1 .0) (c .before .before .before .before .before .before .pre .1 .1 .1 .0) (c .before .before .before .before .before .before .pre .1 .1 .1 .1) in
-    omega (arith, a .model, a .state, a .saves)
+    let a = there _ _ _ _ _ _ _ _ _ (c .before .before .before .before .before .before .pre .1 .1 .1 .1 .1) in omega (arith, a .model, a .state, a .saves)
 
 slice-aggregate-open-steady-3 : tie.Need-slice-aggregate-open-steady-3
 slice-aggregate-open-steady-3 c =
-    let a = there (c .before .before .before .before .before .before .before .args .row) (length (c .before .before .before .before .before .before .before .args .texts .now)) (c .before .before .before .before .before .before .before .pre .1 .0) (length (c .before .before .before .before .before .before .before .args .model .now)) (length (c .before .before .before .before .before .before .before .args .state .now)) (length (c .before .before .before .before .before .before .before .args .saves .now)) (c .before .before .before .before .before .before .before .pre .1 .1 .0) (c .before .before .before .before .before .before .before .pre .1 .1 .1 .0) (c .before .before .before .before .before .before .before .pre .1 .1 .1 .1) in
-    simp length-take (omega (arith, a .model, a .state, a .saves))
+    let a = there _ _ _ _ _ _ _ _ _ (c .before .before .before .before .before .before .before .pre .1 .1 .1 .1 .1) in simp length-take (omega (arith, a .model, a .state, a .saves))
 
 open-steady-requires : tie.Need-open-steady-requires
 open-steady-requires c κs =
@@ -72,9 +64,24 @@ same-length-3 c =
 
 returns : tie.Need-returns
 returns c =
-    λ ns ls. steady-called (c .before .before .before .before .before .before .before .before .before .before .before .before .args .row) (c .before .before .before .before .before .before .before .before .before .before .before .before .args .texts .now) ns (c .before .before .before .before .before .before .before .before .before .before .before .before .args .model .now) (c .before .before .before .before .before .before .before .before .before .before .before .before .args .state .now) (c .before .before .before .before .before .before .before .before .before .before .before .before .args .saves .now) (c .before .before .before .before .before .before .before .before .before .before .before .before .args .clock) ls (c .before .before .before .before .open-steady .result .answer) (c .before .before .before .before .before .before .before .before .before .before .before .before .pre .0) (c .before .before .before .before .open-steady .last .1 .0) (c .before .before .before .before .open-steady .last .1 .1 .0) (c .before .before .before .before .open-steady .last .1 .1 .1 .0) (c .before .before .before .before .open-steady .result .clock) (c .before .before .before .before .open-steady .ensures)
+    λ ns ws ls. steady-called (c .before .before .before .before .before .before .before .before .before .before .before .before .args .row) (c .before .before .before .before .before .before .before .before .before .before .before .before .args .texts .now) ns ws (c .before .before .before .before .before .before .before .before .before .before .before .before .args .model .now) (c .before .before .before .before .before .before .before .before .before .before .before .before .args .state .now) (c .before .before .before .before .before .before .before .before .before .before .before .before .args .saves .now) (c .before .before .before .before .before .before .before .before .before .before .before .before .args .clock) ls (c .before .before .before .before .open-steady .result .answer) (c .before .before .before .before .before .before .before .before .before .before .before .before .pre .0) (c .before .before .before .before .open-steady .last .1 .0) (c .before .before .before .before .open-steady .last .1 .1 .0) (c .before .before .before .before .open-steady .last .1 .1 .1 .0) (c .before .before .before .before .open-steady .result .clock) (c .before .before .before .before .open-steady .ensures)
 
 pub call-steady-spec : {M : Type 1} → statement M
 call-steady-spec =
     tie.close
-    (tie.spec add-end sub-open-steady part-open-steady-start part-open-steady-end slice-relend-prefix-open-steady slice-aggregate-open-steady slice-relend-prefix-open-steady-2 slice-aggregate-open-steady-2 slice-relend-prefix-open-steady-3 slice-aggregate-open-steady-3 open-steady-requires same-length same-length-2 same-length-3 returns)
+    (tie.spec
+    add-end
+    sub-open-steady
+    part-open-steady-start
+    part-open-steady-end
+    slice-relend-prefix-open-steady
+    slice-aggregate-open-steady
+    slice-relend-prefix-open-steady-2
+    slice-aggregate-open-steady-2
+    slice-relend-prefix-open-steady-3
+    slice-aggregate-open-steady-3
+    open-steady-requires
+    same-length
+    same-length-2
+    same-length-3
+    returns)

@@ -1,4 +1,4 @@
--- Fifteen stores over the first fifteen numbers.
+-- Eighteen stores over the first eighteen numbers.
 use denote.Ref.{now}
 use native.Mathlib.Omega.{arith}
 use borrow.Author.Needs.{needs}
@@ -99,6 +99,18 @@ slice-write-answers-15 : tie.Need-slice-write-answers-15
 slice-write-answers-15 c =
     simp length-set (omega arith)
 
+slice-write-answers-16 : tie.Need-slice-write-answers-16
+slice-write-answers-16 c =
+    simp length-set (omega arith)
+
+slice-write-answers-17 : tie.Need-slice-write-answers-17
+slice-write-answers-17 c =
+    simp length-set (omega arith)
+
+slice-write-answers-18 : tie.Need-slice-write-answers-18
+slice-write-answers-18 c =
+    simp length-set (omega arith)
+
 same-length : tie.Need-same-length
 same-length c =
     simp length-set
@@ -134,5 +146,8 @@ put-found-spec =
     slice-write-answers-14
     array-read-answers-8
     slice-write-answers-15
+    slice-write-answers-16
+    slice-write-answers-17
+    slice-write-answers-18
     same-length
     returns)

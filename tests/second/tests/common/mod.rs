@@ -3,7 +3,7 @@
 #![allow(dead_code)]
 
 use second::state::{DEFINITION, FIRST_PAIR, FIRST_PROCESS, PAIR, PROCESS, VALUE_COUNT};
-use second::{Answer, Clock, Found, Opening, LISTING, MODEL, REPORT, SAVES, STATE};
+use second::{Answer, Clock, Found, Opening, Ran, Running, LISTING, MODEL, REPORT, SAVES, STATE};
 
 #[derive(Clone, PartialEq, Eq)]
 pub struct Bench {
@@ -96,6 +96,11 @@ impl Bench {
 
     pub fn search(&self, depth: u64, name: &str) -> Found {
         second::search(&self.model, &self.state, name.as_bytes(), depth)
+    }
+
+    pub fn run(&mut self, words: &[u64], waiting: &[u16], events: &mut [u64], limit: u64) -> Ran {
+        let Bench { model, state, clock, .. } = self;
+        second::run(model, Running { state, words, waiting, events, limit, clock })
     }
 
     /// An accepted list's entries.

@@ -2,7 +2,7 @@
 use mathlib.Core.Path.{ap, sym, _∙_}
 use Prim.Native.Nat.{ℕ}
 use borrow.Author.Needs.{needs}
-use Rattle.lines.specs.declared.line.Line.the-variants.{Open, Steady, List as Listing, Step, State, Report, Save, Return, Forget, Time, Wait, Clock, Independent, Search}
+use Rattle.lines.specs.declared.line.Line.the-variants.{Open, Steady, List as Listing, Step, State, Report, Save, Return, Forget, Time, Wait, Clock, Independent, Search, Word, Run}
 use Rattle.lines.specs.declared.script.Part.the-variants.{InText}
 use Rattle.lines.specs.declared.script.Taken.the-variants.{Goes, Asks}
 use Rattle.lines.specs.Script.{fresh}
@@ -91,6 +91,18 @@ enum-known-says-10 c = search needs
 begin-requires-12 : tie.Need-begin-requires-12
 begin-requires-12 c κs = search needs
 
+enum-known-says-11 : tie.Need-enum-known-says-11
+enum-known-says-11 c = search needs
+
+begin-requires-13 : tie.Need-begin-requires-13
+begin-requires-13 c κs = search needs
+
+enum-known-says-12 : tie.Need-enum-known-says-12
+enum-known-says-12 c = search needs
+
+begin-requires-14 : tie.Need-begin-requires-14
+begin-requires-14 c κs = search needs
+
 enum-told-5 : tie.Need-enum-told-5
 enum-told-5 c = search needs
 
@@ -152,6 +164,14 @@ returns-14 c =
 
 returns-15 : tie.Need-returns-15
 returns-15 c =
+    ap (Asks (Word (c .before .before .says11 .given .0 .0))) (c .begin13 .ensures ∙ ap fresh (c .before .before .before .before .next-line .ensures)) ∙ sym (ap (ended (c .before .before .before .before .before .args .line)) (c .before .before .says11 .given .1))
+
+returns-16 : tie.Need-returns-16
+returns-16 c =
+    ap (Asks (Run (c .before .before .says12 .given .0 .0))) (c .begin14 .ensures ∙ ap fresh (c .before .before .before .before .next-line .ensures)) ∙ sym (ap (ended (c .before .before .before .before .before .args .line)) (c .before .before .says12 .given .1))
+
+returns-17 : tie.Need-returns-17
+returns-17 c =
     sym (ap (ended (c .before .before .before .args .line)) (c .enum-told5 .given .1))
 
 pub end-line-spec : {M : Type 1} → statement M
@@ -185,6 +205,10 @@ end-line-spec =
     begin-requires-11
     enum-known-says-10
     begin-requires-12
+    enum-known-says-11
+    begin-requires-13
+    enum-known-says-12
+    begin-requires-14
     enum-told-5
     returns
     returns-2
@@ -200,4 +224,6 @@ end-line-spec =
     returns-12
     returns-13
     returns-14
-    returns-15)
+    returns-15
+    returns-16
+    returns-17)

@@ -1,6 +1,6 @@
 -- The head tells which of the words begins the line.
 use borrow.Author.Needs.{needs}
-use Rattle.lines.proofs.Heads.{says-list, says-state, says-report, says-open, says-step, says-save, says-return, says-forget, says-time, says-wait, says-clock, says-independent, says-steady, says-seek, says-bad}
+use Rattle.lines.proofs.Heads.{says-list, says-state, says-report, says-open, says-step, says-save, says-return, says-forget, says-time, says-wait, says-clock, says-independent, says-steady, says-seek, says-word, says-run}
 use Rattle.lines.proofs.line.Reading.says.Statement.{statement}
 use Rattle.lines.proofs.line.Reading.says.Tie as tie
 
@@ -39,6 +39,12 @@ steady-line-requires c κs = search needs
 
 seek-line-requires : tie.Need-seek-line-requires
 seek-line-requires c κs = search needs
+
+word-line-requires : tie.Need-word-line-requires
+word-line-requires c κs = search needs
+
+run-line-requires : tie.Need-run-line-requires
+run-line-requires c κs = search needs
 
 returns : tie.Need-returns
 returns c =
@@ -98,9 +104,13 @@ returns-14 c =
 
 returns-15 : tie.Need-returns-15
 returns-15 c =
+    λ s h. says-word h (c .before .match .keys15) (c .word-line .ensures)
+
+returns-16 : tie.Need-returns-16
+returns-16 c =
     λ s h.
-    let m = c .match .rest in
-    says-bad h (m .0 .0 .0 .0 .0 .0 .0 .0 .0 .0 .0 .0 .0 .1) (m .0 .0 .0 .0 .0 .0 .0 .0 .0 .0 .0 .0 .1) (m .0 .0 .0 .0 .0 .0 .0 .0 .0 .0 .0 .1) (m .0 .0 .0 .0 .0 .0 .0 .0 .0 .0 .1) (m .0 .0 .0 .0 .0 .0 .0 .0 .0 .1) (m .0 .0 .0 .0 .0 .0 .0 .0 .1) (m .0 .0 .0 .0 .0 .0 .0 .1) (m .0 .0 .0 .0 .0 .0 .1) (m .0 .0 .0 .0 .0 .1) (m .0 .0 .0 .0 .1) (m .0 .0 .0 .1) (m .0 .0 .1) (m .0 .1) (m .1)
+    let m = c .before .match .rest in
+    says-run h (m .0 .0 .0 .0 .0 .0 .0 .0 .0 .0 .0 .0 .0 .0 .1) (m .0 .0 .0 .0 .0 .0 .0 .0 .0 .0 .0 .0 .0 .1) (m .0 .0 .0 .0 .0 .0 .0 .0 .0 .0 .0 .0 .1) (m .0 .0 .0 .0 .0 .0 .0 .0 .0 .0 .0 .1) (m .0 .0 .0 .0 .0 .0 .0 .0 .0 .0 .1) (m .0 .0 .0 .0 .0 .0 .0 .0 .0 .1) (m .0 .0 .0 .0 .0 .0 .0 .0 .1) (m .0 .0 .0 .0 .0 .0 .0 .1) (m .0 .0 .0 .0 .0 .0 .1) (m .0 .0 .0 .0 .0 .1) (m .0 .0 .0 .0 .1) (m .0 .0 .0 .1) (m .0 .0 .1) (m .0 .1) (m .1) (c .run-line .ensures)
 
 pub says-spec : {M : Type 1} → statement M
 says-spec =
@@ -118,6 +128,8 @@ says-spec =
     says-requires
     steady-line-requires
     seek-line-requires
+    word-line-requires
+    run-line-requires
     returns
     returns-2
     returns-3
@@ -132,4 +144,5 @@ says-spec =
     returns-12
     returns-13
     returns-14
-    returns-15)
+    returns-15
+    returns-16)

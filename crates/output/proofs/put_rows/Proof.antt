@@ -1,16 +1,16 @@
--- The next entry stands within the listing; the measure is how many entries are left.
+-- The next row stands within the numbers; the measure is how many rows are left.
 use Prim.Native.Nat.{_-_, _≤_}
 use native.Mathlib.Omega.{arith}
 use borrow.Author.Needs.{needs}
 use lib.ListN.{length, length-take, length-drop}
-use Rattle.output.proofs.put_entries.Statement.{statement}
-use Rattle.output.proofs.put_entries.Tie as tie
+use Rattle.output.proofs.put_rows.Statement.{statement}
+use Rattle.output.proofs.put_rows.Tie as tie
 
 abbrev Inv-loop : tie.InvT-loop
-Inv-loop out₀ waits listing count begin gap n₀ left₀ at₀ out n left at = at ≤ length listing
+Inv-loop out₀ waits numbers width count begin gap n₀ left₀ at₀ out n left at = at ≤ length numbers
 
 abbrev μ-loop : tie.MeasureT-loop
-μ-loop out₀ waits listing count begin gap n₀ left₀ at₀ out n left at = left
+μ-loop out₀ waits numbers width count begin gap n₀ left₀ at₀ out n left at = left
 
 loop-holds : tie.Need-loop-holds Inv-loop μ-loop
 loop-holds c = search needs
@@ -54,8 +54,8 @@ loop-again c = search needs
 returns-2 : tie.Need-returns-2 Inv-loop μ-loop
 returns-2 c = search needs
 
-pub put-entries-spec : {M : Type 1} → statement M
-put-entries-spec =
+pub put-rows-spec : {M : Type 1} → statement M
+put-rows-spec =
     tie.close
     (tie.spec
     Inv-loop

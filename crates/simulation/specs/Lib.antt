@@ -1,0 +1,2 @@
+-- What a run over a text comes to.
+pub mod Comes

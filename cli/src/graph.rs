@@ -25,7 +25,6 @@ fn run(given: &Given, out: &mut dyn Write) -> Result<(), Failure> {
     let outline = Outline::read(&model.text.bytes).ok_or_else(unread)?;
     let picture = Picture { text: &model.text.bytes, outline: &outline };
     let mut lines = vec!["digraph model {".to_string(), "  node [shape=box, fontname=\"monospace\"];".to_string()];
-    lines.push("  compound=true;".to_string());
     for (number, definition) in outline.definitions.iter().enumerate() {
         lines.extend(picture.frame(number, definition));
     }
@@ -91,11 +90,11 @@ impl Picture<'_> {
                     nodes.push(channel);
                     nodes.len() - 1
                 });
-                lines.insert(edge(branch.offer.kind, number, place));
+                lines.extend(edge(branch.offer.kind, number, place));
             }
         }
         let node = |(number, channel): (usize, &String)| {
-            format!("  channel{number} [label={}, shape=ellipse];", quoted(channel))
+            format!("  channel{number} [label={}, style=rounded];", quoted(channel))
         };
         nodes.iter().enumerate().map(node).chain(lines).collect()
     }
@@ -106,10 +105,10 @@ fn channel(branch: &Branch) -> String {
     items.join(",")
 }
 
-/// From a sum to a channel, or the other way.
-fn edge(kind: Kind, sum: usize, channel: usize) -> String {
+/// From a sum to a channel, or the other way; none for a wait.
+fn edge(kind: Kind, sum: usize, channel: usize) -> Option<String> {
     let (what, gives) = match kind {
-        Kind::Wait => unreachable!("a wait has no channel"),
+        Kind::Wait => return None,
         Kind::Launch => ("launch", true),
         Kind::Kill => ("kill", true),
         Kind::Send => ("send", true),
@@ -118,7 +117,7 @@ fn edge(kind: Kind, sum: usize, channel: usize) -> String {
     };
     let (from, to) = (format!("sum{sum}"), format!("channel{channel}"));
     let (from, to) = if gives { (from, to) } else { (to, from) };
-    format!("  {from} -> {to} [label={what}, style=dashed];")
+    Some(format!("  {from} -> {to} [label={what}, style=dashed];"))
 }
 
 fn quoted(words: &str) -> String {

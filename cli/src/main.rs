@@ -7,6 +7,7 @@
 mod acting;
 mod add;
 mod args;
+mod bcs;
 mod check;
 mod csv;
 mod curve;
@@ -45,6 +46,7 @@ const COMMANDS: &[&Command] = &[
     &report::COMMAND,
     &search::COMMAND,
     &graph::COMMAND,
+    &bcs::COMMAND,
 ];
 
 fn main() -> ExitCode {

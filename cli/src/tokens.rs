@@ -93,6 +93,15 @@ impl<'a> Cursor<'a> {
         token
     }
 
+    /// Where it is, to come back to.
+    pub fn mark(&self) -> usize {
+        self.at
+    }
+
+    pub fn back_to(&mut self, mark: usize) {
+        self.at = mark;
+    }
+
     /// Goes past the token if it is this sign.
     pub fn take(&mut self, sign: &str) -> bool {
         let is = self.word() == sign;

@@ -67,3 +67,69 @@ impl Names {
         &self.waits
     }
 }
+
+#[cfg(test)]
+mod tests {
+    use super::*;
+    use second::generate::{self, Random};
+    use second::syntax::{Action, Tree};
+    use second::tokens::{self, Token};
+
+    /// The second engine reads the text by itself.
+    fn agrees(text: &[u8]) -> bool {
+        let Ok(model) = second::model::read(text) else { return false };
+        let tokens = tokens::split(text);
+        let tree = second::reader::read(&tokens, text.len()).ok().expect("it was read before");
+        let names = Names::read(text);
+        let words = String::from_utf8_lossy(text);
+        assert_eq!(names.sum_count(), model.sums.len(), "{words}");
+        let scopes = second::names::Names::new(text, &tokens, &tree).scopes;
+        for (number, sum) in tree.sums.iter().enumerate() {
+            for (branch, given) in sum.branches.iter().enumerate() {
+                let place = names.branch(number as u64, branch as u64).expect("a branch");
+                let (first, definition, locals) = (tokens[given.first].start, sum.definition, scopes[number].len());
+                assert_eq!((place.first, place.definition, place.locals), (first, definition, locals), "{words}");
+                assert_eq!(text[place.action], b'{');
+            }
+            assert_eq!(names.branch(number as u64, sum.branches.len() as u64), None);
+        }
+        let definitions: Vec<usize> = tree.definitions.iter().map(|one| tokens[one.name].start).collect();
+        assert_eq!(names.definitions(), definitions, "{words}");
+        assert_eq!(names.channels().len(), model.channel_names, "{words}");
+        assert_eq!(names.waits(), waits(text, &tokens, &tree), "{words}");
+        true
+    }
+
+    fn waits(text: &[u8], tokens: &[Token], tree: &Tree) -> Vec<usize> {
+        let branches = tree.sums.iter().flat_map(|sum| &sum.branches);
+        let names =
+            branches.filter_map(|branch| if let Action::Wait(name) = branch.action { Some(name) } else { None });
+        let mut names: Vec<&Token> = names.map(|name| &tokens[name]).collect();
+        names.sort_by_key(|token| token.start);
+        let mut first: Vec<&Token> = Vec::new();
+        for name in names {
+            if !first.iter().any(|other| other.word(text) == name.word(text)) {
+                first.push(name);
+            }
+        }
+        first.iter().map(|token| token.start).collect()
+    }
+
+    #[test]
+    fn places_are_those_of_the_second_reader() {
+        let mut random = Random::new(33);
+        let accepted = (0..3_000).filter(|_| agrees(&generate::lively(&mut random))).count();
+        let edges = (0..300).filter(|_| agrees(&generate::edge(&mut random))).count();
+        assert!(accepted > 1_000 && edges > 50, "{accepted}, {edges}");
+    }
+
+    /// A text that was not accepted is never looked up, but reading it ends.
+    #[test]
+    fn any_text_is_read_to_an_end() {
+        let mut random = Random::new(34);
+        for _ in 0..2_000 {
+            let text = generate::lively(&mut random);
+            Names::read(&generate::damaged(&mut random, &text));
+        }
+    }
+}

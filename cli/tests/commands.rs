@@ -2,7 +2,7 @@
 
 mod common;
 
-use common::{model, on_text, repository, run};
+use common::{matgravel, model, on_text, repository, run};
 
 const COMMANDS: [&str; 9] = ["check", "list", "simulate", "timing", "add", "report", "search", "graph", "import-bcs"];
 
@@ -175,4 +175,21 @@ fn a_model_is_drawn() {
     }
     let quoted = on_text(&["graph", "-"], "A[n]={c?[0..9\\2],1}||{c,n![1],1}.A[n];A[1];");
     assert!(quoted.out.contains("{c?[0..9\\\\2],1}\\l") && quoted.out.contains("label=\"c,n\""), "{}", quoted.out);
+}
+
+/// Every block of docs/COMMAND.md that begins with `$ matgravel` shows what that prints.
+#[test]
+fn the_page_shows_what_is_printed() {
+    let page = std::fs::read_to_string(repository().join("docs/COMMAND.md")).expect("the page");
+    let mut shown = 0;
+    for block in page.split("\n    $ matgravel ").skip(1) {
+        let (line, rest) = block.split_once('\n').expect("lines");
+        let lines = rest.lines().map_while(|line| line.strip_prefix("    "));
+        let printed: String = lines.map(|line| line.to_string() + "\n").collect();
+        let words = line.split_whitespace();
+        let output = matgravel().args(words).current_dir(repository()).output().expect("it starts");
+        assert_eq!(String::from_utf8_lossy(&output.stdout), printed, "{line}");
+        shown += 1;
+    }
+    assert_eq!(shown, 4);
 }

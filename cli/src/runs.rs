@@ -117,7 +117,10 @@ impl Ends {
     /// Fails if a run was refused; says on standard error if some were cut short.
     pub fn judge(&self, model: &Model) -> Result<(), Failure> {
         if self.full > 0 {
-            eprintln!("{} runs were ended by {}; a larger number lets them go on", self.full, STEPS.name);
+            eprintln!(
+                "{} of the runs ended after the steps of {}; a larger number lets them go on",
+                self.full, STEPS.name
+            );
         }
         let Some((run, number, steps)) = self.first else { return Ok(()) };
         let note = format!("run {run}, after {steps} steps; {} of the runs were refused\n", self.refused);

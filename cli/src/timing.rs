@@ -36,22 +36,22 @@ fn run(given: &Given, out: &mut dyn Write) -> Result<(), Failure> {
     let channel = channel_numbers(&model.items(name)?);
     let channel = channel.ok_or_else(|| Failure::Usage(format!("{name}: a channel has one to three items")))?;
     let (plan, grid) = (Plan::read(given)?, given.time(GRID.name)?);
-    let (mut all, mut ends) = (Vec::new(), Ends::default());
-    plan.each(
-        &model,
-        |walk| first_times(walk, &channel),
-        |run, (times, end)| {
-            ends.note(run, end);
-            all.push((run, times));
-            Ok(())
-        },
-    )?;
+    let (mut ends, mut curve, mut rows) = (Ends::default(), Curve::default(), csv::line(&HEAD));
+    let keeps_times = given.has(TIMES.name);
+    let make = |walk| first_times(walk, &channel);
+    plan.each(&model, make, |run, (times, end)| {
+        ends.note(run, end);
+        if keeps_times {
+            rows += &time_rows(plan.seed, run, name, &times);
+        } else {
+            curve.add_run(times);
+        }
+        Ok(())
+    })?;
     ends.judge(&model)?;
-    if given.has(TIMES.name) {
-        return print_times(plan.seed, name, &all, out);
+    if keeps_times {
+        return Ok(out.write_all(rows.as_bytes())?);
     }
-    let mut curve = Curve::default();
-    all.into_iter().for_each(|(_, times)| curve.add_run(times));
     curve.print(grid, out)
 }
 
@@ -76,18 +76,11 @@ fn first_times(mut walk: Walk, channel: &Channel) -> (Times, End) {
 }
 
 /// A row for each value that a run lit; one without value and time for a run that lit none.
-fn print_times(seed: u64, channel: &str, all: &[(u64, Times)], out: &mut dyn Write) -> Result<(), Failure> {
-    out.write_all(csv::line(&HEAD).as_bytes())?;
-    for (run, times) in all {
-        let mut row = |value: String, time: String| {
-            out.write_all(csv::line(&[seed.to_string(), run.to_string(), channel.to_string(), value, time]).as_bytes())
-        };
-        if times.is_empty() {
-            row(String::new(), String::new())?;
-        }
-        for (values, ticks) in times {
-            row(joined(values, " "), decimal::time(*ticks))?;
-        }
+fn time_rows(seed: u64, run: u64, channel: &str, times: &Times) -> String {
+    let row =
+        |value: String, time: String| csv::line(&[seed.to_string(), run.to_string(), channel.to_string(), value, time]);
+    if times.is_empty() {
+        return row(String::new(), String::new());
     }
-    Ok(())
+    times.iter().map(|(values, ticks)| row(joined(values, " "), decimal::time(*ticks))).collect()
 }

@@ -80,6 +80,13 @@ fn what_cant_be_said_is_named_with_its_line() {
     }
 }
 
+/// A branch whose call can't be said is left out, and the others stay.
+#[test]
+fn a_branch_is_left_out_whole() {
+    let ran = on_text(&["import-bcs", "-"], "A[x]={a,1}.(A[x]||B[x])+{b,2}.({c,1}.C[]||A[x]);A[1];");
+    assert_eq!((ran.status, ran.out.as_str()), (1, "A[x] = {b,2}.({left_out,0} || A[x]);\nA[1];\n"), "{}", ran.err);
+}
+
 #[test]
 fn long_names_are_shortened() {
     let text = "a_very_long_rate_of_mine=2;A[]={union,a_very_long_rate_of_mine}.A[];A[];";

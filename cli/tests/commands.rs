@@ -70,7 +70,9 @@ fn accepted_models_are_counted() {
 #[test]
 fn a_refusal_has_its_line_a_caret_and_how_to_mend_it() {
     let ran = on_text(&["check", "-"], "// a slip\nA[]={go,1}.(B[];B[]={go,1};A[];\n");
-    let start = "standard input:2:16: refused 5: the text isn't a model\n    A[]={go,1}.(B[];B[]={go,1};A[];\n                   ^\n";
+    let start = "standard input:2:16: refused 5: the text isn't a model\n    \
+                 A[]={go,1}.(B[];B[]={go,1};A[];\n    \
+                 \x20              ^\n";
     assert_eq!((ran.status, ran.out.as_str()), (1, ""));
     assert!(ran.err.starts_with(start) && ran.err.contains("a missing `;`"), "{}", ran.err);
     let steady = on_text(&["check", "-", "--steady"], "A[]={a,1}.(A[]||A[]);A[];");
@@ -127,7 +129,7 @@ fn runs_end_by_time_by_steps_or_refused() {
     assert!(times.clone().count() > 5 && times.clone().all(|time| time <= 20.0));
     let cut = on_text(&["simulate", "-", "--steps", "7"], forever);
     assert_eq!((cut.status, cut.out.lines().count()), (0, 8));
-    assert!(cut.err.starts_with("1 runs were ended by --steps"), "{}", cut.err);
+    assert!(cut.err.starts_with("1 of the runs ended after the steps of --steps"), "{}", cut.err);
     let refused = on_text(&["simulate", "-", "--runs", "3"], "A[]={go,1}.(A[]||A[]);A[];");
     assert_eq!((refused.status, refused.out.lines().count()), (1, 1 + 3 * 255));
     assert!(refused.err.contains("refused 18") && refused.err.contains("run 1, after 255 steps; 3 of the runs"));

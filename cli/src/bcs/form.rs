@@ -22,10 +22,12 @@ pub struct Form {
     pub whole: Option<Whole>,
 }
 
+/// Locals, and how many decimals their whole numbers stand for.
+pub type Locals = [(String, u32)];
+
 /// What names stand for, and how much is worked out.
 pub struct Scope<'a> {
     pub variables: &'a [(String, Ratio)],
-    /// Locals, and how many decimals their whole numbers stand for.
     pub locals: Vec<(String, u32)>,
     /// Are whole variables worked out too?
     pub folds: bool,

@@ -1,6 +1,7 @@
 //! `matgravel import-bcs`: a bcs model in our dialect, as far as that can say it.
 
 mod form;
+mod gates;
 mod ratio;
 mod read;
 mod say;

@@ -1,6 +1,7 @@
 //! Writes a bcs model in our dialect, as far as that can say it.
 
-use super::form::{together, Form, Scope, Whole};
+use super::form::{together, Form, Locals, Scope, Whole};
+use super::gates::{narrowed, Relations};
 use super::ratio::{Ratio, ONE};
 use super::scales::Scales;
 use super::tree::*;
@@ -8,8 +9,6 @@ use super::tree::*;
 /// Digits that a decimal of our texts may have before and after its point.
 const BEFORE: usize = 6;
 const AFTER: u32 = 4;
-/// Alternatives of a gate, at most.
-const ALTERNATIVES: usize = 64;
 /// A sum of which no branch can be said.
 const NOTHING: &str = "{left_out,0}";
 
@@ -20,9 +19,6 @@ pub struct Trouble {
 }
 
 type Said = Result<String, Trouble>;
-
-/// A relation that is to hold, and the place of its gate.
-type Relations = Vec<(Expr, &'static str, Expr)>;
 
 pub struct Sayer<'a> {
     pub model: &'a Model,
@@ -69,7 +65,7 @@ impl Sayer<'_> {
     }
 
     /// The sums of a definition.
-    fn body(&mut self, body: &Process, locals: &[(String, u32)]) -> Vec<Vec<String>> {
+    fn body(&mut self, body: &Process, locals: &Locals) -> Vec<Vec<String>> {
         let parts = if let Process::Parallel(parts) = body { &parts[..] } else { std::slice::from_ref(body) };
         parts
             .iter()
@@ -81,7 +77,7 @@ impl Sayer<'_> {
     }
 
     /// The branches of a process that isn't several side by side.
-    fn sum(&mut self, process: &Process, locals: &[(String, u32)]) -> Vec<String> {
+    fn sum(&mut self, process: &Process, locals: &Locals) -> Vec<String> {
         let mut branches = Vec::new();
         self.branches(process, &[Vec::new()], locals, &mut branches);
         if branches.is_empty() {
@@ -116,21 +112,18 @@ impl Sayer<'_> {
     }
 
     /// What stands side by side.
-    fn items(&mut self, process: &Process, locals: &[(String, u32)]) -> Vec<Item> {
+    fn items(&mut self, process: &Process, locals: &Locals) -> Result<Vec<Item>, Trouble> {
         match process {
-            Process::Parallel(parts) => parts.iter().flat_map(|part| self.items(part, locals)).collect(),
-            Process::Call(name, arguments) => match self.call(name, arguments, locals) {
-                Ok(call) => vec![Item::Call(call)],
-                Err(trouble) => {
-                    self.troubles.push(trouble);
-                    Vec::new()
-                }
-            },
-            _ => vec![Item::Sum(self.sum(process, locals))],
+            Process::Parallel(parts) => {
+                let items = parts.iter().map(|part| self.items(part, locals)).collect::<Result<Vec<_>, _>>()?;
+                Ok(items.into_iter().flatten().collect())
+            }
+            Process::Call(name, arguments) => Ok(vec![Item::Call(self.call(name, arguments, locals)?)]),
+            _ => Ok(vec![Item::Sum(self.sum(process, locals))]),
         }
     }
 
-    fn call(&self, name: &At<String>, arguments: &[At<Expr>], locals: &[(String, u32)]) -> Said {
+    fn call(&self, name: &At<String>, arguments: &[At<Expr>], locals: &Locals) -> Said {
         let trouble = |place, what| Trouble { place, what };
         let decimals =
             self.scales.of(&name.it).ok_or_else(|| trouble(name.place, format!("{} isn't defined", name.it)))?;
@@ -146,21 +139,22 @@ impl Sayer<'_> {
     }
 
     /// The branches of a choice, gates spread over them. What can't be said is noted and left out.
-    fn branches(&mut self, process: &Process, gates: &[Relations], locals: &[(String, u32)], said: &mut Vec<String>) {
+    fn branches(&mut self, process: &Process, gates: &[Relations], locals: &Locals, said: &mut Vec<String>) {
         match process {
             Process::Choice(parts) => parts.iter().for_each(|part| self.branches(part, gates, locals, said)),
             Process::Gated(condition, inside) => match narrowed(gates, condition) {
                 Ok(gates) => self.branches(inside, &gates, locals, said),
                 Err(trouble) => self.troubles.push(trouble),
             },
-            Process::Prefix(action, rate, then) => match self.prefix(action, rate, gates, locals) {
-                Ok(words) => {
-                    let inside = after(action, locals);
-                    let then = then.as_ref().map_or(String::new(), |then| self.continuation(then, &inside));
-                    said.push(words + &then);
+            Process::Prefix(action, rate, then) => {
+                match self
+                    .prefix(action, rate, gates, locals)
+                    .and_then(|words| Ok(words + &self.then(action, then, locals)?))
+                {
+                    Ok(words) => said.push(words),
+                    Err(trouble) => self.troubles.push(trouble),
                 }
-                Err(trouble) => self.troubles.push(trouble),
-            },
+            }
             Process::Call(name, _) => {
                 let what = format!("{} is called where an action has to come first", name.it);
                 self.troubles.push(Trouble { place: name.place, what });
@@ -173,7 +167,7 @@ impl Sayer<'_> {
         }
     }
 
-    fn prefix(&self, action: &At<Action>, rate: &At<Expr>, gates: &[Relations], locals: &[(String, u32)]) -> Said {
+    fn prefix(&self, action: &At<Action>, rate: &At<Expr>, gates: &[Relations], locals: &Locals) -> Said {
         let gate = self.gate(gates, locals).map_err(|what| Trouble { place: action.place, what })?;
         let done = self.action(&action.it, locals).map_err(|what| Trouble { place: action.place, what })?;
         let bound = if let Action::Take(_, _, _, names) = &action.it { &names[..] } else { &[] };
@@ -181,34 +175,34 @@ impl Sayer<'_> {
         Ok(format!("{gate}{{{done},{rate}}}"))
     }
 
-    /// `.` and what follows.
-    fn continuation(&mut self, then: &Process, locals: &[(String, u32)]) -> String {
-        let items = self.items(then, locals);
-        match &items[..] {
-            [] => String::new(),
+    /// `.` and what follows an action, if anything does.
+    fn then(&mut self, action: &At<Action>, then: &Option<Box<Process>>, locals: &Locals) -> Said {
+        let Some(then) = then else { return Ok(String::new()) };
+        let items = self.items(then, &after(action, locals))?;
+        Ok(match &items[..] {
             [Item::Call(call)] => format!(".{call}"),
             [Item::Sum(branches)] if branches.len() == 1 => format!(".{}", branches[0]),
             _ => format!(".({})", items.iter().map(Item::written).collect::<Vec<_>>().join(" || ")),
-        }
+        })
     }
 
-    fn scope(&self, locals: &[(String, u32)], divides: bool) -> Scope<'_> {
+    fn scope(&self, locals: &Locals, divides: bool) -> Scope<'_> {
         Scope { variables: &self.model.variables, locals: locals.to_vec(), folds: false, divides }
     }
 
     /// An expression in multiples of a unit, which have to be whole.
-    fn multiple(&self, expr: &Expr, unit: Ratio, locals: &[(String, u32)]) -> Result<String, String> {
+    fn multiple(&self, expr: &Expr, unit: Ratio, locals: &Locals) -> Result<String, String> {
         let form = self.scope(locals, unit == ONE).form(expr)?;
         let part = form.part(unit).ok_or("a value with a point can't stand here")?;
         Ok(part.written(0))
     }
 
-    fn wholes(&self, list: &[Expr], locals: &[(String, u32)]) -> Result<String, String> {
+    fn wholes(&self, list: &[Expr], locals: &Locals) -> Result<String, String> {
         let all = list.iter().map(|one| self.multiple(one, ONE, locals)).collect::<Result<Vec<_>, _>>()?;
         Ok(all.join(","))
     }
 
-    fn action(&self, action: &Action, locals: &[(String, u32)]) -> Result<String, String> {
+    fn action(&self, action: &Action, locals: &Locals) -> Result<String, String> {
         match action {
             Action::Wait(name) => Ok(name.clone()),
             Action::Give(before, items, sign, values) => {
@@ -223,7 +217,7 @@ impl Sayer<'_> {
     }
 
     /// A lone name that has no value is a channel name.
-    fn channel(&self, items: &[Expr], locals: &[(String, u32)]) -> Result<String, String> {
+    fn channel(&self, items: &[Expr], locals: &Locals) -> Result<String, String> {
         let given = |name: &String| {
             locals.iter().any(|(local, _)| local == name) || self.model.variables.iter().any(|(given, _)| given == name)
         };
@@ -235,7 +229,7 @@ impl Sayer<'_> {
     }
 
     /// Our signs join sets from left to right: of a union at most one part may have signs of its own, and stands first.
-    fn set(&self, set: &Set, locals: &[(String, u32)]) -> Result<String, String> {
+    fn set(&self, set: &Set, locals: &Locals) -> Result<String, String> {
         let is_plain = |term: &&Vec<Vec<Range>>| term.len() == 1 && term[0].len() == 1;
         let (plain, mixed): (Vec<_>, Vec<_>) = set.0.iter().partition(is_plain);
         if mixed.len() > 1 {
@@ -245,7 +239,7 @@ impl Sayer<'_> {
         Ok(terms.collect::<Result<Vec<_>, _>>()?.join(" union "))
     }
 
-    fn intersection(&self, term: &[Vec<Range>], locals: &[(String, u32)]) -> Result<String, String> {
+    fn intersection(&self, term: &[Vec<Range>], locals: &Locals) -> Result<String, String> {
         let mut factors = Vec::new();
         for factor in term {
             let ranges = factor.iter().map(|range| self.range(range, locals)).collect::<Result<Vec<_>, _>>()?;
@@ -254,7 +248,7 @@ impl Sayer<'_> {
         Ok(factors.join(" inter "))
     }
 
-    fn range(&self, range: &Range, locals: &[(String, u32)]) -> Result<String, String> {
+    fn range(&self, range: &Range, locals: &Locals) -> Result<String, String> {
         let first = self.multiple(&range.first, ONE, locals)?;
         match &range.last {
             None => Ok(first),
@@ -263,7 +257,7 @@ impl Sayer<'_> {
     }
 
     /// A gate that holds where one of the alternatives does.
-    fn gate(&self, gates: &[Relations], locals: &[(String, u32)]) -> Result<String, String> {
+    fn gate(&self, gates: &[Relations], locals: &Locals) -> Result<String, String> {
         let mut any = Vec::new();
         for relations in gates {
             let all =
@@ -276,18 +270,14 @@ impl Sayer<'_> {
         }
     }
 
-    fn relation(
-        &self,
-        (left, sign, right): &(Expr, &'static str, Expr),
-        locals: &[(String, u32)],
-    ) -> Result<String, String> {
+    fn relation(&self, (left, sign, right): &(Expr, &'static str, Expr), locals: &Locals) -> Result<String, String> {
         let scope = self.scope(locals, false);
         let (_, parts) = together(vec![scope.form(left)?, scope.form(right)?])?;
         Ok(format!("{}{sign}{}", parts[0].written(0), parts[1].written(0)))
     }
 
     /// A number or a name, perhaps times one atom.
-    fn rate(&self, rate: &Expr, locals: &[(String, u32)], bound: &[String]) -> Result<String, String> {
+    fn rate(&self, rate: &Expr, locals: &Locals, bound: &[String]) -> Result<String, String> {
         if bound.iter().any(|name| uses(rate, name)) {
             return Err("a receive's rate can't use a name that it binds; write a branch for each value".to_string());
         }
@@ -308,7 +298,7 @@ impl Sayer<'_> {
         })
     }
 
-    fn is_variable(&self, name: &str, locals: &[(String, u32)]) -> bool {
+    fn is_variable(&self, name: &str, locals: &Locals) -> bool {
         let is_local = locals.iter().any(|(local, _)| local == name);
         !is_local && self.model.variables.iter().any(|(given, number)| given == name && is_number(*number))
     }
@@ -363,66 +353,12 @@ fn uses(expr: &Expr, name: &str) -> bool {
 }
 
 /// The locals after an action: names that it binds are whole.
-pub fn after(action: &At<Action>, locals: &[(String, u32)]) -> Vec<(String, u32)> {
+pub fn after(action: &At<Action>, locals: &Locals) -> Vec<(String, u32)> {
     let mut locals = locals.to_vec();
     if let Action::Take(_, _, _, names) = &action.it {
         locals.extend(names.iter().map(|name| (name.clone(), 0)));
     }
     locals
-}
-
-/// The alternatives of some gates, each with one more condition.
-fn narrowed(gates: &[Relations], condition: &At<Condition>) -> Result<Vec<Relations>, Trouble> {
-    if gates.len().saturating_mul(count(&condition.it, true)) > ALTERNATIVES {
-        return Err(Trouble { place: condition.place, what: "the condition has too many alternatives".to_string() });
-    }
-    let more = alternatives(&condition.it, true);
-    let each =
-        gates.iter().flat_map(|gate| more.iter().map(move |relations| [gate.clone(), relations.clone()].concat()));
-    Ok(each.collect())
-}
-
-/// A condition as alternatives of relations that hold together; of its opposite where it isn't to hold.
-fn alternatives(condition: &Condition, holds: bool) -> Vec<Relations> {
-    match (condition, holds) {
-        (Condition::Relation(left, sign, right), _) => {
-            let sign = if holds { sign } else { opposite(sign) };
-            vec![vec![(left.clone(), sign, right.clone())]]
-        }
-        (Condition::Not(inside), _) => alternatives(inside, !holds),
-        (Condition::Or(left, right), true) | (Condition::And(left, right), false) => {
-            [alternatives(left, holds), alternatives(right, holds)].concat()
-        }
-        (Condition::And(left, right), true) | (Condition::Or(left, right), false) => {
-            let (left, right) = (alternatives(left, holds), alternatives(right, holds));
-            left.iter().flat_map(|one| right.iter().map(move |other| [one.clone(), other.clone()].concat())).collect()
-        }
-    }
-}
-
-/// How many alternatives there are.
-fn count(condition: &Condition, holds: bool) -> usize {
-    match (condition, holds) {
-        (Condition::Relation(..), _) => 1,
-        (Condition::Not(inside), _) => count(inside, !holds),
-        (Condition::Or(left, right), true) | (Condition::And(left, right), false) => {
-            count(left, holds).saturating_add(count(right, holds))
-        }
-        (Condition::And(left, right), true) | (Condition::Or(left, right), false) => {
-            count(left, holds).saturating_mul(count(right, holds))
-        }
-    }
-}
-
-fn opposite(sign: &str) -> &'static str {
-    match sign {
-        "<" => ">=",
-        "<=" => ">",
-        ">" => "<=",
-        ">=" => "<",
-        "==" => "!=",
-        _ => "==",
-    }
 }
 
 fn first_place(process: &Process) -> usize {

@@ -1,6 +1,6 @@
 //! How many decimals each parameter's whole number stands for.
 
-use super::form::Scope;
+use super::form::{Locals, Scope};
 use super::say::{after, Trouble};
 use super::tree::*;
 
@@ -58,7 +58,7 @@ impl Scales {
     }
 
     /// Raises the decimals of what a process calls.
-    fn follow(&mut self, model: &Model, process: &Process, locals: &[(String, u32)]) -> Result<(), Trouble> {
+    fn follow(&mut self, model: &Model, process: &Process, locals: &Locals) -> Result<(), Trouble> {
         match process {
             Process::Prefix(action, _, Some(then)) => self.follow(model, then, &after(action, locals)),
             Process::Prefix(_, _, None) => Ok(()),

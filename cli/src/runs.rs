@@ -20,6 +20,7 @@ pub const UNTIL: Opt = Opt { name: "--until", value: "T", about: "end each run a
 pub const STEPS: Opt = Opt { name: "--steps", value: "M", about: "end each run after this many steps (100000)" };
 pub const THREADS: Opt = Opt { name: "--threads", value: "K", about: "how many threads (1); the output is the same" };
 const MOST_STEPS: u64 = 100_000;
+const MOST_THREADS: u64 = 256;
 
 /// Which runs are made.
 pub struct Plan {
@@ -36,7 +37,7 @@ impl Plan {
             seed: given.number(SEED.name, 1, 0)?,
             first: given.number(FIRST.name, 1, 0)?,
             runs: given.number(RUNS.name, 1, 1)?,
-            threads: given.number(THREADS.name, 1, 1)?,
+            threads: given.number(THREADS.name, 1, 1)?.min(MOST_THREADS),
             bounds: bounds(given)?,
         };
         let last = plan.first.checked_add(plan.runs);
@@ -85,9 +86,11 @@ fn together<T: Send>(threads: u64, runs: std::ops::Range<u64>, make: impl Fn(u64
         made.lock().expect("no thread fails").push((run, result));
     };
     thread::scope(|scope| {
-        for _ in 0..threads.min(runs.end - runs.start) {
-            thread::Builder::new().stack_size(STACK).spawn_scoped(scope, work).expect("a thread");
+        for _ in 1..threads.min(runs.end - runs.start) {
+            // With fewer threads than were asked for the same runs are made.
+            let _ = thread::Builder::new().stack_size(STACK).spawn_scoped(scope, work);
         }
+        work();
     });
     let mut made = made.into_inner().expect("no thread fails");
     made.sort_by_key(|(run, _)| *run);

@@ -2,9 +2,11 @@
  * the waiting draws that it used and its draw, and after the text and each step a `clock` and a `state`, so that `calls` prints the time
  * of each step before its state. The run ends after STEPS steps or when nothing can happen. The draws come from a plain generator: a seed
  * gives the same run everywhere. */
+#include <errno.h>
 #include <inttypes.h>
 #include <stdio.h>
 #include <stdlib.h>
+#include <string.h>
 
 #include "matgravel.h"
 
@@ -46,35 +48,66 @@ static void print_step(uint64_t used, uint64_t draw) {
     printf("time %" PRIu64 "\nclock\nstate\n", draw);
 }
 
-static int refused(matgravel_answer a) {
-    fprintf(stderr, "refused,%" PRIu64 ",%" PRIu64 ",%" PRIu64 "\n", a.number, a.place, a.branch);
+/* Says on standard error what was refused, and where: of a text by line and column, both from 1. */
+static int refused(const char *name, matgravel_answer a) {
+    uint64_t line = 1, column = 1;
+    for (uint64_t i = 0; i < a.place && i < sizeof text; i++) {
+        line += text[i] == '\n';
+        column = text[i] == '\n' ? 1 : column + 1;
+    }
+    if ((a.number >= 2 && a.number <= 10) || a.number == 29)
+        fprintf(stderr, "%s:%" PRIu64 ":%" PRIu64 ": ", name, line, column);
+    else if (a.number == 12)
+        fprintf(stderr, "%s: process %" PRIu64 ", branch %" PRIu64 ": ", name, a.place, a.branch);
+    else
+        fprintf(stderr, "%s: ", name);
+    fprintf(stderr, "refused %" PRIu64 " (docs/USING.md, Refusals)\n", a.number);
     return 1;
 }
 
+/* A whole number, and nothing after it. */
+static int read_number(const char *word, uint64_t *number) {
+    char *end;
+    errno = 0;
+    *number = strtoull(word, &end, 10);
+    if (errno == 0 && *word >= '0' && *word <= '9' && *end == 0) return 1;
+    fprintf(stderr, "%s: this is no whole number\n", word);
+    return 0;
+}
+
+/* Reads the text. Returns 0, with a message, where there is none. */
+static int read_text(const char *name, size_t *size) {
+    FILE *file = fopen(name, "rb");
+    if (file != NULL) *size = fread(text, 1, sizeof text, file);
+    int read = file != NULL && !ferror(file);
+    if (!read) fprintf(stderr, "%s: %s\n", name, strerror(errno));
+    if (file != NULL) fclose(file);
+    return read;
+}
+
 int main(int words, char **word) {
-    FILE *file = words == 4 ? fopen(word[1], "rb") : NULL;
-    if (file == NULL) {
+    uint64_t seed, steps;
+    size_t size;
+    if (words != 4) {
         fprintf(stderr, "run MODEL SEED STEPS\n");
         return 2;
     }
-    size_t size = fread(text, 1, sizeof text, file);
-    fclose(file);
-    uint64_t seed = strtoull(word[2], NULL, 10), steps = strtoull(word[3], NULL, 10);
+    if (!read_text(word[1], &size) || !read_number(word[2], &seed) || !read_number(word[3], &steps)) return 2;
 
     matgravel_answer a = matgravel_open(text, size, model, MATGRAVEL_MODEL, state, MATGRAVEL_STATE, saves, MATGRAVEL_SAVES, &now);
-    if (a.number != 0) return refused(a);
+    if (a.number != 0) return refused(word[1], a);
     printf("open %zu\n", size);
     fwrite(text, 1, size, stdout);
     printf("\nclock\nstate\n");
     for (uint64_t taken = 0; taken < steps; taken++) {
         a = matgravel_list(model, MATGRAVEL_MODEL, state, MATGRAVEL_STATE, listing, MATGRAVEL_LISTING);
-        if (a.number != 0) return refused(a);
+        if (a.number != 0) return refused(word[1], a);
         if (a.total == 0) break;
         uint64_t draw = draw_below(a.total, &seed), before = now.draws;
         draw_waiting(&seed);
         a = matgravel_timed_step(model, MATGRAVEL_MODEL, state, MATGRAVEL_STATE, listing, MATGRAVEL_LISTING, waiting,
                                  sizeof waiting / sizeof *waiting, draw, &now);
-        if (a.number != 0) return refused(a);
+        if (a.number != 0) return refused(word[1], a);
         print_step(now.draws - before, draw);
     }
     return 0;

@@ -18,6 +18,9 @@ import argparse
 import itertools
 import sys
 
+# A text has fewer sums than tokens.
+SUMS = 4096
+
 # The state's layout, docs/LAYOUT.md.
 STATE = 5122
 PROCESSES = 256
@@ -53,6 +56,8 @@ def sum_numbers(words):
     numbers = set()
     for word in words.split(","):
         first, _, last = word.partition("-")
+        if int(last or first) >= SUMS:
+            raise argparse.ArgumentTypeError(f"sum numbers are below {SUMS}")
         numbers.update(range(int(first), int(last or first) + 1))
     return numbers
 
@@ -70,6 +75,19 @@ def channel(words):
     return (len(items) // 2, *items, *[0] * (2 * ITEMS - len(items)))
 
 
+def whole_numbers(line):
+    """The numbers of a line, of 64 bits with or without a sign; none if it has anything else."""
+    try:
+        numbers = [int(word) for word in line.split()]
+    except ValueError:
+        return []
+    return numbers if all(-(2**63) <= number < 2**64 for number in numbers) else []
+
+
+def is_state(numbers):
+    return len(numbers) == STATE and all(0 <= count <= PROCESSES for count in numbers[:FIRST_PROCESS])
+
+
 def states(lines):
     """The states that were printed: each one's sum numbers, its pairs, and the ticks of the last clock before it, if any."""
     time = None
@@ -78,13 +96,13 @@ def states(lines):
             continue
         if line.startswith("bad,"):
             sys.exit(f"the script has a line of another form: {line.strip()}")
-        numbers = [int(word) for word in line.split()]
+        numbers = whole_numbers(line)
         if len(numbers) == ANSWER:
             if numbers[0] != 0:
                 sys.stderr.write(f"line {place}: refused, {numbers[0]}\n")
         elif len(numbers) == CLOCK:
             time = numbers[0]
-        elif len(numbers) == STATE:
+        elif is_state(numbers):
             ends = FIRST_PROCESS + PROCESS * numbers[0], FIRST_PAIR + PAIR * numbers[1]
             sums = numbers[FIRST_PROCESS : ends[0] : PROCESS]
             pairs = [tuple(numbers[at : at + PAIR]) for at in range(FIRST_PAIR, ends[1], PAIR)]
@@ -210,10 +228,16 @@ def main():
     parser.add_argument("--channel", type=channel, metavar="ITEMS", help="the channel to draw, as name:0 or name:0,number:5")
     parser.add_argument("--title", default="A run", help="the picture's title")
     options = parser.parse_args()
+    if sys.stdin is None:
+        sys.exit("standard input is closed")
+    sys.stdin.reconfigure(errors="replace")
     runs = list(states(sys.stdin))
     if not runs:
         sys.exit("no state was printed: the script needs `state` lines")
-    print("\n".join(picture(runs, options)))
+    try:
+        print("\n".join(picture(runs, options)), flush=True)
+    except OSError as error:
+        sys.exit(f"standard output: {error}")
 
 
 if __name__ == "__main__":

@@ -18,11 +18,10 @@ use Rattle.token.specs.Token.{tokens, kindsOf}
 use Rattle.token.specs.Questions.{textLimit, tooLong, strayByte, tooDeep, ByteFault, DepthFault, First, bytesJudged}
 use Rattle.token.specs.Questions as bytes
 use Rattle.token.proofs.Faults.{stray-first, deep-first}
-use Rattle.grammar.specs.Grammar.{Reads, Wrong}
-use Rattle.grammar.specs.Grammar as derived
 use Rattle.grammar.specs.Syntax
 use Rattle.grammar.specs.Syntax.{syntaxOf}
-use Rattle.grammar.proofs.Judged.{judged}
+use Rattle.grammar.specs.Verdict.{Verdict, fitting, failing, verdict}
+use Rattle.grammar.proofs.Verdict.{Says, says}
 use Rattle.grammar.proofs.Fitting.{place-of-texts}
 use Rattle.model.specs.Lists.{least}
 use Rattle.model.specs.Sites.{system}
@@ -164,15 +163,15 @@ module _ (text : List ℕ) where
   abbrev kinds : List ℕ
   kinds = kindsOf (tokens text)
 
-  five : Yes2 text → Yes3 text → Yes4 text → (j : ((d : derived.Model) × Reads kinds d) ⊎ ((k : ℕ) × Wrong kinds k)) → Answers text (readJudged text kinds j)
+  five : Yes2 text → Yes3 text → Yes4 text → (v : Verdict) → Says kinds v → Answers text (readJudged text v)
   unfolding readJudged
-  five y2 y3 y4 (inl r) = six (syntaxOf (r .0)) y2 y3 y4 (record { reading = r .0; reads = r .1; tree = refl })
-  five y2 y3 y4 (inr x) = no5 y2 y3 y4 (place-of-texts text (x .0) .0 (x .1))
+  five y2 y3 y4 (fitting d) r = six (syntaxOf d) y2 y3 y4 (record { reading = d; reads = r; tree = refl })
+  five y2 y3 y4 (failing k) w = no5 y2 y3 y4 (place-of-texts text k .0 w)
 
   four : (f : Found) → Yes2 text → Yes3 text → First (DepthFault text) f → Answers text (afterBytes text (bytes.asked 4 f Passed))
   unfolding afterBytes bytes.asked
   four (At p) y2 y3 h = no4 y2 y3 h
-  four Nothing y2 y3 h = five y2 y3 h (judged kinds)
+  four Nothing y2 y3 h = five y2 y3 h (verdict kinds) (says kinds)
 
   three : (f : Found) → Yes2 text → First (ByteFault text) f → Answers text (afterBytes text (bytes.asked 3 f after3))
   unfolding afterBytes bytes.asked

@@ -17,12 +17,11 @@ use Rattle.token.specs.declared.Judged.the-variants.{Passed}
 use Rattle.token.specs.Token.{tokens, kindsOf}
 use Rattle.token.specs.Questions.{textLimit, tooLong, strayByte, tooDeep, First, bytesJudged}
 use Rattle.token.specs.Questions as bytes
-use Rattle.grammar.specs.Grammar.{Reads, Wrong}
-use Rattle.grammar.specs.Grammar as derived
 use Rattle.grammar.specs.Syntax
 use Rattle.grammar.specs.Syntax.{syntaxOf}
 use Rattle.grammar.specs.Limit.{tokenLimit}
-use Rattle.grammar.proofs.Judged.{judged}
+use Rattle.grammar.specs.Verdict.{Verdict, fitting, failing, verdict}
+use Rattle.grammar.proofs.Verdict.{Says, says}
 use Rattle.model.specs.Lists.{least}
 use Rattle.model.specs.Sites.{system}
 use Rattle.model.specs.Words.{wordOf}
@@ -87,15 +86,15 @@ module _ (text : List ℕ) where
   abbrev kinds : List ℕ
   kinds = kindsOf (tokens text)
 
-  five : Yes2 text → (j : ((d : derived.Model) × Reads kinds d) ⊎ ((k : ℕ) × Wrong kinds k)) → Agree (readHeld text kinds j) (readJudged text kinds j)
+  five : Yes2 text → (v : Verdict) → Says kinds v → Agree (readHeld text v) (readJudged text v)
   unfolding readHeld readJudged
-  five y2 (inl r) = six (syntaxOf (r .0)) y2 (record { reading = r .0; reads = r .1; tree = refl })
-  five y2 (inr x) = refuses 5 (omega arith)
+  five y2 (fitting d) r = six (syntaxOf d) y2 (record { reading = d; reads = r; tree = refl })
+  five y2 (failing k) w = refuses 5 (omega arith)
 
   four : (f : Found) → Yes2 text → Agree (bytesHeld text (bytes.asked 4 f Passed)) (afterBytes text (bytes.asked 4 f Passed))
   unfolding bytesHeld afterBytes bytes.asked
   four (At p) y2 = refuses 4 (omega arith)
-  four Nothing y2 = five y2 (judged kinds)
+  four Nothing y2 = five y2 (verdict kinds) (says kinds)
 
   abbrev after3 : Judged
   after3 = bytes.asked 4 (tooDeep 0 false 0 text) Passed

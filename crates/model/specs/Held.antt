@@ -1,17 +1,14 @@
 -- Which model a text holds: questions 2 to 9 of opening (Opening.antt), which list and step ask of the text in a lent model buffer. Definitions only.
 use mathlib.Core.List.{List}
-use mathlib.Core.Logic.{_⊎_, inl, inr}
 use mathlib.Core.Option.{Option, none, some}
 use Prim.Native.Nat.{ℕ}
 use Rattle.token.specs.declared.Judged.{Judged}
 use Rattle.token.specs.declared.Judged.the-variants.{Refused, Passed}
 use Rattle.token.specs.Token.{tokens, kindsOf}
 use Rattle.token.specs.Questions.{bytesJudged}
-use Rattle.grammar.specs.Grammar.{Reads, Wrong}
-use Rattle.grammar.specs.Grammar as derived
 use Rattle.grammar.specs.Syntax
 use Rattle.grammar.specs.Syntax.{syntaxOf}
-use Rattle.grammar.proofs.Judged.{judged}
+use Rattle.grammar.specs.Verdict.{Verdict, fitting, failing, verdict}
 use Rattle.model.specs.Lists.{least}
 use Rattle.model.specs.Words.{wordOf}
 use Rattle.model.specs.Limits.{beyond}
@@ -33,14 +30,14 @@ modelIn (refused n p) = none
 modelIn (opened m) = some m
 
 -- 5
-unfoldable pub readHeld : (text ts : List ℕ) → ((m : derived.Model) × Reads ts m) ⊎ ((k : ℕ) × Wrong ts k) → Option Model
-readHeld text ts (inl r) = modelIn (treeHeld text (syntaxOf (r .0)))
-readHeld text ts (inr w) = none
+unfoldable pub readHeld : List ℕ → Verdict → Option Model
+readHeld text (fitting d) = modelIn (treeHeld text (syntaxOf d))
+readHeld text (failing k) = none
 
 -- 2 to 4
 unfoldable pub bytesHeld : List ℕ → Judged → Option Model
 bytesHeld text (Refused n p) = none
-bytesHeld text Passed = readHeld text (kindsOf (tokens text)) (judged (kindsOf (tokens text)))
+bytesHeld text Passed = readHeld text (verdict (kindsOf (tokens text)))
 
 -- 01, State: a text within questions 2 to 9, and the model that it holds
 unfoldable pub held : List ℕ → Option Model

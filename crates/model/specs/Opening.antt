@@ -1,7 +1,6 @@
 -- What opening a text answers, questions 2 to 10 in order (01, Opening a text): a number with a byte's place, or the model. Assumes nothing: these are definitions.
 use mathlib.Core.List.{List, [], _∷_}
 use mathlib.Core.Bool.{cond}
-use mathlib.Core.Logic.{_⊎_, inl, inr}
 use Prim.Native.Nat.{ℕ, zero, suc, _+_, _*_}
 use lib.Dec.{leb, ltb}
 use lib.ListN.{length}
@@ -12,11 +11,9 @@ use Rattle.token.specs.declared.Judged.the-variants.{Refused, Passed}
 use Rattle.token.specs.Token.{tokens, kindsOf}
 use Rattle.token.specs.Questions.{bytesJudged}
 use Rattle.grammar.specs.Limit.{tokenLimit}
-use Rattle.grammar.specs.Grammar.{Reads, Wrong}
-use Rattle.grammar.specs.Grammar as derived
 use Rattle.grammar.specs.Syntax
 use Rattle.grammar.specs.Syntax.{syntaxOf}
-use Rattle.grammar.proofs.Judged.{judged}
+use Rattle.grammar.specs.Verdict.{Verdict, fitting, failing, verdict}
 use Rattle.model.specs.Lists.{least}
 use Rattle.model.specs.Sites.{system}
 use Rattle.model.specs.Words.{placeOf, wordOf}
@@ -80,13 +77,13 @@ treeJudged text s =
     (asked text 10 (crowded s m) (opened m)))))
 
 -- 5: the text's one reading, or the place at which it goes wrong
-unfoldable pub readJudged : (text ts : List ℕ) → ((m : derived.Model) × Reads ts m) ⊎ ((k : ℕ) × Wrong ts k) → Opening
-readJudged text ts (inl r) = treeJudged text (syntaxOf (r .0))
-readJudged text ts (inr w) = refused 5 (bytePlace text (w .0))
+unfoldable pub readJudged : List ℕ → Verdict → Opening
+readJudged text (fitting d) = treeJudged text (syntaxOf d)
+readJudged text (failing k) = refused 5 (bytePlace text k)
 
 unfoldable pub afterBytes : List ℕ → Judged → Opening
 afterBytes text (Refused n p) = refused n p
-afterBytes text Passed = readJudged text (kindsOf (tokens text)) (judged (kindsOf (tokens text)))
+afterBytes text Passed = readJudged text (verdict (kindsOf (tokens text)))
 
 -- 2 to 10
 unfoldable pub opening : List ℕ → Opening

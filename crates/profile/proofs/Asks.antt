@@ -1,15 +1,13 @@
 -- What opening under the steady profile comes to: a refusal of a plain opening, or 29 of the text's syntax tree, of which there is one. From what opening answers.
 use mathlib.Core.Path.{_≡_, sym, ap, _∙_}
 use mathlib.Core.List.{List}
-use mathlib.Core.Logic.{_⊎_, inl, inr}
 use Prim.Native.Nat.{ℕ, _≤_}
 use native.Mathlib.Omega.{arith}
 use Rattle.token.specs.Token.{tokens, kindsOf}
-use Rattle.grammar.specs.Grammar.{Reads, Wrong}
-use Rattle.grammar.specs.Grammar as derived
 use Rattle.grammar.specs.Syntax
 use Rattle.grammar.specs.Syntax.{syntaxOf}
-use Rattle.grammar.proofs.Judged.{judged}
+use Rattle.grammar.specs.Verdict.{Verdict, fitting, failing, verdict}
+use Rattle.grammar.proofs.Verdict.{verdict-fits}
 use Rattle.grammar.proofs.Unique.{unique}
 use Rattle.model.specs.Lists.{least}
 use Rattle.model.specs.Words.{wordOf}
@@ -77,20 +75,19 @@ module _ (text : List ℕ) where
 
   -- ---- 29 of a text that is refused, and of one that is opened
 
-  by-refusal : {n p : ℕ} (j : ((d : derived.Model) × Reads ts d) ⊎ ((k : ℕ) × Wrong ts k)) → opening text ≡ refused n p → readSteady text ts j (opening text) ≡ refused n p
+  by-refusal : {n p : ℕ} (v : Verdict) → opening text ≡ refused n p → readSteady text v (opening text) ≡ refused n p
   unfolding readSteady alsoSteady
-  by-refusal (inl r) e = rw e
-  by-refusal (inr w) e = e
+  by-refusal (fitting d) e = rw e
+  by-refusal (failing k) e = e
 
   pub refused-so : {n p : ℕ} → opening text ≡ refused n p → openingSteady text ≡ refused n p
   unfolding openingSteady
-  refused-so e = by-refusal (judged ts) e
+  refused-so e = by-refusal (verdict ts) e
 
-  by-tree : {s : Syntax.Model} (j : ((d : derived.Model) × Reads ts d) ⊎ ((k : ℕ) × Wrong ts k)) (o : Opening) → Yes5 text s → readSteady text ts j o ≡ alsoSteady text s o
+  by-tree : {s : Syntax.Model} (o : Opening) → Yes5 text s → readSteady text (verdict ts) o ≡ alsoSteady text s o
   unfolding readSteady
-  by-tree (inl r) o y = ap (λ (x : Syntax.Model). alsoSteady text x o) (ap syntaxOf (unique ts (r .0) (y .reading) (r .1) (y .reads)) ∙ y .tree)
-  by-tree (inr w) o y = absurd (w .1 .short (y .reading) (y .reads))
+  by-tree o y = ap (λ (v : Verdict). readSteady text v o) (verdict-fits ts (y .reading) (y .reads)) ∙ ap (λ (x : Syntax.Model). alsoSteady text x o) (y .tree)
 
   pub opened-asks : {s : Syntax.Model} {m : Model} → Yes5 text s → opening text ≡ opened m → openingSteady text ≡ asked text 29 (least (unsteady (wordOf text) s)) (opened m)
   unfolding openingSteady alsoSteady
-  opened-asks {s} y e = by-tree (judged ts) (opening text) y ∙ ap (alsoSteady text s) e
+  opened-asks {s} y e = by-tree (opening text) y ∙ ap (alsoSteady text s) e

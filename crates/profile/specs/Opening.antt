@@ -1,16 +1,13 @@
 -- What opening a text under the steady profile answers (02, note 11): as opening does, and after 10 question 29. proofs/InOrder.antt shows that this is what the questions
 -- say. Assumes nothing: these are definitions.
 use mathlib.Core.List.{List}
-use mathlib.Core.Logic.{_⊎_, inl, inr}
 use Prim.Native.Nat.{ℕ}
 use Rattle.token.specs.declared.Found.the-variants.{At}
 use Rattle.token.specs.Token.{tokens, kindsOf}
 use Rattle.token.specs.Questions.{First}
-use Rattle.grammar.specs.Grammar.{Reads, Wrong}
-use Rattle.grammar.specs.Grammar as derived
 use Rattle.grammar.specs.Syntax
 use Rattle.grammar.specs.Syntax.{syntaxOf}
-use Rattle.grammar.proofs.Judged.{judged}
+use Rattle.grammar.specs.Verdict.{Verdict, fitting, failing, verdict}
 use Rattle.model.specs.Lists.{least}
 use Rattle.model.specs.Words.{wordOf}
 use Rattle.model.specs.Resolved.{Model}
@@ -24,13 +21,13 @@ alsoSteady text s (refused n p) = refused n p
 alsoSteady text s (opened m) = asked text 29 (least (unsteady (wordOf text) s)) (opened m)
 
 -- of a text's one reading; a text that goes wrong is refused before
-unfoldable pub readSteady : (text ts : List ℕ) → ((d : derived.Model) × Reads ts d) ⊎ ((k : ℕ) × Wrong ts k) → Opening → Opening
-readSteady text ts (inl r) o = alsoSteady text (syntaxOf (r .0)) o
-readSteady text ts (inr w) o = o
+unfoldable pub readSteady : List ℕ → Verdict → Opening → Opening
+readSteady text (fitting d) o = alsoSteady text (syntaxOf d) o
+readSteady text (failing k) o = o
 
 -- 2 to 10, then 29
 unfoldable pub openingSteady : List ℕ → Opening
-openingSteady text = readSteady text (kindsOf (tokens text)) (judged (kindsOf (tokens text))) (opening text)
+openingSteady text = readSteady text (verdict (kindsOf (tokens text))) (opening text)
 
 -- ---- the first no, with its place, or yes to all
 

@@ -20,6 +20,7 @@ pub mod Steady
 pub mod Reached
 pub mod Opens
 pub mod Numbers
+pub mod Eleven
 pub mod Saves
 pub mod Full
 pub mod Called

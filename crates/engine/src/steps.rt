@@ -26,7 +26,7 @@ pub struct Fresh;
 
 impl Fresh {
     // The numbers of as many processes as a state holds.
-    pub const NUMBERS: usize = 2560;
+    pub const NUMBERS: usize = state::Layout::ALL_PROCESSES;
 }
 
 // Entry c of a listing.

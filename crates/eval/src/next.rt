@@ -27,7 +27,7 @@ pub enum Next {
 
 impl Next {
     // where counting stops: four times as many processes as a state holds
-    pub const MOST: usize = 1024;
+    pub const MOST: usize = 4 * model::Limits::PROCESSES;
 }
 
 // The continuation of the branch at k behind its gate, if it has one.
@@ -137,12 +137,12 @@ pub fn count_processes(nodes: &[u64], root: usize, variables: usize, k: usize) -
 pub struct Row;
 
 impl Row {
-    pub const LOCALS: usize = 8;
+    pub const LOCALS: usize = model::Limits::LOCALS;
 
     // Where the definition stands.
-    pub const DEFINITION: usize = 9;
+    pub const DEFINITION: usize = state::Layout::DEFINITION;
 
-    pub const WIDTH: usize = 10;
+    pub const WIDTH: usize = state::Layout::PROCESS;
 }
 
 // Number j of a process.

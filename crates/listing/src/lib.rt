@@ -53,9 +53,9 @@ pub struct Limits;
 
 impl Limits {
     // Entries that the buffer has room for, and numbers of one.
-    pub const ENTRIES: usize = 1024;
+    pub const ENTRIES: usize = machine::Limits::ENTRIES;
 
-    pub const ENTRY: usize = 7;
+    pub const ENTRY: usize = machine::Limits::ENTRY;
 
     // Where an entry's kind, its place, its partner and its weight stand.
     pub const KIND: usize = 0;

@@ -46,16 +46,16 @@ impl Limits {
 
     pub const VARIABLES: usize = 64;
 
-    pub const DEFINITIONS: usize = 64;
+    pub const DEFINITIONS: usize = model::Limits::DEFINITIONS;
 
     // parameters of a definition
     pub const PARAMETERS: usize = 6;
 
     // locals in scope together
-    pub const LOCALS: usize = 8;
+    pub const LOCALS: usize = model::Limits::LOCALS;
 
     // branches of a sum
-    pub const BRANCHES: usize = 16;
+    pub const BRANCHES: usize = model::Limits::BRANCHES;
 }
 
 // Where a model's variables and definitions stand: variable j in node root - j, definition j left of node root - variables - j.

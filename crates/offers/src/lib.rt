@@ -27,8 +27,8 @@ ghost use Rattle.offers.specs.Links.{rowLimit, rowWidth, bucketLimit, bu
 pub struct Table;
 
 impl Table {
-    // The most rows: 256 processes of 16 branches.
-    pub const ROWS: usize = 4096;
+    // The most rows: every branch of every process.
+    pub const ROWS: usize = model::Limits::PROCESSES * model::Limits::BRANCHES;
 
     // Rows of a small table.
     pub const FEW: usize = 256;

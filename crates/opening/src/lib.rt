@@ -28,7 +28,7 @@ pub struct Limits;
 
 impl Limits {
     // processes at the start
-    pub const PROCESSES: usize = 256;
+    pub const PROCESSES: usize = model::Limits::PROCESSES;
 }
 
 // What stands before the name of an item with a count: the count and `*`.

@@ -10,6 +10,13 @@ use syntax::question::Asked;
 use token::Judged;
 use token::Limits;
 
+struct Input;
+
+impl Input {
+    // Bytes that are read: one more than a text may have.
+    const MOST: usize = Limits::TEXT + 1;
+}
+
 fn put(s: &[u8]) {
     io::write_all(STDOUT_FILENO, s);
 }
@@ -65,7 +72,7 @@ fn put_read(text: &[u8])
 }
 
 fn show(fd: i32) {
-    let mut space = [0u8; 16385];
+    let mut space = [0u8; Input::MOST];
     let n = io::read_full(fd, &mut space);
     let text = &space[..n];
     let judged = token::judge_bytes(text);

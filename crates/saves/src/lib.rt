@@ -24,17 +24,17 @@ impl Layout {
     // Numbers of a name; of a state, which stands after it; of that and a clock's two.
     pub const KEY: usize = 2;
 
-    pub const STATE: usize = 5122;
+    pub const STATE: usize = state::Layout::NUMBERS;
 
-    pub const KEPT: usize = 5124;
+    pub const KEPT: usize = Layout::STATE + 2;
 
     // Numbers of a place.
-    pub const PLACE: usize = 5126;
+    pub const PLACE: usize = Layout::KEY + Layout::KEPT;
 
     // Places, and the numbers of all.
     pub const PLACES: usize = 8;
 
-    pub const SAVES: usize = 41008;
+    pub const SAVES: usize = Layout::PLACES * Layout::PLACE;
 
     // No word of fewer than eight letters is as large.
     pub const FULL: u64 = 72057594037927936;

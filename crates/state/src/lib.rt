@@ -19,19 +19,24 @@ ghost use Rattle.state.specs.Test.{at, placeOf, isLit, valuesPast, every
 pub struct Layout;
 
 impl Layout {
-    // Past the greatest count of processes or pairs.
-    pub const COUNTS: usize = 257;
+    // Past the greatest count of processes, and of pairs.
+    pub const PROCESS_COUNTS: usize = model::Limits::PROCESSES + 1;
+
+    pub const PAIR_COUNTS: usize = machine::Limits::PAIRS + 1;
 
     // Where the processes stand, and numbers of one.
     pub const PROCESSES: usize = 2;
 
-    pub const PROCESS: usize = 10;
+    pub const PROCESS: usize = model::Limits::LOCALS + 2;
 
     // Where the definition stands among the numbers of a process: after the sum and all locals.
-    pub const DEFINITION: usize = 9;
+    pub const DEFINITION: usize = model::Limits::LOCALS + 1;
+
+    // The numbers of as many processes as a state holds.
+    pub const ALL_PROCESSES: usize = model::Limits::PROCESSES * Layout::PROCESS;
 
     // Where the pairs stand, and numbers of one.
-    pub const PAIRS: usize = 2562;
+    pub const PAIRS: usize = Layout::PROCESSES + Layout::ALL_PROCESSES;
 
     pub const PAIR: usize = 10;
 
@@ -44,6 +49,9 @@ impl Layout {
     pub const VALUES: usize = 8;
 
     pub const VALUE_COUNTS: usize = 3;
+
+    // Numbers of a state.
+    pub const NUMBERS: usize = Layout::PAIRS + machine::Limits::PAIRS * Layout::PAIR;
 }
 
 fn is_value(z: i64) -> bool
@@ -311,11 +319,11 @@ pub fn is_state(state: &[i64], scopes: &[u16], sums: usize, channels: usize) -> 
     ensures { λ r. ⌜ r ≡ isState (take sums (now (scopes .entry))) channels (now (state .entry)) ⌝ }
 {
     let processes = state[0];
-    if !is_below(processes, Layout::COUNTS) {
+    if !is_below(processes, Layout::PROCESS_COUNTS) {
         return false;
     }
     let pairs = state[1];
-    if !is_below(pairs, Layout::COUNTS) {
+    if !is_below(pairs, Layout::PAIR_COUNTS) {
         return false;
     }
     if !are_processes(

@@ -9,12 +9,12 @@ use value::Range;
 // The length of a state's numbers, and a model with three sums and two channel names. Sum 1 stands in definition 1, the others in definition 0.
 struct Sample;
 
-type Numbers = [i64; 5122];
+type Numbers = [i64; Layout::NUMBERS];
 
 type Row = [i64; 10];
 
 impl Sample {
-    const LENGTH: usize = 5122;
+    const LENGTH: usize = Layout::NUMBERS;
 
     const SUMS: usize = 3;
 
@@ -45,7 +45,7 @@ fn push(state: &mut Numbers, sum: u8, locals: &[i64], definition: u8) {
     if !is_good(state) {
         return;
     }
-    if Layout::COUNTS <= state::process_count(state) + 1 {
+    if Layout::PROCESS_COUNTS <= state::process_count(state) + 1 {
         return;
     }
     if Layout::DEFINITION <= locals.len() {
@@ -58,7 +58,7 @@ fn launch(state: &mut Numbers, row: &Row) {
     if !is_good(state) {
         return;
     }
-    if Layout::COUNTS <= state::pair_count(state) + 1 {
+    if Layout::PAIR_COUNTS <= state::pair_count(state) + 1 {
         return;
     }
     state::launch_pair(state, row);
@@ -80,7 +80,7 @@ fn split(state: &mut Numbers, place: usize) {
     if n <= place {
         return;
     }
-    if Layout::COUNTS <= n + 1 {
+    if Layout::PROCESS_COUNTS <= n + 1 {
         return;
     }
     let fresh = [1, 0, 0, 0, 0, 0, 0, 0, 0, 1, 1, 0, 0, 0, 0, 0, 0, 0, 0, 1];

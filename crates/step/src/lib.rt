@@ -92,11 +92,11 @@ pub struct Room;
 
 impl Room {
     // A process's locals with two names more.
-    pub const LOCALS: usize = 10;
+    pub const LOCALS: usize = model::Limits::LOCALS + 2;
 
-    pub const PROCESSES: usize = 256;
+    pub const PROCESSES: usize = model::Limits::PROCESSES;
 
-    pub const PAIRS: usize = 256;
+    pub const PAIRS: usize = machine::Limits::PAIRS;
 }
 
 fn none_bound() -> Bound

@@ -15,13 +15,13 @@ impl Engine {
     // The lengths of the lent buffers.
     pub const MODEL: usize = buffer::Bytes::FIRST + buffer::Bytes::MOST;
 
-    pub const STATE: usize = 5122;
+    pub const STATE: usize = state::Layout::NUMBERS;
 
-    pub const LISTING: usize = 7168;
+    pub const LISTING: usize = machine::Limits::LISTING;
 
-    pub const REPORT: usize = 64;
+    pub const REPORT: usize = model::Limits::DEFINITIONS;
 
-    pub const SAVES: usize = 41008;
+    pub const SAVES: usize = saves::Layout::SAVES;
 
     // Closed, no process, no pair.
     pub fn fresh() -> Self

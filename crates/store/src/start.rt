@@ -28,7 +28,7 @@ pub struct Locals;
 
 impl Locals {
     // Locals of a process.
-    pub const MOST: usize = 8;
+    pub const MOST: usize = model::Limits::LOCALS;
 }
 
 // Pushes a process of a sum.

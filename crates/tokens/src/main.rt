@@ -10,6 +10,13 @@ use token::Judged;
 use token::Kind;
 use token::Limits;
 
+struct Input;
+
+impl Input {
+    // Bytes that are read: one more than a text may have.
+    const MOST: usize = Limits::TEXT + 1;
+}
+
 fn put(s: &[u8]) {
     io::write_all(STDOUT_FILENO, s);
 }
@@ -75,7 +82,7 @@ fn put_no(text: &[u8]) {
 }
 
 fn show(fd: i32) {
-    let mut space = [0u8; 16385];
+    let mut space = [0u8; Input::MOST];
     let n = io::read_full(fd, &mut space);
     let text = &space[..n];
     if n <= Limits::TEXT {

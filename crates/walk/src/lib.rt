@@ -28,22 +28,22 @@ pub struct Level;
 
 impl Level {
     // Numbers of a state, and of a listing.
-    pub const STATE: usize = 5122;
+    pub const STATE: usize = state::Layout::NUMBERS;
 
-    pub const LISTING: usize = 7168;
+    pub const LISTING: usize = machine::Limits::LISTING;
 
     // The longest run, and room for the states along it and for the listings of all but the last.
     pub const DEPTH: usize = 8;
 
     // Two states.
-    pub const PAIR: usize = 10244;
+    pub const PAIR: usize = 2 * Level::STATE;
 
-    pub const STATES: usize = 46098;
+    pub const STATES: usize = (Level::DEPTH + 1) * Level::STATE;
 
-    pub const LISTINGS: usize = 57344;
+    pub const LISTINGS: usize = Level::DEPTH * Level::LISTING;
 
     // The numbers of as many processes as a state holds.
-    pub const FRESH: usize = 2560;
+    pub const FRESH: usize = state::Layout::ALL_PROCESSES;
 }
 
 // What taking an entry comes to: it has weight zero; 17 to 19; or it is taken, and whether it is the wait.

@@ -12,7 +12,7 @@ use Rattle.token.specs.Token.{Mark, tokens, kindsOf, column}
 use Rattle.token.specs.Contents.{bytesOf}
 use Rattle.token.specs.Tiling.{Lexeme, Tiled}
 use Rattle.token.proofs.Tiles.{tiled}
-use Rattle.grammar.specs.Grammar.{Model, Reads, Begins, Wrong}
+use Rattle.grammar.specs.Grammar.{Model, Reads, Viable, Wrong}
 use Rattle.grammar.specs.Fitting.{Fits, spellings, Misfits}
 use Rattle.grammar.proofs.Judged.{judged}
 use Rattle.grammar.proofs.Spelled.{Spelt, kinds, words, written, kinds-are, words-are, speltIn, kinds-in, words-in}
@@ -72,8 +72,8 @@ module _ (text : List ℕ) where
         ∙ take-again k (spellings text) (words xs) (omega (arith, length-words (bytesOf text) (tokens text)))
 
   -- what begins a fitting list of kinds is begun by a fitting text with the same tokens
-  pub begun : (k : ℕ) → k ≤ length (tokens text) → Begins (take k ts) → (other : List ℕ) × Fits other × (take k (spellings other) ≡ take k (spellings text))
-  unfolding Begins
+  pub begun : (k : ℕ) → k ≤ length (tokens text) → Viable (take k ts) → (other : List ℕ) × Fits other × (take k (spellings other) ≡ take k (spellings text))
+  unfolding Viable
   begun k h (m, more, r) =
       let x = spelt-as more (used-back (take k ts) more (fits-used _ m r)) in
       (written (both k h (x .0)), (m, subst (λ (l : List ℕ). Reads l m) (sym (both-kinds k h (x .0) ∙ ap (λ (l : List ℕ). take k ts ++ l) (x .1))) r), both-words k h (x .0))
@@ -103,8 +103,8 @@ told text other n e = told-from other text 0 0 n (tokens other) (tokens text) (t
 -- ---- the place
 
 -- tokens that a fitting text has begin a fitting list of kinds
-begins-so : (text other : List ℕ) (n : ℕ) → Fits other → take n (spellings other) ≡ take n (spellings text) → Begins (take n (kindsOf (tokens text)))
-unfolding Begins
+begins-so : (text other : List ℕ) (n : ℕ) → Fits other → take n (spellings other) ≡ take n (spellings text) → Viable (take n (kindsOf (tokens text)))
+unfolding Viable
 begins-so text other n (m, r) e =
     (m, drop n (kindsOf (tokens other)), subst (λ (l : List ℕ). Reads l m) (sym (take-append-drop n (kindsOf (tokens other))) ∙ ap (λ (l : List ℕ). l ++ drop n (kindsOf (tokens other))) (told text other n e)) r)
 

@@ -13,7 +13,7 @@ use Rattle.token.specs.Bytes.{within, isBlank, isLetter, isDigit, isSign, sortO
 use Rattle.token.specs.Token.{sameBytes, pairs, absBytes, maxBytes, minBytes, unionBytes, interBytes, wordKind}
 use Rattle.token.specs.Tiling.Lexeme.{named, whole, decimal, single, double}
 use Rattle.grammar.specs.Grammar
-use Rattle.grammar.specs.Grammar.{Whole, Number, Expr, Terms, Term, Factors, Atom, Exprs, Args, Part, Parts, Set, Relation, Test, Ands, Ors, Cond, Scale, Rate, Values, Sets, Names, Channel, Action, Gate, Prefix, Next, Cont, Item, Items, Choices, Sums, Body, Params, Wholes, Starts, Start, System, Definitions, Model, Reads, Begins}
+use Rattle.grammar.specs.Grammar.{Whole, Number, Expr, Terms, Term, Factors, Atom, Exprs, Args, Part, Parts, Set, Relation, Test, Ands, Ors, Cond, Scale, Rate, Values, Sets, Names, Channel, Action, Gate, Prefix, Next, Cont, Item, Items, Choices, Sums, Body, Params, Wholes, Starts, Start, System, Definitions, Model, Reads, Viable}
 use Rattle.grammar.specs.Grammar.{relationKind, flatWhole, flatNumber, flatExpr, flatTerms, flatTerm, flatFactors, flatAtom, flatExprs, flatArgs, flatPart, flatParts, flatSet, flatTest, flatAnds, flatOrs, flatCond, flatScale, flatRate, flatValues, flatSets, flatNames, flatChannel, flatAction, flatGate, flatPrefix, flatNext, flatCont, flatItem, flatItems, flatChoices, flatSums, flatBody, flatParams, flatWholes, flatStarts, flatStart, flatSystem, flatDefinitions, flatModel}
 use Rattle.grammar.proofs.Spelled.{Spelt, kinds}
 
@@ -300,8 +300,8 @@ not-stray ts e i = let q = used-in ts kind.other e i in let z : _≡_ {A = ℕ} 
 pub stray-fits-nowhere : (ts : List ℕ) (m : Model) → Reads ts m → In kind.other ts → ⊥
 stray-fits-nowhere ts m r i = not-stray ts (fits-used ts m r) i
 
-pub stray-begins-nothing : (us : List ℕ) → Begins us → In kind.other us → ⊥
-unfolding Begins
+pub stray-begins-nothing : (us : List ℕ) → Viable us → In kind.other us → ⊥
+unfolding Viable
 stray-begins-nothing us b i = not-stray us (used-front us (b .1) (fits-used _ (b .0) (b .2))) i
 
 -- ---- tokens of such kinds

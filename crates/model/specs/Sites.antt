@@ -3,7 +3,7 @@
 use mathlib.Core.List.{List, [], _∷_, _++_}
 use mathlib.Core.Bool.{Bool, true, false, cond, not}
 use Prim.Native.Nat.{ℕ, _+_}
-use Rattle.token.specs.Kind as kind
+use Rattle.token.specs.Byte as byte
 use Rattle.token.specs.Token.{sameBytes}
 use Rattle.grammar.specs.Syntax
 use Rattle.model.specs.Lists.{each, everyOther}
@@ -70,7 +70,7 @@ rateSites (Syntax.scaled s e) = scaleSites s ++ exprSites e
 -- 01, Actions: an item of a channel that is a lone name may be given or not; in brackets, which then end right after it, a name is used as a value
 -- (the tree of `(c)` is that of `c`; proofs/Lone.antt shows that this test tells them apart)
 unfoldable pub isLone : (ℕ → List ℕ) → ℕ → Bool
-isLone w k = not (sameBytes (w (k + 1)) (kind.closeRound ∷ []))
+isLone w k = not (sameBytes (w (k + 1)) (byte.closeRound ∷ []))
 
 unfoldable pub itemSites : (ℕ → List ℕ) → Syntax.Expr → List Site
 itemSites w (Syntax.literal b k) = exprSites (Syntax.literal b k)

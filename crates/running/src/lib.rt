@@ -30,13 +30,13 @@ pub struct Room;
 
 impl Room {
     // The numbers of a state.
-    pub const STATE: usize = 5122;
+    pub const STATE: usize = state::Layout::NUMBERS;
 
     // The numbers of as many processes as a state holds.
-    pub const FRESH: usize = 2560;
+    pub const FRESH: usize = state::Layout::ALL_PROCESSES;
 
     // The numbers of a listing.
-    pub const LISTING: usize = 7168;
+    pub const LISTING: usize = machine::Limits::LISTING;
 
     // The numbers of an event.
     pub const EVENT: usize = 8;

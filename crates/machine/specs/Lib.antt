@@ -14,6 +14,7 @@ pub mod Rows
 pub mod Refusals
 pub mod TimedRows
 pub mod SearchRows
+pub mod RunRows
 pub mod Starred
 pub mod Results
 pub mod Steady

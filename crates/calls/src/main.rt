@@ -1,3 +1,5 @@
+#![tactic(auto)]
+
 // Runs a script of calls from standard input, or from each file that an argument names, after a line `== NAME`. Each script has a fresh engine.
 //
 // A script has lines `open N`, which a text of N bytes and an LF follow, `list`, `step D`, `report`, `save NAME`, `return NAME`, `forget NAME`, `independent I J`, `state`, `wait W`, `time D`,
@@ -23,7 +25,7 @@ use output::Buffer;
 use script::Row;
 use store::Engine;
 
-#[derive(Drop)]
+#[derive(Clone, Copy)]
 struct Limits;
 
 impl Limits {
@@ -71,7 +73,7 @@ type Waiting = [u16; Limits::DRAWS];
 type Words = [u64; Limits::WORDS];
 
 // Where a run stands: the script, how many bytes of output wait, how many waiting draws and words are kept, and whether it has ended.
-#[derive(Drop)]
+#[derive(Clone, Copy)]
 struct Run {
     script: Script,
     waits: usize,

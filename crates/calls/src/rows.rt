@@ -3,7 +3,7 @@ use output::Buffer;
 use script::Row;
 use store::Engine;
 
-#[derive(Drop)]
+#[derive(Clone, Copy)]
 struct Size;
 
 impl Size {

@@ -1,3 +1,5 @@
+#![tactic(auto)]
+
 // The clock of an engine, and how a timed step brings it forward: by value.
 ghost use Rattle.std.specs.Prelude.{◌≡◌, ◌<◌, ◌≤◌};
 ghost use Rattle.waits.specs.Runs.{wait_limit};
@@ -7,7 +9,7 @@ use waits::{Limits, Wait};
 
 // Model time in ten-thousandths of a unit, and how many waiting draws were used.
 #[repr(C)]
-#[derive(Drop)]
+#[derive(Clone, Copy)]
 pub struct Clock {
     pub ticks: u64,
     pub draws: u64,
@@ -29,7 +31,7 @@ impl Clock {
 }
 
 // What bringing a clock forward gives: 0 and the clock afterwards, or 23 to 25 and the clock as it was.
-#[derive(Drop)]
+#[derive(Clone, Copy)]
 pub struct Brought {
     pub number: u64,
     pub clock: Clock,

@@ -1,3 +1,5 @@
+#![tactic(auto)]
+
 // The bench sheet: reads a model from standard input and prints its first listing, or `refused`, the refusal's number and its place, and for 12 also the branch.
 use clock::Clock;
 use engine::Answer;
@@ -5,7 +7,7 @@ use libc::STDIN_FILENO;
 use output::Buffer;
 use store::Engine;
 
-#[derive(Drop)]
+#[derive(Clone, Copy)]
 struct Input;
 
 impl Input {

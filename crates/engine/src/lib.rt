@@ -1,3 +1,5 @@
+#![tactic(auto)]
+
 // An engine: its calls open, open_steady, list, step, step_timed, report, save, return and forget, and what they answer.
 pub mod held;
 pub mod listings;
@@ -28,7 +30,7 @@ use store::buffer::{Bytes, Text};
 
 // What a call answers: 0 or a refusal's number; its place and branch; the listing's entries, their total, and the entry that a step took.
 #[repr(C)]
-#[derive(Drop)]
+#[derive(Clone, Copy)]
 pub struct Answer {
     pub number: u64,
     pub place: u64,
@@ -69,7 +71,7 @@ impl Answer {
 }
 
 // What a call that moves the clock gives: its answer, and the clock afterwards.
-#[derive(Drop)]
+#[derive(Clone, Copy)]
 pub struct Timed {
     pub answer: Answer,
     pub clock: Clock,
@@ -101,7 +103,7 @@ impl Timed {
 
 // What a run answers: 0 or the number of the refusal that ended it; the steps that it took, the words and waiting draws that these used; the count and total of its last listing.
 #[repr(C)]
-#[derive(Drop)]
+#[derive(Clone, Copy)]
 pub struct Ran {
     pub number: u64,
     pub steps: u64,
@@ -112,7 +114,7 @@ pub struct Ran {
 }
 
 // What a run gives: its answer, and the clock after its last accepted step.
-#[derive(Drop)]
+#[derive(Clone, Copy)]
 pub struct Simulated {
     pub ran: Ran,
     pub clock: Clock,

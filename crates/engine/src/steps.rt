@@ -16,7 +16,7 @@ use crate::{Answer, listings};
 use listing::{Chosen, Entry, Limits, Listed};
 use step::Taken;
 
-#[derive(Drop)]
+#[derive(Clone, Copy)]
 pub struct Fresh;
 
 impl Fresh {

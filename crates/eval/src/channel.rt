@@ -16,7 +16,7 @@ use tree::NodeKind;
 use value::Value;
 
 // An item: its kind (0 number, 1 name) and value; or MISSING and 0 where it has none.
-#[derive(Drop)]
+#[derive(Clone, Copy)]
 pub struct Item {
     pub kind: u8,
     pub value: i64,
@@ -28,7 +28,7 @@ impl Item {
 
 // A channel: its shape and the values of its items, 0 for those that aren't there. A shape is ITEMS times the count of items and the items' kinds, once, twice
 // and four times; it is 0 where an item has no value.
-#[derive(Drop)]
+#[derive(Clone, Copy)]
 pub struct Channel {
     pub shape: u8,
     pub first: i64,

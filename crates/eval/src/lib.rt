@@ -1,3 +1,5 @@
+#![tactic(auto)]
+
 // Evaluation over settled nodes: a part is given by its root in the table, a process by its locals.
 pub mod channel;
 pub mod next;
@@ -191,7 +193,7 @@ pub fn ends_known(nodes: &[u64], locals: &[i64], k: usize) -> bool
     ends_known(nodes, locals, i) && ends_known(nodes, locals, k - 1)
 }
 
-#[derive(Drop)]
+#[derive(Clone, Copy)]
 pub enum Truth {
     Yes,
     No,
@@ -269,13 +271,13 @@ pub fn holds(nodes: &[u64], locals: &[i64], k: usize) -> Truth
     holds(nodes, locals, k - 1)
 }
 
-#[derive(Drop)]
+#[derive(Clone, Copy)]
 pub enum Rate {
     Is(u64),
     Missing,
 }
 
-#[derive(Drop)]
+#[derive(Clone, Copy)]
 pub struct RateRange;
 
 impl RateRange {
@@ -353,7 +355,7 @@ pub fn rate_of(nodes: &[u64], locals: &[i64], k: usize) -> Rate
     times(scale, x)
 }
 
-#[derive(Drop)]
+#[derive(Clone, Copy)]
 pub enum Values {
     One(i64),
     Two(i64, i64),

@@ -17,7 +17,7 @@ use tree::NodeKind;
 use value::Value;
 
 // The root of a continuation.
-#[derive(Drop)]
+#[derive(Clone, Copy)]
 pub enum Next {
     At(usize),
     Nothing,
@@ -132,7 +132,7 @@ pub fn count_processes(nodes: &[u64], root: usize, variables: usize, k: usize) -
 }
 
 // The numbers of a process: its sum, its locals, the unused ones 0, then its definition.
-#[derive(Drop)]
+#[derive(Clone, Copy)]
 pub struct Row;
 
 impl Row {

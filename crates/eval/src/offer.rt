@@ -16,7 +16,7 @@ use tree::NodeKind;
 use value::Value;
 
 // Numbers that stand for a set: its two ends, or its root with JOINED.
-#[derive(Drop)]
+#[derive(Clone, Copy)]
 pub struct OfferSet;
 
 impl OfferSet {
@@ -26,7 +26,7 @@ impl OfferSet {
 
 // What a branch offers. A channel is its shape and the values of its items, the first in `channel`; then one or two values, each in `first` or `second`, or sets,
 // each with its end.
-#[derive(Drop)]
+#[derive(Clone, Copy)]
 pub struct Offer {
     pub kind: u8,
     pub rate: u64,
@@ -50,7 +50,7 @@ impl Offer {
 }
 
 // One or two values or sets; none where one of them has no value.
-#[derive(Drop)]
+#[derive(Clone, Copy)]
 pub struct Listed {
     pub count: usize,
     pub first: i64,
@@ -60,7 +60,7 @@ pub struct Listed {
 }
 
 // A set that is shown by two numbers.
-#[derive(Drop)]
+#[derive(Clone, Copy)]
 pub enum Ends {
     Are(i64, i64),
     Missing,

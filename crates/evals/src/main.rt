@@ -1,3 +1,5 @@
+#![tactic(auto)]
+
 // Evaluates 01's specimens of values, sets, gates and rates over small tables of settled nodes, and prints a line for each.
 ghost use Rattle.std.specs.Prelude.{◌≡◌, ◌≤◌, ◌<◌, pos};
 ghost use Rattle.model.specs.Good.{scale_limit};

@@ -1,3 +1,5 @@
+#![tactic(auto)]
+
 // Whether two entries of a listing can be taken in either order.
 ghost use Rattle.std.specs.Prelude.{◌≡◌};
 ghost use Rattle.rules.specs.Rules.{key};

@@ -1,3 +1,5 @@
+#![tactic(auto)]
+
 // Scripts of calls: what their bytes ask for.
 pub mod line;
 pub mod script;

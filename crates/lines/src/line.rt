@@ -5,7 +5,7 @@ ghost use Rattle.lines.specs.Line.{line_of, grown, digit_next, letter_next, rest
 use crate::two::Two;
 
 // What a line says.
-#[derive(Drop)]
+#[derive(Clone, Copy)]
 pub enum Line {
     Open(u64),
     Steady(u64),
@@ -29,7 +29,7 @@ pub enum Line {
 }
 
 // What stands after a line's first five bytes; `T` is the last byte of `report`.
-#[derive(Drop)]
+#[derive(Clone, Copy)]
 pub enum Rest {
     Nothing,
     Number(u64),
@@ -38,7 +38,7 @@ pub enum Rest {
 }
 
 // A line so far: its first five bytes, as digits of base 256 after a 1, what stands after the first four, what stands after all five, the first two bytes of that, likewise, what stands after these, how many bytes of the line are kept, and what stands after the first five as a word and two numbers.
-#[derive(Drop)]
+#[derive(Clone, Copy)]
 pub struct Reading {
     pub head: u64,
     pub early: Rest,
@@ -49,7 +49,7 @@ pub struct Reading {
     pub two: Two,
 }
 
-#[derive(Drop)]
+#[derive(Clone, Copy)]
 pub struct Head;
 
 impl Head {

@@ -6,14 +6,14 @@ ghost use Rattle.lines.specs.Script.{number_after, LineBegun, TextBegun, Stands,
 use crate::line::{Head, Line, Reading};
 
 // Where a script stands: in a line; or in the text that a line asks for, of so many bytes, of which so many were taken.
-#[derive(Drop)]
+#[derive(Clone, Copy)]
 pub enum Part {
     InLine(Reading),
     InText(Line, u64, u64),
 }
 
 // The line that goes on, and the line that the present item began with, from 1.
-#[derive(Drop)]
+#[derive(Clone, Copy)]
 pub struct Script {
     pub line: u64,
     pub from: u64,
@@ -21,7 +21,7 @@ pub struct Script {
 }
 
 // What a byte does: it goes on; it ends an item, which asks for this; or it is wrong, in an item that began with this line.
-#[derive(Drop)]
+#[derive(Clone, Copy)]
 pub enum Taken {
     Goes(Script),
     Asks(Line, Script),
@@ -29,7 +29,7 @@ pub enum Taken {
 }
 
 // What the end of a script finds: whole items; or one that began with this line and isn't whole.
-#[derive(Drop)]
+#[derive(Clone, Copy)]
 pub enum Ending {
     Done,
     Broken(u64),

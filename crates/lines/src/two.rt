@@ -5,7 +5,7 @@ ghost use Rattle.lines.specs.Two.{word_byte, word_next, grown_first, grown_secon
 use crate::line::Line;
 
 // So many bytes of the word `endent `; the word and a number; a blank after them; a second number; or something else.
-#[derive(Drop)]
+#[derive(Clone, Copy)]
 pub enum Two {
     Word(u64),
     First(u64),
@@ -14,7 +14,7 @@ pub enum Two {
     Other,
 }
 
-#[derive(Drop)]
+#[derive(Clone, Copy)]
 pub struct Word;
 
 impl Word {

@@ -1,3 +1,5 @@
+#![tactic(auto)]
+
 // The listing of a state: its entries in the listing buffer, their count and total, or a refusal under questions 12 to 14.
 ghost use Rattle.std.specs.Prelude.{◌≡◌, ◌∷◌, [], ◌++◌, suc, ◌+◌, ◌-◌, ◌*◌, ◌≤◌, ◌<◌, length, take, replicate, List, ℕ, Bool, ℤ, pos, true, get_or};
 ghost use Rattle.rules.specs.Draw.{total, chosen};
@@ -38,7 +40,7 @@ use offers::{Collected, Table};
 use state::{Layout, Run};
 use tree::NodeKind;
 
-#[derive(Drop)]
+#[derive(Clone, Copy)]
 pub struct Limits;
 
 impl Limits {
@@ -63,7 +65,7 @@ impl Limits {
 }
 
 // The kinds of entries.
-#[derive(Drop)]
+#[derive(Clone, Copy)]
 pub struct EntryKind;
 
 impl EntryKind {
@@ -86,7 +88,7 @@ impl EntryKind {
 }
 
 // One line of the listing.
-#[derive(Drop)]
+#[derive(Clone, Copy)]
 pub struct Entry {
     pub kind: u64,
     pub place: usize,
@@ -98,28 +100,28 @@ pub struct Entry {
 }
 
 // The count of entries and their total; or a refusal's number, place and branch.
-#[derive(Drop)]
+#[derive(Clone, Copy)]
 pub enum Listed {
     Filled(usize, u64),
     Refused(u64, usize, usize),
 }
 
 // A listing, or the tables have too few rows for it.
-#[derive(Drop)]
+#[derive(Clone, Copy)]
 pub enum Tried {
     Done(Listed),
     Full,
 }
 
 // A sum of weights within its limit, or not.
-#[derive(Drop)]
+#[derive(Clone, Copy)]
 pub enum Total {
     Is(u64),
     Over,
 }
 
 // The entry that a draw chooses, if any.
-#[derive(Drop)]
+#[derive(Clone, Copy)]
 pub enum Chosen {
     At(usize),
     Nothing,

@@ -1,5 +1,7 @@
+#![tactic(auto)]
+
 // What a model text means: limits, names, the resolved model. Definitions and theorems; of code only the limits that several crates ask about.
-#[derive(Drop)]
+#[derive(Clone, Copy)]
 pub struct Limits;
 
 impl Limits {

@@ -1,3 +1,5 @@
+#![tactic(auto)]
+
 // Questions 7, 8 and 9 of a text that fits.
 pub mod walk;
 
@@ -27,14 +29,14 @@ use tree::NodeKind;
 use value::Value;
 
 // Which question is asked: 7, 8 or 9.
-#[derive(Drop)]
+#[derive(Clone, Copy)]
 pub enum Question {
     Limits,
     Fresh,
     Given,
 }
 
-#[derive(Drop)]
+#[derive(Clone, Copy)]
 pub struct Limits;
 
 impl Limits {
@@ -56,7 +58,7 @@ impl Limits {
 }
 
 // Where a model's variables and definitions stand: variable j in node root - j, definition j left of node root - variables - j.
-#[derive(Drop)]
+#[derive(Clone, Copy)]
 pub struct Lists {
     pub root: usize,
     pub variables: usize,
@@ -64,7 +66,7 @@ pub struct Lists {
 }
 
 // The locals in scope: the tokens of their names.
-#[derive(Drop)]
+#[derive(Clone, Copy)]
 pub struct Scope {
     pub names: [u16; 8],
     pub count: usize,
@@ -500,7 +502,7 @@ fn branch_fault(question: Question, i: usize, k: usize) -> Found
 }
 
 // What questions 7, 8 and 9 say of a text that fits; a no has the token at fault.
-#[derive(Drop)]
+#[derive(Clone, Copy)]
 pub enum Judgement {
     Passed,
     Beyond(usize),

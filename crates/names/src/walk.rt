@@ -183,7 +183,7 @@ fn action_fault(
 }
 
 // The nodes of a part: how many branches of its sum stand before it, its first node and its root.
-#[derive(Drop)]
+#[derive(Clone, Copy)]
 pub struct Span {
     pub before: usize,
     pub from: usize,

@@ -1,3 +1,5 @@
+#![tactic(auto)]
+
 // What the open branches of a state offer, in a table.
 ghost use Rattle.std.specs.Prelude.{◌≡◌, ℕ, suc, ◌+◌, ◌*◌, ◌≤◌, ◌<◌, pos, length, replicate, get_or, set, List};
 ghost use Rattle.value.specs.Range.{InRange};
@@ -21,7 +23,7 @@ ghost use Rattle.offers.specs.Links.{row_limit, row_width, bucket_limit, bucket_
 use eval::offer::Offer;
 use tree::NodeKind;
 
-#[derive(Drop)]
+#[derive(Clone, Copy)]
 pub struct Table;
 
 impl Table {
@@ -194,7 +196,7 @@ pub fn rate_in(head: u64) -> u64
 }
 
 // Up to where the rows are filled; or the first branch without value; or no row is left.
-#[derive(Drop)]
+#[derive(Clone, Copy)]
 pub enum Walked {
     Rows(usize),
     Missing(usize),
@@ -202,7 +204,7 @@ pub enum Walked {
 }
 
 // The same of all places.
-#[derive(Drop)]
+#[derive(Clone, Copy)]
 pub enum Collected {
     Rows(usize),
     Missing(usize, usize),

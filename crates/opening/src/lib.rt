@@ -1,3 +1,5 @@
+#![tactic(auto)]
+
 // Opens a text: asks questions 2 to 10 in order and makes the tables of its model.
 mod count;
 
@@ -22,7 +24,7 @@ use syntax::question::Asked;
 use token::Judged;
 use tree::NodeKind;
 
-#[derive(Drop)]
+#[derive(Clone, Copy)]
 pub struct Limits;
 
 impl Limits {
@@ -34,28 +36,28 @@ impl Limits {
 const BEFORE_NAME: usize = 2;
 
 // The number and place of the first no to 2 to 6; or the root of the text's tree and the number of its tokens.
-#[derive(Drop)]
+#[derive(Clone, Copy)]
 pub enum Tree {
     Refused(usize, usize),
     Fits(usize, usize),
 }
 
 // The number and place of the first no to 7 to 9; or the place of the system line.
-#[derive(Drop)]
+#[derive(Clone, Copy)]
 pub enum Named {
     Refused(usize, usize),
     Passed(usize),
 }
 
 // The number and place of the first no to 2 to 9; or the model and the place of the system line.
-#[derive(Drop)]
+#[derive(Clone, Copy)]
 pub enum Held {
     Refused(usize, usize),
     Model(Model, usize),
 }
 
 // The number and place of the first no; or the model and the number of processes at the start.
-#[derive(Drop)]
+#[derive(Clone, Copy)]
 pub enum Opened {
     Refused(usize, usize),
     Accepted(Model, usize),

@@ -1,3 +1,5 @@
+#![tactic(auto)]
+
 // Opens model texts: prints `accepted` and the numbers of variables, definitions, sums, channel names and starting processes, or `refused`, the number of
 // the first no and its place. It reads standard input, or each file that an argument names, after a line with the name.
 use libc::{STDIN_FILENO, STDOUT_FILENO};
@@ -6,7 +8,7 @@ use settle::Model;
 use syntax::question;
 use token::Limits;
 
-#[derive(Drop)]
+#[derive(Clone, Copy)]
 struct Input;
 
 impl Input {

@@ -1,10 +1,12 @@
+#![tactic(auto)]
+
 // Standard output through a buffer: bytes and numbers are put after those that wait in it, and it is written when it is full or on demand.
 // Each function takes how many bytes wait, and answers how many wait then.
 ghost use Rattle.std.specs.Prelude.{◌≡◌, ◌<◌, nat_abs};
 
 use libc::STDOUT_FILENO;
 
-#[derive(Drop)]
+#[derive(Clone, Copy)]
 pub struct Limits;
 
 impl Limits {

@@ -1,3 +1,5 @@
+#![tactic(auto)]
+
 // Asks questions 2 to 6 of a model text: prints `fits` and how many tokens it has, or `refused`, the number of the first no and its place.
 // It reads standard input, or each file that an argument names, after a line with the name.
 ghost use Rattle.std.specs.Prelude.{◌≤◌, length};
@@ -8,7 +10,7 @@ use syntax::question;
 use syntax::question::Asked;
 use token::{Judged, Limits};
 
-#[derive(Drop)]
+#[derive(Clone, Copy)]
 struct Input;
 
 impl Input {

@@ -1,3 +1,5 @@
+#![tactic(auto)]
+
 // Timed steps over the tables of a model: one by a draw, and many in one call, whose choosing draws come from words.
 ghost use Rattle.std.specs.Prelude.{◌≡◌, List, ℕ, ◌+◌, ◌-◌, ◌*◌, ◌/◌, ◌≤◌, ◌<◌, min, length, drop};
 ghost use Rattle.model.specs.Resolved as Resolved;
@@ -20,7 +22,7 @@ use offers::Table;
 use step::Taken;
 use words::Drawn;
 
-#[derive(Drop)]
+#[derive(Clone, Copy)]
 pub struct Room;
 
 impl Room {
@@ -38,7 +40,7 @@ impl Room {
 }
 
 // What a timed step comes to: 0 or 16 to 19 or 23 to 25, the entry that it took, and the clock after it.
-#[derive(Drop)]
+#[derive(Clone, Copy)]
 pub struct Stepped {
     pub number: u64,
     pub chosen: usize,
@@ -46,7 +48,7 @@ pub struct Stepped {
 }
 
 // How a run stands: 0 or the refusal that ended it; steps taken, words and waiting draws used; count and total of the last listing; the clock; and whether it is over.
-#[derive(Drop)]
+#[derive(Clone, Copy)]
 pub struct Progress {
     pub number: u64,
     pub steps: usize,

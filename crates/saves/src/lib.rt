@@ -1,3 +1,5 @@
+#![tactic(auto)]
+
 // The buffer of the saves: names as two numbers, a state with its clock, the exact test of question 11, and what a save, a return and a forget write.
 ghost use Rattle.std.specs.Prelude.{◌≡◌, true, ◌++◌, ◌+◌, ◌*◌, ◌≤◌, ◌<◌, ℤ, pos, length, take, drop};
 ghost use Rattle.word.specs.Name.{word_bytes, pack};
@@ -14,7 +16,7 @@ ghost use Rattle.saves.specs.Change.{KeyPut, place_to_take, saving_numbers, retu
 
 use clock::Clock;
 
-#[derive(Drop)]
+#[derive(Clone, Copy)]
 pub struct Layout;
 
 impl Layout {

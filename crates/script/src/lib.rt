@@ -1,3 +1,5 @@
+#![tactic(auto)]
+
 // A script of calls on one engine: twelve numbers a row, run in order on lent buffers.
 ghost use Rattle.std.specs.Prelude.{◌≡◌, true, List, ◌++◌, ℕ, ◌+◌, ◌*◌, ◌≤◌, min, leb, ℤ, length, drop};
 ghost use Rattle.buffers.specs.Parts.{clock_numbers, clock_in, lent_all};
@@ -10,7 +12,7 @@ use engine::{Answer, Simulated, Timed};
 use searching::Found;
 
 // A row: the kind of call; place and size of its text or name, and of its waiting draws; its draw, depth or limit; how many numbers of the output, the model, the state and the saves it is lent; place and size of its words.
-#[derive(Drop)]
+#[derive(Clone, Copy)]
 pub struct Row {
     pub kind: u64,
     pub text: usize,

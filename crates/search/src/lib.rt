@@ -1,24 +1,26 @@
+#![tactic(auto)]
+
 // From run to run and from state to state, whatever a state is: what is found, and how refusals met are joined. The walk over the engine's tables stands above it.
 ghost use Rattle.std.specs.Prelude.{◌≡◌, ◌||◌};
 ghost use Rattle.search.specs.Seeks.{met_after};
 ghost use Rattle.search.specs.Walks.{met_on};
 
 // The next run: none, or one whose last entry is the wait or not; first whether a refusal was met before.
-#[derive(Drop)]
+#[derive(Clone, Copy)]
 pub enum Next {
     Lost(bool),
     Found(bool, bool),
 }
 
 // The next run of any length: none; or one, whether its last entry is the wait, and its length.
-#[derive(Drop)]
+#[derive(Clone, Copy)]
 pub enum Onward {
     End(bool),
     To(bool, bool, usize),
 }
 
 // What walking a state comes to: the run that is walked next (whether a refusal was met before it, whether its last entry is the wait, its length); or a run to the wait, none, or 27.
-#[derive(Drop)]
+#[derive(Clone, Copy)]
 pub enum Walked {
     Under(bool, bool, usize),
     Found(usize),

@@ -1,3 +1,5 @@
+#![tactic(auto)]
+
 // The search over a text that a model buffer holds: questions 11 and 26, the walk over its model, and what that comes to.
 ghost use Rattle.std.specs.Prelude.{◌≡◌, List, [], ℕ, ◌≤◌, length, take};
 ghost use Rattle.std.proofs.Math.Option.{some};
@@ -23,7 +25,7 @@ use token::Limits;
 
 // What a search answers: 0 or a refusal's number; the length of the run, 0 for none; its entry numbers, unused ones 0.
 #[repr(C)]
-#[derive(Drop)]
+#[derive(Clone, Copy)]
 pub struct Found {
     pub number: u64,
     pub length: u64,

@@ -1,3 +1,5 @@
+#![tactic(auto)]
+
 // Resolving a syntax tree in place: names give way to what they stand for.
 ghost use Rattle.std.specs.Prelude.{◌≡◌, List, [], ◌∷◌, Bool, true, false, ◌&&◌, leb, ℕ, ◌+◌, ◌-◌, ◌*◌, ◌≤◌, ◌<◌, min, length, get_or, set};
 ghost use Rattle.model.specs.Limits.{definition_limit};
@@ -25,7 +27,7 @@ use token::Found;
 use tree::NodeKind;
 
 // Where the walk over the nodes stands: the locals in scope, and how many channel names, sums and definitions it has met.
-#[derive(Drop)]
+#[derive(Clone, Copy)]
 pub struct Walk {
     pub scope: Scope,
     pub channels: usize,
@@ -34,7 +36,7 @@ pub struct Walk {
 }
 
 // What a resolved model's tables hold: its root, and how many variables, definitions, sums and channel names it has.
-#[derive(Drop)]
+#[derive(Clone, Copy)]
 pub struct Model {
     pub root: usize,
     pub variables: usize,

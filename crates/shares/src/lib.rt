@@ -1,3 +1,5 @@
+#![tactic(auto)]
+
 // The report: the weights of a listing, added up by the definition of the process that acts.
 ghost use Rattle.std.specs.Prelude.{◌≡◌, List, length};
 ghost use Rattle.model.specs.Resolved as Resolved;

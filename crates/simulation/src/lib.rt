@@ -1,3 +1,5 @@
+#![tactic(auto)]
+
 // The run over lent buffers: questions 1 and 11, the text that the model buffer holds, which is read once, and the run over its tables.
 ghost use Rattle.std.specs.Prelude.{◌≡◌, List, ℕ, ◌≤◌, length};
 ghost use Rattle.std.proofs.Math.Option.{some};

@@ -1,3 +1,5 @@
+#![tactic(auto)]
+
 // The numbers of a state.
 ghost use Rattle.std.specs.Prelude.{◌≡◌, ◌+◌, ◌-◌, ◌*◌, ◌≤◌, ◌<◌, true, false, ◌++◌, ℤ, pos, nat_abs, length, set, take, drop, replicate};
 ghost use Rattle.model.specs.Limits.{local_limit};
@@ -11,7 +13,7 @@ ghost use Rattle.state.specs.Fits.{FewLocals};
 ghost use Rattle.state.specs.Read.{Passed, process_count, pair_count, sum_at, locals_at, definition_number, pair_row};
 ghost use Rattle.state.specs.Test.{at, place_of, is_lit, values_past, every, rows, is_value, is_zero, is_below, is_padded, is_process, is_count, is_item, is_item_of, is_channel, is_pair, ascends, are_processes, are_pairs, is_state};
 
-#[derive(Drop)]
+#[derive(Clone, Copy)]
 pub struct Layout;
 
 impl Layout {
@@ -376,7 +378,7 @@ pub fn is_lit(s: &[i64], n: usize, row: &[i64]) -> bool
 }
 
 // Where the pairs on one channel stand.
-#[derive(Drop)]
+#[derive(Clone, Copy)]
 pub struct Run {
     pub from: usize,
     pub to: usize,

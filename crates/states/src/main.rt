@@ -1,3 +1,5 @@
+#![tactic(auto)]
+
 // Runs the test of a state on damaged numbers, and the changes of a state on a small one.
 ghost use Rattle.std.specs.Prelude.{◌≡◌, true};
 ghost use Rattle.state.specs.Read.{Passed};
@@ -7,7 +9,7 @@ use state::Layout;
 use value::Range;
 
 // The length of a state's numbers, and a model with three sums and two channel names. Sum 1 stands in definition 1, the others in definition 0.
-#[derive(Drop)]
+#[derive(Clone, Copy)]
 struct Sample;
 
 type Numbers = [i64; Layout::NUMBERS];

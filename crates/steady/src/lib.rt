@@ -1,3 +1,5 @@
+#![tactic(auto)]
+
 // The steady profile: question 29 of a text, and opening a text under it.
 ghost use Rattle.std.specs.Prelude.{◌≡◌, List, ℕ, ◌≤◌};
 ghost use Rattle.grammar.specs.Syntax;
@@ -20,7 +22,7 @@ use token::Found;
 use tree::NodeKind;
 
 // What a text is opened under: questions 2 to 10, or 29 too.
-#[derive(Drop)]
+#[derive(Clone, Copy)]
 pub enum Profile {
     Plain,
     Steady,

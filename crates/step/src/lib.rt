@@ -1,3 +1,5 @@
+#![tactic(auto)]
+
 // The move of a chosen entry: questions 17 to 19, then the state after it.
 ghost use Rattle.std.specs.Prelude.{◌≡◌, ◌⊎◌, not, ◌&&◌, ℕ, ◌+◌, ◌≤◌, ◌<◌, leb, ℤ, length, get_or, take, drop};
 ghost use mathlib.Core.List.{List, [], ◌++◌, Memᴰ as In};
@@ -26,13 +28,13 @@ use state::Layout;
 use tree::NodeKind;
 
 // What a chosen entry comes to: 17, 18 or 19, or the state has moved.
-#[derive(Drop)]
+#[derive(Clone, Copy)]
 pub enum Taken {
     Accepted,
     Refused(u8),
 }
 
-#[derive(Drop)]
+#[derive(Clone, Copy)]
 pub struct Refusal;
 
 impl Refusal {
@@ -45,7 +47,7 @@ impl Refusal {
 }
 
 // None, one or two values that names take.
-#[derive(Drop)]
+#[derive(Clone, Copy)]
 pub struct Bound {
     pub count: usize,
     pub first: i64,
@@ -53,7 +55,7 @@ pub struct Bound {
 }
 
 // What a process that acts enters: how many locals there are, its continuation and what it offers.
-#[derive(Drop)]
+#[derive(Clone, Copy)]
 pub struct Entered {
     pub count: usize,
     pub next: Next,
@@ -87,7 +89,7 @@ fn put_first(from: &[i64], to: &mut [i64])
     }
 }
 
-#[derive(Drop)]
+#[derive(Clone, Copy)]
 pub struct Room;
 
 impl Room {
@@ -177,7 +179,7 @@ fn wide_root(x: u16) -> usize
 }
 
 // Where a process's branch is found: the root of the branch, and how many locals the process has.
-#[derive(Drop)]
+#[derive(Clone, Copy)]
 pub struct Found {
     pub own: usize,
     pub root: usize,
@@ -592,7 +594,7 @@ fn take_handshake(
     )
 }
 
-#[derive(Drop)]
+#[derive(Clone, Copy)]
 pub struct EntryKind;
 
 impl EntryKind {

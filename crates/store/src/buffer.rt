@@ -8,7 +8,7 @@ ghost use Rattle.store.specs.Text.{TextIn};
 
 use crate::Engine;
 
-#[derive(Drop)]
+#[derive(Clone, Copy)]
 pub struct Bytes;
 
 impl Bytes {
@@ -22,7 +22,7 @@ impl Bytes {
 }
 
 // The text in a model buffer that may hold one: its length.
-#[derive(Drop)]
+#[derive(Clone, Copy)]
 pub enum Text {
     Long(usize),
     Nothing,

@@ -1,3 +1,5 @@
+#![tactic(auto)]
+
 // An engine's buffers as they are written and read: the text in the model buffer, the header in both, the numbers of an opened state.
 pub mod buffer;
 pub mod start;
@@ -5,7 +7,7 @@ pub mod start;
 ghost use Rattle.std.specs.Prelude.{◌≡◌};
 
 // The header of an engine: the length of its text, and how many processes and pairs it has.
-#[derive(Drop)]
+#[derive(Clone, Copy)]
 pub struct Engine {
     pub text: usize,
     pub processes: usize,

@@ -20,7 +20,7 @@ ghost use Rattle.store.specs.Start as Start;
 use tree::NodeKind;
 use value::Value;
 
-#[derive(Drop)]
+#[derive(Clone, Copy)]
 pub struct Locals;
 
 impl Locals {

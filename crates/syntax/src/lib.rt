@@ -1,3 +1,5 @@
+#![tactic(auto)]
+
 // The reader of model texts: from the kinds of a text's tokens to a table of nodes, or the first token that doesn't fit.
 pub mod action;
 pub mod braced;

@@ -269,7 +269,7 @@ pub fn variable(toks: &[u8], name: usize, nodes: &mut [u64], used: usize) -> Rea
 }
 
 // The root of a text's tree, or the number of the token that doesn't fit.
-#[derive(Drop)]
+#[derive(Clone, Copy)]
 pub enum Text {
     Fits(usize),
     Broken(usize),

@@ -6,7 +6,7 @@ ghost use Rattle.syntax.specs.Asked.{Asks};
 use crate::line;
 use crate::line::Text;
 
-#[derive(Drop)]
+#[derive(Clone, Copy)]
 pub struct Limits;
 
 impl Limits {
@@ -15,7 +15,7 @@ impl Limits {
 }
 
 // The root of the text's tree; or the token that doesn't fit (5); or the token that is one too many (6).
-#[derive(Drop)]
+#[derive(Clone, Copy)]
 pub enum Asked {
     Passed(usize),
     Misfit(usize),

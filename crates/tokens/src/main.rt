@@ -1,3 +1,5 @@
+#![tactic(auto)]
+
 // Prints the tokens of a model text, a line `place,length,kind` for each, and then the no of question 2, 3 or 4, if there is one.
 // It reads standard input, or each file that an argument names, after a line with the name.
 ghost use Rattle.std.specs.Prelude.{◌≤◌, length};
@@ -7,7 +9,7 @@ ghost use Rattle.token.specs.Questions.{text_limit};
 use libc::{STDIN_FILENO, STDOUT_FILENO};
 use token::{Judged, Kind, Limits};
 
-#[derive(Drop)]
+#[derive(Clone, Copy)]
 struct Input;
 
 impl Input {

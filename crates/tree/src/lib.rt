@@ -1,9 +1,11 @@
+#![tactic(auto)]
+
 // A syntax tree as a table of nodes, and what reading functions answer.
 ghost use Rattle.std.specs.Prelude.{◌≡◌, ◌<◌, set};
 ghost use Rattle.tree.specs.Node.{field, cell, kind_of, token_of, left_of, third_of};
 
 // The kinds of nodes.
-#[derive(Drop)]
+#[derive(Clone, Copy)]
 pub struct NodeKind;
 
 impl NodeKind {
@@ -131,14 +133,14 @@ impl NodeKind {
 }
 
 // The next token's number and the root of what was read; or the number of the token that doesn't fit.
-#[derive(Drop)]
+#[derive(Clone, Copy)]
 pub enum Read {
     Next(usize, usize),
     Fault(usize),
 }
 
 // The same with a count: of sums up to here, or of the members of a list.
-#[derive(Drop)]
+#[derive(Clone, Copy)]
 pub enum Counted {
     Next(usize, usize, usize),
     Fault(usize),

@@ -1,3 +1,5 @@
+#![tactic(auto)]
+
 // Runs the arithmetic of values at zero, at both ends of the range and on the paper's specimens.
 use libc::STDOUT_FILENO;
 use value::{Range, Value};

@@ -1,1 +1,3 @@
+#![tactic(auto)]
+
 // Names of waits and their numbers: definitions and theorems, no code.

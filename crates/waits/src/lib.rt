@@ -1,8 +1,10 @@
+#![tactic(auto)]
+
 // The waiting draws of a timed step, read by Von Neumann's method.
 ghost use Rattle.std.specs.Prelude.{◌≡◌, Bool, ◌<◌, ◌≤◌, length};
 ghost use Rattle.waits.specs.Runs.{next_in_run, read, wait_of, Fits, Within};
 
-#[derive(Drop)]
+#[derive(Clone, Copy)]
 pub struct Limits;
 
 impl Limits {
@@ -14,7 +16,7 @@ impl Limits {
 }
 
 // Where a reading stands: before a run, with k; in one, with k, its first draw, its latest, and whether its length is odd so far; E is known; k would be 32.
-#[derive(Drop)]
+#[derive(Clone, Copy)]
 pub enum Run {
     Before(u64),
     In(u64, u64, u64, bool),
@@ -23,7 +25,7 @@ pub enum Run {
 }
 
 // What waiting draws come to: E and how many were used; they ended first (23); k would be 32 (24).
-#[derive(Drop)]
+#[derive(Clone, Copy)]
 pub enum Wait {
     Given(u64, usize),
     Ended,

@@ -1,3 +1,5 @@
+#![tactic(auto)]
+
 // The search of notes 8 and 9 over the tables of a model: the runs from a state by length, then by entry numbers, up to the first whose last entry is the wait.
 ghost use Rattle.std.specs.Prelude.{◌≡◌, Bool, List, ◌++◌, ℕ, ◌+◌, ◌*◌, ◌≤◌, ◌<◌, length, get_or, take, drop};
 ghost use Rattle.token.specs.Token.{same_bytes};
@@ -19,7 +21,7 @@ use listing::{Entry, Limits, Listed};
 use search::Walked;
 use step::Taken;
 
-#[derive(Drop)]
+#[derive(Clone, Copy)]
 pub struct Level;
 
 impl Level {
@@ -43,7 +45,7 @@ impl Level {
 }
 
 // What taking an entry comes to: it has weight zero; 17 to 19; or it is taken, and whether it is the wait.
-#[derive(Drop)]
+#[derive(Clone, Copy)]
 pub enum Move {
     Idle,
     Refused,
@@ -51,7 +53,7 @@ pub enum Move {
 }
 
 // A run to the wait; or none, and whether a refusal was met.
-#[derive(Drop)]
+#[derive(Clone, Copy)]
 pub enum Hit {
     Lost(bool),
     Found,

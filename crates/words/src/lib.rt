@@ -1,8 +1,10 @@
+#![tactic(auto)]
+
 // Choosing draws from 64-bit words, by rejection: every draw below a total comes from equally many words.
 ghost use Rattle.std.specs.Prelude.{◌≡◌, ◌+◌, ◌<◌, length};
 ghost use Rattle.words.specs.Words.{word_values, usable, draw_of, Within};
 
-#[derive(Drop)]
+#[derive(Clone, Copy)]
 pub struct Limits;
 
 impl Limits {
@@ -11,7 +13,7 @@ impl Limits {
 }
 
 // What words come to: the draw, and how many words were used; or they ended first.
-#[derive(Drop)]
+#[derive(Clone, Copy)]
 pub enum Drawn {
     Given(u64, usize),
     Ended,

@@ -1,6 +1,6 @@
 -- Which text an engine's model buffer holds after a list of calls (01, Fresh, Open): that of the last opening with right lengths, if it was accepted. Definitions only.
 use Rattle.std.specs.Prelude.{Bool, cond, List, [], ◌∷◌, ℕ, length, replicate}
-use Rattle.std.proofs.Math.Option.{Option, none, some, Option·elim}
+use Rattle.std.proofs.Math.Option.{Option, none, some, Option-elim}
 use Rattle.model.specs.Opening.{Opening, refused, opened, opening}
 use Rattle.profile.specs.Opening.{opening_steady}
 use Rattle.machine.specs.Machine.{model_length, Ask, open', open_steady', on', has_lengths}
@@ -24,4 +24,4 @@ text_after o (c ∷ cs) = text_after (reads o (has_lengths c.ask (lent_lengths c
 
 -- 01, Fresh: its bytes, or zeros where there is none
 unfoldable pub bytes_of : Option (List ℕ) → List ℕ
-bytes_of o = Option·elim o (replicate model_length 0) model_bytes
+bytes_of o = Option-elim o (replicate model_length 0) model_bytes

@@ -1,7 +1,7 @@
 -- The rule machine (01, State and rule machine): fed texts, draws and the lengths of all that is lent, it answers each call and reads no buffer. What it holds is a
 -- record, a call asks something and carries the lengths of the parts that it is lent. Assumes nothing: these are definitions.
 use Rattle.std.specs.Prelude.{List, [], ◌∷◌, ◌++◌, map, Bool, true, false, cond, ◌&&◌, ◌||◌, ℕ, zero, suc, ◌+◌, ◌-◌, ◌*◌, ◌/◌, min, eqb, leb, ℤ, length, drop}
-use Rattle.std.proofs.Math.Option.{Option, none, some, Option·elim}
+use Rattle.std.proofs.Math.Option.{Option, none, some, Option-elim}
 use Rattle.std.proofs.Math.ListN.{get_elem?}
 use Rattle.token.specs.Token.{same_bytes}
 use Rattle.token.specs.Questions.{text_limit}
@@ -122,19 +122,19 @@ counted es =
 
 -- 01, Listing: 12, then 13 and 14
 unfoldable pub listing : Resolved.Model → State → Listed
-listing m s = Option·elim (missing m 0 s.processes) (counted (entries (branches m) s)) (λ ij. refused_with (no 12 ij.0 ij.1 zeroed))
+listing m s = Option-elim (missing m 0 s.processes) (counted (entries (branches m) s)) (λ ij. refused_with (no 12 ij.0 ij.1 zeroed))
 
 -- ---- the step: 15 to 19
 
 -- 01, 17: the arguments in branch j's continuation at place i, whose names take these values
 unfoldable pub branch_arguments : Resolved.Model → State → ℕ → ℕ → List ℤ → Bool
 branch_arguments m s i j vs =
-    Option·elim (get_elem? s.processes i) true (λ p. Option·elim (get_elem? (branches_of m p) j) true (λ b. arguments_given (p.locals ++ vs) b.next))
+    Option-elim (get_elem? s.processes i) true (λ p. Option-elim (get_elem? (branches_of m p) j) true (λ b. arguments_given (p.locals ++ vs) b.next))
 
 -- f of the action of branch j at place i, which sends values or binds them
 unfoldable pub on_guard : Resolved.Model → State → ℕ → ℕ → (offers.Action → List ℤ) → List ℤ
 on_guard m s i j f =
-    Option·elim (get_elem? s.processes i) [] (λ p. Option·elim (get_elem? (branches m p) j) [] (λ b. steps.on_action [] f b.guard))
+    Option-elim (get_elem? s.processes i) [] (λ p. Option-elim (get_elem? (branches m p) j) [] (λ b. steps.on_action [] f b.guard))
 
 -- 01, 17: of all the continuations that an entry enters, a handshake's being two
 unfoldable pub entry_arguments : Resolved.Model → State → Key → Bool
@@ -169,8 +169,8 @@ taken m s es c k =
 unfoldable pub drawn : Resolved.Model → State → List Entry → ℕ → Turn State
 drawn m s es d =
     cond (eqb (total (weights es)) 0) (refusing s es 15)
-    (Option·elim (chosen (weights es) d) (refusing s es 16)
-    (λ c. Option·elim (get_elem? es c) (refusing s es 16) (λ e. taken m s es c (key_of e))))
+    (Option-elim (chosen (weights es) d) (refusing s es 16)
+    (λ c. Option-elim (get_elem? es c) (refusing s es 16) (λ e. taken m s es c (key_of e))))
 
 -- ---- turns of a state: what each request does where 11 is answered with yes
 
@@ -217,7 +217,7 @@ is_wait m x (Resolved.hand_bind c q) = false
 -- 02, note 8: is an entry's branch one?
 unfoldable pub is_sought : Resolved.Model → (name : List ℕ) → State → Key → Bool
 is_sought m x s (key c i j k n q) =
-    eqb c kind.wait && Option·elim (get_elem? s.processes i) false (λ p. Option·elim (get_elem? (branches_of m p) j) false (λ b. is_wait m x b.action))
+    eqb c kind.wait && Option-elim (get_elem? s.processes i) false (λ p. Option-elim (get_elem? (branches_of m p) j) false (λ b. is_wait m x b.action))
 
 -- 02, note 8: 17 to 19, or the state that taking an entry leads to; h: whether it is the wait
 unfoldable pub way_taken : Bool → Turn State → tree.Way State
@@ -303,7 +303,7 @@ ended_with n c s t r = record { number = n; words = r.words; waiting = r.waiting
 
 -- R.4: the entry with number c of a listing that stayed filled; an accepted step's answer has it
 unfoldable pub entry_shown : Shown → (c : ℕ) → Entry
-entry_shown (filled es) c = Option·elim (get_elem? es c) (entry (key 0 0 0 0 0 0) 0) (λ e. e)
+entry_shown (filled es) c = Option-elim (get_elem? es c) (entry (key 0 0 0 0 0 0) 0) (λ e. e)
 entry_shown as_lent c = entry (key 0 0 0 0 0 0) 0
 entry_shown zeroed c = entry (key 0 0 0 0 0 0) 0
 entry_shown (reported ns) c = entry (key 0 0 0 0 0 0) 0
@@ -542,7 +542,7 @@ all_parts t (p ∷ ps) = t p && all_parts t ps
 
 -- 01, 1: have all lent buffers their lengths?
 unfoldable pub has_lengths : Ask → (Part → ℕ) → ℕ → Bool
-has_lengths k l o = all_parts (λ (p : Part). eqb (l p) (size p)) (lent_to k) && Option·elim (output_of k) true (eqb o)
+has_lengths k l o = all_parts (λ (p : Part). eqb (l p) (size p)) (lent_to k) && Option-elim (output_of k) true (eqb o)
 
 -- 01, Rule machine: what is asked, and the lengths of all that is lent: of the parts, and of the output
 pub record Call : Type 0 where

@@ -1,6 +1,6 @@
 -- Processes of a model, what they offer, what their continuations become, and question 12 as a function (01, State and Listing). Assumes nothing: these are definitions.
 use Rattle.std.specs.Prelude.{List, [], ◌∷◌, ◌++◌, map, Bool, true, false, cond, ◌&&◌, ℕ, suc, ℤ, pos}
-use Rattle.std.proofs.Math.Option.{Option, none, some, Option·elim}
+use Rattle.std.proofs.Math.Option.{Option, none, some, Option-elim}
 use Rattle.std.proofs.Math.ListN.{get_elem?}
 use Rattle.value.specs.declared.Value.{Value}
 use Rattle.value.specs.declared.Value.TheVariants.{Is, Missing}
@@ -24,11 +24,11 @@ or_zero Missing = pos 0
 module _ (m : Resolved.Model) where
   -- 01, State: the branches of a process's sum
   unfoldable pub branches_of : Process → List Resolved.Branch
-  branches_of p = Option·elim (get_elem? m.sums p.sum) [] (λ s. s.branches)
+  branches_of p = Option-elim (get_elem? m.sums p.sum) [] (λ s. s.branches)
 
   -- 02, note 6: the definition whose text holds a sum (model: Written)
   unfoldable pub definition_of : ℕ → ℕ
-  definition_of n = Option·elim (get_elem? m.sums n) 0 (λ s. s.definition)
+  definition_of n = Option-elim (get_elem? m.sums n) 0 (λ s. s.definition)
 
   -- a process of sum n with these locals
   unfoldable pub process_at : ℕ → List ℤ → Process
@@ -36,7 +36,7 @@ module _ (m : Resolved.Model) where
 
   -- 01, Step: a definition's sums, with these values as locals
   unfoldable pub called : ℕ → List ℤ → List Process
-  called d vs = Option·elim (get_elem? m.definitions d) [] (λ e. map (λ n. process_at n vs) e.sums)
+  called d vs = Option-elim (get_elem? m.definitions d) [] (λ e. map (λ n. process_at n vs) e.sums)
 
   -- 01, Step: a sum keeps the locals ls, among them the names bound by the prefix; a call has its arguments
   unfoldable pub part_processes : List ℤ → Resolved.Part → List Process
@@ -52,7 +52,7 @@ module _ (m : Resolved.Model) where
 
   -- a branch as the rules take it; one without value, which 12 refuses, as if it were hidden
   unfoldable pub offered : List ℤ → Resolved.Branch → offers.Branch Process
-  offered ls b = record { guard = Option·elim (eval_branch ls b) offers.shut (λ g. g); next = λ vs. next_processes (ls ++ vs) b.next }
+  offered ls b = record { guard = Option-elim (eval_branch ls b) offers.shut (λ g. g); next = λ vs. next_processes (ls ++ vs) b.next }
 
   -- 01, Transitions: the branches of a process as the rules take them
   unfoldable pub branches : Process → List (offers.Branch Process)
@@ -72,7 +72,7 @@ missing_branch ls j (b ∷ bs) = cond (is_none (eval_branch ls b)) (some j) (mis
 -- among processes counted from place i on
 unfoldable pub missing : Resolved.Model → ℕ → List Process → Option (ℕ × ℕ)
 missing m i [] = none
-missing m i (p ∷ ps) = Option·elim (missing_branch p.locals 0 (branches_of m p)) (missing m (suc i) ps) (λ j. some (i, j))
+missing m i (p ∷ ps) = Option-elim (missing_branch p.locals 0 (branches_of m p)) (missing m (suc i) ps) (λ j. some (i, j))
 
 -- ---- 17: every argument of a continuation has a value
 

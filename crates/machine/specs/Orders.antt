@@ -1,6 +1,6 @@
 -- Two entries taken in either order by the rule machine, where the process that acts calls a definition of several sums (02, note 14): by computation, one to a row.
 use Rattle.std.specs.Prelude.{◌≡◌, refl, List, [], ◌∷◌, ℕ, pos}
-use Rattle.std.proofs.Math.Option.{none, some, Option·elim}
+use Rattle.std.proofs.Math.Option.{none, some, Option-elim}
 use Rattle.value.specs.Range.{value_of}
 use Rattle.model.specs.Resolved
 use Rattle.rules.specs.Kind as kind
@@ -72,6 +72,6 @@ unfolding
     evaluate.eval_scale evaluate.in_rate evaluate.eval_action evaluate.eval_all evaluate.with_value evaluate.valued evaluate.given value_of lists.entries lists.gather lists.when
     lists.unless lists.of_process lists.of_guard lists.of_action steps_with machine.choosing machine.drawn machine.taken machine.entry_state machine.entry_arguments
     machine.branch_arguments machine.on_guard offer.arguments_given offer.all_values offer.is_value steps.state_after steps.step steps.at_branch steps.one_acts
-    steps.on_action steps.change_of steps.bound_by steps.values_at steps.replace pairs.pairs_after weights lists.weight_of lists.key_of total chosen Option·elim
+    steps.on_action steps.change_of steps.bound_by steps.values_at steps.replace pairs.pairs_after weights lists.weight_of lists.key_of total chosen Option-elim
     carried carries.moved carries.placed carries.place_after carries.becomes carries.becoming carries.of_branch
 rows = (refl, refl, refl, refl, refl, refl, refl)

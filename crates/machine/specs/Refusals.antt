@@ -1,6 +1,6 @@
 -- Refusals 12 to 14 and 17 to 19, at both ends of their limits, over resolved models written by hand, by computation, one to a row: the number that is answered.
 use Rattle.std.specs.Prelude.{◌≡◌, refl, List, [], ◌∷◌, ℕ, zero, suc, ℤ, pos, replicate}
-use Rattle.std.proofs.Math.Option.{none, Option·elim}
+use Rattle.std.proofs.Math.Option.{none, Option-elim}
 use Rattle.value.specs.Range.{value_of}
 use Rattle.value.specs.Arithmetic.{sum_of, floor_quotient, quotient_of}
 use Rattle.grammar.specs.Syntax.{divide}
@@ -133,5 +133,5 @@ unfolding
     machine.entry_state machine.entry_arguments machine.branch_arguments machine.on_guard offer.arguments_given offer.all_values offer.is_value steps.state_after
     steps.step steps.at_branch steps.one_acts steps.both_act steps.on_action steps.change_of steps.bound_by steps.values_at steps.sent_by steps.replace
     steps.replace_both pairs.pairs_after pairs.insert pairs.remove pairs.before pairs.numbers pairs.item_numbers pairs.item_kind pairs.item_value pairs.channel_numbers order.less machine.lists machine.showing
-    machine.listed_as machine.no lamps weights lists.weight_of lists.key_of total chosen Option·elim
+    machine.listed_as machine.no lamps weights lists.weight_of lists.key_of total chosen Option-elim
 refusals = (refl, refl, refl, refl, refl, refl, refl, refl, refl, refl, refl, refl, refl, refl)

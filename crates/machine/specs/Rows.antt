@@ -1,7 +1,7 @@
 -- What evaluation and the numbers of a state come to, with literal numbers, by computation, one to a row: each operator, relation and join, a local as a scale, the order of
 -- a continuation's processes, the numbers of a state.
 use Rattle.std.specs.Prelude.{◌≡◌, refl, [], ◌∷◌, Bool, true, false, ℕ, ℤ, pos, negsuc, take}
-use Rattle.std.proofs.Math.Option.{Option, some, Option·elim}
+use Rattle.std.proofs.Math.Option.{Option, some, Option-elim}
 use Rattle.value.specs.declared.Value.{Value}
 use Rattle.value.specs.declared.Value.TheVariants.{Is}
 use Rattle.value.specs.Range.{value_of}
@@ -86,5 +86,5 @@ pub rows :
 unfolding
     eval_expr evaluate.apply evaluate.with_value evaluate.valued given sum_of difference_of product_of abs_of max_of min_of value_of eval_set evaluate.joined offers.within
     eval_cond evaluate.related eval_rate evaluate.eval_scale evaluate.in_rate offer.next_processes offer.part_processes offer.called offer.process_at offer.definition_of offer.or_zero
-    state_numbers padded flatten process_numbers Option·elim
+    state_numbers padded flatten process_numbers Option-elim
 rows = (refl, refl, refl, refl, refl, refl, refl, refl, refl, refl, refl, refl, refl, refl, refl, refl, refl, refl, refl, refl, refl, refl, refl, refl, refl, refl, refl, refl, refl, refl, refl, refl, refl, refl, refl)

@@ -1,7 +1,7 @@
 -- Named states to come back to (02, note 2), each with the clock of its time (02, note 4): eight places, each empty or with both under a name; what a save, a return and a forget do to state, clock and places.
 -- Assumes nothing: these are definitions.
 use Rattle.std.specs.Prelude.{◌≡◌, List, [], ◌∷◌, Bool, true, false, cond, not, ◌&&◌, ◌||◌, ℕ, suc, ◌+◌, ◌*◌, eqb, leb, ltb, length, set, replicate}
-use Rattle.std.proofs.Math.Option.{Option, none, some, Option·elim}
+use Rattle.std.proofs.Math.Option.{Option, none, some, Option-elim}
 use Rattle.word.specs.Name.{longest}
 use Rattle.model.specs.Resolved
 use Rattle.model.specs.Good.{Every}
@@ -164,7 +164,7 @@ saving n s ss =
 
 -- 02, note 2: 20, then 21; else the state and the clock under the name are the present ones, and every save remains
 unfoldable pub returning : List ℕ → Timed → Saves → Stored
-returning n s ss = cond (is_name n) (Option·elim (kept_under n ss) (stored 21 s ss) (λ t. stored 0 t ss)) (stored 20 s ss)
+returning n s ss = cond (is_name n) (Option-elim (kept_under n ss) (stored 21 s ss) (λ t. stored 0 t ss)) (stored 20 s ss)
 
 -- 02, note 2: 20, then 21; else the name is unknown, and its place can be used
 unfoldable pub forgetting : List ℕ → Timed → Saves → Stored

@@ -1,6 +1,6 @@
 -- What saves come to, with literal numbers, by computation, one to a row: names, places, and the answers of a save, a return and a forget (02, note 2).
 use Rattle.std.specs.Prelude.{◌≡◌, refl, [], ◌∷◌, true, false, ℕ, pos, replicate}
-use Rattle.std.proofs.Math.Option.{none, some, Option·elim}
+use Rattle.std.proofs.Math.Option.{none, some, Option-elim}
 use Rattle.machine.specs.Timed.{Timed, timed}
 use Rattle.machine.specs.Saves.{is_letter, are_letters, is_name, same, Save, saved, Saves, no_saves, named, is_empty, first_of, place_for, kept_of, kept_under, is_unknown, is_apart, are_apart, Stored, stored, replaced, removed, saving, returning, forgetting}
 
@@ -54,5 +54,5 @@ pub rows :
     -- a name that stands twice
     × (are_apart full ≡ true)
     × (are_apart (saved (97 ∷ []) (state 1) ∷ none ∷ saved (97 ∷ []) (state 2) ∷ []) ≡ false)
-unfolding is_letter are_letters is_name same no_saves named is_empty first_of place_for kept_of kept_under is_unknown is_apart are_apart replaced removed saving returning forgetting Option·elim
+unfolding is_letter are_letters is_name same no_saves named is_empty first_of place_for kept_of kept_under is_unknown is_apart are_apart replaced removed saving returning forgetting Option-elim
 rows = (refl, refl, refl, refl, refl, refl, refl, refl, refl, refl, refl, refl, refl, refl, refl, refl, refl, refl, refl, refl, refl, refl, refl, refl, refl, refl, refl, refl, refl, refl)

@@ -1,6 +1,6 @@
 -- Searches over resolved models written by hand (02, notes 8 and 9), by computation, one to a row: what is answered.
 use Rattle.std.specs.Prelude.{◌≡◌, refl, List, [], ◌∷◌, ℕ, ℤ, pos}
-use Rattle.std.proofs.Math.Option.{none, Option·elim}
+use Rattle.std.proofs.Math.Option.{none, Option-elim}
 use Rattle.value.specs.Range.{value_of}
 use Rattle.value.specs.Arithmetic.{sum_of, floor_quotient, quotient_of}
 use Rattle.grammar.specs.Syntax.{divide}
@@ -97,7 +97,7 @@ unfolding
     lists.partner_action machine.taken
     machine.entry_state machine.entry_arguments machine.branch_arguments machine.on_guard offer.arguments_given offer.all_values offer.is_value steps.state_after
     steps.step steps.at_branch steps.one_acts steps.both_act steps.on_action steps.change_of steps.bound_by steps.values_at steps.sent_by steps.replace
-    steps.replace_both pairs.pairs_after machine.listed_as machine.no weights lists.weight_of lists.key_of total Option·elim
+    steps.replace_both pairs.pairs_after machine.listed_as machine.no weights lists.weight_of lists.key_of total Option-elim
     machine.searches machine.is_depth machine.searched_as machine.found_as machine.moves_to machine.moves_of machine.way_of machine.way_taken machine.is_sought machine.is_wait same_bytes
     tree.way_in walk.behind walk.of_way walk.of_ways walk.of_listed walk.events walk.levels walk.walk walk.ending walk.judge walk.search
 rows = (refl, refl, refl, refl, refl, refl, refl, refl, refl, refl, refl, refl, refl, refl, refl, refl, refl, refl, refl)

@@ -1,6 +1,6 @@
 -- The specimens of 01 that concern evaluation, listing, step and the rule machine, over resolved models written by hand, by computation, one to a row.
 use Rattle.std.specs.Prelude.{◌≡◌, refl, List, [], ◌∷◌, true, false, ℕ, ℤ, pos, negsuc, neg_ℤ}
-use Rattle.std.proofs.Math.Option.{Option, none, some, Option·elim}
+use Rattle.std.proofs.Math.Option.{Option, none, some, Option-elim}
 use Rattle.value.specs.Range.{value_of}
 use Rattle.value.specs.Arithmetic.{sum_of, floor_quotient, quotient_of}
 use Rattle.grammar.specs.Grammar.{less, greater}
@@ -203,5 +203,5 @@ unfolding
     machine.branch_arguments machine.on_guard offer.arguments_given offer.all_values offer.is_value steps.state_after steps.step steps.at_branch steps.one_acts
     steps.both_act steps.on_action steps.change_of steps.bound_by steps.values_at steps.sent_by steps.replace steps.replace_both pairs.pairs_after pairs.insert
     pairs.remove pairs.before pairs.numbers pairs.item_numbers pairs.item_kind pairs.item_value pairs.channel_numbers order.less empty_state calls machine.has_lengths machine.all_parts machine.asked machine.on_machine weights lists.weight_of lists.key_of
-    total chosen Option·elim
+    total chosen Option-elim
 specimens = (refl, refl, refl, refl, refl, refl, refl, refl, refl, refl, refl, refl, refl, refl, refl, refl, refl, refl, refl, refl, refl, refl, refl, refl, refl, refl, refl)

@@ -1,6 +1,6 @@
 -- Timed steps over a resolved model written by hand (02, note 4), by computation, one to a row: the number, and the state and clock afterwards.
 use Rattle.std.specs.Prelude.{◌≡◌, refl, List, [], ◌∷◌, ℕ, ℤ, pos}
-use Rattle.std.proofs.Math.Option.{none, Option·elim}
+use Rattle.std.proofs.Math.Option.{none, Option-elim}
 use Rattle.value.specs.Range.{value_of}
 use Rattle.value.specs.Arithmetic.{sum_of, floor_quotient, quotient_of}
 use Rattle.grammar.specs.Syntax.{divide}
@@ -84,5 +84,5 @@ unfolding
     machine.entry_state machine.entry_arguments machine.branch_arguments machine.on_guard offer.arguments_given offer.all_values offer.is_value steps.state_after
     steps.step steps.at_branch steps.one_acts steps.both_act steps.on_action steps.change_of steps.bound_by steps.values_at steps.sent_by steps.replace
     steps.replace_both pairs.pairs_after pairs.insert pairs.remove pairs.before pairs.numbers pairs.item_numbers pairs.item_kind pairs.item_value pairs.channel_numbers order.less machine.lists machine.showing
-    machine.times_with machine.steps_in machine.with_wait machine.refused_as brought_by waited forwarded ticks_of wait_of waiting settled read next_in_run evens machine.listed_as machine.no weights lists.weight_of lists.key_of total chosen Option·elim
+    machine.times_with machine.steps_in machine.with_wait machine.refused_as brought_by waited forwarded ticks_of wait_of waiting settled read next_in_run evens machine.listed_as machine.no weights lists.weight_of lists.key_of total chosen Option-elim
 rows = ((refl, refl), (refl, refl), (refl, refl), (refl, refl), (refl, refl), (refl, refl), (refl, refl), (refl, refl), (refl, refl), (refl, refl), (refl, refl), (refl, refl), (refl, refl), (refl, refl), refl)

@@ -1,6 +1,6 @@
 -- What a state's open branches offer, in order: by place, then branch. Assumes nothing: these are definitions.
 use Rattle.std.specs.Prelude.{List, [], ◌∷◌, ◌++◌, ℕ, zero, suc, eqb}
-use Rattle.std.proofs.Math.Option.{Option·elim}
+use Rattle.std.proofs.Math.Option.{Option-elim}
 use Rattle.std.proofs.Math.ListN.{get_elem?}
 use Rattle.rules.specs.Offers.{Pair, Action, Guard, bare, opened, shut, Branch, State}
 use Rattle.rules.specs.Listing.{Entry, gather, unless, partner_action, of_action}
@@ -34,7 +34,7 @@ of_slot branches s y = of_action branches s y.place y.branch y.rate y.action
 
 -- what f gives of number k and the member there, if there is one
 unfoldable pub at_number : {A B : Type 0} → (ℕ → A → List B) → List A → ℕ → List B
-at_number f xs k = Option·elim (get_elem? xs k) [] (f k)
+at_number f xs k = Option-elim (get_elem? xs k) [] (f k)
 
 -- g 0 ++ .. ++ g (n - 1)
 unfoldable pub up_to : {B : Type 0} → (ℕ → List B) → ℕ → List B

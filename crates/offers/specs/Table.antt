@@ -1,6 +1,6 @@
 -- The table of offers: a head and seven numbers for each slot, in order. Assumes nothing: these are definitions.
 use Rattle.std.specs.Prelude.{◌≡◌, List, [], ◌∷◌, ℕ, suc, ◌+◌, ◌*◌, ◌≤◌, ◌<◌, ℤ, pos, get_or, set}
-use Rattle.std.proofs.Math.Option.{some, Option·elim}
+use Rattle.std.proofs.Math.Option.{some, Option-elim}
 use Rattle.std.proofs.Math.ListN.{get_elem?}
 use Rattle.machine.specs.Evaluate.{rate_limit}
 use Rattle.machine.specs.Offer.{Process}
@@ -48,7 +48,7 @@ pub record Small (r : Offer) : Type 0 where
 
 -- the locals of the process at a place
 unfoldable pub locals_of : List Process → ℕ → List ℤ
-locals_of ps i = Option·elim (get_elem? ps i) [] (λ p. p.locals)
+locals_of ps i = Option-elim (get_elem? ps i) [] (λ p. p.locals)
 
 -- row k shows the slot x; t: the settled nodes, ls: the locals of each place
 pub record Shown (t : List ℕ) (ls : ℕ → List ℤ) (hs : List ℕ) (os : List ℤ) (k : ℕ) (x : Slot) : Type 0 where

@@ -1,6 +1,6 @@
 -- The slots of a model's processes, branch by branch and place by place, as they are collected. Assumes nothing: these are definitions.
 use Rattle.std.specs.Prelude.{List, [], ◌∷◌, ◌++◌, ℕ, suc, ℤ}
-use Rattle.std.proofs.Math.Option.{Option, none, some, Option·elim}
+use Rattle.std.proofs.Math.Option.{Option, none, some, Option-elim}
 use Rattle.model.specs.Resolved
 use Rattle.rules.specs.Offers as offers
 use Rattle.machine.specs.Evaluate.{eval_branch}
@@ -9,7 +9,7 @@ use Rattle.offers.specs.Slots.{Slot, slot_of}
 
 -- what a branch offers; one without value, which 12 refuses, as if it were hidden
 unfoldable pub guard_or : Option offers.Guard → offers.Guard
-guard_or g = Option·elim g offers.shut (λ x. x)
+guard_or g = Option-elim g offers.shut (λ x. x)
 
 -- the slots of branches counted from j on, at place i
 unfoldable pub slots_from : List ℤ → (i j : ℕ) → List Resolved.Branch → List Slot

@@ -2,7 +2,7 @@
 -- the two agree. Assumes nothing: these are definitions.
 use Rattle.std.specs.Prelude.{◌≡◌, Bool, false, ℕ, ◌<◌, ltb, length}
 use mathlib.Core.List.{List, [], ◌++◌, Memᴰ as In}
-use Rattle.std.proofs.Math.Option.{Option·elim}
+use Rattle.std.proofs.Math.Option.{Option-elim}
 use Rattle.grammar.specs.Syntax
 use Rattle.model.specs.Lists.{each, when}
 use Rattle.model.specs.Sites.{Scope, Definition, definitions}
@@ -41,7 +41,7 @@ several xs = ltb 1 (length xs)
 module _ (w : ℕ → List ℕ) (ds : List Definition) where
   -- the definition of this name has more than one sum
   unfoldable pub several_sums : ℕ → Bool
-  several_sums k = Option·elim (definition_named w k 0 ds) false (λ d. several (sums_of d.1.sums))
+  several_sums k = Option-elim (definition_named w k 0 ds) false (λ d. several (sums_of d.1.sums))
 
   unfoldable mutual
     pub branch_unsteady : Syntax.Branch → List ℕ

@@ -1,7 +1,7 @@
 -- Which processes an entry's move replaces and by what, and where the other processes and their entries stand afterwards (01, Step: later places move; 02, note 14). Definitions only.
 use Rattle.std.specs.Prelude.{◌≡◌, cond, ℕ, zero, suc, ◌+◌, eqb, ltb, ℤ, length}
 use mathlib.Core.List.{List, [], ◌∷◌, Memᴰ as In}
-use Rattle.std.proofs.Math.Option.{Option, none, some, Option·elim}
+use Rattle.std.proofs.Math.Option.{Option, none, some, Option-elim}
 use Rattle.std.proofs.Math.ListN.{get_elem?}
 use Rattle.rules.specs.Offers.{Guard, Branch, State}
 use Rattle.rules.specs.Kind as kind
@@ -33,7 +33,7 @@ becomes (x ∷ xs) n = cond (eqb n x.0) (some x.1) (becomes xs n)
 
 -- how many processes stand for one afterwards
 abbrev pub size : {A : Type 0} → Option (List A) → ℕ
-size o = Option·elim o 1 (λ ks. length ks)
+size o = Option-elim o 1 (λ ks. length ks)
 
 -- 01, Step: later places move; a process stands where as many processes are before it as those before it have become
 unfoldable pub place_after : (sizes : ℕ → ℕ) → ℕ → ℕ
@@ -43,7 +43,7 @@ place_after z (suc n) = place_after z n + z n
 module _ {Proc : Type 0} (branches : Proc → List (Branch Proc)) (s : State Proc) where
   -- f of branch j of the process at place i
   unfoldable pub of_branch : {B : Type 0} → B → (i j : ℕ) → (Branch Proc → B) → B
-  of_branch d i j f = Option·elim (get_elem? s.processes i) d (λ p. Option·elim (get_elem? (branches p) j) d f)
+  of_branch d i j f = Option-elim (get_elem? s.processes i) d (λ p. Option-elim (get_elem? (branches p) j) d f)
 
   -- 01, Step: each process that acts, and its continuation with the values that its names take
   unfoldable pub becoming : Key → List (Change Proc)

@@ -1,6 +1,6 @@
 -- How a move carries another entry, and what both come to in either order, by computation (02, note 14): processes that split, end, hand over, bind or check, one to a row.
 use Rattle.std.specs.Prelude.{◌≡◌, refl, List, [], ◌∷◌, ℕ, pos}
-use Rattle.std.proofs.Math.Option.{none, some, Option·elim}
+use Rattle.std.proofs.Math.Option.{none, some, Option-elim}
 use Rattle.value.specs.Items.{one_item}
 use Rattle.rules.specs.Offers.{Pair, Query, range, wait, bind, check, send, take, named, bare, Branch, State}
 use Rattle.rules.specs.Kind as kind
@@ -80,5 +80,5 @@ pub rows :
     × (then (with (sends ∷ takes ∷ takes ∷ sends ∷ [])) (meets 3 1) (meets 0 1) ≡ goes unchanged (idle ∷ idle ∷ idle ∷ idle ∷ []))
 unfolding
     carried moved placed place_after becomes becoming of_branch step state_after pairs_after at_branch one_acts both_act on_action change_of bound_by values_at sent_by replace
-    replace_both Option·elim
+    replace_both Option-elim
 rows = (refl, refl, refl, refl, refl, refl, refl, refl, refl, refl, refl, refl, refl, refl, refl, refl, refl, refl)

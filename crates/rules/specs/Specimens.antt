@@ -1,6 +1,6 @@
 -- The starred specimens of 01 that concern rules, listing, draws and pairs, by computation, one to a row.
 use Rattle.std.specs.Prelude.{◌≡◌, refl, List, [], ◌∷◌, true, false, cond, ℕ, ◌*◌, ℤ, pos, nat_abs, ◌+ℤ◌}
-use Rattle.std.proofs.Math.Option.{none, some, Option·elim}
+use Rattle.std.proofs.Math.Option.{none, some, Option-elim}
 use Rattle.value.specs.Arithmetic.{is_less}
 use Rattle.value.specs.Items.{one_item, two_items, three_items}
 use Rattle.rules.specs.Offers.{Item, number, named, Channel, Pair, Set, range, without, within, Query, wait, launch, kill, receive, bind, check, send, take, take_bind, Guard, bare, opened, shut, Branch, State}
@@ -126,5 +126,5 @@ pub rows :
     -- 02, note 7: fewer items stand first, a number before a name
     × (before (on (one_item (number (pos 9))) (pos 9 ∷ [])) (on (list (number (pos 1)) (number (pos 1))) (pos 1 ∷ [])) ≡ true)
     × (before (on (list (number (pos 9)) (named 0)) (pos 9 ∷ [])) (on (list (named 0) (number (pos 1))) (pos 1 ∷ [])) ≡ true)
-unfolding entries gather when unless of_process of_guard of_action partners_in partner partner_action matches same_channel same_item all_within within any_match weights weight_of total chosen step at_branch one_acts both_act on_action change_of bound_by values_at sent_by replace replace_both pairs_after insert remove before numbers channel_numbers item_numbers item_kind item_value less Option·elim
+unfolding entries gather when unless of_process of_guard of_action partners_in partner partner_action matches same_channel same_item all_within within any_match weights weight_of total chosen step at_branch one_acts both_act on_action change_of bound_by values_at sent_by replace replace_both pairs_after insert remove before numbers channel_numbers item_numbers item_kind item_value less Option-elim
 rows = (refl, refl, refl, refl, refl, refl, refl, refl, refl, refl, refl, refl, refl, refl, refl, refl, refl, refl, refl, refl, refl, refl, refl, refl, refl, refl, refl, refl, refl, refl, refl, refl, refl, refl, refl, refl, refl)

@@ -1,6 +1,6 @@
 -- The step that an entry stands for, as a function. Definitions only.
 use Rattle.std.specs.Prelude.{List, [], ◌∷◌, ◌++◌, cond, ℕ, zero, suc, eqb, ℤ}
-use Rattle.std.proofs.Math.Option.{Option·elim}
+use Rattle.std.proofs.Math.Option.{Option-elim}
 use Rattle.std.proofs.Math.ListN.{get_elem?}
 use Rattle.rules.specs.Offers.{Pair, Action, wait, launch, kill, receive, bind, check, send, take, take_bind, Guard, bare, opened, shut, Branch, State}
 use Rattle.rules.specs.Kind as kind
@@ -54,7 +54,7 @@ bound_by vs (take w) = []
 
 -- the values of the pair with number q
 unfoldable pub values_at : List Pair → ℕ → List ℤ
-values_at L q = Option·elim (get_elem? L q) [] (λ (x : Pair). x.values)
+values_at L q = Option-elim (get_elem? L q) [] (λ (x : Pair). x.values)
 
 -- the values sent
 unfoldable pub sent_by : Action → List ℤ
@@ -89,7 +89,7 @@ state_after s (goes n ps) = record { processes = ps; pairs = pairs_after n s.pai
 module _ {Proc : Type 0} (branches : Proc → List (Branch Proc)) (s : State Proc) where
   -- f of branch j of the process at place i
   unfoldable pub at_branch : (i j : ℕ) → (Branch Proc → Outcome Proc) → Outcome Proc
-  at_branch i j f = Option·elim (get_elem? s.processes i) stays (λ p. Option·elim (get_elem? (branches p) j) stays f)
+  at_branch i j f = Option-elim (get_elem? s.processes i) stays (λ p. Option-elim (get_elem? (branches p) j) stays f)
 
   -- 01, State, step: the acting process is replaced at its place by its continuation
   unfoldable pub one_acts : (i q : ℕ) → Branch Proc → Outcome Proc

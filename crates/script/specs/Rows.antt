@@ -1,6 +1,6 @@
 -- A script: twelve numbers a row, each row a call on what is lent (01, Rule machine: texts, draws, and the lengths of all that is lent). Definitions only.
 use Rattle.std.specs.Prelude.{Bool, cond, ◌&&◌, List, [], ◌∷◌, ℕ, zero, suc, ◌+◌, ◌-◌, ◌/◌, eqb, leb, length, get_or, take, drop}
-use Rattle.std.proofs.Math.Option.{Option, none, some, Option·elim}
+use Rattle.std.proofs.Math.Option.{Option, none, some, Option-elim}
 use Rattle.machine.specs.Machine.{list', step', report', search', timed', run', save', return', forget', Ask, open', open_steady', on', Part, model, state, saves, clock, size, all_parts, Call, call}
 use Rattle.script.specs.declared.Row.{Row}
 
@@ -150,7 +150,7 @@ first_call script texts numbers words x = cond (leb row_width (length script)) (
 -- 01, Rule machine: the calls of rows, up to the first that is none
 unfoldable pub calls_of : (texts numbers words : List ℕ) → Room → List Row → List Call
 calls_of texts numbers words x [] = []
-calls_of texts numbers words x (r ∷ rs) = Option·elim (call_of texts numbers words x r) [] (λ c. c ∷ calls_of texts numbers words (room_after x) rs)
+calls_of texts numbers words x (r ∷ rs) = Option-elim (call_of texts numbers words x r) [] (λ c. c ∷ calls_of texts numbers words (room_after x) rs)
 
 -- 01, Rule machine: the calls that a script makes, told by the script, the texts, the waiting draws, the words and the lengths of what is lent
 unfoldable pub calls_in : (script texts numbers words : List ℕ) → Room → List Call

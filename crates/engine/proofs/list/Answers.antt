@@ -1,0 +1,25 @@
+-- Question 1 by the lengths, then the listing.
+use mathlib.Core.Path.{refl, sym, ◌∙◌}
+use borrow.Author.Rules.{rules}
+use Rattle.state.proofs.Tests.{refused, passed}
+use Rattle.machine.specs.Machine.{listing_length, list'}
+use Rattle.engine.proofs.Lengths.{all-long, asked-wrong, asked-right}
+use Rattle.engine.proofs.list.Goals as goal
+
+pub returns-then-not-are_long : goal.returns-then-not-are_long
+returns-then-not-are_long c =
+    let B = c.args.model.now in
+    let Z = c.args.state.now in
+    let L = c.args.listing.now in
+    rw c.bare.ensures (asked-wrong B Z list' listing_length refl refl L (sym c.are_long.ensures ∙ refused _ c.if-not-are_long.true-raw))
+
+pub list_lent-requires : goal.list_lent-requires
+list_lent-requires c =
+    all-long _ _ _ _ (sym c.are_long.ensures ∙ passed _ c.if-not-are_long.false-raw)
+
+pub returns : goal.returns
+returns c =
+    let B = c.args.model.now in
+    let Z = c.args.state.now in
+    let L = c.args.listing.now in
+    rw (asked-right B Z list' listing_length refl refl L (sym c.are_long.ensures ∙ passed _ c.if-not-are_long.false-raw)) c.list_lent.ensures

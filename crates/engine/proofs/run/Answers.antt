@@ -1,0 +1,9 @@
+use Rattle.engine.proofs.Simulated.of.Reads as of-reads
+use Rattle.simulation.proofs.run.Reads as run-reads
+use borrow.Author.Rules.{rules}
+use Rattle.engine.proofs.Runs.{ran-gives}
+use Rattle.engine.proofs.run.Goals as goal
+
+pub returns : goal.returns
+returns c =
+    rw c.of.ensures (ran-gives c.run-p.ensures)

@@ -1,0 +1,42 @@
+-- The text that the model buffer holds, or 11.
+use native.Mathlib.Omega.{arith}
+use mathlib.Core.List.{[]}
+use borrow.Author.Rules.{rules}
+use Rattle.machine.specs.Machine.{search'}
+use Rattle.buffers.specs.Parts.{lent_two}
+use Rattle.store.specs.Text.{TextOf, TextIn}
+use Rattle.searching.proofs.Results.{none-run}
+use Rattle.engine.proofs.Lengths.{none_in, text_in_lem}
+use Rattle.engine.proofs.searches.search_lent.Goals as goal
+
+pub overflow_add-end : goal.overflow_add-end
+unfolding TextIn
+overflow_add-end c =
+    let h : TextOf c.args.model.now c.in-Long.n = rw c.in-Long.is at c.find_text-found.ensures in
+    omega (arith, h.short)
+
+pub slice_bounds-search_text-end : goal.slice_bounds-search_text-end
+unfolding TextIn
+slice_bounds-search_text-end c =
+    let h : TextOf c.args.model.now c.in-Long.n = rw c.in-Long.is at c.find_text-found.ensures in
+    omega (arith, h.short, c.requires.0)
+
+pub search_text-requires : goal.search_text-requires
+search_text-requires c = c.requires.1
+
+pub returns-in-Nothing : goal.returns-in-Nothing
+unfolding TextIn
+returns-in-Nothing c =
+    let K = c.args.model.now in
+    let Z = c.args.state.now in
+    let q = search' c.args.name.now c.args.depth in
+    rw (c.bare.ensures, none_in K Z q [] (rw c.in-Nothing.is at c.find_text-found.ensures)) (none-run q (lent_two K Z))
+
+pub returns-in-Long : goal.returns-in-Long
+unfolding TextIn
+returns-in-Long c =
+    let K = c.args.model.now in
+    let Z = c.args.state.now in
+    let q = search' c.args.name.now c.args.depth in
+    let h : TextOf c.args.model.now c.in-Long.n = rw c.in-Long.is at c.find_text-found.ensures in
+    rw (text_in_lem K Z q [] c.in-Long.n h) (c.search_text.ensures K)

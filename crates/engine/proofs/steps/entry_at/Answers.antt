@@ -1,0 +1,11 @@
+-- The seven numbers of a row.
+use mathlib.Core.Path.{refl}
+use Rattle.listing.specs.Buffer.{entry_of}
+use Rattle.engine.specs.Steps.{entry_in}
+use borrow.Author.Rules.{rules}
+use Rattle.engine.proofs.steps.entry_at.Goals as goal
+
+pub returns : goal.returns
+unfolding entry_of entry_in
+returns c =
+    refl

@@ -1,0 +1,24 @@
+-- A text that holds no model gives 11; else its tables are listed over.
+use borrow.Author.Rules.{rules}
+use Rattle.machine.specs.Machine.{list'}
+use Rattle.engine.proofs.Openings.{held-is, closed_is, tables, closed-gives}
+use Rattle.engine.proofs.texts.list_text.Goals as goal
+
+pub list_model-requires : goal.list_model-requires
+list_model-requires c =
+    let X = c.args.text.now in
+    let o = held-is X _ _ _ c.read_held-read.ensures c.in-Model.is in
+    ((o.model, tables X _ _ _ o), c.requires.0, c.requires.1)
+
+pub returns-in-Refused : goal.returns-in-Refused
+returns-in-Refused c =
+    λ bs.
+    let X = c.args.text.now in
+    rw c.bare.ensures (closed-gives X bs _ list' _ (closed_is X _ _ _ c.read_held-read.ensures c.in-Refused.is))
+
+pub returns-in-Model : goal.returns-in-Model
+returns-in-Model c =
+    λ bs.
+    let X = c.args.text.now in
+    let o = held-is X _ _ _ c.read_held-read.ensures c.in-Model.is in
+    rw o.holds (c.list_model.ensures o.model bs (tables X _ _ _ o))

@@ -1,0 +1,24 @@
+-- A text that holds no model gives 11; else its tables are stepped over.
+use borrow.Author.Rules.{rules}
+use Rattle.machine.specs.Machine.{step'}
+use Rattle.engine.proofs.Openings.{held-is, closed_is, whole, closed-gives}
+use Rattle.engine.proofs.texts.step_text.Goals as goal
+
+pub step_model-requires : goal.step_model-requires
+step_model-requires c =
+    let X = c.args.text.now in
+    let o = held-is X _ _ _ c.read_held-read.ensures c.in-Model.is in
+    ((o.model, whole X _ _ _ o), c.requires.0, c.requires.1)
+
+pub returns-in-Refused : goal.returns-in-Refused
+returns-in-Refused c =
+    λ bs.
+    let X = c.args.text.now in
+    rw c.bare.ensures (closed-gives X bs _ (step' c.args.draw) _ (closed_is X _ _ _ c.read_held-read.ensures c.in-Refused.is))
+
+pub returns-in-Model : goal.returns-in-Model
+returns-in-Model c =
+    λ bs.
+    let X = c.args.text.now in
+    let o = held-is X _ _ _ c.read_held-read.ensures c.in-Model.is in
+    rw o.holds (c.step_model.ensures o.model bs (whole X _ _ _ o))

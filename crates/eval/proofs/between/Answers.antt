@@ -1,0 +1,36 @@
+-- `eval::between` meets its contract: both tests, where there are two values. By the cases of the values.
+use mathlib.Core.Path.{sym, ◌∙◌}
+use borrow.Author.Rules.{rules}
+use mir.Facts.{to_z-of_z}
+use Rattle.value.proofs.Kit.{back}
+use Rattle.rules.specs.Offers.{within}
+use Rattle.eval.proofs.Sets.{missing-not-is, between_is}
+use Rattle.eval.proofs.between.Goals as goal
+
+pub returns-then-at_most : goal.returns-then-at_most
+unfolding within
+returns-then-at_most c =
+    let v = c.x-1.given in
+    let u = c.y-1.given in
+    let e = back v.0.0 c.known_told-1.given.0.1 in
+    let d = back u.0.0 c.known_told-in-Is-1.given.0.1 in
+    let z = to_z-of_z c.ranges.v in
+    let h = sym (simp (e, z) at c.at_most.ensures) ∙ c.if-at_most.true in
+    between_is c.args.x c.args.y v.0.0 u.0.0 c.args.v c.at_most-then-at_most.result v.1 u.1 (simp h (simp (d, z) at c.at_most-then-at_most.ensures))
+
+pub returns-else-at_most : goal.returns-else-at_most
+unfolding within
+returns-else-at_most c =
+    let v = c.x-1.given in
+    let u = c.y-1.given in
+    let e = back v.0.0 c.known_told-1.given.0.1 in
+    let d = back u.0.0 c.known_told-in-Is-1.given.0.1 in
+    let z = to_z-of_z c.ranges.v in
+    let h = sym (simp (e, z) at c.at_most.ensures) ∙ c.if-at_most.false in
+    between_is c.args.x c.args.y v.0.0 u.0.0 c.args.v c.at_most.result v.1 u.1 (simp h c.if-at_most.false)
+
+pub returns-in-Missing-y : goal.returns-in-Missing-y
+returns-in-Missing-y c a b f g = missing-not-is c.args.y b c.in-Missing-y.is g
+
+pub returns-in-Missing : goal.returns-in-Missing
+returns-in-Missing c a b f g = missing-not-is c.args.x a c.in-Missing.is f

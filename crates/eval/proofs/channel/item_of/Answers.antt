@@ -1,0 +1,58 @@
+-- A name, or a number: from what the node says.
+use mathlib.Core.Path.{ap, ◌∙◌}
+use native.Mathlib.Omega.{arith}
+use lib.IntN.{ℤ, pos}
+use lib.ListN.{length}
+use mir.Syntax.{w64}
+use mir.Facts.{to_z_pos}
+use borrow.Author.Rules.{rules}
+use Rattle.value.proofs.Kit.{back}
+use Rattle.tree.specs.Node.{kind_of, token_of}
+use Rattle.machine.specs.Evaluate.{valued}
+use Rattle.rules.specs.Pairs.{item_kind, item_value}
+use Rattle.eval.specs.declared.channel.Item.{Item}
+use Rattle.eval.specs.Channels.{item_of}
+use Rattle.eval.proofs.Channels.{name-is, number-part, number_is}
+use Rattle.eval.proofs.channel.item_of.Goals as goal
+
+pub overflow_cast-n : goal.overflow_cast-n
+unfolding token_of
+overflow_cast-n c = omega (arith, c.token_of-n.ensures)
+
+pub returns-then-kind_of-eq-NAME : goal.returns-then-kind_of-eq-NAME
+unfolding token_of
+returns-then-kind_of-eq-NAME c =
+    let T = c.args.nodes.now in
+    let L = c.args.locals.now in
+    let k = c.args.k in
+    let is = c.kind_of.ensures ∙ ap kind_of c.cell_at-cell.ensures in
+    let e = to_z_pos w64 {n = c.token_of-n.result} (omega (arith, c.token_of-n.ensures)) ∙ ap pos (c.token_of-n.ensures ∙ ap token_of c.cell_at-cell.ensures) in
+    (λ x h. ap (λ (z : ℤ). record { kind = 1; value = z }) e ∙ name-is T k c.kind_of.result is L c.if-kind_of-eq-NAME.true x h, omega arith)
+
+pub eval_node-x-requires : goal.eval_node-x-requires
+eval_node-x-requires c =
+    let T = c.args.nodes.now in
+    let L = c.args.locals.now in
+    let k = c.args.k in
+    let is = c.kind_of.ensures ∙ ap kind_of c.cell_at-cell.ensures in
+    (number-part T k c.kind_of.result is c.if-kind_of-eq-NAME.false c.requires.0.0 (length L) c.requires.0.1, c.requires.1)
+
+pub returns-in-Is : goal.returns-in-Is
+unfolding valued item_of item_kind item_value
+returns-in-Is c =
+    let T = c.args.nodes.now in
+    let L = c.args.locals.now in
+    let k = c.args.k in
+    let is = c.kind_of.ensures ∙ ap kind_of c.cell_at-cell.ensures in
+    let v = c.x-1.given in
+    let d = back v.0.0 c.known_told-1.given.0.1 in
+    (λ y h. simp d (rw v.1 at (number_is T k c.kind_of.result is c.if-kind_of-eq-NAME.false L c.eval_node-x.result c.eval_node-x.ensures y h)), omega arith)
+
+pub returns-in-Missing : goal.returns-in-Missing
+unfolding valued item_of
+returns-in-Missing c =
+    let T = c.args.nodes.now in
+    let L = c.args.locals.now in
+    let k = c.args.k in
+    let is = c.kind_of.ensures ∙ ap kind_of c.cell_at-cell.ensures in
+    (λ y h. rw c.in-Missing.is at (number_is T k c.kind_of.result is c.if-kind_of-eq-NAME.false L c.eval_node-x.result c.eval_node-x.ensures y h), omega arith)

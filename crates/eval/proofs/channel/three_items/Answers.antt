@@ -1,0 +1,41 @@
+-- By the cases of the items.
+use mathlib.Core.Path.{refl, ◌∙◌}
+use native.Mathlib.Omega.{arith}
+use borrow.Author.Rules.{rules}
+use Rattle.value.proofs.Kit.{back}
+use Rattle.eval.proofs.Shapes.{lacks-first, lacks-second, lacks-third, three_made}
+use Rattle.eval.proofs.channel.three_items.Goals as goal
+
+pub returns-then-first-eq-MISSING : goal.returns-then-first-eq-MISSING
+returns-then-first-eq-MISSING c o p q e f g =
+    c.no_channel.ensures ∙ lacks-first o _ e c.if-first-eq-MISSING.true
+
+pub returns-then-second-eq-MISSING : goal.returns-then-second-eq-MISSING
+returns-then-second-eq-MISSING c o p q e f g =
+    c.no_channel-then-second-eq-MISSING.ensures ∙ lacks-second o p _ f c.if-second-eq-MISSING.true
+
+pub returns-then-third-eq-MISSING : goal.returns-then-third-eq-MISSING
+returns-then-third-eq-MISSING c o p q e f g =
+    c.no_channel-then-third-eq-MISSING.ensures ∙ lacks-third o p q _ g c.if-third-eq-MISSING.true
+
+pub overflow_mul-result : goal.overflow_mul-result
+overflow_mul-result c = omega arith
+
+pub overflow_add-result : goal.overflow_add-result
+overflow_add-result c = omega arith
+
+pub overflow_mul-result-2 : goal.overflow_mul-result-2
+overflow_mul-result-2 c = omega arith
+
+pub overflow_add-result-2 : goal.overflow_add-result-2
+overflow_add-result-2 c = omega arith
+
+pub overflow_mul-result-3 : goal.overflow_mul-result-3
+overflow_mul-result-3 c = omega arith
+
+pub overflow_add-result-3 : goal.overflow_add-result-3
+overflow_add-result-3 c = omega arith
+
+pub returns : goal.returns
+returns c o p q e f g =
+    simp (back c.args.a.value c.struct_told-1.given.1.0.1, back c.args.b.value c.struct_told-2-1.given.1.0.1, back c.args.c.value c.struct_told-3-1.given.1.0.1) (three_made c.args.a c.args.b c.args.c o p q e f g c.if-first-eq-MISSING.false c.if-second-eq-MISSING.false c.if-third-eq-MISSING.false _ refl)

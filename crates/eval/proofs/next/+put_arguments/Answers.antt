@@ -1,0 +1,126 @@
+use mathlib.Core.Path.{ap, sym, ◌∙◌}
+use Prim.Native.Nat.{ℕ, ◌-◌, ◌<◌}
+use native.Mathlib.Omega.{arith}
+use lib.ListN.{length, length-set}
+use mir.Syntax.{w64}
+use mir.Val.{of_z, to_z}
+use borrow.Author.Rules.{rules}
+use Rattle.value.proofs.Kit.{back}
+use Rattle.tree.specs.Node.{kind_of, left_of}
+use Rattle.eval.proofs.Arguments.{last-part, more_parts}
+use Rattle.eval.proofs.Rows.{room-some, room-inside, room-more, last-put, more-put}
+use Rattle.eval.proofs.next.+put_arguments.Goals as goal
+
+pub eval_node-requires : goal.eval_node-requires
+eval_node-requires t c =
+    let s = c in
+    let T = s.args.nodes.now in
+    let L = s.args.locals.now in
+    let k = s.args.k in
+    let is = c.kind_of.ensures ∙ ap kind_of c.cell_at-cell.ensures in
+    (last-part T k c.kind_of.result is c.if-kind_of-ne-ARGUMENT.true (length L) (room-some T (length L) k _ _ s.requires.1.0), s.requires.1.1)
+
+pub offset_bounds-values-at : goal.offset_bounds-values-at
+offset_bounds-values-at t c =
+    let s = c in
+    let T = s.args.nodes.now in
+    let L = s.args.locals.now in
+    let k = s.args.k in
+    let h = room-inside T (length L) k _ _ s.requires.1.0 in
+    omega (arith, h, s.well-formed)
+
+pub bounds-values-at : goal.bounds-values-at
+bounds-values-at t c =
+    let s = c in
+    let T = s.args.nodes.now in
+    let L = s.args.locals.now in
+    let k = s.args.k in
+    room-inside T (length L) k _ _ s.requires.1.0
+
+pub shape_of-values-then-kind_of-ne-ARGUMENT : goal.shape_of-values-then-kind_of-ne-ARGUMENT
+shape_of-values-then-kind_of-ne-ARGUMENT t c =
+    simp length-set
+
+pub returns-then-kind_of-ne-ARGUMENT : goal.returns-then-kind_of-ne-ARGUMENT
+returns-then-kind_of-ne-ARGUMENT t c =
+    let s = c in
+    let T = s.args.nodes.now in
+    let L = s.args.locals.now in
+    let k = s.args.k in
+    let is = c.kind_of.ensures ∙ ap kind_of c.cell_at-cell.ensures in
+    let v = s.args.values.now in
+    let x = c.eval_node.result in
+    rw (back c.or_zero-z.result c.or_zero-z.type_inv, c.or_zero-z.ensures) (last-put T L k v v s.args.at x (λ e. c.if-kind_of-ne-ARGUMENT.true (is ∙ e)) c.eval_node.ensures)
+
+pub eval_node-requires-2 : goal.eval_node-requires-2
+eval_node-requires-2 t c =
+    let s = c in
+    let T = s.args.nodes.now in
+    let L = s.args.locals.now in
+    let k = s.args.k in
+    let is = c.kind_of.ensures ∙ ap kind_of c.cell_at-cell.ensures in
+    let e = c.left_of.ensures ∙ ap left_of c.cell_at-cell.ensures in
+    let f = more_parts T k c.kind_of.result is c.if-kind_of-ne-ARGUMENT.false (length L) (room-some T (length L) k _ _ s.requires.1.0) in
+    (rw e f.1, s.requires.1.1)
+
+pub offset_bounds-values-at-2 : goal.offset_bounds-values-at-2
+offset_bounds-values-at-2 t c =
+    let s = c in
+    let T = s.args.nodes.now in
+    let L = s.args.locals.now in
+    let k = s.args.k in
+    let h = room-inside T (length L) k _ _ s.requires.1.0 in
+    omega (arith, h, s.well-formed)
+
+pub bounds-values-at-2 : goal.bounds-values-at-2
+bounds-values-at-2 t c =
+    let s = c in
+    let T = s.args.nodes.now in
+    let L = s.args.locals.now in
+    let k = s.args.k in
+    room-inside T (length L) k _ _ s.requires.1.0
+
+pub overflow_sub-k : goal.overflow_sub-k
+overflow_sub-k t c =
+    let s = c in
+    let T = s.args.nodes.now in
+    let L = s.args.locals.now in
+    let k = s.args.k in
+    let is = c.kind_of.ensures ∙ ap kind_of c.cell_at-cell.ensures in
+    (more_parts T k c.kind_of.result is c.if-kind_of-ne-ARGUMENT.false (length L) (room-some T (length L) k _ _ s.requires.1.0)).0
+
+pub overflow_add-at : goal.overflow_add-at
+overflow_add-at t c =
+    let s = c in
+    let T = s.args.nodes.now in
+    let L = s.args.locals.now in
+    let k = s.args.k in
+    let h = room-inside T (length L) k _ _ s.requires.1.0 in
+    omega (arith, h, s.well-formed)
+
+pub put_arguments-requires : goal.put_arguments-requires
+put_arguments-requires t c =
+    let s = c in
+    let T = s.args.nodes.now in
+    let L = s.args.locals.now in
+    let k = s.args.k in
+    let is = c.kind_of.ensures ∙ ap kind_of c.cell_at-cell.ensures in
+    let f = more_parts T k c.kind_of.result is c.if-kind_of-ne-ARGUMENT.false (length L) (room-some T (length L) k _ _ s.requires.1.0) in
+    (omega (arith, s.requires.0, f.0), (rw length-set (room-more T (length L) k _ _ s.requires.1.0 (sym is ∙ c.if-kind_of-ne-ARGUMENT.false)), s.requires.1.1))
+
+pub shape_of-values : goal.shape_of-values
+shape_of-values t c =
+    let s = c in
+    omega (arith, length-set s.args.values.now s.args.at (to_z w64 (of_z w64 c.or_zero-z-2.result)))
+
+pub returns : goal.returns
+returns t c =
+    let s = c in
+    let T = s.args.nodes.now in
+    let L = s.args.locals.now in
+    let k = s.args.k in
+    let is = c.kind_of.ensures ∙ ap kind_of c.cell_at-cell.ensures in
+    let e = c.left_of.ensures ∙ ap left_of c.cell_at-cell.ensures in
+    let v = s.args.values.now in
+    let d = back c.or_zero-z-2.result c.or_zero-z-2.type_inv ∙ c.or_zero-z-2.ensures in
+    more-put T L k v _ s.args.at c.eval_node-2.result (sym is ∙ c.if-kind_of-ne-ARGUMENT.false) (rw e at c.eval_node-2.ensures) (rw d at c.put_arguments.ensures)

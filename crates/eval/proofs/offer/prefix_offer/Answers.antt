@@ -1,0 +1,54 @@
+-- `eval::offer::prefix_offer` meets its contract: the rate, then the action. From what the node says.
+use mathlib.Core.Path.{ap, ◌∙◌}
+use Prim.Native.Nat.{ℕ}
+use lib.ListN.{length}
+use Rattle.tree.specs.Node.{left_of}
+use Rattle.eval.specs.Shown.{rate_root}
+use Rattle.eval.proofs.Offers.{own-parts, own-rate, own-action, prefix-is, prefix-missing}
+use borrow.Author.Rules.{rules}
+use Rattle.eval.proofs.offer.prefix_offer.Goals as goal
+
+pub rate_root-requires : goal.rate_root-requires
+rate_root-requires c =
+    let s = c in
+    let T = s.args.nodes.now in
+    let L = s.args.locals.now in
+    let k = s.args.k in
+    (own-parts T k (length L) s.requires.0).above
+
+pub rate_of-rate-requires : goal.rate_of-rate-requires
+rate_of-rate-requires c =
+    let s = c in
+    let T = s.args.nodes.now in
+    let L = s.args.locals.now in
+    let k = s.args.k in
+    let r = c.rate_root.ensures ∙ ap (λ (x : ℕ). rate_root x k) c.cell_at-cell.ensures in
+    (rw r (own-rate T k (length L) s.requires.0), s.requires.1)
+
+pub action_offer-requires : goal.action_offer-requires
+action_offer-requires c =
+    let s = c in
+    let T = s.args.nodes.now in
+    let L = s.args.locals.now in
+    let k = s.args.k in
+    let e = c.left_of.ensures ∙ ap left_of c.cell_at-cell.ensures in
+    (rw e (own-action T k (length L) s.requires.0), s.requires.1)
+
+pub returns-in-Is : goal.returns-in-Is
+returns-in-Is c =
+    let s = c in
+    let T = s.args.nodes.now in
+    let L = s.args.locals.now in
+    let k = s.args.k in
+    let e = c.left_of.ensures ∙ ap left_of c.cell_at-cell.ensures in
+    let r = c.rate_root.ensures ∙ ap (λ (x : ℕ). rate_root x k) c.cell_at-cell.ensures in
+    prefix-is T k L c.in-Is.n c.action_offer.result (rw (r, c.in-Is.is) at c.rate_of-rate.ensures) (rw e at c.action_offer.ensures)
+
+pub returns-in-Missing : goal.returns-in-Missing
+returns-in-Missing c =
+    let s = c in
+    let T = s.args.nodes.now in
+    let L = s.args.locals.now in
+    let k = s.args.k in
+    let r = c.rate_root.ensures ∙ ap (λ (x : ℕ). rate_root x k) c.cell_at-cell.ensures in
+    rw c.bare_offer.ensures (prefix-missing T k L (rw (r, c.in-Missing.is) at c.rate_of-rate.ensures))

@@ -1,0 +1,21 @@
+-- `eval::two_values` meets its contract. By the cases of the values.
+use borrow.Author.Rules.{rules}
+use Rattle.value.proofs.Kit.{back}
+use Rattle.machine.specs.Evaluate.{valued, given, eval_all}
+use Rattle.eval.specs.Lists.{values_of, values_given}
+use Rattle.eval.proofs.two_values.Goals as goal
+
+pub returns-in-Is-y : goal.returns-in-Is-y
+unfolding values_given values_of eval_all valued given
+returns-in-Is-y c =
+    let v = c.x-1.given in
+    let u = c.y-1.given in
+    rw (v.1, u.1, back v.0.0 c.known_told-1.given.0.1, back u.0.0 c.known_told-in-Is-1.given.0.1)
+
+pub returns-in-Missing-y : goal.returns-in-Missing-y
+unfolding values_given values_of eval_all valued given
+returns-in-Missing-y c = rw (c.in-Is.is, c.in-Missing-y.is)
+
+pub returns-in-Missing : goal.returns-in-Missing
+unfolding values_given values_of eval_all valued given
+returns-in-Missing c = rw c.in-Missing.is

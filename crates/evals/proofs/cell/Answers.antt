@@ -1,0 +1,10 @@
+-- `cell` meets its contract. By unfolding.
+use mathlib.Core.Path.{refl}
+use Rattle.tables.specs.Settled.{lifted, number_cell}
+use borrow.Author.Rules.{rules}
+use Rattle.evals.proofs.cell.Goals as goal
+
+pub returns : goal.returns
+unfolding number_cell lifted
+returns c =
+    refl

@@ -1,0 +1,11 @@
+-- By the cases of the rest.
+use Rattle.std.proofs.Common.{◌≡◌, sym, ap, ◌∙◌, rules}
+use Rattle.lines.specs.declared.line.Rest.{Rest}
+use Rattle.lines.specs.Line.{digit_next}
+use Rattle.lines.proofs.line.with_digit.Goals as goal
+
+pub returns-in-Nothing : goal.returns-in-Nothing
+returns-in-Nothing c = sym (ap (λ (r : Rest). digit_next r c.args.d) c.in-Nothing.is)
+
+pub returns-in-Number : goal.returns-in-Number
+returns-in-Number c = c.grow.ensures ∙ sym (ap (λ (r : Rest). digit_next r c.args.d) c.in-Number.is)

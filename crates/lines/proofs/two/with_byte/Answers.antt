@@ -1,0 +1,13 @@
+-- A byte is a digit, or below or above them.
+use Rattle.std.proofs.Common.{◌∙◌, arith, rules}
+use Rattle.lines.proofs.Twos.{below-digit, above-digit, at-digit}
+use Rattle.lines.proofs.two.with_byte.Goals as goal
+
+pub returns-then-b-lt48 : goal.returns-then-b-lt48
+returns-then-b-lt48 c = c.with_letter.ensures ∙ below-digit c.args.two c.args.b (omega arith)
+
+pub returns-then-b-gt57 : goal.returns-then-b-gt57
+returns-then-b-gt57 c = c.with_letter-then-b-gt57.ensures ∙ above-digit c.args.two c.args.b (omega arith)
+
+pub returns : goal.returns
+returns c = c.with_digit.ensures ∙ at-digit c.args.two c.args.b (omega arith) (omega arith)

@@ -1,0 +1,27 @@
+-- `listing::any_match` meets its contract. The loop's invariant: no pair before q matches.
+use Rattle.listing.proofs.pair_matches.Reads as pair-matches-reads
+use lib.ListN.{get_elem?}
+use Rattle.model.specs.Resolved
+use Rattle.rules.specs.Offers as offers
+use Rattle.rules.specs.Listing.{matches}
+use Rattle.machine.specs.State.{State}
+use Rattle.eval.specs.Shown.{ShowsQuery}
+use Rattle.offers.specs.Collect.{World}
+use Rattle.listing.specs.Ready.{RunIs}
+use Rattle.listing.proofs.Pairs.{some_pair}
+use Rattle.listing.proofs.Runs.{run_on, run-off, any_at, run_more, run_none}
+use mathlib.Core.Option.{some}
+use mathlib.Core.Logic.{inl}
+use mathlib.Core.Path.{◌≡◌, sym, ◌∙◌}
+use mathlib.Core.List.{List}
+use mathlib.Core.Bool.{false}
+use Prim.Native.Nat.{ℕ, ◌-◌, ◌≤◌, ◌<◌}
+use native.Mathlib.Omega.{arith}
+use borrow.Author.Rules.{rules}
+use Rattle.listing.proofs.any_match.Given as goal
+
+abbrev pub invariant-loop-q : goal.invariant-loop-q
+invariant-loop-q l = (l.initial.q ≤ l.q) × ((w : offers.Query) (t roots scopes : List ℕ) (m : Resolved.Model) (s : State) → ShowsQuery l.nodes l.locals l.o w → World t roots scopes l.state m s → RunIs s.pairs w l.initial.q l.to → (k : ℕ) (x : offers.Pair) → get_elem? s.pairs k ≡ some x → k < l.q → matches w x ≡ false)
+
+abbrev pub decreases-loop-q : goal.decreases-loop-q
+decreases-loop-q l = l.to - l.q

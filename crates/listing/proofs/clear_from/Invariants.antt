@@ -1,0 +1,14 @@
+-- `listing::clear_from` meets its contract. The loop's invariant: zeros from the start on, up to i.
+use Rattle.listing.proofs.Cleared.{mix, target, cleared-none, cleared-up, cleared-all}
+use mathlib.Core.Path.{◌≡◌, refl, ◌∙◌}
+use Prim.Native.Nat.{◌-◌, ◌≤◌}
+use native.Mathlib.Omega.{arith}
+use borrow.Author.Rules.{rules}
+use lib.ListN.{length, length-set}
+use Rattle.listing.proofs.clear_from.Given as goal
+
+abbrev pub invariant-loop-i : goal.invariant-loop-i
+invariant-loop-i l = (l.from ≤ l.i) × (l.i ≤ l.n) × (l.n ≡ length l.initial.listing) × (l.listing ≡ mix l.i (target l.from l.initial.listing) l.initial.listing) × (length l.listing ≡ length l.initial.listing)
+
+abbrev pub decreases-loop-i : goal.decreases-loop-i
+decreases-loop-i l = l.n - l.i

@@ -1,0 +1,27 @@
+-- `listing::list_bound` meets its contract. The loop's invariant: the entries of the pairs before q are added.
+use Rattle.listing.proofs.list_pair.Reads as list-pair-reads
+use Rattle.model.specs.Resolved
+use Rattle.rules.specs.Offers as offers
+use Rattle.machine.specs.State.{State}
+use Rattle.machine.specs.Machine.{entry_limit, listing_length}
+use Rattle.eval.specs.Shown.{ShowsQuery}
+use Rattle.offers.specs.Slots.{up_to, at_number}
+use Rattle.offers.specs.Collect.{World}
+use Rattle.listing.specs.Buffer.{Adds}
+use Rattle.listing.specs.Ready.{RunIs, bound_at}
+use Rattle.listing.proofs.Added.{adds_none, adds_then}
+use Rattle.listing.proofs.Pairs.{some_pair}
+use Rattle.listing.proofs.Runs.{bound-start, bound-next, bound-end}
+use mathlib.Core.Path.{◌≡◌, sym}
+use mathlib.Core.List.{List}
+use Prim.Native.Nat.{ℕ, suc, ◌-◌, ◌≤◌}
+use native.Mathlib.Omega.{arith}
+use borrow.Author.Rules.{rules}
+use lib.ListN.{length}
+use Rattle.listing.proofs.list_bound.Given as goal
+
+abbrev pub invariant-loop-q : goal.invariant-loop-q
+invariant-loop-q l = (l.initial.q ≤ l.q) × (length l.listing ≡ listing_length) × (l.n ≤ suc entry_limit) × ((w : offers.Query) (t roots scopes : List ℕ) (m : Resolved.Model) (s : State) → ShowsQuery l.nodes l.locals l.o w → World t roots scopes l.state m s → RunIs s.pairs w l.initial.q l.to → (l.q ≤ l.to) × Adds (up_to (at_number (bound_at w l.place l.branch l.o.rate) s.pairs) l.q) l.initial.listing l.count l.listing l.n)
+
+abbrev pub decreases-loop-q : goal.decreases-loop-q
+decreases-loop-q l = l.to - l.q

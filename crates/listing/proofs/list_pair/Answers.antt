@@ -1,0 +1,28 @@
+-- `listing::list_pair` meets its contract: one entry, or none. From the laws of runs.
+use Rattle.listing.proofs.append.Reads as append-reads
+use Rattle.listing.proofs.pair_matches.Reads as pair-matches-reads
+use Rattle.state.proofs.Tests.{refused, passed}
+use Rattle.listing.specs.Buffer.{entry_of}
+use Rattle.listing.proofs.Added.{adds_none}
+use Rattle.listing.proofs.Runs.{matches-on, bound-yes, bound-no}
+use mathlib.Core.Path.{sym, ◌∙◌}
+use Prim.Native.Nat.{◌-◌}
+use borrow.Author.Rules.{rules}
+use Rattle.listing.proofs.list_pair.Goals as goal
+
+pub pair_matches-requires : goal.pair_matches-requires
+pair_matches-requires c =
+    (c.requires.0, c.requires.1, c.requires.2, c.requires.3)
+
+pub returns-then-not-pair_matches : goal.returns-then-not-pair_matches
+returns-then-not-pair_matches c =
+    (λ w t roots scopes m s x sq W at ch. let M = matches-on w x (sym ch) ∙ sym (c.pair_matches.ensures w t roots scopes m s x sq W at) in rw (bound-no w c.args.place c.args.branch c.args.o.rate c.args.q x (M ∙ refused _ c.if-not-pair_matches.true-raw)) (adds_none _ _ c.requires.6), c.requires.5, c.requires.6)
+
+pub append-requires : goal.append-requires
+append-requires c =
+    (c.requires.5, c.requires.6)
+
+pub returns : goal.returns
+unfolding entry_of
+returns c =
+    (λ w t roots scopes m s x sq W at ch. let M = matches-on w x (sym ch) ∙ sym (c.pair_matches.ensures w t roots scopes m s x sq W at) in rw (bound-yes w c.args.place c.args.branch c.args.o.rate c.args.q x (M ∙ passed _ c.if-not-pair_matches.false-raw)) c.append.ensures, c.append.ensures.size ∙ c.requires.5, c.append.ensures.most)

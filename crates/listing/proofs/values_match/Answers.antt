@@ -1,0 +1,41 @@
+-- `listing::values_match` meets its contract: counts, then the first set, then the second. From the laws of matching.
+use Rattle.eval.proofs.offer.in_offer_set.Reads as in-offer-set-reads
+use mir.Facts.{to_z-of_z}
+use Rattle.value.proofs.Kit.{back}
+use Rattle.state.proofs.Tests.{refused, passed}
+use Rattle.listing.proofs.Matching.{first-set, second-set, counts-differ, first_out, only-in, second-tells}
+use mathlib.Core.Path.{sym, ◌∙◌}
+use Prim.Native.Nat.{◌-◌}
+use native.Mathlib.Omega.{arith}
+use Rattle.listing.proofs.values_match.Goals as goal
+
+pub returns-then-o-count : goal.returns-then-o-count
+returns-then-o-count c =
+    λ w vs q r. counts-differ q.sets-are r c.if-o-count.true
+
+pub in_offer_set-requires : goal.in_offer_set-requires
+in_offer_set-requires c =
+    let o = c.args.o in let g = c.struct_told-1.given in let b = back o.first g.1.1.1.1.1.0.1 in let b' = back o.first_end g.1.1.1.1.1.1.0.1 in let v = to_z-of_z c.ranges.first in
+    simp (b, b') (first-set c.requires.0.1.sets-are, c.requires.1)
+
+pub returns-then-not-in_offer_set : goal.returns-then-not-in_offer_set
+returns-then-not-in_offer_set c =
+    let o = c.args.o in let g = c.struct_told-1.given in let b = back o.first g.1.1.1.1.1.0.1 in let b' = back o.first_end g.1.1.1.1.1.1.0.1 in let v = to_z-of_z c.ranges.first in
+    let n = c.if-o-count.false in λ w vs q r. first_out q.sets-are r n (λ x y. sym (refused _ c.if-not-in_offer_set.true-raw) ∙ (simp (b, b', v) at c.in_offer_set.ensures) x y)
+
+pub returns-then-count-lt2 : goal.returns-then-count-lt2
+returns-then-count-lt2 c =
+    let o = c.args.o in let g = c.struct_told-1.given in let b = back o.first g.1.1.1.1.1.0.1 in let b' = back o.first_end g.1.1.1.1.1.1.0.1 in let v = to_z-of_z c.ranges.first in
+    let n = c.if-o-count.false in λ w vs q r. only-in q.sets-are r n c.if-count-lt2.true (λ x y. sym (passed _ c.if-not-in_offer_set.false-raw) ∙ (simp (b, b', v) at c.in_offer_set.ensures) x y)
+
+pub in_offer_set-requires-2 : goal.in_offer_set-requires-2
+in_offer_set-requires-2 c =
+    let o = c.args.o in let g = c.struct_told-1.given in let b = back o.first g.1.1.1.1.1.0.1 in let b' = back o.first_end g.1.1.1.1.1.1.0.1 in let v = to_z-of_z c.ranges.first in
+    let h = c.struct_told-3-1.given in let d = back o.second h.1.1.1.1.1.1.1.0.1 in let d' = back o.second_end h.1.1.1.1.1.1.1.1.0.1 in let u = to_z-of_z c.ranges.second in
+    simp (d, d') (second-set (omega arith) c.requires.0.1.sets-are, c.requires.1)
+
+pub returns : goal.returns
+returns c =
+    let o = c.args.o in let g = c.struct_told-1.given in let b = back o.first g.1.1.1.1.1.0.1 in let b' = back o.first_end g.1.1.1.1.1.1.0.1 in let v = to_z-of_z c.ranges.first in
+    let h = c.struct_told-3-1.given in let d = back o.second h.1.1.1.1.1.1.1.0.1 in let d' = back o.second_end h.1.1.1.1.1.1.1.1.0.1 in let u = to_z-of_z c.ranges.second in
+    let n = c.if-o-count.false in λ w vs q r. second-tells _ q.sets-are r n c.if-count-lt2.false (λ x y. sym (passed _ c.if-not-in_offer_set.false-raw) ∙ (simp (b, b', v) at c.in_offer_set.ensures) x y) (simp (d, d', u) at c.in_offer_set-2.ensures)

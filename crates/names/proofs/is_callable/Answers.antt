@@ -1,0 +1,46 @@
+-- `names::is_callable` meets its contract: by what the look-up among definitions finds.
+use mathlib.Core.Path.{ap, ◌∙◌}
+use Prim.Native.Nat.{ℕ}
+use native.Mathlib.Omega.{arith}
+use borrow.Author.Rules.{rules}
+use lib.ListN.{get_or}
+use Rattle.tree.specs.Node.{third_of}
+use Rattle.names.proofs.Settled.{name-inside, reach-definitions}
+use Rattle.names.proofs.Uses.{variables-below, not-defined, defined-inside, defined-takes}
+use Rattle.names.proofs.is_callable.Goals as goal
+
+pub overflow_sub-first : goal.overflow_sub-first
+overflow_sub-first c =
+    omega (arith, variables-below c.requires.0 c.args.k c.args.n c.requires.1)
+
+pub listed-requires : goal.listed-requires
+listed-requires c =
+     record { reach = reach-definitions c.requires.0 c.args.lists.definitions (omega arith); k_in_bounds = name-inside c.requires.0 c.args.k c.requires.1 }
+
+pub returns-in_default : goal.returns-in_default
+returns-in_default c =
+    λ h e. not-defined h c.args.k c.args.n e c.listed.ensures c.in_default.is
+
+pub overflow_sub-first-2 : goal.overflow_sub-first-2
+overflow_sub-first-2 c =
+    omega (arith, (defined-inside c.requires.0 c.args.k c.args.n c.requires.1 c.listed.ensures c.in-At.is).0)
+
+pub offset_bounds-nodes-first : goal.offset_bounds-nodes-first
+offset_bounds-nodes-first c =
+    omega (arith, (defined-inside c.requires.0 c.args.k c.args.n c.requires.1 c.listed.ensures c.in-At.is).1)
+
+pub bounds-nodes-first : goal.bounds-nodes-first
+bounds-nodes-first c =
+    (defined-inside c.requires.0 c.args.k c.args.n c.requires.1 c.listed.ensures c.in-At.is).1
+
+pub offset_bounds-nodes-left_of : goal.offset_bounds-nodes-left_of
+offset_bounds-nodes-left_of c =
+    omega (arith, c.left_of.ensures, (defined-inside c.requires.0 c.args.k c.args.n c.requires.1 c.listed.ensures c.in-At.is).2)
+
+pub bounds-nodes-left_of : goal.bounds-nodes-left_of
+bounds-nodes-left_of c =
+    rw c.left_of.ensures (defined-inside c.requires.0 c.args.k c.args.n c.requires.1 c.listed.ensures c.in-At.is).2
+
+pub returns : goal.returns
+returns c =
+    λ h e. defined-takes h c.args.k c.args.n e c.listed.ensures c.in-At.is c.third_of.result (c.third_of.ensures ∙ ap (λ (i : ℕ). third_of (get_or c.args.nodes.now i 0)) c.left_of.ensures)

@@ -1,0 +1,63 @@
+-- `judge_names` meets its contract: the first question that says no, or none.
+use Rattle.names.specs.declared.Question.TheVariants.{Fresh, Given}
+use Rattle.names.proofs.Grounds.{kinds-there}
+use Rattle.names.proofs.Judging.{limits-ready, names-ready, judged-beyond, judged-new, judged-given, judged-passed}
+use Rattle.names.proofs.earlier.Reads as earlier-reads
+use Rattle.names.proofs.lists_of.Reads as lists-of-reads
+use Rattle.names.proofs.walk.tree_fault.Reads as tree-fault-reads
+use Rattle.names.proofs.words_fault.Reads as words-fault-reads
+use mathlib.Core.Path.{◌≡◌, refl, ap, sym, ◌∙◌}
+use mathlib.Core.List.{List, [], ◌∷◌, ◌++◌}
+use mathlib.Core.Bool.{Bool, true, false, cond}
+use mathlib.Core.Logic.{⊎_elim}
+use Prim.Native.Nat.{ℕ, zero, suc, ◌+◌, ◌-◌, ◌*◌, ◌≤◌, ◌<◌}
+use native.Mathlib.Omega.{arith}
+use borrow.Author.Rules.{rules}
+use borrow.Author.Tests.{lt-ltb, le-ltb, le-leb, lt-leb, eq-eqb, ne_eqb}
+use lib.IntN.{ℤ, pos}
+use lib.ListN.{length, get_or, set, take, drop, replicate, length-append, length-take, length-drop, length-set, length-replicate}
+use Rattle.names.proofs.judge_names.Goals as goal
+
+pub lists_of-lists-requires : goal.lists_of-lists-requires
+lists_of-lists-requires c =
+    (c.requires.1, 0, c.requires.2.holds)
+
+pub slice_bounds-toks-end : goal.slice_bounds-toks-end
+slice_bounds-toks-end c =
+    simp length-take (omega (arith, kinds-there c.requires.2))
+
+pub words_fault-words-requires : goal.words_fault-words-requires
+words_fault-words-requires c =
+    (c.requires.0, c.requires.2.tabled)
+
+pub tree_fault-tree-requires : goal.tree_fault-tree-requires
+tree_fault-tree-requires c =
+    limits-ready c.requires.2 c.lists_of-lists.result (c.lists_of-lists.ensures c.requires.1 0 c.requires.2.holds) (take c.args.n c.args.kinds.now) refl
+
+pub enum_known-k : goal.enum_known-k
+enum_known-k c =
+    c.in-At.keys1
+
+pub returns-in-At : goal.returns-in-At
+returns-in-At c =
+    λ text s h. judged-beyond h c.lists_of-lists.result (c.lists_of-lists.ensures s 0 h.holds) (take c.args.n c.args.kinds.now) refl (c.words_fault-words.ensures text h.tabled) c.tree_fault-tree.ensures c.earlier.ensures c.in-At.is
+
+pub tree_fault-requires : goal.tree_fault-requires
+tree_fault-requires c =
+    names-ready c.requires.2 c.lists_of-lists.result (c.lists_of-lists.ensures c.requires.1 0 c.requires.2.holds) (take c.args.n c.args.kinds.now) refl (c.words_fault-words.ensures c.requires.0 c.requires.2.tabled) c.tree_fault-tree.ensures c.earlier.ensures c.in_default.is Fresh
+
+pub returns-in-At-tree_fault : goal.returns-in-At-tree_fault
+returns-in-At-tree_fault c =
+    λ text s h. judged-new h c.lists_of-lists.result (c.lists_of-lists.ensures s 0 h.holds) (take c.args.n c.args.kinds.now) refl (c.words_fault-words.ensures text h.tabled) c.tree_fault-tree.ensures c.earlier.ensures c.in_default.is c.tree_fault.ensures c.in-At-tree_fault.is
+
+pub tree_fault-requires-2 : goal.tree_fault-requires-2
+tree_fault-requires-2 c =
+    names-ready c.requires.2 c.lists_of-lists.result (c.lists_of-lists.ensures c.requires.1 0 c.requires.2.holds) (take c.args.n c.args.kinds.now) refl (c.words_fault-words.ensures c.requires.0 c.requires.2.tabled) c.tree_fault-tree.ensures c.earlier.ensures c.in_default.is Given
+
+pub returns-in-At-tree_fault-2 : goal.returns-in-At-tree_fault-2
+returns-in-At-tree_fault-2 c =
+    λ text s h. judged-given h c.lists_of-lists.result (c.lists_of-lists.ensures s 0 h.holds) (take c.args.n c.args.kinds.now) refl (c.words_fault-words.ensures text h.tabled) c.tree_fault-tree.ensures c.earlier.ensures c.in_default.is c.tree_fault.ensures c.in_default-tree_fault.is c.tree_fault-2.ensures c.in-At-tree_fault-2.is
+
+pub returns : goal.returns
+returns c =
+    λ text s h. judged-passed h c.lists_of-lists.result (c.lists_of-lists.ensures s 0 h.holds) (take c.args.n c.args.kinds.now) refl (c.words_fault-words.ensures text h.tabled) c.tree_fault-tree.ensures c.earlier.ensures c.in_default.is c.tree_fault.ensures c.in_default-tree_fault.is c.tree_fault-2.ensures c.in_default-tree_fault-2.is

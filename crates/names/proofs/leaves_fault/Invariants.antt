@@ -1,0 +1,17 @@
+-- The loop's invariant: what was found and what is still to be judged give the answer for all the nodes.
+use mathlib.Core.Path.{◌≡◌, refl, ◌∙◌}
+use Prim.Native.Nat.{◌-◌}
+use native.Mathlib.Omega.{arith}
+use borrow.Author.Rules.{rules}
+use Rattle.model.specs.Lists.{each, least}
+use Rattle.names.specs.Faults.{earlier_of}
+use Rattle.names.specs.Leaves.{between}
+use Rattle.names.specs.Settings.{Setting, faults_at}
+use Rattle.names.proofs.Judges.{leaves-on, leaves-end}
+use Rattle.names.proofs.leaves_fault.Given as goal
+
+abbrev pub invariant-loop-i : goal.invariant-loop-i
+invariant-loop-i l = ((h : Setting l.question l.low l.high l.nodes l.lists l.scope) → earlier_of l.found (least (each (faults_at h) (between l.nodes l.i (l.to - l.i)))) ≡ least (each (faults_at h) (between l.nodes l.from (l.to - l.from))))
+
+abbrev pub decreases-loop-i : goal.decreases-loop-i
+decreases-loop-i l = l.to - l.i

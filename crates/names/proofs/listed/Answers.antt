@@ -1,0 +1,35 @@
+use mathlib.Core.Path.{refl, sym, ◌∙◌}
+use Prim.Native.Nat.{◌-◌, ◌≤◌}
+use native.Mathlib.Omega.{arith}
+use borrow.Author.Rules.{rules}
+use Rattle.names.specs.Lists.{packed, names_down}
+use Rattle.names.proofs.Lookups.{Onward, onward, place_here, place_none, down-length, down-at}
+use Rattle.names.proofs.listed.Goals as goal
+
+pub loop-j-init : goal.loop-j-init
+loop-j-init c =
+    (omega arith, refl)
+
+pub overflow_sub-first : goal.overflow_sub-first
+overflow_sub-first c =
+    omega (arith, c.requires.reach.count)
+
+pub listed_name-requires : goal.listed_name-requires
+listed_name-requires c =
+    ((c.requires.reach.each c.loop-j.j (omega arith)).node, (c.requires.reach.each c.loop-j.j (omega arith)).left)
+
+pub same_name-requires : goal.same_name-requires
+same_name-requires c =
+    let e = (c.requires.reach.each c.loop-j.j (omega arith)) in (c.requires.k_in_bounds.0, rw c.listed_name.ensures e.in-low, c.requires.k_in_bounds.1, rw c.listed_name.ensures e.in-high)
+
+pub returns-then-same_name : goal.returns-then-same_name
+returns-then-same_name c =
+    place_here (packed c.args.low.now c.args.high.now) c.args.k (names_down c.args.nodes.now c.args.first c.args.n) c.loop-j.j c.listed_name.result (omega (arith, down-length c.args.nodes.now c.args.first c.args.n)) (down-at c.args.nodes.now c.args.first c.args.n c.loop-j.j (omega arith) ∙ sym c.listed_name.ensures) c.same_name.result c.same_name.ensures c.if-same_name.true c.loop-j.invariant.1
+
+pub loop-j-preserved : goal.loop-j-preserved
+loop-j-preserved c =
+    (omega arith, onward (packed c.args.low.now c.args.high.now) c.args.k (names_down c.args.nodes.now c.args.first c.args.n) c.loop-j.j c.listed_name.result (omega (arith, down-length c.args.nodes.now c.args.first c.args.n)) (down-at c.args.nodes.now c.args.first c.args.n c.loop-j.j (omega arith) ∙ sym c.listed_name.ensures) c.same_name.result c.same_name.ensures c.if-same_name.false c.loop-j.invariant.1)
+
+pub returns : goal.returns
+returns c =
+    place_none (packed c.args.low.now c.args.high.now) c.args.k (names_down c.args.nodes.now c.args.first c.args.n) c.loop-j.j (omega (arith, down-length c.args.nodes.now c.args.first c.args.n)) c.loop-j.invariant.1

@@ -1,0 +1,28 @@
+-- `names::listed_name` meets its contract: by the kind of the node.
+use mathlib.Core.Path.{ap, sym, ◌∙◌}
+use Prim.Native.Nat.{ℕ}
+use native.Mathlib.Omega.{arith}
+use borrow.Author.Rules.{rules}
+use borrow.Author.Tests.{eq-eqb, ne_eqb}
+use lib.ListN.{get_or}
+use Rattle.tree.specs.Node.{kind_of, token_of}
+use Rattle.names.specs.Lists.{name_at}
+use Rattle.names.proofs.listed_name.Goals as goal
+
+pub returns-then-kind_of-eq-VARIABLE : goal.returns-then-kind_of-eq-VARIABLE
+unfolding name_at
+returns-then-kind_of-eq-VARIABLE c =
+    simp (eq-eqb (kind_of (get_or c.args.nodes.now c.args.i 0)) 65 (sym c.kind_of.ensures ∙ c.if-kind_of-eq-VARIABLE.true)) c.token_of.ensures
+
+pub offset_bounds-nodes-left_of : goal.offset_bounds-nodes-left_of
+offset_bounds-nodes-left_of c =
+    omega (arith, c.left_of.ensures)
+
+pub bounds-nodes-left_of : goal.bounds-nodes-left_of
+bounds-nodes-left_of c =
+    rw c.left_of.ensures c.requires.1
+
+pub returns : goal.returns
+unfolding name_at
+returns c =
+    simp (ne_eqb (kind_of (get_or c.args.nodes.now c.args.i 0)) 65 (λ e. c.if-kind_of-eq-VARIABLE.false (c.kind_of.ensures ∙ e))) (c.token_of-2.ensures ∙ ap (λ (k : ℕ). token_of (get_or c.args.nodes.now k 0)) c.left_of.ensures)

@@ -1,0 +1,49 @@
+-- `walk::binding_fault` meets its contract: by the number of names.
+use Rattle.names.proofs.Settled.{root_in}
+use Rattle.names.proofs.Acts.{none-binding, some-bound, is-binding, binding-judged}
+use Rattle.names.proofs.bound_fault.Reads as bound-fault-reads
+use Rattle.names.proofs.walk.set_count.Reads as set-count-reads
+use Rattle.tree.proofs.third_of.Reads as third-of-reads
+use Rattle.tree.proofs.token_of.Reads as token-of-reads
+use mathlib.Core.Path.{◌≡◌, refl, ap, sym, ◌∙◌}
+use mathlib.Core.List.{List, [], ◌∷◌, ◌++◌}
+use mathlib.Core.Bool.{Bool, true, false, cond}
+use mathlib.Core.Logic.{⊎_elim}
+use Prim.Native.Nat.{ℕ, zero, suc, ◌+◌, ◌-◌, ◌*◌, ◌≤◌, ◌<◌}
+use native.Mathlib.Omega.{arith}
+use borrow.Author.Rules.{rules}
+use borrow.Author.Tests.{lt-ltb, le-ltb, le-leb, lt-leb, eq-eqb, ne_eqb}
+use lib.IntN.{ℤ, pos}
+use lib.ListN.{length, get_or, set, take, drop, replicate, length-append, length-take, length-drop, length-set, length-replicate}
+use Rattle.names.proofs.walk.binding_fault.Goals as goal
+
+pub offset_bounds-nodes-root : goal.offset_bounds-nodes-root
+offset_bounds-nodes-root c =
+    omega (arith, root_in c.requires.0.0.world, c.requires.1)
+
+pub bounds-nodes-root : goal.bounds-nodes-root
+bounds-nodes-root c =
+    omega (arith, root_in c.requires.0.0.world, c.requires.1)
+
+pub returns-then-n-eq0 : goal.returns-then-n-eq0
+returns-then-n-eq0 c =
+    λ h a lo t room. none-binding h a lo c.args.root t c.requires.1 (sym c.third_of-n.ensures ∙ c.if-n-eq0.true)
+
+pub overflow_sub-root : goal.overflow_sub-root
+overflow_sub-root c =
+    omega (arith, (some-bound c.requires.0.0 c.requires.0.1 c.requires.0.2 c.args.root c.requires.0.3 c.requires.1 c.third_of-n.result c.third_of-n.ensures c.if-n-eq0.false).above)
+
+pub set_count-sets-requires : goal.set_count-sets-requires
+set_count-sets-requires c =
+    omega (arith, root_in c.requires.0.0.world, c.requires.1)
+
+pub bound_fault-requires : goal.bound_fault-requires
+bound_fault-requires c =
+    is-binding c.requires.0.0 c.requires.0.1 c.requires.0.2 c.args.root c.requires.0.3 c.requires.1 c.third_of-n.result c.third_of-n.ensures c.if-n-eq0.false c.token_of.result c.token_of.ensures c.requires.0.4
+
+pub returns : goal.returns
+unfolding is-binding
+returns c =
+    λ h a lo t room.
+    let b = some-bound h a lo c.args.root t c.requires.1 c.third_of-n.result c.third_of-n.ensures c.if-n-eq0.false in
+    binding-judged h a lo c.args.root t c.requires.1 c.third_of-n.result c.third_of-n.ensures c.if-n-eq0.false c.token_of.result c.token_of.ensures c.set_count-sets.result (c.set_count-sets.ensures b.sets b.low b.holds) c.bound_fault.result (c.bound_fault.ensures (is-binding h a lo c.args.root t c.requires.1 c.third_of-n.result c.third_of-n.ensures c.if-n-eq0.false c.token_of.result c.token_of.ensures room))

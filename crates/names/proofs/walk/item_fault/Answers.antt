@@ -1,0 +1,41 @@
+-- `walk::item_fault` meets its contract: a lone name, or the leaves of an expression.
+use Rattle.names.proofs.Settled.{root_in}
+use Rattle.names.specs.Settings.{faults_at}
+use Rattle.names.proofs.Acts.{lone-none, not-lone}
+use Rattle.names.proofs.leaves_fault.Reads as leaves-fault-reads
+use Rattle.names.proofs.walk.is_lone.Reads as is-lone-reads
+use mathlib.Core.Path.{◌≡◌, refl, ap, sym, ◌∙◌}
+use mathlib.Core.List.{List, [], ◌∷◌, ◌++◌}
+use mathlib.Core.Bool.{Bool, true, false, cond}
+use mathlib.Core.Logic.{⊎_elim}
+use Prim.Native.Nat.{ℕ, zero, suc, ◌+◌, ◌-◌, ◌*◌, ◌≤◌, ◌<◌}
+use native.Mathlib.Omega.{arith}
+use borrow.Author.Rules.{rules}
+use borrow.Author.Tests.{lt-ltb, le-ltb, le-leb, lt-leb, eq-eqb, ne_eqb}
+use lib.IntN.{ℤ, pos}
+use lib.ListN.{length, get_or, set, take, drop, replicate, length-append, length-take, length-drop, length-set, length-replicate}
+use Rattle.names.proofs.walk.item_fault.Goals as goal
+
+pub offset_bounds-nodes-root : goal.offset_bounds-nodes-root
+offset_bounds-nodes-root c =
+    omega (arith, root_in c.requires.0.setting.world, c.requires.1)
+
+pub bounds-nodes-root : goal.bounds-nodes-root
+bounds-nodes-root c =
+    omega (arith, root_in c.requires.0.setting.world, c.requires.1)
+
+pub returns-then-is_lone : goal.returns-then-is_lone
+returns-then-is_lone c =
+    λ h x hx. lone-none c.args.nodes.now c.args.kinds.now h.setting.world.word h.closes (faults_at h.setting) x c.args.from c.args.root hx c.is_lone.result c.is_lone.ensures c.if-is_lone.true
+
+pub overflow_add-root : goal.overflow_add-root
+overflow_add-root c =
+    omega (arith, root_in c.requires.0.setting.world, c.requires.1)
+
+pub leaves_fault-requires : goal.leaves_fault-requires
+leaves_fault-requires c =
+    (c.requires.0.setting, omega (arith, c.requires.1))
+
+pub returns : goal.returns
+returns c =
+    λ h x hx. not-lone c.args.nodes.now c.args.kinds.now h.setting.world.word h.closes (faults_at h.setting) x c.args.from c.args.root hx c.is_lone.result c.is_lone.ensures c.if-is_lone.false c.leaves_fault.result (c.leaves_fault.ensures h.setting)

@@ -1,0 +1,53 @@
+-- `walk::start_fault` meets its contract: by the question.
+use Rattle.names.proofs.Settled.{root_in}
+use Rattle.names.proofs.Lines.{setting-none, count-there, start-name, start-limits, start-fresh, start-given}
+use Rattle.names.proofs.call_fault.Reads as call-fault-reads
+use Rattle.names.proofs.earlier.Reads as earlier-reads
+use Rattle.names.proofs.leaves_fault.Reads as leaves-fault-reads
+use Rattle.names.proofs.walk.count_fault.Reads as count-fault-reads
+use Rattle.names.proofs.walk.no_locals.Reads as no-locals-reads
+use Rattle.tree.proofs.third_of.Reads as third-of-reads
+use Rattle.tree.proofs.token_of.Reads as token-of-reads
+use mathlib.Core.Path.{◌≡◌, refl, ap, sym, ◌∙◌}
+use mathlib.Core.List.{List, [], ◌∷◌, ◌++◌}
+use mathlib.Core.Bool.{Bool, true, false, cond}
+use mathlib.Core.Logic.{⊎_elim}
+use Prim.Native.Nat.{ℕ, zero, suc, ◌+◌, ◌-◌, ◌*◌, ◌≤◌, ◌<◌}
+use native.Mathlib.Omega.{arith}
+use borrow.Author.Rules.{rules}
+use borrow.Author.Tests.{lt-ltb, le-ltb, le-leb, lt-leb, eq-eqb, ne_eqb}
+use lib.IntN.{ℤ, pos}
+use lib.ListN.{length, get_or, set, take, drop, replicate, length-append, length-take, length-drop, length-set, length-replicate}
+use Rattle.names.proofs.walk.start_fault.Goals as goal
+
+pub offset_bounds-nodes-root : goal.offset_bounds-nodes-root
+offset_bounds-nodes-root c =
+    omega (arith, root_in c.requires.0.0, c.requires.1)
+
+pub bounds-nodes-root : goal.bounds-nodes-root
+bounds-nodes-root c =
+    omega (arith, root_in c.requires.0.0, c.requires.1)
+
+pub count_fault-count-requires : goal.count_fault-count-requires
+count_fault-count-requires c =
+    λ e. let q = count-there c.args.nodes.now c.requires.0.0 c.args.root c.requires.1 e in (q.0, q.1)
+
+pub leaves_fault-requires : goal.leaves_fault-requires
+leaves_fault-requires c =
+    (setting-none c.requires.0.0 c.no_locals.result c.no_locals.ensures, omega (arith, c.requires.1))
+
+pub call_fault-requires : goal.call_fault-requires
+call_fault-requires c =
+    (c.requires.0.0, rw c.token_of-name.ensures (start-name c.args.nodes.now c.requires.0.0 c.args.root c.requires.1 c.requires.0.1 c.args.from c.requires.0.2))
+
+pub returns-in-Limits : goal.returns-in-Limits
+returns-in-Limits c =
+    start-limits c.args.low.now c.args.high.now c.args.nodes.now c.args.lists c.args.from c.args.root c.requires.1 c.no_locals.result c.no_locals.ensures c.count_fault-count.result c.leaves_fault.result c.earlier.result c.earlier.ensures c.args.question c.in-Limits.is c.count_fault-count.ensures c.leaves_fault.ensures
+
+pub returns-in-Fresh : goal.returns-in-Fresh
+returns-in-Fresh c =
+    start-fresh c.args.low.now c.args.high.now c.args.nodes.now c.args.lists c.args.from c.args.root c.in-Fresh.is
+
+pub returns-in-Given : goal.returns-in-Given
+returns-in-Given c =
+    start-given c.args.low.now c.args.high.now c.args.nodes.now c.args.lists c.args.from c.args.root c.requires.1 c.token_of-name.result c.third_of.result c.token_of-name.ensures c.third_of.ensures c.call_fault.result c.args.question c.in-Given.is c.call_fault.ensures

@@ -1,0 +1,42 @@
+-- `walk::tree_fault` meets its contract: lists of names, variables' numbers and lines.
+use Rattle.names.proofs.Titles.{lines, lines-hold, lines-room, tree-judged}
+use Rattle.names.proofs.Settled.{vs-few, reach-variables, reach-definitions}
+use Rattle.names.proofs.earlier.Reads as earlier-reads
+use Rattle.names.proofs.walk.lines_fault.Reads as lines-fault-reads
+use Rattle.names.proofs.walk.list_fault.Reads as list-fault-reads
+use Rattle.names.proofs.walk.numbers_fault.Reads as numbers-fault-reads
+use mathlib.Core.Path.{◌≡◌, refl, ap, sym, ◌∙◌}
+use mathlib.Core.List.{List, [], ◌∷◌, ◌++◌}
+use mathlib.Core.Bool.{Bool, true, false, cond}
+use mathlib.Core.Logic.{⊎_elim}
+use Prim.Native.Nat.{ℕ, zero, suc, ◌+◌, ◌-◌, ◌*◌, ◌≤◌, ◌<◌}
+use native.Mathlib.Omega.{arith}
+use borrow.Author.Rules.{rules}
+use borrow.Author.Tests.{lt-ltb, le-ltb, le-leb, lt-leb, eq-eqb, ne_eqb}
+use lib.IntN.{ℤ, pos}
+use lib.ListN.{length, get_or, set, take, drop, replicate, length-append, length-take, length-drop, length-set, length-replicate}
+use Rattle.names.proofs.walk.tree_fault.Goals as goal
+
+pub overflow_sub-below : goal.overflow_sub-below
+overflow_sub-below c =
+    omega (arith, vs-few c.requires.0.world, c.requires.0.world.gathered.variables-are)
+
+pub list_fault-names-requires : goal.list_fault-names-requires
+list_fault-names-requires c =
+    reach-variables c.requires.0.world c.args.lists.variables (omega arith)
+
+pub list_fault-titles-requires : goal.list_fault-titles-requires
+list_fault-titles-requires c =
+    reach-definitions c.requires.0.world c.args.lists.definitions (omega arith)
+
+pub numbers_fault-numbers-requires : goal.numbers_fault-numbers-requires
+numbers_fault-numbers-requires c =
+    c.requires.0.world
+
+pub lines_fault-lines-requires : goal.lines_fault-lines-requires
+lines_fault-lines-requires c =
+    ((c.requires.0, lines c.requires.0, lines-hold c.requires.0, lines-room c.requires.0 c.requires.1), omega arith)
+
+pub returns : goal.returns
+returns c =
+    λ h room. tree-judged h c.list_fault-names.result c.list_fault-titles.result c.numbers_fault-numbers.result c.lines_fault-lines.result c.earlier.result c.earlier-2.result c.earlier-3.result c.list_fault-names.ensures c.list_fault-titles.ensures (c.numbers_fault-numbers.ensures h.world) (c.lines_fault-lines.ensures h (lines h) (lines-hold h) (lines-room h room)) c.earlier.ensures c.earlier-2.ensures c.earlier-3.ensures

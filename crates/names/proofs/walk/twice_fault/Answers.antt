@@ -1,0 +1,35 @@
+use Rattle.names.proofs.Titles.{Onward, twice-none, twice-on, twice-end, reach-less}
+use Rattle.names.specs.Lists.{packed}
+use Rattle.names.proofs.earlier.Reads as earlier-reads
+use Rattle.names.proofs.walk.again_fault.Reads as again-fault-reads
+use mathlib.Core.Path.{◌≡◌, refl, ap, sym, ◌∙◌}
+use mathlib.Core.List.{List, [], ◌∷◌, ◌++◌}
+use mathlib.Core.Bool.{Bool, true, false, cond}
+use mathlib.Core.Logic.{⊎_elim}
+use Prim.Native.Nat.{ℕ, zero, suc, ◌+◌, ◌-◌, ◌*◌, ◌≤◌, ◌<◌}
+use native.Mathlib.Omega.{arith}
+use borrow.Author.Rules.{rules}
+use borrow.Author.Tests.{lt-ltb, le-ltb, le-leb, lt-leb, eq-eqb, ne_eqb}
+use lib.IntN.{ℤ, pos}
+use lib.ListN.{length, get_or, set, take, drop, replicate, length-append, length-take, length-drop, length-set, length-replicate}
+use Rattle.names.proofs.walk.twice_fault.Goals as goal
+
+pub loop-j-init : goal.loop-j-init
+loop-j-init c =
+    twice-none c.args.nodes.now c.args.first c.args.n (packed c.args.low.now c.args.high.now)
+
+pub again_fault-requires : goal.again_fault-requires
+again_fault-requires c =
+    reach-less c.args.low.now c.args.high.now c.args.nodes.now c.args.first c.args.n (c.loop-j.j + 1) (omega arith) c.requires
+
+pub loop-j-smaller : goal.loop-j-smaller
+loop-j-smaller c =
+    omega arith
+
+pub loop-j-preserved : goal.loop-j-preserved
+loop-j-preserved c =
+    twice-on c.args.nodes.now c.args.first c.args.n (packed c.args.low.now c.args.high.now) c.loop-j.j (omega arith) c.loop-j.found c.again_fault.result c.earlier-found.result c.again_fault.ensures c.earlier-found.ensures c.loop-j.invariant
+
+pub returns : goal.returns
+returns c =
+    twice-end c.args.nodes.now c.args.first c.args.n (packed c.args.low.now c.args.high.now) c.loop-j.j (omega arith) c.loop-j.found c.loop-j.invariant

@@ -1,0 +1,66 @@
+use mathlib.Core.Path.{ap, ◌∙◌}
+use native.Mathlib.Omega.{arith}
+use borrow.Author.Rules.{rules}
+use lib.ListN.{length}
+use Rattle.tree.specs.Node.{kind_of, left_of}
+use Rattle.offers.proofs.Branched.{lone-part, lone-collects, more_parts, more-lacks, more-full, more-collects, one-row, one-room}
+use Prim.Native.Nat.{ℕ, ◌<◌}
+use Prim.Native.Nat.{◌+◌, ◌-◌}
+use Rattle.offers.proofs.+collect_branches.Goals as goal
+
+pub collect_branch-requires : goal.collect_branch-requires
+collect_branch-requires t c =
+    let T = c.args.nodes.now in let L = c.args.locals.now in let k = c.args.k in let kind = c.kind_of-kind.result in let is = c.kind_of-kind.ensures ∙ ap kind_of c.cell_at-cell.ensures in
+    let f = lone-part T k kind is c.if-kind-ne-CHOICE.true (length L) c.args.branch c.requires.1.0 in
+    (f.0, c.requires.1.1, c.requires.1.2, c.requires.1.3, omega (arith, c.requires.1.5, c.requires.1.4, f.1), c.requires.1.4, f.1)
+
+pub returns-then-kind-ne-CHOICE : goal.returns-then-kind-ne-CHOICE
+returns-then-kind-ne-CHOICE t c =
+    let T = c.args.nodes.now in let L = c.args.locals.now in let k = c.args.k in let kind = c.kind_of-kind.result in let is = c.kind_of-kind.ensures ∙ ap kind_of c.cell_at-cell.ensures in
+    lone-collects T k kind is c.if-kind-ne-CHOICE.true L c.args.place c.args.branch c.args.row c.args.heads.now _ c.args.numbers.now _ _ c.collect_branch.ensures
+
+pub collect_branch-first-requires : goal.collect_branch-first-requires
+collect_branch-first-requires t c =
+    let T = c.args.nodes.now in let L = c.args.locals.now in let k = c.args.k in let kind = c.kind_of-kind.result in let is = c.kind_of-kind.ensures ∙ ap kind_of c.cell_at-cell.ensures in
+    let f = more_parts T k kind is c.if-kind-ne-CHOICE.false (length L) c.args.branch c.requires.1.0 in
+    let e = c.left_of-left.ensures ∙ ap left_of c.cell_at-cell.ensures in
+    (rw e f.1, c.requires.1.1, c.requires.1.2, c.requires.1.3, omega (arith, c.requires.1.5, c.requires.1.4, f.3), c.requires.1.4, f.3)
+
+pub overflow_add-branch : goal.overflow_add-branch
+overflow_add-branch t c =
+    let T = c.args.nodes.now in let L = c.args.locals.now in let k = c.args.k in let kind = c.kind_of-kind.result in let is = c.kind_of-kind.ensures ∙ ap kind_of c.cell_at-cell.ensures in
+    let f = more_parts T k kind is c.if-kind-ne-CHOICE.false (length L) c.args.branch c.requires.1.0 in
+    let l = f.3 in search rules
+
+pub overflow_sub-k : goal.overflow_sub-k
+overflow_sub-k t c =
+    let T = c.args.nodes.now in let L = c.args.locals.now in let k = c.args.k in let kind = c.kind_of-kind.result in let is = c.kind_of-kind.ensures ∙ ap kind_of c.cell_at-cell.ensures in
+    let f = more_parts T k kind is c.if-kind-ne-CHOICE.false (length L) c.args.branch c.requires.1.0 in
+    f.0
+
+pub collect_branches-requires : goal.collect_branches-requires
+collect_branches-requires t c =
+    let T = c.args.nodes.now in let L = c.args.locals.now in let k = c.args.k in let kind = c.kind_of-kind.result in let is = c.kind_of-kind.ensures ∙ ap kind_of c.cell_at-cell.ensures in
+    let f = more_parts T k kind is c.if-kind-ne-CHOICE.false (length L) c.args.branch c.requires.1.0 in
+    let e = c.left_of-left.ensures ∙ ap left_of c.cell_at-cell.ensures in
+    let o = one-row T L c.args.place c.args.branch c.args.row c.args.heads.now c.args.numbers.now (rw (e, c.in-Rows.is) at c.collect_branch-first.ensures f.1.1.part f.1.1.at) in
+    let q = one-room T L c.args.place c.args.branch c.args.row c.args.heads.now c.args.numbers.now (rw (e, c.in-Rows.is) at c.collect_branch-first.ensures f.1.1.part f.1.1.at) in
+    (omega (arith, c.requires.0, f.0), (f.2, c.requires.1.1, q, search rules, c.requires.1.4, omega (arith, c.requires.1.5, o)))
+
+pub returns-in-Rows : goal.returns-in-Rows
+returns-in-Rows t c =
+    let T = c.args.nodes.now in let L = c.args.locals.now in let k = c.args.k in let kind = c.kind_of-kind.result in let is = c.kind_of-kind.ensures ∙ ap kind_of c.cell_at-cell.ensures in
+    let e = c.left_of-left.ensures ∙ ap left_of c.cell_at-cell.ensures in
+    more-collects T k kind is c.if-kind-ne-CHOICE.false L c.args.place c.args.branch c.args.row c.args.heads.now c.args.numbers.now _ _ _ _ c.in-Rows.next _ (rw (e, c.in-Rows.is) at c.collect_branch-first.ensures) c.collect_branches.ensures
+
+pub returns-in-Missing : goal.returns-in-Missing
+returns-in-Missing t c =
+    let T = c.args.nodes.now in let L = c.args.locals.now in let k = c.args.k in let kind = c.kind_of-kind.result in let is = c.kind_of-kind.ensures ∙ ap kind_of c.cell_at-cell.ensures in
+    let e = c.left_of-left.ensures ∙ ap left_of c.cell_at-cell.ensures in
+    more-lacks T k kind is c.if-kind-ne-CHOICE.false L c.args.place c.args.branch c.args.row c.args.heads.now c.args.numbers.now _ _ c.in-Missing.lacking (rw (e, c.in-Missing.is) at c.collect_branch-first.ensures)
+
+pub returns-in-Full : goal.returns-in-Full
+returns-in-Full t c =
+    let T = c.args.nodes.now in let L = c.args.locals.now in let k = c.args.k in let kind = c.kind_of-kind.result in let is = c.kind_of-kind.ensures ∙ ap kind_of c.cell_at-cell.ensures in
+    let e = c.left_of-left.ensures ∙ ap left_of c.cell_at-cell.ensures in
+    more-full T k kind is c.if-kind-ne-CHOICE.false L c.args.place c.args.branch c.args.row c.args.heads.now c.args.numbers.now _ _ (rw (e, c.in-Full.is) at c.collect_branch-first.ensures)

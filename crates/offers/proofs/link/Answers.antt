@@ -1,0 +1,23 @@
+use Rattle.offers.proofs.fill.Reads as fill-reads
+use Rattle.offers.proofs.link_row.Reads as link-row-reads
+use Rattle.offers.specs.Links.{bucket_limit, Linked}
+use Rattle.offers.proofs.Links.{linked-none}
+use mathlib.Core.Path.{◌≡◌, ap, ◌∙◌}
+use Prim.Native.Nat.{suc, ◌-◌, ◌≤◌}
+use native.Mathlib.Omega.{arith}
+use borrow.Author.Rules.{rules}
+use lib.ListN.{length, length-replicate}
+use Rattle.offers.proofs.link.Goals as goal
+
+pub loop-row-init : goal.loop-row-init
+loop-row-init c =
+    (search rules, ap length c.fill.ensures ∙ length-replicate _ _ ∙ c.requires.3, search rules, linked-none c.args.heads.now c.args.numbers.now c.args.rows _ _ (length c.args.firsts.now) c.requires.3 c.fill.ensures)
+
+pub loop-row-preserved : goal.loop-row-preserved
+loop-row-preserved c =
+    let e : suc (c.loop-row.row - 1) ≡ c.loop-row.row = omega arith in
+    (search rules, search rules, search rules, c.link_row.ensures c.args.rows (omega arith) (rw e c.loop-row.invariant.3))
+
+pub returns : goal.returns
+returns c =
+    let e : c.loop-row.row ≡ 0 = omega arith in rw e at c.loop-row.invariant.3

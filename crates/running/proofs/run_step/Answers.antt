@@ -1,0 +1,20 @@
+-- 12 to 14, or the rest of the step over the listing.
+use borrow.Author.Rules.{rules}
+use Rattle.running.proofs.Steps.{world, refused-by, lists-by, refused-ends}
+use Rattle.running.proofs.run_step.Goals as goal
+
+pub list_over-listed-requires : goal.list_over-listed-requires
+list_over-listed-requires c =
+    ((c.requires.0.1, c.requires.0.2.timed.state, world c.requires.0.3.lent), c.requires.1, c.requires.2, c.requires.3, c.requires.4, c.requires.6)
+
+pub step_counted-requires : goal.step_counted-requires
+step_counted-requires c =
+    let h = c.requires.0.3 in let k = lists-by h _ _ _ (rw c.in-Filled.is at (c.list_over-listed.ensures c.requires.0.1 c.requires.0.2.timed.state (world h.lent))) in ((c.requires.0.0, c.requires.0.1, c.requires.0.2, k.0, k.1), c.requires.5, c.requires.7)
+
+pub returns-in-Refused : goal.returns-in-Refused
+returns-in-Refused c =
+    λ z m r h. refused-ends h _ _ (refused-by m r.timed.state _ _ _ _ (rw c.in-Refused.is at (c.list_over-listed.ensures m r.timed.state (world h.lent)))) c.end.ensures
+
+pub returns-in-Filled : goal.returns-in-Filled
+returns-in-Filled c =
+    λ z m r h. let k = lists-by h _ _ _ (rw c.in-Filled.is at (c.list_over-listed.ensures m r.timed.state (world h.lent))) in c.step_counted.ensures z m r k.0 k.1

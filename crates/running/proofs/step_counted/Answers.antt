@@ -1,0 +1,34 @@
+-- 15, the end of the words, or the step with the draw that they give.
+use native.Mathlib.Omega.{arith}
+use borrow.Author.Rules.{rules}
+use Rattle.running.proofs.Taking.{rest_of}
+use Rattle.running.proofs.Steps.{dead-ends, words-ends, drawn-so, used-fits}
+use Rattle.running.proofs.step_counted.Goals as goal
+
+pub returns-then-total-eq0 : goal.returns-then-total-eq0
+returns-then-total-eq0 c =
+    λ z m r es h. dead-ends h c.if-total-eq0.true _ c.end.ensures
+
+pub slice_bounds-draw_from-count : goal.slice_bounds-draw_from-count
+slice_bounds-draw_from-count c =
+    let h = c.requires.0.4 in omega (arith, h.stands.words-fit, h.stands.words)
+
+pub slice_bounds-draw_from-start : goal.slice_bounds-draw_from-start
+slice_bounds-draw_from-start c =
+    let h = c.requires.0.4 in omega (arith, h.stands.words-fit, h.stands.words)
+
+pub draw_from-drawn-requires : goal.draw_from-drawn-requires
+draw_from-drawn-requires c =
+    omega (arith, c.if-total-eq0.false)
+
+pub step_drawn-requires : goal.step_drawn-requires
+step_drawn-requires c =
+    let h = c.requires.0.4 in ((c.args.words.now, c.requires.0.0, c.requires.0.1, c.requires.0.2, c.requires.0.3, h, used-fits h c.if-total-eq0.false _ (rw rest_of at c.draw_from-drawn.ensures.value) _ _ c.in-Given.is (rw rest_of at c.draw_from-drawn.ensures.within), c.well-formed.1.1.1.1.1.1.1.1.1.1.0.0), c.requires.1, omega (arith, c.if-total-eq0.false), c.requires.2)
+
+pub returns-in-Ended : goal.returns-in-Ended
+returns-in-Ended c =
+    λ z m r es h. words-ends h c.if-total-eq0.false _ (rw rest_of at c.draw_from-drawn.ensures.value) c.in-Ended.is _ c.end-in-Ended.ensures
+
+pub returns-in-Given : goal.returns-in-Given
+returns-in-Given c =
+    λ z m r es h. rw (drawn-so h c.if-total-eq0.false _ (rw rest_of at c.draw_from-drawn.ensures.value) _ _ c.in-Given.is) (c.step_drawn.ensures c.args.words.now z m r es h (used-fits h c.if-total-eq0.false _ (rw rest_of at c.draw_from-drawn.ensures.value) _ _ c.in-Given.is (rw rest_of at c.draw_from-drawn.ensures.within)))

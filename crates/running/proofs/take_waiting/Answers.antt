@@ -1,0 +1,26 @@
+-- 23 to 25 are known before the entry is taken; they refuse an entry that 17 to 19 accept, and the state is kept.
+use mathlib.Core.Path.{◌∙◌}
+use borrow.Author.Rules.{rules}
+use Rattle.rules.specs.Listing.{key_of}
+use Rattle.running.proofs.Taking.{row-numbers, waited, unwaited}
+use Rattle.running.proofs.take_waiting.Goals as goal
+
+pub bring-brought-requires : goal.bring-brought-requires
+bring-brought-requires c =
+    (c.requires.2, c.requires.3)
+
+pub take_row-taken-requires : goal.take_row-taken-requires
+take_row-taken-requires c =
+    (c.requires.0, c.requires.1)
+
+pub returns-then-number-eq0 : goal.returns-then-number-eq0
+returns-then-number-eq0 c =
+    λ m s es e h q. waited m s es _ (key_of e) _ _ _ _ _ _ _ c.bring-brought.ensures q c.if-number-eq0.true (c.take_row-taken.ensures m s es e h) c.stepped_by.ensures
+
+pub take_kept-taken-requires : goal.take_kept-taken-requires
+take_kept-taken-requires c =
+    (c.requires.0, c.requires.1)
+
+pub returns : goal.returns
+returns c =
+    λ m s es e h q. unwaited m s es _ (key_of e) _ _ _ _ _ _ _ c.bring-brought.ensures q c.if-number-eq0.false (c.take_kept-taken.ensures.0 m s es e h) (c.take_kept-taken.ensures.1 ∙ row-numbers h) c.stepped_by-2.ensures

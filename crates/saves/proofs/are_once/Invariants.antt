@@ -1,0 +1,18 @@
+-- The loop's invariant: the test of the places from i on gives the answer for all. The measure is what is left.
+use mathlib.Core.Path.{◌≡◌, ap, sym, ◌∙◌}
+use Prim.Native.Nat.{◌-◌, ◌*◌, ◌≤◌}
+use native.Mathlib.Omega.{arith}
+use borrow.Author.Rules.{rules}
+use lib.ListN.{drop, length-take, length-drop}
+use Rattle.machine.specs.Saves.{save_limit, place_width}
+use Rattle.state.specs.Test.{rows}
+use Rattle.state.proofs.Tests.{refused, passed, rows_all}
+use Rattle.saves.specs.Places.{are_once}
+use Rattle.saves.proofs.Laws.{once-fail, once-on, once-done, once-part}
+use Rattle.saves.proofs.are_once.Given as goal
+
+abbrev pub invariant-loop-i : goal.invariant-loop-i
+invariant-loop-i l = (l.i ≤ save_limit) × (are_once (rows place_width save_limit l.saves) ≡ are_once (rows place_width (save_limit - l.i) (drop (l.i * place_width) l.saves)))
+
+abbrev pub decreases-loop-i : goal.decreases-loop-i
+decreases-loop-i l = save_limit - l.i

@@ -1,0 +1,18 @@
+-- The loop's invariant: the test of the places from i on gives the answer for all. The measure is what is left.
+use mathlib.Core.Path.{◌≡◌, ap, sym, ◌∙◌}
+use Prim.Native.Nat.{◌-◌, ◌*◌, ◌≤◌}
+use native.Mathlib.Omega.{arith}
+use borrow.Author.Rules.{rules}
+use lib.ListN.{take, drop, length-take, length-drop}
+use Rattle.machine.specs.Saves.{save_limit, place_width}
+use Rattle.state.specs.Test.{every, rows}
+use Rattle.state.proofs.Part.{width-part}
+use Rattle.state.proofs.Tests.{refused, passed, rows_all, rows-fail, rows_on, rows-done}
+use Rattle.saves.specs.Places.{is_place}
+use Rattle.saves.proofs.are_places.Given as goal
+
+abbrev pub invariant-loop-i : goal.invariant-loop-i
+invariant-loop-i l = (l.i ≤ save_limit) × (every (is_place (take l.sums l.scopes) l.channels) (rows place_width save_limit l.saves) ≡ every (is_place (take l.sums l.scopes) l.channels) (rows place_width (save_limit - l.i) (drop (l.i * place_width) l.saves)))
+
+abbrev pub decreases-loop-i : goal.decreases-loop-i
+decreases-loop-i l = save_limit - l.i

@@ -1,0 +1,9 @@
+-- Two writes, one after the other, fill the place.
+use borrow.Author.Rules.{rules}
+use Rattle.machine.specs.Saves.{key_width, timed_length}
+use Rattle.saves.proofs.Laws.{place-put}
+use Rattle.saves.proofs.put_place.Goals as goal
+
+pub returns : goal.returns
+returns c =
+    place-put key_width timed_length c.args.place.now c.args.key.now c.args.kept.now c.put.new.0 c.put-2.new.0 c.requires.1 c.requires.0 c.requires.2 c.put.ensures c.put-2.ensures

@@ -1,0 +1,21 @@
+-- Each answer is a case of the definition; the numbers after the name are copied.
+use mathlib.Core.Path.{sym, ◌∙◌}
+use Prim.Native.Nat.{◌+◌, ◌-◌, ◌*◌}
+use native.Mathlib.Omega.{arith}
+use borrow.Author.Rules.{rules}
+use Rattle.machine.specs.Saves.{key_width, timed_length, place_width}
+use Rattle.state.proofs.Tests.{refused, passed}
+use Rattle.saves.proofs.Laws.{return-unnamed, return-unknown, return-put}
+use Rattle.saves.proofs.return_to.Goals as goal
+
+pub returns-then-not-put_key : goal.returns-then-not-put_key
+returns-then-not-put_key c =
+    return-unnamed c.args.name.now c.args.kept.now c.args.saves.now (sym c.put_key.ensures.answer ∙ refused c.put_key.result c.if-not-put_key.true-raw)
+
+pub returns-then-at-ge-PLACES : goal.returns-then-at-ge-PLACES
+returns-then-at-ge-PLACES c =
+    return-unknown c.args.name.now c.args.kept.now c.args.saves.now (sym c.put_key.ensures.answer ∙ passed c.put_key.result c.if-not-put_key.false-raw) _ (c.put_key.ensures.numbers (passed c.put_key.result c.if-not-put_key.false-raw)) c.find_place-at.result c.find_place-at.ensures.0 c.if-at-ge-PLACES.true
+
+pub returns : goal.returns
+returns c =
+    return-put c.args.name.now c.args.kept.now c.args.saves.now (sym c.put_key.ensures.answer ∙ passed c.put_key.result c.if-not-put_key.false-raw) _ (c.put_key.ensures.numbers (passed c.put_key.result c.if-not-put_key.false-raw)) c.find_place-at.result c.find_place-at.ensures.0 c.if-at-ge-PLACES.false c.requires.1 (c.find_place-at.result * place_width + key_width + timed_length - (c.find_place-at.result * place_width + key_width)) (omega arith) c.put.new.0 c.put.ensures

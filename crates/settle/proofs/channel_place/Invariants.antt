@@ -1,0 +1,14 @@
+-- The loop's invariant: the table is as it was, and the bits left lead from node i to the name k, if it was met. Kids come after their parent, so n - i falls.
+use Rattle.settle.proofs.Kids.{Searching, search-begins, node-inside, name-inside, sought-first, case-found, case-new, case-on, case-less, word_fits, hung-size}
+use mathlib.Core.Path.{ap, ◌∙◌}
+use Prim.Native.Nat.{◌-◌}
+use native.Mathlib.Omega.{arith}
+use borrow.Author.Rules.{rules}
+use lib.ListN.{length}
+use Rattle.settle.proofs.channel_place.Given as goal
+
+abbrev pub invariant-loop-n : goal.invariant-loop-n
+invariant-loop-n l = Searching l.low l.high l.initial.heard l.n l.k l.heard l.bits l.first l.second l.i
+
+abbrev pub decreases-loop-n : goal.decreases-loop-n
+decreases-loop-n l = l.n - l.i

@@ -1,0 +1,9 @@
+-- The products and their sum fit a word.
+use Rattle.settle.specs.Kids.{hash_of}
+use mathlib.Core.Path.{refl}
+use borrow.Author.Rules.{rules}
+use Rattle.settle.proofs.hash_of.Goals as goal
+
+pub returns : goal.returns
+unfolding hash_of
+returns c = refl

@@ -1,0 +1,59 @@
+use Rattle.tree.specs.Node.{token_of, third_of, left_of}
+use Rattle.settle.proofs.Parameters.{no-parameters, parameters-inside, parameters-room, with-parameters}
+use Rattle.model.specs.Lists.{every_other}
+use Rattle.names.specs.Settings.{Extended}
+use Rattle.names.proofs.with_locals.Reads as with-locals-reads
+use Rattle.tree.proofs.left_of.Reads as left-of-reads
+use Rattle.tree.proofs.third_of.Reads as third-of-reads
+use Rattle.tree.proofs.token_of.Reads as token-of-reads
+use mathlib.Core.Path.{◌≡◌, refl, ap, sym, ◌∙◌}
+use mathlib.Core.List.{List, [], ◌∷◌, ◌++◌}
+use mathlib.Core.Bool.{Bool, true, false, cond}
+use mathlib.Core.Logic.{⊎_elim}
+use Prim.Native.Nat.{ℕ, zero, suc, ◌+◌, ◌-◌, ◌*◌, ◌≤◌, ◌<◌}
+use native.Mathlib.Omega.{arith}
+use borrow.Author.Rules.{rules}
+use borrow.Author.Tests.{lt-ltb, le-ltb, le-leb, lt-leb, eq-eqb, ne_eqb}
+use lib.IntN.{ℤ, pos}
+use lib.ListN.{length, get_or, set, take, drop, replicate, length-append, length-take, length-drop, length-set, length-replicate}
+use Rattle.settle.proofs.parameters_of.Goals as goal
+
+pub returns-then-lists-d : goal.returns-then-lists-d
+returns-then-lists-d c =
+    λ a b h. no-parameters h c.args.d _ (omega arith) refl refl
+
+pub overflow_sub-at : goal.overflow_sub-at
+overflow_sub-at c =
+    omega (arith, (parameters-inside c.requires.2 c.args.d (omega arith)).0)
+
+pub overflow_sub-at-2 : goal.overflow_sub-at-2
+overflow_sub-at-2 c =
+    omega (arith, (parameters-inside c.requires.2 c.args.d (omega arith)).1)
+
+pub offset_bounds-nodes-at : goal.offset_bounds-nodes-at
+offset_bounds-nodes-at c =
+    omega (arith, (parameters-inside c.requires.2 c.args.d (omega arith)).2)
+
+pub bounds-nodes-at : goal.bounds-nodes-at
+bounds-nodes-at c =
+    (parameters-inside c.requires.2 c.args.d (omega arith)).2
+
+pub offset_bounds-nodes-left_of : goal.offset_bounds-nodes-left_of
+offset_bounds-nodes-left_of c =
+    omega (arith, c.left_of.ensures, (parameters-inside c.requires.2 c.args.d (omega arith)).3)
+
+pub bounds-nodes-left_of : goal.bounds-nodes-left_of
+bounds-nodes-left_of c =
+    rw c.left_of.ensures (parameters-inside c.requires.2 c.args.d (omega arith)).3
+
+pub overflow_add-token_of : goal.overflow_add-token_of
+overflow_add-token_of c =
+    omega (arith, c.token_of.ensures, ap (λ (i : ℕ). token_of (get_or c.args.nodes.now i 0)) c.left_of.ensures, parameters-room c.requires.2 c.args.d (omega arith) (get_or c.args.nodes.now (left_of (get_or c.args.nodes.now (c.args.lists.root - c.args.lists.variables - c.args.d) 0)) 0) refl)
+
+pub with_locals-requires : goal.with_locals-requires
+with_locals-requires c =
+    (refl, omega arith, omega (arith, c.token_of.ensures, c.third_of.ensures, ap (λ (i : ℕ). token_of (get_or c.args.nodes.now i 0)) c.left_of.ensures, ap (λ (i : ℕ). third_of (get_or c.args.nodes.now i 0)) c.left_of.ensures, parameters-room c.requires.2 c.args.d (omega arith) (get_or c.args.nodes.now (left_of (get_or c.args.nodes.now (c.args.lists.root - c.args.lists.variables - c.args.d) 0)) 0) refl))
+
+pub returns : goal.returns
+returns c =
+    λ a b h. with-parameters h c.args.d (omega arith) (get_or c.args.nodes.now (left_of (get_or c.args.nodes.now (c.args.lists.root - c.args.lists.variables - c.args.d) 0)) 0) refl _ _ refl (rw (c.token_of.ensures, c.third_of.ensures, c.left_of.ensures) at c.with_locals.ensures)

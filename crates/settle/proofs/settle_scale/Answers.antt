@@ -1,0 +1,62 @@
+use Rattle.settle.proofs.Finds.{look_up, a-local, no_local}
+use Rattle.settle.proofs.Meets.{number-of-name, scale-local, scale-number}
+use Rattle.grammar.specs.Syntax
+use Rattle.model.specs.Given.{variable_named}
+use Rattle.model.specs.Resolved
+use Rattle.model.specs.Resolved.{number_scale}
+use Rattle.settle.specs.Walks.{scale_cell}
+use Rattle.settle.specs.Places.{word_in, variables_in, meaning_at}
+use Rattle.names.proofs.local_named.Reads as local-named-reads
+use Rattle.settle.proofs.number_named.Reads as number-named-reads
+use Rattle.settle.proofs.scale_cell.Reads as scale-cell-reads
+use Rattle.tree.proofs.kind_of.Reads as kind-of-reads
+use Rattle.tree.proofs.node.Reads as node-reads
+use Rattle.tree.proofs.token_of.Reads as token-of-reads
+use mathlib.Core.Path.{◌≡◌, refl, ap, sym, ◌∙◌}
+use mathlib.Core.List.{List, [], ◌∷◌, ◌++◌}
+use mathlib.Core.Bool.{Bool, true, false, cond}
+use mathlib.Core.Logic.{⊎_elim}
+use Prim.Native.Nat.{ℕ, zero, suc, ◌+◌, ◌-◌, ◌*◌, ◌≤◌, ◌<◌}
+use native.Mathlib.Omega.{arith}
+use borrow.Author.Rules.{rules}
+use borrow.Author.Tests.{lt-ltb, le-ltb, le-leb, lt-leb, eq-eqb, ne_eqb}
+use lib.IntN.{ℤ, pos}
+use lib.ListN.{length, get_or, set, take, drop, replicate, length-append, length-take, length-drop, length-set, length-replicate}
+use Rattle.settle.proofs.settle_scale.Goals as goal
+
+pub local_named-requires : goal.local_named-requires
+local_named-requires c =
+    look_up c.requires.0 c.args.k c.requires.1
+
+pub node-requires : goal.node-requires
+node-requires c =
+    (omega (arith, (a-local c.requires.0 c.args.k c.requires.1 c.local_named.ensures c.in-At.is).1), omega arith, omega arith)
+
+pub returns-in-At : goal.returns-in-At
+returns-in-At c =
+    λ h e g. scale-local h c.args.k c.args.i _ (a-local h c.args.k e c.local_named.ensures c.in-At.is).0 c.node.ensures
+
+pub number_named-number-requires : goal.number_named-number-requires
+number_named-number-requires c =
+    (c.requires.0.at, c.requires.1)
+
+pub scale_cell-requires : goal.scale_cell-requires
+scale_cell-requires c =
+    let h = c.requires.0 in
+    let m = no_local h c.args.k c.requires.1 c.local_named.ensures c.in_default.is in
+    let g = number-of-name c.args.low.now (word_in h.at) c.number_named-number.result (variable_named (word_in h.at) c.args.k (variables_in h.at)) (c.number_named-number.ensures h.at c.requires.1) (rw (← m) c.requires.2) in
+    (word_in h.at, g.negated, g.decimal, rw (c.kind_of.ensures, c.token_of.ensures, g.token-is) g.told)
+
+pub offset_bounds-nodes-i : goal.offset_bounds-nodes-i
+offset_bounds-nodes-i c =
+    omega (arith, c.requires.3)
+
+pub bounds-nodes-i : goal.bounds-nodes-i
+bounds-nodes-i c =
+    omega (arith, c.requires.3)
+
+pub returns : goal.returns
+returns c =
+    λ h e g. let m = no_local h c.args.k e c.local_named.ensures c.in_default.is in
+    let x = number-of-name c.args.low.now (word_in h.at) c.number_named-number.result (meaning_at h c.args.k) (rw m (c.number_named-number.ensures h.at e)) g in
+    scale-number h c.args.k c.args.i c.number_named-number.result c.scale_cell.result _ x (c.scale_cell.ensures (word_in h.at) x.negated x.decimal (rw (c.kind_of.ensures, c.token_of.ensures, x.token-is) x.told) ∙ ap (λ (j : ℕ). scale_cell (Resolved.fixed (number_scale (word_in h.at) [] [] [] (Syntax.number x.negated x.decimal j)))) (c.token_of.ensures ∙ x.token-is)) refl

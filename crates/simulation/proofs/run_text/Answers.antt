@@ -1,0 +1,31 @@
+-- A text that holds no model gives 11; else the run goes over its tables.
+use lib.ListN.{length}
+use borrow.Author.Rules.{rules}
+use Rattle.machine.specs.Machine.{run'}
+use Rattle.buffers.specs.Parts.{lent_timed}
+use Rattle.simulation.proofs.Held.{none-held, model-held, whole}
+use Rattle.simulation.proofs.Results.{none-ran}
+use Rattle.simulation.proofs.run_text.Goals as goal
+
+pub run_tables-requires : goal.run_tables-requires
+run_tables-requires c =
+    let X = c.args.text.now in
+    let o = model-held X _ _ _ c.read_tables-read.ensures c.in-Model.is in
+    ((o.model, whole X _ _ _ o), c.requires.0, c.requires.1)
+
+pub returns-in-Refused : goal.returns-in-Refused
+returns-in-Refused c =
+    λ bs.
+    let X = c.args.text.now in
+    let Z = c.args.state.now in
+    let W = c.args.words.now in
+    let D = c.args.waiting.now in
+    let L = c.args.events.now in
+    rw (c.refused.ensures, none-held X _ _ _ c.read_tables-read.ensures c.in-Refused.is) (none-ran (run' W D c.args.limit (length L)) (lent_timed bs Z c.args.clock) L c.args.clock)
+
+pub returns-in-Model : goal.returns-in-Model
+returns-in-Model c =
+    λ bs.
+    let X = c.args.text.now in
+    let o = model-held X _ _ _ c.read_tables-read.ensures c.in-Model.is in
+    rw o.holds (c.run_tables.ensures o.model bs (whole X _ _ _ o))

@@ -1,0 +1,17 @@
+-- The loop's invariant: the test of the rows from i on gives the answer for all. The measure is what is left.
+use mathlib.Core.Path.{◌≡◌, sym, ap, ◌∙◌}
+use Prim.Native.Nat.{◌-◌, ◌*◌, ◌≤◌}
+use native.Mathlib.Omega.{arith}
+use borrow.Author.Rules.{rules}
+use lib.ListN.{take, drop, length-take, length-drop}
+use Rattle.machine.specs.State.{process_width}
+use Rattle.state.specs.Test.{every, rows, is_process}
+use Rattle.state.proofs.Part.{width-part}
+use Rattle.state.proofs.Tests.{refused, passed, rows_all, rows-fail, rows_on, rows-done}
+use Rattle.state.proofs.all_processes.Given as goal
+
+abbrev pub invariant-loop-i : goal.invariant-loop-i
+invariant-loop-i l = (l.i ≤ l.n) × (every (is_process (take l.sums l.scopes)) (rows process_width l.n l.s) ≡ every (is_process (take l.sums l.scopes)) (rows process_width (l.n - l.i) (drop (l.i * process_width) l.s)))
+
+abbrev pub decreases-loop-i : goal.decreases-loop-i
+decreases-loop-i l = l.n - l.i

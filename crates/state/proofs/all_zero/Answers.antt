@@ -1,0 +1,27 @@
+use mathlib.Core.Path.{◌≡◌, refl}
+use mathlib.Core.Bool.{◌&&◌}
+use Prim.Native.Nat.{◌-◌, ◌≤◌}
+use native.Mathlib.Omega.{arith}
+use borrow.Author.Rules.{rules}
+use lib.Dec.{eqb}
+use lib.IntN.{pos}
+use lib.ListN.{length, get_or, drop}
+use mir.Syntax.{w64}
+use mir.Val.{of_z}
+use Rattle.value.proofs.Kit.{ok-fits}
+use Rattle.state.specs.Test.{every, is_zero}
+use Rattle.state.proofs.Tests.{zero_bits, bits-on, bits-done}
+use Rattle.state.proofs.all_zero.Goals as goal
+
+pub loop-i-init : goal.loop-i-init
+loop-i-init c = (search rules, refl)
+
+pub loop-i-preserved : goal.loop-i-preserved
+loop-i-preserved c =
+    let s = c.args.s.now in
+    let i = c.loop-i.i in
+    let z = get_or s i (pos 0) in
+    (search rules, bits-on is_zero s i c.loop-i.bits-bits c.loop-i.invariant.1 (pos 0) (of_z w64 z) (omega arith) (zero_bits z (ok-fits z c.bits-1.given)))
+
+pub returns : goal.returns
+returns c = bits-done is_zero c.args.s.now c.loop-i.i c.loop-i.bits-bits c.loop-i.invariant.1 (omega arith)

@@ -1,0 +1,21 @@
+-- The loop's invariant: no bit so far, and the test of the rest, give the answer for all. The measure is what is left.
+use mathlib.Core.Path.{◌≡◌, refl}
+use mathlib.Core.Bool.{◌&&◌}
+use Prim.Native.Nat.{◌-◌, ◌≤◌}
+use native.Mathlib.Omega.{arith}
+use borrow.Author.Rules.{rules}
+use lib.Dec.{eqb}
+use lib.IntN.{pos}
+use lib.ListN.{length, get_or, drop}
+use mir.Syntax.{w64}
+use mir.Val.{of_z}
+use Rattle.value.proofs.Kit.{ok-fits}
+use Rattle.state.specs.Test.{every, is_zero}
+use Rattle.state.proofs.Tests.{zero_bits, bits-on, bits-done}
+use Rattle.state.proofs.all_zero.Given as goal
+
+abbrev pub invariant-loop-i : goal.invariant-loop-i
+invariant-loop-i l = (l.i ≤ length l.s) × (every is_zero l.s ≡ (eqb l.bits 0 && every is_zero (drop l.i l.s)))
+
+abbrev pub decreases-loop-i : goal.decreases-loop-i
+decreases-loop-i l = length l.s - l.i

@@ -1,0 +1,12 @@
+-- The tail of the pairs rewritten, then the count: each as `pair_added` says.
+use native.Mathlib.Omega.{arith}
+use borrow.Author.Rules.{rules}
+use Rattle.state.proofs.Change.{added}
+use Rattle.state.proofs.insert_pair.Goals as goal
+
+pub counted-n-requires : goal.counted-n-requires
+counted-n-requires c = (omega (arith, c.requires.0), c.requires.2)
+
+pub returns : goal.returns
+returns c =
+    added c.args.state.now c.args.row.now c.rewrite.new.0 c.args.place c.counted-n.result c.requires.4 c.counted-n.ensures.0 (omega (arith, c.counted-n.ensures.0, c.requires.3)) c.rewrite.ensures

@@ -1,0 +1,9 @@
+-- The remainder, from its definition.
+use mathlib.Core.Path.{refl}
+use borrow.Author.Rules.{rules}
+use Rattle.model.specs.Scope.{locals_in}
+use Rattle.state.proofs.locals_in.Goals as goal
+
+pub returns : goal.returns
+unfolding locals_in
+returns c = refl

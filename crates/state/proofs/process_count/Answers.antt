@@ -1,0 +1,8 @@
+-- A count of a state that passed is below the limit.
+use native.Mathlib.Omega.{arith}
+use borrow.Author.Rules.{rules}
+use Rattle.state.proofs.Read.{processes-below}
+use Rattle.state.proofs.process_count.Goals as goal
+
+pub counted-requires : goal.counted-requires
+counted-requires c = (omega (arith, c.requires.long), processes-below c.args.state.now c.requires)

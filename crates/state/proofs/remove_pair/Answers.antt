@@ -1,0 +1,12 @@
+-- The tail of the pairs moved, then the count: each as `pair_taken` says.
+use native.Mathlib.Omega.{arith}
+use borrow.Author.Rules.{rules}
+use Rattle.state.proofs.Change.{taken}
+use Rattle.state.proofs.remove_pair.Goals as goal
+
+pub counted-n-requires : goal.counted-n-requires
+counted-n-requires c = (omega (arith, c.requires.0), c.requires.2)
+
+pub returns : goal.returns
+returns c =
+    taken c.args.state.now c.shift_left.new.0 c.args.place c.counted-n.result c.requires.0 c.requires.1 c.counted-n.ensures.0 c.counted-n.ensures.1 c.shift_left.ensures

@@ -1,0 +1,51 @@
+-- `steady::has_several` meets its contract: by what the look-up among definitions finds, and the root of the sums there.
+use mathlib.Core.Path.{ap, ◌∙◌}
+use Prim.Native.Nat.{ℕ, ◌-◌}
+use native.Mathlib.Omega.{arith}
+use borrow.Author.Rules.{rules}
+use lib.ListN.{get_or}
+use Rattle.tree.specs.Node.{kind_of}
+use Rattle.names.proofs.Settled.{name-inside, reach-definitions}
+use Rattle.names.proofs.Uses.{variables-below, defined-inside}
+use Rattle.steady.proofs.Faults.{none-several, sums-inside, named-several}
+use Rattle.steady.proofs.has_several.Goals as goal
+
+pub overflow_sub-first : goal.overflow_sub-first
+overflow_sub-first c =
+    omega (arith, variables-below c.requires.0 c.args.k 0 c.requires.1)
+
+pub listed-requires : goal.listed-requires
+listed-requires c =
+     record { reach = reach-definitions c.requires.0 c.args.lists.definitions (omega arith); k_in_bounds = name-inside c.requires.0 c.args.k c.requires.1 }
+
+pub returns-in_default : goal.returns-in_default
+returns-in_default c =
+    λ h e. none-several h c.args.k e c.listed.ensures c.in_default.is
+
+pub overflow_sub-first-2 : goal.overflow_sub-first-2
+overflow_sub-first-2 c =
+    omega (arith, (defined-inside c.requires.0 c.args.k 0 c.requires.1 c.listed.ensures c.in-At.is).0)
+
+pub offset_bounds-nodes-first : goal.offset_bounds-nodes-first
+offset_bounds-nodes-first c =
+    omega (arith, (defined-inside c.requires.0 c.args.k 0 c.requires.1 c.listed.ensures c.in-At.is).1)
+
+pub bounds-nodes-first : goal.bounds-nodes-first
+bounds-nodes-first c =
+    (defined-inside c.requires.0 c.args.k 0 c.requires.1 c.listed.ensures c.in-At.is).1
+
+pub overflow_sub-d : goal.overflow_sub-d
+overflow_sub-d c =
+    omega (arith, c.left_of-d.ensures, (sums-inside c.requires.0 c.args.k c.requires.1 c.listed.ensures c.in-At.is).0)
+
+pub offset_bounds-nodes-d : goal.offset_bounds-nodes-d
+offset_bounds-nodes-d c =
+    omega (arith, c.left_of-d.ensures, (sums-inside c.requires.0 c.args.k c.requires.1 c.listed.ensures c.in-At.is).1)
+
+pub bounds-nodes-d : goal.bounds-nodes-d
+bounds-nodes-d c =
+    rw c.left_of-d.ensures (sums-inside c.requires.0 c.args.k c.requires.1 c.listed.ensures c.in-At.is).1
+
+pub returns : goal.returns
+returns c =
+    λ h e. named-several h c.args.k e c.listed.ensures c.in-At.is c.kind_of.result (c.kind_of.ensures ∙ ap (λ (i : ℕ). kind_of (get_or c.args.nodes.now (i - 1) 0)) c.left_of-d.ensures)

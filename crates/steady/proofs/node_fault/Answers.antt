@@ -1,0 +1,64 @@
+-- `steady::node_fault` meets its contract: by the kind of the node.
+use mathlib.Core.Path.{sym, ◌∙◌}
+use mathlib.Core.Bool.{true, false}
+use mathlib.Core.Logic.{inl, inr}
+use native.Mathlib.Omega.{arith}
+use borrow.Author.Rules.{rules}
+use borrow.Author.Tests.{eq-eqb, ne_eqb}
+use Rattle.model.specs.Lists.{when, earlier, least}
+use Rattle.model.specs.Sites.{definitions}
+use Rattle.profile.specs.Unsteady.{several_sums}
+use Rattle.steady.proofs.Faults.{call-kinds, no_call, call-name, group-offends, call-offends, no-offender, before-group, inside}
+use Rattle.steady.proofs.node_fault.Goals as goal
+
+pub offset_bounds-nodes-i : goal.offset_bounds-nodes-i
+offset_bounds-nodes-i c =
+    omega (arith, inside c.requires.0 c.args.i c.requires.1)
+
+pub bounds-nodes-i : goal.bounds-nodes-i
+bounds-nodes-i c =
+    inside c.requires.0 c.args.i c.requires.1
+
+pub overflow_sub-i : goal.overflow_sub-i
+overflow_sub-i c =
+    omega (arith, before-group c.requires.0 c.args.i c.requires.1 (sym c.kind_of-kind.ensures ∙ c.in-53.is))
+
+pub offset_bounds-nodes-i-in-53 : goal.offset_bounds-nodes-i-in-53
+offset_bounds-nodes-i-in-53 c =
+    omega (arith, inside c.requires.0 c.args.i c.requires.1)
+
+pub bounds-nodes-i-in-53 : goal.bounds-nodes-i-in-53
+bounds-nodes-i-in-53 c =
+    let l = inside c.requires.0 c.args.i c.requires.1 in omega arith
+
+pub returns-then-kind_of-eq-ITEM : goal.returns-then-kind_of-eq-ITEM
+unfolding least when earlier
+returns-then-kind_of-eq-ITEM c =
+    λ h. group-offends c.args.nodes.now c.args.i c.kind_of-kind.result c.token_of-k.result c.kind_of-kind.ensures c.token_of-k.ensures (several_sums h.word (definitions h.model)) c.in-53.is true (eq-eqb _ _ (sym c.kind_of.ensures ∙ c.if-kind_of-eq-ITEM.true))
+
+pub has_several-requires : goal.has_several-requires
+has_several-requires c =
+    (c.requires.0, call-name c.args.nodes.now c.args.i c.kind_of-kind.result c.token_of-k.result c.kind_of-kind.ensures c.token_of-k.ensures c.requires.0 c.requires.1 (call-kinds c.kind_of-kind.result c.if-kind-lt50.false c.if-kind-lt52.true))
+
+pub returns-then-has_several : goal.returns-then-has_several
+unfolding least when earlier
+returns-then-has_several c =
+    λ h. call-offends c.args.nodes.now c.args.i c.kind_of-kind.result c.token_of-k.result c.kind_of-kind.ensures c.token_of-k.ensures (several_sums h.word (definitions h.model)) (call-kinds c.kind_of-kind.result c.if-kind-lt50.false c.if-kind-lt52.true) true (sym (c.has_several.ensures h (call-name c.args.nodes.now c.args.i c.kind_of-kind.result c.token_of-k.result c.kind_of-kind.ensures c.token_of-k.ensures h c.requires.1 (call-kinds c.kind_of-kind.result c.if-kind-lt50.false c.if-kind-lt52.true))) ∙ c.if-has_several.true)
+
+pub returns-else-kind_of-eq-ITEM : goal.returns-else-kind_of-eq-ITEM
+unfolding least when earlier
+returns-else-kind_of-eq-ITEM c =
+    λ h. group-offends c.args.nodes.now c.args.i c.kind_of-kind.result c.token_of-k.result c.kind_of-kind.ensures c.token_of-k.ensures (several_sums h.word (definitions h.model)) c.in-53.is false (ne_eqb _ _ (λ e. c.if-kind_of-eq-ITEM.false (c.kind_of.ensures ∙ e)))
+
+pub returns-else-has_several : goal.returns-else-has_several
+unfolding least when earlier
+returns-else-has_several c =
+    λ h. call-offends c.args.nodes.now c.args.i c.kind_of-kind.result c.token_of-k.result c.kind_of-kind.ensures c.token_of-k.ensures (several_sums h.word (definitions h.model)) (call-kinds c.kind_of-kind.result c.if-kind-lt50.false c.if-kind-lt52.true) false (sym (c.has_several.ensures h (call-name c.args.nodes.now c.args.i c.kind_of-kind.result c.token_of-k.result c.kind_of-kind.ensures c.token_of-k.ensures h c.requires.1 (call-kinds c.kind_of-kind.result c.if-kind-lt50.false c.if-kind-lt52.true))) ∙ c.if-has_several.false)
+
+pub returns-in_default : goal.returns-in_default
+returns-in_default c =
+    λ h. no-offender c.args.nodes.now c.args.i c.kind_of-kind.result c.token_of-k.result c.kind_of-kind.ensures c.token_of-k.ensures (several_sums h.word (definitions h.model)) c.in_default-1.rest.1 (no_call c.kind_of-kind.result (inl c.if-kind-lt50.true))
+
+pub returns-in_default-2 : goal.returns-in_default-2
+returns-in_default-2 c =
+    λ h. no-offender c.args.nodes.now c.args.i c.kind_of-kind.result c.token_of-k.result c.kind_of-kind.ensures c.token_of-k.ensures (several_sums h.word (definitions h.model)) c.in_default-1.rest.1 (no_call c.kind_of-kind.result (inr c.if-kind-lt52.false))

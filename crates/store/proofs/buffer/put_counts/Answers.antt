@@ -1,0 +1,15 @@
+-- Both counts are small, so that their numbers are they themselves.
+use mathlib.Core.Path.{◌≡◌}
+use native.Mathlib.Omega.{arith}
+use lib.IntN.{pos}
+use mir.Syntax.{w64}
+use mir.Val.{to_z}
+use borrow.Author.Rules.{rules}
+use Rattle.value.proofs.Kit.{back}
+use Rattle.store.proofs.buffer.put_counts.Goals as goal
+
+pub returns : goal.returns
+returns c =
+    let p : to_z w64 c.args.processes ≡ pos c.args.processes = back (pos c.args.processes) (omega arith) in
+    let q : to_z w64 c.args.pairs ≡ pos c.args.pairs = back (pos c.args.pairs) (omega arith) in
+    rw (p, q)

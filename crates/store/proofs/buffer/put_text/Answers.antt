@@ -1,0 +1,56 @@
+-- The length and the text over zeros are the bytes of the text.
+use mathlib.Core.Path.{◌≡◌, ap, ◌∙◌}
+use Prim.Native.Nat.{◌%◌, ◌/◌, ℕ}
+use native.Mathlib.Omega.{arith}
+use lib.ListN.{length, length-take, length-drop, length-replicate}
+use borrow.Author.Rules.{rules}
+use Rattle.machine.specs.Machine.{model_length}
+use Rattle.buffers.proofs.Held.{bytes-length}
+use Rattle.store.proofs.Bytes.{twice-length, text-put}
+use Rattle.store.proofs.buffer.put_text.Goals as goal
+
+pub put_length-requires : goal.put_length-requires
+put_length-requires c =
+    let M = c.args.model.now in
+    let X = c.args.text.now in
+    let n : length M ≡ model_length = ap length c.requires.0 ∙ length-replicate {A = ℕ} model_length 0 in
+    (omega arith, omega (arith, c.requires.1))
+
+pub slice_bounds-copy_bytes-count : goal.slice_bounds-copy_bytes-count
+slice_bounds-copy_bytes-count c =
+    let M = c.args.model.now in
+    let X = c.args.text.now in
+    let n : length M ≡ model_length = ap length c.requires.0 ∙ length-replicate {A = ℕ} model_length 0 in
+    let x = twice-length M _ (length X % 256) (length X / 256) c.put_length.ensures in
+    omega arith
+
+pub slice_bounds-copy_bytes-start : goal.slice_bounds-copy_bytes-start
+slice_bounds-copy_bytes-start c =
+    let M = c.args.model.now in
+    let X = c.args.text.now in
+    let n : length M ≡ model_length = ap length c.requires.0 ∙ length-replicate {A = ℕ} model_length 0 in
+    let x = twice-length M _ (length X % 256) (length X / 256) c.put_length.ensures in
+    omega arith
+
+pub copy_bytes-requires : goal.copy_bytes-requires
+copy_bytes-requires c =
+    let M = c.args.model.now in
+    let X = c.args.text.now in
+    let n : length M ≡ model_length = ap length c.requires.0 ∙ length-replicate {A = ℕ} model_length 0 in
+    let x = twice-length M _ (length X % 256) (length X / 256) c.put_length.ensures in
+    simp (length-take, length-drop) (omega (arith, c.requires.1))
+
+pub shape_of-model : goal.shape_of-model
+shape_of-model c =
+    let M = c.args.model.now in
+    let X = c.args.text.now in
+    let n : length M ≡ model_length = ap length c.requires.0 ∙ length-replicate {A = ℕ} model_length 0 in
+    let t = text-put X M _ _ c.requires.0 c.requires.1 c.put_length.ensures c.copy_bytes.ensures in
+    omega (arith, ap length t, bytes-length X c.requires.1)
+
+pub returns : goal.returns
+returns c =
+    let M = c.args.model.now in
+    let X = c.args.text.now in
+    let n : length M ≡ model_length = ap length c.requires.0 ∙ length-replicate {A = ℕ} model_length 0 in
+    text-put X M _ _ c.requires.0 c.requires.1 c.put_length.ensures c.copy_bytes.ensures

@@ -1,0 +1,29 @@
+-- `beacon` meets its contract: each return is a law of Deeds.antt.
+use Rattle.grammar.proofs.Follows.{same, isnt, inside, in_tok}
+use Rattle.tree.proofs.Spans.{ready-after, ready-token, made_of, grown-of}
+use Rattle.syntax.proofs.Deeds.{beacon-fault, beacon-made}
+use Rattle.syntax.proofs.action.deed.Reads as deed-reads
+use Rattle.syntax.proofs.channel.channel.Reads as channel-reads
+use mathlib.Core.Path.{◌≡◌, refl, ap, sym, ◌∙◌}
+use mathlib.Core.List.{List, [], ◌∷◌, ◌++◌}
+use mathlib.Core.Bool.{Bool, true, false, cond}
+use mathlib.Core.Logic.{⊎_elim}
+use Prim.Native.Nat.{ℕ, zero, suc, ◌+◌, ◌-◌, ◌*◌, ◌≤◌, ◌<◌}
+use native.Mathlib.Omega.{arith}
+use borrow.Author.Rules.{rules}
+use borrow.Author.Tests.{lt-ltb, le-ltb, le-leb, lt-leb, eq-eqb, ne_eqb}
+use lib.IntN.{ℤ, pos}
+use lib.ListN.{length, get_or, set, take, drop, replicate, length-append, length-take, length-drop, length-set, length-replicate}
+use Rattle.syntax.proofs.action.beacon.Goals as goal
+
+pub deed-requires : goal.deed-requires
+deed-requires c =
+    ready-after c.requires (made_of c.in-Next.is c.channel.ensures.parsed).span
+
+pub returns-in-Fault : goal.returns-in-Fault
+returns-in-Fault c =
+    let r = beacon-fault c.args.toks.now c.args.nodes.now _ c.args.at c.args.used c.channel.ensures c.in-Fault.is in record { follows = r.0; parsed = r.1 }
+
+pub returns-in-Next : goal.returns-in-Next
+returns-in-Next c =
+    let r = beacon-made c.args.toks.now c.args.nodes.now _ c.args.at c.args.used c.channel.ensures _ _ c.in-Next.is c.deed.ensures in record { follows = r.0; parsed = r.1 }

@@ -1,0 +1,100 @@
+-- `check` meets its contract: each return is a law of Deeds.antt.
+use Rattle.grammar.proofs.Follows.{inside, same, isnt, in_tok}
+use Rattle.tree.proofs.Spans.{ready-token, made_of}
+use Rattle.syntax.proofs.Deeds.{check-fault, check-stray, check-ready, check-unset, check-node}
+use Rattle.syntax.proofs.action.sets.Reads as sets-reads
+use Rattle.syntax.proofs.channel.channel.Reads as channel-reads
+use Rattle.token.proofs.peek.Reads as peek-reads
+use Rattle.tree.proofs.node.Reads as node-reads
+use mathlib.Core.Path.{◌≡◌, refl, ap, sym, ◌∙◌}
+use mathlib.Core.List.{List, [], ◌∷◌, ◌++◌}
+use mathlib.Core.Bool.{Bool, true, false, cond}
+use mathlib.Core.Logic.{⊎_elim}
+use Prim.Native.Nat.{ℕ, zero, suc, ◌+◌, ◌-◌, ◌*◌, ◌≤◌, ◌<◌}
+use native.Mathlib.Omega.{arith}
+use borrow.Author.Rules.{rules}
+use borrow.Author.Tests.{lt-ltb, le-ltb, le-leb, lt-leb, eq-eqb, ne_eqb}
+use lib.IntN.{ℤ, pos}
+use lib.ListN.{length, get_or, set, take, drop, replicate, length-append, length-take, length-drop, length-set, length-replicate}
+use Rattle.syntax.proofs.action.check.Goals as goal
+
+pub overflow_add-at : goal.overflow_add-at
+overflow_add-at c =
+    omega (arith, inside c.args.toks.now c.args.at (omega arith))
+
+pub channel-requires : goal.channel-requires
+channel-requires c =
+    ready-token c.requires.ready (omega arith)
+
+pub enum_known-k : goal.enum_known-k
+enum_known-k c =
+    c.in-Fault.keys1
+
+pub enum_known-n : goal.enum_known-n
+enum_known-n c =
+    c.in-Next.keys2
+
+pub shape_of-nodes-then-peek-ne63 : goal.shape_of-nodes-then-peek-ne63
+shape_of-nodes-then-peek-ne63 c =
+    omega arith
+
+pub returns-then-peek-ne63 : goal.returns-then-peek-ne63
+returns-then-peek-ne63 c =
+    let r = check-stray c.args.toks.now c.args.nodes.now _ c.args.at c.args.used c.requires.at_value c.channel.ensures c.in-Next.is (isnt c.peek.ensures c.if-peek-ne63.true) in record { follows = r.0; parsed = r.1 }
+
+pub overflow_add-n : goal.overflow_add-n
+overflow_add-n c =
+    let ready = check-ready c.args.toks.now c.args.nodes.now _ c.args.at c.args.used c.requires.at_value c.channel.ensures c.in-Next.is (same c.peek.ensures c.if-peek-ne63.false) c.requires.ready in
+    omega (arith, ready.room, ready.inside)
+
+pub overflow_add-left : goal.overflow_add-left
+overflow_add-left c =
+    let ready = check-ready c.args.toks.now c.args.nodes.now _ c.args.at c.args.used c.requires.at_value c.channel.ensures c.in-Next.is (same c.peek.ensures c.if-peek-ne63.false) c.requires.ready in
+    omega (arith, ready.room, ready.inside, ready.few)
+
+pub sets-requires : goal.sets-requires
+sets-requires c =
+    check-ready c.args.toks.now c.args.nodes.now _ c.args.at c.args.used c.requires.at_value c.channel.ensures c.in-Next.is (same c.peek.ensures c.if-peek-ne63.false) c.requires.ready
+
+pub enum_known-k-in-Fault-sets : goal.enum_known-k-in-Fault-sets
+enum_known-k-in-Fault-sets c =
+    c.in-Fault-sets.keys1
+
+pub enum_known-m : goal.enum_known-m
+enum_known-m c =
+    c.in-Next-sets.keys2
+
+pub overflow_add-root : goal.overflow_add-root
+overflow_add-root c =
+    let ready = check-ready c.args.toks.now c.args.nodes.now _ c.args.at c.args.used c.requires.at_value c.channel.ensures c.in-Next.is (same c.peek.ensures c.if-peek-ne63.false) c.requires.ready in
+    let m = made_of c.in-Next-sets.is c.sets.ensures.parsed in
+    omega (arith, ready.room, ready.few, m.span.within, m.span.fewer)
+
+pub node-requires : goal.node-requires
+node-requires c =
+    let ready = check-ready c.args.toks.now c.args.nodes.now _ c.args.at c.args.used c.requires.at_value c.channel.ensures c.in-Next.is (same c.peek.ensures c.if-peek-ne63.false) c.requires.ready in
+    (omega arith, omega (arith, ready.room, ready.inside, ready.few), omega arith)
+
+pub shape_of-nodes-in-Fault : goal.shape_of-nodes-in-Fault
+shape_of-nodes-in-Fault c =
+    omega arith
+
+pub returns-in-Fault : goal.returns-in-Fault
+returns-in-Fault c =
+    let r = check-fault c.args.toks.now c.args.nodes.now _ c.args.at c.args.used c.requires.at_value c.channel.ensures c.in-Fault.is in record { follows = r.0; parsed = r.1 }
+
+pub shape_of-nodes-in-Fault-sets : goal.shape_of-nodes-in-Fault-sets
+shape_of-nodes-in-Fault-sets c =
+    omega arith
+
+pub returns-in-Fault-sets : goal.returns-in-Fault-sets
+returns-in-Fault-sets c =
+    let r = check-unset c.args.toks.now c.args.nodes.now _ c.args.at c.args.used c.requires.at_value c.channel.ensures c.in-Next.is (same c.peek.ensures c.if-peek-ne63.false) _ c.sets.ensures c.in-Fault-sets.is in record { follows = r.0; parsed = r.1 }
+
+pub shape_of-nodes-in-Next-sets : goal.shape_of-nodes-in-Next-sets
+shape_of-nodes-in-Next-sets c =
+    omega arith
+
+pub returns-in-Next-sets : goal.returns-in-Next-sets
+returns-in-Next-sets c =
+    let ready = check-ready c.args.toks.now c.args.nodes.now _ c.args.at c.args.used c.requires.at_value c.channel.ensures c.in-Next.is (same c.peek.ensures c.if-peek-ne63.false) c.requires.ready in let r = check-node c.args.toks.now c.args.nodes.now _ c.args.at c.args.used c.requires.at_value c.channel.ensures c.in-Next.is (same c.peek.ensures c.if-peek-ne63.false) _ c.sets.ensures c.in-Next-sets.is (record { written = c.node.ensures; token-fits = omega arith; left-fits = omega (arith, ready.room, ready.inside, ready.few); third-fits = omega arith }) in record { follows = r.0; parsed = r.1 }

@@ -1,0 +1,46 @@
+-- `deed` meets its contract: each return is a law of Deeds.antt.
+use Rattle.grammar.proofs.Follows.{same, isnt, inside, in_tok}
+use Rattle.tree.proofs.Spans.{ready-after, ready-token, made_of, grown-of}
+use Rattle.syntax.proofs.Deeds.{deed-stray, deed-launch, deed-kill, deed-receive}
+use Rattle.syntax.proofs.action.receiving.Reads as receiving-reads
+use Rattle.syntax.proofs.action.sending.Reads as sending-reads
+use Rattle.token.proofs.peek.Reads as peek-reads
+use mathlib.Core.Path.{◌≡◌, refl, ap, sym, ◌∙◌}
+use mathlib.Core.List.{List, [], ◌∷◌, ◌++◌}
+use mathlib.Core.Bool.{Bool, true, false, cond}
+use mathlib.Core.Logic.{⊎_elim}
+use Prim.Native.Nat.{ℕ, zero, suc, ◌+◌, ◌-◌, ◌*◌, ◌≤◌, ◌<◌}
+use native.Mathlib.Omega.{arith}
+use borrow.Author.Rules.{rules}
+use borrow.Author.Tests.{lt-ltb, le-ltb, le-leb, lt-leb, eq-eqb, ne_eqb}
+use lib.IntN.{ℤ, pos}
+use lib.ListN.{length, get_or, set, take, drop, replicate, length-append, length-take, length-drop, length-set, length-replicate}
+use Rattle.syntax.proofs.action.deed.Goals as goal
+
+pub sending-requires : goal.sending-requires
+sending-requires c =
+     record { ready = c.requires; nonzero = omega (arith, same c.peek-t.ensures c.if-t-eq33.true) }
+
+pub returns-then-t-eq33 : goal.returns-then-t-eq33
+returns-then-t-eq33 c =
+    let r = deed-launch c.args.toks.now c.args.nodes.now c.args.at c.args.left _ _ (same c.peek-t.ensures c.if-t-eq33.true) c.sending.ensures in record { follows = r.0; extended = r.1 }
+
+pub sending-requires-then-t-eq35 : goal.sending-requires-then-t-eq35
+sending-requires-then-t-eq35 c =
+     record { ready = c.requires; nonzero = omega (arith, same c.peek-t.ensures c.if-t-eq35.true) }
+
+pub returns-then-t-eq35 : goal.returns-then-t-eq35
+returns-then-t-eq35 c =
+    let r = deed-kill c.args.toks.now c.args.nodes.now c.args.at c.args.left _ _ (same c.peek-t.ensures c.if-t-eq35.true) c.sending-then-t-eq35.ensures in record { follows = r.0; extended = r.1 }
+
+pub receiving-requires : goal.receiving-requires
+receiving-requires c =
+    let r = (c.requires, (omega (arith, same c.peek-t.ensures c.if-t-eq63.true), omega arith)) in record { ready = r.0; nonzero = r.1; kind_bound = r.2 }
+
+pub returns-then-t-eq63 : goal.returns-then-t-eq63
+returns-then-t-eq63 c =
+    let r = deed-receive c.args.toks.now c.args.nodes.now c.args.at c.args.left _ _ (same c.peek-t.ensures c.if-t-eq63.true) c.receiving.ensures in record { follows = r.0; extended = r.1 }
+
+pub returns : goal.returns
+returns c =
+    let r = deed-stray c.args.toks.now c.args.nodes.now c.args.at c.args.left c.requires.inside (isnt c.peek-t.ensures c.if-t-eq33.false) (isnt c.peek-t.ensures c.if-t-eq35.false) (isnt c.peek-t.ensures c.if-t-eq63.false) in record { follows = r.0; extended = r.1 }

@@ -1,0 +1,75 @@
+-- `handshake` meets its contract: each return is a law of Deeds.antt.
+use Rattle.grammar.proofs.Follows.{inside, same, isnt}
+use Rattle.tree.proofs.Spans.{ready-token}
+use Rattle.syntax.proofs.Deeds.{hand-fault, hand-stray, hand-ready, hand-send, hand-receive}
+use Rattle.syntax.proofs.action.receiving.Reads as receiving-reads
+use Rattle.syntax.proofs.action.sending.Reads as sending-reads
+use Rattle.syntax.proofs.channel.channel.Reads as channel-reads
+use Rattle.token.proofs.peek.Reads as peek-reads
+use mathlib.Core.Path.{◌≡◌, refl, ap, sym, ◌∙◌}
+use mathlib.Core.List.{List, [], ◌∷◌, ◌++◌}
+use mathlib.Core.Bool.{Bool, true, false, cond}
+use mathlib.Core.Logic.{⊎_elim}
+use Prim.Native.Nat.{ℕ, zero, suc, ◌+◌, ◌-◌, ◌*◌, ◌≤◌, ◌<◌}
+use native.Mathlib.Omega.{arith}
+use borrow.Author.Rules.{rules}
+use borrow.Author.Tests.{lt-ltb, le-ltb, le-leb, lt-leb, eq-eqb, ne_eqb}
+use lib.IntN.{ℤ, pos}
+use lib.ListN.{length, get_or, set, take, drop, replicate, length-append, length-take, length-drop, length-set, length-replicate}
+use Rattle.syntax.proofs.action.handshake.Goals as goal
+
+pub overflow_add-at : goal.overflow_add-at
+overflow_add-at c =
+    omega (arith, inside c.args.toks.now c.args.at (omega arith))
+
+pub channel-requires : goal.channel-requires
+channel-requires c =
+    ready-token c.requires.ready (omega arith)
+
+pub enum_known-k : goal.enum_known-k
+enum_known-k c =
+    c.in-Fault.keys1
+
+pub enum_known-n : goal.enum_known-n
+enum_known-n c =
+    c.in-Next.keys2
+
+pub sending-requires : goal.sending-requires
+sending-requires c =
+     record { ready = hand-ready c.args.toks.now c.args.nodes.now _ c.args.at c.args.used c.requires.at_value c.channel.ensures c.in-Next.is c.requires.ready; nonzero = omega arith }
+
+pub shape_of-nodes-then-t-eq33 : goal.shape_of-nodes-then-t-eq33
+shape_of-nodes-then-t-eq33 c =
+    omega arith
+
+pub returns-then-t-eq33 : goal.returns-then-t-eq33
+returns-then-t-eq33 c =
+    let r = hand-send c.args.toks.now c.args.nodes.now _ c.args.at c.args.used c.requires.at_value c.channel.ensures c.in-Next.is _ _ (same c.peek-t.ensures c.if-t-eq33.true) c.sending.ensures in record { follows = r.0; parsed = r.1 }
+
+pub receiving-requires : goal.receiving-requires
+receiving-requires c =
+    let r = (hand-ready c.args.toks.now c.args.nodes.now _ c.args.at c.args.used c.requires.at_value c.channel.ensures c.in-Next.is c.requires.ready, (omega arith, omega arith)) in record { ready = r.0; nonzero = r.1; kind_bound = r.2 }
+
+pub shape_of-nodes-then-t-eq63 : goal.shape_of-nodes-then-t-eq63
+shape_of-nodes-then-t-eq63 c =
+    omega arith
+
+pub returns-then-t-eq63 : goal.returns-then-t-eq63
+returns-then-t-eq63 c =
+    let r = hand-receive c.args.toks.now c.args.nodes.now _ c.args.at c.args.used c.requires.at_value c.channel.ensures c.in-Next.is _ _ (same c.peek-t.ensures c.if-t-eq63.true) c.receiving.ensures in record { follows = r.0; parsed = r.1 }
+
+pub shape_of-nodes-in-Fault : goal.shape_of-nodes-in-Fault
+shape_of-nodes-in-Fault c =
+    omega arith
+
+pub returns-in-Fault : goal.returns-in-Fault
+returns-in-Fault c =
+    let r = hand-fault c.args.toks.now c.args.nodes.now _ c.args.at c.args.used c.requires.at_value c.channel.ensures c.in-Fault.is in record { follows = r.0; parsed = r.1 }
+
+pub shape_of-nodes-else-t-eq63 : goal.shape_of-nodes-else-t-eq63
+shape_of-nodes-else-t-eq63 c =
+    omega arith
+
+pub returns-else-t-eq63 : goal.returns-else-t-eq63
+returns-else-t-eq63 c =
+    let r = hand-stray c.args.toks.now c.args.nodes.now _ c.args.at c.args.used c.requires.at_value c.channel.ensures c.in-Next.is (isnt c.peek-t.ensures c.if-t-eq33.false) (isnt c.peek-t.ensures c.if-t-eq63.false) in record { follows = r.0; parsed = r.1 }

@@ -1,0 +1,62 @@
+-- `sending` meets its contract: each return is a law of Deeds.antt.
+use Rattle.grammar.proofs.Follows.{inside}
+use Rattle.tree.proofs.Spans.{ready-token, made_of}
+use Rattle.syntax.proofs.Deeds.{sending-fault, sending-node}
+use Rattle.syntax.proofs.action.values.Reads as values-reads
+use Rattle.tree.proofs.node.Reads as node-reads
+use mathlib.Core.Path.{◌≡◌, refl, ap, sym, ◌∙◌}
+use mathlib.Core.List.{List, [], ◌∷◌, ◌++◌}
+use mathlib.Core.Bool.{Bool, true, false, cond}
+use mathlib.Core.Logic.{⊎_elim}
+use Prim.Native.Nat.{ℕ, zero, suc, ◌+◌, ◌-◌, ◌*◌, ◌≤◌, ◌<◌}
+use native.Mathlib.Omega.{arith}
+use borrow.Author.Rules.{rules}
+use borrow.Author.Tests.{lt-ltb, le-ltb, le-leb, lt-leb, eq-eqb, ne_eqb}
+use lib.IntN.{ℤ, pos}
+use lib.ListN.{length, get_or, set, take, drop, replicate, length-append, length-take, length-drop, length-set, length-replicate}
+use Rattle.syntax.proofs.action.sending.Goals as goal
+
+pub overflow_add-at : goal.overflow_add-at
+overflow_add-at c =
+    omega (arith, inside c.args.toks.now c.args.at c.requires.nonzero)
+
+pub overflow_add-left : goal.overflow_add-left
+overflow_add-left c =
+    omega (arith, c.requires.ready.room, c.requires.ready.few, inside c.args.toks.now c.args.at c.requires.nonzero)
+
+pub values-requires : goal.values-requires
+values-requires c =
+    ready-token c.requires.ready c.requires.nonzero
+
+pub enum_known-k : goal.enum_known-k
+enum_known-k c =
+    c.in-Fault.keys1
+
+pub enum_known-n : goal.enum_known-n
+enum_known-n c =
+    c.in-Next.keys2
+
+pub overflow_add-root : goal.overflow_add-root
+overflow_add-root c =
+    let m = made_of c.in-Next.is c.values.ensures.parsed in
+    omega (arith, c.requires.ready.room, c.requires.ready.few, m.span.within, m.span.fewer)
+
+pub node-requires : goal.node-requires
+node-requires c =
+    (omega arith, omega (arith, c.requires.ready.room, c.requires.ready.few, inside c.args.toks.now c.args.at c.requires.nonzero), omega arith)
+
+pub shape_of-nodes-in-Fault : goal.shape_of-nodes-in-Fault
+shape_of-nodes-in-Fault c =
+    omega arith
+
+pub returns-in-Fault : goal.returns-in-Fault
+returns-in-Fault c =
+    let r = sending-fault c.args.kind c.args.toks.now c.args.nodes.now _ c.args.at c.args.left c.values.ensures c.in-Fault.is in record { follows = r.0; extended = r.1 }
+
+pub shape_of-nodes-in-Next : goal.shape_of-nodes-in-Next
+shape_of-nodes-in-Next c =
+    omega arith
+
+pub returns-in-Next : goal.returns-in-Next
+returns-in-Next c =
+    let r = sending-node c.args.kind c.args.toks.now c.args.nodes.now _ c.args.at c.args.left c.values.ensures c.requires.nonzero c.in-Next.is (record { written = c.node.ensures; token-fits = omega arith; left-fits = omega (arith, c.requires.ready.room, c.requires.ready.few, inside c.args.toks.now c.args.at c.requires.nonzero); third-fits = omega arith }) in record { follows = r.0; extended = r.1 }

@@ -1,0 +1,133 @@
+-- `values` meets its contract: each return is a law of Enclosed.antt, for expressions.
+use Rattle.grammar.proofs.Follows.{same, isnt, in_tok}
+use Rattle.grammar.proofs.Wide.{wide-expr}
+use Rattle.tree.proofs.Holds.{expr-interval}
+use Rattle.tree.proofs.Spans.{ready-token, made_of}
+use Rattle.syntax.proofs.Sizes.{parsed-size}
+use Rattle.syntax.proofs.Enclosed.{value-brackets, brackets-stray, brackets-fault, brackets-one, brackets-open, brackets-ready, brackets-fault-second, brackets-open-second, brackets-two}
+use Rattle.syntax.proofs.expression.expr.Reads as expr-reads
+use Rattle.token.proofs.peek.Reads as peek-reads
+use Rattle.tree.proofs.node.Reads as node-reads
+use mathlib.Core.Path.{◌≡◌, refl, ap, sym, ◌∙◌}
+use mathlib.Core.List.{List, [], ◌∷◌, ◌++◌}
+use mathlib.Core.Bool.{Bool, true, false, cond}
+use mathlib.Core.Logic.{⊎_elim}
+use Prim.Native.Nat.{ℕ, zero, suc, ◌+◌, ◌-◌, ◌*◌, ◌≤◌, ◌<◌}
+use native.Mathlib.Omega.{arith}
+use borrow.Author.Rules.{rules}
+use borrow.Author.Tests.{lt-ltb, le-ltb, le-leb, lt-leb, eq-eqb, ne_eqb}
+use lib.IntN.{ℤ, pos}
+use lib.ListN.{length, get_or, set, take, drop, replicate, length-append, length-take, length-drop, length-set, length-replicate}
+use Rattle.syntax.proofs.action.values.Goals as goal
+
+pub returns-then-peek-ne91 : goal.returns-then-peek-ne91
+returns-then-peek-ne91 c =
+    let r = brackets-stray value-brackets c.args.toks.now c.args.nodes.now c.args.at c.args.used c.requires.inside (isnt c.peek.ensures c.if-peek-ne91.true) in record { follows = r.0; parsed = r.1 }
+
+pub overflow_add-at : goal.overflow_add-at
+overflow_add-at c =
+    omega (arith, in_tok c.args.toks.now c.args.at c.peek.ensures (omega arith))
+
+pub expr-requires : goal.expr-requires
+expr-requires c =
+    ready-token c.requires (omega arith)
+
+pub enum_known-k : goal.enum_known-k
+enum_known-k c =
+    c.in-Fault.keys1
+
+pub enum_known-n : goal.enum_known-n
+enum_known-n c =
+    c.in-Next.keys2
+
+pub overflow_add-result : goal.overflow_add-result
+overflow_add-result c =
+    let m = made_of c.in-Next.is c.expr.ensures.parsed in
+    omega (arith, c.requires.room, in_tok c.args.toks.now c.in-Next.n c.peek-t.ensures (omega arith))
+
+pub shape_of-nodes-then-t-eq93 : goal.shape_of-nodes-then-t-eq93
+shape_of-nodes-then-t-eq93 c =
+    omega arith
+
+pub returns-then-t-eq93 : goal.returns-then-t-eq93
+returns-then-t-eq93 c =
+    let r = brackets-one value-brackets c.args.toks.now c.args.nodes.now c.args.at c.args.used (same c.peek.ensures c.if-peek-ne91.false) _ c.expr.ensures c.in-Next.is (same c.peek-t.ensures c.if-t-eq93.true) in record { follows = r.0; parsed = r.1 }
+
+pub shape_of-nodes-then-t-ne44 : goal.shape_of-nodes-then-t-ne44
+shape_of-nodes-then-t-ne44 c =
+    omega arith
+
+pub returns-then-t-ne44 : goal.returns-then-t-ne44
+returns-then-t-ne44 c =
+    let r = brackets-open value-brackets c.args.toks.now c.args.nodes.now c.args.at c.args.used (same c.peek.ensures c.if-peek-ne91.false) _ c.expr.ensures c.in-Next.is (isnt c.peek-t.ensures c.if-t-eq93.false) (isnt c.peek-t.ensures c.if-t-ne44.true) in record { follows = r.0; parsed = r.1 }
+
+pub overflow_add-n : goal.overflow_add-n
+overflow_add-n c =
+    let m = made_of c.in-Next.is c.expr.ensures.parsed in
+    omega (arith, c.requires.room, in_tok c.args.toks.now c.in-Next.n c.peek-t.ensures (omega arith))
+
+pub overflow_add-left : goal.overflow_add-left
+overflow_add-left c =
+    let m = made_of c.in-Next.is c.expr.ensures.parsed in
+    omega (arith, c.requires.room, c.requires.few, m.span.within, m.span.fewer)
+
+pub expr-requires-in-Next : goal.expr-requires-in-Next
+expr-requires-in-Next c =
+    brackets-ready value-brackets c.args.toks.now c.args.nodes.now c.args.at c.args.used (same c.peek.ensures c.if-peek-ne91.false) _ c.expr.ensures c.in-Next.is c.requires (same c.peek-t.ensures c.if-t-ne44.false)
+
+pub enum_known-k-in-Fault-expr-2 : goal.enum_known-k-in-Fault-expr-2
+enum_known-k-in-Fault-expr-2 c =
+    c.in-Fault-expr.keys1
+
+pub enum_known-m : goal.enum_known-m
+enum_known-m c =
+    c.in-Next-expr.keys2
+
+pub shape_of-nodes-then-peek-ne93 : goal.shape_of-nodes-then-peek-ne93
+shape_of-nodes-then-peek-ne93 c =
+    omega arith
+
+pub returns-then-peek-ne93 : goal.returns-then-peek-ne93
+returns-then-peek-ne93 c =
+    let r = brackets-open-second value-brackets c.args.toks.now c.args.nodes.now c.args.at c.args.used (same c.peek.ensures c.if-peek-ne91.false) _ c.expr.ensures c.in-Next.is (same c.peek-t.ensures c.if-t-ne44.false) _ c.expr-in-Next.ensures c.in-Next-expr.is (isnt c.peek-in-Next-expr.ensures c.if-peek-ne93.true) in record { follows = r.0; parsed = r.1 }
+
+pub overflow_add-root : goal.overflow_add-root
+overflow_add-root c =
+    let ready = brackets-ready value-brackets c.args.toks.now c.args.nodes.now c.args.at c.args.used (same c.peek.ensures c.if-peek-ne91.false) _ c.expr.ensures c.in-Next.is c.requires (same c.peek-t.ensures c.if-t-ne44.false) in
+    let right = made_of c.in-Next-expr.is c.expr-in-Next.ensures.parsed in
+    omega (arith, ready.room, ready.few, right.span.within, right.span.fewer)
+
+pub node-requires : goal.node-requires
+node-requires c =
+    let ready = brackets-ready value-brackets c.args.toks.now c.args.nodes.now c.args.at c.args.used (same c.peek.ensures c.if-peek-ne91.false) _ c.expr.ensures c.in-Next.is c.requires (same c.peek-t.ensures c.if-t-ne44.false) in
+    (omega arith, omega (arith, ready.room, ready.inside, ready.few), omega arith)
+
+pub overflow_add-result-in-Next-expr : goal.overflow_add-result-in-Next-expr
+overflow_add-result-in-Next-expr c =
+    let ready = brackets-ready value-brackets c.args.toks.now c.args.nodes.now c.args.at c.args.used (same c.peek.ensures c.if-peek-ne91.false) _ c.expr.ensures c.in-Next.is c.requires (same c.peek-t.ensures c.if-t-ne44.false) in
+    let right = made_of c.in-Next-expr.is c.expr-in-Next.ensures.parsed in
+    omega (arith, ready.room, right.span.within)
+
+pub shape_of-nodes-in-Fault : goal.shape_of-nodes-in-Fault
+shape_of-nodes-in-Fault c =
+    omega arith
+
+pub returns-in-Fault : goal.returns-in-Fault
+returns-in-Fault c =
+    let r = brackets-fault value-brackets c.args.toks.now c.args.nodes.now c.args.at c.args.used (same c.peek.ensures c.if-peek-ne91.false) _ c.expr.ensures c.in-Fault.is in record { follows = r.0; parsed = r.1 }
+
+pub shape_of-nodes-in-Fault-expr : goal.shape_of-nodes-in-Fault-expr
+shape_of-nodes-in-Fault-expr c =
+    omega arith
+
+pub returns-in-Fault-expr : goal.returns-in-Fault-expr
+returns-in-Fault-expr c =
+    let r = brackets-fault-second value-brackets c.args.toks.now c.args.nodes.now c.args.at c.args.used (same c.peek.ensures c.if-peek-ne91.false) _ c.expr.ensures c.in-Next.is (same c.peek-t.ensures c.if-t-ne44.false) _ c.expr-in-Next.ensures c.in-Fault-expr.is in record { follows = r.0; parsed = r.1 }
+
+pub shape_of-nodes-else-peek-ne93 : goal.shape_of-nodes-else-peek-ne93
+shape_of-nodes-else-peek-ne93 c =
+    omega arith
+
+pub returns-else-peek-ne93 : goal.returns-else-peek-ne93
+returns-else-peek-ne93 c =
+    let ready = brackets-ready value-brackets c.args.toks.now c.args.nodes.now c.args.at c.args.used (same c.peek.ensures c.if-peek-ne91.false) _ c.expr.ensures c.in-Next.is c.requires (same c.peek-t.ensures c.if-t-ne44.false) in let r = brackets-two value-brackets c.args.toks.now c.args.nodes.now c.args.at c.args.used (same c.peek.ensures c.if-peek-ne91.false) _ c.expr.ensures c.in-Next.is (same c.peek-t.ensures c.if-t-ne44.false) _ c.expr-in-Next.ensures c.in-Next-expr.is wide-expr expr-interval (same c.peek-in-Next-expr.ensures c.if-peek-ne93.false) (record { written = c.node.ensures; token-fits = omega arith; left-fits = omega (arith, ready.room, ready.inside, ready.few); third-fits = omega arith }) in record { follows = r.0; parsed = r.1 }

@@ -1,0 +1,72 @@
+-- `braced` meets its contract: each return is a law of Bracing.antt.
+use Rattle.grammar.proofs.Follows.{same, isnt, inside, in_tok}
+use Rattle.tree.proofs.Spans.{ready-after, ready-token, made_of, grown-of}
+use Rattle.tree.specs.Node.{op_kind, number_kind}
+use mathlib.Core.Logic.{inl, inr}
+use Rattle.grammar.proofs.Alike.{checking, shaking}
+use Rattle.syntax.proofs.Bracing.{braced-ready, braced-check, braced-hand, braced-channel}
+use Rattle.syntax.proofs.action.beacon.Reads as beacon-reads
+use Rattle.syntax.proofs.action.check.Reads as check-reads
+use Rattle.syntax.proofs.action.handshake.Reads as handshake-reads
+use Rattle.syntax.proofs.braced.lone.Reads as lone-reads
+use Rattle.syntax.proofs.braced.rated.Reads as rated-reads
+use Rattle.token.proofs.peek.Reads as peek-reads
+use mathlib.Core.Path.{◌≡◌, refl, ap, sym, ◌∙◌}
+use mathlib.Core.List.{List, [], ◌∷◌, ◌++◌}
+use mathlib.Core.Bool.{Bool, true, false, cond}
+use mathlib.Core.Logic.{⊎_elim}
+use Prim.Native.Nat.{ℕ, zero, suc, ◌+◌, ◌-◌, ◌*◌, ◌≤◌, ◌<◌}
+use native.Mathlib.Omega.{arith}
+use borrow.Author.Rules.{rules}
+use borrow.Author.Tests.{lt-ltb, le-ltb, le-leb, lt-leb, eq-eqb, ne_eqb}
+use lib.IntN.{ℤ, pos}
+use lib.ListN.{length, get_or, set, take, drop, replicate, length-append, length-take, length-drop, length-set, length-replicate}
+use Rattle.syntax.proofs.braced.braced.Goals as goal
+
+pub check-r-requires : goal.check-r-requires
+check-r-requires c =
+     record { ready = c.requires; at_value = same c.peek-t.ensures c.if-t-eq126.true }
+
+pub rated-requires : goal.rated-requires
+rated-requires c =
+    braced-ready c.args.toks.now c.args.nodes.now _ c.args.at c.args.used _ c.requires c.check-r.ensures.parsed
+
+pub returns-then-t-eq126 : goal.returns-then-t-eq126
+returns-then-t-eq126 c =
+    let r = braced-check c.args.toks.now c.args.nodes.now _ c.args.at c.args.used _ _ _ c.check-r.ensures c.rated.ensures (same c.peek-t.ensures c.if-t-eq126.true) in record { follows = r.0; inside = r.1 }
+
+pub handshake-r-requires : goal.handshake-r-requires
+handshake-r-requires c =
+     record { ready = c.requires; at_value = same c.peek-t.ensures c.if-t-eq64.true }
+
+pub rated-requires-then-t-eq64 : goal.rated-requires-then-t-eq64
+rated-requires-then-t-eq64 c =
+    braced-ready c.args.toks.now c.args.nodes.now _ c.args.at c.args.used _ c.requires c.handshake-r.ensures.parsed
+
+pub returns-then-t-eq64 : goal.returns-then-t-eq64
+returns-then-t-eq64 c =
+    let r = braced-hand c.args.toks.now c.args.nodes.now _ c.args.at c.args.used _ _ _ c.handshake-r.ensures c.rated-then-t-eq64.ensures (same c.peek-t.ensures c.if-t-eq64.true) in record { follows = r.0; inside = r.1 }
+
+pub overflow_add-at : goal.overflow_add-at
+overflow_add-at c =
+    omega (arith, c.requires.room, c.requires.inside)
+
+pub lone-requires : goal.lone-requires
+lone-requires c =
+     record { ready = c.requires; at_value = (same c.peek-t.ensures c.if-t-eq-NAME.true, same c.peek.ensures c.if-peek-eq44.true) }
+
+pub returns-then-peek-eq44 : goal.returns-then-peek-eq44
+returns-then-peek-eq44 c =
+    let r = c.lone.ensures in record { follows = r.0; inside = r.1 }
+
+pub beacon-r-requires : goal.beacon-r-requires
+beacon-r-requires c =
+    c.requires
+
+pub rated-requires-2 : goal.rated-requires-2
+rated-requires-2 c =
+    braced-ready c.args.toks.now c.args.nodes.now _ c.args.at c.args.used _ c.requires c.beacon-r.ensures.parsed
+
+pub returns : goal.returns
+returns c =
+    let r = braced-channel c.args.toks.now c.args.nodes.now _ c.args.at c.args.used _ _ _ c.beacon-r.ensures c.rated-2.ensures (isnt c.peek-t.ensures c.if-t-eq126.false) (isnt c.peek-t.ensures c.if-t-eq64.false) (⊎_elim (λ w. inl (same c.peek-t.ensures w.0.taken, isnt w.1.ensures w.2.left)) (λ w. inr (isnt c.peek-t.ensures w.left)) c.if-t-eq-NAME.branch) in record { follows = r.0; inside = r.1 }

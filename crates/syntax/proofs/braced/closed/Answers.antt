@@ -1,0 +1,34 @@
+-- `closed` meets its contract: each return is a law of Braces.antt.
+use Rattle.grammar.proofs.Follows.{same, isnt, inside, in_tok}
+use Rattle.tree.proofs.Spans.{ready-after, ready-token, made_of, grown-of}
+use Rattle.syntax.proofs.Braces.{closed-fault, closed-open, closed-made}
+use Rattle.syntax.proofs.rate.rate.Reads as rate-reads
+use Rattle.token.proofs.peek.Reads as peek-reads
+use mathlib.Core.Path.{◌≡◌, refl, ap, sym, ◌∙◌}
+use mathlib.Core.List.{List, [], ◌∷◌, ◌++◌}
+use mathlib.Core.Bool.{Bool, true, false, cond}
+use mathlib.Core.Logic.{⊎_elim}
+use Prim.Native.Nat.{ℕ, zero, suc, ◌+◌, ◌-◌, ◌*◌, ◌≤◌, ◌<◌}
+use native.Mathlib.Omega.{arith}
+use borrow.Author.Rules.{rules}
+use borrow.Author.Tests.{lt-ltb, le-ltb, le-leb, lt-leb, eq-eqb, ne_eqb}
+use lib.IntN.{ℤ, pos}
+use lib.ListN.{length, get_or, set, take, drop, replicate, length-append, length-take, length-drop, length-set, length-replicate}
+use Rattle.syntax.proofs.braced.closed.Goals as goal
+
+pub returns-then-peek-ne125 : goal.returns-then-peek-ne125
+returns-then-peek-ne125 c =
+    let r = closed-open c.args.toks.now c.args.nodes.now _ c.args.at c.args.left c.rate.ensures c.in-Next.is (isnt c.peek.ensures c.if-peek-ne125.true) in record { follows = r.0; tallied = r.1; spare = r.2 }
+
+pub overflow_add-result : goal.overflow_add-result
+overflow_add-result c =
+    let m = made_of c.in-Next.is c.rate.ensures.fact in
+    omega (arith, c.requires.room, m.span.within)
+
+pub returns-in-Fault : goal.returns-in-Fault
+returns-in-Fault c =
+    let r = closed-fault c.args.toks.now c.args.nodes.now _ c.args.at c.args.left c.rate.ensures c.in-Fault.is in record { follows = r.0; tallied = r.1; spare = r.2 }
+
+pub returns-else-peek-ne125 : goal.returns-else-peek-ne125
+returns-else-peek-ne125 c =
+    let r = closed-made c.args.toks.now c.args.nodes.now _ c.args.at c.args.left c.rate.ensures c.in-Next.is (same c.peek.ensures c.if-peek-ne125.false) in record { follows = r.0; tallied = r.1; spare = r.2 }

@@ -1,0 +1,95 @@
+-- `lone` meets its contract: each return is a law of Lone.antt.
+use Rattle.grammar.proofs.Follows.{same, isnt, inside, in_tok}
+use Rattle.tree.proofs.Spans.{ready-after, ready-token, made_of, grown-of}
+use Rattle.tree.specs.Node.{op_kind, number_kind}
+use mathlib.Core.Logic.{inl, inr}
+use Rattle.syntax.proofs.Lone.{either-name, either-whole, lone-ready, lone-undecided, lone-decimal, lone-fault, lone-second, lone-done}
+use Rattle.syntax.proofs.braced.closed.Reads as closed-reads
+use Rattle.syntax.proofs.braced.lone_minus.Reads as lone-minus-reads
+use Rattle.syntax.proofs.braced.second.Reads as second_reads
+use Rattle.syntax.proofs.braced.undecided.Reads as undecided-reads
+use Rattle.syntax.proofs.expression.expr.Reads as expr-reads
+use Rattle.token.proofs.peek.Reads as peek-reads
+use Rattle.tree.proofs.node.Reads as node-reads
+use mathlib.Core.Path.{◌≡◌, refl, ap, sym, ◌∙◌}
+use mathlib.Core.List.{List, [], ◌∷◌, ◌++◌}
+use mathlib.Core.Bool.{Bool, true, false, cond}
+use mathlib.Core.Logic.{⊎_elim}
+use Prim.Native.Nat.{ℕ, zero, suc, ◌+◌, ◌-◌, ◌*◌, ◌≤◌, ◌<◌}
+use native.Mathlib.Omega.{arith}
+use borrow.Author.Rules.{rules}
+use borrow.Author.Tests.{lt-ltb, le-ltb, le-leb, lt-leb, eq-eqb, ne_eqb}
+use lib.IntN.{ℤ, pos}
+use lib.ListN.{length, get_or, set, take, drop, replicate, length-append, length-take, length-drop, length-set, length-replicate}
+use Rattle.syntax.proofs.braced.lone.Goals as goal
+
+pub overflow_add-n : goal.overflow_add-n
+overflow_add-n c =
+    let ready = lone-ready c.args.toks.now c.args.nodes.now c.args.at c.args.used c.requires.at_value c.requires.ready in
+    omega (arith, ready.room, ready.inside)
+
+pub overflow_add-n-2 : goal.overflow_add-n-2
+overflow_add-n-2 c =
+    let ready = lone-ready c.args.toks.now c.args.nodes.now c.args.at c.args.used c.requires.at_value c.requires.ready in
+    omega (arith, ready.room, ready.inside)
+
+pub undecided-requires : goal.undecided-requires
+undecided-requires c =
+    let r = (c.requires.ready, (c.requires.at_value, either-name c.args.toks.now (c.args.at + 1 + 1) (same c.peek-t.ensures c.if-t-eq-NAME.true))) in record { ready = r.0; name_value = r.1; either = r.2 }
+
+pub returns-then-t-eq-NAME : goal.returns-then-t-eq-NAME
+returns-then-t-eq-NAME c =
+    let r = lone-undecided c.args.toks.now c.args.nodes.now c.args.at c.args.used c.requires.at_value _ _ (inr (same c.peek-t.ensures c.if-t-eq-NAME.true)) c.undecided.ensures in record { follows = r.0; inside = r.1 }
+
+pub undecided-requires-then-t-eq-WHOLE : goal.undecided-requires-then-t-eq-WHOLE
+unfolding number_kind
+undecided-requires-then-t-eq-WHOLE c =
+    let r = (c.requires.ready, (c.requires.at_value, either-whole c.args.toks.now (c.args.at + 1 + 1) (same c.peek-t.ensures c.if-t-eq-WHOLE.true))) in record { ready = r.0; name_value = r.1; either = r.2 }
+
+pub returns-then-t-eq-WHOLE : goal.returns-then-t-eq-WHOLE
+returns-then-t-eq-WHOLE c =
+    let r = lone-undecided c.args.toks.now c.args.nodes.now c.args.at c.args.used c.requires.at_value _ _ (inl (same c.peek-t.ensures c.if-t-eq-WHOLE.true)) c.undecided-then-t-eq-WHOLE.ensures in record { follows = r.0; inside = r.1 }
+
+pub lone_minus-requires : goal.lone_minus-requires
+lone_minus-requires c =
+    let r = (c.requires.ready, (c.requires.at_value, same c.peek-t.ensures c.if-t-eq45.true)) in record { ready = r.0; at_value = r.1; at_value_2 = r.2 }
+
+pub returns-then-t-eq45 : goal.returns-then-t-eq45
+returns-then-t-eq45 c =
+    let r = c.lone_minus.ensures in record { follows = r.0; inside = r.1 }
+
+pub node-requires : goal.node-requires
+node-requires c =
+    (omega (arith, c.requires.ready.room, c.requires.ready.few, c.requires.ready.inside), omega arith, omega arith)
+
+pub closed-requires : goal.closed-requires
+closed-requires c =
+    lone-ready c.args.toks.now c.args.nodes.now c.args.at c.args.used c.requires.at_value c.requires.ready
+
+pub returns-then-t-eq-DECIMAL : goal.returns-then-t-eq-DECIMAL
+returns-then-t-eq-DECIMAL c =
+    let r = lone-decimal c.args.toks.now c.args.nodes.now c.args.at c.args.used c.requires.at_value (record { written = c.node.ensures; token-fits = omega (arith, c.requires.ready.room, c.requires.ready.few, c.requires.ready.inside); left-fits = omega arith; third-fits = omega arith }) _ _ c.closed.ensures (same c.peek-t.ensures c.if-t-eq-DECIMAL.true) in record { follows = r.0; inside = r.1 }
+
+pub node-requires-2 : goal.node-requires-2
+node-requires-2 c =
+    (omega (arith, c.requires.ready.room, c.requires.ready.few, c.requires.ready.inside), omega arith, omega arith)
+
+pub overflow_add-used : goal.overflow_add-used
+overflow_add-used c =
+    omega (arith, c.requires.ready.room, c.requires.ready.few, c.requires.ready.inside)
+
+pub expr-requires : goal.expr-requires
+expr-requires c =
+    lone-ready c.args.toks.now c.args.nodes.now c.args.at c.args.used c.requires.at_value c.requires.ready
+
+pub second-requires : goal.second-requires
+second-requires c =
+    let r = lone-second c.args.toks.now c.args.nodes.now c.args.at c.args.used c.requires.at_value (isnt c.peek-t.ensures c.if-t-eq-DECIMAL.false) (isnt c.peek-t.ensures c.if-t-eq45.false) (isnt c.peek-t.ensures c.if-t-eq-WHOLE.false) (isnt c.peek-t.ensures c.if-t-eq-NAME.false) (record { written = c.node-2.ensures; token-fits = omega (arith, c.requires.ready.room, c.requires.ready.few, c.requires.ready.inside); left-fits = omega arith; third-fits = omega arith }) _ c.expr.ensures c.in-Next.is c.requires.ready in record { ready = r.0; first_le_mid = r.1 }
+
+pub returns-in-Fault : goal.returns-in-Fault
+returns-in-Fault c =
+    let r = lone-fault c.args.toks.now c.args.nodes.now c.args.at c.args.used c.requires.at_value (isnt c.peek-t.ensures c.if-t-eq-DECIMAL.false) (isnt c.peek-t.ensures c.if-t-eq45.false) (isnt c.peek-t.ensures c.if-t-eq-WHOLE.false) (isnt c.peek-t.ensures c.if-t-eq-NAME.false) (record { written = c.node-2.ensures; token-fits = omega (arith, c.requires.ready.room, c.requires.ready.few, c.requires.ready.inside); left-fits = omega arith; third-fits = omega arith }) _ c.expr.ensures c.in-Fault.is in record { follows = r.0; inside = r.1 }
+
+pub returns-in-Next : goal.returns-in-Next
+returns-in-Next c =
+    let r = lone-done c.args.toks.now c.args.nodes.now c.args.at c.args.used c.requires.at_value (isnt c.peek-t.ensures c.if-t-eq-DECIMAL.false) (isnt c.peek-t.ensures c.if-t-eq45.false) (isnt c.peek-t.ensures c.if-t-eq-WHOLE.false) (isnt c.peek-t.ensures c.if-t-eq-NAME.false) (record { written = c.node-2.ensures; token-fits = omega (arith, c.requires.ready.room, c.requires.ready.few, c.requires.ready.inside); left-fits = omega arith; third-fits = omega arith }) _ c.expr.ensures c.in-Next.is _ _ c.second.ensures in record { follows = r.0; inside = r.1 }

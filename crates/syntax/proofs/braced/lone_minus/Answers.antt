@@ -1,0 +1,61 @@
+-- `lone_minus` meets its contract: each return is a law of Lone.antt.
+use Rattle.grammar.proofs.Follows.{same, isnt, inside, in_tok}
+use Rattle.tree.proofs.Spans.{ready-after, ready-token, made_of, grown-of}
+use Rattle.tree.specs.Node.{op_kind, number_kind}
+use mathlib.Core.Logic.{inl, inr}
+use Rattle.syntax.proofs.Lone.{either-negative, lone-ready, lone-negative, lone-negative-decimal, lone-signless}
+use Rattle.syntax.proofs.braced.closed.Reads as closed-reads
+use Rattle.syntax.proofs.braced.undecided.Reads as undecided-reads
+use Rattle.token.proofs.peek.Reads as peek-reads
+use Rattle.tree.proofs.node.Reads as node-reads
+use mathlib.Core.Path.{◌≡◌, refl, ap, sym, ◌∙◌}
+use mathlib.Core.List.{List, [], ◌∷◌, ◌++◌}
+use mathlib.Core.Bool.{Bool, true, false, cond}
+use mathlib.Core.Logic.{⊎_elim}
+use Prim.Native.Nat.{ℕ, zero, suc, ◌+◌, ◌-◌, ◌*◌, ◌≤◌, ◌<◌}
+use native.Mathlib.Omega.{arith}
+use borrow.Author.Rules.{rules}
+use borrow.Author.Tests.{lt-ltb, le-ltb, le-leb, lt-leb, eq-eqb, ne_eqb}
+use lib.IntN.{ℤ, pos}
+use lib.ListN.{length, get_or, set, take, drop, replicate, length-append, length-take, length-drop, length-set, length-replicate}
+use Rattle.syntax.proofs.braced.lone_minus.Goals as goal
+
+pub overflow_add-n : goal.overflow_add-n
+overflow_add-n c =
+    let ready = lone-ready c.args.toks.now c.args.nodes.now c.args.at c.args.used c.requires.at_value.0 c.requires.ready in
+    omega (arith, ready.room, ready.inside)
+
+pub overflow_add-n-2 : goal.overflow_add-n-2
+overflow_add-n-2 c =
+    let ready = lone-ready c.args.toks.now c.args.nodes.now c.args.at c.args.used c.requires.at_value.0 c.requires.ready in
+    omega (arith, ready.room, ready.inside)
+
+pub overflow_add-digits : goal.overflow_add-digits
+overflow_add-digits c =
+    let ready = lone-ready c.args.toks.now c.args.nodes.now c.args.at c.args.used c.requires.at_value.0 c.requires.ready in
+    omega (arith, ready.room, ready.inside)
+
+pub undecided-requires : goal.undecided-requires
+unfolding number_kind
+undecided-requires c =
+    let r = (c.requires.ready, (c.requires.at_value.0, either-negative c.args.toks.now (c.args.at + 1 + 1) c.requires.at_value.1 (same c.peek-t.ensures c.if-t-eq-WHOLE.true))) in record { ready = r.0; name_value = r.1; either = r.2 }
+
+pub returns-then-t-eq-WHOLE : goal.returns-then-t-eq-WHOLE
+returns-then-t-eq-WHOLE c =
+    let r = lone-negative c.args.toks.now c.args.nodes.now c.args.at c.args.used c.requires.at_value.0 _ _ c.requires.at_value.1 (same c.peek-t.ensures c.if-t-eq-WHOLE.true) c.undecided.ensures in record { follows = r.0; inside = r.1 }
+
+pub node-requires : goal.node-requires
+node-requires c =
+    (omega (arith, c.requires.ready.room, c.requires.ready.few, c.requires.ready.inside), omega arith, omega arith)
+
+pub closed-requires : goal.closed-requires
+closed-requires c =
+    lone-ready c.args.toks.now c.args.nodes.now c.args.at c.args.used c.requires.at_value.0 c.requires.ready
+
+pub returns-then-t-eq-DECIMAL : goal.returns-then-t-eq-DECIMAL
+returns-then-t-eq-DECIMAL c =
+    let r = lone-negative-decimal c.args.toks.now c.args.nodes.now c.args.at c.args.used c.requires.at_value.0 (record { written = c.node.ensures; token-fits = omega (arith, c.requires.ready.room, c.requires.ready.few, c.requires.ready.inside); left-fits = omega arith; third-fits = omega arith }) _ _ c.closed.ensures c.requires.at_value.1 (same c.peek-t.ensures c.if-t-eq-DECIMAL.true) in record { follows = r.0; inside = r.1 }
+
+pub returns : goal.returns
+returns c =
+    let r = lone-signless c.args.toks.now c.args.nodes.now c.args.at c.args.used c.requires.at_value.0 c.requires.at_value.1 (isnt c.peek-t.ensures c.if-t-eq-DECIMAL.false) (isnt c.peek-t.ensures c.if-t-eq-WHOLE.false) in record { follows = r.0; inside = r.1 }

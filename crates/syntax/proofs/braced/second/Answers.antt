@@ -1,0 +1,38 @@
+-- `second` meets its contract: each return is a law of Braces.antt.
+use Rattle.grammar.proofs.Follows.{same, isnt, inside, in_tok}
+use Rattle.tree.proofs.Spans.{ready-after, ready-token, made_of, grown-of}
+use Rattle.syntax.proofs.Braces.{second-fault, second-ready, second-rated, second-done}
+use Rattle.syntax.proofs.action.deed.Reads as deed-reads
+use Rattle.syntax.proofs.braced.rated.Reads as rated-reads
+use Rattle.syntax.proofs.channel.thirds.Reads as thirds-reads
+use mathlib.Core.Path.{◌≡◌, refl, ap, sym, ◌∙◌}
+use mathlib.Core.List.{List, [], ◌∷◌, ◌++◌}
+use mathlib.Core.Bool.{Bool, true, false, cond}
+use mathlib.Core.Logic.{⊎_elim}
+use Prim.Native.Nat.{ℕ, zero, suc, ◌+◌, ◌-◌, ◌*◌, ◌≤◌, ◌<◌}
+use native.Mathlib.Omega.{arith}
+use borrow.Author.Rules.{rules}
+use borrow.Author.Tests.{lt-ltb, le-ltb, le-leb, lt-leb, eq-eqb, ne_eqb}
+use lib.IntN.{ℤ, pos}
+use lib.ListN.{length, get_or, set, take, drop, replicate, length-append, length-take, length-drop, length-set, length-replicate}
+use Rattle.syntax.proofs.braced.second.Goals as goal
+
+pub thirds-requires : goal.thirds-requires
+thirds-requires c =
+     record { ready = record { inside = c.requires.ready.inside; room = c.requires.ready.room; few = omega (arith, c.requires.ready.few) }; left_le_mid = c.requires.first_le_mid }
+
+pub deed-r-requires : goal.deed-r-requires
+deed-r-requires c =
+    second-ready c.args.toks.now c.args.nodes.now _ c.args.at c.args.first c.args.mid c.thirds.ensures c.in-Next.is c.requires.ready
+
+pub rated-requires : goal.rated-requires
+rated-requires c =
+    second-rated c.args.toks.now c.args.nodes.now _ c.args.at c.args.first c.args.mid c.thirds.ensures c.in-Next.is _ _ c.deed-r.ensures c.requires.ready
+
+pub returns-in-Fault : goal.returns-in-Fault
+returns-in-Fault c =
+    let r = second-fault c.args.toks.now c.args.nodes.now _ c.args.at c.args.first c.args.mid c.thirds.ensures c.in-Fault.is in record { follows = r.0; seconds = r.1 }
+
+pub returns-in-Next : goal.returns-in-Next
+returns-in-Next c =
+    let r = second-done c.args.toks.now c.args.nodes.now _ c.args.at c.args.first c.args.mid c.thirds.ensures c.in-Next.is _ _ _ _ c.deed-r.ensures c.rated.ensures in record { follows = r.0; seconds = r.1 }

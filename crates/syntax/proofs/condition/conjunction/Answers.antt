@@ -1,0 +1,37 @@
+-- `syntax::condition::conjunction` meets its contract: a case for each of its returns, from Conditions.antt.
+use native.Mathlib.Omega.{arith}
+use Rattle.tree.proofs.Spans.{made_of, ready-after}
+use Rattle.syntax.proofs.Conditions.{conjunction-fault, conjunction-made}
+use Rattle.syntax.proofs.condition.conjunction.Goals as goal
+
+pub test-requires : goal.test-requires
+test-requires c =
+    c.requires
+
+pub enum_known-k : goal.enum_known-k
+enum_known-k c =
+    c.in-Fault.keys1
+
+pub enum_known-n : goal.enum_known-n
+enum_known-n c =
+    c.in-Next.keys2
+
+pub ands-requires : goal.ands-requires
+ands-requires c =
+    let m = made_of c.in-Next.is c.test.ensures.parsed in ready-after c.requires m.span
+
+pub shape_of-nodes-in-Fault : goal.shape_of-nodes-in-Fault
+shape_of-nodes-in-Fault c =
+    omega arith
+
+pub returns-in-Fault : goal.returns-in-Fault
+returns-in-Fault c =
+    let r = conjunction-fault _ _ _ _ _ c.in-Fault.is c.test.ensures in record { follows = r.0; parsed = r.1 }
+
+pub shape_of-nodes-in-Next : goal.shape_of-nodes-in-Next
+shape_of-nodes-in-Next c =
+    omega arith
+
+pub returns-in-Next : goal.returns-in-Next
+returns-in-Next c =
+    let r = conjunction-made _ _ _ _ _ _ _ c.in-Next.is c.test.ensures c.ands.ensures in record { follows = r.0; parsed = r.1 }

@@ -1,0 +1,94 @@
+use Rattle.grammar.proofs.Follows.{same, isnt}
+use Rattle.tree.proofs.Spans.{tally-of}
+use Rattle.syntax.proofs.Grouping.{body-fault, body-last, body-ready, body-next-fault, body-next}
+use Prim.Native.Nat.{ℕ, ◌<◌}
+use mathlib.Core.Path.{◌≡◌, refl, ap, sym, ◌∙◌}
+use mathlib.Core.List.{List, [], ◌∷◌, ◌++◌}
+use mathlib.Core.Bool.{Bool, true, false, cond}
+use mathlib.Core.Logic.{⊎_elim}
+use Prim.Native.Nat.{ℕ, zero, suc, ◌+◌, ◌-◌, ◌*◌, ◌≤◌, ◌<◌}
+use native.Mathlib.Omega.{arith}
+use borrow.Author.Rules.{rules}
+use borrow.Author.Tests.{lt-ltb, le-ltb, le-leb, lt-leb, eq-eqb, ne_eqb}
+use lib.IntN.{ℤ, pos}
+use lib.ListN.{length, get_or, set, take, drop, replicate, length-append, length-take, length-drop, length-set, length-replicate}
+use Rattle.syntax.proofs.process.+body.Goals as goal
+
+pub sum-requires : goal.sum-requires
+sum-requires t c =
+    let r = c.requires.1 in record { ready = r.0; sums_le_at = r.1 }
+
+pub enum_known-k : goal.enum_known-k
+enum_known-k t c =
+    c.in-Fault.keys1
+
+pub enum_known-n : goal.enum_known-n
+enum_known-n t c =
+    c.in-Next.keys2
+
+pub shape_of-nodes-then-peek : goal.shape_of-nodes-then-peek
+shape_of-nodes-then-peek t c =
+    omega arith
+
+pub returns-then-peek : goal.returns-then-peek
+returns-then-peek t c =
+    let r = body-last c.args.toks.now c.args.nodes.now _ c.args.at c.args.used c.args.sums c.sum.ensures c.in-Next.is (isnt c.peek.ensures c.if-peek.true) in record { follows = r.0; tallied = r.1 }
+
+pub overflow_add-n : goal.overflow_add-n
+overflow_add-n t c =
+    let ready = body-ready c.args.toks.now c.args.nodes.now _ c.args.at c.args.used c.args.sums c.sum.ensures c.in-Next.is (same c.peek.ensures c.if-peek.false) c.requires.1.ready in
+    omega (arith, ready.inside, ready.room)
+
+pub overflow_add-left : goal.overflow_add-left
+overflow_add-left t c =
+    let ready = body-ready c.args.toks.now c.args.nodes.now _ c.args.at c.args.used c.args.sums c.sum.ensures c.in-Next.is (same c.peek.ensures c.if-peek.false) c.requires.1.ready in
+    omega (arith, ready.inside, ready.room, ready.few)
+
+pub body-requires : goal.body-requires
+body-requires t c =
+    let ready = body-ready c.args.toks.now c.args.nodes.now _ c.args.at c.args.used c.args.sums c.sum.ensures c.in-Next.is (same c.peek.ensures c.if-peek.false) c.requires.1.ready in
+    let v = tally-of c.in-Next.is c.sum.ensures.tallied in
+    (omega (arith, ready.inside, v.made.span.onward), (ready, omega (arith, v.rarer, c.requires.1.sums_le_at)))
+
+pub enum_known-k-in-Fault-body : goal.enum_known-k-in-Fault-body
+enum_known-k-in-Fault-body t c =
+    c.in-Fault-body.keys1
+
+pub enum_known-m : goal.enum_known-m
+enum_known-m t c =
+    c.in-Next-body.keys2
+
+pub overflow_add-root : goal.overflow_add-root
+overflow_add-root t c =
+    let ready = body-ready c.args.toks.now c.args.nodes.now _ c.args.at c.args.used c.args.sums c.sum.ensures c.in-Next.is (same c.peek.ensures c.if-peek.false) c.requires.1.ready in
+    let u = tally-of c.in-Next-body.is c.body.ensures.tallied in
+    omega (arith, ready.room, ready.few, u.made.span.within, u.made.span.fewer)
+
+pub node-requires : goal.node-requires
+node-requires t c =
+    let ready = body-ready c.args.toks.now c.args.nodes.now _ c.args.at c.args.used c.args.sums c.sum.ensures c.in-Next.is (same c.peek.ensures c.if-peek.false) c.requires.1.ready in
+    (omega arith, omega (arith, ready.inside, ready.room, ready.few), omega arith)
+
+pub shape_of-nodes-in-Fault : goal.shape_of-nodes-in-Fault
+shape_of-nodes-in-Fault t c =
+    omega arith
+
+pub returns-in-Fault : goal.returns-in-Fault
+returns-in-Fault t c =
+    let r = body-fault c.args.toks.now c.args.nodes.now _ c.args.at c.args.used c.args.sums c.sum.ensures c.in-Fault.is in record { follows = r.0; tallied = r.1 }
+
+pub shape_of-nodes-in-Fault-body : goal.shape_of-nodes-in-Fault-body
+shape_of-nodes-in-Fault-body t c =
+    omega arith
+
+pub returns-in-Fault-body : goal.returns-in-Fault-body
+returns-in-Fault-body t c =
+    let r = body-next-fault c.args.toks.now c.args.nodes.now _ c.args.at c.args.used c.args.sums c.sum.ensures c.in-Next.is (same c.peek.ensures c.if-peek.false) _ c.body.ensures c.in-Fault-body.is in record { follows = r.0; tallied = r.1 }
+
+pub shape_of-nodes-in-Next-body : goal.shape_of-nodes-in-Next-body
+shape_of-nodes-in-Next-body t c =
+    omega arith
+
+pub returns-in-Next-body : goal.returns-in-Next-body
+returns-in-Next-body t c =
+    let ready = body-ready c.args.toks.now c.args.nodes.now _ c.args.at c.args.used c.args.sums c.sum.ensures c.in-Next.is (same c.peek.ensures c.if-peek.false) c.requires.1.ready in let r = body-next c.args.toks.now c.args.nodes.now _ c.args.at c.args.used c.args.sums c.sum.ensures c.in-Next.is (same c.peek.ensures c.if-peek.false) _ c.body.ensures c.in-Next-body.is (record { written = c.node.ensures; token-fits = omega arith; left-fits = omega (arith, ready.inside, ready.room, ready.few); third-fits = omega arith }) in record { follows = r.0; tallied = r.1 }

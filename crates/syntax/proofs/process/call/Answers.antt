@@ -1,0 +1,84 @@
+-- `call` meets its contract: each return is a law of Calling.antt.
+use Rattle.grammar.proofs.Follows.{inside, same, isnt, in_tok}
+use Rattle.tree.proofs.Spans.{ready-token, tally-of}
+use Rattle.syntax.proofs.Calling.{call-stray, call-empty, call-fault, call-with}
+use Rattle.syntax.proofs.process.args.Reads as args-reads
+use Rattle.token.proofs.peek.Reads as peek-reads
+use Rattle.tree.proofs.node.Reads as node-reads
+use mathlib.Core.Path.{◌≡◌, refl, ap, sym, ◌∙◌}
+use mathlib.Core.List.{List, [], ◌∷◌, ◌++◌}
+use mathlib.Core.Bool.{Bool, true, false, cond}
+use mathlib.Core.Logic.{⊎_elim}
+use Prim.Native.Nat.{ℕ, zero, suc, ◌+◌, ◌-◌, ◌*◌, ◌≤◌, ◌<◌}
+use native.Mathlib.Omega.{arith}
+use borrow.Author.Rules.{rules}
+use borrow.Author.Tests.{lt-ltb, le-ltb, le-leb, lt-leb, eq-eqb, ne_eqb}
+use lib.IntN.{ℤ, pos}
+use lib.ListN.{length, get_or, set, take, drop, replicate, length-append, length-take, length-drop, length-set, length-replicate}
+use Rattle.syntax.proofs.process.call.Goals as goal
+
+pub overflow_add-open : goal.overflow_add-open
+overflow_add-open c =
+    omega (arith, inside c.args.toks.now c.args.at (omega arith))
+
+pub returns-then-peek-ne91 : goal.returns-then-peek-ne91
+returns-then-peek-ne91 c =
+    let r = call-stray c.args.toks.now c.args.nodes.now c.args.at c.args.used c.args.sums c.requires.at_value (omega (arith, inside c.args.toks.now c.args.at (omega arith))) (isnt c.peek.ensures c.if-peek-ne91.true) in record { follows = r.0; tallied = r.1 }
+
+pub overflow_add-n : goal.overflow_add-n
+overflow_add-n c =
+    omega (arith, in_tok c.args.toks.now (c.args.at + 1) c.peek.ensures (omega arith))
+
+pub node-requires : goal.node-requires
+node-requires c =
+    (omega (arith, c.requires.ready.room, in_tok c.args.toks.now (c.args.at + 1) c.peek.ensures (omega arith)), omega arith, omega arith)
+
+pub overflow_add-result : goal.overflow_add-result
+overflow_add-result c =
+    omega (arith, in_tok c.args.toks.now (c.args.at + 1 + 1) c.peek-2.ensures (omega arith))
+
+pub shape_of-nodes-then-peek-eq93 : goal.shape_of-nodes-then-peek-eq93
+shape_of-nodes-then-peek-eq93 c =
+    omega arith
+
+pub returns-then-peek-eq93 : goal.returns-then-peek-eq93
+returns-then-peek-eq93 c =
+    let r = call-empty c.args.toks.now c.args.nodes.now c.args.at c.args.used c.args.sums c.requires.at_value (same c.peek.ensures c.if-peek-ne91.false) (same c.peek-2.ensures c.if-peek-eq93.true) (record { written = c.node.ensures; token-fits = omega (arith, c.requires.ready.room, in_tok c.args.toks.now (c.args.at + 1) c.peek.ensures (omega arith)); left-fits = omega arith; third-fits = omega arith }) in record { follows = r.0; tallied = r.1 }
+
+pub args-requires : goal.args-requires
+args-requires c =
+    ready-token (ready-token c.requires.ready (omega arith)) (omega arith)
+
+pub enum_known-k : goal.enum_known-k
+enum_known-k c =
+    c.in-Fault.keys1
+
+pub enum_known-m : goal.enum_known-m
+enum_known-m c =
+    c.in-Next.keys2
+
+pub overflow_add-root : goal.overflow_add-root
+overflow_add-root c =
+    let s = tally-of c.in-Next.is c.args-2.ensures.tallied in
+    omega (arith, c.requires.ready.room, c.requires.ready.few, s.made.span.within, s.made.span.fewer)
+
+pub node-requires-in-Next : goal.node-requires-in-Next
+node-requires-in-Next c =
+    let s = tally-of c.in-Next.is c.args-2.ensures.tallied in
+    (omega (arith, c.requires.ready.room, in_tok c.args.toks.now (c.args.at + 1) c.peek.ensures (omega arith)), omega arith, omega (arith, c.requires.ready.room, s.made.span.within, s.rarer))
+
+pub shape_of-nodes-in-Fault : goal.shape_of-nodes-in-Fault
+shape_of-nodes-in-Fault c =
+    omega arith
+
+pub returns-in-Fault : goal.returns-in-Fault
+returns-in-Fault c =
+    let r = call-fault c.args.toks.now c.args.nodes.now c.args.at c.args.used c.args.sums c.requires.at_value (same c.peek.ensures c.if-peek-ne91.false) (isnt c.peek-2.ensures c.if-peek-eq93.false) _ c.args-2.ensures c.in-Fault.is in record { follows = r.0; tallied = r.1 }
+
+pub shape_of-nodes-in-Next : goal.shape_of-nodes-in-Next
+shape_of-nodes-in-Next c =
+    omega arith
+
+pub returns-in-Next : goal.returns-in-Next
+returns-in-Next c =
+    let s = tally-of c.in-Next.is c.args-2.ensures.tallied in let r = call-with c.args.toks.now c.args.nodes.now c.args.at c.args.used c.args.sums c.requires.at_value (same c.peek.ensures c.if-peek-ne91.false) (isnt c.peek-2.ensures c.if-peek-eq93.false) _ c.args-2.ensures c.in-Next.is (record { written = c.node-in-Next.ensures; token-fits = omega (arith, c.requires.ready.room, in_tok c.args.toks.now (c.args.at + 1) c.peek.ensures (omega arith)); left-fits = omega arith; third-fits = omega (arith, c.requires.ready.room, s.made.span.within, s.rarer) }) in record { follows = r.0; tallied = r.1 }

@@ -1,0 +1,31 @@
+-- Each return by how many digits stand before the point and after it.
+use native.Mathlib.Omega.{arith}
+use lib.ListN.{length-take, length-drop}
+use borrow.Author.Rules.{rules}
+use Rattle.token.proofs.Runs.{lead-le}
+use Rattle.token.proofs.Tells.{many-before, no_fraction, many-after, few-both}
+use Rattle.token.proofs.decimal_content.Goals as goal
+
+pub returns-then-n-gt-WHOLE : goal.returns-then-n-gt-WHOLE
+returns-then-n-gt-WHOLE c =
+    many-before c.args.s.now c.run_end-n.result c.run_end-n.ensures c.if-n-gt-WHOLE.true
+
+pub returns-then-s-from : goal.returns-then-s-from
+returns-then-s-from c =
+    no_fraction c.args.s.now c.run_end-n.result c.run_end-n.ensures c.if-n-gt-WHOLE.false c.if-s-from.true
+
+pub returns-then-from-s : goal.returns-then-from-s
+returns-then-from-s c =
+    many-after c.args.s.now c.run_end-n.result c.run_end-n.ensures c.if-n-gt-WHOLE.false c.if-from-s.true
+
+pub slice_bounds-decimal-end : goal.slice_bounds-decimal-end
+slice_bounds-decimal-end c =
+    simp length-take (omega (arith, c.run_end-n.ensures, lead-le 2 c.args.s.now))
+
+pub decimal-requires : goal.decimal-requires
+decimal-requires c =
+    (simp length-take (omega arith), simp (length-take, length-drop) (omega arith))
+
+pub returns : goal.returns
+returns c =
+    few-both c.args.s.now c.run_end-n.result c.run_end-n.ensures c.decimal.result c.if-n-gt-WHOLE.false c.if-s-from.false c.if-from-s.false c.decimal.ensures

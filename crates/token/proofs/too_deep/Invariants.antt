@@ -1,0 +1,17 @@
+-- The loop's invariant: i stands in no comment and n brackets are open there, so that question 4 asked of the rest answers for the whole text.
+use mathlib.Core.Path.{◌≡◌, refl, sym, ◌∙◌}
+use mathlib.Core.Bool.{false}
+use Prim.Native.Nat.{◌-◌, ◌≤◌}
+use native.Mathlib.Omega.{arith}
+use lib.ListN.{length, drop, length-drop}
+use borrow.Author.Rules.{rules}
+use Rattle.token.specs.Questions.{bracket_limit, too_deep}
+use Rattle.token.proofs.Asks.{deep-here, deep-on, deep-end}
+use Rattle.token.proofs.Runs.{stride-le}
+use Rattle.token.proofs.too_deep.Given as goal
+
+abbrev pub invariant-loop-i : goal.invariant-loop-i
+invariant-loop-i l = (l.i ≤ length l.text) × (l.n ≤ bracket_limit) × (too_deep 0 false 0 l.text ≡ too_deep l.i false l.n (drop l.i l.text))
+
+abbrev pub decreases-loop-i : goal.decreases-loop-i
+decreases-loop-i l = length l.text - l.i

@@ -1,0 +1,26 @@
+-- A listing's entries are tried in turn, each with the runs behind it; three times the length, and 2, 1 or 0, falls. The loop's invariant: the first rows stay, and what is left of the entries gives the same, after the refusals met.
+use Rattle.model.specs.Resolved
+use Rattle.rules.specs.Listing.{Entry}
+use Rattle.machine.specs.State.{State, state_length}
+use Rattle.machine.specs.Machine.{listing_length, moves_to}
+use Rattle.walk.specs.Hunted.{gone, or_else, hunt_from}
+use Rattle.walk.specs.Held.{Held, Stands, Lists}
+use Rattle.walk.proofs.Rows.{before-part}
+use Rattle.walk.proofs.Walking.{entry-idle, entry-refused, entry-wait, entry_other, entry_more, all_start, all-lost, all_found, all-over, world-of, seek-refused, seek-filled, few-entries, stands-kept, lists-kept, room-kept, room-tail, stands-tail, lists_filled, filled-size, lists-first}
+use Prim.Native.Nat.{ℕ, ◌<◌}
+use mathlib.Core.Path.{◌≡◌, refl, ◌∙◌}
+use mathlib.Core.List.{List}
+use Prim.Native.Nat.{ℕ, ◌+◌, ◌-◌, ◌*◌, ◌≤◌, ◌<◌}
+use native.Mathlib.Omega.{arith}
+use borrow.Author.Rules.{rules}
+use lib.ListN.{length, set, take, length-take, length-set}
+use Rattle.walk.proofs.+seek_try_all_try_entry.Given as goal
+
+abbrev pub decreases-seek : goal.decreases-seek
+decreases-seek l = 3 * l.more + 2
+
+abbrev pub decreases-try_all : goal.decreases-try_all
+decreases-try_all l = 3 * l.more + 1
+
+abbrev pub decreases-try_entry : goal.decreases-try_entry
+decreases-try_entry l = 3 * l.more

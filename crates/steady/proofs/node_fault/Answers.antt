@@ -57,8 +57,8 @@ returns-else-has_several c =
 
 pub returns-in_default : goal.returns-in_default
 returns-in_default c =
-    λ h. no-offender c.args.nodes.now c.args.i c.kind_of-kind.result c.token_of-k.result c.kind_of-kind.ensures c.token_of-k.ensures (several_sums h.word (definitions h.model)) c.in_default-1.rest.1 (no_call c.kind_of-kind.result (inl c.if-kind-lt50.true))
+    λ h. no-offender c.args.nodes.now c.args.i c.kind_of-kind.result c.token_of-k.result c.kind_of-kind.ensures c.token_of-k.ensures (several_sums h.word (definitions h.model)) c.in_default.in_default-own.rest.1 (no_call c.kind_of-kind.result (inl c.if-kind-lt50.true))
 
 pub returns-in_default-2 : goal.returns-in_default-2
 returns-in_default-2 c =
-    λ h. no-offender c.args.nodes.now c.args.i c.kind_of-kind.result c.token_of-k.result c.kind_of-kind.ensures c.token_of-k.ensures (several_sums h.word (definitions h.model)) c.in_default-1.rest.1 (no_call c.kind_of-kind.result (inr c.if-kind-lt52.false))
+    λ h. no-offender c.args.nodes.now c.args.i c.kind_of-kind.result c.token_of-k.result c.kind_of-kind.ensures c.token_of-k.ensures (several_sums h.word (definitions h.model)) c.in_default.in_default-own.rest.1 (no_call c.kind_of-kind.result (inr c.if-kind-lt52.false))

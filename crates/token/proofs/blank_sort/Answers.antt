@@ -25,7 +25,7 @@ returns-in_default c = by-range 4 [] 0 9 c.args.b tt (omega arith) (omega arith)
 pub returns-in_default-2 : goal.returns-in_default-2
 unfolding within is_blank is_letter is_digit is_sign sort_of
 returns-in_default-2 c =
-    let r = c.in_default-1.rest in
+    let r = c.in_default.in_default-own.rest in
     let blanks = r.0.1 in
     let signs = r.1 in
     by-range 4 (13 ∷ 32 ∷ 33 ∷ 35 ∷ 38 ∷ []) 11 29 c.args.b tt (omega arith) (omega arith)

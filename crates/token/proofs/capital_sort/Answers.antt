@@ -22,4 +22,4 @@ returns-in_default c = absurd (omega arith)
 
 pub returns-in_default-2 : goal.returns-in_default-2
 unfolding within is_blank is_letter is_digit is_sign sort_of
-returns-in_default-2 c = by-range 4 (95 ∷ []) 94 3 c.args.b tt (omega arith) (omega arith) (c.in_default-1.rest.1, tt)
+returns-in_default-2 c = by-range 4 (95 ∷ []) 94 3 c.args.b tt (omega arith) (omega arith) (c.in_default.in_default-own.rest.1, tt)

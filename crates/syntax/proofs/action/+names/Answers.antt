@@ -44,11 +44,11 @@ names-requires t c =
 
 pub enum_known-k : goal.enum_known-k
 enum_known-k t c =
-    c.in-Fault.keys1
+    c.in-Fault.in-Fault-own.keys1
 
 pub enum_known-m : goal.enum_known-m
 enum_known-m t c =
-    c.in-Next.keys2
+    c.in-Next.in-Next-own.keys2
 
 pub overflow_add-result-in-Next : goal.overflow_add-result-in-Next
 overflow_add-result-in-Next t c =

@@ -25,11 +25,11 @@ conjunction-requires t c =
 
 pub enum_known-k : goal.enum_known-k
 enum_known-k t c =
-    c.in-Fault.keys1
+    c.in-Fault.in-Fault-own.keys1
 
 pub enum_known-n : goal.enum_known-n
 enum_known-n t c =
-    c.in-Next.keys2
+    c.in-Next.in-Next-own.keys2
 
 pub overflow_add-root : goal.overflow_add-root
 overflow_add-root t c =

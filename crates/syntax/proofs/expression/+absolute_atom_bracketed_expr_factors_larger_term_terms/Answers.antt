@@ -25,11 +25,11 @@ absolute-bracketed-requires t c =
 
 pub absolute-enum_known-k : goal.absolute-enum_known-k
 absolute-enum_known-k t c =
-    c.in-Fault.keys1
+    c.in-Fault.in-Fault-own.keys1
 
 pub absolute-enum_known-n : goal.absolute-enum_known-n
 absolute-enum_known-n t c =
-    c.in-Next.keys2
+    c.in-Next.in-Next-own.keys2
 
 pub absolute-overflow_add-root : goal.absolute-overflow_add-root
 absolute-overflow_add-root t c =
@@ -155,11 +155,11 @@ bracketed-expr-requires t c =
 
 pub bracketed-enum_known-k : goal.bracketed-enum_known-k
 bracketed-enum_known-k t c =
-    c.in-Fault.keys1
+    c.in-Fault.in-Fault-own.keys1
 
 pub bracketed-enum_known-n : goal.bracketed-enum_known-n
 bracketed-enum_known-n t c =
-    c.in-Next.keys2
+    c.in-Next.in-Next-own.keys2
 
 pub bracketed-shape_of-nodes-then-peek-ne41 : goal.bracketed-shape_of-nodes-then-peek-ne41
 bracketed-shape_of-nodes-then-peek-ne41 t c =
@@ -195,11 +195,11 @@ expr-term-requires t c =
 
 pub expr-enum_known-k : goal.expr-enum_known-k
 expr-enum_known-k t c =
-    c.in-Fault.keys1
+    c.in-Fault.in-Fault-own.keys1
 
 pub expr-enum_known-n : goal.expr-enum_known-n
 expr-enum_known-n t c =
-    c.in-Next.keys2
+    c.in-Next.in-Next-own.keys2
 
 pub expr-terms-requires : goal.expr-terms-requires
 expr-terms-requires t c =
@@ -240,11 +240,11 @@ factors-atom-requires t c =
 
 pub factors-enum_known-k : goal.factors-enum_known-k
 factors-enum_known-k t c =
-    c.in-Fault.keys1
+    c.in-Fault.in-Fault-own.keys1
 
 pub factors-enum_known-n : goal.factors-enum_known-n
 factors-enum_known-n t c =
-    c.in-Next.keys2
+    c.in-Next.in-Next-own.keys2
 
 pub factors-overflow_add-root : goal.factors-overflow_add-root
 factors-overflow_add-root t c =
@@ -288,11 +288,11 @@ larger-expr-requires t c =
 
 pub larger-enum_known-k : goal.larger-enum_known-k
 larger-enum_known-k t c =
-    c.in-Fault.keys1
+    c.in-Fault.in-Fault-own.keys1
 
 pub larger-enum_known-n : goal.larger-enum_known-n
 larger-enum_known-n t c =
-    c.in-Next.keys2
+    c.in-Next.in-Next-own.keys2
 
 pub larger-shape_of-nodes-then-peek-ne44 : goal.larger-shape_of-nodes-then-peek-ne44
 larger-shape_of-nodes-then-peek-ne44 t c =
@@ -360,11 +360,11 @@ term-atom-requires t c =
 
 pub term-enum_known-k : goal.term-enum_known-k
 term-enum_known-k t c =
-    c.in-Fault.keys1
+    c.in-Fault.in-Fault-own.keys1
 
 pub term-enum_known-n : goal.term-enum_known-n
 term-enum_known-n t c =
-    c.in-Next.keys2
+    c.in-Next.in-Next-own.keys2
 
 pub term-factors-requires : goal.term-factors-requires
 term-factors-requires t c =
@@ -405,11 +405,11 @@ terms-term-requires t c =
 
 pub terms-enum_known-k : goal.terms-enum_known-k
 terms-enum_known-k t c =
-    c.in-Fault.keys1
+    c.in-Fault.in-Fault-own.keys1
 
 pub terms-enum_known-n : goal.terms-enum_known-n
 terms-enum_known-n t c =
-    c.in-Next.keys2
+    c.in-Next.in-Next-own.keys2
 
 pub terms-overflow_add-root : goal.terms-overflow_add-root
 terms-overflow_add-root t c =

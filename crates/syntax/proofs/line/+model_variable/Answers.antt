@@ -53,11 +53,11 @@ variable-number-requires t c =
 
 pub variable-enum_known-k : goal.variable-enum_known-k
 variable-enum_known-k t c =
-    c.in-Fault.keys1
+    c.in-Fault.in-Fault-own.keys1
 
 pub variable-enum_known-n : goal.variable-enum_known-n
 variable-enum_known-n t c =
-    c.in-Next.keys2
+    c.in-Next.in-Next-own.keys2
 
 pub variable-shape_of-nodes-then-peek-ne59 : goal.variable-shape_of-nodes-then-peek-ne59
 variable-shape_of-nodes-then-peek-ne59 t c =

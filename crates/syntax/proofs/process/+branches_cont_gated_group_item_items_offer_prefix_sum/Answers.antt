@@ -21,11 +21,11 @@ branches-prefix-requires t c =
 
 pub branches-enum_known-k : goal.branches-enum_known-k
 branches-enum_known-k t c =
-    c.in-Fault.keys1
+    c.in-Fault.in-Fault-own.keys1
 
 pub branches-enum_known-n : goal.branches-enum_known-n
 branches-enum_known-n t c =
-    c.in-Next.keys2
+    c.in-Next.in-Next-own.keys2
 
 pub branches-shape_of-nodes-then-peek-ne43 : goal.branches-shape_of-nodes-then-peek-ne43
 branches-shape_of-nodes-then-peek-ne43 t c =
@@ -128,11 +128,11 @@ cont-prefix-requires t c =
 
 pub cont-enum_known-k : goal.cont-enum_known-k
 cont-enum_known-k t c =
-    c.in-Fault.keys1
+    c.in-Fault.in-Fault-own.keys1
 
 pub cont-enum_known-n : goal.cont-enum_known-n
 cont-enum_known-n t c =
-    c.in-Next.keys2
+    c.in-Next.in-Next-own.keys2
 
 pub cont-overflow_add-root : goal.cont-overflow_add-root
 cont-overflow_add-root t c =
@@ -169,11 +169,11 @@ gated-condition-requires t c =
 
 pub gated-enum_known-k : goal.gated-enum_known-k
 gated-enum_known-k t c =
-    c.in-Fault.keys1
+    c.in-Fault.in-Fault-own.keys1
 
 pub gated-enum_known-n : goal.gated-enum_known-n
 gated-enum_known-n t c =
-    c.in-Next.keys2
+    c.in-Next.in-Next-own.keys2
 
 pub gated-shape_of-nodes-then-peek-ne93 : goal.gated-shape_of-nodes-then-peek-ne93
 gated-shape_of-nodes-then-peek-ne93 t c =
@@ -264,11 +264,11 @@ group-items-requires t c =
 
 pub group-enum_known-k : goal.group-enum_known-k
 group-enum_known-k t c =
-    c.in-Fault.keys1
+    c.in-Fault.in-Fault-own.keys1
 
 pub group-enum_known-n : goal.group-enum_known-n
 group-enum_known-n t c =
-    c.in-Next.keys2
+    c.in-Next.in-Next-own.keys2
 
 pub group-overflow_add-root : goal.group-overflow_add-root
 group-overflow_add-root t c =
@@ -337,11 +337,11 @@ items-item-requires t c =
 
 pub items-enum_known-k : goal.items-enum_known-k
 items-enum_known-k t c =
-    c.in-Fault.keys1
+    c.in-Fault.in-Fault-own.keys1
 
 pub items-enum_known-n : goal.items-enum_known-n
 items-enum_known-n t c =
-    c.in-Next.keys2
+    c.in-Next.in-Next-own.keys2
 
 pub items-overflow_add-result : goal.items-overflow_add-result
 items-overflow_add-result t c =
@@ -436,11 +436,11 @@ offer-braced-requires t c =
 
 pub offer-enum_known-k : goal.offer-enum_known-k
 offer-enum_known-k t c =
-    c.in-Fault.keys1
+    c.in-Fault.in-Fault-own.keys1
 
 pub offer-enum_known-point : goal.offer-enum_known-point
 offer-enum_known-point t c =
-    c.in-Next.keys2
+    c.in-Next.in-Next-own.keys2
 
 pub offer-overflow_add-root : goal.offer-overflow_add-root
 offer-overflow_add-root t c =
@@ -559,11 +559,11 @@ sum-branches-requires t c =
 
 pub sum-enum_known-k : goal.sum-enum_known-k
 sum-enum_known-k t c =
-    c.in-Fault.keys1
+    c.in-Fault.in-Fault-own.keys1
 
 pub sum-enum_known-n : goal.sum-enum_known-n
 sum-enum_known-n t c =
-    c.in-Next.keys2
+    c.in-Next.in-Next-own.keys2
 
 pub sum-overflow_add-root : goal.sum-overflow_add-root
 sum-overflow_add-root t c =

@@ -42,6 +42,6 @@ pub returns-in_default : goal.returns-in_default
 unfolding apply
 returns-in_default c o k =
     let s = c in
-    let m = c.in_default.rest in
+    let m = c.in_default.in_default-own.rest in
     let e = kind-minimum o k m.0.0.0.0.1 m.0.0.0.1 m.0.0.1 m.0.1 m.1 in
     applied s.args.x s.args.y 10 e (rw (back c.min_of.result c.min_of.type_inv) (ap Is (simp (to_z-of_z s.ranges.x, to_z-of_z s.ranges.y) at c.min_of.ensures))) o k

@@ -41,6 +41,6 @@ pub returns-in_default : goal.returns-in_default
 unfolding related
 returns-in_default c r k =
     let s = c in
-    let m = c.in_default.rest in
+    let m = c.in_default.in_default-own.rest in
     let e = kind-differs r k m.0.0.0.0.1 m.0.0.0.1 m.0.0.1 m.0.1 m.1 in
     relates s.args.x s.args.y 20 e (ap not (simp (to_z-of_z s.ranges.x, to_z-of_z s.ranges.y) at c.same-in_default.ensures)) r k

@@ -36,7 +36,7 @@ tree_fault-tree-requires c =
 
 pub enum_known-k : goal.enum_known-k
 enum_known-k c =
-    c.in-At.keys1
+    c.in-At.in-At-own.keys1
 
 pub returns-in-At : goal.returns-in-At
 returns-in-At c =

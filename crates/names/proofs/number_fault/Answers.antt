@@ -20,4 +20,4 @@ returns-in-2 c =
 
 pub returns-in_default : goal.returns-in_default
 returns-in_default c =
-    λ w sc h. no_number c.args.kind c.args.k w sc c.in_default.rest.0.1 c.in_default.rest.1
+    λ w sc h. no_number c.args.kind c.args.k w sc c.in_default.in_default-own.rest.0.1 c.in_default.in_default-own.rest.1

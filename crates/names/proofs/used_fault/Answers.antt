@@ -21,4 +21,4 @@ returns-in-33 c =
 
 pub returns-in_default : goal.returns-in_default
 returns-in_default c =
-    λ h n. not-used c.args.kind c.args.k h c.in_default.rest.0.1 c.in_default.rest.1
+    λ h n. not-used c.args.kind c.args.k h c.in_default.in_default-own.rest.0.1 c.in_default.in_default-own.rest.1

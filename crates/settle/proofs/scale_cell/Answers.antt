@@ -73,7 +73,7 @@ bounds-low-k-in_default c =
 pub number_cell-requires-in_default : goal.number_cell-requires-in_default
 unfolding number_kind
 number_cell-requires-in_default c =
-    (decimal-scale (get_or c.args.low.now c.args.k 0) c.requires.1 c.requires.2 c.requires.3 refl true (last-kind (get_or c.args.low.now c.args.k 0) c.requires.1 c.requires.2 c.requires.3 refl c.in_default.rest.0.0.1 c.in_default.rest.0.1 c.in_default.rest.1)).0
+    (decimal-scale (get_or c.args.low.now c.args.k 0) c.requires.1 c.requires.2 c.requires.3 refl true (last-kind (get_or c.args.low.now c.args.k 0) c.requires.1 c.requires.2 c.requires.3 refl c.in_default.in_default-own.rest.0.0.1 c.in_default.in_default-own.rest.0.1 c.in_default.in_default-own.rest.1)).0
 
 pub returns-in-29 : goal.returns-in-29
 unfolding number_kind
@@ -93,4 +93,4 @@ returns-in-31 c =
 pub returns-in_default : goal.returns-in_default
 unfolding number_kind
 returns-in_default c =
-    λ w b d h. c.number_cell-in_default.ensures ∙ (decimal-scale (get_or c.args.low.now c.args.k 0) b d h refl true (last-kind (get_or c.args.low.now c.args.k 0) b d h refl c.in_default.rest.0.0.1 c.in_default.rest.0.1 c.in_default.rest.1)).1
+    λ w b d h. c.number_cell-in_default.ensures ∙ (decimal-scale (get_or c.args.low.now c.args.k 0) b d h refl true (last-kind (get_or c.args.low.now c.args.k 0) b d h refl c.in_default.in_default-own.rest.0.0.1 c.in_default.in_default-own.rest.0.1 c.in_default.in_default-own.rest.1)).1

@@ -6,5 +6,9 @@ use lib.Seq.{set_out}
 use Rattle.tree.specs.Node.{cell}
 use Rattle.tree.proofs.node.Goals as goal
 
+pub returns-then-k-nodes : goal.returns-then-k-nodes
+unfolding cell
+returns-then-k-nodes c = search rules
+
 pub returns-else-k-nodes : goal.returns-else-k-nodes
 returns-else-k-nodes c = sym (set_out _ _ _ (omega arith))

@@ -21,4 +21,4 @@ pub returns-in-5 : goal.returns-in-5
 returns-in-5 c = byte-is c.args.n 5 116 first-bytes.5 c.in-5.is
 
 pub returns-in_default : goal.returns-in_default
-returns-in_default c = let m = c.in_default.rest in last_byte c.args.n m.0.0.0.0.0.1 m.0.0.0.0.1 m.0.0.0.1 m.0.0.1 m.0.1 m.1
+returns-in_default c = let m = c.in_default.in_default-own.rest in last_byte c.args.n m.0.0.0.0.0.1 m.0.0.0.0.1 m.0.0.0.1 m.0.0.1 m.0.1 m.1

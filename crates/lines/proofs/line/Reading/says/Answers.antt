@@ -66,5 +66,5 @@ returns-in-1612482503712 c =
 pub returns-in_default : goal.returns-in_default
 returns-in_default c =
     λ s h.
-    let m = c.in_default.rest in
+    let m = c.in_default.in_default-own.rest in
     says-run h m.0.0.0.0.0.0.0.0.0.0.0.0.0.0.1 m.0.0.0.0.0.0.0.0.0.0.0.0.0.1 m.0.0.0.0.0.0.0.0.0.0.0.0.1 m.0.0.0.0.0.0.0.0.0.0.0.1 m.0.0.0.0.0.0.0.0.0.0.1 m.0.0.0.0.0.0.0.0.0.1 m.0.0.0.0.0.0.0.0.1 m.0.0.0.0.0.0.0.1 m.0.0.0.0.0.0.1 m.0.0.0.0.0.1 m.0.0.0.0.1 m.0.0.0.1 m.0.0.1 m.0.1 m.1 c.run_line.ensures

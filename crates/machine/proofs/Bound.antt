@@ -101,6 +101,9 @@ module _ (m : Resolved.Model) where
   alone-bound h binds (rule12 i f) = record { number = each-length f.each; values = (every-nth (GoodPair m) h i).values }
   alone-bound h checks (rule13 f) = record { number = refl; values = tt }
   alone-bound h c (rule18 f) = alone-bound h c f
+  alone-bound h c sends = elim c [ ]
+  alone-bound h c takes = elim c [ ]
+  alone-bound h c (takes_bind _ _ _) = elim c [ ]
 
   pub accepted-bound : {x : offers.Pair} {a : offers.Action} {vs : List ℤ} → GoodPair m x → Accepts x a vs → BoundGood a vs
   unfolding Every

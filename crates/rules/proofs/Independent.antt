@@ -13,7 +13,7 @@ use lib.IntN.{ℤ}
 use lib.ListN.{length}
 use Rattle.rules.specs.Offers.{Pair, Action, send, Guard, Branch, State}
 use Rattle.rules.specs.Kind as kind
-use Rattle.rules.specs.Rules.{Nth, first, later, Change as Written, unchanged, Label, label, plain, Offered, rule8, rule9, rule10, rule11, rule12, rule13, rule18, Chooses, Acts, rule15-this, rule15-other, Handshakes, rule16-left, rule16-right, rule17-left, rule17-right, rule15-both, Alone, waits, launches, kills, receives, binds, checks, Key, key, rate_weight, Moves, alone, together, Derivable}
+use Rattle.rules.specs.Rules.{Nth, first, later, Change as Written, unchanged, Label, label, plain, Offered, rule8, rule9, rule10, rule11, rule12, rule13, sends, takes, takes_bind, rule18, Chooses, Acts, rule15-this, rule15-other, Handshakes, rule16-left, rule16-right, rule17-left, rule17-right, rule15-both, Alone, waits, launches, kills, receives, binds, checks, Key, key, rate_weight, Moves, alone, together, Derivable}
 use Rattle.rules.specs.Listing.{entry, gather, entries}
 use Rattle.rules.specs.Pairs.{pairs_after}
 use Rattle.rules.specs.Step.{replace, replace_both, bound_by, values_at, sent_by, on_action, state_after, step}
@@ -307,6 +307,9 @@ quiet-offered (rule11 x h m) receives f g = refl
 quiet-offered (rule12 h m) binds f g = refl
 quiet-offered (rule13 h) checks f g = refl
 quiet-offered (rule18 o) a f g = quiet-offered o a f g
+quiet-offered sends a f g = elim a [ ]
+quiet-offered takes a f g = elim a [ ]
+quiet-offered (takes_bind _ _ _) a f g = elim a [ ]
 
 -- a move that changes no pair leads to a state with its processes
 leads : {Proc : Type 0} (branches : Proc → List (Branch Proc)) (s : State Proc) {k : Key} {w : ℕ} {n : Written} {ps : List Proc}

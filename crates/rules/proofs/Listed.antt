@@ -126,6 +126,9 @@ module _ {Proc : Type 0} (branches : Proc → List (Branch Proc)) (s : State Pro
   lists-alone i j (rule12 {w = w} {r = r} {x = x} h m) binds = gather-in (bindings i j r w) h (when-in _ (passes (matching w x) m) (In.head refl))
   lists-alone i j (rule13 {w = w} f) checks = unless-in _ (refuses (any-matching w s.pairs) (λ h. f h.0 h.1 h.2)) (In.head refl)
   lists-alone i j (rule18 f) k = lists-alone i j f k
+  lists-alone i j sends k = elim k [ ]
+  lists-alone i j takes k = elim k [ ]
+  lists-alone i j (takes_bind _ _ _) k = elim k [ ]
 
   lists-sender : (i j : ℕ) {g : Guard} {x : Pair} {r q : ℕ} {n : Change} {vs : List ℤ} {e : Entry}
       → Offered s.pairs g (label (send x) r q n vs) → In e (gather (partners_in branches x r i j) s.processes) → In e (of_guard branches s i j g)
@@ -139,6 +142,13 @@ module _ {Proc : Type 0} (branches : Proc → List (Branch Proc)) (s : State Pro
   lists-partner x r i j k m (takes {w = w}) (unbound h) = when-in _ (passes (matching w x) h) (In.head refl)
   lists-partner x r i j k m (takes_bind {w = w} y b e) (bound h) = when-in _ (passes (matching w x) h) (In.head refl)
   lists-partner x r i j k m (rule18 f) a = lists-partner x r i j k m f a
+  lists-partner x r i j k m rule8 a = elim a [ ]
+  lists-partner x r i j k m rule9 a = elim a [ ]
+  lists-partner x r i j k m rule10 a = elim a [ ]
+  lists-partner x r i j k m (rule11 _ _ _) a = elim a [ ]
+  lists-partner x r i j k m (rule12 _ _) a = elim a [ ]
+  lists-partner x r i j k m (rule13 _) a = elim a [ ]
+  lists-partner x r i j k m sends a = elim a [ ]
 
   lists-branch : {i j : ℕ} {p : Proc} {b : Branch Proc} {e : Entry}
       → Nth s.processes i p → Nth (branches p) j b → In e (of_guard branches s i j b.guard) → In e (entries branches s)

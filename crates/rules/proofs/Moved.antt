@@ -71,6 +71,9 @@ offered-bound (rule11 x h m) receives = refl
 offered-bound (rule12 h m) binds = nth-found [] (λ (x : Pair). x.values) h
 offered-bound (rule13 f) checks = refl
 offered-bound (rule18 f) k = offered-bound f k
+offered-bound sends k = elim k [ ]
+offered-bound takes k = elim k [ ]
+offered-bound (takes_bind _ _ _) k = elim k [ ]
 
 pub offered-sent : {lit : List Pair} {g : Guard} {x : Pair} {r q : ℕ} {n : Change} {vs : List ℤ} → Offered lit g (label (send x) r q n vs) → on_action [] sent_by g ≡ x.values
 unfolding on_action sent_by
@@ -83,6 +86,13 @@ unfolding on_action bound_by
 offered-received takes (unbound h) = refl
 offered-received (takes_bind y m e) (bound h) = refl
 offered-received (rule18 f) h = offered-received f h
+offered-received rule8 h = elim h [ ]
+offered-received rule9 h = elim h [ ]
+offered-received rule10 h = elim h [ ]
+offered-received (rule11 _ _ _) h = elim h [ ]
+offered-received (rule12 _ _) h = elim h [ ]
+offered-received (rule13 _) h = elim h [ ]
+offered-received sends h = elim h [ ]
 
 pub no-handshake : {a : Action} {c : ℕ} → Alone a c → eqb c kind.handshake ≡ false
 no-handshake waits = refl

@@ -4,7 +4,7 @@ use mathlib.Core.Bool.{Bool, true, false}
 use mathlib.Core.List.Memᴰ
 use mathlib.Core.List.{List, [], ◌∷◌, ◌++◌, Memᴰ as In}
 use mathlib.Core.Logic.{◌⊎◌, inl, inr, ⊎_elim, ◌↔◌}
-use Prim.Native.Nat.{ℕ}
+use Prim.Native.Nat.{ℕ, ◌<◌}
 use native.Mathlib.Omega.{arith}
 use Rattle.runs.specs.Tree.{Listed, Lower, first, same, Before, shorter, earlier, Ascending, Answer, found, nothing, unsure, Means, earliest, none_at_all, none-known}
 use Rattle.runs.specs.Walk.{Event, meets, reaches, walk, ending, judge, search}
@@ -95,11 +95,17 @@ module _ {S : Type 0} (ways : S → Listed S) (s : S) (d : ℕ) where
 
 -- ---- no other answer means anything of the same search
 
+lower-heads : {e f : ℕ} {es fs : List ℕ} → Lower (e ∷ es) (f ∷ fs) → e < f ⊎ ((e ≡ f) × Lower es fs)
+lower-heads (first a) = inl a
+lower-heads (same x) = inr (refl, x)
+
 lower-once : (p q : List ℕ) → Lower p q → Lower q p → ⊥
-lower-once (e ∷ es) (f ∷ fs) (first a) (first b) = omega arith
-lower-once (e ∷ es) (f ∷ fs) (first a) (same y) = omega arith
-lower-once (e ∷ es) (f ∷ fs) (same x) (first b) = omega arith
-lower-once (e ∷ es) (f ∷ fs) (same x) (same y) = lower-once es fs x y
+lower-once [] q h _ = elim h [ ]
+lower-once (e ∷ es) [] h _ = elim h [ ]
+lower-once (e ∷ es) (f ∷ fs) h k =
+    ⊎_elim (λ (a : e < f). ⊎_elim (λ (b : f < e). omega arith) (λ (b : (f ≡ e) × Lower fs es). let g : f ≡ e = b.0 in omega arith) (lower-heads k))
+        (λ (x : (e ≡ f) × Lower es fs). ⊎_elim (λ (b : f < e). let g : e ≡ f = x.0 in omega arith) (λ (y : (f ≡ e) × Lower fs es). lower-once es fs x.1 y.1) (lower-heads k))
+        (lower-heads h)
 
 pub before-once : (p q : List ℕ) → Before p q → Before q p → ⊥
 before-once p q (shorter a) (shorter b) = omega arith

@@ -153,6 +153,8 @@ shown-row r x h =
         → (◌≡◌ {A = List ℤ} (pos r.count ∷ r.first ∷ r.second ∷ []) (pos (length vs) ∷ padded 2 vs)) × (r.count ≤ 2)
     tail (v ∷ []) (Shown.one e f g i j) = (rw (e, f, i) refl, omega arith)
     tail (v ∷ w ∷ []) (Shown.two e f g i j) = (rw (e, f, i) refl, omega arith)
+    tail [] h = elim h [ ]
+    tail (v ∷ (w ∷ (_ ∷ _))) h = elim h [ ]
 
 -- three numbers written after a channel's
 pub three-written : (s : ℕ) (a b c : ℤ) (u : List ℤ) (n p q : ℤ) → length u ≡ 3

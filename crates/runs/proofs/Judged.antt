@@ -104,8 +104,8 @@ lower-once [] q h _ = elim h [ ]
 lower-once (e ∷ es) [] h _ = elim h [ ]
 lower-once (e ∷ es) (f ∷ fs) h k =
     ⊎_elim (λ (a : e < f). ⊎_elim (λ (b : f < e). omega arith) (λ (b : (f ≡ e) × Lower fs es). let g : f ≡ e = b.0 in omega arith) (lower-heads k))
-        (λ (x : (e ≡ f) × Lower es fs). ⊎_elim (λ (b : f < e). let g : e ≡ f = x.0 in omega arith) (λ (y : (f ≡ e) × Lower fs es). lower-once es fs x.1 y.1) (lower-heads k))
-        (lower-heads h)
+    (λ (x : (e ≡ f) × Lower es fs). ⊎_elim (λ (b : f < e). let g : e ≡ f = x.0 in omega arith) (λ (y : (f ≡ e) × Lower fs es). lower-once es fs x.1 y.1) (lower-heads k))
+    (lower-heads h)
 
 pub before-once : (p q : List ℕ) → Before p q → Before q p → ⊥
 before-once p q (shorter a) (shorter b) = omega arith

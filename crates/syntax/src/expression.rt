@@ -173,7 +173,7 @@ pub fn term(toks: &[u8], at: usize, nodes: &mut [u64], used: usize) -> Read
 pub fn factors(toks: &[u8], at: usize, nodes: &mut [u64], left: usize) -> Read
     requires { Ready toks.now at (left + 1) }
     ensures follows { Follows toks.now at (Factors' ∷ []) (place result) }
-    ensures* fact { λ r. ⌜ Extended flat_factors (λ x r. factors_at x r at) Table.Expr Table.Expr toks.now nodes.old nodes.new at left r ⌝ }
+    ensures extended { Extended flat_factors (λ x r. factors_at x r at) Table.Expr Table.Expr toks.now nodes.old nodes.new at left result }
 {
     let kind = product_kind(token::peek(toks, at));
     if kind == 0 {
@@ -207,7 +207,7 @@ pub fn expr(toks: &[u8], at: usize, nodes: &mut [u64], used: usize) -> Read
 pub fn terms(toks: &[u8], at: usize, nodes: &mut [u64], left: usize) -> Read
     requires { Ready toks.now at (left + 1) }
     ensures follows { Follows toks.now at (Terms' ∷ []) (place result) }
-    ensures* fact { λ r. ⌜ Extended flat_terms (λ x r. terms_at x r at) Table.Expr Table.Expr toks.now nodes.old nodes.new at left r ⌝ }
+    ensures extended { Extended flat_terms (λ x r. terms_at x r at) Table.Expr Table.Expr toks.now nodes.old nodes.new at left result }
 {
     let kind = sum_kind(token::peek(toks, at));
     if kind == 0 {

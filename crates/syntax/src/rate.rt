@@ -60,7 +60,7 @@ pub fn scale(toks: &[u8], at: usize, nodes: &mut [u64], used: usize) -> Read
 pub fn rate(toks: &[u8], at: usize, nodes: &mut [u64], used: usize) -> Read
     requires { Ready toks.now at used }
     ensures follows { Follows toks.now at (a_rate) (place result) }
-    ensures* fact { λ r. ⌜ Parsed flat_rate (λ t r. Table.Rate t (rate_at r at)) toks.now nodes.old nodes.new at used r ⌝ }
+    ensures parsed { Parsed flat_rate (λ t r. Table.Rate t (rate_at r at)) toks.now nodes.old nodes.new at used result }
 {
     match scale(toks, at, nodes, used) {
         Read::Fault(k) => Read::Fault(k),

@@ -56,7 +56,7 @@ pub fn part(toks: &[u8], at: usize, nodes: &mut [u64], used: usize) -> Read
 pub fn parts(toks: &[u8], at: usize, nodes: &mut [u64], left: usize) -> Read
     requires { Ready toks.now at (left + 1) }
     ensures follows { Follows toks.now at (Parts' ∷ []) (place result) }
-    ensures* fact { λ r. ⌜ Extended flat_parts (λ s r. parts_at s r at) Table.Set Table.Set toks.now nodes.old nodes.new at left r ⌝ }
+    ensures extended { Extended flat_parts (λ s r. parts_at s r at) Table.Set Table.Set toks.now nodes.old nodes.new at left result }
 {
     let kind = join_kind(token::peek(toks, at));
     if kind == 0 {

@@ -13,7 +13,7 @@ eval_node-requires t c =
     let L = s.args.locals.now in
     let k = s.args.k in
     let is = c.kind_of.ensures ∙ ap kind_of c.cell_at-cell.ensures in
-    (last-part T k c.kind_of.result is c.if-kind_of-ne-ARGUMENT.true (length L) s.requires.1.0, s.requires.1.1)
+    (last-part T k c.kind_of.result is c.if-kind_of-ne-ARGUMENT.true (length L) s.requires.0, s.requires.1)
 
 pub returns-then-kind_of-ne-ARGUMENT : goal.returns-then-kind_of-ne-ARGUMENT
 returns-then-kind_of-ne-ARGUMENT t c x h =
@@ -31,9 +31,9 @@ eval_node-requires-2 t c =
     let L = s.args.locals.now in
     let k = s.args.k in
     let is = c.kind_of.ensures ∙ ap kind_of c.cell_at-cell.ensures in
-    let f = more_parts T k c.kind_of.result is c.if-kind_of-ne-ARGUMENT.false (length L) s.requires.1.0 in
+    let f = more_parts T k c.kind_of.result is c.if-kind_of-ne-ARGUMENT.false (length L) s.requires.0 in
     let e = c.left_of.ensures ∙ ap left_of c.cell_at-cell.ensures in
-    (rw e f.1, s.requires.1.1)
+    (rw e f.1, s.requires.1)
 
 pub overflow_sub-k : goal.overflow_sub-k
 overflow_sub-k t c =
@@ -42,7 +42,7 @@ overflow_sub-k t c =
     let L = s.args.locals.now in
     let k = s.args.k in
     let is = c.kind_of.ensures ∙ ap kind_of c.cell_at-cell.ensures in
-    let f = more_parts T k c.kind_of.result is c.if-kind_of-ne-ARGUMENT.false (length L) s.requires.1.0 in
+    let f = more_parts T k c.kind_of.result is c.if-kind_of-ne-ARGUMENT.false (length L) s.requires.0 in
     f.0
 
 pub arguments_known-requires : goal.arguments_known-requires
@@ -52,8 +52,8 @@ arguments_known-requires t c =
     let L = s.args.locals.now in
     let k = s.args.k in
     let is = c.kind_of.ensures ∙ ap kind_of c.cell_at-cell.ensures in
-    let f = more_parts T k c.kind_of.result is c.if-kind_of-ne-ARGUMENT.false (length L) s.requires.1.0 in
-    (omega (arith, s.requires.0, f.0), (f.2, s.requires.1.1))
+    let f = more_parts T k c.kind_of.result is c.if-kind_of-ne-ARGUMENT.false (length L) s.requires.0 in
+    (omega (arith, s.decreases, f.0), (f.2, s.requires.1))
 
 pub returns-then-is_known : goal.returns-then-is_known
 returns-then-is_known t c =

@@ -13,7 +13,7 @@ eval_node-requires t c =
     let L = s.args.locals.now in
     let k = s.args.k in
     let is = c.kind_of-kind.ensures ∙ ap kind_of c.cell_at-cell.ensures in
-    (single-part T k c.kind_of-kind.result is (length L) c.if-kind-lt-RANGE.true s.requires.1.0, s.requires.1.1)
+    (single-part T k c.kind_of-kind.result is (length L) c.if-kind-lt-RANGE.true s.requires.0, s.requires.1)
 
 pub returns-then-kind-lt-RANGE : goal.returns-then-kind-lt-RANGE
 returns-then-kind-lt-RANGE t c x h =
@@ -31,9 +31,9 @@ eval_node-requires-then-kind-eq-RANGE t c =
     let L = s.args.locals.now in
     let k = s.args.k in
     let is = c.kind_of-kind.ensures ∙ ap kind_of c.cell_at-cell.ensures in
-    let f = range-parts T k c.kind_of-kind.result is (length L) c.if-kind-eq-RANGE.true s.requires.1.0 in
+    let f = range-parts T k c.kind_of-kind.result is (length L) c.if-kind-eq-RANGE.true s.requires.0 in
     let e = c.left_of-i.ensures ∙ ap left_of c.cell_at-cell.ensures in
-    (rw e f.1, s.requires.1.1)
+    (rw e f.1, s.requires.1)
 
 pub overflow_sub-k : goal.overflow_sub-k
 overflow_sub-k t c =
@@ -42,7 +42,7 @@ overflow_sub-k t c =
     let L = s.args.locals.now in
     let k = s.args.k in
     let is = c.kind_of-kind.ensures ∙ ap kind_of c.cell_at-cell.ensures in
-    let f = range-parts T k c.kind_of-kind.result is (length L) c.if-kind-eq-RANGE.true s.requires.1.0 in
+    let f = range-parts T k c.kind_of-kind.result is (length L) c.if-kind-eq-RANGE.true s.requires.0 in
     f.0
 
 pub eval_node-requires-then-is_known : goal.eval_node-requires-then-is_known
@@ -52,8 +52,8 @@ eval_node-requires-then-is_known t c =
     let L = s.args.locals.now in
     let k = s.args.k in
     let is = c.kind_of-kind.ensures ∙ ap kind_of c.cell_at-cell.ensures in
-    let f = range-parts T k c.kind_of-kind.result is (length L) c.if-kind-eq-RANGE.true s.requires.1.0 in
-    (f.2, s.requires.1.1)
+    let f = range-parts T k c.kind_of-kind.result is (length L) c.if-kind-eq-RANGE.true s.requires.0 in
+    (f.2, s.requires.1)
 
 pub returns-then-is_known : goal.returns-then-is_known
 returns-then-is_known t c x h =
@@ -82,9 +82,9 @@ ends_known-requires t c =
     let L = s.args.locals.now in
     let k = s.args.k in
     let is = c.kind_of-kind.ensures ∙ ap kind_of c.cell_at-cell.ensures in
-    let f = joined-parts T k c.kind_of-kind.result is c.if-kind-lt-RANGE.false c.if-kind-eq-RANGE.false (length L) s.requires.1.0 in
+    let f = joined-parts T k c.kind_of-kind.result is c.if-kind-lt-RANGE.false c.if-kind-eq-RANGE.false (length L) s.requires.0 in
     let e = c.left_of-i.ensures ∙ ap left_of c.cell_at-cell.ensures in
-    (rw (e, ← s.requires.0) f.1, (rw e f.2, s.requires.1.1))
+    (rw (e, ← s.decreases) f.1, (rw e f.2, s.requires.1))
 
 pub overflow_sub-k-then-ends_known : goal.overflow_sub-k-then-ends_known
 overflow_sub-k-then-ends_known t c =
@@ -93,7 +93,7 @@ overflow_sub-k-then-ends_known t c =
     let L = s.args.locals.now in
     let k = s.args.k in
     let is = c.kind_of-kind.ensures ∙ ap kind_of c.cell_at-cell.ensures in
-    let f = joined-parts T k c.kind_of-kind.result is c.if-kind-lt-RANGE.false c.if-kind-eq-RANGE.false (length L) s.requires.1.0 in
+    let f = joined-parts T k c.kind_of-kind.result is c.if-kind-lt-RANGE.false c.if-kind-eq-RANGE.false (length L) s.requires.0 in
     f.0
 
 pub ends_known-requires-then-ends_known : goal.ends_known-requires-then-ends_known
@@ -103,8 +103,8 @@ ends_known-requires-then-ends_known t c =
     let L = s.args.locals.now in
     let k = s.args.k in
     let is = c.kind_of-kind.ensures ∙ ap kind_of c.cell_at-cell.ensures in
-    let f = joined-parts T k c.kind_of-kind.result is c.if-kind-lt-RANGE.false c.if-kind-eq-RANGE.false (length L) s.requires.1.0 in
-    (omega (arith, s.requires.0, f.0), (f.3, s.requires.1.1))
+    let f = joined-parts T k c.kind_of-kind.result is c.if-kind-lt-RANGE.false c.if-kind-eq-RANGE.false (length L) s.requires.0 in
+    (omega (arith, s.decreases, f.0), (f.3, s.requires.1))
 
 pub returns-then-ends_known : goal.returns-then-ends_known
 returns-then-ends_known t c =

@@ -37,7 +37,7 @@ overflow_sub-k t c =
     let L = s.args.locals.now in
     let k = s.args.k in
     let is = c.kind_of-kind.ensures ∙ ap kind_of c.cell_at-cell.ensures in
-    let f = absolute-part T k c.kind_of-kind.result is (length L) c.if-kind-eq-ABSOLUTE.true s.requires.1.0 in
+    let f = absolute-part T k c.kind_of-kind.result is (length L) c.if-kind-eq-ABSOLUTE.true s.requires.0 in
     f.0
 
 pub eval_node-requires : goal.eval_node-requires
@@ -47,8 +47,8 @@ eval_node-requires t c =
     let L = s.args.locals.now in
     let k = s.args.k in
     let is = c.kind_of-kind.ensures ∙ ap kind_of c.cell_at-cell.ensures in
-    let f = absolute-part T k c.kind_of-kind.result is (length L) c.if-kind-eq-ABSOLUTE.true s.requires.1.0 in
-    (omega (arith, s.requires.0, f.0), (f.1, s.requires.1.1))
+    let f = absolute-part T k c.kind_of-kind.result is (length L) c.if-kind-eq-ABSOLUTE.true s.requires.0 in
+    (omega (arith, s.decreases, f.0), (f.1, s.requires.1))
 
 pub absolute-requires : goal.absolute-requires
 absolute-requires t c =
@@ -57,8 +57,8 @@ absolute-requires t c =
     let L = s.args.locals.now in
     let k = s.args.k in
     let is = c.kind_of-kind.ensures ∙ ap kind_of c.cell_at-cell.ensures in
-    let f = absolute-part T k c.kind_of-kind.result is (length L) c.if-kind-eq-ABSOLUTE.true s.requires.1.0 in
-    worth-sound T L (length L) (k - 1) c.eval_node.result s.requires.1.1 f.1 c.eval_node.ensures
+    let f = absolute-part T k c.kind_of-kind.result is (length L) c.if-kind-eq-ABSOLUTE.true s.requires.0 in
+    worth-sound T L (length L) (k - 1) c.eval_node.result s.requires.1 f.1 c.eval_node.ensures
 
 pub returns-then-kind-eq-ABSOLUTE : goal.returns-then-kind-eq-ABSOLUTE
 returns-then-kind-eq-ABSOLUTE t c e h =
@@ -76,9 +76,9 @@ eval_node-x-requires t c =
     let L = s.args.locals.now in
     let k = s.args.k in
     let is = c.kind_of-kind.ensures ∙ ap kind_of c.cell_at-cell.ensures in
-    let f = binary-parts T k c.kind_of-kind.result is c.if-kind-eq-LITERAL.false c.if-kind-eq-NAMED.false c.if-kind-eq-ABSOLUTE.false (length L) s.requires.1.0 in
+    let f = binary-parts T k c.kind_of-kind.result is c.if-kind-eq-LITERAL.false c.if-kind-eq-NAMED.false c.if-kind-eq-ABSOLUTE.false (length L) s.requires.0 in
     let e = c.left_of.ensures ∙ ap left_of c.cell_at-cell.ensures in
-    (rw (e, ← s.requires.0) f.1, (rw e f.2, s.requires.1.1))
+    (rw (e, ← s.decreases) f.1, (rw e f.2, s.requires.1))
 
 pub overflow_sub-k-2 : goal.overflow_sub-k-2
 overflow_sub-k-2 t c =
@@ -87,7 +87,7 @@ overflow_sub-k-2 t c =
     let L = s.args.locals.now in
     let k = s.args.k in
     let is = c.kind_of-kind.ensures ∙ ap kind_of c.cell_at-cell.ensures in
-    let f = binary-parts T k c.kind_of-kind.result is c.if-kind-eq-LITERAL.false c.if-kind-eq-NAMED.false c.if-kind-eq-ABSOLUTE.false (length L) s.requires.1.0 in
+    let f = binary-parts T k c.kind_of-kind.result is c.if-kind-eq-LITERAL.false c.if-kind-eq-NAMED.false c.if-kind-eq-ABSOLUTE.false (length L) s.requires.0 in
     f.0
 
 pub eval_node-y-requires : goal.eval_node-y-requires
@@ -97,8 +97,8 @@ eval_node-y-requires t c =
     let L = s.args.locals.now in
     let k = s.args.k in
     let is = c.kind_of-kind.ensures ∙ ap kind_of c.cell_at-cell.ensures in
-    let f = binary-parts T k c.kind_of-kind.result is c.if-kind-eq-LITERAL.false c.if-kind-eq-NAMED.false c.if-kind-eq-ABSOLUTE.false (length L) s.requires.1.0 in
-    (omega (arith, s.requires.0, f.0), (f.3, s.requires.1.1))
+    let f = binary-parts T k c.kind_of-kind.result is c.if-kind-eq-LITERAL.false c.if-kind-eq-NAMED.false c.if-kind-eq-ABSOLUTE.false (length L) s.requires.0 in
+    (omega (arith, s.decreases, f.0), (f.3, s.requires.1))
 
 pub combined-requires : goal.combined-requires
 combined-requires t c =
@@ -107,9 +107,9 @@ combined-requires t c =
     let L = s.args.locals.now in
     let k = s.args.k in
     let is = c.kind_of-kind.ensures ∙ ap kind_of c.cell_at-cell.ensures in
-    let f = binary-parts T k c.kind_of-kind.result is c.if-kind-eq-LITERAL.false c.if-kind-eq-NAMED.false c.if-kind-eq-ABSOLUTE.false (length L) s.requires.1.0 in
+    let f = binary-parts T k c.kind_of-kind.result is c.if-kind-eq-LITERAL.false c.if-kind-eq-NAMED.false c.if-kind-eq-ABSOLUTE.false (length L) s.requires.0 in
     let e = c.left_of.ensures ∙ ap left_of c.cell_at-cell.ensures in
-    (worth-sound T L (length L) c.left_of.result c.eval_node-x.result s.requires.1.1 (rw e f.2) c.eval_node-x.ensures, worth-sound T L (length L) (k - 1) c.eval_node-y.result s.requires.1.1 f.3 c.eval_node-y.ensures)
+    (worth-sound T L (length L) c.left_of.result c.eval_node-x.result s.requires.1 (rw e f.2) c.eval_node-x.ensures, worth-sound T L (length L) (k - 1) c.eval_node-y.result s.requires.1 f.3 c.eval_node-y.ensures)
 
 pub returns : goal.returns
 returns t c =

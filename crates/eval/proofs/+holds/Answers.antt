@@ -13,9 +13,9 @@ eval_node-x-requires t c =
     let L = s.args.locals.now in
     let k = s.args.k in
     let is = c.kind_of-kind.ensures ∙ ap kind_of c.cell_at-cell.ensures in
-    let f = compare-parts T k c.kind_of-kind.result is (length L) c.if-kind-lt-BOTH.true s.requires.1.0 in
+    let f = compare-parts T k c.kind_of-kind.result is (length L) c.if-kind-lt-BOTH.true s.requires.0 in
     let e = c.left_of-i.ensures ∙ ap left_of c.cell_at-cell.ensures in
-    (rw e f.1, s.requires.1.1)
+    (rw e f.1, s.requires.1)
 
 pub overflow_sub-k : goal.overflow_sub-k
 overflow_sub-k t c =
@@ -24,7 +24,7 @@ overflow_sub-k t c =
     let L = s.args.locals.now in
     let k = s.args.k in
     let is = c.kind_of-kind.ensures ∙ ap kind_of c.cell_at-cell.ensures in
-    let f = compare-parts T k c.kind_of-kind.result is (length L) c.if-kind-lt-BOTH.true s.requires.1.0 in
+    let f = compare-parts T k c.kind_of-kind.result is (length L) c.if-kind-lt-BOTH.true s.requires.0 in
     f.0
 
 pub eval_node-y-requires : goal.eval_node-y-requires
@@ -34,8 +34,8 @@ eval_node-y-requires t c =
     let L = s.args.locals.now in
     let k = s.args.k in
     let is = c.kind_of-kind.ensures ∙ ap kind_of c.cell_at-cell.ensures in
-    let f = compare-parts T k c.kind_of-kind.result is (length L) c.if-kind-lt-BOTH.true s.requires.1.0 in
-    (f.2, s.requires.1.1)
+    let f = compare-parts T k c.kind_of-kind.result is (length L) c.if-kind-lt-BOTH.true s.requires.0 in
+    (f.2, s.requires.1)
 
 pub returns-then-kind-lt-BOTH : goal.returns-then-kind-lt-BOTH
 returns-then-kind-lt-BOTH t c =
@@ -54,9 +54,9 @@ holds-p-requires t c =
     let L = s.args.locals.now in
     let k = s.args.k in
     let is = c.kind_of-kind.ensures ∙ ap kind_of c.cell_at-cell.ensures in
-    let f = cond-parts T k c.kind_of-kind.result is c.if-kind-lt-BOTH.false (length L) s.requires.1.0 in
+    let f = cond-parts T k c.kind_of-kind.result is c.if-kind-lt-BOTH.false (length L) s.requires.0 in
     let e = c.left_of-i.ensures ∙ ap left_of c.cell_at-cell.ensures in
-    (rw (e, ← s.requires.0) f.1, (rw e f.2, s.requires.1.1))
+    (rw (e, ← s.decreases) f.1, (rw e f.2, s.requires.1))
 
 pub returns-then-decided : goal.returns-then-decided
 returns-then-decided t c =
@@ -75,7 +75,7 @@ overflow_sub-k-2 t c =
     let L = s.args.locals.now in
     let k = s.args.k in
     let is = c.kind_of-kind.ensures ∙ ap kind_of c.cell_at-cell.ensures in
-    let f = cond-parts T k c.kind_of-kind.result is c.if-kind-lt-BOTH.false (length L) s.requires.1.0 in
+    let f = cond-parts T k c.kind_of-kind.result is c.if-kind-lt-BOTH.false (length L) s.requires.0 in
     f.0
 
 pub holds-requires : goal.holds-requires
@@ -85,8 +85,8 @@ holds-requires t c =
     let L = s.args.locals.now in
     let k = s.args.k in
     let is = c.kind_of-kind.ensures ∙ ap kind_of c.cell_at-cell.ensures in
-    let f = cond-parts T k c.kind_of-kind.result is c.if-kind-lt-BOTH.false (length L) s.requires.1.0 in
-    (omega (arith, s.requires.0, f.0), (f.3, s.requires.1.1))
+    let f = cond-parts T k c.kind_of-kind.result is c.if-kind-lt-BOTH.false (length L) s.requires.0 in
+    (omega (arith, s.decreases, f.0), (f.3, s.requires.1))
 
 pub returns : goal.returns
 returns t c =

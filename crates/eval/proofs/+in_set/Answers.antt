@@ -15,7 +15,7 @@ eval_node-x-requires t c =
     let L = s.args.locals.now in
     let k = s.args.k in
     let is = c.kind_of-kind.ensures ∙ ap kind_of c.cell_at-cell.ensures in
-    (single-part T k c.kind_of-kind.result is (length L) c.if-kind-lt-RANGE.true s.requires.1.0, s.requires.1.1)
+    (single-part T k c.kind_of-kind.result is (length L) c.if-kind-lt-RANGE.true s.requires.0, s.requires.1)
 
 pub returns-then-kind-lt-RANGE : goal.returns-then-kind-lt-RANGE
 returns-then-kind-lt-RANGE t c =
@@ -34,9 +34,9 @@ eval_node-x-requires-then-kind-eq-RANGE t c =
     let L = s.args.locals.now in
     let k = s.args.k in
     let is = c.kind_of-kind.ensures ∙ ap kind_of c.cell_at-cell.ensures in
-    let f = range-parts T k c.kind_of-kind.result is (length L) c.if-kind-eq-RANGE.true s.requires.1.0 in
+    let f = range-parts T k c.kind_of-kind.result is (length L) c.if-kind-eq-RANGE.true s.requires.0 in
     let e = c.left_of-i.ensures ∙ ap left_of c.cell_at-cell.ensures in
-    (rw e f.1, s.requires.1.1)
+    (rw e f.1, s.requires.1)
 
 pub overflow_sub-k : goal.overflow_sub-k
 overflow_sub-k t c =
@@ -45,7 +45,7 @@ overflow_sub-k t c =
     let L = s.args.locals.now in
     let k = s.args.k in
     let is = c.kind_of-kind.ensures ∙ ap kind_of c.cell_at-cell.ensures in
-    let f = range-parts T k c.kind_of-kind.result is (length L) c.if-kind-eq-RANGE.true s.requires.1.0 in
+    let f = range-parts T k c.kind_of-kind.result is (length L) c.if-kind-eq-RANGE.true s.requires.0 in
     f.0
 
 pub eval_node-y-requires : goal.eval_node-y-requires
@@ -55,8 +55,8 @@ eval_node-y-requires t c =
     let L = s.args.locals.now in
     let k = s.args.k in
     let is = c.kind_of-kind.ensures ∙ ap kind_of c.cell_at-cell.ensures in
-    let f = range-parts T k c.kind_of-kind.result is (length L) c.if-kind-eq-RANGE.true s.requires.1.0 in
-    (f.2, s.requires.1.1)
+    let f = range-parts T k c.kind_of-kind.result is (length L) c.if-kind-eq-RANGE.true s.requires.0 in
+    (f.2, s.requires.1)
 
 pub returns-then-kind-eq-RANGE : goal.returns-then-kind-eq-RANGE
 returns-then-kind-eq-RANGE t c =
@@ -76,9 +76,9 @@ in_set-p-requires t c =
     let L = s.args.locals.now in
     let k = s.args.k in
     let is = c.kind_of-kind.ensures ∙ ap kind_of c.cell_at-cell.ensures in
-    let f = joined-parts T k c.kind_of-kind.result is c.if-kind-lt-RANGE.false c.if-kind-eq-RANGE.false (length L) s.requires.1.0 in
+    let f = joined-parts T k c.kind_of-kind.result is c.if-kind-lt-RANGE.false c.if-kind-eq-RANGE.false (length L) s.requires.0 in
     let e = c.left_of-i.ensures ∙ ap left_of c.cell_at-cell.ensures in
-    (rw (e, ← s.requires.0) f.1, (rw e f.2, s.requires.1.1))
+    (rw (e, ← s.decreases) f.1, (rw e f.2, s.requires.1))
 
 pub returns-then-settled : goal.returns-then-settled
 returns-then-settled t c =
@@ -98,7 +98,7 @@ overflow_sub-k-2 t c =
     let L = s.args.locals.now in
     let k = s.args.k in
     let is = c.kind_of-kind.ensures ∙ ap kind_of c.cell_at-cell.ensures in
-    let f = joined-parts T k c.kind_of-kind.result is c.if-kind-lt-RANGE.false c.if-kind-eq-RANGE.false (length L) s.requires.1.0 in
+    let f = joined-parts T k c.kind_of-kind.result is c.if-kind-lt-RANGE.false c.if-kind-eq-RANGE.false (length L) s.requires.0 in
     f.0
 
 pub in_set-q-requires : goal.in_set-q-requires
@@ -108,8 +108,8 @@ in_set-q-requires t c =
     let L = s.args.locals.now in
     let k = s.args.k in
     let is = c.kind_of-kind.ensures ∙ ap kind_of c.cell_at-cell.ensures in
-    let f = joined-parts T k c.kind_of-kind.result is c.if-kind-lt-RANGE.false c.if-kind-eq-RANGE.false (length L) s.requires.1.0 in
-    (omega (arith, s.requires.0, f.0), (f.3, s.requires.1.1))
+    let f = joined-parts T k c.kind_of-kind.result is c.if-kind-lt-RANGE.false c.if-kind-eq-RANGE.false (length L) s.requires.0 in
+    (omega (arith, s.decreases, f.0), (f.3, s.requires.1))
 
 pub returns-then-kind-eq-WITHOUT : goal.returns-then-kind-eq-WITHOUT
 returns-then-kind-eq-WITHOUT t c =

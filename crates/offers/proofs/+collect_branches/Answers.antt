@@ -11,8 +11,8 @@ use Rattle.offers.proofs.+collect_branches.Goals as goal
 pub collect_branch-requires : goal.collect_branch-requires
 collect_branch-requires t c =
     let T = c.args.nodes.now in let L = c.args.locals.now in let k = c.args.k in let kind = c.kind_of-kind.result in let is = c.kind_of-kind.ensures ∙ ap kind_of c.cell_at-cell.ensures in
-    let f = lone-part T k kind is c.if-kind-ne-CHOICE.true (length L) c.args.branch c.requires.1.0 in
-    (f.0, c.requires.1.1, c.requires.1.2, c.requires.1.3, omega (arith, c.requires.1.5, c.requires.1.4, f.1), c.requires.1.4, f.1)
+    let f = lone-part T k kind is c.if-kind-ne-CHOICE.true (length L) c.args.branch c.requires.0 in
+    (f.0, c.requires.1, c.requires.2, c.requires.3, omega (arith, c.requires.5, c.requires.4, f.1), c.requires.4, f.1)
 
 pub returns-then-kind-ne-CHOICE : goal.returns-then-kind-ne-CHOICE
 returns-then-kind-ne-CHOICE t c =
@@ -22,30 +22,30 @@ returns-then-kind-ne-CHOICE t c =
 pub collect_branch-first-requires : goal.collect_branch-first-requires
 collect_branch-first-requires t c =
     let T = c.args.nodes.now in let L = c.args.locals.now in let k = c.args.k in let kind = c.kind_of-kind.result in let is = c.kind_of-kind.ensures ∙ ap kind_of c.cell_at-cell.ensures in
-    let f = more_parts T k kind is c.if-kind-ne-CHOICE.false (length L) c.args.branch c.requires.1.0 in
+    let f = more_parts T k kind is c.if-kind-ne-CHOICE.false (length L) c.args.branch c.requires.0 in
     let e = c.left_of-left.ensures ∙ ap left_of c.cell_at-cell.ensures in
-    (rw e f.1, c.requires.1.1, c.requires.1.2, c.requires.1.3, omega (arith, c.requires.1.5, c.requires.1.4, f.3), c.requires.1.4, f.3)
+    (rw e f.1, c.requires.1, c.requires.2, c.requires.3, omega (arith, c.requires.5, c.requires.4, f.3), c.requires.4, f.3)
 
 pub overflow_add-branch : goal.overflow_add-branch
 overflow_add-branch t c =
     let T = c.args.nodes.now in let L = c.args.locals.now in let k = c.args.k in let kind = c.kind_of-kind.result in let is = c.kind_of-kind.ensures ∙ ap kind_of c.cell_at-cell.ensures in
-    let f = more_parts T k kind is c.if-kind-ne-CHOICE.false (length L) c.args.branch c.requires.1.0 in
+    let f = more_parts T k kind is c.if-kind-ne-CHOICE.false (length L) c.args.branch c.requires.0 in
     let l = f.3 in search rules
 
 pub overflow_sub-k : goal.overflow_sub-k
 overflow_sub-k t c =
     let T = c.args.nodes.now in let L = c.args.locals.now in let k = c.args.k in let kind = c.kind_of-kind.result in let is = c.kind_of-kind.ensures ∙ ap kind_of c.cell_at-cell.ensures in
-    let f = more_parts T k kind is c.if-kind-ne-CHOICE.false (length L) c.args.branch c.requires.1.0 in
+    let f = more_parts T k kind is c.if-kind-ne-CHOICE.false (length L) c.args.branch c.requires.0 in
     f.0
 
 pub collect_branches-requires : goal.collect_branches-requires
 collect_branches-requires t c =
     let T = c.args.nodes.now in let L = c.args.locals.now in let k = c.args.k in let kind = c.kind_of-kind.result in let is = c.kind_of-kind.ensures ∙ ap kind_of c.cell_at-cell.ensures in
-    let f = more_parts T k kind is c.if-kind-ne-CHOICE.false (length L) c.args.branch c.requires.1.0 in
+    let f = more_parts T k kind is c.if-kind-ne-CHOICE.false (length L) c.args.branch c.requires.0 in
     let e = c.left_of-left.ensures ∙ ap left_of c.cell_at-cell.ensures in
     let o = one-row T L c.args.place c.args.branch c.args.row c.args.heads.now c.args.numbers.now (rw (e, c.in-Rows.is) at c.collect_branch-first.ensures f.1.1.part f.1.1.at) in
     let q = one-room T L c.args.place c.args.branch c.args.row c.args.heads.now c.args.numbers.now (rw (e, c.in-Rows.is) at c.collect_branch-first.ensures f.1.1.part f.1.1.at) in
-    (omega (arith, c.requires.0, f.0), (f.2, c.requires.1.1, q, search rules, c.requires.1.4, omega (arith, c.requires.1.5, o)))
+    (omega (arith, c.decreases, f.0), (f.2, c.requires.1, q, search rules, c.requires.4, omega (arith, c.requires.5, o)))
 
 pub returns-in-Rows : goal.returns-in-Rows
 returns-in-Rows t c =

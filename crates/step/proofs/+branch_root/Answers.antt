@@ -29,7 +29,7 @@ overflow_sub-k t c =
     let T = s.args.nodes.now in
     let k = s.args.k in
     let is = c.kind_of.ensures ∙ ap kind_of c.cell_at-cell.ensures in
-    (later-chain' T k c.kind_of.result is c.if-kind_of-ne-CHOICE.false s.args.j c.if-j-eq0.false s.requires.1).0
+    (later-chain' T k c.kind_of.result is c.if-kind_of-ne-CHOICE.false s.args.j c.if-j-eq0.false s.requires).0
 
 pub overflow_sub-j : goal.overflow_sub-j
 overflow_sub-j t c = omega (arith, c.if-j-eq0.false)
@@ -40,8 +40,8 @@ branch_root-requires t c =
     let T = s.args.nodes.now in
     let k = s.args.k in
     let is = c.kind_of.ensures ∙ ap kind_of c.cell_at-cell.ensures in
-    let f = later-chain' T k c.kind_of.result is c.if-kind_of-ne-CHOICE.false s.args.j c.if-j-eq0.false s.requires.1 in
-    (omega (arith, s.requires.0, f.0), f.1)
+    let f = later-chain' T k c.kind_of.result is c.if-kind_of-ne-CHOICE.false s.args.j c.if-j-eq0.false s.requires in
+    (omega (arith, s.decreases, f.0), f.1)
 
 pub returns : goal.returns
 returns t c =

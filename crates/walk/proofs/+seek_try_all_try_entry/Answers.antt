@@ -27,27 +27,27 @@ try-all-μ-loop nodes roots scopes root variables text places sizes name states�
 
 pub seek-slice_bounds-list_here-end : goal.seek-slice_bounds-list_here-end
 seek-slice_bounds-list_here-end t c =
-    let p = c.requires.1.1.states in let q = c.requires.1.1.listings in let r = c.requires.1.1.entries in omega arith
+    let p = c.requires.1.states in let q = c.requires.1.listings in let r = c.requires.1.entries in omega arith
 
 pub seek-slice_bounds-list_here-end-2 : goal.seek-slice_bounds-list_here-end-2
 seek-slice_bounds-list_here-end-2 t c =
-    let p = c.requires.1.1.states in let q = c.requires.1.1.listings in let r = c.requires.1.1.entries in simp length-take (omega arith)
+    let p = c.requires.1.states in let q = c.requires.1.listings in let r = c.requires.1.entries in simp length-take (omega arith)
 
 pub seek-slice_bounds-list_here-end-3 : goal.seek-slice_bounds-list_here-end-3
 seek-slice_bounds-list_here-end-3 t c =
-    let p = c.requires.1.1.states in let q = c.requires.1.1.listings in let r = c.requires.1.1.entries in omega arith
+    let p = c.requires.1.states in let q = c.requires.1.listings in let r = c.requires.1.entries in omega arith
 
 pub seek-slice_bounds-list_here-end-4 : goal.seek-slice_bounds-list_here-end-4
 seek-slice_bounds-list_here-end-4 t c =
-    let p = c.requires.1.1.states in let q = c.requires.1.1.listings in let r = c.requires.1.1.entries in simp length-take (omega arith)
+    let p = c.requires.1.states in let q = c.requires.1.listings in let r = c.requires.1.entries in simp length-take (omega arith)
 
 pub seek-list_here-listed-requires : goal.seek-list_here-listed-requires
 seek-list_here-listed-requires t c =
-    let p = c.requires.1.1.states in let q = c.requires.1.1.listings in let r = c.requires.1.1.entries in ((c.requires.1.0.0, c.requires.1.0.1, world-of c.requires.1.0.2 c.requires.1.0.3), simp length-take (omega arith))
+    let p = c.requires.1.states in let q = c.requires.1.listings in let r = c.requires.1.entries in ((c.requires.0.0, c.requires.0.1, world-of c.requires.0.2 c.requires.0.3), simp length-take (omega arith))
 
 pub seek-try_all-requires : goal.seek-try_all-requires
 seek-try_all-requires t c =
-    let p = c.requires.1.1.states in let q = c.requires.1.1.listings in let r = c.requires.1.1.entries in let f = seek-filled c.requires.1.0.0 c.requires.1.0.1 _ _ _ _ (c.list_here-listed.ensures c.requires.1.0.0 c.requires.1.0.1 (world-of c.requires.1.0.2 c.requires.1.0.3)) c.in-Filled.is in (omega arith, ((c.requires.1.0.0, c.requires.1.0.1, f.entries, c.requires.1.0.2, c.requires.1.0.3, lists_filled c.args.listings.now f, f.count-is), room-kept refl (filled-size c.args.listings.now f (omega arith)) refl c.requires.1.1))
+    let p = c.requires.1.states in let q = c.requires.1.listings in let r = c.requires.1.entries in let f = seek-filled c.requires.0.0 c.requires.0.1 _ _ _ _ (c.list_here-listed.ensures c.requires.0.0 c.requires.0.1 (world-of c.requires.0.2 c.requires.0.3)) c.in-Filled.is in (omega arith, ((c.requires.0.0, c.requires.0.1, f.entries, c.requires.0.2, c.requires.0.3, lists_filled c.args.listings.now f, f.count-is), room-kept refl (filled-size c.args.listings.now f (omega arith)) refl c.requires.1))
 
 pub seek-returns-in-Refused : goal.seek-returns-in-Refused
 seek-returns-in-Refused t c =
@@ -67,8 +67,8 @@ try_all-loop-e-init t c =
 
 pub try_all-try_entry-tried-requires : goal.try_all-try_entry-tried-requires
 try_all-try_entry-tried-requires t c =
-    let a = c.requires.1.0.6 in
-    (omega arith, ((c.requires.1.0.0, c.requires.1.0.1, c.requires.1.0.2, c.requires.1.0.3, stands-kept c.loop-e.invariant.0 c.requires.1.0.4, lists-kept c.loop-e.invariant.1 c.requires.1.0.5, omega arith), room-kept c.loop-e.invariant.2 c.loop-e.invariant.3 c.loop-e.invariant.4 c.requires.1.1))
+    let a = c.requires.0.6 in
+    (omega arith, ((c.requires.0.0, c.requires.0.1, c.requires.0.2, c.requires.0.3, stands-kept c.loop-e.invariant.0 c.requires.0.4, lists-kept c.loop-e.invariant.1 c.requires.0.5, omega arith), room-kept c.loop-e.invariant.2 c.loop-e.invariant.3 c.loop-e.invariant.4 c.requires.1))
 
 pub try_all-returns-in-Found : goal.try_all-returns-in-Found
 try_all-returns-in-Found t c = (
@@ -102,81 +102,81 @@ try_all-returns t c = (
 
 pub try_entry-slice_bounds-take_at-end : goal.try_entry-slice_bounds-take_at-end
 try_entry-slice_bounds-take_at-end t c =
-    let p = c.requires.1.1.states in let q = c.requires.1.1.listings in let r = c.requires.1.1.entries in omega arith
+    let p = c.requires.1.states in let q = c.requires.1.listings in let r = c.requires.1.entries in omega arith
 
 pub try_entry-slice_bounds-take_at-end-2 : goal.try_entry-slice_bounds-take_at-end-2
 try_entry-slice_bounds-take_at-end-2 t c =
-    let p = c.requires.1.1.states in let q = c.requires.1.1.listings in let r = c.requires.1.1.entries in simp length-take (omega arith)
+    let p = c.requires.1.states in let q = c.requires.1.listings in let r = c.requires.1.entries in simp length-take (omega arith)
 
 pub try_entry-take_at-taken-requires : goal.try_entry-take_at-taken-requires
 try_entry-take_at-taken-requires t c =
-    let p = c.requires.1.1.states in let q = c.requires.1.1.listings in let r = c.requires.1.1.entries in ((c.requires.1.0.0, c.requires.1.0.1, c.requires.1.0.2, c.requires.1.0.3, c.requires.1.0.4, lists-first c.requires.1.0.5, c.requires.1.0.6), omega arith, simp length-take (omega arith))
+    let p = c.requires.1.states in let q = c.requires.1.listings in let r = c.requires.1.entries in ((c.requires.0.0, c.requires.0.1, c.requires.0.2, c.requires.0.3, c.requires.0.4, lists-first c.requires.0.5, c.requires.0.6), omega arith, simp length-take (omega arith))
 
 pub try_entry-overflow_cast-run : goal.try_entry-overflow_cast-run
 try_entry-overflow_cast-run t c =
-    let a = few-entries c.requires.1.0.5 in let b = c.requires.1.0.6 in omega arith
+    let a = few-entries c.requires.0.5 in let b = c.requires.0.6 in omega arith
 
 pub try_entry-bounds-run-0 : goal.try_entry-bounds-run-0
 try_entry-bounds-run-0 t c =
-    let p = c.requires.1.1.states in let q = c.requires.1.1.listings in let r = c.requires.1.1.entries in omega arith
+    let p = c.requires.1.states in let q = c.requires.1.listings in let r = c.requires.1.entries in omega arith
 
 pub try_entry-returns-then-wait : goal.try_entry-returns-then-wait
 try_entry-returns-then-wait t c =
-    (λ m s es h st l i. let t = c.take_at-taken.ensures m s es h st (lists-first l) i in let o : c.args.more ≡ 0 = omega arith in let p = c.requires.1.1.states in let q = c.requires.1.1.listings in let r = c.requires.1.1.entries in entry-wait c.args.more c.args.run.now t _ c.in-Leads.is o c.if-wait.true (omega arith), (c.take_at-taken.ensures c.requires.1.0.0 c.requires.1.0.1 c.requires.1.0.2 c.requires.1.0.3 c.requires.1.0.4 (lists-first c.requires.1.0.5) c.requires.1.0.6).first, refl)
+    (λ m s es h st l i. let t = c.take_at-taken.ensures m s es h st (lists-first l) i in let o : c.args.more ≡ 0 = omega arith in let p = c.requires.1.states in let q = c.requires.1.listings in let r = c.requires.1.entries in entry-wait c.args.more c.args.run.now t _ c.in-Leads.is o c.if-wait.true (omega arith), (c.take_at-taken.ensures c.requires.0.0 c.requires.0.1 c.requires.0.2 c.requires.0.3 c.requires.0.4 (lists-first c.requires.0.5) c.requires.0.6).first, refl)
 
 pub try_entry-returns-then-more-eq0 : goal.try_entry-returns-then-more-eq0
 try_entry-returns-then-more-eq0 t c =
-    (λ m s es h st l i. let t = c.take_at-taken.ensures m s es h st (lists-first l) i in let o : c.args.more ≡ 0 = omega arith in entry_other c.args.more c.args.run.now t _ c.in-Leads.is o c.if-wait.false, (c.take_at-taken.ensures c.requires.1.0.0 c.requires.1.0.1 c.requires.1.0.2 c.requires.1.0.3 c.requires.1.0.4 (lists-first c.requires.1.0.5) c.requires.1.0.6).first, refl)
+    (λ m s es h st l i. let t = c.take_at-taken.ensures m s es h st (lists-first l) i in let o : c.args.more ≡ 0 = omega arith in entry_other c.args.more c.args.run.now t _ c.in-Leads.is o c.if-wait.false, (c.take_at-taken.ensures c.requires.0.0 c.requires.0.1 c.requires.0.2 c.requires.0.3 c.requires.0.4 (lists-first c.requires.0.5) c.requires.0.6).first, refl)
 
 pub try_entry-slice_bounds-seek-count : goal.try_entry-slice_bounds-seek-count
 try_entry-slice_bounds-seek-count t c =
-    let p = c.requires.1.1.states in let q = c.requires.1.1.listings in let r = c.requires.1.1.entries in let g = c.states-1.given in omega arith
+    let p = c.requires.1.states in let q = c.requires.1.listings in let r = c.requires.1.entries in let g = c.states-1.given in omega arith
 
 pub try_entry-slice_bounds-seek-start : goal.try_entry-slice_bounds-seek-start
 try_entry-slice_bounds-seek-start t c =
-    let p = c.requires.1.1.states in let q = c.requires.1.1.listings in let r = c.requires.1.1.entries in let g = c.states-1.given in omega arith
+    let p = c.requires.1.states in let q = c.requires.1.listings in let r = c.requires.1.entries in let g = c.states-1.given in omega arith
 
 pub try_entry-slice_bounds-seek-end : goal.try_entry-slice_bounds-seek-end
 try_entry-slice_bounds-seek-end t c =
-    let p = c.requires.1.1.states in let q = c.requires.1.1.listings in let r = c.requires.1.1.entries in let g = c.states-1.given in omega arith
+    let p = c.requires.1.states in let q = c.requires.1.listings in let r = c.requires.1.entries in let g = c.states-1.given in omega arith
 
 pub try_entry-slice_bounds-seek-count-in-Leads : goal.try_entry-slice_bounds-seek-count-in-Leads
 try_entry-slice_bounds-seek-count-in-Leads t c =
-    let p = c.requires.1.1.states in let q = c.requires.1.1.listings in let r = c.requires.1.1.entries in let g = c.states-1.given in omega arith
+    let p = c.requires.1.states in let q = c.requires.1.listings in let r = c.requires.1.entries in let g = c.states-1.given in omega arith
 
 pub try_entry-slice_bounds-seek-start-in-Leads : goal.try_entry-slice_bounds-seek-start-in-Leads
 try_entry-slice_bounds-seek-start-in-Leads t c =
-    let p = c.requires.1.1.states in let q = c.requires.1.1.listings in let r = c.requires.1.1.entries in let g = c.states-1.given in omega arith
+    let p = c.requires.1.states in let q = c.requires.1.listings in let r = c.requires.1.entries in let g = c.states-1.given in omega arith
 
 pub try_entry-slice_bounds-seek-end-in-Leads : goal.try_entry-slice_bounds-seek-end-in-Leads
 try_entry-slice_bounds-seek-end-in-Leads t c =
-    let p = c.requires.1.1.states in let q = c.requires.1.1.listings in let r = c.requires.1.1.entries in let g = c.states-1.given in omega arith
+    let p = c.requires.1.states in let q = c.requires.1.listings in let r = c.requires.1.entries in let g = c.states-1.given in omega arith
 
 pub try_entry-slice_bounds-seek-count-in-Leads-2 : goal.try_entry-slice_bounds-seek-count-in-Leads-2
 try_entry-slice_bounds-seek-count-in-Leads-2 t c =
-    let p = c.requires.1.1.states in let q = c.requires.1.1.listings in let r = c.requires.1.1.entries in simp length-set (omega arith)
+    let p = c.requires.1.states in let q = c.requires.1.listings in let r = c.requires.1.entries in simp length-set (omega arith)
 
 pub try_entry-slice_bounds-seek-start-in-Leads-2 : goal.try_entry-slice_bounds-seek-start-in-Leads-2
 try_entry-slice_bounds-seek-start-in-Leads-2 t c =
-    let p = c.requires.1.1.states in let q = c.requires.1.1.listings in let r = c.requires.1.1.entries in simp length-set (omega arith)
+    let p = c.requires.1.states in let q = c.requires.1.listings in let r = c.requires.1.entries in simp length-set (omega arith)
 
 pub try_entry-slice_bounds-seek-end-in-Leads-2 : goal.try_entry-slice_bounds-seek-end-in-Leads-2
 try_entry-slice_bounds-seek-end-in-Leads-2 t c =
-    let p = c.requires.1.1.states in let q = c.requires.1.1.listings in let r = c.requires.1.1.entries in simp length-set (omega arith)
+    let p = c.requires.1.states in let q = c.requires.1.listings in let r = c.requires.1.entries in simp length-set (omega arith)
 
 pub try_entry-seek-requires : goal.try_entry-seek-requires
 try_entry-seek-requires t c =
-    let p = c.requires.1.1.states in let q = c.requires.1.1.listings in let r = c.requires.1.1.entries in let t = c.take_at-taken.ensures c.requires.1.0.0 c.requires.1.0.1 c.requires.1.0.2 c.requires.1.0.3 c.requires.1.0.4 (lists-first c.requires.1.0.5) c.requires.1.0.6 in
+    let p = c.requires.1.states in let q = c.requires.1.listings in let r = c.requires.1.entries in let t = c.take_at-taken.ensures c.requires.0.0 c.requires.0.1 c.requires.0.2 c.requires.0.3 c.requires.0.4 (lists-first c.requires.0.5) c.requires.0.6 in
     let o : 1 ≤ c.args.more = omega arith in
-    (omega arith, ((c.requires.1.0.0, t.after, c.requires.1.0.3, stands-tail t _ c.in-Leads.is), room-tail c.args.more c.args.states.now c.args.listings.now c.args.run.now c.take_at-taken.new.1.1.1.1.1.1.1.1.1.0 (set c.args.run.now 0 c.args.e) (let g = c.states-1.given in omega arith) (simp length-set) o c.requires.1.1))
+    (omega arith, ((c.requires.0.0, t.after, c.requires.0.3, stands-tail t _ c.in-Leads.is), room-tail c.args.more c.args.states.now c.args.listings.now c.args.run.now c.take_at-taken.new.1.1.1.1.1.1.1.1.1.0 (set c.args.run.now 0 c.args.e) (let g = c.states-1.given in omega arith) (simp length-set) o c.requires.1))
 
 pub try_entry-returns-in-Idle : goal.try_entry-returns-in-Idle
 try_entry-returns-in-Idle t c =
-    (λ m s es h st l i. let t = c.take_at-taken.ensures m s es h st (lists-first l) i in entry-idle c.args.more c.args.run.now t c.in-Idle.is, (c.take_at-taken.ensures c.requires.1.0.0 c.requires.1.0.1 c.requires.1.0.2 c.requires.1.0.3 c.requires.1.0.4 (lists-first c.requires.1.0.5) c.requires.1.0.6).first, refl)
+    (λ m s es h st l i. let t = c.take_at-taken.ensures m s es h st (lists-first l) i in entry-idle c.args.more c.args.run.now t c.in-Idle.is, (c.take_at-taken.ensures c.requires.0.0 c.requires.0.1 c.requires.0.2 c.requires.0.3 c.requires.0.4 (lists-first c.requires.0.5) c.requires.0.6).first, refl)
 
 pub try_entry-returns-in-Refused : goal.try_entry-returns-in-Refused
 try_entry-returns-in-Refused t c =
-    (λ m s es h st l i. let t = c.take_at-taken.ensures m s es h st (lists-first l) i in entry-refused c.args.more c.args.run.now t c.in-Refused.is, (c.take_at-taken.ensures c.requires.1.0.0 c.requires.1.0.1 c.requires.1.0.2 c.requires.1.0.3 c.requires.1.0.4 (lists-first c.requires.1.0.5) c.requires.1.0.6).first, refl)
+    (λ m s es h st l i. let t = c.take_at-taken.ensures m s es h st (lists-first l) i in entry-refused c.args.more c.args.run.now t c.in-Refused.is, (c.take_at-taken.ensures c.requires.0.0 c.requires.0.1 c.requires.0.2 c.requires.0.3 c.requires.0.4 (lists-first c.requires.0.5) c.requires.0.6).first, refl)
 
 pub try_entry-shape_of-states-else-more-eq0 : goal.try_entry-shape_of-states-else-more-eq0
 try_entry-shape_of-states-else-more-eq0 t c =
@@ -188,8 +188,8 @@ try_entry-shape_of-run t c =
 
 pub try_entry-returns-else-more-eq0 : goal.try_entry-returns-else-more-eq0
 try_entry-returns-else-more-eq0 t c = (
-  λ m s es h st l i. let t = c.take_at-taken.ensures m s es h st (lists-first l) i in let p = c.requires.1.1.states in let q = c.requires.1.1.listings in let r = c.requires.1.1.entries in let o : 1 ≤ c.args.more = omega arith in
+  λ m s es h st l i. let t = c.take_at-taken.ensures m s es h st (lists-first l) i in let p = c.requires.1.states in let q = c.requires.1.listings in let r = c.requires.1.entries in let o : 1 ≤ c.args.more = omega arith in
       entry_more c.args.more c.args.run.now t _ c.in-Leads.is _ _ o (omega arith) (c.seek.ensures.0 m t.after h (stands-tail t _ c.in-Leads.is)),
-  before-part state_length (length c.take_at-taken.new.1.1.1.1.1.1.1.1.1.0 - state_length) c.take_at-taken.new.1.1.1.1.1.1.1.1.1.0 c.seek.new.1.1.1.1.1.1.1.1.1.0 (let p = c.requires.1.1.states in let g = c.states-1.given in omega arith) ∙ (c.take_at-taken.ensures c.requires.1.0.0 c.requires.1.0.1 c.requires.1.0.2 c.requires.1.0.3 c.requires.1.0.4 (lists-first c.requires.1.0.5) c.requires.1.0.6).first,
-  before-part listing_length (length c.args.listings.now - listing_length) c.args.listings.now c.seek.new.1.1.1.1.1.1.1.1.1.1.0 (let p = c.requires.1.1.listings in omega arith),
+  before-part state_length (length c.take_at-taken.new.1.1.1.1.1.1.1.1.1.0 - state_length) c.take_at-taken.new.1.1.1.1.1.1.1.1.1.0 c.seek.new.1.1.1.1.1.1.1.1.1.0 (let p = c.requires.1.states in let g = c.states-1.given in omega arith) ∙ (c.take_at-taken.ensures c.requires.0.0 c.requires.0.1 c.requires.0.2 c.requires.0.3 c.requires.0.4 (lists-first c.requires.0.5) c.requires.0.6).first,
+  before-part listing_length (length c.args.listings.now - listing_length) c.args.listings.now c.seek.new.1.1.1.1.1.1.1.1.1.1.0 (let p = c.requires.1.listings in omega arith),
 )

@@ -13,7 +13,7 @@ overflow_sub-k t c =
     let L = s.args.locals.now in
     let k = s.args.k in
     let is = c.kind_of-kind.ensures ∙ ap kind_of c.cell_at-cell.ensures in
-    (group-held T k c.kind_of-kind.result is c.if-kind-eq-GROUP.true s.requires.1.0.0 (length L) s.requires.1.0.1).0
+    (group-held T k c.kind_of-kind.result is c.if-kind-eq-GROUP.true s.requires.0.0 (length L) s.requires.0.1).0
 
 pub arguments_given-requires : goal.arguments_given-requires
 arguments_given-requires t c =
@@ -22,8 +22,8 @@ arguments_given-requires t c =
     let L = s.args.locals.now in
     let k = s.args.k in
     let is = c.kind_of-kind.ensures ∙ ap kind_of c.cell_at-cell.ensures in
-    let f = group-held T k c.kind_of-kind.result is c.if-kind-eq-GROUP.true s.requires.1.0.0 (length L) s.requires.1.0.1 in
-    (omega (arith, s.requires.0, f.0), ((s.requires.1.0.0, f.1), s.requires.1.1))
+    let f = group-held T k c.kind_of-kind.result is c.if-kind-eq-GROUP.true s.requires.0.0 (length L) s.requires.0.1 in
+    (omega (arith, s.decreases, f.0), ((s.requires.0.0, f.1), s.requires.1))
 
 pub returns-then-kind-eq-GROUP : goal.returns-then-kind-eq-GROUP
 returns-then-kind-eq-GROUP t c =
@@ -42,8 +42,8 @@ arguments_given-requires-then-kind-eq-ITEM t c =
     let k = s.args.k in
     let is = c.kind_of-kind.ensures ∙ ap kind_of c.cell_at-cell.ensures in
     let e = c.left_of.ensures ∙ ap left_of c.cell_at-cell.ensures in
-    let f = item-held T k c.kind_of-kind.result is c.if-kind-eq-ITEM.true s.requires.1.0.0 (length L) s.requires.1.0.1 in
-    (rw (e, ← s.requires.0) f.1, ((s.requires.1.0.0, rw e f.2), s.requires.1.1))
+    let f = item-held T k c.kind_of-kind.result is c.if-kind-eq-ITEM.true s.requires.0.0 (length L) s.requires.0.1 in
+    (rw (e, ← s.decreases) f.1, ((s.requires.0.0, rw e f.2), s.requires.1))
 
 pub overflow_sub-k-then-arguments_given : goal.overflow_sub-k-then-arguments_given
 overflow_sub-k-then-arguments_given t c =
@@ -52,7 +52,7 @@ overflow_sub-k-then-arguments_given t c =
     let L = s.args.locals.now in
     let k = s.args.k in
     let is = c.kind_of-kind.ensures ∙ ap kind_of c.cell_at-cell.ensures in
-    (item-held T k c.kind_of-kind.result is c.if-kind-eq-ITEM.true s.requires.1.0.0 (length L) s.requires.1.0.1).0
+    (item-held T k c.kind_of-kind.result is c.if-kind-eq-ITEM.true s.requires.0.0 (length L) s.requires.0.1).0
 
 pub arguments_given-requires-then-arguments_given : goal.arguments_given-requires-then-arguments_given
 arguments_given-requires-then-arguments_given t c =
@@ -61,8 +61,8 @@ arguments_given-requires-then-arguments_given t c =
     let L = s.args.locals.now in
     let k = s.args.k in
     let is = c.kind_of-kind.ensures ∙ ap kind_of c.cell_at-cell.ensures in
-    let f = item-held T k c.kind_of-kind.result is c.if-kind-eq-ITEM.true s.requires.1.0.0 (length L) s.requires.1.0.1 in
-    (omega (arith, s.requires.0, f.0), ((s.requires.1.0.0, f.3), s.requires.1.1))
+    let f = item-held T k c.kind_of-kind.result is c.if-kind-eq-ITEM.true s.requires.0.0 (length L) s.requires.0.1 in
+    (omega (arith, s.decreases, f.0), ((s.requires.0.0, f.3), s.requires.1))
 
 pub returns-then-arguments_given : goal.returns-then-arguments_given
 returns-then-arguments_given t c =
@@ -91,7 +91,7 @@ overflow_sub-k-then-kind-eq-CALL_WITH t c =
     let L = s.args.locals.now in
     let k = s.args.k in
     let is = c.kind_of-kind.ensures ∙ ap kind_of c.cell_at-cell.ensures in
-    (call-held T k c.kind_of-kind.result is c.if-kind-eq-CALL_WITH.true s.requires.1.0.0 (length L) s.requires.1.0.1).0
+    (call-held T k c.kind_of-kind.result is c.if-kind-eq-CALL_WITH.true s.requires.0.0 (length L) s.requires.0.1).0
 
 pub arguments_known-requires : goal.arguments_known-requires
 arguments_known-requires t c =
@@ -100,8 +100,8 @@ arguments_known-requires t c =
     let L = s.args.locals.now in
     let k = s.args.k in
     let is = c.kind_of-kind.ensures ∙ ap kind_of c.cell_at-cell.ensures in
-    let f = call-held T k c.kind_of-kind.result is c.if-kind-eq-CALL_WITH.true s.requires.1.0.0 (length L) s.requires.1.0.1 in
-    (f.1, s.requires.1.1)
+    let f = call-held T k c.kind_of-kind.result is c.if-kind-eq-CALL_WITH.true s.requires.0.0 (length L) s.requires.0.1 in
+    (f.1, s.requires.1)
 
 pub returns-then-kind-eq-CALL_WITH : goal.returns-then-kind-eq-CALL_WITH
 returns-then-kind-eq-CALL_WITH t c =

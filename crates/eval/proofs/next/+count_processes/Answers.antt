@@ -14,7 +14,7 @@ overflow_sub-k t c =
     let N = s.args.variables in
     let k = s.args.k in
     let is = c.kind_of-kind.ensures ∙ ap kind_of c.cell_at-cell.ensures in
-    (group-some T R N k c.kind_of-kind.result is c.if-kind-eq-GROUP.true s.requires.1).0
+    (group-some T R N k c.kind_of-kind.result is c.if-kind-eq-GROUP.true s.requires).0
 
 pub count_processes-requires : goal.count_processes-requires
 count_processes-requires t c =
@@ -24,8 +24,8 @@ count_processes-requires t c =
     let N = s.args.variables in
     let k = s.args.k in
     let is = c.kind_of-kind.ensures ∙ ap kind_of c.cell_at-cell.ensures in
-    let f = group-some T R N k c.kind_of-kind.result is c.if-kind-eq-GROUP.true s.requires.1 in
-    (omega (arith, s.requires.0, f.0), f.1)
+    let f = group-some T R N k c.kind_of-kind.result is c.if-kind-eq-GROUP.true s.requires in
+    (omega (arith, s.decreases, f.0), f.1)
 
 pub returns-then-kind-eq-GROUP : goal.returns-then-kind-eq-GROUP
 returns-then-kind-eq-GROUP t c =
@@ -46,8 +46,8 @@ count_processes-a-requires t c =
     let k = s.args.k in
     let is = c.kind_of-kind.ensures ∙ ap kind_of c.cell_at-cell.ensures in
     let e = c.left_of.ensures ∙ ap left_of c.cell_at-cell.ensures in
-    let f = items-some T R N k c.kind_of-kind.result is c.if-kind-eq-ITEM.true s.requires.1 in
-    (rw (e, ← s.requires.0) f.1, rw e f.2)
+    let f = items-some T R N k c.kind_of-kind.result is c.if-kind-eq-ITEM.true s.requires in
+    (rw (e, ← s.decreases) f.1, rw e f.2)
 
 pub overflow_sub-k-then-kind-eq-ITEM : goal.overflow_sub-k-then-kind-eq-ITEM
 overflow_sub-k-then-kind-eq-ITEM t c =
@@ -57,7 +57,7 @@ overflow_sub-k-then-kind-eq-ITEM t c =
     let N = s.args.variables in
     let k = s.args.k in
     let is = c.kind_of-kind.ensures ∙ ap kind_of c.cell_at-cell.ensures in
-    (items-some T R N k c.kind_of-kind.result is c.if-kind-eq-ITEM.true s.requires.1).0
+    (items-some T R N k c.kind_of-kind.result is c.if-kind-eq-ITEM.true s.requires).0
 
 pub count_processes-b-requires : goal.count_processes-b-requires
 count_processes-b-requires t c =
@@ -67,8 +67,8 @@ count_processes-b-requires t c =
     let N = s.args.variables in
     let k = s.args.k in
     let is = c.kind_of-kind.ensures ∙ ap kind_of c.cell_at-cell.ensures in
-    let f = items-some T R N k c.kind_of-kind.result is c.if-kind-eq-ITEM.true s.requires.1 in
-    (omega (arith, s.requires.0, f.0), f.3)
+    let f = items-some T R N k c.kind_of-kind.result is c.if-kind-eq-ITEM.true s.requires in
+    (omega (arith, s.decreases, f.0), f.3)
 
 pub overflow_add-a : goal.overflow_add-a
 overflow_add-a t c =
@@ -79,7 +79,7 @@ overflow_add-a t c =
     let k = s.args.k in
     let is = c.kind_of-kind.ensures ∙ ap kind_of c.cell_at-cell.ensures in
     let e = c.left_of.ensures ∙ ap left_of c.cell_at-cell.ensures in
-    let f = items-some T R N k c.kind_of-kind.result is c.if-kind-eq-ITEM.true s.requires.1 in
+    let f = items-some T R N k c.kind_of-kind.result is c.if-kind-eq-ITEM.true s.requires in
     let p = counts-most T R N (left_of (get_or T k 0)) c.count_processes-a.result f.2 (rw e at c.count_processes-a.ensures) in
     let q = counts-most T R N (k - 1) c.count_processes-b.result f.3 c.count_processes-b.ensures in
     omega arith
@@ -114,7 +114,7 @@ body_of-requires t c =
     let k = s.args.k in
     let is = c.kind_of-kind.ensures ∙ ap kind_of c.cell_at-cell.ensures in
     let o = c.token_of.ensures ∙ ap token_of c.cell_at-cell.ensures in
-    let b = some-body T R N k c.kind_of-kind.result is c.if-kind-eq-GROUP.false c.if-kind-eq-ITEM.false c.if-kind-eq-SUM.false s.requires.1 in
+    let b = some-body T R N k c.kind_of-kind.result is c.if-kind-eq-GROUP.false c.if-kind-eq-ITEM.false c.if-kind-eq-SUM.false s.requires in
     rw o b.above
 
 pub count_sums-requires : goal.count_sums-requires
@@ -126,7 +126,7 @@ count_sums-requires t c =
     let k = s.args.k in
     let is = c.kind_of-kind.ensures ∙ ap kind_of c.cell_at-cell.ensures in
     let o = c.token_of.ensures ∙ ap token_of c.cell_at-cell.ensures in
-    let b = some-body T R N k c.kind_of-kind.result is c.if-kind-eq-GROUP.false c.if-kind-eq-ITEM.false c.if-kind-eq-SUM.false s.requires.1 in
+    let b = some-body T R N k c.kind_of-kind.result is c.if-kind-eq-GROUP.false c.if-kind-eq-ITEM.false c.if-kind-eq-SUM.false s.requires in
     (b.definition.sums, rw (c.body_of.ensures, o) b.sums)
 
 pub returns : goal.returns

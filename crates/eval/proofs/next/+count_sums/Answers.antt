@@ -20,7 +20,7 @@ overflow_sub-k t c =
     let T = s.args.nodes.now in
     let k = s.args.k in
     let is = c.kind_of.ensures ∙ ap kind_of c.cell_at.ensures in
-    (beside-sums T k c.kind_of.result is c.if-kind_of-ne-BESIDE.false s.requires.1.0 s.requires.1.1).0
+    (beside-sums T k c.kind_of.result is c.if-kind_of-ne-BESIDE.false s.requires.0 s.requires.1).0
 
 pub count_sums-requires : goal.count_sums-requires
 count_sums-requires t c =
@@ -28,8 +28,8 @@ count_sums-requires t c =
     let T = s.args.nodes.now in
     let k = s.args.k in
     let is = c.kind_of.ensures ∙ ap kind_of c.cell_at.ensures in
-    let f = beside-sums T k c.kind_of.result is c.if-kind_of-ne-BESIDE.false s.requires.1.0 s.requires.1.1 in
-    (omega (arith, s.requires.0, f.0), f.1)
+    let f = beside-sums T k c.kind_of.result is c.if-kind_of-ne-BESIDE.false s.requires.0 s.requires.1 in
+    (omega (arith, s.decreases, f.0), f.1)
 
 pub overflow_add-result : goal.overflow_add-result
 overflow_add-result t c =
@@ -46,5 +46,5 @@ returns t c =
     let T = s.args.nodes.now in
     let k = s.args.k in
     let is = c.kind_of.ensures ∙ ap kind_of c.cell_at.ensures in
-    let f = beside-sums T k c.kind_of.result is c.if-kind_of-ne-BESIDE.false s.requires.1.0 s.requires.1.1 in
+    let f = beside-sums T k c.kind_of.result is c.if-kind_of-ne-BESIDE.false s.requires.0 s.requires.1 in
     (more-sums T k c.kind_of.result is c.if-kind_of-ne-BESIDE.false c.count_sums.result c.count_sums.ensures.0, omega (arith, f.0, c.count_sums.ensures.1))

@@ -18,7 +18,7 @@ eval_node-requires t c =
     let L = s.args.locals.now in
     let k = s.args.k in
     let is = c.kind_of.ensures ∙ ap kind_of c.cell_at-cell.ensures in
-    (last-part T k c.kind_of.result is c.if-kind_of-ne-ARGUMENT.true (length L) (room-some T (length L) k _ _ s.requires.1.0), s.requires.1.1)
+    (last-part T k c.kind_of.result is c.if-kind_of-ne-ARGUMENT.true (length L) (room-some T (length L) k _ _ s.requires.0), s.requires.1)
 
 pub offset_bounds-values-at : goal.offset_bounds-values-at
 offset_bounds-values-at t c =
@@ -26,7 +26,7 @@ offset_bounds-values-at t c =
     let T = s.args.nodes.now in
     let L = s.args.locals.now in
     let k = s.args.k in
-    let h = room-inside T (length L) k _ _ s.requires.1.0 in
+    let h = room-inside T (length L) k _ _ s.requires.0 in
     omega (arith, h, s.well-formed)
 
 pub bounds-values-at : goal.bounds-values-at
@@ -35,7 +35,7 @@ bounds-values-at t c =
     let T = s.args.nodes.now in
     let L = s.args.locals.now in
     let k = s.args.k in
-    room-inside T (length L) k _ _ s.requires.1.0
+    room-inside T (length L) k _ _ s.requires.0
 
 pub shape_of-values-then-kind_of-ne-ARGUMENT : goal.shape_of-values-then-kind_of-ne-ARGUMENT
 shape_of-values-then-kind_of-ne-ARGUMENT t c =
@@ -60,8 +60,8 @@ eval_node-requires-2 t c =
     let k = s.args.k in
     let is = c.kind_of.ensures ∙ ap kind_of c.cell_at-cell.ensures in
     let e = c.left_of.ensures ∙ ap left_of c.cell_at-cell.ensures in
-    let f = more_parts T k c.kind_of.result is c.if-kind_of-ne-ARGUMENT.false (length L) (room-some T (length L) k _ _ s.requires.1.0) in
-    (rw e f.1, s.requires.1.1)
+    let f = more_parts T k c.kind_of.result is c.if-kind_of-ne-ARGUMENT.false (length L) (room-some T (length L) k _ _ s.requires.0) in
+    (rw e f.1, s.requires.1)
 
 pub offset_bounds-values-at-2 : goal.offset_bounds-values-at-2
 offset_bounds-values-at-2 t c =
@@ -69,7 +69,7 @@ offset_bounds-values-at-2 t c =
     let T = s.args.nodes.now in
     let L = s.args.locals.now in
     let k = s.args.k in
-    let h = room-inside T (length L) k _ _ s.requires.1.0 in
+    let h = room-inside T (length L) k _ _ s.requires.0 in
     omega (arith, h, s.well-formed)
 
 pub bounds-values-at-2 : goal.bounds-values-at-2
@@ -78,7 +78,7 @@ bounds-values-at-2 t c =
     let T = s.args.nodes.now in
     let L = s.args.locals.now in
     let k = s.args.k in
-    room-inside T (length L) k _ _ s.requires.1.0
+    room-inside T (length L) k _ _ s.requires.0
 
 pub overflow_sub-k : goal.overflow_sub-k
 overflow_sub-k t c =
@@ -87,7 +87,7 @@ overflow_sub-k t c =
     let L = s.args.locals.now in
     let k = s.args.k in
     let is = c.kind_of.ensures ∙ ap kind_of c.cell_at-cell.ensures in
-    (more_parts T k c.kind_of.result is c.if-kind_of-ne-ARGUMENT.false (length L) (room-some T (length L) k _ _ s.requires.1.0)).0
+    (more_parts T k c.kind_of.result is c.if-kind_of-ne-ARGUMENT.false (length L) (room-some T (length L) k _ _ s.requires.0)).0
 
 pub overflow_add-at : goal.overflow_add-at
 overflow_add-at t c =
@@ -95,7 +95,7 @@ overflow_add-at t c =
     let T = s.args.nodes.now in
     let L = s.args.locals.now in
     let k = s.args.k in
-    let h = room-inside T (length L) k _ _ s.requires.1.0 in
+    let h = room-inside T (length L) k _ _ s.requires.0 in
     omega (arith, h, s.well-formed)
 
 pub put_arguments-requires : goal.put_arguments-requires
@@ -105,8 +105,8 @@ put_arguments-requires t c =
     let L = s.args.locals.now in
     let k = s.args.k in
     let is = c.kind_of.ensures ∙ ap kind_of c.cell_at-cell.ensures in
-    let f = more_parts T k c.kind_of.result is c.if-kind_of-ne-ARGUMENT.false (length L) (room-some T (length L) k _ _ s.requires.1.0) in
-    (omega (arith, s.requires.0, f.0), (rw length-set (room-more T (length L) k _ _ s.requires.1.0 (sym is ∙ c.if-kind_of-ne-ARGUMENT.false)), s.requires.1.1))
+    let f = more_parts T k c.kind_of.result is c.if-kind_of-ne-ARGUMENT.false (length L) (room-some T (length L) k _ _ s.requires.0) in
+    (omega (arith, s.decreases, f.0), (rw length-set (room-more T (length L) k _ _ s.requires.0 (sym is ∙ c.if-kind_of-ne-ARGUMENT.false)), s.requires.1))
 
 pub shape_of-values : goal.shape_of-values
 shape_of-values t c =

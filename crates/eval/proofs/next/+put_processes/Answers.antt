@@ -20,7 +20,7 @@ overflow_sub-k t c =
     let k = s.args.k in
     let is = c.kind_of-kind.ensures ∙ ap kind_of c.cell_at-cell.ensures in
     let a = s.args.at in
-    let p = s.requires.1 in
+    let p = s.requires in
     (group-spaced T R N L p.1 S k c.kind_of-kind.result is (length s.args.fresh.now) a c.if-kind-eq-GROUP.true p.0).0
 
 pub put_processes-requires : goal.put_processes-requires
@@ -34,9 +34,9 @@ put_processes-requires t c =
     let k = s.args.k in
     let is = c.kind_of-kind.ensures ∙ ap kind_of c.cell_at-cell.ensures in
     let a = s.args.at in
-    let p = s.requires.1 in
+    let p = s.requires in
     let g = group-spaced T R N L p.1 S k c.kind_of-kind.result is (length s.args.fresh.now) a c.if-kind-eq-GROUP.true p.0 in
-    (omega (arith, s.requires.0, g.0), (g.1, p.1))
+    (omega (arith, s.decreases, g.0), (g.1, p.1))
 
 pub shape_of-fresh-then-kind-eq-GROUP : goal.shape_of-fresh-then-kind-eq-GROUP
 shape_of-fresh-then-kind-eq-GROUP t c =
@@ -53,7 +53,7 @@ returns-then-kind-eq-GROUP t c =
     let k = s.args.k in
     let is = c.kind_of-kind.ensures ∙ ap kind_of c.cell_at-cell.ensures in
     let a = s.args.at in
-    let p = s.requires.1 in
+    let p = s.requires in
     let f = s.args.fresh.now in
     group-puts T R N L p.1 S k c.kind_of-kind.result is (length s.args.fresh.now) a c.if-kind-eq-GROUP.true f _ c.put_processes.result c.put_processes.ensures
 
@@ -68,10 +68,10 @@ put_processes-next-requires t c =
     let k = s.args.k in
     let is = c.kind_of-kind.ensures ∙ ap kind_of c.cell_at-cell.ensures in
     let a = s.args.at in
-    let p = s.requires.1 in
+    let p = s.requires in
     let e = c.left_of.ensures ∙ ap left_of c.cell_at-cell.ensures in
     let g = first-spaced T R N L p.1 S k c.kind_of-kind.result is (length s.args.fresh.now) a c.if-kind-eq-ITEM.true p.0 in
-    (rw (e, ← s.requires.0) g.1, (rw e g.2, p.1))
+    (rw (e, ← s.decreases) g.1, (rw e g.2, p.1))
 
 pub overflow_sub-k-then-kind-eq-ITEM : goal.overflow_sub-k-then-kind-eq-ITEM
 overflow_sub-k-then-kind-eq-ITEM t c =
@@ -84,7 +84,7 @@ overflow_sub-k-then-kind-eq-ITEM t c =
     let k = s.args.k in
     let is = c.kind_of-kind.ensures ∙ ap kind_of c.cell_at-cell.ensures in
     let a = s.args.at in
-    let p = s.requires.1 in
+    let p = s.requires in
     (first-spaced T R N L p.1 S k c.kind_of-kind.result is (length s.args.fresh.now) a c.if-kind-eq-ITEM.true p.0).0
 
 pub put_processes-requires-then-kind-eq-ITEM : goal.put_processes-requires-then-kind-eq-ITEM
@@ -98,13 +98,13 @@ put_processes-requires-then-kind-eq-ITEM t c =
     let k = s.args.k in
     let is = c.kind_of-kind.ensures ∙ ap kind_of c.cell_at-cell.ensures in
     let a = s.args.at in
-    let p = s.requires.1 in
+    let p = s.requires in
     let e = c.left_of.ensures ∙ ap left_of c.cell_at-cell.ensures in
     let f = s.args.fresh.now in
     let g = first-spaced T R N L p.1 S k c.kind_of-kind.result is (length s.args.fresh.now) a c.if-kind-eq-ITEM.true p.0 in
     let w = rw e at c.put_processes-next.ensures in
     let l = rows-size (w g.2.model g.2.parts g.2.holds g.2.scoped) in
-    (omega (arith, s.requires.0, g.0), (rw l (second-spaced T R N L p.1 S k c.kind_of-kind.result is (length s.args.fresh.now) a c.if-kind-eq-ITEM.true f _ c.put_processes-next.result p.0 w), p.1))
+    (omega (arith, s.decreases, g.0), (rw l (second-spaced T R N L p.1 S k c.kind_of-kind.result is (length s.args.fresh.now) a c.if-kind-eq-ITEM.true f _ c.put_processes-next.result p.0 w), p.1))
 
 pub shape_of-fresh-then-kind-eq-ITEM : goal.shape_of-fresh-then-kind-eq-ITEM
 shape_of-fresh-then-kind-eq-ITEM t c =
@@ -121,7 +121,7 @@ returns-then-kind-eq-ITEM t c =
     let k = s.args.k in
     let is = c.kind_of-kind.ensures ∙ ap kind_of c.cell_at-cell.ensures in
     let a = s.args.at in
-    let p = s.requires.1 in
+    let p = s.requires in
     let e = c.left_of.ensures ∙ ap left_of c.cell_at-cell.ensures in
     let f = s.args.fresh.now in
     items-put T R N L p.1 S k c.kind_of-kind.result is (length s.args.fresh.now) a c.if-kind-eq-ITEM.true f _ _ c.put_processes-next.result c.put_processes-then-kind-eq-ITEM.result (rw e at c.put_processes-next.ensures) c.put_processes-then-kind-eq-ITEM.ensures
@@ -137,7 +137,7 @@ put_row-requires t c =
     let k = s.args.k in
     let is = c.kind_of-kind.ensures ∙ ap kind_of c.cell_at-cell.ensures in
     let a = s.args.at in
-    let p = s.requires.1 in
+    let p = s.requires in
     let o = c.token_of-token.ensures ∙ ap token_of c.cell_at-cell.ensures in
     let f = c.kind_of-kind.result in
     let z = length s.args.fresh.now in
@@ -154,7 +154,7 @@ overflow_add-result t c =
     let k = s.args.k in
     let is = c.kind_of-kind.ensures ∙ ap kind_of c.cell_at-cell.ensures in
     let a = s.args.at in
-    let p = s.requires.1 in
+    let p = s.requires in
     let h = sum-spaced T R N L p.1 S k c.kind_of-kind.result is (length s.args.fresh.now) a c.if-kind-eq-SUM.true p.0 in
     omega (arith, h, s.well-formed)
 
@@ -173,7 +173,7 @@ returns-then-kind-eq-SUM t c =
     let k = s.args.k in
     let is = c.kind_of-kind.ensures ∙ ap kind_of c.cell_at-cell.ensures in
     let a = s.args.at in
-    let p = s.requires.1 in
+    let p = s.requires in
     let o = c.token_of-token.ensures ∙ ap token_of c.cell_at-cell.ensures in
     let f = s.args.fresh.now in
     sum-puts T R N L p.1 S k c.kind_of-kind.result is (length s.args.fresh.now) a c.if-kind-eq-SUM.true f _ (rw o at c.put_row.ensures)
@@ -189,7 +189,7 @@ body_of-body-requires t c =
     let k = s.args.k in
     let is = c.kind_of-kind.ensures ∙ ap kind_of c.cell_at-cell.ensures in
     let a = s.args.at in
-    let p = s.requires.1 in
+    let p = s.requires in
     let o = c.token_of-token.ensures ∙ ap token_of c.cell_at-cell.ensures in
     let b = some-body T R N k c.kind_of-kind.result is c.if-kind-eq-GROUP.false c.if-kind-eq-ITEM.false c.if-kind-eq-SUM.false (record { locals = length L; model = p.0.model; parts = p.0.parts; holds = p.0.holds }) in
     rw o b.above
@@ -205,7 +205,7 @@ put_sums-requires t c =
     let k = s.args.k in
     let is = c.kind_of-kind.ensures ∙ ap kind_of c.cell_at-cell.ensures in
     let a = s.args.at in
-    let p = s.requires.1 in
+    let p = s.requires in
     let o = c.token_of-token.ensures ∙ ap token_of c.cell_at-cell.ensures in
     let y = c.body_of-body.ensures ∙ ap (λ (x : ℕ). left_of (get_or T (R - N - x) 0) - 1) o in
     (rw y (bare-fits T R N L p.1 S k c.kind_of-kind.result is (length s.args.fresh.now) a c.if-kind-eq-CALL.true p.0), omega arith)
@@ -225,7 +225,7 @@ returns-then-kind-eq-CALL t c =
     let k = s.args.k in
     let is = c.kind_of-kind.ensures ∙ ap kind_of c.cell_at-cell.ensures in
     let a = s.args.at in
-    let p = s.requires.1 in
+    let p = s.requires in
     let o = c.token_of-token.ensures ∙ ap token_of c.cell_at-cell.ensures in
     let y = c.body_of-body.ensures ∙ ap (λ (x : ℕ). left_of (get_or T (R - N - x) 0) - 1) o in
     let f = s.args.fresh.now in
@@ -242,7 +242,7 @@ put_call-requires t c =
     let k = s.args.k in
     let is = c.kind_of-kind.ensures ∙ ap kind_of c.cell_at-cell.ensures in
     let a = s.args.at in
-    let p = s.requires.1 in
+    let p = s.requires in
     let o = c.token_of-token.ensures ∙ ap token_of c.cell_at-cell.ensures in
     let y = c.body_of-body.ensures ∙ ap (λ (x : ℕ). left_of (get_or T (R - N - x) 0) - 1) o in
     let h = is ∙ last-kind T p.0.parts k (λ x. c.if-kind-eq-GROUP.false (is ∙ x)) (λ x. c.if-kind-eq-ITEM.false (is ∙ x)) (λ x. c.if-kind-eq-SUM.false (is ∙ x)) (λ x. c.if-kind-eq-CALL.false (is ∙ x)) p.0.holds.at in
@@ -263,7 +263,7 @@ returns t c =
     let k = s.args.k in
     let is = c.kind_of-kind.ensures ∙ ap kind_of c.cell_at-cell.ensures in
     let a = s.args.at in
-    let p = s.requires.1 in
+    let p = s.requires in
     let o = c.token_of-token.ensures ∙ ap token_of c.cell_at-cell.ensures in
     let y = c.body_of-body.ensures ∙ ap (λ (x : ℕ). left_of (get_or T (R - N - x) 0) - 1) o in
     let f = s.args.fresh.now in

@@ -15,14 +15,14 @@ put_row-requires t c =
     let k = s.args.k in
     let o = c.token_of.ensures ∙ ap token_of c.cell_at-cell.ensures in
     let is = c.kind_of.ensures ∙ ap kind_of c.cell_at-cell.ensures in
-    (rw o (token-small _), s.requires.1.1, sums-inside T _ k _ _ s.requires.1.0, rw o (last-below T _ k _ _ s.requires.1.0 (λ x. c.if-kind_of-ne-BESIDE.true (is ∙ x))))
+    (rw o (token-small _), s.requires.1, sums-inside T _ k _ _ s.requires.0, rw o (last-below T _ k _ _ s.requires.0 (λ x. c.if-kind_of-ne-BESIDE.true (is ∙ x))))
 
 pub overflow_add-result : goal.overflow_add-result
 overflow_add-result t c =
     let s = c in
     let T = s.args.nodes.now in
     let k = s.args.k in
-    let h = sums-inside T _ k _ _ s.requires.1.0 in
+    let h = sums-inside T _ k _ _ s.requires.0 in
     omega (arith, h, s.well-formed)
 
 pub shape_of-fresh-then-kind_of-ne-BESIDE : goal.shape_of-fresh-then-kind_of-ne-BESIDE
@@ -37,7 +37,7 @@ returns-then-kind_of-ne-BESIDE t c =
     let k = s.args.k in
     let is = c.kind_of.ensures ∙ ap kind_of c.cell_at-cell.ensures in
     let o = c.token_of.ensures ∙ ap token_of c.cell_at-cell.ensures in
-    last_sum T s.args.scopes.now k s.args.at L s.args.fresh.now _ s.requires.1.1 (λ x. c.if-kind_of-ne-BESIDE.true (is ∙ x)) (rw o at c.put_row.ensures)
+    last_sum T s.args.scopes.now k s.args.at L s.args.fresh.now _ s.requires.1 (λ x. c.if-kind_of-ne-BESIDE.true (is ∙ x)) (rw o at c.put_row.ensures)
 
 pub put_row-requires-2 : goal.put_row-requires-2
 put_row-requires-2 t c =
@@ -47,7 +47,7 @@ put_row-requires-2 t c =
     let e = c.left_of.ensures ∙ ap left_of c.cell_at-cell.ensures in
     let o = c.token_of-2.ensures ∙ ap token_of (c.cell_at-first.ensures ∙ ap (λ (x : ℕ). get_or T x 0) e) in
     let is = c.kind_of.ensures ∙ ap kind_of c.cell_at-cell.ensures in
-    (rw o (token-small _), s.requires.1.1, sums-inside T _ k _ _ s.requires.1.0, rw o (first_below T _ k _ _ s.requires.1.0 (sym is ∙ c.if-kind_of-ne-BESIDE.false)))
+    (rw o (token-small _), s.requires.1, sums-inside T _ k _ _ s.requires.0, rw o (first_below T _ k _ _ s.requires.0 (sym is ∙ c.if-kind_of-ne-BESIDE.false)))
 
 pub overflow_sub-k : goal.overflow_sub-k
 overflow_sub-k t c =
@@ -55,14 +55,14 @@ overflow_sub-k t c =
     let T = s.args.nodes.now in
     let k = s.args.k in
     let is = c.kind_of.ensures ∙ ap kind_of c.cell_at-cell.ensures in
-    (sums-more T _ k _ _ s.requires.1.0 (sym is ∙ c.if-kind_of-ne-BESIDE.false)).0
+    (sums-more T _ k _ _ s.requires.0 (sym is ∙ c.if-kind_of-ne-BESIDE.false)).0
 
 pub overflow_add-at : goal.overflow_add-at
 overflow_add-at t c =
     let s = c in
     let T = s.args.nodes.now in
     let k = s.args.k in
-    let h = sums-inside T _ k _ _ s.requires.1.0 in
+    let h = sums-inside T _ k _ _ s.requires.0 in
     omega (arith, h, s.well-formed)
 
 pub put_sums-requires : goal.put_sums-requires
@@ -71,8 +71,8 @@ put_sums-requires t c =
     let T = s.args.nodes.now in
     let k = s.args.k in
     let is = c.kind_of.ensures ∙ ap kind_of c.cell_at-cell.ensures in
-    let f = sums-more T _ k _ _ s.requires.1.0 (sym is ∙ c.if-kind_of-ne-BESIDE.false) in
-    (omega (arith, s.requires.0, f.0), (rw (c.put_row-2.ensures, length-sets) f.1, s.requires.1.1))
+    let f = sums-more T _ k _ _ s.requires.0 (sym is ∙ c.if-kind_of-ne-BESIDE.false) in
+    (omega (arith, s.decreases, f.0), (rw (c.put_row-2.ensures, length-sets) f.1, s.requires.1))
 
 pub shape_of-fresh : goal.shape_of-fresh
 shape_of-fresh t c =
@@ -87,4 +87,4 @@ returns t c =
     let is = c.kind_of.ensures ∙ ap kind_of c.cell_at-cell.ensures in
     let e = c.left_of.ensures ∙ ap left_of c.cell_at-cell.ensures in
     let o = c.token_of-2.ensures ∙ ap token_of (c.cell_at-first.ensures ∙ ap (λ (x : ℕ). get_or T x 0) e) in
-    more-sums T s.args.scopes.now k s.args.at L s.args.fresh.now _ s.requires.1.1 _ c.put_sums.result (sym is ∙ c.if-kind_of-ne-BESIDE.false) (rw o at c.put_row-2.ensures) c.put_sums.ensures
+    more-sums T s.args.scopes.now k s.args.at L s.args.fresh.now _ s.requires.1 _ c.put_sums.result (sym is ∙ c.if-kind_of-ne-BESIDE.false) (rw o at c.put_row-2.ensures) c.put_sums.ensures

@@ -15,29 +15,29 @@ use Rattle.names.proofs.walk.+lines_fault.Goals as goal
 
 pub offset_bounds-nodes-root : goal.offset_bounds-nodes-root
 offset_bounds-nodes-root t c =
-    omega (arith, root_in c.requires.1.0.0.world, c.requires.1.1)
+    omega (arith, root_in c.requires.0.0.world, c.requires.1)
 
 pub bounds-nodes-root : goal.bounds-nodes-root
 bounds-nodes-root t c =
-    omega (arith, root_in c.requires.1.0.0.world, c.requires.1.1)
+    omega (arith, root_in c.requires.0.0.world, c.requires.1)
 
 pub definition_fault-first-requires : goal.definition_fault-first-requires
 definition_fault-first-requires t c =
-    let x = (line_of c.args.nodes.now c.requires.1.0.1 c.args.from c.args.root c.requires.1.0.2) in
-    ((c.requires.1.0.0, x.name, x.params, x.body, line_at c.args.nodes.now c.requires.1.0.1 c.args.from c.args.root x c.left_of-left.result c.left_of-left.ensures, line-room c.requires.1.0.0 c.requires.1.0.1 c.args.from c.args.root x c.requires.1.0.3), omega (arith, x.below, c.left_of-left.ensures, c.requires.1.1))
+    let x = (line_of c.args.nodes.now c.requires.0.1 c.args.from c.args.root c.requires.0.2) in
+    ((c.requires.0.0, x.name, x.params, x.body, line_at c.args.nodes.now c.requires.0.1 c.args.from c.args.root x c.left_of-left.result c.left_of-left.ensures, line-room c.requires.0.0 c.requires.0.1 c.args.from c.args.root x c.requires.0.3), omega (arith, x.below, c.left_of-left.ensures, c.requires.1))
 
 pub overflow_add-left : goal.overflow_add-left
 overflow_add-left t c =
-    omega (arith, (line_of c.args.nodes.now c.requires.1.0.1 c.args.from c.args.root c.requires.1.0.2).below, c.left_of-left.ensures, c.requires.1.1, root_in c.requires.1.0.0.world)
+    omega (arith, (line_of c.args.nodes.now c.requires.0.1 c.args.from c.args.root c.requires.0.2).below, c.left_of-left.ensures, c.requires.1, root_in c.requires.0.0.world)
 
 pub overflow_sub-root : goal.overflow_sub-root
 overflow_sub-root t c =
-    omega (arith, (line_of c.args.nodes.now c.requires.1.0.1 c.args.from c.args.root c.requires.1.0.2).below)
+    omega (arith, (line_of c.args.nodes.now c.requires.0.1 c.args.from c.args.root c.requires.0.2).below)
 
 pub system_fault-requires : goal.system_fault-requires
 system_fault-requires t c =
-    let x = (last_line c.args.nodes.now c.requires.1.0.1 c.args.from c.args.root (sym c.kind_of.ensures ∙ c.if-kind_of-eq-LAST.true) c.requires.1.0.2) in
-    ((c.requires.1.0.0.world, x.system, (last-at c.args.nodes.now c.requires.1.0.1 c.args.from c.args.root x c.left_of-left.result c.left_of-left.ensures).1), omega (arith, c.requires.1.1))
+    let x = (last_line c.args.nodes.now c.requires.0.1 c.args.from c.args.root (sym c.kind_of.ensures ∙ c.if-kind_of-eq-LAST.true) c.requires.0.2) in
+    ((c.requires.0.0.world, x.system, (last-at c.args.nodes.now c.requires.0.1 c.args.from c.args.root x c.left_of-left.result c.left_of-left.ensures).1), omega (arith, c.requires.1))
 
 pub returns-then-kind_of-eq-LAST : goal.returns-then-kind_of-eq-LAST
 returns-then-kind_of-eq-LAST t c =
@@ -46,16 +46,16 @@ returns-then-kind_of-eq-LAST t c =
 
 pub overflow_add-left-2 : goal.overflow_add-left-2
 overflow_add-left-2 t c =
-    omega (arith, (line_of c.args.nodes.now c.requires.1.0.1 c.args.from c.args.root c.requires.1.0.2).below, c.left_of-left.ensures, c.requires.1.1, root_in c.requires.1.0.0.world)
+    omega (arith, (line_of c.args.nodes.now c.requires.0.1 c.args.from c.args.root c.requires.0.2).below, c.left_of-left.ensures, c.requires.1, root_in c.requires.0.0.world)
 
 pub overflow_sub-root-2 : goal.overflow_sub-root-2
 overflow_sub-root-2 t c =
-    omega (arith, (line_of c.args.nodes.now c.requires.1.0.1 c.args.from c.args.root c.requires.1.0.2).below)
+    omega (arith, (line_of c.args.nodes.now c.requires.0.1 c.args.from c.args.root c.requires.0.2).below)
 
 pub lines_fault-others-requires : goal.lines_fault-others-requires
 lines_fault-others-requires t c =
-    let x = (next-line c.args.nodes.now c.requires.1.0.1 c.args.from c.args.root (λ e. c.if-kind_of-eq-LAST.false (c.kind_of.ensures ∙ e)) c.requires.1.0.2) in
-    (omega (arith, (line_of c.args.nodes.now c.requires.1.0.1 c.args.from c.args.root c.requires.1.0.2).below, c.requires.0), ((c.requires.1.0.0, x.rest, (next-line-at c.args.nodes.now c.requires.1.0.1 c.args.from c.args.root x c.left_of-left.result c.left_of-left.ensures).1, (next-rooms c.requires.1.0.0 c.requires.1.0.1 c.args.from c.args.root x c.requires.1.0.3).1), omega (arith, c.requires.1.1)))
+    let x = (next-line c.args.nodes.now c.requires.0.1 c.args.from c.args.root (λ e. c.if-kind_of-eq-LAST.false (c.kind_of.ensures ∙ e)) c.requires.0.2) in
+    (omega (arith, (line_of c.args.nodes.now c.requires.0.1 c.args.from c.args.root c.requires.0.2).below, c.decreases), ((c.requires.0.0, x.rest, (next-line-at c.args.nodes.now c.requires.0.1 c.args.from c.args.root x c.left_of-left.result c.left_of-left.ensures).1, (next-rooms c.requires.0.0 c.requires.0.1 c.args.from c.args.root x c.requires.0.3).1), omega (arith, c.requires.1)))
 
 pub returns : goal.returns
 returns t c =

@@ -14,7 +14,7 @@ push_item-requires t c =
     let S = c.args.scopes.now in
     let Z = c.args.state.now in
     let is = c.kind_of.ensures ∙ ap kind_of c.cell_at-cell.ensures in
-    last-item T R N k Z S (λ x. c.if-kind_of-ne-SYSTEM.true (is ∙ x)) c.requires.1
+    last-item T R N k Z S (λ x. c.if-kind_of-ne-SYSTEM.true (is ∙ x)) c.requires
 
 pub shape_of-state-then-kind_of-ne-SYSTEM : goal.shape_of-state-then-kind_of-ne-SYSTEM
 shape_of-state-then-kind_of-ne-SYSTEM t c =
@@ -41,7 +41,7 @@ push_item-requires-2 t c =
     let Z = c.args.state.now in
     let is = c.kind_of.ensures ∙ ap kind_of c.cell_at-cell.ensures in
     let e = c.left_of.ensures ∙ ap left_of c.cell_at-cell.ensures in
-    rw e (first-item T R N k Z S (sym is ∙ c.if-kind_of-ne-SYSTEM.false) c.requires.1)
+    rw e (first-item T R N k Z S (sym is ∙ c.if-kind_of-ne-SYSTEM.false) c.requires)
 
 pub overflow_sub-k : goal.overflow_sub-k
 overflow_sub-k t c =
@@ -53,7 +53,7 @@ overflow_sub-k t c =
     let Z = c.args.state.now in
     let is = c.kind_of.ensures ∙ ap kind_of c.cell_at-cell.ensures in
     let e = c.left_of.ensures ∙ ap left_of c.cell_at-cell.ensures in
-    let f = rest-items T R N k Z S (sym is ∙ c.if-kind_of-ne-SYSTEM.false) _ (rw e at c.push_item-2.ensures) c.requires.1 in
+    let f = rest-items T R N k Z S (sym is ∙ c.if-kind_of-ne-SYSTEM.false) _ (rw e at c.push_item-2.ensures) c.requires in
     f.0
 
 pub push_items-requires : goal.push_items-requires
@@ -66,8 +66,8 @@ push_items-requires t c =
     let Z = c.args.state.now in
     let is = c.kind_of.ensures ∙ ap kind_of c.cell_at-cell.ensures in
     let e = c.left_of.ensures ∙ ap left_of c.cell_at-cell.ensures in
-    let f = rest-items T R N k Z S (sym is ∙ c.if-kind_of-ne-SYSTEM.false) _ (rw e at c.push_item-2.ensures) c.requires.1 in
-    (omega (arith, c.requires.0, f.0), f.1)
+    let f = rest-items T R N k Z S (sym is ∙ c.if-kind_of-ne-SYSTEM.false) _ (rw e at c.push_item-2.ensures) c.requires in
+    (omega (arith, c.decreases, f.0), f.1)
 
 pub shape_of-state : goal.shape_of-state
 shape_of-state t c =

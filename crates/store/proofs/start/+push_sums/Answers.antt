@@ -18,7 +18,7 @@ push_known-requires t c =
     let S = c.args.scopes.now in
     let o = c.token_of.ensures ∙ ap token_of c.cell_at-cell.ensures in
     let is = c.kind_of.ensures ∙ ap kind_of c.cell_at-cell.ensures in
-    let f = c.requires.1 in
+    let f = c.requires in
     let h = sums-take T S k L Z f in
     (h.long, h.below, h.room, omega (arith, o, token-small (get_or T k 0)), h.few, rw o (last-below T S k L Z (λ x. c.if-kind_of-ne-BESIDE.true (is ∙ x)) f))
 
@@ -47,7 +47,7 @@ push_known-requires-2 t c =
     let e = c.left_of.ensures ∙ ap left_of c.cell_at-cell.ensures in
     let o = c.token_of-2.ensures ∙ ap token_of (c.cell_at-first.ensures ∙ ap (λ (x : ℕ). get_or T x 0) e) in
     let is = c.kind_of.ensures ∙ ap kind_of c.cell_at-cell.ensures in
-    let f = c.requires.1 in
+    let f = c.requires in
     let h = sums-take T S k L Z f in
     (h.long, h.below, h.room, omega (arith, o, token-small (get_or T (left_of (get_or T k 0)) 0)), h.few, rw o (first_below T S k L Z (sym is ∙ c.if-kind_of-ne-BESIDE.false) f))
 
@@ -61,7 +61,7 @@ overflow_sub-k t c =
     let is = c.kind_of.ensures ∙ ap kind_of c.cell_at-cell.ensures in
     let e = c.left_of.ensures ∙ ap left_of c.cell_at-cell.ensures in
     let o = c.token_of-2.ensures ∙ ap token_of (c.cell_at-first.ensures ∙ ap (λ (x : ℕ). get_or T x 0) e) in
-    let f = rest-fits T S k L Z (sym is ∙ c.if-kind_of-ne-BESIDE.false) _ (c.push_known-2.ensures ∙ ap (λ (x : ℕ). process_pushed x L (definition_in (get_or S x 0)) Z) o) c.requires.1 in
+    let f = rest-fits T S k L Z (sym is ∙ c.if-kind_of-ne-BESIDE.false) _ (c.push_known-2.ensures ∙ ap (λ (x : ℕ). process_pushed x L (definition_in (get_or S x 0)) Z) o) c.requires in
     f.0
 
 pub push_sums-requires : goal.push_sums-requires
@@ -74,8 +74,8 @@ push_sums-requires t c =
     let is = c.kind_of.ensures ∙ ap kind_of c.cell_at-cell.ensures in
     let e = c.left_of.ensures ∙ ap left_of c.cell_at-cell.ensures in
     let o = c.token_of-2.ensures ∙ ap token_of (c.cell_at-first.ensures ∙ ap (λ (x : ℕ). get_or T x 0) e) in
-    let f = rest-fits T S k L Z (sym is ∙ c.if-kind_of-ne-BESIDE.false) _ (c.push_known-2.ensures ∙ ap (λ (x : ℕ). process_pushed x L (definition_in (get_or S x 0)) Z) o) c.requires.1 in
-    (omega (arith, c.requires.0, f.0), f.1)
+    let f = rest-fits T S k L Z (sym is ∙ c.if-kind_of-ne-BESIDE.false) _ (c.push_known-2.ensures ∙ ap (λ (x : ℕ). process_pushed x L (definition_in (get_or S x 0)) Z) o) c.requires in
+    (omega (arith, c.decreases, f.0), f.1)
 
 pub shape_of-state : goal.shape_of-state
 shape_of-state t c =

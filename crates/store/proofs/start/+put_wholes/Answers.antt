@@ -14,20 +14,20 @@ whole_at-z-requires t c =
     let T = c.args.nodes.now in
     let k = c.args.k in
     let is = c.kind_of.ensures ∙ ap kind_of c.cell_at-cell.ensures in
-    last-whole T k _ _ (λ x. c.if-kind_of-ne-WHOLE.true (is ∙ x)) c.requires.1
+    last-whole T k _ _ (λ x. c.if-kind_of-ne-WHOLE.true (is ∙ x)) c.requires
 
 pub offset_bounds-values-at : goal.offset_bounds-values-at
 offset_bounds-values-at t c =
     let T = c.args.nodes.now in
     let k = c.args.k in
-    let h = wholes-inside T k _ _ c.requires.1 in
+    let h = wholes-inside T k _ _ c.requires in
     omega (arith, h, c.well-formed)
 
 pub bounds-values-at : goal.bounds-values-at
 bounds-values-at t c =
     let T = c.args.nodes.now in
     let k = c.args.k in
-    wholes-inside T k _ _ c.requires.1
+    wholes-inside T k _ _ c.requires
 
 pub shape_of-values-then-kind_of-ne-WHOLE : goal.shape_of-values-then-kind_of-ne-WHOLE
 shape_of-values-then-kind_of-ne-WHOLE t c =
@@ -47,35 +47,35 @@ whole_at-z-requires-2 t c =
     let k = c.args.k in
     let is = c.kind_of.ensures ∙ ap kind_of c.cell_at-cell.ensures in
     let e = c.left_of.ensures ∙ ap left_of c.cell_at-cell.ensures in
-    let f = more-wholes T k _ _ (sym is ∙ c.if-kind_of-ne-WHOLE.false) c.requires.1 in
+    let f = more-wholes T k _ _ (sym is ∙ c.if-kind_of-ne-WHOLE.false) c.requires in
     rw e f.0
 
 pub offset_bounds-values-at-2 : goal.offset_bounds-values-at-2
 offset_bounds-values-at-2 t c =
     let T = c.args.nodes.now in
     let k = c.args.k in
-    let h = wholes-inside T k _ _ c.requires.1 in
+    let h = wholes-inside T k _ _ c.requires in
     omega (arith, h, c.well-formed)
 
 pub bounds-values-at-2 : goal.bounds-values-at-2
 bounds-values-at-2 t c =
     let T = c.args.nodes.now in
     let k = c.args.k in
-    wholes-inside T k _ _ c.requires.1
+    wholes-inside T k _ _ c.requires
 
 pub overflow_sub-k : goal.overflow_sub-k
 overflow_sub-k t c =
     let T = c.args.nodes.now in
     let k = c.args.k in
     let is = c.kind_of.ensures ∙ ap kind_of c.cell_at-cell.ensures in
-    let f = more-wholes T k _ _ (sym is ∙ c.if-kind_of-ne-WHOLE.false) c.requires.1 in
+    let f = more-wholes T k _ _ (sym is ∙ c.if-kind_of-ne-WHOLE.false) c.requires in
     f.1
 
 pub overflow_add-at : goal.overflow_add-at
 overflow_add-at t c =
     let T = c.args.nodes.now in
     let k = c.args.k in
-    let h = wholes-inside T k _ _ c.requires.1 in
+    let h = wholes-inside T k _ _ c.requires in
     omega (arith, h, c.well-formed)
 
 pub put_wholes-requires : goal.put_wholes-requires
@@ -83,8 +83,8 @@ put_wholes-requires t c =
     let T = c.args.nodes.now in
     let k = c.args.k in
     let is = c.kind_of.ensures ∙ ap kind_of c.cell_at-cell.ensures in
-    let f = more-wholes T k _ _ (sym is ∙ c.if-kind_of-ne-WHOLE.false) c.requires.1 in
-    (omega (arith, c.requires.0, f.1), rw length-set f.2)
+    let f = more-wholes T k _ _ (sym is ∙ c.if-kind_of-ne-WHOLE.false) c.requires in
+    (omega (arith, c.decreases, f.1), rw length-set f.2)
 
 pub shape_of-values : goal.shape_of-values
 shape_of-values t c =

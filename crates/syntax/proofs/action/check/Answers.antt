@@ -26,18 +26,6 @@ pub channel-requires : goal.channel-requires
 channel-requires c =
     ready-token c.requires.ready (omega arith)
 
-pub enum_known-k : goal.enum_known-k
-enum_known-k c =
-    c.in-Fault.in-Fault-own.keys1
-
-pub enum_known-n : goal.enum_known-n
-enum_known-n c =
-    c.in-Next.in-Next-own.keys2
-
-pub shape_of-nodes-then-peek-ne63 : goal.shape_of-nodes-then-peek-ne63
-shape_of-nodes-then-peek-ne63 c =
-    omega arith
-
 pub returns-then-peek-ne63 : goal.returns-then-peek-ne63
 returns-then-peek-ne63 c =
     let r = check-stray c.args.toks.now c.args.nodes.now _ c.args.at c.args.used c.requires.at_value c.channel.ensures c.in-Next.is (isnt c.peek.ensures c.if-peek-ne63.true) in record { follows = r.0; parsed = r.1 }
@@ -56,14 +44,6 @@ pub sets-requires : goal.sets-requires
 sets-requires c =
     check-ready c.args.toks.now c.args.nodes.now _ c.args.at c.args.used c.requires.at_value c.channel.ensures c.in-Next.is (same c.peek.ensures c.if-peek-ne63.false) c.requires.ready
 
-pub enum_known-k-in-Fault-sets : goal.enum_known-k-in-Fault-sets
-enum_known-k-in-Fault-sets c =
-    c.in-Fault-sets.keys1
-
-pub enum_known-m : goal.enum_known-m
-enum_known-m c =
-    c.in-Next-sets.keys2
-
 pub overflow_add-root : goal.overflow_add-root
 overflow_add-root c =
     let ready = check-ready c.args.toks.now c.args.nodes.now _ c.args.at c.args.used c.requires.at_value c.channel.ensures c.in-Next.is (same c.peek.ensures c.if-peek-ne63.false) c.requires.ready in
@@ -75,25 +55,13 @@ node-requires c =
     let ready = check-ready c.args.toks.now c.args.nodes.now _ c.args.at c.args.used c.requires.at_value c.channel.ensures c.in-Next.is (same c.peek.ensures c.if-peek-ne63.false) c.requires.ready in
     (omega arith, omega (arith, ready.room, ready.inside, ready.few), omega arith)
 
-pub shape_of-nodes-in-Fault : goal.shape_of-nodes-in-Fault
-shape_of-nodes-in-Fault c =
-    omega arith
-
 pub returns-in-Fault : goal.returns-in-Fault
 returns-in-Fault c =
     let r = check-fault c.args.toks.now c.args.nodes.now _ c.args.at c.args.used c.requires.at_value c.channel.ensures c.in-Fault.is in record { follows = r.0; parsed = r.1 }
 
-pub shape_of-nodes-in-Fault-sets : goal.shape_of-nodes-in-Fault-sets
-shape_of-nodes-in-Fault-sets c =
-    omega arith
-
 pub returns-in-Fault-sets : goal.returns-in-Fault-sets
 returns-in-Fault-sets c =
     let r = check-unset c.args.toks.now c.args.nodes.now _ c.args.at c.args.used c.requires.at_value c.channel.ensures c.in-Next.is (same c.peek.ensures c.if-peek-ne63.false) _ c.sets.ensures c.in-Fault-sets.is in record { follows = r.0; parsed = r.1 }
-
-pub shape_of-nodes-in-Next-sets : goal.shape_of-nodes-in-Next-sets
-shape_of-nodes-in-Next-sets c =
-    omega arith
 
 pub returns-in-Next-sets : goal.returns-in-Next-sets
 returns-in-Next-sets c =

@@ -26,21 +26,9 @@ pub channel-requires : goal.channel-requires
 channel-requires c =
     ready-token c.requires.ready (omega arith)
 
-pub enum_known-k : goal.enum_known-k
-enum_known-k c =
-    c.in-Fault.in-Fault-own.keys1
-
-pub enum_known-n : goal.enum_known-n
-enum_known-n c =
-    c.in-Next.in-Next-own.keys2
-
 pub sending-requires : goal.sending-requires
 sending-requires c =
      record { ready = hand-ready c.args.toks.now c.args.nodes.now _ c.args.at c.args.used c.requires.at_value c.channel.ensures c.in-Next.is c.requires.ready; nonzero = omega arith }
-
-pub shape_of-nodes-then-t-eq33 : goal.shape_of-nodes-then-t-eq33
-shape_of-nodes-then-t-eq33 c =
-    omega arith
 
 pub returns-then-t-eq33 : goal.returns-then-t-eq33
 returns-then-t-eq33 c =
@@ -50,25 +38,13 @@ pub receiving-requires : goal.receiving-requires
 receiving-requires c =
     let r = (hand-ready c.args.toks.now c.args.nodes.now _ c.args.at c.args.used c.requires.at_value c.channel.ensures c.in-Next.is c.requires.ready, (omega arith, omega arith)) in record { ready = r.0; nonzero = r.1; kind_bound = r.2 }
 
-pub shape_of-nodes-then-t-eq63 : goal.shape_of-nodes-then-t-eq63
-shape_of-nodes-then-t-eq63 c =
-    omega arith
-
 pub returns-then-t-eq63 : goal.returns-then-t-eq63
 returns-then-t-eq63 c =
     let r = hand-receive c.args.toks.now c.args.nodes.now _ c.args.at c.args.used c.requires.at_value c.channel.ensures c.in-Next.is _ _ (same c.peek-t.ensures c.if-t-eq63.true) c.receiving.ensures in record { follows = r.0; parsed = r.1 }
 
-pub shape_of-nodes-in-Fault : goal.shape_of-nodes-in-Fault
-shape_of-nodes-in-Fault c =
-    omega arith
-
 pub returns-in-Fault : goal.returns-in-Fault
 returns-in-Fault c =
     let r = hand-fault c.args.toks.now c.args.nodes.now _ c.args.at c.args.used c.requires.at_value c.channel.ensures c.in-Fault.is in record { follows = r.0; parsed = r.1 }
-
-pub shape_of-nodes-else-t-eq63 : goal.shape_of-nodes-else-t-eq63
-shape_of-nodes-else-t-eq63 c =
-    omega arith
 
 pub returns-else-t-eq63 : goal.returns-else-t-eq63
 returns-else-t-eq63 c =

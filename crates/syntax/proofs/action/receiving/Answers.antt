@@ -31,14 +31,6 @@ pub sets-requires : goal.sets-requires
 sets-requires c =
     ready-token c.requires.ready c.requires.nonzero.0
 
-pub enum_known-k : goal.enum_known-k
-enum_known-k c =
-    c.in-Fault.in-Fault-own.keys1
-
-pub enum_known-n : goal.enum_known-n
-enum_known-n c =
-    c.in-Next.in-Next-own.keys2
-
 pub overflow_add-root : goal.overflow_add-root
 overflow_add-root c =
     let m = made_of c.in-Next.is c.sets.ensures.parsed in
@@ -47,10 +39,6 @@ overflow_add-root c =
 pub node-requires : goal.node-requires
 node-requires c =
     (omega arith, omega (arith, c.requires.ready.room, c.requires.ready.few, inside c.args.toks.now c.args.at c.requires.nonzero.0), omega arith)
-
-pub shape_of-nodes-then-peek-ne40 : goal.shape_of-nodes-then-peek-ne40
-shape_of-nodes-then-peek-ne40 c =
-    omega arith
 
 pub returns-then-peek-ne40 : goal.returns-then-peek-ne40
 returns-then-peek-ne40 c =
@@ -64,14 +52,6 @@ pub names-requires : goal.names-requires
 names-requires c =
     let l = in_tok c.args.toks.now c.in-Next.n c.peek.ensures (omega arith) in let r = (omega arith, (c.requires.ready.room, (omega arith, λ e. omega arith))) in record { at_in_bounds = r.0; toks_len_bound = r.1; close_nonzero = r.2 }
 
-pub enum_known-k-in-Fault-names : goal.enum_known-k-in-Fault-names
-enum_known-k-in-Fault-names c =
-    c.in-Fault-names.keys1
-
-pub enum_known-m : goal.enum_known-m
-enum_known-m c =
-    c.in-Next-names.keys2
-
 pub overflow_add-kind : goal.overflow_add-kind
 overflow_add-kind c =
     omega (arith, c.requires.nonzero.1)
@@ -81,25 +61,13 @@ node-requires-in-Next-names c =
     let l = listed_of c.in-Next-names.is c.names.ensures.listing in
     (omega (arith, c.requires.ready.room, l.fewer, l.within), omega (arith, c.requires.ready.room, c.requires.ready.few, inside c.args.toks.now c.args.at c.requires.nonzero.0), omega (arith, c.requires.ready.room, l.fewer, l.within))
 
-pub shape_of-nodes-in-Fault : goal.shape_of-nodes-in-Fault
-shape_of-nodes-in-Fault c =
-    omega arith
-
 pub returns-in-Fault : goal.returns-in-Fault
 returns-in-Fault c =
     let r = receiving-fault c.args.kind c.args.toks.now c.args.nodes.now _ c.args.at c.args.left c.sets.ensures c.in-Fault.is in record { follows = r.0; extended = r.1 }
 
-pub shape_of-nodes-in-Fault-names : goal.shape_of-nodes-in-Fault-names
-shape_of-nodes-in-Fault-names c =
-    omega arith
-
 pub returns-in-Fault-names : goal.returns-in-Fault-names
 returns-in-Fault-names c =
     let r = receiving-unnamed c.args.kind c.args.toks.now c.args.nodes.now _ c.args.at c.args.left c.sets.ensures c.in-Next.is (same c.peek.ensures c.if-peek-ne40.false) c.names.ensures c.in-Fault-names.is in record { follows = r.0; extended = r.1 }
-
-pub shape_of-nodes-in-Next-names : goal.shape_of-nodes-in-Next-names
-shape_of-nodes-in-Next-names c =
-    omega arith
 
 pub returns-in-Next-names : goal.returns-in-Next-names
 returns-in-Next-names c =

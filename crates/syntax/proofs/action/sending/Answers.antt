@@ -28,14 +28,6 @@ pub values-requires : goal.values-requires
 values-requires c =
     ready-token c.requires.ready c.requires.nonzero
 
-pub enum_known-k : goal.enum_known-k
-enum_known-k c =
-    c.in-Fault.in-Fault-own.keys1
-
-pub enum_known-n : goal.enum_known-n
-enum_known-n c =
-    c.in-Next.in-Next-own.keys2
-
 pub overflow_add-root : goal.overflow_add-root
 overflow_add-root c =
     let m = made_of c.in-Next.is c.values.ensures.parsed in
@@ -45,17 +37,9 @@ pub node-requires : goal.node-requires
 node-requires c =
     (omega arith, omega (arith, c.requires.ready.room, c.requires.ready.few, inside c.args.toks.now c.args.at c.requires.nonzero), omega arith)
 
-pub shape_of-nodes-in-Fault : goal.shape_of-nodes-in-Fault
-shape_of-nodes-in-Fault c =
-    omega arith
-
 pub returns-in-Fault : goal.returns-in-Fault
 returns-in-Fault c =
     let r = sending-fault c.args.kind c.args.toks.now c.args.nodes.now _ c.args.at c.args.left c.values.ensures c.in-Fault.is in record { follows = r.0; extended = r.1 }
-
-pub shape_of-nodes-in-Next : goal.shape_of-nodes-in-Next
-shape_of-nodes-in-Next c =
-    omega arith
 
 pub returns-in-Next : goal.returns-in-Next
 returns-in-Next c =

@@ -32,30 +32,14 @@ pub set-requires : goal.set-requires
 set-requires c =
     ready-token c.requires (omega arith)
 
-pub enum_known-k : goal.enum_known-k
-enum_known-k c =
-    c.in-Fault.in-Fault-own.keys1
-
-pub enum_known-n : goal.enum_known-n
-enum_known-n c =
-    c.in-Next.in-Next-own.keys2
-
 pub overflow_add-result : goal.overflow_add-result
 overflow_add-result c =
     let m = made_of c.in-Next.is c.set.ensures.parsed in
     omega (arith, c.requires.room, in_tok c.args.toks.now c.in-Next.n c.peek-t.ensures (omega arith))
 
-pub shape_of-nodes-then-t-eq93 : goal.shape_of-nodes-then-t-eq93
-shape_of-nodes-then-t-eq93 c =
-    omega arith
-
 pub returns-then-t-eq93 : goal.returns-then-t-eq93
 returns-then-t-eq93 c =
     let r = brackets-one set-brackets c.args.toks.now c.args.nodes.now c.args.at c.args.used (same c.peek.ensures c.if-peek-ne91.false) _ c.set.ensures c.in-Next.is (same c.peek-t.ensures c.if-t-eq93.true) in record { follows = r.0; parsed = r.1 }
-
-pub shape_of-nodes-then-t-ne44 : goal.shape_of-nodes-then-t-ne44
-shape_of-nodes-then-t-ne44 c =
-    omega arith
 
 pub returns-then-t-ne44 : goal.returns-then-t-ne44
 returns-then-t-ne44 c =
@@ -74,18 +58,6 @@ overflow_add-left c =
 pub set-requires-in-Next : goal.set-requires-in-Next
 set-requires-in-Next c =
     brackets-ready set-brackets c.args.toks.now c.args.nodes.now c.args.at c.args.used (same c.peek.ensures c.if-peek-ne91.false) _ c.set.ensures c.in-Next.is c.requires (same c.peek-t.ensures c.if-t-ne44.false)
-
-pub enum_known-k-in-Fault-set-2 : goal.enum_known-k-in-Fault-set-2
-enum_known-k-in-Fault-set-2 c =
-    c.in-Fault-set.keys1
-
-pub enum_known-m : goal.enum_known-m
-enum_known-m c =
-    c.in-Next-set.keys2
-
-pub shape_of-nodes-then-peek-ne93 : goal.shape_of-nodes-then-peek-ne93
-shape_of-nodes-then-peek-ne93 c =
-    omega arith
 
 pub returns-then-peek-ne93 : goal.returns-then-peek-ne93
 returns-then-peek-ne93 c =
@@ -108,25 +80,13 @@ overflow_add-result-in-Next-set c =
     let right = made_of c.in-Next-set.is c.set-in-Next.ensures.parsed in
     omega (arith, ready.room, right.span.within)
 
-pub shape_of-nodes-in-Fault : goal.shape_of-nodes-in-Fault
-shape_of-nodes-in-Fault c =
-    omega arith
-
 pub returns-in-Fault : goal.returns-in-Fault
 returns-in-Fault c =
     let r = brackets-fault set-brackets c.args.toks.now c.args.nodes.now c.args.at c.args.used (same c.peek.ensures c.if-peek-ne91.false) _ c.set.ensures c.in-Fault.is in record { follows = r.0; parsed = r.1 }
 
-pub shape_of-nodes-in-Fault-set : goal.shape_of-nodes-in-Fault-set
-shape_of-nodes-in-Fault-set c =
-    omega arith
-
 pub returns-in-Fault-set : goal.returns-in-Fault-set
 returns-in-Fault-set c =
     let r = brackets-fault-second set-brackets c.args.toks.now c.args.nodes.now c.args.at c.args.used (same c.peek.ensures c.if-peek-ne91.false) _ c.set.ensures c.in-Next.is (same c.peek-t.ensures c.if-t-ne44.false) _ c.set-in-Next.ensures c.in-Fault-set.is in record { follows = r.0; parsed = r.1 }
-
-pub shape_of-nodes-else-peek-ne93 : goal.shape_of-nodes-else-peek-ne93
-shape_of-nodes-else-peek-ne93 c =
-    omega arith
 
 pub returns-else-peek-ne93 : goal.returns-else-peek-ne93
 returns-else-peek-ne93 c =

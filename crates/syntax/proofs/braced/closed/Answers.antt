@@ -22,7 +22,7 @@ returns-then-peek-ne125 c =
 
 pub overflow_add-result : goal.overflow_add-result
 overflow_add-result c =
-    let m = made_of c.in-Next.is c.rate.ensures.fact in
+    let m = made_of c.in-Next.is c.rate.ensures.parsed in
     omega (arith, c.requires.room, m.span.within)
 
 pub returns-in-Fault : goal.returns-in-Fault

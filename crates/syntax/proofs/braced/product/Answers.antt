@@ -99,12 +99,6 @@ unfolding op_kind
 returns-in-Fault-rest c =
     let r = product-stops c.args.toks.now c.args.nodes.now c.args.name c.args.used c.args.digits c.args.rate c.args.item c.requires.name_value.0 c.requires.name_value.1.0 c.requires.name_value.1.1 _ c.atom.ensures c.in-Next.is (isnt c.peek.ensures c.if-peek-eq125.false) (record { written = c.node-in-Next.ensures; token-fits = omega (arith, c.requires.ready.room, c.requires.ready.few, c.requires.ready.inside, c.requires.name_value.1.0.within, c.requires.name_value.1.0.onward); left-fits = omega arith; third-fits = omega arith }) (record { written = c.node-in-Next-2.ensures; token-fits = omega (arith, c.requires.ready.room, c.requires.ready.few, c.requires.ready.inside, c.requires.name_value.1.0.within, c.requires.name_value.1.0.onward); left-fits = omega arith; third-fits = omega arith }) (record { written = c.node-in-Next-3.ensures; token-fits = omega arith; left-fits = omega (arith, c.requires.ready.room, c.requires.ready.few, c.requires.ready.inside, c.requires.name_value.1.0.within, c.requires.name_value.1.0.onward); third-fits = omega arith }) _ c.rest.ensures c.in-Fault-rest.is in record { follows = r.0; inside = r.1 }
 
-pub shape_of-nodes-in-Next-rest : goal.shape_of-nodes-in-Next-rest
-unfolding op_kind
-shape_of-nodes-in-Next-rest c =
-    let z = inside-size c.args.toks.now c.args.nodes.now _ c.args.name c.args.used _ (product-done c.args.toks.now c.args.nodes.now c.args.name c.args.used c.args.digits c.args.rate c.args.item c.requires.name_value.0 c.requires.name_value.1.0 c.requires.name_value.1.1 _ c.atom.ensures c.in-Next.is (isnt c.peek.ensures c.if-peek-eq125.false) (record { written = c.node-in-Next.ensures; token-fits = omega (arith, c.requires.ready.room, c.requires.ready.few, c.requires.ready.inside, c.requires.name_value.1.0.within, c.requires.name_value.1.0.onward); left-fits = omega arith; third-fits = omega arith }) (record { written = c.node-in-Next-2.ensures; token-fits = omega (arith, c.requires.ready.room, c.requires.ready.few, c.requires.ready.inside, c.requires.name_value.1.0.within, c.requires.name_value.1.0.onward); left-fits = omega arith; third-fits = omega arith }) (record { written = c.node-in-Next-3.ensures; token-fits = omega arith; left-fits = omega (arith, c.requires.ready.room, c.requires.ready.few, c.requires.ready.inside, c.requires.name_value.1.0.within, c.requires.name_value.1.0.onward); third-fits = omega arith }) _ c.rest.ensures c.in-Next-rest.is _ _ c.second.ensures).1 in
-    omega arith
-
 pub returns-in-Next-rest : goal.returns-in-Next-rest
 unfolding op_kind
 returns-in-Next-rest c =

@@ -9,52 +9,36 @@ use Rattle.syntax.proofs.condition.+ands.Goals as goal
 
 pub returns-then-peek-ne38 : goal.returns-then-peek-ne38
 returns-then-peek-ne38 t c =
-    let r = ands-none _ _ _ _ c.requires.1.inside (isnt c.peek.ensures c.if-peek-ne38.true) in record { follows = r.0; extended = r.1 }
+    let r = ands-none _ _ _ _ c.requires.inside (isnt c.peek.ensures c.if-peek-ne38.true) in record { follows = r.0; extended = r.1 }
 
 pub overflow_add-at : goal.overflow_add-at
 overflow_add-at t c =
-    omega (arith, c.requires.1.inside, c.requires.1.room, c.requires.1.few)
+    omega (arith, c.requires.inside, c.requires.room, c.requires.few)
 
 pub overflow_add-left : goal.overflow_add-left
 overflow_add-left t c =
-    omega (arith, c.requires.1.inside, c.requires.1.room, c.requires.1.few)
+    omega (arith, c.requires.inside, c.requires.room, c.requires.few)
 
 pub test-requires : goal.test-requires
 test-requires t c =
-    ready-token c.requires.1 (omega (arith, c.peek.ensures, c.if-peek-ne38.false))
-
-pub enum_known-k : goal.enum_known-k
-enum_known-k t c =
-    c.in-Fault.in-Fault-own.keys1
-
-pub enum_known-n : goal.enum_known-n
-enum_known-n t c =
-    c.in-Next.in-Next-own.keys2
+    ready-token c.requires (omega (arith, c.peek.ensures, c.if-peek-ne38.false))
 
 pub overflow_add-root : goal.overflow_add-root
 overflow_add-root t c =
-    let m = made_of c.in-Next.is c.test.ensures.parsed in omega (arith, m.span.onward, m.span.within, m.span.more, m.span.fewer, c.requires.1.inside, c.requires.1.room, c.requires.1.few)
+    let m = made_of c.in-Next.is c.test.ensures.parsed in omega (arith, m.span.onward, m.span.within, m.span.more, m.span.fewer, c.requires.inside, c.requires.room, c.requires.few)
 
 pub node-requires : goal.node-requires
 node-requires t c =
-    let m = made_of c.in-Next.is c.test.ensures.parsed in omega (arith, m.span.onward, m.span.within, m.span.more, m.span.fewer, c.requires.1.inside, c.requires.1.room, c.requires.1.few)
+    let m = made_of c.in-Next.is c.test.ensures.parsed in omega (arith, m.span.onward, m.span.within, m.span.more, m.span.fewer, c.requires.inside, c.requires.room, c.requires.few)
 
 pub ands-requires : goal.ands-requires
 ands-requires t c =
-    let l = in_tok c.args.toks.now _ c.peek.ensures (omega (arith, c.if-peek-ne38.false)) in let m = made_of c.in-Next.is c.test.ensures.parsed in (omega (arith, m.span.onward, m.span.within, m.span.more, m.span.fewer), record { inside = m.span.within; room = c.requires.1.room; few = omega (arith, m.span.onward, m.span.within, m.span.more, m.span.fewer, c.requires.1.inside, c.requires.1.room, c.requires.1.few) })
-
-pub shape_of-nodes-in-Fault : goal.shape_of-nodes-in-Fault
-shape_of-nodes-in-Fault t c =
-    omega arith
+    let l = in_tok c.args.toks.now _ c.peek.ensures (omega (arith, c.if-peek-ne38.false)) in let m = made_of c.in-Next.is c.test.ensures.parsed in (omega (arith, m.span.onward, m.span.within, m.span.more, m.span.fewer), record { inside = m.span.within; room = c.requires.room; few = omega (arith, m.span.onward, m.span.within, m.span.more, m.span.fewer, c.requires.inside, c.requires.room, c.requires.few) })
 
 pub returns-in-Fault : goal.returns-in-Fault
 returns-in-Fault t c =
     let r = ands-fault _ _ _ _ _ (same c.peek.ensures c.if-peek-ne38.false) c.test.ensures c.in-Fault.is in record { follows = r.0; extended = r.1 }
 
-pub shape_of-nodes-in-Next : goal.shape_of-nodes-in-Next
-shape_of-nodes-in-Next t c =
-    omega arith
-
 pub returns-in-Next : goal.returns-in-Next
 returns-in-Next t c =
-    let r = ands-more _ _ _ _ _ (same c.peek.ensures c.if-peek-ne38.false) c.test.ensures _ _ _ c.in-Next.is (record { written = c.node.ensures; token-fits = omega arith; left-fits = omega (arith, c.requires.1.inside, c.requires.1.room, c.requires.1.few); third-fits = omega arith }) c.ands.ensures in record { follows = r.0; extended = r.1 }
+    let r = ands-more _ _ _ _ _ (same c.peek.ensures c.if-peek-ne38.false) c.test.ensures _ _ _ c.in-Next.is (record { written = c.node.ensures; token-fits = omega arith; left-fits = omega (arith, c.requires.inside, c.requires.room, c.requires.few); third-fits = omega arith }) c.ands.ensures in record { follows = r.0; extended = r.1 }

@@ -13,18 +13,6 @@ pub expr-requires : goal.expr-requires
 expr-requires c =
     c.requires.ready
 
-pub enum_known-k : goal.enum_known-k
-enum_known-k c =
-    c.in-Fault.in-Fault-own.keys1
-
-pub enum_known-n : goal.enum_known-n
-enum_known-n c =
-    c.in-Next.in-Next-own.keys2
-
-pub shape_of-nodes-then-kind-eq0 : goal.shape_of-nodes-then-kind-eq0
-shape_of-nodes-then-kind-eq0 c =
-    omega arith
-
 pub returns-then-kind-eq0 : goal.returns-then-kind-eq0
 unfolding relation_kind
 returns-then-kind-eq0 c =
@@ -42,14 +30,6 @@ pub expr-requires-in-Next : goal.expr-requires-in-Next
 expr-requires-in-Next c =
     let m = made_of c.in-Next.is c.expr.ensures.parsed in ready-token (ready-after c.requires.ready m.span) (sign-present _ _ (relation-sign _ _ (hit relation_signs _ _ (c.relation_kind-kind.ensures ∙ ap (sign_kind relation_signs) c.peek.ensures) c.if-kind-eq0.false)))
 
-pub enum_known-k-in-Fault-expr-2 : goal.enum_known-k-in-Fault-expr-2
-enum_known-k-in-Fault-expr-2 c =
-    c.in-Fault-expr.keys1
-
-pub enum_known-m : goal.enum_known-m
-enum_known-m c =
-    c.in-Next-expr.keys2
-
 pub overflow_add-root : goal.overflow_add-root
 overflow_add-root c =
     let m = made_of c.in-Next.is c.expr.ensures.parsed in let q = made_of c.in-Next-expr.is c.expr-in-Next.ensures.parsed in omega (arith, m.span.onward, m.span.within, m.span.more, m.span.fewer, q.span.onward, q.span.within, q.span.more, q.span.fewer, c.requires.ready.inside, c.requires.ready.room, c.requires.ready.few)
@@ -62,25 +42,13 @@ pub node-requires : goal.node-requires
 node-requires c =
     let m = made_of c.in-Next.is c.expr.ensures.parsed in omega (arith, m.span.onward, m.span.within, m.span.more, m.span.fewer, c.requires.ready.inside, c.requires.ready.room, c.requires.ready.few)
 
-pub shape_of-nodes-in-Fault : goal.shape_of-nodes-in-Fault
-shape_of-nodes-in-Fault c =
-    omega arith
-
 pub returns-in-Fault : goal.returns-in-Fault
 returns-in-Fault c =
     let r = compare-fault _ _ _ _ _ _ c.in-Fault.is c.expr.ensures in record { follows = r.0; parsed = r.1 }
 
-pub shape_of-nodes-in-Fault-expr : goal.shape_of-nodes-in-Fault-expr
-shape_of-nodes-in-Fault-expr c =
-    omega arith
-
 pub returns-in-Fault-expr : goal.returns-in-Fault-expr
 returns-in-Fault-expr c =
     let r = compare-second _ _ _ _ _ _ c.in-Next.is c.expr.ensures _ _ (relation-sign _ _ (hit relation_signs _ _ (c.relation_kind-kind.ensures ∙ ap (sign_kind relation_signs) c.peek.ensures) c.if-kind-eq0.false)) c.expr-in-Next.ensures c.in-Fault-expr.is in record { follows = r.0; parsed = r.1 }
-
-pub shape_of-nodes-in-Next-expr : goal.shape_of-nodes-in-Next-expr
-shape_of-nodes-in-Next-expr c =
-    omega arith
 
 pub returns-in-Next-expr : goal.returns-in-Next-expr
 returns-in-Next-expr c =

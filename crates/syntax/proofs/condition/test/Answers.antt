@@ -14,10 +14,6 @@ pub compare-requires : goal.compare-requires
 compare-requires c =
      record { ready = ready-token c.requires (omega (arith, c.peek.ensures, c.if-peek-eq126.true)); more_le_turned = omega arith }
 
-pub shape_of-nodes-then-peek-eq126 : goal.shape_of-nodes-then-peek-eq126
-shape_of-nodes-then-peek-eq126 c =
-    omega arith
-
 pub returns-then-peek-eq126 : goal.returns-then-peek-eq126
 returns-then-peek-eq126 c =
     let r = test-turned _ _ _ _ _ _ (same c.peek.ensures c.if-peek-eq126.true) c.compare.ensures in record { follows = r.0; parsed = r.1 }
@@ -25,10 +21,6 @@ returns-then-peek-eq126 c =
 pub compare-requires-2 : goal.compare-requires-2
 compare-requires-2 c =
      record { ready = c.requires; more_le_turned = omega arith }
-
-pub shape_of-nodes : goal.shape_of-nodes
-shape_of-nodes c =
-    omega arith
 
 pub returns : goal.returns
 returns c =

@@ -13,43 +13,27 @@ use Rattle.syntax.proofs.expression.+absolute_atom_bracketed_expr_factors_larger
 
 pub absolute-returns-then-peek-ne40 : goal.absolute-returns-then-peek-ne40
 absolute-returns-then-peek-ne40 t c =
-    let r = absolute-stray _ _ _ _ c.requires.1.inside (isnt c.peek.ensures c.if-peek-ne40.true) in record { follows = r.0; parsed = r.1 }
+    let r = absolute-stray _ _ _ _ c.requires.inside (isnt c.peek.ensures c.if-peek-ne40.true) in record { follows = r.0; parsed = r.1 }
 
 pub absolute-overflow_add-at : goal.absolute-overflow_add-at
 absolute-overflow_add-at t c =
-    omega (arith, c.requires.1.inside, c.requires.1.room, c.requires.1.few)
+    omega (arith, c.requires.inside, c.requires.room, c.requires.few)
 
 pub absolute-bracketed-requires : goal.absolute-bracketed-requires
 absolute-bracketed-requires t c =
-    let l = in_tok c.args.toks.now _ c.peek.ensures (omega (arith, c.if-peek-ne40.false)) in (omega arith, ready-token c.requires.1 (omega (arith, c.peek.ensures, c.if-peek-ne40.false)))
-
-pub absolute-enum_known-k : goal.absolute-enum_known-k
-absolute-enum_known-k t c =
-    c.in-Fault.in-Fault-own.keys1
-
-pub absolute-enum_known-n : goal.absolute-enum_known-n
-absolute-enum_known-n t c =
-    c.in-Next.in-Next-own.keys2
+    let l = in_tok c.args.toks.now _ c.peek.ensures (omega (arith, c.if-peek-ne40.false)) in (omega arith, ready-token c.requires (omega (arith, c.peek.ensures, c.if-peek-ne40.false)))
 
 pub absolute-overflow_add-root : goal.absolute-overflow_add-root
 absolute-overflow_add-root t c =
-    let m = made_of c.in-Next.is c.bracketed.ensures.parsed in omega (arith, m.span.onward, m.span.within, m.span.more, m.span.fewer, c.requires.1.inside, c.requires.1.room, c.requires.1.few)
+    let m = made_of c.in-Next.is c.bracketed.ensures.parsed in omega (arith, m.span.onward, m.span.within, m.span.more, m.span.fewer, c.requires.inside, c.requires.room, c.requires.few)
 
 pub absolute-node-requires : goal.absolute-node-requires
 absolute-node-requires t c =
     omega arith
 
-pub absolute-shape_of-nodes-in-Fault : goal.absolute-shape_of-nodes-in-Fault
-absolute-shape_of-nodes-in-Fault t c =
-    omega arith
-
 pub absolute-returns-in-Fault : goal.absolute-returns-in-Fault
 absolute-returns-in-Fault t c =
     let r = absolute-fault _ _ _ _ _ (same c.peek.ensures c.if-peek-ne40.false) c.bracketed.ensures c.in-Fault.is in record { follows = r.0; parsed = r.1 }
-
-pub absolute-shape_of-nodes-in-Next : goal.absolute-shape_of-nodes-in-Next
-absolute-shape_of-nodes-in-Next t c =
-    omega arith
 
 pub absolute-returns-in-Next : goal.absolute-returns-in-Next
 absolute-returns-in-Next t c =
@@ -57,31 +41,23 @@ absolute-returns-in-Next t c =
 
 pub atom-node-requires : goal.atom-node-requires
 atom-node-requires t c =
-    omega (arith, c.requires.1.inside, c.requires.1.room, c.requires.1.few)
+    omega (arith, c.requires.inside, c.requires.room, c.requires.few)
 
 pub atom-overflow_add-result : goal.atom-overflow_add-result
 atom-overflow_add-result t c =
-    omega (arith, c.requires.1.inside, c.requires.1.room, c.requires.1.few)
-
-pub atom-shape_of-nodes-then-t-eq-NAME : goal.atom-shape_of-nodes-then-t-eq-NAME
-atom-shape_of-nodes-then-t-eq-NAME t c =
-    omega arith
+    omega (arith, c.requires.inside, c.requires.room, c.requires.few)
 
 pub atom-returns-then-t-eq-NAME : goal.atom-returns-then-t-eq-NAME
 atom-returns-then-t-eq-NAME t c =
-    let r = atom-name _ _ _ _ _ (same c.peek-t.ensures c.if-t-eq-NAME.true) (record { written = c.node.ensures; token-fits = omega (arith, c.requires.1.inside, c.requires.1.room, c.requires.1.few); left-fits = omega arith; third-fits = omega arith }) in record { follows = r.0; parsed = r.1 }
+    let r = atom-name _ _ _ _ _ (same c.peek-t.ensures c.if-t-eq-NAME.true) (record { written = c.node.ensures; token-fits = omega (arith, c.requires.inside, c.requires.room, c.requires.few); left-fits = omega arith; third-fits = omega arith }) in record { follows = r.0; parsed = r.1 }
 
 pub atom-overflow_add-at : goal.atom-overflow_add-at
 atom-overflow_add-at t c =
-    omega (arith, c.requires.1.inside, c.requires.1.room, c.requires.1.few)
+    omega (arith, c.requires.inside, c.requires.room, c.requires.few)
 
 pub atom-bracketed-requires : goal.atom-bracketed-requires
 atom-bracketed-requires t c =
-    let l = in_tok c.args.toks.now _ c.peek-t.ensures (omega (arith, c.if-t-eq40.true)) in (omega arith, ready-token c.requires.1 (omega (arith, c.peek-t.ensures, c.if-t-eq40.true)))
-
-pub atom-shape_of-nodes-then-t-eq40 : goal.atom-shape_of-nodes-then-t-eq40
-atom-shape_of-nodes-then-t-eq40 t c =
-    omega arith
+    let l = in_tok c.args.toks.now _ c.peek-t.ensures (omega (arith, c.if-t-eq40.true)) in (omega arith, ready-token c.requires (omega (arith, c.peek-t.ensures, c.if-t-eq40.true)))
 
 pub atom-returns-then-t-eq40 : goal.atom-returns-then-t-eq40
 atom-returns-then-t-eq40 t c =
@@ -89,15 +65,11 @@ atom-returns-then-t-eq40 t c =
 
 pub atom-overflow_add-at-then-t-eq-ABSOLUTE : goal.atom-overflow_add-at-then-t-eq-ABSOLUTE
 atom-overflow_add-at-then-t-eq-ABSOLUTE t c =
-    omega (arith, c.requires.1.inside, c.requires.1.room, c.requires.1.few)
+    omega (arith, c.requires.inside, c.requires.room, c.requires.few)
 
 pub atom-absolute-requires : goal.atom-absolute-requires
 atom-absolute-requires t c =
-    let l = in_tok c.args.toks.now _ c.peek-t.ensures (omega (arith, c.if-t-eq-ABSOLUTE.true)) in (omega arith, ready-token c.requires.1 (omega (arith, c.peek-t.ensures, c.if-t-eq-ABSOLUTE.true)))
-
-pub atom-shape_of-nodes-then-t-eq-ABSOLUTE : goal.atom-shape_of-nodes-then-t-eq-ABSOLUTE
-atom-shape_of-nodes-then-t-eq-ABSOLUTE t c =
-    omega arith
+    let l = in_tok c.args.toks.now _ c.peek-t.ensures (omega (arith, c.if-t-eq-ABSOLUTE.true)) in (omega arith, ready-token c.requires (omega (arith, c.peek-t.ensures, c.if-t-eq-ABSOLUTE.true)))
 
 pub atom-returns-then-t-eq-ABSOLUTE : goal.atom-returns-then-t-eq-ABSOLUTE
 atom-returns-then-t-eq-ABSOLUTE t c =
@@ -105,15 +77,11 @@ atom-returns-then-t-eq-ABSOLUTE t c =
 
 pub atom-overflow_add-at-then-t-eq-MAXIMUM : goal.atom-overflow_add-at-then-t-eq-MAXIMUM
 atom-overflow_add-at-then-t-eq-MAXIMUM t c =
-    omega (arith, c.requires.1.inside, c.requires.1.room, c.requires.1.few)
+    omega (arith, c.requires.inside, c.requires.room, c.requires.few)
 
 pub atom-larger-requires : goal.atom-larger-requires
 atom-larger-requires t c =
-    let l = in_tok c.args.toks.now _ c.peek-t.ensures (omega (arith, c.if-t-eq-MAXIMUM.true)) in (omega arith, ready-token c.requires.1 (omega (arith, c.peek-t.ensures, c.if-t-eq-MAXIMUM.true)))
-
-pub atom-shape_of-nodes-then-t-eq-MAXIMUM : goal.atom-shape_of-nodes-then-t-eq-MAXIMUM
-atom-shape_of-nodes-then-t-eq-MAXIMUM t c =
-    omega arith
+    let l = in_tok c.args.toks.now _ c.peek-t.ensures (omega (arith, c.if-t-eq-MAXIMUM.true)) in (omega arith, ready-token c.requires (omega (arith, c.peek-t.ensures, c.if-t-eq-MAXIMUM.true)))
 
 pub atom-returns-then-t-eq-MAXIMUM : goal.atom-returns-then-t-eq-MAXIMUM
 unfolding op_kind
@@ -122,15 +90,11 @@ atom-returns-then-t-eq-MAXIMUM t c =
 
 pub atom-overflow_add-at-then-t-eq-MINIMUM : goal.atom-overflow_add-at-then-t-eq-MINIMUM
 atom-overflow_add-at-then-t-eq-MINIMUM t c =
-    omega (arith, c.requires.1.inside, c.requires.1.room, c.requires.1.few)
+    omega (arith, c.requires.inside, c.requires.room, c.requires.few)
 
 pub atom-larger-requires-then-t-eq-MINIMUM : goal.atom-larger-requires-then-t-eq-MINIMUM
 atom-larger-requires-then-t-eq-MINIMUM t c =
-    let l = in_tok c.args.toks.now _ c.peek-t.ensures (omega (arith, c.if-t-eq-MINIMUM.true)) in (omega arith, ready-token c.requires.1 (omega (arith, c.peek-t.ensures, c.if-t-eq-MINIMUM.true)))
-
-pub atom-shape_of-nodes-then-t-eq-MINIMUM : goal.atom-shape_of-nodes-then-t-eq-MINIMUM
-atom-shape_of-nodes-then-t-eq-MINIMUM t c =
-    omega arith
+    let l = in_tok c.args.toks.now _ c.peek-t.ensures (omega (arith, c.if-t-eq-MINIMUM.true)) in (omega arith, ready-token c.requires (omega (arith, c.peek-t.ensures, c.if-t-eq-MINIMUM.true)))
 
 pub atom-returns-then-t-eq-MINIMUM : goal.atom-returns-then-t-eq-MINIMUM
 unfolding op_kind
@@ -139,11 +103,7 @@ atom-returns-then-t-eq-MINIMUM t c =
 
 pub atom-literal-requires : goal.atom-literal-requires
 atom-literal-requires t c =
-    c.requires.1
-
-pub atom-shape_of-nodes : goal.atom-shape_of-nodes
-atom-shape_of-nodes t c =
-    omega arith
+    c.requires
 
 pub atom-returns : goal.atom-returns
 atom-returns t c =
@@ -151,19 +111,7 @@ atom-returns t c =
 
 pub bracketed-expr-requires : goal.bracketed-expr-requires
 bracketed-expr-requires t c =
-    (omega arith, c.requires.1)
-
-pub bracketed-enum_known-k : goal.bracketed-enum_known-k
-bracketed-enum_known-k t c =
-    c.in-Fault.in-Fault-own.keys1
-
-pub bracketed-enum_known-n : goal.bracketed-enum_known-n
-bracketed-enum_known-n t c =
-    c.in-Next.in-Next-own.keys2
-
-pub bracketed-shape_of-nodes-then-peek-ne41 : goal.bracketed-shape_of-nodes-then-peek-ne41
-bracketed-shape_of-nodes-then-peek-ne41 t c =
-    omega arith
+    (omega arith, c.requires)
 
 pub bracketed-returns-then-peek-ne41 : goal.bracketed-returns-then-peek-ne41
 bracketed-returns-then-peek-ne41 t c =
@@ -171,19 +119,11 @@ bracketed-returns-then-peek-ne41 t c =
 
 pub bracketed-overflow_add-result : goal.bracketed-overflow_add-result
 bracketed-overflow_add-result t c =
-    let m = made_of c.in-Next.is c.expr.ensures.parsed in omega (arith, m.span.onward, m.span.within, m.span.more, m.span.fewer, c.requires.1.inside, c.requires.1.room, c.requires.1.few)
-
-pub bracketed-shape_of-nodes-in-Fault : goal.bracketed-shape_of-nodes-in-Fault
-bracketed-shape_of-nodes-in-Fault t c =
-    omega arith
+    let m = made_of c.in-Next.is c.expr.ensures.parsed in omega (arith, m.span.onward, m.span.within, m.span.more, m.span.fewer, c.requires.inside, c.requires.room, c.requires.few)
 
 pub bracketed-returns-in-Fault : goal.bracketed-returns-in-Fault
 bracketed-returns-in-Fault t c =
     let r = bracketed-fault _ _ _ _ _ c.expr.ensures c.in-Fault.is in record { follows = r.0; parsed = r.1 }
-
-pub bracketed-shape_of-nodes-else-peek-ne41 : goal.bracketed-shape_of-nodes-else-peek-ne41
-bracketed-shape_of-nodes-else-peek-ne41 t c =
-    omega arith
 
 pub bracketed-returns-else-peek-ne41 : goal.bracketed-returns-else-peek-ne41
 bracketed-returns-else-peek-ne41 t c =
@@ -191,31 +131,15 @@ bracketed-returns-else-peek-ne41 t c =
 
 pub expr-term-requires : goal.expr-term-requires
 expr-term-requires t c =
-    (omega arith, c.requires.1)
-
-pub expr-enum_known-k : goal.expr-enum_known-k
-expr-enum_known-k t c =
-    c.in-Fault.in-Fault-own.keys1
-
-pub expr-enum_known-n : goal.expr-enum_known-n
-expr-enum_known-n t c =
-    c.in-Next.in-Next-own.keys2
+    (omega arith, c.requires)
 
 pub expr-terms-requires : goal.expr-terms-requires
 expr-terms-requires t c =
-    let m = made_of c.in-Next.is c.term.ensures.parsed in (omega (arith, m.span.onward, m.span.within, m.span.more, m.span.fewer), ready-after c.requires.1 m.span)
-
-pub expr-shape_of-nodes-in-Fault : goal.expr-shape_of-nodes-in-Fault
-expr-shape_of-nodes-in-Fault t c =
-    omega arith
+    let m = made_of c.in-Next.is c.term.ensures.parsed in (omega (arith, m.span.onward, m.span.within, m.span.more, m.span.fewer), ready-after c.requires m.span)
 
 pub expr-returns-in-Fault : goal.expr-returns-in-Fault
 expr-returns-in-Fault t c =
     let r = expr-fault _ _ _ _ _ c.in-Fault.is c.term.ensures in record { follows = r.0; parsed = r.1 }
-
-pub expr-shape_of-nodes-in-Next : goal.expr-shape_of-nodes-in-Next
-expr-shape_of-nodes-in-Next t c =
-    omega arith
 
 pub expr-returns-in-Next : goal.expr-returns-in-Next
 expr-returns-in-Next t c =
@@ -224,79 +148,51 @@ expr-returns-in-Next t c =
 pub factors-returns-then-kind-eq0 : goal.factors-returns-then-kind-eq0
 unfolding op_kind
 factors-returns-then-kind-eq0 t c =
-    let r = factors-none _ _ _ _ c.requires.1.inside (apart product_signs _ _ (omega arith) (c.product_kind-kind.ensures ∙ ap (sign_kind product_signs) c.peek.ensures) c.if-kind-eq0.true) in record { follows = r.0; fact = r.1 }
+    let r = factors-none _ _ _ _ c.requires.inside (apart product_signs _ _ (omega arith) (c.product_kind-kind.ensures ∙ ap (sign_kind product_signs) c.peek.ensures) c.if-kind-eq0.true) in record { follows = r.0; extended = r.1 }
 
 pub factors-overflow_add-at : goal.factors-overflow_add-at
 factors-overflow_add-at t c =
-    omega (arith, c.requires.1.inside, c.requires.1.room, c.requires.1.few)
+    omega (arith, c.requires.inside, c.requires.room, c.requires.few)
 
 pub factors-overflow_add-left : goal.factors-overflow_add-left
 factors-overflow_add-left t c =
-    omega (arith, c.requires.1.inside, c.requires.1.room, c.requires.1.few)
+    omega (arith, c.requires.inside, c.requires.room, c.requires.few)
 
 pub factors-atom-requires : goal.factors-atom-requires
 factors-atom-requires t c =
-    let h = (factor-sign _ _ (hit product_signs _ _ (c.product_kind-kind.ensures ∙ ap (sign_kind product_signs) c.peek.ensures) c.if-kind-eq0.false)).present in let l = inside c.args.toks.now _ h in (omega arith, ready-token c.requires.1 h)
-
-pub factors-enum_known-k : goal.factors-enum_known-k
-factors-enum_known-k t c =
-    c.in-Fault.in-Fault-own.keys1
-
-pub factors-enum_known-n : goal.factors-enum_known-n
-factors-enum_known-n t c =
-    c.in-Next.in-Next-own.keys2
+    let h = (factor-sign _ _ (hit product_signs _ _ (c.product_kind-kind.ensures ∙ ap (sign_kind product_signs) c.peek.ensures) c.if-kind-eq0.false)).present in let l = inside c.args.toks.now _ h in (omega arith, ready-token c.requires h)
 
 pub factors-overflow_add-root : goal.factors-overflow_add-root
 factors-overflow_add-root t c =
-    let m = made_of c.in-Next.is c.atom.ensures.parsed in omega (arith, m.span.onward, m.span.within, m.span.more, m.span.fewer, c.requires.1.inside, c.requires.1.room, c.requires.1.few)
+    let m = made_of c.in-Next.is c.atom.ensures.parsed in omega (arith, m.span.onward, m.span.within, m.span.more, m.span.fewer, c.requires.inside, c.requires.room, c.requires.few)
 
 pub factors-node-requires : goal.factors-node-requires
 factors-node-requires t c =
-    let m = made_of c.in-Next.is c.atom.ensures.parsed in omega (arith, m.span.onward, m.span.within, m.span.more, m.span.fewer, c.requires.1.inside, c.requires.1.room, c.requires.1.few)
+    let m = made_of c.in-Next.is c.atom.ensures.parsed in omega (arith, m.span.onward, m.span.within, m.span.more, m.span.fewer, c.requires.inside, c.requires.room, c.requires.few)
 
 pub factors-factors-requires : goal.factors-factors-requires
 factors-factors-requires t c =
-    let m = made_of c.in-Next.is c.atom.ensures.parsed in (omega (arith, m.span.onward, m.span.within, m.span.more, m.span.fewer), record { inside = m.span.within; room = c.requires.1.room; few = omega (arith, m.span.onward, m.span.within, m.span.more, m.span.fewer, c.requires.1.inside, c.requires.1.room, c.requires.1.few) })
-
-pub factors-shape_of-nodes-in-Fault : goal.factors-shape_of-nodes-in-Fault
-factors-shape_of-nodes-in-Fault t c =
-    omega arith
+    let m = made_of c.in-Next.is c.atom.ensures.parsed in (omega (arith, m.span.onward, m.span.within, m.span.more, m.span.fewer), record { inside = m.span.within; room = c.requires.room; few = omega (arith, m.span.onward, m.span.within, m.span.more, m.span.fewer, c.requires.inside, c.requires.room, c.requires.few) })
 
 pub factors-returns-in-Fault : goal.factors-returns-in-Fault
 factors-returns-in-Fault t c =
-    let r = factors-fault _ _ _ _ _ _ (hit product_signs _ _ (c.product_kind-kind.ensures ∙ ap (sign_kind product_signs) c.peek.ensures) c.if-kind-eq0.false) c.atom.ensures c.in-Fault.is in record { follows = r.0; fact = r.1 }
-
-pub factors-shape_of-nodes-in-Next : goal.factors-shape_of-nodes-in-Next
-factors-shape_of-nodes-in-Next t c =
-    omega arith
+    let r = factors-fault _ _ _ _ _ _ (hit product_signs _ _ (c.product_kind-kind.ensures ∙ ap (sign_kind product_signs) c.peek.ensures) c.if-kind-eq0.false) c.atom.ensures c.in-Fault.is in record { follows = r.0; extended = r.1 }
 
 pub factors-returns-in-Next : goal.factors-returns-in-Next
 factors-returns-in-Next t c =
-    let r = factors-more _ _ _ _ _ _ _ _ _ (hit product_signs _ _ (c.product_kind-kind.ensures ∙ ap (sign_kind product_signs) c.peek.ensures) c.if-kind-eq0.false) c.atom.ensures c.in-Next.is (record { written = c.node.ensures; token-fits = omega arith; left-fits = omega (arith, c.requires.1.inside, c.requires.1.room, c.requires.1.few); third-fits = omega arith }) c.factors.ensures in record { follows = r.0; fact = r.1 }
+    let r = factors-more _ _ _ _ _ _ _ _ _ (hit product_signs _ _ (c.product_kind-kind.ensures ∙ ap (sign_kind product_signs) c.peek.ensures) c.if-kind-eq0.false) c.atom.ensures c.in-Next.is (record { written = c.node.ensures; token-fits = omega arith; left-fits = omega (arith, c.requires.inside, c.requires.room, c.requires.few); third-fits = omega arith }) c.factors.ensures in record { follows = r.0; extended = r.1 }
 
 pub larger-returns-then-peek-ne40 : goal.larger-returns-then-peek-ne40
 larger-returns-then-peek-ne40 t c =
-    let r = larger-stray _ _ _ _ _ c.requires.1.inside (isnt c.peek.ensures c.if-peek-ne40.true) in record { follows = r.0; parsed = r.1 }
+    let r = larger-stray _ _ _ _ _ c.requires.inside (isnt c.peek.ensures c.if-peek-ne40.true) in record { follows = r.0; parsed = r.1 }
 
 pub larger-overflow_add-at : goal.larger-overflow_add-at
 larger-overflow_add-at t c =
-    omega (arith, c.requires.1.inside, c.requires.1.room, c.requires.1.few)
+    omega (arith, c.requires.inside, c.requires.room, c.requires.few)
 
 pub larger-expr-requires : goal.larger-expr-requires
 larger-expr-requires t c =
-    let l = in_tok c.args.toks.now _ c.peek.ensures (omega (arith, c.if-peek-ne40.false)) in (omega arith, ready-token c.requires.1 (omega (arith, c.peek.ensures, c.if-peek-ne40.false)))
-
-pub larger-enum_known-k : goal.larger-enum_known-k
-larger-enum_known-k t c =
-    c.in-Fault.in-Fault-own.keys1
-
-pub larger-enum_known-n : goal.larger-enum_known-n
-larger-enum_known-n t c =
-    c.in-Next.in-Next-own.keys2
-
-pub larger-shape_of-nodes-then-peek-ne44 : goal.larger-shape_of-nodes-then-peek-ne44
-larger-shape_of-nodes-then-peek-ne44 t c =
-    omega arith
+    let l = in_tok c.args.toks.now _ c.peek.ensures (omega (arith, c.if-peek-ne40.false)) in (omega arith, ready-token c.requires (omega (arith, c.peek.ensures, c.if-peek-ne40.false)))
 
 pub larger-returns-then-peek-ne44 : goal.larger-returns-then-peek-ne44
 larger-returns-then-peek-ne44 t c =
@@ -304,83 +200,47 @@ larger-returns-then-peek-ne44 t c =
 
 pub larger-overflow_add-n : goal.larger-overflow_add-n
 larger-overflow_add-n t c =
-    let m = made_of c.in-Next.is c.expr.ensures.parsed in omega (arith, m.span.onward, m.span.within, m.span.more, m.span.fewer, c.requires.1.inside, c.requires.1.room, c.requires.1.few)
+    let m = made_of c.in-Next.is c.expr.ensures.parsed in omega (arith, m.span.onward, m.span.within, m.span.more, m.span.fewer, c.requires.inside, c.requires.room, c.requires.few)
 
 pub larger-overflow_add-left : goal.larger-overflow_add-left
 larger-overflow_add-left t c =
-    let m = made_of c.in-Next.is c.expr.ensures.parsed in omega (arith, m.span.onward, m.span.within, m.span.more, m.span.fewer, c.requires.1.inside, c.requires.1.room, c.requires.1.few)
+    let m = made_of c.in-Next.is c.expr.ensures.parsed in omega (arith, m.span.onward, m.span.within, m.span.more, m.span.fewer, c.requires.inside, c.requires.room, c.requires.few)
 
 pub larger-bracketed-requires : goal.larger-bracketed-requires
 larger-bracketed-requires t c =
-    let m = made_of c.in-Next.is c.expr.ensures.parsed in let l = in_tok c.args.toks.now _ c.peek.ensures (omega (arith, c.if-peek-ne40.false)) in let u = in_tok c.args.toks.now _ c.peek-in-Next.ensures (omega (arith, c.if-peek-ne44.false)) in (omega (arith, m.span.onward, m.span.within, m.span.more, m.span.fewer), ready-token (ready-after (ready-token c.requires.1 (omega (arith, c.peek.ensures, c.if-peek-ne40.false))) m.span) (omega (arith, c.peek-in-Next.ensures, c.if-peek-ne44.false)))
-
-pub larger-enum_known-k-in-Fault-bracketed : goal.larger-enum_known-k-in-Fault-bracketed
-larger-enum_known-k-in-Fault-bracketed t c =
-    c.in-Fault-bracketed.keys1
-
-pub larger-enum_known-m : goal.larger-enum_known-m
-larger-enum_known-m t c =
-    c.in-Next-bracketed.keys2
+    let m = made_of c.in-Next.is c.expr.ensures.parsed in let l = in_tok c.args.toks.now _ c.peek.ensures (omega (arith, c.if-peek-ne40.false)) in let u = in_tok c.args.toks.now _ c.peek-in-Next.ensures (omega (arith, c.if-peek-ne44.false)) in (omega (arith, m.span.onward, m.span.within, m.span.more, m.span.fewer), ready-token (ready-after (ready-token c.requires (omega (arith, c.peek.ensures, c.if-peek-ne40.false))) m.span) (omega (arith, c.peek-in-Next.ensures, c.if-peek-ne44.false)))
 
 pub larger-overflow_add-root : goal.larger-overflow_add-root
 larger-overflow_add-root t c =
-    let m = made_of c.in-Next.is c.expr.ensures.parsed in let q = made_of c.in-Next-bracketed.is c.bracketed.ensures.parsed in omega (arith, m.span.onward, m.span.within, m.span.more, m.span.fewer, q.span.onward, q.span.within, q.span.more, q.span.fewer, c.requires.1.inside, c.requires.1.room, c.requires.1.few)
+    let m = made_of c.in-Next.is c.expr.ensures.parsed in let q = made_of c.in-Next-bracketed.is c.bracketed.ensures.parsed in omega (arith, m.span.onward, m.span.within, m.span.more, m.span.fewer, q.span.onward, q.span.within, q.span.more, q.span.fewer, c.requires.inside, c.requires.room, c.requires.few)
 
 pub larger-node-requires : goal.larger-node-requires
 larger-node-requires t c =
-    let m = made_of c.in-Next.is c.expr.ensures.parsed in omega (arith, m.span.onward, m.span.within, m.span.more, m.span.fewer, c.requires.1.inside, c.requires.1.room, c.requires.1.few)
-
-pub larger-shape_of-nodes-in-Fault : goal.larger-shape_of-nodes-in-Fault
-larger-shape_of-nodes-in-Fault t c =
-    omega arith
+    let m = made_of c.in-Next.is c.expr.ensures.parsed in omega (arith, m.span.onward, m.span.within, m.span.more, m.span.fewer, c.requires.inside, c.requires.room, c.requires.few)
 
 pub larger-returns-in-Fault : goal.larger-returns-in-Fault
 larger-returns-in-Fault t c =
     let r = larger-fault _ _ _ _ _ _ (same c.peek.ensures c.if-peek-ne40.false) c.expr.ensures c.in-Fault.is in record { follows = r.0; parsed = r.1 }
 
-pub larger-shape_of-nodes-in-Fault-bracketed : goal.larger-shape_of-nodes-in-Fault-bracketed
-larger-shape_of-nodes-in-Fault-bracketed t c =
-    omega arith
-
 pub larger-returns-in-Fault-bracketed : goal.larger-returns-in-Fault-bracketed
 larger-returns-in-Fault-bracketed t c =
     let r = larger-second _ _ _ _ _ _ (same c.peek.ensures c.if-peek-ne40.false) c.expr.ensures c.in-Next.is _ (same c.peek-in-Next.ensures c.if-peek-ne44.false) c.bracketed.ensures c.in-Fault-bracketed.is in record { follows = r.0; parsed = r.1 }
 
-pub larger-shape_of-nodes-in-Next-bracketed : goal.larger-shape_of-nodes-in-Next-bracketed
-larger-shape_of-nodes-in-Next-bracketed t c =
-    omega arith
-
 pub larger-returns-in-Next-bracketed : goal.larger-returns-in-Next-bracketed
 larger-returns-in-Next-bracketed t c =
-    let m = made_of c.in-Next.is c.expr.ensures.parsed in let r = larger-made _ _ _ _ _ _ (same c.peek.ensures c.if-peek-ne40.false) c.expr.ensures c.in-Next.is _ (same c.peek-in-Next.ensures c.if-peek-ne44.false) c.bracketed.ensures c.in-Next-bracketed.is (record { written = c.node.ensures; token-fits = omega arith; left-fits = omega (arith, m.span.onward, m.span.within, m.span.more, m.span.fewer, c.requires.1.inside, c.requires.1.room, c.requires.1.few); third-fits = omega arith }) in record { follows = r.0; parsed = r.1 }
+    let m = made_of c.in-Next.is c.expr.ensures.parsed in let r = larger-made _ _ _ _ _ _ (same c.peek.ensures c.if-peek-ne40.false) c.expr.ensures c.in-Next.is _ (same c.peek-in-Next.ensures c.if-peek-ne44.false) c.bracketed.ensures c.in-Next-bracketed.is (record { written = c.node.ensures; token-fits = omega arith; left-fits = omega (arith, m.span.onward, m.span.within, m.span.more, m.span.fewer, c.requires.inside, c.requires.room, c.requires.few); third-fits = omega arith }) in record { follows = r.0; parsed = r.1 }
 
 pub term-atom-requires : goal.term-atom-requires
 term-atom-requires t c =
-    (omega arith, c.requires.1)
-
-pub term-enum_known-k : goal.term-enum_known-k
-term-enum_known-k t c =
-    c.in-Fault.in-Fault-own.keys1
-
-pub term-enum_known-n : goal.term-enum_known-n
-term-enum_known-n t c =
-    c.in-Next.in-Next-own.keys2
+    (omega arith, c.requires)
 
 pub term-factors-requires : goal.term-factors-requires
 term-factors-requires t c =
-    let m = made_of c.in-Next.is c.atom.ensures.parsed in (omega (arith, m.span.onward, m.span.within, m.span.more, m.span.fewer), ready-after c.requires.1 m.span)
-
-pub term-shape_of-nodes-in-Fault : goal.term-shape_of-nodes-in-Fault
-term-shape_of-nodes-in-Fault t c =
-    omega arith
+    let m = made_of c.in-Next.is c.atom.ensures.parsed in (omega (arith, m.span.onward, m.span.within, m.span.more, m.span.fewer), ready-after c.requires m.span)
 
 pub term-returns-in-Fault : goal.term-returns-in-Fault
 term-returns-in-Fault t c =
     let r = term-fault _ _ _ _ _ c.in-Fault.is c.atom.ensures in record { follows = r.0; parsed = r.1 }
-
-pub term-shape_of-nodes-in-Next : goal.term-shape_of-nodes-in-Next
-term-shape_of-nodes-in-Next t c =
-    omega arith
 
 pub term-returns-in-Next : goal.term-returns-in-Next
 term-returns-in-Next t c =
@@ -389,52 +249,36 @@ term-returns-in-Next t c =
 pub terms-returns-then-kind-eq0 : goal.terms-returns-then-kind-eq0
 unfolding op_kind
 terms-returns-then-kind-eq0 t c =
-    let r = terms-none _ _ _ _ c.requires.1.inside (apart sum_signs _ _ (omega arith) (c.sum_kind-kind.ensures ∙ ap (sign_kind sum_signs) c.peek.ensures) c.if-kind-eq0.true) in record { follows = r.0; fact = r.1 }
+    let r = terms-none _ _ _ _ c.requires.inside (apart sum_signs _ _ (omega arith) (c.sum_kind-kind.ensures ∙ ap (sign_kind sum_signs) c.peek.ensures) c.if-kind-eq0.true) in record { follows = r.0; extended = r.1 }
 
 pub terms-overflow_add-at : goal.terms-overflow_add-at
 terms-overflow_add-at t c =
-    omega (arith, c.requires.1.inside, c.requires.1.room, c.requires.1.few)
+    omega (arith, c.requires.inside, c.requires.room, c.requires.few)
 
 pub terms-overflow_add-left : goal.terms-overflow_add-left
 terms-overflow_add-left t c =
-    omega (arith, c.requires.1.inside, c.requires.1.room, c.requires.1.few)
+    omega (arith, c.requires.inside, c.requires.room, c.requires.few)
 
 pub terms-term-requires : goal.terms-term-requires
 terms-term-requires t c =
-    let h = (term-sign _ _ (hit sum_signs _ _ (c.sum_kind-kind.ensures ∙ ap (sign_kind sum_signs) c.peek.ensures) c.if-kind-eq0.false)).present in let l = inside c.args.toks.now _ h in (omega arith, ready-token c.requires.1 h)
-
-pub terms-enum_known-k : goal.terms-enum_known-k
-terms-enum_known-k t c =
-    c.in-Fault.in-Fault-own.keys1
-
-pub terms-enum_known-n : goal.terms-enum_known-n
-terms-enum_known-n t c =
-    c.in-Next.in-Next-own.keys2
+    let h = (term-sign _ _ (hit sum_signs _ _ (c.sum_kind-kind.ensures ∙ ap (sign_kind sum_signs) c.peek.ensures) c.if-kind-eq0.false)).present in let l = inside c.args.toks.now _ h in (omega arith, ready-token c.requires h)
 
 pub terms-overflow_add-root : goal.terms-overflow_add-root
 terms-overflow_add-root t c =
-    let m = made_of c.in-Next.is c.term.ensures.parsed in omega (arith, m.span.onward, m.span.within, m.span.more, m.span.fewer, c.requires.1.inside, c.requires.1.room, c.requires.1.few)
+    let m = made_of c.in-Next.is c.term.ensures.parsed in omega (arith, m.span.onward, m.span.within, m.span.more, m.span.fewer, c.requires.inside, c.requires.room, c.requires.few)
 
 pub terms-node-requires : goal.terms-node-requires
 terms-node-requires t c =
-    let m = made_of c.in-Next.is c.term.ensures.parsed in omega (arith, m.span.onward, m.span.within, m.span.more, m.span.fewer, c.requires.1.inside, c.requires.1.room, c.requires.1.few)
+    let m = made_of c.in-Next.is c.term.ensures.parsed in omega (arith, m.span.onward, m.span.within, m.span.more, m.span.fewer, c.requires.inside, c.requires.room, c.requires.few)
 
 pub terms-terms-requires : goal.terms-terms-requires
 terms-terms-requires t c =
-    let m = made_of c.in-Next.is c.term.ensures.parsed in (omega (arith, m.span.onward, m.span.within, m.span.more, m.span.fewer), record { inside = m.span.within; room = c.requires.1.room; few = omega (arith, m.span.onward, m.span.within, m.span.more, m.span.fewer, c.requires.1.inside, c.requires.1.room, c.requires.1.few) })
-
-pub terms-shape_of-nodes-in-Fault : goal.terms-shape_of-nodes-in-Fault
-terms-shape_of-nodes-in-Fault t c =
-    omega arith
+    let m = made_of c.in-Next.is c.term.ensures.parsed in (omega (arith, m.span.onward, m.span.within, m.span.more, m.span.fewer), record { inside = m.span.within; room = c.requires.room; few = omega (arith, m.span.onward, m.span.within, m.span.more, m.span.fewer, c.requires.inside, c.requires.room, c.requires.few) })
 
 pub terms-returns-in-Fault : goal.terms-returns-in-Fault
 terms-returns-in-Fault t c =
-    let r = terms-fault _ _ _ _ _ _ (hit sum_signs _ _ (c.sum_kind-kind.ensures ∙ ap (sign_kind sum_signs) c.peek.ensures) c.if-kind-eq0.false) c.term.ensures c.in-Fault.is in record { follows = r.0; fact = r.1 }
-
-pub terms-shape_of-nodes-in-Next : goal.terms-shape_of-nodes-in-Next
-terms-shape_of-nodes-in-Next t c =
-    omega arith
+    let r = terms-fault _ _ _ _ _ _ (hit sum_signs _ _ (c.sum_kind-kind.ensures ∙ ap (sign_kind sum_signs) c.peek.ensures) c.if-kind-eq0.false) c.term.ensures c.in-Fault.is in record { follows = r.0; extended = r.1 }
 
 pub terms-returns-in-Next : goal.terms-returns-in-Next
 terms-returns-in-Next t c =
-    let r = terms-more _ _ _ _ _ _ _ _ _ (hit sum_signs _ _ (c.sum_kind-kind.ensures ∙ ap (sign_kind sum_signs) c.peek.ensures) c.if-kind-eq0.false) c.term.ensures c.in-Next.is (record { written = c.node.ensures; token-fits = omega arith; left-fits = omega (arith, c.requires.1.inside, c.requires.1.room, c.requires.1.few); third-fits = omega arith }) c.terms.ensures in record { follows = r.0; fact = r.1 }
+    let r = terms-more _ _ _ _ _ _ _ _ _ (hit sum_signs _ _ (c.sum_kind-kind.ensures ∙ ap (sign_kind sum_signs) c.peek.ensures) c.if-kind-eq0.false) c.term.ensures c.in-Next.is (record { written = c.node.ensures; token-fits = omega arith; left-fits = omega (arith, c.requires.inside, c.requires.room, c.requires.few); third-fits = omega arith }) c.terms.ensures in record { follows = r.0; extended = r.1 }

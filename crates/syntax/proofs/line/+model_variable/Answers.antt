@@ -9,19 +9,15 @@ use Rattle.syntax.proofs.line.+model_variable.Goals as goal
 
 pub model-returns-then-peek-ne-NAME : goal.model-returns-then-peek-ne-NAME
 model-returns-then-peek-ne-NAME t c =
-    let r = model-nameless _ _ _ _ c.requires.1.inside (isnt c.peek.ensures c.if-peek-ne-NAME.true) in record { follows = r.0; parsed = r.1 }
+    let r = model-nameless _ _ _ _ c.requires.inside (isnt c.peek.ensures c.if-peek-ne-NAME.true) in record { follows = r.0; parsed = r.1 }
 
 pub model-overflow_add-n : goal.model-overflow_add-n
 model-overflow_add-n t c =
-    omega (arith, c.requires.1.inside, c.requires.1.room)
+    omega (arith, c.requires.inside, c.requires.room)
 
 pub model-definitions-requires : goal.model-definitions-requires
 model-definitions-requires t c =
-    let r = (c.requires.1, (omega arith, ((same c.peek.ensures c.if-peek-ne-NAME.false), same c.peek-t.ensures c.if-t-eq91.true))) in record { ready = r.0; sums_le_name = r.1; name_value = r.2; name_value_2 = r.3 }
-
-pub model-shape_of-nodes-then-t-eq91 : goal.model-shape_of-nodes-then-t-eq91
-model-shape_of-nodes-then-t-eq91 t c =
-    omega arith
+    let r = (c.requires, (omega arith, ((same c.peek.ensures c.if-peek-ne-NAME.false), same c.peek-t.ensures c.if-t-eq91.true))) in record { ready = r.0; sums_le_name = r.1; name_value = r.2; name_value_2 = r.3 }
 
 pub model-returns-then-t-eq91 : goal.model-returns-then-t-eq91
 model-returns-then-t-eq91 t c =
@@ -33,11 +29,7 @@ model-returns-then-t-ne61 t c =
 
 pub model-variable-requires : goal.model-variable-requires
 model-variable-requires t c =
-    (omega arith, (c.requires.1, ((same c.peek.ensures c.if-peek-ne-NAME.false), same c.peek-t.ensures c.if-t-ne61.false)))
-
-pub model-shape_of-nodes : goal.model-shape_of-nodes
-model-shape_of-nodes t c =
-    omega arith
+    (omega arith, (c.requires, ((same c.peek.ensures c.if-peek-ne-NAME.false), same c.peek-t.ensures c.if-t-ne61.false)))
 
 pub model-returns : goal.model-returns
 model-returns t c =
@@ -45,23 +37,11 @@ model-returns t c =
 
 pub variable-overflow_add-name : goal.variable-overflow_add-name
 variable-overflow_add-name t c =
-    omega (arith, c.requires.1.ready.inside, c.requires.1.ready.room)
+    omega (arith, c.requires.ready.inside, c.requires.ready.room)
 
 pub variable-number-requires : goal.variable-number-requires
 variable-number-requires t c =
-    (ready-third c.requires.1.ready (omega (arith, c.requires.1.name_value.1)))
-
-pub variable-enum_known-k : goal.variable-enum_known-k
-variable-enum_known-k t c =
-    c.in-Fault.in-Fault-own.keys1
-
-pub variable-enum_known-n : goal.variable-enum_known-n
-variable-enum_known-n t c =
-    c.in-Next.in-Next-own.keys2
-
-pub variable-shape_of-nodes-then-peek-ne59 : goal.variable-shape_of-nodes-then-peek-ne59
-variable-shape_of-nodes-then-peek-ne59 t c =
-    omega arith
+    (ready-third c.requires.ready (omega (arith, c.requires.name_value.1)))
 
 pub variable-returns-then-peek-ne59 : goal.variable-returns-then-peek-ne59
 variable-returns-then-peek-ne59 t c =
@@ -69,52 +49,32 @@ variable-returns-then-peek-ne59 t c =
 
 pub variable-overflow_add-n : goal.variable-overflow_add-n
 variable-overflow_add-n t c =
-    let m = made_of c.in-Next.is c.number.ensures.parsed in let q = ready-after (ready-third c.requires.1.ready (omega (arith, c.requires.1.name_value.1))) m.span in omega (arith, q.inside, q.room)
+    let m = made_of c.in-Next.is c.number.ensures.parsed in let q = ready-after (ready-third c.requires.ready (omega (arith, c.requires.name_value.1))) m.span in omega (arith, q.inside, q.room)
 
 pub variable-overflow_add-left : goal.variable-overflow_add-left
 variable-overflow_add-left t c =
-    let m = made_of c.in-Next.is c.number.ensures.parsed in let q = ready-after (ready-third c.requires.1.ready (omega (arith, c.requires.1.name_value.1))) m.span in omega (arith, q.inside, q.room, q.few)
+    let m = made_of c.in-Next.is c.number.ensures.parsed in let q = ready-after (ready-third c.requires.ready (omega (arith, c.requires.name_value.1))) m.span in omega (arith, q.inside, q.room, q.few)
 
 pub variable-model-requires : goal.variable-model-requires
 variable-model-requires t c =
-    let m = made_of c.in-Next.is c.number.ensures.parsed in let q = ready-after (ready-third c.requires.1.ready (omega (arith, c.requires.1.name_value.1))) m.span in let p = ready-token q (omega (arith, c.peek.ensures, c.if-peek-ne59.false)) in (omega (arith, m.span.onward, p.inside), p)
-
-pub variable-enum_known-k-in-Fault-model : goal.variable-enum_known-k-in-Fault-model
-variable-enum_known-k-in-Fault-model t c =
-    c.in-Fault-model.keys1
-
-pub variable-enum_known-m : goal.variable-enum_known-m
-variable-enum_known-m t c =
-    c.in-Next-model.keys2
+    let m = made_of c.in-Next.is c.number.ensures.parsed in let q = ready-after (ready-third c.requires.ready (omega (arith, c.requires.name_value.1))) m.span in let p = ready-token q (omega (arith, c.peek.ensures, c.if-peek-ne59.false)) in (omega (arith, m.span.onward, p.inside), p)
 
 pub variable-overflow_add-root : goal.variable-overflow_add-root
 variable-overflow_add-root t c =
-    let m = made_of c.in-Next.is c.number.ensures.parsed in let q = ready-after (ready-third c.requires.1.ready (omega (arith, c.requires.1.name_value.1))) m.span in let p = ready-after (ready-token q (omega (arith, c.peek.ensures, c.if-peek-ne59.false))) (made_of c.in-Next-model.is c.model.ensures.parsed).span in omega (arith, p.inside, p.room, p.few)
+    let m = made_of c.in-Next.is c.number.ensures.parsed in let q = ready-after (ready-third c.requires.ready (omega (arith, c.requires.name_value.1))) m.span in let p = ready-after (ready-token q (omega (arith, c.peek.ensures, c.if-peek-ne59.false))) (made_of c.in-Next-model.is c.model.ensures.parsed).span in omega (arith, p.inside, p.room, p.few)
 
 pub variable-node-requires : goal.variable-node-requires
 variable-node-requires t c =
-    let m = made_of c.in-Next.is c.number.ensures.parsed in let q = ready-after (ready-third c.requires.1.ready (omega (arith, c.requires.1.name_value.1))) m.span in omega (arith, q.inside, q.room, q.few, c.requires.1.ready.inside)
-
-pub variable-shape_of-nodes-in-Fault : goal.variable-shape_of-nodes-in-Fault
-variable-shape_of-nodes-in-Fault t c =
-    omega arith
+    let m = made_of c.in-Next.is c.number.ensures.parsed in let q = ready-after (ready-third c.requires.ready (omega (arith, c.requires.name_value.1))) m.span in omega (arith, q.inside, q.room, q.few, c.requires.ready.inside)
 
 pub variable-returns-in-Fault : goal.variable-returns-in-Fault
 variable-returns-in-Fault t c =
     let r = variable-number _ _ _ _ _ c.number.ensures c.in-Fault.is in record { follows = r.0; parsed = r.1 }
 
-pub variable-shape_of-nodes-in-Fault-model : goal.variable-shape_of-nodes-in-Fault-model
-variable-shape_of-nodes-in-Fault-model t c =
-    omega arith
-
 pub variable-returns-in-Fault-model : goal.variable-returns-in-Fault-model
 variable-returns-in-Fault-model t c =
     let r = variable-rest _ _ _ _ _ c.number.ensures c.in-Next.is _ (same c.peek.ensures c.if-peek-ne59.false) c.model.ensures c.in-Fault-model.is in record { follows = r.0; parsed = r.1 }
 
-pub variable-shape_of-nodes-in-Next-model : goal.variable-shape_of-nodes-in-Next-model
-variable-shape_of-nodes-in-Next-model t c =
-    omega arith
-
 pub variable-returns-in-Next-model : goal.variable-returns-in-Next-model
 variable-returns-in-Next-model t c =
-    let m = made_of c.in-Next.is c.number.ensures.parsed in let q = ready-after (ready-third c.requires.1.ready (omega (arith, c.requires.1.name_value.1))) m.span in let r = variable-made _ _ _ _ _ c.number.ensures c.in-Next.is _ (same c.peek.ensures c.if-peek-ne59.false) c.model.ensures c.requires.1.name_value.0 c.requires.1.name_value.1 c.in-Next-model.is (record { written = c.node.ensures; token-fits = omega (arith, c.requires.1.ready.inside, c.requires.1.ready.room); left-fits = omega (arith, q.inside, q.room, q.few); third-fits = omega arith }) in record { follows = r.0; parsed = r.1 }
+    let m = made_of c.in-Next.is c.number.ensures.parsed in let q = ready-after (ready-third c.requires.ready (omega (arith, c.requires.name_value.1))) m.span in let r = variable-made _ _ _ _ _ c.number.ensures c.in-Next.is _ (same c.peek.ensures c.if-peek-ne59.false) c.model.ensures c.requires.name_value.0 c.requires.name_value.1 c.in-Next-model.is (record { written = c.node.ensures; token-fits = omega (arith, c.requires.ready.inside, c.requires.ready.room); left-fits = omega (arith, q.inside, q.room, q.few); third-fits = omega arith }) in record { follows = r.0; parsed = r.1 }

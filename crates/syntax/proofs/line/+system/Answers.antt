@@ -9,31 +9,15 @@ use Rattle.syntax.proofs.line.+system.Goals as goal
 
 pub start-requires : goal.start-requires
 start-requires t c =
-    c.requires.1
-
-pub enum_known-k : goal.enum_known-k
-enum_known-k t c =
-    c.in-Fault.in-Fault-own.keys1
-
-pub enum_known-n : goal.enum_known-n
-enum_known-n t c =
-    c.in-Next.in-Next-own.keys2
+    c.requires
 
 pub overflow_add-result : goal.overflow_add-result
 overflow_add-result t c =
-    let m = made_of c.in-Next.is c.start.ensures.parsed in let q = ready-after c.requires.1 m.span in omega (arith, q.inside, q.room)
-
-pub shape_of-nodes-then-t-eq59 : goal.shape_of-nodes-then-t-eq59
-shape_of-nodes-then-t-eq59 t c =
-    omega arith
+    let m = made_of c.in-Next.is c.start.ensures.parsed in let q = ready-after c.requires m.span in omega (arith, q.inside, q.room)
 
 pub returns-then-t-eq59 : goal.returns-then-t-eq59
 returns-then-t-eq59 t c =
     let r = system-last _ _ _ _ _ c.start.ensures c.in-Next.is (same c.peek-t.ensures c.if-t-eq59.true) in record { follows = r.0; parsed = r.1 }
-
-pub shape_of-nodes-then-t : goal.shape_of-nodes-then-t
-shape_of-nodes-then-t t c =
-    omega arith
 
 pub returns-then-t : goal.returns-then-t
 returns-then-t t c =
@@ -41,52 +25,32 @@ returns-then-t t c =
 
 pub overflow_add-n : goal.overflow_add-n
 overflow_add-n t c =
-    let m = made_of c.in-Next.is c.start.ensures.parsed in let q = ready-after c.requires.1 m.span in omega (arith, q.inside, q.room)
+    let m = made_of c.in-Next.is c.start.ensures.parsed in let q = ready-after c.requires m.span in omega (arith, q.inside, q.room)
 
 pub overflow_add-left : goal.overflow_add-left
 overflow_add-left t c =
-    let m = made_of c.in-Next.is c.start.ensures.parsed in let q = ready-after c.requires.1 m.span in omega (arith, q.inside, q.room, q.few)
+    let m = made_of c.in-Next.is c.start.ensures.parsed in let q = ready-after c.requires m.span in omega (arith, q.inside, q.room, q.few)
 
 pub system-requires : goal.system-requires
 system-requires t c =
-    let m = made_of c.in-Next.is c.start.ensures.parsed in let q = ready-after c.requires.1 m.span in let l = in_tok c.args.toks.now _ c.peek-t.ensures (omega (arith, c.if-t.false)) in (omega (arith, m.span.onward), ready-token q (omega (arith, c.peek-t.ensures, c.if-t.false)))
-
-pub enum_known-k-in-Fault-system : goal.enum_known-k-in-Fault-system
-enum_known-k-in-Fault-system t c =
-    c.in-Fault-system.keys1
-
-pub enum_known-m : goal.enum_known-m
-enum_known-m t c =
-    c.in-Next-system.keys2
+    let m = made_of c.in-Next.is c.start.ensures.parsed in let q = ready-after c.requires m.span in let l = in_tok c.args.toks.now _ c.peek-t.ensures (omega (arith, c.if-t.false)) in (omega (arith, m.span.onward), ready-token q (omega (arith, c.peek-t.ensures, c.if-t.false)))
 
 pub overflow_add-root : goal.overflow_add-root
 overflow_add-root t c =
-    let m = made_of c.in-Next.is c.start.ensures.parsed in let q = ready-after c.requires.1 m.span in let p = ready-after (ready-token q (omega (arith, c.peek-t.ensures, c.if-t.false))) (made_of c.in-Next-system.is c.system.ensures.parsed).span in omega (arith, p.inside, p.room, p.few)
+    let m = made_of c.in-Next.is c.start.ensures.parsed in let q = ready-after c.requires m.span in let p = ready-after (ready-token q (omega (arith, c.peek-t.ensures, c.if-t.false))) (made_of c.in-Next-system.is c.system.ensures.parsed).span in omega (arith, p.inside, p.room, p.few)
 
 pub node-requires : goal.node-requires
 node-requires t c =
-    let m = made_of c.in-Next.is c.start.ensures.parsed in let q = ready-after c.requires.1 m.span in omega (arith, q.inside, q.room, q.few)
-
-pub shape_of-nodes-in-Fault : goal.shape_of-nodes-in-Fault
-shape_of-nodes-in-Fault t c =
-    omega arith
+    let m = made_of c.in-Next.is c.start.ensures.parsed in let q = ready-after c.requires m.span in omega (arith, q.inside, q.room, q.few)
 
 pub returns-in-Fault : goal.returns-in-Fault
 returns-in-Fault t c =
     let r = system-first _ _ _ _ _ c.start.ensures c.in-Fault.is in record { follows = r.0; parsed = r.1 }
 
-pub shape_of-nodes-in-Fault-system : goal.shape_of-nodes-in-Fault-system
-shape_of-nodes-in-Fault-system t c =
-    omega arith
-
 pub returns-in-Fault-system : goal.returns-in-Fault-system
 returns-in-Fault-system t c =
     let r = system-rest _ _ _ _ _ c.start.ensures c.in-Next.is _ (same c.peek-t.ensures c.if-t.false) c.system.ensures c.in-Fault-system.is in record { follows = r.0; parsed = r.1 }
 
-pub shape_of-nodes-in-Next-system : goal.shape_of-nodes-in-Next-system
-shape_of-nodes-in-Next-system t c =
-    omega arith
-
 pub returns-in-Next-system : goal.returns-in-Next-system
 returns-in-Next-system t c =
-    let m = made_of c.in-Next.is c.start.ensures.parsed in let q = ready-after c.requires.1 m.span in let r = system-next _ _ _ _ _ c.start.ensures c.in-Next.is _ (same c.peek-t.ensures c.if-t.false) c.system.ensures c.in-Next-system.is (record { written = c.node.ensures; token-fits = omega arith; left-fits = omega (arith, q.inside, q.room, q.few); third-fits = omega arith }) in record { follows = r.0; parsed = r.1 }
+    let m = made_of c.in-Next.is c.start.ensures.parsed in let q = ready-after c.requires m.span in let r = system-next _ _ _ _ _ c.start.ensures c.in-Next.is _ (same c.peek-t.ensures c.if-t.false) c.system.ensures c.in-Next-system.is (record { written = c.node.ensures; token-fits = omega arith; left-fits = omega (arith, q.inside, q.room, q.few); third-fits = omega arith }) in record { follows = r.0; parsed = r.1 }

@@ -9,31 +9,15 @@ use Rattle.syntax.proofs.line.+wholes.Goals as goal
 
 pub literal-requires : goal.literal-requires
 literal-requires t c =
-    c.requires.1
-
-pub enum_known-k : goal.enum_known-k
-enum_known-k t c =
-    c.in-Fault.in-Fault-own.keys1
-
-pub enum_known-n : goal.enum_known-n
-enum_known-n t c =
-    c.in-Next.in-Next-own.keys2
+    c.requires
 
 pub overflow_add-result : goal.overflow_add-result
 overflow_add-result t c =
-    let m = made_of c.in-Next.is c.literal.ensures.parsed in let q = ready-after c.requires.1 m.span in omega (arith, q.inside, q.room)
-
-pub shape_of-nodes-then-t-eq93 : goal.shape_of-nodes-then-t-eq93
-shape_of-nodes-then-t-eq93 t c =
-    omega arith
+    let m = made_of c.in-Next.is c.literal.ensures.parsed in let q = ready-after c.requires m.span in omega (arith, q.inside, q.room)
 
 pub returns-then-t-eq93 : goal.returns-then-t-eq93
 returns-then-t-eq93 t c =
     let r = wholes-last _ _ _ _ _ c.literal.ensures c.in-Next.is (same c.peek-t.ensures c.if-t-eq93.true) in record { follows = r.0; tallied = r.1 }
-
-pub shape_of-nodes-then-t-ne44 : goal.shape_of-nodes-then-t-ne44
-shape_of-nodes-then-t-ne44 t c =
-    omega arith
 
 pub returns-then-t-ne44 : goal.returns-then-t-ne44
 returns-then-t-ne44 t c =
@@ -41,56 +25,36 @@ returns-then-t-ne44 t c =
 
 pub overflow_add-n : goal.overflow_add-n
 overflow_add-n t c =
-    let m = made_of c.in-Next.is c.literal.ensures.parsed in let q = ready-after c.requires.1 m.span in omega (arith, q.inside, q.room)
+    let m = made_of c.in-Next.is c.literal.ensures.parsed in let q = ready-after c.requires m.span in omega (arith, q.inside, q.room)
 
 pub overflow_add-left : goal.overflow_add-left
 overflow_add-left t c =
-    let m = made_of c.in-Next.is c.literal.ensures.parsed in let q = ready-after c.requires.1 m.span in omega (arith, q.inside, q.room, q.few)
+    let m = made_of c.in-Next.is c.literal.ensures.parsed in let q = ready-after c.requires m.span in omega (arith, q.inside, q.room, q.few)
 
 pub wholes-requires : goal.wholes-requires
 wholes-requires t c =
-    let m = made_of c.in-Next.is c.literal.ensures.parsed in let q = ready-after c.requires.1 m.span in let l = in_tok c.args.toks.now _ c.peek-t.ensures (omega (arith, c.if-t-ne44.false)) in (omega (arith, m.span.onward), ready-token q (omega (arith, c.peek-t.ensures, c.if-t-ne44.false)))
-
-pub enum_known-k-in-Fault-wholes : goal.enum_known-k-in-Fault-wholes
-enum_known-k-in-Fault-wholes t c =
-    c.in-Fault-wholes.keys1
-
-pub enum_known-m : goal.enum_known-m
-enum_known-m t c =
-    c.in-Next-wholes.keys2
+    let m = made_of c.in-Next.is c.literal.ensures.parsed in let q = ready-after c.requires m.span in let l = in_tok c.args.toks.now _ c.peek-t.ensures (omega (arith, c.if-t-ne44.false)) in (omega (arith, m.span.onward), ready-token q (omega (arith, c.peek-t.ensures, c.if-t-ne44.false)))
 
 pub overflow_add-root : goal.overflow_add-root
 overflow_add-root t c =
-    let m = made_of c.in-Next.is c.literal.ensures.parsed in let q = ready-after c.requires.1 m.span in let w = tally-of c.in-Next-wholes.is c.wholes.ensures.tallied in let p = ready-after (ready-token q (omega (arith, c.peek-t.ensures, c.if-t-ne44.false))) w.made.span in omega (arith, p.inside, p.room, p.few)
+    let m = made_of c.in-Next.is c.literal.ensures.parsed in let q = ready-after c.requires m.span in let w = tally-of c.in-Next-wholes.is c.wholes.ensures.tallied in let p = ready-after (ready-token q (omega (arith, c.peek-t.ensures, c.if-t-ne44.false))) w.made.span in omega (arith, p.inside, p.room, p.few)
 
 pub node-requires : goal.node-requires
 node-requires t c =
-    let m = made_of c.in-Next.is c.literal.ensures.parsed in let q = ready-after c.requires.1 m.span in omega (arith, q.inside, q.room, q.few)
+    let m = made_of c.in-Next.is c.literal.ensures.parsed in let q = ready-after c.requires m.span in omega (arith, q.inside, q.room, q.few)
 
 pub overflow_add-result-in-Next-wholes : goal.overflow_add-result-in-Next-wholes
 overflow_add-result-in-Next-wholes t c =
-    let m = made_of c.in-Next.is c.literal.ensures.parsed in let q = ready-after c.requires.1 m.span in let w = tally-of c.in-Next-wholes.is c.wholes.ensures.tallied in let p = ready-after (ready-token q (omega (arith, c.peek-t.ensures, c.if-t-ne44.false))) w.made.span in omega (arith, w.rarer, p.inside, p.room)
-
-pub shape_of-nodes-in-Fault : goal.shape_of-nodes-in-Fault
-shape_of-nodes-in-Fault t c =
-    omega arith
+    let m = made_of c.in-Next.is c.literal.ensures.parsed in let q = ready-after c.requires m.span in let w = tally-of c.in-Next-wholes.is c.wholes.ensures.tallied in let p = ready-after (ready-token q (omega (arith, c.peek-t.ensures, c.if-t-ne44.false))) w.made.span in omega (arith, w.rarer, p.inside, p.room)
 
 pub returns-in-Fault : goal.returns-in-Fault
 returns-in-Fault t c =
     let r = wholes-first _ _ _ _ _ c.literal.ensures c.in-Fault.is in record { follows = r.0; tallied = r.1 }
 
-pub shape_of-nodes-in-Fault-wholes : goal.shape_of-nodes-in-Fault-wholes
-shape_of-nodes-in-Fault-wholes t c =
-    omega arith
-
 pub returns-in-Fault-wholes : goal.returns-in-Fault-wholes
 returns-in-Fault-wholes t c =
     let r = wholes-rest _ _ _ _ _ c.literal.ensures c.in-Next.is _ (same c.peek-t.ensures c.if-t-ne44.false) c.wholes.ensures c.in-Fault-wholes.is in record { follows = r.0; tallied = r.1 }
 
-pub shape_of-nodes-in-Next-wholes : goal.shape_of-nodes-in-Next-wholes
-shape_of-nodes-in-Next-wholes t c =
-    omega arith
-
 pub returns-in-Next-wholes : goal.returns-in-Next-wholes
 returns-in-Next-wholes t c =
-    let m = made_of c.in-Next.is c.literal.ensures.parsed in let q = ready-after c.requires.1 m.span in let r = wholes-next _ _ _ _ _ c.literal.ensures c.in-Next.is _ (same c.peek-t.ensures c.if-t-ne44.false) c.wholes.ensures c.in-Next-wholes.is (record { written = c.node.ensures; token-fits = omega arith; left-fits = omega (arith, q.inside, q.room, q.few); third-fits = omega arith }) in record { follows = r.0; tallied = r.1 }
+    let m = made_of c.in-Next.is c.literal.ensures.parsed in let q = ready-after c.requires m.span in let r = wholes-next _ _ _ _ _ c.literal.ensures c.in-Next.is _ (same c.peek-t.ensures c.if-t-ne44.false) c.wholes.ensures c.in-Next-wholes.is (record { written = c.node.ensures; token-fits = omega arith; left-fits = omega (arith, q.inside, q.room, q.few); third-fits = omega arith }) in record { follows = r.0; tallied = r.1 }

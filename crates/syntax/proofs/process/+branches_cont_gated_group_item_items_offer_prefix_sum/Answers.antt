@@ -17,19 +17,7 @@ use Rattle.syntax.proofs.process.+branches_cont_gated_group_item_items_offer_pre
 
 pub branches-prefix-requires : goal.branches-prefix-requires
 branches-prefix-requires t c =
-    (omega arith, (c.requires.1.ready, c.requires.1.sums_bound))
-
-pub branches-enum_known-k : goal.branches-enum_known-k
-branches-enum_known-k t c =
-    c.in-Fault.in-Fault-own.keys1
-
-pub branches-enum_known-n : goal.branches-enum_known-n
-branches-enum_known-n t c =
-    c.in-Next.in-Next-own.keys2
-
-pub branches-shape_of-nodes-then-peek-ne43 : goal.branches-shape_of-nodes-then-peek-ne43
-branches-shape_of-nodes-then-peek-ne43 t c =
-    omega arith
+    (omega arith, (c.requires.ready, c.requires.sums_bound))
 
 pub branches-returns-then-peek-ne43 : goal.branches-returns-then-peek-ne43
 branches-returns-then-peek-ne43 t c =
@@ -37,70 +25,46 @@ branches-returns-then-peek-ne43 t c =
 
 pub branches-overflow_add-n : goal.branches-overflow_add-n
 branches-overflow_add-n t c =
-    let ready = branches-ready c.args.toks.now c.args.nodes.now _ c.args.at c.args.used c.args.sums c.prefix.ensures c.in-Next.is (same c.peek.ensures c.if-peek-ne43.false) c.requires.1.ready in
+    let ready = branches-ready c.args.toks.now c.args.nodes.now _ c.args.at c.args.used c.args.sums c.prefix.ensures c.in-Next.is (same c.peek.ensures c.if-peek-ne43.false) c.requires.ready in
     omega (arith, ready.inside, ready.room)
 
 pub branches-overflow_add-left : goal.branches-overflow_add-left
 branches-overflow_add-left t c =
-    let ready = branches-ready c.args.toks.now c.args.nodes.now _ c.args.at c.args.used c.args.sums c.prefix.ensures c.in-Next.is (same c.peek.ensures c.if-peek-ne43.false) c.requires.1.ready in
+    let ready = branches-ready c.args.toks.now c.args.nodes.now _ c.args.at c.args.used c.args.sums c.prefix.ensures c.in-Next.is (same c.peek.ensures c.if-peek-ne43.false) c.requires.ready in
     omega (arith, ready.inside, ready.room, ready.few)
 
 pub branches-branches-requires : goal.branches-branches-requires
 branches-branches-requires t c =
-    let ready = branches-ready c.args.toks.now c.args.nodes.now _ c.args.at c.args.used c.args.sums c.prefix.ensures c.in-Next.is (same c.peek.ensures c.if-peek-ne43.false) c.requires.1.ready in
+    let ready = branches-ready c.args.toks.now c.args.nodes.now _ c.args.at c.args.used c.args.sums c.prefix.ensures c.in-Next.is (same c.peek.ensures c.if-peek-ne43.false) c.requires.ready in
     let v = tally-of c.in-Next.is c.prefix.ensures.tallied.0 in
-    (omega (arith, ready.inside, v.made.span.onward), (ready, omega (arith, v.rarer, c.requires.1.sums_bound)))
-
-pub branches-enum_known-k-in-Fault-branches : goal.branches-enum_known-k-in-Fault-branches
-branches-enum_known-k-in-Fault-branches t c =
-    c.in-Fault-branches.keys1
-
-pub branches-enum_known-m : goal.branches-enum_known-m
-branches-enum_known-m t c =
-    c.in-Next-branches.keys2
+    (omega (arith, ready.inside, v.made.span.onward), (ready, omega (arith, v.rarer, c.requires.sums_bound)))
 
 pub branches-overflow_add-root : goal.branches-overflow_add-root
 branches-overflow_add-root t c =
-    let ready = branches-ready c.args.toks.now c.args.nodes.now _ c.args.at c.args.used c.args.sums c.prefix.ensures c.in-Next.is (same c.peek.ensures c.if-peek-ne43.false) c.requires.1.ready in
+    let ready = branches-ready c.args.toks.now c.args.nodes.now _ c.args.at c.args.used c.args.sums c.prefix.ensures c.in-Next.is (same c.peek.ensures c.if-peek-ne43.false) c.requires.ready in
     let u = tally-of c.in-Next-branches.is c.branches.ensures.tallied.0 in
     omega (arith, ready.room, ready.few, u.made.span.within, u.made.span.fewer)
 
 pub branches-node-requires : goal.branches-node-requires
 branches-node-requires t c =
-    let ready = branches-ready c.args.toks.now c.args.nodes.now _ c.args.at c.args.used c.args.sums c.prefix.ensures c.in-Next.is (same c.peek.ensures c.if-peek-ne43.false) c.requires.1.ready in
+    let ready = branches-ready c.args.toks.now c.args.nodes.now _ c.args.at c.args.used c.args.sums c.prefix.ensures c.in-Next.is (same c.peek.ensures c.if-peek-ne43.false) c.requires.ready in
     (omega arith, omega (arith, ready.inside, ready.room, ready.few), omega arith)
-
-pub branches-shape_of-nodes-in-Fault : goal.branches-shape_of-nodes-in-Fault
-branches-shape_of-nodes-in-Fault t c =
-    omega arith
 
 pub branches-returns-in-Fault : goal.branches-returns-in-Fault
 branches-returns-in-Fault t c =
     let r = branches-fault c.args.toks.now c.args.nodes.now _ c.args.at c.args.used c.args.sums c.prefix.ensures c.in-Fault.is in record { follows = r.0; tallied = r.1; spare = r.2 }
 
-pub branches-shape_of-nodes-in-Fault-branches : goal.branches-shape_of-nodes-in-Fault-branches
-branches-shape_of-nodes-in-Fault-branches t c =
-    omega arith
-
 pub branches-returns-in-Fault-branches : goal.branches-returns-in-Fault-branches
 branches-returns-in-Fault-branches t c =
     let r = branches-next-fault c.args.toks.now c.args.nodes.now _ c.args.at c.args.used c.args.sums c.prefix.ensures c.in-Next.is (same c.peek.ensures c.if-peek-ne43.false) _ c.branches.ensures c.in-Fault-branches.is in record { follows = r.0; tallied = r.1; spare = r.2 }
 
-pub branches-shape_of-nodes-in-Next-branches : goal.branches-shape_of-nodes-in-Next-branches
-branches-shape_of-nodes-in-Next-branches t c =
-    omega arith
-
 pub branches-returns-in-Next-branches : goal.branches-returns-in-Next-branches
 branches-returns-in-Next-branches t c =
-    let ready = branches-ready c.args.toks.now c.args.nodes.now _ c.args.at c.args.used c.args.sums c.prefix.ensures c.in-Next.is (same c.peek.ensures c.if-peek-ne43.false) c.requires.1.ready in let r = branches-next c.args.toks.now c.args.nodes.now _ c.args.at c.args.used c.args.sums c.prefix.ensures c.in-Next.is (same c.peek.ensures c.if-peek-ne43.false) _ c.branches.ensures c.in-Next-branches.is (record { written = c.node.ensures; token-fits = omega arith; left-fits = omega (arith, ready.inside, ready.room, ready.few); third-fits = omega arith }) in record { follows = r.0; tallied = r.1; spare = r.2 }
+    let ready = branches-ready c.args.toks.now c.args.nodes.now _ c.args.at c.args.used c.args.sums c.prefix.ensures c.in-Next.is (same c.peek.ensures c.if-peek-ne43.false) c.requires.ready in let r = branches-next c.args.toks.now c.args.nodes.now _ c.args.at c.args.used c.args.sums c.prefix.ensures c.in-Next.is (same c.peek.ensures c.if-peek-ne43.false) _ c.branches.ensures c.in-Next-branches.is (record { written = c.node.ensures; token-fits = omega arith; left-fits = omega (arith, ready.inside, ready.room, ready.few); third-fits = omega arith }) in record { follows = r.0; tallied = r.1; spare = r.2 }
 
 pub cont-group-requires : goal.cont-group-requires
 cont-group-requires t c =
-    (omega arith, (c.requires.1.ready, (c.requires.1.sums_le_at, same c.peek-t.ensures c.if-t-eq40.true)))
-
-pub cont-shape_of-nodes-then-t-eq40 : goal.cont-shape_of-nodes-then-t-eq40
-cont-shape_of-nodes-then-t-eq40 t c =
-    omega arith
+    (omega arith, (c.requires.ready, (c.requires.sums_le_at, same c.peek-t.ensures c.if-t-eq40.true)))
 
 pub cont-returns-then-t-eq40 : goal.cont-returns-then-t-eq40
 cont-returns-then-t-eq40 t c =
@@ -108,11 +72,7 @@ cont-returns-then-t-eq40 t c =
 
 pub cont-call-requires : goal.cont-call-requires
 cont-call-requires t c =
-     record { ready = c.requires.1.ready; at_value = same c.peek-t.ensures c.if-t-eq-NAME.true }
-
-pub cont-shape_of-nodes-then-t-eq-NAME : goal.cont-shape_of-nodes-then-t-eq-NAME
-cont-shape_of-nodes-then-t-eq-NAME t c =
-    omega arith
+     record { ready = c.requires.ready; at_value = same c.peek-t.ensures c.if-t-eq-NAME.true }
 
 pub cont-returns-then-t-eq-NAME : goal.cont-returns-then-t-eq-NAME
 cont-returns-then-t-eq-NAME t c =
@@ -120,44 +80,28 @@ cont-returns-then-t-eq-NAME t c =
 
 pub cont-overflow_add-sums : goal.cont-overflow_add-sums
 cont-overflow_add-sums t c =
-    omega (arith, c.requires.1.ready.inside, c.requires.1.ready.room, c.requires.1.sums_le_at)
+    omega (arith, c.requires.ready.inside, c.requires.ready.room, c.requires.sums_le_at)
 
 pub cont-prefix-requires : goal.cont-prefix-requires
 cont-prefix-requires t c =
-    (omega arith, (c.requires.1.ready, omega (arith, c.requires.1.sums_le_at)))
-
-pub cont-enum_known-k : goal.cont-enum_known-k
-cont-enum_known-k t c =
-    c.in-Fault.in-Fault-own.keys1
-
-pub cont-enum_known-n : goal.cont-enum_known-n
-cont-enum_known-n t c =
-    c.in-Next.in-Next-own.keys2
+    (omega arith, (c.requires.ready, omega (arith, c.requires.sums_le_at)))
 
 pub cont-overflow_add-root : goal.cont-overflow_add-root
 cont-overflow_add-root t c =
     let v = tally-of c.in-Next.is c.prefix.ensures.tallied.0 in
-    omega (arith, c.requires.1.ready.room, c.requires.1.ready.few, v.made.span.within, v.made.span.fewer)
+    omega (arith, c.requires.ready.room, c.requires.ready.few, v.made.span.within, v.made.span.fewer)
 
 pub cont-node-requires : goal.cont-node-requires
 cont-node-requires t c =
-    (omega (arith, c.requires.1.ready.inside, c.requires.1.ready.room, c.requires.1.sums_le_at), omega arith, omega (arith, c.requires.1.ready.inside, c.requires.1.ready.room))
-
-pub cont-shape_of-nodes-in-Fault : goal.cont-shape_of-nodes-in-Fault
-cont-shape_of-nodes-in-Fault t c =
-    omega arith
+    (omega (arith, c.requires.ready.inside, c.requires.ready.room, c.requires.sums_le_at), omega arith, omega (arith, c.requires.ready.inside, c.requires.ready.room))
 
 pub cont-returns-in-Fault : goal.cont-returns-in-Fault
 cont-returns-in-Fault t c =
     let r = cont-fault c.args.toks.now c.args.nodes.now _ c.args.at c.args.used c.args.sums (isnt c.peek-t.ensures c.if-t-eq40.false) (isnt c.peek-t.ensures c.if-t-eq-NAME.false) c.prefix.ensures c.in-Fault.is in record { follows = r.0; tallied = r.1 }
 
-pub cont-shape_of-nodes-in-Next : goal.cont-shape_of-nodes-in-Next
-cont-shape_of-nodes-in-Next t c =
-    omega arith
-
 pub cont-returns-in-Next : goal.cont-returns-in-Next
 cont-returns-in-Next t c =
-    let r = cont-chain c.args.toks.now c.args.nodes.now _ c.args.at c.args.used c.args.sums (isnt c.peek-t.ensures c.if-t-eq40.false) (isnt c.peek-t.ensures c.if-t-eq-NAME.false) c.prefix.ensures c.in-Next.is (record { written = c.node.ensures; token-fits = omega (arith, c.requires.1.ready.inside, c.requires.1.ready.room, c.requires.1.sums_le_at); left-fits = omega arith; third-fits = omega (arith, c.requires.1.ready.inside, c.requires.1.ready.room) }) in record { follows = r.0; tallied = r.1 }
+    let r = cont-chain c.args.toks.now c.args.nodes.now _ c.args.at c.args.used c.args.sums (isnt c.peek-t.ensures c.if-t-eq40.false) (isnt c.peek-t.ensures c.if-t-eq-NAME.false) c.prefix.ensures c.in-Next.is (record { written = c.node.ensures; token-fits = omega (arith, c.requires.ready.inside, c.requires.ready.room, c.requires.sums_le_at); left-fits = omega arith; third-fits = omega (arith, c.requires.ready.inside, c.requires.ready.room) }) in record { follows = r.0; tallied = r.1 }
 
 pub gated-overflow_add-at : goal.gated-overflow_add-at
 gated-overflow_add-at t c =
@@ -165,94 +109,58 @@ gated-overflow_add-at t c =
 
 pub gated-condition-requires : goal.gated-condition-requires
 gated-condition-requires t c =
-    ready-token c.requires.1.ready (omega arith)
-
-pub gated-enum_known-k : goal.gated-enum_known-k
-gated-enum_known-k t c =
-    c.in-Fault.in-Fault-own.keys1
-
-pub gated-enum_known-n : goal.gated-enum_known-n
-gated-enum_known-n t c =
-    c.in-Next.in-Next-own.keys2
-
-pub gated-shape_of-nodes-then-peek-ne93 : goal.gated-shape_of-nodes-then-peek-ne93
-gated-shape_of-nodes-then-peek-ne93 t c =
-    omega arith
+    ready-token c.requires.ready (omega arith)
 
 pub gated-returns-then-peek-ne93 : goal.gated-returns-then-peek-ne93
 gated-returns-then-peek-ne93 t c =
-    let r = gated-open c.args.toks.now c.args.nodes.now _ c.args.at c.args.used c.args.sums c.requires.1.sums_bound.1 c.condition.ensures c.in-Next.is (isnt c.peek.ensures c.if-peek-ne93.true) in record { follows = r.0; tallied = r.1; spare = r.2 }
+    let r = gated-open c.args.toks.now c.args.nodes.now _ c.args.at c.args.used c.args.sums c.requires.sums_bound.1 c.condition.ensures c.in-Next.is (isnt c.peek.ensures c.if-peek-ne93.true) in record { follows = r.0; tallied = r.1; spare = r.2 }
 
 pub gated-overflow_add-arrow : goal.gated-overflow_add-arrow
 gated-overflow_add-arrow t c =
-    omega (arith, c.requires.1.ready.room, in_tok c.args.toks.now c.in-Next.n c.peek.ensures (omega arith))
-
-pub gated-shape_of-nodes-then-peek : goal.gated-shape_of-nodes-then-peek
-gated-shape_of-nodes-then-peek t c =
-    omega arith
+    omega (arith, c.requires.ready.room, in_tok c.args.toks.now c.in-Next.n c.peek.ensures (omega arith))
 
 pub gated-returns-then-peek : goal.gated-returns-then-peek
 gated-returns-then-peek t c =
-    let r = gated-stray c.args.toks.now c.args.nodes.now _ c.args.at c.args.used c.args.sums c.requires.1.sums_bound.1 c.condition.ensures c.in-Next.is (same c.peek.ensures c.if-peek-ne93.false) (isnt c.peek-in-Next.ensures c.if-peek.true) in record { follows = r.0; tallied = r.1; spare = r.2 }
+    let r = gated-stray c.args.toks.now c.args.nodes.now _ c.args.at c.args.used c.args.sums c.requires.sums_bound.1 c.condition.ensures c.in-Next.is (same c.peek.ensures c.if-peek-ne93.false) (isnt c.peek-in-Next.ensures c.if-peek.true) in record { follows = r.0; tallied = r.1; spare = r.2 }
 
 pub gated-overflow_add-arrow-in-Next : goal.gated-overflow_add-arrow-in-Next
 gated-overflow_add-arrow-in-Next t c =
-    let ready = gated-ready c.args.toks.now c.args.nodes.now _ c.args.at c.args.used c.args.sums c.requires.1.sums_bound.1 c.condition.ensures c.in-Next.is (same c.peek.ensures c.if-peek-ne93.false) (same c.peek-in-Next.ensures c.if-peek.false) c.requires.1.ready in
+    let ready = gated-ready c.args.toks.now c.args.nodes.now _ c.args.at c.args.used c.args.sums c.requires.sums_bound.1 c.condition.ensures c.in-Next.is (same c.peek.ensures c.if-peek-ne93.false) (same c.peek-in-Next.ensures c.if-peek.false) c.requires.ready in
     omega (arith, ready.inside, ready.room)
 
 pub gated-overflow_add-left : goal.gated-overflow_add-left
 gated-overflow_add-left t c =
-    let ready = gated-ready c.args.toks.now c.args.nodes.now _ c.args.at c.args.used c.args.sums c.requires.1.sums_bound.1 c.condition.ensures c.in-Next.is (same c.peek.ensures c.if-peek-ne93.false) (same c.peek-in-Next.ensures c.if-peek.false) c.requires.1.ready in
+    let ready = gated-ready c.args.toks.now c.args.nodes.now _ c.args.at c.args.used c.args.sums c.requires.sums_bound.1 c.condition.ensures c.in-Next.is (same c.peek.ensures c.if-peek-ne93.false) (same c.peek-in-Next.ensures c.if-peek.false) c.requires.ready in
     omega (arith, ready.inside, ready.room, ready.few)
 
 pub gated-offer-requires : goal.gated-offer-requires
 gated-offer-requires t c =
-    let ready = gated-ready c.args.toks.now c.args.nodes.now _ c.args.at c.args.used c.args.sums c.requires.1.sums_bound.1 c.condition.ensures c.in-Next.is (same c.peek.ensures c.if-peek-ne93.false) (same c.peek-in-Next.ensures c.if-peek.false) c.requires.1.ready in
+    let ready = gated-ready c.args.toks.now c.args.nodes.now _ c.args.at c.args.used c.args.sums c.requires.sums_bound.1 c.condition.ensures c.in-Next.is (same c.peek.ensures c.if-peek-ne93.false) (same c.peek-in-Next.ensures c.if-peek.false) c.requires.ready in
     let m = made_of c.in-Next.is c.condition.ensures.parsed in
-    (omega (arith, m.span.onward), (ready, (omega (arith, m.span.onward, c.requires.1.sums_bound.0), omega (arith, m.span.onward))))
-
-pub gated-enum_known-k-in-Fault-offer : goal.gated-enum_known-k-in-Fault-offer
-gated-enum_known-k-in-Fault-offer t c =
-    c.in-Fault-offer.keys1
-
-pub gated-enum_known-m : goal.gated-enum_known-m
-gated-enum_known-m t c =
-    c.in-Next-offer.keys2
+    (omega (arith, m.span.onward), (ready, (omega (arith, m.span.onward, c.requires.sums_bound.0), omega (arith, m.span.onward))))
 
 pub gated-overflow_add-root : goal.gated-overflow_add-root
 gated-overflow_add-root t c =
-    let ready = gated-ready c.args.toks.now c.args.nodes.now _ c.args.at c.args.used c.args.sums c.requires.1.sums_bound.1 c.condition.ensures c.in-Next.is (same c.peek.ensures c.if-peek-ne93.false) (same c.peek-in-Next.ensures c.if-peek.false) c.requires.1.ready in
+    let ready = gated-ready c.args.toks.now c.args.nodes.now _ c.args.at c.args.used c.args.sums c.requires.sums_bound.1 c.condition.ensures c.in-Next.is (same c.peek.ensures c.if-peek-ne93.false) (same c.peek-in-Next.ensures c.if-peek.false) c.requires.ready in
     let v = tally-of c.in-Next-offer.is c.offer.ensures.tallied.0 in
     omega (arith, ready.room, ready.few, v.made.span.within, v.made.span.fewer)
 
 pub gated-node-requires : goal.gated-node-requires
 gated-node-requires t c =
-    let ready = gated-ready c.args.toks.now c.args.nodes.now _ c.args.at c.args.used c.args.sums c.requires.1.sums_bound.1 c.condition.ensures c.in-Next.is (same c.peek.ensures c.if-peek-ne93.false) (same c.peek-in-Next.ensures c.if-peek.false) c.requires.1.ready in
-    (omega (arith, c.requires.1.ready.inside, c.requires.1.ready.room), omega (arith, ready.inside, ready.room, ready.few), omega arith)
-
-pub gated-shape_of-nodes-in-Fault : goal.gated-shape_of-nodes-in-Fault
-gated-shape_of-nodes-in-Fault t c =
-    omega arith
+    let ready = gated-ready c.args.toks.now c.args.nodes.now _ c.args.at c.args.used c.args.sums c.requires.sums_bound.1 c.condition.ensures c.in-Next.is (same c.peek.ensures c.if-peek-ne93.false) (same c.peek-in-Next.ensures c.if-peek.false) c.requires.ready in
+    (omega (arith, c.requires.ready.inside, c.requires.ready.room), omega (arith, ready.inside, ready.room, ready.few), omega arith)
 
 pub gated-returns-in-Fault : goal.gated-returns-in-Fault
 gated-returns-in-Fault t c =
-    let r = gated-fault c.args.toks.now c.args.nodes.now _ c.args.at c.args.used c.args.sums c.requires.1.sums_bound.1 c.condition.ensures c.in-Fault.is in record { follows = r.0; tallied = r.1; spare = r.2 }
-
-pub gated-shape_of-nodes-in-Fault-offer : goal.gated-shape_of-nodes-in-Fault-offer
-gated-shape_of-nodes-in-Fault-offer t c =
-    omega arith
+    let r = gated-fault c.args.toks.now c.args.nodes.now _ c.args.at c.args.used c.args.sums c.requires.sums_bound.1 c.condition.ensures c.in-Fault.is in record { follows = r.0; tallied = r.1; spare = r.2 }
 
 pub gated-returns-in-Fault-offer : goal.gated-returns-in-Fault-offer
 gated-returns-in-Fault-offer t c =
-    let r = gated-offer-fault c.args.toks.now c.args.nodes.now _ c.args.at c.args.used c.args.sums c.requires.1.sums_bound.1 c.condition.ensures c.in-Next.is (same c.peek.ensures c.if-peek-ne93.false) (same c.peek-in-Next.ensures c.if-peek.false) _ c.offer.ensures c.in-Fault-offer.is in record { follows = r.0; tallied = r.1; spare = r.2 }
-
-pub gated-shape_of-nodes-in-Next-offer : goal.gated-shape_of-nodes-in-Next-offer
-gated-shape_of-nodes-in-Next-offer t c =
-    omega arith
+    let r = gated-offer-fault c.args.toks.now c.args.nodes.now _ c.args.at c.args.used c.args.sums c.requires.sums_bound.1 c.condition.ensures c.in-Next.is (same c.peek.ensures c.if-peek-ne93.false) (same c.peek-in-Next.ensures c.if-peek.false) _ c.offer.ensures c.in-Fault-offer.is in record { follows = r.0; tallied = r.1; spare = r.2 }
 
 pub gated-returns-in-Next-offer : goal.gated-returns-in-Next-offer
 gated-returns-in-Next-offer t c =
-    let ready = gated-ready c.args.toks.now c.args.nodes.now _ c.args.at c.args.used c.args.sums c.requires.1.sums_bound.1 c.condition.ensures c.in-Next.is (same c.peek.ensures c.if-peek-ne93.false) (same c.peek-in-Next.ensures c.if-peek.false) c.requires.1.ready in let r = gated-node c.args.toks.now c.args.nodes.now _ c.args.at c.args.used c.args.sums c.requires.1.sums_bound.1 c.condition.ensures c.in-Next.is (same c.peek.ensures c.if-peek-ne93.false) (same c.peek-in-Next.ensures c.if-peek.false) _ c.offer.ensures c.in-Next-offer.is (record { written = c.node.ensures; token-fits = omega (arith, c.requires.1.ready.inside, c.requires.1.ready.room); left-fits = omega (arith, ready.inside, ready.room, ready.few); third-fits = omega arith }) in record { follows = r.0; tallied = r.1; spare = r.2 }
+    let ready = gated-ready c.args.toks.now c.args.nodes.now _ c.args.at c.args.used c.args.sums c.requires.sums_bound.1 c.condition.ensures c.in-Next.is (same c.peek.ensures c.if-peek-ne93.false) (same c.peek-in-Next.ensures c.if-peek.false) c.requires.ready in let r = gated-node c.args.toks.now c.args.nodes.now _ c.args.at c.args.used c.args.sums c.requires.sums_bound.1 c.condition.ensures c.in-Next.is (same c.peek.ensures c.if-peek-ne93.false) (same c.peek-in-Next.ensures c.if-peek.false) _ c.offer.ensures c.in-Next-offer.is (record { written = c.node.ensures; token-fits = omega (arith, c.requires.ready.inside, c.requires.ready.room); left-fits = omega (arith, ready.inside, ready.room, ready.few); third-fits = omega arith }) in record { follows = r.0; tallied = r.1; spare = r.2 }
 
 pub group-overflow_add-at : goal.group-overflow_add-at
 group-overflow_add-at t c =
@@ -260,48 +168,28 @@ group-overflow_add-at t c =
 
 pub group-items-requires : goal.group-items-requires
 group-items-requires t c =
-    (omega (arith, inside c.args.toks.now c.args.at (omega arith)), (ready-token c.requires.1.ready (omega arith), omega (arith, c.requires.1.sums_le_at.0)))
-
-pub group-enum_known-k : goal.group-enum_known-k
-group-enum_known-k t c =
-    c.in-Fault.in-Fault-own.keys1
-
-pub group-enum_known-n : goal.group-enum_known-n
-group-enum_known-n t c =
-    c.in-Next.in-Next-own.keys2
+    (omega (arith, inside c.args.toks.now c.args.at (omega arith)), (ready-token c.requires.ready (omega arith), omega (arith, c.requires.sums_le_at.0)))
 
 pub group-overflow_add-root : goal.group-overflow_add-root
 group-overflow_add-root t c =
     let v = tally-of c.in-Next.is c.items.ensures.tallied in
-    omega (arith, c.requires.1.ready.room, c.requires.1.ready.few, v.made.span.within, v.made.span.fewer)
+    omega (arith, c.requires.ready.room, c.requires.ready.few, v.made.span.within, v.made.span.fewer)
 
 pub group-node-requires : goal.group-node-requires
 group-node-requires t c =
-    (omega (arith, c.requires.1.ready.inside, c.requires.1.ready.room), omega arith, omega arith)
-
-pub group-shape_of-nodes-in-Fault : goal.group-shape_of-nodes-in-Fault
-group-shape_of-nodes-in-Fault t c =
-    omega arith
+    (omega (arith, c.requires.ready.inside, c.requires.ready.room), omega arith, omega arith)
 
 pub group-returns-in-Fault : goal.group-returns-in-Fault
 group-returns-in-Fault t c =
-    let r = group-fault c.args.toks.now c.args.nodes.now _ c.args.at c.args.used c.args.sums c.requires.1.sums_le_at.1 c.items.ensures c.in-Fault.is in record { follows = r.0; tallied = r.1 }
-
-pub group-shape_of-nodes-in-Next : goal.group-shape_of-nodes-in-Next
-group-shape_of-nodes-in-Next t c =
-    omega arith
+    let r = group-fault c.args.toks.now c.args.nodes.now _ c.args.at c.args.used c.args.sums c.requires.sums_le_at.1 c.items.ensures c.in-Fault.is in record { follows = r.0; tallied = r.1 }
 
 pub group-returns-in-Next : goal.group-returns-in-Next
 group-returns-in-Next t c =
-    let r = group-node c.args.toks.now c.args.nodes.now _ c.args.at c.args.used c.args.sums c.requires.1.sums_le_at.1 c.items.ensures c.in-Next.is (record { written = c.node.ensures; token-fits = omega (arith, c.requires.1.ready.inside, c.requires.1.ready.room); left-fits = omega arith; third-fits = omega arith }) in record { follows = r.0; tallied = r.1 }
+    let r = group-node c.args.toks.now c.args.nodes.now _ c.args.at c.args.used c.args.sums c.requires.sums_le_at.1 c.items.ensures c.in-Next.is (record { written = c.node.ensures; token-fits = omega (arith, c.requires.ready.inside, c.requires.ready.room); left-fits = omega arith; third-fits = omega arith }) in record { follows = r.0; tallied = r.1 }
 
 pub item-group-requires : goal.item-group-requires
 item-group-requires t c =
-    (omega arith, (c.requires.1.ready, (c.requires.1.sums_le_at, same c.peek-t.ensures c.if-t-eq40.true)))
-
-pub item-shape_of-nodes-then-t-eq40 : goal.item-shape_of-nodes-then-t-eq40
-item-shape_of-nodes-then-t-eq40 t c =
-    omega arith
+    (omega arith, (c.requires.ready, (c.requires.sums_le_at, same c.peek-t.ensures c.if-t-eq40.true)))
 
 pub item-returns-then-t-eq40 : goal.item-returns-then-t-eq40
 item-returns-then-t-eq40 t c =
@@ -309,11 +197,7 @@ item-returns-then-t-eq40 t c =
 
 pub item-call-requires : goal.item-call-requires
 item-call-requires t c =
-     record { ready = c.requires.1.ready; at_value = same c.peek-t.ensures c.if-t-eq-NAME.true }
-
-pub item-shape_of-nodes-then-t-eq-NAME : goal.item-shape_of-nodes-then-t-eq-NAME
-item-shape_of-nodes-then-t-eq-NAME t c =
-    omega arith
+     record { ready = c.requires.ready; at_value = same c.peek-t.ensures c.if-t-eq-NAME.true }
 
 pub item-returns-then-t-eq-NAME : goal.item-returns-then-t-eq-NAME
 item-returns-then-t-eq-NAME t c =
@@ -321,11 +205,7 @@ item-returns-then-t-eq-NAME t c =
 
 pub item-sum-requires : goal.item-sum-requires
 item-sum-requires t c =
-    (omega arith, (c.requires.1.ready, c.requires.1.sums_le_at))
-
-pub item-shape_of-nodes : goal.item-shape_of-nodes
-item-shape_of-nodes t c =
-    omega arith
+    (omega arith, (c.requires.ready, c.requires.sums_le_at))
 
 pub item-returns : goal.item-returns
 item-returns t c =
@@ -333,31 +213,15 @@ item-returns t c =
 
 pub items-item-requires : goal.items-item-requires
 items-item-requires t c =
-    (omega arith, (c.requires.1.ready, c.requires.1.sums_le_at))
-
-pub items-enum_known-k : goal.items-enum_known-k
-items-enum_known-k t c =
-    c.in-Fault.in-Fault-own.keys1
-
-pub items-enum_known-n : goal.items-enum_known-n
-items-enum_known-n t c =
-    c.in-Next.in-Next-own.keys2
+    (omega arith, (c.requires.ready, c.requires.sums_le_at))
 
 pub items-overflow_add-result : goal.items-overflow_add-result
 items-overflow_add-result t c =
-    omega (arith, c.requires.1.ready.room, in_tok c.args.toks.now c.in-Next.n c.peek-t.ensures (omega arith))
-
-pub items-shape_of-nodes-then-t-eq41 : goal.items-shape_of-nodes-then-t-eq41
-items-shape_of-nodes-then-t-eq41 t c =
-    omega arith
+    omega (arith, c.requires.ready.room, in_tok c.args.toks.now c.in-Next.n c.peek-t.ensures (omega arith))
 
 pub items-returns-then-t-eq41 : goal.items-returns-then-t-eq41
 items-returns-then-t-eq41 t c =
     let r = items-close c.args.toks.now c.args.nodes.now _ c.args.at c.args.used c.args.sums c.item.ensures c.in-Next.is (same c.peek-t.ensures c.if-t-eq41.true) in record { follows = r.0; tallied = r.1 }
-
-pub items-shape_of-nodes-then-t : goal.items-shape_of-nodes-then-t
-items-shape_of-nodes-then-t t c =
-    omega arith
 
 pub items-returns-then-t : goal.items-returns-then-t
 items-returns-then-t t c =
@@ -365,66 +229,46 @@ items-returns-then-t t c =
 
 pub items-overflow_add-n : goal.items-overflow_add-n
 items-overflow_add-n t c =
-    let ready = items-ready c.args.toks.now c.args.nodes.now _ c.args.at c.args.used c.args.sums c.item.ensures c.in-Next.is (same c.peek-t.ensures c.if-t.false) c.requires.1.ready in
+    let ready = items-ready c.args.toks.now c.args.nodes.now _ c.args.at c.args.used c.args.sums c.item.ensures c.in-Next.is (same c.peek-t.ensures c.if-t.false) c.requires.ready in
     omega (arith, ready.inside, ready.room)
 
 pub items-overflow_add-left : goal.items-overflow_add-left
 items-overflow_add-left t c =
-    let ready = items-ready c.args.toks.now c.args.nodes.now _ c.args.at c.args.used c.args.sums c.item.ensures c.in-Next.is (same c.peek-t.ensures c.if-t.false) c.requires.1.ready in
+    let ready = items-ready c.args.toks.now c.args.nodes.now _ c.args.at c.args.used c.args.sums c.item.ensures c.in-Next.is (same c.peek-t.ensures c.if-t.false) c.requires.ready in
     omega (arith, ready.inside, ready.room, ready.few)
 
 pub items-items-requires : goal.items-items-requires
 items-items-requires t c =
-    let ready = items-ready c.args.toks.now c.args.nodes.now _ c.args.at c.args.used c.args.sums c.item.ensures c.in-Next.is (same c.peek-t.ensures c.if-t.false) c.requires.1.ready in
+    let ready = items-ready c.args.toks.now c.args.nodes.now _ c.args.at c.args.used c.args.sums c.item.ensures c.in-Next.is (same c.peek-t.ensures c.if-t.false) c.requires.ready in
     let v = tally-of c.in-Next.is c.item.ensures.tallied in
-    (omega (arith, ready.inside, v.made.span.onward), (ready, omega (arith, v.rarer, c.requires.1.sums_le_at)))
-
-pub items-enum_known-k-in-Fault-items : goal.items-enum_known-k-in-Fault-items
-items-enum_known-k-in-Fault-items t c =
-    c.in-Fault-items.keys1
-
-pub items-enum_known-m : goal.items-enum_known-m
-items-enum_known-m t c =
-    c.in-Next-items.keys2
+    (omega (arith, ready.inside, v.made.span.onward), (ready, omega (arith, v.rarer, c.requires.sums_le_at)))
 
 pub items-overflow_add-root : goal.items-overflow_add-root
 items-overflow_add-root t c =
-    let ready = items-ready c.args.toks.now c.args.nodes.now _ c.args.at c.args.used c.args.sums c.item.ensures c.in-Next.is (same c.peek-t.ensures c.if-t.false) c.requires.1.ready in
+    let ready = items-ready c.args.toks.now c.args.nodes.now _ c.args.at c.args.used c.args.sums c.item.ensures c.in-Next.is (same c.peek-t.ensures c.if-t.false) c.requires.ready in
     let u = tally-of c.in-Next-items.is c.items.ensures.tallied in
     omega (arith, ready.room, ready.few, u.made.span.within, u.made.span.fewer)
 
 pub items-node-requires : goal.items-node-requires
 items-node-requires t c =
-    let ready = items-ready c.args.toks.now c.args.nodes.now _ c.args.at c.args.used c.args.sums c.item.ensures c.in-Next.is (same c.peek-t.ensures c.if-t.false) c.requires.1.ready in
+    let ready = items-ready c.args.toks.now c.args.nodes.now _ c.args.at c.args.used c.args.sums c.item.ensures c.in-Next.is (same c.peek-t.ensures c.if-t.false) c.requires.ready in
     (omega arith, omega (arith, ready.inside, ready.room, ready.few), omega arith)
-
-pub items-shape_of-nodes-in-Fault : goal.items-shape_of-nodes-in-Fault
-items-shape_of-nodes-in-Fault t c =
-    omega arith
 
 pub items-returns-in-Fault : goal.items-returns-in-Fault
 items-returns-in-Fault t c =
     let r = items-fault c.args.toks.now c.args.nodes.now _ c.args.at c.args.used c.args.sums c.item.ensures c.in-Fault.is in record { follows = r.0; tallied = r.1 }
 
-pub items-shape_of-nodes-in-Fault-items : goal.items-shape_of-nodes-in-Fault-items
-items-shape_of-nodes-in-Fault-items t c =
-    omega arith
-
 pub items-returns-in-Fault-items : goal.items-returns-in-Fault-items
 items-returns-in-Fault-items t c =
     let r = items-next-fault c.args.toks.now c.args.nodes.now _ c.args.at c.args.used c.args.sums c.item.ensures c.in-Next.is (same c.peek-t.ensures c.if-t.false) _ c.items.ensures c.in-Fault-items.is in record { follows = r.0; tallied = r.1 }
 
-pub items-shape_of-nodes-in-Next-items : goal.items-shape_of-nodes-in-Next-items
-items-shape_of-nodes-in-Next-items t c =
-    omega arith
-
 pub items-returns-in-Next-items : goal.items-returns-in-Next-items
 items-returns-in-Next-items t c =
-    let ready = items-ready c.args.toks.now c.args.nodes.now _ c.args.at c.args.used c.args.sums c.item.ensures c.in-Next.is (same c.peek-t.ensures c.if-t.false) c.requires.1.ready in let r = items-next c.args.toks.now c.args.nodes.now _ c.args.at c.args.used c.args.sums c.item.ensures c.in-Next.is (same c.peek-t.ensures c.if-t.false) _ c.items.ensures c.in-Next-items.is (record { written = c.node.ensures; token-fits = omega arith; left-fits = omega (arith, ready.inside, ready.room, ready.few); third-fits = omega arith }) in record { follows = r.0; tallied = r.1 }
+    let ready = items-ready c.args.toks.now c.args.nodes.now _ c.args.at c.args.used c.args.sums c.item.ensures c.in-Next.is (same c.peek-t.ensures c.if-t.false) c.requires.ready in let r = items-next c.args.toks.now c.args.nodes.now _ c.args.at c.args.used c.args.sums c.item.ensures c.in-Next.is (same c.peek-t.ensures c.if-t.false) _ c.items.ensures c.in-Next-items.is (record { written = c.node.ensures; token-fits = omega arith; left-fits = omega (arith, ready.inside, ready.room, ready.few); third-fits = omega arith }) in record { follows = r.0; tallied = r.1 }
 
 pub offer-returns-then-peek-ne123 : goal.offer-returns-then-peek-ne123
 offer-returns-then-peek-ne123 t c =
-    let r = offer-stray c.args.toks.now c.args.nodes.now c.args.at c.args.used c.args.sums c.args.first c.requires.1.ready.inside (isnt c.peek.ensures c.if-peek-ne123.true) in record { follows = r.0; tallied = r.1; spare = r.2 }
+    let r = offer-stray c.args.toks.now c.args.nodes.now c.args.at c.args.used c.args.sums c.args.first c.requires.ready.inside (isnt c.peek.ensures c.if-peek-ne123.true) in record { follows = r.0; tallied = r.1; spare = r.2 }
 
 pub offer-overflow_add-at : goal.offer-overflow_add-at
 offer-overflow_add-at t c =
@@ -432,106 +276,70 @@ offer-overflow_add-at t c =
 
 pub offer-braced-requires : goal.offer-braced-requires
 offer-braced-requires t c =
-    ready-token c.requires.1.ready (omega arith)
-
-pub offer-enum_known-k : goal.offer-enum_known-k
-offer-enum_known-k t c =
-    c.in-Fault.in-Fault-own.keys1
-
-pub offer-enum_known-point : goal.offer-enum_known-point
-offer-enum_known-point t c =
-    c.in-Next.in-Next-own.keys2
+    ready-token c.requires.ready (omega arith)
 
 pub offer-overflow_add-root : goal.offer-overflow_add-root
 offer-overflow_add-root t c =
-    let ready = offer-ready c.args.toks.now c.args.nodes.now c.args.at c.args.used c.args.sums c.args.first (same c.peek.ensures c.if-peek-ne123.false) _ c.braced.ensures c.in-Next.is c.requires.1.ready in
+    let ready = offer-ready c.args.toks.now c.args.nodes.now c.args.at c.args.used c.args.sums c.args.first (same c.peek.ensures c.if-peek-ne123.false) _ c.braced.ensures c.in-Next.is c.requires.ready in
     omega (arith, ready.room, ready.inside, ready.few)
 
 pub offer-node-requires : goal.offer-node-requires
 offer-node-requires t c =
-    let ready = offer-ready c.args.toks.now c.args.nodes.now c.args.at c.args.used c.args.sums c.args.first (same c.peek.ensures c.if-peek-ne123.false) _ c.braced.ensures c.in-Next.is c.requires.1.ready in
+    let ready = offer-ready c.args.toks.now c.args.nodes.now c.args.at c.args.used c.args.sums c.args.first (same c.peek.ensures c.if-peek-ne123.false) _ c.braced.ensures c.in-Next.is c.requires.ready in
     let inner = offer-inner c.args.toks.now c.args.nodes.now c.args.at c.args.used c.args.sums c.args.first (same c.peek.ensures c.if-peek-ne123.false) _ c.braced.ensures c.in-Next.is in
-    (omega (arith, c.requires.1.ready.inside, c.requires.1.ready.room, c.requires.1.sums_bound.1), omega (arith, ready.inside, ready.room, ready.few, inner.below), omega arith)
-
-pub offer-shape_of-nodes-then-peek-ne46 : goal.offer-shape_of-nodes-then-peek-ne46
-offer-shape_of-nodes-then-peek-ne46 t c =
-    omega arith
+    (omega (arith, c.requires.ready.inside, c.requires.ready.room, c.requires.sums_bound.1), omega (arith, ready.inside, ready.room, ready.few, inner.below), omega arith)
 
 pub offer-returns-then-peek-ne46 : goal.offer-returns-then-peek-ne46
 offer-returns-then-peek-ne46 t c =
-    let ready = offer-ready c.args.toks.now c.args.nodes.now c.args.at c.args.used c.args.sums c.args.first (same c.peek.ensures c.if-peek-ne123.false) _ c.braced.ensures c.in-Next.is c.requires.1.ready in
-    let inner = offer-inner c.args.toks.now c.args.nodes.now c.args.at c.args.used c.args.sums c.args.first (same c.peek.ensures c.if-peek-ne123.false) _ c.braced.ensures c.in-Next.is in let r = offer-stop c.args.toks.now c.args.nodes.now c.args.at c.args.used c.args.sums c.args.first (same c.peek.ensures c.if-peek-ne123.false) _ c.braced.ensures c.in-Next.is (isnt c.peek-in-Next.ensures c.if-peek-ne46.true) (record { written = c.node.ensures; token-fits = omega (arith, c.requires.1.ready.inside, c.requires.1.ready.room, c.requires.1.sums_bound.1); left-fits = omega (arith, ready.inside, ready.room, ready.few, inner.below); third-fits = omega arith }) in record { follows = r.0; tallied = r.1; spare = r.2 }
+    let ready = offer-ready c.args.toks.now c.args.nodes.now c.args.at c.args.used c.args.sums c.args.first (same c.peek.ensures c.if-peek-ne123.false) _ c.braced.ensures c.in-Next.is c.requires.ready in
+    let inner = offer-inner c.args.toks.now c.args.nodes.now c.args.at c.args.used c.args.sums c.args.first (same c.peek.ensures c.if-peek-ne123.false) _ c.braced.ensures c.in-Next.is in let r = offer-stop c.args.toks.now c.args.nodes.now c.args.at c.args.used c.args.sums c.args.first (same c.peek.ensures c.if-peek-ne123.false) _ c.braced.ensures c.in-Next.is (isnt c.peek-in-Next.ensures c.if-peek-ne46.true) (record { written = c.node.ensures; token-fits = omega (arith, c.requires.ready.inside, c.requires.ready.room, c.requires.sums_bound.1); left-fits = omega (arith, ready.inside, ready.room, ready.few, inner.below); third-fits = omega arith }) in record { follows = r.0; tallied = r.1; spare = r.2 }
 
 pub offer-overflow_add-point : goal.offer-overflow_add-point
 offer-overflow_add-point t c =
-    let later = offer-ready-cont c.args.toks.now c.args.nodes.now c.args.at c.args.used c.args.sums c.args.first (same c.peek.ensures c.if-peek-ne123.false) _ c.braced.ensures c.in-Next.is (same c.peek-in-Next.ensures c.if-peek-ne46.false) c.requires.1.ready in
+    let later = offer-ready-cont c.args.toks.now c.args.nodes.now c.args.at c.args.used c.args.sums c.args.first (same c.peek.ensures c.if-peek-ne123.false) _ c.braced.ensures c.in-Next.is (same c.peek-in-Next.ensures c.if-peek-ne46.false) c.requires.ready in
     omega (arith, later.inside, later.room)
 
 pub offer-overflow_add-middle : goal.offer-overflow_add-middle
 offer-overflow_add-middle t c =
-    let later = offer-ready-cont c.args.toks.now c.args.nodes.now c.args.at c.args.used c.args.sums c.args.first (same c.peek.ensures c.if-peek-ne123.false) _ c.braced.ensures c.in-Next.is (same c.peek-in-Next.ensures c.if-peek-ne46.false) c.requires.1.ready in
+    let later = offer-ready-cont c.args.toks.now c.args.nodes.now c.args.at c.args.used c.args.sums c.args.first (same c.peek.ensures c.if-peek-ne123.false) _ c.braced.ensures c.in-Next.is (same c.peek-in-Next.ensures c.if-peek-ne46.false) c.requires.ready in
     omega (arith, later.inside, later.room, later.few)
 
 pub offer-cont-requires : goal.offer-cont-requires
 offer-cont-requires t c =
-    let later = offer-ready-cont c.args.toks.now c.args.nodes.now c.args.at c.args.used c.args.sums c.args.first (same c.peek.ensures c.if-peek-ne123.false) _ c.braced.ensures c.in-Next.is (same c.peek-in-Next.ensures c.if-peek-ne46.false) c.requires.1.ready in
+    let later = offer-ready-cont c.args.toks.now c.args.nodes.now c.args.at c.args.used c.args.sums c.args.first (same c.peek.ensures c.if-peek-ne123.false) _ c.braced.ensures c.in-Next.is (same c.peek-in-Next.ensures c.if-peek-ne46.false) c.requires.ready in
     let inner = offer-inner c.args.toks.now c.args.nodes.now c.args.at c.args.used c.args.sums c.args.first (same c.peek.ensures c.if-peek-ne123.false) _ c.braced.ensures c.in-Next.is in
-    (omega (arith, later.inside, inner.span.onward), (later, omega (arith, inner.span.onward, c.requires.1.sums_bound.0)))
-
-pub offer-enum_known-k-in-Fault-cont : goal.offer-enum_known-k-in-Fault-cont
-offer-enum_known-k-in-Fault-cont t c =
-    c.in-Fault-cont.keys1
-
-pub offer-enum_known-e : goal.offer-enum_known-e
-offer-enum_known-e t c =
-    c.in-Next-cont.keys2
+    (omega (arith, later.inside, inner.span.onward), (later, omega (arith, inner.span.onward, c.requires.sums_bound.0)))
 
 pub offer-overflow_add-root-in-Next-cont : goal.offer-overflow_add-root-in-Next-cont
 offer-overflow_add-root-in-Next-cont t c =
-    let later = offer-ready-cont c.args.toks.now c.args.nodes.now c.args.at c.args.used c.args.sums c.args.first (same c.peek.ensures c.if-peek-ne123.false) _ c.braced.ensures c.in-Next.is (same c.peek-in-Next.ensures c.if-peek-ne46.false) c.requires.1.ready in
+    let later = offer-ready-cont c.args.toks.now c.args.nodes.now c.args.at c.args.used c.args.sums c.args.first (same c.peek.ensures c.if-peek-ne123.false) _ c.braced.ensures c.in-Next.is (same c.peek-in-Next.ensures c.if-peek-ne46.false) c.requires.ready in
     let v = tally-of c.in-Next-cont.is c.cont.ensures.tallied in
     omega (arith, later.room, later.few, v.made.span.within, v.made.span.fewer)
 
 pub offer-node-requires-in-Next-cont : goal.offer-node-requires-in-Next-cont
 offer-node-requires-in-Next-cont t c =
-    let ready = offer-ready c.args.toks.now c.args.nodes.now c.args.at c.args.used c.args.sums c.args.first (same c.peek.ensures c.if-peek-ne123.false) _ c.braced.ensures c.in-Next.is c.requires.1.ready in
+    let ready = offer-ready c.args.toks.now c.args.nodes.now c.args.at c.args.used c.args.sums c.args.first (same c.peek.ensures c.if-peek-ne123.false) _ c.braced.ensures c.in-Next.is c.requires.ready in
     let inner = offer-inner c.args.toks.now c.args.nodes.now c.args.at c.args.used c.args.sums c.args.first (same c.peek.ensures c.if-peek-ne123.false) _ c.braced.ensures c.in-Next.is in
-    let later = offer-ready-cont c.args.toks.now c.args.nodes.now c.args.at c.args.used c.args.sums c.args.first (same c.peek.ensures c.if-peek-ne123.false) _ c.braced.ensures c.in-Next.is (same c.peek-in-Next.ensures c.if-peek-ne46.false) c.requires.1.ready in
-    (omega (arith, c.requires.1.ready.inside, c.requires.1.ready.room, c.requires.1.sums_bound.1), omega (arith, ready.inside, ready.room, ready.few, inner.below), omega (arith, later.inside, later.room, later.few))
-
-pub offer-shape_of-nodes-in-Fault : goal.offer-shape_of-nodes-in-Fault
-offer-shape_of-nodes-in-Fault t c =
-    omega arith
+    let later = offer-ready-cont c.args.toks.now c.args.nodes.now c.args.at c.args.used c.args.sums c.args.first (same c.peek.ensures c.if-peek-ne123.false) _ c.braced.ensures c.in-Next.is (same c.peek-in-Next.ensures c.if-peek-ne46.false) c.requires.ready in
+    (omega (arith, c.requires.ready.inside, c.requires.ready.room, c.requires.sums_bound.1), omega (arith, ready.inside, ready.room, ready.few, inner.below), omega (arith, later.inside, later.room, later.few))
 
 pub offer-returns-in-Fault : goal.offer-returns-in-Fault
 offer-returns-in-Fault t c =
     let r = offer-fault c.args.toks.now c.args.nodes.now c.args.at c.args.used c.args.sums c.args.first (same c.peek.ensures c.if-peek-ne123.false) _ c.braced.ensures c.in-Fault.is in record { follows = r.0; tallied = r.1; spare = r.2 }
 
-pub offer-shape_of-nodes-in-Fault-cont : goal.offer-shape_of-nodes-in-Fault-cont
-offer-shape_of-nodes-in-Fault-cont t c =
-    omega arith
-
 pub offer-returns-in-Fault-cont : goal.offer-returns-in-Fault-cont
 offer-returns-in-Fault-cont t c =
     let r = offer-cont-fault c.args.toks.now c.args.nodes.now c.args.at c.args.used c.args.sums c.args.first (same c.peek.ensures c.if-peek-ne123.false) _ c.braced.ensures c.in-Next.is (same c.peek-in-Next.ensures c.if-peek-ne46.false) _ c.cont.ensures c.in-Fault-cont.is in record { follows = r.0; tallied = r.1; spare = r.2 }
 
-pub offer-shape_of-nodes-in-Next-cont : goal.offer-shape_of-nodes-in-Next-cont
-offer-shape_of-nodes-in-Next-cont t c =
-    omega arith
-
 pub offer-returns-in-Next-cont : goal.offer-returns-in-Next-cont
 offer-returns-in-Next-cont t c =
-    let ready = offer-ready c.args.toks.now c.args.nodes.now c.args.at c.args.used c.args.sums c.args.first (same c.peek.ensures c.if-peek-ne123.false) _ c.braced.ensures c.in-Next.is c.requires.1.ready in
+    let ready = offer-ready c.args.toks.now c.args.nodes.now c.args.at c.args.used c.args.sums c.args.first (same c.peek.ensures c.if-peek-ne123.false) _ c.braced.ensures c.in-Next.is c.requires.ready in
     let inner = offer-inner c.args.toks.now c.args.nodes.now c.args.at c.args.used c.args.sums c.args.first (same c.peek.ensures c.if-peek-ne123.false) _ c.braced.ensures c.in-Next.is in
-    let later = offer-ready-cont c.args.toks.now c.args.nodes.now c.args.at c.args.used c.args.sums c.args.first (same c.peek.ensures c.if-peek-ne123.false) _ c.braced.ensures c.in-Next.is (same c.peek-in-Next.ensures c.if-peek-ne46.false) c.requires.1.ready in let r = offer-dot c.args.toks.now c.args.nodes.now c.args.at c.args.used c.args.sums c.args.first (same c.peek.ensures c.if-peek-ne123.false) _ c.braced.ensures c.in-Next.is (same c.peek-in-Next.ensures c.if-peek-ne46.false) _ c.cont.ensures c.in-Next-cont.is (record { written = c.node-in-Next-cont.ensures; token-fits = omega (arith, c.requires.1.ready.inside, c.requires.1.ready.room, c.requires.1.sums_bound.1); left-fits = omega (arith, ready.inside, ready.room, ready.few, inner.below); third-fits = omega (arith, later.inside, later.room, later.few) }) in record { follows = r.0; tallied = r.1; spare = r.2 }
+    let later = offer-ready-cont c.args.toks.now c.args.nodes.now c.args.at c.args.used c.args.sums c.args.first (same c.peek.ensures c.if-peek-ne123.false) _ c.braced.ensures c.in-Next.is (same c.peek-in-Next.ensures c.if-peek-ne46.false) c.requires.ready in let r = offer-dot c.args.toks.now c.args.nodes.now c.args.at c.args.used c.args.sums c.args.first (same c.peek.ensures c.if-peek-ne123.false) _ c.braced.ensures c.in-Next.is (same c.peek-in-Next.ensures c.if-peek-ne46.false) _ c.cont.ensures c.in-Next-cont.is (record { written = c.node-in-Next-cont.ensures; token-fits = omega (arith, c.requires.ready.inside, c.requires.ready.room, c.requires.sums_bound.1); left-fits = omega (arith, ready.inside, ready.room, ready.few, inner.below); third-fits = omega (arith, later.inside, later.room, later.few) }) in record { follows = r.0; tallied = r.1; spare = r.2 }
 
 pub prefix-gated-requires : goal.prefix-gated-requires
 prefix-gated-requires t c =
-    (omega arith, (c.requires.1.ready, (c.requires.1.sums_bound, same c.peek.ensures c.if-peek-eq91.true)))
-
-pub prefix-shape_of-nodes-then-peek-eq91 : goal.prefix-shape_of-nodes-then-peek-eq91
-prefix-shape_of-nodes-then-peek-eq91 t c =
-    omega arith
+    (omega arith, (c.requires.ready, (c.requires.sums_bound, same c.peek.ensures c.if-peek-eq91.true)))
 
 pub prefix-returns-then-peek-eq91 : goal.prefix-returns-then-peek-eq91
 prefix-returns-then-peek-eq91 t c =
@@ -539,53 +347,33 @@ prefix-returns-then-peek-eq91 t c =
 
 pub prefix-offer-requires : goal.prefix-offer-requires
 prefix-offer-requires t c =
-    (omega arith, (c.requires.1.ready, (c.requires.1.sums_bound, omega arith)))
-
-pub prefix-shape_of-nodes : goal.prefix-shape_of-nodes
-prefix-shape_of-nodes t c =
-    omega arith
+    (omega arith, (c.requires.ready, (c.requires.sums_bound, omega arith)))
 
 pub prefix-returns : goal.prefix-returns
 prefix-returns t c =
-    let r = prefix-ungated c.args.toks.now c.args.nodes.now _ c.args.at c.args.used c.args.sums _ c.requires.1.ready.inside (isnt c.peek.ensures c.if-peek-eq91.false) c.offer.ensures in record { follows = r.0; tallied = r.1; spare = r.2 }
+    let r = prefix-ungated c.args.toks.now c.args.nodes.now _ c.args.at c.args.used c.args.sums _ c.requires.ready.inside (isnt c.peek.ensures c.if-peek-eq91.false) c.offer.ensures in record { follows = r.0; tallied = r.1; spare = r.2 }
 
 pub sum-overflow_add-sums : goal.sum-overflow_add-sums
 sum-overflow_add-sums t c =
-    omega (arith, c.requires.1.ready.inside, c.requires.1.ready.room, c.requires.1.sums_le_at)
+    omega (arith, c.requires.ready.inside, c.requires.ready.room, c.requires.sums_le_at)
 
 pub sum-branches-requires : goal.sum-branches-requires
 sum-branches-requires t c =
-    (omega arith, (c.requires.1.ready, omega (arith, c.requires.1.sums_le_at)))
-
-pub sum-enum_known-k : goal.sum-enum_known-k
-sum-enum_known-k t c =
-    c.in-Fault.in-Fault-own.keys1
-
-pub sum-enum_known-n : goal.sum-enum_known-n
-sum-enum_known-n t c =
-    c.in-Next.in-Next-own.keys2
+    (omega arith, (c.requires.ready, omega (arith, c.requires.sums_le_at)))
 
 pub sum-overflow_add-root : goal.sum-overflow_add-root
 sum-overflow_add-root t c =
     let v = tally-of c.in-Next.is c.branches.ensures.tallied.0 in
-    omega (arith, c.requires.1.ready.room, c.requires.1.ready.few, v.made.span.within, v.made.span.fewer)
+    omega (arith, c.requires.ready.room, c.requires.ready.few, v.made.span.within, v.made.span.fewer)
 
 pub sum-node-requires : goal.sum-node-requires
 sum-node-requires t c =
-    (omega (arith, c.requires.1.ready.inside, c.requires.1.ready.room, c.requires.1.sums_le_at), omega arith, omega (arith, c.requires.1.ready.inside, c.requires.1.ready.room))
-
-pub sum-shape_of-nodes-in-Fault : goal.sum-shape_of-nodes-in-Fault
-sum-shape_of-nodes-in-Fault t c =
-    omega arith
+    (omega (arith, c.requires.ready.inside, c.requires.ready.room, c.requires.sums_le_at), omega arith, omega (arith, c.requires.ready.inside, c.requires.ready.room))
 
 pub sum-returns-in-Fault : goal.sum-returns-in-Fault
 sum-returns-in-Fault t c =
     let r = sum-fault c.args.toks.now c.args.nodes.now _ c.args.at c.args.used c.args.sums c.branches.ensures c.in-Fault.is in record { follows = r.0; tallied = r.1 }
 
-pub sum-shape_of-nodes-in-Next : goal.sum-shape_of-nodes-in-Next
-sum-shape_of-nodes-in-Next t c =
-    omega arith
-
 pub sum-returns-in-Next : goal.sum-returns-in-Next
 sum-returns-in-Next t c =
-    let r = sum-node c.args.toks.now c.args.nodes.now _ c.args.at c.args.used c.args.sums c.branches.ensures c.in-Next.is (record { written = c.node.ensures; token-fits = omega (arith, c.requires.1.ready.inside, c.requires.1.ready.room, c.requires.1.sums_le_at); left-fits = omega arith; third-fits = omega (arith, c.requires.1.ready.inside, c.requires.1.ready.room) }) in record { follows = r.0; tallied = r.1 }
+    let r = sum-node c.args.toks.now c.args.nodes.now _ c.args.at c.args.used c.args.sums c.branches.ensures c.in-Next.is (record { written = c.node.ensures; token-fits = omega (arith, c.requires.ready.inside, c.requires.ready.room, c.requires.sums_le_at); left-fits = omega arith; third-fits = omega (arith, c.requires.ready.inside, c.requires.ready.room) }) in record { follows = r.0; tallied = r.1 }

@@ -37,10 +37,6 @@ pub overflow_add-result : goal.overflow_add-result
 overflow_add-result c =
     omega (arith, in_tok c.args.toks.now (c.args.at + 1 + 1) c.peek-2.ensures (omega arith))
 
-pub shape_of-nodes-then-peek-eq93 : goal.shape_of-nodes-then-peek-eq93
-shape_of-nodes-then-peek-eq93 c =
-    omega arith
-
 pub returns-then-peek-eq93 : goal.returns-then-peek-eq93
 returns-then-peek-eq93 c =
     let r = call-empty c.args.toks.now c.args.nodes.now c.args.at c.args.used c.args.sums c.requires.at_value (same c.peek.ensures c.if-peek-ne91.false) (same c.peek-2.ensures c.if-peek-eq93.true) (record { written = c.node.ensures; token-fits = omega (arith, c.requires.ready.room, in_tok c.args.toks.now (c.args.at + 1) c.peek.ensures (omega arith)); left-fits = omega arith; third-fits = omega arith }) in record { follows = r.0; tallied = r.1 }
@@ -48,14 +44,6 @@ returns-then-peek-eq93 c =
 pub args-requires : goal.args-requires
 args-requires c =
     ready-token (ready-token c.requires.ready (omega arith)) (omega arith)
-
-pub enum_known-k : goal.enum_known-k
-enum_known-k c =
-    c.in-Fault.in-Fault-own.keys1
-
-pub enum_known-m : goal.enum_known-m
-enum_known-m c =
-    c.in-Next.in-Next-own.keys2
 
 pub overflow_add-root : goal.overflow_add-root
 overflow_add-root c =
@@ -67,17 +55,9 @@ node-requires-in-Next c =
     let s = tally-of c.in-Next.is c.args-2.ensures.tallied in
     (omega (arith, c.requires.ready.room, in_tok c.args.toks.now (c.args.at + 1) c.peek.ensures (omega arith)), omega arith, omega (arith, c.requires.ready.room, s.made.span.within, s.rarer))
 
-pub shape_of-nodes-in-Fault : goal.shape_of-nodes-in-Fault
-shape_of-nodes-in-Fault c =
-    omega arith
-
 pub returns-in-Fault : goal.returns-in-Fault
 returns-in-Fault c =
     let r = call-fault c.args.toks.now c.args.nodes.now c.args.at c.args.used c.args.sums c.requires.at_value (same c.peek.ensures c.if-peek-ne91.false) (isnt c.peek-2.ensures c.if-peek-eq93.false) _ c.args-2.ensures c.in-Fault.is in record { follows = r.0; tallied = r.1 }
-
-pub shape_of-nodes-in-Next : goal.shape_of-nodes-in-Next
-shape_of-nodes-in-Next c =
-    omega arith
 
 pub returns-in-Next : goal.returns-in-Next
 returns-in-Next c =

@@ -15,10 +15,6 @@ pub unsigned-requires : goal.unsigned-requires
 unsigned-requires c =
      record { ready = ready-token c.requires (omega (arith, c.peek.ensures, c.if-peek-eq45.true)); base_le_negative_number = omega arith }
 
-pub shape_of-nodes-then-peek-eq45 : goal.shape_of-nodes-then-peek-eq45
-shape_of-nodes-then-peek-eq45 c =
-    omega arith
-
 pub returns-then-peek-eq45 : goal.returns-then-peek-eq45
 unfolding number_kind
 returns-then-peek-eq45 c =
@@ -27,10 +23,6 @@ returns-then-peek-eq45 c =
 pub unsigned-requires-2 : goal.unsigned-requires-2
 unsigned-requires-2 c =
      record { ready = c.requires; base_le_negative_number = omega arith }
-
-pub shape_of-nodes : goal.shape_of-nodes
-shape_of-nodes c =
-    omega arith
 
 pub returns : goal.returns
 unfolding number_kind

@@ -10,21 +10,9 @@ pub scale-requires : goal.scale-requires
 scale-requires c =
     c.requires
 
-pub enum_known-k : goal.enum_known-k
-enum_known-k c =
-    c.in-Fault.in-Fault-own.keys1
-
-pub enum_known-n : goal.enum_known-n
-enum_known-n c =
-    c.in-Next.in-Next-own.keys2
-
-pub shape_of-nodes-then-peek-ne42 : goal.shape_of-nodes-then-peek-ne42
-shape_of-nodes-then-peek-ne42 c =
-    omega arith
-
 pub returns-then-peek-ne42 : goal.returns-then-peek-ne42
 returns-then-peek-ne42 c =
-    let r = rate-plain _ _ _ _ _ c.in-Next.is c.scale.ensures (isnt c.peek.ensures c.if-peek-ne42.true) in record { follows = r.0; fact = r.1 }
+    let r = rate-plain _ _ _ _ _ c.in-Next.is c.scale.ensures (isnt c.peek.ensures c.if-peek-ne42.true) in record { follows = r.0; parsed = r.1 }
 
 pub overflow_add-n : goal.overflow_add-n
 overflow_add-n c =
@@ -38,14 +26,6 @@ pub atom-requires : goal.atom-requires
 atom-requires c =
     let m = made_of c.in-Next.is c.scale.ensures.parsed in ready-token (ready-after c.requires m.span) (omega (arith, c.peek.ensures, c.if-peek-ne42.false))
 
-pub enum_known-k-in-Fault-atom : goal.enum_known-k-in-Fault-atom
-enum_known-k-in-Fault-atom c =
-    c.in-Fault-atom.keys1
-
-pub enum_known-m : goal.enum_known-m
-enum_known-m c =
-    c.in-Next-atom.keys2
-
 pub overflow_add-root : goal.overflow_add-root
 overflow_add-root c =
     let m = made_of c.in-Next.is c.scale.ensures.parsed in let q = made_of c.in-Next-atom.is c.atom.ensures.parsed in omega (arith, m.span.onward, m.span.within, m.span.more, m.span.fewer, q.span.onward, q.span.within, q.span.more, q.span.fewer, c.requires.inside, c.requires.room, c.requires.few)
@@ -54,26 +34,14 @@ pub node-requires : goal.node-requires
 node-requires c =
     let m = made_of c.in-Next.is c.scale.ensures.parsed in omega (arith, m.span.onward, m.span.within, m.span.more, m.span.fewer, c.requires.inside, c.requires.room, c.requires.few)
 
-pub shape_of-nodes-in-Fault : goal.shape_of-nodes-in-Fault
-shape_of-nodes-in-Fault c =
-    omega arith
-
 pub returns-in-Fault : goal.returns-in-Fault
 returns-in-Fault c =
-    let r = rate-fault _ _ _ _ _ c.in-Fault.is c.scale.ensures in record { follows = r.0; fact = r.1 }
-
-pub shape_of-nodes-in-Fault-atom : goal.shape_of-nodes-in-Fault-atom
-shape_of-nodes-in-Fault-atom c =
-    omega arith
+    let r = rate-fault _ _ _ _ _ c.in-Fault.is c.scale.ensures in record { follows = r.0; parsed = r.1 }
 
 pub returns-in-Fault-atom : goal.returns-in-Fault-atom
 returns-in-Fault-atom c =
-    let r = rate-second _ _ _ _ _ c.in-Next.is c.scale.ensures _ (same c.peek.ensures c.if-peek-ne42.false) c.atom.ensures c.in-Fault-atom.is in record { follows = r.0; fact = r.1 }
-
-pub shape_of-nodes-in-Next-atom : goal.shape_of-nodes-in-Next-atom
-shape_of-nodes-in-Next-atom c =
-    omega arith
+    let r = rate-second _ _ _ _ _ c.in-Next.is c.scale.ensures _ (same c.peek.ensures c.if-peek-ne42.false) c.atom.ensures c.in-Fault-atom.is in record { follows = r.0; parsed = r.1 }
 
 pub returns-in-Next-atom : goal.returns-in-Next-atom
 returns-in-Next-atom c =
-    let m = made_of c.in-Next.is c.scale.ensures.parsed in let r = rate-scaled _ _ _ _ _ c.in-Next.is c.scale.ensures _ (same c.peek.ensures c.if-peek-ne42.false) c.atom.ensures c.in-Next-atom.is (record { written = c.node.ensures; token-fits = omega arith; left-fits = omega (arith, m.span.onward, m.span.within, m.span.more, m.span.fewer, c.requires.inside, c.requires.room, c.requires.few); third-fits = omega arith }) in record { follows = r.0; fact = r.1 }
+    let m = made_of c.in-Next.is c.scale.ensures.parsed in let r = rate-scaled _ _ _ _ _ c.in-Next.is c.scale.ensures _ (same c.peek.ensures c.if-peek-ne42.false) c.atom.ensures c.in-Next-atom.is (record { written = c.node.ensures; token-fits = omega arith; left-fits = omega (arith, m.span.onward, m.span.within, m.span.more, m.span.fewer, c.requires.inside, c.requires.room, c.requires.few); third-fits = omega arith }) in record { follows = r.0; parsed = r.1 }

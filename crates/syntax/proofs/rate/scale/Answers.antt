@@ -13,10 +13,6 @@ pub overflow_add-result : goal.overflow_add-result
 overflow_add-result c =
     omega (arith, c.requires.inside, c.requires.room, c.requires.few)
 
-pub shape_of-nodes-then-peek-eq-NAME : goal.shape_of-nodes-then-peek-eq-NAME
-shape_of-nodes-then-peek-eq-NAME c =
-    omega arith
-
 pub returns-then-peek-eq-NAME : goal.returns-then-peek-eq-NAME
 returns-then-peek-eq-NAME c =
     let r = scale-name _ _ _ _ _ (same c.peek.ensures c.if-peek-eq-NAME.true) (record { written = c.node.ensures; token-fits = omega (arith, c.requires.inside, c.requires.room, c.requires.few); left-fits = omega arith; third-fits = omega arith }) in record { follows = r.0; parsed = r.1 }
@@ -24,10 +20,6 @@ returns-then-peek-eq-NAME c =
 pub number-requires : goal.number-requires
 number-requires c =
     c.requires
-
-pub shape_of-nodes : goal.shape_of-nodes
-shape_of-nodes c =
-    omega arith
 
 pub returns : goal.returns
 returns c =

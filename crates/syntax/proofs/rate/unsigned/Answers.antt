@@ -13,10 +13,6 @@ pub overflow_add-result : goal.overflow_add-result
 overflow_add-result c =
     omega (arith, c.requires.ready.inside, c.requires.ready.room, c.requires.ready.few)
 
-pub shape_of-nodes-then-t-eq-WHOLE : goal.shape_of-nodes-then-t-eq-WHOLE
-shape_of-nodes-then-t-eq-WHOLE c =
-    omega arith
-
 pub returns-then-t-eq-WHOLE : goal.returns-then-t-eq-WHOLE
 returns-then-t-eq-WHOLE c =
     let r = unsigned-whole _ _ _ _ _ (same c.peek-t.ensures c.if-t-eq-WHOLE.true) (record { written = c.node.ensures; token-fits = omega (arith, c.requires.ready.inside, c.requires.ready.room, c.requires.ready.few); left-fits = omega arith; third-fits = omega arith }) in record { follows = r.0; parsed = r.1 }
@@ -32,10 +28,6 @@ node-requires-then-t-eq-DECIMAL c =
 pub overflow_add-result-then-t-eq-DECIMAL : goal.overflow_add-result-then-t-eq-DECIMAL
 overflow_add-result-then-t-eq-DECIMAL c =
     omega (arith, c.requires.ready.inside, c.requires.ready.room, c.requires.ready.few)
-
-pub shape_of-nodes-then-t-eq-DECIMAL : goal.shape_of-nodes-then-t-eq-DECIMAL
-shape_of-nodes-then-t-eq-DECIMAL c =
-    omega arith
 
 pub returns-then-t-eq-DECIMAL : goal.returns-then-t-eq-DECIMAL
 returns-then-t-eq-DECIMAL c =

@@ -10,18 +10,6 @@ pub expr-requires : goal.expr-requires
 expr-requires c =
     c.requires
 
-pub enum_known-k : goal.enum_known-k
-enum_known-k c =
-    c.in-Fault.in-Fault-own.keys1
-
-pub enum_known-n : goal.enum_known-n
-enum_known-n c =
-    c.in-Next.in-Next-own.keys2
-
-pub shape_of-nodes-then-peek : goal.shape_of-nodes-then-peek
-shape_of-nodes-then-peek c =
-    omega arith
-
 pub returns-then-peek : goal.returns-then-peek
 returns-then-peek c =
     let r = part-single _ _ _ _ _ c.in-Next.is c.expr.ensures (isnt c.peek.ensures c.if-peek.true) in record { follows = r.0; parsed = r.1 }
@@ -38,14 +26,6 @@ pub expr-requires-in-Next : goal.expr-requires-in-Next
 expr-requires-in-Next c =
     let m = made_of c.in-Next.is c.expr.ensures.parsed in ready-token (ready-after c.requires m.span) (omega (arith, c.peek.ensures, c.if-peek.false))
 
-pub enum_known-k-in-Fault-expr-2 : goal.enum_known-k-in-Fault-expr-2
-enum_known-k-in-Fault-expr-2 c =
-    c.in-Fault-expr.keys1
-
-pub enum_known-m : goal.enum_known-m
-enum_known-m c =
-    c.in-Next-expr.keys2
-
 pub overflow_add-root : goal.overflow_add-root
 overflow_add-root c =
     let m = made_of c.in-Next.is c.expr.ensures.parsed in let q = made_of c.in-Next-expr.is c.expr-in-Next.ensures.parsed in omega (arith, m.span.onward, m.span.within, m.span.more, m.span.fewer, q.span.onward, q.span.within, q.span.more, q.span.fewer, c.requires.inside, c.requires.room, c.requires.few)
@@ -54,25 +34,13 @@ pub node-requires : goal.node-requires
 node-requires c =
     let m = made_of c.in-Next.is c.expr.ensures.parsed in omega (arith, m.span.onward, m.span.within, m.span.more, m.span.fewer, c.requires.inside, c.requires.room, c.requires.few)
 
-pub shape_of-nodes-in-Fault : goal.shape_of-nodes-in-Fault
-shape_of-nodes-in-Fault c =
-    omega arith
-
 pub returns-in-Fault : goal.returns-in-Fault
 returns-in-Fault c =
     let r = part-fault _ _ _ _ _ c.in-Fault.is c.expr.ensures in record { follows = r.0; parsed = r.1 }
 
-pub shape_of-nodes-in-Fault-expr : goal.shape_of-nodes-in-Fault-expr
-shape_of-nodes-in-Fault-expr c =
-    omega arith
-
 pub returns-in-Fault-expr : goal.returns-in-Fault-expr
 returns-in-Fault-expr c =
     let r = part-second _ _ _ _ _ c.in-Next.is c.expr.ensures _ (same c.peek.ensures c.if-peek.false) c.expr-in-Next.ensures c.in-Fault-expr.is in record { follows = r.0; parsed = r.1 }
-
-pub shape_of-nodes-in-Next-expr : goal.shape_of-nodes-in-Next-expr
-shape_of-nodes-in-Next-expr c =
-    omega arith
 
 pub returns-in-Next-expr : goal.returns-in-Next-expr
 returns-in-Next-expr c =

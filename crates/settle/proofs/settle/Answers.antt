@@ -69,4 +69,4 @@ shape_of-heard c =
 
 pub returns : goal.returns
 returns c =
-    let inside = line-inside (resolvable c.requires.2 c.args.root c.requires.1 c.lists_of-lists.result c.lists_of-lists.ensures) in let r = (λ l h q. (settled-so h c.args.root q c.lists_of-lists.result c.lists_of-lists.ensures _ _ _ _ _ _ _ refl (omega arith) c.loop-i.invariant.1 c.loop-i.invariant.2).0, (omega (arith, inside.0, inside.1, root-same c.requires.2 c.args.root c.requires.1 c.lists_of-lists.result c.lists_of-lists.ensures), λ l h q. (settled-so h c.args.root q c.lists_of-lists.result c.lists_of-lists.ensures _ _ _ _ _ _ _ refl (omega arith) c.loop-i.invariant.1 c.loop-i.invariant.2).1)) in record { represents = r.0; definitions_bound = r.1; settles = r.2 }
+    let inside = line-inside (resolvable c.requires.2 c.args.root c.requires.1 c.lists_of-lists.result c.lists_of-lists.ensures) in record { represents = λ l h q. (settled-so h c.args.root q c.lists_of-lists.result c.lists_of-lists.ensures _ _ _ _ _ _ _ refl (omega arith) c.loop-i.invariant.1 c.loop-i.invariant.2).0; definitions_bound = omega (arith, inside.0, inside.1, root-same c.requires.2 c.args.root c.requires.1 c.lists_of-lists.result c.lists_of-lists.ensures); settles = λ l h q. (settled-so h c.args.root q c.lists_of-lists.result c.lists_of-lists.ensures _ _ _ _ _ _ _ refl (omega arith) c.loop-i.invariant.1 c.loop-i.invariant.2).1 }

@@ -24,7 +24,7 @@ settle-model-requires c =
 
 pub judge_start-opened-requires : goal.judge_start-opened-requires
 judge_start-opened-requires c =
-    (_, _, _, (held-model _ _ _ _ _ (named-yes c.requires.fitted.1 (c.judge_tree-judged.ensures c.requires.fitted.0 c.requires.fitted.1) c.in-Passed.is (settled-so c.requires.fitted.1 (named-sound c.requires.fitted.1 (c.judge_tree-judged.ensures c.requires.fitted.0 c.requires.fitted.1) c.in-Passed.is) c.requires.sum_room.roots-room c.requires.sum_room.scopes-room c.requires.sum_room.names-room c.settle-model.ensures.represents) c.settle-model.ensures.definitions_bound.0 (settles-so c.requires.fitted.1 (named-sound c.requires.fitted.1 (c.judge_tree-judged.ensures c.requires.fitted.0 c.requires.fitted.1) c.in-Passed.is) c.requires.sum_room.roots-room c.requires.sum_room.scopes-room c.requires.sum_room.names-room c.settle-model.ensures.definitions_bound.1)) refl))
+    (_, _, _, (held-model _ _ _ _ _ (named-yes c.requires.fitted.1 (c.judge_tree-judged.ensures c.requires.fitted.0 c.requires.fitted.1) c.in-Passed.is (settled-so c.requires.fitted.1 (named-sound c.requires.fitted.1 (c.judge_tree-judged.ensures c.requires.fitted.0 c.requires.fitted.1) c.in-Passed.is) c.requires.sum_room.roots-room c.requires.sum_room.scopes-room c.requires.sum_room.names-room c.settle-model.ensures.represents) c.settle-model.ensures.definitions_bound (settles-so c.requires.fitted.1 (named-sound c.requires.fitted.1 (c.judge_tree-judged.ensures c.requires.fitted.0 c.requires.fitted.1) c.in-Passed.is) c.requires.sum_room.roots-room c.requires.sum_room.scopes-room c.requires.sum_room.names-room c.settle-model.ensures.settles)) refl))
 
 pub judge_steady-requires : goal.judge_steady-requires
 judge_steady-requires c =
@@ -36,4 +36,4 @@ returns-in-Refused c =
 
 pub returns-in-Passed : goal.returns-in-Passed
 returns-in-Passed c =
-    c.judge_steady.ensures c.requires.fitted.0 _ _ _ (yes5 c.requires.fitted.1 (named-sound c.requires.fitted.1 (c.judge_tree-judged.ensures c.requires.fitted.0 c.requires.fitted.1) c.in-Passed.is)) (found-so c.requires.fitted.1 (named-sound c.requires.fitted.1 (c.judge_tree-judged.ensures c.requires.fitted.0 c.requires.fitted.1) c.in-Passed.is) (c.lists_of-lists.ensures c.requires.fitted.0 0 c.requires.fitted.1.read.holds) c.first_unsteady-found.ensures) (c.judge_start-opened.ensures _ _ _ (held-model _ _ _ _ _ (named-yes c.requires.fitted.1 (c.judge_tree-judged.ensures c.requires.fitted.0 c.requires.fitted.1) c.in-Passed.is (settled-so c.requires.fitted.1 (named-sound c.requires.fitted.1 (c.judge_tree-judged.ensures c.requires.fitted.0 c.requires.fitted.1) c.in-Passed.is) c.requires.sum_room.roots-room c.requires.sum_room.scopes-room c.requires.sum_room.names-room c.settle-model.ensures.represents) c.settle-model.ensures.definitions_bound.0 (settles-so c.requires.fitted.1 (named-sound c.requires.fitted.1 (c.judge_tree-judged.ensures c.requires.fitted.0 c.requires.fitted.1) c.in-Passed.is) c.requires.sum_room.roots-room c.requires.sum_room.scopes-room c.requires.sum_room.names-room c.settle-model.ensures.definitions_bound.1)) refl))
+    c.judge_steady.ensures c.requires.fitted.0 _ _ _ (yes5 c.requires.fitted.1 (named-sound c.requires.fitted.1 (c.judge_tree-judged.ensures c.requires.fitted.0 c.requires.fitted.1) c.in-Passed.is)) (found-so c.requires.fitted.1 (named-sound c.requires.fitted.1 (c.judge_tree-judged.ensures c.requires.fitted.0 c.requires.fitted.1) c.in-Passed.is) (c.lists_of-lists.ensures c.requires.fitted.0 0 c.requires.fitted.1.read.holds) c.first_unsteady-found.ensures) (c.judge_start-opened.ensures _ _ _ (held-model _ _ _ _ _ (named-yes c.requires.fitted.1 (c.judge_tree-judged.ensures c.requires.fitted.0 c.requires.fitted.1) c.in-Passed.is (settled-so c.requires.fitted.1 (named-sound c.requires.fitted.1 (c.judge_tree-judged.ensures c.requires.fitted.0 c.requires.fitted.1) c.in-Passed.is) c.requires.sum_room.roots-room c.requires.sum_room.scopes-room c.requires.sum_room.names-room c.settle-model.ensures.represents) c.settle-model.ensures.definitions_bound (settles-so c.requires.fitted.1 (named-sound c.requires.fitted.1 (c.judge_tree-judged.ensures c.requires.fitted.0 c.requires.fitted.1) c.in-Passed.is) c.requires.sum_room.roots-room c.requires.sum_room.scopes-room c.requires.sum_room.names-room c.settle-model.ensures.settles)) refl))

@@ -22,8 +22,8 @@ deed-requires c =
 
 pub returns-in-Fault : goal.returns-in-Fault
 returns-in-Fault c =
-    let r = beacon-fault c.args.toks.now c.args.nodes.now _ c.args.at c.args.used c.channel.ensures c.in-Fault.is in record { follows = r.0; parsed = r.1 }
+    let r = beacon-fault c.args.toks.now c.args.nodes.now _ c.args.at c.args.used (c.channel.ensures.follows, c.channel.ensures.parsed) c.in-Fault.is in record { follows = r.0; parsed = r.1 }
 
 pub returns-in-Next : goal.returns-in-Next
 returns-in-Next c =
-    let r = beacon-made c.args.toks.now c.args.nodes.now _ c.args.at c.args.used c.channel.ensures _ _ c.in-Next.is c.deed.ensures in record { follows = r.0; parsed = r.1 }
+    let r = beacon-made c.args.toks.now c.args.nodes.now _ c.args.at c.args.used (c.channel.ensures.follows, c.channel.ensures.parsed) _ _ c.in-Next.is (c.deed.ensures.follows, c.deed.ensures.extended) in record { follows = r.0; parsed = r.1 }

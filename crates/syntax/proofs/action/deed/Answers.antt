@@ -23,7 +23,7 @@ sending-requires c =
 
 pub returns-then-t-eq33 : goal.returns-then-t-eq33
 returns-then-t-eq33 c =
-    let r = deed-launch c.args.toks.now c.args.nodes.now c.args.at c.args.left _ _ (same c.peek-t.ensures c.if-t-eq33.true) c.sending.ensures in record { follows = r.0; extended = r.1 }
+    let r = deed-launch c.args.toks.now c.args.nodes.now c.args.at c.args.left _ _ (same c.peek-t.ensures c.if-t-eq33.true) (c.sending.ensures.follows, c.sending.ensures.extended) in record { follows = r.0; extended = r.1 }
 
 pub sending-requires-then-t-eq35 : goal.sending-requires-then-t-eq35
 sending-requires-then-t-eq35 c =
@@ -31,15 +31,15 @@ sending-requires-then-t-eq35 c =
 
 pub returns-then-t-eq35 : goal.returns-then-t-eq35
 returns-then-t-eq35 c =
-    let r = deed-kill c.args.toks.now c.args.nodes.now c.args.at c.args.left _ _ (same c.peek-t.ensures c.if-t-eq35.true) c.sending-then-t-eq35.ensures in record { follows = r.0; extended = r.1 }
+    let r = deed-kill c.args.toks.now c.args.nodes.now c.args.at c.args.left _ _ (same c.peek-t.ensures c.if-t-eq35.true) (c.sending-then-t-eq35.ensures.follows, c.sending-then-t-eq35.ensures.extended) in record { follows = r.0; extended = r.1 }
 
 pub receiving-requires : goal.receiving-requires
 receiving-requires c =
-    let r = (c.requires, (omega (arith, same c.peek-t.ensures c.if-t-eq63.true), omega arith)) in record { ready = r.0; nonzero = r.1; kind_bound = r.2 }
+     record { ready = c.requires; nonzero = omega (arith, same c.peek-t.ensures c.if-t-eq63.true); kind_bound = omega arith }
 
 pub returns-then-t-eq63 : goal.returns-then-t-eq63
 returns-then-t-eq63 c =
-    let r = deed-receive c.args.toks.now c.args.nodes.now c.args.at c.args.left _ _ (same c.peek-t.ensures c.if-t-eq63.true) c.receiving.ensures in record { follows = r.0; extended = r.1 }
+    let r = deed-receive c.args.toks.now c.args.nodes.now c.args.at c.args.left _ _ (same c.peek-t.ensures c.if-t-eq63.true) (c.receiving.ensures.follows, c.receiving.ensures.extended) in record { follows = r.0; extended = r.1 }
 
 pub returns : goal.returns
 returns c =

@@ -21,15 +21,15 @@ use Rattle.syntax.proofs.action.receiving.Goals as goal
 
 pub overflow_add-at : goal.overflow_add-at
 overflow_add-at c =
-    omega (arith, inside c.args.toks.now c.args.at c.requires.nonzero.0)
+    omega (arith, inside c.args.toks.now c.args.at c.requires.nonzero)
 
 pub overflow_add-left : goal.overflow_add-left
 overflow_add-left c =
-    omega (arith, c.requires.ready.room, c.requires.ready.few, inside c.args.toks.now c.args.at c.requires.nonzero.0)
+    omega (arith, c.requires.ready.room, c.requires.ready.few, inside c.args.toks.now c.args.at c.requires.nonzero)
 
 pub sets-requires : goal.sets-requires
 sets-requires c =
-    ready-token c.requires.ready c.requires.nonzero.0
+    ready-token c.requires.ready c.requires.nonzero
 
 pub overflow_add-root : goal.overflow_add-root
 overflow_add-root c =
@@ -38,11 +38,11 @@ overflow_add-root c =
 
 pub node-requires : goal.node-requires
 node-requires c =
-    (omega arith, omega (arith, c.requires.ready.room, c.requires.ready.few, inside c.args.toks.now c.args.at c.requires.nonzero.0), omega arith)
+    (omega arith, omega (arith, c.requires.ready.room, c.requires.ready.few, inside c.args.toks.now c.args.at c.requires.nonzero), omega arith)
 
 pub returns-then-peek-ne40 : goal.returns-then-peek-ne40
 returns-then-peek-ne40 c =
-    let r = receiving-plain c.args.kind c.args.toks.now c.args.nodes.now _ c.args.at c.args.left c.sets.ensures c.in-Next.is c.requires.nonzero.0 (isnt c.peek.ensures c.if-peek-ne40.true) (record { written = c.node.ensures; token-fits = omega arith; left-fits = omega (arith, c.requires.ready.room, c.requires.ready.few, inside c.args.toks.now c.args.at c.requires.nonzero.0); third-fits = omega arith }) in record { follows = r.0; extended = r.1 }
+    let r = receiving-plain c.args.kind c.args.toks.now c.args.nodes.now _ c.args.at c.args.left (c.sets.ensures.follows, c.sets.ensures.parsed) c.in-Next.is c.requires.nonzero (isnt c.peek.ensures c.if-peek-ne40.true) (record { written = c.node.ensures; token-fits = omega arith; left-fits = omega (arith, c.requires.ready.room, c.requires.ready.few, inside c.args.toks.now c.args.at c.requires.nonzero); third-fits = omega arith }) in record { follows = r.0; extended = r.1 }
 
 pub overflow_add-first : goal.overflow_add-first
 overflow_add-first c =
@@ -50,25 +50,25 @@ overflow_add-first c =
 
 pub names-requires : goal.names-requires
 names-requires c =
-    let l = in_tok c.args.toks.now c.in-Next.n c.peek.ensures (omega arith) in let r = (omega arith, (c.requires.ready.room, (omega arith, λ e. omega arith))) in record { at_in_bounds = r.0; toks_len_bound = r.1; close_nonzero = r.2 }
+    let l = in_tok c.args.toks.now c.in-Next.n c.peek.ensures (omega arith) in record { at_in_bounds = omega arith; toks_len_bound = c.requires.ready.room; close_nonzero = (omega arith, λ e. omega arith) }
 
 pub overflow_add-kind : goal.overflow_add-kind
 overflow_add-kind c =
-    omega (arith, c.requires.nonzero.1)
+    omega (arith, c.requires.kind_bound)
 
 pub node-requires-in-Next-names : goal.node-requires-in-Next-names
 node-requires-in-Next-names c =
     let l = listed_of c.in-Next-names.is c.names.ensures.listing in
-    (omega (arith, c.requires.ready.room, l.fewer, l.within), omega (arith, c.requires.ready.room, c.requires.ready.few, inside c.args.toks.now c.args.at c.requires.nonzero.0), omega (arith, c.requires.ready.room, l.fewer, l.within))
+    (omega (arith, c.requires.ready.room, l.fewer, l.within), omega (arith, c.requires.ready.room, c.requires.ready.few, inside c.args.toks.now c.args.at c.requires.nonzero), omega (arith, c.requires.ready.room, l.fewer, l.within))
 
 pub returns-in-Fault : goal.returns-in-Fault
 returns-in-Fault c =
-    let r = receiving-fault c.args.kind c.args.toks.now c.args.nodes.now _ c.args.at c.args.left c.sets.ensures c.in-Fault.is in record { follows = r.0; extended = r.1 }
+    let r = receiving-fault c.args.kind c.args.toks.now c.args.nodes.now _ c.args.at c.args.left (c.sets.ensures.follows, c.sets.ensures.parsed) c.in-Fault.is in record { follows = r.0; extended = r.1 }
 
 pub returns-in-Fault-names : goal.returns-in-Fault-names
 returns-in-Fault-names c =
-    let r = receiving-unnamed c.args.kind c.args.toks.now c.args.nodes.now _ c.args.at c.args.left c.sets.ensures c.in-Next.is (same c.peek.ensures c.if-peek-ne40.false) c.names.ensures c.in-Fault-names.is in record { follows = r.0; extended = r.1 }
+    let r = receiving-unnamed c.args.kind c.args.toks.now c.args.nodes.now _ c.args.at c.args.left (c.sets.ensures.follows, c.sets.ensures.parsed) c.in-Next.is (same c.peek.ensures c.if-peek-ne40.false) (c.names.ensures.follows, c.names.ensures.listing) c.in-Fault-names.is in record { follows = r.0; extended = r.1 }
 
 pub returns-in-Next-names : goal.returns-in-Next-names
 returns-in-Next-names c =
-    let l = listed_of c.in-Next-names.is c.names.ensures.listing in let r = receiving-named c.args.kind c.args.toks.now c.args.nodes.now _ c.args.at c.args.left c.sets.ensures c.in-Next.is (same c.peek.ensures c.if-peek-ne40.false) c.names.ensures c.requires.nonzero.0 c.in-Next-names.is (record { written = c.node-in-Next-names.ensures; token-fits = omega (arith, c.requires.ready.room, l.fewer, l.within); left-fits = omega (arith, c.requires.ready.room, c.requires.ready.few, inside c.args.toks.now c.args.at c.requires.nonzero.0); third-fits = omega (arith, c.requires.ready.room, l.fewer, l.within) }) in record { follows = r.0; extended = r.1 }
+    let l = listed_of c.in-Next-names.is c.names.ensures.listing in let r = receiving-named c.args.kind c.args.toks.now c.args.nodes.now _ c.args.at c.args.left (c.sets.ensures.follows, c.sets.ensures.parsed) c.in-Next.is (same c.peek.ensures c.if-peek-ne40.false) (c.names.ensures.follows, c.names.ensures.listing) c.requires.nonzero c.in-Next-names.is (record { written = c.node-in-Next-names.ensures; token-fits = omega (arith, c.requires.ready.room, l.fewer, l.within); left-fits = omega (arith, c.requires.ready.room, c.requires.ready.few, inside c.args.toks.now c.args.at c.requires.nonzero); third-fits = omega (arith, c.requires.ready.room, l.fewer, l.within) }) in record { follows = r.0; extended = r.1 }

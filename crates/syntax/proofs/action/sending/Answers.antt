@@ -39,8 +39,8 @@ node-requires c =
 
 pub returns-in-Fault : goal.returns-in-Fault
 returns-in-Fault c =
-    let r = sending-fault c.args.kind c.args.toks.now c.args.nodes.now _ c.args.at c.args.left c.values.ensures c.in-Fault.is in record { follows = r.0; extended = r.1 }
+    let r = sending-fault c.args.kind c.args.toks.now c.args.nodes.now _ c.args.at c.args.left (c.values.ensures.follows, c.values.ensures.parsed) c.in-Fault.is in record { follows = r.0; extended = r.1 }
 
 pub returns-in-Next : goal.returns-in-Next
 returns-in-Next c =
-    let r = sending-node c.args.kind c.args.toks.now c.args.nodes.now _ c.args.at c.args.left c.values.ensures c.requires.nonzero c.in-Next.is (record { written = c.node.ensures; token-fits = omega arith; left-fits = omega (arith, c.requires.ready.room, c.requires.ready.few, inside c.args.toks.now c.args.at c.requires.nonzero); third-fits = omega arith }) in record { follows = r.0; extended = r.1 }
+    let r = sending-node c.args.kind c.args.toks.now c.args.nodes.now _ c.args.at c.args.left (c.values.ensures.follows, c.values.ensures.parsed) c.requires.nonzero c.in-Next.is (record { written = c.node.ensures; token-fits = omega arith; left-fits = omega (arith, c.requires.ready.room, c.requires.ready.few, inside c.args.toks.now c.args.at c.requires.nonzero); third-fits = omega arith }) in record { follows = r.0; extended = r.1 }

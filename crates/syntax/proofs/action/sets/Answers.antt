@@ -39,11 +39,11 @@ overflow_add-result c =
 
 pub returns-then-t-eq93 : goal.returns-then-t-eq93
 returns-then-t-eq93 c =
-    let r = brackets-one set-brackets c.args.toks.now c.args.nodes.now c.args.at c.args.used (same c.peek.ensures c.if-peek-ne91.false) _ c.set.ensures c.in-Next.is (same c.peek-t.ensures c.if-t-eq93.true) in record { follows = r.0; parsed = r.1 }
+    let r = brackets-one set-brackets c.args.toks.now c.args.nodes.now c.args.at c.args.used (same c.peek.ensures c.if-peek-ne91.false) _ (c.set.ensures.follows, c.set.ensures.parsed) c.in-Next.is (same c.peek-t.ensures c.if-t-eq93.true) in record { follows = r.0; parsed = r.1 }
 
 pub returns-then-t-ne44 : goal.returns-then-t-ne44
 returns-then-t-ne44 c =
-    let r = brackets-open set-brackets c.args.toks.now c.args.nodes.now c.args.at c.args.used (same c.peek.ensures c.if-peek-ne91.false) _ c.set.ensures c.in-Next.is (isnt c.peek-t.ensures c.if-t-eq93.false) (isnt c.peek-t.ensures c.if-t-ne44.true) in record { follows = r.0; parsed = r.1 }
+    let r = brackets-open set-brackets c.args.toks.now c.args.nodes.now c.args.at c.args.used (same c.peek.ensures c.if-peek-ne91.false) _ (c.set.ensures.follows, c.set.ensures.parsed) c.in-Next.is (isnt c.peek-t.ensures c.if-t-eq93.false) (isnt c.peek-t.ensures c.if-t-ne44.true) in record { follows = r.0; parsed = r.1 }
 
 pub overflow_add-n : goal.overflow_add-n
 overflow_add-n c =
@@ -57,37 +57,37 @@ overflow_add-left c =
 
 pub set-requires-in-Next : goal.set-requires-in-Next
 set-requires-in-Next c =
-    brackets-ready set-brackets c.args.toks.now c.args.nodes.now c.args.at c.args.used (same c.peek.ensures c.if-peek-ne91.false) _ c.set.ensures c.in-Next.is c.requires (same c.peek-t.ensures c.if-t-ne44.false)
+    brackets-ready set-brackets c.args.toks.now c.args.nodes.now c.args.at c.args.used (same c.peek.ensures c.if-peek-ne91.false) _ (c.set.ensures.follows, c.set.ensures.parsed) c.in-Next.is c.requires (same c.peek-t.ensures c.if-t-ne44.false)
 
 pub returns-then-peek-ne93 : goal.returns-then-peek-ne93
 returns-then-peek-ne93 c =
-    let r = brackets-open-second set-brackets c.args.toks.now c.args.nodes.now c.args.at c.args.used (same c.peek.ensures c.if-peek-ne91.false) _ c.set.ensures c.in-Next.is (same c.peek-t.ensures c.if-t-ne44.false) _ c.set-in-Next.ensures c.in-Next-set.is (isnt c.peek-in-Next-set.ensures c.if-peek-ne93.true) in record { follows = r.0; parsed = r.1 }
+    let r = brackets-open-second set-brackets c.args.toks.now c.args.nodes.now c.args.at c.args.used (same c.peek.ensures c.if-peek-ne91.false) _ (c.set.ensures.follows, c.set.ensures.parsed) c.in-Next.is (same c.peek-t.ensures c.if-t-ne44.false) _ (c.set-in-Next.ensures.follows, c.set-in-Next.ensures.parsed) c.in-Next-set.is (isnt c.peek-in-Next-set.ensures c.if-peek-ne93.true) in record { follows = r.0; parsed = r.1 }
 
 pub overflow_add-root : goal.overflow_add-root
 overflow_add-root c =
-    let ready = brackets-ready set-brackets c.args.toks.now c.args.nodes.now c.args.at c.args.used (same c.peek.ensures c.if-peek-ne91.false) _ c.set.ensures c.in-Next.is c.requires (same c.peek-t.ensures c.if-t-ne44.false) in
+    let ready = brackets-ready set-brackets c.args.toks.now c.args.nodes.now c.args.at c.args.used (same c.peek.ensures c.if-peek-ne91.false) _ (c.set.ensures.follows, c.set.ensures.parsed) c.in-Next.is c.requires (same c.peek-t.ensures c.if-t-ne44.false) in
     let right = made_of c.in-Next-set.is c.set-in-Next.ensures.parsed in
     omega (arith, ready.room, ready.few, right.span.within, right.span.fewer)
 
 pub node-requires : goal.node-requires
 node-requires c =
-    let ready = brackets-ready set-brackets c.args.toks.now c.args.nodes.now c.args.at c.args.used (same c.peek.ensures c.if-peek-ne91.false) _ c.set.ensures c.in-Next.is c.requires (same c.peek-t.ensures c.if-t-ne44.false) in
+    let ready = brackets-ready set-brackets c.args.toks.now c.args.nodes.now c.args.at c.args.used (same c.peek.ensures c.if-peek-ne91.false) _ (c.set.ensures.follows, c.set.ensures.parsed) c.in-Next.is c.requires (same c.peek-t.ensures c.if-t-ne44.false) in
     (omega arith, omega (arith, ready.room, ready.inside, ready.few), omega arith)
 
 pub overflow_add-result-in-Next-set : goal.overflow_add-result-in-Next-set
 overflow_add-result-in-Next-set c =
-    let ready = brackets-ready set-brackets c.args.toks.now c.args.nodes.now c.args.at c.args.used (same c.peek.ensures c.if-peek-ne91.false) _ c.set.ensures c.in-Next.is c.requires (same c.peek-t.ensures c.if-t-ne44.false) in
+    let ready = brackets-ready set-brackets c.args.toks.now c.args.nodes.now c.args.at c.args.used (same c.peek.ensures c.if-peek-ne91.false) _ (c.set.ensures.follows, c.set.ensures.parsed) c.in-Next.is c.requires (same c.peek-t.ensures c.if-t-ne44.false) in
     let right = made_of c.in-Next-set.is c.set-in-Next.ensures.parsed in
     omega (arith, ready.room, right.span.within)
 
 pub returns-in-Fault : goal.returns-in-Fault
 returns-in-Fault c =
-    let r = brackets-fault set-brackets c.args.toks.now c.args.nodes.now c.args.at c.args.used (same c.peek.ensures c.if-peek-ne91.false) _ c.set.ensures c.in-Fault.is in record { follows = r.0; parsed = r.1 }
+    let r = brackets-fault set-brackets c.args.toks.now c.args.nodes.now c.args.at c.args.used (same c.peek.ensures c.if-peek-ne91.false) _ (c.set.ensures.follows, c.set.ensures.parsed) c.in-Fault.is in record { follows = r.0; parsed = r.1 }
 
 pub returns-in-Fault-set : goal.returns-in-Fault-set
 returns-in-Fault-set c =
-    let r = brackets-fault-second set-brackets c.args.toks.now c.args.nodes.now c.args.at c.args.used (same c.peek.ensures c.if-peek-ne91.false) _ c.set.ensures c.in-Next.is (same c.peek-t.ensures c.if-t-ne44.false) _ c.set-in-Next.ensures c.in-Fault-set.is in record { follows = r.0; parsed = r.1 }
+    let r = brackets-fault-second set-brackets c.args.toks.now c.args.nodes.now c.args.at c.args.used (same c.peek.ensures c.if-peek-ne91.false) _ (c.set.ensures.follows, c.set.ensures.parsed) c.in-Next.is (same c.peek-t.ensures c.if-t-ne44.false) _ (c.set-in-Next.ensures.follows, c.set-in-Next.ensures.parsed) c.in-Fault-set.is in record { follows = r.0; parsed = r.1 }
 
 pub returns-else-peek-ne93 : goal.returns-else-peek-ne93
 returns-else-peek-ne93 c =
-    let ready = brackets-ready set-brackets c.args.toks.now c.args.nodes.now c.args.at c.args.used (same c.peek.ensures c.if-peek-ne91.false) _ c.set.ensures c.in-Next.is c.requires (same c.peek-t.ensures c.if-t-ne44.false) in let r = brackets-two set-brackets c.args.toks.now c.args.nodes.now c.args.at c.args.used (same c.peek.ensures c.if-peek-ne91.false) _ c.set.ensures c.in-Next.is (same c.peek-t.ensures c.if-t-ne44.false) _ c.set-in-Next.ensures c.in-Next-set.is wide-set set-interval (same c.peek-in-Next-set.ensures c.if-peek-ne93.false) (record { written = c.node.ensures; token-fits = omega arith; left-fits = omega (arith, ready.room, ready.inside, ready.few); third-fits = omega arith }) in record { follows = r.0; parsed = r.1 }
+    let ready = brackets-ready set-brackets c.args.toks.now c.args.nodes.now c.args.at c.args.used (same c.peek.ensures c.if-peek-ne91.false) _ (c.set.ensures.follows, c.set.ensures.parsed) c.in-Next.is c.requires (same c.peek-t.ensures c.if-t-ne44.false) in let r = brackets-two set-brackets c.args.toks.now c.args.nodes.now c.args.at c.args.used (same c.peek.ensures c.if-peek-ne91.false) _ (c.set.ensures.follows, c.set.ensures.parsed) c.in-Next.is (same c.peek-t.ensures c.if-t-ne44.false) _ (c.set-in-Next.ensures.follows, c.set-in-Next.ensures.parsed) c.in-Next-set.is wide-set set-interval (same c.peek-in-Next-set.ensures c.if-peek-ne93.false) (record { written = c.node.ensures; token-fits = omega arith; left-fits = omega (arith, ready.room, ready.inside, ready.few); third-fits = omega arith }) in record { follows = r.0; parsed = r.1 }

@@ -39,11 +39,11 @@ overflow_add-result c =
 
 pub returns-then-t-eq93 : goal.returns-then-t-eq93
 returns-then-t-eq93 c =
-    let r = brackets-one value-brackets c.args.toks.now c.args.nodes.now c.args.at c.args.used (same c.peek.ensures c.if-peek-ne91.false) _ c.expr.ensures c.in-Next.is (same c.peek-t.ensures c.if-t-eq93.true) in record { follows = r.0; parsed = r.1 }
+    let r = brackets-one value-brackets c.args.toks.now c.args.nodes.now c.args.at c.args.used (same c.peek.ensures c.if-peek-ne91.false) _ (c.expr.ensures.follows, c.expr.ensures.parsed) c.in-Next.is (same c.peek-t.ensures c.if-t-eq93.true) in record { follows = r.0; parsed = r.1 }
 
 pub returns-then-t-ne44 : goal.returns-then-t-ne44
 returns-then-t-ne44 c =
-    let r = brackets-open value-brackets c.args.toks.now c.args.nodes.now c.args.at c.args.used (same c.peek.ensures c.if-peek-ne91.false) _ c.expr.ensures c.in-Next.is (isnt c.peek-t.ensures c.if-t-eq93.false) (isnt c.peek-t.ensures c.if-t-ne44.true) in record { follows = r.0; parsed = r.1 }
+    let r = brackets-open value-brackets c.args.toks.now c.args.nodes.now c.args.at c.args.used (same c.peek.ensures c.if-peek-ne91.false) _ (c.expr.ensures.follows, c.expr.ensures.parsed) c.in-Next.is (isnt c.peek-t.ensures c.if-t-eq93.false) (isnt c.peek-t.ensures c.if-t-ne44.true) in record { follows = r.0; parsed = r.1 }
 
 pub overflow_add-n : goal.overflow_add-n
 overflow_add-n c =
@@ -57,37 +57,37 @@ overflow_add-left c =
 
 pub expr-requires-in-Next : goal.expr-requires-in-Next
 expr-requires-in-Next c =
-    brackets-ready value-brackets c.args.toks.now c.args.nodes.now c.args.at c.args.used (same c.peek.ensures c.if-peek-ne91.false) _ c.expr.ensures c.in-Next.is c.requires (same c.peek-t.ensures c.if-t-ne44.false)
+    brackets-ready value-brackets c.args.toks.now c.args.nodes.now c.args.at c.args.used (same c.peek.ensures c.if-peek-ne91.false) _ (c.expr.ensures.follows, c.expr.ensures.parsed) c.in-Next.is c.requires (same c.peek-t.ensures c.if-t-ne44.false)
 
 pub returns-then-peek-ne93 : goal.returns-then-peek-ne93
 returns-then-peek-ne93 c =
-    let r = brackets-open-second value-brackets c.args.toks.now c.args.nodes.now c.args.at c.args.used (same c.peek.ensures c.if-peek-ne91.false) _ c.expr.ensures c.in-Next.is (same c.peek-t.ensures c.if-t-ne44.false) _ c.expr-in-Next.ensures c.in-Next-expr.is (isnt c.peek-in-Next-expr.ensures c.if-peek-ne93.true) in record { follows = r.0; parsed = r.1 }
+    let r = brackets-open-second value-brackets c.args.toks.now c.args.nodes.now c.args.at c.args.used (same c.peek.ensures c.if-peek-ne91.false) _ (c.expr.ensures.follows, c.expr.ensures.parsed) c.in-Next.is (same c.peek-t.ensures c.if-t-ne44.false) _ (c.expr-in-Next.ensures.follows, c.expr-in-Next.ensures.parsed) c.in-Next-expr.is (isnt c.peek-in-Next-expr.ensures c.if-peek-ne93.true) in record { follows = r.0; parsed = r.1 }
 
 pub overflow_add-root : goal.overflow_add-root
 overflow_add-root c =
-    let ready = brackets-ready value-brackets c.args.toks.now c.args.nodes.now c.args.at c.args.used (same c.peek.ensures c.if-peek-ne91.false) _ c.expr.ensures c.in-Next.is c.requires (same c.peek-t.ensures c.if-t-ne44.false) in
+    let ready = brackets-ready value-brackets c.args.toks.now c.args.nodes.now c.args.at c.args.used (same c.peek.ensures c.if-peek-ne91.false) _ (c.expr.ensures.follows, c.expr.ensures.parsed) c.in-Next.is c.requires (same c.peek-t.ensures c.if-t-ne44.false) in
     let right = made_of c.in-Next-expr.is c.expr-in-Next.ensures.parsed in
     omega (arith, ready.room, ready.few, right.span.within, right.span.fewer)
 
 pub node-requires : goal.node-requires
 node-requires c =
-    let ready = brackets-ready value-brackets c.args.toks.now c.args.nodes.now c.args.at c.args.used (same c.peek.ensures c.if-peek-ne91.false) _ c.expr.ensures c.in-Next.is c.requires (same c.peek-t.ensures c.if-t-ne44.false) in
+    let ready = brackets-ready value-brackets c.args.toks.now c.args.nodes.now c.args.at c.args.used (same c.peek.ensures c.if-peek-ne91.false) _ (c.expr.ensures.follows, c.expr.ensures.parsed) c.in-Next.is c.requires (same c.peek-t.ensures c.if-t-ne44.false) in
     (omega arith, omega (arith, ready.room, ready.inside, ready.few), omega arith)
 
 pub overflow_add-result-in-Next-expr : goal.overflow_add-result-in-Next-expr
 overflow_add-result-in-Next-expr c =
-    let ready = brackets-ready value-brackets c.args.toks.now c.args.nodes.now c.args.at c.args.used (same c.peek.ensures c.if-peek-ne91.false) _ c.expr.ensures c.in-Next.is c.requires (same c.peek-t.ensures c.if-t-ne44.false) in
+    let ready = brackets-ready value-brackets c.args.toks.now c.args.nodes.now c.args.at c.args.used (same c.peek.ensures c.if-peek-ne91.false) _ (c.expr.ensures.follows, c.expr.ensures.parsed) c.in-Next.is c.requires (same c.peek-t.ensures c.if-t-ne44.false) in
     let right = made_of c.in-Next-expr.is c.expr-in-Next.ensures.parsed in
     omega (arith, ready.room, right.span.within)
 
 pub returns-in-Fault : goal.returns-in-Fault
 returns-in-Fault c =
-    let r = brackets-fault value-brackets c.args.toks.now c.args.nodes.now c.args.at c.args.used (same c.peek.ensures c.if-peek-ne91.false) _ c.expr.ensures c.in-Fault.is in record { follows = r.0; parsed = r.1 }
+    let r = brackets-fault value-brackets c.args.toks.now c.args.nodes.now c.args.at c.args.used (same c.peek.ensures c.if-peek-ne91.false) _ (c.expr.ensures.follows, c.expr.ensures.parsed) c.in-Fault.is in record { follows = r.0; parsed = r.1 }
 
 pub returns-in-Fault-expr : goal.returns-in-Fault-expr
 returns-in-Fault-expr c =
-    let r = brackets-fault-second value-brackets c.args.toks.now c.args.nodes.now c.args.at c.args.used (same c.peek.ensures c.if-peek-ne91.false) _ c.expr.ensures c.in-Next.is (same c.peek-t.ensures c.if-t-ne44.false) _ c.expr-in-Next.ensures c.in-Fault-expr.is in record { follows = r.0; parsed = r.1 }
+    let r = brackets-fault-second value-brackets c.args.toks.now c.args.nodes.now c.args.at c.args.used (same c.peek.ensures c.if-peek-ne91.false) _ (c.expr.ensures.follows, c.expr.ensures.parsed) c.in-Next.is (same c.peek-t.ensures c.if-t-ne44.false) _ (c.expr-in-Next.ensures.follows, c.expr-in-Next.ensures.parsed) c.in-Fault-expr.is in record { follows = r.0; parsed = r.1 }
 
 pub returns-else-peek-ne93 : goal.returns-else-peek-ne93
 returns-else-peek-ne93 c =
-    let ready = brackets-ready value-brackets c.args.toks.now c.args.nodes.now c.args.at c.args.used (same c.peek.ensures c.if-peek-ne91.false) _ c.expr.ensures c.in-Next.is c.requires (same c.peek-t.ensures c.if-t-ne44.false) in let r = brackets-two value-brackets c.args.toks.now c.args.nodes.now c.args.at c.args.used (same c.peek.ensures c.if-peek-ne91.false) _ c.expr.ensures c.in-Next.is (same c.peek-t.ensures c.if-t-ne44.false) _ c.expr-in-Next.ensures c.in-Next-expr.is wide-expr expr-interval (same c.peek-in-Next-expr.ensures c.if-peek-ne93.false) (record { written = c.node.ensures; token-fits = omega arith; left-fits = omega (arith, ready.room, ready.inside, ready.few); third-fits = omega arith }) in record { follows = r.0; parsed = r.1 }
+    let ready = brackets-ready value-brackets c.args.toks.now c.args.nodes.now c.args.at c.args.used (same c.peek.ensures c.if-peek-ne91.false) _ (c.expr.ensures.follows, c.expr.ensures.parsed) c.in-Next.is c.requires (same c.peek-t.ensures c.if-t-ne44.false) in let r = brackets-two value-brackets c.args.toks.now c.args.nodes.now c.args.at c.args.used (same c.peek.ensures c.if-peek-ne91.false) _ (c.expr.ensures.follows, c.expr.ensures.parsed) c.in-Next.is (same c.peek-t.ensures c.if-t-ne44.false) _ (c.expr-in-Next.ensures.follows, c.expr-in-Next.ensures.parsed) c.in-Next-expr.is wide-expr expr-interval (same c.peek-in-Next-expr.ensures c.if-peek-ne93.false) (record { written = c.node.ensures; token-fits = omega arith; left-fits = omega (arith, ready.room, ready.inside, ready.few); third-fits = omega arith }) in record { follows = r.0; parsed = r.1 }

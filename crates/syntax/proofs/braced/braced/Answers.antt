@@ -33,7 +33,7 @@ rated-requires c =
 
 pub returns-then-t-eq126 : goal.returns-then-t-eq126
 returns-then-t-eq126 c =
-    let r = braced-check c.args.toks.now c.args.nodes.now _ c.args.at c.args.used _ _ _ c.check-r.ensures c.rated.ensures (same c.peek-t.ensures c.if-t-eq126.true) in record { follows = r.0; inside = r.1 }
+    let r = braced-check c.args.toks.now c.args.nodes.now _ c.args.at c.args.used _ _ _ (c.check-r.ensures.follows, c.check-r.ensures.parsed) c.rated.ensures (same c.peek-t.ensures c.if-t-eq126.true) in record { follows = r.0; inside = r.1 }
 
 pub handshake-r-requires : goal.handshake-r-requires
 handshake-r-requires c =
@@ -45,7 +45,7 @@ rated-requires-then-t-eq64 c =
 
 pub returns-then-t-eq64 : goal.returns-then-t-eq64
 returns-then-t-eq64 c =
-    let r = braced-hand c.args.toks.now c.args.nodes.now _ c.args.at c.args.used _ _ _ c.handshake-r.ensures c.rated-then-t-eq64.ensures (same c.peek-t.ensures c.if-t-eq64.true) in record { follows = r.0; inside = r.1 }
+    let r = braced-hand c.args.toks.now c.args.nodes.now _ c.args.at c.args.used _ _ _ (c.handshake-r.ensures.follows, c.handshake-r.ensures.parsed) c.rated-then-t-eq64.ensures (same c.peek-t.ensures c.if-t-eq64.true) in record { follows = r.0; inside = r.1 }
 
 pub overflow_add-at : goal.overflow_add-at
 overflow_add-at c =
@@ -57,7 +57,7 @@ lone-requires c =
 
 pub returns-then-peek-eq44 : goal.returns-then-peek-eq44
 returns-then-peek-eq44 c =
-    let r = c.lone.ensures in record { follows = r.0; inside = r.1 }
+     record { follows = c.lone.ensures.follows; inside = c.lone.ensures.inside }
 
 pub beacon-r-requires : goal.beacon-r-requires
 beacon-r-requires c =
@@ -69,4 +69,4 @@ rated-requires-2 c =
 
 pub returns : goal.returns
 returns c =
-    let r = braced-channel c.args.toks.now c.args.nodes.now _ c.args.at c.args.used _ _ _ c.beacon-r.ensures c.rated-2.ensures (isnt c.peek-t.ensures c.if-t-eq126.false) (isnt c.peek-t.ensures c.if-t-eq64.false) (⊎_elim (λ w. inl (same c.peek-t.ensures w.0.taken, isnt w.1.ensures w.2.left)) (λ w. inr (isnt c.peek-t.ensures w.left)) c.if-t-eq-NAME.branch) in record { follows = r.0; inside = r.1 }
+    let r = braced-channel c.args.toks.now c.args.nodes.now _ c.args.at c.args.used _ _ _ (c.beacon-r.ensures.follows, c.beacon-r.ensures.parsed) c.rated-2.ensures (isnt c.peek-t.ensures c.if-t-eq126.false) (isnt c.peek-t.ensures c.if-t-eq64.false) (⊎_elim (λ w. inl (same c.peek-t.ensures w.0.taken, isnt w.1.ensures w.2.left)) (λ w. inr (isnt c.peek-t.ensures w.left)) c.if-t-eq-NAME.branch) in record { follows = r.0; inside = r.1 }

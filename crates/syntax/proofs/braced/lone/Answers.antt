@@ -35,28 +35,28 @@ overflow_add-n-2 c =
 
 pub undecided-requires : goal.undecided-requires
 undecided-requires c =
-    let r = (c.requires.ready, (c.requires.at_value, either-name c.args.toks.now (c.args.at + 1 + 1) (same c.peek-t.ensures c.if-t-eq-NAME.true))) in record { ready = r.0; name_value = r.1; either = r.2 }
+     record { ready = c.requires.ready; name_value = c.requires.at_value; either = either-name c.args.toks.now (c.args.at + 1 + 1) (same c.peek-t.ensures c.if-t-eq-NAME.true) }
 
 pub returns-then-t-eq-NAME : goal.returns-then-t-eq-NAME
 returns-then-t-eq-NAME c =
-    let r = lone-undecided c.args.toks.now c.args.nodes.now c.args.at c.args.used c.requires.at_value _ _ (inr (same c.peek-t.ensures c.if-t-eq-NAME.true)) c.undecided.ensures in record { follows = r.0; inside = r.1 }
+    let r = lone-undecided c.args.toks.now c.args.nodes.now c.args.at c.args.used c.requires.at_value _ _ (inr (same c.peek-t.ensures c.if-t-eq-NAME.true)) (c.undecided.ensures.follows, c.undecided.ensures.inside) in record { follows = r.0; inside = r.1 }
 
 pub undecided-requires-then-t-eq-WHOLE : goal.undecided-requires-then-t-eq-WHOLE
 unfolding number_kind
 undecided-requires-then-t-eq-WHOLE c =
-    let r = (c.requires.ready, (c.requires.at_value, either-whole c.args.toks.now (c.args.at + 1 + 1) (same c.peek-t.ensures c.if-t-eq-WHOLE.true))) in record { ready = r.0; name_value = r.1; either = r.2 }
+     record { ready = c.requires.ready; name_value = c.requires.at_value; either = either-whole c.args.toks.now (c.args.at + 1 + 1) (same c.peek-t.ensures c.if-t-eq-WHOLE.true) }
 
 pub returns-then-t-eq-WHOLE : goal.returns-then-t-eq-WHOLE
 returns-then-t-eq-WHOLE c =
-    let r = lone-undecided c.args.toks.now c.args.nodes.now c.args.at c.args.used c.requires.at_value _ _ (inl (same c.peek-t.ensures c.if-t-eq-WHOLE.true)) c.undecided-then-t-eq-WHOLE.ensures in record { follows = r.0; inside = r.1 }
+    let r = lone-undecided c.args.toks.now c.args.nodes.now c.args.at c.args.used c.requires.at_value _ _ (inl (same c.peek-t.ensures c.if-t-eq-WHOLE.true)) (c.undecided-then-t-eq-WHOLE.ensures.follows, c.undecided-then-t-eq-WHOLE.ensures.inside) in record { follows = r.0; inside = r.1 }
 
 pub lone_minus-requires : goal.lone_minus-requires
 lone_minus-requires c =
-    let r = (c.requires.ready, (c.requires.at_value, same c.peek-t.ensures c.if-t-eq45.true)) in record { ready = r.0; at_value = r.1; at_value_2 = r.2 }
+     record { ready = c.requires.ready; at_value = c.requires.at_value; at_value_2 = same c.peek-t.ensures c.if-t-eq45.true }
 
 pub returns-then-t-eq45 : goal.returns-then-t-eq45
 returns-then-t-eq45 c =
-    let r = c.lone_minus.ensures in record { follows = r.0; inside = r.1 }
+     record { follows = c.lone_minus.ensures.follows; inside = c.lone_minus.ensures.inside }
 
 pub node-requires : goal.node-requires
 node-requires c =
@@ -68,7 +68,7 @@ closed-requires c =
 
 pub returns-then-t-eq-DECIMAL : goal.returns-then-t-eq-DECIMAL
 returns-then-t-eq-DECIMAL c =
-    let r = lone-decimal c.args.toks.now c.args.nodes.now c.args.at c.args.used c.requires.at_value (record { written = c.node.ensures; token-fits = omega (arith, c.requires.ready.room, c.requires.ready.few, c.requires.ready.inside); left-fits = omega arith; third-fits = omega arith }) _ _ c.closed.ensures (same c.peek-t.ensures c.if-t-eq-DECIMAL.true) in record { follows = r.0; inside = r.1 }
+    let r = lone-decimal c.args.toks.now c.args.nodes.now c.args.at c.args.used c.requires.at_value (record { written = c.node.ensures; token-fits = omega (arith, c.requires.ready.room, c.requires.ready.few, c.requires.ready.inside); left-fits = omega arith; third-fits = omega arith }) _ _ (c.closed.ensures.follows, (c.closed.ensures.tallied, c.closed.ensures.spare)) (same c.peek-t.ensures c.if-t-eq-DECIMAL.true) in record { follows = r.0; inside = r.1 }
 
 pub node-requires-2 : goal.node-requires-2
 node-requires-2 c =
@@ -84,12 +84,12 @@ expr-requires c =
 
 pub second-requires : goal.second-requires
 second-requires c =
-    let r = lone-second c.args.toks.now c.args.nodes.now c.args.at c.args.used c.requires.at_value (isnt c.peek-t.ensures c.if-t-eq-DECIMAL.false) (isnt c.peek-t.ensures c.if-t-eq45.false) (isnt c.peek-t.ensures c.if-t-eq-WHOLE.false) (isnt c.peek-t.ensures c.if-t-eq-NAME.false) (record { written = c.node-2.ensures; token-fits = omega (arith, c.requires.ready.room, c.requires.ready.few, c.requires.ready.inside); left-fits = omega arith; third-fits = omega arith }) _ c.expr.ensures c.in-Next.is c.requires.ready in record { ready = r.0; first_le_mid = r.1 }
+    let r = lone-second c.args.toks.now c.args.nodes.now c.args.at c.args.used c.requires.at_value (isnt c.peek-t.ensures c.if-t-eq-DECIMAL.false) (isnt c.peek-t.ensures c.if-t-eq45.false) (isnt c.peek-t.ensures c.if-t-eq-WHOLE.false) (isnt c.peek-t.ensures c.if-t-eq-NAME.false) (record { written = c.node-2.ensures; token-fits = omega (arith, c.requires.ready.room, c.requires.ready.few, c.requires.ready.inside); left-fits = omega arith; third-fits = omega arith }) _ (c.expr.ensures.follows, c.expr.ensures.parsed) c.in-Next.is c.requires.ready in record { ready = r.0; first_le_mid = r.1 }
 
 pub returns-in-Fault : goal.returns-in-Fault
 returns-in-Fault c =
-    let r = lone-fault c.args.toks.now c.args.nodes.now c.args.at c.args.used c.requires.at_value (isnt c.peek-t.ensures c.if-t-eq-DECIMAL.false) (isnt c.peek-t.ensures c.if-t-eq45.false) (isnt c.peek-t.ensures c.if-t-eq-WHOLE.false) (isnt c.peek-t.ensures c.if-t-eq-NAME.false) (record { written = c.node-2.ensures; token-fits = omega (arith, c.requires.ready.room, c.requires.ready.few, c.requires.ready.inside); left-fits = omega arith; third-fits = omega arith }) _ c.expr.ensures c.in-Fault.is in record { follows = r.0; inside = r.1 }
+    let r = lone-fault c.args.toks.now c.args.nodes.now c.args.at c.args.used c.requires.at_value (isnt c.peek-t.ensures c.if-t-eq-DECIMAL.false) (isnt c.peek-t.ensures c.if-t-eq45.false) (isnt c.peek-t.ensures c.if-t-eq-WHOLE.false) (isnt c.peek-t.ensures c.if-t-eq-NAME.false) (record { written = c.node-2.ensures; token-fits = omega (arith, c.requires.ready.room, c.requires.ready.few, c.requires.ready.inside); left-fits = omega arith; third-fits = omega arith }) _ (c.expr.ensures.follows, c.expr.ensures.parsed) c.in-Fault.is in record { follows = r.0; inside = r.1 }
 
 pub returns-in-Next : goal.returns-in-Next
 returns-in-Next c =
-    let r = lone-done c.args.toks.now c.args.nodes.now c.args.at c.args.used c.requires.at_value (isnt c.peek-t.ensures c.if-t-eq-DECIMAL.false) (isnt c.peek-t.ensures c.if-t-eq45.false) (isnt c.peek-t.ensures c.if-t-eq-WHOLE.false) (isnt c.peek-t.ensures c.if-t-eq-NAME.false) (record { written = c.node-2.ensures; token-fits = omega (arith, c.requires.ready.room, c.requires.ready.few, c.requires.ready.inside); left-fits = omega arith; third-fits = omega arith }) _ c.expr.ensures c.in-Next.is _ _ c.second.ensures in record { follows = r.0; inside = r.1 }
+    let r = lone-done c.args.toks.now c.args.nodes.now c.args.at c.args.used c.requires.at_value (isnt c.peek-t.ensures c.if-t-eq-DECIMAL.false) (isnt c.peek-t.ensures c.if-t-eq45.false) (isnt c.peek-t.ensures c.if-t-eq-WHOLE.false) (isnt c.peek-t.ensures c.if-t-eq-NAME.false) (record { written = c.node-2.ensures; token-fits = omega (arith, c.requires.ready.room, c.requires.ready.few, c.requires.ready.inside); left-fits = omega arith; third-fits = omega arith }) _ (c.expr.ensures.follows, c.expr.ensures.parsed) c.in-Next.is _ _ (c.second.ensures.follows, c.second.ensures.seconds) in record { follows = r.0; inside = r.1 }

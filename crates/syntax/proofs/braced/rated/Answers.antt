@@ -35,4 +35,4 @@ returns-in-Fault c =
 
 pub returns-else-peek-ne44 : goal.returns-else-peek-ne44
 returns-else-peek-ne44 c =
-    rated-made c.args.toks.now c.args.nodes.now c.in-Next.is _ _ (same c.peek.ensures c.if-peek-ne44.false) c.closed.ensures
+    rated-made c.args.toks.now c.args.nodes.now c.in-Next.is _ _ (same c.peek.ensures c.if-peek-ne44.false) (c.closed.ensures.follows, (c.closed.ensures.tallied, c.closed.ensures.spare))

@@ -23,16 +23,16 @@ thirds-requires c =
 
 pub deed-r-requires : goal.deed-r-requires
 deed-r-requires c =
-    second-ready c.args.toks.now c.args.nodes.now _ c.args.at c.args.first c.args.mid c.thirds.ensures c.in-Next.is c.requires.ready
+    second-ready c.args.toks.now c.args.nodes.now _ c.args.at c.args.first c.args.mid (c.thirds.ensures.follows, c.thirds.ensures.items) c.in-Next.is c.requires.ready
 
 pub rated-requires : goal.rated-requires
 rated-requires c =
-    second-rated c.args.toks.now c.args.nodes.now _ c.args.at c.args.first c.args.mid c.thirds.ensures c.in-Next.is _ _ c.deed-r.ensures c.requires.ready
+    second-rated c.args.toks.now c.args.nodes.now _ c.args.at c.args.first c.args.mid (c.thirds.ensures.follows, c.thirds.ensures.items) c.in-Next.is _ _ (c.deed-r.ensures.follows, c.deed-r.ensures.extended) c.requires.ready
 
 pub returns-in-Fault : goal.returns-in-Fault
 returns-in-Fault c =
-    let r = second-fault c.args.toks.now c.args.nodes.now _ c.args.at c.args.first c.args.mid c.thirds.ensures c.in-Fault.is in record { follows = r.0; seconds = r.1 }
+    let r = second-fault c.args.toks.now c.args.nodes.now _ c.args.at c.args.first c.args.mid (c.thirds.ensures.follows, c.thirds.ensures.items) c.in-Fault.is in record { follows = r.0; seconds = r.1 }
 
 pub returns-in-Next : goal.returns-in-Next
 returns-in-Next c =
-    let r = second-done c.args.toks.now c.args.nodes.now _ c.args.at c.args.first c.args.mid c.thirds.ensures c.in-Next.is _ _ _ _ c.deed-r.ensures c.rated.ensures in record { follows = r.0; seconds = r.1 }
+    let r = second-done c.args.toks.now c.args.nodes.now _ c.args.at c.args.first c.args.mid (c.thirds.ensures.follows, c.thirds.ensures.items) c.in-Next.is _ _ _ _ (c.deed-r.ensures.follows, c.deed-r.ensures.extended) c.rated.ensures in record { follows = r.0; seconds = r.1 }

@@ -22,8 +22,8 @@ seconds-requires c =
 
 pub returns-in-Fault : goal.returns-in-Fault
 returns-in-Fault c =
-    let r = channel-fault c.args.toks.now c.args.nodes.now _ c.args.at c.args.used c.expr.ensures c.in-Fault.is in record { follows = r.0; parsed = r.1 }
+    let r = channel-fault c.args.toks.now c.args.nodes.now _ c.args.at c.args.used (c.expr.ensures.follows, c.expr.ensures.parsed) c.in-Fault.is in record { follows = r.0; parsed = r.1 }
 
 pub returns-in-Next : goal.returns-in-Next
 returns-in-Next c =
-    let r = channel-made c.args.toks.now c.args.nodes.now _ c.args.at c.args.used c.expr.ensures _ _ c.in-Next.is c.seconds.ensures in record { follows = r.0; parsed = r.1 }
+    let r = channel-made c.args.toks.now c.args.nodes.now _ c.args.at c.args.used (c.expr.ensures.follows, c.expr.ensures.parsed) _ _ c.in-Next.is (c.seconds.ensures.follows, c.seconds.ensures.extended) in record { follows = r.0; parsed = r.1 }

@@ -27,12 +27,12 @@ expr-requires c =
 
 pub thirds-requires : goal.thirds-requires
 thirds-requires c =
-     record { ready = seconds-ready c.args.toks.now c.args.nodes.now c.args.at c.args.left (same c.peek.ensures c.if-peek-ne44.false) _ c.expr.ensures c.in-Next.is c.requires; left_le_mid = seconds-below c.args.toks.now c.args.nodes.now c.args.at c.args.left (same c.peek.ensures c.if-peek-ne44.false) _ c.expr.ensures c.in-Next.is }
+     record { ready = seconds-ready c.args.toks.now c.args.nodes.now c.args.at c.args.left (same c.peek.ensures c.if-peek-ne44.false) _ (c.expr.ensures.follows, c.expr.ensures.parsed) c.in-Next.is c.requires; left_le_mid = seconds-below c.args.toks.now c.args.nodes.now c.args.at c.args.left (same c.peek.ensures c.if-peek-ne44.false) _ (c.expr.ensures.follows, c.expr.ensures.parsed) c.in-Next.is }
 
 pub returns-in-Fault : goal.returns-in-Fault
 returns-in-Fault c =
-    let r = seconds-fault c.args.toks.now c.args.nodes.now c.args.at c.args.left (same c.peek.ensures c.if-peek-ne44.false) _ c.expr.ensures c.in-Fault.is in record { follows = r.0; extended = r.1 }
+    let r = seconds-fault c.args.toks.now c.args.nodes.now c.args.at c.args.left (same c.peek.ensures c.if-peek-ne44.false) _ (c.expr.ensures.follows, c.expr.ensures.parsed) c.in-Fault.is in record { follows = r.0; extended = r.1 }
 
 pub returns-in-Next : goal.returns-in-Next
 returns-in-Next c =
-    let r = seconds-more c.args.toks.now c.args.nodes.now c.args.at c.args.left (same c.peek.ensures c.if-peek-ne44.false) _ c.expr.ensures c.in-Next.is _ _ c.thirds.ensures in record { follows = r.0; extended = r.1 }
+    let r = seconds-more c.args.toks.now c.args.nodes.now c.args.at c.args.left (same c.peek.ensures c.if-peek-ne44.false) _ (c.expr.ensures.follows, c.expr.ensures.parsed) c.in-Next.is _ _ (c.thirds.ensures.follows, c.thirds.ensures.items) in record { follows = r.0; extended = r.1 }

@@ -40,8 +40,8 @@ node-requires-in-Next c =
 
 pub returns-in-Fault : goal.returns-in-Fault
 returns-in-Fault c =
-    let r = thirds-fault c.args.toks.now c.args.nodes.now c.args.at c.args.left c.args.mid (same c.peek.ensures c.if-peek-ne44.false) _ c.expr.ensures c.in-Fault.is in record { follows = r.0; items = r.1 }
+    let r = thirds-fault c.args.toks.now c.args.nodes.now c.args.at c.args.left c.args.mid (same c.peek.ensures c.if-peek-ne44.false) _ (c.expr.ensures.follows, c.expr.ensures.parsed) c.in-Fault.is in record { follows = r.0; items = r.1 }
 
 pub returns-in-Next : goal.returns-in-Next
 returns-in-Next c =
-    let r = thirds-three c.args.toks.now c.args.nodes.now c.args.at c.args.left c.args.mid (same c.peek.ensures c.if-peek-ne44.false) _ c.expr.ensures c.requires.left_le_mid c.in-Next.is (record { written = c.node-in-Next.ensures; token-fits = omega arith; left-fits = omega (arith, c.requires.ready.room, c.requires.ready.few, c.requires.ready.inside, c.requires.left_le_mid); third-fits = omega (arith, c.requires.ready.room, c.requires.ready.few, c.requires.ready.inside) }) in record { follows = r.0; items = r.1 }
+    let r = thirds-three c.args.toks.now c.args.nodes.now c.args.at c.args.left c.args.mid (same c.peek.ensures c.if-peek-ne44.false) _ (c.expr.ensures.follows, c.expr.ensures.parsed) c.requires.left_le_mid c.in-Next.is (record { written = c.node-in-Next.ensures; token-fits = omega arith; left-fits = omega (arith, c.requires.ready.room, c.requires.ready.few, c.requires.ready.inside, c.requires.left_le_mid); third-fits = omega (arith, c.requires.ready.room, c.requires.ready.few, c.requires.ready.inside) }) in record { follows = r.0; items = r.1 }

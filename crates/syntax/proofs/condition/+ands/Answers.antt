@@ -37,8 +37,8 @@ ands-requires t c =
 
 pub returns-in-Fault : goal.returns-in-Fault
 returns-in-Fault t c =
-    let r = ands-fault _ _ _ _ _ (same c.peek.ensures c.if-peek-ne38.false) c.test.ensures c.in-Fault.is in record { follows = r.0; extended = r.1 }
+    let r = ands-fault _ _ _ _ _ (same c.peek.ensures c.if-peek-ne38.false) (c.test.ensures.follows, c.test.ensures.parsed) c.in-Fault.is in record { follows = r.0; extended = r.1 }
 
 pub returns-in-Next : goal.returns-in-Next
 returns-in-Next t c =
-    let r = ands-more _ _ _ _ _ (same c.peek.ensures c.if-peek-ne38.false) c.test.ensures _ _ _ c.in-Next.is (record { written = c.node.ensures; token-fits = omega arith; left-fits = omega (arith, c.requires.inside, c.requires.room, c.requires.few); third-fits = omega arith }) c.ands.ensures in record { follows = r.0; extended = r.1 }
+    let r = ands-more _ _ _ _ _ (same c.peek.ensures c.if-peek-ne38.false) (c.test.ensures.follows, c.test.ensures.parsed) _ _ _ c.in-Next.is (record { written = c.node.ensures; token-fits = omega arith; left-fits = omega (arith, c.requires.inside, c.requires.room, c.requires.few); third-fits = omega arith }) (c.ands.ensures.follows, c.ands.ensures.extended) in record { follows = r.0; extended = r.1 }

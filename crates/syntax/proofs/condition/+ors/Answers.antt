@@ -37,8 +37,8 @@ ors-requires t c =
 
 pub returns-in-Fault : goal.returns-in-Fault
 returns-in-Fault t c =
-    let r = ors-fault _ _ _ _ _ (same c.peek.ensures c.if-peek-ne124.false) c.conjunction.ensures c.in-Fault.is in record { follows = r.0; extended = r.1 }
+    let r = ors-fault _ _ _ _ _ (same c.peek.ensures c.if-peek-ne124.false) (c.conjunction.ensures.follows, c.conjunction.ensures.parsed) c.in-Fault.is in record { follows = r.0; extended = r.1 }
 
 pub returns-in-Next : goal.returns-in-Next
 returns-in-Next t c =
-    let r = ors-more _ _ _ _ _ (same c.peek.ensures c.if-peek-ne124.false) c.conjunction.ensures _ _ _ c.in-Next.is (record { written = c.node.ensures; token-fits = omega arith; left-fits = omega (arith, c.requires.inside, c.requires.room, c.requires.few); third-fits = omega arith }) c.ors.ensures in record { follows = r.0; extended = r.1 }
+    let r = ors-more _ _ _ _ _ (same c.peek.ensures c.if-peek-ne124.false) (c.conjunction.ensures.follows, c.conjunction.ensures.parsed) _ _ _ c.in-Next.is (record { written = c.node.ensures; token-fits = omega arith; left-fits = omega (arith, c.requires.inside, c.requires.room, c.requires.few); third-fits = omega arith }) (c.ors.ensures.follows, c.ors.ensures.extended) in record { follows = r.0; extended = r.1 }

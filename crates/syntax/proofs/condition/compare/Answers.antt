@@ -16,7 +16,7 @@ expr-requires c =
 pub returns-then-kind-eq0 : goal.returns-then-kind-eq0
 unfolding relation_kind
 returns-then-kind-eq0 c =
-    let r = compare-stray _ _ _ _ _ _ c.in-Next.is c.expr.ensures (apart relation_signs _ _ (omega arith) (c.relation_kind-kind.ensures ∙ ap (sign_kind relation_signs) c.peek.ensures) c.if-kind-eq0.true) in record { follows = r.0; parsed = r.1 }
+    let r = compare-stray _ _ _ _ _ _ c.in-Next.is (c.expr.ensures.follows, c.expr.ensures.parsed) (apart relation_signs _ _ (omega arith) (c.relation_kind-kind.ensures ∙ ap (sign_kind relation_signs) c.peek.ensures) c.if-kind-eq0.true) in record { follows = r.0; parsed = r.1 }
 
 pub overflow_add-n : goal.overflow_add-n
 overflow_add-n c =
@@ -44,12 +44,12 @@ node-requires c =
 
 pub returns-in-Fault : goal.returns-in-Fault
 returns-in-Fault c =
-    let r = compare-fault _ _ _ _ _ _ c.in-Fault.is c.expr.ensures in record { follows = r.0; parsed = r.1 }
+    let r = compare-fault _ _ _ _ _ _ c.in-Fault.is (c.expr.ensures.follows, c.expr.ensures.parsed) in record { follows = r.0; parsed = r.1 }
 
 pub returns-in-Fault-expr : goal.returns-in-Fault-expr
 returns-in-Fault-expr c =
-    let r = compare-second _ _ _ _ _ _ c.in-Next.is c.expr.ensures _ _ (relation-sign _ _ (hit relation_signs _ _ (c.relation_kind-kind.ensures ∙ ap (sign_kind relation_signs) c.peek.ensures) c.if-kind-eq0.false)) c.expr-in-Next.ensures c.in-Fault-expr.is in record { follows = r.0; parsed = r.1 }
+    let r = compare-second _ _ _ _ _ _ c.in-Next.is (c.expr.ensures.follows, c.expr.ensures.parsed) _ _ (relation-sign _ _ (hit relation_signs _ _ (c.relation_kind-kind.ensures ∙ ap (sign_kind relation_signs) c.peek.ensures) c.if-kind-eq0.false)) (c.expr-in-Next.ensures.follows, c.expr-in-Next.ensures.parsed) c.in-Fault-expr.is in record { follows = r.0; parsed = r.1 }
 
 pub returns-in-Next-expr : goal.returns-in-Next-expr
 returns-in-Next-expr c =
-    let m = made_of c.in-Next.is c.expr.ensures.parsed in let r = compare-made _ _ _ _ _ _ c.in-Next.is c.expr.ensures _ _ (relation-sign _ _ (hit relation_signs _ _ (c.relation_kind-kind.ensures ∙ ap (sign_kind relation_signs) c.peek.ensures) c.if-kind-eq0.false)) c.expr-in-Next.ensures c.in-Next-expr.is (record { written = c.node.ensures; token-fits = omega arith; left-fits = omega (arith, m.span.onward, m.span.within, m.span.more, m.span.fewer, c.requires.ready.inside, c.requires.ready.room, c.requires.ready.few); third-fits = omega arith }) in record { follows = r.0; parsed = r.1 }
+    let m = made_of c.in-Next.is c.expr.ensures.parsed in let r = compare-made _ _ _ _ _ _ c.in-Next.is (c.expr.ensures.follows, c.expr.ensures.parsed) _ _ (relation-sign _ _ (hit relation_signs _ _ (c.relation_kind-kind.ensures ∙ ap (sign_kind relation_signs) c.peek.ensures) c.if-kind-eq0.false)) (c.expr-in-Next.ensures.follows, c.expr-in-Next.ensures.parsed) c.in-Next-expr.is (record { written = c.node.ensures; token-fits = omega arith; left-fits = omega (arith, m.span.onward, m.span.within, m.span.more, m.span.fewer, c.requires.ready.inside, c.requires.ready.room, c.requires.ready.few); third-fits = omega arith }) in record { follows = r.0; parsed = r.1 }

@@ -14,8 +14,8 @@ ors-requires c =
 
 pub returns-in-Fault : goal.returns-in-Fault
 returns-in-Fault c =
-    let r = condition-fault _ _ _ _ _ c.in-Fault.is c.conjunction.ensures in record { follows = r.0; parsed = r.1 }
+    let r = condition-fault _ _ _ _ _ c.in-Fault.is (c.conjunction.ensures.follows, c.conjunction.ensures.parsed) in record { follows = r.0; parsed = r.1 }
 
 pub returns-in-Next : goal.returns-in-Next
 returns-in-Next c =
-    let r = condition-made _ _ _ _ _ _ _ c.in-Next.is c.conjunction.ensures c.ors.ensures in record { follows = r.0; parsed = r.1 }
+    let r = condition-made _ _ _ _ _ _ _ c.in-Next.is (c.conjunction.ensures.follows, c.conjunction.ensures.parsed) (c.ors.ensures.follows, c.ors.ensures.extended) in record { follows = r.0; parsed = r.1 }

@@ -14,8 +14,8 @@ ands-requires c =
 
 pub returns-in-Fault : goal.returns-in-Fault
 returns-in-Fault c =
-    let r = conjunction-fault _ _ _ _ _ c.in-Fault.is c.test.ensures in record { follows = r.0; parsed = r.1 }
+    let r = conjunction-fault _ _ _ _ _ c.in-Fault.is (c.test.ensures.follows, c.test.ensures.parsed) in record { follows = r.0; parsed = r.1 }
 
 pub returns-in-Next : goal.returns-in-Next
 returns-in-Next c =
-    let r = conjunction-made _ _ _ _ _ _ _ c.in-Next.is c.test.ensures c.ands.ensures in record { follows = r.0; parsed = r.1 }
+    let r = conjunction-made _ _ _ _ _ _ _ c.in-Next.is (c.test.ensures.follows, c.test.ensures.parsed) (c.ands.ensures.follows, c.ands.ensures.extended) in record { follows = r.0; parsed = r.1 }

@@ -33,11 +33,11 @@ absolute-node-requires t c =
 
 pub absolute-returns-in-Fault : goal.absolute-returns-in-Fault
 absolute-returns-in-Fault t c =
-    let r = absolute-fault _ _ _ _ _ (same c.peek.ensures c.if-peek-ne40.false) c.bracketed.ensures c.in-Fault.is in record { follows = r.0; parsed = r.1 }
+    let r = absolute-fault _ _ _ _ _ (same c.peek.ensures c.if-peek-ne40.false) (c.bracketed.ensures.follows, c.bracketed.ensures.parsed) c.in-Fault.is in record { follows = r.0; parsed = r.1 }
 
 pub absolute-returns-in-Next : goal.absolute-returns-in-Next
 absolute-returns-in-Next t c =
-    let r = absolute-made _ _ _ _ _ (same c.peek.ensures c.if-peek-ne40.false) c.bracketed.ensures c.in-Next.is (record { written = c.node.ensures; token-fits = omega arith; left-fits = omega arith; third-fits = omega arith }) in record { follows = r.0; parsed = r.1 }
+    let r = absolute-made _ _ _ _ _ (same c.peek.ensures c.if-peek-ne40.false) (c.bracketed.ensures.follows, c.bracketed.ensures.parsed) c.in-Next.is (record { written = c.node.ensures; token-fits = omega arith; left-fits = omega arith; third-fits = omega arith }) in record { follows = r.0; parsed = r.1 }
 
 pub atom-node-requires : goal.atom-node-requires
 atom-node-requires t c =
@@ -61,7 +61,7 @@ atom-bracketed-requires t c =
 
 pub atom-returns-then-t-eq40 : goal.atom-returns-then-t-eq40
 atom-returns-then-t-eq40 t c =
-    let r = atom-bracketed _ _ _ _ _ _ (same c.peek-t.ensures c.if-t-eq40.true) c.bracketed.ensures in record { follows = r.0; parsed = r.1 }
+    let r = atom-bracketed _ _ _ _ _ _ (same c.peek-t.ensures c.if-t-eq40.true) (c.bracketed.ensures.follows, c.bracketed.ensures.parsed) in record { follows = r.0; parsed = r.1 }
 
 pub atom-overflow_add-at-then-t-eq-ABSOLUTE : goal.atom-overflow_add-at-then-t-eq-ABSOLUTE
 atom-overflow_add-at-then-t-eq-ABSOLUTE t c =
@@ -73,7 +73,7 @@ atom-absolute-requires t c =
 
 pub atom-returns-then-t-eq-ABSOLUTE : goal.atom-returns-then-t-eq-ABSOLUTE
 atom-returns-then-t-eq-ABSOLUTE t c =
-    let r = atom-absolute _ _ _ _ _ _ (same c.peek-t.ensures c.if-t-eq-ABSOLUTE.true) c.absolute.ensures in record { follows = r.0; parsed = r.1 }
+    let r = atom-absolute _ _ _ _ _ _ (same c.peek-t.ensures c.if-t-eq-ABSOLUTE.true) (c.absolute.ensures.follows, c.absolute.ensures.parsed) in record { follows = r.0; parsed = r.1 }
 
 pub atom-overflow_add-at-then-t-eq-MAXIMUM : goal.atom-overflow_add-at-then-t-eq-MAXIMUM
 atom-overflow_add-at-then-t-eq-MAXIMUM t c =
@@ -86,7 +86,7 @@ atom-larger-requires t c =
 pub atom-returns-then-t-eq-MAXIMUM : goal.atom-returns-then-t-eq-MAXIMUM
 unfolding op_kind
 atom-returns-then-t-eq-MAXIMUM t c =
-    let r = atom-maximum _ _ _ _ _ _ (same c.peek-t.ensures c.if-t-eq-MAXIMUM.true) c.larger.ensures in record { follows = r.0; parsed = r.1 }
+    let r = atom-maximum _ _ _ _ _ _ (same c.peek-t.ensures c.if-t-eq-MAXIMUM.true) (c.larger.ensures.follows, c.larger.ensures.parsed) in record { follows = r.0; parsed = r.1 }
 
 pub atom-overflow_add-at-then-t-eq-MINIMUM : goal.atom-overflow_add-at-then-t-eq-MINIMUM
 atom-overflow_add-at-then-t-eq-MINIMUM t c =
@@ -99,7 +99,7 @@ atom-larger-requires-then-t-eq-MINIMUM t c =
 pub atom-returns-then-t-eq-MINIMUM : goal.atom-returns-then-t-eq-MINIMUM
 unfolding op_kind
 atom-returns-then-t-eq-MINIMUM t c =
-    let r = atom-minimum _ _ _ _ _ _ (same c.peek-t.ensures c.if-t-eq-MINIMUM.true) c.larger-then-t-eq-MINIMUM.ensures in record { follows = r.0; parsed = r.1 }
+    let r = atom-minimum _ _ _ _ _ _ (same c.peek-t.ensures c.if-t-eq-MINIMUM.true) (c.larger-then-t-eq-MINIMUM.ensures.follows, c.larger-then-t-eq-MINIMUM.ensures.parsed) in record { follows = r.0; parsed = r.1 }
 
 pub atom-literal-requires : goal.atom-literal-requires
 atom-literal-requires t c =
@@ -107,7 +107,7 @@ atom-literal-requires t c =
 
 pub atom-returns : goal.atom-returns
 atom-returns t c =
-    let r = atom-literal _ _ _ _ _ _ (isnt c.peek-t.ensures c.if-t-eq-NAME.false) (isnt c.peek-t.ensures c.if-t-eq40.false) (isnt c.peek-t.ensures c.if-t-eq-ABSOLUTE.false) (isnt c.peek-t.ensures c.if-t-eq-MAXIMUM.false) (isnt c.peek-t.ensures c.if-t-eq-MINIMUM.false) c.literal.ensures in record { follows = r.0; parsed = r.1 }
+    let r = atom-literal _ _ _ _ _ _ (isnt c.peek-t.ensures c.if-t-eq-NAME.false) (isnt c.peek-t.ensures c.if-t-eq40.false) (isnt c.peek-t.ensures c.if-t-eq-ABSOLUTE.false) (isnt c.peek-t.ensures c.if-t-eq-MAXIMUM.false) (isnt c.peek-t.ensures c.if-t-eq-MINIMUM.false) (c.literal.ensures.follows, c.literal.ensures.parsed) in record { follows = r.0; parsed = r.1 }
 
 pub bracketed-expr-requires : goal.bracketed-expr-requires
 bracketed-expr-requires t c =
@@ -115,7 +115,7 @@ bracketed-expr-requires t c =
 
 pub bracketed-returns-then-peek-ne41 : goal.bracketed-returns-then-peek-ne41
 bracketed-returns-then-peek-ne41 t c =
-    let r = bracketed-open _ _ _ _ _ c.expr.ensures c.in-Next.is (isnt c.peek.ensures c.if-peek-ne41.true) in record { follows = r.0; parsed = r.1 }
+    let r = bracketed-open _ _ _ _ _ (c.expr.ensures.follows, c.expr.ensures.parsed) c.in-Next.is (isnt c.peek.ensures c.if-peek-ne41.true) in record { follows = r.0; parsed = r.1 }
 
 pub bracketed-overflow_add-result : goal.bracketed-overflow_add-result
 bracketed-overflow_add-result t c =
@@ -123,11 +123,11 @@ bracketed-overflow_add-result t c =
 
 pub bracketed-returns-in-Fault : goal.bracketed-returns-in-Fault
 bracketed-returns-in-Fault t c =
-    let r = bracketed-fault _ _ _ _ _ c.expr.ensures c.in-Fault.is in record { follows = r.0; parsed = r.1 }
+    let r = bracketed-fault _ _ _ _ _ (c.expr.ensures.follows, c.expr.ensures.parsed) c.in-Fault.is in record { follows = r.0; parsed = r.1 }
 
 pub bracketed-returns-else-peek-ne41 : goal.bracketed-returns-else-peek-ne41
 bracketed-returns-else-peek-ne41 t c =
-    let r = bracketed-closed _ _ _ _ _ c.expr.ensures c.in-Next.is (same c.peek.ensures c.if-peek-ne41.false) in record { follows = r.0; parsed = r.1 }
+    let r = bracketed-closed _ _ _ _ _ (c.expr.ensures.follows, c.expr.ensures.parsed) c.in-Next.is (same c.peek.ensures c.if-peek-ne41.false) in record { follows = r.0; parsed = r.1 }
 
 pub expr-term-requires : goal.expr-term-requires
 expr-term-requires t c =
@@ -139,11 +139,11 @@ expr-terms-requires t c =
 
 pub expr-returns-in-Fault : goal.expr-returns-in-Fault
 expr-returns-in-Fault t c =
-    let r = expr-fault _ _ _ _ _ c.in-Fault.is c.term.ensures in record { follows = r.0; parsed = r.1 }
+    let r = expr-fault _ _ _ _ _ c.in-Fault.is (c.term.ensures.follows, c.term.ensures.parsed) in record { follows = r.0; parsed = r.1 }
 
 pub expr-returns-in-Next : goal.expr-returns-in-Next
 expr-returns-in-Next t c =
-    let r = expr-made _ _ _ _ _ _ _ c.in-Next.is c.term.ensures c.terms.ensures in record { follows = r.0; parsed = r.1 }
+    let r = expr-made _ _ _ _ _ _ _ c.in-Next.is (c.term.ensures.follows, c.term.ensures.parsed) (c.terms.ensures.follows, c.terms.ensures.extended) in record { follows = r.0; parsed = r.1 }
 
 pub factors-returns-then-kind-eq0 : goal.factors-returns-then-kind-eq0
 unfolding op_kind
@@ -176,11 +176,11 @@ factors-factors-requires t c =
 
 pub factors-returns-in-Fault : goal.factors-returns-in-Fault
 factors-returns-in-Fault t c =
-    let r = factors-fault _ _ _ _ _ _ (hit product_signs _ _ (c.product_kind-kind.ensures ∙ ap (sign_kind product_signs) c.peek.ensures) c.if-kind-eq0.false) c.atom.ensures c.in-Fault.is in record { follows = r.0; extended = r.1 }
+    let r = factors-fault _ _ _ _ _ _ (hit product_signs _ _ (c.product_kind-kind.ensures ∙ ap (sign_kind product_signs) c.peek.ensures) c.if-kind-eq0.false) (c.atom.ensures.follows, c.atom.ensures.parsed) c.in-Fault.is in record { follows = r.0; extended = r.1 }
 
 pub factors-returns-in-Next : goal.factors-returns-in-Next
 factors-returns-in-Next t c =
-    let r = factors-more _ _ _ _ _ _ _ _ _ (hit product_signs _ _ (c.product_kind-kind.ensures ∙ ap (sign_kind product_signs) c.peek.ensures) c.if-kind-eq0.false) c.atom.ensures c.in-Next.is (record { written = c.node.ensures; token-fits = omega arith; left-fits = omega (arith, c.requires.inside, c.requires.room, c.requires.few); third-fits = omega arith }) c.factors.ensures in record { follows = r.0; extended = r.1 }
+    let r = factors-more _ _ _ _ _ _ _ _ _ (hit product_signs _ _ (c.product_kind-kind.ensures ∙ ap (sign_kind product_signs) c.peek.ensures) c.if-kind-eq0.false) (c.atom.ensures.follows, c.atom.ensures.parsed) c.in-Next.is (record { written = c.node.ensures; token-fits = omega arith; left-fits = omega (arith, c.requires.inside, c.requires.room, c.requires.few); third-fits = omega arith }) (c.factors.ensures.follows, c.factors.ensures.extended) in record { follows = r.0; extended = r.1 }
 
 pub larger-returns-then-peek-ne40 : goal.larger-returns-then-peek-ne40
 larger-returns-then-peek-ne40 t c =
@@ -196,7 +196,7 @@ larger-expr-requires t c =
 
 pub larger-returns-then-peek-ne44 : goal.larger-returns-then-peek-ne44
 larger-returns-then-peek-ne44 t c =
-    let r = larger-comma _ _ _ _ _ _ (same c.peek.ensures c.if-peek-ne40.false) c.expr.ensures c.in-Next.is (isnt c.peek-in-Next.ensures c.if-peek-ne44.true) in record { follows = r.0; parsed = r.1 }
+    let r = larger-comma _ _ _ _ _ _ (same c.peek.ensures c.if-peek-ne40.false) (c.expr.ensures.follows, c.expr.ensures.parsed) c.in-Next.is (isnt c.peek-in-Next.ensures c.if-peek-ne44.true) in record { follows = r.0; parsed = r.1 }
 
 pub larger-overflow_add-n : goal.larger-overflow_add-n
 larger-overflow_add-n t c =
@@ -220,15 +220,15 @@ larger-node-requires t c =
 
 pub larger-returns-in-Fault : goal.larger-returns-in-Fault
 larger-returns-in-Fault t c =
-    let r = larger-fault _ _ _ _ _ _ (same c.peek.ensures c.if-peek-ne40.false) c.expr.ensures c.in-Fault.is in record { follows = r.0; parsed = r.1 }
+    let r = larger-fault _ _ _ _ _ _ (same c.peek.ensures c.if-peek-ne40.false) (c.expr.ensures.follows, c.expr.ensures.parsed) c.in-Fault.is in record { follows = r.0; parsed = r.1 }
 
 pub larger-returns-in-Fault-bracketed : goal.larger-returns-in-Fault-bracketed
 larger-returns-in-Fault-bracketed t c =
-    let r = larger-second _ _ _ _ _ _ (same c.peek.ensures c.if-peek-ne40.false) c.expr.ensures c.in-Next.is _ (same c.peek-in-Next.ensures c.if-peek-ne44.false) c.bracketed.ensures c.in-Fault-bracketed.is in record { follows = r.0; parsed = r.1 }
+    let r = larger-second _ _ _ _ _ _ (same c.peek.ensures c.if-peek-ne40.false) (c.expr.ensures.follows, c.expr.ensures.parsed) c.in-Next.is _ (same c.peek-in-Next.ensures c.if-peek-ne44.false) (c.bracketed.ensures.follows, c.bracketed.ensures.parsed) c.in-Fault-bracketed.is in record { follows = r.0; parsed = r.1 }
 
 pub larger-returns-in-Next-bracketed : goal.larger-returns-in-Next-bracketed
 larger-returns-in-Next-bracketed t c =
-    let m = made_of c.in-Next.is c.expr.ensures.parsed in let r = larger-made _ _ _ _ _ _ (same c.peek.ensures c.if-peek-ne40.false) c.expr.ensures c.in-Next.is _ (same c.peek-in-Next.ensures c.if-peek-ne44.false) c.bracketed.ensures c.in-Next-bracketed.is (record { written = c.node.ensures; token-fits = omega arith; left-fits = omega (arith, m.span.onward, m.span.within, m.span.more, m.span.fewer, c.requires.inside, c.requires.room, c.requires.few); third-fits = omega arith }) in record { follows = r.0; parsed = r.1 }
+    let m = made_of c.in-Next.is c.expr.ensures.parsed in let r = larger-made _ _ _ _ _ _ (same c.peek.ensures c.if-peek-ne40.false) (c.expr.ensures.follows, c.expr.ensures.parsed) c.in-Next.is _ (same c.peek-in-Next.ensures c.if-peek-ne44.false) (c.bracketed.ensures.follows, c.bracketed.ensures.parsed) c.in-Next-bracketed.is (record { written = c.node.ensures; token-fits = omega arith; left-fits = omega (arith, m.span.onward, m.span.within, m.span.more, m.span.fewer, c.requires.inside, c.requires.room, c.requires.few); third-fits = omega arith }) in record { follows = r.0; parsed = r.1 }
 
 pub term-atom-requires : goal.term-atom-requires
 term-atom-requires t c =
@@ -240,11 +240,11 @@ term-factors-requires t c =
 
 pub term-returns-in-Fault : goal.term-returns-in-Fault
 term-returns-in-Fault t c =
-    let r = term-fault _ _ _ _ _ c.in-Fault.is c.atom.ensures in record { follows = r.0; parsed = r.1 }
+    let r = term-fault _ _ _ _ _ c.in-Fault.is (c.atom.ensures.follows, c.atom.ensures.parsed) in record { follows = r.0; parsed = r.1 }
 
 pub term-returns-in-Next : goal.term-returns-in-Next
 term-returns-in-Next t c =
-    let r = term_made _ _ _ _ _ _ _ c.in-Next.is c.atom.ensures c.factors.ensures in record { follows = r.0; parsed = r.1 }
+    let r = term_made _ _ _ _ _ _ _ c.in-Next.is (c.atom.ensures.follows, c.atom.ensures.parsed) (c.factors.ensures.follows, c.factors.ensures.extended) in record { follows = r.0; parsed = r.1 }
 
 pub terms-returns-then-kind-eq0 : goal.terms-returns-then-kind-eq0
 unfolding op_kind
@@ -277,8 +277,8 @@ terms-terms-requires t c =
 
 pub terms-returns-in-Fault : goal.terms-returns-in-Fault
 terms-returns-in-Fault t c =
-    let r = terms-fault _ _ _ _ _ _ (hit sum_signs _ _ (c.sum_kind-kind.ensures ∙ ap (sign_kind sum_signs) c.peek.ensures) c.if-kind-eq0.false) c.term.ensures c.in-Fault.is in record { follows = r.0; extended = r.1 }
+    let r = terms-fault _ _ _ _ _ _ (hit sum_signs _ _ (c.sum_kind-kind.ensures ∙ ap (sign_kind sum_signs) c.peek.ensures) c.if-kind-eq0.false) (c.term.ensures.follows, c.term.ensures.parsed) c.in-Fault.is in record { follows = r.0; extended = r.1 }
 
 pub terms-returns-in-Next : goal.terms-returns-in-Next
 terms-returns-in-Next t c =
-    let r = terms-more _ _ _ _ _ _ _ _ _ (hit sum_signs _ _ (c.sum_kind-kind.ensures ∙ ap (sign_kind sum_signs) c.peek.ensures) c.if-kind-eq0.false) c.term.ensures c.in-Next.is (record { written = c.node.ensures; token-fits = omega arith; left-fits = omega (arith, c.requires.inside, c.requires.room, c.requires.few); third-fits = omega arith }) c.terms.ensures in record { follows = r.0; extended = r.1 }
+    let r = terms-more _ _ _ _ _ _ _ _ _ (hit sum_signs _ _ (c.sum_kind-kind.ensures ∙ ap (sign_kind sum_signs) c.peek.ensures) c.if-kind-eq0.false) (c.term.ensures.follows, c.term.ensures.parsed) c.in-Next.is (record { written = c.node.ensures; token-fits = omega arith; left-fits = omega (arith, c.requires.inside, c.requires.room, c.requires.few); third-fits = omega arith }) (c.terms.ensures.follows, c.terms.ensures.extended) in record { follows = r.0; extended = r.1 }

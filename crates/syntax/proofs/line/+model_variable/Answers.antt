@@ -17,11 +17,11 @@ model-overflow_add-n t c =
 
 pub model-definitions-requires : goal.model-definitions-requires
 model-definitions-requires t c =
-    let r = (c.requires, (omega arith, ((same c.peek.ensures c.if-peek-ne-NAME.false), same c.peek-t.ensures c.if-t-eq91.true))) in record { ready = r.0; sums_le_name = r.1; name_value = r.2; name_value_2 = r.3 }
+     record { ready = c.requires; sums_le_name = omega arith; name_value = (same c.peek.ensures c.if-peek-ne-NAME.false); name_value_2 = same c.peek-t.ensures c.if-t-eq91.true }
 
 pub model-returns-then-t-eq91 : goal.model-returns-then-t-eq91
 model-returns-then-t-eq91 t c =
-    let r = model-definitions _ _ _ _ (same c.peek.ensures c.if-peek-ne-NAME.false) _ _ (same c.peek-t.ensures c.if-t-eq91.true) c.definitions.ensures in record { follows = r.0; parsed = r.1 }
+    let r = model-definitions _ _ _ _ (same c.peek.ensures c.if-peek-ne-NAME.false) _ _ (same c.peek-t.ensures c.if-t-eq91.true) (c.definitions.ensures.follows, c.definitions.ensures.parsed) in record { follows = r.0; parsed = r.1 }
 
 pub model-returns-then-t-ne61 : goal.model-returns-then-t-ne61
 model-returns-then-t-ne61 t c =
@@ -33,7 +33,7 @@ model-variable-requires t c =
 
 pub model-returns : goal.model-returns
 model-returns t c =
-    let r = model-variable _ _ _ _ (same c.peek.ensures c.if-peek-ne-NAME.false) _ _ (same c.peek-t.ensures c.if-t-ne61.false) c.variable.ensures in record { follows = r.0; parsed = r.1 }
+    let r = model-variable _ _ _ _ (same c.peek.ensures c.if-peek-ne-NAME.false) _ _ (same c.peek-t.ensures c.if-t-ne61.false) (c.variable.ensures.follows, c.variable.ensures.parsed) in record { follows = r.0; parsed = r.1 }
 
 pub variable-overflow_add-name : goal.variable-overflow_add-name
 variable-overflow_add-name t c =
@@ -41,40 +41,40 @@ variable-overflow_add-name t c =
 
 pub variable-number-requires : goal.variable-number-requires
 variable-number-requires t c =
-    (ready-third c.requires.ready (omega (arith, c.requires.name_value.1)))
+    (ready-third c.requires.ready (omega (arith, c.requires.name_value_2)))
 
 pub variable-returns-then-peek-ne59 : goal.variable-returns-then-peek-ne59
 variable-returns-then-peek-ne59 t c =
-    let r = variable-open _ _ _ _ _ c.number.ensures c.in-Next.is (isnt c.peek.ensures c.if-peek-ne59.true) in record { follows = r.0; parsed = r.1 }
+    let r = variable-open _ _ _ _ _ (c.number.ensures.follows, c.number.ensures.parsed) c.in-Next.is (isnt c.peek.ensures c.if-peek-ne59.true) in record { follows = r.0; parsed = r.1 }
 
 pub variable-overflow_add-n : goal.variable-overflow_add-n
 variable-overflow_add-n t c =
-    let m = made_of c.in-Next.is c.number.ensures.parsed in let q = ready-after (ready-third c.requires.ready (omega (arith, c.requires.name_value.1))) m.span in omega (arith, q.inside, q.room)
+    let m = made_of c.in-Next.is c.number.ensures.parsed in let q = ready-after (ready-third c.requires.ready (omega (arith, c.requires.name_value_2))) m.span in omega (arith, q.inside, q.room)
 
 pub variable-overflow_add-left : goal.variable-overflow_add-left
 variable-overflow_add-left t c =
-    let m = made_of c.in-Next.is c.number.ensures.parsed in let q = ready-after (ready-third c.requires.ready (omega (arith, c.requires.name_value.1))) m.span in omega (arith, q.inside, q.room, q.few)
+    let m = made_of c.in-Next.is c.number.ensures.parsed in let q = ready-after (ready-third c.requires.ready (omega (arith, c.requires.name_value_2))) m.span in omega (arith, q.inside, q.room, q.few)
 
 pub variable-model-requires : goal.variable-model-requires
 variable-model-requires t c =
-    let m = made_of c.in-Next.is c.number.ensures.parsed in let q = ready-after (ready-third c.requires.ready (omega (arith, c.requires.name_value.1))) m.span in let p = ready-token q (omega (arith, c.peek.ensures, c.if-peek-ne59.false)) in (omega (arith, m.span.onward, p.inside), p)
+    let m = made_of c.in-Next.is c.number.ensures.parsed in let q = ready-after (ready-third c.requires.ready (omega (arith, c.requires.name_value_2))) m.span in let p = ready-token q (omega (arith, c.peek.ensures, c.if-peek-ne59.false)) in (omega (arith, m.span.onward, p.inside), p)
 
 pub variable-overflow_add-root : goal.variable-overflow_add-root
 variable-overflow_add-root t c =
-    let m = made_of c.in-Next.is c.number.ensures.parsed in let q = ready-after (ready-third c.requires.ready (omega (arith, c.requires.name_value.1))) m.span in let p = ready-after (ready-token q (omega (arith, c.peek.ensures, c.if-peek-ne59.false))) (made_of c.in-Next-model.is c.model.ensures.parsed).span in omega (arith, p.inside, p.room, p.few)
+    let m = made_of c.in-Next.is c.number.ensures.parsed in let q = ready-after (ready-third c.requires.ready (omega (arith, c.requires.name_value_2))) m.span in let p = ready-after (ready-token q (omega (arith, c.peek.ensures, c.if-peek-ne59.false))) (made_of c.in-Next-model.is c.model.ensures.parsed).span in omega (arith, p.inside, p.room, p.few)
 
 pub variable-node-requires : goal.variable-node-requires
 variable-node-requires t c =
-    let m = made_of c.in-Next.is c.number.ensures.parsed in let q = ready-after (ready-third c.requires.ready (omega (arith, c.requires.name_value.1))) m.span in omega (arith, q.inside, q.room, q.few, c.requires.ready.inside)
+    let m = made_of c.in-Next.is c.number.ensures.parsed in let q = ready-after (ready-third c.requires.ready (omega (arith, c.requires.name_value_2))) m.span in omega (arith, q.inside, q.room, q.few, c.requires.ready.inside)
 
 pub variable-returns-in-Fault : goal.variable-returns-in-Fault
 variable-returns-in-Fault t c =
-    let r = variable-number _ _ _ _ _ c.number.ensures c.in-Fault.is in record { follows = r.0; parsed = r.1 }
+    let r = variable-number _ _ _ _ _ (c.number.ensures.follows, c.number.ensures.parsed) c.in-Fault.is in record { follows = r.0; parsed = r.1 }
 
 pub variable-returns-in-Fault-model : goal.variable-returns-in-Fault-model
 variable-returns-in-Fault-model t c =
-    let r = variable-rest _ _ _ _ _ c.number.ensures c.in-Next.is _ (same c.peek.ensures c.if-peek-ne59.false) c.model.ensures c.in-Fault-model.is in record { follows = r.0; parsed = r.1 }
+    let r = variable-rest _ _ _ _ _ (c.number.ensures.follows, c.number.ensures.parsed) c.in-Next.is _ (same c.peek.ensures c.if-peek-ne59.false) (c.model.ensures.follows, c.model.ensures.parsed) c.in-Fault-model.is in record { follows = r.0; parsed = r.1 }
 
 pub variable-returns-in-Next-model : goal.variable-returns-in-Next-model
 variable-returns-in-Next-model t c =
-    let m = made_of c.in-Next.is c.number.ensures.parsed in let q = ready-after (ready-third c.requires.ready (omega (arith, c.requires.name_value.1))) m.span in let r = variable-made _ _ _ _ _ c.number.ensures c.in-Next.is _ (same c.peek.ensures c.if-peek-ne59.false) c.model.ensures c.requires.name_value.0 c.requires.name_value.1 c.in-Next-model.is (record { written = c.node.ensures; token-fits = omega (arith, c.requires.ready.inside, c.requires.ready.room); left-fits = omega (arith, q.inside, q.room, q.few); third-fits = omega arith }) in record { follows = r.0; parsed = r.1 }
+    let m = made_of c.in-Next.is c.number.ensures.parsed in let q = ready-after (ready-third c.requires.ready (omega (arith, c.requires.name_value_2))) m.span in let r = variable-made _ _ _ _ _ (c.number.ensures.follows, c.number.ensures.parsed) c.in-Next.is _ (same c.peek.ensures c.if-peek-ne59.false) (c.model.ensures.follows, c.model.ensures.parsed) c.requires.name_value c.requires.name_value_2 c.in-Next-model.is (record { written = c.node.ensures; token-fits = omega (arith, c.requires.ready.inside, c.requires.ready.room); left-fits = omega (arith, q.inside, q.room, q.few); third-fits = omega arith }) in record { follows = r.0; parsed = r.1 }

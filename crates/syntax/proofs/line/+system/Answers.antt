@@ -17,11 +17,11 @@ overflow_add-result t c =
 
 pub returns-then-t-eq59 : goal.returns-then-t-eq59
 returns-then-t-eq59 t c =
-    let r = system-last _ _ _ _ _ c.start.ensures c.in-Next.is (same c.peek-t.ensures c.if-t-eq59.true) in record { follows = r.0; parsed = r.1 }
+    let r = system-last _ _ _ _ _ (c.start.ensures.follows, c.start.ensures.parsed) c.in-Next.is (same c.peek-t.ensures c.if-t-eq59.true) in record { follows = r.0; parsed = r.1 }
 
 pub returns-then-t : goal.returns-then-t
 returns-then-t t c =
-    let r = system-neither _ _ _ _ _ c.start.ensures c.in-Next.is (isnt c.peek-t.ensures c.if-t-eq59.false) (isnt c.peek-t.ensures c.if-t.true) in record { follows = r.0; parsed = r.1 }
+    let r = system-neither _ _ _ _ _ (c.start.ensures.follows, c.start.ensures.parsed) c.in-Next.is (isnt c.peek-t.ensures c.if-t-eq59.false) (isnt c.peek-t.ensures c.if-t.true) in record { follows = r.0; parsed = r.1 }
 
 pub overflow_add-n : goal.overflow_add-n
 overflow_add-n t c =
@@ -45,12 +45,12 @@ node-requires t c =
 
 pub returns-in-Fault : goal.returns-in-Fault
 returns-in-Fault t c =
-    let r = system-first _ _ _ _ _ c.start.ensures c.in-Fault.is in record { follows = r.0; parsed = r.1 }
+    let r = system-first _ _ _ _ _ (c.start.ensures.follows, c.start.ensures.parsed) c.in-Fault.is in record { follows = r.0; parsed = r.1 }
 
 pub returns-in-Fault-system : goal.returns-in-Fault-system
 returns-in-Fault-system t c =
-    let r = system-rest _ _ _ _ _ c.start.ensures c.in-Next.is _ (same c.peek-t.ensures c.if-t.false) c.system.ensures c.in-Fault-system.is in record { follows = r.0; parsed = r.1 }
+    let r = system-rest _ _ _ _ _ (c.start.ensures.follows, c.start.ensures.parsed) c.in-Next.is _ (same c.peek-t.ensures c.if-t.false) (c.system.ensures.follows, c.system.ensures.parsed) c.in-Fault-system.is in record { follows = r.0; parsed = r.1 }
 
 pub returns-in-Next-system : goal.returns-in-Next-system
 returns-in-Next-system t c =
-    let m = made_of c.in-Next.is c.start.ensures.parsed in let q = ready-after c.requires m.span in let r = system-next _ _ _ _ _ c.start.ensures c.in-Next.is _ (same c.peek-t.ensures c.if-t.false) c.system.ensures c.in-Next-system.is (record { written = c.node.ensures; token-fits = omega arith; left-fits = omega (arith, q.inside, q.room, q.few); third-fits = omega arith }) in record { follows = r.0; parsed = r.1 }
+    let m = made_of c.in-Next.is c.start.ensures.parsed in let q = ready-after c.requires m.span in let r = system-next _ _ _ _ _ (c.start.ensures.follows, c.start.ensures.parsed) c.in-Next.is _ (same c.peek-t.ensures c.if-t.false) (c.system.ensures.follows, c.system.ensures.parsed) c.in-Next-system.is (record { written = c.node.ensures; token-fits = omega arith; left-fits = omega (arith, q.inside, q.room, q.few); third-fits = omega arith }) in record { follows = r.0; parsed = r.1 }

@@ -17,11 +17,11 @@ overflow_add-result t c =
 
 pub returns-then-t-eq93 : goal.returns-then-t-eq93
 returns-then-t-eq93 t c =
-    let r = wholes-last _ _ _ _ _ c.literal.ensures c.in-Next.is (same c.peek-t.ensures c.if-t-eq93.true) in record { follows = r.0; tallied = r.1 }
+    let r = wholes-last _ _ _ _ _ (c.literal.ensures.follows, c.literal.ensures.parsed) c.in-Next.is (same c.peek-t.ensures c.if-t-eq93.true) in record { follows = r.0; tallied = r.1 }
 
 pub returns-then-t-ne44 : goal.returns-then-t-ne44
 returns-then-t-ne44 t c =
-    let r = wholes-neither _ _ _ _ _ c.literal.ensures c.in-Next.is (isnt c.peek-t.ensures c.if-t-eq93.false) (isnt c.peek-t.ensures c.if-t-ne44.true) in record { follows = r.0; tallied = r.1 }
+    let r = wholes-neither _ _ _ _ _ (c.literal.ensures.follows, c.literal.ensures.parsed) c.in-Next.is (isnt c.peek-t.ensures c.if-t-eq93.false) (isnt c.peek-t.ensures c.if-t-ne44.true) in record { follows = r.0; tallied = r.1 }
 
 pub overflow_add-n : goal.overflow_add-n
 overflow_add-n t c =
@@ -49,12 +49,12 @@ overflow_add-result-in-Next-wholes t c =
 
 pub returns-in-Fault : goal.returns-in-Fault
 returns-in-Fault t c =
-    let r = wholes-first _ _ _ _ _ c.literal.ensures c.in-Fault.is in record { follows = r.0; tallied = r.1 }
+    let r = wholes-first _ _ _ _ _ (c.literal.ensures.follows, c.literal.ensures.parsed) c.in-Fault.is in record { follows = r.0; tallied = r.1 }
 
 pub returns-in-Fault-wholes : goal.returns-in-Fault-wholes
 returns-in-Fault-wholes t c =
-    let r = wholes-rest _ _ _ _ _ c.literal.ensures c.in-Next.is _ (same c.peek-t.ensures c.if-t-ne44.false) c.wholes.ensures c.in-Fault-wholes.is in record { follows = r.0; tallied = r.1 }
+    let r = wholes-rest _ _ _ _ _ (c.literal.ensures.follows, c.literal.ensures.parsed) c.in-Next.is _ (same c.peek-t.ensures c.if-t-ne44.false) (c.wholes.ensures.follows, c.wholes.ensures.tallied) c.in-Fault-wholes.is in record { follows = r.0; tallied = r.1 }
 
 pub returns-in-Next-wholes : goal.returns-in-Next-wholes
 returns-in-Next-wholes t c =
-    let m = made_of c.in-Next.is c.literal.ensures.parsed in let q = ready-after c.requires m.span in let r = wholes-next _ _ _ _ _ c.literal.ensures c.in-Next.is _ (same c.peek-t.ensures c.if-t-ne44.false) c.wholes.ensures c.in-Next-wholes.is (record { written = c.node.ensures; token-fits = omega arith; left-fits = omega (arith, q.inside, q.room, q.few); third-fits = omega arith }) in record { follows = r.0; tallied = r.1 }
+    let m = made_of c.in-Next.is c.literal.ensures.parsed in let q = ready-after c.requires m.span in let r = wholes-next _ _ _ _ _ (c.literal.ensures.follows, c.literal.ensures.parsed) c.in-Next.is _ (same c.peek-t.ensures c.if-t-ne44.false) (c.wholes.ensures.follows, c.wholes.ensures.tallied) c.in-Next-wholes.is (record { written = c.node.ensures; token-fits = omega arith; left-fits = omega (arith, q.inside, q.room, q.few); third-fits = omega arith }) in record { follows = r.0; tallied = r.1 }

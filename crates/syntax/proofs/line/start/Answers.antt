@@ -12,7 +12,7 @@ starts-requires c =
 
 pub returns-then-t-eq-NAME : goal.returns-then-t-eq-NAME
 returns-then-t-eq-NAME c =
-    let r = start-once _ _ _ _ _ _ (same c.peek-t.ensures c.if-t-eq-NAME.true) c.starts.ensures in record { follows = r.0; parsed = r.1 }
+    let r = start-once _ _ _ _ _ _ (same c.peek-t.ensures c.if-t-eq-NAME.true) (c.starts.ensures.follows, c.starts.ensures.parsed) in record { follows = r.0; parsed = r.1 }
 
 pub returns-then-t-ne-WHOLE : goal.returns-then-t-ne-WHOLE
 returns-then-t-ne-WHOLE c =
@@ -32,4 +32,4 @@ starts-requires-2 c =
 
 pub returns : goal.returns
 returns c =
-    let r = start-counted _ _ _ _ (same c.peek-t.ensures c.if-t-ne-WHOLE.false) (same c.peek.ensures c.if-peek-ne42.false) _ _ (same c.peek-2.ensures c.if-peek-ne-NAME.false) c.starts-2.ensures in record { follows = r.0; parsed = r.1 }
+    let r = start-counted _ _ _ _ (same c.peek-t.ensures c.if-t-ne-WHOLE.false) (same c.peek.ensures c.if-peek-ne42.false) _ _ (same c.peek-2.ensures c.if-peek-ne-NAME.false) (c.starts-2.ensures.follows, c.starts-2.ensures.parsed) in record { follows = r.0; parsed = r.1 }

@@ -28,8 +28,8 @@ node-requires-in-Next c =
 
 pub returns-in-Fault : goal.returns-in-Fault
 returns-in-Fault c =
-    let r = starts-fault _ _ _ _ _ _ (same c.peek.ensures c.if-peek-ne91.false) (isnt c.peek-2.ensures c.if-peek-eq93.false) c.wholes.ensures c.in-Fault.is in record { follows = r.0; parsed = r.1 }
+    let r = starts-fault _ _ _ _ _ _ (same c.peek.ensures c.if-peek-ne91.false) (isnt c.peek-2.ensures c.if-peek-eq93.false) (c.wholes.ensures.follows, c.wholes.ensures.tallied) c.in-Fault.is in record { follows = r.0; parsed = r.1 }
 
 pub returns-in-Next : goal.returns-in-Next
 returns-in-Next c =
-    let w = tally-of c.in-Next.is c.wholes.ensures.tallied in let p = ready-after (ready-token c.requires.ready (omega (arith, c.peek.ensures, c.if-peek-ne91.false))) w.made.span in let r = starts-made _ _ _ _ _ _ (same c.peek.ensures c.if-peek-ne91.false) (isnt c.peek-2.ensures c.if-peek-eq93.false) c.wholes.ensures c.in-Next.is (record { written = c.node-in-Next.ensures; token-fits = omega (arith, c.requires.ready.inside, c.requires.ready.room); left-fits = omega arith; third-fits = omega (arith, w.rarer, p.inside, p.room) }) in record { follows = r.0; parsed = r.1 }
+    let w = tally-of c.in-Next.is c.wholes.ensures.tallied in let p = ready-after (ready-token c.requires.ready (omega (arith, c.peek.ensures, c.if-peek-ne91.false))) w.made.span in let r = starts-made _ _ _ _ _ _ (same c.peek.ensures c.if-peek-ne91.false) (isnt c.peek-2.ensures c.if-peek-eq93.false) (c.wholes.ensures.follows, c.wholes.ensures.tallied) c.in-Next.is (record { written = c.node-in-Next.ensures; token-fits = omega (arith, c.requires.ready.inside, c.requires.ready.room); left-fits = omega arith; third-fits = omega (arith, w.rarer, p.inside, p.room) }) in record { follows = r.0; parsed = r.1 }

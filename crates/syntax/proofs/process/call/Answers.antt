@@ -57,8 +57,8 @@ node-requires-in-Next c =
 
 pub returns-in-Fault : goal.returns-in-Fault
 returns-in-Fault c =
-    let r = call-fault c.args.toks.now c.args.nodes.now c.args.at c.args.used c.args.sums c.requires.at_value (same c.peek.ensures c.if-peek-ne91.false) (isnt c.peek-2.ensures c.if-peek-eq93.false) _ c.args-2.ensures c.in-Fault.is in record { follows = r.0; tallied = r.1 }
+    let r = call-fault c.args.toks.now c.args.nodes.now c.args.at c.args.used c.args.sums c.requires.at_value (same c.peek.ensures c.if-peek-ne91.false) (isnt c.peek-2.ensures c.if-peek-eq93.false) _ (c.args-2.ensures.follows, c.args-2.ensures.tallied) c.in-Fault.is in record { follows = r.0; tallied = r.1 }
 
 pub returns-in-Next : goal.returns-in-Next
 returns-in-Next c =
-    let s = tally-of c.in-Next.is c.args-2.ensures.tallied in let r = call-with c.args.toks.now c.args.nodes.now c.args.at c.args.used c.args.sums c.requires.at_value (same c.peek.ensures c.if-peek-ne91.false) (isnt c.peek-2.ensures c.if-peek-eq93.false) _ c.args-2.ensures c.in-Next.is (record { written = c.node-in-Next.ensures; token-fits = omega (arith, c.requires.ready.room, in_tok c.args.toks.now (c.args.at + 1) c.peek.ensures (omega arith)); left-fits = omega arith; third-fits = omega (arith, c.requires.ready.room, s.made.span.within, s.rarer) }) in record { follows = r.0; tallied = r.1 }
+    let s = tally-of c.in-Next.is c.args-2.ensures.tallied in let r = call-with c.args.toks.now c.args.nodes.now c.args.at c.args.used c.args.sums c.requires.at_value (same c.peek.ensures c.if-peek-ne91.false) (isnt c.peek-2.ensures c.if-peek-eq93.false) _ (c.args-2.ensures.follows, c.args-2.ensures.tallied) c.in-Next.is (record { written = c.node-in-Next.ensures; token-fits = omega (arith, c.requires.ready.room, in_tok c.args.toks.now (c.args.at + 1) c.peek.ensures (omega arith)); left-fits = omega arith; third-fits = omega (arith, c.requires.ready.room, s.made.span.within, s.rarer) }) in record { follows = r.0; tallied = r.1 }

@@ -18,7 +18,7 @@ unsigned-requires c =
 pub returns-then-peek-eq45 : goal.returns-then-peek-eq45
 unfolding number_kind
 returns-then-peek-eq45 c =
-    let r = number-negative _ _ _ _ _ _ (same c.peek.ensures c.if-peek-eq45.true) c.unsigned.ensures in record { follows = r.0; parsed = r.1 }
+    let r = number-negative _ _ _ _ _ _ (same c.peek.ensures c.if-peek-eq45.true) (c.unsigned.ensures.follows, c.unsigned.ensures.parsed) in record { follows = r.0; parsed = r.1 }
 
 pub unsigned-requires-2 : goal.unsigned-requires-2
 unsigned-requires-2 c =
@@ -27,4 +27,4 @@ unsigned-requires-2 c =
 pub returns : goal.returns
 unfolding number_kind
 returns c =
-    let r = number-positive _ _ _ _ _ _ (isnt c.peek.ensures c.if-peek-eq45.false) c.unsigned-2.ensures in record { follows = r.0; parsed = r.1 }
+    let r = number-positive _ _ _ _ _ _ (isnt c.peek.ensures c.if-peek-eq45.false) (c.unsigned-2.ensures.follows, c.unsigned-2.ensures.parsed) in record { follows = r.0; parsed = r.1 }

@@ -12,7 +12,7 @@ scale-requires c =
 
 pub returns-then-peek-ne42 : goal.returns-then-peek-ne42
 returns-then-peek-ne42 c =
-    let r = rate-plain _ _ _ _ _ c.in-Next.is c.scale.ensures (isnt c.peek.ensures c.if-peek-ne42.true) in record { follows = r.0; parsed = r.1 }
+    let r = rate-plain _ _ _ _ _ c.in-Next.is (c.scale.ensures.follows, c.scale.ensures.parsed) (isnt c.peek.ensures c.if-peek-ne42.true) in record { follows = r.0; parsed = r.1 }
 
 pub overflow_add-n : goal.overflow_add-n
 overflow_add-n c =
@@ -36,12 +36,12 @@ node-requires c =
 
 pub returns-in-Fault : goal.returns-in-Fault
 returns-in-Fault c =
-    let r = rate-fault _ _ _ _ _ c.in-Fault.is c.scale.ensures in record { follows = r.0; parsed = r.1 }
+    let r = rate-fault _ _ _ _ _ c.in-Fault.is (c.scale.ensures.follows, c.scale.ensures.parsed) in record { follows = r.0; parsed = r.1 }
 
 pub returns-in-Fault-atom : goal.returns-in-Fault-atom
 returns-in-Fault-atom c =
-    let r = rate-second _ _ _ _ _ c.in-Next.is c.scale.ensures _ (same c.peek.ensures c.if-peek-ne42.false) c.atom.ensures c.in-Fault-atom.is in record { follows = r.0; parsed = r.1 }
+    let r = rate-second _ _ _ _ _ c.in-Next.is (c.scale.ensures.follows, c.scale.ensures.parsed) _ (same c.peek.ensures c.if-peek-ne42.false) (c.atom.ensures.follows, c.atom.ensures.parsed) c.in-Fault-atom.is in record { follows = r.0; parsed = r.1 }
 
 pub returns-in-Next-atom : goal.returns-in-Next-atom
 returns-in-Next-atom c =
-    let m = made_of c.in-Next.is c.scale.ensures.parsed in let r = rate-scaled _ _ _ _ _ c.in-Next.is c.scale.ensures _ (same c.peek.ensures c.if-peek-ne42.false) c.atom.ensures c.in-Next-atom.is (record { written = c.node.ensures; token-fits = omega arith; left-fits = omega (arith, m.span.onward, m.span.within, m.span.more, m.span.fewer, c.requires.inside, c.requires.room, c.requires.few); third-fits = omega arith }) in record { follows = r.0; parsed = r.1 }
+    let m = made_of c.in-Next.is c.scale.ensures.parsed in let r = rate-scaled _ _ _ _ _ c.in-Next.is (c.scale.ensures.follows, c.scale.ensures.parsed) _ (same c.peek.ensures c.if-peek-ne42.false) (c.atom.ensures.follows, c.atom.ensures.parsed) c.in-Next-atom.is (record { written = c.node.ensures; token-fits = omega arith; left-fits = omega (arith, m.span.onward, m.span.within, m.span.more, m.span.fewer, c.requires.inside, c.requires.room, c.requires.few); third-fits = omega arith }) in record { follows = r.0; parsed = r.1 }

@@ -23,4 +23,4 @@ number-requires c =
 
 pub returns : goal.returns
 returns c =
-    let r = scale-number _ _ _ _ _ _ (isnt c.peek.ensures c.if-peek-eq-NAME.false) c.number.ensures in record { follows = r.0; parsed = r.1 }
+    let r = scale-number _ _ _ _ _ _ (isnt c.peek.ensures c.if-peek-eq-NAME.false) (c.number.ensures.follows, c.number.ensures.parsed) in record { follows = r.0; parsed = r.1 }

@@ -42,8 +42,8 @@ parts-requires t c =
 
 pub returns-in-Fault : goal.returns-in-Fault
 returns-in-Fault t c =
-    let r = parts-fault _ _ _ _ _ _ (hit join_signs _ _ (c.join_kind-kind.ensures ∙ ap (sign_kind join_signs) c.peek.ensures) c.if-kind-eq0.false) c.part.ensures c.in-Fault.is in record { follows = r.0; extended = r.1 }
+    let r = parts-fault _ _ _ _ _ _ (hit join_signs _ _ (c.join_kind-kind.ensures ∙ ap (sign_kind join_signs) c.peek.ensures) c.if-kind-eq0.false) (c.part.ensures.follows, c.part.ensures.parsed) c.in-Fault.is in record { follows = r.0; extended = r.1 }
 
 pub returns-in-Next : goal.returns-in-Next
 returns-in-Next t c =
-    let r = parts_more _ _ _ _ _ _ _ _ _ (hit join_signs _ _ (c.join_kind-kind.ensures ∙ ap (sign_kind join_signs) c.peek.ensures) c.if-kind-eq0.false) c.part.ensures c.in-Next.is (record { written = c.node.ensures; token-fits = omega arith; left-fits = omega (arith, c.requires.inside, c.requires.room, c.requires.few); third-fits = omega arith }) c.parts.ensures in record { follows = r.0; extended = r.1 }
+    let r = parts_more _ _ _ _ _ _ _ _ _ (hit join_signs _ _ (c.join_kind-kind.ensures ∙ ap (sign_kind join_signs) c.peek.ensures) c.if-kind-eq0.false) (c.part.ensures.follows, c.part.ensures.parsed) c.in-Next.is (record { written = c.node.ensures; token-fits = omega arith; left-fits = omega (arith, c.requires.inside, c.requires.room, c.requires.few); third-fits = omega arith }) (c.parts.ensures.follows, c.parts.ensures.extended) in record { follows = r.0; extended = r.1 }

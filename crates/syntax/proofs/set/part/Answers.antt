@@ -12,7 +12,7 @@ expr-requires c =
 
 pub returns-then-peek : goal.returns-then-peek
 returns-then-peek c =
-    let r = part-single _ _ _ _ _ c.in-Next.is c.expr.ensures (isnt c.peek.ensures c.if-peek.true) in record { follows = r.0; parsed = r.1 }
+    let r = part-single _ _ _ _ _ c.in-Next.is (c.expr.ensures.follows, c.expr.ensures.parsed) (isnt c.peek.ensures c.if-peek.true) in record { follows = r.0; parsed = r.1 }
 
 pub overflow_add-n : goal.overflow_add-n
 overflow_add-n c =
@@ -36,12 +36,12 @@ node-requires c =
 
 pub returns-in-Fault : goal.returns-in-Fault
 returns-in-Fault c =
-    let r = part-fault _ _ _ _ _ c.in-Fault.is c.expr.ensures in record { follows = r.0; parsed = r.1 }
+    let r = part-fault _ _ _ _ _ c.in-Fault.is (c.expr.ensures.follows, c.expr.ensures.parsed) in record { follows = r.0; parsed = r.1 }
 
 pub returns-in-Fault-expr : goal.returns-in-Fault-expr
 returns-in-Fault-expr c =
-    let r = part-second _ _ _ _ _ c.in-Next.is c.expr.ensures _ (same c.peek.ensures c.if-peek.false) c.expr-in-Next.ensures c.in-Fault-expr.is in record { follows = r.0; parsed = r.1 }
+    let r = part-second _ _ _ _ _ c.in-Next.is (c.expr.ensures.follows, c.expr.ensures.parsed) _ (same c.peek.ensures c.if-peek.false) (c.expr-in-Next.ensures.follows, c.expr-in-Next.ensures.parsed) c.in-Fault-expr.is in record { follows = r.0; parsed = r.1 }
 
 pub returns-in-Next-expr : goal.returns-in-Next-expr
 returns-in-Next-expr c =
-    let m = made_of c.in-Next.is c.expr.ensures.parsed in let r = part-range _ _ _ _ _ c.in-Next.is c.expr.ensures _ (same c.peek.ensures c.if-peek.false) c.expr-in-Next.ensures c.in-Next-expr.is (record { written = c.node.ensures; token-fits = omega arith; left-fits = omega (arith, m.span.onward, m.span.within, m.span.more, m.span.fewer, c.requires.inside, c.requires.room, c.requires.few); third-fits = omega arith }) in record { follows = r.0; parsed = r.1 }
+    let m = made_of c.in-Next.is c.expr.ensures.parsed in let r = part-range _ _ _ _ _ c.in-Next.is (c.expr.ensures.follows, c.expr.ensures.parsed) _ (same c.peek.ensures c.if-peek.false) (c.expr-in-Next.ensures.follows, c.expr-in-Next.ensures.parsed) c.in-Next-expr.is (record { written = c.node.ensures; token-fits = omega arith; left-fits = omega (arith, m.span.onward, m.span.within, m.span.more, m.span.fewer, c.requires.inside, c.requires.room, c.requires.few); third-fits = omega arith }) in record { follows = r.0; parsed = r.1 }

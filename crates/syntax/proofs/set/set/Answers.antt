@@ -14,8 +14,8 @@ parts-requires c =
 
 pub returns-in-Fault : goal.returns-in-Fault
 returns-in-Fault c =
-    let r = set-fault _ _ _ _ _ c.in-Fault.is c.part.ensures in record { follows = r.0; parsed = r.1 }
+    let r = set-fault _ _ _ _ _ c.in-Fault.is (c.part.ensures.follows, c.part.ensures.parsed) in record { follows = r.0; parsed = r.1 }
 
 pub returns-in-Next : goal.returns-in-Next
 returns-in-Next c =
-    let r = set-made _ _ _ _ _ _ _ c.in-Next.is c.part.ensures c.parts.ensures in record { follows = r.0; parsed = r.1 }
+    let r = set-made _ _ _ _ _ _ _ c.in-Next.is (c.part.ensures.follows, c.part.ensures.parsed) (c.parts.ensures.follows, c.parts.ensures.extended) in record { follows = r.0; parsed = r.1 }

@@ -22,6 +22,7 @@ use borrow.Author.Tests.{lt-ltb, le-ltb, le-leb, lt-leb, eq-eqb, ne_eqb}
 use lib.IntN.{ℤ, pos}
 use lib.ListN.{length, get_or, set, take, drop, replicate, length-append, length-take, length-drop, length-set, length-replicate}
 use Rattle.syntax.proofs.braced.braced.Goals as goal
+use Rattle.syntax.proofs.braced.braced.Goals.{then-t-eq-NAME+else-peek-eq44, else-t-eq-NAME}
 
 pub check-r-requires : goal.check-r-requires
 check-r-requires c =
@@ -69,4 +70,4 @@ rated-requires-2 c =
 
 pub returns : goal.returns
 returns c =
-    let r = braced-channel c.args.toks.now c.args.nodes.now _ c.args.at c.args.used _ _ _ (c.beacon-r.ensures.follows, c.beacon-r.ensures.parsed) c.rated-2.ensures (isnt c.peek-t.ensures c.if-t-eq126.false) (isnt c.peek-t.ensures c.if-t-eq64.false) (⊎_elim (λ w. inl (same c.peek-t.ensures w.0.taken, isnt w.1.ensures w.2.left)) (λ w. inr (isnt c.peek-t.ensures w.left)) c.if-t-eq-NAME.branch) in record { follows = r.0; inside = r.1 }
+    let r = braced-channel c.args.toks.now c.args.nodes.now _ c.args.at c.args.used _ _ _ (c.beacon-r.ensures.follows, c.beacon-r.ensures.parsed) c.rated-2.ensures (isnt c.peek-t.ensures c.if-t-eq126.false) (isnt c.peek-t.ensures c.if-t-eq64.false) (elim c.if-t-eq-NAME.branch [ then-t-eq-NAME+else-peek-eq44 w ↦ inl (same c.peek-t.ensures w.if-t-eq-NAME.true, isnt w.peek.ensures w.if-peek-eq44.false) | else-t-eq-NAME w ↦ inr (isnt c.peek-t.ensures w.if-t-eq-NAME.false) ]) in record { follows = r.0; inside = r.1 }

@@ -15,7 +15,7 @@ use Rattle.state.proofs.Tests.{zero_bits, bits-on, bits-done}
 use Rattle.state.proofs.all_zero.Given as goal
 
 abbrev pub invariant-loop-i : goal.invariant-loop-i
-invariant-loop-i l = (l.i ≤ length l.s) × (every is_zero l.s ≡ (eqb l.bits 0 && every is_zero (drop l.i l.s)))
+invariant-loop-i l = (l.i ≤ length l.s) × (every is_zero l.s ≡ (eqb (of_z w64 l.bits) 0 && every is_zero (drop l.i l.s)))
 
 abbrev pub decreases-loop-i : goal.decreases-loop-i
 decreases-loop-i l = length l.s - l.i

@@ -23,12 +23,12 @@ put-requires c =
 
 pub bounds-state-0 : goal.bounds-state-0
 bounds-state-0 c =
-    omega (arith, put-length c.args.state.now c.args.locals.now c.put.new.0 (2 + c.counted-n.result * process_width + 1) (2 + c.counted-n.result * process_width) (to_z w64 c.args.sum) (omega (arith, c.requires.0, c.requires.2, c.counted-n.ensures.0)) (omega (arith, c.requires.0, c.requires.2, c.requires.4, c.counted-n.ensures.0)) c.put.ensures, c.requires.0)
+    omega (arith, put-length c.args.state.now c.args.locals.now c.put.new.s (2 + c.counted-n.result * process_width + 1) (2 + c.counted-n.result * process_width) (to_z w64 c.args.sum) (omega (arith, c.requires.0, c.requires.2, c.counted-n.ensures.0)) (omega (arith, c.requires.0, c.requires.2, c.requires.4, c.counted-n.ensures.0)) c.put.ensures, c.requires.0)
 
 pub shape_of-state : goal.shape_of-state
 shape_of-state c =
-    set-length c.args.state.now c.args.locals.now c.put.new.0 (2 + c.counted-n.result * process_width + 1) (2 + c.counted-n.result * process_width) (to_z w64 c.args.sum) (to_z w64 (c.counted-n.result + 1)) (omega (arith, c.requires.0, c.requires.2, c.counted-n.ensures.0)) (omega (arith, c.requires.0, c.requires.2, c.requires.4, c.counted-n.ensures.0)) c.put.ensures
+    set-length c.args.state.now c.args.locals.now c.put.new.s (2 + c.counted-n.result * process_width + 1) (2 + c.counted-n.result * process_width) (to_z w64 c.args.sum) (to_z w64 (c.counted-n.result + 1)) (omega (arith, c.requires.0, c.requires.2, c.counted-n.ensures.0)) (omega (arith, c.requires.0, c.requires.2, c.requires.4, c.counted-n.ensures.0)) c.put.ensures
 
 pub returns : goal.returns
 returns c =
-    pushed c.args.state.now c.args.locals.now c.put.new.0 c.args.sum c.counted-n.result c.requires.0 c.counted-n.ensures.0 (omega (arith, c.counted-n.ensures.0, c.requires.2)) c.requires.3 c.put.ensures
+    pushed c.args.state.now c.args.locals.now c.put.new.s c.args.sum c.counted-n.result c.requires.0 c.counted-n.ensures.0 (omega (arith, c.counted-n.ensures.0, c.requires.2)) c.requires.3 c.put.ensures

@@ -11,6 +11,7 @@ use native.Mathlib.Nat.{add_comm}
 use Rattle.value.proofs.Kit.{back}
 use Rattle.state.proofs.Mix.{mix, mix-up, mix-hi, mix_all}
 use Rattle.state.proofs.shift_left.Goals as goal
+use Rattle.state.proofs.shift_left.Goals.{then-i-n, else-i-n}
 
 abbrev target : List ℤ → ℕ → List ℤ
 target s k = drop k s ++ replicate k (pos 0)
@@ -50,11 +51,11 @@ loop-i-preserved c =
     let inv = at-loop.loop-i.invariant in (
       search rules,
       search rules,
-      ⊎_elim
-          (λ w. w.2 ∙ rw (back _ w.1.given) (moves s₀ at-loop.loop-i.s k i at-loop.requires (omega arith) inv.2))
-          (λ w. w.1 ∙ zeros s₀ at-loop.loop-i.s k i at-loop.requires (omega arith) (omega arith) inv.2)
-          c.if-i-n.branch,
-      ⊎_elim (λ w. ap length w.2 ∙ simp length-set inv.3) (λ w. ap length w.1 ∙ simp length-set inv.3) c.if-i-n.branch,
+      elim c.if-i-n.branch [
+          then-i-n w ↦ w.s-is ∙ rw (back _ w.s-1.given) (moves s₀ at-loop.loop-i.s k i at-loop.requires (omega arith) inv.2)
+        | else-i-n w ↦ w.s-is ∙ zeros s₀ at-loop.loop-i.s k i at-loop.requires (omega arith) (omega arith) inv.2
+      ],
+      elim c.if-i-n.branch [ then-i-n w ↦ ap length w.s-is ∙ simp length-set inv.3 | else-i-n w ↦ ap length w.s-is ∙ simp length-set inv.3 ],
     )
 
 pub returns : goal.returns

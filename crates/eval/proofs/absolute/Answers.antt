@@ -9,16 +9,14 @@ use Rattle.eval.proofs.absolute.Goals as goal
 
 pub abs_value-requires : goal.abs_value-requires
 abs_value-requires c =
-    let v = c.x-1.given in
-    let g = subst Sound v.1 c.requires in
-    simp (to_z-of_z (in-fits v.0.0 g)) g
+    let g = subst Sound c.in-Is.is c.requires in
+    simp (to_z-of_z (in-fits c.in-Is.a g)) g
 
 pub returns-in-Is : goal.returns-in-Is
 unfolding with_value
 returns-in-Is c =
-    let v = c.x-1.given in
-    let g = subst Sound v.1 c.requires in
-    rw v.1 (simp (to_z-of_z (in-fits v.0.0 g)) at c.abs_value.ensures)
+    let g = subst Sound c.in-Is.is c.requires in
+    rw c.in-Is.is (simp (to_z-of_z (in-fits c.in-Is.a g)) at c.abs_value.ensures)
 
 pub returns-in-Missing : goal.returns-in-Missing
 unfolding with_value

@@ -10,24 +10,20 @@ use Rattle.eval.proofs.between.Goals as goal
 pub returns-then-at_most : goal.returns-then-at_most
 unfolding within
 returns-then-at_most c =
-    let v = c.x-1.given in
-    let u = c.y-1.given in
-    let e = back v.0.0 c.known_told-1.given.0.1 in
-    let d = back u.0.0 c.known_told-in-Is-1.given.0.1 in
+    let e = back c.in-Is.a c.in-Is.known_told-1-own.given.0.1 in
+    let d = back c.in-Is-y.b c.in-Is-y.known_told-in-Is-1-own.given.0.1 in
     let z = to_z-of_z c.ranges.v in
     let h = sym (simp (e, z) at c.at_most.ensures) ∙ c.if-at_most.true in
-    between_is c.args.x c.args.y v.0.0 u.0.0 c.args.v c.at_most-then-at_most.result v.1 u.1 (simp h (simp (d, z) at c.at_most-then-at_most.ensures))
+    between_is c.args.x c.args.y c.in-Is.a c.in-Is-y.b c.args.v c.at_most-then-at_most.result c.in-Is.is c.in-Is-y.is (simp h (simp (d, z) at c.at_most-then-at_most.ensures))
 
 pub returns-else-at_most : goal.returns-else-at_most
 unfolding within
 returns-else-at_most c =
-    let v = c.x-1.given in
-    let u = c.y-1.given in
-    let e = back v.0.0 c.known_told-1.given.0.1 in
-    let d = back u.0.0 c.known_told-in-Is-1.given.0.1 in
+    let e = back c.in-Is.a c.in-Is.known_told-1-own.given.0.1 in
+    let d = back c.in-Is-y.b c.in-Is-y.known_told-in-Is-1-own.given.0.1 in
     let z = to_z-of_z c.ranges.v in
     let h = sym (simp (e, z) at c.at_most.ensures) ∙ c.if-at_most.false in
-    between_is c.args.x c.args.y v.0.0 u.0.0 c.args.v c.at_most.result v.1 u.1 (simp h c.if-at_most.false)
+    between_is c.args.x c.args.y c.in-Is.a c.in-Is-y.b c.args.v c.at_most.result c.in-Is.is c.in-Is-y.is (simp h c.if-at_most.false)
 
 pub returns-in-Missing-y : goal.returns-in-Missing-y
 returns-in-Missing-y c a b f g = missing-not-is c.args.y b c.in-Missing-y.is g

@@ -9,20 +9,16 @@ use Rattle.eval.proofs.combined.Goals as goal
 
 pub apply-requires : goal.apply-requires
 apply-requires c =
-    let v = c.x-1.given in
-    let u = c.y-1.given in
-    let g = subst Sound v.1 c.requires.0 in
-    let h = subst Sound u.1 c.requires.1 in
-    simp (to_z-of_z (in-fits v.0.0 g), to_z-of_z (in-fits u.0.0 h)) (g, h)
+    let g = subst Sound c.in-Is.is c.requires.0 in
+    let h = subst Sound c.in-Is-y.is c.requires.1 in
+    simp (to_z-of_z (in-fits c.in-Is.a g), to_z-of_z (in-fits c.in-Is-y.b h)) (g, h)
 
 pub returns-in-Is-y : goal.returns-in-Is-y
 unfolding with_value
 returns-in-Is-y c o k =
-    let v = c.x-1.given in
-    let u = c.y-1.given in
-    let g = subst Sound v.1 c.requires.0 in
-    let h = subst Sound u.1 c.requires.1 in
-    rw (v.1, u.1) (simp (to_z-of_z (in-fits v.0.0 g), to_z-of_z (in-fits u.0.0 h)) at (c.apply.ensures o k))
+    let g = subst Sound c.in-Is.is c.requires.0 in
+    let h = subst Sound c.in-Is-y.is c.requires.1 in
+    rw (c.in-Is.is, c.in-Is-y.is) (simp (to_z-of_z (in-fits c.in-Is.a g), to_z-of_z (in-fits c.in-Is-y.b h)) at (c.apply.ensures o k))
 
 pub returns-in-Missing-y : goal.returns-in-Missing-y
 unfolding with_value

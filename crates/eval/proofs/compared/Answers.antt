@@ -8,20 +8,16 @@ use Rattle.eval.proofs.compared.Goals as goal
 pub returns-then-tested : goal.returns-then-tested
 unfolding valued truth_of
 returns-then-tested c turned r h =
-    let v = c.x-1.given in
-    let u = c.y-1.given in
-    let e = back v.0.0 c.known_told-1.given.0.1 in
-    let d = back u.0.0 c.known_told-in-Is-1.given.0.1 in
-    rw (v.1, u.1, ← (simp (e, d) at (c.tested.ensures turned r h)), c.if-tested.true)
+    let e = back c.in-Is.a c.in-Is.known_told-1-own.given.0.1 in
+    let d = back c.in-Is-y.b c.in-Is-y.known_told-in-Is-1-own.given.0.1 in
+    rw (c.in-Is.is, c.in-Is-y.is, ← (simp (e, d) at (c.tested.ensures turned r h)), c.if-tested.true)
 
 pub returns-else-tested : goal.returns-else-tested
 unfolding valued truth_of
 returns-else-tested c turned r h =
-    let v = c.x-1.given in
-    let u = c.y-1.given in
-    let e = back v.0.0 c.known_told-1.given.0.1 in
-    let d = back u.0.0 c.known_told-in-Is-1.given.0.1 in
-    rw (v.1, u.1, ← (simp (e, d) at (c.tested.ensures turned r h)), c.if-tested.false)
+    let e = back c.in-Is.a c.in-Is.known_told-1-own.given.0.1 in
+    let d = back c.in-Is-y.b c.in-Is-y.known_told-in-Is-1-own.given.0.1 in
+    rw (c.in-Is.is, c.in-Is-y.is, ← (simp (e, d) at (c.tested.ensures turned r h)), c.if-tested.false)
 
 pub returns-in-Missing-y : goal.returns-in-Missing-y
 unfolding valued truth_of

@@ -8,8 +8,7 @@ use Rattle.eval.proofs.one_value.Goals as goal
 pub returns-in-Is : goal.returns-in-Is
 unfolding values_given values_of eval_all valued given
 returns-in-Is c =
-    let v = c.x-1.given in
-    rw (v.1, back v.0.0 c.known_told-1.given.0.1)
+    rw (c.in-Is.is, back c.in-Is.a c.in-Is.known_told-1-own.given.0.1)
 
 pub returns-in-Missing : goal.returns-in-Missing
 unfolding values_given values_of eval_all valued given

@@ -10,16 +10,13 @@ use Rattle.eval.proofs.times.Goals as goal
 pub returns-in-Is-x : goal.returns-in-Is-x
 unfolding given valued
 returns-in-Is-x c o h =
-    let v = c.scale-1.given in
-    let u = c.x-1.given in
-    let d = back u.0.0 c.known_told-in-Is-1.given.0.1 in
-    rw (rate-some o v.0.0 (sym v.1 ∙ h), u.1) (simp d at c.scaled.ensures)
+    let d = back c.in-Is-x.v c.in-Is-x.known_told-in-Is-1-own.given.0.1 in
+    rw (rate-some o c.in-Is.n (sym c.in-Is.is ∙ h), c.in-Is-x.is) (simp d at c.scaled.ensures)
 
 pub returns-in-Missing-x : goal.returns-in-Missing-x
 unfolding given valued rate_of
 returns-in-Missing-x c o h =
-    let v = c.scale-1.given in
-    rw (rate-some o v.0.0 (sym v.1 ∙ h), c.in-Missing-x.is)
+    rw (rate-some o c.in-Is.n (sym c.in-Is.is ∙ h), c.in-Missing-x.is)
 
 pub returns-in-Missing : goal.returns-in-Missing
 unfolding given rate_of

@@ -44,9 +44,8 @@ returns-in-Is c =
     let L = c.args.locals.now in
     let k = c.args.k in
     let is = c.kind_of.ensures ∙ ap kind_of c.cell_at-cell.ensures in
-    let v = c.x-1.given in
-    let d = back v.0.0 c.known_told-1.given.0.1 in
-    (λ y h. simp d (rw v.1 at (number_is T k c.kind_of.result is c.if-kind_of-eq-NAME.false L c.eval_node-x.result c.eval_node-x.ensures y h)), omega arith)
+    let d = back c.in-Is.z c.in-Is.known_told-1-own.given.0.1 in
+    (λ y h. simp d (rw c.in-Is.is at (number_is T k c.kind_of.result is c.if-kind_of-eq-NAME.false L c.eval_node-x.result c.eval_node-x.ensures y h)), omega arith)
 
 pub returns-in-Missing : goal.returns-in-Missing
 unfolding valued item_of

@@ -38,7 +38,7 @@ overflow_add-result t c =
     let k = s.args.k in
     let is = c.kind_of.ensures ∙ ap kind_of c.cell_at.ensures in
     let h = inside T k c.kind_of.result is (omega arith) in
-    omega (arith, h, c.count_sums.ensures.1, s.well-formed)
+    omega (arith, h, c.count_sums.ensures.1, s.well_formed)
 
 pub returns : goal.returns
 returns t c =

@@ -27,7 +27,7 @@ offset_bounds-values-at t c =
     let L = s.args.locals.now in
     let k = s.args.k in
     let h = room-inside T (length L) k _ _ s.requires.0 in
-    omega (arith, h, s.well-formed)
+    omega (arith, h, s.well_formed)
 
 pub bounds-values-at : goal.bounds-values-at
 bounds-values-at t c =
@@ -70,7 +70,7 @@ offset_bounds-values-at-2 t c =
     let L = s.args.locals.now in
     let k = s.args.k in
     let h = room-inside T (length L) k _ _ s.requires.0 in
-    omega (arith, h, s.well-formed)
+    omega (arith, h, s.well_formed)
 
 pub bounds-values-at-2 : goal.bounds-values-at-2
 bounds-values-at-2 t c =
@@ -96,7 +96,7 @@ overflow_add-at t c =
     let L = s.args.locals.now in
     let k = s.args.k in
     let h = room-inside T (length L) k _ _ s.requires.0 in
-    omega (arith, h, s.well-formed)
+    omega (arith, h, s.well_formed)
 
 pub put_arguments-requires : goal.put_arguments-requires
 put_arguments-requires t c =

@@ -156,7 +156,7 @@ overflow_add-result t c =
     let a = s.args.at in
     let p = s.requires in
     let h = sum-spaced T R N L p.1 S k c.kind_of-kind.result is (length s.args.fresh.now) a c.if-kind-eq-SUM.true p.0 in
-    omega (arith, h, s.well-formed)
+    omega (arith, h, s.well_formed)
 
 pub shape_of-fresh-then-kind-eq-SUM : goal.shape_of-fresh-then-kind-eq-SUM
 shape_of-fresh-then-kind-eq-SUM t c =

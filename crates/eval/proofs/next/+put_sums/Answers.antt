@@ -23,7 +23,7 @@ overflow_add-result t c =
     let T = s.args.nodes.now in
     let k = s.args.k in
     let h = sums-inside T _ k _ _ s.requires.0 in
-    omega (arith, h, s.well-formed)
+    omega (arith, h, s.well_formed)
 
 pub shape_of-fresh-then-kind_of-ne-BESIDE : goal.shape_of-fresh-then-kind_of-ne-BESIDE
 shape_of-fresh-then-kind_of-ne-BESIDE t c =
@@ -63,7 +63,7 @@ overflow_add-at t c =
     let T = s.args.nodes.now in
     let k = s.args.k in
     let h = sums-inside T _ k _ _ s.requires.0 in
-    omega (arith, h, s.well-formed)
+    omega (arith, h, s.well_formed)
 
 pub put_sums-requires : goal.put_sums-requires
 put_sums-requires t c =

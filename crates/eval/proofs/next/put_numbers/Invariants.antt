@@ -14,7 +14,7 @@ use Rattle.eval.proofs.next.put_numbers.Given as goal
 
 abbrev pub invariant-loop-j : goal.invariant-loop-j
 invariant-loop-j l =
-    (l.j ≤ process_width) × (l.base ≡ l.at * process_width) × (l.fresh ≡ sets l.initial.fresh l.base (take l.j (process_numbers (record { l.sum = l.sum; l.locals = l.locals; l.definition = l.definition })))) × (length l.fresh ≡ length l.initial.fresh)
+    (l.j ≤ process_width) × (l.base ≡ l.at * process_width) × (l.fresh ≡ sets l.initial.fresh l.base (take l.j (process_numbers (record { sum = l.sum; locals = l.locals; definition = l.definition })))) × (length l.fresh ≡ length l.initial.fresh)
 
 abbrev pub decreases-loop-j : goal.decreases-loop-j
 decreases-loop-j l = process_width - l.j

@@ -22,16 +22,14 @@ unfolding assembled with_channel
 returns c =
     let x = c.args.c in
     let l = c.args.list in
-    let f = c.struct_told-1.given in
-    let g = c.struct_told-2-1.given in
     rw (
       ne_eqb _ _ c.if-count-eq0.false,
       sym c.is_found.ensures ∙ not-false _ c.if-not-is_found.false-raw,
-      back x.first f.1.0.1,
-      back x.second f.1.1.0.1,
-      back x.third f.1.1.1.0.1,
-      back l.first g.1.0.1,
-      back l.first_end g.1.1.0.1,
-      back l.second g.1.1.1.0.1,
-      back l.second_end g.1.1.1.1.0.1,
+      back x.first c.struct_told-1.given.1.0.1,
+      back x.second c.struct_told-1.given.1.1.0.1,
+      back x.third c.struct_told-1.given.1.1.1.0.1,
+      back l.first c.struct_told-2-1.given.1.0.1,
+      back l.first_end c.struct_told-2-1.given.1.1.0.1,
+      back l.second c.struct_told-2-1.given.1.1.1.0.1,
+      back l.second_end c.struct_told-2-1.given.1.1.1.1.0.1,
     )

@@ -7,7 +7,7 @@ use Rattle.eval.proofs.offer.one_set.Goals as goal
 pub returns-in-Are : goal.returns-in-Are
 unfolding one_set none_listed
 returns-in-Are c =
-    rw (c.in-Are.is, back c.in-Are.a c.known_told-1.given.0.1, back c.in-Are.b c.known_told-1.given.1.0.1)
+    rw (c.in-Are.is, back c.in-Are.a c.in-Are.known_told-1-own.given.0.1, back c.in-Are.b c.in-Are.known_told-1-own.given.1.0.1)
 
 pub returns-in-Missing : goal.returns-in-Missing
 unfolding one_set none_listed

@@ -7,9 +7,7 @@ use Rattle.eval.proofs.offer.range_ends.Goals as goal
 pub returns-in-Is-y : goal.returns-in-Is-y
 unfolding range_ends
 returns-in-Is-y c =
-    let v = c.x-1.given in
-    let u = c.y-1.given in
-    rw (v.1, u.1, back v.0.0 c.known_told-1.given.0.1, back u.0.0 c.known_told-in-Is-1.given.0.1)
+    rw (c.in-Is.is, c.in-Is-y.is, back c.in-Is.a c.in-Is.known_told-1-own.given.0.1, back c.in-Is-y.b c.in-Is-y.known_told-in-Is-1-own.given.0.1)
 
 pub returns-in-Missing-y : goal.returns-in-Missing-y
 unfolding range_ends

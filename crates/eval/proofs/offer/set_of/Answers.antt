@@ -82,7 +82,7 @@ overflow_cast-result c =
     let k = s.args.k in
     let is = c.kind_of-kind.ensures ∙ ap kind_of c.cell_at-cell.ensures in
     let h = inside T k c.kind_of-kind.result is (omega arith) in
-    omega (arith, s.well-formed)
+    omega (arith, s.well_formed)
 
 pub returns-then-ends_known : goal.returns-then-ends_known
 returns-then-ends_known c =
@@ -92,7 +92,7 @@ returns-then-ends_known c =
     let k = s.args.k in
     let is = c.kind_of-kind.ensures ∙ ap kind_of c.cell_at-cell.ensures in
     let h = inside T k c.kind_of-kind.result is (omega arith) in
-    let d = to_z_pos w64 {n = k} (omega (arith, s.well-formed)) in
+    let d = to_z_pos w64 {n = k} (omega (arith, s.well_formed)) in
     rw d (root-shown T k c.kind_of-kind.result is L c.ends_known.result c.ends_known.ensures s.requires.0 c.if-ends_known.true)
 
 pub returns : goal.returns

@@ -7,7 +7,7 @@ use Rattle.eval.proofs.offer.two_sets.Goals as goal
 pub returns-in-Are-y : goal.returns-in-Are-y
 unfolding two_sets none_listed
 returns-in-Are-y c =
-    rw (c.in-Are.is, c.in-Are-y.is, back c.in-Are.a c.known_told-1.given.0.1, back c.in-Are.b c.known_told-1.given.1.0.1, back c.in-Are-y.c c.known_told-in-Are-1.given.0.1, back c.in-Are-y.d c.known_told-in-Are-1.given.1.0.1)
+    rw (c.in-Are.is, c.in-Are-y.is, back c.in-Are.a c.in-Are.known_told-1-own.given.0.1, back c.in-Are.b c.in-Are.known_told-1-own.given.1.0.1, back c.in-Are-y.c c.in-Are-y.known_told-in-Are-1-own.given.0.1, back c.in-Are-y.d c.in-Are-y.known_told-in-Are-1-own.given.1.0.1)
 
 pub returns-in-Missing-y : goal.returns-in-Missing-y
 unfolding two_sets none_listed

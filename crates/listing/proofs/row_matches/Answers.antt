@@ -53,5 +53,5 @@ values_match-requires c =
 pub returns : goal.returns
 returns c =
     let O = c.offer_at-o.ensures in
-    let g₃ = c.struct_told-1.given in let g₄ = c.struct_told-2-1.given in let b₃ = back c.args.sender.first g₃.1.1.1.1.1.0.1 in let b₄ = back c.args.sender.second g₄.1.1.1.1.1.1.1.0.1 in
+    let b₃ = back c.args.sender.first c.struct_told-1.given.1.1.1.1.1.0.1 in let b₄ = back c.args.sender.second c.struct_told-2-1.given.1.1.1.1.1.1.1.0.1 in
     λ roots rows m s y w x R at sq sp. let q = rw (← O) at sq in let C = sym (c.same_channel.ensures w.channel x.channel q.channel-is sp.channel-is) in let L = c.locals_of-locals.ensures c.args.nodes.now roots m s R.world in let P = c.place_in-place.ensures ∙ (R.holds.shown c.args.row y at).place_is in (simp (b₃, b₄) at c.values_match.ensures) w x.values (rw (L, P) q) (sent-values sp.values-are) ∙ one-channel w x (C ∙ passed _ c.if-not-same_channel.false-raw)

@@ -15,27 +15,27 @@ returns-then-o-count c =
 
 pub in_offer_set-requires : goal.in_offer_set-requires
 in_offer_set-requires c =
-    let o = c.args.o in let g = c.struct_told-1.given in let b = back o.first g.1.1.1.1.1.0.1 in let b' = back o.first_end g.1.1.1.1.1.1.0.1 in let v = to_z-of_z c.ranges.first in
+    let o = c.args.o in let b = back o.first c.struct_told-1.given.1.1.1.1.1.0.1 in let b' = back o.first_end c.struct_told-1.given.1.1.1.1.1.1.0.1 in let v = to_z-of_z c.ranges.first in
     simp (b, b') (first-set c.requires.0.1.sets-are, c.requires.1)
 
 pub returns-then-not-in_offer_set : goal.returns-then-not-in_offer_set
 returns-then-not-in_offer_set c =
-    let o = c.args.o in let g = c.struct_told-1.given in let b = back o.first g.1.1.1.1.1.0.1 in let b' = back o.first_end g.1.1.1.1.1.1.0.1 in let v = to_z-of_z c.ranges.first in
+    let o = c.args.o in let b = back o.first c.struct_told-1.given.1.1.1.1.1.0.1 in let b' = back o.first_end c.struct_told-1.given.1.1.1.1.1.1.0.1 in let v = to_z-of_z c.ranges.first in
     let n = c.if-o-count.false in λ w vs q r. first_out q.sets-are r n (λ x y. sym (refused _ c.if-not-in_offer_set.true-raw) ∙ (simp (b, b', v) at c.in_offer_set.ensures) x y)
 
 pub returns-then-count-lt2 : goal.returns-then-count-lt2
 returns-then-count-lt2 c =
-    let o = c.args.o in let g = c.struct_told-1.given in let b = back o.first g.1.1.1.1.1.0.1 in let b' = back o.first_end g.1.1.1.1.1.1.0.1 in let v = to_z-of_z c.ranges.first in
+    let o = c.args.o in let b = back o.first c.struct_told-1.given.1.1.1.1.1.0.1 in let b' = back o.first_end c.struct_told-1.given.1.1.1.1.1.1.0.1 in let v = to_z-of_z c.ranges.first in
     let n = c.if-o-count.false in λ w vs q r. only-in q.sets-are r n c.if-count-lt2.true (λ x y. sym (passed _ c.if-not-in_offer_set.false-raw) ∙ (simp (b, b', v) at c.in_offer_set.ensures) x y)
 
 pub in_offer_set-requires-2 : goal.in_offer_set-requires-2
 in_offer_set-requires-2 c =
-    let o = c.args.o in let g = c.struct_told-1.given in let b = back o.first g.1.1.1.1.1.0.1 in let b' = back o.first_end g.1.1.1.1.1.1.0.1 in let v = to_z-of_z c.ranges.first in
-    let h = c.struct_told-3-1.given in let d = back o.second h.1.1.1.1.1.1.1.0.1 in let d' = back o.second_end h.1.1.1.1.1.1.1.1.0.1 in let u = to_z-of_z c.ranges.second in
+    let o = c.args.o in let b = back o.first c.struct_told-1.given.1.1.1.1.1.0.1 in let b' = back o.first_end c.struct_told-1.given.1.1.1.1.1.1.0.1 in let v = to_z-of_z c.ranges.first in
+    let d = back o.second c.struct_told-3-1.given.1.1.1.1.1.1.1.0.1 in let d' = back o.second_end c.struct_told-3-1.given.1.1.1.1.1.1.1.1.0.1 in let u = to_z-of_z c.ranges.second in
     simp (d, d') (second-set (omega arith) c.requires.0.1.sets-are, c.requires.1)
 
 pub returns : goal.returns
 returns c =
-    let o = c.args.o in let g = c.struct_told-1.given in let b = back o.first g.1.1.1.1.1.0.1 in let b' = back o.first_end g.1.1.1.1.1.1.0.1 in let v = to_z-of_z c.ranges.first in
-    let h = c.struct_told-3-1.given in let d = back o.second h.1.1.1.1.1.1.1.0.1 in let d' = back o.second_end h.1.1.1.1.1.1.1.1.0.1 in let u = to_z-of_z c.ranges.second in
+    let o = c.args.o in let b = back o.first c.struct_told-1.given.1.1.1.1.1.0.1 in let b' = back o.first_end c.struct_told-1.given.1.1.1.1.1.1.0.1 in let v = to_z-of_z c.ranges.first in
+    let d = back o.second c.struct_told-3-1.given.1.1.1.1.1.1.1.0.1 in let d' = back o.second_end c.struct_told-3-1.given.1.1.1.1.1.1.1.1.0.1 in let u = to_z-of_z c.ranges.second in
     let n = c.if-o-count.false in λ w vs q r. second-tells _ q.sets-are r n c.if-count-lt2.false (λ x y. sym (passed _ c.if-not-in_offer_set.false-raw) ∙ (simp (b, b', v) at c.in_offer_set.ensures) x y) (simp (d, d', u) at c.in_offer_set-2.ensures)

@@ -33,17 +33,16 @@ shape_of-numbers c = simp length-set
 pub returns : goal.returns
 unfolding head_of written written_from
 returns c =
-    let g = c.struct_told-1.given in
     let o = c.args.o in
     let h = head-is o.kind o.shape o.count c.args.branch c.args.place o.rate in (
       ap (λ (y : ℕ). set c.args.heads.now c.args.row y) h,
       simp (
-        back o.channel g.1.1.1.0.1,
-        back o.first g.1.1.1.1.1.0.1,
-        back o.first_end g.1.1.1.1.1.1.0.1,
-        back o.second g.1.1.1.1.1.1.1.0.1,
-        back o.second_end g.1.1.1.1.1.1.1.1.0.1,
-        back o.channel2 g.1.1.1.1.1.1.1.1.1.0.1,
-        back o.channel3 g.1.1.1.1.1.1.1.1.1.1.0.1,
+        back o.channel c.struct_told-1.given.1.1.1.0.1,
+        back o.first c.struct_told-1.given.1.1.1.1.1.0.1,
+        back o.first_end c.struct_told-1.given.1.1.1.1.1.1.0.1,
+        back o.second c.struct_told-1.given.1.1.1.1.1.1.1.0.1,
+        back o.second_end c.struct_told-1.given.1.1.1.1.1.1.1.1.0.1,
+        back o.channel2 c.struct_told-1.given.1.1.1.1.1.1.1.1.1.0.1,
+        back o.channel3 c.struct_told-1.given.1.1.1.1.1.1.1.1.1.1.0.1,
       ),
     )

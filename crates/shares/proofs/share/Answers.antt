@@ -19,19 +19,19 @@ loop-i-init c =
 
 pub overflow_mul-row : goal.overflow_mul-row
 overflow_mul-row c =
-    let h = c.requires.0.3 in let i = c.loop-i.i in let k : i < c.args.count = omega arith in let z = fits h i k in omega (arith, z, c.well-formed)
+    let h = c.requires.0.3 in let i = c.loop-i.i in let k : i < c.args.count = omega arith in let z = fits h i k in omega (arith, z, c.well_formed)
 
 pub overflow_add-place : goal.overflow_add-place
 overflow_add-place c =
-    let h = c.requires.0.3 in let i = c.loop-i.i in let k : i < c.args.count = omega arith in let z = fits h i k in omega (arith, z, c.well-formed)
+    let h = c.requires.0.3 in let i = c.loop-i.i in let k : i < c.args.count = omega arith in let z = fits h i k in omega (arith, z, c.well_formed)
 
 pub offset_bounds-listing-row : goal.offset_bounds-listing-row
 offset_bounds-listing-row c =
-    let h = c.requires.0.3 in let i = c.loop-i.i in let k : i < c.args.count = omega arith in let z = fits h i k in omega (arith, z, c.well-formed)
+    let h = c.requires.0.3 in let i = c.loop-i.i in let k : i < c.args.count = omega arith in let z = fits h i k in omega (arith, z, c.well_formed)
 
 pub bounds-listing-row : goal.bounds-listing-row
 bounds-listing-row c =
-    let h = c.requires.0.3 in let i = c.loop-i.i in let k : i < c.args.count = omega arith in let z = fits h i k in omega (arith, z, c.well-formed)
+    let h = c.requires.0.3 in let i = c.loop-i.i in let k : i < c.args.count = omega arith in let z = fits h i k in omega (arith, z, c.well_formed)
 
 pub definition_at-definition-requires : goal.definition_at-definition-requires
 definition_at-definition-requires c =
@@ -39,15 +39,15 @@ definition_at-definition-requires c =
 
 pub overflow_add-weight : goal.overflow_add-weight
 overflow_add-weight c =
-    let h = c.requires.0.3 in let i = c.loop-i.i in let k : i < c.args.count = omega arith in let z = fits h i k in omega (arith, z, c.well-formed)
+    let h = c.requires.0.3 in let i = c.loop-i.i in let k : i < c.args.count = omega arith in let z = fits h i k in omega (arith, z, c.well_formed)
 
 pub offset_bounds-listing-row-in-loop-i : goal.offset_bounds-listing-row-in-loop-i
 offset_bounds-listing-row-in-loop-i c =
-    let h = c.requires.0.3 in let i = c.loop-i.i in let k : i < c.args.count = omega arith in let z = fits h i k in omega (arith, z, c.well-formed)
+    let h = c.requires.0.3 in let i = c.loop-i.i in let k : i < c.args.count = omega arith in let z = fits h i k in omega (arith, z, c.well_formed)
 
 pub bounds-listing-row-in-loop-i : goal.bounds-listing-row-in-loop-i
 bounds-listing-row-in-loop-i c =
-    let h = c.requires.0.3 in let i = c.loop-i.i in let k : i < c.args.count = omega arith in let z = fits h i k in omega (arith, z, c.well-formed)
+    let h = c.requires.0.3 in let i = c.loop-i.i in let k : i < c.args.count = omega arith in let z = fits h i k in omega (arith, z, c.well_formed)
 
 pub offset_bounds-report-definition : goal.offset_bounds-report-definition
 offset_bounds-report-definition c =

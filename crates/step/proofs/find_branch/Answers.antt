@@ -10,7 +10,7 @@ sum_at-sum-requires c =
 
 pub offset_bounds-roots-sum : goal.offset_bounds-roots-sum
 offset_bounds-roots-sum c =
-    omega (arith, c.sum_at-sum.ensures, sum_is c.requires.acts, in-roots c.requires.acts, c.well-formed)
+    omega (arith, c.sum_at-sum.ensures, sum_is c.requires.acts, in-roots c.requires.acts, c.well_formed)
 
 pub bounds-roots-sum : goal.bounds-roots-sum
 bounds-roots-sum c =
@@ -18,7 +18,7 @@ bounds-roots-sum c =
 
 pub offset_bounds-scopes-sum : goal.offset_bounds-scopes-sum
 offset_bounds-scopes-sum c =
-    omega (arith, c.sum_at-sum.ensures, sum_is c.requires.acts, in-scopes c.requires.acts, c.well-formed)
+    omega (arith, c.sum_at-sum.ensures, sum_is c.requires.acts, in-scopes c.requires.acts, c.well_formed)
 
 pub bounds-scopes-sum : goal.bounds-scopes-sum
 bounds-scopes-sum c =

@@ -27,6 +27,5 @@ shape_of-locals c =
 pub returns : goal.returns
 unfolding values_of
 returns c =
-    let d = c.struct_told-2-1.given in
     let b = c.args.bound in
-    rw (back b.first d.1.0.1, back b.second d.1.1.0.1) (placed c.args.own.now c.args.locals.now _ c.put_first.ensures c.requires.0 c.requires.2 b.first b.second b.count c.requires.1, omega (arith, c.requires.0, c.requires.1))
+    rw (back b.first c.struct_told-2-1.given.1.0.1, back b.second c.struct_told-2-1.given.1.1.0.1) (placed c.args.own.now c.args.locals.now _ c.put_first.ensures c.requires.0 c.requires.2 b.first b.second b.count c.requires.1, omega (arith, c.requires.0, c.requires.1))

@@ -13,7 +13,6 @@ pub returns : goal.returns
 unfolding values_of
 returns c =
     let o = c.args.offer in
-    let d = c.struct_told-1.given in
-    let a = back o.first d.1.1.1.1.1.0.1 in
-    let b = back o.second d.1.1.1.1.1.1.1.0.1 in
+    let a = back o.first c.struct_told-1.given.1.1.1.1.1.0.1 in
+    let b = back o.second c.struct_told-1.given.1.1.1.1.1.1.1.0.1 in
     (λ t ls g h. rw (a, b) (some-sent t ls o c.if-kind-ne-HAND_SEND.false g h).0, (some-sent c.requires.nodes c.requires.locals o c.if-kind-ne-HAND_SEND.false c.requires.guard c.requires.shows).1)

@@ -10,11 +10,11 @@ use Rattle.walk.proofs.is_named.Goals as goal
 
 pub overflow_add-to : goal.overflow_add-to
 overflow_add-to c =
-    let w = c.requires.1.within c.args.token in let a = c.number_at-from.ensures in let b = c.number_at-size.ensures in let g = c.well-formed in omega arith
+    let w = c.requires.1.within c.args.token in let a = c.number_at-from.ensures in let b = c.number_at-size.ensures in let g = c.well_formed in omega arith
 
 pub slice_bounds-same_bytes-end : goal.slice_bounds-same_bytes-end
 slice_bounds-same_bytes-end c =
-    let w = c.requires.1.within c.args.token in let a = c.number_at-from.ensures in let b = c.number_at-size.ensures in let g = c.well-formed in omega arith
+    let w = c.requires.1.within c.args.token in let a = c.number_at-from.ensures in let b = c.number_at-size.ensures in let g = c.well_formed in omega arith
 
 pub returns : goal.returns
 returns c =

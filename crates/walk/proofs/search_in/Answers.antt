@@ -13,7 +13,7 @@ put-requires c =
 
 pub search_from-requires : goal.search_from-requires
 search_from-requires c =
-    ((c.requires.0.0, c.requires.0.1, c.requires.0.2, rw c.put.ensures (start-stands c.requires.0.3 (drop state_length c.args.states.now))), room-kept (let g = c.states-1.given in omega arith) refl refl c.requires.1)
+    ((c.requires.0.0, c.requires.0.1, c.requires.0.2, rw c.put.ensures (start-stands c.requires.0.3 (drop state_length c.args.states.now))), room-kept (omega arith) refl refl c.requires.1)
 
 pub returns : goal.returns
 returns c =

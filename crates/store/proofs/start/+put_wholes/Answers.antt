@@ -21,7 +21,7 @@ offset_bounds-values-at t c =
     let T = c.args.nodes.now in
     let k = c.args.k in
     let h = wholes-inside T k _ _ c.requires in
-    omega (arith, h, c.well-formed)
+    omega (arith, h, c.well_formed)
 
 pub bounds-values-at : goal.bounds-values-at
 bounds-values-at t c =
@@ -55,7 +55,7 @@ offset_bounds-values-at-2 t c =
     let T = c.args.nodes.now in
     let k = c.args.k in
     let h = wholes-inside T k _ _ c.requires in
-    omega (arith, h, c.well-formed)
+    omega (arith, h, c.well_formed)
 
 pub bounds-values-at-2 : goal.bounds-values-at-2
 bounds-values-at-2 t c =
@@ -76,7 +76,7 @@ overflow_add-at t c =
     let T = c.args.nodes.now in
     let k = c.args.k in
     let h = wholes-inside T k _ _ c.requires in
-    omega (arith, h, c.well-formed)
+    omega (arith, h, c.well_formed)
 
 pub put_wholes-requires : goal.put_wholes-requires
 put_wholes-requires t c =

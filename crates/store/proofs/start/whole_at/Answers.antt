@@ -18,7 +18,7 @@ returns-in-Is c =
     λ z n.
     let e = whole_is c.args.nodes.now c.args.k c.eval_node-found.result c.eval_node-found.ensures z n in
     let q : c.in-Is.z ≡ z = cc (sym c.in-Is.is ∙ e) in
-    back c.in-Is.z c.known_told-1.given.0.1 ∙ q
+    back c.in-Is.z c.in-Is.known_told-1-own.given.0.1 ∙ q
 
 pub returns-in-Missing : goal.returns-in-Missing
 returns-in-Missing c =

@@ -23,7 +23,7 @@ returns-in-At c =
 
 pub listed-requires : goal.listed-requires
 listed-requires c =
-     record { reach = reach-variables c.requires.0.world c.args.lists.variables (omega arith); k_in_bounds = name-inside c.requires.0.world c.args.k c.requires.1 }
+    record { reach = reach-variables c.requires.0.world c.args.lists.variables (omega arith); k_in_bounds = name-inside c.requires.0.world c.args.k c.requires.1 }
 
 pub returns-in_default-listed : goal.returns-in_default-listed
 returns-in_default-listed c =

@@ -9,7 +9,7 @@ use Rattle.names.proofs.taken_fault.Goals as goal
 
 pub listed-requires : goal.listed-requires
 listed-requires c =
-     record { reach = reach-variables c.requires.0.world c.args.lists.variables (omega arith); k_in_bounds = name-inside c.requires.0.world c.args.k c.requires.1 }
+    record { reach = reach-variables c.requires.0.world c.args.lists.variables (omega arith); k_in_bounds = name-inside c.requires.0.world c.args.k c.requires.1 }
 
 pub returns-in-At : goal.returns-in-At
 returns-in-At c =

@@ -2,7 +2,7 @@ use mathlib.Core.Logic.{inl, inr}
 use Rattle.grammar.specs.Syntax
 use Rattle.names.specs.Walks.{items}
 use Rattle.names.proofs.Settled.{root_in}
-use Rattle.names.proofs.Parts.{two-first, two-last, split-of, split_at, inner_of, gated-of, stopped-of, dotted-of, called_of}
+use Rattle.names.proofs.Parts.{TwoKinds, two-first, two-last, split-of, split_at, inner_of, gated-of, stopped-of, dotted-of, called_of}
 use Rattle.names.proofs.Scopes.{setting-more}
 use Rattle.names.proofs.Walking.{inner-inside, split-room, split-judged, inner_room, inner-judged, ungated, gated-room, gated-judged, stopped-room, stopped-judged, dotted-room, inner-place, next-room, dotted-judged, called-judged}
 use Prim.Native.Nat.{ℕ, ◌<◌}
@@ -17,6 +17,7 @@ use borrow.Author.Tests.{lt-ltb, le-ltb, le-leb, lt-leb, eq-eqb, ne_eqb}
 use lib.IntN.{ℤ, pos}
 use lib.ListN.{length, get_or, set, take, drop, replicate, length-append, length-take, length-drop, length-set, length-replicate}
 use Rattle.names.proofs.walk.+part_fault.Goals as goal
+use Rattle.names.proofs.walk.+part_fault.Goals.{in-48-1, in_default+else-this-lt53+then-this-lt56, in_default-via-then-this-lt53, in_default-via-else-this-lt53+else-this-lt56}
 
 pub offset_bounds-nodes-root : goal.offset_bounds-nodes-root
 offset_bounds-nodes-root t c =
@@ -90,29 +91,34 @@ part_fault-next-requires t c =
 
 pub calling_fault-requires : goal.calling_fault-requires
 calling_fault-requires t c =
-    let s = (called_of c.args.nodes.now c.requires.0.1 c.args.part.from c.args.part.root (λ e. c.in_default-1.rest.0.0.0.0.1 (c.kind_of.ensures ∙ e)) (⊎_elim (λ a l. absurd (omega (arith, a.taken, c.kind_of.ensures))) (λ b l. omega (arith, b.1.left, c.kind_of.ensures)) c.in_default.branch) (λ e. c.in_default-1.rest.0.0.0.1 (rw (← c.kind_of.ensures) at e)) (λ e. c.in_default-1.rest.0.0.1 (c.kind_of.ensures ∙ e)) (λ e. c.in_default-1.rest.0.1 (c.kind_of.ensures ∙ e)) (λ e. c.in_default-1.rest.1 (c.kind_of.ensures ∙ e)) c.requires.0.2) in
+    let s = (called_of c.args.nodes.now c.requires.0.1 c.args.part.from c.args.part.root (λ e. c.in_default-1.rest.0.0.0.0.1 (c.kind_of.ensures ∙ e)) (λ l. elim c.in_default.branch [ in_default-via-then-this-lt53 w ↦ absurd (omega (arith, l, c.kind_of.ensures)) | in_default-via-else-this-lt53+else-this-lt56 w ↦ omega (arith, l, c.kind_of.ensures) ]) (λ e. c.in_default-1.rest.0.0.0.1 (rw (← c.kind_of.ensures) at e)) (λ e. c.in_default-1.rest.0.0.1 (c.kind_of.ensures ∙ e)) (λ e. c.in_default-1.rest.0.1 (c.kind_of.ensures ∙ e)) (λ e. c.in_default-1.rest.1 (c.kind_of.ensures ∙ e)) c.requires.0.2) in
     ((c.requires.0.0.setting, s.name, s.args, s.holds), omega (arith, c.requires.1))
 
 pub overflow_add-before : goal.overflow_add-before
 overflow_add-before t c =
-    omega (arith, c.requires.1, (split-of c.args.nodes.now c.requires.0.1 c.args.part.from c.args.part.root (rw c.kind_of.ensures at (⊎_elim (λ a. two-first c.args.nodes.now c.kind_of.result a.keys1) (λ b. two-last c.args.nodes.now c.kind_of.result b.1.left b.0.rest.0.0.0.1) c.in-48-1.branch)) c.requires.0.2).below, root_in c.requires.0.0.setting.world)
+    let two : TwoKinds c.args.nodes.now c.kind_of.result = elim c.in-48-1.branch [ in-48-1 w ↦ two-first c.args.nodes.now c.kind_of.result (omega arith) | in_default+else-this-lt53+then-this-lt56 w ↦ two-last c.args.nodes.now c.kind_of.result (omega arith) w.in_default-1.rest.0.0.0.1 ] in
+    omega (arith, c.requires.1, (split-of c.args.nodes.now c.requires.0.1 c.args.part.from c.args.part.root (rw c.kind_of.ensures at two) c.requires.0.2).below, root_in c.requires.0.0.setting.world)
 
 pub overflow_add-left-in-48 : goal.overflow_add-left-in-48
 overflow_add-left-in-48 t c =
-    omega (arith, c.requires.1, (split-of c.args.nodes.now c.requires.0.1 c.args.part.from c.args.part.root (rw c.kind_of.ensures at (⊎_elim (λ a. two-first c.args.nodes.now c.kind_of.result a.keys1) (λ b. two-last c.args.nodes.now c.kind_of.result b.1.left b.0.rest.0.0.0.1) c.in-48-1.branch)) c.requires.0.2).below, c.left_of-left.ensures, root_in c.requires.0.0.setting.world)
+    let two : TwoKinds c.args.nodes.now c.kind_of.result = elim c.in-48-1.branch [ in-48-1 w ↦ two-first c.args.nodes.now c.kind_of.result (omega arith) | in_default+else-this-lt53+then-this-lt56 w ↦ two-last c.args.nodes.now c.kind_of.result (omega arith) w.in_default-1.rest.0.0.0.1 ] in
+    omega (arith, c.requires.1, (split-of c.args.nodes.now c.requires.0.1 c.args.part.from c.args.part.root (rw c.kind_of.ensures at two) c.requires.0.2).below, c.left_of-left.ensures, root_in c.requires.0.0.setting.world)
 
 pub overflow_sub-root-in-48 : goal.overflow_sub-root-in-48
 overflow_sub-root-in-48 t c =
-    omega (arith, (split-of c.args.nodes.now c.requires.0.1 c.args.part.from c.args.part.root (rw c.kind_of.ensures at (⊎_elim (λ a. two-first c.args.nodes.now c.kind_of.result a.keys1) (λ b. two-last c.args.nodes.now c.kind_of.result b.1.left b.0.rest.0.0.0.1) c.in-48-1.branch)) c.requires.0.2).below)
+    let two : TwoKinds c.args.nodes.now c.kind_of.result = elim c.in-48-1.branch [ in-48-1 w ↦ two-first c.args.nodes.now c.kind_of.result (omega arith) | in_default+else-this-lt53+then-this-lt56 w ↦ two-last c.args.nodes.now c.kind_of.result (omega arith) w.in_default-1.rest.0.0.0.1 ] in
+    omega (arith, (split-of c.args.nodes.now c.requires.0.1 c.args.part.from c.args.part.root (rw c.kind_of.ensures at two) c.requires.0.2).below)
 
 pub part_fault-first-requires : goal.part_fault-first-requires
 part_fault-first-requires t c =
-    let s = (split-of c.args.nodes.now c.requires.0.1 c.args.part.from c.args.part.root (rw c.kind_of.ensures at (⊎_elim (λ a. two-first c.args.nodes.now c.kind_of.result a.keys1) (λ b. two-last c.args.nodes.now c.kind_of.result b.1.left b.0.rest.0.0.0.1) c.in-48-1.branch)) c.requires.0.2) in
+    let two : TwoKinds c.args.nodes.now c.kind_of.result = elim c.in-48-1.branch [ in-48-1 w ↦ two-first c.args.nodes.now c.kind_of.result (omega arith) | in_default+else-this-lt53+then-this-lt56 w ↦ two-last c.args.nodes.now c.kind_of.result (omega arith) w.in_default-1.rest.0.0.0.1 ] in
+    let s = (split-of c.args.nodes.now c.requires.0.1 c.args.part.from c.args.part.root (rw c.kind_of.ensures at two) c.requires.0.2) in
     rw c.part_at-one.ensures (omega (arith, s.below, c.left_of-left.ensures, c.decreases), ((c.requires.0.0, s.first, (split_at c.args.nodes.now c.requires.0.1 c.args.part.from c.args.part.root s c.left_of-left.result c.left_of-left.ensures).0, (split-room c.requires.0.0 c.args.part.before c.requires.0.1 c.args.part.from c.args.part.root s c.requires.0.3).0), omega (arith, s.below, c.left_of-left.ensures, c.requires.1)))
 
 pub part_fault-others-requires : goal.part_fault-others-requires
 part_fault-others-requires t c =
-    let s = (split-of c.args.nodes.now c.requires.0.1 c.args.part.from c.args.part.root (rw c.kind_of.ensures at (⊎_elim (λ a. two-first c.args.nodes.now c.kind_of.result a.keys1) (λ b. two-last c.args.nodes.now c.kind_of.result b.1.left b.0.rest.0.0.0.1) c.in-48-1.branch)) c.requires.0.2) in
+    let two : TwoKinds c.args.nodes.now c.kind_of.result = elim c.in-48-1.branch [ in-48-1 w ↦ two-first c.args.nodes.now c.kind_of.result (omega arith) | in_default+else-this-lt53+then-this-lt56 w ↦ two-last c.args.nodes.now c.kind_of.result (omega arith) w.in_default-1.rest.0.0.0.1 ] in
+    let s = (split-of c.args.nodes.now c.requires.0.1 c.args.part.from c.args.part.root (rw c.kind_of.ensures at two) c.requires.0.2) in
     rw c.part_at-rest-in-48.ensures (omega (arith, s.below, c.decreases), ((c.requires.0.0, s.second, (split_at c.args.nodes.now c.requires.0.1 c.args.part.from c.args.part.root s c.left_of-left.result c.left_of-left.ensures).1, (split-room c.requires.0.0 c.args.part.before c.requires.0.1 c.args.part.from c.args.part.root s c.requires.0.3).1), omega (arith, s.below, c.requires.1)))
 
 pub returns-in-49 : goal.returns-in-49
@@ -137,10 +143,11 @@ returns-in-46 t c =
 
 pub returns-in_default : goal.returns-in_default
 returns-in_default t c =
-    λ h p o room. let s = (called_of c.args.nodes.now p c.args.part.from c.args.part.root (λ e. c.in_default-1.rest.0.0.0.0.1 (c.kind_of.ensures ∙ e)) (⊎_elim (λ a l. absurd (omega (arith, a.taken, c.kind_of.ensures))) (λ b l. omega (arith, b.1.left, c.kind_of.ensures)) c.in_default.branch) (λ e. c.in_default-1.rest.0.0.0.1 (rw (← c.kind_of.ensures) at e)) (λ e. c.in_default-1.rest.0.0.1 (c.kind_of.ensures ∙ e)) (λ e. c.in_default-1.rest.0.1 (c.kind_of.ensures ∙ e)) (λ e. c.in_default-1.rest.1 (c.kind_of.ensures ∙ e)) o) in
+    λ h p o room. let s = (called_of c.args.nodes.now p c.args.part.from c.args.part.root (λ e. c.in_default-1.rest.0.0.0.0.1 (c.kind_of.ensures ∙ e)) (λ l. elim c.in_default.branch [ in_default-via-then-this-lt53 w ↦ absurd (omega (arith, l, c.kind_of.ensures)) | in_default-via-else-this-lt53+else-this-lt56 w ↦ omega (arith, l, c.kind_of.ensures) ]) (λ e. c.in_default-1.rest.0.0.0.1 (rw (← c.kind_of.ensures) at e)) (λ e. c.in_default-1.rest.0.0.1 (c.kind_of.ensures ∙ e)) (λ e. c.in_default-1.rest.0.1 (c.kind_of.ensures ∙ e)) (λ e. c.in_default-1.rest.1 (c.kind_of.ensures ∙ e)) o) in
     called-judged h c.args.part.before p c.args.part.from c.args.part.root s c.calling_fault.result (c.calling_fault.ensures h.setting s.name s.args s.holds)
 
 pub returns-in-48 : goal.returns-in-48
 returns-in-48 t c =
-    λ h p o room. let s = (split-of c.args.nodes.now p c.args.part.from c.args.part.root (rw c.kind_of.ensures at (⊎_elim (λ a. two-first c.args.nodes.now c.kind_of.result a.keys1) (λ b. two-last c.args.nodes.now c.kind_of.result b.1.left b.0.rest.0.0.0.1) c.in-48-1.branch)) o) in
+    λ h p o room. let two : TwoKinds c.args.nodes.now c.kind_of.result = elim c.in-48-1.branch [ in-48-1 w ↦ two-first c.args.nodes.now c.kind_of.result (omega arith) | in_default+else-this-lt53+then-this-lt56 w ↦ two-last c.args.nodes.now c.kind_of.result (omega arith) w.in_default-1.rest.0.0.0.1 ] in
+    let s = (split-of c.args.nodes.now p c.args.part.from c.args.part.root (rw c.kind_of.ensures at two) o) in
     split-judged h c.args.part.before p c.args.part.from c.args.part.root s c.part_fault-first.result c.part_fault-others.result c.earlier-in-48.result ((rw c.part_at-one.ensures at c.part_fault-first.ensures) h s.first (split_at c.args.nodes.now p c.args.part.from c.args.part.root s c.left_of-left.result c.left_of-left.ensures).0 (split-room h c.args.part.before p c.args.part.from c.args.part.root s room).0) ((rw c.part_at-rest-in-48.ensures at c.part_fault-others.ensures) h s.second (split_at c.args.nodes.now p c.args.part.from c.args.part.root s c.left_of-left.result c.left_of-left.ensures).1 (split-room h c.args.part.before p c.args.part.from c.args.part.root s room).1) c.earlier-in-48.ensures

@@ -11,16 +11,16 @@ returns-then-a-eq0 c =
 
 pub returns-then-not-is_word : goal.returns-then-not-is_word
 returns-then-not-is_word c =
-    sym (key-fails c.args.a c.args.b c.if-a-eq0.false (sym c.is_IsWord.ensures ∙ refused c.is_IsWord.result c.if-not-is_word.true-raw))
+    sym (key-fails c.args.a c.args.b c.if-a-eq0.false (sym c.is_word.ensures ∙ refused c.is_word.result c.if-not-is_word.true-raw))
 
 pub returns-then-b-eq0 : goal.returns-then-b-eq0
 returns-then-b-eq0 c =
-    sym (key-short c.args.a c.args.b c.if-a-eq0.false (sym c.is_IsWord.ensures ∙ passed c.is_IsWord.result c.if-not-is_word.false-raw) c.if-b-eq0.true)
+    sym (key-short c.args.a c.args.b c.if-a-eq0.false (sym c.is_word.ensures ∙ passed c.is_word.result c.if-not-is_word.false-raw) c.if-b-eq0.true)
 
 pub returns-then-a-lt-FULL : goal.returns-then-a-lt-FULL
 returns-then-a-lt-FULL c =
-    sym (key-gap c.args.a c.args.b c.if-a-eq0.false (sym c.is_IsWord.ensures ∙ passed c.is_IsWord.result c.if-not-is_word.false-raw) c.if-b-eq0.false c.if-a-lt-FULL.true)
+    sym (key-gap c.args.a c.args.b c.if-a-eq0.false (sym c.is_word.ensures ∙ passed c.is_word.result c.if-not-is_word.false-raw) c.if-b-eq0.false c.if-a-lt-FULL.true)
 
 pub returns : goal.returns
 returns c =
-    c.is_word-2.ensures ∙ sym (key-second c.args.a c.args.b c.if-a-eq0.false (sym c.is_IsWord.ensures ∙ passed c.is_IsWord.result c.if-not-is_word.false-raw) c.if-b-eq0.false c.if-a-lt-FULL.false)
+    c.is_word-2.ensures ∙ sym (key-second c.args.a c.args.b c.if-a-eq0.false (sym c.is_word.ensures ∙ passed c.is_word.result c.if-not-is_word.false-raw) c.if-b-eq0.false c.if-a-lt-FULL.false)

@@ -21,11 +21,11 @@ has_key-requires c =
 
 pub returns-then-has_key : goal.returns-then-has_key
 returns-then-has_key c =
-    (sym (first-here (has_key c.args.key.now) place_width c.args.n c.args.s.now c.loop-i.i c.loop-i.invariant.1 (omega arith) (ap (has_key c.args.key.now) (sym (width-part (c.loop-i.i * place_width) place_width c.args.s.now)) ∙ sym c.has_key_lem.ensures ∙ c.if-has_key.true)), omega arith)
+    (sym (first-here (has_key c.args.key.now) place_width c.args.n c.args.s.now c.loop-i.i c.loop-i.invariant.1 (omega arith) (ap (has_key c.args.key.now) (sym (width-part (c.loop-i.i * place_width) place_width c.args.s.now)) ∙ sym c.has_key.ensures ∙ c.if-has_key.true)), omega arith)
 
 pub loop-i-preserved : goal.loop-i-preserved
 loop-i-preserved c =
-    (search rules, first_on (has_key c.args.key.now) place_width c.args.n c.args.s.now c.loop-i.i c.loop-i.invariant.1 (omega arith) (ap (has_key c.args.key.now) (sym (width-part (c.loop-i.i * place_width) place_width c.args.s.now)) ∙ sym c.has_key_lem.ensures ∙ c.if-has_key.false))
+    (search rules, first_on (has_key c.args.key.now) place_width c.args.n c.args.s.now c.loop-i.i c.loop-i.invariant.1 (omega arith) (ap (has_key c.args.key.now) (sym (width-part (c.loop-i.i * place_width) place_width c.args.s.now)) ∙ sym c.has_key.ensures ∙ c.if-has_key.false))
 
 pub returns : goal.returns
 returns c =

@@ -18,4 +18,4 @@ returns-then-at-ge-PLACES c =
 
 pub returns : goal.returns
 returns c =
-    forget-put c.args.name.now c.args.kept.now c.args.saves.now (sym c.put_key.ensures.answer ∙ passed c.put_key.result c.if-not-put_key.false-raw) _ (c.put_key.ensures.numbers (passed c.put_key.result c.if-not-put_key.false-raw)) c.find_place-at.result c.find_place-at.ensures.0 c.if-at-ge-PLACES.false c.requires (c.find_place-at.result * place_width + place_width - c.find_place-at.result * place_width) (omega arith) c.clear_state.new.0 c.clear_state.ensures
+    forget-put c.args.name.now c.args.kept.now c.args.saves.now (sym c.put_key.ensures.answer ∙ passed c.put_key.result c.if-not-put_key.false-raw) _ (c.put_key.ensures.numbers (passed c.put_key.result c.if-not-put_key.false-raw)) c.find_place-at.result c.find_place-at.ensures.0 c.if-at-ge-PLACES.false c.requires (c.find_place-at.result * place_width + place_width - c.find_place-at.result * place_width) (omega arith) c.clear_state.new.s c.clear_state.ensures

@@ -18,4 +18,4 @@ returns-then-at-ge-PLACES c =
 
 pub returns : goal.returns
 returns c =
-    return-put c.args.name.now c.args.kept.now c.args.saves.now (sym c.put_key.ensures.answer ∙ passed c.put_key.result c.if-not-put_key.false-raw) _ (c.put_key.ensures.numbers (passed c.put_key.result c.if-not-put_key.false-raw)) c.find_place-at.result c.find_place-at.ensures.0 c.if-at-ge-PLACES.false c.requires.1 (c.find_place-at.result * place_width + key_width + timed_length - (c.find_place-at.result * place_width + key_width)) (omega arith) c.put.new.0 c.put.ensures
+    return-put c.args.name.now c.args.kept.now c.args.saves.now (sym c.put_key.ensures.answer ∙ passed c.put_key.result c.if-not-put_key.false-raw) _ (c.put_key.ensures.numbers (passed c.put_key.result c.if-not-put_key.false-raw)) c.find_place-at.result c.find_place-at.ensures.0 c.if-at-ge-PLACES.false c.requires.1 (c.find_place-at.result * place_width + key_width + timed_length - (c.find_place-at.result * place_width + key_width)) (omega arith) c.put.new.s c.put.ensures

@@ -18,4 +18,4 @@ returns-then-at-ge-PLACES c =
 
 pub returns : goal.returns
 returns c =
-    save-put c.args.name.now c.args.kept.now c.args.saves.now (sym c.put_key.ensures.answer ∙ passed c.put_key.result c.if-not-put_key.false-raw) _ (c.put_key.ensures.numbers (passed c.put_key.result c.if-not-put_key.false-raw)) c.place_for-at.result c.place_for-at.ensures.0 c.if-at-ge-PLACES.false c.put_place.new.0 c.put_place.ensures (c.place_for-at.result * place_width + place_width - c.place_for-at.result * place_width) (omega arith)
+    save-put c.args.name.now c.args.kept.now c.args.saves.now (sym c.put_key.ensures.answer ∙ passed c.put_key.result c.if-not-put_key.false-raw) _ (c.put_key.ensures.numbers (passed c.put_key.result c.if-not-put_key.false-raw)) c.place_for-at.result c.place_for-at.ensures.0 c.if-at-ge-PLACES.false c.put_place.new.place c.put_place.ensures (c.place_for-at.result * place_width + place_width - c.place_for-at.result * place_width) (omega arith)

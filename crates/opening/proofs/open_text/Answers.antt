@@ -5,7 +5,7 @@ use Rattle.opening.proofs.open_text.Goals as goal
 
 pub read_model-held-requires : goal.read_model-held-requires
 read_model-held-requires c =
-     record { room = c.requires.room; sum_room = c.requires.sum_room }
+    record { room = c.requires.room; sum_room = c.requires.sum_room }
 
 pub judge_start-requires : goal.judge_start-requires
 judge_start-requires c =

@@ -10,12 +10,12 @@ read_tree-tree-requires c =
 
 pub settle_tree-requires : goal.settle_tree-requires
 settle_tree-requires c =
-     record { fitted = tree-fits _ _ _ _ _ _ _ c.read_tree-tree.ensures.tree_read c.in-Fits.is; sum_room = c.requires.sum_room }
+    record { fitted = tree-fits _ _ _ _ _ _ _ c.read_tree-tree.ensures.tree_read c.in-Fits.is; sum_room = c.requires.sum_room }
 
 pub returns-in-Refused : goal.returns-in-Refused
 returns-in-Refused c =
-     record { model_read = tree-no _ _ _ _ _ _ _ c.read_tree-tree.ensures.tree_read _ _ _ c.in-Refused.is; model_marked = model-unmarked _ _ _ _ _ _ _ }
+    record { model_read = tree-no _ _ _ _ _ _ _ c.read_tree-tree.ensures.tree_read _ _ _ c.in-Refused.is; model_marked = model-unmarked _ _ _ _ _ _ _ }
 
 pub returns-in-Fits : goal.returns-in-Fits
 returns-in-Fits c =
-     record { model_read = c.settle_tree.ensures; model_marked = model-marked _ (fits-marked c.read_tree-tree.ensures.tree_marked c.in-Fits.is) }
+    record { model_read = c.settle_tree.ensures; model_marked = model-marked _ (fits-marked c.read_tree-tree.ensures.tree_marked c.in-Fits.is) }

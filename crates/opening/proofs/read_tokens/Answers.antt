@@ -39,12 +39,12 @@ contents-requires c =
 
 pub returns-in-Misfit : goal.returns-in-Misfit
 returns-in-Misfit c =
-     record { tree_read = misfit-no c.fill-n.ensures _ _ c.judge_text-asked.ensures c.requires.value _ _ c.in-Misfit.is c.byte_place.ensures; marked = filled-marked c.fill-n.ensures }
+    record { tree_read = misfit-no c.fill-n.ensures _ _ c.judge_text-asked.ensures c.requires.value _ _ c.in-Misfit.is c.byte_place.ensures; marked = filled-marked c.fill-n.ensures }
 
 pub returns-in-Crowded : goal.returns-in-Crowded
 returns-in-Crowded c =
-     record { tree_read = crowded-no c.fill-n.ensures _ _ c.judge_text-asked.ensures c.requires.value _ _ c.in-Crowded.is c.byte_place-in-Crowded.ensures; marked = filled-marked c.fill-n.ensures }
+    record { tree_read = crowded-no c.fill-n.ensures _ _ c.judge_text-asked.ensures c.requires.value _ _ c.in-Crowded.is c.byte_place-in-Crowded.ensures; marked = filled-marked c.fill-n.ensures }
 
 pub returns-in-Passed : goal.returns-in-Passed
 returns-in-Passed c =
-     record { tree_read = fits-yes c.fill-n.ensures _ _ c.judge_text-asked.ensures c.requires.value (omega (arith, c.requires.room)) c.in-Passed.is c.contents.ensures; marked = filled-marked c.fill-n.ensures }
+    record { tree_read = fits-yes c.fill-n.ensures _ _ c.judge_text-asked.ensures c.requires.value (omega (arith, c.requires.room)) c.in-Passed.is c.contents.ensures; marked = filled-marked c.fill-n.ensures }

@@ -23,6 +23,7 @@ returns-in-Passed c =
     let fitted = c.requires.fitted.1 in
     let room = c.requires.sum_room in
     let judged = c.judge_tree-judged.ensures _ fitted in
-    let settled = (c.settle-model.ensures.represents, (c.settle-model.ensures.definitions_bound, c.settle-model.ensures.settles)) in
-    let sound = named-sound fitted judged c.in-Passed.is in
-    named-yes fitted judged c.in-Passed.is (settled-so fitted sound room.roots-room room.scopes-room room.names-room settled.0) settled.1.0 (settles-so fitted sound room.roots-room room.scopes-room room.names-room settled.1.1)
+    let passed = c.in-Passed.is in
+    let settled = c.settle-model.ensures in
+    let sound = named-sound fitted judged passed in
+    named-yes fitted judged passed (settled-so fitted sound room.roots-room room.scopes-room room.names-room settled.represents) settled.definitions_bound (settles-so fitted sound room.roots-room room.scopes-room room.names-room settled.settles)

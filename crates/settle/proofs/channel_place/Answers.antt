@@ -40,7 +40,7 @@ shape_of-heard-then-kid-eq0 c =
 
 pub returns-then-kid-eq0 : goal.returns-then-kid-eq0
 returns-then-kid-eq0 c =
-    case-new c.requires c.loop-n.invariant c.token_of.result c.token_of.ensures c.same_name.result c.same_name.ensures c.if-same_name.false c.IsKid-of.result c.IsKid-of.ensures c.if-kid-eq0.true _ c.hang.ensures
+    case-new c.requires c.loop-n.invariant c.token_of.result c.token_of.ensures c.same_name.result c.same_name.ensures c.if-same_name.false c.kid_of-kid.result c.kid_of-kid.ensures c.if-kid-eq0.true _ c.hang.ensures
 
 pub overflow_add-bits : goal.overflow_add-bits
 overflow_add-bits c =
@@ -52,8 +52,8 @@ overflow_add-first c =
 
 pub loop-n-smaller : goal.loop-n-smaller
 loop-n-smaller c =
-    omega (arith, (node-inside c.requires c.loop-n.invariant).0, case-less c.requires c.loop-n.invariant c.token_of.result c.token_of.ensures c.same_name.result c.same_name.ensures c.if-same_name.false c.IsKid-of.result c.IsKid-of.ensures c.if-kid-eq0.false)
+    omega (arith, (node-inside c.requires c.loop-n.invariant).0, case-less c.requires c.loop-n.invariant c.token_of.result c.token_of.ensures c.same_name.result c.same_name.ensures c.if-same_name.false c.kid_of-kid.result c.kid_of-kid.ensures c.if-kid-eq0.false)
 
 pub loop-n-preserved : goal.loop-n-preserved
 loop-n-preserved c =
-    case-on c.requires c.loop-n.invariant c.token_of.result c.token_of.ensures c.same_name.result c.same_name.ensures c.if-same_name.false c.IsKid-of.result c.IsKid-of.ensures c.if-kid-eq0.false
+    case-on c.requires c.loop-n.invariant c.token_of.result c.token_of.ensures c.same_name.result c.same_name.ensures c.if-same_name.false c.kid_of-kid.result c.kid_of-kid.ensures c.if-kid-eq0.false

@@ -18,7 +18,7 @@ overflow_sub-first c =
 
 pub listed-requires : goal.listed-requires
 listed-requires c =
-     record { reach = definitions-reach c.requires.0; k_in_bounds = in_tables c.requires.0 c.args.k c.requires.1 }
+    record { reach = definitions-reach c.requires.0; k_in_bounds = in_tables c.requires.0 c.args.k c.requires.1 }
 
 pub returns-in_default : goal.returns-in_default
 returns-in_default c =

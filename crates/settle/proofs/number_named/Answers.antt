@@ -15,7 +15,7 @@ use Rattle.settle.proofs.number_named.Goals as goal
 
 pub listed-requires : goal.listed-requires
 listed-requires c =
-     record { reach = variables-reach c.requires.0; k_in_bounds = in_tables c.requires.0 c.args.k c.requires.1 }
+    record { reach = variables-reach c.requires.0; k_in_bounds = in_tables c.requires.0 c.args.k c.requires.1 }
 
 pub returns-in_default : goal.returns-in_default
 returns-in_default c =

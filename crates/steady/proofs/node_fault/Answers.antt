@@ -38,12 +38,12 @@ returns-then-kind_of-eq-ITEM c =
 
 pub has_several-requires : goal.has_several-requires
 has_several-requires c =
-    (c.requires.0, call-name c.args.nodes.now c.args.i c.kind_of-kind.result c.token_of-k.result c.kind_of-kind.ensures c.token_of-k.ensures c.requires.0 c.requires.1 (call-kinds c.kind_of-kind.result c.in-50.if-kind-lt50-own.false c.in-50.if-kind-lt52-own.true))
+    (c.requires.0, call-name c.args.nodes.now c.args.i c.kind_of-kind.result c.token_of-k.result c.kind_of-kind.ensures c.token_of-k.ensures c.requires.0 c.requires.1 (call-kinds c.kind_of-kind.result (omega arith) (omega arith)))
 
 pub returns-then-has_several : goal.returns-then-has_several
 unfolding least when earlier
 returns-then-has_several c =
-    λ h. call-offends c.args.nodes.now c.args.i c.kind_of-kind.result c.token_of-k.result c.kind_of-kind.ensures c.token_of-k.ensures (several_sums h.word (definitions h.model)) (call-kinds c.kind_of-kind.result c.in-50.if-kind-lt50-own.false c.in-50.if-kind-lt52-own.true) true (sym (c.has_several.ensures h (call-name c.args.nodes.now c.args.i c.kind_of-kind.result c.token_of-k.result c.kind_of-kind.ensures c.token_of-k.ensures h c.requires.1 (call-kinds c.kind_of-kind.result c.in-50.if-kind-lt50-own.false c.in-50.if-kind-lt52-own.true))) ∙ c.if-has_several.true)
+    λ h. call-offends c.args.nodes.now c.args.i c.kind_of-kind.result c.token_of-k.result c.kind_of-kind.ensures c.token_of-k.ensures (several_sums h.word (definitions h.model)) (call-kinds c.kind_of-kind.result (omega arith) (omega arith)) true (sym (c.has_several.ensures h (call-name c.args.nodes.now c.args.i c.kind_of-kind.result c.token_of-k.result c.kind_of-kind.ensures c.token_of-k.ensures h c.requires.1 (call-kinds c.kind_of-kind.result (omega arith) (omega arith)))) ∙ c.if-has_several.true)
 
 pub returns-else-kind_of-eq-ITEM : goal.returns-else-kind_of-eq-ITEM
 unfolding least when earlier
@@ -53,12 +53,12 @@ returns-else-kind_of-eq-ITEM c =
 pub returns-else-has_several : goal.returns-else-has_several
 unfolding least when earlier
 returns-else-has_several c =
-    λ h. call-offends c.args.nodes.now c.args.i c.kind_of-kind.result c.token_of-k.result c.kind_of-kind.ensures c.token_of-k.ensures (several_sums h.word (definitions h.model)) (call-kinds c.kind_of-kind.result c.in-50.if-kind-lt50-own.false c.in-50.if-kind-lt52-own.true) false (sym (c.has_several.ensures h (call-name c.args.nodes.now c.args.i c.kind_of-kind.result c.token_of-k.result c.kind_of-kind.ensures c.token_of-k.ensures h c.requires.1 (call-kinds c.kind_of-kind.result c.in-50.if-kind-lt50-own.false c.in-50.if-kind-lt52-own.true))) ∙ c.if-has_several.false)
+    λ h. call-offends c.args.nodes.now c.args.i c.kind_of-kind.result c.token_of-k.result c.kind_of-kind.ensures c.token_of-k.ensures (several_sums h.word (definitions h.model)) (call-kinds c.kind_of-kind.result (omega arith) (omega arith)) false (sym (c.has_several.ensures h (call-name c.args.nodes.now c.args.i c.kind_of-kind.result c.token_of-k.result c.kind_of-kind.ensures c.token_of-k.ensures h c.requires.1 (call-kinds c.kind_of-kind.result (omega arith) (omega arith)))) ∙ c.if-has_several.false)
 
 pub returns-in_default : goal.returns-in_default
 returns-in_default c =
-    λ h. no-offender c.args.nodes.now c.args.i c.kind_of-kind.result c.token_of-k.result c.kind_of-kind.ensures c.token_of-k.ensures (several_sums h.word (definitions h.model)) c.in_default.in_default-own.rest.1 (no_call c.kind_of-kind.result (inl c.in_default.if-kind-lt50-own.true))
+    λ h. no-offender c.args.nodes.now c.args.i c.kind_of-kind.result c.token_of-k.result c.kind_of-kind.ensures c.token_of-k.ensures (several_sums h.word (definitions h.model)) c.in_default.in_default-own.rest.1 (no_call c.kind_of-kind.result (inl (omega arith)))
 
 pub returns-in_default-2 : goal.returns-in_default-2
 returns-in_default-2 c =
-    λ h. no-offender c.args.nodes.now c.args.i c.kind_of-kind.result c.token_of-k.result c.kind_of-kind.ensures c.token_of-k.ensures (several_sums h.word (definitions h.model)) c.in_default.in_default-own.rest.1 (no_call c.kind_of-kind.result (inr c.in_default.if-kind-lt52-own.false))
+    λ h. no-offender c.args.nodes.now c.args.i c.kind_of-kind.result c.token_of-k.result c.kind_of-kind.ensures c.token_of-k.ensures (several_sums h.word (definitions h.model)) c.in_default.in_default-own.rest.1 (no_call c.kind_of-kind.result (inr (omega arith)))

@@ -10,7 +10,7 @@ read_tree-tree-requires c =
 
 pub settle_steady-requires : goal.settle_steady-requires
 settle_steady-requires c =
-     record { fitted = tree-fits _ _ _ _ _ _ _ c.read_tree-tree.ensures.tree_read c.in-Fits.is; sum_room = c.requires.sum_room }
+    record { fitted = tree-fits _ _ _ _ _ _ _ c.read_tree-tree.ensures.tree_read c.in-Fits.is; sum_room = c.requires.sum_room }
 
 pub returns-in-Refused : goal.returns-in-Refused
 returns-in-Refused c =

@@ -38,4 +38,4 @@ overflow_mul-result c =
 
 pub returns : goal.returns
 returns c =
-     record { value = λ ds s h. product_is c.args.nodes.now h c.token_of.ensures c.left_of-body.ensures c.left_of.ensures (c.sums_at.ensures.by_index (body-at c.args.nodes.now h c.token_of.ensures).sums (body-sums c.args.nodes.now h c.token_of.ensures c.left_of-body.ensures)); upper_bound = product_small c.args.nodes.now c.requires.2 c.token_of.ensures c.left_of-body.ensures c.left_of.ensures c.sums_at.ensures.upper_bound }
+    record { value = λ ds s h. product_is c.args.nodes.now h c.token_of.ensures c.left_of-body.ensures c.left_of.ensures (c.sums_at.ensures.by_index (body-at c.args.nodes.now h c.token_of.ensures).sums (body-sums c.args.nodes.now h c.token_of.ensures c.left_of-body.ensures)); upper_bound = product_small c.args.nodes.now c.requires.2 c.token_of.ensures c.left_of-body.ensures c.left_of.ensures c.sums_at.ensures.upper_bound }

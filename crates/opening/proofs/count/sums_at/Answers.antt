@@ -37,4 +37,4 @@ loop-n-preserved c =
 
 pub returns : goal.returns
 returns c =
-     record { by_index = λ ns h. rest-off c.args.nodes.now (c.loop-n.invariant.1 ns h) (λ e. c.loop-n-test.false (c.kind_of.ensures ∙ e)); upper_bound = omega (arith, c.loop-n.invariant.0) }
+    record { by_index = λ ns h. rest-off c.args.nodes.now (c.loop-n.invariant.1 ns h) (λ e. c.loop-n-test.false (c.kind_of.ensures ∙ e)); upper_bound = omega (arith, c.loop-n.invariant.0) }

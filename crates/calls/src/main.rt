@@ -18,11 +18,14 @@
 // A text is lent to open up to 16,385 bytes, a name up to 19: as many are too many already, so the bytes after them change no answer.
 mod rows;
 
-use libc::{STDIN_FILENO, STDOUT_FILENO};
 use lines::line::Line;
 use lines::script::{Ending, Part, Script, Taken};
 use output::Buffer;
 use script::Row;
+use std::fs::File;
+use std::io::Read;
+use std::rt::Files;
+use std::{env, io};
 use store::Engine;
 
 #[derive(Clone, Copy)]
@@ -82,8 +85,8 @@ struct Run {
     over: bool,
 }
 
-fn put(s: &[u8]) {
-    io::write_all(STDOUT_FILENO, s);
+fn put(rt: &impl Print, s: &[u8]) -> io::Result<()> {
+    rt.write_all(s)
 }
 
 // Where the next byte of a line or a text is kept.
@@ -102,9 +105,9 @@ fn keep(part: Part, b: u8, text: &mut [u8]) {
     }
 }
 
-fn put_bad(out: &mut Buffer, waits: usize, line: u64) -> usize {
-    let n = output::put(out, waits, b"bad,");
-    output::put_line(out, n, &[line], b' ')
+fn put_bad(rt: &impl Print, out: &mut Buffer, waits: usize, line: u64) -> io::Result<usize> {
+    let n = output::put(rt, out, waits, b"bad,")?;
+    output::put_line(rt, out, n, &[line], b' ')
 }
 
 // How many bytes of a text are lent.
@@ -171,15 +174,21 @@ fn make_call(
 }
 
 // Puts the six numbers that every call answers on a line.
-fn put_shown(out: &mut Buffer, waits: usize, answer: &[u64; Row::ANSWER]) -> usize {
+fn put_shown(
+    rt: &impl Print,
+    out: &mut Buffer,
+    waits: usize,
+    answer: &[u64; Row::ANSWER],
+) -> io::Result<usize> {
     let shown = [
         answer[0], answer[1], answer[2], answer[3], answer[4], answer[5],
     ];
-    output::put_line(out, waits, &shown, b' ')
+    output::put_line(rt, out, waits, &shown, b' ')
 }
 
 // Puts a call's answer and as many entries as it counts: none where the listing isn't filled.
 fn put_call(
+    rt: &impl Print,
     out: &mut Buffer,
     waits: usize,
     kind: u64,
@@ -192,7 +201,7 @@ fn put_call(
     saves: &mut Saves,
     clock: &mut Time,
     listing: &mut Listing,
-) -> usize {
+) -> io::Result<usize> {
     let listed = Engine::LISTING as u64;
     let answer = make_call(
         kind,
@@ -209,26 +218,32 @@ fn put_call(
         clock,
         listing,
     );
-    let n = put_shown(out, waits, &answer);
-    output::put_entries(out, n, listing, answer[Limits::COUNT], b"  ", b' ')
+    let n = put_shown(rt, out, waits, &answer)?;
+    output::put_entries(rt, out, n, listing, answer[Limits::COUNT], b"  ", b' ')
 }
 
 // Puts the numbers of a report on a line that begins with two blanks.
-fn put_numbers(out: &mut Buffer, waits: usize, report: &[u64]) -> usize {
+fn put_numbers(
+    rt: &impl Print,
+    out: &mut Buffer,
+    waits: usize,
+    report: &[u64],
+) -> io::Result<usize> {
     if report.len() < Engine::REPORT {
-        return waits;
+        return Ok(waits);
     }
-    let n = output::put(out, waits, b"  ");
-    output::put_line(out, n, &report[..Engine::REPORT], b' ')
+    let n = output::put(rt, out, waits, b"  ")?;
+    output::put_line(rt, out, n, &report[..Engine::REPORT], b' ')
 }
 
 // Puts the numbers of a report that stands first in a row's part.
-fn put_part(out: &mut Buffer, waits: usize, part: &Listing) -> usize {
-    put_numbers(out, waits, part)
+fn put_part(rt: &impl Print, out: &mut Buffer, waits: usize, part: &Listing) -> io::Result<usize> {
+    put_numbers(rt, out, waits, part)
 }
 
 // Puts a report's answer, and its numbers where it is accepted. The last listing stays.
 fn put_report(
+    rt: &impl Print,
     out: &mut Buffer,
     waits: usize,
     text: &Text,
@@ -236,7 +251,7 @@ fn put_report(
     state: &mut State,
     saves: &mut Saves,
     clock: &mut Time,
-) -> usize {
+) -> io::Result<usize> {
     let mut part = [0u64; Engine::LISTING];
     let listed = Engine::REPORT as u64;
     let answer = make_call(
@@ -254,11 +269,11 @@ fn put_report(
         clock,
         &mut part,
     );
-    let n = put_shown(out, waits, &answer);
+    let n = put_shown(rt, out, waits, &answer)?;
     if answer[Limits::NUMBER] != 0 {
-        return n;
+        return Ok(n);
     }
-    put_part(out, n, &part)
+    put_part(rt, out, n, &part)
 }
 
 // Whether the entries i and j of a listing are independent: 1 or 0. Numbers that aren't there are no entry's.
@@ -285,6 +300,7 @@ fn judge(listing: &[u64], i: u64, j: u64) -> u64 {
 
 // Puts the answer of a call on the saves, whose name stands after so many bytes of the line.
 fn put_named(
+    rt: &impl Print,
     out: &mut Buffer,
     waits: usize,
     kind: u64,
@@ -296,7 +312,7 @@ fn put_named(
     saves: &mut Saves,
     clock: &mut Time,
     listing: &mut Listing,
-) -> usize {
+) -> io::Result<usize> {
     let size = name_size(kept, first);
     let answer = make_call(
         kind,
@@ -313,11 +329,12 @@ fn put_named(
         clock,
         listing,
     );
-    put_shown(out, waits, &answer)
+    put_shown(rt, out, waits, &answer)
 }
 
 // Puts the answer of a search: its number, the run's length and eight entry numbers.
 fn put_search(
+    rt: &impl Print,
     out: &mut Buffer,
     waits: usize,
     depth: u64,
@@ -328,7 +345,7 @@ fn put_search(
     saves: &mut Saves,
     clock: &mut Time,
     listing: &mut Listing,
-) -> usize {
+) -> io::Result<usize> {
     let size = name_size(kept, Limits::RETURN);
     let answer = make_call(
         Row::SEARCH,
@@ -349,11 +366,12 @@ fn put_search(
         answer[0], answer[6], answer[7], answer[8], answer[9], answer[10], answer[11], answer[12],
         answer[13], answer[14],
     ];
-    output::put_line(out, waits, &found, b' ')
+    output::put_line(rt, out, waits, &found, b' ')
 }
 
 // Puts a timed step with the first waiting draws.
 fn put_timed(
+    rt: &impl Print,
     out: &mut Buffer,
     waits: usize,
     draw: u64,
@@ -365,11 +383,12 @@ fn put_timed(
     saves: &mut Saves,
     clock: &mut Time,
     listing: &mut Listing,
-) -> usize {
+) -> io::Result<usize> {
     if waiting.len() < drawn {
-        return waits;
+        return Ok(waits);
     }
     put_call(
+        rt,
         out,
         waits,
         Row::TIMED,
@@ -386,12 +405,19 @@ fn put_timed(
 }
 
 // Puts what a run answers, and the events that it wrote.
-fn put_told(out: &mut Buffer, waits: usize, answer: &[u64; Row::ANSWER], events: &[u64]) -> usize {
+fn put_told(
+    rt: &impl Print,
+    out: &mut Buffer,
+    waits: usize,
+    answer: &[u64; Row::ANSWER],
+    events: &[u64],
+) -> io::Result<usize> {
     let told = [
         answer[0], answer[15], answer[16], answer[17], answer[3], answer[4],
     ];
-    let n = output::put_line(out, waits, &told, b' ');
+    let n = output::put_line(rt, out, waits, &told, b' ')?;
     output::put_rows(
+        rt,
         out,
         n,
         events,
@@ -404,6 +430,7 @@ fn put_told(out: &mut Buffer, waits: usize, answer: &[u64; Row::ANSWER], events:
 
 // Puts a run with the first waiting draws and words. The last listing stays.
 fn put_run(
+    rt: &impl Print,
     out: &mut Buffer,
     waits: usize,
     limit: u64,
@@ -416,12 +443,12 @@ fn put_run(
     state: &mut State,
     saves: &mut Saves,
     clock: &mut Time,
-) -> usize {
+) -> io::Result<usize> {
     if waiting.len() < drawn {
-        return waits;
+        return Ok(waits);
     }
     if words.len() < worded {
-        return waits;
+        return Ok(waits);
     }
     let mut events = [0u64; Row::OUTPUT];
     let answer = make_call(
@@ -439,7 +466,7 @@ fn put_run(
         clock,
         &mut events,
     );
-    put_told(out, waits, &answer, &events)
+    put_told(rt, out, waits, &answer, &events)
 }
 
 // Keeps a word, if there is room.
@@ -492,6 +519,7 @@ fn drawn_after(asked: Line, drawn: usize) -> usize {
 
 // Does what an item asks for that is about model time, or gives draws and words.
 fn ask_timed(
+    rt: &impl Print,
     out: &mut Buffer,
     waits: usize,
     asked: Line,
@@ -505,23 +533,24 @@ fn ask_timed(
     saves: &mut Saves,
     clock: &mut Time,
     listing: &mut Listing,
-) -> usize {
+) -> io::Result<usize> {
     match asked {
         Line::Time(draw) => put_timed(
-            out, waits, draw, drawn, text, waiting, model, state, saves, clock, listing,
+            rt, out, waits, draw, drawn, text, waiting, model, state, saves, clock, listing,
         ),
-        Line::Wait(draw) => keep_draw(waits, draw, drawn, waiting),
-        Line::Clock => output::put_line(out, waits, clock, b' '),
-        Line::Word(word) => keep_word(waits, word, worded, words),
+        Line::Wait(draw) => Ok(keep_draw(waits, draw, drawn, waiting)),
+        Line::Clock => output::put_line(rt, out, waits, clock, b' '),
+        Line::Word(word) => Ok(keep_word(waits, word, worded, words)),
         Line::Run(limit) => put_run(
-            out, waits, limit, drawn, worded, text, waiting, words, model, state, saves, clock,
+            rt, out, waits, limit, drawn, worded, text, waiting, words, model, state, saves, clock,
         ),
-        _ => waits,
+        _ => Ok(waits),
     }
 }
 
 // Does what an item with a name or of two entries asks for, or one about model time.
 fn ask_named(
+    rt: &impl Print,
     out: &mut Buffer,
     waits: usize,
     asked: Line,
@@ -535,9 +564,10 @@ fn ask_named(
     saves: &mut Saves,
     clock: &mut Time,
     listing: &mut Listing,
-) -> usize {
+) -> io::Result<usize> {
     match asked {
         Line::Save(kept) => put_named(
+            rt,
             out,
             waits,
             Row::SAVE,
@@ -551,6 +581,7 @@ fn ask_named(
             listing,
         ),
         Line::Return(kept) => put_named(
+            rt,
             out,
             waits,
             Row::RETURN,
@@ -564,6 +595,7 @@ fn ask_named(
             listing,
         ),
         Line::Forget(kept) => put_named(
+            rt,
             out,
             waits,
             Row::FORGET,
@@ -576,12 +608,12 @@ fn ask_named(
             clock,
             listing,
         ),
-        Line::Independent(i, j) => output::put_line(out, waits, &[judge(listing, i, j)], b' '),
+        Line::Independent(i, j) => output::put_line(rt, out, waits, &[judge(listing, i, j)], b' '),
         Line::Search(depth, kept) => put_search(
-            out, waits, depth, kept, text, model, state, saves, clock, listing,
+            rt, out, waits, depth, kept, text, model, state, saves, clock, listing,
         ),
         _ => ask_timed(
-            out, waits, asked, drawn, worded, text, waiting, words, model, state, saves, clock,
+            rt, out, waits, asked, drawn, worded, text, waiting, words, model, state, saves, clock,
             listing,
         ),
     }
@@ -589,6 +621,7 @@ fn ask_named(
 
 // Does what an item of the script asks for.
 fn ask(
+    rt: &impl Print,
     out: &mut Buffer,
     waits: usize,
     asked: Line,
@@ -602,9 +635,10 @@ fn ask(
     saves: &mut Saves,
     clock: &mut Time,
     listing: &mut Listing,
-) -> usize {
+) -> io::Result<usize> {
     match asked {
         Line::Open(size) => put_call(
+            rt,
             out,
             waits,
             Row::OPEN,
@@ -619,6 +653,7 @@ fn ask(
             listing,
         ),
         Line::Steady(size) => put_call(
+            rt,
             out,
             waits,
             Row::STEADY,
@@ -633,6 +668,7 @@ fn ask(
             listing,
         ),
         Line::List => put_call(
+            rt,
             out,
             waits,
             Row::LIST,
@@ -647,6 +683,7 @@ fn ask(
             listing,
         ),
         Line::Step(draw) => put_call(
+            rt,
             out,
             waits,
             Row::STEP,
@@ -660,16 +697,17 @@ fn ask(
             clock,
             listing,
         ),
-        Line::State => output::put_signed_line(out, waits, state, b' '),
-        Line::Report => put_report(out, waits, text, model, state, saves, clock),
+        Line::State => output::put_signed_line(rt, out, waits, state, b' '),
+        Line::Report => put_report(rt, out, waits, text, model, state, saves, clock),
         _ => ask_named(
-            out, waits, asked, drawn, worded, text, waiting, words, model, state, saves, clock,
+            rt, out, waits, asked, drawn, worded, text, waiting, words, model, state, saves, clock,
             listing,
         ),
     }
 }
 
 fn run_byte(
+    rt: &impl Print,
     run: Run,
     b: u8,
     out: &mut Buffer,
@@ -681,7 +719,7 @@ fn run_byte(
     saves: &mut Saves,
     clock: &mut Time,
     listing: &mut Listing,
-) -> Run {
+) -> io::Result<Run> {
     let script = run.script;
     let waits = run.waits;
     let drawn = run.drawn;
@@ -690,34 +728,35 @@ fn run_byte(
     keep(part, b, text);
     let taken = script.take(b);
     match taken {
-        Taken::Goes(next) => Run {
+        Taken::Goes(next) => Ok(Run {
             script: next,
             waits: waits,
             drawn: drawn,
             worded: worded,
             over: false,
-        },
-        Taken::Asks(asked, next) => Run {
+        }),
+        Taken::Asks(asked, next) => Ok(Run {
             script: next,
             waits: ask(
-                out, waits, asked, drawn, worded, text, waiting, words, model, state, saves, clock,
-                listing,
-            ),
+                rt, out, waits, asked, drawn, worded, text, waiting, words, model, state, saves,
+                clock, listing,
+            )?,
             drawn: drawn_after(asked, drawn),
             worded: worded_after(asked, worded),
             over: false,
-        },
-        Taken::Wrong(line) => Run {
+        }),
+        Taken::Wrong(line) => Ok(Run {
             script: script,
-            waits: put_bad(out, waits, line),
+            waits: put_bad(rt, out, waits, line)?,
             drawn: drawn,
             worded: worded,
             over: true,
-        },
+        }),
     }
 }
 
 fn run_bytes(
+    rt: &impl Print,
     bytes: &[u8],
     run: Run,
     out: &mut Buffer,
@@ -729,61 +768,62 @@ fn run_bytes(
     saves: &mut Saves,
     clock: &mut Time,
     listing: &mut Listing,
-) -> Run {
+) -> io::Result<Run> {
     let mut now = run;
     let mut i = 0;
     while i < bytes.len() {
         now = run_byte(
-            now, bytes[i], out, text, waiting, words, model, state, saves, clock, listing,
-        );
+            rt, now, bytes[i], out, text, waiting, words, model, state, saves, clock, listing,
+        )?;
         if now.over {
-            return now;
+            return Ok(now);
         }
         i += 1;
     }
-    now
+    Ok(now)
 }
 
 // The script has ended.
-fn end(run: Run, out: &mut Buffer) -> Run {
+fn end(rt: &impl Print, run: Run, out: &mut Buffer) -> io::Result<Run> {
     let script = run.script;
     let waits = run.waits;
     let drawn = run.drawn;
     let worded = run.worded;
     let ending = script.at_end();
     match ending {
-        Ending::Done => Run {
+        Ending::Done => Ok(Run {
             script: script,
             waits: waits,
             drawn: drawn,
             worded: worded,
             over: true,
-        },
-        Ending::Broken(line) => Run {
+        }),
+        Ending::Broken(line) => Ok(Run {
             script: script,
-            waits: put_bad(out, waits, line),
+            waits: put_bad(rt, out, waits, line)?,
             drawn: drawn,
             worded: worded,
             over: true,
-        },
+        }),
     }
 }
 
-fn flushed(run: Run, out: &Buffer) -> Run {
+fn flushed(rt: &impl Print, run: Run, out: &Buffer) -> io::Result<Run> {
     let script = run.script;
     let over = run.over;
-    Run {
+    Ok(Run {
         script: script,
-        waits: output::flush(out, run.waits),
+        waits: output::flush(rt, out, run.waits)?,
         drawn: run.drawn,
         worded: run.worded,
         over: over,
-    }
+    })
 }
 
 // Reads once, runs what came, and writes what waits.
 fn run_some(
-    fd: i32,
+    rt: &impl Print,
+    from: &mut impl Read,
     run: Run,
     out: &mut Buffer,
     text: &mut Text,
@@ -794,15 +834,16 @@ fn run_some(
     saves: &mut Saves,
     clock: &mut Time,
     listing: &mut Listing,
-) -> Run {
+) -> io::Result<Run> {
     let mut space = [0u8; Limits::READ];
-    let got = libc::read(fd, &mut space);
-    let n = io::count(got, &space);
+    let n = from.read(&mut space)?;
     if n == 0 {
-        return flushed(end(run, out), out);
+        return flushed(rt, end(rt, run, out)?, out);
     }
     flushed(
+        rt,
         run_bytes(
+            rt,
             &space[..n],
             run,
             out,
@@ -814,13 +855,13 @@ fn run_some(
             saves,
             clock,
             listing,
-        ),
+        )?,
         out,
     )
 }
 
 // Runs a script on a fresh engine. A proved loop has to end, so it counts its reads down from a number that no script uses up.
-fn run_script(fd: i32) {
+fn run_script(rt: &impl Print, from: &mut impl Read) -> io::Result<()> {
     let mut out = output::empty();
     let mut text = [0u8; Limits::TEXT];
     let mut waiting = [0u16; Limits::DRAWS];
@@ -840,7 +881,8 @@ fn run_script(fd: i32) {
     let mut reads = u64::MAX;
     while 0 < reads {
         run = run_some(
-            fd,
+            rt,
+            from,
             run,
             &mut out,
             &mut text,
@@ -851,12 +893,13 @@ fn run_script(fd: i32) {
             &mut saves,
             &mut clock,
             &mut listing,
-        );
+        )?;
         if run.over {
-            return;
+            return Ok(());
         }
         reads -= 1;
     }
+    Ok(())
 }
 
 // Whether a name is the word `rows`.
@@ -876,34 +919,26 @@ fn is_rows(name: &[u8]) -> bool {
     name[3] == b's'
 }
 
-fn run_file(i: usize) {
-    let mut name = io::buffer();
-    let n = os::arg(i, &mut name);
-    put(b"== ");
-    put(&name[..n]);
-    put(b"\n");
-    if is_rows(&name[..n]) {
-        rows::run();
-        return;
+fn run_file(rt: &(impl Print + Eprint + Files), name: &str) -> io::Result<()> {
+    put(rt, b"== ")?;
+    put(rt, name.as_bytes())?;
+    put(rt, b"\n")?;
+    if is_rows(name.as_bytes()) {
+        return rows::run(rt);
     }
-    let fd = os::open_read(&name[..n]);
-    if fd < 0 {
-        os::fail(&name[..n]);
-        return;
+    match File::open(rt, name) {
+        Ok(mut file) => run_script(rt, &mut file),
+        Err(e) => eprintln!(rt; "{name}: {e}"),
     }
-    run_script(fd);
-    libc::close(fd);
 }
 
-fn main() {
-    let n = os::arg_count();
-    if n < 2 {
-        run_script(STDIN_FILENO);
-        return;
+fn main(rt: HostRuntime) -> io::Result<()> {
+    let names = env::args(&rt)?;
+    if names.len() < 2 {
+        return run_script(&rt, &mut rt.stdin());
     }
-    let mut i = 1;
-    while i < n {
-        run_file(i);
-        i += 1;
+    for name in names.skip(1) {
+        run_file(&rt, name.as_str())?;
     }
+    Ok(())
 }

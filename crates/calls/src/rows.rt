@@ -1,6 +1,7 @@
 // A list of rows, of right lengths and of wrong ones, run by one call of `script::run` on a fresh engine, then one row more on a clock close to its limit.
 use output::Buffer;
 use script::Row;
+use std::io;
 use store::Engine;
 
 #[derive(Clone, Copy)]
@@ -71,25 +72,32 @@ fn late() -> [u64; Row::WIDTH] {
 }
 
 // Puts the first numbers of so many parts of the outputs.
-fn put_firsts(out: &mut Buffer, waits: usize, outputs: &[u64], count: u64) -> usize {
+fn put_firsts(
+    rt: &impl Print,
+    out: &mut Buffer,
+    waits: usize,
+    outputs: &[u64],
+    count: u64,
+) -> io::Result<usize> {
     let mut n = waits;
     let mut left = count;
     let mut at = 0;
     while 0 < left {
         if outputs.len() - at < Row::OUTPUT {
-            return n;
+            return Ok(n);
         }
         let end = at + Size::SHOWN;
-        n = output::put(out, n, b"  ");
-        n = output::put_line(out, n, &outputs[at..end], b' ');
+        n = output::put(rt, out, n, b"  ")?;
+        n = output::put_line(rt, out, n, &outputs[at..end], b' ')?;
         at += Row::OUTPUT;
         left -= 1;
     }
-    n
+    Ok(n)
 }
 
 // Runs rows, and puts how many were run, the answers, the first numbers of the outputs and the clock.
 fn run_rows(
+    rt: &impl Print,
     out: &mut Buffer,
     rows: &[u64],
     count: u64,
@@ -97,7 +105,7 @@ fn run_rows(
     state: &mut State,
     saves: &mut Saves,
     clock: &mut Time,
-) {
+) -> io::Result<()> {
     let mut outputs = [9u64; Size::OUTPUTS];
     let mut answers = [8u64; Size::ANSWERS];
     let ran = script::run(
@@ -112,21 +120,23 @@ fn run_rows(
         &mut outputs,
         &mut answers,
     );
-    let a = output::put_line(out, 0, &[ran as u64], b' ');
-    let b = output::put_rows(out, a, &answers, Row::ANSWER, count, b"", b' ');
-    let c = put_firsts(out, b, &outputs, count);
-    let d = output::put_line(out, c, clock, b' ');
-    output::flush(out, d);
+    let a = output::put_line(rt, out, 0, &[ran as u64], b' ')?;
+    let b = output::put_rows(rt, out, a, &answers, Row::ANSWER, count, b"", b' ')?;
+    let c = put_firsts(rt, out, b, &outputs, count)?;
+    let d = output::put_line(rt, out, c, clock, b' ')?;
+    output::flush(rt, out, d)?;
+    Ok(())
 }
 
 // Runs the rows on a fresh engine, and the late one.
-pub fn run() {
+pub fn run(rt: &impl Print) -> io::Result<()> {
     let mut out = output::empty();
     let mut model = [0u8; Engine::MODEL];
     let mut state = [0i64; Engine::STATE];
     let mut saves = [0i64; Engine::SAVES];
     let mut clock = [0u64; Row::CLOCK];
     run_rows(
+        rt,
         &mut out,
         &script(),
         Size::ROWS as u64,
@@ -134,9 +144,10 @@ pub fn run() {
         &mut state,
         &mut saves,
         &mut clock,
-    );
+    )?;
     clock[0] = Size::LATE;
     run_rows(
+        rt,
         &mut out,
         &late(),
         1,
@@ -144,5 +155,5 @@ pub fn run() {
         &mut state,
         &mut saves,
         &mut clock,
-    );
+    )
 }

@@ -8,7 +8,7 @@ ghost use Rattle.value.specs.Range.{farthest, InRange};
 ghost use Rattle.evals.specs.Cells.{Literal};
 
 use eval::{Rate, offer};
-use libc::STDOUT_FILENO;
+use std::io;
 use tree::NodeKind;
 use value::{Range, Value};
 
@@ -110,12 +110,12 @@ fn rate(n: u64) -> Rate
     eval::rate_of(&nodes, &locals, 0)
 }
 
-fn say(text: &[u8]) {
-    io::write_all(STDOUT_FILENO, text);
+fn say(rt: &impl Print, text: &[u8]) -> io::Result<()> {
+    rt.write_all(text)
 }
 
-fn say_natural(n: u64) {
-    io::print_decimal(STDOUT_FILENO, n);
+fn say_natural(rt: &impl Print, n: u64) -> io::Result<()> {
+    rt.print(n)
 }
 
 // How far a number of the range is from 0.
@@ -129,117 +129,125 @@ fn size(z: i64) -> u64 {
     z as u64
 }
 
-fn say_number(z: i64) {
+fn say_number(rt: &impl Print, z: i64) -> io::Result<()> {
     if z < 0 {
-        say(b"-");
+        say(rt, b"-")?;
     }
-    say_natural(size(z));
+    say_natural(rt, size(z))
 }
 
-fn say_value(v: Value) {
+fn say_value(rt: &impl Print, v: Value) -> io::Result<()> {
     match v {
-        Value::Is(z) => say_number(z),
-        Value::Missing => say(b"none"),
+        Value::Is(z) => say_number(rt, z),
+        Value::Missing => say(rt, b"none"),
     }
 }
 
-fn value_line(name: &[u8], v: Value) {
-    say(name);
-    say(b",");
-    say_value(v);
-    say(b"\n");
+fn value_line(rt: &impl Print, name: &[u8], v: Value) -> io::Result<()> {
+    say(rt, name)?;
+    say(rt, b",")?;
+    say_value(rt, v)?;
+    say(rt, b"\n")
 }
 
-fn set_line(name: &[u8], b: bool) {
-    say(name);
+fn set_line(rt: &impl Print, name: &[u8], b: bool) -> io::Result<()> {
+    say(rt, name)?;
     if b {
-        say(b",in\n");
-        return;
+        return say(rt, b",in\n");
     }
-    say(b",out\n");
+    say(rt, b",out\n")
 }
 
-fn gate_line(name: &[u8], kind: u8) {
-    say(name);
-    say(b",");
-    say_natural(kind as u64);
-    say(b"\n");
+fn gate_line(rt: &impl Print, name: &[u8], kind: u8) -> io::Result<()> {
+    say(rt, name)?;
+    say(rt, b",")?;
+    say_natural(rt, kind as u64)?;
+    say(rt, b"\n")
 }
 
-fn say_rate(r: Rate) {
+fn say_rate(rt: &impl Print, r: Rate) -> io::Result<()> {
     match r {
-        Rate::Is(n) => say_natural(n),
-        Rate::Missing => say(b"none"),
+        Rate::Is(n) => say_natural(rt, n),
+        Rate::Missing => say(rt, b"none"),
     }
 }
 
-fn rate_line(name: &[u8], r: Rate) {
-    say(name);
-    say(b",");
-    say_rate(r);
-    say(b"\n");
+fn rate_line(rt: &impl Print, name: &[u8], r: Rate) -> io::Result<()> {
+    say(rt, name)?;
+    say(rt, b",")?;
+    say_rate(rt, r)?;
+    say(rt, b"\n")
 }
 
-fn quotients() {
-    value_line(b"-7/2", quotient(minus(7), plus(2)));
-    value_line(b"7/-2", quotient(plus(7), minus(2)));
-    value_line(b"-7/-2", quotient(minus(7), minus(2)));
-    value_line(b"-1/1099511627775", quotient(minus(1), plus(1099511627775)));
-}
-
-fn quotient_ends() {
-    value_line(b"-2147483648/-1", quotient(minus(2147483648), minus(1)));
+fn quotients(rt: &impl Print) -> io::Result<()> {
+    value_line(rt, b"-7/2", quotient(minus(7), plus(2)))?;
+    value_line(rt, b"7/-2", quotient(plus(7), minus(2)))?;
+    value_line(rt, b"-7/-2", quotient(minus(7), minus(2)))?;
     value_line(
+        rt,
+        b"-1/1099511627775",
+        quotient(minus(1), plus(1099511627775)),
+    )
+}
+
+fn quotient_ends(rt: &impl Print) -> io::Result<()> {
+    value_line(rt, b"-2147483648/-1", quotient(minus(2147483648), minus(1)))?;
+    value_line(
+        rt,
         b"-1099511627775/-1",
         quotient(minus(1099511627775), minus(1)),
-    );
-    value_line(b"7/0", quotient(plus(7), plus(0)));
+    )?;
+    value_line(rt, b"7/0", quotient(plus(7), plus(0)))
 }
 
-fn rest(name: &[u8], v: i64) {
-    set_line(name, in_rest(plus(3), plus(5), plus(4), v));
+fn rest(rt: &impl Print, name: &[u8], v: i64) -> io::Result<()> {
+    set_line(rt, name, in_rest(plus(3), plus(5), plus(4), v))
 }
 
-fn sets() {
-    rest(b"2 in 3..5\\4", 2);
-    rest(b"3 in 3..5\\4", 3);
-    rest(b"4 in 3..5\\4", 4);
-    rest(b"5 in 3..5\\4", 5);
-    rest(b"6 in 3..5\\4", 6);
+fn sets(rt: &impl Print) -> io::Result<()> {
+    rest(rt, b"2 in 3..5\\4", 2)?;
+    rest(rt, b"3 in 3..5\\4", 3)?;
+    rest(rt, b"4 in 3..5\\4", 4)?;
+    rest(rt, b"5 in 3..5\\4", 5)?;
+    rest(rt, b"6 in 3..5\\4", 6)
 }
 
-fn empty() {
-    set_line(b"4 in 5..4", in_range(plus(5), plus(4), 4));
-    set_line(b"5 in 5..4", in_range(plus(5), plus(4), 5));
+fn empty(rt: &impl Print) -> io::Result<()> {
+    set_line(rt, b"4 in 5..4", in_range(plus(5), plus(4), 4))?;
+    set_line(rt, b"5 in 5..4", in_range(plus(5), plus(4), 5))
 }
 
 // All values.
-fn all(name: &[u8], v: i64) {
-    set_line(name, in_range(minus(1099511627775), plus(1099511627775), v));
+fn all(rt: &impl Print, name: &[u8], v: i64) -> io::Result<()> {
+    set_line(
+        rt,
+        name,
+        in_range(minus(1099511627775), plus(1099511627775), v),
+    )
 }
 
-fn ends() {
-    all(b"least in all", Range::LEAST);
-    all(b"greatest in all", Range::GREATEST);
+fn ends(rt: &impl Print) -> io::Result<()> {
+    all(rt, b"least in all", Range::LEAST)?;
+    all(rt, b"greatest in all", Range::GREATEST)
 }
 
-fn gates() {
-    gate_line(b"[0>0] -> {c![7/0],1}", gated(0, 7));
-    gate_line(b"[2>0] -> {c![7/2],1}", gated(2, 7));
+fn gates(rt: &impl Print) -> io::Result<()> {
+    gate_line(rt, b"[0>0] -> {c![7/0],1}", gated(0, 7))?;
+    gate_line(rt, b"[2>0] -> {c![7/2],1}", gated(2, 7))
 }
 
-fn rates() {
-    rate_line(b"rate 100000", rate(1000000000));
-    rate_line(b"rate 100000.0001", rate(1000000001));
-    rate_line(b"rate 1099511627775", rate(10995116277750000));
+fn rates(rt: &impl Print) -> io::Result<()> {
+    rate_line(rt, b"rate 100000", rate(1000000000))?;
+    rate_line(rt, b"rate 100000.0001", rate(1000000001))?;
+    rate_line(rt, b"rate 1099511627775", rate(10995116277750000))
 }
 
-fn main() {
-    quotients();
-    quotient_ends();
-    sets();
-    empty();
-    ends();
-    gates();
-    rates();
+fn main(rt: HostRuntime) -> io::Result<()> {
+    quotients(&rt)?;
+    quotient_ends(&rt)?;
+    sets(&rt)?;
+    empty(&rt)?;
+    ends(&rt)?;
+    gates(&rt)?;
+    rates(&rt)
 }

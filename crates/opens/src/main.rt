@@ -2,9 +2,12 @@
 
 // Opens model texts: prints `accepted` and the numbers of variables, definitions, sums, channel names and starting processes, or `refused`, the number of
 // the first no and its place. It reads standard input, or each file that an argument names, after a line with the name.
-use libc::{STDIN_FILENO, STDOUT_FILENO};
 use opening::Opened;
 use settle::Model;
+use std::fs::File;
+use std::io::Read;
+use std::rt::Files;
+use std::{env, io};
 use syntax::question;
 use token::Limits;
 
@@ -16,34 +19,34 @@ impl Input {
     const MOST: usize = Limits::TEXT + 1;
 }
 
-fn put(s: &[u8]) {
-    io::write_all(STDOUT_FILENO, s);
+fn put(rt: &impl Print, s: &[u8]) -> io::Result<()> {
+    rt.write_all(s)
 }
 
-fn put_number(n: usize) {
-    put(b",");
-    io::print_decimal(STDOUT_FILENO, n as u64);
+fn put_number(rt: &impl Print, n: usize) -> io::Result<()> {
+    put(rt, b",")?;
+    rt.print(n)
 }
 
-fn put_accepted(model: Model, processes: usize) {
-    put(b"accepted");
-    put_number(model.variables);
-    put_number(model.definitions);
-    put_number(model.sums);
-    put_number(model.channels);
-    put_number(processes);
-    put(b"\n");
+fn put_accepted(rt: &impl Print, model: Model, processes: usize) -> io::Result<()> {
+    put(rt, b"accepted")?;
+    put_number(rt, model.variables)?;
+    put_number(rt, model.definitions)?;
+    put_number(rt, model.sums)?;
+    put_number(rt, model.channels)?;
+    put_number(rt, processes)?;
+    put(rt, b"\n")
 }
 
-fn put_refused(number: usize, place: usize) {
-    put(b"refused");
-    put_number(number);
-    put_number(place);
-    put(b"\n");
+fn put_refused(rt: &impl Print, number: usize, place: usize) -> io::Result<()> {
+    put(rt, b"refused")?;
+    put_number(rt, number)?;
+    put_number(rt, place)?;
+    put(rt, b"\n")
 }
 
 // Opens a text with tables of its own.
-fn put_opened(text: &[u8]) {
+fn put_opened(rt: &impl Print, text: &[u8]) -> io::Result<()> {
     let mut kinds = [0u8; Limits::TEXT];
     let mut places = [0u16; Limits::TEXT];
     let mut sizes = [0u16; Limits::TEXT];
@@ -66,41 +69,34 @@ fn put_opened(text: &[u8]) {
         &mut names,
     );
     match opened {
-        Opened::Refused(number, place) => put_refused(number, place),
-        Opened::Accepted(model, processes) => put_accepted(model, processes),
+        Opened::Refused(number, place) => put_refused(rt, number, place),
+        Opened::Accepted(model, processes) => put_accepted(rt, model, processes),
     }
 }
 
-fn show(fd: i32) {
+fn show(rt: &impl Print, from: &mut impl Read) -> io::Result<()> {
     let mut space = [0u8; Input::MOST];
-    let n = io::read_full(fd, &mut space);
-    put_opened(&space[..n]);
+    let n = reading::read_full(from, &mut space)?;
+    put_opened(rt, &space[..n])
 }
 
-fn show_file(i: usize) {
-    let mut name = io::buffer();
-    let n = os::arg(i, &mut name);
-    put(b"== ");
-    put(&name[..n]);
-    put(b"\n");
-    let fd = os::open_read(&name[..n]);
-    if fd < 0 {
-        os::fail(&name[..n]);
-        return;
+fn show_file(rt: &(impl Print + Eprint + Files), name: &str) -> io::Result<()> {
+    put(rt, b"== ")?;
+    put(rt, name.as_bytes())?;
+    put(rt, b"\n")?;
+    match File::open(rt, name) {
+        Ok(mut file) => show(rt, &mut file),
+        Err(e) => eprintln!(rt; "{name}: {e}"),
     }
-    show(fd);
-    libc::close(fd);
 }
 
-fn main() {
-    let n = os::arg_count();
-    if n < 2 {
-        show(STDIN_FILENO);
-        return;
+fn main(rt: HostRuntime) -> io::Result<()> {
+    let names = env::args(&rt)?;
+    if names.len() < 2 {
+        return show(&rt, &mut rt.stdin());
     }
-    let mut i = 1;
-    while i < n {
-        show_file(i);
-        i += 1;
+    for name in names.skip(1) {
+        show_file(&rt, name.as_str())?;
     }
+    Ok(())
 }

@@ -4,7 +4,7 @@
 // Each function takes how many bytes wait, and answers how many wait then.
 ghost use Rattle.std.specs.Prelude.{◌≡◌, ◌<◌, nat_abs};
 
-use libc::STDOUT_FILENO;
+use std::io;
 
 #[derive(Clone, Copy)]
 pub struct Limits;
@@ -22,45 +22,43 @@ pub fn empty() -> Buffer {
 }
 
 // Writes the first bytes.
-fn write(out: &[u8], n: usize) {
+fn write(rt: &impl Print, out: &[u8], n: usize) -> io::Result<()> {
     if n < out.len() {
-        io::write_all(STDOUT_FILENO, &out[..n]);
-        return;
+        return rt.write_all(&out[..n]);
     }
-    io::write_all(STDOUT_FILENO, out);
+    rt.write_all(out)
 }
 
 // Writes what waits.
-pub fn flush(out: &Buffer, waits: usize) -> usize {
-    write(out, waits);
-    0
+pub fn flush(rt: &impl Print, out: &Buffer, waits: usize) -> io::Result<usize> {
+    write(rt, out, waits)?;
+    Ok(0)
 }
 
-pub fn put_byte(out: &mut Buffer, waits: usize, b: u8) -> usize {
+pub fn put_byte(rt: &impl Print, out: &mut Buffer, waits: usize, b: u8) -> io::Result<usize> {
     if waits < Limits::BUFFER {
         out[waits] = b;
-        return waits + 1;
+        return Ok(waits + 1);
     }
-    io::write_all(STDOUT_FILENO, out);
+    rt.write_all(out)?;
     out[0] = b;
-    1
+    Ok(1)
 }
 
-pub fn put(out: &mut Buffer, waits: usize, s: &[u8]) -> usize {
+pub fn put(rt: &impl Print, out: &mut Buffer, waits: usize, s: &[u8]) -> io::Result<usize> {
     let mut n = waits;
     let mut i = 0;
     while i < s.len() {
-        n = put_byte(out, n, s[i]);
+        n = put_byte(rt, out, n, s[i])?;
         i += 1;
     }
-    n
+    Ok(n)
 }
 
 // A number's decimal digits.
-pub fn put_number(out: &mut Buffer, waits: usize, x: u64) -> usize {
-    let mut digits = [0u8; 20];
-    let n = io::decimal(x, &mut digits);
-    put(out, waits, &digits[..n])
+pub fn put_number(rt: &impl Print, out: &mut Buffer, waits: usize, x: u64) -> io::Result<usize> {
+    let mut digits = itoa::Buffer::new();
+    put(rt, out, waits, digits.format(x).as_bytes())
 }
 
 // How far a number is from 0.
@@ -74,12 +72,12 @@ fn size(z: i64) -> u64
 }
 
 // A number's decimal digits, after a `-` if it is negative.
-pub fn put_signed(out: &mut Buffer, waits: usize, z: i64) -> usize {
+pub fn put_signed(rt: &impl Print, out: &mut Buffer, waits: usize, z: i64) -> io::Result<usize> {
     if z < 0 {
-        let n = put_byte(out, waits, b'-');
-        return put_number(out, n, size(z));
+        let n = put_byte(rt, out, waits, b'-')?;
+        return put_number(rt, out, n, size(z));
     }
-    put_number(out, waits, size(z))
+    put_number(rt, out, waits, size(z))
 }
 
 // What stands after number i of a line of n: a gap, or the line's end.
@@ -93,31 +91,44 @@ fn after(i: usize, n: usize, gap: u8) -> u8
 }
 
 // A line of numbers.
-pub fn put_line(out: &mut Buffer, waits: usize, numbers: &[u64], gap: u8) -> usize {
+pub fn put_line(
+    rt: &impl Print,
+    out: &mut Buffer,
+    waits: usize,
+    numbers: &[u64],
+    gap: u8,
+) -> io::Result<usize> {
     let mut n = waits;
     let mut i = 0;
     while i < numbers.len() {
-        n = put_number(out, n, numbers[i]);
-        n = put_byte(out, n, after(i, numbers.len(), gap));
+        n = put_number(rt, out, n, numbers[i])?;
+        n = put_byte(rt, out, n, after(i, numbers.len(), gap))?;
         i += 1;
     }
-    n
+    Ok(n)
 }
 
 // A line of signed numbers.
-pub fn put_signed_line(out: &mut Buffer, waits: usize, numbers: &[i64], gap: u8) -> usize {
+pub fn put_signed_line(
+    rt: &impl Print,
+    out: &mut Buffer,
+    waits: usize,
+    numbers: &[i64],
+    gap: u8,
+) -> io::Result<usize> {
     let mut n = waits;
     let mut i = 0;
     while i < numbers.len() {
-        n = put_signed(out, n, numbers[i]);
-        n = put_byte(out, n, after(i, numbers.len(), gap));
+        n = put_signed(rt, out, n, numbers[i])?;
+        n = put_byte(rt, out, n, after(i, numbers.len(), gap))?;
         i += 1;
     }
-    n
+    Ok(n)
 }
 
 // The first rows of so many numbers each, as far as they are there, each on a line of its own that begins so.
 pub fn put_rows(
+    rt: &impl Print,
     out: &mut Buffer,
     waits: usize,
     numbers: &[u64],
@@ -125,33 +136,35 @@ pub fn put_rows(
     count: u64,
     begin: &[u8],
     gap: u8,
-) -> usize {
+) -> io::Result<usize> {
     let mut n = waits;
     let mut left = count;
     let mut at = 0;
     while 0 < left {
         if numbers.len() - at < width {
-            return n;
+            return Ok(n);
         }
         let end = at + width;
-        n = put(out, n, begin);
-        n = put_line(out, n, &numbers[at..end], gap);
+        n = put(rt, out, n, begin)?;
+        n = put_line(rt, out, n, &numbers[at..end], gap)?;
         at = end;
         left -= 1;
     }
-    n
+    Ok(n)
 }
 
 // The first entries of a listing.
 pub fn put_entries(
+    rt: &impl Print,
     out: &mut Buffer,
     waits: usize,
     listing: &[u64],
     count: u64,
     begin: &[u8],
     gap: u8,
-) -> usize {
+) -> io::Result<usize> {
     put_rows(
+        rt,
         out,
         waits,
         listing,

@@ -5,7 +5,10 @@
 ghost use Rattle.std.specs.Prelude.{◌≤◌, length};
 ghost use Rattle.token.specs.Questions.{text_limit};
 
-use libc::{STDIN_FILENO, STDOUT_FILENO};
+use std::fs::File;
+use std::io::Read;
+use std::rt::Files;
+use std::{env, io};
 use syntax::question;
 use syntax::question::Asked;
 use token::{Judged, Limits};
@@ -18,31 +21,31 @@ impl Input {
     const MOST: usize = Limits::TEXT + 1;
 }
 
-fn put(s: &[u8]) {
-    io::write_all(STDOUT_FILENO, s);
+fn put(rt: &impl Print, s: &[u8]) -> io::Result<()> {
+    rt.write_all(s)
 }
 
-fn put_number(n: usize) {
-    io::print_decimal(STDOUT_FILENO, n as u64);
+fn put_number(rt: &impl Print, n: usize) -> io::Result<()> {
+    rt.print(n)
 }
 
-fn put_two(word: &[u8], a: usize, b: usize) {
-    put(word);
-    put(b",");
-    put_number(a);
-    put(b",");
-    put_number(b);
-    put(b"\n");
+fn put_two(rt: &impl Print, word: &[u8], a: usize, b: usize) -> io::Result<()> {
+    put(rt, word)?;
+    put(rt, b",")?;
+    put_number(rt, a)?;
+    put(rt, b",")?;
+    put_number(rt, b)?;
+    put(rt, b"\n")
 }
 
-fn put_fits(tokens: usize) {
-    put(b"fits,");
-    put_number(tokens);
-    put(b"\n");
+fn put_fits(rt: &impl Print, tokens: usize) -> io::Result<()> {
+    put(rt, b"fits,")?;
+    put_number(rt, tokens)?;
+    put(rt, b"\n")
 }
 
-fn put_refused(number: usize, place: usize) {
-    put_two(b"refused", number, place);
+fn put_refused(rt: &impl Print, number: usize, place: usize) -> io::Result<()> {
+    put_two(rt, b"refused", number, place)
 }
 
 // The place of token k, or the text's end past the last of n.
@@ -56,7 +59,7 @@ fn place(places: &[u16], n: usize, k: usize, end: usize) -> usize
 }
 
 // Questions 5 and 6.
-fn put_read(text: &[u8])
+fn put_read(rt: &impl Print, text: &[u8]) -> io::Result<()>
     requires { length text.now ≤ text_limit }
 {
     let mut kinds = [0u8; Limits::TEXT];
@@ -66,47 +69,40 @@ fn put_read(text: &[u8])
     let n = token::fill(text, &mut kinds, &mut places, &mut sizes);
     let asked = question::judge_text(&kinds[..n], &mut nodes);
     match asked {
-        Asked::Misfit(k) => put_refused(5, place(&places, n, k, text.len())),
-        Asked::Crowded(k) => put_refused(6, place(&places, n, k, text.len())),
-        Asked::Passed(_) => put_fits(n),
+        Asked::Misfit(k) => put_refused(rt, 5, place(&places, n, k, text.len())),
+        Asked::Crowded(k) => put_refused(rt, 6, place(&places, n, k, text.len())),
+        Asked::Passed(_) => put_fits(rt, n),
     }
 }
 
-fn show(fd: i32) {
+fn show(rt: &impl Print, from: &mut impl Read) -> io::Result<()> {
     let mut space = [0u8; Input::MOST];
-    let n = io::read_full(fd, &mut space);
+    let n = reading::read_full(from, &mut space)?;
     let text = &space[..n];
     let judged = token::judge_bytes(text);
     match judged {
-        Judged::Refused(number, place) => put_refused(number as usize, place),
-        Judged::Passed => put_read(text),
+        Judged::Refused(number, place) => put_refused(rt, number as usize, place),
+        Judged::Passed => put_read(rt, text),
     }
 }
 
-fn show_file(i: usize) {
-    let mut name = io::buffer();
-    let n = os::arg(i, &mut name);
-    put(b"== ");
-    put(&name[..n]);
-    put(b"\n");
-    let fd = os::open_read(&name[..n]);
-    if fd < 0 {
-        os::fail(&name[..n]);
-        return;
+fn show_file(rt: &(impl Print + Eprint + Files), name: &str) -> io::Result<()> {
+    put(rt, b"== ")?;
+    put(rt, name.as_bytes())?;
+    put(rt, b"\n")?;
+    match File::open(rt, name) {
+        Ok(mut file) => show(rt, &mut file),
+        Err(e) => eprintln!(rt; "{name}: {e}"),
     }
-    show(fd);
-    libc::close(fd);
 }
 
-fn main() {
-    let n = os::arg_count();
-    if n < 2 {
-        show(STDIN_FILENO);
-        return;
+fn main(rt: HostRuntime) -> io::Result<()> {
+    let names = env::args(&rt)?;
+    if names.len() < 2 {
+        return show(&rt, &mut rt.stdin());
     }
-    let mut i = 1;
-    while i < n {
-        show_file(i);
-        i += 1;
+    for name in names.skip(1) {
+        show_file(&rt, name.as_str())?;
     }
+    Ok(())
 }

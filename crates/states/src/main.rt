@@ -4,8 +4,8 @@
 ghost use Rattle.std.specs.Prelude.{◌≡◌, true};
 ghost use Rattle.state.specs.Read.{Passed};
 
-use libc::STDOUT_FILENO;
 use state::Layout;
+use std::io;
 use value::Range;
 
 // The length of a state's numbers, and a model with three sums and two channel names. Sum 1 stands in definition 1, the others in definition 0.
@@ -24,8 +24,8 @@ impl Sample {
     const CHANNELS: usize = 2;
 }
 
-fn say(text: &[u8]) {
-    io::write_all(STDOUT_FILENO, text);
+fn say(rt: &impl Print, text: &[u8]) -> io::Result<()> {
+    rt.write_all(text)
 }
 
 fn is_good(state: &Numbers) -> bool
@@ -35,13 +35,12 @@ fn is_good(state: &Numbers) -> bool
     state::is_state(state, &scopes, Sample::SUMS, Sample::CHANNELS)
 }
 
-fn test(label: &[u8], state: &Numbers) {
-    say(label);
+fn test(rt: &impl Print, label: &[u8], state: &Numbers) -> io::Result<()> {
+    say(rt, label)?;
     if is_good(state) {
-        say(b",yes\n");
-        return;
+        return say(rt, b",yes\n");
     }
-    say(b",no\n");
+    say(rt, b",no\n")
 }
 
 fn push(state: &mut Numbers, sum: u8, locals: &[i64], definition: u8) {
@@ -113,17 +112,17 @@ fn fill(state: &mut Numbers) {
 }
 
 // The test of the sample with another number at a place: the first process stands at 2, the first pair at 2562.
-fn damaged(label: &[u8], at: usize, z: i64) {
+fn damaged(rt: &impl Print, label: &[u8], at: usize, z: i64) -> io::Result<()> {
     let mut state = [0; Sample::LENGTH];
     fill(&mut state);
     if at < Sample::LENGTH {
         state[at] = z;
     }
-    test(label, &state);
+    test(rt, label, &state)
 }
 
 // The test of the sample with another second pair.
-fn second_pair(label: &[u8], row: &Row) {
+fn second_pair(rt: &impl Print, label: &[u8], row: &Row) -> io::Result<()> {
     let mut state = [0; Sample::LENGTH];
     fill(&mut state);
     let at = Layout::PAIRS + Layout::PAIR;
@@ -137,82 +136,82 @@ fn second_pair(label: &[u8], row: &Row) {
     state[at + 7] = row[7];
     state[at + 8] = row[8];
     state[at + 9] = row[9];
-    test(label, &state);
+    test(rt, label, &state)
 }
 
-fn counts() {
-    damaged(b"processes -1", 0, -1);
-    damaged(b"processes 4", 0, 4);
-    damaged(b"processes 2", 0, 2);
-    damaged(b"processes 257", 0, 257);
-    damaged(b"processes least", 0, -9223372036854775808);
-    damaged(b"processes greatest", 0, 9223372036854775807);
-    damaged(b"pairs -1", 1, -1);
-    damaged(b"pairs 4", 1, 4);
-    damaged(b"pairs 2", 1, 2);
-    damaged(b"pairs 257", 1, 257);
-    damaged(b"pairs least", 1, -9223372036854775808);
-    damaged(b"pairs greatest", 1, 9223372036854775807);
+fn counts(rt: &impl Print) -> io::Result<()> {
+    damaged(rt, b"processes -1", 0, -1)?;
+    damaged(rt, b"processes 4", 0, 4)?;
+    damaged(rt, b"processes 2", 0, 2)?;
+    damaged(rt, b"processes 257", 0, 257)?;
+    damaged(rt, b"processes least", 0, -9223372036854775808)?;
+    damaged(rt, b"processes greatest", 0, 9223372036854775807)?;
+    damaged(rt, b"pairs -1", 1, -1)?;
+    damaged(rt, b"pairs 4", 1, 4)?;
+    damaged(rt, b"pairs 2", 1, 2)?;
+    damaged(rt, b"pairs 257", 1, 257)?;
+    damaged(rt, b"pairs least", 1, -9223372036854775808)?;
+    damaged(rt, b"pairs greatest", 1, 9223372036854775807)
 }
 
-fn processes() {
-    damaged(b"sum 3", 2, 3);
-    damaged(b"sum -1", 2, -1);
-    damaged(b"sum least", 2, -9223372036854775808);
-    damaged(b"sum greatest", 2, 9223372036854775807);
-    damaged(b"sum of fewer locals", 2, 1);
-    damaged(b"sum of more locals", 2, 2);
-    damaged(b"local least", 3, Range::LEAST);
-    damaged(b"local below least", 3, Range::LEAST - 1);
-    damaged(b"local greatest", 4, Range::GREATEST);
-    damaged(b"local above greatest", 4, Range::GREATEST + 1);
-    damaged(b"first local past scope", 5, 1);
-    damaged(b"last local past scope", 10, 1);
-    damaged(b"eighth local in scope", 20, -1);
-    damaged(b"local of none", 23, 1);
-    damaged(b"first unused process", 32, 1);
-    damaged(b"last of the processes", 2561, 1);
+fn processes(rt: &impl Print) -> io::Result<()> {
+    damaged(rt, b"sum 3", 2, 3)?;
+    damaged(rt, b"sum -1", 2, -1)?;
+    damaged(rt, b"sum least", 2, -9223372036854775808)?;
+    damaged(rt, b"sum greatest", 2, 9223372036854775807)?;
+    damaged(rt, b"sum of fewer locals", 2, 1)?;
+    damaged(rt, b"sum of more locals", 2, 2)?;
+    damaged(rt, b"local least", 3, Range::LEAST)?;
+    damaged(rt, b"local below least", 3, Range::LEAST - 1)?;
+    damaged(rt, b"local greatest", 4, Range::GREATEST)?;
+    damaged(rt, b"local above greatest", 4, Range::GREATEST + 1)?;
+    damaged(rt, b"first local past scope", 5, 1)?;
+    damaged(rt, b"last local past scope", 10, 1)?;
+    damaged(rt, b"eighth local in scope", 20, -1)?;
+    damaged(rt, b"local of none", 23, 1)?;
+    damaged(rt, b"first unused process", 32, 1)?;
+    damaged(rt, b"last of the processes", 2561, 1)
 }
 
 // A process has its definition after its eighth local: the first one at 11, the third at 31.
-fn definitions() {
-    damaged(b"definition one more", 11, 1);
-    damaged(b"definition -1", 11, -1);
-    damaged(b"definition of the sum", 31, 1);
-    damaged(b"definition one less", 31, 0);
-    damaged(b"definition of none", 31, 2);
-    damaged(b"definition least", 31, -9223372036854775808);
-    damaged(b"definition greatest", 31, 9223372036854775807);
-    damaged(b"definition of another sum", 22, 0);
-    damaged(b"definition of no process", 41, 1);
+fn definitions(rt: &impl Print) -> io::Result<()> {
+    damaged(rt, b"definition one more", 11, 1)?;
+    damaged(rt, b"definition -1", 11, -1)?;
+    damaged(rt, b"definition of the sum", 31, 1)?;
+    damaged(rt, b"definition one less", 31, 0)?;
+    damaged(rt, b"definition of none", 31, 2)?;
+    damaged(rt, b"definition least", 31, -9223372036854775808)?;
+    damaged(rt, b"definition greatest", 31, 9223372036854775807)?;
+    damaged(rt, b"definition of another sum", 22, 0)?;
+    damaged(rt, b"definition of no process", 41, 1)
 }
 
-fn channels() {
-    damaged(b"kind 2", 2563, 2);
-    damaged(b"kind -1", 2563, -1);
-    damaged(b"name of no channel", 2563, 1);
-    damaged(b"number least", 2564, Range::LEAST);
-    damaged(b"number below least", 2564, Range::LEAST - 1);
-    damaged(b"number greatest", 2574, Range::GREATEST);
-    damaged(b"number above greatest", 2574, Range::GREATEST + 1);
-    damaged(b"name 0", 2584, 0);
-    damaged(b"name -1", 2584, -1);
-    damaged(b"name 2", 2584, 2);
+fn channels(rt: &impl Print) -> io::Result<()> {
+    damaged(rt, b"kind 2", 2563, 2)?;
+    damaged(rt, b"kind -1", 2563, -1)?;
+    damaged(rt, b"name of no channel", 2563, 1)?;
+    damaged(rt, b"number least", 2564, Range::LEAST)?;
+    damaged(rt, b"number below least", 2564, Range::LEAST - 1)?;
+    damaged(rt, b"number greatest", 2574, Range::GREATEST)?;
+    damaged(rt, b"number above greatest", 2574, Range::GREATEST + 1)?;
+    damaged(rt, b"name 0", 2584, 0)?;
+    damaged(rt, b"name -1", 2584, -1)?;
+    damaged(rt, b"name 2", 2584, 2)
 }
 
 // The third pair's channel is name 1 alone.
-fn items() {
-    damaged(b"no item", 2582, 0);
-    damaged(b"items -1", 2582, -1);
-    damaged(b"items least", 2582, -9223372036854775808);
-    damaged(b"items greatest", 2582, 9223372036854775807);
-    damaged(b"two items, the second 0", 2582, 2);
-    damaged(b"three items, two of them 0", 2582, 3);
-    damaged(b"four items", 2582, 4);
-    damaged(b"kind of an unused second item", 2585, 1);
-    damaged(b"value of an unused second item", 2586, 1);
-    damaged(b"kind of an unused third item", 2587, 1);
-    damaged(b"value of an unused third item", 2588, 1);
+fn items(rt: &impl Print) -> io::Result<()> {
+    damaged(rt, b"no item", 2582, 0)?;
+    damaged(rt, b"items -1", 2582, -1)?;
+    damaged(rt, b"items least", 2582, -9223372036854775808)?;
+    damaged(rt, b"items greatest", 2582, 9223372036854775807)?;
+    damaged(rt, b"two items, the second 0", 2582, 2)?;
+    damaged(rt, b"three items, two of them 0", 2582, 3)?;
+    damaged(rt, b"four items", 2582, 4)?;
+    damaged(rt, b"kind of an unused second item", 2585, 1)?;
+    damaged(rt, b"value of an unused second item", 2586, 1)?;
+    damaged(rt, b"kind of an unused third item", 2587, 1)?;
+    damaged(rt, b"value of an unused third item", 2588, 1)
 }
 
 // Pairs on a number, on two numbers, on a name and a number, and on a number, a name and a number.
@@ -224,65 +223,75 @@ fn fill_lists(state: &mut Numbers) {
 }
 
 // The test of those pairs with another number at a place: the second stands at 2572, the third at 2582, the fourth at 2592.
-fn damaged_list(label: &[u8], at: usize, z: i64) {
+fn damaged_list(rt: &impl Print, label: &[u8], at: usize, z: i64) -> io::Result<()> {
     let mut state = [0; Sample::LENGTH];
     fill_lists(&mut state);
     if at < Sample::LENGTH {
         state[at] = z;
     }
-    test(label, &state);
+    test(rt, label, &state)
 }
 
-fn lists() {
-    damaged_list(b"lists", 0, 0);
-    damaged_list(b"second item of kind 2", 2585, 2);
-    damaged_list(b"second item of kind -1", 2585, -1);
-    damaged_list(b"second item names no channel", 2585, 1);
-    damaged_list(b"second item least", 2586, Range::LEAST);
-    damaged_list(b"second item below least", 2586, Range::LEAST - 1);
-    damaged_list(b"second item greatest", 2586, Range::GREATEST);
-    damaged_list(b"second item above greatest", 2586, Range::GREATEST + 1);
-    damaged_list(b"first of two items names no channel", 2584, 2);
-    damaged_list(b"second of three items names channel 1", 2596, 1);
-    damaged_list(b"second of three items names no channel", 2596, 2);
-    damaged_list(b"third item of kind 2", 2597, 2);
-    damaged_list(b"third item names no channel", 2597, 1);
-    damaged_list(b"third item greatest", 2598, Range::GREATEST);
-    damaged_list(b"third item above greatest", 2598, Range::GREATEST + 1);
-    damaged_list(b"third item not counted", 2592, 2);
-    damaged_list(b"second item not counted", 2582, 1);
-    damaged_list(b"value of two items", 2579, 2);
-    damaged_list(b"three values of three items", 2599, 3);
-    damaged_list(b"ascending items", 2576, 1);
-    damaged_list(b"descending items", 2583, 0);
+fn lists(rt: &impl Print) -> io::Result<()> {
+    damaged_list(rt, b"lists", 0, 0)?;
+    damaged_list(rt, b"second item of kind 2", 2585, 2)?;
+    damaged_list(rt, b"second item of kind -1", 2585, -1)?;
+    damaged_list(rt, b"second item names no channel", 2585, 1)?;
+    damaged_list(rt, b"second item least", 2586, Range::LEAST)?;
+    damaged_list(rt, b"second item below least", 2586, Range::LEAST - 1)?;
+    damaged_list(rt, b"second item greatest", 2586, Range::GREATEST)?;
+    damaged_list(rt, b"second item above greatest", 2586, Range::GREATEST + 1)?;
+    damaged_list(rt, b"first of two items names no channel", 2584, 2)?;
+    damaged_list(rt, b"second of three items names channel 1", 2596, 1)?;
+    damaged_list(rt, b"second of three items names no channel", 2596, 2)?;
+    damaged_list(rt, b"third item of kind 2", 2597, 2)?;
+    damaged_list(rt, b"third item names no channel", 2597, 1)?;
+    damaged_list(rt, b"third item greatest", 2598, Range::GREATEST)?;
+    damaged_list(rt, b"third item above greatest", 2598, Range::GREATEST + 1)?;
+    damaged_list(rt, b"third item not counted", 2592, 2)?;
+    damaged_list(rt, b"second item not counted", 2582, 1)?;
+    damaged_list(rt, b"value of two items", 2579, 2)?;
+    damaged_list(rt, b"three values of three items", 2599, 3)?;
+    damaged_list(rt, b"ascending items", 2576, 1)?;
+    damaged_list(rt, b"descending items", 2583, 0)
 }
 
-fn values() {
-    damaged(b"no value", 2569, 0);
-    damaged(b"values -1", 2569, -1);
-    damaged(b"three values", 2579, 3);
-    damaged(b"value least", 2570, Range::LEAST);
-    damaged(b"value below least", 2570, Range::LEAST - 1);
-    damaged(b"second value greatest", 2581, Range::GREATEST);
-    damaged(b"second value above greatest", 2581, Range::GREATEST + 1);
-    damaged(b"second value of one", 2571, 1);
-    damaged(b"first unused pair", 2592, 1);
-    damaged(b"last of the pairs", 5121, 1);
+fn values(rt: &impl Print) -> io::Result<()> {
+    damaged(rt, b"no value", 2569, 0)?;
+    damaged(rt, b"values -1", 2569, -1)?;
+    damaged(rt, b"three values", 2579, 3)?;
+    damaged(rt, b"value least", 2570, Range::LEAST)?;
+    damaged(rt, b"value below least", 2570, Range::LEAST - 1)?;
+    damaged(rt, b"second value greatest", 2581, Range::GREATEST)?;
+    damaged(
+        rt,
+        b"second value above greatest",
+        2581,
+        Range::GREATEST + 1,
+    )?;
+    damaged(rt, b"second value of one", 2571, 1)?;
+    damaged(rt, b"first unused pair", 2592, 1)?;
+    damaged(rt, b"last of the pairs", 5121, 1)
 }
 
-fn order() {
-    second_pair(b"ascending values", &[1, 0, 4, 0, 0, 0, 0, 1, 2, 0]);
-    second_pair(b"equal pairs", &[1, 0, 4, 0, 0, 0, 0, 1, 1, 0]);
-    second_pair(b"descending values", &[1, 0, 4, 0, 0, 0, 0, 1, 0, 0]);
-    second_pair(b"descending channels", &[1, 0, 3, 0, 0, 0, 0, 2, 1, 2]);
-    second_pair(b"ascending names", &[1, 1, 0, 0, 0, 0, 0, 1, 9, 0]);
-    second_pair(b"equal names", &[1, 1, 1, 0, 0, 0, 0, 1, 9, 0]);
-    second_pair(b"descending names", &[1, 1, 1, 0, 0, 0, 0, 2, 9, 0]);
-    second_pair(b"more items, then fewer", &[2, 0, 4, 0, 0, 0, 0, 1, 1, 0]);
+fn order(rt: &impl Print) -> io::Result<()> {
+    second_pair(rt, b"ascending values", &[1, 0, 4, 0, 0, 0, 0, 1, 2, 0])?;
+    second_pair(rt, b"equal pairs", &[1, 0, 4, 0, 0, 0, 0, 1, 1, 0])?;
+    second_pair(rt, b"descending values", &[1, 0, 4, 0, 0, 0, 0, 1, 0, 0])?;
+    second_pair(rt, b"descending channels", &[1, 0, 3, 0, 0, 0, 0, 2, 1, 2])?;
+    second_pair(rt, b"ascending names", &[1, 1, 0, 0, 0, 0, 0, 1, 9, 0])?;
+    second_pair(rt, b"equal names", &[1, 1, 1, 0, 0, 0, 0, 1, 9, 0])?;
+    second_pair(rt, b"descending names", &[1, 1, 1, 0, 0, 0, 0, 2, 9, 0])?;
     second_pair(
+        rt,
+        b"more items, then fewer",
+        &[2, 0, 4, 0, 0, 0, 0, 1, 1, 0],
+    )?;
+    second_pair(
+        rt,
         b"fewer items, a greater number",
         &[1, 0, 5, 0, 0, 0, 0, 1, 1, 0],
-    );
+    )
 }
 
 fn digits(z: i64) -> u64 {
@@ -293,71 +302,72 @@ fn digits(z: i64) -> u64 {
 }
 
 // The numbers from one place to another, none of them negative.
-fn say_numbers(s: &[i64], from: usize, to: usize) {
+fn say_numbers(rt: &impl Print, s: &[i64], from: usize, to: usize) -> io::Result<()> {
     let mut i = from;
     while i < to {
         if s.len() <= i {
-            return;
+            return Ok(());
         }
-        say(b",");
-        io::print_decimal(STDOUT_FILENO, digits(s[i]));
+        say(rt, b",")?;
+        rt.print(digits(s[i]))?;
         i += 1;
     }
+    Ok(())
 }
 
 // Both counts, the first four processes and the first four pairs.
-fn show(label: &[u8], state: &Numbers) {
-    test(label, state);
-    say(b"counts");
-    say_numbers(state, 0, Layout::PROCESSES);
-    say(b"\nprocesses");
-    say_numbers(state, Layout::PROCESSES, 42);
-    say(b"\npairs");
-    say_numbers(state, Layout::PAIRS, 2602);
-    say(b"\n");
+fn show(rt: &impl Print, label: &[u8], state: &Numbers) -> io::Result<()> {
+    test(rt, label, state)?;
+    say(rt, b"counts")?;
+    say_numbers(rt, state, 0, Layout::PROCESSES)?;
+    say(rt, b"\nprocesses")?;
+    say_numbers(rt, state, Layout::PROCESSES, 42)?;
+    say(rt, b"\npairs")?;
+    say_numbers(rt, state, Layout::PAIRS, 2602)?;
+    say(rt, b"\n")
 }
 
-fn changes() {
+fn changes(rt: &impl Print) -> io::Result<()> {
     let mut state = [0; Sample::LENGTH];
-    show(b"fresh", &state);
+    show(rt, b"fresh", &state)?;
     fill(&mut state);
-    show(b"filled", &state);
+    show(rt, b"filled", &state)?;
     launch(&mut state, &[1, 0, 4, 0, 0, 0, 0, 2, 1, 2]);
-    show(b"lit again", &state);
+    show(rt, b"lit again", &state)?;
     launch(&mut state, &[1, 0, 4, 0, 0, 0, 0, 1, 6, 0]);
-    show(b"one more", &state);
+    show(rt, b"one more", &state)?;
     kill(&mut state, &[1, 0, 4, 0, 0, 0, 0, 1, 1, 0]);
-    show(b"killed", &state);
+    show(rt, b"killed", &state)?;
     kill(&mut state, &[1, 0, 4, 0, 0, 0, 0, 1, 1, 0]);
-    show(b"killed again", &state);
+    show(rt, b"killed again", &state)?;
     split(&mut state, 1);
-    show(b"split", &state);
+    show(rt, b"split", &state)?;
     end(&mut state, 0);
-    show(b"ended", &state);
+    show(rt, b"ended", &state)
 }
 
 // Lists come in by item count, then item for item, a number before a name.
-fn list_changes() {
+fn list_changes(rt: &impl Print) -> io::Result<()> {
     let mut state = [0; Sample::LENGTH];
     fill_lists(&mut state);
-    show(b"lists", &state);
+    show(rt, b"lists", &state)?;
     kill(&mut state, &[2, 0, 9, 0, 0, 0, 0, 1, 2, 0]);
     kill(&mut state, &[1, 0, 9, 0, 0, 0, 0, 1, 1, 0]);
-    show(b"others killed", &state);
+    show(rt, b"others killed", &state)?;
     kill(&mut state, &[2, 0, 9, 0, 0, 0, 0, 1, 1, 0]);
     launch(&mut state, &[2, 1, 1, 0, 4, 0, 0, 2, 9, 9]);
-    show(b"one for one", &state);
+    show(rt, b"one for one", &state)
 }
 
-fn main() {
-    counts();
-    processes();
-    definitions();
-    channels();
-    items();
-    lists();
-    values();
-    order();
-    changes();
-    list_changes();
+fn main(rt: HostRuntime) -> io::Result<()> {
+    counts(&rt)?;
+    processes(&rt)?;
+    definitions(&rt)?;
+    channels(&rt)?;
+    items(&rt)?;
+    lists(&rt)?;
+    values(&rt)?;
+    order(&rt)?;
+    changes(&rt)?;
+    list_changes(&rt)
 }

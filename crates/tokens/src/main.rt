@@ -6,7 +6,10 @@ ghost use Rattle.std.specs.Prelude.{◌≤◌, length};
 ghost use Rattle.token.specs.Contents.{Held};
 ghost use Rattle.token.specs.Questions.{text_limit};
 
-use libc::{STDIN_FILENO, STDOUT_FILENO};
+use std::fs::File;
+use std::io::Read;
+use std::rt::Files;
+use std::{env, io};
 use token::{Judged, Kind, Limits};
 
 #[derive(Clone, Copy)]
@@ -17,104 +20,105 @@ impl Input {
     const MOST: usize = Limits::TEXT + 1;
 }
 
-fn put(s: &[u8]) {
-    io::write_all(STDOUT_FILENO, s);
+fn put(rt: &impl Print, s: &[u8]) -> io::Result<()> {
+    rt.write_all(s)
 }
 
-fn put_number(n: usize) {
-    io::print_decimal(STDOUT_FILENO, n as u64);
+fn put_number(rt: &impl Print, n: usize) -> io::Result<()> {
+    rt.print(n)
 }
 
 // A word or a sign is its own bytes.
-fn put_kind(kind: u8, bytes: &[u8]) {
+fn put_kind(rt: &impl Print, kind: u8, bytes: &[u8]) -> io::Result<()> {
     match kind {
-        Kind::NAME => put(b"name"),
-        Kind::WHOLE => put(b"whole"),
-        Kind::DECIMAL => put(b"decimal"),
-        Kind::OTHER => put(b"other"),
-        _ => put(bytes),
+        Kind::NAME => put(rt, b"name"),
+        Kind::WHOLE => put(rt, b"whole"),
+        Kind::DECIMAL => put(rt, b"decimal"),
+        Kind::OTHER => put(rt, b"other"),
+        _ => put(rt, bytes),
     }
 }
 
-fn put_token(kind: u8, place: usize, bytes: &[u8]) {
-    put_number(place);
-    put(b",");
-    put_number(bytes.len());
-    put(b",");
-    put_kind(kind, bytes);
-    put(b"\n");
+fn put_token(rt: &impl Print, kind: u8, place: usize, bytes: &[u8]) -> io::Result<()> {
+    put_number(rt, place)?;
+    put(rt, b",")?;
+    put_number(rt, bytes.len())?;
+    put(rt, b",")?;
+    put_kind(rt, kind, bytes)?;
+    put(rt, b"\n")
 }
 
-fn put_table(text: &[u8], kinds: &[u8], places: &[u16], sizes: &[u16], n: usize)
+fn put_table(
+    rt: &impl Print,
+    text: &[u8],
+    kinds: &[u8],
+    places: &[u16],
+    sizes: &[u16],
+    n: usize,
+) -> io::Result<()>
     requires { Held text.now kinds.now places.now sizes.now n }
 {
     let mut i = 0;
     while i < n {
         let at = places[i] as usize;
         let e = at + sizes[i] as usize;
-        put_token(kinds[i], at, &text[at..e]);
+        put_token(rt, kinds[i], at, &text[at..e])?;
         i += 1;
     }
+    Ok(())
 }
 
-fn put_tokens(text: &[u8])
+fn put_tokens(rt: &impl Print, text: &[u8]) -> io::Result<()>
     requires { length text.now ≤ text_limit }
 {
     let mut kinds = [0u8; Limits::TEXT];
     let mut places = [0u16; Limits::TEXT];
     let mut sizes = [0u16; Limits::TEXT];
     let n = token::fill(text, &mut kinds, &mut places, &mut sizes);
-    put_table(text, &kinds, &places, &sizes, n);
+    put_table(rt, text, &kinds, &places, &sizes, n)
 }
 
-fn put_no(text: &[u8]) {
+fn put_no(rt: &impl Print, text: &[u8]) -> io::Result<()> {
     let judged = token::judge_bytes(text);
     match judged {
         Judged::Refused(number, place) => {
-            put(b"refused,");
-            io::print_decimal(STDOUT_FILENO, number);
-            put(b",");
-            put_number(place);
-            put(b"\n");
+            put(rt, b"refused,")?;
+            rt.print(number)?;
+            put(rt, b",")?;
+            put_number(rt, place)?;
+            put(rt, b"\n")
         }
-        Judged::Passed => {}
+        Judged::Passed => Ok(()),
     }
 }
 
-fn show(fd: i32) {
+fn show(rt: &impl Print, from: &mut impl Read) -> io::Result<()> {
     let mut space = [0u8; Input::MOST];
-    let n = io::read_full(fd, &mut space);
+    let n = reading::read_full(from, &mut space)?;
     let text = &space[..n];
     if n <= Limits::TEXT {
-        put_tokens(text);
+        put_tokens(rt, text)?;
     }
-    put_no(text);
+    put_no(rt, text)
 }
 
-fn show_file(i: usize) {
-    let mut name = io::buffer();
-    let n = os::arg(i, &mut name);
-    put(b"== ");
-    put(&name[..n]);
-    put(b"\n");
-    let fd = os::open_read(&name[..n]);
-    if fd < 0 {
-        os::fail(&name[..n]);
-        return;
+fn show_file(rt: &(impl Print + Eprint + Files), name: &str) -> io::Result<()> {
+    put(rt, b"== ")?;
+    put(rt, name.as_bytes())?;
+    put(rt, b"\n")?;
+    match File::open(rt, name) {
+        Ok(mut file) => show(rt, &mut file),
+        Err(e) => eprintln!(rt; "{name}: {e}"),
     }
-    show(fd);
-    libc::close(fd);
 }
 
-fn main() {
-    let n = os::arg_count();
-    if n < 2 {
-        show(STDIN_FILENO);
-        return;
+fn main(rt: HostRuntime) -> io::Result<()> {
+    let names = env::args(&rt)?;
+    if names.len() < 2 {
+        return show(&rt, &mut rt.stdin());
     }
-    let mut i = 1;
-    while i < n {
-        show_file(i);
-        i += 1;
+    for name in names.skip(1) {
+        show_file(&rt, name.as_str())?;
     }
+    Ok(())
 }

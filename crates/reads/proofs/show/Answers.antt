@@ -1,9 +1,7 @@
 -- A text that passes questions 2 to 4 is short enough to be read.
-use mathlib.Core.Path.{sym, ◌∙◌}
-use borrow.Author.Rules.{rules}
+use Rattle.std.proofs.Common.{sym, ◌∙◌}
 use Rattle.reads.proofs.Bounds.{passed-short}
 use Rattle.reads.proofs.show.Goals as goal
 
 pub put_read-requires : goal.put_read-requires
-put_read-requires c =
-    passed-short _ (sym c.in-Passed.is ∙ c.judge_bytes-judged.ensures)
+put_read-requires g c = passed-short _ (sym c.in-Passed.is ∙ c.judge_bytes-judged.ensures)

@@ -67,7 +67,7 @@ slice_bounds-list-end-then-row-eq-LIST-5 c =
 
 pub returns-then-row-eq-LIST : goal.returns-then-row-eq-LIST
 returns-then-row-eq-LIST c =
-    λ ws. rw c.of.ensures (listing-called c.args.row c.args.texts.now c.args.numbers.now ws c.args.model.now c.args.state.now c.args.saves.now c.args.clock c.args.outputs.now c.list-answer.result c.if-row-eq-LIST.true c.list-answer.new.1.1.0 c.list-answer.ensures)
+    λ ws. rw c.of.ensures (listing-called c.args.row c.args.texts.now c.args.numbers.now ws c.args.model.now c.args.state.now c.args.saves.now c.args.clock c.args.outputs.now c.list-answer.result c.if-row-eq-LIST.true c.list-answer.new.listing c.list-answer.ensures)
 
 pub slice_bounds-report-end : goal.slice_bounds-report-end
 slice_bounds-report-end c =
@@ -95,7 +95,7 @@ slice_bounds-report-end-then-row-eq-REPORT-5 c =
 
 pub returns-then-row-eq-REPORT : goal.returns-then-row-eq-REPORT
 returns-then-row-eq-REPORT c =
-    λ ws. rw c.of-then-row-eq-REPORT.ensures (reporting-called c.args.row c.args.texts.now c.args.numbers.now ws c.args.model.now c.args.state.now c.args.saves.now c.args.clock c.args.outputs.now c.report-answer.result c.if-row-eq-REPORT.true c.report-answer.new.1.1.0 c.report-answer.ensures)
+    λ ws. rw c.of-then-row-eq-REPORT.ensures (reporting-called c.args.row c.args.texts.now c.args.numbers.now ws c.args.model.now c.args.state.now c.args.saves.now c.args.clock c.args.outputs.now c.report-answer.result c.if-row-eq-REPORT.true c.report-answer.new.report c.report-answer.ensures)
 
 pub slice_bounds-step-end : goal.slice_bounds-step-end
 slice_bounds-step-end c =
@@ -123,7 +123,7 @@ slice_bounds-step-end-then-row-eq-STEP-5 c =
 
 pub returns-then-row-eq-STEP : goal.returns-then-row-eq-STEP
 returns-then-row-eq-STEP c =
-    λ ws. rw c.of-then-row-eq-STEP.ensures (stepping-called c.args.row c.args.texts.now c.args.numbers.now ws c.args.model.now c.args.state.now c.args.saves.now c.args.clock c.args.outputs.now c.step-answer.result c.if-row-eq-STEP.true c.step-answer.new.1.0 c.step-answer.new.1.1.0 c.step-answer.ensures)
+    λ ws. rw c.of-then-row-eq-STEP.ensures (stepping-called c.args.row c.args.texts.now c.args.numbers.now ws c.args.model.now c.args.state.now c.args.saves.now c.args.clock c.args.outputs.now c.step-answer.result c.if-row-eq-STEP.true c.step-answer.new.state c.step-answer.new.listing c.step-answer.ensures)
 
 pub call_timed-requires : goal.call_timed-requires
 call_timed-requires c =

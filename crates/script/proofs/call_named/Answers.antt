@@ -35,7 +35,7 @@ slice_bounds-save-end-then-row-eq-SAVE-5 c =
 
 pub returns-then-row-eq-SAVE : goal.returns-then-row-eq-SAVE
 returns-then-row-eq-SAVE c =
-    λ ns ws ls. rw c.of.ensures (saving-called c.args.row c.args.texts.now ns ws c.args.model.now c.args.state.now c.args.saves.now c.args.clock ls c.save-answer.result c.if-row-eq-SAVE.true c.save-answer.new.1.1.0 c.save-answer.ensures)
+    λ ns ws ls. rw c.of.ensures (saving-called c.args.row c.args.texts.now ns ws c.args.model.now c.args.state.now c.args.saves.now c.args.clock ls c.save-answer.result c.if-row-eq-SAVE.true c.save-answer.new.saves c.save-answer.ensures)
 
 pub slice_bounds-return_to-end : goal.slice_bounds-return_to-end
 slice_bounds-return_to-end c =
@@ -63,7 +63,7 @@ slice_bounds-return_to-end-then-row-eq-RETURN-5 c =
 
 pub returns-then-row-eq-RETURN : goal.returns-then-row-eq-RETURN
 returns-then-row-eq-RETURN c =
-    λ ns ws ls. returning-called c.args.row c.args.texts.now ns ws c.args.model.now c.args.state.now c.args.saves.now c.args.clock ls c.return_to.result.answer c.if-row-eq-RETURN.true c.return_to.new.1.0 c.return_to.result.clock c.return_to.ensures
+    λ ns ws ls. returning-called c.args.row c.args.texts.now ns ws c.args.model.now c.args.state.now c.args.saves.now c.args.clock ls c.return_to.result.answer c.if-row-eq-RETURN.true c.return_to.new.state c.return_to.result.clock c.return_to.ensures
 
 pub slice_bounds-forget-end : goal.slice_bounds-forget-end
 slice_bounds-forget-end c =
@@ -91,4 +91,4 @@ slice_bounds-forget-end-6 c =
 
 pub returns : goal.returns
 returns c =
-    λ ns ws ls. rw c.of-2.ensures (forgetting-called c.args.row c.args.texts.now ns ws c.args.model.now c.args.state.now c.args.saves.now c.args.clock ls c.forget-answer.result (last-kind c.args.row.kind c.requires.0 c.requires.1.0 c.if-row-eq-SAVE.false c.if-row-eq-RETURN.false) c.forget-answer.new.1.1.0 c.forget-answer.ensures)
+    λ ns ws ls. rw c.of-2.ensures (forgetting-called c.args.row c.args.texts.now ns ws c.args.model.now c.args.state.now c.args.saves.now c.args.clock ls c.forget-answer.result (last-kind c.args.row.kind c.requires.0 c.requires.1.0 c.if-row-eq-SAVE.false c.if-row-eq-RETURN.false) c.forget-answer.new.saves c.forget-answer.ensures)

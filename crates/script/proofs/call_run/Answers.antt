@@ -59,4 +59,4 @@ slice_bounds-run-end-7 c =
 
 pub returns : goal.returns
 returns c =
-    λ texts ss. let a = there _ _ _ _ _ _ _ _ _ c.requires.1.1.1.1 in running-called c.args.row texts c.args.numbers.now c.args.words.now c.args.model.now c.args.state.now ss c.args.clock c.args.outputs.now c.run.result.ran c.requires.0 a.output c.run.new.1.0 c.run.result.clock c.run.new.1.1.1.1.0 c.run.ensures
+    λ texts ss. let a = there _ _ _ _ _ _ _ _ _ c.requires.1.1.1.1 in running-called c.args.row texts c.args.numbers.now c.args.words.now c.args.model.now c.args.state.now ss c.args.clock c.args.outputs.now c.run.result.ran c.requires.0 a.output c.run.new.state c.run.result.clock c.run.new.events c.run.ensures

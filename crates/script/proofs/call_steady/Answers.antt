@@ -39,4 +39,4 @@ slice_bounds-open_steady-end-7 c =
 
 pub returns : goal.returns
 returns c =
-    λ ns ws ls. steady-called c.args.row c.args.texts.now ns ws c.args.model.now c.args.state.now c.args.saves.now c.args.clock ls c.open_steady.result.answer c.requires.0 c.open_steady.new.1.0 c.open_steady.new.1.1.0 c.open_steady.new.1.1.1.0 c.open_steady.result.clock c.open_steady.ensures
+    λ ns ws ls. steady-called c.args.row c.args.texts.now ns ws c.args.model.now c.args.state.now c.args.saves.now c.args.clock ls c.open_steady.result.answer c.requires.0 c.open_steady.new.model c.open_steady.new.state c.open_steady.new.saves c.open_steady.result.clock c.open_steady.ensures

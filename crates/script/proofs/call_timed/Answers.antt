@@ -43,4 +43,4 @@ slice_bounds-step_timed-end-6 c =
 
 pub returns : goal.returns
 returns c =
-    λ texts ws ss. timing-called c.args.row texts c.args.numbers.now ws c.args.model.now c.args.state.now ss c.args.clock c.args.outputs.now c.step_timed.result.answer c.requires.0 c.step_timed.new.1.0 c.step_timed.result.clock c.step_timed.new.1.1.0 c.step_timed.ensures
+    λ texts ws ss. timing-called c.args.row texts c.args.numbers.now ws c.args.model.now c.args.state.now ss c.args.clock c.args.outputs.now c.step_timed.result.answer c.requires.0 c.step_timed.new.state c.step_timed.result.clock c.step_timed.new.listing c.step_timed.ensures

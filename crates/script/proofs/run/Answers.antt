@@ -15,7 +15,7 @@ loop-i-init c =
 
 pub loop-i-preserved : goal.loop-i-preserved
 loop-i-preserved c =
-    let script = c.args.script.now in let texts = c.args.texts.now in let numbers = c.args.numbers.now in let words = c.args.words.now in let first = lent_of (lent_four c.args.model.now c.args.state.now c.args.saves.now c.args.clock.now) c.args.outputs.now c.args.answers.now in let here = lent_of (lent_four c.loop-i.model c.loop-i.state c.loop-i.saves c.loop-i.clock) c.loop-i.outputs c.loop-i.answers in let left = lent_of (lent_four c.run_at.new.1.1.1.1.1.0 c.run_at.new.1.1.1.1.1.1.0 c.run_at.new.1.1.1.1.1.1.1.0 c.run_at.new.1.1.1.1.1.1.1.1.0) c.run_at.new.1.1.1.1.1.1.1.1.1.0 c.run_at.new.1.1.1.1.1.1.1.1.1.1.0 in let long : Long here left = four-long c.loop-i.model c.run_at.new.1.1.1.1.1.0 c.loop-i.state c.run_at.new.1.1.1.1.1.1.0 c.loop-i.saves c.run_at.new.1.1.1.1.1.1.1.0 c.loop-i.clock c.run_at.new.1.1.1.1.1.1.1.1.0 c.run_at.auto.1.1.1.1.1.0 c.run_at.auto.1.1.1.1.1.1.0 c.run_at.auto.1.1.1.1.1.1.1.0 c.run_at.auto.1.1.1.1.1.1.1.1.0 c.run_at.auto.1.1.1.1.1.1.1.1.1.0 c.run_at.auto.1.1.1.1.1.1.1.1.1.1.0 in turns script texts numbers words first here left c.loop-i.i c.loop-i.invariant long c.loop-i-test.true c.run_at.ensures
+    let script = c.args.script.now in let texts = c.args.texts.now in let numbers = c.args.numbers.now in let words = c.args.words.now in let first = lent_of (lent_four c.args.model.now c.args.state.now c.args.saves.now c.args.clock.now) c.args.outputs.now c.args.answers.now in let here = lent_of (lent_four c.loop-i.model c.loop-i.state c.loop-i.saves c.loop-i.clock) c.loop-i.outputs c.loop-i.answers in let left = lent_of (lent_four c.run_at.new.model c.run_at.new.state c.run_at.new.saves c.run_at.new.clock) c.run_at.new.outputs c.run_at.new.answers in let long : Long here left = four-long c.loop-i.model c.run_at.new.model c.loop-i.state c.run_at.new.state c.loop-i.saves c.run_at.new.saves c.loop-i.clock c.run_at.new.clock c.run_at.auto.1.1.1.1.1.0 c.run_at.auto.1.1.1.1.1.1.0 c.run_at.auto.1.1.1.1.1.1.1.0 c.run_at.auto.1.1.1.1.1.1.1.1.0 c.run_at.auto.1.1.1.1.1.1.1.1.1.0 c.run_at.auto.1.1.1.1.1.1.1.1.1.1.0 in turns script texts numbers words first here left c.loop-i.i c.loop-i.invariant long c.loop-i-test.true c.run_at.ensures
 
 pub overflow_add-i : goal.overflow_add-i
 overflow_add-i c =
@@ -51,4 +51,4 @@ shape_of-answers c =
 
 pub returns : goal.returns
 returns c =
-    let script = c.args.script.now in let texts = c.args.texts.now in let numbers = c.args.numbers.now in let words = c.args.words.now in let first = lent_of (lent_four c.args.model.now c.args.state.now c.args.saves.now c.args.clock.now) c.args.outputs.now c.args.answers.now in let here = lent_of (lent_four c.loop-i.model c.loop-i.state c.loop-i.saves c.loop-i.clock) c.loop-i.outputs c.loop-i.answers in let left = lent_of (lent_four c.run_at.new.1.1.1.1.1.0 c.run_at.new.1.1.1.1.1.1.0 c.run_at.new.1.1.1.1.1.1.1.0 c.run_at.new.1.1.1.1.1.1.1.1.0) c.run_at.new.1.1.1.1.1.1.1.1.1.0 c.run_at.new.1.1.1.1.1.1.1.1.1.1.0 in let long : Long here left = four-long c.loop-i.model c.run_at.new.1.1.1.1.1.0 c.loop-i.state c.run_at.new.1.1.1.1.1.1.0 c.loop-i.saves c.run_at.new.1.1.1.1.1.1.1.0 c.loop-i.clock c.run_at.new.1.1.1.1.1.1.1.1.0 c.run_at.auto.1.1.1.1.1.0 c.run_at.auto.1.1.1.1.1.1.0 c.run_at.auto.1.1.1.1.1.1.1.0 c.run_at.auto.1.1.1.1.1.1.1.1.0 c.run_at.auto.1.1.1.1.1.1.1.1.1.0 c.run_at.auto.1.1.1.1.1.1.1.1.1.1.0 in let r = stops script texts numbers words first here left c.loop-i.i c.loop-i.invariant long c.loop-i-test.false c.run_at.ensures in record { ran = r; refines = ran-refines script texts numbers words first c.loop-i.i left r }
+    let script = c.args.script.now in let texts = c.args.texts.now in let numbers = c.args.numbers.now in let words = c.args.words.now in let first = lent_of (lent_four c.args.model.now c.args.state.now c.args.saves.now c.args.clock.now) c.args.outputs.now c.args.answers.now in let here = lent_of (lent_four c.loop-i.model c.loop-i.state c.loop-i.saves c.loop-i.clock) c.loop-i.outputs c.loop-i.answers in let left = lent_of (lent_four c.run_at.new.model c.run_at.new.state c.run_at.new.saves c.run_at.new.clock) c.run_at.new.outputs c.run_at.new.answers in let long : Long here left = four-long c.loop-i.model c.run_at.new.model c.loop-i.state c.run_at.new.state c.loop-i.saves c.run_at.new.saves c.loop-i.clock c.run_at.new.clock c.run_at.auto.1.1.1.1.1.0 c.run_at.auto.1.1.1.1.1.1.0 c.run_at.auto.1.1.1.1.1.1.1.0 c.run_at.auto.1.1.1.1.1.1.1.1.0 c.run_at.auto.1.1.1.1.1.1.1.1.1.0 c.run_at.auto.1.1.1.1.1.1.1.1.1.1.0 in let r = stops script texts numbers words first here left c.loop-i.i c.loop-i.invariant long c.loop-i-test.false c.run_at.ensures in record { ran = r; refines = ran-refines script texts numbers words first c.loop-i.i left r }

@@ -24,13 +24,13 @@ overflow_cast-count c =
 pub bounds-row-8 : goal.bounds-row-8
 unfolding numbers_of
 bounds-row-8 c =
-    let k : length c.put_channel.new.1.1.1.1.0 ≡ pair_width = ap length c.put_channel.ensures ∙ simp (length-append, length-drop) (omega (arith, c.requires.1)) in
+    let k : length c.put_channel.new.row ≡ pair_width = ap length c.put_channel.ensures ∙ simp (length-append, length-drop) (omega (arith, c.requires.1)) in
     simp length-set (omega (arith, k))
 
 pub bounds-row : goal.bounds-row
 unfolding numbers_of
 bounds-row c =
-    let k : length c.put_channel.new.1.1.1.1.0 ≡ pair_width = ap length c.put_channel.ensures ∙ simp (length-append, length-drop) (omega (arith, c.requires.1)) in
+    let k : length c.put_channel.new.row ≡ pair_width = ap length c.put_channel.ensures ∙ simp (length-append, length-drop) (omega (arith, c.requires.1)) in
     simp length-set (omega (arith, k))
 
 pub returns : goal.returns

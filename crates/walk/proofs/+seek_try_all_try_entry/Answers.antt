@@ -168,7 +168,7 @@ pub try_entry-seek-requires : goal.try_entry-seek-requires
 try_entry-seek-requires t c =
     let p = c.requires.1.states in let q = c.requires.1.listings in let r = c.requires.1.entries in let t = c.take_at-taken.ensures c.requires.0.0 c.requires.0.1 c.requires.0.2 c.requires.0.3 c.requires.0.4 (lists-first c.requires.0.5) c.requires.0.6 in
     let o : 1 ≤ c.args.more = omega arith in
-    (omega arith, ((c.requires.0.0, t.after, c.requires.0.3, stands-tail t _ c.in-Leads.is), room-tail c.args.more c.args.states.now c.args.listings.now c.args.run.now c.take_at-taken.new.1.1.1.1.1.1.1.1.1.0 (set c.args.run.now 0 c.args.e) (omega arith) (simp length-set) o c.requires.1))
+    (omega arith, ((c.requires.0.0, t.after, c.requires.0.3, stands-tail t _ c.in-Leads.is), room-tail c.args.more c.args.states.now c.args.listings.now c.args.run.now c.take_at-taken.new.states (set c.args.run.now 0 c.args.e) (omega arith) (simp length-set) o c.requires.1))
 
 pub try_entry-returns-in-Idle : goal.try_entry-returns-in-Idle
 try_entry-returns-in-Idle t c =
@@ -190,6 +190,6 @@ pub try_entry-returns-else-more-eq0 : goal.try_entry-returns-else-more-eq0
 try_entry-returns-else-more-eq0 t c = (
   λ m s es h st l i. let t = c.take_at-taken.ensures m s es h st (lists-first l) i in let p = c.requires.1.states in let q = c.requires.1.listings in let r = c.requires.1.entries in let o : 1 ≤ c.args.more = omega arith in
       entry_more c.args.more c.args.run.now t _ c.in-Leads.is _ _ o (omega arith) (c.seek.ensures.0 m t.after h (stands-tail t _ c.in-Leads.is)),
-  before-part state_length (length c.take_at-taken.new.1.1.1.1.1.1.1.1.1.0 - state_length) c.take_at-taken.new.1.1.1.1.1.1.1.1.1.0 c.seek.new.1.1.1.1.1.1.1.1.1.0 (let p = c.requires.1.states in omega arith) ∙ (c.take_at-taken.ensures c.requires.0.0 c.requires.0.1 c.requires.0.2 c.requires.0.3 c.requires.0.4 (lists-first c.requires.0.5) c.requires.0.6).first,
-  before-part listing_length (length c.args.listings.now - listing_length) c.args.listings.now c.seek.new.1.1.1.1.1.1.1.1.1.1.0 (let p = c.requires.1.listings in omega arith),
+  before-part state_length (length c.take_at-taken.new.states - state_length) c.take_at-taken.new.states c.seek.new.states (let p = c.requires.1.states in omega arith) ∙ (c.take_at-taken.ensures c.requires.0.0 c.requires.0.1 c.requires.0.2 c.requires.0.3 c.requires.0.4 (lists-first c.requires.0.5) c.requires.0.6).first,
+  before-part listing_length (length c.args.listings.now - listing_length) c.args.listings.now c.seek.new.listings (let p = c.requires.1.listings in omega arith),
 )

@@ -12,10 +12,10 @@ returns-then-number-ne0 c =
 
 pub clock_at-requires : goal.clock_at-requires
 clock_at-requires c =
-    let n : length c.return_to-number.new.0 ≡ 5124 = search rules in
+    let n : length c.return_to-number.new.kept ≡ 5124 = search rules in
     readable c.args.name.now c.args.state.now c.args.saves.now c.args.clock c.put_kept.ensures c.return_to-number.ensures c.if-number-ne0.false c.requires.3 n
 
 pub returns : goal.returns
 returns c =
-    let n : length c.return_to-number.new.0 ≡ 5124 = search rules in
-    returned-yes c.args.name.now c.args.state.now c.args.saves.now c.args.clock _ c.return_to-number.new.0 _ _ _ _ _ _ c.of-2.ensures c.bare-2.ensures c.put_kept.ensures c.return_to-number.ensures c.if-number-ne0.false (c.clock_at.ensures ∙ ap clock_at (two-left c.return_to-number.new.0 n)) c.put.ensures c.requires.0
+    let n : length c.return_to-number.new.kept ≡ 5124 = search rules in
+    returned-yes c.args.name.now c.args.state.now c.args.saves.now c.args.clock _ c.return_to-number.new.kept _ _ _ _ _ _ c.of-2.ensures c.bare-2.ensures c.put_kept.ensures c.return_to-number.ensures c.if-number-ne0.false (c.clock_at.ensures ∙ ap clock_at (two-left c.return_to-number.new.kept n)) c.put.ensures c.requires.0

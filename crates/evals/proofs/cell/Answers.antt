@@ -1,7 +1,6 @@
 -- `cell` meets its contract. By unfolding.
 use mathlib.Core.Path.{refl}
 use Rattle.tables.specs.Settled.{lifted, number_cell}
-use borrow.Author.Rules.{rules}
 use Rattle.evals.proofs.cell.Goals as goal
 
 pub returns : goal.returns

@@ -1,7 +1,6 @@
 -- `gated` meets its contract: its table holds a gated branch.
 use mir.Facts.{to_z-of_z}
 use Rattle.evals.proofs.Tables.{two_in, gated-holds}
-use borrow.Author.Rules.{rules}
 use Rattle.evals.proofs.gated.Goals as goal
 
 pub offer_of-o-requires : goal.offer_of-o-requires

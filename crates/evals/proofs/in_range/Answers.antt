@@ -1,6 +1,5 @@
 -- `in_range` meets its contract: its table holds a range.
 use Rattle.evals.proofs.Tables.{range-holds, zeros-in}
-use borrow.Author.Rules.{rules}
 use Rattle.evals.proofs.in_range.Goals as goal
 
 pub in_set-requires : goal.in_set-requires

@@ -1,6 +1,5 @@
 -- `in_rest` meets its contract: its table holds a range without a number.
 use Rattle.evals.proofs.Tables.{rest-holds, zeros-in}
-use borrow.Author.Rules.{rules}
 use Rattle.evals.proofs.in_rest.Goals as goal
 
 pub in_set-requires : goal.in_set-requires

@@ -1,6 +1,5 @@
 -- `minus` meets its contract. From the range.
 use Rattle.evals.proofs.Tables.{minus-literal}
-use borrow.Author.Rules.{rules}
 use Rattle.evals.proofs.minus.Goals as goal
 
 pub returns : goal.returns

@@ -1,6 +1,5 @@
 -- `plus` meets its contract. From the range.
 use Rattle.evals.proofs.Tables.{plus-literal}
-use borrow.Author.Rules.{rules}
 use Rattle.evals.proofs.plus.Goals as goal
 
 pub returns : goal.returns

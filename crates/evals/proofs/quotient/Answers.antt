@@ -1,6 +1,5 @@
 -- `quotient` meets its contract: its table holds a quotient.
 use Rattle.evals.proofs.Tables.{quotient-holds, zeros-in}
-use borrow.Author.Rules.{rules}
 use Rattle.evals.proofs.quotient.Goals as goal
 
 pub eval_node-requires : goal.eval_node-requires

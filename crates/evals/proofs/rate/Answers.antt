@@ -1,6 +1,5 @@
 -- `rate` meets its contract: its table holds a rate.
 use Rattle.evals.proofs.Tables.{rate-holds, zeros-in}
-use borrow.Author.Rules.{rules}
 use Rattle.evals.proofs.rate.Goals as goal
 
 pub rate_of-requires : goal.rate_of-requires

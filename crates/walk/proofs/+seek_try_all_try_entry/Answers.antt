@@ -15,16 +15,6 @@ use borrow.Author.Rules.{rules}
 use lib.ListN.{length, set, take, length-take, length-set}
 use Rattle.walk.proofs.+seek_try_all_try_entry.Goals as goal
 
-abbrev try-all-Inv-loop : try-all-lts.invariant-loop
-try-all-Inv-loop nodes roots scopes root variables text places sizes name states₀ listings₀ run₀ more n met₀ e₀ states listings run met e =
-    (take state_length states ≡ take state_length states₀) × (take listing_length listings ≡ take listing_length listings₀) × (length states ≡ length states₀) × (length listings ≡ length listings₀) × (length run ≡ length run₀)
-    × ((m : Resolved.Model) (s : State) (es : List Entry) → Held nodes roots scopes root variables text places sizes m → Stands states₀ m s → Lists listings₀ m s es → n ≡ length es
-    → hunt_from (moves_to m name) s more 0 ≡ or_else (gone met) (hunt_from (moves_to m name) s more e))
-
-abbrev try-all-μ-loop : try-all-lts.decreases-loop
-try-all-μ-loop nodes roots scopes root variables text places sizes name states₀ listings₀ run₀ more n met₀ e₀ states listings run met e =
-    n - e
-
 pub seek-slice_bounds-list_here-end : goal.seek-slice_bounds-list_here-end
 seek-slice_bounds-list_here-end t c =
     let p = c.requires.1.states in let q = c.requires.1.listings in let r = c.requires.1.entries in omega arith

@@ -24,3 +24,13 @@ decreases-try_all l = 3 * l.more + 1
 
 abbrev pub decreases-try_entry : goal.decreases-try_entry
 decreases-try_entry l = 3 * l.more
+
+abbrev pub invariant-try_all-loop-e : goal.invariant-try_all-loop-e
+invariant-try_all-loop-e l =
+    (take state_length l.states ≡ take state_length l.initial.states) × (take listing_length l.listings ≡ take listing_length l.initial.listings) × (length l.states ≡ length l.initial.states) × (length l.listings ≡ length l.initial.listings) × (length l.run ≡ length l.initial.run)
+    × ((m : Resolved.Model) (s : State) (es : List Entry) → Held l.nodes l.roots l.scopes l.root l.variables l.text l.places l.sizes m → Stands l.initial.states m s → Lists l.initial.listings m s es → l.n ≡ length es
+    → hunt_from (moves_to m l.name) s l.more 0 ≡ or_else (gone l.met) (hunt_from (moves_to m l.name) s l.more l.e))
+
+abbrev pub decreases-try_all-loop-e : goal.decreases-try_all-loop-e
+decreases-try_all-loop-e l =
+    l.n - l.e

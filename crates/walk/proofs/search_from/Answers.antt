@@ -30,7 +30,7 @@ returns-in-Found c =
     λ m s h st.
     let j : c.loop-more.more < c.args.depth = omega arith in
     let u = c.seek-hit.ensures.0 m s h (stands-kept c.loop-more.invariant.0 st) in
-    longer-found m c.args.name.now s c.args.depth c.loop-more.more c.loop-more.met (c.loop-more.invariant.4 m s h st) _ _ (omega (arith, c.requires.1.entries, c.loop-more.invariant.3, same-length-3 c)) j u c.in-Found.is
+    longer-found m c.args.name.now s c.args.depth c.loop-more.more c.loop-more.met (c.loop-more.invariant.4 m s h st) _ _ (omega (arith, c.requires.1.entries, c.loop-more.invariant.3)) j u c.in-Found.is
 
 pub loop-more-preserved : goal.loop-more-preserved
 loop-more-preserved c = (

@@ -39,7 +39,7 @@ slice_bounds-open-end-then-row-eq-OPEN-6 c =
 
 pub returns-then-row-eq-OPEN : goal.returns-then-row-eq-OPEN
 returns-then-row-eq-OPEN c =
-    λ ws. opening-called c.args.row c.args.texts.now c.args.numbers.now ws c.args.model.now c.args.state.now c.args.saves.now c.args.clock c.args.outputs.now c.«open».result.answer c.if-row-eq-OPEN.true c.«open».new.1.0 c.«open».new.1.1.0 c.«open».new.1.1.1.0 c.«open».result.clock c.«open».ensures
+    λ ws. opening-called c.args.row c.args.texts.now c.args.numbers.now ws c.args.model.now c.args.state.now c.args.saves.now c.args.clock c.args.outputs.now c.«open».result.answer c.if-row-eq-OPEN.true c.«open».new.model c.«open».new.state c.«open».new.saves c.«open».result.clock c.«open».ensures
 
 pub slice_bounds-list-end : goal.slice_bounds-list-end
 slice_bounds-list-end c =

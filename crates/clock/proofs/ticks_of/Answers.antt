@@ -5,4 +5,4 @@ use Rattle.clock.proofs.ticks_of.Goals as goal
 
 pub returns : goal.returns
 returns c =
-     record { value = two-divisions _ _; upper_bound = few-ticks _ _ c.requires.0 }
+    record { value = two-divisions _ _; upper_bound = few-ticks _ _ c.requires.0 }

@@ -41,7 +41,7 @@ returns-then-row-eq-RUN c =
 
 pub call-timed-requires : goal.call-timed-requires
 call-timed-requires c =
-     record { fact = (c.if-row-eq-SEARCH.false, c.if-row-eq-RUN.false); by_index = (_, (_, c.requires.outputs_value)) }
+    record { fact = (c.if-row-eq-SEARCH.false, c.if-row-eq-RUN.false); by_index = (_, (_, c.requires.outputs_value)) }
 
 pub put_clock-requires-2 : goal.put_clock-requires-2
 put_clock-requires-2 c =

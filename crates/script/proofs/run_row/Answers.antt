@@ -20,7 +20,7 @@ returns-then-not-is_call c =
 
 pub make_row-requires : goal.make_row-requires
 make_row-requires c =
-     record { outputs_value = sym c.is_call.ensures ∙ not-false _ c.if-not-is_call.false-raw; answer_width_in_bounds = c.if-answers-lt-ANSWER.false }
+    record { outputs_value = sym c.is_call.ensures ∙ not-false _ c.if-not-is_call.false-raw; answer_width_in_bounds = c.if-answers-lt-ANSWER.false }
 
 pub returns : goal.returns
 returns c =

@@ -24,9 +24,10 @@ loop-i-preserved c =
     let i = c.loop-i.i in
     let z = get_or s i (pos 0) in
     let n = c.loop-i.bits-bits in
-    let f : Fits w64 (bit_or n (of_z w64 z)) = Fits-or c.loop-i.auto.bits (Fits-of_z (ok-fits z c.bits-1.given)) in
-    (search rules,
-      rw (of_z-to_z f) (bits-on is_zero s i n (rw (of_z-to_z c.loop-i.auto.bits) at c.loop-i.invariant.1) (pos 0) (of_z w64 z) (omega arith) (zero_bits z (ok-fits z c.bits-1.given))))
+    let f : Fits w64 (bit_or n (of_z w64 z)) = Fits-or c.loop-i.auto.bits (Fits-of_z (ok-fits z c.bits-1.given)) in (
+      search rules,
+      rw (of_z-to_z f) (bits-on is_zero s i n (rw (of_z-to_z c.loop-i.auto.bits) at c.loop-i.invariant.1) (pos 0) (of_z w64 z) (omega arith) (zero_bits z (ok-fits z c.bits-1.given))),
+    )
 
 pub returns : goal.returns
 returns c = bits-done is_zero c.args.s.now c.loop-i.i c.loop-i.bits-bits (rw (of_z-to_z c.loop-i.auto.bits) at c.loop-i.invariant.1) (omega arith)

@@ -52,7 +52,7 @@ loop-i-preserved c =
       search rules,
       search rules,
       elim c.if-i-n.branch [
-          then-i-n w ↦ w.s-is ∙ rw (back _ w.s-1.given) (moves s₀ at-loop.loop-i.s k i at-loop.requires (omega arith) inv.2)
+        | then-i-n w ↦ w.s-is ∙ rw (back _ w.s-1.given) (moves s₀ at-loop.loop-i.s k i at-loop.requires (omega arith) inv.2)
         | else-i-n w ↦ w.s-is ∙ zeros s₀ at-loop.loop-i.s k i at-loop.requires (omega arith) (omega arith) inv.2
       ],
       elim c.if-i-n.branch [ then-i-n w ↦ ap length w.s-is ∙ simp length-set inv.3 | else-i-n w ↦ ap length w.s-is ∙ simp length-set inv.3 ],

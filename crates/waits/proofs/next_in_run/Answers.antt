@@ -9,12 +9,12 @@ returns-then-draw-last c =
 
 pub returns-then-odd : goal.returns-then-odd
 returns-then-odd c =
-     let r = (ends-odd _ _ _ _ c.requires.0 c.requires.1 c.if-draw-last.false) in record { value = rw c.if-odd.true r.0; fits = r.1 }
+    let r = (ends-odd _ _ _ _ c.requires.0 c.requires.1 c.if-draw-last.false) in record { value = rw c.if-odd.true r.0; fits = r.1 }
 
 pub returns-then-next-eq-RUNS : goal.returns-then-next-eq-RUNS
 returns-then-next-eq-RUNS c =
-     let r = (ends_last _ _ _ _ c.if-draw-last.false c.if-next-eq-RUNS.true) in record { value = rw c.if-odd.false r.0; fits = r.1 }
+    let r = (ends_last _ _ _ _ c.if-draw-last.false c.if-next-eq-RUNS.true) in record { value = rw c.if-odd.false r.0; fits = r.1 }
 
 pub returns : goal.returns
 returns c =
-     let r = (ends-even _ _ _ _ c.requires.0 c.if-draw-last.false c.if-next-eq-RUNS.false) in record { value = rw c.if-odd.false r.0; fits = r.1 }
+    let r = (ends-even _ _ _ _ c.requires.0 c.if-draw-last.false c.if-next-eq-RUNS.false) in record { value = rw c.if-odd.false r.0; fits = r.1 }

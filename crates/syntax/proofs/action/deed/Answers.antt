@@ -19,7 +19,7 @@ use Rattle.syntax.proofs.action.deed.Goals as goal
 
 pub sending-requires : goal.sending-requires
 sending-requires c =
-     record { ready = c.requires; nonzero = omega (arith, same c.peek-t.ensures c.if-t-eq33.true) }
+    record { ready = c.requires; nonzero = omega (arith, same c.peek-t.ensures c.if-t-eq33.true) }
 
 pub returns-then-t-eq33 : goal.returns-then-t-eq33
 returns-then-t-eq33 c =
@@ -27,7 +27,7 @@ returns-then-t-eq33 c =
 
 pub sending-requires-then-t-eq35 : goal.sending-requires-then-t-eq35
 sending-requires-then-t-eq35 c =
-     record { ready = c.requires; nonzero = omega (arith, same c.peek-t.ensures c.if-t-eq35.true) }
+    record { ready = c.requires; nonzero = omega (arith, same c.peek-t.ensures c.if-t-eq35.true) }
 
 pub returns-then-t-eq35 : goal.returns-then-t-eq35
 returns-then-t-eq35 c =
@@ -35,7 +35,7 @@ returns-then-t-eq35 c =
 
 pub receiving-requires : goal.receiving-requires
 receiving-requires c =
-     record { ready = c.requires; nonzero = omega (arith, same c.peek-t.ensures c.if-t-eq63.true); kind_bound = omega arith }
+    record { ready = c.requires; nonzero = omega (arith, same c.peek-t.ensures c.if-t-eq63.true); kind_bound = omega arith }
 
 pub returns-then-t-eq63 : goal.returns-then-t-eq63
 returns-then-t-eq63 c =

@@ -28,7 +28,7 @@ channel-requires c =
 
 pub sending-requires : goal.sending-requires
 sending-requires c =
-     record { ready = hand-ready c.args.toks.now c.args.nodes.now _ c.args.at c.args.used c.requires.at_value (c.channel.ensures.follows, c.channel.ensures.parsed) c.in-Next.is c.requires.ready; nonzero = omega arith }
+    record { ready = hand-ready c.args.toks.now c.args.nodes.now _ c.args.at c.args.used c.requires.at_value (c.channel.ensures.follows, c.channel.ensures.parsed) c.in-Next.is c.requires.ready; nonzero = omega arith }
 
 pub returns-then-t-eq33 : goal.returns-then-t-eq33
 returns-then-t-eq33 c =
@@ -36,7 +36,7 @@ returns-then-t-eq33 c =
 
 pub receiving-requires : goal.receiving-requires
 receiving-requires c =
-     record { ready = hand-ready c.args.toks.now c.args.nodes.now _ c.args.at c.args.used c.requires.at_value (c.channel.ensures.follows, c.channel.ensures.parsed) c.in-Next.is c.requires.ready; nonzero = omega arith; kind_bound = omega arith }
+    record { ready = hand-ready c.args.toks.now c.args.nodes.now _ c.args.at c.args.used c.requires.at_value (c.channel.ensures.follows, c.channel.ensures.parsed) c.in-Next.is c.requires.ready; nonzero = omega arith; kind_bound = omega arith }
 
 pub returns-then-t-eq63 : goal.returns-then-t-eq63
 returns-then-t-eq63 c =

@@ -26,7 +26,7 @@ use Rattle.syntax.proofs.braced.braced.Goals.{then-t-eq-NAME+else-peek-eq44, els
 
 pub check-r-requires : goal.check-r-requires
 check-r-requires c =
-     record { ready = c.requires; at_value = same c.peek-t.ensures c.if-t-eq126.true }
+    record { ready = c.requires; at_value = same c.peek-t.ensures c.if-t-eq126.true }
 
 pub rated-requires : goal.rated-requires
 rated-requires c =
@@ -38,7 +38,7 @@ returns-then-t-eq126 c =
 
 pub handshake-r-requires : goal.handshake-r-requires
 handshake-r-requires c =
-     record { ready = c.requires; at_value = same c.peek-t.ensures c.if-t-eq64.true }
+    record { ready = c.requires; at_value = same c.peek-t.ensures c.if-t-eq64.true }
 
 pub rated-requires-then-t-eq64 : goal.rated-requires-then-t-eq64
 rated-requires-then-t-eq64 c =
@@ -54,11 +54,11 @@ overflow_add-at c =
 
 pub lone-requires : goal.lone-requires
 lone-requires c =
-     record { ready = c.requires; at_value = (same c.peek-t.ensures c.if-t-eq-NAME.true, same c.peek.ensures c.if-peek-eq44.true) }
+    record { ready = c.requires; at_value = (same c.peek-t.ensures c.if-t-eq-NAME.true, same c.peek.ensures c.if-peek-eq44.true) }
 
 pub returns-then-peek-eq44 : goal.returns-then-peek-eq44
 returns-then-peek-eq44 c =
-     record { follows = c.lone.ensures.follows; inside = c.lone.ensures.inside }
+    record { follows = c.lone.ensures.follows; inside = c.lone.ensures.inside }
 
 pub beacon-r-requires : goal.beacon-r-requires
 beacon-r-requires c =

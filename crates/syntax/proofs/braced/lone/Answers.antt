@@ -35,7 +35,7 @@ overflow_add-n-2 c =
 
 pub undecided-requires : goal.undecided-requires
 undecided-requires c =
-     record { ready = c.requires.ready; name_value = c.requires.at_value; either = either-name c.args.toks.now (c.args.at + 1 + 1) (same c.peek-t.ensures c.if-t-eq-NAME.true) }
+    record { ready = c.requires.ready; name_value = c.requires.at_value; either = either-name c.args.toks.now (c.args.at + 1 + 1) (same c.peek-t.ensures c.if-t-eq-NAME.true) }
 
 pub returns-then-t-eq-NAME : goal.returns-then-t-eq-NAME
 returns-then-t-eq-NAME c =
@@ -44,7 +44,7 @@ returns-then-t-eq-NAME c =
 pub undecided-requires-then-t-eq-WHOLE : goal.undecided-requires-then-t-eq-WHOLE
 unfolding number_kind
 undecided-requires-then-t-eq-WHOLE c =
-     record { ready = c.requires.ready; name_value = c.requires.at_value; either = either-whole c.args.toks.now (c.args.at + 1 + 1) (same c.peek-t.ensures c.if-t-eq-WHOLE.true) }
+    record { ready = c.requires.ready; name_value = c.requires.at_value; either = either-whole c.args.toks.now (c.args.at + 1 + 1) (same c.peek-t.ensures c.if-t-eq-WHOLE.true) }
 
 pub returns-then-t-eq-WHOLE : goal.returns-then-t-eq-WHOLE
 returns-then-t-eq-WHOLE c =
@@ -52,11 +52,11 @@ returns-then-t-eq-WHOLE c =
 
 pub lone_minus-requires : goal.lone_minus-requires
 lone_minus-requires c =
-     record { ready = c.requires.ready; at_value = c.requires.at_value; at_value_2 = same c.peek-t.ensures c.if-t-eq45.true }
+    record { ready = c.requires.ready; at_value = c.requires.at_value; at_value_2 = same c.peek-t.ensures c.if-t-eq45.true }
 
 pub returns-then-t-eq45 : goal.returns-then-t-eq45
 returns-then-t-eq45 c =
-     record { follows = c.lone_minus.ensures.follows; inside = c.lone_minus.ensures.inside }
+    record { follows = c.lone_minus.ensures.follows; inside = c.lone_minus.ensures.inside }
 
 pub node-requires : goal.node-requires
 node-requires c =

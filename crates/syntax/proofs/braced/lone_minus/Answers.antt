@@ -38,7 +38,7 @@ overflow_add-digits c =
 pub undecided-requires : goal.undecided-requires
 unfolding number_kind
 undecided-requires c =
-     record { ready = c.requires.ready; name_value = c.requires.at_value; either = either-negative c.args.toks.now (c.args.at + 1 + 1) c.requires.at_value_2 (same c.peek-t.ensures c.if-t-eq-WHOLE.true) }
+    record { ready = c.requires.ready; name_value = c.requires.at_value; either = either-negative c.args.toks.now (c.args.at + 1 + 1) c.requires.at_value_2 (same c.peek-t.ensures c.if-t-eq-WHOLE.true) }
 
 pub returns-then-t-eq-WHOLE : goal.returns-then-t-eq-WHOLE
 returns-then-t-eq-WHOLE c =

@@ -19,7 +19,7 @@ use Rattle.syntax.proofs.braced.second.Goals as goal
 
 pub thirds-requires : goal.thirds-requires
 thirds-requires c =
-     record { ready = record { inside = c.requires.ready.inside; room = c.requires.ready.room; few = omega (arith, c.requires.ready.few) }; left_le_mid = c.requires.first_le_mid }
+    record { ready = record { inside = c.requires.ready.inside; room = c.requires.ready.room; few = omega (arith, c.requires.ready.few) }; left_le_mid = c.requires.first_le_mid }
 
 pub deed-r-requires : goal.deed-r-requires
 deed-r-requires c =

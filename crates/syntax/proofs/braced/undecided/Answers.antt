@@ -27,7 +27,7 @@ overflow_add-at c =
 
 pub product-requires : goal.product-requires
 product-requires c =
-     record { ready = c.requires.ready; name_value = c.requires.name_value; either = c.requires.either; digits_value = same c.peek-t.ensures c.if-t-eq42.true }
+    record { ready = c.requires.ready; name_value = c.requires.name_value; either = c.requires.either; digits_value = same c.peek-t.ensures c.if-t-eq42.true }
 
 pub returns-then-t-eq42 : goal.returns-then-t-eq42
 returns-then-t-eq42 c =

@@ -27,7 +27,7 @@ expr-requires c =
 
 pub thirds-requires : goal.thirds-requires
 thirds-requires c =
-     record { ready = seconds-ready c.args.toks.now c.args.nodes.now c.args.at c.args.left (same c.peek.ensures c.if-peek-ne44.false) _ (c.expr.ensures.follows, c.expr.ensures.parsed) c.in-Next.is c.requires; left_le_mid = seconds-below c.args.toks.now c.args.nodes.now c.args.at c.args.left (same c.peek.ensures c.if-peek-ne44.false) _ (c.expr.ensures.follows, c.expr.ensures.parsed) c.in-Next.is }
+    record { ready = seconds-ready c.args.toks.now c.args.nodes.now c.args.at c.args.left (same c.peek.ensures c.if-peek-ne44.false) _ (c.expr.ensures.follows, c.expr.ensures.parsed) c.in-Next.is c.requires; left_le_mid = seconds-below c.args.toks.now c.args.nodes.now c.args.at c.args.left (same c.peek.ensures c.if-peek-ne44.false) _ (c.expr.ensures.follows, c.expr.ensures.parsed) c.in-Next.is }
 
 pub returns-in-Fault : goal.returns-in-Fault
 returns-in-Fault c =

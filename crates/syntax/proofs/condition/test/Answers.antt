@@ -12,7 +12,7 @@ overflow_add-at c =
 
 pub compare-requires : goal.compare-requires
 compare-requires c =
-     record { ready = ready-token c.requires (omega (arith, c.peek.ensures, c.if-peek-eq126.true)); more_le_turned = omega arith }
+    record { ready = ready-token c.requires (omega (arith, c.peek.ensures, c.if-peek-eq126.true)); more_le_turned = omega arith }
 
 pub returns-then-peek-eq126 : goal.returns-then-peek-eq126
 returns-then-peek-eq126 c =
@@ -20,7 +20,7 @@ returns-then-peek-eq126 c =
 
 pub compare-requires-2 : goal.compare-requires-2
 compare-requires-2 c =
-     record { ready = c.requires; more_le_turned = omega arith }
+    record { ready = c.requires; more_le_turned = omega arith }
 
 pub returns : goal.returns
 returns c =

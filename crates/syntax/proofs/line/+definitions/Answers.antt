@@ -9,7 +9,7 @@ use Rattle.syntax.proofs.line.+definitions.Goals as goal
 
 pub definition-requires : goal.definition-requires
 definition-requires t c =
-     record { ready = c.requires.ready; sums_le_name = c.requires.sums_le_name; name_value = c.requires.name_value; name_value_2 = c.requires.name_value_2 }
+    record { ready = c.requires.ready; sums_le_name = c.requires.sums_le_name; name_value = c.requires.name_value; name_value_2 = c.requires.name_value_2 }
 
 pub defines-requires : goal.defines-requires
 defines-requires t c =

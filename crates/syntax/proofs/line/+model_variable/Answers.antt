@@ -17,7 +17,7 @@ model-overflow_add-n t c =
 
 pub model-definitions-requires : goal.model-definitions-requires
 model-definitions-requires t c =
-     record { ready = c.requires; sums_le_name = omega arith; name_value = (same c.peek.ensures c.if-peek-ne-NAME.false); name_value_2 = same c.peek-t.ensures c.if-t-eq91.true }
+    record { ready = c.requires; sums_le_name = omega arith; name_value = (same c.peek.ensures c.if-peek-ne-NAME.false); name_value_2 = same c.peek-t.ensures c.if-t-eq91.true }
 
 pub model-returns-then-t-eq91 : goal.model-returns-then-t-eq91
 model-returns-then-t-eq91 t c =

@@ -8,7 +8,7 @@ use Rattle.syntax.proofs.line.start.Goals as goal
 
 pub starts-requires : goal.starts-requires
 starts-requires c =
-     record { ready = ready-token c.requires (omega (arith, c.peek-t.ensures, c.if-t-eq-NAME.true)); kind_bound = omega arith }
+    record { ready = ready-token c.requires (omega (arith, c.peek-t.ensures, c.if-t-eq-NAME.true)); kind_bound = omega arith }
 
 pub returns-then-t-eq-NAME : goal.returns-then-t-eq-NAME
 returns-then-t-eq-NAME c =
@@ -28,7 +28,7 @@ returns-then-peek-ne-NAME c =
 
 pub starts-requires-2 : goal.starts-requires-2
 starts-requires-2 c =
-     record { ready = ready-token (ready-token (ready-token c.requires (omega (arith, c.peek-t.ensures, c.if-t-ne-WHOLE.false))) (omega (arith, c.peek.ensures, c.if-peek-ne42.false))) (omega (arith, c.peek-2.ensures, c.if-peek-ne-NAME.false)); kind_bound = omega arith }
+    record { ready = ready-token (ready-token (ready-token c.requires (omega (arith, c.peek-t.ensures, c.if-t-ne-WHOLE.false))) (omega (arith, c.peek.ensures, c.if-peek-ne42.false))) (omega (arith, c.peek-2.ensures, c.if-peek-ne-NAME.false)); kind_bound = omega arith }
 
 pub returns : goal.returns
 returns c =

@@ -16,7 +16,7 @@ use Rattle.syntax.proofs.process.+body.Goals as goal
 
 pub sum-requires : goal.sum-requires
 sum-requires t c =
-     record { ready = c.requires.ready; sums_le_at = c.requires.sums_le_at }
+    record { ready = c.requires.ready; sums_le_at = c.requires.sums_le_at }
 
 pub returns-then-peek : goal.returns-then-peek
 returns-then-peek t c =

@@ -72,7 +72,7 @@ cont-returns-then-t-eq40 t c =
 
 pub cont-call-requires : goal.cont-call-requires
 cont-call-requires t c =
-     record { ready = c.requires.ready; at_value = same c.peek-t.ensures c.if-t-eq-NAME.true }
+    record { ready = c.requires.ready; at_value = same c.peek-t.ensures c.if-t-eq-NAME.true }
 
 pub cont-returns-then-t-eq-NAME : goal.cont-returns-then-t-eq-NAME
 cont-returns-then-t-eq-NAME t c =
@@ -197,7 +197,7 @@ item-returns-then-t-eq40 t c =
 
 pub item-call-requires : goal.item-call-requires
 item-call-requires t c =
-     record { ready = c.requires.ready; at_value = same c.peek-t.ensures c.if-t-eq-NAME.true }
+    record { ready = c.requires.ready; at_value = same c.peek-t.ensures c.if-t-eq-NAME.true }
 
 pub item-returns-then-t-eq-NAME : goal.item-returns-then-t-eq-NAME
 item-returns-then-t-eq-NAME t c =
@@ -343,7 +343,7 @@ prefix-gated-requires t c =
 
 pub prefix-returns-then-peek-eq91 : goal.prefix-returns-then-peek-eq91
 prefix-returns-then-peek-eq91 t c =
-     record { follows = c.gated.ensures.follows; tallied = c.gated.ensures.tallied; spare = c.gated.ensures.spare }
+    record { follows = c.gated.ensures.follows; tallied = c.gated.ensures.tallied; spare = c.gated.ensures.spare }
 
 pub prefix-offer-requires : goal.prefix-offer-requires
 prefix-offer-requires t c =

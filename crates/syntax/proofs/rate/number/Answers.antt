@@ -13,7 +13,7 @@ overflow_add-at c =
 
 pub unsigned-requires : goal.unsigned-requires
 unsigned-requires c =
-     record { ready = ready-token c.requires (omega (arith, c.peek.ensures, c.if-peek-eq45.true)); base_le_negative_number = omega arith }
+    record { ready = ready-token c.requires (omega (arith, c.peek.ensures, c.if-peek-eq45.true)); base_le_negative_number = omega arith }
 
 pub returns-then-peek-eq45 : goal.returns-then-peek-eq45
 unfolding number_kind
@@ -22,7 +22,7 @@ returns-then-peek-eq45 c =
 
 pub unsigned-requires-2 : goal.unsigned-requires-2
 unsigned-requires-2 c =
-     record { ready = c.requires; base_le_negative_number = omega arith }
+    record { ready = c.requires; base_le_negative_number = omega arith }
 
 pub returns : goal.returns
 unfolding number_kind

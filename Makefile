@@ -11,7 +11,7 @@ build: $(ARCHIVE)
 	MATGRAVEL_LIB=$(dir $(abspath $(ARCHIVE))) cargo build --release --offline --manifest-path cli/Cargo.toml --target-dir cli/target
 
 $(ARCHIVE):
-	rt staticlib engine
+	tools/build.sh engine
 
 install: build install-files
 

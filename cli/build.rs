@@ -14,7 +14,7 @@ fn main() {
     if !library.exists() {
         eprintln!("There is no {}.", library.display());
         eprintln!(
-            "Run `rt staticlib engine` in the repository's folder first, or set {FOLDER} to the library's folder."
+            "Run `tools/build.sh engine` in the repository's folder first, or set {FOLDER} to the library's folder."
         );
         std::process::exit(1);
     }

@@ -107,7 +107,7 @@ fn texts_with_each_byte_are_refused_as_its_kind_says() {
 /// What the program `tokens` prints for a text, which it also does for bytes that no text may have.
 fn tokens(text: &[u8]) -> String {
     let program = Path::new(env!("CARGO_MANIFEST_DIR")).join("../../target/bin/tokens");
-    assert!(program.exists(), "{} isn't there: run `rt check tokens` first", program.display());
+    assert!(program.exists(), "{} isn't there: run `tools/build.sh tokens` first", program.display());
     let mut child =
         Command::new(program).stdin(Stdio::piped()).stdout(Stdio::piped()).spawn().expect("the program starts");
     child.stdin.take().expect("a pipe").write_all(text).expect("the program reads its input");

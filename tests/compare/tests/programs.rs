@@ -1,4 +1,4 @@
-//! The programs `enabled` and `calls`, which `rt check enabled calls` builds, print what the second
+//! The programs `enabled` and `calls`, which `tools/build.sh enabled calls` builds, print what the second
 //! engine does for the same input.
 #![cfg(feature = "engine")]
 
@@ -21,7 +21,7 @@ fn repository() -> PathBuf {
 /// What a program prints for this input.
 fn printed(name: &str, input: &[u8]) -> String {
     let program = repository().join("target/bin").join(name);
-    assert!(program.exists(), "{} isn't there: run `rt check {name}` first", program.display());
+    assert!(program.exists(), "{} isn't there: run `tools/build.sh {name}` first", program.display());
     let mut child =
         Command::new(program).stdin(Stdio::piped()).stdout(Stdio::piped()).spawn().expect("the program starts");
     let mut pipe = child.stdin.take().expect("a pipe");

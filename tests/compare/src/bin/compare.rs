@@ -22,7 +22,7 @@ fn main() -> ExitCode {
         return ExitCode::FAILURE;
     };
     let Some(engine) = tried() else {
-        eprintln!("Built without the engine. Run `rt staticlib engine`, then build with --features engine.");
+        eprintln!("Built without the engine. Run `tools/build.sh engine`, then build with --features engine.");
         return ExitCode::FAILURE;
     };
     compare::with_stack(move || run(&engine, from, seconds))

@@ -13,7 +13,7 @@ use Rattle.machine.specs.State.{State, state_length, state_numbers}
 use Rattle.machine.specs.Machine.{model_length, listing_length, Shown, as_lent, filled, Answer, no, listed_as, reported_as, found_as, moves_to, is_depth, searched_as, searches, Listed, entries_are, refused_with, turn, drawn, showing, lists, sharing, reports, choosing, steps_with, held, Machine, holding, on_state, list', step', report', search', on', acts, Part, model, state, saves, clock, size, two_parts, is_lent, all_parts, has_lengths, on_machine}
 use Rattle.machine.specs.Machine as machine
 use Rattle.machine.specs.Report.{report_length, report_of}
-use Rattle.machine.specs.Questions.{Lists, Steps}
+use Rattle.machine.specs.Questions.{Lists}
 use Rattle.machine.proofs.Listing.{asked, accepted}
 use Rattle.machine.proofs.Stepping as step
 use Rattle.machine.proofs.Searching as searching

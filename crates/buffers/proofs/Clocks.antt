@@ -12,7 +12,6 @@ use lib.ListN.{length, get_or}
 use Rattle.clock.specs.declared.Clock.{Clock}
 use Rattle.clock.specs.Clock.{clock_limit, fresh_clock, InRange, is_in_range}
 use Rattle.clock.proofs.Bringing.{both-in}
-use Rattle.model.specs.Resolved
 use Rattle.model.specs.Resolved.{Model}
 use Rattle.model.specs.Held.{held}
 use Rattle.rules.specs.Listing.{Entry}

@@ -15,7 +15,7 @@ use Rattle.profile.proofs.Opened.{opened-plain}
 use Rattle.model.specs.Good.{GoodModel}
 use Rattle.model.proofs.Held.{opened-held}
 use Rattle.model.proofs.Opened as formed
-use Rattle.machine.specs.State.{State, state_length, state_numbers}
+use Rattle.machine.specs.State.{state_length, state_numbers}
 use Rattle.machine.specs.Machine.{model_length, Shown, as_lent, Answer, no, Turn, turn, Held, Good, Machine, closed, holding, Request, Ask, open', open_steady', on', acts, Part, model, state, saves, clock, size, lent_to, uses, is_lent, has_lengths, opens, on_machine, asked, calls, answers, after}
 use Rattle.machine.specs.Saves.{saves_length}
 use Rattle.machine.proofs.Numbers.{state-length}

@@ -1,5 +1,5 @@
 -- A return finds the latest accepted save, in the buffers: from the rule machine's own, by the theorem over every list of calls.
-use mathlib.Core.Path.{◌≡◌, refl, sym, ap, ◌∙◌}
+use mathlib.Core.Path.{◌≡◌, sym, ap, ◌∙◌}
 use mathlib.Core.List.{List, map}
 use Prim.Native.Nat.{ℕ}
 use native.Mathlib.Omega.{arith}

@@ -7,26 +7,26 @@ use mathlib.Core.Logic.{⊎_elim}
 use Prim.Native.Nat.{ℕ, suc, ◌*◌}
 use native.Mathlib.Omega.{arith}
 use lib.IntN.{ℤ}
-use lib.ListN.{length, take, drop}
+use lib.ListN.{length}
 use Rattle.model.specs.Resolved
 use Rattle.model.specs.Good.{GoodModel}
 use Rattle.rules.specs.Rules.{Nth, first, later, Key, key}
-use Rattle.rules.specs.Listing.{Entry, entry, key_of, weight_of, entries}
+use Rattle.rules.specs.Listing.{Entry, entry, key_of, entries}
 use Rattle.rules.specs.Carried.{Apart, Quiet, carried}
-use Rattle.rules.proofs.Once.{nth_in, same-nth}
+use Rattle.rules.proofs.Once.{nth_in}
 use Rattle.rules.proofs.Moved.{steps-state}
 use Rattle.rules.proofs.Independent.{commutes}
 use Rattle.machine.specs.Offer.{branches}
-use Rattle.machine.specs.State.{State, state_length, state_numbers, GoodState}
-use Rattle.machine.specs.Machine.{entry_width, model_length, listing_length, no, listed_as, entry_state, Turn, entries_are, Held, held, Machine, closed, holding, model, state, two_parts, after}
-use Rattle.machine.specs.Questions.{IsListing, Lists, no12, no13, no14, yes14, Steps, no15, no16, no17, no18, no19, yes19}
+use Rattle.machine.specs.State.{State, state_numbers, GoodState}
+use Rattle.machine.specs.Machine.{entry_width, listing_length, no, listed_as, entry_state, Turn, Held, Machine, closed, holding, model, state, after}
+use Rattle.machine.specs.Questions.{IsListing, no12, no13, no14, yes14, Steps, no15, no16, no17, no18, no19, yes19}
 use Rattle.machine.proofs.OneListing.{one-listing}
 use Rattle.machine.proofs.Numbers.{state-length}
 use Rattle.machine.proofs.Stays.{step-good}
 use Rattle.buffers.specs.Listing.{entry_numbers, entries_numbers, listing_numbers}
 use Rattle.buffers.specs.Held.{held_in}
 use Rattle.buffers.specs.Parts.{Engine, fresh, numbers_of, lent_two, with_state}
-use Rattle.buffers.specs.Effect.{Effect, machine_in}
+use Rattle.buffers.specs.Effect.{Effect}
 use Rattle.buffers.specs.Answers as answers
 use Rattle.buffers.specs.Answers.{ListsAs, StepsAs}
 use Rattle.buffers.specs.Calls as calls

@@ -36,7 +36,7 @@ use Rattle.rules.proofs.Decides.{on}
 use Rattle.buffers.specs.Held.{model_bytes}
 use Rattle.buffers.specs.Listing.{shown}
 use Rattle.buffers.specs.Parts.{Cell, Engine, fresh, numbers_of, with_timed, with_kept}
-use Rattle.buffers.specs.Effect.{Effect, untouched, opens_with, left_in, leaves, answered}
+use Rattle.buffers.specs.Effect.{Effect, untouched, opens_with, left_in, leaves}
 use Rattle.buffers.specs.Answers.{runs_as}
 use Rattle.buffers.specs.Calls.{Lending, BufferCall, effect_of, left_by, lent_lengths, fed, engine_after, Holds, zeros, held}
 use Rattle.buffers.specs.Outcomes.{Outcome, nothing, zeroed, opens, unlisted, listed, unwaited, accepted, reported, searched, unstored, stored, ran, opens_steady, unsteady}

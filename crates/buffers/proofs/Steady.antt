@@ -1,19 +1,19 @@
 -- After an accepted opening under the steady profile, whatever was called before it, no call up to the next opening is answered with 18, after no step does the state hold more
 -- processes, and never does it hold more than the opening left. From the machine's promises, since every list of calls does to the buffers what it does to the machine.
-use mathlib.Core.Path.{◌≡◌, refl, sym, ap, subst, ◌∙◌}
+use mathlib.Core.Path.{◌≡◌, sym, ap, subst, ◌∙◌}
 use mathlib.Core.List.{List, [], ◌∷◌, map}
 use Prim.Native.Nat.{ℕ, ◌≤◌}
 use lib.IntN.{ℤ, pos, nat_abs}
 use lib.ListN.{length, get_or}
 use Rattle.model.specs.Good.{Every}
 use Rattle.machine.specs.State.{state_numbers}
-use Rattle.machine.specs.Machine.{Answer, Machine, closed, Ask, open_steady', Call, call, Part, size, state, calls, after}
+use Rattle.machine.specs.Machine.{Answer, Machine, closed, Ask, open_steady', Call, call, state, calls, after}
 use Rattle.machine.specs.Steady.{processes_in, OpensNothing}
 use Rattle.machine.specs.Steady as machine
 use Rattle.machine.proofs.Profile.{steady-calls, steady-within}
 use Rattle.buffers.specs.Parts.{Engine, fresh, numbers_of}
 use Rattle.buffers.specs.Calls.{BufferCall, effect_of, left_by, lent_lengths, fed, engine_after, Holds, zeros, held}
-use Rattle.buffers.specs.Steady.{process_count, Steadily, AllSteadily, none, more}
+use Rattle.buffers.specs.Steady.{process_count, AllSteadily, none, more}
 use Rattle.buffers.proofs.Every.{call-goes, every-list}
 
 -- a buffer's count of processes is the machine's

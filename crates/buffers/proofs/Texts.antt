@@ -1,15 +1,15 @@
 -- After every list of calls the model buffer is that of the last accepted text: by induction on the calls, of which openings alone write it.
 use mathlib.Core.Path.{◌≡◌, refl, ap, ◌∙◌}
-use mathlib.Core.Bool.{Bool, true, false, cond}
+use mathlib.Core.Bool.{Bool, true, false}
 use mathlib.Core.List.{List, [], ◌∷◌}
 use mathlib.Core.Option.{Option, none, Option-elim}
 use Prim.Native.Nat.{ℕ}
 use lib.ListN.{length}
-use Rattle.model.specs.Opening.{Opening, refused, opened, opening}
-use Rattle.machine.specs.Machine.{Turn, Machine, closed, holding, Request, Ask, open', open_steady', on', Part, model, lent_to, uses, is_lent, has_lengths}
+use Rattle.model.specs.Opening.{Opening, refused, opened}
+use Rattle.machine.specs.Machine.{Machine, closed, holding, Request, Ask, open', open_steady', on', model, lent_to, uses, is_lent, has_lengths}
 use Rattle.buffers.specs.Parts.{Engine, fresh, numbers_of}
 use Rattle.buffers.specs.Effect.{Effect, untouched, opens_with, left_in, leaves, requested, answered}
-use Rattle.buffers.specs.Calls.{BufferCall, lent_engine, effect_of, left_by, lent_lengths, engine_after, Holds, zeros}
+use Rattle.buffers.specs.Calls.{BufferCall, lent_engine, left_by, lent_lengths, engine_after, Holds, zeros}
 use Rattle.buffers.specs.Texts.{keeps, reads, text_after, bytes_of}
 use Rattle.buffers.proofs.Local.{model-lent}
 use Rattle.buffers.proofs.Every.{IsOpening, plainly, steadily, stays, one-untouched, own-engine, left_as, asks-all, call-goes}

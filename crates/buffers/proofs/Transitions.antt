@@ -13,7 +13,7 @@ use lib.ListN.{length, get_or}
 use Rattle.model.specs.Resolved
 use Rattle.model.specs.Held as held
 use Rattle.model.specs.Good.{GoodModel}
-use Rattle.rules.specs.Listing.{Entry, entry, weight_of}
+use Rattle.rules.specs.Listing.{Entry, weight_of}
 use Rattle.rules.specs.Draw.{weights, total}
 use Rattle.rules.proofs.Chosen.{chooses-first}
 use Rattle.machine.specs.State.{State, state_numbers, GoodProcess, GoodState}

@@ -16,7 +16,6 @@ use Rattle.waits.proofs.Same.{by_runs}
 use Rattle.clock.specs.declared.Clock.{Clock}
 use Rattle.clock.specs.declared.Brought.{Brought}
 use Rattle.clock.specs.Clock.{clock_limit, ticks_of, brought, forwarded, waited, brought_by}
-use Rattle.model.specs.Resolved
 use Rattle.machine.specs.State.{State, state_numbers}
 use Rattle.machine.specs.Timed.{Timed, timed}
 use Rattle.machine.specs.Machine.{listing_length, Answer, no, Turn, turn, refused_as, with_wait, steps_in, times_with, steps_with, Held, Machine, holding, on_state, on_clock, step', timed', on', acts, Part, state, clock, size, is_lent, all_parts, has_lengths, call, on_machine, asked, calls}

@@ -1,5 +1,5 @@
 -- The numbers of buffers, with literal numbers, by computation, one to a row: the sheet's listing, an entry's places, a model buffer's first bytes.
-use Rattle.std.specs.Prelude.{◌≡◌, refl, List, [], ◌∷◌, ℕ, take}
+use Rattle.std.specs.Prelude.{◌≡◌, refl, List, [], ◌∷◌, take}
 use Rattle.rules.specs.Rules.{key}
 use Rattle.rules.specs.Listing.{Entry, entry}
 use Rattle.buffers.specs.Held.{model_bytes}

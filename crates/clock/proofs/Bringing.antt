@@ -1,18 +1,17 @@
 -- Two divisions are one, and each answer of a clock is the definition's: by the test that led to it.
-use mathlib.Core.Path.{◌≡◌, refl, sym, ap, ◌∙◌}
-use mathlib.Core.Bool.{Bool, true, false, cond, ◌&&◌}
+use mathlib.Core.Path.{◌≡◌, refl, sym}
+use mathlib.Core.Bool.{true, false}
 use mathlib.Core.List.{List}
-use Prim.Native.Nat.{ℕ, ◌+◌, ◌-◌, ◌*◌, ◌/◌, ◌≤◌, ◌<◌}
+use Prim.Native.Nat.{ℕ, ◌+◌, ◌*◌, ◌/◌, ◌≤◌, ◌<◌}
 use native.Mathlib.Nat.{div-div-eq-div-mul, div-le_self}
 use native.Mathlib.Omega.{arith}
 use borrow.Author.Tests.{le-leb, lt-leb}
-use lib.Dec.{leb}
 use Rattle.waits.specs.declared.Wait.{Wait}
 use Rattle.waits.specs.declared.Wait.TheVariants.{Given, Ended, Long}
 use Rattle.waits.specs.Runs.{wait_limit, wait_of, Within}
 use Rattle.clock.specs.declared.Clock.{Clock}
 use Rattle.clock.specs.declared.Brought.{Brought}
-use Rattle.clock.specs.Clock.{clock_limit, tick_limit, InRange, is_in_range, ticks_of, brought, forwarded, waited, brought_by}
+use Rattle.clock.specs.Clock.{clock_limit, tick_limit, is_in_range, ticks_of, brought, forwarded, waited, brought_by}
 
 -- ---- ticks
 pub two-divisions : (e total : ℕ) → (e * 1000000000000) / 65536 / total ≡ ticks_of e total

@@ -1,5 +1,5 @@
 -- The clock by computation (02, note 4), one to a row.
-use Rattle.std.specs.Prelude.{◌≡◌, refl, List, [], ◌∷◌, ℕ}
+use Rattle.std.specs.Prelude.{◌≡◌, refl, [], ◌∷◌, ℕ}
 use Rattle.waits.specs.Runs.{next_in_run, read, settled, waiting, wait_of}
 use Rattle.clock.specs.declared.Clock.{Clock}
 use Rattle.clock.specs.Clock.{ticks_of, brought, forwarded, waited, brought_by}

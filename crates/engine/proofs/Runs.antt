@@ -1,8 +1,7 @@
 -- What a run over lent buffers came to is what the call gives.
 use mathlib.Core.List.{List}
 use Prim.Native.Nat.{ℕ}
-use lib.IntN.{ℤ}
-use Rattle.buffers.specs.Parts.{Engine, lent_timed}
+use Rattle.buffers.specs.Parts.{Engine}
 use Rattle.buffers.specs.Effect.{Effect}
 use Rattle.running.specs.declared.Progress.{Progress}
 use Rattle.simulation.specs.Comes.{Comes}

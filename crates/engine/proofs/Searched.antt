@@ -1,7 +1,7 @@
 -- Question 1 of a search: a wrong length leaves everything as it was; right ones let it go on.
-use mathlib.Core.Path.{◌≡◌, refl, ap, ◌∙◌}
+use mathlib.Core.Path.{◌≡◌, refl, ◌∙◌}
 use mathlib.Core.List.{List, []}
-use mathlib.Core.Bool.{Bool, true, false, ◌&&◌, and-true}
+use mathlib.Core.Bool.{true, false, and-true}
 use mathlib.Core.Option.{Option-elim}
 use Prim.Native.Nat.{ℕ}
 use lib.IntN.{ℤ}

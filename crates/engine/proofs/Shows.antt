@@ -3,11 +3,11 @@ use mathlib.Core.Path.{◌≡◌, refl, sym, ap, ◌∙◌}
 use mathlib.Core.List.{List, [], ◌∷◌, ◌++◌}
 use mathlib.Core.Bool.{Bool, true, false, cond}
 use mathlib.Core.Option.{Option, none, some, Option-elim}
-use Prim.Native.Nat.{ℕ, ◌-◌, ◌*◌, ◌≤◌, ◌<◌}
+use Prim.Native.Nat.{ℕ, ◌-◌, ◌*◌, ◌≤◌}
 use native.Mathlib.Omega.{arith}
 use lib.Dec.{leb}
 use lib.IntN.{ℤ}
-use lib.ListN.{length, get_or, take, replicate, length-take, length-map}
+use lib.ListN.{length, take, replicate}
 use Rattle.model.specs.Resolved
 use Rattle.model.specs.Limits.{branch_limit}
 use Rattle.model.specs.Good.{GoodSum}
@@ -15,7 +15,7 @@ use Rattle.rules.specs.Rules.{key}
 use Rattle.rules.specs.Listing as rules
 use Rattle.rules.specs.Draw.{weights, total}
 use Rattle.machine.specs.Offer.{missing, branches}
-use Rattle.machine.specs.State.{State, state_length, state_numbers, GoodState}
+use Rattle.machine.specs.State.{State, state_length, state_numbers}
 use Rattle.machine.specs.Machine as machine
 use Rattle.machine.specs.Machine.{Listed, entries_are, refused_with, zeroed, no, listed_as, entry_limit, total_limit, counted, turn, showing, lists, listing_length, held, closed, holding, on_state, Request, list', acts, Part, model, state, saves, clock, two_parts, uses, is_lent, on_machine}
 use Rattle.machine.proofs.Everys.{every_in, in-every}
@@ -25,7 +25,7 @@ use Rattle.listing.specs.Buffer.{rows, filled_numbers, listed_answer, Lists}
 use Rattle.listing.specs.Buffer as buffer
 use Rattle.listing.specs.declared.Listed.{Listed as Found}
 use Rattle.buffers.specs.Listing.{entry_numbers, entries_numbers, listing_numbers, shown}
-use Rattle.buffers.specs.Parts.{Engine, numbers_of, lent_two}
+use Rattle.buffers.specs.Parts.{Engine, lent_two}
 use Rattle.buffers.specs.Effect.{machine_over, left_in, leaves, requested}
 use Rattle.engine.specs.Gives.{Gives, bare}
 use Rattle.store.specs.Tables.{Tables}

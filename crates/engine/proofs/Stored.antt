@@ -5,7 +5,7 @@ use mathlib.Core.List.{List, [], ◌++◌, append-nil}
 use mathlib.Core.Option.{Option, none, some, Option-elim}
 use Prim.Native.Nat.{ℕ}
 use native.Mathlib.Omega.{arith}
-use borrow.Author.Tests.{eqb-true, eq-eqb, ne_eqb}
+use borrow.Author.Tests.{eq-eqb, ne_eqb}
 use lib.Dec.{eqb, ltb}
 use lib.IntN.{ℤ, pos}
 use lib.ListN.{length, take, drop, replicate, length-append, length-drop, drop_of_length-le}
@@ -20,19 +20,19 @@ use Rattle.machine.specs.Timed.{Timed, timed, GoodTimed, clock_length}
 use Rattle.machine.proofs.Numbers.{state-length}
 use Rattle.machine.proofs.Saves.{returning-holds, StoredAnswers, accepts, refuses, returning-answers}
 use Rattle.state.specs.Test.{at}
-use Rattle.machine.specs.Saves.{is_name, Saves, SavesOf, save_limit, place_of, place_for, kept_under, place_width, timed_length, saves_length, Stored, stored, replaced, removed, saving, returning, forgetting}
-use Rattle.machine.specs.Machine.{as_lent, no, Held, held_all, held_with, Machine, closed, holding, on_saves, Request, save', return', forget', on', acts, Part, model, state, saves, clock, three_parts, four_parts, uses, is_lent, all_parts, on_machine}
-use Rattle.state.specs.Fits.{scopes_of, FewLocals}
+use Rattle.machine.specs.Saves.{is_name, Saves, save_limit, place_of, place_for, kept_under, place_width, timed_length, saves_length, Stored, stored, replaced, removed, saving, returning, forgetting}
+use Rattle.machine.specs.Machine.{no, Held, held_all, Machine, closed, holding, on_saves, Request, save', return', forget', on', acts, Part, model, state, saves, clock, three_parts, four_parts, uses, is_lent, all_parts, on_machine}
+use Rattle.state.specs.Fits.{scopes_of}
 use Rattle.state.specs.Test.{is_state}
 use Rattle.state.proofs.Over.{few-scopes}
 use Rattle.saves.specs.Keys.{key_numbers}
-use Rattle.saves.specs.Kept.{clock_place, besides, kept_numbers, is_natural, clock_at, FitsKept}
+use Rattle.saves.specs.Kept.{clock_place, besides, kept_numbers, is_natural, clock_at}
 use Rattle.saves.specs.Places.{saves_numbers, is_saves}
 use Rattle.saves.specs.Change.{place_with, with_row, Written, written, saving_numbers, returning_numbers, forgetting_numbers, stored_numbers, Stores}
 use Rattle.saves.proofs.Over.{saves-fit}
 use Rattle.saves.proofs.Change.{saving-numbers, returning-numbers, forgetting-numbers}
 use Rattle.buffers.specs.Held.{held_in}
-use Rattle.buffers.specs.Parts.{Engine, clock_numbers, clock_in, is_part, read_held, lent_three, lent_all, with_stored, with_kept}
+use Rattle.buffers.specs.Parts.{Engine, clock_numbers, is_part, read_held, lent_three, lent_all, with_stored, with_kept}
 use Rattle.buffers.specs.Effect.{machine_over, machine_in, leaves, requested, answered}
 use Rattle.buffers.specs.Answers.{stores_as, keeps_as}
 use Rattle.buffers.proofs.Clocks as clocks

@@ -3,9 +3,9 @@ use mathlib.Core.Path.{◌≡◌, refl, sym, ap, ap₂, ◌∙◌}
 use mathlib.Core.Bool.{Bool, true, false, cond, ◌&&◌, and-true}
 use mathlib.Core.List.{List, ◌++◌, append-nil}
 use mathlib.Core.Option.{Option, none, some, Option-elim}
-use Prim.Native.Nat.{ℕ, zero, suc, ◌≤◌, ◌<◌}
+use Prim.Native.Nat.{ℕ, zero, suc, ◌<◌}
 use native.Mathlib.Omega.{arith}
-use borrow.Author.Tests.{eqb-true, eqb-false, eq-eqb, ne_eqb}
+use borrow.Author.Tests.{eq-eqb, ne_eqb}
 use lib.Dec.{eqb}
 use lib.IntN.{ℤ}
 use lib.ListN.{length, take, drop, drop_of_length-le}
@@ -15,18 +15,17 @@ use Rattle.clock.specs.declared.Brought.{Brought}
 use Rattle.clock.specs.Clock.{is_in_range, brought_by}
 use Rattle.model.specs.Resolved
 use Rattle.rules.specs.Listing.{Entry}
-use Rattle.rules.specs.Draw.{weights, total, chosen}
+use Rattle.rules.specs.Draw.{weights, total}
 use Rattle.machine.specs.State.{State, state_length, state_numbers}
 use Rattle.machine.specs.Timed.{Timed, timed}
-use Rattle.machine.specs.Machine as machine
-use Rattle.machine.specs.Machine.{model_length, listing_length, Answer, no, listed_as, Listed, entries_are, refused_with, listing, Turn, turn, refusing, accepting, drawn, choosing, steps_with, refused_as, with_wait, steps_in, times_with, held, held_all, Machine, closed, holding, on_state, on_clock, step', timed', on', acts, Part, model, state, saves, clock, two_parts, timed_parts, is_lent, all_parts, has_lengths, on_machine}
+use Rattle.machine.specs.Machine.{model_length, listing_length, Answer, no, listed_as, Listed, listing, Turn, turn, refusing, drawn, choosing, steps_with, refused_as, with_wait, steps_in, times_with, held, Machine, closed, holding, on_state, on_clock, step', timed', on', acts, Part, model, state, saves, clock, two_parts, timed_parts, is_lent, all_parts, has_lengths, on_machine}
 use Rattle.machine.specs.Questions.{Lists, no12, no13, no14, yes14, Steps, no15, no16, no17, no18, no19, yes19}
 use Rattle.machine.proofs.Listing as listing
 use Rattle.machine.proofs.Stepping as stepping
 use Rattle.buffers.specs.Held.{held_in}
 use Rattle.buffers.specs.Listing.{shown}
-use Rattle.buffers.specs.Parts.{Engine, clock_numbers, clock_in, numbers_of, is_part, read_held, lent_two, lent_timed}
-use Rattle.buffers.specs.Effect.{Effect, machine_over, machine_in, untouched, left_in, leaves, requested, answered, effect}
+use Rattle.buffers.specs.Parts.{Engine, clock_numbers, numbers_of, is_part, read_held, lent_two, lent_timed}
+use Rattle.buffers.specs.Effect.{Effect, machine_over, machine_in, left_in, leaves, requested, answered, effect}
 use Rattle.buffers.proofs.Machines as machines
 use Rattle.buffers.proofs.Machines.{InTwo, both, in_two, machine-over}
 use Rattle.buffers.proofs.Clocks.{held_at, clocked, timed-in}

@@ -15,7 +15,7 @@ use Rattle.rules.specs.Offers as offers
 use Rattle.tables.specs.Settled.{Expr, Set, OneOrTwo}
 use Rattle.tables.proofs.Parts.{pair-above, pair-second}
 use Rattle.model.specs.Good.{Every}
-use Rattle.machine.specs.Evaluate.{given, eval_set, eval_all, eval_value}
+use Rattle.machine.specs.Evaluate.{eval_set, eval_all, eval_value}
 use Rattle.machine.specs.Offer.{is_none}
 use Rattle.eval.specs.Held.{Held, Worth}
 use Rattle.eval.specs.Answers.{ends_known}

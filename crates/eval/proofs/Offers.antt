@@ -1,25 +1,23 @@
 -- What a node says of the action, prefix or branch that stands there, by its kind. By cases of what stands.
-use mathlib.Core.Path.{◌≡◌, refl, sym, ap, subst, ◌∙◌}
+use mathlib.Core.Path.{◌≡◌, refl, sym, ap, ◌∙◌}
 use mathlib.Core.List.{List, [], ◌∷◌}
-use mathlib.Core.Bool.{Bool, true, false, cond, ◌||◌}
+use mathlib.Core.Bool.{Bool, true, false, cond}
 use mathlib.Core.Option.{Option, none, some}
 use Prim.Native.Nat.{ℕ, ◌-◌, ◌≤◌, ◌<◌}
 use native.Mathlib.Omega.{arith}
 use borrow.Author.Tests.{eq-eqb, ne_eqb}
 use lib.Dec.{eqb}
-use lib.IntN.{ℤ, pos}
-use lib.ListN.{length, get_or}
-use Rattle.value.specs.declared.Value.{Value}
-use Rattle.value.specs.declared.Value.TheVariants.{Is, Missing}
+use lib.IntN.{ℤ}
+use lib.ListN.{get_or}
 use Rattle.value.proofs.Kit.{true-not-false, false-not-true}
-use Rattle.tree.specs.Node.{kind_of, token_of, left_of, third_of}
+use Rattle.tree.specs.Node.{kind_of, left_of}
 use Rattle.model.specs.Resolved
 use Rattle.rules.specs.Offers as offers
 use Rattle.tables.specs.Settled as Settled
 use Rattle.tables.specs.Settled.{OneOrTwo}
 use Rattle.tables.proofs.Parts.{pair-above, pair-second}
-use Rattle.model.specs.Good.{GoodExpr, GoodCond, GoodGate, GoodName, GoodRate, GoodAction, GoodBranch}
-use Rattle.machine.specs.Evaluate.{valued, given, eval_expr, eval_channel, eval_all, eval_value, eval_pair, eval_query, eval_set, eval_cond, eval_rate, eval_action, eval_offer, eval_gate, eval_branch}
+use Rattle.model.specs.Good.{GoodCond, GoodGate, GoodRate, GoodAction, GoodBranch}
+use Rattle.machine.specs.Evaluate.{given, eval_channel, eval_all, eval_value, eval_pair, eval_query, eval_set, eval_cond, eval_rate, eval_action, eval_offer, eval_gate, eval_branch}
 use Rattle.eval.specs.declared.channel.Channel.{Channel}
 use Rattle.eval.specs.declared.Rate.TheVariants.{Is as RateIs, Missing as NoRate}
 use Rattle.eval.specs.declared.Truth.TheVariants.{Yes, No, Missing as Unknown}
@@ -28,7 +26,7 @@ use Rattle.eval.specs.declared.offer.Offer.{Offer}
 use Rattle.eval.specs.declared.offer.Listed.{Listed}
 use Rattle.eval.specs.Held.{Held, Worth}
 use Rattle.eval.specs.Answers.{truth_of, truth}
-use Rattle.eval.specs.Rates.{rate_of, rate_answer}
+use Rattle.eval.specs.Rates.{rate_answer}
 use Rattle.eval.specs.Channels.{ShowsChannel, channel_of, channel_answer}
 use Rattle.eval.specs.Lists.{values_of, values_answer}
 use Rattle.eval.specs.Shown

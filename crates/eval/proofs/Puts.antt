@@ -5,7 +5,7 @@ use mathlib.Core.Option.{some, Option-elim}
 use Prim.Native.Nat.{ℕ, ◌+◌, ◌-◌, ◌*◌, ◌≤◌, ◌<◌}
 use native.Mathlib.Omega.{arith}
 use lib.IntN.{ℤ, pos}
-use lib.ListN.{length, get_or, get_elem?, take, replicate, length-append, length-map, length-replicate}
+use lib.ListN.{length, get_or, get_elem?, take, replicate, length-append, length-map}
 use lib.Seq.{sets}
 use Rattle.value.specs.Range.{InRange}
 use Rattle.tree.specs.Node.{kind_of, token_of, left_of, third_of}
@@ -18,7 +18,7 @@ use Rattle.machine.specs.Evaluate.{eval_expr}
 use Rattle.tables.specs.Settled as Settled
 use Rattle.tables.specs.Settled.{Called, Parts, entered, called-bare, called, grouped, items}
 use Rattle.tables.specs.Represents.{Sums}
-use Rattle.model.specs.Good.{Every, GoodExpr, GoodPart, GoodDefined, GoodSum, GoodModel, SumWith}
+use Rattle.model.specs.Good.{Every, GoodPart, GoodDefined, GoodSum, GoodModel, SumWith}
 use Rattle.machine.specs.Offer as machine
 use Rattle.machine.specs.Offer.{Process, part_processes, next_processes}
 use Rattle.machine.specs.State.{GoodProcess, process_width, process_numbers}
@@ -27,8 +27,8 @@ use Rattle.machine.proofs.Everys.{every-nth}
 use Rattle.machine.proofs.Continues.{next-good}
 use Rattle.eval.specs.Next as become
 use Rattle.eval.specs.Next.{arguments, Room, Scoped, SumsFit, CallFits, Continues, Rows, Spaced}
-use Rattle.eval.proofs.Continuations.{next-append, group-continues, items-continue, sum-part, call-part, Body, body}
-use Rattle.eval.proofs.Rows.{Few, filled, rows-one, rows_then, rows-size}
+use Rattle.eval.proofs.Continuations.{next-append, group-continues, items-continue, sum-part, call-part, body}
+use Rattle.eval.proofs.Rows.{Few, filled, rows-one, rows_then}
 
 -- ---- few locals
 sum-few : (m : Resolved.Model) → GoodModel m → (n k : ℕ) → SumWith m n k → n ≤ local_limit

@@ -1,5 +1,5 @@
 -- What a branch offers as numbers: an offer's kind, rate, channel, and values or sets. Assumes nothing: these are definitions.
-use Rattle.std.specs.Prelude.{◌≡◌, List, [], ◌∷◌, Bool, cond, not, ◌||◌, ℕ, ◌+◌, ◌-◌, eqb, ℤ, pos, length, get_or}
+use Rattle.std.specs.Prelude.{◌≡◌, List, [], ◌∷◌, Bool, cond, not, ◌||◌, ℕ, ◌+◌, ◌-◌, eqb, ℤ, pos, length}
 use Rattle.std.proofs.Math.Option.{Option, none, some}
 use Rattle.value.specs.declared.Value.{Value}
 use Rattle.value.specs.declared.Value.TheVariants.{Is, Missing}

@@ -1,18 +1,18 @@
 -- Every tree of the grammar stands in its list (Every.antt) once the depth is four times the number of its tokens, and a little: by recursion on the trees, from their widths.
-use mathlib.Core.Path.{◌≡◌, refl, sym, subst}
+use mathlib.Core.Path.{refl, sym, subst}
 use mathlib.Core.List.Memᴰ.{append_left as left}
 use mathlib.Core.List.Memᴰ.{append_right as right}
 use mathlib.Core.List.Memᴰ.{head}
 use mathlib.Core.List.Memᴰ.{map as mapped}
 use mathlib.Core.List.Memᴰ.{tail}
-use mathlib.Core.List.{List, [], ◌∷◌, map, Memᴰ as In}
+use mathlib.Core.List.{List, ◌∷◌, map, Memᴰ as In}
 use Prim.Native.Nat.{ℕ, zero, suc, ◌+◌, ◌*◌, ◌≤◌}
 use native.Mathlib.Omega.{arith}
 use Rattle.grammar.specs.Grammar
 use Rattle.grammar.specs.Grammar.{Whole, Relation, Number, Expr, Terms, Term, Factors, Atom, Exprs, Args, Part, Parts, Set, Test, Ands, Ors, Cond, Scale, Rate, Values, Sets, Names, Channel, Action, Gate, Prefix, Next, Cont, Item, Items, Choices, Sums, Body, Params, Wholes, Starts, Start, System, Definitions, Model}
 use Rattle.grammar.specs.Grammar.{flat_expr, flat_terms, flat_term, flat_factors, flat_atom, flat_exprs, flat_args, flat_part, flat_parts, flat_set, flat_test, flat_ands, flat_ors, flat_cond, flat_rate, flat_values, flat_sets, flat_names, flat_channel, flat_action, flat_gate, flat_prefix, flat_next, flat_cont, flat_item, flat_items, flat_choices, flat_sums, flat_body, flat_params, flat_wholes, flat_starts, flat_start, flat_system, flat_definitions, flat_model}
 use Rattle.grammar.specs.Syntax.{wide}
-use Rattle.grammar.specs.Every.{only, ◌∗◌, ◌or◌, every_whole, every_relation, every_number, every_expr, every_terms, every_term, every_factors, every_atom, every_exprs, every_args, every_part, every_parts, every_set, every_test, every_ands, every_ors, every_cond, every_scale, every_rate, every_values, every_sets, every_names, every_channel, every_action, every_gate, every_prefix, every_next, every_cont, every_item, every_items, every_choices, every_sums, every_body, every_params, every_wholes, every_starts, every_start, every_system, every_definitions, every_model}
+use Rattle.grammar.specs.Every.{◌∗◌, ◌or◌, every_whole, every_relation, every_number, every_expr, every_terms, every_term, every_factors, every_atom, every_exprs, every_args, every_part, every_parts, every_set, every_test, every_ands, every_ors, every_cond, every_scale, every_rate, every_values, every_sets, every_names, every_channel, every_action, every_gate, every_prefix, every_next, every_cont, every_item, every_items, every_choices, every_sums, every_body, every_params, every_wholes, every_starts, every_start, every_system, every_definitions, every_model}
 use Rattle.grammar.proofs.Wide.{wide-expr, wide-terms, wide-term, wide-factors, wide-atom, wide-exprs, wide-args, wide-part, wide-parts, wide-set, wide_test, wide-ands, wide-ors, wide-cond, wide-rate, wide-values, wide-sets, wide-names, wide-channel, wide-action, wide-gate, wide-prefix, wide-next, wide-cont, wide-item, wide-items, wide-choices, wide-sums, wide-body, wide-params, wide-wholes, wide-starts, wide-start, wide-system, wide-definitions, wide-model}
 
 infixl 70 ◌⊙◌

@@ -1,7 +1,7 @@
 -- How operators nest, by computation, one to a row: `+ -` below `* /`, `|` below `&`, each left to right (01, Model text). A row gives the tokens of an expression, a set or a
 -- condition, the tree that is written so, and the syntax tree that it has, whose leaves are numbered by their tokens.
 use mathlib.Core.Path.{◌≡◌, refl}
-use mathlib.Core.List.{List, [], ◌∷◌}
+use mathlib.Core.List.{[], ◌∷◌}
 use mathlib.Core.Bool.{true, false}
 use Prim.Native.Nat.{ℕ}
 use Rattle.token.specs.Kind as kind

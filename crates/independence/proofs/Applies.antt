@@ -1,5 +1,5 @@
 -- From the code's answer to the claim of 02, note 14: the answer for two entries' numbers is the test of the entries, so the rule machine's claim and the buffers' claim hold.
-use mathlib.Core.Path.{◌≡◌, refl, sym, ap, ap₂, ◌∙◌}
+use mathlib.Core.Path.{◌≡◌, refl, sym, ap₂, ◌∙◌}
 use mathlib.Core.Bool.{true}
 use mathlib.Core.Logic.{◌↔◌}
 use mathlib.Core.List.{List}
@@ -17,7 +17,6 @@ use Rattle.machine.specs.Machine.{Held, Machine, holding}
 use Rattle.machine.specs.Independent as machine
 use Rattle.machine.proofs.Independent.{independent-entries}
 use Rattle.buffers.specs.Listing.{entry_numbers}
-use Rattle.buffers.specs.Effect.{Effect}
 use Rattle.buffers.specs.Independent.{stepped, Passes, row_at, Takes}
 use Rattle.buffers.proofs.Independent.{same_numbers}
 use Rattle.independence.specs.Judged.{entry_in, judged}

@@ -1,23 +1,18 @@
 -- One more byte of a script: the line it is in, and where the script stands then; from the definitions and what reading a line promises.
-use Rattle.std.proofs.Common.{◌≡◌, ℕ, ◌+◌, ◌%◌, ◌<◌, ◌≤◌, Bool, true, false, cond, eqb, List, [], ◌∷◌, ◌++◌, length, sym, refl, ap, ◌∙◌, subst, append_assoc, append-nil, add-one, arith, length-append, eq-eqb, ne_eqb}
+use Rattle.std.proofs.Common.{◌≡◌, ℕ, ◌+◌, ◌%◌, ◌<◌, ◌≤◌, true, List, [], ◌∷◌, ◌++◌, sym, refl, ap, ◌∙◌, subst, append_assoc, append-nil, arith, length-append, ne_eqb}
 use mathlib.Core.Option.{some}
 use native.Mathlib.Nat.{mod-add-mod}
 use Rattle.token.specs.Bytes.{line_feed}
 use Rattle.lines.specs.declared.line.Line.{Line}
 use Rattle.lines.specs.declared.line.Line.TheVariants.{Open, Steady, List as Listing, Step, State, Report, Save, Return, Forget, Time, Wait, Clock, Independent, Search, Word, Run, Bad}
-use Rattle.lines.specs.declared.line.Rest.TheVariants.{Nothing}
 use Rattle.lines.specs.declared.line.Reading.{Reading}
-use Rattle.lines.specs.declared.script.Part.{Part}
 use Rattle.lines.specs.declared.script.Part.TheVariants.{InLine, InText}
-use Rattle.lines.specs.declared.script.Script.{Script}
 use Rattle.lines.specs.declared.script.Taken.{Taken}
-use Rattle.lines.specs.declared.script.Taken.TheVariants.{Goes, Asks, Wrong}
-use Rattle.lines.specs.declared.script.Ending.TheVariants.{Done, Broken}
 use Rattle.lines.specs.Limit.{limit}
 use Rattle.lines.specs.Two.{run}
 use Rattle.lines.specs.Line.{line_of, empty, rest_of, packed, head_of, after_of, kept, Reads}
 use Rattle.lines.proofs.Heads.{none_read, some_read}
-use Rattle.lines.specs.Script.{breaks, number_after, is_short, text_of, Items, LineBegun, TextBegun, Stands, Misplaced, Takes, Cut, Ends, next, fresh, ended}
+use Rattle.lines.specs.Script.{breaks, number_after, is_short, text_of, Items, LineBegun, TextBegun, Stands, Misplaced, Takes, Cut, next, fresh, ended}
 
 -- ---- lines are counted
 breaks-append : (s t : List ℕ) → breaks (s ++ t) ≡ breaks s + breaks t

@@ -1,9 +1,8 @@
 -- What the branch in a row lists, by its kind, and all rows together. By cases of the action, and from the laws of slots.
-use Prim.Native.Nat.{ℕ, zero, suc, ◌+◌, ◌-◌, ◌*◌, ◌≤◌, ◌<◌, min}
+use Prim.Native.Nat.{ℕ, zero, suc, ◌+◌, ◌-◌, ◌*◌, ◌≤◌, ◌<◌}
 use mathlib.Core.Path.{◌≡◌, refl, sym, ap, ◌∙◌}
-use mathlib.Core.Bool.{Bool, true, false}
 use mathlib.Core.List.{List, [], ◌∷◌, ◌++◌, append_assoc}
-use mathlib.Core.Option.{Option, none, some, Option-elim}
+use mathlib.Core.Option.{none, some, Option-elim}
 use native.Mathlib.Omega.{arith}
 use lib.IntN.{ℤ}
 use lib.ListN.{length, get_elem?, take, drop, length-append}
@@ -19,7 +18,7 @@ use Rattle.machine.specs.Machine as machine
 use Rattle.eval.specs.declared.offer.Offer.{Offer}
 use Rattle.eval.specs.Shown as shown
 use Rattle.eval.specs.Shown.{bare_offer, ShowsPair, ShowsAction}
-use Rattle.offers.specs.Slots.{Slot, slots, partner_of, of_slot, at_number, up_to}
+use Rattle.offers.specs.Slots.{Slot, partner_of, of_slot, at_number, up_to}
 use Rattle.offers.specs.Walk.{slots_of}
 use Rattle.offers.specs.declared.Collected.TheVariants.{Rows, Missing, Full}
 use Rattle.offers.specs.Links.{row_limit}

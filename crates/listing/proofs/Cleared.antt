@@ -5,7 +5,6 @@ use mathlib.Core.List.{List, [], ◌∷◌, ◌++◌}
 use native.Mathlib.Numerals.{add-one}
 use native.Mathlib.Omega.{arith}
 use lib.ListN.{length, set, take, drop, replicate}
-use lib.Seq.{take-nil, drop-nil}
 
 -- a below i, b from i on
 abbrev pub mix : ℕ → List ℕ → List ℕ → List ℕ

@@ -1,16 +1,16 @@
 -- Matching by the numbers that show sets, values and channels. By cases of what is shown.
-use Prim.Native.Nat.{ℕ, zero, suc, ◌+◌, ◌≤◌, ◌<◌}
+use Prim.Native.Nat.{ℕ, ◌≤◌, ◌<◌}
 use mathlib.Core.Path.{◌≡◌, refl, sym, ap, ◌∙◌}
-use mathlib.Core.Bool.{Bool, true, false, ◌&&◌, ◌||◌}
-use mathlib.Core.List.{List, [], ◌∷◌}
+use mathlib.Core.Bool.{Bool, true, false, ◌&&◌}
+use mathlib.Core.List.{List}
 use native.Mathlib.Omega.{arith}
-use lib.IntN.{ℤ, pos}
+use lib.IntN.{ℤ}
 use Rattle.value.specs.Arithmetic.{is_same}
 use Rattle.value.proofs.Kit.{true-not-false, same-eq, eq-same}
 use Rattle.rules.proofs.Decides as decides
 use Rattle.rules.proofs.Decides.{on, passes, refuses}
 use Rattle.rules.specs.Offers as offers
-use Rattle.rules.specs.Listing.{same_channel, all_within, matches}
+use Rattle.rules.specs.Listing.{same_channel, all_within}
 use Rattle.eval.specs.Shown as shown
 use Rattle.eval.specs.Shown.{ShowsValues, ShowsSet, ShowsSets}
 use Rattle.eval.specs.Channels.{shape_of, first_of, second_of, third_of, ShowsChannel}

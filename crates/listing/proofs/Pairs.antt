@@ -1,9 +1,9 @@
 -- What a state's numbers say of its lit pairs. From the laws of states.
-use Prim.Native.Nat.{ℕ, zero, suc, ◌+◌, ◌*◌, ◌≤◌, ◌<◌}
-use mathlib.Core.Path.{◌≡◌, refl, sym, ap, ◌∙◌}
-use mathlib.Core.Bool.{Bool, true, false}
+use Prim.Native.Nat.{ℕ, ◌+◌, ◌≤◌, ◌<◌}
+use mathlib.Core.Path.{◌≡◌, refl, ap, ◌∙◌}
+use mathlib.Core.Bool.{true}
 use mathlib.Core.List.{List, [], ◌∷◌, ◌++◌, map}
-use mathlib.Core.Option.{Option, none, some}
+use mathlib.Core.Option.{some}
 use native.Mathlib.Omega.{arith}
 use lib.IntN.{ℤ, pos, nat_abs}
 use lib.ListN.{length, get_or, get_elem?, set}
@@ -21,7 +21,7 @@ use Rattle.model.specs.Good.{OneOrTwo}
 use Rattle.machine.specs.State.{State, GoodPair, padded, pair_numbers, channel_width, pair_width}
 use Rattle.machine.proofs.Branches.{get_nth}
 use Rattle.machine.proofs.Everys.{every-nth}
-use Rattle.state.specs.Read.{Passed, pair_count, pair_row}
+use Rattle.state.specs.Read.{pair_count, pair_row}
 use Rattle.state.specs.Fits.{scopes_of}
 use Rattle.state.proofs.Over.{good-fits, few-scopes}
 use Rattle.state.proofs.Read.{count-numbers, row-numbers}

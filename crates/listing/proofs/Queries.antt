@@ -1,11 +1,10 @@
 -- What receives and checks list, by the kind that a row shows, and what is sent to a handshake receive. By cases of the action.
-use Prim.Native.Nat.{ℕ, zero, suc, ◌+◌, ◌≤◌, ◌<◌}
-use mathlib.Core.Path.{◌≡◌, refl, sym, ap, ◌∙◌}
-use mathlib.Core.Bool.{Bool, true, false, cond, ◌&&◌}
+use Prim.Native.Nat.{ℕ, ◌≤◌, ◌<◌}
+use mathlib.Core.Path.{◌≡◌, refl, ap}
+use mathlib.Core.Bool.{Bool, true, false}
 use mathlib.Core.List.{List, [], ◌∷◌}
 use native.Mathlib.Omega.{arith}
 use lib.IntN.{ℤ, pos}
-use lib.ListN.{length}
 use Rattle.value.specs.Range.{InRange}
 use Rattle.model.specs.Resolved
 use Rattle.rules.specs.Offers as offers
@@ -14,7 +13,7 @@ use Rattle.rules.specs.Rules.{key, rate_weight}
 use Rattle.rules.specs.Listing.{Entry, entry, gather, when, unless, same_channel, all_within, matches, any_match, of_action}
 use Rattle.model.specs.Good.{Every}
 use Rattle.machine.specs.State.{State}
-use Rattle.machine.specs.Offer.{Process, branches}
+use Rattle.machine.specs.Offer.{branches}
 use Rattle.eval.specs.declared.offer.Offer.{Offer}
 use Rattle.eval.specs.Shown as shown
 use Rattle.eval.specs.Shown.{bare_offer, ShowsValues, ShowsPair, ShowsQuery, ShowsAction}

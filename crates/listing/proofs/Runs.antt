@@ -1,9 +1,9 @@
 -- Receives and checks look only at the run of their channel: outside it no pair matches. By cases of where a pair stands.
 use Prim.Native.Nat.{ℕ, zero, suc, ◌+◌, ◌≤◌, ◌<◌}
 use mathlib.Core.Path.{◌≡◌, refl, sym, ap, ◌∙◌}
-use mathlib.Core.Bool.{Bool, true, false, cond, ◌&&◌, ◌||◌}
+use mathlib.Core.Bool.{Bool, true, false, ◌&&◌, ◌||◌}
 use mathlib.Core.List.{List, [], ◌∷◌, ◌++◌}
-use mathlib.Core.Logic.{◌⊎◌, inl, inr, ⊎_elim}
+use mathlib.Core.Logic.{◌⊎◌, inl, inr}
 use mathlib.Core.Option.{Option, none, some, Option-elim}
 use native.Mathlib.Omega.{arith}
 use borrow.Author.Tests.{ltb-true, ltb-false}
@@ -12,13 +12,11 @@ use lib.ListN.{length, get_elem?}
 use Rattle.rules.specs.Offers as offers
 use Rattle.rules.specs.Rules.{key, rate_weight}
 use Rattle.rules.specs.Kind as kind
-use Rattle.rules.specs.Listing.{Entry, entry, gather, when, same_channel, all_within, matches, any_match}
+use Rattle.rules.specs.Listing.{entry, gather, when, same_channel, all_within, matches, any_match}
 use Rattle.machine.proofs.Branches.{none-not-some}
 use Rattle.offers.specs.Slots.{at_number, up_to}
 use Rattle.offers.proofs.Numbered.{up_none, up_one, up-skip, at_some, gather-up}
-use Rattle.listing.specs.Buffer.{Adds}
 use Rattle.listing.specs.Ready.{RunIs, bound_at}
-use Rattle.listing.proofs.Added.{adds_none, adds_then}
 use Rattle.listing.proofs.Matching.{same-is, is_same_lem}
 
 -- ---- one pair

@@ -18,7 +18,7 @@ use Rattle.rules.proofs.Independent.{commutes}
 use Rattle.rules.proofs.Judged.{independent-exactly}
 use Rattle.machine.specs.Offer.{branches}
 use Rattle.machine.specs.State.{State}
-use Rattle.machine.specs.Machine.{Shown, as_lent, zeroed, filled, reported, happened, Answer, no, listed_as, Listed, entries_are, refused_with, listing, entry_state, Turn, turn, drawn, choosing, steps_with, Held, moved, Machine, closed, holding, on_state, step', acts, on_machine, Call, after}
+use Rattle.machine.specs.Machine.{Shown, as_lent, zeroed, filled, reported, happened, no, listed_as, Listed, entries_are, listing, entry_state, Turn, turn, drawn, choosing, steps_with, Held, moved, Machine, closed, holding, on_state, step', acts, on_machine, Call, after}
 use Rattle.machine.specs.Questions.{IsListing, Lists, no12, no13, no14, yes14, Steps, no15, no16, no17, no18, no19, yes19}
 use Rattle.machine.specs.Independent.{Takes}
 use Rattle.machine.proofs.Listing.{asked, accepted}

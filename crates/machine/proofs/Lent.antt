@@ -9,7 +9,7 @@ use lib.Dec.{eqb}
 use borrow.Author.Tests.{eqb-true, eqb-false, eq-eqb}
 use Rattle.value.proofs.Kit.{true-not-false, false-not-true}
 use Rattle.rules.proofs.Decides.{Decides, holds, fails, both}
-use Rattle.machine.specs.Machine.{Ask, Part, model, state, saves, clock, size, part_number, lent_to, output_of, is_lent, all_parts, has_lengths, Call}
+use Rattle.machine.specs.Machine.{Part, model, state, saves, clock, size, part_number, lent_to, output_of, is_lent, all_parts, has_lengths, Call}
 use Rattle.machine.specs.Results.{Lent}
 
 -- ---- parts by their number

@@ -27,7 +27,7 @@ use Rattle.runs.specs.Tree as tree
 use Rattle.runs.specs.Walk as walk
 use Rattle.machine.specs.State.{State}
 use Rattle.machine.specs.Timed.{Timed, timed}
-use Rattle.machine.specs.Saves.{is_name, Saves, SavesOf, save_limit, place_of, place_for, kept_under, Stored, stored, replaced, removed, saving, returning, forgetting}
+use Rattle.machine.specs.Saves.{is_name, Saves, SavesOf, save_limit, place_of, place_for, kept_under, stored, replaced, removed, saving, returning, forgetting}
 use Rattle.machine.specs.Machine.{as_lent, Answer, no, listed_as, reported_as, entry_limit, total_limit, Listed, entries_are, refused_with, counted, listing, Turn, turn, drawn, refused_as, with_wait, steps_in, times_with, ran_as, runs_over, showing, lists, sharing, reports, choosing, steps_with, found_as, moves_to, is_depth, searched_as, searches}
 use Rattle.machine.specs.Machine.{Held, held, timed_of, Good, Machine, closed, holding, on_state, on_clock, on_saves, Request, list', step', report', search', timed', run', save', return', forget', Ask, open', open_steady', on', acts, Part, has_lengths, Call, call, opened_state, on_machine, asked, calls, after}
 use Rattle.machine.specs.Machine as machine

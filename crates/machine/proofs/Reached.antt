@@ -9,7 +9,7 @@ use Rattle.model.specs.Opening as opening
 use Rattle.model.specs.Good.{GoodModel}
 use Rattle.profile.specs.Opening.{opening_steady}
 use Rattle.profile.proofs.Opened.{opened-plain}
-use Rattle.machine.specs.Machine.{as_lent, no, Turn, turn, Held, Good, Machine, closed, holding, Request, Ask, open', open_steady', on', acts, has_lengths, Call, opens, on_machine, asked, calls, after}
+use Rattle.machine.specs.Machine.{as_lent, no, turn, Held, Good, Machine, closed, holding, Request, Ask, open', open_steady', on', acts, has_lengths, Call, opens, on_machine, asked, calls, after}
 use Rattle.machine.proofs.Keeps.{opened-good, acts-good, same-model}
 
 -- a model that some text opened, and all that is held over it

@@ -2,12 +2,12 @@
 use mathlib.Core.Path.{◌≡◌, refl}
 use mathlib.Core.Bool.{Bool, true, false, cond}
 use mathlib.Core.List.{List, [], ◌∷◌}
-use Prim.Native.Nat.{ℕ, zero, suc, ◌+◌, ◌*◌, ◌/◌, ◌%◌, ◌≤◌, ◌<◌, min}
+use Prim.Native.Nat.{ℕ, zero, suc, ◌+◌, ◌/◌, ◌%◌, ◌≤◌, ◌<◌, min}
 use native.Mathlib.Nat.{mod-lt, div-add-mod}
 use native.Mathlib.Omega.{arith}
 use borrow.Author.Tests.{eqb-true}
 use lib.Dec.{eqb}
-use lib.ListN.{length, drop, length-append}
+use lib.ListN.{drop, length-append}
 use Rattle.words.specs.declared.Drawn.{Drawn}
 use Rattle.words.specs.declared.Drawn.TheVariants.{Given, Ended}
 use Rattle.words.specs.Words.{word_values, is_used, drawing, draw_of}
@@ -17,7 +17,7 @@ use Rattle.rules.specs.Listing.{Entry}
 use Rattle.rules.specs.Draw.{weights, total}
 use Rattle.machine.specs.State.{State}
 use Rattle.machine.specs.Timed.{Timed, timed}
-use Rattle.machine.specs.Machine.{event_width, Listed, listing, no, listed_as, Turn, turn, refusing, drawn, showing, lists, choosing, steps_with, steps_in, times_with}
+use Rattle.machine.specs.Machine.{event_width, Listed, listing, no, listed_as, Turn, refusing, drawn, showing, lists, choosing, steps_with, steps_in, times_with}
 use Rattle.machine.specs.Machine.{Run, steps_of, begun, Next, on, over, ended_with, event_of, longer, follows, draw_at, drawn_step, run_step, going_on, running, runs_with}
 use Rattle.machine.specs.Questions.{Lists, no12, no13, no14, yes14, Steps, no15, no16, no17, no18, no19, yes19, Times, no15-19, no23, no24, no25, yes25}
 use Rattle.machine.specs.Results.{RunEnds, unrefused, refused12-15, refused17-19, refused23-25, RunCarries}

@@ -11,7 +11,7 @@ use lib.ListN.{length, get_or, set, replicate, length-set, length-replicate}
 use borrow.Author.Tests.{eqb-true, eq-eqb, ltb-false}
 use Rattle.model.specs.Good.{Every}
 use Rattle.machine.specs.Timed.{Timed}
-use Rattle.machine.specs.Saves.{is_name, same, Save, saved, save_limit, Saves, no_saves, named, is_empty, first_of, place_of, place_for, kept_of, kept_under, is_unknown, is_apart, are_apart, PlaceOf, SavesOf, Stored, stored, replaced, removed, saving, returning, forgetting}
+use Rattle.machine.specs.Saves.{is_name, same, Save, save_limit, Saves, no_saves, named, is_empty, first_of, place_of, place_for, kept_of, kept_under, is_unknown, is_apart, are_apart, PlaceOf, SavesOf, Stored, stored, replaced, removed, saving, returning, forgetting}
 
 -- ---- tests
 

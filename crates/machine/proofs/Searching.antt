@@ -7,10 +7,10 @@ use mathlib.Core.Option.{Option, none, some, Option-elim}
 use Prim.Native.Nat.{ℕ, zero, suc, ◌≤◌, ◌<◌}
 use native.Mathlib.Nat.{pos_of_ne-zero}
 use native.Mathlib.Omega.{arith}
-use borrow.Author.Tests.{leb-true, leb-false, le-leb, lt-leb, eqb-true, eqb-false, eq-eqb, ne_eqb}
+use borrow.Author.Tests.{leb-true, leb-false, le-leb, lt-leb, eqb-true, eqb-false, ne_eqb}
 use lib.Dec.{eqb, leb}
 use lib.ListN.{length, get_or, get_elem?}
-use Rattle.value.proofs.Kit.{true-not-false, false-not-true}
+use Rattle.value.proofs.Kit.{true-not-false}
 use Rattle.token.specs.Token.{same_bytes}
 use Rattle.token.proofs.Words.{same-is, is_same_lem}
 use Rattle.model.specs.Resolved
@@ -29,10 +29,9 @@ use Rattle.runs.proofs.Judged as judged
 use Rattle.runs.proofs.Alike.{means-alike}
 use Rattle.machine.specs.Offer.{Process, branches_of, branches}
 use Rattle.machine.specs.State.{State, pair_limit}
-use Rattle.machine.specs.Machine.{as_lent, Answer, no, found_as, Listed, entries_are, refused_with, listing, listed_as, turn, Turn, entry_arguments, entry_state, refusing, accepting, taken, is_wait, is_sought, way_taken, way_of, moves_of, moves_to, depth_limit, is_depth, searched_as, searches}
-use Rattle.machine.specs.Questions.{BranchAt, Lists, no12, no13, no14, yes14, IsListing, AllGiven}
-use Rattle.machine.specs.Searching as searching
-use Rattle.machine.specs.Searching.{Above, Ready, IsWait, waits, Tells, is, is-not, Takes, Refuses, under12-14, under17, under18, under19, Searches, no26, yes26}
+use Rattle.machine.specs.Machine.{as_lent, Answer, no, Listed, entries_are, refused_with, listing, listed_as, entry_arguments, entry_state, refusing, accepting, taken, is_wait, is_sought, way_taken, way_of, moves_of, moves_to, depth_limit, is_depth, searched_as, searches}
+use Rattle.machine.specs.Questions.{BranchAt, Lists, IsListing, AllGiven}
+use Rattle.machine.specs.Searching.{Above, IsWait, waits, Tells, is, is-not, Takes, Refuses, under12-14, under17, under18, under19, Searches, no26, yes26}
 use Rattle.machine.proofs.Branches.{none-not-some, nth-get, get_nth}
 use Rattle.machine.proofs.Arguments.{arguments-asked}
 use Rattle.machine.proofs.Listing as listing

@@ -1,6 +1,6 @@
 -- Every starred specimen of 01 holds for the definitions: each text with its derivation is read, and the machine's answers are computed.
 use mathlib.Core.Path.{◌≡◌, refl, ap, ◌∙◌}
-use mathlib.Core.List.{List, [], ◌∷◌}
+use mathlib.Core.List.{List, ◌∷◌}
 use mathlib.Core.Option.{Option-elim}
 use Prim.Native.Nat.{ℕ}
 use Rattle.token.specs.declared.Judged.TheVariants.{Passed}

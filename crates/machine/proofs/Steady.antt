@@ -1,7 +1,7 @@
 -- In a steady model no entry that is taken raises the number of processes, so that 18 is never answered from a state with at most 256 (02, note 11). From what continuations
 -- become, and how long the lists are that a step splices.
 use mathlib.Core.Path.{◌≡◌, refl, sym, subst}
-use mathlib.Core.List.{List, [], ◌∷◌, ◌++◌, map}
+use mathlib.Core.List.{List, [], ◌∷◌, map}
 use mathlib.Core.Bool.{Bool, true, false, cond}
 use mathlib.Core.Option.{Option, none, some, Option-elim}
 use Prim.Native.Nat.{ℕ, zero, suc, ◌≤◌}

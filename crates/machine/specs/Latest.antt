@@ -1,6 +1,6 @@
 -- Over lists of calls, the state and the clock found after a return are those of the latest accepted save under that name; and which calls leave a save (02, note 2). Assumes nothing: these are
 -- definitions.
-use Rattle.std.specs.Prelude.{◌≡◌, List, [], ◌∷◌, ◌++◌, Bool, true, false, not, ◌&&◌, ◌||◌, ℕ, eqb}
+use Rattle.std.specs.Prelude.{◌≡◌, List, [], ◌∷◌, ◌++◌, Bool, false, not, ◌&&◌, ◌||◌, ℕ, eqb}
 use Rattle.std.proofs.Math.Option.{Option, none}
 use Rattle.machine.specs.Timed.{Timed}
 use Rattle.machine.specs.Saves.{same, kept_under}

@@ -1,6 +1,6 @@
 -- Two entries taken in either order by the rule machine, where the process that acts calls a definition of several sums (02, note 14): by computation, one to a row.
 use Rattle.std.specs.Prelude.{◌≡◌, refl, List, [], ◌∷◌, ℕ, pos}
-use Rattle.std.proofs.Math.Option.{none, some, Option-elim}
+use Rattle.std.proofs.Math.Option.{none, Option-elim}
 use Rattle.value.specs.Range.{value_of}
 use Rattle.model.specs.Resolved
 use Rattle.rules.specs.Kind as kind

@@ -1,6 +1,6 @@
 -- Runs over a resolved model written by hand (docs/DECISIONS.md, R.1 to R.7), by computation: the numbers of the answer and of the events, and the state and clock afterwards.
 use Rattle.std.specs.Prelude.{◌≡◌, refl, List, [], ◌∷◌, ℕ, pos}
-use Rattle.std.proofs.Math.Option.{none, Option-elim}
+use Rattle.std.proofs.Math.Option.{Option-elim}
 use Rattle.value.specs.Range.{value_of}
 use Rattle.value.specs.Arithmetic.{sum_of, floor_quotient, quotient_of}
 use Rattle.model.specs.Resolved
@@ -17,7 +17,7 @@ use Rattle.clock.specs.Clock.{ticks_of, forwarded, waited, brought_by}
 use Rattle.machine.specs.Evaluate as evaluate
 use Rattle.machine.specs.Offer as offer
 use Rattle.machine.specs.State.{State}
-use Rattle.machine.specs.Timed.{Timed, timed}
+use Rattle.machine.specs.Timed.{timed}
 use Rattle.machine.specs.Machine as machine
 use Rattle.machine.specs.Machine.{Run, ran_as}
 use Rattle.machine.specs.Runs.{event_row, event_rows, event_numbers}

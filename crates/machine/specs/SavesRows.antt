@@ -2,7 +2,7 @@
 use Rattle.std.specs.Prelude.{◌≡◌, refl, [], ◌∷◌, true, false, ℕ, pos, replicate}
 use Rattle.std.proofs.Math.Option.{none, some, Option-elim}
 use Rattle.machine.specs.Timed.{Timed, timed}
-use Rattle.machine.specs.Saves.{is_letter, are_letters, is_name, same, Save, saved, Saves, no_saves, named, is_empty, first_of, place_for, kept_of, kept_under, is_unknown, is_apart, are_apart, Stored, stored, replaced, removed, saving, returning, forgetting}
+use Rattle.machine.specs.Saves.{is_letter, are_letters, is_name, same, saved, Saves, no_saves, named, is_empty, first_of, place_for, kept_of, kept_under, is_unknown, is_apart, are_apart, stored, replaced, removed, saving, returning, forgetting}
 
 -- a state of one process with one local, and a clock
 abbrev state : ℕ → Timed

@@ -1,14 +1,12 @@
 -- Searches over resolved models written by hand (02, notes 8 and 9), by computation, one to a row: what is answered.
-use Rattle.std.specs.Prelude.{◌≡◌, refl, List, [], ◌∷◌, ℕ, ℤ, pos}
+use Rattle.std.specs.Prelude.{◌≡◌, refl, List, [], ◌∷◌, ℕ, pos}
 use Rattle.std.proofs.Math.Option.{none, Option-elim}
 use Rattle.value.specs.Range.{value_of}
 use Rattle.value.specs.Arithmetic.{sum_of, floor_quotient, quotient_of}
 use Rattle.grammar.specs.Syntax.{divide}
 use Rattle.token.specs.Token.{same_bytes}
 use Rattle.model.specs.Resolved
-use Rattle.rules.specs.Offers as offers
 use Rattle.rules.specs.Listing as lists
-use Rattle.rules.specs.Order as order
 use Rattle.rules.specs.Pairs as pairs
 use Rattle.rules.specs.Draw.{weights, total}
 use Rattle.rules.specs.Step as steps

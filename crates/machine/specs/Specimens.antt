@@ -21,7 +21,7 @@ use Rattle.machine.specs.Evaluate as evaluate
 use Rattle.machine.specs.Evaluate.{eval_cond, eval_rate, eval_branch}
 use Rattle.machine.specs.Offer as offer
 use Rattle.machine.specs.Offer.{Process}
-use Rattle.machine.specs.State.{State, state_length, empty_state}
+use Rattle.machine.specs.State.{State, empty_state}
 use Rattle.machine.specs.Machine as machine
 use Rattle.machine.specs.Machine.{listing_length, as_lent, zeroed, no, entries_are, refused_with, listing, refusing, accepting, drawn, opened_state, closed, turn, list', on', size, call, steps_with, calls}
 

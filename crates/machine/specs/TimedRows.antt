@@ -1,6 +1,6 @@
 -- Timed steps over a resolved model written by hand (02, note 4), by computation, one to a row: the number, and the state and clock afterwards.
 use Rattle.std.specs.Prelude.{◌≡◌, refl, List, [], ◌∷◌, ℕ, ℤ, pos}
-use Rattle.std.proofs.Math.Option.{none, Option-elim}
+use Rattle.std.proofs.Math.Option.{Option-elim}
 use Rattle.value.specs.Range.{value_of}
 use Rattle.value.specs.Arithmetic.{sum_of, floor_quotient, quotient_of}
 use Rattle.grammar.specs.Syntax.{divide}

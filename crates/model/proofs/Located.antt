@@ -4,7 +4,7 @@ use mathlib.Core.List.Memᴰ.{cases_cons as cases}
 use mathlib.Core.List.Memᴰ.{eq_of_singleton}
 use mathlib.Core.List.{List, [], ◌∷◌, ◌++◌, append_assoc, append-nil, Memᴰ as In}
 use mathlib.Core.Option.{some}
-use mathlib.Core.Logic.{◌⊎◌, ⊎_elim}
+use mathlib.Core.Logic.{⊎_elim}
 use Prim.Native.Nat.{ℕ, zero, suc, ◌+◌}
 use native.Mathlib.Omega.{arith}
 use lib.ListN.{length, drop, get_elem?, length-append}

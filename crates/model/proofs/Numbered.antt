@@ -1,7 +1,6 @@
 -- The sums of a syntax tree are numbered from 0 in the order in which the tree holds them, each before those in its continuations. By induction
 -- on the derivation; assumes nothing.
 use mathlib.Core.Path.{◌≡◌, refl}
-use mathlib.Core.List.{[]}
 use Prim.Native.Nat.{ℕ, ◌+◌}
 use native.Mathlib.Omega.{arith}
 use Rattle.grammar.specs.Grammar as derived

@@ -19,7 +19,7 @@ use Rattle.word.specs.Number.{whole_digits, fraction_digits}
 use Rattle.token.specs.Kind as kind
 use Rattle.token.specs.Token.{tokens, kinds_of}
 use Rattle.grammar.specs.Syntax
-use Rattle.model.specs.Sites.{Scope, Site, whole, value, scale, bound, branch, call, expr_sites, scale_sites, rate_sites, Variable, variables, Definition, definitions, starts, titles}
+use Rattle.model.specs.Sites.{Scope, Site, whole, value, scale, bound, branch, call, expr_sites, scale_sites, rate_sites, Variable, variables, Definition, definitions, titles}
 use Rattle.model.specs.Words.{word_of, whole_of, decimal_of}
 use Rattle.model.specs.Limits.{count_limit, definition_limit, parameter_limit, local_limit, branch_limit}
 use Rattle.model.specs.Resolved.{Model, channel_names, resolved}

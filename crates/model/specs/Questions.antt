@@ -12,7 +12,7 @@ use Rattle.grammar.specs.Syntax.{syntax_of}
 use Rattle.model.specs.Sites.{system}
 use Rattle.model.specs.Words.{word_of}
 use Rattle.model.specs.Faults.{Beyond, NotNew, NotGiven}
-use Rattle.model.specs.Resolved.{Model, resolved}
+use Rattle.model.specs.Resolved.{resolved}
 use Rattle.grammar.specs.Limit.{token_limit}
 use Rattle.model.specs.Opening.{process_limit, Opening, refused, opened, byte_place, start_processes, system_token}
 

@@ -1,25 +1,24 @@
 -- The faults of an action, a branch's own parts and a call: what each return of the functions over them says. From the sites that leaves are.
-use mathlib.Core.Path.{◌≡◌, refl, sym, ap, ap₂, ◌∙◌, subst}
+use mathlib.Core.Path.{◌≡◌, refl, sym, ap, ap₂, ◌∙◌}
 use mathlib.Core.List.{List, [], ◌∷◌, ◌++◌, append-nil, append_assoc}
 use mathlib.Core.Bool.{Bool, true, false, cond, not, ◌&&◌}
 use mathlib.Core.Logic.{◌⊎◌, inl, inr, ⊎_elim}
-use Prim.Native.Nat.{ℕ, zero, suc, ◌+◌, ◌-◌, ◌*◌, ◌≤◌, ◌<◌, min}
+use Prim.Native.Nat.{ℕ, ◌+◌, ◌-◌, ◌≤◌, ◌<◌}
 use native.Mathlib.Omega.{arith}
 use borrow.Author.Tests.{eq-eqb, ne_eqb, eqb-true, eqb-false}
 use lib.Dec.{eqb}
 use lib.ListN.{length, get_or, drop, length-drop}
 use Rattle.token.specs.declared.Found.{Found}
-use Rattle.token.specs.declared.Found.TheVariants.{At, Nothing}
+use Rattle.token.specs.declared.Found.TheVariants.{Nothing}
 use Rattle.token.specs.Kind as kind
-use Rattle.token.specs.Token.{same_bytes}
 use Rattle.grammar.specs.Syntax
 use Rattle.tree.specs.Node as node
 use Rattle.tree.specs.Node.{field, kind_of, token_of, left_of, third_of, number_kind}
 use Rattle.tree.specs.Table
 use Rattle.tree.specs.Table.{Two, Three}
 use Rattle.tree.proofs.Cells.{node-kind, node-token, node-left, node-third}
-use Rattle.tree.proofs.Interval.{kind_at, inside}
-use Rattle.tree.proofs.Holds.{expr-interval, set-interval, values-interval, sets-interval, rate-interval, action-interval}
+use Rattle.tree.proofs.Interval.{kind_at}
+use Rattle.tree.proofs.Holds.{expr-interval, set-interval, values-interval, sets-interval, rate-interval}
 use Rattle.model.specs.Lists.{each, least, every_other}
 use Rattle.model.specs.Sites.{Site, value, bound, branch, call, expr_sites, exprs_sites, item_sites, channel_sites, is_lone, values_sites, sets_sites, count_sets, tokens_of, action_sites, bindings, rate_sites, count_args, args_sites, variables, definitions}
 use Rattle.model.specs.Sites as sites
@@ -27,16 +26,15 @@ use Rattle.model.specs.Limits.{local_limit, site_beyond}
 use Rattle.names.specs.declared.Question.{Question}
 use Rattle.names.specs.declared.Lists.{Lists}
 use Rattle.names.specs.declared.Scope.{Scope}
-use Rattle.names.specs.Faults.{earlier_of, asks_names, site_faults}
+use Rattle.names.specs.Faults.{earlier_of}
 use Rattle.names.specs.Leaves.{between}
 use Rattle.names.specs.Placed.{IsName, Named, names, binds, sort_of, SortFits}
 use Rattle.names.specs.Settings.{World, Setting, Binding, faults_at}
-use Rattle.names.specs.Walks.{RoomFor, Closes, Place, bound_sites}
+use Rattle.names.specs.Walks.{RoomFor, Closes, bound_sites}
 use Rattle.names.proofs.Earliest.{least-append, least-none, nothing-second}
 use Rattle.names.proofs.Between.{expr-lies, exprs-lies, values-lies, sets-lies, rate-lies}
-use Rattle.names.proofs.Settled.{node-fits, root_in}
 use Rattle.names.proofs.Judges.{each_append}
-use Rattle.names.proofs.Scopes.{every-length, every-inside}
+use Rattle.names.proofs.Scopes.{every-length}
 use Rattle.names.proofs.Parts.{left_at, third_at, token_at, two-parts}
 
 -- a token's number has 16 bits

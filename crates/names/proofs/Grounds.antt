@@ -1,28 +1,26 @@
 -- What the tables of a text that reads as a syntax tree tell of it: the ground that the walks stand on. From how tokens are made, and where the parts of the tree
 -- are written.
 use mathlib.Core.Path.{◌≡◌, refl, sym, ap, ap₂, ◌∙◌, subst}
-use mathlib.Core.List.{List, [], ◌∷◌, ◌++◌}
-use mathlib.Core.Bool.{Bool, true, false, cond, ◌&&◌}
-use Prim.Native.Nat.{ℕ, zero, suc, ◌+◌, ◌-◌, ◌≤◌, ◌<◌, min}
+use mathlib.Core.List.{List, [], ◌∷◌}
+use mathlib.Core.Bool.{Bool, true, false}
+use Prim.Native.Nat.{ℕ, zero, suc, ◌≤◌, ◌<◌, min}
 use native.Mathlib.Omega.{arith}
-use borrow.Author.Tests.{eq-eqb, ne_eqb, eqb-true, eqb-false, ltb-false, ltb-true}
+use borrow.Author.Tests.{eq-eqb, eqb-true, eqb-false, ltb-false, ltb-true}
 use lib.Dec.{eqb, ltb}
-use lib.ListN.{length, get_or, take, drop, length-take, get_or-eq_default}
+use lib.ListN.{length, get_or, take, length-take, get_or-eq_default}
 use Rattle.word.specs.Name.{longest, Plain, name_of}
 use Rattle.word.specs.Number.{worth, cap}
 use Rattle.word.proofs.Packs.{first, second, short-is, same_name}
 use Rattle.token.specs.declared.Found.TheVariants.{Nothing}
 use Rattle.token.specs.declared.Content.{Content}
 use Rattle.token.specs.Kind as kind
-use Rattle.token.specs.Token.{Mark, tokens, kinds_of, column, same_bytes}
+use Rattle.token.specs.Token.{Mark, tokens, kinds_of, same_bytes}
 use Rattle.token.specs.Contents.{words_of, name_content, content_of, bytes_of, low_of, high_of}
 use Rattle.token.specs.Tiling.{Lexeme}
 use Rattle.token.proofs.Words.{same-is, is_same_lem}
 use Rattle.grammar.specs.Syntax
 use Rattle.grammar.specs.Syntax.{syntax_of}
-use Rattle.grammar.specs.Limit.{token_limit}
 use Rattle.grammar.proofs.Follows.{inside}
-use Rattle.tree.specs.Table
 use Rattle.model.specs.Lists.{least, when}
 use Rattle.model.specs.Words.{nth, word_of, same}
 use Rattle.model.specs.Limits.{word_beyond, words_beyond}

@@ -3,21 +3,18 @@ use mathlib.Core.Path.{◌≡◌, refl, sym, ap, ◌∙◌, subst}
 use mathlib.Core.List.{List, [], ◌∷◌, ◌++◌, append-nil, append_assoc}
 use mathlib.Core.Bool.{Bool, true, false, cond, ◌||◌}
 use mathlib.Core.Logic.{◌⊎◌, inl, inr, ⊎_elim}
-use Prim.Native.Nat.{ℕ, zero, suc, ◌+◌, ◌-◌, ◌≤◌, ◌<◌, min}
-use native.Mathlib.Numerals.{add-one}
+use Prim.Native.Nat.{ℕ, suc, ◌+◌, ◌-◌, ◌≤◌, ◌<◌, min}
 use native.Mathlib.Omega.{arith}
-use borrow.Author.Tests.{eq-eqb, ne_eqb}
+use borrow.Author.Tests.{ne_eqb}
 use lib.Dec.{eqb}
 use lib.ListN.{length, get_or}
 use Rattle.word.specs.Number.{worth, cap}
 use Rattle.token.specs.declared.Found.{Found}
-use Rattle.token.specs.declared.Found.TheVariants.{At, Nothing}
-use Rattle.token.specs.Kind as kind
+use Rattle.token.specs.declared.Found.TheVariants.{Nothing}
 use Rattle.grammar.proofs.Follows.{inside}
-use Rattle.tree.specs.Node as node
 use Rattle.tree.specs.Node.{kind_of, token_of, third_of, number_kind}
 use Rattle.model.specs.Lists.{each, least}
-use Rattle.model.specs.Sites.{Site, whole, value, scale, variables, definitions}
+use Rattle.model.specs.Sites.{Site, whole, value, scale}
 use Rattle.model.specs.Limits.{site_beyond, whole_beyond}
 use Rattle.model.specs.Fresh.{site_repeated}
 use Rattle.model.specs.Given.{site_wrong}
@@ -27,7 +24,7 @@ use Rattle.names.specs.declared.Lists.{Lists}
 use Rattle.names.specs.declared.Scope.{Scope}
 use Rattle.names.specs.Faults.{earlier_of, site_faults}
 use Rattle.names.specs.Leaves.{used, leaf_sites, site_at, between}
-use Rattle.names.specs.Placed.{IsName, Sort, wholes, names, sort_of, SortFits, Fits}
+use Rattle.names.specs.Placed.{IsName, Sort, wholes, names, sort_of, SortFits}
 use Rattle.names.specs.Settings.{World, Setting, faults_at}
 use Rattle.names.proofs.Earliest.{least-append, assoc, nothing_right}
 

@@ -1,26 +1,25 @@
 -- The faults of definitions and of the system line: what each return of the functions over them, and each call, needs. From the forms of a tree.
-use mathlib.Core.Path.{◌≡◌, refl, sym, ap, ap₂, ◌∙◌, subst}
+use mathlib.Core.Path.{◌≡◌, refl, sym, ap, ◌∙◌, subst}
 use mathlib.Core.List.{List, [], ◌∷◌, ◌++◌, append-nil, append_assoc}
 use mathlib.Core.Bool.{Bool, true, false, cond, not, ◌||◌}
 use Prim.Native.Nat.{ℕ, zero, suc, ◌+◌, ◌-◌, ◌*◌, ◌≤◌, ◌<◌, min}
 use native.Mathlib.Omega.{arith}
-use borrow.Author.Tests.{eq-eqb, ne_eqb, eqb-true, le-ltb, lt-ltb}
+use borrow.Author.Tests.{eqb-true, le-ltb, lt-ltb}
 use lib.Dec.{eqb, ltb}
 use lib.ListN.{length, get_or, take, drop}
 use Rattle.word.specs.Number.{worth, cap}
 use Rattle.token.specs.declared.Found.{Found}
 use Rattle.token.specs.declared.Found.TheVariants.{At, Nothing}
-use Rattle.token.specs.Kind as kind
 use Rattle.grammar.specs.Syntax
 use Rattle.grammar.proofs.Follows.{inside}
 use Rattle.tree.specs.Node as node
 use Rattle.tree.specs.Node.{field, kind_of, token_of, number_kind}
 use Rattle.tree.specs.Table
-use Rattle.tree.proofs.Cells.{node-kind, node-token, node-left, node-third}
+use Rattle.tree.proofs.Cells.{node-kind, node-token, node-third}
 use Rattle.tree.proofs.Interval.{kind_at}
-use Rattle.tree.proofs.Holds.{sums-interval, start-interval, system-interval, definition-interval, definitions-interval}
+use Rattle.tree.proofs.Holds.{start-interval, system-interval, definitions-interval}
 use Rattle.model.specs.Lists.{each, when, earlier, least, every_other}
-use Rattle.model.specs.Sites.{Site, Sited, call, expr_sites, tokens_of, params_of, Variable, Definition, names, variables, definitions, definitions_in, system_in, starts_in, definition_sites, sums_sites}
+use Rattle.model.specs.Sites.{Site, call, expr_sites, tokens_of, params_of, Definition, names, variables, definitions, definitions_in, system_in, starts_in, definition_sites, sums_sites}
 use Rattle.model.specs.Limits.{count_limit, parameter_limit, local_limit, site_beyond, wholes_beyond, starts_beyond, start_beyond}
 use Rattle.model.specs.Fresh.{repeated}
 use Rattle.model.specs.Given.{is_callable, count_wholes, count_starts, site_wrong, start_wrong}
@@ -33,14 +32,13 @@ use Rattle.names.specs.Leaves.{between, leaf_sites}
 use Rattle.names.specs.Placed.{IsName, Named, Sort, defines, counts, sort_of, SortFits}
 use Rattle.names.specs.Placed as placed
 use Rattle.names.specs.Settings.{Extended, World, Setting, faults_at, known_in}
-use Rattle.names.specs.Walks.{Part, sums, Holds, part_sites, faults_over, Place, Ground, part_faults, PartRoom, param_faults, definition_faults, defined, count_faults, start_faults, lines_faults, definition_judged, lines_judged, DefinitionRoom, LinesRoom}
-use Rattle.names.proofs.Earliest.{least-append, nothing_right, assoc, swap, nothing-first, nothing-second}
+use Rattle.names.specs.Walks.{sums, Holds, part_sites, faults_over, Place, Ground, part_faults, PartRoom, param_faults, definition_faults, defined, count_faults, start_faults, lines_faults, definition_judged, lines_judged, DefinitionRoom, LinesRoom}
+use Rattle.names.proofs.Earliest.{least-append, nothing-first, nothing-second}
 use Rattle.names.proofs.Between.{Lies, lies-two, expr-lies}
-use Rattle.names.proofs.Settled.{root_in}
 use Rattle.names.proofs.Judges.{each_append}
 use Rattle.names.proofs.Scopes.{every-length, every-inside, setting-more}
 use Rattle.names.proofs.Parts.{left_at, third_at, token_at, two-parts, over}
-use Rattle.names.proofs.Acts.{token-small, drop-few}
+use Rattle.names.proofs.Acts.{drop-few}
 
 -- ---- outside definitions no locals are in scope
 pub none-taken : (xs : List ℕ) (n : ℕ) → n ≡ 0 → take n xs ≡ []

@@ -1,30 +1,23 @@
 -- Look-ups by packed names are look-ups by names, among locals, variables and definitions; and what is found there. From what the tables say of names.
-use mathlib.Core.Path.{◌≡◌, refl, sym, ap, ap₂, ◌∙◌, subst}
-use mathlib.Core.List.{List, [], ◌∷◌, ◌++◌}
-use mathlib.Core.Bool.{Bool, true, false, cond, not, ◌&&◌, ◌||◌}
+use mathlib.Core.Path.{◌≡◌, refl, sym, ap, ap₂, ◌∙◌}
+use mathlib.Core.List.{List, [], ◌∷◌}
+use mathlib.Core.Bool.{Bool, true, false, cond, ◌||◌}
 use mathlib.Core.Option.{Option, none, some}
-use Prim.Native.Nat.{ℕ, zero, suc, ◌+◌, ◌-◌, ◌≤◌, ◌<◌, min}
+use Prim.Native.Nat.{ℕ, zero, suc, ◌+◌, ◌-◌, ◌≤◌, ◌<◌}
 use native.Mathlib.Omega.{arith}
-use borrow.Author.Tests.{eq-eqb, ne_eqb}
 use lib.Dec.{eqb}
-use lib.ListN.{length, get_or, take}
-use lib.Seq.{get_or-take, length-take-le}
-use Rattle.token.specs.declared.Found.{Found}
-use Rattle.token.specs.declared.Found.TheVariants.{At, Nothing}
+use lib.ListN.{length, get_or}
 use Rattle.token.specs.Kind as kind
 use Rattle.grammar.specs.Syntax
-use Rattle.tree.specs.Node as node
-use Rattle.tree.specs.Node.{kind_of, token_of, left_of, third_of, number_kind}
+use Rattle.tree.specs.Node.{number_kind}
 use Rattle.tree.specs.Table
 use Rattle.tree.specs.Table.{Node}
 use Rattle.tree.proofs.Interval.{kind_at}
-use Rattle.tree.proofs.Cells.{node-kind, node-token, node-left, node-third}
-use Rattle.model.specs.Lists.{each, any, when}
-use Rattle.model.specs.Sites.{Variable, Definition, variables, definitions, names, titles}
+use Rattle.tree.proofs.Cells.{node-kind}
+use Rattle.model.specs.Lists.{each, any}
+use Rattle.model.specs.Sites.{Variable, Definition, names, titles}
 use Rattle.model.specs.Words.{same}
-use Rattle.model.specs.Limits.{local_limit}
-use Rattle.model.specs.Given.{Meaning, local, variable, nothing, or_else, is_value, is_given, takes, place_in, variable_named, meaning, definition_named, is_callable}
-use Rattle.grammar.proofs.Follows.{inside}
+use Rattle.model.specs.Given.{variable, nothing, is_value, place_in, variable_named, definition_named}
 use Rattle.names.specs.Placed.{Named}
 use Rattle.names.specs.Lists.{found_of, is_found}
 use Rattle.names.proofs.Chains.{VariableAt, DefinitionAt, VariablesAt, DefinitionsAt}

@@ -1,18 +1,15 @@
 -- What stands at a node of a definition's body, by the node's kind, and the faults of it by those of its parts. From the forms of a tree.
-use mathlib.Core.Path.{◌≡◌, refl, sym, ap, ap₂, ◌∙◌, subst}
-use mathlib.Core.List.{List, [], ◌∷◌, ◌++◌, append-nil, append_assoc}
+use mathlib.Core.Path.{◌≡◌, refl, sym, ap, ◌∙◌}
+use mathlib.Core.List.{List, [], ◌∷◌, ◌++◌, append_assoc}
 use mathlib.Core.Logic.{◌⊎◌, inl, inr, ⊎_elim}
-use Prim.Native.Nat.{ℕ, zero, suc, ◌+◌, ◌-◌, ◌≤◌, ◌<◌}
+use Prim.Native.Nat.{ℕ, ◌+◌, ◌-◌, ◌≤◌, ◌<◌}
 use native.Mathlib.Omega.{arith}
 use mathlib.Core.Bool.{Bool, true, false}
 use borrow.Author.Tests.{eqb-true, eqb-false}
 use lib.Dec.{eqb}
-use lib.ListN.{length, get_or}
-use Rattle.token.specs.declared.Found.{Found}
-use Rattle.token.specs.declared.Found.TheVariants.{At, Nothing}
+use lib.ListN.{get_or}
 use Rattle.grammar.specs.Syntax
-use Rattle.tree.specs.Node as node
-use Rattle.tree.specs.Node.{kind_of, token_of, left_of, third_of}
+use Rattle.tree.specs.Node.{token_of, left_of, third_of}
 use Rattle.tree.specs.Table
 use Rattle.tree.specs.Table.{Two, Three}
 use Rattle.tree.proofs.Cells.{node-kind, node-token, node-left, node-third}

@@ -1,19 +1,16 @@
 -- Questions 7, 8 and 9 of names that are bound: what each return, and each turn of the loop, needs. From the laws of look-ups and of scopes.
-use mathlib.Core.Path.{◌≡◌, refl, sym, ap, ap₂, ◌∙◌, subst}
+use mathlib.Core.Path.{◌≡◌, refl, sym, ap, ◌∙◌, subst}
 use mathlib.Core.List.{List, [], ◌∷◌, ◌++◌, append-nil, append_assoc}
-use mathlib.Core.Bool.{Bool, true, false, cond, not, ◌||◌}
-use mathlib.Core.Option.{Option}
-use Prim.Native.Nat.{ℕ, zero, suc, ◌+◌, ◌-◌, ◌*◌, ◌≤◌, ◌<◌, min}
+use mathlib.Core.Bool.{Bool, true, false, ◌||◌}
+use Prim.Native.Nat.{ℕ, zero, suc, ◌+◌, ◌-◌, ◌*◌, ◌≤◌, ◌<◌}
 use native.Mathlib.Omega.{arith}
 use borrow.Author.Tests.{eq-eqb, ne_eqb}
-use lib.Dec.{eqb}
 use lib.ListN.{length, get_or, take, drop}
 use Rattle.token.specs.declared.Found.{Found}
 use Rattle.token.specs.declared.Found.TheVariants.{At, Nothing}
-use Rattle.token.specs.Kind as kind
 use Rattle.tree.specs.Node.{field}
 use Rattle.model.specs.Lists.{any, when, earlier, least, every_other}
-use Rattle.model.specs.Sites.{bound, variables, definitions, names}
+use Rattle.model.specs.Sites.{bound, variables, names}
 use Rattle.model.specs.Words.{same}
 use Rattle.model.specs.Limits.{local_limit, site_beyond}
 use Rattle.model.specs.Fresh.{repeated, site_repeated}
@@ -25,7 +22,7 @@ use Rattle.names.specs.declared.Scope.{Scope}
 use Rattle.names.specs.Faults.{earlier_of, asks_names, site_faults}
 use Rattle.names.specs.Lists.{packed, found_of, is_found, names_down}
 use Rattle.names.specs.Placed.{IsName, Named}
-use Rattle.names.specs.Settings.{Extended, World, Setting, faults_at, known_in, Binding}
+use Rattle.names.specs.Settings.{Extended, Setting, faults_at, known_in, Binding}
 use Rattle.names.proofs.Earliest.{assoc, nothing_right, least-append}
 use Rattle.names.proofs.Namings.{any-placed}
 use Rattle.names.proofs.Settled.{all-variables, place-locals}

@@ -1,16 +1,15 @@
 -- Scopes that grow, and names at every second token: what each turn of the loops over them needs. From laws of lists.
 use mathlib.Core.Path.{◌≡◌, refl, sym, ap, ◌∙◌, subst}
 use mathlib.Core.List.{List, [], ◌∷◌, ◌++◌, append-nil, append_assoc}
-use mathlib.Core.Bool.{Bool, true, false}
-use Prim.Native.Nat.{ℕ, zero, suc, ◌+◌, ◌-◌, ◌*◌, ◌≤◌, ◌<◌, min}
+use mathlib.Core.Bool.{true}
+use Prim.Native.Nat.{ℕ, zero, suc, ◌+◌, ◌-◌, ◌*◌, ◌≤◌, ◌<◌}
 use native.Mathlib.Numerals.{add-one}
 use native.Mathlib.Omega.{arith}
 use borrow.Author.Tests.{le-leb, lt-leb}
-use lib.ListN.{length, get_or, take, drop, set, length-append, length-set}
+use lib.ListN.{length, take, drop, set, length-append, length-set}
 use lib.Seq.{take-suc-set}
 use Rattle.token.specs.declared.Found.{Found}
 use Rattle.token.specs.declared.Found.TheVariants.{At, Nothing}
-use Rattle.token.specs.Kind as kind
 use Rattle.grammar.proofs.Follows.{inside}
 use Rattle.model.specs.Lists.{every_other, least, earlier, when}
 use Rattle.model.specs.Sites.{branch, Variable, Definition}
@@ -23,8 +22,8 @@ use Rattle.names.specs.declared.Lists.{Lists}
 use Rattle.names.specs.declared.Scope.{Scope}
 use Rattle.names.specs.Faults.{asks_names, site_faults}
 use Rattle.names.specs.Placed.{IsName, Named}
-use Rattle.names.specs.Settings.{Extended, World, Scoped, Setting}
-use Rattle.names.proofs.Earliest.{From, from_on, least-here}
+use Rattle.names.specs.Settings.{Extended, Setting}
+use Rattle.names.proofs.Earliest.{From, least-here}
 
 -- ---- every second token
 pub every-length : (k n : ℕ) → length (every_other k n) ≡ n

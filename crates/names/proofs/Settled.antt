@@ -1,32 +1,27 @@
 -- What the tables tell of a text, as the look-ups want it: names lie inside the tables, and looking up packed names is looking up names. From what the table
 -- of nodes holds.
-use mathlib.Core.Path.{◌≡◌, refl, sym, ap, ap₂, ◌∙◌, subst}
-use mathlib.Core.List.{List, [], ◌∷◌, ◌++◌}
-use mathlib.Core.Bool.{Bool, true, false, cond}
-use Prim.Native.Nat.{ℕ, zero, suc, ◌+◌, ◌-◌, ◌≤◌, ◌<◌, min}
+use mathlib.Core.Path.{◌≡◌, refl, sym, ap, ◌∙◌}
+use mathlib.Core.List.{List, [], ◌∷◌}
+use mathlib.Core.Bool.{true}
+use Prim.Native.Nat.{ℕ, zero, suc, ◌-◌, ◌≤◌, ◌<◌}
 use native.Mathlib.Omega.{arith}
 use lib.ListN.{length, get_or, take, length-take}
-use lib.Seq.{get_or-take, length-take-le, take_all}
+use lib.Seq.{get_or-take, take_all}
 use Rattle.token.specs.Kind as kind
-use Rattle.grammar.specs.Syntax
-use Rattle.tree.specs.Node as node
-use Rattle.tree.specs.Node.{kind_of, token_of, left_of, third_of, number_kind}
-use Rattle.tree.specs.Table
+use Rattle.tree.specs.Node.{number_kind}
 use Rattle.tree.specs.Table.{Node}
 use Rattle.tree.proofs.Cells.{node-kind, node-token, node-left, node-third}
 use Rattle.grammar.proofs.Follows.{inside}
-use Rattle.model.specs.Lists.{each, every_other}
+use Rattle.model.specs.Lists.{each}
 use Rattle.model.specs.Sites.{Variable, Definition, variables, definitions, names, titles}
-use Rattle.model.specs.Words.{same}
-use Rattle.model.specs.Limits.{local_limit}
 use Rattle.model.specs.Given.{place_in}
 use Rattle.names.specs.declared.Question.{Question}
 use Rattle.names.specs.declared.Lists.{Lists}
 use Rattle.names.specs.declared.Scope.{Scope}
 use Rattle.names.specs.Faults.{asks_names}
-use Rattle.names.specs.Lists.{packed, name_at, names_down, Readable, Reach, InScope, Gathered}
+use Rattle.names.specs.Lists.{packed, names_down, Reach, InScope}
 use Rattle.names.specs.Placed.{Named, Fits, SortFits, sort_of}
-use Rattle.names.specs.Settings.{World, Scoped, Setting}
+use Rattle.names.specs.Settings.{World, Setting}
 use Rattle.names.proofs.Chains.{VariableAt, DefinitionAt, VariablesAt, DefinitionsAt, variable-name, definition-name, variables-at, definitions-at, variable-names, definition-names, names-take, variables-run, definitions-run, below, root-inside}
 use Rattle.names.proofs.Namings.{named-at, place-alike}
 

@@ -1,24 +1,22 @@
 -- Lists of names, variables' numbers and the whole tree: what each return, and each turn of the loops, needs. From the laws of look-ups and the forms of a tree.
 use mathlib.Core.Path.{◌≡◌, refl, sym, ap, ap₂, ◌∙◌, subst}
 use mathlib.Core.List.{List, [], ◌∷◌, ◌++◌, append-nil, append_assoc}
-use mathlib.Core.Bool.{Bool, true, false, ◌||◌}
-use Prim.Native.Nat.{ℕ, zero, suc, ◌+◌, ◌-◌, ◌*◌, ◌≤◌, ◌<◌}
+use mathlib.Core.Bool.{Bool, true, ◌||◌}
+use Prim.Native.Nat.{ℕ, zero, suc, ◌+◌, ◌-◌, ◌≤◌, ◌<◌}
 use native.Mathlib.Numerals.{add-one}
 use native.Mathlib.Omega.{arith}
-use lib.ListN.{length, get_or, drop, drop_of_length-le}
+use lib.ListN.{length, drop, drop_of_length-le}
 use lib.Seq.{drop-cons}
 use Rattle.token.specs.declared.Found.{Found}
 use Rattle.token.specs.declared.Found.TheVariants.{At, Nothing}
 use Rattle.grammar.specs.Syntax
-use Rattle.tree.specs.Node as node
-use Rattle.tree.specs.Node.{left_of}
 use Rattle.tree.specs.Table
 use Rattle.model.specs.Lists.{each, when, any, earlier, least}
-use Rattle.model.specs.Sites.{Site, Sited, Variable, Definition, scale_sites, names, titles, variables, definitions, definitions_in, system, system_in, starts, starts_in, definition_sites, sites, over_sites}
+use Rattle.model.specs.Sites.{Site, Definition, scale_sites, names, titles, variables, definitions, definitions_in, system, system_in, starts, starts_in, definition_sites, sites, over_sites}
 use Rattle.model.specs.Words.{same}
 use Rattle.model.specs.Limits.{local_limit, variable_limit, definition_limit, site_beyond, variable_beyond, definition_beyond, start_beyond, tree_beyond}
-use Rattle.model.specs.Fresh.{repeated, site_repeated, definition_repeated, not_new}
-use Rattle.model.specs.Given.{place_in, site_wrong, start_wrong, not_given}
+use Rattle.model.specs.Fresh.{repeated, definition_repeated, not_new}
+use Rattle.model.specs.Given.{place_in, start_wrong, not_given}
 use Rattle.names.specs.declared.Question.{Question}
 use Rattle.names.specs.declared.Question.TheVariants.{Limits, Fresh, Given}
 use Rattle.names.specs.declared.Lists.{Lists}
@@ -29,12 +27,12 @@ use Rattle.names.specs.Lists.{packed, found_of, is_found, name_at, names_down, R
 use Rattle.names.specs.Placed.{IsName, Named}
 use Rattle.names.specs.Settings.{World, Setting, faults_at}
 use Rattle.names.specs.Walks.{faults_over, Ground, list_faults, number_faults, param_faults, definition_faults, start_faults, lines_faults, lines_judged, LinesRoom, TreeRoom}
-use Rattle.names.proofs.Earliest.{least-append, nothing_right, assoc, swap, nothing-first, nothing-second}
-use Rattle.names.proofs.Between.{between-append, scale-lies}
+use Rattle.names.proofs.Earliest.{least-append, nothing_right, assoc, swap, nothing-second}
+use Rattle.names.proofs.Between.{scale-lies}
 use Rattle.names.proofs.Chains.{variable-names, definition-names}
 use Rattle.names.proofs.Lookups.{down-length, down-at}
 use Rattle.names.proofs.Namings.{any-placed}
-use Rattle.names.proofs.Settled.{vs-at, ds-at, vs-few, vs-named, ds-named}
+use Rattle.names.proofs.Settled.{vs-at, ds-at, vs-named, ds-named}
 use Rattle.names.proofs.Lines.{setting-none}
 
 -- ---- the loop of `past_fault`

@@ -1,5 +1,5 @@
 -- The tables that token::contents and the reader leave are those of a text that reads as a tree: what a caller of `judge_names` needs. From laws of lists.
-use mathlib.Core.Path.{◌≡◌, refl, sym, ap, ◌∙◌}
+use mathlib.Core.Path.{◌≡◌, refl, ap, ◌∙◌}
 use mathlib.Core.List.{List, ◌++◌}
 use Prim.Native.Nat.{ℕ, ◌≤◌}
 use native.Mathlib.Omega.{arith}

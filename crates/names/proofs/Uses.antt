@@ -1,25 +1,23 @@
 -- Question 9 of names that are used and called: what each return of the functions over them says. From the laws of look-ups.
 use mathlib.Core.Path.{◌≡◌, refl, sym, ap, ◌∙◌, subst}
-use mathlib.Core.List.{List, []}
+use mathlib.Core.List.{List}
 use mathlib.Core.Bool.{Bool, true, false, cond, not, ◌||◌}
 use mathlib.Core.Option.{Option, none, some}
 use Prim.Native.Nat.{ℕ, ◌+◌, ◌-◌, ◌≤◌, ◌<◌}
 use native.Mathlib.Omega.{arith}
-use borrow.Author.Tests.{eq-eqb, ne_eqb}
 use lib.Dec.{eqb}
 use lib.ListN.{length, get_or, take}
 use Rattle.token.specs.declared.Found.{Found}
 use Rattle.token.specs.declared.Found.TheVariants.{At, Nothing}
 use Rattle.token.specs.Kind as kind
-use Rattle.grammar.specs.Syntax
 use Rattle.tree.specs.Node.{kind_of, left_of, third_of, number_kind}
 use Rattle.tree.proofs.Interval.{kind_at}
 use Rattle.tree.proofs.Cells.{node-left, node-third}
 use Rattle.model.specs.Lists.{when, earlier, least}
-use Rattle.model.specs.Sites.{Scope as Locals, Site, value, scale, call, Variable, Definition, variables, definitions, names, titles}
+use Rattle.model.specs.Sites.{call, variables, definitions}
 use Rattle.model.specs.Limits.{site_beyond}
 use Rattle.model.specs.Fresh.{site_repeated}
-use Rattle.model.specs.Given.{Meaning, local, variable, nothing, or_else, is_value, is_given, takes, place_in, variable_named, meaning, definition_named, is_callable, site_wrong}
+use Rattle.model.specs.Given.{Meaning, local, variable, nothing, or_else, is_value, is_given, takes, place_in, variable_named, meaning, is_callable, site_wrong}
 use Rattle.names.specs.declared.Question.{Question}
 use Rattle.names.specs.declared.Question.TheVariants.{Limits, Fresh, Given}
 use Rattle.names.specs.declared.Lists.{Lists}

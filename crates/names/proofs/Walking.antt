@@ -1,17 +1,16 @@
 -- The faults of a part by those of its parts: what each return of the walk, and each call of itself, needs. From what stands at a node and the sites of it.
-use mathlib.Core.Path.{◌≡◌, refl, sym, ap, ◌∙◌, subst}
-use mathlib.Core.List.{List, [], ◌∷◌, ◌++◌, append-nil}
+use mathlib.Core.Path.{◌≡◌, refl, sym, ap, ◌∙◌}
+use mathlib.Core.List.{List, ◌∷◌, ◌++◌}
 use mathlib.Core.Bool.{true}
-use mathlib.Core.Logic.{◌⊎◌, inl, inr, ⊎_elim}
-use Prim.Native.Nat.{ℕ, zero, suc, ◌+◌, ◌-◌, ◌*◌, ◌≤◌, ◌<◌}
+use mathlib.Core.Logic.{⊎_elim}
+use Prim.Native.Nat.{ℕ, ◌+◌, ◌-◌, ◌*◌, ◌≤◌}
 use native.Mathlib.Omega.{arith}
 use lib.ListN.{length, get_or}
 use Rattle.token.specs.declared.Found.{Found}
-use Rattle.token.specs.declared.Found.TheVariants.{At, Nothing}
+use Rattle.token.specs.declared.Found.TheVariants.{Nothing}
 use Rattle.grammar.specs.Syntax
 use Rattle.tree.specs.Node.{field}
 use Rattle.tree.specs.Table
-use Rattle.tree.proofs.Interval.{kind_at}
 use Rattle.tree.proofs.Holds.{cond-interval}
 use Rattle.model.specs.Lists.{each, least, every_other}
 use Rattle.model.specs.Sites.{Site, branch, call, cond_sites, action_sites, rate_sites, bindings, count_args, args_sites, variables, definitions}
@@ -21,9 +20,9 @@ use Rattle.names.specs.declared.Lists.{Lists}
 use Rattle.names.specs.declared.Scope.{Scope}
 use Rattle.names.specs.Faults.{earlier_of, asks_names, site_faults}
 use Rattle.names.specs.Leaves.{between}
-use Rattle.names.specs.Placed.{Named, binds, sort_of}
+use Rattle.names.specs.Placed.{Named}
 use Rattle.names.specs.Settings.{Extended, Setting, faults_at}
-use Rattle.names.specs.Walks.{Part, choices, items, Holds, part_sites, faults_over, RoomFor, Place, part_faults, bound_sites, ActionRoom, PartRoom}
+use Rattle.names.specs.Walks.{Part, choices, items, part_sites, faults_over, RoomFor, Place, part_faults, bound_sites, ActionRoom, PartRoom}
 use Rattle.names.proofs.Earliest.{least-append, nothing-first, nothing-second}
 use Rattle.names.proofs.Between.{cond-lies}
 use Rattle.names.proofs.Judges.{each_append}

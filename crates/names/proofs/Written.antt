@@ -1,6 +1,6 @@
 -- Each node of a text's table has tokens as its kind says: names, whole numbers, or names parted by commas. By induction on the derivation, from the widths of
 -- its parts.
-use mathlib.Core.Path.{◌≡◌, refl, sym, ap, ◌∙◌}
+use mathlib.Core.Path.{◌≡◌, refl, sym}
 use mathlib.Core.List.{List, [], ◌∷◌}
 use mathlib.Core.Bool.{Bool, true, false}
 use Prim.Native.Nat.{ℕ, zero, suc, ◌+◌, ◌-◌, ◌≤◌, ◌<◌}
@@ -14,7 +14,7 @@ use Rattle.grammar.specs.Grammar as derived
 use Rattle.grammar.specs.Grammar.{Relation, less, at_most, greater, at_least, same, differs, Reads, flat_whole, flat_number, flat_expr, flat_terms, flat_term, flat_factors, flat_atom, flat_exprs, flat_args, flat_part, flat_parts, flat_set, flat_test, flat_ands, flat_ors, flat_cond, flat_scale, flat_rate, flat_values, flat_sets, flat_names, flat_channel, flat_action, flat_gate, flat_prefix, flat_next, flat_cont, flat_item, flat_items, flat_choices, flat_sums, flat_body, flat_params, flat_wholes, flat_starts, flat_start, flat_system, flat_definitions, flat_model}
 use Rattle.grammar.specs.Syntax
 use Rattle.grammar.specs.Syntax.{Op, plus, minus, times, divide, maximum, minimum, Join, without, union, inter, wide, literal_at, number_at, expr_at, terms_at, term_at, factors_at, atom_at, exprs_at, args_at, part_at, parts_at, set_at, test_at, ands_at, conjunction_at, ors_at, cond_at, scale_at, rate_at, values_at, sets_at, count_names, names_at, channel_at, action_at, gate_at, sums_prefix, sums_item, sums_choices, sums_body, branch_at, next_at, cont_at, item_at, conts_at, branches_at, sum_at, sums_at, body_at, params_at, wholes_at, starts_at, start_at, system_at, definitions_at, model_at, syntax_of}
-use Rattle.grammar.proofs.Wide.{wide-whole, wide-number, wide-expr, wide-terms, wide-term, wide-factors, wide-atom, wide-exprs, wide-args, wide-part, wide-parts, wide-set, wide_test, wide-ands, wide-conjunction, wide-ors, wide-cond, wide-scale, wide-rate, wide-values, wide-sets, wide-names, wide-channel, wide-action, wide-gate, wide-prefix, wide-next, wide-cont, wide-item, wide-items, wide-choices, wide-sum, wide-body, wide-params, wide-wholes, wide-starts, wide-start, wide-system}
+use Rattle.grammar.proofs.Wide.{wide-whole, wide-number, wide-expr, wide-term, wide-atom, wide-part, wide-set, wide_test, wide-conjunction, wide-scale, wide-rate, wide-sets, wide-channel, wide-action, wide-gate, wide-prefix, wide-item, wide-sum, wide-body, wide-params, wide-start}
 use Rattle.tree.specs.Node as node
 use Rattle.tree.specs.Node.{op_kind, join_kind, relation_kind, test_kind, number_kind}
 use Rattle.tree.specs.Table
@@ -22,7 +22,7 @@ use Rattle.tree.specs.Table.{Node, Leaf, One, Two, Three}
 use Rattle.tree.proofs.Cells.{node-kind, node-token, node-third}
 use Rattle.model.specs.Lists.{every_other}
 use Rattle.model.proofs.Origins.{past, next-token}
-use Rattle.names.specs.Placed.{IsName, Named, plain, binds, sort_of, SortFits, Fits}
+use Rattle.names.specs.Placed.{Named, plain, binds, sort_of, SortFits, Fits}
 
 -- ---- reading on in the tokens
 pub head_at : {a : ℕ} {us : List ℕ} (ts : List ℕ) (k : ℕ) → drop k ts ≡ a ∷ us → get_or ts k 0 ≡ a

@@ -1,10 +1,8 @@
 -- What the functions over sites may take for granted: what the tables say of a text, and which locals are in scope. Assumes nothing: these are definitions.
-use Rattle.std.specs.Prelude.{◌≡◌, List, [], ◌∷◌, ◌++◌, Bool, true, ℕ, ◌+◌, ◌≤◌, ◌<◌, min, eqb, length, get_or, take}
+use Rattle.std.specs.Prelude.{◌≡◌, List, ◌++◌, true, ℕ, ◌+◌, ◌≤◌, ◌<◌, min, length, get_or, take}
 use Rattle.word.specs.Number.{worth, cap}
 use Rattle.token.specs.Kind as kind
-use Rattle.token.specs.Token.{same_bytes}
 use Rattle.grammar.specs.Syntax
-use Rattle.tree.specs.Node.{token_of, left_of}
 use Rattle.tree.specs.Table
 use Rattle.model.specs.Lists.{every_other}
 use Rattle.model.specs.Sites.{Site, variables, definitions, names}

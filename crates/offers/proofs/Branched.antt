@@ -1,7 +1,6 @@
 -- What a node says of the branches that stand there, by its kind, and their offers collected one after the other. By cases of the list.
-use Prim.Native.Nat.{ℕ, zero, suc, ◌+◌, ◌-◌, ◌*◌, ◌≤◌, ◌<◌}
-use mathlib.Core.Path.{◌≡◌, refl, sym, ap, ◌∙◌}
-use mathlib.Core.Bool.{Bool, true, false, cond}
+use Prim.Native.Nat.{ℕ, suc, ◌+◌, ◌-◌, ◌≤◌, ◌<◌}
+use mathlib.Core.Path.{◌≡◌, ◌∙◌}
 use mathlib.Core.List.{List, [], ◌∷◌, ◌++◌, append_assoc}
 use mathlib.Core.Option.{Option, none, some}
 use native.Mathlib.Omega.{arith}
@@ -12,7 +11,6 @@ use Rattle.tree.specs.Node.{kind_of, left_of}
 use Rattle.model.specs.Resolved
 use Rattle.model.specs.Limits.{branch_limit}
 use Rattle.rules.specs.Offers as offers
-use Rattle.tables.specs.Settled as Settled
 use Rattle.tables.specs.Settled.{Gated, Offer, Branch, Branches}
 use Rattle.tables.proofs.Parts.{pair-above, pair-second}
 use Rattle.model.specs.Good.{Every, GoodBranch}
@@ -23,7 +21,6 @@ use Rattle.offers.specs.declared.Walked.{Walked}
 use Rattle.offers.specs.declared.Walked.TheVariants as walked
 use Rattle.offers.specs.Slots.{Slot, slot_of}
 use Rattle.offers.specs.Walk.{guard_or, slots_from}
-use Rattle.offers.specs.Table.{Holds}
 use Rattle.offers.specs.Collect as Collect
 use Rattle.offers.specs.Collect.{Branched, Grows, CollectsOne, Collects}
 use Rattle.offers.proofs.Numbered.{append-nil}

@@ -1,6 +1,6 @@
 -- A head's parts are what it was made of, within their bounds. By division with remainder.
-use Prim.Native.Nat.{ℕ, ◌+◌, ◌*◌, ◌/◌, ◌%◌, ◌<◌}
-use mathlib.Core.Path.{◌≡◌, refl}
+use Prim.Native.Nat.{ℕ, ◌<◌}
+use mathlib.Core.Path.{◌≡◌}
 use native.Mathlib.Omega.{arith}
 use Rattle.offers.specs.Head.{head, kind_in, shape_in, count_in, branch_in, place_in, rate_in}
 

@@ -1,7 +1,7 @@
 -- One row more is linked, whether it is a handshake receive or not. By cases on the bucket.
 use mir.Syntax.{w64}
 use mir.Val.{SFits}
-use Prim.Native.Nat.{ℕ, zero, suc, ◌+◌, ◌-◌, ◌*◌, ◌%◌, ◌≤◌, ◌<◌}
+use Prim.Native.Nat.{ℕ, suc, ◌+◌, ◌%◌, ◌≤◌, ◌<◌}
 use mathlib.Core.Path.{◌≡◌, refl, sym, ap, ◌∙◌}
 use mathlib.Core.List.{List}
 use mathlib.Core.Bool.{Bool, true, false}
@@ -16,7 +16,7 @@ use Rattle.state.proofs.Mix.{mix, mix-up}
 use lib.Seq.{get_or-set_same, get_or-set_other}
 use Rattle.tree.specs.Node as node
 use Rattle.offers.specs.Head.{kind_in}
-use Rattle.offers.specs.Links.{row_width, bucket_limit, bucket_part, bucket_of, InBucket, Leads, Linked}
+use Rattle.offers.specs.Links.{bucket_limit, bucket_part, InBucket, Leads, Linked}
 
 module _ (hs : List ℕ) (os : List ℤ) (rows : ℕ) where
   -- no row from the number of rows on

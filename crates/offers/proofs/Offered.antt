@@ -1,11 +1,10 @@
 -- One branch more is collected: by what its offer shows. From the laws of rows.
-use Prim.Native.Nat.{ℕ, zero, suc, ◌+◌, ◌*◌, ◌≤◌, ◌<◌}
-use mathlib.Core.Path.{◌≡◌, refl, sym, ap, ◌∙◌}
-use mathlib.Core.Bool.{Bool, true, false}
-use mathlib.Core.List.{List, [], ◌∷◌, ◌++◌}
+use Prim.Native.Nat.{ℕ, ◌+◌, ◌*◌, ◌≤◌, ◌<◌}
+use mathlib.Core.Path.{◌≡◌, refl, ap}
+use mathlib.Core.List.{List, [], ◌∷◌}
 use mathlib.Core.Option.{Option, none, some, Option-elim}
 use native.Mathlib.Omega.{arith}
-use lib.IntN.{ℤ, pos}
+use lib.IntN.{ℤ}
 use lib.ListN.{length, set, length-set}
 use Rattle.value.specs.Range.{InRange}
 use Rattle.model.specs.Resolved
@@ -21,9 +20,9 @@ use Rattle.eval.specs.Shown.{bare_offer, ShowsValues, ShowsSets, ShowsPair, Show
 use Rattle.offers.specs.declared.Walked.TheVariants as walked
 use Rattle.eval.proofs.Shapes.{shape-bounds}
 use Rattle.offers.specs.Links.{row_width}
-use Rattle.offers.specs.Slots.{Slot, slot_of}
+use Rattle.offers.specs.Slots.{slot_of}
 use Rattle.offers.specs.Walk.{guard_or}
-use Rattle.offers.specs.Table.{head_of, written, Small, Holds}
+use Rattle.offers.specs.Table.{head_of, written, Small}
 use Rattle.offers.specs.Collect.{Grows, CollectsOne, lacks, all}
 use Rattle.offers.proofs.Numbered.{append-nil}
 use Rattle.offers.proofs.Rows.{holds_more}

@@ -1,11 +1,9 @@
 -- What a state's numbers and a model's tables say of the process at a place, and its offers after those of the places before it. From the laws of states and tables.
 use Prim.Native.Nat.{ℕ, zero, suc, ◌+◌, ◌*◌, ◌≤◌, ◌<◌}
 use mathlib.Core.Path.{◌≡◌, refl, sym, ap, ◌∙◌}
-use mathlib.Core.Bool.{Bool, true, false}
-use mathlib.Core.List.{List, [], ◌∷◌, ◌++◌}
+use mathlib.Core.List.{List, [], ◌∷◌}
 use mathlib.Core.Option.{Option, none, some, Option-elim}
 use native.Mathlib.Omega.{arith}
-use native.Mathlib.Numerals.{add-one}
 use lib.IntN.{ℤ}
 use lib.ListN.{length, get_or, get_elem?, take, drop, length-append}
 use lib.Seq.{take_all}
@@ -13,11 +11,10 @@ use Rattle.value.specs.Range.{InRange}
 use Rattle.model.specs.Resolved
 use Rattle.model.specs.Limits.{branch_limit, local_limit}
 use Rattle.model.proofs.Members.{got-below, got-some}
-use Rattle.rules.specs.Rules.{Nth}
 use Rattle.tables.specs.Settled as Settled
-use Rattle.model.specs.Good.{Every, GoodSum, GoodBranch}
-use Rattle.machine.specs.Offer.{Process, branches_of, missing_branch, missing}
-use Rattle.machine.specs.State.{State, GoodProcess, state_numbers}
+use Rattle.model.specs.Good.{Every, GoodSum}
+use Rattle.machine.specs.Offer.{Process, branches_of, missing}
+use Rattle.machine.specs.State.{State, GoodProcess}
 use Rattle.machine.proofs.Branches.{none-not-some, get_nth}
 use Rattle.machine.proofs.Everys.{every-nth}
 use Rattle.state.specs.Read.{Passed, process_count, sum_at, locals_at}
@@ -28,7 +25,6 @@ use Rattle.state.proofs.Over.{good-fits, few-scopes}
 use Rattle.state.proofs.Read.{good-passed, count-numbers, sum-numbers, locals-numbers}
 use Rattle.offers.specs.declared.Walked.TheVariants as walked
 use Rattle.offers.specs.declared.Collected.TheVariants.{Rows, Missing, Full}
-use Rattle.offers.specs.Slots.{Slot}
 use Rattle.offers.specs.Walk.{slots_from, slots_of}
 use Rattle.offers.specs.Table.{locals_of, Holds}
 use Rattle.offers.specs.Collect as Collect

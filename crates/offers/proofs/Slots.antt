@@ -1,12 +1,12 @@
 -- The listing by slots: each slot's entries in order, and a sender's partners among the slots. From the laws of gathered lists.
-use Prim.Native.Nat.{ℕ, zero, suc}
-use mathlib.Core.Path.{◌≡◌, refl, sym, ap, ◌∙◌}
+use Prim.Native.Nat.{ℕ}
+use mathlib.Core.Path.{◌≡◌, refl, sym, ◌∙◌}
 use mathlib.Core.Bool.{Bool, true, false}
-use mathlib.Core.List.{List, [], ◌∷◌, ◌++◌}
+use mathlib.Core.List.{List, []}
 use lib.Dec.{eqb}
-use Rattle.rules.specs.Offers.{Pair, Action, Guard, bare, opened, shut, Branch, State}
+use Rattle.rules.specs.Offers.{Pair, Guard, bare, opened, shut, Branch, State}
 use Rattle.rules.specs.Listing.{Entry, gather, unless, partner, partner_action, partners_in, of_action, of_guard, of_process, entries}
-use Rattle.offers.specs.Slots.{Slot, slot_of, slots, partner_of, of_slot}
+use Rattle.offers.specs.Slots.{slot_of, slots, partner_of, of_slot}
 use Rattle.offers.proofs.Numbered.{append-nil, gather-same, gather-empty, each-gather}
 
 module _ {Proc : Type 0} (branches : Proc → List (Branch Proc)) where

@@ -1,8 +1,8 @@
 -- The slots as they are collected are those of the state, and question 12's answer as it is found. By induction on processes and branches.
-use Prim.Native.Nat.{ℕ, zero, suc, ◌+◌, ◌*◌, ◌≤◌, ◌<◌}
+use Prim.Native.Nat.{ℕ, zero, suc, ◌+◌, ◌≤◌, ◌<◌}
 use mathlib.Core.Path.{◌≡◌, refl, sym, ap, ◌∙◌}
 use mathlib.Core.List.{List, [], ◌∷◌, ◌++◌, map, append_assoc}
-use mathlib.Core.Option.{Option, none, some, Option-elim}
+use mathlib.Core.Option.{none, some, Option-elim}
 use native.Mathlib.Omega.{arith}
 use native.Mathlib.Numerals.{add-one}
 use lib.IntN.{ℤ}
@@ -18,7 +18,7 @@ use Rattle.machine.proofs.Branches.{get_nth}
 use Rattle.machine.specs.Offer.{Process, branches_of, offered, branches, missing_branch, missing}
 use Rattle.offers.specs.Slots.{Slot, slot_of, slots}
 use Rattle.offers.specs.Walk.{guard_or, slots_from, slots_of}
-use Rattle.offers.proofs.Numbered.{append-nil, gather-same}
+use Rattle.offers.proofs.Numbered.{append-nil}
 
 gather-map : {A B C : Type 0} (f : ℕ → B → List C) (g : A → B) (xs : List A) → gather f (map g xs) ≡ gather (λ n x. f n (g x)) xs
 unfolding gather

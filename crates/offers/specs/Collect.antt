@@ -1,7 +1,6 @@
 -- What collecting the offers of a state answers: the table holds the slots, or the first branch without value (01, Listing, 12), or the table has too few rows. Assumes nothing: these are definitions.
 use Rattle.std.specs.Prelude.{◌≡◌, false, List, ◌++◌, ℕ, ◌+◌, ◌≤◌, ◌<◌, ℤ, length}
 use Rattle.std.proofs.Math.Option.{Option, none, some}
-use Rattle.std.proofs.Math.ListN.{get_elem?}
 use Rattle.model.specs.Resolved
 use Rattle.model.specs.Limits.{branch_limit}
 use Rattle.rules.specs.Offers as offers

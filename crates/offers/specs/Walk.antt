@@ -1,6 +1,6 @@
 -- The slots of a model's processes, branch by branch and place by place, as they are collected. Assumes nothing: these are definitions.
 use Rattle.std.specs.Prelude.{List, [], ◌∷◌, ◌++◌, ℕ, suc, ℤ}
-use Rattle.std.proofs.Math.Option.{Option, none, some, Option-elim}
+use Rattle.std.proofs.Math.Option.{Option, Option-elim}
 use Rattle.model.specs.Resolved
 use Rattle.rules.specs.Offers as offers
 use Rattle.machine.specs.Evaluate.{eval_branch}

@@ -19,7 +19,6 @@ use Rattle.model.specs.Words.{word_of}
 use Rattle.model.specs.Limits.{beyond}
 use Rattle.model.specs.Fresh.{not_new}
 use Rattle.model.specs.Given.{not_given}
-use Rattle.model.specs.Resolved
 use Rattle.model.specs.Resolved.{resolved}
 use Rattle.model.specs.Opening.{refused, opened, byte_place, too_many, system_token, crowded, asked, tree_judged, opening}
 use Rattle.model.specs.Held.{tree_held, model_in, held}

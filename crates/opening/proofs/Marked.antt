@@ -1,10 +1,9 @@
 -- The words of a text's tokens stand where the tables of places and sizes say; tokens past the last have no bytes.
 use mathlib.Core.Path.{◌≡◌, refl, sym, ap, ◌∙◌}
 use mathlib.Core.List.{List, [], ◌∷◌, ◌++◌}
-use mathlib.Core.Bool.{Bool, true, false}
-use Prim.Native.Nat.{ℕ, zero, suc, ◌+◌, ◌-◌, ◌≤◌, ◌<◌}
+use Prim.Native.Nat.{ℕ, zero, suc, ◌+◌, ◌≤◌}
 use native.Mathlib.Omega.{arith}
-use lib.ListN.{length, get_or, take, drop, replicate, length-append, length-drop}
+use lib.ListN.{length, get_or, take, drop, replicate, length-append}
 use Rattle.token.specs.Token.{Mark, tokens, column, places_of, sizes_of, Filled}
 use Rattle.token.specs.Tiling.{Tiled}
 use Rattle.token.proofs.Marks.{column-length}

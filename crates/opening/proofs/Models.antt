@@ -1,11 +1,10 @@
 -- The returns of `settle_tree`, `read_model` and `open_text`, over plain variables: the model of a text, and question 10.
 use mathlib.Core.Path.{◌≡◌, refl, sym, ap, ◌∙◌}
 use mathlib.Core.List.{List, [], ◌∷◌}
-use mathlib.Core.Option.{some}
-use Prim.Native.Nat.{ℕ, zero, suc, ◌-◌, ◌≤◌, ◌<◌}
+use Prim.Native.Nat.{ℕ, ◌-◌, ◌≤◌, ◌<◌}
 use native.Mathlib.Omega.{arith}
 use borrow.Author.Tests.{le-leb, lt-leb}
-use lib.ListN.{length, get_elem?}
+use lib.ListN.{length}
 use Rattle.grammar.specs.Syntax
 use Rattle.model.specs.Sites.{system}
 use Rattle.model.specs.Words.{word_of}

@@ -1,7 +1,6 @@
 -- Equal texts give equal tables: any two answers to one text are the same, and so are their tables as far as they are used. From the text's one tree, and from what settling leaves of it.
-use mathlib.Core.Path.{◌≡◌, refl, sym, ap, ◌∙◌, subst}
+use mathlib.Core.Path.{◌≡◌, sym, ap, ◌∙◌, subst}
 use mathlib.Core.List.{List}
-use mathlib.Core.Option.{none, some}
 use Prim.Native.Nat.{ℕ}
 use native.Mathlib.Omega.{arith}
 use Rattle.token.specs.Token.{tokens, kinds_of}
@@ -10,12 +9,10 @@ use Rattle.grammar.specs.Syntax.{syntax_of}
 use Rattle.grammar.proofs.Unique.{unique}
 use Rattle.model.specs.Words.{word_of}
 use Rattle.model.specs.Questions.{Yes5}
-use Rattle.model.specs.Resolved
-use Rattle.model.specs.Opening.{Opening, refused, opened, start_processes, opening}
 use Rattle.settle.specs.declared.Model.{Model}
 use Rattle.settle.specs.Settles.{Settles, SameTables}
 use Rattle.settle.proofs.Same.{same_numbers, settled-once}
-use Rattle.opening.specs.Models.{Written, ModelHeld, ModelRead, ModelOpened, Opens}
+use Rattle.opening.specs.Models.{Written, ModelRead, Opens}
 use Rattle.opening.specs.Same.{SameHeld, SameOpened}
 use Rattle.opening.specs.declared.Held.{Held}
 use Rattle.opening.specs.declared.Held.TheVariants.{Refused as HeldRefused, Model as HeldModel}

@@ -5,7 +5,7 @@ use Rattle.std.proofs.Math.ListN.{get_elem?}
 use Rattle.tree.specs.Node.{left_of}
 use Rattle.model.specs.Good.{Every}
 use Rattle.model.specs.Resolved
-use Rattle.model.specs.Opening.{process_limit, sums_in, start_processes}
+use Rattle.model.specs.Opening.{process_limit}
 use Rattle.tables.specs.Represents as tables
 
 -- definition d stands left of node first - d, the system line at the node `line`, and every item of it starts a definition that there is

@@ -1,6 +1,6 @@
 -- The tokens that Unsteady.antt lists are those that offend, and 29's place is the first of them. By induction on the tree one way, on where a sum stands the other
 -- way; where all names are new, as question 8 has asked.
-use mathlib.Core.Path.{◌≡◌, refl, sym, ap, subst, ◌∙◌}
+use mathlib.Core.Path.{◌≡◌, refl, sym, subst, ◌∙◌}
 use mathlib.Core.List.Memᴰ.{append_cases}
 use mathlib.Core.List.Memᴰ.{append_left as left}
 use mathlib.Core.List.Memᴰ.{append_right as right}
@@ -8,13 +8,12 @@ use mathlib.Core.List.Memᴰ.{cases_cons as cases}
 use mathlib.Core.List.Memᴰ.{head}
 use mathlib.Core.List.Memᴰ.{not-nil as nowhere}
 use mathlib.Core.List.Memᴰ.{tail}
-use mathlib.Core.List.{List, [], ◌∷◌, ◌++◌, Memᴰ as In}
-use mathlib.Core.Bool.{Bool, true, false}
-use mathlib.Core.Option.{Option, none, some, Option-elim}
-use mathlib.Core.Logic.{◌⊎◌, inl, inr, ⊎_elim}
+use mathlib.Core.List.{List, ◌++◌, Memᴰ as In}
+use mathlib.Core.Bool.{true, false}
+use mathlib.Core.Option.{Option, Option-elim}
+use mathlib.Core.Logic.{⊎_elim}
 use Prim.Native.Nat.{ℕ, ◌<◌}
 use borrow.Author.Tests.{ltb-true, lt-ltb}
-use lib.Dec.{ltb}
 use lib.ListN.{length}
 use Rattle.token.specs.declared.Found.{Found}
 use Rattle.token.specs.declared.Found.TheVariants.{At, Nothing}
@@ -22,7 +21,6 @@ use Rattle.token.specs.Questions.{First}
 use Rattle.grammar.specs.Syntax
 use Rattle.model.specs.Lists.{when, least}
 use Rattle.model.specs.Sites.{Scope, bindings, Definition, definitions, titles}
-use Rattle.model.specs.Given.{definition_named}
 use Rattle.model.specs.Stands.{branches_of, branches_in, items_of, sums_of, Holds, itself, grouped, SumIn, defined, continued}
 use Rattle.model.specs.Faults.{NotNew}
 use Rattle.model.specs.Faults as faults

@@ -4,7 +4,7 @@ use mathlib.Core.Path.{◌≡◌, refl, sym, ap, subst, ◌∙◌}
 use mathlib.Core.List.Memᴰ.{head}
 use mathlib.Core.List.Memᴰ.{tail}
 use mathlib.Core.List.{List, [], ◌∷◌, ◌++◌, Memᴰ as In}
-use mathlib.Core.Option.{Option, none, some}
+use mathlib.Core.Option.{Option, some}
 use Prim.Native.Nat.{ℕ, zero, suc, ◌+◌, ◌≤◌, ◌<◌}
 use native.Mathlib.Decide.{dec_le}
 use native.Mathlib.Omega.{arith}
@@ -13,7 +13,7 @@ use Rattle.grammar.specs.Grammar as derived
 use Rattle.grammar.specs.Syntax
 use Rattle.grammar.specs.Syntax.{syntax_of}
 use Rattle.model.specs.Lists.{each}
-use Rattle.model.specs.Sites.{Scope, bindings, count_args, Variable, Definition, variables, definitions}
+use Rattle.model.specs.Sites.{Scope, bindings, Variable, Definition, variables, definitions}
 use Rattle.model.specs.Good.{Every}
 use Rattle.model.specs.Resolved
 use Rattle.model.specs.Resolved.{channel_names, definition_number, sum_numbers, resolve_call, parts_of, parts_in, resolve_next, resolve_branch, resolve_branches, resolved}

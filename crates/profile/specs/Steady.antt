@@ -1,5 +1,5 @@
 -- Resolved models whose continuations leave at most one process (02, note 11). proofs/Resolves.antt shows that a text without offenders has such a model. Assumes nothing: these are definitions.
-use Rattle.std.specs.Prelude.{List, ℕ, ◌≤◌, length}
+use Rattle.std.specs.Prelude.{List, ◌≤◌, length}
 use Rattle.model.specs.Good.{Every}
 use Rattle.model.specs.Resolved.{Part, enter, call, Branch, Sum, Model}
 use Rattle.model.specs.Opening.{sums_in}

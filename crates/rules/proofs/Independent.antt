@@ -1,6 +1,6 @@
 -- Two moves that share no process and change no pair can be made in either order and lead to the same state (02, note 14): the rules derive the second entry, with its
 -- places moved, from what the first leaves, since its processes still stand there; and changes at different places come to both at once.
-use Prim.Native.Nat.{ℕ, zero, suc, ◌+◌, ◌*◌, ◌≤◌, ◌<◌}
+use Prim.Native.Nat.{ℕ, zero, suc, ◌+◌, ◌*◌, ◌<◌}
 use mathlib.Core.Path.{◌≡◌, refl, sym, ap, ap₂, ◌∙◌}
 use mathlib.Core.Bool.{Bool, true, false, cond}
 use mathlib.Core.List.{List, [], ◌∷◌, ◌++◌, map, Memᴰ as In}
@@ -16,10 +16,10 @@ use Rattle.rules.specs.Kind as kind
 use Rattle.rules.specs.Rules.{Nth, first, later, Change as Written, unchanged, Label, label, plain, Offered, rule8, rule9, rule10, rule11, rule12, rule13, sends, takes, takes_bind, rule18, Chooses, Acts, rule15-this, rule15-other, Handshakes, rule16-left, rule16-right, rule17-left, rule17-right, rule15-both, Alone, waits, launches, kills, receives, binds, checks, Key, key, rate_weight, Moves, alone, together, Derivable}
 use Rattle.rules.specs.Listing.{entry, gather, entries}
 use Rattle.rules.specs.Pairs.{pairs_after}
-use Rattle.rules.specs.Step.{replace, replace_both, bound_by, values_at, sent_by, on_action, state_after, step}
+use Rattle.rules.specs.Step.{replace, replace_both, sent_by, on_action, state_after, step}
 use Rattle.rules.specs.Carried.{places, Apart, Quiet, Change, becomes, size, place_after, of_branch, becoming, moved, placed, carried}
 use Rattle.rules.proofs.Places.{Accepts, unbound, bound, branching, Acting, acting, Meeting, meeting}
-use Rattle.rules.proofs.Moved.{nth-found, bound_of, chooses-goes, acts-goes, handshakes-goes, offered-bound, offered-sent, offered-received, no-handshake, steps-state}
+use Rattle.rules.proofs.Moved.{nth-found, chooses-goes, acts-goes, handshakes-goes, offered-bound, offered-sent, offered-received, no-handshake, steps-state}
 use Rattle.rules.proofs.Listed.{listed}
 use Rattle.rules.proofs.Rewritten.{or_self, rewritten, gather-same, place-grows, nth-moves, untouched, Through, one-after-other, either_way}
 use Rattle.rules.proofs.Rewritten as changes

@@ -1,9 +1,9 @@
 -- Which processes an entry's move replaces and by what, and where the other processes and their entries stand afterwards (01, Step: later places move; 02, note 14). Definitions only.
-use Rattle.std.specs.Prelude.{◌≡◌, cond, ℕ, zero, suc, ◌+◌, eqb, ltb, ℤ, length}
+use Rattle.std.specs.Prelude.{◌≡◌, cond, ℕ, zero, suc, ◌+◌, eqb, ltb, length}
 use mathlib.Core.List.{List, [], ◌∷◌, Memᴰ as In}
 use Rattle.std.proofs.Math.Option.{Option, none, some, Option-elim}
 use Rattle.std.proofs.Math.ListN.{get_elem?}
-use Rattle.rules.specs.Offers.{Guard, Branch, State}
+use Rattle.rules.specs.Offers.{Branch, State}
 use Rattle.rules.specs.Kind as kind
 use Rattle.rules.specs.Rules.{Key, key}
 use Rattle.rules.specs.Step.{bound_by, values_at, sent_by, on_action}

@@ -1,13 +1,13 @@
 -- How a move carries another entry, and what both come to in either order, by computation (02, note 14): processes that split, end, hand over, bind or check, one to a row.
 use Rattle.std.specs.Prelude.{◌≡◌, refl, List, [], ◌∷◌, ℕ, pos}
-use Rattle.std.proofs.Math.Option.{none, some, Option-elim}
+use Rattle.std.proofs.Math.Option.{Option-elim}
 use Rattle.value.specs.Items.{one_item}
 use Rattle.rules.specs.Offers.{Pair, Query, range, wait, bind, check, send, take, named, bare, Branch, State}
 use Rattle.rules.specs.Kind as kind
 use Rattle.rules.specs.Rules.{Key, key, unchanged}
 use Rattle.rules.specs.Pairs.{pairs_after}
 use Rattle.rules.specs.Step.{replace, replace_both, change_of, bound_by, values_at, sent_by, on_action, Outcome, goes, state_after, at_branch, one_acts, both_act, step}
-use Rattle.rules.specs.Carried.{places, becomes, place_after, of_branch, becoming, moved, placed, carried}
+use Rattle.rules.specs.Carried.{becomes, place_after, of_branch, becoming, moved, placed, carried}
 
 -- processes that split into three, end, send and become two, receive and end, bind a lit value and become two, check and go on, or have nothing to do
 pub data Proc : Type 0 where

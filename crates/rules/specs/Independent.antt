@@ -1,5 +1,5 @@
 -- When two entries of a listing can be taken in either order (02, note 14): what is asked of them, and the same as a test. Definitions, and rows by computation.
-use Rattle.std.specs.Prelude.{◌≡◌, refl, List, [], ◌∷◌, Bool, true, false, cond, not, ◌&&◌, ◌||◌, ℕ, ◌<◌, eqb, ltb}
+use Rattle.std.specs.Prelude.{◌≡◌, refl, List, [], ◌∷◌, Bool, true, false, not, ◌&&◌, ◌||◌, ℕ, ◌<◌, eqb, ltb}
 use Rattle.rules.specs.Kind as kind
 use Rattle.rules.specs.Rules.{Key, key}
 use Rattle.rules.specs.Listing.{Entry, entry, key_of, weight_of}

@@ -2,15 +2,14 @@
 use mathlib.Core.Path.{◌≡◌, refl, sym, ap, ◌∙◌}
 use mathlib.Core.Bool.{Bool, true, false, cond}
 use mathlib.Core.List.{List, [], ◌∷◌}
-use mathlib.Core.Option.{Option, none, some, Option-elim}
-use Prim.Native.Nat.{ℕ, zero, suc, ◌+◌, ◌-◌, ◌≤◌, ◌<◌}
+use mathlib.Core.Option.{some}
+use Prim.Native.Nat.{ℕ, suc, ◌+◌, ◌-◌, ◌≤◌, ◌<◌}
 use native.Mathlib.Omega.{arith}
 use borrow.Author.Tests.{eq-eqb, ne_eqb}
-use lib.Dec.{eqb, leb}
+use lib.Dec.{eqb}
 use lib.ListN.{length, drop, get_elem?, length-append}
 use Rattle.waits.specs.declared.Run.TheVariants as reading
 use Rattle.waits.specs.declared.Run as reading-of
-use Rattle.waits.specs.declared.Wait.{Wait}
 use Rattle.waits.specs.declared.Wait.TheVariants as wait
 use Rattle.waits.specs.Runs.{read, settled, waiting, wait_of}
 use Rattle.waits.specs.ByRuns.{Waits}
@@ -28,8 +27,8 @@ use Rattle.rules.specs.Draw.{weights, total}
 use Rattle.machine.specs.State.{State, GoodState}
 use Rattle.machine.specs.Timed.{Timed, timed, GoodTimed}
 use Rattle.machine.specs.Saves.{no_saves}
-use Rattle.machine.specs.Machine.{Answer, filled, zeroed, no, listed_as, Listed, entries_are, refused_with, listing, Turn, turn, refusing, accepting, drawn, showing, lists, choosing, steps_with, steps_in, times_with, held_all, on_clock, timed', acts}
-use Rattle.machine.specs.Questions.{Lists, no12, no13, no14, yes14, Chosen, Steps, no15, no16, no17, no18, no19, yes19, Times, no15-19, no23, no24, no25, yes25}
+use Rattle.machine.specs.Machine.{filled, zeroed, no, listed_as, Listed, entries_are, refused_with, listing, Turn, accepting, drawn, showing, lists, choosing, steps_with, steps_in, times_with, held_all, on_clock, timed', acts}
+use Rattle.machine.specs.Questions.{Steps, no15, no16, no17, no18, no19, yes19, Times, no15-19, no23, no24, no25, yes25}
 use Rattle.machine.proofs.Branches.{nth-get}
 use Rattle.machine.proofs.Saves.{no-saves-hold}
 use Rattle.machine.proofs.Listing as listings

@@ -1,14 +1,13 @@
 -- What each step of a run leaves in the buffers, told by the run: ended, or one event longer. From the laws of a step and of events.
 use mathlib.Core.Path.{◌≡◌, refl, sym, ap, ◌∙◌}
 use mathlib.Core.Bool.{Bool, true, false, cond}
-use mathlib.Core.List.{List, [], ◌∷◌, ◌++◌}
+use mathlib.Core.List.{List, [], ◌∷◌}
 use mathlib.Core.Option.{Option, none, some, Option-elim}
-use Prim.Native.Nat.{ℕ, zero, suc, ◌+◌, ◌-◌, ◌*◌, ◌≤◌, ◌<◌}
+use Prim.Native.Nat.{ℕ, suc, ◌+◌, ◌-◌, ◌*◌, ◌≤◌, ◌<◌}
 use native.Mathlib.Omega.{arith}
-use borrow.Author.Tests.{eq-eqb, ne_eqb}
-use lib.Dec.{eqb, leb}
+use lib.Dec.{leb}
 use lib.IntN.{ℤ}
-use lib.ListN.{length, take, drop, get_elem?, length-append, length-drop}
+use lib.ListN.{length, take, drop, length-append, length-drop}
 use Rattle.words.specs.declared.Drawn.{Drawn}
 use Rattle.words.specs.declared.Drawn.TheVariants.{Given, Ended}
 use Rattle.words.specs.Words.{draw_of, Within}
@@ -16,25 +15,24 @@ use Rattle.clock.specs.declared.Clock.{Clock}
 use Rattle.clock.specs.Clock.{InRange}
 use Rattle.model.specs.Resolved
 use Rattle.model.specs.Limits.{branch_limit}
-use Rattle.model.specs.Good.{GoodModel, GoodSum, Every}
+use Rattle.model.specs.Good.{GoodModel, GoodSum}
 use Rattle.rules.specs.Listing.{Entry, entries}
 use Rattle.rules.specs.Draw.{weights, total}
 use Rattle.machine.specs.Offer.{branches, missing}
-use Rattle.machine.specs.State.{State, GoodState, state_numbers}
+use Rattle.machine.specs.State.{State, state_numbers}
 use Rattle.machine.specs.Timed.{Timed, timed, GoodTimed}
-use Rattle.machine.specs.Machine.{entry_limit, total_limit, Shown, filled, zeroed, no, counted, Listed, entries_are, refused_with, listing, Turn, turn, drawn, choosing, steps_with, steps_in, times_with}
+use Rattle.machine.specs.Machine.{entry_limit, total_limit, zeroed, no, counted, Listed, entries_are, refused_with, listing, Turn, drawn, choosing, steps_with, steps_in, times_with}
 use Rattle.machine.proofs.Everys.{every_in, in-every}
-use Rattle.listing.specs.declared.Listed as answer
 use Rattle.listing.specs.declared.Listed.TheVariants.{Filled, Refused}
 use Rattle.listing.proofs.Finished.{rows-length as list_length}
-use Rattle.listing.specs.Buffer.{rows, listed_answer, Leading, leading, nothing, Leads}
+use Rattle.listing.specs.Buffer.{listed_answer, Leading, leading, nothing, Leads}
 use Rattle.offers.specs.Collect.{FewBranches, World}
 use Rattle.step.specs.Enter.{Lent}
 use Rattle.running.specs.declared.Stepped.{Stepped}
 use Rattle.running.specs.declared.Progress.{Progress}
-use Rattle.machine.specs.Machine.{Event, Run, begun, ended_with, Next, on, over, entry_shown, event_of, longer, follows, run_step, running}
-use Rattle.running.specs.Taking.{entry_in, Counted, StepsTo}
-use Rattle.machine.specs.Runs.{event_rows, event_numbers, run_of, is_over}
+use Rattle.machine.specs.Machine.{Run, begun, ended_with, Next, on, over, entry_shown, event_of, longer, follows, run_step, running}
+use Rattle.running.specs.Taking.{entry_in, StepsTo}
+use Rattle.machine.specs.Runs.{run_of, is_over}
 use Rattle.running.specs.Progress.{written, begun_with, ended, longer_by, Stands, Lists, Goes}
 use Rattle.running.proofs.Runs.{refused-step, dead-step, words-end, draw-step, follows_on, follows-over, next-on, next-over, on-longer, zero-steps, Took, Carries, carries, timed-good}
 use Rattle.running.proofs.Taking.{entry_in_lem, rest_of}

@@ -20,9 +20,7 @@ use Rattle.rules.specs.Draw.{weights, total, chosen}
 use Rattle.rules.proofs.Chosen.{chosen-span, span-inside}
 use Rattle.machine.specs.Offer.{branches}
 use Rattle.machine.specs.State.{State, state_length, state_numbers}
-use Rattle.machine.specs.Timed.{Timed, timed}
-use Rattle.machine.specs.Machine as machine
-use Rattle.machine.specs.Machine.{total_limit, listed_as, Listed, entries_are, Turn, turn, refusing, accepting, entry_arguments, entry_state, taken, drawn, refused_as, with_wait, steps_in}
+use Rattle.machine.specs.Machine.{total_limit, listed_as, refusing, accepting, entry_arguments, entry_state, taken, drawn, refused_as, with_wait, steps_in}
 use Rattle.machine.proofs.Branches.{none-not-some, nth-get, get_nth, nth-below}
 use Rattle.machine.proofs.Listing.{accepted}
 use Rattle.machine.proofs.OneListing.{one-listing}
@@ -36,7 +34,7 @@ use Rattle.step.specs.declared.Taken.{Taken}
 use Rattle.step.specs.declared.Taken.TheVariants.{Accepted, Refused}
 use Rattle.step.specs.Enter.{verdict, state_of, Answers}
 use Rattle.running.specs.declared.Stepped.{Stepped}
-use Rattle.running.specs.Taking.{entry_in, Listing, Counted, Row, stepped, stepped_by, StepsTo}
+use Rattle.running.specs.Taking.{entry_in, Counted, Row, stepped, stepped_by, StepsTo}
 
 -- ---- an entry in the listing buffer
 shift : (l : List ℕ) (n : ℕ) → entry_in l (suc n) ≡ entry_in (drop 7 l) n

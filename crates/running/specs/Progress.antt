@@ -1,11 +1,10 @@
 -- How a run stands in the buffers, and what its steps leave (docs/DECISIONS.md, R.4 to R.7). Definitions only.
-use Rattle.std.specs.Prelude.{◌≡◌, Bool, true, false, List, [], ◌∷◌, ℕ, ◌+◌, ◌-◌, ◌*◌, ◌≤◌, ℤ, length, drop, set}
+use Rattle.std.specs.Prelude.{◌≡◌, true, false, List, ℕ, ◌+◌, ◌-◌, ◌*◌, ◌≤◌, ℤ, length, set}
 use Rattle.model.specs.Resolved
 use Rattle.rules.specs.Rules.{key}
 use Rattle.rules.specs.Listing.{Entry, entry}
 use Rattle.clock.specs.declared.Clock.{Clock}
 use Rattle.clock.specs.Clock.{InRange}
-use Rattle.machine.specs.State.{State}
 use Rattle.machine.specs.Machine.{event_width, Run, Next}
 use Rattle.machine.specs.Runs.{event_numbers, run_of, is_over}
 use Rattle.step.specs.Enter.{Lent}

@@ -25,7 +25,7 @@ use Rattle.state.proofs.Tests.{both, rows_next, rows_none}
 use Rattle.saves.specs.Keys.{is_word, is_second, is_key, is_key_of, full_word, key_numbers}
 use Rattle.saves.specs.Kept.{is_kept}
 use Rattle.saves.specs.Places.{has_key, is_place, is_once, are_once, places_of, is_saves, kept_part}
-use Rattle.saves.specs.Change.{place_with, no_key, place_to_take, row_at, with_row, written, saving_numbers, returning_numbers, forgetting_numbers, Stores}
+use Rattle.saves.specs.Change.{place_with, no_key, place_to_take, row_at, with_row, saving_numbers, returning_numbers, forgetting_numbers, Stores}
 use Rattle.saves.proofs.Names.{letters-every, letter-is, name-is, every_take, every_drop}
 
 -- ---- letters

@@ -9,7 +9,7 @@ use native.Mathlib.Omega.{arith}
 use lib.Dec.{eqb, leb}
 use lib.ListN.{length, take, drop, length-take, length-drop, length-append, take-append-drop, drop_of_length-le}
 use lib.Seq.{take_all, take_at, drop_at}
-use borrow.Author.Tests.{eqb-true, eqb-false, eq-eqb, ne_eqb, leb-true, leb-false, le-leb, lt-leb}
+use borrow.Author.Tests.{eqb-true, eqb-false, ne_eqb, leb-true, leb-false, le-leb}
 use Rattle.word.specs.Name.{word_bytes, pack, longest}
 use Rattle.machine.specs.Saves.{is_letter, are_letters, is_name}
 use Rattle.state.specs.Test.{every}

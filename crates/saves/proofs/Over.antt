@@ -1,6 +1,5 @@
 -- Saves over a model fit the locals of its sums and its number of channel names, and the other way round: place by place.
-use mathlib.Core.Path.{◌≡◌}
-use mathlib.Core.List.{List, [], ◌∷◌}
+use mathlib.Core.List.{[], ◌∷◌}
 use mathlib.Core.Option.{Option, none, some}
 use Rattle.model.specs.Resolved
 use Rattle.model.specs.Good.{Every, GoodModel}

@@ -1,5 +1,5 @@
 -- What a save, a return and a forget make of the numbers of a state with its clock, zs, and of the saves (02, notes 2 and 4). Definitions only.
-use Rattle.std.specs.Prelude.{◌≡◌, List, [], ◌∷◌, ◌++◌, Bool, true, cond, ℕ, ◌+◌, ◌*◌, ltb, ℤ, pos, take, drop, replicate}
+use Rattle.std.specs.Prelude.{◌≡◌, List, ◌++◌, Bool, true, cond, ℕ, ◌+◌, ◌*◌, ltb, ℤ, pos, take, drop, replicate}
 use Rattle.machine.specs.Saves.{is_name, first_of, save_limit, place_width, Stored}
 use Rattle.saves.specs.Kept.{kept_numbers}
 use Rattle.saves.specs.Keys.{key_numbers}

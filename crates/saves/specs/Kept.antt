@@ -1,8 +1,8 @@
 -- The numbers of a state with its clock, as a place has them: the state's, then ticks and draws (02, note 4; docs/LAYOUT.md). Definitions only.
-use Rattle.std.specs.Prelude.{List, [], ◌∷◌, ◌++◌, Bool, true, false, ◌&&◌, ℕ, ◌<◌, ℤ, pos, negsuc, nat_abs, take, drop}
+use Rattle.std.specs.Prelude.{List, [], ◌∷◌, ◌++◌, Bool, true, false, ◌&&◌, ℕ, ℤ, pos, negsuc, nat_abs, take, drop}
 use Rattle.clock.specs.declared.Clock.{Clock}
 use Rattle.clock.specs.Clock.{InRange, is_in_range}
-use Rattle.machine.specs.State.{State, state_length, state_numbers}
+use Rattle.machine.specs.State.{state_length, state_numbers}
 use Rattle.machine.specs.Timed.{Timed, timed}
 use Rattle.state.specs.Fits.{Fits}
 use Rattle.state.specs.Test.{at, is_state}

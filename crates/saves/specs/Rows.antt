@@ -1,5 +1,5 @@
 -- The numbers of names and places, with literal numbers, by computation, one to a row (02, notes 2 and 4).
-use Rattle.std.specs.Prelude.{◌≡◌, refl, [], ◌∷◌, true, false, ℕ, pos, negsuc, take, drop, replicate}
+use Rattle.std.specs.Prelude.{◌≡◌, refl, [], ◌∷◌, true, false, pos, negsuc, take, drop, replicate}
 use Rattle.word.specs.Name.{pack}
 use Rattle.clock.specs.Clock.{is_in_range}
 use Rattle.machine.specs.State.{padded, flatten, process_numbers, state_numbers}

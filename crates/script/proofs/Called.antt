@@ -38,7 +38,6 @@ use Rattle.buffers.specs.Parts.{Cell, Engine}
 use Rattle.buffers.specs.Effect.{Effect, untouched, left_in, leaves, requested, answered, effect}
 use Rattle.buffers.specs.Calls.{Lending, own, other, lent_buffer, lent_length, own_buffer, BufferCall, lent_engine, left_by, lent_lengths, fed, Holds, zeros, held}
 use Rattle.buffers.specs.Calls as buffers
-use Rattle.buffers.proofs.Lent.{kept}
 use Rattle.buffers.proofs.Every.{engine-long, holds_same, all-lent, one-untouched, left_as, Goes, call-goes}
 use Rattle.buffers.proofs.Every as every
 use Rattle.buffers.proofs.Held.{held_fits}

@@ -5,7 +5,6 @@ use mathlib.Core.List.{List, [], ◌∷◌, ◌++◌, append-nil}
 use mathlib.Core.Option.{Option, none, some, Option-elim}
 use Prim.Native.Nat.{ℕ, zero, suc, ◌+◌, ◌-◌, ◌≤◌}
 use native.Mathlib.Omega.{arith}
-use borrow.Author.Tests.{eq-eqb, ne_eqb}
 use lib.Dec.{eqb}
 use lib.IntN.{ℤ}
 use lib.ListN.{length, get_or, take, drop, replicate, length-append, take-append-drop}
@@ -13,14 +12,13 @@ use lib.Seq.{length-take-le}
 use Rattle.model.specs.Resolved
 use Rattle.model.specs.Opening.{Opening, refused, opened, opening}
 use Rattle.profile.specs.Opening.{opening_steady}
-use Rattle.machine.specs.State.{State}
 use Rattle.clock.specs.declared.Clock.{Clock}
 use Rattle.machine.specs.Timed.{Timed}
 use Rattle.machine.specs.Saves.{Saves, Stored, saving, returning, forgetting}
-use Rattle.machine.specs.Machine.{Shown, as_lent, Answer, no, Turn, Held, Machine, closed, holding, on_state, on_saves, Request, list', step', report', search', timed', run', save', return', forget', Ask, open', open_steady', on', acts, Part, model, state, saves, clock, size, two_parts, timed_parts, three_parts, uses, output_of, is_lent, all_parts, has_lengths, Call, on_machine}
+use Rattle.machine.specs.Machine.{Shown, Answer, no, Turn, Held, Machine, closed, holding, on_state, on_saves, Request, list', step', report', search', timed', run', save', return', forget', Ask, open', open_steady', on', acts, Part, model, state, saves, clock, size, two_parts, timed_parts, three_parts, uses, output_of, is_lent, all_parts, has_lengths, Call, on_machine}
 use Rattle.buffers.specs.Held.{held_in}
 use Rattle.buffers.specs.Listing.{shown}
-use Rattle.buffers.specs.Parts.{Engine, numbers_of, is_part, read_held, clock_numbers, clock_in, lent_two, lent_three, lent_timed, lent_all}
+use Rattle.buffers.specs.Parts.{Engine, is_part, read_held, lent_two, lent_three, lent_timed, lent_all}
 use Rattle.buffers.specs.Effect.{Effect, machine_over, untouched, opens_with, left_in, leaves, requested, answered, effect}
 use Rattle.buffers.proofs.Lent.{same-engine}
 use Rattle.buffers.proofs.Answers.{search-shows}
@@ -32,7 +30,7 @@ use Rattle.engine.specs.Gives.{Gives, bare}
 use Rattle.searching.specs.declared.Found.{Found}
 use Rattle.searching.specs.Run.{entries_of, GivesRun}
 use Rattle.script.specs.declared.Row.{Row}
-use Rattle.script.specs.Rows.{output_width, row_lengths, fits, row_text, row_draws, row_words, row_ask, row_call}
+use Rattle.script.specs.Rows.{row_lengths, fits, row_text, row_draws, row_words, row_ask, row_call}
 use Rattle.script.specs.Run.{lengths_of, effect_of, used_of, answer_numbers, result_numbers, found_numbers, ran_numbers, Called}
 use Rattle.script.proofs.Called.{row-asks}
 use Rattle.script.proofs.Used.{is_run, without-used, run-bare}

@@ -7,7 +7,7 @@ use native.Mathlib.Omega.{arith}
 use lib.ListN.{length, take, drop, length-take, length-drop}
 use lib.Seq.{length-take-le, drop-drop}
 use Rattle.machine.specs.Machine.{Machine, closed, Part, size, Call, calls, answers, after}
-use Rattle.buffers.specs.Parts.{Engine, fresh}
+use Rattle.buffers.specs.Parts.{fresh}
 use Rattle.buffers.specs.Calls.{Holds, zeros}
 use Rattle.buffers.proofs.Every.{engine-long}
 use Rattle.script.specs.declared.Row.{Row}

@@ -14,10 +14,9 @@ use Rattle.clock.specs.declared.Clock.{Clock}
 use Rattle.buffers.specs.Parts.{Engine, clock_numbers, clock_in, lent_all}
 use Rattle.buffers.specs.Effect.{Effect, effect}
 use Rattle.buffers.proofs.Lent.{same-engine}
-use Rattle.engine.specs.declared.Answer as engine
 use Rattle.script.specs.declared.Row.{Row}
 use Rattle.script.specs.Rows.{row_width, answer_width, row_of, row_lengths, fits, row_call, call_of, first_call}
-use Rattle.script.specs.Run.{Lent, lent_four, lent_of, room_of, lengths_of, effect_of, answer_numbers, call_left, result_numbers, Called, RowRan}
+use Rattle.script.specs.Run.{Lent, lent_four, lent_of, room_of, lengths_of, effect_of, answer_numbers, call_left, Called, RowRan}
 
 module _ (script texts numbers words : List ℕ) (x : Lent) where
   abbrev Runs : Bool → Lent → Type 0

@@ -1,7 +1,7 @@
 -- What each return of the search says: 11, 26 and what a walk comes to, as the effect of the call has it; and the entries as they are written.
 use mathlib.Core.Path.{◌≡◌, refl, sym, ap, ◌∙◌}
 use mathlib.Core.List.{List, [], ◌∷◌, ◌++◌, append_assoc}
-use mathlib.Core.Bool.{Bool, true, false, cond, ◌&&◌}
+use mathlib.Core.Bool.{Bool, true, false, ◌&&◌}
 use mathlib.Core.Option.{none, some}
 use Prim.Native.Nat.{ℕ, zero, suc, ◌+◌, ◌-◌, ◌≤◌, ◌<◌}
 use native.Mathlib.Numerals.{add-one}
@@ -9,13 +9,13 @@ use native.Mathlib.Omega.{arith}
 use borrow.Author.Tests.{le-leb, lt-leb, leb-true}
 use lib.Dec.{leb}
 use lib.IntN.{ℤ}
-use lib.ListN.{length, get_or, set, take, drop, replicate, length-take}
+use lib.ListN.{length, get_or, set, take, replicate}
 use lib.Seq.{take-suc, length-take-le, set_at}
 use Rattle.runs.specs.Tree as tree
 use Rattle.runs.specs.Walk as walk
 use Rattle.model.specs.Resolved
 use Rattle.machine.specs.State.{State, state_numbers}
-use Rattle.machine.specs.Machine.{as_lent, no, found_as, moves_to, depth_limit, is_depth, searched_as, searches, held, Machine, closed, holding, on_state, Request, search', acts, two_parts, uses, on_machine}
+use Rattle.machine.specs.Machine.{no, found_as, moves_to, depth_limit, is_depth, searched_as, searches, held, closed, holding, on_state, Request, search', acts, two_parts, uses, on_machine}
 use Rattle.buffers.specs.Parts.{Engine, lent_two}
 use Rattle.buffers.specs.Effect.{machine_over, left_in, leaves, requested}
 use Rattle.store.proofs.Tables.{left-two}

@@ -1,15 +1,14 @@
 -- Walking a channel and an action resolves them: a lone name that is neither local nor whole variable gets its number, and the names that an action binds come into scope. From walks in one scope.
-use mathlib.Core.Path.{◌≡◌, refl, sym, ap, ap₂, ◌∙◌, subst}
+use mathlib.Core.Path.{◌≡◌, refl, ap, ◌∙◌}
 use mathlib.Core.List.Memᴰ.{append_left as left}
 use mathlib.Core.List.Memᴰ.{append_right as right}
 use mathlib.Core.List.Memᴰ.{eq_of_singleton}
 use mathlib.Core.List.Memᴰ.{head}
 use mathlib.Core.List.{List, [], ◌∷◌, ◌++◌, Memᴰ as In}
 use mathlib.Core.Bool.{Bool, true, false, cond, ◌&&◌}
-use mathlib.Core.Logic.{◌⊎◌, inl, inr}
+use mathlib.Core.Logic.{inl, inr}
 use Prim.Native.Nat.{ℕ, ◌+◌, ◌≤◌, ◌<◌}
 use native.Mathlib.Omega.{arith}
-use lib.Dec.{leb, eqb}
 use lib.ListN.{length, get_or}
 use Rattle.grammar.specs.Syntax
 use Rattle.tree.specs.Node as node
@@ -19,23 +18,21 @@ use Rattle.tree.specs.Table.{Node, Leaf, Two}
 use Rattle.tree.proofs.Cells.{node-kind, node-token, node-third}
 use Rattle.tree.proofs.Holds.{expr-interval, values-interval, sets-interval}
 use Rattle.model.specs.Lists.{every_other}
-use Rattle.model.specs.Sites.{Scope, Site, value, bound, expr_sites, is_lone, item_sites, channel_sites, values_sites, sets_sites, count_sets, tokens_of, action_sites, bindings, Variable, Definition}
+use Rattle.model.specs.Sites.{Scope, value, bound, expr_sites, is_lone, item_sites, channel_sites, values_sites, sets_sites, count_sets, tokens_of, action_sites, bindings, Variable, Definition}
 use Rattle.model.specs.Limits.{local_limit}
 use Rattle.model.specs.Given.{Meaning, local, variable, nothing, is_value, meaning, place_in}
-use Rattle.model.specs.Good.{GoodExpr}
 use Rattle.model.specs.Resolved
 use Rattle.model.specs.Resolved.{is_channel_name, item_use, channel_use, action_use, firsts, or_zero, value_named, resolve_expr, item_named, resolve_item, resolve_channel, resolve_values, resolve_sets, resolve_action}
 use Rattle.model.proofs.Channels.{firsts-append}
 use Rattle.model.proofs.Members.{not-both}
 use Rattle.model.specs.Faultless.{AllFine, FineNumber}
-use Rattle.model.proofs.Resolves.{expr-good}
 use Rattle.names.proofs.Scopes.{every-length}
 use Rattle.tables.specs.Settled as settled
 use Rattle.tables.specs.Settled.{channel, Index, Pair, OneOrTwo}
 use Rattle.settle.specs.Walks.{Role, role_of, role_at, Point, name_cell, met_after, cell_by, step_by, cell_of, step, Binds, SafeBy}
 use Rattle.settle.specs.Walks as role
-use Rattle.settle.proofs.Moves.{Done, Moved, Moves, Keeps, Does, plain-does, leaf, two, three, moved-with}
-use Rattle.settle.proofs.Values.{index_of, value-no-channel, value-holds, expr-stays, values-stays, sets-stays}
+use Rattle.settle.proofs.Moves.{Moves, Keeps, Does, plain-does, leaf, two, three}
+use Rattle.settle.proofs.Values.{index_of, expr-stays, values-stays, sets-stays}
 use Rattle.settle.proofs.Heard.{place_kept}
 
 -- a name that is no channel name is a value

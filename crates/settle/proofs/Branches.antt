@@ -1,29 +1,27 @@
 -- Walking branches, sums and continuations resolves them: a branch's names are in scope from its action to its end. By induction on the tree, where no question found a fault.
-use mathlib.Core.Path.{◌≡◌, refl, sym, ap, ap₂, ◌∙◌, subst}
+use mathlib.Core.Path.{◌≡◌, refl, sym, ap, ◌∙◌, subst}
 use mathlib.Core.List.Memᴰ.{append_left as left}
 use mathlib.Core.List.Memᴰ.{append_right as right}
-use mathlib.Core.List.Memᴰ.{eq_of_singleton}
 use mathlib.Core.List.Memᴰ.{head}
 use mathlib.Core.List.Memᴰ.{not-nil as nowhere}
 use mathlib.Core.List.Memᴰ.{tail}
 use mathlib.Core.List.{List, [], ◌∷◌, ◌++◌, append-nil, Memᴰ as In}
-use mathlib.Core.Bool.{Bool, true, false, cond}
-use mathlib.Core.Option.{Option, none, some}
+use mathlib.Core.Bool.{Bool, true}
+use mathlib.Core.Option.{Option}
 use Prim.Native.Nat.{ℕ, ◌+◌, ◌-◌, ◌≤◌, ◌<◌}
 use native.Mathlib.Omega.{arith}
-use lib.ListN.{length, get_or, take, get_elem?, length-append}
+use lib.ListN.{length, get_or, length-append}
 use lib.Seq.{take-append_seam}
 use Rattle.grammar.specs.Syntax
 use Rattle.tree.specs.Node as node
 use Rattle.tree.specs.Node.{field, cell, kind_of, token_of, left_of, third_of, number_kind}
 use Rattle.tree.specs.Table
 use Rattle.tree.specs.Table.{Node, Leaf, One, Two, Three, first_token}
-use Rattle.tree.proofs.Cells.{kind-of, token-of, left-of, third_of_lem, node-kind, node-token, node-left, node-third}
-use Rattle.tree.proofs.Holds.{action-interval, rate-interval, cont-interval, conts-interval, offer-interval, branch-interval, branches-interval, sum-interval}
-use Rattle.model.specs.Lists.{every_other}
-use Rattle.model.specs.Sites.{Scope, Site, bound, gate_sites, cond_sites, sets_sites, count_sets, channel_sites, action_sites, rate_sites, tokens_of, bindings, count_exprs, count_args, args_sites, Variable, Definition, variables, definitions}
+use Rattle.tree.proofs.Cells.{kind-of, token-of, third_of_lem, node-kind, node-token, node-left, node-third}
+use Rattle.tree.proofs.Holds.{action-interval, rate-interval, cont-interval, conts-interval, offer-interval, branches-interval}
+use Rattle.model.specs.Sites.{Scope, Site, bound, gate_sites, sets_sites, count_sets, channel_sites, action_sites, rate_sites, tokens_of, bindings, count_exprs, count_args, args_sites, Variable, Definition, variables, definitions}
 use Rattle.model.specs.Limits.{local_limit, definition_limit}
-use Rattle.model.specs.Given.{is_given, meaning, definition_named}
+use Rattle.model.specs.Given.{definition_named}
 use Rattle.model.specs.Stands.{branches_of, branches_in, items_of, Holds, itself, grouped, SumIn, continued, BranchIn, SiteIn, in_gate, in_action, in_rate, in_call}
 use Rattle.model.specs.Faults.{NotNew}
 use Rattle.model.specs.Resolved
@@ -39,7 +37,7 @@ use Rattle.tables.specs.Settled as settled
 use Rattle.tables.specs.Settled.{Index, Pair, Over, Arguments, Called, Parts, entered, called-bare, called, grouped, items, Stops, Goes, Offer, Gated}
 use Rattle.settle.specs.Walks.{Role, role_of, role_at, Point, definition_of, cell_by, step_by, cell_of, step, SafeBy}
 use Rattle.settle.specs.Walks as role
-use Rattle.settle.proofs.Moves.{Done, Moved, Moves, Keeps, Does, plain-does, moved-with, moved_to, moved-both, moved-node, moved_sum, moved_then, leaf, pair_of, two, two_then}
+use Rattle.settle.proofs.Moves.{Moves, Does, plain-does, moved-with, moved_to, moved-both, moved-node, moved_sum, moved_then, leaf, two, two_then}
 use Rattle.settle.proofs.Values.{exprs-stays, cond-stays, rate-stays}
 use Rattle.settle.proofs.Actions.{action-moves}
 use Rattle.settle.proofs.Heard.{meaning-more, bound-new}

@@ -1,11 +1,11 @@
 -- The cells of numbers as the code computes them, with what a number comes to. From arithmetic alone.
-use mathlib.Core.Path.{◌≡◌, refl, sym, ap, ◌∙◌, subst}
+use mathlib.Core.Path.{◌≡◌, refl, sym, ap, ◌∙◌}
 use mathlib.Core.List.{List, []}
-use mathlib.Core.Bool.{Bool, true, false, cond}
+use mathlib.Core.Bool.{Bool, true, false}
 use Prim.Native.Nat.{ℕ, zero, suc, ◌+◌, ◌-◌, ◌*◌, ◌≤◌, ◌<◌, min}
 use native.Mathlib.Omega.{arith}
-use lib.IntN.{ℤ, pos, negsuc, neg_ℤ, nat_abs, ◌*ℤ◌}
-use lib.ListN.{length, get_or}
+use lib.IntN.{ℤ, pos, neg_ℤ, nat_abs, ◌*ℤ◌}
+use lib.ListN.{get_or}
 use Rattle.value.specs.Range.{farthest, InRange}
 use Rattle.value.proofs.Sizes.{abs-minus}
 use Rattle.value.proofs.Bounds.{in_size}
@@ -17,10 +17,9 @@ use Rattle.model.specs.Words.{whole_of, decimal_of}
 use Rattle.model.specs.Good.{scale_limit}
 use Rattle.model.specs.Resolved
 use Rattle.model.specs.Resolved.{number_scale}
-use Rattle.model.proofs.Members.{not-both}
 use Rattle.tables.specs.Settled.{offset, lifted, number_cell}
-use Rattle.settle.specs.Walks.{scale_cell, NumberSafe}
-use Rattle.settle.specs.Places.{signed, Told, ScaleTold}
+use Rattle.settle.specs.Walks.{scale_cell}
+use Rattle.settle.specs.Places.{signed, ScaleTold}
 
 -- ---- the cases of `number_cell`
 

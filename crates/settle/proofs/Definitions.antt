@@ -1,9 +1,9 @@
 -- Walking the definitions and then the system line resolves a model's whole tree: definitions, sums by their numbers, items. By induction on the tree, where no question found a fault.
-use mathlib.Core.Path.{◌≡◌, refl, sym, ap, ap₂, ◌∙◌, subst}
+use mathlib.Core.Path.{◌≡◌, refl, sym, ap, ◌∙◌, subst}
 use mathlib.Core.List.Memᴰ.{head}
 use mathlib.Core.List.Memᴰ.{tail}
 use mathlib.Core.List.{List, [], ◌∷◌, ◌++◌, append-nil, Memᴰ as In}
-use mathlib.Core.Bool.{Bool, true, false, cond}
+use mathlib.Core.Bool.{Bool, true}
 use mathlib.Core.Option.{some}
 use Prim.Native.Nat.{ℕ, zero, suc, ◌+◌, ◌-◌, ◌≤◌, ◌<◌}
 use native.Mathlib.Numerals.{add-one}
@@ -16,17 +16,17 @@ use Rattle.tree.specs.Node as node
 use Rattle.tree.specs.Node.{field, kind_of, token_of, left_of, third_of, number_kind}
 use Rattle.tree.specs.Table
 use Rattle.tree.specs.Table.{Node, One, Two}
-use Rattle.tree.proofs.Cells.{node-kind, node-token, node-left, node-third}
-use Rattle.tree.proofs.Holds.{sums-interval, system-interval, definition-interval, definitions-interval}
+use Rattle.tree.proofs.Cells.{node-kind, node-left, node-third}
+use Rattle.tree.proofs.Holds.{sums-interval, system-interval, definition-interval}
 use Rattle.model.specs.Lists.{each}
-use Rattle.model.specs.Sites.{Scope, tokens_of, Variable, Definition, variables, definitions, definitions_in, system_in, system, starts_in, starts, params_of}
+use Rattle.model.specs.Sites.{Scope, tokens_of, Variable, Definition, variables, definitions, definitions_in, system_in, starts_in, params_of}
 use Rattle.model.specs.Words.{whole_of}
-use Rattle.model.specs.Limits.{local_limit, count_limit, parameter_limit}
+use Rattle.model.specs.Limits.{local_limit, count_limit}
 use Rattle.model.specs.Stands.{sums_of, SumIn, defined, BranchIn}
 use Rattle.model.specs.Faults.{NotNew, start_list, start_wholes}
 use Rattle.model.specs.Resolved
 use Rattle.model.specs.Resolved.{channel_names, sum_uses, sums_uses, definition_uses, firsts, sum_number, sum_numbers, resolve_start, sum_tree, sums_tree, all_sums, resolved}
-use Rattle.model.specs.Numbering.{count_sum, count_sums, count_definitions, SumFrom, SumsFrom, DefinitionsFrom}
+use Rattle.model.specs.Numbering.{count_sum, count_sums, count_definitions, SumsFrom, DefinitionsFrom}
 use Rattle.model.specs.Faultless.{scale_of, Faultless}
 use Rattle.model.proofs.Channels.{firsts-append}
 use Rattle.names.proofs.Scopes.{every-length}
@@ -35,8 +35,8 @@ use Rattle.tables.specs.Represents as represents
 use Rattle.tables.specs.Represents.{Starts}
 use Rattle.settle.specs.Walks.{Role, role_of, role_at, Point, params_at, cell_by, step_by, cell_of, step, SafeBy}
 use Rattle.settle.specs.Walks as role
-use Rattle.settle.proofs.Moves.{Done, Moved, Moves, Keeps, Does, plain-does, moved-with, moved_to, moved-both, moved-node, two}
-use Rattle.settle.proofs.Branches.{on, on-on, point-is, Going, sum-going}
+use Rattle.settle.proofs.Moves.{Moved, Moves, Does, plain-does, moved-with, moved_to, moved-both, moved-node, two}
+use Rattle.settle.proofs.Branches.{on, on-on, sum-going}
 use Rattle.settle.proofs.Lines.{system-stays}
 use Rattle.settle.specs.Literals.{SystemLiteral}
 

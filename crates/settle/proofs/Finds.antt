@@ -1,11 +1,10 @@
 -- Variables and definitions are found in the table of nodes while it is being resolved: their nodes stay. From look-ups in the reader's table.
-use mathlib.Core.Path.{◌≡◌, refl, sym, ap, ap₂, ◌∙◌, subst}
-use mathlib.Core.List.{List, [], ◌∷◌, Memᴰ as In}
-use mathlib.Core.Bool.{Bool, true, false, cond}
-use mathlib.Core.Option.{Option, none, some}
+use mathlib.Core.Path.{◌≡◌, refl, sym, ap, ap₂, ◌∙◌}
+use mathlib.Core.List.{List, [], ◌∷◌}
+use mathlib.Core.Bool.{Bool, true, false}
+use mathlib.Core.Option.{Option, some}
 use Prim.Native.Nat.{ℕ, zero, suc, ◌+◌, ◌-◌, ◌≤◌, ◌<◌, min}
 use native.Mathlib.Omega.{arith}
-use lib.Dec.{eqb}
 use lib.ListN.{length, get_or, take, length-take}
 use Rattle.word.specs.Number.{worth, cap}
 use Rattle.token.specs.Kind as kind
@@ -14,28 +13,27 @@ use Rattle.model.proofs.Members.{not-both, got-below}
 use Rattle.token.specs.declared.Found.{Found}
 use Rattle.token.specs.declared.Found.TheVariants.{At, Nothing}
 use Rattle.grammar.specs.Syntax
-use Rattle.tree.specs.Node as node
 use Rattle.tree.specs.Node.{kind_of, token_of, left_of, number_kind}
 use Rattle.tree.specs.Table
 use Rattle.tree.specs.Table.{Node}
 use Rattle.tree.proofs.Cells.{node-kind, node-token, node-left}
 use Rattle.model.specs.Limits.{local_limit}
-use Rattle.model.specs.Sites.{Variable, Definition, names, titles}
-use Rattle.model.specs.Given.{Meaning, local, variable, nothing, or_else, place_in, variable_named, meaning, definition_named}
+use Rattle.model.specs.Sites.{names, titles}
+use Rattle.model.specs.Given.{Meaning, local, variable, or_else, place_in, variable_named, meaning}
 use Rattle.model.specs.Resolved.{definition_number}
 use Rattle.model.proofs.Meanings.{Placed, found, absent, placed, Means, a_local, a_variable, unknown, means}
 use Rattle.names.specs.declared.Question.TheVariants.{Given}
 use Rattle.names.specs.declared.Lists.{Lists}
 use Rattle.names.specs.Faults.{asks_names}
 use Rattle.names.specs.declared.Scope.{Scope}
-use Rattle.names.specs.Lists.{packed, found_of, name_at, names_down, Readable, Reach, InScope}
+use Rattle.names.specs.Lists.{packed, found_of, name_at, names_down, Reach, InScope}
 use Rattle.names.specs.Placed.{IsName, SortFits, sort_of}
 use Rattle.names.specs.Settings.{World, Setting}
-use Rattle.names.proofs.Namings.{FoundVariable, variable-found, variable-none, FoundDefinition, definition-found, definition-none}
+use Rattle.names.proofs.Namings.{FoundVariable, variable-found, variable-none, definition-found, definition-none}
 use Rattle.names.proofs.Settled.{node-fits, name-inside, vs-at, ds-at, vs-few, root_in, reach-variables, reach-definitions, all-variables, all-definitions, in_scope, place-locals}
 use Rattle.names.proofs.Uses.{some-place, no_place}
 use Rattle.settle.specs.Walks.{definition_of}
-use Rattle.settle.specs.Places.{Told, VariableSafe, Base, Kept, Lookup, word_in, kinds_in, variables_in, definitions_of, NumberNode, ScaleTold, Place, meaning_at}
+use Rattle.settle.specs.Places.{Told, VariableSafe, Lookup, word_in, kinds_in, variables_in, definitions_of, NumberNode, Place, meaning_at}
 
 -- ---- a table some of whose nodes stay
 

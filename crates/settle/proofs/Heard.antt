@@ -1,24 +1,23 @@
 -- A name that was met keeps its number among the channel names, and names that are bound change nothing for names that are given without them. From look-ups in lists of names.
-use mathlib.Core.Path.{◌≡◌, refl, sym, ap, ◌∙◌, subst}
+use mathlib.Core.Path.{◌≡◌, refl, sym, ap, ◌∙◌}
 use mathlib.Core.List.Memᴰ
 use mathlib.Core.List.Memᴰ.{append_left as left}
-use mathlib.Core.List.Memᴰ.{append_right as right}
 use mathlib.Core.List.Memᴰ.{cases_cons as cases}
 use mathlib.Core.List.Memᴰ.{head}
 use mathlib.Core.List.Memᴰ.{not-nil as nowhere}
 use mathlib.Core.List.Memᴰ.{tail}
-use mathlib.Core.List.{List, [], ◌∷◌, ◌++◌, append-nil, Memᴰ as In}
+use mathlib.Core.List.{List, [], ◌∷◌, ◌++◌, Memᴰ as In}
 use mathlib.Core.Bool.{Bool, true, false, cond}
 use mathlib.Core.Option.{Option, none, some}
 use mathlib.Core.Logic.{◌⊎◌, inl, inr, ⊎_elim}
-use Prim.Native.Nat.{ℕ, zero, suc, ◌+◌, ◌≤◌, ◌<◌}
+use Prim.Native.Nat.{ℕ, suc, ◌+◌, ◌≤◌, ◌<◌}
 use native.Mathlib.Omega.{arith}
 use lib.ListN.{length, length-append}
 use Rattle.grammar.specs.Syntax
 use Rattle.model.specs.Lists.{each, any}
-use Rattle.model.specs.Sites.{Scope, Site, bound, Variable, variables, names}
+use Rattle.model.specs.Sites.{Scope, bound, Variable, variables, names}
 use Rattle.model.specs.Words.{same}
-use Rattle.model.specs.Given.{Meaning, local, variable, nothing, or_else, is_given, place_in, variable_named, meaning}
+use Rattle.model.specs.Given.{Meaning, or_else, is_given, place_in, variable_named, meaning}
 use Rattle.model.specs.Stands.{SiteIn}
 use Rattle.model.specs.Faults.{received, Again, NotNew}
 use Rattle.model.specs.Faults as faults

@@ -1,7 +1,7 @@
 -- Calls, items of the system line, numbers and scales become what the walk says. From the kinds of nodes and the tables of contents.
-use mathlib.Core.Path.{◌≡◌, refl, sym, ap, ap₂, ◌∙◌, subst}
+use mathlib.Core.Path.{◌≡◌, refl, sym, ap, ◌∙◌, subst}
 use mathlib.Core.List.{List, [], ◌∷◌}
-use mathlib.Core.Bool.{Bool, true, false, cond, ◌&&◌, ◌||◌}
+use mathlib.Core.Bool.{Bool, true, false, cond}
 use mathlib.Core.Logic.{◌⊎◌, inl, inr, ⊎_elim}
 use Prim.Native.Nat.{ℕ, zero, suc, ◌+◌, ◌-◌, ◌≤◌, ◌<◌, min}
 use native.Mathlib.Decide.{dec_le}
@@ -15,11 +15,10 @@ use Rattle.token.specs.Kind as kind
 use Rattle.grammar.proofs.Follows.{inside}
 use Rattle.tree.specs.Node as node
 use Rattle.tree.specs.Node.{field, cell, kind_of, token_of, left_of, third_of, number_kind}
-use Rattle.model.specs.Limits.{count_limit}
 use Rattle.model.specs.Words.{whole_of}
 use Rattle.names.specs.declared.Lists.{Lists}
 use Rattle.names.specs.declared.Scope.{Scope}
-use Rattle.names.specs.Placed.{IsName, Fits, SortFits, sort_of, wholes}
+use Rattle.names.specs.Placed.{IsName, SortFits, sort_of, wholes}
 use Rattle.value.specs.Range.{farthest, InRange}
 use Rattle.grammar.specs.Syntax
 use Rattle.model.specs.Given.{is_given, meaning}
@@ -27,7 +26,7 @@ use Rattle.model.specs.Resolved
 use Rattle.model.specs.Resolved.{number_scale, scale_named}
 use Rattle.model.proofs.Members.{not-both}
 use Rattle.tables.specs.Settled.{number_cell}
-use Rattle.settle.specs.Walks.{Role, whole, name, number, scale, action, ending, sum, call, definition, item, plain, role_of, role_at, Point, definition_of, count_of, scale_cell, NumberSafe, cell_by}
+use Rattle.settle.specs.Walks.{Role, whole, number, call, item, role_of, role_at, Point, definition_of, count_of, scale_cell, NumberSafe, cell_by}
 use Rattle.settle.specs.Places.{signed, Lookup, word_in, kinds_in, variables_in, definitions_of, CallKind, Calls, ScaleTold, Told, meaning_at, Leaf}
 use Rattle.settle.proofs.Cells.{whole_is}
 use Rattle.settle.proofs.Meets.{scale_same}

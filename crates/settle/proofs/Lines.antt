@@ -1,8 +1,8 @@
 -- Walking the system line resolves its items: definition, count and values, which are whole numbers. By induction on the tree, where no question found a fault.
-use mathlib.Core.Path.{◌≡◌, refl, sym, ap, ap₂, ◌∙◌, subst}
+use mathlib.Core.Path.{◌≡◌, refl, sym, ap, ◌∙◌}
 use mathlib.Core.List.Memᴰ.{head}
 use mathlib.Core.List.Memᴰ.{tail}
-use mathlib.Core.List.{List, [], ◌∷◌, ◌++◌, Memᴰ as In}
+use mathlib.Core.List.{List, [], ◌∷◌, Memᴰ as In}
 use mathlib.Core.Bool.{Bool, true, false, cond}
 use Prim.Native.Nat.{ℕ, ◌+◌, ◌-◌, ◌≤◌, ◌<◌}
 use native.Mathlib.Omega.{arith}
@@ -17,24 +17,21 @@ use Rattle.tree.specs.Node as node
 use Rattle.tree.specs.Node.{field, cell, kind_of, token_of, left_of, third_of, number_kind}
 use Rattle.tree.specs.Table
 use Rattle.tree.specs.Table.{Node, Leaf, One, Two}
-use Rattle.tree.proofs.Cells.{kind-of, token-of, left-of, third_of_lem, node-kind, node-token, node-left, node-third}
-use Rattle.tree.proofs.Holds.{expr-interval, wholes-interval, start-interval, system-interval}
+use Rattle.tree.proofs.Cells.{kind-of, token-of, left-of, third_of_lem, node-kind, node-token, node-third}
+use Rattle.tree.proofs.Holds.{wholes-interval, system-interval}
 use Rattle.model.specs.Lists.{each}
 use Rattle.model.specs.Sites.{Variable, Definition, variables, definitions, system_in, system, starts_in}
 use Rattle.model.specs.Words.{whole_of}
 use Rattle.model.specs.Limits.{count_limit, definition_limit}
-use Rattle.model.specs.Given.{definition_named}
 use Rattle.model.specs.Faults.{start_list, wholes_of, start_wholes}
 use Rattle.model.specs.Resolved
 use Rattle.model.specs.Resolved.{channel_names, definition_number, literal_value, whole_values, start_values, resolve_start}
-use Rattle.model.specs.Faultless.{Faultless}
 use Rattle.tables.specs.Settled.{number_cell, Number, Pair}
-use Rattle.tables.specs.Represents as represents
-use Rattle.tables.specs.Represents.{Wholes, Item, Valued, Start, bare, valued, Starts}
+use Rattle.tables.specs.Represents.{Wholes, Item, Start, bare, valued, Starts}
 use Rattle.settle.specs.Walks.{Role, role_of, role_at, Point, definition_of, count_of, cell_by, step_by, cell_of, step, SafeBy}
 use Rattle.settle.specs.Walks as role
 use Rattle.settle.specs.Literals.{IsLiteral, AreLiterals, HasLiterals, StartLiteral, SystemLiteral}
-use Rattle.settle.proofs.Moves.{Done, Moved, Moves, Keeps, Does, plain-does, moved-with, moved-node, leaf, two}
+use Rattle.settle.proofs.Moves.{Keeps, Does, plain-does, moved-with, moved-node, leaf, two}
 use Rattle.settle.proofs.Values.{number-of, range-fits}
 use Rattle.settle.proofs.Branches.{definition-fits, fields_fit}
 

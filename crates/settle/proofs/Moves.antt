@@ -1,15 +1,11 @@
 -- A walk over the nodes of a tree, put together from walks over its parts: what it knows afterwards, what each node has to have, and what the table of nodes then holds. From the walk's steps.
-use mathlib.Core.Path.{◌≡◌, refl, sym, ap, ap₂, ◌∙◌, subst}
+use mathlib.Core.Path.{◌≡◌, refl, sym, ap, ◌∙◌, subst}
 use mathlib.Core.List.{List, [], ◌∷◌, ◌++◌}
-use mathlib.Core.Bool.{Bool, true, false}
 use mathlib.Core.Option.{some}
-use mathlib.Core.Logic.{◌⊎◌, inl, inr}
 use Prim.Native.Nat.{ℕ, zero, suc, ◌+◌, ◌-◌, ◌≤◌, ◌<◌}
 use native.Mathlib.Decide.{dec_le}
 use native.Mathlib.Omega.{arith}
-use lib.IntN.{nat_abs}
 use lib.ListN.{length, get_or, get_elem?, length-append}
-use Rattle.grammar.specs.Syntax
 use Rattle.tree.specs.Node as node
 use Rattle.tree.specs.Node.{field, cell, kind_of, token_of, left_of, third_of, number_kind}
 use Rattle.tree.specs.Table.{Node, Leaf, One, Two, Three}
@@ -19,7 +15,7 @@ use Rattle.model.specs.Resolved
 use Rattle.model.specs.Scope.{scope_of}
 use Rattle.tables.specs.Settled as settled
 use Rattle.tables.specs.Settled.{kind_at, Index, Pair, Triple, Over}
-use Rattle.settle.specs.Walks.{Role, whole, name, number, scale, action, ending, sum, call, definition, item, plain, role_of, role_at, Point, cell_by, step_by, cell_of, step, SafeBy, scope_at}
+use Rattle.settle.specs.Walks.{Role, action, ending, sum, plain, role_of, role_at, Point, cell_by, step_by, cell_of, step, SafeBy, scope_at}
 
 module _ (w : ℕ → List ℕ) (vs : List Variable) (ds : List Definition) (cs : List ℕ) (told : ℕ → Type 0) (t t' roots scopes : List ℕ) (trace : ℕ → Point) (first last : ℕ) where
   -- what the walk needs of node i

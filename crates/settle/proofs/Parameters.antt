@@ -1,12 +1,11 @@
 -- A definition's parameters are every second token after its name, as many as its node says. From what the table of nodes holds.
-use mathlib.Core.Path.{◌≡◌, refl, sym, ap, ap₂, ◌∙◌, subst}
+use mathlib.Core.Path.{◌≡◌, refl, sym, ap, ap₂, ◌∙◌}
 use mathlib.Core.List.Memᴰ.{head}
 use mathlib.Core.List.Memᴰ.{tail}
-use mathlib.Core.List.{List, [], ◌∷◌, ◌++◌, Memᴰ as In}
-use mathlib.Core.Bool.{true}
-use Prim.Native.Nat.{ℕ, zero, suc, ◌+◌, ◌-◌, ◌*◌, ◌≤◌, ◌<◌, min}
+use mathlib.Core.List.{List, [], ◌∷◌, Memᴰ as In}
+use Prim.Native.Nat.{ℕ, zero, suc, ◌+◌, ◌-◌, ◌*◌, ◌≤◌, ◌<◌}
 use native.Mathlib.Omega.{arith}
-use lib.ListN.{length, get_or, take, length-take}
+use lib.ListN.{length, get_or}
 use Rattle.grammar.specs.Syntax
 use Rattle.grammar.proofs.Follows.{inside}
 use Rattle.tree.specs.Node as node
@@ -16,15 +15,14 @@ use Rattle.tree.specs.Table.{Node, Two}
 use Rattle.tree.proofs.Cells.{node-kind, node-token, node-left, node-third}
 use Rattle.tree.proofs.Holds.{system-interval, definitions-interval}
 use Rattle.model.specs.Lists.{every_other}
-use Rattle.model.specs.Sites.{Definition, definitions, definitions_in, params_of, tokens_of, variables}
+use Rattle.model.specs.Sites.{Definition, definitions_in, params_of, tokens_of, variables}
 use Rattle.model.specs.Limits.{local_limit, parameter_limit}
 use Rattle.names.specs.declared.Question.TheVariants.{Given}
 use Rattle.names.specs.declared.Lists.{Lists}
 use Rattle.names.specs.declared.Scope.{Scope}
 use Rattle.names.specs.Placed.{Named, Fits, SortFits, sort_of}
 use Rattle.names.specs.Settings.{Extended, Scoped}
-use Rattle.names.proofs.Scopes.{every-length, every-inside}
-use Rattle.names.proofs.Settled.{node-fits, root_in}
+use Rattle.names.proofs.Scopes.{every-length}
 use Rattle.settle.specs.Walks.{params_at}
 use Rattle.settle.specs.Places.{Lookup, kinds_in, definitions_of}
 use Rattle.settle.proofs.Whole.{below}

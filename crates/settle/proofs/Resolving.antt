@@ -1,23 +1,21 @@
 -- The loop over the nodes: what holds before each of them, and what the tables represent after the last. From one node's step, and from the laws of the whole walk.
-use mathlib.Core.Path.{◌≡◌, refl, sym, ap, ap₂, ◌∙◌, subst}
-use mathlib.Core.List.{List, [], ◌∷◌, ◌++◌}
+use mathlib.Core.Path.{◌≡◌, refl, sym, ap, ◌∙◌, subst}
+use mathlib.Core.List.{List}
 use mathlib.Core.Bool.{Bool, true, false, cond}
 use Prim.Native.Nat.{ℕ, ◌+◌, ◌-◌, ◌≤◌, ◌<◌}
-use native.Mathlib.Decide.{dec_le, ℕ_discrete}
+use native.Mathlib.Decide.{ℕ_discrete}
 use native.Mathlib.Omega.{arith}
-use borrow.Author.Tests.{eqb-true, eq-eqb, ne_eqb}
+use borrow.Author.Tests.{eqb-true}
 use lib.Dec.{eqb}
 use lib.ListN.{length, get_or, take, set, length-set, length-take}
 use lib.Seq.{get_or-take, get_or-set_same, get_or-set_other}
 use Rattle.grammar.specs.Syntax
-use Rattle.tree.specs.Node as node
-use Rattle.tree.specs.Node.{field, kind_of, token_of, left_of, third_of, number_kind}
+use Rattle.tree.specs.Node.{kind_of, token_of, number_kind}
 use Rattle.model.specs.Sites.{Variable, Definition, variables, definitions}
 use Rattle.model.specs.Resolved.{resolved, channel_names}
 use Rattle.model.specs.Numbering.{count_definitions}
 use Rattle.names.specs.declared.Question.TheVariants.{Given}
 use Rattle.names.specs.declared.Lists.{Lists}
-use Rattle.names.specs.declared.Scope.{Scope}
 use Rattle.tree.specs.Table
 use Rattle.tree.proofs.Holds.{model-interval}
 use Rattle.names.specs.Lists.{Gathered}
@@ -28,7 +26,7 @@ use Rattle.tables.specs.Represents.{Represents}
 use Rattle.settle.specs.declared.Walk.{Walk}
 use Rattle.settle.specs.Walks.{Role, role_of, role_at, Point, params_at, cell_of, step, point_at, begun, scope_at}
 use Rattle.settle.specs.Walks as role
-use Rattle.settle.specs.Places.{Told, Base, Lookup, Kept, kinds_in, definitions_of, Knows, marked_by, first_node, line_node, Standing, Stepped, Resolvable}
+use Rattle.settle.specs.Places.{Told, Lookup, kinds_in, definitions_of, Knows, marked_by, first_node, line_node, Standing, Stepped, Resolvable}
 use Rattle.settle.proofs.Kids.{none-hung}
 use Rattle.settle.proofs.Whole.{steps_on, trace-begun, names-few, numbers-few, definitions-below, node-safe, number-below, node-linked, numbers_apart, line_after, sums-after, names-after, sum-node, represented, definitions-few}
 use Rattle.settle.specs.Settles.{SumNode, line_in, Settles}

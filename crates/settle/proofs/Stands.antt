@@ -1,35 +1,31 @@
 -- Where the walk stands, every function that resolves a node may be called, and together they take the walk a step on. From what each of them does.
-use mathlib.Core.Path.{◌≡◌, refl, sym, ap, ap₂, ◌∙◌, subst}
-use mathlib.Core.List.{List, [], ◌∷◌, ◌++◌}
-use mathlib.Core.Bool.{Bool, true, false, cond}
-use Prim.Native.Nat.{ℕ, zero, suc, ◌+◌, ◌-◌, ◌≤◌, ◌<◌, min, ◌*◌}
+use mathlib.Core.Path.{◌≡◌, refl, sym, ap, ◌∙◌, subst}
+use mathlib.Core.List.{List}
+use mathlib.Core.Bool.{true, false}
+use Prim.Native.Nat.{ℕ, zero, suc, ◌+◌, ◌-◌, ◌≤◌, ◌<◌, ◌*◌}
 use native.Mathlib.Decide.{dec_le}
 use native.Mathlib.Omega.{arith}
 use lib.Dec.{eqb}
-use lib.ListN.{length, get_or, take, set, length-take}
+use lib.ListN.{length, get_or, set, length-take}
 use Rattle.model.specs.Limits.{definition_limit}
 use Rattle.grammar.specs.Syntax
-use Rattle.tree.specs.Node as node
-use Rattle.tree.specs.Node.{field, cell, kind_of, token_of, left_of, third_of, number_kind}
+use Rattle.tree.specs.Node.{field, kind_of, token_of, left_of, third_of, number_kind}
 use Rattle.tree.specs.Table
 use Rattle.tree.proofs.Cells.{node-left}
-use Rattle.tree.proofs.Holds.{model-interval}
 use Rattle.model.specs.Sites.{Variable, Definition, variables, definitions}
-use Rattle.model.specs.Resolved.{is_channel_name}
 use Rattle.names.specs.declared.Question.TheVariants.{Given}
 use Rattle.names.specs.declared.Lists.{Lists}
-use Rattle.names.specs.declared.Scope.{Scope}
-use Rattle.names.specs.Placed.{IsName, Named, Fits, SortFits, sort_of}
-use Rattle.names.specs.Settings.{World, Scoped}
+use Rattle.names.specs.Placed.{IsName, Fits, SortFits, sort_of}
+use Rattle.names.specs.Settings.{World}
 use Rattle.names.proofs.Settled.{root_in, vs-few}
 use Rattle.settle.specs.declared.Walk.{Walk}
 use Rattle.settle.specs.Walks.{Role, role_of, role_at, Point, name_cell, cell_by, cell_of, step_by, step, SafeBy, point_at, scope_at}
 use Rattle.settle.specs.Walks as role
-use Rattle.settle.specs.Places.{Told, Base, Kept, Lookup, Place, word_in, kinds_in, variables_in, definitions_of, meaning_at, Hearing, met_names, NameDone, Leaf, Knows, Turn, turned, marked_by, first_node, line_node, Standing, Stepped}
+use Rattle.settle.specs.Places.{Told, Kept, Lookup, Place, word_in, kinds_in, variables_in, definitions_of, meaning_at, Hearing, met_names, NameDone, Leaf, Knows, Turn, turned, marked_by, first_node, Standing, Stepped}
 use Rattle.settle.proofs.Whole.{below}
 use Rattle.settle.proofs.Finds.{asks}
 use Rattle.settle.proofs.Roles.{Kinded, as-whole, as-negative, as-name, as_number, as-scale, as-action, as-ending, as-sum, as_call, as-definition, as-start, as-counted, as_plain, kinded}
-use Rattle.settle.proofs.Parameters.{Listed, definitions-listed}
+use Rattle.settle.proofs.Parameters.{definitions-listed}
 
 -- the numbers of the variables stand first, one a node
 scale_at : (t : List ℕ) (v : Syntax.Scale) (lo k : ℕ) → Table.Scale t v lo k → k ≡ lo

@@ -1,29 +1,26 @@
 -- What the walk holds after a node is what it then knows. From the laws of scopes that grow and shrink.
-use mathlib.Core.Path.{◌≡◌, refl, sym, ap, ap₂, ◌∙◌, subst}
+use mathlib.Core.Path.{◌≡◌, sym, ap, ◌∙◌}
 use mathlib.Core.List.{List, [], ◌∷◌, ◌++◌}
-use mathlib.Core.Bool.{Bool, true, false, ◌&&◌}
-use mathlib.Core.Logic.{◌⊎◌, inl, inr}
-use Prim.Native.Nat.{ℕ, zero, suc, ◌+◌, ◌-◌, ◌*◌, ◌≤◌, ◌<◌, min}
+use mathlib.Core.Bool.{◌&&◌}
+use mathlib.Core.Logic.{inl, inr}
+use Prim.Native.Nat.{ℕ, zero, suc, ◌+◌, ◌-◌, ◌*◌, ◌≤◌, ◌<◌}
 use native.Mathlib.Omega.{arith}
 use borrow.Author.Tests.{le-leb, lt-leb}
 use lib.Dec.{leb}
 use lib.ListN.{length, get_or, take, length-append, length-take}
 use lib.Seq.{take-take, length-take-le}
-use Rattle.tree.specs.Node as node
 use Rattle.tree.specs.Node.{field, kind_of, token_of, left_of, third_of, number_kind}
 use Rattle.model.specs.Lists.{every_other}
 use Rattle.model.specs.Limits.{local_limit}
 use Rattle.names.specs.declared.Question.TheVariants.{Given}
 use Rattle.names.specs.declared.Lists.{Lists}
 use Rattle.names.specs.declared.Scope.{Scope}
-use Rattle.names.specs.Faults.{asks_names}
-use Rattle.names.specs.Placed.{Named, Fits, SortFits, sort_of}
+use Rattle.names.specs.Placed.{Named, SortFits, sort_of}
 use Rattle.names.specs.Settings.{Extended, Scoped}
 use Rattle.names.proofs.Scopes.{every-length, every-inside}
 use Rattle.settle.specs.declared.Walk.{Walk}
-use Rattle.settle.specs.Walks.{Role, role_of, Point, params_at, step_by, Binds, SafeBy}
-use Rattle.settle.specs.Walks as role
-use Rattle.settle.specs.Places.{Told, Lookup, word_in, kinds_in, variables_in, definitions_of, Knows, Turn, turned}
+use Rattle.settle.specs.Walks.{role_of, Point, params_at, step_by, Binds}
+use Rattle.settle.specs.Places.{word_in, kinds_in, variables_in, definitions_of, Knows, Turn, turned}
 use Rattle.settle.proofs.Finds.{asks}
 use Rattle.settle.proofs.Roles.{action-role, ending-role, step-none}
 

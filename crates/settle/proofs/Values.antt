@@ -1,10 +1,10 @@
 -- Walking what stands in one scope, expressions, sets, conditions, rates, values and arguments, resolves it: a clause for each constructor. From the forms of a tree, and from names that are given.
-use mathlib.Core.Path.{◌≡◌, refl, sym, ap, ◌∙◌, subst}
+use mathlib.Core.Path.{◌≡◌, refl, ap, ◌∙◌}
 use mathlib.Core.List.Memᴰ.{append_left as left}
 use mathlib.Core.List.Memᴰ.{append_right as right}
 use mathlib.Core.List.Memᴰ.{head}
-use mathlib.Core.List.{List, [], ◌∷◌, ◌++◌, Memᴰ as In}
-use mathlib.Core.Bool.{Bool, true, false, cond}
+use mathlib.Core.List.{List, [], Memᴰ as In}
+use mathlib.Core.Bool.{Bool, true, false}
 use Prim.Native.Nat.{ℕ, ◌+◌, ◌≤◌, ◌<◌}
 use native.Mathlib.Omega.{arith}
 use lib.IntN.{ℤ, nat_abs}
@@ -18,9 +18,9 @@ use Rattle.tree.specs.Node as node
 use Rattle.tree.specs.Node.{field, cell, kind_of, token_of, left_of, third_of, op_kind, join_kind, relation_kind, test_kind, number_kind}
 use Rattle.tree.specs.Table
 use Rattle.tree.specs.Table.{Node, Leaf, One, Two}
-use Rattle.tree.proofs.Cells.{kind-of, token-of, node-kind, node-token}
-use Rattle.tree.proofs.Holds.{expr-interval, exprs-interval, set-interval, cond-interval, scale-interval, rate-interval}
-use Rattle.model.specs.Sites.{Scope, Site, whole, value, scale, expr_sites, exprs_sites, set_sites, cond_sites, scale_sites, rate_sites, values_sites, sets_sites, Variable, Definition}
+use Rattle.tree.proofs.Cells.{kind-of, token-of}
+use Rattle.tree.proofs.Holds.{expr-interval, exprs-interval, set-interval, cond-interval}
+use Rattle.model.specs.Sites.{Scope, whole, value, scale, expr_sites, exprs_sites, set_sites, cond_sites, scale_sites, rate_sites, values_sites, sets_sites, Variable, Definition}
 use Rattle.model.specs.Words.{whole_of, decimal_of}
 use Rattle.model.specs.Limits.{local_limit}
 use Rattle.model.specs.Given.{Meaning, local, variable, nothing, is_value, is_given, meaning}
@@ -34,7 +34,7 @@ use Rattle.tables.specs.Settled as settled
 use Rattle.tables.specs.Settled.{offset, number_cell, Number, Index, Pair, Over, OneOrTwo, Arguments}
 use Rattle.settle.specs.Walks.{Role, role_of, role_at, Point, value_cell, scale_cell, name_cell, cell_by, step_by, step, NumberSafe, SafeBy}
 use Rattle.settle.specs.Walks as role
-use Rattle.settle.proofs.Moves.{IsSum, Done, Moved, Moves, Keeps, Does, plain-does, leaf, one, two}
+use Rattle.settle.proofs.Moves.{Keeps, plain-does, leaf, one, two}
 
 -- ---- kinds at which nothing changes
 

@@ -1,5 +1,5 @@
 -- One walk over a model's nodes, from its first definition to the system line, leaves tables that represent the resolved model. From the walks over its parts.
-use mathlib.Core.Path.{◌≡◌, refl, sym, ap, ap₂, ◌∙◌, subst}
+use mathlib.Core.Path.{◌≡◌, refl, sym, ap, ◌∙◌, subst}
 use mathlib.Core.List.{List, [], ◌∷◌, ◌++◌, append-nil, append_assoc, Memᴰ as In}
 use mathlib.Core.Bool.{Bool, true, false, cond}
 use mathlib.Core.Option.{some}
@@ -7,7 +7,7 @@ use Prim.Native.Nat.{ℕ, zero, suc, ◌+◌, ◌-◌, ◌≤◌, ◌<◌}
 use native.Mathlib.Omega.{arith}
 use lib.ListN.{length, get_or, get_elem?}
 use Rattle.grammar.specs.Syntax
-use Rattle.tree.specs.Node.{field, kind_of, token_of, left_of, third_of}
+use Rattle.tree.specs.Node.{field, token_of, left_of, third_of}
 use Rattle.tree.specs.Table
 use Rattle.model.specs.Lists.{each}
 use Rattle.model.specs.Sites.{Scope, Variable, Definition, variables, definitions, definitions_in, system_in, system, starts_in, starts}
@@ -25,7 +25,7 @@ use Rattle.names.proofs.Chains.{definitions-run}
 use Rattle.tables.specs.Represents.{Represents, Starts}
 use Rattle.settle.specs.Walks.{Role, role_at, Point, params_at, step_by, cell_of, step, walked, begun, point_at, scope_at}
 use Rattle.settle.specs.Walks as role
-use Rattle.settle.proofs.Moves.{Safe, IsSum, number_at, Done, SumAt, Mark, marked-at, Moved}
+use Rattle.settle.proofs.Moves.{Safe, Done, SumAt, Mark, marked-at, Moved}
 use Rattle.settle.proofs.Heard.{met-length}
 use Rattle.settle.specs.Literals.{SystemLiteral}
 use Rattle.settle.proofs.Definitions.{Held, held_at, after, LineFine, Ends, definitions-going}

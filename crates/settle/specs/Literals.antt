@@ -1,5 +1,4 @@
 -- The values of the items of the system line are whole numbers (01, Model). Assumes nothing: these are definitions.
-use Rattle.std.specs.Prelude.{ℕ}
 use Rattle.grammar.specs.Syntax
 
 abbrev pub IsLiteral : Syntax.Expr → Type 0

@@ -1,5 +1,5 @@
 -- What the functions that resolve a node may take for granted, and what they leave: the tables of a text without faults, of which some nodes are resolved already. Assumes nothing: these are definitions.
-use Rattle.std.specs.Prelude.{◌≡◌, Bool, true, false, cond, ◌⊎◌, ℕ, ◌+◌, ◌-◌, ◌≤◌, ◌<◌, min, eqb, ℤ, pos, neg_ℤ, length, get_or, set}
+use Rattle.std.specs.Prelude.{◌≡◌, Bool, true, false, cond, ◌⊎◌, ℕ, ◌-◌, ◌≤◌, ◌<◌, min, eqb, ℤ, pos, neg_ℤ, length, get_or, set}
 use mathlib.Core.List.{List, [], ◌∷◌, ◌++◌, Memᴰ as In}
 use Rattle.std.proofs.Math.Option.{Option, none, some}
 use Rattle.word.specs.Number.{worth, cap, ten_thousandths}
@@ -19,13 +19,13 @@ use Rattle.names.specs.declared.Question.TheVariants.{Given}
 use Rattle.names.specs.declared.Lists.{Lists}
 use Rattle.names.specs.declared.Scope.{Scope}
 use Rattle.names.specs.Lists.{packed}
-use Rattle.names.specs.Placed.{IsName, Named, Fits}
+use Rattle.names.specs.Placed.{Named, Fits}
 use Rattle.names.specs.Settings.{World, Scoped}
 use Rattle.tables.specs.Settled.{channel}
 use Rattle.settle.specs.Literals.{SystemLiteral}
 use Rattle.settle.specs.Kids.{Hung}
 use Rattle.settle.specs.declared.Walk.{Walk}
-use Rattle.settle.specs.Walks.{Role, whole, name, number, scale, action, ending, sum, call, definition, item, plain, role_of, role_at, Point, NumberSafe, SafeBy, step_by, cell_of, step, point_at, scope_at}
+use Rattle.settle.specs.Walks.{name, action, ending, sum, item, role_of, role_at, Point, NumberSafe, SafeBy, step_by, cell_of, step, point_at, scope_at}
 
 -- a number with `-` before it or not
 unfoldable pub signed : Bool → ℕ → ℤ

@@ -10,7 +10,7 @@ use Rattle.model.specs.Sites.{Scope, Variable, Definition}
 use Rattle.model.specs.Words.{whole_of, decimal_of}
 use Rattle.model.specs.Limits.{local_limit, count_limit}
 use Rattle.model.specs.Good.{scale_limit}
-use Rattle.model.specs.Given.{Meaning, local, variable, nothing, is_given, place_in, meaning, definition_named}
+use Rattle.model.specs.Given.{Meaning, is_given, place_in, meaning, definition_named}
 use Rattle.model.specs.Resolved
 use Rattle.model.specs.Resolved.{is_channel_name, firsts, or_zero, definition_number, number_scale, value_named, scale_named}
 use Rattle.tables.specs.Settled.{number_cell, channel}

@@ -12,7 +12,6 @@ use lib.Seq.{take-suc, take_all, get_or-set_same}
 use Rattle.model.specs.Resolved
 use Rattle.rules.specs.Rules.{Nth, first, later}
 use Rattle.rules.specs.Listing.{Entry, entry, key_of, weight_of}
-use Rattle.rules.specs.Draw.{total}
 use Rattle.rules.specs.Subtotals.{actor, subtotals}
 use Rattle.rules.proofs.Subtotals.{as_many}
 use Rattle.machine.specs.Offer.{Process}

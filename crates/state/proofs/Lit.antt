@@ -1,6 +1,6 @@
 -- The changes of the numbers of the pairs are those of the lit pairs: a pair comes in where it is found to stand, and goes out at its place.
 use mathlib.Core.Path.{◌≡◌, refl, sym, ap, ap₂, ◌∙◌}
-use mathlib.Core.Bool.{Bool, true, false, cond, not}
+use mathlib.Core.Bool.{Bool, true, false, cond}
 use mathlib.Core.List.Memᴰ
 use mathlib.Core.List.{List, [], ◌∷◌, ◌++◌, map, append_assoc, Memᴰ as In}
 use mathlib.Core.Logic.{◌⊎◌, inl, inr}

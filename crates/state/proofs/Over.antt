@@ -1,15 +1,13 @@
 -- A state over a model fits the locals of its sums and its number of channel names, and the other way round: field by field.
-use mathlib.Core.Path.{◌≡◌, sym, ap, ◌∙◌}
-use mathlib.Core.List.{List, map}
-use mathlib.Core.Option.{some}
+use mathlib.Core.Path.{sym, ap, ◌∙◌}
+use mathlib.Core.List.{List}
 use Prim.Native.Nat.{ℕ, ◌≤◌}
 use native.Mathlib.Omega.{arith}
-use lib.ListN.{length, get_elem?}
 use Rattle.value.specs.Items.{one_item, two_items, three_items}
 use Rattle.model.specs.Limits.{local_limit}
 use Rattle.model.specs.Resolved
 use Rattle.rules.specs.Offers as offers
-use Rattle.model.specs.Good.{Every, SumWith, GoodSum, GoodModel}
+use Rattle.model.specs.Good.{Every, GoodSum, GoodModel}
 use Rattle.model.specs.Scope.{scope_of, locals_in, definition_in}
 use Rattle.model.proofs.Scope.{locals-in, definition-in}
 use Rattle.machine.specs.Offer.{Process}

@@ -17,7 +17,7 @@ use Rattle.value.proofs.Kit.{same-eq}
 use Rattle.rules.specs.Offers as offers
 use Rattle.model.specs.Good.{GoodModel}
 use Rattle.machine.specs.Offer.{Process}
-use Rattle.machine.specs.State.{State, GoodState, padded, pair_numbers, state_numbers, pair_width, process_room, process_width}
+use Rattle.machine.specs.State.{State, GoodState, pair_numbers, state_numbers, pair_width, process_room, process_width}
 use Rattle.state.specs.Fits.{scopes_of, FewLocals, Fits}
 use Rattle.state.specs.Test.{at, every, rows, is_below, is_padded, is_process, is_pair, process_part, pair_part}
 use Rattle.state.specs.Decode.{process_of, pair_of, decode}

@@ -6,14 +6,12 @@ use native.Mathlib.Omega.{arith}
 use lib.IntN.{ℤ, pos, nat_abs}
 use lib.ListN.{length, set, take, drop, replicate, length-append, length-drop, length-replicate, replicate-append-replicate}
 use lib.Seq.{take_at, drop_at, take-append-le, drop-append-le, take-append-add, drop-append-add, length-take-le}
-use Rattle.rules.specs.Offers as offers
 use Rattle.rules.specs.Step.{replace}
 use Rattle.rules.proofs.Spliced.{spliced, replace-length}
 use Rattle.model.specs.Good.{Every}
 use Rattle.machine.specs.Offer.{Process}
 use Rattle.machine.specs.State.{State, padded, flatten, process_numbers, pair_numbers, state_numbers, pair_room, process_room, process_width}
 use Rattle.state.specs.Fits.{FewLocals, FitsProcess, Fits}
-use Rattle.state.specs.Test.{at}
 use Rattle.state.specs.Change.{rewritten, process_replaced, pairs_from}
 use Rattle.state.proofs.Rows.{flatten-length, padded-length}
 use Rattle.state.proofs.Entries.{process-wide}

@@ -1,8 +1,8 @@
 -- Question 29 of a definition's name and of a node: what each return, and each turn of the loop, needs. From the look-up among definitions and the nodes of a tree.
 use mathlib.Core.Path.{◌≡◌, refl, sym, ap, subst, ◌∙◌}
-use mathlib.Core.List.{List, []}
-use mathlib.Core.Bool.{Bool, true, false, cond, ◌||◌}
-use mathlib.Core.Option.{Option, none, some, Option-elim}
+use mathlib.Core.List.{List}
+use mathlib.Core.Bool.{Bool, true, false}
+use mathlib.Core.Option.{Option, some, Option-elim}
 use mathlib.Core.Logic.{◌⊎◌, inl, inr, ⊎_elim}
 use Prim.Native.Nat.{ℕ, zero, suc, ◌+◌, ◌-◌, ◌≤◌, ◌<◌}
 use native.Mathlib.Decide.{ℕ_discrete}
@@ -18,11 +18,11 @@ use Rattle.tree.specs.Node.{kind_of, token_of, left_of, number_kind}
 use Rattle.tree.specs.Table
 use Rattle.tree.specs.Table.{Node}
 use Rattle.tree.proofs.Cells.{node-kind, node-left}
-use Rattle.tree.proofs.Holds.{sum-interval, sums-interval}
-use Rattle.model.specs.Lists.{when, earlier, least}
+use Rattle.tree.proofs.Holds.{sum-interval}
+use Rattle.model.specs.Lists.{when, least}
 use Rattle.model.specs.Sites.{Definition, definitions_in, definitions}
 use Rattle.model.specs.Stands.{sums_of}
-use Rattle.model.specs.Given.{place_in, definition_named}
+use Rattle.model.specs.Given.{place_in}
 use Rattle.model.proofs.Members.{never}
 use Rattle.model.proofs.Meanings.{Defines, found, absent, defines}
 use Rattle.profile.specs.Unsteady.{several, several_sums, unsteady}

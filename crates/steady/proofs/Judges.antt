@@ -9,7 +9,6 @@ use Rattle.grammar.specs.Syntax
 use Rattle.model.specs.Lists.{least}
 use Rattle.model.specs.Words.{word_of}
 use Rattle.model.specs.Limits.{words_beyond, tree_beyond, beyond}
-use Rattle.model.specs.Resolved
 use Rattle.model.specs.Opening.{refused, opened, byte_place, asked, opening}
 use Rattle.model.specs.Questions.{Yes5}
 use Rattle.profile.specs.Unsteady.{unsteady}
@@ -33,7 +32,7 @@ use Rattle.opening.specs.declared.Opened.{Opened}
 use Rattle.opening.specs.declared.Opened.TheVariants.{Refused, Accepted}
 use Rattle.steady.specs.declared.Profile.{Profile}
 use Rattle.steady.specs.declared.Profile.TheVariants.{Plain, Steady}
-use Rattle.steady.specs.Opens.{SteadyOpened, OpensSteady, opening_under, OpensUnder}
+use Rattle.steady.specs.Opens.{OpensSteady, opening_under, OpensUnder}
 
 -- ---- 2 to 9
 module _ (text nodes roots scopes : List ℕ) where

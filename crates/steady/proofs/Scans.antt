@@ -1,15 +1,15 @@
 -- The first offender of a tree is the first among its interval of nodes: a clause for each constructor, from the forms of a tree. A group's node stands after its items.
 use mathlib.Core.Path.{◌≡◌, refl, sym, ap, ap₂, subst, ◌∙◌}
-use mathlib.Core.List.{List, [], ◌∷◌, ◌++◌, append-nil}
+use mathlib.Core.List.{List, []}
 use mathlib.Core.Bool.{Bool, true, false, cond, ◌||◌}
 use Prim.Native.Nat.{ℕ, zero, suc, ◌+◌, ◌-◌, ◌≤◌, ◌<◌}
 use native.Mathlib.Decide.{dec_le}
 use native.Mathlib.Omega.{arith}
-use borrow.Author.Tests.{ltb-true, eqb-true, eqb-false, eq-eqb, ne_eqb, lt-ltb}
+use borrow.Author.Tests.{ltb-true, eqb-false, eq-eqb, ne_eqb, lt-ltb}
 use lib.Dec.{eqb, ltb}
 use lib.ListN.{length, get_or}
 use Rattle.token.specs.declared.Found.{Found}
-use Rattle.token.specs.declared.Found.TheVariants.{At, Nothing}
+use Rattle.token.specs.declared.Found.TheVariants.{Nothing}
 use Rattle.grammar.specs.Grammar.{Relation, less, at_most, greater, at_least, same, differs}
 use Rattle.grammar.specs.Syntax
 use Rattle.grammar.specs.Syntax.{Op, plus, minus, times, divide, maximum, minimum, Join, without, union, inter}
@@ -19,9 +19,9 @@ use Rattle.tree.specs.Table
 use Rattle.tree.specs.Table.{Node, Leaf, One, Two, Three}
 use Rattle.tree.proofs.Cells.{node-kind, node-token}
 use Rattle.tree.proofs.Holds.{cont-interval}
-use Rattle.model.specs.Lists.{each, when, earlier, least}
+use Rattle.model.specs.Lists.{each, when, least}
 use Rattle.model.specs.Sites.{Definition, definitions_in, definitions}
-use Rattle.model.specs.Stands.{items_of, sums_of}
+use Rattle.model.specs.Stands.{items_of}
 use Rattle.profile.specs.Unsteady.{several, several_sums, branch_unsteady, next_unsteady, branches_unsteady, sum_unsteady, cont_unsteady, conts_unsteady, sums_unsteady, unsteady}
 use Rattle.names.specs.Faults.{earlier_of}
 use Rattle.names.proofs.Earliest.{nothing_right, assoc, swap, least-append}

@@ -9,16 +9,14 @@ use lib.Dec.{leb}
 use lib.IntN.{ℤ}
 use lib.ListN.{length}
 use Rattle.model.specs.Resolved
-use Rattle.model.specs.Good.{Every}
 use Rattle.rules.specs.Offers as offers
 use Rattle.rules.specs.Rules.{Change, unchanged, launched, killed}
 use Rattle.rules.specs.Order.{Ascending}
 use Rattle.rules.specs.Pairs.{Before, insert, pairs_after}
 use Rattle.rules.proofs.Launched.{launch-lit, launch-counts}
-use Rattle.rules.proofs.Gather.{one-ascends}
 use Rattle.machine.specs.State.{State, GoodPair, pair_numbers, state_numbers, pair_width}
 use Rattle.machine.proofs.Full.{no_longer, overfull}
-use Rattle.state.specs.Fits.{scopes_of, FitsPair}
+use Rattle.state.specs.Fits.{scopes_of}
 use Rattle.state.specs.Read.{pair_count}
 use Rattle.state.specs.Test.{is_lit, rows, pair_part}
 use Rattle.state.specs.Change.{pair_rows, pair_launched, pair_killed}

@@ -1,5 +1,5 @@
 -- What the step is lent, and what a process that acts enters (01, Step). Assumes nothing: these are definitions.
-use Rattle.std.specs.Prelude.{◌≡◌, List, [], ◌∷◌, ◌++◌, Bool, cond, ℕ, ◌+◌, ◌-◌, ◌*◌, ◌≤◌, ◌<◌, leb, ℤ, length, take}
+use Rattle.std.specs.Prelude.{◌≡◌, List, [], ◌∷◌, ◌++◌, Bool, cond, ℕ, ◌+◌, ◌≤◌, ◌<◌, leb, ℤ, length, take}
 use Rattle.std.proofs.Math.Option.{some}
 use Rattle.value.specs.Range.{InRange}
 use Rattle.tree.specs.Node as node
@@ -7,7 +7,7 @@ use Rattle.model.specs.Resolved
 use Rattle.model.specs.Opening.{process_limit}
 use Rattle.model.specs.Good.{Every, GoodPart, GoodModel}
 use Rattle.rules.specs.Offers as offers
-use Rattle.rules.specs.Rules.{Nth, Change, unchanged, launched, killed, Key}
+use Rattle.rules.specs.Rules.{Nth, Change, unchanged, launched, killed}
 use Rattle.rules.specs.Pairs.{pairs_after}
 use Rattle.rules.specs.Step.{replace, replace_both, values_at, bound_by, sent_by, on_action, change_of}
 use Rattle.tables.specs.Settled as Settled
@@ -15,7 +15,6 @@ use Rattle.tables.specs.Represents.{Represents}
 use Rattle.machine.specs.Evaluate.{eval_branch}
 use Rattle.machine.specs.Offer.{Process, next_processes}
 use Rattle.machine.specs.State.{State, GoodPair, GoodState, state_numbers, pair_limit, process_room}
-use Rattle.machine.specs.Machine.{entry_arguments, entry_state}
 use Rattle.machine.specs.Questions.{BranchAt}
 use Rattle.eval.specs.declared.next.Next.{Next}
 use Rattle.eval.specs.declared.offer.Offer.{Offer}

@@ -1,9 +1,8 @@
 -- The returns of the readers of calls, over plain variables: what each answers follows from the tokens it looked at, the nodes it wrote and what its callees
 -- answered. From the laws of the machine and of spans.
-use mathlib.Core.Path.{◌≡◌, refl, sym, ap, ◌∙◌}
+use mathlib.Core.Path.{◌≡◌, refl, ◌∙◌}
 use mathlib.Core.List.{List, [], ◌∷◌, ◌++◌}
-use mathlib.Core.Bool.{true}
-use Prim.Native.Nat.{ℕ, ◌+◌, ◌≤◌, ◌<◌}
+use Prim.Native.Nat.{ℕ, ◌+◌, ◌≤◌}
 use native.Mathlib.Omega.{arith}
 use lib.ListN.{length, get_or}
 use Rattle.token.specs.Kind as kind
@@ -11,11 +10,9 @@ use Rattle.grammar.specs.Grammar
 use Rattle.grammar.specs.Grammar.{flat_expr, flat_exprs, flat_args}
 use Rattle.grammar.specs.Machine.{Sym, Want, Args', MoreArgs, an_expr, the_args, table, rows_of, is_may, find}
 use Rattle.grammar.specs.Follows.{Follows}
-use Rattle.grammar.specs.Syntax
 use Rattle.grammar.specs.Syntax.{expr_at, exprs_at, args_at}
 use Rattle.grammar.proofs.Follows.{here, fails}
 use Rattle.grammar.proofs.Alike.{args-filled}
-use Rattle.grammar.proofs.Prepends.{part}
 use Rattle.grammar.proofs.Wide.{wide-expr}
 use Rattle.tree.specs.declared.Read.{Read}
 use Rattle.tree.specs.declared.Read.TheVariants.{Next, Fault}
@@ -26,7 +23,7 @@ use Rattle.tree.specs.Table
 use Rattle.tree.specs.Table.{count_exprs}
 use Rattle.tree.specs.Reading.{place_counted, Ready, Tallied}
 use Rattle.tree.proofs.Holds.{expr-interval, exprs-interval}
-use Rattle.tree.proofs.Spans.{span-token, ◌then◌, span-as, Wrote, span-wrote, span-place, ready-after, ready-token, seen-leaf, seen_one, next-at, fault-at, counted-next-at, counted-fault-at, made_of, tally-of, fault-size, counted-fault-size}
+use Rattle.tree.proofs.Spans.{span-token, ◌then◌, Wrote, span-wrote, span-place, ready-after, ready-token, seen-leaf, seen_one, next-at, fault-at, counted-next-at, counted-fault-at, made_of, tally-of, fault-size, counted-fault-size}
 use Rattle.syntax.specs.Processes.{closed_exprs, flat_call, call_at}
 use Rattle.syntax.proofs.Symbols.{wants, lacks, taken, past, onward}
 use Rattle.syntax.proofs.Forms.{made-two}

@@ -1,9 +1,8 @@
 -- The returns of the readers of one or two parts in square brackets, over plain variables, for values and sets alike. From the laws of the machine and of spans.
-use mathlib.Core.Path.{◌≡◌, refl, sym, ap, ◌∙◌}
+use mathlib.Core.Path.{◌≡◌, refl, ap, ◌∙◌}
 use mathlib.Core.List.{List, [], ◌∷◌, ◌++◌}
 use mathlib.Core.Bool.{true}
-use mathlib.Core.Option.{some}
-use Prim.Native.Nat.{ℕ, ◌+◌, ◌≤◌, ◌<◌}
+use Prim.Native.Nat.{ℕ, ◌+◌, ◌≤◌}
 use native.Mathlib.Omega.{arith}
 use lib.ListN.{length, get_or}
 use Rattle.token.specs.Kind as kind
@@ -11,21 +10,18 @@ use Rattle.grammar.specs.Grammar
 use Rattle.grammar.specs.Grammar.{flat_expr, flat_set, flat_values, flat_sets}
 use Rattle.grammar.specs.Machine.{Sym, Want, SecondValue, SecondSet, an_expr, a_set, table, rows_of, is_may, rows, optional, find}
 use Rattle.grammar.specs.Follows.{Follows}
-use Rattle.grammar.specs.Syntax
 use Rattle.grammar.specs.Syntax.{wide, expr_at, set_at, values_at, sets_at}
 use Rattle.grammar.proofs.Steps.{Misses}
 use Rattle.grammar.proofs.Follows.{here, fails}
 use Rattle.grammar.proofs.Prepends.{Prepends}
-use Rattle.grammar.proofs.Wide.{wide-expr, wide-set}
 use Rattle.tree.specs.declared.Read.{Read}
 use Rattle.tree.specs.declared.Read.TheVariants.{Next, Fault}
 use Rattle.tree.specs.Node as node
 use Rattle.tree.specs.Table
 use Rattle.tree.specs.Table.{Two}
-use Rattle.tree.specs.Reading.{place, Ready, Span, Made, Parsed}
+use Rattle.tree.specs.Reading.{place, Ready, Parsed}
 use Rattle.tree.proofs.Interval.{Interval}
-use Rattle.tree.proofs.Holds.{expr-interval, set-interval}
-use Rattle.tree.proofs.Spans.{span-token, ◌then◌, span-as, Wrote, span-wrote, span-place, ready-after, ready-token, Seen, seen-later, seen-two, next-at, fault-at, made_of, fault-size}
+use Rattle.tree.proofs.Spans.{span-token, ◌then◌, span-as, Wrote, span-wrote, span-place, ready-after, ready-token, seen-later, seen-two, next-at, fault-at, made_of, fault-size}
 use Rattle.syntax.proofs.Answers.{Answers}
 use Rattle.syntax.proofs.Symbols.{wants, lacks, taken, past, onward}
 

@@ -1,14 +1,14 @@
 -- The returns of the readers of continuations, groups, sums and bodies, over plain variables: what each answers follows from the tokens it looked at, the nodes
 -- it wrote and what its callees answered. From the laws of the machine and of spans.
-use mathlib.Core.Path.{◌≡◌, refl, sym, ap, ◌∙◌}
-use mathlib.Core.List.{List, [], ◌∷◌, ◌++◌}
-use Prim.Native.Nat.{ℕ, ◌+◌, ◌≤◌, ◌<◌}
+use mathlib.Core.Path.{◌≡◌, refl, ◌∙◌}
+use mathlib.Core.List.{List, [], ◌∷◌}
+use Prim.Native.Nat.{ℕ, ◌+◌}
 use native.Mathlib.Omega.{arith}
-use lib.ListN.{length, get_or}
+use lib.ListN.{get_or}
 use Rattle.token.specs.Kind as kind
 use Rattle.grammar.specs.Grammar
 use Rattle.grammar.specs.Grammar.{flat_prefix, flat_cont, flat_item, flat_items, flat_choices, flat_sums, flat_body}
-use Rattle.grammar.specs.Machine.{Sym, Want, Cont', Item', Items', Choices', Sums', a_prefix, a_sum, a_body, table, rows_of, is_may, find}
+use Rattle.grammar.specs.Machine.{Cont', Item', Items', Choices', Sums', a_prefix, a_sum, a_body, table, rows_of, is_may, find}
 use Rattle.grammar.specs.Follows.{Follows}
 use Rattle.grammar.specs.Syntax
 use Rattle.grammar.specs.Syntax.{wide, branch_at, branches_at, cont_at, item_at, conts_at, sum_at, sums_at, body_at, sums_prefix, sums_cont, sums_item, sums_items, sums_choices, sums_sums, sums_body}
@@ -19,7 +19,7 @@ use Rattle.tree.specs.declared.Counted.TheVariants.{Next as CountedNext, Fault a
 use Rattle.tree.specs.Node as node
 use Rattle.tree.specs.Table
 use Rattle.tree.specs.Table.{first_of, first_token}
-use Rattle.tree.specs.Reading.{place_counted, Ready, Tally, Tallied}
+use Rattle.tree.specs.Reading.{place_counted, Ready, Tallied}
 use Rattle.tree.proofs.Holds.{branch-interval, branches-interval, sum-interval, cont-interval, conts-interval, sums-interval}
 use Rattle.tree.proofs.Spans.{span-token, ◌then◌, Wrote, span-wrote, span-place, ready-after, ready-token, seen_one, counted-next-at, counted-fault-at, tally-of, tallied-as, counted-fault-size}
 use Rattle.syntax.specs.Judged.{written_sum, count_sum}

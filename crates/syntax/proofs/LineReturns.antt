@@ -8,8 +8,8 @@ use native.Mathlib.Omega.{arith}
 use lib.ListN.{length, get_or}
 use Rattle.token.specs.Kind as kind
 use Rattle.grammar.specs.Grammar.{flat_whole, flat_number, flat_starts, flat_start, flat_system, flat_body, flat_definitions, flat_model}
-use Rattle.grammar.specs.Machine.{Sym, Want, Whole', Number', Params', MoreWholes, Start', SystemEnd, Line, NextLine, the_names, the_starts, a_body}
-use Rattle.grammar.specs.Follows.{Answer, next, Follows}
+use Rattle.grammar.specs.Machine.{Want, Whole', Number', Params', MoreWholes, Start', SystemEnd, Line, NextLine, the_names, the_starts, a_body}
+use Rattle.grammar.specs.Follows.{Answer, Follows}
 use Rattle.grammar.specs.Syntax.{literal_at, number_at, wholes_at, starts_at, start_at, system_at, body_at, sums_body, definitions_at, model_at}
 use Rattle.grammar.proofs.Alike.{params-filled}
 use Rattle.grammar.proofs.Follows.{inside, join, fails, wanted, unwanted, bounds}

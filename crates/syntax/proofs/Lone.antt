@@ -33,7 +33,6 @@ use Rattle.tree.proofs.Spans.{span-token, ◌then◌, span-as, Wrote, wrote-size
 use Rattle.syntax.specs.Channels.{Third, no_third, third, flat_third, third_at}
 use Rattle.syntax.specs.Actions.{flat_deed}
 use Rattle.syntax.specs.Braces.{flat_closed, flat_rated, flat_inside, flat_rest, rest_at, Ended, Inside, Seconds, Either}
-use Rattle.syntax.proofs.Symbols.{onward}
 use Rattle.syntax.proofs.Forms.{span-paid}
 use Rattle.syntax.proofs.Expressions.{Atom, Expr}
 use Rattle.syntax.proofs.Deeds.{action_of, action-text, action-at}

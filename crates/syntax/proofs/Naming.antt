@@ -8,7 +8,7 @@ use lib.ListN.{length, get_or}
 use Rattle.token.specs.Kind as kind
 use Rattle.grammar.specs.Grammar
 use Rattle.grammar.specs.Grammar.{flat_names}
-use Rattle.grammar.specs.Machine.{Sym, Want, MoreNames, the_names, table, rows_of, is_may, find}
+use Rattle.grammar.specs.Machine.{Want, MoreNames, the_names, table, rows_of, is_may, find}
 use Rattle.grammar.specs.Follows.{Follows}
 use Rattle.grammar.specs.Syntax.{count_names}
 use Rattle.grammar.proofs.Follows.{here}

@@ -8,7 +8,7 @@ use borrow.Author.Tests.{eqb-true, eqb-false}
 use lib.Dec.{eqb}
 use lib.ListN.{get_or}
 use Rattle.token.specs.Kind as kind
-use Rattle.grammar.specs.Machine.{Sym, Want, Gate', Cont', Item', a_prefix, a_sum, table, rows_of, is_may, rows, optional, stuck, step, ending}
+use Rattle.grammar.specs.Machine.{Sym, Want, Gate', Cont', Item', a_prefix, a_sum, table, rows_of, is_may, rows, optional, stuck, step}
 use Rattle.grammar.specs.Follows.{Answer, Follows}
 use Rattle.grammar.proofs.Steps.{Misses, missing, step-passes, step-sticks, ending-passes, ending-sticks}
 use Rattle.grammar.proofs.Follows.{like}

@@ -5,7 +5,7 @@ use Prim.Native.Nat.{ℕ, ◌<◌, ◌≤◌}
 use lib.ListN.{length}
 use Rattle.grammar.specs.Limit.{token_limit}
 use Rattle.syntax.specs.Judged.{Fitting, Judged}
-use Rattle.syntax.specs.Asked.{No, no5, no6, Asks}
+use Rattle.syntax.specs.Asked.{no5, no6, Asks}
 use Rattle.syntax.specs.declared.line.Text.{Text}
 use Rattle.syntax.specs.declared.line.Text.TheVariants.{Fits, Broken}
 use Rattle.syntax.specs.declared.question.Asked.TheVariants.{Passed, Misfit, Crowded}

@@ -11,7 +11,6 @@ use Rattle.token.specs.Kind as kind
 use Rattle.grammar.specs.Grammar
 use Rattle.grammar.specs.Grammar.{Number, flat_whole, flat_number, flat_scale, flat_atom, flat_rate}
 use Rattle.grammar.specs.Machine.{Sym, Unsigned, Number', Scale', RateTail, Atom', a_rate, table, rows_of, is_may, find, onto, step, ending}
-use Rattle.grammar.specs.Syntax
 use Rattle.grammar.specs.Syntax.{number_at, scale_at, atom_at, rate_at}
 use Rattle.grammar.proofs.Follows.{here, like, join, takes, passes, sticks}
 use Rattle.grammar.proofs.Wide.{wide-scale}

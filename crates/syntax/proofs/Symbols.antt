@@ -6,7 +6,7 @@ use mathlib.Core.Option.{some}
 use Prim.Native.Nat.{ℕ, ◌+◌, ◌<◌, ◌≤◌}
 use native.Mathlib.Omega.{arith}
 use lib.ListN.{length, get_or}
-use Rattle.grammar.specs.Machine.{Sym, Want, Row, rows, optional, find, to, step}
+use Rattle.grammar.specs.Machine.{Sym, Want, rows, optional, find, to}
 use Rattle.grammar.specs.Follows.{Answer, next, fault, Follows}
 use Rattle.grammar.proofs.Steps.{Misses, step-takes}
 use Rattle.grammar.proofs.Follows.{took, join, fails, passes, sticks, wanted, unwanted, bounds}

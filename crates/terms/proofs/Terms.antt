@@ -11,7 +11,6 @@ use Rattle.token.proofs.Tiles.{tiled}
 use Rattle.token.proofs.Only.{only}
 use Rattle.grammar.specs.Grammar as derived
 use Rattle.grammar.specs.Grammar.{Reads}
-use Rattle.grammar.specs.Syntax
 use Rattle.grammar.specs.Syntax.{syntax_of}
 use Rattle.grammar.proofs.Unique.{unique}
 use Rattle.model.specs.Resolved

@@ -1,5 +1,5 @@
 -- The nodes of a syntax tree as numbers: a kind and three fields of 16 bits. Assumes nothing: these are definitions.
-use Rattle.std.specs.Prelude.{Bool, true, false, cond, ℕ, ◌+◌, ◌*◌, ◌/◌, ◌%◌}
+use Rattle.std.specs.Prelude.{Bool, cond, ℕ, ◌+◌, ◌*◌, ◌/◌, ◌%◌}
 use Rattle.grammar.specs.Grammar.{Relation, less, at_most, greater, at_least, same, differs}
 use Rattle.grammar.specs.Syntax.{Op, plus, minus, times, divide, maximum, minimum, Join, without, union, inter}
 

@@ -1,6 +1,6 @@
 -- What a table of nodes holds: a tree's nodes are an interval of the table, each node after its parts, the root last. A part's root is found from
 -- its parent: the last part's is the node before it, an earlier part's stands in a field. Assumes nothing: these are definitions.
-use Rattle.std.specs.Prelude.{◌≡◌, List, Bool, true, false, ℕ, ◌+◌, ◌<◌, get_or}
+use Rattle.std.specs.Prelude.{◌≡◌, List, true, false, ℕ, ◌+◌, ◌<◌, get_or}
 use Rattle.grammar.specs.Syntax
 use Rattle.tree.specs.Node as node
 use Rattle.tree.specs.Node.{field, cell, op_kind, join_kind, test_kind, number_kind}

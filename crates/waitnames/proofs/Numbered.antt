@@ -9,9 +9,9 @@ use mathlib.Core.List.Memᴰ.{not-nil as nowhere}
 use mathlib.Core.List.Memᴰ.{tail}
 use mathlib.Core.List.{List, [], ◌∷◌, ◌++◌, Memᴰ as In}
 use mathlib.Core.Bool.{Bool, true, false, cond}
-use mathlib.Core.Option.{Option, none, some}
+use mathlib.Core.Option.{Option, some}
 use mathlib.Core.Logic.{◌⊎◌, inl, inr}
-use Prim.Native.Nat.{ℕ, zero, suc, ◌+◌, ◌≤◌, ◌<◌}
+use Prim.Native.Nat.{ℕ, suc, ◌+◌, ◌≤◌, ◌<◌}
 use native.Mathlib.Omega.{arith}
 use borrow.Author.Tests.{leb-true, leb-false}
 use lib.Dec.{leb}
@@ -28,7 +28,7 @@ use Rattle.model.proofs.Members.{never, not-both, any-in, in-any, got_in}
 use Rattle.model.proofs.Repeats.{same_bytes_lem, bytes_same}
 use Rattle.model.proofs.Used.{first_of}
 use Rattle.waitnames.specs.Names.{insert, ascending, all_waits, wait_tokens, name_tokens, wait_names, name_number, number_in, wait_number}
-use Rattle.waitnames.specs.Numbered.{First, Rising, IsWait, Numbered}
+use Rattle.waitnames.specs.Numbered.{First, Rising, Numbered}
 use Rattle.waitnames.proofs.Names.{From, in-text-order, ascending-in, name-is}
 
 -- ---- nothing but waits is among the sorted tokens

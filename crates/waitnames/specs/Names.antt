@@ -1,5 +1,5 @@
 -- The names of waits and their numbers, by first appearance as a wait (02, notes 8, 10 and 13). A wait's token says where it stands. Assumes nothing: these are definitions.
-use Rattle.std.specs.Prelude.{List, [], ◌∷◌, ◌++◌, cond, ℕ, suc, leb}
+use Rattle.std.specs.Prelude.{List, [], ◌∷◌, cond, ℕ, suc, leb}
 use Rattle.std.proofs.Math.Option.{Option, none, some}
 use Rattle.token.specs.Token.{same_bytes}
 use Rattle.model.specs.Lists.{each}

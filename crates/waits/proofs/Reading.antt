@@ -1,15 +1,13 @@
 -- What a loop over waiting draws has read: the rest of the draws comes to what they all do. By cases of what one more draw makes of a run.
 use mathlib.Core.Path.{◌≡◌, refl, sym, ap, ◌∙◌}
-use mathlib.Core.Bool.{Bool, true, false, not, cond}
+use mathlib.Core.Bool.{Bool, true, false, not}
 use mathlib.Core.List.{List, [], ◌∷◌}
 use Prim.Native.Nat.{ℕ, zero, suc, ◌+◌, ◌*◌, ◌≤◌, ◌<◌}
 use native.Mathlib.Omega.{arith}
 use borrow.Author.Tests.{lt-ltb, le-ltb, eq-eqb, ne_eqb}
-use lib.Dec.{eqb, ltb}
 use lib.ListN.{length, get_or, drop}
 use Rattle.waits.specs.declared.Run.{Run}
 use Rattle.waits.specs.declared.Run.TheVariants.{Before, In, Known, Over}
-use Rattle.waits.specs.declared.Wait.{Wait}
 use Rattle.waits.specs.declared.Wait.TheVariants.{Given, Ended, Long}
 use Rattle.waits.specs.Runs.{next_in_run, read, settled, waiting, wait_of, Fits, Within}
 

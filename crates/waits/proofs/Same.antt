@@ -1,6 +1,6 @@
 -- The definition draw by draw and the one by runs agree: each list of draws comes to one answer, and it is the function's. By induction on runs, and on the number of draws.
 use mathlib.Core.Path.{◌≡◌, refl, sym, ap, subst, ◌∙◌}
-use mathlib.Core.Bool.{Bool, true, false, not, cond}
+use mathlib.Core.Bool.{Bool, true, false, not}
 use mathlib.Core.List.{List, [], ◌∷◌, ◌++◌, append-nil}
 use mathlib.Core.Logic.{◌↔◌}
 use Prim.Native.Nat.{ℕ, zero, suc, ◌+◌, ◌*◌, ◌≤◌, ◌<◌}
@@ -8,8 +8,7 @@ use native.Mathlib.Omega.{arith}
 use borrow.Author.Tests.{ltb-true, ltb-false, lt-ltb, le-ltb, eqb-true, eqb-false, eq-eqb, ne_eqb}
 use lib.Dec.{eqb, ltb}
 use lib.ListN.{length, length-append}
-use Rattle.waits.specs.declared.Run.{Run}
-use Rattle.waits.specs.declared.Run.TheVariants.{Before, In, Known, Over}
+use Rattle.waits.specs.declared.Run.TheVariants.{Before, In}
 use Rattle.waits.specs.declared.Wait.{Wait}
 use Rattle.waits.specs.declared.Wait.TheVariants.{Given, Ended, Long}
 use Rattle.waits.specs.Runs.{next_in_run, read, settled, waiting, wait_of}

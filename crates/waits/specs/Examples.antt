@@ -1,6 +1,5 @@
 -- Waiting draws by computation (02, note 4), one to a row.
 use Rattle.std.specs.Prelude.{◌≡◌, refl, List, [], ◌∷◌, ℕ, zero, suc}
-use Rattle.waits.specs.declared.Wait.{Wait}
 use Rattle.waits.specs.declared.Wait.TheVariants.{Given, Ended, Long}
 use Rattle.waits.specs.Runs.{next_in_run, read, settled, waiting, wait_of}
 

@@ -1,5 +1,5 @@
 -- What waiting draws come to (02, note 4). Definitions only.
-use Rattle.std.specs.Prelude.{Bool, true, not, cond, List, [], ◌∷◌, ℕ, suc, ◌+◌, ◌*◌, ◌≤◌, ◌<◌, eqb, ltb}
+use Rattle.std.specs.Prelude.{Bool, true, not, cond, List, [], ◌∷◌, ℕ, ◌+◌, ◌*◌, ◌≤◌, ◌<◌, eqb, ltb}
 use Rattle.waits.specs.declared.Run.{Run}
 use Rattle.waits.specs.declared.Run.TheVariants.{Before, In, Known, Over}
 use Rattle.waits.specs.declared.Wait.{Wait}

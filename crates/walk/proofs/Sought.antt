@@ -9,7 +9,7 @@ use native.Mathlib.Numerals.{add-one}
 use borrow.Author.Tests.{eq-eqb, ne_eqb}
 use lib.Dec.{eqb}
 use lib.IntN.{ℤ}
-use lib.ListN.{length, get_or, take, drop, drop_of_length-le}
+use lib.ListN.{length, get_or, drop, drop_of_length-le}
 use lib.Seq.{drop-cons}
 use borrow.Rule.Slice.PartMut.{mid_of}
 use Rattle.token.specs.Token.{same_bytes}
@@ -17,7 +17,6 @@ use Rattle.model.specs.Resolved
 use Rattle.tables.specs.Spelled.{Spells}
 use Rattle.rules.specs.Offers as offers
 use Rattle.rules.specs.Rules.{Change, Alone as Lone, waits, launches, kills, receives, binds, checks, key, Moves, alone, together, Derivable}
-use Rattle.rules.specs.Listing.{entry}
 use Rattle.rules.proofs.Places.{acting, branching}
 use Rattle.rules.proofs.Listed.{listed}
 use Rattle.machine.specs.Evaluate.{given, eval_action, eval_pair, eval_query}

@@ -12,7 +12,7 @@ use Rattle.model.specs.Resolved
 use Rattle.model.specs.Limits.{branch_limit}
 use Rattle.model.specs.Good.{GoodSum}
 use Rattle.rules.specs.Listing.{Entry}
-use Rattle.runs.specs.Tree.{leads, unlisted, lists, way_in, found}
+use Rattle.runs.specs.Tree.{leads, unlisted, lists, way_in}
 use Rattle.runs.specs.Walk.{search, ending}
 use Rattle.search.specs.Walks.{Answered, a-run}
 use Rattle.search.specs.declared.Walked.{Walked}

@@ -1,11 +1,11 @@
 -- Even words give even draws: counted in rows of a total's length, each row has every draw once. By induction on the number of rows.
 use mathlib.Core.Path.{◌≡◌, refl, sym, ap, ◌∙◌}
 use mathlib.Core.Bool.{Bool, true, false, cond, not, ◌&&◌}
-use Prim.Native.Nat.{ℕ, zero, suc, ◌+◌, ◌-◌, ◌*◌, ◌/◌, ◌%◌, ◌≤◌, ◌<◌}
+use Prim.Native.Nat.{ℕ, zero, suc, ◌+◌, ◌*◌, ◌/◌, ◌%◌, ◌≤◌, ◌<◌}
 use native.Mathlib.Nat.{mod-lt, mod-eq_of_lt, mul-add-mod_self_left, zero-mul, suc-mul, mul-zero, mul-suc, mul-one, le-div_iff_mul-le, one-mul}
 use native.Mathlib.Omega.{arith}
-use borrow.Author.Tests.{lt-ltb, le-ltb, eqb-true, eqb-false, eq-eqb, ne_eqb}
-use lib.Dec.{eqb, ltb}
+use borrow.Author.Tests.{lt-ltb, le-ltb, eqb-true, eqb-false, ne_eqb}
+use lib.Dec.{eqb}
 use Rattle.words.specs.Words.{usable, is_used}
 use Rattle.words.specs.Exact.{count_words, gives_one, is_turned, Exact}
 use Rattle.words.proofs.Drawing.{used-and-rest}

@@ -1,6 +1,5 @@
 -- What the draws come to, each answer a case of `waited`.
 use Rattle.clock.proofs.Bringing.{e-small, came, ran_out, too_long}
-use borrow.Author.Rules.{rules}
 use Rattle.clock.proofs.bring.Goals as goal
 
 pub ticks_of-ticks-requires : goal.ticks_of-ticks-requires

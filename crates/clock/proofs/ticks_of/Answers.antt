@@ -1,6 +1,5 @@
 -- Two divisions are one; nothing passes 64 bits.
 use Rattle.clock.proofs.Bringing.{two-divisions, few-ticks}
-use borrow.Author.Rules.{rules}
 use Rattle.clock.proofs.ticks_of.Goals as goal
 
 pub returns : goal.returns

@@ -1,6 +1,5 @@
 -- By the lengths of the parts, then that of the saves.
 use mathlib.Core.Path.{refl, sym, ◌∙◌}
-use borrow.Author.Rules.{rules}
 use Rattle.state.proofs.Tests.{refused, passed}
 use Rattle.engine.specs.Gives.{are_all_long}
 use Rattle.engine.proofs.are_all_long.Goals as goal

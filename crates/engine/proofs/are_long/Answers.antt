@@ -1,6 +1,5 @@
 -- By the lengths of the parts, then that of the output.
 use mathlib.Core.Path.{refl, sym, ◌∙◌}
-use borrow.Author.Rules.{rules}
 use Rattle.state.proofs.Tests.{refused, passed}
 use Rattle.engine.specs.Gives.{are_long}
 use Rattle.engine.proofs.are_long.Goals as goal

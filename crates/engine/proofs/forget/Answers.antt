@@ -1,6 +1,5 @@
 -- Question 1 by the lengths, 11 by the buffers, then what the numbers say.
 use mathlib.Core.Path.{refl, sym, ◌∙◌}
-use borrow.Author.Rules.{rules}
 use Rattle.machine.specs.Machine.{forget', on'}
 use Rattle.state.proofs.Tests.{refused, passed}
 use Rattle.engine.proofs.Lengths.{three-long, three-wrong, three-right}

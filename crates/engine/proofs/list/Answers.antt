@@ -1,6 +1,5 @@
 -- Question 1 by the lengths, then the listing.
 use mathlib.Core.Path.{refl, sym, ◌∙◌}
-use borrow.Author.Rules.{rules}
 use Rattle.state.proofs.Tests.{refused, passed}
 use Rattle.machine.specs.Machine.{listing_length, list'}
 use Rattle.engine.proofs.Lengths.{all-long, asked-wrong, asked-right}

@@ -1,6 +1,5 @@
 -- The text that the model buffer holds, or 11.
 use native.Mathlib.Omega.{arith}
-use borrow.Author.Rules.{rules}
 use Rattle.machine.specs.Machine.{list'}
 use Rattle.buffers.specs.Parts.{lent_two}
 use Rattle.store.specs.Text.{TextOf, TextIn}

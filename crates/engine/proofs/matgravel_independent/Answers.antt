@@ -1,8 +1,7 @@
 -- A yes is 1, a no is 0.
-use mathlib.Core.Path.{◌≡◌, sym, ap, ◌∙◌}
+use mathlib.Core.Path.{sym, ap, ◌∙◌}
 use mathlib.Core.Bool.{Bool, cond}
 use Prim.Native.Nat.{ℕ}
-use borrow.Author.Rules.{rules}
 use Rattle.engine.proofs.matgravel_independent.Goals as goal
 
 pub returns-then-independent : goal.returns-then-independent

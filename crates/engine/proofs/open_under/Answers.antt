@@ -1,5 +1,5 @@
 -- Question 1 by the lengths; then the saves are cleared, the text is opened under the profile and the clock is zero.
-use mathlib.Core.Path.{refl, ap, sym, ◌∙◌}
+use mathlib.Core.Path.{ap, sym, ◌∙◌}
 use mathlib.Core.List.{[]}
 use Prim.Native.Nat.{ℕ}
 use lib.IntN.{pos}
@@ -8,7 +8,6 @@ use Rattle.state.proofs.Tests.{refused, passed}
 use Rattle.engine.specs.Asks.{ask_under}
 use Rattle.engine.proofs.Lengths.{three-long, four-wrong, four-right, of-all, of-fresh}
 use Rattle.engine.proofs.Openings.{under-lent, under-output, under-answers}
-use borrow.Author.Rules.{rules}
 use Rattle.engine.proofs.open_under.Goals as goal
 
 pub returns-then-not-are_all_long : goal.returns-then-not-are_all_long

@@ -1,6 +1,5 @@
 -- Question 1 by the lengths, then the report.
 use mathlib.Core.Path.{refl, sym, ◌∙◌}
-use borrow.Author.Rules.{rules}
 use Rattle.state.proofs.Tests.{refused, passed}
 use Rattle.machine.specs.Report.{report_length}
 use Rattle.machine.specs.Machine.{report'}

@@ -4,7 +4,6 @@ use Rattle.machine.specs.Machine.{return', on'}
 use Rattle.state.proofs.Tests.{refused, passed}
 use Rattle.engine.proofs.Lengths.{three-long, four-wrong, four-right, of-all}
 use Rattle.engine.proofs.Stored.{unheld-four, range-so, keeping, return-gives}
-use borrow.Author.Rules.{rules}
 use Rattle.engine.proofs.return_to.Goals as goal
 
 pub returns-then-not-are_all_long : goal.returns-then-not-are_all_long

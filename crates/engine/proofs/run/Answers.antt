@@ -1,6 +1,3 @@
-use Rattle.engine.proofs.Simulated.of.Reads as of-reads
-use Rattle.simulation.proofs.run.Reads as run-reads
-use borrow.Author.Rules.{rules}
 use Rattle.engine.proofs.Runs.{ran-gives}
 use Rattle.engine.proofs.run.Goals as goal
 

@@ -3,7 +3,6 @@ use native.Mathlib.Omega.{arith}
 use lib.ListN.{length}
 use Rattle.tree.specs.Node.{kind_of, left_of}
 use Rattle.eval.proofs.Arguments.{last-part, last-known, more_parts, more-known, first-unknown}
-use Prim.Native.Nat.{ℕ, ◌<◌}
 use Rattle.eval.proofs.+arguments_known.Goals as goal
 
 pub eval_node-requires : goal.eval_node-requires

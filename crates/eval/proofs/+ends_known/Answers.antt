@@ -3,7 +3,6 @@ use native.Mathlib.Omega.{arith}
 use lib.ListN.{length}
 use Rattle.tree.specs.Node.{kind_of, left_of}
 use Rattle.eval.proofs.Sets.{single-part, single-ends, range-parts, range-ends, range-unknown, joined-parts, joined-ends, joined-unknown}
-use Prim.Native.Nat.{ℕ, ◌<◌}
 use Rattle.eval.proofs.+ends_known.Goals as goal
 
 pub eval_node-requires : goal.eval_node-requires

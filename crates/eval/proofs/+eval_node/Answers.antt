@@ -8,7 +8,7 @@ use Rattle.value.proofs.Kit.{back}
 use Rattle.tree.specs.Node.{kind_of, token_of, left_of}
 use Rattle.tables.specs.Settled.{number_of}
 use Rattle.eval.proofs.Exprs.{worth-sound, literal-is, named-is, absolute-part, absolute-is, binary-parts, binary-is}
-use Prim.Native.Nat.{ℕ, ◌<◌}
+use Prim.Native.Nat.{ℕ}
 use Rattle.eval.proofs.+eval_node.Goals as goal
 
 pub returns-then-kind-eq-LITERAL : goal.returns-then-kind-eq-LITERAL

@@ -3,7 +3,6 @@ use native.Mathlib.Omega.{arith}
 use lib.ListN.{length}
 use Rattle.tree.specs.Node.{kind_of, left_of}
 use Rattle.eval.proofs.Conds.{compare-parts, compare-is, cond-parts, skipped-is, rest-is}
-use Prim.Native.Nat.{ℕ, ◌<◌}
 use Rattle.eval.proofs.+holds.Goals as goal
 
 pub eval_node-x-requires : goal.eval_node-x-requires

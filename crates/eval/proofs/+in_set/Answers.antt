@@ -5,7 +5,6 @@ use Rattle.tree.specs.Node.{kind_of, left_of}
 use borrow.Author.Tests.{eq-eqb, ne_eqb}
 use mir.Facts.{to_z-of_z}
 use Rattle.eval.proofs.Sets.{single-part, single-tells, range-parts, range-tells, joined-parts, settled-tells, finished-tells}
-use Prim.Native.Nat.{ℕ, ◌<◌}
 use Rattle.eval.proofs.+in_set.Goals as goal
 
 pub eval_node-x-requires : goal.eval_node-x-requires

@@ -1,6 +1,5 @@
 -- `eval::absolute` meets its contract: the size of a value, if there is one. By the cases of the value.
 use mathlib.Core.Path.{subst}
-use borrow.Author.Rules.{rules}
 use mir.Facts.{to_z-of_z}
 use Rattle.value.proofs.Bounds.{in-fits}
 use Rattle.machine.specs.Evaluate.{with_value}

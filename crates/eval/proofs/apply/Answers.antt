@@ -1,6 +1,5 @@
 -- `eval::apply` meets its contract: each kind's operation. From the operations of `value` and the table of kinds.
 use mathlib.Core.Path.{ap}
-use borrow.Author.Rules.{rules}
 use mir.Facts.{to_z-of_z}
 use Rattle.value.specs.declared.Value.TheVariants.{Is}
 use Rattle.value.proofs.Kit.{back}

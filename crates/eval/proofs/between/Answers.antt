@@ -1,6 +1,5 @@
 -- `eval::between` meets its contract: both tests, where there are two values. By the cases of the values.
 use mathlib.Core.Path.{sym, ◌∙◌}
-use borrow.Author.Rules.{rules}
 use mir.Facts.{to_z-of_z}
 use Rattle.value.proofs.Kit.{back}
 use Rattle.rules.specs.Offers.{within}

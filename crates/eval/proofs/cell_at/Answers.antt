@@ -1,6 +1,5 @@
 -- `eval::cell_at` meets its contract: a cell, or the default beyond the end. From the law of lists.
 use mathlib.Core.Path.{sym}
-use borrow.Author.Rules.{rules}
 use lib.ListN.{get_or-eq_default}
 use Rattle.eval.proofs.cell_at.Goals as goal
 

@@ -1,6 +1,5 @@
 -- `eval::combined` meets its contract: the operator is applied where both sides have a value. By the cases of the values.
 use mathlib.Core.Path.{subst}
-use borrow.Author.Rules.{rules}
 use mir.Facts.{to_z-of_z}
 use Rattle.value.proofs.Bounds.{in-fits}
 use Rattle.machine.specs.Evaluate.{with_value}

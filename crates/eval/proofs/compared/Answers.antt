@@ -1,5 +1,4 @@
 -- `eval::compared` meets its contract: the test, where both sides have a value. By the cases of the values.
-use borrow.Author.Rules.{rules}
 use Rattle.value.proofs.Kit.{back}
 use Rattle.machine.specs.Evaluate.{valued}
 use Rattle.eval.specs.Answers.{truth_of}

@@ -1,5 +1,4 @@
 -- `eval::decided` meets its contract. By the cases of the answer.
-use borrow.Author.Rules.{rules}
 use Rattle.eval.specs.Skips.{skips}
 use Rattle.eval.proofs.decided.Goals as goal
 

@@ -1,5 +1,4 @@
 -- `eval::is_known` meets its contract. By the cases of the value.
-use borrow.Author.Rules.{rules}
 use Rattle.machine.specs.Offer.{is_value}
 use Rattle.eval.proofs.is_known.Goals as goal
 

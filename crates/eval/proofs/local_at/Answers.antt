@@ -1,6 +1,5 @@
 -- `eval::local_at` meets its contract: a local, or the default beyond the end. From the law of lists.
 use mathlib.Core.Path.{sym}
-use borrow.Author.Rules.{rules}
 use lib.IntN.{pos}
 use lib.ListN.{get_or-eq_default}
 use Rattle.eval.proofs.local_at.Goals as goal

@@ -1,7 +1,6 @@
 -- `eval::number_of` meets its contract: a cell's number fits an i64. From the size of a quotient.
 use Prim.Native.Nat.{◌/◌, ◌<◌}
 use native.Mathlib.Omega.{arith}
-use borrow.Author.Rules.{rules}
 use mir.Syntax.{w64}
 use mir.Facts.{to_z-of_z, to_z_pos}
 use Rattle.tables.specs.Settled.{number_of}

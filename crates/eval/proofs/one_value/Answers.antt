@@ -1,5 +1,4 @@
 -- `eval::one_value` meets its contract. By the cases of the value.
-use borrow.Author.Rules.{rules}
 use Rattle.value.proofs.Kit.{back}
 use Rattle.machine.specs.Evaluate.{valued, given, eval_all}
 use Rattle.eval.specs.Lists.{values_of, values_given}

@@ -2,7 +2,6 @@
 use mathlib.Core.Path.{ap, ◌∙◌}
 use lib.ListN.{length}
 use Rattle.tree.specs.Node.{kind_of, left_of}
-use borrow.Author.Rules.{rules}
 use Rattle.eval.proofs.Rates.{plain-rate, atom-part, scaled-rate}
 use Rattle.eval.proofs.rate_of.Goals as goal
 

@@ -1,7 +1,6 @@
 -- `eval::related` meets its contract: each kind's relation. From the tests of `value` and the table of kinds.
 use mathlib.Core.Path.{ap}
 use mathlib.Core.Bool.{not}
-use borrow.Author.Rules.{rules}
 use mir.Facts.{to_z-of_z}
 use Rattle.machine.specs.Evaluate.{related}
 use Rattle.eval.proofs.Relations.{relates, kind-differs}

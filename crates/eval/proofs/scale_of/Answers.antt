@@ -1,9 +1,6 @@
 -- `eval::scale_of` meets its contract: a number, or a local in ten-thousandths. From what the node says.
 use mathlib.Core.Path.{ap, ◌∙◌}
-use native.Mathlib.Omega.{arith}
 use Rattle.tree.specs.Node.{kind_of}
-use mathlib.Core.Path.{refl}
-use borrow.Author.Rules.{rules}
 use lib.IntN.{ℤ, pos, ◌*ℤ◌}
 use lib.ListN.{get_or}
 use Prim.Native.Nat.{ℕ}

@@ -1,6 +1,5 @@
 -- `eval::scaled` meets its contract: each test, and a product that is within the range. From the laws of the range.
 use native.Mathlib.Omega.{arith}
-use borrow.Author.Rules.{rules}
 use lib.Signed.{nat_abs-le}
 use mir.Facts.{to_z-of_z}
 use Rattle.value.proofs.Kit.{nonneg}

@@ -1,5 +1,4 @@
 -- `eval::tested` meets its contract: kinds above the last relation are turned ones. From the table of kinds.
-use borrow.Author.Rules.{rules}
 use mir.Facts.{to_z-of_z}
 use Rattle.eval.proofs.Relations.{turned-is, plain-is}
 use Rattle.eval.proofs.tested.Goals as goal

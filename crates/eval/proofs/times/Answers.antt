@@ -1,6 +1,5 @@
 -- `eval::times` meets its contract: the product, where both factors are there. By the cases of the answers.
 use mathlib.Core.Path.{sym, ◌∙◌}
-use borrow.Author.Rules.{rules}
 use Rattle.value.proofs.Kit.{back}
 use Rattle.machine.specs.Evaluate.{given, valued}
 use Rattle.eval.specs.Rates.{rate_of}

@@ -2,7 +2,6 @@
 use mathlib.Core.Path.{ap, ◌∙◌}
 use lib.ListN.{length}
 use Rattle.tree.specs.Node.{kind_of, left_of}
-use borrow.Author.Rules.{rules}
 use Rattle.tables.specs.Settled.{Expr}
 use Rattle.model.specs.Good.{GoodExpr}
 use Rattle.eval.proofs.Lists.{one-part, two-parts, expr-low, one-value-is, two-values-are}

@@ -1,9 +1,8 @@
 -- Seven numbers each, both entries movable, no process shared.
-use mathlib.Core.Path.{◌≡◌, sym, ap, ◌∙◌}
+use mathlib.Core.Path.{sym, ap, ◌∙◌}
 use mathlib.Core.Bool.{not}
 use Rattle.state.proofs.Tests.{refused, passed}
 use Rattle.independence.proofs.Tests.{short-first, short-second, first-stays, second-stays, both-move}
-use borrow.Author.Rules.{rules}
 use Rattle.independence.proofs.independent.Goals as goal
 
 pub returns-then-entry-ne-ENTRY : goal.returns-then-entry-ne-ENTRY

@@ -1,7 +1,6 @@
 -- The place, then a handshake's partner.
-use mathlib.Core.Path.{◌≡◌, sym, ◌∙◌}
+use mathlib.Core.Path.{sym, ◌∙◌}
 use Rattle.independence.proofs.Tests.{by_place, by-partner, by-none}
-use borrow.Author.Rules.{rules}
 use Rattle.independence.proofs.overlap.Goals as goal
 
 pub returns-then-acts_at : goal.returns-then-acts_at

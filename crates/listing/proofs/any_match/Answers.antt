@@ -1,20 +1,7 @@
-use Rattle.listing.proofs.pair_matches.Reads as pair-matches-reads
-use lib.ListN.{get_elem?}
-use Rattle.model.specs.Resolved
-use Rattle.rules.specs.Offers as offers
-use Rattle.rules.specs.Listing.{matches}
-use Rattle.machine.specs.State.{State}
-use Rattle.eval.specs.Shown.{ShowsQuery}
-use Rattle.offers.specs.Collect.{World}
-use Rattle.listing.specs.Ready.{RunIs}
 use Rattle.listing.proofs.Pairs.{some_pair}
 use Rattle.listing.proofs.Runs.{run_on, run-off, any_at, run_more, run_none}
-use mathlib.Core.Option.{some}
 use mathlib.Core.Logic.{inl}
-use mathlib.Core.Path.{◌≡◌, sym, ◌∙◌}
-use mathlib.Core.List.{List}
-use mathlib.Core.Bool.{false}
-use Prim.Native.Nat.{ℕ, ◌-◌, ◌≤◌, ◌<◌}
+use mathlib.Core.Path.{sym, ◌∙◌}
 use native.Mathlib.Omega.{arith}
 use borrow.Author.Rules.{rules}
 use Rattle.listing.proofs.any_match.Goals as goal

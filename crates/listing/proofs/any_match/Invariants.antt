@@ -1,5 +1,4 @@
 -- `listing::any_match` meets its contract. The loop's invariant: no pair before q matches.
-use Rattle.listing.proofs.pair_matches.Reads as pair-matches-reads
 use lib.ListN.{get_elem?}
 use Rattle.model.specs.Resolved
 use Rattle.rules.specs.Offers as offers
@@ -8,16 +7,11 @@ use Rattle.machine.specs.State.{State}
 use Rattle.eval.specs.Shown.{ShowsQuery}
 use Rattle.offers.specs.Collect.{World}
 use Rattle.listing.specs.Ready.{RunIs}
-use Rattle.listing.proofs.Pairs.{some_pair}
-use Rattle.listing.proofs.Runs.{run_on, run-off, any_at, run_more, run_none}
 use mathlib.Core.Option.{some}
-use mathlib.Core.Logic.{inl}
-use mathlib.Core.Path.{◌≡◌, sym, ◌∙◌}
+use mathlib.Core.Path.{◌≡◌}
 use mathlib.Core.List.{List}
 use mathlib.Core.Bool.{false}
 use Prim.Native.Nat.{ℕ, ◌-◌, ◌≤◌, ◌<◌}
-use native.Mathlib.Omega.{arith}
-use borrow.Author.Rules.{rules}
 use Rattle.listing.proofs.any_match.Given as goal
 
 abbrev pub invariant-loop-q : goal.invariant-loop-q

@@ -1,9 +1,7 @@
 -- `listing::append` meets its contract: seven stores at the end, or none. From the laws of the buffer.
 use Rattle.listing.proofs.Added.{adds-written, adds-over}
 use Rattle.listing.specs.Buffer.{entry_of}
-use Prim.Native.Nat.{◌-◌}
 use native.Mathlib.Omega.{arith}
-use borrow.Author.Rules.{rules}
 use lib.ListN.{length-set}
 use Rattle.listing.proofs.append.Goals as goal
 

@@ -1,8 +1,7 @@
-use Rattle.rules.proofs.Chosen.{up_to, span-chosen, none-chosen}
+use Rattle.rules.proofs.Chosen.{span-chosen, none-chosen}
 use Rattle.listing.specs.Buffer.{weights_in, chosen_answer}
 use Rattle.listing.proofs.Weights.{turn, turn-le, up-all, up_none, weights-at, chosen_at, chosen_none}
-use mathlib.Core.Path.{◌≡◌, ap, sym, ◌∙◌}
-use Prim.Native.Nat.{◌-◌, ◌≤◌}
+use mathlib.Core.Path.{ap, sym, ◌∙◌}
 use native.Mathlib.Omega.{arith}
 use borrow.Author.Rules.{rules}
 use Rattle.listing.proofs.choose.Goals as goal

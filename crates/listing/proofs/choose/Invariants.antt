@@ -1,11 +1,8 @@
 -- `listing::choose` meets its contract. The loop's invariant: the running sum does not exceed the draw.
-use Rattle.rules.proofs.Chosen.{up_to, span-chosen, none-chosen}
-use Rattle.listing.specs.Buffer.{weights_in, chosen_answer}
-use Rattle.listing.proofs.Weights.{turn, turn-le, up-all, up_none, weights-at, chosen_at, chosen_none}
-use mathlib.Core.Path.{◌≡◌, ap, sym, ◌∙◌}
+use Rattle.rules.proofs.Chosen.{up_to}
+use Rattle.listing.specs.Buffer.{weights_in}
+use mathlib.Core.Path.{◌≡◌}
 use Prim.Native.Nat.{◌-◌, ◌≤◌}
-use native.Mathlib.Omega.{arith}
-use borrow.Author.Rules.{rules}
 use Rattle.listing.proofs.choose.Given as goal
 
 abbrev pub invariant-loop-i : goal.invariant-loop-i

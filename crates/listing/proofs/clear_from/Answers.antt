@@ -1,9 +1,8 @@
-use Rattle.listing.proofs.Cleared.{mix, target, cleared-none, cleared-up, cleared-all}
-use mathlib.Core.Path.{◌≡◌, refl, ◌∙◌}
-use Prim.Native.Nat.{◌-◌, ◌≤◌}
+use Rattle.listing.proofs.Cleared.{cleared-none, cleared-up, cleared-all}
+use mathlib.Core.Path.{refl, ◌∙◌}
 use native.Mathlib.Omega.{arith}
 use borrow.Author.Rules.{rules}
-use lib.ListN.{length, length-set}
+use lib.ListN.{length-set}
 use Rattle.listing.proofs.clear_from.Goals as goal
 
 pub loop-i-init : goal.loop-i-init

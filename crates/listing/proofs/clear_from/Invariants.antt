@@ -1,10 +1,8 @@
 -- `listing::clear_from` meets its contract. The loop's invariant: zeros from the start on, up to i.
-use Rattle.listing.proofs.Cleared.{mix, target, cleared-none, cleared-up, cleared-all}
-use mathlib.Core.Path.{◌≡◌, refl, ◌∙◌}
+use Rattle.listing.proofs.Cleared.{mix, target}
+use mathlib.Core.Path.{◌≡◌}
 use Prim.Native.Nat.{◌-◌, ◌≤◌}
-use native.Mathlib.Omega.{arith}
-use borrow.Author.Rules.{rules}
-use lib.ListN.{length, length-set}
+use lib.ListN.{length}
 use Rattle.listing.proofs.clear_from.Given as goal
 
 abbrev pub invariant-loop-i : goal.invariant-loop-i

@@ -1,6 +1,5 @@
 -- `listing::clear_unused` meets its contract: by what the listing answered.
 use native.Mathlib.Omega.{arith}
-use borrow.Author.Rules.{rules}
 use Rattle.listing.specs.Buffer.{used_numbers}
 use Rattle.listing.proofs.Finished.{used-count}
 use Rattle.listing.proofs.clear_unused.Goals as goal

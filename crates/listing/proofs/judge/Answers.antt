@@ -1,7 +1,6 @@
 -- `listing::judge` meets its contract: 13, then 14 by the total. From the laws of the finished buffer.
 use mathlib.Core.Path.{sym, ◌∙◌}
 use native.Mathlib.Omega.{arith}
-use borrow.Author.Rules.{rules}
 use Rattle.listing.proofs.Finished.{many, heavy, fine}
 use Rattle.listing.proofs.judge.Goals as goal
 

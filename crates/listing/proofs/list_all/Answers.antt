@@ -1,6 +1,5 @@
 -- `listing::list_all` meets its contract: tables of all rows are never full.
 use Rattle.listing.proofs.AllRows.{all_done, not_full}
-use borrow.Author.Rules.{rules}
 use Rattle.listing.proofs.list_all.Goals as goal
 
 pub returns-in-Done : goal.returns-in-Done

@@ -1,9 +1,6 @@
 -- `listing::list_alone` meets its contract: one entry is added.
-use Rattle.listing.proofs.append.Reads as append-reads
 use Rattle.listing.specs.Buffer.{entry_of}
 use mathlib.Core.Path.{◌∙◌}
-use Prim.Native.Nat.{◌-◌}
-use borrow.Author.Rules.{rules}
 use Rattle.listing.proofs.list_alone.Goals as goal
 
 pub append-requires : goal.append-requires

@@ -1,22 +1,9 @@
-use Rattle.listing.proofs.list_pair.Reads as list-pair-reads
-use Rattle.model.specs.Resolved
-use Rattle.rules.specs.Offers as offers
-use Rattle.machine.specs.State.{State}
-use Rattle.machine.specs.Machine.{entry_limit, listing_length}
-use Rattle.eval.specs.Shown.{ShowsQuery}
-use Rattle.offers.specs.Slots.{up_to, at_number}
-use Rattle.offers.specs.Collect.{World}
-use Rattle.listing.specs.Buffer.{Adds}
-use Rattle.listing.specs.Ready.{RunIs, bound_at}
 use Rattle.listing.proofs.Added.{adds_none, adds_then}
 use Rattle.listing.proofs.Pairs.{some_pair}
 use Rattle.listing.proofs.Runs.{bound-start, bound-next, bound-end}
-use mathlib.Core.Path.{◌≡◌, sym}
-use mathlib.Core.List.{List}
-use Prim.Native.Nat.{ℕ, suc, ◌-◌, ◌≤◌}
+use mathlib.Core.Path.{sym}
 use native.Mathlib.Omega.{arith}
 use borrow.Author.Rules.{rules}
-use lib.ListN.{length}
 use Rattle.listing.proofs.list_bound.Goals as goal
 
 pub loop-q-init : goal.loop-q-init

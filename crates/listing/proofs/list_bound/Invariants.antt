@@ -1,5 +1,4 @@
 -- `listing::list_bound` meets its contract. The loop's invariant: the entries of the pairs before q are added.
-use Rattle.listing.proofs.list_pair.Reads as list-pair-reads
 use Rattle.model.specs.Resolved
 use Rattle.rules.specs.Offers as offers
 use Rattle.machine.specs.State.{State}
@@ -9,14 +8,9 @@ use Rattle.offers.specs.Slots.{up_to, at_number}
 use Rattle.offers.specs.Collect.{World}
 use Rattle.listing.specs.Buffer.{Adds}
 use Rattle.listing.specs.Ready.{RunIs, bound_at}
-use Rattle.listing.proofs.Added.{adds_none, adds_then}
-use Rattle.listing.proofs.Pairs.{some_pair}
-use Rattle.listing.proofs.Runs.{bound-start, bound-next, bound-end}
-use mathlib.Core.Path.{◌≡◌, sym}
+use mathlib.Core.Path.{◌≡◌}
 use mathlib.Core.List.{List}
 use Prim.Native.Nat.{ℕ, suc, ◌-◌, ◌≤◌}
-use native.Mathlib.Omega.{arith}
-use borrow.Author.Rules.{rules}
 use lib.ListN.{length}
 use Rattle.listing.proofs.list_bound.Given as goal
 

@@ -1,6 +1,5 @@
 -- `listing::list_here` meets its contract: by small tables, or by large ones.
 use Rattle.listing.proofs.AllRows.{all_done}
-use borrow.Author.Rules.{rules}
 use Rattle.listing.proofs.list_here.Goals as goal
 
 pub returns-in-Done : goal.returns-in-Done

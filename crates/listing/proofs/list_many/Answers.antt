@@ -1,6 +1,5 @@
 -- `listing::list_many` meets its contract: its tables have all rows.
 use mathlib.Core.Path.{refl}
-use borrow.Author.Rules.{rules}
 use Rattle.listing.proofs.list_many.Goals as goal
 
 pub list_all-requires : goal.list_all-requires

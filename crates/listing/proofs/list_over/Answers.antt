@@ -1,6 +1,5 @@
 -- `listing::list_over` meets its contract: tables of all rows are never full.
 use native.Mathlib.Omega.{arith}
-use borrow.Author.Rules.{rules}
 use Rattle.listing.proofs.Finished.{all-led, not_short}
 use Rattle.listing.proofs.list_over.Goals as goal
 

@@ -1,13 +1,9 @@
 -- `listing::list_pair` meets its contract: one entry, or none. From the laws of runs.
-use Rattle.listing.proofs.append.Reads as append-reads
-use Rattle.listing.proofs.pair_matches.Reads as pair-matches-reads
 use Rattle.state.proofs.Tests.{refused, passed}
 use Rattle.listing.specs.Buffer.{entry_of}
 use Rattle.listing.proofs.Added.{adds_none}
 use Rattle.listing.proofs.Runs.{matches-on, bound-yes, bound-no}
 use mathlib.Core.Path.{sym, ◌∙◌}
-use Prim.Native.Nat.{◌-◌}
-use borrow.Author.Rules.{rules}
 use Rattle.listing.proofs.list_pair.Goals as goal
 
 pub pair_matches-requires : goal.pair_matches-requires

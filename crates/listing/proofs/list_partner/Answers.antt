@@ -1,16 +1,11 @@
 -- `listing::list_partner` meets its contract: by place, then by matching. From the laws of partners.
-use Rattle.listing.proofs.append.Reads as append-reads
-use Rattle.listing.proofs.row_matches.Reads as row-matches-reads
-use Rattle.offers.proofs.branch_in.Reads as branch-in-reads
-use Rattle.offers.proofs.place_in.Reads as place-in-reads
-use Rattle.offers.proofs.rate_in.Reads as rate-in-reads
 use Rattle.state.proofs.Tests.{refused, passed}
 use Rattle.offers.specs.Table.{offer_in}
 use Rattle.listing.specs.Buffer.{entry_of}
 use Rattle.listing.proofs.Added.{adds_none}
 use Rattle.listing.proofs.Partners.{some-row, taken, partner-self, partner-out, partner-in, rates-fit}
 use mathlib.Core.Path.{sym, ◌∙◌}
-use Prim.Native.Nat.{◌-◌, ◌<◌}
+use Prim.Native.Nat.{◌<◌}
 use native.Mathlib.Omega.{arith}
 use borrow.Author.Rules.{rules}
 use lib.ListN.{length}

@@ -1,7 +1,4 @@
 -- `listing::list_partners` meets its contract. The loop's invariant: the partners before `row` are added, and `row` is in the bucket.
-use Rattle.listing.proofs.list_partner.Reads as list-partner-reads
-use Rattle.offers.proofs.bucket_of.Reads as bucket-of-reads
-use Rattle.value.proofs.Kit.{back}
 use Rattle.model.specs.Resolved
 use Rattle.rules.specs.Offers as offers
 use Rattle.machine.specs.State.{State}
@@ -9,19 +6,13 @@ use Rattle.machine.specs.Machine.{entry_limit, listing_length}
 use Rattle.eval.specs.Shown.{ShowsPair}
 use Rattle.offers.specs.Slots.{partner_of, up_to, at_number}
 use Rattle.offers.specs.Walk.{slots_of}
-use Rattle.offers.proofs.Numbered.{up_none}
 use Rattle.listing.specs.Buffer.{Adds}
 use Rattle.listing.specs.Ready.{Ready}
-use Rattle.listing.proofs.Added.{adds_none, adds_then}
-use Rattle.listing.proofs.Partners.{rows_few, some-row, partners-lead, partners-next, partners-all}
-use Rattle.offers.specs.Links.{InBucket, Leads}
-use mathlib.Core.Path.{subst}
-use mathlib.Core.Path.{◌≡◌, ◌∙◌}
+use Rattle.offers.specs.Links.{InBucket}
+use mathlib.Core.Path.{◌≡◌}
 use mathlib.Core.List.{List}
 use Prim.Native.Nat.{ℕ, suc, ◌-◌, ◌≤◌, ◌<◌}
-use native.Mathlib.Omega.{arith}
-use borrow.Author.Rules.{rules}
-use lib.ListN.{length, get_or}
+use lib.ListN.{length}
 use Rattle.listing.proofs.list_partners.Given as goal
 
 abbrev pub invariant-loop-row : goal.invariant-loop-row

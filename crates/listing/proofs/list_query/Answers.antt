@@ -1,15 +1,8 @@
 -- `listing::list_query` meets its contract: by kind and by whether a pair matches. From the laws of queries.
-use Rattle.listing.proofs.any_match.Reads as any-match-reads
-use Rattle.listing.proofs.list_alone.Reads as list-alone-reads
-use Rattle.listing.proofs.list_bound.Reads as list-bound-reads
-use Rattle.listing.proofs.run_of.Reads as run-of-reads
-use Rattle.offers.proofs.locals_of.Reads as locals-of-reads
 use Rattle.listing.proofs.Added.{adds_none}
 use Rattle.listing.proofs.Ranges.{count-two}
 use Rattle.listing.proofs.Queries.{asked, place-values, run_fits, when-yes, when-no, unless-yes, unless-no}
 use mathlib.Core.Path.{sym, ◌∙◌}
-use Prim.Native.Nat.{◌-◌}
-use borrow.Author.Rules.{rules}
 use Rattle.listing.proofs.list_query.Goals as goal
 
 pub locals_of-locals-requires : goal.locals_of-locals-requires

@@ -1,10 +1,4 @@
 -- `listing::list_row` meets its contract: by the kind of the row's action. From the laws of rows.
-use Rattle.listing.proofs.list_alone.Reads as list-alone-reads
-use Rattle.listing.proofs.list_partners.Reads as list-partners-reads
-use Rattle.listing.proofs.list_query.Reads as list-query-reads
-use Rattle.offers.proofs.branch_in.Reads as branch-in-reads
-use Rattle.offers.proofs.offer_at.Reads as offer-at-reads
-use Rattle.offers.proofs.place_in.Reads as place-in-reads
 use Rattle.eval.specs.declared.offer.Offer.{Offer}
 use Rattle.offers.specs.Table.{offer_in, locals_of}
 use Rattle.offers.proofs.Offered.{action-kinds}
@@ -12,7 +6,7 @@ use Rattle.listing.proofs.Added.{adds_none}
 use Rattle.listing.proofs.Partners.{some-row, row-place}
 use Rattle.listing.proofs.AllRows.{alone_of, high-of, sends, slot_of, below_last, rate-act}
 use mathlib.Core.Path.{ap, ◌∙◌}
-use Prim.Native.Nat.{◌-◌, ◌<◌}
+use Prim.Native.Nat.{◌<◌}
 use native.Mathlib.Omega.{arith}
 use borrow.Author.Rules.{rules}
 use lib.ListN.{length}

@@ -1,22 +1,11 @@
-use Rattle.listing.proofs.list_row.Reads as list-row-reads
-use Rattle.model.specs.Resolved
-use Rattle.machine.specs.State.{State}
-use Rattle.machine.specs.Offer.{branches}
-use Rattle.machine.specs.Machine.{entry_limit, listing_length}
-use Rattle.offers.specs.Slots.{of_slot, up_to, at_number}
-use Rattle.offers.specs.Walk.{slots_of}
+use Rattle.offers.specs.Slots.{up_to}
 use Rattle.offers.proofs.Numbered.{up_none}
-use Rattle.listing.specs.Buffer.{Adds}
-use Rattle.listing.specs.Ready.{Ready}
 use Rattle.listing.proofs.Added.{adds_none, adds_then}
 use Rattle.listing.proofs.Partners.{some-row}
 use Rattle.listing.proofs.AllRows.{entries-up, rows_next, adds-stop}
-use mathlib.Core.Path.{◌≡◌, refl}
-use mathlib.Core.List.{List}
-use Prim.Native.Nat.{ℕ, suc, ◌-◌, ◌≤◌}
+use mathlib.Core.Path.{refl}
 use native.Mathlib.Omega.{arith}
 use borrow.Author.Rules.{rules}
-use lib.ListN.{length}
 use Rattle.listing.proofs.list_rows.Goals as goal
 
 pub loop-row-init : goal.loop-row-init

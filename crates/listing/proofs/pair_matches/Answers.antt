@@ -1,6 +1,4 @@
 -- `listing::pair_matches` meets its contract: the values stand in the pair's row. From the laws of pairs.
-use Rattle.listing.proofs.values_match.Reads as values-match-reads
-use Rattle.state.proofs.pair_row.Reads as pair-row-reads
 use Rattle.value.proofs.Kit.{back}
 use Rattle.state.proofs.Read.{few-pairs}
 use Rattle.offers.proofs.Places.{passed}

@@ -1,8 +1,4 @@
 -- `listing::row_matches` meets its contract: channel, then values. From the laws of matching.
-use Rattle.listing.proofs.values_match.Reads as values-match-reads
-use Rattle.offers.proofs.locals_of.Reads as locals-of-reads
-use Rattle.offers.proofs.offer_at.Reads as offer-at-reads
-use Rattle.offers.proofs.place_in.Reads as place-in-reads
 use Rattle.value.proofs.Kit.{back}
 use Rattle.state.specs.Read.{process_count}
 use Rattle.state.proofs.Tests.{refused, passed}
@@ -10,7 +6,7 @@ use Rattle.offers.specs.Table.{offer_in}
 use Rattle.listing.proofs.Partners.{some-row, row-place, taken}
 use Rattle.listing.proofs.Queries.{place-values, other-channel, one-channel, sent-values}
 use mathlib.Core.Path.{sym, ◌∙◌}
-use Prim.Native.Nat.{◌-◌, ◌<◌}
+use Prim.Native.Nat.{◌<◌}
 use native.Mathlib.Omega.{arith}
 use borrow.Author.Rules.{rules}
 use lib.ListN.{length}

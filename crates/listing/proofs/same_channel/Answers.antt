@@ -1,6 +1,5 @@
 -- Four numbers each, compared one after the other. From the laws of matching.
 use mathlib.Core.Path.{sym, ◌∙◌}
-use borrow.Author.Rules.{rules}
 use Rattle.value.proofs.Kit.{back}
 use Rattle.state.proofs.Tests.{refused, passed}
 use Rattle.listing.proofs.Matching.{shapes-differ, firsts-differ, seconds-differ, thirds-tell}

@@ -2,11 +2,8 @@
 use Rattle.rules.proofs.Chosen.{up_to}
 use Rattle.machine.specs.Machine.{total_limit}
 use Rattle.listing.specs.Buffer.{weights_in}
-use Rattle.listing.proofs.Weights.{turn, turn-le, up-all, up_none, over, sums}
-use mathlib.Core.Path.{◌≡◌, sym}
+use mathlib.Core.Path.{◌≡◌}
 use Prim.Native.Nat.{◌-◌, ◌≤◌}
-use native.Mathlib.Omega.{arith}
-use borrow.Author.Rules.{rules}
 use Rattle.listing.proofs.total_of.Given as goal
 
 abbrev pub invariant-loop-i : goal.invariant-loop-i

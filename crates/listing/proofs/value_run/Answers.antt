@@ -1,6 +1,5 @@
 -- Both searches, with the low end and with the high end of the range.
 use native.Mathlib.Omega.{arith}
-use borrow.Author.Rules.{rules}
 use lib.ListN.{length-set}
 use mir.Syntax.{w64}
 use mir.Facts.{to_z_pos, to_z-of_z}

@@ -1,11 +1,9 @@
 -- `listing::values_match` meets its contract: counts, then the first set, then the second. From the laws of matching.
-use Rattle.eval.proofs.offer.in_offer_set.Reads as in-offer-set-reads
 use mir.Facts.{to_z-of_z}
 use Rattle.value.proofs.Kit.{back}
 use Rattle.state.proofs.Tests.{refused, passed}
 use Rattle.listing.proofs.Matching.{first-set, second-set, counts-differ, first_out, only-in, second-tells}
 use mathlib.Core.Path.{sym, ◌∙◌}
-use Prim.Native.Nat.{◌-◌}
 use native.Mathlib.Omega.{arith}
 use Rattle.listing.proofs.values_match.Goals as goal
 

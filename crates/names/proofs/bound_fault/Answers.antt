@@ -1,6 +1,5 @@
 -- `names::bound_fault` meets its contract: by the question.
 use native.Mathlib.Omega.{arith}
-use borrow.Author.Rules.{rules}
 use Rattle.names.proofs.Repeats.{bound-inside, fresh-bound, bound-limits, bound-fresh, bound-even, bound-uneven}
 use Rattle.names.proofs.bound_fault.Goals as goal
 

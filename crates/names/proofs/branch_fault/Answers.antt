@@ -1,5 +1,4 @@
 -- `names::branch_fault` meets its contract: by the question; only 7 asks about branches.
-use borrow.Author.Rules.{rules}
 use Rattle.names.proofs.Scopes.{branch-fresh, branch-given, branch-within, branch-crowded}
 use Rattle.names.proofs.branch_fault.Goals as goal
 

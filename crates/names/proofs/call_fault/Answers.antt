@@ -1,5 +1,4 @@
 -- `names::call_fault` meets its contract: by the question; only 9 asks about calls.
-use borrow.Author.Rules.{rules}
 use Rattle.names.proofs.Uses.{given-call, call-limits, call-fresh, call-right, call-wrong}
 use Rattle.names.proofs.call_fault.Goals as goal
 

@@ -1,5 +1,4 @@
 -- `names::earlier` meets its contract: by which of the two answers there are, and which stands first.
-use borrow.Author.Rules.{rules}
 use Rattle.names.proofs.Earliest.{only-second, only-first, first-earlier, second-earlier}
 use Rattle.names.proofs.earlier.Goals as goal
 

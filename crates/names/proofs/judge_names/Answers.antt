@@ -2,20 +2,9 @@
 use Rattle.names.specs.declared.Question.TheVariants.{Fresh, Given}
 use Rattle.names.proofs.Grounds.{kinds-there}
 use Rattle.names.proofs.Judging.{limits-ready, names-ready, judged-beyond, judged-new, judged-given, judged-passed}
-use Rattle.names.proofs.earlier.Reads as earlier-reads
-use Rattle.names.proofs.lists_of.Reads as lists-of-reads
-use Rattle.names.proofs.walk.tree_fault.Reads as tree-fault-reads
-use Rattle.names.proofs.words_fault.Reads as words-fault-reads
-use mathlib.Core.Path.{◌≡◌, refl, ap, sym, ◌∙◌}
-use mathlib.Core.List.{List, [], ◌∷◌, ◌++◌}
-use mathlib.Core.Bool.{Bool, true, false, cond}
-use mathlib.Core.Logic.{⊎_elim}
-use Prim.Native.Nat.{ℕ, zero, suc, ◌+◌, ◌-◌, ◌*◌, ◌≤◌, ◌<◌}
+use mathlib.Core.Path.{refl}
 use native.Mathlib.Omega.{arith}
-use borrow.Author.Rules.{rules}
-use borrow.Author.Tests.{lt-ltb, le-ltb, le-leb, lt-leb, eq-eqb, ne_eqb}
-use lib.IntN.{ℤ, pos}
-use lib.ListN.{length, get_or, set, take, drop, replicate, length-append, length-take, length-drop, length-set, length-replicate}
+use lib.ListN.{take, length-take}
 use Rattle.names.proofs.judge_names.Goals as goal
 
 pub lists_of-lists-requires : goal.lists_of-lists-requires

@@ -1,6 +1,5 @@
 -- `names::leaf_fault` meets its contract: by the question.
 use native.Mathlib.Omega.{arith}
-use borrow.Author.Rules.{rules}
 use Rattle.names.proofs.Settled.{root_in}
 use Rattle.names.proofs.Judges.{whole-there, leaf-limits, leaf-fresh, given-leaf, leaf-given}
 use Rattle.names.proofs.leaf_fault.Goals as goal

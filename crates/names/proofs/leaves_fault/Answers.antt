@@ -1,11 +1,7 @@
-use mathlib.Core.Path.{◌≡◌, refl, ◌∙◌}
-use Prim.Native.Nat.{◌-◌}
+use mathlib.Core.Path.{refl, ◌∙◌}
 use native.Mathlib.Omega.{arith}
-use borrow.Author.Rules.{rules}
-use Rattle.model.specs.Lists.{each, least}
 use Rattle.names.specs.Faults.{earlier_of}
-use Rattle.names.specs.Leaves.{between}
-use Rattle.names.specs.Settings.{Setting, faults_at}
+use Rattle.names.specs.Settings.{faults_at}
 use Rattle.names.proofs.Judges.{leaves-on, leaves-end}
 use Rattle.names.proofs.leaves_fault.Goals as goal
 

@@ -1,13 +1,10 @@
 -- The loop's invariant: what was found and what is still to be judged give the answer for all the nodes.
-use mathlib.Core.Path.{◌≡◌, refl, ◌∙◌}
+use mathlib.Core.Path.{◌≡◌}
 use Prim.Native.Nat.{◌-◌}
-use native.Mathlib.Omega.{arith}
-use borrow.Author.Rules.{rules}
 use Rattle.model.specs.Lists.{each, least}
 use Rattle.names.specs.Faults.{earlier_of}
 use Rattle.names.specs.Leaves.{between}
 use Rattle.names.specs.Settings.{Setting, faults_at}
-use Rattle.names.proofs.Judges.{leaves-on, leaves-end}
 use Rattle.names.proofs.leaves_fault.Given as goal
 
 abbrev pub invariant-loop-i : goal.invariant-loop-i

@@ -1,9 +1,7 @@
 use mathlib.Core.Path.{refl, sym, ◌∙◌}
-use Prim.Native.Nat.{◌-◌, ◌≤◌}
 use native.Mathlib.Omega.{arith}
-use borrow.Author.Rules.{rules}
 use Rattle.names.specs.Lists.{packed, names_down}
-use Rattle.names.proofs.Lookups.{Onward, onward, place_here, place_none, down-length, down-at}
+use Rattle.names.proofs.Lookups.{onward, place_here, place_none, down-length, down-at}
 use Rattle.names.proofs.listed.Goals as goal
 
 pub loop-j-init : goal.loop-j-init

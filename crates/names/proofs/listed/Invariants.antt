@@ -1,10 +1,7 @@
 -- The loop's invariant: none of the first j names of the list is the same, so that the answer is that of the names from j on.
-use mathlib.Core.Path.{refl, sym, ◌∙◌}
 use Prim.Native.Nat.{◌-◌, ◌≤◌}
-use native.Mathlib.Omega.{arith}
-use borrow.Author.Rules.{rules}
 use Rattle.names.specs.Lists.{packed, names_down}
-use Rattle.names.proofs.Lookups.{Onward, onward, place_here, place_none, down-length, down-at}
+use Rattle.names.proofs.Lookups.{Onward}
 use Rattle.names.proofs.listed.Given as goal
 
 abbrev pub invariant-loop-j : goal.invariant-loop-j

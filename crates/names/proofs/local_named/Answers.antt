@@ -1,10 +1,8 @@
 use mathlib.Core.Path.{refl}
-use Prim.Native.Nat.{◌-◌, ◌≤◌}
 use native.Mathlib.Omega.{arith}
-use borrow.Author.Rules.{rules}
 use lib.ListN.{get_or, take}
 use Rattle.names.specs.Lists.{packed}
-use Rattle.names.proofs.Lookups.{Onward, onward, place_here, place_none, taken_at, taken-length}
+use Rattle.names.proofs.Lookups.{onward, place_here, place_none, taken_at, taken-length}
 use Rattle.names.proofs.local_named.Goals as goal
 
 pub loop-i-init : goal.loop-i-init

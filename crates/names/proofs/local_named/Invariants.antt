@@ -1,11 +1,8 @@
 -- The loop's invariant: none of the first i locals has the name, so that the answer is that of the locals from i on.
-use mathlib.Core.Path.{refl}
 use Prim.Native.Nat.{◌-◌, ◌≤◌}
-use native.Mathlib.Omega.{arith}
-use borrow.Author.Rules.{rules}
-use lib.ListN.{get_or, take}
+use lib.ListN.{take}
 use Rattle.names.specs.Lists.{packed}
-use Rattle.names.proofs.Lookups.{Onward, onward, place_here, place_none, taken_at, taken-length}
+use Rattle.names.proofs.Lookups.{Onward}
 use Rattle.names.proofs.local_named.Given as goal
 
 abbrev pub invariant-loop-i : goal.invariant-loop-i

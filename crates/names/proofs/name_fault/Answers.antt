@@ -3,7 +3,6 @@ use mathlib.Core.Path.{refl, ap, sym, ◌∙◌}
 use mathlib.Core.Bool.{true, false}
 use Prim.Native.Nat.{ℕ}
 use native.Mathlib.Omega.{arith}
-use borrow.Author.Rules.{rules}
 use lib.ListN.{get_or}
 use Rattle.tree.specs.Node.{kind_of}
 use Rattle.model.specs.Lists.{when, earlier, least}

@@ -1,5 +1,4 @@
 -- `names::over_fault` meets its contract: by whether there is room for all.
-use borrow.Author.Rules.{rules}
 use Rattle.names.proofs.Scopes.{all_fit, one-over}
 use Rattle.names.proofs.over_fault.Goals as goal
 

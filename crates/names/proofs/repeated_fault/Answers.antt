@@ -1,10 +1,7 @@
-use Prim.Native.Nat.{◌-◌, ◌≤◌}
 use native.Mathlib.Omega.{arith}
-use borrow.Author.Rules.{rules}
 use Rattle.model.specs.Lists.{every_other}
-use Rattle.names.specs.Settings.{Extended}
 use Rattle.names.proofs.Scopes.{every_more, extended_none, extended-more, every-inside}
-use Rattle.names.proofs.Repeats.{Onward, seen-setting, repeated-none, repeated-on, repeated-end}
+use Rattle.names.proofs.Repeats.{seen-setting, repeated-none, repeated-on, repeated-end}
 use Rattle.names.proofs.repeated_fault.Goals as goal
 
 pub loop-j-init : goal.loop-j-init

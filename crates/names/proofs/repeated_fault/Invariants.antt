@@ -1,11 +1,8 @@
 -- The loop's invariant: the scope has the first j names more, and what was found and what is still to be judged give the answer for all the names.
 use Prim.Native.Nat.{◌-◌, ◌≤◌}
-use native.Mathlib.Omega.{arith}
-use borrow.Author.Rules.{rules}
 use Rattle.model.specs.Lists.{every_other}
 use Rattle.names.specs.Settings.{Extended}
-use Rattle.names.proofs.Scopes.{every_more, extended_none, extended-more, every-inside}
-use Rattle.names.proofs.Repeats.{Onward, seen-setting, repeated-none, repeated-on, repeated-end}
+use Rattle.names.proofs.Repeats.{Onward}
 use Rattle.names.proofs.repeated_fault.Given as goal
 
 abbrev pub invariant-loop-j : goal.invariant-loop-j

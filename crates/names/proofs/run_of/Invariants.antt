@@ -1,10 +1,7 @@
 -- The loop's invariant: n nodes of the kind stand one after the other, and the run goes on as that of the nodes below them.
-use mathlib.Core.Path.{◌≡◌, sym, ◌∙◌}
+use mathlib.Core.Path.{◌≡◌}
 use Prim.Native.Nat.{◌+◌, ◌-◌, ◌≤◌}
-use native.Mathlib.Omega.{arith}
-use borrow.Author.Rules.{rules}
 use Rattle.names.specs.Lists.{run}
-use Rattle.names.proofs.Chains.{run-off, run-some, run-all, run_step}
 use Rattle.names.proofs.run_of.Given as goal
 
 abbrev pub invariant-loop-n : goal.invariant-loop-n

@@ -1,5 +1,4 @@
 -- `names::same_name` meets its contract: the first words are compared, then the second.
-use borrow.Author.Rules.{rules}
 use Rattle.names.proofs.Lookups.{by_first, by-second}
 use Rattle.names.proofs.same_name.Goals as goal
 

@@ -1,7 +1,6 @@
 -- `names::taken_fault` meets its contract: by what the look-ups find, first among variables, then among locals.
 use mathlib.Core.Path.{refl}
 use native.Mathlib.Omega.{arith}
-use borrow.Author.Rules.{rules}
 use Rattle.names.specs.Faults.{asks_names}
 use Rattle.names.proofs.Settled.{name-inside, in_scope, reach-variables}
 use Rattle.names.proofs.Repeats.{taken-variable, taken-local, not_taken}

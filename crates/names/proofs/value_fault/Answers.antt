@@ -1,5 +1,4 @@
 -- `names::value_fault` meets its contract: by whether there is a value.
-use borrow.Author.Rules.{rules}
 use Rattle.names.proofs.Wholes.{value_there, value-missing}
 use Rattle.names.proofs.value_fault.Goals as goal
 

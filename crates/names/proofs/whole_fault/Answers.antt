@@ -1,5 +1,4 @@
 -- `names::whole_fault` meets its contract: a number and its cap are beyond the range alike.
-use borrow.Author.Rules.{rules}
 use lib.ListN.{get_or}
 use Rattle.names.proofs.Wholes.{has_room, whole-negated, whole_plain}
 use Rattle.names.proofs.whole_fault.Goals as goal

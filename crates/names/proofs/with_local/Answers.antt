@@ -1,6 +1,5 @@
 -- `names::with_local` meets its contract: a full scope stays, any other gets the local behind its own.
 use native.Mathlib.Omega.{arith}
-use borrow.Author.Rules.{rules}
 use Rattle.names.proofs.Scopes.{extended-full, extended-one}
 use Rattle.names.proofs.with_local.Goals as goal
 

@@ -1,9 +1,6 @@
 use mathlib.Core.Path.{◌≡◌}
-use Prim.Native.Nat.{◌-◌, ◌≤◌}
 use native.Mathlib.Omega.{arith}
-use borrow.Author.Rules.{rules}
 use Rattle.model.specs.Lists.{every_other}
-use Rattle.names.specs.Settings.{Extended}
 use Rattle.names.proofs.Scopes.{every_more, extended_none, extended-more}
 use Rattle.names.proofs.with_locals.Goals as goal
 

@@ -1,11 +1,7 @@
 -- The loop's invariant: the scope has the first j of the locals more.
-use mathlib.Core.Path.{◌≡◌}
 use Prim.Native.Nat.{◌-◌, ◌≤◌}
-use native.Mathlib.Omega.{arith}
-use borrow.Author.Rules.{rules}
 use Rattle.model.specs.Lists.{every_other}
 use Rattle.names.specs.Settings.{Extended}
-use Rattle.names.proofs.Scopes.{every_more, extended_none, extended-more}
 use Rattle.names.proofs.with_locals.Given as goal
 
 abbrev pub invariant-loop-j : goal.invariant-loop-j

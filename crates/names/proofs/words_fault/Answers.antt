@@ -1,13 +1,6 @@
-use mathlib.Core.Path.{◌≡◌, refl, sym, ◌∙◌}
-use mathlib.Core.List.{List}
-use Prim.Native.Nat.{ℕ, ◌-◌, ◌≤◌}
+use mathlib.Core.Path.{refl, sym, ◌∙◌}
 use native.Mathlib.Omega.{arith}
 use borrow.Author.Rules.{rules}
-use lib.ListN.{drop}
-use Rattle.token.specs.Token.{tokens}
-use Rattle.model.specs.Lists.{least}
-use Rattle.model.specs.Limits.{words_beyond}
-use Rattle.names.specs.Tables.{Tabled}
 use Rattle.names.proofs.Beyond.{kind-inside, low-inside, high-inside, words-here, words-on, words-end}
 use Rattle.names.proofs.words_fault.Goals as goal
 

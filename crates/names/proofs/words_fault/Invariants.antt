@@ -1,15 +1,12 @@
 -- The loop's invariant: no token before i is beyond a limit, so that the answer is that of the tokens from i on.
-use mathlib.Core.Path.{◌≡◌, refl, sym, ◌∙◌}
+use mathlib.Core.Path.{◌≡◌}
 use mathlib.Core.List.{List}
 use Prim.Native.Nat.{ℕ, ◌-◌, ◌≤◌}
-use native.Mathlib.Omega.{arith}
-use borrow.Author.Rules.{rules}
 use lib.ListN.{drop}
 use Rattle.token.specs.Token.{tokens}
 use Rattle.model.specs.Lists.{least}
 use Rattle.model.specs.Limits.{words_beyond}
 use Rattle.names.specs.Tables.{Tabled}
-use Rattle.names.proofs.Beyond.{kind-inside, low-inside, high-inside, words-here, words-on, words-end}
 use Rattle.names.proofs.words_fault.Given as goal
 
 abbrev pub invariant-loop-i : goal.invariant-loop-i

@@ -4,8 +4,6 @@ use borrow.Author.Rules.{rules}
 use lib.ListN.{length}
 use Rattle.tree.specs.Node.{kind_of, left_of}
 use Rattle.offers.proofs.Branched.{lone-part, lone-collects, more_parts, more-lacks, more-full, more-collects, one-row, one-room}
-use Prim.Native.Nat.{ℕ, ◌<◌}
-use Prim.Native.Nat.{◌+◌, ◌-◌}
 use Rattle.offers.proofs.+collect_branches.Goals as goal
 
 pub collect_branch-requires : goal.collect_branch-requires

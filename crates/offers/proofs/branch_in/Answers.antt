@@ -1,6 +1,5 @@
 -- `offers::branch_in` meets its contract: a part of a head. From arithmetic alone.
 use Rattle.offers.specs.Head.{branch_in}
-use Prim.Native.Nat.{◌-◌}
 use borrow.Author.Rules.{rules}
 use Rattle.offers.proofs.branch_in.Goals as goal
 

@@ -1,7 +1,5 @@
 -- The parts of the three values added up.
-use mathlib.Core.Path.{ap, ◌∙◌}
 use native.Mathlib.Omega.{arith}
-use borrow.Author.Rules.{rules}
 use mir.Facts.{to_z-of_z}
 use Rattle.offers.specs.Links.{bucket_of}
 use Rattle.offers.proofs.bucket_of.Goals as goal

@@ -1,17 +1,12 @@
 -- `offers::collect` meets its contract. The loop's invariant: the places before are collected, and none of them lacks a value.
-use Rattle.offers.proofs.collect_place.Reads as collect-place-reads
-use Rattle.state.proofs.process_count.Reads as process-count-reads
 use Rattle.model.specs.Resolved
 use Rattle.model.specs.Limits.{branch_limit}
 use Rattle.machine.specs.State.{State}
-use Rattle.state.specs.Read.{process_count}
 use Rattle.offers.specs.Links.{row_width}
 use Rattle.offers.specs.Collect.{World}
-use Rattle.offers.proofs.Places.{passed, places-are, some-place, Progress, progress-none, next-rows, next-room, progress-more, progress-lacks, progress-full, progress-all}
-use mathlib.Core.Path.{◌≡◌, refl}
-use Prim.Native.Nat.{◌-◌, ◌*◌, ◌≤◌, ◌<◌}
-use native.Mathlib.Omega.{arith}
-use borrow.Author.Rules.{rules}
+use Rattle.offers.proofs.Places.{Progress}
+use mathlib.Core.Path.{◌≡◌}
+use Prim.Native.Nat.{◌-◌, ◌*◌, ◌≤◌}
 use lib.ListN.{length}
 use Rattle.offers.proofs.collect.Given as goal
 

@@ -1,9 +1,6 @@
 -- `offers::collect_branch` meets its contract: by the kind of its offer. From the laws of offers.
-use Rattle.eval.proofs.offer.offer_of.Reads as offer-of-reads
-use Rattle.offers.proofs.put_offer.Reads as put-offer-reads
 use Rattle.offers.specs.Collect.{full}
 use Rattle.offers.proofs.Offered.{fits_head, one-lacks, one-hidden, one-put}
-use Prim.Native.Nat.{◌-◌}
 use native.Mathlib.Omega.{arith}
 use borrow.Author.Rules.{rules}
 use Rattle.offers.proofs.collect_branch.Goals as goal

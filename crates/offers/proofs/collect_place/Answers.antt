@@ -1,14 +1,11 @@
 -- `offers::collect_place` meets its contract: the process's sum, scope and locals lead to its branches. From the laws of places.
-use Rattle.offers.proofs.collect_branches.Reads as collect-branches-reads
-use Rattle.state.proofs.locals_at.Reads as locals-at-reads
-use Rattle.state.proofs.sum_at.Reads as sum-at-reads
 use Rattle.machine.specs.Offer.{branches_of}
 use Rattle.model.specs.Scope.{locals_in}
 use Rattle.state.specs.Read.{locals_at}
 use Rattle.state.proofs.Read.{few-processes}
 use Rattle.offers.proofs.Places.{passed, some-place, sum_is, sum_fits, scope-is, few-locals, locals_are, values-good, branches_at, branched}
 use mathlib.Core.Path.{◌≡◌, ap, ◌∙◌}
-use Prim.Native.Nat.{ℕ, ◌-◌, ◌<◌}
+use Prim.Native.Nat.{ℕ, ◌<◌}
 use native.Mathlib.Omega.{arith}
 use borrow.Author.Rules.{rules}
 use lib.ListN.{length, get_or}

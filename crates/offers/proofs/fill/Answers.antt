@@ -1,7 +1,6 @@
-use Rattle.state.proofs.Mix.{mix, mix_all}
+use Rattle.state.proofs.Mix.{mix_all}
 use Rattle.offers.proofs.Links.{fill-up}
-use mathlib.Core.Path.{◌≡◌, refl, ◌∙◌}
-use Prim.Native.Nat.{◌-◌, ◌≤◌}
+use mathlib.Core.Path.{refl, ◌∙◌}
 use native.Mathlib.Omega.{arith}
 use borrow.Author.Rules.{rules}
 use lib.ListN.{length, replicate, length-set, length-replicate}

@@ -1,11 +1,8 @@
 -- `offers::fill` meets its contract. The loop's invariant: filled below i, and from i on what was there.
-use Rattle.state.proofs.Mix.{mix, mix_all}
-use Rattle.offers.proofs.Links.{fill-up}
-use mathlib.Core.Path.{◌≡◌, refl, ◌∙◌}
+use Rattle.state.proofs.Mix.{mix}
+use mathlib.Core.Path.{◌≡◌}
 use Prim.Native.Nat.{◌-◌, ◌≤◌}
-use native.Mathlib.Omega.{arith}
-use borrow.Author.Rules.{rules}
-use lib.ListN.{length, replicate, length-set, length-replicate}
+use lib.ListN.{length, replicate}
 use Rattle.offers.proofs.fill.Given as goal
 
 abbrev pub invariant-loop-i : goal.invariant-loop-i

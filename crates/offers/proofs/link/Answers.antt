@@ -1,9 +1,6 @@
-use Rattle.offers.proofs.fill.Reads as fill-reads
-use Rattle.offers.proofs.link_row.Reads as link-row-reads
-use Rattle.offers.specs.Links.{bucket_limit, Linked}
 use Rattle.offers.proofs.Links.{linked-none}
 use mathlib.Core.Path.{◌≡◌, ap, ◌∙◌}
-use Prim.Native.Nat.{suc, ◌-◌, ◌≤◌}
+use Prim.Native.Nat.{suc, ◌-◌}
 use native.Mathlib.Omega.{arith}
 use borrow.Author.Rules.{rules}
 use lib.ListN.{length, length-replicate}

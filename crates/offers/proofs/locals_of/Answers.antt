@@ -1,12 +1,10 @@
 -- `offers::locals_of` meets its contract: the process's sum leads to its scope. From the laws of places.
-use Rattle.state.proofs.locals_at.Reads as locals-at-reads
-use Rattle.state.proofs.sum_at.Reads as sum-at-reads
 use Rattle.model.specs.Scope.{locals_in}
 use Rattle.state.specs.Read.{locals_at}
 use Rattle.state.proofs.Read.{few-processes}
 use Rattle.offers.proofs.Places.{passed, some-place, sum_is, sum_fits, scope-is, few-locals, locals_are, locals-of}
 use mathlib.Core.Path.{◌≡◌, ap, sym, ◌∙◌}
-use Prim.Native.Nat.{ℕ, ◌-◌, ◌<◌}
+use Prim.Native.Nat.{ℕ, ◌<◌}
 use native.Mathlib.Omega.{arith}
 use borrow.Author.Rules.{rules}
 use lib.ListN.{length, get_or}

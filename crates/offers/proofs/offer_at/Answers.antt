@@ -1,6 +1,5 @@
 -- Each part read from its place. From the law of rows.
 use Prim.Native.Nat.{◌+◌, ◌*◌}
-use borrow.Author.Rules.{rules}
 use lib.IntN.{pos}
 use lib.ListN.{get_or}
 use Rattle.value.proofs.Kit.{back}

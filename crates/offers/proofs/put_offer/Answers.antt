@@ -2,7 +2,6 @@
 use mathlib.Core.Path.{ap}
 use Prim.Native.Nat.{ℕ}
 use native.Mathlib.Omega.{arith}
-use borrow.Author.Rules.{rules}
 use lib.ListN.{set, length-set}
 use Rattle.value.proofs.Kit.{back}
 use Rattle.offers.specs.Table.{head_of, written_from, written}

@@ -1,6 +1,5 @@
 -- `offers::rate_in` meets its contract: the highest part of a head. From arithmetic alone.
 use Rattle.offers.specs.Head.{rate_in}
-use Prim.Native.Nat.{◌-◌}
 use borrow.Author.Rules.{rules}
 use Rattle.offers.proofs.rate_in.Goals as goal
 

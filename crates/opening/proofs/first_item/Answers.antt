@@ -1,5 +1,4 @@
 -- A case for each return, from System.antt.
-use borrow.Author.Rules.{rules}
 use Rattle.opening.proofs.System.{first-left, first-itself}
 use Rattle.opening.proofs.first_item.Goals as goal
 

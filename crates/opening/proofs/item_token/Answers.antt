@@ -1,7 +1,6 @@
 -- A case for each return, from System.antt; a name with a count has two tokens before it.
 use Prim.Native.Nat.{◌≤◌}
 use native.Mathlib.Omega.{arith}
-use borrow.Author.Rules.{rules}
 use Rattle.tree.specs.Node.{token_of}
 use Rattle.opening.specs.System.{before_name}
 use Rattle.opening.proofs.System.{name-first, count-first}

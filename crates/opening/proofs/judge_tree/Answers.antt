@@ -1,5 +1,4 @@
 -- A case for each return, from Judges.antt.
-use borrow.Author.Rules.{rules}
 use Rattle.opening.proofs.Judges.{beyond-no, new-no, given-no, names-yes}
 use Rattle.opening.proofs.judge_tree.Goals as goal
 

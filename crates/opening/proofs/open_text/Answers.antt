@@ -1,5 +1,4 @@
 -- A case for each return, from Models.antt: 10 is asked of the model.
-use borrow.Author.Rules.{rules}
 use Rattle.opening.proofs.Models.{held-no, held-model}
 use Rattle.opening.proofs.open_text.Goals as goal
 

@@ -1,5 +1,4 @@
 -- A case for each return, from Models.antt: the tree is refused, or its names are asked.
-use borrow.Author.Rules.{rules}
 use Rattle.opening.proofs.Marked.{fits-marked, model-unmarked, model-marked}
 use Rattle.opening.proofs.Models.{tree-no, tree-fits}
 use Rattle.opening.proofs.read_model.Goals as goal

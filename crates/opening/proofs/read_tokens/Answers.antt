@@ -1,6 +1,5 @@
 -- A case for each return, from Trees.antt; the tables that were filled have room for what the calls read.
 use native.Mathlib.Omega.{arith}
-use borrow.Author.Rules.{rules}
 use lib.ListN.{length-take}
 use Rattle.token.proofs.Tells.{filled-held}
 use Rattle.token.proofs.Up.{token-count}

@@ -1,6 +1,5 @@
 -- A case for each return: the bytes are refused, or the tokens are read.
 use mathlib.Core.Path.{sym, ◌∙◌}
-use borrow.Author.Rules.{rules}
 use Rattle.opening.proofs.Trees.{bytes-no}
 use Rattle.opening.proofs.Marked.{tree-unmarked, tree-marked}
 use Rattle.opening.proofs.read_tree.Goals as goal

@@ -1,5 +1,4 @@
 -- A case for each return, from Models.antt; a sound text can be settled.
-use borrow.Author.Rules.{rules}
 use Rattle.opening.proofs.Resolves.{can-settle, settled-so, settles-so}
 use Rattle.opening.proofs.Models.{named-no, named-sound, named-yes}
 use Rattle.opening.proofs.settle_tree.Goals as goal

@@ -1,6 +1,5 @@
 -- The seven numbers of a row.
 use mathlib.Core.Path.{refl}
-use borrow.Author.Rules.{rules}
 use Rattle.listing.specs.Buffer.{entry_of}
 use Rattle.running.specs.Taking.{entry_in}
 use Rattle.running.proofs.entry_at.Goals as goal

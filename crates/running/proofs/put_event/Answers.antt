@@ -1,7 +1,6 @@
 -- Eight stores.
 use mathlib.Core.Path.{refl}
 use native.Mathlib.Omega.{arith}
-use borrow.Author.Rules.{rules}
 use lib.ListN.{length-set}
 use Rattle.running.specs.Taking.{entry_in}
 use Rattle.running.specs.Progress.{written}

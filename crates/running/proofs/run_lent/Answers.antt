@@ -1,13 +1,7 @@
-use mathlib.Core.Path.{◌≡◌, refl, ap}
-use Prim.Native.Nat.{◌-◌, ◌*◌}
+use mathlib.Core.Path.{refl, ap}
 use native.Mathlib.Omega.{arith}
-use borrow.Author.Rules.{rules}
-use lib.ListN.{length}
-use Rattle.machine.specs.Machine.{listing_length}
-use Rattle.offers.specs.Links.{row_limit, row_width, bucket_limit}
-use Rattle.step.specs.Enter.{fresh_length}
 use Rattle.running.specs.declared.Progress.{Progress}
-use Rattle.running.proofs.Steps.{Loop, loop-begins, some-run, has_room, all-taken, run-over, run_on, fewer-left}
+use Rattle.running.proofs.Steps.{loop-begins, some-run, has_room, all-taken, run-over, run_on, fewer-left}
 use Rattle.running.proofs.run_lent.Goals as goal
 
 pub loop-p-init : goal.loop-p-init

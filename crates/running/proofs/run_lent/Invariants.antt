@@ -1,14 +1,11 @@
 -- The loop's invariant: the run so far comes to what the whole run does. The measure is the steps left.
-use mathlib.Core.Path.{◌≡◌, refl, ap}
+use mathlib.Core.Path.{◌≡◌}
 use Prim.Native.Nat.{◌-◌, ◌*◌}
-use native.Mathlib.Omega.{arith}
-use borrow.Author.Rules.{rules}
 use lib.ListN.{length}
 use Rattle.machine.specs.Machine.{listing_length}
 use Rattle.offers.specs.Links.{row_limit, row_width, bucket_limit}
 use Rattle.step.specs.Enter.{fresh_length}
-use Rattle.running.specs.declared.Progress.{Progress}
-use Rattle.running.proofs.Steps.{Loop, loop-begins, some-run, has_room, all-taken, run-over, run_on, fewer-left}
+use Rattle.running.proofs.Steps.{Loop}
 use Rattle.running.proofs.run_lent.Given as goal
 
 abbrev pub invariant-loop-p : goal.invariant-loop-p

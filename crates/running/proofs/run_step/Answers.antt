@@ -1,5 +1,4 @@
 -- 12 to 14, or the rest of the step over the listing.
-use borrow.Author.Rules.{rules}
 use Rattle.running.proofs.Steps.{world, refused-by, lists-by, refused-ends}
 use Rattle.running.proofs.run_step.Goals as goal
 

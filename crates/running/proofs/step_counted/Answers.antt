@@ -1,6 +1,5 @@
 -- 15, the end of the words, or the step with the draw that they give.
 use native.Mathlib.Omega.{arith}
-use borrow.Author.Rules.{rules}
 use Rattle.running.proofs.Taking.{rest_of}
 use Rattle.running.proofs.Steps.{dead-ends, words-ends, drawn-so, used-fits}
 use Rattle.running.proofs.step_counted.Goals as goal

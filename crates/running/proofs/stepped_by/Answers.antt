@@ -1,7 +1,6 @@
 -- By what the entry came to, and by the number of the clock's answer.
 use mathlib.Core.Path.{◌≡◌, refl}
 use native.Mathlib.Omega.{arith}
-use borrow.Author.Rules.{rules}
 use borrow.Author.Tests.{eq-eqb, ne_eqb}
 use Rattle.running.specs.Taking.{stepped_by}
 use Rattle.running.proofs.stepped_by.Goals as goal

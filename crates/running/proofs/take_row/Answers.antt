@@ -1,6 +1,5 @@
 -- The entry is one of the listing, and so one of the state's.
 use mathlib.Core.Path.{◌≡◌, ◌∙◌}
-use borrow.Author.Rules.{rules}
 use Rattle.rules.specs.Listing.{key_of}
 use Rattle.listing.specs.Buffer.{entry_of}
 use Rattle.running.proofs.Taking.{row_fits, row_is, row_in}

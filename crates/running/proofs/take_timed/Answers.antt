@@ -1,5 +1,4 @@
 -- 16, and the entry that the draw chooses.
-use borrow.Author.Rules.{rules}
 use Rattle.running.proofs.Taking.{can-choose, row_of, none-chosen, entry-chosen}
 use Rattle.running.proofs.take_timed.Goals as goal
 

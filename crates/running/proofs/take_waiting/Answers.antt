@@ -1,6 +1,5 @@
 -- 23 to 25 are known before the entry is taken; they refuse an entry that 17 to 19 accept, and the state is kept.
 use mathlib.Core.Path.{◌∙◌}
-use borrow.Author.Rules.{rules}
 use Rattle.rules.specs.Listing.{key_of}
 use Rattle.running.proofs.Taking.{row-numbers, waited, unwaited}
 use Rattle.running.proofs.take_waiting.Goals as goal

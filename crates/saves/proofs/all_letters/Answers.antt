@@ -1,10 +1,7 @@
-use mathlib.Core.Path.{◌≡◌, refl, ap, sym, ◌∙◌}
-use Prim.Native.Nat.{◌-◌, ◌≤◌}
+use mathlib.Core.Path.{refl, ap, sym, ◌∙◌}
 use native.Mathlib.Omega.{arith}
 use borrow.Author.Rules.{rules}
-use lib.ListN.{length, drop}
 use Rattle.machine.specs.Saves.{is_letter}
-use Rattle.state.specs.Test.{every}
 use Rattle.state.proofs.Tests.{refused, passed, every-fails, every-on, every-done}
 use Rattle.saves.proofs.all_letters.Goals as goal
 

@@ -1,12 +1,9 @@
 -- The loop's invariant: the test of the rest gives the answer for all. The measure is what is left.
-use mathlib.Core.Path.{◌≡◌, refl, ap, sym, ◌∙◌}
+use mathlib.Core.Path.{◌≡◌}
 use Prim.Native.Nat.{◌-◌, ◌≤◌}
-use native.Mathlib.Omega.{arith}
-use borrow.Author.Rules.{rules}
 use lib.ListN.{length, drop}
 use Rattle.machine.specs.Saves.{is_letter}
 use Rattle.state.specs.Test.{every}
-use Rattle.state.proofs.Tests.{refused, passed, every-fails, every-on, every-done}
 use Rattle.saves.proofs.all_letters.Given as goal
 
 abbrev pub invariant-loop-i : goal.invariant-loop-i

@@ -1,10 +1,8 @@
-use mathlib.Core.Path.{◌≡◌, ap, sym, ◌∙◌}
-use Prim.Native.Nat.{◌-◌, ◌*◌, ◌≤◌}
+use mathlib.Core.Path.{ap, sym, ◌∙◌}
 use native.Mathlib.Omega.{arith}
 use borrow.Author.Rules.{rules}
-use lib.ListN.{drop, length-take, length-drop}
+use lib.ListN.{length-take, length-drop}
 use Rattle.machine.specs.Saves.{save_limit, place_width}
-use Rattle.state.specs.Test.{rows}
 use Rattle.state.proofs.Tests.{refused, passed, rows_all}
 use Rattle.saves.specs.Places.{are_once}
 use Rattle.saves.proofs.Laws.{once-fail, once-on, once-done, once-part}

@@ -1,14 +1,10 @@
 -- The loop's invariant: the test of the places from i on gives the answer for all. The measure is what is left.
-use mathlib.Core.Path.{◌≡◌, ap, sym, ◌∙◌}
+use mathlib.Core.Path.{◌≡◌}
 use Prim.Native.Nat.{◌-◌, ◌*◌, ◌≤◌}
-use native.Mathlib.Omega.{arith}
-use borrow.Author.Rules.{rules}
-use lib.ListN.{drop, length-take, length-drop}
+use lib.ListN.{drop}
 use Rattle.machine.specs.Saves.{save_limit, place_width}
 use Rattle.state.specs.Test.{rows}
-use Rattle.state.proofs.Tests.{refused, passed, rows_all}
 use Rattle.saves.specs.Places.{are_once}
-use Rattle.saves.proofs.Laws.{once-fail, once-on, once-done, once-part}
 use Rattle.saves.proofs.are_once.Given as goal
 
 abbrev pub invariant-loop-i : goal.invariant-loop-i

@@ -1,10 +1,10 @@
-use mathlib.Core.Path.{◌≡◌, ap, sym, ◌∙◌}
-use Prim.Native.Nat.{◌-◌, ◌*◌, ◌≤◌}
+use mathlib.Core.Path.{ap, sym, ◌∙◌}
+use Prim.Native.Nat.{◌*◌}
 use native.Mathlib.Omega.{arith}
 use borrow.Author.Rules.{rules}
-use lib.ListN.{take, drop, length-take, length-drop}
+use lib.ListN.{take, length-take, length-drop}
 use Rattle.machine.specs.Saves.{save_limit, place_width}
-use Rattle.state.specs.Test.{every, rows}
+use Rattle.state.specs.Test.{every}
 use Rattle.state.proofs.Part.{width-part}
 use Rattle.state.proofs.Tests.{refused, passed, rows_all, rows-fail, rows_on, rows-done}
 use Rattle.saves.specs.Places.{is_place}

@@ -1,13 +1,9 @@
 -- The loop's invariant: the test of the places from i on gives the answer for all. The measure is what is left.
-use mathlib.Core.Path.{◌≡◌, ap, sym, ◌∙◌}
+use mathlib.Core.Path.{◌≡◌}
 use Prim.Native.Nat.{◌-◌, ◌*◌, ◌≤◌}
-use native.Mathlib.Omega.{arith}
-use borrow.Author.Rules.{rules}
-use lib.ListN.{take, drop, length-take, length-drop}
+use lib.ListN.{take, drop}
 use Rattle.machine.specs.Saves.{save_limit, place_width}
 use Rattle.state.specs.Test.{every, rows}
-use Rattle.state.proofs.Part.{width-part}
-use Rattle.state.proofs.Tests.{refused, passed, rows_all, rows-fail, rows_on, rows-done}
 use Rattle.saves.specs.Places.{is_place}
 use Rattle.saves.proofs.are_places.Given as goal
 

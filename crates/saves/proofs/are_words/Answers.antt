@@ -1,6 +1,5 @@
 -- Each answer is a case of the test.
 use mathlib.Core.Path.{sym, ◌∙◌}
-use borrow.Author.Rules.{rules}
 use Rattle.state.proofs.Tests.{refused, passed}
 use Rattle.saves.proofs.Laws.{key-none, key-fails, key-short, key-gap, key-second}
 use Rattle.saves.proofs.are_words.Goals as goal

@@ -1,5 +1,4 @@
 -- Two casts of numbers that aren't below 0.
-use borrow.Author.Rules.{rules}
 use Rattle.saves.proofs.Clocks.{natural-cast, clock-read}
 use Rattle.saves.proofs.clock_at.Goals as goal
 

@@ -1,10 +1,9 @@
-use mathlib.Core.Path.{◌≡◌, ap, sym, ◌∙◌}
-use Prim.Native.Nat.{◌+◌, ◌-◌, ◌*◌, ◌≤◌}
+use mathlib.Core.Path.{ap, sym, ◌∙◌}
+use Prim.Native.Nat.{◌*◌}
 use native.Mathlib.Omega.{arith}
 use borrow.Author.Rules.{rules}
-use lib.ListN.{drop, length-take, length-drop}
+use lib.ListN.{length-take, length-drop}
 use Rattle.machine.specs.Saves.{first_of, place_width}
-use Rattle.state.specs.Test.{rows}
 use Rattle.state.proofs.Part.{width-part}
 use Rattle.state.proofs.Tests.{rows_all}
 use Rattle.saves.specs.Places.{has_key}

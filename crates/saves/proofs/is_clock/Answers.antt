@@ -2,7 +2,6 @@
 use mathlib.Core.Path.{sym, ◌∙◌}
 use Rattle.value.proofs.Kit.{back}
 use Rattle.saves.proofs.Clocks.{natural, negative, ticks-low, draws-low, clock-range}
-use borrow.Author.Rules.{rules}
 use Rattle.saves.proofs.is_clock.Goals as goal
 
 pub returns-then-clock-lt0 : goal.returns-then-clock-lt0

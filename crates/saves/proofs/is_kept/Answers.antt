@@ -1,12 +1,11 @@
 -- The state's test, then the clock's.
 use mathlib.Core.Path.{sym, ap, ◌∙◌}
 use native.Mathlib.Omega.{arith}
-use lib.ListN.{length, take, drop, length-take}
+use lib.ListN.{length-take}
 use Rattle.state.proofs.Part.{tail-part}
 use Rattle.state.proofs.Tests.{refused, passed}
 use Rattle.saves.specs.Kept.{is_clock}
 use Rattle.saves.proofs.Clocks.{kept-fails, kept-rest}
-use borrow.Author.Rules.{rules}
 use Rattle.saves.proofs.is_kept.Goals as goal
 
 pub slice_bounds-is_state-end : goal.slice_bounds-is_state-end

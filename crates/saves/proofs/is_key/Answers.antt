@@ -1,8 +1,6 @@
 -- Numbers below 0 are no name's.
 use mathlib.Core.Path.{sym, ◌∙◌}
-use borrow.Author.Rules.{rules}
 use mir.Facts.{to_z-of_z}
-use Rattle.state.specs.Test.{at}
 use Rattle.state.proofs.Tests.{natural-fits}
 use Rattle.saves.proofs.Laws.{key-negative, key-negative-2, key-natural}
 use Rattle.saves.proofs.is_key.Goals as goal

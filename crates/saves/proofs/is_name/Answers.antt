@@ -1,6 +1,5 @@
 -- Each answer is a case of the test.
 use mathlib.Core.Path.{sym, ◌∙◌}
-use borrow.Author.Rules.{rules}
 use Rattle.saves.proofs.Laws.{name-none, name-long, name-letters}
 use Rattle.saves.proofs.is_name.Goals as goal
 

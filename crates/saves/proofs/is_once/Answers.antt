@@ -1,7 +1,6 @@
 -- The later places are searched for this one's name.
 use mathlib.Core.Path.{sym, ◌∙◌}
 use native.Mathlib.Omega.{arith}
-use borrow.Author.Rules.{rules}
 use borrow.Author.Tests.{eq-eqb, ne_eqb}
 use lib.IntN.{pos}
 use lib.ListN.{get_or, length-take, length-drop}

@@ -1,7 +1,6 @@
 -- Each answer is a case of the test.
 use mathlib.Core.Path.{ap₂, sym, ◌∙◌}
 use native.Mathlib.Omega.{arith}
-use borrow.Author.Rules.{rules}
 use borrow.Author.Tests.{eq-eqb, ne_eqb}
 use lib.IntN.{pos}
 use lib.ListN.{get_or, take}

@@ -1,6 +1,5 @@
 -- Both parts of the test.
 use mathlib.Core.Path.{sym, ◌∙◌}
-use borrow.Author.Rules.{rules}
 use lib.ListN.{take}
 use Rattle.state.proofs.Tests.{refused, passed}
 use Rattle.saves.proofs.Laws.{saves-fail, saves-rest}

@@ -1,9 +1,7 @@
-use mathlib.Core.Path.{◌≡◌, refl, sym, ◌∙◌}
-use Prim.Native.Nat.{◌-◌, ◌≤◌}
+use mathlib.Core.Path.{refl, sym, ◌∙◌}
 use native.Mathlib.Omega.{arith}
 use borrow.Author.Rules.{rules}
 use Rattle.state.proofs.Tests.{refused, passed}
-use Rattle.saves.specs.Keys.{is_word}
 use Rattle.saves.proofs.Laws.{word-ends, word-fails, word_on, word-done}
 use Rattle.saves.proofs.is_word.Goals as goal
 

@@ -1,11 +1,7 @@
 -- The loop's invariant: what is left of the number has as many letters as are left. The measure is what is left.
-use mathlib.Core.Path.{◌≡◌, refl, sym, ◌∙◌}
+use mathlib.Core.Path.{◌≡◌}
 use Prim.Native.Nat.{◌-◌, ◌≤◌}
-use native.Mathlib.Omega.{arith}
-use borrow.Author.Rules.{rules}
-use Rattle.state.proofs.Tests.{refused, passed}
 use Rattle.saves.specs.Keys.{is_word}
-use Rattle.saves.proofs.Laws.{word-ends, word-fails, word_on, word-done}
 use Rattle.saves.proofs.is_word.Given as goal
 
 abbrev pub invariant-loop-i : goal.invariant-loop-i

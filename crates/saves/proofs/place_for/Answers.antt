@@ -1,7 +1,6 @@
 -- The name's own place, else the first that begins with two zeros.
 use mathlib.Core.Path.{sym, ◌∙◌}
 use native.Mathlib.Omega.{arith}
-use borrow.Author.Rules.{rules}
 use Rattle.saves.proofs.Laws.{place-known, place-new}
 use Rattle.saves.proofs.place_for.Goals as goal
 

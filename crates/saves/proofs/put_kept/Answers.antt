@@ -1,6 +1,5 @@
 -- The state's numbers, then the clock's two, each written over its own.
 use Rattle.saves.proofs.Clocks.{kept-long, kept_put}
-use borrow.Author.Rules.{rules}
 use Rattle.saves.proofs.put_kept.Goals as goal
 
 pub bounds-kept : goal.bounds-kept

@@ -1,7 +1,6 @@
 -- One word or two, each of which fits.
 use mathlib.Core.Path.{sym, ◌∙◌}
 use native.Mathlib.Omega.{arith}
-use borrow.Author.Rules.{rules}
 use lib.ListN.{length-take, length-drop}
 use Rattle.value.proofs.Kit.{false-not-true}
 use Rattle.state.proofs.Tests.{refused, passed}

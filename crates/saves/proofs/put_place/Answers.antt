@@ -1,5 +1,4 @@
 -- Two writes, one after the other, fill the place.
-use borrow.Author.Rules.{rules}
 use Rattle.machine.specs.Saves.{key_width, timed_length}
 use Rattle.saves.proofs.Laws.{place-put}
 use Rattle.saves.proofs.put_place.Goals as goal

@@ -2,7 +2,6 @@
 use mathlib.Core.Path.{sym, ◌∙◌}
 use Prim.Native.Nat.{◌+◌, ◌-◌, ◌*◌}
 use native.Mathlib.Omega.{arith}
-use borrow.Author.Rules.{rules}
 use Rattle.machine.specs.Saves.{key_width, timed_length, place_width}
 use Rattle.state.proofs.Tests.{refused, passed}
 use Rattle.saves.proofs.Laws.{return-unnamed, return-unknown, return-put}

@@ -2,7 +2,6 @@
 use mathlib.Core.Path.{sym, ◌∙◌}
 use Prim.Native.Nat.{◌+◌, ◌-◌, ◌*◌}
 use native.Mathlib.Omega.{arith}
-use borrow.Author.Rules.{rules}
 use Rattle.machine.specs.Saves.{place_width}
 use Rattle.state.proofs.Tests.{refused, passed}
 use Rattle.saves.proofs.Laws.{save-unnamed, save-full, save-put}

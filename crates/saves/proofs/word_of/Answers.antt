@@ -1,6 +1,5 @@
 -- A word of letters fits a signed number.
 use mathlib.Core.Path.{ap, ◌∙◌}
-use borrow.Author.Rules.{rules}
 use lib.IntN.{pos}
 use Rattle.value.proofs.Kit.{back}
 use Rattle.saves.proofs.Laws.{word_fits}

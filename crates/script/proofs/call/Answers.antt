@@ -1,7 +1,6 @@
 -- By the kind of the row: the parts that are lent are there since the row fits, and the engine's call gives the rest.
 use native.Mathlib.Omega.{arith}
-use borrow.Author.Rules.{rules}
-use lib.ListN.{length, length-take}
+use lib.ListN.{length-take}
 use Rattle.script.proofs.Calling.{there, opening-called, listing-called, reporting-called, stepping-called, named-kind}
 use Rattle.script.proofs.call.Goals as goal
 

@@ -1,7 +1,6 @@
 -- By the kind of the row; the name and the parts that are lent are there since the row fits.
 use native.Mathlib.Omega.{arith}
-use borrow.Author.Rules.{rules}
-use lib.ListN.{length, length-take}
+use lib.ListN.{length-take}
 use Rattle.script.proofs.Calling.{there, saving-called, returning-called, forgetting-called, last-kind}
 use Rattle.script.proofs.call_named.Goals as goal
 

@@ -1,7 +1,6 @@
 -- The parts that are lent, the words and the waiting draws are there since the row fits, and the engine's run gives the rest.
 use native.Mathlib.Omega.{arith}
-use borrow.Author.Rules.{rules}
-use lib.ListN.{length, length-take}
+use lib.ListN.{length-take}
 use Rattle.script.proofs.Calling.{there, running-called}
 use Rattle.script.proofs.call_run.Goals as goal
 

@@ -1,7 +1,6 @@
 -- The name and the parts that are lent are there since the row fits, and the engine's search gives the rest.
 use native.Mathlib.Omega.{arith}
-use borrow.Author.Rules.{rules}
-use lib.ListN.{length, length-take}
+use lib.ListN.{length-take}
 use Rattle.script.proofs.Calling.{there, searching-called}
 use Rattle.script.proofs.call_search.Goals as goal
 

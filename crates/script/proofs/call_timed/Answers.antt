@@ -1,7 +1,6 @@
 -- The parts that are lent and the waiting draws are there since the row fits, and the engine's call gives the rest.
 use native.Mathlib.Omega.{arith}
-use borrow.Author.Rules.{rules}
-use lib.ListN.{length, length-take}
+use lib.ListN.{length-take}
 use Rattle.script.proofs.Calling.{there, timing-called}
 use Rattle.script.proofs.call_timed.Goals as goal
 

@@ -1,6 +1,5 @@
 -- Each return is a case of the test of a row.
 use mathlib.Core.Path.{sym, ◌∙◌}
-use borrow.Author.Rules.{rules}
 use Rattle.script.proofs.Fitting.{no-least, no-most, no_text, no-list, no_words, no-model, no-state, no-saves, no-clock, no_output, own-output}
 use borrow.Author.Tests.{not-true, not-false}
 use Rattle.script.proofs.is_call.Goals as goal

@@ -1,5 +1,4 @@
 -- By the kind of the row: its call, the clock and its answer together.
-use borrow.Author.Rules.{rules}
 use Rattle.script.specs.Rows.{row_call}
 use Rattle.buffers.specs.Parts.{clock_in}
 use Rattle.script.specs.Run.{lent_four, result_numbers, found_numbers, ran_numbers}

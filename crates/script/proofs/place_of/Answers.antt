@@ -1,8 +1,6 @@
 -- A quotient that is less than i says that row i begins past the end.
-use Prim.Native.Nat.{◌-◌}
 use native.Mathlib.Nat.{le-div_iff_mul-le, div-lt_iff_lt-mul}
 use native.Mathlib.Omega.{arith}
-use borrow.Author.Rules.{rules}
 use Rattle.script.proofs.place_of.Goals as goal
 
 pub returns-then-end-width : goal.returns-then-end-width

@@ -1,6 +1,5 @@
 -- Two stores over the first two numbers.
 use native.Mathlib.Omega.{arith}
-use borrow.Author.Rules.{rules}
 use lib.ListN.{length-set}
 use Rattle.script.proofs.Fitting.{clock-written}
 use Rattle.script.proofs.put_clock.Goals as goal

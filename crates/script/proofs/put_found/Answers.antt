@@ -1,6 +1,5 @@
 -- Eighteen stores over the first eighteen numbers.
 use native.Mathlib.Omega.{arith}
-use borrow.Author.Rules.{rules}
 use lib.ListN.{length-set}
 use Rattle.script.proofs.Fitting.{found-written}
 use Rattle.script.proofs.put_found.Goals as goal

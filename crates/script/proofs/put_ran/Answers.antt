@@ -1,7 +1,5 @@
 -- Eighteen stores over the first eighteen numbers.
-use Prim.Native.Nat.{◌-◌}
 use native.Mathlib.Omega.{arith}
-use borrow.Author.Rules.{rules}
 use lib.ListN.{length-set}
 use Rattle.script.proofs.Fitting.{ran-written}
 use Rattle.script.proofs.put_ran.Goals as goal

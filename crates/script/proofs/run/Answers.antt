@@ -1,11 +1,7 @@
 use mathlib.Core.Path.{◌∙◌}
-use Prim.Native.Nat.{◌-◌, ◌*◌}
 use native.Mathlib.Omega.{arith}
-use borrow.Author.Rules.{rules}
-use lib.ListN.{length}
-use Rattle.script.specs.Rows.{row_width}
 use Rattle.script.specs.Run.{lent_four, lent_of}
-use Rattle.script.proofs.Turns.{Long, four-long, model-long, state-long, saves-long, clock-long, Turn, begins, turns, stops}
+use Rattle.script.proofs.Turns.{Long, four-long, model-long, state-long, saves-long, clock-long, begins, turns, stops}
 use Rattle.script.proofs.Follows.{ran-refines}
 use Rattle.script.proofs.run.Goals as goal
 

@@ -1,13 +1,9 @@
 -- The loop's invariant: the rows before i are run, and the others lead from here where all lead from the start. The second promise is the theorem over every script.
-use mathlib.Core.Path.{◌∙◌}
 use Prim.Native.Nat.{◌-◌, ◌*◌}
-use native.Mathlib.Omega.{arith}
-use borrow.Author.Rules.{rules}
 use lib.ListN.{length}
 use Rattle.script.specs.Rows.{row_width}
 use Rattle.script.specs.Run.{lent_four, lent_of}
-use Rattle.script.proofs.Turns.{Long, four-long, model-long, state-long, saves-long, clock-long, Turn, begins, turns, stops}
-use Rattle.script.proofs.Follows.{ran-refines}
+use Rattle.script.proofs.Turns.{Turn}
 use Rattle.script.proofs.run.Given as goal
 
 abbrev pub invariant-loop-i : goal.invariant-loop-i

@@ -1,5 +1,4 @@
 -- The row's parts of outputs and answers, lent and put back.
-use borrow.Author.Rules.{rules}
 use Rattle.script.specs.Run.{lent_four}
 use Rattle.script.proofs.Places.{ran-at}
 use Rattle.script.proofs.run_at.Goals as goal

@@ -1,6 +1,5 @@
 -- By whether there is a row, room for its answer, and whether it fits; then its call.
 use mathlib.Core.Path.{sym, ◌∙◌}
-use borrow.Author.Rules.{rules}
 use Rattle.script.specs.Run.{lent_four, lent_of}
 use Rattle.script.proofs.Running.{no_row, no_answer, no_call, made, four-fits}
 use borrow.Author.Tests.{not-true, not-false}

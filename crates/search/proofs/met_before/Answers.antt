@@ -1,6 +1,5 @@
 -- Refusals met before and after are joined. Assumes nothing.
 use Rattle.search.proofs.Seeks.{after-lost, after-found}
-use borrow.Author.Rules.{rules}
 use Rattle.search.proofs.met_before.Goals as goal
 
 pub returns-in-Lost : goal.returns-in-Lost

@@ -1,6 +1,5 @@
 -- Refusals met before and after are joined. Assumes nothing.
 use Rattle.search.proofs.Walks.{on-end, on-to}
-use borrow.Author.Rules.{rules}
 use Rattle.search.proofs.met_on.Goals as goal
 
 pub returns-in-End : goal.returns-in-End

@@ -2,7 +2,6 @@
 use mathlib.Core.Path.{sym, ap, ◌∙◌}
 use Rattle.searching.specs.Run.{result_of}
 use Rattle.searching.proofs.Results.{none-under, found-run, found_none, found-unsure, none-result, unsure-result}
-use borrow.Author.Rules.{rules}
 use Rattle.searching.proofs.result_of.Goals as goal
 
 pub run_found-requires : goal.run_found-requires

@@ -3,7 +3,6 @@ use Rattle.token.specs.Questions.{text_limit}
 use Rattle.machine.specs.Machine.{search'}
 use Rattle.searching.proofs.Results.{none-run}
 use Rattle.searching.proofs.Held.{none-held, model-held, worded}
-use borrow.Author.Rules.{rules}
 use Rattle.searching.proofs.search_text.Goals as goal
 
 pub search_tables-requires : goal.search_tables-requires

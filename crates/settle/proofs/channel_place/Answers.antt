@@ -1,8 +1,6 @@
-use Rattle.settle.proofs.Kids.{Searching, search-begins, node-inside, name-inside, sought-first, case-found, case-new, case-on, case-less, word_fits, hung-size}
+use Rattle.settle.proofs.Kids.{search-begins, node-inside, name-inside, sought-first, case-found, case-new, case-on, case-less, word_fits, hung-size}
 use mathlib.Core.Path.{ap, ◌∙◌}
-use Prim.Native.Nat.{◌-◌}
 use native.Mathlib.Omega.{arith}
-use borrow.Author.Rules.{rules}
 use lib.ListN.{length}
 use Rattle.settle.proofs.channel_place.Goals as goal
 

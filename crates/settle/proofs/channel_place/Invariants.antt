@@ -1,10 +1,6 @@
 -- The loop's invariant: the table is as it was, and the bits left lead from node i to the name k, if it was met. Kids come after their parent, so n - i falls.
-use Rattle.settle.proofs.Kids.{Searching, search-begins, node-inside, name-inside, sought-first, case-found, case-new, case-on, case-less, word_fits, hung-size}
-use mathlib.Core.Path.{ap, ◌∙◌}
+use Rattle.settle.proofs.Kids.{Searching}
 use Prim.Native.Nat.{◌-◌}
-use native.Mathlib.Omega.{arith}
-use borrow.Author.Rules.{rules}
-use lib.ListN.{length}
 use Rattle.settle.proofs.channel_place.Given as goal
 
 abbrev pub invariant-loop-n : goal.invariant-loop-n

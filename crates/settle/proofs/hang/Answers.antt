@@ -1,6 +1,5 @@
 -- The new node and its parent are written, one cell each. From the fields of a cell.
 use Rattle.settle.proofs.Kids.{hang-first, hang-second, fields_fit}
-use borrow.Author.Rules.{rules}
 use Rattle.settle.proofs.hang.Goals as goal
 
 pub node-requires-then-bit-eq0 : goal.node-requires-then-bit-eq0

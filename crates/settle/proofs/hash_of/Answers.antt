@@ -1,7 +1,6 @@
 -- The products and their sum fit a word.
 use Rattle.settle.specs.Kids.{hash_of}
 use mathlib.Core.Path.{refl}
-use borrow.Author.Rules.{rules}
 use Rattle.settle.proofs.hash_of.Goals as goal
 
 pub returns : goal.returns

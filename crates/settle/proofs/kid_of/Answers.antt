@@ -1,7 +1,6 @@
 -- The kid for a bit 0 is a node's second field, for a bit 1 its third.
 use Rattle.settle.proofs.Kids.{kid-first, kid-second}
 use mathlib.Core.Path.{◌∙◌}
-use borrow.Author.Rules.{rules}
 use Rattle.settle.proofs.kid_of.Goals as goal
 
 pub returns-then-bit-eq0 : goal.returns-then-bit-eq0

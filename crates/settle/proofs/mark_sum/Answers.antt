@@ -2,9 +2,6 @@ use mathlib.Core.Path.{sym, ◌∙◌}
 use Prim.Native.Nat.{◌+◌, ◌-◌, ◌*◌}
 use native.Mathlib.Omega.{arith}
 use Rattle.settle.proofs.Meets.{marked-sum, marked-none}
-use borrow.Author.Rules.{rules}
-use Rattle.tree.proofs.kind_of.Reads as kind-of-reads
-use Rattle.tree.proofs.token_of.Reads as token-of-reads
 use Rattle.settle.proofs.mark_sum.Goals as goal
 
 pub overflow_sub-roots : goal.overflow_sub-roots

@@ -1,21 +1,9 @@
 use Rattle.tree.specs.Node.{token_of, third_of, left_of}
 use Rattle.settle.proofs.Parameters.{no-parameters, parameters-inside, parameters-room, with-parameters}
-use Rattle.model.specs.Lists.{every_other}
-use Rattle.names.specs.Settings.{Extended}
-use Rattle.names.proofs.with_locals.Reads as with-locals-reads
-use Rattle.tree.proofs.left_of.Reads as left-of-reads
-use Rattle.tree.proofs.third_of.Reads as third-of-reads
-use Rattle.tree.proofs.token_of.Reads as token-of-reads
-use mathlib.Core.Path.{◌≡◌, refl, ap, sym, ◌∙◌}
-use mathlib.Core.List.{List, [], ◌∷◌, ◌++◌}
-use mathlib.Core.Bool.{Bool, true, false, cond}
-use mathlib.Core.Logic.{⊎_elim}
-use Prim.Native.Nat.{ℕ, zero, suc, ◌+◌, ◌-◌, ◌*◌, ◌≤◌, ◌<◌}
+use mathlib.Core.Path.{refl, ap}
+use Prim.Native.Nat.{ℕ, ◌-◌}
 use native.Mathlib.Omega.{arith}
-use borrow.Author.Rules.{rules}
-use borrow.Author.Tests.{lt-ltb, le-ltb, le-leb, lt-leb, eq-eqb, ne_eqb}
-use lib.IntN.{ℤ, pos}
-use lib.ListN.{length, get_or, set, take, drop, replicate, length-append, length-take, length-drop, length-set, length-replicate}
+use lib.ListN.{get_or}
 use Rattle.settle.proofs.parameters_of.Goals as goal
 
 pub returns-then-lists-d : goal.returns-then-lists-d

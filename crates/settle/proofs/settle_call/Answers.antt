@@ -1,23 +1,11 @@
-use Rattle.tree.specs.Node.{cell, kind_of, token_of, left_of, third_of}
+use Rattle.tree.specs.Node.{cell, kind_of, token_of}
 use Rattle.settle.specs.Walks.{definition_of}
 use Rattle.settle.specs.Places.{word_in, variables_in, definitions_of}
 use Rattle.settle.proofs.Leaves.{calls-name, call-fields, call-done, start-done, count-told, counted-done}
-use Rattle.settle.proofs.definition_named.Reads as definition-named-reads
-use Rattle.tree.proofs.kind_of.Reads as kind-of-reads
-use Rattle.tree.proofs.left_of.Reads as left-of-reads
-use Rattle.tree.proofs.node.Reads as node-reads
-use Rattle.tree.proofs.third_of.Reads as third-of-reads
-use Rattle.tree.proofs.token_of.Reads as token-of-reads
-use mathlib.Core.Path.{◌≡◌, refl, ap, ap₂, sym, ◌∙◌}
-use mathlib.Core.List.{List, [], ◌∷◌, ◌++◌}
-use mathlib.Core.Bool.{Bool, true, false, cond}
-use mathlib.Core.Logic.{⊎_elim}
-use Prim.Native.Nat.{ℕ, zero, suc, ◌+◌, ◌-◌, ◌*◌, ◌≤◌, ◌<◌}
+use mathlib.Core.Path.{ap, ap₂, ◌∙◌}
+use Prim.Native.Nat.{ℕ, ◌-◌}
 use native.Mathlib.Omega.{arith}
-use borrow.Author.Rules.{rules}
-use borrow.Author.Tests.{lt-ltb, le-ltb, le-leb, lt-leb, eq-eqb, ne_eqb}
-use lib.IntN.{ℤ, pos}
-use lib.ListN.{length, get_or, set, take, drop, replicate, length-append, length-take, length-drop, length-set, length-replicate}
+use lib.ListN.{get_or, set}
 use Rattle.settle.proofs.settle_call.Goals as goal
 
 pub offset_bounds-nodes-i : goal.offset_bounds-nodes-i

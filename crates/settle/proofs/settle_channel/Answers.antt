@@ -1,7 +1,6 @@
 -- A name with a number below n was met; else it was hung, and is one more.
 use Rattle.settle.proofs.Meets.{channel-known, channel-new, place-small}
 use native.Mathlib.Omega.{arith}
-use borrow.Author.Rules.{rules}
 use Rattle.settle.proofs.settle_channel.Goals as goal
 
 pub channel_place-c-requires : goal.channel_place-c-requires

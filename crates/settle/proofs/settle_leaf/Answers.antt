@@ -1,33 +1,13 @@
 use lib.Dec.{eqb}
 use mathlib.Core.Logic.{inl, inr}
-use Rattle.tree.specs.Node.{token_of}
-use Rattle.settle.specs.Places.{word_in}
 use Rattle.settle.proofs.Roles.{among-true, among-false}
-use Rattle.grammar.specs.Syntax
-use Rattle.model.specs.Resolved
-use Rattle.model.specs.Resolved.{number_scale}
-use Rattle.settle.specs.Walks.{scale_cell}
 use Rattle.tables.specs.Settled.{number_cell}
 use Rattle.settle.specs.Places.{signed}
-use Rattle.tree.specs.Node.{number_kind}
 use Rattle.settle.proofs.Leaves.{literal-kind, whole-inside, whole-done, number-asked, number-answered, scale-leaf, scale-done, leaf-calls, leaf-called, leaf-none}
-use Rattle.settle.proofs.is_among.Reads as is-among-reads
-use Rattle.settle.proofs.number_cell.Reads as number-cell-reads
-use Rattle.settle.proofs.scale_cell.Reads as scale-cell-reads
-use Rattle.settle.proofs.settle_call.Reads as settle-call-reads
-use Rattle.settle.proofs.settle_scale.Reads as settle-scale-reads
-use Rattle.tree.proofs.kind_of.Reads as kind-of-reads
-use Rattle.tree.proofs.token_of.Reads as token-of-reads
-use mathlib.Core.Path.{◌≡◌, refl, ap, ap₂, sym, ◌∙◌}
-use mathlib.Core.List.{List, [], ◌∷◌, ◌++◌}
-use mathlib.Core.Bool.{Bool, true, false, cond}
-use mathlib.Core.Logic.{⊎_elim}
-use Prim.Native.Nat.{ℕ, zero, suc, ◌+◌, ◌-◌, ◌*◌, ◌≤◌, ◌<◌}
+use mathlib.Core.Path.{refl, ap, sym, ◌∙◌}
+use Prim.Native.Nat.{ℕ}
 use native.Mathlib.Omega.{arith}
-use borrow.Author.Rules.{rules}
-use borrow.Author.Tests.{lt-ltb, le-ltb, le-leb, lt-leb, eq-eqb, ne_eqb}
-use lib.IntN.{ℤ, pos}
-use lib.ListN.{length, get_or, set, take, drop, replicate, length-append, length-take, length-drop, length-set, length-replicate}
+use lib.ListN.{get_or}
 use Rattle.settle.proofs.settle_leaf.Goals as goal
 
 pub offset_bounds-nodes-i : goal.offset_bounds-nodes-i

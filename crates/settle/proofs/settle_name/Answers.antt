@@ -4,27 +4,13 @@ use lib.Dec.{eqb}
 use Rattle.tree.specs.Node as node
 use Rattle.tree.specs.Node.{number_kind}
 use Rattle.tables.specs.Settled.{number_cell}
-use Rattle.settle.specs.Places.{signed, word_in, variables_in, meaning_at}
+use Rattle.settle.specs.Places.{signed, word_in, meaning_at}
 use Rattle.settle.proofs.Cells.{whole_is}
-use Rattle.settle.proofs.Meets.{WholeNamed}
-use Rattle.names.proofs.is_whole.Reads as is-whole-reads
-use Rattle.names.proofs.local_named.Reads as local-named-reads
-use Rattle.settle.proofs.number_cell.Reads as number-cell-reads
-use Rattle.settle.proofs.number_named.Reads as number-named-reads
-use Rattle.settle.proofs.settle_channel.Reads as settle-channel-reads
-use Rattle.tree.proofs.kind_of.Reads as kind-of-reads
-use Rattle.tree.proofs.node.Reads as node-reads
-use Rattle.tree.proofs.token_of.Reads as token-of-reads
 use mathlib.Core.Path.{◌≡◌, refl, ap, ap₂, sym, ◌∙◌}
-use mathlib.Core.List.{List, [], ◌∷◌, ◌++◌}
-use mathlib.Core.Bool.{Bool, true, false, cond, ◌||◌}
-use mathlib.Core.Logic.{⊎_elim}
-use Prim.Native.Nat.{ℕ, zero, suc, ◌+◌, ◌-◌, ◌*◌, ◌≤◌, ◌<◌}
+use mathlib.Core.Bool.{Bool, ◌||◌}
+use Prim.Native.Nat.{ℕ}
 use native.Mathlib.Omega.{arith}
-use borrow.Author.Rules.{rules}
-use borrow.Author.Tests.{lt-ltb, le-ltb, le-leb, lt-leb, eq-eqb, ne_eqb}
-use lib.IntN.{ℤ, pos}
-use lib.ListN.{length, get_or, set, take, drop, replicate, length-append, length-take, length-drop, length-set, length-replicate}
+use lib.ListN.{get_or}
 use Rattle.settle.proofs.settle_name.Goals as goal
 
 pub local_named-requires : goal.local_named-requires

@@ -1,20 +1,6 @@
 use Rattle.settle.proofs.Stands.{inside-nodes, name-asked, name-stepped, leaf, turn, sum-asked, node-stepped}
-use Rattle.settle.proofs.mark_sum.Reads as mark-sum-reads
-use Rattle.settle.proofs.settle_leaf.Reads as settle-leaf-reads
-use Rattle.settle.proofs.settle_name.Reads as settle-name-reads
-use Rattle.settle.proofs.walk_after.Reads as walk-after-reads
-use Rattle.tree.proofs.kind_of.Reads as kind-of-reads
-use Rattle.tree.proofs.token_of.Reads as token-of-reads
-use mathlib.Core.Path.{◌≡◌, refl, ap, sym, ◌∙◌}
-use mathlib.Core.List.{List, [], ◌∷◌, ◌++◌}
-use mathlib.Core.Bool.{Bool, true, false, cond}
-use mathlib.Core.Logic.{⊎_elim}
-use Prim.Native.Nat.{ℕ, zero, suc, ◌+◌, ◌-◌, ◌*◌, ◌≤◌, ◌<◌}
+use mathlib.Core.Path.{refl, sym, ◌∙◌}
 use native.Mathlib.Omega.{arith}
-use borrow.Author.Rules.{rules}
-use borrow.Author.Tests.{lt-ltb, le-ltb, le-leb, lt-leb, eq-eqb, ne_eqb}
-use lib.IntN.{ℤ, pos}
-use lib.ListN.{length, get_or, set, take, drop, replicate, length-append, length-take, length-drop, length-set, length-replicate}
 use Rattle.settle.proofs.settle_node.Goals as goal
 
 pub offset_bounds-nodes-i : goal.offset_bounds-nodes-i

@@ -6,22 +6,10 @@ use Rattle.model.specs.Resolved
 use Rattle.model.specs.Resolved.{number_scale}
 use Rattle.settle.specs.Walks.{scale_cell}
 use Rattle.settle.specs.Places.{word_in, variables_in, meaning_at}
-use Rattle.names.proofs.local_named.Reads as local-named-reads
-use Rattle.settle.proofs.number_named.Reads as number-named-reads
-use Rattle.settle.proofs.scale_cell.Reads as scale-cell-reads
-use Rattle.tree.proofs.kind_of.Reads as kind-of-reads
-use Rattle.tree.proofs.node.Reads as node-reads
-use Rattle.tree.proofs.token_of.Reads as token-of-reads
-use mathlib.Core.Path.{◌≡◌, refl, ap, sym, ◌∙◌}
-use mathlib.Core.List.{List, [], ◌∷◌, ◌++◌}
-use mathlib.Core.Bool.{Bool, true, false, cond}
-use mathlib.Core.Logic.{⊎_elim}
-use Prim.Native.Nat.{ℕ, zero, suc, ◌+◌, ◌-◌, ◌*◌, ◌≤◌, ◌<◌}
+use mathlib.Core.Path.{refl, ap, ◌∙◌}
+use mathlib.Core.List.{[]}
+use Prim.Native.Nat.{ℕ}
 use native.Mathlib.Omega.{arith}
-use borrow.Author.Rules.{rules}
-use borrow.Author.Tests.{lt-ltb, le-ltb, le-leb, lt-leb, eq-eqb, ne_eqb}
-use lib.IntN.{ℤ, pos}
-use lib.ListN.{length, get_or, set, take, drop, replicate, length-append, length-take, length-drop, length-set, length-replicate}
 use Rattle.settle.proofs.settle_scale.Goals as goal
 
 pub local_named-requires : goal.local_named-requires

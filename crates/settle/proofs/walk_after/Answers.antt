@@ -1,25 +1,10 @@
 use Rattle.tree.specs.Node.{third_of}
 use Rattle.settle.proofs.Roles.{among-true, among-false}
 use Rattle.settle.proofs.Turns.{action-room, after-action, ending-inside, ending-few, after-ending, after-sum, after-definition, after_none}
-use Rattle.names.proofs.with_locals.Reads as with-locals-reads
-use Rattle.settle.proofs.is_among.Reads as is-among-reads
-use Rattle.settle.proofs.parameters_of.Reads as parameters-of-reads
-use Rattle.settle.proofs.with_scope.Reads as with-scope-reads
-use Rattle.settle.proofs.without_locals.Reads as without-locals-reads
-use Rattle.tree.proofs.kind_of.Reads as kind-of-reads
-use Rattle.tree.proofs.left_of.Reads as left-of-reads
-use Rattle.tree.proofs.third_of.Reads as third-of-reads
-use Rattle.tree.proofs.token_of.Reads as token-of-reads
-use mathlib.Core.Path.{◌≡◌, refl, ap, sym, ◌∙◌}
-use mathlib.Core.List.{List, [], ◌∷◌, ◌++◌}
-use mathlib.Core.Bool.{Bool, true, false, cond}
-use mathlib.Core.Logic.{⊎_elim}
-use Prim.Native.Nat.{ℕ, zero, suc, ◌+◌, ◌-◌, ◌*◌, ◌≤◌, ◌<◌}
+use mathlib.Core.Path.{refl, ap, sym, ◌∙◌}
+use Prim.Native.Nat.{ℕ}
 use native.Mathlib.Omega.{arith}
-use borrow.Author.Rules.{rules}
-use borrow.Author.Tests.{lt-ltb, le-ltb, le-leb, lt-leb, eq-eqb, ne_eqb}
-use lib.IntN.{ℤ, pos}
-use lib.ListN.{length, get_or, set, take, drop, replicate, length-append, length-take, length-drop, length-set, length-replicate}
+use lib.ListN.{get_or}
 use Rattle.settle.proofs.walk_after.Goals as goal
 
 pub with_locals-requires : goal.with_locals-requires

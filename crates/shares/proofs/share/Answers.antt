@@ -1,15 +1,9 @@
-use mathlib.Core.Path.{◌≡◌, ap, sym, ◌∙◌}
-use mathlib.Core.List.{List}
-use Prim.Native.Nat.{ℕ, ◌-◌, ◌≤◌, ◌<◌}
+use mathlib.Core.Path.{ap, sym, ◌∙◌}
+use Prim.Native.Nat.{ℕ, ◌<◌}
 use native.Mathlib.Omega.{arith}
-use borrow.Author.Rules.{rules}
 use lib.ListN.{length, length-set, length-replicate}
-use Rattle.model.specs.Resolved
-use Rattle.rules.specs.Listing.{Entry}
-use Rattle.machine.specs.State.{State}
 use Rattle.machine.specs.Report.{report_length}
-use Rattle.shares.specs.Shared.{Shared}
-use Rattle.shares.proofs.Turns.{sums, passed, starts, ends, fits, inside, below, turned, sum_fits, cleared}
+use Rattle.shares.proofs.Turns.{passed, starts, ends, fits, inside, below, turned, sum_fits, cleared}
 use Rattle.shares.proofs.share.Goals as goal
 
 pub loop-i-init : goal.loop-i-init

@@ -1,16 +1,14 @@
 -- `shares::share` meets its contract. The loop's invariant: the numbers are the sums of the entries passed.
-use mathlib.Core.Path.{◌≡◌, ap, sym, ◌∙◌}
+use mathlib.Core.Path.{◌≡◌}
 use mathlib.Core.List.{List}
-use Prim.Native.Nat.{ℕ, ◌-◌, ◌≤◌, ◌<◌}
-use native.Mathlib.Omega.{arith}
-use borrow.Author.Rules.{rules}
-use lib.ListN.{length, length-set, length-replicate}
+use Prim.Native.Nat.{◌-◌, ◌≤◌}
+use lib.ListN.{length}
 use Rattle.model.specs.Resolved
 use Rattle.rules.specs.Listing.{Entry}
 use Rattle.machine.specs.State.{State}
 use Rattle.machine.specs.Report.{report_length}
 use Rattle.shares.specs.Shared.{Shared}
-use Rattle.shares.proofs.Turns.{sums, passed, starts, ends, fits, inside, below, turned, sum_fits, cleared}
+use Rattle.shares.proofs.Turns.{sums}
 use Rattle.shares.proofs.share.Given as goal
 
 abbrev pub invariant-loop-i : goal.invariant-loop-i

@@ -1,9 +1,4 @@
-use Rattle.clock.proofs.in_range.Reads as in-range-reads
-use Rattle.simulation.proofs.are_long.Reads as are-long-reads
-use Rattle.simulation.proofs.refused.Reads as refused-reads
-use Rattle.simulation.proofs.run_lent.Reads as run-lent-reads
 use mathlib.Core.Path.{sym, ◌∙◌}
-use borrow.Author.Rules.{rules}
 use Rattle.state.proofs.Tests.{refused, passed}
 use Rattle.buffers.proofs.Clocks.{in-range}
 use Rattle.simulation.proofs.Results.{long-both, wrong, right, out_of_range}

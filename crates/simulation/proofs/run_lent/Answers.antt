@@ -1,7 +1,6 @@
 -- The text that the model buffer holds, or 11.
 use native.Mathlib.Omega.{arith}
 use lib.ListN.{length}
-use borrow.Author.Rules.{rules}
 use Rattle.machine.specs.Machine.{run'}
 use Rattle.buffers.specs.Parts.{lent_timed}
 use Rattle.store.specs.Text.{TextOf, TextIn}

@@ -1,8 +1,4 @@
-use Rattle.running.proofs.run.Reads as run-reads
-use Rattle.simulation.proofs.refused.Reads as refused-reads
-use Rattle.state.proofs.is_state.Reads as is-state-reads
 use mathlib.Core.Path.{sym, ◌∙◌}
-use borrow.Author.Rules.{rules}
 use Rattle.state.proofs.Tests.{refused, passed}
 use Rattle.store.proofs.Tables.{few-taken, state_of, machine-is, machine-closed}
 use Rattle.simulation.proofs.Held.{tables, run_lent}

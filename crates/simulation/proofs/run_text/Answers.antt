@@ -1,6 +1,5 @@
 -- A text that holds no model gives 11; else the run goes over its tables.
 use lib.ListN.{length}
-use borrow.Author.Rules.{rules}
 use Rattle.machine.specs.Machine.{run'}
 use Rattle.buffers.specs.Parts.{lent_timed}
 use Rattle.simulation.proofs.Held.{none-held, model-held, whole}

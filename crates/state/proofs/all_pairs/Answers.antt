@@ -1,10 +1,10 @@
-use mathlib.Core.Path.{◌≡◌, sym, ap, ◌∙◌}
-use Prim.Native.Nat.{◌-◌, ◌*◌, ◌≤◌}
+use mathlib.Core.Path.{sym, ap, ◌∙◌}
+use Prim.Native.Nat.{◌*◌}
 use native.Mathlib.Omega.{arith}
 use borrow.Author.Rules.{rules}
-use lib.ListN.{drop, length-take, length-drop}
+use lib.ListN.{length-take, length-drop}
 use Rattle.machine.specs.State.{pair_width}
-use Rattle.state.specs.Test.{every, rows, is_pair}
+use Rattle.state.specs.Test.{every, is_pair}
 use Rattle.state.proofs.Part.{width-part}
 use Rattle.state.proofs.Tests.{refused, passed, rows_all, rows-fail, rows_on, rows-done}
 use Rattle.state.proofs.all_pairs.Goals as goal

@@ -1,13 +1,9 @@
 -- The loop's invariant: the test of the rows from i on gives the answer for all. The measure is what is left.
-use mathlib.Core.Path.{◌≡◌, sym, ap, ◌∙◌}
+use mathlib.Core.Path.{◌≡◌}
 use Prim.Native.Nat.{◌-◌, ◌*◌, ◌≤◌}
-use native.Mathlib.Omega.{arith}
-use borrow.Author.Rules.{rules}
-use lib.ListN.{drop, length-take, length-drop}
+use lib.ListN.{drop}
 use Rattle.machine.specs.State.{pair_width}
 use Rattle.state.specs.Test.{every, rows, is_pair}
-use Rattle.state.proofs.Part.{width-part}
-use Rattle.state.proofs.Tests.{refused, passed, rows_all, rows-fail, rows_on, rows-done}
 use Rattle.state.proofs.all_pairs.Given as goal
 
 abbrev pub invariant-loop-i : goal.invariant-loop-i

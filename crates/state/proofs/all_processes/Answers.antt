@@ -1,10 +1,10 @@
-use mathlib.Core.Path.{◌≡◌, sym, ap, ◌∙◌}
-use Prim.Native.Nat.{◌-◌, ◌*◌, ◌≤◌}
+use mathlib.Core.Path.{sym, ap, ◌∙◌}
+use Prim.Native.Nat.{◌*◌}
 use native.Mathlib.Omega.{arith}
 use borrow.Author.Rules.{rules}
-use lib.ListN.{take, drop, length-take, length-drop}
+use lib.ListN.{take, length-take, length-drop}
 use Rattle.machine.specs.State.{process_width}
-use Rattle.state.specs.Test.{every, rows, is_process}
+use Rattle.state.specs.Test.{every, is_process}
 use Rattle.state.proofs.Part.{width-part}
 use Rattle.state.proofs.Tests.{refused, passed, rows_all, rows-fail, rows_on, rows-done}
 use Rattle.state.proofs.all_processes.Goals as goal

@@ -1,13 +1,9 @@
 -- The loop's invariant: the test of the rows from i on gives the answer for all. The measure is what is left.
-use mathlib.Core.Path.{◌≡◌, sym, ap, ◌∙◌}
+use mathlib.Core.Path.{◌≡◌}
 use Prim.Native.Nat.{◌-◌, ◌*◌, ◌≤◌}
-use native.Mathlib.Omega.{arith}
-use borrow.Author.Rules.{rules}
-use lib.ListN.{take, drop, length-take, length-drop}
+use lib.ListN.{take, drop}
 use Rattle.machine.specs.State.{process_width}
 use Rattle.state.specs.Test.{every, rows, is_process}
-use Rattle.state.proofs.Part.{width-part}
-use Rattle.state.proofs.Tests.{refused, passed, rows_all, rows-fail, rows_on, rows-done}
 use Rattle.state.proofs.all_processes.Given as goal
 
 abbrev pub invariant-loop-i : goal.invariant-loop-i

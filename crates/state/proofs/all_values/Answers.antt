@@ -1,11 +1,10 @@
-use mathlib.Core.Path.{◌≡◌, refl, sym, ◌∙◌}
-use Prim.Native.Nat.{◌-◌, ◌≤◌}
+use mathlib.Core.Path.{refl, sym, ◌∙◌}
 use native.Mathlib.Omega.{arith}
 use borrow.Author.Rules.{rules}
 use lib.IntN.{pos}
-use lib.ListN.{length, get_or, drop}
+use lib.ListN.{get_or}
 use Rattle.value.proofs.Kit.{back}
-use Rattle.state.specs.Test.{every, is_value}
+use Rattle.state.specs.Test.{is_value}
 use Rattle.state.proofs.Tests.{refused, passed, every-fails, every-on, every-done}
 use Rattle.state.proofs.all_values.Goals as goal
 

@@ -1,13 +1,8 @@
 -- The loop's invariant: the test of the rest gives the answer for all. The measure is what is left.
-use mathlib.Core.Path.{◌≡◌, refl, sym, ◌∙◌}
+use mathlib.Core.Path.{◌≡◌}
 use Prim.Native.Nat.{◌-◌, ◌≤◌}
-use native.Mathlib.Omega.{arith}
-use borrow.Author.Rules.{rules}
-use lib.IntN.{pos}
-use lib.ListN.{length, get_or, drop}
-use Rattle.value.proofs.Kit.{back}
+use lib.ListN.{length, drop}
 use Rattle.state.specs.Test.{every, is_value}
-use Rattle.state.proofs.Tests.{refused, passed, every-fails, every-on, every-done}
 use Rattle.state.proofs.all_values.Given as goal
 
 abbrev pub invariant-loop-i : goal.invariant-loop-i

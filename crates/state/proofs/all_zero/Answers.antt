@@ -1,17 +1,14 @@
-use mathlib.Core.Path.{◌≡◌, refl}
-use mathlib.Core.Bool.{◌&&◌}
-use Prim.Native.Nat.{◌-◌, ◌≤◌}
+use mathlib.Core.Path.{refl}
 use native.Mathlib.Omega.{arith}
 use borrow.Author.Rules.{rules}
-use lib.Dec.{eqb}
 use lib.IntN.{pos}
-use lib.ListN.{length, get_or, drop}
+use lib.ListN.{get_or}
 use mir.Syntax.{w64}
-use mir.Val.{Fits, of_z, to_z}
+use mir.Val.{Fits, of_z}
 use lib.Bits.{bit_or}
 use Rattle.std.proofs.Math.Facts.{Fits-or, Fits-of_z, of_z-to_z}
 use Rattle.value.proofs.Kit.{ok-fits}
-use Rattle.state.specs.Test.{every, is_zero}
+use Rattle.state.specs.Test.{is_zero}
 use Rattle.state.proofs.Tests.{zero_bits, bits-on, bits-done}
 use Rattle.state.proofs.all_zero.Goals as goal
 

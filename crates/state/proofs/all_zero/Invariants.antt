@@ -1,17 +1,12 @@
 -- The loop's invariant: no bit so far, and the test of the rest, give the answer for all. The measure is what is left.
-use mathlib.Core.Path.{◌≡◌, refl}
+use mathlib.Core.Path.{◌≡◌}
 use mathlib.Core.Bool.{◌&&◌}
 use Prim.Native.Nat.{◌-◌, ◌≤◌}
-use native.Mathlib.Omega.{arith}
-use borrow.Author.Rules.{rules}
 use lib.Dec.{eqb}
-use lib.IntN.{pos}
-use lib.ListN.{length, get_or, drop}
+use lib.ListN.{length, drop}
 use mir.Syntax.{w64}
 use mir.Val.{of_z}
-use Rattle.value.proofs.Kit.{ok-fits}
 use Rattle.state.specs.Test.{every, is_zero}
-use Rattle.state.proofs.Tests.{zero_bits, bits-on, bits-done}
 use Rattle.state.proofs.all_zero.Given as goal
 
 abbrev pub invariant-loop-i : goal.invariant-loop-i

@@ -1,7 +1,6 @@
 -- The three tests, of the pairs, of their order and of what follows them.
 use mathlib.Core.Path.{sym, ap, ◌∙◌}
 use Prim.Native.Nat.{◌*◌}
-use borrow.Author.Rules.{rules}
 use Rattle.machine.specs.State.{pair_width}
 use Rattle.state.specs.Test.{every, is_zero}
 use Rattle.state.proofs.Part.{tail-part}

@@ -1,7 +1,6 @@
 -- Both tests, of the processes and of what follows them.
 use mathlib.Core.Path.{sym, ap, ◌∙◌}
 use Prim.Native.Nat.{◌*◌}
-use borrow.Author.Rules.{rules}
 use lib.ListN.{take}
 use Rattle.machine.specs.State.{process_width}
 use Rattle.state.specs.Test.{every, is_zero}

@@ -1,6 +1,5 @@
 -- Both searches, the second with a count past all.
 use native.Mathlib.Omega.{arith}
-use borrow.Author.Rules.{rules}
 use lib.ListN.{length-set}
 use Rattle.state.proofs.channel_run.Goals as goal
 

@@ -1,12 +1,10 @@
 -- The loop's invariant: zeros below i, and from i on what was there. The measure is what is left.
-use mathlib.Core.Path.{◌≡◌, refl, ap, sym, ◌∙◌}
+use mathlib.Core.Path.{◌≡◌}
 use mathlib.Core.List.{List}
-use Prim.Native.Nat.{ℕ, ◌+◌, ◌-◌, ◌≤◌, ◌<◌}
-use native.Mathlib.Omega.{arith}
-use borrow.Author.Rules.{rules}
+use Prim.Native.Nat.{◌-◌, ◌≤◌}
 use lib.IntN.{ℤ, pos}
-use lib.ListN.{length, set, replicate, length-set, length-replicate, get_or-replicate}
-use Rattle.state.proofs.Mix.{mix, mix-up, mix_all}
+use lib.ListN.{length, replicate}
+use Rattle.state.proofs.Mix.{mix}
 use Rattle.state.proofs.clear_state.Given as goal
 
 abbrev target : List ℤ → List ℤ

@@ -1,7 +1,6 @@
 -- A count that passed the test is natural.
 use mathlib.Core.Path.{refl}
 use native.Mathlib.Omega.{arith}
-use borrow.Author.Rules.{rules}
 use lib.IntN.{pos}
 use lib.ListN.{get_or}
 use Rattle.value.proofs.Kit.{back, ok-fits}

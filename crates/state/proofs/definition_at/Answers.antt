@@ -3,7 +3,7 @@ use mathlib.Core.Path.{refl}
 use Prim.Native.Nat.{◌+◌, ◌*◌}
 use native.Mathlib.Omega.{arith}
 use lib.IntN.{pos}
-use lib.ListN.{get_or, length}
+use lib.ListN.{get_or}
 use Rattle.model.specs.Limits.{local_limit}
 use Rattle.machine.specs.State.{process_width}
 use Rattle.value.proofs.Kit.{back, ok-fits}

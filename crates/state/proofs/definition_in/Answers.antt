@@ -1,7 +1,6 @@
 -- The quotient, from its definition.
 use mathlib.Core.Path.{refl}
 use native.Mathlib.Omega.{arith}
-use borrow.Author.Rules.{rules}
 use Rattle.model.specs.Scope.{definition_in}
 use Rattle.state.proofs.definition_in.Goals as goal
 

@@ -1,12 +1,12 @@
 use mathlib.Core.Path.{sym, ap, ◌∙◌}
 use mathlib.Core.List.{List}
-use Prim.Native.Nat.{◌+◌, ◌-◌, ◌*◌, ◌/◌, ◌≤◌}
+use Prim.Native.Nat.{◌+◌, ◌-◌, ◌*◌, ◌/◌}
 use native.Mathlib.Omega.{arith}
 use lib.IntN.{ℤ}
 use lib.ListN.{length-take, length-drop}
 use Rattle.machine.specs.State.{pair_width}
 use Rattle.rules.specs.Order.{less}
-use Rattle.state.specs.Test.{rows, place_of}
+use Rattle.state.specs.Test.{rows}
 use Rattle.state.proofs.Part.{width-part}
 use Rattle.state.proofs.Places.{row_at, place-more, place-less, place-bound}
 use Rattle.state.proofs.Rows.{rows-length}

@@ -1,6 +1,5 @@
 -- The tail of the pairs rewritten, then the count: each as `pair_added` says.
 use native.Mathlib.Omega.{arith}
-use borrow.Author.Rules.{rules}
 use Rattle.state.proofs.Change.{added}
 use Rattle.state.proofs.insert_pair.Goals as goal
 

@@ -1,11 +1,11 @@
-use mathlib.Core.Path.{◌≡◌, sym, ap, ap₂, ◌∙◌}
-use Prim.Native.Nat.{◌+◌, ◌-◌, ◌*◌, ◌≤◌}
+use mathlib.Core.Path.{sym, ap, ap₂, ◌∙◌}
+use Prim.Native.Nat.{◌+◌, ◌*◌}
 use native.Mathlib.Omega.{arith}
 use borrow.Author.Rules.{rules}
-use lib.ListN.{take, drop, length-take, length-drop}
+use lib.ListN.{take, length-take, length-drop}
 use Rattle.machine.specs.State.{pair_width}
 use Rattle.rules.specs.Order.{less}
-use Rattle.state.specs.Test.{rows, ascends}
+use Rattle.state.specs.Test.{ascends}
 use Rattle.state.proofs.Part.{width-part, next_row}
 use Rattle.state.proofs.Tests.{refused, passed, rows_all, ascends-fail, ascends-on, ascends-done}
 use Rattle.state.proofs.is_ascending.Goals as goal

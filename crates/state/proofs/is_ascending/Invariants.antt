@@ -1,14 +1,9 @@
 -- The loop's invariant: the rows from i on ascend as all of them do. The measure is what is left.
-use mathlib.Core.Path.{◌≡◌, sym, ap, ap₂, ◌∙◌}
-use Prim.Native.Nat.{◌+◌, ◌-◌, ◌*◌, ◌≤◌}
-use native.Mathlib.Omega.{arith}
-use borrow.Author.Rules.{rules}
-use lib.ListN.{take, drop, length-take, length-drop}
+use mathlib.Core.Path.{◌≡◌}
+use Prim.Native.Nat.{◌-◌, ◌*◌, ◌≤◌}
+use lib.ListN.{drop}
 use Rattle.machine.specs.State.{pair_width}
-use Rattle.rules.specs.Order.{less}
 use Rattle.state.specs.Test.{rows, ascends}
-use Rattle.state.proofs.Part.{width-part, next_row}
-use Rattle.state.proofs.Tests.{refused, passed, rows_all, ascends-fail, ascends-on, ascends-done}
 use Rattle.state.proofs.is_ascending.Given as goal
 
 abbrev pub invariant-loop-i : goal.invariant-loop-i

@@ -1,11 +1,9 @@
-use mathlib.Core.Path.{◌≡◌, refl, sym, ◌∙◌}
-use Prim.Native.Nat.{◌-◌, ◌≤◌}
+use mathlib.Core.Path.{refl, sym, ◌∙◌}
 use native.Mathlib.Omega.{arith}
 use borrow.Author.Rules.{rules}
 use lib.IntN.{pos}
-use lib.ListN.{length, get_or, drop}
+use lib.ListN.{get_or}
 use Rattle.value.proofs.Kit.{back}
-use Rattle.rules.specs.Order.{less}
 use Rattle.state.proofs.Tests.{refused, passed, less-apart, less-on, less_done}
 use Rattle.state.proofs.is_before.Goals as goal
 

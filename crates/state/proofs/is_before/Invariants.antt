@@ -1,13 +1,8 @@
 -- The loop's invariant: the rests stand to each other as the rows do. The measure is what is left.
-use mathlib.Core.Path.{◌≡◌, refl, sym, ◌∙◌}
+use mathlib.Core.Path.{◌≡◌}
 use Prim.Native.Nat.{◌-◌, ◌≤◌}
-use native.Mathlib.Omega.{arith}
-use borrow.Author.Rules.{rules}
-use lib.IntN.{pos}
-use lib.ListN.{length, get_or, drop}
-use Rattle.value.proofs.Kit.{back}
+use lib.ListN.{length, drop}
 use Rattle.rules.specs.Order.{less}
-use Rattle.state.proofs.Tests.{refused, passed, less-apart, less-on, less_done}
 use Rattle.state.proofs.is_before.Given as goal
 
 abbrev pub invariant-loop-i : goal.invariant-loop-i

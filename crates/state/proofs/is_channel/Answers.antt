@@ -1,6 +1,5 @@
 -- Each return is a case of `is_channel`, from what the calls ensure.
 use mathlib.Core.Path.{sym, ◌∙◌}
-use borrow.Author.Rules.{rules}
 use lib.IntN.{pos}
 use lib.ListN.{get_or}
 use Rattle.value.proofs.Kit.{back}

@@ -1,6 +1,5 @@
 -- Each return is a case of `is_count`, from what the calls ensure.
 use mathlib.Core.Path.{sym, ◌∙◌}
-use borrow.Author.Rules.{rules}
 use mir.Facts.{to_z-of_z}
 use Rattle.state.proofs.Tests.{count_none, count-some}
 use Rattle.state.proofs.is_count.Goals as goal

@@ -1,7 +1,6 @@
 -- Each kind is a case of `is_item`; a kind is compared by its bits.
 use mathlib.Core.Path.{sym, ◌∙◌}
 use native.Mathlib.Omega.{arith}
-use borrow.Author.Rules.{rules}
 use mir.Facts.{to_z-of_z}
 use Rattle.state.proofs.Tests.{bits-same, bits-differ, item-number, item-neither, item-name}
 use Rattle.state.proofs.is_item.Goals as goal

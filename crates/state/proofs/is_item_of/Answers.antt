@@ -1,7 +1,5 @@
 -- Each return is a case of `is_item_of`, from what the calls ensure.
-use mathlib.Core.Path.{sym, ap₂, ◌∙◌}
-use mathlib.Core.Bool.{Bool, ◌&&◌}
-use borrow.Author.Rules.{rules}
+use mathlib.Core.Path.{sym, ◌∙◌}
 use mir.Facts.{to_z-of_z}
 use Rattle.state.proofs.Tests.{refused, passed, item-there, item-unused, zeros-fail, zeros-rest}
 use Rattle.state.proofs.is_item_of.Goals as goal

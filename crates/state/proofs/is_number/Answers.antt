@@ -4,8 +4,6 @@ use lib.IntN.{pos}
 use mir.Facts.{to_z-of_z}
 use Rattle.value.specs.Arithmetic.{is_same}
 use Rattle.value.proofs.Kit.{back}
-use borrow.Author.Rules.{rules}
-use Rattle.value.proofs.same.Reads as same_Reads
 use Rattle.state.proofs.is_number.Goals as goal
 
 pub returns : goal.returns

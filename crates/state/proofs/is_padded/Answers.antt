@@ -1,7 +1,6 @@
 -- Both tests, of the first numbers and of the rest.
 use mathlib.Core.Path.{sym, ap, ◌∙◌}
 use native.Mathlib.Omega.{arith}
-use borrow.Author.Rules.{rules}
 use lib.ListN.{length-take}
 use Rattle.state.specs.Test.{every, is_zero}
 use Rattle.state.proofs.Tests.{refused, passed, padded-fails, padded-rest}

@@ -1,7 +1,6 @@
 -- Each return is a case of `is_pair`, from what the calls ensure.
 use mathlib.Core.Path.{sym, ap, ◌∙◌}
 use native.Mathlib.Omega.{arith}
-use borrow.Author.Rules.{rules}
 use Prim.Native.Nat.{◌+◌}
 use lib.IntN.{pos, nat_abs}
 use lib.ListN.{get_or, length-take, length-drop}

@@ -3,19 +3,13 @@ use mathlib.Core.Path.{◌≡◌, sym, ap, ap₂, ◌∙◌}
 use Prim.Native.Nat.{ℕ, ◌+◌}
 use native.Mathlib.Omega.{arith}
 use lib.IntN.{ℤ, pos, nat_abs}
-use lib.ListN.{get_or, take, drop, length, length-take, length-drop}
+use lib.ListN.{get_or, take, drop, length-take, length-drop}
 use Rattle.model.specs.Scope.{locals_in, definition_in}
 use Rattle.model.specs.Limits.{local_limit}
 use Rattle.value.proofs.Kit.{back, ok-fits}
 use Rattle.value.specs.Arithmetic.{is_same}
 use Rattle.state.specs.Test.{is_padded}
 use Rattle.state.proofs.Tests.{refused, passed, below-fits, below-bound, process-fails, process-unpadded, process-rest, few-locals}
-use borrow.Author.Rules.{rules}
-use Rattle.state.proofs.definition_in.Reads as definition-in-reads
-use Rattle.state.proofs.is_below.Reads as is-below-reads
-use Rattle.state.proofs.is_number.Reads as is-number-reads
-use Rattle.state.proofs.is_padded.Reads as is-padded-reads
-use Rattle.state.proofs.locals_in.Reads as locals-in-reads
 use Rattle.state.proofs.is_process.Goals as goal
 
 pub returns-then-not-is_below : goal.returns-then-not-is_below

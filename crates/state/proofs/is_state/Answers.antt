@@ -1,7 +1,6 @@
 -- Each return is a case of `is_state`, from what the calls ensure of each part.
 use mathlib.Core.Path.{sym, ap, ◌∙◌}
 use native.Mathlib.Omega.{arith}
-use borrow.Author.Rules.{rules}
 use lib.IntN.{pos, nat_abs}
 use lib.ListN.{get_or, take, length-take, length-drop}
 use Rattle.state.specs.Change.{pairs_from}

@@ -1,6 +1,5 @@
 -- The search says whether the pair is lit, and what follows is a case of `pair_killed`.
 use native.Mathlib.Omega.{arith}
-use borrow.Author.Rules.{rules}
 use Rattle.state.proofs.Launch.{part_room, part_ascends, kill-stays, kill-takes, kill-room}
 use Rattle.state.proofs.Read.{pairs_below}
 use Rattle.state.proofs.Tests.{refused, passed}

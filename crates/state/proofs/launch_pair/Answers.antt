@@ -1,6 +1,5 @@
 -- The search says whether the pair is lit, and what follows is a case of `pair_launched`.
 use native.Mathlib.Omega.{arith}
-use borrow.Author.Rules.{rules}
 use Rattle.state.proofs.Launch.{part_room, part_ascends, launch-stays, launch-adds, launch-room}
 use Rattle.state.proofs.Read.{pairs_below}
 use Rattle.state.proofs.launch_pair.Goals as goal

@@ -1,7 +1,5 @@
 -- The part of the numbers that starts after the sum number.
 use Prim.Native.Nat.{◌+◌, ◌*◌}
-use native.Mathlib.Omega.{arith}
-use borrow.Author.Rules.{rules}
 use Rattle.machine.specs.State.{process_width}
 use Rattle.state.specs.Read.{locals_at}
 use Rattle.state.proofs.Part.{width-part}

@@ -1,6 +1,5 @@
 -- The remainder, from its definition.
 use mathlib.Core.Path.{refl}
-use borrow.Author.Rules.{rules}
 use Rattle.model.specs.Scope.{locals_in}
 use Rattle.state.proofs.locals_in.Goals as goal
 

@@ -1,7 +1,5 @@
 -- The part of the numbers that starts at the pair.
 use Prim.Native.Nat.{◌+◌, ◌*◌}
-use native.Mathlib.Omega.{arith}
-use borrow.Author.Rules.{rules}
 use Rattle.state.specs.Change.{pairs_from}
 use Rattle.machine.specs.State.{pair_width}
 use Rattle.state.specs.Read.{pair_row}

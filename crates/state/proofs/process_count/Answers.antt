@@ -1,6 +1,5 @@
 -- A count of a state that passed is below the limit.
 use native.Mathlib.Omega.{arith}
-use borrow.Author.Rules.{rules}
 use Rattle.state.proofs.Read.{processes-below}
 use Rattle.state.proofs.process_count.Goals as goal
 

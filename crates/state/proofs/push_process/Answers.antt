@@ -13,9 +13,6 @@ use Rattle.model.specs.Limits.{local_limit}
 use Rattle.machine.specs.State.{process_width}
 use Rattle.state.specs.Test.{at, is_below}
 use Rattle.state.specs.Change.{process_added, process_pushed}
-use borrow.Author.Rules.{rules}
-use Rattle.state.proofs.counted.Reads as counted-reads
-use Rattle.state.proofs.put_process.Reads as put-process-reads
 use Rattle.state.proofs.push_process.Goals as goal
 
 pub put_process-requires : goal.put_process-requires

@@ -1,11 +1,8 @@
-use mathlib.Core.Path.{◌≡◌, refl}
-use mathlib.Core.List.{◌++◌}
-use Prim.Native.Nat.{◌-◌, ◌≤◌}
+use mathlib.Core.Path.{refl}
 use native.Mathlib.Omega.{arith}
 use borrow.Author.Rules.{rules}
-use lib.ListN.{length, take, drop, length-set}
+use lib.ListN.{length-set}
 use Rattle.value.proofs.Kit.{back}
-use Rattle.state.proofs.Mix.{mix}
 use Rattle.state.proofs.Change.{put_on, put-done}
 use Rattle.state.proofs.put.Goals as goal
 

@@ -1,8 +1,7 @@
 -- The sum number, the locals, then the count: each as `process_added` says.
 use Prim.Native.Nat.{◌+◌, ◌*◌}
 use native.Mathlib.Omega.{arith}
-use borrow.Author.Rules.{rules}
-use lib.ListN.{length, length-take, length-drop, length-set}
+use lib.ListN.{length-take, length-drop, length-set}
 use mir.Syntax.{w64}
 use mir.Val.{to_z}
 use Rattle.machine.specs.State.{process_width}

@@ -1,6 +1,5 @@
 -- The tail of the pairs moved, then the count: each as `pair_taken` says.
 use native.Mathlib.Omega.{arith}
-use borrow.Author.Rules.{rules}
 use Rattle.state.proofs.Change.{taken}
 use Rattle.state.proofs.remove_pair.Goals as goal
 

@@ -1,7 +1,6 @@
 -- The tail of the processes rewritten, then the count: each as `process_replaced` says.
 use Prim.Native.Nat.{◌*◌}
 use native.Mathlib.Omega.{arith}
-use borrow.Author.Rules.{rules}
 use lib.ListN.{take}
 use Rattle.machine.specs.State.{process_width}
 use Rattle.state.proofs.Change.{replaced}

@@ -1,7 +1,5 @@
 -- Each return is a case of `is_lit`, from the place that was found.
 use mathlib.Core.Path.{sym}
-use native.Mathlib.Omega.{arith}
-use borrow.Author.Rules.{rules}
 use Rattle.state.proofs.Launch.{stands-past, stands_here}
 use Rattle.state.proofs.stands_at.Goals as goal
 

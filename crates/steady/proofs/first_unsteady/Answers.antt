@@ -1,10 +1,6 @@
-use mathlib.Core.Path.{◌≡◌, refl}
-use Prim.Native.Nat.{◌+◌, ◌-◌}
+use mathlib.Core.Path.{refl}
 use native.Mathlib.Omega.{arith}
-use borrow.Author.Rules.{rules}
-use Rattle.names.specs.declared.Question.TheVariants.{Given}
-use Rattle.names.specs.Settings.{World}
-use Rattle.steady.proofs.Faults.{Onward, begins, goes_on, ends, inside}
+use Rattle.steady.proofs.Faults.{begins, goes_on, ends, inside}
 use Rattle.steady.proofs.first_unsteady.Goals as goal
 
 pub loop-i-init : goal.loop-i-init

@@ -1,11 +1,9 @@
 -- The loop's invariant: what was found and what is still to be judged give the answer for all the nodes.
-use mathlib.Core.Path.{◌≡◌, refl}
+use mathlib.Core.Path.{◌≡◌}
 use Prim.Native.Nat.{◌+◌, ◌-◌}
-use native.Mathlib.Omega.{arith}
-use borrow.Author.Rules.{rules}
 use Rattle.names.specs.declared.Question.TheVariants.{Given}
 use Rattle.names.specs.Settings.{World}
-use Rattle.steady.proofs.Faults.{Onward, begins, goes_on, ends, inside}
+use Rattle.steady.proofs.Faults.{Onward}
 use Rattle.steady.proofs.first_unsteady.Given as goal
 
 abbrev pub invariant-loop-i : goal.invariant-loop-i

@@ -1,5 +1,4 @@
 -- A case for each return, from Judges.antt: 29 is asked where 10 has the answer yes.
-use borrow.Author.Rules.{rules}
 use Rattle.steady.proofs.Judges.{start-no, offends, steady}
 use Rattle.steady.proofs.judge_steady.Goals as goal
 

@@ -1,5 +1,4 @@
 -- A case for each return, from Judges.antt.
-use borrow.Author.Rules.{rules}
 use Rattle.opening.proofs.Models.{tree-fits}
 use Rattle.steady.proofs.Judges.{tree-no}
 use Rattle.steady.proofs.open_steady.Goals as goal

@@ -1,5 +1,4 @@
 -- A case for each profile, from Judges.antt.
-use borrow.Author.Rules.{rules}
 use Rattle.steady.proofs.Judges.{under-plain, under-steady}
 use Rattle.steady.proofs.open_under.Goals as goal
 

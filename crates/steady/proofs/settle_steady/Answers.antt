@@ -1,6 +1,5 @@
 -- A case for each return, from Judges.antt; a sound text can be searched and settled.
 use mathlib.Core.Path.{refl}
-use borrow.Author.Rules.{rules}
 use Rattle.opening.proofs.Resolves.{yes5, can-settle, settled-so, settles-so}
 use Rattle.opening.proofs.Models.{named-sound, named-yes, held-model}
 use Rattle.steady.proofs.Judges.{named-no, searched, found-so}

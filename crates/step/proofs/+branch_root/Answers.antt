@@ -1,5 +1,4 @@
 use mathlib.Core.Path.{ap, ◌∙◌}
-use Prim.Native.Nat.{ℕ, ◌<◌}
 use native.Mathlib.Omega.{arith}
 use Rattle.tree.specs.Node.{kind_of, left_of}
 use Rattle.step.proofs.Chain.{last-root, first-root, later-chain', later-root'}

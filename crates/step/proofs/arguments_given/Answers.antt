@@ -1,5 +1,4 @@
 -- The root or nothing: the laws of Continue.
-use borrow.Author.Rules.{rules}
 use Rattle.step.proofs.Continue.{given-asks, given_is, given-none}
 use Rattle.step.proofs.arguments_given.Goals as goal
 

@@ -1,7 +1,6 @@
 -- A launch, a kill or neither: the laws of Pairs.
 use mathlib.Core.Path.{refl, ap, ◌∙◌}
 use mathlib.Core.List.{List}
-use borrow.Author.Rules.{rules}
 use lib.IntN.{ℤ}
 use lib.ListN.{length}
 use Rattle.step.proofs.Tables.{passed}

@@ -1,7 +1,6 @@
 -- Each answer by its law; the later process is told by the places.
 use mathlib.Core.Path.{sym, ◌∙◌}
 use native.Mathlib.Omega.{arith}
-use borrow.Author.Rules.{rules}
 use lib.ListN.{length}
 use Rattle.machine.specs.Offer.{next_processes}
 use Rattle.step.proofs.Tables.{passed, processes-are}

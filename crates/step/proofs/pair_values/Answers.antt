@@ -4,7 +4,6 @@ use native.Mathlib.Omega.{arith}
 use Prim.Native.Nat.{◌+◌}
 use lib.IntN.{pos}
 use lib.ListN.{get_or}
-use borrow.Author.Rules.{rules}
 use Rattle.machine.specs.State.{channel_width}
 use Rattle.value.proofs.Kit.{back, ok-fits}
 use Rattle.state.proofs.Tests.{below-fits}

@@ -2,7 +2,6 @@
 use Rattle.tree.specs.Node.{kind_of}
 use Rattle.step.proofs.Gates.{no-gate, gate}
 use mathlib.Core.Path.{ap, ◌∙◌}
-use borrow.Author.Rules.{rules}
 use Rattle.step.proofs.past_gate.Goals as goal
 
 pub returns-then-kind_of-ne-GATE : goal.returns-then-kind_of-ne-GATE

@@ -1,13 +1,11 @@
-use mathlib.Core.Path.{◌≡◌, refl, ap, ◌∙◌}
+use mathlib.Core.Path.{refl, ap, ◌∙◌}
 use mathlib.Core.List.{List, ◌++◌}
-use Prim.Native.Nat.{◌-◌, ◌≤◌}
 use native.Mathlib.Omega.{arith}
 use borrow.Author.Rules.{rules}
 use lib.IntN.{ℤ}
-use lib.ListN.{length, take, drop, length-set}
+use lib.ListN.{length, drop, length-set}
 use lib.Seq.{take_all}
 use Rattle.value.proofs.Kit.{back}
-use Rattle.state.proofs.Mix.{mix}
 use Rattle.state.proofs.Change.{put_on, put-done}
 use Rattle.step.proofs.put_first.Goals as goal
 

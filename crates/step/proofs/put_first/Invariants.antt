@@ -1,15 +1,9 @@
 -- The loop's invariant: new numbers below i, and from i on what was there. The measure is what is left.
-use mathlib.Core.Path.{◌≡◌, refl, ap, ◌∙◌}
-use mathlib.Core.List.{List, ◌++◌}
+use mathlib.Core.Path.{◌≡◌}
+use mathlib.Core.List.{◌++◌}
 use Prim.Native.Nat.{◌-◌, ◌≤◌}
-use native.Mathlib.Omega.{arith}
-use borrow.Author.Rules.{rules}
-use lib.IntN.{ℤ}
-use lib.ListN.{length, take, drop, length-set}
-use lib.Seq.{take_all}
-use Rattle.value.proofs.Kit.{back}
+use lib.ListN.{length, take, drop}
 use Rattle.state.proofs.Mix.{mix}
-use Rattle.state.proofs.Change.{put_on, put-done}
 use Rattle.step.proofs.put_first.Given as goal
 
 abbrev pub invariant-loop-i : goal.invariant-loop-i

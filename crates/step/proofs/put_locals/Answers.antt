@@ -1,7 +1,6 @@
 -- Own numbers first, then both values, of which the count says how many are taken.
 use mathlib.Core.Path.{sym, ◌∙◌}
 use native.Mathlib.Omega.{arith}
-use borrow.Author.Rules.{rules}
 use lib.ListN.{length-set}
 use Rattle.value.proofs.Kit.{back}
 use Rattle.step.specs.Enter.{values_of}

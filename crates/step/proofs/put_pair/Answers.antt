@@ -1,11 +1,8 @@
 -- The channel, then three numbers after it: those of the pair that the offer shows.
 use mathlib.Core.Path.{◌≡◌, ap, ◌∙◌}
-use mathlib.Core.List.{List}
-use Prim.Native.Nat.{◌+◌}
 use native.Mathlib.Omega.{arith}
-use borrow.Author.Rules.{rules}
-use lib.IntN.{ℤ, pos}
-use lib.ListN.{length, set, drop, length-set, length-append, length-drop}
+use lib.IntN.{pos}
+use lib.ListN.{length, drop, length-set, length-append, length-drop}
 use mir.Facts.{to_z_pos}
 use mir.Syntax.{w64}
 use Rattle.value.proofs.Kit.{back, ok-fits}

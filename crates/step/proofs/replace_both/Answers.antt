@@ -1,7 +1,6 @@
 -- One replacement after the other, in the order that the first count tells.
 use mathlib.Core.Path.{sym, ◌∙◌}
 use native.Mathlib.Omega.{arith}
-use borrow.Author.Rules.{rules}
 use Rattle.step.proofs.Moves.{cut-zero, cut-some, first_goes, second-next, first-both, second-goes, first_next, second-both}
 use Rattle.step.proofs.replace_both.Goals as goal
 

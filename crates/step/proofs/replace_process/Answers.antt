@@ -1,7 +1,6 @@
 -- The rows are written and then spliced: the laws of Continue.
 use mathlib.Core.Path.{ap, sym}
 use mathlib.Core.List.{List, []}
-use borrow.Author.Rules.{rules}
 use lib.ListN.{length}
 use Rattle.machine.specs.Offer.{Process}
 use Rattle.machine.specs.State.{flatten, process_numbers}

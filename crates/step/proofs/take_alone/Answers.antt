@@ -1,7 +1,6 @@
 -- What is entered gives the move its parts; its answer is said of the locals with the names bound.
 use mathlib.Core.Path.{refl}
 use native.Mathlib.Omega.{arith}
-use borrow.Author.Rules.{rules}
 use lib.ListN.{length-take}
 use Rattle.step.proofs.Entry.{acts-of, alone_of, alone-answers}
 use Rattle.step.proofs.take_alone.Goals as goal

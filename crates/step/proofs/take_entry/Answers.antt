@@ -1,7 +1,6 @@
 -- A listed entry has its processes: the kind tells how many act.
 use mathlib.Core.Path.{subst}
 use Prim.Native.Nat.{ℕ}
-use borrow.Author.Rules.{rules}
 use mathlib.Core.List.{Memᴰ as In}
 use Rattle.rules.specs.Rules.{key}
 use Rattle.rules.specs.Listing.{entry, entries}

@@ -1,7 +1,6 @@
 -- What both enter gives the move its parts; its answer is said of their locals.
 use mathlib.Core.Path.{refl}
 use native.Mathlib.Omega.{arith}
-use borrow.Author.Rules.{rules}
 use lib.ListN.{length-take}
 use Rattle.step.proofs.Entry.{meets-of, meets-answers}
 use Rattle.step.proofs.take_handshake.Goals as goal

@@ -3,7 +3,6 @@ use Rattle.tree.specs.Node.{token_of, left_of}
 use Rattle.step.proofs.Gates.{token-of-wait}
 use mathlib.Core.Path.{ap, ◌∙◌}
 use Prim.Native.Nat.{ℕ}
-use borrow.Author.Rules.{rules}
 use lib.ListN.{get_or}
 use Rattle.step.proofs.wait_token.Goals as goal
 

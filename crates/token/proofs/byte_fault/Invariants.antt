@@ -1,12 +1,8 @@
 -- The loop's invariant: the bytes before i are allowed, so that question 3 asked of the rest answers for the whole text.
-use mathlib.Core.Path.{◌≡◌, refl, sym, ◌∙◌}
+use mathlib.Core.Path.{◌≡◌}
 use Prim.Native.Nat.{◌-◌, ◌≤◌}
-use native.Mathlib.Omega.{arith}
 use lib.ListN.{length, drop}
-use borrow.Author.Tests.{not-true, not-false}
-use borrow.Author.Rules.{rules}
 use Rattle.token.specs.Questions.{stray_byte}
-use Rattle.token.proofs.Asks.{stray-on, stray-here, stray-end}
 use Rattle.token.proofs.byte_fault.Given as goal
 
 abbrev pub invariant-loop-i : goal.invariant-loop-i

@@ -1,5 +1,4 @@
 -- Each return is one kind of token.
-use borrow.Author.Rules.{rules}
 use Rattle.token.proofs.Tells.{of-name, of-whole, of-decimal, of_other}
 use Rattle.token.proofs.content_of.Goals as goal
 

@@ -1,9 +1,7 @@
 use mathlib.Core.Path.{◌≡◌, refl}
-use Prim.Native.Nat.{◌-◌, ◌≤◌}
 use native.Mathlib.Omega.{arith}
-use lib.ListN.{length, length-set}
+use lib.ListN.{length-set}
 use borrow.Author.Rules.{rules}
-use Rattle.token.specs.Contents.{Told}
 use Rattle.token.proofs.Tells.{told_none, held-kind, held_place, held-size, held-room, told_more}
 use Rattle.token.proofs.contents.Goals as goal
 

@@ -1,11 +1,8 @@
 -- The loop's invariant: the numbers of the first i tokens stand at the tables' front, and the rest is as it was.
-use mathlib.Core.Path.{◌≡◌, refl}
+use mathlib.Core.Path.{◌≡◌}
 use Prim.Native.Nat.{◌-◌, ◌≤◌}
-use native.Mathlib.Omega.{arith}
-use lib.ListN.{length, length-set}
-use borrow.Author.Rules.{rules}
+use lib.ListN.{length}
 use Rattle.token.specs.Contents.{Told}
-use Rattle.token.proofs.Tells.{told_none, held-kind, held_place, held-size, held-room, told_more}
 use Rattle.token.proofs.contents.Given as goal
 
 abbrev pub invariant-loop-i : goal.invariant-loop-i

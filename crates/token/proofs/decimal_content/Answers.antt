@@ -1,7 +1,6 @@
 -- Each return by how many digits stand before the point and after it.
 use native.Mathlib.Omega.{arith}
 use lib.ListN.{length-take, length-drop}
-use borrow.Author.Rules.{rules}
 use Rattle.token.proofs.Runs.{lead-le}
 use Rattle.token.proofs.Tells.{many-before, no_fraction, many-after, few-both}
 use Rattle.token.proofs.decimal_content.Goals as goal

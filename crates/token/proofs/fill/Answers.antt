@@ -1,9 +1,8 @@
-use mathlib.Core.Path.{◌≡◌, refl}
-use Prim.Native.Nat.{◌-◌, ◌≤◌}
+use mathlib.Core.Path.{refl}
 use native.Mathlib.Omega.{arith}
-use lib.ListN.{length, length-set}
+use lib.ListN.{length-set}
 use borrow.Author.Rules.{rules}
-use Rattle.token.proofs.Cases.{Written, written_none, written-end, written-stop, token-room, token-some, written-more}
+use Rattle.token.proofs.Cases.{written_none, written-end, written-stop, token-room, token-some, written-more}
 use Rattle.token.proofs.fill.Goals as goal
 
 pub loop-at-init : goal.loop-at-init

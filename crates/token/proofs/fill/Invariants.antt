@@ -1,10 +1,8 @@
 -- The loop's invariant: the tokens written so far and those from the byte `at` on are the text's tokens, and the tables' rest is as it was.
-use mathlib.Core.Path.{◌≡◌, refl}
+use mathlib.Core.Path.{◌≡◌}
 use Prim.Native.Nat.{◌-◌, ◌≤◌}
-use native.Mathlib.Omega.{arith}
-use lib.ListN.{length, length-set}
-use borrow.Author.Rules.{rules}
-use Rattle.token.proofs.Cases.{Written, written_none, written-end, written-stop, token-room, token-some, written-more}
+use lib.ListN.{length}
+use Rattle.token.proofs.Cases.{Written}
 use Rattle.token.proofs.fill.Given as goal
 
 abbrev pub invariant-loop-at : goal.invariant-loop-at

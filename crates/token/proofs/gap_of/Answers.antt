@@ -1,11 +1,8 @@
-use mathlib.Core.Path.{◌≡◌, ◌∙◌}
-use mathlib.Core.Bool.{false}
-use Prim.Native.Nat.{◌+◌, ◌-◌, ◌≤◌}
+use mathlib.Core.Path.{◌∙◌}
 use native.Mathlib.Omega.{arith}
-use lib.ListN.{length, drop, length-drop}
+use lib.ListN.{drop, length-drop}
 use borrow.Author.Tests.{not-true, not-false}
 use borrow.Author.Rules.{rules}
-use Rattle.token.specs.Bytes.{gap}
 use Rattle.token.proofs.Runs.{stride-le, gap-on, gap-off, gap-end}
 use Rattle.token.proofs.gap_of.Goals as goal
 

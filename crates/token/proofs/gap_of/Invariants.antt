@@ -1,13 +1,9 @@
 -- The loop's invariant: the bytes before i are gap and i stands in no comment, so that the gap is counted from i on.
-use mathlib.Core.Path.{◌≡◌, ◌∙◌}
+use mathlib.Core.Path.{◌≡◌}
 use mathlib.Core.Bool.{false}
 use Prim.Native.Nat.{◌+◌, ◌-◌, ◌≤◌}
-use native.Mathlib.Omega.{arith}
-use lib.ListN.{length, drop, length-drop}
-use borrow.Author.Tests.{not-true, not-false}
-use borrow.Author.Rules.{rules}
+use lib.ListN.{length, drop}
 use Rattle.token.specs.Bytes.{gap}
-use Rattle.token.proofs.Runs.{stride-le, gap-on, gap-off, gap-end}
 use Rattle.token.proofs.gap_of.Given as goal
 
 abbrev pub invariant-loop-i : goal.invariant-loop-i

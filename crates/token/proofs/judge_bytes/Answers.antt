@@ -1,5 +1,4 @@
 -- The first question with the answer no, from what its two calls answer.
-use borrow.Author.Rules.{rules}
 use Rattle.token.proofs.Asks.{refused-length, refused-byte, refused-depth, passed}
 use Rattle.token.proofs.judge_bytes.Goals as goal
 

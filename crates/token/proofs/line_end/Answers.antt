@@ -1,9 +1,6 @@
-use mathlib.Core.Path.{◌≡◌, refl}
-use Prim.Native.Nat.{◌+◌, ◌-◌, ◌≤◌}
+use mathlib.Core.Path.{refl}
 use native.Mathlib.Omega.{arith}
-use lib.ListN.{length, drop}
 use borrow.Author.Rules.{rules}
-use Rattle.token.specs.Bytes.{line_left}
 use Rattle.token.proofs.Runs.{line_on, line-stop, line-end}
 use Rattle.token.proofs.line_end.Goals as goal
 

@@ -1,11 +1,8 @@
 -- The loop's invariant: no LF stands from `from` to i, so that the line's rest is counted from i on.
-use mathlib.Core.Path.{◌≡◌, refl}
+use mathlib.Core.Path.{◌≡◌}
 use Prim.Native.Nat.{◌+◌, ◌-◌, ◌≤◌}
-use native.Mathlib.Omega.{arith}
 use lib.ListN.{length, drop}
-use borrow.Author.Rules.{rules}
 use Rattle.token.specs.Bytes.{line_left}
-use Rattle.token.proofs.Runs.{line_on, line-stop, line-end}
 use Rattle.token.proofs.line_end.Given as goal
 
 abbrev pub invariant-loop-i : goal.invariant-loop-i

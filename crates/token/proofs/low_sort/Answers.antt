@@ -1,7 +1,6 @@
 -- The bytes below A by ranges.
 use mathlib.Core.List.{[]}
 use native.Mathlib.Omega.{arith}
-use borrow.Author.Rules.{rules}
 use Rattle.token.specs.Bytes.{within, is_blank, is_letter, is_digit, is_sign, sort_of}
 use Rattle.token.proofs.Ranges.{by-range}
 use Rattle.token.proofs.low_sort.Goals as goal

@@ -1,6 +1,5 @@
 -- Both forms of a packed name.
 use mathlib.Core.Path.{ap, sym, ◌∙◌}
-use borrow.Author.Rules.{rules}
 use Rattle.token.specs.Contents.{name_content, words_of}
 use Rattle.token.proofs.name_content.Goals as goal
 

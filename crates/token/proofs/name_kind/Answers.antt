@@ -1,7 +1,6 @@
 -- The five words by their packed numbers, which no other plain bytes have.
 use mathlib.Core.Path.{◌≡◌, sym, ◌∙◌}
 use native.Mathlib.Omega.{arith}
-use borrow.Author.Rules.{rules}
 use Rattle.word.specs.Name.{pack}
 use Rattle.token.proofs.Words.{no_word, long-kind, number-kind}
 use Rattle.token.proofs.name_kind.Goals as goal

@@ -1,7 +1,6 @@
 -- The run is the name; its bytes are plain, which the test for words asks.
 use native.Mathlib.Omega.{arith}
 use lib.ListN.{length-take}
-use borrow.Author.Rules.{rules}
 use Rattle.token.proofs.Runs.{lead-le, lead-rest}
 use Rattle.token.proofs.Sorts.{run-plain}
 use Rattle.token.proofs.Cases.{named-is}

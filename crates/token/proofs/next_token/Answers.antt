@@ -1,7 +1,6 @@
 -- The token after the gap, whose part of the text goes to the end.
 use mathlib.Core.Bool.{false}
 use native.Mathlib.Omega.{arith}
-use borrow.Author.Rules.{rules}
 use Rattle.token.proofs.Cases.{next-is}
 use Rattle.token.proofs.Runs.{gap-le}
 use Rattle.token.proofs.next_token.Goals as goal

@@ -1,7 +1,6 @@
 -- A point with a digit after it and the digits there belong to the number, else the digits alone.
 use mathlib.Core.Path.{sym, ◌∙◌}
 use native.Mathlib.Omega.{arith}
-use borrow.Author.Rules.{rules}
 use Rattle.token.proofs.Runs.{lead-le, lead-rest}
 use Rattle.token.proofs.Marks.{pointed-in}
 use Rattle.token.proofs.Cases.{decimal-is, whole_is}

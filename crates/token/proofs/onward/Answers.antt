@@ -2,7 +2,6 @@
 use mathlib.Core.Path.{ap, sym, ◌∙◌}
 use Prim.Native.Nat.{ℕ, ◌+◌}
 use lib.ListN.{get_or}
-use borrow.Author.Rules.{rules}
 use Rattle.token.specs.Bytes.{starts}
 use Rattle.token.proofs.Runs.{stride-is}
 use Rattle.token.proofs.onward.Goals as goal

@@ -1,6 +1,5 @@
 -- Each return of the bracket count, from the comparisons on its way.
 use native.Mathlib.Omega.{arith}
-use borrow.Author.Rules.{rules}
 use borrow.Author.Tests.{eq-eqb, ne_eqb}
 use Rattle.token.specs.Questions.{opened}
 use Rattle.token.proofs.opened_after.Goals as goal

@@ -1,7 +1,6 @@
 -- Past the end the byte is 0, as `get_or` has it.
 use mathlib.Core.Path.{sym}
 use lib.ListN.{get_or-eq_default}
-use borrow.Author.Rules.{rules}
 use Rattle.token.proofs.peek.Goals as goal
 
 pub returns : goal.returns

@@ -1,9 +1,6 @@
-use mathlib.Core.Path.{◌≡◌, refl}
-use Prim.Native.Nat.{◌+◌, ◌-◌, ◌≤◌}
+use mathlib.Core.Path.{refl}
 use native.Mathlib.Omega.{arith}
-use lib.ListN.{length, drop}
 use borrow.Author.Rules.{rules}
-use Rattle.token.specs.Bytes.{lead}
 use Rattle.token.proofs.Runs.{belongs-on, belongs-below, belongs-above, lead-on, lead-off, lead-end}
 use Rattle.token.proofs.run_end.Goals as goal
 

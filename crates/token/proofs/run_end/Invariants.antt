@@ -1,11 +1,8 @@
 -- The loop's invariant: the bytes from `from` to i go on the run, so that it is counted from i on.
-use mathlib.Core.Path.{◌≡◌, refl}
+use mathlib.Core.Path.{◌≡◌}
 use Prim.Native.Nat.{◌+◌, ◌-◌, ◌≤◌}
-use native.Mathlib.Omega.{arith}
 use lib.ListN.{length, drop}
-use borrow.Author.Rules.{rules}
 use Rattle.token.specs.Bytes.{lead}
-use Rattle.token.proofs.Runs.{belongs-on, belongs-below, belongs-above, lead-on, lead-off, lead-end}
 use Rattle.token.proofs.run_end.Given as goal
 
 abbrev pub invariant-loop-i : goal.invariant-loop-i

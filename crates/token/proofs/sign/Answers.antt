@@ -1,7 +1,6 @@
 -- A pair of bytes makes a sign of two; its first byte is low enough that 128 more fit.
 use mathlib.Core.Path.{sym, ◌∙◌}
 use native.Mathlib.Omega.{arith}
-use borrow.Author.Rules.{rules}
 use Rattle.token.specs.Token.{sign_tok}
 use Rattle.token.proofs.Sorts.{pairs-low}
 use Rattle.token.proofs.sign.Goals as goal

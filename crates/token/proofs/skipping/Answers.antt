@@ -1,6 +1,5 @@
 -- The three returns of the test for a byte of a gap; above `/` no byte needs its sort.
 use mathlib.Core.Path.{sym}
-use borrow.Author.Rules.{rules}
 use borrow.Author.Tests.{eq-eqb, ne_eqb}
 use Rattle.token.specs.Bytes.{skips}
 use Rattle.token.proofs.Runs.{skips-not}

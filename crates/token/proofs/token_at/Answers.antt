@@ -1,6 +1,5 @@
 -- Each return is one sort of first byte.
 use native.Mathlib.Omega.{arith}
-use borrow.Author.Rules.{rules}
 use Rattle.token.proofs.Runs.{belongs-on}
 use Rattle.token.proofs.Cases.{none_is, name-is, number_is, sign-is, other-is}
 use Rattle.token.proofs.token_at.Goals as goal

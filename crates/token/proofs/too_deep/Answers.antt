@@ -1,10 +1,7 @@
-use mathlib.Core.Path.{◌≡◌, refl, sym, ◌∙◌}
-use mathlib.Core.Bool.{false}
-use Prim.Native.Nat.{◌-◌, ◌≤◌}
+use mathlib.Core.Path.{refl, sym, ◌∙◌}
 use native.Mathlib.Omega.{arith}
-use lib.ListN.{length, drop, length-drop}
+use lib.ListN.{drop, length-drop}
 use borrow.Author.Rules.{rules}
-use Rattle.token.specs.Questions.{bracket_limit, too_deep}
 use Rattle.token.proofs.Asks.{deep-here, deep-on, deep-end}
 use Rattle.token.proofs.Runs.{stride-le}
 use Rattle.token.proofs.too_deep.Goals as goal

@@ -1,13 +1,9 @@
 -- The loop's invariant: i stands in no comment and n brackets are open there, so that question 4 asked of the rest answers for the whole text.
-use mathlib.Core.Path.{◌≡◌, refl, sym, ◌∙◌}
+use mathlib.Core.Path.{◌≡◌}
 use mathlib.Core.Bool.{false}
 use Prim.Native.Nat.{◌-◌, ◌≤◌}
-use native.Mathlib.Omega.{arith}
-use lib.ListN.{length, drop, length-drop}
-use borrow.Author.Rules.{rules}
+use lib.ListN.{length, drop}
 use Rattle.token.specs.Questions.{bracket_limit, too_deep}
-use Rattle.token.proofs.Asks.{deep-here, deep-on, deep-end}
-use Rattle.token.proofs.Runs.{stride-le}
 use Rattle.token.proofs.too_deep.Given as goal
 
 abbrev pub invariant-loop-i : goal.invariant-loop-i

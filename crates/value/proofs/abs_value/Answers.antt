@@ -1,6 +1,5 @@
 -- Below 0 the size is the negation, which fits an i64; otherwise it is the number.
-use mathlib.Core.Path.{◌∙◌, ap, sym}
-use borrow.Author.Rules.{rules}
+use mathlib.Core.Path.{◌∙◌, ap}
 use mir.Facts.{to_z-of_z}
 use Rattle.value.specs.Range.{value_of}
 use Rattle.value.specs.Arithmetic.{negation_of, abs_of}

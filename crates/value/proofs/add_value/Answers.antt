@@ -1,6 +1,5 @@
 -- The sum of two values fits an i64 (`add-fits`), and `value_of` judges it.
 use mathlib.Core.Path.{◌∙◌, ap}
-use borrow.Author.Rules.{rules}
 use lib.IntN.{◌+ℤ◌}
 use Rattle.value.specs.Range.{value_of}
 use Rattle.value.specs.Arithmetic.{sum_of}

@@ -1,6 +1,5 @@
 -- A divisor whose bits are 0 is 0; by any other the machine's quotient is rounded down already, or one too high.
 use mathlib.Core.Path.{◌≡◌, ◌∙◌, ap, sym}
-use borrow.Author.Rules.{rules}
 use lib.IntN.{pos}
 use lib.Signed.{rem_z}
 use mir.Syntax.{w64}

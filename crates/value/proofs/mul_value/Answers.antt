@@ -1,5 +1,4 @@
 -- The sizes decide whether the product is a value before it is multiplied; then it fits an i64.
-use borrow.Author.Rules.{rules}
 use mir.Facts.{to_z-of_z}
 use Rattle.value.proofs.Products.{product-beyond, product-fits, product_is}
 use Rattle.value.proofs.mul_value.Goals as goal

@@ -1,5 +1,4 @@
 -- The negation of a value fits an i64, and `value_of` judges it.
-use borrow.Author.Rules.{rules}
 use mir.Facts.{to_z-of_z}
 use Rattle.value.specs.Arithmetic.{negation_of}
 use Rattle.value.proofs.Kit.{neg_is}

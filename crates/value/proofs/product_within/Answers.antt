@@ -1,6 +1,5 @@
 -- Small factors are multiplied; otherwise the quotient of the limit decides.
 use native.Mathlib.Omega.{arith}
-use borrow.Author.Rules.{rules}
 use Rattle.value.proofs.Products.{small-fits, within_none, within-quotient}
 use Rattle.value.proofs.product_within.Goals as goal
 

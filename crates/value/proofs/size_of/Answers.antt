@@ -1,8 +1,6 @@
 -- Below 0 the size is the negation, which fits an i64; otherwise it is the number.
 use mathlib.Core.Path.{◌∙◌}
 use native.Mathlib.Omega.{arith}
-use borrow.Author.Rules.{rules}
-use lib.IntN.{nat_abs}
 use mir.Facts.{to_z-of_z}
 use Rattle.value.proofs.Kit.{neg_is, neg-size, nonneg}
 use Rattle.value.proofs.Bounds.{in_size, size_fits}

@@ -1,6 +1,5 @@
 -- The difference of two values fits an i64 (`sub-fits`), and `value_of` judges it.
 use mathlib.Core.Path.{◌∙◌, ap}
-use borrow.Author.Rules.{rules}
 use lib.IntN.{◌-ℤ◌}
 use Rattle.value.specs.Range.{value_of}
 use Rattle.value.specs.Arithmetic.{difference_of}

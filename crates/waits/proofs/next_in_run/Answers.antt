@@ -1,6 +1,5 @@
 -- The three tests of a draw within a run, each a case of `next_in_run`.
 use Rattle.waits.proofs.Reading.{goes_on, ends-odd, ends_last, ends-even}
-use borrow.Author.Rules.{rules}
 use Rattle.waits.proofs.next_in_run.Goals as goal
 
 pub returns-then-draw-last : goal.returns-then-draw-last

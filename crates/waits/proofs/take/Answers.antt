@@ -1,6 +1,5 @@
 -- Each place where a reading can stand is a case of `read`.
 use Rattle.waits.proofs.Reading.{first-draw, in-run, next-draw, no_more, stays-over}
-use borrow.Author.Rules.{rules}
 use Rattle.waits.proofs.take.Goals as goal
 
 pub next_in_run-requires : goal.next_in_run-requires

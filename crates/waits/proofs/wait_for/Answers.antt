@@ -1,8 +1,5 @@
-use Prim.Native.Nat.{◌-◌}
 use native.Mathlib.Omega.{arith}
-use borrow.Author.Rules.{rules}
-use lib.ListN.{length, take}
-use Rattle.waits.proofs.Reading.{At, begins, knows, over, before, within, ended}
+use Rattle.waits.proofs.Reading.{begins, knows, over, before, within, ended}
 use Rattle.waits.proofs.wait_for.Goals as goal
 
 pub loop-i-init : goal.loop-i-init

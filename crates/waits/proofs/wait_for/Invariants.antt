@@ -1,9 +1,7 @@
 -- The loop's invariant: the draws from i on, read from here, come to what all of them do. The measure is what is left.
 use Prim.Native.Nat.{◌-◌}
-use native.Mathlib.Omega.{arith}
-use borrow.Author.Rules.{rules}
-use lib.ListN.{length, take}
-use Rattle.waits.proofs.Reading.{At, begins, knows, over, before, within, ended}
+use lib.ListN.{length}
+use Rattle.waits.proofs.Reading.{At}
 use Rattle.waits.proofs.wait_for.Given as goal
 
 abbrev pub invariant-loop-i : goal.invariant-loop-i

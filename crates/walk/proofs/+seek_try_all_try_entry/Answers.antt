@@ -1,18 +1,13 @@
-use Rattle.model.specs.Resolved
-use Rattle.rules.specs.Listing.{Entry}
-use Rattle.machine.specs.State.{State, state_length}
-use Rattle.machine.specs.Machine.{listing_length, moves_to}
-use Rattle.walk.specs.Hunted.{gone, or_else, hunt_from}
-use Rattle.walk.specs.Held.{Held, Stands, Lists}
+use Rattle.machine.specs.State.{state_length}
+use Rattle.machine.specs.Machine.{listing_length}
 use Rattle.walk.proofs.Rows.{before-part}
 use Rattle.walk.proofs.Walking.{entry-idle, entry-refused, entry-wait, entry_other, entry_more, all_start, all-lost, all_found, all-over, world-of, seek-refused, seek-filled, few-entries, stands-kept, lists-kept, room-kept, room-tail, stands-tail, lists_filled, filled-size, lists-first}
-use Prim.Native.Nat.{ℕ, ◌<◌}
+use Prim.Native.Nat.{◌<◌}
 use mathlib.Core.Path.{◌≡◌, refl, ◌∙◌}
-use mathlib.Core.List.{List}
-use Prim.Native.Nat.{ℕ, ◌+◌, ◌-◌, ◌*◌, ◌≤◌, ◌<◌}
+use Prim.Native.Nat.{◌-◌, ◌≤◌, ◌<◌}
 use native.Mathlib.Omega.{arith}
 use borrow.Author.Rules.{rules}
-use lib.ListN.{length, set, take, length-take, length-set}
+use lib.ListN.{length, set, length-take, length-set}
 use Rattle.walk.proofs.+seek_try_all_try_entry.Goals as goal
 
 pub seek-slice_bounds-list_here-end : goal.seek-slice_bounds-list_here-end

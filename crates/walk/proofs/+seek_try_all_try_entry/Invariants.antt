@@ -5,15 +5,10 @@ use Rattle.machine.specs.State.{State, state_length}
 use Rattle.machine.specs.Machine.{listing_length, moves_to}
 use Rattle.walk.specs.Hunted.{gone, or_else, hunt_from}
 use Rattle.walk.specs.Held.{Held, Stands, Lists}
-use Rattle.walk.proofs.Rows.{before-part}
-use Rattle.walk.proofs.Walking.{entry-idle, entry-refused, entry-wait, entry_other, entry_more, all_start, all-lost, all_found, all-over, world-of, seek-refused, seek-filled, few-entries, stands-kept, lists-kept, room-kept, room-tail, stands-tail, lists_filled, filled-size, lists-first}
-use Prim.Native.Nat.{ℕ, ◌<◌}
-use mathlib.Core.Path.{◌≡◌, refl, ◌∙◌}
+use mathlib.Core.Path.{◌≡◌}
 use mathlib.Core.List.{List}
-use Prim.Native.Nat.{ℕ, ◌+◌, ◌-◌, ◌*◌, ◌≤◌, ◌<◌}
-use native.Mathlib.Omega.{arith}
-use borrow.Author.Rules.{rules}
-use lib.ListN.{length, set, take, length-take, length-set}
+use Prim.Native.Nat.{◌+◌, ◌-◌, ◌*◌}
+use lib.ListN.{length, take}
 use Rattle.walk.proofs.+seek_try_all_try_entry.Given as goal
 
 abbrev pub decreases-seek : goal.decreases-seek

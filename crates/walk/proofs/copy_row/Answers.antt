@@ -3,11 +3,11 @@ use lib.Seq.{paste}
 use Rattle.value.proofs.Kit.{back}
 use Rattle.walk.proofs.Rows.{copy_start, copy-on}
 use mathlib.Core.Path.{◌≡◌, refl, ap, ◌∙◌}
-use Prim.Native.Nat.{ℕ, ◌-◌, ◌≤◌}
+use Prim.Native.Nat.{ℕ}
 use native.Mathlib.Omega.{arith}
 use borrow.Author.Rules.{rules}
 use lib.IntN.{pos}
-use lib.ListN.{length, length-set}
+use lib.ListN.{length-set}
 use Rattle.walk.proofs.copy_row.Goals as goal
 
 pub loop-i-init : goal.loop-i-init

@@ -1,14 +1,9 @@
 -- The loop's invariant: the second row is the first below i, and as it was from i on. The measure is what is left.
 use Rattle.machine.specs.State.{state_length}
 use lib.Seq.{paste}
-use Rattle.value.proofs.Kit.{back}
-use Rattle.walk.proofs.Rows.{copy_start, copy-on}
-use mathlib.Core.Path.{◌≡◌, refl, ap, ◌∙◌}
-use Prim.Native.Nat.{ℕ, ◌-◌, ◌≤◌}
-use native.Mathlib.Omega.{arith}
-use borrow.Author.Rules.{rules}
-use lib.IntN.{pos}
-use lib.ListN.{length, length-set}
+use mathlib.Core.Path.{◌≡◌}
+use Prim.Native.Nat.{◌-◌, ◌≤◌}
+use lib.ListN.{length}
 use Rattle.walk.proofs.copy_row.Given as goal
 
 abbrev pub invariant-loop-i : goal.invariant-loop-i

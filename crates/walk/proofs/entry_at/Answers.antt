@@ -2,7 +2,6 @@
 use mathlib.Core.Path.{refl}
 use Rattle.listing.specs.Buffer.{entry_of}
 use Rattle.walk.specs.Entries.{entry_in}
-use borrow.Author.Rules.{rules}
 use Rattle.walk.proofs.entry_at.Goals as goal
 
 pub returns : goal.returns

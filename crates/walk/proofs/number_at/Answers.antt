@@ -2,7 +2,6 @@
 use Rattle.walk.proofs.Rows.{beyond}
 use mathlib.Core.Path.{sym}
 use native.Mathlib.Omega.{arith}
-use borrow.Author.Rules.{rules}
 use Rattle.walk.proofs.number_at.Goals as goal
 
 pub returns : goal.returns

@@ -1,10 +1,7 @@
-use Rattle.token.specs.Token.{same_bytes}
 use Rattle.walk.proofs.Sought.{differ-long, bytes-differ, bytes_on, bytes-all}
-use mathlib.Core.Path.{◌≡◌, refl, sym}
-use Prim.Native.Nat.{◌-◌, ◌≤◌}
+use mathlib.Core.Path.{refl, sym}
 use native.Mathlib.Omega.{arith}
 use borrow.Author.Rules.{rules}
-use lib.ListN.{length, drop}
 use Rattle.walk.proofs.same_bytes.Goals as goal
 
 pub returns-then-a-b : goal.returns-then-a-b

@@ -1,10 +1,7 @@
 -- The loop's invariant: the bytes from i on are the same where all are. The measure is what is left.
 use Rattle.token.specs.Token.{same_bytes}
-use Rattle.walk.proofs.Sought.{differ-long, bytes-differ, bytes_on, bytes-all}
-use mathlib.Core.Path.{◌≡◌, refl, sym}
+use mathlib.Core.Path.{◌≡◌}
 use Prim.Native.Nat.{◌-◌, ◌≤◌}
-use native.Mathlib.Omega.{arith}
-use borrow.Author.Rules.{rules}
 use lib.ListN.{length, drop}
 use Rattle.walk.proofs.same_bytes.Given as goal
 

@@ -1,14 +1,8 @@
-use Rattle.model.specs.Resolved
-use Rattle.machine.specs.State.{State, state_length}
-use Rattle.machine.specs.Machine.{moves_to}
-use Rattle.walk.specs.Hunted.{gone, or_else, hunt_longer}
-use Rattle.walk.specs.Held.{Held, Stands}
 use Rattle.walk.proofs.Walking.{longer-start, longer-lost, longer-found, longer-over, stands-kept}
-use mathlib.Core.Path.{◌≡◌, refl, ◌∙◌}
-use Prim.Native.Nat.{◌-◌, ◌<◌}
+use mathlib.Core.Path.{refl, ◌∙◌}
+use Prim.Native.Nat.{◌<◌}
 use native.Mathlib.Omega.{arith}
 use borrow.Author.Rules.{rules}
-use lib.ListN.{length, take}
 use Rattle.walk.proofs.search_from.Goals as goal
 
 pub loop-more-init : goal.loop-more-init

@@ -4,11 +4,8 @@ use Rattle.machine.specs.State.{State, state_length}
 use Rattle.machine.specs.Machine.{moves_to}
 use Rattle.walk.specs.Hunted.{gone, or_else, hunt_longer}
 use Rattle.walk.specs.Held.{Held, Stands}
-use Rattle.walk.proofs.Walking.{longer-start, longer-lost, longer-found, longer-over, stands-kept}
-use mathlib.Core.Path.{◌≡◌, refl, ◌∙◌}
-use Prim.Native.Nat.{◌-◌, ◌<◌}
-use native.Mathlib.Omega.{arith}
-use borrow.Author.Rules.{rules}
+use mathlib.Core.Path.{◌≡◌}
+use Prim.Native.Nat.{◌-◌}
 use lib.ListN.{length, take}
 use Rattle.walk.proofs.search_from.Given as goal
 

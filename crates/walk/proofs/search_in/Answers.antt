@@ -3,7 +3,6 @@ use Rattle.machine.specs.State.{state_length}
 use Rattle.walk.proofs.Walking.{start-length, start-stands, room-kept}
 use mathlib.Core.Path.{refl}
 use native.Mathlib.Omega.{arith}
-use borrow.Author.Rules.{rules}
 use lib.ListN.{drop}
 use Rattle.walk.proofs.search_in.Goals as goal
 

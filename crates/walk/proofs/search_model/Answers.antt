@@ -1,7 +1,6 @@
 -- The tables have room for runs of eight entries.
 use Rattle.walk.proofs.Walking.{start-room}
 use mathlib.Core.Path.{refl}
-use borrow.Author.Rules.{rules}
 use Rattle.walk.proofs.search_model.Goals as goal
 
 pub search_in-requires : goal.search_in-requires

@@ -6,7 +6,6 @@ use Rattle.walk.proofs.Rows.{mid-twice}
 use Rattle.walk.proofs.Taking.{entry-fits, row_of, seen, takes-idle, takes-accepted, takes-refused}
 use mathlib.Core.Path.{ap, ◌∙◌}
 use native.Mathlib.Omega.{arith}
-use borrow.Author.Rules.{rules}
 use lib.ListN.{length-take}
 use Rattle.walk.proofs.take_at.Goals as goal
 

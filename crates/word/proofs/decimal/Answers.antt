@@ -1,6 +1,5 @@
 -- The sizes and the sum, from what `value` and `place` ensure of the two parts.
 use native.Mathlib.Omega.{arith}
-use borrow.Author.Rules.{rules}
 use Rattle.word.proofs.Digits.{decimal-fits, decimal-is}
 use Rattle.word.proofs.decimal.Goals as goal
 

@@ -1,6 +1,5 @@
 -- Each return is a case of `name_of` by the length, from what `word` ensures of each part.
 use native.Mathlib.Omega.{arith}
-use borrow.Author.Rules.{rules}
 use lib.ListN.{length-take, length-drop}
 use Rattle.word.proofs.Packs.{long-name, one_word, two-words}
 use Rattle.word.proofs.packed.Goals as goal

@@ -1,9 +1,6 @@
 -- The loop's invariant: p is 10 once for each of the places from `digits` to k. The measure is the places left.
 use mathlib.Core.Path.{◌≡◌}
-use Prim.Native.Nat.{suc, ◌+◌, ◌-◌, ◌^◌, ◌≤◌}
-use native.Mathlib.Nat.{sub_self, pow-suc, pow-le-pow_right}
-use native.Mathlib.Omega.{arith}
-use borrow.Author.Rules.{rules}
+use Prim.Native.Nat.{◌-◌, ◌^◌, ◌≤◌}
 use Rattle.word.specs.Number.{fraction_digits}
 use Rattle.word.proofs.place.Given as goal
 

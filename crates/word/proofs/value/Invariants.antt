@@ -1,11 +1,8 @@
 -- The loop's invariant: v, then the digits from i on, come to the same capped number as all the digits. The measure is what is left.
-use mathlib.Core.Path.{◌≡◌, refl, ◌∙◌}
+use mathlib.Core.Path.{◌≡◌}
 use Prim.Native.Nat.{◌-◌, ◌≤◌, min}
-use native.Mathlib.Omega.{arith}
-use borrow.Author.Rules.{rules}
 use lib.ListN.{length, drop}
 use Rattle.word.specs.Number.{worth, cap}
-use Rattle.word.proofs.Digits.{worth-on, worth-end}
 use Rattle.word.proofs.value.Given as goal
 
 abbrev pub invariant-loop-i : goal.invariant-loop-i

@@ -1,12 +1,8 @@
 -- The loop's invariant: w is the pack of the bytes from i on. The measure is i.
-use mathlib.Core.Path.{◌≡◌, ap, sym, ◌∙◌}
-use Prim.Native.Nat.{ℕ, ◌+◌, ◌-◌, ◌*◌, ◌≤◌}
-use native.Mathlib.Omega.{arith}
-use borrow.Author.Rules.{rules}
-use lib.ListN.{length, get_or, drop}
-use lib.Seq.{drop-length}
+use mathlib.Core.Path.{◌≡◌}
+use Prim.Native.Nat.{◌≤◌}
+use lib.ListN.{length, drop}
 use Rattle.word.specs.Name.{pack}
-use Rattle.word.proofs.Packs.{pack-down, pack-small}
 use Rattle.word.proofs.word.Given as goal
 
 abbrev pub invariant-loop-i : goal.invariant-loop-i

@@ -1,8 +1,5 @@
-use Prim.Native.Nat.{◌-◌}
 use native.Mathlib.Omega.{arith}
-use borrow.Author.Rules.{rules}
-use lib.ListN.{length}
-use Rattle.words.proofs.Drawing.{At, begins, used, turned, ended}
+use Rattle.words.proofs.Drawing.{begins, used, turned, ended}
 use Rattle.words.proofs.draw_from.Goals as goal
 
 pub loop-i-init : goal.loop-i-init

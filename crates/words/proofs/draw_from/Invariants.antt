@@ -1,9 +1,7 @@
 -- The loop's invariant: the words from i on come to what all of them do. The measure is what is left.
 use Prim.Native.Nat.{◌-◌}
-use native.Mathlib.Omega.{arith}
-use borrow.Author.Rules.{rules}
 use lib.ListN.{length}
-use Rattle.words.proofs.Drawing.{At, begins, used, turned, ended}
+use Rattle.words.proofs.Drawing.{At}
 use Rattle.words.proofs.draw_from.Given as goal
 
 abbrev pub invariant-loop-i : goal.invariant-loop-i

@@ -1,6 +1,5 @@
 -- The largest word that is used: the remainder of 2^64 is that of 2^64 less the total.
 use native.Mathlib.Omega.{arith}
-use borrow.Author.Rules.{rules}
 use Rattle.words.specs.Words.{word_values}
 use Rattle.words.proofs.Drawing.{rest_below, last-is}
 use Rattle.words.proofs.last_used.Goals as goal

@@ -1,7 +1,6 @@
 -- The text that the model buffer holds, or nothing.
 use mathlib.Core.Path.{ap, sym, ◌∙◌}
 use native.Mathlib.Omega.{arith}
-use borrow.Author.Rules.{rules}
 use Rattle.store.specs.Text.{TextOf, TextIn}
 use Rattle.engine.specs.Gives.{is_holding}
 use Rattle.engine.proofs.Lengths.{three-none, three-text}

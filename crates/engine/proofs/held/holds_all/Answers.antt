@@ -1,6 +1,5 @@
 -- The clock's range, then the three buffers.
 use mathlib.Core.Path.{sym, ◌∙◌}
-use borrow.Author.Rules.{rules}
 use Rattle.state.proofs.Tests.{refused, passed}
 use Rattle.engine.proofs.Stored.{out_of_range, in-range}
 use Rattle.engine.proofs.held.holds_all.Goals as goal

@@ -1,6 +1,5 @@
 -- Both tests, the state's first.
 use mathlib.Core.Path.{refl, sym, ◌∙◌}
-use borrow.Author.Rules.{rules}
 use Rattle.state.proofs.Tests.{refused, passed}
 use Rattle.engine.proofs.held.holds_model.Goals as goal
 

@@ -1,6 +1,5 @@
 -- A text that holds no model holds nothing; else the tests over its tables decide.
 use mathlib.Core.Path.{sym, ◌∙◌}
-use borrow.Author.Rules.{rules}
 use Rattle.buffers.specs.Parts.{lent_three}
 use Rattle.store.proofs.Tables.{few-taken}
 use Rattle.engine.proofs.Openings.{held-is, closed_is, tables}

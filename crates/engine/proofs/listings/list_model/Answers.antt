@@ -1,6 +1,5 @@
 -- The answer that the listing gives.
 use Rattle.engine.proofs.Shows.{finds-give}
-use borrow.Author.Rules.{rules}
 use Rattle.engine.proofs.listings.list_model.Goals as goal
 
 pub returns : goal.returns

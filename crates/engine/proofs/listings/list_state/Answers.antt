@@ -4,7 +4,6 @@ use Rattle.state.proofs.Tests.{refused, passed}
 use Rattle.engine.specs.Tables.{closed, holding}
 use Rattle.store.proofs.Tables.{few-taken, state_of, numbers-back, state-good, machine-is, machine-closed}
 use Rattle.engine.proofs.Shows.{world}
-use borrow.Author.Rules.{rules}
 use Rattle.engine.proofs.listings.list_state.Goals as goal
 
 pub is_state-requires : goal.is_state-requires

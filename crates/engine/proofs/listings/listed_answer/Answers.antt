@@ -1,5 +1,4 @@
 -- By the cases of what a listing answers.
-use borrow.Author.Rules.{rules}
 use Rattle.engine.specs.Tables.{answer_of}
 use Rattle.engine.proofs.listings.listed_answer.Goals as goal
 

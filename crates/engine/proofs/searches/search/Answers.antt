@@ -1,6 +1,5 @@
 -- Question 1 by the lengths, then the search.
 use mathlib.Core.Path.{sym, ◌∙◌}
-use borrow.Author.Rules.{rules}
 use Rattle.state.proofs.Tests.{refused, passed}
 use Rattle.engine.proofs.Lengths.{parts-long}
 use Rattle.engine.proofs.Searched.{search-wrong, search-right}

@@ -1,7 +1,6 @@
 -- The text that the model buffer holds, or 11.
 use native.Mathlib.Omega.{arith}
 use mathlib.Core.List.{[]}
-use borrow.Author.Rules.{rules}
 use Rattle.machine.specs.Machine.{search'}
 use Rattle.buffers.specs.Parts.{lent_two}
 use Rattle.store.specs.Text.{TextOf, TextIn}

@@ -1,6 +1,5 @@
 -- The listing's refusal, or what the draw leaves.
 use Rattle.engine.proofs.Drawn.{tables-of, refused-gives, found, found-gives}
-use borrow.Author.Rules.{rules}
 use Rattle.engine.proofs.steps.step_model.Goals as goal
 
 pub list_state-listed-requires : goal.list_state-listed-requires

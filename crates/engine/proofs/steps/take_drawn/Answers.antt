@@ -1,6 +1,5 @@
 -- 15, 16, and the entry that the draw chooses.
 use Rattle.engine.proofs.Drawn.{can-choose, row_of, left-15, left-16, left-taken}
-use borrow.Author.Rules.{rules}
 use Rattle.engine.proofs.steps.take_drawn.Goals as goal
 
 pub returns-then-total-eq0 : goal.returns-then-total-eq0

@@ -3,7 +3,6 @@ use mathlib.Core.Path.{◌≡◌, refl, ◌∙◌}
 use Rattle.rules.specs.Listing.{key_of}
 use Rattle.listing.specs.Buffer.{entry_of}
 use Rattle.engine.proofs.Drawn.{row_fits, row_is, row_in}
-use borrow.Author.Rules.{rules}
 use Rattle.engine.proofs.steps.take_row.Goals as goal
 
 pub entry_at-e-requires : goal.entry_at-e-requires

@@ -1,6 +1,5 @@
 -- By the cases of what a chosen entry comes to.
 use Rattle.engine.specs.Steps.{taken_answer}
-use borrow.Author.Rules.{rules}
 use Rattle.engine.proofs.steps.taken_answer.Goals as goal
 
 pub returns-in-Accepted : goal.returns-in-Accepted

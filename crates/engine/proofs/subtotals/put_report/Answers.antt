@@ -1,6 +1,5 @@
 -- By what the listing answered: 11, another refusal, or its entries.
 use mathlib.Core.Path.{◌∙◌}
-use borrow.Author.Rules.{rules}
 use Rattle.engine.proofs.Reported.{as_lent_lem, as-zeros, shares_of}
 use Rattle.engine.proofs.subtotals.put_report.Goals as goal
 

@@ -1,5 +1,4 @@
 -- A text that holds no model gives 11; else its tables are listed over.
-use borrow.Author.Rules.{rules}
 use Rattle.machine.specs.Machine.{list'}
 use Rattle.engine.proofs.Openings.{held-is, closed_is, tables, closed-gives}
 use Rattle.engine.proofs.texts.list_text.Goals as goal

@@ -1,6 +1,5 @@
 -- Each answer to a text, with what it leaves in both buffers.
 use native.Mathlib.Omega.{arith}
-use borrow.Author.Rules.{rules}
 use Rattle.engine.proofs.Openings.{opened-is, refused-is, short, starts, refused-gives, accepted-gives}
 use Rattle.engine.proofs.texts.open_lent.Goals as goal
 

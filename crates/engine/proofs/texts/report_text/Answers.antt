@@ -1,5 +1,4 @@
 -- A text that holds no model gives 11; else its tables are reported on.
-use borrow.Author.Rules.{rules}
 use Rattle.machine.specs.Machine.{report'}
 use Rattle.engine.proofs.Openings.{held-is, closed_is, tables, closed-gives}
 use Rattle.engine.proofs.texts.report_text.Goals as goal

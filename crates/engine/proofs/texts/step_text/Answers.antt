@@ -1,5 +1,4 @@
 -- A text that holds no model gives 11; else its tables are stepped over.
-use borrow.Author.Rules.{rules}
 use Rattle.machine.specs.Machine.{step'}
 use Rattle.engine.proofs.Openings.{held-is, closed_is, whole, closed-gives}
 use Rattle.engine.proofs.texts.step_text.Goals as goal

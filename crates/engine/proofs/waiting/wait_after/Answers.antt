@@ -1,6 +1,5 @@
 -- What the draws made of the clock, each answer a case of `after_wait`; refused, the state is put back.
 use Rattle.engine.proofs.Waits.{waited-yes, waited-no}
-use borrow.Author.Rules.{rules}
 use Rattle.engine.proofs.waiting.wait_after.Goals as goal
 
 pub returns-then-number-eq0 : goal.returns-then-number-eq0

@@ -2,7 +2,6 @@
 use mathlib.Core.Path.{ap, ◌∙◌}
 use native.Mathlib.Omega.{arith}
 use lib.ListN.{length}
-use borrow.Author.Rules.{rules}
 use Rattle.tree.specs.Node.{kind_of, left_of, third_of}
 use Rattle.eval.proofs.Channels.{one-part, one-is, first_part, two-part, two_is, three-parts, three-is}
 use Rattle.eval.proofs.channel.channel_of.Goals as goal

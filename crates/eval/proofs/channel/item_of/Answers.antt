@@ -5,12 +5,10 @@ use lib.IntN.{ℤ, pos}
 use lib.ListN.{length}
 use mir.Syntax.{w64}
 use mir.Facts.{to_z_pos}
-use borrow.Author.Rules.{rules}
 use Rattle.value.proofs.Kit.{back}
 use Rattle.tree.specs.Node.{kind_of, token_of}
 use Rattle.machine.specs.Evaluate.{valued}
 use Rattle.rules.specs.Pairs.{item_kind, item_value}
-use Rattle.eval.specs.declared.channel.Item.{Item}
 use Rattle.eval.specs.Channels.{item_of}
 use Rattle.eval.proofs.Channels.{name-is, number-part, number_is}
 use Rattle.eval.proofs.channel.item_of.Goals as goal

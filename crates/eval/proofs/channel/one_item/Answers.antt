@@ -1,7 +1,6 @@
 -- By the cases of the item.
 use mathlib.Core.Path.{refl, ◌∙◌}
 use native.Mathlib.Omega.{arith}
-use borrow.Author.Rules.{rules}
 use Rattle.value.proofs.Kit.{back}
 use Rattle.eval.proofs.Shapes.{lacks-first, one-made}
 use Rattle.eval.proofs.channel.one_item.Goals as goal

@@ -1,12 +1,10 @@
 -- Seven numbers written over seven.
-use mathlib.Core.Path.{refl, ◌∙◌}
 use native.Mathlib.Omega.{arith}
 use Prim.Native.Nat.{◌/◌, ◌%◌}
 use lib.IntN.{pos}
 use lib.ListN.{length-set}
 use mir.Syntax.{w64}
 use mir.Facts.{to_z_pos, to_z-of_z}
-use borrow.Author.Rules.{rules}
 use Rattle.eval.specs.Channels.{numbers_of}
 use Rattle.eval.proofs.Shapes.{seven}
 use Rattle.eval.proofs.channel.put_channel.Goals as goal

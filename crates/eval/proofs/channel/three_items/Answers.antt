@@ -1,7 +1,6 @@
 -- By the cases of the items.
 use mathlib.Core.Path.{refl, ◌∙◌}
 use native.Mathlib.Omega.{arith}
-use borrow.Author.Rules.{rules}
 use Rattle.value.proofs.Kit.{back}
 use Rattle.eval.proofs.Shapes.{lacks-first, lacks-second, lacks-third, three_made}
 use Rattle.eval.proofs.channel.three_items.Goals as goal

@@ -1,9 +1,8 @@
-use mathlib.Core.Path.{ap, sym, ◌∙◌}
+use mathlib.Core.Path.{ap, ◌∙◌}
 use native.Mathlib.Omega.{arith}
 use lib.ListN.{length}
 use Rattle.tree.specs.Node.{kind_of, left_of}
 use Rattle.eval.proofs.Continuations.{group-held, group-given, item-held, items-given, first-ungiven, call-held, call-given, others-given}
-use Prim.Native.Nat.{ℕ, ◌<◌}
 use Rattle.eval.proofs.next.+arguments_given.Goals as goal
 
 pub overflow_sub-k : goal.overflow_sub-k

@@ -3,7 +3,6 @@ use native.Mathlib.Omega.{arith}
 use Rattle.tree.specs.Node.{kind_of}
 use Rattle.eval.proofs.Ends.{inside}
 use Rattle.eval.proofs.Continuations.{one-sum, beside-sums, more-sums}
-use Prim.Native.Nat.{ℕ, ◌<◌}
 use Rattle.eval.proofs.next.+count_sums.Goals as goal
 
 pub returns-then-kind_of-ne-BESIDE : goal.returns-then-kind_of-ne-BESIDE

@@ -1,10 +1,8 @@
 use mathlib.Core.Path.{ap, sym, ◌∙◌}
-use Prim.Native.Nat.{ℕ, ◌-◌, ◌<◌}
 use native.Mathlib.Omega.{arith}
 use lib.ListN.{length, length-set}
 use mir.Syntax.{w64}
 use mir.Val.{of_z, to_z}
-use borrow.Author.Rules.{rules}
 use Rattle.value.proofs.Kit.{back}
 use Rattle.tree.specs.Node.{kind_of, left_of}
 use Rattle.eval.proofs.Arguments.{last-part, more_parts}

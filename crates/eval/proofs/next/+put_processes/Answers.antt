@@ -1,8 +1,7 @@
-use mathlib.Core.Path.{◌≡◌, ap, sym, ◌∙◌}
-use Prim.Native.Nat.{ℕ, ◌-◌, ◌<◌}
+use mathlib.Core.Path.{ap, ◌∙◌}
+use Prim.Native.Nat.{ℕ, ◌-◌}
 use native.Mathlib.Omega.{arith}
 use lib.ListN.{length, get_or}
-use borrow.Author.Rules.{rules}
 use Rattle.tree.specs.Node.{kind_of, token_of, left_of}
 use Rattle.eval.proofs.Continuations.{some-body}
 use Rattle.eval.proofs.Rows.{token-small, rows-size}

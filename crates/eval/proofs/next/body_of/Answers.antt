@@ -4,7 +4,6 @@ use Prim.Native.Nat.{ℕ, ◌-◌}
 use native.Mathlib.Omega.{arith}
 use lib.ListN.{get_or}
 use Rattle.tree.specs.Node.{left_of}
-use borrow.Author.Rules.{rules}
 use Rattle.eval.proofs.next.body_of.Goals as goal
 
 pub overflow_sub-result : goal.overflow_sub-result

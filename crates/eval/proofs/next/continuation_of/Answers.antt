@@ -2,7 +2,6 @@
 use mathlib.Core.Path.{ap, ◌∙◌}
 use Rattle.tree.specs.Node.{kind_of}
 use Rattle.eval.proofs.Continuations.{ungated, ungated-next, gated, gated-next}
-use borrow.Author.Rules.{rules}
 use Rattle.eval.proofs.next.continuation_of.Goals as goal
 
 pub prefix_next-requires : goal.prefix_next-requires

@@ -1,7 +1,6 @@
 -- `eval::next::cut` meets its contract. By the test.
 use borrow.Author.Tests.{lt-ltb, le-ltb}
 use Rattle.eval.specs.Next.{cut}
-use borrow.Author.Rules.{rules}
 use Rattle.eval.proofs.next.cut.Goals as goal
 
 pub returns-then-n-gt-MOST : goal.returns-then-n-gt-MOST

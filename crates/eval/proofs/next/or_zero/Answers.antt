@@ -1,7 +1,6 @@
 -- `eval::next::or_zero` meets its contract. By the cases of the value.
 use Rattle.value.proofs.Kit.{back}
 use Rattle.machine.specs.Offer.{or_zero}
-use borrow.Author.Rules.{rules}
 use Rattle.eval.proofs.next.or_zero.Goals as goal
 
 pub returns-in-Is : goal.returns-in-Is

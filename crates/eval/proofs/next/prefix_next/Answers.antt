@@ -2,7 +2,6 @@
 use mathlib.Core.Path.{ap, ◌∙◌}
 use Rattle.tree.specs.Node.{kind_of}
 use Rattle.eval.proofs.Continuations.{dot-above, dot-next, stop-next}
-use borrow.Author.Rules.{rules}
 use Rattle.eval.proofs.next.prefix_next.Goals as goal
 
 pub overflow_sub-result : goal.overflow_sub-result

@@ -4,7 +4,6 @@ use native.Mathlib.Omega.{arith}
 use lib.ListN.{length, length-take}
 use Rattle.tree.specs.Node.{third_of}
 use Rattle.eval.proofs.Puts.{values-above, values-room, values-few, values-are}
-use borrow.Author.Rules.{rules}
 use Rattle.eval.proofs.next.put_call.Goals as goal
 
 pub overflow_sub-k : goal.overflow_sub-k

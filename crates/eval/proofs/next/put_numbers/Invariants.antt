@@ -1,15 +1,9 @@
 -- `eval::next::put_numbers` meets its contract. The loop's invariant: the first j numbers are stored.
-use mathlib.Core.Path.{◌≡◌, refl, ap, sym, ◌∙◌}
-use Prim.Native.Nat.{ℕ, ◌+◌, ◌-◌, ◌*◌, ◌≤◌, ◌<◌}
-use native.Mathlib.Omega.{arith}
-use borrow.Author.Rules.{rules}
-use lib.IntN.{ℤ, pos}
-use lib.ListN.{length, take, length-set}
-use lib.Seq.{sets, take_all}
-use Rattle.value.proofs.Kit.{back}
-use Rattle.machine.specs.Offer.{Process}
+use mathlib.Core.Path.{◌≡◌}
+use Prim.Native.Nat.{◌-◌, ◌*◌, ◌≤◌}
+use lib.ListN.{length, take}
+use lib.Seq.{sets}
 use Rattle.machine.specs.State.{process_width, process_numbers}
-use Rattle.eval.proofs.Rows.{row-length, row_step}
 use Rattle.eval.proofs.next.put_numbers.Given as goal
 
 abbrev pub invariant-loop-j : goal.invariant-loop-j

@@ -4,9 +4,6 @@ use Prim.Native.Nat.{ℕ, ◌*◌}
 use lib.Seq.{sets}
 use Rattle.machine.specs.State.{process_width, process_numbers}
 use Rattle.eval.specs.Next.{known}
-use borrow.Author.Rules.{rules}
-use Rattle.eval.proofs.next.put_numbers.Reads as put-numbers-reads
-use Rattle.state.proofs.definition_in.Reads as definition-in-reads
 use Rattle.eval.proofs.next.put_row.Goals as goal
 
 pub returns : goal.returns

@@ -6,7 +6,6 @@ use mir.Facts.{to_z_pos}
 use Rattle.machine.specs.State.{process_numbers}
 use Rattle.value.proofs.Kit.{back}
 use Rattle.eval.proofs.Rows.{row-local, row-definition}
-use borrow.Author.Rules.{rules}
 use Rattle.eval.proofs.next.row_number.Goals as goal
 
 pub overflow_cast-result : goal.overflow_cast-result

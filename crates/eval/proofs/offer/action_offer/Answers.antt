@@ -3,7 +3,6 @@ use mathlib.Core.Path.{sym, ap, ◌∙◌}
 use lib.ListN.{length}
 use Rattle.tree.specs.Node.{kind_of}
 use Rattle.eval.proofs.Offers.{wait-shown, carrier, carried-shown, seeker, sought-shown}
-use borrow.Author.Rules.{rules}
 use Rattle.eval.proofs.offer.action_offer.Goals as goal
 
 pub returns-then-kind-eq-WAIT : goal.returns-then-kind-eq-WAIT

@@ -1,10 +1,8 @@
 -- By the cases of the list and the channel.
 use mathlib.Core.Path.{sym, ◌∙◌}
-use native.Mathlib.Omega.{arith}
 use borrow.Author.Tests.{eq-eqb, ne_eqb, not-true, not-false}
-use borrow.Author.Rules.{rules}
 use Rattle.value.proofs.Kit.{back}
-use Rattle.eval.specs.Shown.{bare_offer, with_channel, assembled}
+use Rattle.eval.specs.Shown.{with_channel, assembled}
 use Rattle.eval.proofs.offer.assembled.Goals as goal
 
 pub returns-then-count-eq0 : goal.returns-then-count-eq0

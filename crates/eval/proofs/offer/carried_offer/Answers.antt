@@ -1,11 +1,9 @@
 -- `eval::offer::carried_offer` meets its contract: the channel, then the values. From what the node says.
 use mathlib.Core.Path.{sym, ap, ◌∙◌}
-use lib.ListN.{get_or}
 use borrow.Author.Tests.{not-true}
 use Rattle.tree.specs.Node.{left_of}
 use Rattle.tables.proofs.Parts.{pair-above, pair-second}
 use Rattle.eval.proofs.Offers.{carried-missing, carried-is}
-use borrow.Author.Rules.{rules}
 use Rattle.eval.proofs.offer.carried_offer.Goals as goal
 
 pub channel_of-c-requires : goal.channel_of-c-requires

@@ -1,7 +1,6 @@
 -- `eval::offer::carries` meets its contract. By the tests.
 use borrow.Author.Tests.{eq-eqb, ne_eqb}
 use Rattle.eval.specs.Shown.{carries}
-use borrow.Author.Rules.{rules}
 use Rattle.eval.proofs.offer.carries.Goals as goal
 
 pub returns-then-kind-eq-LAUNCH : goal.returns-then-kind-eq-LAUNCH

@@ -3,7 +3,6 @@ use mathlib.Core.Path.{sym, ◌∙◌}
 use mir.Facts.{to_z-of_z}
 use Rattle.rules.specs.Offers.{within}
 use Rattle.eval.proofs.Ends.{marked, unmarked, root-natural, root-cast, mark-taken, mark-left}
-use borrow.Author.Rules.{rules}
 use Rattle.eval.proofs.offer.in_offer_set.Goals as goal
 
 pub overflow_cast-low : goal.overflow_cast-low

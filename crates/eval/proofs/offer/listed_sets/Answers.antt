@@ -6,7 +6,6 @@ use Rattle.tables.specs.Settled.{Set}
 use Rattle.model.specs.Good.{GoodSet}
 use Rattle.eval.proofs.Lists.{one-part, two-parts, set-low}
 use Rattle.eval.proofs.Ends.{one-listed, two-listed}
-use borrow.Author.Rules.{rules}
 use Rattle.eval.proofs.offer.listed_sets.Goals as goal
 
 pub set_of-requires : goal.set_of-requires

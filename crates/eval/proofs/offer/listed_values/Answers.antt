@@ -1,7 +1,6 @@
 -- `eval::offer::listed_values` meets its contract. By the cases of the values.
 use Rattle.value.proofs.Kit.{back}
 use Rattle.eval.specs.Shown.{listed_values, none_listed}
-use borrow.Author.Rules.{rules}
 use Rattle.eval.proofs.offer.listed_values.Goals as goal
 
 pub returns-in-One : goal.returns-in-One

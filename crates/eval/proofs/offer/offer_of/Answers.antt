@@ -3,7 +3,6 @@ use mathlib.Core.Path.{ap, ◌∙◌}
 use lib.ListN.{length}
 use Rattle.tree.specs.Node.{kind_of, left_of}
 use Rattle.eval.proofs.Offers.{ungated-prefix, ungated-shown, gated-parts, gate-yes, gate-no, gate-missing}
-use borrow.Author.Rules.{rules}
 use Rattle.eval.proofs.offer.offer_of.Goals as goal
 
 pub prefix_offer-requires : goal.prefix_offer-requires

@@ -1,7 +1,6 @@
 -- `eval::offer::one_set` meets its contract. By the cases of the ends.
 use Rattle.value.proofs.Kit.{back}
 use Rattle.eval.specs.Shown.{one_set, none_listed}
-use borrow.Author.Rules.{rules}
 use Rattle.eval.proofs.offer.one_set.Goals as goal
 
 pub returns-in-Are : goal.returns-in-Are

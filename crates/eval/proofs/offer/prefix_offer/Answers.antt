@@ -5,7 +5,6 @@ use lib.ListN.{length}
 use Rattle.tree.specs.Node.{left_of}
 use Rattle.eval.specs.Shown.{rate_root}
 use Rattle.eval.proofs.Offers.{own-parts, own-rate, own-action, prefix-is, prefix-missing}
-use borrow.Author.Rules.{rules}
 use Rattle.eval.proofs.offer.prefix_offer.Goals as goal
 
 pub rate_root-requires : goal.rate_root-requires

@@ -1,7 +1,6 @@
 -- `eval::offer::range_ends` meets its contract. By the cases of the values.
 use Rattle.value.proofs.Kit.{back}
 use Rattle.eval.specs.Shown.{range_ends}
-use borrow.Author.Rules.{rules}
 use Rattle.eval.proofs.offer.range_ends.Goals as goal
 
 pub returns-in-Is-y : goal.returns-in-Is-y

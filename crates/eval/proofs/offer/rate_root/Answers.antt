@@ -1,9 +1,7 @@
 -- `eval::offer::rate_root` meets its contract. By the test.
 use mathlib.Core.Path.{sym, ◌∙◌}
 use borrow.Author.Tests.{eq-eqb, ne_eqb}
-use Rattle.tree.specs.Node.{kind_of}
 use Rattle.eval.specs.Shown.{rate_root}
-use borrow.Author.Rules.{rules}
 use Rattle.eval.proofs.offer.rate_root.Goals as goal
 
 pub returns-then-kind_of-eq-STOP : goal.returns-then-kind_of-eq-STOP

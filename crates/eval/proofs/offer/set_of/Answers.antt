@@ -9,7 +9,6 @@ use Rattle.tree.specs.Node.{kind_of, left_of}
 use Rattle.eval.proofs.Exprs.{worth-sound}
 use Rattle.eval.proofs.Sets.{single-part, range-parts}
 use Rattle.eval.proofs.Ends.{inside, single-shown, range-shown, root-shown, root-missing}
-use borrow.Author.Rules.{rules}
 use Rattle.eval.proofs.offer.set_of.Goals as goal
 
 pub eval_node-x-requires : goal.eval_node-x-requires

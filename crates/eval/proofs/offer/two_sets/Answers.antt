@@ -1,7 +1,6 @@
 -- `eval::offer::two_sets` meets its contract. By the cases of the ends.
 use Rattle.value.proofs.Kit.{back}
 use Rattle.eval.specs.Shown.{two_sets, none_listed}
-use borrow.Author.Rules.{rules}
 use Rattle.eval.proofs.offer.two_sets.Goals as goal
 
 pub returns-in-Are-y : goal.returns-in-Are-y

@@ -1,5 +1,5 @@
 -- The test by a quotient is the test of the number itself.
-use Rattle.std.proofs.Common.{arith, rules}
+use Rattle.std.proofs.Common.{arith}
 use Rattle.lines.proofs.Rests.{grown-small, grown-large}
 use Rattle.lines.proofs.line.grow.Goals as goal
 

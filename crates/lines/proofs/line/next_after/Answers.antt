@@ -1,5 +1,5 @@
 -- By whether two bytes are there.
-use Rattle.std.proofs.Common.{refl, rules, le-ltb, lt-ltb}
+use Rattle.std.proofs.Common.{refl, le-ltb, lt-ltb}
 use Rattle.lines.specs.Line.{two_bytes, after_next}
 use Rattle.lines.proofs.line.next_after.Goals as goal
 

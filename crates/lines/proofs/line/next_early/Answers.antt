@@ -1,5 +1,5 @@
 -- Before the fourth byte nothing stands there; then it is the rest that takes the byte.
-use Rattle.std.proofs.Common.{refl, rules, le-ltb, lt-ltb}
+use Rattle.std.proofs.Common.{refl, le-ltb, lt-ltb}
 use Rattle.lines.specs.Line.{four_bytes, early_next}
 use Rattle.lines.proofs.line.next_early.Goals as goal
 

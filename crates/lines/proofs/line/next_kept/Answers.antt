@@ -1,5 +1,5 @@
 -- By whether there is room.
-use Rattle.std.proofs.Common.{refl, rules, le-ltb, lt-ltb}
+use Rattle.std.proofs.Common.{refl, le-ltb, lt-ltb}
 use Rattle.lines.specs.Line.{kept_limit, kept_next}
 use Rattle.lines.proofs.line.next_kept.Goals as goal
 

@@ -1,5 +1,5 @@
 -- Before the seventh byte nothing stands there; then it is the rest that takes the byte.
-use Rattle.std.proofs.Common.{refl, rules, le-ltb, lt-ltb}
+use Rattle.std.proofs.Common.{refl, le-ltb, lt-ltb}
 use Rattle.lines.specs.Line.{two_bytes, late_next}
 use Rattle.lines.proofs.line.next_late.Goals as goal
 

@@ -1,5 +1,5 @@
 -- By the first four bytes.
-use Rattle.std.proofs.Common.{◌/◌, refl, rules, eq-eqb, ne_eqb}
+use Rattle.std.proofs.Common.{◌/◌, refl, eq-eqb, ne_eqb}
 use Rattle.lines.specs.Line.{run_head, ran_by}
 use Rattle.lines.proofs.line.run_line.Goals as goal
 

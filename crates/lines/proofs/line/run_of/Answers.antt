@@ -1,5 +1,5 @@
 -- By the cases of the rest.
-use Rattle.std.proofs.Common.{◌≡◌, sym, ap, rules}
+use Rattle.std.proofs.Common.{sym, ap}
 use Rattle.lines.specs.declared.line.Line.TheVariants.{Run}
 use Rattle.lines.specs.Line.{numbered}
 use Rattle.lines.proofs.line.run_of.Goals as goal

@@ -1,5 +1,5 @@
 -- By the two bytes that end the word.
-use Rattle.std.proofs.Common.{refl, rules, eq-eqb, ne_eqb}
+use Rattle.std.proofs.Common.{refl, eq-eqb, ne_eqb}
 use Rattle.lines.specs.Line.{steady_end, steadied}
 use Rattle.lines.proofs.line.steady_line.Goals as goal
 

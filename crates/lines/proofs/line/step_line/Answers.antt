@@ -1,5 +1,5 @@
 -- By the cases of the rest.
-use Rattle.std.proofs.Common.{◌≡◌, sym, ap, rules}
+use Rattle.std.proofs.Common.{sym, ap}
 use Rattle.lines.specs.declared.line.Line.TheVariants.{Step}
 use Rattle.lines.specs.Line.{numbered}
 use Rattle.lines.proofs.line.step_line.Goals as goal

@@ -1,5 +1,5 @@
 -- By the cases of the rest; a number by its size.
-use Rattle.std.proofs.Common.{◌≡◌, sym, ap, ◌∙◌, rules}
+use Rattle.std.proofs.Common.{sym, ap, ◌∙◌}
 use Rattle.lines.specs.Line.{small, numbered}
 use Rattle.lines.proofs.line.wait_line.Goals as goal
 

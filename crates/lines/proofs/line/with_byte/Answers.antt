@@ -1,5 +1,5 @@
 -- A byte is a digit, or below or above them.
-use Rattle.std.proofs.Common.{◌∙◌, arith, rules}
+use Rattle.std.proofs.Common.{◌∙◌, arith}
 use Rattle.lines.proofs.Rests.{below-digit, above-digit, at-digit}
 use Rattle.lines.proofs.line.with_byte.Goals as goal
 

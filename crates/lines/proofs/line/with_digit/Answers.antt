@@ -1,5 +1,5 @@
 -- By the cases of the rest.
-use Rattle.std.proofs.Common.{◌≡◌, sym, ap, ◌∙◌, rules}
+use Rattle.std.proofs.Common.{sym, ap, ◌∙◌}
 use Rattle.lines.specs.declared.line.Rest.{Rest}
 use Rattle.lines.specs.Line.{digit_next}
 use Rattle.lines.proofs.line.with_digit.Goals as goal

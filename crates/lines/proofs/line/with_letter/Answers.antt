@@ -1,5 +1,4 @@
 -- By the cases of the rest, and whether the byte is `t`.
-use Rattle.std.proofs.Common.{rules}
 use Rattle.lines.proofs.Rests.{last_letter, no-letter}
 use Rattle.lines.proofs.line.with_letter.Goals as goal
 

@@ -1,8 +1,7 @@
 -- The reading of the new line is empty.
-use Rattle.std.proofs.Common.{◌≡◌, sym, ap, ◌∙◌, subst, rules}
+use Rattle.std.proofs.Common.{ap}
 use Rattle.lines.specs.declared.line.Reading.{Reading}
 use Rattle.lines.specs.declared.script.Part.TheVariants.{InLine}
-use Rattle.lines.specs.declared.script.Script.{Script}
 use Rattle.lines.proofs.script.begin.Goals as goal
 
 pub returns : goal.returns

@@ -1,5 +1,5 @@
 -- By the cases of what the line says.
-use Rattle.std.proofs.Common.{ℕ, sym, ap, ◌∙◌, rules}
+use Rattle.std.proofs.Common.{ℕ, sym, ap, ◌∙◌}
 use Rattle.lines.specs.declared.line.Line.TheVariants.{Open, Steady, List as Listing, Step, State, Report, Save, Return, Forget, Time, Wait, Clock, Independent, Search, Word, Run}
 use Rattle.lines.specs.declared.script.Part.TheVariants.{InText}
 use Rattle.lines.specs.declared.script.Taken.TheVariants.{Goes, Asks}

@@ -1,5 +1,5 @@
 -- A line is counted at its LF.
-use Rattle.std.proofs.Common.{◌≡◌, sym, ap, ◌∙◌, subst, rules}
+use Rattle.std.proofs.Common.{◌∙◌}
 use Rattle.lines.proofs.Steps.{after-break, after-other}
 use Rattle.lines.proofs.script.line_after.Goals as goal
 

@@ -1,5 +1,4 @@
 -- A line with no byte is no item.
-use Rattle.std.proofs.Common.{rules}
 use Rattle.lines.proofs.Steps.{line-done, line-cut}
 use Rattle.lines.proofs.script.line_at_end.Goals as goal
 

@@ -1,5 +1,4 @@
 -- A line ends at its LF and goes on otherwise.
-use Rattle.std.proofs.Common.{rules}
 use Rattle.lines.proofs.Steps.{line-goes, line-ends}
 use Rattle.lines.proofs.script.take_in_line.Goals as goal
 

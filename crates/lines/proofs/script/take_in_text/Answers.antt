@@ -1,5 +1,5 @@
 -- A text goes on up to its size; then an LF ends it.
-use Rattle.std.proofs.Common.{◌≡◌, [], ◌∷◌, ◌++◌, sym, ap, ◌∙◌, subst, rules}
+use Rattle.std.proofs.Common.{[], ◌∷◌, ◌++◌, sym, ap, ◌∙◌, subst}
 use Rattle.lines.specs.Script.{Stands, fresh}
 use Rattle.lines.proofs.Steps.{text-goes, text-ends, text-wrong}
 use Rattle.lines.proofs.script.take_in_text.Goals as goal

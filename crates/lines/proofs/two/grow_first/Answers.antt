@@ -1,5 +1,5 @@
 -- The test by a quotient is the test of the number itself.
-use Rattle.std.proofs.Common.{arith, rules}
+use Rattle.std.proofs.Common.{arith}
 use Rattle.lines.proofs.Twos.{first_small, first-large}
 use Rattle.lines.proofs.two.grow_first.Goals as goal
 

@@ -1,5 +1,5 @@
 -- The test by a quotient is the test of the number itself.
-use Rattle.std.proofs.Common.{arith, rules}
+use Rattle.std.proofs.Common.{arith}
 use Rattle.lines.proofs.Twos.{second-small, second-large}
 use Rattle.lines.proofs.two.grow_second.Goals as goal
 

@@ -1,5 +1,5 @@
 -- Within the word, and its byte or another.
-use Rattle.std.proofs.Common.{◌≡◌, sym, ap, ◌∙◌, rules}
+use Rattle.std.proofs.Common.{sym, ◌∙◌}
 use Rattle.lines.proofs.Twos.{word_on, word-off, word-past}
 use Rattle.lines.proofs.two.in_word.Goals as goal
 

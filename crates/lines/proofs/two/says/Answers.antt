@@ -1,5 +1,5 @@
 -- By the cases of what was read.
-use Rattle.std.proofs.Common.{◌≡◌, sym, ap, ◌∙◌, rules}
+use Rattle.std.proofs.Common.{sym, ap}
 use Rattle.lines.specs.Two.{paired}
 use Rattle.lines.proofs.two.says.Goals as goal
 

@@ -1,5 +1,5 @@
 -- By the cases of what was read.
-use Rattle.std.proofs.Common.{◌≡◌, sym, ap, ◌∙◌, rules}
+use Rattle.std.proofs.Common.{sym, ap, ◌∙◌}
 use Rattle.lines.specs.declared.two.Two.{Two}
 use Rattle.lines.specs.Two.{digit_next}
 use Rattle.lines.proofs.two.with_digit.Goals as goal

@@ -1,18 +1,8 @@
 -- `walk::again_fault` meets its contract: by what is found among the names before.
 use Rattle.names.proofs.Titles.{again-found, again-none, reach-less}
 use Rattle.names.specs.Lists.{packed, name_at, names_down}
-use Rattle.names.proofs.listed.Reads as listed-reads
-use Rattle.names.proofs.listed_name.Reads as listed-name-reads
-use mathlib.Core.Path.{◌≡◌, refl, ap, sym, ◌∙◌}
-use mathlib.Core.List.{List, [], ◌∷◌, ◌++◌}
-use mathlib.Core.Bool.{Bool, true, false, cond}
-use mathlib.Core.Logic.{⊎_elim}
-use Prim.Native.Nat.{ℕ, zero, suc, ◌+◌, ◌-◌, ◌*◌, ◌≤◌, ◌<◌}
+use Prim.Native.Nat.{◌+◌, ◌-◌}
 use native.Mathlib.Omega.{arith}
-use borrow.Author.Rules.{rules}
-use borrow.Author.Tests.{lt-ltb, le-ltb, le-leb, lt-leb, eq-eqb, ne_eqb}
-use lib.IntN.{ℤ, pos}
-use lib.ListN.{length, get_or, set, take, drop, replicate, length-append, length-take, length-drop, length-set, length-replicate}
 use Rattle.names.proofs.walk.again_fault.Goals as goal
 
 pub overflow_sub-first : goal.overflow_sub-first

@@ -2,21 +2,8 @@
 use Rattle.names.proofs.Settled.{root_in}
 use Rattle.names.specs.Settings.{faults_at}
 use Rattle.names.proofs.Acts.{one-item, two_items, three-items, more-items, two-hold, three-hold, one-judged, two-judged, three-judged}
-use Rattle.names.proofs.earlier.Reads as earlier-reads
-use Rattle.names.proofs.walk.item_fault.Reads as item-fault-reads
-use Rattle.tree.proofs.kind_of.Reads as kind-of-reads
-use Rattle.tree.proofs.left_of.Reads as left-of-reads
-use Rattle.tree.proofs.third_of.Reads as third-of-reads
-use mathlib.Core.Path.{◌≡◌, refl, ap, sym, ◌∙◌}
-use mathlib.Core.List.{List, [], ◌∷◌, ◌++◌}
-use mathlib.Core.Bool.{Bool, true, false, cond}
-use mathlib.Core.Logic.{⊎_elim}
-use Prim.Native.Nat.{ℕ, zero, suc, ◌+◌, ◌-◌, ◌*◌, ◌≤◌, ◌<◌}
+use mathlib.Core.Path.{sym, ◌∙◌}
 use native.Mathlib.Omega.{arith}
-use borrow.Author.Rules.{rules}
-use borrow.Author.Tests.{lt-ltb, le-ltb, le-leb, lt-leb, eq-eqb, ne_eqb}
-use lib.IntN.{ℤ, pos}
-use lib.ListN.{length, get_or, set, take, drop, replicate, length-append, length-take, length-drop, length-set, length-replicate}
 use Rattle.names.proofs.walk.channel_fault.Goals as goal
 
 pub offset_bounds-nodes-root : goal.offset_bounds-nodes-root

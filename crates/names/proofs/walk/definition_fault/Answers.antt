@@ -1,26 +1,8 @@
 -- `walk::definition_fault` meets its contract: the parameters, then the body in their scope.
 use Rattle.names.proofs.Settled.{root_in}
 use Rattle.names.specs.Walks.{sums}
-use Rattle.tree.specs.Node.{token_of, third_of}
 use Rattle.names.proofs.Lines.{stated-of, params-named, params-inside, params-few, body-place, body-room, definition-judged}
-use Rattle.names.proofs.earlier.Reads as earlier-reads
-use Rattle.names.proofs.walk.no_locals.Reads as no-locals-reads
-use Rattle.names.proofs.walk.params_fault.Reads as params-fault-reads
-use Rattle.names.proofs.walk.part_at.Reads as part-at-reads
-use Rattle.names.proofs.walk.part_fault.Reads as part-fault-reads
-use Rattle.names.proofs.with_locals.Reads as with-locals-reads
-use Rattle.tree.proofs.third_of.Reads as third-of-reads
-use Rattle.tree.proofs.token_of.Reads as token-of-reads
-use mathlib.Core.Path.{◌≡◌, refl, ap, sym, ◌∙◌}
-use mathlib.Core.List.{List, [], ◌∷◌, ◌++◌}
-use mathlib.Core.Bool.{Bool, true, false, cond}
-use mathlib.Core.Logic.{⊎_elim}
-use Prim.Native.Nat.{ℕ, zero, suc, ◌+◌, ◌-◌, ◌*◌, ◌≤◌, ◌<◌}
 use native.Mathlib.Omega.{arith}
-use borrow.Author.Rules.{rules}
-use borrow.Author.Tests.{lt-ltb, le-ltb, le-leb, lt-leb, eq-eqb, ne_eqb}
-use lib.IntN.{ℤ, pos}
-use lib.ListN.{length, get_or, set, take, drop, replicate, length-append, length-take, length-drop, length-set, length-replicate}
 use Rattle.names.proofs.walk.definition_fault.Goals as goal
 
 pub offset_bounds-nodes-root : goal.offset_bounds-nodes-root

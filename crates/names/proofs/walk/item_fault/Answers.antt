@@ -2,18 +2,7 @@
 use Rattle.names.proofs.Settled.{root_in}
 use Rattle.names.specs.Settings.{faults_at}
 use Rattle.names.proofs.Acts.{lone-none, not-lone}
-use Rattle.names.proofs.leaves_fault.Reads as leaves-fault-reads
-use Rattle.names.proofs.walk.is_lone.Reads as is-lone-reads
-use mathlib.Core.Path.{◌≡◌, refl, ap, sym, ◌∙◌}
-use mathlib.Core.List.{List, [], ◌∷◌, ◌++◌}
-use mathlib.Core.Bool.{Bool, true, false, cond}
-use mathlib.Core.Logic.{⊎_elim}
-use Prim.Native.Nat.{ℕ, zero, suc, ◌+◌, ◌-◌, ◌*◌, ◌≤◌, ◌<◌}
 use native.Mathlib.Omega.{arith}
-use borrow.Author.Rules.{rules}
-use borrow.Author.Tests.{lt-ltb, le-ltb, le-leb, lt-leb, eq-eqb, ne_eqb}
-use lib.IntN.{ℤ, pos}
-use lib.ListN.{length, get_or, set, take, drop, replicate, length-append, length-take, length-drop, length-set, length-replicate}
 use Rattle.names.proofs.walk.item_fault.Goals as goal
 
 pub offset_bounds-nodes-root : goal.offset_bounds-nodes-root

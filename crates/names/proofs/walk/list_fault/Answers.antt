@@ -1,18 +1,6 @@
 -- `walk::list_fault` meets its contract: by the question.
 use Rattle.names.proofs.Titles.{list-limits, list-fresh, list-given}
 use Rattle.names.specs.Lists.{packed, names_down}
-use Rattle.names.proofs.walk.past_fault.Reads as past-fault-reads
-use Rattle.names.proofs.walk.twice_fault.Reads as twice-fault-reads
-use mathlib.Core.Path.{◌≡◌, refl, ap, sym, ◌∙◌}
-use mathlib.Core.List.{List, [], ◌∷◌, ◌++◌}
-use mathlib.Core.Bool.{Bool, true, false, cond}
-use mathlib.Core.Logic.{⊎_elim}
-use Prim.Native.Nat.{ℕ, zero, suc, ◌+◌, ◌-◌, ◌*◌, ◌≤◌, ◌<◌}
-use native.Mathlib.Omega.{arith}
-use borrow.Author.Rules.{rules}
-use borrow.Author.Tests.{lt-ltb, le-ltb, le-leb, lt-leb, eq-eqb, ne_eqb}
-use lib.IntN.{ℤ, pos}
-use lib.ListN.{length, get_or, set, take, drop, replicate, length-append, length-take, length-drop, length-set, length-replicate}
 use Rattle.names.proofs.walk.list_fault.Goals as goal
 
 pub past_fault-requires : goal.past_fault-requires

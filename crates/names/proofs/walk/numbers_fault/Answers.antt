@@ -2,18 +2,7 @@
 use Rattle.names.proofs.Titles.{numbers-limits, numbers-fresh, numbers-given}
 use Rattle.names.proofs.Lines.{setting-none}
 use Rattle.names.proofs.Settled.{vs-few}
-use Rattle.names.proofs.leaves_fault.Reads as leaves-fault-reads
-use Rattle.names.proofs.walk.no_locals.Reads as no-locals-reads
-use mathlib.Core.Path.{◌≡◌, refl, ap, sym, ◌∙◌}
-use mathlib.Core.List.{List, [], ◌∷◌, ◌++◌}
-use mathlib.Core.Bool.{Bool, true, false, cond}
-use mathlib.Core.Logic.{⊎_elim}
-use Prim.Native.Nat.{ℕ, zero, suc, ◌+◌, ◌-◌, ◌*◌, ◌≤◌, ◌<◌}
 use native.Mathlib.Omega.{arith}
-use borrow.Author.Rules.{rules}
-use borrow.Author.Tests.{lt-ltb, le-ltb, le-leb, lt-leb, eq-eqb, ne_eqb}
-use lib.IntN.{ℤ, pos}
-use lib.ListN.{length, get_or, set, take, drop, replicate, length-append, length-take, length-drop, length-set, length-replicate}
 use Rattle.names.proofs.walk.numbers_fault.Goals as goal
 
 pub leaves_fault-requires : goal.leaves_fault-requires

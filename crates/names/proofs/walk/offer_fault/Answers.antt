@@ -3,23 +3,7 @@ use Rattle.names.proofs.Settled.{root_in}
 use Rattle.names.specs.Settings.{faults_at}
 use Rattle.names.proofs.Acts.{offer-judged}
 use Rattle.model.specs.Sites.{branch, variables, definitions}
-use Rattle.names.specs.Faults.{site_faults}
-use Rattle.names.proofs.branch_fault.Reads as branch-fault-reads
-use Rattle.names.proofs.earlier.Reads as earlier-reads
-use Rattle.names.proofs.leaves_fault.Reads as leaves-fault-reads
-use Rattle.names.proofs.walk.action_fault.Reads as action-fault-reads
-use Rattle.tree.proofs.left_of.Reads as left-of-reads
-use Rattle.tree.proofs.token_of.Reads as token-of-reads
-use mathlib.Core.Path.{◌≡◌, refl, ap, sym, ◌∙◌}
-use mathlib.Core.List.{List, [], ◌∷◌, ◌++◌}
-use mathlib.Core.Bool.{Bool, true, false, cond}
-use mathlib.Core.Logic.{⊎_elim}
-use Prim.Native.Nat.{ℕ, zero, suc, ◌+◌, ◌-◌, ◌*◌, ◌≤◌, ◌<◌}
 use native.Mathlib.Omega.{arith}
-use borrow.Author.Rules.{rules}
-use borrow.Author.Tests.{lt-ltb, le-ltb, le-leb, lt-leb, eq-eqb, ne_eqb}
-use lib.IntN.{ℤ, pos}
-use lib.ListN.{length, get_or, set, take, drop, replicate, length-append, length-take, length-drop, length-set, length-replicate}
 use Rattle.names.proofs.walk.offer_fault.Goals as goal
 
 pub action_fault-action-requires : goal.action_fault-action-requires

@@ -1,23 +1,7 @@
 -- `walk::start_fault` meets its contract: by the question.
 use Rattle.names.proofs.Settled.{root_in}
 use Rattle.names.proofs.Lines.{setting-none, count-there, start-name, start-limits, start-fresh, start-given}
-use Rattle.names.proofs.call_fault.Reads as call-fault-reads
-use Rattle.names.proofs.earlier.Reads as earlier-reads
-use Rattle.names.proofs.leaves_fault.Reads as leaves-fault-reads
-use Rattle.names.proofs.walk.count_fault.Reads as count-fault-reads
-use Rattle.names.proofs.walk.no_locals.Reads as no-locals-reads
-use Rattle.tree.proofs.third_of.Reads as third-of-reads
-use Rattle.tree.proofs.token_of.Reads as token-of-reads
-use mathlib.Core.Path.{◌≡◌, refl, ap, sym, ◌∙◌}
-use mathlib.Core.List.{List, [], ◌∷◌, ◌++◌}
-use mathlib.Core.Bool.{Bool, true, false, cond}
-use mathlib.Core.Logic.{⊎_elim}
-use Prim.Native.Nat.{ℕ, zero, suc, ◌+◌, ◌-◌, ◌*◌, ◌≤◌, ◌<◌}
 use native.Mathlib.Omega.{arith}
-use borrow.Author.Rules.{rules}
-use borrow.Author.Tests.{lt-ltb, le-ltb, le-leb, lt-leb, eq-eqb, ne_eqb}
-use lib.IntN.{ℤ, pos}
-use lib.ListN.{length, get_or, set, take, drop, replicate, length-append, length-take, length-drop, length-set, length-replicate}
 use Rattle.names.proofs.walk.start_fault.Goals as goal
 
 pub offset_bounds-nodes-root : goal.offset_bounds-nodes-root

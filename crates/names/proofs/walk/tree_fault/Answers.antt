@@ -1,20 +1,7 @@
 -- `walk::tree_fault` meets its contract: lists of names, variables' numbers and lines.
 use Rattle.names.proofs.Titles.{lines, lines-hold, lines-room, tree-judged}
 use Rattle.names.proofs.Settled.{vs-few, reach-variables, reach-definitions}
-use Rattle.names.proofs.earlier.Reads as earlier-reads
-use Rattle.names.proofs.walk.lines_fault.Reads as lines-fault-reads
-use Rattle.names.proofs.walk.list_fault.Reads as list-fault-reads
-use Rattle.names.proofs.walk.numbers_fault.Reads as numbers-fault-reads
-use mathlib.Core.Path.{◌≡◌, refl, ap, sym, ◌∙◌}
-use mathlib.Core.List.{List, [], ◌∷◌, ◌++◌}
-use mathlib.Core.Bool.{Bool, true, false, cond}
-use mathlib.Core.Logic.{⊎_elim}
-use Prim.Native.Nat.{ℕ, zero, suc, ◌+◌, ◌-◌, ◌*◌, ◌≤◌, ◌<◌}
 use native.Mathlib.Omega.{arith}
-use borrow.Author.Rules.{rules}
-use borrow.Author.Tests.{lt-ltb, le-ltb, le-leb, lt-leb, eq-eqb, ne_eqb}
-use lib.IntN.{ℤ, pos}
-use lib.ListN.{length, get_or, set, take, drop, replicate, length-append, length-take, length-drop, length-set, length-replicate}
 use Rattle.names.proofs.walk.tree_fault.Goals as goal
 
 pub overflow_sub-below : goal.overflow_sub-below

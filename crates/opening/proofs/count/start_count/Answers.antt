@@ -1,11 +1,7 @@
 use mathlib.Core.Path.{sym, ◌∙◌}
-use Prim.Native.Nat.{◌≤◌}
 use native.Mathlib.Omega.{arith}
 use borrow.Author.Rules.{rules}
-use Rattle.model.specs.Resolved
-use Rattle.model.specs.Opening.{process_limit}
-use Rattle.opening.specs.Counts.{Countable}
-use Rattle.opening.proofs.Counting.{Left, left-all, left-inside-line, left-next, next-item, left-last, counts-many, counts_all}
+use Rattle.opening.proofs.Counting.{left-all, left-inside-line, left-next, next-item, left-last, counts-many, counts_all}
 use Rattle.opening.proofs.count.start_count.Goals as goal
 
 pub loop-count-init : goal.loop-count-init

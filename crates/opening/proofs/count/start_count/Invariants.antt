@@ -1,12 +1,9 @@
 -- The loop's invariant: at most 256 processes were counted, and the items at `at` are left.
-use mathlib.Core.Path.{sym, ◌∙◌}
 use Prim.Native.Nat.{◌≤◌}
-use native.Mathlib.Omega.{arith}
-use borrow.Author.Rules.{rules}
 use Rattle.model.specs.Resolved
 use Rattle.model.specs.Opening.{process_limit}
 use Rattle.opening.specs.Counts.{Countable}
-use Rattle.opening.proofs.Counting.{Left, left-all, left-inside-line, left-next, next-item, left-last, counts-many, counts_all}
+use Rattle.opening.proofs.Counting.{Left}
 use Rattle.opening.proofs.count.start_count.Given as goal
 
 abbrev pub invariant-loop-count : goal.invariant-loop-count

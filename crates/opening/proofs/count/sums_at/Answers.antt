@@ -1,10 +1,7 @@
-use mathlib.Core.Path.{◌≡◌, sym, ◌∙◌}
-use mathlib.Core.List.{List}
-use Prim.Native.Nat.{ℕ, ◌+◌}
+use mathlib.Core.Path.{sym, ◌∙◌}
 use native.Mathlib.Omega.{arith}
 use borrow.Author.Rules.{rules}
-use Rattle.tables.specs.Represents as tables
-use Rattle.opening.proofs.Counting.{Rest, rest_all, rest-inside, rest-on, rest-off}
+use Rattle.opening.proofs.Counting.{rest_all, rest-inside, rest-on, rest-off}
 use Rattle.opening.proofs.count.sums_at.Goals as goal
 
 pub loop-n-init : goal.loop-n-init

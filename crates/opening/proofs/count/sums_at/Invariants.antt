@@ -1,11 +1,9 @@
 -- The loop's invariant: n - 1 sums were counted, and the chain goes on as that of the others.
-use mathlib.Core.Path.{◌≡◌, sym, ◌∙◌}
+use mathlib.Core.Path.{◌≡◌}
 use mathlib.Core.List.{List}
 use Prim.Native.Nat.{ℕ, ◌+◌}
-use native.Mathlib.Omega.{arith}
-use borrow.Author.Rules.{rules}
 use Rattle.tables.specs.Represents as tables
-use Rattle.opening.proofs.Counting.{Rest, rest_all, rest-inside, rest-on, rest-off}
+use Rattle.opening.proofs.Counting.{Rest}
 use Rattle.opening.proofs.count.sums_at.Given as goal
 
 abbrev pub invariant-loop-n : goal.invariant-loop-n

@@ -1,9 +1,8 @@
-use mathlib.Core.Path.{◌≡◌, refl, ◌∙◌}
-use Prim.Native.Nat.{◌-◌, ◌≤◌}
+use mathlib.Core.Path.{refl, ◌∙◌}
 use native.Mathlib.Omega.{arith}
 use lib.ListN.{length, replicate, length-set, length-replicate}
 use borrow.Author.Rules.{rules}
-use Rattle.state.proofs.Mix.{mix, mix_all}
+use Rattle.state.proofs.Mix.{mix_all}
 use Rattle.store.proofs.Bytes.{cleared}
 use Rattle.store.proofs.buffer.clear_bytes.Goals as goal
 

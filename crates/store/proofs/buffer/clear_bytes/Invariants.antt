@@ -1,11 +1,8 @@
 -- The loop's invariant: zeros below i, and from i on what was there. The measure is what is left.
-use mathlib.Core.Path.{◌≡◌, refl, ◌∙◌}
+use mathlib.Core.Path.{◌≡◌}
 use Prim.Native.Nat.{◌-◌, ◌≤◌}
-use native.Mathlib.Omega.{arith}
-use lib.ListN.{length, replicate, length-set, length-replicate}
-use borrow.Author.Rules.{rules}
-use Rattle.state.proofs.Mix.{mix, mix_all}
-use Rattle.store.proofs.Bytes.{cleared}
+use lib.ListN.{length, replicate}
+use Rattle.state.proofs.Mix.{mix}
 use Rattle.store.proofs.buffer.clear_bytes.Given as goal
 
 abbrev pub invariant-loop-i : goal.invariant-loop-i

@@ -1,10 +1,8 @@
 use mathlib.Core.Path.{◌≡◌, refl}
-use Prim.Native.Nat.{◌-◌, ◌≤◌}
 use native.Mathlib.Omega.{arith}
 use lib.ListN.{length, length-set}
 use borrow.Author.Rules.{rules}
-use Rattle.state.proofs.Mix.{mix}
-use Rattle.store.proofs.Bytes.{copied, copied_on, copied-done}
+use Rattle.store.proofs.Bytes.{copied_on, copied-done}
 use Rattle.store.proofs.buffer.copy_bytes.Goals as goal
 
 pub loop-i-init : goal.loop-i-init

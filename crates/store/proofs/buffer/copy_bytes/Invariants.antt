@@ -1,11 +1,9 @@
 -- The loop's invariant: the text's bytes below i, and from i on what was there. The measure is what is left.
-use mathlib.Core.Path.{◌≡◌, refl}
+use mathlib.Core.Path.{◌≡◌}
 use Prim.Native.Nat.{◌-◌, ◌≤◌}
-use native.Mathlib.Omega.{arith}
-use lib.ListN.{length, length-set}
-use borrow.Author.Rules.{rules}
+use lib.ListN.{length}
 use Rattle.state.proofs.Mix.{mix}
-use Rattle.store.proofs.Bytes.{copied, copied_on, copied-done}
+use Rattle.store.proofs.Bytes.{copied}
 use Rattle.store.proofs.buffer.copy_bytes.Given as goal
 
 abbrev pub invariant-loop-i : goal.invariant-loop-i

@@ -1,7 +1,6 @@
 -- The test of a model buffer, in the order in which it is asked.
 use mathlib.Core.Path.{sym, ◌∙◌}
 use native.Mathlib.Omega.{arith}
-use borrow.Author.Rules.{rules}
 use Rattle.store.specs.Text.{TextIn}
 use Rattle.store.proofs.Bytes.{too_long, not-clear, clear-after}
 use Rattle.store.proofs.buffer.find_text.Goals as goal

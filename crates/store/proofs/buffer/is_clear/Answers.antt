@@ -1,11 +1,6 @@
-use mathlib.Core.Path.{◌≡◌, refl}
-use mathlib.Core.Bool.{◌&&◌}
-use Prim.Native.Nat.{◌-◌, ◌≤◌}
+use mathlib.Core.Path.{refl}
 use native.Mathlib.Omega.{arith}
-use lib.Dec.{eqb}
-use lib.ListN.{length, drop}
 use borrow.Author.Rules.{rules}
-use Rattle.buffers.specs.Held.{zeros}
 use Rattle.store.proofs.Bytes.{zeros-on, zeros-done}
 use Rattle.store.proofs.buffer.is_clear.Goals as goal
 

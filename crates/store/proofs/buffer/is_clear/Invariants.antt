@@ -1,13 +1,10 @@
 -- The loop's invariant: no bit so far, and the test of the rest, give the answer for all. The measure is what is left.
-use mathlib.Core.Path.{◌≡◌, refl}
+use mathlib.Core.Path.{◌≡◌}
 use mathlib.Core.Bool.{◌&&◌}
 use Prim.Native.Nat.{◌-◌, ◌≤◌}
-use native.Mathlib.Omega.{arith}
 use lib.Dec.{eqb}
 use lib.ListN.{length, drop}
-use borrow.Author.Rules.{rules}
 use Rattle.buffers.specs.Held.{zeros}
-use Rattle.store.proofs.Bytes.{zeros-on, zeros-done}
 use Rattle.store.proofs.buffer.is_clear.Given as goal
 
 abbrev pub invariant-loop-i : goal.invariant-loop-i

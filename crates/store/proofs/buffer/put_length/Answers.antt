@@ -3,7 +3,6 @@ use mathlib.Core.Path.{◌≡◌, ap}
 use Prim.Native.Nat.{◌%◌, ◌/◌, ℕ}
 use native.Mathlib.Omega.{arith}
 use lib.ListN.{set}
-use borrow.Author.Rules.{rules}
 use Rattle.store.proofs.buffer.put_length.Goals as goal
 
 pub returns : goal.returns

@@ -3,7 +3,6 @@ use mathlib.Core.Path.{◌≡◌, ap, ◌∙◌}
 use Prim.Native.Nat.{◌%◌, ◌/◌, ℕ}
 use native.Mathlib.Omega.{arith}
 use lib.ListN.{length, length-take, length-drop, length-replicate}
-use borrow.Author.Rules.{rules}
 use Rattle.machine.specs.Machine.{model_length}
 use Rattle.buffers.proofs.Held.{bytes-length}
 use Rattle.store.proofs.Bytes.{twice-length, text-put}

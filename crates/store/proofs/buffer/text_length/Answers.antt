@@ -1,7 +1,6 @@
 -- Both bytes are below 256, so that the length is below 65,536.
 use mathlib.Core.Path.{refl}
 use native.Mathlib.Omega.{arith}
-use borrow.Author.Rules.{rules}
 use Rattle.buffers.specs.Held.{length_in}
 use Rattle.store.proofs.buffer.text_length.Goals as goal
 

@@ -1,5 +1,4 @@
 use mathlib.Core.Path.{ap, sym, ◌∙◌}
-use Prim.Native.Nat.{ℕ, ◌<◌}
 use native.Mathlib.Omega.{arith}
 use Rattle.tree.specs.Node.{kind_of, left_of}
 use Rattle.store.proofs.Nodes.{last-item, last-items, first-item, rest-items, more-items}

@@ -1,7 +1,6 @@
 -- `engine::start::open_state` meets its contract: from the empty state by the items of the system line.
 use mathlib.Core.Path.{ap, ◌∙◌}
 use Prim.Native.Nat.{ℕ, ◌-◌}
-use borrow.Author.Rules.{rules}
 use Rattle.store.proofs.Opened.{opens-fit, opens-state}
 use Rattle.store.proofs.start.open_state.Goals as goal
 

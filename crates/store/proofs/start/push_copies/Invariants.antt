@@ -1,16 +1,12 @@
 -- `engine::start::push_copies` meets its contract. The loop's invariant: i copies have been pushed.
-use mathlib.Core.Path.{◌≡◌, refl}
+use mathlib.Core.Path.{◌≡◌}
 use mathlib.Core.List.{List}
 use Prim.Native.Nat.{ℕ, ◌-◌, ◌≤◌}
-use native.Mathlib.Omega.{arith}
 use lib.ListN.{length}
-use borrow.Author.Rules.{rules}
 use Rattle.tables.specs.Represents.{Sums}
 use Rattle.machine.specs.Machine.{copies}
 use Rattle.eval.specs.Next.{entered}
 use Rattle.store.specs.Start.{Adds}
-use Rattle.store.proofs.Towards.{adds_none}
-use Rattle.store.proofs.Nodes.{copy-fits, copy-adds}
 use Rattle.store.proofs.start.push_copies.Given as goal
 
 abbrev pub invariant-loop-i : goal.invariant-loop-i

@@ -3,7 +3,6 @@ use mathlib.Core.Path.{refl, ap, ◌∙◌}
 use Prim.Native.Nat.{ℕ, ◌-◌}
 use native.Mathlib.Omega.{arith}
 use lib.ListN.{get_or, length-take}
-use borrow.Author.Rules.{rules}
 use Rattle.tree.specs.Node.{token_of, left_of, third_of}
 use Rattle.store.proofs.Nodes.{item-third, few-values, body-above, item-copies, item-adds, item-good}
 use Rattle.store.proofs.start.push_item.Goals as goal

@@ -2,9 +2,6 @@
 use mathlib.Core.Path.{ap, ◌∙◌}
 use Prim.Native.Nat.{ℕ}
 use Rattle.state.specs.Change.{process_pushed}
-use borrow.Author.Rules.{rules}
-use Rattle.state.proofs.definition_in.Reads as definition-in-reads
-use Rattle.state.proofs.push_process.Reads as push-process-reads
 use Rattle.store.proofs.start.push_known.Goals as goal
 
 pub returns : goal.returns

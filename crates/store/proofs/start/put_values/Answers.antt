@@ -1,7 +1,6 @@
 -- `engine::start::put_values` meets its contract: an item without values has none to write.
 use mathlib.Core.Path.{ap, sym, ◌∙◌}
 use native.Mathlib.Omega.{arith}
-use borrow.Author.Rules.{rules}
 use Rattle.tree.specs.Node.{kind_of}
 use Rattle.store.proofs.Nodes.{item-third, bare-values, values-at, values-put}
 use Rattle.store.proofs.start.put_values.Goals as goal

@@ -2,7 +2,6 @@
 use mathlib.Core.Path.{◌≡◌, sym, ◌∙◌}
 use Prim.Native.Nat.{ℕ}
 use native.Mathlib.Omega.{arith}
-use borrow.Author.Rules.{rules}
 use Rattle.model.specs.Good.{Every}
 use Rattle.value.proofs.Kit.{back}
 use Rattle.store.proofs.Nodes.{whole-held, whole_is}

@@ -1,20 +1,7 @@
 -- `deed` meets its contract: each return is a law of Deeds.antt.
-use Rattle.grammar.proofs.Follows.{same, isnt, inside, in_tok}
-use Rattle.tree.proofs.Spans.{ready-after, ready-token, made_of, grown-of}
+use Rattle.grammar.proofs.Follows.{same, isnt}
 use Rattle.syntax.proofs.Deeds.{deed-stray, deed-launch, deed-kill, deed-receive}
-use Rattle.syntax.proofs.action.receiving.Reads as receiving-reads
-use Rattle.syntax.proofs.action.sending.Reads as sending-reads
-use Rattle.token.proofs.peek.Reads as peek-reads
-use mathlib.Core.Path.{◌≡◌, refl, ap, sym, ◌∙◌}
-use mathlib.Core.List.{List, [], ◌∷◌, ◌++◌}
-use mathlib.Core.Bool.{Bool, true, false, cond}
-use mathlib.Core.Logic.{⊎_elim}
-use Prim.Native.Nat.{ℕ, zero, suc, ◌+◌, ◌-◌, ◌*◌, ◌≤◌, ◌<◌}
 use native.Mathlib.Omega.{arith}
-use borrow.Author.Rules.{rules}
-use borrow.Author.Tests.{lt-ltb, le-ltb, le-leb, lt-leb, eq-eqb, ne_eqb}
-use lib.IntN.{ℤ, pos}
-use lib.ListN.{length, get_or, set, take, drop, replicate, length-append, length-take, length-drop, length-set, length-replicate}
 use Rattle.syntax.proofs.action.deed.Goals as goal
 
 pub sending-requires : goal.sending-requires

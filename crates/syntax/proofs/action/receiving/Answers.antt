@@ -3,20 +3,7 @@ use Rattle.grammar.proofs.Follows.{inside, same, isnt, in_tok}
 use Rattle.tree.proofs.Spans.{ready-token, made_of}
 use Rattle.syntax.proofs.Naming.{listed_of}
 use Rattle.syntax.proofs.Deeds.{receiving-fault, receiving-plain, receiving-unnamed, receiving-named}
-use Rattle.syntax.proofs.action.names.Reads as names-reads
-use Rattle.syntax.proofs.action.sets.Reads as sets-reads
-use Rattle.token.proofs.peek.Reads as peek-reads
-use Rattle.tree.proofs.node.Reads as node-reads
-use mathlib.Core.Path.{◌≡◌, refl, ap, sym, ◌∙◌}
-use mathlib.Core.List.{List, [], ◌∷◌, ◌++◌}
-use mathlib.Core.Bool.{Bool, true, false, cond}
-use mathlib.Core.Logic.{⊎_elim}
-use Prim.Native.Nat.{ℕ, zero, suc, ◌+◌, ◌-◌, ◌*◌, ◌≤◌, ◌<◌}
 use native.Mathlib.Omega.{arith}
-use borrow.Author.Rules.{rules}
-use borrow.Author.Tests.{lt-ltb, le-ltb, le-leb, lt-leb, eq-eqb, ne_eqb}
-use lib.IntN.{ℤ, pos}
-use lib.ListN.{length, get_or, set, take, drop, replicate, length-append, length-take, length-drop, length-set, length-replicate}
 use Rattle.syntax.proofs.action.receiving.Goals as goal
 
 pub overflow_add-at : goal.overflow_add-at

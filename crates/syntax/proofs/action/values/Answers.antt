@@ -3,21 +3,8 @@ use Rattle.grammar.proofs.Follows.{same, isnt, in_tok}
 use Rattle.grammar.proofs.Wide.{wide-expr}
 use Rattle.tree.proofs.Holds.{expr-interval}
 use Rattle.tree.proofs.Spans.{ready-token, made_of}
-use Rattle.syntax.proofs.Sizes.{parsed-size}
 use Rattle.syntax.proofs.Enclosed.{value-brackets, brackets-stray, brackets-fault, brackets-one, brackets-open, brackets-ready, brackets-fault-second, brackets-open-second, brackets-two}
-use Rattle.syntax.proofs.expression.expr.Reads as expr-reads
-use Rattle.token.proofs.peek.Reads as peek-reads
-use Rattle.tree.proofs.node.Reads as node-reads
-use mathlib.Core.Path.{◌≡◌, refl, ap, sym, ◌∙◌}
-use mathlib.Core.List.{List, [], ◌∷◌, ◌++◌}
-use mathlib.Core.Bool.{Bool, true, false, cond}
-use mathlib.Core.Logic.{⊎_elim}
-use Prim.Native.Nat.{ℕ, zero, suc, ◌+◌, ◌-◌, ◌*◌, ◌≤◌, ◌<◌}
 use native.Mathlib.Omega.{arith}
-use borrow.Author.Rules.{rules}
-use borrow.Author.Tests.{lt-ltb, le-ltb, le-leb, lt-leb, eq-eqb, ne_eqb}
-use lib.IntN.{ℤ, pos}
-use lib.ListN.{length, get_or, set, take, drop, replicate, length-append, length-take, length-drop, length-set, length-replicate}
 use Rattle.syntax.proofs.action.values.Goals as goal
 
 pub returns-then-peek-ne91 : goal.returns-then-peek-ne91

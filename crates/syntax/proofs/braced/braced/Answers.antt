@@ -1,26 +1,8 @@
 -- `braced` meets its contract: each return is a law of Bracing.antt.
-use Rattle.grammar.proofs.Follows.{same, isnt, inside, in_tok}
-use Rattle.tree.proofs.Spans.{ready-after, ready-token, made_of, grown-of}
-use Rattle.tree.specs.Node.{op_kind, number_kind}
+use Rattle.grammar.proofs.Follows.{same, isnt}
 use mathlib.Core.Logic.{inl, inr}
-use Rattle.grammar.proofs.Alike.{checking, shaking}
 use Rattle.syntax.proofs.Bracing.{braced-ready, braced-check, braced-hand, braced-channel}
-use Rattle.syntax.proofs.action.beacon.Reads as beacon-reads
-use Rattle.syntax.proofs.action.check.Reads as check-reads
-use Rattle.syntax.proofs.action.handshake.Reads as handshake-reads
-use Rattle.syntax.proofs.braced.lone.Reads as lone-reads
-use Rattle.syntax.proofs.braced.rated.Reads as rated-reads
-use Rattle.token.proofs.peek.Reads as peek-reads
-use mathlib.Core.Path.{◌≡◌, refl, ap, sym, ◌∙◌}
-use mathlib.Core.List.{List, [], ◌∷◌, ◌++◌}
-use mathlib.Core.Bool.{Bool, true, false, cond}
-use mathlib.Core.Logic.{⊎_elim}
-use Prim.Native.Nat.{ℕ, zero, suc, ◌+◌, ◌-◌, ◌*◌, ◌≤◌, ◌<◌}
 use native.Mathlib.Omega.{arith}
-use borrow.Author.Rules.{rules}
-use borrow.Author.Tests.{lt-ltb, le-ltb, le-leb, lt-leb, eq-eqb, ne_eqb}
-use lib.IntN.{ℤ, pos}
-use lib.ListN.{length, get_or, set, take, drop, replicate, length-append, length-take, length-drop, length-set, length-replicate}
 use Rattle.syntax.proofs.braced.braced.Goals as goal
 use Rattle.syntax.proofs.braced.braced.Goals.{then-t-eq-NAME+else-peek-eq44, else-t-eq-NAME}
 

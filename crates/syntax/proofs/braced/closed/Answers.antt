@@ -1,19 +1,8 @@
 -- `closed` meets its contract: each return is a law of Braces.antt.
-use Rattle.grammar.proofs.Follows.{same, isnt, inside, in_tok}
-use Rattle.tree.proofs.Spans.{ready-after, ready-token, made_of, grown-of}
+use Rattle.grammar.proofs.Follows.{same, isnt}
+use Rattle.tree.proofs.Spans.{made_of}
 use Rattle.syntax.proofs.Braces.{closed-fault, closed-open, closed-made}
-use Rattle.syntax.proofs.rate.rate.Reads as rate-reads
-use Rattle.token.proofs.peek.Reads as peek-reads
-use mathlib.Core.Path.{◌≡◌, refl, ap, sym, ◌∙◌}
-use mathlib.Core.List.{List, [], ◌∷◌, ◌++◌}
-use mathlib.Core.Bool.{Bool, true, false, cond}
-use mathlib.Core.Logic.{⊎_elim}
-use Prim.Native.Nat.{ℕ, zero, suc, ◌+◌, ◌-◌, ◌*◌, ◌≤◌, ◌<◌}
 use native.Mathlib.Omega.{arith}
-use borrow.Author.Rules.{rules}
-use borrow.Author.Tests.{lt-ltb, le-ltb, le-leb, lt-leb, eq-eqb, ne_eqb}
-use lib.IntN.{ℤ, pos}
-use lib.ListN.{length, get_or, set, take, drop, replicate, length-append, length-take, length-drop, length-set, length-replicate}
 use Rattle.syntax.proofs.braced.closed.Goals as goal
 
 pub returns-then-peek-ne125 : goal.returns-then-peek-ne125

@@ -1,26 +1,10 @@
 -- `lone` meets its contract: each return is a law of Lone.antt.
-use Rattle.grammar.proofs.Follows.{same, isnt, inside, in_tok}
-use Rattle.tree.proofs.Spans.{ready-after, ready-token, made_of, grown-of}
-use Rattle.tree.specs.Node.{op_kind, number_kind}
+use Rattle.grammar.proofs.Follows.{same, isnt}
+use Rattle.tree.specs.Node.{number_kind}
 use mathlib.Core.Logic.{inl, inr}
 use Rattle.syntax.proofs.Lone.{either-name, either-whole, lone-ready, lone-undecided, lone-decimal, lone-fault, lone-second, lone-done}
-use Rattle.syntax.proofs.braced.closed.Reads as closed-reads
-use Rattle.syntax.proofs.braced.lone_minus.Reads as lone-minus-reads
-use Rattle.syntax.proofs.braced.second.Reads as second_reads
-use Rattle.syntax.proofs.braced.undecided.Reads as undecided-reads
-use Rattle.syntax.proofs.expression.expr.Reads as expr-reads
-use Rattle.token.proofs.peek.Reads as peek-reads
-use Rattle.tree.proofs.node.Reads as node-reads
-use mathlib.Core.Path.{◌≡◌, refl, ap, sym, ◌∙◌}
-use mathlib.Core.List.{List, [], ◌∷◌, ◌++◌}
-use mathlib.Core.Bool.{Bool, true, false, cond}
-use mathlib.Core.Logic.{⊎_elim}
-use Prim.Native.Nat.{ℕ, zero, suc, ◌+◌, ◌-◌, ◌*◌, ◌≤◌, ◌<◌}
+use Prim.Native.Nat.{◌+◌}
 use native.Mathlib.Omega.{arith}
-use borrow.Author.Rules.{rules}
-use borrow.Author.Tests.{lt-ltb, le-ltb, le-leb, lt-leb, eq-eqb, ne_eqb}
-use lib.IntN.{ℤ, pos}
-use lib.ListN.{length, get_or, set, take, drop, replicate, length-append, length-take, length-drop, length-set, length-replicate}
 use Rattle.syntax.proofs.braced.lone.Goals as goal
 
 pub overflow_add-n : goal.overflow_add-n

@@ -1,24 +1,10 @@
 -- `product` meets its contract: each return is a law of Lone.antt.
-use Rattle.grammar.proofs.Follows.{same, isnt, inside, in_tok}
-use Rattle.tree.proofs.Spans.{ready-after, ready-token, made_of, grown-of}
-use Rattle.tree.specs.Node.{op_kind, number_kind}
-use mathlib.Core.Logic.{inl, inr}
-use Rattle.syntax.proofs.Lone.{inside-size, product-ready, product-fault, product-wait, product-rest, product-stops, product-second, product-done}
-use Rattle.syntax.proofs.braced.rest.Reads as rest-reads
-use Rattle.syntax.proofs.braced.second.Reads as second_reads
-use Rattle.syntax.proofs.expression.atom.Reads as atom-reads
-use Rattle.token.proofs.peek.Reads as peek-reads
-use Rattle.tree.proofs.node.Reads as node-reads
-use mathlib.Core.Path.{◌≡◌, refl, ap, sym, ◌∙◌}
-use mathlib.Core.List.{List, [], ◌∷◌, ◌++◌}
-use mathlib.Core.Bool.{Bool, true, false, cond}
-use mathlib.Core.Logic.{⊎_elim}
-use Prim.Native.Nat.{ℕ, zero, suc, ◌+◌, ◌-◌, ◌*◌, ◌≤◌, ◌<◌}
+use Rattle.grammar.proofs.Follows.{same, isnt, inside}
+use Rattle.tree.proofs.Spans.{made_of}
+use Rattle.tree.specs.Node.{op_kind}
+use Rattle.syntax.proofs.Lone.{product-ready, product-fault, product-wait, product-rest, product-stops, product-second, product-done}
+use Prim.Native.Nat.{◌+◌}
 use native.Mathlib.Omega.{arith}
-use borrow.Author.Rules.{rules}
-use borrow.Author.Tests.{lt-ltb, le-ltb, le-leb, lt-leb, eq-eqb, ne_eqb}
-use lib.IntN.{ℤ, pos}
-use lib.ListN.{length, get_or, set, take, drop, replicate, length-append, length-take, length-drop, length-set, length-replicate}
 use Rattle.syntax.proofs.braced.product.Goals as goal
 
 pub overflow_add-left : goal.overflow_add-left

@@ -1,24 +1,8 @@
 -- `undecided` meets its contract: each return is a law of Lone.antt.
-use Rattle.grammar.proofs.Follows.{same, isnt, inside, in_tok}
-use Rattle.tree.proofs.Spans.{ready-after, ready-token, made_of, grown-of}
-use Rattle.tree.specs.Node.{op_kind, number_kind}
-use mathlib.Core.Logic.{inl, inr}
+use Rattle.grammar.proofs.Follows.{same, isnt, inside}
 use Rattle.syntax.proofs.Lone.{undecided-ready, undecided-wait, undecided-fault, undecided-second, undecided-done, undecided-times}
-use Rattle.syntax.proofs.braced.product.Reads as product-reads
-use Rattle.syntax.proofs.braced.rest.Reads as rest-reads
-use Rattle.syntax.proofs.braced.second.Reads as second_reads
-use Rattle.token.proofs.peek.Reads as peek-reads
-use Rattle.tree.proofs.node.Reads as node-reads
-use mathlib.Core.Path.{◌≡◌, refl, ap, sym, ◌∙◌}
-use mathlib.Core.List.{List, [], ◌∷◌, ◌++◌}
-use mathlib.Core.Bool.{Bool, true, false, cond}
-use mathlib.Core.Logic.{⊎_elim}
-use Prim.Native.Nat.{ℕ, zero, suc, ◌+◌, ◌-◌, ◌*◌, ◌≤◌, ◌<◌}
+use Prim.Native.Nat.{◌+◌}
 use native.Mathlib.Omega.{arith}
-use borrow.Author.Rules.{rules}
-use borrow.Author.Tests.{lt-ltb, le-ltb, le-leb, lt-leb, eq-eqb, ne_eqb}
-use lib.IntN.{ℤ, pos}
-use lib.ListN.{length, get_or, set, take, drop, replicate, length-append, length-take, length-drop, length-set, length-replicate}
 use Rattle.syntax.proofs.braced.undecided.Goals as goal
 
 pub overflow_add-at : goal.overflow_add-at

@@ -1,20 +1,8 @@
 -- `seconds` meets its contract: each return is a law of Channels.antt.
-use Rattle.grammar.proofs.Follows.{same, isnt, inside, in_tok}
-use Rattle.tree.proofs.Spans.{ready-after, ready-token, made_of, grown-of}
+use Rattle.grammar.proofs.Follows.{same, isnt}
+use Rattle.tree.proofs.Spans.{ready-token}
 use Rattle.syntax.proofs.Channels.{seconds-none, seconds-fault, seconds-ready, seconds-below, seconds-more}
-use Rattle.syntax.proofs.channel.thirds.Reads as thirds-reads
-use Rattle.syntax.proofs.expression.expr.Reads as expr-reads
-use Rattle.token.proofs.peek.Reads as peek-reads
-use mathlib.Core.Path.{◌≡◌, refl, ap, sym, ◌∙◌}
-use mathlib.Core.List.{List, [], ◌∷◌, ◌++◌}
-use mathlib.Core.Bool.{Bool, true, false, cond}
-use mathlib.Core.Logic.{⊎_elim}
-use Prim.Native.Nat.{ℕ, zero, suc, ◌+◌, ◌-◌, ◌*◌, ◌≤◌, ◌<◌}
 use native.Mathlib.Omega.{arith}
-use borrow.Author.Rules.{rules}
-use borrow.Author.Tests.{lt-ltb, le-ltb, le-leb, lt-leb, eq-eqb, ne_eqb}
-use lib.IntN.{ℤ, pos}
-use lib.ListN.{length, get_or, set, take, drop, replicate, length-append, length-take, length-drop, length-set, length-replicate}
 use Rattle.syntax.proofs.channel.seconds.Goals as goal
 
 pub returns-then-peek-ne44 : goal.returns-then-peek-ne44

@@ -1,10 +1,7 @@
 use native.Mathlib.Omega.{arith}
-use borrow.Author.Rules.{rules}
 use Rattle.grammar.proofs.Follows.{same, isnt, in_tok}
 use Rattle.tree.proofs.Spans.{made_of, ready-token}
 use Rattle.syntax.proofs.Conditions.{ors-none, ors-fault, ors-more}
-use Prim.Native.Nat.{ℕ, ◌-◌, ◌<◌}
-use lib.ListN.{length}
 use Rattle.syntax.proofs.condition.+ors.Goals as goal
 
 pub returns-then-peek-ne124 : goal.returns-then-peek-ne124

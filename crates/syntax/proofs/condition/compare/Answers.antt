@@ -6,7 +6,6 @@ use Rattle.tree.proofs.Spans.{made_of, ready-after, ready-token}
 use Rattle.syntax.specs.Signs.{relation_signs, sign_kind}
 use Rattle.syntax.proofs.Signs.{hit, apart}
 use Rattle.syntax.proofs.Conditions.{relation-sign, sign-present, sign_low, compare-stray, compare-fault, compare-second, compare-made}
-use borrow.Author.Rules.{rules}
 use Rattle.syntax.proofs.condition.compare.Goals as goal
 
 pub expr-requires : goal.expr-requires

@@ -1,5 +1,4 @@
 -- `syntax::condition::condition` meets its contract: a case for each of its returns, from Conditions.antt.
-use native.Mathlib.Omega.{arith}
 use Rattle.tree.proofs.Spans.{made_of, ready-after}
 use Rattle.syntax.proofs.Conditions.{condition-fault, condition-made}
 use Rattle.syntax.proofs.condition.condition.Goals as goal

@@ -1,5 +1,4 @@
 -- `syntax::condition::conjunction` meets its contract: a case for each of its returns, from Conditions.antt.
-use native.Mathlib.Omega.{arith}
 use Rattle.tree.proofs.Spans.{made_of, ready-after}
 use Rattle.syntax.proofs.Conditions.{conjunction-fault, conjunction-made}
 use Rattle.syntax.proofs.condition.conjunction.Goals as goal

@@ -3,7 +3,6 @@ use native.Mathlib.Omega.{arith}
 use Rattle.grammar.proofs.Follows.{same, isnt}
 use Rattle.tree.proofs.Spans.{ready-token}
 use Rattle.syntax.proofs.Conditions.{test-turned, test_plain}
-use borrow.Author.Rules.{rules}
 use Rattle.syntax.proofs.condition.test.Goals as goal
 
 pub overflow_add-at : goal.overflow_add-at

@@ -1,8 +1,5 @@
 use mathlib.Core.Path.{ap, ◌∙◌}
-use Prim.Native.Nat.{ℕ, ◌+◌, ◌-◌, ◌*◌, ◌<◌}
 use native.Mathlib.Omega.{arith}
-use borrow.Author.Rules.{rules}
-use lib.ListN.{length}
 use Rattle.grammar.proofs.Follows.{inside, same, isnt, in_tok}
 use Rattle.tree.specs.Node.{op_kind}
 use Rattle.tree.proofs.Spans.{made_of, ready-after, ready-token}

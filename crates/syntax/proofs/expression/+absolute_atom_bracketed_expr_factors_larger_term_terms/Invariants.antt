@@ -1,16 +1,7 @@
 -- The readers of expressions meet their contracts: a case for each of their returns, from Expressions.antt; at each call fewer tokens are left, or as many
 -- and the callee is of a lower rank.
-use mathlib.Core.Path.{ap, ◌∙◌}
-use Prim.Native.Nat.{ℕ, ◌+◌, ◌-◌, ◌*◌, ◌<◌}
-use native.Mathlib.Omega.{arith}
-use borrow.Author.Rules.{rules}
+use Prim.Native.Nat.{◌+◌, ◌-◌, ◌*◌}
 use lib.ListN.{length}
-use Rattle.grammar.proofs.Follows.{inside, same, isnt, in_tok}
-use Rattle.tree.specs.Node.{op_kind}
-use Rattle.tree.proofs.Spans.{made_of, ready-after, ready-token}
-use Rattle.syntax.specs.Signs.{sum_signs, product_signs, sign_kind}
-use Rattle.syntax.proofs.Signs.{hit, apart}
-use Rattle.syntax.proofs.Expressions.{factor-sign, term-sign, absolute-stray, absolute-fault, absolute-made, atom-name, atom-bracketed, atom-absolute, atom-maximum, atom-minimum, atom-literal, bracketed-open, bracketed-fault, bracketed-closed, expr-fault, expr-made, term-fault, term_made, factors-none, factors-fault, factors-more, terms-none, terms-fault, terms-more, larger-stray, larger-comma, larger-fault, larger-second, larger-made}
 use Rattle.syntax.proofs.expression.+absolute_atom_bracketed_expr_factors_larger_term_terms.Given as goal
 
 abbrev pub decreases-absolute : goal.decreases-absolute

@@ -2,7 +2,6 @@
 use native.Mathlib.Omega.{arith}
 use Rattle.grammar.proofs.Follows.{same, isnt}
 use Rattle.syntax.proofs.Expressions.{literal-whole, literal-stray, literal-short, literal-negative}
-use borrow.Author.Rules.{rules}
 use Rattle.syntax.proofs.expression.literal.Goals as goal
 
 pub returns-then-t-eq-WHOLE : goal.returns-then-t-eq-WHOLE

@@ -1,7 +1,5 @@
 use mathlib.Core.Path.{sym, ◌∙◌}
-use Prim.Native.Nat.{ℕ, ◌-◌, ◌<◌}
 use native.Mathlib.Omega.{arith}
-use lib.ListN.{length}
 use Rattle.tree.proofs.Spans.{made_of, tally-of, ready-after, ready-token}
 use Rattle.syntax.proofs.Lines.{ahead}
 use Rattle.syntax.proofs.LineReturns.{definitions-first, definitions-rest, definitions-next, definitions-system, definitions-last}

@@ -1,7 +1,4 @@
-use Prim.Native.Nat.{ℕ, ◌+◌, ◌-◌, ◌*◌, ◌<◌}
 use native.Mathlib.Omega.{arith}
-use borrow.Author.Rules.{rules}
-use lib.ListN.{length}
 use Rattle.grammar.proofs.Follows.{same, isnt}
 use Rattle.tree.proofs.Spans.{made_of, ready-after, ready-token}
 use Rattle.syntax.proofs.LineReturns.{ready-third, model-nameless, model-neither, model-definitions, model-variable, variable-number, variable-open, variable-rest, variable-made}

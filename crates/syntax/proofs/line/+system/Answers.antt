@@ -1,7 +1,4 @@
-use Prim.Native.Nat.{ℕ, ◌-◌, ◌<◌}
 use native.Mathlib.Omega.{arith}
-use borrow.Author.Rules.{rules}
-use lib.ListN.{length}
 use Rattle.grammar.proofs.Follows.{same, isnt, in_tok}
 use Rattle.tree.proofs.Spans.{made_of, ready-after, ready-token}
 use Rattle.syntax.proofs.LineReturns.{system-first, system-last, system-neither, system-rest, system-next}

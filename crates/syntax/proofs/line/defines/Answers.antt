@@ -1,7 +1,6 @@
 -- `syntax::line::defines` meets its contract: a case for each of its returns, from Lines.antt.
 use mathlib.Core.Path.{ap, ◌∙◌}
 use Prim.Native.Nat.{ℕ}
-use borrow.Author.Rules.{rules}
 use lib.Dec.{eqb}
 use Rattle.token.specs.Kind as kind
 use Rattle.grammar.proofs.Follows.{same, isnt}

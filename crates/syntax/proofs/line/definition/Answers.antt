@@ -1,6 +1,5 @@
 -- `syntax::line::definition` meets its contract: a case for each of its returns, from LineReturns.antt.
 use native.Mathlib.Omega.{arith}
-use borrow.Author.Rules.{rules}
 use Rattle.grammar.proofs.Follows.{same, isnt}
 use Rattle.tree.proofs.Spans.{tally-of, ready-after}
 use Rattle.syntax.proofs.LineReturns.{ready-third, ready-body, given-of, definition-params, definition-bare, definition-body, definition-open, definition-made}

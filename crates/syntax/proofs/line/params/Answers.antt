@@ -1,5 +1,4 @@
 -- `syntax::line::params` meets its contract: a case for each of its returns, from LineReturns.antt.
-use borrow.Author.Rules.{rules}
 use Rattle.grammar.proofs.Follows.{same, isnt}
 use Rattle.syntax.proofs.LineReturns.{params_none, params-some}
 use Rattle.syntax.proofs.line.params.Goals as goal

@@ -1,5 +1,4 @@
 -- `syntax::line::read_text` meets its contract: a case for each of its returns, from LineReturns.antt.
-use borrow.Author.Rules.{rules}
 use Rattle.syntax.proofs.LineReturns.{text-fault, text-longer, text-fits}
 use Rattle.syntax.proofs.line.read_text.Goals as goal
 

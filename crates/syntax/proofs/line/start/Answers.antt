@@ -1,6 +1,5 @@
 -- `syntax::line::start` meets its contract: a case for each of its returns, from LineReturns.antt.
 use native.Mathlib.Omega.{arith}
-use borrow.Author.Rules.{rules}
 use Rattle.grammar.proofs.Follows.{same, isnt}
 use Rattle.tree.proofs.Spans.{ready-token}
 use Rattle.syntax.proofs.LineReturns.{start-once, start-neither, start-no-times, start-no-name, start-counted}

@@ -1,6 +1,5 @@
 -- `syntax::line::starts` meets its contract: a case for each of its returns, from LineReturns.antt.
 use native.Mathlib.Omega.{arith}
-use borrow.Author.Rules.{rules}
 use Rattle.grammar.proofs.Follows.{same, isnt}
 use Rattle.tree.proofs.Spans.{tally-of, ready-after, ready-token}
 use Rattle.syntax.proofs.LineReturns.{starts-closed, starts-empty, starts-fault, starts-made}

@@ -1,18 +1,8 @@
 use Rattle.grammar.proofs.Follows.{inside, same, isnt, in_tok}
 use Rattle.tree.proofs.Spans.{ready-token, made_of, tally-of}
-use Rattle.syntax.proofs.Offering.{spare_of, offer-stray, offer-fault, offer-inner, offer-ready, offer-stop, offer-ready-cont, offer-cont-fault, offer-dot, gated-fault, gated-open, gated-stray, gated-ready, gated-offer-fault, gated-node, prefix-ungated}
+use Rattle.syntax.proofs.Offering.{offer-stray, offer-fault, offer-inner, offer-ready, offer-stop, offer-ready-cont, offer-cont-fault, offer-dot, gated-fault, gated-open, gated-stray, gated-ready, gated-offer-fault, gated-node, prefix-ungated}
 use Rattle.syntax.proofs.Grouping.{cont-group, cont-call, cont-fault, cont-chain, sum-fault, sum-node, branches-fault, branches-last, branches-ready, branches-next-fault, branches-next, group-fault, group-node, items-fault, items-close, items-open, items-ready, items-next-fault, items-next, item-group, item-call, item-sum}
-use Prim.Native.Nat.{ℕ, ◌<◌}
-use mathlib.Core.Path.{◌≡◌, refl, ap, sym, ◌∙◌}
-use mathlib.Core.List.{List, [], ◌∷◌, ◌++◌}
-use mathlib.Core.Bool.{Bool, true, false, cond}
-use mathlib.Core.Logic.{⊎_elim}
-use Prim.Native.Nat.{ℕ, zero, suc, ◌+◌, ◌-◌, ◌*◌, ◌≤◌, ◌<◌}
 use native.Mathlib.Omega.{arith}
-use borrow.Author.Rules.{rules}
-use borrow.Author.Tests.{lt-ltb, le-ltb, le-leb, lt-leb, eq-eqb, ne_eqb}
-use lib.IntN.{ℤ, pos}
-use lib.ListN.{length, get_or, set, take, drop, replicate, length-append, length-take, length-drop, length-set, length-replicate}
 use Rattle.syntax.proofs.process.+branches_cont_gated_group_item_items_offer_prefix_sum.Goals as goal
 
 pub branches-prefix-requires : goal.branches-prefix-requires

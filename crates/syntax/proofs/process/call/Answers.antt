@@ -2,19 +2,8 @@
 use Rattle.grammar.proofs.Follows.{inside, same, isnt, in_tok}
 use Rattle.tree.proofs.Spans.{ready-token, tally-of}
 use Rattle.syntax.proofs.Calling.{call-stray, call-empty, call-fault, call-with}
-use Rattle.syntax.proofs.process.args.Reads as args-reads
-use Rattle.token.proofs.peek.Reads as peek-reads
-use Rattle.tree.proofs.node.Reads as node-reads
-use mathlib.Core.Path.{◌≡◌, refl, ap, sym, ◌∙◌}
-use mathlib.Core.List.{List, [], ◌∷◌, ◌++◌}
-use mathlib.Core.Bool.{Bool, true, false, cond}
-use mathlib.Core.Logic.{⊎_elim}
-use Prim.Native.Nat.{ℕ, zero, suc, ◌+◌, ◌-◌, ◌*◌, ◌≤◌, ◌<◌}
+use Prim.Native.Nat.{◌+◌}
 use native.Mathlib.Omega.{arith}
-use borrow.Author.Rules.{rules}
-use borrow.Author.Tests.{lt-ltb, le-ltb, le-leb, lt-leb, eq-eqb, ne_eqb}
-use lib.IntN.{ℤ, pos}
-use lib.ListN.{length, get_or, set, take, drop, replicate, length-append, length-take, length-drop, length-set, length-replicate}
 use Rattle.syntax.proofs.process.call.Goals as goal
 
 pub overflow_add-open : goal.overflow_add-open

@@ -1,5 +1,4 @@
 -- `syntax::question::judge_text` meets its contract: a case for each of its returns, from Questions.antt.
-use borrow.Author.Rules.{rules}
 use Rattle.syntax.proofs.Questions.{misfits, crowds, passed}
 use Rattle.syntax.proofs.question.judge_text.Goals as goal
 

@@ -4,7 +4,6 @@ use Rattle.grammar.proofs.Follows.{same, isnt}
 use Rattle.tree.specs.Node.{number_kind}
 use Rattle.tree.proofs.Spans.{ready-token}
 use Rattle.syntax.proofs.Rates.{number-negative, number-positive}
-use borrow.Author.Rules.{rules}
 use Rattle.syntax.proofs.rate.number.Goals as goal
 
 pub overflow_add-at : goal.overflow_add-at

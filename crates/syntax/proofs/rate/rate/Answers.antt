@@ -3,7 +3,6 @@ use native.Mathlib.Omega.{arith}
 use Rattle.grammar.proofs.Follows.{same, isnt}
 use Rattle.tree.proofs.Spans.{made_of, ready-after, ready-token}
 use Rattle.syntax.proofs.Rates.{rate-plain, rate-fault, rate-second, rate-scaled}
-use borrow.Author.Rules.{rules}
 use Rattle.syntax.proofs.rate.rate.Goals as goal
 
 pub scale-requires : goal.scale-requires

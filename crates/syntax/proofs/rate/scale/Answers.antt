@@ -2,7 +2,6 @@
 use native.Mathlib.Omega.{arith}
 use Rattle.grammar.proofs.Follows.{same, isnt}
 use Rattle.syntax.proofs.Rates.{scale-name, scale-number}
-use borrow.Author.Rules.{rules}
 use Rattle.syntax.proofs.rate.scale.Goals as goal
 
 pub node-requires : goal.node-requires

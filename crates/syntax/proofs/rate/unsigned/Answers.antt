@@ -2,7 +2,6 @@
 use native.Mathlib.Omega.{arith}
 use Rattle.grammar.proofs.Follows.{same, isnt}
 use Rattle.syntax.proofs.Rates.{unsigned-whole, unsigned-decimal, unsigned-stray}
-use borrow.Author.Rules.{rules}
 use Rattle.syntax.proofs.rate.unsigned.Goals as goal
 
 pub node-requires : goal.node-requires

@@ -3,7 +3,6 @@ use native.Mathlib.Omega.{arith}
 use Rattle.grammar.proofs.Follows.{same, isnt}
 use Rattle.tree.proofs.Spans.{made_of, ready-after, ready-token}
 use Rattle.syntax.proofs.Sets.{part-single, part-fault, part-second, part-range}
-use borrow.Author.Rules.{rules}
 use Rattle.syntax.proofs.set.part.Goals as goal
 
 pub expr-requires : goal.expr-requires

@@ -1,5 +1,4 @@
 -- `syntax::set::set` meets its contract: a case for each of its returns, from Sets.antt.
-use native.Mathlib.Omega.{arith}
 use Rattle.tree.proofs.Spans.{made_of, ready-after}
 use Rattle.syntax.proofs.Sets.{set-fault, set-made}
 use Rattle.syntax.proofs.set.set.Goals as goal

@@ -1,5 +1,4 @@
 -- The head tells which of the words begins the line.
-use Rattle.std.proofs.Common.{rules}
 use Rattle.lines.proofs.Heads.{says-list, says-state, says-report, says-open, says-step, says-save, says-return, says-forget, says-time, says-wait, says-clock, says-independent, says-steady, says-seek, says-word, says-run}
 use Rattle.lines.proofs.line.Reading.says.Goals as goal
 

@@ -1,5 +1,5 @@
 -- A head that is not full takes the byte; after a full one the rest does.
-use Rattle.std.proofs.Common.{arith, rules}
+use Rattle.std.proofs.Common.{arith}
 use Rattle.lines.proofs.Heads.{short_on, long-on}
 use Rattle.lines.proofs.line.Reading.with.Goals as goal
 

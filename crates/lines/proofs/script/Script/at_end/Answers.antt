@@ -1,5 +1,5 @@
 -- By the part that the script stands in.
-use Rattle.std.proofs.Common.{◌≡◌, sym, ap, ◌∙◌, subst, rules}
+use Rattle.std.proofs.Common.{subst}
 use Rattle.lines.specs.Script.{Begun, Cut}
 use Rattle.lines.proofs.script.Script.at_end.Goals as goal
 

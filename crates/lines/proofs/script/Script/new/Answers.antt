@@ -1,5 +1,5 @@
 -- Nothing has been read.
-use Rattle.std.proofs.Common.{◌≡◌, [], sym, ap, ◌∙◌, subst, rules}
+use Rattle.std.proofs.Common.{[], sym, subst}
 use Rattle.lines.specs.Script.{Stands}
 use Rattle.lines.proofs.Steps.{starts}
 use Rattle.lines.proofs.script.Script.new.Goals as goal

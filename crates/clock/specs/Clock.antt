@@ -1,10 +1,11 @@
 -- The clock and how a timed step brings it forward (02, note 4). Definitions only.
-use Rattle.std.specs.Prelude.{Bool, cond, ◌&&◌, List, ℕ, ◌+◌, ◌*◌, ◌/◌, ◌≤◌, leb}
-use Rattle.waits.specs.declared.Wait.{Wait}
-use Rattle.waits.specs.declared.Wait.TheVariants.{Given, Ended, Long}
-use Rattle.waits.specs.Runs.{draw_values, wait_of}
+use Rattle.std.specs.Prelude.{Bool, cond, ◌&&◌, List, ℕ, ◌+◌, ◌*◌, ◌/◌, ◌≤◌, leb, Result, Err, Ok}
+use Rattle.waits.specs.declared.Unread.{Unread}
+use Rattle.waits.specs.declared.Unread.TheVariants as unread
+use Rattle.waits.specs.Runs.{draw_values, wait_of, Wait}
 use Rattle.clock.specs.declared.Clock.{Clock}
-use Rattle.clock.specs.declared.Brought.{Brought}
+use Rattle.clock.specs.declared.Late.{Late}
+use Rattle.clock.specs.declared.Late.TheVariants as late
 
 -- 02, note 4: each of its numbers is 0 to this
 abbrev pub clock_limit : ℕ
@@ -31,18 +32,29 @@ ticks_of e total = (e * 1000000000000) / (draw_values * total)
 abbrev pub tick_limit : ℕ
 tick_limit = 32000000000000
 
-abbrev pub brought : ℕ → Clock → Brought
-brought n c = record { number = n; clock = c }
+-- 02, note 4: why the draws give no time
+abbrev pub late_of : Unread → Late
+late_of unread.Ended = late.Ended
+late_of unread.Long = late.Long
+
+-- 02, note 4: 23, 24 and 25
+abbrev pub late_number : Late → ℕ
+late_number late.Ended = 23
+late_number late.Long = 24
+late_number late.Past = 25
+
+-- 02, note 4: the clock afterwards, or why it stays as it was
+abbrev pub Brought : Type 0
+Brought = Result Clock Late
 
 -- 02, note 4: the clock later by so many ticks and draws; 25 when a number would pass its range
 unfoldable pub forwarded : Clock → (ticks used : ℕ) → Brought
-forwarded c t u = cond (leb (c.ticks + t) clock_limit && leb (c.draws + u) clock_limit) (brought 0 (record { ticks = c.ticks + t; draws = c.draws + u })) (brought 25 c)
+forwarded c t u = cond (leb (c.ticks + t) clock_limit && leb (c.draws + u) clock_limit) (Ok (record { ticks = c.ticks + t; draws = c.draws + u })) (Err late.Past)
 
 -- 02, note 4: 23, then 24, then 25
 unfoldable pub waited : Clock → (total : ℕ) → Wait → Brought
-waited c total (Given e n) = forwarded c (ticks_of e total) n
-waited c total Ended = brought 23 c
-waited c total Long = brought 24 c
+waited c total (Ok (e, n)) = forwarded c (ticks_of e total) n
+waited c total (Err u) = Err (late_of u)
 
 unfoldable pub brought_by : Clock → List ℕ → (total : ℕ) → Brought
 brought_by c ds total = waited c total (wait_of ds)

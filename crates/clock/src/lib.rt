@@ -3,9 +3,9 @@
 // The clock of an engine, and how a timed step brings it forward: by value.
 ghost use Rattle.std.specs.Prelude.{◌≡◌, ◌<◌, ◌≤◌};
 ghost use Rattle.waits.specs.Runs.{wait_limit};
-ghost use Rattle.clock.specs.Clock.{tick_limit, fresh_clock, ticks_of, InRange, forwarded, brought_by, is_in_range};
+ghost use Rattle.clock.specs.Clock.{tick_limit, fresh_clock, ticks_of, InRange, late_number, late_of, forwarded, brought_by, is_in_range};
 
-use waits::{Limits, Wait};
+use waits::{Limits, Unread};
 
 // Model time in ten-thousandths of a unit, and how many waiting draws were used.
 #[repr(C)]
@@ -30,11 +30,36 @@ impl Clock {
     }
 }
 
-// What bringing a clock forward gives: 0 and the clock afterwards, or 23 to 25 and the clock as it was.
+// Why a clock isn't brought forward: the waiting draws ended first; k would be 32; a number would pass its limit.
 #[derive(Clone, Copy)]
-pub struct Brought {
-    pub number: u64,
-    pub clock: Clock,
+pub enum Late {
+    Ended,
+    Long,
+    Past,
+}
+
+impl Late {
+    // The number that it answers with.
+    pub fn number(self) -> u64
+        ensures { result ≡ late_number self }
+    {
+        match self {
+            Late::Ended => 23,
+            Late::Long => 24,
+            Late::Past => 25,
+        }
+    }
+}
+
+impl From<Unread> for Late {
+    ghost from_gives = { λ u l. l ≡ late_of u };
+
+    fn from(u: Unread) -> Late {
+        match u {
+            Unread::Ended => Late::Ended,
+            Unread::Long => Late::Long,
+        }
+    }
 }
 
 // The time that E takes at a total: in two divisions, since 65,536 times the total can pass 64 bits.
@@ -51,62 +76,33 @@ pub fn ticks_of(e: u64, total: u64) -> u64
 pub fn in_range(clock: Clock) -> bool
     ensures { result ≡ is_in_range clock }
 {
-    if Clock::LIMIT < clock.ticks {
-        return false;
-    }
-    if Clock::LIMIT < clock.draws {
-        return false;
-    }
-    true
+    clock.ticks <= Clock::LIMIT && clock.draws <= Clock::LIMIT
 }
 
 // A clock later by so many ticks and draws.
-fn forward(clock: Clock, ticks: u64, used: usize) -> Brought
+fn forward(clock: Clock, ticks: u64, used: usize) -> Result<Clock, Late>
     requires { (InRange clock) × (ticks < tick_limit) }
     ensures { result ≡ forwarded clock ticks used }
 {
     let next = clock.ticks + ticks;
     if Clock::LIMIT < next {
-        return Brought {
-            number: 25,
-            clock: clock,
-        };
+        return Err(Late::Past);
     }
     let more = used as u64;
     if Clock::LIMIT - clock.draws < more {
-        return Brought {
-            number: 25,
-            clock: clock,
-        };
+        return Err(Late::Past);
     }
-    let c = Clock {
+    Ok(Clock {
         ticks: next,
         draws: clock.draws + more,
-    };
-    Brought {
-        number: 0,
-        clock: c,
-    }
+    })
 }
 
 // Questions 23 to 25 of a timed step whose total is above zero.
-pub fn bring(clock: Clock, draws: &[u16], total: u64) -> Brought
+pub fn bring(clock: Clock, draws: &[u16], total: u64) -> Result<Clock, Late>
     requires { (InRange clock) × (0 < total) }
     ensures { result ≡ brought_by clock draws.now total }
 {
-    let wait = waits::wait_for(draws);
-    match wait {
-        Wait::Given(e, used) => {
-            let ticks = ticks_of(e, total);
-            forward(clock, ticks, used)
-        }
-        Wait::Ended => Brought {
-            number: 23,
-            clock: clock,
-        },
-        Wait::Long => Brought {
-            number: 24,
-            clock: clock,
-        },
-    }
+    let (e, used) = waits::wait_for(draws)?;
+    forward(clock, ticks_of(e, total), used)
 }

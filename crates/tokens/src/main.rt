@@ -10,7 +10,7 @@ use std::fs::File;
 use std::io::Read;
 use std::rt::Files;
 use std::{env, io};
-use token::{Judged, Kind, Limits};
+use token::{Kind, Limits, Refusal};
 
 #[derive(Clone, Copy)]
 struct Input;
@@ -22,10 +22,6 @@ impl Input {
 
 fn put(rt: &impl Print, s: &[u8]) -> io::Result<()> {
     rt.write_all(s)
-}
-
-fn put_number(rt: &impl Print, n: usize) -> io::Result<()> {
-    rt.print(n)
 }
 
 // A word or a sign is its own bytes.
@@ -40,12 +36,10 @@ fn put_kind(rt: &impl Print, kind: u8, bytes: &[u8]) -> io::Result<()> {
 }
 
 fn put_token(rt: &impl Print, kind: u8, place: usize, bytes: &[u8]) -> io::Result<()> {
-    put_number(rt, place)?;
-    put(rt, b",")?;
-    put_number(rt, bytes.len())?;
-    put(rt, b",")?;
+    let size = bytes.len();
+    print!(rt; "{place},{size},")?;
     put_kind(rt, kind, bytes)?;
-    put(rt, b"\n")
+    println!(rt)
 }
 
 fn put_table(
@@ -58,12 +52,10 @@ fn put_table(
 ) -> io::Result<()>
     requires { Held text.now kinds.now places.now sizes.now n }
 {
-    let mut i = 0;
-    while i < n {
-        let at = places[i] as usize;
-        let e = at + sizes[i] as usize;
+    for i in 0..n {
+        let at = usize::from(places[i]);
+        let e = at + usize::from(sizes[i]);
         put_token(rt, kinds[i], at, &text[at..e])?;
-        i += 1;
     }
     Ok(())
 }
@@ -79,16 +71,9 @@ fn put_tokens(rt: &impl Print, text: &[u8]) -> io::Result<()>
 }
 
 fn put_no(rt: &impl Print, text: &[u8]) -> io::Result<()> {
-    let judged = token::judge_bytes(text);
-    match judged {
-        Judged::Refused(number, place) => {
-            put(rt, b"refused,")?;
-            rt.print(number)?;
-            put(rt, b",")?;
-            put_number(rt, place)?;
-            put(rt, b"\n")
-        }
-        Judged::Passed => Ok(()),
+    match token::judge_bytes(text) {
+        Err(Refusal { number, place }) => println!(rt; "refused,{number},{place}"),
+        Ok(()) => Ok(()),
     }
 }
 
@@ -103,9 +88,7 @@ fn show(rt: &impl Print, from: &mut impl Read) -> io::Result<()> {
 }
 
 fn show_file(rt: &(impl Print + Eprint + Files), name: &str) -> io::Result<()> {
-    put(rt, b"== ")?;
-    put(rt, name.as_bytes())?;
-    put(rt, b"\n")?;
+    println!(rt; "== {name}")?;
     match File::open(rt, name) {
         Ok(mut file) => show(rt, &mut file),
         Err(e) => eprintln!(rt; "{name}: {e}"),

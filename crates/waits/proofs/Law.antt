@@ -7,11 +7,11 @@ use native.Mathlib.Nat.{pow-zero, pow-suc, suc-mul, zero-mul, mul-one, one-mul, 
 use native.Mathlib.Omega.{arith}
 use borrow.Author.Tests.{eqb-true, eqb-false, eq-eqb, ne_eqb}
 use lib.Dec.{eqb, ltb}
+use Rattle.std.specs.Prelude.{Err, Ok}
+use Rattle.waits.specs.declared.Unread.TheVariants.{Long}
 use Rattle.waits.specs.declared.Run.{Run}
 use Rattle.waits.specs.declared.Run.TheVariants.{Before, In, Known, Over}
-use Rattle.waits.specs.declared.Wait.{Wait}
-use Rattle.waits.specs.declared.Wait.TheVariants.{Given, Long}
-use Rattle.waits.specs.Runs.{draw_values, run_limit, next_in_run, read, settled, waiting, wait_of}
+use Rattle.waits.specs.Runs.{draw_values, run_limit, next_in_run, read, settled, waiting, wait_of, Wait}
 use Rattle.waits.specs.Law.{sum_below, how_many, is_given, is_ended, is_long, waits, Law, Geometric}
 use Rattle.waits.proofs.Sums.{same-sums, no-terms, one-term, scaled, power-sum}
 use Rattle.waits.proofs.Parity.{after, node, ending, known-counts, over-counts, before-counts, rest, once_more, whole, in-run}
@@ -63,7 +63,7 @@ Level v t k s x enough = (m j : ℕ) → enough ≤ j → after v t (node k) m (
 module _ (v w : ℕ) (q : v ≡ suc w) (t : Wait → Bool) where
   -- no run that is the (k + 1)-th gives what the test asks
   abbrev NotAt : ℕ → Type 0
-  NotAt k = (f m : ℕ) → f < v → t (Given (k * draw_values + f) m) ≡ false
+  NotAt k = (f m : ℕ) → f < v → t (Ok (k * draw_values + f, m)) ≡ false
 
   at-run : (k : ℕ) → k < run_limit → node k ≡ Before k
   at-run k l = rw (ne_eqb k run_limit (omega arith)) refl
@@ -147,7 +147,7 @@ module _ (v w : ℕ) (q : v ≡ suc w) (k u : ℕ) where
   unfoldable hits : ℕ → Bool → ℕ
   hits d b = cond b (cond (eqb d u) 1 0) 0
 
-  same-run : (d m : ℕ) → is_given (k * draw_values + u) (Given (k * draw_values + d) m) ≡ eqb d u
+  same-run : (d m : ℕ) → is_given (k * draw_values + u) (Ok (k * draw_values + d, m)) ≡ eqb d u
   unfolding is_given
   same-run d m = go (eqb d u) refl
     where
@@ -224,13 +224,13 @@ module _ (v w : ℕ) (q : v ≡ suc w) (small : v ≤ draw_values) where
 
   -- with k at 32 all is decided
   from_last : (t : Wait → Bool) → ((k : ℕ) → NotAt v w q t k) → (n : ℕ) → run_limit * (v + 1) ≤ n
-      → waits v n t ≡ v ^ (n - run_limit * v) * (cond (t Long) 1 0 * w ^ (run_limit * v))
+      → waits v n t ≡ v ^ (n - run_limit * v) * (cond (t (Err Long)) 1 0 * w ^ (run_limit * v))
   unfolding after wait_of settled
   from_last t never n h =
       let s = run_limit * v in
       let e : s + 0 + (n - s) ≡ n = omega arith in
-      let base : Level v t run_limit 0 (cond (t Long) 1 0) 0 = λ m j h. let z : 0 + j ≡ j = omega arith in rw z (over-counts v t m j) in
-      rw e at (earlier v w q t run_limit 0 0 (cond (t Long) 1 0) 0 run_limit (omega arith) (omega arith) (λ k l. never k) base 0 (n - s) (omega arith))
+      let base : Level v t run_limit 0 (cond (t (Err Long)) 1 0) 0 = λ m j h. let z : 0 + j ≡ j = omega arith in rw z (over-counts v t m j) in
+      rw e at (earlier v w q t run_limit 0 0 (cond (t (Err Long)) 1 0) 0 run_limit (omega arith) (omega arith) (λ k l. never k) base 0 (n - s) (omega arith))
 
   long : (n : ℕ) → run_limit * (v + 1) ≤ n → waits v n is_long * v ^ (run_limit * v) ≡ v ^ n * w ^ (run_limit * v)
   unfolding is_long

@@ -5,11 +5,11 @@ use Prim.Native.Nat.{ℕ, zero, suc, ◌+◌, ◌*◌, ◌^◌, ◌≤◌, ◌<�
 use native.Mathlib.Nat.{pow-zero, pow-suc, suc-mul, mul-one, mul-zero, mul_comm, mul_assoc, mul_left_comm, mul-add, add-mul}
 use native.Mathlib.Omega.{arith}
 use lib.Dec.{eqb, ltb}
+use Rattle.std.specs.Prelude.{Err, Ok}
+use Rattle.waits.specs.declared.Unread.TheVariants.{Long}
 use Rattle.waits.specs.declared.Run.{Run}
 use Rattle.waits.specs.declared.Run.TheVariants.{Before, In, Known, Over}
-use Rattle.waits.specs.declared.Wait.{Wait}
-use Rattle.waits.specs.declared.Wait.TheVariants.{Given, Long}
-use Rattle.waits.specs.Runs.{draw_values, run_limit, next_in_run, read, settled, waiting}
+use Rattle.waits.specs.Runs.{draw_values, run_limit, next_in_run, read, settled, waiting, Wait}
 use Rattle.waits.specs.Law.{sum_below, how_many}
 use Rattle.waits.proofs.Sums.{same-sums, none_before, cut_later, power-sum, all-or-none}
 
@@ -26,13 +26,13 @@ abbrev pub ending : (k first : ℕ) → (odd : Bool) → Run
 ending k first odd = cond odd (Known (k * draw_values + first)) (node (k + 1))
 
 module _ (v : ℕ) (t : Wait → Bool) where
-  pub known-counts : (e m n : ℕ) → after v t (Known e) m n ≡ v ^ n * cond (t (Given e m)) 1 0
+  pub known-counts : (e m n : ℕ) → after v t (Known e) m n ≡ v ^ n * cond (t (Ok (e, m))) 1 0
   unfolding after settled
-  known-counts e m n = all-or-none v n (t (Given e m))
+  known-counts e m n = all-or-none v n (t (Ok (e, m)))
 
-  pub over-counts : (m n : ℕ) → after v t Over m n ≡ v ^ n * cond (t Long) 1 0
+  pub over-counts : (m n : ℕ) → after v t Over m n ≡ v ^ n * cond (t (Err Long)) 1 0
   unfolding after settled
-  over-counts m n = all-or-none v n (t Long)
+  over-counts m n = all-or-none v n (t (Err Long))
 
   pub before-counts : (k m n : ℕ) → after v t (Before k) m (suc n) ≡ sum_below v (λ d. after v t (In k d d true) (m + 1) n)
   unfolding after how_many waiting settled read

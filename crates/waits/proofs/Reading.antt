@@ -2,13 +2,15 @@
 use mathlib.Core.Path.{◌≡◌, refl, sym, ap, ◌∙◌}
 use mathlib.Core.Bool.{Bool, true, false, not}
 use mathlib.Core.List.{List, [], ◌∷◌}
+use mathlib.Core.Logic.{◌⊎◌, inl, inr}
 use Prim.Native.Nat.{ℕ, zero, suc, ◌+◌, ◌*◌, ◌≤◌, ◌<◌}
 use native.Mathlib.Omega.{arith}
 use borrow.Author.Tests.{lt-ltb, le-ltb, eq-eqb, ne_eqb}
 use lib.ListN.{length, get_or, drop}
+use Rattle.std.specs.Prelude.{Err, Ok}
+use Rattle.waits.specs.declared.Unread.TheVariants.{Ended, Long}
 use Rattle.waits.specs.declared.Run.{Run}
 use Rattle.waits.specs.declared.Run.TheVariants.{Before, In, Known, Over}
-use Rattle.waits.specs.declared.Wait.TheVariants.{Given, Ended, Long}
 use Rattle.waits.specs.Runs.{next_in_run, read, settled, waiting, wait_of, Fits, Within}
 
 -- ---- one draw within a run
@@ -45,13 +47,10 @@ pub next-draw : (r t : Run) (k u v : ℕ) (b : Bool) (d : ℕ) → r ≡ In k u 
 unfolding read
 next-draw r t k u v b d p q f = (rw p q, f)
 
-pub no_more : (r : Run) (e d : ℕ) → r ≡ Known e → Fits r → (Known e ≡ read r d) × Fits (Known e)
+pub stays : (r : Run) (d : ℕ) → ((e : ℕ) × (r ≡ Known e)) ⊎ (r ≡ Over) → r ≡ read r d
 unfolding read
-no_more r e d p f = (rw p refl, rw p at f)
-
-pub stays-over : (r : Run) (d : ℕ) → r ≡ Over → (Over ≡ read r d) × Fits Over
-unfolding read Fits
-stays-over r d p = (rw p refl, tt)
+stays r d (inl (e, p)) = rw p refl
+stays r d (inr p) = rw p refl
 
 -- ---- the loop
 
@@ -78,27 +77,31 @@ next ds r i a l t e = rw e (ap (waiting r i) (sym (drop-next ds i l)) ∙ a.same
 
 module _ (ds : List ℕ) (r : Run) (i : ℕ) (a : At ds r i) (l : i < length ds) (t : Run) (q : t ≡ read r (get_or ds i 0)) (f : Fits t) where
   -- E is known
-  pub knows : (e : ℕ) → t ≡ Known e → (Given e (i + 1) ≡ wait_of ds) × Within (length ds) (Given e (i + 1))
+  pub knows : (e : ℕ) → t ≡ Known e → (Ok (e, i + 1) ≡ wait_of ds) × Within (length ds) (Ok (e, i + 1))
   unfolding settled Fits Within
   knows e p = let f' = rw p at f in (next ds r i a l (Known e) (sym p ∙ q), (f', omega arith))
 
   -- k would be 32
-  pub over : t ≡ Over → (Long ≡ wait_of ds) × Within (length ds) Long
+  pub over : t ≡ Over → (Err Long ≡ wait_of ds) × Within (length ds) (Err Long)
   unfolding settled Within
   over p = (next ds r i a l Over (sym p ∙ q), tt)
 
   -- another run begins
-  pub before : (k : ℕ) → t ≡ Before k → At ds t (i + 1)
+  before : (k : ℕ) → t ≡ Before k → At ds t (i + 1)
   unfolding settled
   before k p = rw p record { fits = rw p at f; inside = omega arith; same = next ds r i a l (Before k) (sym p ∙ q) }
 
   -- the run goes on
-  pub within : (k u v : ℕ) (b : Bool) → t ≡ In k u v b → At ds t (i + 1)
+  within : (k u v : ℕ) (b : Bool) → t ≡ In k u v b → At ds t (i + 1)
   unfolding settled
   within k u v b p = rw p record { fits = rw p at f; inside = omega arith; same = next ds r i a l (In k u v b) (sym p ∙ q) }
 
+  pub on : ((k : ℕ) × (t ≡ Before k)) ⊎ ((k : ℕ) × (u : ℕ) × (v : ℕ) × (b : Bool) × (t ≡ In k u v b)) → At ds t (i + 1)
+  on (inl (k, p)) = before k p
+  on (inr (k, u, v, b, p)) = within k u v b p
+
 -- the draws end
-pub ended : (ds : List ℕ) (r : Run) (i : ℕ) → At ds r i → length ds ≤ i → (Ended ≡ wait_of ds) × Within (length ds) Ended
+pub ended : (ds : List ℕ) (r : Run) (i : ℕ) → At ds r i → length ds ≤ i → (Err Ended ≡ wait_of ds) × Within (length ds) (Err Ended)
 unfolding waiting Within
 ended ds r i a l = (go (drop i ds) (drop_all ds i l) ∙ a.same, tt)
   where
@@ -108,5 +111,5 @@ ended ds r i a l = (go (drop i ds) (drop_all ds i l) ∙ a.same, tt)
     drop_all (d ∷ ds) zero l = absurd (omega arith)
     drop_all (d ∷ ds) (suc i) l = drop_all ds i (omega arith)
 
-    go : (rest : List ℕ) → rest ≡ [] → Ended ≡ waiting r i rest
+    go : (rest : List ℕ) → rest ≡ [] → Err Ended ≡ waiting r i rest
     go rest e = rw e refl

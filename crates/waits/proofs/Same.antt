@@ -8,18 +8,21 @@ use native.Mathlib.Omega.{arith}
 use borrow.Author.Tests.{ltb-true, ltb-false, lt-ltb, le-ltb, eqb-true, eqb-false, eq-eqb, ne_eqb}
 use lib.Dec.{eqb, ltb}
 use lib.ListN.{length, length-append}
+use Rattle.std.specs.Prelude.{Err, Ok}
+use Rattle.waits.specs.declared.Unread.TheVariants.{Ended, Long}
 use Rattle.waits.specs.declared.Run.TheVariants.{Before, In}
-use Rattle.waits.specs.declared.Wait.{Wait}
-use Rattle.waits.specs.declared.Wait.TheVariants.{Given, Ended, Long}
-use Rattle.waits.specs.Runs.{next_in_run, read, settled, waiting, wait_of}
+use Rattle.waits.specs.Runs.{next_in_run, read, settled, waiting, wait_of, Wait}
 use Rattle.waits.specs.ByRuns.{Falling, alone, then, is_odd, later, Waits, none_left, unended, gives, over, again}
 
 -- ---- counts
+abbrev given : (e used : ℕ) → Wait
+given e n = Ok (e, n)
+
 later-later : (a b : ℕ) (w : Wait) → later a (later b w) ≡ later (a + b) w
 unfolding later
-later-later a b (Given e u) = let q : a + (b + u) ≡ a + b + u = omega arith in ap (Given e) q
-later-later a b Ended = refl
-later-later a b Long = refl
+later-later a b (Ok (e, u)) = let q : a + (b + u) ≡ a + b + u = omega arith in ap (given e) q
+later-later a b (Err Ended) = refl
+later-later a b (Err Long) = refl
 
 not-not : (b : Bool) → not (not b) ≡ b
 not-not true = refl
@@ -64,7 +67,7 @@ only n none_left = refl
 only n (unended {k} {u} {v} {us} f) = ap (λ (l : List ℕ). waiting (Before k) n (u ∷ l)) (sym (append-nil us)) ∙ whole k n [] f
 only n (gives {k} {u} {v} {us} d ds f l o) =
     let q : n + 1 + length us + 1 ≡ n + (length us + 2) = omega arith in
-    whole k n (d ∷ ds) f ∙ rw (o, le-ltb d v l) (ap (Given (k * 65536 + u)) q)
+    whole k n (d ∷ ds) f ∙ rw (o, le-ltb d v l) (ap (given (k * 65536 + u)) q)
 only n (over {k} {u} {v} {us} d ds f l o e) = whole k n (d ∷ ds) f ∙ rw (o, le-ltb d v l, eq-eqb (k + 1) 32 e) refl
 only n (again {k} {u} {v} {us} {w} d ds f l o e g) =
     let q : n + 1 + length us + 1 ≡ n + (length us + 2) = omega arith in
@@ -96,20 +99,20 @@ Answered fuel = (k : ℕ) (l : List ℕ) → length l ≤ fuel → (w : Wait) ×
 ended : {k u v : ℕ} {us : List ℕ} (d : ℕ) (ds : List ℕ) → Falling u us v → v ≤ d → (b : Bool) → is_odd (suc (length us)) ≡ b → (a : Bool) → eqb (k + 1) 32 ≡ a
     → ((w : Wait) × Waits (k + 1) ds w) → (w : Wait) × Waits k (u ∷ (us ++ d ∷ ds)) w
 ended d ds f p true o a q r = (_, gives d ds f p o)
-ended {k} d ds f p false o true q r = (Long, over d ds f p o (eqb-true (k + 1) 32 q))
+ended {k} d ds f p false o true q r = (Err Long, over d ds f p o (eqb-true (k + 1) 32 q))
 ended {k} d ds f p false o false q r = (_, again d ds f p o (eqb-false (k + 1) 32 q) r.1)
 
 one-run : (fuel k u : ℕ) {l : List ℕ} → Cut u l → length l ≤ fuel → Answered fuel → (w : Wait) × Waits k (u ∷ l) w
-one-run fuel k u (runs_on f) h next = (Ended, unended f)
+one-run fuel k u (runs_on f) h next = (Err Ended, unended f)
 one-run fuel k u (ends {us} d ds f p) h next =
     ended d ds f p (is_odd (suc (length us))) refl (eqb (k + 1) 32) refl (next (k + 1) ds (omega (arith, length-append us (d ∷ ds))))
 
 first_run : (fuel k : ℕ) (l : List ℕ) → length l ≤ suc fuel → Answered fuel → (w : Wait) × Waits k l w
-first_run fuel k [] e next = (Ended, none_left)
+first_run fuel k [] e next = (Err Ended, none_left)
 first_run fuel k (u ∷ l) e next = one-run fuel k u (cut u l) (omega arith) next
 
 no-draw : (k : ℕ) (l : List ℕ) → length l ≤ 0 → (w : Wait) × Waits k l w
-no-draw k [] e = (Ended, none_left)
+no-draw k [] e = (Err Ended, none_left)
 no-draw k (u ∷ l) e = absurd (omega arith)
 
 some-wait : (fuel k : ℕ) (l : List ℕ) → length l ≤ fuel → (w : Wait) × Waits k l w
@@ -118,9 +121,9 @@ some-wait (suc fuel) k l e = first_run fuel k l e (λ k' l' e'. some-wait fuel k
 
 later-none : (w : Wait) → later 0 w ≡ w
 unfolding later
-later-none (Given e u) = let q : 0 + u ≡ u = omega arith in ap (Given e) q
-later-none Ended = refl
-later-none Long = refl
+later-none (Ok (e, u)) = let q : 0 + u ≡ u = omega arith in ap (given e) q
+later-none (Err Ended) = refl
+later-none (Err Long) = refl
 
 -- 02, note 4: what draws come to, by runs, is what the function answers
 pub by_runs : (ds : List ℕ) (w : Wait) → Waits 0 ds w ↔ (wait_of ds ≡ w)

@@ -1,8 +1,7 @@
 -- How many lists of waiting draws give each E (02, note 4): what Von Neumann's method is for. Definitions only; proofs/Law.antt has that the law holds.
-use Rattle.std.specs.Prelude.{◌≡◌, Bool, true, false, cond, List, [], ◌∷◌, ℕ, zero, suc, ◌+◌, ◌-◌, ◌*◌, ◌^◌, ◌≤◌, ◌<◌, eqb}
-use Rattle.waits.specs.declared.Wait.{Wait}
-use Rattle.waits.specs.declared.Wait.TheVariants.{Given, Ended, Long}
-use Rattle.waits.specs.Runs.{draw_values, run_limit, wait_limit, wait_of}
+use Rattle.std.specs.Prelude.{◌≡◌, Bool, true, false, cond, List, [], ◌∷◌, ℕ, zero, suc, ◌+◌, ◌-◌, ◌*◌, ◌^◌, ◌≤◌, ◌<◌, eqb, Err, Ok}
+use Rattle.waits.specs.declared.Unread.TheVariants.{Ended, Long}
+use Rattle.waits.specs.Runs.{draw_values, run_limit, wait_limit, wait_of, Wait}
 
 -- f 0 + f 1 + .. up to and without f n
 unfoldable pub sum_below : (n : ℕ) → (ℕ → ℕ) → ℕ
@@ -16,21 +15,21 @@ how_many values (suc n) test = sum_below values (λ d. how_many values n (λ ds.
 
 -- the draws give this E
 unfoldable pub is_given : (e : ℕ) → Wait → Bool
-is_given e (Given x u) = eqb x e
-is_given e Ended = false
-is_given e Long = false
+is_given e (Ok (x, u)) = eqb x e
+is_given e (Err Ended) = false
+is_given e (Err Long) = false
 
 -- they end first: 23
 unfoldable pub is_ended : Wait → Bool
-is_ended (Given x u) = false
-is_ended Ended = true
-is_ended Long = false
+is_ended (Ok (x, u)) = false
+is_ended (Err Ended) = true
+is_ended (Err Long) = false
 
 -- k would be 32: 24
 unfoldable pub is_long : Wait → Bool
-is_long (Given x u) = false
-is_long Ended = false
-is_long Long = true
+is_long (Ok (x, u)) = false
+is_long (Err Ended) = false
+is_long (Err Long) = true
 
 -- of the lists of n draws with so many values, how many come to what a test asks
 abbrev pub waits : (values n : ℕ) → (Wait → Bool) → ℕ

@@ -1,9 +1,9 @@
 -- What waiting draws come to (02, note 4). Definitions only.
-use Rattle.std.specs.Prelude.{Bool, true, not, cond, List, [], ◌∷◌, ℕ, ◌+◌, ◌*◌, ◌≤◌, ◌<◌, eqb, ltb}
+use Rattle.std.specs.Prelude.{Bool, true, not, cond, List, [], ◌∷◌, ℕ, ◌+◌, ◌*◌, ◌≤◌, ◌<◌, eqb, ltb, Err, Ok, Result}
+use Rattle.waits.specs.declared.Unread.{Unread}
+use Rattle.waits.specs.declared.Unread.TheVariants.{Ended, Long}
 use Rattle.waits.specs.declared.Run.{Run}
 use Rattle.waits.specs.declared.Run.TheVariants.{Before, In, Known, Over}
-use Rattle.waits.specs.declared.Wait.{Wait}
-use Rattle.waits.specs.declared.Wait.TheVariants.{Given, Ended, Long}
 
 -- 02, note 4: a waiting draw has 16 bits
 abbrev pub draw_values : ℕ
@@ -30,16 +30,20 @@ read (In k first last odd) d = next_in_run k first last odd d
 read (Known e) d = Known e
 read Over d = Over
 
+-- 02, note 4: E and how many draws were used, or why there is none
+abbrev pub Wait : Type 0
+Wait = Result (ℕ × ℕ) Unread
+
 -- what a reading has come to after n draws, and otherwise what comes next
 unfoldable pub settled : Run → (n : ℕ) → Wait → Wait
 settled (Before k) n w = w
 settled (In k first last odd) n w = w
-settled (Known e) n w = Given e n
-settled Over n w = Long
+settled (Known e) n w = Ok (e, n)
+settled Over n w = Err Long
 
 -- 02, note 4: draw by draw, n of them used so far; where they end, 23
 unfoldable pub waiting : Run → (n : ℕ) → List ℕ → Wait
-waiting r n [] = Ended
+waiting r n [] = Err Ended
 waiting r n (d ∷ ds) = settled (read r d) (n + 1) (waiting (read r d) (n + 1) ds)
 
 -- 02, note 4: set k to 0
@@ -57,6 +61,6 @@ Fits Over = Unit {0}
 
 -- E below its limit, and no more draws used than there are
 unfoldable pub Within : ℕ → Wait → Type 0
-Within n (Given e u) = (e < wait_limit) × (u ≤ n)
-Within n Ended = Unit {0}
-Within n Long = Unit {0}
+Within n (Ok (e, u)) = (e < wait_limit) × (u ≤ n)
+Within n (Err Ended) = Unit {0}
+Within n (Err Long) = Unit {0}

@@ -24,19 +24,11 @@ pub enum Run {
     Over,
 }
 
-// What waiting draws come to: E and how many were used; they ended first (23); k would be 32 (24).
+// Why waiting draws give no wait: they ended first (23); k would be 32 (24).
 #[derive(Clone, Copy)]
-pub enum Wait {
-    Given(u64, usize),
+pub enum Unread {
     Ended,
     Long,
-}
-
-fn wide(x: u16) -> u64
-    ensures value { result ≡ x }
-    ensures upper_bound { result < 65536 }
-{
-    x as u64
 }
 
 // A draw within a run: it goes on while each is less than the one before.
@@ -67,31 +59,23 @@ fn take(run: Run, draw: u64) -> Run
     match run {
         Run::Before(k) => Run::In(k, draw, draw, true),
         Run::In(k, first, last, odd) => next_in_run(k, first, last, odd, draw),
-        Run::Known(e) => Run::Known(e),
-        Run::Over => Run::Over,
+        Run::Known(_) | Run::Over => run,
     }
 }
 
 // What waiting draws come to.
-pub fn wait_for(draws: &[u16]) -> Wait
+pub fn wait_for(draws: &[u16]) -> Result<(u64, usize), Unread>
     ensures value { result ≡ wait_of draws.now }
     ensures within { Within (length draws.now) result }
 {
     let mut run = Run::Before(0);
-    let mut i = 0;
-    while i < draws.len() {
-        run = take(run, wide(draws[i]));
-        i += 1;
+    for (i, &draw) in draws.iter().enumerate() {
+        run = take(run, u64::from(draw));
         match run {
-            Run::Known(e) => {
-                return Wait::Given(e, i);
-            }
-            Run::Over => {
-                return Wait::Long;
-            }
-            Run::Before(_) => {}
-            Run::In(_, _, _, _) => {}
+            Run::Known(e) => return Ok((e, i + 1)),
+            Run::Over => return Err(Unread::Long),
+            Run::Before(_) | Run::In(..) => {}
         }
     }
-    Wait::Ended
+    Err(Unread::Ended)
 }

@@ -9,7 +9,7 @@ use native.Mathlib.Omega.{arith}
 use borrow.Author.Tests.{lt-ltb, le-ltb}
 use lib.ListN.{length, get_or, drop, length-drop}
 use lib.Seq.{drop-cons}
-use Rattle.words.specs.declared.Drawn.TheVariants.{Given, Ended}
+use Rattle.std.specs.Prelude.{None, Some}
 use Rattle.words.specs.Words.{word_values, usable, is_used, drawing, draw_of, Within}
 
 -- ---- the largest word that is used
@@ -41,12 +41,12 @@ unfolding draw_of
 begins total ws = record { inside = omega arith; same = refl }
 
 module _ (total last : ℕ) (l : last + 1 ≡ usable word_values total) (ws : List ℕ) (i : ℕ) (a : At total ws i) (n : i < length ws) where
-  tried : cond (is_used word_values total (get_or ws i 0)) (Given (get_or ws i 0 % total) (i + 1)) (drawing total (i + 1) (drop (i + 1) ws)) ≡ draw_of total ws
+  tried : cond (is_used word_values total (get_or ws i 0)) (Some (get_or ws i 0 % total, i + 1)) (drawing total (i + 1) (drop (i + 1) ws)) ≡ draw_of total ws
   unfolding drawing
   tried = ap (λ (xs : List ℕ). drawing total i xs) (sym (drop-cons ws i 0 n ∙ ap (λ (k : ℕ). get_or ws i 0 ∷ drop k ws) (sym (add-one i)))) ∙ a.same
 
   -- a word that is used
-  pub used : 0 < total → get_or ws i 0 ≤ last → (Given (get_or ws i 0 % total) (i + 1) ≡ draw_of total ws) × Within total (length ws) (Given (get_or ws i 0 % total) (i + 1))
+  pub used : 0 < total → get_or ws i 0 ≤ last → (Some (get_or ws i 0 % total, i + 1) ≡ draw_of total ws) × Within total (length ws) (Some (get_or ws i 0 % total, i + 1))
   unfolding is_used Within
   used p h = let e : get_or ws i 0 < usable word_values total = omega arith in (rw (lt-ltb (get_or ws i 0) (usable word_values total) e) at tried, (mod-lt (get_or ws i 0) p, omega arith))
 
@@ -56,10 +56,10 @@ module _ (total last : ℕ) (l : last + 1 ≡ usable word_values total) (ws : Li
   turned h = let e : usable word_values total ≤ get_or ws i 0 = omega arith in record { inside = omega arith; same = rw (le-ltb (get_or ws i 0) (usable word_values total) e) at tried }
 
 -- the words end
-pub ended : (total : ℕ) (ws : List ℕ) (i : ℕ) → At total ws i → length ws ≤ i → (Ended ≡ draw_of total ws) × Within total (length ws) Ended
+pub ended : (total : ℕ) (ws : List ℕ) (i : ℕ) → At total ws i → length ws ≤ i → (None ≡ draw_of total ws) × Within total (length ws) None
 unfolding drawing Within
 ended total ws i a l = (go (drop i ws) (omega (arith, length-drop i ws)) ∙ a.same, tt)
   where
-    go : (rest : List ℕ) → length rest ≡ 0 → Ended ≡ drawing total i rest
+    go : (rest : List ℕ) → length rest ≡ 0 → None ≡ drawing total i rest
     go [] e = refl
     go (w ∷ rest) e = absurd (omega arith)

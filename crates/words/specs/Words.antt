@@ -1,7 +1,5 @@
 -- The choosing draw of a step of a run, from 64-bit words by rejection (docs/DECISIONS.md, R.1). Definitions only.
-use Rattle.std.specs.Prelude.{Bool, cond, List, [], ◌∷◌, ℕ, ◌+◌, ◌*◌, ◌/◌, ◌%◌, ◌≤◌, ◌<◌, ltb}
-use Rattle.words.specs.declared.Drawn.{Drawn}
-use Rattle.words.specs.declared.Drawn.TheVariants.{Given, Ended}
+use Rattle.std.specs.Prelude.{Bool, cond, List, [], ◌∷◌, ℕ, ◌+◌, ◌*◌, ◌/◌, ◌%◌, ◌≤◌, ◌<◌, ltb, None, Some, Option}
 
 -- R.1: a word has 64 bits
 abbrev pub word_values : ℕ
@@ -15,10 +13,14 @@ usable values total = total * (values / total)
 unfoldable pub is_used : (values total word : ℕ) → Bool
 is_used values total w = ltb w (usable values total)
 
+-- R.1: the draw, and how many words were used; or they ended first
+abbrev pub Drawn : Type 0
+Drawn = Option (ℕ × ℕ)
+
 -- R.1: the first word that is used gives itself modulo the total; n words were turned away before these
 unfoldable pub drawing : (total n : ℕ) → List ℕ → Drawn
-drawing total n [] = Ended
-drawing total n (w ∷ ws) = cond (is_used word_values total w) (Given (w % total) (n + 1)) (drawing total (n + 1) ws)
+drawing total n [] = None
+drawing total n (w ∷ ws) = cond (is_used word_values total w) (Some (w % total, n + 1)) (drawing total (n + 1) ws)
 
 -- R.1: the draw, and how many words were used, those turned away counted
 unfoldable pub draw_of : (total : ℕ) → List ℕ → Drawn
@@ -28,5 +30,5 @@ draw_of total ws = drawing total 0 ws
 
 -- a draw below the total, from no more words than there are
 unfoldable pub Within : (total n : ℕ) → Drawn → Type 0
-Within total n (Given d u) = (d < total) × (u ≤ n)
-Within total n Ended = Unit {0}
+Within total n (Some (d, u)) = (d < total) × (u ≤ n)
+Within total n None = Unit {0}

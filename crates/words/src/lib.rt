@@ -9,14 +9,7 @@ pub struct Limits;
 
 impl Limits {
     // The largest word.
-    pub const LAST: u64 = 18446744073709551615;
-}
-
-// What words come to: the draw, and how many words were used; or they ended first.
-#[derive(Clone, Copy)]
-pub enum Drawn {
-    Given(u64, usize),
-    Ended,
+    pub const LAST: u64 = u64::MAX;
 }
 
 // The largest word that is used at a total. 2^64 passes 64 bits, and has the same remainder as 2^64 less the total.
@@ -29,19 +22,16 @@ fn last_used(total: u64) -> u64
 }
 
 // The first word that is used, modulo the total.
-pub fn draw_from(words: &[u64], total: u64) -> Drawn
+pub fn draw_from(words: &[u64], total: u64) -> Option<(u64, usize)>
     requires { 0 < total }
     ensures value { result ≡ draw_of total words.now }
     ensures within { Within total (length words.now) result }
 {
     let last = last_used(total);
-    let mut i = 0;
-    while i < words.len() {
-        let word = words[i];
-        i += 1;
+    for (i, &word) in words.iter().enumerate() {
         if word <= last {
-            return Drawn::Given(word % total, i);
+            return Some((word % total, i + 1));
         }
     }
-    Drawn::Ended
+    None
 }

@@ -1,15 +1,13 @@
--- The two tests, each a case of `is_in_range`.
-use Rattle.clock.proofs.Bringing.{ticks-out, used-out, both-in}
+-- The two tests are those of `is_in_range`.
+use Rattle.std.proofs.Common.{arith}
+use Rattle.std.proofs.lemmas.Bool.Decides.{nat_tests}
+use Rattle.clock.specs.Clock.{is_in_range}
 use Rattle.clock.proofs.in_range.Goals as goal
 
-pub returns-then-clock-gt-LIMIT : goal.returns-then-clock-gt-LIMIT
-returns-then-clock-gt-LIMIT c =
-    ticks-out _ c.if-clock-gt-LIMIT.true
+pub returns-then-clock-le-LIMIT : goal.returns-then-clock-le-LIMIT
+unfolding is_in_range
+returns-then-clock-le-LIMIT c = grind (arith, nat_tests)
 
-pub returns-then-clock-gt-LIMIT-2 : goal.returns-then-clock-gt-LIMIT-2
-returns-then-clock-gt-LIMIT-2 c =
-    used-out _ c.if-clock-gt-LIMIT.false c.if-clock-gt-LIMIT-2.true
-
-pub returns : goal.returns
-returns c =
-    both-in _ c.if-clock-gt-LIMIT.false c.if-clock-gt-LIMIT-2.false
+pub returns-else-clock-le-LIMIT : goal.returns-else-clock-le-LIMIT
+unfolding is_in_range
+returns-else-clock-le-LIMIT c = grind (arith, nat_tests)

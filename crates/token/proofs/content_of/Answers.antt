@@ -1,19 +1,21 @@
--- Each return is one kind of token.
-use Rattle.token.proofs.Tells.{of-name, of-whole, of-decimal, of_other}
+-- Each arm is one kind of token.
+use Rattle.std.proofs.Common.{arith}
+use Rattle.std.proofs.lemmas.Bool.Decides.{nat_tests}
+use Rattle.token.specs.Contents.{content_of}
 use Rattle.token.proofs.content_of.Goals as goal
 
-pub returns-then-kind-eq-NAME : goal.returns-then-kind-eq-NAME
-returns-then-kind-eq-NAME c =
-    of-name c.args.kind c.args.s.now c.name_content.result c.if-kind-eq-NAME.true c.name_content.ensures
+pub returns-in-1 : goal.returns-in-1
+unfolding content_of
+returns-in-1 c = rw c.in-1.is c.name_content.ensures
 
-pub returns-then-kind-eq-WHOLE : goal.returns-then-kind-eq-WHOLE
-returns-then-kind-eq-WHOLE c =
-    of-whole c.args.kind c.args.s.now c.if-kind-eq-NAME.false c.value.result c.if-kind-eq-WHOLE.true c.value.ensures
+pub returns-in-2 : goal.returns-in-2
+unfolding content_of
+returns-in-2 c = rw (c.in-2.is, c.value.ensures)
 
-pub returns-then-kind-eq-DECIMAL : goal.returns-then-kind-eq-DECIMAL
-returns-then-kind-eq-DECIMAL c =
-    of-decimal c.args.kind c.args.s.now c.if-kind-eq-NAME.false c.if-kind-eq-WHOLE.false c.decimal_content.result c.if-kind-eq-DECIMAL.true c.decimal_content.ensures
+pub returns-in-3 : goal.returns-in-3
+unfolding content_of
+returns-in-3 c = rw c.in-3.is c.decimal_content.ensures
 
-pub returns : goal.returns
-returns c =
-    of_other c.args.kind c.args.s.now c.if-kind-eq-NAME.false c.if-kind-eq-WHOLE.false c.if-kind-eq-DECIMAL.false
+pub returns-in_default : goal.returns-in_default
+unfolding content_of
+returns-in_default c = grind (arith, nat_tests)

@@ -6,14 +6,14 @@ pub returns-then-text-gt-TEXT : goal.returns-then-text-gt-TEXT
 returns-then-text-gt-TEXT c =
     refused-length c.args.text.now c.if-text-gt-TEXT.true
 
-pub returns-in-At : goal.returns-in-At
-returns-in-At c =
-    refused-byte c.args.text.now c.if-text-gt-TEXT.false c.byte_fault-stray.ensures c.in-At.is
+pub returns-in-Some : goal.returns-in-Some
+returns-in-Some c =
+    refused-byte c.args.text.now c.if-text-gt-TEXT.false c.byte_fault.ensures c.in-Some.is
 
-pub returns-in-At-deep : goal.returns-in-At-deep
-returns-in-At-deep c =
-    refused-depth c.args.text.now c.if-text-gt-TEXT.false c.byte_fault-stray.ensures c.in_default.is c.too_deep-deep.ensures c.in-At-deep.is
+pub returns-in-Some-too_deep : goal.returns-in-Some-too_deep
+returns-in-Some-too_deep c =
+    refused-depth c.args.text.now c.if-text-gt-TEXT.false c.byte_fault.ensures c.in_default.is c.too_deep.ensures c.in-Some-too_deep.is
 
 pub returns : goal.returns
 returns c =
-    passed c.args.text.now c.if-text-gt-TEXT.false c.byte_fault-stray.ensures c.in_default.is c.too_deep-deep.ensures c.in_default-deep.is
+    passed c.args.text.now c.if-text-gt-TEXT.false c.byte_fault.ensures c.in_default.is c.too_deep.ensures c.in_default-too_deep.is

@@ -1,25 +1,17 @@
--- Each return of the bracket count, from the comparisons on its way.
-use native.Mathlib.Omega.{arith}
-use borrow.Author.Tests.{eq-eqb, ne_eqb}
+-- Each arm of the bracket count is a case of `opened`.
+use Rattle.std.proofs.Common.{arith}
+use Rattle.std.proofs.lemmas.Bool.Decides.{nat_tests}
 use Rattle.token.specs.Questions.{opened}
 use Rattle.token.proofs.opened_after.Goals as goal
 
-pub returns-then-b-eq40 : goal.returns-then-b-eq40
+pub returns-in-40 : goal.returns-in-40
 unfolding opened
-returns-then-b-eq40 c =
-    simp (eq-eqb _ _ c.if-b-eq40.true)
+returns-in-40 c = grind (arith, nat_tests)
 
-pub returns-then-n-eq0 : goal.returns-then-n-eq0
+pub returns-in-41 : goal.returns-in-41
 unfolding opened
-returns-then-n-eq0 c =
-    simp (ne_eqb _ _ c.if-b-eq40.false, eq-eqb _ _ c.if-b-eq41.true) (omega arith)
+returns-in-41 c = grind (arith, nat_tests)
 
-pub returns-then-b-eq41 : goal.returns-then-b-eq41
+pub returns-in_default : goal.returns-in_default
 unfolding opened
-returns-then-b-eq41 c =
-    simp (ne_eqb _ _ c.if-b-eq40.false, eq-eqb _ _ c.if-b-eq41.true)
-
-pub returns : goal.returns
-unfolding opened
-returns c =
-    simp (ne_eqb _ _ c.if-b-eq40.false, ne_eqb _ _ c.if-b-eq41.false)
+returns-in_default c = grind (arith, nat_tests)

@@ -1,25 +1,21 @@
-use mathlib.Core.Path.{refl}
+use mathlib.Core.Path.{refl, sym, ◌∙◌}
 use native.Mathlib.Omega.{arith}
-use borrow.Author.Rules.{rules}
-use Rattle.token.proofs.Runs.{belongs-on, belongs-below, belongs-above, lead-on, lead-off, lead-end}
+use Rattle.token.specs.Bytes.{class_number}
+use Rattle.token.proofs.Runs.{lead-on, lead-off, lead-end}
+use Rattle.token.proofs.Classes.{belongs-is}
 use Rattle.token.proofs.run_end.Goals as goal
 
 pub loop-i-init : goal.loop-i-init
-loop-i-init c =
-    (search rules, refl)
+loop-i-init c = refl
 
-pub returns-then-k-class : goal.returns-then-k-class
-returns-then-k-class c =
-    omega (arith, lead-off c.args.s.now c.loop-i.i c.args.class (omega arith) (belongs-below _ _ _ c.sort-k.ensures c.if-k-class.true), c.loop-i.invariant.1)
-
-pub returns-then-k-gt-DIGIT : goal.returns-then-k-gt-DIGIT
-returns-then-k-gt-DIGIT c =
-    omega (arith, lead-off c.args.s.now c.loop-i.i c.args.class (omega arith) (belongs-above _ _ _ c.sort-k.ensures c.if-k-gt-DIGIT.true), c.loop-i.invariant.1)
+pub returns-then-not-goes_on : goal.returns-then-not-goes_on
+returns-then-not-goes_on c =
+    omega (arith, lead-off c.args.s.now c.loop-i.i _ c.loop-i-test.true (sym (belongs-is _ _ _ c.goes_on.ensures c.sort.ensures) ∙ c.if-not-goes_on.true), c.loop-i.invariant)
 
 pub loop-i-preserved : goal.loop-i-preserved
 loop-i-preserved c =
-    (omega arith, omega (arith, lead-on c.args.s.now c.loop-i.i c.args.class (omega arith) (belongs-on _ _ _ c.sort-k.ensures (omega arith) (omega arith)), c.loop-i.invariant.1))
+    omega (arith, lead-on c.args.s.now c.loop-i.i _ c.loop-i-test.true (sym (belongs-is _ _ _ c.goes_on.ensures c.sort.ensures) ∙ c.if-not-goes_on.false), c.loop-i.invariant)
 
 pub returns : goal.returns
 returns c =
-    omega (arith, lead-end c.args.s.now c.loop-i.i c.args.class (omega arith), c.loop-i.invariant.1)
+    omega (arith, lead-end c.args.s.now c.loop-i.i (class_number c.args.class) c.loop-i-test.false, c.loop-i.invariant)

@@ -1,14 +1,13 @@
--- Both returns of the test for `//`.
-use borrow.Author.Tests.{eq-eqb, ne_eqb}
+-- The two tests of `starts`.
+use Rattle.std.proofs.Common.{arith}
+use Rattle.std.proofs.lemmas.Bool.Decides.{nat_tests}
 use Rattle.token.specs.Bytes.{starts}
 use Rattle.token.proofs.starting.Goals as goal
 
 pub returns-then-b-eq47 : goal.returns-then-b-eq47
 unfolding starts
-returns-then-b-eq47 c =
-    simp (eq-eqb _ _ c.if-b-eq47.true)
+returns-then-b-eq47 c = grind (arith, nat_tests)
 
-pub returns : goal.returns
+pub returns-else-b-eq47 : goal.returns-else-b-eq47
 unfolding starts
-returns c =
-    simp (ne_eqb _ _ c.if-b-eq47.false)
+returns-else-b-eq47 c = grind (arith, nat_tests)

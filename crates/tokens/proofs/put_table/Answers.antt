@@ -19,4 +19,4 @@ pub bounds-kinds-i : goal.bounds-kinds-i
 bounds-kinds-i g c = held-kind c.requires c.loop-i.i c.loop-i-test.true
 
 pub slice_bounds-put_token-end : goal.slice_bounds-put_token-end
-slice_bounds-put_token-end g c = held-room c.requires c.loop-i.i c.loop-i-test.true
+slice_bounds-put_token-end g c = rw (c.from-at.ensures, c.from.ensures) (held-room c.requires c.loop-i.i c.loop-i-test.true)

@@ -8,14 +8,14 @@ returns-then-not-product_within c =
     let s = c in
     let a = simp (to_z-of_z s.ranges.x) at c.size_of.ensures in
     let b = simp (to_z-of_z s.ranges.y) at c.size_of-2.ensures in
-    product-beyond s.args.x s.args.y (rw (a, b) at c.product_within.ensures) c.if-not-product_within.true-raw
+    product-beyond s.args.x s.args.y (rw (a, b) at c.product_within.ensures) c.if-not-product_within.true
 
 pub overflow_mul-result : goal.overflow_mul-result
 overflow_mul-result c =
     let s = c in
     let a = simp (to_z-of_z s.ranges.x) at c.size_of.ensures in
     let b = simp (to_z-of_z s.ranges.y) at c.size_of-2.ensures in
-    simp (to_z-of_z s.ranges.x, to_z-of_z s.ranges.y) (product-fits s.args.x s.args.y (rw (a, b) at c.product_within.ensures) c.if-not-product_within.false-raw)
+    simp (to_z-of_z s.ranges.x, to_z-of_z s.ranges.y) (product-fits s.args.x s.args.y (rw (a, b) at c.product_within.ensures) c.if-not-product_within.false)
 
 pub returns : goal.returns
 returns c =
@@ -23,5 +23,5 @@ returns c =
     let a = simp (to_z-of_z s.ranges.x) at c.size_of.ensures in
     let b = simp (to_z-of_z s.ranges.y) at c.size_of-2.ensures in
     let e = rw (a, b) at c.product_within.ensures in
-    simp (to_z-of_z s.ranges.x, to_z-of_z s.ranges.y, to_z-of_z (product-fits s.args.x s.args.y e c.if-not-product_within.false-raw))
-    (product_is s.args.x s.args.y e c.if-not-product_within.false-raw)
+    simp (to_z-of_z s.ranges.x, to_z-of_z s.ranges.y, to_z-of_z (product-fits s.args.x s.args.y e c.if-not-product_within.false))
+    (product_is s.args.x s.args.y e c.if-not-product_within.false)

@@ -1,5 +1,5 @@
 -- Each place where a reading can stand is a case of `read`.
-use Rattle.waits.proofs.Reading.{first-draw, in-run, next-draw, no_more, stays-over}
+use Rattle.waits.proofs.Reading.{first-draw, in-run, next-draw, stays}
 use Rattle.waits.proofs.take.Goals as goal
 
 pub next_in_run-requires : goal.next_in_run-requires
@@ -16,8 +16,4 @@ returns-in-In c =
 
 pub returns-in-Known : goal.returns-in-Known
 returns-in-Known c =
-    let r = no_more _ _ _ c.in-Known.is c.requires.0 in record { value = r.0; fits = r.1 }
-
-pub returns-in-Over : goal.returns-in-Over
-returns-in-Over c =
-    let r = stays-over _ _ c.in-Over.is in record { value = r.0; fits = r.1 }
+    record { value = stays _ _ c.in-Known.is; fits = c.requires.0 }

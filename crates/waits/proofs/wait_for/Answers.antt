@@ -1,5 +1,5 @@
 use native.Mathlib.Omega.{arith}
-use Rattle.waits.proofs.Reading.{begins, knows, over, before, within, ended}
+use Rattle.waits.proofs.Reading.{begins, knows, over, on, ended}
 use Rattle.waits.proofs.wait_for.Goals as goal
 
 pub loop-i-init : goal.loop-i-init
@@ -8,35 +8,19 @@ loop-i-init c =
 
 pub take-run-requires : goal.take-run-requires
 take-run-requires c =
-    (c.loop-i.invariant.fits, c.wide.ensures.upper_bound)
-
-pub overflow_add-i : goal.overflow_add-i
-overflow_add-i c =
-    omega (arith, c.loop-i-test.true)
+    (c.loop-i.invariant.fits, omega (arith, c.from.ensures, c.type_inv.draw.fits))
 
 pub returns-in-Known : goal.returns-in-Known
 returns-in-Known c =
-    let r = knows _ _ _ c.loop-i.invariant c.loop-i-test.true _ (rw c.wide.ensures.value at c.take-run.ensures.value) c.take-run.ensures.fits _ c.in-Known.is in record { value = r.0; within = r.1 }
+    let r = knows _ _ _ c.loop-i.invariant c.loop-i-test.true _ (rw c.from.ensures at c.take-run.ensures.value) c.take-run.ensures.fits _ c.in-Known.is in record { value = r.0; within = r.1 }
 
 pub returns-in-Over : goal.returns-in-Over
 returns-in-Over c =
-    let r = over _ _ _ c.loop-i.invariant c.loop-i-test.true _ (rw c.wide.ensures.value at c.take-run.ensures.value) c.take-run.ensures.fits c.in-Over.is in record { value = r.0; within = r.1 }
-
-pub loop-i-smaller-in-Before : goal.loop-i-smaller-in-Before
-loop-i-smaller-in-Before c =
-    omega (arith, c.loop-i-test.true)
-
-pub loop-i-preserved-in-Before : goal.loop-i-preserved-in-Before
-loop-i-preserved-in-Before c =
-    before _ _ _ c.loop-i.invariant c.loop-i-test.true _ (rw c.wide.ensures.value at c.take-run.ensures.value) c.take-run.ensures.fits _ c.in-Before.is
-
-pub loop-i-smaller : goal.loop-i-smaller
-loop-i-smaller c =
-    omega (arith, c.loop-i-test.true)
+    let r = over _ _ _ c.loop-i.invariant c.loop-i-test.true _ (rw c.from.ensures at c.take-run.ensures.value) c.take-run.ensures.fits c.in-Over.is in record { value = r.0; within = r.1 }
 
 pub loop-i-preserved : goal.loop-i-preserved
 loop-i-preserved c =
-    within _ _ _ c.loop-i.invariant c.loop-i-test.true _ (rw c.wide.ensures.value at c.take-run.ensures.value) c.take-run.ensures.fits _ _ _ _ c.in-In.is
+    on _ _ _ c.loop-i.invariant c.loop-i-test.true _ (rw c.from.ensures at c.take-run.ensures.value) c.take-run.ensures.fits c.in-Before.is
 
 pub returns : goal.returns
 returns c =

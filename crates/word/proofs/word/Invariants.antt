@@ -1,12 +1,6 @@
--- The loop's invariant: w is the pack of the bytes from i on. The measure is i.
-use mathlib.Core.Path.{◌≡◌}
-use Prim.Native.Nat.{◌≤◌}
-use lib.ListN.{length, drop}
-use Rattle.word.specs.Name.{pack}
+-- The loop's invariant: w is the pack of the bytes that the iterator has given, the last of s.
+use Rattle.word.proofs.Packs.{At}
 use Rattle.word.proofs.word.Given as goal
 
-abbrev pub invariant-loop-i : goal.invariant-loop-i
-invariant-loop-i l = (l.i ≤ length l.s) × (l.w ≡ pack (drop l.i l.s))
-
-abbrev pub decreases-loop-i : goal.decreases-loop-i
-decreases-loop-i l = l.i
+abbrev pub invariant-loop-b : goal.invariant-loop-b
+invariant-loop-b l = At l.s l.b-iterator.iter.rest.now l.w

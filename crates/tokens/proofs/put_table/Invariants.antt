@@ -1,9 +1,0 @@
--- The measure is how many tokens are left.
-use Rattle.std.proofs.Common.{◌≤◌, ◌-◌}
-use Rattle.tokens.proofs.put_table.Given as goal
-
-abbrev pub invariant-loop-i : goal.invariant-loop-i
-invariant-loop-i g l = l.i ≤ l.n
-
-abbrev pub decreases-loop-i : goal.decreases-loop-i
-decreases-loop-i g l = l.n - l.i

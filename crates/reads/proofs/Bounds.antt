@@ -8,14 +8,14 @@ use native.Mathlib.Omega.{arith}
 use borrow.Author.Tests.{leb-true, leb-false}
 use lib.Dec.{leb}
 use lib.ListN.{length, drop, length-append}
-use Rattle.token.specs.declared.Judged.TheVariants.{Passed}
+use Rattle.std.specs.Prelude.{Ok}
 use Rattle.token.specs.Questions.{text_limit, bytes_judged}
 use Rattle.token.specs.Token.{tokens, kinds_of, places_of, Filled}
 use Rattle.token.proofs.Asks.{refused-length}
 use Rattle.token.proofs.Marks.{column-length}
 
 -- question 2 was asked
-pub passed-short : (s : List ℕ) → Passed ≡ bytes_judged s → length s ≤ text_limit
+pub passed-short : (s : List ℕ) → Ok tt ≡ bytes_judged s → length s ≤ text_limit
 passed-short s e = by (leb (length s) text_limit) refl
   where
     by : (b : Bool) → leb (length s) text_limit ≡ b → length s ≤ text_limit

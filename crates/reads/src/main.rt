@@ -10,8 +10,8 @@ use std::io::Read;
 use std::rt::Files;
 use std::{env, io};
 use syntax::question;
-use syntax::question::Asked;
-use token::{Judged, Limits};
+use syntax::question::Unfit;
+use token::{Limits, Refusal};
 
 #[derive(Clone, Copy)]
 struct Input;
@@ -21,31 +21,8 @@ impl Input {
     const MOST: usize = Limits::TEXT + 1;
 }
 
-fn put(rt: &impl Print, s: &[u8]) -> io::Result<()> {
-    rt.write_all(s)
-}
-
-fn put_number(rt: &impl Print, n: usize) -> io::Result<()> {
-    rt.print(n)
-}
-
-fn put_two(rt: &impl Print, word: &[u8], a: usize, b: usize) -> io::Result<()> {
-    put(rt, word)?;
-    put(rt, b",")?;
-    put_number(rt, a)?;
-    put(rt, b",")?;
-    put_number(rt, b)?;
-    put(rt, b"\n")
-}
-
-fn put_fits(rt: &impl Print, tokens: usize) -> io::Result<()> {
-    put(rt, b"fits,")?;
-    put_number(rt, tokens)?;
-    put(rt, b"\n")
-}
-
 fn put_refused(rt: &impl Print, number: usize, place: usize) -> io::Result<()> {
-    put_two(rt, b"refused", number, place)
+    println!(rt; "refused,{number},{place}")
 }
 
 // The place of token k, or the text's end past the last of n.
@@ -69,9 +46,9 @@ fn put_read(rt: &impl Print, text: &[u8]) -> io::Result<()>
     let n = token::fill(text, &mut kinds, &mut places, &mut sizes);
     let asked = question::judge_text(&kinds[..n], &mut nodes);
     match asked {
-        Asked::Misfit(k) => put_refused(rt, 5, place(&places, n, k, text.len())),
-        Asked::Crowded(k) => put_refused(rt, 6, place(&places, n, k, text.len())),
-        Asked::Passed(_) => put_fits(rt, n),
+        Err(Unfit::Misfit(k)) => put_refused(rt, 5, place(&places, n, k, text.len())),
+        Err(Unfit::Crowded(k)) => put_refused(rt, 6, place(&places, n, k, text.len())),
+        Ok(_) => println!(rt; "fits,{n}"),
     }
 }
 
@@ -81,15 +58,13 @@ fn show(rt: &impl Print, from: &mut impl Read) -> io::Result<()> {
     let text = &space[..n];
     let judged = token::judge_bytes(text);
     match judged {
-        Judged::Refused(number, place) => put_refused(rt, number as usize, place),
-        Judged::Passed => put_read(rt, text),
+        Err(Refusal { number, place }) => put_refused(rt, number as usize, place),
+        Ok(()) => put_read(rt, text),
     }
 }
 
 fn show_file(rt: &(impl Print + Eprint + Files), name: &str) -> io::Result<()> {
-    put(rt, b"== ")?;
-    put(rt, name.as_bytes())?;
-    put(rt, b"\n")?;
+    println!(rt; "== {name}")?;
     match File::open(rt, name) {
         Ok(mut file) => show(rt, &mut file),
         Err(e) => eprintln!(rt; "{name}: {e}"),

@@ -5,6 +5,7 @@ use mathlib.Core.List.{List, [], ◌∷◌, ◌++◌}
 use Prim.Native.Nat.{ℕ, ◌+◌, ◌≤◌, ◌<◌}
 use native.Mathlib.Omega.{arith}
 use lib.ListN.{length, get_or}
+use Rattle.std.specs.Prelude.{Err, Ok}
 use Rattle.token.specs.Kind as kind
 use Rattle.grammar.specs.Grammar.{flat_action}
 use Rattle.grammar.specs.Machine.{Sym, Want, Factors', Terms', ThirdItem, ChannelEnd, a_rate, the_rate, the_deed}
@@ -12,16 +13,11 @@ use Rattle.grammar.specs.Follows.{next, Follows}
 use Rattle.grammar.specs.Syntax.{rate_at, action_at, factors_at}
 use Rattle.grammar.proofs.Follows.{join, fails, wanted}
 use Rattle.grammar.proofs.Wide.{wide-factors, wide-action}
-use Rattle.tree.specs.declared.Read.{Read}
-use Rattle.tree.specs.declared.Read.TheVariants.{Next, Fault}
-use Rattle.tree.specs.declared.Counted.{Counted}
-use Rattle.tree.specs.declared.Counted.TheVariants.{Next as CountedNext, Fault as CountedFault}
 use Rattle.tree.specs.Table
-use Rattle.tree.specs.Reading.{place, place_counted, Ready, Span, Made, Parsed, Extended, Tallied}
+use Rattle.tree.specs.Reading.{place, place_counted, Ready, Span, Made, Parsed, Extended, Tallied, Read, Counted}
 use Rattle.tree.proofs.Holds.{action-interval}
-use Rattle.tree.proofs.Spans.{span-token, ◌then◌, span-place, ready-after, seen-later, next-at, fault-at, made_of, grown-of, fault-size, extended-as}
+use Rattle.tree.proofs.Spans.{span-token, ◌then◌, span-place, seen-later, next-at, fault-at, made_of, grown-of, fault-size, extended-as}
 use Rattle.syntax.specs.Channels.{third_at, Items}
-use Rattle.syntax.specs.Actions.{flat_deed, deed_at}
 use Rattle.syntax.specs.Processes.{Spare}
 use Rattle.syntax.specs.Braces.{flat_closed, flat_rated, flat_inside, flat_rest, rest_at, Rating, Ended, ReadyAfter, Inside, Done, Seconds}
 use Rattle.syntax.proofs.Answers.{Continues}
@@ -38,16 +34,16 @@ abbrev pub Closing : List ℕ → List ℕ → List ℕ → ℕ → ℕ → Coun
 Closing ts t t' at left r = Follows ts at (a_rate ++ Want kind.close_curly ∷ []) (place_counted r) × (Tallied flat_closed (λ v. 0) (λ s v. Table.Rate s (rate_at v at)) ts t t' at (left + 1) left r × Spare at (left + 1) left r)
 
 module _ (ts t t₁ : List ℕ) (at left : ℕ) {r : Read} (a : Rate ts t t₁ at (left + 1) r) where
-  pub closed-fault : {k : ℕ} → r ≡ Fault k → Closing ts t t₁ at left (CountedFault k)
+  pub closed-fault : {k : ℕ} → r ≡ Err k → Closing ts t t₁ at left (Err k)
   unfolding place_counted Tallied Spare
   closed-fault {k} e = (fails ts at k a_rate _ (fault-at e a.0), (fault-size _ _ ts t t₁ at (left + 1) e a.1, tt))
 
-  module _ {n root : ℕ} (e : r ≡ Next n root) where
-    pub closed-open : (get_or ts n 0 ≡ kind.close_curly → ⊥) → Closing ts t t₁ at left (CountedFault n)
+  module _ {n root : ℕ} (e : r ≡ Ok (n, root)) where
+    pub closed-open : (get_or ts n 0 ≡ kind.close_curly → ⊥) → Closing ts t t₁ at left (Err n)
     unfolding place_counted Tallied Spare
     closed-open q = (onward a_rate _ (next-at e a.0) (λ l. lacks ts n [] kind.close_curly l q), ((made_of e a.1).span.size, tt))
 
-    pub closed-made : get_or ts n 0 ≡ kind.close_curly → Closing ts t t₁ at left (CountedNext (n + 1) root left)
+    pub closed-made : get_or ts n 0 ≡ kind.close_curly → Closing ts t t₁ at left (Ok (n + 1, root, left))
     unfolding place_counted Tallied Spare flat_closed
     closed-made q =
         let p = made_of e a.1 in (
@@ -65,22 +61,22 @@ module _ (ts t t₁ : List ℕ) (at left : ℕ) {r : Read} (a : Rate ts t t₁ a
 -- ---- an action that was read, and then its rate
 
 module _ (ts t : List ℕ) {read : Read} where
-  pub rated-fault : {k : ℕ} → read ≡ Fault k → Ended ts t t read (CountedFault k)
+  pub rated-fault : {k : ℕ} → read ≡ Err k → Ended ts t t read (Err k)
   unfolding Ended
   rated-fault e = rw e (refl, refl)
 
-  module _ {n left : ℕ} (e : read ≡ Next n left) where
+  module _ {n left : ℕ} (e : read ≡ Ok (n, left)) where
     pub rated-ready : ReadyAfter ts read → Ready ts n (left + 1)
     unfolding ReadyAfter
     rated-ready h = rw e at h
 
-    pub rated-open : n ≤ length ts → (get_or ts n 0 ≡ kind.comma → ⊥) → Ended ts t t read (CountedFault n)
+    pub rated-open : n ≤ length ts → (get_or ts n 0 ≡ kind.comma → ⊥) → Ended ts t t read (Err n)
     unfolding Ended place_counted Tallied Spare
     rated-open h q = rw e (lacks ts n _ kind.comma h q, (refl, tt))
 
     pub rated-made : (t₁ : List ℕ) (r : Counted) → get_or ts n 0 ≡ kind.comma → Closing ts t t₁ (n + 1) left r → Ended ts t t₁ read r
     unfolding Ended place_counted Tallied Spare flat_rated
-    rated-made t₁ (CountedNext m root c) q b =
+    rated-made t₁ (Ok (m, root, c)) q b =
         rw e (
           wants ts n _ kind.comma q (omega arith) (λ l. b.0),
           (
@@ -92,14 +88,14 @@ module _ (ts t : List ℕ) {read : Read} where
             b.1.1,
           ),
         )
-    rated-made t₁ (CountedFault k) q b = rw e (wants ts n _ kind.comma q (omega arith) (λ l. b.0), b.1)
+    rated-made t₁ (Err k) q b = rw e (wants ts n _ kind.comma q (omega arith) (λ l. b.0), b.1)
 
 -- ---- an action and its rate
 
 -- the action was read
 pub inner_made : (ts t t₁ t₂ : List ℕ) (at used n left : ℕ) (r : Counted) → Made flat_action (λ s a. Table.Action s (action_at a at)) ts t t₁ at used n left → Rating ts t₁ t₂ n left r → Spare (n + 1) (left + 1) left r → Inside ts t t₂ at used r
 unfolding Inside Tallied Spare flat_inside
-inner_made ts t t₁ t₂ at used n left (CountedNext m root c) p b s =
+inner_made ts t t₁ t₂ at used n left (Ok (m, root, c)) p b s =
     let e : c ≡ left = omega (arith, b.counted) in
     let g = b.made in
     let k = span-place (wide-action p.tree) p.span in
@@ -112,12 +108,12 @@ inner_made ts t t₁ t₂ at used n left (CountedNext m root c) p b s =
       acts = seen-later (action-interval (action_at p.tree at)) g.span (omega arith) p.shown;
       rates = rw (← k) g.shown;
     })
-inner_made ts t t₁ t₂ at used n left (CountedFault k) p b s = b ∙ p.span.size
+inner_made ts t t₁ t₂ at used n left (Err k) p b s = b ∙ p.span.size
 
 pub bracing : (x : List Sym) (ts t t₁ t₂ : List ℕ) (at used : ℕ) (read : Read) (r : Counted) → Acts x ts t t₁ at used read → Ended ts t₁ t₂ read r → Follows ts at (x ++ (the_rate ++ Want kind.close_curly ∷ [])) (place_counted r) × Inside ts t t₂ at used r
 unfolding place place_counted Ended Inside Parsed
-bracing x ts t t₁ t₂ at used (Next n left) r a b = (join ts at n x _ a.0 b.0, inner_made ts t t₁ t₂ at used n left r a.1 b.1.0 b.1.1)
-bracing x ts t t₁ t₂ at used (Fault k) r a b = rw b.0 (fails ts at k x _ a.0, ap length b.1 ∙ a.1)
+bracing x ts t t₁ t₂ at used (Ok (n, left)) r a b = (join ts at n x _ a.0 b.0, inner_made ts t t₁ t₂ at used n left r a.1 b.1.0 b.1.1)
+bracing x ts t t₁ t₂ at used (Err k) r a b = rw b.0 (fails ts at k x _ a.0, ap length b.1 ∙ a.1)
 
 -- ---- what follows a channel's second item
 
@@ -134,9 +130,9 @@ then-unpaid {f} p q =
       size = q.size ∙ p.size;
     }
 
-second-made : (ts t t₁ t₂ t₃ : List ℕ) (at first mid n left : ℕ) (read : Read) (r : Counted) → Follows ts at (ThirdItem ∷ []) (next n) → Items ts t t₁ at first mid (Next n left) → Deeds ts t₁ t₂ n left read → Ended ts t₂ t₃ read r → Follows ts at (ThirdItem ∷ the_deed ++ Want kind.close_curly ∷ []) (place_counted r) × Seconds ts t t₃ at first mid r
+second-made : (ts t t₁ t₂ t₃ : List ℕ) (at first mid n left : ℕ) (read : Read) (r : Counted) → Follows ts at (ThirdItem ∷ []) (next n) → Items ts t t₁ at first mid (Ok (n, left)) → Deeds ts t₁ t₂ n left read → Ended ts t₂ t₃ read r → Follows ts at (ThirdItem ∷ the_deed ++ Want kind.close_curly ∷ []) (place_counted r) × Seconds ts t t₃ at first mid r
 unfolding place place_counted Items Extended Ended Seconds Tallied
-second-made ts t t₁ t₂ t₃ at first mid n left (Next m root) r f i b d = (
+second-made ts t t₁ t₂ t₃ at first mid n left (Ok (m, root)) r f i b d = (
   join ts at n (ThirdItem ∷ []) _ f (join ts n m (ChannelEnd ∷ []) _ b.0 d.0),
   by r d.1.0 d.1.1,
 )
@@ -152,31 +148,18 @@ second-made ts t t₁ t₂ t₃ at first mid n left (Next m root) r f i b d = (
         }
 
     by : (r : Counted) → Rating ts t₂ t₃ m root r → Spare (m + 1) (root + 1) root r → Seconds ts t t₃ at first mid r
-    by (CountedNext o top c) x y = record { table = t₂; comma = m; left = root; done = done; rated = x; spare = y }
-    by (CountedFault k) x y = x ∙ b.1.span.size ∙ i.span.size
-second-made ts t t₁ t₂ t₃ at first mid n left (Fault k) r f i b d = rw d.0 (join ts at n (ThirdItem ∷ []) _ f (fails ts n k (ChannelEnd ∷ []) _ b.0), ap length d.1 ∙ b.1 ∙ i.span.size)
+    by (Ok (o, top, c)) x y = record { table = t₂; comma = m; left = root; done = done; rated = x; spare = y }
+    by (Err k) x y = x ∙ b.1.span.size ∙ i.span.size
+second-made ts t t₁ t₂ t₃ at first mid n left (Err k) r f i b d = rw d.0 (join ts at n (ThirdItem ∷ []) _ f (fails ts n k (ChannelEnd ∷ []) _ b.0), ap length d.1 ∙ b.1 ∙ i.span.size)
 
 module _ (ts t t₁ : List ℕ) (at first mid : ℕ) {read : Read} (a : Thirds ts t t₁ at first mid read) where
-  pub second-fault : {k : ℕ} → read ≡ Fault k → Follows ts at (ThirdItem ∷ the_deed ++ Want kind.close_curly ∷ []) (place_counted (CountedFault k)) × Seconds ts t t₁ at first mid (CountedFault k)
+  pub second-fault : {k : ℕ} → read ≡ Err k → Follows ts at (ThirdItem ∷ the_deed ++ Want kind.close_curly ∷ []) (place_counted (Err k)) × Seconds ts t t₁ at first mid (Err k)
   unfolding place_counted Seconds Items
   second-fault {k} e = (fails ts at k (ThirdItem ∷ []) _ (fault-at e a.0), rw e at a.1)
 
-  module _ {n left : ℕ} (e : read ≡ Next n left) where
-    second-items : Items ts t t₁ at first mid (Next n left)
+  module _ {n left : ℕ} (e : read ≡ Ok (n, left)) where
+    second-items : Items ts t t₁ at first mid (Ok (n, left))
     second-items = rw e at a.1
-
-    pub second-ready : Ready ts at (mid + 1 + 1) → Ready ts n (left + 1)
-    unfolding Items
-    second-ready h = let i = second-items in record { inside = i.span.within; room = h.room; few = omega (arith, h.few, i.span.fewer) }
-
-    module _ (t₂ : List ℕ) (r : Read) (b : Deeds ts t₁ t₂ n left r) where
-      pub second-rated : Ready ts at (mid + 1 + 1) → ReadyAfter ts r
-      unfolding ReadyAfter Extended
-      second-rated h = by r b.1
-        where
-          by : (r : Read) → Extended flat_deed (λ c d. deed_at c d n) Table.Channel Table.Action ts t₁ t₂ n left r → ReadyAfter ts r
-          by (Next m root) g = ready-after (second-ready h) g.span
-          by (Fault k) g = tt
 
     pub second-done : (t₂ t₃ : List ℕ) (r : Read) (r' : Counted) → Deeds ts t₁ t₂ n left r → Ended ts t₂ t₃ r r' → Follows ts at (ThirdItem ∷ the_deed ++ Want kind.close_curly ∷ []) (place_counted r') × Seconds ts t t₃ at first mid r'
     second-done t₂ t₃ r r' = second-made ts t t₁ t₂ t₃ at first mid n left r r' (next-at e a.0) second-items
@@ -187,14 +170,11 @@ abbrev pub Rest : List ℕ → List ℕ → List ℕ → ℕ → ℕ → Read �
 Rest ts t t' at = Continues (Factors' ∷ Terms' ∷ []) flat_rest (λ x p. rest_at x p at) Table.Expr ts t t' at
 
 module _ (ts t t₁ : List ℕ) (at left : ℕ) {r : Read} (a : Factors ts t t₁ at left r) where
-  pub rest-fault : {k : ℕ} → r ≡ Fault k → Rest ts t t₁ at left (Fault k)
+  pub rest-fault : {k : ℕ} → r ≡ Err k → Rest ts t t₁ at left (Err k)
   unfolding place Extended
   rest-fault {k} e = (fails ts at k (Factors' ∷ []) _ (fault-at e a.0), rw e at a.1)
 
-  module _ {n root : ℕ} (e : r ≡ Next n root) where
-    pub rest-ready : Ready ts at (left + 1) → Ready ts n (root + 1)
-    rest-ready h = ready-after h (grown-of e a.1).span
-
+  module _ {n root : ℕ} (e : r ≡ Ok (n, root)) where
     pub rest-made : (t₂ : List ℕ) (r' : Read) → Terms ts t₁ t₂ n root r' → Rest ts t t₂ at left r'
     unfolding flat_rest rest_at
     rest-made t₂ r' b =

@@ -6,28 +6,15 @@ use mathlib.Core.Logic.{◌⊎◌, inl, inr}
 use Prim.Native.Nat.{ℕ, ◌+◌}
 use lib.ListN.{get_or}
 use Rattle.token.specs.Kind as kind
-use Rattle.grammar.specs.Grammar.{flat_action}
 use Rattle.grammar.specs.Machine.{Want, ChannelEnd, a_channel}
-use Rattle.grammar.specs.Syntax.{action_at}
 use Rattle.grammar.proofs.Alike.{checking, shaking, channel, named-channel}
-use Rattle.tree.specs.declared.Read.{Read}
-use Rattle.tree.specs.declared.Read.TheVariants.{Next, Fault}
-use Rattle.tree.specs.declared.Counted.{Counted}
-use Rattle.tree.specs.Table
-use Rattle.tree.specs.Reading.{Ready, Parsed}
-use Rattle.tree.proofs.Spans.{ready-after}
-use Rattle.syntax.specs.Braces.{Ended, ReadyAfter}
+use Rattle.tree.specs.Reading.{Read, Counted}
+use Rattle.syntax.specs.Braces.{Ended}
 use Rattle.syntax.proofs.Deeds.{Acts, checked, shaken}
 use Rattle.syntax.proofs.Braces.{bracing}
 use Rattle.syntax.proofs.Lone.{Bracing}
 
 module _ (ts t t₁ : List ℕ) (at used : ℕ) where
-  -- where the rate may be read
-  pub braced-ready : (read : Read) → Ready ts at used → Parsed flat_action (λ s a. Table.Action s (action_at a at)) ts t t₁ at used read → ReadyAfter ts read
-  unfolding Parsed ReadyAfter
-  braced-ready (Next n left) h p = ready-after h p.span
-  braced-ready (Fault k) h p = tt
-
   module _ (t₂ : List ℕ) (read : Read) (r : Counted) where
     pub braced-check : Acts checked ts t t₁ at used read → Ended ts t₁ t₂ read r → get_or ts at 0 ≡ kind.tilde → Bracing ts t t₂ at used r
     braced-check a b e = let z = bracing checked ts t t₁ t₂ at used read r a b in (checking ts at (Want kind.close_curly ∷ []) e z.0, z.1)

@@ -5,6 +5,7 @@ use mathlib.Core.List.{List, [], ◌∷◌, ◌++◌}
 use Prim.Native.Nat.{ℕ, ◌+◌, ◌≤◌}
 use native.Mathlib.Omega.{arith}
 use lib.ListN.{length, get_or}
+use Rattle.std.specs.Prelude.{Err, Ok}
 use Rattle.token.specs.Kind as kind
 use Rattle.grammar.specs.Grammar
 use Rattle.grammar.specs.Grammar.{flat_expr, flat_exprs, flat_args}
@@ -14,14 +15,10 @@ use Rattle.grammar.specs.Syntax.{expr_at, exprs_at, args_at}
 use Rattle.grammar.proofs.Follows.{here, fails}
 use Rattle.grammar.proofs.Alike.{args-filled}
 use Rattle.grammar.proofs.Wide.{wide-expr}
-use Rattle.tree.specs.declared.Read.{Read}
-use Rattle.tree.specs.declared.Read.TheVariants.{Next, Fault}
-use Rattle.tree.specs.declared.Counted.{Counted}
-use Rattle.tree.specs.declared.Counted.TheVariants.{Next as CountedNext, Fault as CountedFault}
 use Rattle.tree.specs.Node as node
 use Rattle.tree.specs.Table
 use Rattle.tree.specs.Table.{count_exprs}
-use Rattle.tree.specs.Reading.{place_counted, Ready, Tallied}
+use Rattle.tree.specs.Reading.{place_counted, Ready, Tallied, Read, Counted}
 use Rattle.tree.proofs.Holds.{expr-interval, exprs-interval}
 use Rattle.tree.proofs.Spans.{span-token, ◌then◌, Wrote, span-wrote, span-place, ready-after, ready-token, seen-leaf, seen_one, next-at, fault-at, counted-next-at, counted-fault-at, made_of, tally-of, fault-size, counted-fault-size}
 use Rattle.syntax.specs.Processes.{closed_exprs, flat_call, call_at}
@@ -49,12 +46,12 @@ Call ts t t' at used c r = Follows ts (at + 1) the_args (place_counted r) × Tal
 -- ---- values
 
 module _ (ts t t₁ : List ℕ) (at used : ℕ) {r : Read} (a : Expr ts t t₁ at used r) where
-  pub args-fault : {k : ℕ} → r ≡ Fault k → Args ts t t₁ at used (CountedFault k)
+  pub args-fault : {k : ℕ} → r ≡ Err k → Args ts t t₁ at used (Err k)
   unfolding place_counted Tallied
   args-fault {k} e = (fails ts at k an_expr end (fault-at e a.0), fault-size _ _ ts t t₁ at used e a.1)
 
-  module _ {n left : ℕ} (e : r ≡ Next n left) where
-    pub args-last : get_or ts n 0 ≡ kind.close_square → Args ts t t₁ at used (CountedNext (n + 1) left 1)
+  module _ {n left : ℕ} (e : r ≡ Ok (n, left)) where
+    pub args-last : get_or ts n 0 ≡ kind.close_square → Args ts t t₁ at used (Ok (n + 1, left, 1))
     unfolding place_counted Tallied table rows_of is_may closed_exprs flat_exprs exprs_at count_exprs Table.Exprs
     args-last q =
         let m = made_of e a.1 in (
@@ -66,7 +63,7 @@ module _ (ts t t₁ : List ℕ) (at used : ℕ) {r : Read} (a : Expr ts t t₁ a
           },
         )
 
-    pub args-stray : (get_or ts n 0 ≡ kind.close_square → ⊥) → (get_or ts n 0 ≡ kind.comma → ⊥) → Args ts t t₁ at used (CountedFault n)
+    pub args-stray : (get_or ts n 0 ≡ kind.close_square → ⊥) → (get_or ts n 0 ≡ kind.comma → ⊥) → Args ts t t₁ at used (Err n)
     unfolding place_counted Tallied table rows_of is_may
     args-stray q c = (
       onward an_expr end (next-at e a.0) (λ l. past ts n _ MoreArgs l refl (c, tt) (lacks ts n [] kind.close_square l q)),
@@ -83,17 +80,17 @@ module _ (ts t t₁ : List ℕ) (at used : ℕ) {r : Read} (a : Expr ts t t₁ a
       next-value r' f = onward an_expr end (next-at e a.0) (λ l. taken ts n (Want kind.close_square ∷ []) MoreArgs kind.comma c (omega arith) refl (λ i. f))
 
       module _ (t₂ : List ℕ) {r' : Counted} (b : Args ts t₁ t₂ (n + 1) (left + 1) r') where
-        pub args-next-fault : {k : ℕ} → r' ≡ CountedFault k → Args ts t t₂ at used (CountedFault k)
+        pub args-next-fault : {k : ℕ} → r' ≡ Err k → Args ts t t₂ at used (Err k)
         unfolding place_counted Tallied
-        args-next-fault {k} q = (next-value (CountedFault k) (counted-fault-at q b.0), counted-fault-size _ _ _ ts t₁ t₂ (n + 1) (left + 1) 0 q b.1 ∙ (made_of e a.1).span.size)
+        args-next-fault {k} q = (next-value (Err k) (counted-fault-at q b.0), counted-fault-size _ _ _ ts t₁ t₂ (n + 1) (left + 1) 0 q b.1 ∙ (made_of e a.1).span.size)
 
-        pub args-next : {m right count : ℕ} {t₃ : List ℕ} → r' ≡ CountedNext m right count → Wrote t₂ t₃ (right + 1) node.argument 0 left 0 → Args ts t t₃ at used (CountedNext m (right + 1) (count + 1))
+        pub args-next : {m right count : ℕ} {t₃ : List ℕ} → r' ≡ Ok (m, right, count) → Wrote t₂ t₃ (right + 1) node.argument 0 left 0 → Args ts t t₃ at used (Ok (m, right + 1, count + 1))
         unfolding place_counted Tallied closed_exprs flat_exprs exprs_at count_exprs Table.Exprs made-two
         args-next {m} {right} {count} {t₃} q w =
             let p = made_of e a.1 in
             let s = tally-of q b.1 in
             let k = span-place (wide-expr p.tree) p.span in (
-              next-value (CountedNext m (right + 1) (count + 1)) (counted-next-at q b.0),
+              next-value (Ok (m, right + 1, count + 1)) (counted-next-at q b.0),
               record {
                 made = made-two p s.made kind.comma (Grammar.next_expr p.tree s.made.tree) (λ us. refl) (expr-interval (expr_at p.tree at)) (exprs-interval (exprs_at s.made.tree (n + 1))) (λ lo i h. rw (← k) h) c (omega arith) w;
                 counted = rw (← k) (omega (arith, s.counted));
@@ -104,12 +101,12 @@ module _ (ts t t₁ : List ℕ) (at used : ℕ) {r : Read} (a : Expr ts t t₁ a
 -- ---- a call
 
 module _ (ts t : List ℕ) (at used sums : ℕ) (named : get_or ts at 0 ≡ kind.name) where
-  pub call-stray : at + 1 ≤ length ts → (get_or ts (at + 1) 0 ≡ kind.open_square → ⊥) → Call ts t t at used sums (CountedFault (at + 1))
+  pub call-stray : at + 1 ≤ length ts → (get_or ts (at + 1) 0 ≡ kind.open_square → ⊥) → Call ts t t at used sums (Err (at + 1))
   unfolding place_counted Tallied
   call-stray h n = (lacks ts (at + 1) (Args' ∷ Want kind.close_square ∷ []) kind.open_square h n, refl)
 
   module _ (o : get_or ts (at + 1) 0 ≡ kind.open_square) where
-    pub call-empty : {t' : List ℕ} → get_or ts (at + 1 + 1) 0 ≡ kind.close_square → Wrote t t' used node.call at 0 0 → Call ts t t' at used sums (CountedNext (at + 1 + 1 + 1) used sums)
+    pub call-empty : {t' : List ℕ} → get_or ts (at + 1 + 1) 0 ≡ kind.close_square → Wrote t t' used node.call at 0 0 → Call ts t t' at used sums (Ok (at + 1 + 1 + 1, used, sums))
     unfolding place_counted Tallied table rows_of is_may flat_call flat_args call_at args_at Table.Cont
     call-empty q w = (
       wants ts (at + 1) _ kind.open_square o (omega arith) (λ l. past ts (at + 1 + 1) _ Args' l refl (omega arith) (wants ts (at + 1 + 1) [] kind.close_square q (omega arith) (λ i. here ts (at + 1 + 1 + 1) i))),
@@ -125,17 +122,17 @@ module _ (ts t : List ℕ) (at used sums : ℕ) (named : get_or ts at 0 ≡ kind
     first-value n r f = wants ts (at + 1) _ kind.open_square o (omega arith) (λ l. args-filled ts (at + 1 + 1) n f)
 
     module _ (n : get_or ts (at + 1 + 1) 0 ≡ kind.close_square → ⊥) (t₁ : List ℕ) {r : Counted} (a : Args ts t t₁ (at + 1 + 1) used r) where
-      pub call-fault : {k : ℕ} → r ≡ CountedFault k → Call ts t t₁ at used sums (CountedFault k)
+      pub call-fault : {k : ℕ} → r ≡ Err k → Call ts t t₁ at used sums (Err k)
       unfolding place_counted Tallied
-      call-fault {k} e = (first-value n (CountedFault k) (counted-fault-at e a.0), counted-fault-size _ _ _ ts t t₁ (at + 1 + 1) used 0 e a.1)
+      call-fault {k} e = (first-value n (Err k) (counted-fault-at e a.0), counted-fault-size _ _ _ ts t t₁ (at + 1 + 1) used 0 e a.1)
 
-      pub call-with : {m root count : ℕ} {t₂ : List ℕ} → r ≡ CountedNext m root count → Wrote t₁ t₂ (root + 1) node.call_with at 0 count → Call ts t t₂ at used sums (CountedNext m (root + 1) sums)
+      pub call-with : {m root count : ℕ} {t₂ : List ℕ} → r ≡ Ok (m, root, count) → Wrote t₁ t₂ (root + 1) node.call_with at 0 count → Call ts t t₂ at used sums (Ok (m, root + 1, sums))
       unfolding place_counted Tallied closed_exprs flat_call flat_args call_at args_at Table.Cont
       call-with {m} {root} {count} {t₂} e w =
           let s = tally-of e a.1 in
           let z = s.made.tree in
           let counted : count_exprs (exprs_at z (at + 1 + 1)) ≡ count = omega (arith, s.counted) in (
-            first-value n (CountedNext m (root + 1) sums) (counted-next-at e a.0),
+            first-value n (Ok (m, root + 1, sums)) (counted-next-at e a.0),
             record {
               made =
                   record {

@@ -5,6 +5,7 @@ use mathlib.Core.List.{List, [], ◌∷◌}
 use Prim.Native.Nat.{ℕ, ◌+◌, ◌≤◌}
 use native.Mathlib.Omega.{arith}
 use lib.ListN.{length, get_or}
+use Rattle.std.specs.Prelude.{Err, Ok}
 use Rattle.token.specs.Kind as kind
 use Rattle.grammar.specs.Grammar
 use Rattle.grammar.specs.Grammar.{flat_expr, flat_channel}
@@ -13,14 +14,12 @@ use Rattle.grammar.specs.Follows.{Follows}
 use Rattle.grammar.specs.Syntax.{wide, expr_at, channel_at}
 use Rattle.grammar.proofs.Follows.{join, fails, takes, passes}
 use Rattle.grammar.proofs.Wide.{wide-expr}
-use Rattle.tree.specs.declared.Read.{Read}
-use Rattle.tree.specs.declared.Read.TheVariants.{Next, Fault}
 use Rattle.tree.specs.Node as node
 use Rattle.tree.specs.Table
-use Rattle.tree.specs.Reading.{place, Ready, Extended}
+use Rattle.tree.specs.Reading.{place, Extended, Read}
 use Rattle.tree.proofs.Interval.{stays}
 use Rattle.tree.proofs.Holds.{expr-interval}
-use Rattle.tree.proofs.Spans.{span_none, span-token, ◌then◌, Wrote, span-over, span-place, ready-after, ready-token, seen-two, seen-three, next-at, fault-at, made_of, fault-size, parsed-grown, made-grown}
+use Rattle.tree.proofs.Spans.{span_none, span-token, ◌then◌, Wrote, span-over, span-place, seen-two, seen-three, next-at, fault-at, made_of, fault-size, parsed-grown, made-grown}
 use Rattle.syntax.specs.Channels.{no_third, third, More, no_more, more, flat_third, flat_more, third_at, more_at, Items}
 use Rattle.syntax.proofs.Answers.{Answers, first-fails}
 use Rattle.syntax.proofs.Symbols.{onward}
@@ -41,7 +40,7 @@ Thirds ts t t' at left mid r = Follows ts at (ThirdItem ∷ []) (place r) × Ite
 -- ---- after two items
 
 module _ (ts t : List ℕ) (at left mid : ℕ) where
-  pub thirds-none : {t' : List ℕ} → at ≤ length ts → (get_or ts at 0 ≡ kind.comma → ⊥) → Wrote t t' (mid + 1) node.two_items 0 left 0 → Thirds ts t t' at left mid (Next at (mid + 1))
+  pub thirds-none : {t' : List ℕ} → at ≤ length ts → (get_or ts at 0 ≡ kind.comma → ⊥) → Wrote t t' (mid + 1) node.two_items 0 left 0 → Thirds ts t t' at left mid (Ok (at, mid + 1))
   unfolding place Items flat_third third_at table rows_of is_may Table.Channel
   thirds-none h n w = (
     passes ts at ThirdItem h refl (n, tt),
@@ -49,11 +48,11 @@ module _ (ts t : List ℕ) (at left mid : ℕ) where
   )
 
   module _ (q : get_or ts at 0 ≡ kind.comma) (t₁ : List ℕ) {r : Read} (a : Expr ts t t₁ (at + 1) (mid + 1) r) where
-    pub thirds-fault : {k : ℕ} → r ≡ Fault k → Thirds ts t t₁ at left mid (Fault k)
+    pub thirds-fault : {k : ℕ} → r ≡ Err k → Thirds ts t t₁ at left mid (Err k)
     unfolding place Items table rows_of find
     thirds-fault e = (takes ts at ThirdItem kind.comma q (omega arith) refl (λ l. fault-at e a.0), fault-size _ _ ts t t₁ (at + 1) (mid + 1) e a.1)
 
-    pub thirds-three : {n root : ℕ} {t₂ : List ℕ} → left ≤ mid → r ≡ Next n root → Wrote t₁ t₂ (root + 1) node.three_items 0 left mid → Thirds ts t t₂ at left mid (Next n (root + 1))
+    pub thirds-three : {n root : ℕ} {t₂ : List ℕ} → left ≤ mid → r ≡ Ok (n, root) → Wrote t₁ t₂ (root + 1) node.three_items 0 left mid → Thirds ts t t₂ at left mid (Ok (n, root + 1))
     unfolding place Items flat_third third_at table rows_of find Table.Channel
     thirds-three h e w =
         let m = made_of e a.1 in (
@@ -69,28 +68,22 @@ module _ (ts t : List ℕ) (at left mid : ℕ) where
 -- ---- after one item
 
 module _ (ts t : List ℕ) (at left : ℕ) where
-  pub seconds-none : at ≤ length ts → (get_or ts at 0 ≡ kind.comma → ⊥) → Mores ts t t at left (Next at left)
+  pub seconds-none : at ≤ length ts → (get_or ts at 0 ≡ kind.comma → ⊥) → Mores ts t t at left (Ok (at, left))
   unfolding place Extended table rows_of is_may flat_more more_at Table.Channel
   seconds-none h n = (passes ts at SecondItem h refl (n, tt), record { tree = no_more; span = span_none h; shown = λ l x lo p. p })
 
   module _ (q : get_or ts at 0 ≡ kind.comma) (t₁ : List ℕ) {r : Read} (a : Expr ts t t₁ (at + 1) (left + 1) r) where
-    pub seconds-fault : {k : ℕ} → r ≡ Fault k → Mores ts t t₁ at left (Fault k)
+    pub seconds-fault : {k : ℕ} → r ≡ Err k → Mores ts t t₁ at left (Err k)
     unfolding place Extended table rows_of find
     seconds-fault {k} e = (
       takes ts at SecondItem kind.comma q (omega arith) refl (λ l. fails ts (at + 1) k an_expr _ (fault-at e a.0)),
       fault-size _ _ ts t t₁ (at + 1) (left + 1) e a.1,
     )
 
-    module _ {n mid : ℕ} (e : r ≡ Next n mid) where
-      pub seconds-ready : Ready ts at (left + 1) → Ready ts n (mid + 1)
-      seconds-ready h = ready-after (ready-token h (omega arith)) (made_of e a.1).span
-
-      pub seconds-below : left ≤ mid
-      seconds-below = omega (arith, (made_of e a.1).span.more)
-
+    module _ {n mid : ℕ} (e : r ≡ Ok (n, mid)) where
       pub seconds-more : (t₂ : List ℕ) (r' : Read) → Thirds ts t₁ t₂ n left mid r' → Mores ts t t₂ at left r'
       unfolding place Items Extended flat_more more_at table rows_of find
-      seconds-more t₂ (Next m root) b =
+      seconds-more t₂ (Ok (m, root)) b =
           let p = made_of e a.1 in
           let i = b.1 in
           let k = span-place (wide-expr p.tree) p.span in (
@@ -103,7 +96,7 @@ module _ (ts t : List ℕ) (at left : ℕ) where
                   (i.shown l x (expr_at p.tree (at + 1)) lo (stays (expr-interval x) (left + 1) (omega arith) p.span.kept f) (p.shown (omega (arith, i.span.more, i.span.size))));
             },
           )
-      seconds-more t₂ (Fault k) b = (
+      seconds-more t₂ (Err k) b = (
         takes ts at SecondItem kind.comma q (omega arith) refl (λ l. onward an_expr _ (next-at e a.0) (λ j. b.0)),
         b.1 ∙ (made_of e a.1).span.size,
       )
@@ -128,10 +121,10 @@ channel-at e (more f no_third) at = refl
 channel-at e (more f (third g)) at = refl
 
 module _ (ts t t₁ : List ℕ) (at used : ℕ) {r : Read} (a : Expr ts t t₁ at used r) where
-  pub channel-fault : {k : ℕ} → r ≡ Fault k → Channel ts t t₁ at used (Fault k)
+  pub channel-fault : {k : ℕ} → r ≡ Err k → Channel ts t t₁ at used (Err k)
   channel-fault e = first-fails an_expr (SecondItem ∷ []) flat_expr _ flat_channel _ ts t t₁ at used e a
 
-  pub channel-made : {n left : ℕ} (t₂ : List ℕ) (r' : Read) → r ≡ Next n left → Mores ts t₁ t₂ n left r' → Channel ts t t₂ at used r'
+  pub channel-made : {n left : ℕ} (t₂ : List ℕ) (r' : Read) → r ≡ Ok (n, left) → Mores ts t₁ t₂ n left r' → Channel ts t t₂ at used r'
   channel-made {n} t₂ r' e b =
       let p = made_of e a.1 in (
         join ts at n an_expr (SecondItem ∷ []) (next-at e a.0) b.0,

@@ -7,6 +7,7 @@ use mathlib.Core.Logic.{inl, inr}
 use Prim.Native.Nat.{ℕ, ◌+◌, ◌≤◌, ◌<◌}
 use native.Mathlib.Omega.{arith}
 use lib.ListN.{length, get_or}
+use Rattle.std.specs.Prelude.{Err, Ok}
 use Rattle.token.specs.Kind as kind
 use Rattle.grammar.specs.Grammar
 use Rattle.grammar.specs.Grammar.{Relation, relation_kind, flat_expr, flat_test, flat_ands, flat_ors, flat_cond}
@@ -16,12 +17,10 @@ use Rattle.grammar.specs.Syntax
 use Rattle.grammar.specs.Syntax.{expr_at, test_at, ands_at, conjunction_at, ors_at, cond_at}
 use Rattle.grammar.proofs.Follows.{here, join, fails, takes, passes, sticks}
 use Rattle.grammar.proofs.Wide.{wide-expr, wide_test, wide-conjunction}
-use Rattle.tree.specs.declared.Read.{Read}
-use Rattle.tree.specs.declared.Read.TheVariants.{Next, Fault}
 use Rattle.tree.specs.Node as node
 use Rattle.tree.specs.Node.{test_kind}
 use Rattle.tree.specs.Table
-use Rattle.tree.specs.Reading.{place, Parsed, Extended}
+use Rattle.tree.specs.Reading.{place, Parsed, Extended, Read}
 use Rattle.tree.proofs.Holds.{expr-interval, cond-interval}
 use Rattle.tree.proofs.Spans.{span_none, span-token, ◌then◌, Wrote, next-at, made_of, parsed-as}
 use Rattle.syntax.specs.Signs.{relation_signs}
@@ -107,21 +106,21 @@ signed : (ts : List ℕ) (n op : ℕ) → Sign (get_or ts n 0) op → (q : Answe
 signed ts n op s q f = join ts n (n + 1) (Relation' ∷ []) an_expr (takes ts n Relation' (relation_kind s.relation) s.sign (relation-present s.relation) (relation-row s.relation) (λ l. here ts (n + 1) l)) f
 
 module _ (more : ℕ) (ts t t₁ : List ℕ) (at used : ℕ) {r : Read} where
-  pub compare-fault : {k : ℕ} → r ≡ Fault k → Expr ts t t₁ at used r → Related more ts t t₁ at used (Fault k)
+  pub compare-fault : {k : ℕ} → r ≡ Err k → Expr ts t t₁ at used r → Related more ts t t₁ at used (Err k)
   compare-fault = first-fails an_expr (Relation' ∷ an_expr) flat_expr _ flat_related _ ts t t₁ at used
 
-  module _ {n left : ℕ} (e : r ≡ Next n left) (a : Expr ts t t₁ at used r) where
-    pub compare-stray : Apart (get_or ts n 0) relation_signs → Related more ts t t₁ at used (Fault n)
+  module _ {n left : ℕ} (e : r ≡ Ok (n, left)) (a : Expr ts t t₁ at used r) where
+    pub compare-stray : Apart (get_or ts n 0) relation_signs → Related more ts t t₁ at used (Err n)
     unfolding place Parsed table rows_of is_may
     compare-stray s =
         let m = made_of e a.1 in
         (join ts at n an_expr (Relation' ∷ an_expr) (next-at e a.0) (fails ts n n (Relation' ∷ []) an_expr (sticks ts n Relation' m.span.within refl s)), m.span.size)
 
     module _ (t₂ : List ℕ) (op : ℕ) (s : Sign (get_or ts n 0) op) {r' : Read} (b : Expr ts t₁ t₂ (n + 1) (left + 1) r') where
-      pub compare-second : {k : ℕ} → r' ≡ Fault k → Related more ts t t₂ at used (Fault k)
+      pub compare-second : {k : ℕ} → r' ≡ Err k → Related more ts t t₂ at used (Err k)
       compare-second = second-fails an_expr an_expr (Relation' ∷ an_expr) flat_expr flat_expr flat_related _ _ _ ts t t₁ t₂ at used (signed ts n op s) e a b
 
-      pub compare-made : {i root : ℕ} {t₃ : List ℕ} → r' ≡ Next i root → Wrote t₂ t₃ (root + 1) (op + more) 0 left 0 → Related more ts t t₃ at used (Next i (root + 1))
+      pub compare-made : {i root : ℕ} {t₃ : List ℕ} → r' ≡ Ok (i, root) → Wrote t₂ t₃ (root + 1) (op + more) 0 left 0 → Related more ts t t₃ at used (Ok (i, root + 1))
       unfolding flat_related HoldsRelated
       compare-made d w = second-made an_expr an_expr (Relation' ∷ an_expr) flat_expr flat_expr flat_related _ _ _ ts t t₁ t₂ at used (signed ts n op s) e a b wide-expr (λ v. expr-interval (expr_at v at)) (λ v. expr-interval (expr_at v (n + 1))) (λ v u. (v, s.relation, u)) (λ v u us. refl) (λ v u x lo k q h. rw q at h) s.sign (relation-present s.relation) d (rw s.made at w)
 
@@ -152,22 +151,22 @@ unfolding table rows_of find flat_ands ands_at Table.Cond
 and-sign k e = rw e (record { more = Grammar.both; binary = Syntax.both; present = omega arith; row = refl; text = λ a w us. refl; grows = λ z a w i. refl; shows = λ z v s lo i h. h })
 
 module _ (ts t : List ℕ) (at left : ℕ) where
-  pub ands-none : at ≤ length ts → (get_or ts at 0 ≡ kind.ampersand → ⊥) → AndsRead ts t t at left (Next at left)
+  pub ands-none : at ≤ length ts → (get_or ts at 0 ≡ kind.ampersand → ⊥) → AndsRead ts t t at left (Ok (at, left))
   unfolding place Extended table rows_of is_may flat_ands ands_at
   ands-none h n = (passes ts at Ands' h refl (n, tt), record { tree = Grammar.no_ands; span = span_none h; shown = λ l x lo p. p })
 
   module _ (t₁ : List ℕ) {r : Read} (s : get_or ts at 0 ≡ kind.ampersand) (a : Tested ts t t₁ (at + 1) (left + 1) r) where
-    pub ands-fault : {k : ℕ} → r ≡ Fault k → AndsRead ts t t₁ at left (Fault k)
+    pub ands-fault : {k : ℕ} → r ≡ Err k → AndsRead ts t t₁ at left (Err k)
     ands-fault = joined-fails ts t t₁ at left (and-sign (get_or ts at 0) s) a
 
-    pub ands-more : (t₂ t₃ : List ℕ) {n root : ℕ} (r' : Read) → r ≡ Next n root → Wrote t₁ t₂ (root + 1) node.both 0 left 0 → AndsRead ts t₂ t₃ n (root + 1) r' → AndsRead ts t t₃ at left r'
+    pub ands-more : (t₂ t₃ : List ℕ) {n root : ℕ} (r' : Read) → r ≡ Ok (n, root) → Wrote t₁ t₂ (root + 1) node.both 0 left 0 → AndsRead ts t₂ t₃ n (root + 1) r' → AndsRead ts t t₃ at left r'
     ands-more t₂ t₃ r' = joined-grows ts t t₁ at left (and-sign (get_or ts at 0) s) a wide_test cond-interval t₂ t₃ r'
 
 module _ (ts t t₁ : List ℕ) (at used : ℕ) {r : Read} where
-  pub conjunction-fault : {k : ℕ} → r ≡ Fault k → Tested ts t t₁ at used r → Conjunction ts t t₁ at used (Fault k)
+  pub conjunction-fault : {k : ℕ} → r ≡ Err k → Tested ts t t₁ at used r → Conjunction ts t t₁ at used (Err k)
   conjunction-fault = first-fails a_test (Ands' ∷ []) flat_test _ flat_conjunction _ ts t t₁ at used
 
-  pub conjunction-made : (t₂ : List ℕ) {n root : ℕ} (r' : Read) → r ≡ Next n root → Tested ts t t₁ at used r → AndsRead ts t₁ t₂ n root r' → Conjunction ts t t₂ at used r'
+  pub conjunction-made : (t₂ : List ℕ) {n root : ℕ} (r' : Read) → r ≡ Ok (n, root) → Tested ts t t₁ at used r → AndsRead ts t₁ t₂ n root r' → Conjunction ts t t₂ at used r'
   unfolding flat_conjunction conjunction_at
   conjunction-made t₂ {n} r' = first-grows a_test (Ands' ∷ []) flat_test flat_ands flat_conjunction wide_test Table.Cond _ (λ x z. ands_at x z n) (λ x. test_at x at) (λ x z. (x, z)) (λ x z us. refl) ts t t₁ t₂ at used (λ x z s lo k q h. rw q at h) r'
 
@@ -181,22 +180,22 @@ unfolding table rows_of find flat_ors flat_conjunction ors_at Table.Cond
 or-sign k e = rw e (record { more = λ p. Grammar.either p.0 p.1; binary = Syntax.either; present = omega arith; row = refl; text = λ a w us. refl; grows = λ z a w i. refl; shows = λ z v s lo i h. h })
 
 module _ (ts t : List ℕ) (at left : ℕ) where
-  pub ors-none : at ≤ length ts → (get_or ts at 0 ≡ kind.bar → ⊥) → OrsRead ts t t at left (Next at left)
+  pub ors-none : at ≤ length ts → (get_or ts at 0 ≡ kind.bar → ⊥) → OrsRead ts t t at left (Ok (at, left))
   unfolding place Extended table rows_of is_may flat_ors ors_at
   ors-none h n = (passes ts at Ors' h refl (n, tt), record { tree = Grammar.no_ors; span = span_none h; shown = λ l x lo p. p })
 
   module _ (t₁ : List ℕ) {r : Read} (s : get_or ts at 0 ≡ kind.bar) (a : Conjunction ts t t₁ (at + 1) (left + 1) r) where
-    pub ors-fault : {k : ℕ} → r ≡ Fault k → OrsRead ts t t₁ at left (Fault k)
+    pub ors-fault : {k : ℕ} → r ≡ Err k → OrsRead ts t t₁ at left (Err k)
     ors-fault = joined-fails ts t t₁ at left (or-sign (get_or ts at 0) s) a
 
-    pub ors-more : (t₂ t₃ : List ℕ) {n root : ℕ} (r' : Read) → r ≡ Next n root → Wrote t₁ t₂ (root + 1) node.either 0 left 0 → OrsRead ts t₂ t₃ n (root + 1) r' → OrsRead ts t t₃ at left r'
+    pub ors-more : (t₂ t₃ : List ℕ) {n root : ℕ} (r' : Read) → r ≡ Ok (n, root) → Wrote t₁ t₂ (root + 1) node.either 0 left 0 → OrsRead ts t₂ t₃ n (root + 1) r' → OrsRead ts t t₃ at left r'
     unfolding flat_conjunction
     ors-more t₂ t₃ r' = joined-grows ts t t₁ at left (or-sign (get_or ts at 0) s) a (λ p. wide-conjunction p.0 p.1) cond-interval t₂ t₃ r'
 
 module _ (ts t t₁ : List ℕ) (at used : ℕ) {r : Read} where
-  pub condition-fault : {k : ℕ} → r ≡ Fault k → Conjunction ts t t₁ at used r → Condition ts t t₁ at used (Fault k)
+  pub condition-fault : {k : ℕ} → r ≡ Err k → Conjunction ts t t₁ at used r → Condition ts t t₁ at used (Err k)
   condition-fault = first-fails (a_test ++ Ands' ∷ []) (Ors' ∷ []) flat_conjunction _ flat_cond _ ts t t₁ at used
 
-  pub condition-made : (t₂ : List ℕ) {n root : ℕ} (r' : Read) → r ≡ Next n root → Conjunction ts t t₁ at used r → OrsRead ts t₁ t₂ n root r' → Condition ts t t₂ at used r'
+  pub condition-made : (t₂ : List ℕ) {n root : ℕ} (r' : Read) → r ≡ Ok (n, root) → Conjunction ts t t₁ at used r → OrsRead ts t₁ t₂ n root r' → Condition ts t t₂ at used r'
   unfolding flat_conjunction flat_cond cond_at
   condition-made t₂ {n} r' = first-grows (a_test ++ Ands' ∷ []) (Ors' ∷ []) flat_conjunction flat_ors flat_cond (λ p. wide-conjunction p.0 p.1) Table.Cond _ (λ x z. ors_at x z n) (λ p. conjunction_at p.0 p.1 at) (λ p. Grammar.cond p.0 p.1) (λ x z us. refl) ts t t₁ t₂ at used (λ x z s lo k q h. rw q at h) r'

@@ -5,6 +5,7 @@ use mathlib.Core.List.{List, [], ◌∷◌, ◌++◌}
 use Prim.Native.Nat.{ℕ, ◌+◌, ◌≤◌, ◌<◌}
 use native.Mathlib.Omega.{arith}
 use lib.ListN.{length, get_or}
+use Rattle.std.specs.Prelude.{Err, Ok}
 use Rattle.token.specs.Kind as kind
 use Rattle.grammar.specs.Grammar
 use Rattle.grammar.specs.Grammar.{flat_values, flat_sets, flat_names, flat_channel, flat_action}
@@ -14,11 +15,9 @@ use Rattle.grammar.specs.Syntax
 use Rattle.grammar.specs.Syntax.{wide, channel_at, values_at, sets_at, names_at, action_at}
 use Rattle.grammar.proofs.Follows.{join, fails, takes, passes, sticks}
 use Rattle.grammar.proofs.Wide.{wide-channel, wide-sets}
-use Rattle.tree.specs.declared.Read.{Read}
-use Rattle.tree.specs.declared.Read.TheVariants.{Next, Fault}
 use Rattle.tree.specs.Node as node
 use Rattle.tree.specs.Table
-use Rattle.tree.specs.Reading.{place, Ready, Span, Made, Grown, Parsed, Extended}
+use Rattle.tree.specs.Reading.{place, Ready, Span, Made, Grown, Parsed, Extended, Read}
 use Rattle.tree.proofs.Interval.{stays}
 use Rattle.tree.proofs.Holds.{channel-interval, values-interval, sets-interval}
 use Rattle.tree.proofs.Spans.{span-token, ◌then◌, span-as, Wrote, span-wrote, span-place, ready-after, ready-token, seen-later, seen-two, next-at, fault-at, made_of, fault-size, extended-as, parsed-grown, made-grown}
@@ -55,11 +54,11 @@ Acts x ts t t' at = Answers x flat_action (λ s a. Table.Action s (action_at a a
 -- ---- values that are sent
 
 module _ (form : ℕ) (ts t t₁ : List ℕ) (at left : ℕ) {r : Read} (a : Values ts t t₁ (at + 1) (left + 1) r) where
-  pub sending-fault : {k : ℕ} → r ≡ Fault k → Sending form ts t t₁ at left (Fault k)
+  pub sending-fault : {k : ℕ} → r ≡ Err k → Sending form ts t t₁ at left (Err k)
   unfolding place Extended
   sending-fault e = (fault-at e a.0, fault-size _ _ ts t t₁ (at + 1) (left + 1) e a.1)
 
-  pub sending-node : {n root : ℕ} {t₂ : List ℕ} → 0 < get_or ts at 0 → r ≡ Next n root → Wrote t₁ t₂ (root + 1) form 0 left 0 → Sending form ts t t₂ at left (Next n (root + 1))
+  pub sending-node : {n root : ℕ} {t₂ : List ℕ} → 0 < get_or ts at 0 → r ≡ Ok (n, root) → Wrote t₁ t₂ (root + 1) form 0 left 0 → Sending form ts t t₂ at left (Ok (n, root + 1))
   unfolding place Extended flat_sent Sent
   sending-node {n} h e w =
       let m = made_of e a.1 in (
@@ -77,12 +76,12 @@ names-span : {ts t : List ℕ} {at close n count used : ℕ} (l : Listed ts at c
 names-span l = record { text = l.text; onward = omega (arith, l.fewer); within = l.within; more = omega arith; fewer = omega (arith, l.fewer); kept = λ i h. refl; size = refl }
 
 module _ (form : ℕ) (ts t t₁ : List ℕ) (at left : ℕ) {r : Read} (a : Sets ts t t₁ (at + 1) (left + 1) r) where
-  pub receiving-fault : {k : ℕ} → r ≡ Fault k → Receiving form ts t t₁ at left (Fault k)
+  pub receiving-fault : {k : ℕ} → r ≡ Err k → Receiving form ts t t₁ at left (Err k)
   unfolding place Extended
   receiving-fault {k} e = (fails ts (at + 1) k the_sets _ (fault-at e a.0), fault-size _ _ ts t t₁ (at + 1) (left + 1) e a.1)
 
-  module _ {n root : ℕ} (e : r ≡ Next n root) where
-    pub receiving-plain : {t₂ : List ℕ} → 0 < get_or ts at 0 → (get_or ts n 0 ≡ kind.open_round → ⊥) → Wrote t₁ t₂ (root + 1) form 0 left 0 → Receiving form ts t t₂ at left (Next n (root + 1))
+  module _ {n root : ℕ} (e : r ≡ Ok (n, root)) where
+    pub receiving-plain : {t₂ : List ℕ} → 0 < get_or ts at 0 → (get_or ts n 0 ≡ kind.open_round → ⊥) → Wrote t₁ t₂ (root + 1) form 0 left 0 → Receiving form ts t t₂ at left (Ok (n, root + 1))
     unfolding place Extended flat_heard HeardOn table rows_of is_may
     receiving-plain h q w =
         let m = made_of e a.1 in (
@@ -95,14 +94,14 @@ module _ (form : ℕ) (ts t t₁ : List ℕ) (at left : ℕ) {r : Read} (a : Set
         )
 
     module _ (q : get_or ts n 0 ≡ kind.open_round) {r' : Read} (b : Names kind.close_round ts (n + 1) r') where
-      pub receiving-unnamed : {k : ℕ} → r' ≡ Fault k → Receiving form ts t t₁ at left (Fault k)
+      pub receiving-unnamed : {k : ℕ} → r' ≡ Err k → Receiving form ts t t₁ at left (Err k)
       unfolding place Extended table rows_of find
       receiving-unnamed d = (
         onward the_sets _ (next-at e a.0) (λ l. takes ts n BoundNames kind.open_round q (omega arith) refl (λ i. fault-at d b.0)),
         (made_of e a.1).span.size,
       )
 
-      pub receiving-named : {m count : ℕ} {t₂ : List ℕ} → 0 < get_or ts at 0 → r' ≡ Next m count → Wrote t₁ t₂ (root + 1) (form + 1) (n + 1) left count → Receiving form ts t t₂ at left (Next m (root + 1))
+      pub receiving-named : {m count : ℕ} {t₂ : List ℕ} → 0 < get_or ts at 0 → r' ≡ Ok (m, count) → Wrote t₁ t₂ (root + 1) (form + 1) (n + 1) left count → Receiving form ts t t₂ at left (Ok (m, root + 1))
       unfolding place Extended flat_heard HeardOn table rows_of find
       receiving-named {t₂ = t₂} h d w =
           let p = made_of e a.1 in
@@ -130,35 +129,35 @@ checks : (ts : List ℕ) (at : ℕ) → get_or ts at 0 ≡ kind.tilde → (r : R
 checks ts at o r f = wants ts at _ kind.tilde o (omega arith) (λ l. f)
 
 module _ (ts t t₁ : List ℕ) (at used : ℕ) (o : get_or ts at 0 ≡ kind.tilde) {r : Read} (a : Channel ts t t₁ (at + 1) used r) where
-  pub check-fault : {k : ℕ} → r ≡ Fault k → Acts checked ts t t₁ at used (Fault k)
+  pub check-fault : {k : ℕ} → r ≡ Err k → Acts checked ts t t₁ at used (Err k)
   unfolding place Parsed
-  check-fault {k} e = (checks ts at o (Fault k) (fails ts (at + 1) k a_channel _ (fault-at e a.0)), fault-size _ _ ts t t₁ (at + 1) used e a.1)
+  check-fault {k} e = (checks ts at o (Err k) (fails ts (at + 1) k a_channel _ (fault-at e a.0)), fault-size _ _ ts t t₁ (at + 1) used e a.1)
 
-  module _ {n left : ℕ} (e : r ≡ Next n left) where
-    pub check-stray : (get_or ts n 0 ≡ kind.query → ⊥) → Acts checked ts t t₁ at used (Fault n)
+  module _ {n left : ℕ} (e : r ≡ Ok (n, left)) where
+    pub check-stray : (get_or ts n 0 ≡ kind.query → ⊥) → Acts checked ts t t₁ at used (Err n)
     unfolding place Parsed
-    check-stray q = (checks ts at o (Fault n) (onward a_channel _ (next-at e a.0) (λ l. lacks ts n the_sets kind.query l q)), (made_of e a.1).span.size)
+    check-stray q = (checks ts at o (Err n) (onward a_channel _ (next-at e a.0) (λ l. lacks ts n the_sets kind.query l q)), (made_of e a.1).span.size)
 
     module _ (q : get_or ts n 0 ≡ kind.query) where
       pub check-ready : Ready ts at used → Ready ts (n + 1) (left + 1)
       check-ready h = ready-token (ready-after (ready-token h (omega arith)) (made_of e a.1).span) (omega arith)
 
       module _ (t₂ : List ℕ) {r' : Read} (b : Sets ts t₁ t₂ (n + 1) (left + 1) r') where
-        pub check-unset : {k : ℕ} → r' ≡ Fault k → Acts checked ts t t₂ at used (Fault k)
+        pub check-unset : {k : ℕ} → r' ≡ Err k → Acts checked ts t t₂ at used (Err k)
         unfolding place Parsed
         check-unset {k} d = (
-          checks ts at o (Fault k) (onward a_channel _ (next-at e a.0) (λ l. wants ts n the_sets kind.query q (omega arith) (λ i. fault-at d b.0))),
+          checks ts at o (Err k) (onward a_channel _ (next-at e a.0) (λ l. wants ts n the_sets kind.query q (omega arith) (λ i. fault-at d b.0))),
           fault-size _ _ ts t₁ t₂ (n + 1) (left + 1) d b.1 ∙ (made_of e a.1).span.size,
         )
 
-        pub check-node : {m right : ℕ} {t₃ : List ℕ} → r' ≡ Next m right → Wrote t₂ t₃ (right + 1) node.check 0 left 0 → Acts checked ts t t₃ at used (Next m (right + 1))
+        pub check-node : {m right : ℕ} {t₃ : List ℕ} → r' ≡ Ok (m, right) → Wrote t₂ t₃ (right + 1) node.check 0 left 0 → Acts checked ts t t₃ at used (Ok (m, right + 1))
         unfolding place Parsed flat_action action_at Table.Action
         check-node {m} {right} {t₃} d w =
             let p = made_of e a.1 in
             let s = made_of d b.1 in
             let k = span-place (wide-channel p.tree) p.span in
             let parts = span-token kind.tilde o (omega arith) then p.span then span-token kind.query q (omega arith) then s.span in (
-              checks ts at o (Next m (right + 1)) (onward a_channel _ (next-at e a.0) (λ l. wants ts n the_sets kind.query q (omega arith) (λ i. next-at d b.0))),
+              checks ts at o (Ok (m, right + 1)) (onward a_channel _ (next-at e a.0) (λ l. wants ts n the_sets kind.query q (omega arith) (λ i. next-at d b.0))),
               record {
                 tree = Grammar.check p.tree s.tree;
                 span = span-wrote w parts (omega (arith, p.span.fewer, s.span.fewer));
@@ -201,7 +200,7 @@ heard-shown c (plain v) at s lo k x = x
 heard-shown c (binding v n) at s lo k x = x
 
 module _ (ts t : List ℕ) (at left : ℕ) where
-  pub deed-stray : at ≤ length ts → (get_or ts at 0 ≡ kind.bang → ⊥) → (get_or ts at 0 ≡ kind.hash → ⊥) → (get_or ts at 0 ≡ kind.query → ⊥) → Deeds ts t t at left (Fault at)
+  pub deed-stray : at ≤ length ts → (get_or ts at 0 ≡ kind.bang → ⊥) → (get_or ts at 0 ≡ kind.hash → ⊥) → (get_or ts at 0 ≡ kind.query → ⊥) → Deeds ts t t at left (Err at)
   unfolding place Extended table rows_of is_may
   deed-stray h x y z = (sticks ts at ChannelEnd h refl (x, (y, (z, tt))), refl)
 
@@ -250,11 +249,11 @@ action-at c (hearing (plain s)) at = refl
 action-at c (hearing (binding s n)) at = refl
 
 module _ (ts t t₁ : List ℕ) (at used : ℕ) {r : Read} (a : Channel ts t t₁ at used r) where
-  pub beacon-fault : {k : ℕ} → r ≡ Fault k → Acts (a_channel ++ ChannelEnd ∷ []) ts t t₁ at used (Fault k)
+  pub beacon-fault : {k : ℕ} → r ≡ Err k → Acts (a_channel ++ ChannelEnd ∷ []) ts t t₁ at used (Err k)
   unfolding place Parsed
   beacon-fault {k} e = (fails ts at k a_channel _ (fault-at e a.0), fault-size _ _ ts t t₁ at used e a.1)
 
-  pub beacon-made : {n left : ℕ} (t₂ : List ℕ) (r' : Read) → r ≡ Next n left → Deeds ts t₁ t₂ n left r' → Acts (a_channel ++ ChannelEnd ∷ []) ts t t₂ at used r'
+  pub beacon-made : {n left : ℕ} (t₂ : List ℕ) (r' : Read) → r ≡ Ok (n, left) → Deeds ts t₁ t₂ n left r' → Acts (a_channel ++ ChannelEnd ∷ []) ts t t₂ at used r'
   beacon-made {n} t₂ r' e b =
       let p = made_of e a.1 in (
         join ts at n a_channel (ChannelEnd ∷ []) (next-at e a.0) b.0,
@@ -272,17 +271,14 @@ shakes : (ts : List ℕ) (at : ℕ) → get_or ts at 0 ≡ kind.at → (r : Read
 shakes ts at o r f = wants ts at _ kind.at o (omega arith) (λ l. f)
 
 module _ (ts t t₁ : List ℕ) (at used : ℕ) (o : get_or ts at 0 ≡ kind.at) {r : Read} (a : Channel ts t t₁ (at + 1) used r) where
-  pub hand-fault : {k : ℕ} → r ≡ Fault k → Acts shaken ts t t₁ at used (Fault k)
+  pub hand-fault : {k : ℕ} → r ≡ Err k → Acts shaken ts t t₁ at used (Err k)
   unfolding place Parsed
-  hand-fault {k} e = (shakes ts at o (Fault k) (fails ts (at + 1) k a_channel _ (fault-at e a.0)), fault-size _ _ ts t t₁ (at + 1) used e a.1)
+  hand-fault {k} e = (shakes ts at o (Err k) (fails ts (at + 1) k a_channel _ (fault-at e a.0)), fault-size _ _ ts t t₁ (at + 1) used e a.1)
 
-  module _ {n left : ℕ} (e : r ≡ Next n left) where
-    pub hand-stray : (get_or ts n 0 ≡ kind.bang → ⊥) → (get_or ts n 0 ≡ kind.query → ⊥) → Acts shaken ts t t₁ at used (Fault n)
+  module _ {n left : ℕ} (e : r ≡ Ok (n, left)) where
+    pub hand-stray : (get_or ts n 0 ≡ kind.bang → ⊥) → (get_or ts n 0 ≡ kind.query → ⊥) → Acts shaken ts t t₁ at used (Err n)
     unfolding place Parsed table rows_of is_may
-    hand-stray x z = (shakes ts at o (Fault n) (onward a_channel _ (next-at e a.0) (λ l. sticks ts n HandEnd l refl (x, (z, tt)))), (made_of e a.1).span.size)
-
-    pub hand-ready : Ready ts at used → Ready ts n (left + 1)
-    hand-ready h = ready-after (ready-token h (omega arith)) (made_of e a.1).span
+    hand-stray x z = (shakes ts at o (Err n) (onward a_channel _ (next-at e a.0) (λ l. sticks ts n HandEnd l refl (x, (z, tt)))), (made_of e a.1).span.size)
 
     module _ (t₂ : List ℕ) (r' : Read) where
       pub hand-send : get_or ts n 0 ≡ kind.bang → Sending node.hand_send ts t₁ t₂ n left r' → Acts shaken ts t t₂ at used r'

@@ -5,6 +5,7 @@ use mathlib.Core.Bool.{true}
 use Prim.Native.Nat.{ℕ, ◌+◌, ◌≤◌}
 use native.Mathlib.Omega.{arith}
 use lib.ListN.{length, get_or}
+use Rattle.std.specs.Prelude.{Err, Ok}
 use Rattle.token.specs.Kind as kind
 use Rattle.grammar.specs.Grammar
 use Rattle.grammar.specs.Grammar.{flat_expr, flat_set, flat_values, flat_sets}
@@ -14,12 +15,10 @@ use Rattle.grammar.specs.Syntax.{wide, expr_at, set_at, values_at, sets_at}
 use Rattle.grammar.proofs.Steps.{Misses}
 use Rattle.grammar.proofs.Follows.{here, fails}
 use Rattle.grammar.proofs.Prepends.{Prepends}
-use Rattle.tree.specs.declared.Read.{Read}
-use Rattle.tree.specs.declared.Read.TheVariants.{Next, Fault}
 use Rattle.tree.specs.Node as node
 use Rattle.tree.specs.Table
 use Rattle.tree.specs.Table.{Two}
-use Rattle.tree.specs.Reading.{place, Ready, Parsed}
+use Rattle.tree.specs.Reading.{place, Ready, Parsed, Read}
 use Rattle.tree.proofs.Interval.{Interval}
 use Rattle.tree.proofs.Spans.{span-token, ◌then◌, span-as, Wrote, span-wrote, span-place, ready-after, ready-token, seen-later, seen-two, next-at, fault-at, made_of, fault-size}
 use Rattle.syntax.proofs.Answers.{Answers}
@@ -77,24 +76,24 @@ module _ {A B X : Type 0} {x : List Sym} {second : Sym} {flat_a : A → List ℕ
   abbrev Part : List ℕ → List ℕ → ℕ → ℕ → Read → Type 0
   Part t₁ t₂ k low r = Answers x flat_a (λ s a. part s (part_at a k)) ts t₁ t₂ k low r
 
-  pub brackets-stray : at ≤ length ts → (get_or ts at 0 ≡ kind.open_square → ⊥) → Enclosed t (Fault at)
+  pub brackets-stray : at ≤ length ts → (get_or ts at 0 ≡ kind.open_square → ⊥) → Enclosed t (Err at)
   unfolding place Parsed
   brackets-stray h n = (lacks ts at (x ++ end) kind.open_square h n, refl)
 
   module _ (o : get_or ts at 0 ≡ kind.open_square) (t₁ : List ℕ) {r : Read} (a : Part t t₁ (at + 1) used r) where
-    pub brackets-fault : {k : ℕ} → r ≡ Fault k → Enclosed t₁ (Fault k)
+    pub brackets-fault : {k : ℕ} → r ≡ Err k → Enclosed t₁ (Err k)
     unfolding place Parsed
     brackets-fault {k} e = (
       wants ts at (x ++ end) kind.open_square o (omega arith) (λ l. fails ts (at + 1) k x end (fault-at e a.0)),
       fault-size _ _ ts t t₁ (at + 1) used e a.1,
     )
 
-    module _ {n left : ℕ} (e : r ≡ Next n left) where
+    module _ {n left : ℕ} (e : r ≡ Ok (n, left)) where
       -- the token after the first part is no comma
       misses : (get_or ts n 0 ≡ kind.comma → ⊥) → Misses (get_or ts n 0) (rows second)
       misses m = rw j.row (m, tt)
 
-      pub brackets-one : get_or ts n 0 ≡ kind.close_square → Enclosed t₁ (Next (n + 1) left)
+      pub brackets-one : get_or ts n 0 ≡ kind.close_square → Enclosed t₁ (Ok (n + 1, left))
       unfolding place Parsed
       brackets-one q =
           let m = made_of e a.1 in (
@@ -106,7 +105,7 @@ module _ {A B X : Type 0} {x : List Sym} {second : Sym} {flat_a : A → List ℕ
             },
           )
 
-      pub brackets-open : (get_or ts n 0 ≡ kind.close_square → ⊥) → (get_or ts n 0 ≡ kind.comma → ⊥) → Enclosed t₁ (Fault n)
+      pub brackets-open : (get_or ts n 0 ≡ kind.close_square → ⊥) → (get_or ts n 0 ≡ kind.comma → ⊥) → Enclosed t₁ (Err n)
       unfolding place Parsed
       brackets-open q c = (
         wants ts at (x ++ end) kind.open_square o (omega arith) (λ l. onward x end (next-at e a.0) (λ h. past ts n _ second h j.may (misses c) (lacks ts n [] kind.close_square h q))),
@@ -122,29 +121,29 @@ module _ {A B X : Type 0} {x : List Sym} {second : Sym} {flat_a : A → List ℕ
       second-part c r' f = wants ts at (x ++ end) kind.open_square o (omega arith) (λ l. onward x end (next-at e a.0) (λ h. taken ts n _ second kind.comma c (omega arith) (ap (find kind.comma) j.row) (λ i. f)))
 
       module _ (c : get_or ts n 0 ≡ kind.comma) (t₂ : List ℕ) {r' : Read} (b : Part t₁ t₂ (n + 1) (left + 1) r') where
-        pub brackets-fault-second : {k : ℕ} → r' ≡ Fault k → Enclosed t₂ (Fault k)
+        pub brackets-fault-second : {k : ℕ} → r' ≡ Err k → Enclosed t₂ (Err k)
         unfolding place Parsed
         brackets-fault-second {k} q = (
-          second-part c (Fault k) (fails ts (n + 1) k x (Want kind.close_square ∷ []) (fault-at q b.0)),
+          second-part c (Err k) (fails ts (n + 1) k x (Want kind.close_square ∷ []) (fault-at q b.0)),
           fault-size _ _ ts t₁ t₂ (n + 1) (left + 1) q b.1 ∙ (made_of e a.1).span.size,
         )
 
-        module _ {m right : ℕ} (q : r' ≡ Next m right) where
-          pub brackets-open-second : (get_or ts m 0 ≡ kind.close_square → ⊥) → Enclosed t₂ (Fault m)
+        module _ {m right : ℕ} (q : r' ≡ Ok (m, right)) where
+          pub brackets-open-second : (get_or ts m 0 ≡ kind.close_square → ⊥) → Enclosed t₂ (Err m)
           unfolding place Parsed
           brackets-open-second d = (
-            second-part c (Fault m) (onward x _ (next-at q b.0) (λ h. lacks ts m [] kind.close_square h d)),
+            second-part c (Err m) (onward x _ (next-at q b.0) (λ h. lacks ts m [] kind.close_square h d)),
             (made_of q b.1).span.size ∙ (made_of e a.1).span.size,
           )
 
-          pub brackets-two : {u v : ℕ} {width : A → ℕ} → ((z : A) → Prepends (flat_a z) (width z)) → ((z : X) → Interval u v (λ s. part s z)) → {t₃ : List ℕ} → get_or ts m 0 ≡ kind.close_square → Wrote t₂ t₃ (right + 1) node.pair 0 left 0 → Enclosed t₃ (Next (m + 1) (right + 1))
+          pub brackets-two : {u v : ℕ} {width : A → ℕ} → ((z : A) → Prepends (flat_a z) (width z)) → ((z : X) → Interval u v (λ s. part s z)) → {t₃ : List ℕ} → get_or ts m 0 ≡ kind.close_square → Wrote t₂ t₃ (right + 1) node.pair 0 left 0 → Enclosed t₃ (Ok (m + 1, right + 1))
           unfolding place Parsed
           brackets-two wide-part interval {t₃} d w =
               let p = made_of e a.1 in
               let s = made_of q b.1 in
               let k = span-place (wide-part p.tree) p.span in
               let parts = span-token kind.open_square o (omega arith) then p.span then span-token kind.comma c (omega arith) then s.span then span-token kind.close_square d (omega arith) in (
-                second-part c (Next (m + 1) (right + 1)) (onward x _ (next-at q b.0) (λ h. wants ts m [] kind.close_square d (omega arith) (λ i. here ts (m + 1) i))),
+                second-part c (Ok (m + 1, right + 1)) (onward x _ (next-at q b.0) (λ h. wants ts m [] kind.close_square d (omega arith) (λ i. here ts (m + 1) i))),
                 record {
                   tree = j.two p.tree s.tree;
                   span = span-as (j.text-two p.tree s.tree) (span-wrote w parts (omega (arith, p.span.fewer, s.span.fewer)));

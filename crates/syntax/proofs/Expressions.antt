@@ -8,6 +8,7 @@ use Prim.Native.Nat.{ℕ, ◌+◌, ◌≤◌, ◌<◌}
 use native.Mathlib.Omega.{arith}
 use borrow.Author.Tests.{ne_eqb}
 use lib.ListN.{length, get_or}
+use Rattle.std.specs.Prelude.{Err, Ok}
 use Rattle.token.specs.Kind as kind
 use Rattle.grammar.specs.Grammar
 use Rattle.grammar.specs.Grammar.{flat_whole, flat_atom, flat_term, flat_factors, flat_expr, flat_terms}
@@ -17,12 +18,10 @@ use Rattle.grammar.specs.Syntax
 use Rattle.grammar.specs.Syntax.{wide, literal_at, atom_at, term_at, factors_at, expr_at, terms_at}
 use Rattle.grammar.proofs.Follows.{here, like, join, fails, takes, passes, sticks, wanted, unwanted}
 use Rattle.grammar.proofs.Wide.{wide-expr, wide-term, wide-atom}
-use Rattle.tree.specs.declared.Read.{Read}
-use Rattle.tree.specs.declared.Read.TheVariants.{Next, Fault}
 use Rattle.tree.specs.Node as node
 use Rattle.tree.specs.Node.{op_kind}
 use Rattle.tree.specs.Table
-use Rattle.tree.specs.Reading.{place, Parsed, Extended}
+use Rattle.tree.specs.Reading.{place, Parsed, Extended, Read}
 use Rattle.tree.proofs.Holds.{expr-interval}
 use Rattle.tree.proofs.Spans.{span_none, span-token, ◌then◌, span-as, Wrote, span-wrote, span-place, seen-later, seen-leaf, seen_one, seen-two, next-at, fault-at, made_of, parsed-as, fault-size}
 use Rattle.syntax.specs.Signs.{sum_signs, product_signs}
@@ -62,22 +61,22 @@ Terms ts t t' at = Continues (Terms' ∷ []) flat_terms (λ x z. terms_at x z at
 -- ---- a literal
 
 module _ (ts t : List ℕ) (at used : ℕ) where
-  pub literal-whole : {t' : List ℕ} → get_or ts at 0 ≡ kind.whole → Wrote t t' used node.literal at 0 0 → Literal ts t t' at used (Next (at + 1) used)
+  pub literal-whole : {t' : List ℕ} → get_or ts at 0 ≡ kind.whole → Wrote t t' used node.literal at 0 0 → Literal ts t t' at used (Ok (at + 1, used))
   unfolding place Parsed table rows_of find flat_whole Table.Expr literal_at
   literal-whole e w = (
     takes ts at Whole' kind.whole e (omega arith) refl (λ l. here ts (at + 1) l),
     record { tree = Grammar.whole; span = span-wrote w (span-token kind.whole e (omega arith)) (omega arith); shown = seen-leaf w },
   )
 
-  pub literal-stray : at ≤ length ts → (get_or ts at 0 ≡ kind.whole → ⊥) → (get_or ts at 0 ≡ kind.minus → ⊥) → Literal ts t t at used (Fault at)
+  pub literal-stray : at ≤ length ts → (get_or ts at 0 ≡ kind.whole → ⊥) → (get_or ts at 0 ≡ kind.minus → ⊥) → Literal ts t t at used (Err at)
   unfolding place Parsed table rows_of is_may
   literal-stray h n m = (sticks ts at Whole' h refl (n, (m, tt)), refl)
 
-  pub literal-short : get_or ts at 0 ≡ kind.minus → (get_or ts (at + 1) 0 ≡ kind.whole → ⊥) → Literal ts t t at used (Fault (at + 1))
+  pub literal-short : get_or ts at 0 ≡ kind.minus → (get_or ts (at + 1) 0 ≡ kind.whole → ⊥) → Literal ts t t at used (Err (at + 1))
   unfolding place Parsed table rows_of find
   literal-short e n = (takes ts at Whole' kind.minus e (omega arith) refl (λ l. unwanted ts (at + 1) kind.whole l n), refl)
 
-  pub literal-negative : {t' : List ℕ} → get_or ts at 0 ≡ kind.minus → get_or ts (at + 1) 0 ≡ kind.whole → Wrote t t' used node.negative (at + 1) 0 0 → Literal ts t t' at used (Next (at + 1 + 1) used)
+  pub literal-negative : {t' : List ℕ} → get_or ts at 0 ≡ kind.minus → get_or ts (at + 1) 0 ≡ kind.whole → Wrote t t' used node.negative (at + 1) 0 0 → Literal ts t t' at used (Ok (at + 1 + 1, used))
   unfolding place Parsed table rows_of find flat_whole Table.Expr literal_at
   literal-negative e d w = (
     takes ts at Whole' kind.minus e (omega arith) refl (λ l. wanted ts (at + 1) kind.whole d (omega arith)),
@@ -87,17 +86,17 @@ module _ (ts t : List ℕ) (at used : ℕ) where
 -- ---- brackets
 
 module _ (ts t t' : List ℕ) (at used : ℕ) {r : Read} (a : Expr ts t t' at used r) where
-  pub bracketed-fault : {k : ℕ} → r ≡ Fault k → Bracketed ts t t' at used (Fault k)
+  pub bracketed-fault : {k : ℕ} → r ≡ Err k → Bracketed ts t t' at used (Err k)
   bracketed-fault e = first-fails an_expr (Want kind.close_round ∷ []) flat_expr _ closed _ ts t t' at used e a
 
-  module _ {n root : ℕ} (e : r ≡ Next n root) where
-    pub bracketed-open : (get_or ts n 0 ≡ kind.close_round → ⊥) → Bracketed ts t t' at used (Fault n)
+  module _ {n root : ℕ} (e : r ≡ Ok (n, root)) where
+    pub bracketed-open : (get_or ts n 0 ≡ kind.close_round → ⊥) → Bracketed ts t t' at used (Err n)
     unfolding place Parsed
     bracketed-open s =
         let m = made_of e a.1 in
         (join ts at n an_expr (Want kind.close_round ∷ []) (next-at e a.0) (unwanted ts n kind.close_round m.span.within s), m.span.size)
 
-    pub bracketed-closed : get_or ts n 0 ≡ kind.close_round → Bracketed ts t t' at used (Next (n + 1) root)
+    pub bracketed-closed : get_or ts n 0 ≡ kind.close_round → Bracketed ts t t' at used (Ok (n + 1, root))
     unfolding place Parsed closed
     bracketed-closed s =
         let m = made_of e a.1 in (
@@ -108,19 +107,19 @@ module _ (ts t t' : List ℕ) (at used : ℕ) {r : Read} (a : Expr ts t t' at us
 -- ---- what `abs`, `max` and `min` have in brackets
 
 module _ (ts t : List ℕ) (at used : ℕ) where
-  pub absolute-stray : at ≤ length ts → (get_or ts at 0 ≡ kind.open_round → ⊥) → Absolute ts t t at used (Fault at)
+  pub absolute-stray : at ≤ length ts → (get_or ts at 0 ≡ kind.open_round → ⊥) → Absolute ts t t at used (Err at)
   unfolding place Parsed
   absolute-stray h n = (fails ts at at (Want kind.open_round ∷ []) (an_expr ++ Want kind.close_round ∷ []) (unwanted ts at kind.open_round h n), refl)
 
   module _ (t' : List ℕ) (o : get_or ts at 0 ≡ kind.open_round) {r : Read} (a : Bracketed ts t t' (at + 1) used r) where
-    pub absolute-fault : {k : ℕ} → r ≡ Fault k → Absolute ts t t' at used (Fault k)
+    pub absolute-fault : {k : ℕ} → r ≡ Err k → Absolute ts t t' at used (Err k)
     unfolding place Parsed
     absolute-fault e = (
       join ts at (at + 1) (Want kind.open_round ∷ []) (an_expr ++ Want kind.close_round ∷ []) (wanted ts at kind.open_round o (omega arith)) (fault-at e a.0),
       fault-size _ _ _ _ _ _ _ e a.1,
     )
 
-    pub absolute-made : {n root : ℕ} {t'' : List ℕ} → r ≡ Next n root → Wrote t' t'' (root + 1) node.absolute 0 0 0 → Absolute ts t t'' at used (Next n (root + 1))
+    pub absolute-made : {n root : ℕ} {t'' : List ℕ} → r ≡ Ok (n, root) → Wrote t' t'' (root + 1) node.absolute 0 0 0 → Absolute ts t t'' at used (Ok (n, root + 1))
     unfolding place Parsed enclosed Table.Expr
     absolute-made e w =
         let m = made_of e a.1 in (
@@ -129,24 +128,24 @@ module _ (ts t : List ℕ) (at used : ℕ) where
         )
 
 module _ (op : ℕ) (ts t : List ℕ) (at used : ℕ) where
-  pub larger-stray : at ≤ length ts → (get_or ts at 0 ≡ kind.open_round → ⊥) → Larger op ts t t at used (Fault at)
+  pub larger-stray : at ≤ length ts → (get_or ts at 0 ≡ kind.open_round → ⊥) → Larger op ts t t at used (Err at)
   unfolding place Parsed
   larger-stray h n = (fails ts at at (Want kind.open_round ∷ []) (an_expr ++ Want kind.comma ∷ an_expr ++ Want kind.close_round ∷ []) (unwanted ts at kind.open_round h n), refl)
 
   module _ (t₁ : List ℕ) (o : get_or ts at 0 ≡ kind.open_round) {r : Read} (a : Expr ts t t₁ (at + 1) used r) where
-    pub larger-fault : {k : ℕ} → r ≡ Fault k → Larger op ts t t₁ at used (Fault k)
+    pub larger-fault : {k : ℕ} → r ≡ Err k → Larger op ts t t₁ at used (Err k)
     unfolding place Parsed
     larger-fault {k} e = (
       join ts at (at + 1) (Want kind.open_round ∷ []) (an_expr ++ Want kind.comma ∷ an_expr ++ Want kind.close_round ∷ []) (wanted ts at kind.open_round o (omega arith)) (fails ts (at + 1) k an_expr (Want kind.comma ∷ an_expr ++ Want kind.close_round ∷ []) (fault-at e a.0)),
       fault-size _ _ _ _ _ _ _ e a.1,
     )
 
-    module _ {n left : ℕ} (e : r ≡ Next n left) where
+    module _ {n left : ℕ} (e : r ≡ Ok (n, left)) where
       -- the bracket and the first part
       begun : Follows ts at (Want kind.open_round ∷ an_expr) (next n)
       begun = join ts at (at + 1) (Want kind.open_round ∷ []) an_expr (wanted ts at kind.open_round o (omega arith)) (next-at e a.0)
 
-      pub larger-comma : (get_or ts n 0 ≡ kind.comma → ⊥) → Larger op ts t t₁ at used (Fault n)
+      pub larger-comma : (get_or ts n 0 ≡ kind.comma → ⊥) → Larger op ts t t₁ at used (Err n)
       unfolding place Parsed
       larger-comma s =
           let m = made_of e a.1 in (
@@ -155,7 +154,7 @@ module _ (op : ℕ) (ts t : List ℕ) (at used : ℕ) where
           )
 
       module _ (t₂ : List ℕ) (s : get_or ts n 0 ≡ kind.comma) {r' : Read} (b : Bracketed ts t₁ t₂ (n + 1) (left + 1) r') where
-        pub larger-second : {k : ℕ} → r' ≡ Fault k → Larger op ts t t₂ at used (Fault k)
+        pub larger-second : {k : ℕ} → r' ≡ Err k → Larger op ts t t₂ at used (Err k)
         unfolding place Parsed
         larger-second d =
             let m = made_of e a.1 in (
@@ -163,7 +162,7 @@ module _ (op : ℕ) (ts t : List ℕ) (at used : ℕ) where
               fault-size _ _ _ _ _ _ _ d b.1 ∙ m.span.size,
             )
 
-        pub larger-made : {i root : ℕ} {t₃ : List ℕ} → r' ≡ Next i root → Wrote t₂ t₃ (root + 1) op 0 left 0 → Larger op ts t t₃ at used (Next i (root + 1))
+        pub larger-made : {i root : ℕ} {t₃ : List ℕ} → r' ≡ Ok (i, root) → Wrote t₂ t₃ (root + 1) op 0 left 0 → Larger op ts t t₃ at used (Ok (i, root + 1))
         unfolding place Parsed enclosed_two HoldsTwo
         larger-made {i} {root} {t₃} d w =
             let m = made_of e a.1 in
@@ -185,7 +184,7 @@ unfolding step onto find table rows_of is_may
 other_step k a b c d e s = simp (ne_eqb k kind.name a, ne_eqb k kind.open_round b, ne_eqb k kind.absolute c, ne_eqb k kind.maximum d, ne_eqb k kind.minimum e)
 
 module _ (ts t t' : List ℕ) (at used : ℕ) where
-  pub atom-name : get_or ts at 0 ≡ kind.name → Wrote t t' used node.named at 0 0 → Atom ts t t' at used (Next (at + 1) used)
+  pub atom-name : get_or ts at 0 ≡ kind.name → Wrote t t' used node.named at 0 0 → Atom ts t t' at used (Ok (at + 1, used))
   unfolding place Parsed table rows_of find flat_atom Table.Expr atom_at
   atom-name e w = (
     takes ts at Atom' kind.name e (omega arith) refl (λ l. here ts (at + 1) l),
@@ -235,18 +234,18 @@ module _ (ts t t' : List ℕ) (at used : ℕ) where
 -- ---- terms and expressions
 
 module _ (ts t t₁ : List ℕ) (at used : ℕ) {r : Read} where
-  pub term-fault : {k : ℕ} → r ≡ Fault k → Atom ts t t₁ at used r → Term ts t t₁ at used (Fault k)
+  pub term-fault : {k : ℕ} → r ≡ Err k → Atom ts t t₁ at used r → Term ts t t₁ at used (Err k)
   term-fault = first-fails (Atom' ∷ []) (Factors' ∷ []) flat_atom _ flat_term _ ts t t₁ at used
 
-  pub expr-fault : {k : ℕ} → r ≡ Fault k → Term ts t t₁ at used r → Expr ts t t₁ at used (Fault k)
+  pub expr-fault : {k : ℕ} → r ≡ Err k → Term ts t t₁ at used r → Expr ts t t₁ at used (Err k)
   expr-fault = first-fails a_term (Terms' ∷ []) flat_term _ flat_expr _ ts t t₁ at used
 
   module _ (t₂ : List ℕ) {n root : ℕ} (r' : Read) where
-    pub term_made : r ≡ Next n root → Atom ts t t₁ at used r → Factors ts t₁ t₂ n root r' → Term ts t t₂ at used r'
+    pub term_made : r ≡ Ok (n, root) → Atom ts t t₁ at used r → Factors ts t₁ t₂ n root r' → Term ts t t₂ at used r'
     unfolding flat_term term_at
     term_made = first-grows (Atom' ∷ []) (Factors' ∷ []) flat_atom flat_factors flat_term wide-atom Table.Expr _ (λ x z. factors_at x z n) (λ x. atom_at x at) Grammar.product (λ x z us. refl) ts t t₁ t₂ at used (λ x z s lo k q h. rw q at h) r'
 
-    pub expr-made : r ≡ Next n root → Term ts t t₁ at used r → Terms ts t₁ t₂ n root r' → Expr ts t t₂ at used r'
+    pub expr-made : r ≡ Ok (n, root) → Term ts t t₁ at used r → Terms ts t₁ t₂ n root r' → Expr ts t t₂ at used r'
     unfolding flat_expr expr_at
     expr-made = first-grows a_term (Terms' ∷ []) flat_term flat_terms flat_expr wide-term Table.Expr _ (λ x z. terms_at x z n) (λ x. term_at x at) Grammar.sum (λ x z us. refl) ts t t₁ t₂ at used (λ x z s lo k q h. rw q at h) r'
 
@@ -285,24 +284,24 @@ term-sign k op (inr (inl s)) = rw (s.0, s.1) minus-sign
 term-sign k op (inr (inr z)) = absurd z
 
 module _ (ts t : List ℕ) (at left : ℕ) where
-  pub factors-none : at ≤ length ts → Apart (get_or ts at 0) product_signs → Factors ts t t at left (Next at left)
+  pub factors-none : at ≤ length ts → Apart (get_or ts at 0) product_signs → Factors ts t t at left (Ok (at, left))
   unfolding place Extended table rows_of is_may flat_factors factors_at
   factors-none h n = (passes ts at Factors' h refl n, record { tree = Grammar.no_factors; span = span_none h; shown = λ l x lo p. p })
 
-  pub terms-none : at ≤ length ts → Apart (get_or ts at 0) sum_signs → Terms ts t t at left (Next at left)
+  pub terms-none : at ≤ length ts → Apart (get_or ts at 0) sum_signs → Terms ts t t at left (Ok (at, left))
   unfolding place Extended table rows_of is_may flat_terms terms_at
   terms-none h n = (passes ts at Terms' h refl n, record { tree = Grammar.no_terms; span = span_none h; shown = λ l x lo p. p })
 
   module _ (t₁ : List ℕ) {r : Read} (op : ℕ) where
-    pub factors-fault : {k : ℕ} → Hit (get_or ts at 0) op product_signs → Atom ts t t₁ (at + 1) (left + 1) r → r ≡ Fault k → Factors ts t t₁ at left (Fault k)
+    pub factors-fault : {k : ℕ} → Hit (get_or ts at 0) op product_signs → Atom ts t t₁ (at + 1) (left + 1) r → r ≡ Err k → Factors ts t t₁ at left (Err k)
     factors-fault s a e = joined-fails ts t t₁ at left (factor-sign (get_or ts at 0) op s) a e
 
-    pub terms-fault : {k : ℕ} → Hit (get_or ts at 0) op sum_signs → Term ts t t₁ (at + 1) (left + 1) r → r ≡ Fault k → Terms ts t t₁ at left (Fault k)
+    pub terms-fault : {k : ℕ} → Hit (get_or ts at 0) op sum_signs → Term ts t t₁ (at + 1) (left + 1) r → r ≡ Err k → Terms ts t t₁ at left (Err k)
     terms-fault s a e = joined-fails ts t t₁ at left (term-sign (get_or ts at 0) op s) a e
 
     module _ (t₂ t₃ : List ℕ) {n root : ℕ} (r' : Read) where
-      pub factors-more : Hit (get_or ts at 0) op product_signs → Atom ts t t₁ (at + 1) (left + 1) r → r ≡ Next n root → Wrote t₁ t₂ (root + 1) op 0 left 0 → Factors ts t₂ t₃ n (root + 1) r' → Factors ts t t₃ at left r'
+      pub factors-more : Hit (get_or ts at 0) op product_signs → Atom ts t t₁ (at + 1) (left + 1) r → r ≡ Ok (n, root) → Wrote t₁ t₂ (root + 1) op 0 left 0 → Factors ts t₂ t₃ n (root + 1) r' → Factors ts t t₃ at left r'
       factors-more s a = joined-grows ts t t₁ at left (factor-sign (get_or ts at 0) op s) a wide-atom expr-interval t₂ t₃ r'
 
-      pub terms-more : Hit (get_or ts at 0) op sum_signs → Term ts t t₁ (at + 1) (left + 1) r → r ≡ Next n root → Wrote t₁ t₂ (root + 1) op 0 left 0 → Terms ts t₂ t₃ n (root + 1) r' → Terms ts t t₃ at left r'
+      pub terms-more : Hit (get_or ts at 0) op sum_signs → Term ts t t₁ (at + 1) (left + 1) r → r ≡ Ok (n, root) → Wrote t₁ t₂ (root + 1) op 0 left 0 → Terms ts t₂ t₃ n (root + 1) r' → Terms ts t t₃ at left r'
       terms-more s a = joined-grows ts t t₁ at left (term-sign (get_or ts at 0) op s) a wide-term expr-interval t₂ t₃ r'

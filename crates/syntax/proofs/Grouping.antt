@@ -5,6 +5,7 @@ use mathlib.Core.List.{List, [], ◌∷◌}
 use Prim.Native.Nat.{ℕ, ◌+◌}
 use native.Mathlib.Omega.{arith}
 use lib.ListN.{get_or}
+use Rattle.std.specs.Prelude.{Err, Ok}
 use Rattle.token.specs.Kind as kind
 use Rattle.grammar.specs.Grammar
 use Rattle.grammar.specs.Grammar.{flat_prefix, flat_cont, flat_item, flat_items, flat_choices, flat_sums, flat_body}
@@ -14,12 +15,10 @@ use Rattle.grammar.specs.Syntax
 use Rattle.grammar.specs.Syntax.{wide, branch_at, branches_at, cont_at, item_at, conts_at, sum_at, sums_at, body_at, sums_prefix, sums_cont, sums_item, sums_items, sums_choices, sums_sums, sums_body}
 use Rattle.grammar.proofs.Follows.{here, fails, takes, passes, sticks}
 use Rattle.grammar.proofs.Wide.{wide-prefix, wide-item, wide-sum}
-use Rattle.tree.specs.declared.Counted.{Counted}
-use Rattle.tree.specs.declared.Counted.TheVariants.{Next as CountedNext, Fault as CountedFault}
 use Rattle.tree.specs.Node as node
 use Rattle.tree.specs.Table
 use Rattle.tree.specs.Table.{first_of, first_token}
-use Rattle.tree.specs.Reading.{place_counted, Ready, Tallied}
+use Rattle.tree.specs.Reading.{place_counted, Ready, Tallied, Counted}
 use Rattle.tree.proofs.Holds.{branch-interval, branches-interval, sum-interval, cont-interval, conts-interval, sums-interval}
 use Rattle.tree.proofs.Spans.{span-token, ◌then◌, Wrote, span-wrote, span-place, ready-after, ready-token, seen_one, counted-next-at, counted-fault-at, tally-of, tallied-as, counted-fault-size}
 use Rattle.syntax.specs.Judged.{written_sum, count_sum}
@@ -83,11 +82,11 @@ module _ (ts t t' : List ℕ) (at used sums : ℕ) where
   )
 
   module _ (g : get_or ts at 0 ≡ kind.open_round → ⊥) (n : get_or ts at 0 ≡ kind.name → ⊥) {r : Counted} (a : Prefix ts t t' at used (sums + 1) r) where
-    pub cont-fault : {k : ℕ} → r ≡ CountedFault k → Cont ts t t' at used sums (CountedFault k)
+    pub cont-fault : {k : ℕ} → r ≡ Err k → Cont ts t t' at used sums (Err k)
     unfolding place_counted Tallied
     cont-fault e = (as-prefix ts at g n (counted-fault-at e a.0), counted-fault-size _ _ _ ts t t' at used (sums + 1) e a.1.0)
 
-    pub cont-chain : {i root m : ℕ} {t₁ : List ℕ} → r ≡ CountedNext i root m → Wrote t' t₁ (root + 1) node.sum sums 0 at → Cont ts t t₁ at used sums (CountedNext i (root + 1) m)
+    pub cont-chain : {i root m : ℕ} {t₁ : List ℕ} → r ≡ Ok (i, root, m) → Wrote t' t₁ (root + 1) node.sum sums 0 at → Cont ts t t₁ at used sums (Ok (i, root + 1, m))
     unfolding place_counted Tallied flat_cont sums_cont cont_at first_token Table.Branches Table.Sum Table.Cont made_one
     cont-chain e w =
         let v = tally-of e a.1.0 in
@@ -104,11 +103,11 @@ module _ (ts t t' : List ℕ) (at used sums : ℕ) where
 -- ---- a sum
 
 module _ (ts t t₁ : List ℕ) (at used sums : ℕ) {r : Counted} (a : Branches ts t t₁ at used (sums + 1) r) where
-  pub sum-fault : {k : ℕ} → r ≡ CountedFault k → Sum ts t t₁ at used sums (CountedFault k)
+  pub sum-fault : {k : ℕ} → r ≡ Err k → Sum ts t t₁ at used sums (Err k)
   unfolding place_counted Tallied
   sum-fault e = (counted-fault-at e a.0, counted-fault-size _ _ _ ts t t₁ at used (sums + 1) e a.1.0)
 
-  pub sum-node : {i root m : ℕ} {t₂ : List ℕ} → r ≡ CountedNext i root m → Wrote t₁ t₂ (root + 1) node.sum sums 0 at → Sum ts t t₂ at used sums (CountedNext i (root + 1) m)
+  pub sum-node : {i root m : ℕ} {t₂ : List ℕ} → r ≡ Ok (i, root, m) → Wrote t₁ t₂ (root + 1) node.sum sums 0 at → Sum ts t t₂ at used sums (Ok (i, root + 1, m))
   unfolding place_counted Tallied count_sum sums_branches sum_at branches_from Table.Sum made_one
   sum-node e w =
       let v = tally-of e a.1.0 in
@@ -125,12 +124,12 @@ module _ (ts t t₁ : List ℕ) (at used sums : ℕ) {r : Counted} (a : Branches
 -- ---- its prefixes
 
 module _ (ts t t₁ : List ℕ) (at used sums : ℕ) {r : Counted} (a : Prefix ts t t₁ at used sums r) where
-  pub branches-fault : {k : ℕ} → r ≡ CountedFault k → Branches ts t t₁ at used sums (CountedFault k)
+  pub branches-fault : {k : ℕ} → r ≡ Err k → Branches ts t t₁ at used sums (Err k)
   unfolding place_counted Tallied Spare
   branches-fault {k} e = (fails ts at k a_prefix (Choices' ∷ []) (counted-fault-at e a.0), (counted-fault-size _ _ _ ts t t₁ at used sums e a.1.0, tt))
 
-  module _ {n left c : ℕ} (e : r ≡ CountedNext n left c) where
-    pub branches-last : (get_or ts n 0 ≡ kind.plus → ⊥) → Branches ts t t₁ at used sums (CountedNext n left c)
+  module _ {n left c : ℕ} (e : r ≡ Ok (n, left, c)) where
+    pub branches-last : (get_or ts n 0 ≡ kind.plus → ⊥) → Branches ts t t₁ at used sums (Ok (n, left, c))
     unfolding place_counted Tallied Spare table rows_of is_may written_sum flat_choices sums_branches sums_choices branches_from branches_at Table.Branches
     branches-last q = (
       onward a_prefix (Choices' ∷ []) (counted-next-at e a.0) (λ l. passes ts n Choices' l refl (q, tt)),
@@ -150,14 +149,14 @@ module _ (ts t t₁ : List ℕ) (at used sums : ℕ) {r : Counted} (a : Prefix t
       to-branch r' f = onward a_prefix (Choices' ∷ []) (counted-next-at e a.0) (λ l. takes ts n Choices' kind.plus q (omega arith) refl (λ i. f))
 
       module _ (t₂ : List ℕ) {r₂ : Counted} (b : Branches ts t₁ t₂ (n + 1) (left + 1) c r₂) where
-        pub branches-next-fault : {k : ℕ} → r₂ ≡ CountedFault k → Branches ts t t₂ at used sums (CountedFault k)
+        pub branches-next-fault : {k : ℕ} → r₂ ≡ Err k → Branches ts t t₂ at used sums (Err k)
         unfolding place_counted Tallied Spare
         branches-next-fault {k} d = (
-          to-branch (CountedFault k) (counted-fault-at d b.0),
+          to-branch (Err k) (counted-fault-at d b.0),
           (counted-fault-size _ _ _ ts t₁ t₂ (n + 1) (left + 1) c d b.1.0 ∙ (tally-of e a.1.0).made.span.size, tt),
         )
 
-        pub branches-next : {m right i : ℕ} {t₃ : List ℕ} → r₂ ≡ CountedNext m right i → Wrote t₂ t₃ (right + 1) node.choice 0 left 0 → Branches ts t t₃ at used sums (CountedNext m (right + 1) i)
+        pub branches-next : {m right i : ℕ} {t₃ : List ℕ} → r₂ ≡ Ok (m, right, i) → Wrote t₂ t₃ (right + 1) node.choice 0 left 0 → Branches ts t t₃ at used sums (Ok (m, right + 1, i))
         unfolding place_counted Tallied Spare written_sum flat_choices sums_branches sums_choices branches_from branches_at Table.Branches made-two
         branches-next {m} {right} {i} d w =
             let v = tally-of e a.1.0 in
@@ -166,7 +165,7 @@ module _ (ts t t₁ : List ℕ) (at used sums : ℕ) {r : Counted} (a : Prefix t
             let x = u.made.tree in
             let k = span-place (wide-prefix p) v.made.span in
             let spare = spare_of at used sums e a.1.1 in (
-              to-branch (CountedNext m (right + 1) i) (counted-next-at d b.0),
+              to-branch (Ok (m, right + 1, i)) (counted-next-at d b.0),
               (
                 record {
                   made = made-two v.made u.made kind.plus (p, Grammar.or x.0 x.1) (λ us. refl) (branch-interval (branch_at p at sums)) (branches-interval (branches_from x (n + 1) c)) (λ lo j h. rw (← k, ← v.counted) h) q (omega arith) w;
@@ -180,11 +179,11 @@ module _ (ts t t₁ : List ℕ) (at used sums : ℕ) {r : Counted} (a : Prefix t
 -- ---- a group
 
 module _ (ts t t₁ : List ℕ) (at used sums : ℕ) (o : get_or ts at 0 ≡ kind.open_round) {r : Counted} (a : Items ts t t₁ (at + 1) used sums r) where
-  pub group-fault : {k : ℕ} → r ≡ CountedFault k → Group ts t t₁ at used sums (CountedFault k)
+  pub group-fault : {k : ℕ} → r ≡ Err k → Group ts t t₁ at used sums (Err k)
   unfolding place_counted Tallied
   group-fault e = (counted-fault-at e a.0, counted-fault-size _ _ _ ts t t₁ (at + 1) used sums e a.1)
 
-  pub group-node : {n root m : ℕ} {t₂ : List ℕ} → r ≡ CountedNext n root m → Wrote t₁ t₂ (root + 1) node.group at 0 0 → Group ts t t₂ at used sums (CountedNext n (root + 1) m)
+  pub group-node : {n root m : ℕ} {t₂ : List ℕ} → r ≡ Ok (n, root, m) → Wrote t₁ t₂ (root + 1) node.group at 0 0 → Group ts t t₂ at used sums (Ok (n, root + 1, m))
   unfolding place_counted Tallied flat_group group_at Table.Cont
   group-node e w =
       let v = tally-of e a.1 in
@@ -200,12 +199,12 @@ module _ (ts t t₁ : List ℕ) (at used sums : ℕ) (o : get_or ts at 0 ≡ kin
 -- ---- its items
 
 module _ (ts t t₁ : List ℕ) (at used sums : ℕ) {r : Counted} (a : Item ts t t₁ at used sums r) where
-  pub items-fault : {k : ℕ} → r ≡ CountedFault k → Items ts t t₁ at used sums (CountedFault k)
+  pub items-fault : {k : ℕ} → r ≡ Err k → Items ts t t₁ at used sums (Err k)
   unfolding place_counted Tallied
   items-fault {k} e = (fails ts at k (Item' ∷ []) (Items' ∷ []) (counted-fault-at e a.0), counted-fault-size _ _ _ ts t t₁ at used sums e a.1)
 
-  module _ {n left c : ℕ} (e : r ≡ CountedNext n left c) where
-    pub items-close : get_or ts n 0 ≡ kind.close_round → Items ts t t₁ at used sums (CountedNext (n + 1) left c)
+  module _ {n left c : ℕ} (e : r ≡ Ok (n, left, c)) where
+    pub items-close : get_or ts n 0 ≡ kind.close_round → Items ts t t₁ at used sums (Ok (n + 1, left, c))
     unfolding place_counted Tallied table rows_of find flat_item_list flat_items sums_item_list sums_items item_list_at conts_at Table.Conts
     items-close q =
         let v = tally-of e a.1 in
@@ -218,7 +217,7 @@ module _ (ts t t₁ : List ℕ) (at used sums : ℕ) {r : Counted} (a : Item ts 
           },
         )
 
-    pub items-open : (get_or ts n 0 ≡ kind.close_round → ⊥) → (get_or ts n 0 ≡ kind.bars → ⊥) → Items ts t t₁ at used sums (CountedFault n)
+    pub items-open : (get_or ts n 0 ≡ kind.close_round → ⊥) → (get_or ts n 0 ≡ kind.bars → ⊥) → Items ts t t₁ at used sums (Err n)
     unfolding place_counted Tallied table rows_of is_may
     items-open q x = (
       onward (Item' ∷ []) (Items' ∷ []) (counted-next-at e a.0) (λ l. sticks ts n Items' l refl (x, (q, tt))),
@@ -235,14 +234,14 @@ module _ (ts t t₁ : List ℕ) (at used sums : ℕ) {r : Counted} (a : Item ts 
       to_item r' f = onward (Item' ∷ []) (Items' ∷ []) (counted-next-at e a.0) (λ l. takes ts n Items' kind.bars q (omega arith) refl (λ i. f))
 
       module _ (t₂ : List ℕ) {r₂ : Counted} (b : Items ts t₁ t₂ (n + 1) (left + 1) c r₂) where
-        pub items-next-fault : {k : ℕ} → r₂ ≡ CountedFault k → Items ts t t₂ at used sums (CountedFault k)
+        pub items-next-fault : {k : ℕ} → r₂ ≡ Err k → Items ts t t₂ at used sums (Err k)
         unfolding place_counted Tallied
         items-next-fault {k} d = (
-          to_item (CountedFault k) (counted-fault-at d b.0),
+          to_item (Err k) (counted-fault-at d b.0),
           counted-fault-size _ _ _ ts t₁ t₂ (n + 1) (left + 1) c d b.1 ∙ (tally-of e a.1).made.span.size,
         )
 
-        pub items-next : {m right i : ℕ} {t₃ : List ℕ} → r₂ ≡ CountedNext m right i → Wrote t₂ t₃ (right + 1) node.item 0 left 0 → Items ts t t₃ at used sums (CountedNext m (right + 1) i)
+        pub items-next : {m right i : ℕ} {t₃ : List ℕ} → r₂ ≡ Ok (m, right, i) → Wrote t₂ t₃ (right + 1) node.item 0 left 0 → Items ts t t₃ at used sums (Ok (m, right + 1, i))
         unfolding place_counted Tallied flat_item_list flat_items sums_item_list sums_items item_list_at conts_at Table.Conts made-two
         items-next {m} {right} {i} d w =
             let v = tally-of e a.1 in
@@ -250,7 +249,7 @@ module _ (ts t t₁ : List ℕ) (at used sums : ℕ) {r : Counted} (a : Item ts 
             let p = v.made.tree in
             let x = u.made.tree in
             let k = span-place (wide-item p) v.made.span in (
-              to_item (CountedNext m (right + 1) i) (counted-next-at d b.0),
+              to_item (Ok (m, right + 1, i)) (counted-next-at d b.0),
               record {
                 made = made-two v.made u.made kind.bars (p, Grammar.also x.0 x.1) (λ us. refl) (cont-interval (item_at p at sums)) (conts-interval (item_list_at x (n + 1) c)) (λ lo j h. rw (← k, ← v.counted) h) q (omega arith) w;
                 counted = omega (arith, v.counted, u.counted);
@@ -301,12 +300,12 @@ unfolding written_sum count_sum body_at sums_at beside_of
 beside_at x (Grammar.body p c r) k n i m e d = let z : m ≡ n + 1 + sums_prefix x.0 + sums_choices x.1 = omega arith in rw (e, z)
 
 module _ (ts t t₁ : List ℕ) (at used sums : ℕ) {r : Counted} (a : Sum ts t t₁ at used sums r) where
-  pub body-fault : {k : ℕ} → r ≡ CountedFault k → Body ts t t₁ at used sums (CountedFault k)
+  pub body-fault : {k : ℕ} → r ≡ Err k → Body ts t t₁ at used sums (Err k)
   unfolding place_counted Tallied
   body-fault {k} e = (fails ts at k a_sum (Sums' ∷ []) (counted-fault-at e a.0), counted-fault-size _ _ _ ts t t₁ at used sums e a.1)
 
-  module _ {n left c : ℕ} (e : r ≡ CountedNext n left c) where
-    pub body-last : (get_or ts n 0 ≡ kind.bars → ⊥) → Body ts t t₁ at used sums (CountedNext n left c)
+  module _ {n left c : ℕ} (e : r ≡ Ok (n, left, c)) where
+    pub body-last : (get_or ts n 0 ≡ kind.bars → ⊥) → Body ts t t₁ at used sums (Ok (n, left, c))
     unfolding place_counted Tallied table rows_of is_may written_sum flat_body flat_sums count_sum sums_body sums_sums body_at sums_at Table.Sums
     body-last q = (
       onward a_sum (Sums' ∷ []) (counted-next-at e a.0) (λ l. passes ts n Sums' l refl (q, tt)),
@@ -323,14 +322,14 @@ module _ (ts t t₁ : List ℕ) (at used sums : ℕ) {r : Counted} (a : Sum ts t
       to-sum r' f = onward a_sum (Sums' ∷ []) (counted-next-at e a.0) (λ l. takes ts n Sums' kind.bars q (omega arith) refl (λ i. f))
 
       module _ (t₂ : List ℕ) {r₂ : Counted} (b : Body ts t₁ t₂ (n + 1) (left + 1) c r₂) where
-        pub body-next-fault : {k : ℕ} → r₂ ≡ CountedFault k → Body ts t t₂ at used sums (CountedFault k)
+        pub body-next-fault : {k : ℕ} → r₂ ≡ Err k → Body ts t t₂ at used sums (Err k)
         unfolding place_counted Tallied
         body-next-fault {k} d = (
-          to-sum (CountedFault k) (counted-fault-at d b.0),
+          to-sum (Err k) (counted-fault-at d b.0),
           counted-fault-size _ _ _ ts t₁ t₂ (n + 1) (left + 1) c d b.1 ∙ (tally-of e a.1).made.span.size,
         )
 
-        pub body-next : {m right i : ℕ} {t₃ : List ℕ} → r₂ ≡ CountedNext m right i → Wrote t₂ t₃ (right + 1) node.beside 0 left 0 → Body ts t t₃ at used sums (CountedNext m (right + 1) i)
+        pub body-next : {m right i : ℕ} {t₃ : List ℕ} → r₂ ≡ Ok (m, right, i) → Wrote t₂ t₃ (right + 1) node.beside 0 left 0 → Body ts t t₃ at used sums (Ok (m, right + 1, i))
         unfolding place_counted Tallied written_sum Table.Sums made-two
         body-next {m} {right} {i} {t₃} d w =
             let v = tally-of e a.1 in
@@ -338,7 +337,7 @@ module _ (ts t t₁ : List ℕ) (at used sums : ℕ) {r : Counted} (a : Sum ts t
             let x = v.made.tree in
             let z = u.made.tree in
             let same = beside_at x z at sums n c (span-place (wide-sum x.0 x.1) v.made.span) v.counted in (
-              to-sum (CountedNext m (right + 1) i) (counted-next-at d b.0),
+              to-sum (Ok (m, right + 1, i)) (counted-next-at d b.0),
               record {
                 made = made-two v.made u.made kind.bars (beside_of x z) (beside-text x z) (sum-interval (sum_at x.0 x.1 at sums)) (sums-interval (body_at z (n + 1) c)) (λ lo j h. rw same h) q (omega arith) w;
                 counted = omega (arith, v.counted, u.counted, beside-sums x z);

@@ -21,6 +21,5 @@ pub mod Questions
 pub mod Rates
 pub mod Sets
 pub mod Signs
-pub mod Sizes
 pub mod Symbols
 pub mod Widths

@@ -54,30 +54,6 @@ module _ (ts : List ℕ) (k : ℕ) where
       all (inl r) = rw (a.name, a.bracket, r)
       all (inr r) = rw (a.name, a.bracket, r.0, ← fourth, r.1)
 
--- token by token
-module _ (ts : List ℕ) (k : ℕ) where
-  pub nameless : (get_or ts k 0 ≡ kind.name → ⊥) → false ≡ defining ts k
-  unfolding defining
-  nameless n = rw (ne_eqb _ _ n)
-
-  module _ (e : get_or ts k 0 ≡ kind.name) where
-    pub unbracketed : (get_or ts (k + 1) 0 ≡ kind.open_square → ⊥) → false ≡ defining ts k
-    unfolding defining
-    unbracketed n = rw (e, ne_eqb _ _ n)
-
-    module _ (d : get_or ts (k + 1) 0 ≡ kind.open_square) where
-      pub with_params : get_or ts (k + 2) 0 ≡ kind.name → true ≡ defining ts k
-      unfolding defining
-      with_params f = rw (e, d, f)
-
-      pub with_values : (get_or ts (k + 2) 0 ≡ kind.name → ⊥) → (get_or ts (k + 2) 0 ≡ kind.close_square → ⊥) → false ≡ defining ts k
-      unfolding defining
-      with_values n m = rw (e, d, ne_eqb _ _ n, ne_eqb _ _ m)
-
-      pub with_nothing : get_or ts (k + 2) 0 ≡ kind.close_square → eqb (get_or ts (k + 3) 0) kind.equals ≡ defining ts k
-      unfolding defining
-      with_nothing f = rw (e, d, f)
-
 -- ---- what sticks
 
 -- a token that is no row's of a symbol that may not be nothing

@@ -8,6 +8,7 @@ use Prim.Native.Nat.{ℕ, ◌+◌, ◌≤◌, ◌<◌}
 use native.Mathlib.Omega.{arith}
 use lib.ListN.{length, get_or}
 use lib.Seq.{get_or-set_other}
+use Rattle.std.specs.Prelude.{Err, Ok}
 use Rattle.token.specs.Kind as kind
 use Rattle.grammar.specs.Grammar
 use Rattle.grammar.specs.Grammar.{flat_whole, flat_number, flat_expr, flat_term, flat_terms, flat_factors, flat_atom, flat_scale, flat_rate, flat_channel, flat_action}
@@ -19,17 +20,13 @@ use Rattle.grammar.proofs.Follows.{join, fails}
 use Rattle.grammar.proofs.Alike.{lone-comma, comma-decimal, minus-decimal, comma-scale, minus-scale, minus-other, comma-channel, scale-ends, product-ends, scale-times, scale-channel, product-channel}
 use Rattle.grammar.proofs.Prepends.{Prepends, longer, place as prepended}
 use Rattle.grammar.proofs.Wide.{wide-expr, wide-atom, wide-scale}
-use Rattle.tree.specs.declared.Read.{Read}
-use Rattle.tree.specs.declared.Read.TheVariants.{Next, Fault}
-use Rattle.tree.specs.declared.Counted.{Counted}
-use Rattle.tree.specs.declared.Counted.TheVariants.{Next as CountedNext, Fault as CountedFault}
 use Rattle.tree.specs.Node as node
 use Rattle.tree.specs.Node.{cell, number_kind, op_kind}
 use Rattle.tree.specs.Table
-use Rattle.tree.specs.Reading.{place_counted, Ready, Span, Grown, Extended}
+use Rattle.tree.specs.Reading.{place_counted, Span, Grown, Extended, Read, Counted}
 use Rattle.tree.proofs.Interval.{Interval}
 use Rattle.tree.proofs.Holds.{expr-interval, scale-interval, action-interval}
-use Rattle.tree.proofs.Spans.{span-token, ◌then◌, span-as, Wrote, wrote-size, span-wrote, span-over, span-place, ready-token, Seen, seen-later, seen-over, seen-leaf, seen-two, next-at, fault-at, made_of, grown-of, fault-size}
+use Rattle.tree.proofs.Spans.{span-token, ◌then◌, span-as, Wrote, wrote-size, span-wrote, span-over, span-place, Seen, seen-later, seen-over, seen-leaf, seen-two, next-at, fault-at, made_of, grown-of, fault-size}
 use Rattle.syntax.specs.Channels.{Third, no_third, third, flat_third, third_at}
 use Rattle.syntax.specs.Actions.{flat_deed}
 use Rattle.syntax.specs.Braces.{flat_closed, flat_rated, flat_inside, flat_rest, rest_at, Ended, Inside, Seconds, Either}
@@ -43,12 +40,6 @@ use Rattle.syntax.proofs.Widths.{wide-begun, wide-times}
 seen-under : {a b : ℕ} {P : List ℕ → ℕ → ℕ → Type 0} {t t' : List ℕ} {u kind token left third lo k : ℕ} → Interval a b P → Wrote t t' u kind token left third → k < u → Seen P t lo k → Seen P t' lo k
 seen-under {t = t} {u = u} {kind} {token} {left} {third} p w h q l =
     p.keep (λ i m n. ap (λ (x : List ℕ). get_or x i 0) w.written ∙ get_or-set_other t u i (cell kind token left third) 0 (omega arith)) (q (omega (arith, wrote-size w)))
-
--- whatever is answered, the table is as long as it was
-pub inside-size : (ts t t' : List ℕ) (at used : ℕ) (r : Counted) → Inside ts t t' at used r → length t' ≡ length t
-unfolding Inside
-inside-size ts t t' at used (CountedNext n root left) i = i.span.size
-inside-size ts t t' at used (CountedFault k) i = i
 
 -- ---- a name, a comma, and an item or the part of it that was read
 
@@ -85,7 +76,7 @@ items-wide f i = let e = longer (wide-expr f) (flat_third i []) in let d = ap le
 -- two items, and what follows them
 pub begun-inside : (ts t t₁ t₂ : List ℕ) (at used n mid : ℕ) (r : Counted) → Begun flat_expr expr_at ts t t₁ at used n mid → Seconds ts t₁ t₂ n used mid r → Inside ts t t₂ at used r
 unfolding Seconds Inside
-begun-inside ts t t₁ t₂ at used n mid (CountedNext m root left) b s =
+begun-inside ts t t₁ t₂ at used n mid (Ok (m, root, left)) b s =
     let d = s.done in
     let c = items_of b.item d.items in
     let k : n ≡ at + 1 + 1 + wide (flat_expr b.item) = omega (arith, span-place (wide-begun (wide-expr b.item)) b.span, (wide-begun (wide-expr b.item)).width) in
@@ -95,8 +86,8 @@ begun-inside ts t t₁ t₂ at used n mid (CountedNext m root left) b s =
     let room : mid < length t₁ = omega (arith, d.span.more, d.span.size) in
     let h = d.shown l (Syntax.named at) (expr_at b.item (at + 1 + 1)) used (b.first (omega (arith, b.span.more))) (b.second room) in
     rw (← action-at c d.deed at, ← items_at b.item d.items at, ← j, ← k) h in
-    inner_made ts t s.table t₂ at used s.comma s.left (CountedNext m root left) (record { tree = action_of c d.deed; span = span-as text (span-paid (b.span then d.span) (omega (arith, b.spare, d.span.fewer))); shown = shown }) s.rated s.spare
-begun-inside ts t t₁ t₂ at used n mid (CountedFault k) b s = s ∙ b.span.size
+    inner_made ts t s.table t₂ at used s.comma s.left (Ok (m, root, left)) (record { tree = action_of c d.deed; span = span-as text (span-paid (b.span then d.span) (omega (arith, b.spare, d.span.fewer))); shown = shown }) s.rated s.spare
+begun-inside ts t t₁ t₂ at used n mid (Err k) b s = s ∙ b.span.size
 
 -- more of the item
 module _ {A : Type 0} {flat_a : A → List ℕ → List ℕ} {first_at : A → ℕ → Syntax.Expr} (both : A → Grammar.Factors × Grammar.Terms → Grammar.Expr) (text : (y : A) (z : Grammar.Factors × Grammar.Terms) (us : List ℕ) → flat_expr (both y z) us ≡ flat_a y (flat_rest z us)) (wide-first : (y : A) → Prepends (λ us. kind.name ∷ kind.comma ∷ flat_a y us) (1 + (1 + wide (flat_a y)))) (shows : (y : A) (z : Grammar.Factors × Grammar.Terms) (k : ℕ) → rest_at (first_at y k) z (k + wide (flat_a y)) ≡ expr_at (both y z) k) where
@@ -208,12 +199,9 @@ module _ (ts t : List ℕ) (name used digits rate item : ℕ) (o : (get_or ts na
   atom-place : digits + 1 ≡ name + 1 + 1 + wide (flat_atom x.atom)
   atom-place = prepended (wide-atom x.atom) ts (name + 1 + 1) (digits + 1) (omega (arith, x.onward, x.within)) (omega (arith, x.within)) x.atoms
 
-  pub undecided-ready : Ready ts name used → Ready ts (digits + 1) (used + 1 + 1)
-  undecided-ready h = record { inside = omega (arith, x.within); room = h.room; few = omega (arith, h.few, x.onward) }
-
   -- ---- no `*`
 
-  pub undecided-wait : {t₁ t₂ : List ℕ} → get_or ts (digits + 1) 0 ≡ kind.close_curly → Wrote t t₁ used node.wait name 0 0 → Wrote t₁ t₂ (used + 1) rate digits 0 0 → Undecided ts t t₂ name used digits (CountedNext (digits + 1 + 1) (used + 1) used)
+  pub undecided-wait : {t₁ t₂ : List ℕ} → get_or ts (digits + 1) 0 ≡ kind.close_curly → Wrote t t₁ used node.wait name 0 0 → Wrote t₁ t₂ (used + 1) rate digits 0 0 → Undecided ts t t₂ name used digits (Ok (digits + 1 + 1, used + 1, used))
   unfolding place_counted Inside flat_inside flat_rated flat_closed flat_action flat_rate action_at rate_at wide Table.Action Table.Rate
   undecided-wait {t₁} {t₂} q v w = (
     scale-ends ts (digits + 1) q,
@@ -242,18 +230,15 @@ module _ (ts t : List ℕ) (name used digits rate item : ℕ) (o : (get_or ts na
         }
 
     module _ (n : get_or ts (digits + 1) 0 ≡ kind.close_curly → ⊥) (m : get_or ts (digits + 1) 0 ≡ kind.times → ⊥) (t₃ : List ℕ) {r : Read} (a : Rest ts t₂ t₃ (digits + 1) (used + 1) r) where
-      pub undecided-fault : {k : ℕ} → r ≡ Fault k → Undecided ts t t₃ name used digits (CountedFault k)
+      pub undecided-fault : {k : ℕ} → r ≡ Err k → Undecided ts t t₃ name used digits (Err k)
       unfolding place_counted Inside Extended
       undecided-fault {k} e =
           let z : length t₃ ≡ length t₂ = rw e at a.1 in
           (scale-channel ts (digits + 1) n m (fails ts (digits + 1) k (Factors' ∷ Terms' ∷ []) _ (fault-at e a.0)), z ∙ wrote-size w ∙ wrote-size v)
 
-      module _ {i mid : ℕ} (e : r ≡ Next i mid) where
+      module _ {i mid : ℕ} (e : r ≡ Ok (i, mid)) where
         undecided-begun : Begun flat_expr expr_at ts t t₃ name used i mid
         undecided-begun = begun_more atom_first atom-text (λ y. wide-begun (wide-atom y)) atom-shows undecided-start (grown-of e a.1)
-
-        pub undecided-second : Ready ts name used → Ready ts i (mid + 1 + 1) × (used ≤ mid)
-        undecided-second h = let b = undecided-begun in (record { inside = b.span.within; room = h.room; few = omega (arith, h.few, b.spare) }, b.below)
 
         pub undecided-done : (t₄ : List ℕ) (r' : Counted) → Second ts t₃ t₄ i used mid r' → Undecided ts t t₄ name used digits r'
         undecided-done t₄ r' s = (
@@ -267,16 +252,13 @@ module _ (ts t : List ℕ) (name used digits rate item : ℕ) (o : (get_or ts na
     pub undecided-times : (t₁ : List ℕ) (r : Counted) → Product ts t t₁ name used digits r → Undecided ts t t₁ name used digits r
     undecided-times t₁ r p = (scale-times ts (digits + 1) q (λ l. p.0), p.1)
 
-    pub product-ready : Ready ts name used → Ready ts (digits + 1 + 1) (used + 1 + 1)
-    product-ready h = ready-token (undecided-ready h) (omega arith)
-
     module _ (t₁ : List ℕ) {r : Read} (a : Atom ts t t₁ (digits + 1 + 1) (used + 1 + 1) r) where
-      pub product-fault : {k : ℕ} → r ≡ Fault k → Product ts t t₁ name used digits (CountedFault k)
+      pub product-fault : {k : ℕ} → r ≡ Err k → Product ts t t₁ name used digits (Err k)
       unfolding place_counted Inside
       product-fault {k} e = (fails ts (digits + 1 + 1) k (Atom' ∷ []) _ (fault-at e a.0), fault-size _ _ ts t t₁ (digits + 1 + 1) (used + 1 + 1) e a.1)
 
-      module _ {n i : ℕ} (e : r ≡ Next n i) where
-        pub product-wait : {t₂ t₃ t₄ : List ℕ} → get_or ts n 0 ≡ kind.close_curly → Wrote t₁ t₂ used node.wait name 0 0 → Wrote t₂ t₃ (used + 1) rate digits 0 0 → Wrote t₃ t₄ (i + 1) node.scaled 0 (used + 1) 0 → Product ts t t₄ name used digits (CountedNext (n + 1) (i + 1) used)
+      module _ {n i : ℕ} (e : r ≡ Ok (n, i)) where
+        pub product-wait : {t₂ t₃ t₄ : List ℕ} → get_or ts n 0 ≡ kind.close_curly → Wrote t₁ t₂ used node.wait name 0 0 → Wrote t₂ t₃ (used + 1) rate digits 0 0 → Wrote t₃ t₄ (i + 1) node.scaled 0 (used + 1) 0 → Product ts t t₄ name used digits (Ok (n + 1, i + 1, used))
         unfolding place_counted Inside flat_inside flat_rated flat_closed flat_action flat_rate action_at rate_at wide Table.Action Table.Rate
         product-wait {t₂} {t₃} {t₄} z u v w =
             let p = made_of e a.1 in
@@ -314,11 +296,8 @@ module _ (ts t : List ℕ) (name used digits rate item : ℕ) (o : (get_or ts na
                 second = λ l. rw (← j) (seen-two (expr-interval (atom_at x.atom (name + 1 + 1))) (expr-interval b) w (λ h. x.as-item t₃ (used + 1) (used + 1) (seen-leaf v h)) (seen-over (expr-interval b) v (omega arith) (seen-over (expr-interval b) u (omega arith) p.shown)) l);
               }
 
-          pub product-rest : Ready ts name used → Ready ts n (i + 1 + 1)
-          product-rest h = let b = product-start in record { inside = b.span.within; room = h.room; few = omega (arith, h.few, b.spare) }
-
           module _ (t₅ : List ℕ) {r₂ : Read} (c : Rest ts t₄ t₅ n (i + 1) r₂) where
-            pub product-stops : {k : ℕ} → r₂ ≡ Fault k → Product ts t t₅ name used digits (CountedFault k)
+            pub product-stops : {k : ℕ} → r₂ ≡ Err k → Product ts t t₅ name used digits (Err k)
             unfolding place_counted Inside Extended
             product-stops {k} d =
                 let y : length t₅ ≡ length t₄ = rw d at c.1 in (
@@ -326,13 +305,10 @@ module _ (ts t : List ℕ) (name used digits rate item : ℕ) (o : (get_or ts na
                   y ∙ product-start.span.size,
                 )
 
-            module _ {m mid : ℕ} (d : r₂ ≡ Next m mid) where
+            module _ {m mid : ℕ} (d : r₂ ≡ Ok (m, mid)) where
               product-begun : Begun flat_expr expr_at ts t t₅ name used m mid
               unfolding flat_two
               product-begun = begun_more two_first two-text (λ y. wide-begun (wide-times y.0 y.1)) two-shows product-start (grown-of d c.1)
-
-              pub product-second : Ready ts name used → Ready ts m (mid + 1 + 1) × (used ≤ mid)
-              product-second h = let b = product-begun in (record { inside = b.span.within; room = h.room; few = omega (arith, h.few, b.spare) }, b.below)
 
               pub product-done : (t₆ : List ℕ) (r' : Counted) → Second ts t₅ t₆ m used mid r' → Product ts t t₆ name used digits r'
               product-done t₆ r' s = (
@@ -349,16 +325,13 @@ module _ (ts t : List ℕ) (at used : ℕ) (o : (get_or ts at 0 ≡ kind.name) �
   to-comma : {r : Answer} → Follows ts (at + 1 + 1) (LoneComma ∷ closing) r → Follows ts at (Braced ∷ closing) r
   to-comma f = lone-comma ts at closing o.0 o.1 (λ l. f)
 
-  pub lone-ready : Ready ts at used → Ready ts (at + 1 + 1) (used + 1)
-  lone-ready h = let r = ready-token (ready-token h (omega arith)) (omega arith) in record { inside = r.inside; room = r.room; few = omega (arith, h.few) }
-
   pub lone-undecided : (t₁ : List ℕ) (r : Counted) → (get_or ts (at + 1 + 1) 0 ≡ kind.whole) ⊎ (get_or ts (at + 1 + 1) 0 ≡ kind.name) → Undecided ts t t₁ at used (at + 1 + 1) r → Bracing ts t t₁ at used r
   lone-undecided t₁ r e u = (to-comma (comma-scale ts (at + 1 + 1) closing e (λ l. u.0)), u.1)
 
   pub lone-negative : (t₁ : List ℕ) (r : Counted) → get_or ts (at + 1 + 1) 0 ≡ kind.minus → get_or ts (at + 1 + 1 + 1) 0 ≡ kind.whole → Undecided ts t t₁ at used (at + 1 + 1 + 1) r → Bracing ts t t₁ at used r
   lone-negative t₁ r e d u = (to-comma (minus-scale ts (at + 1 + 1) closing e d (λ l. u.0)), u.1)
 
-  pub lone-signless : get_or ts (at + 1 + 1) 0 ≡ kind.minus → (get_or ts (at + 1 + 1 + 1) 0 ≡ kind.decimal → ⊥) → (get_or ts (at + 1 + 1 + 1) 0 ≡ kind.whole → ⊥) → Bracing ts t t at used (CountedFault (at + 1 + 1 + 1))
+  pub lone-signless : get_or ts (at + 1 + 1) 0 ≡ kind.minus → (get_or ts (at + 1 + 1 + 1) 0 ≡ kind.decimal → ⊥) → (get_or ts (at + 1 + 1 + 1) 0 ≡ kind.whole → ⊥) → Bracing ts t t at used (Err (at + 1 + 1 + 1))
   unfolding place_counted Inside
   lone-signless e d w = (to-comma (minus-other ts (at + 1 + 1) closing e d w), refl)
 
@@ -367,7 +340,7 @@ module _ (ts t : List ℕ) (at used : ℕ) (o : (get_or ts at 0 ≡ kind.name) �
     waits : Inside ts t t₂ at used r
     unfolding Ended flat_action action_at Table.Action
     waits =
-        let z : Ended ts t₁ t₂ (Next (at + 1) used) r = rated-made ts t₁ refl t₂ r o.1 b in
+        let z : Ended ts t₁ t₂ (Ok (at + 1, used)) r = rated-made ts t₁ refl t₂ r o.1 b in
         inner_made ts t t₁ t₂ at used (at + 1) used r (record { tree = Grammar.wait; span = span-wrote w (span-token kind.name o.0 (omega arith)) (omega arith); shown = seen-leaf w }) z.1.0 z.1.1
 
     pub lone-decimal : get_or ts (at + 1 + 1) 0 ≡ kind.decimal → Bracing ts t t₂ at used r
@@ -378,14 +351,14 @@ module _ (ts t : List ℕ) (at used : ℕ) (o : (get_or ts at 0 ≡ kind.name) �
 
   -- a channel
   module _ (d : get_or ts (at + 1 + 1) 0 ≡ kind.decimal → ⊥) (m : get_or ts (at + 1 + 1) 0 ≡ kind.minus → ⊥) (n : get_or ts (at + 1 + 1) 0 ≡ kind.whole → ⊥) (l : get_or ts (at + 1 + 1) 0 ≡ kind.name → ⊥) {t₁ : List ℕ} (w : Wrote t t₁ used node.named at 0 0) (t₂ : List ℕ) {r : Read} (a : Expr ts t₁ t₂ (at + 1 + 1) (used + 1) r) where
-    pub lone-fault : {k : ℕ} → r ≡ Fault k → Bracing ts t t₂ at used (CountedFault k)
+    pub lone-fault : {k : ℕ} → r ≡ Err k → Bracing ts t t₂ at used (Err k)
     unfolding place_counted Inside
     lone-fault {k} e = (
       to-comma (comma-channel ts (at + 1 + 1) closing d m n l (fails ts (at + 1 + 1) k an_expr _ (fault-at e a.0))),
       fault-size _ _ ts t₁ t₂ (at + 1 + 1) (used + 1) e a.1 ∙ wrote-size w,
     )
 
-    module _ {i mid : ℕ} (e : r ≡ Next i mid) where
+    module _ {i mid : ℕ} (e : r ≡ Ok (i, mid)) where
       lone-begun : Begun flat_expr expr_at ts t t₂ at used i mid
       unfolding Table.Expr
       lone-begun =
@@ -399,9 +372,6 @@ module _ (ts t : List ℕ) (at used : ℕ) (o : (get_or ts at 0 ≡ kind.name) �
             first = seen-later (expr-interval (Syntax.named at)) p.span (omega arith) (seen-leaf w);
             second = p.shown;
           }
-
-      pub lone-second : Ready ts at used → Ready ts i (mid + 1 + 1) × (used ≤ mid)
-      lone-second h = let b = lone-begun in (record { inside = b.span.within; room = h.room; few = omega (arith, h.few, b.spare) }, b.below)
 
       pub lone-done : (t₃ : List ℕ) (r' : Counted) → Second ts t₂ t₃ i used mid r' → Bracing ts t t₃ at used r'
       lone-done t₃ r' s = (

@@ -5,6 +5,7 @@ use mathlib.Core.List.{List, [], ◌∷◌}
 use Prim.Native.Nat.{ℕ, ◌+◌, ◌≤◌, ◌<◌}
 use native.Mathlib.Omega.{arith}
 use lib.ListN.{length, get_or}
+use Rattle.std.specs.Prelude.{Err, Ok}
 use Rattle.token.specs.Kind as kind
 use Rattle.grammar.specs.Grammar
 use Rattle.grammar.specs.Grammar.{flat_cond, flat_rate, flat_action, flat_gate, flat_prefix, flat_next, flat_cont}
@@ -13,13 +14,9 @@ use Rattle.grammar.specs.Follows.{Follows}
 use Rattle.grammar.specs.Syntax.{wide, cond_at, rate_at, action_at, gate_at, branch_at, next_at, cont_at, sums_prefix, sums_next, sums_cont}
 use Rattle.grammar.proofs.Follows.{fails, takes, passes}
 use Rattle.grammar.proofs.Wide.{wide-cond, wide-gate}
-use Rattle.tree.specs.declared.Read.{Read}
-use Rattle.tree.specs.declared.Read.TheVariants.{Next, Fault}
-use Rattle.tree.specs.declared.Counted.{Counted}
-use Rattle.tree.specs.declared.Counted.TheVariants.{Next as CountedNext, Fault as CountedFault}
 use Rattle.tree.specs.Node as node
 use Rattle.tree.specs.Table
-use Rattle.tree.specs.Reading.{place_counted, Ready, Tallied}
+use Rattle.tree.specs.Reading.{place_counted, Ready, Tallied, Read, Counted}
 use Rattle.tree.proofs.Holds.{cond-interval, rate-interval, action-interval, branch-interval, cont-interval}
 use Rattle.tree.proofs.Spans.{span-token, ◌then◌, Wrote, span-wrote, span-place, ready-after, ready-token, seen-later, seen-two, seen-three, next-at, fault-at, counted-next-at, counted-fault-at, made_of, tally-of, tallied-as, fault-size, counted-fault-size}
 use Rattle.syntax.specs.Braces.{flat_closed, flat_rated, flat_inside, Inner, Inside}
@@ -35,7 +32,7 @@ use Rattle.syntax.proofs.Widths.{wide-inside}
 abbrev pub Spares : {T : Type 0} → List Sym → (T → List ℕ → List ℕ) → (T → ℕ) → (List ℕ → T → ℕ → ℕ → Type 0) → List ℕ → List ℕ → List ℕ → ℕ → ℕ → ℕ → Counted → Type 0
 Spares x flat count holds ts t t' at used c r = Follows ts at x (place_counted r) × (Tallied flat count holds ts t t' at used c r × Spare at used c r)
 
-pub spare_of : (at used c : ℕ) {n root m : ℕ} {r : Counted} → r ≡ CountedNext n root m → Spare at used c r → (root + 1 + at < used + n) × (m + at < c + n)
+pub spare_of : (at used c : ℕ) {n root m : ℕ} {r : Counted} → r ≡ Ok (n, root, m) → Spare at used c r → (root + 1 + at < used + n) × (m + at < c + n)
 unfolding Spare
 spare_of at used c e s = rw e at s
 
@@ -56,19 +53,19 @@ Prefix ts t t' at used c = Spares a_prefix flat_prefix sums_prefix (λ s p. Tabl
 -- ---- braces, and what follows them
 
 module _ (ts t : List ℕ) (at used sums first : ℕ) where
-  pub offer-stray : at ≤ length ts → (get_or ts at 0 ≡ kind.open_curly → ⊥) → Offers first ts t t at used sums (CountedFault at)
+  pub offer-stray : at ≤ length ts → (get_or ts at 0 ≡ kind.open_curly → ⊥) → Offers first ts t t at used sums (Err at)
   unfolding place_counted Tallied Spare
   offer-stray h n = (lacks ts at in_braces kind.open_curly h n, (refl, tt))
 
   module _ (o : get_or ts at 0 ≡ kind.open_curly) (t₁ : List ℕ) {r : Counted} (a : Bracing ts t t₁ (at + 1) used r) where
-    pub offer-fault : {k : ℕ} → r ≡ CountedFault k → Offers first ts t t₁ at used sums (CountedFault k)
+    pub offer-fault : {k : ℕ} → r ≡ Err k → Offers first ts t t₁ at used sums (Err k)
     unfolding place_counted Tallied Spare Inside
     offer-fault {k} e = (
       wants ts at in_braces kind.open_curly o (omega arith) (λ l. fails ts (at + 1) k (Braced ∷ Want kind.close_curly ∷ []) (Next' ∷ []) (counted-fault-at e a.0)),
       (rw e at a.1, tt),
     )
 
-    module _ {n middle left : ℕ} (e : r ≡ CountedNext n middle left) where
+    module _ {n middle left : ℕ} (e : r ≡ Ok (n, middle, left)) where
       pub offer-inner : Inner ts t t₁ (at + 1) used n middle left
       unfolding Inside
       offer-inner = rw e at a.1
@@ -80,13 +77,13 @@ module _ (ts t : List ℕ) (at used sums first : ℕ) where
       to-next : (r' : Counted) → (n ≤ length ts → Follows ts n (Next' ∷ []) (place_counted r')) → Follows ts at (Want kind.open_curly ∷ in_braces) (place_counted r')
       to-next r' f = wants ts at in_braces kind.open_curly o (omega arith) (λ l. onward (Braced ∷ Want kind.close_curly ∷ []) (Next' ∷ []) (counted-next-at e a.0) f)
 
-      pub offer-stop : {t₃ : List ℕ} → (get_or ts n 0 ≡ kind.point → ⊥) → Wrote t₁ t₃ (middle + 1) node.stop first left 0 → Offers first ts t t₃ at used sums (CountedNext n (middle + 1) sums)
+      pub offer-stop : {t₃ : List ℕ} → (get_or ts n 0 ≡ kind.point → ⊥) → Wrote t₁ t₃ (middle + 1) node.stop first left 0 → Offers first ts t t₃ at used sums (Ok (n, middle + 1, sums))
       unfolding place_counted Tallied Spare table rows_of is_may flat_inside flat_rated flat_closed flat_offer flat_next sums_offer sums_next offer_at next_at Table.Branch Table.Offer
       offer-stop {t₃} x w =
           let i = offer-inner in
           let parts = span-token kind.open_curly o (omega arith) then i.span in
           let spare : middle + 1 + 1 + at < used + n = omega (arith, i.spare) in (
-            to-next (CountedNext n (middle + 1) sums) (λ l. passes ts n Next' l refl (x, tt)),
+            to-next (Ok (n, middle + 1, sums)) (λ l. passes ts n Next' l refl (x, tt)),
             (
               record {
                 made =
@@ -112,14 +109,14 @@ module _ (ts t : List ℕ) (at used sums first : ℕ) where
         to-cont r' f = to-next r' (λ l. takes ts n Next' kind.point x (omega arith) refl (λ i. f))
 
         module _ (t₃ : List ℕ) {r₃ : Counted} (y : Cont ts t₁ t₃ (n + 1) (middle + 1) sums r₃) where
-          pub offer-cont-fault : {k : ℕ} → r₃ ≡ CountedFault k → Offers first ts t t₃ at used sums (CountedFault k)
+          pub offer-cont-fault : {k : ℕ} → r₃ ≡ Err k → Offers first ts t t₃ at used sums (Err k)
           unfolding place_counted Tallied Spare
           offer-cont-fault {k} z = (
-            to-cont (CountedFault k) (counted-fault-at z y.0),
+            to-cont (Err k) (counted-fault-at z y.0),
             (counted-fault-size _ _ _ ts t₁ t₃ (n + 1) (middle + 1) sums z y.1 ∙ offer-inner.span.size, tt),
           )
 
-          pub offer-dot : {i root c : ℕ} {t₄ : List ℕ} → r₃ ≡ CountedNext i root c → Wrote t₃ t₄ (root + 1) node.dot first left middle → Offers first ts t t₄ at used sums (CountedNext i (root + 1) c)
+          pub offer-dot : {i root c : ℕ} {t₄ : List ℕ} → r₃ ≡ Ok (i, root, c) → Wrote t₃ t₄ (root + 1) node.dot first left middle → Offers first ts t t₄ at used sums (Ok (i, root + 1, c))
           unfolding place_counted Tallied Spare flat_inside flat_rated flat_closed flat_offer flat_next sums_offer sums_next offer_at next_at Table.Branch Table.Offer
           offer-dot {i} {root} {c} {t₄} z w =
               let p = offer-inner in
@@ -130,7 +127,7 @@ module _ (ts t : List ℕ) (at used sums first : ℕ) where
               let sign = span-token kind.point x (omega arith) in
               let parts = span-token kind.open_curly o (omega arith) then p.span then sign then g.span in
               let spare : root + 1 + 1 + at < used + i = omega (arith, p.spare, g.span.fewer) in (
-                to-cont (CountedNext i (root + 1) c) (counted-next-at z y.0),
+                to-cont (Ok (i, root + 1, c)) (counted-next-at z y.0),
                 (
                   record {
                     made =
@@ -155,27 +152,27 @@ abbrev gated : List Sym
 gated = Want kind.close_square ∷ Want kind.arrow ∷ Want kind.open_curly ∷ in_braces
 
 module _ (ts t t₁ : List ℕ) (at used sums : ℕ) (o : get_or ts at 0 ≡ kind.open_square) {r : Read} (a : Cond ts t t₁ (at + 1) used r) where
-  pub gated-fault : {k : ℕ} → r ≡ Fault k → Prefix ts t t₁ at used sums (CountedFault k)
+  pub gated-fault : {k : ℕ} → r ≡ Err k → Prefix ts t t₁ at used sums (Err k)
   unfolding place_counted Tallied Spare table rows_of find
   gated-fault {k} e = (
     taken ts at (Want kind.open_curly ∷ in_braces) Gate' kind.open_square o (omega arith) refl (λ l. fails ts (at + 1) k a_cond gated (fault-at e a.0)),
     (fault-size _ _ ts t t₁ (at + 1) used e a.1, tt),
   )
 
-  module _ {n left : ℕ} (e : r ≡ Next n left) where
+  module _ {n left : ℕ} (e : r ≡ Ok (n, left)) where
     -- the machine up to the end of the condition
     to_end : (r' : Counted) → (n ≤ length ts → Follows ts n gated (place_counted r')) → Follows ts at a_prefix (place_counted r')
     unfolding table rows_of find
     to_end r' f = taken ts at (Want kind.open_curly ∷ in_braces) Gate' kind.open_square o (omega arith) refl (λ l. onward a_cond gated (next-at e a.0) f)
 
-    pub gated-open : (get_or ts n 0 ≡ kind.close_square → ⊥) → Prefix ts t t₁ at used sums (CountedFault n)
+    pub gated-open : (get_or ts n 0 ≡ kind.close_square → ⊥) → Prefix ts t t₁ at used sums (Err n)
     unfolding place_counted Tallied Spare
-    gated-open q = (to_end (CountedFault n) (λ l. lacks ts n _ kind.close_square l q), ((made_of e a.1).span.size, tt))
+    gated-open q = (to_end (Err n) (λ l. lacks ts n _ kind.close_square l q), ((made_of e a.1).span.size, tt))
 
     module _ (q : get_or ts n 0 ≡ kind.close_square) where
-      pub gated-stray : (get_or ts (n + 1) 0 ≡ kind.arrow → ⊥) → Prefix ts t t₁ at used sums (CountedFault (n + 1))
+      pub gated-stray : (get_or ts (n + 1) 0 ≡ kind.arrow → ⊥) → Prefix ts t t₁ at used sums (Err (n + 1))
       unfolding place_counted Tallied Spare
-      gated-stray x = (to_end (CountedFault (n + 1)) (λ l. wants ts n _ kind.close_square q (omega arith) (λ i. lacks ts (n + 1) _ kind.arrow i x)), ((made_of e a.1).span.size, tt))
+      gated-stray x = (to_end (Err (n + 1)) (λ l. wants ts n _ kind.close_square q (omega arith) (λ i. lacks ts (n + 1) _ kind.arrow i x)), ((made_of e a.1).span.size, tt))
 
       module _ (x : get_or ts (n + 1) 0 ≡ kind.arrow) where
         pub gated-ready : Ready ts at used → Ready ts (n + 1 + 1) (left + 1)
@@ -186,14 +183,14 @@ module _ (ts t t₁ : List ℕ) (at used sums : ℕ) (o : get_or ts at 0 ≡ kin
         to-braces r' f = to_end r' (λ l. wants ts n _ kind.close_square q (omega arith) (λ i. wants ts (n + 1) _ kind.arrow x (omega arith) (λ j. f)))
 
         module _ (t₂ : List ℕ) {r₂ : Counted} (b : Offers at ts t₁ t₂ (n + 1 + 1) (left + 1) sums r₂) where
-          pub gated-offer-fault : {k : ℕ} → r₂ ≡ CountedFault k → Prefix ts t t₂ at used sums (CountedFault k)
+          pub gated-offer-fault : {k : ℕ} → r₂ ≡ Err k → Prefix ts t t₂ at used sums (Err k)
           unfolding place_counted Tallied Spare
           gated-offer-fault {k} d = (
-            to-braces (CountedFault k) (counted-fault-at d b.0),
+            to-braces (Err k) (counted-fault-at d b.0),
             (counted-fault-size _ _ _ ts t₁ t₂ (n + 1 + 1) (left + 1) sums d b.1.0 ∙ (made_of e a.1).span.size, tt),
           )
 
-          pub gated-node : {m root c : ℕ} {t₃ : List ℕ} → r₂ ≡ CountedNext m root c → Wrote t₂ t₃ (root + 1) node.gate at left 0 → Prefix ts t t₃ at used sums (CountedNext m (root + 1) c)
+          pub gated-node : {m root c : ℕ} {t₃ : List ℕ} → r₂ ≡ Ok (m, root, c) → Wrote t₂ t₃ (root + 1) node.gate at left 0 → Prefix ts t t₃ at used sums (Ok (m, root + 1, c))
           unfolding place_counted Tallied Spare flat_gate flat_prefix flat_offer sums_prefix sums_offer gate_at branch_at offer_at Table.Branch Table.Offer
           gated-node {m} {root} {c} {t₃} d w =
               let p = made_of e a.1 in
@@ -204,7 +201,7 @@ module _ (ts t t₁ : List ℕ) (at used sums : ℕ) (o : get_or ts at 0 ≡ kin
               let k : n + 1 + 1 ≡ at + wide (flat_gate (Grammar.gate p.tree)) = omega (arith, span-place (wide-cond p.tree) p.span, (wide-gate (Grammar.gate p.tree)).width) in
               let signs = span-token kind.close_square q (omega arith) then span-token kind.arrow x (omega arith) in
               let parts = span-token kind.open_square o (omega arith) then p.span then signs then g.span in (
-                to-braces (CountedNext m (root + 1) c) (counted-next-at d b.0),
+                to-braces (Ok (m, root + 1, c)) (counted-next-at d b.0),
                 (
                   record {
                     made =

@@ -3,22 +3,36 @@ use mathlib.Core.Path.{◌≡◌, refl}
 use mathlib.Core.List.{List}
 use Prim.Native.Nat.{ℕ, ◌<◌, ◌≤◌}
 use lib.ListN.{length}
+use Rattle.std.specs.Prelude.{Ok, Err, MatchResult, IsErrAnd}
 use Rattle.grammar.specs.Limit.{token_limit}
-use Rattle.syntax.specs.Judged.{Fitting, Judged}
-use Rattle.syntax.specs.Asked.{no5, no6, Asks}
-use Rattle.syntax.specs.declared.line.Text.{Text}
-use Rattle.syntax.specs.declared.line.Text.TheVariants.{Fits, Broken}
-use Rattle.syntax.specs.declared.question.Asked.TheVariants.{Passed, Misfit, Crowded}
+use Rattle.syntax.specs.declared.question.Unfit.{Unfit}
+use Rattle.syntax.specs.declared.question.Unfit.TheVariants.{Crowded, Misfit}
+use Rattle.syntax.specs.Judged.{Fitting, Judged, Text}
+use Rattle.syntax.specs.Asked.{no5, no6, Asks, Asked}
 
-module _ (ts t : List ℕ) (r : Text) (j : Judged ts t r) where
-  pub misfits : {k : ℕ} → r ≡ Broken k → Asks ts t (Misfit k)
-  unfolding Judged Asks
-  misfits e = no5 refl (rw e at j)
+-- a text's answer as that to question 5
+abbrev pub Asked5 : Text → Asked → Type 0
+Asked5 r s = MatchResult r (λ x. s ≡ Ok x) (λ k. IsErrAnd s (λ u. u ≡ Misfit k))
 
-  pub crowds : {root : ℕ} → r ≡ Fits root → token_limit < length ts → Asks ts t (Crowded token_limit)
-  unfolding Judged Asks
-  crowds {root} e h = let f : Fitting ts t root = rw e at j in no6 refl f.tree f.reads h refl
+broken : (r : Text) {s : Asked} → Asked5 r s → {u : Unfit} → s ≡ Err u → (k : ℕ) × (r ≡ Err k) × (u ≡ Misfit k)
+broken (Ok x) m e = absurd (cc)
+broken (Err k) m e = (k, refl, rw e at m)
 
-  pub passed : {root : ℕ} → r ≡ Fits root → length ts ≤ token_limit → Asks ts t (Passed root)
+fits : (r : Text) {s : Asked} → Asked5 r s → {root : ℕ} → s ≡ Ok root → r ≡ Ok root
+fits (Ok x) m e = cc
+fits (Err k) m e = absurd (rw e at m)
+
+module _ (ts t : List ℕ) (r : Text) (j : Judged ts t r) (s : Asked) (m : Asked5 r s) where
+  pub misfits : {u : Unfit} → s ≡ Err u → Asks ts t (Err u)
   unfolding Judged Asks
-  passed e h = (rw e at j, h)
+  misfits e =
+      let q = broken r m e in rw q.2 (no5 refl (rw q.1 at j))
+
+  pub crowds : {root : ℕ} → s ≡ Ok root → token_limit < length ts → Asks ts t (Err (Crowded token_limit))
+  unfolding Judged Asks
+  crowds {root} e h =
+      let f : Fitting ts t root = rw (fits r m e) at j in no6 refl f.tree f.reads h refl
+
+  pub passed : {root : ℕ} → s ≡ Ok root → length ts ≤ token_limit → Asks ts t (Ok root)
+  unfolding Judged Asks
+  passed e h = (rw (fits r m e) at j, h)

@@ -7,6 +7,7 @@ use Prim.Native.Nat.{ℕ, ◌+◌, ◌≤◌}
 use native.Mathlib.Omega.{arith}
 use borrow.Author.Tests.{ne_eqb}
 use lib.ListN.{length, get_or}
+use Rattle.std.specs.Prelude.{Err, Ok}
 use Rattle.token.specs.Kind as kind
 use Rattle.grammar.specs.Grammar
 use Rattle.grammar.specs.Grammar.{Number, flat_whole, flat_number, flat_scale, flat_atom, flat_rate}
@@ -14,12 +15,10 @@ use Rattle.grammar.specs.Machine.{Sym, Unsigned, Number', Scale', RateTail, Atom
 use Rattle.grammar.specs.Syntax.{number_at, scale_at, atom_at, rate_at}
 use Rattle.grammar.proofs.Follows.{here, like, join, takes, passes, sticks}
 use Rattle.grammar.proofs.Wide.{wide-scale}
-use Rattle.tree.specs.declared.Read.{Read}
-use Rattle.tree.specs.declared.Read.TheVariants.{Next, Fault}
 use Rattle.tree.specs.Node as node
 use Rattle.tree.specs.Node.{number_kind}
 use Rattle.tree.specs.Table
-use Rattle.tree.specs.Reading.{place, Parsed}
+use Rattle.tree.specs.Reading.{place, Parsed, Read}
 use Rattle.tree.proofs.Holds.{expr-interval, scale-interval}
 use Rattle.tree.proofs.Spans.{span-token, ◌then◌, span-as, Wrote, span-wrote, seen-leaf, next-at, made_of, parsed-as}
 use Rattle.syntax.specs.Rate.{flat_unsigned, HoldsUnsigned}
@@ -43,7 +42,7 @@ Rate ts t t' at = Answers a_rate flat_rate (λ s x. Table.Rate s (rate_at x at))
 -- ---- a number after its `-`, or without one
 
 module _ (base : ℕ) (ts t : List ℕ) (at used : ℕ) where
-  pub unsigned-whole : {t' : List ℕ} → get_or ts at 0 ≡ kind.whole → Wrote t t' used base at 0 0 → UnsignedRead base ts t t' at used (Next (at + 1) used)
+  pub unsigned-whole : {t' : List ℕ} → get_or ts at 0 ≡ kind.whole → Wrote t t' used base at 0 0 → UnsignedRead base ts t t' at used (Ok (at + 1, used))
   unfolding place Parsed table rows_of find flat_unsigned HoldsUnsigned
   unsigned-whole e w =
       let none : base + 0 ≡ base = omega arith in (
@@ -51,14 +50,14 @@ module _ (base : ℕ) (ts t : List ℕ) (at used : ℕ) where
         record { tree = false; span = span-wrote w (span-token kind.whole e (omega arith)) (omega arith); shown = rw none (seen-leaf w) },
       )
 
-  pub unsigned-decimal : {t' : List ℕ} → get_or ts at 0 ≡ kind.decimal → Wrote t t' used (base + 2) at 0 0 → UnsignedRead base ts t t' at used (Next (at + 1) used)
+  pub unsigned-decimal : {t' : List ℕ} → get_or ts at 0 ≡ kind.decimal → Wrote t t' used (base + 2) at 0 0 → UnsignedRead base ts t t' at used (Ok (at + 1, used))
   unfolding place Parsed table rows_of find flat_unsigned HoldsUnsigned
   unsigned-decimal e w = (
     takes ts at Unsigned kind.decimal e (omega arith) refl (λ l. here ts (at + 1) l),
     record { tree = true; span = span-wrote w (span-token kind.decimal e (omega arith)) (omega arith); shown = seen-leaf w },
   )
 
-  pub unsigned-stray : at ≤ length ts → (get_or ts at 0 ≡ kind.whole → ⊥) → (get_or ts at 0 ≡ kind.decimal → ⊥) → UnsignedRead base ts t t at used (Fault at)
+  pub unsigned-stray : at ≤ length ts → (get_or ts at 0 ≡ kind.whole → ⊥) → (get_or ts at 0 ≡ kind.decimal → ⊥) → UnsignedRead base ts t t at used (Err at)
   unfolding place Parsed table rows_of is_may
   unsigned-stray h n m = (sticks ts at Unsigned h refl (n, (m, tt)), refl)
 
@@ -121,7 +120,7 @@ unfolding step onto find table rows_of is_may
 number_step k n s = simp (ne_eqb k kind.name n)
 
 module _ (ts t t' : List ℕ) (at used : ℕ) where
-  pub scale-name : get_or ts at 0 ≡ kind.name → Wrote t t' used node.scale_name at 0 0 → Scale ts t t' at used (Next (at + 1) used)
+  pub scale-name : get_or ts at 0 ≡ kind.name → Wrote t t' used node.scale_name at 0 0 → Scale ts t t' at used (Ok (at + 1, used))
   unfolding place Parsed table rows_of find flat_scale scale_at Table.Scale
   scale-name e w = (
     takes ts at Scale' kind.name e (omega arith) refl (λ l. here ts (at + 1) l),
@@ -138,11 +137,11 @@ module _ (ts t t' : List ℕ) (at used : ℕ) where
 -- ---- a rate
 
 module _ (ts t t₁ : List ℕ) (at used : ℕ) {r : Read} where
-  pub rate-fault : {k : ℕ} → r ≡ Fault k → Scale ts t t₁ at used r → Rate ts t t₁ at used (Fault k)
+  pub rate-fault : {k : ℕ} → r ≡ Err k → Scale ts t t₁ at used r → Rate ts t t₁ at used (Err k)
   rate-fault = first-fails (Scale' ∷ []) (RateTail ∷ []) flat_scale _ flat_rate _ ts t t₁ at used
 
-  module _ {n left : ℕ} (e : r ≡ Next n left) (a : Scale ts t t₁ at used r) where
-    pub rate-plain : (get_or ts n 0 ≡ kind.times → ⊥) → Rate ts t t₁ at used (Next n left)
+  module _ {n left : ℕ} (e : r ≡ Ok (n, left)) (a : Scale ts t t₁ at used r) where
+    pub rate-plain : (get_or ts n 0 ≡ kind.times → ⊥) → Rate ts t t₁ at used (Ok (n, left))
     unfolding place Parsed table rows_of is_may flat_rate rate_at Table.Rate
     rate-plain s =
         let m = made_of e a.1 in (
@@ -151,10 +150,10 @@ module _ (ts t t₁ : List ℕ) (at used : ℕ) {r : Read} where
         )
 
     module _ (t₂ : List ℕ) (s : get_or ts n 0 ≡ kind.times) {r' : Read} (b : Atom ts t₁ t₂ (n + 1) (left + 1) r') where
-      pub rate-second : {k : ℕ} → r' ≡ Fault k → Rate ts t t₂ at used (Fault k)
+      pub rate-second : {k : ℕ} → r' ≡ Err k → Rate ts t t₂ at used (Err k)
       unfolding table rows_of find
       rate-second = second-fails (Scale' ∷ []) (Atom' ∷ []) (RateTail ∷ []) flat_scale flat_atom flat_rate _ _ _ ts t t₁ t₂ at used (λ q f. takes ts n RateTail kind.times s (omega arith) refl (λ l. f)) e a b
 
-      pub rate-scaled : {i root : ℕ} {t₃ : List ℕ} → r' ≡ Next i root → Wrote t₂ t₃ (root + 1) node.scaled 0 left 0 → Rate ts t t₃ at used (Next i (root + 1))
+      pub rate-scaled : {i root : ℕ} {t₃ : List ℕ} → r' ≡ Ok (i, root) → Wrote t₂ t₃ (root + 1) node.scaled 0 left 0 → Rate ts t t₃ at used (Ok (i, root + 1))
       unfolding table rows_of find flat_rate rate_at Table.Rate
       rate-scaled d w = second-made (Scale' ∷ []) (Atom' ∷ []) (RateTail ∷ []) flat_scale flat_atom flat_rate _ _ _ ts t t₁ t₂ at used (λ q f. takes ts n RateTail kind.times s (omega arith) refl (λ l. f)) e a b wide-scale (λ v. scale-interval (scale_at v at)) (λ v. expr-interval (atom_at v (n + 1))) Grammar.scaled (λ v u us. refl) (λ v u x lo k q h. rw q at h) s (omega arith) d w

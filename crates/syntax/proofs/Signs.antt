@@ -1,12 +1,12 @@
--- What a sign's kind says of the sign: it is one of the list, or, where it is 0, none of them. By induction on the list.
+-- What a sign's kind says of the sign: it is one of the list, or, where there is none, none of them. By induction on the list.
 use mathlib.Core.Path.{◌≡◌, refl}
 use mathlib.Core.List.{List, [], ◌∷◌}
 use mathlib.Core.Bool.{Bool, true, false, cond}
 use mathlib.Core.Logic.{◌⊎◌, inl, inr}
-use Prim.Native.Nat.{ℕ, ◌<◌}
-use native.Mathlib.Omega.{arith}
+use Prim.Native.Nat.{ℕ}
 use borrow.Author.Tests.{eqb-true, eqb-false}
 use lib.Dec.{eqb}
+use Rattle.std.specs.Prelude.{Some, None}
 use Rattle.syntax.specs.Signs.{sign_kind}
 
 -- t is one of the signs, and k its kind
@@ -19,25 +19,20 @@ abbrev pub Apart : ℕ → List (ℕ × ℕ) → Type 0
 Apart t [] = Unit {0}
 Apart t (s ∷ more) = (t ≡ s.0 → ⊥) × Apart t more
 
--- no kind is 0
-abbrev pub Positive : List (ℕ × ℕ) → Type 0
-Positive [] = Unit {0}
-Positive (s ∷ more) = (0 < s.1) × Positive more
-
-pub hit : (signs : List (ℕ × ℕ)) (t k : ℕ) → k ≡ sign_kind signs t → (k ≡ 0 → ⊥) → Hit t k signs
+pub hit : (signs : List (ℕ × ℕ)) (t k : ℕ) → Some k ≡ sign_kind signs t → Hit t k signs
 unfolding sign_kind
-hit [] t k e n = n e
-hit (s ∷ more) t k e n = by (eqb t s.0) refl e (λ q. hit more t k q n)
+hit [] t k e = absurd (cc)
+hit (s ∷ more) t k e = by (eqb t s.0) refl e (hit more t k)
   where
-    by : (b : Bool) → eqb t s.0 ≡ b → k ≡ cond b s.1 (sign_kind more t) → (k ≡ sign_kind more t → Hit t k more) → Hit t k (s ∷ more)
-    by true q e h = inl (eqb-true t s.0 q, e)
+    by : (b : Bool) → eqb t s.0 ≡ b → Some k ≡ cond b (Some s.1) (sign_kind more t) → (Some k ≡ sign_kind more t → Hit t k more) → Hit t k (s ∷ more)
+    by true q e h = inl (eqb-true t s.0 q, cc)
     by false q e h = inr (h e)
 
-pub apart : (signs : List (ℕ × ℕ)) (t k : ℕ) → Positive signs → k ≡ sign_kind signs t → k ≡ 0 → Apart t signs
+pub apart : (signs : List (ℕ × ℕ)) (t : ℕ) → None ≡ sign_kind signs t → Apart t signs
 unfolding sign_kind
-apart [] t k p e z = tt
-apart (s ∷ more) t k p e z = by (eqb t s.0) refl e (λ q. apart more t k p.1 q z)
+apart [] t e = tt
+apart (s ∷ more) t e = by (eqb t s.0) refl e (apart more t)
   where
-    by : (b : Bool) → eqb t s.0 ≡ b → k ≡ cond b s.1 (sign_kind more t) → (k ≡ sign_kind more t → Apart t more) → Apart t (s ∷ more)
-    by true q e h = absurd (omega (arith, p.0))
+    by : (b : Bool) → eqb t s.0 ≡ b → None ≡ cond b (Some s.1) (sign_kind more t) → (None ≡ sign_kind more t → Apart t more) → Apart t (s ∷ more)
+    by true q e h = absurd (cc)
     by false q e h = (eqb-false t s.0 q, h e)

@@ -1,6 +1,6 @@
 -- What action and rate in their braces are written as, after the `{`, and what their readers answer (01, Guarded prefix; 02, note 7). Assumes nothing: these
 -- are definitions.
-use Rattle.std.specs.Prelude.{◌≡◌, List, [], ◌∷◌, ◌++◌, ℕ, ◌+◌, ◌<◌, ◌≤◌, length, drop}
+use Rattle.std.specs.Prelude.{◌≡◌, List, [], ◌∷◌, ◌++◌, ℕ, ◌+◌, ◌<◌, ◌≤◌, length, drop, Err, Ok}
 use Rattle.token.specs.Kind as kind
 use Rattle.grammar.specs.Grammar.{Factors, Terms, Atom, Scale, Action, Rate, flat_factors, flat_terms, flat_atom, flat_scale, flat_action, flat_rate}
 use Rattle.grammar.specs.Syntax
@@ -8,11 +8,7 @@ use Rattle.grammar.specs.Syntax.{wide, factors_at, terms_at, atom_at, scale_at, 
 use Rattle.grammar.specs.Machine.{Want, the_rate}
 use Rattle.grammar.specs.Follows.{Follows}
 use Rattle.tree.specs.Table
-use Rattle.tree.specs.Reading.{place_counted, Ready, Span, Tallied}
-use Rattle.tree.specs.declared.Read.{Read}
-use Rattle.tree.specs.declared.Read.TheVariants.{Next, Fault}
-use Rattle.tree.specs.declared.Counted.{Counted}
-use Rattle.tree.specs.declared.Counted.TheVariants.{Next as CountedNext, Fault as CountedFault}
+use Rattle.tree.specs.Reading.{place_counted, Ready, Span, Tallied, Read, Counted}
 use Rattle.syntax.specs.Actions.{Deed, flat_deed, deed_at}
 use Rattle.syntax.specs.Channels.{Third, flat_third, third_at}
 use Rattle.syntax.specs.Processes.{Spare}
@@ -32,13 +28,13 @@ abbrev pub Rating : List ℕ → List ℕ → List ℕ → ℕ → ℕ → Count
 Rating ts t t' at left = Tallied flat_rated (λ v. 0) (λ s v. Table.Rate s (rate_at v (at + 1))) ts t t' at (left + 1) left
 
 unfoldable pub Ended : List ℕ → List ℕ → List ℕ → Read → Counted → Type 0
-Ended ts t t' (Next n left) r = Follows ts n (the_rate ++ Want kind.close_curly ∷ []) (place_counted r) × (Rating ts t t' n left r × Spare (n + 1) (left + 1) left r)
-Ended ts t t' (Fault k) r = (r ≡ CountedFault k) × (t' ≡ t)
+Ended ts t t' (Ok (n, left)) r = Follows ts n (the_rate ++ Want kind.close_curly ∷ []) (place_counted r) × (Rating ts t t' n left r × Spare (n + 1) (left + 1) left r)
+Ended ts t t' (Err k) r = (r ≡ Err k) × (t' ≡ t)
 
 -- where that reader may start
 unfoldable pub ReadyAfter : List ℕ → Read → Type 0
-ReadyAfter ts (Next n left) = Ready ts n (left + 1)
-ReadyAfter ts (Fault k) = Unit {0}
+ReadyAfter ts (Ok (n, left)) = Ready ts n (left + 1)
+ReadyAfter ts (Err k) = Unit {0}
 
 -- action and rate were read, with their roots at `left` and root: with the comma and the `}`, there are two tokens more than nodes
 pub record Inner (ts t t' : List ℕ) (at used n root left : ℕ) : Type 0 where
@@ -51,8 +47,8 @@ pub record Inner (ts t t' : List ℕ) (at used n root left : ℕ) : Type 0 where
   pub rates : root < length t' → Table.Rate t' (rate_at rate (at + wide (flat_action action) + 1)) (left + 1) root
 
 unfoldable pub Inside : List ℕ → List ℕ → List ℕ → ℕ → ℕ → Counted → Type 0
-Inside ts t t' at used (CountedNext n root left) = Inner ts t t' at used n root left
-Inside ts t t' at used (CountedFault k) = length t' ≡ length t
+Inside ts t t' at used (Ok (n, root, left)) = Inner ts t t' at used n root left
+Inside ts t t' at used (Err k) = length t' ≡ length t
 
 -- what is done on a channel was read, after its first two items, with their roots at `first` and mid; the comma between these pays for the channel's node
 pub record Done (ts t t' : List ℕ) (at first mid n left : ℕ) : Type 0 where
@@ -71,8 +67,8 @@ pub record Seconded (ts t t' : List ℕ) (at first mid : ℕ) (r : Counted) : Ty
   pub spare : Spare (comma + 1) (left + 1) left r
 
 unfoldable pub Seconds : List ℕ → List ℕ → List ℕ → ℕ → ℕ → ℕ → Counted → Type 0
-Seconds ts t t' at first mid (CountedNext n root left) = Seconded ts t t' at first mid (CountedNext n root left)
-Seconds ts t t' at first mid (CountedFault k) = length t' ≡ length t
+Seconds ts t t' at first mid (Ok (n, root, left)) = Seconded ts t t' at first mid (Ok (n, root, left))
+Seconds ts t t' at first mid (Err k) = length t' ≡ length t
 
 -- an item after its first atom
 unfoldable pub flat_rest : Factors × Terms → List ℕ → List ℕ

@@ -1,14 +1,12 @@
 -- What a channel's items after the first and after the second are written as, and the channel that they make (01, Actions; 02, note 7). Assumes nothing: these
 -- are definitions.
-use Rattle.std.specs.Prelude.{◌≡◌, List, ◌∷◌, ℕ, ◌+◌, ◌<◌, length}
+use Rattle.std.specs.Prelude.{◌≡◌, List, ◌∷◌, ℕ, ◌+◌, ◌<◌, length, Err, Ok}
 use Rattle.token.specs.Kind as kind
 use Rattle.grammar.specs.Grammar.{Expr, flat_expr}
 use Rattle.grammar.specs.Syntax
 use Rattle.grammar.specs.Syntax.{wide, expr_at}
 use Rattle.tree.specs.Table
-use Rattle.tree.specs.Reading.{Span}
-use Rattle.tree.specs.declared.Read.{Read}
-use Rattle.tree.specs.declared.Read.TheVariants.{Next, Fault}
+use Rattle.tree.specs.Reading.{Span, Read}
 
 -- after the second item, perhaps a third; after the first, perhaps more
 pub data Third : Type 0 where
@@ -44,5 +42,5 @@ pub record Itemised (ts t t' : List ℕ) (at left mid n root : ℕ) : Type 0 whe
   pub shown : root < length t' → (e f : Syntax.Expr) (lo : ℕ) → Table.Expr t e lo left → Table.Expr t f (left + 1) mid → Table.Channel t' (third_at e f tree at) lo root
 
 unfoldable pub Items : List ℕ → List ℕ → List ℕ → ℕ → ℕ → ℕ → Read → Type 0
-Items ts t t' at left mid (Next n root) = Itemised ts t t' at left mid n root
-Items ts t t' at left mid (Fault k) = length t' ≡ length t
+Items ts t t' at left mid (Ok (n, root)) = Itemised ts t t' at left mid n root
+Items ts t t' at left mid (Err k) = length t' ≡ length t

@@ -1,11 +1,9 @@
 -- What reading a whole text answers (01, Opening a text, question 5), and what the reader's parts are written as where the grammar has no one type for
 -- them. Assumes nothing: these are definitions.
-use Rattle.std.specs.Prelude.{List, ℕ, ◌+◌, ◌<◌, length}
+use Rattle.std.specs.Prelude.{List, ℕ, ◌+◌, ◌<◌, length, Result, Ok, Err}
 use Rattle.grammar.specs.Grammar.{Model, Prefix, Choices, flat_prefix, flat_choices, Reads, Wrong}
 use Rattle.grammar.specs.Syntax.{sums_prefix, sums_choices, syntax_of}
 use Rattle.tree.specs.Table
-use Rattle.syntax.specs.declared.line.Text.{Text}
-use Rattle.syntax.specs.declared.line.Text.TheVariants.{Fits, Broken}
 
 -- a sum: a prefix and those after it
 unfoldable pub written_sum : Prefix × Choices → List ℕ → List ℕ
@@ -22,7 +20,11 @@ pub record Fitting (ts t : List ℕ) (root : ℕ) : Type 0 where
   pub few : root < length ts
   pub shown : root < length t → Table.Model t (syntax_of tree) 0 root
 
+-- the root of the tree, or the token that doesn't fit
+abbrev pub Text : Type 0
+Text = Result ℕ ℕ
+
 -- 5: the text fits, or goes wrong at this token
 unfoldable pub Judged : List ℕ → List ℕ → Text → Type 0
-Judged ts t (Fits root) = Fitting ts t root
-Judged ts t (Broken k) = Wrong ts k
+Judged ts t (Ok root) = Fitting ts t root
+Judged ts t (Err k) = Wrong ts k

@@ -1,13 +1,12 @@
 -- What the functions answer that read definitions, the system line's items and their lists (01, Model). Assumes nothing: these are definitions.
-use Rattle.std.specs.Prelude.{◌≡◌, List, [], ◌∷◌, ◌++◌, Bool, ◌&&◌, ◌||◌, ℕ, ◌+◌, ◌≤◌, ◌<◌, eqb, length, get_or, drop}
+use Rattle.std.specs.Prelude.{◌≡◌, List, [], ◌∷◌, ◌++◌, Bool, ◌&&◌, ◌||◌, ℕ, ◌+◌, ◌≤◌, ◌<◌, eqb, length, get_or, drop, Err, Ok}
+use Rattle.tree.specs.Reading.{Read}
 use Rattle.token.specs.Kind as kind
 use Rattle.grammar.specs.Grammar.{Body, Params, no_params, params, Wholes, flat_params, flat_wholes, flat_body}
 use Rattle.grammar.specs.Machine.{Sym, Want, Params', a_body}
 use Rattle.grammar.specs.Syntax
 use Rattle.grammar.specs.Syntax.{wide, count_names, params_at, body_at, sums_body}
 use Rattle.tree.specs.Table
-use Rattle.tree.specs.declared.Read.{Read}
-use Rattle.tree.specs.declared.Read.TheVariants.{Next, Fault}
 
 -- 01, Model: a definition starts at token k, and not the system line: a name, `[`, and then a name, or `]` and `=`
 unfoldable pub defining : List ℕ → ℕ → Bool
@@ -34,8 +33,8 @@ pub record Given (ts : List ℕ) (at n count : ℕ) : Type 0 where
   pub within : n ≤ length ts
 
 unfoldable pub Parameters : List ℕ → ℕ → Read → Type 0
-Parameters ts at (Next n count) = Given ts at n count
-Parameters ts at (Fault k) = Unit {0}
+Parameters ts at (Ok (n, count)) = Given ts at n count
+Parameters ts at (Err k) = Unit {0}
 
 -- a definition after its name, with its `;`
 unfoldable pub written_definition : Params × Body → List ℕ → List ℕ

@@ -1,12 +1,11 @@
 -- What the parts of a process are written as, and their syntax trees, where the grammar has no one type for them (01, Guarded prefix, Continuation, Sum).
 -- Assumes nothing: these are definitions.
-use Rattle.std.specs.Prelude.{List, ◌∷◌, ℕ, ◌+◌, ◌<◌}
+use Rattle.std.specs.Prelude.{List, ◌∷◌, ℕ, ◌+◌, ◌<◌, Err, Ok}
+use Rattle.tree.specs.Reading.{Counted}
 use Rattle.token.specs.Kind as kind
 use Rattle.grammar.specs.Grammar.{Action, Rate, Next, Exprs, Args, Prefix, Choices, Item, Items, flat_action, flat_rate, flat_next, flat_exprs, flat_args, flat_prefix, flat_item, flat_items}
 use Rattle.grammar.specs.Syntax
 use Rattle.grammar.specs.Syntax.{wide, action_at, rate_at, next_at, args_at, branch_at, branches_at, item_at, conts_at, sums_prefix, sums_next, sums_item, sums_items, sums_choices}
-use Rattle.tree.specs.declared.Counted.{Counted}
-use Rattle.tree.specs.declared.Counted.TheVariants.{Next as CountedNext, Fault as CountedFault}
 
 -- 01, Guarded prefix: what stands after the gate, from the `{` on: action, rate, and what follows
 abbrev pub Offer : Type 0
@@ -64,5 +63,5 @@ branches_from x k n = branches_at (branch_at x.0 k n) x.1 (k + wide (flat_prefix
 
 -- what was read has a token more than nodes, and than sums in it: there is room for the node and the number of a sum around it
 unfoldable pub Spare : ℕ → ℕ → ℕ → Counted → Type 0
-Spare at used c (CountedNext n root m) = (root + 1 + at < used + n) × (m + at < c + n)
-Spare at used c (CountedFault k) = Unit {0}
+Spare at used c (Ok (n, root, m)) = (root + 1 + at < used + n) × (m + at < c + n)
+Spare at used c (Err k) = Unit {0}

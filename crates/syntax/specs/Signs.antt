@@ -1,5 +1,5 @@
 -- The signs between the parts of an expression, a set or a relation, each with the kind of the node that it makes. Assumes nothing: these are definitions.
-use Rattle.std.specs.Prelude.{List, [], ◌∷◌, cond, ℕ, eqb}
+use Rattle.std.specs.Prelude.{List, [], ◌∷◌, cond, ℕ, eqb, Option, Some, None}
 use Rattle.token.specs.Kind as kind
 use Rattle.grammar.specs.Grammar.{less, at_most, greater, at_least, same, differs}
 use Rattle.grammar.specs.Syntax.{plus, minus, times, divide, without, union, inter}
@@ -27,7 +27,7 @@ relation_signs =
     (kind.same, relation_kind same) ∷
     (kind.differs, relation_kind differs) ∷ []
 
--- the kind of the node that the token t makes, or 0 if it is none of the signs
-unfoldable pub sign_kind : List (ℕ × ℕ) → ℕ → ℕ
-sign_kind [] t = 0
-sign_kind (s ∷ more) t = cond (eqb t s.0) s.1 (sign_kind more t)
+-- the kind of the node that the token t makes, if it is one of the signs
+unfoldable pub sign_kind : List (ℕ × ℕ) → ℕ → Option ℕ
+sign_kind [] t = None
+sign_kind (s ∷ more) t = cond (eqb t s.0) (Some s.1) (sign_kind more t)

@@ -21,31 +21,23 @@ pub fn values(toks: &[u8], at: usize, nodes: &mut [u64], used: usize) -> Read
     ensures parsed { Parsed flat_values (λ t v. Table.Values t (values_at v at)) toks.now nodes.old nodes.new at used result }
 {
     if token::peek(toks, at) != b'[' {
-        return Read::Fault(at);
+        return Err(at);
     }
-    match expression::expr(toks, at + 1, nodes, used) {
-        Read::Fault(k) => Read::Fault(k),
-        Read::Next(n, left) => {
-            let t = token::peek(toks, n);
-            if t == b']' {
-                return Read::Next(n + 1, left);
-            }
-            if t != b',' {
-                return Read::Fault(n);
-            }
-            match expression::expr(toks, n + 1, nodes, left + 1) {
-                Read::Fault(k) => Read::Fault(k),
-                Read::Next(m, r) => {
-                    if token::peek(toks, m) != b']' {
-                        return Read::Fault(m);
-                    }
-                    let root = r + 1;
-                    tree::node(nodes, root, NodeKind::PAIR, 0, left, 0);
-                    Read::Next(m + 1, root)
-                }
-            }
-        }
+    let (n, left) = expression::expr(toks, at + 1, nodes, used)?;
+    let t = token::peek(toks, n);
+    if t == b']' {
+        return Ok((n + 1, left));
     }
+    if t != b',' {
+        return Err(n);
+    }
+    let (m, r) = expression::expr(toks, n + 1, nodes, left + 1)?;
+    if token::peek(toks, m) != b']' {
+        return Err(m);
+    }
+    let root = r + 1;
+    tree::node(nodes, root, NodeKind::PAIR, 0, left, 0);
+    Ok((m + 1, root))
 }
 
 // One or two sets in square brackets.
@@ -55,31 +47,23 @@ pub fn sets(toks: &[u8], at: usize, nodes: &mut [u64], used: usize) -> Read
     ensures parsed { Parsed flat_sets (λ t s. Table.Sets t (sets_at s at)) toks.now nodes.old nodes.new at used result }
 {
     if token::peek(toks, at) != b'[' {
-        return Read::Fault(at);
+        return Err(at);
     }
-    match set::set(toks, at + 1, nodes, used) {
-        Read::Fault(k) => Read::Fault(k),
-        Read::Next(n, left) => {
-            let t = token::peek(toks, n);
-            if t == b']' {
-                return Read::Next(n + 1, left);
-            }
-            if t != b',' {
-                return Read::Fault(n);
-            }
-            match set::set(toks, n + 1, nodes, left + 1) {
-                Read::Fault(k) => Read::Fault(k),
-                Read::Next(m, r) => {
-                    if token::peek(toks, m) != b']' {
-                        return Read::Fault(m);
-                    }
-                    let root = r + 1;
-                    tree::node(nodes, root, NodeKind::PAIR, 0, left, 0);
-                    Read::Next(m + 1, root)
-                }
-            }
-        }
+    let (n, left) = set::set(toks, at + 1, nodes, used)?;
+    let t = token::peek(toks, n);
+    if t == b']' {
+        return Ok((n + 1, left));
     }
+    if t != b',' {
+        return Err(n);
+    }
+    let (m, r) = set::set(toks, n + 1, nodes, left + 1)?;
+    if token::peek(toks, m) != b']' {
+        return Err(m);
+    }
+    let root = r + 1;
+    tree::node(nodes, root, NodeKind::PAIR, 0, left, 0);
+    Ok((m + 1, root))
 }
 
 // Names parted by commas and the bracket after them: the next token, and how many names.
@@ -91,20 +75,18 @@ pub fn names(toks: &[u8], at: usize, close: u8) -> Read
     ensures listing { Listing toks.now at close result }
 {
     if token::peek(toks, at) != Kind::NAME {
-        return Read::Fault(at);
+        return Err(at);
     }
     let n = at + 1;
     let t = token::peek(toks, n);
     if t == close {
-        return Read::Next(n + 1, 1);
+        return Ok((n + 1, 1));
     }
     if t != b',' {
-        return Read::Fault(n);
+        return Err(n);
     }
-    match names(toks, n + 1, close) {
-        Read::Fault(k) => Read::Fault(k),
-        Read::Next(m, count) => Read::Next(m, count + 1),
-    }
+    let (m, count) = names(toks, n + 1, close)?;
+    Ok((m, count + 1))
 }
 
 // The values that are sent, from the sign on; the channel is at `left`, `kind` is that of the action.
@@ -114,14 +96,10 @@ pub fn sending(toks: &[u8], at: usize, nodes: &mut [u64], left: usize, kind: u8)
     ensures follows { Follows toks.now (at + 1) (the_values) (place result) }
     ensures extended { Extended (flat_sent (get_or toks.now at 0)) (λ c v. (c, v)) Table.Channel (Sent kind at) toks.now nodes.old nodes.new at left result }
 {
-    match values(toks, at + 1, nodes, left + 1) {
-        Read::Fault(k) => Read::Fault(k),
-        Read::Next(n, r) => {
-            let root = r + 1;
-            tree::node(nodes, root, kind, 0, left, 0);
-            Read::Next(n, root)
-        }
-    }
+    let (n, r) = values(toks, at + 1, nodes, left + 1)?;
+    let root = r + 1;
+    tree::node(nodes, root, kind, 0, left, 0);
+    Ok((n, root))
 }
 
 // The sets of a receive, from its sign on, and the names it binds, if any; `kind` is that of a receive without names.
@@ -132,24 +110,16 @@ pub fn receiving(toks: &[u8], at: usize, nodes: &mut [u64], left: usize, kind: u
     ensures follows { Follows toks.now (at + 1) (the_sets ++ BoundNames ∷ []) (place result) }
     ensures extended { Extended (flat_heard (get_or toks.now at 0)) (λ c h. (c, h)) Table.Channel (Heard kind at) toks.now nodes.old nodes.new at left result }
 {
-    match sets(toks, at + 1, nodes, left + 1) {
-        Read::Fault(k) => Read::Fault(k),
-        Read::Next(n, r) => {
-            let root = r + 1;
-            if token::peek(toks, n) != b'(' {
-                tree::node(nodes, root, kind, 0, left, 0);
-                return Read::Next(n, root);
-            }
-            let first = n + 1;
-            match names(toks, first, b')') {
-                Read::Fault(k) => Read::Fault(k),
-                Read::Next(m, count) => {
-                    tree::node(nodes, root, kind + 1, first, left, count);
-                    Read::Next(m, root)
-                }
-            }
-        }
+    let (n, r) = sets(toks, at + 1, nodes, left + 1)?;
+    let root = r + 1;
+    if token::peek(toks, n) != b'(' {
+        tree::node(nodes, root, kind, 0, left, 0);
+        return Ok((n, root));
     }
+    let first = n + 1;
+    let (m, count) = names(toks, first, b')')?;
+    tree::node(nodes, root, kind + 1, first, left, count);
+    Ok((m, root))
 }
 
 // What is done on the channel at `left`: a launch, kill or receive.
@@ -158,17 +128,12 @@ pub fn deed(toks: &[u8], at: usize, nodes: &mut [u64], left: usize) -> Read
     ensures follows { Follows toks.now at (ChannelEnd ∷ []) (place result) }
     ensures extended { Extended flat_deed (λ c d. deed_at c d at) Table.Channel Table.Action toks.now nodes.old nodes.new at left result }
 {
-    let t = token::peek(toks, at);
-    if t == b'!' {
-        return sending(toks, at, nodes, left, NodeKind::LAUNCH);
+    match token::peek(toks, at) {
+        b'!' => sending(toks, at, nodes, left, NodeKind::LAUNCH),
+        b'#' => sending(toks, at, nodes, left, NodeKind::KILL),
+        b'?' => receiving(toks, at, nodes, left, NodeKind::RECEIVE),
+        _ => Err(at),
     }
-    if t == b'#' {
-        return sending(toks, at, nodes, left, NodeKind::KILL);
-    }
-    if t == b'?' {
-        return receiving(toks, at, nodes, left, NodeKind::RECEIVE);
-    }
-    Read::Fault(at)
 }
 
 // A launch, kill or receive, from its channel on.
@@ -177,10 +142,8 @@ pub fn beacon(toks: &[u8], at: usize, nodes: &mut [u64], used: usize) -> Read
     ensures follows { Follows toks.now at (a_channel ++ ChannelEnd ∷ []) (place result) }
     ensures parsed { Parsed flat_action (λ t a. Table.Action t (action_at a at)) toks.now nodes.old nodes.new at used result }
 {
-    match channel::channel(toks, at, nodes, used) {
-        Read::Fault(k) => Read::Fault(k),
-        Read::Next(n, left) => deed(toks, n, nodes, left),
-    }
+    let (n, left) = channel::channel(toks, at, nodes, used)?;
+    deed(toks, n, nodes, left)
 }
 
 // A check, from its `~` on.
@@ -190,22 +153,14 @@ pub fn check(toks: &[u8], at: usize, nodes: &mut [u64], used: usize) -> Read
     ensures follows { Follows toks.now at (Want kind.tilde ∷ a_channel ++ Want kind.query ∷ the_sets) (place result) }
     ensures parsed { Parsed flat_action (λ t a. Table.Action t (action_at a at)) toks.now nodes.old nodes.new at used result }
 {
-    match channel::channel(toks, at + 1, nodes, used) {
-        Read::Fault(k) => Read::Fault(k),
-        Read::Next(n, left) => {
-            if token::peek(toks, n) != b'?' {
-                return Read::Fault(n);
-            }
-            match sets(toks, n + 1, nodes, left + 1) {
-                Read::Fault(k) => Read::Fault(k),
-                Read::Next(m, r) => {
-                    let root = r + 1;
-                    tree::node(nodes, root, NodeKind::CHECK, 0, left, 0);
-                    Read::Next(m, root)
-                }
-            }
-        }
+    let (n, left) = channel::channel(toks, at + 1, nodes, used)?;
+    if token::peek(toks, n) != b'?' {
+        return Err(n);
     }
+    let (m, r) = sets(toks, n + 1, nodes, left + 1)?;
+    let root = r + 1;
+    tree::node(nodes, root, NodeKind::CHECK, 0, left, 0);
+    Ok((m, root))
 }
 
 // A handshake, from its `@` on.
@@ -215,17 +170,10 @@ pub fn handshake(toks: &[u8], at: usize, nodes: &mut [u64], used: usize) -> Read
     ensures follows { Follows toks.now at (Want kind.at ∷ a_channel ++ HandEnd ∷ []) (place result) }
     ensures parsed { Parsed flat_action (λ t a. Table.Action t (action_at a at)) toks.now nodes.old nodes.new at used result }
 {
-    match channel::channel(toks, at + 1, nodes, used) {
-        Read::Fault(k) => Read::Fault(k),
-        Read::Next(n, left) => {
-            let t = token::peek(toks, n);
-            if t == b'!' {
-                return sending(toks, n, nodes, left, NodeKind::HAND_SEND);
-            }
-            if t == b'?' {
-                return receiving(toks, n, nodes, left, NodeKind::HAND_RECEIVE);
-            }
-            Read::Fault(n)
-        }
+    let (n, left) = channel::channel(toks, at + 1, nodes, used)?;
+    match token::peek(toks, n) {
+        b'!' => sending(toks, n, nodes, left, NodeKind::HAND_SEND),
+        b'?' => receiving(toks, n, nodes, left, NodeKind::HAND_RECEIVE),
+        _ => Err(n),
     }
 }

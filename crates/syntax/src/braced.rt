@@ -20,15 +20,11 @@ pub fn closed(toks: &[u8], at: usize, nodes: &mut [u64], left: usize) -> Counted
     ensures tallied { Tallied flat_closed (λ v. 0) (λ t v. Table.Rate t (rate_at v at)) toks.now nodes.old nodes.new at (left + 1) left result }
     ensures spare { Spare at (left + 1) left result }
 {
-    match rate::rate(toks, at, nodes, left + 1) {
-        Read::Fault(k) => Counted::Fault(k),
-        Read::Next(n, root) => {
-            if token::peek(toks, n) != b'}' {
-                return Counted::Fault(n);
-            }
-            Counted::Next(n + 1, root, left)
-        }
+    let (n, root) = rate::rate(toks, at, nodes, left + 1)?;
+    if token::peek(toks, n) != b'}' {
+        return Err(n);
     }
+    Ok((n + 1, root, left))
 }
 
 // An action that was read, the comma after it, a rate and the `}`.
@@ -36,15 +32,11 @@ pub fn rated(toks: &[u8], nodes: &mut [u64], read: Read) -> Counted
     requires { ReadyAfter toks.now read }
     ensures { Ended toks.now nodes.old nodes.new read result }
 {
-    match read {
-        Read::Fault(k) => Counted::Fault(k),
-        Read::Next(n, left) => {
-            if token::peek(toks, n) != b',' {
-                return Counted::Fault(n);
-            }
-            closed(toks, n + 1, nodes, left)
-        }
+    let (n, left) = read?;
+    if token::peek(toks, n) != b',' {
+        return Err(n);
     }
+    closed(toks, n + 1, nodes, left)
 }
 
 // What follows a channel's first two items, which are at `first` and `mid`, up to the `}`.
@@ -54,13 +46,9 @@ pub fn second(toks: &[u8], at: usize, nodes: &mut [u64], first: usize, mid: usiz
     ensures follows { Follows toks.now at (ThirdItem ∷ the_deed ++ Want kind.close_curly ∷ []) (place_counted result) }
     ensures seconds { Seconds toks.now nodes.old nodes.new at first mid result }
 {
-    match channel::thirds(toks, at, nodes, first, mid) {
-        Read::Fault(k) => Counted::Fault(k),
-        Read::Next(n, left) => {
-            let r = action::deed(toks, n, nodes, left);
-            rated(toks, nodes, r)
-        }
-    }
+    let (n, left) = channel::thirds(toks, at, nodes, first, mid)?;
+    let r = action::deed(toks, n, nodes, left);
+    rated(toks, nodes, r)
 }
 
 // What follows an item's first atom, which is at `left`.
@@ -69,10 +57,8 @@ pub fn rest(toks: &[u8], at: usize, nodes: &mut [u64], left: usize) -> Read
     ensures follows { Follows toks.now at (Factors' ∷ Terms' ∷ []) (place result) }
     ensures extended { Extended flat_rest (λ x p. rest_at x p at) Table.Expr Table.Expr toks.now nodes.old nodes.new at left result }
 {
-    match expression::factors(toks, at, nodes, left) {
-        Read::Fault(k) => Read::Fault(k),
-        Read::Next(n, r) => expression::terms(toks, n, nodes, r),
-    }
+    let (n, r) = expression::factors(toks, at, nodes, left)?;
+    expression::terms(toks, n, nodes, r)
 }
 
 // After a name and a comma, what may be a rate's number or name, or an item's: the last of its tokens is `digits`, its node is of the one kind or the other.
@@ -100,14 +86,12 @@ pub fn undecided(
     if t == b'}' {
         tree::node(nodes, used, NodeKind::WAIT, name, 0, 0);
         tree::node(nodes, root, rate, digits, 0, 0);
-        return Counted::Next(at + 1, root, used);
+        return Ok((at + 1, root, used));
     }
     tree::node(nodes, used, NodeKind::NAMED, name, 0, 0);
     tree::node(nodes, root, item, digits, 0, 0);
-    match rest(toks, at, nodes, root) {
-        Read::Fault(k) => Counted::Fault(k),
-        Read::Next(n, mid) => second(toks, n, nodes, used, mid),
-    }
+    let (n, mid) = rest(toks, at, nodes, root)?;
+    second(toks, n, nodes, used, mid)
 }
 
 // The same, with a `*` after it.
@@ -128,25 +112,19 @@ pub fn product(
     ensures inside { Inside toks.now nodes.old nodes.new name used result }
 {
     let left = used + 1;
-    match expression::atom(toks, digits + 1 + 1, nodes, left + 1) {
-        Read::Fault(k) => Counted::Fault(k),
-        Read::Next(n, r) => {
-            let root = r + 1;
-            if token::peek(toks, n) == b'}' {
-                tree::node(nodes, used, NodeKind::WAIT, name, 0, 0);
-                tree::node(nodes, left, rate, digits, 0, 0);
-                tree::node(nodes, root, NodeKind::SCALED, 0, left, 0);
-                return Counted::Next(n + 1, root, used);
-            }
-            tree::node(nodes, used, NodeKind::NAMED, name, 0, 0);
-            tree::node(nodes, left, item, digits, 0, 0);
-            tree::node(nodes, root, NodeKind::TIMES, 0, left, 0);
-            match rest(toks, n, nodes, root) {
-                Read::Fault(k) => Counted::Fault(k),
-                Read::Next(m, mid) => second(toks, m, nodes, used, mid),
-            }
-        }
+    let (n, r) = expression::atom(toks, digits + 1 + 1, nodes, left + 1)?;
+    let root = r + 1;
+    if token::peek(toks, n) == b'}' {
+        tree::node(nodes, used, NodeKind::WAIT, name, 0, 0);
+        tree::node(nodes, left, rate, digits, 0, 0);
+        tree::node(nodes, root, NodeKind::SCALED, 0, left, 0);
+        return Ok((n + 1, root, used));
     }
+    tree::node(nodes, used, NodeKind::NAMED, name, 0, 0);
+    tree::node(nodes, left, item, digits, 0, 0);
+    tree::node(nodes, root, NodeKind::TIMES, 0, left, 0);
+    let (m, mid) = rest(toks, n, nodes, root)?;
+    second(toks, m, nodes, used, mid)
 }
 
 // A name and a comma, and what follows: a rate, or a channel's second item.
@@ -157,9 +135,8 @@ pub fn lone(toks: &[u8], at: usize, nodes: &mut [u64], used: usize) -> Counted
     ensures inside { Inside toks.now nodes.old nodes.new at used result }
 {
     let n = at + 1 + 1;
-    let t = token::peek(toks, n);
-    if t == Kind::NAME {
-        return undecided(
+    match token::peek(toks, n) {
+        Kind::NAME => undecided(
             toks,
             at,
             nodes,
@@ -167,10 +144,8 @@ pub fn lone(toks: &[u8], at: usize, nodes: &mut [u64], used: usize) -> Counted
             n,
             NodeKind::SCALE_NAME,
             NodeKind::NAMED,
-        );
-    }
-    if t == Kind::WHOLE {
-        return undecided(
+        ),
+        Kind::WHOLE => undecided(
             toks,
             at,
             nodes,
@@ -178,19 +153,17 @@ pub fn lone(toks: &[u8], at: usize, nodes: &mut [u64], used: usize) -> Counted
             n,
             NodeKind::NUMBER,
             NodeKind::LITERAL,
-        );
-    }
-    if t == b'-' {
-        return lone_minus(toks, at, nodes, used);
-    }
-    if t == Kind::DECIMAL {
-        tree::node(nodes, used, NodeKind::WAIT, at, 0, 0);
-        return closed(toks, n, nodes, used);
-    }
-    tree::node(nodes, used, NodeKind::NAMED, at, 0, 0);
-    match expression::expr(toks, n, nodes, used + 1) {
-        Read::Fault(k) => Counted::Fault(k),
-        Read::Next(m, mid) => second(toks, m, nodes, used, mid),
+        ),
+        b'-' => lone_minus(toks, at, nodes, used),
+        Kind::DECIMAL => {
+            tree::node(nodes, used, NodeKind::WAIT, at, 0, 0);
+            closed(toks, n, nodes, used)
+        }
+        _ => {
+            tree::node(nodes, used, NodeKind::NAMED, at, 0, 0);
+            let (m, mid) = expression::expr(toks, n, nodes, used + 1)?;
+            second(toks, m, nodes, used, mid)
+        }
     }
 }
 
@@ -204,9 +177,8 @@ pub fn lone_minus(toks: &[u8], at: usize, nodes: &mut [u64], used: usize) -> Cou
 {
     let n = at + 1 + 1;
     let digits = n + 1;
-    let t = token::peek(toks, digits);
-    if t == Kind::WHOLE {
-        return undecided(
+    match token::peek(toks, digits) {
+        Kind::WHOLE => undecided(
             toks,
             at,
             nodes,
@@ -214,13 +186,13 @@ pub fn lone_minus(toks: &[u8], at: usize, nodes: &mut [u64], used: usize) -> Cou
             digits,
             NodeKind::NEGATIVE_NUMBER,
             NodeKind::NEGATIVE,
-        );
+        ),
+        Kind::DECIMAL => {
+            tree::node(nodes, used, NodeKind::WAIT, at, 0, 0);
+            closed(toks, n, nodes, used)
+        }
+        _ => Err(digits),
     }
-    if t == Kind::DECIMAL {
-        tree::node(nodes, used, NodeKind::WAIT, at, 0, 0);
-        return closed(toks, n, nodes, used);
-    }
-    Counted::Fault(digits)
 }
 
 // Action, comma, rate and `}`: what follows the `}`, the root of the rate and that of the action.
@@ -229,20 +201,19 @@ pub fn braced(toks: &[u8], at: usize, nodes: &mut [u64], used: usize) -> Counted
     ensures follows { Follows toks.now at (Braced ∷ Want kind.close_curly ∷ []) (place_counted result) }
     ensures inside { Inside toks.now nodes.old nodes.new at used result }
 {
-    let t = token::peek(toks, at);
-    if t == b'~' {
-        let r = action::check(toks, at, nodes, used);
-        return rated(toks, nodes, r);
-    }
-    if t == b'@' {
-        let r = action::handshake(toks, at, nodes, used);
-        return rated(toks, nodes, r);
-    }
-    if t == Kind::NAME {
-        if token::peek(toks, at + 1) == b',' {
-            return lone(toks, at, nodes, used);
+    match token::peek(toks, at) {
+        b'~' => {
+            let read = action::check(toks, at, nodes, used);
+            rated(toks, nodes, read)
+        }
+        b'@' => {
+            let read = action::handshake(toks, at, nodes, used);
+            rated(toks, nodes, read)
+        }
+        Kind::NAME if token::peek(toks, at + 1) == b',' => lone(toks, at, nodes, used),
+        _ => {
+            let read = action::beacon(toks, at, nodes, used);
+            rated(toks, nodes, read)
         }
     }
-    let r = action::beacon(toks, at, nodes, used);
-    rated(toks, nodes, r)
 }

@@ -17,10 +17,8 @@ pub fn channel(toks: &[u8], at: usize, nodes: &mut [u64], used: usize) -> Read
     ensures follows { Follows toks.now at (a_channel) (place result) }
     ensures parsed { Parsed flat_channel (λ t c. Table.Channel t (channel_at c at)) toks.now nodes.old nodes.new at used result }
 {
-    match expression::expr(toks, at, nodes, used) {
-        Read::Fault(k) => Read::Fault(k),
-        Read::Next(n, left) => seconds(toks, n, nodes, left),
-    }
+    let (n, left) = expression::expr(toks, at, nodes, used)?;
+    seconds(toks, n, nodes, left)
 }
 
 // What follows a channel's first item, which is at `left`: perhaps one or two items more.
@@ -30,12 +28,10 @@ pub fn seconds(toks: &[u8], at: usize, nodes: &mut [u64], left: usize) -> Read
     ensures extended { Extended flat_more (λ e m. more_at e m at) Table.Expr Table.Channel toks.now nodes.old nodes.new at left result }
 {
     if token::peek(toks, at) != b',' {
-        return Read::Next(at, left);
+        return Ok((at, left));
     }
-    match expression::expr(toks, at + 1, nodes, left + 1) {
-        Read::Fault(k) => Read::Fault(k),
-        Read::Next(n, mid) => thirds(toks, n, nodes, left, mid),
-    }
+    let (n, mid) = expression::expr(toks, at + 1, nodes, left + 1)?;
+    thirds(toks, n, nodes, left, mid)
 }
 
 // What follows a channel's first two items, which are at `left` and `mid`: perhaps one more.
@@ -48,14 +44,10 @@ pub fn thirds(toks: &[u8], at: usize, nodes: &mut [u64], left: usize, mid: usize
     if token::peek(toks, at) != b',' {
         let root = mid + 1;
         tree::node(nodes, root, NodeKind::TWO_ITEMS, 0, left, 0);
-        return Read::Next(at, root);
+        return Ok((at, root));
     }
-    match expression::expr(toks, at + 1, nodes, mid + 1) {
-        Read::Fault(k) => Read::Fault(k),
-        Read::Next(n, r) => {
-            let root = r + 1;
-            tree::node(nodes, root, NodeKind::THREE_ITEMS, 0, left, mid);
-            Read::Next(n, root)
-        }
-    }
+    let (n, r) = expression::expr(toks, at + 1, nodes, mid + 1)?;
+    let root = r + 1;
+    tree::node(nodes, root, NodeKind::THREE_ITEMS, 0, left, mid);
+    Ok((n, root))
 }

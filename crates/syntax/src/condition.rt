@@ -13,29 +13,20 @@ use crate::expression;
 use token::Kind;
 use tree::{NodeKind, Read};
 
-// The node that a relation's sign makes, or 0.
-pub fn relation_kind(t: u8) -> u8
+// The node that a relation's sign makes.
+#[tactic(auto, unfolding(crate::specs::Signs::sign_kind, tree::specs::Node::relation_kind))]
+pub fn relation_kind(t: u8) -> Option<u8>
     ensures { result ≡ sign_kind relation_signs t }
 {
-    if t == b'<' {
-        return NodeKind::LESS;
+    match t {
+        b'<' => Some(NodeKind::LESS),
+        Kind::AT_MOST => Some(NodeKind::AT_MOST),
+        b'>' => Some(NodeKind::GREATER),
+        Kind::AT_LEAST => Some(NodeKind::AT_LEAST),
+        Kind::SAME => Some(NodeKind::SAME),
+        Kind::DIFFERS => Some(NodeKind::DIFFERS),
+        _ => None,
     }
-    if t == Kind::AT_MOST {
-        return NodeKind::AT_MOST;
-    }
-    if t == b'>' {
-        return NodeKind::GREATER;
-    }
-    if t == Kind::AT_LEAST {
-        return NodeKind::AT_LEAST;
-    }
-    if t == Kind::SAME {
-        return NodeKind::SAME;
-    }
-    if t == Kind::DIFFERS {
-        return NodeKind::DIFFERS;
-    }
-    0
 }
 
 // A relation; `more` is added to its node's kind.
@@ -45,23 +36,14 @@ pub fn compare(toks: &[u8], at: usize, nodes: &mut [u64], used: usize, more: u8)
     ensures follows { Follows toks.now at (an_expr ++ Relation' ∷ an_expr) (place result) }
     ensures parsed { Parsed flat_related (HoldsRelated more at) toks.now nodes.old nodes.new at used result }
 {
-    match expression::expr(toks, at, nodes, used) {
-        Read::Fault(k) => Read::Fault(k),
-        Read::Next(n, left) => {
-            let kind = relation_kind(token::peek(toks, n));
-            if kind == 0 {
-                return Read::Fault(n);
-            }
-            match expression::expr(toks, n + 1, nodes, left + 1) {
-                Read::Fault(k) => Read::Fault(k),
-                Read::Next(m, r) => {
-                    let root = r + 1;
-                    tree::node(nodes, root, kind + more, 0, left, 0);
-                    Read::Next(m, root)
-                }
-            }
-        }
-    }
+    let (n, left) = expression::expr(toks, at, nodes, used)?;
+    let Some(kind) = relation_kind(token::peek(toks, n)) else {
+        return Err(n);
+    };
+    let (m, r) = expression::expr(toks, n + 1, nodes, left + 1)?;
+    let root = r + 1;
+    tree::node(nodes, root, kind + more, 0, left, 0);
+    Ok((m, root))
 }
 
 // A relation, perhaps after a `~`.
@@ -83,16 +65,12 @@ pub fn ands(toks: &[u8], at: usize, nodes: &mut [u64], left: usize) -> Read
     ensures extended { Extended flat_ands (λ c a. ands_at c a at) Table.Cond Table.Cond toks.now nodes.old nodes.new at left result }
 {
     if token::peek(toks, at) != b'&' {
-        return Read::Next(at, left);
+        return Ok((at, left));
     }
-    match test(toks, at + 1, nodes, left + 1) {
-        Read::Fault(k) => Read::Fault(k),
-        Read::Next(n, r) => {
-            let root = r + 1;
-            tree::node(nodes, root, NodeKind::BOTH, 0, left, 0);
-            ands(toks, n, nodes, root)
-        }
-    }
+    let (n, r) = test(toks, at + 1, nodes, left + 1)?;
+    let root = r + 1;
+    tree::node(nodes, root, NodeKind::BOTH, 0, left, 0);
+    ands(toks, n, nodes, root)
 }
 
 // A test and what `&` joins to it.
@@ -101,10 +79,8 @@ pub fn conjunction(toks: &[u8], at: usize, nodes: &mut [u64], used: usize) -> Re
     ensures follows { Follows toks.now at (a_test ++ Ands' ∷ []) (place result) }
     ensures parsed { Parsed flat_conjunction (λ t p. Table.Cond t (conjunction_at p.0 p.1 at)) toks.now nodes.old nodes.new at used result }
 {
-    match test(toks, at, nodes, used) {
-        Read::Fault(k) => Read::Fault(k),
-        Read::Next(n, r) => ands(toks, n, nodes, r),
-    }
+    let (n, r) = test(toks, at, nodes, used)?;
+    ands(toks, n, nodes, r)
 }
 
 // What `|` joins to the condition at `left`.
@@ -114,16 +90,12 @@ pub fn ors(toks: &[u8], at: usize, nodes: &mut [u64], left: usize) -> Read
     ensures extended { Extended flat_ors (λ c o. ors_at c o at) Table.Cond Table.Cond toks.now nodes.old nodes.new at left result }
 {
     if token::peek(toks, at) != b'|' {
-        return Read::Next(at, left);
+        return Ok((at, left));
     }
-    match conjunction(toks, at + 1, nodes, left + 1) {
-        Read::Fault(k) => Read::Fault(k),
-        Read::Next(n, r) => {
-            let root = r + 1;
-            tree::node(nodes, root, NodeKind::EITHER, 0, left, 0);
-            ors(toks, n, nodes, root)
-        }
-    }
+    let (n, r) = conjunction(toks, at + 1, nodes, left + 1)?;
+    let root = r + 1;
+    tree::node(nodes, root, NodeKind::EITHER, 0, left, 0);
+    ors(toks, n, nodes, root)
 }
 
 // Tests joined by `&`, and these by `|`.
@@ -132,8 +104,6 @@ pub fn condition(toks: &[u8], at: usize, nodes: &mut [u64], used: usize) -> Read
     ensures follows { Follows toks.now at (a_cond) (place result) }
     ensures parsed { Parsed flat_cond (λ t c. Table.Cond t (cond_at c at)) toks.now nodes.old nodes.new at used result }
 {
-    match conjunction(toks, at, nodes, used) {
-        Read::Fault(k) => Read::Fault(k),
-        Read::Next(n, r) => ors(toks, n, nodes, r),
-    }
+    let (n, r) = conjunction(toks, at, nodes, used)?;
+    ors(toks, n, nodes, r)
 }

@@ -14,30 +14,28 @@ ghost use Rattle.syntax.specs.Expression.{closed, enclosed, enclosed_two, HoldsT
 use token::Kind;
 use tree::{NodeKind, Read};
 
-// The node that a sign between terms makes, or 0.
-pub fn sum_kind(t: u8) -> u8
+// The node that a sign between terms makes.
+#[tactic(auto, unfolding(crate::specs::Signs::sign_kind, tree::specs::Node::op_kind))]
+pub fn sum_kind(t: u8) -> Option<u8>
     ensures { result ≡ sign_kind sum_signs t }
 {
-    if t == b'+' {
-        return NodeKind::PLUS;
+    match t {
+        b'+' => Some(NodeKind::PLUS),
+        b'-' => Some(NodeKind::MINUS),
+        _ => None,
     }
-    if t == b'-' {
-        return NodeKind::MINUS;
-    }
-    0
 }
 
-// The node that a sign between factors makes, or 0.
-pub fn product_kind(t: u8) -> u8
+// The node that a sign between factors makes.
+#[tactic(auto, unfolding(crate::specs::Signs::sign_kind, tree::specs::Node::op_kind))]
+pub fn product_kind(t: u8) -> Option<u8>
     ensures { result ≡ sign_kind product_signs t }
 {
-    if t == b'*' {
-        return NodeKind::TIMES;
+    match t {
+        b'*' => Some(NodeKind::TIMES),
+        b'/' => Some(NodeKind::DIVIDE),
+        _ => None,
     }
-    if t == b'/' {
-        return NodeKind::DIVIDE;
-    }
-    0
 }
 
 // A whole number, perhaps with `-` before it.
@@ -49,17 +47,17 @@ pub fn literal(toks: &[u8], at: usize, nodes: &mut [u64], used: usize) -> Read
     let t = token::peek(toks, at);
     if t == Kind::WHOLE {
         tree::node(nodes, used, NodeKind::LITERAL, at, 0, 0);
-        return Read::Next(at + 1, used);
+        return Ok((at + 1, used));
     }
     if t != b'-' {
-        return Read::Fault(at);
+        return Err(at);
     }
     let digits = at + 1;
     if token::peek(toks, digits) != Kind::WHOLE {
-        return Read::Fault(digits);
+        return Err(digits);
     }
     tree::node(nodes, used, NodeKind::NEGATIVE, digits, 0, 0);
-    Read::Next(digits + 1, used)
+    Ok((digits + 1, used))
 }
 
 // A name, a literal, or what has brackets.
@@ -69,24 +67,17 @@ pub fn atom(toks: &[u8], at: usize, nodes: &mut [u64], used: usize) -> Read
     ensures follows { Follows toks.now at (Atom' ∷ []) (place result) }
     ensures parsed { Parsed flat_atom (λ t a. Table.Expr t (atom_at a at)) toks.now nodes.old nodes.new at used result }
 {
-    let t = token::peek(toks, at);
-    if t == Kind::NAME {
-        tree::node(nodes, used, NodeKind::NAMED, at, 0, 0);
-        return Read::Next(at + 1, used);
+    match token::peek(toks, at) {
+        Kind::NAME => {
+            tree::node(nodes, used, NodeKind::NAMED, at, 0, 0);
+            Ok((at + 1, used))
+        }
+        b'(' => bracketed(toks, at + 1, nodes, used),
+        Kind::ABSOLUTE => absolute(toks, at + 1, nodes, used),
+        Kind::MAXIMUM => larger(toks, at + 1, nodes, used, NodeKind::MAXIMUM),
+        Kind::MINIMUM => larger(toks, at + 1, nodes, used, NodeKind::MINIMUM),
+        _ => literal(toks, at, nodes, used),
     }
-    if t == b'(' {
-        return bracketed(toks, at + 1, nodes, used);
-    }
-    if t == Kind::ABSOLUTE {
-        return absolute(toks, at + 1, nodes, used);
-    }
-    if t == Kind::MAXIMUM {
-        return larger(toks, at + 1, nodes, used, NodeKind::MAXIMUM);
-    }
-    if t == Kind::MINIMUM {
-        return larger(toks, at + 1, nodes, used, NodeKind::MINIMUM);
-    }
-    literal(toks, at, nodes, used)
 }
 
 // An expression and the `)` after it.
@@ -96,15 +87,11 @@ pub fn bracketed(toks: &[u8], at: usize, nodes: &mut [u64], used: usize) -> Read
     ensures follows { Follows toks.now at (an_expr ++ Want kind.close_round ∷ []) (place result) }
     ensures parsed { Parsed closed (λ t e. Table.Expr t (expr_at e at)) toks.now nodes.old nodes.new at used result }
 {
-    match expr(toks, at, nodes, used) {
-        Read::Fault(k) => Read::Fault(k),
-        Read::Next(n, r) => {
-            if token::peek(toks, n) != b')' {
-                return Read::Fault(n);
-            }
-            Read::Next(n + 1, r)
-        }
+    let (n, r) = expr(toks, at, nodes, used)?;
+    if token::peek(toks, n) != b')' {
+        return Err(n);
     }
+    Ok((n + 1, r))
 }
 
 // What `abs` is taken of, in brackets.
@@ -115,16 +102,12 @@ pub fn absolute(toks: &[u8], at: usize, nodes: &mut [u64], used: usize) -> Read
     ensures parsed { Parsed enclosed (λ t e. Table.Expr t (Syntax.absolute (expr_at e (at + 1)))) toks.now nodes.old nodes.new at used result }
 {
     if token::peek(toks, at) != b'(' {
-        return Read::Fault(at);
+        return Err(at);
     }
-    match bracketed(toks, at + 1, nodes, used) {
-        Read::Fault(k) => Read::Fault(k),
-        Read::Next(n, r) => {
-            let root = r + 1;
-            tree::node(nodes, root, NodeKind::ABSOLUTE, 0, 0, 0);
-            Read::Next(n, root)
-        }
-    }
+    let (n, r) = bracketed(toks, at + 1, nodes, used)?;
+    let root = r + 1;
+    tree::node(nodes, root, NodeKind::ABSOLUTE, 0, 0, 0);
+    Ok((n, root))
 }
 
 // The two parts of `max` or `min`, in brackets.
@@ -135,24 +118,16 @@ pub fn larger(toks: &[u8], at: usize, nodes: &mut [u64], used: usize, op: u8) ->
     ensures parsed { Parsed enclosed_two (HoldsTwo op at) toks.now nodes.old nodes.new at used result }
 {
     if token::peek(toks, at) != b'(' {
-        return Read::Fault(at);
+        return Err(at);
     }
-    match expr(toks, at + 1, nodes, used) {
-        Read::Fault(k) => Read::Fault(k),
-        Read::Next(n, left) => {
-            if token::peek(toks, n) != b',' {
-                return Read::Fault(n);
-            }
-            match bracketed(toks, n + 1, nodes, left + 1) {
-                Read::Fault(k) => Read::Fault(k),
-                Read::Next(m, r) => {
-                    let root = r + 1;
-                    tree::node(nodes, root, op, 0, left, 0);
-                    Read::Next(m, root)
-                }
-            }
-        }
+    let (n, left) = expr(toks, at + 1, nodes, used)?;
+    if token::peek(toks, n) != b',' {
+        return Err(n);
     }
+    let (m, r) = bracketed(toks, n + 1, nodes, left + 1)?;
+    let root = r + 1;
+    tree::node(nodes, root, op, 0, left, 0);
+    Ok((m, root))
 }
 
 // Atoms joined by `*` and `/`.
@@ -162,10 +137,8 @@ pub fn term(toks: &[u8], at: usize, nodes: &mut [u64], used: usize) -> Read
     ensures follows { Follows toks.now at (a_term) (place result) }
     ensures parsed { Parsed flat_term (λ t x. Table.Expr t (term_at x at)) toks.now nodes.old nodes.new at used result }
 {
-    match atom(toks, at, nodes, used) {
-        Read::Fault(k) => Read::Fault(k),
-        Read::Next(n, r) => factors(toks, n, nodes, r),
-    }
+    let (n, r) = atom(toks, at, nodes, used)?;
+    factors(toks, n, nodes, r)
 }
 
 // What the expression at `left` is multiplied or divided by.
@@ -175,18 +148,13 @@ pub fn factors(toks: &[u8], at: usize, nodes: &mut [u64], left: usize) -> Read
     ensures follows { Follows toks.now at (Factors' ∷ []) (place result) }
     ensures extended { Extended flat_factors (λ x r. factors_at x r at) Table.Expr Table.Expr toks.now nodes.old nodes.new at left result }
 {
-    let kind = product_kind(token::peek(toks, at));
-    if kind == 0 {
-        return Read::Next(at, left);
-    }
-    match atom(toks, at + 1, nodes, left + 1) {
-        Read::Fault(k) => Read::Fault(k),
-        Read::Next(n, r) => {
-            let root = r + 1;
-            tree::node(nodes, root, kind, 0, left, 0);
-            factors(toks, n, nodes, root)
-        }
-    }
+    let Some(kind) = product_kind(token::peek(toks, at)) else {
+        return Ok((at, left));
+    };
+    let (n, r) = atom(toks, at + 1, nodes, left + 1)?;
+    let root = r + 1;
+    tree::node(nodes, root, kind, 0, left, 0);
+    factors(toks, n, nodes, root)
 }
 
 // Terms joined by `+` and `-`.
@@ -196,10 +164,8 @@ pub fn expr(toks: &[u8], at: usize, nodes: &mut [u64], used: usize) -> Read
     ensures follows { Follows toks.now at (an_expr) (place result) }
     ensures parsed { Parsed flat_expr (λ t e. Table.Expr t (expr_at e at)) toks.now nodes.old nodes.new at used result }
 {
-    match term(toks, at, nodes, used) {
-        Read::Fault(k) => Read::Fault(k),
-        Read::Next(n, r) => terms(toks, n, nodes, r),
-    }
+    let (n, r) = term(toks, at, nodes, used)?;
+    terms(toks, n, nodes, r)
 }
 
 // What is added to the expression at `left` or taken away.
@@ -209,16 +175,11 @@ pub fn terms(toks: &[u8], at: usize, nodes: &mut [u64], left: usize) -> Read
     ensures follows { Follows toks.now at (Terms' ∷ []) (place result) }
     ensures extended { Extended flat_terms (λ x r. terms_at x r at) Table.Expr Table.Expr toks.now nodes.old nodes.new at left result }
 {
-    let kind = sum_kind(token::peek(toks, at));
-    if kind == 0 {
-        return Read::Next(at, left);
-    }
-    match term(toks, at + 1, nodes, left + 1) {
-        Read::Fault(k) => Read::Fault(k),
-        Read::Next(n, r) => {
-            let root = r + 1;
-            tree::node(nodes, root, kind, 0, left, 0);
-            terms(toks, n, nodes, root)
-        }
-    }
+    let Some(kind) = sum_kind(token::peek(toks, at)) else {
+        return Ok((at, left));
+    };
+    let (n, r) = term(toks, at + 1, nodes, left + 1)?;
+    let root = r + 1;
+    tree::node(nodes, root, kind, 0, left, 0);
+    terms(toks, n, nodes, root)
 }

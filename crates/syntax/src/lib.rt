@@ -1,4 +1,5 @@
-#![tactic(auto)]
+// Goals see what each reader promises of its answer.
+#![tactic(auto, unfolding(tree::specs::Reading::Parsed, tree::specs::Reading::Extended, tree::specs::Reading::Tallied, crate::specs::Channels::Items, crate::specs::Names::Listing, crate::specs::Line::Parameters, crate::specs::Braces::Inside, crate::specs::Braces::ReadyAfter))]
 
 // The reader of model texts: from the kinds of a text's tokens to a table of nodes, or the first token that doesn't fit.
 pub mod action;

@@ -22,7 +22,7 @@ pub fn params(toks: &[u8], at: usize) -> Read
     ensures parameters { Parameters toks.now at result }
 {
     if token::peek(toks, at) == b']' {
-        return Read::Next(at + 1, 0);
+        return Ok((at + 1, 0));
     }
     action::names(toks, at, b']')
 }
@@ -36,47 +36,33 @@ pub fn definition(toks: &[u8], name: usize, nodes: &mut [u64], used: usize, sums
     ensures follows { Follows toks.now (name + 2) in_definition (place_counted result) }
     ensures tallied { Tallied written_definition count_definition (λ t d. Definition t d name sums) toks.now nodes.old nodes.new (name + 1) used sums result }
 {
-    match params(toks, name + 2) {
-        Read::Fault(k) => Counted::Fault(k),
-        Read::Next(n, count) => {
-            if token::peek(toks, n) != b'=' {
-                return Counted::Fault(n);
-            }
-            match process::body(toks, n + 1, nodes, used, sums) {
-                Counted::Fault(k) => Counted::Fault(k),
-                Counted::Next(m, r, s) => {
-                    if token::peek(toks, m) != b';' {
-                        return Counted::Fault(m);
-                    }
-                    let root = r + 1;
-                    tree::node(nodes, root, NodeKind::DEFINITION, name, 0, count);
-                    Counted::Next(m + 1, root, s)
-                }
-            }
-        }
+    let (n, count) = params(toks, name + 2)?;
+    if token::peek(toks, n) != b'=' {
+        return Err(n);
     }
+    let (m, r, s) = process::body(toks, n + 1, nodes, used, sums)?;
+    if token::peek(toks, m) != b';' {
+        return Err(m);
+    }
+    let root = r + 1;
+    tree::node(nodes, root, NodeKind::DEFINITION, name, 0, count);
+    Ok((m + 1, root, s))
 }
 
 // Whether a definition starts here, and not the system line.
+#[tactic(auto, unfolding(crate::specs::Line::defining))]
 pub fn defines(toks: &[u8], at: usize) -> bool
     requires at_in_bounds { at ≤ length toks.now }
     requires toks_len_bound { length toks.now ≤ token_room }
     ensures { result ≡ defining toks.now at }
 {
-    if token::peek(toks, at) != Kind::NAME {
-        return false;
-    }
-    if token::peek(toks, at + 1) != b'[' {
-        return false;
-    }
-    let t = token::peek(toks, at + 2);
-    if t == Kind::NAME {
-        return true;
-    }
-    if t != b']' {
-        return false;
-    }
-    token::peek(toks, at + 3) == b'='
+    token::peek(toks, at) == Kind::NAME
+        && token::peek(toks, at + 1) == b'['
+        && match token::peek(toks, at + 2) {
+            Kind::NAME => true,
+            b']' => token::peek(toks, at + 3) == b'=',
+            _ => false,
+        }
 }
 
 // The definitions, the first of them named at `name` with a `[` after it, and the system line.
@@ -88,29 +74,17 @@ pub fn definitions(toks: &[u8], name: usize, nodes: &mut [u64], used: usize, sum
     ensures follows { Follows toks.now (name + 2) (in_definition ++ NextLine ∷ []) (place result) }
     ensures parsed { Parsed flat_definitions (λ t d. Table.Definitions t (definitions_at d name sums)) toks.now nodes.old nodes.new name used result }
 {
-    match definition(toks, name, nodes, used, sums) {
-        Counted::Fault(k) => Read::Fault(k),
-        Counted::Next(n, left, s) => {
-            if defines(toks, n) {
-                match definitions(toks, n, nodes, left + 1, s) {
-                    Read::Fault(k) => Read::Fault(k),
-                    Read::Next(m, r) => {
-                        let root = r + 1;
-                        tree::node(nodes, root, NodeKind::NEXT, 0, left, 0);
-                        Read::Next(m, root)
-                    }
-                }
-            } else {
-                match system(toks, n, nodes, left + 1) {
-                    Read::Fault(k) => Read::Fault(k),
-                    Read::Next(m, r) => {
-                        let root = r + 1;
-                        tree::node(nodes, root, NodeKind::LAST, 0, left, 0);
-                        Read::Next(m, root)
-                    }
-                }
-            }
-        }
+    let (n, left, s) = definition(toks, name, nodes, used, sums)?;
+    if defines(toks, n) {
+        let (m, r) = definitions(toks, n, nodes, left + 1, s)?;
+        let root = r + 1;
+        tree::node(nodes, root, NodeKind::NEXT, 0, left, 0);
+        Ok((m, root))
+    } else {
+        let (m, r) = system(toks, n, nodes, left + 1)?;
+        let root = r + 1;
+        tree::node(nodes, root, NodeKind::LAST, 0, left, 0);
+        Ok((m, root))
     }
 }
 
@@ -120,26 +94,18 @@ pub fn wholes(toks: &[u8], at: usize, nodes: &mut [u64], used: usize) -> Counted
     ensures follows { Follows toks.now at (Whole' ∷ MoreWholes ∷ Want kind.close_square ∷ []) (place_counted result) }
     ensures tallied { Tallied written_wholes (λ w. Table.count_wholes (wholes_at w at)) (λ t w. Table.Wholes t (wholes_at w at)) toks.now nodes.old nodes.new at used 0 result }
 {
-    match expression::literal(toks, at, nodes, used) {
-        Read::Fault(k) => Counted::Fault(k),
-        Read::Next(n, left) => {
-            let t = token::peek(toks, n);
-            if t == b']' {
-                return Counted::Next(n + 1, left, 1);
-            }
-            if t != b',' {
-                return Counted::Fault(n);
-            }
-            match wholes(toks, n + 1, nodes, left + 1) {
-                Counted::Fault(k) => Counted::Fault(k),
-                Counted::Next(m, r, count) => {
-                    let root = r + 1;
-                    tree::node(nodes, root, NodeKind::WHOLE, 0, left, 0);
-                    Counted::Next(m, root, count + 1)
-                }
-            }
-        }
+    let (n, left) = expression::literal(toks, at, nodes, used)?;
+    let t = token::peek(toks, n);
+    if t == b']' {
+        return Ok((n + 1, left, 1));
     }
+    if t != b',' {
+        return Err(n);
+    }
+    let (m, r, count) = wholes(toks, n + 1, nodes, left + 1)?;
+    let root = r + 1;
+    tree::node(nodes, root, NodeKind::WHOLE, 0, left, 0);
+    Ok((m, root, count + 1))
 }
 
 // The values of the item named at `name`; `kind` is that of an item without values.
@@ -151,21 +117,17 @@ pub fn starts(toks: &[u8], name: usize, nodes: &mut [u64], used: usize, kind: u8
 {
     let open = name + 1;
     if token::peek(toks, open) != b'[' {
-        return Read::Fault(open);
+        return Err(open);
     }
     let n = open + 1;
     if token::peek(toks, n) == b']' {
         tree::node(nodes, used, kind, name, 0, 0);
-        return Read::Next(n + 1, used);
+        return Ok((n + 1, used));
     }
-    match wholes(toks, n, nodes, used) {
-        Counted::Fault(k) => Read::Fault(k),
-        Counted::Next(m, r, count) => {
-            let root = r + 1;
-            tree::node(nodes, root, kind + 1, name, 0, count);
-            Read::Next(m, root)
-        }
-    }
+    let (m, r, count) = wholes(toks, n, nodes, used)?;
+    let root = r + 1;
+    tree::node(nodes, root, kind + 1, name, 0, count);
+    Ok((m, root))
 }
 
 // An item of the system line.
@@ -179,15 +141,15 @@ pub fn start(toks: &[u8], at: usize, nodes: &mut [u64], used: usize) -> Read
         return starts(toks, at, nodes, used, NodeKind::START);
     }
     if t != Kind::WHOLE {
-        return Read::Fault(at);
+        return Err(at);
     }
     let times = at + 1;
     if token::peek(toks, times) != b'*' {
-        return Read::Fault(times);
+        return Err(times);
     }
     let name = times + 1;
     if token::peek(toks, name) != Kind::NAME {
-        return Read::Fault(name);
+        return Err(name);
     }
     starts(toks, name, nodes, used, NodeKind::COUNTED)
 }
@@ -198,26 +160,18 @@ pub fn system(toks: &[u8], at: usize, nodes: &mut [u64], used: usize) -> Read
     ensures follows { Follows toks.now at (Start' ∷ SystemEnd ∷ []) (place result) }
     ensures parsed { Parsed flat_system (λ t s. Table.System t (system_at s at)) toks.now nodes.old nodes.new at used result }
 {
-    match start(toks, at, nodes, used) {
-        Read::Fault(k) => Read::Fault(k),
-        Read::Next(n, left) => {
-            let t = token::peek(toks, n);
-            if t == b';' {
-                return Read::Next(n + 1, left);
-            }
-            if t != Kind::BARS {
-                return Read::Fault(n);
-            }
-            match system(toks, n + 1, nodes, left + 1) {
-                Read::Fault(k) => Read::Fault(k),
-                Read::Next(m, r) => {
-                    let root = r + 1;
-                    tree::node(nodes, root, NodeKind::SYSTEM, 0, left, 0);
-                    Read::Next(m, root)
-                }
-            }
-        }
+    let (n, left) = start(toks, at, nodes, used)?;
+    let t = token::peek(toks, n);
+    if t == b';' {
+        return Ok((n + 1, left));
     }
+    if t != Kind::BARS {
+        return Err(n);
+    }
+    let (m, r) = system(toks, n + 1, nodes, left + 1)?;
+    let root = r + 1;
+    tree::node(nodes, root, NodeKind::SYSTEM, 0, left, 0);
+    Ok((m, root))
 }
 
 // Variables, definitions and system line.
@@ -228,7 +182,7 @@ pub fn model(toks: &[u8], at: usize, nodes: &mut [u64], used: usize) -> Read
     ensures parsed { Parsed flat_model (λ t m. Table.Model t (model_at m at)) toks.now nodes.old nodes.new at used result }
 {
     if token::peek(toks, at) != Kind::NAME {
-        return Read::Fault(at);
+        return Err(at);
     }
     let n = at + 1;
     let t = token::peek(toks, n);
@@ -236,7 +190,7 @@ pub fn model(toks: &[u8], at: usize, nodes: &mut [u64], used: usize) -> Read
         return definitions(toks, at, nodes, used, 0);
     }
     if t != b'=' {
-        return Read::Fault(n);
+        return Err(n);
     }
     variable(toks, at, nodes, used)
 }
@@ -250,43 +204,24 @@ pub fn variable(toks: &[u8], name: usize, nodes: &mut [u64], used: usize) -> Rea
     ensures follows { Follows toks.now (name + 2) (Number' ∷ Want kind.semicolon ∷ Line ∷ []) (place result) }
     ensures parsed { Parsed flat_model (λ t m. Table.Model t (model_at m name)) toks.now nodes.old nodes.new name used result }
 {
-    match rate::number(toks, name + 2, nodes, used) {
-        Read::Fault(k) => Read::Fault(k),
-        Read::Next(n, left) => {
-            if token::peek(toks, n) != b';' {
-                return Read::Fault(n);
-            }
-            match model(toks, n + 1, nodes, left + 1) {
-                Read::Fault(k) => Read::Fault(k),
-                Read::Next(m, r) => {
-                    let root = r + 1;
-                    tree::node(nodes, root, NodeKind::VARIABLE, name, left, 0);
-                    Read::Next(m, root)
-                }
-            }
-        }
+    let (n, left) = rate::number(toks, name + 2, nodes, used)?;
+    if token::peek(toks, n) != b';' {
+        return Err(n);
     }
+    let (m, r) = model(toks, n + 1, nodes, left + 1)?;
+    let root = r + 1;
+    tree::node(nodes, root, NodeKind::VARIABLE, name, left, 0);
+    Ok((m, root))
 }
 
-// The root of a text's tree, or the number of the token that doesn't fit.
-#[derive(Clone, Copy)]
-pub enum Text {
-    Fits(usize),
-    Broken(usize),
-}
-
-// Reads a text's tokens into the table.
-pub fn read_text(toks: &[u8], nodes: &mut [u64]) -> Text
+// Reads a text's tokens into the table: the root of its tree, or the number of the token that doesn't fit.
+pub fn read_text(toks: &[u8], nodes: &mut [u64]) -> Result<usize, usize>
     requires { length toks.now ≤ token_room }
     ensures { Judged toks.now nodes.new result }
 {
-    match model(toks, 0, nodes, 0) {
-        Read::Fault(k) => Text::Broken(k),
-        Read::Next(n, r) => {
-            if n < toks.len() {
-                return Text::Broken(n);
-            }
-            Text::Fits(r)
-        }
+    let (n, r) = model(toks, 0, nodes, 0)?;
+    if n < toks.len() {
+        return Err(n);
     }
+    Ok(r)
 }

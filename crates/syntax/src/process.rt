@@ -39,26 +39,18 @@ pub fn gated(toks: &[u8], at: usize, nodes: &mut [u64], used: usize, sums: usize
     ensures tallied { Tallied flat_prefix sums_prefix (λ t p. Table.Branch t (branch_at p at sums)) toks.now nodes.old nodes.new at used sums result }
     ensures spare { Spare at used sums result }
 {
-    match condition::condition(toks, at + 1, nodes, used) {
-        Read::Fault(k) => Counted::Fault(k),
-        Read::Next(n, left) => {
-            if token::peek(toks, n) != b']' {
-                return Counted::Fault(n);
-            }
-            let arrow = n + 1;
-            if token::peek(toks, arrow) != Kind::ARROW {
-                return Counted::Fault(arrow);
-            }
-            match offer(toks, arrow + 1, nodes, left + 1, sums, at) {
-                Counted::Fault(k) => Counted::Fault(k),
-                Counted::Next(m, r, s) => {
-                    let root = r + 1;
-                    tree::node(nodes, root, NodeKind::GATE, at, left, 0);
-                    Counted::Next(m, root, s)
-                }
-            }
-        }
+    let (n, left) = condition::condition(toks, at + 1, nodes, used)?;
+    if token::peek(toks, n) != b']' {
+        return Err(n);
     }
+    let arrow = n + 1;
+    if token::peek(toks, arrow) != Kind::ARROW {
+        return Err(arrow);
+    }
+    let (m, r, s) = offer(toks, arrow + 1, nodes, left + 1, sums, at)?;
+    let root = r + 1;
+    tree::node(nodes, root, NodeKind::GATE, at, left, 0);
+    Ok((m, root, s))
 }
 
 // Action and rate in their braces, and the continuation, if any; `first` is the first token of the prefix.
@@ -79,26 +71,18 @@ pub fn offer(
     ensures spare { Spare at used sums result }
 {
     if token::peek(toks, at) != b'{' {
-        return Counted::Fault(at);
+        return Err(at);
     }
-    match braced::braced(toks, at + 1, nodes, used) {
-        Counted::Fault(k) => Counted::Fault(k),
-        Counted::Next(point, middle, left) => {
-            if token::peek(toks, point) != b'.' {
-                let root = middle + 1;
-                tree::node(nodes, root, NodeKind::STOP, first, left, 0);
-                return Counted::Next(point, root, sums);
-            }
-            match cont(toks, point + 1, nodes, middle + 1, sums) {
-                Counted::Fault(k) => Counted::Fault(k),
-                Counted::Next(e, r, s) => {
-                    let root = r + 1;
-                    tree::node(nodes, root, NodeKind::DOT, first, left, middle);
-                    Counted::Next(e, root, s)
-                }
-            }
-        }
+    let (point, middle, left) = braced::braced(toks, at + 1, nodes, used)?;
+    if token::peek(toks, point) != b'.' {
+        let root = middle + 1;
+        tree::node(nodes, root, NodeKind::STOP, first, left, 0);
+        return Ok((point, root, sums));
     }
+    let (e, r, s) = cont(toks, point + 1, nodes, middle + 1, sums)?;
+    let root = r + 1;
+    tree::node(nodes, root, NodeKind::DOT, first, left, middle);
+    Ok((e, root, s))
 }
 
 // A continuation: a group, a call, or a prefix as a sum of its own.
@@ -109,19 +93,14 @@ pub fn cont(toks: &[u8], at: usize, nodes: &mut [u64], used: usize, sums: usize)
     ensures follows { Follows toks.now at (Cont' ∷ []) (place_counted result) }
     ensures tallied { Tallied flat_cont sums_cont (λ t c. Table.Cont t (cont_at c at sums)) toks.now nodes.old nodes.new at used sums result }
 {
-    let t = token::peek(toks, at);
-    if t == b'(' {
-        return group(toks, at, nodes, used, sums);
-    }
-    if t == Kind::NAME {
-        return call(toks, at, nodes, used, sums);
-    }
-    match prefix(toks, at, nodes, used, sums + 1) {
-        Counted::Fault(k) => Counted::Fault(k),
-        Counted::Next(n, r, s) => {
+    match token::peek(toks, at) {
+        b'(' => group(toks, at, nodes, used, sums),
+        Kind::NAME => call(toks, at, nodes, used, sums),
+        _ => {
+            let (n, r, s) = prefix(toks, at, nodes, used, sums + 1)?;
             let root = r + 1;
             tree::node(nodes, root, NodeKind::SUM, sums, 0, at);
-            Counted::Next(n, root, s)
+            Ok((n, root, s))
         }
     }
 }
@@ -135,21 +114,17 @@ pub fn call(toks: &[u8], at: usize, nodes: &mut [u64], used: usize, sums: usize)
 {
     let open = at + 1;
     if token::peek(toks, open) != b'[' {
-        return Counted::Fault(open);
+        return Err(open);
     }
     let n = open + 1;
     if token::peek(toks, n) == b']' {
         tree::node(nodes, used, NodeKind::CALL, at, 0, 0);
-        return Counted::Next(n + 1, used, sums);
+        return Ok((n + 1, used, sums));
     }
-    match args(toks, n, nodes, used) {
-        Counted::Fault(k) => Counted::Fault(k),
-        Counted::Next(m, r, count) => {
-            let root = r + 1;
-            tree::node(nodes, root, NodeKind::CALL_WITH, at, 0, count);
-            Counted::Next(m, root, sums)
-        }
-    }
+    let (m, r, count) = args(toks, n, nodes, used)?;
+    let root = r + 1;
+    tree::node(nodes, root, NodeKind::CALL_WITH, at, 0, count);
+    Ok((m, root, sums))
 }
 
 // Values parted by commas and the `]` after them, with their count.
@@ -158,26 +133,18 @@ pub fn args(toks: &[u8], at: usize, nodes: &mut [u64], used: usize) -> Counted
     ensures follows { Follows toks.now at (an_expr ++ MoreArgs ∷ Want kind.close_square ∷ []) (place_counted result) }
     ensures tallied { Tallied closed_exprs (λ e. Table.count_exprs (exprs_at e at)) (λ t e. Table.Exprs t (exprs_at e at)) toks.now nodes.old nodes.new at used 0 result }
 {
-    match expression::expr(toks, at, nodes, used) {
-        Read::Fault(k) => Counted::Fault(k),
-        Read::Next(n, left) => {
-            let t = token::peek(toks, n);
-            if t == b']' {
-                return Counted::Next(n + 1, left, 1);
-            }
-            if t != b',' {
-                return Counted::Fault(n);
-            }
-            match args(toks, n + 1, nodes, left + 1) {
-                Counted::Fault(k) => Counted::Fault(k),
-                Counted::Next(m, r, count) => {
-                    let root = r + 1;
-                    tree::node(nodes, root, NodeKind::ARGUMENT, 0, left, 0);
-                    Counted::Next(m, root, count + 1)
-                }
-            }
-        }
+    let (n, left) = expression::expr(toks, at, nodes, used)?;
+    let t = token::peek(toks, n);
+    if t == b']' {
+        return Ok((n + 1, left, 1));
     }
+    if t != b',' {
+        return Err(n);
+    }
+    let (m, r, count) = args(toks, n + 1, nodes, left + 1)?;
+    let root = r + 1;
+    tree::node(nodes, root, NodeKind::ARGUMENT, 0, left, 0);
+    Ok((m, root, count + 1))
 }
 
 // A group, from its `(` on.
@@ -189,14 +156,10 @@ pub fn group(toks: &[u8], at: usize, nodes: &mut [u64], used: usize, sums: usize
     ensures follows { Follows toks.now (at + 1) (Item' ∷ Items' ∷ []) (place_counted result) }
     ensures tallied { Tallied flat_group sums_item_list (λ t g. Table.Cont t (group_at g at sums)) toks.now nodes.old nodes.new at used sums result }
 {
-    match items(toks, at + 1, nodes, used, sums) {
-        Counted::Fault(k) => Counted::Fault(k),
-        Counted::Next(n, r, s) => {
-            let root = r + 1;
-            tree::node(nodes, root, NodeKind::GROUP, at, 0, 0);
-            Counted::Next(n, root, s)
-        }
-    }
+    let (n, r, s) = items(toks, at + 1, nodes, used, sums)?;
+    let root = r + 1;
+    tree::node(nodes, root, NodeKind::GROUP, at, 0, 0);
+    Ok((n, root, s))
 }
 
 // The items of a group and its `)`.
@@ -207,26 +170,18 @@ pub fn items(toks: &[u8], at: usize, nodes: &mut [u64], used: usize, sums: usize
     ensures follows { Follows toks.now at (Item' ∷ Items' ∷ []) (place_counted result) }
     ensures tallied { Tallied flat_item_list sums_item_list (λ t g. Table.Conts t (item_list_at g at sums)) toks.now nodes.old nodes.new at used sums result }
 {
-    match item(toks, at, nodes, used, sums) {
-        Counted::Fault(k) => Counted::Fault(k),
-        Counted::Next(n, left, s) => {
-            let t = token::peek(toks, n);
-            if t == b')' {
-                return Counted::Next(n + 1, left, s);
-            }
-            if t != Kind::BARS {
-                return Counted::Fault(n);
-            }
-            match items(toks, n + 1, nodes, left + 1, s) {
-                Counted::Fault(k) => Counted::Fault(k),
-                Counted::Next(m, r, q) => {
-                    let root = r + 1;
-                    tree::node(nodes, root, NodeKind::ITEM, 0, left, 0);
-                    Counted::Next(m, root, q)
-                }
-            }
-        }
+    let (n, left, s) = item(toks, at, nodes, used, sums)?;
+    let t = token::peek(toks, n);
+    if t == b')' {
+        return Ok((n + 1, left, s));
     }
+    if t != Kind::BARS {
+        return Err(n);
+    }
+    let (m, r, q) = items(toks, n + 1, nodes, left + 1, s)?;
+    let root = r + 1;
+    tree::node(nodes, root, NodeKind::ITEM, 0, left, 0);
+    Ok((m, root, q))
 }
 
 // An item of a group: a group, a call or a sum.
@@ -237,14 +192,11 @@ pub fn item(toks: &[u8], at: usize, nodes: &mut [u64], used: usize, sums: usize)
     ensures follows { Follows toks.now at (Item' ∷ []) (place_counted result) }
     ensures tallied { Tallied flat_item sums_item (λ t i. Table.Cont t (item_at i at sums)) toks.now nodes.old nodes.new at used sums result }
 {
-    let t = token::peek(toks, at);
-    if t == b'(' {
-        return group(toks, at, nodes, used, sums);
+    match token::peek(toks, at) {
+        b'(' => group(toks, at, nodes, used, sums),
+        Kind::NAME => call(toks, at, nodes, used, sums),
+        _ => sum(toks, at, nodes, used, sums),
     }
-    if t == Kind::NAME {
-        return call(toks, at, nodes, used, sums);
-    }
-    sum(toks, at, nodes, used, sums)
 }
 
 // Prefixes joined by `+`, with their number.
@@ -255,14 +207,10 @@ pub fn sum(toks: &[u8], at: usize, nodes: &mut [u64], used: usize, sums: usize) 
     ensures follows { Follows toks.now at (a_sum) (place_counted result) }
     ensures tallied { Tallied written_sum count_sum (λ t x. Table.Sum t (sum_at x.0 x.1 at sums)) toks.now nodes.old nodes.new at used sums result }
 {
-    match branches(toks, at, nodes, used, sums + 1) {
-        Counted::Fault(k) => Counted::Fault(k),
-        Counted::Next(n, r, s) => {
-            let root = r + 1;
-            tree::node(nodes, root, NodeKind::SUM, sums, 0, at);
-            Counted::Next(n, root, s)
-        }
-    }
+    let (n, r, s) = branches(toks, at, nodes, used, sums + 1)?;
+    let root = r + 1;
+    tree::node(nodes, root, NodeKind::SUM, sums, 0, at);
+    Ok((n, root, s))
 }
 
 // Prefixes joined by `+`.
@@ -274,22 +222,14 @@ pub fn branches(toks: &[u8], at: usize, nodes: &mut [u64], used: usize, sums: us
     ensures tallied { Tallied written_sum sums_branches (λ t x. Table.Branches t (branches_from x at sums)) toks.now nodes.old nodes.new at used sums result }
     ensures spare { Spare at used sums result }
 {
-    match prefix(toks, at, nodes, used, sums) {
-        Counted::Fault(k) => Counted::Fault(k),
-        Counted::Next(n, left, s) => {
-            if token::peek(toks, n) != b'+' {
-                return Counted::Next(n, left, s);
-            }
-            match branches(toks, n + 1, nodes, left + 1, s) {
-                Counted::Fault(k) => Counted::Fault(k),
-                Counted::Next(m, r, q) => {
-                    let root = r + 1;
-                    tree::node(nodes, root, NodeKind::CHOICE, 0, left, 0);
-                    Counted::Next(m, root, q)
-                }
-            }
-        }
+    let (n, left, s) = prefix(toks, at, nodes, used, sums)?;
+    if token::peek(toks, n) != b'+' {
+        return Ok((n, left, s));
     }
+    let (m, r, q) = branches(toks, n + 1, nodes, left + 1, s)?;
+    let root = r + 1;
+    tree::node(nodes, root, NodeKind::CHOICE, 0, left, 0);
+    Ok((m, root, q))
 }
 
 // A definition's body: sums joined by `||`.
@@ -299,20 +239,12 @@ pub fn body(toks: &[u8], at: usize, nodes: &mut [u64], used: usize, sums: usize)
     ensures follows { Follows toks.now at (a_body) (place_counted result) }
     ensures tallied { Tallied flat_body sums_body (λ t b. Table.Sums t (body_at b at sums)) toks.now nodes.old nodes.new at used sums result }
 {
-    match sum(toks, at, nodes, used, sums) {
-        Counted::Fault(k) => Counted::Fault(k),
-        Counted::Next(n, left, s) => {
-            if token::peek(toks, n) != Kind::BARS {
-                return Counted::Next(n, left, s);
-            }
-            match body(toks, n + 1, nodes, left + 1, s) {
-                Counted::Fault(k) => Counted::Fault(k),
-                Counted::Next(m, r, q) => {
-                    let root = r + 1;
-                    tree::node(nodes, root, NodeKind::BESIDE, 0, left, 0);
-                    Counted::Next(m, root, q)
-                }
-            }
-        }
+    let (n, left, s) = sum(toks, at, nodes, used, sums)?;
+    if token::peek(toks, n) != Kind::BARS {
+        return Ok((n, left, s));
     }
+    let (m, r, q) = body(toks, n + 1, nodes, left + 1, s)?;
+    let root = r + 1;
+    tree::node(nodes, root, NodeKind::BESIDE, 0, left, 0);
+    Ok((m, root, q))
 }

@@ -4,7 +4,6 @@ ghost use Rattle.tree.specs.Reading.{token_room};
 ghost use Rattle.syntax.specs.Asked.{Asks};
 
 use crate::line;
-use crate::line::Text;
 
 #[derive(Clone, Copy)]
 pub struct Limits;
@@ -14,25 +13,21 @@ impl Limits {
     pub const TOKENS: usize = 4096;
 }
 
-// The root of the text's tree; or the token that doesn't fit (5); or the token that is one too many (6).
+// The token that doesn't fit (5), or the one that is one too many (6).
 #[derive(Clone, Copy)]
-pub enum Asked {
-    Passed(usize),
+pub enum Unfit {
     Misfit(usize),
     Crowded(usize),
 }
 
-pub fn judge_text(toks: &[u8], nodes: &mut [u64]) -> Asked
+// The root of the text's tree, or why there is none.
+pub fn judge_text(toks: &[u8], nodes: &mut [u64]) -> Result<usize, Unfit>
     requires { length toks.now ≤ token_room }
     ensures { Asks toks.now nodes.new result }
 {
-    match line::read_text(toks, nodes) {
-        Text::Broken(k) => Asked::Misfit(k),
-        Text::Fits(root) => {
-            if Limits::TOKENS < toks.len() {
-                return Asked::Crowded(Limits::TOKENS);
-            }
-            Asked::Passed(root)
-        }
+    let root = line::read_text(toks, nodes).map_err(Unfit::Misfit)?;
+    if Limits::TOKENS < toks.len() {
+        return Err(Unfit::Crowded(Limits::TOKENS));
     }
+    Ok(root)
 }

@@ -19,16 +19,17 @@ pub fn unsigned(toks: &[u8], at: usize, nodes: &mut [u64], used: usize, base: u8
     ensures follows { Follows toks.now at (Unsigned ∷ []) (place result) }
     ensures parsed { Parsed flat_unsigned (HoldsUnsigned base at) toks.now nodes.old nodes.new at used result }
 {
-    let t = token::peek(toks, at);
-    if t == Kind::WHOLE {
-        tree::node(nodes, used, base, at, 0, 0);
-        return Read::Next(at + 1, used);
+    match token::peek(toks, at) {
+        Kind::WHOLE => {
+            tree::node(nodes, used, base, at, 0, 0);
+            Ok((at + 1, used))
+        }
+        Kind::DECIMAL => {
+            tree::node(nodes, used, base + NodeKind::DECIMAL, at, 0, 0);
+            Ok((at + 1, used))
+        }
+        _ => Err(at),
     }
-    if t == Kind::DECIMAL {
-        tree::node(nodes, used, base + NodeKind::DECIMAL, at, 0, 0);
-        return Read::Next(at + 1, used);
-    }
-    Read::Fault(at)
 }
 
 // A number, perhaps with `-` before it.
@@ -51,7 +52,7 @@ pub fn scale(toks: &[u8], at: usize, nodes: &mut [u64], used: usize) -> Read
 {
     if token::peek(toks, at) == Kind::NAME {
         tree::node(nodes, used, NodeKind::SCALE_NAME, at, 0, 0);
-        return Read::Next(at + 1, used);
+        return Ok((at + 1, used));
     }
     number(toks, at, nodes, used)
 }
@@ -62,20 +63,12 @@ pub fn rate(toks: &[u8], at: usize, nodes: &mut [u64], used: usize) -> Read
     ensures follows { Follows toks.now at (a_rate) (place result) }
     ensures parsed { Parsed flat_rate (λ t r. Table.Rate t (rate_at r at)) toks.now nodes.old nodes.new at used result }
 {
-    match scale(toks, at, nodes, used) {
-        Read::Fault(k) => Read::Fault(k),
-        Read::Next(n, left) => {
-            if token::peek(toks, n) != b'*' {
-                return Read::Next(n, left);
-            }
-            match expression::atom(toks, n + 1, nodes, left + 1) {
-                Read::Fault(k) => Read::Fault(k),
-                Read::Next(m, r) => {
-                    let root = r + 1;
-                    tree::node(nodes, root, NodeKind::SCALED, 0, left, 0);
-                    Read::Next(m, root)
-                }
-            }
-        }
+    let (n, left) = scale(toks, at, nodes, used)?;
+    if token::peek(toks, n) != b'*' {
+        return Ok((n, left));
     }
+    let (m, r) = expression::atom(toks, n + 1, nodes, left + 1)?;
+    let root = r + 1;
+    tree::node(nodes, root, NodeKind::SCALED, 0, left, 0);
+    Ok((m, root))
 }

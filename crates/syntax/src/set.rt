@@ -12,20 +12,17 @@ use crate::expression;
 use token::Kind;
 use tree::{NodeKind, Read};
 
-// The node that a sign between parts makes, or 0.
-pub fn join_kind(t: u8) -> u8
+// The node that a sign between parts makes.
+#[tactic(auto, unfolding(crate::specs::Signs::sign_kind, tree::specs::Node::join_kind))]
+pub fn join_kind(t: u8) -> Option<u8>
     ensures { result ≡ sign_kind join_signs t }
 {
-    if t == b'\\' {
-        return NodeKind::WITHOUT;
+    match t {
+        b'\\' => Some(NodeKind::WITHOUT),
+        Kind::UNION => Some(NodeKind::UNION),
+        Kind::INTERSECTION => Some(NodeKind::INTER),
+        _ => None,
     }
-    if t == Kind::UNION {
-        return NodeKind::UNION;
-    }
-    if t == Kind::INTERSECTION {
-        return NodeKind::INTER;
-    }
-    0
 }
 
 // An expression or a range.
@@ -34,22 +31,14 @@ pub fn part(toks: &[u8], at: usize, nodes: &mut [u64], used: usize) -> Read
     ensures follows { Follows toks.now at (a_part) (place result) }
     ensures parsed { Parsed flat_part (λ t p. Table.Set t (part_at p at)) toks.now nodes.old nodes.new at used result }
 {
-    match expression::expr(toks, at, nodes, used) {
-        Read::Fault(k) => Read::Fault(k),
-        Read::Next(n, left) => {
-            if token::peek(toks, n) != Kind::RANGE {
-                return Read::Next(n, left);
-            }
-            match expression::expr(toks, n + 1, nodes, left + 1) {
-                Read::Fault(k) => Read::Fault(k),
-                Read::Next(m, r) => {
-                    let root = r + 1;
-                    tree::node(nodes, root, NodeKind::RANGE, 0, left, 0);
-                    Read::Next(m, root)
-                }
-            }
-        }
+    let (n, left) = expression::expr(toks, at, nodes, used)?;
+    if token::peek(toks, n) != Kind::RANGE {
+        return Ok((n, left));
     }
+    let (m, r) = expression::expr(toks, n + 1, nodes, left + 1)?;
+    let root = r + 1;
+    tree::node(nodes, root, NodeKind::RANGE, 0, left, 0);
+    Ok((m, root))
 }
 
 // What the set at `left` is joined with.
@@ -58,18 +47,13 @@ pub fn parts(toks: &[u8], at: usize, nodes: &mut [u64], left: usize) -> Read
     ensures follows { Follows toks.now at (Parts' ∷ []) (place result) }
     ensures extended { Extended flat_parts (λ s r. parts_at s r at) Table.Set Table.Set toks.now nodes.old nodes.new at left result }
 {
-    let kind = join_kind(token::peek(toks, at));
-    if kind == 0 {
-        return Read::Next(at, left);
-    }
-    match part(toks, at + 1, nodes, left + 1) {
-        Read::Fault(k) => Read::Fault(k),
-        Read::Next(n, r) => {
-            let root = r + 1;
-            tree::node(nodes, root, kind, 0, left, 0);
-            parts(toks, n, nodes, root)
-        }
-    }
+    let Some(kind) = join_kind(token::peek(toks, at)) else {
+        return Ok((at, left));
+    };
+    let (n, r) = part(toks, at + 1, nodes, left + 1)?;
+    let root = r + 1;
+    tree::node(nodes, root, kind, 0, left, 0);
+    parts(toks, n, nodes, root)
 }
 
 // Parts joined by `\`, `union` and `inter`.
@@ -78,8 +62,6 @@ pub fn set(toks: &[u8], at: usize, nodes: &mut [u64], used: usize) -> Read
     ensures follows { Follows toks.now at (a_set) (place result) }
     ensures parsed { Parsed flat_set (λ t s. Table.Set t (set_at s at)) toks.now nodes.old nodes.new at used result }
 {
-    match part(toks, at, nodes, used) {
-        Read::Fault(k) => Read::Fault(k),
-        Read::Next(n, r) => parts(toks, n, nodes, r),
-    }
+    let (n, r) = part(toks, at, nodes, used)?;
+    parts(toks, n, nodes, r)
 }

@@ -7,18 +7,15 @@ use native.Mathlib.Numerals.{add-one}
 use native.Mathlib.Omega.{arith}
 use lib.ListN.{length, get_or, drop, set, length-set}
 use lib.Seq.{drop-cons, get_or-set_other}
+use Rattle.std.specs.Prelude.{Err, Ok}
 use Rattle.grammar.specs.Machine.{Sym}
 use Rattle.grammar.specs.Follows.{next, fault, Follows}
 use Rattle.grammar.specs.Syntax.{wide}
 use Rattle.grammar.proofs.Follows.{inside, got}
 use Rattle.grammar.proofs.Prepends.{Prepends, place as prepended}
-use Rattle.tree.specs.declared.Read.{Read}
-use Rattle.tree.specs.declared.Read.TheVariants.{Next, Fault}
-use Rattle.tree.specs.declared.Counted.{Counted}
-use Rattle.tree.specs.declared.Counted.TheVariants.{Next as CountedNext, Fault as CountedFault}
 use Rattle.tree.specs.Node.{field, cell}
 use Rattle.tree.specs.Table.{Leaf, One, Two, Three}
-use Rattle.tree.specs.Reading.{place, place_counted, Ready, Span, Made, Grown, Parsed, Extended, Tally, Tallied}
+use Rattle.tree.specs.Reading.{place, place_counted, Ready, Span, Made, Grown, Parsed, Extended, Tally, Tallied, Read, Counted}
 use Rattle.tree.proofs.Interval.{Interval, stays}
 use Rattle.tree.proofs.Grow.{grow-leaf, grow-one, grow-two, grow-three}
 
@@ -152,29 +149,29 @@ module _ {t t' : List ℕ} {kind token : ℕ} where
 
 -- ---- what callees hand over, once it is known which answer they gave
 
-pub next-at : {ts : List ℕ} {at n root : ℕ} {x : List Sym} {r : Read} → r ≡ Next n root → Follows ts at x (place r) → Follows ts at x (next n)
+pub next-at : {ts : List ℕ} {at n root : ℕ} {x : List Sym} {r : Read} → r ≡ Ok (n, root) → Follows ts at x (place r) → Follows ts at x (next n)
 unfolding place
 next-at e f = got (ap place e) f
 
-pub fault-at : {ts : List ℕ} {at k : ℕ} {x : List Sym} {r : Read} → r ≡ Fault k → Follows ts at x (place r) → Follows ts at x (fault k)
+pub fault-at : {ts : List ℕ} {at k : ℕ} {x : List Sym} {r : Read} → r ≡ Err k → Follows ts at x (place r) → Follows ts at x (fault k)
 unfolding place
 fault-at e f = got (ap place e) f
 
-pub counted-next-at : {ts : List ℕ} {at n root m : ℕ} {x : List Sym} {r : Counted} → r ≡ CountedNext n root m → Follows ts at x (place_counted r) → Follows ts at x (next n)
+pub counted-next-at : {ts : List ℕ} {at n root m : ℕ} {x : List Sym} {r : Counted} → r ≡ Ok (n, root, m) → Follows ts at x (place_counted r) → Follows ts at x (next n)
 unfolding place_counted
 counted-next-at e f = got (ap place_counted e) f
 
-pub counted-fault-at : {ts : List ℕ} {at k : ℕ} {x : List Sym} {r : Counted} → r ≡ CountedFault k → Follows ts at x (place_counted r) → Follows ts at x (fault k)
+pub counted-fault-at : {ts : List ℕ} {at k : ℕ} {x : List Sym} {r : Counted} → r ≡ Err k → Follows ts at x (place_counted r) → Follows ts at x (fault k)
 unfolding place_counted
 counted-fault-at e f = got (ap place_counted e) f
 
 -- a tree that was read, or the table's length as it was
 module _ {T : Type 0} {flat : T → List ℕ → List ℕ} {holds : List ℕ → T → ℕ → ℕ → Type 0} {ts t t' : List ℕ} {at used : ℕ} where
-  pub made_of : {n root : ℕ} {r : Read} → r ≡ Next n root → Parsed flat holds ts t t' at used r → Made flat holds ts t t' at used n root
+  pub made_of : {n root : ℕ} {r : Read} → r ≡ Ok (n, root) → Parsed flat holds ts t t' at used r → Made flat holds ts t t' at used n root
   unfolding Parsed
   made_of e p = rw e at p
 
-  pub tally-of : {count : T → ℕ} {c n root m : ℕ} {r : Counted} → r ≡ CountedNext n root m → Tallied flat count holds ts t t' at used c r → Tally flat count holds ts t t' at used c n root m
+  pub tally-of : {count : T → ℕ} {c n root m : ℕ} {r : Counted} → r ≡ Ok (n, root, m) → Tallied flat count holds ts t t' at used c r → Tally flat count holds ts t t' at used c n root m
   unfolding Tallied
   tally-of e p = rw e at p
 
@@ -182,37 +179,37 @@ module _ {T : Type 0} {flat : T → List ℕ → List ℕ} {holds : List ℕ →
   module _ {U : Type 0} {flat₂ : U → List ℕ → List ℕ} {holds₂ : List ℕ → U → ℕ → ℕ → Type 0} {ts₂ t₂ t₂' : List ℕ} {at₂ used₂ : ℕ} where
     pub parsed-as : (r : Read) → ((n root : ℕ) → Made flat holds ts t t' at used n root → Made flat₂ holds₂ ts₂ t₂ t₂' at₂ used₂ n root) → (length t' ≡ length t → length t₂' ≡ length t₂) → Parsed flat holds ts t t' at used r → Parsed flat₂ holds₂ ts₂ t₂ t₂' at₂ used₂ r
     unfolding Parsed
-    parsed-as (Next n root) f g p = f n root p
-    parsed-as (Fault k) f g p = g p
+    parsed-as (Ok (n, root)) f g p = f n root p
+    parsed-as (Err k) f g p = g p
 
     pub tallied-as : {count : T → ℕ} {count₂ : U → ℕ} {c c₂ : ℕ} → (r : Counted) → ((n root m : ℕ) → Tally flat count holds ts t t' at used c n root m → Tally flat₂ count₂ holds₂ ts₂ t₂ t₂' at₂ used₂ c₂ n root m) → (length t' ≡ length t → length t₂' ≡ length t₂) → Tallied flat count holds ts t t' at used c r → Tallied flat₂ count₂ holds₂ ts₂ t₂ t₂' at₂ used₂ c₂ r
     unfolding Tallied
-    tallied-as (CountedNext n root m) f g p = f n root m p
-    tallied-as (CountedFault k) f g p = g p
+    tallied-as (Ok (n, root, m)) f g p = f n root m p
+    tallied-as (Err k) f g p = g p
 
-pub fault-size : {T : Type 0} (flat : T → List ℕ → List ℕ) (holds : List ℕ → T → ℕ → ℕ → Type 0) (ts t t' : List ℕ) (at used : ℕ) {k : ℕ} {r : Read} → r ≡ Fault k → Parsed flat holds ts t t' at used r → length t' ≡ length t
+pub fault-size : {T : Type 0} (flat : T → List ℕ → List ℕ) (holds : List ℕ → T → ℕ → ℕ → Type 0) (ts t t' : List ℕ) (at used : ℕ) {k : ℕ} {r : Read} → r ≡ Err k → Parsed flat holds ts t t' at used r → length t' ≡ length t
 unfolding Parsed
 fault-size flat holds ts t t' at used e p = rw e at p
 
-pub counted-fault-size : {T : Type 0} (flat : T → List ℕ → List ℕ) (count : T → ℕ) (holds : List ℕ → T → ℕ → ℕ → Type 0) (ts t t' : List ℕ) (at used c : ℕ) {k : ℕ} {r : Counted} → r ≡ CountedFault k → Tallied flat count holds ts t t' at used c r → length t' ≡ length t
+pub counted-fault-size : {T : Type 0} (flat : T → List ℕ → List ℕ) (count : T → ℕ) (holds : List ℕ → T → ℕ → ℕ → Type 0) (ts t t' : List ℕ) (at used c : ℕ) {k : ℕ} {r : Counted} → r ≡ Err k → Tallied flat count holds ts t t' at used c r → length t' ≡ length t
 unfolding Tallied
 counted-fault-size flat count holds ts t t' at used c e p = rw e at p
 
 -- more that was read after a tree
 module _ {T X Y : Type 0} {flat : T → List ℕ → List ℕ} {grow : X → T → Y} {before : List ℕ → X → ℕ → ℕ → Type 0} {holds : List ℕ → Y → ℕ → ℕ → Type 0} {ts t t' : List ℕ} {at left : ℕ} where
-  pub grown-of : {n root : ℕ} {r : Read} → r ≡ Next n root → Extended flat grow before holds ts t t' at left r → Grown flat grow before holds ts t t' at left n root
+  pub grown-of : {n root : ℕ} {r : Read} → r ≡ Ok (n, root) → Extended flat grow before holds ts t t' at left r → Grown flat grow before holds ts t t' at left n root
   unfolding Extended
   grown-of e p = rw e at p
 
   pub extended-as : {T₂ X₂ Y₂ : Type 0} {flat₂ : T₂ → List ℕ → List ℕ} {grow₂ : X₂ → T₂ → Y₂} {before₂ : List ℕ → X₂ → ℕ → ℕ → Type 0} {holds₂ : List ℕ → Y₂ → ℕ → ℕ → Type 0} {ts₂ t₂ t₂' : List ℕ} {at₂ left₂ : ℕ} → (r : Read) → ((n root : ℕ) → Grown flat grow before holds ts t t' at left n root → Grown flat₂ grow₂ before₂ holds₂ ts₂ t₂ t₂' at₂ left₂ n root) → (length t' ≡ length t → length t₂' ≡ length t₂) → Extended flat grow before holds ts t t' at left r → Extended flat₂ grow₂ before₂ holds₂ ts₂ t₂ t₂' at₂ left₂ r
   unfolding Extended
-  extended-as (Next n root) f g p = f n root p
-  extended-as (Fault k) f g p = g p
+  extended-as (Ok (n, root)) f g p = f n root p
+  extended-as (Err k) f g p = g p
 
   pub parsed-grown : {U : Type 0} {flat₂ : U → List ℕ → List ℕ} {holds₂ : List ℕ → U → ℕ → ℕ → Type 0} {ts₂ t₂ t₂' : List ℕ} {at₂ used₂ : ℕ} → (r : Read) → ((n root : ℕ) → Grown flat grow before holds ts t t' at left n root → Made flat₂ holds₂ ts₂ t₂ t₂' at₂ used₂ n root) → (length t' ≡ length t → length t₂' ≡ length t₂) → Extended flat grow before holds ts t t' at left r → Parsed flat₂ holds₂ ts₂ t₂ t₂' at₂ used₂ r
   unfolding Extended Parsed
-  parsed-grown (Next n root) f g p = f n root p
-  parsed-grown (Fault k) f g p = g p
+  parsed-grown (Ok (n, root)) f g p = f n root p
+  parsed-grown (Err k) f g p = g p
 
 -- ---- operators, nested to the left
 

@@ -1,20 +1,24 @@
 -- What a reading function answers, beside what the machine does (grammar: Follows): the tokens it took are those of a tree, and the table holds
 -- that tree's syntax tree. Assumes nothing: these are definitions.
-use Rattle.std.specs.Prelude.{◌≡◌, List, ℕ, ◌+◌, ◌≤◌, ◌<◌, length, get_or, drop}
+use Rattle.std.specs.Prelude.{◌≡◌, List, ℕ, ◌+◌, ◌≤◌, ◌<◌, length, get_or, drop, Result, Ok, Err}
 use Rattle.grammar.specs.Follows.{Answer, next, fault}
-use Rattle.tree.specs.declared.Read.{Read}
-use Rattle.tree.specs.declared.Read.TheVariants.{Next, Fault}
-use Rattle.tree.specs.declared.Counted.{Counted}
-use Rattle.tree.specs.declared.Counted.TheVariants.{Next as CountedNext, Fault as CountedFault}
+
+-- the token after what was read, and the root of its tree; or the token that doesn't fit
+abbrev pub Read : Type 0
+Read = Result (ℕ × ℕ) ℕ
+
+-- the same with a count
+abbrev pub Counted : Type 0
+Counted = Result (ℕ × ℕ × ℕ) ℕ
 
 -- 01, Opening a text, 5: where an answer leaves the reader, at the token after what it read, or at the token that no fitting text could have there
 unfoldable pub place : Read → Answer
-place (Next n root) = next n
-place (Fault k) = fault k
+place (Ok (n, root)) = next n
+place (Err k) = fault k
 
 unfoldable pub place_counted : Counted → Answer
-place_counted (CountedNext n root m) = next n
-place_counted (CountedFault k) = fault k
+place_counted (Ok (n, root, m)) = next n
+place_counted (Err k) = fault k
 
 -- how many tokens a text may have: no more than its bytes
 abbrev pub token_room : ℕ
@@ -49,12 +53,12 @@ pub record Grown {T X Y : Type 0} (flat : T → List ℕ → List ℕ) (grow : X
   pub shown : root < length t' → (x : X) (lo : ℕ) → before t x lo left → holds t' (grow x tree) lo root
 
 unfoldable pub Parsed : {T : Type 0} → (T → List ℕ → List ℕ) → (List ℕ → T → ℕ → ℕ → Type 0) → List ℕ → List ℕ → List ℕ → ℕ → ℕ → Read → Type 0
-Parsed flat holds ts t t' at used (Next n root) = Made flat holds ts t t' at used n root
-Parsed flat holds ts t t' at used (Fault k) = length t' ≡ length t
+Parsed flat holds ts t t' at used (Ok (n, root)) = Made flat holds ts t t' at used n root
+Parsed flat holds ts t t' at used (Err k) = length t' ≡ length t
 
 unfoldable pub Extended : {T X Y : Type 0} → (T → List ℕ → List ℕ) → (X → T → Y) → (List ℕ → X → ℕ → ℕ → Type 0) → (List ℕ → Y → ℕ → ℕ → Type 0) → List ℕ → List ℕ → List ℕ → ℕ → ℕ → Read → Type 0
-Extended flat grow before holds ts t t' at left (Next n root) = Grown flat grow before holds ts t t' at left n root
-Extended flat grow before holds ts t t' at left (Fault k) = length t' ≡ length t
+Extended flat grow before holds ts t t' at left (Ok (n, root)) = Grown flat grow before holds ts t t' at left n root
+Extended flat grow before holds ts t t' at left (Err k) = length t' ≡ length t
 
 -- the same with a count that goes from c to m
 pub record Tally {T : Type 0} (flat : T → List ℕ → List ℕ) (count : T → ℕ) (holds : List ℕ → T → ℕ → ℕ → Type 0) (ts t t' : List ℕ) (at used c n root m : ℕ) : Type 0 where
@@ -63,5 +67,5 @@ pub record Tally {T : Type 0} (flat : T → List ℕ → List ℕ) (count : T �
   pub rarer : m + at ≤ c + n
 
 unfoldable pub Tallied : {T : Type 0} → (T → List ℕ → List ℕ) → (T → ℕ) → (List ℕ → T → ℕ → ℕ → Type 0) → List ℕ → List ℕ → List ℕ → ℕ → ℕ → ℕ → Counted → Type 0
-Tallied flat count holds ts t t' at used c (CountedNext n root m) = Tally flat count holds ts t t' at used c n root m
-Tallied flat count holds ts t t' at used c (CountedFault k) = length t' ≡ length t
+Tallied flat count holds ts t t' at used c (Ok (n, root, m)) = Tally flat count holds ts t t' at used c n root m
+Tallied flat count holds ts t t' at used c (Err k) = length t' ≡ length t

@@ -1,10 +1,11 @@
-#![tactic(auto)]
+// Goals see how a node is a number.
+#![tactic(auto, unfolding(crate::specs::Node::cell, crate::specs::Node::kind_of, crate::specs::Node::token_of, crate::specs::Node::left_of, crate::specs::Node::third_of))]
 
 // A syntax tree as a table of nodes, and what reading functions answer.
 ghost use Rattle.std.specs.Prelude.{◌≡◌, ◌<◌, set};
 ghost use Rattle.tree.specs.Node.{field, cell, kind_of, token_of, left_of, third_of};
 
-// The kinds of nodes.
+// The kinds of nodes. Bytes and no enum: a kind is the lowest byte of a node, and TURNED and DECIMAL are added to one.
 #[derive(Clone, Copy)]
 pub struct NodeKind;
 
@@ -133,18 +134,10 @@ impl NodeKind {
 }
 
 // The next token's number and the root of what was read; or the number of the token that doesn't fit.
-#[derive(Clone, Copy)]
-pub enum Read {
-    Next(usize, usize),
-    Fault(usize),
-}
+pub type Read = Result<(usize, usize), usize>;
 
 // The same with a count: of sums up to here, or of the members of a list.
-#[derive(Clone, Copy)]
-pub enum Counted {
-    Next(usize, usize, usize),
-    Fault(usize),
-}
+pub type Counted = Result<(usize, usize, usize), usize>;
 
 // A node has its kind below KINDS, then three fields below FIELD.
 const KINDS: u64 = 256;

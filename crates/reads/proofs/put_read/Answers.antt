@@ -12,5 +12,5 @@ slice_bounds-judge_text-end g c = simp length-take (omega (arith, filled-kinds c
 pub place-requires : goal.place-requires
 place-requires g c = filled-places c.fill-n.ensures
 
-pub place-requires-in-Crowded : goal.place-requires-in-Crowded
-place-requires-in-Crowded g c = filled-places c.fill-n.ensures
+pub place-requires-in-Err-Crowded : goal.place-requires-in-Err-Crowded
+place-requires-in-Err-Crowded g c = filled-places c.fill-n.ensures

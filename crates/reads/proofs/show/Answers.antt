@@ -4,4 +4,4 @@ use Rattle.reads.proofs.Bounds.{passed-short}
 use Rattle.reads.proofs.show.Goals as goal
 
 pub put_read-requires : goal.put_read-requires
-put_read-requires g c = passed-short _ (sym c.in-Passed.is ∙ c.judge_bytes-judged.ensures)
+put_read-requires g c = passed-short _ (sym c.in-Ok.is ∙ c.judge_bytes-judged.ensures)

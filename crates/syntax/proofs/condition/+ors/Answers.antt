@@ -1,6 +1,6 @@
 use native.Mathlib.Omega.{arith}
-use Rattle.grammar.proofs.Follows.{same, isnt, in_tok}
-use Rattle.tree.proofs.Spans.{made_of, ready-token}
+use Rattle.grammar.proofs.Follows.{same, isnt}
+use Rattle.syntax.proofs.Answers.{raised}
 use Rattle.syntax.proofs.Conditions.{ors-none, ors-fault, ors-more}
 use Rattle.syntax.proofs.condition.+ors.Goals as goal
 
@@ -8,34 +8,10 @@ pub returns-then-peek-ne124 : goal.returns-then-peek-ne124
 returns-then-peek-ne124 t c =
     let r = ors-none _ _ _ _ c.requires.inside (isnt c.peek.ensures c.if-peek-ne124.true) in record { follows = r.0; extended = r.1 }
 
-pub overflow_add-at : goal.overflow_add-at
-overflow_add-at t c =
-    omega (arith, c.requires.inside, c.requires.room, c.requires.few)
+pub returns-in_err-n : goal.returns-in_err-n
+returns-in_err-n t c =
+    rw (raised c.from_residual.ensures.1) (let r = ors-fault _ _ _ _ _ (same c.peek.ensures c.if-peek-ne124.false) (c.conjunction.ensures.follows, c.conjunction.ensures.parsed) c.in_err-n.was in record { follows = r.0; extended = r.1 })
 
-pub overflow_add-left : goal.overflow_add-left
-overflow_add-left t c =
-    omega (arith, c.requires.inside, c.requires.room, c.requires.few)
-
-pub conjunction-requires : goal.conjunction-requires
-conjunction-requires t c =
-    ready-token c.requires (omega (arith, c.peek.ensures, c.if-peek-ne124.false))
-
-pub overflow_add-root : goal.overflow_add-root
-overflow_add-root t c =
-    let m = made_of c.in-Next.is c.conjunction.ensures.parsed in omega (arith, m.span.onward, m.span.within, m.span.more, m.span.fewer, c.requires.inside, c.requires.room, c.requires.few)
-
-pub node-requires : goal.node-requires
-node-requires t c =
-    let m = made_of c.in-Next.is c.conjunction.ensures.parsed in omega (arith, m.span.onward, m.span.within, m.span.more, m.span.fewer, c.requires.inside, c.requires.room, c.requires.few)
-
-pub ors-requires : goal.ors-requires
-ors-requires t c =
-    let l = in_tok c.args.toks.now _ c.peek.ensures (omega (arith, c.if-peek-ne124.false)) in let m = made_of c.in-Next.is c.conjunction.ensures.parsed in (omega (arith, m.span.onward, m.span.within, m.span.more, m.span.fewer), record { inside = m.span.within; room = c.requires.room; few = omega (arith, m.span.onward, m.span.within, m.span.more, m.span.fewer, c.requires.inside, c.requires.room, c.requires.few) })
-
-pub returns-in-Fault : goal.returns-in-Fault
-returns-in-Fault t c =
-    let r = ors-fault _ _ _ _ _ (same c.peek.ensures c.if-peek-ne124.false) (c.conjunction.ensures.follows, c.conjunction.ensures.parsed) c.in-Fault.is in record { follows = r.0; extended = r.1 }
-
-pub returns-in-Next : goal.returns-in-Next
-returns-in-Next t c =
-    let r = ors-more _ _ _ _ _ (same c.peek.ensures c.if-peek-ne124.false) (c.conjunction.ensures.follows, c.conjunction.ensures.parsed) _ _ _ c.in-Next.is (record { written = c.node.ensures; token-fits = omega arith; left-fits = omega (arith, c.requires.inside, c.requires.room, c.requires.few); third-fits = omega arith }) (c.ors.ensures.follows, c.ors.ensures.extended) in record { follows = r.0; extended = r.1 }
+pub returns : goal.returns
+returns t c =
+    let r = ors-more _ _ _ _ _ (same c.peek.ensures c.if-peek-ne124.false) (c.conjunction.ensures.follows, c.conjunction.ensures.parsed) _ _ _ c.in_ok-n.was (record { written = c.node.ensures; token-fits = omega arith; left-fits = omega (arith, c.requires.inside, c.requires.room, c.requires.few); third-fits = omega arith }) (c.ors.ensures.follows, c.ors.ensures.extended) in record { follows = r.0; extended = r.1 }

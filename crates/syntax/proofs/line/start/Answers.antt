@@ -1,13 +1,7 @@
 -- `syntax::line::start` meets its contract: a case for each of its returns, from LineReturns.antt.
-use native.Mathlib.Omega.{arith}
 use Rattle.grammar.proofs.Follows.{same, isnt}
-use Rattle.tree.proofs.Spans.{ready-token}
 use Rattle.syntax.proofs.LineReturns.{start-once, start-neither, start-no-times, start-no-name, start-counted}
 use Rattle.syntax.proofs.line.start.Goals as goal
-
-pub starts-requires : goal.starts-requires
-starts-requires c =
-    record { ready = ready-token c.requires (omega (arith, c.peek-t.ensures, c.if-t-eq-NAME.true)); kind_bound = omega arith }
 
 pub returns-then-t-eq-NAME : goal.returns-then-t-eq-NAME
 returns-then-t-eq-NAME c =
@@ -24,10 +18,6 @@ returns-then-peek-ne42 c =
 pub returns-then-peek-ne-NAME : goal.returns-then-peek-ne-NAME
 returns-then-peek-ne-NAME c =
     let r = start-no-name _ _ _ _ (same c.peek-t.ensures c.if-t-ne-WHOLE.false) (same c.peek.ensures c.if-peek-ne42.false) (isnt c.peek-2.ensures c.if-peek-ne-NAME.true) in record { follows = r.0; parsed = r.1 }
-
-pub starts-requires-2 : goal.starts-requires-2
-starts-requires-2 c =
-    record { ready = ready-token (ready-token (ready-token c.requires (omega (arith, c.peek-t.ensures, c.if-t-ne-WHOLE.false))) (omega (arith, c.peek.ensures, c.if-peek-ne42.false))) (omega (arith, c.peek-2.ensures, c.if-peek-ne-NAME.false)); kind_bound = omega arith }
 
 pub returns : goal.returns
 returns c =

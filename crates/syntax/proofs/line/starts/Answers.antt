@@ -2,6 +2,7 @@
 use native.Mathlib.Omega.{arith}
 use Rattle.grammar.proofs.Follows.{same, isnt}
 use Rattle.tree.proofs.Spans.{tally-of, ready-after, ready-token}
+use Rattle.syntax.proofs.Answers.{raised}
 use Rattle.syntax.proofs.LineReturns.{starts-closed, starts-empty, starts-fault, starts-made}
 use Rattle.syntax.proofs.line.starts.Goals as goal
 
@@ -13,22 +14,10 @@ pub returns-then-peek-eq93 : goal.returns-then-peek-eq93
 returns-then-peek-eq93 c =
     let r = starts-empty _ _ _ _ _ _ (same c.peek.ensures c.if-peek-ne91.false) (same c.peek-2.ensures c.if-peek-eq93.true) (record { written = c.node.ensures; token-fits = omega arith; left-fits = omega arith; third-fits = omega arith }) in record { follows = r.0; parsed = r.1 }
 
-pub wholes-requires : goal.wholes-requires
-wholes-requires c =
-    ready-token c.requires.ready (omega (arith, c.peek.ensures, c.if-peek-ne91.false))
+pub returns-in_err-m : goal.returns-in_err-m
+returns-in_err-m c =
+    rw (raised c.from_residual.ensures.1) (let r = starts-fault _ _ _ _ _ _ (same c.peek.ensures c.if-peek-ne91.false) (isnt c.peek-2.ensures c.if-peek-eq93.false) (c.wholes.ensures.follows, c.wholes.ensures.tallied) c.in_err-m.was in record { follows = r.0; parsed = r.1 })
 
-pub overflow_add-root : goal.overflow_add-root
-overflow_add-root c =
-    let w = tally-of c.in-Next.is c.wholes.ensures.tallied in let p = ready-after (ready-token c.requires.ready (omega (arith, c.peek.ensures, c.if-peek-ne91.false))) w.made.span in omega (arith, p.inside, p.room, p.few)
-
-pub node-requires-in-Next : goal.node-requires-in-Next
-node-requires-in-Next c =
-    let w = tally-of c.in-Next.is c.wholes.ensures.tallied in let p = ready-after (ready-token c.requires.ready (omega (arith, c.peek.ensures, c.if-peek-ne91.false))) w.made.span in omega (arith, w.rarer, c.requires.ready.inside, p.inside, p.room)
-
-pub returns-in-Fault : goal.returns-in-Fault
-returns-in-Fault c =
-    let r = starts-fault _ _ _ _ _ _ (same c.peek.ensures c.if-peek-ne91.false) (isnt c.peek-2.ensures c.if-peek-eq93.false) (c.wholes.ensures.follows, c.wholes.ensures.tallied) c.in-Fault.is in record { follows = r.0; parsed = r.1 }
-
-pub returns-in-Next : goal.returns-in-Next
-returns-in-Next c =
-    let w = tally-of c.in-Next.is c.wholes.ensures.tallied in let p = ready-after (ready-token c.requires.ready (omega (arith, c.peek.ensures, c.if-peek-ne91.false))) w.made.span in let r = starts-made _ _ _ _ _ _ (same c.peek.ensures c.if-peek-ne91.false) (isnt c.peek-2.ensures c.if-peek-eq93.false) (c.wholes.ensures.follows, c.wholes.ensures.tallied) c.in-Next.is (record { written = c.node-in-Next.ensures; token-fits = omega (arith, c.requires.ready.inside, c.requires.ready.room); left-fits = omega arith; third-fits = omega (arith, w.rarer, p.inside, p.room) }) in record { follows = r.0; parsed = r.1 }
+pub returns : goal.returns
+returns c =
+    let w = tally-of c.in_ok-m.was c.wholes.ensures.tallied in let p = ready-after (ready-token c.requires.ready (omega (arith, c.peek.ensures, c.if-peek-ne91.false))) w.made.span in let r = starts-made _ _ _ _ _ _ (same c.peek.ensures c.if-peek-ne91.false) (isnt c.peek-2.ensures c.if-peek-eq93.false) (c.wholes.ensures.follows, c.wholes.ensures.tallied) c.in_ok-m.was (record { written = c.node-2.ensures; token-fits = omega (arith, c.requires.ready.inside, c.requires.ready.room); left-fits = omega arith; third-fits = omega (arith, w.rarer, p.inside, p.room) }) in record { follows = r.0; parsed = r.1 }

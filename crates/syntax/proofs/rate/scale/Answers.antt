@@ -4,21 +4,9 @@ use Rattle.grammar.proofs.Follows.{same, isnt}
 use Rattle.syntax.proofs.Rates.{scale-name, scale-number}
 use Rattle.syntax.proofs.rate.scale.Goals as goal
 
-pub node-requires : goal.node-requires
-node-requires c =
-    omega (arith, c.requires.inside, c.requires.room, c.requires.few)
-
-pub overflow_add-result : goal.overflow_add-result
-overflow_add-result c =
-    omega (arith, c.requires.inside, c.requires.room, c.requires.few)
-
 pub returns-then-peek-eq-NAME : goal.returns-then-peek-eq-NAME
 returns-then-peek-eq-NAME c =
     let r = scale-name _ _ _ _ _ (same c.peek.ensures c.if-peek-eq-NAME.true) (record { written = c.node.ensures; token-fits = omega (arith, c.requires.inside, c.requires.room, c.requires.few); left-fits = omega arith; third-fits = omega arith }) in record { follows = r.0; parsed = r.1 }
-
-pub number-requires : goal.number-requires
-number-requires c =
-    c.requires
 
 pub returns : goal.returns
 returns c =

@@ -2,14 +2,13 @@
 use mathlib.Core.Path.{◌≡◌, ap, ◌∙◌}
 use mathlib.Core.List.{List, []}
 use Prim.Native.Nat.{ℕ}
+use Rattle.std.specs.Prelude.{Ok}
 use Rattle.value.specs.Range.{value_of}
 use Rattle.word.specs.Number.{worth, ten_thousandths}
-use Rattle.token.specs.declared.Judged.{Judged}
-use Rattle.token.specs.declared.Judged.TheVariants.{Passed}
 use Rattle.token.specs.Bytes.{within, is_blank, is_letter, is_digit, is_sign, sort_of, belongs, lead, starts, inside, skips, gap}
 use Rattle.token.specs.Token.{pairs, same_bytes, word_kind, pointed, name_tok, number_tok, sign_tok, by_sort, token_at, next_token, also, Mark, marks, tokens, column, kinds_of}
 use Rattle.token.specs.Contents.{few_digits}
-use Rattle.token.specs.Questions.{too_long, allowed, stray_byte, outside, too_deep, bytes_judged}
+use Rattle.token.specs.Questions.{too_long, allowed, stray_byte, outside, too_deep, bytes_judged, Judged}
 use Rattle.token.specs.Questions as bytes
 use Rattle.grammar.specs.Grammar.{Model, Reads, flat_whole, flat_number, flat_expr, flat_terms, flat_term, flat_factors, flat_atom, flat_exprs, flat_args, flat_part, flat_parts, flat_set, relation_kind, flat_test, flat_ands, flat_ors, flat_cond, flat_scale, flat_rate, flat_values, flat_sets, flat_names, flat_channel, flat_action, flat_gate, flat_prefix, flat_next, flat_cont, flat_item, flat_items, flat_choices, flat_sums, flat_body, flat_params, flat_wholes, flat_starts, flat_start, flat_system, flat_definitions, flat_model}
 use Rattle.grammar.specs.Machine.{table, rows_of, is_may, find, onto, step, ending, onward, run, Out, bad, start}
@@ -108,11 +107,11 @@ judged_tree text d = tree_judged text (syntax_of d)
 
 module _ (text : List ℕ) where
   -- a text with a derivation opens to what questions 6 to 10 answer
-  pub opens-so : (d : Model) (o : Opening) → judged_bytes text ≡ Passed → written d ≡ kinds_in text → judged_tree text d ≡ o → opening text ≡ o
+  pub opens-so : (d : Model) (o : Opening) → judged_bytes text ≡ Ok tt → written d ≡ kinds_in text → judged_tree text d ≡ o → opening text ≡ o
   unfolding judged_bytes written kinds_in judged_tree Reads
   opens-so d o p r t = fits text d p r ∙ t
 
   -- a text at which the machine stops is refused there
-  pub stops_so : (k p : ℕ) → judged_bytes text ≡ Passed → ran (kinds_in text) ≡ bad k → placed text k ≡ p → opening text ≡ refused 5 p
+  pub stops_so : (k p : ℕ) → judged_bytes text ≡ Ok tt → ran (kinds_in text) ≡ bad k → placed text k ≡ p → opening text ≡ refused 5 p
   unfolding judged_bytes kinds_in ran placed
   stops_so k p b r e = goes-wrong text k b (wrong (kinds_of (tokens text)) k r) ∙ ap (refused 5) e

@@ -19,9 +19,8 @@ use lib.Dec.{eqb, leb, ltb}
 use lib.IntN.{ℤ}
 use lib.ListN.{length, drop, get_elem?}
 use borrow.Author.Tests.{eqb-true, eq-eqb, ne_eqb, ltb-true, lt-ltb, leb-true, leb-false, le-leb, lt-leb, not-true}
-use Rattle.value.specs.declared.Value.{Value}
-use Rattle.value.specs.declared.Value.TheVariants.{Is, Missing}
-use Rattle.value.specs.Range.{InRange, value_of}
+use Rattle.std.specs.Prelude.{None, Some}
+use Rattle.value.specs.Range.{InRange, value_of, Value}
 use Rattle.value.proofs.Bounds.{in-value}
 use Rattle.value.proofs.Results.{value-is, value-good}
 use Rattle.word.specs.Name.{longest}
@@ -52,8 +51,8 @@ unfolding is_missing
 out-missing z h = by (value_of z) refl
   where
     by : (v : Value) → value_of z ≡ v → is_missing v ≡ true
-    by (Is x) e = absurd (h (subst (λ (y : ℤ). InRange y) (sym (value-is z x e)) (value-good z x e)))
-    by Missing e = refl
+    by (Some x) e = absurd (h (subst (λ (y : ℤ). InRange y) (sym (value-is z x e)) (value-good z x e)))
+    by None e = refl
 
 -- a site of an expression or a number
 abbrev pub Simple : Site → Type 0

@@ -8,9 +8,7 @@ use mathlib.Core.Bool.{Bool, true}
 use mathlib.Core.Logic.{◌↔◌}
 use Prim.Native.Nat.{ℕ}
 use native.Mathlib.Omega.{arith}
-use Rattle.token.specs.declared.Found.{Found}
-use Rattle.token.specs.declared.Found.TheVariants.{At, Nothing}
-use Rattle.token.specs.Questions.{First}
+use Rattle.token.specs.Questions.{First, Found}
 use Rattle.grammar.specs.Syntax
 use Rattle.model.specs.Lists.{least}
 use Rattle.model.specs.Sites.{Scope, value, scale, bindings, rate_sites, gate_sites, args_sites, scale_sites, Variable, variables, definitions}
@@ -26,11 +24,12 @@ use Rattle.model.proofs.Repeats.{listed-not-new, not-new-listed}
 use Rattle.model.proofs.Meanings.{means}
 use Rattle.model.proofs.Ungiven.{listed-not-given, not-given-listed, not-value, no_value_lem, not-scale, no-scale, one-variable}
 use borrow.Author.Tests.{not-true}
+use Rattle.std.specs.Prelude.{None, Some}
 
 -- the first of faults that are told in two ways
 first-like : {A B : ℕ → Type 0} (f : Found) → ((k : ℕ) → A k → B k) → ((k : ℕ) → B k → A k) → First A f → First B f
-first-like (At k) to from h = (to k h.0, λ q l b. h.1 q l (from q b))
-first-like Nothing to from h = λ q b. h q (from q b)
+first-like (Some k) to from h = (to k h.0, λ q l b. h.1 q l (from q b))
+first-like None to from h = λ q b. h q (from q b)
 
 -- 7
 pub beyond-first : (text : List ℕ) (m : Syntax.Model) → First (Beyond text m) (least (beyond text m))

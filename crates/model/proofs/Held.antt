@@ -9,12 +9,9 @@ use native.Mathlib.Omega.{arith}
 use lib.Dec.{leb}
 use lib.ListN.{length}
 use borrow.Author.Tests.{leb-true, le-leb, lt-leb}
-use Rattle.token.specs.declared.Found.{Found}
-use Rattle.token.specs.declared.Found.TheVariants.{At, Nothing}
-use Rattle.token.specs.declared.Judged.{Judged}
-use Rattle.token.specs.declared.Judged.TheVariants.{Passed}
+use Rattle.std.specs.Prelude.{None, Some, Ok}
 use Rattle.token.specs.Token.{tokens, kinds_of}
-use Rattle.token.specs.Questions.{text_limit, too_long, stray_byte, too_deep, First, bytes_judged}
+use Rattle.token.specs.Questions.{text_limit, too_long, stray_byte, too_deep, First, bytes_judged, Found, Judged}
 use Rattle.token.specs.Questions as bytes
 use Rattle.grammar.specs.Syntax
 use Rattle.grammar.specs.Syntax.{syntax_of}
@@ -54,14 +51,14 @@ module _ (text : List ℕ) where
     module _ (y7 : Yes7 text s) where
       nine : (f : Found) → Yes8 text s → First (NotGiven w s) f → Agree (model_in (asked text 9 f (opened (resolved w s)))) (asked text 9 f (tenth s))
       unfolding asked model_in
-      nine (At k) y8 h = refuses 9 (omega arith)
-      nine Nothing y8 h = holds y2 y5 y7 y8 h
+      nine (Some k) y8 h = refuses 9 (omega arith)
+      nine None y8 h = holds y2 y5 y7 y8 h
 
       eight : (f : Found) → First (NotNew w s) f
           → Agree (model_in (asked text 8 f (asked text 9 (least (not_given w s)) (opened (resolved w s))))) (asked text 8 f (asked text 9 (least (not_given w s)) (tenth s)))
       unfolding asked model_in
-      eight (At k) h = refuses 8 (omega arith)
-      eight Nothing h = nine (least (not_given w s)) h (given-first w s h)
+      eight (Some k) h = refuses 8 (omega arith)
+      eight None h = nine (least (not_given w s)) h (given-first w s h)
 
     -- questions 8 and 9 before an answer
     abbrev after7 : Opening → Opening
@@ -69,16 +66,16 @@ module _ (text : List ℕ) where
 
     seven : (f : Found) → First (Beyond text s) f → Agree (model_in (asked text 7 f (after7 (opened (resolved w s))))) (asked text 7 f (after7 (tenth s)))
     unfolding asked model_in
-    seven (At k) h = refuses 7 (omega arith)
-    seven Nothing h = eight h (least (not_new w s)) (new-first w s)
+    seven (Some k) h = refuses 7 (omega arith)
+    seven None h = eight h (least (not_new w s)) (new-first w s)
 
     six : Agree (model_in (tree_held text s)) (tree_judged text s)
     unfolding tree_held tree_judged asked model_in too_many
     six = by (leb (length (tokens text)) token_limit)
       where
         by : (b : Bool)
-            → Agree (model_in (asked text 6 (cond b Nothing (At token_limit)) (asked text 7 (least (beyond text s)) (after7 (opened (resolved w s))))))
-            (asked text 6 (cond b Nothing (At token_limit)) (asked text 7 (least (beyond text s)) (after7 (tenth s))))
+            → Agree (model_in (asked text 6 (cond b None (Some token_limit)) (asked text 7 (least (beyond text s)) (after7 (opened (resolved w s))))))
+            (asked text 6 (cond b None (Some token_limit)) (asked text 7 (least (beyond text s)) (after7 (tenth s))))
         by true = seven (least (beyond text s)) (beyond-first text s)
         by false = refuses 6 (omega arith)
 
@@ -90,28 +87,28 @@ module _ (text : List ℕ) where
   five y2 (fitting d) r = six (syntax_of d) y2 (record { reading = d; reads = r; tree = refl })
   five y2 (failing k) w = refuses 5 (omega arith)
 
-  four : (f : Found) → Yes2 text → Agree (bytes_held text (bytes.asked 4 f Passed)) (after_bytes text (bytes.asked 4 f Passed))
+  four : (f : Found) → Yes2 text → Agree (bytes_held text (bytes.asked 4 f (Ok tt))) (after_bytes text (bytes.asked 4 f (Ok tt)))
   unfolding bytes_held after_bytes bytes.asked
-  four (At p) y2 = refuses 4 (omega arith)
-  four Nothing y2 = five y2 (verdict kinds) (says kinds)
+  four (Some p) y2 = refuses 4 (omega arith)
+  four None y2 = five y2 (verdict kinds) (says kinds)
 
   abbrev after3 : Judged
-  after3 = bytes.asked 4 (too_deep 0 false 0 text) Passed
+  after3 = bytes.asked 4 (too_deep 0 false 0 text) (Ok tt)
 
   abbrev after2 : Judged
   after2 = bytes.asked 3 (stray_byte 0 text) after3
 
   three : (f : Found) → Yes2 text → Agree (bytes_held text (bytes.asked 3 f after3)) (after_bytes text (bytes.asked 3 f after3))
   unfolding bytes_held after_bytes bytes.asked
-  three (At p) y2 = refuses 3 (omega arith)
-  three Nothing y2 = four (too_deep 0 false 0 text) y2
+  three (Some p) y2 = refuses 3 (omega arith)
+  three None y2 = four (too_deep 0 false 0 text) y2
 
   pub agree : Agree (held text) (opening text)
   unfolding held opening bytes_held after_bytes bytes_judged bytes.asked too_long
   agree = by (leb (length text) text_limit) refl
     where
       by : (b : Bool) → leb (length text) text_limit ≡ b
-          → Agree (bytes_held text (bytes.asked 2 (cond b Nothing (At text_limit)) after2)) (after_bytes text (bytes.asked 2 (cond b Nothing (At text_limit)) after2))
+          → Agree (bytes_held text (bytes.asked 2 (cond b None (Some text_limit)) after2)) (after_bytes text (bytes.asked 2 (cond b None (Some text_limit)) after2))
       by true e = three (stray_byte 0 text) (leb-true _ _ e)
       by false e = refuses 2 (omega arith)
 
@@ -137,8 +134,8 @@ module _ (text : List ℕ) where
   by-opened m (holds {s = s} y2 y5 y7 y8 y9) e = by (crowded s (resolved w s)) e
     where
       by : (f : Found) → asked text 10 f (opened (resolved w s)) ≡ opened m → some (resolved w s) ≡ some m
-      by (At k) e = absurd (let z : ◌≡◌ {A = ℕ} 0 1 = cc in omega arith)
-      by Nothing e = cc
+      by (Some k) e = absurd (let z : ◌≡◌ {A = ℕ} 0 1 = cc in omega arith)
+      by None e = cc
 
   pub opened-held : (m : Model) → opening text ≡ opened m → held text ≡ some m
   opened-held m e = by-opened m agree e
@@ -152,7 +149,7 @@ module _ (text : List ℕ) where
   by-few m (refuses n l) e h = absurd (let z : ◌≡◌ {A = ℕ} 0 1 = cc in omega arith)
   by-few m (holds {s = s} y2 y5 y7 y8 y9) e h =
       let d : resolved w s ≡ m = cc in
-      rw d (ap (λ (b : Bool). asked text 10 (cond b Nothing (At (system_token (system s)))) (opened m)) (le-leb (start_processes m.definitions m.starts) process_limit h))
+      rw d (ap (λ (b : Bool). asked text 10 (cond b None (Some (system_token (system s)))) (opened m)) (le-leb (start_processes m.definitions m.starts) process_limit h))
 
   -- and where that has the answer no, opening refuses
   by-many : {o : Option Model} {a : Opening} (m : Model) → Agree o a → o ≡ some m → process_limit < start_processes m.definitions m.starts → (p : ℕ) × (a ≡ refused 10 p)
@@ -161,7 +158,7 @@ module _ (text : List ℕ) where
   by-many m (holds {s = s} y2 y5 y7 y8 y9) e h =
       let d : resolved w s ≡ m = cc in (
         byte_place text (system_token (system s)),
-        rw d (ap (λ (b : Bool). asked text 10 (cond b Nothing (At (system_token (system s)))) (opened m)) (lt-leb (start_processes m.definitions m.starts) process_limit h)),
+        rw d (ap (λ (b : Bool). asked text 10 (cond b None (Some (system_token (system s)))) (opened m)) (lt-leb (start_processes m.definitions m.starts) process_limit h)),
       )
 
   pub held-opened : (m : Model) → held text ≡ some m → start_processes m.definitions m.starts ≤ process_limit → opening text ≡ opened m
@@ -177,8 +174,8 @@ module _ (text : List ℕ) where
   by-refused n p (holds {s = s} y2 y5 y7 y8 y9) e h = by (crowded s (resolved w s)) e
     where
       by : (f : Found) → asked text 10 f (opened (resolved w s)) ≡ refused n p → some (resolved w s) ≡ none
-      by (At k) e = absurd (let z : 10 ≡ n = cc in omega arith)
-      by Nothing e = absurd (let z : ◌≡◌ {A = ℕ} 0 1 = cc in omega arith)
+      by (Some k) e = absurd (let z : 10 ≡ n = cc in omega arith)
+      by None e = absurd (let z : ◌≡◌ {A = ℕ} 0 1 = cc in omega arith)
 
   pub refused-held : (n p : ℕ) → opening text ≡ refused n p → n ≤ 9 → held text ≡ none
   refused-held n p e h = by-refused n p agree e h

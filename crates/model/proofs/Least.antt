@@ -9,9 +9,8 @@ use mathlib.Core.Logic.{⊎_elim}
 use Prim.Native.Nat.{ℕ, ◌<◌, min}
 use native.Mathlib.Decide.{dec_lt}
 use native.Mathlib.Omega.{arith}
-use Rattle.token.specs.declared.Found.{Found}
-use Rattle.token.specs.declared.Found.TheVariants.{At, Nothing}
-use Rattle.token.specs.Questions.{First}
+use Rattle.std.specs.Prelude.{None, Some}
+use Rattle.token.specs.Questions.{First, Found}
 use Rattle.model.specs.Lists.{earlier, least}
 
 smaller : (k m : ℕ) (ks : List ℕ) → In m ks → Dec (k < m) → In (min k m) (k ∷ ks)
@@ -20,8 +19,8 @@ smaller k m ks i (no h) = let e : min k m ≡ m = omega arith in rw e (tail i)
 
 first-cons : (k : ℕ) (ks : List ℕ) (f : Found) → First (λ j. In j ks) f → First (λ j. In j (k ∷ ks)) (earlier k f)
 unfolding earlier
-first-cons k ks Nothing h = (head refl, λ q l i. ⊎_elim (λ (e : q ≡ k). omega arith) (λ (j : In q ks). h q j) (cases i))
-first-cons k ks (At m) h =
+first-cons k ks None h = (head refl, λ q l i. ⊎_elim (λ (e : q ≡ k). omega arith) (λ (j : In q ks). h q j) (cases i))
+first-cons k ks (Some m) h =
     (smaller k m ks h.0 (dec_lt k m), λ q l i. ⊎_elim (λ (e : q ≡ k). omega arith) (λ (j : In q ks). h.1 q (omega arith) j) (cases i))
 
 -- the least of a list of faults is a fault, and no fault stands before it

@@ -10,9 +10,8 @@ use native.Mathlib.Decide.{dec_le, ℕ_discrete}
 use native.Mathlib.Omega.{arith}
 use lib.IntN.{ℤ, nat_abs}
 use lib.ListN.{length, get_elem?}
-use Rattle.value.specs.declared.Value.{Value}
-use Rattle.value.specs.declared.Value.TheVariants.{Is, Missing}
-use Rattle.value.specs.Range.{InRange, value_of}
+use Rattle.std.specs.Prelude.{None, Some}
+use Rattle.value.specs.Range.{InRange, value_of, Value}
 use Rattle.value.proofs.Bounds.{in-value}
 use Rattle.value.proofs.Results.{value-is, value-good}
 use Rattle.word.specs.Number.{whole_digits, fraction_digits}
@@ -50,8 +49,8 @@ in-range : (z : ℤ) → ((InRange z → ⊥) → ⊥) → InRange z
 in-range z h = by (value_of z) refl
   where
     by : (v : Value) → value_of z ≡ v → InRange z
-    by (Is x) e = subst (λ (y : ℤ). InRange y) (sym (value-is z x e)) (value-good z x e)
-    by Missing e = absurd (h (λ r. let z : ◌≡◌ {A = ℕ} 0 1 = cc (in-value z r, e) in omega arith))
+    by (Some x) e = subst (λ (y : ℤ). InRange y) (sym (value-is z x e)) (value-good z x e)
+    by None e = absurd (h (λ r. let z : ◌≡◌ {A = ℕ} 0 1 = cc (in-value z r, e) in omega arith))
 
 at_most : (a b : ℕ) → (b < a → ⊥) → a ≤ b
 at_most a b h = by (dec_le a b)

@@ -1,10 +1,8 @@
 -- Which model a text holds: questions 2 to 9 of opening (Opening.antt), which list and step ask of the text in a lent model buffer. Definitions only.
-use Rattle.std.specs.Prelude.{List, ℕ}
+use Rattle.std.specs.Prelude.{List, ℕ, Err, Ok}
 use Rattle.std.proofs.Math.Option.{Option, none, some}
-use Rattle.token.specs.declared.Judged.{Judged}
-use Rattle.token.specs.declared.Judged.TheVariants.{Refused, Passed}
 use Rattle.token.specs.Token.{tokens, kinds_of}
-use Rattle.token.specs.Questions.{bytes_judged}
+use Rattle.token.specs.Questions.{bytes_judged, refusal, Judged}
 use Rattle.grammar.specs.Syntax
 use Rattle.grammar.specs.Syntax.{syntax_of}
 use Rattle.grammar.specs.Verdict.{Verdict, fitting, failing, verdict}
@@ -35,8 +33,8 @@ read_held text (failing k) = none
 
 -- 2 to 4
 unfoldable pub bytes_held : List ℕ → Judged → Option Model
-bytes_held text (Refused n p) = none
-bytes_held text Passed = read_held text (verdict (kinds_of (tokens text)))
+bytes_held text (Err r) = none
+bytes_held text (Ok u) = read_held text (verdict (kinds_of (tokens text)))
 
 -- 01, State: a text within questions 2 to 9, and the model that it holds
 unfoldable pub held : List ℕ → Option Model

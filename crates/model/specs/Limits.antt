@@ -1,8 +1,6 @@
 -- Question 7 (01, Opening a text): the tokens that are beyond a limit. Assumes nothing: these are definitions.
-use Rattle.std.specs.Prelude.{List, [], ◌∷◌, ◌++◌, Bool, true, false, cond, not, ◌&&◌, ℕ, suc, ◌-◌, eqb, leb, ltb, length, drop}
-use Rattle.value.specs.declared.Value.{Value}
-use Rattle.value.specs.declared.Value.TheVariants.{Is, Missing}
-use Rattle.value.specs.Range.{value_of}
+use Rattle.std.specs.Prelude.{List, [], ◌∷◌, ◌++◌, Bool, true, false, cond, not, ◌&&◌, ℕ, suc, ◌-◌, eqb, leb, ltb, length, drop, None, Some}
+use Rattle.value.specs.Range.{value_of, Value}
 use Rattle.word.specs.Name.{longest}
 use Rattle.word.specs.Number.{worth}
 use Rattle.token.specs.Kind as kind
@@ -34,8 +32,8 @@ abbrev pub branch_limit : ℕ
 branch_limit = 16
 
 unfoldable pub is_missing : Value → Bool
-is_missing (Is z) = false
-is_missing Missing = true
+is_missing (Some z) = false
+is_missing None = true
 
 -- a name of more than 16 bytes, or a decimal with too many digits
 unfoldable pub word_beyond : List ℕ → Mark → Bool

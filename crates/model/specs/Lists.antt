@@ -1,7 +1,6 @@
 -- Lists of places, and the first of them. Assumes nothing: these are definitions.
-use Rattle.std.specs.Prelude.{List, [], ◌∷◌, ◌++◌, Bool, false, cond, ◌||◌, ℕ, zero, suc, ◌+◌, min}
-use Rattle.token.specs.declared.Found.{Found}
-use Rattle.token.specs.declared.Found.TheVariants.{At, Nothing}
+use Rattle.std.specs.Prelude.{List, [], ◌∷◌, ◌++◌, Bool, false, cond, ◌||◌, ℕ, zero, suc, ◌+◌, min, None, Some}
+use Rattle.token.specs.Questions.{Found}
 
 -- what f gives for each member, one after the other
 unfoldable pub each : {A B : Type 0} → (A → List B) → List A → List B
@@ -23,9 +22,9 @@ every_other k (suc n) = k ∷ every_other (k + 2) n
 
 -- 01, Opening a text: of several faults the one that stands first
 unfoldable pub earlier : ℕ → Found → Found
-earlier k Nothing = At k
-earlier k (At m) = At (min k m)
+earlier k None = Some k
+earlier k (Some m) = Some (min k m)
 
 unfoldable pub least : List ℕ → Found
-least [] = Nothing
+least [] = None
 least (k ∷ ks) = earlier k (least ks)

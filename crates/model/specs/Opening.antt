@@ -1,11 +1,7 @@
 -- What opening a text answers, questions 2 to 10 in order (01, Opening a text): a number with a byte's place, or the model. Assumes nothing: these are definitions.
-use Rattle.std.specs.Prelude.{List, [], ◌∷◌, cond, ℕ, zero, suc, ◌+◌, ◌*◌, leb, ltb, length}
-use Rattle.token.specs.declared.Found.{Found}
-use Rattle.token.specs.declared.Found.TheVariants.{At, Nothing}
-use Rattle.token.specs.declared.Judged.{Judged}
-use Rattle.token.specs.declared.Judged.TheVariants.{Refused, Passed}
+use Rattle.std.specs.Prelude.{List, [], ◌∷◌, cond, ℕ, zero, suc, ◌+◌, ◌*◌, leb, ltb, length, None, Some, Err, Ok}
 use Rattle.token.specs.Token.{tokens, kinds_of}
-use Rattle.token.specs.Questions.{bytes_judged}
+use Rattle.token.specs.Questions.{bytes_judged, Found, refusal, Judged}
 use Rattle.grammar.specs.Limit.{token_limit}
 use Rattle.grammar.specs.Syntax
 use Rattle.grammar.specs.Syntax.{syntax_of}
@@ -32,7 +28,7 @@ byte_place text k = cond (ltb k (length (tokens text))) (place_of text k) (lengt
 
 -- 6: the token that is one too many
 unfoldable pub too_many : List ℕ → Found
-too_many text = cond (leb (length (tokens text)) token_limit) Nothing (At token_limit)
+too_many text = cond (leb (length (tokens text)) token_limit) None (Some token_limit)
 
 -- how many sums the definition of number n has
 unfoldable pub sums_in : List Defined → ℕ → ℕ
@@ -55,12 +51,12 @@ system_token (Syntax.last_start s) = start_token s
 system_token (Syntax.next_start s r) = start_token s
 
 unfoldable pub crowded : Syntax.Model → Model → Found
-crowded s m = cond (leb (start_processes m.definitions m.starts) process_limit) Nothing (At (system_token (system s)))
+crowded s m = cond (leb (start_processes m.definitions m.starts) process_limit) None (Some (system_token (system s)))
 
 -- a no to question n at token k, or what the later questions say
 unfoldable pub asked : List ℕ → ℕ → Found → Opening → Opening
-asked text n (At k) more = refused n (byte_place text k)
-asked text n Nothing more = more
+asked text n (Some k) more = refused n (byte_place text k)
+asked text n None more = more
 
 -- 6 to 10 of a text with this syntax tree
 unfoldable pub tree_judged : List ℕ → Syntax.Model → Opening
@@ -78,8 +74,8 @@ read_judged text (fitting d) = tree_judged text (syntax_of d)
 read_judged text (failing k) = refused 5 (byte_place text k)
 
 unfoldable pub after_bytes : List ℕ → Judged → Opening
-after_bytes text (Refused n p) = refused n p
-after_bytes text Passed = read_judged text (verdict (kinds_of (tokens text)))
+after_bytes text (Err r) = refused r.number r.place
+after_bytes text (Ok u) = read_judged text (verdict (kinds_of (tokens text)))
 
 -- 2 to 10
 unfoldable pub opening : List ℕ → Opening

@@ -1,7 +1,6 @@
 -- Questions 2 to 10 in order (01, Opening a text), each with what a yes and a no mean, said by faults and not by the walk that finds them.
 -- proofs/Answered.antt shows that Opening.antt answers just so. Assumes nothing: these are definitions.
-use Rattle.std.specs.Prelude.{◌≡◌, List, ℕ, ◌≤◌, ◌<◌, length}
-use Rattle.token.specs.declared.Found.TheVariants.{At}
+use Rattle.std.specs.Prelude.{◌≡◌, List, ℕ, ◌≤◌, ◌<◌, length, Some}
 use Rattle.token.specs.Token.{tokens, kinds_of}
 use Rattle.token.specs.Questions.{text_limit, ByteFault, DepthFault, First}
 use Rattle.grammar.specs.Grammar.{Reads}
@@ -56,16 +55,16 @@ Yes10 text s = processes text s ≤ process_limit
 
 pub data Answers (text : List ℕ) : Opening → Type 0 where
   no2 : text_limit < length text → Answers text (refused 2 text_limit)
-  no3 : {p : ℕ} → Yes2 text → First (ByteFault text) (At p) → Answers text (refused 3 p)
-  no4 : {p : ℕ} → Yes2 text → Yes3 text → First (DepthFault text) (At p) → Answers text (refused 4 p)
+  no3 : {p : ℕ} → Yes2 text → First (ByteFault text) (Some p) → Answers text (refused 3 p)
+  no4 : {p : ℕ} → Yes2 text → Yes3 text → First (DepthFault text) (Some p) → Answers text (refused 4 p)
   no5 : {k : ℕ} → Yes2 text → Yes3 text → Yes4 text → Misfits text k → Answers text (refused 5 (byte_place text k))
   no6 : {s : Syntax.Model} → Yes2 text → Yes3 text → Yes4 text → Yes5 text s → token_limit < length (tokens text) → Answers text (refused 6 (byte_place text token_limit))
   no7 : {s : Syntax.Model} {k : ℕ} → Yes2 text → Yes3 text → Yes4 text → Yes5 text s → Yes6 text
-      → First (Beyond text s) (At k) → Answers text (refused 7 (byte_place text k))
+      → First (Beyond text s) (Some k) → Answers text (refused 7 (byte_place text k))
   no8 : {s : Syntax.Model} {k : ℕ} → Yes2 text → Yes3 text → Yes4 text → Yes5 text s → Yes6 text → Yes7 text s
-      → First (NotNew (word_of text) s) (At k) → Answers text (refused 8 (byte_place text k))
+      → First (NotNew (word_of text) s) (Some k) → Answers text (refused 8 (byte_place text k))
   no9 : {s : Syntax.Model} {k : ℕ} → Yes2 text → Yes3 text → Yes4 text → Yes5 text s → Yes6 text → Yes7 text s → Yes8 text s
-      → First (NotGiven (word_of text) s) (At k) → Answers text (refused 9 (byte_place text k))
+      → First (NotGiven (word_of text) s) (Some k) → Answers text (refused 9 (byte_place text k))
   no10 : {s : Syntax.Model} → Yes2 text → Yes3 text → Yes4 text → Yes5 text s → Yes6 text → Yes7 text s → Yes8 text s → Yes9 text s
       → process_limit < processes text s → Answers text (refused 10 (byte_place text (system_token (system s))))
   yes_to_all : {s : Syntax.Model} → Yes2 text → Yes3 text → Yes4 text → Yes5 text s → Yes6 text → Yes7 text s → Yes8 text s → Yes9 text s → Yes10 text s

@@ -8,8 +8,8 @@ use native.Mathlib.Omega.{arith}
 use borrow.Author.Tests.{eq-eqb, ne_eqb, eqb-true, eqb-false}
 use lib.Dec.{eqb}
 use lib.ListN.{length, get_or, drop, length-drop}
-use Rattle.token.specs.declared.Found.{Found}
-use Rattle.token.specs.declared.Found.TheVariants.{Nothing}
+use Rattle.std.specs.Prelude.{None}
+use Rattle.token.specs.Questions.{Found}
 use Rattle.token.specs.Kind as kind
 use Rattle.grammar.specs.Syntax
 use Rattle.tree.specs.Node as node
@@ -87,7 +87,7 @@ module _ (t kinds : List ℕ) (w : ℕ → List ℕ) (closes : Closes kinds w) w
       simp (ne_eqb (kind_at t k) node.named (λ q. omega (arith, node-kind h.node (op-small o).0, (op-small o).1)))
 
   module _ (f : Site → List ℕ) (c : Syntax.Expr) (lo k : ℕ) (h : Table.Expr t c lo k) (b : Bool) (is : b ≡ lone_at kinds (get_or t k 0)) where
-    pub lone-none : b ≡ true → Nothing ≡ least (each f (item_sites w c))
+    pub lone-none : b ≡ true → None ≡ least (each f (item_sites w c))
     unfolding each least
     lone-none e = rw (item-is c lo k h, ← is, e)
 
@@ -159,7 +159,7 @@ pub one_each : (f : Site → List ℕ) (x : Site) (xs : List Site) → xs ≡ x 
 unfolding each
 one_each f x xs e = rw e (ap least (append-nil (f x)))
 
-pub drop-few : (r n k : ℕ) → least (drop r (every_other k n)) ≡ Nothing → n ≤ r
+pub drop-few : (r n k : ℕ) → least (drop r (every_other k n)) ≡ None → n ≤ r
 drop-few r n k e =
     let d = ap length (least-none (drop r (every_other k n)) e) in
     omega (arith, length-drop r (every_other k n), every-length k n)
@@ -170,7 +170,7 @@ module _ {question : Question} {low high nodes : List ℕ} {lists : Lists} {scop
   unfolding SortFits
   bound-fits e = rw e at (h.world.placed k below)
 
-  pub none-binding : third_at nodes k ≡ 0 → Nothing ≡ least (each (faults_at h) (bound_sites a))
+  pub none-binding : third_at nodes k ≡ 0 → None ≡ least (each (faults_at h) (bound_sites a))
   unfolding each least
   none-binding e = ⊎_elim (λ q. rw q.0) (λ q. absurd (omega (arith, (bound-fits q.kind).1))) (bound_of nodes a lo k holds)
 
@@ -248,7 +248,7 @@ module _ (t : List ℕ) where
   acted-of (Syntax.hand_bind c s (Syntax.names n m)) from k e h = asking (Syntax.hand_bind c s (Syntax.names n m)) c s (omega arith) (λ w. refl) h
 
   -- a wait has none
-  pub wait-none : (w : ℕ → List ℕ) (f : Site → List ℕ) (a : Syntax.Action) (from k : ℕ) → kind_at t k ≡ node.wait → Table.Action t a from k → Nothing ≡ least (each f (action_sites w a))
+  pub wait-none : (w : ℕ → List ℕ) (f : Site → List ℕ) (a : Syntax.Action) (from k : ℕ) → kind_at t k ≡ node.wait → Table.Action t a from k → None ≡ least (each f (action_sites w a))
   unfolding Table.Action action_sites each least
   wait-none w f (Syntax.wait n) from k e h = refl
   wait-none w f (Syntax.launch c v) from k e h = absurd (omega (arith, node-kind h.node (omega arith)))

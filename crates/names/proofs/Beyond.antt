@@ -6,7 +6,7 @@ use Prim.Native.Nat.{ℕ, zero, suc, ◌+◌, ◌≤◌, ◌<◌}
 use native.Mathlib.Numerals.{add-one}
 use native.Mathlib.Omega.{arith}
 use lib.ListN.{length, get_or, drop, drop_of_length-le}
-use Rattle.token.specs.declared.Found.TheVariants.{At, Nothing}
+use Rattle.std.specs.Prelude.{None, Some}
 use Rattle.token.specs.Token.{Mark, tokens}
 use Rattle.token.specs.Contents.{low_of, high_of}
 use Rattle.model.specs.Lists.{when, least}
@@ -63,7 +63,7 @@ module _ {text kinds low high : List ℕ} {n : ℕ} (h : Tabled text kinds low h
     unfolding words_beyond
     rest-is = ap (words_beyond text i) (drop_nth ms i (omega (arith, h.count))) ∙ rw beyond-here
 
-    pub words-here : b ≡ true → At i ≡ least (words_beyond text i (drop i ms))
+    pub words-here : b ≡ true → Some i ≡ least (words_beyond text i (drop i ms))
     unfolding least when
     words-here q =
         let f = least (words_beyond text (suc i) (drop (suc i) ms)) in
@@ -73,6 +73,6 @@ module _ {text kinds low high : List ℕ} {n : ℕ} (h : Tabled text kinds low h
     unfolding when
     words-on q = ap least rest-is ∙ rw (q, add-one i)
 
-pub words-end : {text kinds low high : List ℕ} {n : ℕ} → Tabled text kinds low high n → (i : ℕ) → n ≤ i → Nothing ≡ least (words_beyond text i (drop i (tokens text)))
+pub words-end : {text kinds low high : List ℕ} {n : ℕ} → Tabled text kinds low high n → (i : ℕ) → n ≤ i → None ≡ least (words_beyond text i (drop i (tokens text)))
 unfolding words_beyond least
 words-end {text} h i l = sym (ap (λ (ms : List Mark). least (words_beyond text i ms)) (drop_of_length-le (tokens text) {i = i} (omega (arith, h.count))))

@@ -7,9 +7,15 @@ use native.Mathlib.Numerals.{add-one}
 use native.Mathlib.Omega.{arith}
 use borrow.Author.Tests.{eq-eqb, ne_eqb}
 use lib.ListN.{length, get_or, take}
+use lib.Dec.{eqb}
+use mathlib.Core.Bool.{cond}
+use lib.Seq.{take-suc}
+use Rattle.std.specs.List.{prefix_len}
+use Rattle.std.specs.Prelude.{reverse}
+use Rattle.std.proofs.lemmas.List.{reverse-append}
 use Rattle.grammar.specs.Syntax
 use Rattle.tree.specs.Node as node
-use Rattle.tree.specs.Node.{left_of}
+use Rattle.tree.specs.Node.{kind_of, left_of}
 use Rattle.tree.specs.Table
 use Rattle.tree.specs.Table.{Node}
 use Rattle.tree.proofs.Interval.{kind_at, inside}
@@ -31,16 +37,16 @@ module _ (t : List ℕ) where
     run-off zero e = simp (ne_eqb (kind_at t 0) κ e)
     run-off (suc k) e = simp (ne_eqb (kind_at t (suc k)) κ e)
 
-    pub run-some : (k : ℕ) → kind_at t k ≡ κ → 0 < run t κ k
+    counted : (k : ℕ) → k < length t → prefix_len (λ x. eqb (kind_of x) κ) (reverse (take (suc k) t)) ≡ run t κ k
     unfolding run
-    run-some zero e = simp (eq-eqb (kind_at t 0) κ e) (omega arith)
-    run-some (suc k) e = simp (eq-eqb (kind_at t (suc k)) κ e) (omega arith)
+    counted zero l = rw (take-suc t zero 0 l) refl
+    counted (suc k) l =
+        rw (take-suc t (suc k) 0 l, reverse-append (take (suc k) t) (get_or t (suc k) 0 ∷ []), counted k (omega arith))
+        (ap (λ (n : ℕ). cond (eqb (kind_at t (suc k)) κ) n 0) (omega arith))
 
-    pub run-all : (k : ℕ) → run t κ k ≡ 0 + run t κ (k - 0)
-    run-all k = let e : k - 0 ≡ k = omega arith in rw e (omega arith)
-
-    pub run_step : (k n : ℕ) → n < k → kind_at t (k - n) ≡ κ → run t κ (k - n) ≡ run t κ (k - (n + 1)) + 1
-    run_step k n l e = let q : k - n ≡ k - (n + 1) + 1 = omega arith in rw q (run_on (k - (n + 1)) (rw q at e))
+    -- the run, counted from the node k down
+    pub run_back : (k : ℕ) → k < length t → prefix_len (λ x. eqb (kind_of x) κ) (reverse (take (k + 1) t)) ≡ run t κ k
+    run_back k l = rw add-one (counted k l)
 
   -- ---- how many variables and definitions
   pub variables-run : (m : Syntax.Model) (lo k : ℕ) → Table.Model t m lo k → (run t node.variable k ≡ length (variables m)) × (length (variables m) ≤ k)

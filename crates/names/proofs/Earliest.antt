@@ -1,57 +1,54 @@
 -- The earlier of two answers: it answers for two lists of faults together, in any order. From the definitions alone.
 use mathlib.Core.Path.{◌≡◌, refl, sym, ap, ◌∙◌}
+use mathlib.Core.Logic.{◌⊎◌, inl, inr}
 use mathlib.Core.List.{List, [], ◌∷◌, ◌++◌}
-use Prim.Native.Nat.{ℕ, suc, ◌≤◌, ◌<◌}
+use Prim.Native.Nat.{ℕ, suc, ◌≤◌}
 use native.Mathlib.Omega.{arith}
-use Rattle.token.specs.declared.Found.{Found}
-use Rattle.token.specs.declared.Found.TheVariants.{At, Nothing}
-use Rattle.model.specs.Lists.{earlier, least}
+use Rattle.std.specs.Prelude.{Bool, true, false, None, Some}
+use Rattle.std.specs.Bool.{then_some}
+use Rattle.std.specs.Option.{option_or}
+use Rattle.token.specs.Questions.{Found}
+use Rattle.model.specs.Lists.{when, earlier, least}
 use Rattle.names.specs.Faults.{earlier_of}
 
-pub nothing_right : (f : Found) → earlier_of f Nothing ≡ f
+pub nothing_right : (f : Found) → earlier_of f None ≡ f
 unfolding earlier_of earlier
-nothing_right (At k) = refl
-nothing_right Nothing = refl
+nothing_right (Some k) = refl
+nothing_right None = refl
 
 pub assoc : (f g h : Found) → earlier_of (earlier_of f g) h ≡ earlier_of f (earlier_of g h)
 unfolding earlier_of earlier
-assoc Nothing g h = refl
-assoc (At k) Nothing h = refl
-assoc (At k) (At m) Nothing = refl
-assoc (At k) (At m) (At n) = ap At (omega arith)
+assoc None g h = refl
+assoc (Some k) None h = refl
+assoc (Some k) (Some m) None = refl
+assoc (Some k) (Some m) (Some n) = ap Some (omega arith)
 
 pub swap : (f g : Found) → earlier_of f g ≡ earlier_of g f
 unfolding earlier_of earlier
-swap Nothing Nothing = refl
-swap Nothing (At m) = refl
-swap (At k) Nothing = refl
-swap (At k) (At m) = ap At (omega arith)
+swap None None = refl
+swap None (Some m) = refl
+swap (Some k) None = refl
+swap (Some k) (Some m) = ap Some (omega arith)
 
--- ---- the cases of `earlier`
-module _ {a b : Found} where
-  pub only-second : a ≡ Nothing → b ≡ earlier_of a b
-  unfolding earlier_of
-  only-second e = rw e
-
-  module _ {i : ℕ} (e : a ≡ At i) where
-    pub only-first : b ≡ Nothing → At i ≡ earlier_of a b
-    unfolding earlier_of earlier
-    only-first f = rw (e, f)
-
-    module _ {j : ℕ} (f : b ≡ At j) where
-      pub first-earlier : i ≤ j → At i ≡ earlier_of a b
-      unfolding earlier_of earlier
-      first-earlier h = rw (e, f) (ap At (omega arith))
-
-      pub second-earlier : j < i → At j ≡ earlier_of a b
-      unfolding earlier_of earlier
-      second-earlier h = rw (e, f) (ap At (omega arith))
+-- one of the two, where there aren't both
+pub lone : (a b : Found) → (a ≡ None) ⊎ (b ≡ None) → option_or a b ≡ earlier_of a b
+unfolding earlier_of earlier
+lone None b n = refl
+lone (Some i) None n = refl
+lone (Some i) (Some j) (inl e) = cc
+lone (Some i) (Some j) (inr e) = cc
 
 -- ---- lists
+-- a token where the test says so
+pub told : (b : Bool) (k : ℕ) → then_some b k ≡ least (when b k)
+unfolding least when earlier
+told true k = refl
+told false k = refl
+
 pub least-append : (xs ys : List ℕ) → least (xs ++ ys) ≡ earlier_of (least xs) (least ys)
 unfolding least earlier_of
 least-append [] ys = refl
-least-append (k ∷ xs) ys = ap (earlier k) (least-append xs ys) ∙ sym (assoc (At k) (least xs) (least ys))
+least-append (k ∷ xs) ys = ap (earlier k) (least-append xs ys) ∙ sym (assoc (Some k) (least xs) (least ys))
 
 -- the middle list comes first
 pub least-middle : (xs ys zs : List ℕ) → least (xs ++ ys ++ zs) ≡ earlier_of (least ys) (least (xs ++ zs))
@@ -62,22 +59,22 @@ least-middle xs ys zs =
     ∙ ap (earlier_of (least ys)) (sym (least-append xs zs))
 
 -- no answer, no fault
-earlier-some : (k : ℕ) (f : Found) → earlier k f ≡ Nothing → ⊥
+earlier-some : (k : ℕ) (f : Found) → earlier k f ≡ None → ⊥
 unfolding earlier
-earlier-some k Nothing e = let z : ◌≡◌ {A = ℕ} 0 1 = cc in omega arith
-earlier-some k (At m) e = let z : ◌≡◌ {A = ℕ} 0 1 = cc in omega arith
+earlier-some k None e = let z : ◌≡◌ {A = ℕ} 0 1 = cc in omega arith
+earlier-some k (Some m) e = let z : ◌≡◌ {A = ℕ} 0 1 = cc in omega arith
 
-pub nothing-first : (f g : Found) → earlier_of f g ≡ Nothing → f ≡ Nothing
+pub nothing-first : (f g : Found) → earlier_of f g ≡ None → f ≡ None
 unfolding earlier_of
-nothing-first Nothing g e = refl
-nothing-first (At k) g e = absurd (earlier-some k g e)
+nothing-first None g e = refl
+nothing-first (Some k) g e = absurd (earlier-some k g e)
 
-pub nothing-second : (f g : Found) → earlier_of f g ≡ Nothing → g ≡ Nothing
+pub nothing-second : (f g : Found) → earlier_of f g ≡ None → g ≡ None
 unfolding earlier_of
-nothing-second Nothing g e = e
-nothing-second (At k) g e = absurd (earlier-some k g e)
+nothing-second None g e = e
+nothing-second (Some k) g e = absurd (earlier-some k g e)
 
-pub least-none : (xs : List ℕ) → least xs ≡ Nothing → xs ≡ []
+pub least-none : (xs : List ℕ) → least xs ≡ None → xs ≡ []
 unfolding least
 least-none [] e = refl
 least-none (k ∷ xs) e = absurd (earlier-some k (least xs) e)
@@ -92,14 +89,14 @@ none_right (k ∷ xs) ys e = let z : ◌≡◌ {A = List ℕ} (k ∷ (xs ++ ys))
 
 -- a fault before which none stands
 abbrev pub From : ℕ → Found → Type 0
-From k Nothing = Unit {0}
-From k (At m) = k ≤ m
+From k None = Unit {0}
+From k (Some m) = k ≤ m
 
 pub from_on : (k : ℕ) (f : Found) → From (suc k) f → From k f
-from_on k Nothing h = tt
-from_on k (At m) h = omega arith
+from_on k None h = tt
+from_on k (Some m) h = omega arith
 
-pub least-here : (k : ℕ) (f : Found) → From k f → earlier k f ≡ At k
+pub least-here : (k : ℕ) (f : Found) → From k f → earlier k f ≡ Some k
 unfolding earlier
-least-here k Nothing h = refl
-least-here k (At m) h = ap At (omega arith)
+least-here k None h = refl
+least-here k (Some m) h = ap Some (omega arith)

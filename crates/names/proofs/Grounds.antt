@@ -8,10 +8,10 @@ use native.Mathlib.Omega.{arith}
 use borrow.Author.Tests.{eq-eqb, eqb-true, eqb-false, ltb-false, ltb-true}
 use lib.Dec.{eqb, ltb}
 use lib.ListN.{length, get_or, take, length-take, get_or-eq_default}
+use Rattle.std.specs.Prelude.{None}
 use Rattle.word.specs.Name.{longest, Plain, name_of}
 use Rattle.word.specs.Number.{worth, cap}
 use Rattle.word.proofs.Packs.{first, second, short-is, same_name}
-use Rattle.token.specs.declared.Found.TheVariants.{Nothing}
 use Rattle.token.specs.declared.Content.{Content}
 use Rattle.token.specs.Kind as kind
 use Rattle.token.specs.Token.{Mark, tokens, kinds_of, same_bytes}
@@ -95,7 +95,7 @@ few_bytes : (text : List ℕ) (m : Mark) → m.kind ≡ kind.name → word_beyon
 unfolding word_beyond
 few_bytes text m e q = ltb-false longest (length (bytes_of text m)) (simp (eq-eqb m.kind kind.name e) at q)
 
-module _ {text kinds low high : List ℕ} {n : ℕ} (h : Tabled text kinds low high n) (short : least (words_beyond text 0 (tokens text)) ≡ Nothing) where
+module _ {text kinds low high : List ℕ} {n : ℕ} (h : Tabled text kinds low high n) (short : least (words_beyond text 0 (tokens text)) ≡ None) where
   module _ (k : ℕ) (e : IsName (kinds_of (tokens text)) k) where
     name_in : k < length (tokens text)
     name_in = kind-inside (tokens text) k (omega arith)
@@ -185,7 +185,7 @@ module _ {text : List ℕ} {s : Syntax.Model} {kinds low high nodes : List ℕ} 
   pub toks-are : (toks : List ℕ) → toks ≡ take n kinds → Closes toks (word_of text)
   toks-are toks e = rw (e ∙ h.tabled.kinds-are) (closes_in text)
 
-  module _ (question : Question) (short : asks_names question ≡ true → least (words_beyond text 0 (tokens text)) ≡ Nothing) (lists : Lists) (gathered : Gathered s root lists) (toks : List ℕ) (toks-is : toks ≡ take n kinds) where
+  module _ (question : Question) (short : asks_names question ≡ true → least (words_beyond text 0 (tokens text)) ≡ None) (lists : Lists) (gathered : Gathered s root lists) (toks : List ℕ) (toks-is : toks ≡ take n kinds) where
     unfoldable pub world : World question low high nodes lists
     world =
         record {

@@ -8,9 +8,9 @@ use native.Mathlib.Omega.{arith}
 use borrow.Author.Tests.{ne_eqb}
 use lib.Dec.{eqb}
 use lib.ListN.{length, get_or}
+use Rattle.std.specs.Prelude.{None}
+use Rattle.token.specs.Questions.{Found}
 use Rattle.word.specs.Number.{worth, cap}
-use Rattle.token.specs.declared.Found.{Found}
-use Rattle.token.specs.declared.Found.TheVariants.{Nothing}
 use Rattle.grammar.proofs.Follows.{inside}
 use Rattle.tree.specs.Node.{kind_of, token_of, third_of, number_kind}
 use Rattle.model.specs.Lists.{each, least}
@@ -61,12 +61,12 @@ module _ (κ k : ℕ) where
     unfolding site_beyond
     negated-number e q = q ∙ ap least (one (site_beyond w sc) (whole true k) (leaf_sites κ k) (negated-leaf e))
 
-  pub no_number : (w : ℕ → List ℕ) (sc : List ℕ) → ((κ ≡ 1) ⊎ (κ ≡ 29) → ⊥) → ((κ ≡ 2) ⊎ (κ ≡ 30) → ⊥) → Nothing ≡ least (each (site_beyond w sc) (leaf_sites κ k))
+  pub no_number : (w : ℕ → List ℕ) (sc : List ℕ) → ((κ ≡ 1) ⊎ (κ ≡ 29) → ⊥) → ((κ ≡ 2) ⊎ (κ ≡ 30) → ⊥) → None ≡ least (each (site_beyond w sc) (leaf_sites κ k))
   unfolding leaf_sites number_kind each least site_beyond
   no_number w sc a b =
       simp (ne_eqb κ 1 (λ e. a (inl e)), ne_eqb κ 29 (λ e. a (inr e)), ne_eqb κ 2 (λ e. b (inl e)), ne_eqb κ 30 (λ e. b (inr e))) (by (eqb κ 3) (eqb κ 33))
     where
-      by : (p q : Bool) → Nothing ≡ least (each (site_beyond w sc) (cond p (value k ∷ []) (cond q (scale k ∷ []) [])))
+      by : (p q : Bool) → None ≡ least (each (site_beyond w sc) (cond p (value k ∷ []) (cond q (scale k ∷ []) [])))
       by true q = refl
       by false true = refl
       by false false = refl
@@ -85,21 +85,21 @@ module _ (κ k : ℕ) where
     unfolding leaf_sites number_kind used
     scale-used e q = q ∙ ap least (one (faults_at h) (scale k) (leaf_sites κ k) (rw e))
 
-    pub not-used : (κ ≡ 3 → ⊥) → (κ ≡ 33 → ⊥) → Nothing ≡ least (each (faults_at h) (leaf_sites κ k))
+    pub not-used : (κ ≡ 3 → ⊥) → (κ ≡ 33 → ⊥) → None ≡ least (each (faults_at h) (leaf_sites κ k))
     unfolding leaf_sites each least faults_at site_faults site_wrong
     not-used a b = simp (ne_eqb κ 3 a, ne_eqb κ 33 b) (by (eqb κ 1 || eqb κ (number_kind false false)) (eqb κ 2 || eqb κ (number_kind true false)))
       where
-        by : (p q : Bool) → Nothing ≡ least (each (faults_at h) (cond p (whole false k ∷ []) (cond q (whole true k ∷ []) [])))
+        by : (p q : Bool) → None ≡ least (each (faults_at h) (cond p (whole false k ∷ []) (cond q (whole true k ∷ []) [])))
         by true q = refl
         by false true = refl
         by false false = refl
 
   -- 8 asks nothing of leaves
-  not-fresh : {low high nodes : List ℕ} {lists : Lists} {scope : Scope} (h : Setting Fresh low high nodes lists scope) → Nothing ≡ least (each (faults_at h) (leaf_sites κ k))
+  not-fresh : {low high nodes : List ℕ} {lists : Lists} {scope : Scope} (h : Setting Fresh low high nodes lists scope) → None ≡ least (each (faults_at h) (leaf_sites κ k))
   unfolding leaf_sites each least faults_at site_faults site_repeated
   not-fresh h = by (eqb κ 1 || eqb κ (number_kind false false)) (eqb κ 2 || eqb κ (number_kind true false)) (eqb κ 3) (eqb κ 33)
     where
-      by : (p q a b : Bool) → Nothing ≡ least (each (faults_at h) (cond p (whole false k ∷ []) (cond q (whole true k ∷ []) (cond a (value k ∷ []) (cond b (scale k ∷ []) [])))))
+      by : (p q a b : Bool) → None ≡ least (each (faults_at h) (cond p (whole false k ∷ []) (cond q (whole true k ∷ []) (cond a (value k ∷ []) (cond b (scale k ∷ []) [])))))
       by true q a b = refl
       by false true a b = refl
       by false false true b = refl
@@ -137,8 +137,8 @@ module _ (low high nodes : List ℕ) (lists : Lists) (i : ℕ) (l : i ≤ lists.
     pub leaf-limits : {q : Question} {r : Found} → q ≡ Limits → ((w : ℕ → List ℕ) (sc : List ℕ) → (sort_of κ ≡ wholes → get_or low k 0 ≡ min cap (worth 0 (w k))) → r ≡ least (each (site_beyond w sc) (leaf_sites κ k))) → LeafAnswer r q
     leaf-limits {r = r} e f = subst (LeafAnswer r) (sym e) (limits-leaf f)
 
-    pub leaf-fresh : {q : Question} → q ≡ Fresh → LeafAnswer Nothing q
-    leaf-fresh e = subst (LeafAnswer Nothing) (sym e) (λ h. not-fresh κ k h ∙ as-leaf (faults_at h))
+    pub leaf-fresh : {q : Question} → q ≡ Fresh → LeafAnswer None q
+    leaf-fresh e = subst (LeafAnswer None) (sym e) (λ h. not-fresh κ k h ∙ as-leaf (faults_at h))
 
     pub given-leaf : {q : Question} → q ≡ Given → Setting q low high nodes lists scope → (h : Setting Given low high nodes lists scope) × (sort_of κ ≡ names → IsName h.world.kinds k)
     given-leaf e h = subst (λ (q : Question). (h : Setting q low high nodes lists scope) × (sort_of κ ≡ names → IsName h.world.kinds k)) e (h, name-there h.world)

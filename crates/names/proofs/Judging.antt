@@ -5,10 +5,9 @@ use mathlib.Core.Bool.{true}
 use Prim.Native.Nat.{ℕ}
 use native.Mathlib.Omega.{arith}
 use lib.ListN.{take}
-use Rattle.token.specs.declared.Found.{Found}
-use Rattle.token.specs.declared.Found.TheVariants.{At, Nothing}
+use Rattle.std.specs.Prelude.{None, Some, Err, Ok}
 use Rattle.token.specs.Token.{tokens}
-use Rattle.token.specs.Questions.{asked}
+use Rattle.token.specs.Questions.{asked, Found}
 use Rattle.grammar.specs.Syntax
 use Rattle.model.specs.Lists.{least}
 use Rattle.model.specs.Words.{word_of}
@@ -17,13 +16,13 @@ use Rattle.model.specs.Fresh.{not_new}
 use Rattle.model.specs.Given.{not_given}
 use Rattle.names.specs.declared.Question.{Question}
 use Rattle.names.specs.declared.Question.TheVariants.{Limits, Fresh, Given}
-use Rattle.names.specs.declared.Judgement.TheVariants.{Passed, Beyond, NotNew, NotGiven}
+use Rattle.names.specs.declared.Fault.TheVariants.{Beyond, NotNew, NotGiven}
 use Rattle.names.specs.declared.Lists.{Lists}
 use Rattle.names.specs.Faults.{earlier_of, asks_names, tree_faults}
 use Rattle.names.specs.Lists.{Gathered}
 use Rattle.names.specs.Tables.{Read}
 use Rattle.names.specs.Walks.{Ground, TreeRoom}
-use Rattle.names.specs.Judged.{answer_of, judged_names}
+use Rattle.names.specs.Judged.{no_of, answer_of, judged_names}
 use Rattle.names.proofs.Earliest.{least-append, nothing-first, nothing-second}
 use Rattle.names.proofs.Grounds.{world, ground}
 
@@ -49,15 +48,15 @@ module _ {text : List ℕ} {s : Syntax.Model} {kinds low high nodes : List ℕ} 
     unfolding beyond
     limits-judged = e-is ∙ rw (words-is, tree-answer) (sym (least-append (words_beyond text 0 (tokens text)) (tree_beyond (word_of text) s)))
 
-    pub judged-beyond : {k : ℕ} → e ≡ At k → answer_of (Beyond k) ≡ judged_names text s
-    unfolding judged_names answer_of asked
+    pub judged-beyond : {k : ℕ} → e ≡ Some k → answer_of (Err (Beyond k)) ≡ judged_names text s
+    unfolding judged_names answer_of no_of asked
     judged-beyond q = rw (sym limits-judged ∙ q)
 
-    module _ (passed : e ≡ Nothing) where
-      words-pass : least (words_beyond text 0 (tokens text)) ≡ Nothing
+    module _ (passed : e ≡ None) where
+      words-pass : least (words_beyond text 0 (tokens text)) ≡ None
       words-pass = sym words-is ∙ nothing-first words tree (sym e-is ∙ passed)
 
-      tree-passes : least (tree_beyond (word_of text) s) ≡ Nothing
+      tree-passes : least (tree_beyond (word_of text) s) ≡ None
       tree-passes = sym tree-answer ∙ nothing-second words tree (sym e-is ∙ passed)
 
       -- 8 and 9 stand on names of at most 16 bytes, and find room for all locals
@@ -74,19 +73,19 @@ module _ {text : List ℕ} {s : Syntax.Model} {kinds low high nodes : List ℕ} 
         unfolding tree_faults
         fresh-answer = names-answer Fresh f f-is
 
-        pub judged-new : {k : ℕ} → f ≡ At k → answer_of (NotNew k) ≡ judged_names text s
-        unfolding judged_names answer_of asked
+        pub judged-new : {k : ℕ} → f ≡ Some k → answer_of (Err (NotNew k)) ≡ judged_names text s
+        unfolding judged_names answer_of no_of asked
         judged-new q = rw (sym limits-judged ∙ passed, sym fresh-answer ∙ q)
 
-        module _ (new : f ≡ Nothing) {g : Found} (g-is : Answers Given g) where
+        module _ (new : f ≡ None) {g : Found} (g-is : Answers Given g) where
           given-answer : g ≡ least (not_given (word_of text) s)
           unfolding tree_faults
           given-answer = names-answer Given g g-is
 
-          pub judged-given : {k : ℕ} → g ≡ At k → answer_of (NotGiven k) ≡ judged_names text s
-          unfolding judged_names answer_of asked
+          pub judged-given : {k : ℕ} → g ≡ Some k → answer_of (Err (NotGiven k)) ≡ judged_names text s
+          unfolding judged_names answer_of no_of asked
           judged-given q = rw (sym limits-judged ∙ passed, sym fresh-answer ∙ new, sym given-answer ∙ q)
 
-          pub judged-passed : g ≡ Nothing → answer_of Passed ≡ judged_names text s
-          unfolding judged_names answer_of asked
+          pub judged-passed : g ≡ None → answer_of (Ok tt) ≡ judged_names text s
+          unfolding judged_names answer_of no_of asked
           judged-passed q = rw (sym limits-judged ∙ passed, sym fresh-answer ∙ new, sym given-answer ∙ q)

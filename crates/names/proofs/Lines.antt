@@ -4,12 +4,13 @@ use mathlib.Core.List.{List, [], ◌∷◌, ◌++◌, append-nil, append_assoc}
 use mathlib.Core.Bool.{Bool, true, false, cond, not, ◌||◌}
 use Prim.Native.Nat.{ℕ, zero, suc, ◌+◌, ◌-◌, ◌*◌, ◌≤◌, ◌<◌, min}
 use native.Mathlib.Omega.{arith}
-use borrow.Author.Tests.{eqb-true, le-ltb, lt-ltb}
+use borrow.Author.Tests.{eqb-true, le-ltb, lt-ltb, ltb-true, ltb-false}
 use lib.Dec.{eqb, ltb}
 use lib.ListN.{length, get_or, take, drop}
+use Rattle.std.specs.Prelude.{None}
+use Rattle.std.specs.Bool.{then_some}
+use Rattle.token.specs.Questions.{Found}
 use Rattle.word.specs.Number.{worth, cap}
-use Rattle.token.specs.declared.Found.{Found}
-use Rattle.token.specs.declared.Found.TheVariants.{At, Nothing}
 use Rattle.grammar.specs.Syntax
 use Rattle.grammar.proofs.Follows.{inside}
 use Rattle.tree.specs.Node as node
@@ -18,7 +19,7 @@ use Rattle.tree.specs.Table
 use Rattle.tree.proofs.Cells.{node-kind, node-token, node-third}
 use Rattle.tree.proofs.Interval.{kind_at}
 use Rattle.tree.proofs.Holds.{start-interval, system-interval, definitions-interval}
-use Rattle.model.specs.Lists.{each, when, earlier, least, every_other}
+use Rattle.model.specs.Lists.{each, when, least, every_other}
 use Rattle.model.specs.Sites.{Site, call, expr_sites, tokens_of, params_of, Definition, names, variables, definitions, definitions_in, system_in, starts_in, definition_sites, sums_sites}
 use Rattle.model.specs.Limits.{count_limit, parameter_limit, local_limit, site_beyond, wholes_beyond, starts_beyond, start_beyond}
 use Rattle.model.specs.Fresh.{repeated}
@@ -33,7 +34,7 @@ use Rattle.names.specs.Placed.{IsName, Named, Sort, defines, counts, sort_of, So
 use Rattle.names.specs.Placed as placed
 use Rattle.names.specs.Settings.{Extended, World, Setting, faults_at, known_in}
 use Rattle.names.specs.Walks.{sums, Holds, part_sites, faults_over, Place, Ground, part_faults, PartRoom, param_faults, definition_faults, defined, count_faults, start_faults, lines_faults, definition_judged, lines_judged, DefinitionRoom, LinesRoom}
-use Rattle.names.proofs.Earliest.{least-append, nothing-first, nothing-second}
+use Rattle.names.proofs.Earliest.{least-append, nothing-first, nothing-second, told}
 use Rattle.names.proofs.Between.{Lies, lies-two, expr-lies}
 use Rattle.names.proofs.Judges.{each_append}
 use Rattle.names.proofs.Scopes.{every-length, every-inside, setting-more}
@@ -61,12 +62,12 @@ module _ (low high nodes : List ℕ) (lists : Lists) (first n : ℕ) where
   pub params-limits : {q : Question} {r : Found} → q ≡ Limits → r ≡ least (drop parameter_limit (every_other first n)) → ParamsAnswer r q
   params-limits {r = r} e f = subst (ParamsAnswer r) (sym e) (in-limits f)
 
-  in-given : ParamsAnswer Nothing Given
+  in-given : ParamsAnswer None Given
   unfolding param_faults least
   in-given h m = refl
 
-  pub params-given : {q : Question} → q ≡ Given → ParamsAnswer Nothing q
-  params-given e = subst (ParamsAnswer Nothing) (sym e) in-given
+  pub params-given : {q : Question} → q ≡ Given → ParamsAnswer None q
+  params-given e = subst (ParamsAnswer None) (sym e) in-given
 
   module _ (s : Scope) (none : (length s.names ≡ local_limit) × (s.count ≡ 0)) where
     asks : asks_names Fresh ≡ true
@@ -129,7 +130,7 @@ module _ {question : Question} {kinds low high nodes : List ℕ} {lists : Lists}
       by (suc m) q = omega (arith, every-inside h.world.kinds (token_at nodes k + 2) (suc m) q (omega arith), h.world.few)
 
   module _ (room : DefinitionRoom h (defined n p b)) where
-    whole_room : asks_names question ≡ true → earlier_of (least (drop parameter_limit ks)) (least (over (site_beyond h.world.word) (sums_sites h.world.word ks b))) ≡ Nothing
+    whole_room : asks_names question ≡ true → earlier_of (least (drop parameter_limit ks)) (least (over (site_beyond h.world.word) (sums_sites h.world.word ks b))) ≡ None
     unfolding definition_judged definition_faults param_faults faults_over definition_sites site_faults
     whole_room e =
         sym (least-append (drop parameter_limit ks) (over (site_beyond h.world.word) (sums_sites h.world.word ks b)))
@@ -160,13 +161,15 @@ module _ {question : Question} {kinds low high nodes : List ℕ} {lists : Lists}
 
 -- ---- the cases of `over_count` and `count_fault`
 module _ (x k : ℕ) (w : ℕ → List ℕ) (is : x ≡ min cap (worth 0 (w k))) where
-  pub count_fits : x ≤ count_limit → Nothing ≡ least (when (ltb count_limit (worth 0 (w k))) k)
-  unfolding least when
-  count_fits l = rw (le-ltb count_limit (worth 0 (w k)) (omega arith))
+  past : ltb count_limit x ≡ ltb count_limit (worth 0 (w k))
+  past = by (ltb count_limit x) refl
+    where
+      by : (b : Bool) → ltb count_limit x ≡ b → ltb count_limit x ≡ ltb count_limit (worth 0 (w k))
+      by true e = let l = ltb-true count_limit x e in e ∙ sym (lt-ltb count_limit (worth 0 (w k)) (omega arith))
+      by false e = let l = ltb-false count_limit x e in e ∙ sym (le-ltb count_limit (worth 0 (w k)) (omega arith))
 
-  pub count-over : count_limit < x → At k ≡ least (when (ltb count_limit (worth 0 (w k))) k)
-  unfolding least when earlier
-  count-over l = rw (lt-ltb count_limit (worth 0 (w k)) (omega arith))
+  pub over-count : then_some (ltb count_limit x) k ≡ least (when (ltb count_limit (worth 0 (w k))) k)
+  over-count = told (ltb count_limit x) k ∙ rw past
 
 is-59 : (κ : ℕ) → eqb κ node.counted ≡ true → sort_of κ ≡ counts
 unfolding sort_of number_kind
@@ -191,7 +194,7 @@ module _ (c κ : ℕ) (κ-is : κ ≡ kind_of c) (b : Bool) (is : b ≡ (eqb κ 
   pub counted-judged : b ≡ true → (k : ℕ) → k ≡ token_of c - 2 → (w : ℕ → List ℕ) (r : Found) → r ≡ least (when (ltb count_limit (worth 0 (w k))) k) → r ≡ least (count_faults (kind_of c) w (token_of c - 2))
   counted-judged e k k-is w r q = rw (← k-is) (rw (count-is w k, e) q)
 
-  pub uncounted : b ≡ false → (w : ℕ → List ℕ) → Nothing ≡ least (count_faults (kind_of c) w (token_of c - 2))
+  pub uncounted : b ≡ false → (w : ℕ → List ℕ) → None ≡ least (count_faults (kind_of c) w (token_of c - 2))
   unfolding least
   uncounted e w = rw (count-is w (token_of c - 2), e)
 
@@ -281,12 +284,12 @@ module _ (low high nodes : List ℕ) (lists : Lists) (from k : ℕ) where
   abbrev StartAnswer : Found → Question → Type 0
   StartAnswer r q = (h : World q low high nodes lists) (s : Syntax.Start) → Table.Start nodes s from k → r ≡ least (start_faults q h.word (definitions h.model) s)
 
-  start-fresh' : StartAnswer Nothing Fresh
+  start-fresh' : StartAnswer None Fresh
   unfolding start_faults least
   start-fresh' h s o = refl
 
-  pub start-fresh : {q : Question} → q ≡ Fresh → StartAnswer Nothing q
-  start-fresh e = subst (StartAnswer Nothing) (sym e) start-fresh'
+  pub start-fresh : {q : Question} → q ≡ Fresh → StartAnswer None q
+  start-fresh e = subst (StartAnswer None) (sym e) start-fresh'
 
   module _ (below : k ≤ lists.root) where
     module _ (z : Scope) (none : (length z.names ≡ local_limit) × (z.count ≡ 0)) (x y r : Found) (q : r ≡ earlier_of x y) where

@@ -8,13 +8,27 @@ use native.Mathlib.Numerals.{add-one}
 use native.Mathlib.Omega.{arith}
 use borrow.Author.Tests.{eq-eqb, ne_eqb}
 use lib.Dec.{eqb}
-use lib.ListN.{length, get_or, take, drop, drop_of_length-le}
-use lib.Seq.{drop-cons, get_or-take, length-take-le}
-use Rattle.token.specs.declared.Found.TheVariants.{At, Nothing}
+use lib.ListN.{length, get_or, drop, drop_of_length-le}
+use lib.Seq.{drop-cons}
+use Rattle.std.specs.Prelude.{None, Some, is_some}
+use Rattle.token.specs.Questions.{Found}
 use Rattle.token.specs.Token.{same_bytes}
 use Rattle.model.specs.Words.{same}
 use Rattle.model.specs.Given.{place_in}
-use Rattle.names.specs.Lists.{packed, found_of, name_at, names_down}
+use Rattle.names.specs.Lists.{packed, found_of, is_found, name_at, names_down}
+
+pub found-some : (f : Found) → is_found f ≡ is_some f
+unfolding is_found
+found-some None = refl
+found-some (Some i) = refl
+
+pub there : (f : Found) → is_some f ≡ true → (i : ℕ) × (f ≡ Some i)
+there None e = cc
+there (Some i) e = (i, refl)
+
+pub absent : (f : Found) → is_some f ≡ false → f ≡ None
+absent None e = refl
+absent (Some i) e = cc
 
 module _ (w : ℕ → List ℕ) (k : ℕ) (xs : List ℕ) where
   -- the answer is that of the names from i on
@@ -29,11 +43,11 @@ module _ (w : ℕ → List ℕ) (k : ℕ) (xs : List ℕ) where
     pub onward : b ≡ false → Onward i → Onward (i + 1)
     onward f h = h ∙ step ∙ rw (f, add-one i)
 
-    pub place_here : b ≡ true → Onward i → At i ≡ found_of (place_in w k 0 xs)
+    pub place_here : b ≡ true → Onward i → Some i ≡ found_of (place_in w k 0 xs)
     unfolding found_of
     place_here f h = rw (h, step, f)
 
-  pub place_none : (i : ℕ) → length xs ≤ i → Onward i → Nothing ≡ found_of (place_in w k 0 xs)
+  pub place_none : (i : ℕ) → length xs ≤ i → Onward i → None ≡ found_of (place_in w k 0 xs)
   unfolding place_in found_of
   place_none i l h = sym (ap found_of (h ∙ ap (place_in w k i) (drop_of_length-le xs {i = i} l)))
 
@@ -50,13 +64,6 @@ module _ (low high : List ℕ) (i j : ℕ) where
   pub by_first : (get_or low i 0 ≡ get_or low j 0 → ⊥) → eqb (get_or low i 0) (get_or low j 0) ≡ same (packed low high) i j
   unfolding same packed same_bytes
   by_first e = simp (ne_eqb (get_or low i 0) (get_or low j 0) e)
-
--- ---- names in scope
-pub taken-length : (xs : List ℕ) (n : ℕ) → n ≤ length xs → length (take n xs) ≡ n
-taken-length xs n l = length-take-le n xs l
-
-pub taken_at : (xs : List ℕ) (n i x : ℕ) → i < n → get_or xs i 0 ≡ x → get_or (take n xs) i 0 ≡ x
-taken_at xs n i x l e = get_or-take n xs i 0 l ∙ e
 
 -- ---- names in nodes
 pub down-length : (t : List ℕ) (k n : ℕ) → length (names_down t k n) ≡ n

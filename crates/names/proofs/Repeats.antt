@@ -6,8 +6,9 @@ use Prim.Native.Nat.{ℕ, zero, suc, ◌+◌, ◌-◌, ◌*◌, ◌≤◌, ◌<�
 use native.Mathlib.Omega.{arith}
 use borrow.Author.Tests.{eq-eqb, ne_eqb}
 use lib.ListN.{length, get_or, take, drop}
-use Rattle.token.specs.declared.Found.{Found}
-use Rattle.token.specs.declared.Found.TheVariants.{At, Nothing}
+use Rattle.std.specs.Prelude.{None, Some, is_some}
+use Rattle.std.specs.Bool.{then_some}
+use Rattle.token.specs.Questions.{Found}
 use Rattle.tree.specs.Node.{field}
 use Rattle.model.specs.Lists.{any, when, earlier, least, every_other}
 use Rattle.model.specs.Sites.{bound, variables, names}
@@ -23,7 +24,8 @@ use Rattle.names.specs.Faults.{earlier_of, asks_names, site_faults}
 use Rattle.names.specs.Lists.{packed, found_of, is_found, names_down}
 use Rattle.names.specs.Placed.{IsName, Named}
 use Rattle.names.specs.Settings.{Extended, Setting, faults_at, known_in, Binding}
-use Rattle.names.proofs.Earliest.{assoc, nothing_right, least-append}
+use Rattle.names.proofs.Earliest.{assoc, nothing_right, least-append, told}
+use Rattle.names.proofs.Lookups.{found-some}
 use Rattle.names.proofs.Namings.{any-placed}
 use Rattle.names.proofs.Settled.{all-variables, place-locals}
 use Rattle.names.proofs.Scopes.{every-length, every_more, every-next, named-every, every-inside, setting-more}
@@ -51,25 +53,13 @@ module _ {low high nodes : List ℕ} {lists : Lists} {scope : Scope} (h : Settin
     among-variables =
         any-placed w k 0 (names (variables h.world.model)) ∙ ap is_found (ap found_of (sym (all-variables h.world asks k e)) ∙ sym is)
 
-    pub taken-variable : {i : ℕ} → f ≡ At i → At k ≡ least (when (any (same w k) (known_in h)) k)
-    unfolding known_in least when is_found earlier
-    taken-variable q = rw (any_append (same w k) (names (variables h.world.model)) h.locals, among-variables ∙ ap is_found q)
-
-    module _ {g : Found} (no : f ≡ Nothing) (js : g ≡ found_of (place_in (packed low high) k 0 (take scope.count scope.names))) where
+    module _ {g : Found} (js : g ≡ found_of (place_in (packed low high) k 0 (take scope.count scope.names))) where
       among-locals : any (same w k) h.locals ≡ is_found g
       among-locals = any-placed w k 0 h.locals ∙ ap is_found (ap found_of (sym (place-locals h asks k e)) ∙ sym js)
 
-      known-locals : any (same w k) (known_in h) ≡ is_found g
-      unfolding known_in is_found
-      known-locals = any_append (same w k) (names (variables h.world.model)) h.locals ∙ rw (among-variables ∙ ap is_found no) among-locals
-
-      pub taken-local : {i : ℕ} → g ≡ At i → At k ≡ least (when (any (same w k) (known_in h)) k)
-      unfolding least when is_found earlier
-      taken-local q = rw (known-locals, q)
-
-      pub not_taken : g ≡ Nothing → Nothing ≡ least (when (any (same w k) (known_in h)) k)
-      unfolding least when is_found
-      not_taken q = rw (known-locals, q)
+      pub taken : (b : Bool) → b ≡ (is_some f || is_some g) → then_some b k ≡ least (when (any (same w k) (known_in h)) k)
+      unfolding known_in
+      taken b q = told b k ∙ rw (q, any_append (same w k) (names (variables h.world.model)) h.locals, among-variables, among-locals, found-some f, found-some g)
 
 -- ---- the loop of `repeated_fault`
 pub named-fewer : (ts : List ℕ) (k j n : ℕ) → j ≤ n → Named ts (every_other k n) → Named ts (every_other k j)
@@ -83,7 +73,7 @@ module _ (low high nodes : List ℕ) (lists : Lists) (scope : Scope) (first n : 
   abbrev pub Onward : Found → ℕ → Type 0
   Onward found j = (h : Setting Fresh low high nodes lists scope) → Named h.world.kinds (every_other first n) → earlier_of found (least (repeated h.world.word (known_in h ++ every_other first j) (every_other (first + 2 * j) (n - j)))) ≡ least (repeated h.world.word (known_in h) (every_other first n))
 
-  pub repeated-none : Onward Nothing 0
+  pub repeated-none : Onward None 0
   unfolding earlier_of every_other
   repeated-none h m =
       let e : first + 2 * 0 ≡ first = omega arith in
@@ -161,16 +151,16 @@ module _ (low high nodes : List ℕ) (lists : Lists) (scope : Scope) (first n se
       by zero l = absurd (omega arith)
       by (suc m) l = refl
 
-  even-given : n ≡ sets → BoundAnswer Nothing Given
+  even-given : n ≡ sets → BoundAnswer None Given
   unfolding faults_at site_faults site_wrong least when
   even-given e h = rw (every-length first n, eq-eqb n sets e)
 
-  uneven-given : (n ≡ sets → ⊥) → BoundAnswer (At (first - 1)) Given
+  uneven-given : (n ≡ sets → ⊥) → BoundAnswer (Some (first - 1)) Given
   unfolding faults_at site_faults site_wrong least when earlier
   uneven-given e h = rw (every-length first n, ne_eqb n sets e, first-is h.some)
 
-  pub bound-even : {q : Question} → q ≡ Given → n ≡ sets → BoundAnswer Nothing q
-  bound-even e f = subst (BoundAnswer Nothing) (sym e) (even-given f)
+  pub bound-even : {q : Question} → q ≡ Given → n ≡ sets → BoundAnswer None q
+  bound-even e f = subst (BoundAnswer None) (sym e) (even-given f)
 
-  pub bound-uneven : {q : Question} → q ≡ Given → (n ≡ sets → ⊥) → BoundAnswer (At (first - 1)) q
-  bound-uneven e f = subst (BoundAnswer (At (first - 1))) (sym e) (uneven-given f)
+  pub bound-uneven : {q : Question} → q ≡ Given → (n ≡ sets → ⊥) → BoundAnswer (Some (first - 1)) q
+  bound-uneven e f = subst (BoundAnswer (Some (first - 1))) (sym e) (uneven-given f)

@@ -2,16 +2,17 @@
 use mathlib.Core.Path.{◌≡◌, refl, sym, ap, ◌∙◌, subst}
 use mathlib.Core.List.{List, [], ◌∷◌, ◌++◌, append-nil, append_assoc}
 use mathlib.Core.Bool.{true}
+use mathlib.Core.Logic.{◌⊎◌, inl, inr}
 use Prim.Native.Nat.{ℕ, zero, suc, ◌+◌, ◌-◌, ◌*◌, ◌≤◌, ◌<◌}
 use native.Mathlib.Numerals.{add-one}
 use native.Mathlib.Omega.{arith}
-use borrow.Author.Tests.{le-leb, lt-leb}
 use lib.ListN.{length, take, drop, set, length-append, length-set}
 use lib.Seq.{take-suc-set}
-use Rattle.token.specs.declared.Found.{Found}
-use Rattle.token.specs.declared.Found.TheVariants.{At, Nothing}
+use Rattle.std.specs.Prelude.{None, Some, leb}
+use Rattle.std.specs.Bool.{then_some}
+use Rattle.token.specs.Questions.{Found}
 use Rattle.grammar.proofs.Follows.{inside}
-use Rattle.model.specs.Lists.{every_other, least, earlier, when}
+use Rattle.model.specs.Lists.{every_other, least}
 use Rattle.model.specs.Sites.{branch, Variable, Definition}
 use Rattle.model.specs.Limits.{local_limit, branch_limit, site_beyond}
 use Rattle.model.specs.Fresh.{site_repeated}
@@ -23,7 +24,7 @@ use Rattle.names.specs.declared.Scope.{Scope}
 use Rattle.names.specs.Faults.{asks_names, site_faults}
 use Rattle.names.specs.Placed.{IsName, Named}
 use Rattle.names.specs.Settings.{Extended, Setting}
-use Rattle.names.proofs.Earliest.{From, least-here}
+use Rattle.names.proofs.Earliest.{From, least-here, told}
 
 -- ---- every second token
 pub every-length : (k n : ℕ) → length (every_other k n) ≡ n
@@ -70,10 +71,10 @@ drop-every (suc r) k (suc n) =
     rw (f, ← e) (drop-every r (k + 2) n)
 
 from_less : (k m : ℕ) (f : Found) → k ≤ m → From m f → From k f
-from_less k m Nothing l h = tt
-from_less k m (At n) l h = omega arith
+from_less k m None l h = tt
+from_less k m (Some n) l h = omega arith
 
-first-every : (k n : ℕ) → From (k + 2) (least (every_other (k + 2) n)) → least (every_other k (suc n)) ≡ At k
+first-every : (k n : ℕ) → From (k + 2) (least (every_other (k + 2) n)) → least (every_other k (suc n)) ≡ Some k
 unfolding every_other least
 first-every k n h = least-here k (least (every_other (k + 2) n)) (from_less k (k + 2) (least (every_other (k + 2) n)) (omega arith) h)
 
@@ -84,11 +85,11 @@ every-from k (suc n) = rw (first-every k n (every-from (k + 2) n)) (omega arith)
 
 -- ---- the cases of `over_fault`
 module _ (r k n : ℕ) where
-  pub all_fit : n ≤ r → Nothing ≡ least (drop r (every_other k n))
+  pub all_fit : n ≤ r → None ≡ least (drop r (every_other k n))
   unfolding every_other least
   all_fit l = let e : n - r ≡ 0 = omega arith in rw (drop-every r k n, e)
 
-  pub one-over : r < n → At (k + 2 * r) ≡ least (drop r (every_other k n))
+  pub one-over : r < n → Some (k + 2 * r) ≡ least (drop r (every_other k n))
   one-over l =
       let e : n - r ≡ suc (n - (r + 1)) = omega arith in
       rw (drop-every r k n, e) (sym (first-every (k + 2 * r) (n - (r + 1)) (every-from (k + 2 * r + 2) (n - (r + 1)))))
@@ -144,31 +145,22 @@ module _ (i k : ℕ) where
   abbrev BranchAnswer : Found → Question → Type 0
   BranchAnswer r q = (w : ℕ → List ℕ) (vs : List Variable) (ds : List Definition) (sc : List ℕ) → r ≡ least (site_faults q w vs ds sc (branch i k))
 
-  in-fresh : BranchAnswer Nothing Fresh
+  in-fresh : BranchAnswer None Fresh
   unfolding site_faults site_repeated least
   in-fresh w vs ds sc = refl
 
-  in-given : BranchAnswer Nothing Given
+  in-given : BranchAnswer None Given
   unfolding site_faults site_wrong least
   in-given w vs ds sc = refl
 
-  within : i < branch_limit → BranchAnswer Nothing Limits
-  unfolding site_faults site_beyond least when
-  within l w vs ds sc = rw (lt-leb branch_limit i l)
-
-  crowded : branch_limit ≤ i → BranchAnswer (At k) Limits
-  unfolding site_faults site_beyond least when earlier
-  crowded l w vs ds sc = rw (le-leb branch_limit i l)
+  in-limits : BranchAnswer (then_some (leb branch_limit i) k) Limits
+  unfolding site_faults site_beyond
+  in-limits w vs ds sc = told (leb branch_limit i) k
 
   module _ {q : Question} where
-    pub branch-fresh : q ≡ Fresh → BranchAnswer Nothing q
-    branch-fresh e = subst (BranchAnswer Nothing) (sym e) in-fresh
+    pub branch-free : (q ≡ Fresh) ⊎ (q ≡ Given) → BranchAnswer None q
+    branch-free (inl e) = subst (BranchAnswer None) (sym e) in-fresh
+    branch-free (inr e) = subst (BranchAnswer None) (sym e) in-given
 
-    pub branch-given : q ≡ Given → BranchAnswer Nothing q
-    branch-given e = subst (BranchAnswer Nothing) (sym e) in-given
-
-    pub branch-within : q ≡ Limits → i < branch_limit → BranchAnswer Nothing q
-    branch-within e l = subst (BranchAnswer Nothing) (sym e) (within l)
-
-    pub branch-crowded : q ≡ Limits → branch_limit ≤ i → BranchAnswer (At k) q
-    branch-crowded e l = subst (BranchAnswer (At k)) (sym e) (crowded l)
+    pub branch-asked : {r : Found} → q ≡ Limits → r ≡ then_some (leb branch_limit i) k → BranchAnswer r q
+    branch-asked e t = rw (t, e) in-limits

@@ -7,11 +7,13 @@ use native.Mathlib.Numerals.{add-one}
 use native.Mathlib.Omega.{arith}
 use lib.ListN.{length, drop, drop_of_length-le}
 use lib.Seq.{drop-cons}
-use Rattle.token.specs.declared.Found.{Found}
-use Rattle.token.specs.declared.Found.TheVariants.{At, Nothing}
+use Rattle.std.specs.Prelude.{None, Some, is_some}
+use Rattle.std.specs.Bool.{then_some}
+use mathlib.Core.Logic.{◌⊎◌, inl, inr}
+use Rattle.token.specs.Questions.{Found}
 use Rattle.grammar.specs.Syntax
 use Rattle.tree.specs.Table
-use Rattle.model.specs.Lists.{each, when, any, earlier, least}
+use Rattle.model.specs.Lists.{each, when, any, least}
 use Rattle.model.specs.Sites.{Site, Definition, scale_sites, names, titles, variables, definitions, definitions_in, system, system_in, starts, starts_in, definition_sites, sites, over_sites}
 use Rattle.model.specs.Words.{same}
 use Rattle.model.specs.Limits.{local_limit, variable_limit, definition_limit, site_beyond, variable_beyond, definition_beyond, start_beyond, tree_beyond}
@@ -27,7 +29,8 @@ use Rattle.names.specs.Lists.{packed, found_of, is_found, name_at, names_down, R
 use Rattle.names.specs.Placed.{IsName, Named}
 use Rattle.names.specs.Settings.{World, Setting, faults_at}
 use Rattle.names.specs.Walks.{faults_over, Ground, list_faults, number_faults, param_faults, definition_faults, start_faults, lines_faults, lines_judged, LinesRoom, TreeRoom}
-use Rattle.names.proofs.Earliest.{least-append, nothing_right, assoc, swap, nothing-second}
+use Rattle.names.proofs.Earliest.{least-append, nothing_right, assoc, swap, nothing-second, told}
+use Rattle.names.proofs.Lookups.{found-some}
 use Rattle.names.proofs.Between.{scale-lies}
 use Rattle.names.proofs.Chains.{variable-names, definition-names}
 use Rattle.names.proofs.Lookups.{down-length, down-at}
@@ -40,9 +43,9 @@ module _ (t : List ℕ) (first n : ℕ) where
   down-next : (j : ℕ) → j < n → drop j (names_down t first n) ≡ name_at t (first - j) ∷ drop (j + 1) (names_down t first n)
   down-next j l = drop-cons (names_down t first n) j 0 (omega (arith, down-length t first n)) ∙ rw (down-at t first n j l, add-one j)
 
-  pub past-on : (j : ℕ) → j < n → (found : Found) (k : ℕ) (g : Found) → k ≡ name_at t (first - j) → g ≡ earlier_of found (At k) → earlier_of g (least (drop (j + 1) (names_down t first n))) ≡ earlier_of found (least (drop j (names_down t first n)))
+  pub past-on : (j : ℕ) → j < n → (found : Found) (k : ℕ) (g : Found) → k ≡ name_at t (first - j) → g ≡ earlier_of found (Some k) → earlier_of g (least (drop (j + 1) (names_down t first n))) ≡ earlier_of found (least (drop j (names_down t first n)))
   unfolding earlier_of least
-  past-on j l found k g e q = rw (q, down-next j l, e) (assoc found (At (name_at t (first - j))) (least (drop (j + 1) (names_down t first n))))
+  past-on j l found k g e q = rw (q, down-next j l, e) (assoc found (Some (name_at t (first - j))) (least (drop (j + 1) (names_down t first n))))
 
   down-end : (j : ℕ) → n ≤ j → drop j (names_down t first n) ≡ []
   down-end j l = drop_of_length-le (names_down t first n) {i = j} (omega (arith, down-length t first n))
@@ -65,7 +68,7 @@ module _ (t : List ℕ) (first n : ℕ) where
     abbrev pub Onward : Found → ℕ → Type 0
     Onward found j = earlier_of found (least (repeated w (names_down t first j) (drop j (names_down t first n)))) ≡ least (repeated w [] (names_down t first n))
 
-    pub twice-none : Onward Nothing 0
+    pub twice-none : Onward None 0
     unfolding earlier_of names_down
     twice-none = refl
 
@@ -87,13 +90,8 @@ module _ (w : ℕ → List ℕ) (ks : List ℕ) (k m : ℕ) (is : k ≡ m) (f : 
   any-is : any (same w m) ks ≡ is_found f
   any-is = rw is at (any-placed w k 0 ks ∙ ap is_found (sym e))
 
-  pub again-found : {i : ℕ} → f ≡ At i → At k ≡ least (when (any (same w m) ks) m)
-  unfolding least when earlier is_found
-  again-found q = rw (any-is ∙ ap is_found q, is)
-
-  pub again-none : f ≡ Nothing → Nothing ≡ least (when (any (same w m) ks) m)
-  unfolding least when is_found
-  again-none q = rw (any-is ∙ ap is_found q)
+  pub again : then_some (is_some f) k ≡ least (when (any (same w m) ks) m)
+  again = told (is_some f) k ∙ rw (any-is, found-some f, is)
 
 pub reach-less : (low high nodes : List ℕ) (first n m : ℕ) → m ≤ n → Reach low high nodes first n → Reach low high nodes first m
 reach-less low high nodes first n m l r = record { count = omega (arith, r.count); each = λ j k. r.each j (omega arith) }
@@ -108,7 +106,7 @@ module _ (w : ℕ → List ℕ) (limit : ℕ) (ks : List ℕ) (q : Question) (r 
   unfolding list_faults
   list-fresh e f = rw e f
 
-pub list-given : (w : ℕ → List ℕ) (limit : ℕ) (ks : List ℕ) (q : Question) → q ≡ Given → Nothing ≡ least (list_faults q w limit ks)
+pub list-given : (w : ℕ → List ℕ) (limit : ℕ) (ks : List ℕ) (q : Question) → q ≡ Given → None ≡ least (list_faults q w limit ks)
 unfolding list_faults least
 list-given w limit ks q e = rw e
 
@@ -170,19 +168,17 @@ module _ (low high nodes : List ℕ) (lists : Lists) where
   numbers-limits s none {r = r} e f =
       subst (NumbersAnswer r) (sym e) (numbers-limits' s none (subst (λ (q : Question). (h : Setting q low high nodes lists s) → r ≡ least (each (faults_at h) (between nodes 0 (lists.variables - 0)))) e f))
 
-  numbers-fresh' : NumbersAnswer Nothing Fresh
+  numbers-fresh' : NumbersAnswer None Fresh
   unfolding number_faults least
   numbers-fresh' h = refl
 
-  numbers-given' : NumbersAnswer Nothing Given
+  numbers-given' : NumbersAnswer None Given
   unfolding number_faults least
   numbers-given' h = refl
 
-  pub numbers-fresh : {q : Question} → q ≡ Fresh → NumbersAnswer Nothing q
-  numbers-fresh e = subst (NumbersAnswer Nothing) (sym e) numbers-fresh'
-
-  pub numbers-given : {q : Question} → q ≡ Given → NumbersAnswer Nothing q
-  numbers-given e = subst (NumbersAnswer Nothing) (sym e) numbers-given'
+  pub numbers-free : {q : Question} → (q ≡ Fresh) ⊎ (q ≡ Given) → NumbersAnswer None q
+  numbers-free (inl e) = subst (NumbersAnswer None) (sym e) numbers-fresh'
+  numbers-free (inr e) = subst (NumbersAnswer None) (sym e) numbers-given'
 
 -- ---- the whole tree
 -- answers in another order

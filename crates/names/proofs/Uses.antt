@@ -7,8 +7,11 @@ use Prim.Native.Nat.{ℕ, ◌+◌, ◌-◌, ◌≤◌, ◌<◌}
 use native.Mathlib.Omega.{arith}
 use lib.Dec.{eqb}
 use lib.ListN.{length, get_or, take}
-use Rattle.token.specs.declared.Found.{Found}
-use Rattle.token.specs.declared.Found.TheVariants.{At, Nothing}
+use Rattle.std.specs.Prelude.{None, Some}
+use Rattle.std.specs.Bool.{then_some}
+use mathlib.Core.Logic.{◌⊎◌, inl, inr}
+use Rattle.names.proofs.Earliest.{told}
+use Rattle.token.specs.Questions.{Found}
 use Rattle.token.specs.Kind as kind
 use Rattle.tree.specs.Node.{kind_of, left_of, third_of, number_kind}
 use Rattle.tree.proofs.Interval.{kind_at}
@@ -30,12 +33,12 @@ use Rattle.names.proofs.Namings.{FoundVariable, variable-found, variable-none, F
 use Rattle.names.proofs.Settled.{vs, ds, vs-at, ds-at, vs-few, reach-variables, all-variables, all-definitions, place-locals, root_in}
 use Rattle.names.specs.Placed.{IsName}
 
-pub some-place : {f : Found} (o : Option ℕ) {i : ℕ} → f ≡ found_of o → f ≡ At i → o ≡ some i
+pub some-place : {f : Found} (o : Option ℕ) {i : ℕ} → f ≡ found_of o → f ≡ Some i → o ≡ some i
 unfolding found_of
 some-place none e q = absurd (let z : ◌≡◌ {A = ℕ} 0 1 = cc in omega arith)
 some-place (some j) e q = cc
 
-pub no_place : {f : Found} (o : Option ℕ) → f ≡ found_of o → f ≡ Nothing → o ≡ none
+pub no_place : {f : Found} (o : Option ℕ) → f ≡ found_of o → f ≡ None → o ≡ none
 unfolding found_of
 no_place none e q = refl
 no_place (some j) e q = absurd (let z : ◌≡◌ {A = ℕ} 0 1 = cc in omega arith)
@@ -57,11 +60,11 @@ module _ {low high nodes : List ℕ} {lists : Lists} {scope : Scope} (h : Settin
   judged : (b : Bool) (m : Meaning) → meaning w (vs h.world) h.locals k ≡ m → cond scaling (is_given m) (is_value m) ≡ b → least (when (not b) k) ≡ least (faults_at h (used scaling k))
   judged = judged-by scaling
 
-  fault-free : {m : Meaning} → meaning w (vs h.world) h.locals k ≡ m → cond scaling (is_given m) (is_value m) ≡ true → Nothing ≡ least (faults_at h (used scaling k))
+  fault-free : {m : Meaning} → meaning w (vs h.world) h.locals k ≡ m → cond scaling (is_given m) (is_value m) ≡ true → None ≡ least (faults_at h (used scaling k))
   unfolding least when
   fault-free {m} q f = judged true m q f
 
-  at-fault : {m : Meaning} → meaning w (vs h.world) h.locals k ≡ m → cond scaling (is_given m) (is_value m) ≡ false → At k ≡ least (faults_at h (used scaling k))
+  at-fault : {m : Meaning} → meaning w (vs h.world) h.locals k ≡ m → cond scaling (is_given m) (is_value m) ≡ false → Some k ≡ least (faults_at h (used scaling k))
   unfolding least when earlier
   at-fault {m} q f = judged false m q f
 
@@ -74,13 +77,13 @@ module _ {low high nodes : List ℕ} {lists : Lists} {scope : Scope} (h : Settin
   off false q x y = refl
 
   module _ {f : Found} (is : f ≡ found_of (place_in (packed low high) k 0 (take scope.count scope.names))) where
-    pub local-used : {i : ℕ} → f ≡ At i → Nothing ≡ least (faults_at h (used scaling k))
+    pub local-used : {i : ℕ} → f ≡ Some i → None ≡ least (faults_at h (used scaling k))
     unfolding meaning or_else is_given is_value
     local-used {i} q =
         let o = sym (place-locals h asks k e) ∙ some-place (place_in (packed low high) k 0 (take scope.count scope.names)) is q in
         fault-free (ap (λ (o : Option ℕ). or_else o (variable_named w k (vs h.world))) o) (either scaling (is_given (local i)) (is_value (local i)) refl)
 
-    module _ (no : f ≡ Nothing) where
+    module _ (no : f ≡ None) where
       by-variable : (m : Meaning) → variable_named w k (vs h.world) ≡ m → meaning w (vs h.world) h.locals k ≡ m
       unfolding meaning or_else
       by-variable m q =
@@ -88,13 +91,13 @@ module _ {low high nodes : List ℕ} {lists : Lists} {scope : Scope} (h : Settin
           ap (λ (o : Option ℕ). or_else o (variable_named w k (vs h.world))) o ∙ q
 
       module _ {g : Found} (js : g ≡ found_of (place_in (packed low high) k 0 (names_down nodes lists.root lists.variables))) where
-        pub not_listed : g ≡ Nothing → At k ≡ least (faults_at h (used scaling k))
+        pub not_listed : g ≡ None → Some k ≡ least (faults_at h (used scaling k))
         unfolding is_given is_value
         not_listed q =
             let o = sym (all-variables h.world asks k e) ∙ no_place (place_in (packed low high) k 0 (names_down nodes lists.root lists.variables)) js q in
             at-fault (by-variable nothing (variable-none w k nodes (vs h.world) 0 o)) (either scaling false false refl)
 
-        module _ {j : ℕ} (q : g ≡ At j) where
+        module _ {j : ℕ} (q : g ≡ Some j) where
           pub found-variable : FoundVariable w k nodes (vs h.world) lists.root j
           found-variable =
               let o = sym (all-variables h.world asks k e) ∙ some-place (place_in (packed low high) k 0 (names_down nodes lists.root lists.variables)) js q in
@@ -107,7 +110,7 @@ module _ {low high nodes : List ℕ} {lists : Lists} {scope : Scope} (h : Settin
               let l = r.stands.below in
               (omega arith, omega (arith, root_in h.world), rw (node-left r.stands.node (omega arith)) (omega (arith, root_in h.world)))
 
-          pub any-scale : scaling ≡ true → Nothing ≡ least (faults_at h (used scaling k))
+          pub any-scale : scaling ≡ true → None ≡ least (faults_at h (used scaling k))
           unfolding is_given
           any-scale s = fault-free (by-variable (variable found-variable.found.number) found-variable.means) (rw s)
 
@@ -127,13 +130,13 @@ module _ {low high nodes : List ℕ} {lists : Lists} (h : World Given low high n
   variables-below = omega (arith, (reach-variables h lists.variables (omega arith)).count, vs-few h, h.gathered.variables-are)
 
   module _ {f : Found} (is : f ≡ found_of (place_in (packed low high) k 0 (names_down nodes (lists.root - lists.variables) lists.definitions))) where
-    pub not-defined : f ≡ Nothing → false ≡ is_callable h.word (ds h) k n
+    pub not-defined : f ≡ None → false ≡ is_callable h.word (ds h) k n
     unfolding is_callable takes
     not-defined q =
         let o = sym (all-definitions h asks k e) ∙ no_place (place_in (packed low high) k 0 (names_down nodes (lists.root - lists.variables) lists.definitions)) is q in
         sym (ap (takes n) (definition-none h.word k nodes (ds h) 0 o))
 
-    module _ {j : ℕ} (q : f ≡ At j) where
+    module _ {j : ℕ} (q : f ≡ Some j) where
       found-definition : FoundDefinition h.word k nodes (ds h) (lists.root - lists.variables) 0 j
       found-definition =
           let o = sym (all-definitions h asks k e) ∙ some-place (place_in (packed low high) k 0 (names_down nodes (lists.root - lists.variables) lists.definitions)) is q in
@@ -162,31 +165,22 @@ module _ (low high nodes : List ℕ) (lists : Lists) (k n : ℕ) where
   pub given-call : {q : Question} → q ≡ Given → (h : World q low high nodes lists) × IsName h.kinds k → (h : World Given low high nodes lists) × IsName h.kinds k
   given-call e h = subst (λ (q : Question). (h : World q low high nodes lists) × IsName h.kinds k) e h
 
-  in-limits : CallAnswer Nothing Limits
+  in-limits : CallAnswer None Limits
   unfolding site_faults site_beyond least
   in-limits h sc e = refl
 
-  in-fresh : CallAnswer Nothing Fresh
+  in-fresh : CallAnswer None Fresh
   unfolding site_faults site_repeated least
   in-fresh h sc e = refl
 
-  pub call-limits : {q : Question} → q ≡ Limits → CallAnswer Nothing q
-  call-limits e = subst (CallAnswer Nothing) (sym e) in-limits
-
-  pub call-fresh : {q : Question} → q ≡ Fresh → CallAnswer Nothing q
-  call-fresh e = subst (CallAnswer Nothing) (sym e) in-fresh
+  pub call-free : {q : Question} → (q ≡ Limits) ⊎ (q ≡ Fresh) → CallAnswer None q
+  call-free (inl e) = subst (CallAnswer None) (sym e) in-limits
+  call-free (inr e) = subst (CallAnswer None) (sym e) in-fresh
 
   module _ {b : Bool} (is : (h : World Given low high nodes lists) → IsName h.kinds k → b ≡ is_callable h.word (definitions h.model) k n) where
-    right-given : b ≡ true → CallAnswer Nothing Given
-    unfolding site_faults site_wrong least when
-    right-given q h sc e = rw (sym (is h e) ∙ q)
+    in-given : CallAnswer (then_some (not b) k) Given
+    unfolding site_faults site_wrong
+    in-given h sc e = told (not b) k ∙ rw (is h e)
 
-    wrong-given : b ≡ false → CallAnswer (At k) Given
-    unfolding site_faults site_wrong least when earlier
-    wrong-given q h sc e = rw (sym (is h e) ∙ q)
-
-    pub call-right : {q : Question} → q ≡ Given → b ≡ true → CallAnswer Nothing q
-    call-right e t = subst (CallAnswer Nothing) (sym e) (right-given t)
-
-    pub call-wrong : {q : Question} → q ≡ Given → b ≡ false → CallAnswer (At k) q
-    call-wrong e t = subst (CallAnswer (At k)) (sym e) (wrong-given t)
+    pub call-asked : {q : Question} {r : Found} → q ≡ Given → r ≡ then_some (not b) k → CallAnswer r q
+    call-asked e t = rw (t, e) in-given

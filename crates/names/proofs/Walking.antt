@@ -6,8 +6,8 @@ use mathlib.Core.Logic.{⊎_elim}
 use Prim.Native.Nat.{ℕ, ◌+◌, ◌-◌, ◌*◌, ◌≤◌}
 use native.Mathlib.Omega.{arith}
 use lib.ListN.{length, get_or}
-use Rattle.token.specs.declared.Found.{Found}
-use Rattle.token.specs.declared.Found.TheVariants.{Nothing}
+use Rattle.std.specs.Prelude.{None}
+use Rattle.token.specs.Questions.{Found}
 use Rattle.grammar.specs.Syntax
 use Rattle.tree.specs.Node.{field}
 use Rattle.tree.specs.Table
@@ -99,7 +99,7 @@ module _ {question : Question} {kinds low high nodes : List ℕ} {lists : Lists}
         rw (q, c, e) (sym (over-gated judged nodes w h.setting.locals i p from root s))
 
   -- ---- a branch
-  own_room : (sc : List ℕ) (x : Site) (a : Syntax.Action) (r : Syntax.Rate) → least (each (site_beyond w sc) (x ∷ action_sites w a ++ rate_sites r)) ≡ Nothing → least (each (site_beyond w sc) (action_sites w a)) ≡ Nothing
+  own_room : (sc : List ℕ) (x : Site) (a : Syntax.Action) (r : Syntax.Rate) → least (each (site_beyond w sc) (x ∷ action_sites w a ++ rate_sites r)) ≡ None → least (each (site_beyond w sc) (action_sites w a)) ≡ None
   unfolding each
   own_room sc x a r e =
       let f = site_beyond w sc in

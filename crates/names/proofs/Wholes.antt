@@ -6,32 +6,30 @@ use Prim.Native.Nat.{ℕ, zero, suc, ◌≤◌, ◌<◌, min}
 use native.Mathlib.Omega.{arith}
 use borrow.Author.Tests.{le-leb, lt-leb, leb-true, leb-false}
 use lib.Dec.{leb}
-use lib.IntN.{ℤ, pos, negsuc, neg_ℤ, nat_abs}
+use lib.IntN.{pos, negsuc, neg_ℤ, nat_abs}
 use lib.Signed.{mag}
 use mir.Syntax.{w64}
 use mir.Val.{to_z}
 use mir.Facts.{to_z_pos}
-use Rattle.value.specs.declared.Value.{Value}
-use Rattle.value.specs.declared.Value.TheVariants.{Is, Missing}
-use Rattle.value.specs.Range.{farthest, least, value_of}
+use Rattle.std.specs.Prelude.{None, Some, not, is_some}
+use Rattle.std.specs.Bool.{then_some}
+use Rattle.names.proofs.Earliest.{told}
+use Rattle.token.specs.Questions.{Found}
+use Rattle.value.specs.Range.{farthest, least, value_of, Value}
 use Rattle.value.specs.Arithmetic.{negation_of}
 use Rattle.word.specs.Number.{worth, cap}
-use Rattle.token.specs.declared.Found.{Found}
-use Rattle.token.specs.declared.Found.TheVariants.{At, Nothing}
 use Rattle.model.specs.Lists.{when, earlier}
 use Rattle.model.specs.Lists as lists
 use Rattle.model.specs.Words.{whole_of}
 use Rattle.model.specs.Limits.{is_missing, whole_beyond}
 
--- ---- the cases of `value_fault`
-module _ {v : Value} where
-  pub value_there : {z : ℤ} (k : ℕ) → v ≡ Is z → Nothing ≡ lists.least (when (is_missing v) k)
-  unfolding lists.least when is_missing
-  value_there k e = rw e
-
-  pub value-missing : (k : ℕ) → v ≡ Missing → At k ≡ lists.least (when (is_missing v) k)
-  unfolding lists.least when is_missing earlier
-  value-missing k e = rw e
+-- a number without a value is beyond the range
+pub without : (v : Value) (b : Bool) (k : ℕ) → is_some v ≡ not b → then_some b k ≡ lists.least (when (is_missing v) k)
+unfolding is_missing
+without None true k e = told true k
+without None false k e = cc
+without (Some z) true k e = cc
+without (Some z) false k e = told false k
 
 -- ---- a number and its cap
 positive : (x y : ℕ) → y ≡ min cap x → is_missing (value_of (pos y)) ≡ is_missing (value_of (pos x))

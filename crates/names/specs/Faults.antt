@@ -1,7 +1,6 @@
 -- The faults that questions 7, 8 and 9 look for, and the earlier of two answers (01, Opening a text). Assumes nothing: these are definitions.
-use Rattle.std.specs.Prelude.{List, Bool, true, false, cond, ◌&&◌, ℕ, eqb}
-use Rattle.token.specs.declared.Found.{Found}
-use Rattle.token.specs.declared.Found.TheVariants.{At, Nothing}
+use Rattle.std.specs.Prelude.{List, Bool, true, false, cond, ◌&&◌, ℕ, eqb, None, Some}
+use Rattle.token.specs.Questions.{Found}
 use Rattle.token.specs.Kind as kind
 use Rattle.grammar.specs.Syntax
 use Rattle.model.specs.Lists.{earlier}
@@ -14,8 +13,8 @@ use Rattle.names.specs.declared.Question.TheVariants.{Limits, Fresh, Given}
 
 -- the earlier of two answers
 unfoldable pub earlier_of : Found → Found → Found
-earlier_of (At k) f = earlier k f
-earlier_of Nothing f = f
+earlier_of (Some k) f = earlier k f
+earlier_of None f = f
 
 -- 7: a token's kind and contents are those of a name or a decimal beyond its limit, which leaves no contents
 unfoldable pub left_out : ℕ → ℕ → ℕ → Bool

@@ -1,8 +1,7 @@
 -- Where a model's variables and definitions stand in the table of nodes, and look-ups by packed names. Assumes nothing: these are definitions.
-use Rattle.std.specs.Prelude.{◌≡◌, List, [], ◌∷◌, Bool, true, false, cond, ℕ, zero, suc, ◌+◌, ◌-◌, ◌≤◌, ◌<◌, eqb, length, get_or}
+use Rattle.std.specs.Prelude.{◌≡◌, List, [], ◌∷◌, Bool, true, false, cond, ℕ, zero, suc, ◌+◌, ◌-◌, ◌≤◌, ◌<◌, eqb, length, get_or, None, Some}
 use Rattle.std.proofs.Math.Option.{Option, none, some}
-use Rattle.token.specs.declared.Found.{Found}
-use Rattle.token.specs.declared.Found.TheVariants.{At, Nothing}
+use Rattle.token.specs.Questions.{Found}
 use Rattle.grammar.specs.Syntax
 use Rattle.tree.specs.Node as node
 use Rattle.tree.specs.Node.{kind_of, token_of, left_of}
@@ -17,12 +16,12 @@ packed low high k = get_or low k 0 ∷ get_or high k 0 ∷ []
 
 -- a place, or none
 unfoldable pub found_of : Option ℕ → Found
-found_of none = Nothing
-found_of (some i) = At i
+found_of none = None
+found_of (some i) = Some i
 
 unfoldable pub is_found : Found → Bool
-is_found (At i) = true
-is_found Nothing = false
+is_found (Some i) = true
+is_found None = false
 
 -- the name in a list's node: a variable's own, a definition's in the node to the left
 unfoldable pub name_at : List ℕ → ℕ → ℕ

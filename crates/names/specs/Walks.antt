@@ -1,7 +1,6 @@
 -- What the walks over a tree of nodes go through: the parts of a definition, with their sites, and what a walk may take for granted. Assumes nothing: these
 -- are definitions.
-use Rattle.std.specs.Prelude.{◌≡◌, List, [], ◌∷◌, ◌++◌, true, cond, ◌||◌, ℕ, eqb, ltb, get_or, drop}
-use Rattle.token.specs.declared.Found.TheVariants.{Nothing}
+use Rattle.std.specs.Prelude.{◌≡◌, List, [], ◌∷◌, ◌++◌, true, cond, ◌||◌, ℕ, eqb, ltb, get_or, drop, None}
 use Rattle.token.specs.Kind as kind
 use Rattle.token.specs.Token.{same_bytes}
 use Rattle.word.specs.Number.{worth}
@@ -55,10 +54,10 @@ bound_sites (Syntax.hand_bind c s n) = bound (tokens_of n) (count_sets s) ∷ []
 
 -- question 7 has passed these sites, in one scope or in theirs, where names are asked for
 abbrev pub RoomFor : Question → (ℕ → List ℕ) → List ℕ → List Site → Type 0
-RoomFor q w sc xs = asks_names q ≡ true → least (each (site_beyond w sc) xs) ≡ Nothing
+RoomFor q w sc xs = asks_names q ≡ true → least (each (site_beyond w sc) xs) ≡ None
 
 abbrev pub Roomy : Question → (ℕ → List ℕ) → List Sited → Type 0
-Roomy q w xs = asks_names q ≡ true → least (each (λ s. site_beyond w s.scope s.site) xs) ≡ Nothing
+Roomy q w xs = asks_names q ≡ true → least (each (λ s. site_beyond w s.scope s.site) xs) ≡ None
 
 -- 01, Actions: the kinds of tokens tell where a `)` stands
 abbrev pub Closes : List ℕ → (ℕ → List ℕ) → Type 0
@@ -137,10 +136,10 @@ module _ {question : Question} {kinds low high nodes : List ℕ} {lists : Lists}
 
   -- question 7 has passed them, where names are asked for
   abbrev pub DefinitionRoom : Definition → Type 0
-  DefinitionRoom d = asks_names question ≡ true → least (definition_judged Limits d) ≡ Nothing
+  DefinitionRoom d = asks_names question ≡ true → least (definition_judged Limits d) ≡ None
 
   abbrev pub LinesRoom : Syntax.Definitions → Type 0
-  LinesRoom d = asks_names question ≡ true → least (lines_judged Limits d) ≡ Nothing
+  LinesRoom d = asks_names question ≡ true → least (lines_judged Limits d) ≡ None
 
   abbrev pub TreeRoom : Type 0
-  TreeRoom = asks_names question ≡ true → least (tree_faults Limits h.world.word h.world.model) ≡ Nothing
+  TreeRoom = asks_names question ≡ true → least (tree_faults Limits h.world.word h.world.model) ≡ None

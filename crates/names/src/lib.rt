@@ -24,9 +24,8 @@ ghost use Rattle.names.specs.Leaves.{used, leaf_sites, site_at, between};
 ghost use Rattle.names.specs.Placed.{IsName, Named, sort_of, wholes, names};
 ghost use Rattle.names.specs.declared.Question.TheVariants.{Limits, Fresh, Given};
 
-use token::{Found, Kind};
+use token::Kind;
 use tree::NodeKind;
-use value::Value;
 
 // Which question is asked: 7, 8 or 9.
 #[derive(Clone, Copy)]
@@ -73,59 +72,49 @@ pub struct Scope {
 }
 
 // The earlier of two answers.
-pub fn earlier(a: Found, b: Found) -> Found
+pub fn earlier(a: Option<usize>, b: Option<usize>) -> Option<usize>
     ensures { result ≡ earlier_of a b }
 {
-    let Found::At(i) = a else {
-        return b;
-    };
-    let Found::At(j) = b else {
-        return a;
-    };
-    if i <= j {
-        return a;
+    match (a, b) {
+        (Some(i), Some(j)) => Some(i.min(j)),
+        _ => a.or(b),
     }
-    b
 }
 
 // A name or a decimal that is beyond its limit has no contents.
 fn is_left_out(kind: u8, low: u64, high: u64) -> bool
     ensures { result ≡ left_out kind low high }
 {
-    if kind == Kind::NAME {
-        return low == 0;
+    match kind {
+        Kind::NAME => low == 0,
+        Kind::DECIMAL => high == 0,
+        _ => false,
     }
-    if kind == Kind::DECIMAL {
-        return high == 0;
-    }
-    false
 }
 
 // Question 7 of the tokens alone: the first name or decimal beyond its limit.
-pub fn words_fault(kinds: &[u8], low: &[u64], high: &[u64], n: usize) -> Found
+pub fn words_fault(kinds: &[u8], low: &[u64], high: &[u64], n: usize) -> Option<usize>
     requires { (text : List ℕ) × Tabled text kinds.now low.now high.now n }
     ensures { (text : List ℕ) → Tabled text kinds.now low.now high.now n → result ≡ least (words_beyond text 0 (tokens text)) }
 {
-    let mut i = 0;
-    while i < n {
+    for i in 0..n {
         if is_left_out(kinds[i], low[i], high[i]) {
-            return Found::At(i);
+            return Some(i);
         }
-        i += 1;
     }
-    Found::Nothing
+    None
 }
 
 // How many nodes of this kind stand one after the other, from the node `first` down.
-fn run_of(nodes: &[u64], kind: u8, first: usize) -> usize
+pub fn run_of(nodes: &[u64], kind: u8, first: usize) -> usize
     requires { (first < length nodes.now) × (run nodes.now kind first ≤ first) }
     ensures { result ≡ run nodes.now kind first }
 {
-    let mut n = 0;
-    while tree::kind_of(nodes[first - n]) == kind {
-        n += 1;
-    }
-    n
+    nodes[..=first]
+        .iter()
+        .rev()
+        .take_while(|node| tree::kind_of(**node) == kind)
+        .count()
 }
 
 // The variables and definitions of the model at this root.
@@ -151,20 +140,16 @@ pub fn same_name(low: &[u64], high: &[u64], i: usize, j: usize) -> bool
 }
 
 // The place in scope of the local with the name k.
-pub fn local_named(low: &[u64], high: &[u64], scope: Scope, k: usize) -> Found
+pub fn local_named(low: &[u64], high: &[u64], scope: Scope, k: usize) -> Option<usize>
     requires { InScope low.now high.now scope k }
     ensures { result ≡ found_of (place_in (packed low.now high.now) k 0 (take scope.count scope.names)) }
 {
-    let names = scope.names;
-    let n = scope.count;
-    let mut i = 0;
-    while i < n {
-        if same_name(low, high, k, names[i] as usize) {
-            return Found::At(i);
+    for (i, &name) in scope.names[..scope.count].iter().enumerate() {
+        if same_name(low, high, k, name as usize) {
+            return Some(i);
         }
-        i += 1;
     }
-    Found::Nothing
+    None
 }
 
 // The name in a list's node.
@@ -180,40 +165,38 @@ fn listed_name(nodes: &[u64], i: usize) -> usize
 }
 
 // The place of the name k in the list of n that goes down from the node `first`.
-pub fn listed(low: &[u64], high: &[u64], nodes: &[u64], first: usize, n: usize, k: usize) -> Found
+pub fn listed(
+    low: &[u64],
+    high: &[u64],
+    nodes: &[u64],
+    first: usize,
+    n: usize,
+    k: usize,
+) -> Option<usize>
     requires reach { Reach low.now high.now nodes.now first n }
     requires k_in_bounds { (k < length low.now) × (k < length high.now) }
     ensures { result ≡ found_of (place_in (packed low.now high.now) k 0 (names_down nodes.now first n)) }
 {
-    let mut j = 0;
-    while j < n {
+    for j in 0..n {
         if same_name(low, high, k, listed_name(nodes, first - j)) {
-            return Found::At(j);
+            return Some(j);
         }
-        j += 1;
     }
-    Found::Nothing
+    None
 }
 
 // Question 7 of a whole number, which has to have a value.
-fn value_fault(v: Value, k: usize) -> Found
-    ensures { result ≡ least (when (is_missing v) k) }
-{
-    match v {
-        Value::Is(_) => Found::Nothing,
-        Value::Missing => Found::At(k),
-    }
-}
-
-fn whole_fault(low: &[u64], negated: bool, k: usize) -> Found
+fn whole_fault(low: &[u64], negated: bool, k: usize) -> Option<usize>
     requires { (k < length low.now) × (get_or low.now k 0 ≤ cap) }
     ensures { (w : ℕ → List ℕ) → get_or low.now k 0 ≡ min cap (worth 0 (w k)) → result ≡ least (whole_beyond w negated k) }
 {
     let z = low[k] as i64;
-    if negated {
-        return value_fault(value::neg_value(z), k);
-    }
-    value_fault(value::value_of(z), k)
+    let v = if negated {
+        value::neg_value(z)
+    } else {
+        value::value_of(z)
+    };
+    v.is_none().then_some(k)
 }
 
 // Whether a variable's number is whole, by the kind of its node.
@@ -232,24 +215,21 @@ fn name_fault(
     scope: Scope,
     scaling: bool,
     k: usize,
-) -> Found
+) -> Option<usize>
     requires { (h : Setting Given low.now high.now nodes.now lists scope) × IsName h.world.kinds k }
     ensures { (h : Setting Given low.now high.now nodes.now lists scope) → IsName h.world.kinds k → result ≡ least (faults_at h (used scaling k)) }
 {
-    if let Found::At(_) = local_named(low, high, scope, k) {
-        return Found::Nothing;
+    if local_named(low, high, scope, k).is_some() {
+        return None;
     }
     let root = lists.root;
-    let Found::At(j) = listed(low, high, nodes, root, lists.variables, k) else {
-        return Found::At(k);
+    let Some(j) = listed(low, high, nodes, root, lists.variables, k) else {
+        return Some(k);
     };
-    if scaling {
-        return Found::Nothing;
+    if scaling || is_whole(tree::kind_of(nodes[tree::left_of(nodes[root - j])])) {
+        return None;
     }
-    if is_whole(tree::kind_of(nodes[tree::left_of(nodes[root - j])])) {
-        return Found::Nothing;
-    }
-    Found::At(k)
+    Some(k)
 }
 
 // Whether the definition with the name k has n parameters.
@@ -258,7 +238,7 @@ fn is_callable(low: &[u64], high: &[u64], nodes: &[u64], lists: Lists, k: usize,
     ensures { (h : World Given low.now high.now nodes.now lists) → IsName h.kinds k → result ≡ is_callable h.word (definitions h.model) k n }
 {
     let first = lists.root - lists.variables;
-    let Found::At(j) = listed(low, high, nodes, first, lists.definitions, k) else {
+    let Some(j) = listed(low, high, nodes, first, lists.definitions, k) else {
         return false;
     };
     tree::third_of(nodes[tree::left_of(nodes[first - j])]) == n
@@ -273,31 +253,25 @@ fn call_fault(
     lists: Lists,
     k: usize,
     n: usize,
-) -> Found
+) -> Option<usize>
     requires { (h : World question low.now high.now nodes.now lists) × IsName h.kinds k }
     ensures { (h : World question low.now high.now nodes.now lists) (sc : List ℕ) → IsName h.kinds k → result ≡ least (site_faults question h.word (variables h.model) (definitions h.model) sc (call k n)) }
 {
     match question {
-        Question::Limits => Found::Nothing,
-        Question::Fresh => Found::Nothing,
-        Question::Given => {
-            if is_callable(low, high, nodes, lists, k, n) {
-                return Found::Nothing;
-            }
-            Found::At(k)
-        }
+        Question::Limits | Question::Fresh => None,
+        Question::Given => (!is_callable(low, high, nodes, lists, k, n)).then_some(k),
     }
 }
 
 // Question 7 of a node: a whole number that is beyond the range.
-fn number_fault(low: &[u64], kind: u8, k: usize) -> Found
+fn number_fault(low: &[u64], kind: u8, k: usize) -> Option<usize>
     requires { sort_of kind ≡ wholes → (k < length low.now) × (get_or low.now k 0 ≤ cap) }
     ensures { (w : ℕ → List ℕ) (sc : List ℕ) → (sort_of kind ≡ wholes → get_or low.now k 0 ≡ min cap (worth 0 (w k))) → result ≡ least (each (site_beyond w sc) (leaf_sites kind k)) }
 {
     match kind {
         NodeKind::LITERAL | NodeKind::NUMBER => whole_fault(low, false, k),
         NodeKind::NEGATIVE | NodeKind::NEGATIVE_NUMBER => whole_fault(low, true, k),
-        _ => Found::Nothing,
+        _ => None,
     }
 }
 
@@ -310,14 +284,14 @@ fn used_fault(
     scope: Scope,
     kind: u8,
     k: usize,
-) -> Found
+) -> Option<usize>
     requires { (h : Setting Given low.now high.now nodes.now lists scope) × (sort_of kind ≡ names → IsName h.world.kinds k) }
     ensures { (h : Setting Given low.now high.now nodes.now lists scope) → (sort_of kind ≡ names → IsName h.world.kinds k) → result ≡ least (each (faults_at h) (leaf_sites kind k)) }
 {
     match kind {
         NodeKind::NAMED => name_fault(low, high, nodes, lists, scope, false, k),
         NodeKind::SCALE_NAME => name_fault(low, high, nodes, lists, scope, true, k),
-        _ => Found::Nothing,
+        _ => None,
     }
 }
 
@@ -330,7 +304,7 @@ fn leaf_fault(
     lists: Lists,
     scope: Scope,
     i: usize,
-) -> Found
+) -> Option<usize>
     requires { Setting question low.now high.now nodes.now lists scope × (i ≤ lists.root) }
     ensures { (h : Setting question low.now high.now nodes.now lists scope) → result ≡ least (each (faults_at h) (site_at nodes.now i)) }
 {
@@ -339,7 +313,7 @@ fn leaf_fault(
     let k = tree::token_of(node);
     match question {
         Question::Limits => number_fault(low, kind, k),
-        Question::Fresh => Found::Nothing,
+        Question::Fresh => None,
         Question::Given => used_fault(low, high, nodes, lists, scope, kind, k),
     }
 }
@@ -354,20 +328,28 @@ fn leaves_fault(
     scope: Scope,
     from: usize,
     to: usize,
-) -> Found
+) -> Option<usize>
     requires { Setting question low.now high.now nodes.now lists scope × (to ≤ lists.root + 1) }
     ensures { (h : Setting question low.now high.now nodes.now lists scope) → result ≡ least (each (faults_at h) (between nodes.now from (to - from))) }
 {
-    let mut found = Found::Nothing;
-    let mut i = from;
-    while i < to {
+    let mut found = None;
+    for i in from..to {
         found = earlier(
             found,
             leaf_fault(question, low, high, nodes, lists, scope, i),
         );
-        i += 1;
     }
     found
+}
+
+// A scope without locals.
+pub fn no_locals() -> Scope
+    ensures { (length result.names ≡ local_limit) × (result.count ≡ 0) }
+{
+    Scope {
+        names: [0; Limits::LOCALS],
+        count: 0,
+    }
 }
 
 // A scope with the local k more, if there is room.
@@ -393,10 +375,8 @@ pub fn with_locals(scope: Scope, first: usize, n: usize) -> Scope
     ensures { Extended scope (every_other first n) result }
 {
     let mut inner = scope;
-    let mut j = 0;
-    while j < n {
+    for j in 0..n {
         inner = with_local(inner, first + 2 * j);
-        j += 1;
     }
     inner
 }
@@ -409,17 +389,13 @@ fn taken_fault(
     lists: Lists,
     scope: Scope,
     k: usize,
-) -> Found
+) -> Option<usize>
     requires { (h : Setting Fresh low.now high.now nodes.now lists scope) × IsName h.world.kinds k }
     ensures { (h : Setting Fresh low.now high.now nodes.now lists scope) → IsName h.world.kinds k → result ≡ least (when (any (same h.world.word k) (known_in h)) k) }
 {
-    if let Found::At(_) = listed(low, high, nodes, lists.root, lists.variables, k) {
-        return Found::At(k);
-    }
-    if let Found::At(_) = local_named(low, high, scope, k) {
-        return Found::At(k);
-    }
-    Found::Nothing
+    let taken = listed(low, high, nodes, lists.root, lists.variables, k).is_some()
+        || local_named(low, high, scope, k).is_some();
+    taken.then_some(k)
 }
 
 // Question 8 of n locals, every second token from `first` on.
@@ -431,31 +407,29 @@ fn repeated_fault(
     scope: Scope,
     first: usize,
     n: usize,
-) -> Found
+) -> Option<usize>
     requires { ((h : Setting Fresh low.now high.now nodes.now lists scope) × Named h.world.kinds (every_other first n)) × (scope.count + n ≤ local_limit) }
     ensures { (h : Setting Fresh low.now high.now nodes.now lists scope) → Named h.world.kinds (every_other first n) → result ≡ least (repeated h.world.word (known_in h) (every_other first n)) }
 {
-    let mut found = Found::Nothing;
+    let mut found = None;
     let mut seen = scope;
-    let mut j = 0;
-    while j < n {
+    for j in 0..n {
         let k = first + 2 * j;
         found = earlier(found, taken_fault(low, high, nodes, lists, seen, k));
         seen = with_local(seen, k);
-        j += 1;
     }
     found
 }
 
 // Question 7 of n locals, every second token from `first` on, where there is room for some.
-fn over_fault(room: usize, first: usize, n: usize) -> Found
+fn over_fault(room: usize, first: usize, n: usize) -> Option<usize>
     requires { first + 2 * n ≤ field }
     ensures { result ≡ least (drop room (every_other first n)) }
 {
     if n <= room {
-        return Found::Nothing;
+        return None;
     }
-    Found::At(first + 2 * room)
+    Some(first + 2 * room)
 }
 
 // The faults of n names that a receive with so many sets binds.
@@ -469,7 +443,7 @@ fn bound_fault(
     first: usize,
     n: usize,
     sets: usize,
-) -> Found
+) -> Option<usize>
     requires { Binding question low.now high.now nodes.now lists scope first n }
     ensures { (h : Binding question low.now high.now nodes.now lists scope first n) → result ≡ least (faults_at h.setting (bound (every_other first n) sets)) }
 {
@@ -478,33 +452,26 @@ fn bound_fault(
         Question::Fresh => repeated_fault(low, high, nodes, lists, scope, first, n),
         Question::Given => {
             if n == sets {
-                return Found::Nothing;
+                return None;
             }
-            Found::At(first - 1)
+            Some(first - 1)
         }
     }
 }
 
 // The faults of a branch with i others before it in its sum.
-fn branch_fault(question: Question, i: usize, k: usize) -> Found
+fn branch_fault(question: Question, i: usize, k: usize) -> Option<usize>
     ensures { (w : ℕ → List ℕ) (vs : List Variable) (ds : List Definition) (sc : List ℕ) → result ≡ least (site_faults question w vs ds sc (branch i k)) }
 {
     match question {
-        Question::Limits => {
-            if i < Limits::BRANCHES {
-                return Found::Nothing;
-            }
-            Found::At(k)
-        }
-        Question::Fresh => Found::Nothing,
-        Question::Given => Found::Nothing,
+        Question::Limits => (Limits::BRANCHES <= i).then_some(k),
+        Question::Fresh | Question::Given => None,
     }
 }
 
-// What questions 7, 8 and 9 say of a text that fits; a no has the token at fault.
+// A no to question 7, 8 or 9, with the token at fault.
 #[derive(Clone, Copy)]
-pub enum Judgement {
-    Passed,
+pub enum Fault {
     Beyond(usize),
     NotNew(usize),
     NotGiven(usize),
@@ -518,7 +485,7 @@ pub fn judge_names(
     nodes: &[u64],
     root: usize,
     n: usize,
-) -> Judgement
+) -> Result<(), Fault>
     requires { (text : List ℕ) × (s : Syntax.Model) × Read text s kinds.now low.now high.now nodes.now root n }
     ensures { (text : List ℕ) (s : Syntax.Model) → Read text s kinds.now low.now high.now nodes.now root n → answer_of result ≡ judged_names text s }
 {
@@ -526,14 +493,14 @@ pub fn judge_names(
     let toks = &kinds[..n];
     let words = words_fault(kinds, low, high, n);
     let tree = walk::tree_fault(Question::Limits, toks, low, high, nodes, lists);
-    if let Found::At(k) = earlier(words, tree) {
-        return Judgement::Beyond(k);
+    if let Some(k) = earlier(words, tree) {
+        return Err(Fault::Beyond(k));
     }
-    if let Found::At(k) = walk::tree_fault(Question::Fresh, toks, low, high, nodes, lists) {
-        return Judgement::NotNew(k);
+    if let Some(k) = walk::tree_fault(Question::Fresh, toks, low, high, nodes, lists) {
+        return Err(Fault::NotNew(k));
     }
-    if let Found::At(k) = walk::tree_fault(Question::Given, toks, low, high, nodes, lists) {
-        return Judgement::NotGiven(k);
+    if let Some(k) = walk::tree_fault(Question::Given, toks, low, high, nodes, lists) {
+        return Err(Fault::NotGiven(k));
     }
-    Judgement::Passed
+    Ok(())
 }

@@ -16,8 +16,7 @@ ghost use Rattle.names.specs.Lists.{packed, name_at, names_down, Reach};
 ghost use Rattle.names.specs.Placed.{Named, sort_of, counts};
 ghost use Rattle.names.specs.Walks.{Part, Holds, RoomFor, Place, part_faults, bound_sites, ActionRoom, PartRoom, Ground, list_faults, number_faults, param_faults, defined, count_faults, start_faults, definition_judged, lines_judged, DefinitionRoom, LinesRoom, TreeRoom};
 
-use crate::{Limits, Lists, Question, Scope};
-use token::Found;
+use crate::{Limits, Lists, Question, Scope, no_locals};
 use tree::NodeKind;
 
 // How many sets stand at this root.
@@ -35,10 +34,7 @@ fn set_count(nodes: &[u64], root: usize) -> usize
 fn is_lone(kinds: &[u8], node: u64) -> bool
     ensures { result ≡ (eqb (kind_of node) named && not (eqb (get_or kinds.now (token_of node + 1) 0) kind.close_round)) }
 {
-    if tree::kind_of(node) != NodeKind::NAMED {
-        return false;
-    }
-    token::peek(kinds, tree::token_of(node) + 1) != b')'
+    tree::kind_of(node) == NodeKind::NAMED && token::peek(kinds, tree::token_of(node) + 1) != b')'
 }
 
 // The faults of a channel's item from the node `from` to its root; a lone name has none.
@@ -52,12 +48,12 @@ fn item_fault(
     scope: Scope,
     from: usize,
     root: usize,
-) -> Found
+) -> Option<usize>
     requires { Place question kinds.now low.now high.now nodes.now lists scope × (root ≤ lists.root) }
     ensures { (h : Place question kinds.now low.now high.now nodes.now lists scope) (c : Syntax.Expr) → Table.Expr nodes.now c from root → result ≡ least (each (faults_at h.setting) (item_sites h.setting.world.word c)) }
 {
     if is_lone(kinds, nodes[root]) {
-        return Found::Nothing;
+        return None;
     }
     crate::leaves_fault(question, low, high, nodes, lists, scope, from, root + 1)
 }
@@ -73,7 +69,7 @@ fn channel_fault(
     scope: Scope,
     from: usize,
     root: usize,
-) -> Found
+) -> Option<usize>
     requires { (Place question kinds.now low.now high.now nodes.now lists scope × (c : Syntax.Channel) × Table.Channel nodes.now c from root) × (root ≤ lists.root) }
     ensures { (h : Place question kinds.now low.now high.now nodes.now lists scope) (c : Syntax.Channel) → Table.Channel nodes.now c from root → result ≡ least (each (faults_at h.setting) (channel_sites h.setting.world.word c)) }
 {
@@ -133,14 +129,14 @@ fn binding_fault(
     lists: Lists,
     scope: Scope,
     root: usize,
-) -> Found
+) -> Option<usize>
     requires { ((h : Setting question low.now high.now nodes.now lists scope) × (a : Syntax.Action) × (lo : ℕ) × Table.Action nodes.now a lo root × RoomFor question h.world.word h.locals (bound_sites a)) × (root ≤ lists.root) }
     ensures { (h : Setting question low.now high.now nodes.now lists scope) (a : Syntax.Action) (lo : ℕ) → Table.Action nodes.now a lo root → RoomFor question h.world.word h.locals (bound_sites a) → result ≡ least (each (faults_at h) (bound_sites a)) }
 {
     let node = nodes[root];
     let n = tree::third_of(node);
     if n == 0 {
-        return Found::Nothing;
+        return None;
     }
     let sets = set_count(nodes, root - 1);
     crate::bound_fault(
@@ -167,13 +163,13 @@ fn action_fault(
     scope: Scope,
     from: usize,
     root: usize,
-) -> Found
+) -> Option<usize>
     requires { ((h : Place question kinds.now low.now high.now nodes.now lists scope) × (a : Syntax.Action) × Table.Action nodes.now a from root × ActionRoom h a) × (root ≤ lists.root) }
     ensures { (h : Place question kinds.now low.now high.now nodes.now lists scope) (a : Syntax.Action) → Table.Action nodes.now a from root → ActionRoom h a → result ≡ least (each (faults_at h.setting) (action_sites h.setting.world.word a)) }
 {
     let node = nodes[root];
     if tree::kind_of(node) == NodeKind::WAIT {
-        return Found::Nothing;
+        return None;
     }
     let left = tree::left_of(node);
     let channel = channel_fault(question, kinds, low, high, nodes, lists, scope, from, left);
@@ -207,7 +203,7 @@ fn offer_fault(
     scope: Scope,
     node: u64,
     own: Span,
-) -> Found
+) -> Option<usize>
     requires { ((h : Place question kinds.now low.now high.now nodes.now lists scope) × (a : Syntax.Action) × Table.Action nodes.now a own.from (left_of node) × ActionRoom h a) × (left_of node ≤ lists.root) × (own.root ≤ lists.root) }
     ensures { (h : Place question kinds.now low.now high.now nodes.now lists scope) (a : Syntax.Action) (ρ : Syntax.Rate) → Table.Action nodes.now a own.from (left_of node) → Table.Rate nodes.now ρ (left_of node + 1) own.root → ActionRoom h a → result ≡ least (each (faults_at h.setting) (branch own.before (token_of node) ∷ action_sites h.setting.world.word a ++ rate_sites ρ)) }
 {
@@ -230,7 +226,7 @@ fn calling_fault(
     scope: Scope,
     from: usize,
     root: usize,
-) -> Found
+) -> Option<usize>
     requires { (Setting question low.now high.now nodes.now lists scope × (n : ℕ) × (a : Syntax.Args) × Table.Cont nodes.now (Syntax.call n a) from root) × (root ≤ lists.root) }
     ensures { (h : Setting question low.now high.now nodes.now lists scope) (n : ℕ) (a : Syntax.Args) → Table.Cont nodes.now (Syntax.call n a) from root → result ≡ least (each (faults_at h) (call n (count_args a) ∷ args_sites a)) }
 {
@@ -270,7 +266,7 @@ fn part_fault(
     lists: Lists,
     scope: Scope,
     part: Span,
-) -> Found
+) -> Option<usize>
     requires { ((h : Place question kinds.now low.now high.now nodes.now lists scope) × (p : Part) × Holds nodes.now p part.from part.root × PartRoom h part.before p) × (part.before + part.root ≤ lists.root) }
     ensures { (h : Place question kinds.now low.now high.now nodes.now lists scope) (p : Part) → Holds nodes.now p part.from part.root → PartRoom h part.before p → result ≡ least (part_faults h part.before p) }
 {
@@ -323,16 +319,6 @@ fn part_fault(
     }
 }
 
-// A scope without locals.
-fn no_locals() -> Scope
-    ensures { (length result.names ≡ local_limit) × (result.count ≡ 0) }
-{
-    Scope {
-        names: [0; 8],
-        count: 0,
-    }
-}
-
 // Questions 7 and 8 of a definition's n parameters, every second token from `first` on.
 fn params_fault(
     question: Question,
@@ -342,14 +328,14 @@ fn params_fault(
     lists: Lists,
     first: usize,
     n: usize,
-) -> Found
+) -> Option<usize>
     requires { ((h : World question low.now high.now nodes.now lists) × Named h.kinds (every_other first n)) × (first + 2 * n ≤ field) × (asks_names question ≡ true → n ≤ local_limit) }
     ensures { (h : World question low.now high.now nodes.now lists) → Named h.kinds (every_other first n) → result ≡ least (param_faults question h.word (names (variables h.model)) (every_other first n)) }
 {
     match question {
         Question::Limits => crate::over_fault(Limits::PARAMETERS, first, n),
         Question::Fresh => crate::repeated_fault(low, high, nodes, lists, no_locals(), first, n),
-        Question::Given => Found::Nothing,
+        Question::Given => None,
     }
 }
 
@@ -363,7 +349,7 @@ fn definition_fault(
     lists: Lists,
     from: usize,
     root: usize,
-) -> Found
+) -> Option<usize>
     requires { ((h : Ground question kinds.now low.now high.now nodes.now lists) × (n : ℕ) × (p : Syntax.Params) × (b : Syntax.Sums) × Table.Definition nodes.now n p b from root × DefinitionRoom h (defined n p b)) × (root ≤ lists.root) }
     ensures { (h : Ground question kinds.now low.now high.now nodes.now lists) (n : ℕ) (p : Syntax.Params) (b : Syntax.Sums) → Table.Definition nodes.now n p b from root → DefinitionRoom h (defined n p b) → result ≡ least (definition_judged h question (defined n p b)) }
 {
@@ -385,25 +371,22 @@ fn is_counted(kind: u8) -> bool
 }
 
 // Question 7 of the count k.
-fn over_count(low: &[u64], k: usize) -> Found
+fn over_count(low: &[u64], k: usize) -> Option<usize>
     requires { k < length low.now }
     ensures { (w : ℕ → List ℕ) → get_or low.now k 0 ≡ min cap (worth 0 (w k)) → result ≡ least (when (ltb count_limit (worth 0 (w k))) k) }
 {
-    if low[k] <= Limits::COUNT {
-        return Found::Nothing;
-    }
-    Found::At(k)
+    (Limits::COUNT < low[k]).then_some(k)
 }
 
 // Question 7 of the count of an item with this node, if it has one.
-fn count_fault(low: &[u64], node: u64) -> Found
+fn count_fault(low: &[u64], node: u64) -> Option<usize>
     requires { sort_of (kind_of node) ≡ counts → (2 ≤ token_of node) × (token_of node - 2 < length low.now) }
     ensures { (w : ℕ → List ℕ) → (sort_of (kind_of node) ≡ counts → get_or low.now (token_of node - 2) 0 ≡ min cap (worth 0 (w (token_of node - 2)))) → result ≡ least (count_faults (kind_of node) w (token_of node - 2)) }
 {
     if is_counted(tree::kind_of(node)) {
         return over_count(low, tree::token_of(node) - 2);
     }
-    Found::Nothing
+    None
 }
 
 // The faults of an item of the system line from the node `from` to its root.
@@ -415,7 +398,7 @@ fn start_fault(
     lists: Lists,
     from: usize,
     root: usize,
-) -> Found
+) -> Option<usize>
     requires { (World question low.now high.now nodes.now lists × (s : Syntax.Start) × Table.Start nodes.now s from root) × (root ≤ lists.root) }
     ensures { (h : World question low.now high.now nodes.now lists) (s : Syntax.Start) → Table.Start nodes.now s from root → result ≡ least (start_faults question h.word (definitions h.model) s) }
 {
@@ -428,7 +411,7 @@ fn start_fault(
                 crate::leaves_fault(question, low, high, nodes, lists, no_locals(), from, root),
             )
         }
-        Question::Fresh => Found::Nothing,
+        Question::Fresh => None,
         Question::Given => {
             let name = tree::token_of(node);
             crate::call_fault(
@@ -453,7 +436,7 @@ fn system_fault(
     lists: Lists,
     from: usize,
     root: usize,
-) -> Found
+) -> Option<usize>
     requires { (World question low.now high.now nodes.now lists × (s : Syntax.System) × Table.System nodes.now s from root) × (root ≤ lists.root) }
     ensures { (h : World question low.now high.now nodes.now lists) (s : Syntax.System) → Table.System nodes.now s from root → result ≡ least (each (start_faults question h.word (definitions h.model)) (starts_in s)) }
 {
@@ -477,7 +460,7 @@ fn lines_fault(
     lists: Lists,
     from: usize,
     root: usize,
-) -> Found
+) -> Option<usize>
     requires { ((h : Ground question kinds.now low.now high.now nodes.now lists) × (d : Syntax.Definitions) × Table.Definitions nodes.now d from root × LinesRoom h d) × (root ≤ lists.root) }
     ensures { (h : Ground question kinds.now low.now high.now nodes.now lists) (d : Syntax.Definitions) → Table.Definitions nodes.now d from root → LinesRoom h d → result ≡ least (lines_judged h question d) }
 {
@@ -495,41 +478,36 @@ fn lines_fault(
 }
 
 // Question 7 of a list of n names that goes down from the node `first`.
-fn past_fault(nodes: &[u64], first: usize, limit: usize, n: usize) -> Found
+fn past_fault(nodes: &[u64], first: usize, limit: usize, n: usize) -> Option<usize>
     requires { (n ≤ first + 1) × ((j : ℕ) → j < n → (first - j < length nodes.now) × (left_of (get_or nodes.now (first - j) 0) < length nodes.now)) }
     ensures { result ≡ least (drop limit (names_down nodes.now first n)) }
 {
-    let mut found = Found::Nothing;
-    let mut j = limit;
-    while j < n {
-        found = crate::earlier(found, Found::At(crate::listed_name(nodes, first - j)));
-        j += 1;
+    let mut found = None;
+    for j in limit..n {
+        found = crate::earlier(found, Some(crate::listed_name(nodes, first - j)));
     }
     found
 }
 
 // Question 8 of the name in place j of a list that goes down from the node `first`.
-fn again_fault(low: &[u64], high: &[u64], nodes: &[u64], first: usize, j: usize) -> Found
+fn again_fault(low: &[u64], high: &[u64], nodes: &[u64], first: usize, j: usize) -> Option<usize>
     requires { Reach low.now high.now nodes.now first (j + 1) }
     ensures { result ≡ least (when (any (same (packed low.now high.now) (name_at nodes.now (first - j))) (names_down nodes.now first j)) (name_at nodes.now (first - j))) }
 {
     let k = crate::listed_name(nodes, first - j);
-    match crate::listed(low, high, nodes, first, j, k) {
-        Found::At(_) => Found::At(k),
-        Found::Nothing => Found::Nothing,
-    }
+    crate::listed(low, high, nodes, first, j, k)
+        .is_some()
+        .then_some(k)
 }
 
 // Question 8 of a list of n names that goes down from the node `first`.
-fn twice_fault(low: &[u64], high: &[u64], nodes: &[u64], first: usize, n: usize) -> Found
+fn twice_fault(low: &[u64], high: &[u64], nodes: &[u64], first: usize, n: usize) -> Option<usize>
     requires { Reach low.now high.now nodes.now first n }
     ensures { result ≡ least (repeated (packed low.now high.now) [] (names_down nodes.now first n)) }
 {
-    let mut found = Found::Nothing;
-    let mut j = 0;
-    while j < n {
+    let mut found = None;
+    for j in 0..n {
         found = crate::earlier(found, again_fault(low, high, nodes, first, j));
-        j += 1;
     }
     found
 }
@@ -543,14 +521,14 @@ fn list_fault(
     first: usize,
     n: usize,
     limit: usize,
-) -> Found
+) -> Option<usize>
     requires { Reach low.now high.now nodes.now first n }
     ensures { result ≡ least (list_faults question (packed low.now high.now) limit (names_down nodes.now first n)) }
 {
     match question {
         Question::Limits => past_fault(nodes, first, limit, n),
         Question::Fresh => twice_fault(low, high, nodes, first, n),
-        Question::Given => Found::Nothing,
+        Question::Given => None,
     }
 }
 
@@ -561,7 +539,7 @@ fn numbers_fault(
     high: &[u64],
     nodes: &[u64],
     lists: Lists,
-) -> Found
+) -> Option<usize>
     requires { World question low.now high.now nodes.now lists }
     ensures { (h : World question low.now high.now nodes.now lists) → result ≡ least (number_faults question h.word (variables h.model)) }
 {
@@ -576,8 +554,7 @@ fn numbers_fault(
             0,
             lists.variables,
         ),
-        Question::Fresh => Found::Nothing,
-        Question::Given => Found::Nothing,
+        Question::Fresh | Question::Given => None,
     }
 }
 
@@ -589,7 +566,7 @@ pub fn tree_fault(
     high: &[u64],
     nodes: &[u64],
     lists: Lists,
-) -> Found
+) -> Option<usize>
     requires { (h : Ground question kinds.now low.now high.now nodes.now lists) × TreeRoom h }
     ensures { (h : Ground question kinds.now low.now high.now nodes.now lists) → TreeRoom h → result ≡ least (tree_faults question h.world.word h.world.model) }
 {

@@ -14,6 +14,8 @@ use Rattle.tree.specs.Node.{field, kind_of, token_of, left_of}
 use Rattle.model.specs.Good.{Every}
 use Rattle.model.specs.Resolved
 use Rattle.model.specs.Opening.{process_limit, sums_in, start_processes}
+use Rattle.names.specs.Lists.{run}
+use Rattle.names.proofs.Chains.{run_on, run-off}
 use Rattle.tables.specs.Settled.{kind_at}
 use Rattle.tables.specs.Represents as tables
 use Rattle.opening.specs.Counts.{Countable, ItemAt, Counts}
@@ -44,44 +46,24 @@ module _ (t : List ℕ) where
       by false e = absurd (omega (arith, h, ap left_of (get_or-eq_default t 0 (ltb-false k (length t) e))))
 
   -- ---- the sums of a body
-  sums-inside : (ns : List ℕ) (k : ℕ) → tables.Sums t ns k → k < length t
+  pub sums-inside : (ns : List ℕ) (k : ℕ) → tables.Sums t ns k → k < length t
   unfolding tables.Sums
   sums-inside [] k h = absurd h
   sums-inside (n ∷ []) k h = kind-inside k (omega (arith, h.kind-is))
   sums-inside (n ∷ o ∷ ns) k h = kind-inside k (omega (arith, h.kind-is))
 
-  -- what is left to count: the sums of the chain at `at`, after n - 1 of ns
-  pub record Rest (ns : List ℕ) (n at : ℕ) : Type 0 where
-    pub sums : List ℕ
-    pub holds : tables.Sums t sums at
-    pub sum : n + length sums ≡ length ns + 1
-
-  pub rest_all : (ns : List ℕ) (k : ℕ) → tables.Sums t ns k → Rest ns 1 k
-  rest_all ns k h = record { sums = ns; holds = h; sum = omega arith }
-
-  module _ {ns : List ℕ} {n at : ℕ} (r : Rest ns n at) where
-    pub rest-inside : at < length t
-    rest-inside = sums-inside r.sums at r.holds
-
-    on : (ms : List ℕ) → tables.Sums t ms at → n + length ms ≡ length ns + 1 → kind_at t at ≡ node.beside → (0 < at) × Rest ns (n + 1) (at - 1)
-    unfolding tables.Sums
-    on [] h s e = absurd h
-    on (m ∷ []) h s e = absurd (omega (arith, h.kind-is))
-    on (m ∷ o ∷ ms) h s e =
-        let q : h.right ≡ at - 1 = omega (arith, h.above) in
-        (omega (arith, h.above), record { sums = o ∷ ms; holds = rw q at h.holds-second; sum = omega arith })
-
-    pub rest-on : kind_at t at ≡ node.beside → (0 < at) × Rest ns (n + 1) (at - 1)
-    rest-on = on r.sums r.holds r.sum
-
-    off : (ms : List ℕ) → tables.Sums t ms at → n + length ms ≡ length ns + 1 → (kind_at t at ≡ node.beside → ⊥) → n ≡ length ns
-    unfolding tables.Sums
-    off [] h s e = absurd h
-    off (m ∷ []) h s e = omega arith
-    off (m ∷ o ∷ ms) h s e = absurd (e h.kind-is)
-
-    pub rest-off : (kind_at t at ≡ node.beside → ⊥) → n ≡ length ns
-    rest-off = off r.sums r.holds r.sum
+  -- as many as the run of nodes before the last one
+  pub sums-run : (ns : List ℕ) (k : ℕ) → tables.Sums t ns k → (run t node.beside k ≤ k) × (run t node.beside k + 1 ≡ length ns)
+  unfolding tables.Sums
+  sums-run [] k h = absurd h
+  sums-run (n ∷ []) k h =
+      let r = run-off t node.beside k (λ e. omega (arith, h.kind-is)) in
+      (omega arith, omega arith)
+  sums-run (n ∷ o ∷ ns) k h =
+      let q = sums-run (o ∷ ns) h.right h.holds-second in
+      let e : k ≡ h.right + 1 = omega (arith, h.above) in
+      let r = run_on t node.beside h.right (rw e at h.kind-is) in
+      rw e (omega arith, omega arith)
 
   -- ---- an item
   pub record ItemCell (s : Resolved.Start) (k : ℕ) : Type 0 where

@@ -2,13 +2,13 @@
 use mathlib.Core.Path.{◌≡◌, refl, sym, ap, ◌∙◌}
 use mathlib.Core.List.{List}
 use mathlib.Core.Option.{some}
-use Prim.Native.Nat.{ℕ, ◌≤◌, ◌<◌}
+use Prim.Native.Nat.{ℕ, ◌≤◌}
 use native.Mathlib.Omega.{arith}
 use borrow.Author.Tests.{le-leb}
 use lib.ListN.{length}
-use Rattle.token.specs.declared.Found.{Found}
-use Rattle.token.specs.declared.Found.TheVariants.{At, Nothing}
-use Rattle.token.specs.declared.Judged.TheVariants.{Refused as No, Passed as bytes-pass}
+use Rattle.std.specs.Prelude.{Result, None, Some, Err, Ok}
+use Rattle.token.specs.declared.Refusal.{Refusal}
+use Rattle.token.specs.Questions.{Found, Judged}
 use Rattle.token.specs.Questions as bytes
 use Rattle.token.specs.Token.{tokens}
 use Rattle.grammar.specs.Limit.{token_limit}
@@ -20,49 +20,36 @@ use Rattle.model.specs.Limits.{beyond}
 use Rattle.model.specs.Fresh.{not_new}
 use Rattle.model.specs.Given.{not_given}
 use Rattle.model.specs.Resolved.{resolved}
-use Rattle.model.specs.Opening.{refused, opened, byte_place, too_many, system_token, crowded, asked, tree_judged, opening}
+use Rattle.model.specs.Opening.{Opening, refused, opened, byte_place, too_many, system_token, crowded, asked, tree_judged, opening}
 use Rattle.model.specs.Held.{tree_held, model_in, held}
-use Rattle.names.specs.Judged.{answer_of, judged_names}
-use Rattle.names.specs.declared.Judgement.{Judgement}
-use Rattle.names.specs.declared.Judgement.TheVariants.{Passed, Beyond, NotNew, NotGiven}
+use Rattle.names.specs.Judged.{no_of, answer_of, judged_names}
+use Rattle.names.specs.declared.Fault.{Fault}
 use Rattle.opening.specs.Trees.{Fitted}
 use Rattle.opening.specs.Sound.{Sound, NamesJudged}
-use Rattle.opening.specs.declared.Named.TheVariants.{Refused, Passed as Fine}
 
--- ---- which of the three answers a judgement is
-never : {A : Type 0} → ◌≡◌ {A = ℕ} 0 1 → A
-never e = absurd (omega arith)
+-- ---- which no the three questions come to
+number_of : Judged → ℕ
+number_of (Ok u) = 0
+number_of (Err r) = r.number
 
-unequal : {A : Type 0} (m n : ℕ) → m < n → n ≡ m → A
-unequal m n h e = absurd (omega arith)
+place_of : Judged → ℕ
+place_of (Ok u) = 0
+place_of (Err r) = r.place
 
-at-beyond : (f g h : Found) {k : ℕ} → bytes.asked 7 f (bytes.asked 8 g (bytes.asked 9 h bytes-pass)) ≡ No 7 k → f ≡ At k
+-- a no of the tokens is the no of the text, whatever is asked later
+same-no : (text : List ℕ) (f g h : Found) (more : Opening) {r : Refusal} → bytes.asked 7 f (bytes.asked 8 g (bytes.asked 9 h (Ok tt))) ≡ Err r → asked text 7 f (asked text 8 g (asked text 9 h more)) ≡ refused r.number (byte_place text r.place)
+unfolding bytes.asked asked number_of place_of
+same-no text (Some i) g h more e = rw (← ap number_of e, ← ap place_of e)
+same-no text None (Some i) h more e = rw (← ap number_of e, ← ap place_of e)
+same-no text None None (Some i) more e = rw (← ap number_of e, ← ap place_of e)
+same-no text None None None more e = cc
+
+at_none : (f g h : Found) → bytes.asked 7 f (bytes.asked 8 g (bytes.asked 9 h (Ok tt))) ≡ Ok tt → (f ≡ None) × (g ≡ None) × (h ≡ None)
 unfolding bytes.asked
-at-beyond (At i) g h e = cc
-at-beyond Nothing (At i) h e = unequal 7 8 (omega arith) (cc)
-at-beyond Nothing Nothing (At i) e = unequal 7 9 (omega arith) (cc)
-at-beyond Nothing Nothing Nothing e = never (cc)
-
-at_new : (f g h : Found) {k : ℕ} → bytes.asked 7 f (bytes.asked 8 g (bytes.asked 9 h bytes-pass)) ≡ No 8 k → (f ≡ Nothing) × (g ≡ At k)
-unfolding bytes.asked
-at_new (At i) g h e = unequal 7 8 (omega arith) (cc)
-at_new Nothing (At i) h e = (refl, cc)
-at_new Nothing Nothing (At i) e = unequal 8 9 (omega arith) (cc)
-at_new Nothing Nothing Nothing e = never (cc)
-
-at-given : (f g h : Found) {k : ℕ} → bytes.asked 7 f (bytes.asked 8 g (bytes.asked 9 h bytes-pass)) ≡ No 9 k → (f ≡ Nothing) × (g ≡ Nothing) × (h ≡ At k)
-unfolding bytes.asked
-at-given (At i) g h e = unequal 7 9 (omega arith) (cc)
-at-given Nothing (At i) h e = unequal 8 9 (omega arith) (cc)
-at-given Nothing Nothing (At i) e = (refl, refl, cc)
-at-given Nothing Nothing Nothing e = never (cc)
-
-at_none : (f g h : Found) → bytes.asked 7 f (bytes.asked 8 g (bytes.asked 9 h bytes-pass)) ≡ bytes-pass → (f ≡ Nothing) × (g ≡ Nothing) × (h ≡ Nothing)
-unfolding bytes.asked
-at_none (At i) g h e = never (cc)
-at_none Nothing (At i) h e = never (cc)
-at_none Nothing Nothing (At i) e = never (cc)
-at_none Nothing Nothing Nothing e = (refl, refl, refl)
+at_none (Some i) g h e = cc
+at_none None (Some i) h e = cc
+at_none None None (Some i) e = cc
+at_none None None None e = (refl, refl, refl)
 
 -- ---- 7 to 9 of a text that fits
 module _ {text : List ℕ} {s : Syntax.Model} {kinds places low high nodes : List ℕ} {root n : ℕ} (f : Fitted text s kinds places low high nodes root n) where
@@ -75,34 +62,24 @@ module _ {text : List ℕ} {s : Syntax.Model} {kinds places low high nodes : Lis
   abbrev f9 : Found
   f9 = least (not_given (word_of text) s)
 
-  few : too_many text ≡ Nothing
+  few : too_many text ≡ None
   unfolding too_many
   few = let l : length (tokens text) ≤ token_limit = omega (arith, f.read.few, f.read.tabled.count) in simp (le-leb (length (tokens text)) token_limit l)
 
-  module _ {j : Judgement} (e : answer_of j ≡ judged_names text s) {k p : ℕ} (q : p ≡ byte_place text k) where
-    pub beyond-no : j ≡ Beyond k → NamesJudged text s (Refused 7 p)
+  module _ {j : Result (Unit {0}) Fault} (e : answer_of j ≡ judged_names text s) where
+    pub names-no : {x : Fault} → j ≡ Err x → {r : Refusal} → r.number ≡ (no_of x).number → r.place ≡ byte_place text (no_of x).place → NamesJudged text s (Err r)
     unfolding NamesJudged answer_of judged_names tree_judged tree_held asked model_in
-    beyond-no i =
-        let a = at-beyond f7 f8 f9 (sym e ∙ ap answer_of i) in
-        record { opens = f.opens ∙ simp (few, a) (ap (refused 7) (sym q)); holds = f.holds ∙ simp (few, a) }
+    names-no {x} i {r} a b =
+        let q : judged_names text s ≡ Err (no_of x) = sym e ∙ ap answer_of i in
+        let opens = same-no text f7 f8 f9 (asked text 10 (crowded s (resolved (word_of text) s)) (opened (resolved (word_of text) s))) q in
+        let holds = same-no text f7 f8 f9 (opened (resolved (word_of text) s)) q in
+        record { opens = f.opens ∙ simp few (opens ∙ rw (← a, ← b)); holds = f.holds ∙ simp few (ap model_in holds) }
 
-    pub new-no : j ≡ NotNew k → NamesJudged text s (Refused 8 p)
-    unfolding NamesJudged answer_of judged_names tree_judged tree_held asked model_in
-    new-no i =
-        let a = at_new f7 f8 f9 (sym e ∙ ap answer_of i) in
-        record { opens = f.opens ∙ simp (few, a.0, a.1) (ap (refused 8) (sym q)); holds = f.holds ∙ simp (few, a.0, a.1) }
-
-    pub given-no : j ≡ NotGiven k → NamesJudged text s (Refused 9 p)
-    unfolding NamesJudged answer_of judged_names tree_judged tree_held asked model_in
-    given-no i =
-        let a = at-given f7 f8 f9 (sym e ∙ ap answer_of i) in
-        record { opens = f.opens ∙ simp (few, a.0, a.1, a.2) (ap (refused 9) (sym q)); holds = f.holds ∙ simp (few, a.0, a.1, a.2) }
-
-  pub names-yes : {j : Judgement} → answer_of j ≡ judged_names text s → j ≡ Passed → {k p : ℕ} → p ≡ byte_place text k → k ≡ system_token (system s) → NamesJudged text s (Fine p)
-  unfolding NamesJudged answer_of judged_names
-  names-yes e i q t =
-      let a = at_none f7 f8 f9 (sym e ∙ ap answer_of i) in
-      (record { within = a.0; new = a.1; given = a.2 }, q ∙ ap (byte_place text) t)
+    pub names-yes : {u : Unit {0}} → j ≡ Ok u → {k p : ℕ} → p ≡ byte_place text k → k ≡ system_token (system s) → NamesJudged text s (Ok p)
+    unfolding NamesJudged answer_of judged_names
+    names-yes i q t =
+        let a = at_none f7 f8 f9 (sym e ∙ ap answer_of i) in
+        (record { within = a.0; new = a.1; given = a.2 }, q ∙ ap (byte_place text) t)
 
   -- ---- the model of a text that is sound
   module _ (v : Sound text s) where

@@ -4,6 +4,10 @@ use mathlib.Core.List.{List, [], ◌∷◌, ◌++◌}
 use Prim.Native.Nat.{ℕ, zero, suc, ◌+◌, ◌≤◌}
 use native.Mathlib.Omega.{arith}
 use lib.ListN.{length, get_or, take, drop, replicate, length-append}
+use Rattle.std.specs.Prelude.{Err, Ok}
+use Rattle.opening.specs.Models.{Held}
+use Rattle.opening.specs.Trees.{Tree}
+use Rattle.token.specs.declared.Refusal.{Refusal}
 use Rattle.token.specs.Token.{Mark, tokens, column, places_of, sizes_of, Filled}
 use Rattle.token.specs.Tiling.{Tiled}
 use Rattle.token.proofs.Marks.{column-length}
@@ -11,10 +15,6 @@ use Rattle.token.proofs.Tiles.{tiled}
 use Rattle.model.specs.Words.{nth, word_of}
 use Rattle.tables.specs.Spelled.{Spells}
 use Rattle.opening.specs.Marked.{Marked, TreeMarked, ModelMarked}
-use Rattle.opening.specs.declared.Tree.{Tree}
-use Rattle.opening.specs.declared.Tree.TheVariants.{Refused as TreeRefused, Fits}
-use Rattle.opening.specs.declared.Held.{Held}
-use Rattle.opening.specs.declared.Held.TheVariants.{Refused as HeldRefused, Model as HeldModel}
 
 -- ---- the returns of `read_tokens`, `read_tree` and `read_model`
 
@@ -26,28 +26,28 @@ filled-marked {text} {kinds₀} {places₀} {sizes₀} f =
     }
 
 module _ (text places sizes places' sizes' : List ℕ) where
-  pub tree-unmarked : (n p : ℕ) → TreeMarked text places sizes places' sizes' (TreeRefused n p)
+  pub tree-unmarked : (r : Refusal) → TreeMarked text places sizes places' sizes' (Err r)
   unfolding TreeMarked
-  tree-unmarked n p = tt
+  tree-unmarked r = tt
 
-  pub model-unmarked : (n p : ℕ) → ModelMarked text places sizes places' sizes' (HeldRefused n p)
+  pub model-unmarked : (r : Refusal) → ModelMarked text places sizes places' sizes' (Err r)
   unfolding ModelMarked
-  model-unmarked n p = tt
+  model-unmarked r = tt
 
 module _ {text places sizes places' sizes' : List ℕ} where
   pub tree-marked : (r : Tree) → Marked text places sizes places' sizes' → TreeMarked text places sizes places' sizes' r
   unfolding TreeMarked
-  tree-marked (TreeRefused n p) m = tt
-  tree-marked (Fits root n) m = m
+  tree-marked (Err r) m = tt
+  tree-marked (Ok (root, n)) m = m
 
-  pub fits-marked : {r : Tree} {root n : ℕ} → TreeMarked text places sizes places' sizes' r → r ≡ Fits root n → Marked text places sizes places' sizes'
+  pub fits-marked : {r : Tree} {root n : ℕ} → TreeMarked text places sizes places' sizes' r → r ≡ Ok (root, n) → Marked text places sizes places' sizes'
   unfolding TreeMarked
   fits-marked m e = rw e at m
 
   pub model-marked : (r : Held) → Marked text places sizes places' sizes' → ModelMarked text places sizes places' sizes' r
   unfolding ModelMarked
-  model-marked (HeldRefused n p) m = tt
-  model-marked (HeldModel x p) m = m
+  model-marked (Err r) m = tt
+  model-marked (Ok (x, p)) m = m
 
 -- ---- tables that were zero
 

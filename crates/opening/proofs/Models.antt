@@ -5,6 +5,9 @@ use Prim.Native.Nat.{ℕ, ◌-◌, ◌≤◌, ◌<◌}
 use native.Mathlib.Omega.{arith}
 use borrow.Author.Tests.{le-leb, lt-leb}
 use lib.ListN.{length}
+use Rattle.std.specs.Prelude.{Err, Ok}
+use Rattle.token.specs.declared.Refusal.{Refusal}
+use Rattle.token.specs.Questions.{refusal}
 use Rattle.grammar.specs.Syntax
 use Rattle.model.specs.Sites.{system}
 use Rattle.model.specs.Words.{word_of}
@@ -14,37 +17,30 @@ use Rattle.model.specs.Resolved.{resolved}
 use Rattle.model.specs.Opening.{process_limit, refused, byte_place, start_processes, system_token, crowded, asked}
 use Rattle.model.proofs.Held.{held-good}
 use Rattle.opening.specs.Counts.{Countable, Counts}
-use Rattle.opening.specs.Trees.{Closed, Fitted, TreeRead}
-use Rattle.opening.specs.Sound.{Sound, NamesJudged}
-use Rattle.opening.specs.Models.{Shown, Rooted, ModelHeld, ModelRead, Opens}
+use Rattle.opening.specs.Trees.{Closed, Fitted, TreeRead, Tree}
+use Rattle.opening.specs.Sound.{Sound, NamesJudged, Named}
+use Rattle.opening.specs.Models.{Shown, Rooted, ModelHeld, ModelRead, Opens, Held}
 use Rattle.opening.proofs.Judges.{asks-ten, holds-model}
 use Rattle.opening.proofs.Resolves.{got-below, yes5}
 use Rattle.settle.specs.declared.Model.{Model}
 use Rattle.settle.specs.Settles.{Settles}
-use Rattle.opening.specs.declared.Tree.{Tree}
-use Rattle.opening.specs.declared.Tree.TheVariants.{Refused as TreeRefused, Fits}
-use Rattle.opening.specs.declared.Named.{Named}
-use Rattle.opening.specs.declared.Named.TheVariants.{Refused as NamedRefused, Passed as NamedPassed}
-use Rattle.opening.specs.declared.Held.{Held}
-use Rattle.opening.specs.declared.Held.TheVariants.{Refused as HeldRefused, Model as HeldModel}
-use Rattle.opening.specs.declared.Opened.TheVariants.{Refused, Accepted}
 
 -- ---- 7 to 9
 module _ {text : List ℕ} {s : Syntax.Model} {kinds places low high nodes : List ℕ} {root n : ℕ} (f : Fitted text s kinds places low high nodes root n) where
   module _ {j : Named} (d : NamesJudged text s j) where
-    pub named-no : (nodes' roots scopes : List ℕ) {k p : ℕ} → j ≡ NamedRefused k p → ModelRead text nodes' roots scopes (HeldRefused k p)
+    pub named-no : (nodes' roots scopes : List ℕ) {r : Refusal} → j ≡ Err r → ModelRead text nodes' roots scopes (Err r)
     unfolding NamesJudged ModelRead
     named-no nodes' roots scopes e = rw e at d
 
-    pub named-sound : {p : ℕ} → j ≡ NamedPassed p → Sound text s
+    pub named-sound : {p : ℕ} → j ≡ Ok p → Sound text s
     unfolding NamesJudged
     named-sound e = let b = rw e at d in b.0
 
-    named-place : {p : ℕ} → j ≡ NamedPassed p → p ≡ byte_place text (system_token (system s))
+    named-place : {p : ℕ} → j ≡ Ok p → p ≡ byte_place text (system_token (system s))
     unfolding NamesJudged
     named-place e = let b = rw e at d in b.1
 
-    pub named-yes : {nodes' roots scopes : List ℕ} {x : Model} {p : ℕ} → j ≡ NamedPassed p → Shown nodes' roots scopes x (resolved (word_of text) s) → Rooted x → Settles (word_of text) s nodes' roots scopes x → ModelRead text nodes' roots scopes (HeldModel x p)
+    pub named-yes : {nodes' roots scopes : List ℕ} {x : Model} {p : ℕ} → j ≡ Ok p → Shown nodes' roots scopes x (resolved (word_of text) s) → Rooted x → Settles (word_of text) s nodes' roots scopes x → ModelRead text nodes' roots scopes (Ok (x, p))
     unfolding ModelRead resolved
     named-yes e h r t =
         let v = named-sound e in
@@ -52,21 +48,21 @@ module _ {text : List ℕ} {s : Syntax.Model} {kinds places low high nodes : Lis
 
 -- ---- 2 to 9
 module _ (text kinds places low high nodes : List ℕ) (r : Tree) (d : TreeRead text kinds places low high nodes r) where
-  pub tree-no : (nodes' roots scopes : List ℕ) {n p : ℕ} → r ≡ TreeRefused n p → ModelRead text nodes' roots scopes (HeldRefused n p)
+  pub tree-no : (nodes' roots scopes : List ℕ) {q : Refusal} → r ≡ Err q → ModelRead text nodes' roots scopes (Err q)
   unfolding TreeRead ModelRead
   tree-no nodes' roots scopes e = rw e at d
 
-  pub tree-fits : {root n : ℕ} → r ≡ Fits root n → (s : Syntax.Model) × Fitted text s kinds places low high nodes root n
+  pub tree-fits : {root n : ℕ} → r ≡ Ok (root, n) → (s : Syntax.Model) × Fitted text s kinds places low high nodes root n
   unfolding TreeRead
   tree-fits e = rw e at d
 
 -- ---- 10
 module _ (text nodes roots scopes : List ℕ) (r : Held) (d : ModelRead text nodes roots scopes r) where
-  pub held-no : {n p : ℕ} → r ≡ HeldRefused n p → Opens text nodes roots scopes (Refused n p)
+  pub held-no : {q : Refusal} → r ≡ Err q → Opens text nodes roots scopes (Err q)
   unfolding ModelRead Opens
-  held-no {n} {p} e = let c : Closed text n p = rw e at d in c.opens
+  held-no {q} e = let c : Closed text q.number q.place = rw e at d in c.opens
 
-  pub held-model : {x : Model} {p : ℕ} → r ≡ HeldModel x p → ModelHeld text nodes roots scopes x p
+  pub held-model : {x : Model} {p : ℕ} → r ≡ Ok (x, p) → ModelHeld text nodes roots scopes x p
   unfolding ModelRead
   held-model e = rw e at d
 
@@ -91,13 +87,13 @@ module _ {text nodes roots scopes : List ℕ} {x : Model} {p : ℕ} (g : ModelHe
     abbrev processes : ℕ
     processes = start_processes g.model.definitions g.model.starts
 
-    pub many-no : process_limit < k → Opens text nodes roots scopes (Refused 10 p)
+    pub many-no : process_limit < k → Opens text nodes roots scopes (Err (refusal 10 p))
     unfolding Opens asked crowded
     many-no l =
         let h : process_limit < processes = c.many l in
         g.opens ∙ simp (lt-leb processes process_limit h) (ap (refused 10) (sym g.place_is))
 
-    pub few-yes : k ≤ process_limit → Opens text nodes roots scopes (Accepted x k)
+    pub few-yes : k ≤ process_limit → Opens text nodes roots scopes (Ok (x, k))
     unfolding Opens asked crowded
     few-yes l =
         let e : k ≡ processes = c.few l in

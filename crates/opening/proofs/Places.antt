@@ -8,7 +8,7 @@ use borrow.Author.Tests.{lt-ltb, le-ltb, leb-true, leb-false}
 use lib.Dec.{leb}
 use lib.ListN.{length, get_or, take, drop, length-append}
 use lib.Seq.{take_at}
-use Rattle.token.specs.declared.Judged.TheVariants.{Passed}
+use Rattle.std.specs.Prelude.{Ok}
 use Rattle.token.specs.Questions.{text_limit, bytes_judged}
 use Rattle.token.specs.Token.{tokens, kinds_of, places_of, Filled}
 use Rattle.token.proofs.Asks.{refused-length}
@@ -35,7 +35,7 @@ module _ {text places : List ℕ} {n : ℕ} (h : Placed text places n) (k : ℕ)
       simp (le-ltb k (length (tokens text)) q)
 
 -- question 2 was asked
-pub passed-short : (s : List ℕ) → Passed ≡ bytes_judged s → length s ≤ text_limit
+pub passed-short : (s : List ℕ) → Ok tt ≡ bytes_judged s → length s ≤ text_limit
 passed-short s e = by (leb (length s) text_limit) refl
   where
     by : (b : Bool) → leb (length s) text_limit ≡ b → length s ≤ text_limit

@@ -9,15 +9,14 @@ use native.Mathlib.Decide.{dec_le}
 use native.Mathlib.Omega.{arith}
 use borrow.Author.Tests.{le-leb}
 use lib.ListN.{length, get_elem?}
+use Rattle.std.specs.Prelude.{None}
 use Rattle.word.specs.Number.{whole_digits, fraction_digits, ten_thousandths}
 use Rattle.token.specs.declared.Content.{Content}
-use Rattle.token.specs.declared.Found.{Found}
-use Rattle.token.specs.declared.Found.TheVariants.{Nothing}
 use Rattle.token.specs.Kind as kind
 use Rattle.token.specs.Bytes.{within}
 use Rattle.token.specs.Token.{Mark, tokens, kinds_of}
 use Rattle.token.specs.Contents.{before_point, after_point, bytes_of, few_digits, decimal_content, low_of}
-use Rattle.token.specs.Questions.{First}
+use Rattle.token.specs.Questions.{First, Found}
 use Rattle.grammar.specs.Grammar as derived
 use Rattle.grammar.specs.Limit.{token_limit}
 use Rattle.grammar.specs.Syntax
@@ -98,7 +97,7 @@ module _ {text : List ℕ} {s : Syntax.Model} {kinds places low high nodes : Lis
   sound : Faultless w s
   sound = faultless text s yes5 yes7 yes8 yes9
 
-  short-words : least (words_beyond text 0 (tokens text)) ≡ Nothing
+  short-words : least (words_beyond text 0 (tokens text)) ≡ None
   unfolding beyond
   short-words = nothing-first (least (words_beyond text 0 (tokens text))) (least (tree_beyond w s)) (sym (least-append (words_beyond text 0 (tokens text)) (tree_beyond w s)) ∙ v.within)
 

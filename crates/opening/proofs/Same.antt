@@ -3,6 +3,7 @@ use mathlib.Core.Path.{◌≡◌, sym, ap, ◌∙◌, subst}
 use mathlib.Core.List.{List}
 use Prim.Native.Nat.{ℕ}
 use native.Mathlib.Omega.{arith}
+use Rattle.std.specs.Prelude.{Err, Ok}
 use Rattle.token.specs.Token.{tokens, kinds_of}
 use Rattle.grammar.specs.Syntax
 use Rattle.grammar.specs.Syntax.{syntax_of}
@@ -12,12 +13,8 @@ use Rattle.model.specs.Questions.{Yes5}
 use Rattle.settle.specs.declared.Model.{Model}
 use Rattle.settle.specs.Settles.{Settles, SameTables}
 use Rattle.settle.proofs.Same.{same_numbers, settled-once}
-use Rattle.opening.specs.Models.{Written, ModelRead, Opens}
+use Rattle.opening.specs.Models.{Written, ModelRead, Opens, Held, Opened}
 use Rattle.opening.specs.Same.{SameHeld, SameOpened}
-use Rattle.opening.specs.declared.Held.{Held}
-use Rattle.opening.specs.declared.Held.TheVariants.{Refused as HeldRefused, Model as HeldModel}
-use Rattle.opening.specs.declared.Opened.{Opened}
-use Rattle.opening.specs.declared.Opened.TheVariants.{Refused, Accepted}
 
 -- 01, question 5: a text has one tree
 one-tree : {text : List ℕ} {s s' : Syntax.Model} → Yes5 text s → Yes5 text s' → s ≡ s'
@@ -39,32 +36,32 @@ module _ (text nodes roots scopes nodes' roots' scopes' : List ℕ) where
 
   pub same-held : (r r' : Held) → ModelRead text nodes roots scopes r → ModelRead text nodes' roots' scopes' r' → SameHeld nodes roots scopes nodes' roots' scopes' r r'
   unfolding ModelRead
-  same-held (HeldRefused n p) (HeldRefused n' p') h g =
+  same-held (Err r) (Err r') h g =
       let e = sym h.opens ∙ g.opens in
-      let a : n ≡ n' = cc in
-      let b : p ≡ p' = cc in
+      let a : r.number ≡ r'.number = cc in
+      let b : r.place ≡ r'.place = cc in
       record { answers = rw (a, b); tables = λ x p q. absurd (let z : ◌≡◌ {A = ℕ} 0 1 = cc in omega arith) }
-  same-held (HeldRefused n p) (HeldModel y q) h g = absurd (let e = sym h.holds ∙ g.holds in let z : ◌≡◌ {A = ℕ} 0 1 = cc in omega arith)
-  same-held (HeldModel x p) (HeldRefused n q) h g = absurd (let e = sym h.holds ∙ g.holds in let z : ◌≡◌ {A = ℕ} 0 1 = cc in omega arith)
-  same-held (HeldModel x p) (HeldModel y q) h g =
+  same-held (Err r) (Ok (y, q)) h g = absurd (let e = sym h.holds ∙ g.holds in let z : ◌≡◌ {A = ℕ} 0 1 = cc in omega arith)
+  same-held (Ok (x, p)) (Err r) h g = absurd (let e = sym h.holds ∙ g.holds in let z : ◌≡◌ {A = ℕ} 0 1 = cc in omega arith)
+  same-held (Ok (x, p)) (Ok (y, q)) h g =
       let a = written-numbers h.written g.written in
       let t = one-tree h.written.fits g.written.fits in
       let b : p ≡ q = h.place_is ∙ rw t (sym g.place_is) in
-      record { answers = rw (a, b); tables = λ z k e. let i : x ≡ z = cc in rw (← i) (written_once h.written g.written) }
+      record { answers = rw (a, b); tables = λ z k e. let i : ◌≡◌ {A = Model × ℕ} (x, p) (z, k) = cc in rw (← ap (λ (m : Model × ℕ). m.0) i) (written_once h.written g.written) }
 
   -- open_text: whatever was lent, equal texts give equal tables
   pub same_tables : (r r' : Opened) → Opens text nodes roots scopes r → Opens text nodes' roots' scopes' r' → SameOpened nodes roots scopes nodes' roots' scopes' r r'
   unfolding Opens
-  same_tables (Refused n p) (Refused n' p') h g =
+  same_tables (Err r) (Err r') h g =
       let e = sym h ∙ g in
-      let a : n ≡ n' = cc in
-      let b : p ≡ p' = cc in
+      let a : r.number ≡ r'.number = cc in
+      let b : r.place ≡ r'.place = cc in
       record { answers = rw (a, b); tables = λ x k q. absurd (let z : ◌≡◌ {A = ℕ} 0 1 = cc in omega arith) }
-  same_tables (Refused n p) (Accepted y k) h g = absurd (let e = sym h ∙ g.opens in let z : ◌≡◌ {A = ℕ} 0 1 = cc in omega arith)
-  same_tables (Accepted x k) (Refused n p) h g = absurd (let e = sym h.opens ∙ g in let z : ◌≡◌ {A = ℕ} 0 1 = cc in omega arith)
-  same_tables (Accepted x k) (Accepted y l) h g =
+  same_tables (Err r) (Ok (y, k)) h g = absurd (let e = sym h ∙ g.opens in let z : ◌≡◌ {A = ℕ} 0 1 = cc in omega arith)
+  same_tables (Ok (x, k)) (Err r) h g = absurd (let e = sym h.opens ∙ g in let z : ◌≡◌ {A = ℕ} 0 1 = cc in omega arith)
+  same_tables (Ok (x, k)) (Ok (y, l)) h g =
       let a = written-numbers h.written g.written in
       let e = sym h.opens ∙ g.opens in
       let m : h.model ≡ g.model = cc in
       let b : k ≡ l = h.count-is ∙ rw m (sym g.count-is) in
-      record { answers = rw (a, b); tables = λ z j q. let i : x ≡ z = cc in rw (← i) (written_once h.written g.written) }
+      record { answers = rw (a, b); tables = λ z j q. let i : ◌≡◌ {A = Model × ℕ} (x, k) (z, j) = cc in rw (← ap (λ (m : Model × ℕ). m.0) i) (written_once h.written g.written) }

@@ -6,9 +6,8 @@ use native.Mathlib.Omega.{arith}
 use borrow.Author.Tests.{lt-leb}
 use lib.ListN.{length, take, drop}
 use lib.Seq.{take_at, take_all}
-use Rattle.token.specs.declared.Judged.{Judged}
-use Rattle.token.specs.declared.Judged.TheVariants.{Refused, Passed}
-use Rattle.token.specs.Questions.{bytes_judged}
+use Rattle.std.specs.Prelude.{Err, Ok}
+use Rattle.token.specs.Questions.{bytes_judged, refusal, Judged}
 use Rattle.token.specs.Token.{Mark, tokens, column, kinds_of, Filled}
 use Rattle.token.specs.Contents.{low_of, high_of, Told}
 use Rattle.token.proofs.Marks.{column-length}
@@ -16,20 +15,19 @@ use Rattle.grammar.specs.Grammar.{Model, Reads, Wrong}
 use Rattle.grammar.specs.Limit.{token_limit}
 use Rattle.grammar.specs.Syntax.{syntax_of}
 use Rattle.syntax.specs.Judged.{Fitting}
-use Rattle.syntax.specs.Asked.{No as NoTo, no5, no6, Asks}
-use Rattle.syntax.specs.declared.question.Asked.{Asked}
-use Rattle.syntax.specs.declared.question.Asked.TheVariants.{Passed as Fit, Misfit, Crowded}
+use Rattle.syntax.specs.Asked.{No as NoTo, no5, no6, Asks, Asked}
+use Rattle.syntax.specs.declared.question.Unfit.{Unfit}
+use Rattle.syntax.specs.declared.question.Unfit.TheVariants.{Misfit, Crowded}
 use Rattle.model.specs.Opening.{refused, too_many, asked, byte_place, tree_judged}
 use Rattle.model.specs.Held.{tree_held, model_in}
 use Rattle.model.proofs.Opens.{bytes-refused, goes-wrong, fits}
 use Rattle.opening.specs.Trees.{TreeRead}
-use Rattle.opening.specs.declared.Tree.TheVariants.{Refused as No, Fits}
 use Rattle.opening.proofs.Holds.{bytes-none, wrong-none, fits-held}
 use Rattle.opening.proofs.Places.{filled-tokens, filled-placed}
 
 -- ---- 2 to 4
 module _ (text kinds places low high nodes : List ℕ) where
-  pub bytes-no : {j : Judged} {n p : ℕ} → j ≡ bytes_judged text → j ≡ Refused n p → TreeRead text kinds places low high nodes (No n p)
+  pub bytes-no : {j : Judged} {n p : ℕ} → j ≡ bytes_judged text → j ≡ Err (refusal n p) → TreeRead text kinds places low high nodes (Err (refusal n p))
   unfolding TreeRead
   bytes-no {j} {n} {p} e q =
       record { opens = bytes-refused text n p (sym e ∙ q); holds = bytes-none text n p (sym e ∙ q) }
@@ -52,11 +50,11 @@ module _ {text kinds₀ places₀ sizes₀ : List ℕ} {n : ℕ} {kinds places s
     asks : Asks ts nodes r
     asks = rw (filled-tokens f) at a
 
-    fitting : {root : ℕ} → r ≡ Fit root → Fitting ts nodes root × (length ts ≤ token_limit)
+    fitting : {root : ℕ} → r ≡ Ok root → Fitting ts nodes root × (length ts ≤ token_limit)
     unfolding Asks
     fitting q = rw q at asks
 
-    crowding : {k : ℕ} → r ≡ Crowded k → ((m : Model) × Reads ts m) × (token_limit < length ts) × (k ≡ token_limit)
+    crowding : {k : ℕ} → r ≡ Err (Crowded k) → ((m : Model) × Reads ts m) × (token_limit < length ts) × (k ≡ token_limit)
     unfolding Asks
     crowding {k} q = by (rw q at asks)
       where
@@ -64,7 +62,7 @@ module _ {text kinds₀ places₀ sizes₀ : List ℕ} {n : ℕ} {kinds places s
         by (no5 e w) = absurd (omega arith)
         by (no6 e m h l i) = ((m, h), l, i)
 
-    goes : {k : ℕ} → r ≡ Misfit k → Wrong ts k
+    goes : {k : ℕ} → r ≡ Err (Misfit k) → Wrong ts k
     unfolding Asks
     goes {k} q = by (rw q at asks)
       where
@@ -72,29 +70,29 @@ module _ {text kinds₀ places₀ sizes₀ : List ℕ} {n : ℕ} {kinds places s
         by (no5 e w) = w
         by (no6 e m h l i) = absurd (omega arith)
 
-    pub fit-few : {root : ℕ} → r ≡ Fit root → n ≤ token_limit
+    pub fit-few : {root : ℕ} → r ≡ Ok root → n ≤ token_limit
     fit-few q = omega (arith, few, f.count, (fitting q).1)
 
-    module _ (passed : Passed ≡ bytes_judged text) where
+    module _ (passed : Ok tt ≡ bytes_judged text) where
       -- 5
-      pub misfit-no : (low high : List ℕ) {k p : ℕ} → r ≡ Misfit k → p ≡ byte_place text k → TreeRead text kinds places low high nodes (No 5 p)
+      pub misfit-no : (low high : List ℕ) {u : Unfit} {k p : ℕ} → r ≡ Err u → u ≡ Misfit k → p ≡ byte_place text k → TreeRead text kinds places low high nodes (Err (refusal 5 p))
       unfolding TreeRead
-      misfit-no low high {k} {p} q e =
-          let w = goes q in
+      misfit-no low high {k = k} q d e =
+          let w = goes (q ∙ ap Err d) in
           record { opens = goes-wrong text k (sym passed) w ∙ ap (refused 5) (sym e); holds = wrong-none text k (sym passed) w }
 
       -- 6
-      pub crowded-no : (low high : List ℕ) {k p : ℕ} → r ≡ Crowded k → p ≡ byte_place text k → TreeRead text kinds places low high nodes (No 6 p)
+      pub crowded-no : (low high : List ℕ) {u : Unfit} {k p : ℕ} → r ≡ Err u → u ≡ Crowded k → p ≡ byte_place text k → TreeRead text kinds places low high nodes (Err (refusal 6 p))
       unfolding TreeRead tree_judged tree_held too_many asked model_in
-      crowded-no low high {k} {p} q e =
-          let b = crowding q in
+      crowded-no low high {k = k} q d e =
+          let b = crowding (q ∙ ap Err d) in
           let l : token_limit < length (tokens text) = omega (arith, few, b.1) in
           record {
             opens = fits text b.0.0 (sym passed) b.0.1 ∙ simp (lt-leb (length (tokens text)) token_limit l) (ap (refused 6) (ap (byte_place text) (sym b.2) ∙ sym e));
             holds = fits-held text b.0.0 (sym passed) b.0.1 ∙ simp (lt-leb (length (tokens text)) token_limit l);
           }
 
-      pub fits-yes : {low high low' high' : List ℕ} {root : ℕ} → token_limit ≤ length nodes → r ≡ Fit root → Told text low high n low' high' → TreeRead text kinds places low' high' nodes (Fits root n)
+      pub fits-yes : {low high low' high' : List ℕ} {root : ℕ} → token_limit ≤ length nodes → r ≡ Ok root → Told text low high n low' high' → TreeRead text kinds places low' high' nodes (Ok (root, n))
       unfolding TreeRead
       fits-yes {low} {high} room q t =
           let g = (fitting q).0 in (

@@ -1,10 +1,8 @@
 -- The tables of places and sizes that reading a text leaves (01, Model text). Definitions only.
-use Rattle.std.specs.Prelude.{◌≡◌, List, ◌++◌, ℕ, length, drop}
+use Rattle.std.specs.Prelude.{◌≡◌, List, ◌++◌, ℕ, length, drop, Err, Ok}
+use Rattle.opening.specs.Models.{Held}
+use Rattle.opening.specs.Trees.{Tree}
 use Rattle.token.specs.Token.{tokens, places_of, sizes_of}
-use Rattle.opening.specs.declared.Tree.{Tree}
-use Rattle.opening.specs.declared.Tree.TheVariants.{Refused as TreeRefused, Fits}
-use Rattle.opening.specs.declared.Held.{Held}
-use Rattle.opening.specs.declared.Held.TheVariants.{Refused as HeldRefused, Model as HeldModel}
 
 -- the places and sizes of the text's tokens, and after them both tables as they were lent
 pub record Marked (text places sizes places' sizes' : List ℕ) : Type 0 where
@@ -13,10 +11,10 @@ pub record Marked (text places sizes places' sizes' : List ℕ) : Type 0 where
 
 -- of a text that fits
 unfoldable pub TreeMarked : (text places sizes places' sizes' : List ℕ) → Tree → Type 0
-TreeMarked text places sizes places' sizes' (TreeRefused n p) = Unit {0}
-TreeMarked text places sizes places' sizes' (Fits root n) = Marked text places sizes places' sizes'
+TreeMarked text places sizes places' sizes' (Err r) = Unit {0}
+TreeMarked text places sizes places' sizes' (Ok (root, n)) = Marked text places sizes places' sizes'
 
 -- of a text that holds a model
 unfoldable pub ModelMarked : (text places sizes places' sizes' : List ℕ) → Held → Type 0
-ModelMarked text places sizes places' sizes' (HeldRefused n p) = Unit {0}
-ModelMarked text places sizes places' sizes' (HeldModel x p) = Marked text places sizes places' sizes'
+ModelMarked text places sizes places' sizes' (Err r) = Unit {0}
+ModelMarked text places sizes places' sizes' (Ok (x, p)) = Marked text places sizes places' sizes'

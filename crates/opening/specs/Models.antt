@@ -1,6 +1,7 @@
 -- What the tables of an opened text's model hold, and what questions 2 to 10 answer (01, Opening a text). Assumes nothing: these are definitions.
-use Rattle.std.specs.Prelude.{◌≡◌, List, ℕ, ◌+◌, ◌≤◌, length}
+use Rattle.std.specs.Prelude.{◌≡◌, List, ℕ, ◌+◌, ◌≤◌, length, Err, Ok, Result}
 use Rattle.std.proofs.Math.Option.{some}
+use Rattle.token.specs.declared.Refusal.{Refusal}
 use Rattle.grammar.specs.Limit.{token_limit}
 use Rattle.grammar.specs.Syntax
 use Rattle.model.specs.Sites.{system}
@@ -13,10 +14,6 @@ use Rattle.tables.specs.Represents.{Represents}
 use Rattle.settle.specs.declared.Model.{Model}
 use Rattle.settle.specs.Settles.{Settles}
 use Rattle.opening.specs.Trees.{Closed}
-use Rattle.opening.specs.declared.Held.{Held}
-use Rattle.opening.specs.declared.Held.TheVariants.{Refused as HeldRefused, Model as HeldModel}
-use Rattle.opening.specs.declared.Opened.{Opened}
-use Rattle.opening.specs.declared.Opened.TheVariants.{Refused, Accepted}
 
 -- tables with room for the sums and the channel names of every text
 pub record SumRoom (roots scopes names : List ℕ) : Type 0 where
@@ -49,10 +46,14 @@ pub record ModelHeld (text nodes roots scopes : List ℕ) (x : Model) (p : ℕ) 
   pub rooted : Rooted x
   pub place_is : p ≡ byte_place text (system_token (system tree))
 
+-- the model and the place of the system line, or the first no to 2 to 9
+abbrev pub Held : Type 0
+Held = Result (Model × ℕ) Refusal
+
 -- 01, Opening a text, 2 to 9: the first no with its place, or the model
 unfoldable pub ModelRead : (text nodes roots scopes : List ℕ) → Held → Type 0
-ModelRead text nodes roots scopes (HeldRefused n p) = Closed text n p
-ModelRead text nodes roots scopes (HeldModel x p) = ModelHeld text nodes roots scopes x p
+ModelRead text nodes roots scopes (Err r) = Closed text r.number r.place
+ModelRead text nodes roots scopes (Ok (x, p)) = ModelHeld text nodes roots scopes x p
 
 -- 01, all questions have the answer yes: the tables hold the opened model, which starts with k processes
 pub record ModelOpened (text nodes roots scopes : List ℕ) (x : Model) (k : ℕ) : Type 0 where
@@ -63,7 +64,11 @@ pub record ModelOpened (text nodes roots scopes : List ℕ) (x : Model) (k : ℕ
   pub written : Written text tree nodes roots scopes x
   pub count-is : k ≡ start_processes model.definitions model.starts
 
+-- the model and the number of processes at the start, or the first no
+abbrev pub Opened : Type 0
+Opened = Result (Model × ℕ) Refusal
+
 -- 01, Opening a text, 2 to 10: the first no with its place, or the model
 unfoldable pub Opens : (text nodes roots scopes : List ℕ) → Opened → Type 0
-Opens text nodes roots scopes (Refused n p) = opening text ≡ refused n p
-Opens text nodes roots scopes (Accepted x k) = ModelOpened text nodes roots scopes x k
+Opens text nodes roots scopes (Err r) = opening text ≡ refused r.number r.place
+Opens text nodes roots scopes (Ok (x, k)) = ModelOpened text nodes roots scopes x k

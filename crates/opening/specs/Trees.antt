@@ -1,15 +1,14 @@
 -- What reading a text's tree answers: questions 2 to 6 (01, Opening a text). Assumes nothing: these are definitions.
-use Rattle.std.specs.Prelude.{◌≡◌, List, ℕ, ◌≤◌, ◌<◌, length, take}
+use Rattle.std.specs.Prelude.{◌≡◌, List, ℕ, ◌≤◌, ◌<◌, length, take, Err, Ok, Result}
 use Rattle.std.proofs.Math.Option.{none}
 use Rattle.token.specs.Token.{tokens, places_of}
+use Rattle.token.specs.declared.Refusal.{Refusal}
 use Rattle.token.specs.Questions.{text_limit}
 use Rattle.grammar.specs.Limit.{token_limit}
 use Rattle.grammar.specs.Syntax
 use Rattle.model.specs.Opening.{refused, tree_judged, opening}
 use Rattle.model.specs.Held.{tree_held, model_in, held}
 use Rattle.names.specs.Tables.{Read}
-use Rattle.opening.specs.declared.Tree.{Tree}
-use Rattle.opening.specs.declared.Tree.TheVariants.{Refused, Fits}
 
 -- tables with room for every text that questions 2 and 6 let through
 pub record Room (kinds places sizes low high nodes : List ℕ) : Type 0 where
@@ -38,7 +37,11 @@ pub record Fitted (text : List ℕ) (s : Syntax.Model) (kinds places low high no
   pub opens : opening text ≡ tree_judged text s
   pub holds : held text ≡ model_in (tree_held text s)
 
+-- the root of the tree and the number of tokens, or the first no to 2 to 6
+abbrev pub Tree : Type 0
+Tree = Result (ℕ × ℕ) Refusal
+
 -- 01, Opening a text, 2 to 6: the first no with its place, or the text's tree
 unfoldable pub TreeRead : (text kinds places low high nodes : List ℕ) → Tree → Type 0
-TreeRead text kinds places low high nodes (Refused n p) = Closed text n p
-TreeRead text kinds places low high nodes (Fits root n) = (s : Syntax.Model) × Fitted text s kinds places low high nodes root n
+TreeRead text kinds places low high nodes (Err r) = Closed text r.number r.place
+TreeRead text kinds places low high nodes (Ok (root, n)) = (s : Syntax.Model) × Fitted text s kinds places low high nodes root n

@@ -15,13 +15,7 @@ fn sums_at(nodes: &[u64], k: usize) -> usize
     ensures by_index { (ns : List ℕ) → tables.Sums nodes.now ns k → result ≡ length ns }
     ensures upper_bound { result ≤ k + 1 }
 {
-    let mut n = 1;
-    let mut at = k;
-    while tree::kind_of(nodes[at]) == NodeKind::BESIDE {
-        n += 1;
-        at -= 1;
-    }
-    n
+    names::run_of(nodes, NodeKind::BESIDE, k) + 1
 }
 
 // How many processes the item of the system line at k starts.
@@ -43,6 +37,7 @@ pub fn start_count(nodes: &[u64], first: usize, line: usize) -> usize
 {
     let mut count = 0;
     let mut at = line;
+    // A while: the line's last item is the first node of another kind.
     while tree::kind_of(nodes[at]) == NodeKind::SYSTEM {
         count += item_processes(nodes, first, tree::left_of(nodes[at]));
         if Limits::PROCESSES < count {

@@ -2,14 +2,13 @@
 
 // Opens model texts: prints `accepted` and the numbers of variables, definitions, sums, channel names and starting processes, or `refused`, the number of
 // the first no and its place. It reads standard input, or each file that an argument names, after a line with the name.
-use opening::Opened;
 use settle::Model;
 use std::fs::File;
 use std::io::Read;
 use std::rt::Files;
 use std::{env, io};
 use syntax::question;
-use token::Limits;
+use token::{Limits, Refusal};
 
 #[derive(Clone, Copy)]
 struct Input;
@@ -19,30 +18,19 @@ impl Input {
     const MOST: usize = Limits::TEXT + 1;
 }
 
-fn put(rt: &impl Print, s: &[u8]) -> io::Result<()> {
-    rt.write_all(s)
-}
-
-fn put_number(rt: &impl Print, n: usize) -> io::Result<()> {
-    put(rt, b",")?;
-    rt.print(n)
-}
-
 fn put_accepted(rt: &impl Print, model: Model, processes: usize) -> io::Result<()> {
-    put(rt, b"accepted")?;
-    put_number(rt, model.variables)?;
-    put_number(rt, model.definitions)?;
-    put_number(rt, model.sums)?;
-    put_number(rt, model.channels)?;
-    put_number(rt, processes)?;
-    put(rt, b"\n")
+    let Model {
+        variables,
+        definitions,
+        sums,
+        channels,
+        ..
+    } = model;
+    println!(rt; "accepted,{variables},{definitions},{sums},{channels},{processes}")
 }
 
-fn put_refused(rt: &impl Print, number: usize, place: usize) -> io::Result<()> {
-    put(rt, b"refused")?;
-    put_number(rt, number)?;
-    put_number(rt, place)?;
-    put(rt, b"\n")
+fn put_refused(rt: &impl Print, refusal: Refusal) -> io::Result<()> {
+    println!(rt; "refused,{},{}", refusal.number, refusal.place)
 }
 
 // Opens a text with tables of its own.
@@ -69,8 +57,8 @@ fn put_opened(rt: &impl Print, text: &[u8]) -> io::Result<()> {
         &mut names,
     );
     match opened {
-        Opened::Refused(number, place) => put_refused(rt, number, place),
-        Opened::Accepted(model, processes) => put_accepted(rt, model, processes),
+        Ok((model, processes)) => put_accepted(rt, model, processes),
+        Err(refusal) => put_refused(rt, refusal),
     }
 }
 
@@ -81,9 +69,7 @@ fn show(rt: &impl Print, from: &mut impl Read) -> io::Result<()> {
 }
 
 fn show_file(rt: &(impl Print + Eprint + Files), name: &str) -> io::Result<()> {
-    put(rt, b"== ")?;
-    put(rt, name.as_bytes())?;
-    put(rt, b"\n")?;
+    println!(rt; "== {name}")?;
     match File::open(rt, name) {
         Ok(mut file) => show(rt, &mut file),
         Err(e) => eprintln!(rt; "{name}: {e}"),

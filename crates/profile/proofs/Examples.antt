@@ -3,7 +3,7 @@ use mathlib.Core.Path.{◌≡◌, refl, ◌∙◌}
 use mathlib.Core.List.{List, [], ◌∷◌}
 use mathlib.Core.Option.{Option-elim}
 use Prim.Native.Nat.{ℕ}
-use Rattle.token.specs.declared.Judged.TheVariants.{Passed}
+use Rattle.std.specs.Prelude.{Ok}
 use Rattle.grammar.specs.Grammar as derived
 use Rattle.grammar.specs.Grammar.{Reads}
 use Rattle.grammar.specs.Syntax.{syntax_of}
@@ -26,7 +26,7 @@ judged_steady text d m = also_steady text (syntax_of d) (opened m)
 
 module _ (text : List ℕ) where
   -- a text with a derivation, whose model 2 to 10 let through
-  steady-so : (d : derived.Model) (o : Opening) → judged_bytes text ≡ Passed → written d ≡ kinds_in text → judged_tree text d ≡ opened (resolved (word_of text) (syntax_of d)) → judged_steady text d (resolved (word_of text) (syntax_of d)) ≡ o → opening_steady text ≡ o
+  steady-so : (d : derived.Model) (o : Opening) → judged_bytes text ≡ Ok tt → written d ≡ kinds_in text → judged_tree text d ≡ opened (resolved (word_of text) (syntax_of d)) → judged_steady text d (resolved (word_of text) (syntax_of d)) ≡ o → opening_steady text ≡ o
   unfolding judged_steady also_steady written kinds_in Reads
   steady-so d o p r t e = opened-asks text (record { reading = d; reads = r; tree = refl }) (opens-so text d _ p r t) ∙ e
 

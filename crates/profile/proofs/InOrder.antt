@@ -4,9 +4,8 @@ use mathlib.Core.Path.{◌≡◌, refl, sym, ap, subst, ◌∙◌}
 use mathlib.Core.List.{List}
 use mathlib.Core.Logic.{◌↔◌, ◌⊎◌, inl, inr}
 use Prim.Native.Nat.{ℕ, ◌≤◌}
-use Rattle.token.specs.declared.Found.{Found}
-use Rattle.token.specs.declared.Found.TheVariants.{At, Nothing}
-use Rattle.token.specs.Questions.{First}
+use Rattle.std.specs.Prelude.{None, Some}
+use Rattle.token.specs.Questions.{First, Found}
 use Rattle.grammar.specs.Syntax
 use Rattle.model.specs.Lists.{least}
 use Rattle.model.specs.Words.{word_of}
@@ -24,8 +23,8 @@ module _ (text : List ℕ) where
 
   by_first : {s : Syntax.Model} {m : Model} (f : Found) → opening text ≡ opened m → Yes5 text s → First (Offends (word_of text) s) f → AnswersSteady text (asked text 29 f (opened m))
   unfolding asked
-  by_first {s} {m} (At k) e y h = no29 (subst (λ (o : Opening). Answers text o) e (answered text)) y h
-  by_first {s} {m} Nothing e y h = yes_to_all (subst (λ (o : Opening). Answers text o) e (answered text)) y h
+  by_first {s} {m} (Some k) e y h = no29 (subst (λ (o : Opening). Answers text o) e (answered text)) y h
+  by_first {s} {m} None e y h = yes_to_all (subst (λ (o : Opening). Answers text o) e (answered text)) y h
 
   pub answered-steady : AnswersSteady text (opening_steady text)
   answered-steady = by (opening text) refl
@@ -48,8 +47,8 @@ module _ (text : List ℕ) where
   only-steady : {o : Opening} → AnswersSteady text o → opening_steady text ≡ o
   unfolding asked
   only-steady (no2to10 a) = refused-so text (answers-only text a)
-  only-steady (no29 {k = k} a y h) = first_so (At k) (answers-only text a) y h
-  only-steady (yes_to_all a y h) = first_so Nothing (answers-only text a) y h
+  only-steady (no29 {k = k} a y h) = first_so (Some k) (answers-only text a) y h
+  only-steady (yes_to_all a y h) = first_so None (answers-only text a) y h
 
   -- 02, note 11: opening a text under the profile is asking the questions in order, 29 after 10
   pub steady-answers : (o : Opening) → (opening_steady text ≡ o) ↔ AnswersSteady text o

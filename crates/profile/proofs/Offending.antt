@@ -15,9 +15,8 @@ use mathlib.Core.Logic.{⊎_elim}
 use Prim.Native.Nat.{ℕ, ◌<◌}
 use borrow.Author.Tests.{ltb-true, lt-ltb}
 use lib.ListN.{length}
-use Rattle.token.specs.declared.Found.{Found}
-use Rattle.token.specs.declared.Found.TheVariants.{At, Nothing}
-use Rattle.token.specs.Questions.{First}
+use Rattle.std.specs.Prelude.{None, Some}
+use Rattle.token.specs.Questions.{First, Found}
 use Rattle.grammar.specs.Syntax
 use Rattle.model.specs.Lists.{when, least}
 use Rattle.model.specs.Sites.{Scope, bindings, Definition, definitions, titles}
@@ -179,5 +178,5 @@ module _ (w : ℕ → List ℕ) (m : Syntax.Model) where
     offends-first = by (least (unsteady w m)) (least_first (unsteady w m))
       where
         by : (f : Found) → First (λ k. In k (unsteady w m)) f → First (Offends w m) f
-        by (At k) h = (listed-offends h.0, λ q l b. h.1 q l (offends-listed b))
-        by Nothing h = λ q b. h q (offends-listed b)
+        by (Some k) h = (listed-offends h.0, λ q l b. h.1 q l (offends-listed b))
+        by None h = λ q b. h q (offends-listed b)

@@ -1,7 +1,6 @@
 -- What opening a text under the steady profile answers (02, note 11): as opening does, and after 10 question 29. proofs/InOrder.antt shows that this is what the questions
 -- say. Assumes nothing: these are definitions.
-use Rattle.std.specs.Prelude.{List, ℕ}
-use Rattle.token.specs.declared.Found.TheVariants.{At}
+use Rattle.std.specs.Prelude.{List, ℕ, Some}
 use Rattle.token.specs.Token.{tokens, kinds_of}
 use Rattle.token.specs.Questions.{First}
 use Rattle.grammar.specs.Syntax
@@ -35,5 +34,5 @@ Yes29 text s = (k : ℕ) → Offends (word_of text) s k → ⊥
 
 pub data AnswersSteady (text : List ℕ) : Opening → Type 0 where
   no2to10 : {n p : ℕ} → Answers text (refused n p) → AnswersSteady text (refused n p)
-  no29 : {s : Syntax.Model} {m : Model} {k : ℕ} → Answers text (opened m) → Yes5 text s → First (Offends (word_of text) s) (At k) → AnswersSteady text (refused 29 (byte_place text k))
+  no29 : {s : Syntax.Model} {m : Model} {k : ℕ} → Answers text (opened m) → Yes5 text s → First (Offends (word_of text) s) (Some k) → AnswersSteady text (refused 29 (byte_place text k))
   yes_to_all : {s : Syntax.Model} {m : Model} → Answers text (opened m) → Yes5 text s → Yes29 text s → AnswersSteady text (opened m)

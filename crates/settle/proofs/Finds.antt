@@ -6,12 +6,13 @@ use mathlib.Core.Option.{Option, some}
 use Prim.Native.Nat.{ℕ, zero, suc, ◌+◌, ◌-◌, ◌≤◌, ◌<◌, min}
 use native.Mathlib.Omega.{arith}
 use lib.ListN.{length, get_or, take, length-take}
+use Rattle.std.specs.Prelude.{None, Some}
+use Rattle.std.specs.Option.{unwrap_or}
+use Rattle.token.specs.Questions.{Found}
 use Rattle.word.specs.Number.{worth, cap}
 use Rattle.token.specs.Kind as kind
 use Rattle.grammar.proofs.Follows.{inside}
 use Rattle.model.proofs.Members.{not-both, got-below}
-use Rattle.token.specs.declared.Found.{Found}
-use Rattle.token.specs.declared.Found.TheVariants.{At, Nothing}
 use Rattle.grammar.specs.Syntax
 use Rattle.tree.specs.Node.{kind_of, token_of, left_of, number_kind}
 use Rattle.tree.specs.Table
@@ -141,12 +142,12 @@ module _ {low high nodes : List ℕ} {lists : Lists} (h : Lookup low high nodes 
       place_is : place_in (packed low high) k 0 (names_down nodes lists.root lists.variables) ≡ place_in (word_in h) k 0 (names (variables_in h))
       place_is = ap (place_in (packed low high) k 0) (names-kept t nodes lists.root lists.variables variables-stay) ∙ all-variables world asks k e
 
-      pub not_named : f ≡ Nothing → NumberNode low (word_in h) (variable_named (word_in h) k (variables_in h)) 0
+      pub not_named : f ≡ None → NumberNode low (word_in h) (variable_named (word_in h) k (variables_in h)) 0
       not_named q =
           let o = sym place_is ∙ no_place (place_in (packed low high) k 0 (names_down nodes lists.root lists.variables)) is q in
           rw (variable-none (word_in h) k t (variables_in h) 0 o)
 
-      module _ {j : ℕ} (q : f ≡ At j) where
+      module _ {j : ℕ} (q : f ≡ Some j) where
         found-variable : FoundVariable (word_in h) k t (variables_in h) lists.root j
         found-variable =
             let o = sym place_is ∙ some-place (place_in (packed low high) k 0 (names_down nodes lists.root lists.variables)) is q in
@@ -175,19 +176,26 @@ module _ {low high nodes : List ℕ} {lists : Lists} (h : Lookup low high nodes 
       definition-place : place_in (packed low high) k 0 (names_down nodes (lists.root - lists.variables) lists.definitions) ≡ place_in (word_in h) k 0 (titles (definitions_of h))
       definition-place = ap (place_in (packed low high) k 0) (names-kept t nodes (lists.root - lists.variables) lists.definitions definitions-stay) ∙ all-definitions world asks k e
 
-      pub not-defined : f ≡ Nothing → 0 ≡ definition_of (word_in h) (variables_in h) (definitions_of h) k
+      not-defined : f ≡ None → 0 ≡ definition_of (word_in h) (variables_in h) (definitions_of h) k
       unfolding definition_number
       not-defined q =
           let o = sym definition-place ∙ no_place (place_in (packed low high) k 0 (names_down nodes (lists.root - lists.variables) lists.definitions)) is q in
           rw (definition-none (word_in h) k t (definitions_of h) 0 o)
 
-      pub is-defined : {j : ℕ} → f ≡ At j → j ≡ definition_of (word_in h) (variables_in h) (definitions_of h) k
+      is-defined : {j : ℕ} → f ≡ Some j → j ≡ definition_of (word_in h) (variables_in h) (definitions_of h) k
       unfolding definition_number
       is-defined {j} q =
           let o = sym definition-place ∙ some-place (place_in (packed low high) k 0 (names_down nodes (lists.root - lists.variables) lists.definitions)) is q in
           let z : j ≡ 0 + j = omega arith in
           let r = definition-found (word_in h) k t (definitions_of h) (lists.root - lists.variables) 0 j (ds-at world) (o ∙ ap (λ (n : ℕ). some n) z) in
           rw r.means z
+
+      pub number-or : unwrap_or f 0 ≡ definition_of (word_in h) (variables_in h) (definitions_of h) k
+      number-or = by f refl
+        where
+          by : (g : Found) → f ≡ g → unwrap_or f 0 ≡ definition_of (word_in h) (variables_in h) (definitions_of h) k
+          by None q = rw q (not-defined q)
+          by (Some j) q = rw q (is-defined q)
 
 -- ---- names in scope
 
@@ -211,13 +219,13 @@ module _ {low high nodes : List ℕ} {lists : Lists} {scope : Scope} (h : Place 
     unfolding setting
     local-place = place-locals setting (asks h.at) k e
 
-    pub a-local : {j : ℕ} → f ≡ At j → (meaning_at h k ≡ local j) × (j < local_limit)
+    pub a-local : {j : ℕ} → f ≡ Some j → (meaning_at h k ≡ local j) × (j < local_limit)
     unfolding meaning or_else
     a-local {j} q =
         let o = sym local-place ∙ some-place (place_in (packed low high) k 0 (take scope.count scope.names)) is q in
         (rw o, place-below (word_in h.at) k h.locals j o (omega (arith, ap length (h.scoped.locals_are (asks h.at)), length-take scope.count scope.names, h.scoped.count)))
 
-    pub no_local : f ≡ Nothing → meaning_at h k ≡ variable_named (word_in h.at) k (variables_in h.at)
+    pub no_local : f ≡ None → meaning_at h k ≡ variable_named (word_in h.at) k (variables_in h.at)
     unfolding meaning or_else
     no_local q =
         let o = sym local-place ∙ no_place (place_in (packed low high) k 0 (take scope.count scope.names)) is q in

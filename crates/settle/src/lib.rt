@@ -23,7 +23,6 @@ ghost use Rattle.tables.specs.Represents.{Represents};
 ghost use Rattle.names.specs.declared.Lists.{Lists};
 
 use names::{Lists, Scope};
-use token::Found;
 use tree::NodeKind;
 
 // Where the walk over the nodes stands: the locals in scope, and how many channel names, sums and definitions it has met.
@@ -105,7 +104,8 @@ fn number_named(low: &[u64], high: &[u64], nodes: &[u64], lists: Lists, k: usize
     ensures { (h : Lookup low.now high.now nodes.now lists) → IsName (kinds_in h) k → NumberNode low.now (word_in h) (variable_named (word_in h) k (variables_in h)) result }
 {
     let root = lists.root;
-    let Found::At(j) = names::listed(low, high, nodes, root, lists.variables, k) else {
+    // No Option: 0 is no number's node, and callers go by its kind.
+    let Some(j) = names::listed(low, high, nodes, root, lists.variables, k) else {
         return 0;
     };
     nodes[tree::left_of(nodes[root - j])]
@@ -117,10 +117,7 @@ fn definition_named(low: &[u64], high: &[u64], nodes: &[u64], lists: Lists, k: u
     ensures { (h : Lookup low.now high.now nodes.now lists) → IsName (kinds_in h) k → result ≡ definition_of (word_in h) (variables_in h) (definitions_of h) k }
 {
     let first = lists.root - lists.variables;
-    let Found::At(j) = names::listed(low, high, nodes, first, lists.definitions, k) else {
-        return 0;
-    };
-    j
+    names::listed(low, high, nodes, first, lists.definitions, k).unwrap_or(0)
 }
 
 // The hash of a packed name. Its bits come first, so that names that begin alike part early.
@@ -168,6 +165,7 @@ fn channel_place(low: &[u64], high: &[u64], heard: &mut [u64], n: usize, k: usiz
     let mut second = high[k];
     let mut bits = hash_of(first, second);
     let mut i = 0;
+    // A loop: a turn goes one node down the tree.
     loop {
         let node = heard[i];
         if names::same_name(low, high, k, tree::token_of(node)) {
@@ -198,7 +196,7 @@ fn settle_scale(
     requires { (h : Place low.now high.now nodes.old lists scope) × IsName (kinds_in h.at) k × (is_given (meaning_at h k) ≡ true) × (i < length nodes.old) }
     ensures { (h : Place low.now high.now nodes.old lists scope) → IsName (kinds_in h.at) k → is_given (meaning_at h k) ≡ true → nodes.new ≡ set nodes.old i (scale_cell (scale_named (word_in h.at) (variables_in h.at) (definitions_of h.at) [] (meaning_at h k))) }
 {
-    if let Found::At(j) = names::local_named(low, high, scope, k) {
+    if let Some(j) = names::local_named(low, high, scope, k) {
         tree::node(nodes, i, NodeKind::SCALE_NAME, j, 0, 0);
         return;
     }
@@ -242,7 +240,7 @@ fn settle_name(
     requires { (h : Place low.now high.now nodes.old lists scope) × (seen : List ℕ) × IsName (kinds_in h.at) k × Hearing low.now high.now (kinds_in h.at) heard.old n seen × (i < length nodes.old) }
     ensures { (h : Place low.now high.now nodes.old lists scope) (seen : List ℕ) → IsName (kinds_in h.at) k → Hearing low.now high.now (kinds_in h.at) heard.old n seen → NameDone low.now high.now (kinds_in h.at) nodes.old heard.old i (name_cell (word_in h.at) (variables_in h.at) (definitions_of h.at) seen k (meaning_at h k)) (met_names (word_in h.at) (variables_in h.at) seen k (meaning_at h k)) nodes.new heard.new result }
 {
-    if let Found::At(j) = names::local_named(low, high, scope, k) {
+    if let Some(j) = names::local_named(low, high, scope, k) {
         tree::node(nodes, i, NodeKind::NAMED, j, 0, 0);
         return n;
     }
@@ -284,10 +282,7 @@ fn parameters_of(nodes: &[u64], lists: Lists, d: usize) -> Scope
     requires { (low : List ℕ) × (high : List ℕ) × Lookup low high nodes.now lists }
     ensures { (low high : List ℕ) (h : Lookup low high nodes.now lists) → Scoped Given (kinds_in h) result (params_at (definitions_of h) d) }
 {
-    let none = Scope {
-        names: [0; 8],
-        count: 0,
-    };
+    let none = names::no_locals();
     if lists.definitions <= d {
         return none;
     }
@@ -296,75 +291,40 @@ fn parameters_of(nodes: &[u64], lists: Lists, d: usize) -> Scope
     names::with_locals(none, tree::token_of(node) + 2, tree::third_of(node))
 }
 
-// A walk in another scope.
-fn with_scope(walk: Walk, scope: Scope) -> Walk
-    ensures { (result.scope ≡ scope) × (result.channels ≡ walk.channels) × (result.sums ≡ walk.sums) × (result.definitions ≡ walk.definitions) }
-{
-    Walk {
-        scope,
-        channels: walk.channels,
-        sums: walk.sums,
-        definitions: walk.definitions,
-    }
-}
-
-// The scope without the last n locals.
-fn without_locals(scope: Scope, n: usize) -> Scope
-    requires { n ≤ scope.count }
-    ensures { (result.names ≡ scope.names) × (result.count ≡ scope.count - n) }
-{
-    let names = scope.names;
-    Scope {
-        names,
-        count: scope.count - n,
-    }
-}
-
-// Whether a kind is one of those from a to b.
-fn is_among(kind: u8, a: u8, b: u8) -> bool
-    ensures { result ≡ (leb a kind && leb kind b) }
-{
-    a <= kind && kind <= b
-}
-
 // The walk after a node that is no name: names come into scope at an action, and go at the end of its branch. A rate doesn't use them, as question 9 has told.
 fn walk_after(nodes: &[u64], lists: Lists, walk: Walk, node: u64) -> Walk
     requires { Turn nodes.now lists walk node }
     ensures { (h : Turn nodes.now lists walk node) → Knows h.low h.high (kinds_in h.at) h.heard result (turned h) }
 {
-    let kind = tree::kind_of(node);
     let scope = walk.scope;
-    if is_among(kind, NodeKind::WAIT, NodeKind::HAND_BIND) {
-        return with_scope(
-            walk,
-            names::with_locals(scope, tree::token_of(node), tree::third_of(node)),
-        );
-    }
-    if is_among(kind, NodeKind::STOP, NodeKind::DOT) {
-        return with_scope(
-            walk,
-            without_locals(scope, tree::third_of(nodes[tree::left_of(node)])),
-        );
-    }
-    if kind == NodeKind::SUM {
-        return Walk {
-            scope,
-            channels: walk.channels,
+    match tree::kind_of(node) {
+        NodeKind::WAIT..=NodeKind::HAND_BIND => {
+            let scope = names::with_locals(scope, tree::token_of(node), tree::third_of(node));
+            Walk { scope, ..walk }
+        }
+        NodeKind::STOP | NodeKind::DOT => {
+            let n = tree::third_of(nodes[tree::left_of(node)]);
+            let scope = Scope {
+                count: scope.count - n,
+                ..scope
+            };
+            Walk { scope, ..walk }
+        }
+        NodeKind::SUM => Walk {
             sums: walk.sums + 1,
-            definitions: walk.definitions,
-        };
+            ..walk
+        },
+        NodeKind::DEFINITION => {
+            let definitions = walk.definitions + 1;
+            let scope = parameters_of(nodes, lists, definitions);
+            Walk {
+                scope,
+                definitions,
+                ..walk
+            }
+        }
+        _ => walk,
     }
-    if kind == NodeKind::DEFINITION {
-        let definitions = walk.definitions + 1;
-        let inner = parameters_of(nodes, lists, definitions);
-        return Walk {
-            scope: inner,
-            channels: walk.channels,
-            sums: walk.sums,
-            definitions,
-        };
-    }
-    walk
 }
 
 // Resolves the node i, a call or an item of the system line.
@@ -403,24 +363,17 @@ fn settle_leaf(low: &[u64], high: &[u64], nodes: &mut [u64], lists: Lists, scope
     let node = nodes[i];
     let kind = tree::kind_of(node);
     let k = tree::token_of(node);
-    if is_among(kind, NodeKind::LITERAL, NodeKind::NEGATIVE) {
-        nodes[i] = number_cell(NodeKind::LITERAL, kind == NodeKind::NEGATIVE, low[k]);
-        return;
-    }
-    if is_among(kind, NodeKind::NUMBER, NEGATIVE_DECIMAL) {
-        nodes[i] = scale_cell(low, kind, k);
-        return;
-    }
-    if kind == NodeKind::SCALE_NAME {
-        settle_scale(low, high, nodes, lists, scope, i, k);
-        return;
-    }
-    if is_among(kind, NodeKind::CALL, NodeKind::CALL_WITH) {
-        settle_call(low, high, nodes, lists, i);
-        return;
-    }
-    if is_among(kind, NodeKind::START, NodeKind::COUNTED_WITH) {
-        settle_call(low, high, nodes, lists, i);
+    match kind {
+        NodeKind::LITERAL | NodeKind::NEGATIVE => {
+            nodes[i] = number_cell(NodeKind::LITERAL, kind == NodeKind::NEGATIVE, low[k]);
+        }
+        NodeKind::NUMBER..=NEGATIVE_DECIMAL => {
+            nodes[i] = scale_cell(low, kind, k);
+        }
+        NodeKind::SCALE_NAME => settle_scale(low, high, nodes, lists, scope, i, k),
+        NodeKind::CALL | NodeKind::CALL_WITH => settle_call(low, high, nodes, lists, i),
+        NodeKind::START..=NodeKind::COUNTED_WITH => settle_call(low, high, nodes, lists, i),
+        _ => {}
     }
 }
 
@@ -454,12 +407,7 @@ fn settle_node(
             i,
             tree::token_of(node),
         );
-        return Walk {
-            scope,
-            channels,
-            sums: walk.sums,
-            definitions: walk.definitions,
-        };
+        return Walk { channels, ..walk };
     }
     let next = walk_after(nodes, lists, walk, node);
     settle_leaf(low, high, nodes, lists, scope, i);
@@ -491,10 +439,8 @@ pub fn settle(
         sums: 0,
         definitions: 0,
     };
-    let mut i = lists.variables;
-    while i <= line {
+    for i in lists.variables..=line {
         walk = settle_node(low, high, nodes, roots, scopes, heard, lists, walk, i);
-        i += 1;
     }
     Model {
         root,

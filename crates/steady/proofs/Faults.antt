@@ -10,8 +10,8 @@ use native.Mathlib.Omega.{arith}
 use borrow.Author.Tests.{eq-eqb, ne_eqb, lt-ltb}
 use lib.Dec.{eqb}
 use lib.ListN.{length, get_or, get_elem?}
-use Rattle.token.specs.declared.Found.{Found}
-use Rattle.token.specs.declared.Found.TheVariants.{At, Nothing}
+use Rattle.std.specs.Prelude.{None, Some}
+use Rattle.token.specs.Questions.{Found}
 use Rattle.grammar.specs.Syntax
 use Rattle.tree.specs.Node as node
 use Rattle.tree.specs.Node.{kind_of, token_of, left_of, number_kind}
@@ -105,13 +105,13 @@ module _ {low high nodes : List ℕ} {lists : Lists} (h : World Given low high n
   looked_up = place_in (packed low high) k 0 (names_down nodes (lists.root - lists.variables) lists.definitions)
 
   module _ {f : Found} (is : f ≡ found_of looked_up) where
-    pub none-several : f ≡ Nothing → false ≡ several_sums h.word (ds h) k
+    pub none-several : f ≡ None → false ≡ several_sums h.word (ds h) k
     unfolding several_sums Option-elim
     none-several q =
         let o = sym (all-definitions h asks k e) ∙ no_place looked_up is q in
         sym (ap (λ (o : Option (ℕ × Definition)). Option-elim o false (λ d. several (sums_of d.1.sums))) (definition-none h.word k nodes (ds h) 0 o))
 
-    module _ {j : ℕ} (q : f ≡ At j) where
+    module _ {j : ℕ} (q : f ≡ Some j) where
       abbrev defined : ℕ
       defined = left_of (get_or nodes (lists.root - lists.variables - j) 0)
 
@@ -164,7 +164,7 @@ module _ (nodes : List ℕ) (i κ token : ℕ) (κ-is : κ ≡ kind_of (get_or n
     unfolding offender_at
     call-offends c b q = ⊎_elim (λ (e : κ ≡ 50). rw (sym κ-is ∙ e, ← token-is, q)) (λ (e : κ ≡ 51). rw (sym κ-is ∙ e, ← token-is, q)) c
 
-    pub no-offender : (κ ≡ 53 → ⊥) → ((κ ≡ 50) ⊎ (κ ≡ 51) → ⊥) → Nothing ≡ offender_at s nodes i
+    pub no-offender : (κ ≡ 53 → ⊥) → ((κ ≡ 50) ⊎ (κ ≡ 51) → ⊥) → None ≡ offender_at s nodes i
     unfolding offender_at
     no-offender a b = simp (← κ-is, ne_eqb κ 53 a, ne_eqb κ 50 (λ e. b (inl e)), ne_eqb κ 51 (λ e. b (inr e)))
 
@@ -180,7 +180,7 @@ module _ {low high nodes : List ℕ} {lists : Lists} (h : World Given low high n
   abbrev pub Onward : Found → ℕ → Type 0
   Onward f i = earlier_of f (first_from s nodes i (root + 1 - i)) ≡ least (unsteady h.word h.model)
 
-  pub begins : Onward Nothing 0
+  pub begins : Onward None 0
   unfolding earlier_of
   begins = let e : root + 1 - 0 ≡ root + 1 = omega arith in rw e (tree-first h.word h.model nodes root h.holds)
 

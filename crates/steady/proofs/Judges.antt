@@ -2,8 +2,9 @@
 use mathlib.Core.Path.{◌≡◌, refl, sym, ap, ◌∙◌}
 use mathlib.Core.List.{List}
 use Prim.Native.Nat.{ℕ}
-use Rattle.token.specs.declared.Found.{Found}
-use Rattle.token.specs.declared.Found.TheVariants.{At, Nothing}
+use Rattle.std.specs.Prelude.{None, Some, Err, Ok}
+use Rattle.token.specs.declared.Refusal.{Refusal}
+use Rattle.token.specs.Questions.{Found, refusal}
 use Rattle.token.specs.Token.{tokens}
 use Rattle.grammar.specs.Syntax
 use Rattle.model.specs.Lists.{least}
@@ -21,40 +22,34 @@ use Rattle.names.specs.Settings.{World}
 use Rattle.names.proofs.Earliest.{least-append, nothing-first}
 use Rattle.names.proofs.Grounds.{world}
 use Rattle.settle.specs.declared.Model.{Model}
-use Rattle.opening.specs.Trees.{Closed, Fitted, TreeRead}
-use Rattle.opening.specs.Sound.{Sound, NamesJudged}
-use Rattle.opening.specs.Models.{ModelOpened, Opens}
-use Rattle.opening.specs.declared.Tree.{Tree}
-use Rattle.opening.specs.declared.Tree.TheVariants.{Refused as TreeRefused}
-use Rattle.opening.specs.declared.Named.{Named}
-use Rattle.opening.specs.declared.Named.TheVariants.{Refused as NamedRefused}
-use Rattle.opening.specs.declared.Opened.{Opened}
-use Rattle.opening.specs.declared.Opened.TheVariants.{Refused, Accepted}
+use Rattle.opening.specs.Trees.{Closed, Fitted, TreeRead, Tree}
+use Rattle.opening.specs.Sound.{Sound, NamesJudged, Named}
+use Rattle.opening.specs.Models.{ModelOpened, Opens, Opened}
 use Rattle.steady.specs.declared.Profile.{Profile}
 use Rattle.steady.specs.declared.Profile.TheVariants.{Plain, Steady}
 use Rattle.steady.specs.Opens.{OpensSteady, opening_under, OpensUnder}
 
 -- ---- 2 to 9
 module _ (text nodes roots scopes : List ℕ) where
-  refused-steady : {n p : ℕ} → opening text ≡ refused n p → OpensSteady text nodes roots scopes (Refused n p)
+  refused-steady : {q : Refusal} → opening text ≡ refused q.number q.place → OpensSteady text nodes roots scopes (Err q)
   unfolding OpensSteady
   refused-steady e = refused-so text e
 
-  pub tree-no : (kinds places low high table : List ℕ) {r : Tree} {n p : ℕ} → TreeRead text kinds places low high table r → r ≡ TreeRefused n p → OpensSteady text nodes roots scopes (Refused n p)
+  pub tree-no : (kinds places low high table : List ℕ) {r : Tree} {q : Refusal} → TreeRead text kinds places low high table r → r ≡ Err q → OpensSteady text nodes roots scopes (Err q)
   unfolding TreeRead
-  tree-no kinds places low high table {r} {n} {p} d e = let c : Closed text n p = rw e at d in refused-steady c.opens
+  tree-no kinds places low high table {r} {q} d e = let c : Closed text q.number q.place = rw e at d in refused-steady c.opens
 
-  pub named-no : (s : Syntax.Model) {j : Named} {n p : ℕ} → NamesJudged text s j → j ≡ NamedRefused n p → OpensSteady text nodes roots scopes (Refused n p)
+  pub named-no : (s : Syntax.Model) {j : Named} {q : Refusal} → NamesJudged text s j → j ≡ Err q → OpensSteady text nodes roots scopes (Err q)
   unfolding NamesJudged
-  named-no s {j} {n} {p} d e = let c : Closed text n p = rw e at d in refused-steady c.opens
+  named-no s {j} {q} d e = let c : Closed text q.number q.place = rw e at d in refused-steady c.opens
 
   -- ---- 10, then 29
   module _ {o : Opened} (d : Opens text nodes roots scopes o) where
-    pub start-no : {n p : ℕ} → o ≡ Refused n p → OpensSteady text nodes roots scopes (Refused n p)
+    pub start-no : {q : Refusal} → o ≡ Err q → OpensSteady text nodes roots scopes (Err q)
     unfolding Opens
     start-no e = refused-steady (rw e at d)
 
-    module _ {s : Syntax.Model} {f : Found} (y : Yes5 text s) (is : f ≡ least (unsteady (word_of text) s)) {x : Model} {c : ℕ} (e : o ≡ Accepted x c) where
+    module _ {s : Syntax.Model} {f : Found} (y : Yes5 text s) (is : f ≡ least (unsteady (word_of text) s)) {x : Model} {c : ℕ} (e : o ≡ Ok (x, c)) where
       model-opened : ModelOpened text nodes roots scopes x c
       unfolding Opens
       model-opened = rw e at d
@@ -62,18 +57,18 @@ module _ (text nodes roots scopes : List ℕ) where
       asks : opening_steady text ≡ asked text 29 f (opened model-opened.model)
       asks = opened-asks text y model-opened.opens ∙ ap (λ (g : Found). asked text 29 g (opened model-opened.model)) (sym is)
 
-      pub offends : {k p : ℕ} → f ≡ At k → p ≡ byte_place text k → OpensSteady text nodes roots scopes (Refused 29 p)
+      pub offends : {k p : ℕ} → f ≡ Some k → p ≡ byte_place text k → OpensSteady text nodes roots scopes (Err (refusal 29 p))
       unfolding OpensSteady asked
       offends q r = asks ∙ ap (λ (g : Found). asked text 29 g (opened model-opened.model)) q ∙ ap (refused 29) (sym r)
 
-      pub steady : f ≡ Nothing → OpensSteady text nodes roots scopes (Accepted x c)
+      pub steady : f ≡ None → OpensSteady text nodes roots scopes (Ok (x, c))
       unfolding OpensSteady asked
       steady q = record { plain = model-opened; steady = asks ∙ ap (λ (g : Found). asked text 29 g (opened model-opened.model)) q }
 
 -- ---- the tables of a text that fits and is sound can be searched
 module _ {text : List ℕ} {s : Syntax.Model} {kinds places low high nodes : List ℕ} {root n : ℕ} (f : Fitted text s kinds places low high nodes root n) (v : Sound text s) {lists : Lists} (g : Gathered s root lists) where
   -- 7 has passed every name
-  short : least (words_beyond text 0 (tokens text)) ≡ Nothing
+  short : least (words_beyond text 0 (tokens text)) ≡ None
   unfolding beyond
   short = nothing-first _ _ (sym (least-append (words_beyond text 0 (tokens text)) (tree_beyond (word_of text) s)) ∙ v.within)
 
@@ -89,10 +84,10 @@ module _ {text : List ℕ} {s : Syntax.Model} {kinds places low high nodes : Lis
 module _ (text nodes roots scopes : List ℕ) {p : Profile} where
   pub under-plain : p ≡ Plain → (r : Opened) → Opens text nodes roots scopes r → OpensUnder p text nodes roots scopes r
   unfolding Opens OpensUnder opening_under
-  under-plain e (Refused n q) o = rw e o
-  under-plain e (Accepted x k) o = record { plain = o; opens = rw e o.opens }
+  under-plain e (Err r) o = rw e o
+  under-plain e (Ok (x, k)) o = record { plain = o; opens = rw e o.opens }
 
   pub under-steady : p ≡ Steady → (r : Opened) → OpensSteady text nodes roots scopes r → OpensUnder p text nodes roots scopes r
   unfolding OpensSteady OpensUnder opening_under
-  under-steady e (Refused n q) o = rw e o
-  under-steady e (Accepted x k) o = record { plain = o.plain; opens = rw e o.steady }
+  under-steady e (Err r) o = rw e o
+  under-steady e (Ok (x, k)) o = record { plain = o.plain; opens = rw e o.steady }

@@ -8,8 +8,8 @@ use native.Mathlib.Omega.{arith}
 use borrow.Author.Tests.{ltb-true, eqb-false, eq-eqb, ne_eqb, lt-ltb}
 use lib.Dec.{eqb, ltb}
 use lib.ListN.{length, get_or}
-use Rattle.token.specs.declared.Found.{Found}
-use Rattle.token.specs.declared.Found.TheVariants.{Nothing}
+use Rattle.std.specs.Prelude.{None}
+use Rattle.token.specs.Questions.{Found}
 use Rattle.grammar.specs.Grammar.{Relation, less, at_most, greater, at_least, same, differs}
 use Rattle.grammar.specs.Syntax
 use Rattle.grammar.specs.Syntax.{Op, plus, minus, times, divide, maximum, minimum, Join, without, union, inter}
@@ -96,13 +96,13 @@ module _ (s : ℕ → Bool) (t : List ℕ) where
   lies-as {P} e p = subst (λ (x : Found). Lies P x) e p
 
   -- ---- one node
-  node-first : {k κ token left third : ℕ} → ltb κ 256 ≡ true → Node t k κ token left third → first_from s t k 1 ≡ cond (eqb κ node.group) (least (when (eqb (kind_of (get_or t (k - 1) 0)) node.item) token)) (cond (eqb κ node.call || eqb κ node.call_with) (least (when (s token) token)) Nothing)
+  node-first : {k κ token left third : ℕ} → ltb κ 256 ≡ true → Node t k κ token left third → first_from s t k 1 ≡ cond (eqb κ node.group) (least (when (eqb (kind_of (get_or t (k - 1) 0)) node.item) token)) (cond (eqb κ node.call || eqb κ node.call_with) (least (when (s token) token)) None)
   unfolding first_from offender_at
   node-first {κ = κ} e n =
       let h = ltb-true κ 256 e in
       nothing_right _ ∙ rw (node-kind n h, node-token n h)
 
-  node-plain : {k κ token left third : ℕ} → Plain κ → Node t k κ token left third → first_from s t k 1 ≡ Nothing
+  node-plain : {k κ token left third : ℕ} → Plain κ → Node t k κ token left third → first_from s t k 1 ≡ None
   node-plain p n = node-first p.0 n ∙ rw (p.1, p.2)
 
   not-group : {k κ token left third : ℕ} → Plain κ → Node t k κ token left third → kind_of (get_or t k 0) ≡ node.group → ⊥
@@ -121,7 +121,7 @@ module _ (s : ℕ → Bool) (t : List ℕ) where
             absurd (eqb-false κ node.group g (sym (node-kind h.node (ltb-true κ 256 e)) ∙ rw z at c));
       }
 
-  lies-leaf : {κ token : ℕ} → Plain κ → Lies (Leaf t κ token) Nothing
+  lies-leaf : {κ token : ℕ} → Plain κ → Lies (Leaf t κ token) None
   lies-leaf p = leaf-with p.1 p.0 (λ k n. node-plain p n)
 
   one-with : {κ token third : ℕ} {P : ℕ → ℕ → Type 0} {f g : Found} → Lies P f → ((lo k : ℕ) (h : One t κ token third P lo k) → first_from s t k 1 ≡ g) → Lies (One t κ token third P) (earlier_of f g)
@@ -205,7 +205,7 @@ module _ (s : ℕ → Bool) (t : List ℕ) where
   lies-beside-two p = record { low = λ h. p.low h.2; first = λ h. p.first h.2; above = λ h. p.above h.2 }
 
   -- ---- trees without groups and calls
-  expr-lies : (e : Syntax.Expr) → Lies (Table.Expr t e) Nothing
+  expr-lies : (e : Syntax.Expr) → Lies (Table.Expr t e) None
   unfolding Table.Expr earlier_of
   expr-lies (Syntax.literal false n) = lies-leaf (refl, refl, refl)
   expr-lies (Syntax.literal true n) = lies-leaf (refl, refl, refl)
@@ -213,50 +213,50 @@ module _ (s : ℕ → Bool) (t : List ℕ) where
   expr-lies (Syntax.absolute e) = lies-one (refl, refl, refl) (expr-lies e)
   expr-lies (Syntax.binary o e f) = lies-two (op-plain o) (expr-lies e) (expr-lies f)
 
-  exprs-lies : (r : Syntax.Exprs) → Lies (Table.Exprs t r) Nothing
+  exprs-lies : (r : Syntax.Exprs) → Lies (Table.Exprs t r) None
   unfolding Table.Exprs earlier_of
   exprs-lies (Syntax.last_expr e) = expr-lies e
   exprs-lies (Syntax.next_expr e r) = lies-two (refl, refl, refl) (expr-lies e) (exprs-lies r)
 
-  set-lies : (x : Syntax.Set) → Lies (Table.Set t x) Nothing
+  set-lies : (x : Syntax.Set) → Lies (Table.Set t x) None
   unfolding Table.Set earlier_of
   set-lies (Syntax.single e) = expr-lies e
   set-lies (Syntax.range e f) = lies-two (refl, refl, refl) (expr-lies e) (expr-lies f)
   set-lies (Syntax.joined j x y) = lies-two (join-plain j) (set-lies x) (set-lies y)
 
-  cond-lies : (c : Syntax.Cond) → Lies (Table.Cond t c) Nothing
+  cond-lies : (c : Syntax.Cond) → Lies (Table.Cond t c) None
   unfolding Table.Cond earlier_of
   cond-lies (Syntax.compare b r e f) = lies-two (test_plain b r) (expr-lies e) (expr-lies f)
   cond-lies (Syntax.both c d) = lies-two (refl, refl, refl) (cond-lies c) (cond-lies d)
   cond-lies (Syntax.either c d) = lies-two (refl, refl, refl) (cond-lies c) (cond-lies d)
 
-  scale-lies : (x : Syntax.Scale) → Lies (Table.Scale t x) Nothing
+  scale-lies : (x : Syntax.Scale) → Lies (Table.Scale t x) None
   unfolding Table.Scale
   scale-lies (Syntax.number b d n) = lies-leaf (number-plain b d)
   scale-lies (Syntax.named_scale n) = lies-leaf (refl, refl, refl)
 
-  rate-lies : (r : Syntax.Rate) → Lies (Table.Rate t r) Nothing
+  rate-lies : (r : Syntax.Rate) → Lies (Table.Rate t r) None
   unfolding Table.Rate earlier_of
   rate-lies (Syntax.plain x) = scale-lies x
   rate-lies (Syntax.scaled x e) = lies-two (refl, refl, refl) (scale-lies x) (expr-lies e)
 
-  values-lies : (v : Syntax.Values) → Lies (Table.Values t v) Nothing
+  values-lies : (v : Syntax.Values) → Lies (Table.Values t v) None
   unfolding Table.Values earlier_of
   values-lies (Syntax.one_value e) = expr-lies e
   values-lies (Syntax.two_values e f) = lies-two (refl, refl, refl) (expr-lies e) (expr-lies f)
 
-  sets-lies : (x : Syntax.Sets) → Lies (Table.Sets t x) Nothing
+  sets-lies : (x : Syntax.Sets) → Lies (Table.Sets t x) None
   unfolding Table.Sets earlier_of
   sets-lies (Syntax.one_set x) = set-lies x
   sets-lies (Syntax.two_sets x y) = lies-two (refl, refl, refl) (set-lies x) (set-lies y)
 
-  channel-lies : (c : Syntax.Channel) → Lies (Table.Channel t c) Nothing
+  channel-lies : (c : Syntax.Channel) → Lies (Table.Channel t c) None
   unfolding Table.Channel earlier_of
   channel-lies (Syntax.one_item e) = expr-lies e
   channel-lies (Syntax.two_items e f) = lies-two (refl, refl, refl) (expr-lies e) (expr-lies f)
   channel-lies (Syntax.three_items e f g) = lies-three (refl, refl, refl) (expr-lies e) (expr-lies f) (expr-lies g)
 
-  action-lies : (a : Syntax.Action) → Lies (Table.Action t a) Nothing
+  action-lies : (a : Syntax.Action) → Lies (Table.Action t a) None
   unfolding Table.Action earlier_of
   action-lies (Syntax.wait n) = lies-leaf (refl, refl, refl)
   action-lies (Syntax.launch c v) = lies-two (refl, refl, refl) (channel-lies c) (values-lies v)
@@ -268,19 +268,19 @@ module _ (s : ℕ → Bool) (t : List ℕ) where
   action-lies (Syntax.hand_receive c x) = lies-two (refl, refl, refl) (channel-lies c) (sets-lies x)
   action-lies (Syntax.hand_bind c x (Syntax.names n m)) = lies-two (refl, refl, refl) (channel-lies c) (sets-lies x)
 
-  wholes-lies : (x : Syntax.Wholes) → Lies (Table.Wholes t x) Nothing
+  wholes-lies : (x : Syntax.Wholes) → Lies (Table.Wholes t x) None
   unfolding Table.Wholes earlier_of
   wholes-lies (Syntax.last_whole e) = expr-lies e
   wholes-lies (Syntax.next_whole e r) = lies-two (refl, refl, refl) (expr-lies e) (wholes-lies r)
 
-  start-lies : (x : Syntax.Start) → Lies (Table.Start t x) Nothing
+  start-lies : (x : Syntax.Start) → Lies (Table.Start t x) None
   unfolding Table.Start
   start-lies (Syntax.once n Syntax.no_starts) = lies-leaf (refl, refl, refl)
   start-lies (Syntax.once n (Syntax.starts x)) = lies-one (refl, refl, refl) (wholes-lies x)
   start-lies (Syntax.counted c n Syntax.no_starts) = lies-beside (lies-leaf (refl, refl, refl))
   start-lies (Syntax.counted c n (Syntax.starts x)) = lies-beside (lies-one (refl, refl, refl) (wholes-lies x))
 
-  system-lies : (x : Syntax.System) → Lies (Table.System t x) Nothing
+  system-lies : (x : Syntax.System) → Lies (Table.System t x) None
   unfolding Table.System earlier_of
   system-lies (Syntax.last_start x) = start-lies x
   system-lies (Syntax.next_start x r) = lies-two (refl, refl, refl) (start-lies x) (system-lies r)

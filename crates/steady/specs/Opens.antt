@@ -1,11 +1,9 @@
 -- What opening a text under the steady profile answers, and what the tables of an accepted one hold (02, note 11). Assumes nothing: these are definitions.
-use Rattle.std.specs.Prelude.{◌≡◌, List, ℕ}
+use Rattle.std.specs.Prelude.{◌≡◌, List, ℕ, Err, Ok}
 use Rattle.model.specs.Opening.{Opening, refused, opened, opening}
 use Rattle.profile.specs.Opening.{opening_steady}
 use Rattle.settle.specs.declared.Model.{Model}
-use Rattle.opening.specs.Models.{ModelOpened}
-use Rattle.opening.specs.declared.Opened.{Opened}
-use Rattle.opening.specs.declared.Opened.TheVariants.{Refused, Accepted}
+use Rattle.opening.specs.Models.{ModelOpened, Opened}
 use Rattle.steady.specs.declared.Profile.{Profile}
 use Rattle.steady.specs.declared.Profile.TheVariants.{Plain, Steady}
 
@@ -16,8 +14,8 @@ pub record SteadyOpened (text nodes roots scopes : List ℕ) (x : Model) (k : �
 
 -- 2 to 10, then 29: the first no with its place, or the model
 unfoldable pub OpensSteady : (text nodes roots scopes : List ℕ) → Opened → Type 0
-OpensSteady text nodes roots scopes (Refused n p) = opening_steady text ≡ refused n p
-OpensSteady text nodes roots scopes (Accepted x k) = SteadyOpened text nodes roots scopes x k
+OpensSteady text nodes roots scopes (Err r) = opening_steady text ≡ refused r.number r.place
+OpensSteady text nodes roots scopes (Ok (x, k)) = SteadyOpened text nodes roots scopes x k
 
 -- what opening under a profile answers
 unfoldable pub opening_under : Profile → List ℕ → Opening
@@ -30,5 +28,5 @@ pub record OpenedUnder (profile : Profile) (text nodes roots scopes : List ℕ) 
   pub opens : opening_under profile text ≡ opened plain.model
 
 unfoldable pub OpensUnder : Profile → (text nodes roots scopes : List ℕ) → Opened → Type 0
-OpensUnder profile text nodes roots scopes (Refused n p) = opening_under profile text ≡ refused n p
-OpensUnder profile text nodes roots scopes (Accepted x k) = OpenedUnder profile text nodes roots scopes x k
+OpensUnder profile text nodes roots scopes (Err r) = opening_under profile text ≡ refused r.number r.place
+OpensUnder profile text nodes roots scopes (Ok (x, k)) = OpenedUnder profile text nodes roots scopes x k

@@ -17,8 +17,8 @@ ghost use Rattle.steady.specs.Scan.{offender_at};
 ghost use Rattle.steady.specs.Opens.{OpensSteady, OpensUnder};
 
 use names::Lists;
-use opening::{Named, Opened, Tree};
-use token::Found;
+use settle::Model;
+use token::Refusal;
 use tree::NodeKind;
 
 // What a text is opened under: questions 2 to 10, or 29 too.
@@ -34,7 +34,7 @@ fn has_several(low: &[u64], high: &[u64], nodes: &[u64], lists: Lists, k: usize)
     ensures { (h : World Given low.now high.now nodes.now lists) → IsName h.kinds k → result ≡ several_sums h.word (definitions h.model) k }
 {
     let first = lists.root - lists.variables;
-    let Found::At(j) = names::listed(low, high, nodes, first, lists.definitions, k) else {
+    let Some(j) = names::listed(low, high, nodes, first, lists.definitions, k) else {
         return false;
     };
     let d = tree::left_of(nodes[first - j]);
@@ -42,7 +42,7 @@ fn has_several(low: &[u64], high: &[u64], nodes: &[u64], lists: Lists, k: usize)
 }
 
 // Question 29 of the node i. The root of a group's items is the node before the group's own.
-fn node_fault(low: &[u64], high: &[u64], nodes: &[u64], lists: Lists, i: usize) -> Found
+fn node_fault(low: &[u64], high: &[u64], nodes: &[u64], lists: Lists, i: usize) -> Option<usize>
     requires { World Given low.now high.now nodes.now lists × (i ≤ lists.root) }
     ensures { (h : World Given low.now high.now nodes.now lists) → result ≡ offender_at (several_sums h.word (definitions h.model)) nodes.now i }
 {
@@ -50,50 +50,44 @@ fn node_fault(low: &[u64], high: &[u64], nodes: &[u64], lists: Lists, i: usize) 
     let kind = tree::kind_of(node);
     let k = tree::token_of(node);
     match kind {
-        NodeKind::GROUP => {
-            if tree::kind_of(nodes[i - 1]) == NodeKind::ITEM {
-                return Found::At(k);
-            }
-            Found::Nothing
-        }
-        NodeKind::CALL | NodeKind::CALL_WITH => {
-            if has_several(low, high, nodes, lists, k) {
-                return Found::At(k);
-            }
-            Found::Nothing
-        }
-        _ => Found::Nothing,
+        NodeKind::GROUP => (tree::kind_of(nodes[i - 1]) == NodeKind::ITEM).then_some(k),
+        NodeKind::CALL | NodeKind::CALL_WITH => has_several(low, high, nodes, lists, k).then_some(
+            k,
+        ),
+        _ => None,
     }
 }
 
 // Question 29 of a text without faults, in the reader's nodes: the first token that offends.
-pub fn first_unsteady(low: &[u64], high: &[u64], nodes: &[u64], lists: Lists) -> Found
+pub fn first_unsteady(low: &[u64], high: &[u64], nodes: &[u64], lists: Lists) -> Option<usize>
     requires { World Given low.now high.now nodes.now lists }
     ensures { (h : World Given low.now high.now nodes.now lists) → result ≡ least (unsteady h.word h.model) }
 {
-    let root = lists.root;
-    let mut found = Found::Nothing;
-    let mut i = 0;
-    while i <= root {
+    let mut found = None;
+    for i in 0..=lists.root {
         found = names::earlier(found, node_fault(low, high, nodes, lists, i));
-        i += 1;
     }
     found
 }
 
 // Question 29 of a text that 10 has passed or refused, with the first token that offends.
-fn judge_steady(text: &[u8], places: &[u16], n: usize, found: Found, opened: Opened) -> Opened
+fn judge_steady(
+    text: &[u8],
+    places: &[u16],
+    n: usize,
+    found: Option<usize>,
+    opened: Result<(Model, usize), Refusal>,
+) -> Result<(Model, usize), Refusal>
     requires { Placed text.now places.now n }
     ensures { (s : Syntax.Model) (nodes roots scopes : List ℕ) → Yes5 text.now s → found ≡ least (unsteady (word_of text.now) s) → Opens text.now nodes roots scopes opened → OpensSteady text.now nodes roots scopes result }
 {
-    match opened {
-        Opened::Refused(number, place) => Opened::Refused(number, place),
-        Opened::Accepted(model, count) => {
-            match found {
-                Found::At(k) => Opened::Refused(29, opening::byte_place(text, places, n, k)),
-                Found::Nothing => Opened::Accepted(model, count),
-            }
-        }
+    let (model, count) = opened?;
+    match found {
+        Some(k) => Err(Refusal {
+            number: 29,
+            place: opening::byte_place(text, places, n, k),
+        }),
+        None => Ok((model, count)),
     }
 }
 
@@ -110,22 +104,17 @@ fn settle_steady(
     names: &mut [u64],
     root: usize,
     n: usize,
-) -> Opened
+) -> Result<(Model, usize), Refusal>
     requires fitted { (s : Syntax.Model) × Fitted text.now s kinds.now places.now low.now high.now nodes.old root n }
     requires sum_room { SumRoom roots.old scopes.old names.old }
     ensures { OpensSteady text.now nodes.new roots.new scopes.new result }
 {
-    let judged = opening::judge_tree(text, kinds, places, low, high, nodes, root, n);
-    match judged {
-        Named::Refused(number, place) => Opened::Refused(number, place),
-        Named::Passed(place) => {
-            let lists = names::lists_of(nodes, root);
-            let found = first_unsteady(low, high, nodes, lists);
-            let model = settle::settle(low, high, nodes, roots, scopes, names, root);
-            let opened = opening::judge_start(nodes, model, place);
-            judge_steady(text, places, n, found, opened)
-        }
-    }
+    let place = opening::judge_tree(text, kinds, places, low, high, nodes, root, n)?;
+    let lists = names::lists_of(nodes, root);
+    let found = first_unsteady(low, high, nodes, lists);
+    let model = settle::settle(low, high, nodes, roots, scopes, names, root);
+    let opened = opening::judge_start(nodes, model, place);
+    judge_steady(text, places, n, found, opened)
 }
 
 // All questions, 29 after 10, and the model.
@@ -140,20 +129,15 @@ fn open_steady(
     roots: &mut [u16],
     scopes: &mut [u16],
     names: &mut [u64],
-) -> Opened
+) -> Result<(Model, usize), Refusal>
     requires room { Room kinds.old places.old sizes.old low.old high.old nodes.old }
     requires sum_room { SumRoom roots.old scopes.old names.old }
     ensures { OpensSteady text.now nodes.new roots.new scopes.new result }
 {
-    let tree = opening::read_tree(text, kinds, places, sizes, low, high, nodes);
-    match tree {
-        Tree::Refused(number, place) => Opened::Refused(number, place),
-        Tree::Fits(root, n) => {
-            settle_steady(
-                text, kinds, places, low, high, nodes, roots, scopes, names, root, n,
-            )
-        }
-    }
+    let (root, n) = opening::read_tree(text, kinds, places, sizes, low, high, nodes)?;
+    settle_steady(
+        text, kinds, places, low, high, nodes, roots, scopes, names, root, n,
+    )
 }
 
 // All questions of this profile, and the model.
@@ -169,7 +153,7 @@ pub fn open_under(
     roots: &mut [u16],
     scopes: &mut [u16],
     names: &mut [u64],
-) -> Opened
+) -> Result<(Model, usize), Refusal>
     requires room { Room kinds.old places.old sizes.old low.old high.old nodes.old }
     requires sum_room { SumRoom roots.old scopes.old names.old }
     ensures { OpensUnder profile text.now nodes.new roots.new scopes.new result }

@@ -1,11 +1,6 @@
 -- `names::bound_fault` meets its contract: by the question.
-use native.Mathlib.Omega.{arith}
 use Rattle.names.proofs.Repeats.{bound-inside, fresh-bound, bound-limits, bound-fresh, bound-even, bound-uneven}
 use Rattle.names.proofs.bound_fault.Goals as goal
-
-pub overflow_sub-scope : goal.overflow_sub-scope
-overflow_sub-scope c =
-    omega (arith, (bound-inside c.args.low.now c.args.high.now c.args.nodes.now c.args.lists c.args.scope c.args.first c.args.n c.args.sets c.requires).0)
 
 pub over_fault-requires : goal.over_fault-requires
 over_fault-requires c =
@@ -18,10 +13,6 @@ repeated_fault-requires c =
 pub returns-then-n-sets : goal.returns-then-n-sets
 returns-then-n-sets c =
     bound-even c.args.low.now c.args.high.now c.args.nodes.now c.args.lists c.args.scope c.args.first c.args.n c.args.sets c.in-Given.is c.if-n-sets.true
-
-pub overflow_sub-result : goal.overflow_sub-result
-overflow_sub-result c =
-    omega (arith, c.requires.after)
 
 pub returns-in-Limits : goal.returns-in-Limits
 returns-in-Limits c =

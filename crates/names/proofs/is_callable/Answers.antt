@@ -22,24 +22,24 @@ returns-in_default c =
 
 pub overflow_sub-first-2 : goal.overflow_sub-first-2
 overflow_sub-first-2 c =
-    omega (arith, (defined-inside c.requires.0 c.args.k c.args.n c.requires.1 c.listed.ensures c.in-At.is).0)
+    omega (arith, (defined-inside c.requires.0 c.args.k c.args.n c.requires.1 c.listed.ensures c.in-Some.is).0)
 
 pub offset_bounds-nodes-first : goal.offset_bounds-nodes-first
 offset_bounds-nodes-first c =
-    omega (arith, (defined-inside c.requires.0 c.args.k c.args.n c.requires.1 c.listed.ensures c.in-At.is).1)
+    omega (arith, (defined-inside c.requires.0 c.args.k c.args.n c.requires.1 c.listed.ensures c.in-Some.is).1)
 
 pub bounds-nodes-first : goal.bounds-nodes-first
 bounds-nodes-first c =
-    (defined-inside c.requires.0 c.args.k c.args.n c.requires.1 c.listed.ensures c.in-At.is).1
+    (defined-inside c.requires.0 c.args.k c.args.n c.requires.1 c.listed.ensures c.in-Some.is).1
 
 pub offset_bounds-nodes-left_of : goal.offset_bounds-nodes-left_of
 offset_bounds-nodes-left_of c =
-    omega (arith, c.left_of.ensures, (defined-inside c.requires.0 c.args.k c.args.n c.requires.1 c.listed.ensures c.in-At.is).2)
+    omega (arith, c.left_of.ensures, (defined-inside c.requires.0 c.args.k c.args.n c.requires.1 c.listed.ensures c.in-Some.is).2)
 
 pub bounds-nodes-left_of : goal.bounds-nodes-left_of
 bounds-nodes-left_of c =
-    rw c.left_of.ensures (defined-inside c.requires.0 c.args.k c.args.n c.requires.1 c.listed.ensures c.in-At.is).2
+    rw c.left_of.ensures (defined-inside c.requires.0 c.args.k c.args.n c.requires.1 c.listed.ensures c.in-Some.is).2
 
 pub returns : goal.returns
 returns c =
-    λ h e. defined-takes h c.args.k c.args.n e c.listed.ensures c.in-At.is c.third_of.result (c.third_of.ensures ∙ ap (λ (i : ℕ). third_of (get_or c.args.nodes.now i 0)) c.left_of.ensures)
+    λ h e. defined-takes h c.args.k c.args.n e c.listed.ensures c.in-Some.is c.third_of.result (c.third_of.ensures ∙ ap (λ (i : ℕ). third_of (get_or c.args.nodes.now i 0)) c.left_of.ensures)

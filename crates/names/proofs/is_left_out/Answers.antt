@@ -1,19 +1,20 @@
 -- `names::is_left_out` meets its contract: by the kind.
-use borrow.Author.Tests.{eq-eqb, ne_eqb}
+use native.Mathlib.Omega.{arith}
+use borrow.Author.Tests.{ne_eqb}
 use Rattle.names.specs.Faults.{left_out}
 use Rattle.names.proofs.is_left_out.Goals as goal
 
-pub returns-then-kind-eq-NAME : goal.returns-then-kind-eq-NAME
+pub returns-in-1 : goal.returns-in-1
 unfolding left_out
-returns-then-kind-eq-NAME c =
-    simp (eq-eqb c.args.kind 1 c.if-kind-eq-NAME.true)
+returns-in-1 c =
+    rw c.in-1.is
 
-pub returns-then-kind-eq-DECIMAL : goal.returns-then-kind-eq-DECIMAL
+pub returns-in-3 : goal.returns-in-3
 unfolding left_out
-returns-then-kind-eq-DECIMAL c =
-    simp (ne_eqb c.args.kind 1 c.if-kind-eq-NAME.false, eq-eqb c.args.kind 3 c.if-kind-eq-DECIMAL.true)
+returns-in-3 c =
+    rw c.in-3.is
 
-pub returns : goal.returns
+pub returns-in_default : goal.returns-in_default
 unfolding left_out
-returns c =
-    simp (ne_eqb c.args.kind 1 c.if-kind-eq-NAME.false, ne_eqb c.args.kind 3 c.if-kind-eq-DECIMAL.false)
+returns-in_default c =
+    simp (ne_eqb c.args.kind 1 (λ e. omega arith), ne_eqb c.args.kind 3 (λ e. omega arith))

@@ -9,6 +9,3 @@ use Rattle.names.proofs.leaves_fault.Given as goal
 
 abbrev pub invariant-loop-i : goal.invariant-loop-i
 invariant-loop-i l = ((h : Setting l.question l.low l.high l.nodes l.lists l.scope) → earlier_of l.found (least (each (faults_at h) (between l.nodes l.i (l.to - l.i)))) ≡ least (each (faults_at h) (between l.nodes l.from (l.to - l.from))))
-
-abbrev pub decreases-loop-i : goal.decreases-loop-i
-decreases-loop-i l = l.to - l.i

@@ -1,11 +1,7 @@
 -- The loop's invariant: none of the first j names of the list is the same, so that the answer is that of the names from j on.
-use Prim.Native.Nat.{◌-◌, ◌≤◌}
 use Rattle.names.specs.Lists.{packed, names_down}
 use Rattle.names.proofs.Lookups.{Onward}
 use Rattle.names.proofs.listed.Given as goal
 
 abbrev pub invariant-loop-j : goal.invariant-loop-j
-invariant-loop-j l = (l.j ≤ l.n) × Onward (packed l.low l.high) l.k (names_down l.nodes l.first l.n) l.j
-
-abbrev pub decreases-loop-j : goal.decreases-loop-j
-decreases-loop-j l = l.n - l.j
+invariant-loop-j l = Onward (packed l.low l.high) l.k (names_down l.nodes l.first l.n) l.j

@@ -1,7 +1,6 @@
 -- `names::listed_name` meets its contract: by the kind of the node.
 use mathlib.Core.Path.{ap, sym, ◌∙◌}
 use Prim.Native.Nat.{ℕ}
-use native.Mathlib.Omega.{arith}
 use borrow.Author.Tests.{eq-eqb, ne_eqb}
 use lib.ListN.{get_or}
 use Rattle.tree.specs.Node.{kind_of, token_of}
@@ -12,14 +11,6 @@ pub returns-then-kind_of-eq-VARIABLE : goal.returns-then-kind_of-eq-VARIABLE
 unfolding name_at
 returns-then-kind_of-eq-VARIABLE c =
     simp (eq-eqb (kind_of (get_or c.args.nodes.now c.args.i 0)) 65 (sym c.kind_of.ensures ∙ c.if-kind_of-eq-VARIABLE.true)) c.token_of.ensures
-
-pub offset_bounds-nodes-left_of : goal.offset_bounds-nodes-left_of
-offset_bounds-nodes-left_of c =
-    omega (arith, c.left_of.ensures)
-
-pub bounds-nodes-left_of : goal.bounds-nodes-left_of
-bounds-nodes-left_of c =
-    rw c.left_of.ensures c.requires.1
 
 pub returns : goal.returns
 unfolding name_at

@@ -8,56 +8,57 @@ use Rattle.tree.specs.Node.{kind_of}
 use Rattle.model.specs.Lists.{when, earlier, least}
 use Rattle.names.specs.Faults.{asks_names}
 use Rattle.names.proofs.Settled.{name-inside, in_scope, reach-variables}
+use Rattle.names.proofs.Lookups.{there, absent}
 use Rattle.names.proofs.Uses.{local-used, not_listed, listed-inside, any-scale, whole-variable}
 use Rattle.names.proofs.name_fault.Goals as goal
+use Rattle.names.proofs.name_fault.Goals.{then-scaling-via-then-scaling, then-scaling-via-else-scaling+then-is_whole}
 
 pub local_named-requires : goal.local_named-requires
 unfolding asks_names
 local_named-requires c =
     in_scope c.requires.0 refl c.args.k c.requires.1
 
-pub returns-in-At : goal.returns-in-At
-returns-in-At c =
-    λ h e. local-used h c.args.k e c.args.scaling c.local_named.ensures c.in-At.is
+pub returns-then-is_some : goal.returns-then-is_some
+returns-then-is_some c =
+    λ h e. local-used h c.args.k e c.args.scaling c.local_named.ensures (there _ (sym c.is_some.ensures ∙ c.if-is_some.true)).1
 
 pub listed-requires : goal.listed-requires
 listed-requires c =
     record { reach = reach-variables c.requires.0.world c.args.lists.variables (omega arith); k_in_bounds = name-inside c.requires.0.world c.args.k c.requires.1 }
 
-pub returns-in_default-listed : goal.returns-in_default-listed
-returns-in_default-listed c =
-    λ h e. not_listed h c.args.k e c.args.scaling c.local_named.ensures c.in_default.is c.listed.ensures c.in_default-listed.is
+pub returns-in_default : goal.returns-in_default
+returns-in_default c =
+    λ h e. not_listed h c.args.k e c.args.scaling c.local_named.ensures (absent _ (sym c.is_some.ensures ∙ c.if-is_some.false)) c.listed.ensures c.in_default.is
 
 pub returns-then-scaling : goal.returns-then-scaling
+unfolding least when
 returns-then-scaling c =
-    λ h e. any-scale h c.args.k e c.args.scaling c.local_named.ensures c.in_default.is c.listed.ensures c.in-At-listed.is c.if-scaling.true
+    λ h e. elim c.then-scaling.branch [
+      | then-scaling-via-then-scaling w ↦ any-scale h c.args.k e c.args.scaling c.local_named.ensures (absent _ (sym c.is_some.ensures ∙ c.if-is_some.false)) c.listed.ensures c.in-Some.is w.if-scaling.true
+      | then-scaling-via-else-scaling+then-is_whole w ↦ whole-variable h c.args.k e c.args.scaling c.local_named.ensures (absent _ (sym c.is_some.ensures ∙ c.if-is_some.false)) c.listed.ensures c.in-Some.is w.if-scaling.false w.kind_of.result (w.kind_of.ensures ∙ ap (λ (l : ℕ). kind_of (get_or c.args.nodes.now l 0)) w.left_of.ensures) true (sym w.is_whole.ensures ∙ w.if-is_whole.true)
+    ]
 
 pub overflow_sub-root : goal.overflow_sub-root
 overflow_sub-root c =
-    omega (arith, (listed-inside c.requires.0 c.args.k c.requires.1 c.args.scaling c.local_named.ensures c.in_default.is c.listed.ensures c.in-At-listed.is).0)
+    omega (arith, (listed-inside c.requires.0 c.args.k c.requires.1 c.args.scaling c.local_named.ensures (absent _ (sym c.is_some.ensures ∙ c.if-is_some.false)) c.listed.ensures c.in-Some.is).0)
 
 pub offset_bounds-nodes-root : goal.offset_bounds-nodes-root
 offset_bounds-nodes-root c =
-    omega (arith, (listed-inside c.requires.0 c.args.k c.requires.1 c.args.scaling c.local_named.ensures c.in_default.is c.listed.ensures c.in-At-listed.is).1)
+    omega (arith, (listed-inside c.requires.0 c.args.k c.requires.1 c.args.scaling c.local_named.ensures (absent _ (sym c.is_some.ensures ∙ c.if-is_some.false)) c.listed.ensures c.in-Some.is).1)
 
 pub bounds-nodes-root : goal.bounds-nodes-root
 bounds-nodes-root c =
-    (listed-inside c.requires.0 c.args.k c.requires.1 c.args.scaling c.local_named.ensures c.in_default.is c.listed.ensures c.in-At-listed.is).1
+    (listed-inside c.requires.0 c.args.k c.requires.1 c.args.scaling c.local_named.ensures (absent _ (sym c.is_some.ensures ∙ c.if-is_some.false)) c.listed.ensures c.in-Some.is).1
 
 pub offset_bounds-nodes-left_of : goal.offset_bounds-nodes-left_of
 offset_bounds-nodes-left_of c =
-    omega (arith, c.left_of.ensures, (listed-inside c.requires.0 c.args.k c.requires.1 c.args.scaling c.local_named.ensures c.in_default.is c.listed.ensures c.in-At-listed.is).2)
+    omega (arith, c.left_of.ensures, (listed-inside c.requires.0 c.args.k c.requires.1 c.args.scaling c.local_named.ensures (absent _ (sym c.is_some.ensures ∙ c.if-is_some.false)) c.listed.ensures c.in-Some.is).2)
 
 pub bounds-nodes-left_of : goal.bounds-nodes-left_of
 bounds-nodes-left_of c =
-    rw c.left_of.ensures (listed-inside c.requires.0 c.args.k c.requires.1 c.args.scaling c.local_named.ensures c.in_default.is c.listed.ensures c.in-At-listed.is).2
-
-pub returns-then-is_whole : goal.returns-then-is_whole
-unfolding least when
-returns-then-is_whole c =
-    λ h e. whole-variable h c.args.k e c.args.scaling c.local_named.ensures c.in_default.is c.listed.ensures c.in-At-listed.is c.if-scaling.false c.kind_of.result (c.kind_of.ensures ∙ ap (λ (l : ℕ). kind_of (get_or c.args.nodes.now l 0)) c.left_of.ensures) true (sym c.is_whole.ensures ∙ c.if-is_whole.true)
+    rw c.left_of.ensures (listed-inside c.requires.0 c.args.k c.requires.1 c.args.scaling c.local_named.ensures (absent _ (sym c.is_some.ensures ∙ c.if-is_some.false)) c.listed.ensures c.in-Some.is).2
 
 pub returns : goal.returns
 unfolding least when earlier
 returns c =
-    λ h e. whole-variable h c.args.k e c.args.scaling c.local_named.ensures c.in_default.is c.listed.ensures c.in-At-listed.is c.if-scaling.false c.kind_of.result (c.kind_of.ensures ∙ ap (λ (l : ℕ). kind_of (get_or c.args.nodes.now l 0)) c.left_of.ensures) false (sym c.is_whole.ensures ∙ c.if-is_whole.false)
+    λ h e. whole-variable h c.args.k e c.args.scaling c.local_named.ensures (absent _ (sym c.is_some.ensures ∙ c.if-is_some.false)) c.listed.ensures c.in-Some.is c.if-scaling.false c.kind_of.result (c.kind_of.ensures ∙ ap (λ (l : ℕ). kind_of (get_or c.args.nodes.now l 0)) c.left_of.ensures) false (sym c.is_whole.ensures ∙ c.if-is_whole.false)

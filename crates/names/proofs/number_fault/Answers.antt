@@ -1,5 +1,6 @@
 -- `names::number_fault` meets its contract: by the kind of the node.
 use Rattle.names.proofs.Judges.{plain-sort, negated-sort, plain-number, negated-number, no_number}
+use native.Mathlib.Omega.{arith}
 use Rattle.names.proofs.number_fault.Goals as goal
 
 pub whole_fault-requires : goal.whole_fault-requires
@@ -20,4 +21,4 @@ returns-in-2 c =
 
 pub returns-in_default : goal.returns-in_default
 returns-in_default c =
-    λ w sc h. no_number c.args.kind c.args.k w sc c.in_default.in_default-own.rest.0.1 c.in_default.in_default-own.rest.1
+    λ w sc h. no_number c.args.kind c.args.k w sc (λ e. omega arith) (λ e. omega arith)

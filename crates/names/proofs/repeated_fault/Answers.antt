@@ -7,11 +7,7 @@ use Rattle.names.proofs.repeated_fault.Goals as goal
 pub loop-j-init : goal.loop-j-init
 unfolding every_other
 loop-j-init c =
-    (omega arith, extended_none c.args.scope c.requires.0.0.scoped.full (omega (arith, c.requires.1)), repeated-none c.args.low.now c.args.high.now c.args.nodes.now c.args.lists c.args.scope c.args.first c.args.n)
-
-pub overflow_mul-k : goal.overflow_mul-k
-overflow_mul-k c =
-    omega (arith, every-inside c.requires.0.0.world.kinds c.args.first c.args.n c.requires.0.1 (omega arith), c.requires.0.0.world.few)
+    (extended_none c.args.scope c.requires.0.0.scoped.full (omega (arith, c.requires.1)), repeated-none c.args.low.now c.args.high.now c.args.nodes.now c.args.lists c.args.scope c.args.first c.args.n)
 
 pub overflow_add-k : goal.overflow_add-k
 overflow_add-k c =
@@ -19,16 +15,16 @@ overflow_add-k c =
 
 pub taken_fault-requires : goal.taken_fault-requires
 taken_fault-requires c =
-    seen-setting c.args.low.now c.args.high.now c.args.nodes.now c.args.lists c.args.scope c.args.first c.args.n (omega arith) c.loop-j.invariant.1 c.requires.1 c.requires.0.0 c.requires.0.1
+    seen-setting c.args.low.now c.args.high.now c.args.nodes.now c.args.lists c.args.scope c.args.first c.args.n (omega arith) c.loop-j.invariant.0 c.requires.1 c.requires.0.0 c.requires.0.1
 
 pub with_local-seen-requires : goal.with_local-seen-requires
 with_local-seen-requires c =
-    (c.loop-j.invariant.1.full, omega (arith, c.loop-j.invariant.1.count), omega (arith, every-inside c.requires.0.0.world.kinds c.args.first c.args.n c.requires.0.1 (omega arith), c.requires.0.0.world.few))
+    (c.loop-j.invariant.0.full, omega (arith, c.loop-j.invariant.0.count), omega (arith, every-inside c.requires.0.0.world.kinds c.args.first c.args.n c.requires.0.1 (omega arith), c.requires.0.0.world.few))
 
 pub loop-j-preserved : goal.loop-j-preserved
 loop-j-preserved c =
-    (omega arith, rw (every_more c.args.first c.loop-j.j) (extended-more c.loop-j.invariant.1 c.with_local-seen.ensures), repeated-on c.args.low.now c.args.high.now c.args.nodes.now c.args.lists c.args.scope c.args.first c.args.n (omega arith) c.loop-j.invariant.1 c.requires.1 c.loop-j.found c.taken_fault.ensures c.earlier-found.ensures c.loop-j.invariant.2)
+    (rw (every_more c.args.first c.loop-j.j) (extended-more c.loop-j.invariant.0 c.with_local-seen.ensures), repeated-on c.args.low.now c.args.high.now c.args.nodes.now c.args.lists c.args.scope c.args.first c.args.n (omega arith) c.loop-j.invariant.0 c.requires.1 c.loop-j.found c.taken_fault.ensures c.earlier-found.ensures c.loop-j.invariant.1)
 
 pub returns : goal.returns
 returns c =
-    repeated-end c.args.low.now c.args.high.now c.args.nodes.now c.args.lists c.args.scope c.args.first c.args.n (omega arith) c.loop-j.invariant.2
+    repeated-end c.args.low.now c.args.high.now c.args.nodes.now c.args.lists c.args.scope c.args.first c.args.n (omega arith) c.loop-j.invariant.1

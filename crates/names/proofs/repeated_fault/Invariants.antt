@@ -1,12 +1,8 @@
 -- The loop's invariant: the scope has the first j names more, and what was found and what is still to be judged give the answer for all the names.
-use Prim.Native.Nat.{◌-◌, ◌≤◌}
 use Rattle.model.specs.Lists.{every_other}
 use Rattle.names.specs.Settings.{Extended}
 use Rattle.names.proofs.Repeats.{Onward}
 use Rattle.names.proofs.repeated_fault.Given as goal
 
 abbrev pub invariant-loop-j : goal.invariant-loop-j
-invariant-loop-j l = (l.j ≤ l.n) × Extended l.initial.seen (every_other l.first l.j) l.seen × Onward l.low l.high l.nodes l.lists l.initial.seen l.first l.n l.found l.j
-
-abbrev pub decreases-loop-j : goal.decreases-loop-j
-decreases-loop-j l = l.n - l.j
+invariant-loop-j l = Extended l.initial.seen (every_other l.first l.j) l.seen × Onward l.low l.high l.nodes l.lists l.initial.seen l.first l.n l.found l.j

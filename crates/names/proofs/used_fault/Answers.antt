@@ -1,6 +1,7 @@
 -- `names::used_fault` meets its contract: by the kind of the node.
 use mathlib.Core.Logic.{inl, inr}
 use Rattle.names.proofs.Judges.{name-sort, value-used, scale-used, not-used}
+use native.Mathlib.Omega.{arith}
 use Rattle.names.proofs.used_fault.Goals as goal
 
 pub name_fault-requires : goal.name_fault-requires
@@ -21,4 +22,4 @@ returns-in-33 c =
 
 pub returns-in_default : goal.returns-in_default
 returns-in_default c =
-    λ h n. not-used c.args.kind c.args.k h c.in_default.in_default-own.rest.0.1 c.in_default.in_default-own.rest.1
+    λ h n. not-used c.args.kind c.args.k h (λ e. omega arith) (λ e. omega arith)

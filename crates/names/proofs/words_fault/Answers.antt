@@ -1,12 +1,11 @@
 use mathlib.Core.Path.{refl, sym, ◌∙◌}
 use native.Mathlib.Omega.{arith}
-use borrow.Author.Rules.{rules}
 use Rattle.names.proofs.Beyond.{kind-inside, low-inside, high-inside, words-here, words-on, words-end}
 use Rattle.names.proofs.words_fault.Goals as goal
 
 pub loop-i-init : goal.loop-i-init
 loop-i-init c =
-    (search rules, λ text h. refl)
+    λ text h. refl
 
 pub bounds-kinds-i : goal.bounds-kinds-i
 bounds-kinds-i c =
@@ -30,12 +29,12 @@ bounds-high-i c =
 
 pub returns-then-is_left_out : goal.returns-then-is_left_out
 returns-then-is_left_out c =
-    λ text h. words-here h c.loop-i.i (omega arith) c.is_left_out.result c.is_left_out.ensures c.if-is_left_out.true ∙ sym (c.loop-i.invariant.1 text h)
+    λ text h. words-here h c.loop-i.i (omega arith) c.is_left_out.result c.is_left_out.ensures c.if-is_left_out.true ∙ sym (c.loop-i.invariant text h)
 
 pub loop-i-preserved : goal.loop-i-preserved
 loop-i-preserved c =
-    (omega arith, λ text h. c.loop-i.invariant.1 text h ∙ words-on h c.loop-i.i (omega arith) c.is_left_out.result c.is_left_out.ensures c.if-is_left_out.false)
+    λ text h. c.loop-i.invariant text h ∙ words-on h c.loop-i.i (omega arith) c.is_left_out.result c.is_left_out.ensures c.if-is_left_out.false
 
 pub returns : goal.returns
 returns c =
-    λ text h. words-end h c.loop-i.i (omega arith) ∙ sym (c.loop-i.invariant.1 text h)
+    λ text h. words-end h c.loop-i.i (omega arith) ∙ sym (c.loop-i.invariant text h)

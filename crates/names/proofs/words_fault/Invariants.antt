@@ -1,7 +1,7 @@
 -- The loop's invariant: no token before i is beyond a limit, so that the answer is that of the tokens from i on.
 use mathlib.Core.Path.{◌≡◌}
 use mathlib.Core.List.{List}
-use Prim.Native.Nat.{ℕ, ◌-◌, ◌≤◌}
+use Prim.Native.Nat.{ℕ}
 use lib.ListN.{drop}
 use Rattle.token.specs.Token.{tokens}
 use Rattle.model.specs.Lists.{least}
@@ -10,7 +10,4 @@ use Rattle.names.specs.Tables.{Tabled}
 use Rattle.names.proofs.words_fault.Given as goal
 
 abbrev pub invariant-loop-i : goal.invariant-loop-i
-invariant-loop-i l = (l.i ≤ l.n) × ((text : List ℕ) → Tabled text l.kinds l.low l.high l.n → least (words_beyond text 0 (tokens text)) ≡ least (words_beyond text l.i (drop l.i (tokens text))))
-
-abbrev pub decreases-loop-i : goal.decreases-loop-i
-decreases-loop-i l = l.n - l.i
+invariant-loop-i l = ((text : List ℕ) → Tabled text l.kinds l.low l.high l.n → least (words_beyond text 0 (tokens text)) ≡ least (words_beyond text l.i (drop l.i (tokens text))))

@@ -11,10 +11,6 @@ pub bounds-places-k : goal.bounds-places-k
 bounds-places-k c =
     place_inside c.requires c.args.k c.if-k-n.true
 
-pub overflow_cast-result : goal.overflow_cast-result
-overflow_cast-result c =
-    omega (arith, c.shared_slice_known-1.given c.args.k)
-
 pub returns-then-k-n : goal.returns-then-k-n
 returns-then-k-n c =
     place_here c.requires c.args.k c.if-k-n.true

@@ -1,15 +1,6 @@
 -- A case for each return, from Models.antt: 10 is asked of the model.
-use native.Mathlib.Omega.{arith}
 use Rattle.opening.proofs.Models.{countable, many-no, few-yes}
 use Rattle.opening.proofs.judge_start.Goals as goal
-
-pub overflow_sub-first : goal.overflow_sub-first
-overflow_sub-first c =
-    omega (arith, c.requires.3.rooted)
-
-pub overflow_sub-line : goal.overflow_sub-line
-overflow_sub-line c =
-    omega (arith, c.requires.3.rooted)
 
 pub start_count-count-requires : goal.start_count-count-requires
 start_count-count-requires c =

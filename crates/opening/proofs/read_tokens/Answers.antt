@@ -28,22 +28,22 @@ pub byte_place-requires : goal.byte_place-requires
 byte_place-requires c =
     filled-placed c.fill-n.ensures
 
-pub byte_place-requires-in-Crowded : goal.byte_place-requires-in-Crowded
-byte_place-requires-in-Crowded c =
+pub byte_place-requires-in-Err-Crowded : goal.byte_place-requires-in-Err-Crowded
+byte_place-requires-in-Err-Crowded c =
     filled-placed c.fill-n.ensures
 
 pub contents-requires : goal.contents-requires
 contents-requires c =
-    let n = fit-few c.fill-n.ensures _ _ c.judge_text-asked.ensures c.in-Passed.is in record { held = filled-held c.fill-n.ensures; n_in_bounds = (omega (arith, c.requires.room), omega (arith, c.requires.room)) }
+    let n = fit-few c.fill-n.ensures _ _ c.judge_text-asked.ensures c.in-Ok.is in record { held = filled-held c.fill-n.ensures; n_in_bounds = (omega (arith, c.requires.room), omega (arith, c.requires.room)) }
 
-pub returns-in-Misfit : goal.returns-in-Misfit
-returns-in-Misfit c =
-    record { tree_read = misfit-no c.fill-n.ensures _ _ c.judge_text-asked.ensures c.requires.value _ _ c.in-Misfit.is c.byte_place.ensures; marked = filled-marked c.fill-n.ensures }
+pub returns-in-Err-Misfit : goal.returns-in-Err-Misfit
+returns-in-Err-Misfit c =
+    record { tree_read = misfit-no c.fill-n.ensures _ _ c.judge_text-asked.ensures c.requires.value _ _ c.in-Err-Misfit.is (rw c.in-Err-Misfit.is at c.in-Err-Misfit.field-0-is) c.byte_place.ensures; marked = filled-marked c.fill-n.ensures }
 
-pub returns-in-Crowded : goal.returns-in-Crowded
-returns-in-Crowded c =
-    record { tree_read = crowded-no c.fill-n.ensures _ _ c.judge_text-asked.ensures c.requires.value _ _ c.in-Crowded.is c.byte_place-in-Crowded.ensures; marked = filled-marked c.fill-n.ensures }
+pub returns-in-Err-Crowded : goal.returns-in-Err-Crowded
+returns-in-Err-Crowded c =
+    record { tree_read = crowded-no c.fill-n.ensures _ _ c.judge_text-asked.ensures c.requires.value _ _ c.in-Err-Crowded.is (rw c.in-Err-Crowded.is at c.in-Err-Crowded.field-0-is) c.byte_place-in-Err-Crowded.ensures; marked = filled-marked c.fill-n.ensures }
 
-pub returns-in-Passed : goal.returns-in-Passed
-returns-in-Passed c =
-    record { tree_read = fits-yes c.fill-n.ensures _ _ c.judge_text-asked.ensures c.requires.value (omega (arith, c.requires.room)) c.in-Passed.is c.contents.ensures; marked = filled-marked c.fill-n.ensures }
+pub returns-in-Ok : goal.returns-in-Ok
+returns-in-Ok c =
+    record { tree_read = fits-yes c.fill-n.ensures _ _ c.judge_text-asked.ensures c.requires.value (omega (arith, c.requires.room)) c.in-Ok.is c.contents.ensures; marked = filled-marked c.fill-n.ensures }

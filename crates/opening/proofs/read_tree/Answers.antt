@@ -1,17 +1,19 @@
 -- A case for each return: the bytes are refused, or the tokens are read.
-use mathlib.Core.Path.{sym, ◌∙◌}
+use Rattle.std.proofs.lemmas.Result.{err_from_is_err_and}
 use Rattle.opening.proofs.Trees.{bytes-no}
 use Rattle.opening.proofs.Marked.{tree-unmarked, tree-marked}
 use Rattle.opening.proofs.read_tree.Goals as goal
 
-pub read_tokens-requires : goal.read_tokens-requires
-read_tokens-requires c =
-    record { value = sym c.in-Passed.is ∙ c.judge_bytes-judged.ensures; room = c.requires }
+pub returns-in_err-judge_bytes-clause-tree_read : goal.returns-in_err-judge_bytes-clause-tree_read
+returns-in_err-judge_bytes-clause-tree_read c =
+    let p = err_from_is_err_and c.from_residual.result c.from_residual.ensures.1 in
+    rw (p.1, p.2) (bytes-no _ _ _ _ _ _ c.judge_bytes.ensures c.in_err-judge_bytes.was)
 
-pub returns-in-Refused : goal.returns-in-Refused
-returns-in-Refused c =
-    record { tree_read = bytes-no _ _ _ _ _ _ c.judge_bytes-judged.ensures c.in-Refused.is; tree_marked = tree-unmarked _ _ _ _ _ _ _ }
+pub returns-in_err-judge_bytes-clause-tree_marked : goal.returns-in_err-judge_bytes-clause-tree_marked
+returns-in_err-judge_bytes-clause-tree_marked c =
+    let p = err_from_is_err_and c.from_residual.result c.from_residual.ensures.1 in
+    rw p.1 (tree-unmarked _ _ _ _ _ _)
 
-pub returns-in-Passed : goal.returns-in-Passed
-returns-in-Passed c =
+pub returns : goal.returns
+returns c =
     record { tree_read = c.read_tokens.ensures.tree_read; tree_marked = tree-marked _ c.read_tokens.ensures.marked }

@@ -1,13 +1,13 @@
-use Rattle.settle.proofs.Finds.{variables-reach, in_tables, not_named, named-inside, named-number}
+use Rattle.settle.proofs.Finds.{variables-reach, not_named, named-inside, named-number}
 use mathlib.Core.Path.{ap}
 use Prim.Native.Nat.{ℕ}
 use native.Mathlib.Omega.{arith}
 use lib.ListN.{get_or}
 use Rattle.settle.proofs.number_named.Goals as goal
 
-pub listed-requires : goal.listed-requires
-listed-requires c =
-    record { reach = variables-reach c.requires.0; k_in_bounds = in_tables c.requires.0 c.args.k c.requires.1 }
+pub listed-requires-clause-reach : goal.listed-requires-clause-reach
+listed-requires-clause-reach c =
+    variables-reach c.requires.0
 
 pub returns-in_default : goal.returns-in_default
 returns-in_default c =
@@ -15,24 +15,20 @@ returns-in_default c =
 
 pub overflow_sub-root : goal.overflow_sub-root
 overflow_sub-root c =
-    omega (arith, (named-inside c.requires.0 c.args.k c.requires.1 c.listed.ensures c.in-At.is).0)
-
-pub offset_bounds-nodes-root : goal.offset_bounds-nodes-root
-offset_bounds-nodes-root c =
-    omega (arith, (named-inside c.requires.0 c.args.k c.requires.1 c.listed.ensures c.in-At.is).1)
+    omega (arith, (named-inside c.requires.0 c.args.k c.requires.1 c.listed.ensures c.in-Some.is).0)
 
 pub bounds-nodes-root : goal.bounds-nodes-root
 bounds-nodes-root c =
-    (named-inside c.requires.0 c.args.k c.requires.1 c.listed.ensures c.in-At.is).1
+    (named-inside c.requires.0 c.args.k c.requires.1 c.listed.ensures c.in-Some.is).1
 
 pub offset_bounds-nodes-left_of : goal.offset_bounds-nodes-left_of
 offset_bounds-nodes-left_of c =
-    omega (arith, c.left_of.ensures, (named-inside c.requires.0 c.args.k c.requires.1 c.listed.ensures c.in-At.is).2)
+    omega (arith, c.left_of.ensures, (named-inside c.requires.0 c.args.k c.requires.1 c.listed.ensures c.in-Some.is).2)
 
 pub bounds-nodes-left_of : goal.bounds-nodes-left_of
 bounds-nodes-left_of c =
-    rw c.left_of.ensures (named-inside c.requires.0 c.args.k c.requires.1 c.listed.ensures c.in-At.is).2
+    rw c.left_of.ensures (named-inside c.requires.0 c.args.k c.requires.1 c.listed.ensures c.in-Some.is).2
 
 pub returns : goal.returns
 returns c =
-    λ h e. named-number h c.args.k e c.listed.ensures c.in-At.is _ (ap (λ (i : ℕ). get_or c.args.nodes.now i 0) c.left_of.ensures)
+    λ h e. named-number h c.args.k e c.listed.ensures c.in-Some.is _ (ap (λ (i : ℕ). get_or c.args.nodes.now i 0) c.left_of.ensures)

@@ -8,7 +8,7 @@ use Rattle.settle.proofs.parameters_of.Goals as goal
 
 pub returns-then-lists-d : goal.returns-then-lists-d
 returns-then-lists-d c =
-    λ a b h. no-parameters h c.args.d _ (omega arith) refl refl
+    λ a b h. no-parameters h c.args.d _ (omega arith) c.no_locals-none.ensures.0 c.no_locals-none.ensures.1
 
 pub overflow_sub-at : goal.overflow_sub-at
 overflow_sub-at c =
@@ -17,10 +17,6 @@ overflow_sub-at c =
 pub overflow_sub-at-2 : goal.overflow_sub-at-2
 overflow_sub-at-2 c =
     omega (arith, (parameters-inside c.requires.2 c.args.d (omega arith)).1)
-
-pub offset_bounds-nodes-at : goal.offset_bounds-nodes-at
-offset_bounds-nodes-at c =
-    omega (arith, (parameters-inside c.requires.2 c.args.d (omega arith)).2)
 
 pub bounds-nodes-at : goal.bounds-nodes-at
 bounds-nodes-at c =
@@ -40,8 +36,8 @@ overflow_add-token_of c =
 
 pub with_locals-requires : goal.with_locals-requires
 with_locals-requires c =
-    (refl, omega arith, omega (arith, c.token_of.ensures, c.third_of.ensures, ap (λ (i : ℕ). token_of (get_or c.args.nodes.now i 0)) c.left_of.ensures, ap (λ (i : ℕ). third_of (get_or c.args.nodes.now i 0)) c.left_of.ensures, parameters-room c.requires.2 c.args.d (omega arith) (get_or c.args.nodes.now (left_of (get_or c.args.nodes.now (c.args.lists.root - c.args.lists.variables - c.args.d) 0)) 0) refl))
+    (c.no_locals-none.ensures.0, omega (arith, c.no_locals-none.ensures.1), omega (arith, c.token_of.ensures, c.third_of.ensures, ap (λ (i : ℕ). token_of (get_or c.args.nodes.now i 0)) c.left_of.ensures, ap (λ (i : ℕ). third_of (get_or c.args.nodes.now i 0)) c.left_of.ensures, parameters-room c.requires.2 c.args.d (omega arith) (get_or c.args.nodes.now (left_of (get_or c.args.nodes.now (c.args.lists.root - c.args.lists.variables - c.args.d) 0)) 0) refl))
 
 pub returns : goal.returns
 returns c =
-    λ a b h. with-parameters h c.args.d (omega arith) (get_or c.args.nodes.now (left_of (get_or c.args.nodes.now (c.args.lists.root - c.args.lists.variables - c.args.d) 0)) 0) refl _ _ refl (rw (c.token_of.ensures, c.third_of.ensures, c.left_of.ensures) at c.with_locals.ensures)
+    λ a b h. with-parameters h c.args.d (omega arith) (get_or c.args.nodes.now (left_of (get_or c.args.nodes.now (c.args.lists.root - c.args.lists.variables - c.args.d) 0)) 0) refl _ _ c.no_locals-none.ensures.1 (rw (c.token_of.ensures, c.third_of.ensures, c.left_of.ensures) at c.with_locals.ensures)

@@ -1,11 +1,9 @@
-use Rattle.settle.proofs.Resolving.{standing, progressed, look, starting, line-inside, model-there, root-same, resolvable, settled-so}
+use Rattle.settle.proofs.Resolving.{standing, progressed, look, starting, line-inside, root-same, resolvable, settled-so}
 use mathlib.Core.Path.{refl}
 use native.Mathlib.Omega.{arith}
+use Rattle.settle.specs.Places.{Resolvable}
+use Prim.Native.Nat.{◌+◌}
 use Rattle.settle.proofs.settle.Goals as goal
-
-pub lists_of-lists-requires : goal.lists_of-lists-requires
-lists_of-lists-requires c =
-    model-there c.requires.2 c.args.root c.requires.1
 
 pub overflow_sub-line : goal.overflow_sub-line
 overflow_sub-line c =
@@ -21,40 +19,26 @@ parameters_of-scope-requires c =
 
 pub loop-i-init : goal.loop-i-init
 loop-i-init c =
-    (omega arith, omega (arith, (line-inside (resolvable c.requires.2 c.args.root c.requires.1 c.lists_of-lists.result c.lists_of-lists.ensures)).2, root-same c.requires.2 c.args.root c.requires.1 c.lists_of-lists.result c.lists_of-lists.ensures), λ h. starting h _ c.parameters_of-scope.ensures refl refl refl)
+    (omega (arith, (line-inside (resolvable c.requires.2 c.args.root c.requires.1 c.lists_of-lists.result c.lists_of-lists.ensures)).2, root-same c.requires.2 c.args.root c.requires.1 c.lists_of-lists.result c.lists_of-lists.ensures), λ h. starting h _ c.parameters_of-scope.ensures refl refl refl)
 
 pub settle_node-walk-requires : goal.settle_node-walk-requires
 settle_node-walk-requires c =
-    standing (resolvable c.requires.2 c.args.root c.requires.1 c.lists_of-lists.result c.lists_of-lists.ensures) _ _ _ _ _ _ c.loop-i.invariant.0 (omega (arith, root-same c.requires.2 c.args.root c.requires.1 c.lists_of-lists.result c.lists_of-lists.ensures)) (c.loop-i.invariant.2 (resolvable c.requires.2 c.args.root c.requires.1 c.lists_of-lists.result c.lists_of-lists.ensures))
-
-pub overflow_add-i : goal.overflow_add-i
-overflow_add-i c =
-    omega (arith, (resolvable c.requires.2 c.args.root c.requires.1 c.lists_of-lists.result c.lists_of-lists.ensures).base.room, root-same c.requires.2 c.args.root c.requires.1 c.lists_of-lists.result c.lists_of-lists.ensures)
-
-pub loop-i-smaller : goal.loop-i-smaller
-loop-i-smaller c =
-    omega arith
+    standing (resolvable c.requires.2 c.args.root c.requires.1 c.lists_of-lists.result c.lists_of-lists.ensures) _ _ _ _ _ _ c.loop-i.auto.i (omega (arith, root-same c.requires.2 c.args.root c.requires.1 c.lists_of-lists.result c.lists_of-lists.ensures)) (c.loop-i.invariant.1 (resolvable c.requires.2 c.args.root c.requires.1 c.lists_of-lists.result c.lists_of-lists.ensures))
 
 pub loop-i-preserved : goal.loop-i-preserved
 loop-i-preserved c =
-    (omega (arith, c.loop-i.invariant.0), omega arith, λ h. progressed h _ _ _ _ _ _ _ _ _ _ _ c.loop-i.invariant.0 (omega (arith, root-same c.requires.2 c.args.root c.requires.1 c.lists_of-lists.result c.lists_of-lists.ensures)) (c.loop-i.invariant.2 h) c.settle_node-walk.ensures)
-
-pub shape_of-nodes : goal.shape_of-nodes
-shape_of-nodes c =
-    (c.loop-i.invariant.2 (resolvable c.requires.2 c.args.root c.requires.1 c.lists_of-lists.result c.lists_of-lists.ensures)).size
-
-pub shape_of-roots : goal.shape_of-roots
-shape_of-roots c =
-    (c.loop-i.invariant.2 (resolvable c.requires.2 c.args.root c.requires.1 c.lists_of-lists.result c.lists_of-lists.ensures)).roots-size
-
-pub shape_of-scopes : goal.shape_of-scopes
-shape_of-scopes c =
-    (c.loop-i.invariant.2 (resolvable c.requires.2 c.args.root c.requires.1 c.lists_of-lists.result c.lists_of-lists.ensures)).scopes-size
-
-pub shape_of-heard : goal.shape_of-heard
-shape_of-heard c =
-    (c.loop-i.invariant.2 (resolvable c.requires.2 c.args.root c.requires.1 c.lists_of-lists.result c.lists_of-lists.ensures)).heard-size
+    (omega arith, λ h. progressed h _ _ _ _ _ _ _ _ _ _ _ c.loop-i.auto.i (omega (arith, root-same c.requires.2 c.args.root c.requires.1 c.lists_of-lists.result c.lists_of-lists.ensures)) (c.loop-i.invariant.1 h) c.settle_node-walk.ensures)
 
 pub returns : goal.returns
 returns c =
-    let inside = line-inside (resolvable c.requires.2 c.args.root c.requires.1 c.lists_of-lists.result c.lists_of-lists.ensures) in record { represents = λ l h q. (settled-so h c.args.root q c.lists_of-lists.result c.lists_of-lists.ensures _ _ _ _ _ _ _ refl (omega arith) c.loop-i.invariant.1 c.loop-i.invariant.2).0; definitions_bound = omega (arith, inside.0, inside.1, root-same c.requires.2 c.args.root c.requires.1 c.lists_of-lists.result c.lists_of-lists.ensures); settles = λ l h q. (settled-so h c.args.root q c.lists_of-lists.result c.lists_of-lists.ensures _ _ _ _ _ _ _ refl (omega arith) c.loop-i.invariant.1 c.loop-i.invariant.2).1 }
+    let inside = line-inside (resolvable c.requires.2 c.args.root c.requires.1 c.lists_of-lists.result c.lists_of-lists.ensures) in record { represents = λ l h q. (settled-so h c.args.root q c.lists_of-lists.result c.lists_of-lists.ensures _ _ _ _ _ _ _ refl (omega arith) c.loop-i.invariant.0 c.loop-i.invariant.1).0; definitions_bound = omega (arith, inside.0, inside.1, root-same c.requires.2 c.args.root c.requires.1 c.lists_of-lists.result c.lists_of-lists.ensures); settles = λ l h q. (settled-so h c.args.root q c.lists_of-lists.result c.lists_of-lists.ensures _ _ _ _ _ _ _ refl (omega arith) c.loop-i.invariant.0 c.loop-i.invariant.1).1 }
+
+pub returns-2 : goal.returns-2
+returns-2 c =
+    let inside = line-inside (resolvable c.requires.2 c.args.root c.requires.1 c.lists_of-lists.result c.lists_of-lists.ensures) in
+    let next = λ (h : Resolvable c.args.low.now c.args.high.now c.args.nodes.now c.args.roots.now c.args.scopes.now c.args.heard.now c.lists_of-lists.result). progressed h _ _ _ _ _ c.settle_node-walk.new.nodes c.settle_node-walk.new.roots c.settle_node-walk.new.scopes c.settle_node-walk.new.heard _ c.settle_node-walk.result c.loop-i.auto.i (omega (arith, root-same c.requires.2 c.args.root c.requires.1 c.lists_of-lists.result c.lists_of-lists.ensures)) (c.loop-i.invariant.1 h) c.settle_node-walk.ensures in
+    record {
+      represents = λ l h q. (settled-so h c.args.root q c.lists_of-lists.result c.lists_of-lists.ensures _ _ _ _ _ (c.loop-i.i + 1) _ refl (omega arith) (omega arith) next).0;
+      definitions_bound = omega (arith, inside.0, inside.1, root-same c.requires.2 c.args.root c.requires.1 c.lists_of-lists.result c.lists_of-lists.ensures);
+      settles = λ l h q. (settled-so h c.args.root q c.lists_of-lists.result c.lists_of-lists.ensures _ _ _ _ _ (c.loop-i.i + 1) _ refl (omega arith) (omega arith) next).1;
+    }

@@ -1,11 +1,8 @@
 use Rattle.settle.specs.Places.{Resolvable}
 use Rattle.settle.proofs.Resolving.{Progress}
-use Prim.Native.Nat.{◌+◌, ◌-◌, ◌≤◌}
+use Prim.Native.Nat.{◌+◌, ◌≤◌}
 use Rattle.settle.proofs.settle.Given as goal
 
 abbrev pub invariant-loop-i : goal.invariant-loop-i
 invariant-loop-i l =
-    (l.lists.variables ≤ l.i) × (l.i ≤ l.line + 1) × ((h : Resolvable l.low l.high l.initial.nodes l.initial.roots l.initial.scopes l.initial.heard l.lists) → Progress h l.i l.nodes l.roots l.scopes l.heard l.walk)
-
-abbrev pub decreases-loop-i : goal.decreases-loop-i
-decreases-loop-i l = l.line + 1 - l.i
+    (l.i ≤ l.line + 1) × ((h : Resolvable l.low l.high l.initial.nodes l.initial.roots l.initial.scopes l.initial.heard l.lists) → Progress h l.i l.nodes l.roots l.scopes l.heard l.walk)

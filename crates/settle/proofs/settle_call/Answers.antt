@@ -8,14 +8,6 @@ use native.Mathlib.Omega.{arith}
 use lib.ListN.{get_or, set}
 use Rattle.settle.proofs.settle_call.Goals as goal
 
-pub offset_bounds-nodes-i : goal.offset_bounds-nodes-i
-offset_bounds-nodes-i c =
-    omega (arith, c.requires.inside)
-
-pub bounds-nodes-i : goal.bounds-nodes-i
-bounds-nodes-i c =
-    c.requires.inside
-
 pub definition_named-d-requires : goal.definition_named-d-requires
 definition_named-d-requires c =
     (c.requires.at, rw c.token_of-k.ensures (calls-name c.requires))
@@ -35,10 +27,6 @@ node-requires-then-kind-lt-COUNTED c =
 pub returns-then-kind-lt-COUNTED : goal.returns-then-kind-lt-COUNTED
 returns-then-kind-lt-COUNTED c =
     λ h p. start-done h _ p (omega (arith, c.kind_of-kind.ensures)) (omega (arith, c.kind_of-kind.ensures)) (c.node-then-kind-lt-COUNTED.ensures ∙ ap₂ (λ (a b : ℕ). set c.args.nodes.now c.args.i (cell a b 1 c.third_of-third.result)) c.kind_of-kind.ensures (c.definition_named-d.ensures h.at (rw c.token_of-k.ensures (calls-name h)) ∙ ap (λ (j : ℕ). definition_of (word_in h.at) (variables_in h.at) (definitions_of h.at) j) c.token_of-k.ensures) ∙ ap (λ (b : ℕ). set c.args.nodes.now c.args.i (cell (kind_of (get_or c.args.nodes.now c.args.i 0)) (definition_of (word_in h.at) (variables_in h.at) (definitions_of h.at) (token_of (get_or c.args.nodes.now c.args.i 0))) 1 b)) c.third_of-third.ensures)
-
-pub overflow_sub-kind : goal.overflow_sub-kind
-overflow_sub-kind c =
-    omega arith
 
 pub overflow_sub-k : goal.overflow_sub-k
 overflow_sub-k c =

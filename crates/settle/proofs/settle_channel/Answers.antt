@@ -3,10 +3,6 @@ use Rattle.settle.proofs.Meets.{channel-known, channel-new, place-small}
 use native.Mathlib.Omega.{arith}
 use Rattle.settle.proofs.settle_channel.Goals as goal
 
-pub channel_place-c-requires : goal.channel_place-c-requires
-channel_place-c-requires c =
-    c.requires
-
 pub node-requires : goal.node-requires
 node-requires c =
     (place-small c.requires.1 (c.channel_place-c.ensures c.requires.0 c.requires.1), omega arith, omega arith)
@@ -14,10 +10,6 @@ node-requires c =
 pub returns-then-c-n : goal.returns-then-c-n
 returns-then-c-n c =
     λ seen g. channel-known g (c.channel_place-c.ensures seen g) _ _ _ c.node.ensures c.if-c-n.true
-
-pub overflow_add-result : goal.overflow_add-result
-overflow_add-result c =
-    let p = c.requires.1 in omega (arith, p.few)
 
 pub returns : goal.returns
 returns c =

@@ -19,15 +19,11 @@ local_named-requires c =
 
 pub node-requires : goal.node-requires
 node-requires c =
-    (omega (arith, (a-local c.requires.0 c.args.k c.requires.2 c.local_named.ensures c.in-At.is).1), omega arith, omega arith)
+    (omega (arith, (a-local c.requires.0 c.args.k c.requires.2 c.local_named.ensures c.in-Some.is).1), omega arith, omega arith)
 
-pub returns-in-At : goal.returns-in-At
-returns-in-At c =
-    λ h s e x. name-local h c.args.k e x c.args.i _ (a-local h c.args.k e c.local_named.ensures c.in-At.is).0 c.node.ensures
-
-pub number_named-number-requires : goal.number_named-number-requires
-number_named-number-requires c =
-    (c.requires.0.at, c.requires.2)
+pub returns-in-Some : goal.returns-in-Some
+returns-in-Some c =
+    λ h s e x. name-local h c.args.k e x c.args.i _ (a-local h c.args.k e c.local_named.ensures c.in-Some.is).0 c.node.ensures
 
 pub offset_bounds-low-token_of : goal.offset_bounds-low-token_of
 unfolding number_kind
@@ -43,14 +39,6 @@ pub number_cell-requires : goal.number_cell-requires
 unfolding number_kind
 number_cell-requires c =
     let g = (let m = no_local c.requires.0 c.args.k c.requires.2 c.local_named.ensures c.in_default.is in whole-named c.args.low.now (word_in c.requires.0.at) c.number_named-number.result (meaning_at c.requires.0 c.args.k) (rw m (c.number_named-number.ensures c.requires.0.at c.requires.2)) (ap (λ (κ : ℕ). eqb κ 29 || eqb κ 30) (sym c.kind_of-kind.ensures) ∙ sym c.is_whole.ensures ∙ c.if-is_whole.true)) in rw (c.token_of.ensures, g.token-is) (omega (arith, (whole_is (word_in c.requires.0.at) g.negated g.token (get_or c.args.low.now g.token 0) g.told.safe (g.told.wholes refl)).0))
-
-pub offset_bounds-nodes-i : goal.offset_bounds-nodes-i
-offset_bounds-nodes-i c =
-    omega (arith, c.requires.4)
-
-pub bounds-nodes-i : goal.bounds-nodes-i
-bounds-nodes-i c =
-    c.requires.4
 
 pub returns-then-is_whole : goal.returns-then-is_whole
 unfolding number_kind

@@ -1,11 +1,6 @@
 use Rattle.settle.proofs.Stands.{inside-nodes, name-asked, name-stepped, leaf, turn, sum-asked, node-stepped}
 use mathlib.Core.Path.{refl, sym, ◌∙◌}
-use native.Mathlib.Omega.{arith}
 use Rattle.settle.proofs.settle_node.Goals as goal
-
-pub offset_bounds-nodes-i : goal.offset_bounds-nodes-i
-offset_bounds-nodes-i c =
-    omega (arith, inside-nodes c.requires)
 
 pub bounds-nodes-i : goal.bounds-nodes-i
 bounds-nodes-i c =

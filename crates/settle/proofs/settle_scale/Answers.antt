@@ -18,15 +18,11 @@ local_named-requires c =
 
 pub node-requires : goal.node-requires
 node-requires c =
-    (omega (arith, (a-local c.requires.0 c.args.k c.requires.1 c.local_named.ensures c.in-At.is).1), omega arith, omega arith)
+    (omega (arith, (a-local c.requires.0 c.args.k c.requires.1 c.local_named.ensures c.in-Some.is).1), omega arith, omega arith)
 
-pub returns-in-At : goal.returns-in-At
-returns-in-At c =
-    λ h e g. scale-local h c.args.k c.args.i _ (a-local h c.args.k e c.local_named.ensures c.in-At.is).0 c.node.ensures
-
-pub number_named-number-requires : goal.number_named-number-requires
-number_named-number-requires c =
-    (c.requires.0.at, c.requires.1)
+pub returns-in-Some : goal.returns-in-Some
+returns-in-Some c =
+    λ h e g. scale-local h c.args.k c.args.i _ (a-local h c.args.k e c.local_named.ensures c.in-Some.is).0 c.node.ensures
 
 pub scale_cell-requires : goal.scale_cell-requires
 scale_cell-requires c =
@@ -34,14 +30,6 @@ scale_cell-requires c =
     let m = no_local h c.args.k c.requires.1 c.local_named.ensures c.in_default.is in
     let g = number-of-name c.args.low.now (word_in h.at) c.number_named-number.result (variable_named (word_in h.at) c.args.k (variables_in h.at)) (c.number_named-number.ensures h.at c.requires.1) (rw (← m) c.requires.2) in
     (word_in h.at, g.negated, g.decimal, rw (c.kind_of.ensures, c.token_of.ensures, g.token-is) g.told)
-
-pub offset_bounds-nodes-i : goal.offset_bounds-nodes-i
-offset_bounds-nodes-i c =
-    omega (arith, c.requires.3)
-
-pub bounds-nodes-i : goal.bounds-nodes-i
-bounds-nodes-i c =
-    omega (arith, c.requires.3)
 
 pub returns : goal.returns
 returns c =

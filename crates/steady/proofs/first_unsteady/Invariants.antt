@@ -1,13 +1,8 @@
 -- The loop's invariant: what was found and what is still to be judged give the answer for all the nodes.
-use mathlib.Core.Path.{◌≡◌}
-use Prim.Native.Nat.{◌+◌, ◌-◌}
 use Rattle.names.specs.declared.Question.TheVariants.{Given}
 use Rattle.names.specs.Settings.{World}
 use Rattle.steady.proofs.Faults.{Onward}
 use Rattle.steady.proofs.first_unsteady.Given as goal
 
 abbrev pub invariant-loop-i : goal.invariant-loop-i
-invariant-loop-i l = (l.root ≡ l.lists.root) × ((h : World Given l.low l.high l.nodes l.lists) → Onward h l.found l.i)
-
-abbrev pub decreases-loop-i : goal.decreases-loop-i
-decreases-loop-i l = l.root + 1 - l.i
+invariant-loop-i l = (h : World Given l.low l.high l.nodes l.lists) → Onward h l.found l.i

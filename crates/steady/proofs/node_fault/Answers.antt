@@ -1,13 +1,13 @@
 -- `steady::node_fault` meets its contract: by the kind of the node.
-use mathlib.Core.Path.{sym, ◌∙◌}
-use mathlib.Core.Bool.{true, false}
+use mathlib.Core.Path.{ap, sym, ◌∙◌}
 use mathlib.Core.Logic.{inl, inr}
 use native.Mathlib.Omega.{arith}
-use borrow.Author.Tests.{eq-eqb, ne_eqb}
-use Rattle.model.specs.Lists.{when, earlier, least}
 use Rattle.model.specs.Sites.{definitions}
 use Rattle.profile.specs.Unsteady.{several_sums}
 use Rattle.steady.proofs.Faults.{call-kinds, no_call, call-name, group-offends, call-offends, no-offender, before-group, inside}
+use Prim.Native.Nat.{ℕ}
+use lib.Dec.{eqb}
+use Rattle.names.proofs.Earliest.{told}
 use Rattle.steady.proofs.node_fault.Goals as goal
 
 pub offset_bounds-nodes-i : goal.offset_bounds-nodes-i
@@ -30,34 +30,22 @@ pub bounds-nodes-i-in-53 : goal.bounds-nodes-i-in-53
 bounds-nodes-i-in-53 c =
     let l = inside c.requires.0 c.args.i c.requires.1 in omega arith
 
-pub returns-then-kind_of-eq-ITEM : goal.returns-then-kind_of-eq-ITEM
-unfolding least when earlier
-returns-then-kind_of-eq-ITEM c =
-    λ h. group-offends c.args.nodes.now c.args.i c.kind_of-kind.result c.token_of-k.result c.kind_of-kind.ensures c.token_of-k.ensures (several_sums h.word (definitions h.model)) c.in-53.is true (eq-eqb _ _ (sym c.kind_of.ensures ∙ c.if-kind_of-eq-ITEM.true))
-
 pub has_several-requires : goal.has_several-requires
 has_several-requires c =
     (c.requires.0, call-name c.args.nodes.now c.args.i c.kind_of-kind.result c.token_of-k.result c.kind_of-kind.ensures c.token_of-k.ensures c.requires.0 c.requires.1 (call-kinds c.kind_of-kind.result (omega arith) (omega arith)))
 
-pub returns-then-has_several : goal.returns-then-has_several
-unfolding least when earlier
-returns-then-has_several c =
-    λ h. call-offends c.args.nodes.now c.args.i c.kind_of-kind.result c.token_of-k.result c.kind_of-kind.ensures c.token_of-k.ensures (several_sums h.word (definitions h.model)) (call-kinds c.kind_of-kind.result (omega arith) (omega arith)) true (sym (c.has_several.ensures h (call-name c.args.nodes.now c.args.i c.kind_of-kind.result c.token_of-k.result c.kind_of-kind.ensures c.token_of-k.ensures h c.requires.1 (call-kinds c.kind_of-kind.result (omega arith) (omega arith)))) ∙ c.if-has_several.true)
+pub returns-in-53 : goal.returns-in-53
+returns-in-53 c =
+    λ h. c.then_some.ensures ∙ told _ c.token_of-k.result ∙ group-offends c.args.nodes.now c.args.i c.kind_of-kind.result c.token_of-k.result c.kind_of-kind.ensures c.token_of-k.ensures (several_sums h.word (definitions h.model)) c.in-53.is _ (ap (λ (κ : ℕ). eqb κ 54) (sym c.kind_of.ensures))
 
-pub returns-else-kind_of-eq-ITEM : goal.returns-else-kind_of-eq-ITEM
-unfolding least when earlier
-returns-else-kind_of-eq-ITEM c =
-    λ h. group-offends c.args.nodes.now c.args.i c.kind_of-kind.result c.token_of-k.result c.kind_of-kind.ensures c.token_of-k.ensures (several_sums h.word (definitions h.model)) c.in-53.is false (ne_eqb _ _ (λ e. c.if-kind_of-eq-ITEM.false (c.kind_of.ensures ∙ e)))
-
-pub returns-else-has_several : goal.returns-else-has_several
-unfolding least when earlier
-returns-else-has_several c =
-    λ h. call-offends c.args.nodes.now c.args.i c.kind_of-kind.result c.token_of-k.result c.kind_of-kind.ensures c.token_of-k.ensures (several_sums h.word (definitions h.model)) (call-kinds c.kind_of-kind.result (omega arith) (omega arith)) false (sym (c.has_several.ensures h (call-name c.args.nodes.now c.args.i c.kind_of-kind.result c.token_of-k.result c.kind_of-kind.ensures c.token_of-k.ensures h c.requires.1 (call-kinds c.kind_of-kind.result (omega arith) (omega arith)))) ∙ c.if-has_several.false)
+pub returns-in-50 : goal.returns-in-50
+returns-in-50 c =
+    λ h. c.then_some-in-50.ensures ∙ told _ c.token_of-k.result ∙ call-offends c.args.nodes.now c.args.i c.kind_of-kind.result c.token_of-k.result c.kind_of-kind.ensures c.token_of-k.ensures (several_sums h.word (definitions h.model)) (call-kinds c.kind_of-kind.result (omega arith) (omega arith)) _ (sym (c.has_several.ensures h (call-name c.args.nodes.now c.args.i c.kind_of-kind.result c.token_of-k.result c.kind_of-kind.ensures c.token_of-k.ensures h c.requires.1 (call-kinds c.kind_of-kind.result (omega arith) (omega arith)))))
 
 pub returns-in_default : goal.returns-in_default
 returns-in_default c =
-    λ h. no-offender c.args.nodes.now c.args.i c.kind_of-kind.result c.token_of-k.result c.kind_of-kind.ensures c.token_of-k.ensures (several_sums h.word (definitions h.model)) c.in_default.in_default-own.rest.1 (no_call c.kind_of-kind.result (inl (omega arith)))
+    λ h. no-offender c.args.nodes.now c.args.i c.kind_of-kind.result c.token_of-k.result c.kind_of-kind.ensures c.token_of-k.ensures (several_sums h.word (definitions h.model)) (λ e. omega arith) (no_call c.kind_of-kind.result (inl (omega arith)))
 
 pub returns-in_default-2 : goal.returns-in_default-2
 returns-in_default-2 c =
-    λ h. no-offender c.args.nodes.now c.args.i c.kind_of-kind.result c.token_of-k.result c.kind_of-kind.ensures c.token_of-k.ensures (several_sums h.word (definitions h.model)) c.in_default.in_default-own.rest.1 (no_call c.kind_of-kind.result (inr (omega arith)))
+    λ h. no-offender c.args.nodes.now c.args.i c.kind_of-kind.result c.token_of-k.result c.kind_of-kind.ensures c.token_of-k.ensures (several_sums h.word (definitions h.model)) (λ e. omega arith) (no_call c.kind_of-kind.result (inr (omega arith)))

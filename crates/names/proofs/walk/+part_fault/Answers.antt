@@ -33,10 +33,6 @@ pub overflow_sub-root-in-47 : goal.overflow_sub-root-in-47
 overflow_sub-root-in-47 t c =
     omega (arith, (gated-of c.args.nodes.now c.requires.0.1 c.args.part.from c.args.part.root (sym c.kind_of.ensures ∙ c.in-47.is) c.requires.0.2).below)
 
-pub overflow_add-left-in-47 : goal.overflow_add-left-in-47
-overflow_add-left-in-47 t c =
-    omega (arith, (gated-of c.args.nodes.now c.requires.0.1 c.args.part.from c.args.part.root (sym c.kind_of.ensures ∙ c.in-47.is) c.requires.0.2).below, c.left_of-left.ensures, c.requires.1, root_in c.requires.0.0.setting.world)
-
 pub leaves_fault-gate-requires : goal.leaves_fault-gate-requires
 leaves_fault-gate-requires t c =
     (c.requires.0.0.setting, omega (arith, (gated-of c.args.nodes.now c.requires.0.1 c.args.part.from c.args.part.root (sym c.kind_of.ensures ∙ c.in-47.is) c.requires.0.2).below, c.left_of-left.ensures, c.requires.1))

@@ -1,5 +1,5 @@
 -- `walk::numbers_fault` meets its contract: by the question.
-use Rattle.names.proofs.Titles.{numbers-limits, numbers-fresh, numbers-given}
+use Rattle.names.proofs.Titles.{numbers-limits, numbers-free}
 use Rattle.names.proofs.Lines.{setting-none}
 use Rattle.names.proofs.Settled.{vs-few}
 use native.Mathlib.Omega.{arith}
@@ -15,8 +15,4 @@ returns-in-Limits c =
 
 pub returns-in-Fresh : goal.returns-in-Fresh
 returns-in-Fresh c =
-    numbers-fresh c.args.low.now c.args.high.now c.args.nodes.now c.args.lists c.in-Fresh.is
-
-pub returns-in-Given : goal.returns-in-Given
-returns-in-Given c =
-    numbers-given c.args.low.now c.args.high.now c.args.nodes.now c.args.lists c.in-Given.is
+    numbers-free c.args.low.now c.args.high.now c.args.nodes.now c.args.lists c.in-Fresh.is

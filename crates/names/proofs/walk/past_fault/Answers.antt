@@ -9,17 +9,9 @@ unfolding earlier_of
 loop-j-init c =
     refl
 
-pub overflow_sub-first : goal.overflow_sub-first
-overflow_sub-first c =
-    omega (arith, c.requires.0)
-
 pub listed_name-requires : goal.listed_name-requires
 listed_name-requires c =
     c.requires.1 c.loop-j.j (omega arith)
-
-pub loop-j-smaller : goal.loop-j-smaller
-loop-j-smaller c =
-    omega arith
 
 pub loop-j-preserved : goal.loop-j-preserved
 loop-j-preserved c =

@@ -12,10 +12,6 @@ pub again_fault-requires : goal.again_fault-requires
 again_fault-requires c =
     reach-less c.args.low.now c.args.high.now c.args.nodes.now c.args.first c.args.n (c.loop-j.j + 1) (omega arith) c.requires
 
-pub loop-j-smaller : goal.loop-j-smaller
-loop-j-smaller c =
-    omega arith
-
 pub loop-j-preserved : goal.loop-j-preserved
 loop-j-preserved c =
     twice-on c.args.nodes.now c.args.first c.args.n (packed c.args.low.now c.args.high.now) c.loop-j.j (omega arith) c.loop-j.found c.again_fault.result c.earlier-found.result c.again_fault.ensures c.earlier-found.ensures c.loop-j.invariant

@@ -1,7 +1,7 @@
 -- The item leads to its definition, and that to its body: from Counting.antt.
 use native.Mathlib.Omega.{arith}
 use borrow.Author.Rules.{rules}
-use Rattle.opening.proofs.Counting.{item_of, name-room, body-at, left-above, body-sums, product_small, product_is}
+use Rattle.opening.proofs.Counting.{item_of, body-at, left-above, body-sums, product_small, product_is}
 use Rattle.opening.proofs.count.item_processes.Goals as goal
 
 pub offset_bounds-nodes-k : goal.offset_bounds-nodes-k
@@ -11,10 +11,6 @@ offset_bounds-nodes-k c =
 pub bounds-nodes-k : goal.bounds-nodes-k
 bounds-nodes-k c =
     (item_of c.args.nodes.now c.requires.2).inside
-
-pub overflow_sub-d : goal.overflow_sub-d
-overflow_sub-d c =
-    let l = name-room c.args.nodes.now c.requires.2 c.token_of.ensures in omega arith
 
 pub offset_bounds-nodes-d : goal.offset_bounds-nodes-d
 offset_bounds-nodes-d c =

@@ -28,10 +28,6 @@ pub item_processes-count-requires : goal.item_processes-count-requires
 item_processes-count-requires c =
     (c.requires.0.definitions, (left-next c.args.nodes.now c.requires.1 (c.loop-count.invariant.1 c.requires.0 c.requires.1) (sym c.kind_of.ensures ∙ c.loop-count-test.true)).start, next-item c.args.nodes.now c.requires.1 (c.loop-count.invariant.1 c.requires.0 c.requires.1) (sym c.kind_of.ensures ∙ c.loop-count-test.true) c.left_of.ensures)
 
-pub overflow_add-count : goal.overflow_add-count
-overflow_add-count c =
-    omega (arith, c.loop-count.invariant.0, c.item_processes-count.ensures.upper_bound)
-
 pub returns-then-count-gt-PROCESSES : goal.returns-then-count-gt-PROCESSES
 returns-then-count-gt-PROCESSES c =
     λ m g. counts-many c.args.nodes.now g ((left-next c.args.nodes.now g (c.loop-count.invariant.1 m g) (sym c.kind_of.ensures ∙ c.loop-count-test.true)).rest _ (c.item_processes-count.ensures.value m.definitions (left-next c.args.nodes.now g (c.loop-count.invariant.1 m g) (sym c.kind_of.ensures ∙ c.loop-count-test.true)).start (next-item c.args.nodes.now g (c.loop-count.invariant.1 m g) (sym c.kind_of.ensures ∙ c.loop-count-test.true) c.left_of.ensures))) c.if-count-gt-PROCESSES.true
@@ -51,10 +47,6 @@ loop-count-preserved c =
 pub item_processes-requires : goal.item_processes-requires
 item_processes-requires c =
     (c.requires.0.definitions, (left-last c.args.nodes.now c.requires.1 (c.loop-count.invariant.1 c.requires.0 c.requires.1) (λ e. c.loop-count-test.false (c.kind_of.ensures ∙ e))).start, (left-last c.args.nodes.now c.requires.1 (c.loop-count.invariant.1 c.requires.0 c.requires.1) (λ e. c.loop-count-test.false (c.kind_of.ensures ∙ e))).item)
-
-pub overflow_add-result : goal.overflow_add-result
-overflow_add-result c =
-    omega (arith, c.loop-count.invariant.0, c.item_processes.ensures.upper_bound)
 
 pub returns : goal.returns
 returns c =

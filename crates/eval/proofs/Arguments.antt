@@ -6,7 +6,7 @@ use Prim.Native.Nat.{ℕ, ◌-◌, ◌≤◌}
 use native.Mathlib.Omega.{arith}
 use lib.IntN.{ℤ}
 use lib.ListN.{get_or}
-use Rattle.value.specs.declared.Value.{Value}
+use Rattle.value.specs.Range.{Value}
 use Rattle.tree.specs.Node.{kind_of, left_of}
 use Rattle.model.specs.Resolved
 use Rattle.tables.specs.Settled.{Expr, Arguments}

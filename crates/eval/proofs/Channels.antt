@@ -6,7 +6,7 @@ use Prim.Native.Nat.{ℕ, ◌-◌, ◌≤◌, ◌<◌}
 use native.Mathlib.Omega.{arith}
 use lib.IntN.{ℤ, pos}
 use lib.ListN.{get_or}
-use Rattle.value.specs.declared.Value.{Value}
+use Rattle.value.specs.Range.{Value}
 use Rattle.value.specs.Items.{one_item, two_items, three_items}
 use Rattle.tree.specs.Node.{kind_of, token_of, left_of, third_of as middle_of}
 use Rattle.model.specs.Resolved
@@ -16,11 +16,18 @@ use Rattle.rules.specs.Pairs.{item_kind, item_value}
 use Rattle.tables.specs.Settled.{Item, Channel}
 use Rattle.tables.proofs.Parts.{pair-above, pair-second}
 use Rattle.machine.specs.Evaluate.{valued, given, eval_item, eval_channel}
-use Rattle.eval.specs.declared.channel.Item.{Item as ItemAnswer}
-use Rattle.eval.specs.declared.channel.Channel.{Channel as Answer}
+use Rattle.std.specs.Prelude.{Some, Option as RustOption}
+use Rattle.eval.specs.declared.channel.Item.{Item as AnItem}
+use Rattle.eval.specs.declared.channel.Channel.{Channel as AChannel}
 use Rattle.eval.specs.Held.{Held, Worth}
 use Rattle.eval.specs.Channels.{item_of, item_answer, channel_of, channel_answer}
 use Rattle.eval.proofs.Exprs.{SomeExpr, IsExpr, expr-kind}
+
+abbrev pub ItemAnswer : Type 0
+ItemAnswer = RustOption AnItem
+
+abbrev pub Answer : Type 0
+Answer = RustOption AChannel
 
 -- ---- items
 
@@ -35,7 +42,7 @@ item-kind t k (Resolved.number e) a = omega (arith, expr-kind t k e a)
 item-kind t k (Resolved.name n) a = omega (arith, a.kind-is)
 
 module _ (t : List ℕ) (k kind : ℕ) (is : kind ≡ kind_of (get_or t k 0)) where
-  pub name-is : (ls : List ℤ) → kind ≡ 66 → IsItem t ls k (record { kind = 1; value = pos (token_of (get_or t k 0)) })
+  pub name-is : (ls : List ℤ) → kind ≡ 66 → IsItem t ls k (Some (record { kind = 1; value = pos (token_of (get_or t k 0)) }))
   unfolding Item eval_item item_answer item_of item_kind item_value
   name-is ls h (Resolved.number e) a = absurd (omega (arith, expr-kind t k e a))
   name-is ls h (Resolved.name n) a = ap (λ (i : ℕ). item_of (some (offers.named i))) a.index_is

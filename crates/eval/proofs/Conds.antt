@@ -7,7 +7,7 @@ use Prim.Native.Nat.{ℕ, ◌-◌, ◌≤◌, ◌<◌}
 use native.Mathlib.Omega.{arith}
 use lib.IntN.{ℤ}
 use lib.ListN.{get_or}
-use Rattle.value.specs.declared.Value.{Value}
+use Rattle.value.specs.Range.{Value}
 use Rattle.value.proofs.Kit.{true-not-false, false-not-true}
 use Rattle.grammar.specs.Grammar.{Relation}
 use Rattle.tree.specs.Node as node
@@ -17,10 +17,9 @@ use Rattle.tables.specs.Settled.{Cond}
 use Rattle.tables.proofs.Parts.{pair-above, pair-second}
 use Rattle.model.specs.Good.{GoodCond}
 use Rattle.machine.specs.Evaluate.{valued, given, related, eval_cond}
-use Rattle.eval.specs.declared.Truth.{Truth}
 use Rattle.eval.specs.Held.{Held, Worth}
 use Rattle.eval.specs.Skips.{skips}
-use Rattle.eval.specs.Answers.{truth_of, truth}
+use Rattle.eval.specs.Answers.{Truth, truth_of, truth}
 use Rattle.eval.proofs.Exprs.{SomeExpr, IsExpr}
 use Rattle.eval.proofs.Relations.{test-range}
 

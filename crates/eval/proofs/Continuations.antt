@@ -20,10 +20,9 @@ use Rattle.model.specs.Good.{Every, GoodPart}
 use Rattle.machine.specs.Offer as machine
 use Rattle.machine.specs.Offer.{Process, all_values, arguments_given, part_processes, next_processes}
 use Rattle.eval.specs.Held.{Held, Worth}
-use Rattle.eval.specs.declared.next.Next.{Next}
-use Rattle.eval.specs.declared.next.Next.TheVariants.{At, Nothing}
+use Rattle.std.specs.Prelude.{Some, None}
 use Rattle.eval.specs.Next as become
-use Rattle.eval.specs.Next.{ShowsNext, SomePrefix, Continues, Continuation, most, cut}
+use Rattle.eval.specs.Next.{Next, ShowsNext, SomePrefix, Continues, Continuation, most, cut}
 use Rattle.eval.proofs.Arguments.{SomeArguments, AreKnown}
 use Rattle.eval.proofs.Offers.{prefix-parts}
 
@@ -42,14 +41,14 @@ module _ (t : List ℕ) (k kind : ℕ) (is : kind ≡ kind_of (get_or t k 0)) wh
       go [] o = absurd (omega (arith, o.offer.kind-is))
       go (p ∷ ps) o = omega (arith, o.above)
 
-  pub dot-next : kind ≡ 46 → (a : Resolved.Action) (q : Resolved.Rate) (ps : List Resolved.Part) → Settled.Offer t a q ps k → ShowsNext t ps (At (k - 1))
+  pub dot-next : kind ≡ 46 → (a : Resolved.Action) (q : Resolved.Rate) (ps : List Resolved.Part) → Settled.Offer t a q ps k → ShowsNext t ps (Some (k - 1))
   unfolding Settled.Offer
   dot-next h a q [] o = absurd (omega (arith, o.offer.kind-is))
   dot-next h a q (p ∷ ps) o =
       let e : o.right ≡ k - 1 = omega (arith, o.above) in
       become.at (subst (Parts t (p ∷ ps)) e o.next)
 
-  pub stop-next : (kind ≡ 46 → ⊥) → (a : Resolved.Action) (q : Resolved.Rate) (ps : List Resolved.Part) → Settled.Offer t a q ps k → ShowsNext t ps Nothing
+  pub stop-next : (kind ≡ 46 → ⊥) → (a : Resolved.Action) (q : Resolved.Rate) (ps : List Resolved.Part) → Settled.Offer t a q ps k → ShowsNext t ps None
   unfolding Settled.Offer
   stop-next h a q [] o = become.nothing
   stop-next h a q (p ∷ ps) o = absurd (h (is ∙ o.kind-is))

@@ -9,24 +9,21 @@ use borrow.Author.Tests.{ltb-true, ltb-false}
 use lib.Dec.{T, ltb, lit<}
 use lib.IntN.{ℤ, pos, nat_abs}
 use lib.ListN.{length, get_or, get_or-eq_default}
-use Rattle.value.specs.declared.Value.{Value}
-use Rattle.value.specs.declared.Value.TheVariants.{Is, Missing}
-use Rattle.value.specs.Range.{farthest, InRange}
+use Rattle.value.specs.Range.{farthest, InRange, Value}
 use Rattle.value.proofs.Kit.{false-not-true, ok-fits, bits-eq}
 use lib.Signed.{non_neg}
 use mir.Syntax.{w64}
 use mir.Val.{Fits, SFits, of_z, to_z}
 use mir.Facts.{to_z-of_z}
+use Rattle.std.specs.Prelude.{None, Some}
 use Rattle.tree.specs.Node.{kind_of, left_of}
 use Rattle.model.specs.Resolved
 use Rattle.rules.specs.Offers as offers
 use Rattle.tables.specs.Settled.{Set, OneOrTwo}
 use Rattle.tables.proofs.Parts.{pair-second}
 use Rattle.machine.specs.Evaluate.{valued, given, eval_set, eval_all}
-use Rattle.eval.specs.declared.offer.Ends.{Ends as Answer}
-use Rattle.eval.specs.declared.offer.Ends.TheVariants.{Are, Missing as Endless}
 use Rattle.eval.specs.Held.{Sound}
-use Rattle.eval.specs.Shown.{joined_mark, Rooted, ShowsSet, ranged, rooted, one, two, range_ends, one_set, two_sets, none_listed, ShowsEnds, are, missing, SetShown, ListsSets, all, SetsListed}
+use Rattle.eval.specs.Shown.{joined_mark, Rooted, ShowsSet, ranged, rooted, one, two, range_ends, one_set, two_sets, Ends as Answer, ShowsEnds, are, missing, SetShown, ListsSets, all, SetsListed}
 use Rattle.eval.specs.Shown as shown
 use Rattle.eval.proofs.Exprs.{IsExpr, expr-kind}
 use Rattle.eval.proofs.Sets.{SomeSet, Ends, join-range}
@@ -48,8 +45,8 @@ module _ (t : List ℕ) (k kind : ℕ) (is : kind ≡ kind_of (get_or t k 0)) wh
     single-shown x l w h (Resolved.single e) a = rw (← w e a) (go x h)
       where
         go : (v : Value) → Sound v → ShowsEnds t ls (valued v (λ z. some (offers.range z z))) (range_ends v v)
-        go (Is z) h = are (ranged refl refl h)
-        go Missing h = missing
+        go (Some z) h = are (ranged refl refl h)
+        go None h = missing
     single-shown x l w h (Resolved.range e f) a = absurd (omega (arith, a.kind-is))
     single-shown x l w h (Resolved.joined j s r) a = absurd (omega (arith, a.kind-is, join-range j))
 
@@ -59,42 +56,42 @@ module _ (t : List ℕ) (k kind : ℕ) (is : kind ≡ kind_of (get_or t k 0)) wh
     range-shown x y l v w h (Resolved.range e f) a = rw (← v e a.holds-first, ← w f (pair-second a)) (go x y h)
       where
         go : (p q : Value) → Sound q → ShowsEnds t ls (valued p (λ z. valued q (λ u. some (offers.range z u)))) (range_ends p q)
-        go (Is z) (Is u) h = are (ranged refl refl h)
-        go (Is z) Missing h = missing
-        go Missing q h = missing
+        go (Some z) (Some u) h = are (ranged refl refl h)
+        go (Some z) None h = missing
+        go None q h = missing
     range-shown x y l v w h (Resolved.joined j s r) a = absurd (omega (arith, a.kind-is, join-range j))
 
     module _ (b : Bool) (w : Ends t ls k b) where
-      pub root-shown : SomeSet t (length ls) k → b ≡ true → SetShown t ls k (Are (pos k) joined_mark)
+      pub root-shown : SomeSet t (length ls) k → b ≡ true → SetShown t ls k (Some (pos k, joined_mark))
       root-shown h e s a =
           let c = came t ls s k a b w e in
           rw c.is (are (rooted refl refl (record { held = h; set = s; at = a; worth = c.is })))
 
-      pub root-missing : b ≡ false → SetShown t ls k Endless
+      pub root-missing : b ≡ false → SetShown t ls k None
       root-missing e s a = rw (lacks t ls s k a b w e) missing
 
     -- ---- one or two
     pub one-listed : (x : Answer) → (kind ≡ 35 → ⊥) → SetShown t ls k x → SetsListed t ls k (one_set x)
-    unfolding OneOrTwo eval_all given one_set none_listed
+    unfolding OneOrTwo eval_all given one_set
     one-listed x h w [] a = absurd a
     one-listed x h w (s ∷ []) a = go (w s a)
       where
         go : {o : Option offers.Set} {y : Answer} → ShowsEnds t ls o y → ListsSets t ls (one_set y) (given o (λ z. given (some []) (λ zs. some (z ∷ zs))))
         go (are q) = all (one refl q refl refl)
-        go missing = shown.missing refl
+        go missing = shown.missing
     one-listed x h w (s ∷ r ∷ []) a = absurd (h (is ∙ a.kind-is))
     one-listed x h w (s ∷ r ∷ q ∷ ss) a = absurd a
 
     pub two-listed : (x y : Answer) → kind ≡ 35 → SetShown t ls (left_of (get_or t k 0)) x → SetShown t ls (k - 1) y → SetsListed t ls k (two_sets x y)
-    unfolding OneOrTwo eval_all given two_sets none_listed
+    unfolding OneOrTwo eval_all given two_sets
     two-listed x y h v w [] a = absurd a
     two-listed x y h v w (s ∷ []) a = absurd (omega (arith, set-low t k kind is s a))
     two-listed x y h v w (s ∷ r ∷ []) a = go (v s a.holds-first) (w r (pair-second a))
       where
         go : {o p : Option offers.Set} {u z : Answer} → ShowsEnds t ls o u → ShowsEnds t ls p z → ListsSets t ls (two_sets u z) (given o (λ b. given (given p (λ c. given (some []) (λ zs. some (c ∷ zs)))) (λ zs. some (b ∷ zs))))
         go (are q) (are d) = all (two refl q d)
-        go (are q) missing = shown.missing refl
-        go missing d = shown.missing refl
+        go (are q) missing = shown.missing
+        go missing d = shown.missing
     two-listed x y h v w (s ∷ r ∷ q ∷ ss) a = absurd a
 
 -- ---- a set that two numbers show

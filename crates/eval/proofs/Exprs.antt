@@ -1,13 +1,13 @@
 -- What a node says of the expression that stands there, by its kind. By cases of the expression.
-use mathlib.Core.Path.{◌≡◌, sym, ap, ◌∙◌}
+use mathlib.Core.Path.{◌≡◌, refl, sym, ap, ◌∙◌}
 use mathlib.Core.List.{List}
 use Prim.Native.Nat.{ℕ, ◌-◌, ◌≤◌, ◌<◌}
 use native.Mathlib.Omega.{arith}
 use lib.IntN.{ℤ, pos}
 use lib.ListN.{get_or}
-use Rattle.value.specs.declared.Value.{Value}
-use Rattle.value.specs.declared.Value.TheVariants.{Is, Missing}
-use Rattle.value.specs.Range.{InRange}
+use Rattle.std.specs.Prelude.{None, Some}
+use Rattle.std.specs.Option.{is_some, unwrap_or}
+use Rattle.value.specs.Range.{InRange, Value}
 use Rattle.value.specs.Arithmetic.{abs_of}
 use Rattle.grammar.specs.Syntax.{Op}
 use Rattle.tree.specs.Node.{kind_of, token_of, left_of, op_kind}
@@ -17,6 +17,7 @@ use Rattle.tables.proofs.Numbers.{node-number, node-number-kind}
 use Rattle.tables.proofs.Parts.{over-above, over-part, pair-above, pair-second}
 use Rattle.model.specs.Good.{Every, GoodExpr}
 use Rattle.machine.specs.Evaluate.{with_value, apply, eval_expr}
+use Rattle.machine.specs.Offer.{is_value, or_zero}
 use Rattle.machine.proofs.Ranges.{expr-good}
 use Rattle.eval.specs.Held.{Held, Worth, Sound}
 use Rattle.eval.proofs.Operators.{op-range}
@@ -29,13 +30,24 @@ SomeExpr t n k = Held (Expr t) (GoodExpr n) k
 abbrev pub IsExpr : List ℕ → List ℤ → ℕ → Value → Type 0
 IsExpr t ls k r = Worth (Expr t) (eval_expr ls) k r
 
+-- whether it has a value, and its value or 0
+pub known : (x : Value) → is_some x ≡ is_value x
+unfolding is_value
+known (Some z) = refl
+known None = refl
+
+pub zeroed : (x : Value) → unwrap_or x (pos 0) ≡ or_zero x
+unfolding or_zero
+zeroed (Some z) = refl
+zeroed None = refl
+
 -- its value, where it has one, lies in the range
 pub worth-sound : (t : List ℕ) (ls : List ℤ) (n k : ℕ) (r : Value) → Every InRange ls → SomeExpr t n k → IsExpr t ls k r → Sound r
 worth-sound t ls n k r g h w = go r (w h.part h.at)
   where
     go : (v : Value) → v ≡ eval_expr ls h.part → Sound v
-    go (Is z) q = expr-good ls g n h.part z h.fit (sym q)
-    go Missing q = tt
+    go (Some z) q = expr-good ls g n h.part z h.fit (sym q)
+    go None q = tt
 
 -- every expression's kind is below 11
 pub expr-kind : (t : List ℕ) (k : ℕ) (e : Resolved.Expr) → Expr t e k → kind_of (get_or t k 0) ≤ 10
@@ -46,17 +58,17 @@ expr-kind t k (Resolved.absolute e) a = omega (arith, a.kind-is)
 expr-kind t k (Resolved.binary o e f) a = omega (arith, a.kind-is, op-range o)
 
 module _ (t : List ℕ) (k kind : ℕ) (is : kind ≡ kind_of (get_or t k 0)) where
-  pub literal-is : (ls : List ℤ) → kind ≡ 1 → IsExpr t ls k (Is (number_of (get_or t k 0)))
+  pub literal-is : (ls : List ℤ) → kind ≡ 1 → IsExpr t ls k (Some (number_of (get_or t k 0)))
   unfolding Expr eval_expr
-  literal-is ls h (Resolved.constant z) a = ap Is (node-number a (omega arith))
+  literal-is ls h (Resolved.constant z) a = ap Some (node-number a (omega arith))
   literal-is ls h (Resolved.local_at i) a = absurd (omega (arith, a.kind-is))
   literal-is ls h (Resolved.absolute e) a = absurd (omega (arith, a.kind-is))
   literal-is ls h (Resolved.binary o e f) a = absurd (omega (arith, a.kind-is, op-range o))
 
-  pub named-is : (ls : List ℤ) → kind ≡ 3 → IsExpr t ls k (Is (get_or ls (token_of (get_or t k 0)) (pos 0)))
+  pub named-is : (ls : List ℤ) → kind ≡ 3 → IsExpr t ls k (Some (get_or ls (token_of (get_or t k 0)) (pos 0)))
   unfolding Expr eval_expr
   named-is ls h (Resolved.constant z) a = absurd (omega (arith, node-number-kind a (omega arith)))
-  named-is ls h (Resolved.local_at i) a = ap (λ (j : ℕ). Is (get_or ls j (pos 0))) a.index_is
+  named-is ls h (Resolved.local_at i) a = ap (λ (j : ℕ). Some (get_or ls j (pos 0))) a.index_is
   named-is ls h (Resolved.absolute e) a = absurd (omega (arith, a.kind-is))
   named-is ls h (Resolved.binary o e f) a = absurd (omega (arith, a.kind-is, op-range o))
 

@@ -7,7 +7,7 @@ use Prim.Native.Nat.{ℕ, ◌-◌, ◌≤◌, ◌<◌}
 use native.Mathlib.Omega.{arith}
 use lib.IntN.{ℤ}
 use lib.ListN.{get_or}
-use Rattle.value.specs.declared.Value.{Value}
+use Rattle.value.specs.Range.{Value}
 use Rattle.value.proofs.Kit.{true-not-false, false-not-true}
 use Rattle.tree.specs.Node.{kind_of, left_of}
 use Rattle.model.specs.Resolved

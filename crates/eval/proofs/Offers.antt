@@ -1,7 +1,7 @@
 -- What a node says of the action, prefix or branch that stands there, by its kind. By cases of what stands.
 use mathlib.Core.Path.{◌≡◌, refl, sym, ap, ◌∙◌}
 use mathlib.Core.List.{List, [], ◌∷◌}
-use mathlib.Core.Bool.{Bool, true, false, cond}
+use mathlib.Core.Bool.{Bool, true, false}
 use mathlib.Core.Option.{Option, none, some}
 use Prim.Native.Nat.{ℕ, ◌-◌, ◌≤◌, ◌<◌}
 use native.Mathlib.Omega.{arith}
@@ -19,107 +19,82 @@ use Rattle.tables.proofs.Parts.{pair-above, pair-second}
 use Rattle.model.specs.Good.{GoodCond, GoodGate, GoodRate, GoodAction, GoodBranch}
 use Rattle.machine.specs.Evaluate.{given, eval_channel, eval_all, eval_value, eval_pair, eval_query, eval_set, eval_cond, eval_rate, eval_action, eval_offer, eval_gate, eval_branch}
 use Rattle.eval.specs.declared.channel.Channel.{Channel}
-use Rattle.eval.specs.declared.Rate.TheVariants.{Is as RateIs, Missing as NoRate}
-use Rattle.eval.specs.declared.Truth.TheVariants.{Yes, No, Missing as Unknown}
+use Rattle.std.specs.Prelude.{Some, None, Option as RustOption}
 use Rattle.eval.specs.declared.Values.{Values}
 use Rattle.eval.specs.declared.offer.Offer.{Offer}
 use Rattle.eval.specs.declared.offer.Listed.{Listed}
 use Rattle.eval.specs.Held.{Held, Worth}
 use Rattle.eval.specs.Answers.{truth_of, truth}
 use Rattle.eval.specs.Rates.{rate_answer}
-use Rattle.eval.specs.Channels.{ShowsChannel, channel_of, channel_answer}
+use Rattle.eval.specs.Channels.{channel_of, channel_answer}
 use Rattle.eval.specs.Lists.{values_of, values_answer}
 use Rattle.eval.specs.Shown
 use Rattle.eval.proofs.Channels.{IsChannel}
-use Rattle.eval.proofs.Shapes.{shape-some}
 use Rattle.eval.proofs.Rates.{IsRate, rate-some, rate-none}
 
 -- ---- channels
-not_found : (o : Option offers.Channel) (r : Channel) → r ≡ channel_of o → Shown.is_found r ≡ false → o ≡ none
-unfolding channel_of Shown.is_found
-not_found (some x) r e h = true-not-false (rw (e, shape-some x) at h)
-not_found none r e h = refl
-
-found : (x : offers.Channel) → Shown.is_found (channel_of (some x)) ≡ true
-unfolding channel_of Shown.is_found
-found x = rw (shape-some x)
-
-not_there : Shown.is_found (channel_of none) ≡ false
-unfolding channel_of Shown.is_found
-not_there = refl
-
-shows-itself : (x : offers.Channel) → let c = channel_of (some x) in ShowsChannel c.shape c.first c.second c.third x
+not_found : (o : Option offers.Channel) → None ≡ channel_of o → o ≡ none
 unfolding channel_of
-shows-itself x = record { shape_is = refl; first-is = refl; second_is = refl; third-is = refl }
+not_found (some x) e = cc
+not_found none e = refl
 
 -- ---- values and sets with their channel
 
-values-some : {n : ℕ} {a b c d : ℤ} {vs : List ℤ} → Shown.ShowsValues n a b c d vs → eqb n 0 ≡ false
-values-some (Shown.one e p q r s) = rw e
-values-some (Shown.two e p q r s) = rw e
-
-sets-some : {t : List ℕ} {ls : List ℤ} {n : ℕ} {a b c d : ℤ} {xs : List offers.Set} → Shown.ShowsSets t ls n a b c d xs → eqb n 0 ≡ false
-sets-some (Shown.one e p q r) = rw e
-sets-some (Shown.two e p q) = rw e
-
-both-lacking : {A : Type 0} (b : Bool) (x : A) → cond b x x ≡ x
-both-lacking true x = refl
-both-lacking false x = refl
-
-module _ (kind rate : ℕ) (l : Listed) where
-  pair-assembled : (o : Option offers.Channel) (v : Option (List ℤ)) → Shown.ListsValues l v
+module _ (kind rate : ℕ) where
+  pair-assembled : {l : RustOption Listed} (o : Option offers.Channel) (v : Option (List ℤ)) → Shown.ListsValues l v
       → Shown.ShowsPart Shown.ShowsPair kind rate (Shown.assembled kind rate (channel_of o) l) (given o (λ x. given v (λ vs. some (record { channel = x; values = vs }))))
-  unfolding given Shown.assembled Shown.with_channel
-  pair-assembled none v h = rw not_there (Shown.missing (both-lacking (eqb l.count 0) (Shown.bare_offer 1 0)))
-  pair-assembled (some x) none (Shown.missing e) = rw e (Shown.missing refl)
-  pair-assembled (some x) (some vs) (Shown.all h) = rw (values-some h, found x) (Shown.there refl refl (record { channel-is = shows-itself x; values-are = h }))
+  unfolding given channel_of Shown.assembled Shown.with_channel
+  pair-assembled none v h = Shown.missing refl
+  pair-assembled (some x) none Shown.missing = Shown.missing refl
+  pair-assembled (some x) (some vs) (Shown.all h) = Shown.there refl refl (record { channel-is = record { shape_is = refl; first-is = refl; second_is = refl; third-is = refl }; values-are = h })
 
-  query-assembled : {t : List ℕ} {ls : List ℤ} (o : Option offers.Channel) (v : Option (List offers.Set)) → Shown.ListsSets t ls l v
+  query-assembled : {t : List ℕ} {ls : List ℤ} {l : RustOption Listed} (o : Option offers.Channel) (v : Option (List offers.Set)) → Shown.ListsSets t ls l v
       → Shown.ShowsPart (Shown.ShowsQuery t ls) kind rate (Shown.assembled kind rate (channel_of o) l) (given o (λ x. given v (λ xs. some (record { channel = x; sets = xs }))))
-  unfolding given Shown.assembled Shown.with_channel
-  query-assembled none v h = rw not_there (Shown.missing (both-lacking (eqb l.count 0) (Shown.bare_offer 1 0)))
-  query-assembled (some x) none (Shown.missing e) = rw e (Shown.missing refl)
-  query-assembled (some x) (some vs) (Shown.all h) = rw (sets-some h, found x) (Shown.there refl refl (record { channel-is = shows-itself x; sets-are = h }))
+  unfolding given channel_of Shown.assembled Shown.with_channel
+  query-assembled none v h = Shown.missing refl
+  query-assembled (some x) none Shown.missing = Shown.missing refl
+  query-assembled (some x) (some vs) (Shown.all h) = Shown.there refl refl (record { channel-is = record { shape_is = refl; first-is = refl; second_is = refl; third-is = refl }; sets-are = h })
 
 -- one or two values are listed
 values_listed : (t : List ℕ) (ls : List ℤ) (k : ℕ) (es : List Resolved.Expr) → OneOrTwo t (Settled.Expr t) es k
     → Shown.ListsValues (Shown.listed_values (values_of (eval_all (eval_value ls) es))) (eval_all (eval_value ls) es)
-unfolding OneOrTwo eval_all given values_of Shown.listed_values Shown.none_listed
+unfolding OneOrTwo eval_all given values_of Shown.listed_values
 values_listed t ls k [] a = absurd a
 values_listed t ls k (e ∷ []) a = go (eval_value ls e)
   where
     go : (o : Option ℤ)
         → Shown.ListsValues (Shown.listed_values (values_of (given o (λ y. given (some []) (λ ys. some (y ∷ ys)))))) (given o (λ y. given (some []) (λ ys. some (y ∷ ys))))
     go (some x) = Shown.all (Shown.one refl refl refl refl refl)
-    go none = Shown.missing refl
+    go none = Shown.missing
 values_listed t ls k (e ∷ f ∷ []) a = go (eval_value ls e) (eval_value ls f)
   where
     go : (o p : Option ℤ)
         → Shown.ListsValues (Shown.listed_values (values_of (given o (λ y. given (given p (λ z. given (some []) (λ zs. some (z ∷ zs)))) (λ ys. some (y ∷ ys))))))
         (given o (λ y. given (given p (λ z. given (some []) (λ zs. some (z ∷ zs)))) (λ ys. some (y ∷ ys))))
     go (some x) (some y) = Shown.all (Shown.two refl refl refl refl refl)
-    go (some x) none = Shown.missing refl
-    go none p = Shown.missing refl
+    go (some x) none = Shown.missing
+    go none p = Shown.missing
 values_listed t ls k (e ∷ f ∷ g ∷ es) a = absurd a
 
-module _ (t : List ℕ) (ls : List ℤ) (kind rate k : ℕ) (c : Channel) (w : IsChannel t ls (left_of (get_or t k 0)) c) where
-  pub carried-missing : Shown.is_found c ≡ false → Shown.Carried t ls kind rate k (Shown.bare_offer 1 0)
+module _ (t : List ℕ) (ls : List ℤ) (kind rate k : ℕ) where
+  pub carried-missing : IsChannel t ls (left_of (get_or t k 0)) None → Shown.Carried t ls kind rate k (Shown.bare_offer 1 0)
   unfolding eval_pair channel_answer given
-  carried-missing h d v a = rw (not_found (eval_channel ls d) c (w d a.holds-first) h) (Shown.missing refl)
+  carried-missing w d v a = rw (not_found (eval_channel ls d) (w d a.holds-first)) (Shown.missing refl)
 
-  pub sought-missing : Shown.is_found c ≡ false → Shown.Sought t ls kind rate k (Shown.bare_offer 1 0)
+  pub sought-missing : IsChannel t ls (left_of (get_or t k 0)) None → Shown.Sought t ls kind rate k (Shown.bare_offer 1 0)
   unfolding eval_query channel_answer given
-  sought-missing h d v a = rw (not_found (eval_channel ls d) c (w d a.holds-first) h) (Shown.missing refl)
+  sought-missing w d v a = rw (not_found (eval_channel ls d) (w d a.holds-first)) (Shown.missing refl)
 
-  pub carried-is : (u : Values) → Worth (OneOrTwo t (Settled.Expr t)) (values_answer ls) (k - 1) u → Shown.Carried t ls kind rate k (Shown.assembled kind rate c (Shown.listed_values u))
+  pub carried-is : (c : Channel) (u : RustOption Values) → IsChannel t ls (left_of (get_or t k 0)) (Some c) → Worth (OneOrTwo t (Settled.Expr t)) (values_answer ls) (k - 1) u
+      → Shown.Carried t ls kind rate k (Shown.assembled kind rate (Some c) (Shown.listed_values u))
   unfolding eval_pair channel_answer values_answer
-  carried-is u x d v a =
+  carried-is c u w x d v a =
       rw (w d a.holds-first, x v (pair-second a))
-      (pair-assembled kind rate _ (eval_channel ls d) (eval_all (eval_value ls) v) (values_listed t ls (k - 1) v (pair-second a)))
+      (pair-assembled kind rate (eval_channel ls d) (eval_all (eval_value ls) v) (values_listed t ls (k - 1) v (pair-second a)))
 
-  pub sought-is : (l : Listed) → Shown.SetsListed t ls (k - 1) l → Shown.Sought t ls kind rate k (Shown.assembled kind rate c l)
+  pub sought-is : (c : Channel) (l : RustOption Listed) → IsChannel t ls (left_of (get_or t k 0)) (Some c) → Shown.SetsListed t ls (k - 1) l → Shown.Sought t ls kind rate k (Shown.assembled kind rate (Some c) l)
   unfolding eval_query channel_answer
-  sought-is l x d v a = rw (w d a.holds-first) (query-assembled kind rate l (eval_channel ls d) (eval_all (eval_set ls) v) (x v (pair-second a)))
+  sought-is c l w x d v a = rw (w d a.holds-first) (query-assembled kind rate (eval_channel ls d) (eval_all (eval_set ls) v) (x v (pair-second a)))
 
 -- ---- actions
 
@@ -240,13 +215,13 @@ module _ (t : List ℕ) (k : ℕ) where
     own-action = (p.model, record { part = p.action; at = own-parts.action; fit = p.good-action })
 
   module _ (ls : List ℤ) where
-    pub prefix-is : (n : ℕ) (r : Offer) → IsRate t ls (Shown.rate_root (get_or t k 0) k) (RateIs n) → Shown.ActionShown t ls n (left_of (get_or t k 0)) r → Shown.PrefixShown t ls k r
+    pub prefix-is : (n : ℕ) (r : Offer) → IsRate t ls (Shown.rate_root (get_or t k 0) k) (Some n) → Shown.ActionShown t ls n (left_of (get_or t k 0)) r → Shown.PrefixShown t ls k r
     unfolding rate_answer
     prefix-is n r w u a q ps h =
         let p = prefix-parts a q ps h in
         rw (rate-some (eval_rate ls q) n (w q p.rate)) (u a p.action)
 
-    pub prefix-missing : IsRate t ls (Shown.rate_root (get_or t k 0) k) NoRate → Shown.PrefixShown t ls k (Shown.bare_offer 1 0)
+    pub prefix-missing : IsRate t ls (Shown.rate_root (get_or t k 0) k) None → Shown.PrefixShown t ls k (Shown.bare_offer 1 0)
     unfolding rate_answer
     prefix-missing w a q ps h =
         let p = prefix-parts a q ps h in
@@ -267,19 +242,19 @@ shown-opened (Shown.both h e) = Shown.opened h e
 shown-opened (Shown.no-action e) = Shown.missing e
 shown-opened (Shown.no-rate e) = Shown.missing e
 
-truth-yes : (o : Option Bool) → Yes ≡ truth_of o → o ≡ some true
+truth-yes : (o : Option Bool) → Some true ≡ truth_of o → o ≡ some true
 unfolding truth_of
 truth-yes (some true) e = refl
 truth-yes (some false) e = let z : ◌≡◌ {A = ℕ} 0 1 = cc in absurd (omega arith)
 truth-yes none e = let z : ◌≡◌ {A = ℕ} 0 1 = cc in absurd (omega arith)
 
-truth-no : (o : Option Bool) → No ≡ truth_of o → o ≡ some false
+truth-no : (o : Option Bool) → Some false ≡ truth_of o → o ≡ some false
 unfolding truth_of
 truth-no (some true) e = let z : ◌≡◌ {A = ℕ} 0 1 = cc in absurd (omega arith)
 truth-no (some false) e = refl
 truth-no none e = let z : ◌≡◌ {A = ℕ} 0 1 = cc in absurd (omega arith)
 
-truth-unknown : (o : Option Bool) → Unknown ≡ truth_of o → o ≡ none
+truth-unknown : (o : Option Bool) → None ≡ truth_of o → o ≡ none
 unfolding truth_of
 truth-unknown (some true) e = let z : ◌≡◌ {A = ℕ} 0 1 = cc in absurd (omega arith)
 truth-unknown (some false) e = let z : ◌≡◌ {A = ℕ} 0 1 = cc in absurd (omega arith)
@@ -329,7 +304,7 @@ module _ (t : List ℕ) (k kind : ℕ) (is : kind ≡ kind_of (get_or t k 0)) wh
         )
 
     module _ (ls : List ℤ) where
-      pub gate-yes : (r : Offer) → Worth (Settled.Cond t) (truth ls) (left_of (get_or t k 0)) Yes → Shown.PrefixShown t ls (k - 1) r → BranchShown t ls k r
+      pub gate-yes : (r : Offer) → Worth (Settled.Cond t) (truth ls) (left_of (get_or t k 0)) (Some true) → Shown.PrefixShown t ls (k - 1) r → BranchShown t ls k r
       unfolding Settled.Branch Settled.Gated eval_branch eval_gate eval_offer truth given eval_rate
       gate-yes r u w b a = go b.gate a
         where
@@ -337,7 +312,7 @@ module _ (t : List ℕ) (k kind : ℕ) (is : kind ≡ kind_of (get_or t k 0)) wh
           go none a = gated-not b.action b.rate b.next a
           go (some c) a = rw (truth-yes (eval_cond ls c) (u c a.holds-first)) (shown-opened (w b.action b.rate b.next (pair-second a)))
 
-      pub gate-no : Worth (Settled.Cond t) (truth ls) (left_of (get_or t k 0)) No → BranchShown t ls k (Shown.bare_offer 0 0)
+      pub gate-no : Worth (Settled.Cond t) (truth ls) (left_of (get_or t k 0)) (Some false) → BranchShown t ls k (Shown.bare_offer 0 0)
       unfolding Settled.Branch Settled.Gated eval_branch eval_gate eval_offer truth given eval_rate
       gate-no u b a = go b.gate a
         where
@@ -345,7 +320,7 @@ module _ (t : List ℕ) (k kind : ℕ) (is : kind ≡ kind_of (get_or t k 0)) wh
           go none a = gated-not b.action b.rate b.next a
           go (some c) a = rw (truth-no (eval_cond ls c) (u c a.holds-first)) (Shown.shut refl)
 
-      pub gate-missing : Worth (Settled.Cond t) (truth ls) (left_of (get_or t k 0)) Unknown → BranchShown t ls k (Shown.bare_offer 1 0)
+      pub gate-missing : Worth (Settled.Cond t) (truth ls) (left_of (get_or t k 0)) None → BranchShown t ls k (Shown.bare_offer 1 0)
       unfolding Settled.Branch Settled.Gated eval_branch eval_gate eval_offer truth given eval_rate
       gate-missing u b a = go b.gate a
         where

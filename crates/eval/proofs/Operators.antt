@@ -5,7 +5,7 @@ use Prim.Native.Nat.{ℕ, ◌≤◌}
 use native.Mathlib.Omega.{arith}
 use lib.Dec.{eqb}
 use lib.IntN.{ℤ}
-use Rattle.value.specs.declared.Value.{Value}
+use Rattle.value.specs.Range.{Value}
 use Rattle.grammar.specs.Syntax.{Op, plus, minus, times, divide, maximum, minimum}
 use Rattle.tree.specs.Node.{op_kind}
 use Rattle.machine.specs.Evaluate.{apply}

@@ -6,7 +6,7 @@ use Prim.Native.Nat.{ℕ, suc, ◌*◌, ◌-◌, ◌≤◌}
 use native.Mathlib.Omega.{arith}
 use lib.IntN.{ℤ, pos, negsuc, neg_ℤ, ◌*ℤ◌}
 use lib.ListN.{get_or}
-use Rattle.value.specs.declared.Value.{Value}
+use Rattle.value.specs.Range.{Value}
 use Rattle.word.specs.Number.{unit}
 use Rattle.tree.specs.Node.{kind_of, token_of, left_of}
 use Rattle.model.specs.Resolved
@@ -15,10 +15,9 @@ use Rattle.tables.proofs.Numbers.{node-number, node-number-kind}
 use Rattle.tables.proofs.Parts.{pair-above, pair-second}
 use Rattle.model.specs.Good.{GoodRate}
 use Rattle.machine.specs.Evaluate.{valued, given, in_rate, eval_scale, eval_rate}
-use Rattle.eval.specs.declared.Rate.{Rate as Answer}
-use Rattle.eval.specs.declared.Rate.TheVariants.{Is, Missing}
+use Rattle.std.specs.Prelude.{Some, None}
 use Rattle.eval.specs.Held.{Held, Worth}
-use Rattle.eval.specs.Rates.{rate_of, scale_answer, rate_answer}
+use Rattle.eval.specs.Rates.{Rate as Answer, rate_of, scale_answer, rate_answer}
 use Rattle.eval.proofs.Exprs.{SomeExpr, IsExpr}
 
 -- r is what the scale, or the rate, at k comes to
@@ -29,12 +28,12 @@ abbrev pub IsRate : List ℕ → List ℤ → ℕ → Answer → Type 0
 IsRate t ls k r = Worth (Rate t) (rate_answer ls) k r
 
 -- an answer that is a number comes from that number
-pub rate-some : (o : Option ℕ) (n : ℕ) → Is n ≡ rate_of o → o ≡ some n
+pub rate-some : (o : Option ℕ) (n : ℕ) → Some n ≡ rate_of o → o ≡ some n
 unfolding rate_of
 rate-some (some m) n e = let i : n ≡ m = cc in rw i
 rate-some none n e = let z : ◌≡◌ {A = ℕ} 0 1 = cc in absurd (omega arith)
 
-pub rate-none : (o : Option ℕ) → Missing ≡ rate_of o → o ≡ none
+pub rate-none : (o : Option ℕ) → None ≡ rate_of o → o ≡ none
 unfolding rate_of
 rate-none (some m) e = let z : ◌≡◌ {A = ℕ} 0 1 = cc in absurd (omega arith)
 rate-none none e = refl

@@ -8,7 +8,7 @@ use lib.IntN.{ℤ, pos}
 use lib.ListN.{length, get_or, set, take, drop, replicate, length-append, length-take, length-replicate, get_or-append}
 use lib.Seq.{sets, length-sets, sets-eq, take-suc, take-append_seam, get_or-append-add}
 use native.Mathlib.Nat.{add-zero}
-use Rattle.value.specs.declared.Value.{Value}
+use Rattle.value.specs.Range.{Value}
 use Rattle.tree.specs.Node.{field, kind_of, token_of, left_of}
 use Rattle.model.specs.Limits.{local_limit}
 use Rattle.model.specs.Resolved

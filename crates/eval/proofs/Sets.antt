@@ -8,8 +8,8 @@ use native.Mathlib.Omega.{arith}
 use lib.Dec.{eqb}
 use lib.IntN.{ℤ}
 use lib.ListN.{get_or}
-use Rattle.value.specs.declared.Value.{Value}
-use Rattle.value.specs.declared.Value.TheVariants.{Is, Missing}
+use Rattle.std.specs.Prelude.{None, Some}
+use Rattle.value.specs.Range.{Value}
 use Rattle.value.proofs.Kit.{true-not-false, false-not-true}
 use Rattle.grammar.specs.Syntax.{Join, without, union, inter}
 use Rattle.tree.specs.Node.{kind_of, left_of, join_kind}
@@ -64,10 +64,7 @@ join-range union = omega arith
 join-range inter = omega arith
 
 -- ---- ends of a range
-pub missing-not-is : {A : Type 0} (v : Value) (z : ℤ) → v ≡ Missing → v ≡ Is z → A
-missing-not-is v z e f = let n : ◌≡◌ {A = ℕ} 0 1 = cc in absurd (omega arith)
-
-pub between_is : (u w : Value) (x y v : ℤ) (r : Bool) → u ≡ Is x → w ≡ Is y → r ≡ within (offers.range x y) v → (a b : ℤ) → u ≡ Is a → w ≡ Is b → r ≡ within (offers.range a b) v
+pub between_is : (u w : Value) (x y v : ℤ) (r : Bool) → u ≡ Some x → w ≡ Some y → r ≡ within (offers.range x y) v → (a b : ℤ) → u ≡ Some a → w ≡ Some b → r ≡ within (offers.range a b) v
 between_is u w x y v r h k e a b f g =
     let i : x ≡ a = cc in
     let j : y ≡ b = cc in
@@ -101,7 +98,7 @@ module _ (t : List ℕ) (k kind : ℕ) (is : kind ≡ kind_of (get_or t k 0)) wh
       go (Resolved.range e f) a g = absurd (omega (arith, a.kind-is))
       go (Resolved.joined j x y) a g = absurd (omega (arith, a.kind-is, join-range j))
 
-  pub single-tells : (ls : List ℤ) (v : ℤ) (z : Value) (r : Bool) → kind < 11 → IsExpr t ls k z → ((a b : ℤ) → z ≡ Is a → z ≡ Is b → r ≡ within (offers.range a b) v) → Tells t ls v k r
+  pub single-tells : (ls : List ℤ) (v : ℤ) (z : Value) (r : Bool) → kind < 11 → IsExpr t ls k z → ((a b : ℤ) → z ≡ Some a → z ≡ Some b → r ≡ within (offers.range a b) v) → Tells t ls v k r
   unfolding Set eval_set
   single-tells ls v z r l w f (Resolved.single e) x a q =
       let u = valued-is _ _ x q in
@@ -115,8 +112,8 @@ module _ (t : List ℕ) (k kind : ℕ) (is : kind ≡ kind_of (get_or t k 0)) wh
   single-ends ls z l w (Resolved.single e) a = rw (← w e a) (go z)
     where
       go : (u : Value) → is_value u ≡ not (is_none (valued u (λ x. some (offers.range x x))))
-      go (Is x) = refl
-      go Missing = refl
+      go (Some x) = refl
+      go None = refl
   single-ends ls z l w (Resolved.range e g) a = absurd (omega (arith, a.kind-is))
   single-ends ls z l w (Resolved.joined j s y) a = absurd (omega (arith, a.kind-is, join-range j))
 
@@ -130,7 +127,7 @@ module _ (t : List ℕ) (k kind : ℕ) (is : kind ≡ kind_of (get_or t k 0)) wh
       go (Resolved.range e f) a g = (pair-above a, record { part = e; at = a.holds-first; fit = g.0 }, record { part = f; at = pair-second a; fit = g.1 })
       go (Resolved.joined j x y) a g = absurd (omega (arith, a.kind-is, join-range j))
 
-  pub range-tells : (ls : List ℤ) (v : ℤ) (z w : Value) (r : Bool) → kind ≡ 11 → IsExpr t ls (left_of (get_or t k 0)) z → IsExpr t ls (k - 1) w → ((a b : ℤ) → z ≡ Is a → w ≡ Is b → r ≡ within (offers.range a b) v) → Tells t ls v k r
+  pub range-tells : (ls : List ℤ) (v : ℤ) (z w : Value) (r : Bool) → kind ≡ 11 → IsExpr t ls (left_of (get_or t k 0)) z → IsExpr t ls (k - 1) w → ((a b : ℤ) → z ≡ Some a → w ≡ Some b → r ≡ within (offers.range a b) v) → Tells t ls v k r
   unfolding Set eval_set
   range-tells ls v z w r l d e f (Resolved.single g) x a q = absurd (omega (arith, expr-kind t k g a))
   range-tells ls v z w r l d e f (Resolved.range g h) x a q =
@@ -145,9 +142,9 @@ module _ (t : List ℕ) (k kind : ℕ) (is : kind ≡ kind_of (get_or t k 0)) wh
   range-ends ls z w l d i e (Resolved.range g h) a = rw (← d g a.holds-first, ← e h (pair-second a)) (go z w i)
     where
       go : (u m : Value) → is_value u ≡ true → is_value m ≡ not (is_none (valued u (λ x. valued m (λ y. some (offers.range x y)))))
-      go (Is x) (Is y) i = refl
-      go (Is x) Missing i = refl
-      go Missing m i = false-not-true i
+      go (Some x) (Some y) i = refl
+      go (Some x) None i = refl
+      go None m i = false-not-true i
   range-ends ls z w l d i e (Resolved.joined j s y) a = absurd (omega (arith, a.kind-is, join-range j))
 
   pub range-unknown : (ls : List ℤ) (z : Value) → kind ≡ 11 → IsExpr t ls (left_of (get_or t k 0)) z → is_value z ≡ false → Ends t ls k false
@@ -156,8 +153,8 @@ module _ (t : List ℕ) (k kind : ℕ) (is : kind ≡ kind_of (get_or t k 0)) wh
   range-unknown ls z l d i (Resolved.range g h) a = rw (← d g a.holds-first) (go z i)
     where
       go : (u : Value) → is_value u ≡ false → false ≡ not (is_none (valued u (λ x. valued (eval_expr ls h) (λ y. some (offers.range x y)))))
-      go (Is x) i = true-not-false i
-      go Missing i = refl
+      go (Some x) i = true-not-false i
+      go None i = refl
   range-unknown ls z l d i (Resolved.joined j s y) a = absurd (omega (arith, a.kind-is, join-range j))
 
   -- two sets

@@ -1,5 +1,6 @@
 -- A channel as four numbers: its shape, and the values of its items (02, note 7). Assumes nothing: these are definitions.
-use Rattle.std.specs.Prelude.{◌≡◌, List, [], ◌∷◌, ℕ, ◌+◌, ◌*◌, ◌/◌, ◌%◌, ℤ, pos}
+use Rattle.std.specs.Prelude.{◌≡◌, List, [], ◌∷◌, ℕ, ◌+◌, ◌*◌, ◌/◌, ◌%◌, ◌≤◌, ℤ, pos, Some, None}
+use Rattle.std.specs.Prelude.{Option as RustOption}
 use Rattle.std.proofs.Math.Option.{Option, none, some}
 use Rattle.value.specs.Items.{one_item, two_items, three_items}
 use Rattle.model.specs.Resolved
@@ -48,18 +49,23 @@ numbers_of s a b c = pos (s / 8) ∷ pos (s % 2) ∷ a ∷ pos (s / 2 % 2) ∷ b
 
 -- ---- what is evaluated
 
--- 01, State: an item's kind and value; kind 2 where it has none
-unfoldable pub item_of : Option offers.Item → Item
-item_of (some a) = record { kind = item_kind a; value = item_value a }
-item_of none = record { kind = 2; value = pos 0 }
+-- 01, State: an item's kind and value, if it has one
+unfoldable pub item_of : Option offers.Item → RustOption Item
+item_of (some a) = Some (record { kind = item_kind a; value = item_value a })
+item_of none = None
 
-unfoldable pub item_answer : List ℤ → Resolved.Item → Item
+-- 01, State: a kind is 0 or 1
+abbrev pub SmallKind : RustOption Item → Type 0
+SmallKind (Some a) = a.kind ≤ 1
+SmallKind None = Unit {0}
+
+unfoldable pub item_answer : List ℤ → Resolved.Item → RustOption Item
 item_answer ls a = item_of (eval_item ls a)
 
--- 02, note 7: a channel's four numbers; shape 0 where an item has no value
-unfoldable pub channel_of : Option offers.Channel → Channel
-channel_of (some x) = record { shape = shape_of x; first = first_of x; second = second_of x; third = third_of x }
-channel_of none = record { shape = 0; first = pos 0; second = pos 0; third = pos 0 }
+-- 02, note 7: a channel's four numbers, if all its items have values
+unfoldable pub channel_of : Option offers.Channel → RustOption Channel
+channel_of (some x) = Some (record { shape = shape_of x; first = first_of x; second = second_of x; third = third_of x })
+channel_of none = None
 
-unfoldable pub channel_answer : List ℤ → Resolved.Channel → Channel
+unfoldable pub channel_answer : List ℤ → Resolved.Channel → RustOption Channel
 channel_answer ls c = channel_of (eval_channel ls c)

@@ -1,5 +1,5 @@
 -- What continuations become over settled nodes. Assumes nothing: these are definitions.
-use Rattle.std.specs.Prelude.{◌≡◌, List, [], ◌∷◌, map, cond, ℕ, ◌+◌, ◌-◌, ◌*◌, ◌≤◌, ◌<◌, ltb, ℤ, length, get_or}
+use Rattle.std.specs.Prelude.{◌≡◌, List, [], ◌∷◌, map, cond, ℕ, ◌+◌, ◌-◌, ◌*◌, ◌≤◌, ◌<◌, ltb, ℤ, length, get_or, Some, None, Option}
 use Rattle.std.proofs.Math.Option.{some}
 use Rattle.std.proofs.Math.ListN.{get_elem?}
 use Rattle.std.proofs.lemmas.List.Edits.{sets}
@@ -13,13 +13,15 @@ use Rattle.model.specs.Good.{Every, GoodExpr, GoodPart, GoodModel}
 use Rattle.machine.specs.Evaluate.{eval_expr}
 use Rattle.machine.specs.Offer.{Process, or_zero, next_processes}
 use Rattle.machine.specs.State.{process_width, process_numbers, flatten}
-use Rattle.eval.specs.declared.next.Next.{Next}
-use Rattle.eval.specs.declared.next.Next.TheVariants.{At, Nothing}
+
+-- the root of a continuation, or none
+abbrev pub Next : Type 0
+Next = Option ℕ
 
 -- 01, Model text: a guarded prefix has a continuation or none; one is given by its root
 pub data ShowsNext (t : List ℕ) : List Resolved.Part → Next → Type 0 where
-  at : {p : Resolved.Part} {ps : List Resolved.Part} {i : ℕ} → Settled.Parts t (p ∷ ps) i → ShowsNext t (p ∷ ps) (At i)
-  nothing : ShowsNext t [] Nothing
+  at : {p : Resolved.Part} {ps : List Resolved.Part} {i : ℕ} → Settled.Parts t (p ∷ ps) i → ShowsNext t (p ∷ ps) (Some i)
+  nothing : ShowsNext t [] None
 
 -- 01, Model text: some prefix without its gate stands at k
 pub record SomePrefix (t : List ℕ) (k : ℕ) : Type 0 where

@@ -1,9 +1,8 @@
 -- What a branch offers as numbers: an offer's kind, rate, channel, and values or sets. Assumes nothing: these are definitions.
-use Rattle.std.specs.Prelude.{◌≡◌, List, [], ◌∷◌, Bool, cond, not, ◌||◌, ℕ, ◌+◌, ◌-◌, eqb, ℤ, pos, length}
+use Rattle.std.specs.Prelude.{◌≡◌, List, [], ◌∷◌, Bool, cond, ◌||◌, ℕ, ◌+◌, ◌-◌, eqb, ℤ, pos, length, None, Some}
+use Rattle.std.specs.Prelude.{Option as RustOption}
 use Rattle.std.proofs.Math.Option.{Option, none, some}
-use Rattle.value.specs.declared.Value.{Value}
-use Rattle.value.specs.declared.Value.TheVariants.{Is, Missing}
-use Rattle.value.specs.Range.{farthest, InRange}
+use Rattle.value.specs.Range.{farthest, InRange, Value}
 use Rattle.tree.specs.Node as node
 use Rattle.model.specs.Resolved
 use Rattle.rules.specs.Offers as offers
@@ -12,13 +11,11 @@ use Rattle.model.specs.Good.{GoodSet, GoodValues, GoodSets, GoodAction, GoodRate
 use Rattle.machine.specs.Evaluate.{eval_set, eval_all, eval_pair, eval_query, eval_action, eval_rate}
 use Rattle.eval.specs.Held.{Held}
 use Rattle.eval.specs.declared.Values.{Values}
-use Rattle.eval.specs.declared.Values.TheVariants.{One, Two, Missing as Unknown}
+use Rattle.eval.specs.declared.Values.TheVariants.{One, Two}
 use Rattle.eval.specs.declared.channel.Channel.{Channel}
 use Rattle.eval.specs.Channels.{ShowsChannel}
 use Rattle.eval.specs.declared.offer.Offer.{Offer}
 use Rattle.eval.specs.declared.offer.Listed.{Listed}
-use Rattle.eval.specs.declared.offer.Ends.{Ends}
-use Rattle.eval.specs.declared.offer.Ends.TheVariants.{Are, Missing as Endless}
 
 -- ---- what stands in an offer
 
@@ -104,59 +101,55 @@ pub data ShowsOffer (t : List ℕ) (ls : List ℤ) : Option offers.Guard → Off
 
 -- ---- the steps towards an offer
 
--- 01, Values: no list, where one of its parts has no value
-unfoldable pub none_listed : Listed
-none_listed = record { count = 0; first = pos 0; first_end = pos 0; second = pos 0; second_end = pos 0 }
+-- 01, Values: the values of an action in a row, if all are there
+unfoldable pub listed_values : RustOption Values → RustOption Listed
+listed_values (Some (One a)) = Some (record { count = 1; first = a; first_end = pos 0; second = pos 0; second_end = pos 0 })
+listed_values (Some (Two a b)) = Some (record { count = 2; first = a; first_end = pos 0; second = b; second_end = pos 0 })
+listed_values None = None
 
--- 01, Values: the values of an action in a row
-unfoldable pub listed_values : Values → Listed
-listed_values (One a) = record { count = 1; first = a; first_end = pos 0; second = pos 0; second_end = pos 0 }
-listed_values (Two a b) = record { count = 2; first = a; first_end = pos 0; second = b; second_end = pos 0 }
-listed_values Unknown = none_listed
+-- two numbers that show a set, if all its ends have values
+abbrev pub Ends : Type 0
+Ends = RustOption (ℤ × ℤ)
 
 -- 01, Model text, sets: the ends of a range
 unfoldable pub range_ends : Value → Value → Ends
-range_ends (Is a) (Is b) = Are a b
-range_ends (Is a) Missing = Endless
-range_ends Missing y = Endless
+range_ends (Some a) (Some b) = Some (a, b)
+range_ends (Some a) None = None
+range_ends None y = None
 
 -- 01, Values: one set in a row
-unfoldable pub one_set : Ends → Listed
-one_set (Are a b) = record { count = 1; first = a; first_end = b; second = pos 0; second_end = pos 0 }
-one_set Endless = none_listed
+unfoldable pub one_set : Ends → RustOption Listed
+one_set (Some (a, b)) = Some (record { count = 1; first = a; first_end = b; second = pos 0; second_end = pos 0 })
+one_set None = None
 
 -- 01, Values: two sets in a row
-unfoldable pub two_sets : Ends → Ends → Listed
-two_sets (Are a b) (Are c d) = record { count = 2; first = a; first_end = b; second = c; second_end = d }
-two_sets (Are a b) Endless = none_listed
-two_sets Endless y = none_listed
+unfoldable pub two_sets : Ends → Ends → RustOption Listed
+two_sets (Some (a, b)) (Some (c, d)) = Some (record { count = 2; first = a; first_end = b; second = c; second_end = d })
+two_sets (Some (a, b)) None = None
+two_sets None y = None
 
 -- 01, Values: a set and its two numbers, if all its ends have values
 pub data ShowsEnds (t : List ℕ) (ls : List ℤ) : Option offers.Set → Ends → Type 0 where
-  are : {x : offers.Set} {a b : ℤ} → ShowsSet t ls a b x → ShowsEnds t ls (some x) (Are a b)
-  missing : ShowsEnds t ls none Endless
+  are : {x : offers.Set} {a b : ℤ} → ShowsSet t ls a b x → ShowsEnds t ls (some x) (Some (a, b))
+  missing : ShowsEnds t ls none None
 
 -- 01, Values: the same of the set that stands at k
 abbrev pub SetShown : List ℕ → List ℤ → ℕ → Ends → Type 0
 SetShown t ls k r = (s : Resolved.Set) → Settled.Set t s k → ShowsEnds t ls (eval_set ls s) r
 
 -- 01, Values: values, if all are there
-pub data ListsValues (l : Listed) : Option (List ℤ) → Type 0 where
-  all : {vs : List ℤ} → ShowsValues l.count l.first l.first_end l.second l.second_end vs → ListsValues l (some vs)
-  missing : l.count ≡ 0 → ListsValues l none
+pub data ListsValues : RustOption Listed → Option (List ℤ) → Type 0 where
+  all : {l : Listed} {vs : List ℤ} → ShowsValues l.count l.first l.first_end l.second l.second_end vs → ListsValues (Some l) (some vs)
+  missing : ListsValues None none
 
 -- 01, Values: sets, if the ends of all are there
-pub data ListsSets (t : List ℕ) (ls : List ℤ) (l : Listed) : Option (List offers.Set) → Type 0 where
-  all : {xs : List offers.Set} → ShowsSets t ls l.count l.first l.first_end l.second l.second_end xs → ListsSets t ls l (some xs)
-  missing : l.count ≡ 0 → ListsSets t ls l none
+pub data ListsSets (t : List ℕ) (ls : List ℤ) : RustOption Listed → Option (List offers.Set) → Type 0 where
+  all : {l : Listed} {xs : List offers.Set} → ShowsSets t ls l.count l.first l.first_end l.second l.second_end xs → ListsSets t ls (Some l) (some xs)
+  missing : ListsSets t ls None none
 
 -- 01, Values: the same of the sets that stand at k
-abbrev pub SetsListed : List ℕ → List ℤ → ℕ → Listed → Type 0
+abbrev pub SetsListed : List ℕ → List ℤ → ℕ → RustOption Listed → Type 0
 SetsListed t ls k r = (ss : List Resolved.Set) → Settled.OneOrTwo t (Settled.Set t) ss k → ListsSets t ls r (eval_all (eval_set ls) ss)
-
--- 01, Values: a channel that has a value
-unfoldable pub is_found : Channel → Bool
-is_found c = not (eqb c.shape 0)
 
 -- 02, note 7: kind, rate and list with the channel's four numbers
 unfoldable pub with_channel : ℕ → ℕ → Channel → Listed → Offer
@@ -176,8 +169,10 @@ with_channel kind rate c l =
     }
 
 -- 01, Values: kind, rate, channel and list, if all are there
-unfoldable pub assembled : ℕ → ℕ → Channel → Listed → Offer
-assembled kind rate c l = cond (eqb l.count 0) (bare_offer lacking 0) (cond (is_found c) (with_channel kind rate c l) (bare_offer lacking 0))
+unfoldable pub assembled : ℕ → ℕ → RustOption Channel → RustOption Listed → Offer
+assembled kind rate (Some c) (Some l) = with_channel kind rate c l
+assembled kind rate (Some c) None = bare_offer lacking 0
+assembled kind rate None l = bare_offer lacking 0
 
 -- 01, Values: r shows a part of this kind and rate, if it is there
 pub data ShowsPart {A : Type 0} (shows : Offer → A → Type 0) (kind rate : ℕ) (r : Offer) : Option A → Type 0 where

@@ -7,7 +7,6 @@ pub mod offer;
 
 ghost use Rattle.std.specs.Prelude.{◌≡◌, Bool, cond, not, [], ◌∷◌, ℕ, ◌≤◌, ◌<◌, ℤ, pos, ◌*ℤ◌, length, get_or};
 ghost use Rattle.std.proofs.Math.Option.{Option, some};
-ghost use Rattle.value.specs.declared.Value.TheVariants.{Is};
 ghost use Rattle.value.specs.Range.{InRange};
 ghost use Rattle.value.specs.Arithmetic.{abs_of};
 ghost use Rattle.grammar.specs.Grammar.{Relation};
@@ -18,7 +17,7 @@ ghost use Rattle.rules.specs.Offers.{range, within};
 ghost use Rattle.tables.specs.Settled as Settled;
 ghost use Rattle.model.specs.Good.{Every, GoodExpr, GoodSet, GoodCond, GoodRate};
 ghost use Rattle.machine.specs.Evaluate.{with_value, valued, given, apply, related, in_rate, eval_expr};
-ghost use Rattle.machine.specs.Offer.{is_value, all_values};
+ghost use Rattle.machine.specs.Offer.{all_values};
 ghost use Rattle.eval.specs.Held.{Held, Worth, Sound};
 ghost use Rattle.eval.specs.Skips.{settles, skips};
 ghost use Rattle.eval.specs.Rates.{rate_of, scale_answer, rate_answer};
@@ -26,7 +25,6 @@ ghost use Rattle.eval.specs.Lists.{values_given, values_answer};
 ghost use Rattle.eval.specs.Answers.{Tells, ends_known, truth_of, truth};
 
 use tree::NodeKind;
-use value::Value;
 
 // A cell of a number has its kind below KINDS, then the number above OFFSET.
 const KINDS: u64 = 256;
@@ -37,20 +35,14 @@ const OFFSET: i64 = 36028797018963968;
 pub fn cell_at(nodes: &[u64], k: usize) -> u64
     ensures { result ≡ get_or nodes.now k 0 }
 {
-    if k < nodes.len() {
-        return nodes[k];
-    }
-    0
+    nodes.get(k).copied().unwrap_or(0)
 }
 
 // Local i.
 fn local_at(locals: &[i64], i: usize) -> i64
     ensures { result ≡ get_or locals.now i (pos 0) }
 {
-    if i < locals.len() {
-        return locals[i];
-    }
-    0
+    locals.get(i).copied().unwrap_or(0)
 }
 
 // The number of a cell.
@@ -61,7 +53,7 @@ fn number_of(cell: u64) -> i64
 }
 
 // One operator on two values.
-fn apply(kind: u8, x: i64, y: i64) -> Value
+fn apply(kind: u8, x: i64, y: i64) -> Option<i64>
     requires { (InRange x) × (InRange y) }
     ensures { (o : Op) → kind ≡ op_kind o → result ≡ apply o x y }
 {
@@ -70,46 +62,37 @@ fn apply(kind: u8, x: i64, y: i64) -> Value
         NodeKind::MINUS => value::sub_value(x, y),
         NodeKind::TIMES => value::mul_value(x, y),
         NodeKind::DIVIDE => value::div_value(x, y),
-        NodeKind::MAXIMUM => Value::Is(value::max_of(x, y)),
-        _ => Value::Is(value::min_of(x, y)),
+        NodeKind::MAXIMUM => Some(value::max_of(x, y)),
+        _ => Some(value::min_of(x, y)),
     }
 }
 
-fn combined(kind: u8, x: Value, y: Value) -> Value
+fn combined(kind: u8, x: Option<i64>, y: Option<i64>) -> Option<i64>
     requires { (Sound x) × (Sound y) }
     ensures { (o : Op) → kind ≡ op_kind o → result ≡ with_value x (λ a. with_value y (λ b. apply o a b)) }
 {
-    match x {
-        Value::Is(a) => match y {
-            Value::Is(b) => apply(kind, a, b),
-            Value::Missing => Value::Missing,
-        },
-        Value::Missing => Value::Missing,
-    }
+    apply(kind, x?, y?)
 }
 
-fn absolute(x: Value) -> Value
+fn absolute(x: Option<i64>) -> Option<i64>
     requires { Sound x }
     ensures { result ≡ with_value x abs_of }
 {
-    match x {
-        Value::Is(a) => value::abs_value(a),
-        Value::Missing => Value::Missing,
-    }
+    value::abs_value(x?)
 }
 
 // What the expression at k comes to.
-pub fn eval_node(nodes: &[u64], locals: &[i64], k: usize) -> Value
+pub fn eval_node(nodes: &[u64], locals: &[i64], k: usize) -> Option<i64>
     requires { (Held (Settled.Expr nodes.now) (GoodExpr (length locals.now)) k) × (Every InRange locals.now) }
     ensures { Worth (Settled.Expr nodes.now) (eval_expr locals.now) k result }
 {
     let cell = cell_at(nodes, k);
     let kind = tree::kind_of(cell);
     if kind == NodeKind::LITERAL {
-        return Value::Is(number_of(cell));
+        return Some(number_of(cell));
     }
     if kind == NodeKind::NAMED {
-        return Value::Is(local_at(locals, tree::token_of(cell)));
+        return Some(local_at(locals, tree::token_of(cell)));
     }
     if kind == NodeKind::ABSOLUTE {
         return absolute(eval_node(nodes, locals, k - 1));
@@ -120,15 +103,12 @@ pub fn eval_node(nodes: &[u64], locals: &[i64], k: usize) -> Value
 }
 
 // Whether v lies from x to y, where both have a value.
-fn between(x: Value, v: i64, y: Value) -> bool
-    ensures { (a b : ℤ) → x ≡ Is a → y ≡ Is b → result ≡ within (range a b) v }
+fn between(x: Option<i64>, v: i64, y: Option<i64>) -> bool
+    ensures { (a b : ℤ) → x ≡ Some a → y ≡ Some b → result ≡ within (range a b) v }
 {
-    match x {
-        Value::Is(a) => match y {
-            Value::Is(b) => value::at_most(a, v) && value::at_most(v, b),
-            Value::Missing => false,
-        },
-        Value::Missing => false,
+    match (x, y) {
+        (Some(a), Some(b)) => a <= v && v <= b,
+        _ => false,
     }
 }
 
@@ -167,15 +147,6 @@ pub fn in_set(nodes: &[u64], locals: &[i64], k: usize, v: i64) -> bool
     q
 }
 
-fn is_known(x: Value) -> bool
-    ensures { result ≡ is_value x }
-{
-    match x {
-        Value::Is(_) => true,
-        Value::Missing => false,
-    }
-}
-
 // Whether all ends of the set at k have values.
 pub fn ends_known(nodes: &[u64], locals: &[i64], k: usize) -> bool
     requires { (Held (Settled.Set nodes.now) (GoodSet (length locals.now)) k) × (Every InRange locals.now) }
@@ -184,20 +155,13 @@ pub fn ends_known(nodes: &[u64], locals: &[i64], k: usize) -> bool
     let cell = cell_at(nodes, k);
     let kind = tree::kind_of(cell);
     if kind < NodeKind::RANGE {
-        return is_known(eval_node(nodes, locals, k));
+        return eval_node(nodes, locals, k).is_some();
     }
     let i = tree::left_of(cell);
     if kind == NodeKind::RANGE {
-        return is_known(eval_node(nodes, locals, i)) && is_known(eval_node(nodes, locals, k - 1));
+        return eval_node(nodes, locals, i).is_some() && eval_node(nodes, locals, k - 1).is_some();
     }
     ends_known(nodes, locals, i) && ends_known(nodes, locals, k - 1)
-}
-
-#[derive(Clone, Copy)]
-pub enum Truth {
-    Yes,
-    No,
-    Missing,
 }
 
 // One relation on two values.
@@ -205,12 +169,12 @@ fn related(kind: u8, x: i64, y: i64) -> bool
     ensures { (r : Relation) → kind ≡ relation_kind r → result ≡ related r x y }
 {
     match kind {
-        NodeKind::LESS => value::less(x, y),
-        NodeKind::AT_MOST => value::at_most(x, y),
-        NodeKind::GREATER => value::less(y, x),
-        NodeKind::AT_LEAST => value::at_most(y, x),
-        NodeKind::SAME => value::same(x, y),
-        _ => !value::same(x, y),
+        NodeKind::LESS => x < y,
+        NodeKind::AT_MOST => x <= y,
+        NodeKind::GREATER => y < x,
+        NodeKind::AT_LEAST => y <= x,
+        NodeKind::SAME => x == y,
+        _ => x != y,
     }
 }
 
@@ -224,35 +188,25 @@ fn tested(kind: u8, x: i64, y: i64) -> bool
     related(kind, x, y)
 }
 
-fn compared(kind: u8, x: Value, y: Value) -> Truth
+fn compared(kind: u8, x: Option<i64>, y: Option<i64>) -> Option<bool>
     ensures { (turned : Bool) (r : Relation) → kind ≡ test_kind turned r → result ≡ truth_of (valued x (λ a. valued y (λ z. some (cond turned (not (related r a z)) (related r a z))))) }
 {
-    match x {
-        Value::Is(a) => match y {
-            Value::Is(b) => if tested(kind, a, b) {
-                Truth::Yes
-            } else {
-                Truth::No
-            },
-            Value::Missing => Truth::Missing,
-        },
-        Value::Missing => Truth::Missing,
-    }
+    Some(tested(kind, x?, y?))
 }
 
 // Whether the left condition alone decides.
-fn decided(kind: u8, p: Truth) -> bool
+fn decided(kind: u8, p: Option<bool>) -> bool
     ensures { result ≡ skips kind p }
 {
     match p {
-        Truth::Yes => kind == NodeKind::EITHER,
-        Truth::No => kind == NodeKind::BOTH,
-        Truth::Missing => true,
+        Some(true) => kind == NodeKind::EITHER,
+        Some(false) => kind == NodeKind::BOTH,
+        None => true,
     }
 }
 
 // Whether the condition at k holds.
-pub fn holds(nodes: &[u64], locals: &[i64], k: usize) -> Truth
+pub fn holds(nodes: &[u64], locals: &[i64], k: usize) -> Option<bool>
     requires { (Held (Settled.Cond nodes.now) (GoodCond (length locals.now)) k) × (Every InRange locals.now) }
     ensures { Worth (Settled.Cond nodes.now) (truth locals.now) k result }
 {
@@ -272,12 +226,6 @@ pub fn holds(nodes: &[u64], locals: &[i64], k: usize) -> Truth
 }
 
 #[derive(Clone, Copy)]
-pub enum Rate {
-    Is(u64),
-    Missing,
-}
-
-#[derive(Clone, Copy)]
 pub struct RateRange;
 
 impl RateRange {
@@ -288,38 +236,38 @@ impl RateRange {
 }
 
 // z as a rate, if it lies in the range.
-fn rate_in(z: i64) -> Rate
+fn rate_in(z: i64) -> Option<u64>
     ensures { result ≡ rate_of (in_rate z) }
 {
     if z < 0 {
-        return Rate::Missing;
+        return None;
     }
     if RateRange::GREATEST < z {
-        return Rate::Missing;
+        return None;
     }
-    Rate::Is(z as u64)
+    Some(z as u64)
 }
 
 // The product of a scale and a number, of any size: whether it is a rate is decided before it is multiplied.
-fn scaled(n: u64, v: i64) -> Rate
+fn scaled(n: u64, v: i64) -> Option<u64>
     ensures { result ≡ rate_of (in_rate (pos n *ℤ v)) }
 {
     if n == 0 {
-        return Rate::Is(0);
+        return Some(0);
     }
     if v < 0 {
-        return Rate::Missing;
+        return None;
     }
     let size = v as u64;
     if !value::product_within(n, size, RateRange::GREATEST as u64) {
-        return Rate::Missing;
+        return None;
     }
     let product = n * size;
-    Rate::Is(product)
+    Some(product)
 }
 
 // What the scale at k comes to.
-fn scale_of(nodes: &[u64], locals: &[i64], k: usize) -> Rate
+fn scale_of(nodes: &[u64], locals: &[i64], k: usize) -> Option<u64>
     ensures { Worth (Settled.Scale nodes.now) (scale_answer locals.now) k result }
 {
     let cell = cell_at(nodes, k);
@@ -329,20 +277,14 @@ fn scale_of(nodes: &[u64], locals: &[i64], k: usize) -> Rate
     scaled(RateRange::UNIT, local_at(locals, tree::token_of(cell)))
 }
 
-fn times(scale: Rate, x: Value) -> Rate
+fn times(scale: Option<u64>, x: Option<i64>) -> Option<u64>
     ensures { (o : Option ℕ) → scale ≡ rate_of o → result ≡ rate_of (given o (λ n. valued x (λ v. in_rate (pos n *ℤ v)))) }
 {
-    match scale {
-        Rate::Is(n) => match x {
-            Value::Is(v) => scaled(n, v),
-            Value::Missing => Rate::Missing,
-        },
-        Rate::Missing => Rate::Missing,
-    }
+    scaled(scale?, x?)
 }
 
 // What the rate at k comes to.
-pub fn rate_of(nodes: &[u64], locals: &[i64], k: usize) -> Rate
+pub fn rate_of(nodes: &[u64], locals: &[i64], k: usize) -> Option<u64>
     requires { (Held (Settled.Rate nodes.now) (GoodRate (length locals.now)) k) × (Every InRange locals.now) }
     ensures { Worth (Settled.Rate nodes.now) (rate_answer locals.now) k result }
 {
@@ -359,32 +301,22 @@ pub fn rate_of(nodes: &[u64], locals: &[i64], k: usize) -> Rate
 pub enum Values {
     One(i64),
     Two(i64, i64),
-    Missing,
 }
 
-fn one_value(x: Value) -> Values
+fn one_value(x: Option<i64>) -> Option<Values>
     ensures { result ≡ values_given (x ∷ []) }
 {
-    match x {
-        Value::Is(a) => Values::One(a),
-        Value::Missing => Values::Missing,
-    }
+    Some(Values::One(x?))
 }
 
-fn two_values(x: Value, y: Value) -> Values
+fn two_values(x: Option<i64>, y: Option<i64>) -> Option<Values>
     ensures { result ≡ values_given (x ∷ y ∷ []) }
 {
-    match x {
-        Value::Is(a) => match y {
-            Value::Is(b) => Values::Two(a, b),
-            Value::Missing => Values::Missing,
-        },
-        Value::Missing => Values::Missing,
-    }
+    Some(Values::Two(x?, y?))
 }
 
 // What the one or two expressions at k come to.
-pub fn values_of(nodes: &[u64], locals: &[i64], k: usize) -> Values
+pub fn values_of(nodes: &[u64], locals: &[i64], k: usize) -> Option<Values>
     requires { (Held (Settled.OneOrTwo nodes.now (Settled.Expr nodes.now)) (Every (GoodExpr (length locals.now))) k) × (Every InRange locals.now) }
     ensures { Worth (Settled.OneOrTwo nodes.now (Settled.Expr nodes.now)) (values_answer locals.now) k result }
 {
@@ -404,7 +336,7 @@ pub fn arguments_known(nodes: &[u64], locals: &[i64], k: usize) -> bool
 {
     let cell = cell_at(nodes, k);
     if tree::kind_of(cell) != NodeKind::ARGUMENT {
-        return is_known(eval_node(nodes, locals, k));
+        return eval_node(nodes, locals, k).is_some();
     }
-    is_known(eval_node(nodes, locals, tree::left_of(cell))) && arguments_known(nodes, locals, k - 1)
+    eval_node(nodes, locals, tree::left_of(cell)).is_some() && arguments_known(nodes, locals, k - 1)
 }

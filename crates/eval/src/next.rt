@@ -8,39 +8,26 @@ ghost use Rattle.model.specs.Resolved as Resolved;
 ghost use Rattle.tables.specs.Settled as Settled;
 ghost use Rattle.tables.specs.Represents as Represents;
 ghost use Rattle.model.specs.Good.{Every, GoodPart};
-ghost use Rattle.machine.specs.Offer.{or_zero, arguments_given, next_processes};
+ghost use Rattle.machine.specs.Offer.{arguments_given, next_processes};
 ghost use Rattle.machine.specs.State.{process_width, process_numbers};
 ghost use Rattle.eval.specs.Held.{Held, Worth};
 ghost use Rattle.eval.specs.Next as Become;
 
 use tree::NodeKind;
-use value::Value;
-
-// The root of a continuation.
-#[derive(Clone, Copy)]
-pub enum Next {
-    At(usize),
-    Nothing,
-}
-
-impl Next {
-    // where counting stops: four times as many processes as a state holds
-    pub const MOST: usize = 4 * model::Limits::PROCESSES;
-}
 
 // The continuation of the branch at k behind its gate, if it has one.
-fn prefix_next(nodes: &[u64], k: usize) -> Next
+fn prefix_next(nodes: &[u64], k: usize) -> Option<usize>
     requires { Become.SomePrefix nodes.now k }
     ensures { (a : Resolved.Action) (q : Resolved.Rate) (ps : List Resolved.Part) → Settled.Offer nodes.now a q ps k → Become.ShowsNext nodes.now ps result }
 {
     if tree::kind_of(crate::cell_at(nodes, k)) == NodeKind::DOT {
-        return Next::At(k - 1);
+        return Some(k - 1);
     }
-    Next::Nothing
+    None
 }
 
 // The continuation of the branch at k.
-pub fn continuation_of(nodes: &[u64], k: usize) -> Next
+pub fn continuation_of(nodes: &[u64], k: usize) -> Option<usize>
     requires { (b : Resolved.Branch) × Settled.Branch nodes.now b k }
     ensures { (b : Resolved.Branch) → Settled.Branch nodes.now b k → Become.ShowsNext nodes.now b.next result }
 {
@@ -74,10 +61,7 @@ pub fn arguments_given(nodes: &[u64], locals: &[i64], k: usize) -> bool
 pub fn less(a: usize, b: usize) -> usize
     ensures { result ≡ a - b }
 {
-    if a < b {
-        return 0;
-    }
-    a - b
+    a.saturating_sub(b)
 }
 
 // The root of the sums of definition d.
@@ -85,7 +69,7 @@ pub fn body_of(nodes: &[u64], root: usize, variables: usize, d: usize) -> usize
     requires { 1 ≤ left_of (get_or nodes.now (root - variables - d) 0) }
     ensures { result ≡ left_of (get_or nodes.now (root - variables - d) 0) - 1 }
 {
-    let cell = crate::cell_at(nodes, less(less(root, variables), d));
+    let cell = crate::cell_at(nodes, root.saturating_sub(variables).saturating_sub(d));
     tree::left_of(cell) - 1
 }
 
@@ -104,10 +88,7 @@ fn count_sums(nodes: &[u64], k: usize) -> usize
 fn cut(n: usize) -> usize
     ensures { result ≡ Become.cut n }
 {
-    if Next::MOST < n {
-        return Next::MOST;
-    }
-    n
+    n.min(Row::MOST)
 }
 
 // How many processes the continuation at k becomes, up to MOST.
@@ -142,6 +123,9 @@ impl Row {
     pub const DEFINITION: usize = state::Layout::DEFINITION;
 
     pub const WIDTH: usize = state::Layout::PROCESS;
+
+    // Where counting rows stops: four times as many processes as a state holds.
+    pub const MOST: usize = 4 * model::Limits::PROCESSES;
 }
 
 // Number j of a process.
@@ -164,12 +148,10 @@ fn put_numbers(sum: usize, locals: &[i64], definition: usize, fresh: &mut [i64],
     ensures { fresh.new ≡ sets fresh.old (at * process_width) (process_numbers (record { sum = sum; locals = locals.now; definition = definition })) }
 {
     let base = at * Row::WIDTH;
-    let mut j = 0;
-    while j < Row::WIDTH {
+    for j in 0..Row::WIDTH {
         let z = row_number(sum, locals, definition, j);
         let i = base + j;
         fresh[i] = z;
-        j += 1;
     }
 }
 
@@ -182,15 +164,6 @@ fn put_row(sum: usize, locals: &[i64], fresh: &mut [i64], at: usize, scopes: &[u
     put_numbers(sum, locals, definition, fresh, at);
 }
 
-fn or_zero(x: Value) -> i64
-    ensures { result ≡ or_zero x }
-{
-    match x {
-        Value::Is(z) => z,
-        Value::Missing => 0,
-    }
-}
-
 // Writes the values of the arguments at k from place `at` on.
 fn put_arguments(nodes: &[u64], locals: &[i64], k: usize, values: &mut [i64], at: usize)
     requires { (Become.Room nodes.now (length locals.now) k (length values.old) at) × (Every InRange locals.now) }
@@ -198,11 +171,11 @@ fn put_arguments(nodes: &[u64], locals: &[i64], k: usize, values: &mut [i64], at
 {
     let cell = crate::cell_at(nodes, k);
     if tree::kind_of(cell) != NodeKind::ARGUMENT {
-        let z = or_zero(crate::eval_node(nodes, locals, k));
+        let z = crate::eval_node(nodes, locals, k).unwrap_or(0);
         values[at] = z;
         return;
     }
-    let z = or_zero(crate::eval_node(nodes, locals, tree::left_of(cell)));
+    let z = crate::eval_node(nodes, locals, tree::left_of(cell)).unwrap_or(0);
     values[at] = z;
     put_arguments(nodes, locals, k - 1, values, at + 1);
 }

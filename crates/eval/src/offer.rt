@@ -10,10 +10,9 @@ ghost use Rattle.machine.specs.Evaluate.{eval_set, eval_branch};
 ghost use Rattle.eval.specs.Held.{Held, Sound};
 ghost use Rattle.eval.specs.Shown as Shown;
 
+use crate::Values;
 use crate::channel::Channel;
-use crate::{Rate, Truth, Values};
 use tree::NodeKind;
-use value::Value;
 
 // Numbers that stand for a set: its two ends, or its root with JOINED.
 #[derive(Clone, Copy)]
@@ -49,7 +48,7 @@ impl Offer {
     pub const MISSING: u8 = 1;
 }
 
-// One or two values or sets; none where one of them has no value.
+// One or two values or sets.
 #[derive(Clone, Copy)]
 pub struct Listed {
     pub count: usize,
@@ -59,20 +58,13 @@ pub struct Listed {
     pub second_end: i64,
 }
 
-// A set that is shown by two numbers.
-#[derive(Clone, Copy)]
-pub enum Ends {
-    Are(i64, i64),
-    Missing,
-}
-
 // An offer of this kind and rate, and of nothing else.
 fn bare_offer(kind: u8, rate: u64) -> Offer
     ensures { result ≡ Shown.bare_offer kind rate }
 {
     Offer {
-        kind: kind,
-        rate: rate,
+        kind,
+        rate,
         shape: 0,
         channel: 0,
         count: 0,
@@ -85,48 +77,35 @@ fn bare_offer(kind: u8, rate: u64) -> Offer
     }
 }
 
-fn listed_values(v: Values) -> Listed
+fn listed_values(v: Option<Values>) -> Option<Listed>
     ensures { result ≡ Shown.listed_values v }
 {
-    match v {
-        Values::One(a) => Listed {
+    match v? {
+        Values::One(a) => Some(Listed {
             count: 1,
             first: a,
             first_end: 0,
             second: 0,
             second_end: 0,
-        },
-        Values::Two(a, b) => Listed {
+        }),
+        Values::Two(a, b) => Some(Listed {
             count: 2,
             first: a,
             first_end: 0,
             second: b,
             second_end: 0,
-        },
-        Values::Missing => Listed {
-            count: 0,
-            first: 0,
-            first_end: 0,
-            second: 0,
-            second_end: 0,
-        },
+        }),
     }
 }
 
-fn range_ends(x: Value, y: Value) -> Ends
+fn range_ends(x: Option<i64>, y: Option<i64>) -> Option<(i64, i64)>
     ensures { result ≡ Shown.range_ends x y }
 {
-    match x {
-        Value::Is(a) => match y {
-            Value::Is(b) => Ends::Are(a, b),
-            Value::Missing => Ends::Missing,
-        },
-        Value::Missing => Ends::Missing,
-    }
+    Some((x?, y?))
 }
 
 // The set at k by two numbers, if all its ends have values.
-fn set_of(nodes: &[u64], locals: &[i64], k: usize) -> Ends
+fn set_of(nodes: &[u64], locals: &[i64], k: usize) -> Option<(i64, i64)>
     requires { (Held (Settled.Set nodes.now) (GoodSet (length locals.now)) k) × (Every InRange locals.now) }
     ensures { Shown.SetShown nodes.now locals.now k result }
 {
@@ -142,64 +121,40 @@ fn set_of(nodes: &[u64], locals: &[i64], k: usize) -> Ends
         return range_ends(x, y);
     }
     if crate::ends_known(nodes, locals, k) {
-        return Ends::Are(k as i64, OfferSet::JOINED);
+        return Some((k as i64, OfferSet::JOINED));
     }
-    Ends::Missing
+    None
 }
 
-fn one_set(x: Ends) -> Listed
+fn one_set(x: Option<(i64, i64)>) -> Option<Listed>
     ensures { result ≡ Shown.one_set x }
 {
-    match x {
-        Ends::Are(a, b) => Listed {
-            count: 1,
-            first: a,
-            first_end: b,
-            second: 0,
-            second_end: 0,
-        },
-        Ends::Missing => Listed {
-            count: 0,
-            first: 0,
-            first_end: 0,
-            second: 0,
-            second_end: 0,
-        },
-    }
+    let (a, b) = x?;
+    Some(Listed {
+        count: 1,
+        first: a,
+        first_end: b,
+        second: 0,
+        second_end: 0,
+    })
 }
 
-fn two_sets(x: Ends, y: Ends) -> Listed
+fn two_sets(x: Option<(i64, i64)>, y: Option<(i64, i64)>) -> Option<Listed>
     ensures { result ≡ Shown.two_sets x y }
 {
-    match x {
-        Ends::Are(a, b) => match y {
-            Ends::Are(c, d) => Listed {
-                count: 2,
-                first: a,
-                first_end: b,
-                second: c,
-                second_end: d,
-            },
-            Ends::Missing => Listed {
-                count: 0,
-                first: 0,
-                first_end: 0,
-                second: 0,
-                second_end: 0,
-            },
-        },
-        Ends::Missing => Listed {
-            count: 0,
-            first: 0,
-            first_end: 0,
-            second: 0,
-            second_end: 0,
-        },
-    }
+    let (a, b) = x?;
+    let (c, d) = y?;
+    Some(Listed {
+        count: 2,
+        first: a,
+        first_end: b,
+        second: c,
+        second_end: d,
+    })
 }
 
 // The one or two sets at k.
-fn listed_sets(nodes: &[u64], locals: &[i64], k: usize) -> Listed
+fn listed_sets(nodes: &[u64], locals: &[i64], k: usize) -> Option<Listed>
     requires { (Held (Settled.OneOrTwo nodes.now (Settled.Set nodes.now)) (Every (GoodSet (length locals.now))) k) × (Every InRange locals.now) }
     ensures { Shown.SetsListed nodes.now locals.now k result }
 {
@@ -212,35 +167,25 @@ fn listed_sets(nodes: &[u64], locals: &[i64], k: usize) -> Listed
     two_sets(x, y)
 }
 
-fn is_found(c: Channel) -> bool
-    ensures { result ≡ Shown.is_found c }
-{
-    c.shape != 0
-}
-
 // The parts of an offer put together, if all are there.
-fn assembled(kind: u8, rate: u64, c: Channel, list: Listed) -> Offer
-    ensures { result ≡ Shown.assembled kind rate c list }
+fn assembled(kind: u8, rate: u64, c: Channel, list: Option<Listed>) -> Offer
+    ensures { result ≡ Shown.assembled kind rate (Some c) list }
 {
-    let count = list.count;
-    if count == 0 {
-        return bare_offer(Offer::MISSING, 0);
-    }
-    if !is_found(c) {
-        return bare_offer(Offer::MISSING, 0);
-    }
-    Offer {
-        kind: kind,
-        rate: rate,
-        shape: c.shape,
-        channel: c.first,
-        count: count,
-        first: list.first,
-        first_end: list.first_end,
-        second: list.second,
-        second_end: list.second_end,
-        channel2: c.second,
-        channel3: c.third,
+    match list {
+        Some(l) => Offer {
+            kind,
+            rate,
+            shape: c.shape,
+            channel: c.first,
+            count: l.count,
+            first: l.first,
+            first_end: l.first_end,
+            second: l.second,
+            second_end: l.second_end,
+            channel2: c.second,
+            channel3: c.third,
+        },
+        None => bare_offer(Offer::MISSING, 0),
     }
 }
 
@@ -250,12 +195,13 @@ fn carried_offer(nodes: &[u64], locals: &[i64], k: usize, kind: u8, rate: u64) -
     ensures { Shown.Carried nodes.now locals.now kind rate k result }
 {
     let cell = crate::cell_at(nodes, k);
-    let c = crate::channel::channel_of(nodes, locals, tree::left_of(cell));
-    if !is_found(c) {
-        return bare_offer(Offer::MISSING, 0);
+    match crate::channel::channel_of(nodes, locals, tree::left_of(cell)) {
+        Some(c) => {
+            let list = listed_values(crate::values_of(nodes, locals, k - 1));
+            assembled(kind, rate, c, list)
+        }
+        None => bare_offer(Offer::MISSING, 0),
     }
-    let list = listed_values(crate::values_of(nodes, locals, k - 1));
-    assembled(kind, rate, c, list)
 }
 
 // An action with sets: a receive or a check.
@@ -264,12 +210,10 @@ fn sought_offer(nodes: &[u64], locals: &[i64], k: usize, kind: u8, rate: u64) ->
     ensures { Shown.Sought nodes.now locals.now kind rate k result }
 {
     let cell = crate::cell_at(nodes, k);
-    let c = crate::channel::channel_of(nodes, locals, tree::left_of(cell));
-    if !is_found(c) {
-        return bare_offer(Offer::MISSING, 0);
+    match crate::channel::channel_of(nodes, locals, tree::left_of(cell)) {
+        Some(c) => assembled(kind, rate, c, listed_sets(nodes, locals, k - 1)),
+        None => bare_offer(Offer::MISSING, 0),
     }
-    let list = listed_sets(nodes, locals, k - 1);
-    assembled(kind, rate, c, list)
 }
 
 fn carries(kind: u8) -> bool
@@ -318,8 +262,8 @@ fn prefix_offer(nodes: &[u64], locals: &[i64], k: usize) -> Offer
     let cell = crate::cell_at(nodes, k);
     let rate = crate::rate_of(nodes, locals, rate_root(cell, k));
     match rate {
-        Rate::Is(n) => action_offer(nodes, locals, tree::left_of(cell), n),
-        Rate::Missing => bare_offer(Offer::MISSING, 0),
+        Some(n) => action_offer(nodes, locals, tree::left_of(cell), n),
+        None => bare_offer(Offer::MISSING, 0),
     }
 }
 
@@ -334,9 +278,9 @@ pub fn offer_of(nodes: &[u64], locals: &[i64], k: usize) -> Offer
     }
     let gate = crate::holds(nodes, locals, tree::left_of(cell));
     match gate {
-        Truth::Yes => prefix_offer(nodes, locals, k - 1),
-        Truth::No => bare_offer(Offer::HIDDEN, 0),
-        Truth::Missing => bare_offer(Offer::MISSING, 0),
+        Some(true) => prefix_offer(nodes, locals, k - 1),
+        Some(false) => bare_offer(Offer::HIDDEN, 0),
+        None => bare_offer(Offer::MISSING, 0),
     }
 }
 
@@ -348,5 +292,5 @@ pub fn in_offer_set(nodes: &[u64], locals: &[i64], low: i64, high: i64, v: i64) 
     if high == OfferSet::JOINED {
         return crate::in_set(nodes, locals, low as usize, v);
     }
-    value::at_most(low, v) && value::at_most(v, high)
+    low <= v && v <= high
 }

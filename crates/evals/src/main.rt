@@ -7,10 +7,10 @@ ghost use Rattle.tables.specs.Settled.{offset, number_cell};
 ghost use Rattle.value.specs.Range.{farthest, InRange};
 ghost use Rattle.evals.specs.Cells.{Literal};
 
-use eval::{Rate, offer};
+use eval::offer;
 use std::io;
 use tree::NodeKind;
-use value::{Range, Value};
+use value::Range;
 
 const KINDS: u64 = 256;
 
@@ -46,7 +46,7 @@ fn minus(n: u64) -> u64
 }
 
 // x / y, of two numbers' cells.
-fn quotient(x: u64, y: u64) -> Value
+fn quotient(x: u64, y: u64) -> Option<i64>
     requires { (Literal x) × (Literal y) }
 {
     let nodes = [x, y, NodeKind::DIVIDE as u64];
@@ -102,7 +102,7 @@ fn gated(i: i64, y: i64) -> u8
 }
 
 // A rate of n ten-thousandths.
-fn rate(n: u64) -> Rate
+fn rate(n: u64) -> Option<u64>
     requires { (n < offset) × (n ≤ scale_limit) }
 {
     let nodes = [cell(NodeKind::NUMBER, n)];
@@ -118,32 +118,21 @@ fn say_natural(rt: &impl Print, n: u64) -> io::Result<()> {
     rt.print(n)
 }
 
-// How far a number of the range is from 0.
-fn size(z: i64) -> u64 {
-    if z < Range::LEAST {
-        return 0;
-    }
-    if z < 0 {
-        return (-z) as u64;
-    }
-    z as u64
-}
-
 fn say_number(rt: &impl Print, z: i64) -> io::Result<()> {
     if z < 0 {
         say(rt, b"-")?;
     }
-    say_natural(rt, size(z))
+    say_natural(rt, z.unsigned_abs())
 }
 
-fn say_value(rt: &impl Print, v: Value) -> io::Result<()> {
+fn say_value(rt: &impl Print, v: Option<i64>) -> io::Result<()> {
     match v {
-        Value::Is(z) => say_number(rt, z),
-        Value::Missing => say(rt, b"none"),
+        Some(z) => say_number(rt, z),
+        None => say(rt, b"none"),
     }
 }
 
-fn value_line(rt: &impl Print, name: &[u8], v: Value) -> io::Result<()> {
+fn value_line(rt: &impl Print, name: &[u8], v: Option<i64>) -> io::Result<()> {
     say(rt, name)?;
     say(rt, b",")?;
     say_value(rt, v)?;
@@ -165,14 +154,14 @@ fn gate_line(rt: &impl Print, name: &[u8], kind: u8) -> io::Result<()> {
     say(rt, b"\n")
 }
 
-fn say_rate(rt: &impl Print, r: Rate) -> io::Result<()> {
+fn say_rate(rt: &impl Print, r: Option<u64>) -> io::Result<()> {
     match r {
-        Rate::Is(n) => say_natural(rt, n),
-        Rate::Missing => say(rt, b"none"),
+        Some(n) => say_natural(rt, n),
+        None => say(rt, b"none"),
     }
 }
 
-fn rate_line(rt: &impl Print, name: &[u8], r: Rate) -> io::Result<()> {
+fn rate_line(rt: &impl Print, name: &[u8], r: Option<u64>) -> io::Result<()> {
     say(rt, name)?;
     say(rt, b",")?;
     say_rate(rt, r)?;

@@ -1,5 +1,6 @@
 -- What is proved of a state's numbers: the test is exact (Image, Over); what is read from them (Read, Channel); and what each change makes of the state (Lit, Spliced, Pushed).
 pub mod Tests
+pub mod Chunks
 pub mod Part
 pub mod Rows
 pub mod Entries

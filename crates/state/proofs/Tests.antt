@@ -1,27 +1,27 @@
 -- How the tests of a state's numbers go on from one member to the next, and what each says of single numbers: from their definitions.
+use Rattle.rules.proofs.Less.{less-irreflexive}
 use mathlib.Core.Path.{◌≡◌, refl, sym, ap, ◌∙◌}
-use mathlib.Core.Bool.{Bool, true, false, not, ◌&&◌, ◌||◌, and_assoc, and-true}
+use mathlib.Core.Bool.{Bool, true, false, not, ◌&&◌, and_assoc, and-true, ◌||◌}
 use mathlib.Core.List.{List, [], ◌∷◌}
 use Prim.Native.Nat.{ℕ, zero, suc, ◌+◌, ◌-◌, ◌*◌, ◌≤◌, ◌<◌}
 use native.Mathlib.Nat.{suc-mul, zero-mul}
 use native.Mathlib.Numerals.{add-one}
 use native.Mathlib.Omega.{arith}
-use borrow.Author.Tests.{ltb-true, ltb-false, le-leb, lt-leb, eq-eqb, ne_eqb}
+use borrow.Author.Tests.{ltb-true, eq-eqb, ne_eqb}
 use lib.Bits.{bit_or, or_zero_l, or_add_and, and_le_r}
-use lib.Dec.{T, eqb, ltb}
+use lib.Dec.{T, eqb}
 use lib.IntN.{ℤ, pos, negsuc, nat_abs}
-use lib.Signed.{mag, lt_z, le_z, non_neg}
+use lib.Signed.{lt_z, non_neg}
 use lib.ListN.{length, get_or, take, drop, drop_of_length-le}
 use lib.Seq.{drop-cons, drop-drop, get_or-take, length-take-le}
 use mir.Syntax.{w64}
 use mir.Val.{Fits, SFits, of_z}
+use Rattle.std.specs.List.{list_all}
 use Rattle.machine.specs.State.{channel_width, pair_width, process_width}
 use Rattle.model.specs.Limits.{local_limit}
 use Rattle.value.specs.Arithmetic.{is_less, is_same}
-use Rattle.value.specs.Range.{least, greatest}
-use Rattle.value.proofs.Kit.{true-not-false, false-not-true, same-eq, same_bits, ok-fits}
+use Rattle.value.proofs.Kit.{true-not-false, false-not-true, same_bits, ok-fits, same-eq}
 use Rattle.rules.specs.Order.{less}
-use Rattle.rules.proofs.Less.{less-irreflexive}
 use Rattle.state.specs.Test.{every, rows, is_value, is_zero, is_below, at, is_padded, is_process, is_count, is_item, is_item_of, is_channel, is_pair, leads, ascends, are_processes, are_pairs, is_state, process_part, pair_part}
 use Rattle.state.specs.Fits.{FewLocals}
 use Rattle.model.specs.Good.{Every}
@@ -57,26 +57,6 @@ join-bits n m b = sym (and_assoc (eqb n 0) (eqb m 0) b) ∙ ap (λ (a : Bool). a
 pub zero_bits : (z : ℤ) → SFits w64 z → is_zero z ≡ eqb (of_z w64 z) 0
 unfolding is_zero
 zero_bits z f = sym (same_bits z (pos 0) f (ok-fits (pos 0) (omega arith)))
-
-pub value_low : (z : ℤ) → lt_z z least ≡ true → is_value z ≡ false
-unfolding is_value
-value_low (pos n) e = false-not-true e
-value_low (negsuc n) e = ap (λ (b : Bool). b && true) (lt-leb n (mag least) (ltb-true (mag least) n e))
-
-pub value-high : (z : ℤ) → lt_z z least ≡ false → is_value z ≡ le_z z greatest
-unfolding is_value
-value-high (pos n) e = refl
-value-high (negsuc n) e = ap (λ (b : Bool). b && true) (le-leb n (mag least) (ltb-false (mag least) n e))
-
-pub below-negative : (n : ℕ) (z : ℤ) → lt_z z (pos 0) ≡ true → is_below n z ≡ false
-unfolding is_below
-below-negative n (pos k) e = absurd (omega (arith, ltb-true k 0 e))
-below-negative n (negsuc k) e = refl
-
-pub below-nonneg : (n : ℕ) (z : ℤ) → lt_z z (pos 0) ≡ false → is_below n z ≡ ltb (nat_abs z) n
-unfolding is_below
-below-nonneg n (pos k) e = refl
-below-nonneg n (negsuc k) e = true-not-false e
 
 -- a word that is not negative may be cast
 pub natural-fits : (z : ℤ) → SFits w64 z → lt_z z (pos 0) ≡ false → T (non_neg z) × Fits w64 (nat_abs z)
@@ -221,6 +201,11 @@ module _ (channels : ℕ) (row : List ℤ) where
 
 -- ---- every member
 module _ {A : Type 0} (t : A → Bool) where
+  pub every_all : (s : List A) → list_all t s ≡ every t s
+  unfolding every
+  every_all [] = refl
+  every_all (x ∷ s) = ap (λ (b : Bool). t x && b) (every_all s)
+
   every-next : (s : List A) (i : ℕ) (d : A) → i < length s → every t (drop i s) ≡ t (get_or s i d) && every t (drop (i + 1) s)
   unfolding every
   every-next s i d l = ap (every t) (drop-cons s i d l) ∙ ap (λ (m : ℕ). t (get_or s i d) && every t (drop m s)) (sym (add-one i))

@@ -55,10 +55,7 @@ impl Layout {
 fn is_value(z: i64) -> bool
     ensures { result ≡ is_value z }
 {
-    if z < value::Range::LEAST {
-        return false;
-    }
-    z <= value::Range::GREATEST
+    value::Range::LEAST <= z && z <= value::Range::GREATEST
 }
 
 fn is_zero(z: i64) -> bool
@@ -70,23 +67,13 @@ fn is_zero(z: i64) -> bool
 fn is_below(z: i64, n: usize) -> bool
     ensures { result ≡ is_below n z }
 {
-    if z < 0 {
-        return false;
-    }
-    (z as usize) < n
+    0 <= z && (z as usize) < n
 }
 
 fn all_values(s: &[i64]) -> bool
     ensures { result ≡ every is_value s.now }
 {
-    let mut i = 0;
-    while i < s.len() {
-        if !is_value(s[i]) {
-            return false;
-        }
-        i += 1;
-    }
-    true
+    s.iter().all(|&z| is_value(z))
 }
 
 // Whether all numbers are 0.
@@ -94,10 +81,8 @@ pub fn all_zero(s: &[i64]) -> bool
     ensures { result ≡ every is_zero s.now }
 {
     let mut bits = 0;
-    let mut i = 0;
-    while i < s.len() {
-        bits |= s[i];
-        i += 1;
+    for &z in s {
+        bits |= z;
     }
     bits == 0
 }
@@ -107,10 +92,7 @@ fn is_padded(s: &[i64], count: usize) -> bool
     requires { count ≤ length s.now }
     ensures { result ≡ is_padded count s.now }
 {
-    if !all_values(&s[..count]) {
-        return false;
-    }
-    all_zero(&s[count..])
+    all_values(&s[..count]) && all_zero(&s[count..])
 }
 
 // How many locals a sum has, of what is known of it.
@@ -131,7 +113,7 @@ fn is_number(z: i64, n: usize) -> bool
     requires { n < 9223372036854775808 }
     ensures { result ≡ is_same z (pos n) }
 {
-    value::same(z, n as i64)
+    z == n as i64
 }
 
 // Whether a row is a process of a sum that exists.
@@ -155,35 +137,27 @@ fn is_process(row: &[i64], scopes: &[u16], sums: usize) -> bool
 fn is_count(z: i64, bound: usize) -> bool
     ensures { result ≡ is_count bound z }
 {
-    if is_zero(z) {
-        return false;
-    }
-    is_below(z, bound)
+    !is_zero(z) && is_below(z, bound)
 }
 
 fn is_item(kind: i64, z: i64, channels: usize) -> bool
     ensures { result ≡ is_item channels kind z }
 {
-    if kind == 0 {
-        return is_value(z);
+    match kind {
+        0 => is_value(z),
+        1 => is_below(z, channels),
+        _ => false,
     }
-    if kind != 1 {
-        return false;
-    }
-    is_below(z, channels)
 }
 
 // Whether two numbers are item i of so many, or unused.
 fn is_item_of(items: i64, i: i64, kind: i64, z: i64, channels: usize) -> bool
     ensures { result ≡ is_item_of channels items i kind z }
 {
-    if value::less(i, items) {
+    if i < items {
         return is_item(kind, z, channels);
     }
-    if !is_zero(kind) {
-        return false;
-    }
-    is_zero(z)
+    is_zero(kind) && is_zero(z)
 }
 
 // Whether a row begins with the numbers of a channel that exists.
@@ -223,32 +197,18 @@ fn all_processes(s: &[i64], n: usize, scopes: &[u16], sums: usize) -> bool
     requires { (n * process_width ≤ length s.now) × (sums ≤ length scopes.now) × FewLocals (take sums scopes.now) }
     ensures { result ≡ every (is_process (take sums scopes.now)) (rows process_width n s.now) }
 {
-    let mut i = 0;
-    while i < n {
-        let from = i * Layout::PROCESS;
-        let to = from + Layout::PROCESS;
-        if !is_process(&s[from..to], scopes, sums) {
-            return false;
-        }
-        i += 1;
-    }
-    true
+    s[..n * Layout::PROCESS]
+        .chunks_exact(Layout::PROCESS)
+        .all(|row| is_process(row, scopes, sums))
 }
 
 fn all_pairs(s: &[i64], n: usize, channels: usize) -> bool
     requires { n * pair_width ≤ length s.now }
     ensures { result ≡ every (is_pair channels) (rows pair_width n s.now) }
 {
-    let mut i = 0;
-    while i < n {
-        let from = i * Layout::PAIR;
-        let to = from + Layout::PAIR;
-        if !is_pair(&s[from..to], channels) {
-            return false;
-        }
-        i += 1;
-    }
-    true
+    s[..n * Layout::PAIR]
+        .chunks_exact(Layout::PAIR)
+        .all(|row| is_pair(row, channels))
 }
 
 // Whether the first of two rows stands before the second.
@@ -256,12 +216,11 @@ fn is_before(a: &[i64], b: &[i64]) -> bool
     requires { length a.now ≡ length b.now }
     ensures { result ≡ less a.now b.now }
 {
-    let mut i = 0;
-    while i < a.len() {
-        if !value::same(a[i], b[i]) {
-            return value::less(a[i], b[i]);
+    // Not `a < b`: on rows of ten it takes three times as long.
+    for (i, &x) in a.iter().enumerate() {
+        if x != b[i] {
+            return x < b[i];
         }
-        i += 1;
     }
     false
 }
@@ -271,15 +230,13 @@ fn is_ascending(s: &[i64], n: usize) -> bool
     requires { n * pair_width ≤ length s.now }
     ensures { result ≡ ascends (rows pair_width n s.now) }
 {
-    let mut i = 0;
-    while i + 1 < n {
-        let from = i * Layout::PAIR;
+    for i in 1..n {
+        let from = (i - 1) * Layout::PAIR;
         let at = from + Layout::PAIR;
         let to = at + Layout::PAIR;
         if !is_before(&s[from..at], &s[at..to]) {
             return false;
         }
-        i += 1;
     }
     true
 }
@@ -289,11 +246,7 @@ fn are_processes(s: &[i64], n: usize, scopes: &[u16], sums: usize) -> bool
     requires { (n * process_width ≤ length s.now) × (sums ≤ length scopes.now) × FewLocals (take sums scopes.now) }
     ensures { result ≡ are_processes (take sums scopes.now) n s.now }
 {
-    if !all_processes(s, n, scopes, sums) {
-        return false;
-    }
-    let end = n * Layout::PROCESS;
-    all_zero(&s[end..])
+    all_processes(s, n, scopes, sums) && all_zero(&s[n * Layout::PROCESS..])
 }
 
 // Whether n pairs ascend in the part of the pairs, and zeros stand after them.
@@ -342,6 +295,7 @@ pub fn find_pair(s: &[i64], n: usize, row: &[i64]) -> usize
 {
     let mut low = 0;
     let mut high = n;
+    // A while: a binary search, and partition_point has no rows of ten.
     while low < high {
         let middle = low + (high - low) / 2;
         let from = middle * Layout::PAIR;
@@ -392,7 +346,7 @@ pub fn channel_run(s: &[i64], n: usize, row: &mut [i64]) -> Run
     let from = find_pair(s, n, row);
     row[Layout::CHANNEL] = Layout::VALUE_COUNTS as i64;
     let to = find_pair(s, n, row);
-    Run { from: from, to: to }
+    Run { from, to }
 }
 
 // Every number moves k places to the right; the last k fall off, the first k stay as they are.
@@ -400,11 +354,7 @@ fn shift_right(s: &mut [i64], k: usize)
     requires { k ≤ length s.old }
     ensures { s.new ≡ take k s.old ++ take (length s.old - k) s.old }
 {
-    let mut i = s.len();
-    while k < i {
-        i -= 1;
-        s[i] = s[i - k];
-    }
+    s.copy_within(..s.len() - k, k);
 }
 
 // Every number moves k places to the left; the first k fall off, and zeros come in from the right.
@@ -412,28 +362,16 @@ fn shift_left(s: &mut [i64], k: usize)
     requires { k ≤ length s.old }
     ensures { s.new ≡ drop k s.old ++ replicate k (pos 0) }
 {
-    let n = s.len();
-    let mut i = 0;
-    while i < n {
-        if i < n - k {
-            s[i] = s[i + k];
-        } else {
-            s[i] = 0;
-        }
-        i += 1;
-    }
+    s.copy_within(k.., 0);
+    let kept = s.len() - k;
+    s[kept..].fill(0);
 }
 
 // Writes zeros over the whole.
 pub fn clear_state(s: &mut [i64])
     ensures { s.new ≡ replicate (length s.old) (pos 0) }
 {
-    let n = s.len();
-    let mut i = 0;
-    while i < n {
-        s[i] = 0;
-        i += 1;
-    }
+    s.fill(0);
 }
 
 // Writes the first numbers of a slice over those of another.
@@ -441,11 +379,7 @@ pub fn put(s: &mut [i64], fresh: &[i64], count: usize)
     requires { (count ≤ length s.old) × (count ≤ length fresh.now) }
     ensures { s.new ≡ take count fresh.now ++ drop count s.old }
 {
-    let mut i = 0;
-    while i < count {
-        s[i] = fresh[i];
-        i += 1;
-    }
+    s[..count].copy_from_slice(&fresh[..count]);
 }
 
 // The first `cut` numbers go out and the first `count` of `fresh` come in; what stands after them moves.

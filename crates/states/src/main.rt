@@ -126,16 +126,7 @@ fn second_pair(rt: &impl Print, label: &[u8], row: &Row) -> io::Result<()> {
     let mut state = [0; Sample::LENGTH];
     fill(&mut state);
     let at = Layout::PAIRS + Layout::PAIR;
-    state[at] = row[0];
-    state[at + 1] = row[1];
-    state[at + 2] = row[2];
-    state[at + 3] = row[3];
-    state[at + 4] = row[4];
-    state[at + 5] = row[5];
-    state[at + 6] = row[6];
-    state[at + 7] = row[7];
-    state[at + 8] = row[8];
-    state[at + 9] = row[9];
+    state[at..at + Layout::PAIR].copy_from_slice(row);
     test(rt, label, &state)
 }
 
@@ -295,22 +286,14 @@ fn order(rt: &impl Print) -> io::Result<()> {
 }
 
 fn digits(z: i64) -> u64 {
-    if z < 0 {
-        return 0;
-    }
-    z as u64
+    z.max(0) as u64
 }
 
 // The numbers from one place to another, none of them negative.
 fn say_numbers(rt: &impl Print, s: &[i64], from: usize, to: usize) -> io::Result<()> {
-    let mut i = from;
-    while i < to {
-        if s.len() <= i {
-            return Ok(());
-        }
+    for &z in s.iter().take(to).skip(from) {
         say(rt, b",")?;
-        rt.print(digits(s[i]))?;
-        i += 1;
+        rt.print(digits(z))?;
     }
     Ok(())
 }

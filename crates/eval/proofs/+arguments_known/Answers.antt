@@ -2,6 +2,7 @@ use mathlib.Core.Path.{ap, sym, ◌∙◌}
 use native.Mathlib.Omega.{arith}
 use lib.ListN.{length}
 use Rattle.tree.specs.Node.{kind_of, left_of}
+use Rattle.eval.proofs.Exprs.{known}
 use Rattle.eval.proofs.Arguments.{last-part, last-known, more_parts, more-known, first-unknown}
 use Rattle.eval.proofs.+arguments_known.Goals as goal
 
@@ -21,7 +22,7 @@ returns-then-kind_of-ne-ARGUMENT t c x h =
     let L = s.args.locals.now in
     let k = s.args.k in
     let is = c.kind_of.ensures ∙ ap kind_of c.cell_at-cell.ensures in
-    c.is_known.ensures ∙ last-known T k c.kind_of.result is c.if-kind_of-ne-ARGUMENT.true L c.eval_node.result c.eval_node.ensures x h
+    c.is_some.ensures ∙ known _ ∙ last-known T k c.kind_of.result is c.if-kind_of-ne-ARGUMENT.true L c.eval_node.result c.eval_node.ensures x h
 
 pub eval_node-requires-2 : goal.eval_node-requires-2
 eval_node-requires-2 t c =
@@ -54,22 +55,22 @@ arguments_known-requires t c =
     let f = more_parts T k c.kind_of.result is c.if-kind_of-ne-ARGUMENT.false (length L) s.requires.0 in
     (omega (arith, s.decreases, f.0), (f.2, s.requires.1))
 
-pub returns-then-is_known : goal.returns-then-is_known
-returns-then-is_known t c =
+pub returns-then-is_some : goal.returns-then-is_some
+returns-then-is_some t c =
     let s = c in
     let T = s.args.nodes.now in
     let L = s.args.locals.now in
     let k = s.args.k in
     let is = c.kind_of.ensures ∙ ap kind_of c.cell_at-cell.ensures in
     let e = c.left_of.ensures ∙ ap left_of c.cell_at-cell.ensures in
-    more-known T k c.kind_of.result is c.if-kind_of-ne-ARGUMENT.false L c.eval_node-2.result c.arguments_known.result (rw e at c.eval_node-2.ensures) (sym c.is_known-2.ensures ∙ c.if-is_known.true) c.arguments_known.ensures
+    more-known T k c.kind_of.result is c.if-kind_of-ne-ARGUMENT.false L c.eval_node-2.result c.arguments_known.result (rw e at c.eval_node-2.ensures) (sym (c.is_some-2.ensures ∙ known _) ∙ c.if-is_some.true) c.arguments_known.ensures
 
-pub returns-else-is_known : goal.returns-else-is_known
-returns-else-is_known t c x h =
+pub returns-else-is_some : goal.returns-else-is_some
+returns-else-is_some t c x h =
     let s = c in
     let T = s.args.nodes.now in
     let L = s.args.locals.now in
     let k = s.args.k in
     let is = c.kind_of.ensures ∙ ap kind_of c.cell_at-cell.ensures in
     let e = c.left_of.ensures ∙ ap left_of c.cell_at-cell.ensures in
-    c.if-is_known.false ∙ first-unknown T k c.kind_of.result is c.if-kind_of-ne-ARGUMENT.false L c.eval_node-2.result (rw e at c.eval_node-2.ensures) (sym c.is_known-2.ensures ∙ c.if-is_known.false) x h
+    c.if-is_some.false ∙ first-unknown T k c.kind_of.result is c.if-kind_of-ne-ARGUMENT.false L c.eval_node-2.result (rw e at c.eval_node-2.ensures) (sym (c.is_some-2.ensures ∙ known _) ∙ c.if-is_some.false) x h

@@ -2,6 +2,7 @@ use mathlib.Core.Path.{ap, sym, ◌∙◌}
 use native.Mathlib.Omega.{arith}
 use lib.ListN.{length}
 use Rattle.tree.specs.Node.{kind_of, left_of}
+use Rattle.eval.proofs.Exprs.{known}
 use Rattle.eval.proofs.Sets.{single-part, single-ends, range-parts, range-ends, range-unknown, joined-parts, joined-ends, joined-unknown}
 use Rattle.eval.proofs.+ends_known.Goals as goal
 
@@ -21,7 +22,7 @@ returns-then-kind-lt-RANGE t c x h =
     let L = s.args.locals.now in
     let k = s.args.k in
     let is = c.kind_of-kind.ensures ∙ ap kind_of c.cell_at-cell.ensures in
-    c.is_known.ensures ∙ single-ends T k c.kind_of-kind.result is L c.eval_node.result c.if-kind-lt-RANGE.true c.eval_node.ensures x h
+    c.is_some.ensures ∙ known _ ∙ single-ends T k c.kind_of-kind.result is L c.eval_node.result c.if-kind-lt-RANGE.true c.eval_node.ensures x h
 
 pub eval_node-requires-then-kind-eq-RANGE : goal.eval_node-requires-then-kind-eq-RANGE
 eval_node-requires-then-kind-eq-RANGE t c =
@@ -44,8 +45,8 @@ overflow_sub-k t c =
     let f = range-parts T k c.kind_of-kind.result is (length L) c.if-kind-eq-RANGE.true s.requires.0 in
     f.0
 
-pub eval_node-requires-then-is_known : goal.eval_node-requires-then-is_known
-eval_node-requires-then-is_known t c =
+pub eval_node-requires-then-is_some : goal.eval_node-requires-then-is_some
+eval_node-requires-then-is_some t c =
     let s = c in
     let T = s.args.nodes.now in
     let L = s.args.locals.now in
@@ -54,25 +55,25 @@ eval_node-requires-then-is_known t c =
     let f = range-parts T k c.kind_of-kind.result is (length L) c.if-kind-eq-RANGE.true s.requires.0 in
     (f.2, s.requires.1)
 
-pub returns-then-is_known : goal.returns-then-is_known
-returns-then-is_known t c x h =
+pub returns-then-is_some : goal.returns-then-is_some
+returns-then-is_some t c x h =
     let s = c in
     let T = s.args.nodes.now in
     let L = s.args.locals.now in
     let k = s.args.k in
     let is = c.kind_of-kind.ensures ∙ ap kind_of c.cell_at-cell.ensures in
     let e = c.left_of-i.ensures ∙ ap left_of c.cell_at-cell.ensures in
-    c.is_known-then-is_known.ensures ∙ range-ends T k c.kind_of-kind.result is L c.eval_node-then-kind-eq-RANGE.result c.eval_node-then-is_known.result c.if-kind-eq-RANGE.true (rw e at c.eval_node-then-kind-eq-RANGE.ensures) (sym c.is_known-then-kind-eq-RANGE.ensures ∙ c.if-is_known.true) c.eval_node-then-is_known.ensures x h
+    c.is_some-then-is_some.ensures ∙ known _ ∙ range-ends T k c.kind_of-kind.result is L c.eval_node-then-kind-eq-RANGE.result c.eval_node-then-is_some.result c.if-kind-eq-RANGE.true (rw e at c.eval_node-then-kind-eq-RANGE.ensures) (sym (c.is_some-then-kind-eq-RANGE.ensures ∙ known _) ∙ c.if-is_some.true) c.eval_node-then-is_some.ensures x h
 
-pub returns-else-is_known : goal.returns-else-is_known
-returns-else-is_known t c x h =
+pub returns-else-is_some : goal.returns-else-is_some
+returns-else-is_some t c x h =
     let s = c in
     let T = s.args.nodes.now in
     let L = s.args.locals.now in
     let k = s.args.k in
     let is = c.kind_of-kind.ensures ∙ ap kind_of c.cell_at-cell.ensures in
     let e = c.left_of-i.ensures ∙ ap left_of c.cell_at-cell.ensures in
-    c.if-is_known.false ∙ range-unknown T k c.kind_of-kind.result is L c.eval_node-then-kind-eq-RANGE.result c.if-kind-eq-RANGE.true (rw e at c.eval_node-then-kind-eq-RANGE.ensures) (sym c.is_known-then-kind-eq-RANGE.ensures ∙ c.if-is_known.false) x h
+    c.if-is_some.false ∙ range-unknown T k c.kind_of-kind.result is L c.eval_node-then-kind-eq-RANGE.result c.if-kind-eq-RANGE.true (rw e at c.eval_node-then-kind-eq-RANGE.ensures) (sym (c.is_some-then-kind-eq-RANGE.ensures ∙ known _) ∙ c.if-is_some.false) x h
 
 pub ends_known-requires : goal.ends_known-requires
 ends_known-requires t c =

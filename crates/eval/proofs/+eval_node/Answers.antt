@@ -3,12 +3,12 @@ use Prim.Native.Nat.{◌-◌}
 use native.Mathlib.Omega.{arith}
 use lib.IntN.{pos}
 use lib.ListN.{length, get_or}
-use Rattle.value.specs.declared.Value.TheVariants.{Is}
 use Rattle.value.proofs.Kit.{back}
 use Rattle.tree.specs.Node.{kind_of, token_of, left_of}
 use Rattle.tables.specs.Settled.{number_of}
 use Rattle.eval.proofs.Exprs.{worth-sound, literal-is, named-is, absolute-part, absolute-is, binary-parts, binary-is}
 use Prim.Native.Nat.{ℕ}
+use Rattle.std.specs.Prelude.{Some}
 use Rattle.eval.proofs.+eval_node.Goals as goal
 
 pub returns-then-kind-eq-LITERAL : goal.returns-then-kind-eq-LITERAL
@@ -18,7 +18,7 @@ returns-then-kind-eq-LITERAL t c e h =
     let L = s.args.locals.now in
     let k = s.args.k in
     let is = c.kind_of-kind.ensures ∙ ap kind_of c.cell_at-cell.ensures in
-    rw (back c.number_of.result c.number_of.type_inv) (ap Is (c.number_of.ensures ∙ ap number_of c.cell_at-cell.ensures) ∙ literal-is T k c.kind_of-kind.result is L c.if-kind-eq-LITERAL.true e h)
+    rw (back c.number_of.result c.number_of.type_inv) (ap Some (c.number_of.ensures ∙ ap number_of c.cell_at-cell.ensures) ∙ literal-is T k c.kind_of-kind.result is L c.if-kind-eq-LITERAL.true e h)
 
 pub returns-then-kind-eq-NAMED : goal.returns-then-kind-eq-NAMED
 returns-then-kind-eq-NAMED t c e h =
@@ -28,7 +28,7 @@ returns-then-kind-eq-NAMED t c e h =
     let k = s.args.k in
     let is = c.kind_of-kind.ensures ∙ ap kind_of c.cell_at-cell.ensures in
     let i = c.token_of.ensures ∙ ap token_of c.cell_at-cell.ensures in
-    rw (back c.local_at.result c.local_at.type_inv) (ap Is (c.local_at.ensures ∙ ap (λ (j : ℕ). get_or L j (pos 0)) i) ∙ named-is T k c.kind_of-kind.result is L c.if-kind-eq-NAMED.true e h)
+    rw (back c.local_at.result c.local_at.type_inv) (ap Some (c.local_at.ensures ∙ ap (λ (j : ℕ). get_or L j (pos 0)) i) ∙ named-is T k c.kind_of-kind.result is L c.if-kind-eq-NAMED.true e h)
 
 pub overflow_sub-k : goal.overflow_sub-k
 overflow_sub-k t c =

@@ -8,15 +8,15 @@ use Rattle.eval.proofs.absolute.Goals as goal
 
 pub abs_value-requires : goal.abs_value-requires
 abs_value-requires c =
-    let g = subst Sound c.in-Is.is c.requires in
-    simp (to_z-of_z (in-fits c.in-Is.a g)) g
+    let g = subst Sound c.in_ok-x.was c.requires in
+    simp (to_z-of_z (in-fits c.in_ok-x.field-0 g)) g
 
-pub returns-in-Is : goal.returns-in-Is
+pub returns : goal.returns
 unfolding with_value
-returns-in-Is c =
-    let g = subst Sound c.in-Is.is c.requires in
-    rw c.in-Is.is (simp (to_z-of_z (in-fits c.in-Is.a g)) at c.abs_value.ensures)
+returns c =
+    let g = subst Sound c.in_ok-x.was c.requires in
+    rw c.in_ok-x.was (simp (to_z-of_z (in-fits c.in_ok-x.field-0 g)) at c.abs_value.ensures)
 
-pub returns-in-Missing : goal.returns-in-Missing
+pub returns-in_err-x : goal.returns-in_err-x
 unfolding with_value
-returns-in-Missing c = rw c.in-Missing.is
+returns-in_err-x c = rw c.in_err-x.was c.from_residual.ensures

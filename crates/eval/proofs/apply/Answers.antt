@@ -1,7 +1,8 @@
 -- `eval::apply` meets its contract: each kind's operation. From the operations of `value` and the table of kinds.
 use mathlib.Core.Path.{ap}
+use native.Mathlib.Omega.{arith}
 use mir.Facts.{to_z-of_z}
-use Rattle.value.specs.declared.Value.TheVariants.{Is}
+use Rattle.std.specs.Prelude.{Some}
 use Rattle.value.proofs.Kit.{back}
 use Rattle.machine.specs.Evaluate.{apply}
 use Rattle.eval.proofs.Operators.{applied, kind-minimum}
@@ -35,12 +36,11 @@ pub returns-in-9 : goal.returns-in-9
 unfolding apply
 returns-in-9 c =
     let s = c in
-    applied s.args.x s.args.y 9 c.in-9.is (rw (back c.max_of.result c.max_of.type_inv) (ap Is (simp (to_z-of_z s.ranges.x, to_z-of_z s.ranges.y) at c.max_of.ensures)))
+    applied s.args.x s.args.y 9 c.in-9.is (rw (back c.max_of.result c.max_of.type_inv) (ap Some (simp (to_z-of_z s.ranges.x, to_z-of_z s.ranges.y) at c.max_of.ensures)))
 
 pub returns-in_default : goal.returns-in_default
 unfolding apply
 returns-in_default c o k =
     let s = c in
-    let m = c.in_default.in_default-own.rest in
-    let e = kind-minimum o k m.0.0.0.0.1 m.0.0.0.1 m.0.0.1 m.0.1 m.1 in
-    applied s.args.x s.args.y 10 e (rw (back c.min_of.result c.min_of.type_inv) (ap Is (simp (to_z-of_z s.ranges.x, to_z-of_z s.ranges.y) at c.min_of.ensures))) o k
+    let e = kind-minimum o k (λ e. omega arith) (λ e. omega arith) (λ e. omega arith) (λ e. omega arith) (λ e. omega arith) in
+    applied s.args.x s.args.y 10 e (rw (back c.min_of.result c.min_of.type_inv) (ap Some (simp (to_z-of_z s.ranges.x, to_z-of_z s.ranges.y) at c.min_of.ensures))) o k

@@ -8,21 +8,21 @@ use Rattle.eval.proofs.combined.Goals as goal
 
 pub apply-requires : goal.apply-requires
 apply-requires c =
-    let g = subst Sound c.in-Is.is c.requires.0 in
-    let h = subst Sound c.in-Is-y.is c.requires.1 in
-    simp (to_z-of_z (in-fits c.in-Is.a g), to_z-of_z (in-fits c.in-Is-y.b h)) (g, h)
+    let g = subst Sound c.in_ok-x.was c.requires.0 in
+    let h = subst Sound c.in_ok-y.was c.requires.1 in
+    simp (to_z-of_z (in-fits c.in_ok-x.field-0 g), to_z-of_z (in-fits c.in_ok-y.field-0 h)) (g, h)
 
-pub returns-in-Is-y : goal.returns-in-Is-y
+pub returns : goal.returns
 unfolding with_value
-returns-in-Is-y c o k =
-    let g = subst Sound c.in-Is.is c.requires.0 in
-    let h = subst Sound c.in-Is-y.is c.requires.1 in
-    rw (c.in-Is.is, c.in-Is-y.is) (simp (to_z-of_z (in-fits c.in-Is.a g), to_z-of_z (in-fits c.in-Is-y.b h)) at (c.apply.ensures o k))
+returns c o k =
+    let g = subst Sound c.in_ok-x.was c.requires.0 in
+    let h = subst Sound c.in_ok-y.was c.requires.1 in
+    rw (c.in_ok-x.was, c.in_ok-y.was) (simp (to_z-of_z (in-fits c.in_ok-x.field-0 g), to_z-of_z (in-fits c.in_ok-y.field-0 h)) at (c.apply.ensures o k))
 
-pub returns-in-Missing-y : goal.returns-in-Missing-y
+pub returns-in_err-y : goal.returns-in_err-y
 unfolding with_value
-returns-in-Missing-y c o k = rw (c.in-Is.is, c.in-Missing-y.is)
+returns-in_err-y c o k = rw (c.in_ok-x.was, c.in_err-y.was) c.from_residual-in_err-y.ensures
 
-pub returns-in-Missing : goal.returns-in-Missing
+pub returns-in_err-x : goal.returns-in_err-x
 unfolding with_value
-returns-in-Missing c o k = rw c.in-Missing.is
+returns-in_err-x c o k = rw c.in_err-x.was c.from_residual.ensures

@@ -2,14 +2,14 @@
 use Rattle.eval.specs.Skips.{skips}
 use Rattle.eval.proofs.decided.Goals as goal
 
-pub returns-in-Yes : goal.returns-in-Yes
+pub returns-in-Some-true : goal.returns-in-Some-true
 unfolding skips
-returns-in-Yes c = rw c.in-Yes.is
+returns-in-Some-true c = rw (c.in-Some-true.is, c.in-Some-true.field-0-test)
 
-pub returns-in-No : goal.returns-in-No
+pub returns-in-Some-false : goal.returns-in-Some-false
 unfolding skips
-returns-in-No c = rw c.in-No.is
+returns-in-Some-false c = rw (c.in-Some-false.is, c.in-Some-false.field-0-test)
 
-pub returns-in-Missing : goal.returns-in-Missing
+pub returns-in-None : goal.returns-in-None
 unfolding skips
-returns-in-Missing c = rw c.in-Missing.is
+returns-in-None c = rw c.in-None.is

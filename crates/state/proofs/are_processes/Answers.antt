@@ -5,13 +5,13 @@ use lib.ListN.{take}
 use Rattle.machine.specs.State.{process_width}
 use Rattle.state.specs.Test.{every, is_zero}
 use Rattle.state.proofs.Part.{tail-part}
-use Rattle.state.proofs.Tests.{refused, passed, processes-fail, processes-rest}
+use Rattle.state.proofs.Tests.{processes-fail, processes-rest}
 use Rattle.state.proofs.are_processes.Goals as goal
 
-pub returns-then-not-all_processes : goal.returns-then-not-all_processes
-returns-then-not-all_processes c =
-    sym (processes-fail (take c.args.sums c.args.scopes.now) c.args.n c.args.s.now (sym c.all_processes.ensures ∙ refused c.all_processes.result c.if-not-all_processes.true-raw))
+pub returns-else-all_processes : goal.returns-else-all_processes
+returns-else-all_processes c =
+    c.if-all_processes.false ∙ sym (processes-fail (take c.args.sums c.args.scopes.now) c.args.n c.args.s.now (sym c.all_processes.ensures ∙ c.if-all_processes.false))
 
-pub returns : goal.returns
-returns c =
-    c.all_zero.ensures ∙ ap (every is_zero) (tail-part (c.args.n * process_width) c.args.s.now) ∙ sym (processes-rest (take c.args.sums c.args.scopes.now) c.args.n c.args.s.now (sym c.all_processes.ensures ∙ passed c.all_processes.result c.if-not-all_processes.false-raw))
+pub returns-then-all_processes : goal.returns-then-all_processes
+returns-then-all_processes c =
+    c.all_zero.ensures ∙ ap (every is_zero) (tail-part (c.args.n * process_width) c.args.s.now) ∙ sym (processes-rest (take c.args.sums c.args.scopes.now) c.args.n c.args.s.now (sym c.all_processes.ensures ∙ c.if-all_processes.true))

@@ -1,13 +1,14 @@
--- The two tests of the range, each a case of `is_value`.
-use mathlib.Core.Path.{sym}
+-- The two tests of the range.
 use mir.Facts.{to_z-of_z}
-use Rattle.state.proofs.Tests.{value_low, value-high}
+use Rattle.state.specs.Test.{is_value}
 use Rattle.state.proofs.is_value.Goals as goal
 
-pub returns-then-z-lt-LEAST : goal.returns-then-z-lt-LEAST
-returns-then-z-lt-LEAST c =
-    sym (value_low c.args.z (simp (to_z-of_z c.ranges.z) at c.if-z-lt-LEAST.true))
+pub returns-then-z-ge-LEAST : goal.returns-then-z-ge-LEAST
+unfolding is_value
+returns-then-z-ge-LEAST c =
+    let e = to_z-of_z c.ranges.z in simp e (rw (simp e at c.if-z-ge-LEAST.true))
 
-pub returns : goal.returns
-returns c =
-    let e = to_z-of_z c.ranges.z in simp e (sym (value-high c.args.z (simp e at c.if-z-lt-LEAST.false)))
+pub returns-else-z-ge-LEAST : goal.returns-else-z-ge-LEAST
+unfolding is_value
+returns-else-z-ge-LEAST c =
+    let e = to_z-of_z c.ranges.z in simp e (rw (simp e at c.if-z-ge-LEAST.false))

@@ -5,6 +5,7 @@ use lib.IntN.{ℤ, pos}
 use lib.ListN.{length}
 use mir.Syntax.{w64}
 use mir.Facts.{to_z_pos}
+use Rattle.std.specs.Prelude.{Some}
 use Rattle.value.proofs.Kit.{back}
 use Rattle.tree.specs.Node.{kind_of, token_of}
 use Rattle.machine.specs.Evaluate.{valued}
@@ -25,31 +26,31 @@ returns-then-kind_of-eq-NAME c =
     let k = c.args.k in
     let is = c.kind_of.ensures ∙ ap kind_of c.cell_at-cell.ensures in
     let e = to_z_pos w64 {n = c.token_of-n.result} (omega (arith, c.token_of-n.ensures)) ∙ ap pos (c.token_of-n.ensures ∙ ap token_of c.cell_at-cell.ensures) in
-    (λ x h. ap (λ (z : ℤ). record { kind = 1; value = z }) e ∙ name-is T k c.kind_of.result is L c.if-kind_of-eq-NAME.true x h, omega arith)
+    (λ x h. ap (λ (z : ℤ). Some (record { kind = 1; value = z })) e ∙ name-is T k c.kind_of.result is L c.if-kind_of-eq-NAME.true x h, omega arith)
 
-pub eval_node-x-requires : goal.eval_node-x-requires
-eval_node-x-requires c =
+pub eval_node-requires : goal.eval_node-requires
+eval_node-requires c =
     let T = c.args.nodes.now in
     let L = c.args.locals.now in
     let k = c.args.k in
     let is = c.kind_of.ensures ∙ ap kind_of c.cell_at-cell.ensures in
     (number-part T k c.kind_of.result is c.if-kind_of-eq-NAME.false c.requires.0.0 (length L) c.requires.0.1, c.requires.1)
 
-pub returns-in-Is : goal.returns-in-Is
+pub returns : goal.returns
 unfolding valued item_of item_kind item_value
-returns-in-Is c =
+returns c =
     let T = c.args.nodes.now in
     let L = c.args.locals.now in
     let k = c.args.k in
     let is = c.kind_of.ensures ∙ ap kind_of c.cell_at-cell.ensures in
-    let d = back c.in-Is.z c.in-Is.known_told-1-own.given.0.1 in
-    (λ y h. simp d (rw c.in-Is.is at (number_is T k c.kind_of.result is c.if-kind_of-eq-NAME.false L c.eval_node-x.result c.eval_node-x.ensures y h)), omega arith)
+    let d = back c.in_ok-value.value (omega arith) in
+    (λ y h. simp d (rw c.in_ok-value.was at (number_is T k c.kind_of.result is c.if-kind_of-eq-NAME.false L c.eval_node.result c.eval_node.ensures y h)), omega arith)
 
-pub returns-in-Missing : goal.returns-in-Missing
+pub returns-in_err-value : goal.returns-in_err-value
 unfolding valued item_of
-returns-in-Missing c =
+returns-in_err-value c =
     let T = c.args.nodes.now in
     let L = c.args.locals.now in
     let k = c.args.k in
     let is = c.kind_of.ensures ∙ ap kind_of c.cell_at-cell.ensures in
-    (λ y h. rw c.in-Missing.is at (number_is T k c.kind_of.result is c.if-kind_of-eq-NAME.false L c.eval_node-x.result c.eval_node-x.ensures y h), omega arith)
+    rw c.from_residual.ensures (λ y h. rw c.in_err-value.was at (number_is T k c.kind_of.result is c.if-kind_of-eq-NAME.false L c.eval_node.result c.eval_node.ensures y h), tt)

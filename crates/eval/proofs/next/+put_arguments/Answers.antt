@@ -5,6 +5,7 @@ use mir.Syntax.{w64}
 use mir.Val.{of_z, to_z}
 use Rattle.value.proofs.Kit.{back}
 use Rattle.tree.specs.Node.{kind_of, left_of}
+use Rattle.eval.proofs.Exprs.{zeroed}
 use Rattle.eval.proofs.Arguments.{last-part, more_parts}
 use Rattle.eval.proofs.Rows.{room-some, room-inside, room-more, last-put, more-put}
 use Rattle.eval.proofs.next.+put_arguments.Goals as goal
@@ -48,7 +49,7 @@ returns-then-kind_of-ne-ARGUMENT t c =
     let is = c.kind_of.ensures ∙ ap kind_of c.cell_at-cell.ensures in
     let v = s.args.values.now in
     let x = c.eval_node.result in
-    rw (back c.or_zero-z.result c.or_zero-z.type_inv, c.or_zero-z.ensures) (last-put T L k v v s.args.at x (λ e. c.if-kind_of-ne-ARGUMENT.true (is ∙ e)) c.eval_node.ensures)
+    rw (back c.unwrap_or-z.result c.unwrap_or-z.type_inv, c.unwrap_or-z.ensures ∙ zeroed c.eval_node.result) (last-put T L k v v s.args.at x (λ e. c.if-kind_of-ne-ARGUMENT.true (is ∙ e)) c.eval_node.ensures)
 
 pub eval_node-requires-2 : goal.eval_node-requires-2
 eval_node-requires-2 t c =
@@ -109,7 +110,7 @@ put_arguments-requires t c =
 pub shape_of-values : goal.shape_of-values
 shape_of-values t c =
     let s = c in
-    omega (arith, length-set s.args.values.now s.args.at (to_z w64 (of_z w64 c.or_zero-z-2.result)))
+    omega (arith, length-set s.args.values.now s.args.at (to_z w64 (of_z w64 c.unwrap_or-z-2.result)))
 
 pub returns : goal.returns
 returns t c =
@@ -120,5 +121,5 @@ returns t c =
     let is = c.kind_of.ensures ∙ ap kind_of c.cell_at-cell.ensures in
     let e = c.left_of.ensures ∙ ap left_of c.cell_at-cell.ensures in
     let v = s.args.values.now in
-    let d = back c.or_zero-z-2.result c.or_zero-z-2.type_inv ∙ c.or_zero-z-2.ensures in
+    let d = back c.unwrap_or-z-2.result c.unwrap_or-z-2.type_inv ∙ c.unwrap_or-z-2.ensures ∙ zeroed _ in
     more-put T L k v _ s.args.at c.eval_node-2.result (sym is ∙ c.if-kind_of-ne-ARGUMENT.false) (rw e at c.eval_node-2.ensures) (rw d at c.put_arguments.ensures)

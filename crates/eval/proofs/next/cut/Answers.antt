@@ -1,14 +1,20 @@
--- `eval::next::cut` meets its contract. By the test.
-use borrow.Author.Tests.{lt-ltb, le-ltb}
-use Rattle.eval.specs.Next.{cut}
+-- By the cases of the test.
+use mathlib.Core.Path.{◌≡◌, refl, ◌∙◌}
+use mathlib.Core.Bool.{Bool, true, false, cond}
+use Prim.Native.Nat.{ℕ, min}
+use native.Mathlib.Omega.{arith}
+use borrow.Author.Tests.{ltb-true, ltb-false}
+use lib.Dec.{ltb}
+use Rattle.eval.specs.Next.{most, cut}
 use Rattle.eval.proofs.next.cut.Goals as goal
 
-pub returns-then-n-gt-MOST : goal.returns-then-n-gt-MOST
+least : (n : ℕ) → min n most ≡ cut n
 unfolding cut
-returns-then-n-gt-MOST c =
-    rw (lt-ltb _ _ c.if-n-gt-MOST.true)
+least n = go (ltb most n) refl
+  where
+    go : (b : Bool) → ltb most n ≡ b → min n most ≡ cond b most n
+    go true e = let l = ltb-true most n e in omega arith
+    go false e = let l = ltb-false most n e in omega arith
 
 pub returns : goal.returns
-unfolding cut
-returns c =
-    rw (le-ltb _ _ c.if-n-gt-MOST.false)
+returns c = c.min.ensures ∙ least c.args.n

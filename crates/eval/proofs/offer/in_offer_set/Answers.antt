@@ -1,5 +1,4 @@
 -- `eval::offer::in_offer_set` meets its contract: both ends, or the set at its root. From what the numbers show.
-use mathlib.Core.Path.{sym, ◌∙◌}
 use mir.Facts.{to_z-of_z}
 use Rattle.rules.specs.Offers.{within}
 use Rattle.eval.proofs.Ends.{marked, unmarked, root-natural, root-cast, mark-taken, mark-left}
@@ -34,26 +33,19 @@ returns-then-high-eq-JOINED c q h =
     let n = root-natural s.args.low m.root s.ranges.low m.is in
     simp (z, n) at c.in_set.ensures m.at.set q m.at.at m.at.worth
 
-pub returns-then-at_most : goal.returns-then-at_most
+pub returns-then-low-v : goal.returns-then-low-v
 unfolding within
-returns-then-at_most c q g =
+returns-then-low-v c q g =
     let s = c in
-    let T = s.args.nodes.now in
-    let L = s.args.locals.now in
     let z = to_z-of_z s.ranges.v in
     let x = to_z-of_z s.ranges.low in
     let y = to_z-of_z s.ranges.high in
-    let h = sym (simp (x, z) at c.at_most.ensures) ∙ c.if-at_most.true in
-    unmarked T L s.args.low s.args.high s.args.v c.at_most-then-at_most.result (mark-left s.args.high s.ranges.high c.if-high-eq-JOINED.false) (simp h (simp (y, z) at c.at_most-then-at_most.ensures)) g
+    simp (y, z) (unmarked s.args.nodes.now s.args.locals.now s.args.low s.args.high s.args.v _ (mark-left s.args.high s.ranges.high c.if-high-eq-JOINED.false) (rw (simp (x, z) at c.if-low-v.true)) g)
 
-pub returns-else-at_most : goal.returns-else-at_most
+pub returns-else-low-v : goal.returns-else-low-v
 unfolding within
-returns-else-at_most c q g =
+returns-else-low-v c q g =
     let s = c in
-    let T = s.args.nodes.now in
-    let L = s.args.locals.now in
     let z = to_z-of_z s.ranges.v in
     let x = to_z-of_z s.ranges.low in
-    let y = to_z-of_z s.ranges.high in
-    let h = sym (simp (x, z) at c.at_most.ensures) ∙ c.if-at_most.false in
-    unmarked T L s.args.low s.args.high s.args.v c.at_most.result (mark-left s.args.high s.ranges.high c.if-high-eq-JOINED.false) (simp h c.if-at_most.false) g
+    simp (x, z) (unmarked s.args.nodes.now s.args.locals.now s.args.low s.args.high s.args.v _ (mark-left s.args.high s.ranges.high c.if-high-eq-JOINED.false) (rw (simp (x, z) at c.if-low-v.false)) g)

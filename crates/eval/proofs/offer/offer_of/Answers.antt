@@ -43,8 +43,8 @@ overflow_sub-k c =
     let is = c.kind_of.ensures ∙ ap kind_of c.cell_at-cell.ensures in
     (gated-parts T k c.kind_of.result is c.if-kind_of-ne-GATE.false s.requires.0.0 (length L) s.requires.0.1).0
 
-pub prefix_offer-requires-in-Yes : goal.prefix_offer-requires-in-Yes
-prefix_offer-requires-in-Yes c =
+pub prefix_offer-requires-in-Some-true : goal.prefix_offer-requires-in-Some-true
+prefix_offer-requires-in-Some-true c =
     let s = c in
     let T = s.args.nodes.now in
     let L = s.args.locals.now in
@@ -53,32 +53,32 @@ prefix_offer-requires-in-Yes c =
     let f = gated-parts T k c.kind_of.result is c.if-kind_of-ne-GATE.false s.requires.0.0 (length L) s.requires.0.1 in
     (f.2, s.requires.1)
 
-pub returns-in-Yes : goal.returns-in-Yes
-returns-in-Yes c =
+pub returns-in-Some-true : goal.returns-in-Some-true
+returns-in-Some-true c =
     let s = c in
     let T = s.args.nodes.now in
     let L = s.args.locals.now in
     let k = s.args.k in
     let is = c.kind_of.ensures ∙ ap kind_of c.cell_at-cell.ensures in
     let e = c.left_of.ensures ∙ ap left_of c.cell_at-cell.ensures in
-    gate-yes T k c.kind_of.result is c.if-kind_of-ne-GATE.false L c.prefix_offer-in-Yes.result (rw (e, c.in-Yes.is) at c.holds-gate.ensures) c.prefix_offer-in-Yes.ensures
+    gate-yes T k c.kind_of.result is c.if-kind_of-ne-GATE.false L c.prefix_offer-in-Some-true.result (rw (e, c.in-Some-true.is, c.in-Some-true.field-0-test) at c.holds-gate.ensures) c.prefix_offer-in-Some-true.ensures
 
-pub returns-in-No : goal.returns-in-No
-returns-in-No c =
+pub returns-in-Some-false : goal.returns-in-Some-false
+returns-in-Some-false c =
     let s = c in
     let T = s.args.nodes.now in
     let L = s.args.locals.now in
     let k = s.args.k in
     let is = c.kind_of.ensures ∙ ap kind_of c.cell_at-cell.ensures in
     let e = c.left_of.ensures ∙ ap left_of c.cell_at-cell.ensures in
-    rw c.bare_offer.ensures (gate-no T k c.kind_of.result is c.if-kind_of-ne-GATE.false L (rw (e, c.in-No.is) at c.holds-gate.ensures))
+    rw c.bare_offer.ensures (gate-no T k c.kind_of.result is c.if-kind_of-ne-GATE.false L (rw (e, c.in-Some-false.is, c.in-Some-false.field-0-test) at c.holds-gate.ensures))
 
-pub returns-in-Missing : goal.returns-in-Missing
-returns-in-Missing c =
+pub returns-in-None : goal.returns-in-None
+returns-in-None c =
     let s = c in
     let T = s.args.nodes.now in
     let L = s.args.locals.now in
     let k = s.args.k in
     let is = c.kind_of.ensures ∙ ap kind_of c.cell_at-cell.ensures in
     let e = c.left_of.ensures ∙ ap left_of c.cell_at-cell.ensures in
-    rw c.bare_offer-in-Missing.ensures (gate-missing T k c.kind_of.result is c.if-kind_of-ne-GATE.false L (rw (e, c.in-Missing.is) at c.holds-gate.ensures))
+    rw c.bare_offer-in-None.ensures (gate-missing T k c.kind_of.result is c.if-kind_of-ne-GATE.false L (rw (e, c.in-None.is) at c.holds-gate.ensures))

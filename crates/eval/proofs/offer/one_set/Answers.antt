@@ -1,14 +1,14 @@
 -- `eval::offer::one_set` meets its contract. By the cases of the ends.
+use native.Mathlib.Omega.{arith}
 use Rattle.value.proofs.Kit.{back}
-use Rattle.eval.specs.Shown.{one_set, none_listed}
+use Rattle.eval.specs.Shown.{one_set}
 use Rattle.eval.proofs.offer.one_set.Goals as goal
 
-pub returns-in-Are : goal.returns-in-Are
-unfolding one_set none_listed
-returns-in-Are c =
-    rw (c.in-Are.is, back c.in-Are.a c.in-Are.known_told-1-own.given.0.1, back c.in-Are.b c.in-Are.known_told-1-own.given.1.0.1)
+pub returns : goal.returns
+unfolding one_set
+returns c =
+    rw (c.in_ok-a.was, back c.in_ok-a.a (omega arith), back c.in_ok-a.b (omega arith))
 
-pub returns-in-Missing : goal.returns-in-Missing
-unfolding one_set none_listed
-returns-in-Missing c =
-    rw c.in-Missing.is
+pub returns-in_err-a : goal.returns-in_err-a
+unfolding one_set
+returns-in_err-a c = rw c.in_err-a.was c.from_residual.ensures

@@ -33,21 +33,21 @@ action_offer-requires c =
     let e = c.left_of.ensures ∙ ap left_of c.cell_at-cell.ensures in
     (rw e (own-action T k (length L) s.requires.0), s.requires.1)
 
-pub returns-in-Is : goal.returns-in-Is
-returns-in-Is c =
+pub returns-in-Some : goal.returns-in-Some
+returns-in-Some c =
     let s = c in
     let T = s.args.nodes.now in
     let L = s.args.locals.now in
     let k = s.args.k in
     let e = c.left_of.ensures ∙ ap left_of c.cell_at-cell.ensures in
     let r = c.rate_root.ensures ∙ ap (λ (x : ℕ). rate_root x k) c.cell_at-cell.ensures in
-    prefix-is T k L c.in-Is.n c.action_offer.result (rw (r, c.in-Is.is) at c.rate_of-rate.ensures) (rw e at c.action_offer.ensures)
+    prefix-is T k L c.in-Some.n c.action_offer.result (rw (r, c.in-Some.is) at c.rate_of-rate.ensures) (rw e at c.action_offer.ensures)
 
-pub returns-in-Missing : goal.returns-in-Missing
-returns-in-Missing c =
+pub returns-in-None : goal.returns-in-None
+returns-in-None c =
     let s = c in
     let T = s.args.nodes.now in
     let L = s.args.locals.now in
     let k = s.args.k in
     let r = c.rate_root.ensures ∙ ap (λ (x : ℕ). rate_root x k) c.cell_at-cell.ensures in
-    rw c.bare_offer.ensures (prefix-missing T k L (rw (r, c.in-Missing.is) at c.rate_of-rate.ensures))
+    rw c.bare_offer.ensures (prefix-missing T k L (rw (r, c.in-None.is) at c.rate_of-rate.ensures))

@@ -1,49 +1,30 @@
 -- `eval::offer::sought_offer` meets its contract: the channel, then the sets. From what the node says.
-use mathlib.Core.Path.{sym, ap, ◌∙◌}
-use borrow.Author.Tests.{not-true}
+use mathlib.Core.Path.{ap, ◌∙◌}
 use Rattle.tree.specs.Node.{left_of}
 use Rattle.tables.proofs.Parts.{pair-above, pair-second}
 use Rattle.eval.proofs.Offers.{sought-missing, sought-is}
 use Rattle.eval.proofs.offer.sought_offer.Goals as goal
 
-pub channel_of-c-requires : goal.channel_of-c-requires
-channel_of-c-requires c =
-    let s = c in
-    let T = s.args.nodes.now in
-    let L = s.args.locals.now in
-    let k = s.args.k in
+pub channel_of-requires : goal.channel_of-requires
+channel_of-requires c =
     let e = c.left_of.ensures ∙ ap left_of c.cell_at-cell.ensures in
-    let h = s.requires.0 in
-    ((h.model, rw e (record { part = h.channel; at = h.at.holds-first; fit = h.fit.channel })), s.requires.1)
-
-pub returns-then-not-is_found : goal.returns-then-not-is_found
-returns-then-not-is_found c =
-    let s = c in
-    let T = s.args.nodes.now in
-    let L = s.args.locals.now in
-    let k = s.args.k in
-    let e = c.left_of.ensures ∙ ap left_of c.cell_at-cell.ensures in
-    let w = rw e at c.channel_of-c.ensures in
-    rw c.bare_offer.ensures (sought-missing T L s.args.kind s.args.rate k c.channel_of-c.result w (sym c.is_found.ensures ∙ not-true _ c.if-not-is_found.true-raw))
+    let h = c.requires.0 in
+    ((h.model, rw e (record { part = h.channel; at = h.at.holds-first; fit = h.fit.channel })), c.requires.1)
 
 pub overflow_sub-k : goal.overflow_sub-k
-overflow_sub-k c =
-    let s = c in
-    let h = s.requires.0 in
-    pair-above h.at
+overflow_sub-k c = pair-above c.requires.0.at
 
-pub listed_sets-list-requires : goal.listed_sets-list-requires
-listed_sets-list-requires c =
-    let s = c in
-    let h = s.requires.0 in
-    (record { part = h.sets; at = pair-second h.at; fit = h.fit.sets }, s.requires.1)
+pub listed_sets-requires : goal.listed_sets-requires
+listed_sets-requires c =
+    let h = c.requires.0 in
+    (record { part = h.sets; at = pair-second h.at; fit = h.fit.sets }, c.requires.1)
 
-pub returns : goal.returns
-returns c =
-    let s = c in
-    let T = s.args.nodes.now in
-    let L = s.args.locals.now in
-    let k = s.args.k in
+pub returns-in-Some : goal.returns-in-Some
+returns-in-Some c =
     let e = c.left_of.ensures ∙ ap left_of c.cell_at-cell.ensures in
-    let w = rw e at c.channel_of-c.ensures in
-    rw c.assembled.ensures (sought-is T L s.args.kind s.args.rate k c.channel_of-c.result w c.listed_sets-list.result c.listed_sets-list.ensures)
+    rw c.assembled.ensures (sought-is c.args.nodes.now c.args.locals.now c.args.kind c.args.rate c.args.k c.in-Some.c c.listed_sets.result (rw e at c.in-Some.ensures) c.listed_sets.ensures)
+
+pub returns-in-None : goal.returns-in-None
+returns-in-None c =
+    let e = c.left_of.ensures ∙ ap left_of c.cell_at-cell.ensures in
+    rw c.bare_offer.ensures (sought-missing c.args.nodes.now c.args.locals.now c.args.kind c.args.rate c.args.k (rw e at c.in-None.ensures))

@@ -5,17 +5,17 @@ use mathlib.Core.List.{List}
 use mathlib.Core.Option.{Option-elim}
 use Prim.Native.Nat.{ℕ, ◌+◌, ◌≤◌}
 use native.Mathlib.Omega.{arith}
-use borrow.Author.Tests.{eqb-true, eqb-false, leb-true}
+use borrow.Author.Tests.{eqb-false, leb-true}
 use lib.Dec.{eqb, leb}
 use lib.ListN.{length}
-use Rattle.waits.specs.declared.Wait.{Wait}
-use Rattle.waits.specs.declared.Wait.TheVariants.{Given, Ended, Long}
-use Rattle.waits.specs.Runs.{wait_of}
+use Rattle.std.specs.Prelude.{Err, Ok}
+use Rattle.waits.specs.Runs.{wait_of, Wait}
 use Rattle.waits.specs.ByRuns.{Waits}
 use Rattle.waits.proofs.Same.{by_runs}
 use Rattle.clock.specs.declared.Clock.{Clock}
-use Rattle.clock.specs.declared.Brought.{Brought}
-use Rattle.clock.specs.Clock.{clock_limit, ticks_of, brought, forwarded, waited, brought_by}
+use Rattle.clock.specs.declared.Late.{Late}
+use Rattle.clock.specs.declared.Late.TheVariants.{Ended, Long, Past}
+use Rattle.clock.specs.Clock.{clock_limit, ticks_of, late_number, Brought, forwarded, waited, brought_by}
 use Rattle.machine.specs.State.{State, state_numbers}
 use Rattle.machine.specs.Timed.{Timed, timed}
 use Rattle.machine.specs.Machine.{listing_length, Answer, no, Turn, turn, refused_as, with_wait, steps_in, times_with, steps_with, Held, Machine, holding, on_state, on_clock, step', timed', on', acts, Part, state, clock, size, is_lent, all_parts, has_lengths, call, on_machine, asked, calls}
@@ -34,28 +34,32 @@ use Rattle.buffers.proofs.Transitions.{still, own-turns, own-lengths}
 -- ---- turns
 
 -- a wait that brought the clock forward
-record Forward (c : Clock) (ds : List ℕ) (sum : ℕ) (b : Brought) : Type 0 where
+record Forward (c : Clock) (ds : List ℕ) (sum : ℕ) (k : Clock) : Type 0 where
   E : ℕ
   used : ℕ
-  waits : Waits 0 ds (Given E used)
-  clock : b.clock ≡ later_by c E sum used
+  waits : Waits 0 ds (Ok (E, used))
+  clock : k ≡ later_by c E sum used
   ticks : (later_by c E sum used).ticks ≤ clock_limit
   draws : (later_by c E sum used).draws ≤ clock_limit
 
-goes : (c : Clock) (ds : List ℕ) (sum : ℕ) → (brought_by c ds sum).number ≡ 0 → Forward c ds sum (brought_by c ds sum)
+goes : (c : Clock) (ds : List ℕ) (sum : ℕ) (k : Clock) → brought_by c ds sum ≡ Ok k → Forward c ds sum k
 unfolding brought_by waited forwarded
-goes c ds sum e = by (wait_of ds) ((by_runs ds (wait_of ds)).1 refl) e
+goes c ds sum k e = by (wait_of ds) ((by_runs ds (wait_of ds)).1 refl) e
   where
-    ahead : (a u : ℕ) → Waits 0 ds (Given a u) → (p : Bool) → leb (c.ticks + ticks_of a sum) clock_limit ≡ p → (q : Bool) → leb (c.draws + u) clock_limit ≡ q
-        → (cond (p && q) (brought 0 (later_by c a sum u)) (brought 25 c)).number ≡ 0 → Forward c ds sum (cond (p && q) (brought 0 (later_by c a sum u)) (brought 25 c))
-    ahead a u w true p true q e = record { E = a; used = u; waits = w; clock = refl; ticks = leb-true _ _ p; draws = leb-true _ _ q }
-    ahead a u w true p false q e = absurd (omega arith)
-    ahead a u w false p q' q e = absurd (omega arith)
+    ahead : (a u : ℕ) → Waits 0 ds (Ok (a, u)) → (p : Bool) → leb (c.ticks + ticks_of a sum) clock_limit ≡ p → (q : Bool) → leb (c.draws + u) clock_limit ≡ q
+        → ◌≡◌ {A = Brought} (cond (p && q) (Ok (later_by c a sum u)) (Err Past)) (Ok k) → Forward c ds sum k
+    ahead a u w true p true q e = record { E = a; used = u; waits = w; clock = cc; ticks = leb-true _ _ p; draws = leb-true _ _ q }
+    ahead a u w true p false q e = absurd (cc)
+    ahead a u w false p q' q e = absurd (cc)
 
-    by : (w : Wait) → Waits 0 ds w → (waited c sum w).number ≡ 0 → Forward c ds sum (waited c sum w)
-    by (Given a u) w e = ahead a u w (leb (c.ticks + ticks_of a sum) clock_limit) refl (leb (c.draws + u) clock_limit) refl e
-    by Ended w e = absurd (omega arith)
-    by Long w e = absurd (omega arith)
+    by : (w : Wait) → Waits 0 ds w → waited c sum w ≡ Ok k → Forward c ds sum k
+    by (Ok (a, u)) w e = ahead a u w (leb (c.ticks + ticks_of a sum) clock_limit) refl (leb (c.draws + u) clock_limit) refl e
+    by (Err l) w e = absurd (cc)
+
+late-above : (l : Late) → late_number l ≡ 0 → ⊥
+late-above Ended e = omega arith
+late-above Long e = omega arith
+late-above Past e = omega arith
 
 module _ (ds : List ℕ) (s : State) (c : Clock) (t : Turn State) where
   abbrev sum : ℕ
@@ -65,20 +69,19 @@ module _ (ds : List ℕ) (s : State) (c : Clock) (t : Turn State) where
   record Both (u : Turn Timed) : Type 0 where
     answer : u.answer ≡ t.answer
     state : u.machine.state ≡ t.machine
-    clock : u.machine.clock ≡ (brought_by c ds sum).clock
-    forward : (brought_by c ds sum).number ≡ 0
+    forward : brought_by c ds sum ≡ Ok u.machine.clock
 
   both_so : (steps_in c ds s t).answer.number ≡ 0 → Both (steps_in c ds s t)
   unfolding steps_in with_wait refused_as
-  both_so e = by (eqb t.answer.number 0) refl (eqb (brought_by c ds sum).number 0) refl e
+  both_so e = by (eqb t.answer.number 0) refl (brought_by c ds sum) refl e
     where
-      U : Bool → Bool → Turn Timed
-      U p q = cond p (cond q (turn (timed t.machine (brought_by c ds sum).clock) t.answer) (turn (timed s c) (refused_as (brought_by c ds sum).number t.answer))) (turn (timed t.machine c) t.answer)
+      U : Bool → Brought → Turn Timed
+      U p b = cond p (with_wait s c t b) (turn (timed t.machine c) t.answer)
 
-      by : (p : Bool) → eqb t.answer.number 0 ≡ p → (q : Bool) → eqb (brought_by c ds sum).number 0 ≡ q → (U p q).answer.number ≡ 0 → Both (U p q)
-      by true p true q e = record { answer = refl; state = refl; clock = refl; forward = eqb-true _ _ q }
-      by true p false q e = absurd (eqb-false _ _ q e)
-      by false p q' q e = absurd (eqb-false _ _ p e)
+      by : (p : Bool) → eqb t.answer.number 0 ≡ p → (b : Brought) → brought_by c ds sum ≡ b → (U p b).answer.number ≡ 0 → Both (U p b)
+      by true p (Ok k) q e = record { answer = refl; state = refl; forward = q }
+      by true p (Err l) q e = absurd (late-above l e)
+      by false p b q e = absurd (eqb-false _ _ p e)
 
 -- a timed step that is refused leaves what is held
 refused-stays : (ds : List ℕ) (d : ℕ) (h : Held) → ((acts (timed' ds d) h).answer.number ≡ 0 → ⊥) → (acts (timed' ds d) h).machine ≡ h
@@ -100,7 +103,7 @@ module _ {x : Engine} (l ds : List ℕ) (d : ℕ) (long : length l ≡ listing_l
       let b = own-turns w (step' d) l listing_length refl long in
       let t = steps_with d h.model h.state in
       let k = both_so ds h.state h.clock t (sym (ap (λ (a : Answer). a.number) a.answer) ∙ z) in
-      let f = goes h.clock ds t.answer.total k.forward in
+      let f = goes h.clock ds t.answer.total _ k.forward in
       let q : later_by h.clock f.E t.answer.total f.used ≡ later_by h.clock f.E (stepping x l d).answer.total f.used = ap (λ (a : Answer). later_by h.clock f.E a.total f.used) (sym b.answer) in
       record {
         answer = a.answer ∙ k.answer ∙ sym b.answer;
@@ -111,7 +114,7 @@ module _ {x : Engine} (l ds : List ℕ) (d : ℕ) (long : length l ≡ listing_l
         E = f.E;
         used = f.used;
         waits = f.waits;
-        clock = a.lent clock refl ∙ ap clock_numbers (k.clock ∙ f.clock ∙ q);
+        clock = a.lent clock refl ∙ ap clock_numbers (f.clock ∙ q);
         ticks = subst (λ (k : Clock). k.ticks ≤ clock_limit) q f.ticks;
         draws = subst (λ (k : Clock). k.draws ≤ clock_limit) q f.draws;
       }

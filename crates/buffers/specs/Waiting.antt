@@ -1,7 +1,6 @@
 -- What a timed step is to a step, after every list of calls on the fresh engine's buffers (02, note 4): accepted, processes, pairs and listing are those of a step with that choosing draw, and the clock goes on by the
 -- wait; refused, nothing moves. Definitions only.
-use Rattle.std.specs.Prelude.{◌≡◌, List, ℕ, ◌≤◌, length}
-use Rattle.waits.specs.declared.Wait.TheVariants as wait
+use Rattle.std.specs.Prelude.{◌≡◌, List, ℕ, ◌≤◌, length, Ok}
 use Rattle.waits.specs.ByRuns.{Waits}
 use Rattle.clock.specs.declared.Clock.{Clock}
 use Rattle.clock.specs.Clock.{clock_limit}
@@ -21,7 +20,7 @@ pub record AsStep (x : Engine) (ds : List ℕ) (e t : Effect) : Type 0 where
   pub held : x clock ≡ clock_numbers before
   pub E : ℕ
   pub used : ℕ
-  pub waits : Waits 0 ds (wait.Given E used)
+  pub waits : Waits 0 ds (Ok (E, used))
   pub clock : t.left clock ≡ clock_numbers (later_by before E e.answer.total used)
   pub ticks : (later_by before E e.answer.total used).ticks ≤ clock_limit
   pub draws : (later_by before E e.answer.total used).draws ≤ clock_limit

@@ -8,9 +8,9 @@ use mathlib.Core.Option.{some, Option-elim}
 use Prim.Native.Nat.{ℕ}
 use native.Mathlib.Omega.{arith}
 use lib.IntN.{ℤ}
+use Rattle.std.specs.Prelude.{None, Some}
+use Rattle.value.specs.Range.{Value}
 use Rattle.value.proofs.Kit.{true-not-false, false-not-true}
-use Rattle.value.specs.declared.Value.{Value}
-use Rattle.value.specs.declared.Value.TheVariants.{Is, Missing}
 use Rattle.model.specs.Resolved
 use Rattle.rules.specs.Offers as offers
 use Rattle.rules.specs.Rules.{Change, unchanged, label, plain, Offered, takes, takes_bind, rule18, Alone, Key, key, Moves, alone, together}
@@ -30,19 +30,19 @@ use Rattle.machine.proofs.Branches.{nth-map, nth-get, guard-is, Writes, writes}
 -- ---- calls
 -- every expression of a list has a value
 abbrev Valued : List ℤ → List Resolved.Expr → Type 0
-Valued ls es = (e : Resolved.Expr) → In e es → (z : ℤ) × (eval_expr ls e ≡ Is z)
+Valued ls es = (e : Resolved.Expr) → In e es → (z : ℤ) × (eval_expr ls e ≡ Some z)
 
 all-valued : (ls : List ℤ) (es : List Resolved.Expr) → Decides (Valued ls es) (all_values ls es)
 unfolding all_values is_value
 all-valued ls [] = holds (λ e i. absurd (Memᴰ.not-nil i))
 all-valued ls (e ∷ es) = go (eval_expr ls e) refl (all-valued ls es)
   where
-    both : {z : ℤ} → eval_expr ls e ≡ Is z → Valued ls es → Valued ls (e ∷ es)
+    both : {z : ℤ} → eval_expr ls e ≡ Some z → Valued ls es → Valued ls (e ∷ es)
     both {z} q f d i = ⊎_elim (λ r. (z, rw r q)) (f d) (Memᴰ.cases_cons i)
 
     go : (v : Value) → eval_expr ls e ≡ v → {b : Bool} → Decides (Valued ls es) b → Decides (Valued ls (e ∷ es)) (is_value v && b)
-    go (Is z) q d = along (both q) (λ f x i. f x (In.tail i)) d
-    go Missing q d = fails (λ f. let r = f e (In.head refl) in let n : ◌≡◌ {A = ℕ} 0 1 = cc (q, r.1) in omega arith)
+    go (Some z) q d = along (both q) (λ f x i. f x (In.tail i)) d
+    go None q d = fails (λ f. let r = f e (In.head refl) in let n : ◌≡◌ {A = ℕ} 0 1 = cc (q, r.1) in omega arith)
 
 calls-given : (ls : List ℤ) (xs : List Resolved.Part) → Decides (Given ls xs) (arguments_given ls xs)
 unfolding arguments_given

@@ -5,9 +5,8 @@ use mathlib.Core.Option.{Option, Option-elim}
 use Prim.Native.Nat.{ℕ}
 use lib.IntN.{ℤ}
 use lib.ListN.{length, length-map}
-use Rattle.value.specs.declared.Value.{Value}
-use Rattle.value.specs.declared.Value.TheVariants.{Is, Missing}
-use Rattle.value.specs.Range.{InRange}
+use Rattle.std.specs.Prelude.{None, Some}
+use Rattle.value.specs.Range.{InRange, Value}
 use Rattle.model.specs.Resolved
 use Rattle.rules.specs.Rules.{Nth}
 use Rattle.machine.specs.Evaluate.{eval_expr}
@@ -25,8 +24,8 @@ unfolding or_zero
 argument-good ls r n e g = go (eval_expr ls e) refl
   where
     go : (v : Value) → eval_expr ls e ≡ v → InRange (or_zero v)
-    go (Is z) q = expr-good ls r n e z g q
-    go Missing q = zero-good
+    go (Some z) q = expr-good ls r n e z g q
+    go None q = zero-good
 
 module _ (m : Resolved.Model) (good : GoodModel m) where
   -- a sum with as many locals as it has in scope

@@ -6,12 +6,11 @@ use Prim.Native.Nat.{ℕ, ◌+◌, ◌≤◌}
 use native.Mathlib.Omega.{arith}
 use borrow.Author.Tests.{leb-true}
 use lib.Dec.{eqb, leb}
-use Rattle.waits.specs.declared.Wait.{Wait}
-use Rattle.waits.specs.declared.Wait.TheVariants.{Given, Ended, Long}
-use Rattle.waits.specs.Runs.{wait_of}
+use Rattle.std.specs.Prelude.{Err, IfOk, Ok}
+use Rattle.waits.specs.Runs.{wait_of, Wait}
 use Rattle.clock.specs.declared.Clock.{Clock}
-use Rattle.clock.specs.declared.Brought.{Brought}
-use Rattle.clock.specs.Clock.{clock_limit, InRange, ticks_of, brought, forwarded, waited, brought_by}
+use Rattle.clock.specs.declared.Late.TheVariants.{Past}
+use Rattle.clock.specs.Clock.{clock_limit, InRange, ticks_of, Brought, forwarded, waited, brought_by}
 use Rattle.model.specs.Resolved
 use Rattle.model.specs.Opening.{process_limit}
 use Rattle.model.specs.Opening as opening
@@ -20,7 +19,7 @@ use Rattle.rules.specs.Listing.{Entry}
 use Rattle.machine.specs.State.{State, GoodState}
 use Rattle.machine.specs.Timed.{Timed, timed, GoodTimed}
 use Rattle.machine.specs.Saves.{Saves, Stored, saving, returning, forgetting}
-use Rattle.machine.specs.Machine.{Listed, entries_are, refused_with, listing, Turn, turn, drawn, refused_as, with_wait, steps_in, times_with, runs_over, showing, lists, sharing, reports, choosing, steps_with, searches, Held, held, timed_of, Good, on_state, on_clock, on_saves, Request, list', step', report', search', timed', run', save', return', forget', acts, opened_state}
+use Rattle.machine.specs.Machine.{Listed, entries_are, refused_with, listing, Turn, turn, drawn, with_wait, steps_in, times_with, runs_over, showing, lists, sharing, reports, choosing, steps_with, searches, Held, held, timed_of, Good, on_state, on_clock, on_saves, Request, list', step', report', search', timed', run', save', return', forget', acts, opened_state}
 use Rattle.machine.specs.Questions.{Steps, no15, no16, no17, no18, no19, yes19}
 use Rattle.machine.proofs.Listing.{accepted}
 use Rattle.machine.proofs.Stepping as stepping
@@ -74,40 +73,37 @@ module _ (m : Resolved.Model) (s : State) (g : GoodState m s) where
 -- ---- turns of a state and a clock
 
 -- 02, note 4: a clock in its range stays in it
-forward-good : (c : Clock) (t u : ℕ) → InRange c → InRange (forwarded c t u).clock
+forward-good : (c : Clock) (t u : ℕ) → InRange c → IfOk (forwarded c t u) InRange
 unfolding forwarded
 forward-good c t u g = by (leb (c.ticks + t) clock_limit) refl (leb (c.draws + u) clock_limit) refl
   where
     by : (a : Bool) → leb (c.ticks + t) clock_limit ≡ a → (b : Bool) → leb (c.draws + u) clock_limit ≡ b
-        → InRange (cond (a && b) (brought 0 (record { ticks = c.ticks + t; draws = c.draws + u })) (brought 25 c)).clock
+        → IfOk (cond (a && b) (Ok (record { ticks = c.ticks + t; draws = c.draws + u })) (Err Past)) InRange
     by true p true q = record { ticks = leb-true _ _ p; draws = leb-true _ _ q }
-    by true p false q = g
-    by false p b q = g
+    by true p false q = tt
+    by false p b q = tt
 
-brought-good : (c : Clock) (ds : List ℕ) (sum : ℕ) → InRange c → InRange (brought_by c ds sum).clock
+brought-good : (c : Clock) (ds : List ℕ) (sum : ℕ) → InRange c → IfOk (brought_by c ds sum) InRange
 unfolding brought_by waited
 brought-good c ds sum g = by (wait_of ds)
   where
-    by : (w : Wait) → InRange (waited c sum w).clock
-    by (Given e u) = forward-good c (ticks_of e sum) u g
-    by Ended = g
-    by Long = g
+    by : (w : Wait) → IfOk (waited c sum w) InRange
+    by (Ok (e, u)) = forward-good c (ticks_of e sum) u g
+    by (Err l) = tt
 
 module _ (m : Resolved.Model) (s : State) (c : Clock) (k : GoodModel m) (g : GoodState m s) (r : InRange c) (ds : List ℕ) (d : ℕ) where
   times-good : GoodTimed m (times_with ds d m s c).machine
   unfolding times_with steps_in with_wait
   times-good = by (steps_with d m s) (brought_by c ds (steps_with d m s).answer.total) (step-good m s g k d) (brought-good c ds (steps_with d m s).answer.total r)
     where
-      by : (t : Turn State) (b : Brought) → GoodState m t.machine → InRange b.clock
+      by : (t : Turn State) (b : Brought) → GoodState m t.machine → IfOk b InRange
           → let u = cond (eqb t.answer.number 0) (with_wait s c t b) (turn (timed t.machine c) t.answer) in GoodTimed m u.machine
-      by t b h i = go (eqb t.answer.number 0) (eqb b.number 0)
+      by t b h i = go (eqb t.answer.number 0) b i
         where
-          go : (x y : Bool)
-              → let u = cond x (cond y (turn (timed t.machine b.clock) t.answer) (turn (timed s c) (refused_as b.number t.answer))) (turn (timed t.machine c) t.answer) in
-              GoodTimed m u.machine
-          go true true = record { state = h; clock = i }
-          go true false = record { state = g; clock = r }
-          go false y = record { state = h; clock = r }
+          go : (x : Bool) (b : Brought) → IfOk b InRange → let u = cond x (with_wait s c t b) (turn (timed t.machine c) t.answer) in GoodTimed m u.machine
+          go true (Ok k) i = record { state = h; clock = i }
+          go true (Err l) i = record { state = g; clock = r }
+          go false b i = record { state = h; clock = r }
 
 -- R.7: a run keeps what its timed steps keep
 runs-good : (ws vs : List ℕ) (n l : ℕ) (m : Resolved.Model) (s : State) (c : Clock) → GoodModel m → GoodState m s → InRange c → GoodTimed m (runs_over ws vs n l m s c).machine

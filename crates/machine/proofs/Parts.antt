@@ -7,38 +7,38 @@ use Prim.Native.Nat.{ℕ}
 use native.Mathlib.Omega.{arith}
 use lib.IntN.{ℤ}
 use lib.ListN.{length}
-use Rattle.value.specs.declared.Value.{Value}
-use Rattle.value.specs.declared.Value.TheVariants.{Is, Missing}
+use Rattle.std.specs.Prelude.{None, Some}
+use Rattle.value.specs.Range.{Value}
 use Rattle.model.specs.Resolved
 use Rattle.rules.specs.Offers as offers
 use Rattle.machine.specs.Evaluate.{with_value, valued, given, eval_rate, eval_all, eval_action, eval_cond, eval_offer, eval_gate, eval_branch}
 use Rattle.machine.proofs.Branches.{none-not-some}
 
 -- ---- parts that have values
-missing-is : {B : Type 0} (v : Value) (z : ℤ) → v ≡ Missing → v ≡ Is z → B
+missing-is : {B : Type 0} (v : Value) (z : ℤ) → v ≡ None → v ≡ Some z → B
 missing-is v z e f = let n : ◌≡◌ {A = ℕ} 0 1 = cc in absurd (omega arith)
 
 -- the part of a value
 pub record ValuePart (v : Value) (f : ℤ → Value) (z : ℤ) : Type 0 where
   pub part : ℤ
-  pub is : v ≡ Is part
-  pub rest : f part ≡ Is z
+  pub is : v ≡ Some part
+  pub rest : f part ≡ Some z
 
-pub with-is : (v : Value) (f : ℤ → Value) (z : ℤ) → with_value v f ≡ Is z → ValuePart v f z
+pub with-is : (v : Value) (f : ℤ → Value) (z : ℤ) → with_value v f ≡ Some z → ValuePart v f z
 unfolding with_value
-with-is (Is x) f z e = record { part = x; is = refl; rest = e }
-with-is Missing f z e = missing-is Missing z refl e
+with-is (Some x) f z e = record { part = x; is = refl; rest = e }
+with-is None f z e = missing-is None z refl e
 
 -- the part of something that a value leads to
 pub record ValuedPart {A : Type 0} (v : Value) (f : ℤ → Option A) (y : A) : Type 0 where
   pub part : ℤ
-  pub is : v ≡ Is part
+  pub is : v ≡ Some part
   pub rest : f part ≡ some y
 
 pub valued-is : {A : Type 0} (v : Value) (f : ℤ → Option A) (y : A) → valued v f ≡ some y → ValuedPart v f y
 unfolding valued
-valued-is (Is x) f y e = record { part = x; is = refl; rest = e }
-valued-is Missing f y e = none-not-some none y refl e
+valued-is (Some x) f y e = record { part = x; is = refl; rest = e }
+valued-is None f y e = none-not-some none y refl e
 
 -- the part of something
 pub record GivenPart {A B : Type 0} (o : Option A) (f : A → Option B) (y : B) : Type 0 where

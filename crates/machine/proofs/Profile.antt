@@ -2,23 +2,22 @@
 -- than the opening left (02, note 11). By induction on the calls: every request keeps the model, which is steady, what is held is over it, and no save has more processes.
 use mathlib.Core.Path.{◌≡◌, refl, sym, ap, subst, ◌∙◌}
 use mathlib.Core.List.{List, [], ◌∷◌}
-use mathlib.Core.Bool.{Bool, true, false, cond, ◌&&◌}
+use mathlib.Core.Bool.{Bool, true, false, cond}
 use mathlib.Core.Logic.{inl, inr, ⊎_elim}
 use mathlib.Core.Option.{Option, none, some, Option-elim}
-use Prim.Native.Nat.{ℕ, ◌+◌, ◌≤◌}
+use Prim.Native.Nat.{ℕ, ◌≤◌}
 use native.Mathlib.Omega.{arith}
-use lib.Dec.{eqb, ltb, leb}
+use lib.Dec.{eqb, ltb}
 use lib.ListN.{length}
+use Rattle.std.specs.Prelude.{Err, Ok}
 use Rattle.model.specs.Resolved
 use Rattle.model.specs.Good.{Every, GoodModel}
 use Rattle.model.specs.Opening.{process_limit, Opening, refused, opened}
 use Rattle.model.proofs.Opened as opens
-use Rattle.waits.specs.declared.Wait.{Wait}
-use Rattle.waits.specs.declared.Wait.TheVariants.{Given, Ended, Long}
-use Rattle.waits.specs.Runs.{wait_of}
 use Rattle.clock.specs.declared.Clock.{Clock}
-use Rattle.clock.specs.declared.Brought.{Brought}
-use Rattle.clock.specs.Clock.{clock_limit, ticks_of, brought, forwarded, waited, brought_by}
+use Rattle.clock.specs.declared.Late.{Late}
+use Rattle.clock.specs.declared.Late.TheVariants.{Ended, Long, Past}
+use Rattle.clock.specs.Clock.{late_number, Brought, brought_by}
 use Rattle.profile.specs.Opening.{opening_steady}
 use Rattle.profile.specs.Steady.{Steady}
 use Rattle.profile.proofs.InOrder.{answered-steady, steady-numbers}
@@ -107,18 +106,10 @@ module _ (m : Resolved.Model) (s : State) where
       by (yes14 {es = es} e h l f) = drawn-kept m k s es d
 
 -- 02, note 4: the clock is brought forward, or that is refused with 23 to 25
-brought-not : (c : Clock) (ds : List ℕ) (sum : ℕ) → (brought_by c ds sum).number ≡ 18 → ⊥
-unfolding brought_by waited forwarded
-brought-not c ds sum = by (wait_of ds)
-  where
-    ahead : (b : Bool) (d : Clock) → (cond b (brought 0 d) (brought 25 c)).number ≡ 18 → ⊥
-    ahead true d e = omega arith
-    ahead false d e = omega arith
-
-    by : (w : Wait) → (waited c sum w).number ≡ 18 → ⊥
-    by (Given e u) = ahead (leb (c.ticks + ticks_of e sum) clock_limit && leb (c.draws + u) clock_limit) (record { ticks = c.ticks + ticks_of e sum; draws = c.draws + u })
-    by Ended = λ e. omega arith
-    by Long = λ e. omega arith
+late-not : (l : Late) → late_number l ≡ 18 → ⊥
+late-not Ended e = omega arith
+late-not Long e = omega arith
+late-not Past e = omega arith
 
 -- a timed step keeps what its step keeps
 module _ (s : State) (c : Clock) (ds : List ℕ) (t : Turn State) (k : Kept s t) where
@@ -128,23 +119,17 @@ module _ (s : State) (c : Clock) (ds : List ℕ) (t : Turn State) (k : Kept s t)
     where
       by : (a : Bool) (b : Brought) → length (cond a (with_wait s c t b) (turn (timed t.machine c) t.answer)).machine.state.processes ≤ length s.processes
       by false b = k.few
-      by true b = go (eqb b.number 0)
-        where
-          go : (a : Bool) → length (cond a (turn (timed t.machine b.clock) t.answer) (turn (timed s c) (refused_as b.number t.answer))).machine.state.processes ≤ length s.processes
-          go true = k.few
-          go false = omega arith
+      by true (Ok c') = k.few
+      by true (Err l) = omega arith
 
   timed-not : length s.processes ≤ process_limit → Not18 (steps_in c ds s t)
   unfolding steps_in with_wait refused_as
-  timed-not l = by (eqb t.answer.number 0) (brought_by c ds t.answer.total) (brought-not c ds t.answer.total)
+  timed-not l = by (eqb t.answer.number 0) (brought_by c ds t.answer.total)
     where
-      by : (a : Bool) (b : Brought) → (b.number ≡ 18 → ⊥) → Not18 (cond a (with_wait s c t b) (turn (timed t.machine c) t.answer))
-      by false b n = k.not-eighteen l
-      by true b n = go (eqb b.number 0)
-        where
-          go : (a : Bool) → Not18 (cond a (turn (timed t.machine b.clock) t.answer) (turn (timed s c) (refused_as b.number t.answer)))
-          go true = k.not-eighteen l
-          go false = n
+      by : (a : Bool) (b : Brought) → Not18 (cond a (with_wait s c t b) (turn (timed t.machine c) t.answer))
+      by false b = k.not-eighteen l
+      by true (Ok c') = k.not-eighteen l
+      by true (Err e) = late-not e
 
 -- a run keeps what its timed steps keep
 run-steady : (ws vs : List ℕ) (n l : ℕ) (h : Held) → Steady h.model → length h.state.processes ≤ process_limit

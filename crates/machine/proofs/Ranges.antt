@@ -9,7 +9,7 @@ use borrow.Author.Tests.{leb-true}
 use lib.Dec.{leb}
 use lib.IntN.{ℤ, pos, negsuc}
 use lib.ListN.{length, get_or}
-use Rattle.value.specs.declared.Value.TheVariants.{Is}
+use Rattle.std.specs.Prelude.{Some}
 use Rattle.value.specs.Range.{InRange}
 use Rattle.value.specs.Arithmetic.{abs_of, max_of, min_of}
 use Rattle.value.proofs.Results.{sum-good, difference-good, product-good, quotient-good, abs-good, max-good, min-good}
@@ -49,7 +49,7 @@ rate-good ls (Resolved.scaled s e) n q =
     in-rate _ n v.rest
 
 -- ---- expressions
-apply-good : (o : Op) (x y z : ℤ) → InRange x → InRange y → apply o x y ≡ Is z → InRange z
+apply-good : (o : Op) (x y z : ℤ) → InRange x → InRange y → apply o x y ≡ Some z → InRange z
 unfolding apply
 apply-good plus x y z h k e = sum-good x y z e
 apply-good minus x y z h k e = difference-good x y z e
@@ -75,7 +75,7 @@ joined-good union x y h k = (h, k)
 joined-good inter x y h k = (h, k)
 
 module _ (ls : List ℤ) (r : Every InRange ls) (n : ℕ) where
-  pub expr-good : (e : Resolved.Expr) (z : ℤ) → GoodExpr n e → eval_expr ls e ≡ Is z → InRange z
+  pub expr-good : (e : Resolved.Expr) (z : ℤ) → GoodExpr n e → eval_expr ls e ≡ Some z → InRange z
   unfolding eval_expr GoodExpr
   expr-good (Resolved.constant y) z g q = let p : y ≡ z = cc in rw p at g
   expr-good (Resolved.local_at i) z g q = let p : get_or ls i (pos 0) ≡ z = cc in rw p at (every_get InRange (pos 0) zero-good ls i r)
@@ -162,7 +162,7 @@ module _ (m : Resolved.Model) (ls : List ℤ) (r : Every InRange ls) (n : ℕ) w
   unfolding eval_value
   value-good e z g q =
       let v = valued-is (eval_expr ls e) some z q in
-      expr-good ls r n e z g (subst (λ (y : ℤ). eval_expr ls e ≡ Is y) (some_is _ z v.rest) v.is)
+      expr-good ls r n e z g (subst (λ (y : ℤ). eval_expr ls e ≡ Some y) (some_is _ z v.rest) v.is)
 
   pub pair-good : (c : Resolved.Channel) (es : List Resolved.Expr) (x : offers.Pair) → GoodValues m n c es → eval_pair ls c es ≡ some x → GoodPair m x
   unfolding eval_pair

@@ -8,9 +8,8 @@ use native.Mathlib.Omega.{arith}
 use borrow.Author.Tests.{eqb-true}
 use lib.Dec.{eqb}
 use lib.ListN.{drop, length-append}
-use Rattle.words.specs.declared.Drawn.{Drawn}
-use Rattle.words.specs.declared.Drawn.TheVariants.{Given, Ended}
-use Rattle.words.specs.Words.{word_values, is_used, drawing, draw_of}
+use Rattle.std.specs.Prelude.{None, Some}
+use Rattle.words.specs.Words.{word_values, is_used, drawing, draw_of, Drawn}
 use Rattle.clock.specs.declared.Clock.{Clock}
 use Rattle.model.specs.Resolved
 use Rattle.rules.specs.Listing.{Entry}
@@ -28,8 +27,8 @@ use Rattle.machine.proofs.Timing as timing
 -- ---- draws from words
 
 unfoldable Below : ℕ → Drawn → Type 0
-Below t (Given d u) = (t ≡ 0 → ⊥) → d < t
-Below t Ended = Unit {0}
+Below t (Some (d, u)) = (t ≡ 0 → ⊥) → d < t
+Below t None = Unit {0}
 
 above_zero : (t : ℕ) → (t ≡ 0 → ⊥) → 0 < t
 above_zero zero n = absurd (n refl)
@@ -40,7 +39,7 @@ unfolding drawing
 drawing-below t n [] = unfold Below in tt
 drawing-below t n (w ∷ ws) = by (is_used word_values t w) (drawing-below t (n + 1) ws)
   where
-    by : (b : Bool) → Below t (drawing t (n + 1) ws) → Below t (cond b (Given (w % t) (n + 1)) (drawing t (n + 1) ws))
+    by : (b : Bool) → Below t (drawing t (n + 1) ws) → Below t (cond b (Some (w % t, n + 1)) (drawing t (n + 1) ws))
     by true h = unfold Below in λ z. mod-lt w (above_zero t z)
     by false h = h
 
@@ -49,7 +48,7 @@ draws-below : (t : ℕ) (ws : List ℕ) → Below t (draw_at t ws)
 unfolding draw_at draw_of
 draws-below t ws = by (eqb t 0) refl
   where
-    by : (b : Bool) → eqb t 0 ≡ b → Below t (cond b (Given 0 0) (drawing t 0 ws))
+    by : (b : Bool) → eqb t 0 ≡ b → Below t (cond b (Some (0, 0)) (drawing t 0 ws))
     by true e = unfold Below in λ z. absurd (z (eqb-true t 0 e))
     by false e = drawing-below t 0 ws
 
@@ -76,8 +75,8 @@ module _ (ws vs : List ℕ) (m : Resolved.Model) (P : Timed → Type 0) (Q : ℕ
   step_keeps r p = by (draw_at (lists m r.timed.state).answer.total (drop r.words ws)) (draws-below (lists m r.timed.state).answer.total (drop r.words ws))
     where
       by : (w : Drawn) → Below (lists m r.timed.state).answer.total w → Keeps (run_of (drawn_step vs m r w))
-      by (Given d u) l = unfold drawn_step in follows-keeps u (times_with (drop r.waiting vs) d m r.timed.state r.timed.clock) r (step (drop r.waiting vs) d r.timed (unfold Below in l) p)
-      by Ended l = unfold drawn_step run_of in (p, zero_is)
+      by (Some (d, u)) l = unfold drawn_step in follows-keeps u (times_with (drop r.waiting vs) d m r.timed.state r.timed.clock) r (step (drop r.waiting vs) d r.timed (unfold Below in l) p)
+      by None l = unfold drawn_step run_of in (p, zero_is)
 
   steps-keep : (n : ℕ) (r : Run) → Keeps r → Keeps (running n ws vs m r)
   unfolding running
@@ -113,8 +112,8 @@ module _ (ws vs : List ℕ) (m : Resolved.Model) where
   step-longer r = by (draw_at (lists m r.timed.state).answer.total (drop r.words ws))
     where
       by : (w : Drawn) → Longer r (drawn_step vs m r w)
-      by (Given d u) = unfold drawn_step in follows-longer u (times_with (drop r.waiting vs) d m r.timed.state r.timed.clock) r
-      by Ended = unfold drawn_step Longer in refl
+      by (Some (d, u)) = unfold drawn_step in follows-longer u (times_with (drop r.waiting vs) d m r.timed.state r.timed.clock) r
+      by None = unfold drawn_step Longer in refl
 
   few-steps : (n : ℕ) (r : Run) → steps_of (running n ws vs m r) ≤ steps_of r + n
   unfolding running

@@ -3,7 +3,7 @@ use mathlib.Core.Path.{◌≡◌, refl, ap, ◌∙◌}
 use mathlib.Core.List.{List, ◌∷◌}
 use mathlib.Core.Option.{Option-elim}
 use Prim.Native.Nat.{ℕ}
-use Rattle.token.specs.declared.Judged.TheVariants.{Passed}
+use Rattle.std.specs.Prelude.{Ok}
 use Rattle.value.specs.Range.{value_of}
 use Rattle.value.specs.Arithmetic.{sum_of, floor_quotient, quotient_of}
 use Rattle.grammar.specs.Grammar as derived
@@ -52,7 +52,7 @@ module _ (r : Row) where
   opening-to o e a = opened-to r.text o r.calls e ∙ a
 
   -- a row whose text has a derivation
-  fitting : (d : derived.Model) → judged_bytes r.text ≡ Passed → written d ≡ kinds_in r.text → answering (judged_tree r.text d) r.calls ≡ r.expected → Holds r
+  fitting : (d : derived.Model) → judged_bytes r.text ≡ Ok tt → written d ≡ kinds_in r.text → answering (judged_tree r.text d) r.calls ≡ r.expected → Holds r
   fitting d b w a = opening-to (judged_tree r.text d) (opens-so r.text d (judged_tree r.text d) b w refl) a
 
 -- ---- derivations

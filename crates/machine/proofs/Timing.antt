@@ -7,12 +7,13 @@ use Prim.Native.Nat.{ℕ, ◌≤◌, ◌<◌}
 use native.Mathlib.Omega.{arith}
 use borrow.Author.Tests.{leb-true, leb-false, le-leb, lt-leb, ne_eqb}
 use lib.Dec.{leb}
-use Rattle.waits.specs.declared.Wait.{Wait}
-use Rattle.waits.specs.declared.Wait.TheVariants.{Given, Ended, Long}
-use Rattle.waits.specs.Runs.{wait_of}
+use Rattle.std.specs.Prelude.{Err, Ok}
+use Rattle.waits.specs.declared.Unread.TheVariants.{Ended, Long}
+use Rattle.waits.specs.Runs.{wait_of, Wait}
 use Rattle.waits.specs.ByRuns.{Waits}
 use Rattle.waits.proofs.Same.{by_runs}
 use Rattle.clock.specs.declared.Clock.{Clock}
+use Rattle.clock.specs.declared.Late.TheVariants.{Past}
 use Rattle.clock.specs.Clock.{clock_limit, forwarded, waited, brought_by}
 use Rattle.model.specs.Resolved
 use Rattle.rules.specs.Listing.{Entry}
@@ -80,15 +81,15 @@ module _ (m : Resolved.Model) (s : State) (c : Clock) (es : List Entry) (h : IsL
   unfolding steps_in with_wait brought_by waited forwarded listed_as refused_as
   accepted {s'} i a = by (wait_of ds) ((by_runs ds (wait_of ds)).1 refl)
     where
-      ahead : (e u : ℕ) → Waits 0 ds (Given e u) → (b : Bool) → fits c e sum u ≡ b
-          → Times m s c es ds d (with_wait s c (accepting s' es i) (cond b (record { number = 0; clock = later_by c e sum u }) (record { number = 25; clock = c })))
+      ahead : (e u : ℕ) → Waits 0 ds (Ok (e, u)) → (b : Bool) → fits c e sum u ≡ b
+          → Times m s c es ds d (with_wait s c (accepting s' es i) (cond b (Ok (later_by c e sum u)) (Err Past)))
       ahead e u w true q = let f = within c e sum u q in yes25 i a w f.0 f.1
       ahead e u w false q = no25 i a w (beyond c e sum u q)
 
       by : (w : Wait) → Waits 0 ds w → Times m s c es ds d (with_wait s c (accepting s' es i) (waited c sum w))
-      by (Given e u) w = ahead e u w (fits c e sum u) refl
-      by Ended w = no23 i a w
-      by Long w = no24 i a w
+      by (Ok (e, u)) w = ahead e u w (fits c e sum u) refl
+      by (Err Ended) w = no23 i a w
+      by (Err Long) w = no24 i a w
 
   step-asked : {t : Turn State} → Steps m s es d t → Times m s c es ds d (steps_in c ds s t)
   unfolding steps_in listed_as
@@ -107,10 +108,10 @@ module _ (m : Resolved.Model) (s : State) (c : Clock) (es : List Entry) (h : IsL
   says : {t : Turn Timed} → Times m s c es ds d t → steps_in c ds s (drawn m s es d) ≡ t
   unfolding steps_in with_wait brought_by waited forwarded listed_as refused_as
   says (no15-19 n l a) = rw (steps-so a, ne_eqb n 0 (omega arith)) refl
-  says (no23 i a w) = rw (steps-so a, (by_runs ds Ended).0 w) refl
-  says (no24 i a w) = rw (steps-so a, (by_runs ds Long).0 w) refl
-  says (no25 {e = e} {u = u} i a w p) = rw (steps-so a, (by_runs ds (Given e u)).0 w, passes c e sum u p) refl
-  says (yes25 {e = e} {u = u} i a w p q) = rw (steps-so a, (by_runs ds (Given e u)).0 w, le-leb _ clock_limit p, le-leb _ clock_limit q) refl
+  says (no23 i a w) = rw (steps-so a, (by_runs ds (Err Ended)).0 w) refl
+  says (no24 i a w) = rw (steps-so a, (by_runs ds (Err Long)).0 w) refl
+  says (no25 {e = e} {u = u} i a w p) = rw (steps-so a, (by_runs ds (Ok (e, u))).0 w, passes c e sum u p) refl
+  says (yes25 {e = e} {u = u} i a w p q) = rw (steps-so a, (by_runs ds (Ok (e, u))).0 w, le-leb _ clock_limit p, le-leb _ clock_limit q) refl
 
   -- 02, note 4: 23 to 25 exactly under their conditions, in order
   pub asked : (t : Turn Timed) → (steps_in c ds s (drawn m s es d) ≡ t) ↔ Times m s c es ds d t

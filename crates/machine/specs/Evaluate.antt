@@ -1,9 +1,8 @@
 -- What the parts of a branch come to, given the locals of its process (01, Values). A part without value makes the whole without value.
 -- Assumes nothing: these are definitions.
-use Rattle.std.specs.Prelude.{List, [], ◌∷◌, Bool, true, false, cond, not, ℕ, leb, ℤ, pos, negsuc, ◌*ℤ◌, get_or}
+use Rattle.std.specs.Prelude.{List, [], ◌∷◌, Bool, true, false, cond, not, ℕ, leb, ℤ, pos, negsuc, ◌*ℤ◌, get_or, None, Some}
 use Rattle.std.proofs.Math.Option.{Option, none, some}
-use Rattle.value.specs.declared.Value.{Value}
-use Rattle.value.specs.declared.Value.TheVariants.{Is, Missing}
+use Rattle.value.specs.Range.{Value}
 use Rattle.value.specs.Arithmetic.{is_less, is_at_most, is_same, sum_of, difference_of, product_of, quotient_of, abs_of, max_of, min_of}
 use Rattle.word.specs.Number.{unit}
 use Rattle.grammar.specs.Grammar.{Relation, less, at_most, greater, at_least, same, differs}
@@ -14,12 +13,12 @@ use Rattle.rules.specs.Offers as offers
 
 -- 01, Values: f of a part's value, and nothing where the part has none; for values, for values that lead to other things, and for other things
 unfoldable pub with_value : Value → (ℤ → Value) → Value
-with_value (Is x) f = f x
-with_value Missing f = Missing
+with_value (Some x) f = f x
+with_value None f = None
 
 unfoldable pub valued : {A : Type 0} → Value → (ℤ → Option A) → Option A
-valued (Is x) f = f x
-valued Missing f = none
+valued (Some x) f = f x
+valued None f = none
 
 unfoldable pub given : {A B : Type 0} → Option A → (A → Option B) → Option B
 given (some x) f = f x
@@ -33,13 +32,13 @@ apply plus x y = sum_of x y
 apply minus x y = difference_of x y
 apply times x y = product_of x y
 apply divide x y = quotient_of x y
-apply maximum x y = Is (max_of x y)
-apply minimum x y = Is (min_of x y)
+apply maximum x y = Some (max_of x y)
+apply minimum x y = Some (min_of x y)
 
 -- 01, Values: every part of an expression has a value, or the whole has none
 unfoldable pub eval_expr : List ℤ → Resolved.Expr → Value
-eval_expr ls (Resolved.constant z) = Is z
-eval_expr ls (Resolved.local_at i) = Is (get_or ls i (pos 0))
+eval_expr ls (Resolved.constant z) = Some z
+eval_expr ls (Resolved.local_at i) = Some (get_or ls i (pos 0))
 eval_expr ls (Resolved.absolute e) = with_value (eval_expr ls e) abs_of
 eval_expr ls (Resolved.binary o e f) = with_value (eval_expr ls e) (λ x. with_value (eval_expr ls f) (λ y. apply o x y))
 

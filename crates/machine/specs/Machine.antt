@@ -1,6 +1,6 @@
 -- The rule machine (01, State and rule machine): fed texts, draws and the lengths of all that is lent, it answers each call and reads no buffer. What it holds is a
 -- record, a call asks something and carries the lengths of the parts that it is lent. Assumes nothing: these are definitions.
-use Rattle.std.specs.Prelude.{List, [], ◌∷◌, ◌++◌, map, Bool, true, false, cond, ◌&&◌, ◌||◌, ℕ, zero, suc, ◌+◌, ◌-◌, ◌*◌, ◌/◌, min, eqb, leb, ℤ, length, drop}
+use Rattle.std.specs.Prelude.{List, [], ◌∷◌, ◌++◌, map, Bool, true, false, cond, ◌&&◌, ◌||◌, ℕ, zero, suc, ◌+◌, ◌-◌, ◌*◌, ◌/◌, min, eqb, leb, ℤ, length, drop, None, Some, Err, Ok}
 use Rattle.std.proofs.Math.Option.{Option, none, some, Option-elim}
 use Rattle.std.proofs.Math.ListN.{get_elem?}
 use Rattle.token.specs.Token.{same_bytes}
@@ -16,12 +16,9 @@ use Rattle.rules.specs.Draw.{weights, total, chosen}
 use Rattle.rules.specs.Step as steps
 use Rattle.runs.specs.Tree as tree
 use Rattle.runs.specs.Walk as walk
-use Rattle.words.specs.declared.Drawn.{Drawn}
-use Rattle.words.specs.declared.Drawn.TheVariants.{Given, Ended}
-use Rattle.words.specs.Words.{draw_of}
+use Rattle.words.specs.Words.{draw_of, Drawn}
 use Rattle.clock.specs.declared.Clock.{Clock}
-use Rattle.clock.specs.declared.Brought.{Brought}
-use Rattle.clock.specs.Clock.{fresh_clock, InRange, brought_by}
+use Rattle.clock.specs.Clock.{fresh_clock, InRange, late_number, Brought, brought_by}
 use Rattle.machine.specs.Offer.{Process, branches_of, called, arguments_given, branches, missing}
 use Rattle.machine.specs.State.{State, GoodState, state_length, pair_limit}
 use Rattle.machine.specs.Timed.{Timed, timed, clock_length}
@@ -262,7 +259,8 @@ refused_as n a = record { number = n; place = 0; branch = 0; count = a.count; to
 
 -- 02, note 4: a step from s that was accepted, and what the waiting draws made of the clock c: both go on, or neither
 unfoldable pub with_wait : State → Clock → Turn State → Brought → Turn Timed
-with_wait s c t b = cond (eqb b.number 0) (turn (timed t.machine b.clock) t.answer) (turn (timed s c) (refused_as b.number t.answer))
+with_wait s c t (Ok k) = turn (timed t.machine k) t.answer
+with_wait s c t (Err l) = turn (timed s c) (refused_as (late_number l) t.answer)
 
 -- 02, note 4: a step with the choosing draw d; where it is refused, that is the answer, and the clock stays; where it is accepted, 23 to 25
 unfoldable pub steps_in : Clock → List ℕ → State → Turn State → Turn Timed
@@ -332,12 +330,12 @@ follows u t r =
 
 -- R.3: the choosing draw at a total; at 0 no word is looked at, since every draw is refused alike, with 12 to 15
 unfoldable pub draw_at : (total : ℕ) → List ℕ → Drawn
-draw_at total ws = cond (eqb total 0) (Given 0 0) (draw_of total ws)
+draw_at total ws = cond (eqb total 0) (Some (0, 0)) (draw_of total ws)
 
 -- R.3, R.6: with the draw and as many words as it used, the machine's timed step; where the words end first, the run has ended, at the listing that a list call gives here
 unfoldable pub drawn_step : (waiting : List ℕ) → Resolved.Model → Run → Drawn → Next
-drawn_step vs m r (Given d u) = follows u (times_with (drop r.waiting vs) d m r.timed.state r.timed.clock) r
-drawn_step vs m r Ended = let a = (lists m r.timed.state).answer in over (ended_with 0 a.count a.total r.timed r)
+drawn_step vs m r (Some (d, u)) = follows u (times_with (drop r.waiting vs) d m r.timed.state r.timed.clock) r
+drawn_step vs m r None = let a = (lists m r.timed.state).answer in over (ended_with 0 a.count a.total r.timed r)
 
 -- R.6: one step from where the run is, with the words and waiting draws that are left
 unfoldable pub run_step : (words waiting : List ℕ) → Resolved.Model → Run → Next

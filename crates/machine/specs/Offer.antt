@@ -1,9 +1,8 @@
 -- Processes of a model, what they offer, what their continuations become, and question 12 as a function (01, State and Listing). Assumes nothing: these are definitions.
-use Rattle.std.specs.Prelude.{List, [], ◌∷◌, ◌++◌, map, Bool, true, false, cond, ◌&&◌, ℕ, suc, ℤ, pos}
+use Rattle.std.specs.Prelude.{List, [], ◌∷◌, ◌++◌, map, Bool, true, false, cond, ◌&&◌, ℕ, suc, ℤ, pos, None, Some}
 use Rattle.std.proofs.Math.Option.{Option, none, some, Option-elim}
 use Rattle.std.proofs.Math.ListN.{get_elem?}
-use Rattle.value.specs.declared.Value.{Value}
-use Rattle.value.specs.declared.Value.TheVariants.{Is, Missing}
+use Rattle.value.specs.Range.{Value}
 use Rattle.model.specs.Resolved
 use Rattle.rules.specs.Offers as offers
 use Rattle.machine.specs.Evaluate.{eval_expr, eval_branch}
@@ -18,8 +17,8 @@ pub record Process : Type 0 where
 
 -- a value; 0 stands for a missing one, which 17 refuses
 unfoldable pub or_zero : Value → ℤ
-or_zero (Is z) = z
-or_zero Missing = pos 0
+or_zero (Some z) = z
+or_zero None = pos 0
 
 module _ (m : Resolved.Model) where
   -- 01, State: the branches of a process's sum
@@ -77,8 +76,8 @@ missing m i (p ∷ ps) = Option-elim (missing_branch p.locals 0 (branches_of m p
 -- ---- 17: every argument of a continuation has a value
 
 unfoldable pub is_value : Value → Bool
-is_value (Is z) = true
-is_value Missing = false
+is_value (Some z) = true
+is_value None = false
 
 unfoldable pub all_values : List ℤ → List Resolved.Expr → Bool
 all_values ls [] = true

@@ -1,9 +1,8 @@
 -- What questions 12 to 19 and 23 to 25 ask, said without the functions that answer them (01, Listing and stepping): a constructor for each answer, in the order of asking.
 -- Assumes nothing: these are definitions.
-use Rattle.std.specs.Prelude.{◌≡◌, ◌↔◌, ◌⊎◌, ℕ, ◌+◌, ◌≤◌, ◌<◌, ℤ, length}
+use Rattle.std.specs.Prelude.{◌≡◌, ◌↔◌, ◌⊎◌, ℕ, ◌+◌, ◌≤◌, ◌<◌, ℤ, length, Some, Ok, Err}
 use mathlib.Core.List.{List, ◌++◌, Memᴰ as In}
 use Rattle.std.proofs.Math.Option.{none, some}
-use Rattle.value.specs.declared.Value.TheVariants.{Is}
 use Rattle.model.specs.Resolved
 use Rattle.model.specs.Opening.{process_limit}
 use Rattle.rules.specs.Offers as offers
@@ -13,7 +12,7 @@ use Rattle.rules.specs.Rules.{Nth, Change, unchanged, label, plain, Offered, Alo
 use Rattle.rules.specs.Listing.{Entry, entry, Earlier}
 use Rattle.rules.specs.Pairs.{pairs_after}
 use Rattle.rules.specs.Draw.{weights, total, First}
-use Rattle.waits.specs.declared.Wait.TheVariants as wait
+use Rattle.waits.specs.declared.Unread.TheVariants as unread
 use Rattle.waits.specs.ByRuns.{Waits}
 use Rattle.clock.specs.declared.Clock.{Clock}
 use Rattle.clock.specs.Clock.{clock_limit, ticks_of}
@@ -88,7 +87,7 @@ pub data Enters (m : Resolved.Model) (s : State) : Key → (place : ℕ) → (lo
 
 -- 01, Listing and stepping, 17: every argument of every call has a value
 pub record Given (ls : List ℤ) (xs : List Resolved.Part) : Type 0 where
-  pub value : {d : ℕ} {es : List Resolved.Expr} {e : Resolved.Expr} → In (Resolved.call d es) xs → In e es → (z : ℤ) × (eval_expr ls e ≡ Is z)
+  pub value : {d : ℕ} {es : List Resolved.Expr} {e : Resolved.Expr} → In (Resolved.call d es) xs → In e es → (z : ℤ) × (eval_expr ls e ≡ Some z)
 
 -- 01, Listing and stepping, 17: of all the continuations that an entry enters
 pub record AllGiven (m : Resolved.Model) (s : State) (k : Key) : Type 0 where
@@ -137,12 +136,12 @@ pub data Times (m : Resolved.Model) (s : State) (c : Clock) (es : List Entry) (d
   -- refused as the step is
   no15-19 : (n : ℕ) → 0 < n → Steps m s es d (refusing s es n) → Times m s c es ds d (standing s c es n)
   -- the step is accepted: the draws end first, k would be 32, or a number of the clock would pass its range
-  no23 : {s' : State} (i : ℕ) → Steps m s es d (accepting s' es i) → Waits 0 ds wait.Ended → Times m s c es ds d (standing s c es 23)
-  no24 : {s' : State} (i : ℕ) → Steps m s es d (accepting s' es i) → Waits 0 ds wait.Long → Times m s c es ds d (standing s c es 24)
-  no25 : {s' : State} {e u : ℕ} (i : ℕ) → Steps m s es d (accepting s' es i) → Waits 0 ds (wait.Given e u)
+  no23 : {s' : State} (i : ℕ) → Steps m s es d (accepting s' es i) → Waits 0 ds (Err unread.Ended) → Times m s c es ds d (standing s c es 23)
+  no24 : {s' : State} (i : ℕ) → Steps m s es d (accepting s' es i) → Waits 0 ds (Err unread.Long) → Times m s c es ds d (standing s c es 24)
+  no25 : {s' : State} {e u : ℕ} (i : ℕ) → Steps m s es d (accepting s' es i) → Waits 0 ds (Ok (e, u))
       → (clock_limit < (later_by c e (total (weights es)) u).ticks) ⊎ (clock_limit < (later_by c e (total (weights es)) u).draws)
       → Times m s c es ds d (standing s c es 25)
   -- accepted: the state is the step's, and the clock goes on
-  yes25 : {s' : State} {e u : ℕ} (i : ℕ) → Steps m s es d (accepting s' es i) → Waits 0 ds (wait.Given e u)
+  yes25 : {s' : State} {e u : ℕ} (i : ℕ) → Steps m s es d (accepting s' es i) → Waits 0 ds (Ok (e, u))
       → (later_by c e (total (weights es)) u).ticks ≤ clock_limit → (later_by c e (total (weights es)) u).draws ≤ clock_limit
       → Times m s c es ds d (turn (timed s' (later_by c e (total (weights es)) u)) (listed_as 0 i es))

@@ -1,10 +1,8 @@
 -- What evaluation and the numbers of a state come to, with literal numbers, by computation, one to a row: each operator, relation and join, a local as a scale, the order of
 -- a continuation's processes, the numbers of a state.
-use Rattle.std.specs.Prelude.{◌≡◌, refl, [], ◌∷◌, Bool, true, false, ℕ, ℤ, pos, negsuc, take}
+use Rattle.std.specs.Prelude.{◌≡◌, refl, [], ◌∷◌, Bool, true, false, ℕ, ℤ, pos, negsuc, take, Some}
 use Rattle.std.proofs.Math.Option.{Option, some, Option-elim}
-use Rattle.value.specs.declared.Value.{Value}
-use Rattle.value.specs.declared.Value.TheVariants.{Is}
-use Rattle.value.specs.Range.{value_of}
+use Rattle.value.specs.Range.{value_of, Value}
 use Rattle.value.specs.Arithmetic.{sum_of, difference_of, product_of, abs_of, max_of, min_of}
 use Rattle.grammar.specs.Grammar.{Relation, less, at_most, greater, at_least, same, differs}
 use Rattle.grammar.specs.Syntax.{Op, plus, minus, times, maximum, minimum, Join, without, union, inter}
@@ -41,14 +39,14 @@ two = record { processes = process 0 5 ∷ process 1 7 ∷ []; pairs = [] }
 
 pub rows :
     -- operators: the right side is taken from the left
-    (applied plus (pos 7) (pos 2) ≡ Is (pos 9))
-    × (applied minus (pos 7) (pos 2) ≡ Is (pos 5))
-    × (applied minus (pos 2) (pos 7) ≡ Is (negsuc 4))
-    × (applied times (pos 7) (negsuc 1) ≡ Is (negsuc 13))
-    × (applied maximum (negsuc 6) (pos 2) ≡ Is (pos 2))
-    × (applied minimum (negsuc 6) (pos 2) ≡ Is (negsuc 6))
-    × (eval_expr [] (Resolved.absolute (Resolved.constant (negsuc 6))) ≡ Is (pos 7))
-    × (eval_expr (pos 4 ∷ pos 6 ∷ []) (Resolved.local_at 1) ≡ Is (pos 6))
+    (applied plus (pos 7) (pos 2) ≡ Some (pos 9))
+    × (applied minus (pos 7) (pos 2) ≡ Some (pos 5))
+    × (applied minus (pos 2) (pos 7) ≡ Some (negsuc 4))
+    × (applied times (pos 7) (negsuc 1) ≡ Some (negsuc 13))
+    × (applied maximum (negsuc 6) (pos 2) ≡ Some (pos 2))
+    × (applied minimum (negsuc 6) (pos 2) ≡ Some (negsuc 6))
+    × (eval_expr [] (Resolved.absolute (Resolved.constant (negsuc 6))) ≡ Some (pos 7))
+    × (eval_expr (pos 4 ∷ pos 6 ∷ []) (Resolved.local_at 1) ≡ Some (pos 6))
     -- sets: 1..4 and 3..6, joined
     × (holds union 1 4 3 6 2 ≡ some true)
     × (holds union 1 4 3 6 6 ≡ some true)

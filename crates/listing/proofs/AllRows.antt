@@ -20,17 +20,16 @@ use Rattle.eval.specs.Shown as shown
 use Rattle.eval.specs.Shown.{bare_offer, ShowsPair, ShowsAction}
 use Rattle.offers.specs.Slots.{Slot, partner_of, of_slot, at_number, up_to}
 use Rattle.offers.specs.Walk.{slots_of}
-use Rattle.offers.specs.declared.Collected.TheVariants.{Rows, Missing, Full}
+use Rattle.std.specs.Prelude.{Err, Ok, None, Some, unwrap_or}
+use Rattle.offers.specs.declared.Stop.TheVariants.{Missing, Full}
 use Rattle.offers.specs.Links.{row_limit}
 use Rattle.offers.specs.Collect as Collect
 use Rattle.offers.specs.Collect.{World, Answers}
 use Rattle.offers.proofs.Numbered.{append-nil, up_one, at_some, gather-up}
 use Rattle.offers.proofs.Slots.{entries-slots, partners-slots}
 use Rattle.offers.proofs.Walk.{slots-are}
-use Rattle.listing.specs.declared.Listed.{Listed}
-use Rattle.listing.specs.declared.Tried.TheVariants as tried
 use Rattle.listing.specs.Buffer as Buffer
-use Rattle.listing.specs.Buffer.{rows, image, cut, Adds, Lists, Tries}
+use Rattle.listing.specs.Buffer.{rows, image, cut, Adds, Lists, Tries, Tried, Listed}
 use Rattle.listing.specs.Ready.{Ready}
 
 kind-wait : {r : Offer} → r ≡ bare_offer 36 r.rate → r.kind ≡ 36
@@ -152,22 +151,23 @@ pub rate-act : (t : List ℕ) (ls : ℕ → List ℤ) (i : ℕ) (r : Offer) (i' 
 rate-act t ls i r i' r' a e f s = rw (e, f) s
 
 -- ---- what was collected
-pub answered-missing : {t hs : List ℕ} {os : List ℤ} {m : Resolved.Model} {ps : List Process} {i j : ℕ} → Answers t hs os m ps (Missing i j) → missing m 0 ps ≡ some (i, j)
+pub answered-missing : {t hs : List ℕ} {os : List ℤ} {m : Resolved.Model} {ps : List Process} {i j : ℕ} → Answers t hs os m ps (Err (Missing (i, j))) → missing m 0 ps ≡ some (i, j)
 answered-missing (Collect.Answers.lacks e) = e
 
 pub answered-rows : {t roots scopes : List ℕ} {zs : List ℤ} {m : Resolved.Model} {s : State} {hs : List ℕ} {os : List ℤ} {n : ℕ} → World t roots scopes zs m s
-    → Answers t hs os m s.processes (Rows n) → Ready t roots scopes zs hs os n m s × (missing m 0 s.processes ≡ none) × (n ≤ length hs)
+    → Answers t hs os m s.processes (Ok n) → Ready t roots scopes zs hs os n m s × (missing m 0 s.processes ≡ none) × (n ≤ length hs)
 answered-rows w (Collect.Answers.all e h l) = (record { world = w; holds = h; rows_are = refl }, e, l)
 
-pub answered-full : {t hs : List ℕ} {os : List ℤ} {m : Resolved.Model} {ps : List Process} → Answers t hs os m ps Full → length hs < row_limit
+pub answered-full : {t hs : List ℕ} {os : List ℤ} {m : Resolved.Model} {ps : List Process} → Answers t hs os m ps (Err Full) → length hs < row_limit
 answered-full (Collect.Answers.full l) = l
 
 -- ---- with room for all rows
-pub all_done : {l : machine.Listed} {b : List ℕ} {r : Listed} {n : ℕ} → Tries n l b (tried.Done r) → Lists l r b
+pub all_done : {l : machine.Listed} {b : List ℕ} {r : Listed} {n : ℕ} → Tries n l b (Some r) → Lists l r b
 all_done (Buffer.Tries.done h) = h
 
-pub not_full : {l : machine.Listed} {b : List ℕ} {n : ℕ} → n ≡ row_limit → Tries n l b tried.Full → ⊥
-not_full e (Buffer.Tries.full h) = omega (arith, e, h)
+pub never_full : {l : machine.Listed} {b : List ℕ} {r : Tried} {n : ℕ} (d : Listed) → n ≡ row_limit → Tries n l b r → Lists l (unwrap_or r d) b
+never_full d e (Buffer.Tries.done h) = h
+never_full d e (Buffer.Tries.full h) = absurd (omega (arith, e, h))
 
-pub as-done : {l : machine.Listed} {b : List ℕ} (n : ℕ) (r : Listed) → Lists l r b → Tries n l b (tried.Done r)
+pub as-done : {l : machine.Listed} {b : List ℕ} (n : ℕ) (r : Listed) → Lists l r b → Tries n l b (Some r)
 as-done n r h = Buffer.Tries.done h

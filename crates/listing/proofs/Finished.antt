@@ -8,17 +8,14 @@ use borrow.Author.Tests.{le-leb, lt-leb}
 use lib.Dec.{leb}
 use lib.ListN.{length, take, drop, replicate}
 use lib.Seq.{take_all}
+use Rattle.std.specs.Prelude.{Err, Ok, None, Some, unwrap_or}
 use Rattle.rules.specs.Rules.{key}
 use Rattle.rules.specs.Listing.{Entry, entry}
 use Rattle.rules.specs.Draw.{weights, total}
 use Rattle.machine.specs.Machine.{entry_limit, entry_width, listing_length, total_limit, no, zeroed, counted}
 use Rattle.machine.specs.Machine as machine
-use Rattle.listing.specs.declared.Total.TheVariants.{Is, Over}
-use Rattle.listing.specs.declared.Listed.{Listed}
-use Rattle.listing.specs.declared.Listed.TheVariants.{Filled, Refused}
-use Rattle.listing.specs.declared.Tried.TheVariants as tried
 use Rattle.listing.specs.Buffer
-use Rattle.listing.specs.Buffer.{rows, image, cut, filled_numbers, listing_numbers, listed_answer, Lists, Leading, leading, nothing, Leads, used_numbers, TriesOver, weights_in, totalled}
+use Rattle.listing.specs.Buffer.{rows, image, cut, filled_numbers, listing_numbers, listed_answer, Lists, Leading, leading, nothing, Leads, used_numbers, TriesOver, weights_in, totalled, refused as refusal, Tried, Listed}
 use Rattle.offers.specs.Links.{row_limit}
 use Rattle.listing.proofs.Weights.{rows-weights}
 
@@ -30,18 +27,18 @@ image-rows z es l = ap (λ (y : List Entry). rows y (drop (length y * entry_widt
 -- ---- what leads
 
 -- a refusal
-pub refused : (l : machine.Listed) (b : List ℕ) (n p k : ℕ) → l ≡ machine.refused_with (no n p k zeroed) → Leads l (Refused n p k) b
+pub refused : (l : machine.Listed) (b : List ℕ) (n p k : ℕ) → l ≡ machine.refused_with (no n p k zeroed) → Leads l (Err (refusal n p k)) b
 unfolding listed_answer no
 refused l b n p k h = rw h (record { answer = refl; entries = nothing })
 
 -- an accepted listing
-accepted : (l : machine.Listed) (es : List Entry) (n t : ℕ) (b rest : List ℕ) → l ≡ machine.entries_are es → n ≡ length es → t ≡ total (weights es) → b ≡ rows es rest → Leads l (Filled n t) b
+accepted : (l : machine.Listed) (es : List Entry) (n t : ℕ) (b rest : List ℕ) → l ≡ machine.entries_are es → n ≡ length es → t ≡ total (weights es) → b ≡ rows es rest → Leads l (Ok (n, t)) b
 unfolding listed_answer
 accepted l es n t b rest h e f g = rw (h, e, f) (record { answer = refl; entries = leading rest g })
 
 module _ (z b : List ℕ) (es : List Entry) (count : ℕ) (is : b ≡ image z es) (cuts : count ≡ cut es) where
   -- 13
-  pub many : entry_limit < count → Leads (counted es) (Refused 13 0 0) b
+  pub many : entry_limit < count → Leads (counted es) (Err (refusal 13 0 0)) b
   unfolding counted cut
   many l = refused (counted es) b 13 0 0 (rw (lt-leb (length es) entry_limit (omega arith)))
 
@@ -58,29 +55,29 @@ module _ (z b : List ℕ) (es : List Entry) (count : ℕ) (is : b ≡ image z es
         ap (weights_in b) all_there ∙ ap (λ (y : List ℕ). weights_in y (length es)) (is ∙ image-rows z es room) ∙ rows-weights es (drop (length es * entry_width) z)
 
     -- 14
-    pub heavy : totalled (weights_in b count) ≡ Over → Leads (counted es) (Refused 14 0 0) b
+    pub heavy : totalled (weights_in b count) ≡ None → Leads (counted es) (Err (refusal 14 0 0)) b
     unfolding counted totalled
     heavy e = go (leb (total (weights es)) total_limit) refl
       where
-        go : (p : Bool) → leb (total (weights es)) total_limit ≡ p → Leads (counted es) (Refused 14 0 0) b
-        go true q = let h : Is (total (weights es)) ≡ Over = (sym (rw (weights-are, q))) ∙ e in absurd (apart h)
+        go : (p : Bool) → leb (total (weights es)) total_limit ≡ p → Leads (counted es) (Err (refusal 14 0 0)) b
+        go true q = let h : Some (total (weights es)) ≡ None = (sym (rw (weights-are, q))) ∙ e in absurd (apart h)
           where
-            apart : {n : ℕ} → Is n ≡ Over → ⊥
+            apart : {n : ℕ} → Some n ≡ None → ⊥
             apart h = let y : ◌≡◌ {A = ℕ} 0 1 = cc in omega arith
         go false q = refused (counted es) b 14 0 0 (rw (le-leb (length es) entry_limit room, q))
 
     -- accepted
-    pub fine : (t : ℕ) → totalled (weights_in b count) ≡ Is t → Leads (counted es) (Filled count t) b
+    pub fine : (t : ℕ) → totalled (weights_in b count) ≡ Some t → Leads (counted es) (Ok (count, t)) b
     unfolding counted totalled
     fine t e = go (leb (total (weights es)) total_limit) refl
       where
-        go : (p : Bool) → leb (total (weights es)) total_limit ≡ p → Leads (counted es) (Filled count t) b
+        go : (p : Bool) → leb (total (weights es)) total_limit ≡ p → Leads (counted es) (Ok (count, t)) b
         go true q =
-            let h : Is (total (weights es)) ≡ Is t = (sym (rw (weights-are, q))) ∙ e in
+            let h : Some (total (weights es)) ≡ Some t = (sym (rw (weights-are, q))) ∙ e in
             let s : total (weights es) ≡ t = cc in
             let c : counted es ≡ machine.entries_are es = rw (le-leb (length es) entry_limit room, q) in
             accepted (counted es) es count t b (drop (length es * entry_width) z) c all_there (sym s) (is ∙ image-rows z es room)
-        go false q = let h : Over ≡ Is t = (sym (rw (weights-are, q))) ∙ e in let y : ◌≡◌ {A = ℕ} 0 1 = cc in absurd (omega arith)
+        go false q = let h : None ≡ Some t = (sym (rw (weights-are, q))) ∙ e in let y : ◌≡◌ {A = ℕ} 0 1 = cc in absurd (omega arith)
 
 -- ---- zeros after the entries
 
@@ -101,7 +98,7 @@ rows-length [] rest = omega arith
 rows-length (entry (key c i j k m q) w ∷ es) rest = omega (arith, rows-length es rest)
 
 -- of a listing that was filled
-pub used-count : (r : Listed) (n t b : ℕ) → r ≡ Filled n t → used_numbers r ≤ b → n * 7 ≤ b
+pub used-count : (r : Listed) (n t b : ℕ) → r ≡ Ok (n, t) → used_numbers r ≤ b → n * 7 ≤ b
 unfolding used_numbers
 used-count r n t b e h = rw e at h
 
@@ -126,11 +123,15 @@ clears {l} {r} {b} long h = record { answer = h.answer; numbers = rw h.answer (b
     by nothing = let z : length b - 0 ≡ listing_length = omega arith in ap (λ (i : ℕ). replicate i 0) z
 
 -- ---- where the table has rows enough
-pub all-led : {l : machine.Listed} {b : List ℕ} {r : Listed} {n : ℕ} → TriesOver n l b (tried.Done r) → Leads l r b
+pub all-led : {l : machine.Listed} {b : List ℕ} {r : Listed} {n : ℕ} → TriesOver n l b (Some r) → Leads l r b
 all-led (Buffer.TriesOver.led h) = h
 
-pub not_short : {l : machine.Listed} {b : List ℕ} {n : ℕ} → TriesOver n l b tried.Full → n < row_limit
+pub not_short : {l : machine.Listed} {b : List ℕ} {n : ℕ} → TriesOver n l b None → n < row_limit
 not_short (Buffer.TriesOver.short h) = h
 
-pub as-led : {l : machine.Listed} {b : List ℕ} (n : ℕ) (r : Listed) → Leads l r b → TriesOver n l b (tried.Done r)
+pub never_short : {l : machine.Listed} {b : List ℕ} {r : Tried} {n : ℕ} (d : Listed) → n ≡ row_limit → TriesOver n l b r → Leads l (unwrap_or r d) b
+never_short d e (Buffer.TriesOver.led h) = h
+never_short d e (Buffer.TriesOver.short h) = absurd (omega (arith, e, h))
+
+pub as-led : {l : machine.Listed} {b : List ℕ} (n : ℕ) (r : Listed) → Leads l r b → TriesOver n l b (Some r)
 as-led n r h = Buffer.TriesOver.led h

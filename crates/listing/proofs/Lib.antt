@@ -1,7 +1,7 @@
 -- What is proved of the listing buffer and of the entries in it.
 pub mod Added
+pub mod Entries
 pub mod Weights
-pub mod Cleared
 pub mod Finished
 pub mod Matching
 pub mod Runs

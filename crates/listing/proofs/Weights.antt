@@ -12,10 +12,9 @@ use Rattle.rules.specs.Listing.{Entry, entry, weight_of}
 use Rattle.rules.specs.Draw.{weights, total}
 use Rattle.rules.proofs.Chosen.{up_to, up_next, up-total}
 use Rattle.machine.specs.Machine.{total_limit}
-use Rattle.listing.specs.declared.Total.TheVariants.{Is, Over}
-use Rattle.listing.specs.declared.Chosen.TheVariants.{At, Nothing}
 use Rattle.listing.specs.Buffer.{rows, weights_in, totalled, chosen_answer}
 use mathlib.Core.Option.{none, some}
+use Rattle.std.specs.Prelude.{None, Some}
 
 pub weights-length : (b : List ℕ) (n : ℕ) → length (weights_in b n) ≡ n
 unfolding weights_in
@@ -45,13 +44,13 @@ unfolding total
 up_none ws = refl
 
 -- 01, 14
-pub over : (ws : List ℕ) → total_limit < total ws → totalled ws ≡ Over
+pub over : (ws : List ℕ) → total_limit < total ws → totalled ws ≡ None
 unfolding totalled
 over ws l = rw (lt-leb (total ws) total_limit l)
 
-pub sums : (ws : List ℕ) (n : ℕ) → n ≡ total ws → n ≤ total_limit → totalled ws ≡ Is n
+pub sums : (ws : List ℕ) (n : ℕ) → n ≡ total ws → n ≤ total_limit → totalled ws ≡ Some n
 unfolding totalled
-sums ws n e l = rw (le-leb (total ws) total_limit (omega arith)) (ap Is (rw e))
+sums ws n e l = rw (le-leb (total ws) total_limit (omega arith)) (ap Some (rw e))
 
 -- the weights of the entries that the buffer holds
 pub rows-weights : (es : List Entry) (rest : List ℕ) → weights_in (rows es rest) (length es) ≡ weights es
@@ -60,10 +59,10 @@ rows-weights [] rest = refl
 rows-weights (entry (key c i j k m q) w ∷ es) rest = ap (λ t. w ∷ t) (rows-weights es rest)
 
 -- the chosen entry as an answer
-pub chosen_at : (i : ℕ) → chosen_answer (some i) ≡ At i
+pub chosen_at : (i : ℕ) → chosen_answer (some i) ≡ Some i
 unfolding chosen_answer
 chosen_at i = refl
 
-pub chosen_none : chosen_answer none ≡ Nothing
+pub chosen_none : chosen_answer none ≡ None
 unfolding chosen_answer
 chosen_none = refl

@@ -33,10 +33,11 @@ ghost use Rattle.offers.specs.Walk.{slots_of};
 ghost use Rattle.offers.specs.Table.{locals_of, offer_in};
 ghost use Rattle.offers.specs.Collect.{World};
 ghost use Rattle.listing.specs.Ready.{Ready, RunIs, low_row, high_row, bound_at};
-ghost use Rattle.listing.specs.Buffer.{entry_of, image, cut, Adds, used_numbers, Lists, Leads, Tries, TriesOver, weights_in, totalled, chosen_answer};
+ghost use Rattle.listing.specs.Buffer.{entry_of, entry_in, image, cut, Adds, used_numbers, Lists, Leads, Tries, TriesOver, weights_in, totalled, chosen_answer};
 
 use eval::offer::{Offer, OfferSet};
-use offers::{Collected, Table};
+pub use machine::EntryKind;
+use offers::{Stop, Table};
 use state::{Layout, Run};
 use tree::NodeKind;
 
@@ -64,28 +65,8 @@ impl Limits {
     pub const RATE: u64 = 10000;
 }
 
-// The kinds of entries.
-#[derive(Clone, Copy)]
-pub struct EntryKind;
-
-impl EntryKind {
-    pub const WAIT: u64 = 1;
-
-    pub const LAUNCH: u64 = 2;
-
-    pub const KILL: u64 = 3;
-
-    pub const RECEIVE: u64 = 4;
-
-    pub const BIND: u64 = 5;
-
-    pub const CHECK: u64 = 6;
-
-    pub const HANDSHAKE: u64 = 7;
-
-    // From the kind of a wait's, launch's or kill's node to its entry's.
-    pub const FROM_NODE: u8 = 35;
-}
+// From the kind of a wait's, launch's or kill's node to its entry's.
+const FROM_NODE: u8 = 35;
 
 // One line of the listing.
 #[derive(Clone, Copy)]
@@ -99,32 +80,12 @@ pub struct Entry {
     pub weight: u64,
 }
 
-// The count of entries and their total; or a refusal's number, place and branch.
+// A refusal's number, place and branch.
 #[derive(Clone, Copy)]
-pub enum Listed {
-    Filled(usize, u64),
-    Refused(u64, usize, usize),
-}
-
-// A listing, or the tables have too few rows for it.
-#[derive(Clone, Copy)]
-pub enum Tried {
-    Done(Listed),
-    Full,
-}
-
-// A sum of weights within its limit, or not.
-#[derive(Clone, Copy)]
-pub enum Total {
-    Is(u64),
-    Over,
-}
-
-// The entry that a draw chooses, if any.
-#[derive(Clone, Copy)]
-pub enum Chosen {
-    At(usize),
-    Nothing,
+pub struct Refusal {
+    pub number: u64,
+    pub place: usize,
+    pub branch: usize,
 }
 
 // One entry more: written if the buffer has room, and counted to one past its last.
@@ -153,78 +114,94 @@ pub fn append(listing: &mut [u64], count: usize, e: Entry) -> usize
     Limits::ENTRIES + 1
 }
 
+// Entry c of a listing.
+pub fn entry_at(listing: &[u64], c: usize) -> Entry
+    requires { c * entry_width + entry_width ≤ length listing.now }
+    ensures { entry_of result ≡ entry_in listing.now c }
+{
+    let at = c * Limits::ENTRY;
+    Entry {
+        kind: listing[at],
+        place: listing[at + 1] as usize,
+        branch: listing[at + 2] as usize,
+        partner: listing[at + 3] as usize,
+        pbranch: listing[at + 4] as usize,
+        pair: listing[at + 5] as usize,
+        weight: listing[at + 6],
+    }
+}
+
 // Writes zeros over the numbers from a place on.
 pub fn clear_from(listing: &mut [u64], from: usize)
     requires { from ≤ length listing.old }
     ensures { listing.new ≡ take from listing.old ++ replicate (length listing.old - from) 0 }
 {
-    let n = listing.len();
-    let mut i = from;
-    while i < n {
-        listing[i] = 0;
-        i += 1;
-    }
+    listing[from..].fill(0);
 }
 
 // The sum of the weights of the first `count` entries, if it is within its limit.
-pub fn total_of(listing: &[u64], count: usize) -> Total
+pub fn total_of(listing: &[u64], count: usize) -> Option<u64>
     requires { count * entry_width ≤ length listing.now }
     ensures { result ≡ totalled (weights_in listing.now count) }
 {
     let mut sum: u64 = 0;
-    let mut i = 0;
-    while i < count {
+    for i in 0..count {
         let weight = listing[i * Limits::ENTRY + Limits::WEIGHT];
         if Limits::TOTAL - sum < weight {
-            return Total::Over;
+            return None;
         }
         sum += weight;
-        i += 1;
     }
-    Total::Is(sum)
+    Some(sum)
 }
 
 // The first of the first `count` entries whose running sum of weights exceeds the draw.
-pub fn choose(listing: &[u64], count: usize, draw: u64) -> Chosen
+pub fn choose(listing: &[u64], count: usize, draw: u64) -> Option<usize>
     requires { (count * entry_width ≤ length listing.now) × (total (weights_in listing.now count) ≤ total_limit) }
     ensures { result ≡ chosen_answer (chosen (weights_in listing.now count) draw) }
 {
     let mut sum: u64 = 0;
-    let mut i = 0;
-    while i < count {
+    for i in 0..count {
         let next = sum + listing[i * Limits::ENTRY + Limits::WEIGHT];
         if draw < next {
-            return Chosen::At(i);
+            return Some(i);
         }
         sum = next;
-        i += 1;
     }
-    Chosen::Nothing
+    None
 }
 
 // Questions 13 and 14 of the entries that stand in the buffer.
-fn judge(listing: &[u64], count: usize) -> Listed
+fn judge(listing: &[u64], count: usize) -> Result<(usize, u64), Refusal>
     requires { (length listing.now ≡ listing_length) × (count ≤ suc entry_limit) }
     ensures { (z : List ℕ) (es : List rules.Entry) → listing.now ≡ image z es → count ≡ cut es → Leads (counted es) result listing.now }
 {
     if Limits::ENTRIES < count {
-        return Listed::Refused(13, 0, 0);
+        return Err(Refusal {
+            number: 13,
+            place: 0,
+            branch: 0,
+        });
     }
     let sum = total_of(listing, count);
     match sum {
-        Total::Is(total) => Listed::Filled(count, total),
-        Total::Over => Listed::Refused(14, 0, 0),
+        Some(total) => Ok((count, total)),
+        None => Err(Refusal {
+            number: 14,
+            place: 0,
+            branch: 0,
+        }),
     }
 }
 
 // Zeros after the entries of a listing, and all over the buffer of a refused one.
-fn clear_unused(listing: &mut [u64], listed: Listed)
+fn clear_unused(listing: &mut [u64], listed: Result<(usize, u64), Refusal>)
     requires { used_numbers listed ≤ length listing.old }
     ensures { listing.new ≡ take (used_numbers listed) listing.old ++ replicate (length listing.old - used_numbers listed) 0 }
 {
     match listed {
-        Listed::Filled(count, _) => clear_from(listing, count * Limits::ENTRY),
-        Listed::Refused(_, _, _) => clear_from(listing, 0),
+        Ok((count, _)) => clear_from(listing, count * Limits::ENTRY),
+        Err(_) => clear_from(listing, 0),
     }
 }
 
@@ -318,13 +295,10 @@ fn any_match(nodes: &[u64], locals: &[i64], state: &[i64], o: Offer, run: Run) -
     requires { ((w : offers.Query) × ShowsQuery nodes.now locals.now o w) × (Every InRange locals.now) × ((t : List ℕ) × (roots : List ℕ) × (scopes : List ℕ) × (m : Resolved.Model) × (s : State) × World t roots scopes state.now m s) × (run.to ≤ pair_count state.now) }
     ensures { (w : offers.Query) (t roots scopes : List ℕ) (m : Resolved.Model) (s : State) → ShowsQuery nodes.now locals.now o w → World t roots scopes state.now m s → RunIs s.pairs w run.from run.to → result ≡ any_match w s.pairs }
 {
-    let to = run.to;
-    let mut q = run.from;
-    while q < to {
+    for q in run.from..run.to {
         if pair_matches(nodes, locals, state, o, q) {
             return true;
         }
-        q += 1;
     }
     false
 }
@@ -378,12 +352,9 @@ fn list_bound(
     requires { ((w : offers.Query) × ShowsQuery nodes.now locals.now o w) × (Every InRange locals.now) × ((t : List ℕ) × (roots : List ℕ) × (scopes : List ℕ) × (m : Resolved.Model) × (s : State) × World t roots scopes state.now m s) × (run.to ≤ pair_count state.now) × (o.rate ≤ rate_limit) × (length listing.old ≡ listing_length) × (count ≤ suc entry_limit) }
     ensures { ((w : offers.Query) (t roots scopes : List ℕ) (m : Resolved.Model) (s : State) → ShowsQuery nodes.now locals.now o w → World t roots scopes state.now m s → RunIs s.pairs w run.from run.to → Adds (gather (bound_at w place branch o.rate) s.pairs) listing.old count listing.new result) × (length listing.new ≡ listing_length) × (result ≤ suc entry_limit) }
 {
-    let to = run.to;
-    let mut q = run.from;
     let mut n = count;
-    while q < to {
+    for q in run.from..run.to {
         n = list_pair(nodes, locals, state, o, q, place, branch, listing, n);
-        q += 1;
     }
     n
 }
@@ -491,6 +462,7 @@ fn list_partners(
     let bucket = offers::bucket_of(sender.channel, sender.channel2, sender.channel3);
     let mut row = firsts[bucket] as usize;
     let mut n = count;
+    // A while: it follows links.
     while row < rows {
         n = list_partner(
             nodes, scopes, state, heads, numbers, row, sender, place, branch, listing, n,
@@ -599,7 +571,7 @@ fn list_row(
     let rate = o.rate;
     list_alone(
         rate,
-        (kind - EntryKind::FROM_NODE) as u64,
+        (kind - FROM_NODE) as u64,
         place,
         branch,
         listing,
@@ -623,15 +595,13 @@ fn list_rows(
     ensures { ((roots : List ℕ) (m : Resolved.Model) (s : State) → Ready nodes.now roots scopes.now state.now heads.now numbers.now rows m s → Adds (entries (branches m) s) listing.old 0 listing.new result) × (length listing.new ≡ listing_length) × (result ≤ suc entry_limit) }
 {
     let mut count = 0;
-    let mut row = 0;
-    while row < rows {
+    for row in 0..rows {
         if Limits::ENTRIES < count {
             return count;
         }
         count = list_row(
             nodes, scopes, state, heads, numbers, rows, firsts, nexts, row, listing, count,
         );
-        row += 1;
     }
     count
 }
@@ -647,22 +617,28 @@ fn try_over(
     firsts: &mut [u16],
     nexts: &mut [u16],
     listing: &mut [u64],
-) -> Tried
+) -> Option<Result<(usize, u64), Refusal>>
     requires { ((m : Resolved.Model) × (s : State) × World nodes.now roots.now scopes.now state.now m s) × (length numbers.old ≡ length heads.old * row_width) × (length firsts.old ≡ bucket_limit) × (length nexts.old ≡ length heads.old) × (length listing.old ≡ listing_length) }
     ensures { (m : Resolved.Model) (s : State) → World nodes.now roots.now scopes.now state.now m s → TriesOver (length heads.old) (machine.listing m s) listing.new result }
 {
     let collected = offers::collect(nodes, roots, scopes, state, heads, numbers);
     match collected {
-        Collected::Full => Tried::Full,
-        Collected::Missing(place, branch) => Tried::Done(Listed::Refused(12, place, branch)),
-        Collected::Rows(rows) => {
+        Ok(rows) => {
             offers::link(heads, numbers, rows, firsts, nexts);
             let count = list_rows(
                 nodes, scopes, state, heads, numbers, rows, firsts, nexts, listing,
             );
             let listed = judge(listing, count);
-            Tried::Done(listed)
+            Some(listed)
         }
+        Err(stop) => match stop {
+            Stop::Missing((place, branch)) => Some(Err(Refusal {
+                number: 12,
+                place,
+                branch,
+            })),
+            Stop::Full => None,
+        },
     }
 }
 
@@ -677,17 +653,18 @@ pub fn list_over(
     firsts: &mut [u16],
     nexts: &mut [u16],
     listing: &mut [u64],
-) -> Listed
+) -> Result<(usize, u64), Refusal>
     requires { ((m : Resolved.Model) × (s : State) × World nodes.now roots.now scopes.now state.now m s) × (length heads.old ≡ row_limit) × (length numbers.old ≡ row_limit * row_width) × (length firsts.old ≡ bucket_limit) × (length nexts.old ≡ row_limit) × (length listing.old ≡ listing_length) }
     ensures { (m : Resolved.Model) (s : State) → World nodes.now roots.now scopes.now state.now m s → Leads (machine.listing m s) result listing.new }
 {
     let tried = try_over(
         nodes, roots, scopes, state, heads, numbers, firsts, nexts, listing,
     );
-    match tried {
-        Tried::Done(listed) => listed,
-        Tried::Full => Listed::Refused(12, 0, 0),
-    }
+    tried.unwrap_or(Err(Refusal {
+        number: 12,
+        place: 0,
+        branch: 0,
+    }))
 }
 
 // The same if the lent tables have a row for each offer, with zeros after the entries.
@@ -701,20 +678,15 @@ fn list_into(
     firsts: &mut [u16],
     nexts: &mut [u16],
     listing: &mut [u64],
-) -> Tried
+) -> Option<Result<(usize, u64), Refusal>>
     requires { ((m : Resolved.Model) × (s : State) × World nodes.now roots.now scopes.now state.now m s) × (length numbers.old ≡ length heads.old * row_width) × (length firsts.old ≡ bucket_limit) × (length nexts.old ≡ length heads.old) × (length listing.old ≡ listing_length) }
     ensures { (m : Resolved.Model) (s : State) → World nodes.now roots.now scopes.now state.now m s → Tries (length heads.old) (machine.listing m s) listing.new result }
 {
-    let tried = try_over(
+    let listed = try_over(
         nodes, roots, scopes, state, heads, numbers, firsts, nexts, listing,
-    );
-    match tried {
-        Tried::Full => Tried::Full,
-        Tried::Done(listed) => {
-            clear_unused(listing, listed);
-            Tried::Done(listed)
-        }
-    }
+    )?;
+    clear_unused(listing, listed);
+    Some(listed)
 }
 
 // The same in lent tables with room for all offers.
@@ -728,17 +700,18 @@ pub fn list_all(
     firsts: &mut [u16],
     nexts: &mut [u16],
     listing: &mut [u64],
-) -> Listed
+) -> Result<(usize, u64), Refusal>
     requires { ((m : Resolved.Model) × (s : State) × World nodes.now roots.now scopes.now state.now m s) × (length heads.old ≡ row_limit) × (length numbers.old ≡ row_limit * row_width) × (length firsts.old ≡ bucket_limit) × (length nexts.old ≡ row_limit) × (length listing.old ≡ listing_length) }
     ensures { (m : Resolved.Model) (s : State) → World nodes.now roots.now scopes.now state.now m s → Lists (machine.listing m s) result listing.new }
 {
     let tried = list_into(
         nodes, roots, scopes, state, heads, numbers, firsts, nexts, listing,
     );
-    match tried {
-        Tried::Done(listed) => listed,
-        Tried::Full => Listed::Refused(12, 0, 0),
-    }
+    tried.unwrap_or(Err(Refusal {
+        number: 12,
+        place: 0,
+        branch: 0,
+    }))
 }
 
 // The same in small tables, if these have room.
@@ -748,7 +721,7 @@ fn list_few(
     scopes: &[u16],
     state: &[i64],
     listing: &mut [u64],
-) -> Tried
+) -> Option<Result<(usize, u64), Refusal>>
     requires { ((m : Resolved.Model) × (s : State) × World nodes.now roots.now scopes.now state.now m s) × (length listing.old ≡ listing_length) }
     ensures { (m : Resolved.Model) (s : State) → World nodes.now roots.now scopes.now state.now m s → Tries few_rows (machine.listing m s) listing.new result }
 {
@@ -776,7 +749,7 @@ fn list_many(
     scopes: &[u16],
     state: &[i64],
     listing: &mut [u64],
-) -> Listed
+) -> Result<(usize, u64), Refusal>
     requires { ((m : Resolved.Model) × (s : State) × World nodes.now roots.now scopes.now state.now m s) × (length listing.old ≡ listing_length) }
     ensures { (m : Resolved.Model) (s : State) → World nodes.now roots.now scopes.now state.now m s → Lists (machine.listing m s) result listing.new }
 {
@@ -804,13 +777,13 @@ pub fn list_here(
     scopes: &[u16],
     state: &[i64],
     listing: &mut [u64],
-) -> Listed
+) -> Result<(usize, u64), Refusal>
     requires { ((m : Resolved.Model) × (s : State) × World nodes.now roots.now scopes.now state.now m s) × (length listing.old ≡ listing_length) }
     ensures { (m : Resolved.Model) (s : State) → World nodes.now roots.now scopes.now state.now m s → Lists (machine.listing m s) result listing.new }
 {
     let tried = list_few(nodes, roots, scopes, state, listing);
     match tried {
-        Tried::Done(listed) => listed,
-        Tried::Full => list_many(nodes, roots, scopes, state, listing),
+        Some(listed) => listed,
+        None => list_many(nodes, roots, scopes, state, listing),
     }
 }

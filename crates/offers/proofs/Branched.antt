@@ -17,8 +17,9 @@ use Rattle.model.specs.Good.{Every, GoodBranch}
 use Rattle.machine.specs.Evaluate.{eval_branch}
 use Rattle.machine.specs.Offer.{is_none, missing_branch}
 use Rattle.eval.specs.Held.{Held}
-use Rattle.offers.specs.declared.Walked.{Walked}
-use Rattle.offers.specs.declared.Walked.TheVariants as walked
+use Rattle.std.specs.Prelude.{Err, Ok}
+use Rattle.offers.specs.declared.Stop.{Stop}
+use Rattle.offers.specs.Collect.{Walked}
 use Rattle.offers.specs.Slots.{Slot, slot_of}
 use Rattle.offers.specs.Walk.{guard_or, slots_from}
 use Rattle.offers.specs.Collect as Collect
@@ -38,20 +39,16 @@ module _ (t : List ℕ) (ls : List ℤ) (i j n : ℕ) (hs : List ℕ) (os : List
         room = q.room;
       }
 
-  -- the first branch lacks a value
-  pub first-lacks : (hs' : List ℕ) (os' : List ℤ) (b : Resolved.Branch) (bs : List Resolved.Branch) (q : ℕ)
-      → CollectsOne t ls i j n hs os hs' os' (eval_branch ls b) (walked.Missing q) → Collects t ls i j n hs os hs' os' (b ∷ bs) (walked.Missing q)
+  -- the first branch lacks a value, or there is no row for it
+  pub first-stops : (hs' : List ℕ) (os' : List ℤ) (b : Resolved.Branch) (bs : List Resolved.Branch) (e : Stop ℕ)
+      → CollectsOne t ls i j n hs os hs' os' (eval_branch ls b) (Err e) → Collects t ls i j n hs os hs' os' (b ∷ bs) (Err e)
   unfolding missing_branch is_none
-  first-lacks hs' os' b bs q (Collect.CollectsOne.lacks e) = Collect.Collects.lacks {q = j} (rw e)
-
-  -- there is no row for it
-  pub first-full : (hs' : List ℕ) (os' : List ℤ) (b : Resolved.Branch) (bs : List Resolved.Branch)
-      → CollectsOne t ls i j n hs os hs' os' (eval_branch ls b) walked.Full → Collects t ls i j n hs os hs' os' (b ∷ bs) walked.Full
-  first-full hs' os' b bs (Collect.CollectsOne.full l) = Collect.Collects.full l
+  first-stops hs' os' b bs e (Collect.CollectsOne.lacks q) = Collect.Collects.lacks {q = j} (rw q)
+  first-stops hs' os' b bs e (Collect.CollectsOne.full l) = Collect.Collects.full l
 
   -- it has, and the others follow
   pub first_then : (hs₁ hs₂ : List ℕ) (os₁ os₂ : List ℤ) (b : Resolved.Branch) (bs : List Resolved.Branch) (n₁ : ℕ) (r : Walked)
-      → CollectsOne t ls i j n hs os hs₁ os₁ (eval_branch ls b) (walked.Rows n₁) → Collects t ls i (suc j) n₁ hs₁ os₁ hs₂ os₂ bs r → Collects t ls i j n hs os hs₂ os₂ (b ∷ bs) r
+      → CollectsOne t ls i j n hs os hs₁ os₁ (eval_branch ls b) (Ok n₁) → Collects t ls i (suc j) n₁ hs₁ os₁ hs₂ os₂ bs r → Collects t ls i j n hs os hs₂ os₂ (b ∷ bs) r
   unfolding missing_branch slots_from
   first_then hs₁ hs₂ os₁ os₂ b bs n₁ r (Collect.CollectsOne.all e g) (Collect.Collects.lacks {q} f) = Collect.Collects.lacks {q = q} (rw e f)
   first_then hs₁ hs₂ os₁ os₂ b bs n₁ r (Collect.CollectsOne.all e g) (Collect.Collects.all f h) =
@@ -66,10 +63,10 @@ module _ (t : List ℕ) (ls : List ℤ) (i j n : ℕ) (hs : List ℕ) (os : List
   last_one hs' os' b r (Collect.CollectsOne.all {n'} e g) = Collect.Collects.all {n' = n'} (rw e) (rw (append-nil (slot_of i j (guard_or (eval_branch ls b)))) g)
   last_one hs' os' b r (Collect.CollectsOne.full l) = Collect.Collects.full l
 
-  pub one-row : {hs' : List ℕ} {os' : List ℤ} {g : Option offers.Guard} {n' : ℕ} → CollectsOne t ls i j n hs os hs' os' g (walked.Rows n') → n' ≤ n + 1
+  pub one-row : {hs' : List ℕ} {os' : List ℤ} {g : Option offers.Guard} {n' : ℕ} → CollectsOne t ls i j n hs os hs' os' g (Ok n') → n' ≤ n + 1
   one-row {g = g} (Collect.CollectsOne.all e h) = omega (arith, h.rows, slot-one i j (guard_or g))
 
-  pub one-room : {hs' : List ℕ} {os' : List ℤ} {g : Option offers.Guard} {n' : ℕ} → CollectsOne t ls i j n hs os hs' os' g (walked.Rows n') → n' ≤ length hs'
+  pub one-room : {hs' : List ℕ} {os' : List ℤ} {g : Option offers.Guard} {n' : ℕ} → CollectsOne t ls i j n hs os hs' os' g (Ok n') → n' ≤ length hs'
   one-room (Collect.CollectsOne.all e h) = h.room
 
 -- ---- by the node's kind
@@ -119,24 +116,16 @@ module _ (t : List ℕ) (k kind : ℕ) (is : kind ≡ kind_of (get_or t k 0)) wh
         )
 
     module _ (ls : List ℤ) (i j n : ℕ) (hs : List ℕ) (os : List ℤ) where
-      pub more-lacks : (hs' : List ℕ) (os' : List ℤ) (q : ℕ)
-          → ((b : Resolved.Branch) → Branch t b (left_of (get_or t k 0)) → CollectsOne t ls i j n hs os hs' os' (eval_branch ls b) (walked.Missing q))
-          → (bs : List Resolved.Branch) → Branches t bs k → Collects t ls i j n hs os hs' os' bs (walked.Missing q)
+      pub more-stops : (hs' : List ℕ) (os' : List ℤ) (e : Stop ℕ)
+          → ((b : Resolved.Branch) → Branch t b (left_of (get_or t k 0)) → CollectsOne t ls i j n hs os hs' os' (eval_branch ls b) (Err e))
+          → (bs : List Resolved.Branch) → Branches t bs k → Collects t ls i j n hs os hs' os' bs (Err e)
       unfolding Branches
-      more-lacks hs' os' q f [] a = absurd a
-      more-lacks hs' os' q f (b ∷ []) a = absurd (omega (arith, lone-kind b a))
-      more-lacks hs' os' q f (b ∷ c ∷ bs) a = first-lacks t ls i j n hs os hs' os' b (c ∷ bs) q (f b a.holds-first)
-
-      pub more-full : (hs' : List ℕ) (os' : List ℤ)
-          → ((b : Resolved.Branch) → Branch t b (left_of (get_or t k 0)) → CollectsOne t ls i j n hs os hs' os' (eval_branch ls b) walked.Full)
-          → (bs : List Resolved.Branch) → Branches t bs k → Collects t ls i j n hs os hs' os' bs walked.Full
-      unfolding Branches
-      more-full hs' os' f [] a = absurd a
-      more-full hs' os' f (b ∷ []) a = absurd (omega (arith, lone-kind b a))
-      more-full hs' os' f (b ∷ c ∷ bs) a = first-full t ls i j n hs os hs' os' b (c ∷ bs) (f b a.holds-first)
+      more-stops hs' os' e f [] a = absurd a
+      more-stops hs' os' e f (b ∷ []) a = absurd (omega (arith, lone-kind b a))
+      more-stops hs' os' e f (b ∷ c ∷ bs) a = first-stops t ls i j n hs os hs' os' b (c ∷ bs) e (f b a.holds-first)
 
       pub more-collects : (hs₁ hs₂ : List ℕ) (os₁ os₂ : List ℤ) (n₁ : ℕ) (r : Walked)
-          → ((b : Resolved.Branch) → Branch t b (left_of (get_or t k 0)) → CollectsOne t ls i j n hs os hs₁ os₁ (eval_branch ls b) (walked.Rows n₁))
+          → ((b : Resolved.Branch) → Branch t b (left_of (get_or t k 0)) → CollectsOne t ls i j n hs os hs₁ os₁ (eval_branch ls b) (Ok n₁))
           → ((bs : List Resolved.Branch) → Branches t bs (k - 1) → Collects t ls i (j + 1) n₁ hs₁ os₁ hs₂ os₂ bs r)
           → (bs : List Resolved.Branch) → Branches t bs k → Collects t ls i j n hs os hs₂ os₂ bs r
       unfolding Branches

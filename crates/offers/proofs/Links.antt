@@ -12,7 +12,6 @@ use lib.IntN.{ℤ, pos, negsuc, nat_abs, ◌-ℤ◌}
 use lib.Signed.{lt_z}
 use Rattle.value.proofs.Kit.{true-not-false}
 use lib.ListN.{length, get_or, set, replicate, length-replicate, get_or-replicate}
-use Rattle.state.proofs.Mix.{mix, mix-up}
 use lib.Seq.{get_or-set_same, get_or-set_other}
 use Rattle.tree.specs.Node as node
 use Rattle.offers.specs.Head.{kind_in}
@@ -102,9 +101,3 @@ pub part-natural : (z : ℤ) → lt_z z (pos 0) ≡ false → bucket_part z ≡ 
 unfolding bucket_part
 part-natural (pos n) e = refl
 part-natural (negsuc n) e = true-not-false e
-
--- one more is filled
-pub fill-up : (s₀ s : List ℕ) (v i : ℕ) → i < length s₀ → s ≡ mix i (replicate (length s₀) v) s₀ → set s i v ≡ mix (i + 1) (replicate (length s₀) v) s₀
-fill-up s₀ s v i l e =
-    let n : length (replicate (length s₀) v) ≡ length s₀ = length-replicate (length s₀) v in
-    rw e (ap (λ (z : ℕ). set (mix i (replicate (length s₀) v) s₀) i z) (sym (get_or-replicate (length s₀) i v 0 l)) ∙ mix-up i (replicate (length s₀) v) s₀ 0 (omega arith) n)

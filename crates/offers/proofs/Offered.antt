@@ -17,7 +17,8 @@ use Rattle.eval.specs.declared.offer.Offer.{Offer}
 use Rattle.eval.specs.Channels.{ShowsChannel}
 use Rattle.eval.specs.Shown as shown
 use Rattle.eval.specs.Shown.{bare_offer, ShowsValues, ShowsSets, ShowsPair, ShowsQuery, ShowsAction, ShowsOffer}
-use Rattle.offers.specs.declared.Walked.TheVariants as walked
+use Rattle.std.specs.Prelude.{Err, Ok}
+use Rattle.offers.specs.declared.Stop.TheVariants.{Missing, Full}
 use Rattle.eval.proofs.Shapes.{shape-bounds}
 use Rattle.offers.specs.Links.{row_width}
 use Rattle.offers.specs.Slots.{slot_of}
@@ -89,7 +90,7 @@ fits_head m t ls b r range good sh not1 not0 = go (eval_branch ls b) refl sh
 
 -- ---- one branch
 module _ (t : List ℕ) (ls : List ℤ) (i j n : ℕ) (hs : List ℕ) (os : List ℤ) (r : Offer) where
-  pub one-lacks : (hs' : List ℕ) (os' : List ℤ) (g : Option offers.Guard) → r.kind ≡ 1 → ShowsOffer t ls g r → CollectsOne t ls i j n hs os hs' os' g (walked.Missing j)
+  pub one-lacks : (hs' : List ℕ) (os' : List ℤ) (g : Option offers.Guard) → r.kind ≡ 1 → ShowsOffer t ls g r → CollectsOne t ls i j n hs os hs' os' g (Err (Missing j))
   one-lacks hs' os' none e s = lacks refl
   one-lacks hs' os' (some offers.shut) e (shown.shut q) = absurd (omega (arith, kind-is 0 0 q))
   one-lacks hs' os' (some (offers.bare a m)) e (shown.bare s q) = absurd (omega (arith, (action-kinds s).low))
@@ -98,7 +99,7 @@ module _ (t : List ℕ) (ls : List ℤ) (i j n : ℕ) (hs : List ℕ) (os : List
   none_more : n ≤ length hs → Grows t ls i n hs os hs os [] n
   none_more l = record { holds = λ L xs e l h. rw (append-nil xs) h; rows = omega arith; room = l }
 
-  pub one-hidden : (g : Option offers.Guard) → n ≤ length hs → r.kind ≡ 0 → ShowsOffer t ls g r → CollectsOne t ls i j n hs os hs os g (walked.Rows n)
+  pub one-hidden : (g : Option offers.Guard) → n ≤ length hs → r.kind ≡ 0 → ShowsOffer t ls g r → CollectsOne t ls i j n hs os hs os g (Ok n)
   unfolding is_none guard_or slot_of Option-elim
   one-hidden none l e (shown.missing q) = absurd (omega (arith, kind-is 1 0 q))
   one-hidden (some offers.shut) l e (shown.shut q) = all refl (none_more l)
@@ -116,7 +117,7 @@ module _ (t : List ℕ) (ls : List ℤ) (i j n : ℕ) (hs : List ℕ) (os : List
         }
 
     pub one-put : (g : Option offers.Guard) → (r.kind ≡ 1 → ⊥) → (r.kind ≡ 0 → ⊥) → ShowsOffer t ls g r
-        → CollectsOne t ls i j n hs os (set hs n (head_of i j r)) (written os n r) g (walked.Rows (n + 1))
+        → CollectsOne t ls i j n hs os (set hs n (head_of i j r)) (written os n r) g (Ok (n + 1))
     unfolding is_none guard_or slot_of Option-elim
     one-put none not1 not0 (shown.missing q) = absurd (not1 (kind-is 1 0 q))
     one-put (some offers.shut) not1 not0 (shown.shut q) = absurd (not0 (kind-is 0 0 q))

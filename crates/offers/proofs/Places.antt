@@ -23,12 +23,13 @@ use Rattle.model.specs.Scope.{locals_in}
 use Rattle.model.proofs.Scope.{locals-in}
 use Rattle.state.proofs.Over.{good-fits, few-scopes}
 use Rattle.state.proofs.Read.{good-passed, count-numbers, sum-numbers, locals-numbers}
-use Rattle.offers.specs.declared.Walked.TheVariants as walked
-use Rattle.offers.specs.declared.Collected.TheVariants.{Rows, Missing, Full}
+use Rattle.std.specs.Prelude.{Err, Ok}
+use Rattle.offers.specs.declared.Stop.{Stop}
+use Rattle.offers.specs.declared.Stop.TheVariants.{Missing, Full}
 use Rattle.offers.specs.Walk.{slots_from, slots_of}
 use Rattle.offers.specs.Table.{locals_of, Holds}
 use Rattle.offers.specs.Collect as Collect
-use Rattle.offers.specs.Collect.{Branched, Collects, FewBranches, World, Answers}
+use Rattle.offers.specs.Collect.{Branched, Collects, at_place, FewBranches, World, Answers}
 use Rattle.offers.proofs.Walk.{from-few, of-next, missing-here, missing-later}
 
 module _ {t roots scopes : List ℕ} {zs : List ℤ} {m : Resolved.Model} {s : State} (w : World t roots scopes zs m s) where
@@ -119,13 +120,13 @@ progress-none t hs os m ps = record { missing-is = refl; holds = record { shown 
 
 module _ {t roots scopes : List ℕ} {zs : List ℤ} {m : Resolved.Model} {s : State} (w : World t roots scopes zs m s) (i n : ℕ) (p : Process) (at : get_elem? s.processes i ≡ some p)
     (hs hs' : List ℕ) (os os' : List ℤ) where
-  pub next-rows : (n' : ℕ) → Collects t p.locals i 0 n hs os hs' os' (branches_of m p) (walked.Rows n') → n' ≤ n + 16
+  pub next-rows : (n' : ℕ) → Collects t p.locals i 0 n hs os hs' os' (branches_of m p) (Ok n') → n' ≤ n + 16
   next-rows n' (Collect.Collects.all e g) = omega (arith, g.rows, from-few p.locals i 0 (branches_of m p), few-branches w i p at)
 
-  pub next-room : (n' : ℕ) → Collects t p.locals i 0 n hs os hs' os' (branches_of m p) (walked.Rows n') → n' ≤ length hs'
+  pub next-room : (n' : ℕ) → Collects t p.locals i 0 n hs os hs' os' (branches_of m p) (Ok n') → n' ≤ length hs'
   next-room n' (Collect.Collects.all e g) = g.room
 
-  pub progress-more : (n' : ℕ) → Collects t p.locals i 0 n hs os hs' os' (branches_of m p) (walked.Rows n') → Progress t hs os m s.processes i n → Progress t hs' os' m s.processes (i + 1) n'
+  pub progress-more : (n' : ℕ) → Collects t p.locals i 0 n hs os hs' os' (branches_of m p) (Ok n') → Progress t hs os m s.processes i n → Progress t hs' os' m s.processes (i + 1) n'
   progress-more n' (Collect.Collects.all e g) q =
       let nth = get_nth s.processes i at in
       let o = of-next m nth in
@@ -136,11 +137,10 @@ module _ {t roots scopes : List ℕ} {zs : List ℤ} {m : Resolved.Model} {s : S
         room = g.room;
       }
 
-  pub progress-lacks : (j : ℕ) → Collects t p.locals i 0 n hs os hs' os' (branches_of m p) (walked.Missing j) → Progress t hs os m s.processes i n → Answers t hs' os' m s.processes (Missing i j)
-  progress-lacks j (Collect.Collects.lacks e) q = Collect.Answers.lacks (q.missing-is ∙ missing-here m (get_nth s.processes i at) j e)
-
-  pub progress-full : Collects t p.locals i 0 n hs os hs' os' (branches_of m p) walked.Full → Answers t hs' os' m s.processes Full
-  progress-full (Collect.Collects.full l) = Collect.Answers.full l
+  pub progress-stops : (e : Stop ℕ) → Collects t p.locals i 0 n hs os hs' os' (branches_of m p) (Err e) → Progress t hs os m s.processes i n → Answers t hs' os' m s.processes (Err (at_place i e))
+  unfolding at_place
+  progress-stops (Missing j) (Collect.Collects.lacks e) q = Collect.Answers.lacks (q.missing-is ∙ missing-here m (get_nth s.processes i at) j e)
+  progress-stops Full (Collect.Collects.full l) q = Collect.Answers.full l
 
 drop_all : {A : Type 0} (i : ℕ) (xs : List A) → length xs ≤ i → drop i xs ≡ []
 drop_all zero [] l = refl
@@ -148,7 +148,7 @@ drop_all (suc i) [] l = refl
 drop_all zero (x ∷ xs) l = absurd (omega arith)
 drop_all (suc i) (x ∷ xs) l = drop_all i xs (omega arith)
 
-pub progress-all : (t hs : List ℕ) (os : List ℤ) (m : Resolved.Model) (ps : List Process) (i n : ℕ) → length ps ≤ i → Progress t hs os m ps i n → Answers t hs os m ps (Rows n)
+pub progress-all : (t hs : List ℕ) (os : List ℤ) (m : Resolved.Model) (ps : List Process) (i n : ℕ) → length ps ≤ i → Progress t hs os m ps i n → Answers t hs os m ps (Ok n)
 progress-all t hs os m ps i n l q =
     rw (← q.rows) (rw (take_all i ps l) (Collect.Answers.all (q.missing-is ∙ ended i ps l) (rw (take_all i ps l) at q.holds) (rw (take_all i ps l) at (let z : length (slots_of m 0 (take i ps)) ≤ length hs = omega (arith, q.rows, q.room) in z))))
   where

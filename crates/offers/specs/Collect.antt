@@ -1,5 +1,5 @@
 -- What collecting the offers of a state answers: the table holds the slots, or the first branch without value (01, Listing, 12), or the table has too few rows. Assumes nothing: these are definitions.
-use Rattle.std.specs.Prelude.{◌≡◌, false, List, ◌++◌, ℕ, ◌+◌, ◌≤◌, ◌<◌, ℤ, length}
+use Rattle.std.specs.Prelude.{◌≡◌, false, List, ◌++◌, ℕ, ◌+◌, ◌≤◌, ◌<◌, ℤ, length, Result, Err, Ok}
 use Rattle.std.proofs.Math.Option.{Option, none, some}
 use Rattle.model.specs.Resolved
 use Rattle.model.specs.Limits.{branch_limit}
@@ -9,10 +9,8 @@ use Rattle.tables.specs.Represents.{Represents}
 use Rattle.model.specs.Good.{Every, GoodBranch, GoodModel}
 use Rattle.machine.specs.Offer.{Process, is_none, missing_branch, missing}
 use Rattle.machine.specs.State.{State, GoodState, state_numbers}
-use Rattle.offers.specs.declared.Walked.{Walked}
-use Rattle.offers.specs.declared.Walked.TheVariants as walked
-use Rattle.offers.specs.declared.Collected.{Collected}
-use Rattle.offers.specs.declared.Collected.TheVariants.{Rows, Missing, Full}
+use Rattle.offers.specs.declared.Stop.{Stop}
+use Rattle.offers.specs.declared.Stop.TheVariants.{Missing, Full}
 use Rattle.offers.specs.Links.{row_limit}
 use Rattle.offers.specs.Slots.{Slot, slot_of}
 use Rattle.offers.specs.Walk.{guard_or, slots_from, slots_of}
@@ -32,17 +30,30 @@ pub record Grows (t : List ℕ) (ls : List ℤ) (i n : ℕ) (hs : List ℕ) (os 
   pub rows : n' ≡ n + length ys
   pub room : n' ≤ length hs'
 
+-- up to where the rows are filled; or the first branch without value, or no row is left
+abbrev pub Walked : Type 0
+Walked = Result ℕ (Stop ℕ)
+
+-- the same of all places: the place and the branch
+abbrev pub Collected : Type 0
+Collected = Result ℕ (Stop (ℕ × ℕ))
+
+-- a branch of place i
+unfoldable pub at_place : ℕ → Stop ℕ → Stop (ℕ × ℕ)
+at_place i (Missing j) = Missing (i, j)
+at_place i Full = Full
+
 -- branch j at place i, which offers g
 pub data CollectsOne (t : List ℕ) (ls : List ℤ) (i j n : ℕ) (hs : List ℕ) (os : List ℤ) (hs' : List ℕ) (os' : List ℤ) (g : Option offers.Guard) : Walked → Type 0 where
-  lacks : g ≡ none → CollectsOne t ls i j n hs os hs' os' g (walked.Missing j)
-  all : {n' : ℕ} → is_none g ≡ false → Grows t ls i n hs os hs' os' (slot_of i j (guard_or g)) n' → CollectsOne t ls i j n hs os hs' os' g (walked.Rows n')
-  full : length hs' < row_limit → CollectsOne t ls i j n hs os hs' os' g walked.Full
+  lacks : g ≡ none → CollectsOne t ls i j n hs os hs' os' g (Err (Missing j))
+  all : {n' : ℕ} → is_none g ≡ false → Grows t ls i n hs os hs' os' (slot_of i j (guard_or g)) n' → CollectsOne t ls i j n hs os hs' os' g (Ok n')
+  full : length hs' < row_limit → CollectsOne t ls i j n hs os hs' os' g (Err Full)
 
 -- branches counted from j on
 pub data Collects (t : List ℕ) (ls : List ℤ) (i j n : ℕ) (hs : List ℕ) (os : List ℤ) (hs' : List ℕ) (os' : List ℤ) (bs : List Resolved.Branch) : Walked → Type 0 where
-  lacks : {q : ℕ} → missing_branch ls j bs ≡ some q → Collects t ls i j n hs os hs' os' bs (walked.Missing q)
-  all : {n' : ℕ} → missing_branch ls j bs ≡ none → Grows t ls i n hs os hs' os' (slots_from ls i j bs) n' → Collects t ls i j n hs os hs' os' bs (walked.Rows n')
-  full : length hs' < row_limit → Collects t ls i j n hs os hs' os' bs walked.Full
+  lacks : {q : ℕ} → missing_branch ls j bs ≡ some q → Collects t ls i j n hs os hs' os' bs (Err (Missing q))
+  all : {n' : ℕ} → missing_branch ls j bs ≡ none → Grows t ls i n hs os hs' os' (slots_from ls i j bs) n' → Collects t ls i j n hs os hs' os' bs (Ok n')
+  full : length hs' < row_limit → Collects t ls i j n hs os hs' os' bs (Err Full)
 
 -- 01, Opening a text, 7: at most 16 branches in a sum
 unfoldable pub FewBranches : Resolved.Model → Type 0
@@ -63,6 +74,6 @@ pub record World (t roots scopes : List ℕ) (zs : List ℤ) (m : Resolved.Model
 
 -- all places: 12's answer
 pub data Answers (t : List ℕ) (hs : List ℕ) (os : List ℤ) (m : Resolved.Model) (ps : List Process) : Collected → Type 0 where
-  lacks : {i j : ℕ} → missing m 0 ps ≡ some (i, j) → Answers t hs os m ps (Missing i j)
-  all : missing m 0 ps ≡ none → Holds t (locals_of ps) hs os (slots_of m 0 ps) → length (slots_of m 0 ps) ≤ length hs → Answers t hs os m ps (Rows (length (slots_of m 0 ps)))
-  full : length hs < row_limit → Answers t hs os m ps Full
+  lacks : {i j : ℕ} → missing m 0 ps ≡ some (i, j) → Answers t hs os m ps (Err (Missing (i, j)))
+  all : missing m 0 ps ≡ none → Holds t (locals_of ps) hs os (slots_of m 0 ps) → length (slots_of m 0 ps) ≤ length hs → Answers t hs os m ps (Ok (length (slots_of m 0 ps)))
+  full : length hs < row_limit → Answers t hs os m ps (Err Full)

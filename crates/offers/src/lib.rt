@@ -1,7 +1,7 @@
 #![tactic(auto)]
 
 // What the open branches of a state offer, in a table.
-ghost use Rattle.std.specs.Prelude.{◌≡◌, ℕ, suc, ◌+◌, ◌*◌, ◌≤◌, ◌<◌, pos, length, replicate, get_or, set, List};
+ghost use Rattle.std.specs.Prelude.{◌≡◌, ℕ, suc, ◌+◌, ◌*◌, ◌≤◌, ◌<◌, pos, length, get_or, set, List};
 ghost use Rattle.value.specs.Range.{InRange};
 ghost use Rattle.model.specs.Resolved as Resolved;
 ghost use Rattle.model.specs.Limits.{branch_limit};
@@ -99,26 +99,13 @@ fn link_row(heads: &[u64], numbers: &[i64], row: usize, firsts: &mut [u16], next
     firsts[bucket] = row as u16;
 }
 
-fn fill(firsts: &mut [u16], v: u16)
-    ensures { firsts.new ≡ replicate (length firsts.old) v }
-{
-    let n = firsts.len();
-    let mut i = 0;
-    while i < n {
-        firsts[i] = v;
-        i += 1;
-    }
-}
-
 // Links the handshake receives of the first `rows` rows, the last row first.
 pub fn link(heads: &[u64], numbers: &[i64], rows: usize, firsts: &mut [u16], nexts: &mut [u16])
     requires { (rows ≤ row_limit) × (rows ≤ length heads.now) × (length numbers.now ≡ length heads.now * row_width) × (length firsts.old ≡ bucket_limit) × (length nexts.old ≡ length heads.now) }
     ensures { Linked heads.now numbers.now rows 0 firsts.new nexts.new }
 {
-    fill(firsts, rows as u16);
-    let mut row = rows;
-    while 0 < row {
-        row -= 1;
+    firsts.fill(rows as u16);
+    for row in (0..rows).rev() {
         link_row(heads, numbers, row, firsts, nexts);
     }
 }
@@ -195,23 +182,24 @@ pub fn rate_in(head: u64) -> u64
     head / SMALL / BRANCHES / PLACES
 }
 
-// Up to where the rows are filled; or the first branch without value; or no row is left.
+// Why not all rows are filled: what lacks a value, or no row is left.
 #[derive(Clone, Copy)]
-pub enum Walked {
-    Rows(usize),
-    Missing(usize),
+pub enum Stop<T> {
+    Missing(T),
     Full,
 }
 
-// The same of all places.
-#[derive(Clone, Copy)]
-pub enum Collected {
-    Rows(usize),
-    Missing(usize, usize),
-    Full,
+// The same of the process at a place.
+fn at_place(stop: Stop<usize>, place: usize) -> Stop<(usize, usize)>
+    ensures { result ≡ Collect.at_place place stop }
+{
+    match stop {
+        Stop::Missing(branch) => Stop::Missing((place, branch)),
+        Stop::Full => Stop::Full,
+    }
 }
 
-// Puts the offer of the branch at k into a row, if it isn't hidden and there is one.
+// Puts the offer of the branch at k into a row, if it isn't hidden and there is one: up to where the rows are filled, or the branch without value.
 fn collect_branch(
     nodes: &[u64],
     locals: &[i64],
@@ -221,23 +209,23 @@ fn collect_branch(
     heads: &mut [u64],
     numbers: &mut [i64],
     row: usize,
-) -> Walked
+) -> Result<usize, Stop<usize>>
     requires { ((m : Resolved.Model) × Held (Settled.Branch nodes.now) (GoodBranch m (length locals.now)) k) × (Every InRange locals.now) × (row ≤ length heads.old) × (length numbers.old ≡ length heads.old * row_width) × (row < row_limit) × (place < process_limit) × (branch < branch_limit) }
     ensures { (b : Resolved.Branch) → Settled.Branch nodes.now b k → Collect.CollectsOne nodes.now locals.now place branch row heads.old numbers.old heads.new numbers.new (eval_branch locals.now b) result }
 {
     let o = eval::offer::offer_of(nodes, locals, k);
     let kind = o.kind;
     if kind == Offer::MISSING {
-        return Walked::Missing(branch);
+        return Err(Stop::Missing(branch));
     }
     if kind == Offer::HIDDEN {
-        return Walked::Rows(row);
+        return Ok(row);
     }
     if heads.len() <= row {
-        return Walked::Full;
+        return Err(Stop::Full);
     }
     put_offer(heads, numbers, row, place, branch, o);
-    Walked::Rows(row + 1)
+    Ok(row + 1)
 }
 
 // Puts the offers of the branches at k into rows, counted from `branch` on.
@@ -250,7 +238,7 @@ fn collect_branches(
     heads: &mut [u64],
     numbers: &mut [i64],
     row: usize,
-) -> Walked
+) -> Result<usize, Stop<usize>>
     requires { (Collect.Branched nodes.now (length locals.now) branch k) × (Every InRange locals.now) × (row ≤ length heads.old) × (length numbers.old ≡ length heads.old * row_width) × (place < process_limit) × (row ≤ place * branch_limit + branch) }
     ensures { (bs : List Resolved.Branch) → Settled.Branches nodes.now bs k → Collect.Collects nodes.now locals.now place branch row heads.old numbers.old heads.new numbers.new bs result }
 {
@@ -260,21 +248,17 @@ fn collect_branches(
         return collect_branch(nodes, locals, place, branch, k, heads, numbers, row);
     }
     let left = tree::left_of(cell);
-    let first = collect_branch(nodes, locals, place, branch, left, heads, numbers, row);
-    match first {
-        Walked::Rows(next) => collect_branches(
-            nodes,
-            locals,
-            place,
-            branch + 1,
-            k - 1,
-            heads,
-            numbers,
-            next,
-        ),
-        Walked::Missing(lacking) => Walked::Missing(lacking),
-        Walked::Full => Walked::Full,
-    }
+    let next = collect_branch(nodes, locals, place, branch, left, heads, numbers, row)?;
+    collect_branches(
+        nodes,
+        locals,
+        place,
+        branch + 1,
+        k - 1,
+        heads,
+        numbers,
+        next,
+    )
 }
 
 // The locals of the process at a place.
@@ -297,7 +281,7 @@ fn collect_place(
     heads: &mut [u64],
     numbers: &mut [i64],
     row: usize,
-) -> Walked
+) -> Result<usize, Stop<usize>>
     requires { ((m : Resolved.Model) × (s : State) × Collect.World nodes.now roots.now scopes.now state.now m s) × (place < process_count state.now) × (row ≤ length heads.old) × (length numbers.old ≡ length heads.old * row_width) × (row ≤ place * branch_limit) }
     ensures { (m : Resolved.Model) (s : State) (p : Process) → Collect.World nodes.now roots.now scopes.now state.now m s → get_elem? s.processes place ≡ some p → Collect.Collects nodes.now p.locals place 0 row heads.old numbers.old heads.new numbers.new (branches_of m p) result }
 {
@@ -316,21 +300,18 @@ pub fn collect(
     state: &[i64],
     heads: &mut [u64],
     numbers: &mut [i64],
-) -> Collected
+) -> Result<usize, Stop<(usize, usize)>>
     requires { ((m : Resolved.Model) × (s : State) × Collect.World nodes.now roots.now scopes.now state.now m s) × (length numbers.old ≡ length heads.old * row_width) }
     ensures { (m : Resolved.Model) (s : State) → Collect.World nodes.now roots.now scopes.now state.now m s → Collect.Answers nodes.now heads.new numbers.new m s.processes result }
 {
     let places = state::process_count(state);
     let mut row = 0;
-    let mut place = 0;
-    while place < places {
+    for place in 0..places {
         let walked = collect_place(nodes, roots, scopes, state, place, heads, numbers, row);
         match walked {
-            Walked::Rows(next) => row = next,
-            Walked::Missing(branch) => return Collected::Missing(place, branch),
-            Walked::Full => return Collected::Full,
+            Ok(next) => row = next,
+            Err(stop) => return Err(at_place(stop, place)),
         }
-        place += 1;
     }
-    Collected::Rows(row)
+    Ok(row)
 }

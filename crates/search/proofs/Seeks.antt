@@ -7,15 +7,16 @@ use native.Mathlib.Omega.{arith}
 use native.Mathlib.Numerals.{add-one}
 use lib.ListN.{length, get_or, set, take, drop, drop_of_length-le, length-drop, length-set}
 use lib.Seq.{drop-cons, length-take-le}
+use Rattle.std.specs.Prelude.{None, Some}
+use Rattle.std.proofs.lemmas.Option.{none-some}
 use Rattle.runs.specs.Tree.{Way, idle, refused, leads, Listed, unlisted, lists, way_in}
 use Rattle.runs.specs.Walk as walk
 use Rattle.runs.specs.Walk.{behind, end_of, of_way, of_ways, of_listed, events, events_from, next, later_same, trail, lost, finds, met_before, next_of, behind_next, or_next}
 use Rattle.runs.proofs.Later.{next-join, next-behind}
 use borrow.Rule.Slice.PartMut.{put_mid, mid_of, same_len_mid}
 use Rattle.search.proofs.Part.{tail-mid, tail-put}
-use Rattle.search.specs.declared.Next.{Next}
-use Rattle.search.specs.declared.Next.TheVariants.{Lost, Found}
-use Rattle.search.specs.Seeks.{Count, Room, Along, tried, sought, advanced, Kept, Seeks, none, some, met_after}
+use Rattle.search.specs.declared.Met.{Met}
+use Rattle.search.specs.Seeks.{Next, Lost, Found, after, Count, Room, Along, tried, sought, advanced, Kept, Seeks, none, some, met_after}
 
 pub met-twice : (m n : Bool) (x : walk.Next) → met_before m (met_before n x) ≡ met_before (m || n) x
 unfolding met_before
@@ -46,13 +47,9 @@ pub pass-over : (a x : walk.Next) (met : Bool) → a ≡ met_before met x → x 
 unfolding met_before
 pass-over a x met i p = i ∙ ap (met_before met) p ∙ ap lost (or-false met)
 
-pub after-lost : (m b k : Bool) (x : Next) → x ≡ Lost k → b ≡ (m || k) → Lost b ≡ met_after m x
-unfolding met_after
-after-lost m b k x p q = rw (p, q) refl
-
-pub after-found : (m b k h : Bool) (x : Next) → x ≡ Found k h → b ≡ (m || k) → Found b h ≡ met_after m x
-unfolding met_after
-after-found m b k h x p q = rw (p, q) refl
+-- a run was found, or not
+pub found_or_not : {T : Type 0} {x y : Met T} {t : T} → x.found ≡ Some t → y.found ≡ None → x ≡ y → ⊥
+found_or_not {T} {x} {y} {t} f n e = none-some t (sym n ∙ ap (λ (z : Met T). z.found) (sym e) ∙ f)
 
 module _ {S : Type 0} (blank : S) where
   -- ---- what was sought, taken apart
@@ -62,8 +59,8 @@ module _ {S : Type 0} (blank : S) where
   seeks-kept (some q e a b k) = k
 
   pub seeks-lost : {ways : S → Listed S} {s : S} {run : List ℕ} {states : List S} {run' : List ℕ} {states' : List S} {x : walk.Next} {r : Next} {m : Bool} → r ≡ Lost m → Seeks blank ways s run states run' states' x r → x ≡ lost m
-  seeks-lost z (none {m = n} p k) = cc
-  seeks-lost z (some q p a b k) = let c : ◌≡◌ {A = ℕ} 0 1 = cc in absurd (omega arith)
+  seeks-lost z (none {m = n} p k) = p ∙ ap (λ (v : Next). lost v.refused) z
+  seeks-lost z (some q p a b k) = absurd (found_or_not refl refl z)
 
   -- of the tables before it only the lengths count
   pub of_size : {ways : S → Listed S} {s : S} {run' : List ℕ} {states' : List S} {x : walk.Next} {r : Next} (run : List ℕ) (states : List S) (run₂ : List ℕ) (states₂ : List S) → length run ≡ length run₂ → length states ≡ length states₂
@@ -207,12 +204,12 @@ module _ {S : Type 0} (blank : S) where
   or-found : {ways : S → Listed S} {s : S} {run : List ℕ} {states : List S} {run' : List ℕ} {states' : List S} {x : walk.Next} {r : Next} (m h : Bool) (y : walk.Next) → r ≡ Found m h
       → Seeks blank ways s run states run' states' x r → Seeks blank ways s run states run' states' (or_next x y) r
   unfolding or_next
-  or-found m h y z (none p k) = let c : ◌≡◌ {A = ℕ} 0 1 = cc in absurd (omega arith)
+  or-found m h y z (none p k) = absurd (found_or_not refl refl (sym z))
   or-found {x = x} m h y z (some {m = n} {h = g} q p a b k) = let c : or_next x y ≡ finds n g q = rw p refl in some q c a b k
 
   pub met-after : {ways : S → Listed S} {s : S} {run : List ℕ} {states : List S} {run' : List ℕ} {states' : List S} {x : walk.Next} {r : Next} (m : Bool)
       → Seeks blank ways s run states run' states' x r → Seeks blank ways s run states run' states' (met_before m x) (met_after m r)
-  unfolding met_before met_after
+  unfolding met_before after
   met-after {x = x} m (none {m = n} p k) = let c : met_before m x ≡ lost (m || n) = rw p refl in none c k
   met-after {x = x} m (some {m = n} {h = h} q p a b k) = let c : met_before m x ≡ finds (m || n) h q = rw p refl in some q c a b k
 
@@ -265,9 +262,9 @@ module _ {S : Type 0} (blank : S) where
 
   found_at : (ways : S → Listed S) (s : S) (more from e n : ℕ) (met m h : Bool) (run : List ℕ) (states : List S) (run' : List ℕ) (states' : List S) (r : Next) → Count (ways s) n → e < n → sought ways s more from ≡ met_before met (sought ways s more e)
       → Seeks blank ways s run states run' states' (tried ways s more e) r → r ≡ Found m h → Seeks blank ways s run states run' states' (sought ways s more from) (Found (met || m) h)
-  found_at ways s more from e n met m h run states run' states' r c l i (none p k) z = let w : ◌≡◌ {A = ℕ} 0 1 = cc in absurd (omega arith)
+  found_at ways s more from e n met m h run states run' states' r c l i (none p k) z = absurd (found_or_not refl refl (sym z))
   found_at ways s more from e n met m h run states run' states' r c l i (some {m = m'} {h = h'} q p a b k) z =
-      let v : tried ways s more e ≡ finds m h q = cc in some q (loop-found ways s more from e n met m h q c l i v) a b k
+      let f = ap (λ (u : Next). u.refused) z in let g = ap (λ (u : Next). u.found) z in let v : tried ways s more e ≡ finds m h q = cc in some q (loop-found ways s more from e n met m h q c l i v) a b k
 
   pub from_found : (ways : S → Listed S) (s : S) (more from e n : ℕ) (met m h b : Bool) (run₀ : List ℕ) (states₀ : List S) (run : List ℕ) (states : List S) (run' : List ℕ) (states' : List S) (r : Next) → Kept blank s run₀ states₀ run states → Count (ways s) n → e < n
       → sought ways s more from ≡ met_before met (sought ways s more e) → Seeks blank ways (get_or states 0 blank) run states run' states' (tried ways (get_or states 0 blank) more e) r → r ≡ Found m h → b ≡ (met || m)

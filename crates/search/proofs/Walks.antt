@@ -11,29 +11,19 @@ use lib.Seq.{length-take-le}
 use types.Run.{OneOf}
 use denote.Enum.Declared.{tag_of}
 use Rattle.search.specs.contracts.Walked.{the_type}
+use Rattle.std.specs.Prelude.{Some}
 use Rattle.runs.specs.Tree.{Listed, Answer, found}
 use Rattle.runs.specs.Walk as walk
 use Rattle.runs.specs.Walk.{events, events_from, levels, later_same, later, trail, lost, finds, met_before, next_of, or_next, ending, search}
 use Rattle.runs.specs.Steps.{Place, begun, Carried, under, ended, onto, walked, turn, carry, states as states_of}
 use Rattle.runs.proofs.Carried.{Stands, on, over, left, total, stands-begun, stands-walked, stays}
 use Rattle.runs.proofs.Later.{met-finds, later-length, next-join, next-in, from-length, same_length}
-use Rattle.search.specs.declared.Next.{Next}
-use Rattle.search.specs.declared.Next.TheVariants as next
-use Rattle.search.specs.declared.Onward.{Onward}
-use Rattle.search.specs.declared.Onward.TheVariants.{End, To}
-use Rattle.search.specs.Seeks.{Room, sought, advanced, Kept, Seeks, none, some}
+use Rattle.search.specs.Seeks as next
+use Rattle.search.specs.Seeks.{Next, after, Room, sought, advanced, Kept, Seeks, none, some}
 use Rattle.search.specs.declared.Walked.{Walked}
 use Rattle.search.specs.declared.Walked.TheVariants.{Under, Found, Nothing, Unsure}
-use Rattle.search.specs.Walks.{longest, onwards, Comes, end, to, met_on, Ready, place_of, Reaches, going, finds-run, finds-none, is-unsure, Answered, a-run, no_run, not_known}
-use Rattle.search.proofs.Seeks.{seeks-kept, seeks-lost, pass-lost, pass-found, pass-over}
-
-pub on-end : (m b k : Bool) (x : Onward) → x ≡ End k → b ≡ (m || k) → End b ≡ met_on m x
-unfolding met_on
-on-end m b k x p q = rw (p, q) refl
-
-pub on-to : (m b k h : Bool) (n : ℕ) (x : Onward) → x ≡ To k h n → b ≡ (m || k) → To b h n ≡ met_on m x
-unfolding met_on
-on-to m b k h n x p q = rw (p, q) refl
+use Rattle.search.specs.Walks.{Onward, End, To, longest, onwards, Comes, end, to, met_on, Ready, place_of, Reaches, going, finds-run, finds-none, is-unsure, Answered, a-run, no_run, not_known}
+use Rattle.search.proofs.Seeks.{found_or_not, seeks-kept, seeks-lost, pass-lost, pass-found, pass-over}
 
 pub data Ends : Walked → Type 0 where
   by-found : {n : ℕ} → Ends (Found n)
@@ -79,8 +69,10 @@ module _ {S : Type 0} (blank : S) where
       → longest ways s d n ≡ met_before met (longest ways s d more) → Seeks blank ways s run states run' states' (sought ways s more 0) r → r ≡ next.Found m h
       → Comes blank ways s run₀ states₀ run' states' (longest ways s d n) (To (met || m) h (more + 1))
   unfolding sought
-  found-long ways s d n more met m h run₀ states₀ run states run' states' r k l i (none p j) z = let w : ◌≡◌ {A = ℕ} 0 1 = cc in absurd (omega arith)
+  found-long ways s d n more met m h run₀ states₀ run states run' states' r k l i (none p j) z = absurd (found_or_not refl refl (sym z))
   found-long ways s d n more met m h run₀ states₀ run states run' states' r k l i (some {m = m'} {h = h'} q p a b j) z =
+      let f = ap (λ (u : Next). u.refused) z in
+      let c = ap (λ (u : Next). u.found) z in
       let v : sought ways s more 0 ≡ finds m h q = cc in
       let o : length q ≡ more + 1 = from-length ways 0 more s h q (next-in (events_from ways 0 more s) m h q v) ∙ sym (add-one more) in
       to q (pass-found _ _ _ _ met m h q i (longest-step ways s d more l) v) o (rw (← o) a) (rw (← o) b) (kept-kept k j)
@@ -109,8 +101,10 @@ module _ {S : Type 0} (blank : S) where
   found-same : (ways : S → Listed S) (s : S) (d n : ℕ) (m h : Bool) (run : List ℕ) (states : List S) (run' : List ℕ) (states' : List S) (r : Next) → length (take n run) ≡ n → Seeks blank ways s run states run' states' (advanced ways s (take n run)) r
       → r ≡ next.Found m h → Comes blank ways s run states run' states' (onwards ways s d (take n run)) (To m h n)
   unfolding advanced or_next
-  found-same ways s d n m h run states run' states' r o (none p j) z = let w : ◌≡◌ {A = ℕ} 0 1 = cc in absurd (omega arith)
+  found-same ways s d n m h run states run' states' r o (none p j) z = absurd (found_or_not refl refl (sym z))
   found-same ways s d n m h run states run' states' r o (some {m = m'} {h = h'} q p a b j) z =
+      let f = ap (λ (u : Next). u.refused) z in
+      let c = ap (λ (u : Next). u.found) z in
       let v : advanced ways s (take n run) ≡ finds m h q = cc in
       let g : length q ≡ n = same_length ways s (take n run) h q (next-in (later_same ways s (take n run)) m h q v) ∙ o in
       let w : onwards ways s d (take n run) ≡ finds m h q = onwards-step ways s d (take n run) ∙ ap (λ (x : walk.Next). or_next x (longest ways s d (length (take n run)))) v in
@@ -123,7 +117,7 @@ module _ {S : Type 0} (blank : S) where
 
   met-comes : {ways : S → Listed S} {s : S} {run : List ℕ} {states : List S} {run' : List ℕ} {states' : List S} {x : walk.Next} {r : Onward} (m : Bool) (run₀ : List ℕ) (states₀ : List S) → Kept blank s run₀ states₀ run states
       → Comes blank ways s run states run' states' x r → Comes blank ways s run₀ states₀ run' states' (met_before m x) (met_on m r)
-  unfolding met_before met_on
+  unfolding met_before after
   met-comes {x = x} m run₀ states₀ k (end {m = n} p j) = let c : met_before m x ≡ lost (m || n) = rw p refl in end c (kept-kept k j)
   met-comes {x = x} m run₀ states₀ k (to {m = n} {h = h} q p o a b j) = let c : met_before m x ≡ finds (m || n) h q = rw p refl in to q c o a b (kept-kept k j)
 
@@ -185,10 +179,14 @@ module _ {S : Type 0} (blank : S) where
 
     by-to : (y : Onward) (m h : Bool) (k : ℕ) → Comes blank ways s run states run' states' (met_before m₀ (onwards ways s d (take n run))) y → y ≡ To m h k → Walks (Under m h k)
     unfolding onto onwards
-    by-to y m h k (end p j) e = let w : ◌≡◌ {A = ℕ} 0 1 = cc in absurd (omega arith)
+    by-to y m h k (end p j) e = absurd (found_or_not refl refl (sym e))
     by-to y m h k (to {m = m'} {h = h'} {n = k'} q p o a b j) e =
+        let f₀ : m' ≡ m = ap (λ (u : Onward). u.refused) e in
+        let f₁ : Some (h', k') ≡ Some (h, k) = ap (λ (u : Onward). u.found) e in
+        let f₂ : (h', k') ≡ (h, k) = cc in
+        let f₃ : h' ≡ h = ap (λ (u : Bool × ℕ). u.0) f₂ in
+        let i : k' ≡ k = ap (λ (u : Bool × ℕ). u.1) f₂ in
         let v : met_before m₀ (onwards ways s d (take n run)) ≡ finds m h q = cc in
-        let i : k' ≡ k = cc in
         let r : length q ≡ k = o ∙ i in
         let a' : take k run' ≡ q = ap (λ (u : ℕ). take u run') (sym i) ∙ a in
         let b' : take (suc k) states' ≡ trail ways s q = ap (λ (u : ℕ). take (suc u) states') (sym i) ∙ b in
@@ -201,8 +199,8 @@ module _ {S : Type 0} (blank : S) where
     by_end : (y : Onward) (m : Bool) → Comes blank ways s run states run' states' (met_before m₀ (onwards ways s d (take n run))) y → y ≡ End m
         → (walked ways s d c (place_of run n h₀ m₀) ≡ ended (suc c) (ending m)) × Kept blank s run states run' states'
     unfolding onto
-    by_end y m (end {m = m'} p j) e = let v : met_before m₀ (onwards ways s d (take n run)) ≡ lost m = cc in (walked_on ways s d c (place_of run n h₀ m₀) (lost m) z v, j)
-    by_end y m (to q p o a b j) e = let w : ◌≡◌ {A = ℕ} 0 1 = cc in absurd (omega arith)
+    by_end y m (end {m = m'} p j) e = let f = ap (λ (u : Onward). u.refused) e in let v : met_before m₀ (onwards ways s d (take n run)) ≡ lost m = cc in (walked_on ways s d c (place_of run n h₀ m₀) (lost m) z v, j)
+    by_end y m (to q p o a b j) e = absurd (found_or_not refl refl e)
 
     pub walk-to : (x y : Onward) (m h : Bool) (k : ℕ) → Comes blank ways s run states run' states' (onwards ways s d (take n run)) x → y ≡ met_on m₀ x → y ≡ To m h k → Walks (Under m h k)
     walk-to x y m h k f v e = by-to y m h k (comes-met x y f v) e

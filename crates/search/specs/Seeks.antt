@@ -1,16 +1,27 @@
 -- What the functions that go from run to run give, whatever a state is: runs stand in a table of entry numbers, the states along them in a table beside it (02, notes 8 to 10).
 -- Definitions only.
-use Rattle.std.specs.Prelude.{◌≡◌, List, Bool, ◌||◌, ℕ, suc, ◌≤◌, ◌<◌, length, get_or, take}
+use Rattle.std.specs.Prelude.{◌≡◌, List, Bool, ◌||◌, ℕ, suc, ◌≤◌, ◌<◌, length, get_or, take, None, Some}
 use Rattle.runs.specs.Tree.{Way, Listed, lists, way_in}
 use Rattle.runs.specs.Walk as walk
 use Rattle.runs.specs.Walk.{lost, finds, of_way, events, events_from, later_same, trail, next_of}
-use Rattle.search.specs.declared.Next.{Next}
-use Rattle.search.specs.declared.Next.TheVariants.{Lost, Found}
+use Rattle.search.specs.declared.Met.{Met}
+
+-- the next run: whether its last entry is the wait
+abbrev pub Next : Type 0
+Next = Met Bool
+
+abbrev pub Lost : Bool → Next
+Lost m = record { refused = m; found = None }
+
+abbrev pub Found : Bool → Bool → Next
+Found m h = record { refused = m; found = Some h }
 
 -- the same after a refusal or not
-unfoldable pub met_after : Bool → Next → Next
-met_after m (Lost k) = Lost (m || k)
-met_after m (Found k h) = Found (m || k) h
+unfoldable pub after : {T : Type 0} → Bool → Met T → Met T
+after m x = record x { refused = m || x.refused }
+
+abbrev pub met_after : Bool → Next → Next
+met_after m x = after m x
 
 module _ {S : Type 0} where
   -- a listing has n entries

@@ -1,20 +1,28 @@
 -- What walking a state gives, one after the other and in one call, whatever a state is (02, notes 8 to 10). Definitions only.
-use Rattle.std.specs.Prelude.{◌≡◌, List, Bool, ◌||◌, ℕ, suc, ◌-◌, ◌≤◌, length, take}
+use Rattle.std.specs.Prelude.{◌≡◌, List, Bool, ℕ, suc, ◌-◌, ◌≤◌, length, take, None, Some}
 use Rattle.runs.specs.Tree.{Listed, Answer, found, nothing, unsure}
 use Rattle.runs.specs.Walk as walk
 use Rattle.runs.specs.Walk.{lost, finds, levels, later, trail, next_of}
 use Rattle.runs.specs.Steps as steps
 use Rattle.runs.specs.Steps.{under, ended}
-use Rattle.search.specs.Seeks.{Room, Along, Kept}
-use Rattle.search.specs.declared.Onward.{Onward}
-use Rattle.search.specs.declared.Onward.TheVariants.{End, To}
+use Rattle.search.specs.declared.Met.{Met}
+use Rattle.search.specs.Seeks.{Room, Along, Kept, after}
 use Rattle.search.specs.declared.Walked.{Walked}
 use Rattle.search.specs.declared.Walked.TheVariants.{Under, Found, Nothing, Unsure}
 
+-- the next run of any length: whether its last entry is the wait, and its length
+abbrev pub Onward : Type 0
+Onward = Met (Bool × ℕ)
+
+abbrev pub End : Bool → Onward
+End m = record { refused = m; found = None }
+
+abbrev pub To : Bool → Bool → ℕ → Onward
+To m h n = record { refused = m; found = Some (h, n) }
+
 -- a refusal met before
-unfoldable pub met_on : Bool → Onward → Onward
-met_on m (End k) = End (m || k)
-met_on m (To k h n) = To (m || k) h n
+abbrev pub met_on : Bool → Onward → Onward
+met_on m x = after m x
 
 -- where a search stands
 abbrev pub place_of : List ℕ → ℕ → Bool → Bool → steps.Place

@@ -6,17 +6,17 @@ use mathlib.Core.Option.{none}
 use Prim.Native.Nat.{ℕ}
 use lib.IntN.{ℤ}
 use lib.ListN.{length, take, replicate}
+use Rattle.std.specs.Prelude.{Err, Ok}
+use Rattle.token.specs.Questions.{refusal}
 use Rattle.model.specs.Resolved
 use Rattle.model.specs.Held.{held}
 use Rattle.model.specs.Words.{word_of}
 use Rattle.model.proofs.Held.{held-good}
 use Rattle.tables.specs.Spelled.{Spells}
 use Rattle.settle.specs.declared.Model.{Model}
-use Rattle.opening.specs.declared.Held.{Held}
-use Rattle.opening.specs.declared.Held.TheVariants.{Refused as HeldRefused, Model as HeldModel}
 use Rattle.opening.specs.Trees.{Closed}
 use Rattle.opening.specs.Marked.{Marked, ModelMarked}
-use Rattle.opening.specs.Models.{ModelHeld, ModelRead}
+use Rattle.opening.specs.Models.{ModelHeld, ModelRead, Held}
 use Rattle.opening.proofs.Marked.{spells}
 use Rattle.machine.specs.State.{state_length}
 use Rattle.state.specs.Test.{is_state}
@@ -29,19 +29,19 @@ use Rattle.searching.specs.Lent.{Worded}
 -- ---- what was read
 
 module _ (text t roots scopes : List ℕ) where
-  pub none-held : {r : Held} {n p : ℕ} → ModelRead text t roots scopes r → r ≡ HeldRefused n p → held text ≡ none
+  pub none-held : {r : Held} {n p : ℕ} → ModelRead text t roots scopes r → r ≡ Err (refusal n p) → held text ≡ none
   unfolding ModelRead
   none-held {r} {n} {p} o e = let c : Closed text n p = rw e at o in c.holds
 
-  pub model-held : {r : Held} {x : Model} {p : ℕ} → ModelRead text t roots scopes r → r ≡ HeldModel x p → ModelHeld text t roots scopes x p
+  pub model-held : {r : Held} {x : Model} {p : ℕ} → ModelRead text t roots scopes r → r ≡ Ok (x, p) → ModelHeld text t roots scopes x p
   unfolding ModelRead
   model-held o e = rw e at o
 
-  marked-held : (places₀ sizes₀ places sizes : List ℕ) {r : Held} {x : Model} {p : ℕ} → ModelMarked text places₀ sizes₀ places sizes r → r ≡ HeldModel x p → Marked text places₀ sizes₀ places sizes
+  marked-held : (places₀ sizes₀ places sizes : List ℕ) {r : Held} {x : Model} {p : ℕ} → ModelMarked text places₀ sizes₀ places sizes r → r ≡ Ok (x, p) → Marked text places₀ sizes₀ places sizes
   unfolding ModelMarked
   marked-held places₀ sizes₀ places sizes o e = rw e at o
 
-  pub worded : (n : ℕ) (places sizes : List ℕ) {r : Held} {x : Model} {p : ℕ} → ModelMarked text (replicate n 0) (replicate n 0) places sizes r → r ≡ HeldModel x p → (o : ModelHeld text t roots scopes x p)
+  pub worded : (n : ℕ) (places sizes : List ℕ) {r : Held} {x : Model} {p : ℕ} → ModelMarked text (replicate n 0) (replicate n 0) places sizes r → r ≡ Ok (x, p) → (o : ModelHeld text t roots scopes x p)
       → Worded t roots scopes x.root x.variables x.sums x.channels text places sizes o.model
   worded n places sizes {r} {x} {p} d e o =
       let s : Spells (word_of text) text places sizes = spells n (marked-held (replicate n 0) (replicate n 0) places sizes d e) in

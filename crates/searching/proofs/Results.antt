@@ -76,7 +76,7 @@ run-result run n es l f e =
 
 -- ---- 26
 
-pub too-low : (d : ℕ) → d < 1 → false ≡ is_depth d
+pub too-low : (d : ℕ) → d < 1 → leb 1 d ≡ is_depth d
 unfolding is_depth
 too-low d l = rw (lt-leb 1 d l) refl
 

@@ -18,10 +18,10 @@ ghost use Rattle.buffers.specs.Effect.{requested};
 ghost use Rattle.searching.specs.Run.{entries_of, bare, GivesRun, result_of};
 ghost use Rattle.searching.specs.Lent.{Worded};
 
-use opening::Held;
 use search::Walked;
+use settle::Model;
 use syntax::question;
-use token::Limits;
+use token::{Limits, Refusal};
 
 // What a search answers: 0 or a refusal's number; the length of the run, 0 for none; its entry numbers, unused ones 0.
 #[repr(C)]
@@ -52,10 +52,7 @@ impl Found {
 fn is_depth(depth: u64) -> bool
     ensures { result ≡ is_depth depth }
 {
-    if depth < 1 {
-        return false;
-    }
-    depth <= 8
+    1 <= depth && depth <= 8
 }
 
 // The run in the first n numbers.
@@ -64,10 +61,8 @@ fn run_found(run: &[u16], n: usize) -> Found
     ensures { result ≡ result_of (tree.found (take n run.now)) }
 {
     let mut entries = [0u64; 8];
-    let mut i: usize = 0;
-    while i < n {
-        entries[i] = run[i] as u64;
-        i += 1;
+    for i in 0..n {
+        entries[i] = u64::from(run[i]);
     }
     Found {
         number: 0,
@@ -140,7 +135,7 @@ fn read_words(
     scopes: &mut [u16],
     places: &mut [u16],
     sizes: &mut [u16],
-) -> Held
+) -> Result<(Model, usize), Refusal>
     requires { (token_limit ≤ length nodes.old) × (token_limit ≤ length roots.old) × (token_limit ≤ length scopes.old) × (text_limit ≤ length places.old) × (text_limit ≤ length sizes.old) }
     ensures model_read { ModelRead text.now nodes.new roots.new scopes.new result }
     ensures model_marked { ModelMarked text.now places.old sizes.old places.new sizes.new result }
@@ -173,8 +168,8 @@ pub fn search_text(text: &[u8], state: &[i64], name: &[u8], depth: u64) -> Found
         &mut sizes,
     );
     match read {
-        Held::Refused(_, _) => Found::bare(11),
-        Held::Model(found, _) => {
+        Err(_) => Found::bare(11),
+        Ok((found, _)) => {
             search_tables(
                 &nodes,
                 &roots,

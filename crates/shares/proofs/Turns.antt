@@ -129,7 +129,3 @@ module _ {zs : List ℤ} {l : List ℕ} {count : ℕ} {m : Resolved.Model} {s : 
 
       pub sum_fits : get_or ns d 0 + get_or l (i * entry_width + 6) 0 ≤ total_limit
       sum_fits = rw (e, f) few
-
--- a report that was cleared
-pub cleared : (r : List ℕ) → length r ≡ report_length → take 0 r ++ replicate (length r - 0) 0 ≡ replicate report_length 0
-cleared r e = let z : length r - 0 ≡ report_length = omega arith in ap (λ (n : ℕ). replicate n 0) z

@@ -15,15 +15,12 @@ pub fn share(listing: &[u64], count: usize, state: &[i64], report: &mut [u64])
     requires { ((m : Resolved.Model) × (s : State) × (es : List rules.Entry) × Shared state.now listing.now count m s es) × (length report.old ≡ report_length) }
     ensures { (m : Resolved.Model) (s : State) (es : List rules.Entry) → Shared state.now listing.now count m s es → report.new ≡ report_of m s es }
 {
-    listing::clear_from(report, 0);
-    let mut i = 0;
-    while i < count {
+    report.fill(0);
+    for i in 0..count {
         let row = i * Limits::ENTRY;
         let place = listing[row + Limits::PLACE] as usize;
         let definition = state::definition_at(state, place);
         let weight = listing[row + Limits::WEIGHT];
-        let sum = report[definition] + weight;
-        report[definition] = sum;
-        i += 1;
+        report[definition] += weight;
     }
 }

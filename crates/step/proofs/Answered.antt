@@ -6,18 +6,18 @@ use Prim.Native.Nat.{ℕ}
 use lib.Dec.{leb}
 use lib.IntN.{ℤ}
 use lib.ListN.{length}
+use Rattle.std.specs.Prelude.{Err, Ok}
 use Rattle.model.specs.Resolved
 use Rattle.rules.specs.Rules.{Key}
 use Rattle.rules.specs.Listing.{Entry}
 use Rattle.machine.specs.State.{State, state_numbers}
 use Rattle.machine.specs.Machine.{listed_as, refusing, accepting, entry_arguments, entry_state, taken}
-use Rattle.step.specs.declared.Taken.{Taken}
-use Rattle.step.specs.declared.Taken.TheVariants.{Accepted, Refused}
-use Rattle.step.specs.Enter.{number_of, verdict, state_of, Answers}
+use Rattle.step.specs.declared.Refusal.TheVariants.{Arguments, Processes, Pairs}
+use Rattle.step.specs.Enter.{number_of, verdict, state_of, Answers, Taken}
 
 asked : (a b d : Bool) (s s' : State) (es : List Entry) (c : ℕ)
     → let t = cond a (cond b (cond d (accepting s' es c) (refusing s es 19)) (refusing s es 18)) (refusing s es 17) in
-    let r = cond a (cond b (cond d Accepted (Refused 19)) (Refused 18)) (Refused 17) in
+    let r = cond a (cond b (cond d (Ok tt) (Err Pairs)) (Err Processes)) (Err Arguments) in
     (t.answer.number ≡ number_of r) × (state_of r s s' ≡ t.machine)
 unfolding listed_as number_of state_of
 asked true true true s s' es c = (refl, refl)

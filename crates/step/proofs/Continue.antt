@@ -9,6 +9,7 @@ use lib.Dec.{ltb}
 use lib.IntN.{ℤ, nat_abs}
 use lib.ListN.{length, take}
 use lib.Seq.{sets}
+use Rattle.std.specs.Prelude.{Some, None}
 use Rattle.value.specs.Range.{InRange}
 use Rattle.model.specs.Resolved
 use Rattle.model.specs.Good.{Every, GoodPart}
@@ -25,43 +26,41 @@ use Rattle.state.proofs.Entries.{process-wide}
 use Rattle.state.proofs.Over.{good-fits}
 use Rattle.state.proofs.Read.{processes-below}
 use Rattle.state.proofs.Spliced.{splice-numbers}
-use Rattle.eval.specs.declared.next.Next.{Next}
-use Rattle.eval.specs.declared.next.Next.TheVariants.{At, Nothing}
 use Rattle.eval.specs.Held.{Held, Worth}
 use Rattle.eval.specs.Next as become
-use Rattle.eval.specs.Next.{ShowsNext, Continues, Continuation, Spaced, Rows, cut, most}
+use Rattle.eval.specs.Next.{Next, ShowsNext, Continues, Continuation, Spaced, Rows, cut, most}
 use Rattle.eval.proofs.Rows.{filled}
 use Rattle.step.specs.Enter.{Continued, Defined, Replaces, entering}
 use Rattle.step.proofs.Tables.{few, fits, passed, long, processes-are}
 
 module _ (t : List ℕ) where
-  shown-at : {ps : List Resolved.Part} {k : ℕ} → ShowsNext t ps (At k) → Settled.Parts t ps k
+  shown-at : {ps : List Resolved.Part} {k : ℕ} → ShowsNext t ps (Some k) → Settled.Parts t ps k
   shown-at (become.at h) = h
 
-  shown-nothing : {ps : List Resolved.Part} → ShowsNext t ps Nothing → ps ≡ []
+  shown-nothing : {ps : List Resolved.Part} → ShowsNext t ps None → ps ≡ []
   shown-nothing become.nothing = refl
 
   -- ---- 17
   module _ (ls : List ℤ) (r : Next) where
-    pub given-asks : (k : ℕ) → r ≡ At k → Continued t ls r → ((m : Resolved.Model) × Held (Settled.Parts t) (Every (GoodPart m (length ls))) k) × (Every InRange ls)
+    pub given-asks : (k : ℕ) → r ≡ Some k → Continued t ls r → ((m : Resolved.Model) × Held (Settled.Parts t) (Every (GoodPart m (length ls))) k) × (Every InRange ls)
     given-asks k e c = ((c.model, record { part = c.parts; at = shown-at (subst (ShowsNext t c.parts) e c.shows); fit = c.fit.parts }), c.fit.values)
 
-    pub given_is : (k : ℕ) → r ≡ At k → (b : Bool) → Worth (Settled.Parts t) (arguments_given ls) k b → (ps : List Resolved.Part) → ShowsNext t ps r → b ≡ arguments_given ls ps
+    pub given_is : (k : ℕ) → r ≡ Some k → (b : Bool) → Worth (Settled.Parts t) (arguments_given ls) k b → (ps : List Resolved.Part) → ShowsNext t ps r → b ≡ arguments_given ls ps
     given_is k e b f ps h = f ps (shown-at (subst (ShowsNext t ps) e h))
 
-    pub given-none : r ≡ Nothing → (ps : List Resolved.Part) → ShowsNext t ps r → true ≡ arguments_given ls ps
+    pub given-none : r ≡ None → (ps : List Resolved.Part) → ShowsNext t ps r → true ≡ arguments_given ls ps
     unfolding arguments_given
     given-none e ps h = sym (ap (arguments_given ls) (shown-nothing (subst (ShowsNext t ps) e h)))
 
   -- ---- how many
   module _ (root variables : ℕ) (r : Next) where
-    pub continues : {m : Resolved.Model} {ls : List ℤ} {ps : List Resolved.Part} (k : ℕ) → r ≡ At k → Defined t root variables m ls ps r → Continues t root variables (length ls) m ps k
+    pub continues : {m : Resolved.Model} {ls : List ℤ} {ps : List Resolved.Part} (k : ℕ) → r ≡ Some k → Defined t root variables m ls ps r → Continues t root variables (length ls) m ps k
     continues {ps = ps} k e d = record { good = d.good; defines = d.defines; at = shown-at (subst (ShowsNext t ps) e d.shows); fit = d.fit.parts }
 
-    pub continuation : {m : Resolved.Model} {ls : List ℤ} {ps : List Resolved.Part} (k : ℕ) → r ≡ At k → Defined t root variables m ls ps r → Continuation t root variables k
+    pub continuation : {m : Resolved.Model} {ls : List ℤ} {ps : List Resolved.Part} (k : ℕ) → r ≡ Some k → Defined t root variables m ls ps r → Continuation t root variables k
     continuation {m} {ls} {ps} k e d = record { locals = length ls; model = m; parts = ps; holds = continues k e d }
 
-    pub none-next : {m : Resolved.Model} {ls : List ℤ} {ps : List Resolved.Part} → r ≡ Nothing → Defined t root variables m ls ps r → next_processes m ls ps ≡ []
+    pub none-next : {m : Resolved.Model} {ls : List ℤ} {ps : List Resolved.Part} → r ≡ None → Defined t root variables m ls ps r → next_processes m ls ps ≡ []
     unfolding next_processes
     none-next {m} {ls} {ps} e d = ap (next_processes m ls) (shown-nothing (subst (ShowsNext t ps) e d.shows))
 
@@ -102,7 +101,7 @@ module _ {t scopes : List ℕ} {root variables : ℕ} {zs : List ℤ} {i : ℕ} 
   pub rows-wide : length (flatten process_numbers (next_processes m ls ps)) ≡ length (next_processes m ls ps) * process_width
   rows-wide = flatten-length process_numbers process_width (FitsProcess (scopes_of m)) (process-wide (scopes_of m) (few h.stands)) (next_processes m ls ps) next_fits
 
-  pub spaced : (k size : ℕ) → r ≡ At k → size ≡ process_room → Spaced t scopes root variables ls k size 0
+  pub spaced : (k size : ℕ) → r ≡ Some k → size ≡ process_room → Spaced t scopes root variables ls k size 0
   spaced k size e l = record { model = m; scoped = h.scoped; parts = ps; holds = continues t root variables r k e h.defined; fits = omega (arith, h.inside, h.room) }
 
   -- what splice asks

@@ -14,8 +14,7 @@ use Rattle.machine.specs.Offer.{Process, arguments_given}
 use Rattle.machine.specs.State.{State}
 use Rattle.step.specs.declared.Bound.{Bound}
 use Rattle.step.specs.declared.Entered.{Entered}
-use Rattle.step.specs.declared.Taken.{Taken}
-use Rattle.step.specs.Enter.{Acts, Enters, values_of, locals_of, Fit, Alone, AloneEntry, Answers, entering, changed, both_entering, Meets, Side, sent, received, HandEntry}
+use Rattle.step.specs.Enter.{Acts, Enters, values_of, locals_of, Fit, Alone, AloneEntry, Answers, entering, changed, both_entering, Meets, Side, sent, received, HandEntry, Taken}
 use Rattle.step.proofs.Offers.{shows-change}
 use Rattle.step.proofs.Tables.{scoped_of}
 

@@ -30,8 +30,7 @@ use Rattle.machine.proofs.Parts.{comes}
 use Rattle.machine.proofs.Ranges.{GoodOffer, action-good}
 use Rattle.machine.proofs.Bound.{names-bound, label-action, BoundGood, alone-bound, accepted-bound}
 use Rattle.machine.proofs.Continues.{at-good}
-use Rattle.step.specs.Enter.{Lent, Fit, GoodNew, locals_of, changed, entering, AloneEntry, both_entering, Side, sent, received, HandEntry, Answers}
-use Rattle.step.specs.declared.Taken.{Taken}
+use Rattle.step.specs.Enter.{Lent, Fit, GoodNew, locals_of, changed, entering, AloneEntry, both_entering, Side, sent, received, HandEntry, Answers, Taken}
 
 offered-change : {lit : List offers.Pair} {g : offers.Guard} {a : offers.Action} {r q : ℕ} {n : Change} {vs : List ℤ} → Offered lit g (label a r q n vs) → on_action unchanged change_of g ≡ change_of a
 unfolding on_action

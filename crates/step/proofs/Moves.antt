@@ -8,6 +8,7 @@ use borrow.Author.Tests.{le-leb, lt-leb, leb-true, ltb-true}
 use lib.Dec.{leb, ltb}
 use lib.IntN.{ℤ}
 use lib.ListN.{length}
+use Rattle.std.specs.Prelude.{Err, Ok}
 use Rattle.model.specs.Resolved
 use Rattle.rules.specs.Rules.{Change}
 use Rattle.rules.specs.Pairs.{pairs_after}
@@ -17,12 +18,10 @@ use Rattle.machine.specs.Offer.{Process, arguments_given, next_processes}
 use Rattle.machine.specs.State.{State, GoodProcess, state_numbers}
 use Rattle.machine.proofs.Everys.{every-replace}
 use Rattle.machine.proofs.Continues.{next-good}
-use Rattle.eval.specs.declared.next.Next.{Next}
 use Rattle.eval.specs.declared.offer.Offer.{Offer}
-use Rattle.eval.specs.Next.{cut, most}
-use Rattle.step.specs.declared.Taken.{Taken}
-use Rattle.step.specs.declared.Taken.TheVariants.{Accepted, Refused}
-use Rattle.step.specs.Enter.{Stands, Continued, Replaces, entering, Changes, changed, verdict, state_of, Answers, Alone, Both, both_entering, Meets}
+use Rattle.eval.specs.Next.{Next, cut, most}
+use Rattle.step.specs.declared.Refusal.TheVariants.{Arguments, Processes, Pairs}
+use Rattle.step.specs.Enter.{Stands, Continued, Replaces, entering, Changes, changed, verdict, state_of, Answers, Alone, Both, both_entering, Meets, Taken}
 
 pub not-true : (b : Bool) → not b ≡ true → b ≡ false
 not-true true e = let z : ◌≡◌ {A = ℕ} 0 1 = cc in absurd (omega arith)
@@ -100,23 +99,23 @@ module _ {t scopes : List ℕ} {root variables : ℕ} {zs : List ℤ} {i : ℕ} 
   after-length : length (replace i (next_processes m ls ps) s.processes) + 1 ≡ length s.processes + length (next_processes m ls ps)
   after-length = replace-length i (next_processes m ls ps) s.processes h.inside
 
-  pub no-17 : arguments_given ls ps ≡ false → Gives (Refused 17) zs
+  pub no-17 : arguments_given ls ps ≡ false → Gives (Err Arguments) zs
   unfolding verdict state_of
   no-17 e = record { is = rw e refl; numbers = h.stands.numbers }
 
-  pub no-18 : arguments_given ls ps ≡ true → 257 < length s.processes + length (next_processes m ls ps) → Gives (Refused 18) zs
+  pub no-18 : arguments_given ls ps ≡ true → 257 < length s.processes + length (next_processes m ls ps) → Gives (Err Processes) zs
   unfolding verdict state_of changed entering
   no-18 e l = record { is = rw (e, lt-leb (length (replace i (next_processes m ls ps) s.processes)) 256 (omega (arith, after-length, l))) refl; numbers = h.stands.numbers }
 
   few : length s.processes + length (next_processes m ls ps) ≤ 257 → leb (length (replace i (next_processes m ls ps) s.processes)) 256 ≡ true
   few l = le-leb (length (replace i (next_processes m ls ps) s.processes)) 256 (omega (arith, after-length, l))
 
-  pub no-19 : arguments_given ls ps ≡ true → length s.processes + length (next_processes m ls ps) ≤ 257 → leb (length (pairs_after n s.pairs)) 256 ≡ false → Gives (Refused 19) zs
+  pub no-19 : arguments_given ls ps ≡ true → length s.processes + length (next_processes m ls ps) ≤ 257 → leb (length (pairs_after n s.pairs)) 256 ≡ false → Gives (Err Pairs) zs
   unfolding verdict state_of changed entering
   no-19 e l f = record { is = rw (e, few l, f) refl; numbers = h.stands.numbers }
 
   pub yes : arguments_given ls ps ≡ true → length s.processes + length (next_processes m ls ps) ≤ 257 → leb (length (pairs_after n s.pairs)) 256 ≡ true
-      → (zs' : List ℤ) → zs' ≡ state_numbers (changed (entering m s i ls ps) n) → Gives Accepted zs'
+      → (zs' : List ℤ) → zs' ≡ state_numbers (changed (entering m s i ls ps) n) → Gives (Ok tt) zs'
   unfolding verdict state_of changed entering
   yes e l f zs' q = record { is = rw (e, few l, f) refl; numbers = q }
 
@@ -176,18 +175,18 @@ module _ {t scopes : List ℕ} {root variables : ℕ} {zs : List ℤ} {i : ℕ} 
   abbrev Comes : Taken → List ℤ → Type 0
   Comes r zs' = Answers (arguments_given ls ps && arguments_given us qs) s (both_entering m s i ls ps k us qs) r zs'
 
-  pub first-17 : arguments_given ls ps ≡ false → Comes (Refused 17) zs
+  pub first-17 : arguments_given ls ps ≡ false → Comes (Err Arguments) zs
   unfolding verdict state_of
   first-17 e = record { is = rw e refl; numbers = h.stands.numbers }
 
-  pub second-17 : arguments_given ls ps ≡ true → arguments_given us qs ≡ false → Comes (Refused 17) zs
+  pub second-17 : arguments_given ls ps ≡ true → arguments_given us qs ≡ false → Comes (Err Arguments) zs
   unfolding verdict state_of
   second-17 e f = record { is = rw (e, f) refl; numbers = h.stands.numbers }
 
   both-length : length (replace_both i (next_processes m ls ps) k (next_processes m us qs) s.processes) + 2 ≡ length s.processes + length (next_processes m ls ps) + length (next_processes m us qs)
   both-length = replace_both-length i (next_processes m ls ps) k (next_processes m us qs) s.processes h.apart h.first-inside h.second-inside
 
-  pub both-18 : arguments_given ls ps ≡ true → arguments_given us qs ≡ true → 258 < length s.processes + length (next_processes m ls ps) + length (next_processes m us qs) → Comes (Refused 18) zs
+  pub both-18 : arguments_given ls ps ≡ true → arguments_given us qs ≡ true → 258 < length s.processes + length (next_processes m ls ps) + length (next_processes m us qs) → Comes (Err Processes) zs
   unfolding verdict state_of both_entering
   both-18 e f l = record {
     is = rw (e, f, lt-leb (length (replace_both i (next_processes m ls ps) k (next_processes m us qs) s.processes)) 256 (omega (arith, both-length, l))) refl;
@@ -195,7 +194,7 @@ module _ {t scopes : List ℕ} {root variables : ℕ} {zs : List ℤ} {i : ℕ} 
   }
 
   pub both_yes : arguments_given ls ps ≡ true → arguments_given us qs ≡ true → length s.processes + length (next_processes m ls ps) + length (next_processes m us qs) ≤ 258
-      → (zs' : List ℤ) → zs' ≡ state_numbers (both_entering m s i ls ps k us qs) → Comes Accepted zs'
+      → (zs' : List ℤ) → zs' ≡ state_numbers (both_entering m s i ls ps k us qs) → Comes (Ok tt) zs'
   unfolding verdict state_of both_entering
   both_yes e f l zs' q = record {
     is = rw (e, f, le-leb (length (replace_both i (next_processes m ls ps) k (next_processes m us qs) s.processes)) 256 (omega (arith, both-length, l)), le-leb (length s.pairs) 256 h.stands.state.few-pairs) refl;

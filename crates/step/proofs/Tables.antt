@@ -32,9 +32,8 @@ use Rattle.state.proofs.Over.{good-fits, few-scopes}
 use Rattle.state.proofs.Read.{good-passed, count-numbers, sum-numbers, locals-numbers, row-numbers}
 use Rattle.eval.specs.Held.{Held}
 use Rattle.machine.specs.Evaluate.{eval_branch}
-use Rattle.eval.specs.declared.next.Next.{Next}
 use Rattle.eval.specs.declared.offer.Offer.{Offer}
-use Rattle.eval.specs.Next.{ShowsNext, Scoped}
+use Rattle.eval.specs.Next.{Next, ShowsNext, Scoped}
 use Rattle.eval.specs.Shown.{ShowsOffer}
 use Rattle.step.specs.declared.Bound.{Bound}
 use Rattle.step.specs.Enter.{Stands, Lent, Acts, Chain, Enters, values_of, locals_of}

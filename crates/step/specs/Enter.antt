@@ -1,5 +1,5 @@
 -- What the step is lent, and what a process that acts enters (01, Step). Assumes nothing: these are definitions.
-use Rattle.std.specs.Prelude.{◌≡◌, List, [], ◌∷◌, ◌++◌, Bool, cond, ℕ, ◌+◌, ◌≤◌, ◌<◌, leb, ℤ, length, take}
+use Rattle.std.specs.Prelude.{◌≡◌, List, [], ◌∷◌, ◌++◌, Bool, cond, ℕ, ◌+◌, ◌≤◌, ◌<◌, leb, ℤ, length, take, Err, Ok, Result}
 use Rattle.std.proofs.Math.Option.{some}
 use Rattle.value.specs.Range.{InRange}
 use Rattle.tree.specs.Node as node
@@ -16,14 +16,13 @@ use Rattle.machine.specs.Evaluate.{eval_branch}
 use Rattle.machine.specs.Offer.{Process, next_processes}
 use Rattle.machine.specs.State.{State, GoodPair, GoodState, state_numbers, pair_limit, process_room}
 use Rattle.machine.specs.Questions.{BranchAt}
-use Rattle.eval.specs.declared.next.Next.{Next}
 use Rattle.eval.specs.declared.offer.Offer.{Offer}
-use Rattle.eval.specs.Next.{Defines, ShowsNext, Scoped}
+use Rattle.eval.specs.Next.{Next, Defines, ShowsNext, Scoped}
 use Rattle.eval.specs.Shown.{ShowsPair, ShowsOffer}
+use Rattle.step.specs.declared.Refusal.{Refusal}
+use Rattle.step.specs.declared.Refusal.TheVariants.{Arguments, Processes, Pairs}
 use Rattle.step.specs.declared.Bound.{Bound}
 use Rattle.step.specs.declared.Entered.{Entered}
-use Rattle.step.specs.declared.Taken.{Taken}
-use Rattle.step.specs.declared.Taken.TheVariants.{Accepted, Refused}
 
 -- 01, State: zs are the numbers of a state over a model
 pub record Stands (zs : List ℤ) (m : Resolved.Model) (s : State) : Type 0 where
@@ -159,19 +158,29 @@ pub record Changing (zs : List ℤ) (r : Offer) : Type 0 where
 
 -- ---- answers
 
+-- 17 to 19
+abbrev pub refusal_number : Refusal → ℕ
+refusal_number Arguments = 17
+refusal_number Processes = 18
+refusal_number Pairs = 19
+
+-- a step is taken, or refused
+abbrev pub Taken : Type 0
+Taken = Result (Unit {0}) Refusal
+
 -- 01, Listing and stepping, 17 to 19: of the arguments, and of the state that an entry leads to
 unfoldable pub verdict : Bool → State → Taken
-verdict given s = cond given (cond (leb (length s.processes) process_limit) (cond (leb (length s.pairs) pair_limit) Accepted (Refused 19)) (Refused 18)) (Refused 17)
+verdict given s = cond given (cond (leb (length s.processes) process_limit) (cond (leb (length s.pairs) pair_limit) (Ok tt) (Err Pairs)) (Err Processes)) (Err Arguments)
 
 -- 01, Listing and stepping: the number of an answer
 unfoldable pub number_of : Taken → ℕ
-number_of Accepted = 0
-number_of (Refused n) = n
+number_of (Ok u) = 0
+number_of (Err r) = refusal_number r
 
 -- 01, Listing and stepping: a refusal leaves the state as it is
 unfoldable pub state_of : Taken → State → State → State
-state_of Accepted s s' = s'
-state_of (Refused n) s s' = s
+state_of (Ok u) s s' = s'
+state_of (Err n) s s' = s
 
 -- r is the answer for an entry that leads from s to s', and zs are the numbers afterwards
 pub record Answers (given : Bool) (s s' : State) (r : Taken) (zs : List ℤ) : Type 0 where

@@ -22,28 +22,29 @@ ghost use Rattle.eval.specs.Next.{ShowsNext};
 ghost use Rattle.eval.specs.Shown.{ShowsPair, ShowsOffer};
 ghost use Rattle.step.specs.Enter as Enter;
 
-use eval::next::Next;
 use eval::offer::Offer;
+use machine::EntryKind;
 use state::Layout;
 use tree::NodeKind;
 
-// What a chosen entry comes to: 17, 18 or 19, or the state has moved.
+// Why a step is refused: an argument without value, too many processes, too many pairs.
 #[derive(Clone, Copy)]
-pub enum Taken {
-    Accepted,
-    Refused(u8),
+pub enum Refusal {
+    Arguments,
+    Processes,
+    Pairs,
 }
 
-#[derive(Clone, Copy)]
-pub struct Refusal;
-
 impl Refusal {
-    // an argument without value, too many processes, too many pairs
-    pub const ARGUMENT: u8 = 17;
-
-    pub const PROCESSES: u8 = 18;
-
-    pub const PAIRS: u8 = 19;
+    pub fn number(self) -> u64
+        ensures { result ≡ Enter.refusal_number self }
+    {
+        match self {
+            Refusal::Arguments => 17,
+            Refusal::Processes => 18,
+            Refusal::Pairs => 19,
+        }
+    }
 }
 
 // None, one or two values that names take.
@@ -58,7 +59,7 @@ pub struct Bound {
 #[derive(Clone, Copy)]
 pub struct Entered {
     pub count: usize,
-    pub next: Next,
+    pub next: Option<usize>,
     pub offer: Offer,
 }
 
@@ -82,11 +83,7 @@ fn put_first(from: &[i64], to: &mut [i64])
     requires { length from.now ≤ length to.old }
     ensures { to.new ≡ from.now ++ drop (length from.now) to.old }
 {
-    let mut i = 0;
-    while i < from.len() {
-        to[i] = from[i];
-        i += 1;
-    }
+    to[..from.len()].copy_from_slice(from);
 }
 
 #[derive(Clone, Copy)]
@@ -148,13 +145,10 @@ fn bound_by(kind: u8, values: Bound) -> Bound
     requires { values.count ≤ 2 }
     ensures { (((kind ≡ node.bind) ⊎ (kind ≡ node.hand_bind)) → Enter.values_of result ≡ Enter.values_of values) × ((kind ≡ node.bind → ⊥) → (kind ≡ node.hand_bind → ⊥) → Enter.values_of result ≡ []) × (result.count ≤ 2) }
 {
-    if kind == NodeKind::BIND {
-        return values;
+    match kind {
+        NodeKind::BIND | NodeKind::HAND_BIND => values,
+        _ => none_bound(),
     }
-    if kind == NodeKind::HAND_BIND {
-        return values;
-    }
-    none_bound()
 }
 
 // Writes a process's locals and the bound values after them; how many there are.
@@ -170,12 +164,6 @@ fn put_locals(own: &[i64], bound: Bound, locals: &mut [i64]) -> usize
     locals[n] = first;
     locals[next] = second;
     n + bound.count
-}
-
-fn wide_root(x: u16) -> usize
-    ensures { result ≡ x }
-{
-    x as usize
 }
 
 // Where a process's branch is found: the root of the branch, and how many locals the process has.
@@ -198,7 +186,7 @@ fn find_branch(
     ensures { ((m : Resolved.Model) (s : State) (p : Process) (b : Resolved.Branch) (g : Guard) → Enter.Acts nodes.now roots.now scopes.now state.now i j m s p b g → (result.own ≡ length p.locals) × Settled.Branch nodes.now b result.root) × (result.own ≤ local_limit) }
 {
     let sum = state::sum_at(state, i);
-    let first = wide_root(roots[sum]);
+    let first = usize::from(roots[sum]);
     let own = state::locals_in(scopes[sum]);
     let root = branch_root(nodes, first, j);
     Found {
@@ -266,24 +254,24 @@ fn enter(
 }
 
 // 17: whether all arguments of a continuation have values.
-fn arguments_given(nodes: &[u64], locals: &[i64], next: Next) -> bool
+fn arguments_given(nodes: &[u64], locals: &[i64], next: Option<usize>) -> bool
     requires { Enter.Continued nodes.now locals.now next }
     ensures { (ps : List Resolved.Part) → ShowsNext nodes.now ps next → result ≡ arguments_given locals.now ps }
 {
     match next {
-        Next::At(k) => eval::next::arguments_given(nodes, locals, k),
-        Next::Nothing => true,
+        Some(k) => eval::next::arguments_given(nodes, locals, k),
+        None => true,
     }
 }
 
 // How many processes a continuation becomes, up to MOST.
-fn count_next(nodes: &[u64], root: usize, variables: usize, next: Next) -> usize
+fn count_next(nodes: &[u64], root: usize, variables: usize, next: Option<usize>) -> usize
     requires { (m : Resolved.Model) × (ls : List ℤ) × (ps : List Resolved.Part) × Enter.Defined nodes.now root variables m ls ps next }
     ensures { ((m : Resolved.Model) (ls : List ℤ) (ps : List Resolved.Part) → Enter.Defined nodes.now root variables m ls ps next → result ≡ Become.cut (length (next_processes m ls ps))) × (result ≤ Become.most) }
 {
     match next {
-        Next::At(k) => eval::next::count_processes(nodes, root, variables, k),
-        Next::Nothing => 0,
+        Some(k) => eval::next::count_processes(nodes, root, variables, k),
+        None => 0,
     }
 }
 
@@ -296,18 +284,18 @@ fn replace_process(
     fresh: &mut [i64],
     i: usize,
     locals: &[i64],
-    next: Next,
+    next: Option<usize>,
     scopes: &[u16],
 )
     requires { ((m : Resolved.Model) × (s : State) × (ps : List Resolved.Part) × Enter.Replaces nodes.now scopes.now root variables state.old i locals.now next m s ps) × (length fresh.old ≡ Enter.fresh_length) }
     ensures { (m : Resolved.Model) (s : State) (ps : List Resolved.Part) → Enter.Replaces nodes.now scopes.now root variables state.old i locals.now next m s ps → state.new ≡ state_numbers (Enter.entering m s i locals.now ps) }
 {
     match next {
-        Next::At(k) => {
+        Some(k) => {
             let n = eval::next::put_processes(nodes, root, variables, locals, k, fresh, 0, scopes);
             state::splice(state, i, &fresh[..], n);
         }
-        Next::Nothing => {
+        None => {
             state::splice(state, i, &fresh[..], 0);
         }
     }
@@ -379,29 +367,29 @@ fn move_alone(
     fresh: &mut [i64],
     i: usize,
     locals: &[i64],
-    next: Next,
+    next: Option<usize>,
     offer: Offer,
     scopes: &[u16],
-) -> Taken
+) -> Result<(), Refusal>
     requires { ((m : Resolved.Model) × (s : State) × (ps : List Resolved.Part) × (n : Change) × Enter.Alone nodes.now scopes.now root variables state.old i locals.now next offer m s ps n) × (length fresh.old ≡ Enter.fresh_length) }
     ensures { (m : Resolved.Model) (s : State) (ps : List Resolved.Part) (n : Change) → Enter.Alone nodes.now scopes.now root variables state.old i locals.now next offer m s ps n → Enter.Answers (arguments_given locals.now ps) s (Enter.changed (Enter.entering m s i locals.now ps) n) result state.new }
 {
     if !arguments_given(nodes, locals, next) {
-        return Taken::Refused(Refusal::ARGUMENT);
+        return Err(Refusal::Arguments);
     }
     let n = state::process_count(&state[..]);
     let count = count_next(nodes, root, variables, next);
     if Room::PROCESSES + 1 < n + count {
-        return Taken::Refused(Refusal::PROCESSES);
+        return Err(Refusal::Processes);
     }
     if is_overfull(&state[..], offer) {
-        return Taken::Refused(Refusal::PAIRS);
+        return Err(Refusal::Pairs);
     }
     replace_process(
         nodes, root, variables, state, fresh, i, locals, next, scopes,
     );
     change_pairs(state, offer);
-    Taken::Accepted
+    Ok(())
 }
 
 // Two processes become what they enter, the one at i before the one at k. Where the first becomes nothing it goes first, so that no place is wanted for a moment.
@@ -413,10 +401,10 @@ fn replace_both(
     fresh: &mut [i64],
     i: usize,
     locals: &[i64],
-    next: Next,
+    next: Option<usize>,
     k: usize,
     others: &[i64],
-    other: Next,
+    other: Option<usize>,
     scopes: &[u16],
 )
     requires { ((m : Resolved.Model) × (s : State) × (ps : List Resolved.Part) × (qs : List Resolved.Part) × Enter.Both nodes.now scopes.now root variables state.old i locals.now next k others.now other m s ps qs) × (length fresh.old ≡ Enter.fresh_length) }
@@ -456,37 +444,37 @@ fn move_both(
     fresh: &mut [i64],
     i: usize,
     locals: &[i64],
-    next: Next,
+    next: Option<usize>,
     k: usize,
     others: &[i64],
-    other: Next,
+    other: Option<usize>,
     scopes: &[u16],
-) -> Taken
+) -> Result<(), Refusal>
     requires { ((m : Resolved.Model) × (s : State) × (ps : List Resolved.Part) × (qs : List Resolved.Part) × Enter.Meets nodes.now scopes.now root variables state.old i locals.now next k others.now other m s ps qs) × (length fresh.old ≡ Enter.fresh_length) }
     ensures { (m : Resolved.Model) (s : State) (ps qs : List Resolved.Part) → Enter.Meets nodes.now scopes.now root variables state.old i locals.now next k others.now other m s ps qs → Enter.Answers (arguments_given locals.now ps && arguments_given others.now qs) s (Enter.both_entering m s i locals.now ps k others.now qs) result state.new }
 {
     if !arguments_given(nodes, locals, next) {
-        return Taken::Refused(Refusal::ARGUMENT);
+        return Err(Refusal::Arguments);
     }
     if !arguments_given(nodes, others, other) {
-        return Taken::Refused(Refusal::ARGUMENT);
+        return Err(Refusal::Arguments);
     }
     let n = state::process_count(&state[..]);
     let count = count_next(nodes, root, variables, next);
     let also = count_next(nodes, root, variables, other);
     if Room::PROCESSES + 2 < n + count + also {
-        return Taken::Refused(Refusal::PROCESSES);
+        return Err(Refusal::Processes);
     }
     if i < k {
         replace_both(
             nodes, root, variables, state, fresh, i, locals, next, k, others, other, scopes,
         );
-        return Taken::Accepted;
+        return Ok(());
     }
     replace_both(
         nodes, root, variables, state, fresh, k, others, other, i, locals, next, scopes,
     );
-    Taken::Accepted
+    Ok(())
 }
 
 // An entry of one process: names take the values of the pair.
@@ -501,7 +489,7 @@ fn take_alone(
     place: usize,
     branch: usize,
     pair: usize,
-) -> Taken
+) -> Result<(), Refusal>
     requires { ((m : Resolved.Model) × (s : State) × (p : Process) × (b : Resolved.Branch) × (g : Guard) × Enter.AloneEntry nodes.now roots.now scopes.now root variables state.old place branch pair m s p b g) × (length fresh.old ≡ Enter.fresh_length) }
     ensures { (m : Resolved.Model) (s : State) (p : Process) (b : Resolved.Branch) (g : Guard) → Enter.AloneEntry nodes.now roots.now scopes.now root variables state.old place branch pair m s p b g → Enter.Answers (arguments_given (Enter.locals_of p (values_at s.pairs pair) g) b.next) s (Enter.changed (Enter.entering m s place (Enter.locals_of p (values_at s.pairs pair) g) b.next) (on_action unchanged change_of g)) result state.new }
 {
@@ -547,7 +535,7 @@ fn take_handshake(
     branch: usize,
     partner: usize,
     partner_branch: usize,
-) -> Taken
+) -> Result<(), Refusal>
     requires { ((m : Resolved.Model) × (s : State) × (x : Enter.Side) × (y : Enter.Side) × Enter.HandEntry nodes.now roots.now scopes.now root variables state.old place branch partner partner_branch m s x y) × (length fresh.old ≡ Enter.fresh_length) }
     ensures { (m : Resolved.Model) (s : State) (x y : Enter.Side) → Enter.HandEntry nodes.now roots.now scopes.now root variables state.old place branch partner partner_branch m s x y → Enter.Answers (arguments_given (Enter.sent x) x.branch.next && arguments_given (Enter.received x y) y.branch.next) s (Enter.both_entering m s place (Enter.sent x) x.branch.next partner (Enter.received x y) y.branch.next) result state.new }
 {
@@ -594,14 +582,6 @@ fn take_handshake(
     )
 }
 
-#[derive(Clone, Copy)]
-pub struct EntryKind;
-
-impl EntryKind {
-    // The entries of two processes.
-    pub const HANDSHAKE: u64 = 7;
-}
-
 // Takes a listed entry: the state moves, or 17, 18 or 19 leaves it as it is.
 pub fn take_entry(
     nodes: &[u64],
@@ -617,7 +597,7 @@ pub fn take_entry(
     partner: usize,
     partner_branch: usize,
     pair: usize,
-) -> Taken
+) -> Result<(), Refusal>
     requires { ((m : Resolved.Model) × (s : State) × (w : ℕ) × Enter.Lent nodes.now roots.now scopes.now root variables state.old m s × In (entry (key kind place branch partner partner_branch pair) w) (entries (branches m) s)) × (length fresh.old ≡ Enter.fresh_length) }
     ensures { (m : Resolved.Model) (s : State) (w : ℕ) → Enter.Lent nodes.now roots.now scopes.now root variables state.old m s → In (entry (key kind place branch partner partner_branch pair) w) (entries (branches m) s) → Enter.Answers (entry_arguments m s (key kind place branch partner partner_branch pair)) s (entry_state m s (key kind place branch partner partner_branch pair)) result state.new }
 {

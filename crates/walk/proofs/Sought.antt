@@ -3,14 +3,13 @@ use mathlib.Core.Path.{◌≡◌, refl, sym, ap, ◌∙◌}
 use mathlib.Core.List.{List, [], ◌∷◌}
 use mathlib.Core.Bool.{Bool, true, false, ◌&&◌}
 use mathlib.Core.Option.{Option, none, some, Option-elim}
-use Prim.Native.Nat.{ℕ, suc, ◌+◌, ◌-◌, ◌≤◌, ◌<◌}
+use Prim.Native.Nat.{ℕ, ◌+◌, ◌-◌}
 use native.Mathlib.Omega.{arith}
-use native.Mathlib.Numerals.{add-one}
 use borrow.Author.Tests.{eq-eqb, ne_eqb}
 use lib.Dec.{eqb}
 use lib.IntN.{ℤ}
-use lib.ListN.{length, get_or, drop, drop_of_length-le}
-use lib.Seq.{drop-cons}
+use lib.ListN.{get_or}
+use lib.Pointwise.{pointwise}
 use borrow.Rule.Slice.PartMut.{mid_of}
 use Rattle.token.specs.Token.{same_bytes}
 use Rattle.model.specs.Resolved
@@ -31,31 +30,12 @@ use Rattle.walk.specs.Held.{Seen}
 
 -- ---- bytes
 
-pub differ-long : (a b : List ℕ) → (length a ≡ length b → ⊥) → same_bytes a b ≡ false
-unfolding same_bytes
-differ-long [] [] n = absurd (n refl)
-differ-long [] (y ∷ b) n = refl
-differ-long (x ∷ a) [] n = refl
-differ-long (x ∷ a) (y ∷ b) n = rw (differ-long a b (λ e. n (ap suc e))) (and-false (eqb x y))
-  where
-    and-false : (c : Bool) → (c && false) ≡ false
-    and-false true = refl
-    and-false false = refl
-
-module _ (a b : List ℕ) (same : length a ≡ length b) (i : ℕ) (l : i < length a) where
-  step_of : same_bytes (drop i a) (drop i b) ≡ (eqb (get_or a i 0) (get_or b i 0) && same_bytes (drop (suc i) a) (drop (suc i) b))
-  unfolding same_bytes
-  step_of = let k : i < length b = omega arith in rw (drop-cons a i 0 l, drop-cons b i 0 k) refl
-
-  pub bytes-differ : same_bytes a b ≡ same_bytes (drop i a) (drop i b) → (get_or a i 0 ≡ get_or b i 0 → ⊥) → same_bytes a b ≡ false
-  bytes-differ e n = e ∙ step_of ∙ rw (ne_eqb (get_or a i 0) (get_or b i 0) n) refl
-
-  pub bytes_on : same_bytes a b ≡ same_bytes (drop i a) (drop i b) → get_or a i 0 ≡ get_or b i 0 → same_bytes a b ≡ same_bytes (drop (i + 1) a) (drop (i + 1) b)
-  bytes_on e q = rw (add-one i) (e ∙ step_of ∙ rw (eq-eqb (get_or a i 0) (get_or b i 0) q) refl)
-
-pub bytes-all : (a b : List ℕ) (i : ℕ) → length a ≡ length b → length a ≤ i → same_bytes a b ≡ same_bytes (drop i a) (drop i b) → same_bytes a b ≡ true
-unfolding same_bytes
-bytes-all a b i same l e = let k : length b ≤ i = omega arith in e ∙ rw (drop_of_length-le a {i = i} l, drop_of_length-le b {i = i} k) refl
+pub same-is : (a b : List ℕ) → pointwise eqb a b ≡ same_bytes a b
+unfolding same_bytes pointwise
+same-is [] [] = refl
+same-is [] (y ∷ b) = refl
+same-is (x ∷ a) [] = refl
+same-is (x ∷ a) (y ∷ b) = ap (λ (t : Bool). eqb x y && t) (same-is a b)
 
 -- ---- the wait that an entry of its kind is
 

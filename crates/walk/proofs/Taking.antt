@@ -11,6 +11,7 @@ use lib.IntN.{ℤ}
 use lib.ListN.{length, get_or, get_elem?, take, drop}
 use lib.Seq.{take_all}
 use borrow.Rule.Slice.PartMut.{put_mid}
+use Rattle.std.specs.Prelude.{Err, Ok}
 use Rattle.model.specs.Resolved
 use Rattle.model.specs.Good.{GoodModel}
 use Rattle.rules.specs.Rules.{Key, key, Nth, first, later}
@@ -23,13 +24,13 @@ use Rattle.machine.proofs.Numbers.{state-length}
 use Rattle.machine.proofs.Searching.{takes-so}
 use Rattle.machine.proofs.Stays.{moves-good}
 use Rattle.listing.specs.declared.Entry as listed
-use Rattle.listing.specs.Buffer.{entry_of, filled_numbers}
-use Rattle.step.specs.declared.Taken.{Taken}
-use Rattle.step.specs.declared.Taken.TheVariants.{Accepted, Refused}
-use Rattle.step.specs.Enter.{Lent, Answers, verdict, number_of}
+use Rattle.listing.specs.Buffer.{entry_of, entry_in, filled_numbers}
+use Rattle.step.specs.declared.Refusal.{Refusal}
+use Rattle.step.specs.declared.Refusal.TheVariants.{Arguments, Processes, Pairs}
+use Rattle.step.specs.Enter.{Lent, Answers, refusal_number, number_of, Taken}
 use Rattle.step.proofs.Answered.{taken-number, taken-state}
 use Rattle.walk.specs.declared.Move.TheVariants as move
-use Rattle.walk.specs.Entries.{entry_in, Listing, Row}
+use Rattle.walk.specs.Entries.{Listing, Row}
 use Rattle.walk.specs.Held.{Held, Seen, Stands, Lists, way_found, Takes}
 use Rattle.walk.proofs.Rows.{row_is, row_in, row_fits, back-first, back-second, twice}
 
@@ -38,15 +39,10 @@ nth-way f d first = refl
 nth-way f d (later h) = nth-way f d h
 
 -- 17 to 19 are no 0
-refusal : (a b d : Bool) (c : ℕ) → cond a (cond b (cond d Accepted (Refused 19)) (Refused 18)) (Refused 17) ≡ Refused c → c ≡ 0 → ⊥
-refusal true true true c e z = let q : ◌≡◌ {A = ℕ} 0 1 = cc in omega arith
-refusal true true false c e z = let q : 19 ≡ c = cc in omega arith
-refusal true false d c e z = let q : 18 ≡ c = cc in omega arith
-refusal false b d c e z = let q : 17 ≡ c = cc in omega arith
-
-verdict-refusal : (g : Bool) (s : State) (c : ℕ) → verdict g s ≡ Refused c → c ≡ 0 → ⊥
-unfolding verdict
-verdict-refusal g s c e = refusal g (leb (length s.processes) 256) (leb (length s.pairs) 256) c e
+refusal : (r : Refusal) → refusal_number r ≡ 0 → ⊥
+refusal Arguments e = omega (arith, e)
+refusal Processes e = omega (arith, e)
+refusal Pairs e = omega (arith, e)
 
 -- ---- entry e of a listing
 module _ (m : Resolved.Model) (x : List ℕ) (s : State) (es : List Entry) (l : listing m s ≡ entries_are es) (e w : ℕ) (k : Key) (at : get_elem? es e ≡ some (entry k w)) where
@@ -63,15 +59,14 @@ module _ (m : Resolved.Model) (x : List ℕ) (s : State) (es : List Entry) (l : 
   way_above n = way_at ∙ rw (ne_eqb w 0 n) refl
 
   module _ (n : w ≡ 0 → ⊥) (r : Taken) (ys : List ℤ) (a : Answers (entry_arguments m s k) s (entry_state m s k) r ys) where
-    pub way-accepted : r ≡ Accepted → leads (is_sought m x s k) (taken m s es 0 k).machine ≡ way_in (moves_to m x s) e
+    pub way-accepted : r ≡ Ok tt → leads (is_sought m x s k) (taken m s es 0 k).machine ≡ way_in (moves_to m x s) e
     unfolding way_taken number_of
     way-accepted q = sym (way_above n ∙ rw (taken-number m s es 0 k r ys a, q) refl)
 
-    pub way-refused : (c : ℕ) → r ≡ Refused c → refused ≡ way_in (moves_to m x s) e
+    pub way-refused : (c : Refusal) → r ≡ Err c → refused ≡ way_in (moves_to m x s) e
     unfolding way_taken number_of
     way-refused c q =
-        let f : c ≡ 0 → ⊥ = verdict-refusal (entry_arguments m s k) (entry_state m s k) c (sym a.is ∙ q) in
-        sym (way_above n ∙ rw (taken-number m s es 0 k r ys a, q, ne_eqb c 0 f) refl)
+        sym (way_above n ∙ rw (taken-number m s es 0 k r ys a, q, ne_eqb (refusal_number c) 0 (refusal c)) refl)
 
 -- a state over the model leads to another
 pub after-good : (m : Resolved.Model) (x : List ℕ) (s : State) (e : ℕ) (h : Bool) (t : State) → GoodModel m → GoodState m s → leads h t ≡ way_in (moves_to m x s) e → GoodState m t
@@ -128,7 +123,7 @@ module _ {t roots scopes : List ℕ} {root variables : ℕ} {text places sizes :
           kept : take state_length (put_mid state_length state_length z₁ ys) ≡ take state_length z
           kept = rw copied (back-first z state_length deep ys)
 
-          pub takes-refused : (c : ℕ) → r ≡ Refused c → Takes m x s e z (put_mid state_length state_length z₁ ys) move.Refused
+          pub takes-refused : (c : Refusal) → r ≡ Err c → Takes m x s e z (put_mid state_length state_length z₁ ys) move.Refused
           unfolding entry_of key_of way_found
           takes-refused c q = record {
             after = s;
@@ -137,7 +132,7 @@ module _ {t roots scopes : List ℕ} {root variables : ℕ} {text places sizes :
             second = λ h p. absurd (let c : ◌≡◌ {A = ℕ} 0 1 = cc in omega arith);
           }
 
-          pub takes-accepted : (h : Bool) → h ≡ is_sought m x s (key y.kind y.place y.branch y.partner y.pbranch y.pair) → r ≡ Accepted
+          pub takes-accepted : (h : Bool) → h ≡ is_sought m x s (key y.kind y.place y.branch y.partner y.pbranch y.pair) → r ≡ Ok tt
               → Takes m x s e z (put_mid state_length state_length z₁ ys) (move.Leads h)
           unfolding entry_of key_of way_found
           takes-accepted h o q =

@@ -8,6 +8,7 @@ use lib.IntN.{ℤ}
 use lib.ListN.{length, set, take, drop, length-map, length-drop, length-append}
 use lib.Seq.{length-take-le, take_at, take_all}
 use borrow.Rule.Slice.PartMut.{put_mid, mid_of}
+use Rattle.std.specs.Prelude.{Err, Ok}
 use Rattle.model.specs.Resolved
 use Rattle.model.specs.Limits.{branch_limit}
 use Rattle.model.specs.Good.{GoodSum}
@@ -25,38 +26,34 @@ use Rattle.machine.proofs.Everys.{every_in, in-every}
 use Rattle.machine.proofs.Listing.{accepted}
 use Rattle.machine.proofs.Numbers.{state-length}
 use Rattle.offers.specs.Collect.{FewBranches, World}
-use Rattle.listing.specs.declared.Listed.{Listed}
-use Rattle.listing.specs.declared.Listed.TheVariants.{Filled, Refused}
 use Rattle.listing.specs.Buffer as buffer
-use Rattle.listing.specs.Buffer.{filled_numbers, listing_numbers, listed_answer}
+use Rattle.listing.specs.Buffer.{filled_numbers, listing_numbers, listed_answer, refused, Listed}
 use Rattle.step.specs.Enter as enter
-use Rattle.walk.specs.declared.Hit.{Hit}
-use Rattle.walk.specs.declared.Hit.TheVariants.{Lost, Found}
 use Rattle.walk.specs.declared.Move.{Move}
 use Rattle.walk.specs.declared.Move.TheVariants as move
-use Rattle.walk.specs.Hunted.{Hunted, gone, hits, or_else, behind_hunted, hunt_answer, hunt_at, hunt_from, hunt_longer, Hunts, none, one}
+use Rattle.walk.specs.Hunted.{Hit, Hunted, gone, hits, or_else, behind_hunted, hunt_answer, hunt_at, hunt_from, hunt_longer, Hunts, none, one}
 use Rattle.walk.specs.Held.{Held, Stands, Lists, Room, way_found, Takes}
 use Rattle.walk.proofs.Rows.{first_part, same_first, filled-length}
 use Rattle.walk.proofs.Hunting.{search_is, at-idle, at-refused, at-wait, at_other, at_more, from_step, from-none, from-unlisted, longer-step, longer-none, pass-start, pass-lost, pass-found, pass-over}
 
 -- ---- what was found, taken apart
 
-lost-is : {run : List ℕ} {n : ℕ} {x : Hunted} {r : Hit} {m : Bool} → Hunts run n x r → r ≡ Lost m → x ≡ gone m
+lost-is : {run : List ℕ} {n : ℕ} {x : Hunted} {r : Hit} {m : Bool} → Hunts run n x r → r ≡ Err m → x ≡ gone m
 lost-is {m = n} (none {m = k} p) e = let i : k ≡ n = cc in p ∙ ap gone i
 lost-is (one p) e = let z : ◌≡◌ {A = ℕ} 0 1 = cc in absurd (omega arith)
 
-found-is : {run : List ℕ} {n : ℕ} {x : Hunted} {r : Hit} → Hunts run n x r → r ≡ Found → x ≡ hits (take n run)
+found-is : {run : List ℕ} {n : ℕ} {x : Hunted} {r : Hit} → Hunts run n x r → r ≡ Ok tt → x ≡ hits (take n run)
 found-is (none p) e = let z : ◌≡◌ {A = ℕ} 0 1 = cc in absurd (omega arith)
 found-is (one p) e = p
 
 -- ---- one entry
 
 module _ {m : Resolved.Model} {x : List ℕ} {s : State} {e : ℕ} {zs zs' : List ℤ} (more : ℕ) (run : List ℕ) where
-  pub entry-idle : {r : Move} → Takes m x s e zs zs' r → r ≡ move.Idle → Hunts run (more + 1) (hunt_at (moves_to m x) s more e) (Lost false)
+  pub entry-idle : {r : Move} → Takes m x s e zs zs' r → r ≡ move.Idle → Hunts run (more + 1) (hunt_at (moves_to m x) s more e) (Err false)
   unfolding way_found
   entry-idle {r} t q = none (at-idle (moves_to m x) s more e (ap (λ (u : Move). way_found u t.after) (sym q) ∙ t.way))
 
-  pub entry-refused : {r : Move} → Takes m x s e zs zs' r → r ≡ move.Refused → Hunts run (more + 1) (hunt_at (moves_to m x) s more e) (Lost true)
+  pub entry-refused : {r : Move} → Takes m x s e zs zs' r → r ≡ move.Refused → Hunts run (more + 1) (hunt_at (moves_to m x) s more e) (Err true)
   unfolding way_found
   entry-refused {r} t q = none (at-refused (moves_to m x) s more e (ap (λ (u : Move). way_found u t.after) (sym q) ∙ t.way))
 
@@ -65,14 +62,14 @@ module _ {m : Resolved.Model} {x : List ℕ} {s : State} {e : ℕ} {zs zs' : Lis
     unfolding way_found
     leads-to = ap (λ (u : Move). way_found u t.after) (sym q) ∙ t.way
 
-    pub entry-wait : more ≡ 0 → h ≡ true → 1 ≤ length run → Hunts (set run 0 e) (more + 1) (hunt_at (moves_to m x) s more e) Found
+    pub entry-wait : more ≡ 0 → h ≡ true → 1 ≤ length run → Hunts (set run 0 e) (more + 1) (hunt_at (moves_to m x) s more e) (Ok tt)
     entry-wait o w l = by run l
       where
-        by : (l : List ℕ) → 1 ≤ length l → Hunts (set l 0 e) (more + 1) (hunt_at (moves_to m x) s more e) Found
+        by : (l : List ℕ) → 1 ≤ length l → Hunts (set l 0 e) (more + 1) (hunt_at (moves_to m x) s more e) (Ok tt)
         by [] k = absurd (omega arith)
         by (y ∷ l) k = rw o (one (at-wait (moves_to m x) s e t.after (rw w at leads-to)))
 
-    pub entry_other : more ≡ 0 → h ≡ false → Hunts (set run 0 e) (more + 1) (hunt_at (moves_to m x) s more e) (Lost false)
+    pub entry_other : more ≡ 0 → h ≡ false → Hunts (set run 0 e) (more + 1) (hunt_at (moves_to m x) s more e) (Err false)
     entry_other o w = rw o (none (at_other (moves_to m x) s e t.after (rw w at leads-to)))
 
     behind-is : 1 ≤ more → hunt_at (moves_to m x) s more e ≡ behind_hunted e (hunt_from (moves_to m x) t.after (more - 1) 0)
@@ -106,14 +103,14 @@ module _ (m : Resolved.Model) (x : List ℕ) (s : State) (es : List Entry) (l : 
   step_of : e < length es → hunt_from (moves_to m x) s more e ≡ or_else (hunt_at (moves_to m x) s more e) (hunt_from (moves_to m x) s more (e + 1))
   step_of k = from_step (moves_to m x) s more e (map (way_of m x s es) es) (moves-are m x s es l) (simp length-map k)
 
-  pub all-lost : (run : List ℕ) (n : ℕ) (r : Hit) (k b : Bool) → e < length es → Hunts run n (hunt_at (moves_to m x) s more e) r → r ≡ Lost k → b ≡ (met || k)
+  pub all-lost : (run : List ℕ) (n : ℕ) (r : Hit) (k b : Bool) → e < length es → Hunts run n (hunt_at (moves_to m x) s more e) r → r ≡ Err k → b ≡ (met || k)
       → hunt_from (moves_to m x) s more 0 ≡ or_else (gone b) (hunt_from (moves_to m x) s more (e + 1))
   all-lost run n r k b j h q o = pass-lost _ _ _ _ met k b i (step_of j) (lost-is h q) o
 
-  pub all_found : (run : List ℕ) (n : ℕ) (r : Hit) → e < length es → Hunts run n (hunt_at (moves_to m x) s more e) r → r ≡ Found → Hunts run n (hunt_from (moves_to m x) s more 0) Found
+  pub all_found : (run : List ℕ) (n : ℕ) (r : Hit) → e < length es → Hunts run n (hunt_at (moves_to m x) s more e) r → r ≡ Ok tt → Hunts run n (hunt_from (moves_to m x) s more 0) (Ok tt)
   all_found run n r j h q = one (pass-found _ _ _ _ met (take n run) i (step_of j) (found-is h q))
 
-  pub all-over : (run : List ℕ) (n : ℕ) → length es ≤ e → Hunts run n (hunt_from (moves_to m x) s more 0) (Lost met)
+  pub all-over : (run : List ℕ) (n : ℕ) → length es ≤ e → Hunts run n (hunt_from (moves_to m x) s more 0) (Err met)
   all-over run n j = none (pass-over _ _ met i (from-none (moves_to m x) s more e (map (way_of m x s es) es) (moves-are m x s es l) (simp length-map j)))
 
 pub all_start : (m : Resolved.Model) (x : List ℕ) (s : State) (more : ℕ) → hunt_from (moves_to m x) s more 0 ≡ or_else (gone false) (hunt_from (moves_to m x) s more 0)
@@ -137,8 +134,8 @@ world-of {root = root} {variables = variables} {m = m} h s = record {
   numbers = s.numbers;
 }
 
-pub seek-refused : (m : Resolved.Model) (x : List ℕ) (s : State) (more : ℕ) (run : List ℕ) (b : List ℕ) (r : Listed) (n p c : ℕ) → buffer.Lists (listing m s) r b → r ≡ Refused n p c
-    → Hunts run (more + 1) (hunt_from (moves_to m x) s more 0) (Lost true)
+pub seek-refused : (m : Resolved.Model) (x : List ℕ) (s : State) (more : ℕ) (run : List ℕ) (b : List ℕ) (r : Listed) (n p c : ℕ) → buffer.Lists (listing m s) r b → r ≡ Err (refused n p c)
+    → Hunts run (more + 1) (hunt_from (moves_to m x) s more 0) (Err true)
 unfolding moves_to moves_of listed_answer
 seek-refused m x s more run b r n p c h q = none (from-unlisted (moves_to m x) s more 0 (by (listing m s) h.answer))
   where
@@ -153,12 +150,16 @@ pub record Filling (b : List ℕ) (m : Resolved.Model) (s : State) (count : ℕ)
   pub numbers : b ≡ filled_numbers entries
   pub count-is : count ≡ length entries
 
-pub seek-filled : (m : Resolved.Model) (s : State) (b : List ℕ) (r : Listed) (count sum : ℕ) → buffer.Lists (listing m s) r b → r ≡ Filled count sum → Filling b m s count
+abbrev count_in : Listed → ℕ
+count_in (Ok (count, sum)) = count
+count_in (Err r) = 0
+
+pub seek-filled : (m : Resolved.Model) (s : State) (b : List ℕ) (r : Listed) (count sum : ℕ) → buffer.Lists (listing m s) r b → r ≡ Ok (count, sum) → Filling b m s count
 unfolding listed_answer listing_numbers
 seek-filled m s b r count sum h q = by (listing m s) refl h.answer h.numbers
   where
     by : (l : machine.Listed) → listing m s ≡ l → r ≡ listed_answer l → b ≡ listing_numbers l → Filling b m s count
-    by (entries_are es) k e f = record { entries = es; listed = k; numbers = f; count-is = cc }
+    by (entries_are es) k e f = record { entries = es; listed = k; numbers = f; count-is = sym (ap count_in q) ∙ ap count_in e }
     by (refused_with a) k e f = absurd (let z : ◌≡◌ {A = ℕ} 0 1 = cc in omega arith)
 
 -- there are few entries
@@ -168,11 +169,11 @@ few-entries {m = m} {s = s} {es = es} h = ((accepted m s es).0 h.listed).2
 -- ---- one length after the other
 
 module _ (m : Resolved.Model) (x : List ℕ) (s : State) (d more : ℕ) (met : Bool) (i : hunt_longer (moves_to m x) s d 0 ≡ or_else (gone met) (hunt_longer (moves_to m x) s d more)) where
-  pub longer-lost : (run : List ℕ) (n : ℕ) (r : Hit) (k b : Bool) → more < d → Hunts run n (hunt_from (moves_to m x) s more 0) r → r ≡ Lost k → b ≡ (met || k)
+  pub longer-lost : (run : List ℕ) (n : ℕ) (r : Hit) (k b : Bool) → more < d → Hunts run n (hunt_from (moves_to m x) s more 0) r → r ≡ Err k → b ≡ (met || k)
       → hunt_longer (moves_to m x) s d 0 ≡ or_else (gone b) (hunt_longer (moves_to m x) s d (more + 1))
   longer-lost run n r k b l h q o = pass-lost _ _ _ _ met k b i (longer-step (moves_to m x) s d more l) (lost-is h q) o
 
-  pub longer-found : (run : List ℕ) (r : Hit) → more + 1 ≤ length run → more < d → Hunts run (more + 1) (hunt_from (moves_to m x) s more 0) r → r ≡ Found → Answered (search (moves_to m x) s d) (walked.Found (more + 1)) run
+  pub longer-found : (run : List ℕ) (r : Hit) → more + 1 ≤ length run → more < d → Hunts run (more + 1) (hunt_from (moves_to m x) s more 0) r → r ≡ Ok tt → Answered (search (moves_to m x) s d) (walked.Found (more + 1)) run
   unfolding hunt_answer
   longer-found run r w l h q =
       a-run w (search_is (moves_to m x) s d ∙ ap hunt_answer (pass-found _ _ _ _ met (take (more + 1) run) i (longer-step (moves_to m x) s d more l) (found-is h q)))

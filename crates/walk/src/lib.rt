@@ -9,17 +9,14 @@ ghost use Rattle.rules.specs.Rules.{key};
 ghost use Rattle.rules.specs.Listing as rules;
 ghost use Rattle.runs.specs.Walk as walk;
 ghost use Rattle.machine.specs.State.{State, state_length};
-ghost use Rattle.machine.specs.Machine.{entry_width, listing_length, depth_limit, entry_arguments, entry_state, is_sought, moves_to};
-ghost use Rattle.listing.specs.Buffer.{entry_of};
+ghost use Rattle.machine.specs.Machine.{listing_length, depth_limit, entry_arguments, entry_state, is_sought, moves_to};
 ghost use Rattle.step.specs.Enter as Enter;
 ghost use Rattle.search.specs.Walks.{Answered};
 ghost use Rattle.walk.specs.Hunted.{hunt_at, hunt_from, hunt_longer, Hunts};
-ghost use Rattle.walk.specs.Entries.{entry_in, Row};
+ghost use Rattle.walk.specs.Entries.{Row};
 ghost use Rattle.walk.specs.Held.{Held, Seen, Stands, Lists, Room, Takes};
 
-use listing::{Entry, Limits, Listed};
 use search::Walked;
-use step::Taken;
 
 #[derive(Clone, Copy)]
 pub struct Level;
@@ -52,45 +49,13 @@ pub enum Move {
     Leads(bool),
 }
 
-// A run to the wait; or none, and whether a refusal was met.
-#[derive(Clone, Copy)]
-pub enum Hit {
-    Lost(bool),
-    Found,
-}
-
 // ---- the wait of a name
-
-fn wide(x: u16) -> usize
-    ensures { result ≡ x }
-{
-    x as usize
-}
 
 // Number n of a table, 0 beyond its end.
 fn number_at(table: &[u16], n: usize) -> usize
     ensures { result ≡ get_or table.now n 0 }
 {
-    if n < table.len() {
-        return wide(table[n]);
-    }
-    0
-}
-
-fn same_bytes(a: &[u8], b: &[u8]) -> bool
-    ensures { result ≡ same_bytes a.now b.now }
-{
-    if a.len() != b.len() {
-        return false;
-    }
-    let mut i = 0;
-    while i < a.len() {
-        if a[i] != b[i] {
-            return false;
-        }
-        i += 1;
-    }
-    true
+    table.get(n).map_or(0, |x| usize::from(*x))
 }
 
 // Whether a token of the text is this name.
@@ -101,7 +66,7 @@ fn is_named(text: &[u8], places: &[u16], sizes: &[u16], token: usize, name: &[u8
     let from = number_at(places, token);
     let size = number_at(sizes, token);
     let to = from + size;
-    same_bytes(&text[from..to], name)
+    &text[from..to] == name
 }
 
 // Whether a listed entry is the wait of this name.
@@ -130,23 +95,6 @@ fn is_sought(
 
 // ---- one entry
 
-// Entry c of a listing.
-pub fn entry_at(listing: &[u64], c: usize) -> Entry
-    requires { c * entry_width + entry_width ≤ length listing.now }
-    ensures { entry_of result ≡ entry_in listing.now c }
-{
-    let at = c * Limits::ENTRY;
-    Entry {
-        kind: listing[at],
-        place: listing[at + 1] as usize,
-        branch: listing[at + 2] as usize,
-        partner: listing[at + 3] as usize,
-        pbranch: listing[at + 4] as usize,
-        pair: listing[at + 5] as usize,
-        weight: listing[at + 6],
-    }
-}
-
 // Takes entry c of the listing: the state moves, or 17, 18 or 19 leaves it as it is.
 pub fn take_row(
     nodes: &[u64],
@@ -157,12 +105,12 @@ pub fn take_row(
     state: &mut [i64],
     listing: &[u64],
     c: usize,
-) -> Taken
+) -> Result<(), step::Refusal>
     requires { (m : Resolved.Model) × (s : State) × (es : List rules.Entry) × (e : rules.Entry) × Row nodes.now roots.now scopes.now root variables state.old listing.now c m s es e }
     ensures { (m : Resolved.Model) (s : State) (es : List rules.Entry) (e : rules.Entry) → Row nodes.now roots.now scopes.now root variables state.old listing.now c m s es e → Enter.Answers (entry_arguments m s (rules.key_of e)) s (entry_state m s (rules.key_of e)) result state.new }
 {
     let mut fresh = [0i64; Level::FRESH];
-    let e = entry_at(listing, c);
+    let e = listing::entry_at(listing, c);
     step::take_entry(
         nodes, roots, scopes, root, variables, state, &mut fresh, e.kind, e.place, e.branch,
         e.partner, e.pbranch, e.pair,
@@ -174,12 +122,8 @@ fn copy_row(states: &mut [i64])
     requires { state_length + state_length ≤ length states.old }
     ensures { states.new ≡ take state_length states.old ++ take state_length states.old ++ drop (state_length + state_length) states.old }
 {
-    let mut i = 0;
-    while i < Level::STATE {
-        let x = states[i];
-        states[Level::STATE + i] = x;
-        i += 1;
-    }
+    let (first, rest) = states.split_at_mut(Level::STATE);
+    rest[..Level::STATE].copy_from_slice(first);
 }
 
 // Takes entry e of the first state: the second becomes the one after it.
@@ -200,7 +144,7 @@ fn take_at(
     requires { ((m : Resolved.Model) × (s : State) × (es : List rules.Entry) × Held nodes.now roots.now scopes.now root variables text.now places.now sizes.now m × Stands states.old m s × Lists listing.now m s es × (e < length es)) × (state_length + state_length ≤ length states.old) × (length listing.now ≡ listing_length) }
     ensures { (m : Resolved.Model) (s : State) (es : List rules.Entry) → Held nodes.now roots.now scopes.now root variables text.now places.now sizes.now m → Stands states.old m s → Lists listing.now m s es → e < length es → Takes m name.now s e states.old states.new result }
 {
-    let entry = entry_at(listing, e);
+    let entry = listing::entry_at(listing, e);
     let weight = entry.weight;
     if weight == 0 {
         return Move::Idle;
@@ -230,14 +174,14 @@ fn take_at(
         e,
     );
     match taken {
-        Taken::Accepted => Move::Leads(wait),
-        Taken::Refused(_) => Move::Refused,
+        Ok(()) => Move::Leads(wait),
+        Err(_) => Move::Refused,
     }
 }
 
 // ---- from run to run
 
-// The first run of `more` and one more entries to the wait that begins with entry e.
+// The first run of `more` and one more entries to the wait that begins with entry e; or none, and whether a refusal was met.
 #[cycle(seek_try_all_try_entry)]
 fn try_entry(
     nodes: &[u64],
@@ -254,7 +198,7 @@ fn try_entry(
     run: &mut [u16],
     more: usize,
     e: usize,
-) -> Hit
+) -> Result<(), bool>
     requires { ((m : Resolved.Model) × (s : State) × (es : List rules.Entry) × Held nodes.now roots.now scopes.now root variables text.now places.now sizes.now m × Stands states.old m s × Lists listings.old m s es × (e < length es)) × Room (more + 1) states.old listings.old run.old }
     ensures { ((m : Resolved.Model) (s : State) (es : List rules.Entry) → Held nodes.now roots.now scopes.now root variables text.now places.now sizes.now m → Stands states.old m s → Lists listings.old m s es → e < length es → Hunts run.new (more + 1) (hunt_at (moves_to m name.now) s more e) result) × (take state_length states.new ≡ take state_length states.old) × (take listing_length listings.new ≡ take listing_length listings.old) }
 {
@@ -273,15 +217,15 @@ fn try_entry(
         e,
     );
     match taken {
-        Move::Idle => Hit::Lost(false),
-        Move::Refused => Hit::Lost(true),
+        Move::Idle => Err(false),
+        Move::Refused => Err(true),
         Move::Leads(wait) => {
             run[0] = e as u16;
             if more == 0 {
                 if wait {
-                    return Hit::Found;
+                    return Ok(());
                 }
-                return Hit::Lost(false);
+                return Err(false);
             }
             seek(
                 nodes,
@@ -319,28 +263,22 @@ fn try_all(
     run: &mut [u16],
     more: usize,
     n: usize,
-) -> Hit
+) -> Result<(), bool>
     requires { ((m : Resolved.Model) × (s : State) × (es : List rules.Entry) × Held nodes.now roots.now scopes.now root variables text.now places.now sizes.now m × Stands states.old m s × Lists listings.old m s es × (n ≡ length es)) × Room (more + 1) states.old listings.old run.old }
     ensures { ((m : Resolved.Model) (s : State) (es : List rules.Entry) → Held nodes.now roots.now scopes.now root variables text.now places.now sizes.now m → Stands states.old m s → Lists listings.old m s es → n ≡ length es → Hunts run.new (more + 1) (hunt_from (moves_to m name.now) s more 0) result) × (take state_length states.new ≡ take state_length states.old) }
 {
     let mut met = false;
-    let mut e = 0;
-    while e < n {
+    for e in 0..n {
         let tried = try_entry(
             nodes, roots, scopes, root, variables, text, places, sizes, name, states, listings,
             run, more, e,
         );
         match tried {
-            Hit::Found => {
-                return Hit::Found;
-            }
-            Hit::Lost(m) => {
-                met = search::either(met, m);
-            }
+            Ok(()) => return Ok(()),
+            Err(m) => met |= m,
         }
-        e += 1;
     }
-    Hit::Lost(met)
+    Err(met)
 }
 
 // The same of a state that is still to be listed.
@@ -359,7 +297,7 @@ fn seek(
     listings: &mut [u64],
     run: &mut [u16],
     more: usize,
-) -> Hit
+) -> Result<(), bool>
     requires { ((m : Resolved.Model) × (s : State) × Held nodes.now roots.now scopes.now root variables text.now places.now sizes.now m × Stands states.old m s) × Room (more + 1) states.old listings.old run.old }
     ensures { ((m : Resolved.Model) (s : State) → Held nodes.now roots.now scopes.now root variables text.now places.now sizes.now m → Stands states.old m s → Hunts run.new (more + 1) (hunt_from (moves_to m name.now) s more 0) result) × (take state_length states.new ≡ take state_length states.old) }
 {
@@ -371,8 +309,8 @@ fn seek(
         &mut listings[..Level::LISTING],
     );
     match listed {
-        Listed::Refused(_, _, _) => Hit::Lost(true),
-        Listed::Filled(count, _) => try_all(
+        Err(_) => Err(true),
+        Ok((count, _)) => try_all(
             nodes, roots, scopes, root, variables, text, places, sizes, name, states, listings,
             run, more, count,
         ),
@@ -411,21 +349,15 @@ fn search_from(
     ensures { (m : Resolved.Model) (s : State) → Held nodes.now roots.now scopes.now root variables text.now places.now sizes.now m → Stands states.old m s → Answered (walk.search (moves_to m name.now) s depth) result run.new }
 {
     let mut met = false;
-    let mut more = 0;
-    while more < depth {
+    for more in 0..depth {
         let hit = seek(
             nodes, roots, scopes, root, variables, text, places, sizes, name, states, listings,
             run, more,
         );
         match hit {
-            Hit::Found => {
-                return Walked::Found(more + 1);
-            }
-            Hit::Lost(m) => {
-                met = search::either(met, m);
-            }
+            Ok(()) => return Walked::Found(more + 1),
+            Err(m) => met |= m,
         }
-        more += 1;
     }
     ended(met)
 }

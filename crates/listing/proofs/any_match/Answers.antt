@@ -3,12 +3,11 @@ use Rattle.listing.proofs.Runs.{run_on, run-off, any_at, run_more, run_none}
 use mathlib.Core.Logic.{inl}
 use mathlib.Core.Path.{sym, ◌∙◌}
 use native.Mathlib.Omega.{arith}
-use borrow.Author.Rules.{rules}
 use Rattle.listing.proofs.any_match.Goals as goal
 
 pub loop-q-init : goal.loop-q-init
 loop-q-init c =
-    (search rules, λ w t roots scopes m s sq W R k x e l. run-off w s.pairs _ _ R k x e (inl l))
+    λ w t roots scopes m s sq W R k x e l. run-off w s.pairs _ _ R k x e (inl l)
 
 pub pair_matches-requires : goal.pair_matches-requires
 pair_matches-requires c =
@@ -16,12 +15,12 @@ pair_matches-requires c =
 
 pub returns-then-pair_matches : goal.returns-then-pair_matches
 returns-then-pair_matches c =
-    λ w t roots scopes m s sq W R. let y = some_pair W c.loop-q.q (omega (arith, c.requires.3)) in let M = run_on w s.pairs _ _ R c.loop-q.q y.0 y.1 c.loop-q.invariant.0 (omega arith) ∙ sym (c.pair_matches.ensures w t roots scopes m s y.0 sq W y.1) in sym (any_at w s.pairs c.loop-q.q y.0 y.1 (M ∙ c.if-pair_matches.true))
+    λ w t roots scopes m s sq W R. let y = some_pair W c.loop-q.q (omega (arith, c.requires.3)) in let M = run_on w s.pairs _ _ R c.loop-q.q y.0 y.1 c.loop-q.auto.q (omega arith) ∙ sym (c.pair_matches.ensures w t roots scopes m s y.0 sq W y.1) in sym (any_at w s.pairs c.loop-q.q y.0 y.1 (M ∙ c.if-pair_matches.true))
 
 pub loop-q-preserved : goal.loop-q-preserved
 loop-q-preserved c =
-    (omega (arith, c.loop-q.invariant.0), λ w t roots scopes m s sq W R. let y = some_pair W c.loop-q.q (omega (arith, c.requires.3)) in let M = run_on w s.pairs _ _ R c.loop-q.q y.0 y.1 c.loop-q.invariant.0 (omega arith) ∙ sym (c.pair_matches.ensures w t roots scopes m s y.0 sq W y.1) in run_more w s.pairs _ _ R c.loop-q.q y.0 y.1 (M ∙ c.if-pair_matches.false) (c.loop-q.invariant.1 w t roots scopes m s sq W R))
+    λ w t roots scopes m s sq W R. let y = some_pair W c.loop-q.q (omega (arith, c.requires.3)) in let M = run_on w s.pairs _ _ R c.loop-q.q y.0 y.1 c.loop-q.auto.q (omega arith) ∙ sym (c.pair_matches.ensures w t roots scopes m s y.0 sq W y.1) in run_more w s.pairs _ _ R c.loop-q.q y.0 y.1 (M ∙ c.if-pair_matches.false) (c.loop-q.invariant w t roots scopes m s sq W R)
 
 pub returns : goal.returns
 returns c =
-    λ w t roots scopes m s sq W R. sym (run_none w s.pairs _ _ R c.loop-q.q (omega arith) (c.loop-q.invariant.1 w t roots scopes m s sq W R))
+    λ w t roots scopes m s sq W R. sym (run_none w s.pairs _ _ R c.loop-q.q (omega arith) (c.loop-q.invariant w t roots scopes m s sq W R))

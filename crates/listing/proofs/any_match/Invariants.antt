@@ -11,11 +11,8 @@ use mathlib.Core.Option.{some}
 use mathlib.Core.Path.{◌≡◌}
 use mathlib.Core.List.{List}
 use mathlib.Core.Bool.{false}
-use Prim.Native.Nat.{ℕ, ◌-◌, ◌≤◌, ◌<◌}
+use Prim.Native.Nat.{ℕ, ◌<◌}
 use Rattle.listing.proofs.any_match.Given as goal
 
 abbrev pub invariant-loop-q : goal.invariant-loop-q
-invariant-loop-q l = (l.initial.q ≤ l.q) × ((w : offers.Query) (t roots scopes : List ℕ) (m : Resolved.Model) (s : State) → ShowsQuery l.nodes l.locals l.o w → World t roots scopes l.state m s → RunIs s.pairs w l.initial.q l.to → (k : ℕ) (x : offers.Pair) → get_elem? s.pairs k ≡ some x → k < l.q → matches w x ≡ false)
-
-abbrev pub decreases-loop-q : goal.decreases-loop-q
-decreases-loop-q l = l.to - l.q
+invariant-loop-q l = (w : offers.Query) (t roots scopes : List ℕ) (m : Resolved.Model) (s : State) → ShowsQuery l.nodes l.locals l.o w → World t roots scopes l.state m s → RunIs s.pairs w l.initial.q l.q-end → (k : ℕ) (x : offers.Pair) → get_elem? s.pairs k ≡ some x → k < l.q → matches w x ≡ false

@@ -2,11 +2,8 @@
 use Rattle.rules.proofs.Chosen.{up_to}
 use Rattle.listing.specs.Buffer.{weights_in}
 use mathlib.Core.Path.{◌≡◌}
-use Prim.Native.Nat.{◌-◌, ◌≤◌}
+use Prim.Native.Nat.{◌≤◌}
 use Rattle.listing.proofs.choose.Given as goal
 
 abbrev pub invariant-loop-i : goal.invariant-loop-i
-invariant-loop-i l = (l.i ≤ l.count) × (l.sum ≡ up_to (weights_in l.listing l.count) l.i) × (l.sum ≤ l.draw)
-
-abbrev pub decreases-loop-i : goal.decreases-loop-i
-decreases-loop-i l = l.count - l.i
+invariant-loop-i l = (l.sum ≡ up_to (weights_in l.listing l.count) l.i) × (l.sum ≤ l.draw)

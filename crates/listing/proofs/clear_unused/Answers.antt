@@ -6,19 +6,19 @@ use Rattle.listing.proofs.clear_unused.Goals as goal
 
 pub overflow_mul-count : goal.overflow_mul-count
 overflow_mul-count c =
-    omega (arith, used-count _ _ _ _ c.in-Filled.is c.requires)
+    omega (arith, used-count _ _ _ _ c.in-Ok.is c.requires)
 
 pub clear_from-requires : goal.clear_from-requires
 unfolding used_numbers
 clear_from-requires c =
-    used-count _ _ _ _ c.in-Filled.is c.requires
+    used-count _ _ _ _ c.in-Ok.is c.requires
 
-pub returns-in-Filled : goal.returns-in-Filled
+pub returns-in-Ok : goal.returns-in-Ok
 unfolding used_numbers
-returns-in-Filled c =
-    rw c.in-Filled.is c.clear_from.ensures
+returns-in-Ok c =
+    rw c.in-Ok.is c.clear_from.ensures
 
-pub returns-in-Refused : goal.returns-in-Refused
+pub returns-in-Err : goal.returns-in-Err
 unfolding used_numbers
-returns-in-Refused c =
-    rw c.in-Refused.is c.clear_from-in-Refused.ensures
+returns-in-Err c =
+    rw c.in-Err.is c.clear_from-in-Err.ensures

@@ -10,12 +10,9 @@ use Rattle.listing.specs.Buffer.{Adds}
 use Rattle.listing.specs.Ready.{RunIs, bound_at}
 use mathlib.Core.Path.{◌≡◌}
 use mathlib.Core.List.{List}
-use Prim.Native.Nat.{ℕ, suc, ◌-◌, ◌≤◌}
+use Prim.Native.Nat.{ℕ, suc, ◌≤◌}
 use lib.ListN.{length}
 use Rattle.listing.proofs.list_bound.Given as goal
 
 abbrev pub invariant-loop-q : goal.invariant-loop-q
-invariant-loop-q l = (l.initial.q ≤ l.q) × (length l.listing ≡ listing_length) × (l.n ≤ suc entry_limit) × ((w : offers.Query) (t roots scopes : List ℕ) (m : Resolved.Model) (s : State) → ShowsQuery l.nodes l.locals l.o w → World t roots scopes l.state m s → RunIs s.pairs w l.initial.q l.to → (l.q ≤ l.to) × Adds (up_to (at_number (bound_at w l.place l.branch l.o.rate) s.pairs) l.q) l.initial.listing l.count l.listing l.n)
-
-abbrev pub decreases-loop-q : goal.decreases-loop-q
-decreases-loop-q l = l.to - l.q
+invariant-loop-q l = (length l.listing ≡ listing_length) × (l.n ≤ suc entry_limit) × ((w : offers.Query) (t roots scopes : List ℕ) (m : Resolved.Model) (s : State) → ShowsQuery l.nodes l.locals l.o w → World t roots scopes l.state m s → RunIs s.pairs w l.initial.q l.q-end → (l.q ≤ l.q-end) × Adds (up_to (at_number (bound_at w l.place l.branch l.o.rate) s.pairs) l.q) l.initial.listing l.count l.listing l.n)

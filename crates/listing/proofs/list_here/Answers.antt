@@ -2,9 +2,9 @@
 use Rattle.listing.proofs.AllRows.{all_done}
 use Rattle.listing.proofs.list_here.Goals as goal
 
-pub returns-in-Done : goal.returns-in-Done
-returns-in-Done c =
-    λ m s w. all_done (rw c.in-Done.is at (c.list_few-tried.ensures m s w))
+pub returns-in-Some : goal.returns-in-Some
+returns-in-Some c =
+    λ m s w. all_done (rw c.in-Some.is at (c.list_few-tried.ensures m s w))
 
-pub returns-in-Full : goal.returns-in-Full
-returns-in-Full c = c.list_many.ensures
+pub returns-in-None : goal.returns-in-None
+returns-in-None c = c.list_many.ensures

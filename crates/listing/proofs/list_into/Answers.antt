@@ -7,12 +7,12 @@ use Rattle.listing.proofs.list_into.Goals as goal
 
 pub clear_unused-requires : goal.clear_unused-requires
 clear_unused-requires c =
-    used-fits (all-led (rw c.in-Done.is at (c.try_over-tried.ensures c.requires.0.0 c.requires.0.1 c.requires.0.2)))
+    used-fits (all-led (rw c.in_ok-listed.was at (c.try_over.ensures c.requires.0.0 c.requires.0.1 c.requires.0.2)))
 
-pub returns-in-Full : goal.returns-in-Full
-returns-in-Full c =
-    λ m s w. full (not_short (rw c.in-Full.is at (c.try_over-tried.ensures m s w)))
+pub returns-in_err-listed : goal.returns-in_err-listed
+returns-in_err-listed c =
+    λ m s w. rw c.from_residual.ensures (full (not_short (rw c.in_err-listed.was at (c.try_over.ensures m s w))))
 
-pub returns-in-Done : goal.returns-in-Done
-returns-in-Done c =
-    λ m s w. as-done _ _ (rw c.clear_unused.ensures (clears (search rules) (all-led (rw c.in-Done.is at (c.try_over-tried.ensures m s w)))))
+pub returns : goal.returns
+returns c =
+    λ m s w. as-done _ _ (rw c.clear_unused.ensures (clears (search rules) (all-led (rw c.in_ok-listed.was at (c.try_over.ensures m s w)))))

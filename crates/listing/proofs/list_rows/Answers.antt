@@ -11,20 +11,20 @@ use Rattle.listing.proofs.list_rows.Goals as goal
 pub loop-row-init : goal.loop-row-init
 unfolding up_to
 loop-row-init c =
-    (search rules, c.requires.6, search rules, λ roots m s R. rw (up_none _) (adds_none _ _ (omega arith)))
+    (c.requires.6, search rules, λ roots m s R. rw (up_none _) (adds_none _ _ (omega arith)))
 
 pub returns-then-count-gt-ENTRIES : goal.returns-then-count-gt-ENTRIES
 returns-then-count-gt-ENTRIES c =
-    (λ roots m s R. rw (entries-up R c.args.rows refl) (adds-stop _ c.loop-row.row c.args.rows (omega arith) c.if-count-gt-ENTRIES.true (c.loop-row.invariant.3 roots m s R)), c.loop-row.invariant.1, c.loop-row.invariant.2)
+    (λ roots m s R. rw (entries-up R c.args.rows refl) (adds-stop _ c.loop-row.row c.args.rows (omega arith) c.if-count-gt-ENTRIES.true (c.loop-row.invariant.2 roots m s R)), c.loop-row.invariant.0, c.loop-row.invariant.1)
 
 pub list_row-count-requires : goal.list_row-count-requires
 list_row-count-requires c =
-    (c.requires.0, c.requires.1, c.requires.2, c.requires.3, c.requires.4, c.requires.5, omega arith, c.loop-row.invariant.1, c.loop-row.invariant.2)
+    (c.requires.0, c.requires.1, c.requires.2, c.requires.3, c.requires.4, c.requires.5, omega arith, c.loop-row.invariant.0, c.loop-row.invariant.1)
 
 pub loop-row-preserved : goal.loop-row-preserved
 loop-row-preserved c =
-    (omega arith, c.list_row-count.ensures.1, c.list_row-count.ensures.2, λ roots m s R. let y = some-row R c.loop-row.row (omega arith) in rw (rows_next R c.loop-row.row y.0 y.1) (adds_then (c.loop-row.invariant.3 roots m s R) (c.list_row-count.ensures.0 roots m s y.0 R y.1)))
+    (c.list_row-count.ensures.1, c.list_row-count.ensures.2, λ roots m s R. let y = some-row R c.loop-row.row (omega arith) in rw (rows_next R c.loop-row.row y.0 y.1) (adds_then (c.loop-row.invariant.2 roots m s R) (c.list_row-count.ensures.0 roots m s y.0 R y.1)))
 
 pub returns : goal.returns
 returns c =
-    (λ roots m s R. rw (entries-up R c.loop-row.row (omega arith)) (c.loop-row.invariant.3 roots m s R), c.loop-row.invariant.1, c.loop-row.invariant.2)
+    (λ roots m s R. rw (entries-up R c.loop-row.row (omega arith)) (c.loop-row.invariant.2 roots m s R), c.loop-row.invariant.0, c.loop-row.invariant.1)

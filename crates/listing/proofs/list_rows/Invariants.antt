@@ -9,12 +9,9 @@ use Rattle.listing.specs.Buffer.{Adds}
 use Rattle.listing.specs.Ready.{Ready}
 use mathlib.Core.Path.{◌≡◌}
 use mathlib.Core.List.{List}
-use Prim.Native.Nat.{ℕ, suc, ◌-◌, ◌≤◌}
+use Prim.Native.Nat.{ℕ, suc, ◌≤◌}
 use lib.ListN.{length}
 use Rattle.listing.proofs.list_rows.Given as goal
 
 abbrev pub invariant-loop-row : goal.invariant-loop-row
-invariant-loop-row l = (l.row ≤ l.rows) × (length l.listing ≡ listing_length) × (l.count ≤ suc entry_limit) × ((roots : List ℕ) (m : Resolved.Model) (s : State) → Ready l.nodes roots l.scopes l.state l.heads l.numbers l.rows m s → Adds (up_to (at_number (λ (k : ℕ). of_slot (branches m) s) (slots_of m 0 s.processes)) l.row) l.initial.listing 0 l.listing l.count)
-
-abbrev pub decreases-loop-row : goal.decreases-loop-row
-decreases-loop-row l = l.rows - l.row
+invariant-loop-row l = (length l.listing ≡ listing_length) × (l.count ≤ suc entry_limit) × ((roots : List ℕ) (m : Resolved.Model) (s : State) → Ready l.nodes roots l.scopes l.state l.heads l.numbers l.rows m s → Adds (up_to (at_number (λ (k : ℕ). of_slot (branches m) s) (slots_of m 0 s.processes)) l.row) l.initial.listing 0 l.listing l.count)

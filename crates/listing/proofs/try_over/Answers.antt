@@ -13,25 +13,25 @@ use Rattle.listing.proofs.try_over.Goals as goal
 
 pub link-requires : goal.link-requires
 link-requires c =
-    let q = answered-rows c.requires.0.2 (rw c.in-Rows.is at (c.collect-collected.ensures c.requires.0.0 c.requires.0.1 c.requires.0.2)) in
+    let q = answered-rows c.requires.0.2 (rw c.in-Ok.is at (c.collect-collected.ensures c.requires.0.0 c.requires.0.1 c.requires.0.2)) in
     (rows_few q.0, search rules, search rules, search rules, search rules)
 
 pub list_rows-count-requires : goal.list_rows-count-requires
 list_rows-count-requires c =
-    let q = answered-rows c.requires.0.2 (rw c.in-Rows.is at (c.collect-collected.ensures c.requires.0.0 c.requires.0.1 c.requires.0.2)) in
+    let q = answered-rows c.requires.0.2 (rw c.in-Ok.is at (c.collect-collected.ensures c.requires.0.0 c.requires.0.1 c.requires.0.2)) in
     ((c.args.roots.now, c.requires.0.0, c.requires.0.1, q.0), c.link.ensures, search rules, search rules, search rules, search rules, search rules)
 
 pub returns-in-Full : goal.returns-in-Full
 returns-in-Full c =
-    λ m s w. short (omega (arith, answered-full (rw c.in-Full.is at (c.collect-collected.ensures m s w))))
+    λ m s w. short (omega (arith, answered-full (rw (c.in-Err.is, c.in-Full.is) at (c.collect-collected.ensures m s w))))
 
 pub returns-in-Missing : goal.returns-in-Missing
 returns-in-Missing c =
-    λ m s w. as-led _ _ (refused (machine.listing m s) _ 12 _ _ (lacking m s _ _ (answered-missing (rw c.in-Missing.is at (c.collect-collected.ensures m s w)))))
+    λ m s w. as-led _ _ (refused (machine.listing m s) _ 12 _ _ (lacking m s _ _ (answered-missing (rw (c.in-Err.is, c.in-Missing.is) at (c.collect-collected.ensures m s w)))))
 
-pub returns-in-Rows : goal.returns-in-Rows
-returns-in-Rows c =
+pub returns-in-Ok : goal.returns-in-Ok
+returns-in-Ok c =
     λ m s w.
-    let q = answered-rows w (rw c.in-Rows.is at (c.collect-collected.ensures m s w)) in
+    let q = answered-rows w (rw c.in-Ok.is at (c.collect-collected.ensures m s w)) in
     let A = adds-all c.requires.4 (c.list_rows-count.ensures.0 c.args.roots.now m s q.0) in
     as-led _ _ (rw (not-lacking m s q.1) (c.judge-listed.ensures c.args.listing.now (entries (branches m) s) A.0 A.1))

@@ -2,8 +2,9 @@ use mathlib.Core.Path.{ap, ◌∙◌}
 use native.Mathlib.Omega.{arith}
 use borrow.Author.Rules.{rules}
 use lib.ListN.{length}
+use Rattle.std.proofs.lemmas.Result.{err_from_is_err_and}
 use Rattle.tree.specs.Node.{kind_of, left_of}
-use Rattle.offers.proofs.Branched.{lone-part, lone-collects, more_parts, more-lacks, more-full, more-collects, one-row, one-room}
+use Rattle.offers.proofs.Branched.{lone-part, lone-collects, more_parts, more-stops, more-collects, one-row, one-room}
 use Rattle.offers.proofs.+collect_branches.Goals as goal
 
 pub collect_branch-requires : goal.collect_branch-requires
@@ -17,8 +18,8 @@ returns-then-kind-ne-CHOICE t c =
     let T = c.args.nodes.now in let L = c.args.locals.now in let k = c.args.k in let kind = c.kind_of-kind.result in let is = c.kind_of-kind.ensures ∙ ap kind_of c.cell_at-cell.ensures in
     lone-collects T k kind is c.if-kind-ne-CHOICE.true L c.args.place c.args.branch c.args.row c.args.heads.now _ c.args.numbers.now _ _ c.collect_branch.ensures
 
-pub collect_branch-first-requires : goal.collect_branch-first-requires
-collect_branch-first-requires t c =
+pub collect_branch-requires-2 : goal.collect_branch-requires-2
+collect_branch-requires-2 t c =
     let T = c.args.nodes.now in let L = c.args.locals.now in let k = c.args.k in let kind = c.kind_of-kind.result in let is = c.kind_of-kind.ensures ∙ ap kind_of c.cell_at-cell.ensures in
     let f = more_parts T k kind is c.if-kind-ne-CHOICE.false (length L) c.args.branch c.requires.0 in
     let e = c.left_of-left.ensures ∙ ap left_of c.cell_at-cell.ensures in
@@ -41,24 +42,19 @@ collect_branches-requires t c =
     let T = c.args.nodes.now in let L = c.args.locals.now in let k = c.args.k in let kind = c.kind_of-kind.result in let is = c.kind_of-kind.ensures ∙ ap kind_of c.cell_at-cell.ensures in
     let f = more_parts T k kind is c.if-kind-ne-CHOICE.false (length L) c.args.branch c.requires.0 in
     let e = c.left_of-left.ensures ∙ ap left_of c.cell_at-cell.ensures in
-    let o = one-row T L c.args.place c.args.branch c.args.row c.args.heads.now c.args.numbers.now (rw (e, c.in-Rows.is) at c.collect_branch-first.ensures f.1.1.part f.1.1.at) in
-    let q = one-room T L c.args.place c.args.branch c.args.row c.args.heads.now c.args.numbers.now (rw (e, c.in-Rows.is) at c.collect_branch-first.ensures f.1.1.part f.1.1.at) in
+    let o = one-row T L c.args.place c.args.branch c.args.row c.args.heads.now c.args.numbers.now (rw (e, c.in_ok-next.was) at c.collect_branch-2.ensures f.1.1.part f.1.1.at) in
+    let q = one-room T L c.args.place c.args.branch c.args.row c.args.heads.now c.args.numbers.now (rw (e, c.in_ok-next.was) at c.collect_branch-2.ensures f.1.1.part f.1.1.at) in
     (omega (arith, c.decreases, f.0), (f.2, c.requires.1, q, search rules, c.requires.4, omega (arith, c.requires.5, o)))
 
-pub returns-in-Rows : goal.returns-in-Rows
-returns-in-Rows t c =
+pub returns : goal.returns
+returns t c =
     let T = c.args.nodes.now in let L = c.args.locals.now in let k = c.args.k in let kind = c.kind_of-kind.result in let is = c.kind_of-kind.ensures ∙ ap kind_of c.cell_at-cell.ensures in
     let e = c.left_of-left.ensures ∙ ap left_of c.cell_at-cell.ensures in
-    more-collects T k kind is c.if-kind-ne-CHOICE.false L c.args.place c.args.branch c.args.row c.args.heads.now c.args.numbers.now _ _ _ _ c.in-Rows.next _ (rw (e, c.in-Rows.is) at c.collect_branch-first.ensures) c.collect_branches.ensures
+    more-collects T k kind is c.if-kind-ne-CHOICE.false L c.args.place c.args.branch c.args.row c.args.heads.now c.args.numbers.now _ _ _ _ c.in_ok-next.next _ (rw (e, c.in_ok-next.was) at c.collect_branch-2.ensures) c.collect_branches.ensures
 
-pub returns-in-Missing : goal.returns-in-Missing
-returns-in-Missing t c =
+pub returns-in_err-next : goal.returns-in_err-next
+returns-in_err-next t c =
     let T = c.args.nodes.now in let L = c.args.locals.now in let k = c.args.k in let kind = c.kind_of-kind.result in let is = c.kind_of-kind.ensures ∙ ap kind_of c.cell_at-cell.ensures in
     let e = c.left_of-left.ensures ∙ ap left_of c.cell_at-cell.ensures in
-    more-lacks T k kind is c.if-kind-ne-CHOICE.false L c.args.place c.args.branch c.args.row c.args.heads.now c.args.numbers.now _ _ c.in-Missing.lacking (rw (e, c.in-Missing.is) at c.collect_branch-first.ensures)
-
-pub returns-in-Full : goal.returns-in-Full
-returns-in-Full t c =
-    let T = c.args.nodes.now in let L = c.args.locals.now in let k = c.args.k in let kind = c.kind_of-kind.result in let is = c.kind_of-kind.ensures ∙ ap kind_of c.cell_at-cell.ensures in
-    let e = c.left_of-left.ensures ∙ ap left_of c.cell_at-cell.ensures in
-    more-full T k kind is c.if-kind-ne-CHOICE.false L c.args.place c.args.branch c.args.row c.args.heads.now c.args.numbers.now _ _ (rw (e, c.in-Full.is) at c.collect_branch-first.ensures)
+    let p = err_from_is_err_and c.from_residual.result c.from_residual.ensures.1 in
+    rw (p.1, p.2) (more-stops T k kind is c.if-kind-ne-CHOICE.false L c.args.place c.args.branch c.args.row c.args.heads.now c.args.numbers.now _ _ _ (rw (e, c.in_err-next.was) at c.collect_branch-2.ensures))

@@ -6,12 +6,9 @@ use Rattle.offers.specs.Links.{row_width}
 use Rattle.offers.specs.Collect.{World}
 use Rattle.offers.proofs.Places.{Progress}
 use mathlib.Core.Path.{◌≡◌}
-use Prim.Native.Nat.{◌-◌, ◌*◌, ◌≤◌}
+use Prim.Native.Nat.{◌*◌, ◌≤◌}
 use lib.ListN.{length}
 use Rattle.offers.proofs.collect.Given as goal
 
 abbrev pub invariant-loop-place : goal.invariant-loop-place
-invariant-loop-place l = (l.place ≤ l.places) × (length l.heads ≡ length l.initial.heads) × (length l.numbers ≡ length l.initial.heads * row_width) × (l.row ≤ l.place * branch_limit) × (l.row ≤ length l.heads) × ((m : Resolved.Model) (s : State) → World l.nodes l.roots l.scopes l.state m s → Progress l.nodes l.heads l.numbers m s.processes l.place l.row)
-
-abbrev pub decreases-loop-place : goal.decreases-loop-place
-decreases-loop-place l = l.places - l.place
+invariant-loop-place l = (length l.heads ≡ length l.initial.heads) × (length l.numbers ≡ length l.initial.heads * row_width) × (l.row ≤ l.place * branch_limit) × (l.row ≤ length l.heads) × ((m : Resolved.Model) (s : State) → World l.nodes l.roots l.scopes l.state m s → Progress l.nodes l.heads l.numbers m s.processes l.place l.row)

@@ -8,7 +8,8 @@ use Rattle.offers.proofs.link.Goals as goal
 
 pub loop-row-init : goal.loop-row-init
 loop-row-init c =
-    (search rules, ap length c.fill.ensures ∙ length-replicate _ _ ∙ c.requires.3, search rules, linked-none c.args.heads.now c.args.numbers.now c.args.rows _ _ (length c.args.firsts.now) c.requires.3 c.fill.ensures)
+    let f = c.fill.ensures.after (λ y e. e) in
+    (search rules, c.fill.ensures.len ∙ c.requires.3, search rules, linked-none c.args.heads.now c.args.numbers.now c.args.rows _ _ (length c.args.firsts.now) c.requires.3 f)
 
 pub loop-row-preserved : goal.loop-row-preserved
 loop-row-preserved c =

@@ -7,6 +7,3 @@ use Rattle.offers.proofs.link.Given as goal
 
 abbrev pub invariant-loop-row : goal.invariant-loop-row
 invariant-loop-row l = (l.row ≤ l.rows) × (length l.firsts ≡ bucket_limit) × (length l.nexts ≡ length l.heads) × Linked l.heads l.numbers l.rows l.row l.firsts l.nexts
-
-abbrev pub decreases-loop-row : goal.decreases-loop-row
-decreases-loop-row l = l.row

@@ -6,15 +6,11 @@ use native.Mathlib.Omega.{arith}
 use lib.ListN.{get_or, set}
 use Rattle.searching.proofs.run_found.Goals as goal
 
-pub overflow_cast-entries : goal.overflow_cast-entries
-overflow_cast-entries c =
-    omega (arith, c.shared_slice_known-1.given c.loop-i.i)
-
 pub loop-i-preserved : goal.loop-i-preserved
 loop-i-preserved c =
-    (ap (λ (xs : List ℕ). set xs c.loop-i.i (get_or c.args.run.now c.loop-i.i 0)) c.loop-i.invariant.0 ∙ written-more c.args.run.now c.loop-i.i (omega arith) c.requires.0, omega arith)
+    rw c.from.ensures (ap (λ (xs : List ℕ). set xs c.loop-i.i (get_or c.args.run.now c.loop-i.i 0)) c.loop-i.invariant ∙ written-more c.args.run.now c.loop-i.i (omega arith) c.requires.0)
 
 pub returns : goal.returns
 returns c =
-    let e : c.loop-i.i ≡ c.args.n = omega (arith, c.loop-i.invariant.1) in
-    run-result c.args.run.now c.args.n _ c.requires.1 c.requires.0 (c.loop-i.invariant.0 ∙ ap (written c.args.run.now) e)
+    let e : c.loop-i.i ≡ c.args.n = omega arith in
+    run-result c.args.run.now c.args.n _ c.requires.1 c.requires.0 (c.loop-i.invariant ∙ ap (written c.args.run.now) e)

@@ -8,18 +8,18 @@ use Rattle.searching.proofs.search_text.Goals as goal
 pub search_tables-requires : goal.search_tables-requires
 search_tables-requires c =
     let X = c.args.text.now in
-    let o = model-held X _ _ _ c.read_words-read.ensures.model_read c.in-Model.is in
-    ((o.model, worded X _ _ _ text_limit _ _ c.read_words-read.ensures.model_marked c.in-Model.is o), c.requires)
+    let o = model-held X _ _ _ c.read_words-read.ensures.model_read c.in-Ok.is in
+    ((o.model, worded X _ _ _ text_limit _ _ c.read_words-read.ensures.model_marked c.in-Ok.is o), c.requires)
 
-pub returns-in-Refused : goal.returns-in-Refused
-returns-in-Refused c =
+pub returns-in-Err : goal.returns-in-Err
+returns-in-Err c =
     λ bs.
     let X = c.args.text.now in
-    rw (c.bare.ensures, none-held X _ _ _ c.read_words-read.ensures.model_read c.in-Refused.is) (none-run (search' _ _) _)
+    rw (c.bare.ensures, none-held X _ _ _ c.read_words-read.ensures.model_read c.in-Err.is) (none-run (search' _ _) _)
 
-pub returns-in-Model : goal.returns-in-Model
-returns-in-Model c =
+pub returns-in-Ok : goal.returns-in-Ok
+returns-in-Ok c =
     λ bs.
     let X = c.args.text.now in
-    let o = model-held X _ _ _ c.read_words-read.ensures.model_read c.in-Model.is in
-    rw o.holds (c.search_tables.ensures o.model bs (worded X _ _ _ text_limit _ _ c.read_words-read.ensures.model_marked c.in-Model.is o))
+    let o = model-held X _ _ _ c.read_words-read.ensures.model_read c.in-Ok.is in
+    rw o.holds (c.search_tables.ensures o.model bs (worded X _ _ _ text_limit _ _ c.read_words-read.ensures.model_marked c.in-Ok.is o))

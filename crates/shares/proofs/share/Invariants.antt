@@ -1,7 +1,6 @@
 -- `shares::share` meets its contract. The loop's invariant: the numbers are the sums of the entries passed.
 use mathlib.Core.Path.{◌≡◌}
 use mathlib.Core.List.{List}
-use Prim.Native.Nat.{◌-◌, ◌≤◌}
 use lib.ListN.{length}
 use Rattle.model.specs.Resolved
 use Rattle.rules.specs.Listing.{Entry}
@@ -13,7 +12,4 @@ use Rattle.shares.proofs.share.Given as goal
 
 abbrev pub invariant-loop-i : goal.invariant-loop-i
 invariant-loop-i l =
-    (l.i ≤ l.count) × (length l.report ≡ report_length) × ((m : Resolved.Model) (s : State) (es : List Entry) → Shared l.state l.listing l.count m s es → l.report ≡ sums s es l.i)
-
-abbrev pub decreases-loop-i : goal.decreases-loop-i
-decreases-loop-i l = l.count - l.i
+    (length l.report ≡ report_length) × ((m : Resolved.Model) (s : State) (es : List Entry) → Shared l.state l.listing l.count m s es → l.report ≡ sums s es l.i)

@@ -4,12 +4,12 @@ use Rattle.step.proofs.arguments_given.Goals as goal
 
 pub arguments_given-requires : goal.arguments_given-requires
 arguments_given-requires c =
-    given-asks c.args.nodes.now c.args.locals.now c.args.next c.in-At.k c.in-At.is c.requires
+    given-asks c.args.nodes.now c.args.locals.now c.args.next c.in-Some.k c.in-Some.is c.requires
 
-pub returns-in-At : goal.returns-in-At
-returns-in-At c =
-    given_is c.args.nodes.now c.args.locals.now c.args.next c.in-At.k c.in-At.is c.arguments_given.result c.arguments_given.ensures
+pub returns-in-Some : goal.returns-in-Some
+returns-in-Some c =
+    given_is c.args.nodes.now c.args.locals.now c.args.next c.in-Some.k c.in-Some.is c.arguments_given.result c.arguments_given.ensures
 
-pub returns-in-Nothing : goal.returns-in-Nothing
-returns-in-Nothing c =
-    given-none c.args.nodes.now c.args.locals.now c.args.next c.in-Nothing.is
+pub returns-in-None : goal.returns-in-None
+returns-in-None c =
+    given-none c.args.nodes.now c.args.locals.now c.args.next c.in-None.is

@@ -26,10 +26,10 @@ bounds-scopes-sum c =
 
 pub branch_root-root-requires : goal.branch_root-root-requires
 branch_root-root-requires c =
-    rw (c.wide_root-first.ensures, c.sum_at-sum.ensures ∙ sum_is c.requires.acts) (chain c.requires.acts)
+    rw (c.from-first.ensures, c.sum_at-sum.ensures ∙ sum_is c.requires.acts) (chain c.requires.acts)
 
 pub returns : goal.returns
 returns c =
     let a = c.requires.acts in
     let q = c.sum_at-sum.ensures ∙ sum_is a in
-    (λ m s p b g h. let e = c.sum_at-sum.ensures ∙ sum_is h in (c.locals_in-own.ensures ∙ rw e (own_is h), root_is h c.branch_root-root.result (rw (c.wide_root-first.ensures, e) at c.branch_root-root.ensures)), rw (c.locals_in-own.ensures, q, own_is a) (few-own a))
+    (λ m s p b g h. let e = c.sum_at-sum.ensures ∙ sum_is h in (c.locals_in-own.ensures ∙ rw e (own_is h), root_is h c.branch_root-root.result (rw (c.from-first.ensures, e) at c.branch_root-root.ensures)), rw (c.locals_in-own.ensures, q, own_is a) (few-own a))

@@ -24,10 +24,6 @@ pub count_next-count-requires : goal.count_next-count-requires
 count_next-count-requires c =
     (c.requires.0.0, c.args.locals.now, c.requires.0.2, c.requires.0.4.defined)
 
-pub overflow_add-t-17 : goal.overflow_add-t-17
-overflow_add-t-17 c =
-    omega arith
-
 pub overflow_add-n : goal.overflow_add-n
 overflow_add-n c =
     omega (arith, c.process_count-n.ensures.1, c.count_next-count.ensures.1)

@@ -37,10 +37,6 @@ pub count_next-also-requires : goal.count_next-also-requires
 count_next-also-requires c =
     (c.requires.0.0, c.args.others.now, c.requires.0.3, c.requires.0.4.second)
 
-pub overflow_add-t-20 : goal.overflow_add-t-20
-overflow_add-t-20 c =
-    omega (arith, c.process_count-n.ensures.1, c.count_next-count.ensures.1, c.count_next-also.ensures.1)
-
 pub overflow_add-n : goal.overflow_add-n
 overflow_add-n c =
     omega (arith, c.process_count-n.ensures.1, c.count_next-count.ensures.1, c.count_next-also.ensures.1)

@@ -32,16 +32,16 @@ seek-list_here-listed-requires t c =
 
 pub seek-try_all-requires : goal.seek-try_all-requires
 seek-try_all-requires t c =
-    let p = c.requires.1.states in let q = c.requires.1.listings in let r = c.requires.1.entries in let f = seek-filled c.requires.0.0 c.requires.0.1 _ _ _ _ (c.list_here-listed.ensures c.requires.0.0 c.requires.0.1 (world-of c.requires.0.2 c.requires.0.3)) c.in-Filled.is in (omega arith, ((c.requires.0.0, c.requires.0.1, f.entries, c.requires.0.2, c.requires.0.3, lists_filled c.args.listings.now f, f.count-is), room-kept refl (filled-size c.args.listings.now f (omega arith)) refl c.requires.1))
+    let p = c.requires.1.states in let q = c.requires.1.listings in let r = c.requires.1.entries in let f = seek-filled c.requires.0.0 c.requires.0.1 _ _ _ _ (c.list_here-listed.ensures c.requires.0.0 c.requires.0.1 (world-of c.requires.0.2 c.requires.0.3)) c.in-Ok.is in (omega arith, ((c.requires.0.0, c.requires.0.1, f.entries, c.requires.0.2, c.requires.0.3, lists_filled c.args.listings.now f, f.count-is), room-kept refl (filled-size c.args.listings.now f (omega arith)) refl c.requires.1))
 
-pub seek-returns-in-Refused : goal.seek-returns-in-Refused
-seek-returns-in-Refused t c =
-    (λ m s h st. seek-refused m c.args.name.now s c.args.more _ _ _ _ _ _ (c.list_here-listed.ensures m s (world-of h st)) c.in-Refused.is, refl)
+pub seek-returns-in-Err : goal.seek-returns-in-Err
+seek-returns-in-Err t c =
+    (λ m s h st. seek-refused m c.args.name.now s c.args.more _ _ _ _ _ _ (c.list_here-listed.ensures m s (world-of h st)) c.in-Err.is, refl)
 
-pub seek-returns-in-Filled : goal.seek-returns-in-Filled
-seek-returns-in-Filled t c = (
+pub seek-returns-in-Ok : goal.seek-returns-in-Ok
+seek-returns-in-Ok t c = (
   λ m s h st.
-      let f = seek-filled m s _ _ _ _ (c.list_here-listed.ensures m s (world-of h st)) c.in-Filled.is in
+      let f = seek-filled m s _ _ _ _ (c.list_here-listed.ensures m s (world-of h st)) c.in-Ok.is in
       c.try_all.ensures.0 m s f.entries h st (lists_filled c.args.listings.now f) f.count-is,
   c.try_all.ensures.1,
 )
@@ -55,12 +55,12 @@ try_all-try_entry-tried-requires t c =
     let a = c.requires.0.6 in
     (omega arith, ((c.requires.0.0, c.requires.0.1, c.requires.0.2, c.requires.0.3, stands-kept c.loop-e.invariant.0 c.requires.0.4, lists-kept c.loop-e.invariant.1 c.requires.0.5, omega arith), room-kept c.loop-e.invariant.2 c.loop-e.invariant.3 c.loop-e.invariant.4 c.requires.1))
 
-pub try_all-returns-in-Found : goal.try_all-returns-in-Found
-try_all-returns-in-Found t c = (
+pub try_all-returns-in-Ok : goal.try_all-returns-in-Ok
+try_all-returns-in-Ok t c = (
   λ m s es h st l i.
       let j : c.loop-e.e < length es = omega arith in
       let u = c.try_entry-tried.ensures.0 m s es h (stands-kept c.loop-e.invariant.0 st) (lists-kept c.loop-e.invariant.1 l) j in
-      all_found m c.args.name.now s es l.listed c.args.more c.loop-e.e c.loop-e.met (c.loop-e.invariant.5 m s es h st l i) _ _ _ j u c.in-Found.is,
+      all_found m c.args.name.now s es l.listed c.args.more c.loop-e.e c.loop-e.met (c.loop-e.invariant.5 m s es h st l i) _ _ _ j u c.in-Ok.is,
   c.try_entry-tried.ensures.1 ∙ c.loop-e.invariant.0,
 )
 
@@ -74,7 +74,7 @@ try_all-loop-e-preserved t c = (
   λ m s es h st l i.
       let j : c.loop-e.e < length es = omega arith in
       let u = c.try_entry-tried.ensures.0 m s es h (stands-kept c.loop-e.invariant.0 st) (lists-kept c.loop-e.invariant.1 l) j in
-      all-lost m c.args.name.now s es l.listed c.args.more c.loop-e.e c.loop-e.met (c.loop-e.invariant.5 m s es h st l i) _ _ _ _ _ j u c.in-Lost.is c.either-met.ensures,
+      all-lost m c.args.name.now s es l.listed c.args.more c.loop-e.e c.loop-e.met (c.loop-e.invariant.5 m s es h st l i) _ _ _ _ _ j u c.in-Err.is refl,
 )
 
 pub try_all-returns : goal.try_all-returns

@@ -1,27 +1,17 @@
-use Rattle.machine.specs.State.{state_length}
-use lib.Seq.{paste}
-use Rattle.value.proofs.Kit.{back}
-use Rattle.walk.proofs.Rows.{copy_start, copy-on}
-use mathlib.Core.Path.{◌≡◌, refl, ap, ◌∙◌}
-use Prim.Native.Nat.{ℕ}
-use native.Mathlib.Omega.{arith}
-use borrow.Author.Rules.{rules}
-use lib.IntN.{pos}
-use lib.ListN.{length-set}
+-- The first row, and its copy over the second.
+use Rattle.std.proofs.Common.{◌≡◌, ◌∙◌, List, ◌++◌, sym, ap, append_assoc, length-take, take, drop, arith}
+use lib.IntN.{ℤ}
+use lib.Seq.{drop-drop}
 use Rattle.walk.proofs.copy_row.Goals as goal
 
-pub loop-i-init : goal.loop-i-init
-loop-i-init c =
-    (search rules, copy_start c.args.states.now state_length c.requires, refl)
+pub slice_bounds-copy_from_slice-end-2 : goal.slice_bounds-copy_from_slice-end-2
+slice_bounds-copy_from_slice-end-2 c = let h = c.split_at_mut-first.ensures in simp length-take (omega arith)
 
-pub bounds-states-i : goal.bounds-states-i
-bounds-states-i c =
-    let a = c.loop-i.invariant.2 in let b = c.requires in omega arith
-
-pub loop-i-preserved : goal.loop-i-preserved
-loop-i-preserved c =
-    (search rules, rw (back _ c.x-1.given) (copy-on c.args.states.now state_length c.requires (pos 0) c.loop-i.states c.loop-i.i (omega arith) c.loop-i.invariant.1), simp length-set c.loop-i.invariant.2)
+pub copy_from_slice-requires : goal.copy_from_slice-requires
+copy_from_slice-requires c = let h = c.split_at_mut-first.ensures in simp length-take (omega arith)
 
 pub returns : goal.returns
 returns c =
-    let e : c.loop-i.i ≡ state_length = let a = c.loop-i.invariant.0 in omega arith in c.loop-i.invariant.1 ∙ ap (λ (k : ℕ). paste c.args.states.now state_length c.args.states.now k) e
+    let s = c.args.states.now in
+    rw (c.copy_from_slice.ensures.after, c.split_at_mut-first.ensures.front, c.split_at_mut-first.ensures.back)
+    (ap (λ (l : List ℤ). take 5122 s ++ (take 5122 s ++ l)) (drop-drop 5122 5122 s) ∙ sym (append_assoc (take 5122 s) (take 5122 s) (drop 10244 s)))

@@ -19,12 +19,12 @@ seek-hit-requires c =
     let d = c.loop-more.invariant.3 in
     ((c.requires.0.0, c.requires.0.1, c.requires.0.2, stands-kept c.loop-more.invariant.0 c.requires.0.3), record { states = omega arith; listings = omega arith; entries = omega arith })
 
-pub returns-in-Found : goal.returns-in-Found
-returns-in-Found c =
+pub returns-in-Ok : goal.returns-in-Ok
+returns-in-Ok c =
     λ m s h st.
     let j : c.loop-more.more < c.args.depth = omega arith in
     let u = c.seek-hit.ensures.0 m s h (stands-kept c.loop-more.invariant.0 st) in
-    longer-found m c.args.name.now s c.args.depth c.loop-more.more c.loop-more.met (c.loop-more.invariant.4 m s h st) _ _ (omega (arith, c.requires.1.entries, c.loop-more.invariant.3)) j u c.in-Found.is
+    longer-found m c.args.name.now s c.args.depth c.loop-more.more c.loop-more.met (c.loop-more.invariant.4 m s h st) _ _ (omega (arith, c.requires.1.entries, c.loop-more.invariant.3)) j u c.in-Ok.is
 
 pub loop-more-preserved : goal.loop-more-preserved
 loop-more-preserved c = (
@@ -35,7 +35,7 @@ loop-more-preserved c = (
   λ m s h st.
       let j : c.loop-more.more < c.args.depth = omega arith in
       let u = c.seek-hit.ensures.0 m s h (stands-kept c.loop-more.invariant.0 st) in
-      longer-lost m c.args.name.now s c.args.depth c.loop-more.more c.loop-more.met (c.loop-more.invariant.4 m s h st) _ _ _ _ _ j u c.in-Lost.is c.either-met.ensures,
+      longer-lost m c.args.name.now s c.args.depth c.loop-more.more c.loop-more.met (c.loop-more.invariant.4 m s h st) _ _ _ _ _ j u c.in-Err.is refl,
 )
 
 pub returns : goal.returns

@@ -1,11 +1,10 @@
--- The loop's invariant: the first state stays, and what is left of the lengths gives the same, after the refusals met. The measure is what is left.
+-- The loop's invariant: the first state stays, and what is left of the lengths gives the same, after the refusals met.
 use Rattle.model.specs.Resolved
 use Rattle.machine.specs.State.{State, state_length}
 use Rattle.machine.specs.Machine.{moves_to}
 use Rattle.walk.specs.Hunted.{gone, or_else, hunt_longer}
 use Rattle.walk.specs.Held.{Held, Stands}
 use mathlib.Core.Path.{◌≡◌}
-use Prim.Native.Nat.{◌-◌}
 use lib.ListN.{length, take}
 use Rattle.walk.proofs.search_from.Given as goal
 
@@ -13,7 +12,3 @@ abbrev pub invariant-loop-more : goal.invariant-loop-more
 invariant-loop-more l =
     (take state_length l.states ≡ take state_length l.initial.states) × (length l.states ≡ length l.initial.states) × (length l.listings ≡ length l.initial.listings) × (length l.run ≡ length l.initial.run)
     × ((m : Resolved.Model) (s : State) → Held l.nodes l.roots l.scopes l.root l.variables l.text l.places l.sizes m → Stands l.initial.states m s → hunt_longer (moves_to m l.name) s l.depth 0 ≡ or_else (gone l.met) (hunt_longer (moves_to m l.name) s l.depth l.more))
-
-abbrev pub decreases-loop-more : goal.decreases-loop-more
-decreases-loop-more l =
-    l.depth - l.more

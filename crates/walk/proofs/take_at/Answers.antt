@@ -31,18 +31,18 @@ take_row-taken-requires c =
     let e = ap (mid_of state_length state_length) c.copy_row.ensures ∙ mid-twice c.args.states.now state_length c.requires.1 in
     (c.requires.0.0, c.requires.0.1, c.requires.0.2, entry_of y, row_of c.requires.0.3 c.requires.0.4 c.requires.0.5 c.requires.2 c.args.e c.requires.0.6 y c.entry_at-entry.ensures e)
 
-pub returns-in-Accepted : goal.returns-in-Accepted
-returns-in-Accepted c =
+pub returns-in-Ok : goal.returns-in-Ok
+returns-in-Ok c =
     λ m s es h st l i.
     let y = c.entry_at-entry.result in
     let e = ap (mid_of state_length state_length) c.copy_row.ensures ∙ mid-twice c.args.states.now state_length c.requires.1 in
     let a = c.take_row-taken.ensures m s es (entry_of y) (row_of h st l c.requires.2 c.args.e i y c.entry_at-entry.ensures e) in
-    takes-accepted h st l c.requires.2 c.args.e i y c.entry_at-entry.ensures c.args.name.now c.if-weight-eq0.false _ _ _ c.requires.1 c.copy_row.ensures a c.is_sought-wait.result (c.is_sought-wait.ensures m s y.partner y.pbranch y.pair y.weight (seen h st l c.requires.2 c.args.e i y c.entry_at-entry.ensures)) c.in-Accepted.is
+    takes-accepted h st l c.requires.2 c.args.e i y c.entry_at-entry.ensures c.args.name.now c.if-weight-eq0.false _ _ _ c.requires.1 c.copy_row.ensures a c.is_sought-wait.result (c.is_sought-wait.ensures m s y.partner y.pbranch y.pair y.weight (seen h st l c.requires.2 c.args.e i y c.entry_at-entry.ensures)) c.in-Ok.is
 
-pub returns-in-Refused : goal.returns-in-Refused
-returns-in-Refused c =
+pub returns-in-Err : goal.returns-in-Err
+returns-in-Err c =
     λ m s es h st l i.
     let y = c.entry_at-entry.result in
     let e = ap (mid_of state_length state_length) c.copy_row.ensures ∙ mid-twice c.args.states.now state_length c.requires.1 in
     let a = c.take_row-taken.ensures m s es (entry_of y) (row_of h st l c.requires.2 c.args.e i y c.entry_at-entry.ensures e) in
-    takes-refused h st l c.requires.2 c.args.e i y c.entry_at-entry.ensures c.args.name.now c.if-weight-eq0.false _ _ _ c.requires.1 c.copy_row.ensures a c.in-Refused.field-0 c.in-Refused.is
+    takes-refused h st l c.requires.2 c.args.e i y c.entry_at-entry.ensures c.args.name.now c.if-weight-eq0.false _ _ _ c.requires.1 c.copy_row.ensures a c.in-Err.field-0 c.in-Err.is

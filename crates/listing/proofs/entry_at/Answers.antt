@@ -1,8 +1,7 @@
 -- The seven numbers of a row.
 use mathlib.Core.Path.{refl}
-use Rattle.listing.specs.Buffer.{entry_of}
-use Rattle.walk.specs.Entries.{entry_in}
-use Rattle.walk.proofs.entry_at.Goals as goal
+use Rattle.listing.specs.Buffer.{entry_of, entry_in}
+use Rattle.listing.proofs.entry_at.Goals as goal
 
 pub returns : goal.returns
 unfolding entry_of entry_in

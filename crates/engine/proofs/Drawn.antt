@@ -10,6 +10,7 @@ use lib.Dec.{eqb, leb}
 use lib.IntN.{ℤ}
 use lib.ListN.{length, get_or, get_elem?, drop, replicate, length-map}
 use lib.Seq.{get_or-drop}
+use Rattle.std.specs.Prelude.{Err, Ok, None, Some}
 use Rattle.model.specs.Resolved
 use Rattle.rules.specs.Rules.{Key, key, Nth, first, later}
 use Rattle.rules.specs.Listing.{Entry, entry, key_of, weight_of, entries}
@@ -22,15 +23,11 @@ use Rattle.machine.specs.Machine.{listing_length, total_limit, no, listed_as, Li
 use Rattle.machine.proofs.Branches.{none-not-some, nth-get, get_nth, nth-below}
 use Rattle.machine.proofs.Listing.{accepted}
 use Rattle.machine.proofs.OneListing.{one-listing}
-use Rattle.listing.specs.declared.Chosen.{Chosen}
-use Rattle.listing.specs.declared.Chosen.TheVariants.{At, Nothing}
-use Rattle.listing.specs.declared.Listed.TheVariants.{Filled, Refused}
-use Rattle.listing.specs.Buffer.{rows, filled_numbers, listed_answer, Lists, weights_in, chosen_answer}
+use Rattle.listing.specs.Buffer.{rows, filled_numbers, listed_answer, Lists, weights_in, chosen_answer, refused, Chosen}
 use Rattle.listing.specs.Buffer as buffer
 use Rattle.listing.proofs.Weights.{rows-weights}
-use Rattle.step.specs.declared.Taken.{Taken}
-use Rattle.step.specs.declared.Taken.TheVariants.{Accepted, Refused as NotTaken}
-use Rattle.step.specs.Enter.{verdict, Answers}
+use Rattle.step.specs.declared.Refusal.TheVariants.{Arguments, Processes, Pairs}
+use Rattle.step.specs.Enter.{verdict, Answers, Taken}
 use Rattle.step.proofs.Answered.{taken-state}
 use Rattle.buffers.specs.Listing.{shown}
 use Rattle.buffers.specs.Parts.{lent_two}
@@ -42,6 +39,7 @@ use Rattle.engine.specs.Tables.{Finds, closed, holding}
 use Rattle.engine.specs.Steps.{Whole, entry_in, Counted, Row, taken_answer, Left}
 use Rattle.store.proofs.Tables.{left-two}
 use Rattle.engine.proofs.Shows.{filled-numbers, Refuses, entries as entries_of, refuses, listing-is, eleven-gives}
+use Rattle.running.proofs.Parts.{refused_number, refused_place, refused_branch, ok_first, ok_second}
 
 -- ---- an entry in the listing buffer
 shift : (l : List ℕ) (n : ℕ) → entry_in l (suc n) ≡ entry_in (drop 7 l) n
@@ -102,12 +100,12 @@ module _ {t roots scopes : List ℕ} {root variables : ℕ} {zs : List ℤ} {l :
   row_in = let q = entries-are m s es h.listing.listed in rw (← q) (in-nth (get_nth es c h.at))
 
 -- ---- 15, 16 and the entry that the draw chooses
-chosen-some : (o : Option ℕ) (r : Chosen) (c : ℕ) → r ≡ chosen_answer o → r ≡ At c → o ≡ some c
+chosen-some : (o : Option ℕ) (r : Chosen) (c : ℕ) → r ≡ chosen_answer o → r ≡ Some c → o ≡ some c
 unfolding chosen_answer
 chosen-some none r c e f = let z : ◌≡◌ {A = ℕ} 0 1 = cc in absurd (omega arith)
 chosen-some (some i) r c e f = cc
 
-chosen_none : (o : Option ℕ) (r : Chosen) → r ≡ chosen_answer o → r ≡ Nothing → o ≡ none
+chosen_none : (o : Option ℕ) (r : Chosen) → r ≡ chosen_answer o → r ≡ None → o ≡ none
 unfolding chosen_answer
 chosen_none none r e f = refl
 chosen_none (some i) r e f = let z : ◌≡◌ {A = ℕ} 0 1 = cc in absurd (omega arith)
@@ -131,7 +129,7 @@ refusing-left s es n zs e = record { answer = refl; state = e }
 
 asked : (a b d : Bool) (s s' : State) (es : List Entry) (c : ℕ)
     → let t = cond a (cond b (cond d (accepting s' es c) (refusing s es 19)) (refusing s es 18)) (refusing s es 17) in
-    let r = cond a (cond b (cond d Accepted (NotTaken 19)) (NotTaken 18)) (NotTaken 17) in
+    let r = cond {A = Taken} a (cond b (cond d (Ok tt) (Err Pairs)) (Err Processes)) (Err Arguments) in
     taken_answer r (length es) (total (weights es)) c ≡ filled t.answer.number t.answer.count t.answer.total t.answer.chosen
 unfolding listed_as taken_answer
 asked true true true s s' es c = refl
@@ -156,7 +154,7 @@ module _ {t roots scopes : List ℕ} {root variables : ℕ} {zs : List ℤ} {l :
   pub can-choose : (count * 7 ≤ length l) × (total (weights_in l count) ≤ total_limit)
   can-choose = (rw (h.listing.numbers, h.count-is) (filled-fits es), rw weights-are (bounded m s es h.listing.listed))
 
-  pub row_of : (r : Chosen) (d c : ℕ) → r ≡ chosen_answer (chosen (weights_in l count) d) → r ≡ At c → (e : Entry) × Row t roots scopes root variables zs l c m s es e
+  pub row_of : (r : Chosen) (d c : ℕ) → r ≡ chosen_answer (chosen (weights_in l count) d) → r ≡ Some c → (e : Entry) × Row t roots scopes root variables zs l c m s es e
   unfolding weights
   row_of r d c q g =
       let p : chosen (weights es) d ≡ some c = ap (λ (ws : List ℕ). chosen ws d) (sym weights-are) ∙ chosen-some (chosen (weights_in l count) d) r c q g in
@@ -167,12 +165,12 @@ module _ {t roots scopes : List ℕ} {root variables : ℕ} {zs : List ℤ} {l :
   pub left-15 : (d : ℕ) → sum ≡ 0 → Left (drawn m s es d) (filled 15 count sum 0) zs
   left-15 d e = rw (draw-15 m s es d (sym h.sum_is ∙ e), h.count-is, h.sum_is) (refusing-left s es 15 zs h.listing.lent.stands.numbers)
 
-  pub left-16 : (d : ℕ) (r : Chosen) → (sum ≡ 0 → ⊥) → r ≡ chosen_answer (chosen (weights_in l count) d) → r ≡ Nothing → Left (drawn m s es d) (filled 16 count sum 0) zs
+  pub left-16 : (d : ℕ) (r : Chosen) → (sum ≡ 0 → ⊥) → r ≡ chosen_answer (chosen (weights_in l count) d) → r ≡ None → Left (drawn m s es d) (filled 16 count sum 0) zs
   left-16 d r n q g =
       let p : chosen (weights es) d ≡ none = ap (λ (ws : List ℕ). chosen ws d) (sym weights-are) ∙ chosen_none (chosen (weights_in l count) d) r q g in
       rw (draw-16 m s es d (λ e. n (h.sum_is ∙ e)) p, h.count-is, h.sum_is) (refusing-left s es 16 zs h.listing.lent.stands.numbers)
 
-  pub left-taken : (d c : ℕ) (e : Entry) (r : Chosen) (x : Taken) (ys : List ℤ) → (sum ≡ 0 → ⊥) → r ≡ chosen_answer (chosen (weights_in l count) d) → r ≡ At c → Row t roots scopes root variables zs l c m s es e
+  pub left-taken : (d c : ℕ) (e : Entry) (r : Chosen) (x : Taken) (ys : List ℤ) → (sum ≡ 0 → ⊥) → r ≡ chosen_answer (chosen (weights_in l count) d) → r ≡ Some c → Row t roots scopes root variables zs l c m s es e
       → Answers (entry_arguments m s (key_of e)) s (entry_state m s (key_of e)) x ys → Left (drawn m s es d) (taken_answer x count sum c) ys
   left-taken d c e r x ys n q g k a =
       let p : chosen (weights es) d ≡ some c = ap (λ (ws : List ℕ). chosen ws d) (sym weights-are) ∙ chosen-some (chosen (weights_in l count) d) r c q g in
@@ -229,19 +227,19 @@ module _ (bs : List ℕ) (zs : List ℤ) (l : List ℕ) (d : ℕ) where
   })
 
   -- 01, 12 to 14: zero the listing
-  choosing-gives : length l ≡ listing_length → (m : Resolved.Model) (s : State) {x : Listed} → Refuses x → state_numbers s ≡ zs → (n p c : ℕ) (b : List ℕ) → Refused n p c ≡ listed_answer x → b ≡ buffer.listing_numbers x
+  choosing-gives : length l ≡ listing_length → (m : Resolved.Model) (s : State) {x : Listed} → Refuses x → state_numbers s ≡ zs → (n p c : ℕ) (b : List ℕ) → Err (refused n p c) ≡ listed_answer x → b ≡ buffer.listing_numbers x
       → Gives (leaves two_parts (lent_two bs zs) l (turn (machine.holding (machine.held m (choosing m s d x).machine)) (choosing m s d x).answer)) (bare n p c) (lent_two bs zs) b
   unfolding leaves choosing no shown listed_answer buffer.listing_numbers
   choosing-gives long m s entries_of e n p c b q f = let z : ◌≡◌ {A = ℕ} 0 1 = cc in absurd (omega arith)
   choosing-gives long m s (refuses i j k) e n p c b q f =
-      record { number = cc; place = cc; branch = cc; count = refl; total = refl; chosen = refl; buffers = left-two bs zs zs m s (sym e); output = f ∙ ap (λ (i : ℕ). replicate i 0) (sym long) }
+      record { number = refused_number q; place = refused_place q; branch = refused_branch q; count = refl; total = refl; chosen = refl; buffers = left-two bs zs zs m s (sym e); output = f ∙ ap (λ (i : ℕ). replicate i 0) (sym long) }
 
-  pub refused-gives : length l ≡ listing_length → (m : Resolved.Model) (n p c : ℕ) (b : List ℕ) → Finds m zs l (Refused n p c) b → Gives (requested (step' d) (lent_two bs zs) l (some m)) (bare n p c) (lent_two bs zs) b
+  pub refused-gives : length l ≡ listing_length → (m : Resolved.Model) (n p c : ℕ) (b : List ℕ) → Finds m zs l (Err (refused n p c)) b → Gives (requested (step' d) (lent_two bs zs) l (some m)) (bare n p c) (lent_two bs zs) b
   unfolding requested on_machine acts on_state steps_with
   refused-gives long m n p c b (closed e q f) =
-      let i : n ≡ 11 = cc in
-      let j : p ≡ 0 = cc in
-      let k : c ≡ 0 = cc in
+      let i : n ≡ 11 = refused_number q in
+      let j : p ≡ 0 = refused_place q in
+      let k : c ≡ 0 = refused_branch q in
       rw (e bs, i, j, k, f) (eleven-gives (step' d) (lent_two bs zs) l)
   refused-gives long m n p c b (holding {s} e g z h) = rw (e bs) (choosing-gives long m s (listing-is m s) (sym z) n p c b h.answer h.numbers)
 
@@ -256,12 +254,12 @@ module _ (t roots scopes : List ℕ) (root variables sums channels : ℕ) (m : R
   pub tables-of : Tables t roots scopes sums channels m
   tables-of = record { root = root; variables = variables; definitions = w.definitions; represents = w.represents; good = w.good }
 
-  pub found : (zs : List ℤ) (l : List ℕ) (count sum : ℕ) (b : List ℕ) → Finds m zs l (Filled count sum) b → Found t roots scopes root variables zs b count sum m
+  pub found : (zs : List ℤ) (l : List ℕ) (count sum : ℕ) (b : List ℕ) → Finds m zs l (Ok (count, sum)) b → Found t roots scopes root variables zs b count sum m
   unfolding listed_answer buffer.listing_numbers
   found zs l count sum b (closed e q f) = let z : ◌≡◌ {A = ℕ} 0 1 = cc in absurd (omega arith)
   found zs l count sum b (holding {s} e g z h) = go (machine.listing m s) refl h
     where
-      go : (x : Listed) → machine.listing m s ≡ x → Lists x (Filled count sum) b → Found t roots scopes root variables zs b count sum m
+      go : (x : Listed) → machine.listing m s ≡ x → Lists x (Ok (count, sum)) b → Found t roots scopes root variables zs b count sum m
       go (refused_with a) q k = let y : ◌≡◌ {A = ℕ} 0 1 = cc k.answer in absurd (omega arith)
       go (entries_are es) q k = record {
         state = s;
@@ -273,8 +271,8 @@ module _ (t roots scopes : List ℕ) (root variables sums channels : ℕ) (m : R
             listed = q;
             numbers = k.numbers;
           };
-          count-is = cc k.answer;
-          sum_is = cc k.answer;
+          count-is = ok_first k.answer;
+          sum_is = ok_second k.answer;
         };
       }
 

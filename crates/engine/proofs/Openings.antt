@@ -6,7 +6,8 @@ use Prim.Native.Nat.{ℕ, ◌≤◌}
 use native.Mathlib.Omega.{arith}
 use lib.IntN.{ℤ, pos}
 use lib.ListN.{length, replicate}
-use Rattle.token.specs.Questions.{text_limit}
+use Rattle.std.specs.Prelude.{Err, Ok}
+use Rattle.token.specs.Questions.{text_limit, refusal}
 use Rattle.clock.specs.Clock.{fresh_clock}
 use Rattle.model.specs.Resolved
 use Rattle.model.specs.Opening.{Opening, refused, opened}
@@ -26,12 +27,8 @@ use Rattle.store.specs.Tables.{Tables}
 use Rattle.engine.specs.Steps.{Whole}
 use Rattle.store.specs.Start as start
 use Rattle.settle.specs.declared.Model.{Model}
-use Rattle.opening.specs.declared.Held.{Held}
-use Rattle.opening.specs.declared.Held.TheVariants.{Refused as HeldRefused, Model as HeldModel}
-use Rattle.opening.specs.declared.Opened.{Opened}
-use Rattle.opening.specs.declared.Opened.TheVariants.{Refused, Accepted}
 use Rattle.opening.specs.Trees.{Closed}
-use Rattle.opening.specs.Models.{ModelHeld, ModelRead, ModelOpened}
+use Rattle.opening.specs.Models.{ModelHeld, ModelRead, ModelOpened, Held, Opened}
 use Rattle.steady.specs.declared.Profile.{Profile}
 use Rattle.steady.specs.declared.Profile.TheVariants.{Plain, Steady}
 use Rattle.steady.specs.Opens.{opening_under, OpenedUnder, OpensUnder}
@@ -40,11 +37,11 @@ use Rattle.engine.proofs.Shows.{none-gives}
 
 module _ (text t roots scopes : List ℕ) where
   -- ---- opening
-  pub opened-is : (q : Profile) {r : Opened} {x : Model} {k : ℕ} → OpensUnder q text t roots scopes r → r ≡ Accepted x k → OpenedUnder q text t roots scopes x k
+  pub opened-is : (q : Profile) {r : Opened} {x : Model} {k : ℕ} → OpensUnder q text t roots scopes r → r ≡ Ok (x, k) → OpenedUnder q text t roots scopes x k
   unfolding OpensUnder
   opened-is q o e = rw e at o
 
-  pub refused-is : (q : Profile) {r : Opened} {n p : ℕ} → OpensUnder q text t roots scopes r → r ≡ Refused n p → opening_under q text ≡ refused n p
+  pub refused-is : (q : Profile) {r : Opened} {n p : ℕ} → OpensUnder q text t roots scopes r → r ≡ Err (refusal n p) → opening_under q text ≡ refused n p
   unfolding OpensUnder
   refused-is q o e = rw e at o
 
@@ -61,11 +58,11 @@ module _ (text t roots scopes : List ℕ) where
   }
 
   -- ---- the text in a model buffer
-  pub held-is : {r : Held} {x : Model} {p : ℕ} → ModelRead text t roots scopes r → r ≡ HeldModel x p → ModelHeld text t roots scopes x p
+  pub held-is : {r : Held} {x : Model} {p : ℕ} → ModelRead text t roots scopes r → r ≡ Ok (x, p) → ModelHeld text t roots scopes x p
   unfolding ModelRead
   held-is o e = rw e at o
 
-  pub closed_is : {r : Held} {n p : ℕ} → ModelRead text t roots scopes r → r ≡ HeldRefused n p → held text ≡ none
+  pub closed_is : {r : Held} {n p : ℕ} → ModelRead text t roots scopes r → r ≡ Err (refusal n p) → held text ≡ none
   unfolding ModelRead
   closed_is {r} {n} {p} o e = let c : Closed text n p = rw e at o in c.holds
 

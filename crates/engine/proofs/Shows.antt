@@ -21,9 +21,8 @@ use Rattle.machine.specs.Machine.{Listed, entries_are, refused_with, zeroed, no,
 use Rattle.machine.proofs.Everys.{every_in, in-every}
 use Rattle.state.specs.Test.{is_state}
 use Rattle.offers.specs.Collect.{FewBranches, World}
-use Rattle.listing.specs.Buffer.{rows, filled_numbers, listed_answer, Lists}
+use Rattle.listing.specs.Buffer.{rows, filled_numbers, listed_answer, Lists, Listed as Found}
 use Rattle.listing.specs.Buffer as buffer
-use Rattle.listing.specs.declared.Listed.{Listed as Found}
 use Rattle.buffers.specs.Listing.{entry_numbers, entries_numbers, listing_numbers, shown}
 use Rattle.buffers.specs.Parts.{Engine, lent_two}
 use Rattle.buffers.specs.Effect.{machine_over, left_in, leaves, requested}

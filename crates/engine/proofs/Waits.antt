@@ -7,12 +7,13 @@ use Prim.Native.Nat.{ℕ, zero, suc, ◌<◌}
 use native.Mathlib.Omega.{arith}
 use borrow.Author.Tests.{eq-eqb, ne_eqb}
 use lib.Dec.{eqb}
+use Rattle.std.specs.Prelude.{Err, Ok, is_ok}
 use lib.IntN.{ℤ}
 use lib.ListN.{length, take, drop, drop_of_length-le}
 use lib.Seq.{take_all}
 use Rattle.clock.specs.declared.Clock.{Clock}
-use Rattle.clock.specs.declared.Brought.{Brought}
-use Rattle.clock.specs.Clock.{is_in_range, brought_by}
+use Rattle.clock.specs.declared.Late.{Late}
+use Rattle.clock.specs.Clock.{is_in_range, late_number, Brought, brought_by}
 use Rattle.model.specs.Resolved
 use Rattle.rules.specs.Listing.{Entry}
 use Rattle.rules.specs.Draw.{weights, total}
@@ -215,21 +216,21 @@ module _ (bs : List ℕ) (zs : List ℤ) (c : Clock) (ds : List ℕ) (d : ℕ) (
         after-held = record {
           refused = λ n. as_step (turn (timed t.machine c) t.answer) (rw (ne_eqb t.answer.number 0 (λ z. n (same_number ∙ z))) refl) refl zs' state-so;
           positive = λ n. rw same_total (positive d m s (sym same_number ∙ n));
-          waits = λ n k ys w. by n k ys w (eqb (brought_by c ds r.total).number 0) refl;
+          waits = λ n k ys w. by n k ys w (brought_by c ds r.total) refl;
         }
           where
             step-on : r.number ≡ 0 → u ≡ with_wait s c t (brought_by c ds t.answer.total)
             step-on n = unfold steps_in in rw (eq-eqb t.answer.number 0 (sym same_number ∙ n)) refl
 
-            by : r.number ≡ 0 → (k : results.Timed) (ys : List ℤ) → Waited r c (brought_by c ds r.total) zs zs' k ys → (b : Bool) → eqb (brought_by c ds r.total).number 0 ≡ b → Gives W k.answer (lent_timed bs ys k.clock) l'
-            by n k ys w true f = unfold after_wait with_wait in
-                let v = turn (timed t.machine (brought_by c ds r.total).clock) t.answer in
+            by : r.number ≡ 0 → (k : results.Timed) (ys : List ℤ) → Waited r c (brought_by c ds r.total) zs zs' k ys → (b : Brought) → brought_by c ds r.total ≡ b → Gives W k.answer (lent_timed bs ys k.clock) l'
+            by n k ys w (Ok c') f = unfold after_wait with_wait in
+                let v = turn (timed t.machine c') t.answer in
                 let h : u ≡ v = step-on n ∙ ap (with_wait s c t) (sym bring-so) ∙ rw f refl in
-                let p : k ≡ record { answer = r; clock = (brought_by c ds r.total).clock } = w.timed ∙ rw f refl in
+                let p : k ≡ record { answer = r; clock = c' } = w.timed ∙ rw f refl in
                 let z : ys ≡ zs' = w.state ∙ rw f refl in
                 rw (p, z) (as_step v h refl zs' state-so)
-            by n k ys w false f = unfold after_wait with_wait in
-                let i = (brought_by c ds r.total).number in
+            by n k ys w (Err e) f = unfold after_wait with_wait in
+                let i = late_number e in
                 let h : u ≡ turn (timed s c) (refused_as i t.answer) = step-on n ∙ ap (with_wait s c t) (sym bring-so) ∙ rw f refl in
                 let p : k ≡ record { answer = filled i r.count r.total 0; clock = c } = w.timed ∙ rw f refl in
                 let z : ys ≡ zs = w.state ∙ rw f refl in
@@ -250,28 +251,28 @@ pub of-gives : (E : Effect) (bs : List ℕ) (zs : List ℤ) (l : List ℕ) (r : 
     → Gives E r.answer (lent_timed bs zs r.clock) l
 of-gives E bs zs l r a b c p q g = rw (p, q) g
 
-pub waited-yes : (a : result.Answer) (c : Clock) (b b' : Brought) (before zs : List ℤ) (r : results.Timed) → b' ≡ b → b'.number ≡ 0 → r ≡ record { answer = a; clock = b'.clock } → Waited a c b before zs r zs
+pub waited-yes : (a : result.Answer) (c k : Clock) (b b' : Brought) (before zs : List ℤ) (r : results.Timed) → b' ≡ b → b' ≡ Ok k → r ≡ record { answer = a; clock = k } → Waited a c b before zs r zs
 unfolding after_wait
-waited-yes a c b b' before zs r e z p =
-    let q : eqb b.number 0 ≡ true = ap (λ (b : Brought). eqb b.number 0) (sym e) ∙ eq-eqb b'.number 0 z in
-    record { timed = rw q (p ∙ ap (λ (b : Brought). record { answer = a; clock = b.clock }) e); state = rw q refl }
+waited-yes a c k b b' before zs r e z p =
+    let q : b ≡ Ok k = sym e ∙ z in
+    record { timed = rw q p; state = rw q refl }
 
 -- numbers put over as many
 pub put-over : (n : ℕ) (xs ys : List ℤ) → length xs ≡ n → length ys ≡ n → take n xs ++ drop n ys ≡ xs
 put-over n xs ys h k = ap₂ (λ (a b : List ℤ). a ++ b) (take_all n xs (omega arith)) (drop_of_length-le ys {i = n} (omega arith)) ∙ append-nil xs
 
-pub waited-no : (a f : result.Answer) (c : Clock) (b b' : Brought) (before zs zs' : List ℤ) (r : results.Timed) → b' ≡ b → (b'.number ≡ 0 → ⊥) → f ≡ filled b'.number a.count a.total 0 → r ≡ record { answer = f; clock = c }
+pub waited-no : (a f : result.Answer) (c : Clock) (b b' : Brought) (l : Late) (n : ℕ) (before zs zs' : List ℤ) (r : results.Timed) → b' ≡ b → b' ≡ Err l → n ≡ late_number l → f ≡ filled n a.count a.total 0 → r ≡ record { answer = f; clock = c }
     → length before ≡ state_length → length zs ≡ state_length → zs' ≡ take state_length before ++ drop state_length zs → Waited a c b before zs r zs'
 unfolding after_wait
-waited-no a f c b b' before zs zs' r e z p g h k o =
-    let q : eqb b.number 0 ≡ false = ap (λ (b : Brought). eqb b.number 0) (sym e) ∙ ne_eqb b'.number 0 z in
+waited-no a f c b b' l n before zs zs' r e z i p g h k o =
+    let q : b ≡ Err l = sym e ∙ z in
     record {
-      timed = rw q (g ∙ ap (λ (f : result.Answer). record { answer = f; clock = c }) (p ∙ ap (λ (b : Brought). filled b.number a.count a.total 0) e));
+      timed = rw q (g ∙ ap (λ (f : result.Answer). record { answer = f; clock = c }) (p ∙ ap (λ (n : ℕ). filled n a.count a.total 0) i));
       state = rw q (o ∙ put-over state_length before zs h k);
     }
 
 pub waited-from : {a : result.Answer} {c : Clock} {b : Brought} {before before' zs ys : List ℤ} {r : results.Timed} → before ≡ before' → Waited a c b before zs r ys → Waited a c b before' zs r ys
-waited-from {b = b} {zs = zs} e w = record { timed = w.timed; state = w.state ∙ ap (λ (l : List ℤ). cond (eqb b.number 0) zs l) e }
+waited-from {b = b} {zs = zs} e w = record { timed = w.timed; state = w.state ∙ ap (λ (l : List ℤ). cond (is_ok b) zs l) e }
 
 pub put-long : (n : ℕ) (xs ys zs : List ℤ) → zs ≡ take n xs ++ drop n ys → length xs ≡ n → length ys ≡ n → length zs ≡ n
 put-long n xs ys zs e h k = ap length (e ∙ put-over n xs ys h k) ∙ h

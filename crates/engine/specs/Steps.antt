@@ -1,5 +1,5 @@
 -- What a step is lent after its listing, and what it leaves (01, Step). Definitions only.
-use Rattle.std.specs.Prelude.{◌≡◌, List, ℕ, ◌+◌, ◌*◌, ℤ, length, get_or}
+use Rattle.std.specs.Prelude.{◌≡◌, List, ℕ, ◌+◌, ◌*◌, ℤ, length, get_or, Err, Ok}
 use Rattle.std.proofs.Math.Option.{some}
 use Rattle.std.proofs.Math.ListN.{get_elem?}
 use Rattle.model.specs.Resolved
@@ -11,9 +11,7 @@ use Rattle.rules.specs.Draw.{weights, total}
 use Rattle.machine.specs.State.{State, state_numbers}
 use Rattle.machine.specs.Machine.{entry_width, entries_are, listing, Turn}
 use Rattle.listing.specs.Buffer.{filled_numbers}
-use Rattle.step.specs.declared.Taken.{Taken}
-use Rattle.step.specs.declared.Taken.TheVariants.{Accepted, Refused}
-use Rattle.step.specs.Enter.{Lent}
+use Rattle.step.specs.Enter.{Lent, Taken, refusal_number}
 use Rattle.engine.specs.declared.Answer.{Answer}
 use Rattle.engine.specs.Gives.{filled}
 
@@ -48,8 +46,8 @@ pub record Row (t roots scopes : List ℕ) (root variables : ℕ) (zs : List ℤ
 
 -- 01, Listing and stepping: acceptance, with the entry that was taken, or 17 to 19
 unfoldable pub taken_answer : Taken → (count sum chosen : ℕ) → Answer
-taken_answer Accepted count sum chosen = filled 0 count sum chosen
-taken_answer (Refused number) count sum chosen = filled number count sum 0
+taken_answer (Ok u) count sum chosen = filled 0 count sum chosen
+taken_answer (Err r) count sum chosen = filled (refusal_number r) count sum 0
 
 -- 01, Step: the answer and the numbers that a turn leaves
 pub record Left (t : Turn State) (r : Answer) (zs : List ℤ) : Type 0 where

@@ -17,10 +17,9 @@ ghost use Rattle.engine.specs.Waited.{Keeping, Returned};
 
 use crate::{Answer, Timed};
 use clock::Clock;
-use opening::Held;
 use saves::Layout;
 use store::Engine;
-use store::buffer::{Bytes, Text};
+use store::buffer::Bytes;
 use syntax::question;
 
 // Whether a state and saves are over the sums with these scopes and so many channel names.
@@ -42,11 +41,10 @@ fn holds_text(text: &[u8], state: &[i64], saves: &[i64]) -> bool
     let mut nodes = [0u64; question::Limits::TOKENS];
     let mut roots = [0u16; question::Limits::TOKENS];
     let mut scopes = [0u16; question::Limits::TOKENS];
-    let read = crate::texts::read_held(text, &mut nodes, &mut roots, &mut scopes);
-    match read {
-        Held::Refused(_, _) => false,
-        Held::Model(found, _) => { holds_model(&scopes, found.sums, found.channels, state, saves) }
-    }
+    let Ok((found, _)) = simulation::read_tables(text, &mut nodes, &mut roots, &mut scopes) else {
+        return false;
+    };
+    holds_model(&scopes, found.sums, found.channels, state, saves)
 }
 
 // Question 11 of buffers of the right lengths.
@@ -54,14 +52,11 @@ pub fn holds(model: &[u8], state: &[i64], saves: &[i64]) -> bool
     requires { (length model.now ≡ model_length) × (length state.now ≡ state_length) × (length saves.now ≡ saves_length) }
     ensures { result ≡ is_holding (machine_in three_parts (lent_three model.now state.now saves.now)) }
 {
-    let found = store::buffer::find_text(model);
-    match found {
-        Text::Nothing => false,
-        Text::Long(n) => {
-            let end = Bytes::FIRST + n;
-            holds_text(&model[Bytes::FIRST..end], state, saves)
-        }
-    }
+    let Some(n) = store::buffer::find_text(model) else {
+        return false;
+    };
+    let end = Bytes::FIRST + n;
+    holds_text(&model[Bytes::FIRST..end], state, saves)
 }
 
 // The same, and of a clock.

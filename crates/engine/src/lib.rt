@@ -18,7 +18,7 @@ ghost use Rattle.buffers.specs.Effect.{answered, effect};
 ghost use Rattle.independence.specs.Judged.{judged};
 ghost use Rattle.engine.specs.Gives.{bare, filled, Gives, are_parts_long, are_long, are_all_long};
 ghost use Rattle.engine.specs.Waited.{timed};
-ghost use Rattle.engine.specs.Ran.{simulated, GivesRan, told_of};
+ghost use Rattle.engine.specs.Ran.{GivesRan, told_of};
 ghost use Rattle.engine.specs.Asks.{ask_under};
 
 use clock::Clock;
@@ -26,7 +26,7 @@ use running::Progress;
 use saves::Layout;
 use steady::Profile;
 use store::Engine;
-use store::buffer::{Bytes, Text};
+use store::buffer::Bytes;
 
 // What a call answers: 0 or a refusal's number; its place and branch; the listing's entries, their total, and the entry that a step took.
 #[repr(C)]
@@ -233,14 +233,11 @@ fn list_lent(model: &[u8], state: &[i64], listing: &mut [u64]) -> Answer
     requires { (length model.now ≡ model_length) × (length state.now ≡ state_length) × (length listing.old ≡ listing_length) }
     ensures { Gives (answered (on' list') (lent_two model.now state.now) listing.old) result (lent_two model.now state.now) listing.new }
 {
-    let found = store::buffer::find_text(model);
-    match found {
-        Text::Nothing => Answer::bare(11, 0, 0),
-        Text::Long(n) => {
-            let end = Bytes::FIRST + n;
-            texts::list_text(&model[Bytes::FIRST..end], state, listing)
-        }
-    }
+    let Some(n) = store::buffer::find_text(model) else {
+        return Answer::bare(11, 0, 0);
+    };
+    let end = Bytes::FIRST + n;
+    texts::list_text(&model[Bytes::FIRST..end], state, listing)
 }
 
 // Lists every transition that can happen next, with its weight.
@@ -258,14 +255,11 @@ fn step_lent(model: &[u8], state: &mut [i64], listing: &mut [u64], draw: u64) ->
     requires { (length model.now ≡ model_length) × (length state.old ≡ state_length) × (length listing.old ≡ listing_length) }
     ensures { Gives (answered (on' (step' draw)) (lent_two model.now state.old) listing.old) result (lent_two model.now state.new) listing.new }
 {
-    let found = store::buffer::find_text(model);
-    match found {
-        Text::Nothing => Answer::bare(11, 0, 0),
-        Text::Long(n) => {
-            let end = Bytes::FIRST + n;
-            texts::step_text(&model[Bytes::FIRST..end], state, listing, draw)
-        }
-    }
+    let Some(n) = store::buffer::find_text(model) else {
+        return Answer::bare(11, 0, 0);
+    };
+    let end = Bytes::FIRST + n;
+    texts::step_text(&model[Bytes::FIRST..end], state, listing, draw)
 }
 
 // Lists, then takes the entry that the draw chooses.
@@ -326,14 +320,11 @@ fn report_lent(model: &[u8], state: &[i64], report: &mut [u64]) -> Answer
     requires { (length model.now ≡ model_length) × (length state.now ≡ state_length) × (length report.old ≡ report_length) }
     ensures { Gives (answered (on' report') (lent_two model.now state.now) report.old) result (lent_two model.now state.now) report.new }
 {
-    let found = store::buffer::find_text(model);
-    match found {
-        Text::Nothing => Answer::bare(11, 0, 0),
-        Text::Long(n) => {
-            let end = Bytes::FIRST + n;
-            texts::report_text(&model[Bytes::FIRST..end], state, report)
-        }
-    }
+    let Some(n) = store::buffer::find_text(model) else {
+        return Answer::bare(11, 0, 0);
+    };
+    let end = Bytes::FIRST + n;
+    texts::report_text(&model[Bytes::FIRST..end], state, report)
 }
 
 // Lists, and reports the sum of the weights of each definition's processes.

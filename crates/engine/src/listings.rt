@@ -11,17 +11,15 @@ ghost use Rattle.engine.specs.Gives.{Gives};
 ghost use Rattle.engine.specs.Tables.{answer_of, Finds};
 
 use crate::Answer;
-use listing::Listed;
+use listing::Refusal;
 
 // The answer that a listing gives.
-pub fn listed_answer(listed: Listed) -> Answer
+pub fn listed_answer(listed: Result<(usize, u64), Refusal>) -> Answer
     ensures { result ≡ answer_of listed }
 {
     match listed {
-        Listed::Filled(count, total) => Answer::filled(0, count as u64, total, 0),
-        Listed::Refused(number, place, branch) => {
-            Answer::bare(number, place as u64, branch as u64)
-        }
+        Ok((count, total)) => Answer::filled(0, count as u64, total, 0),
+        Err(r) => Answer::bare(r.number, r.place as u64, r.branch as u64),
     }
 }
 
@@ -34,12 +32,16 @@ pub fn list_state(
     channels: usize,
     state: &[i64],
     listing: &mut [u64],
-) -> Listed
+) -> Result<(usize, u64), Refusal>
     requires { ((m : Resolved.Model) × Tables nodes.now roots.now scopes.now sums channels m) × (length state.now ≡ state_length) × (length listing.old ≡ listing_length) }
     ensures { (m : Resolved.Model) → Tables nodes.now roots.now scopes.now sums channels m → Finds m state.now listing.old result listing.new }
 {
     if !state::is_state(state, scopes, sums, channels) {
-        return Listed::Refused(11, 0, 0);
+        return Err(Refusal {
+            number: 11,
+            place: 0,
+            branch: 0,
+        });
     }
     listing::list_here(nodes, roots, scopes, state, listing)
 }

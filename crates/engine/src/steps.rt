@@ -1,20 +1,18 @@
 // A step over the tables of a model: question 11 and the listing, then the entry that the draw chooses is taken.
-ghost use Rattle.std.specs.Prelude.{◌≡◌, List, ℕ, ◌+◌, ◌*◌, ◌≤◌, length};
+ghost use Rattle.std.specs.Prelude.{◌≡◌, List, ℕ, length};
 ghost use Rattle.std.proofs.Math.Option.{some};
 ghost use Rattle.model.specs.Resolved as Resolved;
 ghost use Rattle.rules.specs.Listing as rules;
 ghost use Rattle.machine.specs.State.{State, state_length};
-ghost use Rattle.machine.specs.Machine.{entry_width, listing_length, entry_arguments, entry_state, drawn, step'};
-ghost use Rattle.listing.specs.Buffer.{entry_of};
+ghost use Rattle.machine.specs.Machine.{listing_length, entry_arguments, entry_state, drawn, step'};
 ghost use Rattle.step.specs.Enter.{Answers};
 ghost use Rattle.buffers.specs.Parts.{lent_two};
 ghost use Rattle.buffers.specs.Effect.{requested};
 ghost use Rattle.engine.specs.Gives.{Gives};
-ghost use Rattle.engine.specs.Steps.{Whole, entry_in, Counted, Row, taken_answer, Left};
+ghost use Rattle.engine.specs.Steps.{Whole, Counted, Row, taken_answer, Left};
 
 use crate::{Answer, listings};
-use listing::{Chosen, Entry, Limits, Listed};
-use step::Taken;
+use running::entry_at;
 
 #[derive(Clone, Copy)]
 pub struct Fresh;
@@ -22,23 +20,6 @@ pub struct Fresh;
 impl Fresh {
     // The numbers of as many processes as a state holds.
     pub const NUMBERS: usize = state::Layout::ALL_PROCESSES;
-}
-
-// Entry c of a listing.
-fn entry_at(listing: &[u64], c: usize) -> Entry
-    requires { c * entry_width + entry_width ≤ length listing.now }
-    ensures { entry_of result ≡ entry_in listing.now c }
-{
-    let at = c * Limits::ENTRY;
-    Entry {
-        kind: listing[at],
-        place: listing[at + 1] as usize,
-        branch: listing[at + 2] as usize,
-        partner: listing[at + 3] as usize,
-        pbranch: listing[at + 4] as usize,
-        pair: listing[at + 5] as usize,
-        weight: listing[at + 6],
-    }
 }
 
 // Takes entry c of the listing: the state moves, or 17, 18 or 19 leaves it as it is.
@@ -51,7 +32,7 @@ fn take_row(
     state: &mut [i64],
     listing: &[u64],
     c: usize,
-) -> Taken
+) -> Result<(), step::Refusal>
     requires { (m : Resolved.Model) × (s : State) × (es : List rules.Entry) × (e : rules.Entry) × Row nodes.now roots.now scopes.now root variables state.old listing.now c m s es e }
     ensures { (m : Resolved.Model) (s : State) (es : List rules.Entry) (e : rules.Entry) → Row nodes.now roots.now scopes.now root variables state.old listing.now c m s es e → Answers (entry_arguments m s (rules.key_of e)) s (entry_state m s (rules.key_of e)) result state.new }
 {
@@ -64,12 +45,12 @@ fn take_row(
 }
 
 // The answer that a taken entry gives.
-fn taken_answer(taken: Taken, count: usize, total: u64, chosen: usize) -> Answer
+fn taken_answer(taken: Result<(), step::Refusal>, count: usize, total: u64, chosen: usize) -> Answer
     ensures { result ≡ taken_answer taken count total chosen }
 {
     match taken {
-        Taken::Accepted => Answer::filled(0, count as u64, total, chosen as u64),
-        Taken::Refused(number) => Answer::filled(number as u64, count as u64, total, 0),
+        Ok(()) => Answer::filled(0, count as u64, total, chosen as u64),
+        Err(refusal) => Answer::filled(refusal.number(), count as u64, total, 0),
     }
 }
 
@@ -92,14 +73,11 @@ fn take_drawn(
     if total == 0 {
         return Answer::filled(15, count as u64, total, 0);
     }
-    let chosen = listing::choose(listing, count, draw);
-    match chosen {
-        Chosen::Nothing => Answer::filled(16, count as u64, total, 0),
-        Chosen::At(c) => {
-            let taken = take_row(nodes, roots, scopes, root, variables, state, listing, c);
-            taken_answer(taken, count, total, c)
-        }
-    }
+    let Some(c) = listing::choose(listing, count, draw) else {
+        return Answer::filled(16, count as u64, total, 0);
+    };
+    let taken = take_row(nodes, roots, scopes, root, variables, state, listing, c);
+    taken_answer(taken, count, total, c)
 }
 
 // Steps over the tables of a model.
@@ -120,10 +98,8 @@ pub fn step_model(
 {
     let listed = listings::list_state(nodes, roots, scopes, sums, channels, state, listing);
     match listed {
-        Listed::Refused(number, place, branch) => {
-            Answer::bare(number, place as u64, branch as u64)
-        }
-        Listed::Filled(count, total) => take_drawn(
+        Err(r) => Answer::bare(r.number, r.place as u64, r.branch as u64),
+        Ok((count, total)) => take_drawn(
             nodes, roots, scopes, root, variables, state, listing, count, total, draw,
         ),
     }

@@ -13,21 +13,26 @@ ghost use Rattle.engine.specs.Gives.{Gives};
 ghost use Rattle.engine.specs.Tables.{Finds};
 
 use crate::{Answer, Engine, listings};
-use listing::Listed;
+use listing::Refusal;
 
 // 11 leaves the report as it is lent, 12 to 14 zero it; else it has the shares of the listing.
-fn put_report(listed: Listed, listing: &[u64], state: &[i64], report: &mut [u64])
+fn put_report(
+    listed: Result<(usize, u64), Refusal>,
+    listing: &[u64],
+    state: &[i64],
+    report: &mut [u64],
+)
     requires { ((m : Resolved.Model) × (l : List ℕ) × GoodModel m × Finds m state.now l listed listing.now) × (length report.old ≡ report_length) }
     ensures { (m : Resolved.Model) (bs l : List ℕ) → GoodModel m → Finds m state.now l listed listing.now → report.new ≡ (requested report' (lent_two bs state.now) report.old (some m)).output }
 {
     match listed {
-        Listed::Refused(number, _, _) => {
-            if number == 11 {
+        Err(r) => {
+            if r.number == 11 {
                 return;
             }
             listing::clear_from(report, 0);
         }
-        Listed::Filled(count, _) => {
+        Ok((count, _)) => {
             shares::share(listing, count, state, report);
         }
     }

@@ -1,6 +1,5 @@
 // The calls on a text: its tables are local arrays, lent on as slices.
-ghost use Rattle.std.specs.Prelude.{◌≡◌, List, [], ℕ, ◌≤◌, ℤ, pos, length, replicate};
-ghost use Rattle.grammar.specs.Limit.{token_limit};
+ghost use Rattle.std.specs.Prelude.{◌≡◌, List, [], ℕ, ℤ, pos, length, replicate};
 ghost use Rattle.model.specs.Held.{held};
 ghost use Rattle.machine.specs.State.{state_length};
 ghost use Rattle.machine.specs.Saves.{saves_length};
@@ -9,12 +8,10 @@ ghost use Rattle.machine.specs.Machine.{model_length, listing_length, list', ste
 ghost use Rattle.clock.specs.Clock.{fresh_clock};
 ghost use Rattle.buffers.specs.Parts.{lent_two, lent_all};
 ghost use Rattle.buffers.specs.Effect.{opens_with, requested};
-ghost use Rattle.opening.specs.Models.{ModelRead};
 ghost use Rattle.steady.specs.Opens.{opening_under};
 ghost use Rattle.engine.specs.Gives.{Gives};
 
 use crate::Answer;
-use opening::{Held, Opened};
 use steady::Profile;
 use syntax::question;
 use token::Limits;
@@ -48,8 +45,8 @@ pub fn open_lent(profile: Profile, text: &[u8], model: &mut [u8], state: &mut [i
         &mut names,
     );
     match opened {
-        Opened::Refused(number, place) => Answer::bare(number as u64, place as u64, 0),
-        Opened::Accepted(found, _) => {
+        Err(r) => Answer::bare(r.number as u64, r.place as u64, 0),
+        Ok((found, _)) => {
             store::buffer::put_text(model, text);
             store::start::open_state(
                 &nodes,
@@ -64,31 +61,6 @@ pub fn open_lent(profile: Profile, text: &[u8], model: &mut [u8], state: &mut [i
     }
 }
 
-// The model of a text that a model buffer holds, in three tables; those that only reading needs are its own.
-pub fn read_held(text: &[u8], nodes: &mut [u64], roots: &mut [u16], scopes: &mut [u16]) -> Held
-    requires { (token_limit ≤ length nodes.old) × (token_limit ≤ length roots.old) × (token_limit ≤ length scopes.old) }
-    ensures { ModelRead text.now nodes.new roots.new scopes.new result }
-{
-    let mut kinds = [0u8; Limits::TEXT];
-    let mut places = [0u16; Limits::TEXT];
-    let mut sizes = [0u16; Limits::TEXT];
-    let mut low = [0u64; question::Limits::TOKENS];
-    let mut high = [0u64; question::Limits::TOKENS];
-    let mut names = [0u64; question::Limits::TOKENS];
-    opening::read_model(
-        text,
-        &mut kinds,
-        &mut places,
-        &mut sizes,
-        &mut low,
-        &mut high,
-        nodes,
-        roots,
-        scopes,
-        &mut names,
-    )
-}
-
 // Lists over a text that a model buffer holds.
 pub fn list_text(text: &[u8], state: &[i64], listing: &mut [u64]) -> Answer
     requires { (length state.now ≡ state_length) × (length listing.old ≡ listing_length) }
@@ -97,21 +69,18 @@ pub fn list_text(text: &[u8], state: &[i64], listing: &mut [u64]) -> Answer
     let mut nodes = [0u64; question::Limits::TOKENS];
     let mut roots = [0u16; question::Limits::TOKENS];
     let mut scopes = [0u16; question::Limits::TOKENS];
-    let read = read_held(text, &mut nodes, &mut roots, &mut scopes);
-    match read {
-        Held::Refused(_, _) => Answer::bare(11, 0, 0),
-        Held::Model(found, _) => {
-            crate::listings::list_model(
-                &nodes,
-                &roots,
-                &scopes,
-                found.sums,
-                found.channels,
-                state,
-                listing,
-            )
-        }
-    }
+    let Ok((found, _)) = simulation::read_tables(text, &mut nodes, &mut roots, &mut scopes) else {
+        return Answer::bare(11, 0, 0);
+    };
+    crate::listings::list_model(
+        &nodes,
+        &roots,
+        &scopes,
+        found.sums,
+        found.channels,
+        state,
+        listing,
+    )
 }
 
 // Steps over a text that a model buffer holds.
@@ -122,24 +91,21 @@ pub fn step_text(text: &[u8], state: &mut [i64], listing: &mut [u64], draw: u64)
     let mut nodes = [0u64; question::Limits::TOKENS];
     let mut roots = [0u16; question::Limits::TOKENS];
     let mut scopes = [0u16; question::Limits::TOKENS];
-    let read = read_held(text, &mut nodes, &mut roots, &mut scopes);
-    match read {
-        Held::Refused(_, _) => Answer::bare(11, 0, 0),
-        Held::Model(found, _) => {
-            crate::steps::step_model(
-                &nodes,
-                &roots,
-                &scopes,
-                found.root,
-                found.variables,
-                found.sums,
-                found.channels,
-                state,
-                listing,
-                draw,
-            )
-        }
-    }
+    let Ok((found, _)) = simulation::read_tables(text, &mut nodes, &mut roots, &mut scopes) else {
+        return Answer::bare(11, 0, 0);
+    };
+    crate::steps::step_model(
+        &nodes,
+        &roots,
+        &scopes,
+        found.root,
+        found.variables,
+        found.sums,
+        found.channels,
+        state,
+        listing,
+        draw,
+    )
 }
 
 // Reports over a text that a model buffer holds.
@@ -150,19 +116,16 @@ pub fn report_text(text: &[u8], state: &[i64], report: &mut [u64]) -> Answer
     let mut nodes = [0u64; question::Limits::TOKENS];
     let mut roots = [0u16; question::Limits::TOKENS];
     let mut scopes = [0u16; question::Limits::TOKENS];
-    let read = read_held(text, &mut nodes, &mut roots, &mut scopes);
-    match read {
-        Held::Refused(_, _) => Answer::bare(11, 0, 0),
-        Held::Model(found, _) => {
-            crate::subtotals::report_model(
-                &nodes,
-                &roots,
-                &scopes,
-                found.sums,
-                found.channels,
-                state,
-                report,
-            )
-        }
-    }
+    let Ok((found, _)) = simulation::read_tables(text, &mut nodes, &mut roots, &mut scopes) else {
+        return Answer::bare(11, 0, 0);
+    };
+    crate::subtotals::report_model(
+        &nodes,
+        &roots,
+        &scopes,
+        found.sums,
+        found.channels,
+        state,
+        report,
+    )
 }

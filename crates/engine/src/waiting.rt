@@ -19,14 +19,14 @@ pub fn wait_after(
     requires { (length before.now ≡ state_length) × (length state.old ≡ state_length) × (InRange clock) × (0 < told.total) }
     ensures { Waited told clock (brought_by clock waiting.now told.total) before.now state.old result state.new }
 {
-    let total = told.total;
-    let brought = clock::bring(clock, waiting, total);
-    let number = brought.number;
-    if number == 0 {
-        let next = brought.clock;
-        return Timed::of(told, next);
+    match clock::bring(clock, waiting, told.total) {
+        Ok(next) => Timed::of(told, next),
+        Err(late) => {
+            state::put(state, before, Engine::STATE);
+            Timed::of(
+                Answer::filled(late.number(), told.count, told.total, 0),
+                clock,
+            )
+        }
     }
-    state::put(state, before, Engine::STATE);
-    let count = told.count;
-    Timed::of(Answer::filled(number, count, total, 0), clock)
 }

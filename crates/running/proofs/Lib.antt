@@ -4,3 +4,4 @@ pub mod Taking
 pub mod Events
 pub mod Steps
 pub mod Choice
+pub mod Parts

@@ -8,15 +8,13 @@ use native.Mathlib.Omega.{arith}
 use borrow.Author.Tests.{eq-eqb, ne_eqb}
 use lib.Dec.{eqb}
 use lib.ListN.{length, drop, get_elem?, length-append}
+use Rattle.std.specs.Prelude.{None, Some, Ok}
 use Rattle.waits.specs.declared.Run.TheVariants as reading
 use Rattle.waits.specs.declared.Run as reading-of
-use Rattle.waits.specs.declared.Wait.TheVariants as wait
 use Rattle.waits.specs.Runs.{read, settled, waiting, wait_of}
 use Rattle.waits.specs.ByRuns.{Waits}
 use Rattle.waits.proofs.Same.{by_runs}
-use Rattle.words.specs.declared.Drawn.{Drawn}
-use Rattle.words.specs.declared.Drawn.TheVariants.{Given, Ended}
-use Rattle.words.specs.Words.{draw_of}
+use Rattle.words.specs.Words.{draw_of, Drawn}
 use Rattle.clock.specs.declared.Clock.{Clock}
 use Rattle.clock.specs.Clock.{InRange}
 use Rattle.model.specs.Resolved
@@ -36,6 +34,7 @@ use Rattle.machine.proofs.Timing as timing
 use Rattle.machine.proofs.Keeps.{acts-good}
 use Rattle.machine.specs.Machine.{Run, ended_with, Next, on, over, event_of, longer, follows, draw_at, drawn_step, run_step, going_on, running}
 use Rattle.machine.specs.Runs.{run_of, is_over}
+use Rattle.running.proofs.Parts.{ok_second}
 
 -- ---- one step
 module _ (ws vs : List ℕ) (m : Resolved.Model) (r : Run) where
@@ -50,19 +49,19 @@ module _ (ws vs : List ℕ) (m : Resolved.Model) (r : Run) where
     unfolding run_step lists
     step_so w q = ap (λ (y : Listed). drawn_step vs m r (draw_at (showing s y).answer.total (drop r.words ws))) e ∙ ap (drawn_step vs m r) q
 
-    given_so : (d u : ℕ) → drawn_step vs m r (Given d u) ≡ follows u (steps_in k (drop r.waiting vs) s (choosing m s d x)) r
+    given_so : (d u : ℕ) → drawn_step vs m r (Some (d, u)) ≡ follows u (steps_in k (drop r.waiting vs) s (choosing m s d x)) r
     unfolding drawn_step times_with steps_with
     given_so d u = ap (λ (y : Listed). follows u (steps_in k (drop r.waiting vs) s (choosing m s d y)) r) e
 
-    ended_so : drawn_step vs m r Ended ≡ over (ended_with 0 (showing s x).answer.count (showing s x).answer.total r.timed r)
+    ended_so : drawn_step vs m r None ≡ over (ended_with 0 (showing s x).answer.count (showing s x).answer.total r.timed r)
     unfolding drawn_step lists
     ended_so = ap (λ (y : Listed). over (ended_with 0 (showing s y).answer.count (showing s y).answer.total r.timed r)) e
 
   -- 12 to 14
   pub refused-step : (n p b : ℕ) → listing m s ≡ refused_with (no n p b zeroed) → (n ≡ 0 → ⊥) → run_step ws vs m r ≡ over (ended_with n 0 0 (timed s k) r)
-  refused-step n p b e h = step_so (refused_with (no n p b zeroed)) e (Given 0 0) nothing-drawn ∙ given_so (refused_with (no n p b zeroed)) e 0 0 ∙ refuses
+  refused-step n p b e h = step_so (refused_with (no n p b zeroed)) e (Some (0, 0)) nothing-drawn ∙ given_so (refused_with (no n p b zeroed)) e 0 0 ∙ refuses
     where
-      nothing-drawn : draw_at (showing s (refused_with (no n p b zeroed))).answer.total (drop r.words ws) ≡ Given 0 0
+      nothing-drawn : draw_at (showing s (refused_with (no n p b zeroed))).answer.total (drop r.words ws) ≡ Some (0, 0)
       nothing-drawn = unfold showing no draw_at in refl
 
       refuses : follows 0 (steps_in k (drop r.waiting vs) s (choosing m s 0 (refused_with (no n p b zeroed)))) r ≡ over (ended_with n 0 0 (timed s k) r)
@@ -71,9 +70,9 @@ module _ (ws vs : List ℕ) (m : Resolved.Model) (r : Run) where
   module _ (es : List Entry) (e : listing m s ≡ entries_are es) where
     -- 15
     pub dead-step : total (weights es) ≡ 0 → run_step ws vs m r ≡ over (ended_with 15 (length es) (total (weights es)) (timed s k) r)
-    dead-step z = step_so (entries_are es) e (Given 0 0) nothing-drawn ∙ given_so (entries_are es) e 0 0 ∙ refuses
+    dead-step z = step_so (entries_are es) e (Some (0, 0)) nothing-drawn ∙ given_so (entries_are es) e 0 0 ∙ refuses
       where
-        nothing-drawn : draw_at (showing s (entries_are es)).answer.total (drop r.words ws) ≡ Given 0 0
+        nothing-drawn : draw_at (showing s (entries_are es)).answer.total (drop r.words ws) ≡ Some (0, 0)
         nothing-drawn = unfold showing listed_as draw_at in rw (eq-eqb (total (weights es)) 0 z) refl
 
         refuses : follows 0 (steps_in k (drop r.waiting vs) s (choosing m s 0 (entries_are es))) r ≡ over (ended_with 15 (length es) (total (weights es)) (timed s k) r)
@@ -84,13 +83,13 @@ module _ (ws vs : List ℕ) (m : Resolved.Model) (r : Run) where
       unfolding showing listed_as draw_at
       drawn-so w q = rw (ne_eqb (total (weights es)) 0 above) q
 
-      pub words-end : draw_of (total (weights es)) (drop r.words ws) ≡ Ended → run_step ws vs m r ≡ over (ended_with 0 (length es) (total (weights es)) r.timed r)
+      pub words-end : draw_of (total (weights es)) (drop r.words ws) ≡ None → run_step ws vs m r ≡ over (ended_with 0 (length es) (total (weights es)) r.timed r)
       unfolding showing listed_as
-      words-end q = step_so (entries_are es) e Ended (drawn-so Ended q) ∙ ended_so (entries_are es) e
+      words-end q = step_so (entries_are es) e None (drawn-so None q) ∙ ended_so (entries_are es) e
 
-      pub draw-step : (d u : ℕ) → draw_of (total (weights es)) (drop r.words ws) ≡ Given d u → run_step ws vs m r ≡ follows u (steps_in k (drop r.waiting vs) s (drawn m s es d)) r
+      pub draw-step : (d u : ℕ) → draw_of (total (weights es)) (drop r.words ws) ≡ Some (d, u) → run_step ws vs m r ≡ follows u (steps_in k (drop r.waiting vs) s (drawn m s es d)) r
       unfolding choosing
-      draw-step d u q = step_so (entries_are es) e (Given d u) (drawn-so (Given d u) q) ∙ given_so (entries_are es) e d u
+      draw-step d u q = step_so (entries_are es) e (Some (d, u)) (drawn-so (Some (d, u)) q) ∙ given_so (entries_are es) e d u
 
 -- ---- steps after one another
 pub zero-steps : (ws vs : List ℕ) (m : Resolved.Model) (r : Run) → running 0 ws vs m r ≡ r
@@ -137,26 +136,26 @@ unfolding run_step
 on-longer ws vs m r q = by (draw_at (lists m r.timed.state).answer.total (drop r.words ws)) q
   where
     by : (w : Drawn) → is_over (drawn_step vs m r w) ≡ false → length (run_of (drawn_step vs m r w)).events ≡ length r.events + 1
-    by (Given d u) q = unfold drawn_step in follows-longer u (times_with (drop r.waiting vs) d m r.timed.state r.timed.clock) r q
-    by Ended q = absurd (unfold drawn_step is_over in let z : ◌≡◌ {A = ℕ} 0 1 = cc in omega arith)
+    by (Some (d, u)) q = unfold drawn_step in follows-longer u (times_with (drop r.waiting vs) d m r.timed.state r.timed.clock) r q
+    by None q = absurd (unfold drawn_step is_over in let z : ◌≡◌ {A = ℕ} 0 1 = cc in omega arith)
 
 -- ---- waiting draws
 
 -- no more are used than there are
-waits-within : (x : reading-of.Run) (n : ℕ) (ds : List ℕ) (e u : ℕ) → waiting x n ds ≡ wait.Given e u → u ≤ n + length ds
+waits-within : (x : reading-of.Run) (n : ℕ) (ds : List ℕ) (e u : ℕ) → waiting x n ds ≡ Ok (e, u) → u ≤ n + length ds
 unfolding waiting settled
 waits-within x n [] e u q = absurd (let z : ◌≡◌ {A = ℕ} 0 1 = cc in omega arith)
 waits-within x n (d ∷ ds) e u q = by (read x d) q (λ y p. waits-within y (n + 1) ds e u p)
   where
-    by : (y : reading-of.Run) → settled y (n + 1) (waiting y (n + 1) ds) ≡ wait.Given e u → ((y : reading-of.Run) → waiting y (n + 1) ds ≡ wait.Given e u → u ≤ n + 1 + length ds) → u ≤ n + suc (length ds)
+    by : (y : reading-of.Run) → settled y (n + 1) (waiting y (n + 1) ds) ≡ Ok (e, u) → ((y : reading-of.Run) → waiting y (n + 1) ds ≡ Ok (e, u) → u ≤ n + 1 + length ds) → u ≤ n + suc (length ds)
     by (reading.Before i) p h = omega (arith, h (reading.Before i) p)
     by (reading.In i a b o) p h = omega (arith, h (reading.In i a b o) p)
-    by (reading.Known f) p h = let z : n + 1 ≡ u = cc in omega arith
+    by (reading.Known f) p h = let z : n + 1 ≡ u = ok_second p in omega arith
     by reading.Over p h = absurd (let z : ◌≡◌ {A = ℕ} 0 1 = cc in omega arith)
 
-pub used-within : {ds : List ℕ} {e u : ℕ} → Waits 0 ds (wait.Given e u) → u ≤ length ds
+pub used-within : {ds : List ℕ} {e u : ℕ} → Waits 0 ds (Ok (e, u)) → u ≤ length ds
 unfolding wait_of
-used-within {ds} {e} {u} w = omega (arith, waits-within (reading.Before 0) 0 ds e u ((by_runs ds (wait.Given e u)).0 w))
+used-within {ds} {e} {u} w = omega (arith, waits-within (reading.Before 0) 0 ds e u ((by_runs ds (Ok (e, u))).0 w))
 
 -- ---- an accepted timed step
 

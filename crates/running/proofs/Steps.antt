@@ -8,9 +8,8 @@ use native.Mathlib.Omega.{arith}
 use lib.Dec.{leb}
 use lib.IntN.{ℤ}
 use lib.ListN.{length, take, drop, length-append, length-drop}
-use Rattle.words.specs.declared.Drawn.{Drawn}
-use Rattle.words.specs.declared.Drawn.TheVariants.{Given, Ended}
-use Rattle.words.specs.Words.{draw_of, Within}
+use Rattle.std.specs.Prelude.{None, Some, Err, Ok}
+use Rattle.words.specs.Words.{draw_of, Within, Drawn}
 use Rattle.clock.specs.declared.Clock.{Clock}
 use Rattle.clock.specs.Clock.{InRange}
 use Rattle.model.specs.Resolved
@@ -23,9 +22,8 @@ use Rattle.machine.specs.State.{State, state_numbers}
 use Rattle.machine.specs.Timed.{Timed, timed, GoodTimed}
 use Rattle.machine.specs.Machine.{entry_limit, total_limit, zeroed, no, counted, Listed, entries_are, refused_with, listing, Turn, drawn, choosing, steps_with, steps_in, times_with}
 use Rattle.machine.proofs.Everys.{every_in, in-every}
-use Rattle.listing.specs.declared.Listed.TheVariants.{Filled, Refused}
 use Rattle.listing.proofs.Finished.{rows-length as list_length}
-use Rattle.listing.specs.Buffer.{listed_answer, Leading, leading, nothing, Leads}
+use Rattle.listing.specs.Buffer.{listed_answer, Leading, leading, nothing, Leads, refused}
 use Rattle.offers.specs.Collect.{FewBranches, World}
 use Rattle.step.specs.Enter.{Lent}
 use Rattle.running.specs.declared.Stepped.{Stepped}
@@ -34,6 +32,7 @@ use Rattle.machine.specs.Machine.{Run, begun, ended_with, Next, on, over, entry_
 use Rattle.running.specs.Taking.{entry_in, StepsTo}
 use Rattle.machine.specs.Runs.{run_of, is_over}
 use Rattle.running.specs.Progress.{written, begun_with, ended, longer_by, Stands, Lists, Goes}
+use Rattle.running.proofs.Parts.{refused_number, ok_first, ok_second}
 use Rattle.running.proofs.Runs.{refused-step, dead-step, words-end, draw-step, follows_on, follows-over, next-on, next-over, on-longer, zero-steps, Took, Carries, carries, timed-good}
 use Rattle.running.proofs.Taking.{entry_in_lem, rest_of}
 use Rattle.running.proofs.Events.{event-written, none_written, numbers-length}
@@ -86,22 +85,22 @@ pub record Refusal (m : Resolved.Model) (s : State) (n : ℕ) : Type 0 where
   pub is : listing m s ≡ refused_with (no n place branch zeroed)
   pub number : n ≡ 0 → ⊥
 
-pub refused-by : (m : Resolved.Model) (s : State) (n p b : ℕ) (l : List ℕ) → Leads (listing m s) (Refused n p b) l → Refusal m s n
+pub refused-by : (m : Resolved.Model) (s : State) (n p b : ℕ) (l : List ℕ) → Leads (listing m s) (Err (refused n p b)) l → Refusal m s n
 refused-by m s n p b l h = by (listing m s) refl (listing-is m s) h.answer
   where
-    by : (x : Listed) → listing m s ≡ x → Refuses x → Refused n p b ≡ listed_answer x → Refusal m s n
+    by : (x : Listed) → listing m s ≡ x → Refuses x → Err (refused n p b) ≡ listed_answer x → Refusal m s n
     by x e entries-are q = absurd (unfold listed_answer in let z : ◌≡◌ {A = ℕ} 0 1 = cc in omega arith)
-    by x e (refuses i j k d) q = unfold listed_answer no in let f : n ≡ i = cc in rw f (record { place = j; branch = k; is = e; number = d })
+    by x e (refuses i j k d) q = unfold listed_answer no in let f : n ≡ i = refused_number q in rw f (record { place = j; branch = k; is = e; number = d })
 
 module _ {t roots scopes : List ℕ} {root variables : ℕ} {ws vs z : List ℕ} {zs : List ℤ} {ns : List ℕ} {p : Progress} {m : Resolved.Model} {r : Run} (h : Stands t roots scopes root variables ws vs z zs ns p m r) where
   -- the listing of the run's state
-  pub lists-by : (l : List ℕ) (count sum : ℕ) → Leads (listing m r.timed.state) (Filled count sum) l → (es : List Entry) × Lists t roots scopes root variables ws vs z zs ns p m r l count sum es
+  pub lists-by : (l : List ℕ) (count sum : ℕ) → Leads (listing m r.timed.state) (Ok (count, sum)) l → (es : List Entry) × Lists t roots scopes root variables ws vs z zs ns p m r l count sum es
   lists-by l count sum k = by (listing m r.timed.state) refl k.entries k.answer
     where
-      by : (x : Listed) → listing m r.timed.state ≡ x → Leading l x → Filled count sum ≡ listed_answer x → (es : List Entry) × Lists t roots scopes root variables ws vs z zs ns p m r l count sum es
+      by : (x : Listed) → listing m r.timed.state ≡ x → Leading l x → Ok (count, sum) ≡ listed_answer x → (es : List Entry) × Lists t roots scopes root variables ws vs z zs ns p m r l count sum es
       by x e (leading {es = es} rest f) q = unfold listed_answer in
-          let a : count ≡ length es = cc in
-          let b : sum ≡ total (weights es) = cc in
+          let a : count ≡ length es = ok_first q in
+          let b : sum ≡ total (weights es) = ok_second q in
           (es, record { stands = h; counted = record { listing = record { lent = h.lent; listed = e; rest = rest; numbers = f }; count-is = a; sum_is = b } })
       by x e nothing q = absurd (unfold listed_answer in let z : ◌≡◌ {A = ℕ} 0 1 = cc in omega arith)
 
@@ -148,16 +147,16 @@ module _ {t roots scopes : List ℕ} {root variables : ℕ} {ws vs z : List ℕ}
     some-total e = above (h.counted.sum_is ∙ e)
 
     -- the words end
-    pub words-ends : w ≡ Ended → (q : Progress) → q ≡ ended p 0 count sum → Goes t roots scopes root variables ws vs z (run_step ws vs m r) q zs ns m
+    pub words-ends : w ≡ None → (q : Progress) → q ≡ ended p 0 count sum → Goes t roots scopes root variables ws vs z (run_step ws vs m r) q zs ns m
     words-ends e q f =
         ends-here h.stands 0 count sum (run_step ws vs m r) q
         (rw (h.counted.count-is, h.counted.sum_is) (words-end ws vs m r es listed some-total (from-here ∙ e))) f
 
     -- a draw
-    pub drawn-so : (d u : ℕ) → w ≡ Given d u → run_step ws vs m r ≡ follows u (steps_in r.timed.clock (drop r.waiting vs) r.timed.state (drawn m r.timed.state es d)) r
+    pub drawn-so : (d u : ℕ) → w ≡ Some (d, u) → run_step ws vs m r ≡ follows u (steps_in r.timed.clock (drop r.waiting vs) r.timed.state (drawn m r.timed.state es d)) r
     drawn-so d u e = draw-step ws vs m r es listed some-total d u (from-here ∙ e)
 
-    pub used-fits : (d u : ℕ) → w ≡ Given d u → Within sum (length (drop p.words ws)) w → p.words + u ≤ length ws
+    pub used-fits : (d u : ℕ) → w ≡ Some (d, u) → Within sum (length (drop p.words ws)) w → p.words + u ≤ length ws
     unfolding Within
     used-fits d u e k = let q = rw e at k in omega (arith, q.1, length-drop p.words ws, h.stands.words-fit, h.stands.words)
 

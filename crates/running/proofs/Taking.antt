@@ -5,14 +5,15 @@ use mathlib.Core.Bool.{Bool, true, false, cond}
 use mathlib.Core.Option.{Option, none, some, Option-elim}
 use Prim.Native.Nat.{ℕ, zero, suc, ◌+◌, ◌-◌, ◌*◌, ◌≤◌, ◌<◌}
 use native.Mathlib.Omega.{arith}
-use borrow.Author.Tests.{eq-eqb, ne_eqb}
+use borrow.Author.Tests.{ne_eqb}
 use lib.Dec.{eqb, leb}
 use lib.IntN.{ℤ}
 use lib.ListN.{length, get_or, get_elem?, take, drop, length-map, length-drop, drop_of_length-le}
 use lib.Seq.{take_all, get_or-drop}
+use Rattle.std.specs.Prelude.{None, Some, Err, Ok, is_ok}
 use Rattle.clock.specs.declared.Clock.{Clock}
-use Rattle.clock.specs.declared.Brought.{Brought}
-use Rattle.clock.specs.Clock.{brought_by}
+use Rattle.clock.specs.declared.Late.{Late}
+use Rattle.clock.specs.Clock.{Brought, brought_by}
 use Rattle.model.specs.Resolved
 use Rattle.rules.specs.Rules.{Key, key, Nth, first, later}
 use Rattle.rules.specs.Listing.{Entry, entry, key_of, weight_of, entries}
@@ -25,14 +26,11 @@ use Rattle.machine.proofs.Branches.{none-not-some, nth-get, get_nth, nth-below}
 use Rattle.machine.proofs.Listing.{accepted}
 use Rattle.machine.proofs.OneListing.{one-listing}
 use Rattle.machine.proofs.Numbers.{state-length}
-use Rattle.listing.specs.declared.Chosen.{Chosen}
-use Rattle.listing.specs.declared.Chosen.TheVariants.{At, Nothing}
-use Rattle.listing.specs.Buffer.{rows, weights_in, chosen_answer}
+use Rattle.listing.specs.Buffer.{rows, weights_in, chosen_answer, Chosen}
 use Rattle.listing.proofs.Weights.{rows-weights}
 use Rattle.listing.proofs.Finished.{rows-length}
-use Rattle.step.specs.declared.Taken.{Taken}
-use Rattle.step.specs.declared.Taken.TheVariants.{Accepted, Refused}
-use Rattle.step.specs.Enter.{verdict, state_of, Answers}
+use Rattle.step.specs.declared.Refusal.TheVariants.{Arguments, Processes, Pairs}
+use Rattle.step.specs.Enter.{verdict, state_of, Answers, Taken}
 use Rattle.running.specs.declared.Stepped.{Stepped}
 use Rattle.running.specs.Taking.{entry_in, Counted, Row, stepped, stepped_by, StepsTo}
 
@@ -100,12 +98,12 @@ put_back xs zs {bs} {ys} q a k e f l =
     f ∙ ap (λ (us : List ℤ). take state_length us ++ drop state_length ys) p ∙ put-over state_length xs ys l a
 
 -- ---- the entry that the draw chooses
-chosen-some : (o : Option ℕ) (r : Chosen) (c : ℕ) → r ≡ chosen_answer o → r ≡ At c → o ≡ some c
+chosen-some : (o : Option ℕ) (r : Chosen) (c : ℕ) → r ≡ chosen_answer o → r ≡ Some c → o ≡ some c
 unfolding chosen_answer
 chosen-some none r c e f = let z : ◌≡◌ {A = ℕ} 0 1 = cc in absurd (omega arith)
 chosen-some (some i) r c e f = cc
 
-chosen_none : (o : Option ℕ) (r : Chosen) → r ≡ chosen_answer o → r ≡ Nothing → o ≡ none
+chosen_none : (o : Option ℕ) (r : Chosen) → r ≡ chosen_answer o → r ≡ None → o ≡ none
 unfolding chosen_answer
 chosen_none none r e f = refl
 chosen_none (some i) r e f = let z : ◌≡◌ {A = ℕ} 0 1 = cc in absurd (omega arith)
@@ -117,10 +115,10 @@ module _ {t roots scopes : List ℕ} {root variables : ℕ} {zs : List ℤ} {l :
   pub can-choose : (count * 7 ≤ length l) × (total (weights_in l count) ≤ total_limit)
   can-choose = (omega (arith, ap length h.listing.numbers, rows-length es h.listing.rest, h.count-is), rw weights-are ((accepted m s es).0 h.listing.listed).3)
 
-  pub chose : (r : Chosen) (d c : ℕ) → r ≡ chosen_answer (chosen (weights_in l count) d) → r ≡ At c → chosen (weights es) d ≡ some c
+  pub chose : (r : Chosen) (d c : ℕ) → r ≡ chosen_answer (chosen (weights_in l count) d) → r ≡ Some c → chosen (weights es) d ≡ some c
   chose r d c q g = ap (λ (ws : List ℕ). chosen ws d) (sym weights-are) ∙ chosen-some (chosen (weights_in l count) d) r c q g
 
-  pub row_of : (r : Chosen) (d c : ℕ) → r ≡ chosen_answer (chosen (weights_in l count) d) → r ≡ At c → (e : Entry) × Row t roots scopes root variables zs l c m s es e
+  pub row_of : (r : Chosen) (d c : ℕ) → r ≡ chosen_answer (chosen (weights_in l count) d) → r ≡ Some c → (e : Entry) × Row t roots scopes root variables zs l c m s es e
   unfolding weights
   row_of r d c q g =
       let i : c < length es = omega (arith, span-inside (weights es) d c (chosen-span (weights es) d c (chose r d c q g)), length-map es weight_of) in
@@ -133,19 +131,19 @@ module _ (s s' : State) (es : List Entry) (c : ℕ) (k : Clock) (ds : List ℕ) 
   b = brought_by k ds (total (weights es))
 
   -- 17, 18, 19 answered so, and 23 to 25
-  steps-by : (x y z w : Bool) (zs : List ℤ) → eqb b.number 0 ≡ w
-      → let v = cond x (cond y (cond z Accepted (Refused 19)) (Refused 18)) (Refused 17) in
+  steps-by : (x y z : Bool) (w : Brought) (zs : List ℤ) → b ≡ w
+      → let v : Taken = cond x (cond y (cond z (Ok tt) (Err Pairs)) (Err Processes)) (Err Arguments) in
       let t = cond x (cond y (cond z (accepting s' es c) (refusing s es 19)) (refusing s es 18)) (refusing s es 17) in
-      zs ≡ state_numbers (cond w (state_of v s s') s) → StepsTo (steps_in k ds s t) (stepped_by v c b k) zs
+      zs ≡ state_numbers (cond (is_ok w) (state_of v s s') s) → StepsTo (steps_in k ds s t) (stepped_by v c b k) zs
   unfolding steps_in with_wait stepped_by listed_as refused_as state_of
-  steps-by true true true true zs e f = rw e (record { number = refl; chosen = refl; clock = refl; state = f })
-  steps-by true true true false zs e f = rw e (record { number = refl; chosen = refl; clock = refl; state = f })
-  steps-by true true false true zs e f = record { number = refl; chosen = refl; clock = refl; state = f }
-  steps-by true true false false zs e f = record { number = refl; chosen = refl; clock = refl; state = f }
-  steps-by true false z true zs e f = record { number = refl; chosen = refl; clock = refl; state = f }
-  steps-by true false z false zs e f = record { number = refl; chosen = refl; clock = refl; state = f }
-  steps-by false y z true zs e f = record { number = refl; chosen = refl; clock = refl; state = f }
-  steps-by false y z false zs e f = record { number = refl; chosen = refl; clock = refl; state = f }
+  steps-by true true true (Ok n) zs e f = rw e (record { number = refl; chosen = refl; clock = refl; state = f })
+  steps-by true true true (Err l) zs e f = rw e (record { number = refl; chosen = refl; clock = refl; state = f })
+  steps-by true true false (Ok n) zs e f = record { number = refl; chosen = refl; clock = refl; state = f }
+  steps-by true true false (Err l) zs e f = record { number = refl; chosen = refl; clock = refl; state = f }
+  steps-by true false z (Ok n) zs e f = record { number = refl; chosen = refl; clock = refl; state = f }
+  steps-by true false z (Err l) zs e f = record { number = refl; chosen = refl; clock = refl; state = f }
+  steps-by false y z (Ok n) zs e f = record { number = refl; chosen = refl; clock = refl; state = f }
+  steps-by false y z (Err l) zs e f = record { number = refl; chosen = refl; clock = refl; state = f }
 
 module _ (m : Resolved.Model) (s : State) (es : List Entry) (c : ℕ) (i : Key) (k : Clock) (ds : List ℕ) where
   abbrev B : Brought
@@ -154,38 +152,38 @@ module _ (m : Resolved.Model) (s : State) (es : List Entry) (c : ℕ) (i : Key) 
   ruled : Taken
   ruled = verdict (entry_arguments m s i) (entry_state m s i)
 
-  steps : (w : Bool) (zs : List ℤ) → eqb B.number 0 ≡ w → zs ≡ state_numbers (cond w (state_of ruled s (entry_state m s i)) s) → StepsTo (steps_in k ds s (taken m s es c i)) (stepped_by ruled c B k) zs
+  steps : (w : Brought) (zs : List ℤ) → B ≡ w → zs ≡ state_numbers (cond (is_ok w) (state_of ruled s (entry_state m s i)) s) → StepsTo (steps_in k ds s (taken m s es c i)) (stepped_by ruled c B k) zs
   unfolding ruled taken verdict
   steps w zs e f = steps-by s (entry_state m s i) es c k ds (entry_arguments m s i) (leb (length (entry_state m s i).processes) 256) (leb (length (entry_state m s i).pairs) 256) w zs e f
 
   -- the wait is accepted, and the entry taken or not
-  pub waited : (b : Brought) (sum : ℕ) (v : Taken) (r : Stepped) (zs : List ℤ) → b ≡ brought_by k ds sum → sum ≡ total (weights es) → b.number ≡ 0 → Answers (entry_arguments m s i) s (entry_state m s i) v zs
+  pub waited : (b : Brought) (n : Clock) (sum : ℕ) (v : Taken) (r : Stepped) (zs : List ℤ) → b ≡ brought_by k ds sum → sum ≡ total (weights es) → b ≡ Ok n → Answers (entry_arguments m s i) s (entry_state m s i) v zs
       → r ≡ stepped_by v c b k → StepsTo (steps_in k ds s (taken m s es c i)) r zs
   unfolding ruled
-  waited b sum v r zs q p z a f =
+  waited b n sum v r zs q p z a f =
       let g : b ≡ B = q ∙ ap (λ (n : ℕ). brought_by k ds n) p in
-      rw (f, a.is, g) (steps true zs (eq-eqb B.number 0 (ap (λ (x : Brought). x.number) (sym g) ∙ z)) (a.numbers ∙ ap (λ (x : Taken). state_numbers (state_of x s (entry_state m s i))) a.is))
+      rw (f, a.is, g) (steps (Ok n) zs (sym g ∙ z) (a.numbers ∙ ap (λ (x : Taken). state_numbers (state_of x s (entry_state m s i))) a.is))
 
   -- the wait is refused, if the entry isn't
-  pub unwaited : (b : Brought) (sum : ℕ) (v : Taken) (r : Stepped) (zs : List ℤ) → b ≡ brought_by k ds sum → sum ≡ total (weights es) → (b.number ≡ 0 → ⊥) → v ≡ verdict (entry_arguments m s i) (entry_state m s i) → zs ≡ state_numbers s
+  pub unwaited : (b : Brought) (l : Late) (sum : ℕ) (v : Taken) (r : Stepped) (zs : List ℤ) → b ≡ brought_by k ds sum → sum ≡ total (weights es) → b ≡ Err l → v ≡ verdict (entry_arguments m s i) (entry_state m s i) → zs ≡ state_numbers s
       → r ≡ stepped_by v c b k → StepsTo (steps_in k ds s (taken m s es c i)) r zs
   unfolding ruled
-  unwaited b sum v r zs q p n a h f =
+  unwaited b l sum v r zs q p z a h f =
       let g : b ≡ B = q ∙ ap (λ (n : ℕ). brought_by k ds n) p in
-      rw (f, a, g) (steps false zs (ne_eqb B.number 0 (λ z. n (ap (λ (x : Brought). x.number) g ∙ z))) h)
+      rw (f, a, g) (steps (Err l) zs (sym g ∙ z) h)
 
 -- ---- 16, and the entry that the draw chooses
 module _ {t roots scopes : List ℕ} {root variables : ℕ} {zs : List ℤ} {l : List ℕ} {count sum : ℕ} {m : Resolved.Model} {s : State} {es : List Entry} (h : Counted t roots scopes root variables zs l count sum m s es) (above : 0 < sum) (k : Clock) (ds : List ℕ) (d : ℕ) where
   some-total : total (weights es) ≡ 0 → ⊥
   some-total e = omega (arith, h.sum_is)
 
-  pub none-chosen : (r : Chosen) → r ≡ chosen_answer (chosen (weights_in l count) d) → r ≡ Nothing → StepsTo (steps_in k ds s (drawn m s es d)) (stepped 16 0 k) zs
+  pub none-chosen : (r : Chosen) → r ≡ chosen_answer (chosen (weights_in l count) d) → r ≡ None → StepsTo (steps_in k ds s (drawn m s es d)) (stepped 16 0 k) zs
   unfolding drawn Option-elim steps_in listed_as
   none-chosen r q g =
       let p : chosen (weights es) d ≡ none = ap (λ (ws : List ℕ). chosen ws d) (sym (weights-are h)) ∙ chosen_none (chosen (weights_in l count) d) r q g in
       rw (ne_eqb (total (weights es)) 0 some-total, p) (record { number = refl; chosen = refl; clock = refl; state = h.listing.lent.stands.numbers })
 
-  pub entry-chosen : (r : Chosen) (c : ℕ) (e : Entry) (x : Stepped) (ys : List ℤ) → r ≡ chosen_answer (chosen (weights_in l count) d) → r ≡ At c → get_elem? es c ≡ some e
+  pub entry-chosen : (r : Chosen) (c : ℕ) (e : Entry) (x : Stepped) (ys : List ℤ) → r ≡ chosen_answer (chosen (weights_in l count) d) → r ≡ Some c → get_elem? es c ≡ some e
       → StepsTo (steps_in k ds s (taken m s es c (key_of e))) x ys → StepsTo (steps_in k ds s (drawn m s es d)) x ys
   entry-chosen r c e x ys q g a b =
       let p : drawn m s es d ≡ taken m s es c (key_of e) = unfold drawn Option-elim in rw (ne_eqb (total (weights es)) 0 some-total, chose h r d c q g, a) refl in

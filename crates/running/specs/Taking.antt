@@ -1,5 +1,5 @@
 -- What a timed step is lent after its listing, and what it leaves (01, Step; 02, note 4). Definitions only.
-use Rattle.std.specs.Prelude.{◌≡◌, cond, List, ℕ, ◌+◌, ◌*◌, eqb, ℤ, length, get_or}
+use Rattle.std.specs.Prelude.{◌≡◌, cond, List, ℕ, ◌+◌, ◌*◌, eqb, ℤ, length, get_or, Err, Ok}
 use Rattle.std.proofs.Math.Option.{some}
 use Rattle.std.proofs.Math.ListN.{get_elem?}
 use Rattle.model.specs.Resolved
@@ -7,14 +7,12 @@ use Rattle.rules.specs.Rules.{key}
 use Rattle.rules.specs.Listing.{Entry, entry}
 use Rattle.rules.specs.Draw.{weights, total}
 use Rattle.clock.specs.declared.Clock.{Clock}
-use Rattle.clock.specs.declared.Brought.{Brought}
+use Rattle.clock.specs.Clock.{late_number, Brought}
 use Rattle.machine.specs.State.{State, state_numbers}
 use Rattle.machine.specs.Timed.{Timed}
 use Rattle.machine.specs.Machine.{entry_width, entries_are, listing, Turn}
 use Rattle.listing.specs.Buffer.{rows}
-use Rattle.step.specs.declared.Taken.{Taken}
-use Rattle.step.specs.declared.Taken.TheVariants.{Accepted, Refused}
-use Rattle.step.specs.Enter.{Lent}
+use Rattle.step.specs.Enter.{Lent, Taken, refusal_number}
 use Rattle.running.specs.declared.Stepped.{Stepped}
 
 -- 01, Transitions: entry c in the numbers of a listing
@@ -46,8 +44,9 @@ stepped n c k = record { number = n; chosen = c; clock = k }
 
 -- 02, note 4: 17 to 19 of entry c, then 23 to 25 by what the waiting draws made of the clock k
 unfoldable pub stepped_by : Taken → (c : ℕ) → Brought → (k : Clock) → Stepped
-stepped_by Accepted c b k = cond (eqb b.number 0) (stepped 0 c b.clock) (stepped b.number 0 k)
-stepped_by (Refused n) c b k = stepped n 0 k
+stepped_by (Ok u) c (Ok n) k = stepped 0 c n
+stepped_by (Ok u) c (Err l) k = stepped (late_number l) 0 k
+stepped_by (Err r) c b k = stepped (refusal_number r) 0 k
 
 -- 02, note 4: the number, the entry taken and the clock of a timed step, and the numbers of its state
 pub record StepsTo (t : Turn Timed) (r : Stepped) (zs : List ℤ) : Type 0 where

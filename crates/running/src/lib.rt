@@ -16,11 +16,9 @@ ghost use Rattle.machine.specs.Machine.{Run, begun, follows, run_step, running, 
 ghost use Rattle.running.specs.Taking.{entry_in, Counted, Row, stepped_by, StepsTo};
 ghost use Rattle.running.specs.Progress.{written, begun_with, ended, longer_by, Stands, Lists, Goes};
 
-use clock::{Brought, Clock};
-use listing::{Chosen, Entry, Limits, Listed};
+use clock::{Clock, Late};
+use listing::{Entry, Limits};
 use offers::Table;
-use step::Taken;
-use words::Drawn;
 
 #[derive(Clone, Copy)]
 pub struct Room;
@@ -114,17 +112,8 @@ impl Progress {
     }
 }
 
-fn least(a: usize, b: usize) -> usize
-    ensures { result ≡ min a b }
-{
-    if a < b {
-        return a;
-    }
-    b
-}
-
 // Entry c of a listing.
-fn entry_at(listing: &[u64], c: usize) -> Entry
+pub fn entry_at(listing: &[u64], c: usize) -> Entry
     requires { c * entry_width + entry_width ≤ length listing.now }
     ensures { entry_of result ≡ entry_in listing.now c }
 {
@@ -151,7 +140,7 @@ fn take_row(
     fresh: &mut [i64],
     listing: &[u64],
     c: usize,
-) -> Taken
+) -> Result<(), step::Refusal>
     requires { ((m : Resolved.Model) × (s : State) × (es : List rules.Entry) × (e : rules.Entry) × Row nodes.now roots.now scopes.now root variables state.old listing.now c m s es e) × (length fresh.old ≡ fresh_length) }
     ensures { (m : Resolved.Model) (s : State) (es : List rules.Entry) (e : rules.Entry) → Row nodes.now roots.now scopes.now root variables state.old listing.now c m s es e → Answers (entry_arguments m s (rules.key_of e)) s (entry_state m s (rules.key_of e)) result state.new }
 {
@@ -173,7 +162,7 @@ fn take_kept(
     fresh: &mut [i64],
     listing: &[u64],
     c: usize,
-) -> Taken
+) -> Result<(), step::Refusal>
     requires { ((m : Resolved.Model) × (s : State) × (es : List rules.Entry) × (e : rules.Entry) × Row nodes.now roots.now scopes.now root variables state.old listing.now c m s es e) × (length fresh.old ≡ fresh_length) }
     ensures { ((m : Resolved.Model) (s : State) (es : List rules.Entry) (e : rules.Entry) → Row nodes.now roots.now scopes.now root variables state.old listing.now c m s es e → result ≡ verdict (entry_arguments m s (rules.key_of e)) (entry_state m s (rules.key_of e))) × (state.new ≡ state.old) }
 {
@@ -187,31 +176,32 @@ fn take_kept(
 }
 
 // 17 to 19 of entry c, then 23 to 25 by what the waiting draws made of the clock.
-fn stepped_by(taken: Taken, c: usize, brought: Brought, clock: Clock) -> Stepped
+fn stepped_by(
+    taken: Result<(), step::Refusal>,
+    c: usize,
+    brought: Result<Clock, Late>,
+    clock: Clock,
+) -> Stepped
     ensures { result ≡ stepped_by taken c brought clock }
 {
     match taken {
-        Taken::Refused(number) => Stepped {
-            number: number as u64,
+        Err(refusal) => Stepped {
+            number: refusal.number(),
             chosen: 0,
             clock: clock,
         },
-        Taken::Accepted => {
-            let number = brought.number;
-            if number != 0 {
-                return Stepped {
-                    number: number,
-                    chosen: 0,
-                    clock: clock,
-                };
-            }
-            let next = brought.clock;
-            Stepped {
+        Ok(()) => match brought {
+            Err(late) => Stepped {
+                number: late.number(),
+                chosen: 0,
+                clock: clock,
+            },
+            Ok(next) => Stepped {
                 number: 0,
                 chosen: c,
                 clock: next,
-            }
-        }
+            },
+        },
     }
 }
 
@@ -234,16 +224,14 @@ fn take_waiting(
     ensures { (m : Resolved.Model) (s : State) (es : List rules.Entry) (e : rules.Entry) → Row nodes.now roots.now scopes.now root variables state.old listing.now c m s es e → total ≡ total_of (weights es) → StepsTo (steps_in clock waiting.now s (taken m s es c (rules.key_of e))) result state.new }
 {
     let brought = clock::bring(clock, waiting, total);
-    let number = brought.number;
-    if number == 0 {
-        let taken = take_row(
+    let taken = match brought {
+        Ok(_) => take_row(
             nodes, roots, scopes, root, variables, state, fresh, listing, c,
-        );
-        return stepped_by(taken, c, brought, clock);
-    }
-    let taken = take_kept(
-        nodes, roots, scopes, root, variables, state, fresh, listing, c,
-    );
+        ),
+        Err(_) => take_kept(
+            nodes, roots, scopes, root, variables, state, fresh, listing, c,
+        ),
+    };
     stepped_by(taken, c, brought, clock)
 }
 
@@ -268,12 +256,12 @@ pub fn take_timed(
 {
     let chosen = listing::choose(listing, count, draw);
     match chosen {
-        Chosen::Nothing => Stepped {
+        None => Stepped {
             number: 16,
             chosen: 0,
             clock: clock,
         },
-        Chosen::At(c) => take_waiting(
+        Some(c) => take_waiting(
             nodes, roots, scopes, root, variables, state, fresh, listing, c, total, waiting, clock,
         ),
     }
@@ -371,8 +359,8 @@ fn step_counted(
     let from = p.words;
     let drawn = words::draw_from(&words[from..], total);
     match drawn {
-        Drawn::Ended => Progress::end(p, 0, count, total),
-        Drawn::Given(draw, used) => step_drawn(
+        None => Progress::end(p, 0, count, total),
+        Some((draw, used)) => step_drawn(
             nodes, roots, scopes, root, variables, state, fresh, listing, count, total, draw, used,
             waiting, events, p,
         ),
@@ -405,8 +393,8 @@ fn run_step(
         nodes, roots, scopes, state, heads, numbers, firsts, nexts, listing,
     );
     match listed {
-        Listed::Refused(number, _, _) => Progress::end(p, number, 0, 0),
-        Listed::Filled(count, total) => step_counted(
+        Err(r) => Progress::end(p, r.number, 0, 0),
+        Ok((count, total)) => step_counted(
             nodes, roots, scopes, root, variables, state, fresh, listing, count, total, words,
             waiting, events, p,
         ),
@@ -436,6 +424,7 @@ fn run_lent(
     requires { ((m : Resolved.Model) × (s : State) × Lent nodes.now roots.now scopes.now root variables state.old m s) × (InRange clock) × (length heads.old ≡ row_limit) × (length numbers.old ≡ row_limit * row_width) × (length firsts.old ≡ bucket_limit) × (length nexts.old ≡ row_limit) × (length fresh.old ≡ fresh_length) × (length listing.old ≡ listing_length) × (steps * event_width ≤ length events.old) }
     ensures { (m : Resolved.Model) (s : State) → Lent nodes.now roots.now scopes.now root variables state.old m s → Stands nodes.now roots.now scopes.now root variables words.now waiting.now events.old state.new events.new result m (running steps words.now waiting.now m (begun (timed s clock))) }
 {
+    // A while: the progress counts the steps.
     let mut p = Progress::begun(clock);
     while p.steps < steps {
         p = run_step(
@@ -472,7 +461,7 @@ pub fn run(
     let mut nexts = [0u16; Table::ROWS];
     let mut fresh = [0i64; Room::FRESH];
     let mut listing = [0u64; Room::LISTING];
-    let steps = least(limit, events.len() / Room::EVENT);
+    let steps = limit.min(events.len() / Room::EVENT);
     run_lent(
         nodes,
         roots,

@@ -1,7 +1,7 @@
 #![tactic(auto)]
 
 // The buffer of the saves: names as two numbers, a state with its clock, the exact test of question 11, and what a save, a return and a forget write.
-ghost use Rattle.std.specs.Prelude.{◌≡◌, true, ◌++◌, ◌+◌, ◌*◌, ◌≤◌, ◌<◌, ℤ, pos, length, take, drop};
+ghost use Rattle.std.specs.Prelude.{◌≡◌, true, ◌++◌, ◌+◌, ◌*◌, ◌≤◌, ◌<◌, pos, length, take, drop};
 ghost use Rattle.word.specs.Name.{word_bytes, pack};
 ghost use Rattle.clock.specs.Clock.{InRange};
 ghost use Rattle.machine.specs.State.{state_length};
@@ -61,8 +61,7 @@ fn is_word(word: u64) -> bool
     ensures { result ≡ is_word word_bytes word }
 {
     let mut w = word;
-    let mut i: usize = 0;
-    while i < 8 {
+    for i in 0..word::Limits::WORD {
         if w == 0 {
             return true;
         }
@@ -70,7 +69,6 @@ fn is_word(word: u64) -> bool
             return false;
         }
         w /= 256;
-        i += 1;
     }
     w == 0
 }
@@ -115,12 +113,10 @@ fn wide(b: u8) -> u64
 fn all_letters(s: &[u8]) -> bool
     ensures { result ≡ every is_letter s.now }
 {
-    let mut i = 0;
-    while i < s.len() {
-        if !is_letter(wide(s[i])) {
+    for &b in s {
+        if !is_letter(wide(b)) {
             return false;
         }
-        i += 1;
     }
     true
 }
@@ -181,16 +177,14 @@ pub fn find_place(s: &[i64], n: usize, key: &[i64]) -> usize
     requires { (n * place_width ≤ length s.now) × (key_width ≤ length key.now) }
     ensures { (result ≡ first_of (has_key key.now) (rows place_width n s.now)) × (result ≤ n) }
 {
-    let mut i = 0;
-    while i < n {
+    for i in 0..n {
         let from = i * Layout::PLACE;
         let to = from + Layout::PLACE;
         if has_key(&s[from..to], key) {
             return i;
         }
-        i += 1;
     }
-    i
+    n
 }
 
 // The place with such a key, else the first empty one, or the number of places.
@@ -274,14 +268,12 @@ fn are_places(saves: &[i64], scopes: &[u16], sums: usize, channels: usize) -> bo
     requires { (length saves.now ≡ saves_length) × (sums ≤ length scopes.now) × FewLocals (take sums scopes.now) }
     ensures { result ≡ every (is_place (take sums scopes.now) channels) (places_of saves.now) }
 {
-    let mut i = 0;
-    while i < Layout::PLACES {
+    for i in 0..Layout::PLACES {
         let from = i * Layout::PLACE;
         let to = from + Layout::PLACE;
         if !is_place(&saves[from..to], scopes, sums, channels) {
             return false;
         }
-        i += 1;
     }
     true
 }
@@ -301,13 +293,11 @@ fn are_once(saves: &[i64]) -> bool
     requires { length saves.now ≡ saves_length }
     ensures { result ≡ are_once (places_of saves.now) }
 {
-    let mut i = 0;
-    while i < Layout::PLACES {
+    for i in 0..Layout::PLACES {
         let from = i * Layout::PLACE;
         if !is_once(&saves[from..], Layout::PLACES - 1 - i) {
             return false;
         }
-        i += 1;
     }
     true
 }

@@ -10,11 +10,11 @@ use borrow.Author.Tests.{leb-true, eqb-true, eqb-false}
 use lib.Dec.{eqb, leb}
 use lib.ListN.{length, take, drop, length-append, length-take, length-drop, length-replicate, take-append-drop}
 use lib.Seq.{length-take-le, take-take}
+use Rattle.std.specs.Prelude.{Err, Ok}
 use Rattle.rules.specs.Rules.{key}
 use Rattle.rules.specs.Listing.{Entry, entry}
 use Rattle.rules.proofs.Decides.{on}
-use Rattle.clock.specs.declared.Brought.{Brought}
-use Rattle.clock.specs.Clock.{brought_by}
+use Rattle.clock.specs.Clock.{Brought, brought_by}
 use Rattle.machine.specs.State.{State}
 use Rattle.machine.specs.Timed.{timed}
 use Rattle.machine.specs.Report.{report_length}
@@ -256,13 +256,11 @@ module _ (ds : List ℕ) (d : ℕ) (h : Held) where
 
   shows_same : (steps_in h.clock ds h.state stepped).answer.listing ≡ stepped.answer.listing
   unfolding steps_in with_wait refused_as
-  shows_same = by (eqb stepped.answer.number 0) (eqb waited.number 0)
+  shows_same = by (eqb stepped.answer.number 0) waited
     where
-      by : (a b : Bool)
-          → (cond a (cond b (turn (timed stepped.machine waited.clock) stepped.answer) (turn (timed h.state h.clock) (refused_as waited.number stepped.answer))) (turn (timed stepped.machine h.clock) stepped.answer)).answer.listing
-          ≡ stepped.answer.listing
-      by true true = refl
-      by true false = refl
+      by : (a : Bool) (b : Brought) → (cond a (with_wait h.state h.clock stepped b) (turn (timed stepped.machine h.clock) stepped.answer)).answer.listing ≡ stepped.answer.listing
+      by true (Ok k) = refl
+      by true (Err l) = refl
       by false b = refl
 
   timed-within : InPart (on' (timed' ds d)) (acts (timed' ds d) h).answer.listing

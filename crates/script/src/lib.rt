@@ -352,8 +352,7 @@ fn put_clock(clock: &mut [u64], left: Clock)
     requires { 2 ≤ length clock.old }
     ensures { clock.new ≡ clock_numbers left ++ drop 2 clock.old }
 {
-    clock[0] = left.ticks;
-    clock[1] = left.draws;
+    clock[..Row::CLOCK].copy_from_slice(&[left.ticks, left.draws]);
 }
 
 // Writes an answer's numbers over the first of answers.
@@ -361,24 +360,27 @@ fn put_answer(answers: &mut [u64], answer: Answer)
     requires { answer_width ≤ length answers.old }
     ensures { answers.new ≡ result_numbers answer ++ drop answer_width answers.old }
 {
-    answers[0] = answer.number;
-    answers[1] = answer.place;
-    answers[2] = answer.branch;
-    answers[3] = answer.count;
-    answers[4] = answer.total;
-    answers[5] = answer.chosen;
-    answers[6] = 0;
-    answers[7] = 0;
-    answers[8] = 0;
-    answers[9] = 0;
-    answers[10] = 0;
-    answers[11] = 0;
-    answers[12] = 0;
-    answers[13] = 0;
-    answers[14] = 0;
-    answers[15] = 0;
-    answers[16] = 0;
-    answers[17] = 0;
+    let numbers: [u64; Row::ANSWER] = [
+        answer.number,
+        answer.place,
+        answer.branch,
+        answer.count,
+        answer.total,
+        answer.chosen,
+        0,
+        0,
+        0,
+        0,
+        0,
+        0,
+        0,
+        0,
+        0,
+        0,
+        0,
+        0,
+    ];
+    answers[..Row::ANSWER].copy_from_slice(&numbers);
 }
 
 // Writes the numbers of what a search found over the first of answers.
@@ -387,24 +389,27 @@ fn put_found(answers: &mut [u64], found: Found)
     ensures { answers.new ≡ found_numbers found ++ drop answer_width answers.old }
 {
     let run = found.run;
-    answers[0] = found.number;
-    answers[1] = 0;
-    answers[2] = 0;
-    answers[3] = 0;
-    answers[4] = 0;
-    answers[5] = 0;
-    answers[6] = found.length;
-    answers[7] = run[0];
-    answers[8] = run[1];
-    answers[9] = run[2];
-    answers[10] = run[3];
-    answers[11] = run[4];
-    answers[12] = run[5];
-    answers[13] = run[6];
-    answers[14] = run[7];
-    answers[15] = 0;
-    answers[16] = 0;
-    answers[17] = 0;
+    let numbers: [u64; Row::ANSWER] = [
+        found.number,
+        0,
+        0,
+        0,
+        0,
+        0,
+        found.length,
+        run[0],
+        run[1],
+        run[2],
+        run[3],
+        run[4],
+        run[5],
+        run[6],
+        run[7],
+        0,
+        0,
+        0,
+    ];
+    answers[..Row::ANSWER].copy_from_slice(&numbers);
 }
 
 // Writes the numbers of what a run came to over the first of answers.
@@ -412,24 +417,27 @@ fn put_ran(answers: &mut [u64], ran: engine::Ran)
     requires { answer_width ≤ length answers.old }
     ensures { answers.new ≡ ran_numbers ran ++ drop answer_width answers.old }
 {
-    answers[0] = ran.number;
-    answers[1] = 0;
-    answers[2] = 0;
-    answers[3] = ran.count;
-    answers[4] = ran.total;
-    answers[5] = 0;
-    answers[6] = 0;
-    answers[7] = 0;
-    answers[8] = 0;
-    answers[9] = 0;
-    answers[10] = 0;
-    answers[11] = 0;
-    answers[12] = 0;
-    answers[13] = 0;
-    answers[14] = 0;
-    answers[15] = ran.steps;
-    answers[16] = ran.words;
-    answers[17] = ran.waiting;
+    let numbers: [u64; Row::ANSWER] = [
+        ran.number,
+        0,
+        0,
+        ran.count,
+        ran.total,
+        0,
+        0,
+        0,
+        0,
+        0,
+        0,
+        0,
+        0,
+        0,
+        0,
+        ran.steps,
+        ran.words,
+        ran.waiting,
+    ];
+    answers[..Row::ANSWER].copy_from_slice(&numbers);
 }
 
 // Makes the call of a row that fits, on the engine and its clock, and writes its answer.
@@ -567,6 +575,7 @@ pub fn run(
     ensures ran { Ran script.now texts.now numbers.now words.now (lent_of (lent_four model.old state.old saves.old clock.old) outputs.old answers.old) result (lent_of (lent_four model.new state.new saves.new clock.new) outputs.new answers.new) }
     ensures refines { Refines script.now texts.now numbers.now words.now (lent_of (lent_four model.old state.old saves.old clock.old) outputs.old answers.old) (lent_of (lent_four model.new state.new saves.new clock.new) outputs.new answers.new) }
 {
+    // A while: a row that is no call ends it.
     let mut i = 0;
     while run_at(
         i, script, texts, numbers, words, model, state, saves, clock, outputs, answers,

@@ -6,14 +6,14 @@ use mathlib.Core.Option.{none}
 use Prim.Native.Nat.{ℕ}
 use lib.IntN.{ℤ}
 use lib.ListN.{length, take}
+use Rattle.std.specs.Prelude.{Err, Ok}
+use Rattle.token.specs.Questions.{refusal}
 use Rattle.model.specs.Resolved
 use Rattle.model.specs.Held.{held}
 use Rattle.model.proofs.Held.{held-good}
 use Rattle.settle.specs.declared.Model.{Model}
-use Rattle.opening.specs.declared.Held.{Held}
-use Rattle.opening.specs.declared.Held.TheVariants.{Refused as HeldRefused, Model as HeldModel}
 use Rattle.opening.specs.Trees.{Closed}
-use Rattle.opening.specs.Models.{ModelHeld, ModelRead}
+use Rattle.opening.specs.Models.{ModelHeld, ModelRead, Held}
 use Rattle.machine.specs.State.{state_length}
 use Rattle.state.specs.Test.{is_state}
 use Rattle.store.specs.Tables.{Tables}
@@ -24,11 +24,11 @@ use Rattle.simulation.specs.Comes.{Whole}
 -- ---- what was read
 
 module _ (text t roots scopes : List ℕ) where
-  pub none-held : {r : Held} {n p : ℕ} → ModelRead text t roots scopes r → r ≡ HeldRefused n p → held text ≡ none
+  pub none-held : {r : Held} {n p : ℕ} → ModelRead text t roots scopes r → r ≡ Err (refusal n p) → held text ≡ none
   unfolding ModelRead
   none-held {r} {n} {p} o e = let c : Closed text n p = rw e at o in c.holds
 
-  pub model-held : {r : Held} {x : Model} {p : ℕ} → ModelRead text t roots scopes r → r ≡ HeldModel x p → ModelHeld text t roots scopes x p
+  pub model-held : {r : Held} {x : Model} {p : ℕ} → ModelRead text t roots scopes r → r ≡ Ok (x, p) → ModelHeld text t roots scopes x p
   unfolding ModelRead
   model-held o e = rw e at o
 

@@ -15,12 +15,12 @@ ghost use Rattle.buffers.specs.Effect.{requested, answered, effect};
 ghost use Rattle.simulation.specs.Comes.{refused_with, Comes, are_long, Whole};
 
 use clock::Clock;
-use opening::Held;
 use running::Progress;
+use settle::Model;
 use store::Engine;
-use store::buffer::{Bytes, Text};
+use store::buffer::Bytes;
 use syntax::question;
-use token::Limits;
+use token::{Limits, Refusal};
 
 // A run that a question refuses before its first step.
 fn refused(number: u64, clock: Clock) -> Progress
@@ -76,7 +76,12 @@ fn run_tables(
 }
 
 // The model of a text that a model buffer holds, in three tables; those that only reading needs are its own.
-fn read_tables(text: &[u8], nodes: &mut [u64], roots: &mut [u16], scopes: &mut [u16]) -> Held
+pub fn read_tables(
+    text: &[u8],
+    nodes: &mut [u64],
+    roots: &mut [u16],
+    scopes: &mut [u16],
+) -> Result<(Model, usize), Refusal>
     requires { (token_limit ≤ length nodes.old) × (token_limit ≤ length roots.old) × (token_limit ≤ length scopes.old) }
     ensures { ModelRead text.now nodes.new roots.new scopes.new result }
 {
@@ -116,27 +121,24 @@ fn run_text(
     let mut nodes = [0u64; question::Limits::TOKENS];
     let mut roots = [0u16; question::Limits::TOKENS];
     let mut scopes = [0u16; question::Limits::TOKENS];
-    let read = read_tables(text, &mut nodes, &mut roots, &mut scopes);
-    match read {
-        Held::Refused(_, _) => refused(11, clock),
-        Held::Model(found, _) => {
-            run_tables(
-                &nodes,
-                &roots,
-                &scopes,
-                found.root,
-                found.variables,
-                found.sums,
-                found.channels,
-                state,
-                words,
-                waiting,
-                events,
-                limit,
-                clock,
-            )
-        }
-    }
+    let Ok((found, _)) = read_tables(text, &mut nodes, &mut roots, &mut scopes) else {
+        return refused(11, clock);
+    };
+    run_tables(
+        &nodes,
+        &roots,
+        &scopes,
+        found.root,
+        found.variables,
+        found.sums,
+        found.channels,
+        state,
+        words,
+        waiting,
+        events,
+        limit,
+        clock,
+    )
 }
 
 // Question 1: have the model and the state their lengths?
@@ -162,22 +164,19 @@ fn run_lent(
     requires { (length model.now ≡ model_length) × (length state.old ≡ state_length) × (InRange clock) }
     ensures { Comes (answered (on' (run' words.now waiting.now limit (length events.old))) (lent_timed model.now state.old clock) events.old) result (lent_timed model.now state.new result.clock) events.new }
 {
-    let found = store::buffer::find_text(model);
-    match found {
-        Text::Nothing => refused(11, clock),
-        Text::Long(n) => {
-            let end = Bytes::FIRST + n;
-            run_text(
-                &model[Bytes::FIRST..end],
-                state,
-                words,
-                waiting,
-                events,
-                limit,
-                clock,
-            )
-        }
-    }
+    let Some(n) = store::buffer::find_text(model) else {
+        return refused(11, clock);
+    };
+    let end = Bytes::FIRST + n;
+    run_text(
+        &model[Bytes::FIRST..end],
+        state,
+        words,
+        waiting,
+        events,
+        limit,
+        clock,
+    )
 }
 
 // Timed steps from the present state: no more than the limit, and none for whose event there is no room.

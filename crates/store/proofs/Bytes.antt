@@ -1,4 +1,4 @@
--- Loops over bytes: clearing, copying and the test for zeros; and the bytes of a text in a cleared buffer. From the laws of overwriting and of parts.
+-- The test of bytes for zeros, and the bytes of a text in a cleared buffer. From the laws of parts.
 use mathlib.Core.Path.{◌≡◌, refl, sym, ap, ◌∙◌}
 use mathlib.Core.List.{List, ◌∷◌, ◌++◌}
 use mathlib.Core.Bool.{Bool, true, false, cond, ◌&&◌, and-true}
@@ -8,16 +8,14 @@ use native.Mathlib.Numerals.{add-one}
 use native.Mathlib.Omega.{arith}
 use lib.Bits.{bit_or}
 use lib.Dec.{eqb, leb}
-use lib.ListN.{length, get_or, set, take, drop, replicate, length-append, length-set, length-drop, length-replicate, get_or-replicate, replicate-append-replicate, get_or-append, drop_of_length-le}
-use lib.Seq.{drop-cons, take_all, take_at, drop_at, drop-drop}
+use lib.ListN.{length, get_or, set, take, drop, replicate, length-set, length-drop, length-replicate, replicate-append-replicate, drop_of_length-le}
+use lib.Seq.{drop-cons, take_all, drop_at, drop-drop}
 use borrow.Author.Tests.{le-leb, lt-leb}
-use borrow.Rule.Slice.PartMut.{put_mid, mid_of}
+use borrow.Rule.Slice.PartMut.{put_mid}
 use Rattle.token.specs.Questions.{text_limit}
 use Rattle.model.specs.Resolved.{Model}
 use Rattle.model.specs.Held.{held}
 use Rattle.state.proofs.Tests.{join-bits}
-use Rattle.state.proofs.Mix.{mix, mix-up}
-use Rattle.state.proofs.Change.{tail-changed}
 use Rattle.machine.specs.Machine.{model_length}
 use Rattle.buffers.specs.Held.{model_bytes, length_in, text_in, zeros, held_in}
 
@@ -33,27 +31,6 @@ module _ (s : List ℕ) (n i : ℕ) (e : zeros s ≡ (eqb n 0 && zeros (drop i s
   pub zeros-done : length s ≤ i → eqb n 0 ≡ zeros s
   unfolding zeros
   zeros-done l = sym (e ∙ ap (λ (t : List ℕ). eqb n 0 && zeros t) (drop_of_length-le s {i = i} l) ∙ and-true (eqb n 0))
-
--- ---- clearing
-pub cleared : (s₀ s : List ℕ) (i : ℕ) → i < length s₀ → s ≡ mix i (replicate (length s₀) 0) s₀ → set s i 0 ≡ mix (i + 1) (replicate (length s₀) 0) s₀
-cleared s₀ s i l e =
-    let t : List ℕ = replicate (length s₀) 0 in
-    let n : length t ≡ length s₀ = length-replicate (length s₀) 0 in
-    rw e (ap (λ (z : ℕ). set (mix i t s₀) i z) (sym (get_or-replicate (length s₀) i 0 0 l)) ∙ mix-up i t s₀ 0 (omega arith) n)
-
--- ---- copying
-module _ (s₀ text : List ℕ) (h : length text ≤ length s₀) where
-  abbrev pub copied : List ℕ
-  copied = text ++ drop (length text) s₀
-
-  copied-length : length copied ≡ length s₀
-  copied-length = omega (arith, length-append text (drop (length text) s₀), length-drop (length text) s₀)
-
-  pub copied_on : (s : List ℕ) (i : ℕ) → i < length text → s ≡ mix i copied s₀ → set s i (get_or text i 0) ≡ mix (i + 1) copied s₀
-  copied_on s i l e = rw e (ap (λ (z : ℕ). set (mix i copied s₀) i z) (sym (get_or-append text (drop (length text) s₀) 0 i l)) ∙ mix-up i copied s₀ 0 (omega (arith, copied-length)) copied-length)
-
-  pub copied-done : (s : List ℕ) → s ≡ mix (length text) copied s₀ → s ≡ copied
-  copied-done s e = e ∙ ap (λ (l : List ℕ). l ++ drop (length text) s₀) (take_at text (drop (length text) s₀) (length text) refl)
 
 -- ---- a store of what is there
 pub set_same : {A : Type 0} (n i : ℕ) (x : A) → set (replicate n x) i x ≡ replicate n x
@@ -80,13 +57,15 @@ two-set : (n a b : ℕ) → set (set (replicate {A = ℕ} (2 + n) 0) 0 a) 1 b �
 two-set n a b = ap (λ (l : List ℕ). set (set l 0 a) 1 b) (sym (replicate-append-replicate 2 n 0))
 
 pub text-put : (text m x ys : List ℕ) → m ≡ replicate model_length 0 → length text ≤ text_limit → x ≡ set (set m 0 (length text % 256)) 1 (length text / 256)
-    → ys ≡ text ++ drop (length text) (mid_of 2 (length x - 2) x) → put_mid 2 (length x - 2) x ys ≡ model_bytes text
+    → ys ≡ text → put_mid 2 (2 + length text - 2) x ys ≡ model_bytes text
 unfolding model_bytes
 text-put text m x ys c h e f =
     let a : ℕ = length text % 256 in
     let b : ℕ = length text / 256 in
+    let k : 2 + length text - 2 ≡ length text = omega arith in
     let q : x ≡ a ∷ b ∷ replicate text_limit 0 = e ∙ ap (λ (l : List ℕ). set (set l 0 a) 1 b) c ∙ two-set text_limit a b in
-    tail-changed (λ (l : List ℕ). text ++ drop (length text) l) 2 x ys f
+    ap (λ (l : List ℕ). take 2 x ++ (l ++ drop (2 + length text - 2) (drop 2 x))) f
+    ∙ ap (λ (n : ℕ). take 2 x ++ (text ++ drop n (drop 2 x))) k
     ∙ ap (λ (l : List ℕ). take 2 l ++ (text ++ drop (length text) (drop 2 l))) q
     ∙ ap (λ (l : List ℕ). a ∷ b ∷ (text ++ l)) (drop-zeros (length text) text_limit h)
 

@@ -8,10 +8,9 @@ use native.Mathlib.Numerals.{add-one}
 use lib.IntN.{ℤ}
 use lib.ListN.{length, get_or, set, take}
 use lib.Seq.{sets}
+use Rattle.std.specs.Prelude.{Some}
 use Rattle.tree.specs.Node.{kind_of, token_of, left_of, third_of}
-use Rattle.value.specs.declared.Value.{Value}
-use Rattle.value.specs.declared.Value.TheVariants.{Is}
-use Rattle.value.specs.Range.{InRange}
+use Rattle.value.specs.Range.{InRange, Value}
 use Rattle.model.specs.Resolved
 use Rattle.model.specs.Good.{Every, GoodExpr, GoodDefined, GoodStart, GoodModel, GoodSum, SumWith}
 use Rattle.model.specs.Limits.{local_limit}
@@ -113,7 +112,7 @@ module _ (t : List ℕ) (k : ℕ) where
   unfolding Expr GoodExpr
   whole-held w = record { part = Resolved.constant w.0; at = w.1; fit = w.2 }
 
-  pub whole_is : (v : Value) → Worth (Expr t) (eval_expr []) k v → (z : ℤ) → Number t 1 z k → v ≡ Is z
+  pub whole_is : (v : Value) → Worth (Expr t) (eval_expr []) k v → (z : ℤ) → Number t 1 z k → v ≡ Some z
   unfolding Expr eval_expr
   whole_is v w z n = w (Resolved.constant z) n
 

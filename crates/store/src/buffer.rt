@@ -1,5 +1,5 @@
 // The model buffer: two bytes for the text's length, low byte first, then the text, then zeros; and an engine's header in both buffers.
-ghost use Rattle.std.specs.Prelude.{◌≡◌, ◌++◌, ◌+◌, ◌≤◌, ◌<◌, ◌%◌, ◌/◌, pos, length, set, drop, replicate};
+ghost use Rattle.std.specs.Prelude.{◌≡◌, ◌+◌, ◌≤◌, ◌<◌, ◌%◌, ◌/◌, pos, length, set, replicate};
 ghost use Rattle.token.specs.Questions.{text_limit};
 ghost use Rattle.machine.specs.State.{state_length};
 ghost use Rattle.machine.specs.Machine.{model_length};
@@ -19,38 +19,6 @@ impl Bytes {
 
     // Numbers that a byte has.
     pub const SIZE: usize = 256;
-}
-
-// The text in a model buffer that may hold one: its length.
-#[derive(Clone, Copy)]
-pub enum Text {
-    Long(usize),
-    Nothing,
-}
-
-// Writes zeros over the whole.
-fn clear_bytes(s: &mut [u8])
-    ensures { s.new ≡ replicate (length s.old) 0 }
-{
-    let n = s.len();
-    let mut i = 0;
-    while i < n {
-        s[i] = 0;
-        i += 1;
-    }
-}
-
-// Writes a text over the first bytes.
-fn copy_bytes(s: &mut [u8], text: &[u8])
-    requires { length text.now ≤ length s.old }
-    ensures { s.new ≡ text.now ++ drop (length text.now) s.old }
-{
-    let n = text.len();
-    let mut i = 0;
-    while i < n {
-        s[i] = text[i];
-        i += 1;
-    }
 }
 
 // Writes a text's length.
@@ -77,7 +45,7 @@ pub fn put_fresh(model: &mut [u8], state: &mut [i64])
     ensures { (model.new ≡ replicate model_length 0) × (state.new ≡ replicate state_length (pos 0)) }
 {
     let engine = Engine::fresh();
-    clear_bytes(model);
+    model.fill(0);
     state::clear_state(state);
     put_length(model, engine.text);
     put_counts(state, engine.processes, engine.pairs);
@@ -89,7 +57,7 @@ pub fn put_text(model: &mut [u8], text: &[u8])
     ensures { model.new ≡ model_bytes text.now }
 {
     put_length(model, text.len());
-    copy_bytes(&mut model[Bytes::FIRST..], text);
+    model[Bytes::FIRST..Bytes::FIRST + text.len()].copy_from_slice(text);
 }
 
 // The length in the first two bytes.
@@ -105,26 +73,24 @@ fn is_clear(s: &[u8]) -> bool
     ensures { result ≡ zeros s.now }
 {
     let mut bits = 0;
-    let mut i = 0;
-    while i < s.len() {
-        bits |= s[i];
-        i += 1;
+    for &b in s {
+        bits |= b;
     }
     bits == 0
 }
 
-// The text that a model buffer may hold: of a length that a text may have, with zeros after it.
-pub fn find_text(model: &[u8]) -> Text
+// The length of the text that a model buffer may hold: of a length that a text may have, with zeros after it.
+pub fn find_text(model: &[u8]) -> Option<usize>
     requires { length model.now ≡ model_length }
     ensures { TextIn model.now result }
 {
     let n = text_length(model);
     if Bytes::MOST < n {
-        return Text::Nothing;
+        return None;
     }
     let end = Bytes::FIRST + n;
     if is_clear(&model[end..]) {
-        return Text::Long(n);
+        return Some(n);
     }
-    Text::Nothing
+    None
 }

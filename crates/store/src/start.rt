@@ -18,7 +18,6 @@ ghost use Rattle.model.specs.Good.{Every, GoodStart, GoodModel};
 ghost use Rattle.store.specs.Start as Start;
 
 use tree::NodeKind;
-use value::Value;
 
 #[derive(Clone, Copy)]
 pub struct Locals;
@@ -64,10 +63,8 @@ fn push_copies(
     requires { Start.CopiesFit nodes.now scopes.now k locals.now state.old count }
     ensures { (ns : List ℕ) → Represents.Sums nodes.now ns k → Start.Adds (copies count (entered scopes.now ns locals.now)) state.old state.new }
 {
-    let mut i = 0;
-    while i < count {
+    for i in 0..count {
         push_sums(nodes, k, locals, state, scopes);
-        i += 1;
     }
 }
 
@@ -76,12 +73,7 @@ fn whole_at(nodes: &[u64], k: usize) -> i64
     requires { (z : ℤ) × (Settled.Number nodes.now 1 z k) × InRange z }
     ensures { (z : ℤ) → Settled.Number nodes.now 1 z k → result ≡ z }
 {
-    let none = [0i64; 0];
-    let found = eval::eval_node(nodes, &none, k);
-    match found {
-        Value::Is(z) => z,
-        Value::Missing => 0,
-    }
+    eval::eval_node(nodes, &[], k).unwrap_or(0)
 }
 
 // Writes the whole numbers at k from place `at` on.

@@ -10,32 +10,32 @@ use Rattle.engine.proofs.report_lent.Goals as goal
 pub overflow_add-end : goal.overflow_add-end
 unfolding TextIn
 overflow_add-end c =
-    let h : TextOf c.args.model.now c.in-Long.n = rw c.in-Long.is at c.find_text-found.ensures in
+    let h : TextOf c.args.model.now c.in-Some.n = rw c.in-Some.is at c.find_text.ensures in
     omega (arith, h.short)
 
 pub slice_bounds-report_text-end : goal.slice_bounds-report_text-end
 unfolding TextIn
 slice_bounds-report_text-end c =
-    let h : TextOf c.args.model.now c.in-Long.n = rw c.in-Long.is at c.find_text-found.ensures in
+    let h : TextOf c.args.model.now c.in-Some.n = rw c.in-Some.is at c.find_text.ensures in
     omega (arith, h.short, c.requires.0)
 
 pub report_text-requires : goal.report_text-requires
 report_text-requires c =
     (c.requires.1, c.requires.2)
 
-pub returns-in-Nothing : goal.returns-in-Nothing
+pub returns-in_default : goal.returns-in_default
 unfolding TextIn
-returns-in-Nothing c =
+returns-in_default c =
     let B = c.args.model.now in
     let Z = c.args.state.now in
     let L = c.args.report.now in
-    rw (c.bare.ensures, none_in B Z report' L (rw c.in-Nothing.is at c.find_text-found.ensures)) (none-gives report' (lent_two B Z) L)
+    rw (c.bare.ensures, none_in B Z report' L (rw c.in_default.is at c.find_text.ensures)) (none-gives report' (lent_two B Z) L)
 
-pub returns-in-Long : goal.returns-in-Long
+pub returns : goal.returns
 unfolding TextIn
-returns-in-Long c =
+returns c =
     let B = c.args.model.now in
     let Z = c.args.state.now in
     let L = c.args.report.now in
-    let h : TextOf c.args.model.now c.in-Long.n = rw c.in-Long.is at c.find_text-found.ensures in
-    rw (text_in_lem B Z report' L c.in-Long.n h) (c.report_text.ensures B)
+    let h : TextOf c.args.model.now c.in-Some.n = rw c.in-Some.is at c.find_text.ensures in
+    rw (text_in_lem B Z report' L c.in-Some.n h) (c.report_text.ensures B)

@@ -8,7 +8,7 @@ use Rattle.running.proofs.run.Goals as goal
 
 pub run_lent-requires : goal.run_lent-requires
 run_lent-requires c =
-    (c.requires.0, c.requires.1, search rules, search rules, search rules, search rules, search rules, search rules, omega (arith, c.least-steps.ensures, div-mul-le_self (length c.args.events.now) 8))
+    (c.requires.0, c.requires.1, search rules, search rules, search rules, search rules, search rules, search rules, omega (arith, c.min-steps.ensures, div-mul-le_self (length c.args.events.now) 8))
 
 pub shape_of-state : goal.shape_of-state
 shape_of-state c =
@@ -21,4 +21,4 @@ shape_of-events c =
 pub returns : goal.returns
 unfolding runs_with
 returns c =
-    λ m s l. rw c.least-steps.ensures at (c.run_lent.ensures m s l)
+    λ m s l. rw c.min-steps.ensures at (c.run_lent.ensures m s l)

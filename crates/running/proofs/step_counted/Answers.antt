@@ -22,12 +22,12 @@ draw_from-drawn-requires c =
 
 pub step_drawn-requires : goal.step_drawn-requires
 step_drawn-requires c =
-    let h = c.requires.0.4 in ((c.args.words.now, c.requires.0.0, c.requires.0.1, c.requires.0.2, c.requires.0.3, h, used-fits h c.if-total-eq0.false _ (rw rest_of at c.draw_from-drawn.ensures.value) _ _ c.in-Given.is (rw rest_of at c.draw_from-drawn.ensures.within), c.well_formed.1.1.1.1.1.1.1.1.1.1.0.0), c.requires.1, omega (arith, c.if-total-eq0.false), c.requires.2)
+    let h = c.requires.0.4 in ((c.args.words.now, c.requires.0.0, c.requires.0.1, c.requires.0.2, c.requires.0.3, h, used-fits h c.if-total-eq0.false _ (rw rest_of at c.draw_from-drawn.ensures.value) _ _ c.in-Some.is (rw rest_of at c.draw_from-drawn.ensures.within), c.well_formed.1.1.1.1.1.1.1.1.1.1.0.0), c.requires.1, omega (arith, c.if-total-eq0.false), c.requires.2)
 
-pub returns-in-Ended : goal.returns-in-Ended
-returns-in-Ended c =
-    λ z m r es h. words-ends h c.if-total-eq0.false _ (rw rest_of at c.draw_from-drawn.ensures.value) c.in-Ended.is _ c.end-in-Ended.ensures
+pub returns-in-None : goal.returns-in-None
+returns-in-None c =
+    λ z m r es h. words-ends h c.if-total-eq0.false _ (rw rest_of at c.draw_from-drawn.ensures.value) c.in-None.is _ c.end-in-None.ensures
 
-pub returns-in-Given : goal.returns-in-Given
-returns-in-Given c =
-    λ z m r es h. rw (drawn-so h c.if-total-eq0.false _ (rw rest_of at c.draw_from-drawn.ensures.value) _ _ c.in-Given.is) (c.step_drawn.ensures c.args.words.now z m r es h (used-fits h c.if-total-eq0.false _ (rw rest_of at c.draw_from-drawn.ensures.value) _ _ c.in-Given.is (rw rest_of at c.draw_from-drawn.ensures.within)))
+pub returns-in-Some : goal.returns-in-Some
+returns-in-Some c =
+    λ z m r es h. rw (drawn-so h c.if-total-eq0.false _ (rw rest_of at c.draw_from-drawn.ensures.value) _ _ c.in-Some.is) (c.step_drawn.ensures c.args.words.now z m r es h (used-fits h c.if-total-eq0.false _ (rw rest_of at c.draw_from-drawn.ensures.value) _ _ c.in-Some.is (rw rest_of at c.draw_from-drawn.ensures.within)))

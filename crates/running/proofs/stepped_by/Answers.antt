@@ -1,21 +1,19 @@
--- By what the entry came to, and by the number of the clock's answer.
-use mathlib.Core.Path.{◌≡◌, refl}
-use native.Mathlib.Omega.{arith}
-use borrow.Author.Tests.{eq-eqb, ne_eqb}
+-- By what the entry came to, and by what the clock was brought to.
+use mathlib.Core.Path.{refl}
 use Rattle.running.specs.Taking.{stepped_by}
 use Rattle.running.proofs.stepped_by.Goals as goal
 
-pub returns-then-number-ne0 : goal.returns-then-number-ne0
+pub returns-in-Err : goal.returns-in-Err
 unfolding stepped_by
-returns-then-number-ne0 c =
-    rw (c.in-Accepted.is, ne_eqb _ 0 c.if-number-ne0.true) refl
+returns-in-Err c =
+    rw (c.in-Err.is, c.number.ensures) refl
 
-pub returns-in-Refused : goal.returns-in-Refused
+pub returns-in-Err-brought : goal.returns-in-Err-brought
 unfolding stepped_by
-returns-in-Refused c =
-    rw c.in-Refused.is refl
+returns-in-Err-brought c =
+    rw (c.in-Ok.is, c.in-Err-brought.is, c.number-in-Err-brought.ensures) refl
 
-pub returns-else-number-ne0 : goal.returns-else-number-ne0
+pub returns-in-Ok-brought : goal.returns-in-Ok-brought
 unfolding stepped_by
-returns-else-number-ne0 c =
-    let z : c.args.brought.number ≡ 0 = omega (arith, c.if-number-ne0.false) in rw (c.in-Accepted.is, eq-eqb c.args.brought.number 0 z) refl
+returns-in-Ok-brought c =
+    rw (c.in-Ok.is, c.in-Ok-brought.is) refl

@@ -3,6 +3,7 @@ use mathlib.Core.Path.{◌∙◌}
 use Rattle.rules.specs.Listing.{key_of}
 use Rattle.running.proofs.Taking.{row-numbers, waited, unwaited}
 use Rattle.running.proofs.take_waiting.Goals as goal
+use Rattle.running.proofs.take_waiting.Goals.{in-Ok, in-Err}
 
 pub bring-brought-requires : goal.bring-brought-requires
 bring-brought-requires c =
@@ -12,14 +13,13 @@ pub take_row-taken-requires : goal.take_row-taken-requires
 take_row-taken-requires c =
     (c.requires.0, c.requires.1)
 
-pub returns-then-number-eq0 : goal.returns-then-number-eq0
-returns-then-number-eq0 c =
-    λ m s es e h q. waited m s es _ (key_of e) _ _ _ _ _ _ _ c.bring-brought.ensures q c.if-number-eq0.true (c.take_row-taken.ensures m s es e h) c.stepped_by.ensures
-
 pub take_kept-taken-requires : goal.take_kept-taken-requires
 take_kept-taken-requires c =
     (c.requires.0, c.requires.1)
 
 pub returns : goal.returns
 returns c =
-    λ m s es e h q. unwaited m s es _ (key_of e) _ _ _ _ _ _ _ c.bring-brought.ensures q c.if-number-eq0.false (c.take_kept-taken.ensures.0 m s es e h) (c.take_kept-taken.ensures.1 ∙ row-numbers h) c.stepped_by-2.ensures
+    λ m s es e h q. elim c.match-brought.branch [
+      | in-Ok w ↦ waited m s es _ (key_of e) _ _ _ _ _ _ _ _ c.bring-brought.ensures q w.in-Ok.is (rw (w.taken-is, w.state-is) (w.take_row-taken.ensures m s es e h)) c.stepped_by.ensures
+      | in-Err w ↦ unwaited m s es _ (key_of e) _ _ _ _ _ _ _ _ c.bring-brought.ensures q w.in-Err.is (w.taken-is ∙ w.take_kept-taken.ensures.0 m s es e h) (w.state-is ∙ w.take_kept-taken.ensures.1 ∙ row-numbers h) c.stepped_by.ensures
+    ]

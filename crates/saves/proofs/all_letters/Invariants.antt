@@ -1,13 +1,9 @@
--- The loop's invariant: the test of the rest gives the answer for all. The measure is what is left.
+-- The loop's invariant: the test of the rest gives the answer for all.
 use mathlib.Core.Path.{◌≡◌}
-use Prim.Native.Nat.{◌-◌, ◌≤◌}
-use lib.ListN.{length, drop}
+use lib.ListN.{drop}
 use Rattle.machine.specs.Saves.{is_letter}
 use Rattle.state.specs.Test.{every}
 use Rattle.saves.proofs.all_letters.Given as goal
 
-abbrev pub invariant-loop-i : goal.invariant-loop-i
-invariant-loop-i l = (l.i ≤ length l.s) × (every is_letter l.s ≡ every is_letter (drop l.i l.s))
-
-abbrev pub decreases-loop-i : goal.decreases-loop-i
-decreases-loop-i l = length l.s - l.i
+abbrev pub invariant-loop-b : goal.invariant-loop-b
+invariant-loop-b l = every is_letter l.s ≡ every is_letter (drop l.b-index l.s)

@@ -1,6 +1,5 @@
 use mathlib.Core.Path.{ap, sym, ◌∙◌}
 use native.Mathlib.Omega.{arith}
-use borrow.Author.Rules.{rules}
 use lib.ListN.{length-take, length-drop}
 use Rattle.machine.specs.Saves.{save_limit, place_width}
 use Rattle.state.proofs.Tests.{refused, passed, rows_all}
@@ -10,7 +9,7 @@ use Rattle.saves.proofs.are_once.Goals as goal
 
 pub loop-i-init : goal.loop-i-init
 loop-i-init c =
-    (search rules, ap are_once (rows_all place_width save_limit c.args.saves.now))
+    ap are_once (rows_all place_width save_limit c.args.saves.now)
 
 pub is_once-requires : goal.is_once-requires
 is_once-requires c =
@@ -18,12 +17,12 @@ is_once-requires c =
 
 pub returns-then-not-is_once : goal.returns-then-not-is_once
 returns-then-not-is_once c =
-    sym (once-fail place_width save_limit c.args.saves.now c.loop-i.i c.loop-i.invariant.1 (omega arith) (sym (c.is_once.ensures ∙ once-part place_width save_limit c.args.saves.now c.loop-i.i (omega arith)) ∙ refused c.is_once.result c.if-not-is_once.true-raw))
+    sym (once-fail place_width save_limit c.args.saves.now c.loop-i.i c.loop-i.invariant (omega arith) (sym (c.is_once.ensures ∙ once-part place_width save_limit c.args.saves.now c.loop-i.i (omega arith)) ∙ refused c.is_once.result c.if-not-is_once.true-raw))
 
 pub loop-i-preserved : goal.loop-i-preserved
 loop-i-preserved c =
-    (search rules, once-on place_width save_limit c.args.saves.now c.loop-i.i c.loop-i.invariant.1 (omega arith) (sym (c.is_once.ensures ∙ once-part place_width save_limit c.args.saves.now c.loop-i.i (omega arith)) ∙ passed c.is_once.result c.if-not-is_once.false-raw))
+    once-on place_width save_limit c.args.saves.now c.loop-i.i c.loop-i.invariant (omega arith) (sym (c.is_once.ensures ∙ once-part place_width save_limit c.args.saves.now c.loop-i.i (omega arith)) ∙ passed c.is_once.result c.if-not-is_once.false-raw)
 
 pub returns : goal.returns
 returns c =
-    sym (once-done place_width save_limit c.args.saves.now c.loop-i.i c.loop-i.invariant.1 (omega arith))
+    sym (once-done place_width save_limit c.args.saves.now c.loop-i.i c.loop-i.invariant (omega arith))

@@ -1,7 +1,6 @@
-use mathlib.Core.Path.{ap, sym, ◌∙◌}
+use mathlib.Core.Path.{◌≡◌, ap, sym, ◌∙◌}
 use Prim.Native.Nat.{◌*◌}
 use native.Mathlib.Omega.{arith}
-use borrow.Author.Rules.{rules}
 use lib.ListN.{length-take, length-drop}
 use Rattle.machine.specs.Saves.{first_of, place_width}
 use Rattle.state.proofs.Part.{width-part}
@@ -12,7 +11,7 @@ use Rattle.saves.proofs.find_place.Goals as goal
 
 pub loop-i-init : goal.loop-i-init
 loop-i-init c =
-    (search rules, let e = ap (first_of (has_key c.args.key.now)) (rows_all place_width c.args.n c.args.s.now) in omega (arith, e))
+    let e = ap (first_of (has_key c.args.key.now)) (rows_all place_width c.args.n c.args.s.now) in omega (arith, e)
 
 pub has_key-requires : goal.has_key-requires
 has_key-requires c =
@@ -20,12 +19,13 @@ has_key-requires c =
 
 pub returns-then-has_key : goal.returns-then-has_key
 returns-then-has_key c =
-    (sym (first-here (has_key c.args.key.now) place_width c.args.n c.args.s.now c.loop-i.i c.loop-i.invariant.1 (omega arith) (ap (has_key c.args.key.now) (sym (width-part (c.loop-i.i * place_width) place_width c.args.s.now)) ∙ sym c.has_key.ensures ∙ c.if-has_key.true)), omega arith)
+    (sym (first-here (has_key c.args.key.now) place_width c.args.n c.args.s.now c.loop-i.i c.loop-i.invariant (omega arith) (ap (has_key c.args.key.now) (sym (width-part (c.loop-i.i * place_width) place_width c.args.s.now)) ∙ sym c.has_key.ensures ∙ c.if-has_key.true)), omega arith)
 
 pub loop-i-preserved : goal.loop-i-preserved
 loop-i-preserved c =
-    (search rules, first_on (has_key c.args.key.now) place_width c.args.n c.args.s.now c.loop-i.i c.loop-i.invariant.1 (omega arith) (ap (has_key c.args.key.now) (sym (width-part (c.loop-i.i * place_width) place_width c.args.s.now)) ∙ sym c.has_key.ensures ∙ c.if-has_key.false))
+    first_on (has_key c.args.key.now) place_width c.args.n c.args.s.now c.loop-i.i c.loop-i.invariant (omega arith) (ap (has_key c.args.key.now) (sym (width-part (c.loop-i.i * place_width) place_width c.args.s.now)) ∙ sym c.has_key.ensures ∙ c.if-has_key.false)
 
 pub returns : goal.returns
 returns c =
-    (sym (first_done (has_key c.args.key.now) place_width c.args.n c.args.s.now c.loop-i.i c.loop-i.invariant.1 (omega arith)), omega arith)
+    let e : c.loop-i.i ≡ c.args.n = omega arith in
+    (sym (first_done _ _ _ _ _ c.loop-i.invariant (omega arith) ∙ e), omega arith)

@@ -1,11 +1,8 @@
--- The loop's invariant: what is left of the number has as many letters as are left. The measure is what is left.
+-- The loop's invariant: what is left of the number has as many letters as are left.
 use mathlib.Core.Path.{◌≡◌}
-use Prim.Native.Nat.{◌-◌, ◌≤◌}
+use Prim.Native.Nat.{◌-◌}
 use Rattle.saves.specs.Keys.{is_word}
 use Rattle.saves.proofs.is_word.Given as goal
 
 abbrev pub invariant-loop-i : goal.invariant-loop-i
-invariant-loop-i l = (l.i ≤ 8) × (is_word 8 l.word ≡ is_word (8 - l.i) l.w)
-
-abbrev pub decreases-loop-i : goal.decreases-loop-i
-decreases-loop-i l = 8 - l.i
+invariant-loop-i l = is_word 8 l.word ≡ is_word (8 - l.i) l.w

@@ -9,19 +9,19 @@ use Rattle.engine.proofs.held.holds_text.Goals as goal
 pub holds_model-requires : goal.holds_model-requires
 holds_model-requires c =
     let X = c.args.text.now in
-    let o = held-is X _ _ _ c.read_held-read.ensures c.in-Model.is in
+    let o = held-is X _ _ _ c.read_tables.ensures c.in-Ok.is in
     let h = tables X _ _ _ o in
     (c.requires.0, c.requires.1, h.represents.scopes-fit, few-taken _ _ _ _ _ o.model h)
 
-pub returns-in-Refused : goal.returns-in-Refused
-returns-in-Refused c =
+pub returns-in_default : goal.returns-in_default
+returns-in_default c =
     λ bs.
     let X = c.args.text.now in
-    sym (no_text (lent_three bs c.args.state.now c.args.saves.now) _ (closed_is X _ _ _ c.read_held-read.ensures c.in-Refused.is))
+    sym (no_text (lent_three bs c.args.state.now c.args.saves.now) _ (closed_is X _ _ _ c.read_tables.ensures c.in_default.is))
 
-pub returns-in-Model : goal.returns-in-Model
-returns-in-Model c =
+pub returns : goal.returns
+returns c =
     λ bs.
     let X = c.args.text.now in
-    let o = held-is X _ _ _ c.read_held-read.ensures c.in-Model.is in
+    let o = held-is X _ _ _ c.read_tables.ensures c.in-Ok.is in
     rw o.holds (c.holds_model.ensures ∙ tables-hold _ _ _ _ _ o.model (tables X _ _ _ o) bs c.args.state.now c.args.saves.now)

@@ -2,12 +2,12 @@
 use Rattle.engine.specs.Tables.{answer_of}
 use Rattle.engine.proofs.listings.listed_answer.Goals as goal
 
-pub returns-in-Filled : goal.returns-in-Filled
+pub returns-in-Ok : goal.returns-in-Ok
 unfolding answer_of
-returns-in-Filled c =
-    rw c.in-Filled.is c.filled.ensures
+returns-in-Ok c =
+    rw c.in-Ok.is c.filled.ensures
 
-pub returns-in-Refused : goal.returns-in-Refused
+pub returns-in-Err : goal.returns-in-Err
 unfolding answer_of
-returns-in-Refused c =
-    rw c.in-Refused.is c.bare.ensures
+returns-in-Err c =
+    rw c.in-Err.is c.bare.ensures

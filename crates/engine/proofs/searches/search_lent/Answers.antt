@@ -11,31 +11,31 @@ use Rattle.engine.proofs.searches.search_lent.Goals as goal
 pub overflow_add-end : goal.overflow_add-end
 unfolding TextIn
 overflow_add-end c =
-    let h : TextOf c.args.model.now c.in-Long.n = rw c.in-Long.is at c.find_text-found.ensures in
+    let h : TextOf c.args.model.now c.in-Some.n = rw c.in-Some.is at c.find_text.ensures in
     omega (arith, h.short)
 
 pub slice_bounds-search_text-end : goal.slice_bounds-search_text-end
 unfolding TextIn
 slice_bounds-search_text-end c =
-    let h : TextOf c.args.model.now c.in-Long.n = rw c.in-Long.is at c.find_text-found.ensures in
+    let h : TextOf c.args.model.now c.in-Some.n = rw c.in-Some.is at c.find_text.ensures in
     omega (arith, h.short, c.requires.0)
 
 pub search_text-requires : goal.search_text-requires
 search_text-requires c = c.requires.1
 
-pub returns-in-Nothing : goal.returns-in-Nothing
+pub returns-in_default : goal.returns-in_default
 unfolding TextIn
-returns-in-Nothing c =
+returns-in_default c =
     let K = c.args.model.now in
     let Z = c.args.state.now in
     let q = search' c.args.name.now c.args.depth in
-    rw (c.bare.ensures, none_in K Z q [] (rw c.in-Nothing.is at c.find_text-found.ensures)) (none-run q (lent_two K Z))
+    rw (c.bare.ensures, none_in K Z q [] (rw c.in_default.is at c.find_text.ensures)) (none-run q (lent_two K Z))
 
-pub returns-in-Long : goal.returns-in-Long
+pub returns : goal.returns
 unfolding TextIn
-returns-in-Long c =
+returns c =
     let K = c.args.model.now in
     let Z = c.args.state.now in
     let q = search' c.args.name.now c.args.depth in
-    let h : TextOf c.args.model.now c.in-Long.n = rw c.in-Long.is at c.find_text-found.ensures in
-    rw (text_in_lem K Z q [] c.in-Long.n h) (c.search_text.ensures K)
+    let h : TextOf c.args.model.now c.in-Some.n = rw c.in-Some.is at c.find_text.ensures in
+    rw (text_in_lem K Z q [] c.in-Some.n h) (c.search_text.ensures K)

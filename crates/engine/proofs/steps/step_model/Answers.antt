@@ -29,11 +29,11 @@ take_drawn-requires c =
     let L = c.args.listing.now in
     let m = c.requires.0.0 in
     let w = c.requires.0.1 in
-    let f = found T R S o v n k m w Z L _ _ _ (rw c.in-Filled.is at (c.list_state-listed.ensures m (tables-of T R S o v n k m w))) in
+    let f = found T R S o v n k m w Z L _ _ _ (rw c.in-Ok.is at (c.list_state-listed.ensures m (tables-of T R S o v n k m w))) in
     (m, f.state, f.entries, f.counted)
 
-pub returns-in-Refused : goal.returns-in-Refused
-returns-in-Refused c =
+pub returns-in-Err : goal.returns-in-Err
+returns-in-Err c =
     λ m bs w.
     let T = c.args.nodes.now in
     let R = c.args.roots.now in
@@ -44,10 +44,10 @@ returns-in-Refused c =
     let k = c.args.channels in
     let Z = c.args.state.now in
     let L = c.args.listing.now in
-    rw c.bare.ensures (refused-gives bs Z L c.args.draw c.requires.2 m _ _ _ _ (rw c.in-Refused.is at (c.list_state-listed.ensures m (tables-of T R S o v n k m w))))
+    rw c.bare.ensures (refused-gives bs Z L c.args.draw c.requires.2 m _ _ _ _ (rw c.in-Err.is at (c.list_state-listed.ensures m (tables-of T R S o v n k m w))))
 
-pub returns-in-Filled : goal.returns-in-Filled
-returns-in-Filled c =
+pub returns-in-Ok : goal.returns-in-Ok
+returns-in-Ok c =
     λ m bs w.
     let T = c.args.nodes.now in
     let R = c.args.roots.now in
@@ -58,5 +58,5 @@ returns-in-Filled c =
     let k = c.args.channels in
     let Z = c.args.state.now in
     let L = c.args.listing.now in
-    let f = found T R S o v n k m w Z L _ _ _ (rw c.in-Filled.is at (c.list_state-listed.ensures m (tables-of T R S o v n k m w))) in
+    let f = found T R S o v n k m w Z L _ _ _ (rw c.in-Ok.is at (c.list_state-listed.ensures m (tables-of T R S o v n k m w))) in
     found-gives bs L c.args.draw f _ _ (c.take_drawn.ensures m f.state f.entries f.counted)

@@ -2,12 +2,12 @@
 use Rattle.engine.specs.Steps.{taken_answer}
 use Rattle.engine.proofs.steps.taken_answer.Goals as goal
 
-pub returns-in-Accepted : goal.returns-in-Accepted
+pub returns-in-Ok : goal.returns-in-Ok
 unfolding taken_answer
-returns-in-Accepted c =
-    rw c.in-Accepted.is c.filled.ensures
+returns-in-Ok c =
+    rw c.in-Ok.is c.filled.ensures
 
-pub returns-in-Refused : goal.returns-in-Refused
+pub returns-in-Err : goal.returns-in-Err
 unfolding taken_answer
-returns-in-Refused c =
-    rw c.in-Refused.is c.filled-in-Refused.ensures
+returns-in-Err c =
+    rw (c.in-Err.is, ← c.number.ensures) c.filled-in-Err.ensures

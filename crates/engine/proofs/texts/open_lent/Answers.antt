@@ -6,32 +6,32 @@ use Rattle.engine.proofs.texts.open_lent.Goals as goal
 pub put_text-requires : goal.put_text-requires
 put_text-requires c =
     let X = c.args.text.now in
-    let o = opened-is X _ _ _ c.args.profile c.open_under-opened.ensures c.in-Accepted.is in
+    let o = opened-is X _ _ _ c.args.profile c.open_under-opened.ensures c.in-Ok.is in
     (c.put_fresh.ensures.0, short X _ _ _ o.plain)
 
 pub open_state-requires : goal.open_state-requires
 open_state-requires c =
     let X = c.args.text.now in
-    let o = opened-is X _ _ _ c.args.profile c.open_under-opened.ensures c.in-Accepted.is in
+    let o = opened-is X _ _ _ c.args.profile c.open_under-opened.ensures c.in-Ok.is in
     (c.put_fresh.ensures.1, (o.plain.model, starts X _ _ _ o.plain))
 
-pub returns-in-Refused : goal.returns-in-Refused
-returns-in-Refused c =
+pub returns-in-Err : goal.returns-in-Err
+returns-in-Err c =
     λ ss z.
     let X = c.args.text.now in
-    rw c.bare.ensures (refused-gives X _ _ _ _ ss (refused-is X _ _ _ c.args.profile c.open_under-opened.ensures c.in-Refused.is) c.put_fresh.ensures.0 c.put_fresh.ensures.1 z)
+    rw c.bare.ensures (refused-gives X _ _ _ _ ss (refused-is X _ _ _ c.args.profile c.open_under-opened.ensures c.in-Err.is) c.put_fresh.ensures.0 c.put_fresh.ensures.1 z)
 
-pub shape_of-model-in-Accepted : goal.shape_of-model-in-Accepted
-shape_of-model-in-Accepted c =
-    omega (arith, c.model-in-Accepted-1.given, c.model-1.given)
+pub shape_of-model-in-Ok : goal.shape_of-model-in-Ok
+shape_of-model-in-Ok c =
+    omega (arith, c.model-in-Ok-1.given, c.model-1.given)
 
-pub shape_of-state-in-Accepted : goal.shape_of-state-in-Accepted
-shape_of-state-in-Accepted c =
-    omega (arith, c.state-in-Accepted-1.given, c.state-1.given)
+pub shape_of-state-in-Ok : goal.shape_of-state-in-Ok
+shape_of-state-in-Ok c =
+    omega (arith, c.state-in-Ok-1.given, c.state-1.given)
 
-pub returns-in-Accepted : goal.returns-in-Accepted
-returns-in-Accepted c =
+pub returns-in-Ok : goal.returns-in-Ok
+returns-in-Ok c =
     λ ss z.
     let X = c.args.text.now in
-    let o = opened-is X _ _ _ c.args.profile c.open_under-opened.ensures c.in-Accepted.is in
-    rw c.bare-in-Accepted.ensures (accepted-gives X o.plain.model _ _ ss o.opens c.put_text.ensures (c.open_state.ensures o.plain.model (starts X _ _ _ o.plain)) z)
+    let o = opened-is X _ _ _ c.args.profile c.open_under-opened.ensures c.in-Ok.is in
+    rw c.bare-in-Ok.ensures (accepted-gives X o.plain.model _ _ ss o.opens c.put_text.ensures (c.open_state.ensures o.plain.model (starts X _ _ _ o.plain)) z)

@@ -2,10 +2,10 @@
 use Rattle.engine.proofs.Waits.{waited-yes, waited-no}
 use Rattle.engine.proofs.waiting.wait_after.Goals as goal
 
-pub returns-then-number-eq0 : goal.returns-then-number-eq0
-returns-then-number-eq0 c =
-    waited-yes _ _ _ _ _ _ _ c.bring-brought.ensures c.if-number-eq0.true c.of.ensures
+pub returns-in-Ok : goal.returns-in-Ok
+returns-in-Ok c =
+    waited-yes _ _ _ _ _ _ _ _ c.bring.ensures c.in-Ok.is c.of.ensures
 
-pub returns : goal.returns
-returns c =
-    waited-no _ _ _ _ _ _ _ _ _ c.bring-brought.ensures c.if-number-eq0.false c.filled.ensures c.of-2.ensures c.requires.0 c.requires.1 c.put.ensures
+pub returns-in-Err : goal.returns-in-Err
+returns-in-Err c =
+    waited-no _ _ _ _ _ _ _ _ _ _ _ c.bring.ensures c.in-Err.is c.number.ensures c.filled.ensures c.of-in-Err.ensures c.requires.0 c.requires.1 c.put.ensures

@@ -11,7 +11,7 @@ use Rattle.store.proofs.buffer.put_fresh.Goals as goal
 
 pub put_length-requires : goal.put_length-requires
 put_length-requires c =
-    (omega (arith, ap length c.clear_bytes.ensures, length-replicate {A = ℕ} (length c.args.model.now) 0, c.requires.0), omega (arith, c.fresh-engine.ensures.0))
+    (omega (arith, ap length (c.fill.ensures.after (λ y e. e)), length-replicate {A = ℕ} (length c.args.model.now) 0, c.requires.0), omega (arith, c.fresh-engine.ensures.0))
 
 pub put_counts-requires : goal.put_counts-requires
 put_counts-requires c =
@@ -19,7 +19,7 @@ put_counts-requires c =
 
 pub shape_of-model : goal.shape_of-model
 shape_of-model c =
-    let m = fresh-header model_length c.args.model.now _ _ 0 _ _ c.requires.0 c.clear_bytes.ensures c.put_length.ensures (rw c.fresh-engine.ensures.0) (rw c.fresh-engine.ensures.0) in
+    let m = fresh-header model_length c.args.model.now _ _ 0 _ _ c.requires.0 (c.fill.ensures.after (λ y e. e)) c.put_length.ensures (rw c.fresh-engine.ensures.0) (rw c.fresh-engine.ensures.0) in
     omega (arith, ap length m, length-replicate {A = ℕ} model_length 0, c.requires.0)
 
 pub shape_of-state : goal.shape_of-state
@@ -29,6 +29,6 @@ shape_of-state c =
 
 pub returns : goal.returns
 returns c =
-    let m = fresh-header model_length c.args.model.now _ _ 0 _ _ c.requires.0 c.clear_bytes.ensures c.put_length.ensures (rw c.fresh-engine.ensures.0) (rw c.fresh-engine.ensures.0) in
+    let m = fresh-header model_length c.args.model.now _ _ 0 _ _ c.requires.0 (c.fill.ensures.after (λ y e. e)) c.put_length.ensures (rw c.fresh-engine.ensures.0) (rw c.fresh-engine.ensures.0) in
     let s = fresh-header state_length c.args.state.now _ _ (pos 0) _ _ c.requires.1 c.clear_state.ensures c.put_counts.ensures (ap pos c.fresh-engine.ensures.1) (ap pos c.fresh-engine.ensures.2) in
     (m, s)

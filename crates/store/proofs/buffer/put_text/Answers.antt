@@ -4,7 +4,6 @@ use Prim.Native.Nat.{◌%◌, ◌/◌, ℕ}
 use native.Mathlib.Omega.{arith}
 use lib.ListN.{length, length-take, length-drop, length-replicate}
 use Rattle.machine.specs.Machine.{model_length}
-use Rattle.buffers.proofs.Held.{bytes-length}
 use Rattle.store.proofs.Bytes.{twice-length, text-put}
 use Rattle.store.proofs.buffer.put_text.Goals as goal
 
@@ -15,41 +14,22 @@ put_length-requires c =
     let n : length M ≡ model_length = ap length c.requires.0 ∙ length-replicate {A = ℕ} model_length 0 in
     (omega arith, omega (arith, c.requires.1))
 
-pub slice_bounds-copy_bytes-count : goal.slice_bounds-copy_bytes-count
-slice_bounds-copy_bytes-count c =
+pub slice_bounds-copy_from_slice-end : goal.slice_bounds-copy_from_slice-end
+slice_bounds-copy_from_slice-end c =
     let M = c.args.model.now in
     let X = c.args.text.now in
     let n : length M ≡ model_length = ap length c.requires.0 ∙ length-replicate {A = ℕ} model_length 0 in
     let x = twice-length M _ (length X % 256) (length X / 256) c.put_length.ensures in
-    omega arith
+    omega (arith, c.requires.1)
 
-pub slice_bounds-copy_bytes-start : goal.slice_bounds-copy_bytes-start
-slice_bounds-copy_bytes-start c =
-    let M = c.args.model.now in
-    let X = c.args.text.now in
-    let n : length M ≡ model_length = ap length c.requires.0 ∙ length-replicate {A = ℕ} model_length 0 in
-    let x = twice-length M _ (length X % 256) (length X / 256) c.put_length.ensures in
-    omega arith
-
-pub copy_bytes-requires : goal.copy_bytes-requires
-copy_bytes-requires c =
+pub copy_from_slice-requires : goal.copy_from_slice-requires
+copy_from_slice-requires c =
     let M = c.args.model.now in
     let X = c.args.text.now in
     let n : length M ≡ model_length = ap length c.requires.0 ∙ length-replicate {A = ℕ} model_length 0 in
     let x = twice-length M _ (length X % 256) (length X / 256) c.put_length.ensures in
     simp (length-take, length-drop) (omega (arith, c.requires.1))
 
-pub shape_of-model : goal.shape_of-model
-shape_of-model c =
-    let M = c.args.model.now in
-    let X = c.args.text.now in
-    let n : length M ≡ model_length = ap length c.requires.0 ∙ length-replicate {A = ℕ} model_length 0 in
-    let t = text-put X M _ _ c.requires.0 c.requires.1 c.put_length.ensures c.copy_bytes.ensures in
-    omega (arith, ap length t, bytes-length X c.requires.1)
-
 pub returns : goal.returns
 returns c =
-    let M = c.args.model.now in
-    let X = c.args.text.now in
-    let n : length M ≡ model_length = ap length c.requires.0 ∙ length-replicate {A = ℕ} model_length 0 in
-    text-put X M _ _ c.requires.0 c.requires.1 c.put_length.ensures c.copy_bytes.ensures
+    text-put c.args.text.now c.args.model.now _ _ c.requires.0 c.requires.1 c.put_length.ensures c.copy_from_slice.ensures.after

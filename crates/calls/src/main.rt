@@ -112,19 +112,12 @@ fn put_bad(rt: &impl Print, out: &mut Buffer, waits: usize, line: u64) -> io::Re
 
 // How many bytes of a text are lent.
 fn lent(size: u64) -> u64 {
-    let most = Limits::TEXT as u64;
-    if size < most {
-        return size;
-    }
-    most
+    size.min(Limits::TEXT as u64)
 }
 
 // Bytes of a name, of a line of which so many are kept, after so many.
 fn name_size(kept: u64, first: u64) -> u64 {
-    if kept < first {
-        return 0;
-    }
-    kept - first
+    kept.saturating_sub(first)
 }
 
 // Makes one call by a row of a script, with the first bytes of the text, a draw, or waiting draws and words too, which is lent so many numbers of the outputs, and answers.
@@ -292,10 +285,7 @@ fn judge(listing: &[u64], i: u64, j: u64) -> u64 {
     let first_end = first + listing::Limits::ENTRY;
     let second = j as usize * listing::Limits::ENTRY;
     let second_end = second + listing::Limits::ENTRY;
-    if independence::independent(&listing[first..first_end], &listing[second..second_end]) {
-        return 1;
-    }
-    0
+    u64::from(independence::independent(&listing[first..first_end], &listing[second..second_end]))
 }
 
 // Puts the answer of a call on the saves, whose name stands after so many bytes of the line.
@@ -548,6 +538,16 @@ fn ask_timed(
     }
 }
 
+// The kind of a call on the saves, and how many bytes of the line stand before its name and how many are kept.
+fn named(asked: Line) -> Option<(u64, u64, u64)> {
+    match asked {
+        Line::Save(kept) => Some((Row::SAVE, Limits::SAVE, kept)),
+        Line::Return(kept) => Some((Row::RETURN, Limits::RETURN, kept)),
+        Line::Forget(kept) => Some((Row::FORGET, Limits::RETURN, kept)),
+        _ => None,
+    }
+}
+
 // Does what an item with a name or of two entries asks for, or one about model time.
 fn ask_named(
     rt: &impl Print,
@@ -565,49 +565,12 @@ fn ask_named(
     clock: &mut Time,
     listing: &mut Listing,
 ) -> io::Result<usize> {
+    if let Some((kind, first, kept)) = named(asked) {
+        return put_named(
+            rt, out, waits, kind, first, kept, text, model, state, saves, clock, listing,
+        );
+    }
     match asked {
-        Line::Save(kept) => put_named(
-            rt,
-            out,
-            waits,
-            Row::SAVE,
-            Limits::SAVE,
-            kept,
-            text,
-            model,
-            state,
-            saves,
-            clock,
-            listing,
-        ),
-        Line::Return(kept) => put_named(
-            rt,
-            out,
-            waits,
-            Row::RETURN,
-            Limits::RETURN,
-            kept,
-            text,
-            model,
-            state,
-            saves,
-            clock,
-            listing,
-        ),
-        Line::Forget(kept) => put_named(
-            rt,
-            out,
-            waits,
-            Row::FORGET,
-            Limits::RETURN,
-            kept,
-            text,
-            model,
-            state,
-            saves,
-            clock,
-            listing,
-        ),
         Line::Independent(i, j) => output::put_line(rt, out, waits, &[judge(listing, i, j)], b' '),
         Line::Search(depth, kept) => put_search(
             rt, out, waits, depth, kept, text, model, state, saves, clock, listing,
@@ -616,6 +579,17 @@ fn ask_named(
             rt, out, waits, asked, drawn, worded, text, waiting, words, model, state, saves, clock,
             listing,
         ),
+    }
+}
+
+// The kind of a call that is lent the listing, the bytes of its text and its draw.
+fn listing_call(asked: Line) -> Option<(u64, u64, u64)> {
+    match asked {
+        Line::Open(size) => Some((Row::OPEN, lent(size), 0)),
+        Line::Steady(size) => Some((Row::STEADY, lent(size), 0)),
+        Line::List => Some((Row::LIST, 0, 0)),
+        Line::Step(draw) => Some((Row::STEP, 0, draw)),
+        _ => None,
     }
 }
 
@@ -636,58 +610,13 @@ fn ask(
     clock: &mut Time,
     listing: &mut Listing,
 ) -> io::Result<usize> {
-    match asked {
-        Line::Open(size) => put_call(
+    if let Some((kind, size, draw)) = listing_call(asked) {
+        return put_call(
             rt,
             out,
             waits,
-            Row::OPEN,
-            lent(size),
-            0,
-            text,
-            &[],
-            model,
-            state,
-            saves,
-            clock,
-            listing,
-        ),
-        Line::Steady(size) => put_call(
-            rt,
-            out,
-            waits,
-            Row::STEADY,
-            lent(size),
-            0,
-            text,
-            &[],
-            model,
-            state,
-            saves,
-            clock,
-            listing,
-        ),
-        Line::List => put_call(
-            rt,
-            out,
-            waits,
-            Row::LIST,
-            0,
-            0,
-            text,
-            &[],
-            model,
-            state,
-            saves,
-            clock,
-            listing,
-        ),
-        Line::Step(draw) => put_call(
-            rt,
-            out,
-            waits,
-            Row::STEP,
-            0,
+            kind,
+            size,
             draw,
             text,
             &[],
@@ -696,8 +625,10 @@ fn ask(
             saves,
             clock,
             listing,
-        ),
-        Line::State => output::put_signed_line(rt, out, waits, state, b' '),
+        );
+    }
+    match asked {
+        Line::State => output::put_line(rt, out, waits, state, b' '),
         Line::Report => put_report(rt, out, waits, text, model, state, saves, clock),
         _ => ask_named(
             rt, out, waits, asked, drawn, worded, text, waiting, words, model, state, saves, clock,
@@ -730,10 +661,7 @@ fn run_byte(
     match taken {
         Taken::Goes(next) => Ok(Run {
             script: next,
-            waits: waits,
-            drawn: drawn,
-            worded: worded,
-            over: false,
+            ..run
         }),
         Taken::Asks(asked, next) => Ok(Run {
             script: next,
@@ -746,11 +674,9 @@ fn run_byte(
             over: false,
         }),
         Taken::Wrong(line) => Ok(Run {
-            script: script,
             waits: put_bad(rt, out, waits, line)?,
-            drawn: drawn,
-            worded: worded,
             over: true,
+            ..run
         }),
     }
 }
@@ -770,53 +696,34 @@ fn run_bytes(
     listing: &mut Listing,
 ) -> io::Result<Run> {
     let mut now = run;
-    let mut i = 0;
-    while i < bytes.len() {
+    for &b in bytes {
         now = run_byte(
-            rt, now, bytes[i], out, text, waiting, words, model, state, saves, clock, listing,
+            rt, now, b, out, text, waiting, words, model, state, saves, clock, listing,
         )?;
         if now.over {
             return Ok(now);
         }
-        i += 1;
     }
     Ok(now)
 }
 
 // The script has ended.
 fn end(rt: &impl Print, run: Run, out: &mut Buffer) -> io::Result<Run> {
-    let script = run.script;
     let waits = run.waits;
-    let drawn = run.drawn;
-    let worded = run.worded;
-    let ending = script.at_end();
-    match ending {
-        Ending::Done => Ok(Run {
-            script: script,
-            waits: waits,
-            drawn: drawn,
-            worded: worded,
-            over: true,
-        }),
+    match run.script.at_end() {
+        Ending::Done => Ok(Run { over: true, ..run }),
         Ending::Broken(line) => Ok(Run {
-            script: script,
             waits: put_bad(rt, out, waits, line)?,
-            drawn: drawn,
-            worded: worded,
             over: true,
+            ..run
         }),
     }
 }
 
 fn flushed(rt: &impl Print, run: Run, out: &Buffer) -> io::Result<Run> {
-    let script = run.script;
-    let over = run.over;
     Ok(Run {
-        script: script,
         waits: output::flush(rt, out, run.waits)?,
-        drawn: run.drawn,
-        worded: run.worded,
-        over: over,
+        ..run
     })
 }
 
@@ -860,7 +767,7 @@ fn run_some(
     )
 }
 
-// Runs a script on a fresh engine. A proved loop has to end, so it counts its reads down from a number that no script uses up.
+// Runs a script on a fresh engine. A proved loop has to end, so it counts its reads up to a number that no script reaches.
 fn run_script(rt: &impl Print, from: &mut impl Read) -> io::Result<()> {
     let mut out = output::empty();
     let mut text = [0u8; Limits::TEXT];
@@ -878,8 +785,7 @@ fn run_script(rt: &impl Print, from: &mut impl Read) -> io::Result<()> {
         worded: 0,
         over: false,
     };
-    let mut reads = u64::MAX;
-    while 0 < reads {
+    for reads in 0..u64::MAX {
         run = run_some(
             rt,
             from,
@@ -897,26 +803,13 @@ fn run_script(rt: &impl Print, from: &mut impl Read) -> io::Result<()> {
         if run.over {
             return Ok(());
         }
-        reads -= 1;
     }
     Ok(())
 }
 
 // Whether a name is the word `rows`.
 fn is_rows(name: &[u8]) -> bool {
-    if name.len() != 4 {
-        return false;
-    }
-    if name[0] != b'r' {
-        return false;
-    }
-    if name[1] != b'o' {
-        return false;
-    }
-    if name[2] != b'w' {
-        return false;
-    }
-    name[3] == b's'
+    name == b"rows".as_slice()
 }
 
 fn run_file(rt: &(impl Print + Eprint + Files), name: &str) -> io::Result<()> {

@@ -80,9 +80,8 @@ fn put_firsts(
     count: u64,
 ) -> io::Result<usize> {
     let mut n = waits;
-    let mut left = count;
     let mut at = 0;
-    while 0 < left {
+    for part in 0..count {
         if outputs.len() - at < Row::OUTPUT {
             return Ok(n);
         }
@@ -90,7 +89,6 @@ fn put_firsts(
         n = output::put(rt, out, n, b"  ")?;
         n = output::put_line(rt, out, n, &outputs[at..end], b' ')?;
         at += Row::OUTPUT;
-        left -= 1;
     }
     Ok(n)
 }

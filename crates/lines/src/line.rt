@@ -135,8 +135,7 @@ fn with_digit(rest: Rest, d: u64) -> Rest
     match rest {
         Rest::Nothing => Rest::Number(d),
         Rest::Number(v) => grow(v, d),
-        Rest::T => Rest::Other,
-        Rest::Other => Rest::Other,
+        _ => Rest::Other,
     }
 }
 
@@ -145,15 +144,8 @@ fn with_letter(rest: Rest, b: u8) -> Rest
     ensures { result ≡ letter_next rest b }
 {
     match rest {
-        Rest::Nothing => {
-            if b == b't' {
-                return Rest::T;
-            }
-            Rest::Other
-        }
-        Rest::Number(_) => Rest::Other,
-        Rest::T => Rest::Other,
-        Rest::Other => Rest::Other,
+        Rest::Nothing if b == b't' => Rest::T,
+        _ => Rest::Other,
     }
 }
 
@@ -173,10 +165,8 @@ fn open_line(rest: Rest) -> Line
     ensures { result ≡ numbered Line.Open rest }
 {
     match rest {
-        Rest::Nothing => Line::Bad,
         Rest::Number(n) => Line::Open(n),
-        Rest::T => Line::Bad,
-        Rest::Other => Line::Bad,
+        _ => Line::Bad,
     }
 }
 
@@ -184,10 +174,8 @@ fn step_line(rest: Rest) -> Line
     ensures { result ≡ numbered Line.Step rest }
 {
     match rest {
-        Rest::Nothing => Line::Bad,
         Rest::Number(n) => Line::Step(n),
-        Rest::T => Line::Bad,
-        Rest::Other => Line::Bad,
+        _ => Line::Bad,
     }
 }
 
@@ -196,9 +184,7 @@ fn state_line(rest: Rest) -> Line
 {
     match rest {
         Rest::Nothing => Line::State,
-        Rest::Number(_) => Line::Bad,
-        Rest::T => Line::Bad,
-        Rest::Other => Line::Bad,
+        _ => Line::Bad,
     }
 }
 
@@ -206,10 +192,8 @@ fn time_line(rest: Rest) -> Line
     ensures { result ≡ numbered Line.Time rest }
 {
     match rest {
-        Rest::Nothing => Line::Bad,
         Rest::Number(n) => Line::Time(n),
-        Rest::T => Line::Bad,
-        Rest::Other => Line::Bad,
+        _ => Line::Bad,
     }
 }
 
@@ -227,10 +211,8 @@ fn wait_line(rest: Rest) -> Line
     ensures { result ≡ numbered small rest }
 {
     match rest {
-        Rest::Nothing => Line::Bad,
         Rest::Number(n) => draw_line(n),
-        Rest::T => Line::Bad,
-        Rest::Other => Line::Bad,
+        _ => Line::Bad,
     }
 }
 
@@ -239,9 +221,7 @@ fn clock_line(rest: Rest) -> Line
 {
     match rest {
         Rest::Nothing => Line::Clock,
-        Rest::Number(_) => Line::Bad,
-        Rest::T => Line::Bad,
-        Rest::Other => Line::Bad,
+        _ => Line::Bad,
     }
 }
 
@@ -249,10 +229,8 @@ fn report_line(rest: Rest) -> Line
     ensures { result ≡ lettered Line.Report rest }
 {
     match rest {
-        Rest::Nothing => Line::Bad,
-        Rest::Number(_) => Line::Bad,
         Rest::T => Line::Report,
-        Rest::Other => Line::Bad,
+        _ => Line::Bad,
     }
 }
 
@@ -278,10 +256,8 @@ fn steady_of(late: Rest) -> Line
     ensures { result ≡ numbered Line.Steady late }
 {
     match late {
-        Rest::Nothing => Line::Bad,
         Rest::Number(n) => Line::Steady(n),
-        Rest::T => Line::Bad,
-        Rest::Other => Line::Bad,
+        _ => Line::Bad,
     }
 }
 
@@ -315,10 +291,8 @@ fn word_line(rest: Rest) -> Line
     ensures { result ≡ numbered Line.Word rest }
 {
     match rest {
-        Rest::Nothing => Line::Bad,
         Rest::Number(n) => Line::Word(n),
-        Rest::T => Line::Bad,
-        Rest::Other => Line::Bad,
+        _ => Line::Bad,
     }
 }
 
@@ -326,10 +300,8 @@ fn run_of(early: Rest) -> Line
     ensures { result ≡ numbered Line.Run early }
 {
     match early {
-        Rest::Nothing => Line::Bad,
         Rest::Number(n) => Line::Run(n),
-        Rest::T => Line::Bad,
-        Rest::Other => Line::Bad,
+        _ => Line::Bad,
     }
 }
 

@@ -78,21 +78,8 @@ fn end_line(line: u64, says: Line) -> Taken
             from: line,
             part: Part::InText(Line::Steady(n), n, 0),
         }),
-        Line::List => Taken::Asks(Line::List, begin(next)),
-        Line::Step(d) => Taken::Asks(Line::Step(d), begin(next)),
-        Line::State => Taken::Asks(Line::State, begin(next)),
-        Line::Report => Taken::Asks(Line::Report, begin(next)),
-        Line::Save(n) => Taken::Asks(Line::Save(n), begin(next)),
-        Line::Return(n) => Taken::Asks(Line::Return(n), begin(next)),
-        Line::Forget(n) => Taken::Asks(Line::Forget(n), begin(next)),
-        Line::Time(d) => Taken::Asks(Line::Time(d), begin(next)),
-        Line::Wait(d) => Taken::Asks(Line::Wait(d), begin(next)),
-        Line::Clock => Taken::Asks(Line::Clock, begin(next)),
-        Line::Independent(i, j) => Taken::Asks(Line::Independent(i, j), begin(next)),
-        Line::Search(d, n) => Taken::Asks(Line::Search(d, n), begin(next)),
-        Line::Word(w) => Taken::Asks(Line::Word(w), begin(next)),
-        Line::Run(n) => Taken::Asks(Line::Run(n), begin(next)),
         Line::Bad => Taken::Wrong(line),
+        asked => Taken::Asks(asked, begin(next)),
     }
 }
 

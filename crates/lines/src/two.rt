@@ -111,9 +111,7 @@ fn with_letter(two: Two, b: u8) -> Two
     match two {
         Two::Word(n) => in_word(n, b),
         Two::First(v) => after_first(v, b),
-        Two::Gap(_) => Two::Other,
-        Two::Both(_, _) => Two::Other,
-        Two::Other => Two::Other,
+        _ => Two::Other,
     }
 }
 
@@ -135,10 +133,7 @@ pub fn says(two: Two) -> Line
     ensures { result ≡ paired two }
 {
     match two {
-        Two::Word(_) => Line::Bad,
-        Two::First(_) => Line::Bad,
-        Two::Gap(_) => Line::Bad,
         Two::Both(v, w) => Line::Independent(v, w),
-        Two::Other => Line::Bad,
+        _ => Line::Bad,
     }
 }

@@ -2,8 +2,9 @@
 
 // Standard output through a buffer: bytes and numbers are put after those that wait in it, and it is written when it is full or on demand.
 // Each function takes how many bytes wait, and answers how many wait then.
-ghost use Rattle.std.specs.Prelude.{◌≡◌, ◌<◌, nat_abs};
+ghost use Rattle.std.specs.Prelude.{◌<◌};
 
+use itoa::Integer;
 use std::io;
 
 #[derive(Clone, Copy)]
@@ -47,37 +48,21 @@ pub fn put_byte(rt: &impl Print, out: &mut Buffer, waits: usize, b: u8) -> io::R
 
 pub fn put(rt: &impl Print, out: &mut Buffer, waits: usize, s: &[u8]) -> io::Result<usize> {
     let mut n = waits;
-    let mut i = 0;
-    while i < s.len() {
-        n = put_byte(rt, out, n, s[i])?;
-        i += 1;
+    for &b in s {
+        n = put_byte(rt, out, n, b)?;
     }
     Ok(n)
 }
 
-// A number's decimal digits.
-pub fn put_number(rt: &impl Print, out: &mut Buffer, waits: usize, x: u64) -> io::Result<usize> {
+// A number's decimal digits, after a `-` if it is negative.
+pub fn put_number<T: Integer>(
+    rt: &impl Print,
+    out: &mut Buffer,
+    waits: usize,
+    x: T,
+) -> io::Result<usize> {
     let mut digits = itoa::Buffer::new();
     put(rt, out, waits, digits.format(x).as_bytes())
-}
-
-// How far a number is from 0.
-fn size(z: i64) -> u64
-    ensures { result ≡ nat_abs z }
-{
-    if z < 0 {
-        return (-(z + 1)) as u64 + 1;
-    }
-    z as u64
-}
-
-// A number's decimal digits, after a `-` if it is negative.
-pub fn put_signed(rt: &impl Print, out: &mut Buffer, waits: usize, z: i64) -> io::Result<usize> {
-    if z < 0 {
-        let n = put_byte(rt, out, waits, b'-')?;
-        return put_number(rt, out, n, size(z));
-    }
-    put_number(rt, out, waits, size(z))
 }
 
 // What stands after number i of a line of n: a gap, or the line's end.
@@ -91,37 +76,17 @@ fn after(i: usize, n: usize, gap: u8) -> u8
 }
 
 // A line of numbers.
-pub fn put_line(
+pub fn put_line<T: Integer + Copy>(
     rt: &impl Print,
     out: &mut Buffer,
     waits: usize,
-    numbers: &[u64],
+    numbers: &[T],
     gap: u8,
 ) -> io::Result<usize> {
     let mut n = waits;
-    let mut i = 0;
-    while i < numbers.len() {
-        n = put_number(rt, out, n, numbers[i])?;
+    for (i, &x) in numbers.iter().enumerate() {
+        n = put_number(rt, out, n, x)?;
         n = put_byte(rt, out, n, after(i, numbers.len(), gap))?;
-        i += 1;
-    }
-    Ok(n)
-}
-
-// A line of signed numbers.
-pub fn put_signed_line(
-    rt: &impl Print,
-    out: &mut Buffer,
-    waits: usize,
-    numbers: &[i64],
-    gap: u8,
-) -> io::Result<usize> {
-    let mut n = waits;
-    let mut i = 0;
-    while i < numbers.len() {
-        n = put_signed(rt, out, n, numbers[i])?;
-        n = put_byte(rt, out, n, after(i, numbers.len(), gap))?;
-        i += 1;
     }
     Ok(n)
 }
@@ -138,9 +103,8 @@ pub fn put_rows(
     gap: u8,
 ) -> io::Result<usize> {
     let mut n = waits;
-    let mut left = count;
     let mut at = 0;
-    while 0 < left {
+    for row in 0..count {
         if numbers.len() - at < width {
             return Ok(n);
         }
@@ -148,7 +112,6 @@ pub fn put_rows(
         n = put(rt, out, n, begin)?;
         n = put_line(rt, out, n, &numbers[at..end], gap)?;
         at = end;
-        left -= 1;
     }
     Ok(n)
 }

@@ -1,9 +1,6 @@
--- The next row stands within the numbers; the measure is how many rows are left.
+-- The next row stands within the numbers.
 use Rattle.std.proofs.Common.{◌≤◌, length}
 use Rattle.output.proofs.put_rows.Given as goal
 
-abbrev pub invariant-loop-left : goal.invariant-loop-left
-invariant-loop-left g l = l.at ≤ length l.numbers
-
-abbrev pub decreases-loop-left : goal.decreases-loop-left
-decreases-loop-left g l = l.left
+abbrev pub invariant-loop-row : goal.invariant-loop-row
+invariant-loop-row g l = l.at ≤ length l.numbers

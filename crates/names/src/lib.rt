@@ -64,6 +64,15 @@ pub struct Lists {
     pub definitions: usize,
 }
 
+// A text that fits: its names in two words each, its tree, and where the lists of its model stand.
+#[derive(Clone, Copy)]
+pub struct Parsed<'a> {
+    pub low: &'a [u64],
+    pub high: &'a [u64],
+    pub nodes: &'a [u64],
+    pub lists: Lists,
+}
+
 // The locals in scope: the tokens of their names.
 #[derive(Clone, Copy)]
 pub struct Scope {
@@ -165,20 +174,18 @@ fn listed_name(nodes: &[u64], i: usize) -> usize
 }
 
 // The place of the name k in the list of n that goes down from the node `first`.
-pub fn listed(
-    low: &[u64],
-    high: &[u64],
-    nodes: &[u64],
-    first: usize,
-    n: usize,
-    k: usize,
-) -> Option<usize>
-    requires reach { Reach low.now high.now nodes.now first n }
-    requires k_in_bounds { (k < length low.now) × (k < length high.now) }
-    ensures { result ≡ found_of (place_in (packed low.now high.now) k 0 (names_down nodes.now first n)) }
+pub fn listed(parsed: Parsed, first: usize, n: usize, k: usize) -> Option<usize>
+    requires reach { Reach parsed.low.now parsed.high.now parsed.nodes.now first n }
+    requires k_in_bounds { (k < length parsed.low.now) × (k < length parsed.high.now) }
+    ensures { result ≡ found_of (place_in (packed parsed.entry.low.now parsed.entry.high.now) k 0 (names_down parsed.entry.nodes.now first n)) }
 {
     for j in 0..n {
-        if same_name(low, high, k, listed_name(nodes, first - j)) {
+        if same_name(
+            parsed.low,
+            parsed.high,
+            k,
+            listed_name(parsed.nodes, first - j),
+        ) {
             return Some(j);
         }
     }
@@ -207,59 +214,43 @@ pub fn is_whole(kind: u8) -> bool
 }
 
 // Question 9 of a name that is used, as a scale or as a value, which has to be whole.
-fn name_fault(
-    low: &[u64],
-    high: &[u64],
-    nodes: &[u64],
-    lists: Lists,
-    scope: Scope,
-    scaling: bool,
-    k: usize,
-) -> Option<usize>
-    requires { (h : Setting Given low.now high.now nodes.now lists scope) × IsName h.world.kinds k }
-    ensures { (h : Setting Given low.now high.now nodes.now lists scope) → IsName h.world.kinds k → result ≡ least (faults_at h (used scaling k)) }
+fn name_fault(parsed: Parsed, scope: Scope, scaling: bool, k: usize) -> Option<usize>
+    requires { (h : Setting Given parsed.low.now parsed.high.now parsed.nodes.now parsed.lists scope) × IsName h.world.kinds k }
+    ensures { (h : Setting Given parsed.entry.low.now parsed.entry.high.now parsed.entry.nodes.now parsed.entry.lists scope) → IsName h.world.kinds k → result ≡ least (faults_at h (used scaling k)) }
 {
-    if local_named(low, high, scope, k).is_some() {
+    if local_named(parsed.low, parsed.high, scope, k).is_some() {
         return None;
     }
-    let root = lists.root;
-    let Some(j) = listed(low, high, nodes, root, lists.variables, k) else {
+    let root = parsed.lists.root;
+    let Some(j) = listed(parsed, root, parsed.lists.variables, k) else {
         return Some(k);
     };
-    if scaling || is_whole(tree::kind_of(nodes[tree::left_of(nodes[root - j])])) {
+    if scaling || is_whole(tree::kind_of(parsed.nodes[tree::left_of(parsed.nodes[root - j])])) {
         return None;
     }
     Some(k)
 }
 
 // Whether the definition with the name k has n parameters.
-fn is_callable(low: &[u64], high: &[u64], nodes: &[u64], lists: Lists, k: usize, n: usize) -> bool
-    requires { (h : World Given low.now high.now nodes.now lists) × IsName h.kinds k }
-    ensures { (h : World Given low.now high.now nodes.now lists) → IsName h.kinds k → result ≡ is_callable h.word (definitions h.model) k n }
+fn is_callable(parsed: Parsed, k: usize, n: usize) -> bool
+    requires { (h : World Given parsed.low.now parsed.high.now parsed.nodes.now parsed.lists) × IsName h.kinds k }
+    ensures { (h : World Given parsed.entry.low.now parsed.entry.high.now parsed.entry.nodes.now parsed.entry.lists) → IsName h.kinds k → result ≡ is_callable h.word (definitions h.model) k n }
 {
-    let first = lists.root - lists.variables;
-    let Some(j) = listed(low, high, nodes, first, lists.definitions, k) else {
+    let first = parsed.lists.root - parsed.lists.variables;
+    let Some(j) = listed(parsed, first, parsed.lists.definitions, k) else {
         return false;
     };
-    tree::third_of(nodes[tree::left_of(nodes[first - j])]) == n
+    tree::third_of(parsed.nodes[tree::left_of(parsed.nodes[first - j])]) == n
 }
 
 // The faults of a call, or of an item of the system line, with n values.
-fn call_fault(
-    question: Question,
-    low: &[u64],
-    high: &[u64],
-    nodes: &[u64],
-    lists: Lists,
-    k: usize,
-    n: usize,
-) -> Option<usize>
-    requires { (h : World question low.now high.now nodes.now lists) × IsName h.kinds k }
-    ensures { (h : World question low.now high.now nodes.now lists) (sc : List ℕ) → IsName h.kinds k → result ≡ least (site_faults question h.word (variables h.model) (definitions h.model) sc (call k n)) }
+fn call_fault(question: Question, parsed: Parsed, k: usize, n: usize) -> Option<usize>
+    requires { (h : World question parsed.low.now parsed.high.now parsed.nodes.now parsed.lists) × IsName h.kinds k }
+    ensures { (h : World question parsed.entry.low.now parsed.entry.high.now parsed.entry.nodes.now parsed.entry.lists) (sc : List ℕ) → IsName h.kinds k → result ≡ least (site_faults question h.word (variables h.model) (definitions h.model) sc (call k n)) }
 {
     match question {
         Question::Limits | Question::Fresh => None,
-        Question::Given => (!is_callable(low, high, nodes, lists, k, n)).then_some(k),
+        Question::Given => (!is_callable(parsed, k, n)).then_some(k),
     }
 }
 
@@ -276,68 +267,46 @@ fn number_fault(low: &[u64], kind: u8, k: usize) -> Option<usize>
 }
 
 // Question 9 of a node: a name that isn't given.
-fn used_fault(
-    low: &[u64],
-    high: &[u64],
-    nodes: &[u64],
-    lists: Lists,
-    scope: Scope,
-    kind: u8,
-    k: usize,
-) -> Option<usize>
-    requires { (h : Setting Given low.now high.now nodes.now lists scope) × (sort_of kind ≡ names → IsName h.world.kinds k) }
-    ensures { (h : Setting Given low.now high.now nodes.now lists scope) → (sort_of kind ≡ names → IsName h.world.kinds k) → result ≡ least (each (faults_at h) (leaf_sites kind k)) }
+fn used_fault(parsed: Parsed, scope: Scope, kind: u8, k: usize) -> Option<usize>
+    requires { (h : Setting Given parsed.low.now parsed.high.now parsed.nodes.now parsed.lists scope) × (sort_of kind ≡ names → IsName h.world.kinds k) }
+    ensures { (h : Setting Given parsed.entry.low.now parsed.entry.high.now parsed.entry.nodes.now parsed.entry.lists scope) → (sort_of kind ≡ names → IsName h.world.kinds k) → result ≡ least (each (faults_at h) (leaf_sites kind k)) }
 {
     match kind {
-        NodeKind::NAMED => name_fault(low, high, nodes, lists, scope, false, k),
-        NodeKind::SCALE_NAME => name_fault(low, high, nodes, lists, scope, true, k),
+        NodeKind::NAMED => name_fault(parsed, scope, false, k),
+        NodeKind::SCALE_NAME => name_fault(parsed, scope, true, k),
         _ => None,
     }
 }
 
 // The faults of the node i, if it is a leaf.
-fn leaf_fault(
-    question: Question,
-    low: &[u64],
-    high: &[u64],
-    nodes: &[u64],
-    lists: Lists,
-    scope: Scope,
-    i: usize,
-) -> Option<usize>
-    requires { Setting question low.now high.now nodes.now lists scope × (i ≤ lists.root) }
-    ensures { (h : Setting question low.now high.now nodes.now lists scope) → result ≡ least (each (faults_at h) (site_at nodes.now i)) }
+fn leaf_fault(question: Question, parsed: Parsed, scope: Scope, i: usize) -> Option<usize>
+    requires { Setting question parsed.low.now parsed.high.now parsed.nodes.now parsed.lists scope × (i ≤ parsed.lists.root) }
+    ensures { (h : Setting question parsed.entry.low.now parsed.entry.high.now parsed.entry.nodes.now parsed.entry.lists scope) → result ≡ least (each (faults_at h) (site_at parsed.entry.nodes.now i)) }
 {
-    let node = nodes[i];
+    let node = parsed.nodes[i];
     let kind = tree::kind_of(node);
     let k = tree::token_of(node);
     match question {
-        Question::Limits => number_fault(low, kind, k),
+        Question::Limits => number_fault(parsed.low, kind, k),
         Question::Fresh => None,
-        Question::Given => used_fault(low, high, nodes, lists, scope, kind, k),
+        Question::Given => used_fault(parsed, scope, kind, k),
     }
 }
 
 // The faults of the leaves among the nodes from `from` up to `to`, which isn't one of them.
 fn leaves_fault(
     question: Question,
-    low: &[u64],
-    high: &[u64],
-    nodes: &[u64],
-    lists: Lists,
+    parsed: Parsed,
     scope: Scope,
     from: usize,
     to: usize,
 ) -> Option<usize>
-    requires { Setting question low.now high.now nodes.now lists scope × (to ≤ lists.root + 1) }
-    ensures { (h : Setting question low.now high.now nodes.now lists scope) → result ≡ least (each (faults_at h) (between nodes.now from (to - from))) }
+    requires { Setting question parsed.low.now parsed.high.now parsed.nodes.now parsed.lists scope × (to ≤ parsed.lists.root + 1) }
+    ensures { (h : Setting question parsed.entry.low.now parsed.entry.high.now parsed.entry.nodes.now parsed.entry.lists scope) → result ≡ least (each (faults_at h) (between parsed.entry.nodes.now from (to - from))) }
 {
     let mut found = None;
     for i in from..to {
-        found = earlier(
-            found,
-            leaf_fault(question, low, high, nodes, lists, scope, i),
-        );
+        found = earlier(found, leaf_fault(question, parsed, scope, i));
     }
     found
 }
@@ -382,40 +351,25 @@ pub fn with_locals(scope: Scope, first: usize, n: usize) -> Scope
 }
 
 // Question 8 of the local k, which the variables and the locals in scope may have the name of.
-fn taken_fault(
-    low: &[u64],
-    high: &[u64],
-    nodes: &[u64],
-    lists: Lists,
-    scope: Scope,
-    k: usize,
-) -> Option<usize>
-    requires { (h : Setting Fresh low.now high.now nodes.now lists scope) × IsName h.world.kinds k }
-    ensures { (h : Setting Fresh low.now high.now nodes.now lists scope) → IsName h.world.kinds k → result ≡ least (when (any (same h.world.word k) (known_in h)) k) }
+fn taken_fault(parsed: Parsed, scope: Scope, k: usize) -> Option<usize>
+    requires { (h : Setting Fresh parsed.low.now parsed.high.now parsed.nodes.now parsed.lists scope) × IsName h.world.kinds k }
+    ensures { (h : Setting Fresh parsed.entry.low.now parsed.entry.high.now parsed.entry.nodes.now parsed.entry.lists scope) → IsName h.world.kinds k → result ≡ least (when (any (same h.world.word k) (known_in h)) k) }
 {
-    let taken = listed(low, high, nodes, lists.root, lists.variables, k).is_some()
-        || local_named(low, high, scope, k).is_some();
+    let taken = listed(parsed, parsed.lists.root, parsed.lists.variables, k).is_some()
+        || local_named(parsed.low, parsed.high, scope, k).is_some();
     taken.then_some(k)
 }
 
 // Question 8 of n locals, every second token from `first` on.
-fn repeated_fault(
-    low: &[u64],
-    high: &[u64],
-    nodes: &[u64],
-    lists: Lists,
-    scope: Scope,
-    first: usize,
-    n: usize,
-) -> Option<usize>
-    requires { ((h : Setting Fresh low.now high.now nodes.now lists scope) × Named h.world.kinds (every_other first n)) × (scope.count + n ≤ local_limit) }
-    ensures { (h : Setting Fresh low.now high.now nodes.now lists scope) → Named h.world.kinds (every_other first n) → result ≡ least (repeated h.world.word (known_in h) (every_other first n)) }
+fn repeated_fault(parsed: Parsed, scope: Scope, first: usize, n: usize) -> Option<usize>
+    requires { ((h : Setting Fresh parsed.low.now parsed.high.now parsed.nodes.now parsed.lists scope) × Named h.world.kinds (every_other first n)) × (scope.count + n ≤ local_limit) }
+    ensures { (h : Setting Fresh parsed.entry.low.now parsed.entry.high.now parsed.entry.nodes.now parsed.entry.lists scope) → Named h.world.kinds (every_other first n) → result ≡ least (repeated h.world.word (known_in h) (every_other first n)) }
 {
     let mut found = None;
     let mut seen = scope;
     for j in 0..n {
         let k = first + 2 * j;
-        found = earlier(found, taken_fault(low, high, nodes, lists, seen, k));
+        found = earlier(found, taken_fault(parsed, seen, k));
         seen = with_local(seen, k);
     }
     found
@@ -435,21 +389,18 @@ fn over_fault(room: usize, first: usize, n: usize) -> Option<usize>
 // The faults of n names that a receive with so many sets binds.
 fn bound_fault(
     question: Question,
-    low: &[u64],
-    high: &[u64],
-    nodes: &[u64],
-    lists: Lists,
+    parsed: Parsed,
     scope: Scope,
     first: usize,
     n: usize,
     sets: usize,
 ) -> Option<usize>
-    requires { Binding question low.now high.now nodes.now lists scope first n }
-    ensures { (h : Binding question low.now high.now nodes.now lists scope first n) → result ≡ least (faults_at h.setting (bound (every_other first n) sets)) }
+    requires { Binding question parsed.low.now parsed.high.now parsed.nodes.now parsed.lists scope first n }
+    ensures { (h : Binding question parsed.entry.low.now parsed.entry.high.now parsed.entry.nodes.now parsed.entry.lists scope first n) → result ≡ least (faults_at h.setting (bound (every_other first n) sets)) }
 {
     match question {
         Question::Limits => over_fault(Limits::LOCALS - scope.count, first, n),
-        Question::Fresh => repeated_fault(low, high, nodes, lists, scope, first, n),
+        Question::Fresh => repeated_fault(parsed, scope, first, n),
         Question::Given => {
             if n == sets {
                 return None;
@@ -492,14 +443,41 @@ pub fn judge_names(
     let lists = lists_of(nodes, root);
     let toks = &kinds[..n];
     let words = words_fault(kinds, low, high, n);
-    let tree = walk::tree_fault(Question::Limits, toks, low, high, nodes, lists);
+    let tree = walk::tree_fault(
+        Question::Limits,
+        toks,
+        Parsed {
+            low,
+            high,
+            nodes,
+            lists,
+        },
+    );
     if let Some(k) = earlier(words, tree) {
         return Err(Fault::Beyond(k));
     }
-    if let Some(k) = walk::tree_fault(Question::Fresh, toks, low, high, nodes, lists) {
+    if let Some(k) = walk::tree_fault(
+        Question::Fresh,
+        toks,
+        Parsed {
+            low,
+            high,
+            nodes,
+            lists,
+        },
+    ) {
         return Err(Fault::NotNew(k));
     }
-    if let Some(k) = walk::tree_fault(Question::Given, toks, low, high, nodes, lists) {
+    if let Some(k) = walk::tree_fault(
+        Question::Given,
+        toks,
+        Parsed {
+            low,
+            high,
+            nodes,
+            lists,
+        },
+    ) {
         return Err(Fault::NotGiven(k));
     }
     Ok(())

@@ -16,7 +16,7 @@ ghost use Rattle.names.specs.Lists.{packed, name_at, names_down, Reach};
 ghost use Rattle.names.specs.Placed.{Named, sort_of, counts};
 ghost use Rattle.names.specs.Walks.{Part, Holds, RoomFor, Place, part_faults, bound_sites, ActionRoom, PartRoom, Ground, list_faults, number_faults, param_faults, defined, count_faults, start_faults, definition_judged, lines_judged, DefinitionRoom, LinesRoom, TreeRoom};
 
-use crate::{Limits, Lists, Question, Scope, no_locals};
+use crate::{Limits, Lists, Parsed, Question, Scope, no_locals};
 use tree::NodeKind;
 
 // How many sets stand at this root.
@@ -41,140 +41,83 @@ fn is_lone(kinds: &[u8], node: u64) -> bool
 fn item_fault(
     question: Question,
     kinds: &[u8],
-    low: &[u64],
-    high: &[u64],
-    nodes: &[u64],
-    lists: Lists,
+    parsed: Parsed,
     scope: Scope,
     from: usize,
     root: usize,
 ) -> Option<usize>
-    requires { Place question kinds.now low.now high.now nodes.now lists scope × (root ≤ lists.root) }
-    ensures { (h : Place question kinds.now low.now high.now nodes.now lists scope) (c : Syntax.Expr) → Table.Expr nodes.now c from root → result ≡ least (each (faults_at h.setting) (item_sites h.setting.world.word c)) }
+    requires { Place question kinds.now parsed.low.now parsed.high.now parsed.nodes.now parsed.lists scope × (root ≤ parsed.lists.root) }
+    ensures { (h : Place question kinds.now parsed.entry.low.now parsed.entry.high.now parsed.entry.nodes.now parsed.entry.lists scope) (c : Syntax.Expr) → Table.Expr parsed.entry.nodes.now c from root → result ≡ least (each (faults_at h.setting) (item_sites h.setting.world.word c)) }
 {
-    if is_lone(kinds, nodes[root]) {
+    if is_lone(kinds, parsed.nodes[root]) {
         return None;
     }
-    crate::leaves_fault(question, low, high, nodes, lists, scope, from, root + 1)
+    crate::leaves_fault(question, parsed, scope, from, root + 1)
 }
 
 // The faults of a channel from the node `from` to its root.
 fn channel_fault(
     question: Question,
     kinds: &[u8],
-    low: &[u64],
-    high: &[u64],
-    nodes: &[u64],
-    lists: Lists,
+    parsed: Parsed,
     scope: Scope,
     from: usize,
     root: usize,
 ) -> Option<usize>
-    requires { (Place question kinds.now low.now high.now nodes.now lists scope × (c : Syntax.Channel) × Table.Channel nodes.now c from root) × (root ≤ lists.root) }
-    ensures { (h : Place question kinds.now low.now high.now nodes.now lists scope) (c : Syntax.Channel) → Table.Channel nodes.now c from root → result ≡ least (each (faults_at h.setting) (channel_sites h.setting.world.word c)) }
+    requires { (Place question kinds.now parsed.low.now parsed.high.now parsed.nodes.now parsed.lists scope × (c : Syntax.Channel) × Table.Channel parsed.nodes.now c from root) × (root ≤ parsed.lists.root) }
+    ensures { (h : Place question kinds.now parsed.entry.low.now parsed.entry.high.now parsed.entry.nodes.now parsed.entry.lists scope) (c : Syntax.Channel) → Table.Channel parsed.entry.nodes.now c from root → result ≡ least (each (faults_at h.setting) (channel_sites h.setting.world.word c)) }
 {
-    let node = nodes[root];
+    let node = parsed.nodes[root];
     let kind = tree::kind_of(node);
     if kind < NodeKind::TWO_ITEMS {
-        return item_fault(question, kinds, low, high, nodes, lists, scope, from, root);
+        return item_fault(question, kinds, parsed, scope, from, root);
     }
     let left = tree::left_of(node);
-    let first = item_fault(question, kinds, low, high, nodes, lists, scope, from, left);
+    let first = item_fault(question, kinds, parsed, scope, from, left);
     if kind == NodeKind::TWO_ITEMS {
-        let last = item_fault(
-            question,
-            kinds,
-            low,
-            high,
-            nodes,
-            lists,
-            scope,
-            left + 1,
-            root - 1,
-        );
+        let last = item_fault(question, kinds, parsed, scope, left + 1, root - 1);
         return crate::earlier(first, last);
     }
     let mid = tree::third_of(node);
-    let second = item_fault(
-        question,
-        kinds,
-        low,
-        high,
-        nodes,
-        lists,
-        scope,
-        left + 1,
-        mid,
-    );
-    let last = item_fault(
-        question,
-        kinds,
-        low,
-        high,
-        nodes,
-        lists,
-        scope,
-        mid + 1,
-        root - 1,
-    );
+    let second = item_fault(question, kinds, parsed, scope, left + 1, mid);
+    let last = item_fault(question, kinds, parsed, scope, mid + 1, root - 1);
     crate::earlier(first, crate::earlier(second, last))
 }
 
 // The faults of the names that the action at this root binds.
-fn binding_fault(
-    question: Question,
-    low: &[u64],
-    high: &[u64],
-    nodes: &[u64],
-    lists: Lists,
-    scope: Scope,
-    root: usize,
-) -> Option<usize>
-    requires { ((h : Setting question low.now high.now nodes.now lists scope) × (a : Syntax.Action) × (lo : ℕ) × Table.Action nodes.now a lo root × RoomFor question h.world.word h.locals (bound_sites a)) × (root ≤ lists.root) }
-    ensures { (h : Setting question low.now high.now nodes.now lists scope) (a : Syntax.Action) (lo : ℕ) → Table.Action nodes.now a lo root → RoomFor question h.world.word h.locals (bound_sites a) → result ≡ least (each (faults_at h) (bound_sites a)) }
+fn binding_fault(question: Question, parsed: Parsed, scope: Scope, root: usize) -> Option<usize>
+    requires { ((h : Setting question parsed.low.now parsed.high.now parsed.nodes.now parsed.lists scope) × (a : Syntax.Action) × (lo : ℕ) × Table.Action parsed.nodes.now a lo root × RoomFor question h.world.word h.locals (bound_sites a)) × (root ≤ parsed.lists.root) }
+    ensures { (h : Setting question parsed.entry.low.now parsed.entry.high.now parsed.entry.nodes.now parsed.entry.lists scope) (a : Syntax.Action) (lo : ℕ) → Table.Action parsed.entry.nodes.now a lo root → RoomFor question h.world.word h.locals (bound_sites a) → result ≡ least (each (faults_at h) (bound_sites a)) }
 {
-    let node = nodes[root];
+    let node = parsed.nodes[root];
     let n = tree::third_of(node);
     if n == 0 {
         return None;
     }
-    let sets = set_count(nodes, root - 1);
-    crate::bound_fault(
-        question,
-        low,
-        high,
-        nodes,
-        lists,
-        scope,
-        tree::token_of(node),
-        n,
-        sets,
-    )
+    let sets = set_count(parsed.nodes, root - 1);
+    crate::bound_fault(question, parsed, scope, tree::token_of(node), n, sets)
 }
 
 // The faults of an action from the node `from` to its root.
 fn action_fault(
     question: Question,
     kinds: &[u8],
-    low: &[u64],
-    high: &[u64],
-    nodes: &[u64],
-    lists: Lists,
+    parsed: Parsed,
     scope: Scope,
     from: usize,
     root: usize,
 ) -> Option<usize>
-    requires { ((h : Place question kinds.now low.now high.now nodes.now lists scope) × (a : Syntax.Action) × Table.Action nodes.now a from root × ActionRoom h a) × (root ≤ lists.root) }
-    ensures { (h : Place question kinds.now low.now high.now nodes.now lists scope) (a : Syntax.Action) → Table.Action nodes.now a from root → ActionRoom h a → result ≡ least (each (faults_at h.setting) (action_sites h.setting.world.word a)) }
+    requires { ((h : Place question kinds.now parsed.low.now parsed.high.now parsed.nodes.now parsed.lists scope) × (a : Syntax.Action) × Table.Action parsed.nodes.now a from root × ActionRoom h a) × (root ≤ parsed.lists.root) }
+    ensures { (h : Place question kinds.now parsed.entry.low.now parsed.entry.high.now parsed.entry.nodes.now parsed.entry.lists scope) (a : Syntax.Action) → Table.Action parsed.entry.nodes.now a from root → ActionRoom h a → result ≡ least (each (faults_at h.setting) (action_sites h.setting.world.word a)) }
 {
-    let node = nodes[root];
+    let node = parsed.nodes[root];
     if tree::kind_of(node) == NodeKind::WAIT {
         return None;
     }
     let left = tree::left_of(node);
-    let channel = channel_fault(question, kinds, low, high, nodes, lists, scope, from, left);
-    let values = crate::leaves_fault(question, low, high, nodes, lists, scope, left + 1, root);
-    let bound = binding_fault(question, low, high, nodes, lists, scope, root);
+    let channel = channel_fault(question, kinds, parsed, scope, from, left);
+    let values = crate::leaves_fault(question, parsed, scope, left + 1, root);
+    let bound = binding_fault(question, parsed, scope, root);
     crate::earlier(channel, crate::earlier(values, bound))
 }
 
@@ -196,54 +139,40 @@ fn part_at(before: usize, from: usize, root: usize) -> Span
 fn offer_fault(
     question: Question,
     kinds: &[u8],
-    low: &[u64],
-    high: &[u64],
-    nodes: &[u64],
-    lists: Lists,
+    parsed: Parsed,
     scope: Scope,
     node: u64,
     own: Span,
 ) -> Option<usize>
-    requires { ((h : Place question kinds.now low.now high.now nodes.now lists scope) × (a : Syntax.Action) × Table.Action nodes.now a own.from (left_of node) × ActionRoom h a) × (left_of node ≤ lists.root) × (own.root ≤ lists.root) }
-    ensures { (h : Place question kinds.now low.now high.now nodes.now lists scope) (a : Syntax.Action) (ρ : Syntax.Rate) → Table.Action nodes.now a own.from (left_of node) → Table.Rate nodes.now ρ (left_of node + 1) own.root → ActionRoom h a → result ≡ least (each (faults_at h.setting) (branch own.before (token_of node) ∷ action_sites h.setting.world.word a ++ rate_sites ρ)) }
+    requires { ((h : Place question kinds.now parsed.low.now parsed.high.now parsed.nodes.now parsed.lists scope) × (a : Syntax.Action) × Table.Action parsed.nodes.now a own.from (left_of node) × ActionRoom h a) × (left_of node ≤ parsed.lists.root) × (own.root ≤ parsed.lists.root) }
+    ensures { (h : Place question kinds.now parsed.entry.low.now parsed.entry.high.now parsed.entry.nodes.now parsed.entry.lists scope) (a : Syntax.Action) (ρ : Syntax.Rate) → Table.Action parsed.entry.nodes.now a own.from (left_of node) → Table.Rate parsed.entry.nodes.now ρ (left_of node + 1) own.root → ActionRoom h a → result ≡ least (each (faults_at h.setting) (branch own.before (token_of node) ∷ action_sites h.setting.world.word a ++ rate_sites ρ)) }
 {
     let from = own.from;
     let rate = own.root;
     let left = tree::left_of(node);
     let start = crate::branch_fault(question, own.before, tree::token_of(node));
-    let action = action_fault(question, kinds, low, high, nodes, lists, scope, from, left);
-    let values = crate::leaves_fault(question, low, high, nodes, lists, scope, left + 1, rate + 1);
+    let action = action_fault(question, kinds, parsed, scope, from, left);
+    let values = crate::leaves_fault(question, parsed, scope, left + 1, rate + 1);
     crate::earlier(start, crate::earlier(action, values))
 }
 
 // The faults of a call with its values.
 fn calling_fault(
     question: Question,
-    low: &[u64],
-    high: &[u64],
-    nodes: &[u64],
-    lists: Lists,
+    parsed: Parsed,
     scope: Scope,
     from: usize,
     root: usize,
 ) -> Option<usize>
-    requires { (Setting question low.now high.now nodes.now lists scope × (n : ℕ) × (a : Syntax.Args) × Table.Cont nodes.now (Syntax.call n a) from root) × (root ≤ lists.root) }
-    ensures { (h : Setting question low.now high.now nodes.now lists scope) (n : ℕ) (a : Syntax.Args) → Table.Cont nodes.now (Syntax.call n a) from root → result ≡ least (each (faults_at h) (call n (count_args a) ∷ args_sites a)) }
+    requires { (Setting question parsed.low.now parsed.high.now parsed.nodes.now parsed.lists scope × (n : ℕ) × (a : Syntax.Args) × Table.Cont parsed.nodes.now (Syntax.call n a) from root) × (root ≤ parsed.lists.root) }
+    ensures { (h : Setting question parsed.entry.low.now parsed.entry.high.now parsed.entry.nodes.now parsed.entry.lists scope) (n : ℕ) (a : Syntax.Args) → Table.Cont parsed.entry.nodes.now (Syntax.call n a) from root → result ≡ least (each (faults_at h) (call n (count_args a) ∷ args_sites a)) }
 {
-    let node = nodes[root];
+    let node = parsed.nodes[root];
     let name = tree::token_of(node);
-    let called = crate::call_fault(
-        question,
-        low,
-        high,
-        nodes,
-        lists,
-        name,
-        tree::third_of(node),
-    );
+    let called = crate::call_fault(question, parsed, name, tree::third_of(node));
     crate::earlier(
         called,
-        crate::leaves_fault(question, low, high, nodes, lists, scope, from, root),
+        crate::leaves_fault(question, parsed, scope, from, root),
     )
 }
 
@@ -260,81 +189,61 @@ fn inner_scope(nodes: &[u64], scope: Scope, root: usize) -> Scope
 fn part_fault(
     question: Question,
     kinds: &[u8],
-    low: &[u64],
-    high: &[u64],
-    nodes: &[u64],
-    lists: Lists,
+    parsed: Parsed,
     scope: Scope,
     part: Span,
 ) -> Option<usize>
-    requires { ((h : Place question kinds.now low.now high.now nodes.now lists scope) × (p : Part) × Holds nodes.now p part.from part.root × PartRoom h part.before p) × (part.before + part.root ≤ lists.root) }
-    ensures { (h : Place question kinds.now low.now high.now nodes.now lists scope) (p : Part) → Holds nodes.now p part.from part.root → PartRoom h part.before p → result ≡ least (part_faults h part.before p) }
+    requires { ((h : Place question kinds.now parsed.low.now parsed.high.now parsed.nodes.now parsed.lists scope) × (p : Part) × Holds parsed.nodes.now p part.from part.root × PartRoom h part.before p) × (part.before + part.root ≤ parsed.lists.root) }
+    ensures { (h : Place question kinds.now parsed.entry.low.now parsed.entry.high.now parsed.entry.nodes.now parsed.entry.lists scope) (p : Part) → Holds parsed.entry.nodes.now p part.from part.root → PartRoom h part.before p → result ≡ least (part_faults h part.before p) }
 {
     let before = part.before;
     let from = part.from;
     let root = part.root;
-    let node = nodes[root];
+    let node = parsed.nodes[root];
     let left = tree::left_of(node);
     match tree::kind_of(node) {
         NodeKind::CHOICE | NodeKind::ITEM | NodeKind::BESIDE => {
             let one = part_at(before, from, left);
             let rest = part_at(before + 1, left + 1, root - 1);
-            let first = part_fault(question, kinds, low, high, nodes, lists, scope, one);
-            let others = part_fault(question, kinds, low, high, nodes, lists, scope, rest);
+            let first = part_fault(question, kinds, parsed, scope, one);
+            let others = part_fault(question, kinds, parsed, scope, rest);
             crate::earlier(first, others)
         }
         NodeKind::SUM | NodeKind::GROUP => {
             let inner = part_at(0, from, root - 1);
-            part_fault(question, kinds, low, high, nodes, lists, scope, inner)
+            part_fault(question, kinds, parsed, scope, inner)
         }
         NodeKind::GATE => {
             let rest = part_at(before, left + 1, root - 1);
-            let gate = crate::leaves_fault(
-                question,
-                low,
-                high,
-                nodes,
-                lists,
-                scope,
-                from,
-                left + 1,
-            );
-            let offer = part_fault(question, kinds, low, high, nodes, lists, scope, rest);
+            let gate = crate::leaves_fault(question, parsed, scope, from, left + 1);
+            let offer = part_fault(question, kinds, parsed, scope, rest);
             crate::earlier(gate, offer)
         }
         NodeKind::STOP => {
             let own = part_at(before, from, root - 1);
-            offer_fault(question, kinds, low, high, nodes, lists, scope, node, own)
+            offer_fault(question, kinds, parsed, scope, node, own)
         }
         NodeKind::DOT => {
             let rate = tree::third_of(node);
             let own = part_at(before, from, rate);
             let rest = part_at(0, rate + 1, root - 1);
-            let offer = offer_fault(question, kinds, low, high, nodes, lists, scope, node, own);
-            let inner = inner_scope(nodes, scope, left);
-            let next = part_fault(question, kinds, low, high, nodes, lists, inner, rest);
+            let offer = offer_fault(question, kinds, parsed, scope, node, own);
+            let inner = inner_scope(parsed.nodes, scope, left);
+            let next = part_fault(question, kinds, parsed, inner, rest);
             crate::earlier(offer, next)
         }
-        _ => calling_fault(question, low, high, nodes, lists, scope, from, root),
+        _ => calling_fault(question, parsed, scope, from, root),
     }
 }
 
 // Questions 7 and 8 of a definition's n parameters, every second token from `first` on.
-fn params_fault(
-    question: Question,
-    low: &[u64],
-    high: &[u64],
-    nodes: &[u64],
-    lists: Lists,
-    first: usize,
-    n: usize,
-) -> Option<usize>
-    requires { ((h : World question low.now high.now nodes.now lists) × Named h.kinds (every_other first n)) × (first + 2 * n ≤ field) × (asks_names question ≡ true → n ≤ local_limit) }
-    ensures { (h : World question low.now high.now nodes.now lists) → Named h.kinds (every_other first n) → result ≡ least (param_faults question h.word (names (variables h.model)) (every_other first n)) }
+fn params_fault(question: Question, parsed: Parsed, first: usize, n: usize) -> Option<usize>
+    requires { ((h : World question parsed.low.now parsed.high.now parsed.nodes.now parsed.lists) × Named h.kinds (every_other first n)) × (first + 2 * n ≤ field) × (asks_names question ≡ true → n ≤ local_limit) }
+    ensures { (h : World question parsed.entry.low.now parsed.entry.high.now parsed.entry.nodes.now parsed.entry.lists) → Named h.kinds (every_other first n) → result ≡ least (param_faults question h.word (names (variables h.model)) (every_other first n)) }
 {
     match question {
         Question::Limits => crate::over_fault(Limits::PARAMETERS, first, n),
-        Question::Fresh => crate::repeated_fault(low, high, nodes, lists, no_locals(), first, n),
+        Question::Fresh => crate::repeated_fault(parsed, no_locals(), first, n),
         Question::Given => None,
     }
 }
@@ -343,23 +252,20 @@ fn params_fault(
 fn definition_fault(
     question: Question,
     kinds: &[u8],
-    low: &[u64],
-    high: &[u64],
-    nodes: &[u64],
-    lists: Lists,
+    parsed: Parsed,
     from: usize,
     root: usize,
 ) -> Option<usize>
-    requires { ((h : Ground question kinds.now low.now high.now nodes.now lists) × (n : ℕ) × (p : Syntax.Params) × (b : Syntax.Sums) × Table.Definition nodes.now n p b from root × DefinitionRoom h (defined n p b)) × (root ≤ lists.root) }
-    ensures { (h : Ground question kinds.now low.now high.now nodes.now lists) (n : ℕ) (p : Syntax.Params) (b : Syntax.Sums) → Table.Definition nodes.now n p b from root → DefinitionRoom h (defined n p b) → result ≡ least (definition_judged h question (defined n p b)) }
+    requires { ((h : Ground question kinds.now parsed.low.now parsed.high.now parsed.nodes.now parsed.lists) × (n : ℕ) × (p : Syntax.Params) × (b : Syntax.Sums) × Table.Definition parsed.nodes.now n p b from root × DefinitionRoom h (defined n p b)) × (root ≤ parsed.lists.root) }
+    ensures { (h : Ground question kinds.now parsed.entry.low.now parsed.entry.high.now parsed.entry.nodes.now parsed.entry.lists) (n : ℕ) (p : Syntax.Params) (b : Syntax.Sums) → Table.Definition parsed.entry.nodes.now n p b from root → DefinitionRoom h (defined n p b) → result ≡ least (definition_judged h question (defined n p b)) }
 {
-    let node = nodes[root];
+    let node = parsed.nodes[root];
     let first = tree::token_of(node) + 2;
     let n = tree::third_of(node);
-    let params = params_fault(question, low, high, nodes, lists, first, n);
+    let params = params_fault(question, parsed, first, n);
     let scope = crate::with_locals(no_locals(), first, n);
     let part = part_at(0, from, root - 1);
-    let body = part_fault(question, kinds, low, high, nodes, lists, scope, part);
+    let body = part_fault(question, kinds, parsed, scope, part);
     crate::earlier(params, body)
 }
 
@@ -390,63 +296,39 @@ fn count_fault(low: &[u64], node: u64) -> Option<usize>
 }
 
 // The faults of an item of the system line from the node `from` to its root.
-fn start_fault(
-    question: Question,
-    low: &[u64],
-    high: &[u64],
-    nodes: &[u64],
-    lists: Lists,
-    from: usize,
-    root: usize,
-) -> Option<usize>
-    requires { (World question low.now high.now nodes.now lists × (s : Syntax.Start) × Table.Start nodes.now s from root) × (root ≤ lists.root) }
-    ensures { (h : World question low.now high.now nodes.now lists) (s : Syntax.Start) → Table.Start nodes.now s from root → result ≡ least (start_faults question h.word (definitions h.model) s) }
+fn start_fault(question: Question, parsed: Parsed, from: usize, root: usize) -> Option<usize>
+    requires { (World question parsed.low.now parsed.high.now parsed.nodes.now parsed.lists × (s : Syntax.Start) × Table.Start parsed.nodes.now s from root) × (root ≤ parsed.lists.root) }
+    ensures { (h : World question parsed.entry.low.now parsed.entry.high.now parsed.entry.nodes.now parsed.entry.lists) (s : Syntax.Start) → Table.Start parsed.entry.nodes.now s from root → result ≡ least (start_faults question h.word (definitions h.model) s) }
 {
-    let node = nodes[root];
+    let node = parsed.nodes[root];
     match question {
         Question::Limits => {
-            let count = count_fault(low, node);
+            let count = count_fault(parsed.low, node);
             crate::earlier(
                 count,
-                crate::leaves_fault(question, low, high, nodes, lists, no_locals(), from, root),
+                crate::leaves_fault(question, parsed, no_locals(), from, root),
             )
         }
         Question::Fresh => None,
         Question::Given => {
             let name = tree::token_of(node);
-            crate::call_fault(
-                question,
-                low,
-                high,
-                nodes,
-                lists,
-                name,
-                tree::third_of(node),
-            )
+            crate::call_fault(question, parsed, name, tree::third_of(node))
         }
     }
 }
 
 // The faults of the items of the system line from the node `from` to their root.
-fn system_fault(
-    question: Question,
-    low: &[u64],
-    high: &[u64],
-    nodes: &[u64],
-    lists: Lists,
-    from: usize,
-    root: usize,
-) -> Option<usize>
-    requires { (World question low.now high.now nodes.now lists × (s : Syntax.System) × Table.System nodes.now s from root) × (root ≤ lists.root) }
-    ensures { (h : World question low.now high.now nodes.now lists) (s : Syntax.System) → Table.System nodes.now s from root → result ≡ least (each (start_faults question h.word (definitions h.model)) (starts_in s)) }
+fn system_fault(question: Question, parsed: Parsed, from: usize, root: usize) -> Option<usize>
+    requires { (World question parsed.low.now parsed.high.now parsed.nodes.now parsed.lists × (s : Syntax.System) × Table.System parsed.nodes.now s from root) × (root ≤ parsed.lists.root) }
+    ensures { (h : World question parsed.entry.low.now parsed.entry.high.now parsed.entry.nodes.now parsed.entry.lists) (s : Syntax.System) → Table.System parsed.entry.nodes.now s from root → result ≡ least (each (start_faults question h.word (definitions h.model)) (starts_in s)) }
 {
-    let node = nodes[root];
+    let node = parsed.nodes[root];
     if tree::kind_of(node) != NodeKind::SYSTEM {
-        return start_fault(question, low, high, nodes, lists, from, root);
+        return start_fault(question, parsed, from, root);
     }
     let left = tree::left_of(node);
-    let first = start_fault(question, low, high, nodes, lists, from, left);
-    let others = system_fault(question, low, high, nodes, lists, left + 1, root - 1);
+    let first = start_fault(question, parsed, from, left);
+    let others = system_fault(question, parsed, left + 1, root - 1);
     crate::earlier(first, others)
 }
 
@@ -454,26 +336,20 @@ fn system_fault(
 fn lines_fault(
     question: Question,
     kinds: &[u8],
-    low: &[u64],
-    high: &[u64],
-    nodes: &[u64],
-    lists: Lists,
+    parsed: Parsed,
     from: usize,
     root: usize,
 ) -> Option<usize>
-    requires { ((h : Ground question kinds.now low.now high.now nodes.now lists) × (d : Syntax.Definitions) × Table.Definitions nodes.now d from root × LinesRoom h d) × (root ≤ lists.root) }
-    ensures { (h : Ground question kinds.now low.now high.now nodes.now lists) (d : Syntax.Definitions) → Table.Definitions nodes.now d from root → LinesRoom h d → result ≡ least (lines_judged h question d) }
+    requires { ((h : Ground question kinds.now parsed.low.now parsed.high.now parsed.nodes.now parsed.lists) × (d : Syntax.Definitions) × Table.Definitions parsed.nodes.now d from root × LinesRoom h d) × (root ≤ parsed.lists.root) }
+    ensures { (h : Ground question kinds.now parsed.entry.low.now parsed.entry.high.now parsed.entry.nodes.now parsed.entry.lists) (d : Syntax.Definitions) → Table.Definitions parsed.entry.nodes.now d from root → LinesRoom h d → result ≡ least (lines_judged h question d) }
 {
-    let node = nodes[root];
+    let node = parsed.nodes[root];
     let left = tree::left_of(node);
-    let first = definition_fault(question, kinds, low, high, nodes, lists, from, left);
+    let first = definition_fault(question, kinds, parsed, from, left);
     if tree::kind_of(node) == NodeKind::LAST {
-        return crate::earlier(
-            first,
-            system_fault(question, low, high, nodes, lists, left + 1, root - 1),
-        );
+        return crate::earlier(first, system_fault(question, parsed, left + 1, root - 1));
     }
-    let others = lines_fault(question, kinds, low, high, nodes, lists, left + 1, root - 1);
+    let others = lines_fault(question, kinds, parsed, left + 1, root - 1);
     crate::earlier(first, others)
 }
 
@@ -490,24 +366,22 @@ fn past_fault(nodes: &[u64], first: usize, limit: usize, n: usize) -> Option<usi
 }
 
 // Question 8 of the name in place j of a list that goes down from the node `first`.
-fn again_fault(low: &[u64], high: &[u64], nodes: &[u64], first: usize, j: usize) -> Option<usize>
-    requires { Reach low.now high.now nodes.now first (j + 1) }
-    ensures { result ≡ least (when (any (same (packed low.now high.now) (name_at nodes.now (first - j))) (names_down nodes.now first j)) (name_at nodes.now (first - j))) }
+fn again_fault(parsed: Parsed, first: usize, j: usize) -> Option<usize>
+    requires { Reach parsed.low.now parsed.high.now parsed.nodes.now first (j + 1) }
+    ensures { result ≡ least (when (any (same (packed parsed.entry.low.now parsed.entry.high.now) (name_at parsed.entry.nodes.now (first - j))) (names_down parsed.entry.nodes.now first j)) (name_at parsed.entry.nodes.now (first - j))) }
 {
-    let k = crate::listed_name(nodes, first - j);
-    crate::listed(low, high, nodes, first, j, k)
-        .is_some()
-        .then_some(k)
+    let k = crate::listed_name(parsed.nodes, first - j);
+    crate::listed(parsed, first, j, k).is_some().then_some(k)
 }
 
 // Question 8 of a list of n names that goes down from the node `first`.
-fn twice_fault(low: &[u64], high: &[u64], nodes: &[u64], first: usize, n: usize) -> Option<usize>
-    requires { Reach low.now high.now nodes.now first n }
-    ensures { result ≡ least (repeated (packed low.now high.now) [] (names_down nodes.now first n)) }
+fn twice_fault(parsed: Parsed, first: usize, n: usize) -> Option<usize>
+    requires { Reach parsed.low.now parsed.high.now parsed.nodes.now first n }
+    ensures { result ≡ least (repeated (packed parsed.entry.low.now parsed.entry.high.now) [] (names_down parsed.entry.nodes.now first n)) }
 {
     let mut found = None;
     for j in 0..n {
-        found = crate::earlier(found, again_fault(low, high, nodes, first, j));
+        found = crate::earlier(found, again_fault(parsed, first, j));
     }
     found
 }
@@ -515,91 +389,60 @@ fn twice_fault(low: &[u64], high: &[u64], nodes: &[u64], first: usize, n: usize)
 // Questions 7 and 8 of a list of n names that goes down from the node `first`.
 fn list_fault(
     question: Question,
-    low: &[u64],
-    high: &[u64],
-    nodes: &[u64],
+    parsed: Parsed,
     first: usize,
     n: usize,
     limit: usize,
 ) -> Option<usize>
-    requires { Reach low.now high.now nodes.now first n }
-    ensures { result ≡ least (list_faults question (packed low.now high.now) limit (names_down nodes.now first n)) }
+    requires { Reach parsed.low.now parsed.high.now parsed.nodes.now first n }
+    ensures { result ≡ least (list_faults question (packed parsed.entry.low.now parsed.entry.high.now) limit (names_down parsed.entry.nodes.now first n)) }
 {
     match question {
-        Question::Limits => past_fault(nodes, first, limit, n),
-        Question::Fresh => twice_fault(low, high, nodes, first, n),
+        Question::Limits => past_fault(parsed.nodes, first, limit, n),
+        Question::Fresh => twice_fault(parsed, first, n),
         Question::Given => None,
     }
 }
 
 // Question 7 of the variables' numbers, which stand in the first nodes.
-fn numbers_fault(
-    question: Question,
-    low: &[u64],
-    high: &[u64],
-    nodes: &[u64],
-    lists: Lists,
-) -> Option<usize>
-    requires { World question low.now high.now nodes.now lists }
-    ensures { (h : World question low.now high.now nodes.now lists) → result ≡ least (number_faults question h.word (variables h.model)) }
+fn numbers_fault(question: Question, parsed: Parsed) -> Option<usize>
+    requires { World question parsed.low.now parsed.high.now parsed.nodes.now parsed.lists }
+    ensures { (h : World question parsed.entry.low.now parsed.entry.high.now parsed.entry.nodes.now parsed.entry.lists) → result ≡ least (number_faults question h.word (variables h.model)) }
 {
     match question {
         Question::Limits => crate::leaves_fault(
             question,
-            low,
-            high,
-            nodes,
-            lists,
+            parsed,
             no_locals(),
             0,
-            lists.variables,
+            parsed.lists.variables,
         ),
         Question::Fresh | Question::Given => None,
     }
 }
 
 // The faults of a whole tree, but for those that its tokens alone tell.
-pub fn tree_fault(
-    question: Question,
-    kinds: &[u8],
-    low: &[u64],
-    high: &[u64],
-    nodes: &[u64],
-    lists: Lists,
-) -> Option<usize>
-    requires { (h : Ground question kinds.now low.now high.now nodes.now lists) × TreeRoom h }
-    ensures { (h : Ground question kinds.now low.now high.now nodes.now lists) → TreeRoom h → result ≡ least (tree_faults question h.world.word h.world.model) }
+pub fn tree_fault(question: Question, kinds: &[u8], parsed: Parsed) -> Option<usize>
+    requires { (h : Ground question kinds.now parsed.low.now parsed.high.now parsed.nodes.now parsed.lists) × TreeRoom h }
+    ensures { (h : Ground question kinds.now parsed.entry.low.now parsed.entry.high.now parsed.entry.nodes.now parsed.entry.lists) → TreeRoom h → result ≡ least (tree_faults question h.world.word h.world.model) }
 {
-    let below = lists.root - lists.variables;
+    let below = parsed.lists.root - parsed.lists.variables;
     let names = list_fault(
         question,
-        low,
-        high,
-        nodes,
-        lists.root,
-        lists.variables,
+        parsed,
+        parsed.lists.root,
+        parsed.lists.variables,
         Limits::VARIABLES,
     );
     let titles = list_fault(
         question,
-        low,
-        high,
-        nodes,
+        parsed,
         below,
-        lists.definitions,
+        parsed.lists.definitions,
         Limits::DEFINITIONS,
     );
-    let numbers = numbers_fault(question, low, high, nodes, lists);
-    let lines = lines_fault(
-        question,
-        kinds,
-        low,
-        high,
-        nodes,
-        lists,
-        lists.variables,
-        below,
-    );
+    let numbers = numbers_fault(question, parsed);
+    let lines = lines_fault(question, kinds, parsed, parsed.lists.variables, below);
     crate::earlier(
         names,
         crate::earlier(titles, crate::earlier(numbers, lines)),

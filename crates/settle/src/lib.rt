@@ -22,7 +22,7 @@ ghost use Rattle.settle.specs.Settles.{Settles};
 ghost use Rattle.tables.specs.Represents.{Represents};
 ghost use Rattle.names.specs.declared.Lists.{Lists};
 
-use names::{Lists, Scope};
+use names::{Lists, Parsed, Scope};
 use tree::NodeKind;
 
 // Where the walk over the nodes stands: the locals in scope, and how many channel names, sums and definitions it has met.
@@ -99,25 +99,25 @@ fn scale_cell(low: &[u64], kind: u8, k: usize) -> u64
 }
 
 // The node of the number of the variable with the name k; 0 if there is none.
-fn number_named(low: &[u64], high: &[u64], nodes: &[u64], lists: Lists, k: usize) -> u64
-    requires { (h : Lookup low.now high.now nodes.now lists) × IsName (kinds_in h) k }
-    ensures { (h : Lookup low.now high.now nodes.now lists) → IsName (kinds_in h) k → NumberNode low.now (word_in h) (variable_named (word_in h) k (variables_in h)) result }
+fn number_named(parsed: Parsed, k: usize) -> u64
+    requires { (h : Lookup parsed.low.now parsed.high.now parsed.nodes.now parsed.lists) × IsName (kinds_in h) k }
+    ensures { (h : Lookup parsed.entry.low.now parsed.entry.high.now parsed.entry.nodes.now parsed.entry.lists) → IsName (kinds_in h) k → NumberNode parsed.entry.low.now (word_in h) (variable_named (word_in h) k (variables_in h)) result }
 {
-    let root = lists.root;
+    let root = parsed.lists.root;
     // No Option: 0 is no number's node, and callers go by its kind.
-    let Some(j) = names::listed(low, high, nodes, root, lists.variables, k) else {
+    let Some(j) = names::listed(parsed, root, parsed.lists.variables, k) else {
         return 0;
     };
-    nodes[tree::left_of(nodes[root - j])]
+    parsed.nodes[tree::left_of(parsed.nodes[root - j])]
 }
 
 // The number of the definition with the name k.
-fn definition_named(low: &[u64], high: &[u64], nodes: &[u64], lists: Lists, k: usize) -> usize
-    requires { (h : Lookup low.now high.now nodes.now lists) × IsName (kinds_in h) k }
-    ensures { (h : Lookup low.now high.now nodes.now lists) → IsName (kinds_in h) k → result ≡ definition_of (word_in h) (variables_in h) (definitions_of h) k }
+fn definition_named(parsed: Parsed, k: usize) -> usize
+    requires { (h : Lookup parsed.low.now parsed.high.now parsed.nodes.now parsed.lists) × IsName (kinds_in h) k }
+    ensures { (h : Lookup parsed.entry.low.now parsed.entry.high.now parsed.entry.nodes.now parsed.entry.lists) → IsName (kinds_in h) k → result ≡ definition_of (word_in h) (variables_in h) (definitions_of h) k }
 {
-    let first = lists.root - lists.variables;
-    names::listed(low, high, nodes, first, lists.definitions, k).unwrap_or(0)
+    let first = parsed.lists.root - parsed.lists.variables;
+    names::listed(parsed, first, parsed.lists.definitions, k).unwrap_or(0)
 }
 
 // The hash of a packed name. Its bits come first, so that names that begin alike part early.
@@ -200,7 +200,15 @@ fn settle_scale(
         tree::node(nodes, i, NodeKind::SCALE_NAME, j, 0, 0);
         return;
     }
-    let number = number_named(low, high, nodes, lists, k);
+    let number = number_named(
+        Parsed {
+            low,
+            high,
+            nodes,
+            lists,
+        },
+        k,
+    );
     nodes[i] = scale_cell(low, tree::kind_of(number), tree::token_of(number));
 }
 
@@ -244,7 +252,15 @@ fn settle_name(
         tree::node(nodes, i, NodeKind::NAMED, j, 0, 0);
         return n;
     }
-    let number = number_named(low, high, nodes, lists, k);
+    let number = number_named(
+        Parsed {
+            low,
+            high,
+            nodes,
+            lists,
+        },
+        k,
+    );
     let kind = tree::kind_of(number);
     if names::is_whole(kind) {
         nodes[i] = number_cell(
@@ -335,7 +351,15 @@ fn settle_call(low: &[u64], high: &[u64], nodes: &mut [u64], lists: Lists, i: us
     let node = nodes[i];
     let kind = tree::kind_of(node);
     let k = tree::token_of(node);
-    let d = definition_named(low, high, nodes, lists, k);
+    let d = definition_named(
+        Parsed {
+            low,
+            high,
+            nodes,
+            lists,
+        },
+        k,
+    );
     let third = tree::third_of(node);
     if kind < NodeKind::START {
         tree::node(nodes, i, kind, d, tree::left_of(node), third);

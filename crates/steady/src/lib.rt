@@ -16,7 +16,7 @@ ghost use Rattle.opening.specs.Models.{SumRoom, Opens};
 ghost use Rattle.steady.specs.Scan.{offender_at};
 ghost use Rattle.steady.specs.Opens.{OpensSteady, OpensUnder};
 
-use names::Lists;
+use names::{Lists, Parsed};
 use settle::Model;
 use token::Refusal;
 use tree::NodeKind;
@@ -29,43 +29,41 @@ pub enum Profile {
 }
 
 // Whether the definition with the name k has more than one sum. The root of its sums is the node before its own.
-fn has_several(low: &[u64], high: &[u64], nodes: &[u64], lists: Lists, k: usize) -> bool
-    requires { (h : World Given low.now high.now nodes.now lists) × IsName h.kinds k }
-    ensures { (h : World Given low.now high.now nodes.now lists) → IsName h.kinds k → result ≡ several_sums h.word (definitions h.model) k }
+fn has_several(parsed: Parsed, k: usize) -> bool
+    requires { (h : World Given parsed.low.now parsed.high.now parsed.nodes.now parsed.lists) × IsName h.kinds k }
+    ensures { (h : World Given parsed.entry.low.now parsed.entry.high.now parsed.entry.nodes.now parsed.entry.lists) → IsName h.kinds k → result ≡ several_sums h.word (definitions h.model) k }
 {
-    let first = lists.root - lists.variables;
-    let Some(j) = names::listed(low, high, nodes, first, lists.definitions, k) else {
+    let first = parsed.lists.root - parsed.lists.variables;
+    let Some(j) = names::listed(parsed, first, parsed.lists.definitions, k) else {
         return false;
     };
-    let d = tree::left_of(nodes[first - j]);
-    tree::kind_of(nodes[d - 1]) == NodeKind::BESIDE
+    let d = tree::left_of(parsed.nodes[first - j]);
+    tree::kind_of(parsed.nodes[d - 1]) == NodeKind::BESIDE
 }
 
 // Question 29 of the node i. The root of a group's items is the node before the group's own.
-fn node_fault(low: &[u64], high: &[u64], nodes: &[u64], lists: Lists, i: usize) -> Option<usize>
-    requires { World Given low.now high.now nodes.now lists × (i ≤ lists.root) }
-    ensures { (h : World Given low.now high.now nodes.now lists) → result ≡ offender_at (several_sums h.word (definitions h.model)) nodes.now i }
+fn node_fault(parsed: Parsed, i: usize) -> Option<usize>
+    requires { World Given parsed.low.now parsed.high.now parsed.nodes.now parsed.lists × (i ≤ parsed.lists.root) }
+    ensures { (h : World Given parsed.entry.low.now parsed.entry.high.now parsed.entry.nodes.now parsed.entry.lists) → result ≡ offender_at (several_sums h.word (definitions h.model)) parsed.entry.nodes.now i }
 {
-    let node = nodes[i];
+    let node = parsed.nodes[i];
     let kind = tree::kind_of(node);
     let k = tree::token_of(node);
     match kind {
-        NodeKind::GROUP => (tree::kind_of(nodes[i - 1]) == NodeKind::ITEM).then_some(k),
-        NodeKind::CALL | NodeKind::CALL_WITH => has_several(low, high, nodes, lists, k).then_some(
-            k,
-        ),
+        NodeKind::GROUP => (tree::kind_of(parsed.nodes[i - 1]) == NodeKind::ITEM).then_some(k),
+        NodeKind::CALL | NodeKind::CALL_WITH => has_several(parsed, k).then_some(k),
         _ => None,
     }
 }
 
 // Question 29 of a text without faults, in the reader's nodes: the first token that offends.
-pub fn first_unsteady(low: &[u64], high: &[u64], nodes: &[u64], lists: Lists) -> Option<usize>
-    requires { World Given low.now high.now nodes.now lists }
-    ensures { (h : World Given low.now high.now nodes.now lists) → result ≡ least (unsteady h.word h.model) }
+pub fn first_unsteady(parsed: Parsed) -> Option<usize>
+    requires { World Given parsed.low.now parsed.high.now parsed.nodes.now parsed.lists }
+    ensures { (h : World Given parsed.entry.low.now parsed.entry.high.now parsed.entry.nodes.now parsed.entry.lists) → result ≡ least (unsteady h.word h.model) }
 {
     let mut found = None;
-    for i in 0..=lists.root {
-        found = names::earlier(found, node_fault(low, high, nodes, lists, i));
+    for i in 0..=parsed.lists.root {
+        found = names::earlier(found, node_fault(parsed, i));
     }
     found
 }
@@ -111,7 +109,12 @@ fn settle_steady(
 {
     let place = opening::judge_tree(text, kinds, places, low, high, nodes, root, n)?;
     let lists = names::lists_of(nodes, root);
-    let found = first_unsteady(low, high, nodes, lists);
+    let found = first_unsteady(Parsed {
+        low,
+        high,
+        nodes,
+        lists,
+    });
     let model = settle::settle(low, high, nodes, roots, scopes, names, root);
     let opened = opening::judge_start(nodes, model, place);
     judge_steady(text, places, n, found, opened)

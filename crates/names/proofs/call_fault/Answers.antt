@@ -4,12 +4,12 @@ use Rattle.names.proofs.call_fault.Goals as goal
 
 pub is_callable-requires : goal.is_callable-requires
 is_callable-requires c =
-    given-call c.args.low.now c.args.high.now c.args.nodes.now c.args.lists c.args.k c.args.n c.in-Given.is c.requires
+    given-call c.args.parsed.low.now c.args.parsed.high.now c.args.parsed.nodes.now c.args.parsed.lists c.args.k c.args.n c.in-Given.is c.requires
 
 pub returns-in-Limits : goal.returns-in-Limits
 returns-in-Limits c =
-    call-free c.args.low.now c.args.high.now c.args.nodes.now c.args.lists c.args.k c.args.n c.in-Limits.is
+    call-free c.args.parsed.low.now c.args.parsed.high.now c.args.parsed.nodes.now c.args.parsed.lists c.args.k c.args.n c.in-Limits.is
 
 pub returns-in-Given : goal.returns-in-Given
 returns-in-Given c =
-    call-asked c.args.low.now c.args.high.now c.args.nodes.now c.args.lists c.args.k c.args.n c.is_callable.ensures c.in-Given.is c.then_some.ensures
+    call-asked c.args.parsed.low.now c.args.parsed.high.now c.args.parsed.nodes.now c.args.parsed.lists c.args.k c.args.n c.is_callable.ensures c.in-Given.is c.then_some.ensures

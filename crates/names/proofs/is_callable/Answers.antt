@@ -14,7 +14,7 @@ overflow_sub-first c =
 
 pub listed-requires : goal.listed-requires
 listed-requires c =
-    record { reach = reach-definitions c.requires.0 c.args.lists.definitions (omega arith); k_in_bounds = name-inside c.requires.0 c.args.k c.requires.1 }
+    record { reach = reach-definitions c.requires.0 c.args.parsed.lists.definitions (omega arith); k_in_bounds = name-inside c.requires.0 c.args.k c.requires.1 }
 
 pub returns-in_default : goal.returns-in_default
 returns-in_default c =
@@ -24,22 +24,22 @@ pub overflow_sub-first-2 : goal.overflow_sub-first-2
 overflow_sub-first-2 c =
     omega (arith, (defined-inside c.requires.0 c.args.k c.args.n c.requires.1 c.listed.ensures c.in-Some.is).0)
 
-pub offset_bounds-nodes-first : goal.offset_bounds-nodes-first
-offset_bounds-nodes-first c =
+pub offset_bounds-parsed-first : goal.offset_bounds-parsed-first
+offset_bounds-parsed-first c =
     omega (arith, (defined-inside c.requires.0 c.args.k c.args.n c.requires.1 c.listed.ensures c.in-Some.is).1)
 
-pub bounds-nodes-first : goal.bounds-nodes-first
-bounds-nodes-first c =
+pub bounds-parsed-first : goal.bounds-parsed-first
+bounds-parsed-first c =
     (defined-inside c.requires.0 c.args.k c.args.n c.requires.1 c.listed.ensures c.in-Some.is).1
 
-pub offset_bounds-nodes-left_of : goal.offset_bounds-nodes-left_of
-offset_bounds-nodes-left_of c =
+pub offset_bounds-parsed-left_of : goal.offset_bounds-parsed-left_of
+offset_bounds-parsed-left_of c =
     omega (arith, c.left_of.ensures, (defined-inside c.requires.0 c.args.k c.args.n c.requires.1 c.listed.ensures c.in-Some.is).2)
 
-pub bounds-nodes-left_of : goal.bounds-nodes-left_of
-bounds-nodes-left_of c =
+pub bounds-parsed-left_of : goal.bounds-parsed-left_of
+bounds-parsed-left_of c =
     rw c.left_of.ensures (defined-inside c.requires.0 c.args.k c.args.n c.requires.1 c.listed.ensures c.in-Some.is).2
 
 pub returns : goal.returns
 returns c =
-    λ h e. defined-takes h c.args.k c.args.n e c.listed.ensures c.in-Some.is c.third_of.result (c.third_of.ensures ∙ ap (λ (i : ℕ). third_of (get_or c.args.nodes.now i 0)) c.left_of.ensures)
+    λ h e. defined-takes h c.args.k c.args.n e c.listed.ensures c.in-Some.is c.third_of.result (c.third_of.ensures ∙ ap (λ (i : ℕ). third_of (get_or c.args.parsed.nodes.now i 0)) c.left_of.ensures)

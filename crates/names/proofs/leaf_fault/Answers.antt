@@ -4,30 +4,30 @@ use Rattle.names.proofs.Settled.{root_in}
 use Rattle.names.proofs.Judges.{whole-there, leaf-limits, leaf-fresh, given-leaf, leaf-given}
 use Rattle.names.proofs.leaf_fault.Goals as goal
 
-pub offset_bounds-nodes-i : goal.offset_bounds-nodes-i
-offset_bounds-nodes-i c =
+pub offset_bounds-parsed-i : goal.offset_bounds-parsed-i
+offset_bounds-parsed-i c =
     omega (arith, root_in c.requires.0.world, c.requires.1)
 
-pub bounds-nodes-i : goal.bounds-nodes-i
-bounds-nodes-i c =
+pub bounds-parsed-i : goal.bounds-parsed-i
+bounds-parsed-i c =
     omega (arith, root_in c.requires.0.world, c.requires.1)
 
 pub number_fault-requires : goal.number_fault-requires
 number_fault-requires c =
-    λ e. let r = whole-there c.args.low.now c.args.high.now c.args.nodes.now c.args.lists c.args.i c.requires.1 c.kind_of-kind.result c.token_of-k.result c.kind_of-kind.ensures c.token_of-k.ensures c.requires.0.world e in (r.0, r.1)
+    λ e. let r = whole-there c.args.parsed.low.now c.args.parsed.high.now c.args.parsed.nodes.now c.args.parsed.lists c.args.i c.requires.1 c.kind_of-kind.result c.token_of-k.result c.kind_of-kind.ensures c.token_of-k.ensures c.requires.0.world e in (r.0, r.1)
 
 pub used_fault-requires : goal.used_fault-requires
 used_fault-requires c =
-    given-leaf c.args.low.now c.args.high.now c.args.nodes.now c.args.lists c.args.i c.requires.1 c.kind_of-kind.result c.token_of-k.result c.kind_of-kind.ensures c.token_of-k.ensures c.args.scope c.in-Given.is c.requires.0
+    given-leaf c.args.parsed.low.now c.args.parsed.high.now c.args.parsed.nodes.now c.args.parsed.lists c.args.i c.requires.1 c.kind_of-kind.result c.token_of-k.result c.kind_of-kind.ensures c.token_of-k.ensures c.args.scope c.in-Given.is c.requires.0
 
 pub returns-in-Limits : goal.returns-in-Limits
 returns-in-Limits c =
-    leaf-limits c.args.low.now c.args.high.now c.args.nodes.now c.args.lists c.args.i c.requires.1 c.kind_of-kind.result c.token_of-k.result c.kind_of-kind.ensures c.token_of-k.ensures c.args.scope c.in-Limits.is c.number_fault.ensures
+    leaf-limits c.args.parsed.low.now c.args.parsed.high.now c.args.parsed.nodes.now c.args.parsed.lists c.args.i c.requires.1 c.kind_of-kind.result c.token_of-k.result c.kind_of-kind.ensures c.token_of-k.ensures c.args.scope c.in-Limits.is c.number_fault.ensures
 
 pub returns-in-Fresh : goal.returns-in-Fresh
 returns-in-Fresh c =
-    leaf-fresh c.args.low.now c.args.high.now c.args.nodes.now c.args.lists c.args.i c.requires.1 c.kind_of-kind.result c.token_of-k.result c.kind_of-kind.ensures c.token_of-k.ensures c.args.scope c.in-Fresh.is
+    leaf-fresh c.args.parsed.low.now c.args.parsed.high.now c.args.parsed.nodes.now c.args.parsed.lists c.args.i c.requires.1 c.kind_of-kind.result c.token_of-k.result c.kind_of-kind.ensures c.token_of-k.ensures c.args.scope c.in-Fresh.is
 
 pub returns-in-Given : goal.returns-in-Given
 returns-in-Given c =
-    leaf-given c.args.low.now c.args.high.now c.args.nodes.now c.args.lists c.args.i c.requires.1 c.kind_of-kind.result c.token_of-k.result c.kind_of-kind.ensures c.token_of-k.ensures c.args.scope c.in-Given.is c.used_fault.ensures
+    leaf-given c.args.parsed.low.now c.args.parsed.high.now c.args.parsed.nodes.now c.args.parsed.lists c.args.i c.requires.1 c.kind_of-kind.result c.token_of-k.result c.kind_of-kind.ensures c.token_of-k.ensures c.args.scope c.in-Given.is c.used_fault.ensures

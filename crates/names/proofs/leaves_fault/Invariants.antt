@@ -8,4 +8,4 @@ use Rattle.names.specs.Settings.{Setting, faults_at}
 use Rattle.names.proofs.leaves_fault.Given as goal
 
 abbrev pub invariant-loop-i : goal.invariant-loop-i
-invariant-loop-i l = ((h : Setting l.question l.low l.high l.nodes l.lists l.scope) → earlier_of l.found (least (each (faults_at h) (between l.nodes l.i (l.to - l.i)))) ≡ least (each (faults_at h) (between l.nodes l.from (l.to - l.from))))
+invariant-loop-i l = ((h : Setting l.question l.parsed.low.now l.parsed.high.now l.parsed.nodes.now l.parsed.lists l.scope) → earlier_of l.found (least (each (faults_at h) (between l.parsed.nodes.now l.i (l.to - l.i)))) ≡ least (each (faults_at h) (between l.parsed.nodes.now l.from (l.to - l.from))))

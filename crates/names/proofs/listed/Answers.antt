@@ -18,12 +18,12 @@ same_name-requires c =
 
 pub returns-then-same_name : goal.returns-then-same_name
 returns-then-same_name c =
-    place_here (packed c.args.low.now c.args.high.now) c.args.k (names_down c.args.nodes.now c.args.first c.args.n) c.loop-j.j c.listed_name.result (omega (arith, down-length c.args.nodes.now c.args.first c.args.n)) (down-at c.args.nodes.now c.args.first c.args.n c.loop-j.j (omega arith) ∙ sym c.listed_name.ensures) c.same_name.result c.same_name.ensures c.if-same_name.true c.loop-j.invariant
+    place_here (packed c.args.parsed.low.now c.args.parsed.high.now) c.args.k (names_down c.args.parsed.nodes.now c.args.first c.args.n) c.loop-j.j c.listed_name.result (omega (arith, down-length c.args.parsed.nodes.now c.args.first c.args.n)) (down-at c.args.parsed.nodes.now c.args.first c.args.n c.loop-j.j (omega arith) ∙ sym c.listed_name.ensures) c.same_name.result c.same_name.ensures c.if-same_name.true c.loop-j.invariant
 
 pub loop-j-preserved : goal.loop-j-preserved
 loop-j-preserved c =
-    onward (packed c.args.low.now c.args.high.now) c.args.k (names_down c.args.nodes.now c.args.first c.args.n) c.loop-j.j c.listed_name.result (omega (arith, down-length c.args.nodes.now c.args.first c.args.n)) (down-at c.args.nodes.now c.args.first c.args.n c.loop-j.j (omega arith) ∙ sym c.listed_name.ensures) c.same_name.result c.same_name.ensures c.if-same_name.false c.loop-j.invariant
+    onward (packed c.args.parsed.low.now c.args.parsed.high.now) c.args.k (names_down c.args.parsed.nodes.now c.args.first c.args.n) c.loop-j.j c.listed_name.result (omega (arith, down-length c.args.parsed.nodes.now c.args.first c.args.n)) (down-at c.args.parsed.nodes.now c.args.first c.args.n c.loop-j.j (omega arith) ∙ sym c.listed_name.ensures) c.same_name.result c.same_name.ensures c.if-same_name.false c.loop-j.invariant
 
 pub returns : goal.returns
 returns c =
-    place_none (packed c.args.low.now c.args.high.now) c.args.k (names_down c.args.nodes.now c.args.first c.args.n) c.loop-j.j (omega (arith, down-length c.args.nodes.now c.args.first c.args.n)) c.loop-j.invariant
+    place_none (packed c.args.parsed.low.now c.args.parsed.high.now) c.args.k (names_down c.args.parsed.nodes.now c.args.first c.args.n) c.loop-j.j (omega (arith, down-length c.args.parsed.nodes.now c.args.first c.args.n)) c.loop-j.invariant

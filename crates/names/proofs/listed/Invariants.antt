@@ -4,4 +4,4 @@ use Rattle.names.proofs.Lookups.{Onward}
 use Rattle.names.proofs.listed.Given as goal
 
 abbrev pub invariant-loop-j : goal.invariant-loop-j
-invariant-loop-j l = Onward (packed l.low l.high) l.k (names_down l.nodes l.first l.n) l.j
+invariant-loop-j l = Onward (packed l.parsed.low.now l.parsed.high.now) l.k (names_down l.parsed.nodes.now l.first l.n) l.j

@@ -24,7 +24,7 @@ returns-then-is_some c =
 
 pub listed-requires : goal.listed-requires
 listed-requires c =
-    record { reach = reach-variables c.requires.0.world c.args.lists.variables (omega arith); k_in_bounds = name-inside c.requires.0.world c.args.k c.requires.1 }
+    record { reach = reach-variables c.requires.0.world c.args.parsed.lists.variables (omega arith); k_in_bounds = name-inside c.requires.0.world c.args.k c.requires.1 }
 
 pub returns-in_default : goal.returns-in_default
 returns-in_default c =
@@ -35,30 +35,30 @@ unfolding least when
 returns-then-scaling c =
     λ h e. elim c.then-scaling.branch [
       | then-scaling-via-then-scaling w ↦ any-scale h c.args.k e c.args.scaling c.local_named.ensures (absent _ (sym c.is_some.ensures ∙ c.if-is_some.false)) c.listed.ensures c.in-Some.is w.if-scaling.true
-      | then-scaling-via-else-scaling+then-is_whole w ↦ whole-variable h c.args.k e c.args.scaling c.local_named.ensures (absent _ (sym c.is_some.ensures ∙ c.if-is_some.false)) c.listed.ensures c.in-Some.is w.if-scaling.false w.kind_of.result (w.kind_of.ensures ∙ ap (λ (l : ℕ). kind_of (get_or c.args.nodes.now l 0)) w.left_of.ensures) true (sym w.is_whole.ensures ∙ w.if-is_whole.true)
+      | then-scaling-via-else-scaling+then-is_whole w ↦ whole-variable h c.args.k e c.args.scaling c.local_named.ensures (absent _ (sym c.is_some.ensures ∙ c.if-is_some.false)) c.listed.ensures c.in-Some.is w.if-scaling.false w.kind_of.result (w.kind_of.ensures ∙ ap (λ (l : ℕ). kind_of (get_or c.args.parsed.nodes.now l 0)) w.left_of.ensures) true (sym w.is_whole.ensures ∙ w.if-is_whole.true)
     ]
 
 pub overflow_sub-root : goal.overflow_sub-root
 overflow_sub-root c =
     omega (arith, (listed-inside c.requires.0 c.args.k c.requires.1 c.args.scaling c.local_named.ensures (absent _ (sym c.is_some.ensures ∙ c.if-is_some.false)) c.listed.ensures c.in-Some.is).0)
 
-pub offset_bounds-nodes-root : goal.offset_bounds-nodes-root
-offset_bounds-nodes-root c =
+pub offset_bounds-parsed-root : goal.offset_bounds-parsed-root
+offset_bounds-parsed-root c =
     omega (arith, (listed-inside c.requires.0 c.args.k c.requires.1 c.args.scaling c.local_named.ensures (absent _ (sym c.is_some.ensures ∙ c.if-is_some.false)) c.listed.ensures c.in-Some.is).1)
 
-pub bounds-nodes-root : goal.bounds-nodes-root
-bounds-nodes-root c =
+pub bounds-parsed-root : goal.bounds-parsed-root
+bounds-parsed-root c =
     (listed-inside c.requires.0 c.args.k c.requires.1 c.args.scaling c.local_named.ensures (absent _ (sym c.is_some.ensures ∙ c.if-is_some.false)) c.listed.ensures c.in-Some.is).1
 
-pub offset_bounds-nodes-left_of : goal.offset_bounds-nodes-left_of
-offset_bounds-nodes-left_of c =
+pub offset_bounds-parsed-left_of : goal.offset_bounds-parsed-left_of
+offset_bounds-parsed-left_of c =
     omega (arith, c.left_of.ensures, (listed-inside c.requires.0 c.args.k c.requires.1 c.args.scaling c.local_named.ensures (absent _ (sym c.is_some.ensures ∙ c.if-is_some.false)) c.listed.ensures c.in-Some.is).2)
 
-pub bounds-nodes-left_of : goal.bounds-nodes-left_of
-bounds-nodes-left_of c =
+pub bounds-parsed-left_of : goal.bounds-parsed-left_of
+bounds-parsed-left_of c =
     rw c.left_of.ensures (listed-inside c.requires.0 c.args.k c.requires.1 c.args.scaling c.local_named.ensures (absent _ (sym c.is_some.ensures ∙ c.if-is_some.false)) c.listed.ensures c.in-Some.is).2
 
 pub returns : goal.returns
 unfolding least when earlier
 returns c =
-    λ h e. whole-variable h c.args.k e c.args.scaling c.local_named.ensures (absent _ (sym c.is_some.ensures ∙ c.if-is_some.false)) c.listed.ensures c.in-Some.is c.if-scaling.false c.kind_of.result (c.kind_of.ensures ∙ ap (λ (l : ℕ). kind_of (get_or c.args.nodes.now l 0)) c.left_of.ensures) false (sym c.is_whole.ensures ∙ c.if-is_whole.false)
+    λ h e. whole-variable h c.args.k e c.args.scaling c.local_named.ensures (absent _ (sym c.is_some.ensures ∙ c.if-is_some.false)) c.listed.ensures c.in-Some.is c.if-scaling.false c.kind_of.result (c.kind_of.ensures ∙ ap (λ (l : ℕ). kind_of (get_or c.args.parsed.nodes.now l 0)) c.left_of.ensures) false (sym c.is_whole.ensures ∙ c.if-is_whole.false)

@@ -5,4 +5,4 @@ use Rattle.names.proofs.Repeats.{Onward}
 use Rattle.names.proofs.repeated_fault.Given as goal
 
 abbrev pub invariant-loop-j : goal.invariant-loop-j
-invariant-loop-j l = Extended l.initial.seen (every_other l.first l.j) l.seen × Onward l.low l.high l.nodes l.lists l.initial.seen l.first l.n l.found l.j
+invariant-loop-j l = Extended l.initial.seen (every_other l.first l.j) l.seen × Onward l.parsed.low.now l.parsed.high.now l.parsed.nodes.now l.parsed.lists l.initial.seen l.first l.n l.found l.j

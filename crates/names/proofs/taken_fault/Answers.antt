@@ -9,7 +9,7 @@ use Rattle.names.proofs.taken_fault.Goals.{then-is_some, else-is_some}
 
 pub listed-requires : goal.listed-requires
 listed-requires c =
-    record { reach = reach-variables c.requires.0.world c.args.lists.variables (omega arith); k_in_bounds = name-inside c.requires.0.world c.args.k c.requires.1 }
+    record { reach = reach-variables c.requires.0.world c.args.parsed.lists.variables (omega arith); k_in_bounds = name-inside c.requires.0.world c.args.k c.requires.1 }
 
 pub local_named-requires : goal.local_named-requires
 unfolding asks_names

@@ -17,18 +17,18 @@ pub overflow_sub-root : goal.overflow_sub-root
 overflow_sub-root c =
     omega (arith, (named-inside c.requires.0 c.args.k c.requires.1 c.listed.ensures c.in-Some.is).0)
 
-pub bounds-nodes-root : goal.bounds-nodes-root
-bounds-nodes-root c =
+pub bounds-parsed-root : goal.bounds-parsed-root
+bounds-parsed-root c =
     (named-inside c.requires.0 c.args.k c.requires.1 c.listed.ensures c.in-Some.is).1
 
-pub offset_bounds-nodes-left_of : goal.offset_bounds-nodes-left_of
-offset_bounds-nodes-left_of c =
+pub offset_bounds-parsed-left_of : goal.offset_bounds-parsed-left_of
+offset_bounds-parsed-left_of c =
     omega (arith, c.left_of.ensures, (named-inside c.requires.0 c.args.k c.requires.1 c.listed.ensures c.in-Some.is).2)
 
-pub bounds-nodes-left_of : goal.bounds-nodes-left_of
-bounds-nodes-left_of c =
+pub bounds-parsed-left_of : goal.bounds-parsed-left_of
+bounds-parsed-left_of c =
     rw c.left_of.ensures (named-inside c.requires.0 c.args.k c.requires.1 c.listed.ensures c.in-Some.is).2
 
 pub returns : goal.returns
 returns c =
-    λ h e. named-number h c.args.k e c.listed.ensures c.in-Some.is _ (ap (λ (i : ℕ). get_or c.args.nodes.now i 0) c.left_of.ensures)
+    λ h e. named-number h c.args.k e c.listed.ensures c.in-Some.is _ (ap (λ (i : ℕ). get_or c.args.parsed.nodes.now i 0) c.left_of.ensures)

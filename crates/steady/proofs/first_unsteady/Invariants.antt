@@ -5,4 +5,4 @@ use Rattle.steady.proofs.Faults.{Onward}
 use Rattle.steady.proofs.first_unsteady.Given as goal
 
 abbrev pub invariant-loop-i : goal.invariant-loop-i
-invariant-loop-i l = (h : World Given l.low l.high l.nodes l.lists) → Onward h l.found l.i
+invariant-loop-i l = (h : World Given l.parsed.low.now l.parsed.high.now l.parsed.nodes.now l.parsed.lists) → Onward h l.found l.i

@@ -15,7 +15,7 @@ overflow_sub-first c =
 
 pub listed-requires : goal.listed-requires
 listed-requires c =
-    record { reach = reach-definitions c.requires.0 c.args.lists.definitions (omega arith); k_in_bounds = name-inside c.requires.0 c.args.k c.requires.1 }
+    record { reach = reach-definitions c.requires.0 c.args.parsed.lists.definitions (omega arith); k_in_bounds = name-inside c.requires.0 c.args.k c.requires.1 }
 
 pub returns-in_default : goal.returns-in_default
 returns-in_default c =
@@ -25,26 +25,26 @@ pub overflow_sub-first-2 : goal.overflow_sub-first-2
 overflow_sub-first-2 c =
     omega (arith, (defined-inside c.requires.0 c.args.k 0 c.requires.1 c.listed.ensures c.in-Some.is).0)
 
-pub offset_bounds-nodes-first : goal.offset_bounds-nodes-first
-offset_bounds-nodes-first c =
+pub offset_bounds-parsed-first : goal.offset_bounds-parsed-first
+offset_bounds-parsed-first c =
     omega (arith, (defined-inside c.requires.0 c.args.k 0 c.requires.1 c.listed.ensures c.in-Some.is).1)
 
-pub bounds-nodes-first : goal.bounds-nodes-first
-bounds-nodes-first c =
+pub bounds-parsed-first : goal.bounds-parsed-first
+bounds-parsed-first c =
     (defined-inside c.requires.0 c.args.k 0 c.requires.1 c.listed.ensures c.in-Some.is).1
 
 pub overflow_sub-d : goal.overflow_sub-d
 overflow_sub-d c =
     omega (arith, c.left_of-d.ensures, (sums-inside c.requires.0 c.args.k c.requires.1 c.listed.ensures c.in-Some.is).0)
 
-pub offset_bounds-nodes-d : goal.offset_bounds-nodes-d
-offset_bounds-nodes-d c =
+pub offset_bounds-parsed-d : goal.offset_bounds-parsed-d
+offset_bounds-parsed-d c =
     omega (arith, c.left_of-d.ensures, (sums-inside c.requires.0 c.args.k c.requires.1 c.listed.ensures c.in-Some.is).1)
 
-pub bounds-nodes-d : goal.bounds-nodes-d
-bounds-nodes-d c =
+pub bounds-parsed-d : goal.bounds-parsed-d
+bounds-parsed-d c =
     rw c.left_of-d.ensures (sums-inside c.requires.0 c.args.k c.requires.1 c.listed.ensures c.in-Some.is).1
 
 pub returns : goal.returns
 returns c =
-    λ h e. named-several h c.args.k e c.listed.ensures c.in-Some.is c.kind_of.result (c.kind_of.ensures ∙ ap (λ (i : ℕ). kind_of (get_or c.args.nodes.now (i - 1) 0)) c.left_of-d.ensures)
+    λ h e. named-several h c.args.k e c.listed.ensures c.in-Some.is c.kind_of.result (c.kind_of.ensures ∙ ap (λ (i : ℕ). kind_of (get_or c.args.parsed.nodes.now (i - 1) 0)) c.left_of-d.ensures)

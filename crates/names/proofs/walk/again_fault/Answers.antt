@@ -12,8 +12,8 @@ listed_name-k-requires c =
 
 pub listed-requires : goal.listed-requires
 listed-requires c =
-    let r = c.requires.each c.args.j (omega arith) in record { reach = reach-less c.args.low.now c.args.high.now c.args.nodes.now c.args.first (c.args.j + 1) c.args.j (omega arith) c.requires; k_in_bounds = rw c.listed_name-k.ensures (r.in-low, r.in-high) }
+    let r = c.requires.each c.args.j (omega arith) in record { reach = reach-less c.args.parsed.low.now c.args.parsed.high.now c.args.parsed.nodes.now c.args.first (c.args.j + 1) c.args.j (omega arith) c.requires; k_in_bounds = rw c.listed_name-k.ensures (r.in-low, r.in-high) }
 
 pub returns : goal.returns
 returns c =
-    c.then_some.ensures ∙ rw c.is_some.ensures (again (packed c.args.low.now c.args.high.now) (names_down c.args.nodes.now c.args.first c.args.j) c.listed_name-k.result (name_at c.args.nodes.now (c.args.first - c.args.j)) c.listed_name-k.ensures c.listed.result c.listed.ensures)
+    c.then_some.ensures ∙ rw c.is_some.ensures (again (packed c.args.parsed.low.now c.args.parsed.high.now) (names_down c.args.parsed.nodes.now c.args.first c.args.j) c.listed_name-k.result (name_at c.args.parsed.nodes.now (c.args.first - c.args.j)) c.listed_name-k.ensures c.listed.result c.listed.ensures)

@@ -11,8 +11,8 @@ leaves_fault-requires c =
 
 pub returns-in-Limits : goal.returns-in-Limits
 returns-in-Limits c =
-    numbers-limits c.args.low.now c.args.high.now c.args.nodes.now c.args.lists c.no_locals.result c.no_locals.ensures c.in-Limits.is c.leaves_fault.ensures
+    numbers-limits c.args.parsed.low.now c.args.parsed.high.now c.args.parsed.nodes.now c.args.parsed.lists c.no_locals.result c.no_locals.ensures c.in-Limits.is c.leaves_fault.ensures
 
 pub returns-in-Fresh : goal.returns-in-Fresh
 returns-in-Fresh c =
-    numbers-free c.args.low.now c.args.high.now c.args.nodes.now c.args.lists c.in-Fresh.is
+    numbers-free c.args.parsed.low.now c.args.parsed.high.now c.args.parsed.nodes.now c.args.parsed.lists c.in-Fresh.is

@@ -4,17 +4,17 @@ use Rattle.names.proofs.Lines.{setting-none, count-there, start-name, start-limi
 use native.Mathlib.Omega.{arith}
 use Rattle.names.proofs.walk.start_fault.Goals as goal
 
-pub offset_bounds-nodes-root : goal.offset_bounds-nodes-root
-offset_bounds-nodes-root c =
+pub offset_bounds-parsed-root : goal.offset_bounds-parsed-root
+offset_bounds-parsed-root c =
     omega (arith, root_in c.requires.0.0, c.requires.1)
 
-pub bounds-nodes-root : goal.bounds-nodes-root
-bounds-nodes-root c =
+pub bounds-parsed-root : goal.bounds-parsed-root
+bounds-parsed-root c =
     omega (arith, root_in c.requires.0.0, c.requires.1)
 
 pub count_fault-count-requires : goal.count_fault-count-requires
 count_fault-count-requires c =
-    λ e. let q = count-there c.args.nodes.now c.requires.0.0 c.args.root c.requires.1 e in (q.0, q.1)
+    λ e. let q = count-there c.args.parsed.nodes.now c.requires.0.0 c.args.root c.requires.1 e in (q.0, q.1)
 
 pub leaves_fault-requires : goal.leaves_fault-requires
 leaves_fault-requires c =
@@ -22,16 +22,16 @@ leaves_fault-requires c =
 
 pub call_fault-requires : goal.call_fault-requires
 call_fault-requires c =
-    (c.requires.0.0, rw c.token_of-name.ensures (start-name c.args.nodes.now c.requires.0.0 c.args.root c.requires.1 c.requires.0.1 c.args.from c.requires.0.2))
+    (c.requires.0.0, rw c.token_of-name.ensures (start-name c.args.parsed.nodes.now c.requires.0.0 c.args.root c.requires.1 c.requires.0.1 c.args.from c.requires.0.2))
 
 pub returns-in-Limits : goal.returns-in-Limits
 returns-in-Limits c =
-    start-limits c.args.low.now c.args.high.now c.args.nodes.now c.args.lists c.args.from c.args.root c.requires.1 c.no_locals.result c.no_locals.ensures c.count_fault-count.result c.leaves_fault.result c.earlier.result c.earlier.ensures c.args.question c.in-Limits.is c.count_fault-count.ensures c.leaves_fault.ensures
+    start-limits c.args.parsed.low.now c.args.parsed.high.now c.args.parsed.nodes.now c.args.parsed.lists c.args.from c.args.root c.requires.1 c.no_locals.result c.no_locals.ensures c.count_fault-count.result c.leaves_fault.result c.earlier.result c.earlier.ensures c.args.question c.in-Limits.is c.count_fault-count.ensures c.leaves_fault.ensures
 
 pub returns-in-Fresh : goal.returns-in-Fresh
 returns-in-Fresh c =
-    start-fresh c.args.low.now c.args.high.now c.args.nodes.now c.args.lists c.args.from c.args.root c.in-Fresh.is
+    start-fresh c.args.parsed.low.now c.args.parsed.high.now c.args.parsed.nodes.now c.args.parsed.lists c.args.from c.args.root c.in-Fresh.is
 
 pub returns-in-Given : goal.returns-in-Given
 returns-in-Given c =
-    start-given c.args.low.now c.args.high.now c.args.nodes.now c.args.lists c.args.from c.args.root c.requires.1 c.token_of-name.result c.third_of.result c.token_of-name.ensures c.third_of.ensures c.call_fault.result c.args.question c.in-Given.is c.call_fault.ensures
+    start-given c.args.parsed.low.now c.args.parsed.high.now c.args.parsed.nodes.now c.args.parsed.lists c.args.from c.args.root c.requires.1 c.token_of-name.result c.third_of.result c.token_of-name.ensures c.third_of.ensures c.call_fault.result c.args.question c.in-Given.is c.call_fault.ensures

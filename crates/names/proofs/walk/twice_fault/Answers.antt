@@ -6,16 +6,16 @@ use Rattle.names.proofs.walk.twice_fault.Goals as goal
 
 pub loop-j-init : goal.loop-j-init
 loop-j-init c =
-    twice-none c.args.nodes.now c.args.first c.args.n (packed c.args.low.now c.args.high.now)
+    twice-none c.args.parsed.nodes.now c.args.first c.args.n (packed c.args.parsed.low.now c.args.parsed.high.now)
 
 pub again_fault-requires : goal.again_fault-requires
 again_fault-requires c =
-    reach-less c.args.low.now c.args.high.now c.args.nodes.now c.args.first c.args.n (c.loop-j.j + 1) (omega arith) c.requires
+    reach-less c.args.parsed.low.now c.args.parsed.high.now c.args.parsed.nodes.now c.args.first c.args.n (c.loop-j.j + 1) (omega arith) c.requires
 
 pub loop-j-preserved : goal.loop-j-preserved
 loop-j-preserved c =
-    twice-on c.args.nodes.now c.args.first c.args.n (packed c.args.low.now c.args.high.now) c.loop-j.j (omega arith) c.loop-j.found c.again_fault.result c.earlier-found.result c.again_fault.ensures c.earlier-found.ensures c.loop-j.invariant
+    twice-on c.args.parsed.nodes.now c.args.first c.args.n (packed c.args.parsed.low.now c.args.parsed.high.now) c.loop-j.j (omega arith) c.loop-j.found c.again_fault.result c.earlier-found.result c.again_fault.ensures c.earlier-found.ensures c.loop-j.invariant
 
 pub returns : goal.returns
 returns c =
-    twice-end c.args.nodes.now c.args.first c.args.n (packed c.args.low.now c.args.high.now) c.loop-j.j (omega arith) c.loop-j.found c.loop-j.invariant
+    twice-end c.args.parsed.nodes.now c.args.first c.args.n (packed c.args.parsed.low.now c.args.parsed.high.now) c.loop-j.j (omega arith) c.loop-j.found c.loop-j.invariant

@@ -4,4 +4,4 @@ use Rattle.names.specs.Lists.{packed}
 use Rattle.names.proofs.walk.twice_fault.Given as goal
 
 abbrev pub invariant-loop-j : goal.invariant-loop-j
-invariant-loop-j l = Onward l.nodes l.first l.n (packed l.low l.high) l.found l.j
+invariant-loop-j l = Onward l.parsed.nodes.now l.first l.n (packed l.parsed.low.now l.parsed.high.now) l.found l.j

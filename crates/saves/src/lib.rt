@@ -15,6 +15,7 @@ ghost use Rattle.saves.specs.Places.{has_key, is_place, is_once, are_once, place
 ghost use Rattle.saves.specs.Change.{KeyPut, place_to_take, saving_numbers, returning_numbers, forgetting_numbers, Stores};
 
 use clock::Clock;
+use state::Shape;
 
 #[derive(Clone, Copy)]
 pub struct Layout;
@@ -240,20 +241,20 @@ fn is_clock(clock: &[i64]) -> bool
 }
 
 // Whether numbers are those of a state over the sums with these scopes and so many channel names, and of a clock.
-fn is_kept(kept: &[i64], scopes: &[u16], sums: usize, channels: usize) -> bool
-    requires { (length kept.now ≡ timed_length) × (sums ≤ length scopes.now) × FewLocals (take sums scopes.now) }
-    ensures { result ≡ is_kept (take sums scopes.now) channels kept.now }
+fn is_kept(kept: &[i64], shape: Shape) -> bool
+    requires { (length kept.now ≡ timed_length) × (shape.sums ≤ length shape.scopes.now) × FewLocals (take shape.sums shape.scopes.now) }
+    ensures { result ≡ is_kept (take shape.entry.sums shape.entry.scopes.now) shape.entry.channels kept.now }
 {
-    if !state::is_state(&kept[..Layout::STATE], scopes, sums, channels) {
+    if !state::is_state(&kept[..Layout::STATE], shape) {
         return false;
     }
     is_clock(&kept[Layout::STATE..])
 }
 
 // Whether a place is empty, or has a name, and a state and a clock.
-fn is_place(row: &[i64], scopes: &[u16], sums: usize, channels: usize) -> bool
-    requires { (length row.now ≡ place_width) × (sums ≤ length scopes.now) × FewLocals (take sums scopes.now) }
-    ensures { result ≡ is_place (take sums scopes.now) channels row.now }
+fn is_place(row: &[i64], shape: Shape) -> bool
+    requires { (length row.now ≡ place_width) × (shape.sums ≤ length shape.scopes.now) × FewLocals (take shape.sums shape.scopes.now) }
+    ensures { result ≡ is_place (take shape.entry.sums shape.entry.scopes.now) shape.entry.channels row.now }
 {
     if row[0] == 0 {
         return state::all_zero(row);
@@ -261,17 +262,17 @@ fn is_place(row: &[i64], scopes: &[u16], sums: usize, channels: usize) -> bool
     if !is_key(row[0], row[1]) {
         return false;
     }
-    is_kept(&row[Layout::KEY..Layout::PLACE], scopes, sums, channels)
+    is_kept(&row[Layout::KEY..Layout::PLACE], shape)
 }
 
-fn are_places(saves: &[i64], scopes: &[u16], sums: usize, channels: usize) -> bool
-    requires { (length saves.now ≡ saves_length) × (sums ≤ length scopes.now) × FewLocals (take sums scopes.now) }
-    ensures { result ≡ every (is_place (take sums scopes.now) channels) (places_of saves.now) }
+fn are_places(saves: &[i64], shape: Shape) -> bool
+    requires { (length saves.now ≡ saves_length) × (shape.sums ≤ length shape.scopes.now) × FewLocals (take shape.sums shape.scopes.now) }
+    ensures { result ≡ every (is_place (take shape.entry.sums shape.entry.scopes.now) shape.entry.channels) (places_of saves.now) }
 {
     for i in 0..Layout::PLACES {
         let from = i * Layout::PLACE;
         let to = from + Layout::PLACE;
-        if !is_place(&saves[from..to], scopes, sums, channels) {
+        if !is_place(&saves[from..to], shape) {
             return false;
         }
     }
@@ -303,11 +304,11 @@ fn are_once(saves: &[i64]) -> bool
 }
 
 // Whether the numbers are those of saves over the sums with these scopes and so many channel names.
-pub fn is_saves(saves: &[i64], scopes: &[u16], sums: usize, channels: usize) -> bool
-    requires { (length saves.now ≡ saves_length) × (sums ≤ length scopes.now) × FewLocals (take sums scopes.now) }
-    ensures { result ≡ is_saves (take sums scopes.now) channels saves.now }
+pub fn is_saves(saves: &[i64], shape: Shape) -> bool
+    requires { (length saves.now ≡ saves_length) × (shape.sums ≤ length shape.scopes.now) × FewLocals (take shape.sums shape.scopes.now) }
+    ensures { result ≡ is_saves (take shape.entry.sums shape.entry.scopes.now) shape.entry.channels saves.now }
 {
-    if !are_places(saves, scopes, sums, channels) {
+    if !are_places(saves, shape) {
         return false;
     }
     are_once(saves)

@@ -13,6 +13,14 @@ ghost use Rattle.state.specs.Fits.{FewLocals};
 ghost use Rattle.state.specs.Read.{Passed, process_count, pair_count, sum_at, locals_at, definition_number, pair_row};
 ghost use Rattle.state.specs.Test.{at, place_of, is_lit, values_past, every, rows, is_value, is_zero, is_below, is_padded, is_process, is_count, is_item, is_item_of, is_channel, is_pair, ascends, are_processes, are_pairs, is_state};
 
+// What a state is judged by: the scope of each of the sums, and how many channel names there are.
+#[derive(Clone, Copy)]
+pub struct Shape<'a> {
+    pub scopes: &'a [u16],
+    pub sums: usize,
+    pub channels: usize,
+}
+
 #[derive(Clone, Copy)]
 pub struct Layout;
 
@@ -117,16 +125,16 @@ fn is_number(z: i64, n: usize) -> bool
 }
 
 // Whether a row is a process of a sum that exists.
-fn is_process(row: &[i64], scopes: &[u16], sums: usize) -> bool
-    requires { (length row.now ≡ process_width) × (sums ≤ length scopes.now) × FewLocals (take sums scopes.now) }
-    ensures { result ≡ is_process (take sums scopes.now) row.now }
+fn is_process(row: &[i64], shape: Shape) -> bool
+    requires { (length row.now ≡ process_width) × (shape.sums ≤ length shape.scopes.now) × FewLocals (take shape.sums shape.scopes.now) }
+    ensures { result ≡ is_process (take shape.entry.sums shape.entry.scopes.now) row.now }
 {
     let z = row[0];
-    if !is_below(z, sums) {
+    if !is_below(z, shape.sums) {
         return false;
     }
     let sum = z as usize;
-    let scope = scopes[sum];
+    let scope = shape.scopes[sum];
     if !is_padded(&row[1..Layout::DEFINITION], locals_in(scope)) {
         return false;
     }
@@ -193,13 +201,13 @@ fn is_pair(row: &[i64], channels: usize) -> bool
     is_padded(&row[Layout::VALUES..], count as usize)
 }
 
-fn all_processes(s: &[i64], n: usize, scopes: &[u16], sums: usize) -> bool
-    requires { (n * process_width ≤ length s.now) × (sums ≤ length scopes.now) × FewLocals (take sums scopes.now) }
-    ensures { result ≡ every (is_process (take sums scopes.now)) (rows process_width n s.now) }
+fn all_processes(s: &[i64], n: usize, shape: Shape) -> bool
+    requires { (n * process_width ≤ length s.now) × (shape.sums ≤ length shape.scopes.now) × FewLocals (take shape.sums shape.scopes.now) }
+    ensures { result ≡ every (is_process (take shape.entry.sums shape.entry.scopes.now)) (rows process_width n s.now) }
 {
     s[..n * Layout::PROCESS]
         .chunks_exact(Layout::PROCESS)
-        .all(|row| is_process(row, scopes, sums))
+        .all(|row| is_process(row, shape))
 }
 
 fn all_pairs(s: &[i64], n: usize, channels: usize) -> bool
@@ -242,11 +250,11 @@ fn is_ascending(s: &[i64], n: usize) -> bool
 }
 
 // Whether n processes stand in the part of the processes, and zeros after them.
-fn are_processes(s: &[i64], n: usize, scopes: &[u16], sums: usize) -> bool
-    requires { (n * process_width ≤ length s.now) × (sums ≤ length scopes.now) × FewLocals (take sums scopes.now) }
-    ensures { result ≡ are_processes (take sums scopes.now) n s.now }
+fn are_processes(s: &[i64], n: usize, shape: Shape) -> bool
+    requires { (n * process_width ≤ length s.now) × (shape.sums ≤ length shape.scopes.now) × FewLocals (take shape.sums shape.scopes.now) }
+    ensures { result ≡ are_processes (take shape.entry.sums shape.entry.scopes.now) n s.now }
 {
-    all_processes(s, n, scopes, sums) && all_zero(&s[n * Layout::PROCESS..])
+    all_processes(s, n, shape) && all_zero(&s[n * Layout::PROCESS..])
 }
 
 // Whether n pairs ascend in the part of the pairs, and zeros stand after them.
@@ -265,9 +273,9 @@ fn are_pairs(s: &[i64], n: usize, channels: usize) -> bool
 }
 
 // Whether the numbers are those of a state over the sums with these scopes and so many channel names.
-pub fn is_state(state: &[i64], scopes: &[u16], sums: usize, channels: usize) -> bool
-    requires { (length state.now ≡ state_length) × (sums ≤ length scopes.now) × FewLocals (take sums scopes.now) }
-    ensures { result ≡ is_state (take sums scopes.now) channels state.now }
+pub fn is_state(state: &[i64], shape: Shape) -> bool
+    requires { (length state.now ≡ state_length) × (shape.sums ≤ length shape.scopes.now) × FewLocals (take shape.sums shape.scopes.now) }
+    ensures { result ≡ is_state (take shape.entry.sums shape.entry.scopes.now) shape.entry.channels state.now }
 {
     let processes = state[0];
     if !is_below(processes, Layout::PROCESS_COUNTS) {
@@ -280,12 +288,11 @@ pub fn is_state(state: &[i64], scopes: &[u16], sums: usize, channels: usize) -> 
     if !are_processes(
         &state[Layout::PROCESSES..Layout::PAIRS],
         processes as usize,
-        scopes,
-        sums,
+        shape,
     ) {
         return false;
     }
-    are_pairs(&state[Layout::PAIRS..], pairs as usize, channels)
+    are_pairs(&state[Layout::PAIRS..], pairs as usize, shape.channels)
 }
 
 // How many of n ascending pairs stand before a row.

@@ -4,7 +4,7 @@
 ghost use Rattle.std.specs.Prelude.{◌≡◌, true};
 ghost use Rattle.state.specs.Read.{Passed};
 
-use state::Layout;
+use state::{Layout, Shape};
 use std::io;
 use value::Range;
 
@@ -31,8 +31,12 @@ fn say(rt: &impl Print, text: &[u8]) -> io::Result<()> {
 fn is_good(state: &Numbers) -> bool
     ensures { result ≡ true → Passed state.now }
 {
-    let scopes = [2, 16, 8];
-    state::is_state(state, &scopes, Sample::SUMS, Sample::CHANNELS)
+    let shape = Shape {
+        scopes: &[2, 16, 8],
+        sums: Sample::SUMS,
+        channels: Sample::CHANNELS,
+    };
+    state::is_state(state, shape)
 }
 
 fn test(rt: &impl Print, label: &[u8], state: &Numbers) -> io::Result<()> {

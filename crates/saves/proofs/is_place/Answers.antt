@@ -12,12 +12,12 @@ use Rattle.saves.proofs.is_place.Goals as goal
 
 pub returns-then-row-eq0 : goal.returns-then-row-eq0
 returns-then-row-eq0 c =
-    c.all_zero.ensures ∙ sym (place-empty (take c.args.sums c.args.scopes.now) c.args.channels c.args.row.now (sym (same_bits (get_or c.args.row.now 0 (pos 0)) (pos 0) (ok-fits _ c.t6-1.given) (ok-fits (pos 0) (omega arith))) ∙ eq-eqb _ _ c.if-row-eq0.true))
+    c.all_zero.ensures ∙ sym (place-empty (take c.args.shape.sums c.args.shape.scopes.now) c.args.shape.channels c.args.row.now (sym (same_bits (get_or c.args.row.now 0 (pos 0)) (pos 0) (ok-fits _ c.t4-1.given) (ok-fits (pos 0) (omega arith))) ∙ eq-eqb _ _ c.if-row-eq0.true))
 
 pub returns-then-not-is_key : goal.returns-then-not-is_key
 returns-then-not-is_key c =
-    sym (place-bad (take c.args.sums c.args.scopes.now) c.args.channels c.args.row.now (sym (same_bits (get_or c.args.row.now 0 (pos 0)) (pos 0) (ok-fits _ c.t6-1.given) (ok-fits (pos 0) (omega arith))) ∙ ne_eqb _ _ c.if-row-eq0.false) (ap₂ is_key_of (sym (back (get_or c.args.row.now 0 (pos 0)) c.is_key-arg-1.given)) (sym (back (get_or c.args.row.now 1 (pos 0)) c.is_key-arg-2-1.given)) ∙ sym c.is_key.ensures ∙ refused c.is_key.result c.if-not-is_key.true-raw))
+    sym (place-bad (take c.args.shape.sums c.args.shape.scopes.now) c.args.shape.channels c.args.row.now (sym (same_bits (get_or c.args.row.now 0 (pos 0)) (pos 0) (ok-fits _ c.t4-1.given) (ok-fits (pos 0) (omega arith))) ∙ ne_eqb _ _ c.if-row-eq0.false) (ap₂ is_key_of (sym (back (get_or c.args.row.now 0 (pos 0)) c.is_key-arg-1.given)) (sym (back (get_or c.args.row.now 1 (pos 0)) c.is_key-arg-2-1.given)) ∙ sym c.is_key.ensures ∙ refused c.is_key.result c.if-not-is_key.true-raw))
 
 pub returns : goal.returns
 returns c =
-    c.is_kept.ensures ∙ sym (place-full (take c.args.sums c.args.scopes.now) c.args.channels c.args.row.now (sym (same_bits (get_or c.args.row.now 0 (pos 0)) (pos 0) (ok-fits _ c.t6-1.given) (ok-fits (pos 0) (omega arith))) ∙ ne_eqb _ _ c.if-row-eq0.false) (ap₂ is_key_of (sym (back (get_or c.args.row.now 0 (pos 0)) c.is_key-arg-1.given)) (sym (back (get_or c.args.row.now 1 (pos 0)) c.is_key-arg-2-1.given)) ∙ sym c.is_key.ensures ∙ passed c.is_key.result c.if-not-is_key.false-raw))
+    c.is_kept.ensures ∙ sym (place-full (take c.args.shape.sums c.args.shape.scopes.now) c.args.shape.channels c.args.row.now (sym (same_bits (get_or c.args.row.now 0 (pos 0)) (pos 0) (ok-fits _ c.t4-1.given) (ok-fits (pos 0) (omega arith))) ∙ ne_eqb _ _ c.if-row-eq0.false) (ap₂ is_key_of (sym (back (get_or c.args.row.now 0 (pos 0)) c.is_key-arg-1.given)) (sym (back (get_or c.args.row.now 1 (pos 0)) c.is_key-arg-2-1.given)) ∙ sym c.is_key.ensures ∙ passed c.is_key.result c.if-not-is_key.false-raw))

@@ -7,8 +7,8 @@ use Rattle.saves.proofs.is_saves.Goals as goal
 
 pub returns-then-not-are_places : goal.returns-then-not-are_places
 returns-then-not-are_places c =
-    sym (saves-fail (take c.args.sums c.args.scopes.now) c.args.channels c.args.saves.now (sym c.are_places.ensures ∙ refused c.are_places.result c.if-not-are_places.true-raw))
+    sym (saves-fail (take c.args.shape.sums c.args.shape.scopes.now) c.args.shape.channels c.args.saves.now (sym c.are_places.ensures ∙ refused c.are_places.result c.if-not-are_places.true-raw))
 
 pub returns : goal.returns
 returns c =
-    c.are_once.ensures ∙ sym (saves-rest (take c.args.sums c.args.scopes.now) c.args.channels c.args.saves.now (sym c.are_places.ensures ∙ passed c.are_places.result c.if-not-are_places.false-raw))
+    c.are_once.ensures ∙ sym (saves-rest (take c.args.shape.sums c.args.shape.scopes.now) c.args.shape.channels c.args.saves.now (sym c.are_places.ensures ∙ passed c.are_places.result c.if-not-are_places.false-raw))

@@ -14,32 +14,32 @@ use Rattle.state.proofs.is_process.Goals as goal
 
 pub returns-then-not-is_below : goal.returns-then-not-is_below
 returns-then-not-is_below c =
-    sym (process-fails c.args.scopes.now c.args.sums c.args.row.now c.requires.1 (rw (back (get_or c.args.row.now 0 (pos 0)) c.z-1.given) at (sym c.is_below.ensures) ∙ refused c.is_below.result c.if-not-is_below.true-raw))
+    sym (process-fails c.args.shape.scopes.now c.args.shape.sums c.args.row.now c.requires.1 (rw (back (get_or c.args.row.now 0 (pos 0)) c.z-1.given) at (sym c.is_below.ensures) ∙ refused c.is_below.result c.if-not-is_below.true-raw))
 
 pub overflow_cast-sum : goal.overflow_cast-sum
 overflow_cast-sum c =
-    rw (back (get_or c.args.row.now 0 (pos 0)) c.z-1.given) (below-fits c.args.sums (get_or c.args.row.now 0 (pos 0)) (ok-fits (get_or c.args.row.now 0 (pos 0)) c.z-1.given) (rw (back (get_or c.args.row.now 0 (pos 0)) c.z-1.given) at (sym c.is_below.ensures) ∙ passed c.is_below.result c.if-not-is_below.false-raw))
+    rw (back (get_or c.args.row.now 0 (pos 0)) c.z-1.given) (below-fits c.args.shape.sums (get_or c.args.row.now 0 (pos 0)) (ok-fits (get_or c.args.row.now 0 (pos 0)) c.z-1.given) (rw (back (get_or c.args.row.now 0 (pos 0)) c.z-1.given) at (sym c.is_below.ensures) ∙ passed c.is_below.result c.if-not-is_below.false-raw))
 
-pub offset_bounds-scopes-sum : goal.offset_bounds-scopes-sum
-offset_bounds-scopes-sum c =
-    rw (back (get_or c.args.row.now 0 (pos 0)) c.z-1.given) (omega (arith, below-bound c.args.sums (get_or c.args.row.now 0 (pos 0)) (rw (back (get_or c.args.row.now 0 (pos 0)) c.z-1.given) at (sym c.is_below.ensures) ∙ passed c.is_below.result c.if-not-is_below.false-raw), c.requires.1))
+pub offset_bounds-shape-sum : goal.offset_bounds-shape-sum
+offset_bounds-shape-sum c =
+    rw (back (get_or c.args.row.now 0 (pos 0)) c.z-1.given) (omega (arith, below-bound c.args.shape.sums (get_or c.args.row.now 0 (pos 0)) (rw (back (get_or c.args.row.now 0 (pos 0)) c.z-1.given) at (sym c.is_below.ensures) ∙ passed c.is_below.result c.if-not-is_below.false-raw), c.requires.1))
 
-pub bounds-scopes-sum : goal.bounds-scopes-sum
-bounds-scopes-sum c =
-    rw (back (get_or c.args.row.now 0 (pos 0)) c.z-1.given) (omega (arith, below-bound c.args.sums (get_or c.args.row.now 0 (pos 0)) (rw (back (get_or c.args.row.now 0 (pos 0)) c.z-1.given) at (sym c.is_below.ensures) ∙ passed c.is_below.result c.if-not-is_below.false-raw), c.requires.1))
+pub bounds-shape-sum : goal.bounds-shape-sum
+bounds-shape-sum c =
+    rw (back (get_or c.args.row.now 0 (pos 0)) c.z-1.given) (omega (arith, below-bound c.args.shape.sums (get_or c.args.row.now 0 (pos 0)) (rw (back (get_or c.args.row.now 0 (pos 0)) c.z-1.given) at (sym c.is_below.ensures) ∙ passed c.is_below.result c.if-not-is_below.false-raw), c.requires.1))
 
 pub is_padded-requires : goal.is_padded-requires
 is_padded-requires c =
-    let w : c.locals_in.result ≡ locals_in (get_or c.args.scopes.now (nat_abs (get_or c.args.row.now 0 (pos 0))) 0) = rw (back (get_or c.args.row.now 0 (pos 0)) c.z-1.given) at c.locals_in.ensures in
-    simp (length-take, length-drop) (omega (arith, w, few-locals c.args.scopes.now c.args.sums (nat_abs (get_or c.args.row.now 0 (pos 0))) c.requires.2 (below-bound c.args.sums (get_or c.args.row.now 0 (pos 0)) (rw (back (get_or c.args.row.now 0 (pos 0)) c.z-1.given) at (sym c.is_below.ensures) ∙ passed c.is_below.result c.if-not-is_below.false-raw)), c.requires.0))
+    let w : c.locals_in.result ≡ locals_in (get_or c.args.shape.scopes.now (nat_abs (get_or c.args.row.now 0 (pos 0))) 0) = rw (back (get_or c.args.row.now 0 (pos 0)) c.z-1.given) at c.locals_in.ensures in
+    simp (length-take, length-drop) (omega (arith, w, few-locals c.args.shape.scopes.now c.args.shape.sums (nat_abs (get_or c.args.row.now 0 (pos 0))) c.requires.2 (below-bound c.args.shape.sums (get_or c.args.row.now 0 (pos 0)) (rw (back (get_or c.args.row.now 0 (pos 0)) c.z-1.given) at (sym c.is_below.ensures) ∙ passed c.is_below.result c.if-not-is_below.false-raw)), c.requires.0))
 
 pub returns-then-not-is_padded : goal.returns-then-not-is_padded
 returns-then-not-is_padded c =
-    let w : c.locals_in.result ≡ locals_in (get_or c.args.scopes.now (nat_abs (get_or c.args.row.now 0 (pos 0))) 0) = rw (back (get_or c.args.row.now 0 (pos 0)) c.z-1.given) at c.locals_in.ensures in
-    sym (process-unpadded c.args.scopes.now c.args.sums c.args.row.now c.requires.1 (rw (back (get_or c.args.row.now 0 (pos 0)) c.z-1.given) at (sym c.is_below.ensures) ∙ passed c.is_below.result c.if-not-is_below.false-raw) (sym (ap (λ (k : ℕ). is_padded k (take local_limit (drop 1 c.args.row.now))) w) ∙ sym c.is_padded.ensures ∙ refused c.is_padded.result c.if-not-is_padded.true-raw))
+    let w : c.locals_in.result ≡ locals_in (get_or c.args.shape.scopes.now (nat_abs (get_or c.args.row.now 0 (pos 0))) 0) = rw (back (get_or c.args.row.now 0 (pos 0)) c.z-1.given) at c.locals_in.ensures in
+    sym (process-unpadded c.args.shape.scopes.now c.args.shape.sums c.args.row.now c.requires.1 (rw (back (get_or c.args.row.now 0 (pos 0)) c.z-1.given) at (sym c.is_below.ensures) ∙ passed c.is_below.result c.if-not-is_below.false-raw) (sym (ap (λ (k : ℕ). is_padded k (take local_limit (drop 1 c.args.row.now))) w) ∙ sym c.is_padded.ensures ∙ refused c.is_padded.result c.if-not-is_padded.true-raw))
 
 pub returns : goal.returns
 returns c =
-    let w : c.locals_in.result ≡ locals_in (get_or c.args.scopes.now (nat_abs (get_or c.args.row.now 0 (pos 0))) 0) = rw (back (get_or c.args.row.now 0 (pos 0)) c.z-1.given) at c.locals_in.ensures in
-    let v : c.definition_in.result ≡ definition_in (get_or c.args.scopes.now (nat_abs (get_or c.args.row.now 0 (pos 0))) 0) = rw (back (get_or c.args.row.now 0 (pos 0)) c.z-1.given) at c.definition_in.ensures.0 in
-    c.is_number.ensures ∙ ap₂ (λ (y : ℤ) (k : ℕ). is_same y (pos k)) (back (get_or c.args.row.now (1 + local_limit) (pos 0)) c.is_number-arg-1.given) v ∙ sym (process-rest c.args.scopes.now c.args.sums c.args.row.now c.requires.1 (rw (back (get_or c.args.row.now 0 (pos 0)) c.z-1.given) at (sym c.is_below.ensures) ∙ passed c.is_below.result c.if-not-is_below.false-raw) (sym (ap (λ (k : ℕ). is_padded k (take local_limit (drop 1 c.args.row.now))) w) ∙ sym c.is_padded.ensures ∙ passed c.is_padded.result c.if-not-is_padded.false-raw))
+    let w : c.locals_in.result ≡ locals_in (get_or c.args.shape.scopes.now (nat_abs (get_or c.args.row.now 0 (pos 0))) 0) = rw (back (get_or c.args.row.now 0 (pos 0)) c.z-1.given) at c.locals_in.ensures in
+    let v : c.definition_in.result ≡ definition_in (get_or c.args.shape.scopes.now (nat_abs (get_or c.args.row.now 0 (pos 0))) 0) = rw (back (get_or c.args.row.now 0 (pos 0)) c.z-1.given) at c.definition_in.ensures.0 in
+    c.is_number.ensures ∙ ap₂ (λ (y : ℤ) (k : ℕ). is_same y (pos k)) (back (get_or c.args.row.now (1 + local_limit) (pos 0)) c.is_number-arg-1.given) v ∙ sym (process-rest c.args.shape.scopes.now c.args.shape.sums c.args.row.now c.requires.1 (rw (back (get_or c.args.row.now 0 (pos 0)) c.z-1.given) at (sym c.is_below.ensures) ∙ passed c.is_below.result c.if-not-is_below.false-raw) (sym (ap (λ (k : ℕ). is_padded k (take local_limit (drop 1 c.args.row.now))) w) ∙ sym c.is_padded.ensures ∙ passed c.is_padded.result c.if-not-is_padded.false-raw))

@@ -18,19 +18,20 @@ ghost use Rattle.engine.specs.Waited.{Keeping, Returned};
 use crate::{Answer, Timed};
 use clock::Clock;
 use saves::Layout;
+use state::Shape;
 use store::Engine;
 use store::buffer::Bytes;
 use syntax::question;
 
 // Whether a state and saves are over the sums with these scopes and so many channel names.
-fn holds_model(scopes: &[u16], sums: usize, channels: usize, state: &[i64], saves: &[i64]) -> bool
-    requires { (length state.now ≡ state_length) × (length saves.now ≡ saves_length) × (sums ≤ length scopes.now) × FewLocals (take sums scopes.now) }
-    ensures { result ≡ (is_state (take sums scopes.now) channels state.now && is_saves (take sums scopes.now) channels saves.now) }
+fn holds_model(shape: Shape, state: &[i64], saves: &[i64]) -> bool
+    requires { (length state.now ≡ state_length) × (length saves.now ≡ saves_length) × (shape.sums ≤ length shape.scopes.now) × FewLocals (take shape.sums shape.scopes.now) }
+    ensures { result ≡ (is_state (take shape.entry.sums shape.entry.scopes.now) shape.entry.channels state.now && is_saves (take shape.entry.sums shape.entry.scopes.now) shape.entry.channels saves.now) }
 {
-    if !state::is_state(state, scopes, sums, channels) {
+    if !state::is_state(state, shape) {
         return false;
     }
-    saves::is_saves(saves, scopes, sums, channels)
+    saves::is_saves(saves, shape)
 }
 
 // Question 11 over a text that a model buffer holds.
@@ -44,7 +45,15 @@ fn holds_text(text: &[u8], state: &[i64], saves: &[i64]) -> bool
     let Ok((found, _)) = simulation::read_tables(text, &mut nodes, &mut roots, &mut scopes) else {
         return false;
     };
-    holds_model(&scopes, found.sums, found.channels, state, saves)
+    holds_model(
+        Shape {
+            scopes: &scopes,
+            sums: found.sums,
+            channels: found.channels,
+        },
+        state,
+        saves,
+    )
 }
 
 // Question 11 of buffers of the right lengths.

@@ -14,6 +14,7 @@ ghost use Rattle.engine.specs.Gives.{Gives};
 use crate::Answer;
 use steady::Profile;
 use syntax::question;
+use tables::Tables;
 use token::Limits;
 
 // Opens a text under a profile into buffers of the right lengths, where nothing is saved.
@@ -49,12 +50,15 @@ pub fn open_lent(profile: Profile, text: &[u8], model: &mut [u8], state: &mut [i
         Ok((found, _)) => {
             store::buffer::put_text(model, text);
             store::start::open_state(
-                &nodes,
-                found.root,
-                found.variables,
+                Tables {
+                    nodes: &nodes,
+                    roots: &roots,
+                    scopes: &scopes,
+                    root: found.root,
+                    variables: found.variables,
+                },
                 found.definitions,
                 state,
-                &scopes,
             );
             Answer::bare(0, 0, 0)
         }
@@ -73,9 +77,13 @@ pub fn list_text(text: &[u8], state: &[i64], listing: &mut [u64]) -> Answer
         return Answer::bare(11, 0, 0);
     };
     crate::listings::list_model(
-        &nodes,
-        &roots,
-        &scopes,
+        Tables {
+            nodes: &nodes,
+            roots: &roots,
+            scopes: &scopes,
+            root: found.root,
+            variables: found.variables,
+        },
         found.sums,
         found.channels,
         state,
@@ -95,11 +103,13 @@ pub fn step_text(text: &[u8], state: &mut [i64], listing: &mut [u64], draw: u64)
         return Answer::bare(11, 0, 0);
     };
     crate::steps::step_model(
-        &nodes,
-        &roots,
-        &scopes,
-        found.root,
-        found.variables,
+        Tables {
+            nodes: &nodes,
+            roots: &roots,
+            scopes: &scopes,
+            root: found.root,
+            variables: found.variables,
+        },
         found.sums,
         found.channels,
         state,
@@ -120,9 +130,13 @@ pub fn report_text(text: &[u8], state: &[i64], report: &mut [u64]) -> Answer
         return Answer::bare(11, 0, 0);
     };
     crate::subtotals::report_model(
-        &nodes,
-        &roots,
-        &scopes,
+        Tables {
+            nodes: &nodes,
+            roots: &roots,
+            scopes: &scopes,
+            root: found.root,
+            variables: found.variables,
+        },
         found.sums,
         found.channels,
         state,

@@ -13,6 +13,7 @@ ghost use Rattle.machine.specs.State.{process_width, process_numbers};
 ghost use Rattle.eval.specs.Held.{Held, Worth};
 ghost use Rattle.eval.specs.Next as Become;
 
+use tables::Tables;
 use tree::NodeKind;
 
 // The continuation of the branch at k behind its gate, if it has one.
@@ -65,11 +66,17 @@ pub fn less(a: usize, b: usize) -> usize
 }
 
 // The root of the sums of definition d.
-pub fn body_of(nodes: &[u64], root: usize, variables: usize, d: usize) -> usize
-    requires { 1 ≤ left_of (get_or nodes.now (root - variables - d) 0) }
-    ensures { result ≡ left_of (get_or nodes.now (root - variables - d) 0) - 1 }
+pub fn body_of(tables: Tables, d: usize) -> usize
+    requires { 1 ≤ left_of (get_or tables.nodes.now (tables.root - tables.variables - d) 0) }
+    ensures { result ≡ left_of (get_or tables.entry.nodes.now (tables.entry.root - tables.entry.variables - d) 0) - 1 }
 {
-    let cell = crate::cell_at(nodes, root.saturating_sub(variables).saturating_sub(d));
+    let cell = crate::cell_at(
+        tables.nodes,
+        tables
+            .root
+            .saturating_sub(tables.variables)
+            .saturating_sub(d),
+    );
     tree::left_of(cell) - 1
 }
 
@@ -92,24 +99,24 @@ fn cut(n: usize) -> usize
 }
 
 // How many processes the continuation at k becomes, up to MOST.
-pub fn count_processes(nodes: &[u64], root: usize, variables: usize, k: usize) -> usize
-    requires { Become.Continuation nodes.now root variables k }
-    ensures { (n : ℕ) (m : Resolved.Model) (ps : List Resolved.Part) (ls : List ℤ) → Become.Continues nodes.now root variables n m ps k → result ≡ Become.cut (length (next_processes m ls ps)) }
+pub fn count_processes(tables: Tables, k: usize) -> usize
+    requires { Become.Continuation tables.nodes.now tables.root tables.variables k }
+    ensures { (n : ℕ) (m : Resolved.Model) (ps : List Resolved.Part) (ls : List ℤ) → Become.Continues tables.entry.nodes.now tables.entry.root tables.entry.variables n m ps k → result ≡ Become.cut (length (next_processes m ls ps)) }
 {
-    let cell = crate::cell_at(nodes, k);
+    let cell = crate::cell_at(tables.nodes, k);
     let kind = tree::kind_of(cell);
     if kind == NodeKind::GROUP {
-        return count_processes(nodes, root, variables, k - 1);
+        return count_processes(tables, k - 1);
     }
     if kind == NodeKind::ITEM {
-        let a = count_processes(nodes, root, variables, tree::left_of(cell));
-        let b = count_processes(nodes, root, variables, k - 1);
+        let a = count_processes(tables, tree::left_of(cell));
+        let b = count_processes(tables, k - 1);
         return cut(a + b);
     }
     if kind == NodeKind::SUM {
         return 1;
     }
-    cut(count_sums(nodes, body_of(nodes, root, variables, tree::token_of(cell))))
+    cut(count_sums(tables.nodes, body_of(tables, tree::token_of(cell))))
 }
 
 // The numbers of a process: its sum, its locals, the unused ones 0, then its definition.
@@ -181,87 +188,67 @@ fn put_arguments(nodes: &[u64], locals: &[i64], k: usize, values: &mut [i64], at
 }
 
 // Writes a process for each sum at k from row `at` on; the row after them.
-fn put_sums(
-    nodes: &[u64],
-    k: usize,
-    locals: &[i64],
-    fresh: &mut [i64],
-    at: usize,
-    scopes: &[u16],
-) -> usize
-    requires { (Become.SumsFit nodes.now (length scopes.now) k (length fresh.old) at) × (length locals.now ≤ local_limit) }
-    ensures { (ns : List ℕ) → Represents.Sums nodes.now ns k → Become.Rows fresh.old at (Become.entered scopes.now ns locals.now) fresh.new result }
+fn put_sums(tables: Tables, k: usize, locals: &[i64], fresh: &mut [i64], at: usize) -> usize
+    requires { (Become.SumsFit tables.nodes.now (length tables.scopes.now) k (length fresh.old) at) × (length locals.now ≤ local_limit) }
+    ensures { (ns : List ℕ) → Represents.Sums tables.entry.nodes.now ns k → Become.Rows fresh.old at (Become.entered tables.entry.scopes.now ns locals.now) fresh.new result }
 {
-    let cell = crate::cell_at(nodes, k);
+    let cell = crate::cell_at(tables.nodes, k);
     if tree::kind_of(cell) != NodeKind::BESIDE {
-        put_row(tree::token_of(cell), locals, fresh, at, scopes);
+        put_row(tree::token_of(cell), locals, fresh, at, tables.scopes);
         return at + 1;
     }
-    let first = crate::cell_at(nodes, tree::left_of(cell));
-    put_row(tree::token_of(first), locals, fresh, at, scopes);
-    put_sums(nodes, k - 1, locals, fresh, at + 1, scopes)
+    let first = crate::cell_at(tables.nodes, tree::left_of(cell));
+    put_row(tree::token_of(first), locals, fresh, at, tables.scopes);
+    put_sums(tables, k - 1, locals, fresh, at + 1)
 }
 
 // Writes the processes of the call at k, whose values are the locals of the sums at `body`.
 fn put_call(
-    nodes: &[u64],
+    tables: Tables,
     locals: &[i64],
     k: usize,
     body: usize,
     fresh: &mut [i64],
     at: usize,
-    scopes: &[u16],
 ) -> usize
-    requires { (Become.CallFits nodes.now (length scopes.now) (length locals.now) k body (length fresh.old) at) × (Every InRange locals.now) }
-    ensures { (d : ℕ) (es : List Resolved.Expr) (ns : List ℕ) → Settled.Called nodes.now d es k → Represents.Sums nodes.now ns body → Become.Rows fresh.old at (Become.entered scopes.now ns (Become.arguments locals.now es)) fresh.new result }
+    requires { (Become.CallFits tables.nodes.now (length tables.scopes.now) (length locals.now) k body (length fresh.old) at) × (Every InRange locals.now) }
+    ensures { (d : ℕ) (es : List Resolved.Expr) (ns : List ℕ) → Settled.Called tables.entry.nodes.now d es k → Represents.Sums tables.entry.nodes.now ns body → Become.Rows fresh.old at (Become.entered tables.entry.scopes.now ns (Become.arguments locals.now es)) fresh.new result }
 {
-    let count = tree::third_of(crate::cell_at(nodes, k));
+    let count = tree::third_of(crate::cell_at(tables.nodes, k));
     let mut values = [0i64; Row::LOCALS];
-    put_arguments(nodes, locals, k - 1, &mut values, 0);
+    put_arguments(tables.nodes, locals, k - 1, &mut values, 0);
     let given = &values[..count];
-    put_sums(nodes, body, given, fresh, at, scopes)
+    put_sums(tables, body, given, fresh, at)
 }
 
 // Writes the processes that the continuation at k becomes from row `at` on; the row after them.
 pub fn put_processes(
-    nodes: &[u64],
-    root: usize,
-    variables: usize,
+    tables: Tables,
     locals: &[i64],
     k: usize,
     fresh: &mut [i64],
     at: usize,
-    scopes: &[u16],
 ) -> usize
-    requires { (Become.Spaced nodes.now scopes.now root variables locals.now k (length fresh.old) at) × (Every InRange locals.now) }
-    ensures { (m : Resolved.Model) (ps : List Resolved.Part) → Become.Continues nodes.now root variables (length locals.now) m ps k → Become.Scoped scopes.now m → Become.Rows fresh.old at (next_processes m locals.now ps) fresh.new result }
+    requires { (Become.Spaced tables.nodes.now tables.scopes.now tables.root tables.variables locals.now k (length fresh.old) at) × (Every InRange locals.now) }
+    ensures { (m : Resolved.Model) (ps : List Resolved.Part) → Become.Continues tables.entry.nodes.now tables.entry.root tables.entry.variables (length locals.now) m ps k → Become.Scoped tables.entry.scopes.now m → Become.Rows fresh.old at (next_processes m locals.now ps) fresh.new result }
 {
-    let cell = crate::cell_at(nodes, k);
+    let cell = crate::cell_at(tables.nodes, k);
     let kind = tree::kind_of(cell);
     if kind == NodeKind::GROUP {
-        return put_processes(nodes, root, variables, locals, k - 1, fresh, at, scopes);
+        return put_processes(tables, locals, k - 1, fresh, at);
     }
     if kind == NodeKind::ITEM {
-        let next = put_processes(
-            nodes,
-            root,
-            variables,
-            locals,
-            tree::left_of(cell),
-            fresh,
-            at,
-            scopes,
-        );
-        return put_processes(nodes, root, variables, locals, k - 1, fresh, next, scopes);
+        let next = put_processes(tables, locals, tree::left_of(cell), fresh, at);
+        return put_processes(tables, locals, k - 1, fresh, next);
     }
     let token = tree::token_of(cell);
     if kind == NodeKind::SUM {
-        put_row(token, locals, fresh, at, scopes);
+        put_row(token, locals, fresh, at, tables.scopes);
         return at + 1;
     }
-    let body = body_of(nodes, root, variables, token);
+    let body = body_of(tables, token);
     if kind == NodeKind::CALL {
-        return put_sums(nodes, body, &locals[..0], fresh, at, scopes);
+        return put_sums(tables, body, &locals[..0], fresh, at);
     }
-    put_call(nodes, locals, k, body, fresh, at, scopes)
+    put_call(tables, locals, k, body, fresh, at)
 }

@@ -37,8 +37,9 @@ ghost use Rattle.listing.specs.Buffer.{entry_of, entry_in, image, cut, Adds, use
 
 use eval::offer::{Offer, OfferSet};
 pub use machine::EntryKind;
-use offers::{Stop, Table};
+use offers::{Offers, Stop, Table};
 use state::{Layout, Run};
+use tables::Tables;
 use tree::NodeKind;
 
 #[derive(Clone, Copy)]
@@ -376,34 +377,31 @@ fn same_channel(o: Offer, p: Offer) -> bool
 }
 
 // Whether the handshake receive in a row matches what a branch sends.
-fn row_matches(
-    nodes: &[u64],
-    scopes: &[u16],
-    state: &[i64],
-    heads: &[u64],
-    numbers: &[i64],
-    row: usize,
-    sender: Offer,
-) -> bool
-    requires { ((roots : List ℕ) × (rows : ℕ) × (m : Resolved.Model) × (s : State) × Ready nodes.now roots scopes.now state.now heads.now numbers.now rows m s × (row < rows)) × (node.hand_receive ≤ kind_in (get_or heads.now row 0)) × (row < length heads.now) × (length numbers.now ≡ length heads.now * row_width) }
-    ensures { (roots : List ℕ) (rows : ℕ) (m : Resolved.Model) (s : State) (y : Slot) (w : offers.Query) (x : offers.Pair) → Ready nodes.now roots scopes.now state.now heads.now numbers.now rows m s → get_elem? (slots_of m 0 s.processes) row ≡ some y → ShowsQuery nodes.now (locals_of s.processes y.place) (offer_in heads.now numbers.now row) w → ShowsPair sender x → result ≡ matches w x }
+fn row_matches(tables: Tables, state: &[i64], offered: Offers, row: usize, sender: Offer) -> bool
+    requires { ((roots : List ℕ) × (rows : ℕ) × (m : Resolved.Model) × (s : State) × Ready tables.nodes.now roots tables.scopes.now state.now offered.heads.now offered.numbers.now rows m s × (row < rows)) × (node.hand_receive ≤ kind_in (get_or offered.heads.now row 0)) × (row < length offered.heads.now) × (length offered.numbers.now ≡ length offered.heads.now * row_width) }
+    ensures { (roots : List ℕ) (rows : ℕ) (m : Resolved.Model) (s : State) (y : Slot) (w : offers.Query) (x : offers.Pair) → Ready tables.entry.nodes.now roots tables.entry.scopes.now state.now offered.entry.heads.now offered.entry.numbers.now rows m s → get_elem? (slots_of m 0 s.processes) row ≡ some y → ShowsQuery tables.entry.nodes.now (locals_of s.processes y.place) (offer_in offered.entry.heads.now offered.entry.numbers.now row) w → ShowsPair sender x → result ≡ matches w x }
 {
-    let o = offers::offer_at(heads, numbers, row);
+    let o = offers::offer_at(offered, row);
     if !same_channel(o, sender) {
         return false;
     }
-    let place = offers::place_in(heads[row]);
-    let locals = offers::locals_of(scopes, state, place);
-    values_match(nodes, locals, o, sender.count, sender.first, sender.second)
+    let place = offers::place_in(offered.heads[row]);
+    let locals = offers::locals_of(tables.scopes, state, place);
+    values_match(
+        tables.nodes,
+        locals,
+        o,
+        sender.count,
+        sender.first,
+        sender.second,
+    )
 }
 
 // The entry of a handshake with the receive in a row, if that is of another process and matches.
 fn list_partner(
-    nodes: &[u64],
-    scopes: &[u16],
+    tables: Tables,
     state: &[i64],
-    heads: &[u64],
-    numbers: &[i64],
+    offered: Offers,
     row: usize,
     sender: Offer,
     place: usize,
@@ -411,15 +409,15 @@ fn list_partner(
     listing: &mut [u64],
     count: usize,
 ) -> usize
-    requires { ((roots : List ℕ) × (rows : ℕ) × (m : Resolved.Model) × (s : State) × Ready nodes.now roots scopes.now state.now heads.now numbers.now rows m s × (row < rows)) × (node.hand_receive ≤ kind_in (get_or heads.now row 0)) × (row < length heads.now) × (length numbers.now ≡ length heads.now * row_width) × (sender.rate ≤ rate_limit) × (length listing.old ≡ listing_length) × (count ≤ suc entry_limit) }
-    ensures { ((roots : List ℕ) (rows : ℕ) (m : Resolved.Model) (s : State) (y : Slot) (x : offers.Pair) → Ready nodes.now roots scopes.now state.now heads.now numbers.now rows m s → get_elem? (slots_of m 0 s.processes) row ≡ some y → ShowsPair sender x → Adds (partner_of x sender.rate place branch y) listing.old count listing.new result) × (length listing.new ≡ listing_length) × (result ≤ suc entry_limit) }
+    requires { ((roots : List ℕ) × (rows : ℕ) × (m : Resolved.Model) × (s : State) × Ready tables.nodes.now roots tables.scopes.now state.now offered.heads.now offered.numbers.now rows m s × (row < rows)) × (node.hand_receive ≤ kind_in (get_or offered.heads.now row 0)) × (row < length offered.heads.now) × (length offered.numbers.now ≡ length offered.heads.now * row_width) × (sender.rate ≤ rate_limit) × (length listing.old ≡ listing_length) × (count ≤ suc entry_limit) }
+    ensures { ((roots : List ℕ) (rows : ℕ) (m : Resolved.Model) (s : State) (y : Slot) (x : offers.Pair) → Ready tables.entry.nodes.now roots tables.entry.scopes.now state.now offered.entry.heads.now offered.entry.numbers.now rows m s → get_elem? (slots_of m 0 s.processes) row ≡ some y → ShowsPair sender x → Adds (partner_of x sender.rate place branch y) listing.old count listing.new result) × (length listing.new ≡ listing_length) × (result ≤ suc entry_limit) }
 {
-    let head = heads[row];
+    let head = offered.heads[row];
     let partner = offers::place_in(head);
     if partner == place {
         return count;
     }
-    if !row_matches(nodes, scopes, state, heads, numbers, row, sender) {
+    if !row_matches(tables, state, offered, row, sender) {
         return count;
     }
     let pbranch = offers::branch_in(head);
@@ -442,32 +440,27 @@ fn list_partner(
 
 // The entries of a handshake send: one for each receive of another process that matches.
 fn list_partners(
-    nodes: &[u64],
-    scopes: &[u16],
+    tables: Tables,
     state: &[i64],
-    heads: &[u64],
-    numbers: &[i64],
-    rows: usize,
-    firsts: &[u16],
-    nexts: &[u16],
+    offered: Offers,
     sender: Offer,
     place: usize,
     branch: usize,
     listing: &mut [u64],
     count: usize,
 ) -> usize
-    requires { ((roots : List ℕ) × (m : Resolved.Model) × (s : State) × Ready nodes.now roots scopes.now state.now heads.now numbers.now rows m s) × (Linked heads.now numbers.now rows 0 firsts.now nexts.now) × (length firsts.now ≡ bucket_limit) × (length nexts.now ≡ length heads.now) × (rows ≤ length heads.now) × (length numbers.now ≡ length heads.now * row_width) × (sender.rate ≤ rate_limit) × (length listing.old ≡ listing_length) × (count ≤ suc entry_limit) }
-    ensures { ((roots : List ℕ) (m : Resolved.Model) (s : State) (x : offers.Pair) → Ready nodes.now roots scopes.now state.now heads.now numbers.now rows m s → ShowsPair sender x → Adds (gather (λ n. partner_of x sender.rate place branch) (slots_of m 0 s.processes)) listing.old count listing.new result) × (length listing.new ≡ listing_length) × (result ≤ suc entry_limit) }
+    requires { ((roots : List ℕ) × (m : Resolved.Model) × (s : State) × Ready tables.nodes.now roots tables.scopes.now state.now offered.heads.now offered.numbers.now offered.rows m s) × (Linked offered.heads.now offered.numbers.now offered.rows 0 offered.firsts.now offered.nexts.now) × (length offered.firsts.now ≡ bucket_limit) × (length offered.nexts.now ≡ length offered.heads.now) × (offered.rows ≤ length offered.heads.now) × (length offered.numbers.now ≡ length offered.heads.now * row_width) × (sender.rate ≤ rate_limit) × (length listing.old ≡ listing_length) × (count ≤ suc entry_limit) }
+    ensures { ((roots : List ℕ) (m : Resolved.Model) (s : State) (x : offers.Pair) → Ready tables.entry.nodes.now roots tables.entry.scopes.now state.now offered.entry.heads.now offered.entry.numbers.now offered.entry.rows m s → ShowsPair sender x → Adds (gather (λ n. partner_of x sender.rate place branch) (slots_of m 0 s.processes)) listing.old count listing.new result) × (length listing.new ≡ listing_length) × (result ≤ suc entry_limit) }
 {
     let bucket = offers::bucket_of(sender.channel, sender.channel2, sender.channel3);
-    let mut row = firsts[bucket] as usize;
+    let mut row = offered.firsts[bucket] as usize;
     let mut n = count;
     // A while: it follows links.
-    while row < rows {
+    while row < offered.rows {
         n = list_partner(
-            nodes, scopes, state, heads, numbers, row, sender, place, branch, listing, n,
+            tables, state, offered, row, sender, place, branch, listing, n,
         );
-        row = nexts[row] as usize;
+        row = offered.nexts[row] as usize;
     }
     n
 }
@@ -502,8 +495,7 @@ fn list_alone(
 
 // The entries of a receive or a check.
 fn list_query(
-    nodes: &[u64],
-    scopes: &[u16],
+    tables: Tables,
     state: &[i64],
     o: Offer,
     place: usize,
@@ -511,17 +503,27 @@ fn list_query(
     listing: &mut [u64],
     count: usize,
 ) -> usize
-    requires { ((roots : List ℕ) × (m : Resolved.Model) × (s : State) × (a : offers.Action) × World nodes.now roots scopes.now state.now m s × ShowsAction nodes.now (locals_of s.processes place) o a) × (node.kill < o.kind) × (o.kind < node.hand_send) × (place < process_count state.now) × (o.rate ≤ rate_limit) × (length listing.old ≡ listing_length) × (count ≤ suc entry_limit) }
-    ensures { ((roots : List ℕ) (m : Resolved.Model) (s : State) (a : offers.Action) → World nodes.now roots scopes.now state.now m s → ShowsAction nodes.now (locals_of s.processes place) o a → Adds (of_action (branches m) s place branch o.rate a) listing.old count listing.new result) × (length listing.new ≡ listing_length) × (result ≤ suc entry_limit) }
+    requires { ((roots : List ℕ) × (m : Resolved.Model) × (s : State) × (a : offers.Action) × World tables.nodes.now roots tables.scopes.now state.now m s × ShowsAction tables.nodes.now (locals_of s.processes place) o a) × (node.kill < o.kind) × (o.kind < node.hand_send) × (place < process_count state.now) × (o.rate ≤ rate_limit) × (length listing.old ≡ listing_length) × (count ≤ suc entry_limit) }
+    ensures { ((roots : List ℕ) (m : Resolved.Model) (s : State) (a : offers.Action) → World tables.entry.nodes.now roots tables.entry.scopes.now state.now m s → ShowsAction tables.entry.nodes.now (locals_of s.processes place) o a → Adds (of_action (branches m) s place branch o.rate a) listing.old count listing.new result) × (length listing.new ≡ listing_length) × (result ≤ suc entry_limit) }
 {
     let kind = o.kind;
     let rate = o.rate;
-    let locals = offers::locals_of(scopes, state, place);
+    let locals = offers::locals_of(tables.scopes, state, place);
     let run = run_of(state, o);
     if kind == NodeKind::BIND {
-        return list_bound(nodes, locals, state, o, run, place, branch, listing, count);
+        return list_bound(
+            tables.nodes,
+            locals,
+            state,
+            o,
+            run,
+            place,
+            branch,
+            listing,
+            count,
+        );
     }
-    let lit = any_match(nodes, locals, state, o, run);
+    let lit = any_match(tables.nodes, locals, state, o, run);
     if kind == NodeKind::RECEIVE {
         if lit {
             return list_alone(rate, EntryKind::RECEIVE, place, branch, listing, count);
@@ -536,37 +538,29 @@ fn list_query(
 
 // The entries of the branch in a row.
 fn list_row(
-    nodes: &[u64],
-    scopes: &[u16],
+    tables: Tables,
     state: &[i64],
-    heads: &[u64],
-    numbers: &[i64],
-    rows: usize,
-    firsts: &[u16],
-    nexts: &[u16],
+    offered: Offers,
     row: usize,
     listing: &mut [u64],
     count: usize,
 ) -> usize
-    requires { ((roots : List ℕ) × (m : Resolved.Model) × (s : State) × Ready nodes.now roots scopes.now state.now heads.now numbers.now rows m s) × (Linked heads.now numbers.now rows 0 firsts.now nexts.now) × (length firsts.now ≡ bucket_limit) × (length nexts.now ≡ length heads.now) × (rows ≤ length heads.now) × (length numbers.now ≡ length heads.now * row_width) × (row < rows) × (length listing.old ≡ listing_length) × (count ≤ suc entry_limit) }
-    ensures { ((roots : List ℕ) (m : Resolved.Model) (s : State) (y : Slot) → Ready nodes.now roots scopes.now state.now heads.now numbers.now rows m s → get_elem? (slots_of m 0 s.processes) row ≡ some y → Adds (of_slot (branches m) s y) listing.old count listing.new result) × (length listing.new ≡ listing_length) × (result ≤ suc entry_limit) }
+    requires { ((roots : List ℕ) × (m : Resolved.Model) × (s : State) × Ready tables.nodes.now roots tables.scopes.now state.now offered.heads.now offered.numbers.now offered.rows m s) × (Linked offered.heads.now offered.numbers.now offered.rows 0 offered.firsts.now offered.nexts.now) × (length offered.firsts.now ≡ bucket_limit) × (length offered.nexts.now ≡ length offered.heads.now) × (offered.rows ≤ length offered.heads.now) × (length offered.numbers.now ≡ length offered.heads.now * row_width) × (row < offered.rows) × (length listing.old ≡ listing_length) × (count ≤ suc entry_limit) }
+    ensures { ((roots : List ℕ) (m : Resolved.Model) (s : State) (y : Slot) → Ready tables.entry.nodes.now roots tables.entry.scopes.now state.now offered.entry.heads.now offered.entry.numbers.now offered.entry.rows m s → get_elem? (slots_of m 0 s.processes) row ≡ some y → Adds (of_slot (branches m) s y) listing.old count listing.new result) × (length listing.new ≡ listing_length) × (result ≤ suc entry_limit) }
 {
-    let head = heads[row];
+    let head = offered.heads[row];
     let place = offers::place_in(head);
     let branch = offers::branch_in(head);
-    let o = offers::offer_at(heads, numbers, row);
+    let o = offers::offer_at(offered, row);
     let kind = o.kind;
     if NodeKind::HAND_SEND < kind {
         return count;
     }
     if kind == NodeKind::HAND_SEND {
-        return list_partners(
-            nodes, scopes, state, heads, numbers, rows, firsts, nexts, o, place, branch, listing,
-            count,
-        );
+        return list_partners(tables, state, offered, o, place, branch, listing, count);
     }
     if NodeKind::KILL < kind {
-        return list_query(nodes, scopes, state, o, place, branch, listing, count);
+        return list_query(tables, state, o, place, branch, listing, count);
     }
     let rate = o.rate;
     list_alone(
@@ -580,37 +574,23 @@ fn list_row(
 }
 
 // The entries of all rows, in order; none is sought past the first that the buffer has no room for.
-fn list_rows(
-    nodes: &[u64],
-    scopes: &[u16],
-    state: &[i64],
-    heads: &[u64],
-    numbers: &[i64],
-    rows: usize,
-    firsts: &[u16],
-    nexts: &[u16],
-    listing: &mut [u64],
-) -> usize
-    requires { ((roots : List ℕ) × (m : Resolved.Model) × (s : State) × Ready nodes.now roots scopes.now state.now heads.now numbers.now rows m s) × (Linked heads.now numbers.now rows 0 firsts.now nexts.now) × (length firsts.now ≡ bucket_limit) × (length nexts.now ≡ length heads.now) × (rows ≤ length heads.now) × (length numbers.now ≡ length heads.now * row_width) × (length listing.old ≡ listing_length) }
-    ensures { ((roots : List ℕ) (m : Resolved.Model) (s : State) → Ready nodes.now roots scopes.now state.now heads.now numbers.now rows m s → Adds (entries (branches m) s) listing.old 0 listing.new result) × (length listing.new ≡ listing_length) × (result ≤ suc entry_limit) }
+fn list_rows(tables: Tables, state: &[i64], offered: Offers, listing: &mut [u64]) -> usize
+    requires { ((roots : List ℕ) × (m : Resolved.Model) × (s : State) × Ready tables.nodes.now roots tables.scopes.now state.now offered.heads.now offered.numbers.now offered.rows m s) × (Linked offered.heads.now offered.numbers.now offered.rows 0 offered.firsts.now offered.nexts.now) × (length offered.firsts.now ≡ bucket_limit) × (length offered.nexts.now ≡ length offered.heads.now) × (offered.rows ≤ length offered.heads.now) × (length offered.numbers.now ≡ length offered.heads.now * row_width) × (length listing.old ≡ listing_length) }
+    ensures { ((roots : List ℕ) (m : Resolved.Model) (s : State) → Ready tables.entry.nodes.now roots tables.entry.scopes.now state.now offered.entry.heads.now offered.entry.numbers.now offered.entry.rows m s → Adds (entries (branches m) s) listing.old 0 listing.new result) × (length listing.new ≡ listing_length) × (result ≤ suc entry_limit) }
 {
     let mut count = 0;
-    for row in 0..rows {
+    for row in 0..offered.rows {
         if Limits::ENTRIES < count {
             return count;
         }
-        count = list_row(
-            nodes, scopes, state, heads, numbers, rows, firsts, nexts, row, listing, count,
-        );
+        count = list_row(tables, state, offered, row, listing, count);
     }
     count
 }
 
 // Lists what can happen next, questions 12 to 14, if the lent tables have a row for each offer. What stands in the buffer after the entries stays.
 fn try_over(
-    nodes: &[u64],
-    roots: &[u16],
-    scopes: &[u16],
+    tables: Tables,
     state: &[i64],
     heads: &mut [u64],
     numbers: &mut [i64],
@@ -618,15 +598,24 @@ fn try_over(
     nexts: &mut [u16],
     listing: &mut [u64],
 ) -> Option<Result<(usize, u64), Refusal>>
-    requires { ((m : Resolved.Model) × (s : State) × World nodes.now roots.now scopes.now state.now m s) × (length numbers.old ≡ length heads.old * row_width) × (length firsts.old ≡ bucket_limit) × (length nexts.old ≡ length heads.old) × (length listing.old ≡ listing_length) }
-    ensures { (m : Resolved.Model) (s : State) → World nodes.now roots.now scopes.now state.now m s → TriesOver (length heads.old) (machine.listing m s) listing.new result }
+    requires { ((m : Resolved.Model) × (s : State) × World tables.nodes.now tables.roots.now tables.scopes.now state.now m s) × (length numbers.old ≡ length heads.old * row_width) × (length firsts.old ≡ bucket_limit) × (length nexts.old ≡ length heads.old) × (length listing.old ≡ listing_length) }
+    ensures { (m : Resolved.Model) (s : State) → World tables.entry.nodes.now tables.entry.roots.now tables.entry.scopes.now state.now m s → TriesOver (length heads.old) (machine.listing m s) listing.new result }
 {
-    let collected = offers::collect(nodes, roots, scopes, state, heads, numbers);
+    let collected = offers::collect(tables, state, heads, numbers);
     match collected {
         Ok(rows) => {
             offers::link(heads, numbers, rows, firsts, nexts);
             let count = list_rows(
-                nodes, scopes, state, heads, numbers, rows, firsts, nexts, listing,
+                tables,
+                state,
+                Offers {
+                    heads,
+                    numbers,
+                    rows,
+                    firsts,
+                    nexts,
+                },
+                listing,
             );
             let listed = judge(listing, count);
             Some(listed)
@@ -644,9 +633,7 @@ fn try_over(
 
 // The same in lent tables with room for all offers.
 pub fn list_over(
-    nodes: &[u64],
-    roots: &[u16],
-    scopes: &[u16],
+    tables: Tables,
     state: &[i64],
     heads: &mut [u64],
     numbers: &mut [i64],
@@ -654,12 +641,10 @@ pub fn list_over(
     nexts: &mut [u16],
     listing: &mut [u64],
 ) -> Result<(usize, u64), Refusal>
-    requires { ((m : Resolved.Model) × (s : State) × World nodes.now roots.now scopes.now state.now m s) × (length heads.old ≡ row_limit) × (length numbers.old ≡ row_limit * row_width) × (length firsts.old ≡ bucket_limit) × (length nexts.old ≡ row_limit) × (length listing.old ≡ listing_length) }
-    ensures { (m : Resolved.Model) (s : State) → World nodes.now roots.now scopes.now state.now m s → Leads (machine.listing m s) result listing.new }
+    requires { ((m : Resolved.Model) × (s : State) × World tables.nodes.now tables.roots.now tables.scopes.now state.now m s) × (length heads.old ≡ row_limit) × (length numbers.old ≡ row_limit * row_width) × (length firsts.old ≡ bucket_limit) × (length nexts.old ≡ row_limit) × (length listing.old ≡ listing_length) }
+    ensures { (m : Resolved.Model) (s : State) → World tables.entry.nodes.now tables.entry.roots.now tables.entry.scopes.now state.now m s → Leads (machine.listing m s) result listing.new }
 {
-    let tried = try_over(
-        nodes, roots, scopes, state, heads, numbers, firsts, nexts, listing,
-    );
+    let tried = try_over(tables, state, heads, numbers, firsts, nexts, listing);
     tried.unwrap_or(Err(Refusal {
         number: 12,
         place: 0,
@@ -669,9 +654,7 @@ pub fn list_over(
 
 // The same if the lent tables have a row for each offer, with zeros after the entries.
 fn list_into(
-    nodes: &[u64],
-    roots: &[u16],
-    scopes: &[u16],
+    tables: Tables,
     state: &[i64],
     heads: &mut [u64],
     numbers: &mut [i64],
@@ -679,21 +662,17 @@ fn list_into(
     nexts: &mut [u16],
     listing: &mut [u64],
 ) -> Option<Result<(usize, u64), Refusal>>
-    requires { ((m : Resolved.Model) × (s : State) × World nodes.now roots.now scopes.now state.now m s) × (length numbers.old ≡ length heads.old * row_width) × (length firsts.old ≡ bucket_limit) × (length nexts.old ≡ length heads.old) × (length listing.old ≡ listing_length) }
-    ensures { (m : Resolved.Model) (s : State) → World nodes.now roots.now scopes.now state.now m s → Tries (length heads.old) (machine.listing m s) listing.new result }
+    requires { ((m : Resolved.Model) × (s : State) × World tables.nodes.now tables.roots.now tables.scopes.now state.now m s) × (length numbers.old ≡ length heads.old * row_width) × (length firsts.old ≡ bucket_limit) × (length nexts.old ≡ length heads.old) × (length listing.old ≡ listing_length) }
+    ensures { (m : Resolved.Model) (s : State) → World tables.entry.nodes.now tables.entry.roots.now tables.entry.scopes.now state.now m s → Tries (length heads.old) (machine.listing m s) listing.new result }
 {
-    let listed = try_over(
-        nodes, roots, scopes, state, heads, numbers, firsts, nexts, listing,
-    )?;
+    let listed = try_over(tables, state, heads, numbers, firsts, nexts, listing)?;
     clear_unused(listing, listed);
     Some(listed)
 }
 
 // The same in lent tables with room for all offers.
 pub fn list_all(
-    nodes: &[u64],
-    roots: &[u16],
-    scopes: &[u16],
+    tables: Tables,
     state: &[i64],
     heads: &mut [u64],
     numbers: &mut [i64],
@@ -701,12 +680,10 @@ pub fn list_all(
     nexts: &mut [u16],
     listing: &mut [u64],
 ) -> Result<(usize, u64), Refusal>
-    requires { ((m : Resolved.Model) × (s : State) × World nodes.now roots.now scopes.now state.now m s) × (length heads.old ≡ row_limit) × (length numbers.old ≡ row_limit * row_width) × (length firsts.old ≡ bucket_limit) × (length nexts.old ≡ row_limit) × (length listing.old ≡ listing_length) }
-    ensures { (m : Resolved.Model) (s : State) → World nodes.now roots.now scopes.now state.now m s → Lists (machine.listing m s) result listing.new }
+    requires { ((m : Resolved.Model) × (s : State) × World tables.nodes.now tables.roots.now tables.scopes.now state.now m s) × (length heads.old ≡ row_limit) × (length numbers.old ≡ row_limit * row_width) × (length firsts.old ≡ bucket_limit) × (length nexts.old ≡ row_limit) × (length listing.old ≡ listing_length) }
+    ensures { (m : Resolved.Model) (s : State) → World tables.entry.nodes.now tables.entry.roots.now tables.entry.scopes.now state.now m s → Lists (machine.listing m s) result listing.new }
 {
-    let tried = list_into(
-        nodes, roots, scopes, state, heads, numbers, firsts, nexts, listing,
-    );
+    let tried = list_into(tables, state, heads, numbers, firsts, nexts, listing);
     tried.unwrap_or(Err(Refusal {
         number: 12,
         place: 0,
@@ -716,23 +693,19 @@ pub fn list_all(
 
 // The same in small tables, if these have room.
 fn list_few(
-    nodes: &[u64],
-    roots: &[u16],
-    scopes: &[u16],
+    tables: Tables,
     state: &[i64],
     listing: &mut [u64],
 ) -> Option<Result<(usize, u64), Refusal>>
-    requires { ((m : Resolved.Model) × (s : State) × World nodes.now roots.now scopes.now state.now m s) × (length listing.old ≡ listing_length) }
-    ensures { (m : Resolved.Model) (s : State) → World nodes.now roots.now scopes.now state.now m s → Tries few_rows (machine.listing m s) listing.new result }
+    requires { ((m : Resolved.Model) × (s : State) × World tables.nodes.now tables.roots.now tables.scopes.now state.now m s) × (length listing.old ≡ listing_length) }
+    ensures { (m : Resolved.Model) (s : State) → World tables.entry.nodes.now tables.entry.roots.now tables.entry.scopes.now state.now m s → Tries few_rows (machine.listing m s) listing.new result }
 {
     let mut heads = [0u64; Table::FEW];
     let mut numbers = [0i64; Table::FEW_NUMBERS];
     let mut firsts = [0u16; Table::BUCKETS];
     let mut nexts = [0u16; Table::FEW];
     list_into(
-        nodes,
-        roots,
-        scopes,
+        tables,
         state,
         &mut heads,
         &mut numbers,
@@ -743,24 +716,16 @@ fn list_few(
 }
 
 // The same in tables with room for all offers.
-fn list_many(
-    nodes: &[u64],
-    roots: &[u16],
-    scopes: &[u16],
-    state: &[i64],
-    listing: &mut [u64],
-) -> Result<(usize, u64), Refusal>
-    requires { ((m : Resolved.Model) × (s : State) × World nodes.now roots.now scopes.now state.now m s) × (length listing.old ≡ listing_length) }
-    ensures { (m : Resolved.Model) (s : State) → World nodes.now roots.now scopes.now state.now m s → Lists (machine.listing m s) result listing.new }
+fn list_many(tables: Tables, state: &[i64], listing: &mut [u64]) -> Result<(usize, u64), Refusal>
+    requires { ((m : Resolved.Model) × (s : State) × World tables.nodes.now tables.roots.now tables.scopes.now state.now m s) × (length listing.old ≡ listing_length) }
+    ensures { (m : Resolved.Model) (s : State) → World tables.entry.nodes.now tables.entry.roots.now tables.entry.scopes.now state.now m s → Lists (machine.listing m s) result listing.new }
 {
     let mut heads = [0u64; Table::ROWS];
     let mut numbers = [0i64; Table::ALL_NUMBERS];
     let mut firsts = [0u16; Table::BUCKETS];
     let mut nexts = [0u16; Table::ROWS];
     list_all(
-        nodes,
-        roots,
-        scopes,
+        tables,
         state,
         &mut heads,
         &mut numbers,
@@ -772,18 +737,16 @@ fn list_many(
 
 // The same in tables of its own: small ones, and large ones where those are full.
 pub fn list_here(
-    nodes: &[u64],
-    roots: &[u16],
-    scopes: &[u16],
+    tables: Tables,
     state: &[i64],
     listing: &mut [u64],
 ) -> Result<(usize, u64), Refusal>
-    requires { ((m : Resolved.Model) × (s : State) × World nodes.now roots.now scopes.now state.now m s) × (length listing.old ≡ listing_length) }
-    ensures { (m : Resolved.Model) (s : State) → World nodes.now roots.now scopes.now state.now m s → Lists (machine.listing m s) result listing.new }
+    requires { ((m : Resolved.Model) × (s : State) × World tables.nodes.now tables.roots.now tables.scopes.now state.now m s) × (length listing.old ≡ listing_length) }
+    ensures { (m : Resolved.Model) (s : State) → World tables.entry.nodes.now tables.entry.roots.now tables.entry.scopes.now state.now m s → Lists (machine.listing m s) result listing.new }
 {
-    let tried = list_few(nodes, roots, scopes, state, listing);
+    let tried = list_few(tables, state, listing);
     match tried {
         Some(listed) => listed,
-        None => list_many(nodes, roots, scopes, state, listing),
+        None => list_many(tables, state, listing),
     }
 }

@@ -21,7 +21,18 @@ ghost use Rattle.offers.specs.Collect as Collect;
 ghost use Rattle.offers.specs.Links.{row_limit, row_width, bucket_limit, bucket_part, bucket_of, Linked};
 
 use eval::offer::Offer;
+use tables::Tables;
 use tree::NodeKind;
+
+// The offers of a state's processes, and the links of its receives by hand.
+#[derive(Clone, Copy)]
+pub struct Offers<'a> {
+    pub heads: &'a [u64],
+    pub numbers: &'a [i64],
+    pub rows: usize,
+    pub firsts: &'a [u16],
+    pub nexts: &'a [u16],
+}
 
 #[derive(Clone, Copy)]
 pub struct Table;
@@ -142,24 +153,24 @@ fn put_offer(
 }
 
 // The offer in a row.
-pub fn offer_at(heads: &[u64], numbers: &[i64], row: usize) -> Offer
-    requires { (length numbers.now ≡ length heads.now * row_width) × (row < length heads.now) }
-    ensures { result ≡ offer_in heads.now numbers.now row }
+pub fn offer_at(offered: Offers, row: usize) -> Offer
+    requires { (length offered.numbers.now ≡ length offered.heads.now * row_width) × (row < length offered.heads.now) }
+    ensures { result ≡ offer_in offered.entry.heads.now offered.entry.numbers.now row }
 {
-    let head = heads[row];
+    let head = offered.heads[row];
     let at = row * Table::NUMBERS;
     Offer {
         kind: kind_in(head),
         rate: head / SMALL / BRANCHES / PLACES,
         shape: (head / KINDS % SHAPES) as u8,
-        channel: numbers[at],
+        channel: offered.numbers[at],
         count: (head / KINDS / SHAPES % COUNTS) as usize,
-        first: numbers[at + 1],
-        first_end: numbers[at + 2],
-        second: numbers[at + 3],
-        second_end: numbers[at + 4],
-        channel2: numbers[at + 5],
-        channel3: numbers[at + 6],
+        first: offered.numbers[at + 1],
+        first_end: offered.numbers[at + 2],
+        second: offered.numbers[at + 3],
+        second_end: offered.numbers[at + 4],
+        channel2: offered.numbers[at + 5],
+        channel3: offered.numbers[at + 6],
     }
 }
 
@@ -273,41 +284,37 @@ pub fn locals_of<'a>(scopes: &[u16], state: &'a [i64], place: usize) -> &'a [i64
 
 // Puts the offers of the process at a place into rows.
 fn collect_place(
-    nodes: &[u64],
-    roots: &[u16],
-    scopes: &[u16],
+    tables: Tables,
     state: &[i64],
     place: usize,
     heads: &mut [u64],
     numbers: &mut [i64],
     row: usize,
 ) -> Result<usize, Stop<usize>>
-    requires { ((m : Resolved.Model) × (s : State) × Collect.World nodes.now roots.now scopes.now state.now m s) × (place < process_count state.now) × (row ≤ length heads.old) × (length numbers.old ≡ length heads.old * row_width) × (row ≤ place * branch_limit) }
-    ensures { (m : Resolved.Model) (s : State) (p : Process) → Collect.World nodes.now roots.now scopes.now state.now m s → get_elem? s.processes place ≡ some p → Collect.Collects nodes.now p.locals place 0 row heads.old numbers.old heads.new numbers.new (branches_of m p) result }
+    requires { ((m : Resolved.Model) × (s : State) × Collect.World tables.nodes.now tables.roots.now tables.scopes.now state.now m s) × (place < process_count state.now) × (row ≤ length heads.old) × (length numbers.old ≡ length heads.old * row_width) × (row ≤ place * branch_limit) }
+    ensures { (m : Resolved.Model) (s : State) (p : Process) → Collect.World tables.entry.nodes.now tables.entry.roots.now tables.entry.scopes.now state.now m s → get_elem? s.processes place ≡ some p → Collect.Collects tables.entry.nodes.now p.locals place 0 row heads.old numbers.old heads.new numbers.new (branches_of m p) result }
 {
     let sum = state::sum_at(state, place);
-    let count = state::locals_in(scopes[sum]);
+    let count = state::locals_in(tables.scopes[sum]);
     let locals = state::locals_at(state, place, count);
-    let root = roots[sum] as usize;
-    collect_branches(nodes, locals, place, 0, root, heads, numbers, row)
+    let root = tables.roots[sum] as usize;
+    collect_branches(tables.nodes, locals, place, 0, root, heads, numbers, row)
 }
 
 // Puts the offers of all processes into rows.
 pub fn collect(
-    nodes: &[u64],
-    roots: &[u16],
-    scopes: &[u16],
+    tables: Tables,
     state: &[i64],
     heads: &mut [u64],
     numbers: &mut [i64],
 ) -> Result<usize, Stop<(usize, usize)>>
-    requires { ((m : Resolved.Model) × (s : State) × Collect.World nodes.now roots.now scopes.now state.now m s) × (length numbers.old ≡ length heads.old * row_width) }
-    ensures { (m : Resolved.Model) (s : State) → Collect.World nodes.now roots.now scopes.now state.now m s → Collect.Answers nodes.now heads.new numbers.new m s.processes result }
+    requires { ((m : Resolved.Model) × (s : State) × Collect.World tables.nodes.now tables.roots.now tables.scopes.now state.now m s) × (length numbers.old ≡ length heads.old * row_width) }
+    ensures { (m : Resolved.Model) (s : State) → Collect.World tables.entry.nodes.now tables.entry.roots.now tables.entry.scopes.now state.now m s → Collect.Answers tables.entry.nodes.now heads.new numbers.new m s.processes result }
 {
     let places = state::process_count(state);
     let mut row = 0;
     for place in 0..places {
-        let walked = collect_place(nodes, roots, scopes, state, place, heads, numbers, row);
+        let walked = collect_place(tables, state, place, heads, numbers, row);
         match walked {
             Ok(next) => row = next,
             Err(stop) => return Err(at_place(stop, place)),

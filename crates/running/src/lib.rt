@@ -19,6 +19,7 @@ ghost use Rattle.running.specs.Progress.{written, begun_with, ended, longer_by, 
 use clock::{Clock, Late};
 use listing::{Entry, Limits};
 use offers::Table;
+use tables::Tables;
 
 #[derive(Clone, Copy)]
 pub struct Room;
@@ -131,46 +132,35 @@ pub fn entry_at(listing: &[u64], c: usize) -> Entry
 
 // Takes entry c of the listing: the state moves, or 17, 18 or 19 leaves it as it is.
 fn take_row(
-    nodes: &[u64],
-    roots: &[u16],
-    scopes: &[u16],
-    root: usize,
-    variables: usize,
+    tables: Tables,
     state: &mut [i64],
     fresh: &mut [i64],
     listing: &[u64],
     c: usize,
 ) -> Result<(), step::Refusal>
-    requires { ((m : Resolved.Model) × (s : State) × (es : List rules.Entry) × (e : rules.Entry) × Row nodes.now roots.now scopes.now root variables state.old listing.now c m s es e) × (length fresh.old ≡ fresh_length) }
-    ensures { (m : Resolved.Model) (s : State) (es : List rules.Entry) (e : rules.Entry) → Row nodes.now roots.now scopes.now root variables state.old listing.now c m s es e → Answers (entry_arguments m s (rules.key_of e)) s (entry_state m s (rules.key_of e)) result state.new }
+    requires { ((m : Resolved.Model) × (s : State) × (es : List rules.Entry) × (e : rules.Entry) × Row tables.nodes.now tables.roots.now tables.scopes.now tables.root tables.variables state.old listing.now c m s es e) × (length fresh.old ≡ fresh_length) }
+    ensures { (m : Resolved.Model) (s : State) (es : List rules.Entry) (e : rules.Entry) → Row tables.entry.nodes.now tables.entry.roots.now tables.entry.scopes.now tables.entry.root tables.entry.variables state.old listing.now c m s es e → Answers (entry_arguments m s (rules.key_of e)) s (entry_state m s (rules.key_of e)) result state.new }
 {
     let e = entry_at(listing, c);
     step::take_entry(
-        nodes, roots, scopes, root, variables, state, fresh, e.kind, e.place, e.branch, e.partner,
-        e.pbranch, e.pair,
+        tables, state, fresh, e.kind, e.place, e.branch, e.partner, e.pbranch, e.pair,
     )
 }
 
 // The same, and the state as it was, whatever comes of it.
 fn take_kept(
-    nodes: &[u64],
-    roots: &[u16],
-    scopes: &[u16],
-    root: usize,
-    variables: usize,
+    tables: Tables,
     state: &mut [i64],
     fresh: &mut [i64],
     listing: &[u64],
     c: usize,
 ) -> Result<(), step::Refusal>
-    requires { ((m : Resolved.Model) × (s : State) × (es : List rules.Entry) × (e : rules.Entry) × Row nodes.now roots.now scopes.now root variables state.old listing.now c m s es e) × (length fresh.old ≡ fresh_length) }
-    ensures { ((m : Resolved.Model) (s : State) (es : List rules.Entry) (e : rules.Entry) → Row nodes.now roots.now scopes.now root variables state.old listing.now c m s es e → result ≡ verdict (entry_arguments m s (rules.key_of e)) (entry_state m s (rules.key_of e))) × (state.new ≡ state.old) }
+    requires { ((m : Resolved.Model) × (s : State) × (es : List rules.Entry) × (e : rules.Entry) × Row tables.nodes.now tables.roots.now tables.scopes.now tables.root tables.variables state.old listing.now c m s es e) × (length fresh.old ≡ fresh_length) }
+    ensures { ((m : Resolved.Model) (s : State) (es : List rules.Entry) (e : rules.Entry) → Row tables.entry.nodes.now tables.entry.roots.now tables.entry.scopes.now tables.entry.root tables.entry.variables state.old listing.now c m s es e → result ≡ verdict (entry_arguments m s (rules.key_of e)) (entry_state m s (rules.key_of e))) × (state.new ≡ state.old) }
 {
     let mut before = [0i64; Room::STATE];
     state::put(&mut before, &state[..], Room::STATE);
-    let taken = take_row(
-        nodes, roots, scopes, root, variables, state, fresh, listing, c,
-    );
+    let taken = take_row(tables, state, fresh, listing, c);
     state::put(state, &before, Room::STATE);
     taken
 }
@@ -207,11 +197,7 @@ fn stepped_by(
 
 // Takes entry c and waits: both the state and the clock move, or neither does. The state is kept only where the wait is refused.
 fn take_waiting(
-    nodes: &[u64],
-    roots: &[u16],
-    scopes: &[u16],
-    root: usize,
-    variables: usize,
+    tables: Tables,
     state: &mut [i64],
     fresh: &mut [i64],
     listing: &[u64],
@@ -220,28 +206,20 @@ fn take_waiting(
     waiting: &[u16],
     clock: Clock,
 ) -> Stepped
-    requires { ((m : Resolved.Model) × (s : State) × (es : List rules.Entry) × (e : rules.Entry) × Row nodes.now roots.now scopes.now root variables state.old listing.now c m s es e) × (length fresh.old ≡ fresh_length) × (InRange clock) × (0 < total) }
-    ensures { (m : Resolved.Model) (s : State) (es : List rules.Entry) (e : rules.Entry) → Row nodes.now roots.now scopes.now root variables state.old listing.now c m s es e → total ≡ total_of (weights es) → StepsTo (steps_in clock waiting.now s (taken m s es c (rules.key_of e))) result state.new }
+    requires { ((m : Resolved.Model) × (s : State) × (es : List rules.Entry) × (e : rules.Entry) × Row tables.nodes.now tables.roots.now tables.scopes.now tables.root tables.variables state.old listing.now c m s es e) × (length fresh.old ≡ fresh_length) × (InRange clock) × (0 < total) }
+    ensures { (m : Resolved.Model) (s : State) (es : List rules.Entry) (e : rules.Entry) → Row tables.entry.nodes.now tables.entry.roots.now tables.entry.scopes.now tables.entry.root tables.entry.variables state.old listing.now c m s es e → total ≡ total_of (weights es) → StepsTo (steps_in clock waiting.now s (taken m s es c (rules.key_of e))) result state.new }
 {
     let brought = clock::bring(clock, waiting, total);
     let taken = match brought {
-        Ok(_) => take_row(
-            nodes, roots, scopes, root, variables, state, fresh, listing, c,
-        ),
-        Err(_) => take_kept(
-            nodes, roots, scopes, root, variables, state, fresh, listing, c,
-        ),
+        Ok(_) => take_row(tables, state, fresh, listing, c),
+        Err(_) => take_kept(tables, state, fresh, listing, c),
     };
     stepped_by(taken, c, brought, clock)
 }
 
 // A timed step with a choosing draw, once the state is listed and its total above zero: 16 to 19, then 23 to 25.
 pub fn take_timed(
-    nodes: &[u64],
-    roots: &[u16],
-    scopes: &[u16],
-    root: usize,
-    variables: usize,
+    tables: Tables,
     state: &mut [i64],
     fresh: &mut [i64],
     listing: &[u64],
@@ -251,8 +229,8 @@ pub fn take_timed(
     waiting: &[u16],
     clock: Clock,
 ) -> Stepped
-    requires { ((m : Resolved.Model) × (s : State) × (es : List rules.Entry) × Counted nodes.now roots.now scopes.now root variables state.old listing.now count total m s es) × (length fresh.old ≡ fresh_length) × (InRange clock) × (0 < total) }
-    ensures { (m : Resolved.Model) (s : State) (es : List rules.Entry) → Counted nodes.now roots.now scopes.now root variables state.old listing.now count total m s es → StepsTo (steps_in clock waiting.now s (drawn m s es draw)) result state.new }
+    requires { ((m : Resolved.Model) × (s : State) × (es : List rules.Entry) × Counted tables.nodes.now tables.roots.now tables.scopes.now tables.root tables.variables state.old listing.now count total m s es) × (length fresh.old ≡ fresh_length) × (InRange clock) × (0 < total) }
+    ensures { (m : Resolved.Model) (s : State) (es : List rules.Entry) → Counted tables.entry.nodes.now tables.entry.roots.now tables.entry.scopes.now tables.entry.root tables.entry.variables state.old listing.now count total m s es → StepsTo (steps_in clock waiting.now s (drawn m s es draw)) result state.new }
 {
     let chosen = listing::choose(listing, count, draw);
     match chosen {
@@ -261,9 +239,7 @@ pub fn take_timed(
             chosen: 0,
             clock: clock,
         },
-        Some(c) => take_waiting(
-            nodes, roots, scopes, root, variables, state, fresh, listing, c, total, waiting, clock,
-        ),
+        Some(c) => take_waiting(tables, state, fresh, listing, c, total, waiting, clock),
     }
 }
 
@@ -286,11 +262,7 @@ fn put_event(events: &mut [u64], step: usize, ticks: u64, listing: &[u64], c: us
 
 // A step of a run with its choosing draw, which took so many words.
 fn step_drawn(
-    nodes: &[u64],
-    roots: &[u16],
-    scopes: &[u16],
-    root: usize,
-    variables: usize,
+    tables: Tables,
     state: &mut [i64],
     fresh: &mut [i64],
     listing: &[u64],
@@ -302,17 +274,13 @@ fn step_drawn(
     events: &mut [u64],
     p: Progress,
 ) -> Progress
-    requires { ((ws : List ℕ) × (z : List ℕ) × (m : Resolved.Model) × (r : Run) × (es : List rules.Entry) × Lists nodes.now roots.now scopes.now root variables ws waiting.now z state.old events.old p m r listing.now count total es × (p.words + used ≤ length ws) × (length ws < 18446744073709551616)) × (length fresh.old ≡ fresh_length) × (0 < total) × (p.steps * event_width + event_width ≤ length events.old) }
-    ensures { (ws z : List ℕ) (m : Resolved.Model) (r : Run) (es : List rules.Entry) → Lists nodes.now roots.now scopes.now root variables ws waiting.now z state.old events.old p m r listing.now count total es → p.words + used ≤ length ws → Goes nodes.now roots.now scopes.now root variables ws waiting.now z (follows used (steps_in r.timed.clock (drop r.waiting waiting.now) r.timed.state (drawn m r.timed.state es draw)) r) result state.new events.new m }
+    requires { ((ws : List ℕ) × (z : List ℕ) × (m : Resolved.Model) × (r : Run) × (es : List rules.Entry) × Lists tables.nodes.now tables.roots.now tables.scopes.now tables.root tables.variables ws waiting.now z state.old events.old p m r listing.now count total es × (p.words + used ≤ length ws) × (length ws < 18446744073709551616)) × (length fresh.old ≡ fresh_length) × (0 < total) × (p.steps * event_width + event_width ≤ length events.old) }
+    ensures { (ws z : List ℕ) (m : Resolved.Model) (r : Run) (es : List rules.Entry) → Lists tables.entry.nodes.now tables.entry.roots.now tables.entry.scopes.now tables.entry.root tables.entry.variables ws waiting.now z state.old events.old p m r listing.now count total es → p.words + used ≤ length ws → Goes tables.entry.nodes.now tables.entry.roots.now tables.entry.scopes.now tables.entry.root tables.entry.variables ws waiting.now z (follows used (steps_in r.timed.clock (drop r.waiting waiting.now) r.timed.state (drawn m r.timed.state es draw)) r) result state.new events.new m }
 {
     let gone = p.waiting;
     let clock = p.clock;
     let s = take_timed(
-        nodes,
-        roots,
-        scopes,
-        root,
-        variables,
+        tables,
         state,
         fresh,
         listing,
@@ -335,11 +303,7 @@ fn step_drawn(
 
 // A step of a run once its state is listed: 15, the draw from words, then the step.
 fn step_counted(
-    nodes: &[u64],
-    roots: &[u16],
-    scopes: &[u16],
-    root: usize,
-    variables: usize,
+    tables: Tables,
     state: &mut [i64],
     fresh: &mut [i64],
     listing: &[u64],
@@ -350,8 +314,8 @@ fn step_counted(
     events: &mut [u64],
     p: Progress,
 ) -> Progress
-    requires { ((z : List ℕ) × (m : Resolved.Model) × (r : Run) × (es : List rules.Entry) × Lists nodes.now roots.now scopes.now root variables words.now waiting.now z state.old events.old p m r listing.now count total es) × (length fresh.old ≡ fresh_length) × (p.steps * event_width + event_width ≤ length events.old) }
-    ensures { (z : List ℕ) (m : Resolved.Model) (r : Run) (es : List rules.Entry) → Lists nodes.now roots.now scopes.now root variables words.now waiting.now z state.old events.old p m r listing.now count total es → Goes nodes.now roots.now scopes.now root variables words.now waiting.now z (run_step words.now waiting.now m r) result state.new events.new m }
+    requires { ((z : List ℕ) × (m : Resolved.Model) × (r : Run) × (es : List rules.Entry) × Lists tables.nodes.now tables.roots.now tables.scopes.now tables.root tables.variables words.now waiting.now z state.old events.old p m r listing.now count total es) × (length fresh.old ≡ fresh_length) × (p.steps * event_width + event_width ≤ length events.old) }
+    ensures { (z : List ℕ) (m : Resolved.Model) (r : Run) (es : List rules.Entry) → Lists tables.entry.nodes.now tables.entry.roots.now tables.entry.scopes.now tables.entry.root tables.entry.variables words.now waiting.now z state.old events.old p m r listing.now count total es → Goes tables.entry.nodes.now tables.entry.roots.now tables.entry.scopes.now tables.entry.root tables.entry.variables words.now waiting.now z (run_step words.now waiting.now m r) result state.new events.new m }
 {
     if total == 0 {
         return Progress::end(p, 15, count, total);
@@ -361,19 +325,14 @@ fn step_counted(
     match drawn {
         None => Progress::end(p, 0, count, total),
         Some((draw, used)) => step_drawn(
-            nodes, roots, scopes, root, variables, state, fresh, listing, count, total, draw, used,
-            waiting, events, p,
+            tables, state, fresh, listing, count, total, draw, used, waiting, events, p,
         ),
     }
 }
 
 // One step of a run: the listing, then the rest of the step.
 fn run_step(
-    nodes: &[u64],
-    roots: &[u16],
-    scopes: &[u16],
-    root: usize,
-    variables: usize,
+    tables: Tables,
     state: &mut [i64],
     heads: &mut [u64],
     numbers: &mut [i64],
@@ -386,28 +345,21 @@ fn run_step(
     events: &mut [u64],
     p: Progress,
 ) -> Progress
-    requires { ((z : List ℕ) × (m : Resolved.Model) × (r : Run) × Stands nodes.now roots.now scopes.now root variables words.now waiting.now z state.old events.old p m r) × (length heads.old ≡ row_limit) × (length numbers.old ≡ row_limit * row_width) × (length firsts.old ≡ bucket_limit) × (length nexts.old ≡ row_limit) × (length fresh.old ≡ fresh_length) × (length listing.old ≡ listing_length) × (p.steps * event_width + event_width ≤ length events.old) }
-    ensures { (z : List ℕ) (m : Resolved.Model) (r : Run) → Stands nodes.now roots.now scopes.now root variables words.now waiting.now z state.old events.old p m r → Goes nodes.now roots.now scopes.now root variables words.now waiting.now z (run_step words.now waiting.now m r) result state.new events.new m }
+    requires { ((z : List ℕ) × (m : Resolved.Model) × (r : Run) × Stands tables.nodes.now tables.roots.now tables.scopes.now tables.root tables.variables words.now waiting.now z state.old events.old p m r) × (length heads.old ≡ row_limit) × (length numbers.old ≡ row_limit * row_width) × (length firsts.old ≡ bucket_limit) × (length nexts.old ≡ row_limit) × (length fresh.old ≡ fresh_length) × (length listing.old ≡ listing_length) × (p.steps * event_width + event_width ≤ length events.old) }
+    ensures { (z : List ℕ) (m : Resolved.Model) (r : Run) → Stands tables.entry.nodes.now tables.entry.roots.now tables.entry.scopes.now tables.entry.root tables.entry.variables words.now waiting.now z state.old events.old p m r → Goes tables.entry.nodes.now tables.entry.roots.now tables.entry.scopes.now tables.entry.root tables.entry.variables words.now waiting.now z (run_step words.now waiting.now m r) result state.new events.new m }
 {
-    let listed = listing::list_over(
-        nodes, roots, scopes, state, heads, numbers, firsts, nexts, listing,
-    );
+    let listed = listing::list_over(tables, state, heads, numbers, firsts, nexts, listing);
     match listed {
         Err(r) => Progress::end(p, r.number, 0, 0),
         Ok((count, total)) => step_counted(
-            nodes, roots, scopes, root, variables, state, fresh, listing, count, total, words,
-            waiting, events, p,
+            tables, state, fresh, listing, count, total, words, waiting, events, p,
         ),
     }
 }
 
 // Up to so many steps, for all of whose events there is room, in lent tables.
 fn run_lent(
-    nodes: &[u64],
-    roots: &[u16],
-    scopes: &[u16],
-    root: usize,
-    variables: usize,
+    tables: Tables,
     state: &mut [i64],
     heads: &mut [u64],
     numbers: &mut [i64],
@@ -421,15 +373,14 @@ fn run_lent(
     clock: Clock,
     steps: usize,
 ) -> Progress
-    requires { ((m : Resolved.Model) × (s : State) × Lent nodes.now roots.now scopes.now root variables state.old m s) × (InRange clock) × (length heads.old ≡ row_limit) × (length numbers.old ≡ row_limit * row_width) × (length firsts.old ≡ bucket_limit) × (length nexts.old ≡ row_limit) × (length fresh.old ≡ fresh_length) × (length listing.old ≡ listing_length) × (steps * event_width ≤ length events.old) }
-    ensures { (m : Resolved.Model) (s : State) → Lent nodes.now roots.now scopes.now root variables state.old m s → Stands nodes.now roots.now scopes.now root variables words.now waiting.now events.old state.new events.new result m (running steps words.now waiting.now m (begun (timed s clock))) }
+    requires { ((m : Resolved.Model) × (s : State) × Lent tables.nodes.now tables.roots.now tables.scopes.now tables.root tables.variables state.old m s) × (InRange clock) × (length heads.old ≡ row_limit) × (length numbers.old ≡ row_limit * row_width) × (length firsts.old ≡ bucket_limit) × (length nexts.old ≡ row_limit) × (length fresh.old ≡ fresh_length) × (length listing.old ≡ listing_length) × (steps * event_width ≤ length events.old) }
+    ensures { (m : Resolved.Model) (s : State) → Lent tables.entry.nodes.now tables.entry.roots.now tables.entry.scopes.now tables.entry.root tables.entry.variables state.old m s → Stands tables.entry.nodes.now tables.entry.roots.now tables.entry.scopes.now tables.entry.root tables.entry.variables words.now waiting.now events.old state.new events.new result m (running steps words.now waiting.now m (begun (timed s clock))) }
 {
     // A while: the progress counts the steps.
     let mut p = Progress::begun(clock);
     while p.steps < steps {
         p = run_step(
-            nodes, roots, scopes, root, variables, state, heads, numbers, firsts, nexts, fresh,
-            listing, words, waiting, events, p,
+            tables, state, heads, numbers, firsts, nexts, fresh, listing, words, waiting, events, p,
         );
         if p.over {
             return p;
@@ -440,11 +391,7 @@ fn run_lent(
 
 // A run over the tables of a model: no more steps than the limit, and none for whose event there is no room. Its tables are made once.
 pub fn run(
-    nodes: &[u64],
-    roots: &[u16],
-    scopes: &[u16],
-    root: usize,
-    variables: usize,
+    tables: Tables,
     state: &mut [i64],
     words: &[u64],
     waiting: &[u16],
@@ -452,8 +399,8 @@ pub fn run(
     clock: Clock,
     limit: usize,
 ) -> Progress
-    requires { ((m : Resolved.Model) × (s : State) × Lent nodes.now roots.now scopes.now root variables state.old m s) × (InRange clock) }
-    ensures { (m : Resolved.Model) (s : State) → Lent nodes.now roots.now scopes.now root variables state.old m s → Stands nodes.now roots.now scopes.now root variables words.now waiting.now events.old state.new events.new result m (runs_with limit (length events.old / event_width) words.now waiting.now m s clock) }
+    requires { ((m : Resolved.Model) × (s : State) × Lent tables.nodes.now tables.roots.now tables.scopes.now tables.root tables.variables state.old m s) × (InRange clock) }
+    ensures { (m : Resolved.Model) (s : State) → Lent tables.entry.nodes.now tables.entry.roots.now tables.entry.scopes.now tables.entry.root tables.entry.variables state.old m s → Stands tables.entry.nodes.now tables.entry.roots.now tables.entry.scopes.now tables.entry.root tables.entry.variables words.now waiting.now events.old state.new events.new result m (runs_with limit (length events.old / event_width) words.now waiting.now m s clock) }
 {
     let mut heads = [0u64; Table::ROWS];
     let mut numbers = [0i64; Table::ALL_NUMBERS];
@@ -463,11 +410,7 @@ pub fn run(
     let mut listing = [0u64; Room::LISTING];
     let steps = limit.min(events.len() / Room::EVENT);
     run_lent(
-        nodes,
-        roots,
-        scopes,
-        root,
-        variables,
+        tables,
         state,
         &mut heads,
         &mut numbers,

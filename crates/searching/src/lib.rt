@@ -20,8 +20,11 @@ ghost use Rattle.searching.specs.Lent.{Worded};
 
 use search::Walked;
 use settle::Model;
+use state::Shape;
 use syntax::question;
+use tables::Tables;
 use token::{Limits, Refusal};
+use walk::Written;
 
 // What a search answers: 0 or a refusal's number; the length of the run, 0 for none; its entry numbers, unused ones 0.
 #[repr(C)]
@@ -86,44 +89,32 @@ fn result_of(walked: Walked, run: &[u16]) -> Found
 
 // Questions 11 of a state and 26, then the walk over the tables of a model.
 fn search_tables(
-    nodes: &[u64],
-    roots: &[u16],
-    scopes: &[u16],
-    root: usize,
-    variables: usize,
+    tables: Tables,
     sums: usize,
     channels: usize,
-    text: &[u8],
-    places: &[u16],
-    sizes: &[u16],
+    written: Written,
     state: &[i64],
     name: &[u8],
     depth: u64,
 ) -> Found
-    requires { ((m : Resolved.Model) × Worded nodes.now roots.now scopes.now root variables sums channels text.now places.now sizes.now m) × (length state.now ≡ state_length) }
-    ensures { (m : Resolved.Model) (bs : List ℕ) → Worded nodes.now roots.now scopes.now root variables sums channels text.now places.now sizes.now m → GivesRun (requested (search' name.now depth) (lent_two bs state.now) [] (some m)) result (lent_two bs state.now) }
+    requires { ((m : Resolved.Model) × Worded tables.nodes.now tables.roots.now tables.scopes.now tables.root tables.variables sums channels written.text.now written.places.now written.sizes.now m) × (length state.now ≡ state_length) }
+    ensures { (m : Resolved.Model) (bs : List ℕ) → Worded tables.entry.nodes.now tables.entry.roots.now tables.entry.scopes.now tables.entry.root tables.entry.variables sums channels written.entry.text.now written.entry.places.now written.entry.sizes.now m → GivesRun (requested (search' name.now depth) (lent_two bs state.now) [] (some m)) result (lent_two bs state.now) }
 {
-    if !state::is_state(state, scopes, sums, channels) {
+    if !state::is_state(
+        state,
+        Shape {
+            scopes: tables.scopes,
+            sums,
+            channels,
+        },
+    ) {
         return Found::bare(11);
     }
     if !is_depth(depth) {
         return Found::bare(26);
     }
     let mut run = [0u16; 8];
-    let walked = walk::search_model(
-        nodes,
-        roots,
-        scopes,
-        root,
-        variables,
-        text,
-        places,
-        sizes,
-        state,
-        name,
-        depth as usize,
-        &mut run,
-    );
+    let walked = walk::search_model(tables, written, state, name, depth as usize, &mut run);
     result_of(walked, &run)
 }
 
@@ -171,16 +162,20 @@ pub fn search_text(text: &[u8], state: &[i64], name: &[u8], depth: u64) -> Found
         Err(_) => Found::bare(11),
         Ok((found, _)) => {
             search_tables(
-                &nodes,
-                &roots,
-                &scopes,
-                found.root,
-                found.variables,
+                Tables {
+                    nodes: &nodes,
+                    roots: &roots,
+                    scopes: &scopes,
+                    root: found.root,
+                    variables: found.variables,
+                },
                 found.sums,
                 found.channels,
-                text,
-                &places,
-                &sizes,
+                Written {
+                    text,
+                    places: &places,
+                    sizes: &sizes,
+                },
                 state,
                 name,
                 depth,

@@ -17,9 +17,11 @@ ghost use Rattle.simulation.specs.Comes.{refused_with, Comes, are_long, Whole};
 use clock::Clock;
 use running::Progress;
 use settle::Model;
+use state::Shape;
 use store::Engine;
 use store::buffer::Bytes;
 use syntax::question;
+use tables::Tables;
 use token::{Limits, Refusal};
 
 // A run that a question refuses before its first step.
@@ -40,11 +42,7 @@ fn refused(number: u64, clock: Clock) -> Progress
 
 // Question 11 of a state, then the run over the tables of a model.
 fn run_tables(
-    nodes: &[u64],
-    roots: &[u16],
-    scopes: &[u16],
-    root: usize,
-    variables: usize,
+    tables: Tables,
     sums: usize,
     channels: usize,
     state: &mut [i64],
@@ -54,25 +52,20 @@ fn run_tables(
     limit: u64,
     clock: Clock,
 ) -> Progress
-    requires { ((m : Resolved.Model) × Whole nodes.now roots.now scopes.now root variables sums channels m) × (length state.old ≡ state_length) × (InRange clock) }
-    ensures { (m : Resolved.Model) (bs : List ℕ) → Whole nodes.now roots.now scopes.now root variables sums channels m → Comes (requested (run' words.now waiting.now limit (length events.old)) (lent_timed bs state.old clock) events.old (some m)) result (lent_timed bs state.new result.clock) events.new }
+    requires { ((m : Resolved.Model) × Whole tables.nodes.now tables.roots.now tables.scopes.now tables.root tables.variables sums channels m) × (length state.old ≡ state_length) × (InRange clock) }
+    ensures { (m : Resolved.Model) (bs : List ℕ) → Whole tables.entry.nodes.now tables.entry.roots.now tables.entry.scopes.now tables.entry.root tables.entry.variables sums channels m → Comes (requested (run' words.now waiting.now limit (length events.old)) (lent_timed bs state.old clock) events.old (some m)) result (lent_timed bs state.new result.clock) events.new }
 {
-    if !state::is_state(state, scopes, sums, channels) {
+    if !state::is_state(
+        state,
+        Shape {
+            scopes: tables.scopes,
+            sums,
+            channels,
+        },
+    ) {
         return refused(11, clock);
     }
-    running::run(
-        nodes,
-        roots,
-        scopes,
-        root,
-        variables,
-        state,
-        words,
-        waiting,
-        events,
-        clock,
-        limit as usize,
-    )
+    running::run(tables, state, words, waiting, events, clock, limit as usize)
 }
 
 // The model of a text that a model buffer holds, in three tables; those that only reading needs are its own.
@@ -125,11 +118,13 @@ fn run_text(
         return refused(11, clock);
     };
     run_tables(
-        &nodes,
-        &roots,
-        &scopes,
-        found.root,
-        found.variables,
+        Tables {
+            nodes: &nodes,
+            roots: &roots,
+            scopes: &scopes,
+            root: found.root,
+            variables: found.variables,
+        },
         found.sums,
         found.channels,
         state,

@@ -25,6 +25,7 @@ ghost use Rattle.step.specs.Enter as Enter;
 use eval::offer::Offer;
 use machine::EntryKind;
 use state::Layout;
+use tables::Tables;
 use tree::NodeKind;
 
 // Why a step is refused: an argument without value, too many processes, too many pairs.
@@ -174,21 +175,14 @@ pub struct Found {
 }
 
 // Branch j of the process at place i.
-fn find_branch(
-    nodes: &[u64],
-    roots: &[u16],
-    scopes: &[u16],
-    state: &[i64],
-    i: usize,
-    j: usize,
-) -> Found
-    requires { Enter.Acting nodes.now roots.now scopes.now state.now i j }
-    ensures { ((m : Resolved.Model) (s : State) (p : Process) (b : Resolved.Branch) (g : Guard) → Enter.Acts nodes.now roots.now scopes.now state.now i j m s p b g → (result.own ≡ length p.locals) × Settled.Branch nodes.now b result.root) × (result.own ≤ local_limit) }
+fn find_branch(tables: Tables, state: &[i64], i: usize, j: usize) -> Found
+    requires { Enter.Acting tables.nodes.now tables.roots.now tables.scopes.now state.now i j }
+    ensures { ((m : Resolved.Model) (s : State) (p : Process) (b : Resolved.Branch) (g : Guard) → Enter.Acts tables.entry.nodes.now tables.entry.roots.now tables.entry.scopes.now state.now i j m s p b g → (result.own ≡ length p.locals) × Settled.Branch tables.entry.nodes.now b result.root) × (result.own ≤ local_limit) }
 {
     let sum = state::sum_at(state, i);
-    let first = usize::from(roots[sum]);
-    let own = state::locals_in(scopes[sum]);
-    let root = branch_root(nodes, first, j);
+    let first = usize::from(tables.roots[sum]);
+    let own = state::locals_in(tables.scopes[sum]);
+    let root = branch_root(tables.nodes, first, j);
     Found {
         own: own,
         root: root,
@@ -207,45 +201,36 @@ fn past_gate(nodes: &[u64], k: usize) -> usize
 }
 
 // The token of the wait that branch j of the process at place i is.
-pub fn wait_token(
-    nodes: &[u64],
-    roots: &[u16],
-    scopes: &[u16],
-    state: &[i64],
-    i: usize,
-    j: usize,
-) -> usize
-    requires { Enter.Acting nodes.now roots.now scopes.now state.now i j }
-    ensures { (m : Resolved.Model) (s : State) (p : Process) (b : Resolved.Branch) (g : Guard) (n : ℕ) → Enter.Acts nodes.now roots.now scopes.now state.now i j m s p b g → b.action ≡ Resolved.wait n → result ≡ n }
+pub fn wait_token(tables: Tables, state: &[i64], i: usize, j: usize) -> usize
+    requires { Enter.Acting tables.nodes.now tables.roots.now tables.scopes.now state.now i j }
+    ensures { (m : Resolved.Model) (s : State) (p : Process) (b : Resolved.Branch) (g : Guard) (n : ℕ) → Enter.Acts tables.entry.nodes.now tables.entry.roots.now tables.entry.scopes.now state.now i j m s p b g → b.action ≡ Resolved.wait n → result ≡ n }
 {
-    let found = find_branch(nodes, roots, scopes, state, i, j);
-    let k = past_gate(nodes, found.root);
-    let prefix = eval::cell_at(nodes, k);
-    let action = eval::cell_at(nodes, tree::left_of(prefix));
+    let found = find_branch(tables, state, i, j);
+    let k = past_gate(tables.nodes, found.root);
+    let prefix = eval::cell_at(tables.nodes, k);
+    let action = eval::cell_at(tables.nodes, tree::left_of(prefix));
     tree::token_of(action)
 }
 
 // What the process at place i enters by branch j, whose names take the values.
 fn enter(
-    nodes: &[u64],
-    roots: &[u16],
-    scopes: &[u16],
+    tables: Tables,
     state: &[i64],
     i: usize,
     j: usize,
     values: Bound,
     locals: &mut [i64],
 ) -> Entered
-    requires { Enter.Acting nodes.now roots.now scopes.now state.now i j × (values.count ≤ 2) × (length locals.old ≡ 10) }
-    ensures { (m : Resolved.Model) (s : State) (p : Process) (b : Resolved.Branch) (g : Guard) → Enter.Acts nodes.now roots.now scopes.now state.now i j m s p b g → Enter.Enters nodes.now p b g (Enter.values_of values) locals.new result }
+    requires { Enter.Acting tables.nodes.now tables.roots.now tables.scopes.now state.now i j × (values.count ≤ 2) × (length locals.old ≡ 10) }
+    ensures { (m : Resolved.Model) (s : State) (p : Process) (b : Resolved.Branch) (g : Guard) → Enter.Acts tables.entry.nodes.now tables.entry.roots.now tables.entry.scopes.now state.now i j m s p b g → Enter.Enters tables.entry.nodes.now p b g (Enter.values_of values) locals.new result }
 {
-    let found = find_branch(nodes, roots, scopes, state, i, j);
+    let found = find_branch(tables, state, i, j);
     let root = found.root;
     let own = state::locals_at(state, i, found.own);
-    let offer = eval::offer::offer_of(nodes, own, root);
+    let offer = eval::offer::offer_of(tables.nodes, own, root);
     let kind = offer.kind;
     let count = put_locals(own, bound_by(kind, values), locals);
-    let next = eval::next::continuation_of(nodes, root);
+    let next = eval::next::continuation_of(tables.nodes, root);
     Entered {
         count: count,
         next: next,
@@ -265,34 +250,31 @@ fn arguments_given(nodes: &[u64], locals: &[i64], next: Option<usize>) -> bool
 }
 
 // How many processes a continuation becomes, up to MOST.
-fn count_next(nodes: &[u64], root: usize, variables: usize, next: Option<usize>) -> usize
-    requires { (m : Resolved.Model) × (ls : List ℤ) × (ps : List Resolved.Part) × Enter.Defined nodes.now root variables m ls ps next }
-    ensures { ((m : Resolved.Model) (ls : List ℤ) (ps : List Resolved.Part) → Enter.Defined nodes.now root variables m ls ps next → result ≡ Become.cut (length (next_processes m ls ps))) × (result ≤ Become.most) }
+fn count_next(tables: Tables, next: Option<usize>) -> usize
+    requires { (m : Resolved.Model) × (ls : List ℤ) × (ps : List Resolved.Part) × Enter.Defined tables.nodes.now tables.root tables.variables m ls ps next }
+    ensures { ((m : Resolved.Model) (ls : List ℤ) (ps : List Resolved.Part) → Enter.Defined tables.entry.nodes.now tables.entry.root tables.entry.variables m ls ps next → result ≡ Become.cut (length (next_processes m ls ps))) × (result ≤ Become.most) }
 {
     match next {
-        Some(k) => eval::next::count_processes(nodes, root, variables, k),
+        Some(k) => eval::next::count_processes(tables, k),
         None => 0,
     }
 }
 
 // The process at place i becomes what it enters.
 fn replace_process(
-    nodes: &[u64],
-    root: usize,
-    variables: usize,
+    tables: Tables,
     state: &mut [i64],
     fresh: &mut [i64],
     i: usize,
     locals: &[i64],
     next: Option<usize>,
-    scopes: &[u16],
 )
-    requires { ((m : Resolved.Model) × (s : State) × (ps : List Resolved.Part) × Enter.Replaces nodes.now scopes.now root variables state.old i locals.now next m s ps) × (length fresh.old ≡ Enter.fresh_length) }
-    ensures { (m : Resolved.Model) (s : State) (ps : List Resolved.Part) → Enter.Replaces nodes.now scopes.now root variables state.old i locals.now next m s ps → state.new ≡ state_numbers (Enter.entering m s i locals.now ps) }
+    requires { ((m : Resolved.Model) × (s : State) × (ps : List Resolved.Part) × Enter.Replaces tables.nodes.now tables.scopes.now tables.root tables.variables state.old i locals.now next m s ps) × (length fresh.old ≡ Enter.fresh_length) }
+    ensures { (m : Resolved.Model) (s : State) (ps : List Resolved.Part) → Enter.Replaces tables.entry.nodes.now tables.entry.scopes.now tables.entry.root tables.entry.variables state.old i locals.now next m s ps → state.new ≡ state_numbers (Enter.entering m s i locals.now ps) }
 {
     match next {
         Some(k) => {
-            let n = eval::next::put_processes(nodes, root, variables, locals, k, fresh, 0, scopes);
+            let n = eval::next::put_processes(tables, locals, k, fresh, 0);
             state::splice(state, i, &fresh[..], n);
         }
         None => {
@@ -360,43 +342,36 @@ fn change_pairs(state: &mut [i64], offer: Offer)
 
 // 17 to 19 of a process that acts by itself, then its move.
 fn move_alone(
-    nodes: &[u64],
-    root: usize,
-    variables: usize,
+    tables: Tables,
     state: &mut [i64],
     fresh: &mut [i64],
     i: usize,
     locals: &[i64],
     next: Option<usize>,
     offer: Offer,
-    scopes: &[u16],
 ) -> Result<(), Refusal>
-    requires { ((m : Resolved.Model) × (s : State) × (ps : List Resolved.Part) × (n : Change) × Enter.Alone nodes.now scopes.now root variables state.old i locals.now next offer m s ps n) × (length fresh.old ≡ Enter.fresh_length) }
-    ensures { (m : Resolved.Model) (s : State) (ps : List Resolved.Part) (n : Change) → Enter.Alone nodes.now scopes.now root variables state.old i locals.now next offer m s ps n → Enter.Answers (arguments_given locals.now ps) s (Enter.changed (Enter.entering m s i locals.now ps) n) result state.new }
+    requires { ((m : Resolved.Model) × (s : State) × (ps : List Resolved.Part) × (n : Change) × Enter.Alone tables.nodes.now tables.scopes.now tables.root tables.variables state.old i locals.now next offer m s ps n) × (length fresh.old ≡ Enter.fresh_length) }
+    ensures { (m : Resolved.Model) (s : State) (ps : List Resolved.Part) (n : Change) → Enter.Alone tables.entry.nodes.now tables.entry.scopes.now tables.entry.root tables.entry.variables state.old i locals.now next offer m s ps n → Enter.Answers (arguments_given locals.now ps) s (Enter.changed (Enter.entering m s i locals.now ps) n) result state.new }
 {
-    if !arguments_given(nodes, locals, next) {
+    if !arguments_given(tables.nodes, locals, next) {
         return Err(Refusal::Arguments);
     }
     let n = state::process_count(&state[..]);
-    let count = count_next(nodes, root, variables, next);
+    let count = count_next(tables, next);
     if Room::PROCESSES + 1 < n + count {
         return Err(Refusal::Processes);
     }
     if is_overfull(&state[..], offer) {
         return Err(Refusal::Pairs);
     }
-    replace_process(
-        nodes, root, variables, state, fresh, i, locals, next, scopes,
-    );
+    replace_process(tables, state, fresh, i, locals, next);
     change_pairs(state, offer);
     Ok(())
 }
 
 // Two processes become what they enter, the one at i before the one at k. Where the first becomes nothing it goes first, so that no place is wanted for a moment.
 fn replace_both(
-    nodes: &[u64],
-    root: usize,
-    variables: usize,
+    tables: Tables,
     state: &mut [i64],
     fresh: &mut [i64],
     i: usize,
@@ -405,41 +380,22 @@ fn replace_both(
     k: usize,
     others: &[i64],
     other: Option<usize>,
-    scopes: &[u16],
 )
-    requires { ((m : Resolved.Model) × (s : State) × (ps : List Resolved.Part) × (qs : List Resolved.Part) × Enter.Both nodes.now scopes.now root variables state.old i locals.now next k others.now other m s ps qs) × (length fresh.old ≡ Enter.fresh_length) }
-    ensures { (m : Resolved.Model) (s : State) (ps qs : List Resolved.Part) → Enter.Both nodes.now scopes.now root variables state.old i locals.now next k others.now other m s ps qs → state.new ≡ state_numbers (Enter.both_entering m s i locals.now ps k others.now qs) }
+    requires { ((m : Resolved.Model) × (s : State) × (ps : List Resolved.Part) × (qs : List Resolved.Part) × Enter.Both tables.nodes.now tables.scopes.now tables.root tables.variables state.old i locals.now next k others.now other m s ps qs) × (length fresh.old ≡ Enter.fresh_length) }
+    ensures { (m : Resolved.Model) (s : State) (ps qs : List Resolved.Part) → Enter.Both tables.entry.nodes.now tables.entry.scopes.now tables.entry.root tables.entry.variables state.old i locals.now next k others.now other m s ps qs → state.new ≡ state_numbers (Enter.both_entering m s i locals.now ps k others.now qs) }
 {
-    if count_next(nodes, root, variables, next) == 0 {
-        replace_process(
-            nodes, root, variables, state, fresh, i, locals, next, scopes,
-        );
-        replace_process(
-            nodes,
-            root,
-            variables,
-            state,
-            fresh,
-            k - 1,
-            others,
-            other,
-            scopes,
-        );
+    if count_next(tables, next) == 0 {
+        replace_process(tables, state, fresh, i, locals, next);
+        replace_process(tables, state, fresh, k - 1, others, other);
         return;
     }
-    replace_process(
-        nodes, root, variables, state, fresh, k, others, other, scopes,
-    );
-    replace_process(
-        nodes, root, variables, state, fresh, i, locals, next, scopes,
-    );
+    replace_process(tables, state, fresh, k, others, other);
+    replace_process(tables, state, fresh, i, locals, next);
 }
 
 // 17 and 18 of a handshake, then its move.
 fn move_both(
-    nodes: &[u64],
-    root: usize,
-    variables: usize,
+    tables: Tables,
     state: &mut [i64],
     fresh: &mut [i64],
     i: usize,
@@ -448,87 +404,54 @@ fn move_both(
     k: usize,
     others: &[i64],
     other: Option<usize>,
-    scopes: &[u16],
 ) -> Result<(), Refusal>
-    requires { ((m : Resolved.Model) × (s : State) × (ps : List Resolved.Part) × (qs : List Resolved.Part) × Enter.Meets nodes.now scopes.now root variables state.old i locals.now next k others.now other m s ps qs) × (length fresh.old ≡ Enter.fresh_length) }
-    ensures { (m : Resolved.Model) (s : State) (ps qs : List Resolved.Part) → Enter.Meets nodes.now scopes.now root variables state.old i locals.now next k others.now other m s ps qs → Enter.Answers (arguments_given locals.now ps && arguments_given others.now qs) s (Enter.both_entering m s i locals.now ps k others.now qs) result state.new }
+    requires { ((m : Resolved.Model) × (s : State) × (ps : List Resolved.Part) × (qs : List Resolved.Part) × Enter.Meets tables.nodes.now tables.scopes.now tables.root tables.variables state.old i locals.now next k others.now other m s ps qs) × (length fresh.old ≡ Enter.fresh_length) }
+    ensures { (m : Resolved.Model) (s : State) (ps qs : List Resolved.Part) → Enter.Meets tables.entry.nodes.now tables.entry.scopes.now tables.entry.root tables.entry.variables state.old i locals.now next k others.now other m s ps qs → Enter.Answers (arguments_given locals.now ps && arguments_given others.now qs) s (Enter.both_entering m s i locals.now ps k others.now qs) result state.new }
 {
-    if !arguments_given(nodes, locals, next) {
+    if !arguments_given(tables.nodes, locals, next) {
         return Err(Refusal::Arguments);
     }
-    if !arguments_given(nodes, others, other) {
+    if !arguments_given(tables.nodes, others, other) {
         return Err(Refusal::Arguments);
     }
     let n = state::process_count(&state[..]);
-    let count = count_next(nodes, root, variables, next);
-    let also = count_next(nodes, root, variables, other);
+    let count = count_next(tables, next);
+    let also = count_next(tables, other);
     if Room::PROCESSES + 2 < n + count + also {
         return Err(Refusal::Processes);
     }
     if i < k {
-        replace_both(
-            nodes, root, variables, state, fresh, i, locals, next, k, others, other, scopes,
-        );
+        replace_both(tables, state, fresh, i, locals, next, k, others, other);
         return Ok(());
     }
-    replace_both(
-        nodes, root, variables, state, fresh, k, others, other, i, locals, next, scopes,
-    );
+    replace_both(tables, state, fresh, k, others, other, i, locals, next);
     Ok(())
 }
 
 // An entry of one process: names take the values of the pair.
 fn take_alone(
-    nodes: &[u64],
-    roots: &[u16],
-    scopes: &[u16],
-    root: usize,
-    variables: usize,
+    tables: Tables,
     state: &mut [i64],
     fresh: &mut [i64],
     place: usize,
     branch: usize,
     pair: usize,
 ) -> Result<(), Refusal>
-    requires { ((m : Resolved.Model) × (s : State) × (p : Process) × (b : Resolved.Branch) × (g : Guard) × Enter.AloneEntry nodes.now roots.now scopes.now root variables state.old place branch pair m s p b g) × (length fresh.old ≡ Enter.fresh_length) }
-    ensures { (m : Resolved.Model) (s : State) (p : Process) (b : Resolved.Branch) (g : Guard) → Enter.AloneEntry nodes.now roots.now scopes.now root variables state.old place branch pair m s p b g → Enter.Answers (arguments_given (Enter.locals_of p (values_at s.pairs pair) g) b.next) s (Enter.changed (Enter.entering m s place (Enter.locals_of p (values_at s.pairs pair) g) b.next) (on_action unchanged change_of g)) result state.new }
+    requires { ((m : Resolved.Model) × (s : State) × (p : Process) × (b : Resolved.Branch) × (g : Guard) × Enter.AloneEntry tables.nodes.now tables.roots.now tables.scopes.now tables.root tables.variables state.old place branch pair m s p b g) × (length fresh.old ≡ Enter.fresh_length) }
+    ensures { (m : Resolved.Model) (s : State) (p : Process) (b : Resolved.Branch) (g : Guard) → Enter.AloneEntry tables.entry.nodes.now tables.entry.roots.now tables.entry.scopes.now tables.entry.root tables.entry.variables state.old place branch pair m s p b g → Enter.Answers (arguments_given (Enter.locals_of p (values_at s.pairs pair) g) b.next) s (Enter.changed (Enter.entering m s place (Enter.locals_of p (values_at s.pairs pair) g) b.next) (on_action unchanged change_of g)) result state.new }
 {
     let mut locals = [0i64; Room::LOCALS];
     let values = pair_values(&state[..], pair);
-    let entered = enter(
-        nodes,
-        roots,
-        scopes,
-        &state[..],
-        place,
-        branch,
-        values,
-        &mut locals,
-    );
+    let entered = enter(tables, &state[..], place, branch, values, &mut locals);
     let count = entered.count;
     let next = entered.next;
     let offer = entered.offer;
-    move_alone(
-        nodes,
-        root,
-        variables,
-        state,
-        fresh,
-        place,
-        &locals[..count],
-        next,
-        offer,
-        scopes,
-    )
+    move_alone(tables, state, fresh, place, &locals[..count], next, offer)
 }
 
 // An entry of two processes: the receiver's names take the values sent.
 fn take_handshake(
-    nodes: &[u64],
-    roots: &[u16],
-    scopes: &[u16],
-    root: usize,
-    variables: usize,
+    tables: Tables,
     state: &mut [i64],
     fresh: &mut [i64],
     place: usize,
@@ -536,26 +459,15 @@ fn take_handshake(
     partner: usize,
     partner_branch: usize,
 ) -> Result<(), Refusal>
-    requires { ((m : Resolved.Model) × (s : State) × (x : Enter.Side) × (y : Enter.Side) × Enter.HandEntry nodes.now roots.now scopes.now root variables state.old place branch partner partner_branch m s x y) × (length fresh.old ≡ Enter.fresh_length) }
-    ensures { (m : Resolved.Model) (s : State) (x y : Enter.Side) → Enter.HandEntry nodes.now roots.now scopes.now root variables state.old place branch partner partner_branch m s x y → Enter.Answers (arguments_given (Enter.sent x) x.branch.next && arguments_given (Enter.received x y) y.branch.next) s (Enter.both_entering m s place (Enter.sent x) x.branch.next partner (Enter.received x y) y.branch.next) result state.new }
+    requires { ((m : Resolved.Model) × (s : State) × (x : Enter.Side) × (y : Enter.Side) × Enter.HandEntry tables.nodes.now tables.roots.now tables.scopes.now tables.root tables.variables state.old place branch partner partner_branch m s x y) × (length fresh.old ≡ Enter.fresh_length) }
+    ensures { (m : Resolved.Model) (s : State) (x y : Enter.Side) → Enter.HandEntry tables.entry.nodes.now tables.entry.roots.now tables.entry.scopes.now tables.entry.root tables.entry.variables state.old place branch partner partner_branch m s x y → Enter.Answers (arguments_given (Enter.sent x) x.branch.next && arguments_given (Enter.received x y) y.branch.next) s (Enter.both_entering m s place (Enter.sent x) x.branch.next partner (Enter.received x y) y.branch.next) result state.new }
 {
     let mut locals = [0i64; Room::LOCALS];
     let mut others = [0i64; Room::LOCALS];
-    let sender = enter(
-        nodes,
-        roots,
-        scopes,
-        &state[..],
-        place,
-        branch,
-        none_bound(),
-        &mut locals,
-    );
+    let sender = enter(tables, &state[..], place, branch, none_bound(), &mut locals);
     let offer = sender.offer;
     let receiver = enter(
-        nodes,
-        roots,
-        scopes,
+        tables,
         &state[..],
         partner,
         partner_branch,
@@ -567,9 +479,7 @@ fn take_handshake(
     let also = receiver.count;
     let other = receiver.next;
     move_both(
-        nodes,
-        root,
-        variables,
+        tables,
         state,
         fresh,
         place,
@@ -578,17 +488,12 @@ fn take_handshake(
         partner,
         &others[..also],
         other,
-        scopes,
     )
 }
 
 // Takes a listed entry: the state moves, or 17, 18 or 19 leaves it as it is.
 pub fn take_entry(
-    nodes: &[u64],
-    roots: &[u16],
-    scopes: &[u16],
-    root: usize,
-    variables: usize,
+    tables: Tables,
     state: &mut [i64],
     fresh: &mut [i64],
     kind: u64,
@@ -598,25 +503,11 @@ pub fn take_entry(
     partner_branch: usize,
     pair: usize,
 ) -> Result<(), Refusal>
-    requires { ((m : Resolved.Model) × (s : State) × (w : ℕ) × Enter.Lent nodes.now roots.now scopes.now root variables state.old m s × In (entry (key kind place branch partner partner_branch pair) w) (entries (branches m) s)) × (length fresh.old ≡ Enter.fresh_length) }
-    ensures { (m : Resolved.Model) (s : State) (w : ℕ) → Enter.Lent nodes.now roots.now scopes.now root variables state.old m s → In (entry (key kind place branch partner partner_branch pair) w) (entries (branches m) s) → Enter.Answers (entry_arguments m s (key kind place branch partner partner_branch pair)) s (entry_state m s (key kind place branch partner partner_branch pair)) result state.new }
+    requires { ((m : Resolved.Model) × (s : State) × (w : ℕ) × Enter.Lent tables.nodes.now tables.roots.now tables.scopes.now tables.root tables.variables state.old m s × In (entry (key kind place branch partner partner_branch pair) w) (entries (branches m) s)) × (length fresh.old ≡ Enter.fresh_length) }
+    ensures { (m : Resolved.Model) (s : State) (w : ℕ) → Enter.Lent tables.entry.nodes.now tables.entry.roots.now tables.entry.scopes.now tables.entry.root tables.entry.variables state.old m s → In (entry (key kind place branch partner partner_branch pair) w) (entries (branches m) s) → Enter.Answers (entry_arguments m s (key kind place branch partner partner_branch pair)) s (entry_state m s (key kind place branch partner partner_branch pair)) result state.new }
 {
     if kind == EntryKind::HANDSHAKE {
-        return take_handshake(
-            nodes,
-            roots,
-            scopes,
-            root,
-            variables,
-            state,
-            fresh,
-            place,
-            branch,
-            partner,
-            partner_branch,
-        );
+        return take_handshake(tables, state, fresh, place, branch, partner, partner_branch);
     }
-    take_alone(
-        nodes, roots, scopes, root, variables, state, fresh, place, branch, pair,
-    )
+    take_alone(tables, state, fresh, place, branch, pair)
 }

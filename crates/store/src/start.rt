@@ -17,6 +17,7 @@ ghost use Rattle.state.specs.Change.{process_pushed};
 ghost use Rattle.model.specs.Good.{Every, GoodStart, GoodModel};
 ghost use Rattle.store.specs.Start as Start;
 
+use tables::Tables;
 use tree::NodeKind;
 
 #[derive(Clone, Copy)]
@@ -37,34 +38,27 @@ fn push_known(state: &mut [i64], sum: usize, locals: &[i64], scopes: &[u16])
 }
 
 // Pushes a process for each sum at k.
-fn push_sums(nodes: &[u64], k: usize, locals: &[i64], state: &mut [i64], scopes: &[u16])
-    requires { Start.SumsFit nodes.now scopes.now k locals.now state.old }
-    ensures { (ns : List ℕ) → Represents.Sums nodes.now ns k → Start.Adds (entered scopes.now ns locals.now) state.old state.new }
+fn push_sums(tables: Tables, k: usize, locals: &[i64], state: &mut [i64])
+    requires { Start.SumsFit tables.nodes.now tables.scopes.now k locals.now state.old }
+    ensures { (ns : List ℕ) → Represents.Sums tables.entry.nodes.now ns k → Start.Adds (entered tables.entry.scopes.now ns locals.now) state.old state.new }
 {
-    let cell = eval::cell_at(nodes, k);
+    let cell = eval::cell_at(tables.nodes, k);
     if tree::kind_of(cell) != NodeKind::BESIDE {
-        push_known(state, tree::token_of(cell), locals, scopes);
+        push_known(state, tree::token_of(cell), locals, tables.scopes);
         return;
     }
-    let first = eval::cell_at(nodes, tree::left_of(cell));
-    push_known(state, tree::token_of(first), locals, scopes);
-    push_sums(nodes, k - 1, locals, state, scopes);
+    let first = eval::cell_at(tables.nodes, tree::left_of(cell));
+    push_known(state, tree::token_of(first), locals, tables.scopes);
+    push_sums(tables, k - 1, locals, state);
 }
 
 // The same, so many times.
-fn push_copies(
-    nodes: &[u64],
-    k: usize,
-    locals: &[i64],
-    count: usize,
-    state: &mut [i64],
-    scopes: &[u16],
-)
-    requires { Start.CopiesFit nodes.now scopes.now k locals.now state.old count }
-    ensures { (ns : List ℕ) → Represents.Sums nodes.now ns k → Start.Adds (copies count (entered scopes.now ns locals.now)) state.old state.new }
+fn push_copies(tables: Tables, k: usize, locals: &[i64], count: usize, state: &mut [i64])
+    requires { Start.CopiesFit tables.nodes.now tables.scopes.now k locals.now state.old count }
+    ensures { (ns : List ℕ) → Represents.Sums tables.entry.nodes.now ns k → Start.Adds (copies count (entered tables.entry.scopes.now ns locals.now)) state.old state.new }
 {
     for i in 0..count {
-        push_sums(nodes, k, locals, state, scopes);
+        push_sums(tables, k, locals, state);
     }
 }
 
@@ -103,65 +97,37 @@ fn put_values(nodes: &[u64], k: usize, values: &mut [i64])
 }
 
 // Pushes the processes of the item at k.
-fn push_item(
-    nodes: &[u64],
-    root: usize,
-    variables: usize,
-    k: usize,
-    state: &mut [i64],
-    scopes: &[u16],
-)
-    requires { Start.ItemFits nodes.now scopes.now root variables k state.old }
-    ensures { (m : Resolved.Model) (s : Resolved.Start) → Defines nodes.now root variables m → GoodModel m → Scoped scopes.now m → GoodStart m s → Represents.Start nodes.now s k → Start.Adds (start_processes m (Start.only s)) state.old state.new }
+fn push_item(tables: Tables, k: usize, state: &mut [i64])
+    requires { Start.ItemFits tables.nodes.now tables.scopes.now tables.root tables.variables k state.old }
+    ensures { (m : Resolved.Model) (s : Resolved.Start) → Defines tables.entry.nodes.now tables.entry.root tables.entry.variables m → GoodModel m → Scoped tables.entry.scopes.now m → GoodStart m s → Represents.Start tables.entry.nodes.now s k → Start.Adds (start_processes m (Start.only s)) state.old state.new }
 {
-    let cell = eval::cell_at(nodes, k);
-    let body = eval::next::body_of(nodes, root, variables, tree::token_of(cell));
+    let cell = eval::cell_at(tables.nodes, k);
+    let body = eval::next::body_of(tables, tree::token_of(cell));
     let count = tree::third_of(cell);
     let mut values = [0i64; Locals::MOST];
-    put_values(nodes, k, &mut values);
-    push_copies(
-        nodes,
-        body,
-        &values[..count],
-        tree::left_of(cell),
-        state,
-        scopes,
-    );
+    put_values(tables.nodes, k, &mut values);
+    push_copies(tables, body, &values[..count], tree::left_of(cell), state);
 }
 
 // Pushes the processes of the items at k.
-fn push_items(
-    nodes: &[u64],
-    root: usize,
-    variables: usize,
-    k: usize,
-    state: &mut [i64],
-    scopes: &[u16],
-)
-    requires { Start.ItemsFit nodes.now scopes.now root variables k state.old }
-    ensures { (m : Resolved.Model) (ss : List Resolved.Start) → Defines nodes.now root variables m → GoodModel m → Scoped scopes.now m → Every (GoodStart m) ss → Represents.Starts nodes.now ss k → Start.Adds (start_processes m ss) state.old state.new }
+fn push_items(tables: Tables, k: usize, state: &mut [i64])
+    requires { Start.ItemsFit tables.nodes.now tables.scopes.now tables.root tables.variables k state.old }
+    ensures { (m : Resolved.Model) (ss : List Resolved.Start) → Defines tables.entry.nodes.now tables.entry.root tables.entry.variables m → GoodModel m → Scoped tables.entry.scopes.now m → Every (GoodStart m) ss → Represents.Starts tables.entry.nodes.now ss k → Start.Adds (start_processes m ss) state.old state.new }
 {
-    let cell = eval::cell_at(nodes, k);
+    let cell = eval::cell_at(tables.nodes, k);
     if tree::kind_of(cell) != NodeKind::SYSTEM {
-        push_item(nodes, root, variables, k, state, scopes);
+        push_item(tables, k, state);
         return;
     }
-    push_item(nodes, root, variables, tree::left_of(cell), state, scopes);
-    push_items(nodes, root, variables, k - 1, state, scopes);
+    push_item(tables, tree::left_of(cell), state);
+    push_items(tables, k - 1, state);
 }
 
 // Writes the opened state over a cleared one.
-pub fn open_state(
-    nodes: &[u64],
-    root: usize,
-    variables: usize,
-    definitions: usize,
-    state: &mut [i64],
-    scopes: &[u16],
-)
-    requires { (state.old ≡ replicate state_length (pos 0)) × ((m : Resolved.Model) × Start.Opens nodes.now scopes.now root variables definitions m) }
-    ensures { (m : Resolved.Model) → Start.Opens nodes.now scopes.now root variables definitions m → state.new ≡ state_numbers (opened_state m) }
+pub fn open_state(tables: Tables, definitions: usize, state: &mut [i64])
+    requires { (state.old ≡ replicate state_length (pos 0)) × ((m : Resolved.Model) × Start.Opens tables.nodes.now tables.scopes.now tables.root tables.variables definitions m) }
+    ensures { (m : Resolved.Model) → Start.Opens tables.entry.nodes.now tables.entry.scopes.now tables.entry.root tables.entry.variables definitions m → state.new ≡ state_numbers (opened_state m) }
 {
-    let line = eval::next::less(eval::next::less(root, variables), definitions);
-    push_items(nodes, root, variables, line, state, scopes);
+    let line = eval::next::less(eval::next::less(tables.root, tables.variables), definitions);
+    push_items(tables, line, state);
 }

@@ -17,6 +17,15 @@ ghost use Rattle.walk.specs.Entries.{Row};
 ghost use Rattle.walk.specs.Held.{Held, Seen, Stands, Lists, Room, Takes};
 
 use search::Walked;
+use tables::Tables;
+
+// A text's bytes, and where its tokens stand.
+#[derive(Clone, Copy)]
+pub struct Written<'a> {
+    pub text: &'a [u8],
+    pub places: &'a [u16],
+    pub sizes: &'a [u16],
+}
 
 #[derive(Clone, Copy)]
 pub struct Level;
@@ -59,61 +68,52 @@ fn number_at(table: &[u16], n: usize) -> usize
 }
 
 // Whether a token of the text is this name.
-fn is_named(text: &[u8], places: &[u16], sizes: &[u16], token: usize, name: &[u8]) -> bool
-    requires { (w : ℕ → List ℕ) × Spells w text.now places.now sizes.now }
-    ensures { (w : ℕ → List ℕ) → Spells w text.now places.now sizes.now → result ≡ same_bytes (w token) name.now }
+fn is_named(written: Written, token: usize, name: &[u8]) -> bool
+    requires { (w : ℕ → List ℕ) × Spells w written.text.now written.places.now written.sizes.now }
+    ensures { (w : ℕ → List ℕ) → Spells w written.entry.text.now written.entry.places.now written.entry.sizes.now → result ≡ same_bytes (w token) name.now }
 {
-    let from = number_at(places, token);
-    let size = number_at(sizes, token);
+    let from = number_at(written.places, token);
+    let size = number_at(written.sizes, token);
     let to = from + size;
-    &text[from..to] == name
+    &written.text[from..to] == name
 }
 
 // Whether a listed entry is the wait of this name.
 fn is_sought(
-    nodes: &[u64],
-    roots: &[u16],
-    scopes: &[u16],
-    text: &[u8],
-    places: &[u16],
-    sizes: &[u16],
+    tables: Tables,
+    written: Written,
     name: &[u8],
     state: &[i64],
     kind: u64,
     place: usize,
     branch: usize,
 ) -> bool
-    requires { (m : Resolved.Model) × (s : State) × (k : ℕ) × (n : ℕ) × (q : ℕ) × (w : ℕ) × Seen nodes.now roots.now scopes.now text.now places.now sizes.now state.now kind place branch m s k n q w }
-    ensures { (m : Resolved.Model) (s : State) (k n q w : ℕ) → Seen nodes.now roots.now scopes.now text.now places.now sizes.now state.now kind place branch m s k n q w → result ≡ is_sought m name.now s (key kind place branch k n q) }
+    requires { (m : Resolved.Model) × (s : State) × (k : ℕ) × (n : ℕ) × (q : ℕ) × (w : ℕ) × Seen tables.nodes.now tables.roots.now tables.scopes.now written.text.now written.places.now written.sizes.now state.now kind place branch m s k n q w }
+    ensures { (m : Resolved.Model) (s : State) (k n q w : ℕ) → Seen tables.entry.nodes.now tables.entry.roots.now tables.entry.scopes.now written.entry.text.now written.entry.places.now written.entry.sizes.now state.now kind place branch m s k n q w → result ≡ is_sought m name.now s (key kind place branch k n q) }
 {
     if kind != listing::EntryKind::WAIT {
         return false;
     }
-    let token = step::wait_token(nodes, roots, scopes, state, place, branch);
-    is_named(text, places, sizes, token, name)
+    let token = step::wait_token(tables, state, place, branch);
+    is_named(written, token, name)
 }
 
 // ---- one entry
 
 // Takes entry c of the listing: the state moves, or 17, 18 or 19 leaves it as it is.
 pub fn take_row(
-    nodes: &[u64],
-    roots: &[u16],
-    scopes: &[u16],
-    root: usize,
-    variables: usize,
+    tables: Tables,
     state: &mut [i64],
     listing: &[u64],
     c: usize,
 ) -> Result<(), step::Refusal>
-    requires { (m : Resolved.Model) × (s : State) × (es : List rules.Entry) × (e : rules.Entry) × Row nodes.now roots.now scopes.now root variables state.old listing.now c m s es e }
-    ensures { (m : Resolved.Model) (s : State) (es : List rules.Entry) (e : rules.Entry) → Row nodes.now roots.now scopes.now root variables state.old listing.now c m s es e → Enter.Answers (entry_arguments m s (rules.key_of e)) s (entry_state m s (rules.key_of e)) result state.new }
+    requires { (m : Resolved.Model) × (s : State) × (es : List rules.Entry) × (e : rules.Entry) × Row tables.nodes.now tables.roots.now tables.scopes.now tables.root tables.variables state.old listing.now c m s es e }
+    ensures { (m : Resolved.Model) (s : State) (es : List rules.Entry) (e : rules.Entry) → Row tables.entry.nodes.now tables.entry.roots.now tables.entry.scopes.now tables.entry.root tables.entry.variables state.old listing.now c m s es e → Enter.Answers (entry_arguments m s (rules.key_of e)) s (entry_state m s (rules.key_of e)) result state.new }
 {
     let mut fresh = [0i64; Level::FRESH];
     let e = listing::entry_at(listing, c);
     step::take_entry(
-        nodes, roots, scopes, root, variables, state, &mut fresh, e.kind, e.place, e.branch,
-        e.partner, e.pbranch, e.pair,
+        tables, state, &mut fresh, e.kind, e.place, e.branch, e.partner, e.pbranch, e.pair,
     )
 }
 
@@ -128,21 +128,15 @@ fn copy_row(states: &mut [i64])
 
 // Takes entry e of the first state: the second becomes the one after it.
 fn take_at(
-    nodes: &[u64],
-    roots: &[u16],
-    scopes: &[u16],
-    root: usize,
-    variables: usize,
-    text: &[u8],
-    places: &[u16],
-    sizes: &[u16],
+    tables: Tables,
+    written: Written,
     name: &[u8],
     states: &mut [i64],
     listing: &[u64],
     e: usize,
 ) -> Move
-    requires { ((m : Resolved.Model) × (s : State) × (es : List rules.Entry) × Held nodes.now roots.now scopes.now root variables text.now places.now sizes.now m × Stands states.old m s × Lists listing.now m s es × (e < length es)) × (state_length + state_length ≤ length states.old) × (length listing.now ≡ listing_length) }
-    ensures { (m : Resolved.Model) (s : State) (es : List rules.Entry) → Held nodes.now roots.now scopes.now root variables text.now places.now sizes.now m → Stands states.old m s → Lists listing.now m s es → e < length es → Takes m name.now s e states.old states.new result }
+    requires { ((m : Resolved.Model) × (s : State) × (es : List rules.Entry) × Held tables.nodes.now tables.roots.now tables.scopes.now tables.root tables.variables written.text.now written.places.now written.sizes.now m × Stands states.old m s × Lists listing.now m s es × (e < length es)) × (state_length + state_length ≤ length states.old) × (length listing.now ≡ listing_length) }
+    ensures { (m : Resolved.Model) (s : State) (es : List rules.Entry) → Held tables.entry.nodes.now tables.entry.roots.now tables.entry.scopes.now tables.entry.root tables.entry.variables written.entry.text.now written.entry.places.now written.entry.sizes.now m → Stands states.old m s → Lists listing.now m s es → e < length es → Takes m name.now s e states.old states.new result }
 {
     let entry = listing::entry_at(listing, e);
     let weight = entry.weight;
@@ -150,12 +144,8 @@ fn take_at(
         return Move::Idle;
     }
     let wait = is_sought(
-        nodes,
-        roots,
-        scopes,
-        text,
-        places,
-        sizes,
+        tables,
+        written,
         name,
         &states[..Level::STATE],
         entry.kind,
@@ -163,16 +153,7 @@ fn take_at(
         entry.branch,
     );
     copy_row(states);
-    let taken = take_row(
-        nodes,
-        roots,
-        scopes,
-        root,
-        variables,
-        &mut states[Level::STATE..Level::PAIR],
-        listing,
-        e,
-    );
+    let taken = take_row(tables, &mut states[Level::STATE..Level::PAIR], listing, e);
     match taken {
         Ok(()) => Move::Leads(wait),
         Err(_) => Move::Refused,
@@ -184,14 +165,8 @@ fn take_at(
 // The first run of `more` and one more entries to the wait that begins with entry e; or none, and whether a refusal was met.
 #[cycle(seek_try_all_try_entry)]
 fn try_entry(
-    nodes: &[u64],
-    roots: &[u16],
-    scopes: &[u16],
-    root: usize,
-    variables: usize,
-    text: &[u8],
-    places: &[u16],
-    sizes: &[u16],
+    tables: Tables,
+    written: Written,
     name: &[u8],
     states: &mut [i64],
     listings: &mut [u64],
@@ -199,18 +174,12 @@ fn try_entry(
     more: usize,
     e: usize,
 ) -> Result<(), bool>
-    requires { ((m : Resolved.Model) × (s : State) × (es : List rules.Entry) × Held nodes.now roots.now scopes.now root variables text.now places.now sizes.now m × Stands states.old m s × Lists listings.old m s es × (e < length es)) × Room (more + 1) states.old listings.old run.old }
-    ensures { ((m : Resolved.Model) (s : State) (es : List rules.Entry) → Held nodes.now roots.now scopes.now root variables text.now places.now sizes.now m → Stands states.old m s → Lists listings.old m s es → e < length es → Hunts run.new (more + 1) (hunt_at (moves_to m name.now) s more e) result) × (take state_length states.new ≡ take state_length states.old) × (take listing_length listings.new ≡ take listing_length listings.old) }
+    requires { ((m : Resolved.Model) × (s : State) × (es : List rules.Entry) × Held tables.nodes.now tables.roots.now tables.scopes.now tables.root tables.variables written.text.now written.places.now written.sizes.now m × Stands states.old m s × Lists listings.old m s es × (e < length es)) × Room (more + 1) states.old listings.old run.old }
+    ensures { ((m : Resolved.Model) (s : State) (es : List rules.Entry) → Held tables.entry.nodes.now tables.entry.roots.now tables.entry.scopes.now tables.entry.root tables.entry.variables written.entry.text.now written.entry.places.now written.entry.sizes.now m → Stands states.old m s → Lists listings.old m s es → e < length es → Hunts run.new (more + 1) (hunt_at (moves_to m name.now) s more e) result) × (take state_length states.new ≡ take state_length states.old) × (take listing_length listings.new ≡ take listing_length listings.old) }
 {
     let taken = take_at(
-        nodes,
-        roots,
-        scopes,
-        root,
-        variables,
-        text,
-        places,
-        sizes,
+        tables,
+        written,
         name,
         states,
         &listings[..Level::LISTING],
@@ -228,14 +197,8 @@ fn try_entry(
                 return Err(false);
             }
             seek(
-                nodes,
-                roots,
-                scopes,
-                root,
-                variables,
-                text,
-                places,
-                sizes,
+                tables,
+                written,
                 name,
                 &mut states[Level::STATE..],
                 &mut listings[Level::LISTING..],
@@ -249,14 +212,8 @@ fn try_entry(
 // The same of all n entries.
 #[cycle(seek_try_all_try_entry)]
 fn try_all(
-    nodes: &[u64],
-    roots: &[u16],
-    scopes: &[u16],
-    root: usize,
-    variables: usize,
-    text: &[u8],
-    places: &[u16],
-    sizes: &[u16],
+    tables: Tables,
+    written: Written,
     name: &[u8],
     states: &mut [i64],
     listings: &mut [u64],
@@ -264,15 +221,12 @@ fn try_all(
     more: usize,
     n: usize,
 ) -> Result<(), bool>
-    requires { ((m : Resolved.Model) × (s : State) × (es : List rules.Entry) × Held nodes.now roots.now scopes.now root variables text.now places.now sizes.now m × Stands states.old m s × Lists listings.old m s es × (n ≡ length es)) × Room (more + 1) states.old listings.old run.old }
-    ensures { ((m : Resolved.Model) (s : State) (es : List rules.Entry) → Held nodes.now roots.now scopes.now root variables text.now places.now sizes.now m → Stands states.old m s → Lists listings.old m s es → n ≡ length es → Hunts run.new (more + 1) (hunt_from (moves_to m name.now) s more 0) result) × (take state_length states.new ≡ take state_length states.old) }
+    requires { ((m : Resolved.Model) × (s : State) × (es : List rules.Entry) × Held tables.nodes.now tables.roots.now tables.scopes.now tables.root tables.variables written.text.now written.places.now written.sizes.now m × Stands states.old m s × Lists listings.old m s es × (n ≡ length es)) × Room (more + 1) states.old listings.old run.old }
+    ensures { ((m : Resolved.Model) (s : State) (es : List rules.Entry) → Held tables.entry.nodes.now tables.entry.roots.now tables.entry.scopes.now tables.entry.root tables.entry.variables written.entry.text.now written.entry.places.now written.entry.sizes.now m → Stands states.old m s → Lists listings.old m s es → n ≡ length es → Hunts run.new (more + 1) (hunt_from (moves_to m name.now) s more 0) result) × (take state_length states.new ≡ take state_length states.old) }
 {
     let mut met = false;
     for e in 0..n {
-        let tried = try_entry(
-            nodes, roots, scopes, root, variables, text, places, sizes, name, states, listings,
-            run, more, e,
-        );
+        let tried = try_entry(tables, written, name, states, listings, run, more, e);
         match tried {
             Ok(()) => return Ok(()),
             Err(m) => met |= m,
@@ -284,36 +238,25 @@ fn try_all(
 // The same of a state that is still to be listed.
 #[cycle(seek_try_all_try_entry)]
 fn seek(
-    nodes: &[u64],
-    roots: &[u16],
-    scopes: &[u16],
-    root: usize,
-    variables: usize,
-    text: &[u8],
-    places: &[u16],
-    sizes: &[u16],
+    tables: Tables,
+    written: Written,
     name: &[u8],
     states: &mut [i64],
     listings: &mut [u64],
     run: &mut [u16],
     more: usize,
 ) -> Result<(), bool>
-    requires { ((m : Resolved.Model) × (s : State) × Held nodes.now roots.now scopes.now root variables text.now places.now sizes.now m × Stands states.old m s) × Room (more + 1) states.old listings.old run.old }
-    ensures { ((m : Resolved.Model) (s : State) → Held nodes.now roots.now scopes.now root variables text.now places.now sizes.now m → Stands states.old m s → Hunts run.new (more + 1) (hunt_from (moves_to m name.now) s more 0) result) × (take state_length states.new ≡ take state_length states.old) }
+    requires { ((m : Resolved.Model) × (s : State) × Held tables.nodes.now tables.roots.now tables.scopes.now tables.root tables.variables written.text.now written.places.now written.sizes.now m × Stands states.old m s) × Room (more + 1) states.old listings.old run.old }
+    ensures { ((m : Resolved.Model) (s : State) → Held tables.entry.nodes.now tables.entry.roots.now tables.entry.scopes.now tables.entry.root tables.entry.variables written.entry.text.now written.entry.places.now written.entry.sizes.now m → Stands states.old m s → Hunts run.new (more + 1) (hunt_from (moves_to m name.now) s more 0) result) × (take state_length states.new ≡ take state_length states.old) }
 {
     let listed = listing::list_here(
-        nodes,
-        roots,
-        scopes,
+        tables,
         &states[..Level::STATE],
         &mut listings[..Level::LISTING],
     );
     match listed {
         Err(_) => Err(true),
-        Ok((count, _)) => try_all(
-            nodes, roots, scopes, root, variables, text, places, sizes, name, states, listings,
-            run, more, count,
-        ),
+        Ok((count, _)) => try_all(tables, written, name, states, listings, run, more, count),
     }
 }
 
@@ -331,29 +274,20 @@ fn ended(met: bool) -> Walked
 
 // The first run to the wait from the first state, by length.
 fn search_from(
-    nodes: &[u64],
-    roots: &[u16],
-    scopes: &[u16],
-    root: usize,
-    variables: usize,
-    text: &[u8],
-    places: &[u16],
-    sizes: &[u16],
+    tables: Tables,
+    written: Written,
     name: &[u8],
     states: &mut [i64],
     listings: &mut [u64],
     run: &mut [u16],
     depth: usize,
 ) -> Walked
-    requires { ((m : Resolved.Model) × (s : State) × Held nodes.now roots.now scopes.now root variables text.now places.now sizes.now m × Stands states.old m s) × Room depth states.old listings.old run.old }
-    ensures { (m : Resolved.Model) (s : State) → Held nodes.now roots.now scopes.now root variables text.now places.now sizes.now m → Stands states.old m s → Answered (walk.search (moves_to m name.now) s depth) result run.new }
+    requires { ((m : Resolved.Model) × (s : State) × Held tables.nodes.now tables.roots.now tables.scopes.now tables.root tables.variables written.text.now written.places.now written.sizes.now m × Stands states.old m s) × Room depth states.old listings.old run.old }
+    ensures { (m : Resolved.Model) (s : State) → Held tables.entry.nodes.now tables.entry.roots.now tables.entry.scopes.now tables.entry.root tables.entry.variables written.entry.text.now written.entry.places.now written.entry.sizes.now m → Stands states.old m s → Answered (walk.search (moves_to m name.now) s depth) result run.new }
 {
     let mut met = false;
     for more in 0..depth {
-        let hit = seek(
-            nodes, roots, scopes, root, variables, text, places, sizes, name, states, listings,
-            run, more,
-        );
+        let hit = seek(tables, written, name, states, listings, run, more);
         match hit {
             Ok(()) => return Walked::Found(more + 1),
             Err(m) => met |= m,
@@ -364,14 +298,8 @@ fn search_from(
 
 // The same from a state that is lent, in lent tables.
 fn search_in(
-    nodes: &[u64],
-    roots: &[u16],
-    scopes: &[u16],
-    root: usize,
-    variables: usize,
-    text: &[u8],
-    places: &[u16],
-    sizes: &[u16],
+    tables: Tables,
+    written: Written,
     state: &[i64],
     name: &[u8],
     states: &mut [i64],
@@ -379,45 +307,30 @@ fn search_in(
     run: &mut [u16],
     depth: usize,
 ) -> Walked
-    requires { ((m : Resolved.Model) × (s : State) × Held nodes.now roots.now scopes.now root variables text.now places.now sizes.now m × Enter.Stands state.now m s) × Room depth states.old listings.old run.old }
-    ensures { (m : Resolved.Model) (s : State) → Held nodes.now roots.now scopes.now root variables text.now places.now sizes.now m → Enter.Stands state.now m s → Answered (walk.search (moves_to m name.now) s depth) result run.new }
+    requires { ((m : Resolved.Model) × (s : State) × Held tables.nodes.now tables.roots.now tables.scopes.now tables.root tables.variables written.text.now written.places.now written.sizes.now m × Enter.Stands state.now m s) × Room depth states.old listings.old run.old }
+    ensures { (m : Resolved.Model) (s : State) → Held tables.entry.nodes.now tables.entry.roots.now tables.entry.scopes.now tables.entry.root tables.entry.variables written.entry.text.now written.entry.places.now written.entry.sizes.now m → Enter.Stands state.now m s → Answered (walk.search (moves_to m name.now) s depth) result run.new }
 {
     state::put(states, state, Level::STATE);
-    search_from(
-        nodes, roots, scopes, root, variables, text, places, sizes, name, states, listings, run,
-        depth,
-    )
+    search_from(tables, written, name, states, listings, run, depth)
 }
 
 // Notes 8 and 9: the first run of at most `depth` entries from a state to the wait of this name, none, or 27.
 pub fn search_model(
-    nodes: &[u64],
-    roots: &[u16],
-    scopes: &[u16],
-    root: usize,
-    variables: usize,
-    text: &[u8],
-    places: &[u16],
-    sizes: &[u16],
+    tables: Tables,
+    written: Written,
     state: &[i64],
     name: &[u8],
     depth: usize,
     run: &mut [u16],
 ) -> Walked
-    requires { ((m : Resolved.Model) × (s : State) × Held nodes.now roots.now scopes.now root variables text.now places.now sizes.now m × Enter.Stands state.now m s) × (depth ≤ depth_limit) × (length run.old ≡ depth_limit) }
-    ensures { (m : Resolved.Model) (s : State) → Held nodes.now roots.now scopes.now root variables text.now places.now sizes.now m → Enter.Stands state.now m s → Answered (walk.search (moves_to m name.now) s depth) result run.new }
+    requires { ((m : Resolved.Model) × (s : State) × Held tables.nodes.now tables.roots.now tables.scopes.now tables.root tables.variables written.text.now written.places.now written.sizes.now m × Enter.Stands state.now m s) × (depth ≤ depth_limit) × (length run.old ≡ depth_limit) }
+    ensures { (m : Resolved.Model) (s : State) → Held tables.entry.nodes.now tables.entry.roots.now tables.entry.scopes.now tables.entry.root tables.entry.variables written.entry.text.now written.entry.places.now written.entry.sizes.now m → Enter.Stands state.now m s → Answered (walk.search (moves_to m name.now) s depth) result run.new }
 {
     let mut states = [0i64; Level::STATES];
     let mut listings = [0u64; Level::LISTINGS];
     search_in(
-        nodes,
-        roots,
-        scopes,
-        root,
-        variables,
-        text,
-        places,
-        sizes,
+        tables,
+        written,
         state,
         name,
         &mut states,

@@ -11,16 +11,6 @@ use borrow.Author.Rules.{rules}
 use lib.ListN.{length}
 use Rattle.listing.proofs.list_partner.Goals as goal
 
-pub offset_bounds-heads-row : goal.offset_bounds-heads-row
-offset_bounds-heads-row c =
-    let l : c.args.row < length c.args.heads.now = c.requires.2 in
-    search rules
-
-pub bounds-heads-row : goal.bounds-heads-row
-bounds-heads-row c =
-    let l : c.args.row < length c.args.heads.now = c.requires.2 in
-    search rules
-
 pub returns-then-partner-place : goal.returns-then-partner-place
 returns-then-partner-place c =
     (λ roots rows m s y x R at sp. let sh = R.holds.shown c.args.row y at in rw (partner-self x c.args.sender.rate c.args.place c.args.branch y (sym sh.place_is ∙ sym c.place_in-partner.ensures ∙ c.if-partner-place.true)) (adds_none _ _ c.requires.6), c.requires.5, c.requires.6)

@@ -8,30 +8,30 @@ use Rattle.listing.proofs.list_query.Goals as goal
 pub locals_of-locals-requires : goal.locals_of-locals-requires
 locals_of-locals-requires c =
     let w = c.requires.0.4 in let A = asked c.requires.1 c.requires.2 c.requires.0.5 in
-    ((c.args.nodes.now, c.requires.0.0, c.requires.0.1, c.requires.0.2, w), c.requires.3)
+    ((c.args.tables.nodes.now, c.requires.0.0, c.requires.0.1, c.requires.0.2, w), c.requires.3)
 
 pub run_of-run-requires : goal.run_of-run-requires
 run_of-run-requires c =
     let w = c.requires.0.4 in let A = asked c.requires.1 c.requires.2 c.requires.0.5 in
-    ((c.args.nodes.now, c.requires.0.0, c.args.scopes.now, c.requires.0.1, c.requires.0.2, w), count-two A.shows.sets-are)
+    ((c.args.tables.nodes.now, c.requires.0.0, c.args.tables.scopes.now, c.requires.0.1, c.requires.0.2, w), count-two A.shows.sets-are)
 
 pub list_bound-requires : goal.list_bound-requires
 list_bound-requires c =
     let w = c.requires.0.4 in let A = asked c.requires.1 c.requires.2 c.requires.0.5 in
-    let L = c.locals_of-locals.ensures c.args.nodes.now c.requires.0.0 c.requires.0.1 c.requires.0.2 w in
-    let N = c.run_of-run.ensures c.args.nodes.now _ A.query c.args.nodes.now c.requires.0.0 c.args.scopes.now c.requires.0.1 c.requires.0.2 A.shows w in
-    ((A.query, rw L A.shows), rw L (place-values w c.args.place c.requires.3), (c.args.nodes.now, c.requires.0.0, c.args.scopes.now, c.requires.0.1, c.requires.0.2, w), run_fits w _ _ _ N, c.requires.4, c.requires.5, c.requires.6)
+    let L = c.locals_of-locals.ensures c.args.tables.nodes.now c.requires.0.0 c.requires.0.1 c.requires.0.2 w in
+    let N = c.run_of-run.ensures c.args.tables.nodes.now _ A.query c.args.tables.nodes.now c.requires.0.0 c.args.tables.scopes.now c.requires.0.1 c.requires.0.2 A.shows w in
+    ((A.query, rw L A.shows), rw L (place-values w c.args.place c.requires.3), (c.args.tables.nodes.now, c.requires.0.0, c.args.tables.scopes.now, c.requires.0.1, c.requires.0.2, w), run_fits w _ _ _ N, c.requires.4, c.requires.5, c.requires.6)
 
 pub returns-then-kind-eq-BIND : goal.returns-then-kind-eq-BIND
 returns-then-kind-eq-BIND c =
-    (λ roots m s a w sa. let A = asked c.requires.1 c.requires.2 sa in let L = c.locals_of-locals.ensures c.args.nodes.now roots m s w in let N = c.run_of-run.ensures c.args.nodes.now _ A.query c.args.nodes.now roots c.args.scopes.now m s A.shows w in rw (A.bind_is c.if-kind-eq-BIND.true m s c.args.place c.args.branch c.args.o.rate) (c.list_bound.ensures.0 A.query c.args.nodes.now roots c.args.scopes.now m s (rw L A.shows) w N), c.list_bound.ensures.1, c.list_bound.ensures.2)
+    (λ roots m s a w sa. let A = asked c.requires.1 c.requires.2 sa in let L = c.locals_of-locals.ensures c.args.tables.nodes.now roots m s w in let N = c.run_of-run.ensures c.args.tables.nodes.now _ A.query c.args.tables.nodes.now roots c.args.tables.scopes.now m s A.shows w in rw (A.bind_is c.if-kind-eq-BIND.true m s c.args.place c.args.branch c.args.o.rate) (c.list_bound.ensures.0 A.query c.args.tables.nodes.now roots c.args.tables.scopes.now m s (rw L A.shows) w N), c.list_bound.ensures.1, c.list_bound.ensures.2)
 
 pub any_match-lit-requires : goal.any_match-lit-requires
 any_match-lit-requires c =
     let w = c.requires.0.4 in let A = asked c.requires.1 c.requires.2 c.requires.0.5 in
-    let L = c.locals_of-locals.ensures c.args.nodes.now c.requires.0.0 c.requires.0.1 c.requires.0.2 w in
-    let N = c.run_of-run.ensures c.args.nodes.now _ A.query c.args.nodes.now c.requires.0.0 c.args.scopes.now c.requires.0.1 c.requires.0.2 A.shows w in
-    ((A.query, rw L A.shows), rw L (place-values w c.args.place c.requires.3), (c.args.nodes.now, c.requires.0.0, c.args.scopes.now, c.requires.0.1, c.requires.0.2, w), run_fits w _ _ _ N)
+    let L = c.locals_of-locals.ensures c.args.tables.nodes.now c.requires.0.0 c.requires.0.1 c.requires.0.2 w in
+    let N = c.run_of-run.ensures c.args.tables.nodes.now _ A.query c.args.tables.nodes.now c.requires.0.0 c.args.tables.scopes.now c.requires.0.1 c.requires.0.2 A.shows w in
+    ((A.query, rw L A.shows), rw L (place-values w c.args.place c.requires.3), (c.args.tables.nodes.now, c.requires.0.0, c.args.tables.scopes.now, c.requires.0.1, c.requires.0.2, w), run_fits w _ _ _ N)
 
 pub list_alone-requires : goal.list_alone-requires
 list_alone-requires c =
@@ -39,15 +39,15 @@ list_alone-requires c =
 
 pub returns-then-lit : goal.returns-then-lit
 returns-then-lit c =
-    (λ roots m s a w sa. let A = asked c.requires.1 c.requires.2 sa in let L = c.locals_of-locals.ensures c.args.nodes.now roots m s w in let N = c.run_of-run.ensures c.args.nodes.now _ A.query c.args.nodes.now roots c.args.scopes.now m s A.shows w in let M = sym (c.any_match-lit.ensures A.query c.args.nodes.now roots c.args.scopes.now m s (rw L A.shows) w N) in rw (A.receive-is c.if-kind-eq-RECEIVE.true m s c.args.place c.args.branch c.args.o.rate ∙ when-yes _ _ (M ∙ c.if-lit.true)) c.list_alone.ensures.0, c.list_alone.ensures.1, c.list_alone.ensures.2)
+    (λ roots m s a w sa. let A = asked c.requires.1 c.requires.2 sa in let L = c.locals_of-locals.ensures c.args.tables.nodes.now roots m s w in let N = c.run_of-run.ensures c.args.tables.nodes.now _ A.query c.args.tables.nodes.now roots c.args.tables.scopes.now m s A.shows w in let M = sym (c.any_match-lit.ensures A.query c.args.tables.nodes.now roots c.args.tables.scopes.now m s (rw L A.shows) w N) in rw (A.receive-is c.if-kind-eq-RECEIVE.true m s c.args.place c.args.branch c.args.o.rate ∙ when-yes _ _ (M ∙ c.if-lit.true)) c.list_alone.ensures.0, c.list_alone.ensures.1, c.list_alone.ensures.2)
 
 pub returns-then-kind-eq-RECEIVE : goal.returns-then-kind-eq-RECEIVE
 returns-then-kind-eq-RECEIVE c =
-    (λ roots m s a w sa. let A = asked c.requires.1 c.requires.2 sa in let L = c.locals_of-locals.ensures c.args.nodes.now roots m s w in let N = c.run_of-run.ensures c.args.nodes.now _ A.query c.args.nodes.now roots c.args.scopes.now m s A.shows w in let M = sym (c.any_match-lit.ensures A.query c.args.nodes.now roots c.args.scopes.now m s (rw L A.shows) w N) in rw (A.receive-is c.if-kind-eq-RECEIVE.true m s c.args.place c.args.branch c.args.o.rate ∙ when-no _ _ (M ∙ c.if-lit.false)) (adds_none _ _ c.requires.6), c.requires.5, c.requires.6)
+    (λ roots m s a w sa. let A = asked c.requires.1 c.requires.2 sa in let L = c.locals_of-locals.ensures c.args.tables.nodes.now roots m s w in let N = c.run_of-run.ensures c.args.tables.nodes.now _ A.query c.args.tables.nodes.now roots c.args.tables.scopes.now m s A.shows w in let M = sym (c.any_match-lit.ensures A.query c.args.tables.nodes.now roots c.args.tables.scopes.now m s (rw L A.shows) w N) in rw (A.receive-is c.if-kind-eq-RECEIVE.true m s c.args.place c.args.branch c.args.o.rate ∙ when-no _ _ (M ∙ c.if-lit.false)) (adds_none _ _ c.requires.6), c.requires.5, c.requires.6)
 
 pub returns-then-lit-2 : goal.returns-then-lit-2
 returns-then-lit-2 c =
-    (λ roots m s a w sa. let A = asked c.requires.1 c.requires.2 sa in let L = c.locals_of-locals.ensures c.args.nodes.now roots m s w in let N = c.run_of-run.ensures c.args.nodes.now _ A.query c.args.nodes.now roots c.args.scopes.now m s A.shows w in let M = sym (c.any_match-lit.ensures A.query c.args.nodes.now roots c.args.scopes.now m s (rw L A.shows) w N) in rw (A.check-is c.if-kind-eq-BIND.false c.if-kind-eq-RECEIVE.false m s c.args.place c.args.branch c.args.o.rate ∙ unless-yes _ _ (M ∙ c.if-lit-2.true)) (adds_none _ _ c.requires.6), c.requires.5, c.requires.6)
+    (λ roots m s a w sa. let A = asked c.requires.1 c.requires.2 sa in let L = c.locals_of-locals.ensures c.args.tables.nodes.now roots m s w in let N = c.run_of-run.ensures c.args.tables.nodes.now _ A.query c.args.tables.nodes.now roots c.args.tables.scopes.now m s A.shows w in let M = sym (c.any_match-lit.ensures A.query c.args.tables.nodes.now roots c.args.tables.scopes.now m s (rw L A.shows) w N) in rw (A.check-is c.if-kind-eq-BIND.false c.if-kind-eq-RECEIVE.false m s c.args.place c.args.branch c.args.o.rate ∙ unless-yes _ _ (M ∙ c.if-lit-2.true)) (adds_none _ _ c.requires.6), c.requires.5, c.requires.6)
 
 pub list_alone-requires-2 : goal.list_alone-requires-2
 list_alone-requires-2 c =
@@ -55,4 +55,4 @@ list_alone-requires-2 c =
 
 pub returns : goal.returns
 returns c =
-    (λ roots m s a w sa. let A = asked c.requires.1 c.requires.2 sa in let L = c.locals_of-locals.ensures c.args.nodes.now roots m s w in let N = c.run_of-run.ensures c.args.nodes.now _ A.query c.args.nodes.now roots c.args.scopes.now m s A.shows w in let M = sym (c.any_match-lit.ensures A.query c.args.nodes.now roots c.args.scopes.now m s (rw L A.shows) w N) in rw (A.check-is c.if-kind-eq-BIND.false c.if-kind-eq-RECEIVE.false m s c.args.place c.args.branch c.args.o.rate ∙ unless-no _ _ (M ∙ c.if-lit-2.false)) c.list_alone-2.ensures.0, c.list_alone-2.ensures.1, c.list_alone-2.ensures.2)
+    (λ roots m s a w sa. let A = asked c.requires.1 c.requires.2 sa in let L = c.locals_of-locals.ensures c.args.tables.nodes.now roots m s w in let N = c.run_of-run.ensures c.args.tables.nodes.now _ A.query c.args.tables.nodes.now roots c.args.tables.scopes.now m s A.shows w in let M = sym (c.any_match-lit.ensures A.query c.args.tables.nodes.now roots c.args.tables.scopes.now m s (rw L A.shows) w N) in rw (A.check-is c.if-kind-eq-BIND.false c.if-kind-eq-RECEIVE.false m s c.args.place c.args.branch c.args.o.rate ∙ unless-no _ _ (M ∙ c.if-lit-2.false)) c.list_alone-2.ensures.0, c.list_alone-2.ensures.1, c.list_alone-2.ensures.2)

@@ -19,7 +19,7 @@ link-requires c =
 pub list_rows-count-requires : goal.list_rows-count-requires
 list_rows-count-requires c =
     let q = answered-rows c.requires.0.2 (rw c.in-Ok.is at (c.collect-collected.ensures c.requires.0.0 c.requires.0.1 c.requires.0.2)) in
-    ((c.args.roots.now, c.requires.0.0, c.requires.0.1, q.0), c.link.ensures, search rules, search rules, search rules, search rules, search rules)
+    ((c.args.tables.roots.now, c.requires.0.0, c.requires.0.1, q.0), c.link.ensures, search rules, search rules, search rules, search rules, search rules)
 
 pub returns-in-Full : goal.returns-in-Full
 returns-in-Full c =
@@ -33,5 +33,5 @@ pub returns-in-Ok : goal.returns-in-Ok
 returns-in-Ok c =
     λ m s w.
     let q = answered-rows w (rw c.in-Ok.is at (c.collect-collected.ensures m s w)) in
-    let A = adds-all c.requires.4 (c.list_rows-count.ensures.0 c.args.roots.now m s q.0) in
+    let A = adds-all c.requires.4 (c.list_rows-count.ensures.0 c.args.tables.roots.now m s q.0) in
     as-led _ _ (rw (not-lacking m s q.1) (c.judge-listed.ensures c.args.listing.now (entries (branches m) s) A.0 A.1))

@@ -11,4 +11,4 @@ use lib.ListN.{length}
 use Rattle.offers.proofs.collect.Given as goal
 
 abbrev pub invariant-loop-place : goal.invariant-loop-place
-invariant-loop-place l = (length l.heads ≡ length l.initial.heads) × (length l.numbers ≡ length l.initial.heads * row_width) × (l.row ≤ l.place * branch_limit) × (l.row ≤ length l.heads) × ((m : Resolved.Model) (s : State) → World l.nodes l.roots l.scopes l.state m s → Progress l.nodes l.heads l.numbers m s.processes l.place l.row)
+invariant-loop-place l = (length l.heads ≡ length l.initial.heads) × (length l.numbers ≡ length l.initial.heads * row_width) × (l.row ≤ l.place * branch_limit) × (l.row ≤ length l.heads) × ((m : Resolved.Model) (s : State) → World l.tables.nodes.now l.tables.roots.now l.tables.scopes.now l.state m s → Progress l.tables.nodes.now l.heads l.numbers m s.processes l.place l.row)

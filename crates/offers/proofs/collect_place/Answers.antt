@@ -16,59 +16,55 @@ sum_at-sum-requires c =
     let w = c.requires.0.2 in let i = c.args.place in let q = some-place w i c.requires.1 in let p = q.0 in let at = q.1 in
     (passed w, c.requires.1)
 
-pub offset_bounds-scopes-sum : goal.offset_bounds-scopes-sum
-offset_bounds-scopes-sum c =
+pub offset_bounds-tables-sum : goal.offset_bounds-tables-sum
+offset_bounds-tables-sum c =
     let w = c.requires.0.2 in let i = c.args.place in let q = some-place w i c.requires.1 in let p = q.0 in let at = q.1 in
     let S = c.sum_at-sum.ensures ∙ sum_is w i p at in
-    let l : c.sum_at-sum.result < length c.args.scopes.now = omega (arith, S, (sum_fits w i p at).1) in let k : c.sum_at-sum.result < length c.args.roots.now = omega (arith, S, (sum_fits w i p at).0) in
+    let l : c.sum_at-sum.result < length c.args.tables.scopes.now = omega (arith, S, (sum_fits w i p at).1) in let k : c.sum_at-sum.result < length c.args.tables.roots.now = omega (arith, S, (sum_fits w i p at).0) in
     search rules
 
-pub bounds-scopes-sum : goal.bounds-scopes-sum
-bounds-scopes-sum c =
+pub bounds-tables-sum : goal.bounds-tables-sum
+bounds-tables-sum c =
     let w = c.requires.0.2 in let i = c.args.place in let q = some-place w i c.requires.1 in let p = q.0 in let at = q.1 in
     let S = c.sum_at-sum.ensures ∙ sum_is w i p at in
-    let l : c.sum_at-sum.result < length c.args.scopes.now = omega (arith, S, (sum_fits w i p at).1) in let k : c.sum_at-sum.result < length c.args.roots.now = omega (arith, S, (sum_fits w i p at).0) in
+    let l : c.sum_at-sum.result < length c.args.tables.scopes.now = omega (arith, S, (sum_fits w i p at).1) in let k : c.sum_at-sum.result < length c.args.tables.roots.now = omega (arith, S, (sum_fits w i p at).0) in
     search rules
 
 pub locals_at-locals-requires : goal.locals_at-locals-requires
 locals_at-locals-requires c =
     let w = c.requires.0.2 in let i = c.args.place in let q = some-place w i c.requires.1 in let p = q.0 in let at = q.1 in
     let S = c.sum_at-sum.ensures ∙ sum_is w i p at in
-    let l : c.sum_at-sum.result < length c.args.scopes.now = omega (arith, S, (sum_fits w i p at).1) in let k : c.sum_at-sum.result < length c.args.roots.now = omega (arith, S, (sum_fits w i p at).0) in
-    let C : c.locals_in-count.result ≡ length p.locals = c.locals_in-count.ensures ∙ ap (λ (n : ℕ). locals_in (get_or c.args.scopes.now n 0)) S ∙ scope-is w i p at in
+    let l : c.sum_at-sum.result < length c.args.tables.scopes.now = omega (arith, S, (sum_fits w i p at).1) in let k : c.sum_at-sum.result < length c.args.tables.roots.now = omega (arith, S, (sum_fits w i p at).0) in
+    let C : c.locals_in-count.result ≡ length p.locals = c.locals_in-count.ensures ∙ ap (λ (n : ℕ). locals_in (get_or c.args.tables.scopes.now n 0)) S ∙ scope-is w i p at in
     ((passed w).long, omega (arith, few-processes c.args.state.now (passed w), c.requires.1), omega (arith, C, few-locals w i p at))
 
-pub offset_bounds-roots-sum : goal.offset_bounds-roots-sum
-offset_bounds-roots-sum c =
+pub offset_bounds-tables-sum-2 : goal.offset_bounds-tables-sum-2
+offset_bounds-tables-sum-2 c =
     let w = c.requires.0.2 in let i = c.args.place in let q = some-place w i c.requires.1 in let p = q.0 in let at = q.1 in
     let S = c.sum_at-sum.ensures ∙ sum_is w i p at in
-    let l : c.sum_at-sum.result < length c.args.scopes.now = omega (arith, S, (sum_fits w i p at).1) in let k : c.sum_at-sum.result < length c.args.roots.now = omega (arith, S, (sum_fits w i p at).0) in
+    let l : c.sum_at-sum.result < length c.args.tables.scopes.now = omega (arith, S, (sum_fits w i p at).1) in let k : c.sum_at-sum.result < length c.args.tables.roots.now = omega (arith, S, (sum_fits w i p at).0) in
     search rules
 
-pub bounds-roots-sum : goal.bounds-roots-sum
-bounds-roots-sum c =
+pub bounds-tables-sum-2 : goal.bounds-tables-sum-2
+bounds-tables-sum-2 c =
     let w = c.requires.0.2 in let i = c.args.place in let q = some-place w i c.requires.1 in let p = q.0 in let at = q.1 in
     let S = c.sum_at-sum.ensures ∙ sum_is w i p at in
-    let l : c.sum_at-sum.result < length c.args.scopes.now = omega (arith, S, (sum_fits w i p at).1) in let k : c.sum_at-sum.result < length c.args.roots.now = omega (arith, S, (sum_fits w i p at).0) in
+    let l : c.sum_at-sum.result < length c.args.tables.scopes.now = omega (arith, S, (sum_fits w i p at).1) in let k : c.sum_at-sum.result < length c.args.tables.roots.now = omega (arith, S, (sum_fits w i p at).0) in
     search rules
-
-pub overflow_cast-root : goal.overflow_cast-root
-overflow_cast-root c =
-    omega (arith, c.shared_slice_known-5-1.given c.sum_at-sum.result)
 
 pub collect_branches-requires : goal.collect_branches-requires
 collect_branches-requires c =
     let w = c.requires.0.2 in let i = c.args.place in let q = some-place w i c.requires.1 in let p = q.0 in let at = q.1 in
     let S = c.sum_at-sum.ensures ∙ sum_is w i p at in
-    let l : c.sum_at-sum.result < length c.args.scopes.now = omega (arith, S, (sum_fits w i p at).1) in let k : c.sum_at-sum.result < length c.args.roots.now = omega (arith, S, (sum_fits w i p at).0) in
-    let C : c.locals_in-count.result ≡ length p.locals = c.locals_in-count.ensures ∙ ap (λ (n : ℕ). locals_in (get_or c.args.scopes.now n 0)) S ∙ scope-is w i p at in
-    let LL = c.locals_at-locals.ensures ∙ ap (locals_at c.args.state.now i) C ∙ locals_are w i p at in let R : get_or c.args.roots.now c.sum_at-sum.result 0 ≡ get_or c.args.roots.now p.sum 0 = ap (λ (n : ℕ). get_or c.args.roots.now n 0) S in
+    let l : c.sum_at-sum.result < length c.args.tables.scopes.now = omega (arith, S, (sum_fits w i p at).1) in let k : c.sum_at-sum.result < length c.args.tables.roots.now = omega (arith, S, (sum_fits w i p at).0) in
+    let C : c.locals_in-count.result ≡ length p.locals = c.locals_in-count.ensures ∙ ap (λ (n : ℕ). locals_in (get_or c.args.tables.scopes.now n 0)) S ∙ scope-is w i p at in
+    let LL = c.locals_at-locals.ensures ∙ ap (locals_at c.args.state.now i) C ∙ locals_are w i p at in let R : get_or c.args.tables.roots.now c.sum_at-sum.result 0 ≡ get_or c.args.tables.roots.now p.sum 0 = ap (λ (n : ℕ). get_or c.args.tables.roots.now n 0) S in
     (rw (LL, R) (branched w i p at), rw LL (values-good w i p at), c.requires.2, c.requires.3, omega (arith, few-processes c.args.state.now (passed w), c.requires.1), omega (arith, c.requires.4))
 
 pub returns : goal.returns
 returns c =
     λ m s p w at.
     let i = c.args.place in let S = c.sum_at-sum.ensures ∙ sum_is w i p at in
-    let C : c.locals_in-count.result ≡ length p.locals = c.locals_in-count.ensures ∙ ap (λ (n : ℕ). locals_in (get_or c.args.scopes.now n 0)) S ∙ scope-is w i p at in
-    let LL = c.locals_at-locals.ensures ∙ ap (locals_at c.args.state.now i) C ∙ locals_are w i p at in let R : get_or c.args.roots.now c.sum_at-sum.result 0 ≡ get_or c.args.roots.now p.sum 0 = ap (λ (n : ℕ). get_or c.args.roots.now n 0) S in
+    let C : c.locals_in-count.result ≡ length p.locals = c.locals_in-count.ensures ∙ ap (λ (n : ℕ). locals_in (get_or c.args.tables.scopes.now n 0)) S ∙ scope-is w i p at in
+    let LL = c.locals_at-locals.ensures ∙ ap (locals_at c.args.state.now i) C ∙ locals_are w i p at in let R : get_or c.args.tables.roots.now c.sum_at-sum.result 0 ≡ get_or c.args.tables.roots.now p.sum 0 = ap (λ (n : ℕ). get_or c.args.tables.roots.now n 0) S in
     rw LL at (c.collect_branches.ensures (branches_of m p) (rw R (branches_at w i p at)))

@@ -10,7 +10,7 @@ use Rattle.running.proofs.run_lent.Given as goal
 
 abbrev pub invariant-loop-p : goal.invariant-loop-p
 invariant-loop-p l =
-    (Loop l.nodes l.roots l.scopes l.root l.variables l.words l.waiting l.initial.events l.initial.state l.steps l.initial.p.clock l.state l.events l.p) × (length l.heads ≡ row_limit) × (length l.numbers ≡ row_limit * row_width) × (length l.firsts ≡ bucket_limit) × (length l.nexts ≡ row_limit) × (length l.fresh ≡ fresh_length) × (length l.listing ≡ listing_length) × (length l.state ≡ length l.initial.state) × (length l.events ≡ length l.initial.events)
+    (Loop l.tables.nodes.now l.tables.roots.now l.tables.scopes.now l.tables.root l.tables.variables l.words l.waiting l.initial.events l.initial.state l.steps l.initial.p.clock l.state l.events l.p) × (length l.heads ≡ row_limit) × (length l.numbers ≡ row_limit * row_width) × (length l.firsts ≡ bucket_limit) × (length l.nexts ≡ row_limit) × (length l.fresh ≡ fresh_length) × (length l.listing ≡ listing_length) × (length l.state ≡ length l.initial.state) × (length l.events ≡ length l.initial.events)
 
 abbrev pub decreases-loop-p : goal.decreases-loop-p
 decreases-loop-p l =

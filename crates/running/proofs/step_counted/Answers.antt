@@ -22,7 +22,7 @@ draw_from-drawn-requires c =
 
 pub step_drawn-requires : goal.step_drawn-requires
 step_drawn-requires c =
-    let h = c.requires.0.4 in ((c.args.words.now, c.requires.0.0, c.requires.0.1, c.requires.0.2, c.requires.0.3, h, used-fits h c.if-total-eq0.false _ (rw rest_of at c.draw_from-drawn.ensures.value) _ _ c.in-Some.is (rw rest_of at c.draw_from-drawn.ensures.within), c.well_formed.1.1.1.1.1.1.1.1.1.1.0.0), c.requires.1, omega (arith, c.if-total-eq0.false), c.requires.2)
+    let h = c.requires.0.4 in ((c.args.words.now, c.requires.0.0, c.requires.0.1, c.requires.0.2, c.requires.0.3, h, used-fits h c.if-total-eq0.false _ (rw rest_of at c.draw_from-drawn.ensures.value) _ _ c.in-Some.is (rw rest_of at c.draw_from-drawn.ensures.within), c.well_formed.1.1.1.1.1.1.0.0), c.requires.1, omega (arith, c.if-total-eq0.false), c.requires.2)
 
 pub returns-in-None : goal.returns-in-None
 returns-in-None c =

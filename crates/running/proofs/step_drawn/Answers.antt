@@ -26,7 +26,7 @@ put_event-requires c =
 
 pub longer-requires : goal.longer-requires
 longer-requires c =
-    let h = c.requires.0.5 in let k = clock-later h _ c.args.used _ _ (left_over h _ _ _ _ _ h.stands.clock h.stands.waiting (c.take_timed-s.ensures c.requires.0.2 c.requires.0.3.timed.state c.requires.0.4 h.counted)) (omega (arith, c.if-number-ne0.false)) in (omega (arith, c.requires.3, c.well_formed.1.1.1.1.1.1.1.1.1.1.1.1.1.0.0), omega (arith, c.requires.0.6, c.requires.0.7), k.0, omega (arith, k.1, c.well_formed.1.1.1.1.1.1.1.1.1.1.1.1.0.0))
+    let h = c.requires.0.5 in let k = clock-later h _ c.args.used _ _ (left_over h _ _ _ _ _ h.stands.clock h.stands.waiting (c.take_timed-s.ensures c.requires.0.2 c.requires.0.3.timed.state c.requires.0.4 h.counted)) (omega (arith, c.if-number-ne0.false)) in (omega (arith, c.requires.3, c.well_formed.1.1.1.1.1.1.1.1.1.0.0), omega (arith, c.requires.0.6, c.requires.0.7), k.0, omega (arith, k.1, c.well_formed.1.1.1.1.1.1.1.1.0.0))
 
 pub returns : goal.returns
 returns c =

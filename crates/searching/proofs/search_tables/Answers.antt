@@ -9,16 +9,16 @@ use Rattle.searching.proofs.search_tables.Goals as goal
 
 pub is_state-requires : goal.is_state-requires
 is_state-requires c =
-    let T = c.args.nodes.now in
-    let R = c.args.roots.now in
-    let S = c.args.scopes.now in
-    let x = c.args.root in
-    let v = c.args.variables in
+    let T = c.args.tables.nodes.now in
+    let R = c.args.tables.roots.now in
+    let S = c.args.tables.scopes.now in
+    let x = c.args.tables.root in
+    let v = c.args.tables.variables in
     let n = c.args.sums in
     let k = c.args.channels in
-    let X = c.args.text.now in
-    let P = c.args.places.now in
-    let Q = c.args.sizes.now in
+    let X = c.args.written.text.now in
+    let P = c.args.written.places.now in
+    let Q = c.args.written.sizes.now in
     let Z = c.args.state.now in
     let m = c.requires.0.0 in
     let h = c.requires.0.1 in
@@ -27,32 +27,32 @@ is_state-requires c =
 pub returns-then-not-is_state : goal.returns-then-not-is_state
 returns-then-not-is_state c =
     λ m bs h.
-    let T = c.args.nodes.now in
-    let R = c.args.roots.now in
-    let S = c.args.scopes.now in
-    let x = c.args.root in
-    let v = c.args.variables in
+    let T = c.args.tables.nodes.now in
+    let R = c.args.tables.roots.now in
+    let S = c.args.tables.scopes.now in
+    let x = c.args.tables.root in
+    let v = c.args.tables.variables in
     let n = c.args.sums in
     let k = c.args.channels in
-    let X = c.args.text.now in
-    let P = c.args.places.now in
-    let Q = c.args.sizes.now in
+    let X = c.args.written.text.now in
+    let P = c.args.written.places.now in
+    let Q = c.args.written.sizes.now in
     let Z = c.args.state.now in
     rw c.bare.ensures (closed_run bs Z m c.args.name.now c.args.depth (machine-closed T R S n k m (tables T R S x v n k X P Q m h) Z (sym c.is_state.ensures ∙ refused _ c.if-not-is_state.true-raw) bs))
 
 pub returns-then-not-is_depth : goal.returns-then-not-is_depth
 returns-then-not-is_depth c =
     λ m bs h.
-    let T = c.args.nodes.now in
-    let R = c.args.roots.now in
-    let S = c.args.scopes.now in
-    let x = c.args.root in
-    let v = c.args.variables in
+    let T = c.args.tables.nodes.now in
+    let R = c.args.tables.roots.now in
+    let S = c.args.tables.scopes.now in
+    let x = c.args.tables.root in
+    let v = c.args.tables.variables in
     let n = c.args.sums in
     let k = c.args.channels in
-    let X = c.args.text.now in
-    let P = c.args.places.now in
-    let Q = c.args.sizes.now in
+    let X = c.args.written.text.now in
+    let P = c.args.written.places.now in
+    let Q = c.args.written.sizes.now in
     let Z = c.args.state.now in
     let l = c.requires.1 in
     let e = sym c.is_state.ensures ∙ passed _ c.if-not-is_state.false-raw in
@@ -61,16 +61,16 @@ returns-then-not-is_depth c =
 
 pub search_model-walked-requires : goal.search_model-walked-requires
 search_model-walked-requires c =
-    let T = c.args.nodes.now in
-    let R = c.args.roots.now in
-    let S = c.args.scopes.now in
-    let x = c.args.root in
-    let v = c.args.variables in
+    let T = c.args.tables.nodes.now in
+    let R = c.args.tables.roots.now in
+    let S = c.args.tables.scopes.now in
+    let x = c.args.tables.root in
+    let v = c.args.tables.variables in
     let n = c.args.sums in
     let k = c.args.channels in
-    let X = c.args.text.now in
-    let P = c.args.places.now in
-    let Q = c.args.sizes.now in
+    let X = c.args.written.text.now in
+    let P = c.args.written.places.now in
+    let Q = c.args.written.sizes.now in
     let Z = c.args.state.now in
     let l = c.requires.1 in
     let e = sym c.is_state.ensures ∙ passed _ c.if-not-is_state.false-raw in
@@ -80,16 +80,16 @@ search_model-walked-requires c =
 
 pub result_of-requires : goal.result_of-requires
 result_of-requires c =
-    let T = c.args.nodes.now in
-    let R = c.args.roots.now in
-    let S = c.args.scopes.now in
-    let x = c.args.root in
-    let v = c.args.variables in
+    let T = c.args.tables.nodes.now in
+    let R = c.args.tables.roots.now in
+    let S = c.args.tables.scopes.now in
+    let x = c.args.tables.root in
+    let v = c.args.tables.variables in
     let n = c.args.sums in
     let k = c.args.channels in
-    let X = c.args.text.now in
-    let P = c.args.places.now in
-    let Q = c.args.sizes.now in
+    let X = c.args.written.text.now in
+    let P = c.args.written.places.now in
+    let Q = c.args.written.sizes.now in
     let Z = c.args.state.now in
     let l = c.requires.1 in
     let e = sym c.is_state.ensures ∙ passed _ c.if-not-is_state.false-raw in
@@ -100,16 +100,16 @@ result_of-requires c =
 pub returns : goal.returns
 returns c =
     λ m bs h.
-    let T = c.args.nodes.now in
-    let R = c.args.roots.now in
-    let S = c.args.scopes.now in
-    let x = c.args.root in
-    let v = c.args.variables in
+    let T = c.args.tables.nodes.now in
+    let R = c.args.tables.roots.now in
+    let S = c.args.tables.scopes.now in
+    let x = c.args.tables.root in
+    let v = c.args.tables.variables in
     let n = c.args.sums in
     let k = c.args.channels in
-    let X = c.args.text.now in
-    let P = c.args.places.now in
-    let Q = c.args.sizes.now in
+    let X = c.args.written.text.now in
+    let P = c.args.written.places.now in
+    let Q = c.args.written.sizes.now in
     let Z = c.args.state.now in
     let l = c.requires.1 in
     let e = sym c.is_state.ensures ∙ passed _ c.if-not-is_state.false-raw in

@@ -10,14 +10,14 @@ use Rattle.step.proofs.count_next.Goals as goal
 
 pub count_processes-requires : goal.count_processes-requires
 count_processes-requires c =
-    continuation c.args.nodes.now c.args.root c.args.variables c.args.next c.in-Some.k c.in-Some.is c.requires.3
+    continuation c.args.tables.nodes.now c.args.tables.root c.args.tables.variables c.args.next c.in-Some.k c.in-Some.is c.requires.3
 
 pub returns-in-Some : goal.returns-in-Some
 returns-in-Some c =
     let d = c.requires.3 in
-    let e = c.count_processes.ensures (length c.requires.1) c.requires.0 c.requires.2 c.requires.1 (continues c.args.nodes.now c.args.root c.args.variables c.args.next c.in-Some.k c.in-Some.is d) in
-    (λ m ls ps h. c.count_processes.ensures (length ls) m ps ls (continues c.args.nodes.now c.args.root c.args.variables c.args.next c.in-Some.k c.in-Some.is h), rw e (cut_most (length (next_processes c.requires.0 c.requires.1 c.requires.2))))
+    let e = c.count_processes.ensures (length c.requires.1) c.requires.0 c.requires.2 c.requires.1 (continues c.args.tables.nodes.now c.args.tables.root c.args.tables.variables c.args.next c.in-Some.k c.in-Some.is d) in
+    (λ m ls ps h. c.count_processes.ensures (length ls) m ps ls (continues c.args.tables.nodes.now c.args.tables.root c.args.tables.variables c.args.next c.in-Some.k c.in-Some.is h), rw e (cut_most (length (next_processes c.requires.0 c.requires.1 c.requires.2))))
 
 pub returns-in-None : goal.returns-in-None
 returns-in-None c =
-    (λ m ls ps h. sym (ap (λ (xs : List Process). cut (length xs)) (none-next c.args.nodes.now c.args.root c.args.variables c.args.next c.in-None.is h) ∙ cut-none), omega arith)
+    (λ m ls ps h. sym (ap (λ (xs : List Process). cut (length xs)) (none-next c.args.tables.nodes.now c.args.tables.root c.args.tables.variables c.args.next c.in-None.is h) ∙ cut-none), omega arith)

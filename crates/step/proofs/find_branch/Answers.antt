@@ -8,20 +8,20 @@ pub sum_at-sum-requires : goal.sum_at-sum-requires
 sum_at-sum-requires c =
     (passed c.requires.acts.lent.stands, inside c.requires.acts)
 
-pub offset_bounds-roots-sum : goal.offset_bounds-roots-sum
-offset_bounds-roots-sum c =
+pub offset_bounds-tables-sum : goal.offset_bounds-tables-sum
+offset_bounds-tables-sum c =
     omega (arith, c.sum_at-sum.ensures, sum_is c.requires.acts, in-roots c.requires.acts, c.well_formed)
 
-pub bounds-roots-sum : goal.bounds-roots-sum
-bounds-roots-sum c =
+pub bounds-tables-sum : goal.bounds-tables-sum
+bounds-tables-sum c =
     omega (arith, c.sum_at-sum.ensures, sum_is c.requires.acts, in-roots c.requires.acts)
 
-pub offset_bounds-scopes-sum : goal.offset_bounds-scopes-sum
-offset_bounds-scopes-sum c =
+pub offset_bounds-tables-sum-2 : goal.offset_bounds-tables-sum-2
+offset_bounds-tables-sum-2 c =
     omega (arith, c.sum_at-sum.ensures, sum_is c.requires.acts, in-scopes c.requires.acts, c.well_formed)
 
-pub bounds-scopes-sum : goal.bounds-scopes-sum
-bounds-scopes-sum c =
+pub bounds-tables-sum-2 : goal.bounds-tables-sum-2
+bounds-tables-sum-2 c =
     omega (arith, c.sum_at-sum.ensures, sum_is c.requires.acts, in-scopes c.requires.acts)
 
 pub branch_root-root-requires : goal.branch_root-root-requires

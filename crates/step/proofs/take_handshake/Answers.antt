@@ -23,7 +23,7 @@ sent_values-requires c =
     let h = c.requires.0.4 in
     let w = c.enter-sender.ensures m s x.process x.branch x.guard h.sender in
     let u = c.none_bound.ensures.0 in
-    record { nodes = c.args.nodes.now; locals = x.process.locals; guard = x.guard; shows = w.offer }
+    record { nodes = c.args.tables.nodes.now; locals = x.process.locals; guard = x.guard; shows = w.offer }
 
 pub enter-receiver-requires : goal.enter-receiver-requires
 enter-receiver-requires c =
@@ -65,7 +65,7 @@ slice_bounds-others-end c =
     let h = c.requires.0.4 in
     let w = c.enter-sender.ensures m s x.process x.branch x.guard h.sender in
     let u = c.none_bound.ensures.0 in
-    let v = c.sent_values.ensures.0 c.args.nodes.now x.process.locals x.guard w.offer in
+    let v = c.sent_values.ensures.0 c.args.tables.nodes.now x.process.locals x.guard w.offer in
     let e = c.enter-receiver.ensures m s y.process y.branch y.guard h.receiver in
     omega (arith, e.few)
 
@@ -78,7 +78,7 @@ slice_bounds-move_both-end-2 c =
     let h = c.requires.0.4 in
     let w = c.enter-sender.ensures m s x.process x.branch x.guard h.sender in
     let u = c.none_bound.ensures.0 in
-    let v = c.sent_values.ensures.0 c.args.nodes.now x.process.locals x.guard w.offer in
+    let v = c.sent_values.ensures.0 c.args.tables.nodes.now x.process.locals x.guard w.offer in
     let e = c.enter-receiver.ensures m s y.process y.branch y.guard h.receiver in
     simp length-take (omega (arith, e.few))
 
@@ -91,7 +91,7 @@ move_both-requires c =
     let h = c.requires.0.4 in
     let w = c.enter-sender.ensures m s x.process x.branch x.guard h.sender in
     let u = c.none_bound.ensures.0 in
-    let v = c.sent_values.ensures.0 c.args.nodes.now x.process.locals x.guard w.offer in
+    let v = c.sent_values.ensures.0 c.args.tables.nodes.now x.process.locals x.guard w.offer in
     let e = c.enter-receiver.ensures m s y.process y.branch y.guard h.receiver in
     ((m, s, x.branch.next, y.branch.next, meets-of h _ u _ _ w _ v _ _ e), c.requires.1)
 
@@ -100,6 +100,6 @@ returns c =
     λ m s x y h.
     let w = c.enter-sender.ensures m s x.process x.branch x.guard h.sender in
     let u = c.none_bound.ensures.0 in
-    let v = c.sent_values.ensures.0 c.args.nodes.now x.process.locals x.guard w.offer in
+    let v = c.sent_values.ensures.0 c.args.tables.nodes.now x.process.locals x.guard w.offer in
     let e = c.enter-receiver.ensures m s y.process y.branch y.guard h.receiver in
     meets-answers h _ u _ _ w _ v _ _ e _ _ (c.move_both.ensures m s _ _ (meets-of h _ u _ _ w _ v _ _ e))

@@ -14,4 +14,4 @@ pub returns : goal.returns
 returns c =
     λ m s p b g n h e.
     let o = c.past_gate-k.ensures b (c.find_branch-found.ensures.0 m s p b g h).1 in
-    c.token_of.ensures ∙ (ap token_of (c.cell_at-action.ensures ∙ ap (λ (k : ℕ). get_or c.args.nodes.now k 0) (c.left_of.ensures ∙ ap left_of c.cell_at-prefix.ensures)) ∙ token-of-wait c.args.nodes.now c.past_gate-k.result n b o e)
+    c.token_of.ensures ∙ (ap token_of (c.cell_at-action.ensures ∙ ap (λ (k : ℕ). get_or c.args.tables.nodes.now k 0) (c.left_of.ensures ∙ ap left_of c.cell_at-prefix.ensures)) ∙ token-of-wait c.args.tables.nodes.now c.past_gate-k.result n b o e)

@@ -23,5 +23,5 @@ decreases-try_entry l = 3 * l.more
 abbrev pub invariant-try_all-loop-e : goal.invariant-try_all-loop-e
 invariant-try_all-loop-e l =
     (take state_length l.states ≡ take state_length l.initial.states) × (take listing_length l.listings ≡ take listing_length l.initial.listings) × (length l.states ≡ length l.initial.states) × (length l.listings ≡ length l.initial.listings) × (length l.run ≡ length l.initial.run)
-    × ((m : Resolved.Model) (s : State) (es : List Entry) → Held l.nodes l.roots l.scopes l.root l.variables l.text l.places l.sizes m → Stands l.initial.states m s → Lists l.initial.listings m s es → l.n ≡ length es
+    × ((m : Resolved.Model) (s : State) (es : List Entry) → Held l.tables.nodes.now l.tables.roots.now l.tables.scopes.now l.tables.root l.tables.variables l.written.text.now l.written.places.now l.written.sizes.now m → Stands l.initial.states m s → Lists l.initial.listings m s es → l.n ≡ length es
     → hunt_from (moves_to m l.name) s l.more 0 ≡ or_else (gone l.met) (hunt_from (moves_to m l.name) s l.more l.e))

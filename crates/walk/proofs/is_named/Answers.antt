@@ -18,4 +18,4 @@ slice_bounds-eq-end c =
 pub returns : goal.returns
 returns c =
     λ u h.
-    c.eq.ensures ∙ same-is _ _ ∙ ap (λ (l : List ℕ). same_bytes l c.args.name.now) (word-is u c.args.text.now c.args.places.now c.args.sizes.now c.args.token c.number_at-from.result c.number_at-size.result h c.number_at-from.ensures c.number_at-size.ensures)
+    c.eq.ensures ∙ same-is _ _ ∙ ap (λ (l : List ℕ). same_bytes l c.args.name.now) (word-is u c.args.written.text.now c.args.written.places.now c.args.written.sizes.now c.args.token c.number_at-from.result c.number_at-size.result h c.number_at-from.ensures c.number_at-size.ensures)

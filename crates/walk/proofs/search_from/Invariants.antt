@@ -11,4 +11,4 @@ use Rattle.walk.proofs.search_from.Given as goal
 abbrev pub invariant-loop-more : goal.invariant-loop-more
 invariant-loop-more l =
     (take state_length l.states ≡ take state_length l.initial.states) × (length l.states ≡ length l.initial.states) × (length l.listings ≡ length l.initial.listings) × (length l.run ≡ length l.initial.run)
-    × ((m : Resolved.Model) (s : State) → Held l.nodes l.roots l.scopes l.root l.variables l.text l.places l.sizes m → Stands l.initial.states m s → hunt_longer (moves_to m l.name) s l.depth 0 ≡ or_else (gone l.met) (hunt_longer (moves_to m l.name) s l.depth l.more))
+    × ((m : Resolved.Model) (s : State) → Held l.tables.nodes.now l.tables.roots.now l.tables.scopes.now l.tables.root l.tables.variables l.written.text.now l.written.places.now l.written.sizes.now m → Stands l.initial.states m s → hunt_longer (moves_to m l.name) s l.depth 0 ≡ or_else (gone l.met) (hunt_longer (moves_to m l.name) s l.depth l.more))

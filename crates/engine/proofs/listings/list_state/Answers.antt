@@ -8,9 +8,9 @@ use Rattle.engine.proofs.listings.list_state.Goals as goal
 
 pub is_state-requires : goal.is_state-requires
 is_state-requires c =
-    let T = c.args.nodes.now in
-    let R = c.args.roots.now in
-    let S = c.args.scopes.now in
+    let T = c.args.tables.nodes.now in
+    let R = c.args.tables.roots.now in
+    let S = c.args.tables.scopes.now in
     let n = c.args.sums in
     let k = c.args.channels in
     let Z = c.args.state.now in
@@ -20,9 +20,9 @@ is_state-requires c =
 pub returns-then-not-is_state : goal.returns-then-not-is_state
 returns-then-not-is_state c =
     λ m h.
-    let T = c.args.nodes.now in
-    let R = c.args.roots.now in
-    let S = c.args.scopes.now in
+    let T = c.args.tables.nodes.now in
+    let R = c.args.tables.roots.now in
+    let S = c.args.tables.scopes.now in
     let n = c.args.sums in
     let k = c.args.channels in
     let Z = c.args.state.now in
@@ -30,9 +30,9 @@ returns-then-not-is_state c =
 
 pub list_here-requires : goal.list_here-requires
 list_here-requires c =
-    let T = c.args.nodes.now in
-    let R = c.args.roots.now in
-    let S = c.args.scopes.now in
+    let T = c.args.tables.nodes.now in
+    let R = c.args.tables.roots.now in
+    let S = c.args.tables.scopes.now in
     let n = c.args.sums in
     let k = c.args.channels in
     let Z = c.args.state.now in
@@ -44,9 +44,9 @@ list_here-requires c =
 pub returns : goal.returns
 returns c =
     λ m h.
-    let T = c.args.nodes.now in
-    let R = c.args.roots.now in
-    let S = c.args.scopes.now in
+    let T = c.args.tables.nodes.now in
+    let R = c.args.tables.roots.now in
+    let S = c.args.tables.scopes.now in
     let n = c.args.sums in
     let k = c.args.channels in
     let Z = c.args.state.now in

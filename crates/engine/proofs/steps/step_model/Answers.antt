@@ -4,11 +4,11 @@ use Rattle.engine.proofs.steps.step_model.Goals as goal
 
 pub list_state-listed-requires : goal.list_state-listed-requires
 list_state-listed-requires c =
-    let T = c.args.nodes.now in
-    let R = c.args.roots.now in
-    let S = c.args.scopes.now in
-    let o = c.args.root in
-    let v = c.args.variables in
+    let T = c.args.tables.nodes.now in
+    let R = c.args.tables.roots.now in
+    let S = c.args.tables.scopes.now in
+    let o = c.args.tables.root in
+    let v = c.args.tables.variables in
     let n = c.args.sums in
     let k = c.args.channels in
     let Z = c.args.state.now in
@@ -18,11 +18,11 @@ list_state-listed-requires c =
 
 pub take_drawn-requires : goal.take_drawn-requires
 take_drawn-requires c =
-    let T = c.args.nodes.now in
-    let R = c.args.roots.now in
-    let S = c.args.scopes.now in
-    let o = c.args.root in
-    let v = c.args.variables in
+    let T = c.args.tables.nodes.now in
+    let R = c.args.tables.roots.now in
+    let S = c.args.tables.scopes.now in
+    let o = c.args.tables.root in
+    let v = c.args.tables.variables in
     let n = c.args.sums in
     let k = c.args.channels in
     let Z = c.args.state.now in
@@ -35,11 +35,11 @@ take_drawn-requires c =
 pub returns-in-Err : goal.returns-in-Err
 returns-in-Err c =
     λ m bs w.
-    let T = c.args.nodes.now in
-    let R = c.args.roots.now in
-    let S = c.args.scopes.now in
-    let o = c.args.root in
-    let v = c.args.variables in
+    let T = c.args.tables.nodes.now in
+    let R = c.args.tables.roots.now in
+    let S = c.args.tables.scopes.now in
+    let o = c.args.tables.root in
+    let v = c.args.tables.variables in
     let n = c.args.sums in
     let k = c.args.channels in
     let Z = c.args.state.now in
@@ -49,11 +49,11 @@ returns-in-Err c =
 pub returns-in-Ok : goal.returns-in-Ok
 returns-in-Ok c =
     λ m bs w.
-    let T = c.args.nodes.now in
-    let R = c.args.roots.now in
-    let S = c.args.scopes.now in
-    let o = c.args.root in
-    let v = c.args.variables in
+    let T = c.args.tables.nodes.now in
+    let R = c.args.tables.roots.now in
+    let S = c.args.tables.scopes.now in
+    let o = c.args.tables.root in
+    let v = c.args.tables.variables in
     let n = c.args.sums in
     let k = c.args.channels in
     let Z = c.args.state.now in

@@ -9,9 +9,9 @@ use Rattle.eval.proofs.next.+count_processes.Goals as goal
 pub overflow_sub-k : goal.overflow_sub-k
 overflow_sub-k t c =
     let s = c in
-    let T = s.args.nodes.now in
-    let R = s.args.root in
-    let N = s.args.variables in
+    let T = s.args.tables.nodes.now in
+    let R = s.args.tables.root in
+    let N = s.args.tables.variables in
     let k = s.args.k in
     let is = c.kind_of-kind.ensures ∙ ap kind_of c.cell_at-cell.ensures in
     (group-some T R N k c.kind_of-kind.result is c.if-kind-eq-GROUP.true s.requires).0
@@ -19,9 +19,9 @@ overflow_sub-k t c =
 pub count_processes-requires : goal.count_processes-requires
 count_processes-requires t c =
     let s = c in
-    let T = s.args.nodes.now in
-    let R = s.args.root in
-    let N = s.args.variables in
+    let T = s.args.tables.nodes.now in
+    let R = s.args.tables.root in
+    let N = s.args.tables.variables in
     let k = s.args.k in
     let is = c.kind_of-kind.ensures ∙ ap kind_of c.cell_at-cell.ensures in
     let f = group-some T R N k c.kind_of-kind.result is c.if-kind-eq-GROUP.true s.requires in
@@ -30,9 +30,9 @@ count_processes-requires t c =
 pub returns-then-kind-eq-GROUP : goal.returns-then-kind-eq-GROUP
 returns-then-kind-eq-GROUP t c =
     let s = c in
-    let T = s.args.nodes.now in
-    let R = s.args.root in
-    let N = s.args.variables in
+    let T = s.args.tables.nodes.now in
+    let R = s.args.tables.root in
+    let N = s.args.tables.variables in
     let k = s.args.k in
     let is = c.kind_of-kind.ensures ∙ ap kind_of c.cell_at-cell.ensures in
     group-counts T R N k c.kind_of-kind.result is c.count_processes.result c.if-kind-eq-GROUP.true c.count_processes.ensures
@@ -40,9 +40,9 @@ returns-then-kind-eq-GROUP t c =
 pub count_processes-a-requires : goal.count_processes-a-requires
 count_processes-a-requires t c =
     let s = c in
-    let T = s.args.nodes.now in
-    let R = s.args.root in
-    let N = s.args.variables in
+    let T = s.args.tables.nodes.now in
+    let R = s.args.tables.root in
+    let N = s.args.tables.variables in
     let k = s.args.k in
     let is = c.kind_of-kind.ensures ∙ ap kind_of c.cell_at-cell.ensures in
     let e = c.left_of.ensures ∙ ap left_of c.cell_at-cell.ensures in
@@ -52,9 +52,9 @@ count_processes-a-requires t c =
 pub overflow_sub-k-then-kind-eq-ITEM : goal.overflow_sub-k-then-kind-eq-ITEM
 overflow_sub-k-then-kind-eq-ITEM t c =
     let s = c in
-    let T = s.args.nodes.now in
-    let R = s.args.root in
-    let N = s.args.variables in
+    let T = s.args.tables.nodes.now in
+    let R = s.args.tables.root in
+    let N = s.args.tables.variables in
     let k = s.args.k in
     let is = c.kind_of-kind.ensures ∙ ap kind_of c.cell_at-cell.ensures in
     (items-some T R N k c.kind_of-kind.result is c.if-kind-eq-ITEM.true s.requires).0
@@ -62,9 +62,9 @@ overflow_sub-k-then-kind-eq-ITEM t c =
 pub count_processes-b-requires : goal.count_processes-b-requires
 count_processes-b-requires t c =
     let s = c in
-    let T = s.args.nodes.now in
-    let R = s.args.root in
-    let N = s.args.variables in
+    let T = s.args.tables.nodes.now in
+    let R = s.args.tables.root in
+    let N = s.args.tables.variables in
     let k = s.args.k in
     let is = c.kind_of-kind.ensures ∙ ap kind_of c.cell_at-cell.ensures in
     let f = items-some T R N k c.kind_of-kind.result is c.if-kind-eq-ITEM.true s.requires in
@@ -73,9 +73,9 @@ count_processes-b-requires t c =
 pub overflow_add-a : goal.overflow_add-a
 overflow_add-a t c =
     let s = c in
-    let T = s.args.nodes.now in
-    let R = s.args.root in
-    let N = s.args.variables in
+    let T = s.args.tables.nodes.now in
+    let R = s.args.tables.root in
+    let N = s.args.tables.variables in
     let k = s.args.k in
     let is = c.kind_of-kind.ensures ∙ ap kind_of c.cell_at-cell.ensures in
     let e = c.left_of.ensures ∙ ap left_of c.cell_at-cell.ensures in
@@ -87,9 +87,9 @@ overflow_add-a t c =
 pub returns-then-kind-eq-ITEM : goal.returns-then-kind-eq-ITEM
 returns-then-kind-eq-ITEM t c =
     let s = c in
-    let T = s.args.nodes.now in
-    let R = s.args.root in
-    let N = s.args.variables in
+    let T = s.args.tables.nodes.now in
+    let R = s.args.tables.root in
+    let N = s.args.tables.variables in
     let k = s.args.k in
     let is = c.kind_of-kind.ensures ∙ ap kind_of c.cell_at-cell.ensures in
     let e = c.left_of.ensures ∙ ap left_of c.cell_at-cell.ensures in
@@ -98,9 +98,9 @@ returns-then-kind-eq-ITEM t c =
 pub returns-then-kind-eq-SUM : goal.returns-then-kind-eq-SUM
 returns-then-kind-eq-SUM t c =
     let s = c in
-    let T = s.args.nodes.now in
-    let R = s.args.root in
-    let N = s.args.variables in
+    let T = s.args.tables.nodes.now in
+    let R = s.args.tables.root in
+    let N = s.args.tables.variables in
     let k = s.args.k in
     let is = c.kind_of-kind.ensures ∙ ap kind_of c.cell_at-cell.ensures in
     sum-counts T R N k c.kind_of-kind.result is c.if-kind-eq-SUM.true
@@ -108,9 +108,9 @@ returns-then-kind-eq-SUM t c =
 pub body_of-requires : goal.body_of-requires
 body_of-requires t c =
     let s = c in
-    let T = s.args.nodes.now in
-    let R = s.args.root in
-    let N = s.args.variables in
+    let T = s.args.tables.nodes.now in
+    let R = s.args.tables.root in
+    let N = s.args.tables.variables in
     let k = s.args.k in
     let is = c.kind_of-kind.ensures ∙ ap kind_of c.cell_at-cell.ensures in
     let o = c.token_of.ensures ∙ ap token_of c.cell_at-cell.ensures in
@@ -120,9 +120,9 @@ body_of-requires t c =
 pub count_sums-requires : goal.count_sums-requires
 count_sums-requires t c =
     let s = c in
-    let T = s.args.nodes.now in
-    let R = s.args.root in
-    let N = s.args.variables in
+    let T = s.args.tables.nodes.now in
+    let R = s.args.tables.root in
+    let N = s.args.tables.variables in
     let k = s.args.k in
     let is = c.kind_of-kind.ensures ∙ ap kind_of c.cell_at-cell.ensures in
     let o = c.token_of.ensures ∙ ap token_of c.cell_at-cell.ensures in
@@ -132,9 +132,9 @@ count_sums-requires t c =
 pub returns : goal.returns
 returns t c =
     let s = c in
-    let T = s.args.nodes.now in
-    let R = s.args.root in
-    let N = s.args.variables in
+    let T = s.args.tables.nodes.now in
+    let R = s.args.tables.root in
+    let N = s.args.tables.variables in
     let k = s.args.k in
     let is = c.kind_of-kind.ensures ∙ ap kind_of c.cell_at-cell.ensures in
     let o = c.token_of.ensures ∙ ap token_of c.cell_at-cell.ensures in

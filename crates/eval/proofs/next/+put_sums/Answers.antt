@@ -10,7 +10,7 @@ use Rattle.eval.proofs.next.+put_sums.Goals as goal
 pub put_row-requires : goal.put_row-requires
 put_row-requires t c =
     let s = c in
-    let T = s.args.nodes.now in
+    let T = s.args.tables.nodes.now in
     let k = s.args.k in
     let o = c.token_of.ensures ∙ ap token_of c.cell_at-cell.ensures in
     let is = c.kind_of.ensures ∙ ap kind_of c.cell_at-cell.ensures in
@@ -19,7 +19,7 @@ put_row-requires t c =
 pub overflow_add-result : goal.overflow_add-result
 overflow_add-result t c =
     let s = c in
-    let T = s.args.nodes.now in
+    let T = s.args.tables.nodes.now in
     let k = s.args.k in
     let h = sums-inside T _ k _ _ s.requires.0 in
     omega (arith, h, s.well_formed)
@@ -31,17 +31,17 @@ shape_of-fresh-then-kind_of-ne-BESIDE t c =
 pub returns-then-kind_of-ne-BESIDE : goal.returns-then-kind_of-ne-BESIDE
 returns-then-kind_of-ne-BESIDE t c =
     let s = c in
-    let T = s.args.nodes.now in
+    let T = s.args.tables.nodes.now in
     let L = s.args.locals.now in
     let k = s.args.k in
     let is = c.kind_of.ensures ∙ ap kind_of c.cell_at-cell.ensures in
     let o = c.token_of.ensures ∙ ap token_of c.cell_at-cell.ensures in
-    last_sum T s.args.scopes.now k s.args.at L s.args.fresh.now _ s.requires.1 (λ x. c.if-kind_of-ne-BESIDE.true (is ∙ x)) (rw o at c.put_row.ensures)
+    last_sum T s.args.tables.scopes.now k s.args.at L s.args.fresh.now _ s.requires.1 (λ x. c.if-kind_of-ne-BESIDE.true (is ∙ x)) (rw o at c.put_row.ensures)
 
 pub put_row-requires-2 : goal.put_row-requires-2
 put_row-requires-2 t c =
     let s = c in
-    let T = s.args.nodes.now in
+    let T = s.args.tables.nodes.now in
     let k = s.args.k in
     let e = c.left_of.ensures ∙ ap left_of c.cell_at-cell.ensures in
     let o = c.token_of-2.ensures ∙ ap token_of (c.cell_at-first.ensures ∙ ap (λ (x : ℕ). get_or T x 0) e) in
@@ -51,7 +51,7 @@ put_row-requires-2 t c =
 pub overflow_sub-k : goal.overflow_sub-k
 overflow_sub-k t c =
     let s = c in
-    let T = s.args.nodes.now in
+    let T = s.args.tables.nodes.now in
     let k = s.args.k in
     let is = c.kind_of.ensures ∙ ap kind_of c.cell_at-cell.ensures in
     (sums-more T _ k _ _ s.requires.0 (sym is ∙ c.if-kind_of-ne-BESIDE.false)).0
@@ -59,7 +59,7 @@ overflow_sub-k t c =
 pub overflow_add-at : goal.overflow_add-at
 overflow_add-at t c =
     let s = c in
-    let T = s.args.nodes.now in
+    let T = s.args.tables.nodes.now in
     let k = s.args.k in
     let h = sums-inside T _ k _ _ s.requires.0 in
     omega (arith, h, s.well_formed)
@@ -67,7 +67,7 @@ overflow_add-at t c =
 pub put_sums-requires : goal.put_sums-requires
 put_sums-requires t c =
     let s = c in
-    let T = s.args.nodes.now in
+    let T = s.args.tables.nodes.now in
     let k = s.args.k in
     let is = c.kind_of.ensures ∙ ap kind_of c.cell_at-cell.ensures in
     let f = sums-more T _ k _ _ s.requires.0 (sym is ∙ c.if-kind_of-ne-BESIDE.false) in
@@ -80,10 +80,10 @@ shape_of-fresh t c =
 pub returns : goal.returns
 returns t c =
     let s = c in
-    let T = s.args.nodes.now in
+    let T = s.args.tables.nodes.now in
     let L = s.args.locals.now in
     let k = s.args.k in
     let is = c.kind_of.ensures ∙ ap kind_of c.cell_at-cell.ensures in
     let e = c.left_of.ensures ∙ ap left_of c.cell_at-cell.ensures in
     let o = c.token_of-2.ensures ∙ ap token_of (c.cell_at-first.ensures ∙ ap (λ (x : ℕ). get_or T x 0) e) in
-    more-sums T s.args.scopes.now k s.args.at L s.args.fresh.now _ s.requires.1 _ c.put_sums.result (sym is ∙ c.if-kind_of-ne-BESIDE.false) (rw o at c.put_row-2.ensures) c.put_sums.ensures
+    more-sums T s.args.tables.scopes.now k s.args.at L s.args.fresh.now _ s.requires.1 _ c.put_sums.result (sym is ∙ c.if-kind_of-ne-BESIDE.false) (rw o at c.put_row-2.ensures) c.put_sums.ensures

@@ -9,7 +9,7 @@ use Rattle.eval.proofs.next.put_call.Goals as goal
 pub overflow_sub-k : goal.overflow_sub-k
 overflow_sub-k c =
     let s = c in
-    let T = s.args.nodes.now in
+    let T = s.args.tables.nodes.now in
     let L = s.args.locals.now in
     let k = s.args.k in
     let b = s.args.body in
@@ -18,7 +18,7 @@ overflow_sub-k c =
 pub put_arguments-requires : goal.put_arguments-requires
 put_arguments-requires c =
     let s = c in
-    let T = s.args.nodes.now in
+    let T = s.args.tables.nodes.now in
     let L = s.args.locals.now in
     let k = s.args.k in
     let b = s.args.body in
@@ -27,7 +27,7 @@ put_arguments-requires c =
 pub slice_bounds-values-end : goal.slice_bounds-values-end
 slice_bounds-values-end c =
     let s = c in
-    let T = s.args.nodes.now in
+    let T = s.args.tables.nodes.now in
     let L = s.args.locals.now in
     let k = s.args.k in
     let b = s.args.body in
@@ -38,7 +38,7 @@ slice_bounds-values-end c =
 pub slice_bounds-given-end : goal.slice_bounds-given-end
 slice_bounds-given-end c =
     let s = c in
-    let T = s.args.nodes.now in
+    let T = s.args.tables.nodes.now in
     let L = s.args.locals.now in
     let k = s.args.k in
     let b = s.args.body in
@@ -49,7 +49,7 @@ slice_bounds-given-end c =
 pub put_sums-requires : goal.put_sums-requires
 put_sums-requires c =
     let s = c in
-    let T = s.args.nodes.now in
+    let T = s.args.tables.nodes.now in
     let L = s.args.locals.now in
     let k = s.args.k in
     let b = s.args.body in
@@ -64,7 +64,7 @@ shape_of-fresh c =
 pub returns : goal.returns
 returns c d es ns e z =
     let s = c in
-    let T = s.args.nodes.now in
+    let T = s.args.tables.nodes.now in
     let L = s.args.locals.now in
     let k = s.args.k in
     let b = s.args.body in

@@ -6,11 +6,11 @@ use Rattle.store.proofs.start.+push_items.Goals as goal
 
 pub push_item-requires : goal.push_item-requires
 push_item-requires t c =
-    let T = c.args.nodes.now in
-    let R = c.args.root in
-    let N = c.args.variables in
+    let T = c.args.tables.nodes.now in
+    let R = c.args.tables.root in
+    let N = c.args.tables.variables in
     let k = c.args.k in
-    let S = c.args.scopes.now in
+    let S = c.args.tables.scopes.now in
     let Z = c.args.state.now in
     let is = c.kind_of.ensures ∙ ap kind_of c.cell_at-cell.ensures in
     last-item T R N k Z S (λ x. c.if-kind_of-ne-SYSTEM.true (is ∙ x)) c.requires
@@ -21,22 +21,22 @@ shape_of-state-then-kind_of-ne-SYSTEM t c =
 
 pub returns-then-kind_of-ne-SYSTEM : goal.returns-then-kind_of-ne-SYSTEM
 returns-then-kind_of-ne-SYSTEM t c =
-    let T = c.args.nodes.now in
-    let R = c.args.root in
-    let N = c.args.variables in
+    let T = c.args.tables.nodes.now in
+    let R = c.args.tables.root in
+    let N = c.args.tables.variables in
     let k = c.args.k in
-    let S = c.args.scopes.now in
+    let S = c.args.tables.scopes.now in
     let Z = c.args.state.now in
     let is = c.kind_of.ensures ∙ ap kind_of c.cell_at-cell.ensures in
     last-items T R N k Z S (λ x. c.if-kind_of-ne-SYSTEM.true (is ∙ x)) _ c.push_item.ensures
 
 pub push_item-requires-2 : goal.push_item-requires-2
 push_item-requires-2 t c =
-    let T = c.args.nodes.now in
-    let R = c.args.root in
-    let N = c.args.variables in
+    let T = c.args.tables.nodes.now in
+    let R = c.args.tables.root in
+    let N = c.args.tables.variables in
     let k = c.args.k in
-    let S = c.args.scopes.now in
+    let S = c.args.tables.scopes.now in
     let Z = c.args.state.now in
     let is = c.kind_of.ensures ∙ ap kind_of c.cell_at-cell.ensures in
     let e = c.left_of.ensures ∙ ap left_of c.cell_at-cell.ensures in
@@ -44,11 +44,11 @@ push_item-requires-2 t c =
 
 pub overflow_sub-k : goal.overflow_sub-k
 overflow_sub-k t c =
-    let T = c.args.nodes.now in
-    let R = c.args.root in
-    let N = c.args.variables in
+    let T = c.args.tables.nodes.now in
+    let R = c.args.tables.root in
+    let N = c.args.tables.variables in
     let k = c.args.k in
-    let S = c.args.scopes.now in
+    let S = c.args.tables.scopes.now in
     let Z = c.args.state.now in
     let is = c.kind_of.ensures ∙ ap kind_of c.cell_at-cell.ensures in
     let e = c.left_of.ensures ∙ ap left_of c.cell_at-cell.ensures in
@@ -57,11 +57,11 @@ overflow_sub-k t c =
 
 pub push_items-requires : goal.push_items-requires
 push_items-requires t c =
-    let T = c.args.nodes.now in
-    let R = c.args.root in
-    let N = c.args.variables in
+    let T = c.args.tables.nodes.now in
+    let R = c.args.tables.root in
+    let N = c.args.tables.variables in
     let k = c.args.k in
-    let S = c.args.scopes.now in
+    let S = c.args.tables.scopes.now in
     let Z = c.args.state.now in
     let is = c.kind_of.ensures ∙ ap kind_of c.cell_at-cell.ensures in
     let e = c.left_of.ensures ∙ ap left_of c.cell_at-cell.ensures in
@@ -74,11 +74,11 @@ shape_of-state t c =
 
 pub returns : goal.returns
 returns t c =
-    let T = c.args.nodes.now in
-    let R = c.args.root in
-    let N = c.args.variables in
+    let T = c.args.tables.nodes.now in
+    let R = c.args.tables.root in
+    let N = c.args.tables.variables in
     let k = c.args.k in
-    let S = c.args.scopes.now in
+    let S = c.args.tables.scopes.now in
     let Z = c.args.state.now in
     let is = c.kind_of.ensures ∙ ap kind_of c.cell_at-cell.ensures in
     let e = c.left_of.ensures ∙ ap left_of c.cell_at-cell.ensures in

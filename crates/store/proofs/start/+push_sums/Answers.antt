@@ -11,11 +11,11 @@ use Rattle.store.proofs.start.+push_sums.Goals as goal
 
 pub push_known-requires : goal.push_known-requires
 push_known-requires t c =
-    let T = c.args.nodes.now in
+    let T = c.args.tables.nodes.now in
     let L = c.args.locals.now in
     let Z = c.args.state.now in
     let k = c.args.k in
-    let S = c.args.scopes.now in
+    let S = c.args.tables.scopes.now in
     let o = c.token_of.ensures ∙ ap token_of c.cell_at-cell.ensures in
     let is = c.kind_of.ensures ∙ ap kind_of c.cell_at-cell.ensures in
     let f = c.requires in
@@ -28,22 +28,22 @@ shape_of-state-then-kind_of-ne-BESIDE t c =
 
 pub returns-then-kind_of-ne-BESIDE : goal.returns-then-kind_of-ne-BESIDE
 returns-then-kind_of-ne-BESIDE t c =
-    let T = c.args.nodes.now in
+    let T = c.args.tables.nodes.now in
     let L = c.args.locals.now in
     let Z = c.args.state.now in
     let k = c.args.k in
-    let S = c.args.scopes.now in
+    let S = c.args.tables.scopes.now in
     let is = c.kind_of.ensures ∙ ap kind_of c.cell_at-cell.ensures in
     let o = c.token_of.ensures ∙ ap token_of c.cell_at-cell.ensures in
     last-adds T S k L Z (λ x. c.if-kind_of-ne-BESIDE.true (is ∙ x)) _ (c.push_known.ensures ∙ ap (λ (x : ℕ). process_pushed x L (definition_in (get_or S x 0)) Z) o)
 
 pub push_known-requires-2 : goal.push_known-requires-2
 push_known-requires-2 t c =
-    let T = c.args.nodes.now in
+    let T = c.args.tables.nodes.now in
     let L = c.args.locals.now in
     let Z = c.args.state.now in
     let k = c.args.k in
-    let S = c.args.scopes.now in
+    let S = c.args.tables.scopes.now in
     let e = c.left_of.ensures ∙ ap left_of c.cell_at-cell.ensures in
     let o = c.token_of-2.ensures ∙ ap token_of (c.cell_at-first.ensures ∙ ap (λ (x : ℕ). get_or T x 0) e) in
     let is = c.kind_of.ensures ∙ ap kind_of c.cell_at-cell.ensures in
@@ -53,11 +53,11 @@ push_known-requires-2 t c =
 
 pub overflow_sub-k : goal.overflow_sub-k
 overflow_sub-k t c =
-    let T = c.args.nodes.now in
+    let T = c.args.tables.nodes.now in
     let L = c.args.locals.now in
     let Z = c.args.state.now in
     let k = c.args.k in
-    let S = c.args.scopes.now in
+    let S = c.args.tables.scopes.now in
     let is = c.kind_of.ensures ∙ ap kind_of c.cell_at-cell.ensures in
     let e = c.left_of.ensures ∙ ap left_of c.cell_at-cell.ensures in
     let o = c.token_of-2.ensures ∙ ap token_of (c.cell_at-first.ensures ∙ ap (λ (x : ℕ). get_or T x 0) e) in
@@ -66,11 +66,11 @@ overflow_sub-k t c =
 
 pub push_sums-requires : goal.push_sums-requires
 push_sums-requires t c =
-    let T = c.args.nodes.now in
+    let T = c.args.tables.nodes.now in
     let L = c.args.locals.now in
     let Z = c.args.state.now in
     let k = c.args.k in
-    let S = c.args.scopes.now in
+    let S = c.args.tables.scopes.now in
     let is = c.kind_of.ensures ∙ ap kind_of c.cell_at-cell.ensures in
     let e = c.left_of.ensures ∙ ap left_of c.cell_at-cell.ensures in
     let o = c.token_of-2.ensures ∙ ap token_of (c.cell_at-first.ensures ∙ ap (λ (x : ℕ). get_or T x 0) e) in
@@ -83,11 +83,11 @@ shape_of-state t c =
 
 pub returns : goal.returns
 returns t c =
-    let T = c.args.nodes.now in
+    let T = c.args.tables.nodes.now in
     let L = c.args.locals.now in
     let Z = c.args.state.now in
     let k = c.args.k in
-    let S = c.args.scopes.now in
+    let S = c.args.tables.scopes.now in
     let is = c.kind_of.ensures ∙ ap kind_of c.cell_at-cell.ensures in
     let e = c.left_of.ensures ∙ ap left_of c.cell_at-cell.ensures in
     let o = c.token_of-2.ensures ∙ ap token_of (c.cell_at-first.ensures ∙ ap (λ (x : ℕ). get_or T x 0) e) in

@@ -6,20 +6,20 @@ use Rattle.store.proofs.start.open_state.Goals as goal
 
 pub push_items-requires : goal.push_items-requires
 push_items-requires c =
-    let T = c.args.nodes.now in
-    let R = c.args.root in
-    let N = c.args.variables in
+    let T = c.args.tables.nodes.now in
+    let R = c.args.tables.root in
+    let N = c.args.tables.variables in
     let D = c.args.definitions in
-    let S = c.args.scopes.now in
+    let S = c.args.tables.scopes.now in
     let l = c.less-line.ensures ∙ ap (λ (x : ℕ). x - D) c.less.ensures in
     rw l (opens-fit T S R N D c.args.state.now c.requires.0 c.requires.1.0 c.requires.1.1)
 
 pub returns : goal.returns
 returns c =
-    let T = c.args.nodes.now in
-    let R = c.args.root in
-    let N = c.args.variables in
+    let T = c.args.tables.nodes.now in
+    let R = c.args.tables.root in
+    let N = c.args.tables.variables in
     let D = c.args.definitions in
-    let S = c.args.scopes.now in
+    let S = c.args.tables.scopes.now in
     let l = c.less-line.ensures ∙ ap (λ (x : ℕ). x - D) c.less.ensures in
     opens-state T S R N D c.args.state.now c.requires.0 _ (rw l at c.push_items.ensures)

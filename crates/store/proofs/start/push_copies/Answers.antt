@@ -12,11 +12,11 @@ loop-i-init c =
 
 pub push_sums-requires : goal.push_sums-requires
 push_sums-requires c =
-    copy-fits c.args.nodes.now c.args.scopes.now c.args.k c.args.locals.now c.args.state.now _ c.args.count c.loop-i.i c.loop-i.invariant (omega arith) c.requires
+    copy-fits c.args.tables.nodes.now c.args.tables.scopes.now c.args.k c.args.locals.now c.args.state.now _ c.args.count c.loop-i.i c.loop-i.invariant (omega arith) c.requires
 
 pub loop-i-preserved : goal.loop-i-preserved
 loop-i-preserved c =
-    copy-adds c.args.nodes.now c.args.scopes.now c.args.k c.args.locals.now c.args.state.now _ c.args.count c.loop-i.i c.loop-i.invariant _ c.push_sums.ensures
+    copy-adds c.args.tables.nodes.now c.args.tables.scopes.now c.args.k c.args.locals.now c.args.state.now _ c.args.count c.loop-i.i c.loop-i.invariant _ c.push_sums.ensures
 
 pub returns : goal.returns
 returns c =

@@ -8,4 +8,4 @@ use Rattle.store.specs.Start.{Adds}
 use Rattle.store.proofs.start.push_copies.Given as goal
 
 abbrev pub invariant-loop-i : goal.invariant-loop-i
-invariant-loop-i l = (ns : List ℕ) → Sums l.nodes ns l.k → Adds (copies l.i (entered l.scopes ns l.locals)) l.initial.state l.state
+invariant-loop-i l = (ns : List ℕ) → Sums l.tables.nodes.now ns l.k → Adds (copies l.i (entered l.tables.scopes.now ns l.locals)) l.initial.state l.state

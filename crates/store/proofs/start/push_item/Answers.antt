@@ -9,32 +9,32 @@ use Rattle.store.proofs.start.push_item.Goals as goal
 
 pub body_of-body-requires : goal.body_of-body-requires
 body_of-body-requires c =
-    let T = c.args.nodes.now in
+    let T = c.args.tables.nodes.now in
     let k = c.args.k in
-    let S = c.args.scopes.now in
-    let R = c.args.root in
-    let N = c.args.variables in
+    let S = c.args.tables.scopes.now in
+    let R = c.args.tables.root in
+    let N = c.args.tables.variables in
     let o = c.token_of.ensures ∙ ap token_of c.cell_at-cell.ensures in
     rw o (body-above T R N k S c.requires.model c.requires.start c.requires.holds c.requires.items.defines (item-good c.requires))
 
 pub put_values-requires : goal.put_values-requires
 put_values-requires c =
-    let T = c.args.nodes.now in
+    let T = c.args.tables.nodes.now in
     let k = c.args.k in
-    let S = c.args.scopes.now in
-    let R = c.args.root in
-    let N = c.args.variables in
+    let S = c.args.tables.scopes.now in
+    let R = c.args.tables.root in
+    let N = c.args.tables.variables in
     let l = few-values T R N k S c.requires.model c.requires.start c.requires.holds c.requires.items.good (item-good c.requires) in
     let q = item-third T k c.requires.start c.requires.holds in
     (refl, (c.requires.start, c.requires.holds, (item-good c.requires).values, l))
 
 pub slice_bounds-values-end : goal.slice_bounds-values-end
 slice_bounds-values-end c =
-    let T = c.args.nodes.now in
+    let T = c.args.tables.nodes.now in
     let k = c.args.k in
-    let S = c.args.scopes.now in
-    let R = c.args.root in
-    let N = c.args.variables in
+    let S = c.args.tables.scopes.now in
+    let R = c.args.tables.root in
+    let N = c.args.tables.variables in
     let h = c.third_of-count.ensures ∙ ap third_of c.cell_at-cell.ensures in
     let l = few-values T R N k S c.requires.model c.requires.start c.requires.holds c.requires.items.good (item-good c.requires) in
     let q = item-third T k c.requires.start c.requires.holds in
@@ -42,11 +42,11 @@ slice_bounds-values-end c =
 
 pub slice_bounds-push_copies-end : goal.slice_bounds-push_copies-end
 slice_bounds-push_copies-end c =
-    let T = c.args.nodes.now in
+    let T = c.args.tables.nodes.now in
     let k = c.args.k in
-    let S = c.args.scopes.now in
-    let R = c.args.root in
-    let N = c.args.variables in
+    let S = c.args.tables.scopes.now in
+    let R = c.args.tables.root in
+    let N = c.args.tables.variables in
     let h = c.third_of-count.ensures ∙ ap third_of c.cell_at-cell.ensures in
     let l = few-values T R N k S c.requires.model c.requires.start c.requires.holds c.requires.items.good (item-good c.requires) in
     let q = item-third T k c.requires.start c.requires.holds in
@@ -54,11 +54,11 @@ slice_bounds-push_copies-end c =
 
 pub push_copies-requires : goal.push_copies-requires
 push_copies-requires c =
-    let T = c.args.nodes.now in
+    let T = c.args.tables.nodes.now in
     let k = c.args.k in
-    let S = c.args.scopes.now in
-    let R = c.args.root in
-    let N = c.args.variables in
+    let S = c.args.tables.scopes.now in
+    let R = c.args.tables.root in
+    let N = c.args.tables.variables in
     let o = c.token_of.ensures ∙ ap token_of c.cell_at-cell.ensures in
     let b = c.body_of-body.ensures ∙ ap (λ (x : ℕ). left_of (get_or T (R - N - x) 0) - 1) o in
     let h = c.third_of-count.ensures ∙ ap third_of c.cell_at-cell.ensures in
@@ -67,11 +67,11 @@ push_copies-requires c =
 
 pub returns : goal.returns
 returns c =
-    let T = c.args.nodes.now in
+    let T = c.args.tables.nodes.now in
     let k = c.args.k in
-    let S = c.args.scopes.now in
-    let R = c.args.root in
-    let N = c.args.variables in
+    let S = c.args.tables.scopes.now in
+    let R = c.args.tables.root in
+    let N = c.args.tables.variables in
     let o = c.token_of.ensures ∙ ap token_of c.cell_at-cell.ensures in
     let b = c.body_of-body.ensures ∙ ap (λ (x : ℕ). left_of (get_or T (R - N - x) 0) - 1) o in
     let h = c.third_of-count.ensures ∙ ap third_of c.cell_at-cell.ensures in

@@ -25,7 +25,7 @@ use Rattle.model.specs.Sites as sites
 use Rattle.model.specs.Limits.{local_limit, site_beyond}
 use Rattle.names.specs.declared.Question.{Question}
 use Rattle.names.specs.declared.Lists.{Lists}
-use Rattle.names.specs.declared.Scope.{Scope}
+use Rattle.names.specs.declared.scope.Scope.{Scope}
 use Rattle.names.specs.Faults.{earlier_of}
 use Rattle.names.specs.Leaves.{between}
 use Rattle.names.specs.Placed.{IsName, Named, names, binds, sort_of, SortFits}

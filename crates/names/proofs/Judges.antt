@@ -21,7 +21,7 @@ use Rattle.model.specs.Given.{site_wrong}
 use Rattle.names.specs.declared.Question.{Question}
 use Rattle.names.specs.declared.Question.TheVariants.{Limits, Fresh, Given}
 use Rattle.names.specs.declared.Lists.{Lists}
-use Rattle.names.specs.declared.Scope.{Scope}
+use Rattle.names.specs.declared.scope.Scope.{Scope}
 use Rattle.names.specs.Faults.{earlier_of, site_faults}
 use Rattle.names.specs.Leaves.{used, leaf_sites, site_at, between}
 use Rattle.names.specs.Placed.{IsName, Sort, wholes, names, sort_of, SortFits}

@@ -27,7 +27,7 @@ use Rattle.model.specs.Given.{is_callable, count_wholes, count_starts, site_wron
 use Rattle.names.specs.declared.Question.{Question}
 use Rattle.names.specs.declared.Question.TheVariants.{Limits, Fresh, Given}
 use Rattle.names.specs.declared.Lists.{Lists}
-use Rattle.names.specs.declared.Scope.{Scope}
+use Rattle.names.specs.declared.scope.Scope.{Scope}
 use Rattle.names.specs.Faults.{earlier_of, asks_names, site_faults}
 use Rattle.names.specs.Leaves.{between, leaf_sites}
 use Rattle.names.specs.Placed.{IsName, Named, Sort, defines, counts, sort_of, SortFits}

@@ -6,7 +6,6 @@ use mathlib.Core.Option.{some}
 use Prim.Native.Nat.{ℕ, zero, suc, ◌+◌, ◌-◌, ◌≤◌, ◌<◌}
 use native.Mathlib.Numerals.{add-one}
 use native.Mathlib.Omega.{arith}
-use borrow.Author.Tests.{eq-eqb, ne_eqb}
 use lib.Dec.{eqb}
 use lib.ListN.{length, get_or, drop, drop_of_length-le}
 use lib.Seq.{drop-cons}
@@ -51,19 +50,14 @@ module _ (w : ℕ → List ℕ) (k : ℕ) (xs : List ℕ) where
   unfolding place_in found_of
   place_none i l h = sym (ap found_of (h ∙ ap (place_in w k i) (drop_of_length-le xs {i = i} l)))
 
--- ---- the cases of `same_name`
-module _ (low high : List ℕ) (i j : ℕ) where
-  and-true : (b : Bool) → (b && true) ≡ b
-  and-true true = refl
-  and-true false = refl
+-- ---- two names are the same where both of their numbers are
+and-true : (b : Bool) → (b && true) ≡ b
+and-true true = refl
+and-true false = refl
 
-  pub by-second : get_or low i 0 ≡ get_or low j 0 → eqb (get_or high i 0) (get_or high j 0) ≡ same (packed low high) i j
-  unfolding same packed same_bytes
-  by-second e = simp (eq-eqb (get_or low i 0) (get_or low j 0) e) (sym (and-true _))
-
-  pub by_first : (get_or low i 0 ≡ get_or low j 0 → ⊥) → eqb (get_or low i 0) (get_or low j 0) ≡ same (packed low high) i j
-  unfolding same packed same_bytes
-  by_first e = simp (ne_eqb (get_or low i 0) (get_or low j 0) e)
+pub same-packed : (low high : List ℕ) (i j : ℕ) → same (packed low high) i j ≡ (eqb (get_or low i 0) (get_or low j 0) && eqb (get_or high i 0) (get_or high j 0))
+unfolding same packed same_bytes
+same-packed low high i j = ap (λ (b : Bool). eqb (get_or low i 0) (get_or low j 0) && b) (and-true (eqb (get_or high i 0) (get_or high j 0)))
 
 -- ---- names in nodes
 pub down-length : (t : List ℕ) (k n : ℕ) → length (names_down t k n) ≡ n

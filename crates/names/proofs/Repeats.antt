@@ -19,7 +19,7 @@ use Rattle.model.specs.Given.{place_in, site_wrong}
 use Rattle.names.specs.declared.Question.{Question}
 use Rattle.names.specs.declared.Question.TheVariants.{Limits, Fresh, Given}
 use Rattle.names.specs.declared.Lists.{Lists}
-use Rattle.names.specs.declared.Scope.{Scope}
+use Rattle.names.specs.declared.scope.Scope.{Scope}
 use Rattle.names.specs.Faults.{earlier_of, asks_names, site_faults}
 use Rattle.names.specs.Lists.{packed, found_of, is_found, names_down}
 use Rattle.names.specs.Placed.{IsName, Named}

@@ -20,7 +20,7 @@ use Rattle.model.specs.Given.{site_wrong}
 use Rattle.names.specs.declared.Question.{Question}
 use Rattle.names.specs.declared.Question.TheVariants.{Limits, Fresh, Given}
 use Rattle.names.specs.declared.Lists.{Lists}
-use Rattle.names.specs.declared.Scope.{Scope}
+use Rattle.names.specs.declared.scope.Scope.{Scope}
 use Rattle.names.specs.Faults.{asks_names, site_faults}
 use Rattle.names.specs.Placed.{IsName, Named}
 use Rattle.names.specs.Settings.{Extended, Setting}
@@ -95,13 +95,13 @@ module _ (r k n : ℕ) where
       rw (drop-every r k n, e) (sym (first-every (k + 2 * r) (n - (r + 1)) (every-from (k + 2 * r + 2) (n - (r + 1)))))
 
 -- ---- scopes
-pub extended_none : (s : Scope) → length s.names ≡ local_limit → s.count ≤ local_limit → Extended s [] s
-extended_none s f l = record { full = f; count = omega arith; names-are = λ h. sym (append-nil (take s.count s.names)) }
+pub extended_none : (s : Scope) → length s.names ≡ local_limit → Extended s [] s
+extended_none s f = record { full = f; count = omega (arith, s.few); names-are = λ h. sym (append-nil (take s.count s.names)) }
 
 pub extended-full : (s : Scope) (k : ℕ) → length s.names ≡ local_limit → s.count ≡ local_limit → Extended s (k ∷ []) s
 extended-full s k f e = record { full = f; count = omega arith; names-are = λ h. absurd (omega arith) }
 
-pub extended-one : (s : Scope) (k : ℕ) → length s.names ≡ local_limit → s.count < local_limit → Extended s (k ∷ []) (record { names = set s.names s.count k; count = s.count + 1 })
+pub extended-one : (s : Scope) (k : ℕ) → length s.names ≡ local_limit → (few : s.count + 1 ≤ local_limit) → Extended s (k ∷ []) (record { names = set s.names s.count k; count = s.count + 1; few = few })
 extended-one s k f l =
     record {
       full = length-set s.names s.count k ∙ f;

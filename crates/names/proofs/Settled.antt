@@ -17,7 +17,7 @@ use Rattle.model.specs.Sites.{Variable, Definition, variables, definitions, name
 use Rattle.model.specs.Given.{place_in}
 use Rattle.names.specs.declared.Question.{Question}
 use Rattle.names.specs.declared.Lists.{Lists}
-use Rattle.names.specs.declared.Scope.{Scope}
+use Rattle.names.specs.declared.scope.Scope.{Scope}
 use Rattle.names.specs.Faults.{asks_names}
 use Rattle.names.specs.Lists.{packed, names_down, Reach, InScope}
 use Rattle.names.specs.Placed.{Named, Fits, SortFits, sort_of}

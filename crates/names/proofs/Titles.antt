@@ -22,7 +22,7 @@ use Rattle.model.specs.Given.{place_in, start_wrong, not_given}
 use Rattle.names.specs.declared.Question.{Question}
 use Rattle.names.specs.declared.Question.TheVariants.{Limits, Fresh, Given}
 use Rattle.names.specs.declared.Lists.{Lists}
-use Rattle.names.specs.declared.Scope.{Scope}
+use Rattle.names.specs.declared.scope.Scope.{Scope}
 use Rattle.names.specs.Faults.{earlier_of, asks_names, site_faults, tree_faults}
 use Rattle.names.specs.Leaves.{site_at, between}
 use Rattle.names.specs.Lists.{packed, found_of, is_found, name_at, names_down, Reach}

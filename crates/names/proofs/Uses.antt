@@ -24,7 +24,7 @@ use Rattle.model.specs.Given.{Meaning, local, variable, nothing, or_else, is_val
 use Rattle.names.specs.declared.Question.{Question}
 use Rattle.names.specs.declared.Question.TheVariants.{Limits, Fresh, Given}
 use Rattle.names.specs.declared.Lists.{Lists}
-use Rattle.names.specs.declared.Scope.{Scope}
+use Rattle.names.specs.declared.scope.Scope.{Scope}
 use Rattle.names.specs.Faults.{asks_names, site_faults}
 use Rattle.names.specs.Leaves.{used}
 use Rattle.names.specs.Lists.{packed, found_of, names_down}

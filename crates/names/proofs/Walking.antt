@@ -17,7 +17,7 @@ use Rattle.model.specs.Sites.{Site, branch, call, cond_sites, action_sites, rate
 use Rattle.model.specs.Limits.{local_limit, site_beyond}
 use Rattle.names.specs.declared.Question.{Question}
 use Rattle.names.specs.declared.Lists.{Lists}
-use Rattle.names.specs.declared.Scope.{Scope}
+use Rattle.names.specs.declared.scope.Scope.{Scope}
 use Rattle.names.specs.Faults.{earlier_of, asks_names, site_faults}
 use Rattle.names.specs.Leaves.{between}
 use Rattle.names.specs.Placed.{Named}

@@ -8,7 +8,7 @@ use Rattle.tree.specs.Node.{kind_of, token_of, left_of}
 use Rattle.model.specs.Sites.{variables, definitions}
 use Rattle.model.specs.Limits.{local_limit}
 use Rattle.names.specs.declared.Lists.{Lists}
-use Rattle.names.specs.declared.Scope.{Scope}
+use Rattle.names.specs.declared.scope.Scope.{Scope}
 
 -- a token as the two numbers of its contents; two names of at most 16 bytes are the same where these are
 unfoldable pub packed : List ℕ → List ℕ → ℕ → List ℕ

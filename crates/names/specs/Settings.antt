@@ -11,7 +11,7 @@ use Rattle.model.specs.Limits.{local_limit}
 use Rattle.grammar.specs.Limit.{token_limit}
 use Rattle.names.specs.declared.Question.{Question}
 use Rattle.names.specs.declared.Lists.{Lists}
-use Rattle.names.specs.declared.Scope.{Scope}
+use Rattle.names.specs.declared.scope.Scope.{Scope}
 use Rattle.names.specs.Faults.{asks_names, site_faults}
 use Rattle.names.specs.Lists.{packed, Gathered}
 use Rattle.names.specs.Placed.{IsName, Named, Fits}

@@ -15,7 +15,7 @@ use Rattle.model.specs.Given.{start_wrong}
 use Rattle.names.specs.declared.Question.{Question}
 use Rattle.names.specs.declared.Question.TheVariants.{Limits, Fresh, Given}
 use Rattle.names.specs.declared.Lists.{Lists}
-use Rattle.names.specs.declared.Scope.{Scope}
+use Rattle.names.specs.declared.scope.Scope.{Scope}
 use Rattle.names.specs.Faults.{asks_names, site_faults, tree_faults}
 use Rattle.names.specs.Settings.{World, Setting}
 

@@ -1,8 +1,10 @@
 #![tactic(auto)]
 
 // Questions 7, 8 and 9 of a text that fits.
+mod scope;
 pub mod walk;
 
+ghost use Rattle.token.specs.Contents.{lows_in, highs_in};
 ghost use Rattle.std.specs.Prelude.{◌≡◌, List, [], ◌∷◌, true, false, ◌||◌, ℕ, ◌+◌, ◌-◌, ◌*◌, ◌≤◌, ◌<◌, min, eqb, length, get_or, take, drop};
 ghost use Rattle.word.specs.Number.{worth, cap};
 ghost use Rattle.token.specs.Token.{tokens};
@@ -24,7 +26,8 @@ ghost use Rattle.names.specs.Leaves.{used, leaf_sites, site_at, between};
 ghost use Rattle.names.specs.Placed.{IsName, Named, sort_of, wholes, names};
 ghost use Rattle.names.specs.declared.Question.TheVariants.{Limits, Fresh, Given};
 
-use token::Kind;
+pub use scope::Scope;
+use token::{Content, Kind};
 use tree::NodeKind;
 
 // Which question is asked: 7, 8 or 9.
@@ -64,20 +67,13 @@ pub struct Lists {
     pub definitions: usize,
 }
 
-// A text that fits: its names in two words each, its tree, and where the lists of its model stand.
+// A text that fits: the contents of its tokens, its tree, and where the lists of its model stand.
+// What they tell of the text (World, Setting) stands in the contracts: it goes by recursion on the tree, which a ghost field may not.
 #[derive(Clone, Copy)]
 pub struct Parsed<'a> {
-    pub low: &'a [u64],
-    pub high: &'a [u64],
+    pub contents: &'a [Content],
     pub nodes: &'a [u64],
     pub lists: Lists,
-}
-
-// The locals in scope: the tokens of their names.
-#[derive(Clone, Copy)]
-pub struct Scope {
-    pub names: [u16; 8],
-    pub count: usize,
 }
 
 // The earlier of two answers.
@@ -91,23 +87,23 @@ pub fn earlier(a: Option<usize>, b: Option<usize>) -> Option<usize>
 }
 
 // A name or a decimal that is beyond its limit has no contents.
-fn is_left_out(kind: u8, low: u64, high: u64) -> bool
-    ensures { result ≡ left_out kind low high }
+fn is_left_out(kind: u8, content: Content) -> bool
+    ensures { result ≡ left_out kind content.low content.high }
 {
     match kind {
-        Kind::NAME => low == 0,
-        Kind::DECIMAL => high == 0,
+        Kind::NAME => content.low == 0,
+        Kind::DECIMAL => content.high == 0,
         _ => false,
     }
 }
 
 // Question 7 of the tokens alone: the first name or decimal beyond its limit.
-pub fn words_fault(kinds: &[u8], low: &[u64], high: &[u64], n: usize) -> Option<usize>
-    requires { (text : List ℕ) × Tabled text kinds.now low.now high.now n }
-    ensures { (text : List ℕ) → Tabled text kinds.now low.now high.now n → result ≡ least (words_beyond text 0 (tokens text)) }
+pub fn words_fault(kinds: &[u8], contents: &[Content], n: usize) -> Option<usize>
+    requires { (text : List ℕ) × Tabled text kinds.now (lows_in contents.now) (highs_in contents.now) n }
+    ensures { (text : List ℕ) → Tabled text kinds.now (lows_in contents.now) (highs_in contents.now) n → result ≡ least (words_beyond text 0 (tokens text)) }
 {
     for i in 0..n {
-        if is_left_out(kinds[i], low[i], high[i]) {
+        if is_left_out(kinds[i], contents[i]) {
             return Some(i);
         }
     }
@@ -141,20 +137,20 @@ pub fn lists_of(nodes: &[u64], root: usize) -> Lists
 }
 
 // Whether two names of at most 16 bytes are the same.
-pub fn same_name(low: &[u64], high: &[u64], i: usize, j: usize) -> bool
-    requires { (i < length low.now) × (j < length low.now) × (i < length high.now) × (j < length high.now) }
-    ensures { result ≡ same (packed low.now high.now) i j }
+pub fn same_name(contents: &[Content], i: usize, j: usize) -> bool
+    requires { (i < length contents.now) × (j < length contents.now) }
+    ensures { result ≡ same (packed (lows_in contents.now) (highs_in contents.now)) i j }
 {
-    low[i] == low[j] && high[i] == high[j]
+    contents[i] == contents[j]
 }
 
 // The place in scope of the local with the name k.
-pub fn local_named(low: &[u64], high: &[u64], scope: Scope, k: usize) -> Option<usize>
-    requires { InScope low.now high.now scope k }
-    ensures { result ≡ found_of (place_in (packed low.now high.now) k 0 (take scope.count scope.names)) }
+pub fn local_named(contents: &[Content], scope: Scope, k: usize) -> Option<usize>
+    requires { InScope (lows_in contents.now) (highs_in contents.now) scope k }
+    ensures { result ≡ found_of (place_in (packed (lows_in contents.now) (highs_in contents.now)) k 0 (take scope.count scope.names)) }
 {
     for (i, &name) in scope.names[..scope.count].iter().enumerate() {
-        if same_name(low, high, k, name as usize) {
+        if same_name(contents, k, name as usize) {
             return Some(i);
         }
     }
@@ -175,17 +171,12 @@ fn listed_name(nodes: &[u64], i: usize) -> usize
 
 // The place of the name k in the list of n that goes down from the node `first`.
 pub fn listed(parsed: Parsed, first: usize, n: usize, k: usize) -> Option<usize>
-    requires reach { Reach parsed.low.now parsed.high.now parsed.nodes.now first n }
-    requires k_in_bounds { (k < length parsed.low.now) × (k < length parsed.high.now) }
-    ensures { result ≡ found_of (place_in (packed parsed.entry.low.now parsed.entry.high.now) k 0 (names_down parsed.entry.nodes.now first n)) }
+    requires reach { Reach (lows_in parsed.contents.now) (highs_in parsed.contents.now) parsed.nodes.now first n }
+    requires k_in_bounds { k < length parsed.contents.now }
+    ensures { result ≡ found_of (place_in (packed (lows_in parsed.entry.contents.now) (highs_in parsed.entry.contents.now)) k 0 (names_down parsed.entry.nodes.now first n)) }
 {
     for j in 0..n {
-        if same_name(
-            parsed.low,
-            parsed.high,
-            k,
-            listed_name(parsed.nodes, first - j),
-        ) {
+        if same_name(parsed.contents, k, listed_name(parsed.nodes, first - j)) {
             return Some(j);
         }
     }
@@ -193,11 +184,11 @@ pub fn listed(parsed: Parsed, first: usize, n: usize, k: usize) -> Option<usize>
 }
 
 // Question 7 of a whole number, which has to have a value.
-fn whole_fault(low: &[u64], negated: bool, k: usize) -> Option<usize>
-    requires { (k < length low.now) × (get_or low.now k 0 ≤ cap) }
-    ensures { (w : ℕ → List ℕ) → get_or low.now k 0 ≡ min cap (worth 0 (w k)) → result ≡ least (whole_beyond w negated k) }
+fn whole_fault(contents: &[Content], negated: bool, k: usize) -> Option<usize>
+    requires { (k < length contents.now) × (get_or (lows_in contents.now) k 0 ≤ cap) }
+    ensures { (w : ℕ → List ℕ) → get_or (lows_in contents.now) k 0 ≡ min cap (worth 0 (w k)) → result ≡ least (whole_beyond w negated k) }
 {
-    let z = low[k] as i64;
+    let z = contents[k].low as i64;
     let v = if negated {
         value::neg_value(z)
     } else {
@@ -214,15 +205,15 @@ pub fn is_whole(kind: u8) -> bool
 }
 
 // Question 9 of a name that is used, as a scale or as a value, which has to be whole.
-fn name_fault(parsed: Parsed, scope: Scope, scaling: bool, k: usize) -> Option<usize>
-    requires { (h : Setting Given parsed.low.now parsed.high.now parsed.nodes.now parsed.lists scope) × IsName h.world.kinds k }
-    ensures { (h : Setting Given parsed.entry.low.now parsed.entry.high.now parsed.entry.nodes.now parsed.entry.lists scope) → IsName h.world.kinds k → result ≡ least (faults_at h (used scaling k)) }
+fn name_fault(parsed: &Parsed, scope: Scope, scaling: bool, k: usize) -> Option<usize>
+    requires { (h : Setting Given (lows_in parsed.now.contents.now) (highs_in parsed.now.contents.now) parsed.now.nodes.now parsed.now.lists scope) × IsName h.world.kinds k }
+    ensures { (h : Setting Given (lows_in parsed.entry.now.contents.now) (highs_in parsed.entry.now.contents.now) parsed.entry.now.nodes.now parsed.entry.now.lists scope) → IsName h.world.kinds k → result ≡ least (faults_at h (used scaling k)) }
 {
-    if local_named(parsed.low, parsed.high, scope, k).is_some() {
+    if local_named(parsed.contents, scope, k).is_some() {
         return None;
     }
     let root = parsed.lists.root;
-    let Some(j) = listed(parsed, root, parsed.lists.variables, k) else {
+    let Some(j) = listed(*parsed, root, parsed.lists.variables, k) else {
         return Some(k);
     };
     if scaling || is_whole(tree::kind_of(parsed.nodes[tree::left_of(parsed.nodes[root - j])])) {
@@ -232,21 +223,21 @@ fn name_fault(parsed: Parsed, scope: Scope, scaling: bool, k: usize) -> Option<u
 }
 
 // Whether the definition with the name k has n parameters.
-fn is_callable(parsed: Parsed, k: usize, n: usize) -> bool
-    requires { (h : World Given parsed.low.now parsed.high.now parsed.nodes.now parsed.lists) × IsName h.kinds k }
-    ensures { (h : World Given parsed.entry.low.now parsed.entry.high.now parsed.entry.nodes.now parsed.entry.lists) → IsName h.kinds k → result ≡ is_callable h.word (definitions h.model) k n }
+fn is_callable(parsed: &Parsed, k: usize, n: usize) -> bool
+    requires { (h : World Given (lows_in parsed.now.contents.now) (highs_in parsed.now.contents.now) parsed.now.nodes.now parsed.now.lists) × IsName h.kinds k }
+    ensures { (h : World Given (lows_in parsed.entry.now.contents.now) (highs_in parsed.entry.now.contents.now) parsed.entry.now.nodes.now parsed.entry.now.lists) → IsName h.kinds k → result ≡ is_callable h.word (definitions h.model) k n }
 {
     let first = parsed.lists.root - parsed.lists.variables;
-    let Some(j) = listed(parsed, first, parsed.lists.definitions, k) else {
+    let Some(j) = listed(*parsed, first, parsed.lists.definitions, k) else {
         return false;
     };
     tree::third_of(parsed.nodes[tree::left_of(parsed.nodes[first - j])]) == n
 }
 
 // The faults of a call, or of an item of the system line, with n values.
-fn call_fault(question: Question, parsed: Parsed, k: usize, n: usize) -> Option<usize>
-    requires { (h : World question parsed.low.now parsed.high.now parsed.nodes.now parsed.lists) × IsName h.kinds k }
-    ensures { (h : World question parsed.entry.low.now parsed.entry.high.now parsed.entry.nodes.now parsed.entry.lists) (sc : List ℕ) → IsName h.kinds k → result ≡ least (site_faults question h.word (variables h.model) (definitions h.model) sc (call k n)) }
+fn call_fault(question: Question, parsed: &Parsed, k: usize, n: usize) -> Option<usize>
+    requires { (h : World question (lows_in parsed.now.contents.now) (highs_in parsed.now.contents.now) parsed.now.nodes.now parsed.now.lists) × IsName h.kinds k }
+    ensures { (h : World question (lows_in parsed.entry.now.contents.now) (highs_in parsed.entry.now.contents.now) parsed.entry.now.nodes.now parsed.entry.now.lists) (sc : List ℕ) → IsName h.kinds k → result ≡ least (site_faults question h.word (variables h.model) (definitions h.model) sc (call k n)) }
 {
     match question {
         Question::Limits | Question::Fresh => None,
@@ -255,21 +246,21 @@ fn call_fault(question: Question, parsed: Parsed, k: usize, n: usize) -> Option<
 }
 
 // Question 7 of a node: a whole number that is beyond the range.
-fn number_fault(low: &[u64], kind: u8, k: usize) -> Option<usize>
-    requires { sort_of kind ≡ wholes → (k < length low.now) × (get_or low.now k 0 ≤ cap) }
-    ensures { (w : ℕ → List ℕ) (sc : List ℕ) → (sort_of kind ≡ wholes → get_or low.now k 0 ≡ min cap (worth 0 (w k))) → result ≡ least (each (site_beyond w sc) (leaf_sites kind k)) }
+fn number_fault(contents: &[Content], kind: u8, k: usize) -> Option<usize>
+    requires { sort_of kind ≡ wholes → (k < length contents.now) × (get_or (lows_in contents.now) k 0 ≤ cap) }
+    ensures { (w : ℕ → List ℕ) (sc : List ℕ) → (sort_of kind ≡ wholes → get_or (lows_in contents.now) k 0 ≡ min cap (worth 0 (w k))) → result ≡ least (each (site_beyond w sc) (leaf_sites kind k)) }
 {
     match kind {
-        NodeKind::LITERAL | NodeKind::NUMBER => whole_fault(low, false, k),
-        NodeKind::NEGATIVE | NodeKind::NEGATIVE_NUMBER => whole_fault(low, true, k),
+        NodeKind::LITERAL | NodeKind::NUMBER => whole_fault(contents, false, k),
+        NodeKind::NEGATIVE | NodeKind::NEGATIVE_NUMBER => whole_fault(contents, true, k),
         _ => None,
     }
 }
 
 // Question 9 of a node: a name that isn't given.
-fn used_fault(parsed: Parsed, scope: Scope, kind: u8, k: usize) -> Option<usize>
-    requires { (h : Setting Given parsed.low.now parsed.high.now parsed.nodes.now parsed.lists scope) × (sort_of kind ≡ names → IsName h.world.kinds k) }
-    ensures { (h : Setting Given parsed.entry.low.now parsed.entry.high.now parsed.entry.nodes.now parsed.entry.lists scope) → (sort_of kind ≡ names → IsName h.world.kinds k) → result ≡ least (each (faults_at h) (leaf_sites kind k)) }
+fn used_fault(parsed: &Parsed, scope: Scope, kind: u8, k: usize) -> Option<usize>
+    requires { (h : Setting Given (lows_in parsed.now.contents.now) (highs_in parsed.now.contents.now) parsed.now.nodes.now parsed.now.lists scope) × (sort_of kind ≡ names → IsName h.world.kinds k) }
+    ensures { (h : Setting Given (lows_in parsed.entry.now.contents.now) (highs_in parsed.entry.now.contents.now) parsed.entry.now.nodes.now parsed.entry.now.lists scope) → (sort_of kind ≡ names → IsName h.world.kinds k) → result ≡ least (each (faults_at h) (leaf_sites kind k)) }
 {
     match kind {
         NodeKind::NAMED => name_fault(parsed, scope, false, k),
@@ -279,15 +270,15 @@ fn used_fault(parsed: Parsed, scope: Scope, kind: u8, k: usize) -> Option<usize>
 }
 
 // The faults of the node i, if it is a leaf.
-fn leaf_fault(question: Question, parsed: Parsed, scope: Scope, i: usize) -> Option<usize>
-    requires { Setting question parsed.low.now parsed.high.now parsed.nodes.now parsed.lists scope × (i ≤ parsed.lists.root) }
-    ensures { (h : Setting question parsed.entry.low.now parsed.entry.high.now parsed.entry.nodes.now parsed.entry.lists scope) → result ≡ least (each (faults_at h) (site_at parsed.entry.nodes.now i)) }
+fn leaf_fault(question: Question, parsed: &Parsed, scope: Scope, i: usize) -> Option<usize>
+    requires { Setting question (lows_in parsed.now.contents.now) (highs_in parsed.now.contents.now) parsed.now.nodes.now parsed.now.lists scope × (i ≤ parsed.now.lists.root) }
+    ensures { (h : Setting question (lows_in parsed.entry.now.contents.now) (highs_in parsed.entry.now.contents.now) parsed.entry.now.nodes.now parsed.entry.now.lists scope) → result ≡ least (each (faults_at h) (site_at parsed.entry.now.nodes.now i)) }
 {
     let node = parsed.nodes[i];
     let kind = tree::kind_of(node);
     let k = tree::token_of(node);
     match question {
-        Question::Limits => number_fault(parsed.low, kind, k),
+        Question::Limits => number_fault(parsed.contents, kind, k),
         Question::Fresh => None,
         Question::Given => used_fault(parsed, scope, kind, k),
     }
@@ -296,13 +287,13 @@ fn leaf_fault(question: Question, parsed: Parsed, scope: Scope, i: usize) -> Opt
 // The faults of the leaves among the nodes from `from` up to `to`, which isn't one of them.
 fn leaves_fault(
     question: Question,
-    parsed: Parsed,
+    parsed: &Parsed,
     scope: Scope,
     from: usize,
     to: usize,
 ) -> Option<usize>
-    requires { Setting question parsed.low.now parsed.high.now parsed.nodes.now parsed.lists scope × (to ≤ parsed.lists.root + 1) }
-    ensures { (h : Setting question parsed.entry.low.now parsed.entry.high.now parsed.entry.nodes.now parsed.entry.lists scope) → result ≡ least (each (faults_at h) (between parsed.entry.nodes.now from (to - from))) }
+    requires { Setting question (lows_in parsed.now.contents.now) (highs_in parsed.now.contents.now) parsed.now.nodes.now parsed.now.lists scope × (to ≤ parsed.now.lists.root + 1) }
+    ensures { (h : Setting question (lows_in parsed.entry.now.contents.now) (highs_in parsed.entry.now.contents.now) parsed.entry.now.nodes.now parsed.entry.now.lists scope) → result ≡ least (each (faults_at h) (between parsed.entry.now.nodes.now from (to - from))) }
 {
     let mut found = None;
     for i in from..to {
@@ -323,7 +314,7 @@ pub fn no_locals() -> Scope
 
 // A scope with the local k more, if there is room.
 fn with_local(scope: Scope, k: usize) -> Scope
-    requires { (length scope.names ≡ local_limit) × (scope.count ≤ local_limit) × (k < field) }
+    requires { k < field }
     ensures { Extended scope (k ∷ []) result }
 {
     let n = scope.count;
@@ -340,7 +331,7 @@ fn with_local(scope: Scope, k: usize) -> Scope
 
 // A scope with n locals more, every second token from `first` on.
 pub fn with_locals(scope: Scope, first: usize, n: usize) -> Scope
-    requires { (length scope.names ≡ local_limit) × (scope.count ≤ local_limit) × (first + 2 * n ≤ field) }
+    requires { first + 2 * n ≤ field }
     ensures { Extended scope (every_other first n) result }
 {
     let mut inner = scope;
@@ -351,19 +342,19 @@ pub fn with_locals(scope: Scope, first: usize, n: usize) -> Scope
 }
 
 // Question 8 of the local k, which the variables and the locals in scope may have the name of.
-fn taken_fault(parsed: Parsed, scope: Scope, k: usize) -> Option<usize>
-    requires { (h : Setting Fresh parsed.low.now parsed.high.now parsed.nodes.now parsed.lists scope) × IsName h.world.kinds k }
-    ensures { (h : Setting Fresh parsed.entry.low.now parsed.entry.high.now parsed.entry.nodes.now parsed.entry.lists scope) → IsName h.world.kinds k → result ≡ least (when (any (same h.world.word k) (known_in h)) k) }
+fn taken_fault(parsed: &Parsed, scope: Scope, k: usize) -> Option<usize>
+    requires { (h : Setting Fresh (lows_in parsed.now.contents.now) (highs_in parsed.now.contents.now) parsed.now.nodes.now parsed.now.lists scope) × IsName h.world.kinds k }
+    ensures { (h : Setting Fresh (lows_in parsed.entry.now.contents.now) (highs_in parsed.entry.now.contents.now) parsed.entry.now.nodes.now parsed.entry.now.lists scope) → IsName h.world.kinds k → result ≡ least (when (any (same h.world.word k) (known_in h)) k) }
 {
-    let taken = listed(parsed, parsed.lists.root, parsed.lists.variables, k).is_some()
-        || local_named(parsed.low, parsed.high, scope, k).is_some();
+    let taken = listed(*parsed, parsed.lists.root, parsed.lists.variables, k).is_some()
+        || local_named(parsed.contents, scope, k).is_some();
     taken.then_some(k)
 }
 
 // Question 8 of n locals, every second token from `first` on.
-fn repeated_fault(parsed: Parsed, scope: Scope, first: usize, n: usize) -> Option<usize>
-    requires { ((h : Setting Fresh parsed.low.now parsed.high.now parsed.nodes.now parsed.lists scope) × Named h.world.kinds (every_other first n)) × (scope.count + n ≤ local_limit) }
-    ensures { (h : Setting Fresh parsed.entry.low.now parsed.entry.high.now parsed.entry.nodes.now parsed.entry.lists scope) → Named h.world.kinds (every_other first n) → result ≡ least (repeated h.world.word (known_in h) (every_other first n)) }
+fn repeated_fault(parsed: &Parsed, scope: Scope, first: usize, n: usize) -> Option<usize>
+    requires { ((h : Setting Fresh (lows_in parsed.now.contents.now) (highs_in parsed.now.contents.now) parsed.now.nodes.now parsed.now.lists scope) × Named h.world.kinds (every_other first n)) × (scope.count + n ≤ local_limit) }
+    ensures { (h : Setting Fresh (lows_in parsed.entry.now.contents.now) (highs_in parsed.entry.now.contents.now) parsed.entry.now.nodes.now parsed.entry.now.lists scope) → Named h.world.kinds (every_other first n) → result ≡ least (repeated h.world.word (known_in h) (every_other first n)) }
 {
     let mut found = None;
     let mut seen = scope;
@@ -389,14 +380,14 @@ fn over_fault(room: usize, first: usize, n: usize) -> Option<usize>
 // The faults of n names that a receive with so many sets binds.
 fn bound_fault(
     question: Question,
-    parsed: Parsed,
+    parsed: &Parsed,
     scope: Scope,
     first: usize,
     n: usize,
     sets: usize,
 ) -> Option<usize>
-    requires { Binding question parsed.low.now parsed.high.now parsed.nodes.now parsed.lists scope first n }
-    ensures { (h : Binding question parsed.entry.low.now parsed.entry.high.now parsed.entry.nodes.now parsed.entry.lists scope first n) → result ≡ least (faults_at h.setting (bound (every_other first n) sets)) }
+    requires { Binding question (lows_in parsed.now.contents.now) (highs_in parsed.now.contents.now) parsed.now.nodes.now parsed.now.lists scope first n }
+    ensures { (h : Binding question (lows_in parsed.entry.now.contents.now) (highs_in parsed.entry.now.contents.now) parsed.entry.now.nodes.now parsed.entry.now.lists scope first n) → result ≡ least (faults_at h.setting (bound (every_other first n) sets)) }
 {
     match question {
         Question::Limits => over_fault(Limits::LOCALS - scope.count, first, n),
@@ -428,27 +419,25 @@ pub enum Fault {
     NotGiven(usize),
 }
 
-// Questions 7, 8 and 9, in this order, of a text's n tokens and its tree.
+// Questions 7, 8 and 9, in this order, of a text's n tokens and its tree, which its caller holds as these five.
 pub fn judge_names(
     kinds: &[u8],
-    low: &[u64],
-    high: &[u64],
+    contents: &[Content],
     nodes: &[u64],
     root: usize,
     n: usize,
 ) -> Result<(), Fault>
-    requires { (text : List ℕ) × (s : Syntax.Model) × Read text s kinds.now low.now high.now nodes.now root n }
-    ensures { (text : List ℕ) (s : Syntax.Model) → Read text s kinds.now low.now high.now nodes.now root n → answer_of result ≡ judged_names text s }
+    requires { (text : List ℕ) × (s : Syntax.Model) × Read text s kinds.now (lows_in contents.now) (highs_in contents.now) nodes.now root n }
+    ensures { (text : List ℕ) (s : Syntax.Model) → Read text s kinds.now (lows_in contents.now) (highs_in contents.now) nodes.now root n → answer_of result ≡ judged_names text s }
 {
     let lists = lists_of(nodes, root);
     let toks = &kinds[..n];
-    let words = words_fault(kinds, low, high, n);
+    let words = words_fault(kinds, contents, n);
     let tree = walk::tree_fault(
         Question::Limits,
         toks,
-        Parsed {
-            low,
-            high,
+        &Parsed {
+            contents,
             nodes,
             lists,
         },
@@ -459,9 +448,8 @@ pub fn judge_names(
     if let Some(k) = walk::tree_fault(
         Question::Fresh,
         toks,
-        Parsed {
-            low,
-            high,
+        &Parsed {
+            contents,
             nodes,
             lists,
         },
@@ -471,9 +459,8 @@ pub fn judge_names(
     if let Some(k) = walk::tree_fault(
         Question::Given,
         toks,
-        Parsed {
-            low,
-            high,
+        &Parsed {
+            contents,
             nodes,
             lists,
         },

@@ -1,4 +1,5 @@
 // Questions 7, 8 and 9 of a whole tree: each part is judged in its scope, and the first fault of all is kept.
+ghost use Rattle.token.specs.Contents.{lows_in, highs_in};
 ghost use Rattle.std.specs.Prelude.{◌≡◌, List, [], ◌∷◌, ◌++◌, true, not, ◌&&◌, ◌||◌, ℕ, ◌+◌, ◌-◌, ◌*◌, ◌≤◌, ◌<◌, min, eqb, ltb, length, get_or, drop};
 ghost use Rattle.word.specs.Number.{worth, cap};
 ghost use Rattle.token.specs.Kind as kind;
@@ -17,6 +18,7 @@ ghost use Rattle.names.specs.Placed.{Named, sort_of, counts};
 ghost use Rattle.names.specs.Walks.{Part, Holds, RoomFor, Place, part_faults, bound_sites, ActionRoom, PartRoom, Ground, list_faults, number_faults, param_faults, defined, count_faults, start_faults, definition_judged, lines_judged, DefinitionRoom, LinesRoom, TreeRoom};
 
 use crate::{Limits, Lists, Parsed, Question, Scope, no_locals};
+use token::Content;
 use tree::NodeKind;
 
 // How many sets stand at this root.
@@ -41,13 +43,13 @@ fn is_lone(kinds: &[u8], node: u64) -> bool
 fn item_fault(
     question: Question,
     kinds: &[u8],
-    parsed: Parsed,
+    parsed: &Parsed,
     scope: Scope,
     from: usize,
     root: usize,
 ) -> Option<usize>
-    requires { Place question kinds.now parsed.low.now parsed.high.now parsed.nodes.now parsed.lists scope × (root ≤ parsed.lists.root) }
-    ensures { (h : Place question kinds.now parsed.entry.low.now parsed.entry.high.now parsed.entry.nodes.now parsed.entry.lists scope) (c : Syntax.Expr) → Table.Expr parsed.entry.nodes.now c from root → result ≡ least (each (faults_at h.setting) (item_sites h.setting.world.word c)) }
+    requires { Place question kinds.now (lows_in parsed.now.contents.now) (highs_in parsed.now.contents.now) parsed.now.nodes.now parsed.now.lists scope × (root ≤ parsed.now.lists.root) }
+    ensures { (h : Place question kinds.now (lows_in parsed.entry.now.contents.now) (highs_in parsed.entry.now.contents.now) parsed.entry.now.nodes.now parsed.entry.now.lists scope) (c : Syntax.Expr) → Table.Expr parsed.entry.now.nodes.now c from root → result ≡ least (each (faults_at h.setting) (item_sites h.setting.world.word c)) }
 {
     if is_lone(kinds, parsed.nodes[root]) {
         return None;
@@ -59,13 +61,13 @@ fn item_fault(
 fn channel_fault(
     question: Question,
     kinds: &[u8],
-    parsed: Parsed,
+    parsed: &Parsed,
     scope: Scope,
     from: usize,
     root: usize,
 ) -> Option<usize>
-    requires { (Place question kinds.now parsed.low.now parsed.high.now parsed.nodes.now parsed.lists scope × (c : Syntax.Channel) × Table.Channel parsed.nodes.now c from root) × (root ≤ parsed.lists.root) }
-    ensures { (h : Place question kinds.now parsed.entry.low.now parsed.entry.high.now parsed.entry.nodes.now parsed.entry.lists scope) (c : Syntax.Channel) → Table.Channel parsed.entry.nodes.now c from root → result ≡ least (each (faults_at h.setting) (channel_sites h.setting.world.word c)) }
+    requires { (Place question kinds.now (lows_in parsed.now.contents.now) (highs_in parsed.now.contents.now) parsed.now.nodes.now parsed.now.lists scope × (c : Syntax.Channel) × Table.Channel parsed.now.nodes.now c from root) × (root ≤ parsed.now.lists.root) }
+    ensures { (h : Place question kinds.now (lows_in parsed.entry.now.contents.now) (highs_in parsed.entry.now.contents.now) parsed.entry.now.nodes.now parsed.entry.now.lists scope) (c : Syntax.Channel) → Table.Channel parsed.entry.now.nodes.now c from root → result ≡ least (each (faults_at h.setting) (channel_sites h.setting.world.word c)) }
 {
     let node = parsed.nodes[root];
     let kind = tree::kind_of(node);
@@ -85,9 +87,9 @@ fn channel_fault(
 }
 
 // The faults of the names that the action at this root binds.
-fn binding_fault(question: Question, parsed: Parsed, scope: Scope, root: usize) -> Option<usize>
-    requires { ((h : Setting question parsed.low.now parsed.high.now parsed.nodes.now parsed.lists scope) × (a : Syntax.Action) × (lo : ℕ) × Table.Action parsed.nodes.now a lo root × RoomFor question h.world.word h.locals (bound_sites a)) × (root ≤ parsed.lists.root) }
-    ensures { (h : Setting question parsed.entry.low.now parsed.entry.high.now parsed.entry.nodes.now parsed.entry.lists scope) (a : Syntax.Action) (lo : ℕ) → Table.Action parsed.entry.nodes.now a lo root → RoomFor question h.world.word h.locals (bound_sites a) → result ≡ least (each (faults_at h) (bound_sites a)) }
+fn binding_fault(question: Question, parsed: &Parsed, scope: Scope, root: usize) -> Option<usize>
+    requires { ((h : Setting question (lows_in parsed.now.contents.now) (highs_in parsed.now.contents.now) parsed.now.nodes.now parsed.now.lists scope) × (a : Syntax.Action) × (lo : ℕ) × Table.Action parsed.now.nodes.now a lo root × RoomFor question h.world.word h.locals (bound_sites a)) × (root ≤ parsed.now.lists.root) }
+    ensures { (h : Setting question (lows_in parsed.entry.now.contents.now) (highs_in parsed.entry.now.contents.now) parsed.entry.now.nodes.now parsed.entry.now.lists scope) (a : Syntax.Action) (lo : ℕ) → Table.Action parsed.entry.now.nodes.now a lo root → RoomFor question h.world.word h.locals (bound_sites a) → result ≡ least (each (faults_at h) (bound_sites a)) }
 {
     let node = parsed.nodes[root];
     let n = tree::third_of(node);
@@ -102,13 +104,13 @@ fn binding_fault(question: Question, parsed: Parsed, scope: Scope, root: usize) 
 fn action_fault(
     question: Question,
     kinds: &[u8],
-    parsed: Parsed,
+    parsed: &Parsed,
     scope: Scope,
     from: usize,
     root: usize,
 ) -> Option<usize>
-    requires { ((h : Place question kinds.now parsed.low.now parsed.high.now parsed.nodes.now parsed.lists scope) × (a : Syntax.Action) × Table.Action parsed.nodes.now a from root × ActionRoom h a) × (root ≤ parsed.lists.root) }
-    ensures { (h : Place question kinds.now parsed.entry.low.now parsed.entry.high.now parsed.entry.nodes.now parsed.entry.lists scope) (a : Syntax.Action) → Table.Action parsed.entry.nodes.now a from root → ActionRoom h a → result ≡ least (each (faults_at h.setting) (action_sites h.setting.world.word a)) }
+    requires { ((h : Place question kinds.now (lows_in parsed.now.contents.now) (highs_in parsed.now.contents.now) parsed.now.nodes.now parsed.now.lists scope) × (a : Syntax.Action) × Table.Action parsed.now.nodes.now a from root × ActionRoom h a) × (root ≤ parsed.now.lists.root) }
+    ensures { (h : Place question kinds.now (lows_in parsed.entry.now.contents.now) (highs_in parsed.entry.now.contents.now) parsed.entry.now.nodes.now parsed.entry.now.lists scope) (a : Syntax.Action) → Table.Action parsed.entry.now.nodes.now a from root → ActionRoom h a → result ≡ least (each (faults_at h.setting) (action_sites h.setting.world.word a)) }
 {
     let node = parsed.nodes[root];
     if tree::kind_of(node) == NodeKind::WAIT {
@@ -139,13 +141,13 @@ fn part_at(before: usize, from: usize, root: usize) -> Span
 fn offer_fault(
     question: Question,
     kinds: &[u8],
-    parsed: Parsed,
+    parsed: &Parsed,
     scope: Scope,
     node: u64,
     own: Span,
 ) -> Option<usize>
-    requires { ((h : Place question kinds.now parsed.low.now parsed.high.now parsed.nodes.now parsed.lists scope) × (a : Syntax.Action) × Table.Action parsed.nodes.now a own.from (left_of node) × ActionRoom h a) × (left_of node ≤ parsed.lists.root) × (own.root ≤ parsed.lists.root) }
-    ensures { (h : Place question kinds.now parsed.entry.low.now parsed.entry.high.now parsed.entry.nodes.now parsed.entry.lists scope) (a : Syntax.Action) (ρ : Syntax.Rate) → Table.Action parsed.entry.nodes.now a own.from (left_of node) → Table.Rate parsed.entry.nodes.now ρ (left_of node + 1) own.root → ActionRoom h a → result ≡ least (each (faults_at h.setting) (branch own.before (token_of node) ∷ action_sites h.setting.world.word a ++ rate_sites ρ)) }
+    requires { ((h : Place question kinds.now (lows_in parsed.now.contents.now) (highs_in parsed.now.contents.now) parsed.now.nodes.now parsed.now.lists scope) × (a : Syntax.Action) × Table.Action parsed.now.nodes.now a own.from (left_of node) × ActionRoom h a) × (left_of node ≤ parsed.now.lists.root) × (own.root ≤ parsed.now.lists.root) }
+    ensures { (h : Place question kinds.now (lows_in parsed.entry.now.contents.now) (highs_in parsed.entry.now.contents.now) parsed.entry.now.nodes.now parsed.entry.now.lists scope) (a : Syntax.Action) (ρ : Syntax.Rate) → Table.Action parsed.entry.now.nodes.now a own.from (left_of node) → Table.Rate parsed.entry.now.nodes.now ρ (left_of node + 1) own.root → ActionRoom h a → result ≡ least (each (faults_at h.setting) (branch own.before (token_of node) ∷ action_sites h.setting.world.word a ++ rate_sites ρ)) }
 {
     let from = own.from;
     let rate = own.root;
@@ -159,13 +161,13 @@ fn offer_fault(
 // The faults of a call with its values.
 fn calling_fault(
     question: Question,
-    parsed: Parsed,
+    parsed: &Parsed,
     scope: Scope,
     from: usize,
     root: usize,
 ) -> Option<usize>
-    requires { (Setting question parsed.low.now parsed.high.now parsed.nodes.now parsed.lists scope × (n : ℕ) × (a : Syntax.Args) × Table.Cont parsed.nodes.now (Syntax.call n a) from root) × (root ≤ parsed.lists.root) }
-    ensures { (h : Setting question parsed.entry.low.now parsed.entry.high.now parsed.entry.nodes.now parsed.entry.lists scope) (n : ℕ) (a : Syntax.Args) → Table.Cont parsed.entry.nodes.now (Syntax.call n a) from root → result ≡ least (each (faults_at h) (call n (count_args a) ∷ args_sites a)) }
+    requires { (Setting question (lows_in parsed.now.contents.now) (highs_in parsed.now.contents.now) parsed.now.nodes.now parsed.now.lists scope × (n : ℕ) × (a : Syntax.Args) × Table.Cont parsed.now.nodes.now (Syntax.call n a) from root) × (root ≤ parsed.now.lists.root) }
+    ensures { (h : Setting question (lows_in parsed.entry.now.contents.now) (highs_in parsed.entry.now.contents.now) parsed.entry.now.nodes.now parsed.entry.now.lists scope) (n : ℕ) (a : Syntax.Args) → Table.Cont parsed.entry.now.nodes.now (Syntax.call n a) from root → result ≡ least (each (faults_at h) (call n (count_args a) ∷ args_sites a)) }
 {
     let node = parsed.nodes[root];
     let name = tree::token_of(node);
@@ -178,7 +180,7 @@ fn calling_fault(
 
 // The scope with the names more that the action at this root binds.
 fn inner_scope(nodes: &[u64], scope: Scope, root: usize) -> Scope
-    requires { (root < length nodes.now) × (length scope.names ≡ local_limit) × (scope.count ≤ local_limit) × (token_of (get_or nodes.now root 0) + 2 * third_of (get_or nodes.now root 0) ≤ field) }
+    requires { (root < length nodes.now) × (token_of (get_or nodes.now root 0) + 2 * third_of (get_or nodes.now root 0) ≤ field) }
     ensures { Extended scope (every_other (token_of (get_or nodes.now root 0)) (third_of (get_or nodes.now root 0))) result }
 {
     let node = nodes[root];
@@ -189,12 +191,12 @@ fn inner_scope(nodes: &[u64], scope: Scope, root: usize) -> Scope
 fn part_fault(
     question: Question,
     kinds: &[u8],
-    parsed: Parsed,
+    parsed: &Parsed,
     scope: Scope,
     part: Span,
 ) -> Option<usize>
-    requires { ((h : Place question kinds.now parsed.low.now parsed.high.now parsed.nodes.now parsed.lists scope) × (p : Part) × Holds parsed.nodes.now p part.from part.root × PartRoom h part.before p) × (part.before + part.root ≤ parsed.lists.root) }
-    ensures { (h : Place question kinds.now parsed.entry.low.now parsed.entry.high.now parsed.entry.nodes.now parsed.entry.lists scope) (p : Part) → Holds parsed.entry.nodes.now p part.from part.root → PartRoom h part.before p → result ≡ least (part_faults h part.before p) }
+    requires { ((h : Place question kinds.now (lows_in parsed.now.contents.now) (highs_in parsed.now.contents.now) parsed.now.nodes.now parsed.now.lists scope) × (p : Part) × Holds parsed.now.nodes.now p part.from part.root × PartRoom h part.before p) × (part.before + part.root ≤ parsed.now.lists.root) }
+    ensures { (h : Place question kinds.now (lows_in parsed.entry.now.contents.now) (highs_in parsed.entry.now.contents.now) parsed.entry.now.nodes.now parsed.entry.now.lists scope) (p : Part) → Holds parsed.entry.now.nodes.now p part.from part.root → PartRoom h part.before p → result ≡ least (part_faults h part.before p) }
 {
     let before = part.before;
     let from = part.from;
@@ -237,9 +239,9 @@ fn part_fault(
 }
 
 // Questions 7 and 8 of a definition's n parameters, every second token from `first` on.
-fn params_fault(question: Question, parsed: Parsed, first: usize, n: usize) -> Option<usize>
-    requires { ((h : World question parsed.low.now parsed.high.now parsed.nodes.now parsed.lists) × Named h.kinds (every_other first n)) × (first + 2 * n ≤ field) × (asks_names question ≡ true → n ≤ local_limit) }
-    ensures { (h : World question parsed.entry.low.now parsed.entry.high.now parsed.entry.nodes.now parsed.entry.lists) → Named h.kinds (every_other first n) → result ≡ least (param_faults question h.word (names (variables h.model)) (every_other first n)) }
+fn params_fault(question: Question, parsed: &Parsed, first: usize, n: usize) -> Option<usize>
+    requires { ((h : World question (lows_in parsed.now.contents.now) (highs_in parsed.now.contents.now) parsed.now.nodes.now parsed.now.lists) × Named h.kinds (every_other first n)) × (first + 2 * n ≤ field) × (asks_names question ≡ true → n ≤ local_limit) }
+    ensures { (h : World question (lows_in parsed.entry.now.contents.now) (highs_in parsed.entry.now.contents.now) parsed.entry.now.nodes.now parsed.entry.now.lists) → Named h.kinds (every_other first n) → result ≡ least (param_faults question h.word (names (variables h.model)) (every_other first n)) }
 {
     match question {
         Question::Limits => crate::over_fault(Limits::PARAMETERS, first, n),
@@ -252,12 +254,12 @@ fn params_fault(question: Question, parsed: Parsed, first: usize, n: usize) -> O
 fn definition_fault(
     question: Question,
     kinds: &[u8],
-    parsed: Parsed,
+    parsed: &Parsed,
     from: usize,
     root: usize,
 ) -> Option<usize>
-    requires { ((h : Ground question kinds.now parsed.low.now parsed.high.now parsed.nodes.now parsed.lists) × (n : ℕ) × (p : Syntax.Params) × (b : Syntax.Sums) × Table.Definition parsed.nodes.now n p b from root × DefinitionRoom h (defined n p b)) × (root ≤ parsed.lists.root) }
-    ensures { (h : Ground question kinds.now parsed.entry.low.now parsed.entry.high.now parsed.entry.nodes.now parsed.entry.lists) (n : ℕ) (p : Syntax.Params) (b : Syntax.Sums) → Table.Definition parsed.entry.nodes.now n p b from root → DefinitionRoom h (defined n p b) → result ≡ least (definition_judged h question (defined n p b)) }
+    requires { ((h : Ground question kinds.now (lows_in parsed.now.contents.now) (highs_in parsed.now.contents.now) parsed.now.nodes.now parsed.now.lists) × (n : ℕ) × (p : Syntax.Params) × (b : Syntax.Sums) × Table.Definition parsed.now.nodes.now n p b from root × DefinitionRoom h (defined n p b)) × (root ≤ parsed.now.lists.root) }
+    ensures { (h : Ground question kinds.now (lows_in parsed.entry.now.contents.now) (highs_in parsed.entry.now.contents.now) parsed.entry.now.nodes.now parsed.entry.now.lists) (n : ℕ) (p : Syntax.Params) (b : Syntax.Sums) → Table.Definition parsed.entry.now.nodes.now n p b from root → DefinitionRoom h (defined n p b) → result ≡ least (definition_judged h question (defined n p b)) }
 {
     let node = parsed.nodes[root];
     let first = tree::token_of(node) + 2;
@@ -277,33 +279,33 @@ fn is_counted(kind: u8) -> bool
 }
 
 // Question 7 of the count k.
-fn over_count(low: &[u64], k: usize) -> Option<usize>
-    requires { k < length low.now }
-    ensures { (w : ℕ → List ℕ) → get_or low.now k 0 ≡ min cap (worth 0 (w k)) → result ≡ least (when (ltb count_limit (worth 0 (w k))) k) }
+fn over_count(contents: &[Content], k: usize) -> Option<usize>
+    requires { k < length contents.now }
+    ensures { (w : ℕ → List ℕ) → get_or (lows_in contents.now) k 0 ≡ min cap (worth 0 (w k)) → result ≡ least (when (ltb count_limit (worth 0 (w k))) k) }
 {
-    (Limits::COUNT < low[k]).then_some(k)
+    (Limits::COUNT < contents[k].low).then_some(k)
 }
 
 // Question 7 of the count of an item with this node, if it has one.
-fn count_fault(low: &[u64], node: u64) -> Option<usize>
-    requires { sort_of (kind_of node) ≡ counts → (2 ≤ token_of node) × (token_of node - 2 < length low.now) }
-    ensures { (w : ℕ → List ℕ) → (sort_of (kind_of node) ≡ counts → get_or low.now (token_of node - 2) 0 ≡ min cap (worth 0 (w (token_of node - 2)))) → result ≡ least (count_faults (kind_of node) w (token_of node - 2)) }
+fn count_fault(contents: &[Content], node: u64) -> Option<usize>
+    requires { sort_of (kind_of node) ≡ counts → (2 ≤ token_of node) × (token_of node - 2 < length contents.now) }
+    ensures { (w : ℕ → List ℕ) → (sort_of (kind_of node) ≡ counts → get_or (lows_in contents.now) (token_of node - 2) 0 ≡ min cap (worth 0 (w (token_of node - 2)))) → result ≡ least (count_faults (kind_of node) w (token_of node - 2)) }
 {
     if is_counted(tree::kind_of(node)) {
-        return over_count(low, tree::token_of(node) - 2);
+        return over_count(contents, tree::token_of(node) - 2);
     }
     None
 }
 
 // The faults of an item of the system line from the node `from` to its root.
-fn start_fault(question: Question, parsed: Parsed, from: usize, root: usize) -> Option<usize>
-    requires { (World question parsed.low.now parsed.high.now parsed.nodes.now parsed.lists × (s : Syntax.Start) × Table.Start parsed.nodes.now s from root) × (root ≤ parsed.lists.root) }
-    ensures { (h : World question parsed.entry.low.now parsed.entry.high.now parsed.entry.nodes.now parsed.entry.lists) (s : Syntax.Start) → Table.Start parsed.entry.nodes.now s from root → result ≡ least (start_faults question h.word (definitions h.model) s) }
+fn start_fault(question: Question, parsed: &Parsed, from: usize, root: usize) -> Option<usize>
+    requires { (World question (lows_in parsed.now.contents.now) (highs_in parsed.now.contents.now) parsed.now.nodes.now parsed.now.lists × (s : Syntax.Start) × Table.Start parsed.now.nodes.now s from root) × (root ≤ parsed.now.lists.root) }
+    ensures { (h : World question (lows_in parsed.entry.now.contents.now) (highs_in parsed.entry.now.contents.now) parsed.entry.now.nodes.now parsed.entry.now.lists) (s : Syntax.Start) → Table.Start parsed.entry.now.nodes.now s from root → result ≡ least (start_faults question h.word (definitions h.model) s) }
 {
     let node = parsed.nodes[root];
     match question {
         Question::Limits => {
-            let count = count_fault(parsed.low, node);
+            let count = count_fault(parsed.contents, node);
             crate::earlier(
                 count,
                 crate::leaves_fault(question, parsed, no_locals(), from, root),
@@ -318,9 +320,9 @@ fn start_fault(question: Question, parsed: Parsed, from: usize, root: usize) -> 
 }
 
 // The faults of the items of the system line from the node `from` to their root.
-fn system_fault(question: Question, parsed: Parsed, from: usize, root: usize) -> Option<usize>
-    requires { (World question parsed.low.now parsed.high.now parsed.nodes.now parsed.lists × (s : Syntax.System) × Table.System parsed.nodes.now s from root) × (root ≤ parsed.lists.root) }
-    ensures { (h : World question parsed.entry.low.now parsed.entry.high.now parsed.entry.nodes.now parsed.entry.lists) (s : Syntax.System) → Table.System parsed.entry.nodes.now s from root → result ≡ least (each (start_faults question h.word (definitions h.model)) (starts_in s)) }
+fn system_fault(question: Question, parsed: &Parsed, from: usize, root: usize) -> Option<usize>
+    requires { (World question (lows_in parsed.now.contents.now) (highs_in parsed.now.contents.now) parsed.now.nodes.now parsed.now.lists × (s : Syntax.System) × Table.System parsed.now.nodes.now s from root) × (root ≤ parsed.now.lists.root) }
+    ensures { (h : World question (lows_in parsed.entry.now.contents.now) (highs_in parsed.entry.now.contents.now) parsed.entry.now.nodes.now parsed.entry.now.lists) (s : Syntax.System) → Table.System parsed.entry.now.nodes.now s from root → result ≡ least (each (start_faults question h.word (definitions h.model)) (starts_in s)) }
 {
     let node = parsed.nodes[root];
     if tree::kind_of(node) != NodeKind::SYSTEM {
@@ -336,12 +338,12 @@ fn system_fault(question: Question, parsed: Parsed, from: usize, root: usize) ->
 fn lines_fault(
     question: Question,
     kinds: &[u8],
-    parsed: Parsed,
+    parsed: &Parsed,
     from: usize,
     root: usize,
 ) -> Option<usize>
-    requires { ((h : Ground question kinds.now parsed.low.now parsed.high.now parsed.nodes.now parsed.lists) × (d : Syntax.Definitions) × Table.Definitions parsed.nodes.now d from root × LinesRoom h d) × (root ≤ parsed.lists.root) }
-    ensures { (h : Ground question kinds.now parsed.entry.low.now parsed.entry.high.now parsed.entry.nodes.now parsed.entry.lists) (d : Syntax.Definitions) → Table.Definitions parsed.entry.nodes.now d from root → LinesRoom h d → result ≡ least (lines_judged h question d) }
+    requires { ((h : Ground question kinds.now (lows_in parsed.now.contents.now) (highs_in parsed.now.contents.now) parsed.now.nodes.now parsed.now.lists) × (d : Syntax.Definitions) × Table.Definitions parsed.now.nodes.now d from root × LinesRoom h d) × (root ≤ parsed.now.lists.root) }
+    ensures { (h : Ground question kinds.now (lows_in parsed.entry.now.contents.now) (highs_in parsed.entry.now.contents.now) parsed.entry.now.nodes.now parsed.entry.now.lists) (d : Syntax.Definitions) → Table.Definitions parsed.entry.now.nodes.now d from root → LinesRoom h d → result ≡ least (lines_judged h question d) }
 {
     let node = parsed.nodes[root];
     let left = tree::left_of(node);
@@ -366,18 +368,18 @@ fn past_fault(nodes: &[u64], first: usize, limit: usize, n: usize) -> Option<usi
 }
 
 // Question 8 of the name in place j of a list that goes down from the node `first`.
-fn again_fault(parsed: Parsed, first: usize, j: usize) -> Option<usize>
-    requires { Reach parsed.low.now parsed.high.now parsed.nodes.now first (j + 1) }
-    ensures { result ≡ least (when (any (same (packed parsed.entry.low.now parsed.entry.high.now) (name_at parsed.entry.nodes.now (first - j))) (names_down parsed.entry.nodes.now first j)) (name_at parsed.entry.nodes.now (first - j))) }
+fn again_fault(parsed: &Parsed, first: usize, j: usize) -> Option<usize>
+    requires { Reach (lows_in parsed.now.contents.now) (highs_in parsed.now.contents.now) parsed.now.nodes.now first (j + 1) }
+    ensures { result ≡ least (when (any (same (packed (lows_in parsed.entry.now.contents.now) (highs_in parsed.entry.now.contents.now)) (name_at parsed.entry.now.nodes.now (first - j))) (names_down parsed.entry.now.nodes.now first j)) (name_at parsed.entry.now.nodes.now (first - j))) }
 {
     let k = crate::listed_name(parsed.nodes, first - j);
-    crate::listed(parsed, first, j, k).is_some().then_some(k)
+    crate::listed(*parsed, first, j, k).is_some().then_some(k)
 }
 
 // Question 8 of a list of n names that goes down from the node `first`.
-fn twice_fault(parsed: Parsed, first: usize, n: usize) -> Option<usize>
-    requires { Reach parsed.low.now parsed.high.now parsed.nodes.now first n }
-    ensures { result ≡ least (repeated (packed parsed.entry.low.now parsed.entry.high.now) [] (names_down parsed.entry.nodes.now first n)) }
+fn twice_fault(parsed: &Parsed, first: usize, n: usize) -> Option<usize>
+    requires { Reach (lows_in parsed.now.contents.now) (highs_in parsed.now.contents.now) parsed.now.nodes.now first n }
+    ensures { result ≡ least (repeated (packed (lows_in parsed.entry.now.contents.now) (highs_in parsed.entry.now.contents.now)) [] (names_down parsed.entry.now.nodes.now first n)) }
 {
     let mut found = None;
     for j in 0..n {
@@ -389,13 +391,13 @@ fn twice_fault(parsed: Parsed, first: usize, n: usize) -> Option<usize>
 // Questions 7 and 8 of a list of n names that goes down from the node `first`.
 fn list_fault(
     question: Question,
-    parsed: Parsed,
+    parsed: &Parsed,
     first: usize,
     n: usize,
     limit: usize,
 ) -> Option<usize>
-    requires { Reach parsed.low.now parsed.high.now parsed.nodes.now first n }
-    ensures { result ≡ least (list_faults question (packed parsed.entry.low.now parsed.entry.high.now) limit (names_down parsed.entry.nodes.now first n)) }
+    requires { Reach (lows_in parsed.now.contents.now) (highs_in parsed.now.contents.now) parsed.now.nodes.now first n }
+    ensures { result ≡ least (list_faults question (packed (lows_in parsed.entry.now.contents.now) (highs_in parsed.entry.now.contents.now)) limit (names_down parsed.entry.now.nodes.now first n)) }
 {
     match question {
         Question::Limits => past_fault(parsed.nodes, first, limit, n),
@@ -405,9 +407,9 @@ fn list_fault(
 }
 
 // Question 7 of the variables' numbers, which stand in the first nodes.
-fn numbers_fault(question: Question, parsed: Parsed) -> Option<usize>
-    requires { World question parsed.low.now parsed.high.now parsed.nodes.now parsed.lists }
-    ensures { (h : World question parsed.entry.low.now parsed.entry.high.now parsed.entry.nodes.now parsed.entry.lists) → result ≡ least (number_faults question h.word (variables h.model)) }
+fn numbers_fault(question: Question, parsed: &Parsed) -> Option<usize>
+    requires { World question (lows_in parsed.now.contents.now) (highs_in parsed.now.contents.now) parsed.now.nodes.now parsed.now.lists }
+    ensures { (h : World question (lows_in parsed.entry.now.contents.now) (highs_in parsed.entry.now.contents.now) parsed.entry.now.nodes.now parsed.entry.now.lists) → result ≡ least (number_faults question h.word (variables h.model)) }
 {
     match question {
         Question::Limits => crate::leaves_fault(
@@ -422,9 +424,9 @@ fn numbers_fault(question: Question, parsed: Parsed) -> Option<usize>
 }
 
 // The faults of a whole tree, but for those that its tokens alone tell.
-pub fn tree_fault(question: Question, kinds: &[u8], parsed: Parsed) -> Option<usize>
-    requires { (h : Ground question kinds.now parsed.low.now parsed.high.now parsed.nodes.now parsed.lists) × TreeRoom h }
-    ensures { (h : Ground question kinds.now parsed.entry.low.now parsed.entry.high.now parsed.entry.nodes.now parsed.entry.lists) → TreeRoom h → result ≡ least (tree_faults question h.world.word h.world.model) }
+pub fn tree_fault(question: Question, kinds: &[u8], parsed: &Parsed) -> Option<usize>
+    requires { (h : Ground question kinds.now (lows_in parsed.now.contents.now) (highs_in parsed.now.contents.now) parsed.now.nodes.now parsed.now.lists) × TreeRoom h }
+    ensures { (h : Ground question kinds.now (lows_in parsed.entry.now.contents.now) (highs_in parsed.entry.now.contents.now) parsed.entry.now.nodes.now parsed.entry.now.lists) → TreeRoom h → result ≡ least (tree_faults question h.world.word h.world.model) }
 {
     let below = parsed.lists.root - parsed.lists.variables;
     let names = list_fault(

@@ -1,9 +1,10 @@
 -- The cells of numbers as the code computes them, with what a number comes to. From arithmetic alone.
 use mathlib.Core.Path.{◌≡◌, refl, sym, ap, ◌∙◌}
 use mathlib.Core.List.{List, []}
-use mathlib.Core.Bool.{Bool, true, false}
+use mathlib.Core.Bool.{Bool, true, false, not, ◌||◌}
 use Prim.Native.Nat.{ℕ, zero, suc, ◌+◌, ◌-◌, ◌*◌, ◌≤◌, ◌<◌, min}
 use native.Mathlib.Omega.{arith}
+use lib.Dec.{eqb}
 use lib.IntN.{ℤ, pos, neg_ℤ, nat_abs, ◌*ℤ◌}
 use lib.ListN.{get_or}
 use Rattle.value.specs.Range.{farthest, InRange}
@@ -13,6 +14,7 @@ use Rattle.word.specs.Number.{worth, cap, unit, ten_thousandths}
 use Rattle.token.specs.Contents.{before_point, after_point}
 use Rattle.grammar.specs.Syntax
 use Rattle.tree.specs.Node.{number_kind}
+use Rattle.model.proofs.Members.{not-both}
 use Rattle.model.specs.Words.{whole_of, decimal_of}
 use Rattle.model.specs.Good.{scale_limit}
 use Rattle.model.specs.Resolved
@@ -78,52 +80,40 @@ module _ {low : List ℕ} {w : ℕ → List ℕ} {κ k : ℕ} where
       decimal-is : (b : Bool) (v : ℕ) → v ≡ ten_thousandths (before_point (w k)) (after_point (w k)) → signed b v ≡ decimal_of w b k
       decimal-is b v e = rw e
 
-  module _ (v : ℕ) (b d : Bool) (h : ScaleTold low w b d κ k) (q : v ≡ get_or low k 0) where
-    pub scale-fits : (b' d' : Bool) → κ ≡ number_kind b' d' → (b ≡ b') × (d ≡ d')
+  module _ (v : ℕ) (b d : Bool) (h : ScaleTold low w b d κ k) (q : v ≡ get_or low k 0) (n f : Bool) (n-is : n ≡ (eqb κ (number_kind true false) || eqb κ (number_kind true true))) (f-is : f ≡ (eqb κ (number_kind false false) || eqb κ (number_kind true false))) where
+    -- the tests of a kind tell whether there is a `-`, and whether the number is whole
+    tests : (n ≡ b) × (f ≡ not d)
     unfolding number_kind
-    scale-fits b' d' e = same_number b d b' d' (sym h.kind-is ∙ e)
+    tests = by b d h.kind-is
       where
-        same_number : (b d b' d' : Bool) → number_kind b d ≡ number_kind b' d' → (b ≡ b') × (d ≡ d')
-        same_number true true true true e = (refl, refl)
-        same_number true true true false e = absurd (omega arith)
-        same_number true true false true e = absurd (omega arith)
-        same_number true true false false e = absurd (omega arith)
-        same_number true false true true e = absurd (omega arith)
-        same_number true false true false e = (refl, refl)
-        same_number true false false true e = absurd (omega arith)
-        same_number true false false false e = absurd (omega arith)
-        same_number false true true true e = absurd (omega arith)
-        same_number false true true false e = absurd (omega arith)
-        same_number false true false true e = (refl, refl)
-        same_number false true false false e = absurd (omega arith)
-        same_number false false true true e = absurd (omega arith)
-        same_number false false true false e = absurd (omega arith)
-        same_number false false false true e = absurd (omega arith)
-        same_number false false false false e = (refl, refl)
+        by : (b d : Bool) → κ ≡ number_kind b d → (n ≡ b) × (f ≡ not d)
+        by true true e = (n-is ∙ rw e, f-is ∙ rw e)
+        by true false e = (n-is ∙ rw e, f-is ∙ rw e)
+        by false true e = (n-is ∙ rw e, f-is ∙ rw e)
+        by false false e = (n-is ∙ rw e, f-is ∙ rw e)
 
-    -- past the first three kinds there is one left
-    pub last-kind : (κ ≡ 29 → ⊥) → (κ ≡ 30 → ⊥) → (κ ≡ 31 → ⊥) → κ ≡ number_kind true true
-    unfolding number_kind
-    last-kind x y z = by b d h.kind-is
+    pub whole-scale : f ≡ true → (v ≤ farthest) × (v * unit < offset) × (number_cell 29 (signed n (v * unit)) ≡ scale_cell (Resolved.fixed (number_scale w [] [] [] (Syntax.number b d k))))
+    unfolding scaled-as
+    whole-scale e =
+        let t = tests in
+        let z : d ≡ false = by d (sym t.1 ∙ e) in
+        let g = rw z at h in
+        let l = whole_is w b k v g.safe (q ∙ g.wholes refl) in
+        let r = scale-is b false v g q in
+        rw (t.0, z) (l.0, r.0, r.1)
       where
-        by : (b d : Bool) → κ ≡ number_kind b d → κ ≡ number_kind true true
-        by true true e = e
-        by true false e = absurd (y e)
-        by false true e = absurd (z e)
-        by false false e = absurd (x e)
+        by : (d : Bool) → not d ≡ true → d ≡ false
+        by true e = not-both e refl
+        by false e = refl
 
-    pub whole-scale : (b' : Bool) → κ ≡ number_kind b' false → (v ≤ farthest) × (v * unit < offset) × (number_cell 29 (signed b' (v * unit)) ≡ scale_cell (Resolved.fixed (number_scale w [] [] [] (Syntax.number b d k))))
+    pub decimal-scale : f ≡ false → (v < offset) × (number_cell 29 (signed n v) ≡ scale_cell (Resolved.fixed (number_scale w [] [] [] (Syntax.number b d k))))
     unfolding scaled-as
-    whole-scale b' e =
-        let s = scale-fits b' false e in
-        let g = rw (s.0, s.1) at h in
-        let z = whole_is w b' k v g.safe (q ∙ g.wholes refl) in
-        let r = scale-is b' false v g q in
-        rw (s.0, s.1) (z.0, r.0, r.1)
-
-    pub decimal-scale : (b' : Bool) → κ ≡ number_kind b' true → (v < offset) × (number_cell 29 (signed b' v) ≡ scale_cell (Resolved.fixed (number_scale w [] [] [] (Syntax.number b d k))))
-    unfolding scaled-as
-    decimal-scale b' e =
-        let s = scale-fits b' true e in
-        let r = scale-is b' true v (rw (s.0, s.1) at h) q in
-        rw (s.0, s.1) (r.0, r.1)
+    decimal-scale e =
+        let t = tests in
+        let z : d ≡ true = by d (sym t.1 ∙ e) in
+        let r = scale-is b true v (rw z at h) q in
+        rw (t.0, z) (r.0, r.1)
+      where
+        by : (d : Bool) → not d ≡ false → d ≡ true
+        by true e = refl
+        by false e = not-both refl e

@@ -26,7 +26,7 @@ use Rattle.model.proofs.Meanings.{Placed, found, absent, placed, Means, a_local,
 use Rattle.names.specs.declared.Question.TheVariants.{Given}
 use Rattle.names.specs.declared.Lists.{Lists}
 use Rattle.names.specs.Faults.{asks_names}
-use Rattle.names.specs.declared.Scope.{Scope}
+use Rattle.names.specs.declared.scope.Scope.{Scope}
 use Rattle.names.specs.Lists.{packed, found_of, name_at, names_down, Reach, InScope}
 use Rattle.names.specs.Placed.{IsName, SortFits, sort_of}
 use Rattle.names.specs.Settings.{World, Setting}

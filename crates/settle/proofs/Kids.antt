@@ -390,9 +390,10 @@ pub record Searching (low high t₀ : List ℕ) (n k : ℕ) (t : List ℕ) (bits
   pub fits : (bits < word_size) × (first < word_size)
   pub seeking : (seen : List ℕ) → Heard low high t₀ n k seen → Seeking low high t₀ seen k (bits + word_size * (first + word_size * second)) i
 
-pub search-begins : (low high t : List ℕ) (n k bits : ℕ) → (n ≡ 0 → ⊥) → bits ≡ hash_of (get_or low k 0) (get_or high k 0) → get_or low k 0 < word_size → Searching low high t n k t bits (get_or low k 0) (get_or high k 0) 0
+pub search-begins : (low high t : List ℕ) (n k bits first second : ℕ) → (n ≡ 0 → ⊥) → first ≡ get_or low k 0 → second ≡ get_or high k 0 → bits ≡ hash_of first second → first < word_size → Searching low high t n k t bits first second 0
 unfolding bits_of hash_of
-search-begins low high t n k bits z e l = rw e (record { same-table = refl; fits = (omega arith, l); seeking = λ seen g. begins g.hung k (omega (arith, g.count)) })
+search-begins low high t n k bits first second z f g e l =
+    rw (e, f, g) (record { same-table = refl; fits = (omega arith, omega arith); seeking = λ seen x. begins x.hung k (omega (arith, x.count)) })
 
 module _ {low high t₀ t : List ℕ} {n k bits first second i : ℕ} (p : (seen : List ℕ) × Heard low high t₀ n k seen) (x : Searching low high t₀ n k t bits first second i) where
   pub node-inside : (i < n) × (i < length t)

@@ -1,15 +1,15 @@
 -- Calls, items of the system line, numbers and scales become what the walk says. From the kinds of nodes and the tables of contents.
 use mathlib.Core.Path.{◌≡◌, refl, sym, ap, ◌∙◌, subst}
-use mathlib.Core.List.{List, [], ◌∷◌}
+use mathlib.Core.List.{List, []}
 use mathlib.Core.Bool.{Bool, true, false, cond}
 use mathlib.Core.Logic.{◌⊎◌, inl, inr, ⊎_elim}
-use Prim.Native.Nat.{ℕ, zero, suc, ◌+◌, ◌-◌, ◌≤◌, ◌<◌, min}
+use Prim.Native.Nat.{ℕ, ◌+◌, ◌-◌, ◌≤◌, ◌<◌, min}
 use native.Mathlib.Decide.{dec_le}
 use native.Mathlib.Omega.{arith}
 use borrow.Author.Tests.{eqb-true, eqb-false}
 use lib.Dec.{eqb}
 use lib.IntN.{ℤ}
-use lib.ListN.{length, get_or, set}
+use lib.ListN.{length, get_or}
 use Rattle.word.specs.Number.{worth, cap}
 use Rattle.token.specs.Kind as kind
 use Rattle.grammar.proofs.Follows.{inside}
@@ -17,7 +17,7 @@ use Rattle.tree.specs.Node as node
 use Rattle.tree.specs.Node.{field, cell, kind_of, token_of, left_of, third_of, number_kind}
 use Rattle.model.specs.Words.{whole_of}
 use Rattle.names.specs.declared.Lists.{Lists}
-use Rattle.names.specs.declared.Scope.{Scope}
+use Rattle.names.specs.declared.scope.Scope.{Scope}
 use Rattle.names.specs.Placed.{IsName, SortFits, sort_of, wholes}
 use Rattle.value.specs.Range.{farthest, InRange}
 use Rattle.grammar.specs.Syntax
@@ -26,7 +26,7 @@ use Rattle.model.specs.Resolved
 use Rattle.model.specs.Resolved.{number_scale, scale_named}
 use Rattle.model.proofs.Members.{not-both}
 use Rattle.tables.specs.Settled.{number_cell}
-use Rattle.settle.specs.Walks.{Role, whole, number, call, item, role_of, role_at, Point, definition_of, count_of, scale_cell, NumberSafe, cell_by}
+use Rattle.settle.specs.Walks.{Role, whole, number, call, item, role_of, Point, definition_of, count_of, scale_cell, NumberSafe, cell_by}
 use Rattle.settle.specs.Places.{signed, Lookup, word_in, kinds_in, variables_in, definitions_of, CallKind, Calls, ScaleTold, Told, meaning_at, Leaf}
 use Rattle.settle.proofs.Cells.{whole_is}
 use Rattle.settle.proofs.Meets.{scale_same}
@@ -47,13 +47,8 @@ halves κ l u = by (dec_le κ 58)
     by (yes c) = inl (l, c)
     by (no c) = inr (omega arith, u)
 
-set_back : (l : List ℕ) (i : ℕ) → set l i (get_or l i 0) ≡ l
-set_back [] i = refl
-set_back (y ∷ l) zero = refl
-set_back (y ∷ l) (suc i) = ap (λ (r : List ℕ). y ∷ r) (set_back l i)
-
 -- 1 or 2
-pub literal-kind : (κ c : ℕ) → (1 ≤ κ) × (κ ≤ 2) → κ ≡ kind_of c → kind_of c ≡ cond (eqb κ 2) node.negative node.literal
+literal-kind : (κ c : ℕ) → (1 ≤ κ) × (κ ≤ 2) → κ ≡ kind_of c → kind_of c ≡ cond (eqb κ 2) node.negative node.literal
 literal-kind κ c l e = by (eqb κ 2) refl
   where
     by : (b : Bool) → eqb κ 2 ≡ b → kind_of c ≡ cond b 2 1
@@ -65,18 +60,15 @@ unfolding sort_of number_kind
 number-sort true κ e = rw e
 number-sort false κ e = rw e
 
-module _ {low high nodes : List ℕ} {lists : Lists} {i : ℕ} (h : Calls low high nodes lists i) where
-  abbrev c : ℕ
-  c = get_or nodes i 0
-
+module _ {low high nodes : List ℕ} {lists : Lists} {c : ℕ} (h : Calls low high nodes lists c) where
   -- a call's role
   data Called : Role → Type 0 where
     a_call : kind_of c ≤ 51 → Called call
     a-start : 57 ≤ kind_of c → kind_of c ≤ 58 → Called (item false)
     a-counted : 59 ≤ kind_of c → Called (item true)
 
-  called : Called (role_at nodes i)
-  called = by (role_at nodes i) (kinded (kind_of c)) h.calls
+  called : Called (role_of (kind_of c))
+  called = by (role_of (kind_of c)) (kinded (kind_of c)) h.calls
     where
       by : (r : Role) → Kinded (kind_of c) r → CallKind (kind_of c) → Called r
       by r (as-whole e) (inl q) = absurd (omega (arith, q.0))
@@ -120,28 +112,28 @@ module _ {low high nodes : List ℕ} {lists : Lists} {i : ℕ} (h : Calls low hi
   pub call-fields : (definition_of (word_in h.at) (variables_in h.at) (definitions_of h.at) (token_of c) < field) × (left_of c < field) × (third_of c < field)
   call-fields = (definition-fits (word_in h.at) (definitions_of h.at) (token_of c) h.at.base.few, (fields_fit c).0, (fields_fit c).1)
 
-  abbrev Became : List ℕ → Point → Type 0
-  Became nodes' p = nodes' ≡ set nodes i (cell_by (word_in h.at) (variables_in h.at) (definitions_of h.at) (role_at nodes i) c p)
+  abbrev Became : ℕ → Point → Type 0
+  Became r p = r ≡ cell_by (word_in h.at) (variables_in h.at) (definitions_of h.at) (role_of (kind_of c)) c p
 
   abbrev d : ℕ
   d = definition_of (word_in h.at) (variables_in h.at) (definitions_of h.at) (token_of c)
 
-  pub call-done : (nodes' : List ℕ) (p : Point) → kind_of c < 57 → nodes' ≡ set nodes i (cell (kind_of c) d (left_of c) (third_of c)) → Became nodes' p
+  pub call-done : (x : ℕ) (p : Point) → kind_of c < 57 → x ≡ cell (kind_of c) d (left_of c) (third_of c) → Became x p
   unfolding cell_by
-  call-done nodes' p l x = by (role_at nodes i) called
+  call-done x p l e = by (role_of (kind_of c)) called
     where
-      by : (r : Role) → Called r → nodes' ≡ set nodes i (cell_by (word_in h.at) (variables_in h.at) (definitions_of h.at) r c p)
-      by r (a_call u) = x
+      by : (r : Role) → Called r → x ≡ cell_by (word_in h.at) (variables_in h.at) (definitions_of h.at) r c p
+      by r (a_call u) = e
       by r (a-start y u) = absurd (omega arith)
       by r (a-counted y) = absurd (omega arith)
 
-  pub start-done : (nodes' : List ℕ) (p : Point) → 57 ≤ kind_of c → kind_of c < 59 → nodes' ≡ set nodes i (cell (kind_of c) d 1 (third_of c)) → Became nodes' p
+  pub start-done : (x : ℕ) (p : Point) → 57 ≤ kind_of c → kind_of c < 59 → x ≡ cell (kind_of c) d 1 (third_of c) → Became x p
   unfolding cell_by count_of
-  start-done nodes' p l u x = by (role_at nodes i) called
+  start-done x p l u e = by (role_of (kind_of c)) called
     where
-      by : (r : Role) → Called r → nodes' ≡ set nodes i (cell_by (word_in h.at) (variables_in h.at) (definitions_of h.at) r c p)
+      by : (r : Role) → Called r → x ≡ cell_by (word_in h.at) (variables_in h.at) (definitions_of h.at) r c p
       by r (a_call y) = absurd (omega arith)
-      by r (a-start y z) = x
+      by r (a-start y z) = e
       by r (a-counted y) = absurd (omega arith)
 
   module _ (l : 59 ≤ kind_of c) where
@@ -156,8 +148,8 @@ module _ {low high nodes : List ℕ} {lists : Lists} {i : ℕ} (h : Calls low hi
         by (inl z) = absurd (omega (arith, z.1))
         by (inr z) = ⊎_elim (single 59 (λ x. (x.0, x.2))) (single 60 (λ x. (x.0, x.2))) (next_of (kind_of c) 59 l z.1)
 
-    role-is : role_at nodes i ≡ item true
-    role-is = by (role_at nodes i) called
+    role-is : role_of (kind_of c) ≡ item true
+    role-is = by (role_of (kind_of c)) called
       where
         by : (r : Role) → Called r → r ≡ item true
         by r (a_call y) = absurd (omega arith)
@@ -172,20 +164,17 @@ module _ {low high nodes : List ℕ} {lists : Lists} {i : ℕ} (h : Calls low hi
         let in-text = inside (kinds_in h.at) (token_of c - 2) (omega (arith, q.1)) in
         (q.0, omega (arith, h.at.base.world.lows), omega arith, omega arith)
 
-    pub counted-done : (nodes' : List ℕ) (p : Point) → nodes' ≡ set nodes i (cell (kind_of c - 2) d (get_or low (token_of c - 2) 0) (third_of c)) → Became nodes' p
+    pub counted-done : (x : ℕ) (p : Point) → x ≡ cell (kind_of c - 2) d (get_or low (token_of c - 2) 0) (third_of c) → Became x p
     unfolding cell_by count_of
-    counted-done nodes' p x = rw role-is (x ∙ ap (λ (n : ℕ). set nodes i (cell (kind_of c - 2) d n (third_of c))) count-told.2)
+    counted-done x p e = rw role-is (e ∙ ap (λ (n : ℕ). cell (kind_of c - 2) d n (third_of c)) count-told.2)
 
--- ---- the cases of `settle_leaf`
-module _ {low high nodes : List ℕ} {lists : Lists} {scope : Scope} {i : ℕ} (h : Leaf low high nodes lists scope i) where
+-- ---- the cases of `leaf_cell`
+module _ {low high nodes : List ℕ} {lists : Lists} {scope : Scope} {x : ℕ} (h : Leaf low high nodes lists scope x) where
   abbrev at : Lookup low high nodes lists
   at = h.place.at
 
-  abbrev x : ℕ
-  x = get_or nodes i 0
-
-  abbrev Settled' : List ℕ → Type 0
-  Settled' nodes' = nodes' ≡ set nodes i (cell_by (word_in at) (variables_in at) (definitions_of at) (role_at nodes i) x h.point)
+  abbrev Became' : ℕ → Type 0
+  Became' r = r ≡ cell_by (word_in at) (variables_in at) (definitions_of at) (role_of (kind_of x)) x h.point
 
   -- the contents of a whole number's token
   told-whole : sort_of (kind_of x) ≡ wholes → (token_of x < length low) × (get_or low (token_of x) 0 ≡ min cap (worth 0 (word_in at (token_of x))))
@@ -195,10 +184,13 @@ module _ {low high nodes : List ℕ} {lists : Lists} {scope : Scope} {i : ℕ} (
       (omega (arith, inside (kinds_in at) (token_of x) (omega arith), at.base.world.lows), at.base.world.numbers (token_of x) f)
 
   -- a whole number
-  module _ (b : Bool) (κ-is : kind_of x ≡ cond b node.negative node.literal) where
-    whole-role : (sort_of (kind_of x) ≡ wholes) × (role_at nodes i ≡ whole b)
+  module _ (κ : ℕ) (l : (1 ≤ κ) × (κ ≤ 2)) (e : κ ≡ kind_of x) where
+    abbrev b : Bool
+    b = eqb κ 2
+
+    whole-role : (sort_of (kind_of x) ≡ wholes) × (role_of (kind_of x) ≡ whole b)
     unfolding sort_of role_of number_kind
-    whole-role = by b κ-is
+    whole-role = by b (literal-kind κ x l e)
       where
         by : (b : Bool) → kind_of x ≡ cond b 2 1 → (sort_of (kind_of x) ≡ wholes) × (role_of (kind_of x) ≡ whole b)
         by true e = rw e (refl, refl)
@@ -210,12 +202,12 @@ module _ {low high nodes : List ℕ} {lists : Lists} {scope : Scope} {i : ℕ} (
         let s : InRange (whole_of (word_in at) b (token_of x)) = rw whole-role.1 at h.safe in
         (t.0, (whole_is (word_in at) b (token_of x) (get_or low (token_of x) 0) s t.1).0)
 
-    pub whole-done : (nodes' : List ℕ) (r : ℕ) → r ≡ number_cell node.literal (signed b (get_or low (token_of x) 0)) → nodes' ≡ set nodes i r → Settled' nodes'
+    pub whole-done : (r : ℕ) → r ≡ number_cell node.literal (signed b (get_or low (token_of x) 0)) → Became' r
     unfolding cell_by
-    whole-done nodes' r e w =
+    whole-done r z =
         let t = told-whole whole-role.0 in
         let s : InRange (whole_of (word_in at) b (token_of x)) = rw whole-role.1 at h.safe in
-        rw whole-role.1 (w ∙ ap (set nodes i) (e ∙ ap (number_cell node.literal) (whole_is (word_in at) b (token_of x) (get_or low (token_of x) 0) s t.1).1))
+        rw whole-role.1 (z ∙ ap (number_cell node.literal) (whole_is (word_in at) b (token_of x) (get_or low (token_of x) 0) s t.1).1)
 
   -- a number of a rate
   module _ (l : 29 ≤ kind_of x) (u : kind_of x ≤ 32) where
@@ -229,16 +221,16 @@ module _ {low high nodes : List ℕ} {lists : Lists} {scope : Scope} {i : ℕ} (
         by b false e s = let t = told-whole (number-sort b (kind_of x) e) in record { kind-is = e; inside = t.0; wholes = λ z. t.1; safe = s }
         by b true e s = record { kind-is = e; inside = s.1.0; wholes = λ z. not-both refl z; safe = s }
 
-    number-done : (nodes' : List ℕ) (r : ℕ) → r ≡ scale_cell (Resolved.fixed (number_scale (word_in at) [] [] [] (Syntax.number n.0 n.1 (token_of x)))) → nodes' ≡ set nodes i r → Settled' nodes'
+    number-done : (r : ℕ) → r ≡ scale_cell (Resolved.fixed (number_scale (word_in at) [] [] [] (Syntax.number n.0 n.1 (token_of x)))) → Became' r
     unfolding cell_by
-    number-done nodes' r e w = rw n.3 (w ∙ ap (set nodes i) (e ∙ ap (λ (z : ℤ). scale_cell (Resolved.fixed z)) (scale_same (word_in at) (variables_in at) (definitions_of at) n.0 n.1 (token_of x))))
+    number-done r e = rw n.3 (e ∙ ap (λ (z : ℤ). scale_cell (Resolved.fixed z)) (scale_same (word_in at) (variables_in at) (definitions_of at) n.0 n.1 (token_of x)))
 
     -- what is asked of `scale_cell`, and what its answer is
     pub number-asked : (κ k : ℕ) → κ ≡ kind_of x → k ≡ token_of x → (w : ℕ → List ℕ) × (b : Bool) × (d : Bool) × ScaleTold low w b d κ k
     number-asked κ k e f = (word_in at, n.0, n.1, rw (e, f) number-told)
 
-    pub number-answered : (nodes' : List ℕ) (r κ k : ℕ) → κ ≡ kind_of x → k ≡ token_of x → ((w : ℕ → List ℕ) (b d : Bool) → ScaleTold low w b d κ k → r ≡ scale_cell (Resolved.fixed (number_scale w [] [] [] (Syntax.number b d k)))) → nodes' ≡ set nodes i r → Settled' nodes'
-    number-answered nodes' r κ k e f g w = number-done nodes' r (g (word_in at) n.0 n.1 (rw (e, f) number-told) ∙ ap (λ (j : ℕ). scale_cell (Resolved.fixed (number_scale (word_in at) [] [] [] (Syntax.number n.0 n.1 j)))) f) w
+    pub number-answered : (r κ k : ℕ) → κ ≡ kind_of x → k ≡ token_of x → ((w : ℕ → List ℕ) (b d : Bool) → ScaleTold low w b d κ k → r ≡ scale_cell (Resolved.fixed (number_scale w [] [] [] (Syntax.number b d k)))) → Became' r
+    number-answered r κ k e f g = number-done r (g (word_in at) n.0 n.1 (rw (e, f) number-told) ∙ ap (λ (j : ℕ). scale_cell (Resolved.fixed (number_scale (word_in at) [] [] [] (Syntax.number n.0 n.1 j)))) f)
 
   -- a rate's name
   module _ (e : kind_of x ≡ 33) where
@@ -249,16 +241,16 @@ module _ {low high nodes : List ℕ} {lists : Lists} {scope : Scope} {i : ℕ} (
         let g : is_given (meaning (word_in at) (variables_in at) h.point.scope (token_of x)) ≡ true = rw e at h.safe in
         (f, subst (λ (s : List ℕ). is_given (meaning (word_in at) (variables_in at) s (token_of x)) ≡ true) h.scope-is g)
 
-    pub scale-done : (nodes' : List ℕ) → nodes' ≡ set nodes i (scale_cell (scale_named (word_in at) (variables_in at) (definitions_of at) [] (meaning_at h.place (token_of x)))) → Settled' nodes'
+    pub scale-done : (r : ℕ) → r ≡ scale_cell (scale_named (word_in at) (variables_in at) (definitions_of at) [] (meaning_at h.place (token_of x))) → Became' r
     unfolding cell_by role_of number_kind
-    scale-done nodes' w = rw e (w ∙ ap (λ (s : List ℕ). set nodes i (scale_cell (scale_named (word_in at) (variables_in at) (definitions_of at) [] (meaning (word_in at) (variables_in at) s (token_of x))))) (sym h.scope-is))
+    scale-done r e' = rw e (e' ∙ ap (λ (s : List ℕ). scale_cell (scale_named (word_in at) (variables_in at) (definitions_of at) [] (meaning (word_in at) (variables_in at) s (token_of x)))) (sym h.scope-is))
 
-  pub leaf-calls : CallKind (kind_of x) → Calls low high nodes lists i
-  leaf-calls q = record { at = at; inside = h.inside; fits = h.fits; calls = q; counted = λ r. rw r at h.safe }
+  pub leaf-calls : CallKind (kind_of x) → Calls low high nodes lists x
+  leaf-calls q = record { at = at; fits = h.fits; calls = q; counted = λ r. rw r at h.safe }
 
-  pub leaf-called : (q : CallKind (kind_of x)) (nodes' : List ℕ) → ((g : Calls low high nodes lists i) (p : Point) → nodes' ≡ set nodes i (cell_by (word_in g.at) (variables_in g.at) (definitions_of g.at) (role_at nodes i) x p)) → Settled' nodes'
+  pub leaf-called : (q : CallKind (kind_of x)) (r : ℕ) → ((g : Calls low high nodes lists x) (p : Point) → r ≡ cell_by (word_in g.at) (variables_in g.at) (definitions_of g.at) (role_of (kind_of x)) x p) → Became' r
   unfolding leaf-calls
-  leaf-called q nodes' f = f (leaf-calls q) h.point
+  leaf-called q r f = f (leaf-calls q) h.point
 
-  pub leaf-none : (1 ≤ kind_of x → kind_of x ≤ 2 → ⊥) → (29 ≤ kind_of x → kind_of x ≤ 32 → ⊥) → (kind_of x ≡ 33 → ⊥) → (50 ≤ kind_of x → kind_of x ≤ 51 → ⊥) → (57 ≤ kind_of x → kind_of x ≤ 60 → ⊥) → Settled' nodes
-  leaf-none a b s d f = rw (cell-none (kind_of x) (word_in at) (variables_in at) (definitions_of at) x h.point a b s d f h.other) (sym (set_back nodes i))
+  pub leaf-none : (1 ≤ kind_of x → kind_of x ≤ 2 → ⊥) → (29 ≤ kind_of x → kind_of x ≤ 32 → ⊥) → (kind_of x ≡ 33 → ⊥) → (50 ≤ kind_of x → kind_of x ≤ 51 → ⊥) → (57 ≤ kind_of x → kind_of x ≤ 60 → ⊥) → Became' x
+  leaf-none a b s d f = sym (cell-none (kind_of x) (word_in at) (variables_in at) (definitions_of at) x h.point a b s d f h.other)

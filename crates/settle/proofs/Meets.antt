@@ -3,57 +3,53 @@ use mathlib.Core.Path.{◌≡◌, refl, sym, ap, ap₂, ◌∙◌, subst}
 use mathlib.Core.List.{List, [], ◌∷◌, ◌++◌}
 use mathlib.Core.Bool.{Bool, true, false, cond, ◌||◌}
 use mathlib.Core.Option.{Option, none, some}
-use Prim.Native.Nat.{ℕ, suc, ◌+◌, ◌≤◌, ◌<◌}
+use Prim.Native.Nat.{ℕ, suc, ◌+◌, ◌<◌, max}
 use native.Mathlib.Omega.{arith}
-use lib.ListN.{length, get_or, set, length-append}
+use lib.ListN.{length, get_or, set, take, length-append}
 use borrow.Author.Tests.{ne_eqb}
 use lib.Dec.{eqb}
 use lib.IntN.{ℤ}
+use Rattle.std.specs.Prelude.{None, Some}
 use Rattle.token.specs.Kind as kind
+use Rattle.token.specs.Questions.{Found}
 use Rattle.grammar.specs.Syntax
 use Rattle.grammar.proofs.Follows.{inside}
 use Rattle.tree.specs.Node as node
-use Rattle.tree.specs.Node.{field, cell, kind_of, token_of, number_kind}
+use Rattle.tree.specs.Node.{field, cell, kind_of, token_of, left_of, third_of, number_kind}
 use Rattle.model.specs.Lists.{any}
 use Rattle.model.specs.Sites.{Variable, Definition}
 use Rattle.model.specs.Words.{same}
-use Rattle.model.specs.Given.{Meaning, local, variable, nothing, is_given, place_in}
+use Rattle.model.specs.Given.{Meaning, local, variable, nothing, is_given, variable_named, place_in, meaning}
 use Rattle.model.specs.Resolved.{is_channel_name, firsts, or_zero, number_value, value_named, number_scale, scale_named}
 use Rattle.model.specs.Resolved
 use Rattle.model.proofs.Repeats.{bytes_same}
 use Rattle.tables.specs.Settled.{channel, number_cell}
 use Rattle.model.proofs.Members.{not-both}
 use Rattle.names.specs.declared.Lists.{Lists}
-use Rattle.names.specs.declared.Scope.{Scope}
+use Rattle.names.specs.declared.scope.Scope.{Scope}
 use Rattle.names.specs.Lists.{packed, found_of, is_found}
-use Rattle.names.specs.Placed.{IsName, Named}
+use Rattle.names.specs.Placed.{IsName, Named, SortFits, sort_of}
 use Rattle.names.proofs.Namings.{named-at, place-alike, any-placed}
 use Rattle.settle.specs.Kids.{Hung}
-use Rattle.settle.specs.Walks.{name_cell, value_cell, scale_cell}
-use Rattle.settle.specs.Places.{signed, ScaleTold, NumberNode, Place, kinds_in, word_in, variables_in, definitions_of, meaning_at, place_or, Heard, heard_after, Sought, ChannelDone, Hearing, met_names, NameDone, marked_by}
-use Rattle.settle.proofs.Finds.{place-below, asks, in_tables}
+use Rattle.settle.specs.declared.Walk.{Walk}
+use Rattle.settle.specs.Walks.{role_of, name_cell, value_cell, scale_cell, cell_by, step_by}
+use Rattle.settle.specs.Walks as role
+use Rattle.settle.specs.Places.{signed, ScaleTold, NumberNode, Place, kinds_in, word_in, variables_in, definitions_of, meaning_at, Valued, Leaf, place_or, Heard, heard_after, Sought, Knows, Turn, turned, Settled, marked_by}
+use Rattle.settle.proofs.Finds.{place-below, asks, in_tables, no_local}
 use Rattle.settle.proofs.Cells.{whole_is}
 
--- ---- the cases of `settle_channel`
+-- ---- a channel name's number, and how many there are
 module _ {low high heard seen heard' : List ℕ} {n k c : ℕ} (g : Heard low high heard n k seen) (s : Sought low high heard n k seen heard' c) where
   abbrev place : Option ℕ
   place = place_in (packed low high) k 0 seen
 
-  pub channel-known : (nodes nodes' : List ℕ) (i : ℕ) → nodes' ≡ set nodes i (cell channel c 0 0) → c < n → ChannelDone low high nodes heard i (place_or n place) (heard_after place seen k) nodes' heard' n
+  pub channel-count : max n (c + 1) ≡ length (heard_after place seen k)
   unfolding place_or heard_after
-  channel-known nodes nodes' i wrote l = by place s.place_is s.hung
+  channel-count = by place refl s.place_is
     where
-      by : (o : Option ℕ) → c ≡ place_or n o → Hung low high heard' (heard_after o seen k) → ChannelDone low high nodes heard i (place_or n o) (heard_after o seen k) nodes' heard' n
-      by none e t = absurd (omega arith)
-      by (some q) e t = record { nodes-are = rw (← e) wrote; count = g.count; hung = t; size = s.size }
-
-  pub channel-new : (nodes nodes' : List ℕ) (i : ℕ) → nodes' ≡ set nodes i (cell channel c 0 0) → n ≤ c → ChannelDone low high nodes heard i (place_or n place) (heard_after place seen k) nodes' heard' (n + 1)
-  unfolding place_or heard_after
-  channel-new nodes nodes' i wrote l = by place refl s.place_is s.hung
-    where
-      by : (o : Option ℕ) → place ≡ o → c ≡ place_or n o → Hung low high heard' (heard_after o seen k) → ChannelDone low high nodes heard i (place_or n o) (heard_after o seen k) nodes' heard' (n + 1)
-      by none p e t = record { nodes-are = rw (← e) wrote; count = omega (arith, g.count, length-append seen (k ∷ [])); hung = t; size = s.size }
-      by (some q) p e t = absurd (let b : q < n = place-below (packed low high) k seen q p (omega (arith, g.count)) in omega arith)
+      by : (o : Option ℕ) → place ≡ o → c ≡ place_or n o → max n (c + 1) ≡ length (heard_after o seen k)
+      by none p e = omega (arith, g.count, length-append seen (k ∷ []))
+      by (some q) p e = let b : q < n = place-below (packed low high) k seen q p (omega (arith, g.count)) in omega (arith, g.count)
 
   -- the number fits a field
   pub place-small : c < field
@@ -83,7 +79,7 @@ met-is w vs seen k = by (place_in w k 0 seen) refl (any-placed w k 0 seen)
     by none e a = rw a (refl, rw (place_end w k 0 seen e) (omega arith))
     by (some q) e a = rw a (refl, rw e)
 
--- ---- the cases of `settle_name`
+-- ---- names that are values
 
 named_end : (ts ks : List ℕ) (k : ℕ) → Named ts ks → IsName ts k → Named ts (ks ++ k ∷ [])
 named_end ts [] k h e = (e, tt)
@@ -109,7 +105,7 @@ module _ (low : List ℕ) (w : ℕ → List ℕ) (c : ℕ) where
     pub told : ScaleTold low w negated false (kind_of c) token
     pub token-is : token_of c ≡ token
 
-  pub whole-named : (m : Meaning) → NumberNode low w m c → whole_kind ≡ true → WholeNamed m
+  whole-named : (m : Meaning) → NumberNode low w m c → whole_kind ≡ true → WholeNamed m
   unfolding number_kind kind_of
   whole-named (local i) n e = absurd n
   whole-named (variable (Syntax.number b false j)) n e = record { negated = b; token = j; means = refl; told = n.0; token-is = n.1 }
@@ -118,7 +114,7 @@ module _ (low : List ℕ) (w : ℕ → List ℕ) (c : ℕ) where
   whole-named (variable (Syntax.named_scale j)) n e = absurd n
   whole-named nothing n e = not-both e (rw n)
 
-  pub channel-named : (m : Meaning) → NumberNode low w m c → whole_kind ≡ false → is_channel_name m ≡ true
+  channel-named : (m : Meaning) → NumberNode low w m c → whole_kind ≡ false → is_channel_name m ≡ true
   unfolding number_kind is_channel_name
   channel-named (local i) n e = absurd n
   channel-named (variable (Syntax.number false false j)) n e = not-both (rw n.0.kind-is) e
@@ -128,11 +124,11 @@ module _ (low : List ℕ) (w : ℕ → List ℕ) (c : ℕ) where
   channel-named nothing n e = refl
 
   -- the kind tells whether there is a `-`
-  pub negated-is : (m : Meaning) (h : WholeNamed m) → eqb (kind_of c) 30 ≡ h.negated
+  pub negated-is : (n : Bool) → n ≡ (eqb (kind_of c) (number_kind true false) || eqb (kind_of c) (number_kind true true)) → (m : Meaning) (h : WholeNamed m) → n ≡ h.negated
   unfolding number_kind
-  negated-is m h = by h.negated h.told.kind-is
+  negated-is n e m h = e ∙ by h.negated h.told.kind-is
     where
-      by : (b : Bool) → kind_of c ≡ number_kind b false → eqb (kind_of c) 30 ≡ b
+      by : (b : Bool) → kind_of c ≡ number_kind b false → (eqb (kind_of c) 30 || eqb (kind_of c) 32) ≡ b
       by true e = rw e
       by false e = rw e
 
@@ -140,60 +136,126 @@ module _ (low : List ℕ) (w : ℕ → List ℕ) (c : ℕ) where
 pub name-small : {low high nodes : List ℕ} {lists : Lists} {scope : Scope} (h : Place low high nodes lists scope) (k : ℕ) → IsName (kinds_in h.at) k → k < field
 name-small h k e = let l = inside (kinds_in h.at) k (omega arith) in omega (arith, h.at.base.world.few)
 
-module _ {low high nodes : List ℕ} {lists : Lists} {scope : Scope} (h : Place low high nodes lists scope) (k : ℕ) (e : IsName (kinds_in h.at) k) {heard seen : List ℕ} {n : ℕ} (x : Hearing low high (kinds_in h.at) heard n seen) (i : ℕ) where
-  abbrev Finished : List ℕ → List ℕ → ℕ → Type 0
-  Finished nodes' heard' r = NameDone low high (kinds_in h.at) nodes heard i (name_cell (word_in h.at) (variables_in h.at) (definitions_of h.at) seen k (meaning_at h k)) (met_names (word_in h.at) (variables_in h.at) seen k (meaning_at h k)) nodes' heard' r
+module _ {low high nodes : List ℕ} {lists : Lists} {scope : Scope} (h : Place low high nodes lists scope) (k : ℕ) (seen : List ℕ) where
+  abbrev Value : Found → Type 0
+  Value r = Valued (word_in h.at) (variables_in h.at) (definitions_of h.at) seen (meaning_at h k) r
 
-  -- nothing is met
-  stayed : (nodes' : List ℕ) → is_channel_name (meaning_at h k) ≡ false → nodes' ≡ set nodes i (value_cell (value_named (word_in h.at) (variables_in h.at) (definitions_of h.at) seen (meaning_at h k))) → Finished nodes' heard n
-  unfolding name_cell met_names
-  stayed nodes' off w = record { nodes-are = rw off w; count = rw off x.count; hung = rw off x.hung; named = rw off x.named; size = refl }
-
-  pub name-local : {j : ℕ} (nodes' : List ℕ) → meaning_at h k ≡ local j → nodes' ≡ set nodes i (cell node.named j 0 0) → Finished nodes' heard n
+  pub value-local : {j : ℕ} (r : ℕ) → meaning_at h k ≡ local j → r ≡ cell node.named j 0 0 → Value (Some r)
   unfolding is_channel_name value_named value_cell
-  name-local nodes' m w = stayed nodes' (rw m) (rw m w)
+  value-local r m e = rw m (ap (λ (x : ℕ). Some x) e)
 
-  pub name-whole : (c r : ℕ) (nodes' : List ℕ) (g : WholeNamed low (word_in h.at) c (meaning_at h k)) → nodes' ≡ set nodes i r → r ≡ number_cell node.literal (signed g.negated (get_or low g.token 0)) → Finished nodes' heard n
+  pub value-whole : (c r : ℕ) (g : WholeNamed low (word_in h.at) c (meaning_at h k)) → r ≡ number_cell node.literal (signed g.negated (get_or low g.token 0)) → Value (Some r)
   unfolding is_channel_name value_named number_value value_cell
-  name-whole c r nodes' g w q =
+  value-whole c r g q =
       let z = whole_is (word_in h.at) g.negated g.token (get_or low g.token 0) g.told.safe (g.told.wholes refl) in
-      stayed nodes' (rw g.means) (rw g.means (w ∙ ap (set nodes i) (q ∙ ap (number_cell node.literal) z.1)))
+      rw g.means (ap (λ (x : ℕ). Some x) (q ∙ ap (number_cell node.literal) z.1))
 
-  pub seen-inside : Heard low high heard n k seen
-  seen-inside =
-      let l = in_tables h.at k e in
-      let at : (j : ℕ) → j < n → get_or (kinds_in h.at) (get_or seen j 0) 0 ≡ kind.name = λ j l. named-at (kinds_in h.at) seen x.named j (omega (arith, x.count)) in
-      record {
-        count = x.count;
-        room = x.room;
-        few = x.few;
-        small = name-small h k e;
-        name-low = l.0;
-        name-high = l.1;
-        each-low = λ j l. (in_tables h.at (get_or seen j 0) (at j l)).0;
-        each-high = λ j l. (in_tables h.at (get_or seen j 0) (at j l)).1;
-        hung = x.hung;
-      }
+  -- a name that is no local, and the node of its number
+  module _ (e : IsName (kinds_in h.at) k) {f : Found} (is : f ≡ found_of (place_in (packed low high) k 0 (take scope.count scope.names))) (q : f ≡ None) (c κ : ℕ) (n : NumberNode low (word_in h.at) (variable_named (word_in h.at) k (variables_in h.at)) c) (κ-is : κ ≡ kind_of c) {b : Bool} (b-is : b ≡ (eqb κ (number_kind false false) || eqb κ (number_kind true false))) where
+    pub is-whole : b ≡ true → WholeNamed low (word_in h.at) c (meaning_at h k)
+    is-whole t = whole-named low (word_in h.at) c (meaning_at h k) (rw (no_local h k e is q) n) (rw (← κ-is) (sym b-is ∙ t))
 
-  pub name-channel : (nodes' heard' : List ℕ) (r : ℕ) → is_channel_name (meaning_at h k) ≡ true
-      → ((ks : List ℕ) → Heard low high heard n k ks → ChannelDone low high nodes heard i (place_or n (place_in (packed low high) k 0 ks)) (heard_after (place_in (packed low high) k 0 ks) ks k) nodes' heard' r) → Finished nodes' heard' r
-  unfolding name_cell met_names
-  name-channel nodes' heard' r on f =
-      let d = f seen seen-inside in
-      let v = word_in h.at in
-      let m = met-is v (variables_in h.at) seen k in
-      let p : place_in (packed low high) k 0 seen ≡ place_in v k 0 seen = place-alike v (packed low high) (kinds_in h.at) (h.at.base.world.alike (asks h.at)) k e 0 seen x.named in
-      let s : heard_after (place_in (packed low high) k 0 seen) seen k ≡ firsts v (variables_in h.at) seen (k ∷ []) = ap (λ (o : Option ℕ). heard_after o seen k) p ∙ sym m.0 in
-      let q : place_or n (place_in (packed low high) k 0 seen) ≡ or_zero (place_in v k 0 (firsts v (variables_in h.at) seen (k ∷ []))) = ap₂ place_or x.count p ∙ sym m.1 in
-      record {
-        nodes-are = rw on (d.nodes-are ∙ ap (λ (a : ℕ). set nodes i (cell channel a 0 0)) q);
-        count = rw on (d.count ∙ ap length s);
-        hung = rw on (subst (λ (ks : List ℕ). Hung low high heard' ks) s d.hung);
-        named = rw on (named-after (kinds_in h.at) v (variables_in h.at) k seen e x.named);
-        size = d.size;
-      }
+    pub no-value : b ≡ false → Value None
+    no-value t = rw (channel-named low (word_in h.at) c (meaning_at h k) (rw (no_local h k e is q) n) (rw (← κ-is) (sym b-is ∙ t)))
 
--- ---- the cases of `settle_scale`
+-- ---- the cases of `settle_node`
+module _ {low high nodes : List ℕ} {lists : Lists} {heard : List ℕ} {walk : Walk} {c : ℕ} (h : Turn low high nodes lists heard walk c) where
+  abbrev pub here : Place low high nodes lists walk.scope
+  here = record { at = h.at; locals = h.point.scope; scoped = h.knows.scoped }
+
+  pub leaf : (role_of (kind_of c) ≡ role.name → ⊥) → Leaf low high nodes lists walk.scope c
+  leaf e = record { place = here; fits = h.fits; bound = third_of (get_or nodes (left_of c) 0); point = h.point; scope-is = refl; safe = h.safe; other = e }
+
+  pub leaf-settled : (role_of (kind_of c) ≡ role.name → ⊥) → (r : ℕ) (next : Walk)
+      → ((g : Leaf low high nodes lists walk.scope c) → r ≡ cell_by (word_in g.place.at) (variables_in g.place.at) (definitions_of g.place.at) (role_of (kind_of c)) c g.point)
+      → Knows low high (kinds_in h.at) heard next (turned h) → Settled h heard r next
+  unfolding leaf
+  leaf-settled e r next f g = record { cell-is = f (leaf e); knows = g; size = refl }
+
+  module _ (e : kind_of c ≡ 3) where
+    is-named : role_of (kind_of c) ≡ role.name
+    unfolding role_of number_kind
+    is-named = rw e
+
+    pub name-fits : IsName (kinds_in h.at) (token_of c)
+    unfolding sort_of SortFits number_kind
+    name-fits = rw e at h.fits
+
+    abbrev w : ℕ → List ℕ
+    w = word_in h.at
+
+    abbrev k : ℕ
+    k = token_of c
+
+    abbrev seen : List ℕ
+    seen = h.point.seen
+
+    abbrev means : Meaning
+    means = meaning w (variables_in h.at) h.point.scope k
+
+    -- the name can be looked up among the channel names
+    pub heard-inside : Heard low high heard walk.channels k seen
+    heard-inside =
+        let l = in_tables h.at k name-fits in
+        let at : (j : ℕ) → j < walk.channels → get_or (kinds_in h.at) (get_or seen j 0) 0 ≡ kind.name = λ j l. named-at (kinds_in h.at) seen h.knows.named j (omega (arith, h.knows.channels)) in
+        record {
+          count = h.knows.channels;
+          room = omega (arith, h.knows.channels, h.heard-room);
+          few = omega (arith, h.knows.channels, h.heard-few);
+          small = name-small here k name-fits;
+          name-low = l.0;
+          name-high = l.1;
+          each-low = λ j l. (in_tables h.at (get_or seen j 0) (at j l)).0;
+          each-high = λ j l. (in_tables h.at (get_or seen j 0) (at j l)).1;
+          hung = h.knows.hung;
+        }
+
+    pub value-settled : (r : ℕ) (f : Found) → f ≡ Some r → Valued w (variables_in h.at) (definitions_of h.at) seen means f → Settled h heard r walk
+    unfolding cell_by name_cell step_by
+    value-settled r f is v = by (is_channel_name means) refl (sym is ∙ v)
+      where
+        by : (b : Bool) → is_channel_name means ≡ b → ◌≡◌ {A = Found} (Some r) (cond b None (Some (value_cell (value_named w (variables_in h.at) (definitions_of h.at) seen means)))) → Settled h heard r walk
+        by true q v = absurd (let z : ◌≡◌ {A = ℕ} 0 1 = cc in omega arith)
+        by false q v =
+            let y : r ≡ value_cell (value_named w (variables_in h.at) (definitions_of h.at) seen means) = cc in
+            record {
+              cell-is = rw (is-named, q) y;
+              knows = rw (is-named, q) (record { scoped = h.knows.scoped; channels = h.knows.channels; hung = h.knows.hung; named = h.knows.named; sums = h.knows.sums; definitions = h.knows.definitions });
+              size = refl;
+            }
+
+    is-channel : (f : Found) → f ≡ None → Valued w (variables_in h.at) (definitions_of h.at) seen means f → is_channel_name means ≡ true
+    is-channel f is v = by (is_channel_name means) refl (sym is ∙ v)
+      where
+        by : (b : Bool) → is_channel_name means ≡ b → ◌≡◌ {A = Found} None (cond b None (Some (value_cell (value_named w (variables_in h.at) (definitions_of h.at) seen means)))) → is_channel_name means ≡ true
+        by true q v = q
+        by false q v = absurd (let z : ◌≡◌ {A = ℕ} 0 1 = cc in omega arith)
+
+    pub channel-settled : (a r : ℕ) (heard' : List ℕ) (next : Walk) (f : Found) → f ≡ None → Valued w (variables_in h.at) (definitions_of h.at) seen means f → Sought low high heard walk.channels k seen heard' a → r ≡ cell channel a 0 0
+        → next.scope ≡ walk.scope → next.channels ≡ max walk.channels (a + 1) → next.sums ≡ walk.sums → next.definitions ≡ walk.definitions → Settled h heard' r next
+    unfolding cell_by name_cell step_by
+    channel-settled a r heard' next f is v s e x y z u =
+        let on = is-channel f is v in
+        let m = met-is w (variables_in h.at) seen k in
+        let p : place_in (packed low high) k 0 seen ≡ place_in w k 0 seen = place-alike w (packed low high) (kinds_in h.at) (h.at.base.world.alike (asks h.at)) k name-fits 0 seen h.knows.named in
+        let met : heard_after (place_in (packed low high) k 0 seen) seen k ≡ firsts w (variables_in h.at) seen (k ∷ []) = ap (λ (o : Option ℕ). heard_after o seen k) p ∙ sym m.0 in
+        let q : a ≡ or_zero (place_in w k 0 (firsts w (variables_in h.at) seen (k ∷ []))) = s.place_is ∙ ap₂ place_or h.knows.channels p ∙ sym m.1 in
+        record {
+          cell-is = rw (is-named, on) (e ∙ ap (λ (b : ℕ). cell channel b 0 0) q);
+          knows =
+              rw (is-named, on)
+              (record {
+                scoped = rw x h.knows.scoped;
+                channels = y ∙ channel-count heard-inside s ∙ ap length met;
+                hung = subst (λ (ks : List ℕ). Hung low high heard' ks) met s.hung;
+                named = named-after (kinds_in h.at) w (variables_in h.at) k seen name-fits h.knows.named;
+                sums = z ∙ h.knows.sums;
+                definitions = u ∙ h.knows.definitions;
+              });
+          size = s.size;
+        }
+
+-- ---- names that are scales
 
 module _ (low : List ℕ) (w : ℕ → List ℕ) (c : ℕ) where
   -- a name that stands for a number
@@ -217,18 +279,18 @@ unfolding number_scale
 scale_same w vs ds b true j = refl
 scale_same w vs ds b false j = refl
 
-module _ {low high nodes : List ℕ} {lists : Lists} {scope : Scope} (h : Place low high nodes lists scope) (k i : ℕ) where
-  abbrev Scaled : List ℕ → Type 0
-  Scaled nodes' = nodes' ≡ set nodes i (scale_cell (scale_named (word_in h.at) (variables_in h.at) (definitions_of h.at) [] (meaning_at h k)))
+module _ {low high nodes : List ℕ} {lists : Lists} {scope : Scope} (h : Place low high nodes lists scope) (k : ℕ) where
+  abbrev Scaled : ℕ → Type 0
+  Scaled r = r ≡ scale_cell (scale_named (word_in h.at) (variables_in h.at) (definitions_of h.at) [] (meaning_at h k))
 
-  pub scale-local : {j : ℕ} (nodes' : List ℕ) → meaning_at h k ≡ local j → nodes' ≡ set nodes i (cell node.scale_name j 0 0) → Scaled nodes'
+  pub scale-local : {j : ℕ} (r : ℕ) → meaning_at h k ≡ local j → r ≡ cell node.scale_name j 0 0 → Scaled r
   unfolding scale_named scale_cell
-  scale-local nodes' m x = rw m x
+  scale-local r m e = rw m e
 
-  pub scale-number : (c r : ℕ) (nodes' : List ℕ) (g : NumberNamed low (word_in h.at) c (meaning_at h k)) → r ≡ scale_cell (Resolved.fixed (number_scale (word_in h.at) [] [] [] (Syntax.number g.negated g.decimal g.token))) → nodes' ≡ set nodes i r → Scaled nodes'
+  pub scale-number : (c r : ℕ) (g : NumberNamed low (word_in h.at) c (meaning_at h k)) → r ≡ scale_cell (Resolved.fixed (number_scale (word_in h.at) [] [] [] (Syntax.number g.negated g.decimal g.token))) → Scaled r
   unfolding scale_named
-  scale-number c r nodes' g q x =
-      rw g.means (x ∙ ap (set nodes i) (q ∙ ap (λ (z : ℤ). scale_cell (Resolved.fixed z)) (scale_same (word_in h.at) (variables_in h.at) (definitions_of h.at) g.negated g.decimal g.token)))
+  scale-number c r g q =
+      rw g.means (q ∙ ap (λ (z : ℤ). scale_cell (Resolved.fixed z)) (scale_same (word_in h.at) (variables_in h.at) (definitions_of h.at) g.negated g.decimal g.token))
 
 -- ---- the cases of `mark_sum`
 module _ (c κ k v : ℕ) (xs : List ℕ) (κ-is : κ ≡ kind_of c) where

@@ -19,14 +19,16 @@ use Rattle.model.specs.Sites.{Definition, definitions_in, params_of, tokens_of, 
 use Rattle.model.specs.Limits.{local_limit, parameter_limit}
 use Rattle.names.specs.declared.Question.TheVariants.{Given}
 use Rattle.names.specs.declared.Lists.{Lists}
-use Rattle.names.specs.declared.Scope.{Scope}
+use Rattle.names.specs.declared.scope.Scope.{Scope}
 use Rattle.names.specs.Placed.{Named, Fits, SortFits, sort_of}
 use Rattle.names.specs.Settings.{Extended, Scoped}
 use Rattle.names.proofs.Scopes.{every-length}
-use Rattle.settle.specs.Walks.{params_at}
-use Rattle.settle.specs.Places.{Lookup, kinds_in, definitions_of}
+use Rattle.settle.specs.declared.Walk.{Walk}
+use Rattle.settle.specs.Walks.{params_at, begun}
+use Rattle.settle.specs.Places.{Lookup, word_in, kinds_in, variables_in, definitions_of, Knows}
 use Rattle.settle.proofs.Whole.{below}
 use Rattle.settle.proofs.Finds.{definitions-reach}
+use Rattle.settle.proofs.Kids.{none-hung}
 
 -- definition j, listed in the node i
 pub record Listed (t : List ℕ) (es : List Definition) (j i : ℕ) : Type 0 where
@@ -134,3 +136,8 @@ module _ {low high nodes : List ℕ} {lists : Lists} (h : Lookup low high nodes 
             locals_are = λ q. x.names-are (rw z (omega (arith, n, few))) ∙ rw z;
             named = named;
           })
+
+-- what the walk holds before the first definition
+pub first-known : {low high nodes : List ℕ} {lists : Lists} (h : Lookup low high nodes lists) (heard : List ℕ) (walk : Walk) → Scoped Given (kinds_in h) walk.scope (params_at (definitions_of h) 0) → walk.channels ≡ 0 → walk.sums ≡ 0 → walk.definitions ≡ 0
+    → Knows low high (kinds_in h) heard walk (begun (word_in h) (variables_in h) (definitions_of h))
+first-known {low} {high} h heard walk s c n d = record { scoped = s; channels = c; hung = none-hung low high heard; named = tt; sums = n; definitions = d }

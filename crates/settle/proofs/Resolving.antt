@@ -14,20 +14,18 @@ use Rattle.tree.specs.Node.{kind_of, token_of, number_kind}
 use Rattle.model.specs.Sites.{Variable, Definition, variables, definitions}
 use Rattle.model.specs.Resolved.{resolved, channel_names}
 use Rattle.model.specs.Numbering.{count_definitions}
-use Rattle.names.specs.declared.Question.TheVariants.{Given}
 use Rattle.names.specs.declared.Lists.{Lists}
 use Rattle.tree.specs.Table
 use Rattle.tree.proofs.Holds.{model-interval}
 use Rattle.names.specs.Lists.{Gathered}
 use Rattle.model.specs.Resolved
-use Rattle.names.specs.Settings.{Scoped}
 use Rattle.names.proofs.Settled.{root_in, vs-few}
 use Rattle.tables.specs.Represents.{Represents}
 use Rattle.settle.specs.declared.Walk.{Walk}
-use Rattle.settle.specs.Walks.{Role, role_of, role_at, Point, params_at, cell_of, step, point_at, begun, scope_at}
+use Rattle.settle.specs.Walks.{Role, role_of, role_at, Point, cell_of, step, point_at, begun, scope_at}
 use Rattle.settle.specs.Walks as role
-use Rattle.settle.specs.Places.{Told, Lookup, kinds_in, definitions_of, Knows, marked_by, first_node, line_node, Standing, Stepped, Resolvable}
-use Rattle.settle.proofs.Kids.{none-hung}
+use Rattle.settle.specs.Places.{Told, Lookup, word_in, kinds_in, variables_in, definitions_of, Knows, marked_by, first_node, line_node, Resolvable}
+use Rattle.settle.proofs.Stands.{Standing, Stepped}
 use Rattle.settle.proofs.Whole.{steps_on, trace-begun, names-few, numbers-few, definitions-below, node-safe, number-below, node-linked, numbers_apart, line_after, sums-after, names-after, sum-node, represented, definitions-few}
 use Rattle.settle.specs.Settles.{SumNode, line_in, Settles}
 use Rattle.settle.proofs.Same.{walked-alike, cell-alike}
@@ -198,9 +196,9 @@ module _ {low high t roots₀ scopes₀ heard₀ : List ℕ} {lists : Lists} (h 
   pub look : Lookup low high t lists
   look = record { table = t; base = h.base; kept = record { size = refl; variables = λ j l. refl; numbers = λ j l. refl; chain = λ j l. refl; definitions = λ j l. refl } }
 
-  pub starting : (walk : Walk) → ((a b : List ℕ) (g : Lookup a b t lists) → Scoped Given (kinds_in g) walk.scope (params_at (definitions_of g) 0)) → walk.channels ≡ 0 → walk.sums ≡ 0 → walk.definitions ≡ 0 → Progress (first_node lists) t roots₀ scopes₀ heard₀ walk
+  pub starting : (walk : Walk) → ((g : Lookup low high t lists) (heard : List ℕ) → Knows low high (kinds_in g) heard walk (begun (word_in g) (variables_in g) (definitions_of g))) → Progress (first_node lists) t roots₀ scopes₀ heard₀ walk
   unfolding look
-  starting walk s c n d =
+  starting walk s =
       let e : point (first_node lists) ≡ begun w vs ds = ap point (sym first-is) ∙ trace-begun w m t in
       record {
         size = refl;
@@ -210,7 +208,7 @@ module _ {low high t roots₀ scopes₀ heard₀ : List ℕ} {lists : Lists} (h 
         ahead = λ j l. refl;
         numbers = λ j l. refl;
         done = λ j a b. absurd (omega arith);
-        knows = rw e (record { scoped = s low high look; channels = c; hung = none-hung low high heard₀; named = tt; sums = n; definitions = d });
+        knows = rw e (s look heard₀);
         sums = λ j a b q. absurd (omega arith);
       }
 
@@ -322,6 +320,11 @@ module _ {low high t a b c : List ℕ} {lists : Lists} (h : Resolvable low high 
 
     pub resolvable : Resolvable low high t a b c r
     resolvable = subst (λ (l : Lists). Resolvable low high t a b c l) same_lists h
+
+    -- before node i of the loop
+    pub standing-at : (nodes roots scopes heard : List ℕ) (walk : Walk) (i : ℕ) → r.variables ≤ i → i ≤ root - r.variables - r.definitions
+        → ((g : Resolvable low high t a b c r) → Progress g i nodes roots scopes heard walk) → Standing low high nodes roots scopes heard r walk i
+    standing-at nodes roots scopes heard walk i f l x = standing resolvable i nodes roots scopes heard walk f (omega (arith, root-same)) (x resolvable)
 
     pub settled-so : (nodes roots scopes heard : List ℕ) (walk : Walk) (i line : ℕ) → line ≡ root - r.variables - r.definitions → line < i → i ≤ line + 1
         → ((g : Resolvable low high t a b c r) → Progress g i nodes roots scopes heard walk)

@@ -200,3 +200,22 @@ module _ (κ : ℕ) where
       by r (as-start x y) = absurd (omega arith)
       by r (as-counted x y) = absurd (omega arith)
       by r (as_plain a b c d e f) = absurd (b l u)
+
+-- no other kind is a name's
+pub name-kind : (κ : ℕ) → (κ ≡ 3 → ⊥) → role_of κ ≡ name → ⊥
+name-kind κ e q = by (role_of κ) (kinded κ) q
+  where
+    by : (r : Role) → Kinded κ r → r ≡ name → ⊥
+    by r (as-whole x) q = absurd (let z : ◌≡◌ {A = ℕ} 0 1 = cc in omega arith)
+    by r (as-negative x) q = absurd (let z : ◌≡◌ {A = ℕ} 0 1 = cc in omega arith)
+    by r (as-name x) q = e x
+    by r (as_number b d x) q = absurd (let z : ◌≡◌ {A = ℕ} 0 1 = cc in omega arith)
+    by r (as-scale x) q = absurd (let z : ◌≡◌ {A = ℕ} 0 1 = cc in omega arith)
+    by r (as-action x y) q = absurd (let z : ◌≡◌ {A = ℕ} 0 1 = cc in omega arith)
+    by r (as-ending x y) q = absurd (let z : ◌≡◌ {A = ℕ} 0 1 = cc in omega arith)
+    by r (as-sum x) q = absurd (let z : ◌≡◌ {A = ℕ} 0 1 = cc in omega arith)
+    by r (as_call x y) q = absurd (let z : ◌≡◌ {A = ℕ} 0 1 = cc in omega arith)
+    by r (as-definition x) q = absurd (let z : ◌≡◌ {A = ℕ} 0 1 = cc in omega arith)
+    by r (as-start x y) q = absurd (let z : ◌≡◌ {A = ℕ} 0 1 = cc in omega arith)
+    by r (as-counted x y) q = absurd (let z : ◌≡◌ {A = ℕ} 0 1 = cc in omega arith)
+    by r (as_plain a b c d e f) q = absurd (let z : ◌≡◌ {A = ℕ} 0 1 = cc in omega arith)

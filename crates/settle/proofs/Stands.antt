@@ -5,7 +5,6 @@ use mathlib.Core.Bool.{true, false}
 use Prim.Native.Nat.{ℕ, zero, suc, ◌+◌, ◌-◌, ◌≤◌, ◌<◌, ◌*◌}
 use native.Mathlib.Decide.{dec_le}
 use native.Mathlib.Omega.{arith}
-use lib.Dec.{eqb}
 use lib.ListN.{length, get_or, set, length-take}
 use Rattle.model.specs.Limits.{definition_limit}
 use Rattle.grammar.specs.Syntax
@@ -15,16 +14,15 @@ use Rattle.tree.proofs.Cells.{node-left}
 use Rattle.model.specs.Sites.{Variable, Definition, variables, definitions}
 use Rattle.names.specs.declared.Question.TheVariants.{Given}
 use Rattle.names.specs.declared.Lists.{Lists}
-use Rattle.names.specs.Placed.{IsName, Fits, SortFits, sort_of}
+use Rattle.names.specs.Placed.{Fits}
 use Rattle.names.specs.Settings.{World}
 use Rattle.names.proofs.Settled.{root_in, vs-few}
 use Rattle.settle.specs.declared.Walk.{Walk}
-use Rattle.settle.specs.Walks.{Role, role_of, role_at, Point, name_cell, cell_by, cell_of, step_by, step, SafeBy, point_at, scope_at}
+use Rattle.settle.specs.Walks.{Role, role_of, role_at, Point, cell_by, cell_of, step_by, step, SafeBy, point_at, scope_at}
 use Rattle.settle.specs.Walks as role
-use Rattle.settle.specs.Places.{Told, Kept, Lookup, Place, word_in, kinds_in, variables_in, definitions_of, meaning_at, Hearing, met_names, NameDone, Leaf, Knows, Turn, turned, marked_by, first_node, Standing, Stepped}
+use Rattle.settle.specs.Places.{Told, Base, Kept, Lookup, Knows, Turn, Settled, marked_by, first_node, line_node}
 use Rattle.settle.proofs.Whole.{below}
 use Rattle.settle.proofs.Finds.{asks}
-use Rattle.settle.proofs.Roles.{Kinded, as-whole, as-negative, as-name, as_number, as-scale, as-action, as-ending, as-sum, as_call, as-definition, as-start, as-counted, as_plain, kinded}
 use Rattle.settle.proofs.Parameters.{definitions-listed}
 
 -- the numbers of the variables stand first, one a node
@@ -44,25 +42,6 @@ numbers-first t (Syntax.variable n v m) lo k h (suc j) l =
     let z = scale_at t v lo h.left h.holds-first in
     let e : k - suc j ≡ h.right - j = omega (arith, h.above) in
     rw e (r ∙ omega arith)
-
--- a name's kind
-name-kind : (κ : ℕ) → role_of κ ≡ role.name → (κ ≡ 3 → ⊥) → ⊥
-name-kind κ q e = by (role_of κ) (kinded κ) q
-  where
-    by : (r : Role) → Kinded κ r → r ≡ role.name → ⊥
-    by r (as-whole x) q = absurd (let z : ◌≡◌ {A = ℕ} 0 1 = cc in omega arith)
-    by r (as-negative x) q = absurd (let z : ◌≡◌ {A = ℕ} 0 1 = cc in omega arith)
-    by r (as-name x) q = e x
-    by r (as_number b d x) q = absurd (let z : ◌≡◌ {A = ℕ} 0 1 = cc in omega arith)
-    by r (as-scale x) q = absurd (let z : ◌≡◌ {A = ℕ} 0 1 = cc in omega arith)
-    by r (as-action x y) q = absurd (let z : ◌≡◌ {A = ℕ} 0 1 = cc in omega arith)
-    by r (as-ending x y) q = absurd (let z : ◌≡◌ {A = ℕ} 0 1 = cc in omega arith)
-    by r (as-sum x) q = absurd (let z : ◌≡◌ {A = ℕ} 0 1 = cc in omega arith)
-    by r (as_call x y) q = absurd (let z : ◌≡◌ {A = ℕ} 0 1 = cc in omega arith)
-    by r (as-definition x) q = absurd (let z : ◌≡◌ {A = ℕ} 0 1 = cc in omega arith)
-    by r (as-start x y) q = absurd (let z : ◌≡◌ {A = ℕ} 0 1 = cc in omega arith)
-    by r (as-counted x y) q = absurd (let z : ◌≡◌ {A = ℕ} 0 1 = cc in omega arith)
-    by r (as_plain a b c d e f) q = absurd (let z : ◌≡◌ {A = ℕ} 0 1 = cc in omega arith)
 
 -- where a branch ends, what it binds counts; nowhere else
 safe-bound : (w : ℕ → List ℕ) (vs : List Variable) (told : ℕ → Type 0) (r : Role) (c a b : ℕ) (p : Point) → (r ≡ role.ending → a ≡ b) → SafeBy w vs told r c a p → SafeBy w vs told r c b p
@@ -92,6 +71,35 @@ step-bound w vs ds role.call c a b p e = refl
 step-bound w vs ds role.definition c a b p e = refl
 step-bound w vs ds (role.item x) c a b p e = refl
 step-bound w vs ds role.plain c a b p e = refl
+
+-- the walk stands before node i: the nodes from the first definition up to it are resolved, the others are those of the reader's table
+pub record Standing (low high nodes roots scopes heard : List ℕ) (lists : Lists) (walk : Walk) (i : ℕ) : Type 0 where
+  pub table : List ℕ
+  pub base : Base low high table lists
+  pub point : Point
+  pub point-is : point ≡ point_at base.world.word (variables base.world.model) (definitions base.world.model) table i
+  pub after : first_node lists ≤ i
+  pub before : i ≤ line_node lists
+  pub size : length nodes ≡ length table
+  pub ahead : (j : ℕ) → i ≤ j → get_or nodes j 0 ≡ get_or table j 0
+  pub numbers : (j : ℕ) → j < first_node lists → get_or nodes j 0 ≡ get_or table j 0
+  pub done : (j : ℕ) → first_node lists ≤ j → j < i → get_or nodes j 0 ≡ cell_of base.world.word (variables base.world.model) (definitions base.world.model) table j (point_at base.world.word (variables base.world.model) (definitions base.world.model) table j)
+  pub knows : Knows low high base.world.kinds heard walk point
+  pub safe : SafeBy base.world.word (variables base.world.model) (Told low base.world.word) (role_at table i) (get_or table i 0) (third_of (get_or table (left_of (get_or table i 0)) 0)) point
+  pub linked : role_at table i ≡ role.ending → (first_node lists ≤ left_of (get_or table i 0)) × (left_of (get_or table i 0) < i) × (role_at table (left_of (get_or table i 0)) ≡ role.action)
+  pub below : role_at table i ≡ role.sum → (token_of (get_or table i 0) < length roots) × (token_of (get_or table i 0) < length scopes) × (0 < i)
+  pub seen_few : length point.seen ≤ i
+  pub heard-room : length point.seen < length heard
+  pub sums-few : point.sums < field
+  pub definitions-few : point.definitions ≤ definition_limit
+
+-- and after it
+pub record Stepped {low high nodes roots scopes heard : List ℕ} {lists : Lists} {walk : Walk} {i : ℕ} (h : Standing low high nodes roots scopes heard lists walk i) (nodes' roots' scopes' heard' : List ℕ) (r : Walk) : Type 0 where
+  pub nodes-are : nodes' ≡ set nodes i (cell_of h.base.world.word (variables h.base.world.model) (definitions h.base.world.model) h.table i h.point)
+  pub roots-are : roots' ≡ marked_by (get_or h.table i 0) roots (i - 1)
+  pub scopes-are : scopes' ≡ marked_by (get_or h.table i 0) scopes (scope_at h.point)
+  pub knows : Knows low high h.base.world.kinds heard' r (step h.base.world.word (variables h.base.world.model) (definitions h.base.world.model) h.table i h.point)
+  pub size : length heard' ≡ length heard
 
 module _ {low high nodes roots scopes heard : List ℕ} {lists : Lists} {walk : Walk} {i : ℕ} (h : Standing low high nodes roots scopes heard lists walk i) where
   abbrev t : List ℕ
@@ -145,116 +153,54 @@ module _ {low high nodes roots scopes heard : List ℕ} {lists : Lists} {walk : 
   pub lookup : Lookup low high nodes lists
   lookup = record { table = t; base = h.base; kept = kept }
 
-  pub place : Place low high nodes lists walk.scope
-  unfolding lookup
-  place = record { at = lookup; locals = h.point.scope; scoped = h.knows.scoped }
-
   pub inside-nodes : i < length nodes
   inside-nodes = omega (arith, root_in world, h.size, h.before)
 
   fits : Fits world.kinds (get_or nodes i 0)
   fits = rw here (world.placed i (omega (arith, h.before)))
 
-  -- ---- a name
-  module _ (e : kind_of (get_or nodes i 0) ≡ 3) where
-    is-named : role_at t i ≡ role.name
-    unfolding role_of number_kind
-    is-named = rw (← here, e)
+  -- the action of a branch stays
+  bound-same : role_at nodes i ≡ role.ending → third_of (get_or t (left_of (get_or t i 0)) 0) ≡ third_of (get_or nodes (left_of (get_or nodes i 0)) 0)
+  unfolding cell_of cell_by
+  bound-same q =
+      let l = h.linked (rw here at q) in
+      rw here (sym (ap third_of (stays (left_of (get_or t i 0)) (λ a c. rw l.2))))
 
-    pub name-fits : IsName world.kinds (token_of (get_or nodes i 0))
-    unfolding sort_of SortFits number_kind
-    name-fits = rw e at fits
+  pub turn : Turn low high nodes lists heard walk (get_or nodes i 0)
+  unfolding lookup
+  turn =
+      record {
+        at = lookup;
+        point = h.point;
+        knows = h.knows;
+        fits = fits;
+        inside = λ q. let l = h.linked (rw here at q) in rw here (omega (arith, l.1, inside-nodes));
+        safe = safe-bound w vs (Told low w) (role_at nodes i) (get_or nodes i 0) (third_of (get_or t (left_of (get_or t i 0)) 0)) (third_of (get_or nodes (left_of (get_or nodes i 0)) 0)) h.point bound-same (rw here h.safe);
+        heard-room = h.heard-room;
+        heard-few = omega (arith, h.seen_few, h.before, h.base.room);
+        sums-few = h.sums-few;
+        definitions-few = omega (arith, h.definitions-few);
+      }
 
-    pub hearing : Hearing low high world.kinds heard walk.channels h.point.seen
-    hearing =
-        record {
-          count = h.knows.channels;
-          room = omega (arith, h.knows.channels, h.heard-room);
-          few = omega (arith, h.knows.channels, h.seen_few, h.before, h.base.room);
-          hung = h.knows.hung;
-          named = h.knows.named;
-        }
+  -- what is asked of `mark_sum`
+  pub sum-asked : (kind_of (get_or nodes i 0) ≡ 49 → (token_of (get_or nodes i 0) < length roots) × (token_of (get_or nodes i 0) < length scopes) × (0 < i)) × (i < field) × (walk.scope.count < 256) × (walk.definitions ≤ definition_limit)
+  unfolding role_of number_kind
+  sum-asked =
+      (λ z. rw here (h.below (rw (← here, z))), omega (arith, h.before, h.base.room), omega (arith, h.knows.scoped.count), omega (arith, h.knows.definitions, h.definitions-few))
 
-    -- what is asked of `settle_name`
-    pub name-asked : (k : ℕ) → k ≡ token_of (get_or nodes i 0) → (g : Place low high nodes lists walk.scope) × (seen : List ℕ) × IsName (kinds_in g.at) k × Hearing low high (kinds_in g.at) heard walk.channels seen × (i < length nodes)
-    unfolding place lookup
-    name-asked k q = (place, h.point.seen, rw q name-fits, hearing, inside-nodes)
-
-    pub name-stepped : (k : ℕ) (nodes' heard' : List ℕ) (r : Walk) → k ≡ token_of (get_or nodes i 0)
-        → ((g : Place low high nodes lists walk.scope) (seen : List ℕ) → IsName (kinds_in g.at) k → Hearing low high (kinds_in g.at) heard walk.channels seen → NameDone low high (kinds_in g.at) nodes heard i (name_cell (word_in g.at) (variables_in g.at) (definitions_of g.at) seen k (meaning_at g k)) (met_names (word_in g.at) (variables_in g.at) seen k (meaning_at g k)) nodes' heard' r.channels)
-        → r.scope ≡ walk.scope → r.sums ≡ walk.sums → r.definitions ≡ walk.definitions → Stepped h nodes' roots scopes heard' r
-    unfolding place lookup cell_of cell_by step step_by met_names marked_by
-    name-stepped k nodes' heard' r q f a b d =
-        let x = f place h.point.seen (rw q name-fits) hearing in
-        let token : token_of (get_or t i 0) ≡ k = ap token_of (sym here) ∙ sym q in
-        let no : eqb (kind_of (get_or t i 0)) 49 ≡ false = rw (← here, e) in
-        record {
-          nodes-are = rw (is-named, token) x.nodes-are;
-          roots-are = rw no;
-          scopes-are = rw no;
-          knows = rw (is-named, token) (record { scoped = rw a h.knows.scoped; channels = x.count; hung = x.hung; named = x.named; sums = b ∙ h.knows.sums; definitions = d ∙ h.knows.definitions });
-          size = x.size;
-        }
-
-  -- ---- any other node
-  module _ (e : kind_of (get_or nodes i 0) ≡ 3 → ⊥) where
-    not-name : role_at nodes i ≡ role.name → ⊥
-    not-name q = name-kind (kind_of (get_or nodes i 0)) q e
-
-    -- the action of a branch stays
-    bound-same : role_at nodes i ≡ role.ending → third_of (get_or t (left_of (get_or t i 0)) 0) ≡ third_of (get_or nodes (left_of (get_or nodes i 0)) 0)
-    unfolding cell_of cell_by
-    bound-same q =
-        let l = h.linked (rw here at q) in
-        rw here (sym (ap third_of (stays (left_of (get_or t i 0)) (λ a c. rw l.2))))
-
-    safe-here : SafeBy w vs (Told low w) (role_at nodes i) (get_or nodes i 0) (third_of (get_or nodes (left_of (get_or nodes i 0)) 0)) h.point
-    safe-here = safe-bound w vs (Told low w) (role_at nodes i) (get_or nodes i 0) (third_of (get_or t (left_of (get_or t i 0)) 0)) (third_of (get_or nodes (left_of (get_or nodes i 0)) 0)) h.point bound-same (rw here h.safe)
-
-    pub leaf : Leaf low high nodes lists walk.scope i
-    unfolding place lookup
-    leaf = record { place = place; inside = inside-nodes; fits = fits; bound = third_of (get_or nodes (left_of (get_or nodes i 0)) 0); point = h.point; scope-is = refl; safe = safe-here; other = not-name }
-
-    pub turn : Turn nodes lists walk (get_or nodes i 0)
-    unfolding lookup
-    turn =
-        record {
-          low = low;
-          high = high;
-          at = lookup;
-          heard = heard;
-          point = h.point;
-          knows = h.knows;
-          fits = fits;
-          inside = λ q. let l = h.linked (rw here at q) in rw here (omega (arith, l.1, inside-nodes));
-          safe = safe-here;
-          other = not-name;
-          sums-few = h.sums-few;
-          definitions-few = omega (arith, h.definitions-few);
-        }
-
-    -- what is asked of `mark_sum`
-    pub sum-asked : (n d : ℕ) → n ≡ walk.scope.count → d ≡ walk.definitions → (kind_of (get_or nodes i 0) ≡ 49 → (token_of (get_or nodes i 0) < length roots) × (token_of (get_or nodes i 0) < length scopes) × (0 < i)) × (i < field) × (n < 256) × (d ≤ definition_limit)
-    unfolding role_of number_kind
-    sum-asked n d q u =
-        (λ z. rw here (h.below (rw (← here, z))), omega (arith, h.before, h.base.room), omega (arith, h.knows.scoped.count), omega (arith, h.knows.definitions, h.definitions-few, u))
-
-    count-is : walk.scope.count ≡ length h.point.scope
-    count-is = omega (arith, h.knows.scoped.count, ap length (h.knows.scoped.locals_are (asks lookup)), length-take walk.scope.count walk.scope.names)
-
-    pub node-stepped : (nodes' roots' scopes' : List ℕ) (r : Walk) (n d : ℕ) → n ≡ walk.scope.count → d ≡ walk.definitions
-        → ((g : Turn nodes lists walk (get_or nodes i 0)) → Knows g.low g.high (kinds_in g.at) g.heard r (turned g))
-        → ((g : Leaf low high nodes lists walk.scope i) → nodes' ≡ set nodes i (cell_by (word_in g.place.at) (variables_in g.place.at) (definitions_of g.place.at) (role_at nodes i) (get_or nodes i 0) g.point))
-        → roots' ≡ marked_by (get_or nodes i 0) roots (i - 1) → scopes' ≡ marked_by (get_or nodes i 0) scopes (n + d * 16) → Stepped h nodes' roots' scopes' heard r
-    unfolding leaf turn place lookup cell_of step
-    node-stepped nodes' roots' scopes' r n d q o f g x y =
-        record {
-          nodes-are = rw (← here) (g leaf);
-          roots-are = rw (← here) x;
-          scopes-are = rw (← here) (y ∙ ap (marked_by (get_or nodes i 0) scopes) marks);
-          knows = subst (λ (p : Point). Knows low high world.kinds heard r p) (step-bound w vs ds (role_at nodes i) (get_or nodes i 0) (third_of (get_or nodes (left_of (get_or nodes i 0)) 0)) (third_of (get_or t (left_of (get_or t i 0)) 0)) h.point (λ z. sym (bound-same z)) ∙ ap (λ (c : ℕ). step_by w vs ds (role_of (kind_of c)) c (third_of (get_or t (left_of (get_or t i 0)) 0)) h.point) here) (f turn);
-          size = refl;
-        }
-      where
-        marks : n + d * 16 ≡ scope_at h.point
-        marks = omega (arith, q, o, count-is, h.knows.definitions)
+  pub stepped : (r : ℕ) (roots' scopes' heard' : List ℕ) (next : Walk)
+      → ((g : Turn low high nodes lists heard walk (get_or nodes i 0)) → Settled g heard' r next)
+      → roots' ≡ marked_by (get_or nodes i 0) roots (i - 1) → scopes' ≡ marked_by (get_or nodes i 0) scopes (walk.scope.count + walk.definitions * 16) → Stepped h (set nodes i r) roots' scopes' heard' next
+  unfolding turn lookup cell_of step
+  stepped r roots' scopes' heard' next f x y =
+      let s = f turn in
+      record {
+        nodes-are = rw (← here) (ap (set nodes i) s.cell-is);
+        roots-are = rw (← here) x;
+        scopes-are = rw (← here) (y ∙ ap (marked_by (get_or nodes i 0) scopes) marks);
+        knows = subst (λ (p : Point). Knows low high world.kinds heard' next p) (step-bound w vs ds (role_at nodes i) (get_or nodes i 0) (third_of (get_or nodes (left_of (get_or nodes i 0)) 0)) (third_of (get_or t (left_of (get_or t i 0)) 0)) h.point (λ z. sym (bound-same z)) ∙ ap (λ (c : ℕ). step_by w vs ds (role_of (kind_of c)) c (third_of (get_or t (left_of (get_or t i 0)) 0)) h.point) here) s.knows;
+        size = s.size;
+      }
+    where
+      marks : walk.scope.count + walk.definitions * 16 ≡ scope_at h.point
+      marks = omega (arith, h.knows.scoped.count, ap length (h.knows.scoped.locals_are (asks lookup)), length-take walk.scope.count walk.scope.names, h.knows.definitions)

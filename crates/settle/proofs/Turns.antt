@@ -14,12 +14,12 @@ use Rattle.model.specs.Lists.{every_other}
 use Rattle.model.specs.Limits.{local_limit}
 use Rattle.names.specs.declared.Question.TheVariants.{Given}
 use Rattle.names.specs.declared.Lists.{Lists}
-use Rattle.names.specs.declared.Scope.{Scope}
+use Rattle.names.specs.declared.scope.Scope.{Scope}
 use Rattle.names.specs.Placed.{Named, SortFits, sort_of}
 use Rattle.names.specs.Settings.{Extended, Scoped}
 use Rattle.names.proofs.Scopes.{every-length, every-inside}
 use Rattle.settle.specs.declared.Walk.{Walk}
-use Rattle.settle.specs.Walks.{role_of, Point, params_at, step_by, Binds}
+use Rattle.settle.specs.Walks.{name, role_of, Point, params_at, step_by, Binds}
 use Rattle.settle.specs.Places.{word_in, kinds_in, variables_in, definitions_of, Knows, Turn, turned}
 use Rattle.settle.proofs.Finds.{asks}
 use Rattle.settle.proofs.Roles.{action-role, ending-role, step-none}
@@ -40,7 +40,7 @@ named-front ts ks zero h = tt
 named-front ts [] (suc n) h = tt
 named-front ts (k ∷ ks) (suc n) h = (h.0, named-front ts ks n h.1)
 
-module _ {nodes : List ℕ} {lists : Lists} {walk : Walk} {c : ℕ} (h : Turn nodes lists walk c) where
+module _ {low high nodes : List ℕ} {lists : Lists} {heard : List ℕ} {walk : Walk} {c : ℕ} (h : Turn low high nodes lists heard walk c) where
   abbrev p : Point
   p = h.point
 
@@ -52,7 +52,7 @@ module _ {nodes : List ℕ} {lists : Lists} {walk : Walk} {c : ℕ} (h : Turn no
 
   -- in another scope
   scoped-as : (r : Walk) (scope : List ℕ) → Scoped Given ts r.scope scope → r.channels ≡ walk.channels → r.sums ≡ walk.sums → r.definitions ≡ walk.definitions
-      → Knows h.low h.high ts h.heard r (record { scope = scope; seen = p.seen; sums = p.sums; definitions = p.definitions })
+      → Knows low high ts heard r (record { scope = scope; seen = p.seen; sums = p.sums; definitions = p.definitions })
   scoped-as r scope s a b d = record { scoped = s; channels = a ∙ h.knows.channels; hung = h.knows.hung; named = h.knows.named; sums = b ∙ h.knows.sums; definitions = d ∙ h.knows.definitions }
 
   -- ---- an action
@@ -71,10 +71,10 @@ module _ {nodes : List ℕ} {lists : Lists} {walk : Walk} {c : ℕ} (h : Turn no
     room_for zero q l = omega arith
     room_for (suc n) q l = let e = every-inside ts (token_of c) (suc n) q (omega arith) in omega (arith, h.at.base.world.few)
 
-    pub action-room : (length walk.scope.names ≡ local_limit) × (walk.scope.count ≤ local_limit) × (token_of c + 2 * third_of c ≤ field)
-    action-room = (sc.full, omega (arith, sc.count), room_for (third_of c) (bound-named action-safe.1) (omega (arith, action-safe.0)))
+    pub action-room : token_of c + 2 * third_of c ≤ field
+    action-room = room_for (third_of c) (bound-named action-safe.1) (omega (arith, action-safe.0))
 
-    pub after-action : (s : Scope) (r : Walk) → Extended walk.scope (every_other (token_of c) (third_of c)) s → r.scope ≡ s → r.channels ≡ walk.channels → r.sums ≡ walk.sums → r.definitions ≡ walk.definitions → Knows h.low h.high ts h.heard r (turned h)
+    pub after-action : (s : Scope) (r : Walk) → Extended walk.scope (every_other (token_of c) (third_of c)) s → r.scope ≡ s → r.channels ≡ walk.channels → r.sums ≡ walk.sums → r.definitions ≡ walk.definitions → Knows low high ts heard r (turned h)
     unfolding step_by
     after-action s r x e a b d =
         let n = every-length (token_of c) (third_of c) in
@@ -103,7 +103,7 @@ module _ {nodes : List ℕ} {lists : Lists} {walk : Walk} {c : ℕ} (h : Turn no
       pub ending-few : n ≤ walk.scope.count
       ending-few = omega (arith, fewer, counted)
 
-      pub after-ending : (s : Scope) (r : Walk) → s.names ≡ walk.scope.names → s.count ≡ walk.scope.count - n → r.scope ≡ s → r.channels ≡ walk.channels → r.sums ≡ walk.sums → r.definitions ≡ walk.definitions → Knows h.low h.high ts h.heard r (turned h)
+      pub after-ending : (s : Scope) (r : Walk) → s.names ≡ walk.scope.names → s.count ≡ walk.scope.count - n → r.scope ≡ s → r.channels ≡ walk.channels → r.sums ≡ walk.sums → r.definitions ≡ walk.definitions → Knows low high ts heard r (turned h)
       unfolding step_by
       after-ending s r x y e a b d =
           let z = length-take-le (length p.scope - n) p.scope (omega arith) in
@@ -118,14 +118,14 @@ module _ {nodes : List ℕ} {lists : Lists} {walk : Walk} {c : ℕ} (h : Turn no
           rw (ending-role (kind_of c) l u, ← is) (scoped-as r (take (length p.scope - n) p.scope) (rw e k) a b d)
 
   -- ---- a sum and a definition
-  pub after-sum : (r : Walk) → kind_of c ≡ 49 → r.scope ≡ walk.scope → r.channels ≡ walk.channels → r.sums ≡ walk.sums + 1 → r.definitions ≡ walk.definitions → Knows h.low h.high ts h.heard r (turned h)
+  pub after-sum : (r : Walk) → kind_of c ≡ 49 → r.scope ≡ walk.scope → r.channels ≡ walk.channels → r.sums ≡ walk.sums + 1 → r.definitions ≡ walk.definitions → Knows low high ts heard r (turned h)
   unfolding step_by role_of number_kind
   after-sum r e s a b d = rw e (record { scoped = rw s sc; channels = a ∙ h.knows.channels; hung = h.knows.hung; named = h.knows.named; sums = b ∙ ap (λ (n : ℕ). n + 1) h.knows.sums; definitions = d ∙ h.knows.definitions })
 
-  pub after-definition : (r : Walk) → kind_of c ≡ 56 → Scoped Given ts r.scope (params_at (definitions_of h.at) (walk.definitions + 1)) → r.channels ≡ walk.channels → r.sums ≡ walk.sums → r.definitions ≡ walk.definitions + 1 → Knows h.low h.high ts h.heard r (turned h)
+  pub after-definition : (r : Walk) → kind_of c ≡ 56 → Scoped Given ts r.scope (params_at (definitions_of h.at) (walk.definitions + 1)) → r.channels ≡ walk.channels → r.sums ≡ walk.sums → r.definitions ≡ walk.definitions + 1 → Knows low high ts heard r (turned h)
   unfolding step_by role_of number_kind
   after-definition r e s a b d =
       rw e (record { scoped = rw (← h.knows.definitions) s; channels = a ∙ h.knows.channels; hung = h.knows.hung; named = h.knows.named; sums = b ∙ h.knows.sums; definitions = d ∙ ap (λ (n : ℕ). n + 1) h.knows.definitions })
 
-  pub after_none : (36 ≤ kind_of c → kind_of c ≤ 44 → ⊥) → (45 ≤ kind_of c → kind_of c ≤ 46 → ⊥) → (kind_of c ≡ 49 → ⊥) → (kind_of c ≡ 56 → ⊥) → Knows h.low h.high ts h.heard walk (turned h)
-  after_none a b s d = rw (step-none (kind_of c) (word_in h.at) (variables_in h.at) (definitions_of h.at) c (third_of (get_or nodes (left_of c) 0)) p a b s d h.other) h.knows
+  pub after_none : (role_of (kind_of c) ≡ name → ⊥) → (36 ≤ kind_of c → kind_of c ≤ 44 → ⊥) → (45 ≤ kind_of c → kind_of c ≤ 46 → ⊥) → (kind_of c ≡ 49 → ⊥) → (kind_of c ≡ 56 → ⊥) → Knows low high ts heard walk (turned h)
+  after_none e a b s d = rw (step-none (kind_of c) (word_in h.at) (variables_in h.at) (definitions_of h.at) c (third_of (get_or nodes (left_of c) 0)) p a b s d e) h.knows

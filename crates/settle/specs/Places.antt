@@ -1,9 +1,10 @@
 -- What the functions that resolve a node may take for granted, and what they leave: the tables of a text without faults, of which some nodes are resolved already. Assumes nothing: these are definitions.
-use Rattle.std.specs.Prelude.{◌≡◌, Bool, true, false, cond, ◌⊎◌, ℕ, ◌-◌, ◌≤◌, ◌<◌, min, eqb, ℤ, pos, neg_ℤ, length, get_or, set}
+use Rattle.std.specs.Prelude.{◌≡◌, Bool, true, false, cond, ◌⊎◌, ℕ, ◌-◌, ◌≤◌, ◌<◌, min, eqb, ℤ, pos, neg_ℤ, None, Some, length, get_or, set}
 use mathlib.Core.List.{List, [], ◌∷◌, ◌++◌, Memᴰ as In}
 use Rattle.std.proofs.Math.Option.{Option, none, some}
 use Rattle.word.specs.Number.{worth, cap, ten_thousandths}
-use Rattle.token.specs.Contents.{before_point, after_point}
+use Rattle.token.specs.Contents.{lows_in, highs_in, before_point, after_point}
+use Rattle.token.specs.Questions.{Found}
 use Rattle.grammar.specs.Syntax
 use Rattle.tree.specs.Node as node
 use Rattle.tree.specs.Node.{field, cell, kind_of, token_of, left_of, third_of, number_kind}
@@ -14,18 +15,18 @@ use Rattle.model.specs.Faults.{NotNew}
 use Rattle.model.specs.Faultless.{scale_of, Faultless}
 use Rattle.model.specs.Limits.{count_limit, definition_limit, parameter_limit}
 use Rattle.model.specs.Given.{Meaning, local, variable, nothing, place_in, meaning}
-use Rattle.model.specs.Resolved.{is_channel_name, firsts}
+use Rattle.model.specs.Resolved.{is_channel_name, value_named}
 use Rattle.names.specs.declared.Question.TheVariants.{Given}
 use Rattle.names.specs.declared.Lists.{Lists}
-use Rattle.names.specs.declared.Scope.{Scope}
+use Rattle.names.specs.declared.Parsed.{Parsed}
+use Rattle.names.specs.declared.scope.Scope.{Scope}
 use Rattle.names.specs.Lists.{packed}
 use Rattle.names.specs.Placed.{Named, Fits}
 use Rattle.names.specs.Settings.{World, Scoped}
-use Rattle.tables.specs.Settled.{channel}
 use Rattle.settle.specs.Literals.{SystemLiteral}
 use Rattle.settle.specs.Kids.{Hung}
 use Rattle.settle.specs.declared.Walk.{Walk}
-use Rattle.settle.specs.Walks.{name, action, ending, sum, item, role_of, role_at, Point, NumberSafe, SafeBy, step_by, cell_of, step, point_at, scope_at}
+use Rattle.settle.specs.Walks.{name, ending, item, role_of, Point, NumberSafe, SafeBy, step_by, value_cell, cell_by}
 
 -- a number with `-` before it or not
 unfoldable pub signed : Bool → ℕ → ℤ
@@ -92,6 +93,13 @@ module _ {low high nodes : List ℕ} {lists : Lists} (h : Lookup low high nodes 
   abbrev pub definitions_of : List Definition
   definitions_of = definitions h.base.world.model
 
+-- the same of a text's tables as the code holds them
+abbrev pub LookupIn : Parsed → Type 0
+LookupIn p = Lookup (lows_in p.contents.now) (highs_in p.contents.now) p.nodes.now p.lists
+
+abbrev pub PlaceIn : Parsed → Scope → Type 0
+PlaceIn p scope = Place (lows_in p.contents.now) (highs_in p.contents.now) p.nodes.now p.lists scope
+
 -- what a name means there
 abbrev pub meaning_at : {low high nodes : List ℕ} {lists : Lists} {scope : Scope} → Place low high nodes lists scope → ℕ → Meaning
 meaning_at h k = meaning (word_in h.at) (variables_in h.at) h.locals k
@@ -103,24 +111,32 @@ NumberNode low w (variable (Syntax.number b d k)) c = ScaleTold low w b d (kind_
 NumberNode low w (variable (Syntax.named_scale k)) c = ⊥
 NumberNode low w nothing c = c ≡ 0
 
--- node i is a call or an item of the system line, with a count in range
-pub record Calls (low high nodes : List ℕ) (lists : Lists) (i : ℕ) : Type 0 where
-  pub at : Lookup low high nodes lists
-  pub inside : i < length nodes
-  pub fits : Fits (kinds_in at) (get_or nodes i 0)
-  pub calls : CallKind (kind_of (get_or nodes i 0))
-  pub counted : role_at nodes i ≡ item true → worth 0 (word_in at (token_of (get_or nodes i 0) - 2)) ≤ count_limit
+-- r is the cell of a name that means m and is a value, and none of a channel name; seen: the channel names met
+abbrev pub Valued : (ℕ → List ℕ) → List Variable → List Definition → List ℕ → Meaning → Found → Type 0
+Valued w vs ds seen m r = r ≡ cond (is_channel_name m) None (Some (value_cell (value_named w vs ds seen m)))
 
--- node i stands in the scope, and has what the walk needs of it
-pub record Leaf (low high nodes : List ℕ) (lists : Lists) (scope : Scope) (i : ℕ) : Type 0 where
+-- c is the cell of a call or an item of the system line, with a count in range
+pub record Calls (low high nodes : List ℕ) (lists : Lists) (c : ℕ) : Type 0 where
+  pub at : Lookup low high nodes lists
+  pub fits : Fits (kinds_in at) c
+  pub calls : CallKind (kind_of c)
+  pub counted : role_of (kind_of c) ≡ item true → worth 0 (word_in at (token_of c - 2)) ≤ count_limit
+
+abbrev pub CallsIn : Parsed → ℕ → Type 0
+CallsIn p c = Calls (lows_in p.contents.now) (highs_in p.contents.now) p.nodes.now p.lists c
+
+-- a node with the cell c stands in the scope, and has what the walk needs of it
+pub record Leaf (low high nodes : List ℕ) (lists : Lists) (scope : Scope) (c : ℕ) : Type 0 where
   pub place : Place low high nodes lists scope
-  pub inside : i < length nodes
-  pub fits : Fits (kinds_in place.at) (get_or nodes i 0)
+  pub fits : Fits (kinds_in place.at) c
   pub bound : ℕ
   pub point : Point
   pub scope-is : point.scope ≡ place.locals
-  pub safe : SafeBy (word_in place.at) (variables_in place.at) (Told low (word_in place.at)) (role_at nodes i) (get_or nodes i 0) bound point
-  pub other : role_at nodes i ≡ name → ⊥
+  pub safe : SafeBy (word_in place.at) (variables_in place.at) (Told low (word_in place.at)) (role_of (kind_of c)) c bound point
+  pub other : role_of (kind_of c) ≡ name → ⊥
+
+abbrev pub LeafIn : Parsed → Scope → ℕ → Type 0
+LeafIn p scope c = Leaf (lows_in p.contents.now) (highs_in p.contents.now) p.nodes.now p.lists scope c
 
 -- ---- channel names
 
@@ -152,33 +168,6 @@ pub record Sought (low high heard : List ℕ) (n k : ℕ) (seen heard' : List �
   pub hung : Hung low high heard' (heard_after (place_in (packed low high) k 0 seen) seen k)
   pub size : length heard' ≡ length heard
 
--- a channel name's node was written, with its number, and r names are channel names now
-pub record ChannelDone (low high nodes heard : List ℕ) (i number : ℕ) (seen nodes' heard' : List ℕ) (r : ℕ) : Type 0 where
-  pub nodes-are : nodes' ≡ set nodes i (cell channel number 0 0)
-  pub count : r ≡ length seen
-  pub hung : Hung low high heard' seen
-  pub size : length heard' ≡ length heard
-
--- n channel names are met, and hang in their tree
-pub record Hearing (low high kinds heard : List ℕ) (n : ℕ) (seen : List ℕ) : Type 0 where
-  pub count : n ≡ length seen
-  pub room : n < length heard
-  pub few : n < field
-  pub hung : Hung low high heard seen
-  pub named : Named kinds seen
-
--- after a name is met
-unfoldable pub met_names : (ℕ → List ℕ) → List Variable → List ℕ → ℕ → Meaning → List ℕ
-met_names w vs seen k m = cond (is_channel_name m) (firsts w vs seen (k ∷ [])) seen
-
--- a name's node became nodes', and n of the names are channel names now
-pub record NameDone (low high kinds nodes heard : List ℕ) (i cell : ℕ) (seen nodes' heard' : List ℕ) (n : ℕ) : Type 0 where
-  pub nodes-are : nodes' ≡ set nodes i cell
-  pub count : n ≡ length seen
-  pub hung : Hung low high heard' seen
-  pub named : Named kinds seen
-  pub size : length heard' ≡ length heard
-
 -- ---- the walk
 
 -- what the walk holds is what it knows at a point; kinds: the kinds of the text's tokens
@@ -190,24 +179,34 @@ pub record Knows (low high kinds heard : List ℕ) (walk : Walk) (p : Point) : T
   pub sums : walk.sums ≡ p.sums
   pub definitions : walk.definitions ≡ p.definitions
 
--- a node that is no name, and a walk that stands before it
-pub record Turn (nodes : List ℕ) (lists : Lists) (walk : Walk) (c : ℕ) : Type 0 where
-  pub low : List ℕ
-  pub high : List ℕ
+abbrev pub KnowsIn : Parsed → List ℕ → List ℕ → Walk → Point → Type 0
+KnowsIn p kinds heard walk q = Knows (lows_in p.contents.now) (highs_in p.contents.now) kinds heard walk q
+
+-- the walk stands before a node with the cell c
+pub record Turn (low high nodes : List ℕ) (lists : Lists) (heard : List ℕ) (walk : Walk) (c : ℕ) : Type 0 where
   pub at : Lookup low high nodes lists
-  pub heard : List ℕ
   pub point : Point
   pub knows : Knows low high (kinds_in at) heard walk point
   pub fits : Fits (kinds_in at) c
   pub inside : role_of (kind_of c) ≡ ending → left_of c < length nodes
   pub safe : SafeBy (word_in at) (variables_in at) (Told low (word_in at)) (role_of (kind_of c)) c (third_of (get_or nodes (left_of c) 0)) point
-  pub other : role_of (kind_of c) ≡ name → ⊥
+  pub heard-room : length point.seen < length heard
+  pub heard-few : length point.seen < field
   pub sums-few : point.sums < field
   pub definitions-few : point.definitions < field
 
+abbrev pub TurnIn : Parsed → List ℕ → Walk → ℕ → Type 0
+TurnIn p heard walk c = Turn (lows_in p.contents.now) (highs_in p.contents.now) p.nodes.now p.lists heard walk c
+
 -- what is known after it
-abbrev pub turned : {nodes : List ℕ} {lists : Lists} {walk : Walk} {c : ℕ} → Turn nodes lists walk c → Point
-turned {nodes} {c = c} h = step_by (word_in h.at) (variables_in h.at) (definitions_of h.at) (role_of (kind_of c)) c (third_of (get_or nodes (left_of c) 0)) h.point
+abbrev pub turned : {low high nodes : List ℕ} {lists : Lists} {heard : List ℕ} {walk : Walk} {c : ℕ} → Turn low high nodes lists heard walk c → Point
+turned {nodes = nodes} {c = c} h = step_by (word_in h.at) (variables_in h.at) (definitions_of h.at) (role_of (kind_of c)) c (third_of (get_or nodes (left_of c) 0)) h.point
+
+-- r is the cell that takes the place of c, and the walk after it knows what it has to
+pub record Settled {low high nodes : List ℕ} {lists : Lists} {heard : List ℕ} {walk : Walk} {c : ℕ} (h : Turn low high nodes lists heard walk c) (heard' : List ℕ) (r : ℕ) (next : Walk) : Type 0 where
+  pub cell-is : r ≡ cell_by (word_in h.at) (variables_in h.at) (definitions_of h.at) (role_of (kind_of c)) c h.point
+  pub knows : Knows low high (kinds_in h.at) heard' next (turned h)
+  pub size : length heard' ≡ length heard
 
 -- a table of sums after a node: written where the node is a sum's
 unfoldable pub marked_by : ℕ → List ℕ → ℕ → List ℕ
@@ -219,37 +218,6 @@ first_node lists = lists.variables
 
 abbrev pub line_node : Lists → ℕ
 line_node lists = lists.root - lists.variables - lists.definitions
-
--- ---- one node
-
--- the walk stands before node i: the nodes from the first definition up to it are resolved, the others are those of the reader's table
-pub record Standing (low high nodes roots scopes heard : List ℕ) (lists : Lists) (walk : Walk) (i : ℕ) : Type 0 where
-  pub table : List ℕ
-  pub base : Base low high table lists
-  pub point : Point
-  pub point-is : point ≡ point_at base.world.word (variables base.world.model) (definitions base.world.model) table i
-  pub after : first_node lists ≤ i
-  pub before : i ≤ line_node lists
-  pub size : length nodes ≡ length table
-  pub ahead : (j : ℕ) → i ≤ j → get_or nodes j 0 ≡ get_or table j 0
-  pub numbers : (j : ℕ) → j < first_node lists → get_or nodes j 0 ≡ get_or table j 0
-  pub done : (j : ℕ) → first_node lists ≤ j → j < i → get_or nodes j 0 ≡ cell_of base.world.word (variables base.world.model) (definitions base.world.model) table j (point_at base.world.word (variables base.world.model) (definitions base.world.model) table j)
-  pub knows : Knows low high base.world.kinds heard walk point
-  pub safe : SafeBy base.world.word (variables base.world.model) (Told low base.world.word) (role_at table i) (get_or table i 0) (third_of (get_or table (left_of (get_or table i 0)) 0)) point
-  pub linked : role_at table i ≡ ending → (first_node lists ≤ left_of (get_or table i 0)) × (left_of (get_or table i 0) < i) × (role_at table (left_of (get_or table i 0)) ≡ action)
-  pub below : role_at table i ≡ sum → (token_of (get_or table i 0) < length roots) × (token_of (get_or table i 0) < length scopes) × (0 < i)
-  pub seen_few : length point.seen ≤ i
-  pub heard-room : length point.seen < length heard
-  pub sums-few : point.sums < field
-  pub definitions-few : point.definitions ≤ definition_limit
-
--- and after it
-pub record Stepped {low high nodes roots scopes heard : List ℕ} {lists : Lists} {walk : Walk} {i : ℕ} (h : Standing low high nodes roots scopes heard lists walk i) (nodes' roots' scopes' heard' : List ℕ) (r : Walk) : Type 0 where
-  pub nodes-are : nodes' ≡ set nodes i (cell_of h.base.world.word (variables h.base.world.model) (definitions h.base.world.model) h.table i h.point)
-  pub roots-are : roots' ≡ marked_by (get_or h.table i 0) roots (i - 1)
-  pub scopes-are : scopes' ≡ marked_by (get_or h.table i 0) scopes (scope_at h.point)
-  pub knows : Knows low high h.base.world.kinds heard' r (step h.base.world.word (variables h.base.world.model) (definitions h.base.world.model) h.table i h.point)
-  pub size : length heard' ≡ length heard
 
 -- ---- the whole walk
 

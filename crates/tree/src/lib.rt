@@ -144,14 +144,21 @@ const KINDS: u64 = 256;
 
 const FIELD: u64 = 65536;
 
+// A node with this kind and these fields.
+pub fn cell(kind: u8, token: usize, left: usize, third: usize) -> u64
+    requires { (token < field) × (left < field) × (third < field) }
+    ensures { result ≡ cell kind token left third }
+{
+    kind as u64 + KINDS * (token as u64 + FIELD * (left as u64 + FIELD * third as u64))
+}
+
 // Writes the node k, if the table has one.
 pub fn node(nodes: &mut [u64], k: usize, kind: u8, token: usize, left: usize, third: usize)
     requires { (token < field) × (left < field) × (third < field) }
     ensures { nodes.new ≡ set nodes.old k (cell kind token left third) }
 {
     if k < nodes.len() {
-        nodes[k] = kind as u64
-            + KINDS * (token as u64 + FIELD * (left as u64 + FIELD * third as u64));
+        nodes[k] = cell(kind, token, left, third);
     }
 }
 

@@ -1,27 +1,28 @@
 -- `names::bound_fault` meets its contract: by the question.
+use Rattle.token.specs.Contents.{lows_in, highs_in}
 use Rattle.names.proofs.Repeats.{bound-inside, fresh-bound, bound-limits, bound-fresh, bound-even, bound-uneven}
 use Rattle.names.proofs.bound_fault.Goals as goal
 
 pub over_fault-requires : goal.over_fault-requires
 over_fault-requires c =
-    (bound-inside c.args.parsed.low.now c.args.parsed.high.now c.args.parsed.nodes.now c.args.parsed.lists c.args.scope c.args.first c.args.n c.args.sets c.requires).1
+    (bound-inside (lows_in c.args.parsed.now.contents.now) (highs_in c.args.parsed.now.contents.now) c.args.parsed.now.nodes.now c.args.parsed.now.lists c.args.scope c.args.first c.args.n c.args.sets c.requires).1
 
 pub repeated_fault-requires : goal.repeated_fault-requires
 repeated_fault-requires c =
-    fresh-bound c.args.parsed.low.now c.args.parsed.high.now c.args.parsed.nodes.now c.args.parsed.lists c.args.scope c.args.first c.args.n c.args.sets c.in-Fresh.is c.requires
+    fresh-bound (lows_in c.args.parsed.now.contents.now) (highs_in c.args.parsed.now.contents.now) c.args.parsed.now.nodes.now c.args.parsed.now.lists c.args.scope c.args.first c.args.n c.args.sets c.in-Fresh.is c.requires
 
 pub returns-then-n-sets : goal.returns-then-n-sets
 returns-then-n-sets c =
-    bound-even c.args.parsed.low.now c.args.parsed.high.now c.args.parsed.nodes.now c.args.parsed.lists c.args.scope c.args.first c.args.n c.args.sets c.in-Given.is c.if-n-sets.true
+    bound-even (lows_in c.args.parsed.now.contents.now) (highs_in c.args.parsed.now.contents.now) c.args.parsed.now.nodes.now c.args.parsed.now.lists c.args.scope c.args.first c.args.n c.args.sets c.in-Given.is c.if-n-sets.true
 
 pub returns-in-Limits : goal.returns-in-Limits
 returns-in-Limits c =
-    bound-limits c.args.parsed.low.now c.args.parsed.high.now c.args.parsed.nodes.now c.args.parsed.lists c.args.scope c.args.first c.args.n c.args.sets c.in-Limits.is c.over_fault.ensures
+    bound-limits (lows_in c.args.parsed.now.contents.now) (highs_in c.args.parsed.now.contents.now) c.args.parsed.now.nodes.now c.args.parsed.now.lists c.args.scope c.args.first c.args.n c.args.sets c.in-Limits.is c.over_fault.ensures
 
 pub returns-in-Fresh : goal.returns-in-Fresh
 returns-in-Fresh c =
-    bound-fresh c.args.parsed.low.now c.args.parsed.high.now c.args.parsed.nodes.now c.args.parsed.lists c.args.scope c.args.first c.args.n c.args.sets c.in-Fresh.is c.repeated_fault.ensures
+    bound-fresh (lows_in c.args.parsed.now.contents.now) (highs_in c.args.parsed.now.contents.now) c.args.parsed.now.nodes.now c.args.parsed.now.lists c.args.scope c.args.first c.args.n c.args.sets c.in-Fresh.is c.repeated_fault.ensures
 
 pub returns-else-n-sets : goal.returns-else-n-sets
 returns-else-n-sets c =
-    bound-uneven c.args.parsed.low.now c.args.parsed.high.now c.args.parsed.nodes.now c.args.parsed.lists c.args.scope c.args.first c.args.n c.args.sets c.in-Given.is c.if-n-sets.false
+    bound-uneven (lows_in c.args.parsed.now.contents.now) (highs_in c.args.parsed.now.contents.now) c.args.parsed.now.nodes.now c.args.parsed.now.lists c.args.scope c.args.first c.args.n c.args.sets c.in-Given.is c.if-n-sets.false

@@ -4,6 +4,7 @@ use Prim.Native.Nat.{ℕ}
 use native.Mathlib.Omega.{arith}
 use lib.ListN.{get_or}
 use Rattle.tree.specs.Node.{third_of}
+use Rattle.token.proofs.Columns.{length-lows}
 use Rattle.names.proofs.Settled.{name-inside, reach-definitions}
 use Rattle.names.proofs.Uses.{variables-below, not-defined, defined-inside, defined-takes}
 use Rattle.names.proofs.is_callable.Goals as goal
@@ -14,7 +15,7 @@ overflow_sub-first c =
 
 pub listed-requires : goal.listed-requires
 listed-requires c =
-    record { reach = reach-definitions c.requires.0 c.args.parsed.lists.definitions (omega arith); k_in_bounds = name-inside c.requires.0 c.args.k c.requires.1 }
+    record { reach = reach-definitions c.requires.0 c.args.parsed.now.lists.definitions (omega arith); k_in_bounds = omega (arith, length-lows c.args.parsed.now.contents.now, (name-inside c.requires.0 c.args.k c.requires.1).0) }
 
 pub returns-in_default : goal.returns-in_default
 returns-in_default c =
@@ -42,4 +43,4 @@ bounds-parsed-left_of c =
 
 pub returns : goal.returns
 returns c =
-    λ h e. defined-takes h c.args.k c.args.n e c.listed.ensures c.in-Some.is c.third_of.result (c.third_of.ensures ∙ ap (λ (i : ℕ). third_of (get_or c.args.parsed.nodes.now i 0)) c.left_of.ensures)
+    λ h e. defined-takes h c.args.k c.args.n e c.listed.ensures c.in-Some.is c.third_of.result (c.third_of.ensures ∙ ap (λ (i : ℕ). third_of (get_or c.args.parsed.now.nodes.now i 0)) c.left_of.ensures)

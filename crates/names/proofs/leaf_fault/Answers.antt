@@ -1,5 +1,7 @@
 -- `names::leaf_fault` meets its contract: by the question.
 use native.Mathlib.Omega.{arith}
+use Rattle.token.specs.Contents.{lows_in, highs_in}
+use Rattle.token.proofs.Columns.{length-lows}
 use Rattle.names.proofs.Settled.{root_in}
 use Rattle.names.proofs.Judges.{whole-there, leaf-limits, leaf-fresh, given-leaf, leaf-given}
 use Rattle.names.proofs.leaf_fault.Goals as goal
@@ -14,20 +16,20 @@ bounds-parsed-i c =
 
 pub number_fault-requires : goal.number_fault-requires
 number_fault-requires c =
-    λ e. let r = whole-there c.args.parsed.low.now c.args.parsed.high.now c.args.parsed.nodes.now c.args.parsed.lists c.args.i c.requires.1 c.kind_of-kind.result c.token_of-k.result c.kind_of-kind.ensures c.token_of-k.ensures c.requires.0.world e in (r.0, r.1)
+    λ e. let r = whole-there (lows_in c.args.parsed.now.contents.now) (highs_in c.args.parsed.now.contents.now) c.args.parsed.now.nodes.now c.args.parsed.now.lists c.args.i c.requires.1 c.kind_of-kind.result c.token_of-k.result c.kind_of-kind.ensures c.token_of-k.ensures c.requires.0.world e in (omega (arith, length-lows c.args.parsed.now.contents.now), r.1)
 
 pub used_fault-requires : goal.used_fault-requires
 used_fault-requires c =
-    given-leaf c.args.parsed.low.now c.args.parsed.high.now c.args.parsed.nodes.now c.args.parsed.lists c.args.i c.requires.1 c.kind_of-kind.result c.token_of-k.result c.kind_of-kind.ensures c.token_of-k.ensures c.args.scope c.in-Given.is c.requires.0
+    given-leaf (lows_in c.args.parsed.now.contents.now) (highs_in c.args.parsed.now.contents.now) c.args.parsed.now.nodes.now c.args.parsed.now.lists c.args.i c.requires.1 c.kind_of-kind.result c.token_of-k.result c.kind_of-kind.ensures c.token_of-k.ensures c.args.scope c.in-Given.is c.requires.0
 
 pub returns-in-Limits : goal.returns-in-Limits
 returns-in-Limits c =
-    leaf-limits c.args.parsed.low.now c.args.parsed.high.now c.args.parsed.nodes.now c.args.parsed.lists c.args.i c.requires.1 c.kind_of-kind.result c.token_of-k.result c.kind_of-kind.ensures c.token_of-k.ensures c.args.scope c.in-Limits.is c.number_fault.ensures
+    leaf-limits (lows_in c.args.parsed.now.contents.now) (highs_in c.args.parsed.now.contents.now) c.args.parsed.now.nodes.now c.args.parsed.now.lists c.args.i c.requires.1 c.kind_of-kind.result c.token_of-k.result c.kind_of-kind.ensures c.token_of-k.ensures c.args.scope c.in-Limits.is c.number_fault.ensures
 
 pub returns-in-Fresh : goal.returns-in-Fresh
 returns-in-Fresh c =
-    leaf-fresh c.args.parsed.low.now c.args.parsed.high.now c.args.parsed.nodes.now c.args.parsed.lists c.args.i c.requires.1 c.kind_of-kind.result c.token_of-k.result c.kind_of-kind.ensures c.token_of-k.ensures c.args.scope c.in-Fresh.is
+    leaf-fresh (lows_in c.args.parsed.now.contents.now) (highs_in c.args.parsed.now.contents.now) c.args.parsed.now.nodes.now c.args.parsed.now.lists c.args.i c.requires.1 c.kind_of-kind.result c.token_of-k.result c.kind_of-kind.ensures c.token_of-k.ensures c.args.scope c.in-Fresh.is
 
 pub returns-in-Given : goal.returns-in-Given
 returns-in-Given c =
-    leaf-given c.args.parsed.low.now c.args.parsed.high.now c.args.parsed.nodes.now c.args.parsed.lists c.args.i c.requires.1 c.kind_of-kind.result c.token_of-k.result c.kind_of-kind.ensures c.token_of-k.ensures c.args.scope c.in-Given.is c.used_fault.ensures
+    leaf-given (lows_in c.args.parsed.now.contents.now) (highs_in c.args.parsed.now.contents.now) c.args.parsed.now.nodes.now c.args.parsed.now.lists c.args.i c.requires.1 c.kind_of-kind.result c.token_of-k.result c.kind_of-kind.ensures c.token_of-k.ensures c.args.scope c.in-Given.is c.used_fault.ensures

@@ -16,8 +16,8 @@ leaf_fault-requires c =
 
 pub loop-i-preserved : goal.loop-i-preserved
 loop-i-preserved c =
-    λ h. leaves-on c.args.parsed.nodes.now (faults_at h) c.loop-i.i c.args.to (omega arith) c.loop-i.found c.leaf_fault.result c.earlier-found.result (c.leaf_fault.ensures h) c.earlier-found.ensures ∙ c.loop-i.invariant h
+    λ h. leaves-on c.args.parsed.now.nodes.now (faults_at h) c.loop-i.i c.args.to (omega arith) c.loop-i.found c.leaf_fault.result c.earlier-found.result (c.leaf_fault.ensures h) c.earlier-found.ensures ∙ c.loop-i.invariant h
 
 pub returns : goal.returns
 returns c =
-    λ h. leaves-end c.args.parsed.nodes.now (faults_at h) c.loop-i.i c.args.to (omega arith) c.loop-i.found ∙ c.loop-i.invariant h
+    λ h. leaves-end c.args.parsed.now.nodes.now (faults_at h) c.loop-i.i c.args.to (omega arith) c.loop-i.found ∙ c.loop-i.invariant h

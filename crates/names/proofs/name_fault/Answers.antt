@@ -7,6 +7,7 @@ use lib.ListN.{get_or}
 use Rattle.tree.specs.Node.{kind_of}
 use Rattle.model.specs.Lists.{when, earlier, least}
 use Rattle.names.specs.Faults.{asks_names}
+use Rattle.token.proofs.Columns.{length-lows}
 use Rattle.names.proofs.Settled.{name-inside, in_scope, reach-variables}
 use Rattle.names.proofs.Lookups.{there, absent}
 use Rattle.names.proofs.Uses.{local-used, not_listed, listed-inside, any-scale, whole-variable}
@@ -24,7 +25,7 @@ returns-then-is_some c =
 
 pub listed-requires : goal.listed-requires
 listed-requires c =
-    record { reach = reach-variables c.requires.0.world c.args.parsed.lists.variables (omega arith); k_in_bounds = name-inside c.requires.0.world c.args.k c.requires.1 }
+    record { reach = reach-variables c.requires.0.world c.args.parsed.now.lists.variables (omega arith); k_in_bounds = omega (arith, length-lows c.args.parsed.now.contents.now, (name-inside c.requires.0.world c.args.k c.requires.1).0) }
 
 pub returns-in_default : goal.returns-in_default
 returns-in_default c =
@@ -35,7 +36,7 @@ unfolding least when
 returns-then-scaling c =
     λ h e. elim c.then-scaling.branch [
       | then-scaling-via-then-scaling w ↦ any-scale h c.args.k e c.args.scaling c.local_named.ensures (absent _ (sym c.is_some.ensures ∙ c.if-is_some.false)) c.listed.ensures c.in-Some.is w.if-scaling.true
-      | then-scaling-via-else-scaling+then-is_whole w ↦ whole-variable h c.args.k e c.args.scaling c.local_named.ensures (absent _ (sym c.is_some.ensures ∙ c.if-is_some.false)) c.listed.ensures c.in-Some.is w.if-scaling.false w.kind_of.result (w.kind_of.ensures ∙ ap (λ (l : ℕ). kind_of (get_or c.args.parsed.nodes.now l 0)) w.left_of.ensures) true (sym w.is_whole.ensures ∙ w.if-is_whole.true)
+      | then-scaling-via-else-scaling+then-is_whole w ↦ whole-variable h c.args.k e c.args.scaling c.local_named.ensures (absent _ (sym c.is_some.ensures ∙ c.if-is_some.false)) c.listed.ensures c.in-Some.is w.if-scaling.false w.kind_of.result (w.kind_of.ensures ∙ ap (λ (l : ℕ). kind_of (get_or c.args.parsed.now.nodes.now l 0)) w.left_of.ensures) true (sym w.is_whole.ensures ∙ w.if-is_whole.true)
     ]
 
 pub overflow_sub-root : goal.overflow_sub-root
@@ -61,4 +62,4 @@ bounds-parsed-left_of c =
 pub returns : goal.returns
 unfolding least when earlier
 returns c =
-    λ h e. whole-variable h c.args.k e c.args.scaling c.local_named.ensures (absent _ (sym c.is_some.ensures ∙ c.if-is_some.false)) c.listed.ensures c.in-Some.is c.if-scaling.false c.kind_of.result (c.kind_of.ensures ∙ ap (λ (l : ℕ). kind_of (get_or c.args.parsed.nodes.now l 0)) c.left_of.ensures) false (sym c.is_whole.ensures ∙ c.if-is_whole.false)
+    λ h e. whole-variable h c.args.k e c.args.scaling c.local_named.ensures (absent _ (sym c.is_some.ensures ∙ c.if-is_some.false)) c.listed.ensures c.in-Some.is c.if-scaling.false c.kind_of.result (c.kind_of.ensures ∙ ap (λ (l : ℕ). kind_of (get_or c.args.parsed.now.nodes.now l 0)) c.left_of.ensures) false (sym c.is_whole.ensures ∙ c.if-is_whole.false)

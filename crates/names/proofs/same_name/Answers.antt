@@ -1,11 +1,7 @@
--- `names::same_name` meets its contract: the first words are compared, then the second.
-use Rattle.names.proofs.Lookups.{by_first, by-second}
+-- `names::same_name` meets its contract: two contents are the same where both of their numbers are.
+use Rattle.token.proofs.Columns.{low_at, high_at}
+use Rattle.names.proofs.Lookups.{same-packed}
 use Rattle.names.proofs.same_name.Goals as goal
 
-pub returns-then-low-i : goal.returns-then-low-i
-returns-then-low-i c =
-    by-second c.args.low.now c.args.high.now c.args.i c.args.j c.if-low-i.true
-
-pub returns-else-low-i : goal.returns-else-low-i
-returns-else-low-i c =
-    by_first c.args.low.now c.args.high.now c.args.i c.args.j c.if-low-i.false
+pub returns : goal.returns
+returns c = rw same-packed (simp (low_at, high_at) c.eq.ensures)

@@ -2,6 +2,7 @@
 use mathlib.Core.Path.{refl, ◌∙◌}
 use native.Mathlib.Omega.{arith}
 use Rattle.names.specs.Faults.{asks_names}
+use Rattle.token.proofs.Columns.{length-lows}
 use Rattle.names.proofs.Settled.{name-inside, in_scope, reach-variables}
 use Rattle.names.proofs.Repeats.{taken}
 use Rattle.names.proofs.taken_fault.Goals as goal
@@ -9,7 +10,7 @@ use Rattle.names.proofs.taken_fault.Goals.{then-is_some, else-is_some}
 
 pub listed-requires : goal.listed-requires
 listed-requires c =
-    record { reach = reach-variables c.requires.0.world c.args.parsed.lists.variables (omega arith); k_in_bounds = name-inside c.requires.0.world c.args.k c.requires.1 }
+    record { reach = reach-variables c.requires.0.world c.args.parsed.now.lists.variables (omega arith); k_in_bounds = omega (arith, length-lows c.args.parsed.now.contents.now, (name-inside c.requires.0.world c.args.k c.requires.1).0) }
 
 pub local_named-requires : goal.local_named-requires
 unfolding asks_names

@@ -1,5 +1,7 @@
 use mathlib.Core.Path.{◌≡◌}
 use native.Mathlib.Omega.{arith}
+use lib.ListN.{length}
+use Rattle.model.specs.Limits.{local_limit}
 use Rattle.model.specs.Lists.{every_other}
 use Rattle.names.proofs.Scopes.{every_more, extended_none, extended-more}
 use Rattle.names.proofs.with_locals.Goals as goal
@@ -7,11 +9,11 @@ use Rattle.names.proofs.with_locals.Goals as goal
 pub loop-j-init : goal.loop-j-init
 unfolding every_other
 loop-j-init c =
-    extended_none c.args.scope c.requires.0 c.requires.1
+    let f : length c.args.scope.names ≡ local_limit = omega arith in extended_none c.args.scope f
 
 pub with_local-inner-requires : goal.with_local-inner-requires
 with_local-inner-requires c =
-    (c.loop-j.invariant.full, omega (arith, c.loop-j.invariant.count), omega (arith, c.requires.2))
+    omega arith
 
 pub loop-j-preserved : goal.loop-j-preserved
 loop-j-preserved c =

@@ -1,9 +1,14 @@
-use Rattle.settle.proofs.Finds.{variables-reach, not_named, named-inside, named-number}
+use Rattle.token.proofs.Columns.{length-lows}
+use Rattle.settle.proofs.Finds.{in_tables, variables-reach, not_named, named-inside, named-number}
 use mathlib.Core.Path.{ap}
 use Prim.Native.Nat.{ℕ}
 use native.Mathlib.Omega.{arith}
 use lib.ListN.{get_or}
 use Rattle.settle.proofs.number_named.Goals as goal
+
+pub listed-requires-clause-k_in_bounds : goal.listed-requires-clause-k_in_bounds
+listed-requires-clause-k_in_bounds c =
+    omega (arith, (in_tables c.requires.0 c.args.k c.requires.1).0, length-lows c.args.parsed.contents.now)
 
 pub listed-requires-clause-reach : goal.listed-requires-clause-reach
 listed-requires-clause-reach c =

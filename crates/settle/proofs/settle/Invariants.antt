@@ -1,3 +1,4 @@
+use Rattle.token.specs.Contents.{lows_in, highs_in}
 use Rattle.settle.specs.Places.{Resolvable}
 use Rattle.settle.proofs.Resolving.{Progress}
 use Prim.Native.Nat.{◌+◌, ◌≤◌}
@@ -5,4 +6,4 @@ use Rattle.settle.proofs.settle.Given as goal
 
 abbrev pub invariant-loop-i : goal.invariant-loop-i
 invariant-loop-i l =
-    (l.i ≤ l.line + 1) × ((h : Resolvable l.low l.high l.initial.nodes l.initial.roots l.initial.scopes l.initial.heard l.lists) → Progress h l.i l.nodes l.roots l.scopes l.heard l.walk)
+    (l.i ≤ l.line + 1) × ((h : Resolvable (lows_in l.contents) (highs_in l.contents) l.initial.nodes l.initial.roots l.initial.scopes l.initial.heard l.lists) → Progress h l.i l.nodes l.roots l.scopes l.heard l.walk)

@@ -1,31 +1,49 @@
-use Rattle.settle.proofs.Stands.{inside-nodes, name-asked, name-stepped, leaf, turn, sum-asked, node-stepped}
+use Rattle.settle.proofs.Roles.{name-kind}
+use Rattle.settle.proofs.Meets.{here, leaf, leaf-settled, name-fits, heard-inside, value-settled, channel-settled, place-small}
 use mathlib.Core.Path.{refl, sym, ◌∙◌}
+use native.Mathlib.Omega.{arith}
 use Rattle.settle.proofs.settle_node.Goals as goal
 
-pub bounds-nodes-i : goal.bounds-nodes-i
-bounds-nodes-i c =
-    inside-nodes c.requires
+pub leaf_cell-cell-requires : goal.leaf_cell-cell-requires
+leaf_cell-cell-requires c =
+    leaf c.requires (name-kind _ (λ q. c.if-kind_of-ne-NAMED.true (c.kind_of.ensures ∙ q)))
 
-pub settle_name-channels-requires : goal.settle_name-channels-requires
-settle_name-channels-requires c =
-    name-asked c.requires (sym c.kind_of.ensures ∙ c.if-kind_of-eq-NAMED.true) c.token_of.result c.token_of.ensures
+pub walk_after-requires : goal.walk_after-requires
+walk_after-requires c =
+    (_, c.requires, name-kind _ (λ q. c.if-kind_of-ne-NAMED.true (c.kind_of.ensures ∙ q)))
 
-pub returns-then-kind_of-eq-NAMED : goal.returns-then-kind_of-eq-NAMED
-returns-then-kind_of-eq-NAMED c =
-    λ h. name-stepped h (sym c.kind_of.ensures ∙ c.if-kind_of-eq-NAMED.true) c.token_of.result _ _ _ c.token_of.ensures c.settle_name-channels.ensures refl refl refl
+pub returns-then-kind_of-ne-NAMED : goal.returns-then-kind_of-ne-NAMED
+returns-then-kind_of-ne-NAMED c =
+    λ h. let n = name-kind _ (λ q. c.if-kind_of-ne-NAMED.true (c.kind_of.ensures ∙ q)) in leaf-settled h n _ _ c.leaf_cell-cell.ensures (c.walk_after.ensures _ h n)
 
-pub walk_after-next-requires : goal.walk_after-next-requires
-walk_after-next-requires c =
-    turn c.requires (λ q. c.if-kind_of-eq-NAMED.false (c.kind_of.ensures ∙ q))
+pub value_named-requires : goal.value_named-requires
+value_named-requires c =
+    (here c.requires, rw c.token_of-k.ensures (name-fits c.requires (sym c.kind_of.ensures ∙ c.if-kind_of-ne-NAMED.false)))
 
-pub settle_leaf-requires : goal.settle_leaf-requires
-settle_leaf-requires c =
-    leaf c.requires (λ q. c.if-kind_of-eq-NAMED.false (c.kind_of.ensures ∙ q))
+pub returns-in-Some : goal.returns-in-Some
+returns-in-Some c =
+    λ h. let e = sym c.kind_of.ensures ∙ c.if-kind_of-ne-NAMED.false in
+    value-settled h e _ _ c.in-Some.is (rw c.token_of-k.ensures at (c.value_named.ensures (here h) h.point.seen (rw c.token_of-k.ensures (name-fits h e))))
 
-pub mark_sum-requires : goal.mark_sum-requires
-mark_sum-requires c =
-    sum-asked c.requires (λ q. c.if-kind_of-eq-NAMED.false (c.kind_of.ensures ∙ q)) _ _ refl refl
+pub channel_place-c-requires : goal.channel_place-c-requires
+channel_place-c-requires c =
+    (c.requires.point.seen, rw c.token_of-k.ensures (heard-inside c.requires (sym c.kind_of.ensures ∙ c.if-kind_of-ne-NAMED.false)))
+
+pub overflow_add-c : goal.overflow_add-c
+overflow_add-c c =
+    let g = heard-inside c.requires (sym c.kind_of.ensures ∙ c.if-kind_of-ne-NAMED.false) in
+    let s = rw c.token_of-k.ensures at (c.channel_place-c.ensures c.requires.point.seen) in
+    omega (arith, place-small g (s g))
+
+pub cell-requires : goal.cell-requires
+cell-requires c =
+    let g = heard-inside c.requires (sym c.kind_of.ensures ∙ c.if-kind_of-ne-NAMED.false) in
+    let s = rw c.token_of-k.ensures at (c.channel_place-c.ensures c.requires.point.seen) in
+    (place-small g (s g), omega arith, omega arith)
 
 pub returns : goal.returns
 returns c =
-    λ h. node-stepped h (λ q. c.if-kind_of-eq-NAMED.false (c.kind_of.ensures ∙ q)) _ _ _ c.walk_after-next.result _ _ refl refl c.walk_after-next.ensures c.settle_leaf.ensures c.mark_sum.ensures.roots_after c.mark_sum.ensures.scopes_after
+    λ h. let e = sym c.kind_of.ensures ∙ c.if-kind_of-ne-NAMED.false in
+    let v = rw c.token_of-k.ensures at (c.value_named.ensures (here h) h.point.seen (rw c.token_of-k.ensures (name-fits h e))) in
+    let s = (rw c.token_of-k.ensures at (c.channel_place-c.ensures h.point.seen)) (heard-inside h e) in
+    channel-settled h e c.channel_place-c.result c.cell.result _ _ _ c.in_default.is v s c.cell.ensures refl c.max-channels.ensures refl refl

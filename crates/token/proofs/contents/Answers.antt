@@ -1,5 +1,6 @@
 use mathlib.Core.Path.{◌≡◌}
 use native.Mathlib.Omega.{arith}
+use Rattle.token.proofs.Columns.{length-lows, length-highs, lows-set, highs-set}
 use Rattle.token.proofs.Tells.{told_none, held-kind, held_place, held-size, held-room, told_more}
 use Rattle.token.proofs.contents.Goals as goal
 
@@ -29,7 +30,8 @@ slice_bounds-content_of-end c =
 
 pub loop-i-preserved : goal.loop-i-preserved
 loop-i-preserved c =
-    told_more c.requires.held c.loop-i.i (omega arith) (omega arith) (omega arith) (rw (c.from-at.ensures, c.from.ensures) at c.content_of-c.ensures) c.loop-i.invariant
+    rw (lows-set, highs-set)
+    (told_more c.requires.held c.loop-i.i (omega arith) (rw length-lows (omega arith)) (rw length-highs (omega arith)) (rw (c.from-at.ensures, c.from.ensures) at c.content_of.ensures) c.loop-i.invariant)
 
 pub returns : goal.returns
 returns c =

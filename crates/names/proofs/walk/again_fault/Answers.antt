@@ -1,4 +1,6 @@
 -- `walk::again_fault` meets its contract: by what is found among the names before.
+use Rattle.token.specs.Contents.{lows_in, highs_in}
+use Rattle.token.proofs.Columns.{length-lows}
 use Rattle.names.proofs.Titles.{again, reach-less}
 use Rattle.names.specs.Lists.{packed, name_at, names_down}
 use mathlib.Core.Path.{◌∙◌}
@@ -12,8 +14,8 @@ listed_name-k-requires c =
 
 pub listed-requires : goal.listed-requires
 listed-requires c =
-    let r = c.requires.each c.args.j (omega arith) in record { reach = reach-less c.args.parsed.low.now c.args.parsed.high.now c.args.parsed.nodes.now c.args.first (c.args.j + 1) c.args.j (omega arith) c.requires; k_in_bounds = rw c.listed_name-k.ensures (r.in-low, r.in-high) }
+    let r = c.requires.each c.args.j (omega arith) in record { reach = reach-less (lows_in c.args.parsed.now.contents.now) (highs_in c.args.parsed.now.contents.now) c.args.parsed.now.nodes.now c.args.first (c.args.j + 1) c.args.j (omega arith) c.requires; k_in_bounds = rw (c.listed_name-k.ensures, ← length-lows c.args.parsed.now.contents.now) r.in-low }
 
 pub returns : goal.returns
 returns c =
-    c.then_some.ensures ∙ rw c.is_some.ensures (again (packed c.args.parsed.low.now c.args.parsed.high.now) (names_down c.args.parsed.nodes.now c.args.first c.args.j) c.listed_name-k.result (name_at c.args.parsed.nodes.now (c.args.first - c.args.j)) c.listed_name-k.ensures c.listed.result c.listed.ensures)
+    c.then_some.ensures ∙ rw c.is_some.ensures (again (packed (lows_in c.args.parsed.now.contents.now) (highs_in c.args.parsed.now.contents.now)) (names_down c.args.parsed.now.nodes.now c.args.first c.args.j) c.listed_name-k.result (name_at c.args.parsed.now.nodes.now (c.args.first - c.args.j)) c.listed_name-k.ensures c.listed.result c.listed.ensures)

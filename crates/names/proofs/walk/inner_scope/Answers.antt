@@ -3,7 +3,7 @@ use Rattle.names.proofs.walk.inner_scope.Goals as goal
 
 pub with_locals-requires : goal.with_locals-requires
 with_locals-requires c =
-    (c.requires.1, c.requires.2, rw (c.token_of.ensures, c.third_of.ensures) c.requires.3)
+    rw (c.token_of.ensures, c.third_of.ensures) c.requires.1
 
 pub returns : goal.returns
 returns c =

@@ -15,7 +15,7 @@ bounds-parsed-root c =
 
 pub returns-then-is_lone : goal.returns-then-is_lone
 returns-then-is_lone c =
-    λ h x hx. lone-none c.args.parsed.nodes.now c.args.kinds.now h.setting.world.word h.closes (faults_at h.setting) x c.args.from c.args.root hx c.is_lone.result c.is_lone.ensures c.if-is_lone.true
+    λ h x hx. lone-none c.args.parsed.now.nodes.now c.args.kinds.now h.setting.world.word h.closes (faults_at h.setting) x c.args.from c.args.root hx c.is_lone.result c.is_lone.ensures c.if-is_lone.true
 
 pub overflow_add-root : goal.overflow_add-root
 overflow_add-root c =
@@ -27,4 +27,4 @@ leaves_fault-requires c =
 
 pub returns : goal.returns
 returns c =
-    λ h x hx. not-lone c.args.parsed.nodes.now c.args.kinds.now h.setting.world.word h.closes (faults_at h.setting) x c.args.from c.args.root hx c.is_lone.result c.is_lone.ensures c.if-is_lone.false c.leaves_fault.result (c.leaves_fault.ensures h.setting)
+    λ h x hx. not-lone c.args.parsed.now.nodes.now c.args.kinds.now h.setting.world.word h.closes (faults_at h.setting) x c.args.from c.args.root hx c.is_lone.result c.is_lone.ensures c.if-is_lone.false c.leaves_fault.result (c.leaves_fault.ensures h.setting)

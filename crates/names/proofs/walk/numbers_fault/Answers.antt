@@ -1,4 +1,5 @@
 -- `walk::numbers_fault` meets its contract: by the question.
+use Rattle.token.specs.Contents.{lows_in, highs_in}
 use Rattle.names.proofs.Titles.{numbers-limits, numbers-free}
 use Rattle.names.proofs.Lines.{setting-none}
 use Rattle.names.proofs.Settled.{vs-few}
@@ -11,8 +12,8 @@ leaves_fault-requires c =
 
 pub returns-in-Limits : goal.returns-in-Limits
 returns-in-Limits c =
-    numbers-limits c.args.parsed.low.now c.args.parsed.high.now c.args.parsed.nodes.now c.args.parsed.lists c.no_locals.result c.no_locals.ensures c.in-Limits.is c.leaves_fault.ensures
+    numbers-limits (lows_in c.args.parsed.now.contents.now) (highs_in c.args.parsed.now.contents.now) c.args.parsed.now.nodes.now c.args.parsed.now.lists c.no_locals.result c.no_locals.ensures c.in-Limits.is c.leaves_fault.ensures
 
 pub returns-in-Fresh : goal.returns-in-Fresh
 returns-in-Fresh c =
-    numbers-free c.args.parsed.low.now c.args.parsed.high.now c.args.parsed.nodes.now c.args.parsed.lists c.in-Fresh.is
+    numbers-free (lows_in c.args.parsed.now.contents.now) (highs_in c.args.parsed.now.contents.now) c.args.parsed.now.nodes.now c.args.parsed.now.lists c.in-Fresh.is

@@ -10,11 +10,11 @@ overflow_sub-below c =
 
 pub list_fault-names-requires : goal.list_fault-names-requires
 list_fault-names-requires c =
-    reach-variables c.requires.0.world c.args.parsed.lists.variables (omega arith)
+    reach-variables c.requires.0.world c.args.parsed.now.lists.variables (omega arith)
 
 pub list_fault-titles-requires : goal.list_fault-titles-requires
 list_fault-titles-requires c =
-    reach-definitions c.requires.0.world c.args.parsed.lists.definitions (omega arith)
+    reach-definitions c.requires.0.world c.args.parsed.now.lists.definitions (omega arith)
 
 pub numbers_fault-numbers-requires : goal.numbers_fault-numbers-requires
 numbers_fault-numbers-requires c =

@@ -14,7 +14,7 @@ use Rattle.grammar.specs.Syntax.{wide}
 use Rattle.grammar.proofs.Follows.{join, fails, takes}
 use Rattle.grammar.proofs.Prepends.{Prepends}
 use Rattle.tree.specs.Table.{Two}
-use Rattle.tree.specs.Reading.{place, Parsed, Extended, Read}
+use Rattle.tree.specs.Reading.{place, place_counted, Parsed, Extended, Tallied, Read, Counted}
 use Rattle.tree.proofs.Interval.{Interval}
 use Rattle.tree.proofs.Spans.{span-token, ◌then◌, span-as, Wrote, span-wrote, wrote-size, span-place, seen-later, seen-two, next-at, fault-at, made_of, fault-size, extended-as, parsed-grown, made-grown, grown-joined}
 
@@ -30,6 +30,10 @@ Answers x flat holds ts t t' at used r = Follows ts at x (place r) × Parsed fla
 -- and of one that reads more after a tree
 abbrev pub Continues : {T X : Type 0} → List Sym → (T → List ℕ → List ℕ) → (X → T → X) → (List ℕ → X → ℕ → ℕ → Type 0) → List ℕ → List ℕ → List ℕ → ℕ → ℕ → Read → Type 0
 Continues x flat grow holds ts t t' at left r = Follows ts at x (place r) × Extended flat grow holds holds ts t t' at left r
+
+-- the two promises of a function that reads the symbols x as a tree and counts
+abbrev pub Counts : {T : Type 0} → List Sym → (T → List ℕ → List ℕ) → (T → ℕ) → (List ℕ → T → ℕ → ℕ → Type 0) → List ℕ → List ℕ → List ℕ → ℕ → ℕ → ℕ → Counted → Type 0
+Counts x flat count holds ts t t' at used c r = Follows ts at x (place_counted r) × Tallied flat count holds ts t t' at used c r
 
 -- a first part fails
 pub first-fails : {A T : Type 0} (x y : List Sym) (flat_a : A → List ℕ → List ℕ) (part : List ℕ → A → ℕ → ℕ → Type 0) (flat : T → List ℕ → List ℕ) (holds : List ℕ → T → ℕ → ℕ → Type 0) (ts t t₁ : List ℕ) (at used : ℕ) {r : Read} {k : ℕ} → r ≡ Err k → Answers x flat_a part ts t t₁ at used r → Answers (x ++ y) flat holds ts t t₁ at used (Err k)

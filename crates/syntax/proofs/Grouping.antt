@@ -23,10 +23,11 @@ use Rattle.tree.proofs.Holds.{branch-interval, branches-interval, sum-interval, 
 use Rattle.tree.proofs.Spans.{span-token, ◌then◌, Wrote, span-wrote, span-place, ready-after, ready-token, seen_one, counted-next-at, counted-fault-at, tally-of, tallied-as, counted-fault-size}
 use Rattle.syntax.specs.Judged.{written_sum, count_sum}
 use Rattle.syntax.specs.Processes.{ItemList, flat_call, call_at, flat_item_list, sums_item_list, item_list_at, flat_group, group_at, sums_branches, branches_from, Spare}
+use Rattle.syntax.proofs.Answers.{Counts}
 use Rattle.syntax.proofs.Symbols.{onward}
 use Rattle.syntax.proofs.Forms.{tally-as, made_one, made-two}
 use Rattle.syntax.proofs.Openings.{as-prefix, as-sum}
-use Rattle.syntax.proofs.Calling.{Counts, Call}
+use Rattle.syntax.proofs.Calling.{Call}
 use Rattle.syntax.proofs.Offering.{Spares, Prefix, Cont, spare_of}
 
 -- ---- what the functions answer

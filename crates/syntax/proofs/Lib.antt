@@ -1,5 +1,6 @@
 -- The returns of the reading functions, over plain variables: what each answers follows from what its callees answered.
 pub mod Answers
+pub mod Arguments
 pub mod Braces
 pub mod Bracing
 pub mod Calling

@@ -8,10 +8,10 @@ use native.Mathlib.Omega.{arith}
 use lib.ListN.{length, get_or}
 use Rattle.std.specs.Prelude.{Err, Ok}
 use Rattle.token.specs.Kind as kind
-use Rattle.grammar.specs.Grammar.{flat_whole, flat_number, flat_starts, flat_start, flat_system, flat_body, flat_definitions, flat_model}
-use Rattle.grammar.specs.Machine.{Want, Whole', Number', Params', MoreWholes, Start', SystemEnd, Line, NextLine, the_names, the_starts, a_body}
+use Rattle.grammar.specs.Grammar.{flat_number, flat_starts, flat_start, flat_system, flat_body, flat_definitions, flat_model}
+use Rattle.grammar.specs.Machine.{Want, Whole', MoreWholes, Number', Params', Start', SystemEnd, Line, NextLine, the_names, the_starts, a_body}
 use Rattle.grammar.specs.Follows.{Answer, Follows}
-use Rattle.grammar.specs.Syntax.{literal_at, number_at, wholes_at, starts_at, start_at, system_at, body_at, sums_body, definitions_at, model_at}
+use Rattle.grammar.specs.Syntax.{number_at, wholes_at, starts_at, start_at, system_at, body_at, sums_body, definitions_at, model_at}
 use Rattle.grammar.proofs.Alike.{params-filled}
 use Rattle.grammar.proofs.Follows.{inside, join, fails, wanted, unwanted, bounds}
 use Rattle.grammar.proofs.Judged.{failed, longer}
@@ -22,53 +22,14 @@ use Rattle.tree.proofs.Spans.{Wrote, next-at, fault-at, counted-next-at, counted
 use Rattle.syntax.specs.Judged.{Judged}
 use Rattle.syntax.specs.Line.{defining, in_definition, Given, Parameters, written_definition, count_definition, Definition, written_wholes, Started}
 use Rattle.syntax.specs.Names.{Listing}
-use Rattle.syntax.proofs.Answers.{Answers, first-fails}
-use Rattle.syntax.proofs.Calling.{Counts}
+use Rattle.syntax.proofs.Answers.{Answers, Counts, first-fails}
 use Rattle.syntax.proofs.Lines as machine
 use Rattle.syntax.proofs.LineTrees as trees
 
--- ---- what the functions answer
-
-abbrev AWhole : List ℕ → List ℕ → List ℕ → ℕ → ℕ → Read → Type 0
-AWhole ts t t' at = Answers (Whole' ∷ []) flat_whole (λ x w. Table.Expr x (literal_at w at)) ts t t' at
+-- ---- system items
 
 abbrev TheWholes : List ℕ → List ℕ → List ℕ → ℕ → ℕ → Counted → Type 0
 TheWholes ts t t' at used = Counts (Whole' ∷ MoreWholes ∷ Want kind.close_square ∷ []) written_wholes (λ w. Table.count_wholes (wholes_at w at)) (λ x w. Table.Wholes x (wholes_at w at)) ts t t' at used 0
-
--- ---- whole numbers
-
-module _ (ts t t₁ : List ℕ) (at used : ℕ) {r : Read} (a : AWhole ts t t₁ at used r) where
-  pub wholes-first : {k : ℕ} → r ≡ Err k → TheWholes ts t t₁ at used (Err k)
-  unfolding place_counted Tallied
-  wholes-first {k} e = (fails ts at k (Whole' ∷ []) (MoreWholes ∷ Want kind.close_square ∷ []) (fault-at e a.0), fault-size _ _ ts t t₁ at used e a.1)
-
-  module _ {n left : ℕ} (e : r ≡ Ok (n, left)) where
-    pub wholes-last : get_or ts n 0 ≡ kind.close_square → TheWholes ts t t₁ at used (Ok (n + 1, left, 1))
-    unfolding place_counted Tallied
-    wholes-last d = (join ts at n (Whole' ∷ []) (MoreWholes ∷ Want kind.close_square ∷ []) (next-at e a.0) (machine.wholes-end ts n d), trees.wholes-last (made_of e a.1) d)
-
-    pub wholes-neither : (get_or ts n 0 ≡ kind.close_square → ⊥) → (get_or ts n 0 ≡ kind.comma → ⊥) → TheWholes ts t t₁ at used (Err n)
-    unfolding place_counted Tallied
-    wholes-neither f g =
-        let m = made_of e a.1 in
-        (join ts at n (Whole' ∷ []) (MoreWholes ∷ Want kind.close_square ∷ []) (next-at e a.0) (machine.wholes-neither ts n m.span.within f g), m.span.size)
-
-    module _ (t₂ : List ℕ) (d : get_or ts n 0 ≡ kind.comma) {r' : Counted} (b : TheWholes ts t₁ t₂ (n + 1) (left + 1) r') where
-      pub wholes-rest : {k : ℕ} → r' ≡ Err k → TheWholes ts t t₂ at used (Err k)
-      unfolding place_counted Tallied
-      wholes-rest f = (
-        join ts at n (Whole' ∷ []) (MoreWholes ∷ Want kind.close_square ∷ []) (next-at e a.0) (machine.wholes-more ts n d (counted-fault-at f b.0)),
-        counted-fault-size _ _ _ ts t₁ t₂ (n + 1) (left + 1) 0 f b.1 ∙ (made_of e a.1).span.size,
-      )
-
-      pub wholes-next : {t₃ : List ℕ} {m root c : ℕ} → r' ≡ Ok (m, root, c) → Wrote t₂ t₃ (root + 1) node.whole 0 left 0 → TheWholes ts t t₃ at used (Ok (m, root + 1, c + 1))
-      unfolding place_counted Tallied
-      wholes-next f w = (
-        join ts at n (Whole' ∷ []) (MoreWholes ∷ Want kind.close_square ∷ []) (next-at e a.0) (machine.wholes-more ts n d (counted-next-at f b.0)),
-        trees.wholes-next (made_of e a.1) d (tally-of f b.1) w,
-      )
-
--- ---- system items
 
 abbrev TheStarts : List ℕ → List ℕ → List ℕ → ℕ → ℕ → ℕ → Read → Type 0
 TheStarts ts t t' k used kd = Answers the_starts flat_starts (λ x s. Started x kd k (starts_at s (k + 1))) ts t t' (k + 1) used

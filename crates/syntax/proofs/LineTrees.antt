@@ -7,15 +7,15 @@ use native.Mathlib.Omega.{arith}
 use lib.ListN.{length, get_or, drop_of_length-le}
 use Rattle.token.specs.Kind as kind
 use Rattle.grammar.specs.Grammar
-use Rattle.grammar.specs.Grammar.{Reads, flat_whole, flat_number, flat_wholes, flat_starts, flat_start, flat_system, flat_params, flat_body, flat_definition, flat_definitions, flat_model}
+use Rattle.grammar.specs.Grammar.{Reads, flat_number, flat_starts, flat_start, flat_system, flat_params, flat_body, flat_definition, flat_definitions, flat_model}
 use Rattle.grammar.specs.Syntax
-use Rattle.grammar.specs.Syntax.{wide, literal_at, number_at, count_names, names_at, params_at, body_at, sums_body, wholes_at, starts_at, start_at, system_at, definitions_at, model_at, syntax_of}
-use Rattle.grammar.proofs.Wide.{wide-whole, wide-number, wide-start, wide-params, wide-definition}
+use Rattle.grammar.specs.Syntax.{wide, number_at, count_names, names_at, params_at, body_at, sums_body, wholes_at, starts_at, start_at, system_at, definitions_at, model_at, syntax_of}
+use Rattle.grammar.proofs.Wide.{wide-number, wide-start, wide-params, wide-definition}
 use Rattle.tree.specs.Node as node
 use Rattle.tree.specs.Table
 use Rattle.tree.specs.Reading.{Span, Made, Tally}
 use Rattle.tree.proofs.Interval.{Interval}
-use Rattle.tree.proofs.Holds.{expr-interval, scale-interval, sums-interval, definition-interval, wholes-interval, start-interval, system-interval, definitions-interval, model-interval}
+use Rattle.tree.proofs.Holds.{scale-interval, sums-interval, definition-interval, wholes-interval, start-interval, system-interval, definitions-interval, model-interval}
 use Rattle.tree.proofs.Spans.{span-token, ◌then◌, Wrote, span-wrote, span-place, seen-later, seen-leaf, seen_one, seen-two}
 use Rattle.syntax.specs.Judged.{Fitting}
 use Rattle.syntax.specs.Line.{count_params, Given, written_definition, count_definition, Definition, written_wholes, Started}
@@ -23,10 +23,7 @@ use Rattle.syntax.specs.Names.{Listed}
 
 -- ---- what was read
 
--- a whole number; whole numbers and the `]` after them, c of them
-abbrev AWhole : List ℕ → List ℕ → List ℕ → ℕ → ℕ → ℕ → ℕ → Type 0
-AWhole ts t t' at = Made flat_whole (λ x w. Table.Expr x (literal_at w at)) ts t t' at
-
+-- whole numbers and the `]` after them, c of them
 abbrev TheWholes : List ℕ → List ℕ → List ℕ → ℕ → ℕ → ℕ → ℕ → ℕ → Type 0
 TheWholes ts t t' at used = Tally written_wholes (λ w. Table.count_wholes (wholes_at w at)) (λ x w. Table.Wholes x (wholes_at w at)) ts t t' at used 0
 
@@ -56,34 +53,6 @@ ANumber ts t t' at = Made flat_number (λ x v. Table.Scale x (number_at v at)) t
 
 abbrev AModel : List ℕ → List ℕ → List ℕ → ℕ → ℕ → ℕ → ℕ → Type 0
 AModel ts t t' at = Made flat_model (λ x m. Table.Model x (model_at m at)) ts t t' at
-
--- ---- whole numbers
-
-pub wholes-last : {ts t t₁ : List ℕ} {at used n left : ℕ} → AWhole ts t t₁ at used n left → get_or ts n 0 ≡ kind.close_square → TheWholes ts t t₁ at used (n + 1) left 1
-unfolding flat_wholes written_wholes wholes_at Table.count_wholes Table.Wholes
-wholes-last a e =
-    record {
-      made = record { tree = Grammar.last_whole a.tree; span = a.span then span-token kind.close_square e (omega arith); shown = a.shown };
-      counted = refl;
-      rarer = omega (arith, a.span.onward);
-    }
-
-pub wholes-next : {ts t t₁ t₂ t₃ : List ℕ} {at used n left m r c : ℕ} → AWhole ts t t₁ at used n left → get_or ts n 0 ≡ kind.comma → TheWholes ts t₁ t₂ (n + 1) (left + 1) m r c → Wrote t₂ t₃ (r + 1) node.whole 0 left 0 → TheWholes ts t t₃ at used m (r + 1) (c + 1)
-unfolding flat_wholes written_wholes wholes_at Table.count_wholes Table.Wholes
-wholes-next {at = at} {n = n} a e b w =
-    let p = span-place (wide-whole a.tree) a.span in
-    let s = b.made.span in
-    let first = expr-interval (literal_at a.tree at) in
-    record {
-      made =
-          record {
-            tree = Grammar.next_whole a.tree b.made.tree;
-            span = span-wrote w (a.span then span-token kind.comma e (omega arith) then s) (omega (arith, a.span.fewer, s.fewer));
-            shown = rw (← p) (seen-two first (wholes-interval (wholes_at b.made.tree (n + 1))) w (seen-later first s (omega arith) a.shown) b.made.shown);
-          };
-      counted = rw (← p) (omega (arith, b.counted));
-      rarer = omega (arith, a.span.onward, b.rarer);
-    }
 
 -- ---- the system line
 

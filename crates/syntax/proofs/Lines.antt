@@ -156,19 +156,6 @@ module _ (ts : List ℕ) (at : ℕ) where
   unfolding table rows_of is_may
   no-params e = let l = inside ts at (omega arith) in join ts at at (Params' ∷ []) (Want kind.close_square ∷ []) (passes ts at Params' (omega arith) refl (omega arith)) (wanted ts at kind.close_square e (omega arith))
 
-  -- after a whole number: the `]`, a comma, or neither
-  pub wholes-end : get_or ts at 0 ≡ kind.close_square → Follows ts at (MoreWholes ∷ Want kind.close_square ∷ []) (next (at + 1))
-  unfolding table rows_of is_may
-  wholes-end e = let l = inside ts at (omega arith) in join ts at at (MoreWholes ∷ []) (Want kind.close_square ∷ []) (passes ts at MoreWholes (omega arith) refl (omega arith)) (wanted ts at kind.close_square e (omega arith))
-
-  pub wholes-more : {r : Answer} → get_or ts at 0 ≡ kind.comma → Follows ts (at + 1) (Whole' ∷ MoreWholes ∷ Want kind.close_square ∷ []) r → Follows ts at (MoreWholes ∷ Want kind.close_square ∷ []) r
-  unfolding step onto find table rows_of
-  wholes-more e f = took ts at (MoreWholes ∷ Want kind.close_square ∷ []) (Whole' ∷ MoreWholes ∷ Want kind.close_square ∷ []) (omega arith) (λ s. rw e refl) (λ l. f)
-
-  pub wholes-neither : at ≤ length ts → (get_or ts at 0 ≡ kind.close_square → ⊥) → (get_or ts at 0 ≡ kind.comma → ⊥) → Follows ts at (MoreWholes ∷ Want kind.close_square ∷ []) (fault at)
-  unfolding table rows_of is_may
-  wholes-neither l n m = join ts at at (MoreWholes ∷ []) (Want kind.close_square ∷ []) (passes ts at MoreWholes l refl (m, tt)) (unwanted ts at kind.close_square l n)
-
   -- a system item after its name
   pub starts_none : at ≤ length ts → (get_or ts at 0 ≡ kind.open_square → ⊥) → Follows ts at the_starts (fault at)
   starts_none l n = fails ts at at (Want kind.open_square ∷ []) (Starts' ∷ Want kind.close_square ∷ []) (unwanted ts at kind.open_square l n)

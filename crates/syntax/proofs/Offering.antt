@@ -21,11 +21,10 @@ use Rattle.tree.proofs.Holds.{cond-interval, rate-interval, action-interval, bra
 use Rattle.tree.proofs.Spans.{span-token, ◌then◌, Wrote, span-wrote, span-place, ready-after, ready-token, seen-later, seen-two, seen-three, next-at, fault-at, counted-next-at, counted-fault-at, made_of, tally-of, tallied-as, fault-size, counted-fault-size}
 use Rattle.syntax.specs.Braces.{flat_closed, flat_rated, flat_inside, Inner, Inside}
 use Rattle.syntax.specs.Processes.{Offer, flat_offer, sums_offer, offer_at, Spare}
-use Rattle.syntax.proofs.Answers.{Answers}
+use Rattle.syntax.proofs.Answers.{Answers, Counts}
 use Rattle.syntax.proofs.Symbols.{wants, lacks, taken, past, onward}
 use Rattle.syntax.proofs.Forms.{span-ends, tally-as}
 use Rattle.syntax.proofs.Lone.{Bracing}
-use Rattle.syntax.proofs.Calling.{Counts}
 use Rattle.syntax.proofs.Widths.{wide-inside}
 
 -- the three promises of a function that reads the symbols x as a tree and counts, and has a token to spare

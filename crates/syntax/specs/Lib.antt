@@ -3,6 +3,7 @@ pub mod Asked
 pub mod Braces
 pub mod Channels
 pub mod Condition
+pub mod Entries
 pub mod Expression
 pub mod Judged
 pub mod Line

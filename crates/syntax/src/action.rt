@@ -1,70 +1,21 @@
 // Reads actions.
 ghost use Rattle.std.specs.Prelude.{◌≡◌, [], ◌∷◌, ◌++◌, ◌+◌, ◌≤◌, ◌<◌, length, get_or};
 ghost use Rattle.token.specs.Kind as kind;
-ghost use Rattle.grammar.specs.Grammar.{flat_values, flat_sets, flat_action};
+ghost use Rattle.grammar.specs.Grammar.{flat_action};
 ghost use Rattle.grammar.specs.Machine.{Want, BoundNames, ChannelEnd, HandEnd, a_channel, the_values, the_sets, the_names};
 ghost use Rattle.grammar.specs.Follows.{Follows};
-ghost use Rattle.grammar.specs.Syntax.{values_at, sets_at, action_at};
+ghost use Rattle.grammar.specs.Syntax.{action_at};
 ghost use Rattle.tree.specs.Table;
-ghost use Rattle.tree.specs.Reading.{token_room, place, Ready, Parsed, Extended};
+ghost use Rattle.tree.specs.Reading.{token_room, place, Parsed, Extended};
 ghost use Rattle.syntax.specs.Names.{Listing};
 ghost use Rattle.syntax.specs.Actions.{flat_sent, flat_heard, flat_deed, Sent, Heard, deed_at};
 
-use crate::{channel, expression, set};
+use crate::channel;
+use crate::entries::{Set, Value, entries};
+use crate::left::Left;
+use crate::spot::Spot;
 use token::Kind;
 use tree::{NodeKind, Read};
-
-// One or two values in square brackets.
-pub fn values(toks: &[u8], at: usize, nodes: &mut [u64], used: usize) -> Read
-    requires { Ready toks.now at used }
-    ensures follows { Follows toks.now at (the_values) (place result) }
-    ensures parsed { Parsed flat_values (λ t v. Table.Values t (values_at v at)) toks.now nodes.old nodes.new at used result }
-{
-    if token::peek(toks, at) != b'[' {
-        return Err(at);
-    }
-    let (n, left) = expression::expr(toks, at + 1, nodes, used)?;
-    let t = token::peek(toks, n);
-    if t == b']' {
-        return Ok((n + 1, left));
-    }
-    if t != b',' {
-        return Err(n);
-    }
-    let (m, r) = expression::expr(toks, n + 1, nodes, left + 1)?;
-    if token::peek(toks, m) != b']' {
-        return Err(m);
-    }
-    let root = r + 1;
-    tree::node(nodes, root, NodeKind::PAIR, 0, left, 0);
-    Ok((m + 1, root))
-}
-
-// One or two sets in square brackets.
-pub fn sets(toks: &[u8], at: usize, nodes: &mut [u64], used: usize) -> Read
-    requires { Ready toks.now at used }
-    ensures follows { Follows toks.now at (the_sets) (place result) }
-    ensures parsed { Parsed flat_sets (λ t s. Table.Sets t (sets_at s at)) toks.now nodes.old nodes.new at used result }
-{
-    if token::peek(toks, at) != b'[' {
-        return Err(at);
-    }
-    let (n, left) = set::set(toks, at + 1, nodes, used)?;
-    let t = token::peek(toks, n);
-    if t == b']' {
-        return Ok((n + 1, left));
-    }
-    if t != b',' {
-        return Err(n);
-    }
-    let (m, r) = set::set(toks, n + 1, nodes, left + 1)?;
-    if token::peek(toks, m) != b']' {
-        return Err(m);
-    }
-    let root = r + 1;
-    tree::node(nodes, root, NodeKind::PAIR, 0, left, 0);
-    Ok((m + 1, root))
-}
 
 // Names parted by commas and the bracket after them: the next token, and how many names.
 pub fn names(toks: &[u8], at: usize, close: u8) -> Read
@@ -89,91 +40,85 @@ pub fn names(toks: &[u8], at: usize, close: u8) -> Read
     Ok((m, count + 1))
 }
 
-// The values that are sent, from the sign on; the channel is at `left`, `kind` is that of the action.
-pub fn sending(toks: &[u8], at: usize, nodes: &mut [u64], left: usize, kind: u8) -> Read
-    requires ready { Ready toks.now at (left + 1) }
-    requires nonzero { 0 < get_or toks.now at 0 }
-    ensures follows { Follows toks.now (at + 1) (the_values) (place result) }
-    ensures extended { Extended (flat_sent (get_or toks.now at 0)) (λ c v. (c, v)) Table.Channel (Sent kind at) toks.now nodes.old nodes.new at left result }
+// The values that are sent, from the sign on; the channel is on the left, `kind` is that of the action.
+pub fn sending(left: Left, nodes: &mut [u64], kind: u8) -> Read
+    requires nonzero { 0 < get_or left.toks.now left.at 0 }
+    ensures follows { Follows left.entry.toks.now (left.entry.at + 1) (the_values) (place result) }
+    ensures extended { Extended (flat_sent (get_or left.entry.toks.now left.entry.at 0)) (λ c v. (c, v)) Table.Channel (Sent kind left.entry.at) left.entry.toks.now nodes.old nodes.new left.entry.at left.entry.root result }
 {
-    let (n, r) = values(toks, at + 1, nodes, left + 1)?;
+    let (n, r) = entries::<Value>(left.next(), nodes)?;
     let root = r + 1;
-    tree::node(nodes, root, kind, 0, left, 0);
+    tree::node(nodes, root, kind, 0, left.root, 0);
     Ok((n, root))
 }
 
 // The sets of a receive, from its sign on, and the names it binds, if any; `kind` is that of a receive without names.
-pub fn receiving(toks: &[u8], at: usize, nodes: &mut [u64], left: usize, kind: u8) -> Read
-    requires ready { Ready toks.now at (left + 1) }
-    requires nonzero { 0 < get_or toks.now at 0 }
+pub fn receiving(left: Left, nodes: &mut [u64], kind: u8) -> Read
+    requires nonzero { 0 < get_or left.toks.now left.at 0 }
     requires kind_bound { kind < 255 }
-    ensures follows { Follows toks.now (at + 1) (the_sets ++ BoundNames ∷ []) (place result) }
-    ensures extended { Extended (flat_heard (get_or toks.now at 0)) (λ c h. (c, h)) Table.Channel (Heard kind at) toks.now nodes.old nodes.new at left result }
+    ensures follows { Follows left.entry.toks.now (left.entry.at + 1) (the_sets ++ BoundNames ∷ []) (place result) }
+    ensures extended { Extended (flat_heard (get_or left.entry.toks.now left.entry.at 0)) (λ c h. (c, h)) Table.Channel (Heard kind left.entry.at) left.entry.toks.now nodes.old nodes.new left.entry.at left.entry.root result }
 {
-    let (n, r) = sets(toks, at + 1, nodes, left + 1)?;
+    let (n, r) = entries::<Set>(left.next(), nodes)?;
     let root = r + 1;
-    if token::peek(toks, n) != b'(' {
-        tree::node(nodes, root, kind, 0, left, 0);
+    if token::peek(left.toks, n) != b'(' {
+        tree::node(nodes, root, kind, 0, left.root, 0);
         return Ok((n, root));
     }
     let first = n + 1;
-    let (m, count) = names(toks, first, b')')?;
-    tree::node(nodes, root, kind + 1, first, left, count);
+    let (m, count) = names(left.toks, first, b')')?;
+    tree::node(nodes, root, kind + 1, first, left.root, count);
     Ok((m, root))
 }
 
-// What is done on the channel at `left`: a launch, kill or receive.
-pub fn deed(toks: &[u8], at: usize, nodes: &mut [u64], left: usize) -> Read
-    requires { Ready toks.now at (left + 1) }
-    ensures follows { Follows toks.now at (ChannelEnd ∷ []) (place result) }
-    ensures extended { Extended flat_deed (λ c d. deed_at c d at) Table.Channel Table.Action toks.now nodes.old nodes.new at left result }
+// What is done on the channel that is on the left: a launch, kill or receive.
+pub fn deed(left: Left, nodes: &mut [u64]) -> Read
+    ensures follows { Follows left.entry.toks.now left.entry.at (ChannelEnd ∷ []) (place result) }
+    ensures extended { Extended flat_deed (λ c d. deed_at c d left.entry.at) Table.Channel Table.Action left.entry.toks.now nodes.old nodes.new left.entry.at left.entry.root result }
 {
-    match token::peek(toks, at) {
-        b'!' => sending(toks, at, nodes, left, NodeKind::LAUNCH),
-        b'#' => sending(toks, at, nodes, left, NodeKind::KILL),
-        b'?' => receiving(toks, at, nodes, left, NodeKind::RECEIVE),
-        _ => Err(at),
+    match left.peek() {
+        b'!' => sending(left, nodes, NodeKind::LAUNCH),
+        b'#' => sending(left, nodes, NodeKind::KILL),
+        b'?' => receiving(left, nodes, NodeKind::RECEIVE),
+        _ => Err(left.at),
     }
 }
 
 // A launch, kill or receive, from its channel on.
-pub fn beacon(toks: &[u8], at: usize, nodes: &mut [u64], used: usize) -> Read
-    requires { Ready toks.now at used }
-    ensures follows { Follows toks.now at (a_channel ++ ChannelEnd ∷ []) (place result) }
-    ensures parsed { Parsed flat_action (λ t a. Table.Action t (action_at a at)) toks.now nodes.old nodes.new at used result }
+pub fn beacon(spot: Spot, nodes: &mut [u64]) -> Read
+    ensures follows { Follows spot.entry.toks.now spot.entry.at (a_channel ++ ChannelEnd ∷ []) (place result) }
+    ensures parsed { Parsed flat_action (λ t a. Table.Action t (action_at a spot.entry.at)) spot.entry.toks.now nodes.old nodes.new spot.entry.at spot.entry.used result }
 {
-    let (n, left) = channel::channel(toks, at, nodes, used)?;
-    deed(toks, n, nodes, left)
+    let (n, left) = channel::channel(spot, nodes)?;
+    deed(spot.after(n, left), nodes)
 }
 
 // A check, from its `~` on.
-pub fn check(toks: &[u8], at: usize, nodes: &mut [u64], used: usize) -> Read
-    requires ready { Ready toks.now at used }
-    requires at_value { get_or toks.now at 0 ≡ kind.tilde }
-    ensures follows { Follows toks.now at (Want kind.tilde ∷ a_channel ++ Want kind.query ∷ the_sets) (place result) }
-    ensures parsed { Parsed flat_action (λ t a. Table.Action t (action_at a at)) toks.now nodes.old nodes.new at used result }
+pub fn check(spot: Spot, nodes: &mut [u64]) -> Read
+    requires at_value { get_or spot.toks.now spot.at 0 ≡ kind.tilde }
+    ensures follows { Follows spot.entry.toks.now spot.entry.at (Want kind.tilde ∷ a_channel ++ Want kind.query ∷ the_sets) (place result) }
+    ensures parsed { Parsed flat_action (λ t a. Table.Action t (action_at a spot.entry.at)) spot.entry.toks.now nodes.old nodes.new spot.entry.at spot.entry.used result }
 {
-    let (n, left) = channel::channel(toks, at + 1, nodes, used)?;
-    if token::peek(toks, n) != b'?' {
+    let (n, left) = channel::channel(spot.next(), nodes)?;
+    if token::peek(spot.toks, n) != b'?' {
         return Err(n);
     }
-    let (m, r) = sets(toks, n + 1, nodes, left + 1)?;
+    let (m, r) = entries::<Set>(spot.to(n + 1, left + 1), nodes)?;
     let root = r + 1;
     tree::node(nodes, root, NodeKind::CHECK, 0, left, 0);
     Ok((m, root))
 }
 
 // A handshake, from its `@` on.
-pub fn handshake(toks: &[u8], at: usize, nodes: &mut [u64], used: usize) -> Read
-    requires ready { Ready toks.now at used }
-    requires at_value { get_or toks.now at 0 ≡ kind.at }
-    ensures follows { Follows toks.now at (Want kind.at ∷ a_channel ++ HandEnd ∷ []) (place result) }
-    ensures parsed { Parsed flat_action (λ t a. Table.Action t (action_at a at)) toks.now nodes.old nodes.new at used result }
+pub fn handshake(spot: Spot, nodes: &mut [u64]) -> Read
+    requires at_value { get_or spot.toks.now spot.at 0 ≡ kind.at }
+    ensures follows { Follows spot.entry.toks.now spot.entry.at (Want kind.at ∷ a_channel ++ HandEnd ∷ []) (place result) }
+    ensures parsed { Parsed flat_action (λ t a. Table.Action t (action_at a spot.entry.at)) spot.entry.toks.now nodes.old nodes.new spot.entry.at spot.entry.used result }
 {
-    let (n, left) = channel::channel(toks, at + 1, nodes, used)?;
-    match token::peek(toks, n) {
-        b'!' => sending(toks, n, nodes, left, NodeKind::HAND_SEND),
-        b'?' => receiving(toks, n, nodes, left, NodeKind::HAND_RECEIVE),
+    let (n, left) = channel::channel(spot.next(), nodes)?;
+    match token::peek(spot.toks, n) {
+        b'!' => sending(spot.after(n, left), nodes, NodeKind::HAND_SEND),
+        b'?' => receiving(spot.after(n, left), nodes, NodeKind::HAND_RECEIVE),
         _ => Err(n),
     }
 }

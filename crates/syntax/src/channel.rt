@@ -5,49 +5,48 @@ ghost use Rattle.grammar.specs.Machine.{SecondItem, ThirdItem, a_channel};
 ghost use Rattle.grammar.specs.Follows.{Follows};
 ghost use Rattle.grammar.specs.Syntax.{channel_at};
 ghost use Rattle.tree.specs.Table;
-ghost use Rattle.tree.specs.Reading.{place, Ready, Parsed, Extended};
+ghost use Rattle.tree.specs.Reading.{place, Parsed, Extended};
 ghost use Rattle.syntax.specs.Channels.{flat_more, more_at, Items};
 
 use crate::expression;
+use crate::left::Left;
+use crate::spot::Spot;
 use tree::{NodeKind, Read};
 
 // A channel.
-pub fn channel(toks: &[u8], at: usize, nodes: &mut [u64], used: usize) -> Read
-    requires { Ready toks.now at used }
-    ensures follows { Follows toks.now at (a_channel) (place result) }
-    ensures parsed { Parsed flat_channel (λ t c. Table.Channel t (channel_at c at)) toks.now nodes.old nodes.new at used result }
+pub fn channel(spot: Spot, nodes: &mut [u64]) -> Read
+    ensures follows { Follows spot.entry.toks.now spot.entry.at (a_channel) (place result) }
+    ensures parsed { Parsed flat_channel (λ t c. Table.Channel t (channel_at c spot.entry.at)) spot.entry.toks.now nodes.old nodes.new spot.entry.at spot.entry.used result }
 {
-    let (n, left) = expression::expr(toks, at, nodes, used)?;
-    seconds(toks, n, nodes, left)
+    let (n, left) = expression::expr(spot, nodes)?;
+    seconds(spot.after(n, left), nodes)
 }
 
-// What follows a channel's first item, which is at `left`: perhaps one or two items more.
-pub fn seconds(toks: &[u8], at: usize, nodes: &mut [u64], left: usize) -> Read
-    requires { Ready toks.now at (left + 1) }
-    ensures follows { Follows toks.now at (SecondItem ∷ []) (place result) }
-    ensures extended { Extended flat_more (λ e m. more_at e m at) Table.Expr Table.Channel toks.now nodes.old nodes.new at left result }
+// What follows a channel's first item, which is on the left: perhaps one or two items more.
+pub fn seconds(left: Left, nodes: &mut [u64]) -> Read
+    ensures follows { Follows left.entry.toks.now left.entry.at (SecondItem ∷ []) (place result) }
+    ensures extended { Extended flat_more (λ e m. more_at e m left.entry.at) Table.Expr Table.Channel left.entry.toks.now nodes.old nodes.new left.entry.at left.entry.root result }
 {
-    if token::peek(toks, at) != b',' {
-        return Ok((at, left));
+    if left.peek() != b',' {
+        return Ok((left.at, left.root));
     }
-    let (n, mid) = expression::expr(toks, at + 1, nodes, left + 1)?;
-    thirds(toks, n, nodes, left, mid)
+    let (n, mid) = expression::expr(left.next(), nodes)?;
+    thirds(left.after(n, mid), nodes, left.root)
 }
 
-// What follows a channel's first two items, which are at `left` and `mid`: perhaps one more.
-pub fn thirds(toks: &[u8], at: usize, nodes: &mut [u64], left: usize, mid: usize) -> Read
-    requires ready { Ready toks.now at (mid + 1) }
-    requires left_le_mid { left ≤ mid }
-    ensures follows { Follows toks.now at (ThirdItem ∷ []) (place result) }
-    ensures items { Items toks.now nodes.old nodes.new at left mid result }
+// What follows a channel's first two items, which are at `first` and on the left: perhaps one more. Unlike `seconds` it always makes a node.
+pub fn thirds(left: Left, nodes: &mut [u64], first: usize) -> Read
+    requires first_le_root { first ≤ left.root }
+    ensures follows { Follows left.entry.toks.now left.entry.at (ThirdItem ∷ []) (place result) }
+    ensures items { Items left.entry.toks.now nodes.old nodes.new left.entry.at first left.entry.root result }
 {
-    if token::peek(toks, at) != b',' {
-        let root = mid + 1;
-        tree::node(nodes, root, NodeKind::TWO_ITEMS, 0, left, 0);
-        return Ok((at, root));
+    if left.peek() != b',' {
+        let root = left.root + 1;
+        tree::node(nodes, root, NodeKind::TWO_ITEMS, 0, first, 0);
+        return Ok((left.at, root));
     }
-    let (n, r) = expression::expr(toks, at + 1, nodes, mid + 1)?;
+    let (n, r) = expression::expr(left.next(), nodes)?;
     let root = r + 1;
-    tree::node(nodes, root, NodeKind::THREE_ITEMS, 0, left, mid);
+    tree::node(nodes, root, NodeKind::THREE_ITEMS, 0, first, left.root);
     Ok((n, root))
 }

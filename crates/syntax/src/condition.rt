@@ -5,11 +5,13 @@ ghost use Rattle.grammar.specs.Machine.{Relation', Ands', Ors', an_expr, a_test,
 ghost use Rattle.grammar.specs.Follows.{Follows};
 ghost use Rattle.grammar.specs.Syntax.{test_at, ands_at, conjunction_at, ors_at, cond_at};
 ghost use Rattle.tree.specs.Table;
-ghost use Rattle.tree.specs.Reading.{place, Ready, Parsed, Extended};
+ghost use Rattle.tree.specs.Reading.{place, Parsed, Extended};
 ghost use Rattle.syntax.specs.Signs.{relation_signs, sign_kind};
 ghost use Rattle.syntax.specs.Condition.{turned, flat_related, HoldsRelated, flat_conjunction};
 
 use crate::expression;
+use crate::left::Left;
+use crate::spot::Spot;
 use token::Kind;
 use tree::{NodeKind, Read};
 
@@ -30,80 +32,75 @@ pub fn relation_kind(t: u8) -> Option<u8>
 }
 
 // A relation; `more` is added to its node's kind.
-pub fn compare(toks: &[u8], at: usize, nodes: &mut [u64], used: usize, more: u8) -> Read
-    requires ready { Ready toks.now at used }
+pub fn compare(spot: Spot, nodes: &mut [u64], more: u8) -> Read
     requires more_le_turned { more ≤ turned }
-    ensures follows { Follows toks.now at (an_expr ++ Relation' ∷ an_expr) (place result) }
-    ensures parsed { Parsed flat_related (HoldsRelated more at) toks.now nodes.old nodes.new at used result }
+    ensures follows { Follows spot.entry.toks.now spot.entry.at (an_expr ++ Relation' ∷ an_expr) (place result) }
+    ensures parsed { Parsed flat_related (HoldsRelated more spot.entry.at) spot.entry.toks.now nodes.old nodes.new spot.entry.at spot.entry.used result }
 {
-    let (n, left) = expression::expr(toks, at, nodes, used)?;
-    let Some(kind) = relation_kind(token::peek(toks, n)) else {
+    let (n, left) = expression::expr(spot, nodes)?;
+    let Some(kind) = relation_kind(token::peek(spot.toks, n)) else {
         return Err(n);
     };
-    let (m, r) = expression::expr(toks, n + 1, nodes, left + 1)?;
+    let (m, r) = expression::expr(spot.to(n + 1, left + 1), nodes)?;
     let root = r + 1;
     tree::node(nodes, root, kind + more, 0, left, 0);
     Ok((m, root))
 }
 
 // A relation, perhaps after a `~`.
-pub fn test(toks: &[u8], at: usize, nodes: &mut [u64], used: usize) -> Read
-    requires { Ready toks.now at used }
-    ensures follows { Follows toks.now at (a_test) (place result) }
-    ensures parsed { Parsed flat_test (λ t c. Table.Cond t (test_at c at)) toks.now nodes.old nodes.new at used result }
+pub fn test(spot: Spot, nodes: &mut [u64]) -> Read
+    ensures follows { Follows spot.entry.toks.now spot.entry.at (a_test) (place result) }
+    ensures parsed { Parsed flat_test (λ t c. Table.Cond t (test_at c spot.entry.at)) spot.entry.toks.now nodes.old nodes.new spot.entry.at spot.entry.used result }
 {
-    if token::peek(toks, at) == b'~' {
-        return compare(toks, at + 1, nodes, used, NodeKind::TURNED);
+    if spot.peek() == b'~' {
+        return compare(spot.next(), nodes, NodeKind::TURNED);
     }
-    compare(toks, at, nodes, used, 0)
+    compare(spot, nodes, 0)
 }
 
-// What `&` joins to the condition at `left`.
-pub fn ands(toks: &[u8], at: usize, nodes: &mut [u64], left: usize) -> Read
-    requires { Ready toks.now at (left + 1) }
-    ensures follows { Follows toks.now at (Ands' ∷ []) (place result) }
-    ensures extended { Extended flat_ands (λ c a. ands_at c a at) Table.Cond Table.Cond toks.now nodes.old nodes.new at left result }
+// What `&` joins to the condition on the left.
+// One generic function for this, `ors` and `set::parts` would be longer than the three, by the definitions of what each reads.
+pub fn ands(left: Left, nodes: &mut [u64]) -> Read
+    ensures follows { Follows left.entry.toks.now left.entry.at (Ands' ∷ []) (place result) }
+    ensures extended { Extended flat_ands (λ c a. ands_at c a left.entry.at) Table.Cond Table.Cond left.entry.toks.now nodes.old nodes.new left.entry.at left.entry.root result }
 {
-    if token::peek(toks, at) != b'&' {
-        return Ok((at, left));
+    if left.peek() != b'&' {
+        return Ok((left.at, left.root));
     }
-    let (n, r) = test(toks, at + 1, nodes, left + 1)?;
+    let (n, r) = test(left.next(), nodes)?;
     let root = r + 1;
-    tree::node(nodes, root, NodeKind::BOTH, 0, left, 0);
-    ands(toks, n, nodes, root)
+    tree::node(nodes, root, NodeKind::BOTH, 0, left.root, 0);
+    ands(left.after(n, root), nodes)
 }
 
 // A test and what `&` joins to it.
-pub fn conjunction(toks: &[u8], at: usize, nodes: &mut [u64], used: usize) -> Read
-    requires { Ready toks.now at used }
-    ensures follows { Follows toks.now at (a_test ++ Ands' ∷ []) (place result) }
-    ensures parsed { Parsed flat_conjunction (λ t p. Table.Cond t (conjunction_at p.0 p.1 at)) toks.now nodes.old nodes.new at used result }
+pub fn conjunction(spot: Spot, nodes: &mut [u64]) -> Read
+    ensures follows { Follows spot.entry.toks.now spot.entry.at (a_test ++ Ands' ∷ []) (place result) }
+    ensures parsed { Parsed flat_conjunction (λ t p. Table.Cond t (conjunction_at p.0 p.1 spot.entry.at)) spot.entry.toks.now nodes.old nodes.new spot.entry.at spot.entry.used result }
 {
-    let (n, r) = test(toks, at, nodes, used)?;
-    ands(toks, n, nodes, r)
+    let (n, r) = test(spot, nodes)?;
+    ands(spot.after(n, r), nodes)
 }
 
-// What `|` joins to the condition at `left`.
-pub fn ors(toks: &[u8], at: usize, nodes: &mut [u64], left: usize) -> Read
-    requires { Ready toks.now at (left + 1) }
-    ensures follows { Follows toks.now at (Ors' ∷ []) (place result) }
-    ensures extended { Extended flat_ors (λ c o. ors_at c o at) Table.Cond Table.Cond toks.now nodes.old nodes.new at left result }
+// What `|` joins to the condition on the left.
+pub fn ors(left: Left, nodes: &mut [u64]) -> Read
+    ensures follows { Follows left.entry.toks.now left.entry.at (Ors' ∷ []) (place result) }
+    ensures extended { Extended flat_ors (λ c o. ors_at c o left.entry.at) Table.Cond Table.Cond left.entry.toks.now nodes.old nodes.new left.entry.at left.entry.root result }
 {
-    if token::peek(toks, at) != b'|' {
-        return Ok((at, left));
+    if left.peek() != b'|' {
+        return Ok((left.at, left.root));
     }
-    let (n, r) = conjunction(toks, at + 1, nodes, left + 1)?;
+    let (n, r) = conjunction(left.next(), nodes)?;
     let root = r + 1;
-    tree::node(nodes, root, NodeKind::EITHER, 0, left, 0);
-    ors(toks, n, nodes, root)
+    tree::node(nodes, root, NodeKind::EITHER, 0, left.root, 0);
+    ors(left.after(n, root), nodes)
 }
 
 // Tests joined by `&`, and these by `|`.
-pub fn condition(toks: &[u8], at: usize, nodes: &mut [u64], used: usize) -> Read
-    requires { Ready toks.now at used }
-    ensures follows { Follows toks.now at (a_cond) (place result) }
-    ensures parsed { Parsed flat_cond (λ t c. Table.Cond t (cond_at c at)) toks.now nodes.old nodes.new at used result }
+pub fn condition(spot: Spot, nodes: &mut [u64]) -> Read
+    ensures follows { Follows spot.entry.toks.now spot.entry.at (a_cond) (place result) }
+    ensures parsed { Parsed flat_cond (λ t c. Table.Cond t (cond_at c spot.entry.at)) spot.entry.toks.now nodes.old nodes.new spot.entry.at spot.entry.used result }
 {
-    let (n, r) = conjunction(toks, at, nodes, used)?;
-    ors(toks, n, nodes, r)
+    let (n, r) = conjunction(spot, nodes)?;
+    ors(spot.after(n, r), nodes)
 }

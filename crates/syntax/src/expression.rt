@@ -7,10 +7,12 @@ ghost use Rattle.grammar.specs.Follows.{Follows};
 ghost use Rattle.grammar.specs.Syntax;
 ghost use Rattle.grammar.specs.Syntax.{literal_at, atom_at, term_at, factors_at, expr_at, terms_at};
 ghost use Rattle.tree.specs.Table;
-ghost use Rattle.tree.specs.Reading.{place, Ready, Parsed, Extended};
+ghost use Rattle.tree.specs.Reading.{place, Parsed, Extended};
 ghost use Rattle.syntax.specs.Signs.{sum_signs, product_signs, sign_kind};
 ghost use Rattle.syntax.specs.Expression.{closed, enclosed, enclosed_two, HoldsTwo};
 
+use crate::left::Left;
+use crate::spot::Spot;
 use token::Kind;
 use tree::{NodeKind, Read};
 
@@ -39,56 +41,53 @@ pub fn product_kind(t: u8) -> Option<u8>
 }
 
 // A whole number, perhaps with `-` before it.
-pub fn literal(toks: &[u8], at: usize, nodes: &mut [u64], used: usize) -> Read
-    requires { Ready toks.now at used }
-    ensures follows { Follows toks.now at (Whole' ∷ []) (place result) }
-    ensures parsed { Parsed flat_whole (λ t w. Table.Expr t (literal_at w at)) toks.now nodes.old nodes.new at used result }
+pub fn literal(spot: Spot, nodes: &mut [u64]) -> Read
+    ensures follows { Follows spot.entry.toks.now spot.entry.at (Whole' ∷ []) (place result) }
+    ensures parsed { Parsed flat_whole (λ t w. Table.Expr t (literal_at w spot.entry.at)) spot.entry.toks.now nodes.old nodes.new spot.entry.at spot.entry.used result }
 {
-    let t = token::peek(toks, at);
+    let t = spot.peek();
     if t == Kind::WHOLE {
-        tree::node(nodes, used, NodeKind::LITERAL, at, 0, 0);
-        return Ok((at + 1, used));
+        tree::node(nodes, spot.used, NodeKind::LITERAL, spot.at, 0, 0);
+        return Ok((spot.at + 1, spot.used));
     }
     if t != b'-' {
-        return Err(at);
+        return Err(spot.at);
     }
-    let digits = at + 1;
-    if token::peek(toks, digits) != Kind::WHOLE {
+    let digits = spot.at + 1;
+    if token::peek(spot.toks, digits) != Kind::WHOLE {
         return Err(digits);
     }
-    tree::node(nodes, used, NodeKind::NEGATIVE, digits, 0, 0);
-    Ok((digits + 1, used))
+    tree::node(nodes, spot.used, NodeKind::NEGATIVE, digits, 0, 0);
+    Ok((digits + 1, spot.used))
 }
 
 // A name, a literal, or what has brackets.
 #[cycle(absolute_atom_bracketed_expr_factors_larger_term_terms)]
-pub fn atom(toks: &[u8], at: usize, nodes: &mut [u64], used: usize) -> Read
-    requires { Ready toks.now at used }
-    ensures follows { Follows toks.now at (Atom' ∷ []) (place result) }
-    ensures parsed { Parsed flat_atom (λ t a. Table.Expr t (atom_at a at)) toks.now nodes.old nodes.new at used result }
+pub fn atom(spot: Spot, nodes: &mut [u64]) -> Read
+    ensures follows { Follows spot.entry.toks.now spot.entry.at (Atom' ∷ []) (place result) }
+    ensures parsed { Parsed flat_atom (λ t a. Table.Expr t (atom_at a spot.entry.at)) spot.entry.toks.now nodes.old nodes.new spot.entry.at spot.entry.used result }
 {
-    match token::peek(toks, at) {
+    match spot.peek() {
         Kind::NAME => {
-            tree::node(nodes, used, NodeKind::NAMED, at, 0, 0);
-            Ok((at + 1, used))
+            tree::node(nodes, spot.used, NodeKind::NAMED, spot.at, 0, 0);
+            Ok((spot.at + 1, spot.used))
         }
-        b'(' => bracketed(toks, at + 1, nodes, used),
-        Kind::ABSOLUTE => absolute(toks, at + 1, nodes, used),
-        Kind::MAXIMUM => larger(toks, at + 1, nodes, used, NodeKind::MAXIMUM),
-        Kind::MINIMUM => larger(toks, at + 1, nodes, used, NodeKind::MINIMUM),
-        _ => literal(toks, at, nodes, used),
+        b'(' => bracketed(spot.next(), nodes),
+        Kind::ABSOLUTE => absolute(spot.next(), nodes),
+        Kind::MAXIMUM => larger(spot.next(), nodes, NodeKind::MAXIMUM),
+        Kind::MINIMUM => larger(spot.next(), nodes, NodeKind::MINIMUM),
+        _ => literal(spot, nodes),
     }
 }
 
 // An expression and the `)` after it.
 #[cycle(absolute_atom_bracketed_expr_factors_larger_term_terms)]
-pub fn bracketed(toks: &[u8], at: usize, nodes: &mut [u64], used: usize) -> Read
-    requires { Ready toks.now at used }
-    ensures follows { Follows toks.now at (an_expr ++ Want kind.close_round ∷ []) (place result) }
-    ensures parsed { Parsed closed (λ t e. Table.Expr t (expr_at e at)) toks.now nodes.old nodes.new at used result }
+pub fn bracketed(spot: Spot, nodes: &mut [u64]) -> Read
+    ensures follows { Follows spot.entry.toks.now spot.entry.at (an_expr ++ Want kind.close_round ∷ []) (place result) }
+    ensures parsed { Parsed closed (λ t e. Table.Expr t (expr_at e spot.entry.at)) spot.entry.toks.now nodes.old nodes.new spot.entry.at spot.entry.used result }
 {
-    let (n, r) = expr(toks, at, nodes, used)?;
-    if token::peek(toks, n) != b')' {
+    let (n, r) = expr(spot, nodes)?;
+    if token::peek(spot.toks, n) != b')' {
         return Err(n);
     }
     Ok((n + 1, r))
@@ -96,15 +95,14 @@ pub fn bracketed(toks: &[u8], at: usize, nodes: &mut [u64], used: usize) -> Read
 
 // What `abs` is taken of, in brackets.
 #[cycle(absolute_atom_bracketed_expr_factors_larger_term_terms)]
-pub fn absolute(toks: &[u8], at: usize, nodes: &mut [u64], used: usize) -> Read
-    requires { Ready toks.now at used }
-    ensures follows { Follows toks.now at (Want kind.open_round ∷ an_expr ++ Want kind.close_round ∷ []) (place result) }
-    ensures parsed { Parsed enclosed (λ t e. Table.Expr t (Syntax.absolute (expr_at e (at + 1)))) toks.now nodes.old nodes.new at used result }
+pub fn absolute(spot: Spot, nodes: &mut [u64]) -> Read
+    ensures follows { Follows spot.entry.toks.now spot.entry.at (Want kind.open_round ∷ an_expr ++ Want kind.close_round ∷ []) (place result) }
+    ensures parsed { Parsed enclosed (λ t e. Table.Expr t (Syntax.absolute (expr_at e (spot.entry.at + 1)))) spot.entry.toks.now nodes.old nodes.new spot.entry.at spot.entry.used result }
 {
-    if token::peek(toks, at) != b'(' {
-        return Err(at);
+    if spot.peek() != b'(' {
+        return Err(spot.at);
     }
-    let (n, r) = bracketed(toks, at + 1, nodes, used)?;
+    let (n, r) = bracketed(spot.next(), nodes)?;
     let root = r + 1;
     tree::node(nodes, root, NodeKind::ABSOLUTE, 0, 0, 0);
     Ok((n, root))
@@ -112,19 +110,18 @@ pub fn absolute(toks: &[u8], at: usize, nodes: &mut [u64], used: usize) -> Read
 
 // The two parts of `max` or `min`, in brackets.
 #[cycle(absolute_atom_bracketed_expr_factors_larger_term_terms)]
-pub fn larger(toks: &[u8], at: usize, nodes: &mut [u64], used: usize, op: u8) -> Read
-    requires { Ready toks.now at used }
-    ensures follows { Follows toks.now at (Want kind.open_round ∷ an_expr ++ Want kind.comma ∷ an_expr ++ Want kind.close_round ∷ []) (place result) }
-    ensures parsed { Parsed enclosed_two (HoldsTwo op at) toks.now nodes.old nodes.new at used result }
+pub fn larger(spot: Spot, nodes: &mut [u64], op: u8) -> Read
+    ensures follows { Follows spot.entry.toks.now spot.entry.at (Want kind.open_round ∷ an_expr ++ Want kind.comma ∷ an_expr ++ Want kind.close_round ∷ []) (place result) }
+    ensures parsed { Parsed enclosed_two (HoldsTwo op spot.entry.at) spot.entry.toks.now nodes.old nodes.new spot.entry.at spot.entry.used result }
 {
-    if token::peek(toks, at) != b'(' {
-        return Err(at);
+    if spot.peek() != b'(' {
+        return Err(spot.at);
     }
-    let (n, left) = expr(toks, at + 1, nodes, used)?;
-    if token::peek(toks, n) != b',' {
+    let (n, left) = expr(spot.next(), nodes)?;
+    if token::peek(spot.toks, n) != b',' {
         return Err(n);
     }
-    let (m, r) = bracketed(toks, n + 1, nodes, left + 1)?;
+    let (m, r) = bracketed(spot.to(n + 1, left + 1), nodes)?;
     let root = r + 1;
     tree::node(nodes, root, op, 0, left, 0);
     Ok((m, root))
@@ -132,54 +129,51 @@ pub fn larger(toks: &[u8], at: usize, nodes: &mut [u64], used: usize, op: u8) ->
 
 // Atoms joined by `*` and `/`.
 #[cycle(absolute_atom_bracketed_expr_factors_larger_term_terms)]
-pub fn term(toks: &[u8], at: usize, nodes: &mut [u64], used: usize) -> Read
-    requires { Ready toks.now at used }
-    ensures follows { Follows toks.now at (a_term) (place result) }
-    ensures parsed { Parsed flat_term (λ t x. Table.Expr t (term_at x at)) toks.now nodes.old nodes.new at used result }
+pub fn term(spot: Spot, nodes: &mut [u64]) -> Read
+    ensures follows { Follows spot.entry.toks.now spot.entry.at (a_term) (place result) }
+    ensures parsed { Parsed flat_term (λ t x. Table.Expr t (term_at x spot.entry.at)) spot.entry.toks.now nodes.old nodes.new spot.entry.at spot.entry.used result }
 {
-    let (n, r) = atom(toks, at, nodes, used)?;
-    factors(toks, n, nodes, r)
+    let (n, r) = atom(spot, nodes)?;
+    factors(spot.after(n, r), nodes)
 }
 
-// What the expression at `left` is multiplied or divided by.
+// What the expression on the left is multiplied or divided by.
+// Not one generic function with `terms`: the borrow checker covers no cycle of calls that goes through a trait's method.
 #[cycle(absolute_atom_bracketed_expr_factors_larger_term_terms)]
-pub fn factors(toks: &[u8], at: usize, nodes: &mut [u64], left: usize) -> Read
-    requires { Ready toks.now at (left + 1) }
-    ensures follows { Follows toks.now at (Factors' ∷ []) (place result) }
-    ensures extended { Extended flat_factors (λ x r. factors_at x r at) Table.Expr Table.Expr toks.now nodes.old nodes.new at left result }
+pub fn factors(left: Left, nodes: &mut [u64]) -> Read
+    ensures follows { Follows left.entry.toks.now left.entry.at (Factors' ∷ []) (place result) }
+    ensures extended { Extended flat_factors (λ x r. factors_at x r left.entry.at) Table.Expr Table.Expr left.entry.toks.now nodes.old nodes.new left.entry.at left.entry.root result }
 {
-    let Some(kind) = product_kind(token::peek(toks, at)) else {
-        return Ok((at, left));
+    let Some(kind) = product_kind(left.peek()) else {
+        return Ok((left.at, left.root));
     };
-    let (n, r) = atom(toks, at + 1, nodes, left + 1)?;
+    let (n, r) = atom(left.next(), nodes)?;
     let root = r + 1;
-    tree::node(nodes, root, kind, 0, left, 0);
-    factors(toks, n, nodes, root)
+    tree::node(nodes, root, kind, 0, left.root, 0);
+    factors(left.after(n, root), nodes)
 }
 
 // Terms joined by `+` and `-`.
 #[cycle(absolute_atom_bracketed_expr_factors_larger_term_terms)]
-pub fn expr(toks: &[u8], at: usize, nodes: &mut [u64], used: usize) -> Read
-    requires { Ready toks.now at used }
-    ensures follows { Follows toks.now at (an_expr) (place result) }
-    ensures parsed { Parsed flat_expr (λ t e. Table.Expr t (expr_at e at)) toks.now nodes.old nodes.new at used result }
+pub fn expr(spot: Spot, nodes: &mut [u64]) -> Read
+    ensures follows { Follows spot.entry.toks.now spot.entry.at (an_expr) (place result) }
+    ensures parsed { Parsed flat_expr (λ t e. Table.Expr t (expr_at e spot.entry.at)) spot.entry.toks.now nodes.old nodes.new spot.entry.at spot.entry.used result }
 {
-    let (n, r) = term(toks, at, nodes, used)?;
-    terms(toks, n, nodes, r)
+    let (n, r) = term(spot, nodes)?;
+    terms(spot.after(n, r), nodes)
 }
 
-// What is added to the expression at `left` or taken away.
+// What is added to the expression on the left or taken away.
 #[cycle(absolute_atom_bracketed_expr_factors_larger_term_terms)]
-pub fn terms(toks: &[u8], at: usize, nodes: &mut [u64], left: usize) -> Read
-    requires { Ready toks.now at (left + 1) }
-    ensures follows { Follows toks.now at (Terms' ∷ []) (place result) }
-    ensures extended { Extended flat_terms (λ x r. terms_at x r at) Table.Expr Table.Expr toks.now nodes.old nodes.new at left result }
+pub fn terms(left: Left, nodes: &mut [u64]) -> Read
+    ensures follows { Follows left.entry.toks.now left.entry.at (Terms' ∷ []) (place result) }
+    ensures extended { Extended flat_terms (λ x r. terms_at x r left.entry.at) Table.Expr Table.Expr left.entry.toks.now nodes.old nodes.new left.entry.at left.entry.root result }
 {
-    let Some(kind) = sum_kind(token::peek(toks, at)) else {
-        return Ok((at, left));
+    let Some(kind) = sum_kind(left.peek()) else {
+        return Ok((left.at, left.root));
     };
-    let (n, r) = term(toks, at + 1, nodes, left + 1)?;
+    let (n, r) = term(left.next(), nodes)?;
     let root = r + 1;
-    tree::node(nodes, root, kind, 0, left, 0);
-    terms(toks, n, nodes, root)
+    tree::node(nodes, root, kind, 0, left.root, 0);
+    terms(left.after(n, root), nodes)
 }

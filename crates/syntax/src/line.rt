@@ -10,6 +10,7 @@ ghost use Rattle.tree.specs.Reading.{place, place_counted, token_room, Ready, Pa
 ghost use Rattle.syntax.specs.Judged.{Judged};
 ghost use Rattle.syntax.specs.Line.{defining, in_definition, Parameters, written_definition, count_definition, Definition, written_wholes, Started};
 
+use crate::spot::Spot;
 use crate::{action, expression, process, rate};
 use token::Kind;
 use tree::{Counted, NodeKind, Read};
@@ -28,24 +29,23 @@ pub fn params(toks: &[u8], at: usize) -> Read
 }
 
 // The definition whose name is the token `name`, with a `[` after it.
-pub fn definition(toks: &[u8], name: usize, nodes: &mut [u64], used: usize, sums: usize) -> Counted
-    requires ready { Ready toks.now name used }
-    requires sums_le_name { sums ≤ name }
-    requires name_value { get_or toks.now name 0 ≡ kind.name }
-    requires name_value_2 { get_or toks.now (name + 1) 0 ≡ kind.open_square }
-    ensures follows { Follows toks.now (name + 2) in_definition (place_counted result) }
-    ensures tallied { Tallied written_definition count_definition (λ t d. Definition t d name sums) toks.now nodes.old nodes.new (name + 1) used sums result }
+pub fn definition(spot: Spot, nodes: &mut [u64], sums: usize) -> Counted
+    requires sums_le_name { sums ≤ spot.at }
+    requires name_value { get_or spot.toks.now spot.at 0 ≡ kind.name }
+    requires name_value_2 { get_or spot.toks.now (spot.at + 1) 0 ≡ kind.open_square }
+    ensures follows { Follows spot.entry.toks.now (spot.entry.at + 2) in_definition (place_counted result) }
+    ensures tallied { Tallied written_definition count_definition (λ t d. Definition t d spot.entry.at sums) spot.entry.toks.now nodes.old nodes.new (spot.entry.at + 1) spot.entry.used sums result }
 {
-    let (n, count) = params(toks, name + 2)?;
-    if token::peek(toks, n) != b'=' {
+    let (n, count) = params(spot.toks, spot.at + 2)?;
+    if token::peek(spot.toks, n) != b'=' {
         return Err(n);
     }
-    let (m, r, s) = process::body(toks, n + 1, nodes, used, sums)?;
-    if token::peek(toks, m) != b';' {
+    let (m, r, s) = process::body(spot.to(n + 1, spot.used), nodes, sums)?;
+    if token::peek(spot.toks, m) != b';' {
         return Err(m);
     }
     let root = r + 1;
-    tree::node(nodes, root, NodeKind::DEFINITION, name, 0, count);
+    tree::node(nodes, root, NodeKind::DEFINITION, spot.at, 0, count);
     Ok((m + 1, root, s))
 }
 
@@ -66,22 +66,21 @@ pub fn defines(toks: &[u8], at: usize) -> bool
 }
 
 // The definitions, the first of them named at `name` with a `[` after it, and the system line.
-pub fn definitions(toks: &[u8], name: usize, nodes: &mut [u64], used: usize, sums: usize) -> Read
-    requires ready { Ready toks.now name used }
-    requires sums_le_name { sums ≤ name }
-    requires name_value { get_or toks.now name 0 ≡ kind.name }
-    requires name_value_2 { get_or toks.now (name + 1) 0 ≡ kind.open_square }
-    ensures follows { Follows toks.now (name + 2) (in_definition ++ NextLine ∷ []) (place result) }
-    ensures parsed { Parsed flat_definitions (λ t d. Table.Definitions t (definitions_at d name sums)) toks.now nodes.old nodes.new name used result }
+pub fn definitions(spot: Spot, nodes: &mut [u64], sums: usize) -> Read
+    requires sums_le_name { sums ≤ spot.at }
+    requires name_value { get_or spot.toks.now spot.at 0 ≡ kind.name }
+    requires name_value_2 { get_or spot.toks.now (spot.at + 1) 0 ≡ kind.open_square }
+    ensures follows { Follows spot.entry.toks.now (spot.entry.at + 2) (in_definition ++ NextLine ∷ []) (place result) }
+    ensures parsed { Parsed flat_definitions (λ t d. Table.Definitions t (definitions_at d spot.entry.at sums)) spot.entry.toks.now nodes.old nodes.new spot.entry.at spot.entry.used result }
 {
-    let (n, left, s) = definition(toks, name, nodes, used, sums)?;
-    if defines(toks, n) {
-        let (m, r) = definitions(toks, n, nodes, left + 1, s)?;
+    let (n, left, s) = definition(spot, nodes, sums)?;
+    if defines(spot.toks, n) {
+        let (m, r) = definitions(spot.to(n, left + 1), nodes, s)?;
         let root = r + 1;
         tree::node(nodes, root, NodeKind::NEXT, 0, left, 0);
         Ok((m, root))
     } else {
-        let (m, r) = system(toks, n, nodes, left + 1)?;
+        let (m, r) = system(spot.to(n, left + 1), nodes)?;
         let root = r + 1;
         tree::node(nodes, root, NodeKind::LAST, 0, left, 0);
         Ok((m, root))
@@ -89,26 +88,26 @@ pub fn definitions(toks: &[u8], name: usize, nodes: &mut [u64], used: usize, sum
 }
 
 // Whole numbers parted by commas and the `]` after them, with their count.
-pub fn wholes(toks: &[u8], at: usize, nodes: &mut [u64], used: usize) -> Counted
-    requires { Ready toks.now at used }
-    ensures follows { Follows toks.now at (Whole' ∷ MoreWholes ∷ Want kind.close_square ∷ []) (place_counted result) }
-    ensures tallied { Tallied written_wholes (λ w. Table.count_wholes (wholes_at w at)) (λ t w. Table.Wholes t (wholes_at w at)) toks.now nodes.old nodes.new at used 0 result }
+pub fn wholes(spot: Spot, nodes: &mut [u64]) -> Counted
+    ensures follows { Follows spot.entry.toks.now spot.entry.at (Whole' ∷ MoreWholes ∷ Want kind.close_square ∷ []) (place_counted result) }
+    ensures tallied { Tallied written_wholes (λ w. Table.count_wholes (wholes_at w spot.entry.at)) (λ t w. Table.Wholes t (wholes_at w spot.entry.at)) spot.entry.toks.now nodes.old nodes.new spot.entry.at spot.entry.used 0 result }
 {
-    let (n, left) = expression::literal(toks, at, nodes, used)?;
-    let t = token::peek(toks, n);
+    let (n, left) = expression::literal(spot, nodes)?;
+    let t = token::peek(spot.toks, n);
     if t == b']' {
         return Ok((n + 1, left, 1));
     }
     if t != b',' {
         return Err(n);
     }
-    let (m, r, count) = wholes(toks, n + 1, nodes, left + 1)?;
+    let (m, r, count) = wholes(spot.to(n + 1, left + 1), nodes)?;
     let root = r + 1;
     tree::node(nodes, root, NodeKind::WHOLE, 0, left, 0);
     Ok((m, root, count + 1))
 }
 
 // The values of the item named at `name`; `kind` is that of an item without values.
+// `name` and no Spot: the reader stands at the token after it, and the node keeps the name.
 pub fn starts(toks: &[u8], name: usize, nodes: &mut [u64], used: usize, kind: u8) -> Read
     requires ready { Ready toks.now (name + 1) used }
     requires kind_bound { kind < 255 }
@@ -124,51 +123,49 @@ pub fn starts(toks: &[u8], name: usize, nodes: &mut [u64], used: usize, kind: u8
         tree::node(nodes, used, kind, name, 0, 0);
         return Ok((n + 1, used));
     }
-    let (m, r, count) = wholes(toks, n, nodes, used)?;
+    let (m, r, count) = wholes(Spot { toks, at: n, used }, nodes)?;
     let root = r + 1;
     tree::node(nodes, root, kind + 1, name, 0, count);
     Ok((m, root))
 }
 
 // An item of the system line.
-pub fn start(toks: &[u8], at: usize, nodes: &mut [u64], used: usize) -> Read
-    requires { Ready toks.now at used }
-    ensures follows { Follows toks.now at (Start' ∷ []) (place result) }
-    ensures parsed { Parsed flat_start (λ t s. Table.Start t (start_at s at)) toks.now nodes.old nodes.new at used result }
+pub fn start(spot: Spot, nodes: &mut [u64]) -> Read
+    ensures follows { Follows spot.entry.toks.now spot.entry.at (Start' ∷ []) (place result) }
+    ensures parsed { Parsed flat_start (λ t s. Table.Start t (start_at s spot.entry.at)) spot.entry.toks.now nodes.old nodes.new spot.entry.at spot.entry.used result }
 {
-    let t = token::peek(toks, at);
+    let t = spot.peek();
     if t == Kind::NAME {
-        return starts(toks, at, nodes, used, NodeKind::START);
+        return starts(spot.toks, spot.at, nodes, spot.used, NodeKind::START);
     }
     if t != Kind::WHOLE {
-        return Err(at);
+        return Err(spot.at);
     }
-    let times = at + 1;
-    if token::peek(toks, times) != b'*' {
+    let times = spot.at + 1;
+    if token::peek(spot.toks, times) != b'*' {
         return Err(times);
     }
     let name = times + 1;
-    if token::peek(toks, name) != Kind::NAME {
+    if token::peek(spot.toks, name) != Kind::NAME {
         return Err(name);
     }
-    starts(toks, name, nodes, used, NodeKind::COUNTED)
+    starts(spot.toks, name, nodes, spot.used, NodeKind::COUNTED)
 }
 
 // The items of the system line, with its `;`.
-pub fn system(toks: &[u8], at: usize, nodes: &mut [u64], used: usize) -> Read
-    requires { Ready toks.now at used }
-    ensures follows { Follows toks.now at (Start' ∷ SystemEnd ∷ []) (place result) }
-    ensures parsed { Parsed flat_system (λ t s. Table.System t (system_at s at)) toks.now nodes.old nodes.new at used result }
+pub fn system(spot: Spot, nodes: &mut [u64]) -> Read
+    ensures follows { Follows spot.entry.toks.now spot.entry.at (Start' ∷ SystemEnd ∷ []) (place result) }
+    ensures parsed { Parsed flat_system (λ t s. Table.System t (system_at s spot.entry.at)) spot.entry.toks.now nodes.old nodes.new spot.entry.at spot.entry.used result }
 {
-    let (n, left) = start(toks, at, nodes, used)?;
-    let t = token::peek(toks, n);
+    let (n, left) = start(spot, nodes)?;
+    let t = token::peek(spot.toks, n);
     if t == b';' {
         return Ok((n + 1, left));
     }
     if t != Kind::BARS {
         return Err(n);
     }
-    let (m, r) = system(toks, n + 1, nodes, left + 1)?;
+    let (m, r) = system(spot.to(n + 1, left + 1), nodes)?;
     let root = r + 1;
     tree::node(nodes, root, NodeKind::SYSTEM, 0, left, 0);
     Ok((m, root))
@@ -176,41 +173,39 @@ pub fn system(toks: &[u8], at: usize, nodes: &mut [u64], used: usize) -> Read
 
 // Variables, definitions and system line.
 #[cycle(model_variable)]
-pub fn model(toks: &[u8], at: usize, nodes: &mut [u64], used: usize) -> Read
-    requires { Ready toks.now at used }
-    ensures follows { Follows toks.now at (Line ∷ []) (place result) }
-    ensures parsed { Parsed flat_model (λ t m. Table.Model t (model_at m at)) toks.now nodes.old nodes.new at used result }
+pub fn model(spot: Spot, nodes: &mut [u64]) -> Read
+    ensures follows { Follows spot.entry.toks.now spot.entry.at (Line ∷ []) (place result) }
+    ensures parsed { Parsed flat_model (λ t m. Table.Model t (model_at m spot.entry.at)) spot.entry.toks.now nodes.old nodes.new spot.entry.at spot.entry.used result }
 {
-    if token::peek(toks, at) != Kind::NAME {
-        return Err(at);
+    if spot.peek() != Kind::NAME {
+        return Err(spot.at);
     }
-    let n = at + 1;
-    let t = token::peek(toks, n);
+    let n = spot.at + 1;
+    let t = token::peek(spot.toks, n);
     if t == b'[' {
-        return definitions(toks, at, nodes, used, 0);
+        return definitions(spot, nodes, 0);
     }
     if t != b'=' {
         return Err(n);
     }
-    variable(toks, at, nodes, used)
+    variable(spot, nodes)
 }
 
 // The variable named at `name`, with a `=` after it, and what follows it.
 #[cycle(model_variable)]
-pub fn variable(toks: &[u8], name: usize, nodes: &mut [u64], used: usize) -> Read
-    requires ready { Ready toks.now name used }
-    requires name_value { get_or toks.now name 0 ≡ kind.name }
-    requires name_value_2 { get_or toks.now (name + 1) 0 ≡ kind.equals }
-    ensures follows { Follows toks.now (name + 2) (Number' ∷ Want kind.semicolon ∷ Line ∷ []) (place result) }
-    ensures parsed { Parsed flat_model (λ t m. Table.Model t (model_at m name)) toks.now nodes.old nodes.new name used result }
+pub fn variable(spot: Spot, nodes: &mut [u64]) -> Read
+    requires name_value { get_or spot.toks.now spot.at 0 ≡ kind.name }
+    requires name_value_2 { get_or spot.toks.now (spot.at + 1) 0 ≡ kind.equals }
+    ensures follows { Follows spot.entry.toks.now (spot.entry.at + 2) (Number' ∷ Want kind.semicolon ∷ Line ∷ []) (place result) }
+    ensures parsed { Parsed flat_model (λ t m. Table.Model t (model_at m spot.entry.at)) spot.entry.toks.now nodes.old nodes.new spot.entry.at spot.entry.used result }
 {
-    let (n, left) = rate::number(toks, name + 2, nodes, used)?;
-    if token::peek(toks, n) != b';' {
+    let (n, left) = rate::number(spot.to(spot.at + 2, spot.used), nodes)?;
+    if token::peek(spot.toks, n) != b';' {
         return Err(n);
     }
-    let (m, r) = model(toks, n + 1, nodes, left + 1)?;
+    let (m, r) = model(spot.to(n + 1, left + 1), nodes)?;
     let root = r + 1;
-    tree::node(nodes, root, NodeKind::VARIABLE, name, left, 0);
+    tree::node(nodes, root, NodeKind::VARIABLE, spot.at, left, 0);
     Ok((m, root))
 }
 
@@ -219,7 +214,12 @@ pub fn read_text(toks: &[u8], nodes: &mut [u64]) -> Result<usize, usize>
     requires { length toks.now ≤ token_room }
     ensures { Judged toks.now nodes.new result }
 {
-    let (n, r) = model(toks, 0, nodes, 0)?;
+    let spot = Spot {
+        toks,
+        at: 0,
+        used: 0,
+    };
+    let (n, r) = model(spot, nodes)?;
     if n < toks.len() {
         return Err(n);
     }

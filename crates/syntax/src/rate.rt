@@ -5,69 +5,66 @@ ghost use Rattle.grammar.specs.Machine.{Unsigned, Number', Scale', a_rate};
 ghost use Rattle.grammar.specs.Follows.{Follows};
 ghost use Rattle.grammar.specs.Syntax.{number_at, scale_at, rate_at};
 ghost use Rattle.tree.specs.Table;
-ghost use Rattle.tree.specs.Reading.{place, Ready, Parsed};
+ghost use Rattle.tree.specs.Reading.{place, Parsed};
 ghost use Rattle.syntax.specs.Rate.{negative_number, flat_unsigned, HoldsUnsigned};
 
 use crate::expression;
+use crate::spot::Spot;
 use token::Kind;
 use tree::{NodeKind, Read};
 
 // A number without `-`; `base` is its node's kind if it is whole.
-pub fn unsigned(toks: &[u8], at: usize, nodes: &mut [u64], used: usize, base: u8) -> Read
-    requires ready { Ready toks.now at used }
+pub fn unsigned(spot: Spot, nodes: &mut [u64], base: u8) -> Read
     requires base_le_negative_number { base ≤ negative_number }
-    ensures follows { Follows toks.now at (Unsigned ∷ []) (place result) }
-    ensures parsed { Parsed flat_unsigned (HoldsUnsigned base at) toks.now nodes.old nodes.new at used result }
+    ensures follows { Follows spot.entry.toks.now spot.entry.at (Unsigned ∷ []) (place result) }
+    ensures parsed { Parsed flat_unsigned (HoldsUnsigned base spot.entry.at) spot.entry.toks.now nodes.old nodes.new spot.entry.at spot.entry.used result }
 {
-    match token::peek(toks, at) {
+    match spot.peek() {
         Kind::WHOLE => {
-            tree::node(nodes, used, base, at, 0, 0);
-            Ok((at + 1, used))
+            tree::node(nodes, spot.used, base, spot.at, 0, 0);
+            Ok((spot.at + 1, spot.used))
         }
         Kind::DECIMAL => {
-            tree::node(nodes, used, base + NodeKind::DECIMAL, at, 0, 0);
-            Ok((at + 1, used))
+            tree::node(nodes, spot.used, base + NodeKind::DECIMAL, spot.at, 0, 0);
+            Ok((spot.at + 1, spot.used))
         }
-        _ => Err(at),
+        _ => Err(spot.at),
     }
 }
 
 // A number, perhaps with `-` before it.
-pub fn number(toks: &[u8], at: usize, nodes: &mut [u64], used: usize) -> Read
-    requires { Ready toks.now at used }
-    ensures follows { Follows toks.now at (Number' ∷ []) (place result) }
-    ensures parsed { Parsed flat_number (λ t n. Table.Scale t (number_at n at)) toks.now nodes.old nodes.new at used result }
+pub fn number(spot: Spot, nodes: &mut [u64]) -> Read
+    ensures follows { Follows spot.entry.toks.now spot.entry.at (Number' ∷ []) (place result) }
+    ensures parsed { Parsed flat_number (λ t n. Table.Scale t (number_at n spot.entry.at)) spot.entry.toks.now nodes.old nodes.new spot.entry.at spot.entry.used result }
 {
-    if token::peek(toks, at) == b'-' {
-        return unsigned(toks, at + 1, nodes, used, NodeKind::NEGATIVE_NUMBER);
+    if spot.peek() == b'-' {
+        return unsigned(spot.next(), nodes, NodeKind::NEGATIVE_NUMBER);
     }
-    unsigned(toks, at, nodes, used, NodeKind::NUMBER)
+    unsigned(spot, nodes, NodeKind::NUMBER)
 }
 
 // A number or a name.
-pub fn scale(toks: &[u8], at: usize, nodes: &mut [u64], used: usize) -> Read
-    requires { Ready toks.now at used }
-    ensures follows { Follows toks.now at (Scale' ∷ []) (place result) }
-    ensures parsed { Parsed flat_scale (λ t s. Table.Scale t (scale_at s at)) toks.now nodes.old nodes.new at used result }
+pub fn scale(spot: Spot, nodes: &mut [u64]) -> Read
+    ensures follows { Follows spot.entry.toks.now spot.entry.at (Scale' ∷ []) (place result) }
+    ensures parsed { Parsed flat_scale (λ t s. Table.Scale t (scale_at s spot.entry.at)) spot.entry.toks.now nodes.old nodes.new spot.entry.at spot.entry.used result }
 {
-    if token::peek(toks, at) == Kind::NAME {
-        tree::node(nodes, used, NodeKind::SCALE_NAME, at, 0, 0);
-        return Ok((at + 1, used));
+    if spot.peek() == Kind::NAME {
+        tree::node(nodes, spot.used, NodeKind::SCALE_NAME, spot.at, 0, 0);
+        return Ok((spot.at + 1, spot.used));
     }
-    number(toks, at, nodes, used)
+    number(spot, nodes)
 }
 
 // A scale, perhaps times an atom.
-pub fn rate(toks: &[u8], at: usize, nodes: &mut [u64], used: usize) -> Read
-    requires { Ready toks.now at used }
-    ensures follows { Follows toks.now at (a_rate) (place result) }
-    ensures parsed { Parsed flat_rate (λ t r. Table.Rate t (rate_at r at)) toks.now nodes.old nodes.new at used result }
+pub fn rate(spot: Spot, nodes: &mut [u64]) -> Read
+    ensures follows { Follows spot.entry.toks.now spot.entry.at (a_rate) (place result) }
+    ensures parsed { Parsed flat_rate (λ t r. Table.Rate t (rate_at r spot.entry.at)) spot.entry.toks.now nodes.old nodes.new spot.entry.at spot.entry.used result }
 {
-    let (n, left) = scale(toks, at, nodes, used)?;
-    if token::peek(toks, n) != b'*' {
+    let (n, left) = scale(spot, nodes)?;
+    if token::peek(spot.toks, n) != b'*' {
         return Ok((n, left));
     }
-    let (m, r) = expression::atom(toks, n + 1, nodes, left + 1)?;
+    let (m, r) = expression::atom(spot.to(n + 1, left + 1), nodes)?;
     let root = r + 1;
     tree::node(nodes, root, NodeKind::SCALED, 0, left, 0);
     Ok((m, root))

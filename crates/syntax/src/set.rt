@@ -5,10 +5,12 @@ ghost use Rattle.grammar.specs.Machine.{Parts', a_part, a_set};
 ghost use Rattle.grammar.specs.Follows.{Follows};
 ghost use Rattle.grammar.specs.Syntax.{part_at, parts_at, set_at};
 ghost use Rattle.tree.specs.Table;
-ghost use Rattle.tree.specs.Reading.{place, Ready, Parsed, Extended};
+ghost use Rattle.tree.specs.Reading.{place, Parsed, Extended};
 ghost use Rattle.syntax.specs.Signs.{join_signs, sign_kind};
 
 use crate::expression;
+use crate::left::Left;
+use crate::spot::Spot;
 use token::Kind;
 use tree::{NodeKind, Read};
 
@@ -26,42 +28,39 @@ pub fn join_kind(t: u8) -> Option<u8>
 }
 
 // An expression or a range.
-pub fn part(toks: &[u8], at: usize, nodes: &mut [u64], used: usize) -> Read
-    requires { Ready toks.now at used }
-    ensures follows { Follows toks.now at (a_part) (place result) }
-    ensures parsed { Parsed flat_part (λ t p. Table.Set t (part_at p at)) toks.now nodes.old nodes.new at used result }
+pub fn part(spot: Spot, nodes: &mut [u64]) -> Read
+    ensures follows { Follows spot.entry.toks.now spot.entry.at (a_part) (place result) }
+    ensures parsed { Parsed flat_part (λ t p. Table.Set t (part_at p spot.entry.at)) spot.entry.toks.now nodes.old nodes.new spot.entry.at spot.entry.used result }
 {
-    let (n, left) = expression::expr(toks, at, nodes, used)?;
-    if token::peek(toks, n) != Kind::RANGE {
+    let (n, left) = expression::expr(spot, nodes)?;
+    if token::peek(spot.toks, n) != Kind::RANGE {
         return Ok((n, left));
     }
-    let (m, r) = expression::expr(toks, n + 1, nodes, left + 1)?;
+    let (m, r) = expression::expr(spot.to(n + 1, left + 1), nodes)?;
     let root = r + 1;
     tree::node(nodes, root, NodeKind::RANGE, 0, left, 0);
     Ok((m, root))
 }
 
-// What the set at `left` is joined with.
-pub fn parts(toks: &[u8], at: usize, nodes: &mut [u64], left: usize) -> Read
-    requires { Ready toks.now at (left + 1) }
-    ensures follows { Follows toks.now at (Parts' ∷ []) (place result) }
-    ensures extended { Extended flat_parts (λ s r. parts_at s r at) Table.Set Table.Set toks.now nodes.old nodes.new at left result }
+// What the set on the left is joined with.
+pub fn parts(left: Left, nodes: &mut [u64]) -> Read
+    ensures follows { Follows left.entry.toks.now left.entry.at (Parts' ∷ []) (place result) }
+    ensures extended { Extended flat_parts (λ s r. parts_at s r left.entry.at) Table.Set Table.Set left.entry.toks.now nodes.old nodes.new left.entry.at left.entry.root result }
 {
-    let Some(kind) = join_kind(token::peek(toks, at)) else {
-        return Ok((at, left));
+    let Some(kind) = join_kind(left.peek()) else {
+        return Ok((left.at, left.root));
     };
-    let (n, r) = part(toks, at + 1, nodes, left + 1)?;
+    let (n, r) = part(left.next(), nodes)?;
     let root = r + 1;
-    tree::node(nodes, root, kind, 0, left, 0);
-    parts(toks, n, nodes, root)
+    tree::node(nodes, root, kind, 0, left.root, 0);
+    parts(left.after(n, root), nodes)
 }
 
 // Parts joined by `\`, `union` and `inter`.
-pub fn set(toks: &[u8], at: usize, nodes: &mut [u64], used: usize) -> Read
-    requires { Ready toks.now at used }
-    ensures follows { Follows toks.now at (a_set) (place result) }
-    ensures parsed { Parsed flat_set (λ t s. Table.Set t (set_at s at)) toks.now nodes.old nodes.new at used result }
+pub fn set(spot: Spot, nodes: &mut [u64]) -> Read
+    ensures follows { Follows spot.entry.toks.now spot.entry.at (a_set) (place result) }
+    ensures parsed { Parsed flat_set (λ t s. Table.Set t (set_at s spot.entry.at)) spot.entry.toks.now nodes.old nodes.new spot.entry.at spot.entry.used result }
 {
-    let (n, r) = part(toks, at, nodes, used)?;
-    parts(toks, n, nodes, r)
+    let (n, r) = part(spot, nodes)?;
+    parts(spot.after(n, r), nodes)
 }

@@ -7,7 +7,7 @@ use Rattle.syntax.proofs.line.+model_variable.Goals as goal
 
 pub model-returns-then-peek-ne-NAME : goal.model-returns-then-peek-ne-NAME
 model-returns-then-peek-ne-NAME t c =
-    let r = model-nameless _ _ _ _ c.requires.inside (isnt c.peek.ensures c.if-peek-ne-NAME.true) in record { follows = r.0; parsed = r.1 }
+    let r = model-nameless _ _ _ _ c.args.spot.ready.inside (isnt c.peek.ensures c.if-peek-ne-NAME.true) in record { follows = r.0; parsed = r.1 }
 
 pub model-returns-then-t-eq91 : goal.model-returns-then-t-eq91
 model-returns-then-t-eq91 t c =
@@ -23,16 +23,16 @@ model-returns t c =
 
 pub variable-returns-then-peek-ne59 : goal.variable-returns-then-peek-ne59
 variable-returns-then-peek-ne59 t c =
-    let r = variable-open _ _ _ _ _ (c.number.ensures.follows, c.number.ensures.parsed) c.in_ok-n.was (isnt c.peek.ensures c.if-peek-ne59.true) in record { follows = r.0; parsed = r.1 }
+    let r = variable-open _ _ _ _ _ (rw c.to.ensures.1 at c.number.ensures.follows, rw c.to.ensures.1 at c.number.ensures.parsed) c.in_ok-n.was (isnt c.peek.ensures c.if-peek-ne59.true) in record { follows = r.0; parsed = r.1 }
 
 pub variable-returns-in_err-n : goal.variable-returns-in_err-n
 variable-returns-in_err-n t c =
-    rw (raised c.from_residual.ensures.1) (let r = variable-number _ _ _ _ _ (c.number.ensures.follows, c.number.ensures.parsed) c.in_err-n.was in record { follows = r.0; parsed = r.1 })
+    rw (raised c.from_residual.ensures.1) (let r = variable-number _ _ _ _ _ (rw c.to.ensures.1 at c.number.ensures.follows, rw c.to.ensures.1 at c.number.ensures.parsed) c.in_err-n.was in record { follows = r.0; parsed = r.1 })
 
 pub variable-returns-in_err-m : goal.variable-returns-in_err-m
 variable-returns-in_err-m t c =
-    rw (raised c.from_residual-in_err-m.ensures.1) (let r = variable-rest _ _ _ _ _ (c.number.ensures.follows, c.number.ensures.parsed) c.in_ok-n.was _ (same c.peek.ensures c.if-peek-ne59.false) (c.model.ensures.follows, c.model.ensures.parsed) c.in_err-m.was in record { follows = r.0; parsed = r.1 })
+    rw (raised c.from_residual-in_err-m.ensures.1) (let r = variable-rest _ _ _ _ _ (rw c.to.ensures.1 at c.number.ensures.follows, rw c.to.ensures.1 at c.number.ensures.parsed) c.in_ok-n.was _ (same c.peek.ensures c.if-peek-ne59.false) (rw c.to-2.ensures.1 at c.model.ensures.follows, rw c.to-2.ensures.1 at c.model.ensures.parsed) c.in_err-m.was in record { follows = r.0; parsed = r.1 })
 
 pub variable-returns : goal.variable-returns
 variable-returns t c =
-    let m = made_of c.in_ok-n.was c.number.ensures.parsed in let q = ready-after (ready-third c.requires.ready (omega (arith, c.requires.name_value_2))) m.span in let r = variable-made _ _ _ _ _ (c.number.ensures.follows, c.number.ensures.parsed) c.in_ok-n.was _ (same c.peek.ensures c.if-peek-ne59.false) (c.model.ensures.follows, c.model.ensures.parsed) c.requires.name_value c.requires.name_value_2 c.in_ok-m.was (record { written = c.node.ensures; token-fits = omega (arith, c.requires.ready.inside, c.requires.ready.room); left-fits = omega (arith, q.inside, q.room, q.few); third-fits = omega arith }) in record { follows = r.0; parsed = r.1 }
+    let m = made_of c.in_ok-n.was (rw c.to.ensures.1 at c.number.ensures.parsed) in let q = ready-after (ready-third c.args.spot.ready (omega (arith, c.requires.name_value_2))) m.span in let r = variable-made _ _ _ _ _ (rw c.to.ensures.1 at c.number.ensures.follows, rw c.to.ensures.1 at c.number.ensures.parsed) c.in_ok-n.was _ (same c.peek.ensures c.if-peek-ne59.false) (rw c.to-2.ensures.1 at c.model.ensures.follows, rw c.to-2.ensures.1 at c.model.ensures.parsed) c.requires.name_value c.requires.name_value_2 c.in_ok-m.was (record { written = c.node.ensures; token-fits = omega (arith, c.args.spot.ready.inside, c.args.spot.ready.room); left-fits = omega (arith, q.inside, q.room, q.few); third-fits = omega arith }) in record { follows = r.0; parsed = r.1 }

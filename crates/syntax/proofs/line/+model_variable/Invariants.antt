@@ -5,7 +5,7 @@ use lib.ListN.{length}
 use Rattle.syntax.proofs.line.+model_variable.Given as goal
 
 abbrev pub decreases-model : goal.decreases-model
-decreases-model l = 2 * (length l.toks.now - l.at) + 1
+decreases-model l = 2 * (length l.spot.toks.now - l.spot.at) + 1
 
 abbrev pub decreases-variable : goal.decreases-variable
-decreases-variable l = 2 * (length l.toks.now - l.name)
+decreases-variable l = 2 * (length l.spot.toks.now - l.spot.at)

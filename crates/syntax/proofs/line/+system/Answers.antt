@@ -19,8 +19,8 @@ returns-in_err-n t c =
 
 pub returns-in_err-m : goal.returns-in_err-m
 returns-in_err-m t c =
-    rw (raised c.from_residual-in_err-m.ensures.1) (let r = system-rest _ _ _ _ _ (c.start.ensures.follows, c.start.ensures.parsed) c.in_ok-n.was _ (same c.peek-t.ensures c.if-t.false) (c.system.ensures.follows, c.system.ensures.parsed) c.in_err-m.was in record { follows = r.0; parsed = r.1 })
+    rw (raised c.from_residual-in_err-m.ensures.1) (let r = system-rest _ _ _ _ _ (c.start.ensures.follows, c.start.ensures.parsed) c.in_ok-n.was _ (same c.peek-t.ensures c.if-t.false) (rw c.to.ensures.1 at c.system.ensures.follows, rw c.to.ensures.1 at c.system.ensures.parsed) c.in_err-m.was in record { follows = r.0; parsed = r.1 })
 
 pub returns : goal.returns
 returns t c =
-    let m = made_of c.in_ok-n.was c.start.ensures.parsed in let q = ready-after c.requires m.span in let r = system-next _ _ _ _ _ (c.start.ensures.follows, c.start.ensures.parsed) c.in_ok-n.was _ (same c.peek-t.ensures c.if-t.false) (c.system.ensures.follows, c.system.ensures.parsed) c.in_ok-m.was (record { written = c.node.ensures; token-fits = omega arith; left-fits = omega (arith, q.inside, q.room, q.few); third-fits = omega arith }) in record { follows = r.0; parsed = r.1 }
+    let m = made_of c.in_ok-n.was c.start.ensures.parsed in let q = ready-after c.args.spot.ready m.span in let r = system-next _ _ _ _ _ (c.start.ensures.follows, c.start.ensures.parsed) c.in_ok-n.was _ (same c.peek-t.ensures c.if-t.false) (rw c.to.ensures.1 at c.system.ensures.follows, rw c.to.ensures.1 at c.system.ensures.parsed) c.in_ok-m.was (record { written = c.node.ensures; token-fits = omega arith; left-fits = omega (arith, q.inside, q.room, q.few); third-fits = omega arith }) in record { follows = r.0; parsed = r.1 }

@@ -1,0 +1,6 @@
+-- `Spot::to` gives the place that it says.
+use mathlib.Core.Path.{refl}
+use Rattle.syntax.proofs.spot.Spot.to.Goals as goal
+
+pub returns : goal.returns
+returns c = (_, refl)

@@ -1,32 +1,34 @@
 -- What the loops over letters, words and places say at each turn, and each case of the other functions: from the definitions.
 use mathlib.Core.Path.{◌≡◌, refl, sym, ap, ap₂, ◌∙◌}
 use mathlib.Core.Bool.{Bool, true, false, cond, not, ◌&&◌}
-use mathlib.Core.List.{List, [], ◌∷◌, ◌++◌, append-nil}
+use mathlib.Core.List.{List, [], ◌∷◌, ◌++◌}
 use Prim.Native.Nat.{ℕ, zero, suc, ◌+◌, ◌-◌, ◌*◌, ◌/◌, ◌%◌, ◌≤◌, ◌<◌, ◌^◌}
 use native.Mathlib.Nat.{pow-suc}
 use native.Mathlib.Omega.{arith}
-use borrow.Author.Tests.{eq-eqb, ne_eqb, ltb-true, le-leb, lt-leb, lt-ltb, le-ltb}
+use borrow.Author.Tests.{eq-eqb, ne_eqb, ltb-true, le-leb, lt-leb, lt-ltb, le-ltb, ltb-false}
 use borrow.Rule.Slice.PartMut.{put_mid}
-use lib.Dec.{eqb, leb, eqb-suc-suc}
+use lib.Dec.{eqb, leb, ltb, leb-suc-suc}
 use lib.IntN.{ℤ, pos, negsuc, nat_abs}
 use lib.Signed.{lt_z}
 use lib.ListN.{length, set, take, drop, replicate, drop_of_length-le, length-take, length-drop, length-append}
 use lib.Seq.{take_all, take_at, take-nil, get_or-take, drop-drop}
 use mir.Syntax.{w64}
-use mir.Val.{of_z, to_z}
+use mir.Val.{to_z}
+use mir.Facts.{to_z_pos}
 use Rattle.value.specs.Arithmetic.{is_same}
 use Rattle.value.proofs.Kit.{true-not-false, back}
-use Rattle.word.specs.Name.{longest, word_bytes, pack}
+use Rattle.word.specs.Name.{longest, word_bytes, pack, Name, name_of}
 use Rattle.machine.specs.Saves.{is_letter, is_name, first_of, save_limit, key_width, timed_length, place_width, saves_length}
 use Rattle.state.specs.Test.{every, rows, at, is_zero}
 use Rattle.state.proofs.Part.{tail-part, next_row}
 use Rattle.state.proofs.Rows.{rows-length}
 use Rattle.state.proofs.Tests.{both, rows_next, rows_none}
-use Rattle.saves.specs.Keys.{is_word, is_second, is_key, is_key_of, full_word, key_numbers}
+use Rattle.saves.specs.Keys.{is_word, is_second, is_key, is_key_of, full_word, low_of, high_of, key_numbers}
 use Rattle.saves.specs.Kept.{is_kept}
 use Rattle.saves.specs.Places.{has_key, is_place, is_once, are_once, places_of, is_saves, kept_part}
-use Rattle.saves.specs.Change.{place_with, no_key, place_to_take, row_at, with_row, saving_numbers, returning_numbers, forgetting_numbers, Stores}
-use Rattle.saves.proofs.Names.{letters-every, letter-is, name-is, every_take, every_drop}
+use Rattle.std.specs.Prelude.{Option, None, Some, is_some}
+use Rattle.saves.specs.Change.{below, key_of, place_with, no_key, place_to_take, row_at, with_row, saving_numbers, returning_numbers, forgetting_numbers, Stores}
+use Rattle.saves.proofs.Names.{letters_every, letter-is, name-is, every_take, every_drop}
 
 -- ---- letters
 
@@ -126,7 +128,46 @@ module _ (n : List ℕ) where
 
   pub name-letters : 1 ≤ length n → length n ≤ longest → is_name n ≡ every is_letter n
   unfolding is_name
-  name-letters h k = rw (le-leb 1 (length n) h, le-leb (length n) longest k) (letters-every n)
+  name-letters h k = rw (le-leb 1 (length n) h, le-leb (length n) longest k) (letters_every n)
+
+-- ---- numbers below a number
+
+module _ (n p : ℕ) where
+  pub below-none : None ≡ below n p → n ≤ p
+  unfolding below
+  below-none e = by (ltb p n) refl e
+    where
+      by : (b : Bool) → ltb p n ≡ b → None ≡ cond b (Some p) None → n ≤ p
+      by true f e = cc
+      by false f e = ltb-false p n f
+
+  pub below-some : (i : ℕ) → Some i ≡ below n p → (i ≡ p) × (i < n)
+  unfolding below
+  below-some i e = by (ltb p n) refl e
+    where
+      by : (b : Bool) → ltb p n ≡ b → Some i ≡ cond b (Some p) None → (i ≡ p) × (i < n)
+      by true f e = let q : i ≡ p = cc in (q, omega (arith, ltb-true p n f))
+      by false f e = cc
+
+  pub below-at : (i : ℕ) → i < n → p ≡ i → Some i ≡ below n p
+  unfolding below
+  below-at i h e = rw (e, lt-ltb i n h)
+
+  pub below-past : n ≤ p → None ≡ below n p
+  unfolding below
+  below-past h = rw (le-ltb p n h)
+
+  pub none-below : (r : Option ℕ) (b : Bool) → is_some r ≡ not b → r ≡ below n p → b ≡ not (ltb p n)
+  unfolding below
+  none-below r b e f = sym (ap not (sym (here (ltb p n)) ∙ ap is_some (sym f) ∙ e) ∙ twice b)
+    where
+      here : (c : Bool) → is_some (cond c (Some p) None) ≡ c
+      here true = refl
+      here false = refl
+
+      twice : (c : Bool) → not (not c) ≡ c
+      twice true = refl
+      twice false = refl
 
 -- ---- the first of the rows
 
@@ -151,14 +192,14 @@ first-same t u f [] = refl
 first-same t u f (x ∷ xs) = ap₂ (λ (b : Bool) (k : ℕ). cond b 0 (suc k)) (f x) (first-same t u f xs)
 
 -- none passes where the first place is past the last
-none_first : {A : Type 0} (t : A → Bool) (xs : List A) → every (λ (x : A). not (t x)) xs ≡ eqb (first_of t xs) (length xs)
+none_first : {A : Type 0} (t : A → Bool) (xs : List A) → every (λ (x : A). not (t x)) xs ≡ not (ltb (first_of t xs) (length xs))
 unfolding every first_of
 none_first t [] = refl
 none_first t (x ∷ xs) = by (t x) (none_first t xs)
   where
-    by : (b : Bool) → every (λ (x : _). not (t x)) xs ≡ eqb (first_of t xs) (length xs) → (not b && every (λ (x : _). not (t x)) xs) ≡ eqb (cond b 0 (suc (first_of t xs))) (suc (length xs))
-    by true e = sym (ne_eqb 0 (suc (length xs)) (λ (q : 0 ≡ suc (length xs)). omega arith))
-    by false e = e ∙ sym (eqb-suc-suc (first_of t xs) (length xs))
+    by : (b : Bool) → every (λ (x : _). not (t x)) xs ≡ not (ltb (first_of t xs) (length xs)) → (not b && every (λ (x : _). not (t x)) xs) ≡ not (ltb (cond b 0 (suc (first_of t xs))) (suc (length xs)))
+    by true e = ap not (sym (lt-ltb 0 (suc (length xs)) (omega arith)))
+    by false e = e ∙ ap not (sym (leb-suc-suc (suc (first_of t xs)) (length xs)))
 
 -- ---- names that stand once
 
@@ -206,39 +247,28 @@ half (suc k) (b ∷ s) e h =
 pub word_fits : (s : List ℕ) → every is_letter s ≡ true → length s ≤ word_bytes → pack s < 9223372036854775808
 word_fits s e h = half 7 s e h
 
-module _ (n : List ℕ) where
-  key_one : length n ≤ word_bytes → key_numbers n ≡ pos (pack n) ∷ pos 0 ∷ []
-  unfolding pack
-  key_one h = ap₂ (λ (a b : List ℕ). pos (pack a) ∷ pos (pack b) ∷ []) (take_all word_bytes n h) (drop_of_length-le n {i = word_bytes} h)
+module _ (n : List ℕ) (e : is_name n ≡ true) where
+  name-packed : name_of n ≡ Some (low_of n, high_of n)
+  unfolding name_of
+  name-packed = rw (le-leb (length n) longest (name-is n e).short)
 
-  key-two : key_numbers n ≡ pos (pack (take word_bytes n)) ∷ pos (pack (take (length n - word_bytes) (drop word_bytes n))) ∷ []
-  key-two = ap (λ (s : List ℕ). pos (pack (take word_bytes n)) ∷ pos (pack s) ∷ []) (sym (tail-part word_bytes n))
+  -- a name isn't too long
+  pub no-words : None ≡ name_of n → ⊥
+  no-words f = let q : ◌≡◌ {A = Name} None (Some (low_of n, high_of n)) = f ∙ name-packed in absurd cc
 
-two-set : (k : List ℤ) (a b : ℤ) → length k ≡ 2 → set (set k 0 a) 1 b ≡ a ∷ b ∷ []
-two-set [] a b h = absurd (omega arith)
-two-set (x ∷ []) a b h = absurd (omega arith)
-two-set (x ∷ y ∷ []) a b h = refl
-two-set (x ∷ y ∷ z ∷ k) a b h = absurd (omega arith)
+  module _ (a b : ℕ) (f : Some (a, b) ≡ name_of n) where
+    words : (a ≡ low_of n) × (b ≡ high_of n)
+    words = let q : ◌≡◌ {A = ℕ × ℕ} (a, b) (low_of n, high_of n) = cc (f, name-packed) in (ap (λ (w : ℕ × ℕ). w.0) q, ap (λ (w : ℕ × ℕ). w.1) q)
 
-pub letters-first : (n : List ℕ) → is_name n ≡ true → every is_letter (take word_bytes n) ≡ true
-letters-first n e = every_take is_letter word_bytes n (name-is n e).letters
+    pub low-fits : a < 9223372036854775808
+    low-fits = rw words.0 (word_fits (take word_bytes n) (every_take is_letter word_bytes n (name-is n e).letters) (simp length-take (omega arith)))
 
-pub letters-second : (n : List ℕ) → is_name n ≡ true → every is_letter (take (length n - word_bytes) (drop word_bytes n)) ≡ true
-letters-second n e = every_take is_letter (length n - word_bytes) (drop word_bytes n) (every_drop is_letter word_bytes n (name-is n e).letters)
+    pub high-fits : b < 9223372036854775808
+    high-fits = rw words.1 (word_fits (drop word_bytes n) (every_drop is_letter word_bytes n (name-is n e).letters) (simp length-drop (omega (arith, (name-is n e).short))))
 
-stored-word : (r : ℤ) (s : List ℕ) → r ≡ pos (pack s) → every is_letter s ≡ true → length s ≤ word_bytes → to_z w64 (of_z w64 r) ≡ pos (pack s)
-stored-word r s e l h = back r (rw e (word_fits s l h)) ∙ e
-
-pub one-put : (k : List ℤ) (n : List ℕ) (r : ℤ) → length k ≡ key_width → r ≡ pos (pack n) → every is_letter n ≡ true → length n ≤ word_bytes → set (set k 0 (to_z w64 (of_z w64 r))) 1 (pos 0) ≡ key_numbers n
-one-put k n r l e a h = two-set k _ (pos 0) l ∙ ap (λ (z : ℤ). z ∷ pos 0 ∷ []) (stored-word r n e a h) ∙ sym (key_one n h)
-
-pub two-put : (k : List ℤ) (n : List ℕ) (r q : ℤ) → length k ≡ key_width → r ≡ pos (pack (take word_bytes n)) → q ≡ pos (pack (take (length n - word_bytes) (drop word_bytes n))) → is_name n ≡ true
-    → set (set k 0 (to_z w64 (of_z w64 r))) 1 (to_z w64 (of_z w64 q)) ≡ key_numbers n
-two-put k n r q l e f a =
-    two-set k _ _ l
-    ∙ ap₂ (λ (y z : ℤ). y ∷ z ∷ []) (stored-word r (take word_bytes n) e (letters-first n a) (simp length-take (omega arith)))
-    (stored-word q _ f (letters-second n a) (simp (length-take, length-drop) (omega (arith, (name-is n a).short))))
-    ∙ sym (key-two n)
+    pub key-words : Some (to_z w64 a ∷ to_z w64 b ∷ []) ≡ key_of n
+    unfolding key_of
+    key-words = rw e (ap₂ (λ (y z : ℤ). Some (y ∷ z ∷ [])) (to_z_pos w64 low-fits ∙ ap pos words.0) (to_z_pos w64 high-fits ∙ ap pos words.1))
 
 -- ---- places
 
@@ -262,20 +292,22 @@ module _ (w : ℕ) (s : List ℤ) (n : ℕ) (h : 2 ≤ w) where
   once-empty e = rw (get_or-take w s 0 (pos 0) (omega arith), e)
 
   -- what the search among the later places says
-  pub once-found : is_same (at s 0) (pos 0) ≡ false → (r : ℕ) → r ≡ first_of (has_key (take 2 s)) (rows w n (take (length s - w) (drop w s))) → eqb r n ≡ is_once (take w s) (rows w n (drop w s))
+  pub once-found : is_same (at s 0) (pos 0) ≡ false → (key : List ℤ) → key ≡ (at s 0 ∷ at s 1 ∷ []) → (r : Option ℕ) (b : Bool) → is_some r ≡ not b
+      → r ≡ below n (first_of (has_key key) (rows w n (take (length s - w) (drop w s)))) → b ≡ is_once (take w s) (rows w n (drop w s))
   unfolding is_once is_zero
-  once-found e r q =
-      let k : (x : List ℤ) → has_key (take 2 s) x ≡ has_key (take w s) x = λ x. same_key x in
-      let p : r ≡ first_of (has_key (take w s)) (rows w n (drop w s)) = q ∙ ap (λ (l : List ℤ). first_of (has_key (take 2 s)) (rows w n l)) (tail-part w s) ∙ first-same (has_key (take 2 s)) (has_key (take w s)) k (rows w n (drop w s)) in
-      ap₂ eqb p (sym (rows-length w n (drop w s)))
+  once-found e key g r b f j =
+      let k : (x : List ℤ) → has_key key x ≡ has_key (take w s) x = λ x. ap (λ (y : List ℤ). has_key y x) g ∙ same_key x in
+      let p : first_of (has_key key) (rows w n (take (length s - w) (drop w s))) ≡ first_of (has_key (take w s)) (rows w n (drop w s)) =
+      ap (λ (l : List ℤ). first_of (has_key key) (rows w n l)) (tail-part w s) ∙ first-same (has_key key) (has_key (take w s)) k (rows w n (drop w s)) in
+      none-below n _ r b f (j ∙ ap (below n) p)
+      ∙ ap (λ (m : ℕ). not (ltb (first_of (has_key (take w s)) (rows w n (drop w s))) m)) (sym (rows-length w n (drop w s)))
       ∙ sym (none_first (has_key (take w s)) (rows w n (drop w s)))
       ∙ rw (get_or-take w s 0 (pos 0) (omega arith), e)
     where
-      same_key : (x : List ℤ) → has_key (take 2 s) x ≡ has_key (take w s) x
+      same_key : (x : List ℤ) → has_key (at s 0 ∷ at s 1 ∷ []) x ≡ has_key (take w s) x
       same_key x =
           unfold has_key in
-          (ap₂ (λ (a b : ℤ). is_same (at x 0) a && is_same (at x 1) b)
-          (get_or-take 2 s 0 (pos 0) (omega arith) ∙ sym (get_or-take w s 0 (pos 0) (omega arith))) (get_or-take 2 s 1 (pos 0) (omega arith) ∙ sym (get_or-take w s 1 (pos 0) (omega arith))))
+          (ap₂ (λ (a b : ℤ). is_same (at x 0) a && is_same (at x 1) b) (sym (get_or-take w s 0 (pos 0) (omega arith))) (sym (get_or-take w s 1 (pos 0) (omega arith))))
 
 -- one turn of the test that names stand once
 pub once-part : (w n : ℕ) (s : List ℤ) (i : ℕ) → i < n → is_once (take w (take (length s - i * w) (drop (i * w) s))) (rows w (n - 1 - i) (drop w (take (length s - i * w) (drop (i * w) s))))
@@ -296,26 +328,28 @@ module _ (scopes : List ℕ) (channels : ℕ) (zs : List ℤ) where
 
 -- ---- the place for a name
 
-module _ (key ss : List ℤ) (n : ℕ) (e : n ≡ place_with key ss) where
-  pub place-known : n < save_limit → n ≡ place_to_take key ss
-  unfolding place_to_take
-  place-known h = e ∙ rw (lt-ltb (place_with key ss) save_limit (omega arith))
+module _ (n : List ℕ) where
+  pub no-key : is_name n ≡ false → None ≡ key_of n
+  unfolding key_of
+  no-key e = rw e
 
-  pub place-new : save_limit ≤ n → place_to_take key ss ≡ place_with no_key ss
-  unfolding place_to_take
-  place-new h = rw (le-ltb (place_with key ss) save_limit (omega arith))
+  unnamed : None ≡ key_of n → is_name n ≡ false
+  unfolding key_of
+  unnamed e = by (is_name n) e
+    where
+      by : (b : Bool) → None ≡ cond b (Some (key_numbers n)) None → b ≡ false
+      by true e = cc
+      by false e = refl
+
+  key-is : (key : List ℤ) → Some key ≡ key_of n → (is_name n ≡ true) × (key ≡ key_numbers n)
+  unfolding key_of
+  key-is key e = by (is_name n) e
+    where
+      by : (b : Bool) → Some key ≡ cond b (Some (key_numbers n)) None → (b ≡ true) × (key ≡ key_numbers n)
+      by true e = (refl, cc)
+      by false e = cc
 
 -- ---- what is written
-
--- k numbers, then w numbers, over as many
-pub place-put : (k w : ℕ) (place key state xs ys : List ℤ) → length key ≡ k → length place ≡ k + w → length state ≡ w → xs ≡ take k key ++ drop k place
-    → ys ≡ take w state ++ drop w (take (length xs - k) (drop k xs)) → put_mid k (length xs - k) xs ys ≡ key ++ state
-place-put k w place key state xs ys a b c e f =
-    let m : length xs ≡ k + w = ap length e ∙ simp (length-append, length-take, length-drop) (omega arith) in
-    let t : take k xs ≡ key = ap (take k) e ∙ take_at (take k key) (drop k place) k (simp length-take (omega arith)) ∙ take_all k key (omega arith) in
-    let u : ys ≡ state = f ∙ ap₂ (λ (x y : List ℤ). x ++ y) (take_all w state (omega arith)) (drop_of_length-le (take (length xs - k) (drop k xs)) {i = w} (simp (length-take, length-drop) (omega arith))) ∙ append-nil state in
-    let v : drop (length xs - k) (drop k xs) ≡ [] = drop_of_length-le (drop k xs) {i = length xs - k} (simp length-drop (omega arith)) in
-    ap₂ (λ (x y : List ℤ). x ++ y) t (ap₂ (λ (x y : List ℤ). x ++ y) u v ∙ append-nil state)
 
 drop-take : {A : Type 0} (c a : ℕ) (l : List A) → drop c (take (c + a) l) ≡ take a (drop c l)
 drop-take zero a l = let e : 0 + a ≡ a = omega arith in ap (λ (k : ℕ). take k l) e
@@ -330,75 +364,78 @@ row-end k w p ss = ap (take w) (sym (drop-drop k p ss)) ∙ sym (take_twice w (d
     take_twice w l = take_all w (take w l) (simp length-take (omega arith))
 
 module _ (n : List ℕ) (zs ss : List ℤ) where
-  pub save-unnamed : is_name n ≡ false → Stores (saving_numbers n zs ss) 20 zs ss
+  pub save-unnamed : None ≡ key_of n → Stores (saving_numbers n zs ss) 20 zs ss
   unfolding saving_numbers
-  save-unnamed e = rw e (record { number = refl; kept = refl; saves = refl })
+  save-unnamed e = rw (unnamed n e) (record { number = refl; kept = refl; saves = refl })
 
-  pub return-unnamed : is_name n ≡ false → Stores (returning_numbers n zs ss) 20 zs ss
+  pub return-unnamed : None ≡ key_of n → Stores (returning_numbers n zs ss) 20 zs ss
   unfolding returning_numbers
-  return-unnamed e = rw e (record { number = refl; kept = refl; saves = refl })
+  return-unnamed e = rw (unnamed n e) (record { number = refl; kept = refl; saves = refl })
 
-  pub forget-unnamed : is_name n ≡ false → Stores (forgetting_numbers n zs ss) 20 zs ss
+  pub forget-unnamed : None ≡ key_of n → Stores (forgetting_numbers n zs ss) 20 zs ss
   unfolding forgetting_numbers
-  forget-unnamed e = rw e (record { number = refl; kept = refl; saves = refl })
+  forget-unnamed e = rw (unnamed n e) (record { number = refl; kept = refl; saves = refl })
 
-  module _ (e : is_name n ≡ true) (key : List ℤ) (q : key ≡ key_numbers n) (i : ℕ) where
-    module _ (f : i ≡ place_to_take key ss) where
-      place_is : place_to_take (key_numbers n) ss ≡ i
-      place_is = sym (f ∙ ap (λ (k : List ℤ). place_to_take k ss) q)
+  module _ (key : List ℤ) (known : Some key ≡ key_of n) where
+    e : is_name n ≡ true
+    e = (key-is n key known).0
 
-      pub save-full : save_limit ≤ i → Stores (saving_numbers n zs ss) 22 zs ss
-      unfolding saving_numbers
-      save-full h = rw (e, place_is, le-ltb i save_limit h) (record { number = refl; kept = refl; saves = refl })
+    q : key ≡ key_numbers n
+    q = (key-is n key known).1
 
-      pub save-put : i < save_limit → (row : List ℤ) → row ≡ key ++ zs → (m : ℕ) → m ≡ place_width → Stores (saving_numbers n zs ss) 0 zs (put_mid (i * place_width) m ss row)
-      unfolding saving_numbers with_row
-      save-put h row r m w =
-          rw (e, place_is, lt-ltb i save_limit h)
-          (record {
-            number = refl;
-            kept = refl;
-            saves =
-                ap₂ (λ (l : List ℤ) (k : ℕ). take (i * place_width) ss ++ (l ++ drop k (drop (i * place_width) ss))) (r ∙ ap (λ (k : List ℤ). k ++ zs) q) w
-                ∙ ap (λ (l : List ℤ). take (i * place_width) ss ++ ((key_numbers n ++ zs) ++ l)) (drop-drop place_width (i * place_width) ss);
-          })
+    module _ (i : ℕ) where
+      module _ (f : i ≡ place_to_take key ss) where
+        place_is : place_to_take (key_numbers n) ss ≡ i
+        place_is = sym (f ∙ ap (λ (k : List ℤ). place_to_take k ss) q)
 
-    module _ (f : i ≡ place_with key ss) where
-      name-is-at : place_with (key_numbers n) ss ≡ i
-      name-is-at = sym (f ∙ ap (λ (k : List ℤ). place_with k ss) q)
+        pub save-full : save_limit ≤ i → Stores (saving_numbers n zs ss) 22 zs ss
+        unfolding saving_numbers
+        save-full h = rw (e, place_is, le-ltb i save_limit h) (record { number = refl; kept = refl; saves = refl })
 
-      pub return-unknown : save_limit ≤ i → Stores (returning_numbers n zs ss) 21 zs ss
-      unfolding returning_numbers
-      return-unknown h = rw (e, name-is-at, le-ltb i save_limit h) (record { number = refl; kept = refl; saves = refl })
+        pub save-put : i < save_limit → (row : List ℤ) → row ≡ key ++ zs → (m : ℕ) → m ≡ place_width → Stores (saving_numbers n zs ss) 0 zs (put_mid (i * place_width) m ss row)
+        unfolding saving_numbers with_row
+        save-put h row r m w =
+            rw (e, place_is, lt-ltb i save_limit h)
+            (record {
+              number = refl;
+              kept = refl;
+              saves =
+                  ap₂ (λ (l : List ℤ) (k : ℕ). take (i * place_width) ss ++ (l ++ drop k (drop (i * place_width) ss))) (r ∙ ap (λ (k : List ℤ). k ++ zs) q) w
+                  ∙ ap (λ (l : List ℤ). take (i * place_width) ss ++ ((key_numbers n ++ zs) ++ l)) (drop-drop place_width (i * place_width) ss);
+            })
 
-      pub return-put : i < save_limit → length zs ≡ timed_length → (m : ℕ) → m ≡ timed_length → (zs' : List ℤ) → zs' ≡ take timed_length (take m (drop (i * place_width + key_width) ss)) ++ drop timed_length zs
-          → Stores (returning_numbers n zs ss) 0 zs' ss
-      unfolding returning_numbers row_at
-      return-put h l m w zs' g =
-          rw (e, name-is-at, lt-ltb i save_limit h)
-          (record {
-            number = refl;
-            kept =
-                g ∙ ap₂ (λ (a b : List ℤ). a ++ b) (ap (λ (k : ℕ). take timed_length (take k (drop (i * place_width + key_width) ss))) w ∙ take_all timed_length (take timed_length (drop (i * place_width + key_width) ss)) (simp length-take (omega arith))) (drop_of_length-le zs {i = timed_length} (omega arith))
-                ∙ append-nil (take timed_length (drop (i * place_width + key_width) ss))
-                ∙ row-end key_width timed_length (i * place_width) ss;
-            saves = refl;
-          })
+      module _ (f : i ≡ place_with key ss) where
+        name-is-at : place_with (key_numbers n) ss ≡ i
+        name-is-at = sym (f ∙ ap (λ (k : List ℤ). place_with k ss) q)
 
-      pub forget-unknown : save_limit ≤ i → Stores (forgetting_numbers n zs ss) 21 zs ss
-      unfolding forgetting_numbers
-      forget-unknown h = rw (e, name-is-at, le-ltb i save_limit h) (record { number = refl; kept = refl; saves = refl })
+        pub return-unknown : save_limit ≤ i → Stores (returning_numbers n zs ss) 21 zs ss
+        unfolding returning_numbers
+        return-unknown h = rw (e, name-is-at, le-ltb i save_limit h) (record { number = refl; kept = refl; saves = refl })
 
-      pub forget-put : i < save_limit → length ss ≡ saves_length → (m : ℕ) → m ≡ place_width → (row : List ℤ) → row ≡ replicate (length (take m (drop (i * place_width) ss))) (pos 0)
-          → Stores (forgetting_numbers n zs ss) 0 zs (put_mid (i * place_width) m ss row)
-      unfolding forgetting_numbers with_row
-      forget-put h l m w row r =
-          let k : length (take m (drop (i * place_width) ss)) ≡ place_width = simp (length-take, length-drop) (omega arith) in
-          rw (e, name-is-at, lt-ltb i save_limit h)
-          (record {
-            number = refl;
-            kept = refl;
-            saves =
-                ap₂ (λ (l : List ℤ) (k : ℕ). take (i * place_width) ss ++ (l ++ drop k (drop (i * place_width) ss))) (r ∙ ap (λ (j : ℕ). replicate j (pos 0)) k) w
-                ∙ ap (λ (l : List ℤ). take (i * place_width) ss ++ (replicate place_width (pos 0) ++ l)) (drop-drop place_width (i * place_width) ss);
-          })
+        pub return-put : i < save_limit → (m : ℕ) → m ≡ timed_length → (zs' : List ℤ) → zs' ≡ take m (drop (i * place_width + key_width) ss) → Stores (returning_numbers n zs ss) 0 zs' ss
+        unfolding returning_numbers row_at
+        return-put h m w zs' g =
+            rw (e, name-is-at, lt-ltb i save_limit h)
+            (record {
+              number = refl;
+              kept = g ∙ ap (λ (k : ℕ). take k (drop (i * place_width + key_width) ss)) w ∙ row-end key_width timed_length (i * place_width) ss;
+              saves = refl;
+            })
+
+        pub forget-unknown : save_limit ≤ i → Stores (forgetting_numbers n zs ss) 21 zs ss
+        unfolding forgetting_numbers
+        forget-unknown h = rw (e, name-is-at, le-ltb i save_limit h) (record { number = refl; kept = refl; saves = refl })
+
+        pub forget-put : i < save_limit → length ss ≡ saves_length → (m : ℕ) → m ≡ place_width → (row : List ℤ) → row ≡ replicate (length (take m (drop (i * place_width) ss))) (pos 0)
+            → Stores (forgetting_numbers n zs ss) 0 zs (put_mid (i * place_width) m ss row)
+        unfolding forgetting_numbers with_row
+        forget-put h l m w row r =
+            let k : length (take m (drop (i * place_width) ss)) ≡ place_width = simp (length-take, length-drop) (omega arith) in
+            rw (e, name-is-at, lt-ltb i save_limit h)
+            (record {
+              number = refl;
+              kept = refl;
+              saves =
+                  ap₂ (λ (l : List ℤ) (k : ℕ). take (i * place_width) ss ++ (l ++ drop k (drop (i * place_width) ss))) (r ∙ ap (λ (j : ℕ). replicate j (pos 0)) k) w
+                  ∙ ap (λ (l : List ℤ). take (i * place_width) ss ++ (replicate place_width (pos 0) ++ l)) (drop-drop place_width (i * place_width) ss);
+            })

@@ -20,10 +20,10 @@ pub and-true : {a b : Bool} → a ≡ true → b ≡ true → a && b ≡ true
 and-true e f = ap₂ (λ (x y : Bool). x && y) e f
 
 -- the test of letters as a test of every byte
-pub letters-every : (s : List ℕ) → are_letters s ≡ every is_letter s
+pub letters_every : (s : List ℕ) → are_letters s ≡ every is_letter s
 unfolding are_letters every
-letters-every [] = refl
-letters-every (b ∷ s) = ap (λ (t : Bool). is_letter b && t) (letters-every s)
+letters_every [] = refl
+letters_every (b ∷ s) = ap (λ (t : Bool). is_letter b && t) (letters_every s)
 
 -- ---- letters
 
@@ -145,7 +145,7 @@ unfolding is_name
 name-is n e =
     let a = both (leb 1 (length n)) _ e in
     let b = both (leb (length n) longest) _ a.1 in
-    record { some-letter = leb-true _ _ a.0; short = leb-true _ _ b.0; letters = sym (letters-every n) ∙ b.1 }
+    record { some-letter = leb-true _ _ a.0; short = leb-true _ _ b.0; letters = sym (letters_every n) ∙ b.1 }
 
 module _ (n : List ℕ) (e : is_name n ≡ true) where
   first_short : length (take word_bytes n) ≤ word_bytes
@@ -221,7 +221,7 @@ module _ (a b : ℕ) (p : 1 ≤ a) (u : Word word_bytes a) (v : Word word_bytes 
     name =
         let l = length-append (letters_in word_bytes a) (letters_in word_bytes b) in
         and-true (le-leb 1 (length (name_in a b)) (omega (arith, l, one-letter)))
-        (and-true (le-leb (length (name_in a b)) longest (omega (arith, l, u.short, v.short))) (letters-every (name_in a b) ∙ every_append is_letter _ _ u.letters v.letters));
+        (and-true (le-leb (length (name_in a b)) longest (omega (arith, l, u.short, v.short))) (letters_every (name_in a b) ∙ every_append is_letter _ _ u.letters v.letters));
     low = ap pack key-parts.0 ∙ u.packed;
     high = ap pack key-parts.1 ∙ v.packed;
     positive = p;

@@ -1,14 +1,19 @@
 -- What a save, a return and a forget make of the numbers of a state with its clock, zs, and of the saves (02, notes 2 and 4). Definitions only.
-use Rattle.std.specs.Prelude.{◌≡◌, List, ◌++◌, Bool, true, cond, ℕ, ◌+◌, ◌*◌, ltb, ℤ, pos, take, drop, replicate}
+use Rattle.std.specs.Prelude.{◌≡◌, List, ◌++◌, cond, ℕ, ◌+◌, ◌*◌, ltb, ℤ, pos, take, drop, replicate, None, Some, Option, Err, Ok, Result}
 use Rattle.machine.specs.Saves.{is_name, first_of, save_limit, place_width, Stored}
+use Rattle.saves.specs.declared.Refusal.{Refusal}
+use Rattle.saves.specs.declared.Refusal.TheVariants.{NotAName, NotSaved, Full}
 use Rattle.saves.specs.Kept.{kept_numbers}
 use Rattle.saves.specs.Keys.{key_numbers}
 use Rattle.saves.specs.Places.{has_key, places_of, kept_part, saves_numbers}
 
--- whether a lent name is one, and then its two numbers
-pub record KeyPut (n : List ℕ) (r : Bool) (key : List ℤ) : Type 0 where
-  pub answer : r ≡ is_name n
-  pub numbers : r ≡ true → key ≡ key_numbers n
+-- a name's two numbers, and none for what is no name
+unfoldable pub key_of : List ℕ → Option (List ℤ)
+key_of n = cond (is_name n) (Some (key_numbers n)) None
+
+-- a number below n, and none for one past that
+unfoldable pub below : ℕ → ℕ → Option ℕ
+below n i = cond (ltb i n) (Some i) None
 
 -- the first place with these two numbers; past the last one where there is none
 abbrev pub place_with : List ℤ → List ℤ → ℕ
@@ -28,6 +33,17 @@ row_at i ss = take place_width (drop (i * place_width) ss)
 
 unfoldable pub with_row : ℕ → List ℤ → List ℤ → List ℤ
 with_row i row ss = take (i * place_width) ss ++ (row ++ drop (i * place_width + place_width) ss)
+
+-- 02, note 2, 20 to 22
+abbrev pub refusal_number : Refusal → ℕ
+refusal_number NotAName = 20
+refusal_number NotSaved = 21
+refusal_number Full = 22
+
+-- the number of an answer
+abbrev pub number_of : Result (Unit {0}) Refusal → ℕ
+number_of (Ok u) = 0
+number_of (Err r) = refusal_number r
 
 -- the number of the answer, and the numbers of the state with its clock and of the saves afterwards
 pub record Written : Type 0 where

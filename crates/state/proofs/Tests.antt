@@ -138,25 +138,25 @@ unfolding is_padded
 padded-rest k l e = rw e
 
 -- ---- processes and pairs, case by case
-module _ (scopes : List ℕ) (sums : ℕ) (row : List ℤ) (l : sums ≤ length scopes) where
-  pub process-fails : is_below sums (at row 0) ≡ false → is_process (take sums scopes) row ≡ false
+module _ (scopes : List ℕ) (row : List ℤ) where
+  pub process-fails : is_below (length scopes) (at row 0) ≡ false → is_process scopes row ≡ false
   unfolding is_process
-  process-fails e = rw (length-take-le sums scopes l, e)
+  process-fails e = rw e
 
   -- a sum that exists: its locals, and its definition
-  module _ (e : is_below sums (at row 0) ≡ true) where
-    pub process-unpadded : is_padded (locals_in (get_or scopes (nat_abs (at row 0)) 0)) (take local_limit (drop 1 row)) ≡ false → is_process (take sums scopes) row ≡ false
+  module _ (e : is_below (length scopes) (at row 0) ≡ true) where
+    pub process-unpadded : is_padded (locals_in (get_or scopes (nat_abs (at row 0)) 0)) (take local_limit (drop 1 row)) ≡ false → is_process scopes row ≡ false
     unfolding is_process
-    process-unpadded p = rw (length-take-le sums scopes l, e, get_or-take sums scopes (nat_abs (at row 0)) 0 (below-bound sums (at row 0) e), p)
+    process-unpadded p = rw (e, p)
 
     pub process-rest : is_padded (locals_in (get_or scopes (nat_abs (at row 0)) 0)) (take local_limit (drop 1 row)) ≡ true
-        → is_process (take sums scopes) row ≡ is_same (at row (1 + local_limit)) (pos (definition_in (get_or scopes (nat_abs (at row 0)) 0)))
+        → is_process scopes row ≡ is_same (at row (1 + local_limit)) (pos (definition_in (get_or scopes (nat_abs (at row 0)) 0)))
     unfolding is_process
-    process-rest p = rw (length-take-le sums scopes l, e, get_or-take sums scopes (nat_abs (at row 0)) 0 (below-bound sums (at row 0) e), p)
+    process-rest p = rw (e, p)
 
 -- a sum that exists has at most 8 locals
-pub few-locals : (scopes : List ℕ) (sums i : ℕ) → FewLocals (take sums scopes) → i < sums → locals_in (get_or scopes i 0) ≤ local_limit
-few-locals scopes sums i h l = rw (get_or-take sums scopes i 0 l) at (every_get (λ (k : ℕ). locals_in k ≤ local_limit) 0 no-locals (take sums scopes) i h)
+pub few-locals : (scopes : List ℕ) (i : ℕ) → FewLocals scopes → i < length scopes → locals_in (get_or scopes i 0) ≤ local_limit
+few-locals scopes i h l = every_get (λ (k : ℕ). locals_in k ≤ local_limit) 0 no-locals scopes i h
 
 -- scopes written out
 pub few-none : FewLocals []

@@ -1,5 +1,6 @@
 -- States over a model of which only the locals and definitions of its sums and the number of its channel names are known (01, Listing, question 11). Definitions only.
-use Rattle.std.specs.Prelude.{◌≡◌, List, map, ℕ, ◌≤◌, ◌<◌, length}
+use Rattle.std.specs.Prelude.{◌≡◌, List, [], ◌∷◌, map, ℕ, ◌≤◌, ◌<◌, length}
+use Rattle.std.specs.Coded.{×_prop, Unit-prop, le_prop}
 use Rattle.std.proofs.Math.Option.{some}
 use Rattle.std.proofs.Math.ListN.{get_elem?}
 use Rattle.value.specs.Range.{InRange}
@@ -22,6 +23,12 @@ scopes_of m = map scope_of m.sums
 -- 01, Opening a text, 7: a sum has at most 8 locals
 abbrev pub FewLocals : List ℕ → Type 0
 FewLocals scopes = Every (λ (k : ℕ). locals_in k ≤ local_limit) scopes
+
+-- there is one proof of it at most
+pub FewLocals-prop : (scopes : List ℕ) → IsProp (FewLocals scopes)
+unfolding Every
+FewLocals-prop [] = Unit-prop
+FewLocals-prop (k ∷ scopes) = ×_prop le_prop (FewLocals-prop scopes)
 
 -- 01, Listing, 11: number items in range, channel names that exist
 unfoldable pub FitsItem : ℕ → offers.Item → Type 0

@@ -9,16 +9,16 @@ ghost use Rattle.value.specs.Arithmetic.{is_same};
 ghost use Rattle.rules.specs.Order.{less};
 ghost use Rattle.machine.specs.State.{pair_limit, process_width, channel_width, pair_width, state_length};
 ghost use Rattle.state.specs.Change.{rewritten, pair_rows, pair_added, pair_taken, pair_launched, pair_killed, process_replaced, process_added, process_pushed};
-ghost use Rattle.state.specs.Fits.{FewLocals};
+ghost use Rattle.state.specs.Fits.{FewLocals, FewLocals-prop};
 ghost use Rattle.state.specs.Read.{Passed, process_count, pair_count, sum_at, locals_at, definition_number, pair_row};
 ghost use Rattle.state.specs.Test.{at, place_of, is_lit, values_past, every, rows, is_value, is_zero, is_below, is_padded, is_process, is_count, is_item, is_item_of, is_channel, is_pair, ascends, are_processes, are_pairs, is_state};
 
-// What a state is judged by: the scope of each of the sums, and how many channel names there are.
+// What a state is judged by: the scope of each of the sums, none of more than 8 locals, and how many channel names there are.
 #[derive(Clone, Copy)]
 pub struct Shape<'a> {
     pub scopes: &'a [u16],
-    pub sums: usize,
     pub channels: usize,
+    ghost few: { FewLocals scopes.now } by { FewLocals-prop scopes.now },
 }
 
 #[derive(Clone, Copy)]
@@ -126,11 +126,11 @@ fn is_number(z: i64, n: usize) -> bool
 
 // Whether a row is a process of a sum that exists.
 fn is_process(row: &[i64], shape: Shape) -> bool
-    requires { (length row.now ≡ process_width) × (shape.sums ≤ length shape.scopes.now) × FewLocals (take shape.sums shape.scopes.now) }
-    ensures { result ≡ is_process (take shape.entry.sums shape.entry.scopes.now) row.now }
+    requires { length row.now ≡ process_width }
+    ensures { result ≡ is_process shape.entry.scopes.now row.now }
 {
     let z = row[0];
-    if !is_below(z, shape.sums) {
+    if !is_below(z, shape.scopes.len()) {
         return false;
     }
     let sum = z as usize;
@@ -202,8 +202,8 @@ fn is_pair(row: &[i64], channels: usize) -> bool
 }
 
 fn all_processes(s: &[i64], n: usize, shape: Shape) -> bool
-    requires { (n * process_width ≤ length s.now) × (shape.sums ≤ length shape.scopes.now) × FewLocals (take shape.sums shape.scopes.now) }
-    ensures { result ≡ every (is_process (take shape.entry.sums shape.entry.scopes.now)) (rows process_width n s.now) }
+    requires { n * process_width ≤ length s.now }
+    ensures { result ≡ every (is_process shape.entry.scopes.now) (rows process_width n s.now) }
 {
     s[..n * Layout::PROCESS]
         .chunks_exact(Layout::PROCESS)
@@ -251,8 +251,8 @@ fn is_ascending(s: &[i64], n: usize) -> bool
 
 // Whether n processes stand in the part of the processes, and zeros after them.
 fn are_processes(s: &[i64], n: usize, shape: Shape) -> bool
-    requires { (n * process_width ≤ length s.now) × (shape.sums ≤ length shape.scopes.now) × FewLocals (take shape.sums shape.scopes.now) }
-    ensures { result ≡ are_processes (take shape.entry.sums shape.entry.scopes.now) n s.now }
+    requires { n * process_width ≤ length s.now }
+    ensures { result ≡ are_processes shape.entry.scopes.now n s.now }
 {
     all_processes(s, n, shape) && all_zero(&s[n * Layout::PROCESS..])
 }
@@ -274,8 +274,8 @@ fn are_pairs(s: &[i64], n: usize, channels: usize) -> bool
 
 // Whether the numbers are those of a state over the sums with these scopes and so many channel names.
 pub fn is_state(state: &[i64], shape: Shape) -> bool
-    requires { (length state.now ≡ state_length) × (shape.sums ≤ length shape.scopes.now) × FewLocals (take shape.sums shape.scopes.now) }
-    ensures { result ≡ is_state (take shape.entry.sums shape.entry.scopes.now) shape.entry.channels state.now }
+    requires { length state.now ≡ state_length }
+    ensures { result ≡ is_state shape.entry.scopes.now shape.entry.channels state.now }
 {
     let processes = state[0];
     if !is_below(processes, Layout::PROCESS_COUNTS) {

@@ -19,8 +19,6 @@ type Row = [i64; 10];
 impl Sample {
     const LENGTH: usize = Layout::NUMBERS;
 
-    const SUMS: usize = 3;
-
     const CHANNELS: usize = 2;
 }
 
@@ -33,7 +31,6 @@ fn is_good(state: &Numbers) -> bool
 {
     let shape = Shape {
         scopes: &[2, 16, 8],
-        sums: Sample::SUMS,
         channels: Sample::CHANNELS,
     };
     state::is_state(state, shape)
@@ -115,20 +112,29 @@ fn fill(state: &mut Numbers) {
     launch(state, &[1, 0, 4, 0, 0, 0, 0, 1, 1, 0]);
 }
 
-// The test of the sample with another number at a place: the first process stands at 2, the first pair at 2562.
-fn damaged(rt: &impl Print, label: &[u8], at: usize, z: i64) -> io::Result<()> {
-    let mut state = [0; Sample::LENGTH];
-    fill(&mut state);
+// The test of a sample with another number at a place.
+fn test_with(rt: &impl Print, label: &[u8], sample: Numbers, at: usize, z: i64) -> io::Result<()> {
+    let mut state = sample;
     if at < Sample::LENGTH {
         state[at] = z;
     }
     test(rt, label, &state)
 }
 
-// The test of the sample with another second pair.
-fn second_pair(rt: &impl Print, label: &[u8], row: &Row) -> io::Result<()> {
+fn filled() -> Numbers {
     let mut state = [0; Sample::LENGTH];
     fill(&mut state);
+    state
+}
+
+// The test of the sample with another number at a place: the first process stands at 2, the first pair at 2562.
+fn damaged(rt: &impl Print, label: &[u8], at: usize, z: i64) -> io::Result<()> {
+    test_with(rt, label, filled(), at, z)
+}
+
+// The test of the sample with another second pair.
+fn second_pair(rt: &impl Print, label: &[u8], row: &Row) -> io::Result<()> {
+    let mut state = filled();
     let at = Layout::PAIRS + Layout::PAIR;
     state[at..at + Layout::PAIR].copy_from_slice(row);
     test(rt, label, &state)
@@ -219,12 +225,9 @@ fn fill_lists(state: &mut Numbers) {
 
 // The test of those pairs with another number at a place: the second stands at 2572, the third at 2582, the fourth at 2592.
 fn damaged_list(rt: &impl Print, label: &[u8], at: usize, z: i64) -> io::Result<()> {
-    let mut state = [0; Sample::LENGTH];
-    fill_lists(&mut state);
-    if at < Sample::LENGTH {
-        state[at] = z;
-    }
-    test(rt, label, &state)
+    let mut sample = [0; Sample::LENGTH];
+    fill_lists(&mut sample);
+    test_with(rt, label, sample, at, z)
 }
 
 fn lists(rt: &impl Print) -> io::Result<()> {

@@ -8,4 +8,4 @@ use Rattle.saves.specs.Places.{is_place}
 use Rattle.saves.proofs.are_places.Given as goal
 
 abbrev pub invariant-loop-i : goal.invariant-loop-i
-invariant-loop-i l = every (is_place (take l.shape.sums l.shape.scopes.now) l.shape.channels) (rows place_width save_limit l.saves) ≡ every (is_place (take l.shape.sums l.shape.scopes.now) l.shape.channels) (rows place_width (save_limit - l.i) (drop (l.i * place_width) l.saves))
+invariant-loop-i l = every (is_place l.shape.scopes.now l.shape.channels) (rows place_width save_limit l.saves) ≡ every (is_place l.shape.scopes.now l.shape.channels) (rows place_width (save_limit - l.i) (drop (l.i * place_width) l.saves))

@@ -1,20 +1,21 @@
 -- Each answer is a case of the definition; the numbers after the name are copied.
-use mathlib.Core.Path.{sym, ◌∙◌}
+use mathlib.Core.Path.{refl, sym, ◌∙◌}
 use Prim.Native.Nat.{◌+◌, ◌-◌, ◌*◌}
 use native.Mathlib.Omega.{arith}
-use Rattle.machine.specs.Saves.{key_width, timed_length, place_width}
-use Rattle.state.proofs.Tests.{refused, passed}
-use Rattle.saves.proofs.Laws.{return-unnamed, return-unknown, return-put}
+use Rattle.machine.specs.Saves.{save_limit, key_width, timed_length, place_width}
+use Rattle.saves.proofs.Laws.{below-none, below-some, return-unnamed, return-unknown, return-put}
 use Rattle.saves.proofs.return_to.Goals as goal
 
-pub returns-then-not-put_key : goal.returns-then-not-put_key
-returns-then-not-put_key c =
-    return-unnamed c.args.name.now c.args.kept.now c.args.saves.now (sym c.put_key.ensures.answer ∙ refused c.put_key.result c.if-not-put_key.true-raw)
+pub returns-in_default : goal.returns-in_default
+returns-in_default c =
+    return-unnamed c.args.name.now c.args.kept.now c.args.saves.now (sym c.in_default.is ∙ c.key_of.ensures)
 
-pub returns-then-at-ge-PLACES : goal.returns-then-at-ge-PLACES
-returns-then-at-ge-PLACES c =
-    return-unknown c.args.name.now c.args.kept.now c.args.saves.now (sym c.put_key.ensures.answer ∙ passed c.put_key.result c.if-not-put_key.false-raw) _ (c.put_key.ensures.numbers (passed c.put_key.result c.if-not-put_key.false-raw)) c.find_place-at.result c.find_place-at.ensures.0 c.if-at-ge-PLACES.true
+pub returns-in_default-find_place : goal.returns-in_default-find_place
+returns-in_default-find_place c =
+    return-unknown c.args.name.now c.args.kept.now c.args.saves.now c.in-Some.key (sym c.in-Some.is ∙ c.key_of.ensures) _ refl (below-none save_limit _ (sym c.in_default-find_place.is ∙ c.find_place.ensures.place))
 
 pub returns : goal.returns
 returns c =
-    return-put c.args.name.now c.args.kept.now c.args.saves.now (sym c.put_key.ensures.answer ∙ passed c.put_key.result c.if-not-put_key.false-raw) _ (c.put_key.ensures.numbers (passed c.put_key.result c.if-not-put_key.false-raw)) c.find_place-at.result c.find_place-at.ensures.0 c.if-at-ge-PLACES.false c.requires.1 (c.find_place-at.result * place_width + key_width + timed_length - (c.find_place-at.result * place_width + key_width)) (omega arith) c.put.new.s c.put.ensures
+    let at = c.in-Some-find_place.at in
+    let b = below-some save_limit _ at (sym c.in-Some-find_place.is ∙ c.find_place.ensures.place) in
+    return-put c.args.name.now c.args.kept.now c.args.saves.now c.in-Some.key (sym c.in-Some.is ∙ c.key_of.ensures) at b.0 b.1 (at * place_width + key_width + timed_length - (at * place_width + key_width)) (omega arith) _ c.copy_from_slice.ensures.after

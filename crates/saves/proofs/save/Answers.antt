@@ -1,20 +1,21 @@
 -- Each answer is a case of the definition; the row of the place is replaced.
-use mathlib.Core.Path.{sym, ◌∙◌}
+use mathlib.Core.Path.{refl, sym, ◌∙◌}
 use Prim.Native.Nat.{◌+◌, ◌-◌, ◌*◌}
 use native.Mathlib.Omega.{arith}
-use Rattle.machine.specs.Saves.{place_width}
-use Rattle.state.proofs.Tests.{refused, passed}
-use Rattle.saves.proofs.Laws.{save-unnamed, save-full, save-put}
+use Rattle.machine.specs.Saves.{save_limit, place_width}
+use Rattle.saves.proofs.Laws.{below-none, below-some, save-unnamed, save-full, save-put}
 use Rattle.saves.proofs.save.Goals as goal
 
-pub returns-then-not-put_key : goal.returns-then-not-put_key
-returns-then-not-put_key c =
-    save-unnamed c.args.name.now c.args.kept.now c.args.saves.now (sym c.put_key.ensures.answer ∙ refused c.put_key.result c.if-not-put_key.true-raw)
+pub returns-in_default : goal.returns-in_default
+returns-in_default c =
+    save-unnamed c.args.name.now c.args.kept.now c.args.saves.now (sym c.in_default.is ∙ c.key_of.ensures)
 
-pub returns-then-at-ge-PLACES : goal.returns-then-at-ge-PLACES
-returns-then-at-ge-PLACES c =
-    save-full c.args.name.now c.args.kept.now c.args.saves.now (sym c.put_key.ensures.answer ∙ passed c.put_key.result c.if-not-put_key.false-raw) _ (c.put_key.ensures.numbers (passed c.put_key.result c.if-not-put_key.false-raw)) c.place_for-at.result c.place_for-at.ensures.0 c.if-at-ge-PLACES.true
+pub returns-in_default-place_for : goal.returns-in_default-place_for
+returns-in_default-place_for c =
+    save-full c.args.name.now c.args.kept.now c.args.saves.now c.in-Some.key (sym c.in-Some.is ∙ c.key_of.ensures) _ refl (below-none save_limit _ (sym c.in_default-place_for.is ∙ c.place_for.ensures.place))
 
 pub returns : goal.returns
 returns c =
-    save-put c.args.name.now c.args.kept.now c.args.saves.now (sym c.put_key.ensures.answer ∙ passed c.put_key.result c.if-not-put_key.false-raw) _ (c.put_key.ensures.numbers (passed c.put_key.result c.if-not-put_key.false-raw)) c.place_for-at.result c.place_for-at.ensures.0 c.if-at-ge-PLACES.false c.put_place.new.place c.put_place.ensures (c.place_for-at.result * place_width + place_width - c.place_for-at.result * place_width) (omega arith)
+    let at = c.in-Some-place_for.at in
+    let b = below-some save_limit _ at (sym c.in-Some-place_for.is ∙ c.place_for.ensures.place) in
+    save-put c.args.name.now c.args.kept.now c.args.saves.now c.in-Some.key (sym c.in-Some.is ∙ c.key_of.ensures) at b.0 b.1 c.put_place.new.place c.put_place.ensures (at * place_width + place_width - at * place_width) (omega arith)

@@ -14,6 +14,6 @@ use Rattle.state.proofs.all_processes.Goals as goal
 
 pub returns : goal.returns
 returns c =
-    let t = is_process (take c.args.shape.sums c.args.shape.scopes.now) in
-    all_from_yields_List t _ _ _ c.all.ensures.ran (chunks c.args.n c.args.s.now c.requires.0 (grind (arith, common_steps, c.chunks_exact.ensures.rest)) c.chunks_exact.ensures.size) (λ x b q k. (search (rules, tests), search (rules, tests)))
+    let t = is_process c.args.shape.scopes.now in
+    all_from_yields_List t _ _ _ c.all.ensures.ran (chunks c.args.n c.args.s.now c.requires (grind (arith, common_steps, c.chunks_exact.ensures.rest)) c.chunks_exact.ensures.size) (λ x b q k. (search (rules, tests), search (rules, tests)))
     ∙ every_all t (rows process_width c.args.n c.args.s.now)

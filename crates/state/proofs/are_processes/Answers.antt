@@ -10,8 +10,8 @@ use Rattle.state.proofs.are_processes.Goals as goal
 
 pub returns-else-all_processes : goal.returns-else-all_processes
 returns-else-all_processes c =
-    c.if-all_processes.false ∙ sym (processes-fail (take c.args.shape.sums c.args.shape.scopes.now) c.args.n c.args.s.now (sym c.all_processes.ensures ∙ c.if-all_processes.false))
+    c.if-all_processes.false ∙ sym (processes-fail c.args.shape.scopes.now c.args.n c.args.s.now (sym c.all_processes.ensures ∙ c.if-all_processes.false))
 
 pub returns-then-all_processes : goal.returns-then-all_processes
 returns-then-all_processes c =
-    c.all_zero.ensures ∙ ap (every is_zero) (tail-part (c.args.n * process_width) c.args.s.now) ∙ sym (processes-rest (take c.args.shape.sums c.args.shape.scopes.now) c.args.n c.args.s.now (sym c.all_processes.ensures ∙ c.if-all_processes.true))
+    c.all_zero.ensures ∙ ap (every is_zero) (tail-part (c.args.n * process_width) c.args.s.now) ∙ sym (processes-rest c.args.shape.scopes.now c.args.n c.args.s.now (sym c.all_processes.ensures ∙ c.if-all_processes.true))

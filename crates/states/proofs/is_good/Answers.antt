@@ -4,9 +4,9 @@ use borrow.Author.Rules.{rules}
 use Rattle.states.proofs.Scopes.{sample_scopes, sample-few}
 use Rattle.states.proofs.is_good.Goals as goal
 
-pub is_state-requires : goal.is_state-requires
-is_state-requires c =
-    (search rules, search rules, sample-few)
+pub invariant_of-shape : goal.invariant_of-shape
+invariant_of-shape c =
+    record { few = sample-few }
 
 pub returns : goal.returns
 returns c =

@@ -6,6 +6,7 @@ use mathlib.Core.Option.{none, some, Option-elim}
 use native.Mathlib.Omega.{arith}
 use lib.IntN.{ℤ}
 use lib.ListN.{length, get_elem?, take, drop, length-append}
+use Rattle.std.proofs.lemmas.List.{length-take-le}
 use lib.Seq.{take-append-le}
 use Rattle.model.specs.Resolved
 use Rattle.rules.specs.Offers as offers
@@ -18,19 +19,27 @@ use Rattle.machine.specs.Machine as machine
 use Rattle.eval.specs.declared.offer.Offer.{Offer}
 use Rattle.eval.specs.Shown as shown
 use Rattle.eval.specs.Shown.{bare_offer, ShowsPair, ShowsAction}
+use Rattle.state.specs.Read.{process_count}
+use Rattle.machine.specs.Evaluate.{rate_limit}
+use Rattle.offers.specs.Head.{place_in, branch_in}
+use Rattle.offers.specs.Table.{offer_in, locals_of}
 use Rattle.offers.specs.Slots.{Slot, partner_of, of_slot, at_number, up_to}
 use Rattle.offers.specs.Walk.{slots_of}
-use Rattle.std.specs.Prelude.{Err, Ok, None, Some, unwrap_or}
+use Rattle.std.specs.Prelude.{Err, Ok, Some, unwrap_or}
+use Rattle.offers.specs.declared.Stop.{Stop}
 use Rattle.offers.specs.declared.Stop.TheVariants.{Missing, Full}
-use Rattle.offers.specs.Links.{row_limit}
+use Rattle.offers.specs.declared.row.Row.{Row}
+use Rattle.offers.specs.Links.{row_at, row_limit}
 use Rattle.offers.specs.Collect as Collect
 use Rattle.offers.specs.Collect.{World, Answers}
 use Rattle.offers.proofs.Numbered.{append-nil, up_one, at_some, gather-up}
+use Rattle.offers.proofs.Rows.{holds-first}
 use Rattle.offers.proofs.Slots.{entries-slots, partners-slots}
 use Rattle.offers.proofs.Walk.{slots-are}
 use Rattle.listing.specs.Buffer as Buffer
 use Rattle.listing.specs.Buffer.{rows, image, cut, Adds, Lists, Tries, Tried, Listed}
 use Rattle.listing.specs.Ready.{Ready}
+use Rattle.listing.proofs.Partners.{some-row, row-place}
 
 kind-wait : {r : Offer} → r ≡ bare_offer 36 r.rate → r.kind ≡ 36
 unfolding bare_offer
@@ -90,14 +99,14 @@ unfolding of_slot
 slot_of m s y i j n a b c = rw (← a, ← b, ← c)
 
 -- ---- all rows
-module _ {t roots scopes : List ℕ} {zs : List ℤ} {hs : List ℕ} {os : List ℤ} {rows : ℕ} {m : Resolved.Model} {s : State} (ready : Ready t roots scopes zs hs os rows m s) where
+module _ {t roots scopes : List ℕ} {zs : List ℤ} {rs : List Row} {m : Resolved.Model} {s : State} (ready : Ready t roots scopes zs rs m s) where
   abbrev all : List Slot
   all = slots_of m 0 s.processes
 
   abbrev g : ℕ → List Entry
   g = at_number (λ k. of_slot (branches m) s) all
 
-  pub entries-up : (k : ℕ) → k ≡ rows → entries (branches m) s ≡ up_to g k
+  pub entries-up : (k : ℕ) → k ≡ length rs → entries (branches m) s ≡ up_to g k
   entries-up k e =
       entries-slots (branches m) s ∙ ap (λ (ys : List Slot). gather (λ k. of_slot (branches m) s) ys) (slots-are m s.processes)
       ∙ gather-up (λ k. of_slot (branches m) s) all ∙ ap (up_to g) (sym (e ∙ ready.rows_are))
@@ -147,19 +156,52 @@ not-lacking m s e = rw e
 pub below_last : (k : ℕ) → k ≤ 42 → (k ≡ 42 → ⊥) → k < 42
 below_last k l n = omega arith
 
-pub rate-act : (t : List ℕ) (ls : ℕ → List ℤ) (i : ℕ) (r : Offer) (i' : ℕ) (r' : Offer) (a : offers.Action) → i ≡ i' → r ≡ r' → ShowsAction t (ls i') r' a → ShowsAction t (ls i) r a
+rate-act : (t : List ℕ) (ls : ℕ → List ℤ) (i : ℕ) (r : Offer) (i' : ℕ) (r' : Offer) (a : offers.Action) → i ≡ i' → r ≡ r' → ShowsAction t (ls i') r' a → ShowsAction t (ls i) r a
 rate-act t ls i r i' r' a e f s = rw (e, f) s
 
+-- place i, branch j and offer o of a row, which shows the slot y
+pub record Acts (t : List ℕ) (ls : ℕ → List ℤ) (y : Slot) (i j : ℕ) (o : Offer) : Type 0 where
+  pub place-is : i ≡ y.place
+  pub branch-is : j ≡ y.branch
+  pub rate-is : o.rate ≡ y.rate
+  pub fits : o.rate ≤ rate_limit
+  pub shows : ShowsAction t (ls i) o y.action
+
+module _ {t roots scopes : List ℕ} {zs : List ℤ} {rs : List Row} {m : Resolved.Model} {s : State} (ready : Ready t roots scopes zs rs m s) (k i j : ℕ) (o : Offer) (pi : i ≡ place_in (row_at rs k).head)
+    (pj : j ≡ branch_in (row_at rs k).head) (po : o ≡ offer_in (row_at rs k)) where
+  pub acts : (y : Slot) → get_elem? (slots_of m 0 s.processes) k ≡ some y → Acts t (locals_of s.processes) y i j o
+  unfolding offer_in
+  acts y at =
+      let sh = ready.holds.shown k y at in
+      let r : o.rate ≡ y.rate = ap (λ (x : Offer). x.rate) po ∙ sh.rate-is in
+      record {
+        place-is = pi ∙ sh.place_is;
+        branch-is = pj ∙ sh.branch-is;
+        rate-is = r;
+        fits = omega (arith, r, sh.rate-fits);
+        shows = rate-act t (locals_of s.processes) i o _ _ y.action (pi ∙ sh.place_is) po sh.shows;
+      }
+
+  pub some-acts : k < length rs → (y : Slot) × Acts t (locals_of s.processes) y i j o × (i < process_count zs)
+  some-acts l = let q = some-row ready k l in (q.0, acts q.0 q.1, omega (arith, row-place ready k q.0 q.1))
+
 -- ---- what was collected
-pub answered-missing : {t hs : List ℕ} {os : List ℤ} {m : Resolved.Model} {ps : List Process} {i j : ℕ} → Answers t hs os m ps (Err (Missing (i, j))) → missing m 0 ps ≡ some (i, j)
-answered-missing (Collect.Answers.lacks e) = e
+pub answered-missing : {t : List ℕ} {rs : List Row} {m : Resolved.Model} {ps : List Process} {e : Stop (ℕ × ℕ)} {p : ℕ × ℕ} → e ≡ Missing p → Answers t rs m ps (Err e) → missing m 0 ps ≡ some p
+answered-missing q a = go (rw q at a)
+  where
+    go : {t : List ℕ} {rs : List Row} {m : Resolved.Model} {ps : List Process} {p : ℕ × ℕ} → Answers t rs m ps (Err (Missing p)) → missing m 0 ps ≡ some p
+    go (Collect.Answers.lacks e) = e
 
-pub answered-rows : {t roots scopes : List ℕ} {zs : List ℤ} {m : Resolved.Model} {s : State} {hs : List ℕ} {os : List ℤ} {n : ℕ} → World t roots scopes zs m s
-    → Answers t hs os m s.processes (Ok n) → Ready t roots scopes zs hs os n m s × (missing m 0 s.processes ≡ none) × (n ≤ length hs)
-answered-rows w (Collect.Answers.all e h l) = (record { world = w; holds = h; rows_are = refl }, e, l)
+pub answered-rows : {t roots scopes : List ℕ} {zs : List ℤ} {m : Resolved.Model} {s : State} {rs : List Row} {n : ℕ} → World t roots scopes zs m s
+    → Answers t rs m s.processes (Ok n) → Ready t roots scopes zs (take n rs) m s × (missing m 0 s.processes ≡ none) × (n ≤ length rs)
+answered-rows {rs = rs} w (Collect.Answers.all e h l) =
+    (record { world = w; holds = holds-first _ _ rs _ _ refl h; rows_are = length-take-le _ rs l }, e, l)
 
-pub answered-full : {t hs : List ℕ} {os : List ℤ} {m : Resolved.Model} {ps : List Process} → Answers t hs os m ps (Err Full) → length hs < row_limit
-answered-full (Collect.Answers.full l) = l
+pub answered-full : {t : List ℕ} {rs : List Row} {m : Resolved.Model} {ps : List Process} {e : Stop (ℕ × ℕ)} → e ≡ Full → Answers t rs m ps (Err e) → length rs < row_limit
+answered-full q a = go (rw q at a)
+  where
+    go : {t : List ℕ} {rs : List Row} {m : Resolved.Model} {ps : List Process} → Answers t rs m ps (Err Full) → length rs < row_limit
+    go (Collect.Answers.full l) = l
 
 -- ---- with room for all rows
 pub all_done : {l : machine.Listed} {b : List ℕ} {r : Listed} {n : ℕ} → Tries n l b (Some r) → Lists l r b

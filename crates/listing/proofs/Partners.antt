@@ -9,7 +9,7 @@ use native.Mathlib.Nat.{mul-le-mul, le_trans}
 use borrow.Author.Tests.{ltb-true, ltb-false, eq-eqb, ne_eqb}
 use lib.Dec.{eqb, ltb}
 use lib.IntN.{ℤ}
-use lib.ListN.{get_or, get_elem?}
+use lib.ListN.{length, get_elem?}
 use Rattle.value.proofs.Kit.{true-not-false}
 use Rattle.model.specs.Resolved
 use Rattle.model.proofs.Members.{got-some}
@@ -27,7 +27,8 @@ use Rattle.state.specs.Read.{process_count}
 use Rattle.offers.specs.Slots.{Slot, partner_of, at_number, up_to}
 use Rattle.offers.specs.Walk.{slots_of}
 use Rattle.offers.specs.Head.{kind_in, place_in}
-use Rattle.offers.specs.Links.{bucket_of, InBucket, Leads}
+use Rattle.offers.specs.declared.row.Row.{Row}
+use Rattle.offers.specs.Links.{row_at, bucket_of, InBucket, Leads}
 use Rattle.offers.specs.Table.{offer_in, locals_of, Shown}
 use Rattle.offers.proofs.Numbered.{up-skip, at_some, gather-up}
 use Rattle.offers.proofs.Walk.{place-below}
@@ -84,17 +85,17 @@ match-channel w x e = go (same_channel w.channel x.channel) refl
     go false q = true-not-false (sym e ∙ rw q)
 
 -- ---- rows
-module _ {t roots scopes : List ℕ} {zs : List ℤ} {hs : List ℕ} {os : List ℤ} {rows : ℕ} {m : Resolved.Model} {s : State} (ready : Ready t roots scopes zs hs os rows m s) where
+module _ {t roots scopes : List ℕ} {zs : List ℤ} {rs : List Row} {m : Resolved.Model} {s : State} (ready : Ready t roots scopes zs rs m s) where
   abbrev all : List Slot
   all = slots_of m 0 s.processes
 
-  pub rows_few : rows ≤ 4096
+  pub rows_few : length rs ≤ 4096
   rows_few = omega (arith, ready.rows_are, slots-few ready.world)
 
-  pub some-row : (k : ℕ) → k < rows → (y : Slot) × (get_elem? (slots_of m 0 s.processes) k ≡ some y)
+  pub some-row : (k : ℕ) → k < length rs → (y : Slot) × (get_elem? (slots_of m 0 s.processes) k ≡ some y)
   some-row k l = got-some all k (omega (arith, ready.rows_are))
 
-  pub row-place : (k : ℕ) (y : Slot) → get_elem? (slots_of m 0 s.processes) k ≡ some y → place_in (get_or hs k 0) < process_count zs
+  pub row-place : (k : ℕ) (y : Slot) → get_elem? (slots_of m 0 s.processes) k ≡ some y → place_in (row_at rs k).head < process_count zs
   row-place k y e = omega (arith, place-below m s.processes k y e, places-are ready.world, (ready.holds.shown k y e).place_is)
 
   -- what partners x, which is sent, has
@@ -102,7 +103,7 @@ module _ {t roots scopes : List ℕ} {zs : List ℤ} {hs : List ℕ} {os : List 
     abbrev g : ℕ → List Entry
     g = at_number (λ n. partner_of x r.rate i j) all
 
-    none-there : (q : ℕ) → (InBucket hs os (bucket_of r.channel r.channel2 r.channel3) q → ⊥) → g q ≡ []
+    none-there : (q : ℕ) → (InBucket rs (bucket_of r.channel r.channel2 r.channel3) q → ⊥) → g q ≡ []
     unfolding at_number partner_of Option-elim offer_in
     none-there q out = go (get_elem? all q) refl
       where
@@ -110,21 +111,21 @@ module _ {t roots scopes : List ℕ} {zs : List ℤ} {hs : List ℕ} {os : List 
         empty true es e = unfold unless in refl
         empty false es e = unfold unless in e
 
-        slot : (y : Slot) → Shown t (locals_of s.processes) hs os q y → partner_action x r.rate i j y.place y.branch y.rate y.action ≡ []
-        slot y sh = by (ltb (kind_in (get_or hs q 0)) 43) refl
+        slot : (y : Slot) → Shown t (locals_of s.processes) (row_at rs q) y → partner_action x r.rate i j y.place y.branch y.rate y.action ≡ []
+        slot y sh = by (ltb (kind_in (row_at rs q).head) 43) refl
           where
-            by : (p : Bool) → ltb (kind_in (get_or hs q 0)) 43 ≡ p → partner_action x r.rate i j y.place y.branch y.rate y.action ≡ []
-            by true e = untaken (ltb-true (kind_in (get_or hs q 0)) 43 e) sh.shows x r.rate i j y.place y.branch y.rate
+            by : (p : Bool) → ltb (kind_in (row_at rs q).head) 43 ≡ p → partner_action x r.rate i j y.place y.branch y.rate y.action ≡ []
+            by true e = untaken (ltb-true (kind_in (row_at rs q).head) 43 e) sh.shows x r.rate i j y.place y.branch y.rate
             by false e = tell (matches T.query x) refl
               where
-                T : Taken t (locals_of s.processes y.place) (offer_in hs os q) y.action
-                T = taken (ltb-false (kind_in (get_or hs q 0)) 43 e) sh.shows
+                T : Taken t (locals_of s.processes y.place) (offer_in (row_at rs q)) y.action
+                T = taken (ltb-false (kind_in (row_at rs q).head) 43 e) sh.shows
 
                 tell : (b : Bool) → matches T.query x ≡ b → partner_action x r.rate i j y.place y.branch y.rate y.action ≡ []
                 tell true h =
                     absurd
                     (out (record {
-                      receives = ltb-false (kind_in (get_or hs q 0)) 43 e;
+                      receives = ltb-false (kind_in (row_at rs q).head) 43 e;
                       bucket = one-bucket (match-channel T.query x h) T.shows.channel-is sent.channel-is;
                     }))
                 tell false h = T.partner-is x r.rate i j y.place y.branch y.rate ∙ (unfold when in rw h)
@@ -134,14 +135,14 @@ module _ {t roots scopes : List ℕ} {zs : List ℤ} {hs : List ℕ} {os : List 
         go (some y) e = empty (eqb y.place i) _ (slot y (ready.holds.shown q y e))
 
     -- up to the first of the bucket, from one to the next, and after the last
-    pub partners-lead : (a b : ℕ) → Leads hs os rows (bucket_of r.channel r.channel2 r.channel3) a b → up_to g b ≡ up_to g a
+    pub partners-lead : (a b : ℕ) → Leads rs (bucket_of r.channel r.channel2 r.channel3) a b → up_to g b ≡ up_to g a
     partners-lead a b l = up-skip g a b l.low (λ q m n. none-there q (l.none q m n))
 
     pub partners-next : (k : ℕ) (y : Slot) → get_elem? all k ≡ some y → up_to g (suc k) ≡ up_to g k ++ partner_of x r.rate i j y
     unfolding up_to
     partners-next k y e = ap (λ z. up_to g k ++ z) (at_some (λ n. partner_of x r.rate i j) all k e)
 
-    pub partners-all : (k : ℕ) → k ≡ rows → up_to g k ≡ gather (λ n. partner_of x r.rate i j) all
+    pub partners-all : (k : ℕ) → k ≡ length rs → up_to g k ≡ gather (λ n. partner_of x r.rate i j) all
     partners-all k e = sym (gather-up (λ n. partner_of x r.rate i j) all ∙ ap (up_to g) (sym (e ∙ ready.rows_are)))
 
 -- ---- one partner

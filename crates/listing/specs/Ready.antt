@@ -10,15 +10,16 @@ use Rattle.rules.specs.Rules.{key, rate_weight}
 use Rattle.rules.specs.Listing.{Entry, entry, when, matches}
 use Rattle.machine.specs.State.{State, channel_width}
 use Rattle.eval.specs.Shown.{joined_mark}
+use Rattle.offers.specs.declared.row.Row.{Row}
 use Rattle.offers.specs.Walk.{slots_of}
 use Rattle.offers.specs.Table.{locals_of, Holds}
 use Rattle.offers.specs.Collect.{World}
 
 -- the table holds the slots of the state
-pub record Ready (t roots scopes : List ℕ) (zs : List ℤ) (hs : List ℕ) (os : List ℤ) (rows : ℕ) (m : Resolved.Model) (s : State) : Type 0 where
+pub record Ready (t roots scopes : List ℕ) (zs : List ℤ) (rs : List Row) (m : Resolved.Model) (s : State) : Type 0 where
   pub world : World t roots scopes zs m s
-  pub holds : Holds t (locals_of s.processes) hs os (slots_of m 0 s.processes)
-  pub rows_are : rows ≡ length (slots_of m 0 s.processes)
+  pub holds : Holds t (locals_of s.processes) rs (slots_of m 0 s.processes)
+  pub rows_are : length rs ≡ length (slots_of m 0 s.processes)
 
 -- 01, Transitions: the pairs from one number up to another are on the channel of a receive or check, and no other pair matches it
 pub record RunIs (xs : List offers.Pair) (w : offers.Query) (from to : ℕ) : Type 0 where

@@ -1,7 +1,7 @@
 #![tactic(auto)]
 
 // The listing of a state: its entries in the listing buffer, their count and total, or a refusal under questions 12 to 14.
-ghost use Rattle.std.specs.Prelude.{◌≡◌, ◌∷◌, [], ◌++◌, suc, ◌+◌, ◌-◌, ◌*◌, ◌≤◌, ◌<◌, length, take, replicate, List, ℕ, Bool, ℤ, pos, true, get_or};
+ghost use Rattle.std.specs.Prelude.{◌≡◌, ◌∷◌, [], ◌++◌, suc, ◌+◌, ◌-◌, ◌*◌, ◌≤◌, ◌<◌, length, take, replicate, List, ℕ, Bool, ℤ, pos, true};
 ghost use Rattle.rules.specs.Draw.{total, chosen};
 ghost use Rattle.machine.specs.Machine.{entry_limit, entry_width, listing_length, total_limit};
 ghost use Rattle.rules.specs.Listing as rules;
@@ -27,7 +27,7 @@ ghost use Rattle.machine.specs.Offer.{branches};
 ghost use Rattle.state.specs.Read.{process_count};
 ghost use Rattle.eval.specs.Shown.{ShowsAction};
 ghost use Rattle.offers.specs.Head.{kind_in};
-ghost use Rattle.offers.specs.Links.{row_limit, few_rows, row_width, bucket_limit, Linked};
+ghost use Rattle.offers.specs.Links.{row_limit, row_at};
 ghost use Rattle.offers.specs.Slots.{Slot, partner_of, of_slot};
 ghost use Rattle.offers.specs.Walk.{slots_of};
 ghost use Rattle.offers.specs.Table.{locals_of, offer_in};
@@ -37,7 +37,7 @@ ghost use Rattle.listing.specs.Buffer.{entry_of, entry_in, image, cut, Adds, use
 
 use eval::offer::{Offer, OfferSet};
 pub use machine::EntryKind;
-use offers::{Offers, Stop, Table};
+use offers::{Offers, Row, Space, Stop, Table};
 use state::{Layout, Run};
 use tables::Tables;
 use tree::NodeKind;
@@ -89,7 +89,8 @@ pub struct Refusal {
     pub branch: usize,
 }
 
-// One entry more: written if the buffer has room, and counted to one past its last.
+// One entry more: written if the buffer has room, and counted to one past its last. The buffer is a slice here and below, its length a clause: callers lend
+// parts of larger buffers, and what is written through an array's reference made of a slice isn't known of the slice.
 pub fn append(listing: &mut [u64], count: usize, e: Entry) -> usize
     requires { (length listing.old ≡ listing_length) × (count ≤ suc entry_limit) }
     ensures { Adds (entry_of e ∷ []) listing.old count listing.new result }
@@ -249,8 +250,15 @@ fn pair_matches(nodes: &[u64], locals: &[i64], state: &[i64], o: Offer, q: usize
 
 // How many of n ascending pairs stand before those with so many values on a channel, the first of them from low to high, and how many up to the last of these. The row has the
 // channel's numbers.
-fn value_run(s: &[i64], n: usize, row: &mut [i64], count: usize, low: i64, high: i64) -> Run
-    requires { (n * pair_width ≤ length s.now) × (ascends (rows pair_width n s.now) ≡ true) × (length row.old ≡ pair_width) × (count ≤ 2) }
+fn value_run(
+    s: &[i64],
+    n: usize,
+    row: &mut [i64; Layout::PAIR],
+    count: usize,
+    low: i64,
+    high: i64,
+) -> Run
+    requires { (n * pair_width ≤ length s.now) × (ascends (rows pair_width n s.now) ≡ true) × (count ≤ 2) }
     ensures { (result.from ≡ place_of (low_row row.old count low) (rows pair_width n s.now)) × (result.to ≡ place_of (high_row row.old count low high) (rows pair_width n s.now)) }
 {
     row[Layout::CHANNEL] = count as i64;
@@ -378,14 +386,15 @@ fn same_channel(o: Offer, p: Offer) -> bool
 
 // Whether the handshake receive in a row matches what a branch sends.
 fn row_matches(tables: Tables, state: &[i64], offered: Offers, row: usize, sender: Offer) -> bool
-    requires { ((roots : List ℕ) × (rows : ℕ) × (m : Resolved.Model) × (s : State) × Ready tables.nodes.now roots tables.scopes.now state.now offered.heads.now offered.numbers.now rows m s × (row < rows)) × (node.hand_receive ≤ kind_in (get_or offered.heads.now row 0)) × (row < length offered.heads.now) × (length offered.numbers.now ≡ length offered.heads.now * row_width) }
-    ensures { (roots : List ℕ) (rows : ℕ) (m : Resolved.Model) (s : State) (y : Slot) (w : offers.Query) (x : offers.Pair) → Ready tables.entry.nodes.now roots tables.entry.scopes.now state.now offered.entry.heads.now offered.entry.numbers.now rows m s → get_elem? (slots_of m 0 s.processes) row ≡ some y → ShowsQuery tables.entry.nodes.now (locals_of s.processes y.place) (offer_in offered.entry.heads.now offered.entry.numbers.now row) w → ShowsPair sender x → result ≡ matches w x }
+    requires { ((roots : List ℕ) × (m : Resolved.Model) × (s : State) × Ready tables.nodes.now roots tables.scopes.now state.now offered.rows.now m s) × (node.hand_receive ≤ kind_in (row_at offered.rows.now row).head) × (row < length offered.rows.now) }
+    ensures { (roots : List ℕ) (m : Resolved.Model) (s : State) (y : Slot) (w : offers.Query) (x : offers.Pair) → Ready tables.entry.nodes.now roots tables.entry.scopes.now state.now offered.entry.rows.now m s → get_elem? (slots_of m 0 s.processes) row ≡ some y → ShowsQuery tables.entry.nodes.now (locals_of s.processes y.place) (offer_in (row_at offered.entry.rows.now row)) w → ShowsPair sender x → result ≡ matches w x }
 {
-    let o = offers::offer_at(offered, row);
+    let r = offered.rows[row];
+    let o = offers::offer_in(r);
     if !same_channel(o, sender) {
         return false;
     }
-    let place = offers::place_in(offered.heads[row]);
+    let place = offers::place_in(r.head);
     let locals = offers::locals_of(tables.scopes, state, place);
     values_match(
         tables.nodes,
@@ -409,10 +418,10 @@ fn list_partner(
     listing: &mut [u64],
     count: usize,
 ) -> usize
-    requires { ((roots : List ℕ) × (rows : ℕ) × (m : Resolved.Model) × (s : State) × Ready tables.nodes.now roots tables.scopes.now state.now offered.heads.now offered.numbers.now rows m s × (row < rows)) × (node.hand_receive ≤ kind_in (get_or offered.heads.now row 0)) × (row < length offered.heads.now) × (length offered.numbers.now ≡ length offered.heads.now * row_width) × (sender.rate ≤ rate_limit) × (length listing.old ≡ listing_length) × (count ≤ suc entry_limit) }
-    ensures { ((roots : List ℕ) (rows : ℕ) (m : Resolved.Model) (s : State) (y : Slot) (x : offers.Pair) → Ready tables.entry.nodes.now roots tables.entry.scopes.now state.now offered.entry.heads.now offered.entry.numbers.now rows m s → get_elem? (slots_of m 0 s.processes) row ≡ some y → ShowsPair sender x → Adds (partner_of x sender.rate place branch y) listing.old count listing.new result) × (length listing.new ≡ listing_length) × (result ≤ suc entry_limit) }
+    requires { ((roots : List ℕ) × (m : Resolved.Model) × (s : State) × Ready tables.nodes.now roots tables.scopes.now state.now offered.rows.now m s) × (node.hand_receive ≤ kind_in (row_at offered.rows.now row).head) × (row < length offered.rows.now) × (sender.rate ≤ rate_limit) × (length listing.old ≡ listing_length) × (count ≤ suc entry_limit) }
+    ensures { ((roots : List ℕ) (m : Resolved.Model) (s : State) (y : Slot) (x : offers.Pair) → Ready tables.entry.nodes.now roots tables.entry.scopes.now state.now offered.entry.rows.now m s → get_elem? (slots_of m 0 s.processes) row ≡ some y → ShowsPair sender x → Adds (partner_of x sender.rate place branch y) listing.old count listing.new result) × (length listing.new ≡ listing_length) × (result ≤ suc entry_limit) }
 {
-    let head = offered.heads[row];
+    let head = offered.rows[row].head;
     let partner = offers::place_in(head);
     if partner == place {
         return count;
@@ -449,14 +458,14 @@ fn list_partners(
     listing: &mut [u64],
     count: usize,
 ) -> usize
-    requires { ((roots : List ℕ) × (m : Resolved.Model) × (s : State) × Ready tables.nodes.now roots tables.scopes.now state.now offered.heads.now offered.numbers.now offered.rows m s) × (Linked offered.heads.now offered.numbers.now offered.rows 0 offered.firsts.now offered.nexts.now) × (length offered.firsts.now ≡ bucket_limit) × (length offered.nexts.now ≡ length offered.heads.now) × (offered.rows ≤ length offered.heads.now) × (length offered.numbers.now ≡ length offered.heads.now * row_width) × (sender.rate ≤ rate_limit) × (length listing.old ≡ listing_length) × (count ≤ suc entry_limit) }
-    ensures { ((roots : List ℕ) (m : Resolved.Model) (s : State) (x : offers.Pair) → Ready tables.entry.nodes.now roots tables.entry.scopes.now state.now offered.entry.heads.now offered.entry.numbers.now offered.entry.rows m s → ShowsPair sender x → Adds (gather (λ n. partner_of x sender.rate place branch) (slots_of m 0 s.processes)) listing.old count listing.new result) × (length listing.new ≡ listing_length) × (result ≤ suc entry_limit) }
+    requires { ((roots : List ℕ) × (m : Resolved.Model) × (s : State) × Ready tables.nodes.now roots tables.scopes.now state.now offered.rows.now m s) × (sender.rate ≤ rate_limit) × (length listing.old ≡ listing_length) × (count ≤ suc entry_limit) }
+    ensures { ((roots : List ℕ) (m : Resolved.Model) (s : State) (x : offers.Pair) → Ready tables.entry.nodes.now roots tables.entry.scopes.now state.now offered.entry.rows.now m s → ShowsPair sender x → Adds (gather (λ n. partner_of x sender.rate place branch) (slots_of m 0 s.processes)) listing.old count listing.new result) × (length listing.new ≡ listing_length) × (result ≤ suc entry_limit) }
 {
     let bucket = offers::bucket_of(sender.channel, sender.channel2, sender.channel3);
     let mut row = offered.firsts[bucket] as usize;
     let mut n = count;
     // A while: it follows links.
-    while row < offered.rows {
+    while row < offered.rows.len() {
         n = list_partner(
             tables, state, offered, row, sender, place, branch, listing, n,
         );
@@ -545,13 +554,13 @@ fn list_row(
     listing: &mut [u64],
     count: usize,
 ) -> usize
-    requires { ((roots : List ℕ) × (m : Resolved.Model) × (s : State) × Ready tables.nodes.now roots tables.scopes.now state.now offered.heads.now offered.numbers.now offered.rows m s) × (Linked offered.heads.now offered.numbers.now offered.rows 0 offered.firsts.now offered.nexts.now) × (length offered.firsts.now ≡ bucket_limit) × (length offered.nexts.now ≡ length offered.heads.now) × (offered.rows ≤ length offered.heads.now) × (length offered.numbers.now ≡ length offered.heads.now * row_width) × (row < offered.rows) × (length listing.old ≡ listing_length) × (count ≤ suc entry_limit) }
-    ensures { ((roots : List ℕ) (m : Resolved.Model) (s : State) (y : Slot) → Ready tables.entry.nodes.now roots tables.entry.scopes.now state.now offered.entry.heads.now offered.entry.numbers.now offered.entry.rows m s → get_elem? (slots_of m 0 s.processes) row ≡ some y → Adds (of_slot (branches m) s y) listing.old count listing.new result) × (length listing.new ≡ listing_length) × (result ≤ suc entry_limit) }
+    requires { ((roots : List ℕ) × (m : Resolved.Model) × (s : State) × Ready tables.nodes.now roots tables.scopes.now state.now offered.rows.now m s) × (row < length offered.rows.now) × (length listing.old ≡ listing_length) × (count ≤ suc entry_limit) }
+    ensures { ((roots : List ℕ) (m : Resolved.Model) (s : State) (y : Slot) → Ready tables.entry.nodes.now roots tables.entry.scopes.now state.now offered.entry.rows.now m s → get_elem? (slots_of m 0 s.processes) row ≡ some y → Adds (of_slot (branches m) s y) listing.old count listing.new result) × (length listing.new ≡ listing_length) × (result ≤ suc entry_limit) }
 {
-    let head = offered.heads[row];
-    let place = offers::place_in(head);
-    let branch = offers::branch_in(head);
-    let o = offers::offer_at(offered, row);
+    let r = offered.rows[row];
+    let place = offers::place_in(r.head);
+    let branch = offers::branch_in(r.head);
+    let o = offers::offer_in(r);
     let kind = o.kind;
     if NodeKind::HAND_SEND < kind {
         return count;
@@ -575,11 +584,11 @@ fn list_row(
 
 // The entries of all rows, in order; none is sought past the first that the buffer has no room for.
 fn list_rows(tables: Tables, state: &[i64], offered: Offers, listing: &mut [u64]) -> usize
-    requires { ((roots : List ℕ) × (m : Resolved.Model) × (s : State) × Ready tables.nodes.now roots tables.scopes.now state.now offered.heads.now offered.numbers.now offered.rows m s) × (Linked offered.heads.now offered.numbers.now offered.rows 0 offered.firsts.now offered.nexts.now) × (length offered.firsts.now ≡ bucket_limit) × (length offered.nexts.now ≡ length offered.heads.now) × (offered.rows ≤ length offered.heads.now) × (length offered.numbers.now ≡ length offered.heads.now * row_width) × (length listing.old ≡ listing_length) }
-    ensures { ((roots : List ℕ) (m : Resolved.Model) (s : State) → Ready tables.entry.nodes.now roots tables.entry.scopes.now state.now offered.entry.heads.now offered.entry.numbers.now offered.entry.rows m s → Adds (entries (branches m) s) listing.old 0 listing.new result) × (length listing.new ≡ listing_length) × (result ≤ suc entry_limit) }
+    requires { ((roots : List ℕ) × (m : Resolved.Model) × (s : State) × Ready tables.nodes.now roots tables.scopes.now state.now offered.rows.now m s) × (length listing.old ≡ listing_length) }
+    ensures { ((roots : List ℕ) (m : Resolved.Model) (s : State) → Ready tables.entry.nodes.now roots tables.entry.scopes.now state.now offered.entry.rows.now m s → Adds (entries (branches m) s) listing.old 0 listing.new result) × (length listing.new ≡ listing_length) × (result ≤ suc entry_limit) }
 {
     let mut count = 0;
-    for row in 0..offered.rows {
+    for row in 0..offered.rows.len() {
         if Limits::ENTRIES < count {
             return count;
         }
@@ -588,154 +597,81 @@ fn list_rows(tables: Tables, state: &[i64], offered: Offers, listing: &mut [u64]
     count
 }
 
-// Lists what can happen next, questions 12 to 14, if the lent tables have a row for each offer. What stands in the buffer after the entries stays.
-fn try_over(
+// Lists what can happen next, questions 12 to 14, if the lent table has a row for each offer. What stands in the buffer after the entries stays.
+fn try_over<const ROWS: usize>(
     tables: Tables,
     state: &[i64],
-    heads: &mut [u64],
-    numbers: &mut [i64],
-    firsts: &mut [u16],
-    nexts: &mut [u16],
+    space: &mut Space<ROWS>,
     listing: &mut [u64],
 ) -> Option<Result<(usize, u64), Refusal>>
-    requires { ((m : Resolved.Model) × (s : State) × World tables.nodes.now tables.roots.now tables.scopes.now state.now m s) × (length numbers.old ≡ length heads.old * row_width) × (length firsts.old ≡ bucket_limit) × (length nexts.old ≡ length heads.old) × (length listing.old ≡ listing_length) }
-    ensures { (m : Resolved.Model) (s : State) → World tables.entry.nodes.now tables.entry.roots.now tables.entry.scopes.now state.now m s → TriesOver (length heads.old) (machine.listing m s) listing.new result }
+    requires { ((m : Resolved.Model) × (s : State) × World tables.nodes.now tables.roots.now tables.scopes.now state.now m s) × (length listing.old ≡ listing_length) × (ROWS ≤ row_limit) }
+    ensures { (m : Resolved.Model) (s : State) → World tables.entry.nodes.now tables.entry.roots.now tables.entry.scopes.now state.now m s → TriesOver ROWS (machine.listing m s) listing.new result }
 {
-    let collected = offers::collect(tables, state, heads, numbers);
+    let collected = offers::collect(tables, state, &mut space.rows);
     match collected {
-        Ok(rows) => {
-            offers::link(heads, numbers, rows, firsts, nexts);
-            let count = list_rows(
-                tables,
-                state,
-                Offers {
-                    heads,
-                    numbers,
-                    rows,
-                    firsts,
-                    nexts,
-                },
-                listing,
+        Ok(count) => {
+            offers::link(
+                &space.rows[..count],
+                &mut space.firsts,
+                &mut space.nexts[..count],
             );
-            let listed = judge(listing, count);
-            Some(listed)
+            let offered = Offers {
+                rows: &space.rows[..count],
+                firsts: &space.firsts,
+                nexts: &space.nexts[..count],
+            };
+            let entries = list_rows(tables, state, offered, listing);
+            Some(judge(listing, entries))
         }
-        Err(stop) => match stop {
-            Stop::Missing((place, branch)) => Some(Err(Refusal {
-                number: 12,
-                place,
-                branch,
-            })),
-            Stop::Full => None,
-        },
+        Err(Stop::Missing((place, branch))) => Some(Err(Refusal {
+            number: 12,
+            place,
+            branch,
+        })),
+        Err(Stop::Full) => None,
     }
 }
 
-// The same in lent tables with room for all offers.
+// In place of a listing where a table of all rows is full, which it never is.
+const NO_ROOM: Refusal = Refusal {
+    number: 12,
+    place: 0,
+    branch: 0,
+};
+
+// The same in a lent table with room for all offers.
 pub fn list_over(
     tables: Tables,
     state: &[i64],
-    heads: &mut [u64],
-    numbers: &mut [i64],
-    firsts: &mut [u16],
-    nexts: &mut [u16],
+    space: &mut Space<{ Table::ROWS }>,
     listing: &mut [u64],
 ) -> Result<(usize, u64), Refusal>
-    requires { ((m : Resolved.Model) × (s : State) × World tables.nodes.now tables.roots.now tables.scopes.now state.now m s) × (length heads.old ≡ row_limit) × (length numbers.old ≡ row_limit * row_width) × (length firsts.old ≡ bucket_limit) × (length nexts.old ≡ row_limit) × (length listing.old ≡ listing_length) }
+    requires { ((m : Resolved.Model) × (s : State) × World tables.nodes.now tables.roots.now tables.scopes.now state.now m s) × (length listing.old ≡ listing_length) }
     ensures { (m : Resolved.Model) (s : State) → World tables.entry.nodes.now tables.entry.roots.now tables.entry.scopes.now state.now m s → Leads (machine.listing m s) result listing.new }
 {
-    let tried = try_over(tables, state, heads, numbers, firsts, nexts, listing);
-    tried.unwrap_or(Err(Refusal {
-        number: 12,
-        place: 0,
-        branch: 0,
-    }))
+    try_over(tables, state, space, listing).unwrap_or(Err(NO_ROOM))
 }
 
-// The same if the lent tables have a row for each offer, with zeros after the entries.
-fn list_into(
+// The same in a table of its own, if that has a row for each offer, and with zeros after the entries.
+fn list_in<const ROWS: usize>(
     tables: Tables,
     state: &[i64],
-    heads: &mut [u64],
-    numbers: &mut [i64],
-    firsts: &mut [u16],
-    nexts: &mut [u16],
     listing: &mut [u64],
 ) -> Option<Result<(usize, u64), Refusal>>
-    requires { ((m : Resolved.Model) × (s : State) × World tables.nodes.now tables.roots.now tables.scopes.now state.now m s) × (length numbers.old ≡ length heads.old * row_width) × (length firsts.old ≡ bucket_limit) × (length nexts.old ≡ length heads.old) × (length listing.old ≡ listing_length) }
-    ensures { (m : Resolved.Model) (s : State) → World tables.entry.nodes.now tables.entry.roots.now tables.entry.scopes.now state.now m s → Tries (length heads.old) (machine.listing m s) listing.new result }
+    requires { ((m : Resolved.Model) × (s : State) × World tables.nodes.now tables.roots.now tables.scopes.now state.now m s) × (length listing.old ≡ listing_length) × (ROWS ≤ row_limit) }
+    ensures { (m : Resolved.Model) (s : State) → World tables.entry.nodes.now tables.entry.roots.now tables.entry.scopes.now state.now m s → Tries ROWS (machine.listing m s) listing.new result }
 {
-    let listed = try_over(tables, state, heads, numbers, firsts, nexts, listing)?;
+    let mut space: Space<ROWS> = Space {
+        rows: [Row::EMPTY; ROWS],
+        firsts: [0; Table::BUCKETS],
+        nexts: [0; ROWS],
+    };
+    let listed = try_over(tables, state, &mut space, listing)?;
     clear_unused(listing, listed);
     Some(listed)
 }
 
-// The same in lent tables with room for all offers.
-pub fn list_all(
-    tables: Tables,
-    state: &[i64],
-    heads: &mut [u64],
-    numbers: &mut [i64],
-    firsts: &mut [u16],
-    nexts: &mut [u16],
-    listing: &mut [u64],
-) -> Result<(usize, u64), Refusal>
-    requires { ((m : Resolved.Model) × (s : State) × World tables.nodes.now tables.roots.now tables.scopes.now state.now m s) × (length heads.old ≡ row_limit) × (length numbers.old ≡ row_limit * row_width) × (length firsts.old ≡ bucket_limit) × (length nexts.old ≡ row_limit) × (length listing.old ≡ listing_length) }
-    ensures { (m : Resolved.Model) (s : State) → World tables.entry.nodes.now tables.entry.roots.now tables.entry.scopes.now state.now m s → Lists (machine.listing m s) result listing.new }
-{
-    let tried = list_into(tables, state, heads, numbers, firsts, nexts, listing);
-    tried.unwrap_or(Err(Refusal {
-        number: 12,
-        place: 0,
-        branch: 0,
-    }))
-}
-
-// The same in small tables, if these have room.
-fn list_few(
-    tables: Tables,
-    state: &[i64],
-    listing: &mut [u64],
-) -> Option<Result<(usize, u64), Refusal>>
-    requires { ((m : Resolved.Model) × (s : State) × World tables.nodes.now tables.roots.now tables.scopes.now state.now m s) × (length listing.old ≡ listing_length) }
-    ensures { (m : Resolved.Model) (s : State) → World tables.entry.nodes.now tables.entry.roots.now tables.entry.scopes.now state.now m s → Tries few_rows (machine.listing m s) listing.new result }
-{
-    let mut heads = [0u64; Table::FEW];
-    let mut numbers = [0i64; Table::FEW_NUMBERS];
-    let mut firsts = [0u16; Table::BUCKETS];
-    let mut nexts = [0u16; Table::FEW];
-    list_into(
-        tables,
-        state,
-        &mut heads,
-        &mut numbers,
-        &mut firsts,
-        &mut nexts,
-        listing,
-    )
-}
-
-// The same in tables with room for all offers.
-fn list_many(tables: Tables, state: &[i64], listing: &mut [u64]) -> Result<(usize, u64), Refusal>
-    requires { ((m : Resolved.Model) × (s : State) × World tables.nodes.now tables.roots.now tables.scopes.now state.now m s) × (length listing.old ≡ listing_length) }
-    ensures { (m : Resolved.Model) (s : State) → World tables.entry.nodes.now tables.entry.roots.now tables.entry.scopes.now state.now m s → Lists (machine.listing m s) result listing.new }
-{
-    let mut heads = [0u64; Table::ROWS];
-    let mut numbers = [0i64; Table::ALL_NUMBERS];
-    let mut firsts = [0u16; Table::BUCKETS];
-    let mut nexts = [0u16; Table::ROWS];
-    list_all(
-        tables,
-        state,
-        &mut heads,
-        &mut numbers,
-        &mut firsts,
-        &mut nexts,
-        listing,
-    )
-}
-
-// The same in tables of its own: small ones, and large ones where those are full.
+// The same in a small table, and in a large one where that is full.
 pub fn list_here(
     tables: Tables,
     state: &[i64],
@@ -744,9 +680,8 @@ pub fn list_here(
     requires { ((m : Resolved.Model) × (s : State) × World tables.nodes.now tables.roots.now tables.scopes.now state.now m s) × (length listing.old ≡ listing_length) }
     ensures { (m : Resolved.Model) (s : State) → World tables.entry.nodes.now tables.entry.roots.now tables.entry.scopes.now state.now m s → Lists (machine.listing m s) result listing.new }
 {
-    let tried = list_few(tables, state, listing);
-    match tried {
+    match list_in::<{ Table::FEW }>(tables, state, listing) {
         Some(listed) => listed,
-        None => list_many(tables, state, listing),
+        None => list_in::<{ Table::ROWS }>(tables, state, listing).unwrap_or(Err(NO_ROOM)),
     }
 }

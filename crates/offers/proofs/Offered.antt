@@ -1,5 +1,5 @@
 -- One branch more is collected: by what its offer shows. From the laws of rows.
-use Prim.Native.Nat.{ℕ, ◌+◌, ◌*◌, ◌≤◌, ◌<◌}
+use Prim.Native.Nat.{ℕ, ◌+◌, ◌≤◌, ◌<◌}
 use mathlib.Core.Path.{◌≡◌, refl, ap}
 use mathlib.Core.List.{List, [], ◌∷◌}
 use mathlib.Core.Option.{Option, none, some, Option-elim}
@@ -18,12 +18,12 @@ use Rattle.eval.specs.Channels.{ShowsChannel}
 use Rattle.eval.specs.Shown as shown
 use Rattle.eval.specs.Shown.{bare_offer, ShowsValues, ShowsSets, ShowsPair, ShowsQuery, ShowsAction, ShowsOffer}
 use Rattle.std.specs.Prelude.{Err, Ok}
-use Rattle.offers.specs.declared.Stop.TheVariants.{Missing, Full}
+use Rattle.offers.specs.declared.row.Row.{Row}
+use Rattle.offers.specs.declared.Stop.TheVariants.{Missing}
 use Rattle.eval.proofs.Shapes.{shape-bounds}
-use Rattle.offers.specs.Links.{row_width}
 use Rattle.offers.specs.Slots.{slot_of}
 use Rattle.offers.specs.Walk.{guard_or}
-use Rattle.offers.specs.Table.{head_of, written, Small}
+use Rattle.offers.specs.Table.{row_of, Small}
 use Rattle.offers.specs.Collect.{Grows, CollectsOne, lacks, all}
 use Rattle.offers.proofs.Numbered.{append-nil}
 use Rattle.offers.proofs.Rows.{holds_more}
@@ -89,35 +89,35 @@ fits_head m t ls b r range good sh not1 not0 = go (eval_branch ls b) refl sh
     go (some (offers.opened a n)) e (shown.opened s q) = small s q (branch-good m ls range b good (offers.opened a n) e).1
 
 -- ---- one branch
-module _ (t : List ℕ) (ls : List ℤ) (i j n : ℕ) (hs : List ℕ) (os : List ℤ) (r : Offer) where
-  pub one-lacks : (hs' : List ℕ) (os' : List ℤ) (g : Option offers.Guard) → r.kind ≡ 1 → ShowsOffer t ls g r → CollectsOne t ls i j n hs os hs' os' g (Err (Missing j))
-  one-lacks hs' os' none e s = lacks refl
-  one-lacks hs' os' (some offers.shut) e (shown.shut q) = absurd (omega (arith, kind-is 0 0 q))
-  one-lacks hs' os' (some (offers.bare a m)) e (shown.bare s q) = absurd (omega (arith, (action-kinds s).low))
-  one-lacks hs' os' (some (offers.opened a m)) e (shown.opened s q) = absurd (omega (arith, (action-kinds s).low))
+module _ (t : List ℕ) (ls : List ℤ) (i j n : ℕ) (rs : List Row) (r : Offer) where
+  pub one-lacks : (rs' : List Row) (g : Option offers.Guard) → r.kind ≡ 1 → ShowsOffer t ls g r → CollectsOne t ls i j n rs rs' g (Err (Missing j))
+  one-lacks rs' none e s = lacks refl
+  one-lacks rs' (some offers.shut) e (shown.shut q) = absurd (omega (arith, kind-is 0 0 q))
+  one-lacks rs' (some (offers.bare a m)) e (shown.bare s q) = absurd (omega (arith, (action-kinds s).low))
+  one-lacks rs' (some (offers.opened a m)) e (shown.opened s q) = absurd (omega (arith, (action-kinds s).low))
 
-  none_more : n ≤ length hs → Grows t ls i n hs os hs os [] n
+  none_more : n ≤ length rs → Grows t ls i n rs rs [] n
   none_more l = record { holds = λ L xs e l h. rw (append-nil xs) h; rows = omega arith; room = l }
 
-  pub one-hidden : (g : Option offers.Guard) → n ≤ length hs → r.kind ≡ 0 → ShowsOffer t ls g r → CollectsOne t ls i j n hs os hs os g (Ok n)
+  pub one-hidden : (g : Option offers.Guard) → n ≤ length rs → r.kind ≡ 0 → ShowsOffer t ls g r → CollectsOne t ls i j n rs rs g (Ok n)
   unfolding is_none guard_or slot_of Option-elim
   one-hidden none l e (shown.missing q) = absurd (omega (arith, kind-is 1 0 q))
   one-hidden (some offers.shut) l e (shown.shut q) = all refl (none_more l)
   one-hidden (some (offers.bare a m)) l e (shown.bare s q) = absurd (omega (arith, (action-kinds s).low))
   one-hidden (some (offers.opened a m)) l e (shown.opened s q) = absurd (omega (arith, (action-kinds s).low))
 
-  module _ (small : Small r) (pi : i < 256) (pj : j < 16) (lh : n < length hs) (lo : n * row_width + row_width ≤ length os) where
+  module _ (small : Small r) (pi : i < 256) (pj : j < 16) (lh : n < length rs) where
     one_more : (a : offers.Action) (m : ℕ) → ShowsAction t ls r a → r.rate ≡ m
-        → Grows t ls i n hs os (set hs n (head_of i j r)) (written os n r) (record { place = i; branch = j; action = a; rate = m } ∷ []) (n + 1)
+        → Grows t ls i n rs (set rs n (row_of i j r)) (record { place = i; branch = j; action = a; rate = m } ∷ []) (n + 1)
     one_more a m s q =
         record {
-          holds = λ L xs e l h. rw (← q) (holds_more hs os n i j r small pi pj lh lo t L xs a l h (rw e s));
+          holds = λ L xs e l h. rw (← q) (holds_more rs n i j r small pi pj lh t L xs a l h (rw e s));
           rows = omega arith;
-          room = omega (arith, length-set hs n (head_of i j r));
+          room = omega (arith, length-set rs n (row_of i j r));
         }
 
     pub one-put : (g : Option offers.Guard) → (r.kind ≡ 1 → ⊥) → (r.kind ≡ 0 → ⊥) → ShowsOffer t ls g r
-        → CollectsOne t ls i j n hs os (set hs n (head_of i j r)) (written os n r) g (Ok (n + 1))
+        → CollectsOne t ls i j n rs (set rs n (row_of i j r)) g (Ok (n + 1))
     unfolding is_none guard_or slot_of Option-elim
     one-put none not1 not0 (shown.missing q) = absurd (not1 (kind-is 1 0 q))
     one-put (some offers.shut) not1 not0 (shown.shut q) = absurd (not0 (kind-is 0 0 q))

@@ -24,6 +24,7 @@ use Rattle.model.proofs.Scope.{locals-in}
 use Rattle.state.proofs.Over.{good-fits, few-scopes}
 use Rattle.state.proofs.Read.{good-passed, count-numbers, sum-numbers, locals-numbers}
 use Rattle.std.specs.Prelude.{Err, Ok}
+use Rattle.offers.specs.declared.row.Row.{Row}
 use Rattle.offers.specs.declared.Stop.{Stop}
 use Rattle.offers.specs.declared.Stop.TheVariants.{Missing, Full}
 use Rattle.offers.specs.Walk.{slots_from, slots_of}
@@ -108,25 +109,25 @@ module _ {t roots scopes : List ℕ} {zs : List ℤ} {m : Resolved.Model} {s : S
     locals-of = rw at
 
 -- ---- the places before i are collected into n rows
-pub record Progress (t hs : List ℕ) (os : List ℤ) (m : Resolved.Model) (ps : List Process) (i n : ℕ) : Type 0 where
+pub record Progress (t : List ℕ) (rs : List Row) (m : Resolved.Model) (ps : List Process) (i n : ℕ) : Type 0 where
   pub missing-is : missing m 0 ps ≡ missing m i (drop i ps)
-  pub holds : Holds t (locals_of ps) hs os (slots_of m 0 (take i ps))
+  pub holds : Holds t (locals_of ps) rs (slots_of m 0 (take i ps))
   pub rows : length (slots_of m 0 (take i ps)) ≡ n
-  pub room : n ≤ length hs
+  pub room : n ≤ length rs
 
-pub progress-none : (t hs : List ℕ) (os : List ℤ) (m : Resolved.Model) (ps : List Process) → Progress t hs os m ps 0 0
+pub progress-none : (t : List ℕ) (rs : List Row) (m : Resolved.Model) (ps : List Process) → Progress t rs m ps 0 0
 unfolding slots_of
-progress-none t hs os m ps = record { missing-is = refl; holds = record { shown = λ k x e. none-not-some none _ refl e }; rows = refl; room = omega arith }
+progress-none t rs m ps = record { missing-is = refl; holds = record { shown = λ k x e. none-not-some none _ refl e }; rows = refl; room = omega arith }
 
 module _ {t roots scopes : List ℕ} {zs : List ℤ} {m : Resolved.Model} {s : State} (w : World t roots scopes zs m s) (i n : ℕ) (p : Process) (at : get_elem? s.processes i ≡ some p)
-    (hs hs' : List ℕ) (os os' : List ℤ) where
-  pub next-rows : (n' : ℕ) → Collects t p.locals i 0 n hs os hs' os' (branches_of m p) (Ok n') → n' ≤ n + 16
+    (rs rs' : List Row) where
+  pub next-rows : (n' : ℕ) → Collects t p.locals i 0 n rs rs' (branches_of m p) (Ok n') → n' ≤ n + 16
   next-rows n' (Collect.Collects.all e g) = omega (arith, g.rows, from-few p.locals i 0 (branches_of m p), few-branches w i p at)
 
-  pub next-room : (n' : ℕ) → Collects t p.locals i 0 n hs os hs' os' (branches_of m p) (Ok n') → n' ≤ length hs'
+  pub next-room : (n' : ℕ) → Collects t p.locals i 0 n rs rs' (branches_of m p) (Ok n') → n' ≤ length rs'
   next-room n' (Collect.Collects.all e g) = g.room
 
-  pub progress-more : (n' : ℕ) → Collects t p.locals i 0 n hs os hs' os' (branches_of m p) (Ok n') → Progress t hs os m s.processes i n → Progress t hs' os' m s.processes (i + 1) n'
+  pub progress-more : (n' : ℕ) → Collects t p.locals i 0 n rs rs' (branches_of m p) (Ok n') → Progress t rs m s.processes i n → Progress t rs' m s.processes (i + 1) n'
   progress-more n' (Collect.Collects.all e g) q =
       let nth = get_nth s.processes i at in
       let o = of-next m nth in
@@ -137,7 +138,7 @@ module _ {t roots scopes : List ℕ} {zs : List ℤ} {m : Resolved.Model} {s : S
         room = g.room;
       }
 
-  pub progress-stops : (e : Stop ℕ) → Collects t p.locals i 0 n hs os hs' os' (branches_of m p) (Err e) → Progress t hs os m s.processes i n → Answers t hs' os' m s.processes (Err (at_place i e))
+  pub progress-stops : (e : Stop ℕ) → Collects t p.locals i 0 n rs rs' (branches_of m p) (Err e) → Progress t rs m s.processes i n → Answers t rs' m s.processes (Err (at_place i e))
   unfolding at_place
   progress-stops (Missing j) (Collect.Collects.lacks e) q = Collect.Answers.lacks (q.missing-is ∙ missing-here m (get_nth s.processes i at) j e)
   progress-stops Full (Collect.Collects.full l) q = Collect.Answers.full l
@@ -148,9 +149,9 @@ drop_all (suc i) [] l = refl
 drop_all zero (x ∷ xs) l = absurd (omega arith)
 drop_all (suc i) (x ∷ xs) l = drop_all i xs (omega arith)
 
-pub progress-all : (t hs : List ℕ) (os : List ℤ) (m : Resolved.Model) (ps : List Process) (i n : ℕ) → length ps ≤ i → Progress t hs os m ps i n → Answers t hs os m ps (Ok n)
-progress-all t hs os m ps i n l q =
-    rw (← q.rows) (rw (take_all i ps l) (Collect.Answers.all (q.missing-is ∙ ended i ps l) (rw (take_all i ps l) at q.holds) (rw (take_all i ps l) at (let z : length (slots_of m 0 (take i ps)) ≤ length hs = omega (arith, q.rows, q.room) in z))))
+pub progress-all : (t : List ℕ) (rs : List Row) (m : Resolved.Model) (ps : List Process) (i n : ℕ) → length ps ≤ i → Progress t rs m ps i n → Answers t rs m ps (Ok n)
+progress-all t rs m ps i n l q =
+    rw (← q.rows) (rw (take_all i ps l) (Collect.Answers.all (q.missing-is ∙ ended i ps l) (rw (take_all i ps l) at q.holds) (rw (take_all i ps l) at (let z : length (slots_of m 0 (take i ps)) ≤ length rs = omega (arith, q.rows, q.room) in z))))
   where
     ended : (i : ℕ) (qs : List Process) → length qs ≤ i → missing m i (drop i qs) ≡ none
     ended i qs l = ap (missing m i) (drop_all i qs l) ∙ (unfold missing in refl)

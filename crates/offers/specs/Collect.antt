@@ -9,6 +9,7 @@ use Rattle.tables.specs.Represents.{Represents}
 use Rattle.model.specs.Good.{Every, GoodBranch, GoodModel}
 use Rattle.machine.specs.Offer.{Process, is_none, missing_branch, missing}
 use Rattle.machine.specs.State.{State, GoodState, state_numbers}
+use Rattle.offers.specs.declared.row.Row.{Row}
 use Rattle.offers.specs.declared.Stop.{Stop}
 use Rattle.offers.specs.declared.Stop.TheVariants.{Missing, Full}
 use Rattle.offers.specs.Links.{row_limit}
@@ -24,11 +25,11 @@ pub record Branched (t : List ℕ) (n j k : ℕ) : Type 0 where
   pub fit : Every (GoodBranch model n) branches
   pub few : j + length branches ≤ branch_limit
 
--- the table with hs and os, which held n slots, holds these ones after them as hs' and os'
-pub record Grows (t : List ℕ) (ls : List ℤ) (i n : ℕ) (hs : List ℕ) (os : List ℤ) (hs' : List ℕ) (os' : List ℤ) (ys : List Slot) (n' : ℕ) : Type 0 where
-  pub holds : (L : ℕ → List ℤ) (xs : List Slot) → L i ≡ ls → length xs ≡ n → Holds t L hs os xs → Holds t L hs' os' (xs ++ ys)
+-- the table rs, which held n slots, holds these ones after them as rs'
+pub record Grows (t : List ℕ) (ls : List ℤ) (i n : ℕ) (rs rs' : List Row) (ys : List Slot) (n' : ℕ) : Type 0 where
+  pub holds : (L : ℕ → List ℤ) (xs : List Slot) → L i ≡ ls → length xs ≡ n → Holds t L rs xs → Holds t L rs' (xs ++ ys)
   pub rows : n' ≡ n + length ys
-  pub room : n' ≤ length hs'
+  pub room : n' ≤ length rs'
 
 -- up to where the rows are filled; or the first branch without value, or no row is left
 abbrev pub Walked : Type 0
@@ -44,16 +45,16 @@ at_place i (Missing j) = Missing (i, j)
 at_place i Full = Full
 
 -- branch j at place i, which offers g
-pub data CollectsOne (t : List ℕ) (ls : List ℤ) (i j n : ℕ) (hs : List ℕ) (os : List ℤ) (hs' : List ℕ) (os' : List ℤ) (g : Option offers.Guard) : Walked → Type 0 where
-  lacks : g ≡ none → CollectsOne t ls i j n hs os hs' os' g (Err (Missing j))
-  all : {n' : ℕ} → is_none g ≡ false → Grows t ls i n hs os hs' os' (slot_of i j (guard_or g)) n' → CollectsOne t ls i j n hs os hs' os' g (Ok n')
-  full : length hs' < row_limit → CollectsOne t ls i j n hs os hs' os' g (Err Full)
+pub data CollectsOne (t : List ℕ) (ls : List ℤ) (i j n : ℕ) (rs rs' : List Row) (g : Option offers.Guard) : Walked → Type 0 where
+  lacks : g ≡ none → CollectsOne t ls i j n rs rs' g (Err (Missing j))
+  all : {n' : ℕ} → is_none g ≡ false → Grows t ls i n rs rs' (slot_of i j (guard_or g)) n' → CollectsOne t ls i j n rs rs' g (Ok n')
+  full : length rs' < row_limit → CollectsOne t ls i j n rs rs' g (Err Full)
 
 -- branches counted from j on
-pub data Collects (t : List ℕ) (ls : List ℤ) (i j n : ℕ) (hs : List ℕ) (os : List ℤ) (hs' : List ℕ) (os' : List ℤ) (bs : List Resolved.Branch) : Walked → Type 0 where
-  lacks : {q : ℕ} → missing_branch ls j bs ≡ some q → Collects t ls i j n hs os hs' os' bs (Err (Missing q))
-  all : {n' : ℕ} → missing_branch ls j bs ≡ none → Grows t ls i n hs os hs' os' (slots_from ls i j bs) n' → Collects t ls i j n hs os hs' os' bs (Ok n')
-  full : length hs' < row_limit → Collects t ls i j n hs os hs' os' bs (Err Full)
+pub data Collects (t : List ℕ) (ls : List ℤ) (i j n : ℕ) (rs rs' : List Row) (bs : List Resolved.Branch) : Walked → Type 0 where
+  lacks : {q : ℕ} → missing_branch ls j bs ≡ some q → Collects t ls i j n rs rs' bs (Err (Missing q))
+  all : {n' : ℕ} → missing_branch ls j bs ≡ none → Grows t ls i n rs rs' (slots_from ls i j bs) n' → Collects t ls i j n rs rs' bs (Ok n')
+  full : length rs' < row_limit → Collects t ls i j n rs rs' bs (Err Full)
 
 -- 01, Opening a text, 7: at most 16 branches in a sum
 unfoldable pub FewBranches : Resolved.Model → Type 0
@@ -73,7 +74,7 @@ pub record World (t roots scopes : List ℕ) (zs : List ℤ) (m : Resolved.Model
   pub numbers : zs ≡ state_numbers s
 
 -- all places: 12's answer
-pub data Answers (t : List ℕ) (hs : List ℕ) (os : List ℤ) (m : Resolved.Model) (ps : List Process) : Collected → Type 0 where
-  lacks : {i j : ℕ} → missing m 0 ps ≡ some (i, j) → Answers t hs os m ps (Err (Missing (i, j)))
-  all : missing m 0 ps ≡ none → Holds t (locals_of ps) hs os (slots_of m 0 ps) → length (slots_of m 0 ps) ≤ length hs → Answers t hs os m ps (Ok (length (slots_of m 0 ps)))
-  full : length hs < row_limit → Answers t hs os m ps (Err Full)
+pub data Answers (t : List ℕ) (rs : List Row) (m : Resolved.Model) (ps : List Process) : Collected → Type 0 where
+  lacks : {i j : ℕ} → missing m 0 ps ≡ some (i, j) → Answers t rs m ps (Err (Missing (i, j)))
+  all : missing m 0 ps ≡ none → Holds t (locals_of ps) rs (slots_of m 0 ps) → length (slots_of m 0 ps) ≤ length rs → Answers t rs m ps (Ok (length (slots_of m 0 ps)))
+  full : length rs < row_limit → Answers t rs m ps (Err Full)

@@ -1,19 +1,12 @@
 -- Handshake receives by the bucket of their channel: the first of each bucket, and after each the next. Assumes nothing: these are definitions.
-use Rattle.std.specs.Prelude.{◌≡◌, List, ℕ, suc, ◌+◌, ◌*◌, ◌%◌, ◌≤◌, ◌<◌, ℤ, pos, negsuc, get_or}
+use Rattle.std.specs.Prelude.{◌≡◌, List, ℕ, suc, ◌+◌, ◌*◌, ◌%◌, ◌≤◌, ◌<◌, ℤ, pos, negsuc, length, get_or}
 use Rattle.tree.specs.Node as node
+use Rattle.offers.specs.declared.row.Row.{Row}
 use Rattle.offers.specs.Head.{kind_in}
 
 -- how many rows the table of offers has at most: 256 processes of 16 branches
 abbrev pub row_limit : ℕ
 row_limit = 4096
-
--- how many a small table has
-abbrev pub few_rows : ℕ
-few_rows = 256
-
--- how many numbers of a row stand beside its head: the channel's first item, first, its end, second, its end, the other two items
-abbrev pub row_width : ℕ
-row_width = 7
 
 abbrev pub bucket_limit : ℕ
 bucket_limit = 256
@@ -27,21 +20,24 @@ bucket_part (negsuc n) = n % bucket_limit
 unfoldable pub bucket_of : ℤ → ℤ → ℤ → ℕ
 bucket_of a b c = (bucket_part a + 5 * bucket_part b + 25 * bucket_part c) % bucket_limit
 
-module _ (hs : List ℕ) (os : List ℤ) where
+-- row k of a table
+abbrev pub row_at : List Row → ℕ → Row
+row_at rs k = get_or rs k (record { head = 0; channel = pos 0; first = pos 0; first_end = pos 0; second = pos 0; second_end = pos 0; channel2 = pos 0; channel3 = pos 0 })
+
+module _ (rs : List Row) where
   -- row q is a handshake receive, and its channel is in bucket h
   pub record InBucket (h q : ℕ) : Type 0 where
-    pub receives : node.hand_receive ≤ kind_in (get_or hs q 0)
-    pub bucket : bucket_of (get_or os (q * row_width) (pos 0)) (get_or os (q * row_width + 5) (pos 0)) (get_or os (q * row_width + 6) (pos 0)) ≡ h
+    pub receives : node.hand_receive ≤ kind_in (row_at rs q).head
+    pub bucket : bucket_of (row_at rs q).channel (row_at rs q).channel2 (row_at rs q).channel3 ≡ h
 
-  module _ (rows : ℕ) where
-    -- of the rows from a on, b is the first in bucket h; there is none if b is the number of rows
-    pub record Leads (h a b : ℕ) : Type 0 where
-      pub low : a ≤ b
-      pub high : b ≤ rows
-      pub none : (q : ℕ) → a ≤ q → q < b → InBucket h q → ⊥
-      pub here : b < rows → InBucket h b
+  -- of the rows from a on, b is the first in bucket h; there is none if b is the number of rows
+  pub record Leads (h a b : ℕ) : Type 0 where
+    pub low : a ≤ b
+    pub high : b ≤ length rs
+    pub none : (q : ℕ) → a ≤ q → q < b → InBucket h q → ⊥
+    pub here : b < length rs → InBucket h b
 
-    -- the rows from k on are linked
-    pub record Linked (k : ℕ) (fs ns : List ℕ) : Type 0 where
-      pub first : (h : ℕ) → h < bucket_limit → Leads h k (get_or fs h 0)
-      pub next : (q h : ℕ) → k ≤ q → q < rows → InBucket h q → Leads h (suc q) (get_or ns q 0)
+  -- the rows from k on are linked
+  pub record Linked (k : ℕ) (fs ns : List ℕ) : Type 0 where
+    pub first : (h : ℕ) → h < bucket_limit → Leads h k (get_or fs h 0)
+    pub next : (q h : ℕ) → k ≤ q → q < length rs → InBucket h q → Leads h (suc q) (get_or ns q 0)

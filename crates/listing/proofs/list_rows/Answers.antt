@@ -4,6 +4,7 @@ use Rattle.listing.proofs.Added.{adds_none, adds_then}
 use Rattle.listing.proofs.Partners.{some-row}
 use Rattle.listing.proofs.AllRows.{entries-up, rows_next, adds-stop}
 use mathlib.Core.Path.{refl}
+use lib.ListN.{length}
 use native.Mathlib.Omega.{arith}
 use borrow.Author.Rules.{rules}
 use Rattle.listing.proofs.list_rows.Goals as goal
@@ -11,15 +12,15 @@ use Rattle.listing.proofs.list_rows.Goals as goal
 pub loop-row-init : goal.loop-row-init
 unfolding up_to
 loop-row-init c =
-    (c.requires.6, search rules, λ roots m s R. rw (up_none _) (adds_none _ _ (omega arith)))
+    (c.requires.1, search rules, λ roots m s R. rw (up_none _) (adds_none _ _ (omega arith)))
 
 pub returns-then-count-gt-ENTRIES : goal.returns-then-count-gt-ENTRIES
 returns-then-count-gt-ENTRIES c =
-    (λ roots m s R. rw (entries-up R c.args.offered.rows refl) (adds-stop _ c.loop-row.row c.args.offered.rows (omega arith) c.if-count-gt-ENTRIES.true (c.loop-row.invariant.2 roots m s R)), c.loop-row.invariant.0, c.loop-row.invariant.1)
+    (λ roots m s R. rw (entries-up R (length c.args.offered.rows.now) refl) (adds-stop _ c.loop-row.row (length c.args.offered.rows.now) (omega arith) c.if-count-gt-ENTRIES.true (c.loop-row.invariant.2 roots m s R)), c.loop-row.invariant.0, c.loop-row.invariant.1)
 
 pub list_row-count-requires : goal.list_row-count-requires
 list_row-count-requires c =
-    (c.requires.0, c.requires.1, c.requires.2, c.requires.3, c.requires.4, c.requires.5, omega arith, c.loop-row.invariant.0, c.loop-row.invariant.1)
+    (c.requires.0, omega arith, c.loop-row.invariant.0, c.loop-row.invariant.1)
 
 pub loop-row-preserved : goal.loop-row-preserved
 loop-row-preserved c =

@@ -65,7 +65,7 @@ value_run-run-requires c =
     let w = c.requires.0.5 in
     let p = tail-part pairs_from c.args.state.now in
     let l = (passed w).long in
-    rw p (simp length-drop (omega (arith, c.pair_count-n.ensures.1)), rw c.pair_count-n.ensures.0 (rows-ascend w), rw c.put_channel.ensures (omega arith), c.requires.1)
+    rw p (simp length-drop (omega (arith, c.pair_count-n.ensures.1)), rw c.pair_count-n.ensures.0 (rows-ascend w), c.requires.1)
 
 pub returns-then-run : goal.returns-then-run
 unfolding numbers_of

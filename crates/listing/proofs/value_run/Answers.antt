@@ -5,32 +5,17 @@ use mir.Syntax.{w64}
 use mir.Facts.{to_z_pos, to_z-of_z}
 use Rattle.listing.proofs.value_run.Goals as goal
 
-pub bounds-row-8 : goal.bounds-row-8
-bounds-row-8 c = simp length-set (omega arith)
-
-pub slice_set_of-row : goal.slice_set_of-row
-slice_set_of-row c = simp length-set (omega arith)
-
 pub find_pair-from-requires : goal.find_pair-from-requires
 find_pair-from-requires c =
-    (c.requires.0, simp length-set (omega (arith, c.requires.2)), c.requires.1)
-
-pub bounds-row-8-2 : goal.bounds-row-8-2
-bounds-row-8-2 c = simp length-set (omega arith)
-
-pub slice_set_of-row-2 : goal.slice_set_of-row-2
-slice_set_of-row-2 c = simp length-set (omega arith)
+    (c.requires.0, simp length-set (omega arith), c.requires.1)
 
 pub find_pair-to-requires : goal.find_pair-to-requires
 find_pair-to-requires c =
-    (c.requires.0, simp length-set (omega (arith, c.requires.2)), c.requires.1)
-
-pub shape_of-row : goal.shape_of-row
-shape_of-row c = simp length-set
+    (c.requires.0, simp length-set (omega arith), c.requires.1)
 
 pub returns : goal.returns
 returns c =
     let s = c in (
-      simp (to_z_pos w64 {n = s.args.count} (omega (arith, s.requires.3)), to_z-of_z s.ranges.low) at c.find_pair-from.ensures,
-      simp (to_z_pos w64 {n = s.args.count} (omega (arith, s.requires.3)), to_z-of_z s.ranges.low, to_z-of_z s.ranges.high) at c.find_pair-to.ensures,
+      simp (to_z_pos w64 {n = s.args.count} (omega (arith, s.requires.2)), to_z-of_z s.ranges.low) at c.find_pair-from.ensures,
+      simp (to_z_pos w64 {n = s.args.count} (omega (arith, s.requires.2)), to_z-of_z s.ranges.low, to_z-of_z s.ranges.high) at c.find_pair-to.ensures,
     )

@@ -2,13 +2,11 @@
 use Rattle.model.specs.Resolved
 use Rattle.model.specs.Limits.{branch_limit}
 use Rattle.machine.specs.State.{State}
-use Rattle.offers.specs.Links.{row_width}
 use Rattle.offers.specs.Collect.{World}
 use Rattle.offers.proofs.Places.{Progress}
-use mathlib.Core.Path.{◌≡◌}
 use Prim.Native.Nat.{◌*◌, ◌≤◌}
 use lib.ListN.{length}
 use Rattle.offers.proofs.collect.Given as goal
 
 abbrev pub invariant-loop-place : goal.invariant-loop-place
-invariant-loop-place l = (length l.heads ≡ length l.initial.heads) × (length l.numbers ≡ length l.initial.heads * row_width) × (l.row ≤ l.place * branch_limit) × (l.row ≤ length l.heads) × ((m : Resolved.Model) (s : State) → World l.tables.nodes.now l.tables.roots.now l.tables.scopes.now l.state m s → Progress l.tables.nodes.now l.heads l.numbers m s.processes l.place l.row)
+invariant-loop-place l = (l.row ≤ l.place * branch_limit) × (l.row ≤ length l.rows) × ((m : Resolved.Model) (s : State) → World l.tables.nodes.now l.tables.roots.now l.tables.scopes.now l.state m s → Progress l.tables.nodes.now l.rows m s.processes l.place l.row)

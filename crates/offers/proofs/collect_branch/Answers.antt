@@ -7,19 +7,19 @@ use Rattle.offers.proofs.collect_branch.Goals as goal
 
 pub returns-then-kind-eq-MISSING : goal.returns-then-kind-eq-MISSING
 returns-then-kind-eq-MISSING c =
-    λ b at. one-lacks c.args.nodes.now c.args.locals.now c.args.place c.args.branch c.args.row c.args.heads.now c.args.numbers.now c.offer_of-o.result _ _ _ c.if-kind-eq-MISSING.true (c.offer_of-o.ensures b at)
+    λ b at. one-lacks c.args.nodes.now c.args.locals.now c.args.place c.args.branch c.args.row c.args.rows.now c.offer_of-o.result _ _ c.if-kind-eq-MISSING.true (c.offer_of-o.ensures b at)
 
 pub returns-then-kind-eq-HIDDEN : goal.returns-then-kind-eq-HIDDEN
 returns-then-kind-eq-HIDDEN c =
-    λ b at. one-hidden c.args.nodes.now c.args.locals.now c.args.place c.args.branch c.args.row c.args.heads.now c.args.numbers.now c.offer_of-o.result _ c.requires.2 c.if-kind-eq-HIDDEN.true (c.offer_of-o.ensures b at)
+    λ b at. one-hidden c.args.nodes.now c.args.locals.now c.args.place c.args.branch c.args.row c.args.rows.now c.offer_of-o.result _ c.requires.2 c.if-kind-eq-HIDDEN.true (c.offer_of-o.ensures b at)
 
-pub returns-then-heads-row : goal.returns-then-heads-row
-returns-then-heads-row c = λ b at. full (omega arith)
+pub returns-then-rows-row : goal.returns-then-rows-row
+returns-then-rows-row c = λ b at. full (omega arith)
 
-pub put_offer-requires : goal.put_offer-requires
-put_offer-requires c =
-    (search rules, search rules, search rules, search rules, search rules, (fits_head c.requires.0.0 c.args.nodes.now c.args.locals.now c.requires.0.1.part c.offer_of-o.result c.requires.1 c.requires.0.1.fit (c.offer_of-o.ensures c.requires.0.1.part c.requires.0.1.at) c.if-kind-eq-MISSING.false c.if-kind-eq-HIDDEN.false))
+pub row_of-requires : goal.row_of-requires
+row_of-requires c =
+    (search rules, search rules, (fits_head c.requires.0.0 c.args.nodes.now c.args.locals.now c.requires.0.1.part c.offer_of-o.result c.requires.1 c.requires.0.1.fit (c.offer_of-o.ensures c.requires.0.1.part c.requires.0.1.at) c.if-kind-eq-MISSING.false c.if-kind-eq-HIDDEN.false))
 
 pub returns : goal.returns
 returns c =
-    λ b at. rw (c.put_offer.ensures.0, c.put_offer.ensures.1) (one-put c.args.nodes.now c.args.locals.now c.args.place c.args.branch c.args.row c.args.heads.now c.args.numbers.now c.offer_of-o.result (fits_head c.requires.0.0 c.args.nodes.now c.args.locals.now c.requires.0.1.part c.offer_of-o.result c.requires.1 c.requires.0.1.fit (c.offer_of-o.ensures c.requires.0.1.part c.requires.0.1.at) c.if-kind-eq-MISSING.false c.if-kind-eq-HIDDEN.false) (omega arith) (omega arith) (omega arith) (omega arith) _ c.if-kind-eq-MISSING.false c.if-kind-eq-HIDDEN.false (c.offer_of-o.ensures b at))
+    λ b at. rw c.row_of.ensures (one-put c.args.nodes.now c.args.locals.now c.args.place c.args.branch c.args.row c.args.rows.now c.offer_of-o.result (fits_head c.requires.0.0 c.args.nodes.now c.args.locals.now c.requires.0.1.part c.offer_of-o.result c.requires.1 c.requires.0.1.fit (c.offer_of-o.ensures c.requires.0.1.part c.requires.0.1.at) c.if-kind-eq-MISSING.false c.if-kind-eq-HIDDEN.false) (omega arith) (omega arith) (omega arith) _ c.if-kind-eq-MISSING.false c.if-kind-eq-HIDDEN.false (c.offer_of-o.ensures b at))

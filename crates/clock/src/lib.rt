@@ -7,7 +7,8 @@ ghost use Rattle.clock.specs.Clock.{tick_limit, fresh_clock, ticks_of, InRange, 
 
 use waits::{Limits, Unread};
 
-// Model time in ten-thousandths of a unit, and how many waiting draws were used.
+// Model time in ten-thousandths of a unit, and how many waiting draws were used. C lends it with any numbers, so its range is a clause of those that need it:
+// a second type for it would be unwrapped wherever the clock is given back.
 #[repr(C)]
 #[derive(Clone, Copy)]
 pub struct Clock {
@@ -98,7 +99,7 @@ fn forward(clock: Clock, ticks: u64, used: usize) -> Result<Clock, Late>
     })
 }
 
-// Questions 23 to 25 of a timed step whose total is above zero.
+// Questions 23 to 25 of a timed step whose total is above zero: by a clause, since the same total is a number of answers, which may be zero.
 pub fn bring(clock: Clock, draws: &[u16], total: u64) -> Result<Clock, Late>
     requires { (InRange clock) × (0 < total) }
     ensures { result ≡ brought_by clock draws.now total }

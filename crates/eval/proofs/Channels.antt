@@ -18,6 +18,7 @@ use Rattle.tables.proofs.Parts.{pair-above, pair-second}
 use Rattle.machine.specs.Evaluate.{valued, given, eval_item, eval_channel}
 use Rattle.std.specs.Prelude.{Some, Option as RustOption}
 use Rattle.eval.specs.declared.channel.Item.{Item as AnItem}
+use Rattle.eval.specs.declared.channel.Item.TheVariants.{Name}
 use Rattle.eval.specs.declared.channel.Channel.{Channel as AChannel}
 use Rattle.eval.specs.Held.{Held, Worth}
 use Rattle.eval.specs.Channels.{item_of, item_answer, channel_of, channel_answer}
@@ -42,7 +43,7 @@ item-kind t k (Resolved.number e) a = omega (arith, expr-kind t k e a)
 item-kind t k (Resolved.name n) a = omega (arith, a.kind-is)
 
 module _ (t : List ℕ) (k kind : ℕ) (is : kind ≡ kind_of (get_or t k 0)) where
-  pub name-is : (ls : List ℤ) → kind ≡ 66 → IsItem t ls k (Some (record { kind = 1; value = pos (token_of (get_or t k 0)) }))
+  pub name-is : (ls : List ℤ) → kind ≡ 66 → IsItem t ls k (Some (Name (pos (token_of (get_or t k 0)))))
   unfolding Item eval_item item_answer item_of item_kind item_value
   name-is ls h (Resolved.number e) a = absurd (omega (arith, expr-kind t k e a))
   name-is ls h (Resolved.name n) a = ap (λ (i : ℕ). item_of (some (offers.named i))) a.index_is

@@ -4,7 +4,7 @@ use mathlib.Core.List.{List, [], ◌∷◌, ◌++◌, append_assoc}
 use mathlib.Core.Bool.{Bool, true, false, cond, ◌&&◌}
 use mathlib.Core.Logic.{◌⊎◌, inl, inr, ⊎_elim}
 use mathlib.Core.Option.{Option, none, some, Option-elim}
-use Prim.Native.Nat.{ℕ, ◌+◌, ◌-◌, ◌≤◌, ◌<◌}
+use Prim.Native.Nat.{ℕ, min, ◌+◌, ◌-◌, ◌≤◌, ◌<◌}
 use native.Mathlib.Omega.{arith}
 use borrow.Author.Tests.{ltb-true, ltb-false}
 use lib.Dec.{ltb}
@@ -268,6 +268,15 @@ cut_most n = go (ltb most n) refl
     go : (b : Bool) → ltb most n ≡ b → cond b most n ≤ most
     go true e = omega arith
     go false e = omega (arith, ltb-false most n e)
+
+-- the lesser of two
+pub least : (n : ℕ) → min n most ≡ cut n
+unfolding cut
+least n = go (ltb most n) refl
+  where
+    go : (b : Bool) → ltb most n ≡ b → min n most ≡ cond b most n
+    go true e = let l = ltb-true most n e in omega arith
+    go false e = let l = ltb-false most n e in omega arith
 
 -- what is known of a number that is cut
 cut-cases : (n : ℕ) → ((cut n ≡ n) × (n ≤ most)) ⊎ ((cut n ≡ most) × (most < n))

@@ -1,5 +1,5 @@
 -- A channel as four numbers: its shape, and the values of its items (02, note 7). Assumes nothing: these are definitions.
-use Rattle.std.specs.Prelude.{◌≡◌, List, [], ◌∷◌, ℕ, ◌+◌, ◌*◌, ◌/◌, ◌%◌, ◌≤◌, ℤ, pos, Some, None}
+use Rattle.std.specs.Prelude.{◌≡◌, List, [], ◌∷◌, ℕ, ◌+◌, ◌*◌, ◌/◌, ◌%◌, ℤ, pos, Some, None}
 use Rattle.std.specs.Prelude.{Option as RustOption}
 use Rattle.std.proofs.Math.Option.{Option, none, some}
 use Rattle.value.specs.Items.{one_item, two_items, three_items}
@@ -8,6 +8,7 @@ use Rattle.rules.specs.Offers as offers
 use Rattle.rules.specs.Pairs.{item_kind, item_value}
 use Rattle.machine.specs.Evaluate.{eval_item, eval_channel}
 use Rattle.eval.specs.declared.channel.Item.{Item}
+use Rattle.eval.specs.declared.channel.Item.TheVariants.{Number, Name}
 use Rattle.eval.specs.declared.channel.Channel.{Channel}
 
 -- n items of these kinds, 0 for those that aren't there
@@ -49,15 +50,20 @@ numbers_of s a b c = pos (s / 8) ∷ pos (s % 2) ∷ a ∷ pos (s / 2 % 2) ∷ b
 
 -- ---- what is evaluated
 
--- 01, State: an item's kind and value, if it has one
-unfoldable pub item_of : Option offers.Item → RustOption Item
-item_of (some a) = Some (record { kind = item_kind a; value = item_value a })
-item_of none = None
+-- 01, State: an item's kind, 0 of a number and 1 of a name, and its value
+abbrev pub kind_of : Item → ℕ
+kind_of (Number z) = 0
+kind_of (Name z) = 1
 
--- 01, State: a kind is 0 or 1
-abbrev pub SmallKind : RustOption Item → Type 0
-SmallKind (Some a) = a.kind ≤ 1
-SmallKind None = Unit {0}
+abbrev pub value_of : Item → ℤ
+value_of (Number z) = z
+value_of (Name z) = z
+
+-- 01, State: an item, if it has a value
+unfoldable pub item_of : Option offers.Item → RustOption Item
+item_of (some (offers.number z)) = Some (Number z)
+item_of (some (offers.named n)) = Some (Name (pos n))
+item_of none = None
 
 unfoldable pub item_answer : List ℤ → Resolved.Item → RustOption Item
 item_answer ls a = item_of (eval_item ls a)

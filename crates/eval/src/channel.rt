@@ -10,19 +10,39 @@ ghost use Rattle.tables.specs.Settled as Settled;
 ghost use Rattle.machine.specs.Evaluate.{given};
 ghost use Rattle.machine.specs.State.{channel_width};
 ghost use Rattle.eval.specs.Held.{Held, Worth};
-ghost use Rattle.eval.specs.Channels.{numbers_of, item_of, channel_of, SmallKind, item_answer, channel_answer};
+ghost use Rattle.eval.specs.Channels.{numbers_of, kind_of, value_of, item_of, channel_of, item_answer, channel_answer};
 
 use tree::NodeKind;
 
-// An item: its kind (0 number, 1 name) and value.
+// What an item comes to: a number, or a channel name by its number.
 #[derive(Clone, Copy)]
-pub struct Item {
-    pub kind: u8,
-    pub value: i64,
+pub enum Item {
+    Number(i64),
+    Name(i64),
+}
+
+impl Item {
+    // Its kind in a pair's row.
+    fn kind(self) -> u8
+        ensures { (result ≡ kind_of self) × (result ≤ 1) }
+    {
+        match self {
+            Item::Number(_) => 0,
+            Item::Name(_) => 1,
+        }
+    }
+
+    fn value(self) -> i64
+        ensures { result ≡ value_of self }
+    {
+        match self {
+            Item::Number(value) | Item::Name(value) => value,
+        }
+    }
 }
 
 // A channel: its shape and the values of its items, 0 for those that aren't there. A shape is ITEMS times the count of items and the items' kinds, once, twice
-// and four times.
+// and four times: one number, as the heads in the table of offers hold it.
 #[derive(Clone, Copy)]
 pub struct Channel {
     pub shape: u8,
@@ -41,56 +61,53 @@ const NAME: u8 = 66;
 // What the item at k comes to.
 fn item_of(nodes: &[u64], locals: &[i64], k: usize) -> Option<Item>
     requires { ((m : Resolved.Model) × Held (Settled.Item nodes.now) (GoodItem m (length locals.now)) k) × (Every InRange locals.now) }
-    ensures { (Worth (Settled.Item nodes.now) (item_answer locals.now) k result) × (SmallKind result) }
+    ensures { Worth (Settled.Item nodes.now) (item_answer locals.now) k result }
 {
     let cell = crate::cell_at(nodes, k);
     if tree::kind_of(cell) == NAME {
         let n = tree::token_of(cell) as i64;
-        return Some(Item { kind: 1, value: n });
+        return Some(Item::Name(n));
     }
     let value = crate::eval_node(nodes, locals, k)?;
-    Some(Item { kind: 0, value })
+    Some(Item::Number(value))
 }
 
 fn one_item(a: Option<Item>) -> Option<Channel>
-    requires { SmallKind a }
     ensures { (o : Option offers.Item) → a ≡ item_of o → result ≡ channel_of (given o (λ x. some (one_item x))) }
 {
     let a = a?;
     Some(Channel {
-        shape: Channel::ITEMS + a.kind,
-        first: a.value,
+        shape: Channel::ITEMS + a.kind(),
+        first: a.value(),
         second: 0,
         third: 0,
     })
 }
 
 fn two_items(a: Option<Item>, b: Option<Item>) -> Option<Channel>
-    requires { (SmallKind a) × (SmallKind b) }
     ensures { (o p : Option offers.Item) → a ≡ item_of o → b ≡ item_of p → result ≡ channel_of (given o (λ x. given p (λ y. some (two_items x y)))) }
 {
     let a = a?;
     let b = b?;
     Some(Channel {
-        shape: Channel::ITEMS * 2 + a.kind + b.kind * 2,
-        first: a.value,
-        second: b.value,
+        shape: Channel::ITEMS * 2 + a.kind() + b.kind() * 2,
+        first: a.value(),
+        second: b.value(),
         third: 0,
     })
 }
 
 fn three_items(a: Option<Item>, b: Option<Item>, c: Option<Item>) -> Option<Channel>
-    requires { (SmallKind a) × (SmallKind b) × (SmallKind c) }
     ensures { (o p q : Option offers.Item) → a ≡ item_of o → b ≡ item_of p → c ≡ item_of q → result ≡ channel_of (given o (λ x. given p (λ y. given q (λ z. some (three_items x y z))))) }
 {
     let a = a?;
     let b = b?;
     let c = c?;
     Some(Channel {
-        shape: Channel::ITEMS * 3 + a.kind + b.kind * 2 + c.kind * 4,
-        first: a.value,
-        second: b.value,
-        third: c.value,
+        shape: Channel::ITEMS * 3 + a.kind() + b.kind() * 2 + c.kind() * 4,
+        first: a.value(),
+        second: b.value(),
+        third: c.value(),
     })
 }
 

@@ -31,14 +31,14 @@ const KINDS: u64 = 256;
 
 const OFFSET: i64 = 36028797018963968;
 
-// Cell k; 0, which is no node, beyond the table's end.
+// Cell k; 0, which is no node, beyond the table's end. A name for the chain that every reader of nodes would repeat.
 pub fn cell_at(nodes: &[u64], k: usize) -> u64
     ensures { result ≡ get_or nodes.now k 0 }
 {
     nodes.get(k).copied().unwrap_or(0)
 }
 
-// Local i.
+// Local i, 0 if there is none: a name, as of a cell.
 fn local_at(locals: &[i64], i: usize) -> i64
     ensures { result ≡ get_or locals.now i (pos 0) }
 {

@@ -58,13 +58,6 @@ pub fn arguments_given(nodes: &[u64], locals: &[i64], k: usize) -> bool
     true
 }
 
-// a less b, or 0.
-pub fn less(a: usize, b: usize) -> usize
-    ensures { result ≡ a - b }
-{
-    a.saturating_sub(b)
-}
-
 // The root of the sums of definition d.
 pub fn body_of(tables: Tables, d: usize) -> usize
     requires { 1 ≤ left_of (get_or tables.nodes.now (tables.root - tables.variables - d) 0) }
@@ -91,13 +84,6 @@ fn count_sums(nodes: &[u64], k: usize) -> usize
     count_sums(nodes, k - 1) + 1
 }
 
-// n, or MOST where it is more.
-fn cut(n: usize) -> usize
-    ensures { result ≡ Become.cut n }
-{
-    n.min(Row::MOST)
-}
-
 // How many processes the continuation at k becomes, up to MOST.
 pub fn count_processes(tables: Tables, k: usize) -> usize
     requires { Become.Continuation tables.nodes.now tables.root tables.variables k }
@@ -111,12 +97,12 @@ pub fn count_processes(tables: Tables, k: usize) -> usize
     if kind == NodeKind::ITEM {
         let a = count_processes(tables, tree::left_of(cell));
         let b = count_processes(tables, k - 1);
-        return cut(a + b);
+        return (a + b).min(Row::MOST);
     }
     if kind == NodeKind::SUM {
         return 1;
     }
-    cut(count_sums(tables.nodes, body_of(tables, tree::token_of(cell))))
+    count_sums(tables.nodes, body_of(tables, tree::token_of(cell))).min(Row::MOST)
 }
 
 // The numbers of a process: its sum, its locals, the unused ones 0, then its definition.

@@ -23,7 +23,8 @@ impl OfferSet {
     pub const JOINED: i64 = value::Range::GREATEST + 1;
 }
 
-// What a branch offers. A channel is its shape and the values of its items, the first in `channel`; then one or two values, each in `first` or `second`, or sets,
+// What a branch offers. Its kind is that of its action's node, or HIDDEN or MISSING, and a number, as is the shape, since the heads in the table of offers hold
+// both. A channel is its shape and the values of its items, the first in `channel`; then one or two values, each in `first` or `second`, or sets,
 // each with its end.
 #[derive(Clone, Copy)]
 pub struct Offer {

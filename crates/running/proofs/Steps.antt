@@ -8,7 +8,7 @@ use native.Mathlib.Omega.{arith}
 use lib.Dec.{leb}
 use lib.IntN.{ℤ}
 use lib.ListN.{length, take, drop, length-append, length-drop}
-use Rattle.std.specs.Prelude.{None, Some, Err, Ok}
+use Rattle.std.specs.Prelude.{None, Some, is_some, Err, Ok}
 use Rattle.words.specs.Words.{draw_of, Within, Drawn}
 use Rattle.clock.specs.declared.Clock.{Clock}
 use Rattle.clock.specs.Clock.{InRange}
@@ -23,19 +23,35 @@ use Rattle.machine.specs.Timed.{Timed, timed, GoodTimed}
 use Rattle.machine.specs.Machine.{entry_limit, total_limit, zeroed, no, counted, Listed, entries_are, refused_with, listing, Turn, drawn, choosing, steps_with, steps_in, times_with}
 use Rattle.machine.proofs.Everys.{every_in, in-every}
 use Rattle.listing.proofs.Finished.{rows-length as list_length}
-use Rattle.listing.specs.Buffer.{listed_answer, Leading, leading, nothing, Leads, refused}
+use Rattle.listing.proofs.Entries.{entry_in_lem}
+use Rattle.listing.specs.Buffer.{entry_in, listed_answer, Leading, leading, nothing, Leads, refused}
 use Rattle.offers.specs.Collect.{FewBranches, World}
 use Rattle.step.specs.Enter.{Lent}
-use Rattle.running.specs.declared.Stepped.{Stepped}
+use Rattle.clock.specs.declared.Late.TheVariants.{Ended, Long, Past}
+use Rattle.step.specs.declared.Refusal.TheVariants.{Arguments, Processes, Pairs}
+use Rattle.running.specs.declared.Refusal as taking
+use Rattle.running.specs.declared.Refusal.TheVariants.{Draw, Step, Wait}
+use Rattle.running.specs.declared.End.{End}
+use Rattle.running.specs.declared.End.TheVariants.{Spent, Refused}
 use Rattle.running.specs.declared.Progress.{Progress}
 use Rattle.machine.specs.Machine.{Run, begun, ended_with, Next, on, over, entry_shown, event_of, longer, follows, run_step, running}
-use Rattle.running.specs.Taking.{entry_in, StepsTo}
+use Rattle.running.specs.Taking.{refusal_number, Stepped, StepsTo}
 use Rattle.machine.specs.Runs.{run_of, is_over}
-use Rattle.running.specs.Progress.{written, begun_with, ended, longer_by, Stands, Lists, Goes}
+use Rattle.running.specs.Progress.{written, end_number, begun_with, ended, longer_by, Stands, Lists, Goes}
 use Rattle.running.proofs.Parts.{refused_number, ok_first, ok_second}
 use Rattle.running.proofs.Runs.{refused-step, dead-step, words-end, draw-step, follows_on, follows-over, next-on, next-over, on-longer, zero-steps, Took, Carries, carries, timed-good}
-use Rattle.running.proofs.Taking.{entry_in_lem, rest_of}
+use Rattle.running.proofs.Taking.{rest_of}
 use Rattle.running.proofs.Events.{event-written, none_written, numbers-length}
+
+-- 16 to 19 and 23 to 25 are no 0
+some-refusal : (r : taking.Refusal) → refusal_number r ≡ 0 → ⊥
+some-refusal Draw e = omega (arith, e)
+some-refusal (Step Arguments) e = omega (arith, e)
+some-refusal (Step Processes) e = omega (arith, e)
+some-refusal (Step Pairs) e = omega (arith, e)
+some-refusal (Wait Ended) e = omega (arith, e)
+some-refusal (Wait Long) e = omega (arith, e)
+some-refusal (Wait Past) e = omega (arith, e)
 
 -- ---- what the listing is lent
 few-branches : (m : Resolved.Model) → GoodModel m → FewBranches m
@@ -105,9 +121,9 @@ module _ {t roots scopes : List ℕ} {root variables : ℕ} {ws vs z : List ℕ}
       by x e nothing q = absurd (unfold listed_answer in let z : ◌≡◌ {A = ℕ} 0 1 = cc in omega arith)
 
   -- ---- the run ends where it is
-  pub ends-here : (n c s : ℕ) (x : Next) (q : Progress) → x ≡ over (ended_with n c s r.timed r) → q ≡ ended p n c s → Goes t roots scopes root variables ws vs z x q zs ns m
+  pub ends-here : (k : End) (c s : ℕ) (x : Next) (q : Progress) → x ≡ over (ended_with (end_number (Some k)) c s r.timed r) → q ≡ ended p k c s → Goes t roots scopes root variables ws vs z x q zs ns m
   unfolding run_of is_over
-  ends-here n c s x q e f = rw (e, f) (record {
+  ends-here k c s x q e f = rw (e, f) (record {
     stands = record {
       lent = h.lent;
       in-range = h.in-range;
@@ -126,17 +142,17 @@ module _ {t roots scopes : List ℕ} {root variables : ℕ} {ws vs z : List ℕ}
   })
 
   -- 12 to 14
-  pub refused-ends : (n : ℕ) (q : Progress) → Refusal m r.timed.state n → q ≡ ended p n 0 0 → Goes t roots scopes root variables ws vs z (run_step ws vs m r) q zs ns m
-  refused-ends n q k f = ends-here n 0 0 (run_step ws vs m r) q (refused-step ws vs m r n k.place k.branch k.is k.number) f
+  pub refused-ends : (n : ℕ) (q : Progress) → Refusal m r.timed.state n → q ≡ ended p (Refused n) 0 0 → Goes t roots scopes root variables ws vs z (run_step ws vs m r) q zs ns m
+  refused-ends n q k f = ends-here (Refused n) 0 0 (run_step ws vs m r) q (refused-step ws vs m r n k.place k.branch k.is k.number) f
 
 module _ {t roots scopes : List ℕ} {root variables : ℕ} {ws vs z : List ℕ} {zs : List ℤ} {ns : List ℕ} {p : Progress} {m : Resolved.Model} {r : Run} {l : List ℕ} {count sum : ℕ} {es : List Entry} (h : Lists t roots scopes root variables ws vs z zs ns p m r l count sum es) where
   abbrev listed : listing m r.timed.state ≡ entries_are es
   listed = h.counted.listing.listed
 
   -- 15
-  pub dead-ends : sum ≡ 0 → (q : Progress) → q ≡ ended p 15 count sum → Goes t roots scopes root variables ws vs z (run_step ws vs m r) q zs ns m
+  pub dead-ends : sum ≡ 0 → (q : Progress) → q ≡ ended p (Refused 15) count sum → Goes t roots scopes root variables ws vs z (run_step ws vs m r) q zs ns m
   dead-ends e q f =
-      ends-here h.stands 15 count sum (run_step ws vs m r) q
+      ends-here h.stands (Refused 15) count sum (run_step ws vs m r) q
       (rw (h.counted.count-is, h.counted.sum_is) (dead-step ws vs m r es listed (sym h.counted.sum_is ∙ e))) f
 
   module _ (above : sum ≡ 0 → ⊥) (w : Drawn) (is : w ≡ draw_of sum (drop p.words ws)) where
@@ -147,9 +163,9 @@ module _ {t roots scopes : List ℕ} {root variables : ℕ} {ws vs z : List ℕ}
     some-total e = above (h.counted.sum_is ∙ e)
 
     -- the words end
-    pub words-ends : w ≡ None → (q : Progress) → q ≡ ended p 0 count sum → Goes t roots scopes root variables ws vs z (run_step ws vs m r) q zs ns m
+    pub words-ends : w ≡ None → (q : Progress) → q ≡ ended p Spent count sum → Goes t roots scopes root variables ws vs z (run_step ws vs m r) q zs ns m
     words-ends e q f =
-        ends-here h.stands 0 count sum (run_step ws vs m r) q
+        ends-here h.stands Spent count sum (run_step ws vs m r) q
         (rw (h.counted.count-is, h.counted.sum_is) (words-end ws vs m r es listed some-total (from-here ∙ e))) f
 
     -- a draw
@@ -164,13 +180,13 @@ module _ {t roots scopes : List ℕ} {root variables : ℕ} {ws vs z : List ℕ}
 
   -- with the waiting draws that are left
   pub left_over : (d : ℕ) (x : Stepped) (ys : List ℤ) (n : ℕ) (k : Clock) → k ≡ r.timed.clock → n ≡ r.waiting
-      → StepsTo (steps_in k (take (length vs - n) (drop n vs)) r.timed.state (drawn m r.timed.state es d)) x ys
-      → StepsTo (steps_in r.timed.clock (drop r.waiting vs) r.timed.state (drawn m r.timed.state es d)) x ys
+      → StepsTo (steps_in k (take (length vs - n) (drop n vs)) r.timed.state (drawn m r.timed.state es d)) k x ys
+      → StepsTo (steps_in r.timed.clock (drop r.waiting vs) r.timed.state (drawn m r.timed.state es d)) r.timed.clock x ys
   left_over d x ys n k e f a =
       let g : take (length vs - n) (drop n vs) ≡ drop r.waiting vs = rest_of n vs ∙ ap (λ (i : ℕ). drop i vs) f in
       rw (← e, ← g) a
 
-  module _ (d u : ℕ) (x : Stepped) (ys : List ℤ) where
+  module _ (d u : ℕ) (ys : List ℤ) where
     abbrev s : State
     s = r.timed.state
 
@@ -193,66 +209,66 @@ module _ {t roots scopes : List ℕ} {root variables : ℕ} {ws vs z : List ℕ}
     good : GoodTimed m T.machine
     good = rw steps-with at (timed-good m s k h.stands.lent.stands.good h.stands.lent.stands.state h.stands.in-range ds d)
 
-    module _ (a : StepsTo T x ys) where
-      -- refused
-      pub step-ends : (x.number ≡ 0 → ⊥) → (q : Progress) → q ≡ ended p x.number count sum → Goes t roots scopes root variables ws vs z (follows u T r) q ys ns m
-      step-ends n q f =
-          let g : T.answer.number ≡ 0 → ⊥ = λ e. n (a.number ∙ e) in
-          let e : follows u T r ≡ over (ended_with T.answer.number T.answer.count T.answer.total T.machine r) = follows-over u T r g in
-          let y : ys ≡ zs = a.state ∙ ap (λ (v : Timed). state_numbers v.state) (car.stays g) ∙ sym h.stands.lent.stands.numbers in
-          rw y (ends-here h.stands x.number count sum (follows u T r) q
-          (e ∙ rw (car.stays g, car.count, car.total, ← a.number, h.counted.count-is, h.counted.sum_is) refl) f)
+    -- refused
+    pub step-ends : (n : taking.Refusal) → StepsTo T k (Err n) ys → (q : Progress) → q ≡ ended p (Refused (refusal_number n)) count sum → Goes t roots scopes root variables ws vs z (follows u T r) q ys ns m
+    step-ends n a q f =
+        let g : T.answer.number ≡ 0 → ⊥ = λ e. some-refusal n (a.number ∙ e) in
+        let e : follows u T r ≡ over (ended_with T.answer.number T.answer.count T.answer.total T.machine r) = follows-over u T r g in
+        let y : ys ≡ zs = a.state ∙ ap (λ (v : Timed). state_numbers v.state) (car.stays g) ∙ sym h.stands.lent.stands.numbers in
+        rw y (ends-here h.stands (Refused (refusal_number n)) count sum (follows u T r) q
+        (e ∙ rw (car.stays g, car.count, car.total, ← a.number, h.counted.count-is, h.counted.sum_is) refl) f)
 
-      module _ (n : x.number ≡ 0) where
-        accepted : T.answer.number ≡ 0
-        accepted = sym a.number ∙ n
+    -- accepted, with the entry c and the clock n
+    module _ (c : ℕ) (n : Clock) (a : StepsTo T k (Ok (c, n)) ys) where
+      accepted : T.answer.number ≡ 0
+      accepted = sym a.number
 
-        took : Took es T.answer.chosen
-        took = car.took accepted
+      took : Took es T.answer.chosen
+      took = car.took accepted
 
-        -- the entry taken stands in the listing
-        pub row_within : x.chosen * 7 + 7 ≤ length l
-        row_within = omega (arith, a.chosen, took.below, ap length h.counted.listing.numbers, list_length es h.counted.listing.rest)
+      -- the entry taken stands in the listing
+      pub row_within : c * 7 + 7 ≤ length l
+      row_within = omega (arith, a.chosen, took.below, ap length h.counted.listing.numbers, list_length es h.counted.listing.rest)
 
-        pub words-within : p.words + u ≤ length ws → r.words + u ≤ length ws
-        words-within f = omega (arith, h.stands.words)
+      pub words-within : p.words + u ≤ length ws → r.words + u ≤ length ws
+      words-within f = omega (arith, h.stands.words)
 
-        waiting-within : r.waiting + (T.machine.clock.draws - k.draws) ≤ length vs
-        waiting-within = omega (arith, car.used accepted, length-drop r.waiting vs, h.stands.waiting-fits)
+      waiting-within : r.waiting + (T.machine.clock.draws - k.draws) ≤ length vs
+      waiting-within = omega (arith, car.used accepted, length-drop r.waiting vs, h.stands.waiting-fits)
 
-        -- nothing wraps
-        pub clock-later : (p.clock.draws ≤ x.clock.draws) × (p.waiting + (x.clock.draws - p.clock.draws) ≤ length vs)
-        clock-later = rw (a.clock, h.stands.clock, h.stands.waiting) (car.later accepted, waiting-within)
+      -- nothing wraps
+      pub clock-later : (p.clock.draws ≤ n.draws) × (p.waiting + (n.draws - p.clock.draws) ≤ length vs)
+      clock-later = rw (a.clock, h.stands.clock, h.stands.waiting) (car.later accepted, waiting-within)
 
-        event-is : entry_in l x.chosen ≡ entry_shown T.answer.listing T.answer.chosen
-        event-is =
-            rw (a.chosen, h.counted.listing.numbers, car.listing)
-            (entry_in_lem es h.counted.listing.rest T.answer.chosen took.entry took.at ∙ sym (unfold entry_shown Option-elim in rw took.at refl))
+      event-is : entry_in l c ≡ entry_shown T.answer.listing T.answer.chosen
+      event-is =
+          rw (a.chosen, h.counted.listing.numbers, car.listing)
+          (entry_in_lem es h.counted.listing.rest T.answer.chosen took.entry took.at ∙ sym (unfold entry_shown Option-elim in rw took.at refl))
 
-        -- accepted: one event more
-        pub step-goes : (q : Progress) (ns' : List ℕ) → p.words + u ≤ length ws → p.steps * 8 + 8 ≤ length ns → ns' ≡ written ns p.steps x.clock.ticks (entry_in l x.chosen) → q ≡ longer_by p u count sum x.clock
-            → Goes t roots scopes root variables ws vs z (follows u T r) q ys ns' m
-        unfolding run_of is_over
-        step-goes q ns' fits room w f =
-            let e : follows u T r ≡ on (longer u T r) = follows_on u T r accepted in
-            let within : length r.events * 8 + 8 ≤ length z = omega (arith, h.stands.steps, ap length h.stands.events, numbers-length r.events z) in
-            rw (e, f) (record {
-              stands = record {
-                lent = record { definitions = h.stands.lent.definitions; sums = h.stands.lent.sums; channels = h.stands.lent.channels; represents = h.stands.lent.represents; stands = record { good = h.stands.lent.stands.good; state = good.state; numbers = a.state } };
-                in-range = good.clock;
-                words-fit = words-within fits;
-                waiting-fits = waiting-within;
-                number = refl;
-                steps = omega (arith, h.stands.steps, length-append r.events (event_of T ∷ []));
-                words = ap (λ (i : ℕ). i + u) h.stands.words;
-                waiting = rw (a.clock, h.stands.clock, h.stands.waiting) refl;
-                count = h.counted.count-is ∙ sym car.count;
-                total = h.counted.sum_is ∙ sym car.total;
-                clock = a.clock;
-                events = w ∙ rw (h.stands.events, h.stands.steps, event-is, a.clock) (event-written r.events z (event_of T) within);
-              };
-              over = refl;
-            })
+      -- accepted: one event more
+      pub step-goes : (q : Progress) (ns' : List ℕ) → p.words + u ≤ length ws → p.steps * 8 + 8 ≤ length ns → ns' ≡ written ns p.steps n.ticks (entry_in l c) → q ≡ longer_by p u count sum n
+          → Goes t roots scopes root variables ws vs z (follows u T r) q ys ns' m
+      unfolding run_of is_over
+      step-goes q ns' fits room w f =
+          let e : follows u T r ≡ on (longer u T r) = follows_on u T r accepted in
+          let within : length r.events * 8 + 8 ≤ length z = omega (arith, h.stands.steps, ap length h.stands.events, numbers-length r.events z) in
+          rw (e, f) (record {
+            stands = record {
+              lent = record { definitions = h.stands.lent.definitions; sums = h.stands.lent.sums; channels = h.stands.lent.channels; represents = h.stands.lent.represents; stands = record { good = h.stands.lent.stands.good; state = good.state; numbers = a.state } };
+              in-range = good.clock;
+              words-fit = words-within fits;
+              waiting-fits = waiting-within;
+              number = refl;
+              steps = omega (arith, h.stands.steps, length-append r.events (event_of T ∷ []));
+              words = ap (λ (i : ℕ). i + u) h.stands.words;
+              waiting = rw (a.clock, h.stands.clock, h.stands.waiting) refl;
+              count = h.counted.count-is ∙ sym car.count;
+              total = h.counted.sum_is ∙ sym car.total;
+              clock = a.clock;
+              events = w ∙ rw (h.stands.events, h.stands.steps, event-is, a.clock) (event-written r.events z (event_of T) within);
+            };
+            over = refl;
+          })
 
 -- ---- the loop
 
@@ -305,7 +321,7 @@ module _ (t roots scopes : List ℕ) (root variables : ℕ) (ws vs z : List ℕ)
     module _ (zs' : List ℤ) (ns' : List ℕ) (q : Progress) (below : p.steps < steps)
         (g : (x : List ℕ) (m : Resolved.Model) (r : Run) → Stands t roots scopes root variables ws vs x zs ns p m r → Goes t roots scopes root variables ws vs x (run_step ws vs m r) q zs' ns' m) where
       -- the run has ended
-      pub run-over : q.over ≡ true → (m : Resolved.Model) (s : State) → Lent t roots scopes root variables zs₀ m s → Stands t roots scopes root variables ws vs z zs' ns' q m (running steps ws vs m (begun (timed s k)))
+      pub run-over : is_some q.end ≡ true → (m : Resolved.Model) (s : State) → Lent t roots scopes root variables zs₀ m s → Stands t roots scopes root variables ws vs z zs' ns' q m (running steps ws vs m (begun (timed s k)))
       run-over o m s l =
           let a = h.told m s l in
           let b = g z m a.0 a.1 in
@@ -314,14 +330,14 @@ module _ (t roots scopes : List ℕ) (root variables : ℕ) (ws vs z : List ℕ)
           sym (next-over (steps - (p.steps + 1)) ws vs m a.0 (sym b.over ∙ o)) ∙ ap (λ (i : ℕ). running i ws vs m a.0) (sym n) ∙ a.2 in
           rw (← e) b.stands
 
-      one_more : q.over ≡ false → (m : Resolved.Model) (s : State) → Lent t roots scopes root variables zs₀ m s → q.steps ≡ p.steps + 1
+      one_more : is_some q.end ≡ false → (m : Resolved.Model) (s : State) → Lent t roots scopes root variables zs₀ m s → q.steps ≡ p.steps + 1
       one_more o m s l =
           let a = h.told m s l in
           let b = g z m a.0 a.1 in
           omega (arith, b.stands.steps, on-longer ws vs m a.0 (sym b.over ∙ o), a.1.steps)
 
       -- it goes on
-      pub run_on : (m : Resolved.Model) (s : State) → Lent t roots scopes root variables zs₀ m s → q.over ≡ false → Loop t roots scopes root variables ws vs z zs₀ steps k zs' ns' q
+      pub run_on : (m : Resolved.Model) (s : State) → Lent t roots scopes root variables zs₀ m s → is_some q.end ≡ false → Loop t roots scopes root variables ws vs z zs₀ steps k zs' ns' q
       run_on m₀ s₀ l₀ o = record {
         within = omega (arith, one_more o m₀ s₀ l₀);
         told = λ m s l.
@@ -334,5 +350,5 @@ module _ (t roots scopes : List ℕ) (root variables : ℕ) (ws vs z : List ℕ)
             );
       }
 
-      pub fewer-left : (m : Resolved.Model) (s : State) → Lent t roots scopes root variables zs₀ m s → q.over ≡ false → steps - q.steps < steps - p.steps
+      pub fewer-left : (m : Resolved.Model) (s : State) → Lent t roots scopes root variables zs₀ m s → is_some q.end ≡ false → steps - q.steps < steps - p.steps
       fewer-left m s l o = omega (arith, one_more o m s l)

@@ -1,5 +1,5 @@
 -- How a run stands in the buffers, and what its steps leave (docs/DECISIONS.md, R.4 to R.7). Definitions only.
-use Rattle.std.specs.Prelude.{◌≡◌, true, false, List, ℕ, ◌+◌, ◌-◌, ◌*◌, ◌≤◌, ℤ, length, set}
+use Rattle.std.specs.Prelude.{◌≡◌, None, Some, Option, is_some, List, ℕ, ◌+◌, ◌-◌, ◌*◌, ◌≤◌, ℤ, length, set}
 use Rattle.model.specs.Resolved
 use Rattle.rules.specs.Rules.{key}
 use Rattle.rules.specs.Listing.{Entry, entry}
@@ -8,8 +8,10 @@ use Rattle.clock.specs.Clock.{InRange}
 use Rattle.machine.specs.Machine.{event_width, Run, Next}
 use Rattle.machine.specs.Runs.{event_numbers, run_of, is_over}
 use Rattle.step.specs.Enter.{Lent}
+use Rattle.step.specs.Entries.{Counted}
+use Rattle.running.specs.declared.End.{End}
+use Rattle.running.specs.declared.End.TheVariants.{Spent, Refused}
 use Rattle.running.specs.declared.Progress.{Progress}
-use Rattle.running.specs.Taking.{Counted}
 
 -- event n written over what stands in the buffer
 unfoldable pub written : List ℕ → (n ticks : ℕ) → Entry → List ℕ
@@ -17,16 +19,23 @@ written l n t (entry (key c i j k m q) w) =
     let a = n * event_width in
     set (set (set (set (set (set (set (set l a t) (a + 1) c) (a + 2) i) (a + 3) j) (a + 4) k) (a + 5) m) (a + 6) q) (a + 7) w
 
+-- 0, or the number of the refusal that ended a run
+abbrev pub end_number : Option End → ℕ
+end_number (Some (Refused n)) = n
+end_number (Some Spent) = 0
+end_number None = 0
+
+-- before the first step
 abbrev pub begun_with : Clock → Progress
-begun_with k = record { number = 0; steps = 0; words = 0; waiting = 0; count = 0; total = 0; clock = k; over = false }
+begun_with k = record { steps = 0; words = 0; waiting = 0; count = 0; total = 0; clock = k; end = None }
 
 -- no more steps
-abbrev pub ended : Progress → (number count total : ℕ) → Progress
-ended p n c s = record { number = n; steps = p.steps; words = p.words; waiting = p.waiting; count = c; total = s; clock = p.clock; over = true }
+abbrev pub ended : Progress → End → (count total : ℕ) → Progress
+ended p e c s = record { steps = p.steps; words = p.words; waiting = p.waiting; count = c; total = s; clock = p.clock; end = Some e }
 
 -- one more step, which used so many words
 abbrev pub longer_by : Progress → (used count total : ℕ) → Clock → Progress
-longer_by p u c s k = record { number = 0; steps = p.steps + 1; words = p.words + u; waiting = p.waiting + (k.draws - p.clock.draws); count = c; total = s; clock = k; over = false }
+longer_by p u c s k = record { steps = p.steps + 1; words = p.words + u; waiting = p.waiting + (k.draws - p.clock.draws); count = c; total = s; clock = k; end = None }
 
 -- the tables hold the model m; the run r has come so far that p, the state's numbers zs and the events es tell it; ws and vs are the words and waiting draws, z the events as lent
 pub record Stands (t roots scopes : List ℕ) (root variables : ℕ) (ws vs z : List ℕ) (zs : List ℤ) (es : List ℕ) (p : Progress) (m : Resolved.Model) (r : Run) : Type 0 where
@@ -34,7 +43,7 @@ pub record Stands (t roots scopes : List ℕ) (root variables : ℕ) (ws vs z : 
   pub in-range : InRange r.timed.clock
   pub words-fit : r.words ≤ length ws
   pub waiting-fits : r.waiting ≤ length vs
-  pub number : p.number ≡ r.number
+  pub number : end_number p.end ≡ r.number
   pub steps : p.steps ≡ length r.events
   pub words : p.words ≡ r.words
   pub waiting : p.waiting ≡ r.waiting
@@ -51,4 +60,4 @@ pub record Lists (t roots scopes : List ℕ) (root variables : ℕ) (ws vs z : L
 -- what one step leaves: the run goes on, or it is over
 pub record Goes (t roots scopes : List ℕ) (root variables : ℕ) (ws vs z : List ℕ) (x : Next) (p : Progress) (zs : List ℤ) (es : List ℕ) (m : Resolved.Model) : Type 0 where
   pub stands : Stands t roots scopes root variables ws vs z zs es p m (run_of x)
-  pub over : p.over ≡ is_over x
+  pub over : is_some p.end ≡ is_over x

@@ -1,56 +1,52 @@
--- What a timed step is lent after its listing, and what it leaves (01, Step; 02, note 4). Definitions only.
-use Rattle.std.specs.Prelude.{◌≡◌, cond, List, ℕ, ◌+◌, ◌*◌, eqb, ℤ, length, get_or, Err, Ok}
-use Rattle.std.proofs.Math.Option.{some}
-use Rattle.std.proofs.Math.ListN.{get_elem?}
-use Rattle.model.specs.Resolved
-use Rattle.rules.specs.Rules.{key}
-use Rattle.rules.specs.Listing.{Entry, entry}
-use Rattle.rules.specs.Draw.{weights, total}
+-- What a timed step comes to, and what it leaves (01, Step; 02, note 4). Definitions only.
+use Rattle.std.specs.Prelude.{◌≡◌, List, ℕ, ℤ, Result, Err, Ok}
 use Rattle.clock.specs.declared.Clock.{Clock}
 use Rattle.clock.specs.Clock.{late_number, Brought}
-use Rattle.machine.specs.State.{State, state_numbers}
+use Rattle.machine.specs.State.{state_numbers}
 use Rattle.machine.specs.Timed.{Timed}
-use Rattle.machine.specs.Machine.{entry_width, entries_are, listing, Turn}
-use Rattle.listing.specs.Buffer.{rows}
-use Rattle.step.specs.Enter.{Lent, Taken, refusal_number}
-use Rattle.running.specs.declared.Stepped.{Stepped}
+use Rattle.machine.specs.Machine.{Turn}
+use Rattle.step.specs.declared.Refusal as step
+use Rattle.step.specs.Enter as taking
+use Rattle.step.specs.Enter.{Taken}
+use Rattle.running.specs.declared.Refusal.{Refusal}
+use Rattle.running.specs.declared.Refusal.TheVariants.{Draw, Step, Wait}
 
--- 01, Transitions: entry c in the numbers of a listing
-unfoldable pub entry_in : List ℕ → ℕ → Entry
-entry_in l c =
-    let a = c * entry_width in
-    entry (key (get_or l a 0) (get_or l (a + 1) 0) (get_or l (a + 2) 0) (get_or l (a + 3) 0) (get_or l (a + 4) 0) (get_or l (a + 5) 0)) (get_or l (a + 6) 0)
+-- 01, Listing and stepping; 02, note 4: 16, 17 to 19 and 23 to 25
+abbrev pub refusal_number : Refusal → ℕ
+refusal_number Draw = 16
+refusal_number (Step r) = taking.refusal_number r
+refusal_number (Wait l) = late_number l
 
--- 01, Step: the tables, the numbers zs of a state s, and the listing es of it first in the buffer l
-pub record Listing (t roots scopes : List ℕ) (root variables : ℕ) (zs : List ℤ) (l : List ℕ) (m : Resolved.Model) (s : State) (es : List Entry) : Type 0 where
-  pub lent : Lent t roots scopes root variables zs m s
-  pub listed : listing m s ≡ entries_are es
-  pub rest : List ℕ
-  pub numbers : l ≡ rows es rest
+-- a refusal of the entry
+abbrev pub of_step : step.Refusal → Refusal
+of_step r = Step r
 
--- with its count and total
-pub record Counted (t roots scopes : List ℕ) (root variables : ℕ) (zs : List ℤ) (l : List ℕ) (count sum : ℕ) (m : Resolved.Model) (s : State) (es : List Entry) : Type 0 where
-  pub listing : Listing t roots scopes root variables zs l m s es
-  pub count-is : count ≡ length es
-  pub sum_is : sum ≡ total (weights es)
+-- the entry that a timed step takes and the clock after it, or why it is refused
+abbrev pub Stepped : Type 0
+Stepped = Result (ℕ × Clock) Refusal
 
--- with entry c of it
-pub record Row (t roots scopes : List ℕ) (root variables : ℕ) (zs : List ℤ) (l : List ℕ) (c : ℕ) (m : Resolved.Model) (s : State) (es : List Entry) (e : Entry) : Type 0 where
-  pub listing : Listing t roots scopes root variables zs l m s es
-  pub at : get_elem? es c ≡ some e
+-- 02, note 4: 17 to 19 of entry c, then 23 to 25 by what the waiting draws made of the clock
+unfoldable pub stepped_by : Taken → (c : ℕ) → Brought → Stepped
+stepped_by (Ok u) c (Ok n) = Ok (c, n)
+stepped_by (Ok u) c (Err l) = Err (Wait l)
+stepped_by (Err r) c b = Err (Step r)
 
-abbrev pub stepped : (number chosen : ℕ) → Clock → Stepped
-stepped n c k = record { number = n; chosen = c; clock = k }
+-- 01, Listing and stepping: 0 or the number of a refusal, the entry taken, 0 if none, and the clock, which a refusal leaves as it is
+abbrev pub number_of : Stepped → ℕ
+number_of (Ok x) = 0
+number_of (Err r) = refusal_number r
 
--- 02, note 4: 17 to 19 of entry c, then 23 to 25 by what the waiting draws made of the clock k
-unfoldable pub stepped_by : Taken → (c : ℕ) → Brought → (k : Clock) → Stepped
-stepped_by (Ok u) c (Ok n) k = stepped 0 c n
-stepped_by (Ok u) c (Err l) k = stepped (late_number l) 0 k
-stepped_by (Err r) c b k = stepped (refusal_number r) 0 k
+abbrev pub entry_of : Stepped → ℕ
+entry_of (Ok (c, n)) = c
+entry_of (Err r) = 0
 
--- 02, note 4: the number, the entry taken and the clock of a timed step, and the numbers of its state
-pub record StepsTo (t : Turn Timed) (r : Stepped) (zs : List ℤ) : Type 0 where
-  pub number : r.number ≡ t.answer.number
-  pub chosen : r.chosen ≡ t.answer.chosen
-  pub clock : r.clock ≡ t.machine.clock
+abbrev pub clock_of : Clock → Stepped → Clock
+clock_of k (Ok (c, n)) = n
+clock_of k (Err r) = k
+
+-- 02, note 4: what a timed step from the clock k answers, and the numbers of its state
+pub record StepsTo (t : Turn Timed) (k : Clock) (r : Stepped) (zs : List ℤ) : Type 0 where
+  pub number : number_of r ≡ t.answer.number
+  pub chosen : entry_of r ≡ t.answer.chosen
+  pub clock : clock_of k r ≡ t.machine.clock
   pub state : zs ≡ state_numbers t.machine.state

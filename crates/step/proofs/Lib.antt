@@ -9,3 +9,4 @@ pub mod Entry
 pub mod Listed
 pub mod Answered
 pub mod Gates
+pub mod Rows

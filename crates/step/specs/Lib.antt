@@ -1,1 +1,2 @@
 pub mod Enter
+pub mod Entries

@@ -7,7 +7,8 @@ ghost use Rattle.std.proofs.Math.Option.{some};
 ghost use Rattle.tree.specs.Node as node;
 ghost use Rattle.rules.specs.Offers.{Pair, Guard};
 ghost use Rattle.rules.specs.Rules.{Nth, Change, unchanged, key};
-ghost use Rattle.rules.specs.Listing.{entry, entries};
+ghost use Rattle.rules.specs.Listing as rules;
+ghost use Rattle.rules.specs.Listing.{entry as listed, entries};
 ghost use Rattle.rules.specs.Pairs.{pairs_after};
 ghost use Rattle.rules.specs.Step.{values_at, sent_by, on_action, change_of};
 ghost use Rattle.model.specs.Resolved as Resolved;
@@ -21,8 +22,10 @@ ghost use Rattle.eval.specs.Next as Become;
 ghost use Rattle.eval.specs.Next.{ShowsNext};
 ghost use Rattle.eval.specs.Shown.{ShowsPair, ShowsOffer};
 ghost use Rattle.step.specs.Enter as Enter;
+ghost use Rattle.step.specs.Entries.{Row};
 
 use eval::offer::Offer;
+use listing::Entry;
 use machine::EntryKind;
 use state::Layout;
 use tables::Tables;
@@ -64,6 +67,14 @@ pub struct Entered {
     pub offer: Offer,
 }
 
+// What the process at a place becomes: its locals, with the names bound, and its continuation.
+#[derive(Clone, Copy)]
+pub struct Successor<'a> {
+    pub place: usize,
+    pub locals: &'a [i64],
+    pub next: Option<usize>,
+}
+
 // The root of branch j of the branches at k.
 fn branch_root(nodes: &[u64], k: usize, j: usize) -> usize
     requires { Enter.Chain nodes.now k j }
@@ -97,6 +108,9 @@ impl Room {
     pub const PROCESSES: usize = model::Limits::PROCESSES;
 
     pub const PAIRS: usize = machine::Limits::PAIRS;
+
+    // The numbers of as many processes as a state holds.
+    pub const FRESH: usize = state::Layout::ALL_PROCESSES;
 }
 
 fn none_bound() -> Bound
@@ -153,8 +167,8 @@ fn bound_by(kind: u8, values: Bound) -> Bound
 }
 
 // Writes a process's locals and the bound values after them; how many there are.
-fn put_locals(own: &[i64], bound: Bound, locals: &mut [i64]) -> usize
-    requires { (length own.now ≤ local_limit) × (bound.count ≤ 2) × (length locals.old ≡ 10) }
+fn put_locals(own: &[i64], bound: Bound, locals: &mut [i64; Room::LOCALS]) -> usize
+    requires { (length own.now ≤ local_limit) × (bound.count ≤ 2) }
     ensures { (take result locals.new ≡ own.now ++ Enter.values_of bound) × (result ≤ 10) }
 {
     put_first(own, locals);
@@ -219,9 +233,9 @@ fn enter(
     i: usize,
     j: usize,
     values: Bound,
-    locals: &mut [i64],
+    locals: &mut [i64; Room::LOCALS],
 ) -> Entered
-    requires { Enter.Acting tables.nodes.now tables.roots.now tables.scopes.now state.now i j × (values.count ≤ 2) × (length locals.old ≡ 10) }
+    requires { Enter.Acting tables.nodes.now tables.roots.now tables.scopes.now state.now i j × (values.count ≤ 2) }
     ensures { (m : Resolved.Model) (s : State) (p : Process) (b : Resolved.Branch) (g : Guard) → Enter.Acts tables.entry.nodes.now tables.entry.roots.now tables.entry.scopes.now state.now i j m s p b g → Enter.Enters tables.entry.nodes.now p b g (Enter.values_of values) locals.new result }
 {
     let found = find_branch(tables, state, i, j);
@@ -261,31 +275,24 @@ fn count_next(tables: Tables, next: Option<usize>) -> usize
 }
 
 // The process at place i becomes what it enters.
-fn replace_process(
-    tables: Tables,
-    state: &mut [i64],
-    fresh: &mut [i64],
-    i: usize,
-    locals: &[i64],
-    next: Option<usize>,
-)
-    requires { ((m : Resolved.Model) × (s : State) × (ps : List Resolved.Part) × Enter.Replaces tables.nodes.now tables.scopes.now tables.root tables.variables state.old i locals.now next m s ps) × (length fresh.old ≡ Enter.fresh_length) }
-    ensures { (m : Resolved.Model) (s : State) (ps : List Resolved.Part) → Enter.Replaces tables.entry.nodes.now tables.entry.scopes.now tables.entry.root tables.entry.variables state.old i locals.now next m s ps → state.new ≡ state_numbers (Enter.entering m s i locals.now ps) }
+fn replace_process(tables: Tables, state: &mut [i64], fresh: &mut [i64; Room::FRESH], x: Successor)
+    requires { (m : Resolved.Model) × (s : State) × (ps : List Resolved.Part) × Enter.Replaces tables.nodes.now tables.scopes.now tables.root tables.variables state.old x.place x.locals.now x.next m s ps }
+    ensures { (m : Resolved.Model) (s : State) (ps : List Resolved.Part) → Enter.Replaces tables.entry.nodes.now tables.entry.scopes.now tables.entry.root tables.entry.variables state.old x.entry.place x.entry.locals.now x.entry.next m s ps → state.new ≡ state_numbers (Enter.entering m s x.entry.place x.entry.locals.now ps) }
 {
-    match next {
+    match x.next {
         Some(k) => {
-            let n = eval::next::put_processes(tables, locals, k, fresh, 0);
-            state::splice(state, i, &fresh[..], n);
+            let n = eval::next::put_processes(tables, x.locals, k, fresh, 0);
+            state::splice(state, x.place, &fresh[..], n);
         }
         None => {
-            state::splice(state, i, &fresh[..], 0);
+            state::splice(state, x.place, &fresh[..], 0);
         }
     }
 }
 
 // The numbers of the pair that an offer carries.
-fn put_pair(offer: Offer, row: &mut [i64])
-    requires { Enter.Carries offer × (length row.old ≡ pair_width) }
+fn put_pair(offer: Offer, row: &mut [i64; Layout::PAIR])
+    requires { Enter.Carries offer }
     ensures { (x : Pair) → ShowsPair offer x → row.new ≡ pair_numbers x }
 {
     eval::channel::put_channel(
@@ -344,87 +351,82 @@ fn change_pairs(state: &mut [i64], offer: Offer)
 fn move_alone(
     tables: Tables,
     state: &mut [i64],
-    fresh: &mut [i64],
-    i: usize,
-    locals: &[i64],
-    next: Option<usize>,
+    fresh: &mut [i64; Room::FRESH],
+    x: Successor,
     offer: Offer,
 ) -> Result<(), Refusal>
-    requires { ((m : Resolved.Model) × (s : State) × (ps : List Resolved.Part) × (n : Change) × Enter.Alone tables.nodes.now tables.scopes.now tables.root tables.variables state.old i locals.now next offer m s ps n) × (length fresh.old ≡ Enter.fresh_length) }
-    ensures { (m : Resolved.Model) (s : State) (ps : List Resolved.Part) (n : Change) → Enter.Alone tables.entry.nodes.now tables.entry.scopes.now tables.entry.root tables.entry.variables state.old i locals.now next offer m s ps n → Enter.Answers (arguments_given locals.now ps) s (Enter.changed (Enter.entering m s i locals.now ps) n) result state.new }
+    requires { (m : Resolved.Model) × (s : State) × (ps : List Resolved.Part) × (n : Change) × Enter.Alone tables.nodes.now tables.scopes.now tables.root tables.variables state.old x.place x.locals.now x.next offer m s ps n }
+    ensures { (m : Resolved.Model) (s : State) (ps : List Resolved.Part) (n : Change) → Enter.Alone tables.entry.nodes.now tables.entry.scopes.now tables.entry.root tables.entry.variables state.old x.entry.place x.entry.locals.now x.entry.next offer m s ps n → Enter.Answers (arguments_given x.entry.locals.now ps) s (Enter.changed (Enter.entering m s x.entry.place x.entry.locals.now ps) n) result state.new }
 {
-    if !arguments_given(tables.nodes, locals, next) {
+    if !arguments_given(tables.nodes, x.locals, x.next) {
         return Err(Refusal::Arguments);
     }
     let n = state::process_count(&state[..]);
-    let count = count_next(tables, next);
+    let count = count_next(tables, x.next);
     if Room::PROCESSES + 1 < n + count {
         return Err(Refusal::Processes);
     }
     if is_overfull(&state[..], offer) {
         return Err(Refusal::Pairs);
     }
-    replace_process(tables, state, fresh, i, locals, next);
+    replace_process(tables, state, fresh, x);
     change_pairs(state, offer);
     Ok(())
 }
 
-// Two processes become what they enter, the one at i before the one at k. Where the first becomes nothing it goes first, so that no place is wanted for a moment.
+// Two processes become what they enter, the one at x before the one at y. Where the first becomes nothing it goes first, so that no place is wanted for a moment.
 fn replace_both(
     tables: Tables,
     state: &mut [i64],
-    fresh: &mut [i64],
-    i: usize,
-    locals: &[i64],
-    next: Option<usize>,
-    k: usize,
-    others: &[i64],
-    other: Option<usize>,
+    fresh: &mut [i64; Room::FRESH],
+    x: Successor,
+    y: Successor,
 )
-    requires { ((m : Resolved.Model) × (s : State) × (ps : List Resolved.Part) × (qs : List Resolved.Part) × Enter.Both tables.nodes.now tables.scopes.now tables.root tables.variables state.old i locals.now next k others.now other m s ps qs) × (length fresh.old ≡ Enter.fresh_length) }
-    ensures { (m : Resolved.Model) (s : State) (ps qs : List Resolved.Part) → Enter.Both tables.entry.nodes.now tables.entry.scopes.now tables.entry.root tables.entry.variables state.old i locals.now next k others.now other m s ps qs → state.new ≡ state_numbers (Enter.both_entering m s i locals.now ps k others.now qs) }
+    requires { (m : Resolved.Model) × (s : State) × (ps : List Resolved.Part) × (qs : List Resolved.Part) × Enter.Both tables.nodes.now tables.scopes.now tables.root tables.variables state.old x.place x.locals.now x.next y.place y.locals.now y.next m s ps qs }
+    ensures { (m : Resolved.Model) (s : State) (ps qs : List Resolved.Part) → Enter.Both tables.entry.nodes.now tables.entry.scopes.now tables.entry.root tables.entry.variables state.old x.entry.place x.entry.locals.now x.entry.next y.entry.place y.entry.locals.now y.entry.next m s ps qs → state.new ≡ state_numbers (Enter.both_entering m s x.entry.place x.entry.locals.now ps y.entry.place y.entry.locals.now qs) }
 {
-    if count_next(tables, next) == 0 {
-        replace_process(tables, state, fresh, i, locals, next);
-        replace_process(tables, state, fresh, k - 1, others, other);
+    if count_next(tables, x.next) == 0 {
+        replace_process(tables, state, fresh, x);
+        let earlier = Successor {
+            place: y.place - 1,
+            locals: y.locals,
+            next: y.next,
+        };
+        replace_process(tables, state, fresh, earlier);
         return;
     }
-    replace_process(tables, state, fresh, k, others, other);
-    replace_process(tables, state, fresh, i, locals, next);
+    replace_process(tables, state, fresh, y);
+    replace_process(tables, state, fresh, x);
 }
 
 // 17 and 18 of a handshake, then its move.
 fn move_both(
     tables: Tables,
     state: &mut [i64],
-    fresh: &mut [i64],
-    i: usize,
-    locals: &[i64],
-    next: Option<usize>,
-    k: usize,
-    others: &[i64],
-    other: Option<usize>,
+    fresh: &mut [i64; Room::FRESH],
+    x: Successor,
+    y: Successor,
 ) -> Result<(), Refusal>
-    requires { ((m : Resolved.Model) × (s : State) × (ps : List Resolved.Part) × (qs : List Resolved.Part) × Enter.Meets tables.nodes.now tables.scopes.now tables.root tables.variables state.old i locals.now next k others.now other m s ps qs) × (length fresh.old ≡ Enter.fresh_length) }
-    ensures { (m : Resolved.Model) (s : State) (ps qs : List Resolved.Part) → Enter.Meets tables.entry.nodes.now tables.entry.scopes.now tables.entry.root tables.entry.variables state.old i locals.now next k others.now other m s ps qs → Enter.Answers (arguments_given locals.now ps && arguments_given others.now qs) s (Enter.both_entering m s i locals.now ps k others.now qs) result state.new }
+    requires { (m : Resolved.Model) × (s : State) × (ps : List Resolved.Part) × (qs : List Resolved.Part) × Enter.Meets tables.nodes.now tables.scopes.now tables.root tables.variables state.old x.place x.locals.now x.next y.place y.locals.now y.next m s ps qs }
+    ensures { (m : Resolved.Model) (s : State) (ps qs : List Resolved.Part) → Enter.Meets tables.entry.nodes.now tables.entry.scopes.now tables.entry.root tables.entry.variables state.old x.entry.place x.entry.locals.now x.entry.next y.entry.place y.entry.locals.now y.entry.next m s ps qs → Enter.Answers (arguments_given x.entry.locals.now ps && arguments_given y.entry.locals.now qs) s (Enter.both_entering m s x.entry.place x.entry.locals.now ps y.entry.place y.entry.locals.now qs) result state.new }
 {
-    if !arguments_given(tables.nodes, locals, next) {
+    if !arguments_given(tables.nodes, x.locals, x.next) {
         return Err(Refusal::Arguments);
     }
-    if !arguments_given(tables.nodes, others, other) {
+    if !arguments_given(tables.nodes, y.locals, y.next) {
         return Err(Refusal::Arguments);
     }
     let n = state::process_count(&state[..]);
-    let count = count_next(tables, next);
-    let also = count_next(tables, other);
+    let count = count_next(tables, x.next);
+    let also = count_next(tables, y.next);
     if Room::PROCESSES + 2 < n + count + also {
         return Err(Refusal::Processes);
     }
-    if i < k {
-        replace_both(tables, state, fresh, i, locals, next, k, others, other);
+    if x.place < y.place {
+        replace_both(tables, state, fresh, x, y);
         return Ok(());
     }
-    replace_both(tables, state, fresh, k, others, other, i, locals, next);
+    replace_both(tables, state, fresh, y, x);
     Ok(())
 }
 
@@ -432,82 +434,101 @@ fn move_both(
 fn take_alone(
     tables: Tables,
     state: &mut [i64],
-    fresh: &mut [i64],
-    place: usize,
-    branch: usize,
-    pair: usize,
+    fresh: &mut [i64; Room::FRESH],
+    entry: Entry,
 ) -> Result<(), Refusal>
-    requires { ((m : Resolved.Model) × (s : State) × (p : Process) × (b : Resolved.Branch) × (g : Guard) × Enter.AloneEntry tables.nodes.now tables.roots.now tables.scopes.now tables.root tables.variables state.old place branch pair m s p b g) × (length fresh.old ≡ Enter.fresh_length) }
-    ensures { (m : Resolved.Model) (s : State) (p : Process) (b : Resolved.Branch) (g : Guard) → Enter.AloneEntry tables.entry.nodes.now tables.entry.roots.now tables.entry.scopes.now tables.entry.root tables.entry.variables state.old place branch pair m s p b g → Enter.Answers (arguments_given (Enter.locals_of p (values_at s.pairs pair) g) b.next) s (Enter.changed (Enter.entering m s place (Enter.locals_of p (values_at s.pairs pair) g) b.next) (on_action unchanged change_of g)) result state.new }
+    requires { (m : Resolved.Model) × (s : State) × (p : Process) × (b : Resolved.Branch) × (g : Guard) × Enter.AloneEntry tables.nodes.now tables.roots.now tables.scopes.now tables.root tables.variables state.old entry.place entry.branch entry.pair m s p b g }
+    ensures { (m : Resolved.Model) (s : State) (p : Process) (b : Resolved.Branch) (g : Guard) → Enter.AloneEntry tables.entry.nodes.now tables.entry.roots.now tables.entry.scopes.now tables.entry.root tables.entry.variables state.old entry.place entry.branch entry.pair m s p b g → Enter.Answers (arguments_given (Enter.locals_of p (values_at s.pairs entry.pair) g) b.next) s (Enter.changed (Enter.entering m s entry.place (Enter.locals_of p (values_at s.pairs entry.pair) g) b.next) (on_action unchanged change_of g)) result state.new }
 {
     let mut locals = [0i64; Room::LOCALS];
-    let values = pair_values(&state[..], pair);
-    let entered = enter(tables, &state[..], place, branch, values, &mut locals);
+    let values = pair_values(&state[..], entry.pair);
+    let entered = enter(
+        tables,
+        &state[..],
+        entry.place,
+        entry.branch,
+        values,
+        &mut locals,
+    );
     let count = entered.count;
-    let next = entered.next;
-    let offer = entered.offer;
-    move_alone(tables, state, fresh, place, &locals[..count], next, offer)
+    let successor = Successor {
+        place: entry.place,
+        locals: &locals[..count],
+        next: entered.next,
+    };
+    move_alone(tables, state, fresh, successor, entered.offer)
 }
 
 // An entry of two processes: the receiver's names take the values sent.
 fn take_handshake(
     tables: Tables,
     state: &mut [i64],
-    fresh: &mut [i64],
-    place: usize,
-    branch: usize,
-    partner: usize,
-    partner_branch: usize,
+    fresh: &mut [i64; Room::FRESH],
+    entry: Entry,
 ) -> Result<(), Refusal>
-    requires { ((m : Resolved.Model) × (s : State) × (x : Enter.Side) × (y : Enter.Side) × Enter.HandEntry tables.nodes.now tables.roots.now tables.scopes.now tables.root tables.variables state.old place branch partner partner_branch m s x y) × (length fresh.old ≡ Enter.fresh_length) }
-    ensures { (m : Resolved.Model) (s : State) (x y : Enter.Side) → Enter.HandEntry tables.entry.nodes.now tables.entry.roots.now tables.entry.scopes.now tables.entry.root tables.entry.variables state.old place branch partner partner_branch m s x y → Enter.Answers (arguments_given (Enter.sent x) x.branch.next && arguments_given (Enter.received x y) y.branch.next) s (Enter.both_entering m s place (Enter.sent x) x.branch.next partner (Enter.received x y) y.branch.next) result state.new }
+    requires { (m : Resolved.Model) × (s : State) × (x : Enter.Side) × (y : Enter.Side) × Enter.HandEntry tables.nodes.now tables.roots.now tables.scopes.now tables.root tables.variables state.old entry.place entry.branch entry.partner entry.pbranch m s x y }
+    ensures { (m : Resolved.Model) (s : State) (x y : Enter.Side) → Enter.HandEntry tables.entry.nodes.now tables.entry.roots.now tables.entry.scopes.now tables.entry.root tables.entry.variables state.old entry.place entry.branch entry.partner entry.pbranch m s x y → Enter.Answers (arguments_given (Enter.sent x) x.branch.next && arguments_given (Enter.received x y) y.branch.next) s (Enter.both_entering m s entry.place (Enter.sent x) x.branch.next entry.partner (Enter.received x y) y.branch.next) result state.new }
 {
     let mut locals = [0i64; Room::LOCALS];
     let mut others = [0i64; Room::LOCALS];
-    let sender = enter(tables, &state[..], place, branch, none_bound(), &mut locals);
+    let sender = enter(
+        tables,
+        &state[..],
+        entry.place,
+        entry.branch,
+        none_bound(),
+        &mut locals,
+    );
     let offer = sender.offer;
     let receiver = enter(
         tables,
         &state[..],
-        partner,
-        partner_branch,
+        entry.partner,
+        entry.pbranch,
         sent_values(offer),
         &mut others,
     );
     let count = sender.count;
-    let next = sender.next;
     let also = receiver.count;
-    let other = receiver.next;
-    move_both(
-        tables,
-        state,
-        fresh,
-        place,
-        &locals[..count],
-        next,
-        partner,
-        &others[..also],
-        other,
-    )
+    let x = Successor {
+        place: entry.place,
+        locals: &locals[..count],
+        next: sender.next,
+    };
+    let y = Successor {
+        place: entry.partner,
+        locals: &others[..also],
+        next: receiver.next,
+    };
+    move_both(tables, state, fresh, x, y)
 }
 
 // Takes a listed entry: the state moves, or 17, 18 or 19 leaves it as it is.
 pub fn take_entry(
     tables: Tables,
     state: &mut [i64],
-    fresh: &mut [i64],
-    kind: u64,
-    place: usize,
-    branch: usize,
-    partner: usize,
-    partner_branch: usize,
-    pair: usize,
+    fresh: &mut [i64; Room::FRESH],
+    entry: Entry,
 ) -> Result<(), Refusal>
-    requires { ((m : Resolved.Model) × (s : State) × (w : ℕ) × Enter.Lent tables.nodes.now tables.roots.now tables.scopes.now tables.root tables.variables state.old m s × In (entry (key kind place branch partner partner_branch pair) w) (entries (branches m) s)) × (length fresh.old ≡ Enter.fresh_length) }
-    ensures { (m : Resolved.Model) (s : State) (w : ℕ) → Enter.Lent tables.entry.nodes.now tables.entry.roots.now tables.entry.scopes.now tables.entry.root tables.entry.variables state.old m s → In (entry (key kind place branch partner partner_branch pair) w) (entries (branches m) s) → Enter.Answers (entry_arguments m s (key kind place branch partner partner_branch pair)) s (entry_state m s (key kind place branch partner partner_branch pair)) result state.new }
+    requires { (m : Resolved.Model) × (s : State) × (w : ℕ) × Enter.Lent tables.nodes.now tables.roots.now tables.scopes.now tables.root tables.variables state.old m s × In (listed (key entry.kind entry.place entry.branch entry.partner entry.pbranch entry.pair) w) (entries (branches m) s) }
+    ensures { (m : Resolved.Model) (s : State) (w : ℕ) → Enter.Lent tables.entry.nodes.now tables.entry.roots.now tables.entry.scopes.now tables.entry.root tables.entry.variables state.old m s → In (listed (key entry.kind entry.place entry.branch entry.partner entry.pbranch entry.pair) w) (entries (branches m) s) → Enter.Answers (entry_arguments m s (key entry.kind entry.place entry.branch entry.partner entry.pbranch entry.pair)) s (entry_state m s (key entry.kind entry.place entry.branch entry.partner entry.pbranch entry.pair)) result state.new }
 {
-    if kind == EntryKind::HANDSHAKE {
-        return take_handshake(tables, state, fresh, place, branch, partner, partner_branch);
+    if entry.kind == EntryKind::HANDSHAKE {
+        return take_handshake(tables, state, fresh, entry);
     }
-    take_alone(tables, state, fresh, place, branch, pair)
+    take_alone(tables, state, fresh, entry)
+}
+
+// Takes entry c of a listing: the state moves, or 17, 18 or 19 leaves it as it is.
+pub fn take_row(
+    tables: Tables,
+    state: &mut [i64],
+    fresh: &mut [i64; Room::FRESH],
+    listing: &[u64],
+    c: usize,
+) -> Result<(), Refusal>
+    requires { (m : Resolved.Model) × (s : State) × (es : List rules.Entry) × (e : rules.Entry) × Row tables.nodes.now tables.roots.now tables.scopes.now tables.root tables.variables state.old listing.now c m s es e }
+    ensures { (m : Resolved.Model) (s : State) (es : List rules.Entry) (e : rules.Entry) → Row tables.entry.nodes.now tables.entry.roots.now tables.entry.scopes.now tables.entry.root tables.entry.variables state.old listing.now c m s es e → Enter.Answers (entry_arguments m s (rules.key_of e)) s (entry_state m s (rules.key_of e)) result state.new }
+{
+    take_entry(tables, state, fresh, listing::entry_at(listing, c))
 }

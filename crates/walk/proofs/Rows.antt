@@ -1,27 +1,16 @@
--- Rows of a table: the first copied over the second, a part put back, and entries in the numbers of a listing. From the laws of lists.
-use mathlib.Core.Path.{◌≡◌, refl, ap, ◌∙◌}
-use mathlib.Core.List.{List, ◌∷◌, ◌++◌, Memᴰ as In}
-use Prim.Native.Nat.{ℕ, ◌+◌, ◌-◌, ◌*◌, ◌≤◌, ◌<◌}
+-- Rows of a table: the first copied over the second, a part put back, and how long a listing is. From the laws of lists.
+use mathlib.Core.Path.{◌≡◌, ap, ◌∙◌}
+use mathlib.Core.List.{List, ◌++◌}
+use Prim.Native.Nat.{ℕ, ◌+◌, ◌-◌, ◌*◌, ◌≤◌}
 use native.Mathlib.Nat.{le_refl}
 use native.Mathlib.Omega.{arith}
-use lib.IntN.{ℤ}
 use lib.ListN.{length, take, drop, replicate, length-append, length-replicate}
 use lib.Seq.{length-take-le, take_at, drop_at, take-append-le, drop-append-le, take-take}
 use borrow.Rule.Slice.PartMut.{put_mid, mid_of}
-use Rattle.model.specs.Resolved
-use Rattle.rules.specs.Rules.{Nth, first, later}
-use Rattle.rules.specs.Listing.{Entry, entries}
-use Rattle.machine.specs.Offer.{branches}
-use Rattle.machine.specs.State.{State}
-use Rattle.machine.specs.Machine as machine
-use Rattle.machine.specs.Machine.{listing_length, entries_are}
-use Rattle.machine.proofs.Branches.{get_nth}
-use Rattle.machine.proofs.Listing.{accepted}
-use Rattle.machine.proofs.OneListing.{one-listing}
-use Rattle.listing.specs.Buffer.{entry_in, filled_numbers}
-use Rattle.listing.proofs.Entries.{entry_in_lem}
+use Rattle.rules.specs.Listing.{Entry}
+use Rattle.machine.specs.Machine.{listing_length}
+use Rattle.listing.specs.Buffer.{filled_numbers}
 use Rattle.listing.proofs.Finished.{rows-length}
-use Rattle.walk.specs.Entries.{Row}
 
 -- ---- the first row copied over the second
 
@@ -70,36 +59,8 @@ first_part a s ys e = take_at ys (drop a s) a e
 pub same_first : {A : Type 0} (a : ℕ) (s : List A) → take a (take a s) ≡ take a s
 same_first a s = take-take a a s (le_refl a)
 
--- ---- an entry in the numbers of a listing
-
-pub filled-fits : (es : List Entry) → length es * 7 ≤ length (filled_numbers es)
-unfolding filled_numbers
-filled-fits es = omega (arith, rows-length es (replicate (listing_length - length es * 7) 0))
+-- ---- the numbers of a listing
 
 pub filled-length : (es : List Entry) → length es ≤ 1024 → length (filled_numbers es) ≡ listing_length
 unfolding filled_numbers
 filled-length es l = omega (arith, rows-length es (replicate (listing_length - length es * 7) 0), length-replicate {A = ℕ} (listing_length - length es * 7) 0)
-
-pub in-nth : {A : Type 0} {xs : List A} {n : ℕ} {x : A} → Nth xs n x → In x xs
-in-nth first = In.head refl
-in-nth (later h) = In.tail (in-nth h)
-
-pub below : {A : Type 0} {xs : List A} {n : ℕ} {x : A} → Nth xs n x → n < length xs
-below first = omega arith
-below (later h) = omega (arith, below h)
-
--- the entries are those of the state
-pub entries-are : (m : Resolved.Model) (s : State) (es : List Entry) → machine.listing m s ≡ entries_are es → es ≡ entries (branches m) s
-entries-are m s es h = one-listing m s es ((accepted m s es).0 h).1
-
--- entry c of the listing
-module _ {t roots scopes : List ℕ} {root variables : ℕ} {zs : List ℤ} {l : List ℕ} {c : ℕ} {m : Resolved.Model} {s : State} {es : List Entry} {e : Entry} (h : Row t roots scopes root variables zs l c m s es e) where
-  pub row_fits : c * 7 + 7 ≤ length l
-  row_fits = rw h.listing.numbers (omega (arith, filled-fits es, below (get_nth es c h.at)))
-
-  pub row_is : entry_in l c ≡ e
-  unfolding filled_numbers
-  row_is = rw h.listing.numbers (entry_in_lem es (replicate (listing_length - length es * 7) 0) c e h.at)
-
-  pub row_in : In e (entries (branches m) s)
-  row_in = let q = entries-are m s es h.listing.listed in rw (← q) (in-nth (get_nth es c h.at))

@@ -1,14 +1,13 @@
 -- What taking an entry comes to is what the machine's search goes over. From the contract of the step, by cases of its answer.
 use mathlib.Core.Path.{◌≡◌, refl, sym, ap, ◌∙◌}
 use mathlib.Core.List.{List, map}
-use mathlib.Core.Bool.{Bool, true, false, cond}
+use mathlib.Core.Bool.{Bool}
 use mathlib.Core.Option.{some}
-use Prim.Native.Nat.{ℕ, ◌+◌, ◌*◌, ◌≤◌, ◌<◌}
+use Prim.Native.Nat.{ℕ, ◌+◌, ◌-◌, ◌*◌, ◌≤◌, ◌<◌}
 use native.Mathlib.Omega.{arith}
 use borrow.Author.Tests.{ne_eqb}
-use lib.Dec.{leb}
 use lib.IntN.{ℤ}
-use lib.ListN.{length, get_or, get_elem?, take, drop}
+use lib.ListN.{length, get_or, get_elem?, take, drop, replicate}
 use lib.Seq.{take_all}
 use borrow.Rule.Slice.PartMut.{put_mid}
 use Rattle.std.specs.Prelude.{Err, Ok}
@@ -30,9 +29,10 @@ use Rattle.step.specs.declared.Refusal.TheVariants.{Arguments, Processes, Pairs}
 use Rattle.step.specs.Enter.{Lent, Answers, refusal_number, number_of, Taken}
 use Rattle.step.proofs.Answered.{taken-number, taken-state}
 use Rattle.walk.specs.declared.Move.TheVariants as move
-use Rattle.walk.specs.Entries.{Listing, Row}
+use Rattle.step.specs.Entries.{Listing, Row}
+use Rattle.step.proofs.Rows.{row_is, row_in, row_fits}
 use Rattle.walk.specs.Held.{Held, Seen, Stands, Lists, way_found, Takes}
-use Rattle.walk.proofs.Rows.{row_is, row_in, row_fits, back-first, back-second, twice}
+use Rattle.walk.proofs.Rows.{back-first, back-second, twice}
 
 nth-way : {A B : Type 0} {xs : List A} {n : ℕ} {x : A} (f : A → B) (d : B) → Nth xs n x → get_or (map f xs) n d ≡ f x
 nth-way f d first = refl
@@ -88,7 +88,8 @@ module _ {t roots scopes : List ℕ} {root variables : ℕ} {text places sizes :
     numbers-are = sym (take_all listing_length l (omega arith)) ∙ lists.numbers
 
     listing-of : {zs : List ℤ} → zs ≡ take state_length z → Listing t roots scopes root variables zs l m s es
-    listing-of q = record { lent = lent_of stands.good (q ∙ stands.numbers); listed = lists.listed; numbers = numbers-are }
+    unfolding filled_numbers
+    listing-of q = record { lent = lent_of stands.good (q ∙ stands.numbers); listed = lists.listed; rest = replicate (listing_length - length es * 7) 0; numbers = numbers-are }
 
     some-row : {zs : List ℤ} → zs ≡ take state_length z → (y : Entry) × Row t roots scopes root variables zs l e m s es y
     some-row q = let y = nth-below es e inside in (y.0, record { listing = listing-of q; at = nth-get y.1 })

@@ -1,3 +1,2 @@
 pub mod Hunted
-pub mod Entries
 pub mod Held

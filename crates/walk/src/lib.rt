@@ -9,11 +9,10 @@ ghost use Rattle.rules.specs.Rules.{key};
 ghost use Rattle.rules.specs.Listing as rules;
 ghost use Rattle.runs.specs.Walk as walk;
 ghost use Rattle.machine.specs.State.{State, state_length};
-ghost use Rattle.machine.specs.Machine.{listing_length, depth_limit, entry_arguments, entry_state, is_sought, moves_to};
+ghost use Rattle.machine.specs.Machine.{listing_length, depth_limit, is_sought, moves_to};
 ghost use Rattle.step.specs.Enter as Enter;
 ghost use Rattle.search.specs.Walks.{Answered};
 ghost use Rattle.walk.specs.Hunted.{hunt_at, hunt_from, hunt_longer, Hunts};
-ghost use Rattle.walk.specs.Entries.{Row};
 ghost use Rattle.walk.specs.Held.{Held, Seen, Stands, Lists, Room, Takes};
 
 use search::Walked;
@@ -47,7 +46,7 @@ impl Level {
     pub const LISTINGS: usize = Level::DEPTH * Level::LISTING;
 
     // The numbers of as many processes as a state holds.
-    pub const FRESH: usize = state::Layout::ALL_PROCESSES;
+    pub const FRESH: usize = step::Room::FRESH;
 }
 
 // What taking an entry comes to: it has weight zero; 17 to 19; or it is taken, and whether it is the wait.
@@ -100,23 +99,6 @@ fn is_sought(
 
 // ---- one entry
 
-// Takes entry c of the listing: the state moves, or 17, 18 or 19 leaves it as it is.
-pub fn take_row(
-    tables: Tables,
-    state: &mut [i64],
-    listing: &[u64],
-    c: usize,
-) -> Result<(), step::Refusal>
-    requires { (m : Resolved.Model) × (s : State) × (es : List rules.Entry) × (e : rules.Entry) × Row tables.nodes.now tables.roots.now tables.scopes.now tables.root tables.variables state.old listing.now c m s es e }
-    ensures { (m : Resolved.Model) (s : State) (es : List rules.Entry) (e : rules.Entry) → Row tables.entry.nodes.now tables.entry.roots.now tables.entry.scopes.now tables.entry.root tables.entry.variables state.old listing.now c m s es e → Enter.Answers (entry_arguments m s (rules.key_of e)) s (entry_state m s (rules.key_of e)) result state.new }
-{
-    let mut fresh = [0i64; Level::FRESH];
-    let e = listing::entry_at(listing, c);
-    step::take_entry(
-        tables, state, &mut fresh, e.kind, e.place, e.branch, e.partner, e.pbranch, e.pair,
-    )
-}
-
 // The second row becomes the first.
 fn copy_row(states: &mut [i64])
     requires { state_length + state_length ≤ length states.old }
@@ -126,7 +108,7 @@ fn copy_row(states: &mut [i64])
     rest[..Level::STATE].copy_from_slice(first);
 }
 
-// Takes entry e of the first state: the second becomes the one after it.
+// Takes entry e of the first state: the second becomes the one after it. Rows are slices, as parts of the tables along a run.
 fn take_at(
     tables: Tables,
     written: Written,
@@ -153,7 +135,14 @@ fn take_at(
         entry.branch,
     );
     copy_row(states);
-    let taken = take_row(tables, &mut states[Level::STATE..Level::PAIR], listing, e);
+    let mut fresh = [0i64; Level::FRESH];
+    let taken = step::take_row(
+        tables,
+        &mut states[Level::STATE..Level::PAIR],
+        &mut fresh,
+        listing,
+        e,
+    );
     match taken {
         Ok(()) => Move::Leads(wait),
         Err(_) => Move::Refused,
@@ -321,9 +310,9 @@ pub fn search_model(
     state: &[i64],
     name: &[u8],
     depth: usize,
-    run: &mut [u16],
+    run: &mut [u16; Level::DEPTH],
 ) -> Walked
-    requires { ((m : Resolved.Model) × (s : State) × Held tables.nodes.now tables.roots.now tables.scopes.now tables.root tables.variables written.text.now written.places.now written.sizes.now m × Enter.Stands state.now m s) × (depth ≤ depth_limit) × (length run.old ≡ depth_limit) }
+    requires { ((m : Resolved.Model) × (s : State) × Held tables.nodes.now tables.roots.now tables.scopes.now tables.root tables.variables written.text.now written.places.now written.sizes.now m × Enter.Stands state.now m s) × (depth ≤ depth_limit) }
     ensures { (m : Resolved.Model) (s : State) → Held tables.entry.nodes.now tables.entry.roots.now tables.entry.scopes.now tables.entry.root tables.entry.variables written.entry.text.now written.entry.places.now written.entry.sizes.now m → Enter.Stands state.now m s → Answered (walk.search (moves_to m name.now) s depth) result run.new }
 {
     let mut states = [0i64; Level::STATES];

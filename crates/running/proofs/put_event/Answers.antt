@@ -2,7 +2,7 @@
 use mathlib.Core.Path.{refl}
 use native.Mathlib.Omega.{arith}
 use lib.ListN.{length-set}
-use Rattle.running.specs.Taking.{entry_in}
+use Rattle.listing.specs.Buffer.{entry_in}
 use Rattle.running.specs.Progress.{written}
 use Rattle.running.proofs.put_event.Goals as goal
 

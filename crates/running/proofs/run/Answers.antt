@@ -1,14 +1,13 @@
 -- The tables are made once, and the steps are bounded by the limit and by the room for events.
 use native.Mathlib.Nat.{div-mul-le_self}
 use native.Mathlib.Omega.{arith}
-use borrow.Author.Rules.{rules}
 use lib.ListN.{length}
 use Rattle.machine.specs.Machine.{runs_with}
 use Rattle.running.proofs.run.Goals as goal
 
 pub run_lent-requires : goal.run_lent-requires
 run_lent-requires c =
-    (c.requires.0, c.requires.1, search rules, search rules, search rules, search rules, search rules, search rules, omega (arith, c.min-steps.ensures, div-mul-le_self (length c.args.events.now) 8))
+    (c.requires.0, c.requires.1, omega (arith, c.min-steps.ensures, div-mul-le_self (length c.args.events.now) 8))
 
 pub shape_of-state : goal.shape_of-state
 shape_of-state c =

@@ -6,7 +6,7 @@ use Rattle.running.proofs.step_counted.Goals as goal
 
 pub returns-then-total-eq0 : goal.returns-then-total-eq0
 returns-then-total-eq0 c =
-    λ z m r es h. dead-ends h c.if-total-eq0.true _ c.end.ensures
+    λ z m r es h. dead-ends h c.if-total-eq0.true _ c.ended.ensures
 
 pub slice_bounds-draw_from-count : goal.slice_bounds-draw_from-count
 slice_bounds-draw_from-count c =
@@ -22,11 +22,11 @@ draw_from-drawn-requires c =
 
 pub step_drawn-requires : goal.step_drawn-requires
 step_drawn-requires c =
-    let h = c.requires.0.4 in ((c.args.words.now, c.requires.0.0, c.requires.0.1, c.requires.0.2, c.requires.0.3, h, used-fits h c.if-total-eq0.false _ (rw rest_of at c.draw_from-drawn.ensures.value) _ _ c.in-Some.is (rw rest_of at c.draw_from-drawn.ensures.within), c.well_formed.1.1.1.1.1.1.0.0), c.requires.1, omega (arith, c.if-total-eq0.false), c.requires.2)
+    let h = c.requires.0.4 in ((c.args.words.now, c.requires.0.0, c.requires.0.1, c.requires.0.2, c.requires.0.3, h, used-fits h c.if-total-eq0.false _ (rw rest_of at c.draw_from-drawn.ensures.value) _ _ c.in-Some.is (rw rest_of at c.draw_from-drawn.ensures.within), c.well_formed.1.1.1.1.1.1.0.0), omega (arith, c.if-total-eq0.false), c.requires.1)
 
 pub returns-in-None : goal.returns-in-None
 returns-in-None c =
-    λ z m r es h. words-ends h c.if-total-eq0.false _ (rw rest_of at c.draw_from-drawn.ensures.value) c.in-None.is _ c.end-in-None.ensures
+    λ z m r es h. words-ends h c.if-total-eq0.false _ (rw rest_of at c.draw_from-drawn.ensures.value) c.in-None.is _ c.ended-in-None.ensures
 
 pub returns-in-Some : goal.returns-in-Some
 returns-in-Some c =

@@ -1,5 +1,5 @@
 -- A launch, a kill or neither: the laws of Pairs.
-use mathlib.Core.Path.{refl, ap, ◌∙◌}
+use mathlib.Core.Path.{ap, ◌∙◌}
 use mathlib.Core.List.{List}
 use lib.IntN.{ℤ}
 use lib.ListN.{length}
@@ -9,7 +9,7 @@ use Rattle.step.proofs.change_pairs.Goals as goal
 
 pub put_pair-requires : goal.put_pair-requires
 put_pair-requires c =
-    let x = launching c.args.state.now c.args.offer c.if-kind-eq-LAUNCH.true c.requires.0 c.requires.1 c.requires.2 c.requires.3 in (record { pair = x.pair; shows = x.shows }, refl)
+    let x = launching c.args.state.now c.args.offer c.if-kind-eq-LAUNCH.true c.requires.0 c.requires.1 c.requires.2 c.requires.3 in record { pair = x.pair; shows = x.shows }
 
 pub launch_pair-requires : goal.launch_pair-requires
 launch_pair-requires c =
@@ -25,7 +25,7 @@ returns-then-kind-eq-LAUNCH c =
 
 pub put_pair-requires-then-kind-eq-KILL : goal.put_pair-requires-then-kind-eq-KILL
 put_pair-requires-then-kind-eq-KILL c =
-    let x = killing c.args.state.now c.args.offer c.if-kind-eq-KILL.true c.requires.0 c.requires.1 c.requires.2 c.requires.3 in (record { pair = x.pair; shows = x.shows }, refl)
+    let x = killing c.args.state.now c.args.offer c.if-kind-eq-KILL.true c.requires.0 c.requires.1 c.requires.2 c.requires.3 in record { pair = x.pair; shows = x.shows }
 
 pub kill_pair-requires : goal.kill_pair-requires
 kill_pair-requires c =

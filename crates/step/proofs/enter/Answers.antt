@@ -31,7 +31,7 @@ put_locals-count-requires c =
     let a = c.requires.0.acts in
     let d = c.find_branch-found.ensures.0 c.requires.0.model c.requires.0.state c.requires.0.process c.requires.0.branch c.requires.0.guard a in
     let e = own-are a _ d.0 _ c.locals_at-own.ensures in
-    (omega (arith, ap (λ (l : List ℤ). length l) e, few-own a), c.bound_by.ensures.2, c.requires.2)
+    (omega (arith, ap (λ (l : List ℤ). length l) e, few-own a), c.bound_by.ensures.2)
 
 pub continuation_of-next-requires : goal.continuation_of-next-requires
 continuation_of-next-requires c =
@@ -44,4 +44,4 @@ returns c =
     λ m s p b g h.
     let d = c.find_branch-found.ensures.0 m s p b g h in
     let e = own-are h _ d.0 _ c.locals_at-own.ensures in
-    entered h c.args.values c.bound_by.result _ _ c.put_locals-count.result 0 c.continuation_of-next.result c.offer_of-offer.result e c.put_locals-count.ensures.0 (omega (arith, c.put_locals-count.ensures.1, c.requires.2)) (c.bound_by.ensures.0, c.bound_by.ensures.1) (c.offer_of-offer.ensures b d.1) (c.continuation_of-next.ensures b d.1)
+    entered h c.args.values c.bound_by.result _ _ c.put_locals-count.result 0 c.continuation_of-next.result c.offer_of-offer.result e c.put_locals-count.ensures.0 (omega (arith, c.put_locals-count.ensures.1)) (c.bound_by.ensures.0, c.bound_by.ensures.1) (c.offer_of-offer.ensures b d.1) (c.continuation_of-next.ensures b d.1)

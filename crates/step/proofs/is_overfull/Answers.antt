@@ -1,5 +1,5 @@
 -- Only a launch of an unlit pair finds no place: the laws of Pairs.
-use mathlib.Core.Path.{refl, ap, ◌∙◌}
+use mathlib.Core.Path.{ap, ◌∙◌}
 use mathlib.Core.List.{List}
 use native.Mathlib.Omega.{arith}
 use lib.IntN.{ℤ}
@@ -26,7 +26,7 @@ returns-then-n-lt-PAIRS c =
 pub put_pair-requires : goal.put_pair-requires
 put_pair-requires c =
     let x = launching c.args.state.now c.args.offer c.if-kind-ne-LAUNCH.false c.requires.model c.requires.state c.requires.change c.requires.changes in
-    (record { pair = x.pair; shows = x.shows }, refl)
+    record { pair = x.pair; shows = x.shows }
 
 pub slice_bounds-is_lit-count : goal.slice_bounds-is_lit-count
 slice_bounds-is_lit-count c =

@@ -9,7 +9,7 @@ use Rattle.step.proofs.move_both.Goals as goal
 
 pub arguments_given-requires : goal.arguments_given-requires
 arguments_given-requires c =
-    first-continued c.requires.0.4
+    first-continued c.requires.4
 
 pub returns-then-not-arguments_given : goal.returns-then-not-arguments_given
 returns-then-not-arguments_given c =
@@ -17,7 +17,7 @@ returns-then-not-arguments_given c =
 
 pub arguments_given-requires-2 : goal.arguments_given-requires-2
 arguments_given-requires-2 c =
-    second-continued c.requires.0.4
+    second-continued c.requires.4
 
 pub returns-then-not-arguments_given-2 : goal.returns-then-not-arguments_given-2
 returns-then-not-arguments_given-2 c =
@@ -27,15 +27,15 @@ returns-then-not-arguments_given-2 c =
 
 pub process_count-n-requires : goal.process_count-n-requires
 process_count-n-requires c =
-    passed c.requires.0.4.stands
+    passed c.requires.4.stands
 
 pub count_next-count-requires : goal.count_next-count-requires
 count_next-count-requires c =
-    (c.requires.0.0, c.args.locals.now, c.requires.0.2, c.requires.0.4.first)
+    (c.requires.0, c.args.x.locals.now, c.requires.2, c.requires.4.first)
 
 pub count_next-also-requires : goal.count_next-also-requires
 count_next-also-requires c =
-    (c.requires.0.0, c.args.others.now, c.requires.0.3, c.requires.0.4.second)
+    (c.requires.0, c.args.y.locals.now, c.requires.3, c.requires.4.second)
 
 pub overflow_add-n : goal.overflow_add-n
 overflow_add-n c =
@@ -51,50 +51,50 @@ returns-then-n-count c =
     let g = sym (c.arguments_given.ensures ps h.first.shows) ∙ not-false _ c.if-not-arguments_given.false-raw in
     let f = sym (c.arguments_given-2.ensures qs h.second.shows) ∙ not-false _ c.if-not-arguments_given-2.false-raw in
     let a = c.process_count-n.ensures.0 ∙ processes-are h.stands in
-    let d = c.count_next-count.ensures.0 m c.args.locals.now ps h.first in
-    let e = c.count_next-also.ensures.0 m c.args.others.now qs h.second in
-    let k = cut-both (length s.processes) (length (next_processes m c.args.locals.now ps)) (length (next_processes m c.args.others.now qs)) in
+    let d = c.count_next-count.ensures.0 m c.args.x.locals.now ps h.first in
+    let e = c.count_next-also.ensures.0 m c.args.y.locals.now qs h.second in
+    let k = cut-both (length s.processes) (length (next_processes m c.args.x.locals.now ps)) (length (next_processes m c.args.y.locals.now qs)) in
     both-18 h g f (k.0 (omega (arith, a, d, e, c.if-n-count.true)))
 
 pub replace_both-requires : goal.replace_both-requires
 replace_both-requires c =
-    let m = c.requires.0.0 in
-    let s = c.requires.0.1 in
-    let ps = c.requires.0.2 in
-    let qs = c.requires.0.3 in
-    let h = c.requires.0.4 in
+    let m = c.requires.0 in
+    let s = c.requires.1 in
+    let ps = c.requires.2 in
+    let qs = c.requires.3 in
+    let h = c.requires.4 in
     let a = c.process_count-n.ensures.0 ∙ processes-are h.stands in
-    let d = c.count_next-count.ensures.0 m c.args.locals.now ps h.first in
-    let e = c.count_next-also.ensures.0 m c.args.others.now qs h.second in
-    let k = cut-both (length s.processes) (length (next_processes m c.args.locals.now ps)) (length (next_processes m c.args.others.now qs)) in
+    let d = c.count_next-count.ensures.0 m c.args.x.locals.now ps h.first in
+    let e = c.count_next-also.ensures.0 m c.args.y.locals.now qs h.second in
+    let k = cut-both (length s.processes) (length (next_processes m c.args.x.locals.now ps)) (length (next_processes m c.args.y.locals.now qs)) in
     let l = k.1 (omega (arith, a, d, e, c.if-n-count.false)) in
-    ((m, s, ps, qs, in_order h l c.if-i-k.true), c.requires.1)
+    (m, s, ps, qs, in_order h l c.if-x-y.true)
 
-pub returns-then-i-k : goal.returns-then-i-k
-returns-then-i-k c =
+pub returns-then-x-y : goal.returns-then-x-y
+returns-then-x-y c =
     λ m s ps qs h.
     let g = sym (c.arguments_given.ensures ps h.first.shows) ∙ not-false _ c.if-not-arguments_given.false-raw in
     let f = sym (c.arguments_given-2.ensures qs h.second.shows) ∙ not-false _ c.if-not-arguments_given-2.false-raw in
     let a = c.process_count-n.ensures.0 ∙ processes-are h.stands in
-    let d = c.count_next-count.ensures.0 m c.args.locals.now ps h.first in
-    let e = c.count_next-also.ensures.0 m c.args.others.now qs h.second in
-    let k = cut-both (length s.processes) (length (next_processes m c.args.locals.now ps)) (length (next_processes m c.args.others.now qs)) in
+    let d = c.count_next-count.ensures.0 m c.args.x.locals.now ps h.first in
+    let e = c.count_next-also.ensures.0 m c.args.y.locals.now qs h.second in
+    let k = cut-both (length s.processes) (length (next_processes m c.args.x.locals.now ps)) (length (next_processes m c.args.y.locals.now qs)) in
     let l = k.1 (omega (arith, a, d, e, c.if-n-count.false)) in
-    both_yes h g f l _ (c.replace_both.ensures m s ps qs (in_order h l c.if-i-k.true))
+    both_yes h g f l _ (c.replace_both.ensures m s ps qs (in_order h l c.if-x-y.true))
 
 pub replace_both-requires-2 : goal.replace_both-requires-2
 replace_both-requires-2 c =
-    let m = c.requires.0.0 in
-    let s = c.requires.0.1 in
-    let ps = c.requires.0.2 in
-    let qs = c.requires.0.3 in
-    let h = c.requires.0.4 in
+    let m = c.requires.0 in
+    let s = c.requires.1 in
+    let ps = c.requires.2 in
+    let qs = c.requires.3 in
+    let h = c.requires.4 in
     let a = c.process_count-n.ensures.0 ∙ processes-are h.stands in
-    let d = c.count_next-count.ensures.0 m c.args.locals.now ps h.first in
-    let e = c.count_next-also.ensures.0 m c.args.others.now qs h.second in
-    let k = cut-both (length s.processes) (length (next_processes m c.args.locals.now ps)) (length (next_processes m c.args.others.now qs)) in
+    let d = c.count_next-count.ensures.0 m c.args.x.locals.now ps h.first in
+    let e = c.count_next-also.ensures.0 m c.args.y.locals.now qs h.second in
+    let k = cut-both (length s.processes) (length (next_processes m c.args.x.locals.now ps)) (length (next_processes m c.args.y.locals.now qs)) in
     let l = k.1 (omega (arith, a, d, e, c.if-n-count.false)) in
-    ((m, s, qs, ps, turned h l (omega (arith, c.if-i-k.false))), c.requires.1)
+    (m, s, qs, ps, turned h l (omega (arith, c.if-x-y.false)))
 
 pub returns : goal.returns
 returns c =
@@ -102,8 +102,8 @@ returns c =
     let g = sym (c.arguments_given.ensures ps h.first.shows) ∙ not-false _ c.if-not-arguments_given.false-raw in
     let f = sym (c.arguments_given-2.ensures qs h.second.shows) ∙ not-false _ c.if-not-arguments_given-2.false-raw in
     let a = c.process_count-n.ensures.0 ∙ processes-are h.stands in
-    let d = c.count_next-count.ensures.0 m c.args.locals.now ps h.first in
-    let e = c.count_next-also.ensures.0 m c.args.others.now qs h.second in
-    let k = cut-both (length s.processes) (length (next_processes m c.args.locals.now ps)) (length (next_processes m c.args.others.now qs)) in
+    let d = c.count_next-count.ensures.0 m c.args.x.locals.now ps h.first in
+    let e = c.count_next-also.ensures.0 m c.args.y.locals.now qs h.second in
+    let k = cut-both (length s.processes) (length (next_processes m c.args.x.locals.now ps)) (length (next_processes m c.args.y.locals.now qs)) in
     let l = k.1 (omega (arith, a, d, e, c.if-n-count.false)) in
-    both_yes h g f l _ (c.replace_both-2.ensures m s qs ps (turned h l (omega (arith, c.if-i-k.false))) ∙ turned_same h)
+    both_yes h g f l _ (c.replace_both-2.ensures m s qs ps (turned h l (omega (arith, c.if-x-y.false))) ∙ turned_same h)

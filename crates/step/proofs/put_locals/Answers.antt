@@ -1,30 +1,17 @@
 -- Own numbers first, then both values, of which the count says how many are taken.
-use mathlib.Core.Path.{sym, ◌∙◌}
+
 use native.Mathlib.Omega.{arith}
-use lib.ListN.{length-set}
 use Rattle.value.proofs.Kit.{back}
 use Rattle.step.specs.Enter.{values_of}
-use Rattle.step.proofs.Place.{placed-length, placed}
+use Rattle.step.proofs.Place.{placed}
 use Rattle.step.proofs.put_locals.Goals as goal
 
 pub put_first-requires : goal.put_first-requires
 put_first-requires c =
-    omega (arith, c.requires.0, c.requires.2)
-
-pub bounds-locals-n : goal.bounds-locals-n
-bounds-locals-n c =
-    let w = placed-length c.args.own.now c.args.locals.now _ c.put_first.ensures c.requires.0 c.requires.2 in omega (arith, w, c.requires.0)
-
-pub bounds-locals-next : goal.bounds-locals-next
-bounds-locals-next c =
-    let w = placed-length c.args.own.now c.args.locals.now _ c.put_first.ensures c.requires.0 c.requires.2 in simp length-set (omega (arith, w, c.requires.0))
-
-pub shape_of-locals : goal.shape_of-locals
-shape_of-locals c =
-    let w = placed-length c.args.own.now c.args.locals.now _ c.put_first.ensures c.requires.0 c.requires.2 in simp length-set (w ∙ sym c.requires.2)
+    omega (arith, c.requires.0)
 
 pub returns : goal.returns
 unfolding values_of
 returns c =
     let b = c.args.bound in
-    rw (back b.first c.struct_told-2-1.given.1.0.1, back b.second c.struct_told-2-1.given.1.1.0.1) (placed c.args.own.now c.args.locals.now _ c.put_first.ensures c.requires.0 c.requires.2 b.first b.second b.count c.requires.1, omega (arith, c.requires.0, c.requires.1))
+    rw (back b.first c.struct_told-2-1.given.1.0.1, back b.second c.struct_told-2-1.given.1.1.0.1) (placed c.args.own.now c.args.locals.now _ c.put_first.ensures c.requires.0 (omega arith) b.first b.second b.count c.requires.1, omega (arith, c.requires.0, c.requires.1))

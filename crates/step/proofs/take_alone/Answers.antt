@@ -1,5 +1,4 @@
 -- What is entered gives the move its parts; its answer is said of the locals with the names bound.
-use mathlib.Core.Path.{refl}
 use native.Mathlib.Omega.{arith}
 use lib.ListN.{length-take}
 use Rattle.step.proofs.Entry.{acts-of, alone_of, alone-answers}
@@ -7,53 +6,53 @@ use Rattle.step.proofs.take_alone.Goals as goal
 
 pub pair_values-values-requires : goal.pair_values-values-requires
 pair_values-values-requires c =
-    (c.requires.0.0, c.requires.0.1, c.requires.0.5.lent.stands)
+    (c.requires.0, c.requires.1, c.requires.5.lent.stands)
 
 pub enter-entered-requires : goal.enter-entered-requires
 enter-entered-requires c =
-    let m = c.requires.0.0 in
-    let s = c.requires.0.1 in
-    let p = c.requires.0.2 in
-    let b = c.requires.0.3 in
-    let g = c.requires.0.4 in
-    let h = c.requires.0.5 in
-    (record { model = m; state = s; process = p; branch = b; guard = g; acts = acts-of h }, c.pair_values-values.ensures.1, refl)
+    let m = c.requires.0 in
+    let s = c.requires.1 in
+    let p = c.requires.2 in
+    let b = c.requires.3 in
+    let g = c.requires.4 in
+    let h = c.requires.5 in
+    (record { model = m; state = s; process = p; branch = b; guard = g; acts = acts-of h }, c.pair_values-values.ensures.1)
 
 pub slice_bounds-locals-end : goal.slice_bounds-locals-end
 slice_bounds-locals-end c =
-    let m = c.requires.0.0 in
-    let s = c.requires.0.1 in
-    let p = c.requires.0.2 in
-    let b = c.requires.0.3 in
-    let g = c.requires.0.4 in
-    let h = c.requires.0.5 in
+    let m = c.requires.0 in
+    let s = c.requires.1 in
+    let p = c.requires.2 in
+    let b = c.requires.3 in
+    let g = c.requires.4 in
+    let h = c.requires.5 in
     let w = c.enter-entered.ensures m s p b g (acts-of h) in
     let v = c.pair_values-values.ensures.0 m s h.lent.stands in
     omega (arith, w.few)
 
-pub slice_bounds-move_alone-end : goal.slice_bounds-move_alone-end
-slice_bounds-move_alone-end c =
-    let m = c.requires.0.0 in
-    let s = c.requires.0.1 in
-    let p = c.requires.0.2 in
-    let b = c.requires.0.3 in
-    let g = c.requires.0.4 in
-    let h = c.requires.0.5 in
+pub slice_bounds-successor-end : goal.slice_bounds-successor-end
+slice_bounds-successor-end c =
+    let m = c.requires.0 in
+    let s = c.requires.1 in
+    let p = c.requires.2 in
+    let b = c.requires.3 in
+    let g = c.requires.4 in
+    let h = c.requires.5 in
     let w = c.enter-entered.ensures m s p b g (acts-of h) in
     let v = c.pair_values-values.ensures.0 m s h.lent.stands in
     simp length-take (omega (arith, w.few))
 
 pub move_alone-requires : goal.move_alone-requires
 move_alone-requires c =
-    let m = c.requires.0.0 in
-    let s = c.requires.0.1 in
-    let p = c.requires.0.2 in
-    let b = c.requires.0.3 in
-    let g = c.requires.0.4 in
-    let h = c.requires.0.5 in
+    let m = c.requires.0 in
+    let s = c.requires.1 in
+    let p = c.requires.2 in
+    let b = c.requires.3 in
+    let g = c.requires.4 in
+    let h = c.requires.5 in
     let w = c.enter-entered.ensures m s p b g (acts-of h) in
     let v = c.pair_values-values.ensures.0 m s h.lent.stands in
-    ((m, s, b.next, _, alone_of h _ v _ _ w), c.requires.1)
+    (m, s, b.next, _, alone_of h _ v _ _ w)
 
 pub returns : goal.returns
 returns c =

@@ -7,7 +7,7 @@ use Rattle.walk.specs.Hunted.{gone, or_else, hunt_from}
 use Rattle.walk.specs.Held.{Held, Stands, Lists}
 use mathlib.Core.Path.{◌≡◌}
 use mathlib.Core.List.{List}
-use Prim.Native.Nat.{◌+◌, ◌-◌, ◌*◌}
+use Prim.Native.Nat.{◌+◌, ◌*◌}
 use lib.ListN.{length, take}
 use Rattle.walk.proofs.+seek_try_all_try_entry.Given as goal
 

@@ -1,5 +1,5 @@
 -- The first row, and its copy over the second.
-use Rattle.std.proofs.Common.{◌≡◌, ◌∙◌, List, ◌++◌, sym, ap, append_assoc, length-take, take, drop, arith}
+use Rattle.std.proofs.Common.{◌∙◌, List, ◌++◌, sym, ap, append_assoc, length-take, take, drop, arith}
 use lib.IntN.{ℤ}
 use lib.Seq.{drop-drop}
 use Rattle.walk.proofs.copy_row.Goals as goal

@@ -9,7 +9,7 @@ use Rattle.std.specs.Prelude.{Some}
 use Rattle.value.proofs.Kit.{back}
 use Rattle.tree.specs.Node.{kind_of, token_of}
 use Rattle.machine.specs.Evaluate.{valued}
-use Rattle.rules.specs.Pairs.{item_kind, item_value}
+use Rattle.eval.specs.declared.channel.Item.TheVariants.{Name}
 use Rattle.eval.specs.Channels.{item_of}
 use Rattle.eval.proofs.Channels.{name-is, number-part, number_is}
 use Rattle.eval.proofs.channel.item_of.Goals as goal
@@ -26,7 +26,7 @@ returns-then-kind_of-eq-NAME c =
     let k = c.args.k in
     let is = c.kind_of.ensures ∙ ap kind_of c.cell_at-cell.ensures in
     let e = to_z_pos w64 {n = c.token_of-n.result} (omega (arith, c.token_of-n.ensures)) ∙ ap pos (c.token_of-n.ensures ∙ ap token_of c.cell_at-cell.ensures) in
-    (λ x h. ap (λ (z : ℤ). Some (record { kind = 1; value = z })) e ∙ name-is T k c.kind_of.result is L c.if-kind_of-eq-NAME.true x h, omega arith)
+    λ x h. ap (λ (z : ℤ). Some (Name z)) e ∙ name-is T k c.kind_of.result is L c.if-kind_of-eq-NAME.true x h
 
 pub eval_node-requires : goal.eval_node-requires
 eval_node-requires c =
@@ -37,14 +37,14 @@ eval_node-requires c =
     (number-part T k c.kind_of.result is c.if-kind_of-eq-NAME.false c.requires.0.0 (length L) c.requires.0.1, c.requires.1)
 
 pub returns : goal.returns
-unfolding valued item_of item_kind item_value
+unfolding valued item_of
 returns c =
     let T = c.args.nodes.now in
     let L = c.args.locals.now in
     let k = c.args.k in
     let is = c.kind_of.ensures ∙ ap kind_of c.cell_at-cell.ensures in
     let d = back c.in_ok-value.value (omega arith) in
-    (λ y h. simp d (rw c.in_ok-value.was at (number_is T k c.kind_of.result is c.if-kind_of-eq-NAME.false L c.eval_node.result c.eval_node.ensures y h)), omega arith)
+    λ y h. simp d (rw c.in_ok-value.was at (number_is T k c.kind_of.result is c.if-kind_of-eq-NAME.false L c.eval_node.result c.eval_node.ensures y h))
 
 pub returns-in_err-value : goal.returns-in_err-value
 unfolding valued item_of
@@ -53,4 +53,4 @@ returns-in_err-value c =
     let L = c.args.locals.now in
     let k = c.args.k in
     let is = c.kind_of.ensures ∙ ap kind_of c.cell_at-cell.ensures in
-    rw c.from_residual.ensures (λ y h. rw c.in_err-value.was at (number_is T k c.kind_of.result is c.if-kind_of-eq-NAME.false L c.eval_node.result c.eval_node.ensures y h), tt)
+    rw c.from_residual.ensures (λ y h. rw c.in_err-value.was at (number_is T k c.kind_of.result is c.if-kind_of-eq-NAME.false L c.eval_node.result c.eval_node.ensures y h))

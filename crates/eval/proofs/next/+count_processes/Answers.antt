@@ -3,7 +3,7 @@ use Prim.Native.Nat.{◌-◌}
 use lib.ListN.{get_or}
 use native.Mathlib.Omega.{arith}
 use Rattle.tree.specs.Node.{kind_of, token_of, left_of}
-use Rattle.eval.proofs.Continuations.{group-some, group-counts, items-some, counts-most, items-count, sum-counts, some-body, call-counts}
+use Rattle.eval.proofs.Continuations.{group-some, group-counts, items-some, counts-most, items-count, sum-counts, some-body, call-counts, least}
 use Rattle.eval.proofs.next.+count_processes.Goals as goal
 
 pub overflow_sub-k : goal.overflow_sub-k
@@ -93,7 +93,7 @@ returns-then-kind-eq-ITEM t c =
     let k = s.args.k in
     let is = c.kind_of-kind.ensures ∙ ap kind_of c.cell_at-cell.ensures in
     let e = c.left_of.ensures ∙ ap left_of c.cell_at-cell.ensures in
-    items-count T R N k c.kind_of-kind.result is c.count_processes-a.result c.count_processes-b.result c.cut.result c.if-kind-eq-ITEM.true (rw e at c.count_processes-a.ensures) c.count_processes-b.ensures c.cut.ensures
+    items-count T R N k c.kind_of-kind.result is c.count_processes-a.result c.count_processes-b.result c.min.result c.if-kind-eq-ITEM.true (rw e at c.count_processes-a.ensures) c.count_processes-b.ensures (c.min.ensures ∙ least _)
 
 pub returns-then-kind-eq-SUM : goal.returns-then-kind-eq-SUM
 returns-then-kind-eq-SUM t c =
@@ -138,4 +138,4 @@ returns t c =
     let k = s.args.k in
     let is = c.kind_of-kind.ensures ∙ ap kind_of c.cell_at-cell.ensures in
     let o = c.token_of.ensures ∙ ap token_of c.cell_at-cell.ensures in
-    rw c.cut-2.ensures (call-counts T R N k c.kind_of-kind.result is c.if-kind-eq-GROUP.false c.if-kind-eq-ITEM.false c.if-kind-eq-SUM.false c.count_sums.result (rw (c.body_of.ensures, o) at c.count_sums.ensures.0))
+    rw (c.min-2.ensures ∙ least _) (call-counts T R N k c.kind_of-kind.result is c.if-kind-eq-GROUP.false c.if-kind-eq-ITEM.false c.if-kind-eq-SUM.false c.count_sums.result (rw (c.body_of.ensures, o) at c.count_sums.ensures.0))

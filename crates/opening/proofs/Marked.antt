@@ -14,9 +14,11 @@ use Rattle.token.proofs.Marks.{column-length}
 use Rattle.token.proofs.Tiles.{tiled}
 use Rattle.model.specs.Words.{nth, word_of}
 use Rattle.tables.specs.Spelled.{Spells}
-use Rattle.opening.specs.Marked.{Marked, TreeMarked, ModelMarked}
+use Rattle.opening.specs.declared.SoundTree.{SoundTree}
+use Rattle.opening.specs.Sound.{SoundOr}
+use Rattle.opening.specs.Marked.{Marked, TreeMarked, SoundMarked, ModelMarked}
 
--- ---- the returns of `read_tokens`, `read_tree` and `read_model`
+-- ---- the returns of `read_tokens`, `read_tree`, `read_sound` and `read_model`
 
 pub filled-marked : {text kinds₀ places₀ sizes₀ : List ℕ} {n : ℕ} {kinds places sizes : List ℕ} → Filled text kinds₀ places₀ sizes₀ n kinds places sizes → Marked text places₀ sizes₀ places sizes
 filled-marked {text} {kinds₀} {places₀} {sizes₀} f =
@@ -29,6 +31,10 @@ module _ (text places sizes places' sizes' : List ℕ) where
   pub tree-unmarked : (r : Refusal) → TreeMarked text places sizes places' sizes' (Err r)
   unfolding TreeMarked
   tree-unmarked r = tt
+
+  pub sound-unmarked : (r : Refusal) → SoundMarked text places sizes places' sizes' (Err r)
+  unfolding SoundMarked
+  sound-unmarked r = tt
 
   pub model-unmarked : (r : Refusal) → ModelMarked text places sizes places' sizes' (Err r)
   unfolding ModelMarked
@@ -43,6 +49,15 @@ module _ {text places sizes places' sizes' : List ℕ} where
   pub fits-marked : {r : Tree} {root n : ℕ} → TreeMarked text places sizes places' sizes' r → r ≡ Ok (root, n) → Marked text places sizes places' sizes'
   unfolding TreeMarked
   fits-marked m e = rw e at m
+
+  pub sound-marked : (r : SoundOr) → Marked text places sizes places' sizes' → SoundMarked text places sizes places' sizes' r
+  unfolding SoundMarked
+  sound-marked (Err r) m = tt
+  sound-marked (Ok t) m = m
+
+  pub names-marked : {r : SoundOr} {t : SoundTree} → SoundMarked text places sizes places' sizes' r → r ≡ Ok t → Marked text places sizes places' sizes'
+  unfolding SoundMarked
+  names-marked m e = rw e at m
 
   pub model-marked : (r : Held) → Marked text places sizes places' sizes' → ModelMarked text places sizes places' sizes' r
   unfolding ModelMarked

@@ -1,4 +1,4 @@
--- The returns of `settle_tree`, `read_model` and `open_text`, over plain variables: the model of a text, and question 10.
+-- The returns of `read_sound`, `settle_sound`, `read_model` and `open_text`, over plain variables: the model of a text, and question 10.
 use mathlib.Core.Path.{◌≡◌, refl, sym, ap, ◌∙◌}
 use mathlib.Core.List.{List, [], ◌∷◌}
 use Prim.Native.Nat.{ℕ, ◌-◌, ◌≤◌, ◌<◌}
@@ -18,43 +18,55 @@ use Rattle.model.specs.Opening.{process_limit, refused, byte_place, start_proces
 use Rattle.model.proofs.Held.{held-good}
 use Rattle.opening.specs.Counts.{Countable, Counts}
 use Rattle.opening.specs.Trees.{Closed, Fitted, TreeRead, Tree}
-use Rattle.opening.specs.Sound.{Sound, NamesJudged, Named}
+use Rattle.opening.specs.declared.SoundTree.{SoundTree}
+use Rattle.opening.specs.Sound.{NamesJudged, Named, SoundHeld, SoundOr, SoundRead}
 use Rattle.opening.specs.Models.{Shown, Rooted, ModelHeld, ModelRead, Opens, Held}
 use Rattle.opening.proofs.Judges.{asks-ten, holds-model}
 use Rattle.opening.proofs.Resolves.{got-below, yes5}
 use Rattle.settle.specs.declared.Model.{Model}
 use Rattle.settle.specs.Settles.{Settles}
 
--- ---- 7 to 9
-module _ {text : List ℕ} {s : Syntax.Model} {kinds places low high nodes : List ℕ} {root n : ℕ} (f : Fitted text s kinds places low high nodes root n) where
-  module _ {j : Named} (d : NamesJudged text s j) where
-    pub named-no : (nodes' roots scopes : List ℕ) {r : Refusal} → j ≡ Err r → ModelRead text nodes' roots scopes (Err r)
-    unfolding NamesJudged ModelRead
-    named-no nodes' roots scopes e = rw e at d
-
-    pub named-sound : {p : ℕ} → j ≡ Ok p → Sound text s
-    unfolding NamesJudged
-    named-sound e = let b = rw e at d in b.0
-
-    named-place : {p : ℕ} → j ≡ Ok p → p ≡ byte_place text (system_token (system s))
-    unfolding NamesJudged
-    named-place e = let b = rw e at d in b.1
-
-    pub named-yes : {nodes' roots scopes : List ℕ} {x : Model} {p : ℕ} → j ≡ Ok p → Shown nodes' roots scopes x (resolved (word_of text) s) → Rooted x → Settles (word_of text) s nodes' roots scopes x → ModelRead text nodes' roots scopes (Ok (x, p))
-    unfolding ModelRead resolved
-    named-yes e h r t =
-        let v = named-sound e in
-        record { tree = s; model = resolved (word_of text) s; holds = holds-model f v; worded = refl; opens = asks-ten f v; shown = h; written = record { fits = yes5 f v; settles = t }; rooted = r; place_is = named-place e }
-
--- ---- 2 to 9
-module _ (text kinds places low high nodes : List ℕ) (r : Tree) (d : TreeRead text kinds places low high nodes r) where
-  pub tree-no : (nodes' roots scopes : List ℕ) {q : Refusal} → r ≡ Err q → ModelRead text nodes' roots scopes (Err q)
-  unfolding TreeRead ModelRead
-  tree-no nodes' roots scopes e = rw e at d
+-- ---- 2 to 6
+module _ (text kinds places low high nodes : List ℕ) {r : Tree} (d : TreeRead text kinds places low high nodes r) where
+  pub tree-no : {q : Refusal} → r ≡ Err q → SoundRead text kinds places low high nodes (Err q)
+  unfolding TreeRead SoundRead
+  tree-no e = rw e at d
 
   pub tree-fits : {root n : ℕ} → r ≡ Ok (root, n) → (s : Syntax.Model) × Fitted text s kinds places low high nodes root n
   unfolding TreeRead
   tree-fits e = rw e at d
+
+-- ---- 7 to 9
+module _ {text : List ℕ} {s : Syntax.Model} {kinds places low high nodes : List ℕ} {root n : ℕ} (f : Fitted text s kinds places low high nodes root n) {j : Named} (d : NamesJudged text s j) where
+  pub named-no : {r : Refusal} → j ≡ Err r → SoundRead text kinds places low high nodes (Err r)
+  unfolding NamesJudged SoundRead
+  named-no e = rw e at d
+
+  pub named-yes : {p : ℕ} → j ≡ Ok p → SoundRead text kinds places low high nodes (Ok (record { root = root; n = n; place = p }))
+  unfolding NamesJudged SoundRead
+  named-yes e = let b = rw e at d in (s, record { fitted = f; sound = b.0; place-is = b.1 })
+
+-- ---- 2 to 9
+module _ (text kinds places low high nodes : List ℕ) {r : SoundOr} (d : SoundRead text kinds places low high nodes r) where
+  pub sound-no : (nodes' roots scopes : List ℕ) {q : Refusal} → r ≡ Err q → ModelRead text nodes' roots scopes (Err q)
+  unfolding SoundRead ModelRead
+  sound-no nodes' roots scopes e = rw e at d
+
+  pub sound-tree : {t : SoundTree} → r ≡ Ok t → (s : Syntax.Model) × SoundHeld text s kinds places low high nodes t
+  unfolding SoundRead
+  sound-tree e = rw e at d
+
+-- the model of a sound text
+pub sound-model : {text : List ℕ} {s : Syntax.Model} {kinds places low high nodes : List ℕ} {t : SoundTree} → SoundHeld text s kinds places low high nodes t → {nodes' roots scopes : List ℕ} {x : Model} → Shown nodes' roots scopes x (resolved (word_of text) s) → Rooted x → Settles (word_of text) s nodes' roots scopes x → ModelHeld text nodes' roots scopes x t.place
+unfolding resolved
+sound-model {text} {s} h i r t =
+    let f = h.fitted in
+    let v = h.sound in
+    record { tree = s; model = resolved (word_of text) s; holds = holds-model f v; worded = refl; opens = asks-ten f v; shown = i; written = record { fits = yes5 f v; settles = t }; rooted = r; place_is = h.place-is }
+
+pub model-read : {text nodes roots scopes : List ℕ} {x : Model} {p : ℕ} → ModelHeld text nodes roots scopes x p → ModelRead text nodes roots scopes (Ok (x, p))
+unfolding ModelRead
+model-read h = h
 
 -- ---- 10
 module _ (text nodes roots scopes : List ℕ) (r : Held) (d : ModelRead text nodes roots scopes r) where

@@ -1,23 +1,12 @@
 -- What reading a text's tree answers: questions 2 to 6 (01, Opening a text). Assumes nothing: these are definitions.
-use Rattle.std.specs.Prelude.{◌≡◌, List, ℕ, ◌≤◌, ◌<◌, length, take, Err, Ok, Result}
+use Rattle.std.specs.Prelude.{◌≡◌, List, ℕ, ◌<◌, length, take, Err, Ok, Result}
 use Rattle.std.proofs.Math.Option.{none}
 use Rattle.token.specs.Token.{tokens, places_of}
 use Rattle.token.specs.declared.Refusal.{Refusal}
-use Rattle.token.specs.Questions.{text_limit}
-use Rattle.grammar.specs.Limit.{token_limit}
 use Rattle.grammar.specs.Syntax
 use Rattle.model.specs.Opening.{refused, tree_judged, opening}
 use Rattle.model.specs.Held.{tree_held, model_in, held}
 use Rattle.names.specs.Tables.{Read}
-
--- tables with room for every text that questions 2 and 6 let through
-pub record Room (kinds places sizes low high nodes : List ℕ) : Type 0 where
-  pub kinds-room : text_limit ≤ length kinds
-  pub places-room : text_limit ≤ length places
-  pub sizes-room : text_limit ≤ length sizes
-  pub low-room : token_limit ≤ length low
-  pub high-room : token_limit ≤ length high
-  pub nodes-room : token_limit ≤ length nodes
 
 -- a table begins with the places of the text's n tokens
 pub record Placed (text places : List ℕ) (n : ℕ) : Type 0 where

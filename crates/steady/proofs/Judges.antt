@@ -1,4 +1,4 @@
--- The returns of `judge_steady`, `settle_steady` and `open_steady`, over plain variables: 29 of a text that fits, after 10. From what opening under the profile comes to.
+-- The returns of `offender` and `open_under`, over plain variables: 29 of a sound text, after 10. From what opening under a profile comes to.
 use mathlib.Core.Path.{◌≡◌, refl, sym, ap, ◌∙◌}
 use mathlib.Core.List.{List}
 use Prim.Native.Nat.{ℕ}
@@ -8,12 +8,12 @@ use Rattle.token.specs.Questions.{Found, refusal}
 use Rattle.token.specs.Token.{tokens}
 use Rattle.grammar.specs.Syntax
 use Rattle.model.specs.Lists.{least}
+use Rattle.model.specs.Resolved
 use Rattle.model.specs.Words.{word_of}
 use Rattle.model.specs.Limits.{words_beyond, tree_beyond, beyond}
 use Rattle.model.specs.Opening.{refused, opened, byte_place, asked, opening}
 use Rattle.model.specs.Questions.{Yes5}
 use Rattle.profile.specs.Unsteady.{unsteady}
-use Rattle.profile.specs.Opening.{opening_steady}
 use Rattle.profile.proofs.Asks.{refused-so, opened-asks}
 use Rattle.names.specs.declared.Question.TheVariants.{Given}
 use Rattle.names.specs.declared.Lists.{Lists}
@@ -22,48 +22,51 @@ use Rattle.names.specs.Settings.{World}
 use Rattle.names.proofs.Earliest.{least-append, nothing-first}
 use Rattle.names.proofs.Grounds.{world}
 use Rattle.settle.specs.declared.Model.{Model}
-use Rattle.opening.specs.Trees.{Closed, Fitted, TreeRead, Tree}
-use Rattle.opening.specs.Sound.{Sound, NamesJudged, Named}
+use Rattle.opening.specs.Trees.{Closed, Fitted}
+use Rattle.opening.specs.Sound.{Sound, SoundOr, SoundRead}
 use Rattle.opening.specs.Models.{ModelOpened, Opens, Opened}
 use Rattle.steady.specs.declared.Profile.{Profile}
 use Rattle.steady.specs.declared.Profile.TheVariants.{Plain, Steady}
-use Rattle.steady.specs.Opens.{OpensSteady, opening_under, OpensUnder}
+use Rattle.steady.specs.Opens.{offender_under, opening_under, OpensUnder}
 
--- ---- 2 to 9
-module _ (text nodes roots scopes : List ℕ) where
-  refused-steady : {q : Refusal} → opening text ≡ refused q.number q.place → OpensSteady text nodes roots scopes (Err q)
-  unfolding OpensSteady
-  refused-steady e = refused-so text e
+-- what 2 to 10 refuse, each profile refuses
+refused-under : (p : Profile) (text : List ℕ) {n q : ℕ} → opening text ≡ refused n q → opening_under p text ≡ refused n q
+unfolding opening_under
+refused-under Plain text e = e
+refused-under Steady text e = refused-so text e
 
-  pub tree-no : (kinds places low high table : List ℕ) {r : Tree} {q : Refusal} → TreeRead text kinds places low high table r → r ≡ Err q → OpensSteady text nodes roots scopes (Err q)
-  unfolding TreeRead
-  tree-no kinds places low high table {r} {q} d e = let c : Closed text q.number q.place = rw e at d in refused-steady c.opens
-
-  pub named-no : (s : Syntax.Model) {j : Named} {q : Refusal} → NamesJudged text s j → j ≡ Err q → OpensSteady text nodes roots scopes (Err q)
-  unfolding NamesJudged
-  named-no s {j} {q} d e = let c : Closed text q.number q.place = rw e at d in refused-steady c.opens
+module _ (p : Profile) (text : List ℕ) where
+  -- ---- 2 to 9
+  pub sound-no : (nodes roots scopes kinds places low high table : List ℕ) {r : SoundOr} {q : Refusal} → SoundRead text kinds places low high table r → r ≡ Err q → OpensUnder p text nodes roots scopes (Err q)
+  unfolding SoundRead OpensUnder
+  sound-no nodes roots scopes kinds places low high table {r} {q} d e = let c : Closed text q.number q.place = rw e at d in refused-under p text c.opens
 
   -- ---- 10, then 29
-  module _ {o : Opened} (d : Opens text nodes roots scopes o) where
-    pub start-no : {q : Refusal} → o ≡ Err q → OpensSteady text nodes roots scopes (Err q)
-    unfolding Opens
-    start-no e = refused-steady (rw e at d)
+  module _ (nodes roots scopes : List ℕ) {o : Opened} (d : Opens text nodes roots scopes o) where
+    pub start-no : {q : Refusal} → o ≡ Err q → OpensUnder p text nodes roots scopes (Err q)
+    unfolding Opens OpensUnder
+    start-no {q} e = let c : opening text ≡ refused q.number q.place = rw e at d in refused-under p text c
 
-    module _ {s : Syntax.Model} {f : Found} (y : Yes5 text s) (is : f ≡ least (unsteady (word_of text) s)) {x : Model} {c : ℕ} (e : o ≡ Ok (x, c)) where
+    module _ {s : Syntax.Model} {f : Found} (y : Yes5 text s) (is : f ≡ offender_under p text s) {x : Model} {c : ℕ} (e : o ≡ Ok (x, c)) where
       model-opened : ModelOpened text nodes roots scopes x c
       unfolding Opens
       model-opened = rw e at d
 
-      asks : opening_steady text ≡ asked text 29 f (opened model-opened.model)
-      asks = opened-asks text y model-opened.opens ∙ ap (λ (g : Found). asked text 29 g (opened model-opened.model)) (sym is)
+      asks-under : (q : Profile) (m : Resolved.Model) → opening text ≡ opened m → opening_under q text ≡ asked text 29 (offender_under q text s) (opened m)
+      unfolding opening_under offender_under asked
+      asks-under Plain m i = i
+      asks-under Steady m i = opened-asks text y i
 
-      pub offends : {k p : ℕ} → f ≡ Some k → p ≡ byte_place text k → OpensSteady text nodes roots scopes (Err (refusal 29 p))
-      unfolding OpensSteady asked
+      asks : opening_under p text ≡ asked text 29 f (opened model-opened.model)
+      asks = asks-under p model-opened.model model-opened.opens ∙ ap (λ (g : Found). asked text 29 g (opened model-opened.model)) (sym is)
+
+      pub offends : {k b : ℕ} → f ≡ Some k → b ≡ byte_place text k → OpensUnder p text nodes roots scopes (Err (refusal 29 b))
+      unfolding OpensUnder asked
       offends q r = asks ∙ ap (λ (g : Found). asked text 29 g (opened model-opened.model)) q ∙ ap (refused 29) (sym r)
 
-      pub steady : f ≡ None → OpensSteady text nodes roots scopes (Ok (x, c))
-      unfolding OpensSteady asked
-      steady q = record { plain = model-opened; steady = asks ∙ ap (λ (g : Found). asked text 29 g (opened model-opened.model)) q }
+      pub passes : f ≡ None → OpensUnder p text nodes roots scopes (Ok (x, c))
+      unfolding OpensUnder asked
+      passes q = record { plain = model-opened; opens = asks ∙ ap (λ (g : Found). asked text 29 g (opened model-opened.model)) q }
 
 -- ---- the tables of a text that fits and is sound can be searched
 module _ {text : List ℕ} {s : Syntax.Model} {kinds places low high nodes : List ℕ} {root n : ℕ} (f : Fitted text s kinds places low high nodes root n) (v : Sound text s) {lists : Lists} (g : Gathered s root lists) where
@@ -80,14 +83,12 @@ module _ {text : List ℕ} {s : Syntax.Model} {kinds places low high nodes : Lis
   unfolding world
   found-so h = h (world f.read Given (λ a. short) lists g _ refl)
 
--- ---- the cases of `open_under`
-module _ (text nodes roots scopes : List ℕ) {p : Profile} where
-  pub under-plain : p ≡ Plain → (r : Opened) → Opens text nodes roots scopes r → OpensUnder p text nodes roots scopes r
-  unfolding Opens OpensUnder opening_under
-  under-plain e (Err r) o = rw e o
-  under-plain e (Ok (x, k)) o = record { plain = o; opens = rw e o.opens }
+-- ---- the cases of `offender`
+module _ {p : Profile} (text : List ℕ) (s : Syntax.Model) where
+  pub plain-none : p ≡ Plain → None ≡ offender_under p text s
+  unfolding offender_under
+  plain-none e = rw e refl
 
-  pub under-steady : p ≡ Steady → (r : Opened) → OpensSteady text nodes roots scopes r → OpensUnder p text nodes roots scopes r
-  unfolding OpensSteady OpensUnder opening_under
-  under-steady e (Err r) o = rw e o
-  under-steady e (Ok (x, k)) o = record { plain = o.plain; opens = rw e o.steady }
+  pub steady-first : {r : Found} → p ≡ Steady → r ≡ least (unsteady (word_of text) s) → r ≡ offender_under p text s
+  unfolding offender_under
+  steady-first e i = rw e i

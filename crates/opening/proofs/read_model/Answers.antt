@@ -1,23 +1,28 @@
--- A case for each return, from Models.antt: the tree is refused, or its names are asked.
+-- A case for each return, from Models.antt: a no to 2 to 9, or the text's model.
 use Rattle.std.proofs.lemmas.Result.{err_from_is_err_and}
-use Rattle.opening.proofs.Marked.{fits-marked, model-unmarked, model-marked}
-use Rattle.opening.proofs.Models.{tree-no, tree-fits}
+use Rattle.opening.proofs.Marked.{names-marked, model-unmarked, model-marked}
+use Rattle.opening.proofs.Models.{sound-no, sound-tree, model-read}
 use Rattle.opening.proofs.read_model.Goals as goal
 
-pub settle_tree-requires : goal.settle_tree-requires
-settle_tree-requires c =
-    record { fitted = tree-fits _ _ _ _ _ _ _ c.read_tree.ensures.tree_read c.in_ok-root.was; sum_room = c.requires.sum_room }
+pub settle_sound-model-requires : goal.settle_sound-model-requires
+settle_sound-model-requires c =
+    let h = sound-tree _ _ _ _ _ _ c.read_sound.ensures.sound_read c.in_ok-tree.was in
+    (_, h.0, h.1)
 
-pub returns-in_err-root-clause-model_read : goal.returns-in_err-root-clause-model_read
-returns-in_err-root-clause-model_read c =
+pub returns-in_err-tree-clause-model_read : goal.returns-in_err-tree-clause-model_read
+returns-in_err-tree-clause-model_read c =
     let p = err_from_is_err_and c.from_residual.result c.from_residual.ensures.1 in
-    rw (p.1, p.2) (tree-no _ _ _ _ _ _ _ c.read_tree.ensures.tree_read _ _ _ c.in_err-root.was)
+    rw (p.1, p.2) (sound-no _ _ _ _ _ _ c.read_sound.ensures.sound_read _ _ _ c.in_err-tree.was)
 
-pub returns-in_err-root-clause-model_marked : goal.returns-in_err-root-clause-model_marked
-returns-in_err-root-clause-model_marked c =
+pub returns-in_err-tree-clause-model_marked : goal.returns-in_err-tree-clause-model_marked
+returns-in_err-tree-clause-model_marked c =
     let p = err_from_is_err_and c.from_residual.result c.from_residual.ensures.1 in
     rw p.1 (model-unmarked _ _ _ _ _ _)
 
 pub returns : goal.returns
 returns c =
-    record { model_read = c.settle_tree.ensures; model_marked = model-marked _ (fits-marked c.read_tree.ensures.tree_marked c.in_ok-root.was) }
+    let h = sound-tree _ _ _ _ _ _ c.read_sound.ensures.sound_read c.in_ok-tree.was in
+    record {
+      model_read = model-read (c.settle_sound-model.ensures.held _ h.0 h.1);
+      model_marked = rw (c.settle_sound-model.ensures.marked.0, c.settle_sound-model.ensures.marked.1) (model-marked _ (names-marked c.read_sound.ensures.sound_marked c.in_ok-tree.was));
+    }

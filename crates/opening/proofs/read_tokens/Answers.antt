@@ -1,28 +1,26 @@
--- A case for each return, from Trees.antt; the tables that were filled have room for what the calls read.
+-- A case for each return, from Trees.antt; the text's length has room in the tables.
 use native.Mathlib.Omega.{arith}
-use lib.ListN.{length-take}
+use lib.ListN.{length, length-take}
+use mathlib.Core.Path.{◌≡◌}
+use borrow.Author.Rules.{rules}
 use Rattle.token.proofs.Tells.{filled-held}
 use Rattle.token.proofs.Up.{token-count}
-use Rattle.opening.proofs.Places.{passed-short, filled-kinds, filled-placed}
+use Rattle.opening.proofs.Places.{passed-short, filled-placed}
 use Rattle.opening.proofs.Marked.{filled-marked}
 use Rattle.opening.proofs.Trees.{fit-few, misfit-no, crowded-no, fits-yes}
 use Rattle.opening.proofs.read_tokens.Goals as goal
 
 pub fill-n-requires : goal.fill-n-requires
 fill-n-requires c =
-    let l = passed-short _ c.requires.value in record { text_len_bound = l; text_in_bounds = (omega (arith, c.requires.room), omega (arith, c.requires.room), omega (arith, c.requires.room)) }
-
-pub slice_bounds-judge_text-end : goal.slice_bounds-judge_text-end
-slice_bounds-judge_text-end c =
-    filled-kinds c.fill-n.ensures
-
-pub slice_bounds-judge_text-end-2 : goal.slice_bounds-judge_text-end-2
-slice_bounds-judge_text-end-2 c =
-    simp length-take (omega (arith, filled-kinds c.fill-n.ensures))
+    let l = passed-short _ c.requires in
+    let a : length c.args.space.now.kinds ≡ 16384 = search rules in
+    let b : length c.args.space.now.places ≡ 16384 = search rules in
+    let d : length c.args.space.now.sizes ≡ 16384 = search rules in
+    record { text_len_bound = l; text_in_bounds = (omega arith, omega arith, omega arith) }
 
 pub judge_text-asked-requires : goal.judge_text-asked-requires
 judge_text-asked-requires c =
-    simp length-take (omega (arith, c.fill-n.ensures.count, token-count c.args.text.now, passed-short c.args.text.now c.requires.value))
+    simp length-take (omega (arith, c.fill-n.ensures.count, token-count c.args.text.now, passed-short c.args.text.now c.requires))
 
 pub byte_place-requires : goal.byte_place-requires
 byte_place-requires c =
@@ -34,16 +32,23 @@ byte_place-requires-in-Err-Crowded c =
 
 pub contents-requires : goal.contents-requires
 contents-requires c =
-    let n = fit-few c.fill-n.ensures _ _ c.judge_text-asked.ensures c.in-Ok.is in record { held = filled-held c.fill-n.ensures; n_in_bounds = (omega (arith, c.requires.room), omega (arith, c.requires.room)) }
+    let n = fit-few c.fill-n.ensures _ _ c.judge_text-asked.ensures c.in-Ok.is in
+    let a : length c.args.space.now.contents ≡ 4096 = search rules in
+    record { held = filled-held c.fill-n.ensures; n_in_bounds = omega arith }
 
 pub returns-in-Err-Misfit : goal.returns-in-Err-Misfit
 returns-in-Err-Misfit c =
-    record { tree_read = misfit-no c.fill-n.ensures _ _ c.judge_text-asked.ensures c.requires.value _ _ c.in-Err-Misfit.is (rw c.in-Err-Misfit.is at c.in-Err-Misfit.field-0-is) c.byte_place.ensures; marked = filled-marked c.fill-n.ensures }
+    record { tree_read = misfit-no c.fill-n.ensures _ _ c.judge_text-asked.ensures c.requires _ _ c.in-Err-Misfit.is (rw c.in-Err-Misfit.is at c.in-Err-Misfit.field-0-is) c.byte_place.ensures; marked = filled-marked c.fill-n.ensures }
 
 pub returns-in-Err-Crowded : goal.returns-in-Err-Crowded
 returns-in-Err-Crowded c =
-    record { tree_read = crowded-no c.fill-n.ensures _ _ c.judge_text-asked.ensures c.requires.value _ _ c.in-Err-Crowded.is (rw c.in-Err-Crowded.is at c.in-Err-Crowded.field-0-is) c.byte_place-in-Err-Crowded.ensures; marked = filled-marked c.fill-n.ensures }
+    record { tree_read = crowded-no c.fill-n.ensures _ _ c.judge_text-asked.ensures c.requires _ _ c.in-Err-Crowded.is (rw c.in-Err-Crowded.is at c.in-Err-Crowded.field-0-is) c.byte_place-in-Err-Crowded.ensures; marked = filled-marked c.fill-n.ensures }
 
 pub returns-in-Ok : goal.returns-in-Ok
 returns-in-Ok c =
-    record { tree_read = fits-yes c.fill-n.ensures _ _ c.judge_text-asked.ensures c.requires.value (omega (arith, c.requires.room)) c.in-Ok.is c.contents.ensures; marked = filled-marked c.fill-n.ensures }
+    let a : length c.args.space.now.nodes ≡ 4096 = search rules in
+    record { tree_read = fits-yes c.fill-n.ensures _ _ c.judge_text-asked.ensures c.requires (omega arith) c.in-Ok.is c.contents.ensures; marked = filled-marked c.fill-n.ensures }
+
+pub shared_ref_as_front-judge_text : goal.shared_ref_as_front-judge_text
+shared_ref_as_front-judge_text c =
+    omega (arith, c.fill-n.ensures.count, token-count c.args.text.now, passed-short c.args.text.now c.requires)

@@ -4,6 +4,7 @@ use Prim.Native.Nat.{ℕ, ◌-◌}
 use native.Mathlib.Omega.{arith}
 use lib.ListN.{get_or}
 use Rattle.tree.specs.Node.{kind_of}
+use Rattle.token.proofs.Columns.{length-lows}
 use Rattle.names.proofs.Settled.{name-inside, reach-definitions}
 use Rattle.names.proofs.Uses.{variables-below, defined-inside}
 use Rattle.steady.proofs.Faults.{none-several, sums-inside, named-several}
@@ -15,7 +16,7 @@ overflow_sub-first c =
 
 pub listed-requires : goal.listed-requires
 listed-requires c =
-    record { reach = reach-definitions c.requires.0 c.args.parsed.lists.definitions (omega arith); k_in_bounds = name-inside c.requires.0 c.args.k c.requires.1 }
+    record { reach = reach-definitions c.requires.0 c.args.parsed.lists.definitions (omega arith); k_in_bounds = omega (arith, length-lows c.args.parsed.contents.now, (name-inside c.requires.0 c.args.k c.requires.1).0) }
 
 pub returns-in_default : goal.returns-in_default
 returns-in_default c =

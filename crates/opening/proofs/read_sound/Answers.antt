@@ -1,0 +1,38 @@
+-- A case for each return, from Models.antt: the tree is refused, or its names are asked.
+use Rattle.std.proofs.lemmas.Result.{err_from_is_err_and}
+use Rattle.opening.proofs.Marked.{fits-marked, sound-unmarked, sound-marked}
+use Rattle.opening.proofs.Models.{tree-no, tree-fits, named-no, named-yes}
+use Rattle.opening.proofs.read_sound.Goals as goal
+
+pub judge_tree-requires : goal.judge_tree-requires
+judge_tree-requires c =
+    tree-fits _ _ _ _ _ _ c.read_tree.ensures.tree_read c.in_ok-root.was
+
+pub returns-in_err-root-clause-sound_read : goal.returns-in_err-root-clause-sound_read
+returns-in_err-root-clause-sound_read c =
+    let p = err_from_is_err_and c.from_residual.result c.from_residual.ensures.1 in
+    rw (p.1, p.2) (tree-no _ _ _ _ _ _ c.read_tree.ensures.tree_read c.in_err-root.was)
+
+pub returns-in_err-root-clause-sound_marked : goal.returns-in_err-root-clause-sound_marked
+returns-in_err-root-clause-sound_marked c =
+    let p = err_from_is_err_and c.from_residual.result c.from_residual.ensures.1 in
+    rw p.1 (sound-unmarked _ _ _ _ _ _)
+
+pub returns-in_err-place-clause-sound_read : goal.returns-in_err-place-clause-sound_read
+returns-in_err-place-clause-sound_read c =
+    let f = tree-fits _ _ _ _ _ _ c.read_tree.ensures.tree_read c.in_ok-root.was in
+    let p = err_from_is_err_and c.from_residual-in_err-place.result c.from_residual-in_err-place.ensures.1 in
+    rw (p.1, p.2) (named-no f.1 (c.judge_tree.ensures f.0 f.1) c.in_err-place.was)
+
+pub returns-in_err-place-clause-sound_marked : goal.returns-in_err-place-clause-sound_marked
+returns-in_err-place-clause-sound_marked c =
+    let p = err_from_is_err_and c.from_residual-in_err-place.result c.from_residual-in_err-place.ensures.1 in
+    rw p.1 (sound-unmarked _ _ _ _ _ _)
+
+pub returns : goal.returns
+returns c =
+    let f = tree-fits _ _ _ _ _ _ c.read_tree.ensures.tree_read c.in_ok-root.was in
+    record {
+      sound_read = named-yes f.1 (c.judge_tree.ensures f.0 f.1) c.in_ok-place.was;
+      sound_marked = sound-marked _ (fits-marked c.read_tree.ensures.tree_marked c.in_ok-root.was);
+    }

@@ -49,7 +49,7 @@ answer-is k x l = by (has_lengths k (λ (p : Part). length (x p)) (length l)) k
     by true (on' r) = unfold answered requested leaves asked over machine_in in refl
     by false k = unfold untouched in refl
 
-carried : (k : Ask) (x : Engine) (l : List ℕ) → Carries k (effect k x l).answer
+pub carried : (k : Ask) (x : Engine) (l : List ℕ) → Carries k (effect k x l).answer
 carried k x l = subst (Carries k) (sym (answer-is k x l)) (carries (over k x) (call k (λ (p : Part). length (x p)) (length l)))
 
 -- ---- no run

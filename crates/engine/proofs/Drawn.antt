@@ -1,115 +1,42 @@
 -- The entry that a draw takes from the listing buffer, and what a step leaves, as the effect of the call says. By cases of the listing's answer and of the questions 15 to 19.
 use mathlib.Core.Path.{◌≡◌, refl, sym, ap, ◌∙◌}
-use mathlib.Core.List.{List, [], ◌∷◌, Memᴰ as In}
+use mathlib.Core.List.{List}
 use mathlib.Core.Bool.{Bool, true, false, cond}
 use mathlib.Core.Option.{Option, none, some, Option-elim}
-use Prim.Native.Nat.{ℕ, zero, suc, ◌+◌, ◌-◌, ◌*◌, ◌≤◌, ◌<◌}
+use Prim.Native.Nat.{ℕ, ◌-◌, ◌*◌}
 use native.Mathlib.Omega.{arith}
 use borrow.Author.Tests.{eq-eqb, ne_eqb}
 use lib.Dec.{eqb, leb}
 use lib.IntN.{ℤ}
-use lib.ListN.{length, get_or, get_elem?, drop, replicate, length-map}
-use lib.Seq.{get_or-drop}
+use lib.ListN.{length, get_elem?, replicate}
 use Rattle.std.specs.Prelude.{Err, Ok, None, Some}
 use Rattle.model.specs.Resolved
-use Rattle.rules.specs.Rules.{Key, key, Nth, first, later}
-use Rattle.rules.specs.Listing.{Entry, entry, key_of, weight_of, entries}
+use Rattle.rules.specs.Rules.{Key}
+use Rattle.rules.specs.Listing.{Entry, key_of}
 use Rattle.rules.specs.Draw.{weights, total, chosen}
-use Rattle.rules.proofs.Chosen.{chosen-span, span-inside}
-use Rattle.machine.specs.Offer.{branches}
 use Rattle.machine.specs.State.{State, state_numbers}
 use Rattle.machine.specs.Machine as machine
 use Rattle.machine.specs.Machine.{listing_length, total_limit, no, listed_as, Listed, entries_are, refused_with, Turn, refusing, accepting, entry_arguments, entry_state, taken, drawn, turn, choosing, steps_with, on_state, step', acts, two_parts, on_machine}
-use Rattle.machine.proofs.Branches.{none-not-some, nth-get, get_nth, nth-below}
-use Rattle.machine.proofs.Listing.{accepted}
-use Rattle.machine.proofs.OneListing.{one-listing}
-use Rattle.listing.specs.Buffer.{rows, filled_numbers, listed_answer, Lists, weights_in, chosen_answer, refused, Chosen}
+use Rattle.listing.specs.Buffer.{rows, entry_in, filled_numbers, listed_answer, Lists, weights_in, chosen_answer, refused, Chosen}
 use Rattle.listing.specs.Buffer as buffer
-use Rattle.listing.proofs.Weights.{rows-weights}
 use Rattle.step.specs.declared.Refusal.TheVariants.{Arguments, Processes, Pairs}
 use Rattle.step.specs.Enter.{verdict, Answers, Taken}
+use Rattle.step.specs.Entries.{Counted, Row}
+use Rattle.step.proofs.Rows.{chose, chose_none}
 use Rattle.step.proofs.Answered.{taken-state}
 use Rattle.buffers.specs.Listing.{shown}
 use Rattle.buffers.specs.Parts.{lent_two}
 use Rattle.buffers.specs.Effect.{machine_over, leaves, requested}
 use Rattle.engine.specs.declared.Answer.{Answer}
 use Rattle.engine.specs.Gives.{Gives, bare, filled}
-use Rattle.store.specs.Tables.{Tables}
+use Rattle.store.specs.Tables.{Tables, Whole}
 use Rattle.engine.specs.Tables.{Finds, closed, holding}
-use Rattle.engine.specs.Steps.{Whole, entry_in, Counted, Row, taken_answer, Left}
+use Rattle.engine.specs.Steps.{taken_answer, Left}
 use Rattle.store.proofs.Tables.{left-two}
 use Rattle.engine.proofs.Shows.{filled-numbers, Refuses, entries as entries_of, refuses, listing-is, eleven-gives}
 use Rattle.running.proofs.Parts.{refused_number, refused_place, refused_branch, ok_first, ok_second}
 
--- ---- an entry in the listing buffer
-shift : (l : List ℕ) (n : ℕ) → entry_in l (suc n) ≡ entry_in (drop 7 l) n
-unfolding entry_in
-shift l n = cc (at 1 (suc n * 7 + 1) (omega arith), at 2 (suc n * 7 + 2) (omega arith), at 3 (suc n * 7 + 3) (omega arith), at 4 (suc n * 7 + 4) (omega arith), at 5 (suc n * 7 + 5) (omega arith), at 6 (suc n * 7 + 6) (omega arith), first-at)
-  where
-    at : (j k : ℕ) → 7 + (n * 7 + j) ≡ k → get_or l k 0 ≡ get_or (drop 7 l) (n * 7 + j) 0
-    at j k e = sym (get_or-drop 7 l (n * 7 + j) 0 ∙ ap (λ (i : ℕ). get_or l i 0) e)
-
-    first-at : get_or l (suc n * 7) 0 ≡ get_or (drop 7 l) (n * 7) 0
-    first-at = let e : 7 + n * 7 ≡ suc n * 7 = omega arith in sym (get_or-drop 7 l (n * 7) 0 ∙ ap (λ (i : ℕ). get_or l i 0) e)
-
-top : (c i j k m q w : ℕ) (l : List ℕ) → entry_in (c ∷ i ∷ j ∷ k ∷ m ∷ q ∷ w ∷ l) 0 ≡ entry (key c i j k m q) w
-unfolding entry_in
-top c i j k m q w l = refl
-
-entry_in_lem : (es : List Entry) (rest : List ℕ) (c : ℕ) (e : Entry) → get_elem? es c ≡ some e → entry_in (rows es rest) c ≡ e
-unfolding rows
-entry_in_lem [] rest c e h = none-not-some none e refl h
-entry_in_lem (entry (key c i j k m q) w ∷ es) rest zero e h = let a : entry (key c i j k m q) w ≡ e = cc in top c i j k m q w (rows es rest) ∙ a
-entry_in_lem (entry (key c i j k m q) w ∷ es) rest (suc n) e h = shift (rows (entry (key c i j k m q) w ∷ es) rest) n ∙ entry_in_lem es rest n e h
-
-rows-length : (es : List Entry) (rest : List ℕ) → length (rows es rest) ≡ length es * 7 + length rest
-unfolding rows
-rows-length [] rest = omega arith
-rows-length (entry (key c i j k m q) w ∷ es) rest = omega (arith, rows-length es rest)
-
-filled-fits : (es : List Entry) → length es * 7 ≤ length (filled_numbers es)
-unfolding filled_numbers
-filled-fits es = omega (arith, rows-length es (replicate (listing_length - length es * 7) 0))
-
-in-nth : {A : Type 0} {xs : List A} {n : ℕ} {x : A} → Nth xs n x → In x xs
-in-nth first = In.head refl
-in-nth (later h) = In.tail (in-nth h)
-
-below : {A : Type 0} {xs : List A} {n : ℕ} {x : A} → Nth xs n x → n < length xs
-below first = omega arith
-below (later h) = omega (arith, below h)
-
--- ---- the entries are those of the state
-module _ (m : Resolved.Model) (s : State) (es : List Entry) (h : machine.listing m s ≡ entries_are es) where
-  entries-are : es ≡ entries (branches m) s
-  entries-are = one-listing m s es ((accepted m s es).0 h).1
-
-  bounded : total (weights es) ≤ total_limit
-  bounded = ((accepted m s es).0 h).3
-
--- ---- entry c of the listing
-module _ {t roots scopes : List ℕ} {root variables : ℕ} {zs : List ℤ} {l : List ℕ} {c : ℕ} {m : Resolved.Model} {s : State} {es : List Entry} {e : Entry} (h : Row t roots scopes root variables zs l c m s es e) where
-  pub row_fits : c * 7 + 7 ≤ length l
-  row_fits = rw h.listing.numbers (omega (arith, filled-fits es, below (get_nth es c h.at)))
-
-  pub row_is : entry_in l c ≡ e
-  unfolding filled_numbers
-  row_is = rw h.listing.numbers (entry_in_lem es (replicate (listing_length - length es * 7) 0) c e h.at)
-
-  pub row_in : In e (entries (branches m) s)
-  row_in = let q = entries-are m s es h.listing.listed in rw (← q) (in-nth (get_nth es c h.at))
-
 -- ---- 15, 16 and the entry that the draw chooses
-chosen-some : (o : Option ℕ) (r : Chosen) (c : ℕ) → r ≡ chosen_answer o → r ≡ Some c → o ≡ some c
-unfolding chosen_answer
-chosen-some none r c e f = let z : ◌≡◌ {A = ℕ} 0 1 = cc in absurd (omega arith)
-chosen-some (some i) r c e f = cc
-
-chosen_none : (o : Option ℕ) (r : Chosen) → r ≡ chosen_answer o → r ≡ None → o ≡ none
-unfolding chosen_answer
-chosen_none none r e f = refl
-chosen_none (some i) r e f = let z : ◌≡◌ {A = ℕ} 0 1 = cc in absurd (omega arith)
-
 module _ (m : Resolved.Model) (s : State) (es : List Entry) (d : ℕ) where
   draw-15 : total (weights es) ≡ 0 → drawn m s es d ≡ refusing s es 15
   unfolding drawn
@@ -147,33 +74,18 @@ taken-left : (m : Resolved.Model) (s : State) (es : List Entry) (c : ℕ) (k : K
 taken-left m s es c k r zs h = record { answer = ap (λ (x : Taken). taken_answer x (length es) (total (weights es)) c) h.is ∙ taken-said m s es c k; state = taken-state m s es c k r zs h }
 
 module _ {t roots scopes : List ℕ} {root variables : ℕ} {zs : List ℤ} {l : List ℕ} {count sum : ℕ} {m : Resolved.Model} {s : State} {es : List Entry} (h : Counted t roots scopes root variables zs l count sum m s es) where
-  weights-are : weights_in l count ≡ weights es
-  unfolding filled_numbers
-  weights-are = rw (h.listing.numbers, h.count-is) (rows-weights es (replicate (listing_length - length es * 7) 0))
-
-  pub can-choose : (count * 7 ≤ length l) × (total (weights_in l count) ≤ total_limit)
-  can-choose = (rw (h.listing.numbers, h.count-is) (filled-fits es), rw weights-are (bounded m s es h.listing.listed))
-
-  pub row_of : (r : Chosen) (d c : ℕ) → r ≡ chosen_answer (chosen (weights_in l count) d) → r ≡ Some c → (e : Entry) × Row t roots scopes root variables zs l c m s es e
-  unfolding weights
-  row_of r d c q g =
-      let p : chosen (weights es) d ≡ some c = ap (λ (ws : List ℕ). chosen ws d) (sym weights-are) ∙ chosen-some (chosen (weights_in l count) d) r c q g in
-      let i : c < length es = omega (arith, span-inside (weights es) d c (chosen-span (weights es) d c p), length-map es weight_of) in
-      let w = nth-below es c i in
-      (w.0, record { listing = h.listing; at = nth-get w.1 })
-
   pub left-15 : (d : ℕ) → sum ≡ 0 → Left (drawn m s es d) (filled 15 count sum 0) zs
   left-15 d e = rw (draw-15 m s es d (sym h.sum_is ∙ e), h.count-is, h.sum_is) (refusing-left s es 15 zs h.listing.lent.stands.numbers)
 
   pub left-16 : (d : ℕ) (r : Chosen) → (sum ≡ 0 → ⊥) → r ≡ chosen_answer (chosen (weights_in l count) d) → r ≡ None → Left (drawn m s es d) (filled 16 count sum 0) zs
   left-16 d r n q g =
-      let p : chosen (weights es) d ≡ none = ap (λ (ws : List ℕ). chosen ws d) (sym weights-are) ∙ chosen_none (chosen (weights_in l count) d) r q g in
+      let p : chosen (weights es) d ≡ none = chose_none h r d q g in
       rw (draw-16 m s es d (λ e. n (h.sum_is ∙ e)) p, h.count-is, h.sum_is) (refusing-left s es 16 zs h.listing.lent.stands.numbers)
 
   pub left-taken : (d c : ℕ) (e : Entry) (r : Chosen) (x : Taken) (ys : List ℤ) → (sum ≡ 0 → ⊥) → r ≡ chosen_answer (chosen (weights_in l count) d) → r ≡ Some c → Row t roots scopes root variables zs l c m s es e
       → Answers (entry_arguments m s (key_of e)) s (entry_state m s (key_of e)) x ys → Left (drawn m s es d) (taken_answer x count sum c) ys
   left-taken d c e r x ys n q g k a =
-      let p : chosen (weights es) d ≡ some c = ap (λ (ws : List ℕ). chosen ws d) (sym weights-are) ∙ chosen-some (chosen (weights_in l count) d) r c q g in
+      let p : chosen (weights es) d ≡ some c = chose h r d q c g in
       rw (draw-entry m s es d (λ z. n (h.sum_is ∙ z)) c e p k.at, h.count-is, h.sum_is) (taken-left m s es c (key_of e) x ys a)
 
 -- ---- what a step gives
@@ -249,13 +161,14 @@ pub record Found (t roots scopes : List ℕ) (root variables : ℕ) (zs : List �
   pub entries : List Entry
   pub holds : (bs : List ℕ) → machine_over two_parts (lent_two bs zs) (some m) ≡ machine.holding (machine.held m state)
   pub counted : Counted t roots scopes root variables zs b count sum m state entries
+  pub filled : b ≡ filled_numbers entries
 
 module _ (t roots scopes : List ℕ) (root variables sums channels : ℕ) (m : Resolved.Model) (w : Whole t roots scopes root variables sums channels m) where
   pub tables-of : Tables t roots scopes sums channels m
   tables-of = record { root = root; variables = variables; definitions = w.definitions; represents = w.represents; good = w.good }
 
   pub found : (zs : List ℤ) (l : List ℕ) (count sum : ℕ) (b : List ℕ) → Finds m zs l (Ok (count, sum)) b → Found t roots scopes root variables zs b count sum m
-  unfolding listed_answer buffer.listing_numbers
+  unfolding listed_answer buffer.listing_numbers filled_numbers
   found zs l count sum b (closed e q f) = let z : ◌≡◌ {A = ℕ} 0 1 = cc in absurd (omega arith)
   found zs l count sum b (holding {s} e g z h) = go (machine.listing m s) refl h
     where
@@ -269,14 +182,16 @@ module _ (t roots scopes : List ℕ) (root variables sums channels : ℕ) (m : R
           listing = record {
             lent = record { definitions = w.definitions; sums = sums; channels = channels; represents = w.represents; stands = record { good = w.good; state = g; numbers = z } };
             listed = q;
+            rest = replicate (listing_length - length es * 7) 0;
             numbers = k.numbers;
           };
           count-is = ok_first k.answer;
           sum_is = ok_second k.answer;
         };
+        filled = k.numbers;
       }
 
 pub found-gives : (bs : List ℕ) {t roots scopes : List ℕ} {root variables : ℕ} {zs : List ℤ} {b : List ℕ} {count sum : ℕ} {m : Resolved.Model} (l : List ℕ) (d : ℕ) (f : Found t roots scopes root variables zs b count sum m) (r : Answer) (ys : List ℤ)
     → Left (drawn m f.state f.entries d) r ys → Gives (requested (step' d) (lent_two bs zs) l (some m)) r (lent_two bs ys) b
 unfolding requested on_machine acts on_state steps_with choosing
-found-gives bs {zs = zs} {b = b} {m = m} l d f r ys h = rw (f.holds bs, f.counted.listing.listed) (turn-gives bs zs l d m f.entries (drawn m f.state f.entries d) r ys b (drawn-fills m f.state f.entries d) h f.counted.listing.numbers)
+found-gives bs {zs = zs} {b = b} {m = m} l d f r ys h = rw (f.holds bs, f.counted.listing.listed) (turn-gives bs zs l d m f.entries (drawn m f.state f.entries d) r ys b (drawn-fills m f.state f.entries d) h f.filled)

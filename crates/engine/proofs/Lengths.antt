@@ -4,26 +4,24 @@ use mathlib.Core.Path.{◌≡◌, refl, sym, ap, ◌∙◌}
 use mathlib.Core.List.{List, []}
 use mathlib.Core.Bool.{Bool, true, false, ◌&&◌, and-true, and_assoc}
 use mathlib.Core.Option.{Option, none, some, Option-elim}
-use Prim.Native.Nat.{ℕ, ◌+◌, ◌-◌}
-use native.Mathlib.Omega.{arith}
+use Prim.Native.Nat.{ℕ}
 use borrow.Author.Tests.{eqb-true}
 use lib.Dec.{eqb}
 use lib.IntN.{ℤ}
-use lib.ListN.{length, take, drop}
+use lib.ListN.{length}
 use Rattle.clock.specs.declared.Clock.{Clock}
 use Rattle.clock.specs.Clock.{fresh_clock}
 use Rattle.engine.specs.declared.Answer as result
 use Rattle.engine.specs.declared.Timed as results
-use Rattle.model.specs.Held.{held}
+use Rattle.model.specs.Resolved
 use Rattle.machine.specs.State.{state_length}
 use Rattle.machine.specs.Saves.{saves_length}
-use Rattle.machine.specs.Machine.{model_length, no, closed, Request, Ask, on', Part, size, two_parts, three_parts, four_parts, uses, lent_to, output_of, all_parts, has_lengths}
+use Rattle.machine.specs.Machine.{model_length, no, Request, Ask, on', Part, size, two_parts, three_parts, four_parts, uses, lent_to, output_of, all_parts, has_lengths}
 use Rattle.machine.proofs.Lent.{both_true}
-use Rattle.buffers.specs.Held.{length_in, text_in, held_in}
+use Rattle.buffers.specs.Held.{held_in}
 use Rattle.buffers.specs.Parts.{Engine, lent_two, lent_three, lent_all}
 use Rattle.buffers.specs.Effect.{Effect, machine_over, machine_in, untouched, requested, answered, effect}
 use Rattle.engine.specs.Gives.{Gives, bare, are_parts_long, are_long, are_all_long}
-use Rattle.store.specs.Text.{TextOf}
 
 -- 01: 1 changes nothing
 pub untouched-gives : (x : Engine) (l : List ℕ) → Gives (untouched x l) (bare 1 0 0) x l
@@ -64,15 +62,11 @@ module _ (bs : List ℕ) (zs : List ℤ) where
     unfolding effect
     asked-right e = rw (lengths, e)
 
-  -- ---- the text in the model buffer
+  -- ---- the model in the model buffer
   module _ (r : Request) (l : List ℕ) where
-    pub none_in : held_in bs ≡ none → answered (on' r) (lent_two bs zs) l ≡ requested r (lent_two bs zs) l none
+    pub held-answers : {o : Option Resolved.Model} → held_in bs ≡ o → answered (on' r) (lent_two bs zs) l ≡ requested r (lent_two bs zs) l o
     unfolding answered lent_two
-    none_in e = ap (requested r (lent_two bs zs) l) e
-
-    pub text_in_lem : (n : ℕ) → TextOf bs n → answered (on' r) (lent_two bs zs) l ≡ requested r (lent_two bs zs) l (held (take (2 + n - 2) (drop 2 bs)))
-    unfolding answered lent_two text_in
-    text_in_lem n h = let e : length_in bs ≡ 2 + n - 2 = omega (arith, h.long) in ap (requested r (lent_two bs zs) l) (h.holds ∙ ap (λ (i : ℕ). held (take i (drop 2 bs))) e)
+    held-answers e = ap (requested r (lent_two bs zs) l) e
 
 -- ---- the model, the state and the saves
 
@@ -107,15 +101,11 @@ module _ (bs : List ℕ) (zs ss : List ℤ) where
     unfolding effect
     three-right e = rw (three-lengths, e)
 
-  -- ---- the text in the model buffer
+  -- ---- the model in the model buffer
 
-  pub three-none : held_in bs ≡ none → machine_in three_parts (lent_three bs zs ss) ≡ closed
-  unfolding machine_in machine_over lent_three
-  three-none e = ap (machine_over three_parts (lent_three bs zs ss)) e
-
-  pub three-text : (n : ℕ) → TextOf bs n → machine_in three_parts (lent_three bs zs ss) ≡ machine_over three_parts (lent_three bs zs ss) (held (take (2 + n - 2) (drop 2 bs)))
-  unfolding machine_in lent_three text_in
-  three-text n h = let e : length_in bs ≡ 2 + n - 2 = omega (arith, h.long) in ap (machine_over three_parts (lent_three bs zs ss)) (h.holds ∙ ap (λ (i : ℕ). held (take i (drop 2 bs))) e)
+  pub three-held : {o : Option Resolved.Model} → held_in bs ≡ o → machine_in three_parts (lent_three bs zs ss) ≡ machine_over three_parts (lent_three bs zs ss) o
+  unfolding machine_in lent_three
+  three-held e = ap (machine_over three_parts (lent_three bs zs ss)) e
 
 -- ---- the model, the state, the saves and the clock
 

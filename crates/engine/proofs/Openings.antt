@@ -1,4 +1,4 @@
--- What opening a text gives, and which tables list and step are given, from the answers that reading the text gives.
+-- What opening a text gives, and which tables the calls on a held one are given, from the answers that reading the text gives.
 use mathlib.Core.Path.{◌≡◌, refl, sym, ◌∙◌}
 use mathlib.Core.List.{List, []}
 use mathlib.Core.Option.{none}
@@ -11,29 +11,24 @@ use Rattle.token.specs.Questions.{text_limit, refusal}
 use Rattle.clock.specs.Clock.{fresh_clock}
 use Rattle.model.specs.Resolved
 use Rattle.model.specs.Opening.{Opening, refused, opened}
-use Rattle.model.specs.Held.{held}
 use Rattle.model.proofs.Opened.{opened-good, opened-few}
-use Rattle.model.proofs.Held.{held-good, opened-short}
+use Rattle.model.proofs.Held.{opened-short}
 use Rattle.machine.specs.State.{state_length, state_numbers}
 use Rattle.machine.specs.Saves.{saves_length}
 use Rattle.saves.proofs.Places.{no-saves-numbers}
 use Rattle.machine.specs.Machine as machine
-use Rattle.machine.specs.Machine.{model_length, no, opened_state, Request, Part, model, state, saves, clock, four_parts, lent_to, output_of}
+use Rattle.machine.specs.Machine.{model_length, no, opened_state, Part, model, state, saves, clock, four_parts, lent_to, output_of}
 use Rattle.buffers.specs.Held.{model_bytes}
-use Rattle.buffers.specs.Parts.{Engine, fresh, numbers_of, lent_two, lent_all}
-use Rattle.buffers.specs.Effect.{opens_with, requested, answered}
+use Rattle.buffers.specs.Parts.{Engine, fresh, numbers_of, lent_all}
+use Rattle.buffers.specs.Effect.{opens_with, answered}
 use Rattle.engine.specs.Gives.{Gives, bare}
-use Rattle.store.specs.Tables.{Tables}
-use Rattle.engine.specs.Steps.{Whole}
 use Rattle.store.specs.Start as start
 use Rattle.settle.specs.declared.Model.{Model}
-use Rattle.opening.specs.Trees.{Closed}
-use Rattle.opening.specs.Models.{ModelHeld, ModelRead, ModelOpened, Held, Opened}
+use Rattle.opening.specs.Models.{ModelOpened, Opened}
 use Rattle.steady.specs.declared.Profile.{Profile}
 use Rattle.steady.specs.declared.Profile.TheVariants.{Plain, Steady}
 use Rattle.steady.specs.Opens.{opening_under, OpenedUnder, OpensUnder}
 use Rattle.engine.specs.Asks.{ask_under}
-use Rattle.engine.proofs.Shows.{none-gives}
 
 module _ (text t roots scopes : List ℕ) where
   -- ---- opening
@@ -56,21 +51,6 @@ module _ (text t roots scopes : List ℕ) where
     starts = o.shown.starts;
     few = opened-few text o.model o.opens;
   }
-
-  -- ---- the text in a model buffer
-  pub held-is : {r : Held} {x : Model} {p : ℕ} → ModelRead text t roots scopes r → r ≡ Ok (x, p) → ModelHeld text t roots scopes x p
-  unfolding ModelRead
-  held-is o e = rw e at o
-
-  pub closed_is : {r : Held} {n p : ℕ} → ModelRead text t roots scopes r → r ≡ Err (refusal n p) → held text ≡ none
-  unfolding ModelRead
-  closed_is {r} {n} {p} o e = let c : Closed text n p = rw e at o in c.holds
-
-  pub tables : {x : Model} {p : ℕ} (o : ModelHeld text t roots scopes x p) → Tables t roots scopes x.sums x.channels o.model
-  tables {x} o = record { root = x.root; variables = x.variables; definitions = x.definitions; represents = o.shown; good = held-good text o.model o.holds }
-
-  pub whole : {x : Model} {p : ℕ} (o : ModelHeld text t roots scopes x p) → Whole t roots scopes x.root x.variables x.sums x.channels o.model
-  whole {x} o = record { definitions = x.definitions; represents = o.shown; good = held-good text o.model o.holds }
 
 -- 01, Opening a text, and 02, note 11: 2 to 10 and 29 zero all buffers
 pub refused-gives : (text : List ℕ) {o : Opening} (n p : ℕ) (bs : List ℕ) (zs ss : List ℤ) → o ≡ refused n p → bs ≡ replicate model_length 0 → zs ≡ replicate state_length (pos 0) → ss ≡ replicate saves_length (pos 0)
@@ -110,7 +90,3 @@ module _ (text : List ℕ) where
   unfolding answered opening_under
   under-answers Plain x l = refl
   under-answers Steady x l = refl
-
--- 01, Listing, 11: a text that holds no model
-pub closed-gives : (text bs : List ℕ) (zs : List ℤ) (r : Request) (l : List ℕ) → held text ≡ none → Gives (requested r (lent_two bs zs) l (held text)) (bare 11 0 0) (lent_two bs zs) l
-closed-gives text bs zs r l e = rw e (none-gives r (lent_two bs zs) l)

@@ -8,7 +8,7 @@ use native.Mathlib.Omega.{arith}
 use borrow.Author.Tests.{eq-eqb, ne_eqb}
 use lib.Dec.{eqb, ltb}
 use lib.IntN.{ℤ, pos}
-use lib.ListN.{length, take, drop, replicate, length-append, length-drop, drop_of_length-le}
+use lib.ListN.{length, take, drop, replicate, length-drop, drop_of_length-le}
 use lib.Seq.{take_all, take_at, drop_at}
 use Rattle.clock.specs.declared.Clock.{Clock}
 use Rattle.clock.specs.Clock.{fresh_clock, InRange, is_in_range}
@@ -28,7 +28,10 @@ use Rattle.state.proofs.Over.{few-scopes}
 use Rattle.saves.specs.Keys.{key_numbers}
 use Rattle.saves.specs.Kept.{clock_place, besides, kept_numbers, is_natural, clock_at}
 use Rattle.saves.specs.Places.{saves_numbers, is_saves}
-use Rattle.saves.specs.Change.{place_with, with_row, Written, written, saving_numbers, returning_numbers, forgetting_numbers, stored_numbers, Stores}
+use Rattle.std.specs.Prelude.{Result, Err}
+use Rattle.saves.specs.declared.Refusal.{Refusal}
+use Rattle.saves.specs.declared.Refusal.TheVariants.{NotAName, NotSaved, Full}
+use Rattle.saves.specs.Change.{refusal_number, number_of, place_with, with_row, Written, written, saving_numbers, returning_numbers, forgetting_numbers, stored_numbers, Stores}
 use Rattle.saves.proofs.Over.{saves-fit}
 use Rattle.saves.proofs.Change.{saving-numbers, returning-numbers, forgetting-numbers}
 use Rattle.buffers.specs.Held.{held_in}
@@ -348,11 +351,16 @@ module _ (bs : List ℕ) (zs ss : List ℤ) (c : Clock) where
 
 -- ---- the functions' cases
 
-pub besides-long : (zs : List ℤ) (c : Clock) {ks : List ℤ} → length zs ≡ state_length → ks ≡ besides zs c → length ks ≡ timed_length
-besides-long zs c h e = ap length e ∙ length-append zs (clock_place c) ∙ omega arith
-
 pub stores-from : (n : List ℕ) (ss : List ℤ) {ks zs : List ℤ} {k : ℕ} {ss' : List ℤ} → ks ≡ zs → Stores (saving_numbers n ks ss) k ks ss' → Stores (saving_numbers n zs ss) k zs ss'
 stores-from n ss e w = rw e at w
+
+pub refused-stores : {w : Written} {d : Result (Unit {0}) Refusal} {r : Refusal} {k : ℕ} {zs ss : List ℤ} → k ≡ refusal_number r → d ≡ Err r → Stores w (number_of d) zs ss → Stores w k zs ss
+refused-stores e f w = rw (ap number_of f ∙ sym e) at w
+
+pub refusal-positive : (r : Refusal) → refusal_number r ≡ 0 → ⊥
+refusal-positive NotAName = λ e. omega arith
+refusal-positive NotSaved = λ e. omega arith
+refusal-positive Full = λ e. omega arith
 
 pub returned-no : (n : List ℕ) (zs ss : List ℤ) (c : Clock) (ks ks' ss' : List ℤ) (k : ℕ) (a : result.Answer) (r : results.Timed) → r ≡ record { answer = a; clock = c } → a ≡ bare k 0 0 → ks ≡ besides zs c
     → Stores (returning_numbers n ks ss) k ks' ss' → (k ≡ 0 → ⊥) → Returned (returning_numbers n (besides zs c) ss) zs c r zs

@@ -5,6 +5,7 @@ use Rattle.machine.specs.Machine.{Part}
 use Rattle.buffers.specs.Parts.{Engine}
 use Rattle.buffers.specs.Effect.{Effect}
 use Rattle.running.specs.declared.Progress.{Progress}
+use Rattle.running.specs.Progress.{end_number}
 use Rattle.engine.specs.declared.Ran.{Ran}
 use Rattle.engine.specs.declared.Simulated.{Simulated}
 
@@ -13,7 +14,7 @@ simulated r c = record { ran = r; clock = c }
 
 -- what a run that has come so far gives
 abbrev pub told_of : Progress → Simulated
-told_of p = simulated (record { number = p.number; steps = p.steps; words = p.words; waiting = p.waiting; count = p.count; total = p.total }) p.clock
+told_of p = simulated (record { number = end_number p.end; steps = p.steps; words = p.words; waiting = p.waiting; count = p.count; total = p.total }) p.clock
 
 -- R.4 to R.7: the result r, the buffers x and the events l that were lent are those of the effect; a call that used nothing says 0
 pub record GivesRan (w : Effect) (r : Ran) (x : Engine) (l : List ℕ) : Type 0 where

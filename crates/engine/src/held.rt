@@ -1,32 +1,29 @@
 // Question 11 of a model, a state and saves.
-ghost use Rattle.std.specs.Prelude.{◌≡◌, ◌&&◌, List, ℕ, ◌≤◌, length, take};
-ghost use Rattle.model.specs.Held as held;
+ghost use Rattle.std.specs.Prelude.{◌≡◌, ◌&&◌, ◌≤◌, length, take};
 ghost use Rattle.machine.specs.State.{state_length};
 ghost use Rattle.machine.specs.Saves.{saves_length};
 ghost use Rattle.clock.specs.Clock.{InRange};
 ghost use Rattle.machine.specs.Machine.{model_length, three_parts, four_parts};
-ghost use Rattle.state.specs.Fits.{FewLocals};
 ghost use Rattle.state.specs.Test.{is_state};
 ghost use Rattle.saves.specs.Places.{is_saves};
 ghost use Rattle.saves.specs.Kept.{besides};
-ghost use Rattle.saves.specs.Change.{returning_numbers};
+ghost use Rattle.saves.specs.Change.{number_of, returning_numbers};
 ghost use Rattle.buffers.specs.Parts.{lent_three, lent_all};
-ghost use Rattle.buffers.specs.Effect.{machine_over, machine_in};
-ghost use Rattle.engine.specs.Gives.{is_holding};
+ghost use Rattle.buffers.specs.Effect.{machine_in};
+ghost use Rattle.engine.specs.Gives.{bare, is_holding};
 ghost use Rattle.engine.specs.Waited.{Keeping, Returned};
 
 use crate::{Answer, Timed};
 use clock::Clock;
-use saves::Layout;
+use opening::Space;
+use saves::{Layout, Refusal};
 use state::Shape;
 use store::Engine;
-use store::buffer::Bytes;
-use syntax::question;
 
 // Whether a state and saves are over the sums with these scopes and so many channel names.
 fn holds_model(shape: Shape, state: &[i64], saves: &[i64]) -> bool
-    requires { (length state.now ≡ state_length) × (length saves.now ≡ saves_length) × (shape.sums ≤ length shape.scopes.now) × FewLocals (take shape.sums shape.scopes.now) }
-    ensures { result ≡ (is_state (take shape.entry.sums shape.entry.scopes.now) shape.entry.channels state.now && is_saves (take shape.entry.sums shape.entry.scopes.now) shape.entry.channels saves.now) }
+    requires { (length state.now ≡ state_length) × (length saves.now ≡ saves_length) }
+    ensures { result ≡ (is_state shape.entry.scopes.now shape.entry.channels state.now && is_saves shape.entry.scopes.now shape.entry.channels saves.now) }
 {
     if !state::is_state(state, shape) {
         return false;
@@ -34,38 +31,16 @@ fn holds_model(shape: Shape, state: &[i64], saves: &[i64]) -> bool
     saves::is_saves(saves, shape)
 }
 
-// Question 11 over a text that a model buffer holds.
-fn holds_text(text: &[u8], state: &[i64], saves: &[i64]) -> bool
-    requires { (length state.now ≡ state_length) × (length saves.now ≡ saves_length) }
-    ensures { (bs : List ℕ) → result ≡ is_holding (machine_over three_parts (lent_three bs state.now saves.now) (held.held text.now)) }
-{
-    let mut nodes = [0u64; question::Limits::TOKENS];
-    let mut roots = [0u16; question::Limits::TOKENS];
-    let mut scopes = [0u16; question::Limits::TOKENS];
-    let Ok((found, _)) = simulation::read_tables(text, &mut nodes, &mut roots, &mut scopes) else {
-        return false;
-    };
-    holds_model(
-        Shape {
-            scopes: &scopes,
-            sums: found.sums,
-            channels: found.channels,
-        },
-        state,
-        saves,
-    )
-}
-
 // Question 11 of buffers of the right lengths.
 pub fn holds(model: &[u8], state: &[i64], saves: &[i64]) -> bool
     requires { (length model.now ≡ model_length) × (length state.now ≡ state_length) × (length saves.now ≡ saves_length) }
     ensures { result ≡ is_holding (machine_in three_parts (lent_three model.now state.now saves.now)) }
 {
-    let Some(n) = store::buffer::find_text(model) else {
+    let mut space = Space::EMPTY;
+    let Some(settled) = simulation::read(model, &mut space) else {
         return false;
     };
-    let end = Bytes::FIRST + n;
-    holds_text(&model[Bytes::FIRST..end], state, saves)
+    holds_model(settled.shape(), state, saves)
 }
 
 // The same, and of a clock.
@@ -79,6 +54,16 @@ pub fn holds_all(model: &[u8], state: &[i64], saves: &[i64], clock: Clock) -> bo
     holds(model, state, saves)
 }
 
+// What a call on the saves answers.
+pub fn stored_answer(done: Result<(), Refusal>) -> Answer
+    ensures { result ≡ bare (number_of done) 0 0 }
+{
+    match done {
+        Ok(()) => Answer::bare(0, 0, 0),
+        Err(refusal) => Answer::bare(refusal.number(), 0, 0),
+    }
+}
+
 // Copies what is kept under a name over the state, where buffers and clock are held.
 pub fn return_held(state: &mut [i64], saves: &[i64], name: &[u8], clock: Clock) -> Timed
     requires { (length state.old ≡ state_length) × (length saves.now ≡ saves_length) × (InRange clock) × Keeping name.now (besides state.old clock) saves.now }
@@ -86,9 +71,8 @@ pub fn return_held(state: &mut [i64], saves: &[i64], name: &[u8], clock: Clock) 
 {
     let mut kept = [0i64; Layout::KEPT];
     saves::put_kept(&mut kept, &state[..], clock);
-    let number = saves::return_to(&mut kept, saves, name);
-    if number != 0 {
-        return Timed::of(Answer::bare(number, 0, 0), clock);
+    if let Err(refusal) = saves::return_to(&mut kept, saves, name) {
+        return Timed::of(Answer::bare(refusal.number(), 0, 0), clock);
     }
     state::put(state, &kept, Engine::STATE);
     Timed::of(

@@ -3,6 +3,7 @@
 // An engine: its calls open, open_steady, list, step, step_timed, report, save, return and forget, and what they answer.
 pub mod held;
 pub mod listings;
+pub mod queries;
 pub mod searches;
 pub mod steps;
 pub mod subtotals;
@@ -11,7 +12,6 @@ pub mod waiting;
 
 ghost use Rattle.std.specs.Prelude.{◌≡◌, cond, [], length};
 ghost use Rattle.machine.specs.State.{state_length};
-ghost use Rattle.machine.specs.Report.{report_length};
 ghost use Rattle.machine.specs.Machine.{model_length, listing_length, list', step', report', timed', run', save', return', forget', open', open_steady', on'};
 ghost use Rattle.buffers.specs.Parts.{lent_two, lent_three, lent_timed, lent_all};
 ghost use Rattle.buffers.specs.Effect.{answered, effect};
@@ -22,13 +22,16 @@ ghost use Rattle.engine.specs.Ran.{GivesRan, told_of};
 ghost use Rattle.engine.specs.Asks.{ask_under};
 
 use clock::Clock;
+use listings::List;
+use opening::Space;
 use running::Progress;
 use saves::Layout;
 use steady::Profile;
 use store::Engine;
-use store::buffer::Bytes;
+use subtotals::Report;
 
 // What a call answers: 0 or a refusal's number; its place and branch; the listing's entries, their total, and the entry that a step took.
+// C reads these numbers in this order.
 #[repr(C)]
 #[derive(Clone, Copy)]
 pub struct Answer {
@@ -46,9 +49,9 @@ impl Answer {
         ensures { result ≡ bare number place branch }
     {
         Answer {
-            number: number,
-            place: place,
-            branch: branch,
+            number,
+            place,
+            branch,
             count: 0,
             total: 0,
             chosen: 0,
@@ -60,12 +63,12 @@ impl Answer {
         ensures { result ≡ filled number count total chosen }
     {
         Answer {
-            number: number,
+            number,
             place: 0,
             branch: 0,
-            count: count,
-            total: total,
-            chosen: chosen,
+            count,
+            total,
+            chosen,
         }
     }
 }
@@ -81,27 +84,12 @@ impl Timed {
     pub fn of(answer: Answer, clock: Clock) -> Self
         ensures { result ≡ timed answer clock }
     {
-        Timed {
-            answer: answer,
-            clock: clock,
-        }
-    }
-
-    // The parts, each by itself, for the functions that are lent the clock.
-    pub fn clock(self) -> Clock
-        ensures { result ≡ self.clock }
-    {
-        self.clock
-    }
-
-    pub fn answer(self) -> Answer
-        ensures { result ≡ self.answer }
-    {
-        self.answer
+        Timed { answer, clock }
     }
 }
 
 // What a run answers: 0 or the number of the refusal that ended it; the steps that it took, the words and waiting draws that these used; the count and total of its last listing.
+// C reads these numbers in this order.
 #[repr(C)]
 #[derive(Clone, Copy)]
 pub struct Ran {
@@ -120,36 +108,23 @@ pub struct Simulated {
     pub clock: Clock,
 }
 
-impl Simulated {
-    // What a run has come to.
-    pub fn of(p: Progress) -> Self
-        ensures { result ≡ told_of p }
-    {
+// What a run has come to.
+impl From<Progress> for Simulated {
+    ghost from_gives = { λ p s. s ≡ told_of p };
+
+    fn from(p: Progress) -> Self {
         let clock = p.clock;
         Simulated {
             ran: Ran {
-                number: p.number,
+                number: p.number(),
                 steps: p.steps as u64,
                 words: p.words as u64,
                 waiting: p.waiting as u64,
                 count: p.count as u64,
                 total: p.total,
             },
-            clock: clock,
+            clock,
         }
-    }
-
-    // The parts, each by itself, for the function that is lent the clock.
-    pub fn clock(self) -> Clock
-        ensures { result ≡ self.clock }
-    {
-        self.clock
-    }
-
-    pub fn ran(self) -> Ran
-        ensures { result ≡ self.ran }
-    {
-        self.ran
     }
 }
 
@@ -157,30 +132,21 @@ impl Simulated {
 fn are_parts_long(model: usize, state: usize) -> bool
     ensures { result ≡ are_parts_long model state }
 {
-    if model != Engine::MODEL {
-        return false;
-    }
-    state == Engine::STATE
+    model == Engine::MODEL && state == Engine::STATE
 }
 
 // Question 1 of a call that is lent a model, a state and an output of this right length.
 fn are_long(model: usize, state: usize, output: usize, right: usize) -> bool
     ensures { result ≡ are_long model state output right }
 {
-    if !are_parts_long(model, state) {
-        return false;
-    }
-    output == right
+    are_parts_long(model, state) && output == right
 }
 
 // Question 1 of the model, the state and the saves.
 fn are_all_long(model: usize, state: usize, saves: usize) -> bool
     ensures { result ≡ are_all_long model state saves }
 {
-    if !are_parts_long(model, state) {
-        return false;
-    }
-    saves == Engine::SAVES
+    are_parts_long(model, state) && saves == Engine::SAVES
 }
 
 // Opens a text under a profile.
@@ -228,38 +194,23 @@ pub fn open_steady(
     open_under(Profile::Steady, text, model, state, saves, clock)
 }
 
-// Lists over buffers of the right lengths.
-fn list_lent(model: &[u8], state: &[i64], listing: &mut [u64]) -> Answer
-    requires { (length model.now ≡ model_length) × (length state.now ≡ state_length) × (length listing.old ≡ listing_length) }
-    ensures { Gives (answered (on' list') (lent_two model.now state.now) listing.old) result (lent_two model.now state.now) listing.new }
-{
-    let Some(n) = store::buffer::find_text(model) else {
-        return Answer::bare(11, 0, 0);
-    };
-    let end = Bytes::FIRST + n;
-    texts::list_text(&model[Bytes::FIRST..end], state, listing)
-}
-
 // Lists every transition that can happen next, with its weight.
 pub fn list(model: &[u8], state: &[i64], listing: &mut [u64]) -> Answer
     ensures { Gives (effect (on' list') (lent_two model.now state.now) listing.old) result (lent_two model.now state.now) listing.new }
 {
-    if !are_long(model.len(), state.len(), listing.len(), Engine::LISTING) {
-        return Answer::bare(1, 0, 0);
-    }
-    list_lent(model, state, listing)
+    queries::ask::<List>(model, state, listing)
 }
 
-// Steps over buffers of the right lengths.
+// Steps over buffers of the right lengths. No query as list and report are: its state is lent to be changed.
 fn step_lent(model: &[u8], state: &mut [i64], listing: &mut [u64], draw: u64) -> Answer
     requires { (length model.now ≡ model_length) × (length state.old ≡ state_length) × (length listing.old ≡ listing_length) }
     ensures { Gives (answered (on' (step' draw)) (lent_two model.now state.old) listing.old) result (lent_two model.now state.new) listing.new }
 {
-    let Some(n) = store::buffer::find_text(model) else {
+    let mut space = Space::EMPTY;
+    let Some(settled) = simulation::read(model, &mut space) else {
         return Answer::bare(11, 0, 0);
     };
-    let end = Bytes::FIRST + n;
-    texts::step_text(&model[Bytes::FIRST..end], state, listing, draw)
+    steps::step_model(settled, state, listing, draw)
 }
 
 // Lists, then takes the entry that the draw chooses.
@@ -312,29 +263,14 @@ pub fn run(
     ensures { GivesRan (effect (on' (run' words.now waiting.now limit (length events.old))) (lent_timed model.now state.old clock) events.old) result.ran (lent_timed model.now state.new result.clock) events.new }
 {
     let p = simulation::run(model, state, words, waiting, events, limit, clock);
-    Simulated::of(p)
-}
-
-// Reports over buffers of the right lengths.
-fn report_lent(model: &[u8], state: &[i64], report: &mut [u64]) -> Answer
-    requires { (length model.now ≡ model_length) × (length state.now ≡ state_length) × (length report.old ≡ report_length) }
-    ensures { Gives (answered (on' report') (lent_two model.now state.now) report.old) result (lent_two model.now state.now) report.new }
-{
-    let Some(n) = store::buffer::find_text(model) else {
-        return Answer::bare(11, 0, 0);
-    };
-    let end = Bytes::FIRST + n;
-    texts::report_text(&model[Bytes::FIRST..end], state, report)
+    Simulated::from(p)
 }
 
 // Lists, and reports the sum of the weights of each definition's processes.
 pub fn report(model: &[u8], state: &[i64], report: &mut [u64]) -> Answer
     ensures { Gives (effect (on' report') (lent_two model.now state.now) report.old) result (lent_two model.now state.now) report.new }
 {
-    if !are_long(model.len(), state.len(), report.len(), Engine::REPORT) {
-        return Answer::bare(1, 0, 0);
-    }
-    report_lent(model, state, report)
+    queries::ask::<Report>(model, state, report)
 }
 
 // Saves the state and the clock under a name.
@@ -349,8 +285,7 @@ pub fn save(model: &[u8], state: &[i64], saves: &mut [i64], name: &[u8], clock: 
     }
     let mut kept = [0i64; Layout::KEPT];
     saves::put_kept(&mut kept, state, clock);
-    let number = saves::save(saves, &kept, name);
-    Answer::bare(number, 0, 0)
+    held::stored_answer(saves::save(saves, &kept, name))
 }
 
 // Makes the state and the clock, which goes by value, that were saved under a name the present ones.
@@ -376,8 +311,7 @@ pub fn forget(model: &[u8], state: &[i64], saves: &mut [i64], name: &[u8]) -> An
     if !held::holds(model, state, &saves[..]) {
         return Answer::bare(11, 0, 0);
     }
-    let number = saves::forget(saves, state, name);
-    Answer::bare(number, 0, 0)
+    held::stored_answer(saves::forget(saves, name))
 }
 
 #[unsafe(no_mangle)]
@@ -391,8 +325,8 @@ pub extern "C" fn matgravel_open(
     ensures { Gives (effect (open' text.now) (lent_all model.old state.old saves.old clock.old) []) result (lent_all model.new state.new saves.new clock.new) [] }
 {
     let t = open(text, model, state, saves, *clock);
-    *clock = Timed::clock(t);
-    Timed::answer(t)
+    *clock = t.clock;
+    t.answer
 }
 
 #[unsafe(no_mangle)]
@@ -406,8 +340,8 @@ pub extern "C" fn matgravel_open_steady(
     ensures { Gives (effect (open_steady' text.now) (lent_all model.old state.old saves.old clock.old) []) result (lent_all model.new state.new saves.new clock.new) [] }
 {
     let t = open_steady(text, model, state, saves, *clock);
-    *clock = Timed::clock(t);
-    Timed::answer(t)
+    *clock = t.clock;
+    t.answer
 }
 
 #[unsafe(no_mangle)]
@@ -441,8 +375,8 @@ pub extern "C" fn matgravel_timed_step(
     ensures { Gives (effect (on' (timed' waiting.now draw)) (lent_timed model.now state.old clock.old) listing.old) result (lent_timed model.now state.new clock.new) listing.new }
 {
     let t = step_timed(model, state, listing, waiting, draw, *clock);
-    *clock = Timed::clock(t);
-    Timed::answer(t)
+    *clock = t.clock;
+    t.answer
 }
 
 #[unsafe(no_mangle)]
@@ -458,8 +392,8 @@ pub extern "C" fn matgravel_run(
     ensures { GivesRan (effect (on' (run' words.now waiting.now limit (length events.old))) (lent_timed model.now state.old clock.old) events.old) result (lent_timed model.now state.new clock.new) events.new }
 {
     let t = run(model, state, words, waiting, events, limit, *clock);
-    *clock = Simulated::clock(t);
-    Simulated::ran(t)
+    *clock = t.clock;
+    t.ran
 }
 
 #[unsafe(no_mangle)]
@@ -493,8 +427,8 @@ pub extern "C" fn matgravel_return(
     ensures { Gives (effect (on' (return' name.now)) (lent_all model.now state.old saves.now clock.old) []) result (lent_all model.now state.new saves.now clock.new) [] }
 {
     let t = return_to(model, state, saves, name, *clock);
-    *clock = Timed::clock(t);
-    Timed::answer(t)
+    *clock = t.clock;
+    t.answer
 }
 
 #[unsafe(no_mangle)]

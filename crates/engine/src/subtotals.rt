@@ -1,20 +1,18 @@
 // The report on a state: its listing, made once, and the shares of that.
-ghost use Rattle.std.specs.Prelude.{◌≡◌, List, ℕ, length};
+ghost use Rattle.std.specs.Prelude.{◌≡◌, refl, List, ℕ, length};
 ghost use Rattle.std.proofs.Math.Option.{some};
 ghost use Rattle.model.specs.Resolved as Resolved;
 ghost use Rattle.model.specs.Good.{GoodModel};
-ghost use Rattle.machine.specs.State.{state_length};
 ghost use Rattle.machine.specs.Report.{report_length};
 ghost use Rattle.machine.specs.Machine.{report'};
 ghost use Rattle.buffers.specs.Parts.{lent_two};
 ghost use Rattle.buffers.specs.Effect.{requested};
-ghost use Rattle.store.specs.Tables.{Tables as Tabled};
-ghost use Rattle.engine.specs.Gives.{Gives};
 ghost use Rattle.engine.specs.Tables.{Finds};
 
-use crate::{Answer, Engine, listings};
+use crate::queries::Query;
+use crate::{Answer, listings};
 use listing::Refusal;
-use tables::Tables;
+use store::{Engine, Settled};
 
 // 11 leaves the report as it is lent, 12 to 14 zero it; else it has the shares of the listing.
 fn put_report(
@@ -39,19 +37,25 @@ fn put_report(
     }
 }
 
-// Reports over the tables of a model.
-pub fn report_model(
-    tables: Tables,
-    sums: usize,
-    channels: usize,
-    state: &[i64],
-    report: &mut [u64],
-) -> Answer
-    requires { ((m : Resolved.Model) × Tabled tables.nodes.now tables.roots.now tables.scopes.now sums channels m) × (length state.now ≡ state_length) × (length report.old ≡ report_length) }
-    ensures { (m : Resolved.Model) (bs : List ℕ) → Tabled tables.entry.nodes.now tables.entry.roots.now tables.entry.scopes.now sums channels m → Gives (requested report' (lent_two bs state.now) report.old (some m)) result (lent_two bs state.now) report.new }
-{
-    let mut listing = [0u64; Engine::LISTING];
-    let listed = listings::list_state(tables, sums, channels, state, &mut listing);
-    put_report(listed, &listing, state, report);
-    listings::listed_answer(listed)
+// What report asks.
+pub struct Report;
+
+impl Query for Report {
+    const OUTPUT: usize = Engine::REPORT;
+
+    ghost OUTPUT = { report_length };
+
+    ghost request = { report' };
+
+    ghost lends = { refl };
+
+    ghost writes = { refl };
+
+    // Reports over the tables of a model.
+    fn answer(settled: Settled, state: &[i64], report: &mut [u64]) -> Answer {
+        let mut listing = [0u64; Engine::LISTING];
+        let listed = listings::list_state(settled, state, &mut listing);
+        put_report(listed, &listing, state, report);
+        Answer::from(listed)
+    }
 }

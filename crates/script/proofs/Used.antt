@@ -1,18 +1,15 @@
 -- Only a run of timed steps says what it used, and it says nothing of a place, a branch, a chosen entry or a search's run (docs/DECISIONS.md, R.5, R.7): from what every answer carries.
-use mathlib.Core.Path.{◌≡◌, refl, sym, subst}
+use mathlib.Core.Path.{◌≡◌, refl}
 use mathlib.Core.List.{List, []}
-use mathlib.Core.Bool.{Bool, true, false, cond}
+use mathlib.Core.Bool.{Bool, true, false}
 use Prim.Native.Nat.{ℕ}
-use lib.ListN.{length}
 use Rattle.value.proofs.Kit.{false-not-true, true-not-false}
-use Rattle.model.specs.Opening.{Opening, refused, opened, opening}
-use Rattle.profile.specs.Opening.{opening_steady}
-use Rattle.machine.specs.Machine.{as_lent, Answer, no, listed_as, reported_as, found_as, ran_as, turn, Machine, closed, Request, list', step', report', search', timed', run', save', return', forget', Ask, open', open_steady', on', Part, uses, has_lengths, call, opens, asked, calls}
+use Rattle.machine.specs.Machine.{Answer, no, listed_as, reported_as, found_as, ran_as, Request, list', step', report', search', timed', run', save', return', forget', Ask, open', open_steady', on'}
 use Rattle.machine.specs.Results as results
 use Rattle.machine.specs.Results.{Lists, Chooses, Names, Carries, under1, under2-10, under11, under12, under13, under14, under15-19, under23-25, under20, return21, forget21, save22, under2-29, under26, under27}
-use Rattle.machine.proofs.Carries.{carries}
 use Rattle.buffers.specs.Parts.{Engine}
-use Rattle.buffers.specs.Effect.{machine_in, untouched, opens_with, leaves, requested, answered, effect}
+use Rattle.buffers.specs.Effect.{effect}
+use Rattle.buffers.proofs.Runs.{carried}
 
 unfoldable pub is_run : Ask → Bool
 is_run (open' text) = false
@@ -26,31 +23,6 @@ is_run (on' (run' ws vs n l)) = true
 is_run (on' (save' n)) = false
 is_run (on' (return' n)) = false
 is_run (on' (forget' n)) = false
-
--- ---- the answer of an effect is the machine's
-
-unfoldable over : Ask → Engine → Machine
-over (open' text) x = closed
-over (open_steady' text) x = closed
-over (on' r) x = machine_in (uses r) x
-
-opens-answer : (text : List ℕ) (o : Opening) (l : List ℕ) → (opens_with text o l).answer ≡ (opens o).answer
-unfolding opens_with opens
-opens-answer text (refused n p) l = refl
-opens-answer text (opened m) l = refl
-
-answer-is : (k : Ask) (x : Engine) (l : List ℕ) → (effect k x l).answer ≡ (calls (over k x) (call k (λ (p : Part). length (x p)) (length l))).answer
-unfolding effect calls
-answer-is k x l = by (has_lengths k (λ (p : Part). length (x p)) (length l)) k
-  where
-    by : (b : Bool) (k : Ask) → (cond b (answered k x l) (untouched x l)).answer ≡ (cond b (asked (over k x) k) (turn (over k x) (no 1 0 0 as_lent))).answer
-    by true (open' text) = unfold answered asked in opens-answer text (opening text) l
-    by true (open_steady' text) = unfold answered asked in opens-answer text (opening_steady text) l
-    by true (on' r) = unfold answered requested leaves asked over machine_in in refl
-    by false k = unfold untouched in refl
-
-carried : (k : Ask) (x : Engine) (l : List ℕ) → Carries k (effect k x l).answer
-carried k x l = subst (Carries k) (sym (answer-is k x l)) (carries (over k x) (call k (λ (p : Part). length (x p)) (length l)))
 
 -- ---- nothing used
 

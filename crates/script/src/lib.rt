@@ -12,6 +12,7 @@ use engine::{Answer, Simulated, Timed};
 use searching::Found;
 
 // A row: the kind of call; place and size of its text or name, and of its waiting draws; its draw, depth or limit; how many numbers of the output, the model, the state and the saves it is lent; place and size of its words.
+// A caller lends rows as plain numbers, which C can write too.
 #[derive(Clone, Copy)]
 pub struct Row {
     pub kind: u64,
@@ -64,6 +65,14 @@ impl Row {
     pub const RUN: u64 = 11;
 
     pub const LAST: u64 = Row::RUN;
+}
+
+// What the rows of a script name parts of: texts, waiting draws and words. The engine's own buffers are lent one by one, of whatever lengths a caller has: a struct of them would lose what it writes.
+#[derive(Clone, Copy)]
+struct Given<'a> {
+    texts: &'a [u8],
+    numbers: &'a [u16],
+    words: &'a [u64],
 }
 
 // The first row of a script.
@@ -257,15 +266,14 @@ fn call_search(row: Row, texts: &[u8], model: &[u8], state: &[i64]) -> Found
 // Makes the run of a row.
 fn call_run(
     row: Row,
-    numbers: &[u16],
-    words: &[u64],
+    given: Given,
     model: &[u8],
     state: &mut [i64],
     outputs: &mut [u64],
     clock: Clock,
 ) -> Simulated
-    requires { (row.kind ≡ run_kind) × ((t : ℕ) × ((v : ℕ) × ((k : ℕ) × (fits row t (length numbers.now) (length words.now) (lengths_of (length model.now) (length state.old) v k) (length outputs.old) ≡ true)))) }
-    ensures { (texts : List ℕ) (ss : List ℤ) → Called (row_call texts numbers.now words.now row) (lent_all model.now state.old ss clock) outputs.old (ran_numbers result.ran) (lent_all model.now state.new ss result.clock) outputs.new }
+    requires { (row.kind ≡ run_kind) × ((t : ℕ) × ((v : ℕ) × ((k : ℕ) × (fits row t (length given.numbers.now) (length given.words.now) (lengths_of (length model.now) (length state.old) v k) (length outputs.old) ≡ true)))) }
+    ensures { (texts : List ℕ) (ss : List ℤ) → Called (row_call texts given.entry.numbers.now given.entry.words.now row) (lent_all model.now state.old ss clock) outputs.old (ran_numbers result.ran) (lent_all model.now state.new ss result.clock) outputs.new }
 {
     let m = row.model;
     let s = row.state;
@@ -277,8 +285,8 @@ fn call_run(
     engine::run(
         &model[..m],
         &mut state[..s],
-        &words[start..stop],
-        &numbers[from..end],
+        &given.words[start..stop],
+        &given.numbers[from..end],
         &mut outputs[..l],
         row.number,
         clock,
@@ -288,8 +296,7 @@ fn call_run(
 // Makes the call of a row.
 fn call(
     row: Row,
-    texts: &[u8],
-    numbers: &[u16],
+    given: Given,
     model: &mut [u8],
     state: &mut [i64],
     saves: &mut [i64],
@@ -297,8 +304,8 @@ fn call(
     clock: Clock,
 ) -> Timed
     requires fact { (row.kind ≡ search_kind → ⊥) × (row.kind ≡ run_kind → ⊥) }
-    requires by_index { (w : ℕ) × ((t : ℕ) × (fits row (length texts.now) (length numbers.now) w (lengths_of (length model.old) (length state.old) (length saves.old) t) (length outputs.old) ≡ true)) }
-    ensures { (ws : List ℕ) → Called (row_call texts.now numbers.now ws row) (lent_all model.old state.old saves.old clock) outputs.old (result_numbers result.answer) (lent_all model.new state.new saves.new result.clock) outputs.new }
+    requires by_index { (w : ℕ) × ((t : ℕ) × (fits row (length given.texts.now) (length given.numbers.now) w (lengths_of (length model.old) (length state.old) (length saves.old) t) (length outputs.old) ≡ true)) }
+    ensures { (ws : List ℕ) → Called (row_call given.entry.texts.now given.entry.numbers.now ws row) (lent_all model.old state.old saves.old clock) outputs.old (result_numbers result.answer) (lent_all model.new state.new saves.new result.clock) outputs.new }
 {
     let m = row.model;
     let s = row.state;
@@ -307,7 +314,7 @@ fn call(
         let first = row.text;
         let end = first + row.size;
         return engine::open(
-            &texts[first..end],
+            &given.texts[first..end],
             &mut model[..m],
             &mut state[..s],
             &mut saves[..v],
@@ -328,12 +335,12 @@ fn call(
         return Timed::of(answer, clock);
     }
     if row.kind == Row::TIMED {
-        return call_timed(row, numbers, &model[..], state, outputs, clock);
+        return call_timed(row, given.numbers, &model[..], state, outputs, clock);
     }
     if row.kind == Row::STEADY {
-        return call_steady(row, texts, model, state, saves, clock);
+        return call_steady(row, given.texts, model, state, saves, clock);
     }
-    call_named(row, texts, &model[..], state, saves, clock)
+    call_named(row, given.texts, &model[..], state, saves, clock)
 }
 
 // The clock in its two numbers.
@@ -443,9 +450,7 @@ fn put_ran(answers: &mut [u64], ran: engine::Ran)
 // Makes the call of a row that fits, on the engine and its clock, and writes its answer.
 fn make_row(
     row: Row,
-    texts: &[u8],
-    numbers: &[u16],
-    words: &[u64],
+    given: Given,
     model: &mut [u8],
     state: &mut [i64],
     saves: &mut [i64],
@@ -453,23 +458,23 @@ fn make_row(
     outputs: &mut [u64],
     answers: &mut [u64],
 )
-    requires outputs_value { fits row (length texts.now) (length numbers.now) (length words.now) (lengths_of (length model.old) (length state.old) (length saves.old) (length clock.old)) (length outputs.old) ≡ true }
+    requires outputs_value { fits row (length given.texts.now) (length given.numbers.now) (length given.words.now) (lengths_of (length model.old) (length state.old) (length saves.old) (length clock.old)) (length outputs.old) ≡ true }
     requires answer_width_in_bounds { answer_width ≤ length answers.old }
-    ensures { lent_of (lent_four model.new state.new saves.new clock.new) outputs.new answers.new ≡ call_left (row_call texts.now numbers.now words.now row) (lent_of (lent_four model.old state.old saves.old clock.old) outputs.old answers.old) }
+    ensures { lent_of (lent_four model.new state.new saves.new clock.new) outputs.new answers.new ≡ call_left (row_call given.entry.texts.now given.entry.numbers.now given.entry.words.now row) (lent_of (lent_four model.old state.old saves.old clock.old) outputs.old answers.old) }
 {
     if row.kind == Row::SEARCH {
-        let found = call_search(row, texts, &model[..], &state[..]);
+        let found = call_search(row, given.texts, &model[..], &state[..]);
         put_found(answers, found);
         return;
     }
     let now = clock_of(&clock[..]);
     if row.kind == Row::RUN {
-        let told = call_run(row, numbers, words, &model[..], state, outputs, now);
+        let told = call_run(row, given, &model[..], state, outputs, now);
         put_clock(clock, told.clock);
         put_ran(answers, told.ran);
         return;
     }
-    let timed = call(row, texts, numbers, model, state, saves, outputs, now);
+    let timed = call(row, given, model, state, saves, outputs, now);
     put_clock(clock, timed.clock);
     put_answer(answers, timed.answer);
 }
@@ -477,9 +482,7 @@ fn make_row(
 // Runs the first row of a script, if it is a call.
 fn run_row(
     script: &[u64],
-    texts: &[u8],
-    numbers: &[u16],
-    words: &[u64],
+    given: Given,
     model: &mut [u8],
     state: &mut [i64],
     saves: &mut [i64],
@@ -487,7 +490,7 @@ fn run_row(
     outputs: &mut [u64],
     answers: &mut [u64],
 ) -> bool
-    ensures { RowRan (first_call script.now texts.now numbers.now words.now (room_of (lent_of (lent_four model.old state.old saves.old clock.old) outputs.old answers.old))) (lent_of (lent_four model.old state.old saves.old clock.old) outputs.old answers.old) result (lent_of (lent_four model.new state.new saves.new clock.new) outputs.new answers.new) }
+    ensures { RowRan (first_call script.now given.entry.texts.now given.entry.numbers.now given.entry.words.now (room_of (lent_of (lent_four model.old state.old saves.old clock.old) outputs.old answers.old))) (lent_of (lent_four model.old state.old saves.old clock.old) outputs.old answers.old) result (lent_of (lent_four model.new state.new saves.new clock.new) outputs.new answers.new) }
 {
     if script.len() < Row::WIDTH {
         return false;
@@ -498,9 +501,9 @@ fn run_row(
     let row = read_row(script);
     if !is_call(
         row,
-        texts.len(),
-        numbers.len(),
-        words.len(),
+        given.texts.len(),
+        given.numbers.len(),
+        given.words.len(),
         model.len(),
         state.len(),
         saves.len(),
@@ -509,9 +512,7 @@ fn run_row(
     ) {
         return false;
     }
-    make_row(
-        row, texts, numbers, words, model, state, saves, clock, outputs, answers,
-    );
+    make_row(row, given, model, state, saves, clock, outputs, answers);
     true
 }
 
@@ -530,9 +531,7 @@ fn place_of(i: usize, width: usize, end: usize) -> usize
 fn run_at(
     i: usize,
     script: &[u64],
-    texts: &[u8],
-    numbers: &[u16],
-    words: &[u64],
+    given: Given,
     model: &mut [u8],
     state: &mut [i64],
     saves: &mut [i64],
@@ -540,16 +539,14 @@ fn run_at(
     outputs: &mut [u64],
     answers: &mut [u64],
 ) -> bool
-    ensures { RowRanAt i script.now texts.now numbers.now words.now (lent_of (lent_four model.old state.old saves.old clock.old) outputs.old answers.old) result (lent_of (lent_four model.new state.new saves.new clock.new) outputs.new answers.new) }
+    ensures { RowRanAt i script.now given.entry.texts.now given.entry.numbers.now given.entry.words.now (lent_of (lent_four model.old state.old saves.old clock.old) outputs.old answers.old) result (lent_of (lent_four model.new state.new saves.new clock.new) outputs.new answers.new) }
 {
     let row = place_of(i, Row::WIDTH, script.len());
     let output = place_of(i, Row::OUTPUT, outputs.len());
     let answer = place_of(i, Row::ANSWER, answers.len());
     run_row(
         &script[row..],
-        texts,
-        numbers,
-        words,
+        given,
         model,
         state,
         saves,
@@ -575,10 +572,15 @@ pub fn run(
     ensures ran { Ran script.now texts.now numbers.now words.now (lent_of (lent_four model.old state.old saves.old clock.old) outputs.old answers.old) result (lent_of (lent_four model.new state.new saves.new clock.new) outputs.new answers.new) }
     ensures refines { Refines script.now texts.now numbers.now words.now (lent_of (lent_four model.old state.old saves.old clock.old) outputs.old answers.old) (lent_of (lent_four model.new state.new saves.new clock.new) outputs.new answers.new) }
 {
+    let given = Given {
+        texts,
+        numbers,
+        words,
+    };
     // A while: a row that is no call ends it.
     let mut i = 0;
     while run_at(
-        i, script, texts, numbers, words, model, state, saves, clock, outputs, answers,
+        i, script, given, model, state, saves, clock, outputs, answers,
     ) {
         i += 1;
     }

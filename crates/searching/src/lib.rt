@@ -3,12 +3,8 @@
 // The search over a text that a model buffer holds: questions 11 and 26, the walk over its model, and what that comes to.
 ghost use Rattle.std.specs.Prelude.{◌≡◌, List, [], ℕ, ◌≤◌, length, take};
 ghost use Rattle.std.proofs.Math.Option.{some};
-ghost use Rattle.token.specs.Questions.{text_limit};
-ghost use Rattle.grammar.specs.Limit.{token_limit};
 ghost use Rattle.model.specs.Resolved as Resolved;
 ghost use Rattle.model.specs.Held.{held};
-ghost use Rattle.opening.specs.Marked.{ModelMarked};
-ghost use Rattle.opening.specs.Models.{ModelRead};
 ghost use Rattle.runs.specs.Tree as tree;
 ghost use Rattle.search.specs.Walks.{Answered};
 ghost use Rattle.machine.specs.State.{state_length};
@@ -18,12 +14,9 @@ ghost use Rattle.buffers.specs.Effect.{requested};
 ghost use Rattle.searching.specs.Run.{entries_of, bare, GivesRun, result_of};
 ghost use Rattle.searching.specs.Lent.{Worded};
 
+use opening::Space;
 use search::Walked;
-use settle::Model;
-use state::Shape;
-use syntax::question;
-use tables::Tables;
-use token::{Limits, Refusal};
+use store::Settled;
 use walk::Written;
 
 // What a search answers: 0 or a refusal's number; the length of the run, 0 for none; its entry numbers, unused ones 0.
@@ -89,55 +82,31 @@ fn result_of(walked: Walked, run: &[u16]) -> Found
 
 // Questions 11 of a state and 26, then the walk over the tables of a model.
 fn search_tables(
-    tables: Tables,
-    sums: usize,
-    channels: usize,
+    settled: Settled,
     written: Written,
     state: &[i64],
     name: &[u8],
     depth: u64,
 ) -> Found
-    requires { ((m : Resolved.Model) × Worded tables.nodes.now tables.roots.now tables.scopes.now tables.root tables.variables sums channels written.text.now written.places.now written.sizes.now m) × (length state.now ≡ state_length) }
-    ensures { (m : Resolved.Model) (bs : List ℕ) → Worded tables.entry.nodes.now tables.entry.roots.now tables.entry.scopes.now tables.entry.root tables.entry.variables sums channels written.entry.text.now written.entry.places.now written.entry.sizes.now m → GivesRun (requested (search' name.now depth) (lent_two bs state.now) [] (some m)) result (lent_two bs state.now) }
+    requires { ((m : Resolved.Model) × Worded settled.tables.nodes.now settled.tables.roots.now settled.tables.scopes.now settled.tables.root settled.tables.variables settled.sums settled.channels written.text.now written.places.now written.sizes.now m) × (length state.now ≡ state_length) }
+    ensures { (m : Resolved.Model) (bs : List ℕ) → Worded settled.entry.tables.nodes.now settled.entry.tables.roots.now settled.entry.tables.scopes.now settled.entry.tables.root settled.entry.tables.variables settled.entry.sums settled.entry.channels written.entry.text.now written.entry.places.now written.entry.sizes.now m → GivesRun (requested (search' name.now depth) (lent_two bs state.now) [] (some m)) result (lent_two bs state.now) }
 {
-    if !state::is_state(
-        state,
-        Shape {
-            scopes: tables.scopes,
-            sums,
-            channels,
-        },
-    ) {
+    if !state::is_state(state, settled.shape()) {
         return Found::bare(11);
     }
     if !is_depth(depth) {
         return Found::bare(26);
     }
     let mut run = [0u16; 8];
-    let walked = walk::search_model(tables, written, state, name, depth as usize, &mut run);
+    let walked = walk::search_model(
+        settled.tables,
+        written,
+        state,
+        name,
+        depth as usize,
+        &mut run,
+    );
     result_of(walked, &run)
-}
-
-// The model of a text that a model buffer holds, in three tables, and where the words of its tokens stand, in two; those that only reading needs are its own.
-fn read_words(
-    text: &[u8],
-    nodes: &mut [u64],
-    roots: &mut [u16],
-    scopes: &mut [u16],
-    places: &mut [u16],
-    sizes: &mut [u16],
-) -> Result<(Model, usize), Refusal>
-    requires { (token_limit ≤ length nodes.old) × (token_limit ≤ length roots.old) × (token_limit ≤ length scopes.old) × (text_limit ≤ length places.old) × (text_limit ≤ length sizes.old) }
-    ensures model_read { ModelRead text.now nodes.new roots.new scopes.new result }
-    ensures model_marked { ModelMarked text.now places.old sizes.old places.new sizes.new result }
-{
-    let mut kinds = [0u8; Limits::TEXT];
-    let mut low = [0u64; question::Limits::TOKENS];
-    let mut high = [0u64; question::Limits::TOKENS];
-    let mut names = [0u64; question::Limits::TOKENS];
-    opening::read_model(
-        text, &mut kinds, places, sizes, &mut low, &mut high, nodes, roots, scopes, &mut names,
-    )
 }
 
 // Searches over a text that a model buffer holds.
@@ -145,41 +114,23 @@ pub fn search_text(text: &[u8], state: &[i64], name: &[u8], depth: u64) -> Found
     requires { length state.now ≡ state_length }
     ensures { (bs : List ℕ) → GivesRun (requested (search' name.now depth) (lent_two bs state.now) [] (held text.now)) result (lent_two bs state.now) }
 {
-    let mut nodes = [0u64; question::Limits::TOKENS];
-    let mut roots = [0u16; question::Limits::TOKENS];
-    let mut scopes = [0u16; question::Limits::TOKENS];
-    let mut places = [0u16; Limits::TEXT];
-    let mut sizes = [0u16; Limits::TEXT];
-    let read = read_words(
-        text,
-        &mut nodes,
-        &mut roots,
-        &mut scopes,
-        &mut places,
-        &mut sizes,
-    );
-    match read {
-        Err(_) => Found::bare(11),
-        Ok((found, _)) => {
-            search_tables(
-                Tables {
-                    nodes: &nodes,
-                    roots: &roots,
-                    scopes: &scopes,
-                    root: found.root,
-                    variables: found.variables,
-                },
-                found.sums,
-                found.channels,
-                Written {
-                    text,
-                    places: &places,
-                    sizes: &sizes,
-                },
-                state,
-                name,
-                depth,
-            )
-        }
-    }
+    let mut space = Space::EMPTY;
+    let Ok((found, _)) = opening::read_model(text, &mut space) else {
+        return Found::bare(11);
+    };
+    search_tables(
+        Settled {
+            tables: space.tables(found),
+            sums: found.sums,
+            channels: found.channels,
+        },
+        Written {
+            text,
+            places: &space.places,
+            sizes: &space.sizes,
+        },
+        state,
+        name,
+        depth,
+    )
 }

@@ -1,11 +1,12 @@
 -- The tables of a text that a model buffer holds, from what reading it gives; and what the run over them is lent.
-use mathlib.Core.Path.{◌≡◌, sym}
+use mathlib.Core.Path.{◌≡◌, sym, ap, ◌∙◌}
 use mathlib.Core.List.{List}
 use mathlib.Core.Bool.{true}
 use mathlib.Core.Option.{none}
-use Prim.Native.Nat.{ℕ}
+use Prim.Native.Nat.{ℕ, ◌+◌, ◌-◌}
+use native.Mathlib.Omega.{arith}
 use lib.IntN.{ℤ}
-use lib.ListN.{length, take}
+use lib.ListN.{length, take, drop}
 use Rattle.std.specs.Prelude.{Err, Ok}
 use Rattle.token.specs.Questions.{refusal}
 use Rattle.model.specs.Resolved
@@ -14,12 +15,13 @@ use Rattle.model.proofs.Held.{held-good}
 use Rattle.settle.specs.declared.Model.{Model}
 use Rattle.opening.specs.Trees.{Closed}
 use Rattle.opening.specs.Models.{ModelHeld, ModelRead, Held}
+use Rattle.buffers.specs.Held.{length_in, text_in, held_in}
 use Rattle.machine.specs.State.{state_length}
 use Rattle.state.specs.Test.{is_state}
-use Rattle.store.specs.Tables.{Tables}
+use Rattle.store.specs.Text.{TextOf}
+use Rattle.store.specs.Tables.{Tables, Whole}
 use Rattle.store.proofs.Tables.{state_of, numbers-back, state-good}
 use Rattle.step.specs.Enter.{Lent}
-use Rattle.simulation.specs.Comes.{Whole}
 
 -- ---- what was read
 
@@ -50,3 +52,8 @@ module _ (t roots scopes : List ℕ) (root variables sums channels : ℕ) (m : R
       represents = h.represents;
       stands = record { good = h.good; state = state-good t roots scopes sums channels m tables zs l e; numbers = sym (numbers-back t roots scopes sums channels m tables zs l e) };
     }
+
+-- the text in the model buffer
+pub text-held : (bs : List ℕ) (n : ℕ) → TextOf bs n → held_in bs ≡ held (take (2 + n - 2) (drop 2 bs))
+unfolding text_in
+text-held bs n h = let e : length_in bs ≡ 2 + n - 2 = omega (arith, h.long) in h.holds ∙ ap (λ (i : ℕ). held (take i (drop 2 bs))) e

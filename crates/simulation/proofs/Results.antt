@@ -2,26 +2,23 @@
 use mathlib.Core.Path.{◌≡◌, refl, sym, ap, ◌∙◌}
 use mathlib.Core.List.{List}
 use mathlib.Core.Bool.{Bool, true, false, ◌&&◌, and-true}
-use mathlib.Core.Option.{none, some, Option-elim}
-use Prim.Native.Nat.{ℕ, ◌+◌, ◌-◌, ◌/◌}
-use native.Mathlib.Omega.{arith}
+use mathlib.Core.Option.{Option, none, some, Option-elim}
+use Prim.Native.Nat.{ℕ, ◌/◌}
 use borrow.Author.Tests.{eqb-true, eq-eqb}
 use lib.Dec.{eqb}
 use lib.IntN.{ℤ}
-use lib.ListN.{length, take, drop}
+use lib.ListN.{length}
 use Rattle.clock.specs.declared.Clock.{Clock}
 use Rattle.clock.specs.Clock.{InRange, is_in_range}
 use Rattle.clock.proofs.Bringing.{both-in}
 use Rattle.model.specs.Resolved
-use Rattle.model.specs.Held as text
 use Rattle.machine.specs.State.{State, state_length, state_numbers}
 use Rattle.machine.specs.Machine.{model_length, event_width, no, Run, runs_with, ran_as, runs_over, held, moved_in, Machine, closed, holding, on_clock, Request, run', acts, Part, model, state, saves, clock, two_parts, timed_parts, uses, on', is_lent, all_parts, has_lengths, on_machine}
 use Rattle.machine.proofs.Lent.{both_true}
-use Rattle.buffers.specs.Held.{length_in, text_in, held_in}
+use Rattle.buffers.specs.Held.{held_in}
 use Rattle.buffers.specs.Listing.{shown}
 use Rattle.buffers.specs.Parts.{Engine, clock_numbers, numbers_of, is_part, read_held, lent_two, lent_timed}
 use Rattle.buffers.specs.Effect.{machine_over, untouched, left_in, leaves, requested, answered, effect}
-use Rattle.store.specs.Text.{TextOf}
 use Rattle.buffers.proofs.Clocks.{held_at, clocked, timed-over}
 use Rattle.running.specs.declared.Progress.{Progress}
 use Rattle.running.specs.Progress.{Stands}
@@ -133,10 +130,6 @@ module _ (bs : List ℕ) (zs : List ℤ) (c : Clock) (ws vs : List ℕ) (n : ℕ
       shut : machine_over timed_parts x (held_in (x model)) ≡ closed
       shut = timed-over x (held_in (x model)) ∙ ap (clocked (machine_over two_parts x (held_in (x model)))) clock-is ∙ by (machine_over two_parts x (held_in (x model)))
 
-  pub none_in : held_in bs ≡ none → answered (on' q) x l ≡ requested q x l none
+  pub ran-held : {o : Option Resolved.Model} → held_in bs ≡ o → answered (on' q) x l ≡ requested q x l o
   unfolding answered lent_timed
-  none_in e = ap (requested q x l) e
-
-  pub text_in_lem : (k : ℕ) → TextOf bs k → answered (on' q) x l ≡ requested q x l (text.held (take (2 + k - 2) (drop 2 bs)))
-  unfolding answered lent_timed text_in
-  text_in_lem k h = let e : length_in bs ≡ 2 + k - 2 = omega (arith, h.long) in ap (requested q x l) (h.holds ∙ ap (λ (i : ℕ). text.held (take i (drop 2 bs))) e)
+  ran-held e = ap (requested q x l) e

@@ -1,22 +1,26 @@
 -- What a run over a text comes to (docs/DECISIONS.md, R.4 to R.7), number by number, and the buffers as an effect says. Definitions only.
-use Rattle.std.specs.Prelude.{◌≡◌, Bool, true, ◌&&◌, List, ℕ, eqb, get_or}
+use Rattle.std.specs.Prelude.{◌≡◌, Bool, Option, None, Some, ◌&&◌, List, ℕ, eqb, get_or}
+use Rattle.std.proofs.Math.Option.{some, none}
 use Rattle.clock.specs.declared.Clock.{Clock}
 use Rattle.model.specs.Resolved
-use Rattle.model.specs.Good.{GoodModel}
-use Rattle.tables.specs.Represents.{Represents}
+use Rattle.buffers.specs.Held.{held_in}
+use Rattle.store.specs.declared.Settled.{Settled}
+use Rattle.store.specs.Tables.{Shows}
 use Rattle.machine.specs.State.{state_length}
 use Rattle.machine.specs.Machine.{model_length, Part}
 use Rattle.buffers.specs.Parts.{Engine}
 use Rattle.buffers.specs.Effect.{Effect}
 use Rattle.running.specs.declared.Progress.{Progress}
+use Rattle.running.specs.declared.End.TheVariants.{Refused}
+use Rattle.running.specs.Progress.{end_number}
 
 -- 1 and 11 carry nothing else, and the clock stays
 abbrev pub refused_with : ℕ → Clock → Progress
-refused_with n k = record { number = n; steps = 0; words = 0; waiting = 0; count = 0; total = 0; clock = k; over = true }
+refused_with n k = record { steps = 0; words = 0; waiting = 0; count = 0; total = 0; clock = k; end = Some (Refused n) }
 
 -- R.4 to R.7: what the run p came to, the buffers x and the events l that were lent are those of the effect; a call that used nothing says 0
 pub record Comes (w : Effect) (p : Progress) (x : Engine) (l : List ℕ) : Type 0 where
-  pub number : p.number ≡ w.answer.number
+  pub number : end_number p.end ≡ w.answer.number
   pub steps : p.steps ≡ get_or w.answer.used 0 0
   pub words : p.words ≡ get_or w.answer.used 1 0
   pub waiting : p.waiting ≡ get_or w.answer.used 2 0
@@ -25,11 +29,10 @@ pub record Comes (w : Effect) (p : Progress) (x : Engine) (l : List ℕ) : Type 
   pub buffers : (q : Part) → x q ≡ w.left q
   pub output : l ≡ w.output
 
--- nodes, roots and scopes hold a good model, with its root and so many variables, sums and channel names
-pub record Whole (t roots scopes : List ℕ) (root variables sums channels : ℕ) (m : Resolved.Model) : Type 0 where
-  pub definitions : ℕ
-  pub represents : Represents t roots scopes root variables definitions sums channels m
-  pub good : GoodModel m
+-- 01, Listing, 11: no model, or the tables of the one that the buffer holds
+unfoldable pub Reads : List ℕ → Option Settled → Type 0
+Reads bs None = held_in bs ≡ none
+Reads bs (Some s) = (m : Resolved.Model) × (held_in bs ≡ some m) × Shows s m
 
 -- 01, 1, of a run: the lengths of the model and the state
 unfoldable pub are_long : (model state : ℕ) → Bool

@@ -4,7 +4,12 @@
 pub mod buffer;
 pub mod start;
 
-ghost use Rattle.std.specs.Prelude.{◌≡◌};
+ghost use Rattle.std.specs.Prelude.{◌≡◌, take};
+ghost use Rattle.model.specs.Resolved as Resolved;
+ghost use Rattle.store.specs.Tables.{Holds};
+
+use state::Shape;
+use tables::Tables;
 
 // The header of an engine: the length of its text, and how many processes and pairs it has.
 #[derive(Clone, Copy)]
@@ -34,6 +39,28 @@ impl Engine {
             text: 0,
             processes: 0,
             pairs: 0,
+        }
+    }
+}
+
+// The tables of a model, with its numbers of sums and of channel names.
+#[derive(Clone, Copy)]
+pub struct Settled<'a> {
+    pub tables: Tables<'a>,
+    pub sums: usize,
+    pub channels: usize,
+}
+
+impl<'a> Settled<'a> {
+    // What a state over the model is judged by.
+    pub fn shape(self) -> Shape<'a>
+        requires { (m : Resolved.Model) × Holds self m }
+        ensures { (result.scopes.now ≡ take self.entry.sums self.entry.tables.scopes.now) × (result.channels ≡ self.entry.channels) }
+    {
+        let scopes = self.tables.scopes;
+        Shape {
+            scopes: &scopes[..self.sums],
+            channels: self.channels,
         }
     }
 }

@@ -128,6 +128,9 @@ pub fn open_state(tables: Tables, definitions: usize, state: &mut [i64])
     requires { (state.old ≡ replicate state_length (pos 0)) × ((m : Resolved.Model) × Start.Opens tables.nodes.now tables.scopes.now tables.root tables.variables definitions m) }
     ensures { (m : Resolved.Model) → Start.Opens tables.entry.nodes.now tables.entry.scopes.now tables.entry.root tables.entry.variables definitions m → state.new ≡ state_numbers (opened_state m) }
 {
-    let line = eval::next::less(eval::next::less(tables.root, tables.variables), definitions);
+    let line = tables
+        .root
+        .saturating_sub(tables.variables)
+        .saturating_sub(definitions);
     push_items(tables, line, state);
 }

@@ -1,15 +1,16 @@
--- By the lengths of the parts, then that of the output.
-use mathlib.Core.Path.{refl, sym, ◌∙◌}
-use Rattle.state.proofs.Tests.{refused, passed}
+-- By the lengths of the parts, and the third.
+use mathlib.Core.Bool.{Bool, ◌&&◌}
+use mathlib.Core.Path.{sym, ap, ◌∙◌}
+use lib.Dec.{eqb}
 use Rattle.engine.specs.Gives.{are_long}
 use Rattle.engine.proofs.are_long.Goals as goal
 
-pub returns-then-not-are_parts_long : goal.returns-then-not-are_parts_long
+pub returns-then-are_parts_long : goal.returns-then-are_parts_long
 unfolding are_long
-returns-then-not-are_parts_long c =
-    rw (sym c.are_parts_long.ensures ∙ refused _ c.if-not-are_parts_long.true-raw) refl
+returns-then-are_parts_long c =
+    ap (λ (b : Bool). b && eqb c.args.output c.args.right) (sym c.if-are_parts_long.true ∙ c.are_parts_long.ensures)
 
-pub returns : goal.returns
+pub returns-else-are_parts_long : goal.returns-else-are_parts_long
 unfolding are_long
-returns c =
-    rw (sym c.are_parts_long.ensures ∙ passed _ c.if-not-are_parts_long.false-raw) refl
+returns-else-are_parts_long c =
+    c.if-are_parts_long.false ∙ ap (λ (b : Bool). b && eqb c.args.output c.args.right) (sym c.if-are_parts_long.false ∙ c.are_parts_long.ensures)

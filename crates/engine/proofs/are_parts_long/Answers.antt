@@ -1,16 +1,20 @@
 -- By the two lengths.
 use borrow.Author.Tests.{eq-eqb, ne_eqb}
-use mathlib.Core.Path.{refl}
+use mathlib.Core.Bool.{Bool, ◌&&◌}
+use mathlib.Core.Path.{refl, sym, ap, ◌∙◌}
+use lib.Dec.{eqb}
+use Rattle.machine.specs.State.{state_length}
 use Rattle.machine.specs.Machine.{model_length}
 use Rattle.engine.specs.Gives.{are_parts_long}
 use Rattle.engine.proofs.are_parts_long.Goals as goal
 
-pub returns-then-model-ne-MODEL : goal.returns-then-model-ne-MODEL
+pub returns-then-model-eq-MODEL : goal.returns-then-model-eq-MODEL
 unfolding are_parts_long
-returns-then-model-ne-MODEL c =
-    rw (ne_eqb c.args.model model_length c.if-model-ne-MODEL.true) refl
+returns-then-model-eq-MODEL c =
+    rw (eq-eqb c.args.model model_length c.if-model-eq-MODEL.true) refl
 
-pub returns : goal.returns
+pub returns-else-model-eq-MODEL : goal.returns-else-model-eq-MODEL
 unfolding are_parts_long
-returns c =
-    rw (eq-eqb c.args.model model_length c.if-model-ne-MODEL.false) refl
+returns-else-model-eq-MODEL c =
+    let e = ne_eqb c.args.model model_length c.if-model-eq-MODEL.false in
+    e ∙ sym (ap (λ (b : Bool). b && eqb c.args.state state_length) e)

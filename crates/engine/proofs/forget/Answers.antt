@@ -18,12 +18,12 @@ pub returns-then-not-holds : goal.returns-then-not-holds
 returns-then-not-holds c =
     rw (c.bare-then-not-holds.ensures, three-right c.args.model.now c.args.state.now c.args.saves.now (on' (forget' c.args.name.now)) refl refl (sym c.are_all_long.ensures ∙ passed _ c.if-not-are_all_long.false-raw)) (unheld-gives c.args.name.now c.args.model.now c.args.state.now c.args.saves.now (sym c.holds.ensures ∙ refused _ c.if-not-holds.true-raw))
 
-pub forget-number-requires : goal.forget-number-requires
-forget-number-requires c =
+pub forget-requires : goal.forget-requires
+forget-requires c =
     let l = three-long _ _ _ (sym c.are_all_long.ensures ∙ passed _ c.if-not-are_all_long.false-raw) in
     l.2
 
 pub returns : goal.returns
 returns c =
     let l = three-long _ _ _ (sym c.are_all_long.ensures ∙ passed _ c.if-not-are_all_long.false-raw) in
-    rw (c.bare-2.ensures, three-right c.args.model.now c.args.state.now c.args.saves.now (on' (forget' c.args.name.now)) refl refl (sym c.are_all_long.ensures ∙ passed _ c.if-not-are_all_long.false-raw)) (forget_gives c.args.name.now c.args.model.now c.args.state.now c.args.saves.now l.1 l.2 (sym c.holds.ensures ∙ passed _ c.if-not-holds.false-raw) _ _ _ c.forget-number.ensures)
+    rw (c.stored_answer.ensures, three-right c.args.model.now c.args.state.now c.args.saves.now (on' (forget' c.args.name.now)) refl refl (sym c.are_all_long.ensures ∙ passed _ c.if-not-are_all_long.false-raw)) (forget_gives c.args.name.now c.args.model.now c.args.state.now c.args.saves.now l.1 l.2 (sym c.holds.ensures ∙ passed _ c.if-not-holds.false-raw) _ _ _ (c.forget.ensures c.args.state.now))

@@ -3,4 +3,4 @@ use Rattle.engine.proofs.run.Goals as goal
 
 pub returns : goal.returns
 returns c =
-    rw c.of.ensures (ran-gives c.run-p.ensures)
+    rw c.from.ensures (ran-gives c.run-p.ensures)

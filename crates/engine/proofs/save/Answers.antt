@@ -3,8 +3,7 @@ use mathlib.Core.Path.{refl, sym, ◌∙◌}
 use Rattle.machine.specs.Machine.{save', on'}
 use Rattle.state.proofs.Tests.{refused, passed}
 use Rattle.engine.proofs.Lengths.{three-long, four-wrong, four-right}
-use Rattle.engine.proofs.Stored.{unheld-four, range-so, besides-long, stores-from, save-gives}
-use borrow.Author.Rules.{rules}
+use Rattle.engine.proofs.Stored.{unheld-four, range-so, stores-from, save-gives}
 use Rattle.engine.proofs.save.Goals as goal
 
 pub returns-then-not-are_all_long : goal.returns-then-not-are_all_long
@@ -21,13 +20,13 @@ returns-then-not-holds_all c =
 
 pub put_kept-requires : goal.put_kept-requires
 put_kept-requires c =
-    let l = (three-long _ _ _ (sym c.are_all_long.ensures ∙ passed _ c.if-not-are_all_long.false-raw)) in (search rules, l.1, range-so c.args.model.now c.args.state.now c.args.saves.now c.args.clock l.1 l.2 (sym c.holds_all.ensures ∙ passed _ c.if-not-holds_all.false-raw))
+    let l = (three-long _ _ _ (sym c.are_all_long.ensures ∙ passed _ c.if-not-are_all_long.false-raw)) in (l.1, range-so c.args.model.now c.args.state.now c.args.saves.now c.args.clock l.1 l.2 (sym c.holds_all.ensures ∙ passed _ c.if-not-holds_all.false-raw))
 
-pub save-number-requires : goal.save-number-requires
-save-number-requires c =
-    let l = (three-long _ _ _ (sym c.are_all_long.ensures ∙ passed _ c.if-not-are_all_long.false-raw)) in (l.2, besides-long c.args.state.now c.args.clock l.1 c.put_kept.ensures)
+pub save-requires : goal.save-requires
+save-requires c =
+    let l = (three-long _ _ _ (sym c.are_all_long.ensures ∙ passed _ c.if-not-are_all_long.false-raw)) in l.2
 
 pub returns : goal.returns
 returns c =
     let l = (three-long _ _ _ (sym c.are_all_long.ensures ∙ passed _ c.if-not-are_all_long.false-raw)) in
-    rw (c.bare-2.ensures, four-right c.args.model.now c.args.state.now c.args.saves.now c.args.clock (on' (save' c.args.name.now)) refl refl (sym c.are_all_long.ensures ∙ passed _ c.if-not-are_all_long.false-raw)) (save-gives c.args.model.now c.args.state.now c.args.saves.now c.args.clock l.1 l.2 (sym c.holds_all.ensures ∙ passed _ c.if-not-holds_all.false-raw) c.args.name.now _ _ _ (stores-from c.args.name.now c.args.saves.now c.put_kept.ensures c.save-number.ensures))
+    rw (c.stored_answer.ensures, four-right c.args.model.now c.args.state.now c.args.saves.now c.args.clock (on' (save' c.args.name.now)) refl refl (sym c.are_all_long.ensures ∙ passed _ c.if-not-are_all_long.false-raw)) (save-gives c.args.model.now c.args.state.now c.args.saves.now c.args.clock l.1 l.2 (sym c.holds_all.ensures ∙ passed _ c.if-not-holds_all.false-raw) c.args.name.now _ _ _ (stores-from c.args.name.now c.args.saves.now c.put_kept.ensures c.save.ensures))

@@ -1,41 +1,29 @@
--- The text that the model buffer holds, or 11.
-use native.Mathlib.Omega.{arith}
+-- The model that the buffer holds, or 11.
 use Rattle.machine.specs.Machine.{step'}
 use Rattle.buffers.specs.Parts.{lent_two}
-use Rattle.store.specs.Text.{TextOf, TextIn}
+use Rattle.simulation.specs.Comes.{Reads}
 use Rattle.engine.proofs.Shows.{none-gives}
-use Rattle.engine.proofs.Lengths.{none_in, text_in_lem}
+use Rattle.engine.proofs.Lengths.{held-answers}
 use Rattle.engine.proofs.step_lent.Goals as goal
 
-pub overflow_add-end : goal.overflow_add-end
-unfolding TextIn
-overflow_add-end c =
-    let h : TextOf c.args.model.now c.in-Some.n = rw c.in-Some.is at c.find_text.ensures in
-    omega (arith, h.short)
-
-pub slice_bounds-step_text-end : goal.slice_bounds-step_text-end
-unfolding TextIn
-slice_bounds-step_text-end c =
-    let h : TextOf c.args.model.now c.in-Some.n = rw c.in-Some.is at c.find_text.ensures in
-    omega (arith, h.short, c.requires.0)
-
-pub step_text-requires : goal.step_text-requires
-step_text-requires c =
-    (c.requires.1, c.requires.2)
-
 pub returns-in_default : goal.returns-in_default
-unfolding TextIn
+unfolding Reads
 returns-in_default c =
     let B = c.args.model.now in
     let Z = c.args.state.now in
     let L = c.args.listing.now in
-    rw (c.bare.ensures, none_in B Z (step' c.args.draw) L (rw c.in_default.is at c.find_text.ensures)) (none-gives (step' c.args.draw) (lent_two B Z) L)
+    let q = step' c.args.draw in
+    rw (c.bare.ensures, held-answers B Z q L (rw c.in_default.is at c.read.ensures)) (none-gives q (lent_two B Z) L)
+
+pub step_model-requires : goal.step_model-requires
+unfolding Reads
+step_model-requires c =
+    let r = rw c.in-Some.is at c.read.ensures in
+    ((r.0, r.2), c.requires.1, c.requires.2)
 
 pub returns : goal.returns
-unfolding TextIn
+unfolding Reads
 returns c =
     let B = c.args.model.now in
-    let Z = c.args.state.now in
-    let L = c.args.listing.now in
-    let h : TextOf c.args.model.now c.in-Some.n = rw c.in-Some.is at c.find_text.ensures in
-    rw (text_in_lem B Z (step' c.args.draw) L c.in-Some.n h) (c.step_text.ensures B)
+    let r = rw c.in-Some.is at c.read.ensures in
+    rw (held-answers B c.args.state.now (step' c.args.draw) c.args.listing.now r.1) (c.step_model.ensures r.0 B r.2)

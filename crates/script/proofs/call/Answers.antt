@@ -38,7 +38,7 @@ slice_bounds-open-end-then-row-eq-OPEN-6 c =
 
 pub returns-then-row-eq-OPEN : goal.returns-then-row-eq-OPEN
 returns-then-row-eq-OPEN c =
-    λ ws. opening-called c.args.row c.args.texts.now c.args.numbers.now ws c.args.model.now c.args.state.now c.args.saves.now c.args.clock c.args.outputs.now c.«open».result.answer c.if-row-eq-OPEN.true c.«open».new.model c.«open».new.state c.«open».new.saves c.«open».result.clock c.«open».ensures
+    λ ws. opening-called c.args.row c.args.given.texts.now c.args.given.numbers.now ws c.args.model.now c.args.state.now c.args.saves.now c.args.clock c.args.outputs.now c.«open».result.answer c.if-row-eq-OPEN.true c.«open».new.model c.«open».new.state c.«open».new.saves c.«open».result.clock c.«open».ensures
 
 pub slice_bounds-list-end : goal.slice_bounds-list-end
 slice_bounds-list-end c =
@@ -66,7 +66,7 @@ slice_bounds-list-end-then-row-eq-LIST-5 c =
 
 pub returns-then-row-eq-LIST : goal.returns-then-row-eq-LIST
 returns-then-row-eq-LIST c =
-    λ ws. rw c.of.ensures (listing-called c.args.row c.args.texts.now c.args.numbers.now ws c.args.model.now c.args.state.now c.args.saves.now c.args.clock c.args.outputs.now c.list-answer.result c.if-row-eq-LIST.true c.list-answer.new.listing c.list-answer.ensures)
+    λ ws. rw c.of.ensures (listing-called c.args.row c.args.given.texts.now c.args.given.numbers.now ws c.args.model.now c.args.state.now c.args.saves.now c.args.clock c.args.outputs.now c.list-answer.result c.if-row-eq-LIST.true c.list-answer.new.listing c.list-answer.ensures)
 
 pub slice_bounds-report-end : goal.slice_bounds-report-end
 slice_bounds-report-end c =
@@ -94,7 +94,7 @@ slice_bounds-report-end-then-row-eq-REPORT-5 c =
 
 pub returns-then-row-eq-REPORT : goal.returns-then-row-eq-REPORT
 returns-then-row-eq-REPORT c =
-    λ ws. rw c.of-then-row-eq-REPORT.ensures (reporting-called c.args.row c.args.texts.now c.args.numbers.now ws c.args.model.now c.args.state.now c.args.saves.now c.args.clock c.args.outputs.now c.report-answer.result c.if-row-eq-REPORT.true c.report-answer.new.report c.report-answer.ensures)
+    λ ws. rw c.of-then-row-eq-REPORT.ensures (reporting-called c.args.row c.args.given.texts.now c.args.given.numbers.now ws c.args.model.now c.args.state.now c.args.saves.now c.args.clock c.args.outputs.now c.report-answer.result c.if-row-eq-REPORT.true c.report-answer.new.report c.report-answer.ensures)
 
 pub slice_bounds-step-end : goal.slice_bounds-step-end
 slice_bounds-step-end c =
@@ -122,7 +122,7 @@ slice_bounds-step-end-then-row-eq-STEP-5 c =
 
 pub returns-then-row-eq-STEP : goal.returns-then-row-eq-STEP
 returns-then-row-eq-STEP c =
-    λ ws. rw c.of-then-row-eq-STEP.ensures (stepping-called c.args.row c.args.texts.now c.args.numbers.now ws c.args.model.now c.args.state.now c.args.saves.now c.args.clock c.args.outputs.now c.step-answer.result c.if-row-eq-STEP.true c.step-answer.new.state c.step-answer.new.listing c.step-answer.ensures)
+    λ ws. rw c.of-then-row-eq-STEP.ensures (stepping-called c.args.row c.args.given.texts.now c.args.given.numbers.now ws c.args.model.now c.args.state.now c.args.saves.now c.args.clock c.args.outputs.now c.step-answer.result c.if-row-eq-STEP.true c.step-answer.new.state c.step-answer.new.listing c.step-answer.ensures)
 
 pub call_timed-requires : goal.call_timed-requires
 call_timed-requires c =
@@ -130,7 +130,7 @@ call_timed-requires c =
 
 pub returns-then-row-eq-TIMED : goal.returns-then-row-eq-TIMED
 returns-then-row-eq-TIMED c =
-    λ ws. c.call_timed.ensures c.args.texts.now ws c.args.saves.now
+    λ ws. c.call_timed.ensures c.args.given.texts.now ws c.args.saves.now
 
 pub call_steady-requires : goal.call_steady-requires
 call_steady-requires c =
@@ -138,7 +138,7 @@ call_steady-requires c =
 
 pub returns-then-row-eq-STEADY : goal.returns-then-row-eq-STEADY
 returns-then-row-eq-STEADY c =
-    λ ws. c.call_steady.ensures c.args.numbers.now ws c.args.outputs.now
+    λ ws. c.call_steady.ensures c.args.given.numbers.now ws c.args.outputs.now
 
 pub call_named-requires : goal.call_named-requires
 call_named-requires c =
@@ -146,4 +146,4 @@ call_named-requires c =
 
 pub returns : goal.returns
 returns c =
-    λ ws. c.call_named.ensures c.args.numbers.now ws c.args.outputs.now
+    λ ws. c.call_named.ensures c.args.given.numbers.now ws c.args.outputs.now

@@ -24,8 +24,8 @@ pub slice_bounds-run-end-3 : goal.slice_bounds-run-end-3
 slice_bounds-run-end-3 c =
     let a = there _ _ _ _ _ _ _ _ _ c.requires.1.1.1.1 in simp length-take (omega (arith, a.model, a.state, a.output))
 
-pub offset_bounds-words-start : goal.offset_bounds-words-start
-offset_bounds-words-start c =
+pub offset_bounds-given-start : goal.offset_bounds-given-start
+offset_bounds-given-start c =
     let a = there _ _ _ _ _ _ _ _ _ c.requires.1.1.1.1 in omega (arith, a.supply)
 
 pub slice_bounds-run-start : goal.slice_bounds-run-start
@@ -36,8 +36,8 @@ pub slice_bounds-run-end-4 : goal.slice_bounds-run-end-4
 slice_bounds-run-end-4 c =
     let a = there _ _ _ _ _ _ _ _ _ c.requires.1.1.1.1 in omega (arith, a.supply)
 
-pub offset_bounds-numbers-from : goal.offset_bounds-numbers-from
-offset_bounds-numbers-from c =
+pub offset_bounds-given-from : goal.offset_bounds-given-from
+offset_bounds-given-from c =
     let a = there _ _ _ _ _ _ _ _ _ c.requires.1.1.1.1 in omega (arith, a.list)
 
 pub slice_bounds-run-start-2 : goal.slice_bounds-run-start-2
@@ -58,4 +58,4 @@ slice_bounds-run-end-7 c =
 
 pub returns : goal.returns
 returns c =
-    λ texts ss. let a = there _ _ _ _ _ _ _ _ _ c.requires.1.1.1.1 in running-called c.args.row texts c.args.numbers.now c.args.words.now c.args.model.now c.args.state.now ss c.args.clock c.args.outputs.now c.run.result.ran c.requires.0 a.output c.run.new.state c.run.result.clock c.run.new.events c.run.ensures
+    λ texts ss. let a = there _ _ _ _ _ _ _ _ _ c.requires.1.1.1.1 in running-called c.args.row texts c.args.given.numbers.now c.args.given.words.now c.args.model.now c.args.state.now ss c.args.clock c.args.outputs.now c.run.result.ran c.requires.0 a.output c.run.new.state c.run.result.clock c.run.new.events c.run.ensures

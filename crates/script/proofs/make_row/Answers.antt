@@ -16,7 +16,7 @@ put_found-requires c =
 
 pub returns-then-row-eq-SEARCH : goal.returns-then-row-eq-SEARCH
 returns-then-row-eq-SEARCH c =
-    call-left (row_call c.args.texts.now c.args.numbers.now c.args.words.now c.args.row) (lent_four c.args.model.now c.args.state.now c.args.saves.now c.args.clock.now) c.args.outputs.now c.args.answers.now (found_numbers c.call_search-found.result) _ _ _ (clock-called c.args.texts.now c.args.numbers.now c.args.words.now c.args.row c.args.model.now c.args.state.now c.args.saves.now c.args.clock.now c.args.outputs.now (found_numbers c.call_search-found.result) c.args.model.now c.args.state.now c.args.saves.now (clock_in c.args.clock.now) c.args.clock.now c.args.outputs.now (clock-there _ _ _ _ _ _ _ _ _ c.requires.outputs_value) (c.call_search-found.ensures c.args.numbers.now c.args.words.now c.args.outputs.now c.args.saves.now (clock_in c.args.clock.now)) (clock-whole c.args.clock.now (clock-there _ _ _ _ _ _ _ _ _ c.requires.outputs_value))) c.put_found.ensures
+    call-left (row_call c.args.given.texts.now c.args.given.numbers.now c.args.given.words.now c.args.row) (lent_four c.args.model.now c.args.state.now c.args.saves.now c.args.clock.now) c.args.outputs.now c.args.answers.now (found_numbers c.call_search-found.result) _ _ _ (clock-called c.args.given.texts.now c.args.given.numbers.now c.args.given.words.now c.args.row c.args.model.now c.args.state.now c.args.saves.now c.args.clock.now c.args.outputs.now (found_numbers c.call_search-found.result) c.args.model.now c.args.state.now c.args.saves.now (clock_in c.args.clock.now) c.args.clock.now c.args.outputs.now (clock-there _ _ _ _ _ _ _ _ _ c.requires.outputs_value) (c.call_search-found.ensures c.args.given.numbers.now c.args.given.words.now c.args.outputs.now c.args.saves.now (clock_in c.args.clock.now)) (clock-whole c.args.clock.now (clock-there _ _ _ _ _ _ _ _ _ c.requires.outputs_value))) c.put_found.ensures
 
 pub clock_of-now-requires : goal.clock_of-now-requires
 clock_of-now-requires c =
@@ -36,7 +36,7 @@ put_ran-requires c =
 
 pub returns-then-row-eq-RUN : goal.returns-then-row-eq-RUN
 returns-then-row-eq-RUN c =
-    call-left (row_call c.args.texts.now c.args.numbers.now c.args.words.now c.args.row) (lent_four c.args.model.now c.args.state.now c.args.saves.now c.args.clock.now) c.args.outputs.now c.args.answers.now (ran_numbers c.call_run-told.result.ran) _ _ _ (clock-called c.args.texts.now c.args.numbers.now c.args.words.now c.args.row c.args.model.now c.args.state.now c.args.saves.now c.args.clock.now c.args.outputs.now (ran_numbers c.call_run-told.result.ran) c.args.model.now c.call_run-told.new.state c.args.saves.now c.call_run-told.result.clock c.put_clock.new.clock c.call_run-told.new.outputs (clock-there _ _ _ _ _ _ _ _ _ c.requires.outputs_value) (rw c.clock_of-now.ensures at (c.call_run-told.ensures c.args.texts.now c.args.saves.now)) c.put_clock.ensures) c.put_ran.ensures
+    call-left (row_call c.args.given.texts.now c.args.given.numbers.now c.args.given.words.now c.args.row) (lent_four c.args.model.now c.args.state.now c.args.saves.now c.args.clock.now) c.args.outputs.now c.args.answers.now (ran_numbers c.call_run-told.result.ran) _ _ _ (clock-called c.args.given.texts.now c.args.given.numbers.now c.args.given.words.now c.args.row c.args.model.now c.args.state.now c.args.saves.now c.args.clock.now c.args.outputs.now (ran_numbers c.call_run-told.result.ran) c.args.model.now c.call_run-told.new.state c.args.saves.now c.call_run-told.result.clock c.put_clock.new.clock c.call_run-told.new.outputs (clock-there _ _ _ _ _ _ _ _ _ c.requires.outputs_value) (rw c.clock_of-now.ensures at (c.call_run-told.ensures c.args.given.texts.now c.args.saves.now)) c.put_clock.ensures) c.put_ran.ensures
 
 pub call-timed-requires : goal.call-timed-requires
 call-timed-requires c =
@@ -52,4 +52,4 @@ put_answer-requires c =
 
 pub returns : goal.returns
 returns c =
-    call-left (row_call c.args.texts.now c.args.numbers.now c.args.words.now c.args.row) (lent_four c.args.model.now c.args.state.now c.args.saves.now c.args.clock.now) c.args.outputs.now c.args.answers.now (result_numbers c.call-timed.result.answer) _ _ _ (clock-called c.args.texts.now c.args.numbers.now c.args.words.now c.args.row c.args.model.now c.args.state.now c.args.saves.now c.args.clock.now c.args.outputs.now (result_numbers c.call-timed.result.answer) c.call-timed.new.model c.call-timed.new.state c.call-timed.new.saves c.call-timed.result.clock c.put_clock-2.new.clock c.call-timed.new.outputs (clock-there _ _ _ _ _ _ _ _ _ c.requires.outputs_value) (rw c.clock_of-now.ensures at (c.call-timed.ensures c.args.words.now)) c.put_clock-2.ensures) c.put_answer.ensures
+    call-left (row_call c.args.given.texts.now c.args.given.numbers.now c.args.given.words.now c.args.row) (lent_four c.args.model.now c.args.state.now c.args.saves.now c.args.clock.now) c.args.outputs.now c.args.answers.now (result_numbers c.call-timed.result.answer) _ _ _ (clock-called c.args.given.texts.now c.args.given.numbers.now c.args.given.words.now c.args.row c.args.model.now c.args.state.now c.args.saves.now c.args.clock.now c.args.outputs.now (result_numbers c.call-timed.result.answer) c.call-timed.new.model c.call-timed.new.state c.call-timed.new.saves c.call-timed.result.clock c.put_clock-2.new.clock c.call-timed.new.outputs (clock-there _ _ _ _ _ _ _ _ _ c.requires.outputs_value) (rw c.clock_of-now.ensures at (c.call-timed.ensures c.args.given.words.now)) c.put_clock-2.ensures) c.put_answer.ensures

@@ -6,8 +6,8 @@ use Rattle.script.specs.Run.{lent_four, lent_of}
 use Rattle.script.proofs.Turns.{Turn}
 use Rattle.script.proofs.run.Given as goal
 
-abbrev pub invariant-loop-i : goal.invariant-loop-i
-invariant-loop-i l = Turn l.script l.texts l.numbers l.words (lent_of (lent_four l.initial.model l.initial.state l.initial.saves l.initial.clock) l.initial.outputs l.initial.answers) (lent_of (lent_four l.model l.state l.saves l.clock) l.outputs l.answers) l.i
+abbrev pub invariant-loop-given : goal.invariant-loop-given
+invariant-loop-given l = Turn l.script l.texts l.numbers l.words (lent_of (lent_four l.initial.model l.initial.state l.initial.saves l.initial.clock) l.initial.outputs l.initial.answers) (lent_of (lent_four l.model l.state l.saves l.clock) l.outputs l.answers) l.i
 
-abbrev pub decreases-loop-i : goal.decreases-loop-i
-decreases-loop-i l = length l.script - l.i * row_width
+abbrev pub decreases-loop-given : goal.decreases-loop-given
+decreases-loop-given l = length l.script - l.i * row_width

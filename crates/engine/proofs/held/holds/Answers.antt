@@ -1,30 +1,28 @@
--- The text that the model buffer holds, or nothing.
-use mathlib.Core.Path.{ap, sym, ◌∙◌}
-use native.Mathlib.Omega.{arith}
-use Rattle.store.specs.Text.{TextOf, TextIn}
+-- The model that the buffer holds, or nothing.
+use mathlib.Core.Path.{refl, ap, sym, ◌∙◌}
 use Rattle.engine.specs.Gives.{is_holding}
-use Rattle.engine.proofs.Lengths.{three-none, three-text}
+use Rattle.simulation.specs.Comes.{Reads}
+use Rattle.engine.proofs.Drawn.{tables-of}
+use Rattle.engine.proofs.Lengths.{three-held}
+use Rattle.engine.proofs.Stored.{no_text, tables-hold}
 use Rattle.engine.proofs.held.holds.Goals as goal
 
-pub overflow_add-end : goal.overflow_add-end
-unfolding TextIn
-overflow_add-end c =
-    let h : TextOf c.args.model.now c.in-Some.n = rw c.in-Some.is at c.find_text.ensures in
-    omega (arith, h.short)
-
-pub slice_bounds-holds_text-end : goal.slice_bounds-holds_text-end
-unfolding TextIn
-slice_bounds-holds_text-end c =
-    let h : TextOf c.args.model.now c.in-Some.n = rw c.in-Some.is at c.find_text.ensures in
-    omega (arith, h.short, c.requires.0)
-
 pub returns-in_default : goal.returns-in_default
-unfolding TextIn is_holding
+unfolding Reads
 returns-in_default c =
-    sym (ap is_holding (three-none c.args.model.now c.args.state.now c.args.saves.now (rw c.in_default.is at c.find_text.ensures)))
+    let e = rw c.in_default.is at c.read.ensures in
+    sym (ap is_holding (three-held c.args.model.now c.args.state.now c.args.saves.now e) ∙ no_text _ _ refl)
+
+pub shape-requires : goal.shape-requires
+unfolding Reads
+shape-requires c =
+    let r = rw c.in-Some.is at c.read.ensures in
+    (r.0, tables-of _ _ _ _ _ _ _ r.0 r.2)
 
 pub returns : goal.returns
-unfolding TextIn
+unfolding Reads
 returns c =
-    let h : TextOf c.args.model.now c.in-Some.n = rw c.in-Some.is at c.find_text.ensures in
-    c.holds_text.ensures c.args.model.now ∙ ap is_holding (sym (three-text c.args.model.now c.args.state.now c.args.saves.now c.in-Some.n h))
+    let r = rw c.in-Some.is at c.read.ensures in
+    let h = tables-of _ _ _ _ _ _ _ r.0 r.2 in
+    let s = c.shape.ensures in
+    rw (three-held c.args.model.now c.args.state.now c.args.saves.now r.1) ((rw (s.0, s.1) at c.holds_model.ensures) ∙ tables-hold _ _ _ _ _ r.0 h c.args.model.now c.args.state.now c.args.saves.now)

@@ -1,21 +1,22 @@
 -- What is kept under the name, over the state; refused, nothing moves.
-use mathlib.Core.Path.{◌≡◌, ap, ◌∙◌}
+use mathlib.Core.Path.{◌≡◌, ap, sym, ◌∙◌}
 use lib.ListN.{length}
 use Rattle.saves.specs.Kept.{clock_at}
-use Rattle.engine.proofs.Stored.{returned-no, returned-yes, two-left, readable}
+use Rattle.saves.specs.Change.{number_of}
+use Rattle.engine.proofs.Stored.{returned-no, returned-yes, two-left, readable, refused-stores, refusal-positive}
 use borrow.Author.Rules.{rules}
 use Rattle.engine.proofs.held.return_held.Goals as goal
 
-pub returns-then-number-ne0 : goal.returns-then-number-ne0
-returns-then-number-ne0 c =
-    returned-no c.args.name.now c.args.state.now c.args.saves.now c.args.clock _ _ _ _ _ _ c.of.ensures c.bare.ensures c.put_kept.ensures c.return_to-number.ensures c.if-number-ne0.true
+pub returns-in-Err : goal.returns-in-Err
+returns-in-Err c =
+    returned-no c.args.name.now c.args.state.now c.args.saves.now c.args.clock _ _ _ _ _ _ c.of.ensures c.bare.ensures c.put_kept.ensures (refused-stores c.number.ensures c.in-Err.is c.return_to.ensures) (λ z. refusal-positive c.in-Err.refusal (sym c.number.ensures ∙ z))
 
 pub clock_at-requires : goal.clock_at-requires
 clock_at-requires c =
-    let n : length c.return_to-number.new.kept ≡ 5124 = search rules in
-    readable c.args.name.now c.args.state.now c.args.saves.now c.args.clock c.put_kept.ensures c.return_to-number.ensures c.if-number-ne0.false c.requires.3 n
+    let n : length c.return_to.new.kept ≡ 5124 = search rules in
+    readable c.args.name.now c.args.state.now c.args.saves.now c.args.clock c.put_kept.ensures c.return_to.ensures (ap number_of c.in_default.is) c.requires.3 n
 
 pub returns : goal.returns
 returns c =
-    let n : length c.return_to-number.new.kept ≡ 5124 = search rules in
-    returned-yes c.args.name.now c.args.state.now c.args.saves.now c.args.clock _ c.return_to-number.new.kept _ _ _ _ _ _ c.of-2.ensures c.bare-2.ensures c.put_kept.ensures c.return_to-number.ensures c.if-number-ne0.false (c.clock_at.ensures ∙ ap clock_at (two-left c.return_to-number.new.kept n)) c.put.ensures c.requires.0
+    let n : length c.return_to.new.kept ≡ 5124 = search rules in
+    returned-yes c.args.name.now c.args.state.now c.args.saves.now c.args.clock _ c.return_to.new.kept _ _ _ _ _ _ c.of-2.ensures c.bare-2.ensures c.put_kept.ensures c.return_to.ensures (ap number_of c.in_default.is) (c.clock_at.ensures ∙ ap clock_at (two-left c.return_to.new.kept n)) c.put.ensures c.requires.0

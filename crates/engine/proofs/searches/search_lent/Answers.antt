@@ -5,7 +5,8 @@ use Rattle.machine.specs.Machine.{search'}
 use Rattle.buffers.specs.Parts.{lent_two}
 use Rattle.store.specs.Text.{TextOf, TextIn}
 use Rattle.searching.proofs.Results.{none-run}
-use Rattle.engine.proofs.Lengths.{none_in, text_in_lem}
+use Rattle.engine.proofs.Lengths.{held-answers}
+use Rattle.simulation.proofs.Held.{text-held}
 use Rattle.engine.proofs.searches.search_lent.Goals as goal
 
 pub overflow_add-end : goal.overflow_add-end
@@ -29,7 +30,7 @@ returns-in_default c =
     let K = c.args.model.now in
     let Z = c.args.state.now in
     let q = search' c.args.name.now c.args.depth in
-    rw (c.bare.ensures, none_in K Z q [] (rw c.in_default.is at c.find_text.ensures)) (none-run q (lent_two K Z))
+    rw (c.bare.ensures, held-answers K Z q [] (rw c.in_default.is at c.find_text.ensures)) (none-run q (lent_two K Z))
 
 pub returns : goal.returns
 unfolding TextIn
@@ -38,4 +39,4 @@ returns c =
     let Z = c.args.state.now in
     let q = search' c.args.name.now c.args.depth in
     let h : TextOf c.args.model.now c.in-Some.n = rw c.in-Some.is at c.find_text.ensures in
-    rw (text_in_lem K Z q [] c.in-Some.n h) (c.search_text.ensures K)
+    rw (held-answers K Z q [] (text-held K c.in-Some.n h)) (c.search_text.ensures K)

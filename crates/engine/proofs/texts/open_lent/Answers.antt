@@ -13,7 +13,8 @@ pub open_state-requires : goal.open_state-requires
 open_state-requires c =
     let X = c.args.text.now in
     let o = opened-is X _ _ _ c.args.profile c.open_under-opened.ensures c.in-Ok.is in
-    (c.put_fresh.ensures.1, (o.plain.model, starts X _ _ _ o.plain))
+    let t = c.tables.ensures in
+    (c.put_fresh.ensures.1, (o.plain.model, rw (t.0, t.2, t.3, t.4) (starts X _ _ _ o.plain)))
 
 pub returns-in-Err : goal.returns-in-Err
 returns-in-Err c =
@@ -34,4 +35,5 @@ returns-in-Ok c =
     λ ss z.
     let X = c.args.text.now in
     let o = opened-is X _ _ _ c.args.profile c.open_under-opened.ensures c.in-Ok.is in
-    rw c.bare-in-Ok.ensures (accepted-gives X o.plain.model _ _ ss o.opens c.put_text.ensures (c.open_state.ensures o.plain.model (starts X _ _ _ o.plain)) z)
+    let t = c.tables.ensures in
+    rw c.bare-in-Ok.ensures (accepted-gives X o.plain.model _ _ ss o.opens c.put_text.ensures (c.open_state.ensures o.plain.model (rw (t.0, t.2, t.3, t.4) (starts X _ _ _ o.plain))) z)

@@ -11,7 +11,7 @@ push_items-requires c =
     let N = c.args.tables.variables in
     let D = c.args.definitions in
     let S = c.args.tables.scopes.now in
-    let l = c.less-line.ensures ∙ ap (λ (x : ℕ). x - D) c.less.ensures in
+    let l = c.saturating_sub-line.ensures ∙ ap (λ (x : ℕ). x - D) c.saturating_sub.ensures in
     rw l (opens-fit T S R N D c.args.state.now c.requires.0 c.requires.1.0 c.requires.1.1)
 
 pub returns : goal.returns
@@ -21,5 +21,5 @@ returns c =
     let N = c.args.tables.variables in
     let D = c.args.definitions in
     let S = c.args.tables.scopes.now in
-    let l = c.less-line.ensures ∙ ap (λ (x : ℕ). x - D) c.less.ensures in
+    let l = c.saturating_sub-line.ensures ∙ ap (λ (x : ℕ). x - D) c.saturating_sub.ensures in
     opens-state T S R N D c.args.state.now c.requires.0 _ (rw l at c.push_items.ensures)

@@ -1,7 +1,7 @@
 -- The listing's answer, and the report that is made of it.
 use borrow.Author.Rules.{rules}
 use Rattle.engine.proofs.Reported.{finds-report}
-use Rattle.engine.proofs.subtotals.report_model.Goals as goal
+use Rattle.engine.proofs.subtotals.ReportQuery.answer.Goals as goal
 
 pub list_state-listed-requires : goal.list_state-listed-requires
 list_state-listed-requires c =
@@ -15,4 +15,4 @@ pub returns : goal.returns
 returns c =
     λ m bs h.
     let e = c.list_state-listed.ensures m h in
-    rw c.listed_answer.ensures (finds-report bs c.args.state.now c.args.report.now m c.list_state-listed.result _ _ _ e (c.put_report.ensures m bs _ h.good e))
+    rw c.from.ensures (finds-report bs c.args.state.now c.args.report.now m c.list_state-listed.result _ _ _ e (c.put_report.ensures m bs _ h.good e))

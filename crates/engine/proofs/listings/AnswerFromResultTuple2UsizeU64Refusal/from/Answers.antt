@@ -1,6 +1,6 @@
 -- By the cases of what a listing answers.
 use Rattle.engine.specs.Tables.{answer_of}
-use Rattle.engine.proofs.listings.listed_answer.Goals as goal
+use Rattle.engine.proofs.listings.AnswerFromResultTuple2UsizeU64Refusal.from.Goals as goal
 
 pub returns-in-Ok : goal.returns-in-Ok
 unfolding answer_of

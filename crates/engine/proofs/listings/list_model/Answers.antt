@@ -1,7 +1,0 @@
--- The answer that the listing gives.
-use Rattle.engine.proofs.Shows.{finds-give}
-use Rattle.engine.proofs.listings.list_model.Goals as goal
-
-pub returns : goal.returns
-returns c =
-    λ m bs h. rw c.listed_answer.ensures (finds-give bs c.args.state.now c.args.listing.now c.requires.2 m c.list_state-listed.result _ (c.list_state-listed.ensures m h))

@@ -18,12 +18,12 @@
 // A text is lent to open up to 16,385 bytes, a name up to 19: as many are too many already, so the bytes after them change no answer.
 mod rows;
 
+use arrayvec::ArrayVec;
 use lines::line::Line;
-use lines::script::{Ending, Part, Script, Taken};
-use output::Buffer;
+use lines::script::{Broken, Part, Script, Taken};
 use script::Row;
 use std::fs::File;
-use std::io::Read;
+use std::io::{BufWriter, Read, Write};
 use std::rt::Files;
 use std::{env, io};
 use store::Engine;
@@ -61,32 +61,108 @@ impl Limits {
 
 type Text = [u8; Limits::TEXT];
 
-type Model = [u8; Engine::MODEL];
-
-type State = [i64; Engine::STATE];
-
 type Listing = [u64; Engine::LISTING];
 
-type Saves = [i64; Engine::SAVES];
+type Answer = [u64; Row::ANSWER];
 
-type Time = [u64; Row::CLOCK];
-
-type Waiting = [u16; Limits::DRAWS];
-
-type Words = [u64; Limits::WORDS];
-
-// Where a run stands: the script, how many bytes of output wait, how many waiting draws and words are kept, and whether it has ended.
+// The numbers of a row that differ from call to call: the kind, where the text or name begins and how long it is, a draw, depth or limit, and how many numbers of the output are lent.
 #[derive(Clone, Copy)]
-struct Run {
-    script: Script,
-    waits: usize,
-    drawn: usize,
-    worded: usize,
-    over: bool,
+struct Call {
+    kind: u64,
+    first: u64,
+    size: u64,
+    draw: u64,
+    listed: usize,
 }
 
-fn put(rt: &impl Print, s: &[u8]) -> io::Result<()> {
-    rt.write_all(s)
+impl Call {
+    // A call of this kind that is lent a listing.
+    fn listing(kind: u64) -> Self {
+        Call {
+            kind,
+            first: 0,
+            size: 0,
+            draw: 0,
+            listed: Engine::LISTING,
+        }
+    }
+}
+
+// What a call may read: the bytes of texts and names, waiting draws and words.
+#[derive(Clone, Copy)]
+struct Lent<'a> {
+    text: &'a Text,
+    waiting: &'a [u16],
+    words: &'a [u64],
+}
+
+// An engine's buffers.
+#[derive(Drop)]
+pub struct Machine {
+    model: [u8; Engine::MODEL],
+    state: [i64; Engine::STATE],
+    saves: [i64; Engine::SAVES],
+    clock: [u64; Row::CLOCK],
+}
+
+impl Machine {
+    // A fresh engine's.
+    fn new() -> Self {
+        Machine {
+            model: [0; Engine::MODEL],
+            state: [0; Engine::STATE],
+            saves: [0; Engine::SAVES],
+            clock: [0; Row::CLOCK],
+        }
+    }
+
+    // Makes one call by a row of a script.
+    fn call(&mut self, call: Call, lent: Lent, outputs: &mut [u64]) -> Answer {
+        let row: [u64; Row::WIDTH] = [
+            call.kind,
+            call.first,
+            call.size,
+            0,
+            lent.waiting.len() as u64,
+            call.draw,
+            call.listed as u64,
+            Engine::MODEL as u64,
+            Engine::STATE as u64,
+            Engine::SAVES as u64,
+            0,
+            lent.words.len() as u64,
+        ];
+        let Lent {
+            text,
+            waiting,
+            words,
+        } = lent;
+        let mut answer = [0u64; Row::ANSWER];
+        script::run(
+            &row,
+            text,
+            waiting,
+            words,
+            &mut self.model,
+            &mut self.state,
+            &mut self.saves,
+            &mut self.clock,
+            outputs,
+            &mut answer,
+        );
+        answer
+    }
+}
+
+// A script at work: where it stands, its engine, the bytes of the line or text that it is in, the waiting draws and words so far, and the last listing.
+#[derive(Drop)]
+struct Bench {
+    script: Script,
+    machine: Machine,
+    text: Text,
+    waiting: ArrayVec<u16, { Limits::DRAWS }>,
+    words: ArrayVec<u64, { Limits::WORDS }>,
+    listing: Listing,
 }
 
 // Where the next byte of a line or a text is kept.
@@ -97,741 +173,295 @@ fn kept_at(part: Part) -> u64 {
     }
 }
 
-// Keeps a byte of a line or a text.
-fn keep(part: Part, b: u8, text: &mut [u8]) {
-    let at = kept_at(part) as usize;
-    if at < text.len() {
-        text[at] = b;
-    }
-}
-
-fn put_bad(rt: &impl Print, out: &mut Buffer, waits: usize, line: u64) -> io::Result<usize> {
-    let n = output::put(rt, out, waits, b"bad,")?;
-    output::put_line(rt, out, n, &[line], b' ')
-}
-
 // How many bytes of a text are lent.
-fn lent(size: u64) -> u64 {
+fn bytes_lent(size: u64) -> u64 {
     size.min(Limits::TEXT as u64)
 }
 
-// Bytes of a name, of a line of which so many are kept, after so many.
-fn name_size(kept: u64, first: u64) -> u64 {
-    kept.saturating_sub(first)
-}
-
-// Makes one call by a row of a script, with the first bytes of the text, a draw, or waiting draws and words too, which is lent so many numbers of the outputs, and answers.
-fn make_call(
-    kind: u64,
-    first: u64,
-    size: u64,
-    draw: u64,
-    listed: u64,
-    text: &Text,
-    waiting: &[u16],
-    words: &[u64],
-    model: &mut Model,
-    state: &mut State,
-    saves: &mut Saves,
-    clock: &mut Time,
-    outputs: &mut [u64],
-) -> [u64; Row::ANSWER] {
-    let row: [u64; Row::WIDTH] = [
-        kind,
-        first,
-        size,
-        0,
-        waiting.len() as u64,
-        draw,
-        listed,
-        Engine::MODEL as u64,
-        Engine::STATE as u64,
-        Engine::SAVES as u64,
-        0,
-        words.len() as u64,
-    ];
-    let mut answer = [0u64; Row::ANSWER];
-    script::run(
-        &row,
-        text,
-        waiting,
-        words,
-        model,
-        state,
-        saves,
-        clock,
-        outputs,
-        &mut answer,
-    );
-    answer
-}
-
-// Puts the six numbers that every call answers on a line.
-fn put_shown(
-    rt: &impl Print,
-    out: &mut Buffer,
-    waits: usize,
-    answer: &[u64; Row::ANSWER],
-) -> io::Result<usize> {
-    let shown = [
-        answer[0], answer[1], answer[2], answer[3], answer[4], answer[5],
-    ];
-    output::put_line(rt, out, waits, &shown, b' ')
-}
-
-// Puts a call's answer and as many entries as it counts: none where the listing isn't filled.
-fn put_call(
-    rt: &impl Print,
-    out: &mut Buffer,
-    waits: usize,
-    kind: u64,
-    size: u64,
-    draw: u64,
-    text: &Text,
-    waiting: &[u16],
-    model: &mut Model,
-    state: &mut State,
-    saves: &mut Saves,
-    clock: &mut Time,
-    listing: &mut Listing,
-) -> io::Result<usize> {
-    let listed = Engine::LISTING as u64;
-    let answer = make_call(
-        kind,
-        0,
-        size,
-        draw,
-        listed,
-        text,
-        waiting,
-        &[],
-        model,
-        state,
-        saves,
-        clock,
-        listing,
-    );
-    let n = put_shown(rt, out, waits, &answer)?;
-    output::put_entries(rt, out, n, listing, answer[Limits::COUNT], b"  ", b' ')
-}
-
-// Puts the numbers of a report on a line that begins with two blanks.
-fn put_numbers(
-    rt: &impl Print,
-    out: &mut Buffer,
-    waits: usize,
-    report: &[u64],
-) -> io::Result<usize> {
-    if report.len() < Engine::REPORT {
-        return Ok(waits);
-    }
-    let n = output::put(rt, out, waits, b"  ")?;
-    output::put_line(rt, out, n, &report[..Engine::REPORT], b' ')
-}
-
-// Puts the numbers of a report that stands first in a row's part.
-fn put_part(rt: &impl Print, out: &mut Buffer, waits: usize, part: &Listing) -> io::Result<usize> {
-    put_numbers(rt, out, waits, part)
-}
-
-// Puts a report's answer, and its numbers where it is accepted. The last listing stays.
-fn put_report(
-    rt: &impl Print,
-    out: &mut Buffer,
-    waits: usize,
-    text: &Text,
-    model: &mut Model,
-    state: &mut State,
-    saves: &mut Saves,
-    clock: &mut Time,
-) -> io::Result<usize> {
-    let mut part = [0u64; Engine::LISTING];
-    let listed = Engine::REPORT as u64;
-    let answer = make_call(
-        Row::REPORT,
-        0,
-        0,
-        0,
-        listed,
-        text,
-        &[],
-        &[],
-        model,
-        state,
-        saves,
-        clock,
-        &mut part,
-    );
-    let n = put_shown(rt, out, waits, &answer)?;
-    if answer[Limits::NUMBER] != 0 {
-        return Ok(n);
-    }
-    put_part(rt, out, n, &part)
+// The six numbers that every call answers.
+fn put_shown(out: &mut impl Write, answer: &Answer) -> io::Result<()> {
+    output::put_line(out, &answer[..6], ' ')
 }
 
 // Whether the entries i and j of a listing are independent: 1 or 0. Numbers that aren't there are no entry's.
-fn judge(listing: &[u64], i: u64, j: u64) -> u64 {
-    let most = listing::Limits::ENTRIES as u64;
-    if listing.len() < Engine::LISTING {
-        return 0;
+fn judge(listing: &Listing, i: u64, j: u64) -> u64 {
+    let entry = |k: u64| listing.chunks_exact(listing::Limits::ENTRY).nth(k as usize);
+    match (entry(i), entry(j)) {
+        (Some(a), Some(b)) => u64::from(independence::independent(a, b)),
+        _ => 0,
     }
-    if most <= i {
-        return 0;
-    }
-    if most <= j {
-        return 0;
-    }
-    let first = i as usize * listing::Limits::ENTRY;
-    let first_end = first + listing::Limits::ENTRY;
-    let second = j as usize * listing::Limits::ENTRY;
-    let second_end = second + listing::Limits::ENTRY;
-    u64::from(independence::independent(&listing[first..first_end], &listing[second..second_end]))
 }
 
-// Puts the answer of a call on the saves, whose name stands after so many bytes of the line.
-fn put_named(
-    rt: &impl Print,
-    out: &mut Buffer,
-    waits: usize,
-    kind: u64,
-    first: u64,
-    kept: u64,
-    text: &Text,
-    model: &mut Model,
-    state: &mut State,
-    saves: &mut Saves,
-    clock: &mut Time,
-    listing: &mut Listing,
-) -> io::Result<usize> {
-    let size = name_size(kept, first);
-    let answer = make_call(
-        kind,
-        first,
-        size,
-        0,
-        0,
-        text,
-        &[],
-        &[],
-        model,
-        state,
-        saves,
-        clock,
-        listing,
-    );
-    put_shown(rt, out, waits, &answer)
-}
-
-// Puts the answer of a search: its number, the run's length and eight entry numbers.
-fn put_search(
-    rt: &impl Print,
-    out: &mut Buffer,
-    waits: usize,
-    depth: u64,
-    kept: u64,
-    text: &Text,
-    model: &mut Model,
-    state: &mut State,
-    saves: &mut Saves,
-    clock: &mut Time,
-    listing: &mut Listing,
-) -> io::Result<usize> {
-    let size = name_size(kept, Limits::RETURN);
-    let answer = make_call(
-        Row::SEARCH,
-        Limits::RETURN,
-        size,
-        depth,
-        0,
-        text,
-        &[],
-        &[],
-        model,
-        state,
-        saves,
-        clock,
-        listing,
-    );
-    let found: [u64; 10] = [
-        answer[0], answer[6], answer[7], answer[8], answer[9], answer[10], answer[11], answer[12],
-        answer[13], answer[14],
-    ];
-    output::put_line(rt, out, waits, &found, b' ')
-}
-
-// Puts a timed step with the first waiting draws.
-fn put_timed(
-    rt: &impl Print,
-    out: &mut Buffer,
-    waits: usize,
-    draw: u64,
-    drawn: usize,
-    text: &Text,
-    waiting: &[u16],
-    model: &mut Model,
-    state: &mut State,
-    saves: &mut Saves,
-    clock: &mut Time,
-    listing: &mut Listing,
-) -> io::Result<usize> {
-    if waiting.len() < drawn {
-        return Ok(waits);
-    }
-    put_call(
-        rt,
-        out,
-        waits,
-        Row::TIMED,
-        0,
-        draw,
-        text,
-        &waiting[..drawn],
-        model,
-        state,
-        saves,
-        clock,
-        listing,
-    )
-}
-
-// Puts what a run answers, and the events that it wrote.
-fn put_told(
-    rt: &impl Print,
-    out: &mut Buffer,
-    waits: usize,
-    answer: &[u64; Row::ANSWER],
-    events: &[u64],
-) -> io::Result<usize> {
-    let told = [
-        answer[0], answer[15], answer[16], answer[17], answer[3], answer[4],
-    ];
-    let n = output::put_line(rt, out, waits, &told, b' ')?;
-    output::put_rows(
-        rt,
-        out,
-        n,
-        events,
-        Limits::EVENT,
-        answer[Limits::STEPS],
-        b"  ",
-        b' ',
-    )
-}
-
-// Puts a run with the first waiting draws and words. The last listing stays.
-fn put_run(
-    rt: &impl Print,
-    out: &mut Buffer,
-    waits: usize,
-    limit: u64,
-    drawn: usize,
-    worded: usize,
-    text: &Text,
-    waiting: &[u16],
-    words: &[u64],
-    model: &mut Model,
-    state: &mut State,
-    saves: &mut Saves,
-    clock: &mut Time,
-) -> io::Result<usize> {
-    if waiting.len() < drawn {
-        return Ok(waits);
-    }
-    if words.len() < worded {
-        return Ok(waits);
-    }
-    let mut events = [0u64; Row::OUTPUT];
-    let answer = make_call(
-        Row::RUN,
-        0,
-        0,
-        limit,
-        Row::OUTPUT as u64,
-        text,
-        &waiting[..drawn],
-        &words[..worded],
-        model,
-        state,
-        saves,
-        clock,
-        &mut events,
-    );
-    put_told(rt, out, waits, &answer, &events)
-}
-
-// Keeps a word, if there is room.
-fn keep_word(waits: usize, word: u64, worded: usize, words: &mut Words) -> usize {
-    if worded < Limits::WORDS {
-        words[worded] = word;
-    }
-    waits
-}
-
-// How many words are kept after an item.
-fn worded_after(asked: Line, worded: usize) -> usize {
-    match asked {
-        Line::Run(_) => 0,
-        Line::Word(_) => {
-            if worded < Limits::WORDS {
-                return worded + 1;
-            }
-            worded
+impl Bench {
+    fn new() -> Self {
+        Bench {
+            script: Script::new(),
+            machine: Machine::new(),
+            text: [0; Limits::TEXT],
+            waiting: ArrayVec::new(),
+            words: ArrayVec::new(),
+            listing: [0; Engine::LISTING],
         }
-        _ => worded,
     }
-}
 
-// Keeps a waiting draw, if there is room. A line gives none of more than 16 bits.
-fn keep_draw(waits: usize, draw: u64, drawn: usize, waiting: &mut Waiting) -> usize {
-    if 65535 < draw {
-        return waits;
-    }
-    if drawn < Limits::DRAWS {
-        waiting[drawn] = draw as u16;
-    }
-    waits
-}
-
-// How many waiting draws are kept after an item.
-fn drawn_after(asked: Line, drawn: usize) -> usize {
-    match asked {
-        Line::Time(_) => 0,
-        Line::Run(_) => 0,
-        Line::Wait(_) => {
-            if drawn < Limits::DRAWS {
-                return drawn + 1;
-            }
-            drawn
+    // Keeps a byte of a line or a text, if there is room.
+    fn keep(&mut self, b: u8) {
+        if let Some(kept) = self.text.get_mut(kept_at(self.script.part) as usize) {
+            *kept = b;
         }
-        _ => drawn,
     }
-}
 
-// Does what an item asks for that is about model time, or gives draws and words.
-fn ask_timed(
-    rt: &impl Print,
-    out: &mut Buffer,
-    waits: usize,
-    asked: Line,
-    drawn: usize,
-    worded: usize,
-    text: &Text,
-    waiting: &mut Waiting,
-    words: &mut Words,
-    model: &mut Model,
-    state: &mut State,
-    saves: &mut Saves,
-    clock: &mut Time,
-    listing: &mut Listing,
-) -> io::Result<usize> {
-    match asked {
-        Line::Time(draw) => put_timed(
-            rt, out, waits, draw, drawn, text, waiting, model, state, saves, clock, listing,
-        ),
-        Line::Wait(draw) => Ok(keep_draw(waits, draw, drawn, waiting)),
-        Line::Clock => output::put_line(rt, out, waits, clock, b' '),
-        Line::Word(word) => Ok(keep_word(waits, word, worded, words)),
-        Line::Run(limit) => put_run(
-            rt, out, waits, limit, drawn, worded, text, waiting, words, model, state, saves, clock,
-        ),
-        _ => Ok(waits),
+    // A call's answer and as many entries as it counts: none where the listing isn't filled.
+    fn put_listed(&mut self, out: &mut impl Write, call: Call) -> io::Result<()> {
+        let lent = Lent {
+            text: &self.text,
+            waiting: &[],
+            words: &[],
+        };
+        let answer = self.machine.call(call, lent, &mut self.listing);
+        put_shown(out, &answer)?;
+        output::put_entries(out, &self.listing, answer[Limits::COUNT], "  ", ' ')
     }
-}
 
-// The kind of a call on the saves, and how many bytes of the line stand before its name and how many are kept.
-fn named(asked: Line) -> Option<(u64, u64, u64)> {
-    match asked {
-        Line::Save(kept) => Some((Row::SAVE, Limits::SAVE, kept)),
-        Line::Return(kept) => Some((Row::RETURN, Limits::RETURN, kept)),
-        Line::Forget(kept) => Some((Row::FORGET, Limits::RETURN, kept)),
-        _ => None,
-    }
-}
-
-// Does what an item with a name or of two entries asks for, or one about model time.
-fn ask_named(
-    rt: &impl Print,
-    out: &mut Buffer,
-    waits: usize,
-    asked: Line,
-    drawn: usize,
-    worded: usize,
-    text: &Text,
-    waiting: &mut Waiting,
-    words: &mut Words,
-    model: &mut Model,
-    state: &mut State,
-    saves: &mut Saves,
-    clock: &mut Time,
-    listing: &mut Listing,
-) -> io::Result<usize> {
-    if let Some((kind, first, kept)) = named(asked) {
-        return put_named(
-            rt, out, waits, kind, first, kept, text, model, state, saves, clock, listing,
-        );
-    }
-    match asked {
-        Line::Independent(i, j) => output::put_line(rt, out, waits, &[judge(listing, i, j)], b' '),
-        Line::Search(depth, kept) => put_search(
-            rt, out, waits, depth, kept, text, model, state, saves, clock, listing,
-        ),
-        _ => ask_timed(
-            rt, out, waits, asked, drawn, worded, text, waiting, words, model, state, saves, clock,
-            listing,
-        ),
-    }
-}
-
-// The kind of a call that is lent the listing, the bytes of its text and its draw.
-fn listing_call(asked: Line) -> Option<(u64, u64, u64)> {
-    match asked {
-        Line::Open(size) => Some((Row::OPEN, lent(size), 0)),
-        Line::Steady(size) => Some((Row::STEADY, lent(size), 0)),
-        Line::List => Some((Row::LIST, 0, 0)),
-        Line::Step(draw) => Some((Row::STEP, 0, draw)),
-        _ => None,
-    }
-}
-
-// Does what an item of the script asks for.
-fn ask(
-    rt: &impl Print,
-    out: &mut Buffer,
-    waits: usize,
-    asked: Line,
-    drawn: usize,
-    worded: usize,
-    text: &Text,
-    waiting: &mut Waiting,
-    words: &mut Words,
-    model: &mut Model,
-    state: &mut State,
-    saves: &mut Saves,
-    clock: &mut Time,
-    listing: &mut Listing,
-) -> io::Result<usize> {
-    if let Some((kind, size, draw)) = listing_call(asked) {
-        return put_call(
-            rt,
-            out,
-            waits,
-            kind,
-            size,
+    // A timed step with the waiting draws so far.
+    fn put_timed(&mut self, out: &mut impl Write, draw: u64) -> io::Result<()> {
+        let lent = Lent {
+            text: &self.text,
+            waiting: self.waiting.as_slice(),
+            words: &[],
+        };
+        let call = Call {
             draw,
-            text,
-            &[],
-            model,
-            state,
-            saves,
-            clock,
-            listing,
-        );
+            ..Call::listing(Row::TIMED)
+        };
+        let answer = self.machine.call(call, lent, &mut self.listing);
+        self.waiting.clear();
+        put_shown(out, &answer)?;
+        output::put_entries(out, &self.listing, answer[Limits::COUNT], "  ", ' ')
     }
-    match asked {
-        Line::State => output::put_line(rt, out, waits, state, b' '),
-        Line::Report => put_report(rt, out, waits, text, model, state, saves, clock),
-        _ => ask_named(
-            rt, out, waits, asked, drawn, worded, text, waiting, words, model, state, saves, clock,
-            listing,
-        ),
-    }
-}
 
-fn run_byte(
-    rt: &impl Print,
-    run: Run,
-    b: u8,
-    out: &mut Buffer,
-    text: &mut Text,
-    waiting: &mut Waiting,
-    words: &mut Words,
-    model: &mut Model,
-    state: &mut State,
-    saves: &mut Saves,
-    clock: &mut Time,
-    listing: &mut Listing,
-) -> io::Result<Run> {
-    let script = run.script;
-    let waits = run.waits;
-    let drawn = run.drawn;
-    let worded = run.worded;
-    let part = script.part;
-    keep(part, b, text);
-    let taken = script.take(b);
-    match taken {
-        Taken::Goes(next) => Ok(Run {
-            script: next,
-            ..run
-        }),
-        Taken::Asks(asked, next) => Ok(Run {
-            script: next,
-            waits: ask(
-                rt, out, waits, asked, drawn, worded, text, waiting, words, model, state, saves,
-                clock, listing,
-            )?,
-            drawn: drawn_after(asked, drawn),
-            worded: worded_after(asked, worded),
-            over: false,
-        }),
-        Taken::Wrong(line) => Ok(Run {
-            waits: put_bad(rt, out, waits, line)?,
-            over: true,
-            ..run
-        }),
+    // A report's answer, and its numbers where it is accepted. The last listing stays.
+    fn put_report(&mut self, out: &mut impl Write) -> io::Result<()> {
+        let mut report = [0u64; Engine::REPORT];
+        let lent = Lent {
+            text: &self.text,
+            waiting: &[],
+            words: &[],
+        };
+        let call = Call {
+            listed: Engine::REPORT,
+            ..Call::listing(Row::REPORT)
+        };
+        let answer = self.machine.call(call, lent, &mut report);
+        put_shown(out, &answer)?;
+        if answer[Limits::NUMBER] != 0 {
+            return Ok(());
+        }
+        write!(out, "  ")?;
+        output::put_line(out, &report, ' ')
     }
-}
 
-fn run_bytes(
-    rt: &impl Print,
-    bytes: &[u8],
-    run: Run,
-    out: &mut Buffer,
-    text: &mut Text,
-    waiting: &mut Waiting,
-    words: &mut Words,
-    model: &mut Model,
-    state: &mut State,
-    saves: &mut Saves,
-    clock: &mut Time,
-    listing: &mut Listing,
-) -> io::Result<Run> {
-    let mut now = run;
-    for &b in bytes {
-        now = run_byte(
-            rt, now, b, out, text, waiting, words, model, state, saves, clock, listing,
-        )?;
-        if now.over {
-            return Ok(now);
+    // Makes a call whose name stands after so many bytes of the line, of which so many are kept.
+    fn call_named(&mut self, kind: u64, first: u64, kept: u64, draw: u64) -> Answer {
+        let lent = Lent {
+            text: &self.text,
+            waiting: &[],
+            words: &[],
+        };
+        let call = Call {
+            kind,
+            first,
+            size: kept.saturating_sub(first),
+            draw,
+            listed: 0,
+        };
+        self.machine.call(call, lent, &mut self.listing)
+    }
+
+    // A search: its number, the run's length and eight entry numbers.
+    fn put_search(&mut self, out: &mut impl Write, depth: u64, kept: u64) -> io::Result<()> {
+        let answer = self.call_named(Row::SEARCH, Limits::RETURN, kept, depth);
+        write!(out, "{} ", answer[Limits::NUMBER])?;
+        output::put_line(out, &answer[6..15], ' ')
+    }
+
+    // A run with the waiting draws and words so far: what it answers, and the events that it wrote. The last listing stays.
+    fn put_run(&mut self, out: &mut impl Write, limit: u64) -> io::Result<()> {
+        let mut events = [0u64; Row::OUTPUT];
+        let lent = Lent {
+            text: &self.text,
+            waiting: self.waiting.as_slice(),
+            words: self.words.as_slice(),
+        };
+        let call = Call {
+            draw: limit,
+            listed: Row::OUTPUT,
+            ..Call::listing(Row::RUN)
+        };
+        let a = self.machine.call(call, lent, &mut events);
+        self.waiting.clear();
+        self.words.clear();
+        output::put_line(out, &[a[0], a[15], a[16], a[17], a[3], a[4]], ' ')?;
+        output::put_rows(out, &events, Limits::EVENT, a[Limits::STEPS], "  ", ' ')
+    }
+
+    // Keeps a waiting draw, if there is room. A line gives none of more than 16 bits.
+    fn keep_draw(&mut self, draw: u64) {
+        let Ok(draw) = u16::try_from(draw) else {
+            return;
+        };
+        if self.waiting.len() < Limits::DRAWS {
+            self.waiting.push(draw);
         }
     }
-    Ok(now)
-}
 
-// The script has ended.
-fn end(rt: &impl Print, run: Run, out: &mut Buffer) -> io::Result<Run> {
-    let waits = run.waits;
-    match run.script.at_end() {
-        Ending::Done => Ok(Run { over: true, ..run }),
-        Ending::Broken(line) => Ok(Run {
-            waits: put_bad(rt, out, waits, line)?,
-            over: true,
-            ..run
-        }),
+    // Keeps a word, if there is room.
+    fn keep_word(&mut self, word: u64) {
+        if self.words.len() < Limits::WORDS {
+            self.words.push(word);
+        }
     }
-}
 
-fn flushed(rt: &impl Print, run: Run, out: &Buffer) -> io::Result<Run> {
-    Ok(Run {
-        waits: output::flush(rt, out, run.waits)?,
-        ..run
-    })
-}
-
-// Reads once, runs what came, and writes what waits.
-fn run_some(
-    rt: &impl Print,
-    from: &mut impl Read,
-    run: Run,
-    out: &mut Buffer,
-    text: &mut Text,
-    waiting: &mut Waiting,
-    words: &mut Words,
-    model: &mut Model,
-    state: &mut State,
-    saves: &mut Saves,
-    clock: &mut Time,
-    listing: &mut Listing,
-) -> io::Result<Run> {
-    let mut space = [0u8; Limits::READ];
-    let n = from.read(&mut space)?;
-    if n == 0 {
-        return flushed(rt, end(rt, run, out)?, out);
+    // Does what an item asks for that is about names, model time, draws or words.
+    fn ask_more(&mut self, out: &mut impl Write, asked: Line) -> io::Result<()> {
+        match asked {
+            Line::Save(kept) => put_shown(out, &self.call_named(Row::SAVE, Limits::SAVE, kept, 0)),
+            Line::Return(kept) => {
+                put_shown(out, &self.call_named(Row::RETURN, Limits::RETURN, kept, 0))
+            }
+            Line::Forget(kept) => {
+                put_shown(out, &self.call_named(Row::FORGET, Limits::RETURN, kept, 0))
+            }
+            Line::Search(depth, kept) => self.put_search(out, depth, kept),
+            Line::Time(draw) => self.put_timed(out, draw),
+            Line::Run(limit) => self.put_run(out, limit),
+            Line::Wait(draw) => {
+                self.keep_draw(draw);
+                Ok(())
+            }
+            Line::Word(word) => {
+                self.keep_word(word);
+                Ok(())
+            }
+            _ => Ok(()),
+        }
     }
-    flushed(
-        rt,
-        run_bytes(
-            rt,
-            &space[..n],
-            run,
-            out,
-            text,
-            waiting,
-            words,
-            model,
-            state,
-            saves,
-            clock,
-            listing,
-        )?,
-        out,
-    )
+
+    // Does what an item of the script asks for.
+    fn ask(&mut self, out: &mut impl Write, asked: Line) -> io::Result<()> {
+        match asked {
+            Line::Open(size) => self.put_listed(
+                out,
+                Call {
+                    size: bytes_lent(size),
+                    ..Call::listing(Row::OPEN)
+                },
+            ),
+            Line::Steady(size) => self.put_listed(
+                out,
+                Call {
+                    size: bytes_lent(size),
+                    ..Call::listing(Row::STEADY)
+                },
+            ),
+            Line::List => self.put_listed(out, Call::listing(Row::LIST)),
+            Line::Step(draw) => self.put_listed(
+                out,
+                Call {
+                    draw,
+                    ..Call::listing(Row::STEP)
+                },
+            ),
+            Line::State => output::put_line(out, &self.machine.state, ' '),
+            Line::Clock => output::put_line(out, &self.machine.clock, ' '),
+            Line::Report => self.put_report(out),
+            Line::Independent(i, j) => writeln!(out, "{}", judge(&self.listing, i, j)),
+            _ => self.ask_more(out, asked),
+        }
+    }
+
+    // Takes a byte of the script, and answers whether the script has ended by it.
+    fn take(&mut self, out: &mut impl Write, b: u8) -> io::Result<bool> {
+        self.keep(b);
+        match self.script.take(b) {
+            Taken::Goes(next) => {
+                self.script = next;
+                Ok(false)
+            }
+            Taken::Asks(asked, next) => {
+                self.script = next;
+                self.ask(out, asked)?;
+                Ok(false)
+            }
+            Taken::Wrong(line) => {
+                writeln!(out, "bad,{line}")?;
+                Ok(true)
+            }
+        }
+    }
+
+    // Takes bytes up to the one that ends the script, if one does.
+    fn take_all(&mut self, out: &mut impl Write, bytes: &[u8]) -> io::Result<bool> {
+        for &b in bytes {
+            if self.take(out, b)? {
+                return Ok(true);
+            }
+        }
+        Ok(false)
+    }
+
+    // The script has no more bytes.
+    fn end(&self, out: &mut impl Write) -> io::Result<()> {
+        match self.script.at_end() {
+            Ok(()) => Ok(()),
+            Err(Broken { from }) => writeln!(out, "bad,{from}"),
+        }
+    }
 }
 
 // Runs a script on a fresh engine. A proved loop has to end, so it counts its reads up to a number that no script reaches.
-fn run_script(rt: &impl Print, from: &mut impl Read) -> io::Result<()> {
-    let mut out = output::empty();
-    let mut text = [0u8; Limits::TEXT];
-    let mut waiting = [0u16; Limits::DRAWS];
-    let mut words = [0u64; Limits::WORDS];
-    let mut model = [0u8; Engine::MODEL];
-    let mut state = [0i64; Engine::STATE];
-    let mut saves = [0i64; Engine::SAVES];
-    let mut clock = [0u64; Row::CLOCK];
-    let mut listing = [0u64; Engine::LISTING];
-    let mut run = Run {
-        script: Script::new(),
-        waits: 0,
-        drawn: 0,
-        worded: 0,
-        over: false,
-    };
-    for reads in 0..u64::MAX {
-        run = run_some(
-            rt,
-            from,
-            run,
-            &mut out,
-            &mut text,
-            &mut waiting,
-            &mut words,
-            &mut model,
-            &mut state,
-            &mut saves,
-            &mut clock,
-            &mut listing,
-        )?;
-        if run.over {
+fn run_script(out: &mut impl Write, from: &mut impl Read) -> io::Result<()> {
+    let mut bench = Bench::new();
+    let mut space = [0u8; Limits::READ];
+    for _ in 0..u64::MAX {
+        let n = from.read(&mut space)?;
+        if n == 0 {
+            bench.end(out)?;
+            return out.flush();
+        }
+        let over = bench.take_all(out, &space[..n])?;
+        out.flush()?;
+        if over {
             return Ok(());
         }
     }
     Ok(())
 }
 
-// Whether a name is the word `rows`.
-fn is_rows(name: &[u8]) -> bool {
-    name == b"rows".as_slice()
-}
-
-fn run_file(rt: &(impl Print + Eprint + Files), name: &str) -> io::Result<()> {
-    put(rt, b"== ")?;
-    put(rt, name.as_bytes())?;
-    put(rt, b"\n")?;
-    if is_rows(name.as_bytes()) {
-        return rows::run(rt);
+fn run_file(
+    rt: &(impl Print + Eprint + Files),
+    out: &mut impl Write,
+    name: &str,
+) -> io::Result<()> {
+    writeln!(out, "== {name}")?;
+    if name == "rows" {
+        return rows::run(out);
     }
+    out.flush()?;
     match File::open(rt, name) {
-        Ok(mut file) => run_script(rt, &mut file),
+        Ok(mut file) => run_script(out, &mut file),
         Err(e) => eprintln!(rt; "{name}: {e}"),
     }
 }
 
 fn main(rt: HostRuntime) -> io::Result<()> {
+    let mut out = BufWriter::new(rt.alloc(), io::writer(&rt))?;
     let names = env::args(&rt)?;
     if names.len() < 2 {
-        return run_script(&rt, &mut rt.stdin());
+        return run_script(&mut out, &mut rt.stdin());
     }
     for name in names.skip(1) {
-        run_file(&rt, name.as_str())?;
+        run_file(&rt, &mut out, name.as_str())?;
     }
-    Ok(())
+    out.flush()
 }

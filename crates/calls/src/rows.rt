@@ -1,8 +1,8 @@
 // A list of rows, of right lengths and of wrong ones, run by one call of `script::run` on a fresh engine, then one row more on a clock close to its limit.
-use output::Buffer;
+use crate::Machine;
 use script::Row;
 use std::io;
-use store::Engine;
+use std::io::Write;
 
 #[derive(Clone, Copy)]
 struct Size;
@@ -23,14 +23,6 @@ impl Size {
     // Ticks from which the wait of two draws 9 reaches the limit, at a total of 10,000.
     const LATE: u64 = 9223372036854775807 - 13732;
 }
-
-type Model = [u8; Engine::MODEL];
-
-type State = [i64; Engine::STATE];
-
-type Saves = [i64; Engine::SAVES];
-
-type Time = [u64; Row::CLOCK];
 
 // A text, and the names s and a.
 fn texts() -> [u8; 25] {
@@ -71,38 +63,22 @@ fn late() -> [u64; Row::WIDTH] {
     [11, 0, 0, 6, 4, 5, 80, 16386, 5122, 41008, 3, 3]
 }
 
-// Puts the first numbers of so many parts of the outputs.
-fn put_firsts(
-    rt: &impl Print,
-    out: &mut Buffer,
-    waits: usize,
-    outputs: &[u64],
-    count: u64,
-) -> io::Result<usize> {
-    let mut n = waits;
-    let mut at = 0;
-    for part in 0..count {
-        if outputs.len() - at < Row::OUTPUT {
-            return Ok(n);
-        }
-        let end = at + Size::SHOWN;
-        n = output::put(rt, out, n, b"  ")?;
-        n = output::put_line(rt, out, n, &outputs[at..end], b' ')?;
-        at += Row::OUTPUT;
+// The first numbers of so many parts of the outputs.
+fn put_firsts(out: &mut impl Write, outputs: &[u64], count: usize) -> io::Result<()> {
+    for part in outputs.chunks_exact(Row::OUTPUT).take(count) {
+        let shown = part.get(..Size::SHOWN).unwrap_or(part);
+        write!(out, "  ")?;
+        output::put_line(out, shown, ' ')?;
     }
-    Ok(n)
+    Ok(())
 }
 
-// Runs rows, and puts how many were run, the answers, the first numbers of the outputs and the clock.
+// Runs rows, and shows how many were run, the answers, the first numbers of the outputs and the clock.
 fn run_rows(
-    rt: &impl Print,
-    out: &mut Buffer,
+    out: &mut impl Write,
     rows: &[u64],
-    count: u64,
-    model: &mut Model,
-    state: &mut State,
-    saves: &mut Saves,
-    clock: &mut Time,
+    count: usize,
+    machine: &mut Machine,
 ) -> io::Result<()> {
     let mut outputs = [9u64; Size::OUTPUTS];
     let mut answers = [8u64; Size::ANSWERS];
@@ -111,47 +87,24 @@ fn run_rows(
         &texts(),
         &draws(),
         &words(),
-        model,
-        state,
-        saves,
-        clock,
+        &mut machine.model,
+        &mut machine.state,
+        &mut machine.saves,
+        &mut machine.clock,
         &mut outputs,
         &mut answers,
     );
-    let a = output::put_line(rt, out, 0, &[ran as u64], b' ')?;
-    let b = output::put_rows(rt, out, a, &answers, Row::ANSWER, count, b"", b' ')?;
-    let c = put_firsts(rt, out, b, &outputs, count)?;
-    let d = output::put_line(rt, out, c, clock, b' ')?;
-    output::flush(rt, out, d)?;
-    Ok(())
+    writeln!(out, "{ran}")?;
+    output::put_rows(out, &answers, Row::ANSWER, count as u64, "", ' ')?;
+    put_firsts(out, &outputs, count)?;
+    output::put_line(out, &machine.clock, ' ')
 }
 
 // Runs the rows on a fresh engine, and the late one.
-pub fn run(rt: &impl Print) -> io::Result<()> {
-    let mut out = output::empty();
-    let mut model = [0u8; Engine::MODEL];
-    let mut state = [0i64; Engine::STATE];
-    let mut saves = [0i64; Engine::SAVES];
-    let mut clock = [0u64; Row::CLOCK];
-    run_rows(
-        rt,
-        &mut out,
-        &script(),
-        Size::ROWS as u64,
-        &mut model,
-        &mut state,
-        &mut saves,
-        &mut clock,
-    )?;
-    clock[0] = Size::LATE;
-    run_rows(
-        rt,
-        &mut out,
-        &late(),
-        1,
-        &mut model,
-        &mut state,
-        &mut saves,
-        &mut clock,
-    )
+pub fn run(out: &mut impl Write) -> io::Result<()> {
+    let mut machine = Machine::new();
+    run_rows(out, &script(), Size::ROWS, &mut machine)?;
+    machine.clock[0] = Size::LATE;
+    run_rows(out, &late(), 1, &mut machine)?;
+    out.flush()
 }

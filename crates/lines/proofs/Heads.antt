@@ -1,5 +1,5 @@
 -- A line's first five bytes by their number: the number tells the bytes; and what the whole line says, from the number and the rest.
-use Rattle.std.proofs.Common.{◌≡◌, ℕ, zero, suc, ◌+◌, ◌-◌, ◌*◌, ◌/◌, ◌%◌, ◌<◌, ◌≤◌, min, Bool, true, false, cond, ◌&&◌, eqb, ltb, leb, List, [], ◌∷◌, ◌++◌, length, take, drop, sym, refl, ap, ◌∙◌, ap₂, arith, length-append, length-take, take-take, ltb-false, ltb-true, le-ltb, lt-ltb, eq-eqb, ne_eqb, eqb-true, le-leb, leb-false, leb-true}
+use Rattle.std.proofs.Common.{◌≡◌, ℕ, zero, suc, ◌+◌, ◌-◌, ◌*◌, ◌/◌, ◌%◌, ◌<◌, ◌≤◌, min, Bool, true, false, cond, ◌&&◌, eqb, ltb, leb, List, [], ◌∷◌, ◌++◌, length, take, drop, sym, refl, ap, ◌∙◌, ap₂, arith, length-append, length-take, take-take, ltb-false, ltb-true, le-ltb, lt-ltb, eq-eqb, ne_eqb, eqb-true, le-leb, leb-false, leb-true, MatchOption}
 use borrow.Author.Tests.{eqb-false, lt-leb}
 use Rattle.word.specs.Number.{worth}
 use Rattle.token.specs.Bytes.{is_digit, within}
@@ -8,9 +8,9 @@ use Rattle.token.proofs.Words.{same-is}
 use Rattle.lines.specs.declared.line.Line.{Line}
 use Rattle.lines.specs.declared.line.Line.TheVariants.{Open, Steady, List as Listing, Step, State, Report, Save, Return, Forget, Time, Clock, Search, Word, Run, Bad}
 use Rattle.lines.specs.declared.line.Rest.{Rest}
-use Rattle.lines.specs.declared.line.Rest.TheVariants.{Number, T, Other}
+use Rattle.lines.specs.declared.line.Rest.TheVariants.{Nothing, Number, T, Other}
 use Rattle.lines.specs.declared.line.Reading.{Reading}
-use Rattle.lines.specs.Line.{list_bytes, state_bytes, report_bytes, open_bytes, steady_bytes, step_bytes, save_bytes, return_bytes, forget_bytes, time_bytes, wait_bytes, clock_bytes, independent_bytes, seek_bytes, word_bytes, run_bytes, small, kept_limit, kept, digits_only, is_number, given, sought, line_of, rest_of, rest_next, packed, head_of, after_of, two_bytes, return_end, forget_end, four_bytes, run_head, after_next, late_next, early_next, kept_next, ended, steadied, sought_by, ran_by, numbered, bare, lettered, Bytes, Reads}
+use Rattle.lines.specs.Line.{list_bytes, state_bytes, report_bytes, open_bytes, steady_bytes, step_bytes, save_bytes, return_bytes, forget_bytes, time_bytes, wait_bytes, clock_bytes, independent_bytes, seek_bytes, word_bytes, run_bytes, small, kept_limit, kept, digits_only, is_number, given, sought, line_of, rest_of, rest_next, packed, head_of, after_of, two_bytes, return_end, forget_end, four_bytes, run_head, after_next, late_next, early_next, kept_next, ended, steadied, sought_by, ran_by, number_in, numbered, bare, lettered, Bytes, Reads}
 use Rattle.lines.specs.declared.two.Two.{Two}
 use Rattle.lines.specs.Two.{begun, run, two_next, paired}
 use Rattle.lines.proofs.Rests.{rest-on}
@@ -596,3 +596,10 @@ module _ {s : List ℕ} {r : Reading} (h : Reads s r) where
         differ (take 5 s) seek_bytes (λ e. x (h.head ∙ ap (packed 1) e)),
         differ (take 5 s) word_bytes (λ e. w (h.head ∙ ap (packed 1) e)),
       )
+
+-- what a rest makes of a line that wants a number, as the code joins it
+pub numbered-is : (says : ℕ → Line) (rest : Rest) (x : Line) → MatchOption (number_in rest) (x ≡ Bad) (λ n. x ≡ says n) → x ≡ numbered says rest
+numbered-is says Nothing x h = h
+numbered-is says (Number n) x h = h
+numbered-is says T x h = h
+numbered-is says Other x h = h

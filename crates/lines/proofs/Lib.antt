@@ -1,3 +1,4 @@
+pub mod OneByte
 pub mod Rests
 pub mod Twos
 pub mod Heads

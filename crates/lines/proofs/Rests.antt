@@ -1,28 +1,13 @@
 -- What stands after a line's first five bytes, with one more byte: from the definitions alone.
-use Rattle.std.proofs.Common.{◌≡◌, ℕ, ◌+◌, ◌-◌, ◌*◌, ◌<◌, ◌≤◌, Bool, true, false, cond, ◌&&◌, eqb, ltb, List, [], ◌∷◌, ◌++◌, sym, refl, ap, ◌∙◌, arith, ltb-false, le-ltb, lt-ltb, eq-eqb, ne_eqb, le-leb}
-use borrow.Author.Tests.{lt-leb}
+use Rattle.std.proofs.Common.{◌≡◌, ℕ, ◌+◌, ◌*◌, ◌<◌, Bool, true, false, cond, ◌&&◌, eqb, ltb, List, [], ◌∷◌, ◌++◌, sym, refl, ap, ◌∙◌, arith, ltb-false, le-ltb, lt-ltb, eq-eqb, ne_eqb, Some, None, MatchOption}
 use Rattle.word.specs.Number.{worth, digit_of}
-use Rattle.token.specs.Bytes.{is_digit, within}
+use Rattle.token.specs.Bytes.{is_digit}
 use Rattle.token.specs.Token.{same_bytes}
 use Rattle.lines.specs.declared.line.Rest.{Rest}
 use Rattle.lines.specs.declared.line.Rest.TheVariants.{Nothing, Number, T, Other}
 use Rattle.lines.specs.Limit.{limit}
+use Rattle.lines.specs.OneByte.{number_grown}
 use Rattle.lines.specs.Line.{digits_only, is_number, rest_of, grown, digit_next, letter_next, rest_next}
-
--- ---- tests of a byte
-pub below-digit : (r : Rest) (b : ℕ) → b < 48 → letter_next r b ≡ rest_next r b
-unfolding rest_next is_digit within
-below-digit r b h = simp (lt-leb 48 b h)
-
-pub above-digit : (r : Rest) (b : ℕ) → 57 < b → letter_next r b ≡ rest_next r b
-unfolding rest_next is_digit within
-above-digit r b h = simp (lt-leb b 57 h, le-leb 48 b (omega arith))
-
-pub at-digit : (r : Rest) (b : ℕ) → 48 ≤ b → b ≤ 57 → digit_next r (b - 48) ≡ rest_next r b
-unfolding rest_next is_digit within
-at-digit r b h k =
-    let e : b - 48 ≡ digit_of b = omega arith in
-    simp (le-leb 48 b h, le-leb b 57 k, ← e)
 
 -- `t` as the first byte of a rest, or another
 pub last_letter : (r : Rest) (b : ℕ) → r ≡ Nothing → b ≡ 116 → T ≡ letter_next r b
@@ -31,13 +16,14 @@ last_letter r b e f = rw (e, eq-eqb b 116 f)
 pub no-letter : (r : Rest) (b : ℕ) → r ≡ Nothing → (b ≡ 116 → ⊥) → Other ≡ letter_next r b
 no-letter r b e f = rw (e, ne_eqb b 116 f)
 
-pub grown-small : (v d : ℕ) → v * 10 + d < limit → Number (v * 10 + d) ≡ grown v d
-unfolding grown
-grown-small v d h = simp (lt-ltb (v * 10 + d) limit h)
-
-pub grown-large : (v d : ℕ) → limit ≤ v * 10 + d → Other ≡ grown v d
-unfolding grown
-grown-large v d h = simp (le-ltb (v * 10 + d) limit h)
+-- a number with one more digit, as the code joins it
+pub grown-is : (v d : ℕ) (r : Rest) → MatchOption (number_grown v d) (r ≡ Other) (λ n. r ≡ Number n) → r ≡ grown v d
+unfolding number_grown grown
+grown-is v d r h = by (ltb (v * 10 + d) limit) h
+  where
+    by : (t : Bool) → MatchOption (cond t (Some (v * 10 + d)) None) (r ≡ Other) (λ n. r ≡ Number n) → r ≡ cond t (Number (v * 10 + d)) Other
+    by true h = h
+    by false h = h
 
 -- ---- one more byte
 digits-on : (s : List ℕ) (b : ℕ) → digits_only (s ++ (b ∷ [])) ≡ (digits_only s && is_digit b)

@@ -1,6 +1,5 @@
 -- The line `independent I J`: reading byte by byte comes to the word and two numbers, by induction on the bytes.
-use Rattle.std.proofs.Common.{◌≡◌, ℕ, ◌+◌, ◌-◌, ◌*◌, ◌<◌, ◌≤◌, Bool, true, false, cond, ◌&&◌, eqb, ltb, List, [], ◌∷◌, ◌++◌, length, take, drop, sym, refl, ap, ◌∙◌, arith, ltb-false, ltb-true, le-ltb, lt-ltb, eq-eqb, ne_eqb, eqb-true, le-leb}
-use borrow.Author.Tests.{lt-leb}
+use Rattle.std.proofs.Common.{◌≡◌, ℕ, ◌+◌, ◌*◌, ◌<◌, ◌≤◌, Bool, true, false, cond, ◌&&◌, eqb, ltb, List, [], ◌∷◌, ◌++◌, length, take, drop, sym, refl, ap, ◌∙◌, arith, ltb-false, ltb-true, le-ltb, lt-ltb, eq-eqb, ne_eqb, eqb-true, Some, None, MatchOption}
 use Rattle.word.specs.Number.{worth, digit_of}
 use Rattle.token.specs.Bytes.{is_digit, within}
 use Rattle.token.specs.Token.{same_bytes}
@@ -10,6 +9,7 @@ use Rattle.lines.specs.declared.line.Line.TheVariants.{Independent, Bad}
 use Rattle.lines.specs.declared.two.Two.{Two}
 use Rattle.lines.specs.declared.two.Two.TheVariants.{Word, First, Gap, Both, Other}
 use Rattle.lines.specs.Limit.{limit}
+use Rattle.lines.specs.OneByte.{number_grown}
 use Rattle.lines.specs.Two.{word_byte, word_next, grown_first, grown_second, digit_next, letter_next, two_next, run, begun, paired}
 use Rattle.lines.specs.Line.{independent_bytes, digits_only, is_number, before_blank, after_blank, given_two, line_of}
 
@@ -18,21 +18,6 @@ pub run_on : (t : Two) (s : List ℕ) (b : ℕ) → run t (s ++ (b ∷ [])) ≡ 
 unfolding run
 run_on t [] b = refl
 run_on t (a ∷ s) b = run_on (two_next t a) s b
-
--- ---- tests of a byte
-pub below-digit : (t : Two) (b : ℕ) → b < 48 → letter_next t b ≡ two_next t b
-unfolding two_next is_digit within
-below-digit t b h = simp (lt-leb 48 b h)
-
-pub above-digit : (t : Two) (b : ℕ) → 57 < b → letter_next t b ≡ two_next t b
-unfolding two_next is_digit within
-above-digit t b h = simp (lt-leb b 57 h, le-leb 48 b (omega arith))
-
-pub at-digit : (t : Two) (b : ℕ) → 48 ≤ b → b ≤ 57 → digit_next t (b - 48) ≡ two_next t b
-unfolding two_next is_digit within
-at-digit t b h k =
-    let e : b - 48 ≡ digit_of b = omega arith in
-    simp (le-leb 48 b h, le-leb b 57 k, ← e)
 
 -- ---- from each state on
 lost : (s : List ℕ) → run Other s ≡ Other
@@ -221,18 +206,18 @@ blank-on v b e = rw (eq-eqb b 32 e) refl
 pub blank-off : (v b : ℕ) → (b ≡ 32 → ⊥) → Other ≡ letter_next (First v) b
 blank-off v b e = rw (ne_eqb b 32 e) refl
 
-pub first_small : (v d : ℕ) → v * 10 + d < limit → First (v * 10 + d) ≡ grown_first v d
-unfolding grown_first
-first_small v d h = simp (lt-ltb (v * 10 + d) limit h)
+pub first-is : (v d : ℕ) (t : Two) → MatchOption (number_grown v d) (t ≡ Other) (λ n. t ≡ First n) → t ≡ grown_first v d
+unfolding number_grown grown_first
+first-is v d t h = by (ltb (v * 10 + d) limit) h
+  where
+    by : (u : Bool) → MatchOption (cond u (Some (v * 10 + d)) None) (t ≡ Other) (λ n. t ≡ First n) → t ≡ cond u (First (v * 10 + d)) Other
+    by true h = h
+    by false h = h
 
-pub first-large : (v d : ℕ) → limit ≤ v * 10 + d → Other ≡ grown_first v d
-unfolding grown_first
-first-large v d h = simp (le-ltb (v * 10 + d) limit h)
-
-pub second-small : (v w d : ℕ) → w * 10 + d < limit → Both v (w * 10 + d) ≡ grown_second v w d
-unfolding grown_second
-second-small v w d h = simp (lt-ltb (w * 10 + d) limit h)
-
-pub second-large : (v w d : ℕ) → limit ≤ w * 10 + d → Other ≡ grown_second v w d
-unfolding grown_second
-second-large v w d h = simp (le-ltb (w * 10 + d) limit h)
+pub second-is : (v w d : ℕ) (t : Two) → MatchOption (number_grown w d) (t ≡ Other) (λ n. t ≡ Both v n) → t ≡ grown_second v w d
+unfolding number_grown grown_second
+second-is v w d t h = by (ltb (w * 10 + d) limit) h
+  where
+    by : (u : Bool) → MatchOption (cond u (Some (w * 10 + d)) None) (t ≡ Other) (λ n. t ≡ Both v n) → t ≡ cond u (Both v (w * 10 + d)) Other
+    by true h = h
+    by false h = h

@@ -1,4 +1,5 @@
 pub mod Limit
 pub mod Two
+pub mod OneByte
 pub mod Line
 pub mod Script

@@ -1,5 +1,6 @@
 -- What a line of a script says, from its bytes. Definitions, and examples by computation.
 use Rattle.std.specs.Prelude.{◌≡◌, ℕ, ◌+◌, ◌-◌, ◌*◌, ◌/◌, ◌%◌, ◌<◌, min, Bool, true, false, cond, ◌&&◌, List, [], ◌∷◌, ◌++◌, length, take, drop, ◌==◌, nat_lt, refl}
+use Rattle.std.specs.Prelude.{Option as RustOption, Some, None}
 use Rattle.word.specs.Number.{worth, digit_of}
 use Rattle.token.specs.Bytes.{within, is_digit}
 use Rattle.token.specs.Token.{same_bytes}
@@ -9,6 +10,7 @@ use Rattle.lines.specs.declared.line.Rest.{Rest}
 use Rattle.lines.specs.declared.line.Rest.TheVariants.{Nothing, Number, T, Other}
 use Rattle.lines.specs.declared.line.Reading.{Reading}
 use Rattle.lines.specs.Limit.{limit}
+use Rattle.lines.specs.OneByte.{byte_next}
 use Rattle.lines.specs.Two.{begun, run}
 
 -- `list`, `state`, `report`, `open `, `steady `, `step ` and `independent `
@@ -220,7 +222,7 @@ letter_next Other b = Other
 
 -- the rest with one more byte
 unfoldable pub rest_next : Rest → ℕ → Rest
-rest_next r b = cond (is_digit b) (digit_next r (digit_of b)) (letter_next r b)
+rest_next r b = byte_next digit_next letter_next r b
 
 -- bytes as digits of base 256, after h
 unfoldable pub packed : ℕ → List ℕ → ℕ
@@ -230,6 +232,13 @@ packed h (b ∷ s) = packed (h * 256 + b) s
 -- the first five bytes, after a 1
 unfoldable pub head_of : List ℕ → ℕ
 head_of s = packed 1 (take 5 s)
+
+-- the number that stands there
+abbrev pub number_in : Rest → RustOption ℕ
+number_in Nothing = None
+number_in (Number n) = Some n
+number_in T = None
+number_in Other = None
 
 -- what a rest makes of a line that wants a number, or nothing, or a last byte
 abbrev pub numbered : (ℕ → Line) → Rest → Line

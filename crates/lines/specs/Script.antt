@@ -1,5 +1,5 @@
 -- A script of calls, from its bytes: its whole items and what they ask for, and where a script that has begun stands.
-use Rattle.std.specs.Prelude.{◌≡◌, ℕ, ◌+◌, ◌%◌, ◌<◌, ◌≤◌, Bool, true, false, cond, List, [], ◌∷◌, ◌++◌, length, ◌==◌, ◌≢◌}
+use Rattle.std.specs.Prelude.{◌≡◌, ℕ, ◌+◌, ◌%◌, ◌<◌, ◌≤◌, Bool, true, false, cond, List, [], ◌∷◌, ◌++◌, length, ◌==◌, ◌≢◌, ⊤, Result, Ok, Err}
 use Rattle.std.proofs.Math.Option.{Option, none as nothing, some}
 use Rattle.token.specs.Bytes.{line_feed}
 use Rattle.lines.specs.declared.line.Line.{Line}
@@ -10,8 +10,7 @@ use Rattle.lines.specs.declared.script.Part.TheVariants.{InLine, InText}
 use Rattle.lines.specs.declared.script.Script.{Script}
 use Rattle.lines.specs.declared.script.Taken.{Taken}
 use Rattle.lines.specs.declared.script.Taken.TheVariants.{Goes, Asks, Wrong}
-use Rattle.lines.specs.declared.script.Ending.{Ending}
-use Rattle.lines.specs.declared.script.Ending.TheVariants.{Done, Broken}
+use Rattle.lines.specs.declared.script.Broken.{Broken}
 use Rattle.lines.specs.Limit.{limit}
 use Rattle.lines.specs.Line.{line_of, empty, Reads}
 
@@ -120,9 +119,9 @@ pub data Cut (s : List ℕ) (n : ℕ) : Type 0 where
   in-text : {qs : List Line} {q : Line} {k j : ℕ} → TextBegun s qs n q k j → Cut s n
 
 -- what the end of the script finds after s
-abbrev pub Ends : List ℕ → List Line → Ending → Type 0
-Ends s qs Done = Items s qs
-Ends s qs (Broken n) = Cut s n
+abbrev pub Ends : List ℕ → List Line → Result ⊤ Broken → Type 0
+Ends s qs (Ok u) = Items s qs
+Ends s qs (Err b) = Cut s b.from
 
 -- ---- as the code has it
 

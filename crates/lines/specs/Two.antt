@@ -1,12 +1,11 @@
 -- The line `independent I J` after its first five bytes, as the code reads it: a state for what came, and the next byte. Definitions only.
 use Rattle.std.specs.Prelude.{ℕ, ◌+◌, ◌*◌, cond, List, [], ◌∷◌, ◌==◌, nat_lt}
-use Rattle.word.specs.Number.{digit_of}
-use Rattle.token.specs.Bytes.{is_digit}
 use Rattle.lines.specs.declared.line.Line.{Line}
 use Rattle.lines.specs.declared.line.Line.TheVariants.{Independent, Bad}
 use Rattle.lines.specs.declared.two.Two.{Two}
 use Rattle.lines.specs.declared.two.Two.TheVariants.{Word, First, Gap, Both, Other}
 use Rattle.lines.specs.Limit.{limit}
+use Rattle.lines.specs.OneByte.{byte_next}
 
 -- byte n of `endent `
 unfoldable pub word_byte : ℕ → ℕ
@@ -41,7 +40,7 @@ letter_next Other b = Other
 
 -- one more byte
 unfoldable pub two_next : Two → ℕ → Two
-two_next t b = cond (is_digit b) (digit_next t (digit_of b)) (letter_next t b)
+two_next t b = byte_next digit_next letter_next t b
 
 -- after these bytes
 unfoldable pub run : Two → List ℕ → Two

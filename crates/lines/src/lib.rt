@@ -1,6 +1,7 @@
 #![tactic(auto)]
 
 // Scripts of calls: what their bytes ask for.
+pub mod bytes;
 pub mod line;
 pub mod script;
 pub mod two;

@@ -1,7 +1,10 @@
 // A line of a script, read byte by byte, however long it is.
-ghost use Rattle.std.specs.Prelude.{◌≡◌, ℕ, ◌<◌, List, [], ◌∷◌, ◌++◌};
-ghost use Rattle.lines.specs.Line.{line_of, grown, digit_next, letter_next, rest_next, numbered, small, lettered, bare, ended, return_end, forget_end, steadied, sought_by, ran_by, after_next, late_next, early_next, kept_next, empty, Reads};
+ghost use Rattle.std.specs.Prelude.{◌≡◌, ℕ, cond, ◌==◌, List, [], ◌∷◌, ◌++◌};
+ghost use Rattle.lines.specs.Line.{line_of, digit_next, letter_next, rest_next, numbered, number_in, small, lettered, bare, steadied, sought_by, ran_by, after_next, late_next, early_next, kept_next, empty, Reads};
+ghost use Rattle.lines.specs.declared.line.Line.TheVariants.{Bad};
 
+use crate::bytes;
+use crate::bytes::ByteByByte;
 use crate::two::Two;
 
 // What a line says.
@@ -35,6 +38,18 @@ pub enum Rest {
     Number(u64),
     T,
     Other,
+}
+
+impl Rest {
+    // The number, if digits alone stand there and it fits.
+    fn number(self) -> Option<u64>
+        ensures { result ≡ number_in self }
+    {
+        match self {
+            Rest::Number(n) => Some(n),
+            _ => None,
+        }
+    }
 }
 
 // A line so far: its first five bytes, as digits of base 256 after a 1, what stands after the first four, what stands after all five, the first two bytes of that, likewise, what stands after these, how many bytes of the line are kept, and what stands after the first five as a word and two numbers.
@@ -117,84 +132,55 @@ impl Head {
     pub const BLANK: u64 = 0x20;
 }
 
-// A number with one more digit, if it fits.
-fn grow(v: u64, d: u64) -> Rest
-    requires { d < 10 }
-    ensures { result ≡ grown v d }
-{
-    if v <= (u64::MAX - d) / 10 {
-        return Rest::Number(v * 10 + d);
+impl ByteByByte for Rest {
+    ghost digit_next = { digit_next };
+
+    ghost letter_next = { letter_next };
+
+    fn with_digit(self, d: u64) -> Self {
+        match self {
+            Rest::Nothing => Rest::Number(d),
+            Rest::Number(v) => bytes::grow(v, d).map_or(Rest::Other, Rest::Number),
+            _ => Rest::Other,
+        }
     }
-    Rest::Other
+
+    fn with_letter(self, b: u8) -> Self {
+        match self {
+            Rest::Nothing if b == b't' => Rest::T,
+            _ => Rest::Other,
+        }
+    }
 }
 
-fn with_digit(rest: Rest, d: u64) -> Rest
-    requires { d < 10 }
-    ensures { result ≡ digit_next rest d }
+// What a line says that has nothing after its word.
+fn bare(says: Line, rest: Rest) -> Line
+    ensures { result ≡ bare says rest }
 {
     match rest {
-        Rest::Nothing => Rest::Number(d),
-        Rest::Number(v) => grow(v, d),
-        _ => Rest::Other,
-    }
-}
-
-// A rest with one more byte that is no digit.
-fn with_letter(rest: Rest, b: u8) -> Rest
-    ensures { result ≡ letter_next rest b }
-{
-    match rest {
-        Rest::Nothing if b == b't' => Rest::T,
-        _ => Rest::Other,
-    }
-}
-
-fn with_byte(rest: Rest, b: u8) -> Rest
-    ensures { result ≡ rest_next rest b }
-{
-    if b < b'0' {
-        return with_letter(rest, b);
-    }
-    if b'9' < b {
-        return with_letter(rest, b);
-    }
-    with_digit(rest, (b - b'0') as u64)
-}
-
-fn open_line(rest: Rest) -> Line
-    ensures { result ≡ numbered Line.Open rest }
-{
-    match rest {
-        Rest::Number(n) => Line::Open(n),
+        Rest::Nothing => says,
         _ => Line::Bad,
     }
 }
 
-fn step_line(rest: Rest) -> Line
-    ensures { result ≡ numbered Line.Step rest }
+// What a line says after whose five bytes the last one of its word stands.
+fn lettered(says: Line, rest: Rest) -> Line
+    ensures { result ≡ lettered says rest }
 {
     match rest {
-        Rest::Number(n) => Line::Step(n),
+        Rest::T => says,
         _ => Line::Bad,
     }
 }
 
-fn state_line(rest: Rest) -> Line
-    ensures { result ≡ bare Line.State rest }
+// What a line says whose word ends in these two bytes.
+fn ended(says: Line, end: u64, after: u64) -> Line
+    ensures { result ≡ cond (after == end) says Bad }
 {
-    match rest {
-        Rest::Nothing => Line::State,
-        _ => Line::Bad,
+    if after == end {
+        return says;
     }
-}
-
-fn time_line(rest: Rest) -> Line
-    ensures { result ≡ numbered Line.Time rest }
-{
-    match rest {
-        Rest::Number(n) => Line::Time(n),
-        _ => Line::Bad,
-    }
+    Line::Bad
 }
 
 // A line with a waiting draw, if it is one.
@@ -207,65 +193,11 @@ fn draw_line(n: u64) -> Line
     Line::Bad
 }
 
-fn wait_line(rest: Rest) -> Line
-    ensures { result ≡ numbered small rest }
-{
-    match rest {
-        Rest::Number(n) => draw_line(n),
-        _ => Line::Bad,
-    }
-}
-
-fn clock_line(rest: Rest) -> Line
-    ensures { result ≡ bare Line.Clock rest }
-{
-    match rest {
-        Rest::Nothing => Line::Clock,
-        _ => Line::Bad,
-    }
-}
-
-fn report_line(rest: Rest) -> Line
-    ensures { result ≡ lettered Line.Report rest }
-{
-    match rest {
-        Rest::T => Line::Report,
-        _ => Line::Bad,
-    }
-}
-
-fn return_line(after: u64, kept: u64) -> Line
-    ensures { result ≡ ended Line.Return return_end after kept }
-{
-    if after == Head::RETURN_END {
-        return Line::Return(kept);
-    }
-    Line::Bad
-}
-
-fn forget_line(after: u64, kept: u64) -> Line
-    ensures { result ≡ ended Line.Forget forget_end after kept }
-{
-    if after == Head::FORGET_END {
-        return Line::Forget(kept);
-    }
-    Line::Bad
-}
-
-fn steady_of(late: Rest) -> Line
-    ensures { result ≡ numbered Line.Steady late }
-{
-    match late {
-        Rest::Number(n) => Line::Steady(n),
-        _ => Line::Bad,
-    }
-}
-
 fn steady_line(after: u64, late: Rest) -> Line
     ensures { result ≡ steadied after late }
 {
     if after == Head::STEADY_END {
-        return steady_of(late);
+        return late.number().map_or(Line::Bad, Line::Steady);
     }
     Line::Bad
 }
@@ -287,30 +219,12 @@ fn seek_line(after: u64, kept: u64) -> Line
     Line::Search(digit - Head::ZERO, kept)
 }
 
-fn word_line(rest: Rest) -> Line
-    ensures { result ≡ numbered Line.Word rest }
-{
-    match rest {
-        Rest::Number(n) => Line::Word(n),
-        _ => Line::Bad,
-    }
-}
-
-fn run_of(early: Rest) -> Line
-    ensures { result ≡ numbered Line.Run early }
-{
-    match early {
-        Rest::Number(n) => Line::Run(n),
-        _ => Line::Bad,
-    }
-}
-
 // A word of four bytes, of which the head has one byte more.
 fn run_line(head: u64, early: Rest) -> Line
     ensures { result ≡ ran_by head early }
 {
     if head / 256 == Head::RUN {
-        return run_of(early);
+        return early.number().map_or(Line::Bad, Line::Run);
     }
     Line::Bad
 }
@@ -332,7 +246,7 @@ fn next_late(after: u64, late: Rest, b: u8) -> Rest
     if after < Head::TWO {
         return late;
     }
-    with_byte(late, b)
+    bytes::with_byte(late, b)
 }
 
 // What stands after the first four bytes, with one more byte, from the head before it.
@@ -342,7 +256,7 @@ fn next_early(head: u64, early: Rest, b: u8) -> Rest
     if head < Head::FOUR {
         return early;
     }
-    with_byte(early, b)
+    bytes::with_byte(early, b)
 }
 
 // How many bytes are kept with one more.
@@ -396,11 +310,11 @@ impl Reading {
         Reading {
             head: head,
             early: early,
-            rest: with_byte(rest, b),
+            rest: bytes::with_byte(rest, b),
             after: next_after(after, b),
             late: next_late(after, late, b),
             kept: kept,
-            two: crate::two::with_byte(two, b),
+            two: bytes::with_byte(two, b),
         }
     }
 
@@ -417,20 +331,20 @@ impl Reading {
         let early = self.early;
         match head {
             Head::LIST => Line::List,
-            Head::STATE => state_line(rest),
-            Head::REPORT => report_line(rest),
-            Head::OPEN => open_line(rest),
-            Head::STEP => step_line(rest),
+            Head::STATE => bare(Line::State, rest),
+            Head::REPORT => lettered(Line::Report, rest),
+            Head::OPEN => rest.number().map_or(Line::Bad, Line::Open),
+            Head::STEP => rest.number().map_or(Line::Bad, Line::Step),
             Head::SAVE => Line::Save(kept),
-            Head::RETURN => return_line(after, kept),
-            Head::FORGET => forget_line(after, kept),
-            Head::TIME => time_line(rest),
-            Head::WAIT => wait_line(rest),
-            Head::CLOCK => clock_line(rest),
+            Head::RETURN => ended(Line::Return(kept), Head::RETURN_END, after),
+            Head::FORGET => ended(Line::Forget(kept), Head::FORGET_END, after),
+            Head::TIME => rest.number().map_or(Line::Bad, Line::Time),
+            Head::WAIT => rest.number().map_or(Line::Bad, draw_line),
+            Head::CLOCK => bare(Line::Clock, rest),
             Head::INDEPENDENT => crate::two::says(two),
             Head::STEADY => steady_line(after, late),
             Head::SEEK => seek_line(after, kept),
-            Head::WORD => word_line(rest),
+            Head::WORD => rest.number().map_or(Line::Bad, Line::Word),
             _ => run_line(head, early),
         }
     }

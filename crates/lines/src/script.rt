@@ -28,11 +28,10 @@ pub enum Taken {
     Wrong(u64),
 }
 
-// What the end of a script finds: whole items; or one that began with this line and isn't whole.
+// The script's end is within an item that began with this line.
 #[derive(Clone, Copy)]
-pub enum Ending {
-    Done,
-    Broken(u64),
+pub struct Broken {
+    pub from: u64,
 }
 
 fn next_line(line: u64) -> u64
@@ -112,13 +111,13 @@ fn take_in_text(line: u64, from: u64, asked: Line, size: u64, taken: u64, b: u8)
     Taken::Wrong(from)
 }
 
-fn line_at_end(from: u64, reading: Reading) -> Ending
+fn line_at_end(from: u64, reading: Reading) -> Result<(), Broken>
     ensures { (s : List ℕ) (qs : List Asked) → LineBegun s qs from reading → Ends s qs result }
 {
     if reading.head == Head::EMPTY {
-        return Ending::Done;
+        return Ok(());
     }
-    Ending::Broken(from)
+    Err(Broken { from })
 }
 
 impl Script {
@@ -142,14 +141,14 @@ impl Script {
     }
 
     // What the script's end finds.
-    pub fn at_end(self) -> Ending
+    pub fn at_end(self) -> Result<(), Broken>
         ensures { (s : List ℕ) (qs : List Asked) → Stands s qs self → Ends s qs result }
     {
         let from = self.from;
         let part = self.part;
         match part {
             Part::InLine(reading) => line_at_end(from, reading),
-            Part::InText(_, _, _) => Ending::Broken(from),
+            Part::InText(_, _, _) => Err(Broken { from }),
         }
     }
 }

@@ -1,7 +1,9 @@
 // What stands after the first five bytes of `independent I J`, read byte by byte, however long it is.
-ghost use Rattle.std.specs.Prelude.{◌≡◌, ◌<◌};
-ghost use Rattle.lines.specs.Two.{word_byte, word_next, grown_first, grown_second, digit_next, letter_next, two_next, paired};
+ghost use Rattle.std.specs.Prelude.{◌≡◌};
+ghost use Rattle.lines.specs.Two.{word_byte, word_next, digit_next, letter_next, paired};
 
+use crate::bytes;
+use crate::bytes::ByteByByte;
 use crate::line::Line;
 
 // So many bytes of the word `endent `; the word and a number; a blank after them; a second number; or something else.
@@ -49,28 +51,6 @@ fn in_word(n: u64, b: u8) -> Two
     Two::Other
 }
 
-// A first number with one more digit, if it fits.
-fn grow_first(v: u64, d: u64) -> Two
-    requires { d < 10 }
-    ensures { result ≡ grown_first v d }
-{
-    if v <= (u64::MAX - d) / 10 {
-        return Two::First(v * 10 + d);
-    }
-    Two::Other
-}
-
-// A second number with one more digit, if it fits.
-fn grow_second(v: u64, w: u64, d: u64) -> Two
-    requires { d < 10 }
-    ensures { result ≡ grown_second v w d }
-{
-    if w <= (u64::MAX - d) / 10 {
-        return Two::Both(v, w * 10 + d);
-    }
-    Two::Other
-}
-
 // The first digit, after the whole word.
 fn first_digit(n: u64, d: u64) -> Two
     ensures { result ≡ digit_next (Two.Word n) d }
@@ -79,19 +59,6 @@ fn first_digit(n: u64, d: u64) -> Two
         return Two::First(d);
     }
     Two::Other
-}
-
-fn with_digit(two: Two, d: u64) -> Two
-    requires { d < 10 }
-    ensures { result ≡ digit_next two d }
-{
-    match two {
-        Two::Word(n) => first_digit(n, d),
-        Two::First(v) => grow_first(v, d),
-        Two::Gap(v) => Two::Both(v, d),
-        Two::Both(v, w) => grow_second(v, w, d),
-        Two::Other => Two::Other,
-    }
 }
 
 // A byte that is no digit, after a first number.
@@ -104,28 +71,31 @@ fn after_first(v: u64, b: u8) -> Two
     Two::Other
 }
 
-// One more byte that is no digit.
-fn with_letter(two: Two, b: u8) -> Two
-    ensures { result ≡ letter_next two b }
-{
-    match two {
-        Two::Word(n) => in_word(n, b),
-        Two::First(v) => after_first(v, b),
-        _ => Two::Other,
-    }
-}
+impl ByteByByte for Two {
+    ghost digit_next = { digit_next };
 
-// One more byte.
-pub fn with_byte(two: Two, b: u8) -> Two
-    ensures { result ≡ two_next two b }
-{
-    if b < b'0' {
-        return with_letter(two, b);
+    ghost letter_next = { letter_next };
+
+    fn with_digit(self, d: u64) -> Self {
+        match self {
+            Two::Word(n) => first_digit(n, d),
+            Two::First(v) => bytes::grow(v, d).map_or(Two::Other, Two::First),
+            Two::Gap(v) => Two::Both(v, d),
+            Two::Both(v, w) => match bytes::grow(w, d) {
+                Some(w) => Two::Both(v, w),
+                None => Two::Other,
+            },
+            Two::Other => Two::Other,
+        }
     }
-    if b'9' < b {
-        return with_letter(two, b);
+
+    fn with_letter(self, b: u8) -> Self {
+        match self {
+            Two::Word(n) => in_word(n, b),
+            Two::First(v) => after_first(v, b),
+            _ => Two::Other,
+        }
     }
-    with_digit(two, (b - b'0') as u64)
 }
 
 // What the line says.

@@ -6,10 +6,7 @@ ghost use Rattle.std.specs.Prelude.{◌≤◌, length};
 ghost use Rattle.token.specs.Contents.{Held};
 ghost use Rattle.token.specs.Questions.{text_limit};
 
-use std::fs::File;
-use std::io::Read;
-use std::rt::Files;
-use std::{env, io};
+use std::io;
 use token::{Kind, Limits, Refusal};
 
 #[derive(Clone, Copy)]
@@ -77,31 +74,14 @@ fn put_no(rt: &impl Print, text: &[u8]) -> io::Result<()> {
     }
 }
 
-fn show(rt: &impl Print, from: &mut impl Read) -> io::Result<()> {
-    let mut space = [0u8; Input::MOST];
-    let n = reading::read_full(from, &mut space)?;
-    let text = &space[..n];
-    if n <= Limits::TEXT {
+fn show(rt: &impl Print, text: &[u8]) -> io::Result<()> {
+    if text.len() <= Limits::TEXT {
         put_tokens(rt, text)?;
     }
     put_no(rt, text)
 }
 
-fn show_file(rt: &(impl Print + Eprint + Files), name: &str) -> io::Result<()> {
-    println!(rt; "== {name}")?;
-    match File::open(rt, name) {
-        Ok(mut file) => show(rt, &mut file),
-        Err(e) => eprintln!(rt; "{name}: {e}"),
-    }
-}
-
 fn main(rt: HostRuntime) -> io::Result<()> {
-    let names = env::args(&rt)?;
-    if names.len() < 2 {
-        return show(&rt, &mut rt.stdin());
-    }
-    for name in names.skip(1) {
-        show_file(&rt, name.as_str())?;
-    }
-    Ok(())
+    let mut space = [0u8; Input::MOST];
+    reading::show_texts(&rt, &mut space, |text| show(&rt, text))
 }

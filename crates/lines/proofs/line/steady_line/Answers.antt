@@ -1,11 +1,13 @@
 -- By the two bytes that end the word.
 use Rattle.std.proofs.Common.{refl, eq-eqb, ne_eqb}
+use Rattle.lines.specs.declared.line.Line.TheVariants.{Steady}
+use Rattle.lines.proofs.Heads.{numbered-is}
 use Rattle.lines.specs.Line.{steady_end, steadied}
 use Rattle.lines.proofs.line.steady_line.Goals as goal
 
 pub returns-then-after-eq-STEADY_END : goal.returns-then-after-eq-STEADY_END
 unfolding steadied
-returns-then-after-eq-STEADY_END c = rw (eq-eqb c.args.after steady_end c.if-after-eq-STEADY_END.true) c.steady_of.ensures
+returns-then-after-eq-STEADY_END c = rw (eq-eqb c.args.after steady_end c.if-after-eq-STEADY_END.true) (numbered-is Steady c.args.late _ (rw c.number.ensures at c.map_or.ensures))
 
 pub returns : goal.returns
 unfolding steadied

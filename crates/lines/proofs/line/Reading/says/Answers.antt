@@ -1,5 +1,7 @@
 -- The head tells which of the words begins the line.
-use Rattle.lines.proofs.Heads.{says-list, says-state, says-report, says-open, says-step, says-save, says-return, says-forget, says-time, says-wait, says-clock, says-independent, says-steady, says-seek, says-word, says-run}
+use Rattle.lines.specs.declared.line.Line.TheVariants.{Open, Step, Time, Word}
+use Rattle.lines.specs.Line.{small, ended}
+use Rattle.lines.proofs.Heads.{says-list, says-state, says-report, says-open, says-step, says-save, says-return, says-forget, says-time, says-wait, says-clock, says-independent, says-steady, says-seek, says-word, says-run, numbered-is}
 use Rattle.lines.proofs.line.Reading.says.Goals as goal
 
 pub returns-in-6113817460 : goal.returns-in-6113817460
@@ -8,43 +10,45 @@ returns-in-6113817460 c =
 
 pub returns-in-1595385410661 : goal.returns-in-1595385410661
 returns-in-1595385410661 c =
-    λ s h. says-state h c.in-1595385410661.is c.state_line.ensures
+    λ s h. says-state h c.in-1595385410661.is c.bare.ensures
 
 pub returns-in-1590839766898 : goal.returns-in-1590839766898
 returns-in-1590839766898 c =
-    λ s h. says-report h c.in-1590839766898.is c.report_line.ensures
+    λ s h. says-report h c.in-1590839766898.is c.lettered.ensures
 
 pub returns-in-1578138693152 : goal.returns-in-1578138693152
 returns-in-1578138693152 c =
-    λ s h. says-open h c.in-1578138693152.is c.open_line.ensures
+    λ s h. says-open h c.in-1578138693152.is (numbered-is Open c.args.self.rest _ (rw c.number.ensures at c.map_or.ensures))
 
 pub returns-in-1595385671712 : goal.returns-in-1595385671712
 returns-in-1595385671712 c =
-    λ s h. says-step h c.in-1595385671712.is c.step_line.ensures
+    λ s h. says-step h c.in-1595385671712.is (numbered-is Step c.args.self.rest _ (rw c.number-in-1595385671712.ensures at c.map_or-in-1595385671712.ensures))
 
 pub returns-in-1595068015904 : goal.returns-in-1595068015904
 returns-in-1595068015904 c =
     λ s h. says-save h c.in-1595068015904.is
 
 pub returns-in-1590840030578 : goal.returns-in-1590840030578
+unfolding ended
 returns-in-1590840030578 c =
-    λ s h. says-return h c.in-1590840030578.is c.return_line.ensures
+    λ s h. says-return h c.in-1590840030578.is c.ended.ensures
 
 pub returns-in-1539468060517 : goal.returns-in-1539468060517
+unfolding ended
 returns-in-1539468060517 c =
-    λ s h. says-forget h c.in-1539468060517.is c.forget_line.ensures
+    λ s h. says-forget h c.in-1539468060517.is c.ended-in-1539468060517.ensures
 
 pub returns-in-1599496611104 : goal.returns-in-1599496611104
 returns-in-1599496611104 c =
-    λ s h. says-time h c.in-1599496611104.is c.time_line.ensures
+    λ s h. says-time h c.in-1599496611104.is (numbered-is Time c.args.self.rest _ (rw c.number-in-1599496611104.ensures at c.map_or-in-1599496611104.ensures))
 
 pub returns-in-1612247036960 : goal.returns-in-1612247036960
 returns-in-1612247036960 c =
-    λ s h. says-wait h c.in-1612247036960.is c.wait_line.ensures
+    λ s h. says-wait h c.in-1612247036960.is (numbered-is small c.args.self.rest _ (rw c.number-in-1612247036960.ensures at c.map_or-in-1612247036960.ensures))
 
 pub returns-in-1526532629355 : goal.returns-in-1526532629355
 returns-in-1526532629355 c =
-    λ s h. says-clock h c.in-1526532629355.is c.clock_line.ensures
+    λ s h. says-clock h c.in-1526532629355.is c.bare-in-1526532629355.ensures
 
 pub returns-in-1552335267184 : goal.returns-in-1552335267184
 returns-in-1552335267184 c =
@@ -60,7 +64,7 @@ returns-in-1595134012192 c =
 
 pub returns-in-1612482503712 : goal.returns-in-1612482503712
 returns-in-1612482503712 c =
-    λ s h. says-word h c.in-1612482503712.is c.word_line.ensures
+    λ s h. says-word h c.in-1612482503712.is (numbered-is Word c.args.self.rest _ (rw c.number-in-1612482503712.ensures at c.map_or-in-1612482503712.ensures))
 
 pub returns-in_default : goal.returns-in_default
 returns-in_default c =

@@ -2,7 +2,7 @@
 use Rattle.std.proofs.Common.{sym, ap, ◌∙◌}
 use Rattle.lines.specs.declared.two.Two.{Two}
 use Rattle.lines.specs.Two.{letter_next}
-use Rattle.lines.proofs.two.with_letter.Goals as goal
+use Rattle.lines.proofs.two.TwoByteByByte.with_letter.Goals as goal
 
 pub returns-in-Word : goal.returns-in-Word
 returns-in-Word c = c.in_word.ensures ∙ sym (ap (λ (t : Two). letter_next t c.args.b) c.in-Word.is)

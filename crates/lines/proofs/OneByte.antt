@@ -1,0 +1,30 @@
+-- A byte is a digit or not; a number with one more digit is below the limit or not.
+use Rattle.std.proofs.Common.{◌≡◌, ℕ, ◌+◌, ◌-◌, ◌*◌, ◌<◌, ◌≤◌, Some, None, arith, le-ltb, lt-ltb, le-leb}
+use borrow.Author.Tests.{lt-leb}
+use Rattle.word.specs.Number.{digit_of}
+use Rattle.token.specs.Bytes.{is_digit, within}
+use Rattle.lines.specs.Limit.{limit}
+use Rattle.lines.specs.OneByte.{number_grown, byte_next}
+
+module _ {R : Type 0} (digit letter : R → ℕ → R) (r : R) (b : ℕ) where
+  pub below-digit : b < 48 → letter r b ≡ byte_next digit letter r b
+  unfolding is_digit within
+  below-digit h = simp (lt-leb 48 b h)
+
+  pub above-digit : 57 < b → letter r b ≡ byte_next digit letter r b
+  unfolding is_digit within
+  above-digit h = simp (lt-leb b 57 h, le-leb 48 b (omega arith))
+
+  pub at-digit : 48 ≤ b → b ≤ 57 → digit r (b - 48) ≡ byte_next digit letter r b
+  unfolding is_digit within
+  at-digit h k =
+      let e : b - 48 ≡ digit_of b = omega arith in
+      simp (le-leb 48 b h, le-leb b 57 k, ← e)
+
+pub grown-small : (v d : ℕ) → v * 10 + d < limit → Some (v * 10 + d) ≡ number_grown v d
+unfolding number_grown
+grown-small v d h = simp (lt-ltb (v * 10 + d) limit h)
+
+pub grown-large : (v d : ℕ) → limit ≤ v * 10 + d → None ≡ number_grown v d
+unfolding number_grown
+grown-large v d h = simp (le-ltb (v * 10 + d) limit h)

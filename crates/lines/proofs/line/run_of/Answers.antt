@@ -1,8 +1,0 @@
--- By the cases of the rest.
-use Rattle.std.proofs.Common.{sym, ap}
-use Rattle.lines.specs.declared.line.Line.TheVariants.{Run}
-use Rattle.lines.specs.Line.{numbered}
-use Rattle.lines.proofs.line.run_of.Goals as goal
-
-pub returns-in-Number : goal.returns-in-Number
-returns-in-Number c = sym (ap (numbered Run) c.in-Number.is)

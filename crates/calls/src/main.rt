@@ -38,11 +38,6 @@ impl Limits {
     // Bytes of one read.
     const READ: usize = 65536;
 
-    // The refusal's number and the entry count among an answer's numbers.
-    const NUMBER: usize = 0;
-
-    const COUNT: usize = 3;
-
     // Bytes of a line before its name: `save `, and `return `, `forget ` or `seek D `.
     const SAVE: u64 = 5;
 
@@ -53,37 +48,90 @@ impl Limits {
 
     const WORDS: usize = 4096;
 
-    // Numbers of an event, and the steps of a run among an answer's numbers.
+    // Numbers of an event.
     const EVENT: usize = 8;
 
-    const STEPS: usize = 15;
+    // Numbers of a run that a search found: its length and eight entry numbers.
+    const FOUND: usize = 9;
 }
 
 type Text = [u8; Limits::TEXT];
 
 type Listing = [u64; Engine::LISTING];
 
-type Answer = [u64; Row::ANSWER];
-
-// The numbers of a row that differ from call to call: the kind, where the text or name begins and how long it is, a draw, depth or limit, and how many numbers of the output are lent.
+// A call, with the size of its text; or how many bytes of its line are kept, a name the last of them; or a draw or limit.
 #[derive(Clone, Copy)]
-struct Call {
-    kind: u64,
-    first: u64,
-    size: u64,
-    draw: u64,
-    listed: usize,
+enum Call {
+    Open(u64),
+    Steady(u64),
+    List,
+    Step(u64),
+    Timed(u64),
+    Report,
+    Save(u64),
+    Return(u64),
+    Forget(u64),
+    // A depth, and how many bytes of the line are kept.
+    Search(u64, u64),
+    Run(u64),
+}
+
+// A row that lends a name, which stands after so many bytes of a line of which so many are kept, and no listing.
+fn with_name(kind: u64, word: u64, kept: u64, row: Row) -> Row {
+    Row {
+        kind,
+        text: word as usize,
+        size: kept.saturating_sub(word) as usize,
+        output: 0,
+        ..row
+    }
+}
+
+// A row that lends a text of so many bytes, as far as they are kept.
+fn with_text(kind: u64, size: u64, row: Row) -> Row {
+    Row {
+        kind,
+        size: size.min(Limits::TEXT as u64) as usize,
+        ..row
+    }
 }
 
 impl Call {
-    // A call of this kind that is lent a listing.
-    fn listing(kind: u64) -> Self {
-        Call {
-            kind,
-            first: 0,
-            size: 0,
-            draw: 0,
-            listed: Engine::LISTING,
+    // The row of a script that makes this call.
+    fn row(self, lent: Lent) -> Row {
+        let row = lent.listing();
+        match self {
+            Call::Open(size) => with_text(Row::OPEN, size, row),
+            Call::Steady(size) => with_text(Row::STEADY, size, row),
+            Call::List => row,
+            Call::Step(number) => Row {
+                kind: Row::STEP,
+                number,
+                ..row
+            },
+            Call::Timed(number) => Row {
+                kind: Row::TIMED,
+                number,
+                ..row
+            },
+            Call::Report => Row {
+                kind: Row::REPORT,
+                output: Engine::REPORT,
+                ..row
+            },
+            Call::Save(kept) => with_name(Row::SAVE, Limits::SAVE, kept, row),
+            Call::Return(kept) => with_name(Row::RETURN, Limits::RETURN, kept, row),
+            Call::Forget(kept) => with_name(Row::FORGET, Limits::RETURN, kept, row),
+            Call::Search(number, kept) => Row {
+                number,
+                ..with_name(Row::SEARCH, Limits::RETURN, kept, row)
+            },
+            Call::Run(number) => Row {
+                kind: Row::RUN,
+                number,
+                output: Row::OUTPUT,
+                ..row
+            },
         }
     }
 }
@@ -94,6 +142,123 @@ struct Lent<'a> {
     text: &'a Text,
     waiting: &'a [u16],
     words: &'a [u64],
+}
+
+impl<'a> Lent<'a> {
+    // A text or a name alone.
+    fn bytes(text: &'a Text) -> Self {
+        Lent {
+            text,
+            waiting: &[],
+            words: &[],
+        }
+    }
+
+    // The row of a list that is lent all this.
+    fn listing(self) -> Row {
+        Row {
+            kind: Row::LIST,
+            text: 0,
+            size: 0,
+            from: 0,
+            count: self.waiting.len(),
+            number: 0,
+            output: Engine::LISTING,
+            model: Engine::MODEL,
+            state: Engine::STATE,
+            saves: Engine::SAVES,
+            start: 0,
+            words: self.words.len(),
+        }
+    }
+}
+
+// A row as script::run reads it.
+fn numbers_of(row: Row) -> [u64; Row::WIDTH] {
+    [
+        row.kind,
+        row.text as u64,
+        row.size as u64,
+        row.from as u64,
+        row.count as u64,
+        row.number,
+        row.output as u64,
+        row.model as u64,
+        row.state as u64,
+        row.saves as u64,
+        row.start as u64,
+        row.words as u64,
+    ]
+}
+
+// What a call answers: the six numbers of every call, what a search found, and how much a run used.
+#[derive(Clone, Copy)]
+struct Answer {
+    number: u64,
+    place: u64,
+    branch: u64,
+    count: u64,
+    total: u64,
+    chosen: u64,
+    found: [u64; Limits::FOUND],
+    steps: u64,
+    words: u64,
+    waiting: u64,
+}
+
+// An answer as script::run wrote it.
+fn answer_of(numbers: &[u64; Row::ANSWER]) -> Answer {
+    let [
+        number,
+        place,
+        branch,
+        count,
+        total,
+        chosen,
+        ..,
+        steps,
+        words,
+        waiting,
+    ] = *numbers;
+    let mut found = [0u64; Limits::FOUND];
+    found.copy_from_slice(&numbers[6..15]);
+    Answer {
+        number,
+        place,
+        branch,
+        count,
+        total,
+        chosen,
+        found,
+        steps,
+        words,
+        waiting,
+    }
+}
+
+impl Answer {
+    fn accepted(&self) -> bool {
+        self.number == 0
+    }
+
+    // The six numbers that every call answers.
+    fn put(&self, out: &mut impl Write) -> io::Result<()> {
+        let shown = [
+            self.number,
+            self.place,
+            self.branch,
+            self.count,
+            self.total,
+            self.chosen,
+        ];
+        output::put_line(out, &shown, ' ')
+    }
+
+    // These, and as many entries as are counted: none where the listing isn't filled.
+    fn put_listed(&self, out: &mut impl Write, listing: &Listing) -> io::Result<()> {
+        self.put(out)?;
+        output::put_entries(out, listing, self.count, "  ", ' ')
+    }
 }
 
 // An engine's buffers.
@@ -118,20 +283,7 @@ impl Machine {
 
     // Makes one call by a row of a script.
     fn call(&mut self, call: Call, lent: Lent, outputs: &mut [u64]) -> Answer {
-        let row: [u64; Row::WIDTH] = [
-            call.kind,
-            call.first,
-            call.size,
-            0,
-            lent.waiting.len() as u64,
-            call.draw,
-            call.listed as u64,
-            Engine::MODEL as u64,
-            Engine::STATE as u64,
-            Engine::SAVES as u64,
-            0,
-            lent.words.len() as u64,
-        ];
+        let row = numbers_of(call.row(lent));
         let Lent {
             text,
             waiting,
@@ -150,7 +302,7 @@ impl Machine {
             outputs,
             &mut answer,
         );
-        answer
+        answer_of(&answer)
     }
 }
 
@@ -173,23 +325,18 @@ fn kept_at(part: Part) -> u64 {
     }
 }
 
-// How many bytes of a text are lent.
-fn bytes_lent(size: u64) -> u64 {
-    size.min(Limits::TEXT as u64)
-}
-
-// The six numbers that every call answers.
-fn put_shown(out: &mut impl Write, answer: &Answer) -> io::Result<()> {
-    output::put_line(out, &answer[..6], ' ')
-}
-
-// Whether the entries i and j of a listing are independent: 1 or 0. Numbers that aren't there are no entry's.
-fn judge(listing: &Listing, i: u64, j: u64) -> u64 {
+// Whether the entries i and j of a listing are independent. Numbers that aren't there are no entry's.
+fn judge(listing: &Listing, i: u64, j: u64) -> bool {
     let entry = |k: u64| listing.chunks_exact(listing::Limits::ENTRY).nth(k as usize);
     match (entry(i), entry(j)) {
-        (Some(a), Some(b)) => u64::from(independence::independent(a, b)),
-        _ => 0,
+        (Some(a), Some(b)) => independence::independent(a, b),
+        _ => false,
     }
+}
+
+// An item that is wrong or cut short.
+fn put_broken(out: &mut impl Write, broken: Broken) -> io::Result<()> {
+    writeln!(out, "bad,{}", broken.from)
 }
 
 impl Bench {
@@ -211,78 +358,50 @@ impl Bench {
         }
     }
 
-    // A call's answer and as many entries as it counts: none where the listing isn't filled.
+    // A call's answer and its entries.
     fn put_listed(&mut self, out: &mut impl Write, call: Call) -> io::Result<()> {
-        let lent = Lent {
-            text: &self.text,
-            waiting: &[],
-            words: &[],
-        };
+        let lent = Lent::bytes(&self.text);
         let answer = self.machine.call(call, lent, &mut self.listing);
-        put_shown(out, &answer)?;
-        output::put_entries(out, &self.listing, answer[Limits::COUNT], "  ", ' ')
+        answer.put_listed(out, &self.listing)
     }
 
     // A timed step with the waiting draws so far.
     fn put_timed(&mut self, out: &mut impl Write, draw: u64) -> io::Result<()> {
         let lent = Lent {
-            text: &self.text,
             waiting: self.waiting.as_slice(),
-            words: &[],
+            ..Lent::bytes(&self.text)
         };
-        let call = Call {
-            draw,
-            ..Call::listing(Row::TIMED)
-        };
-        let answer = self.machine.call(call, lent, &mut self.listing);
+        let answer = self
+            .machine
+            .call(Call::Timed(draw), lent, &mut self.listing);
         self.waiting.clear();
-        put_shown(out, &answer)?;
-        output::put_entries(out, &self.listing, answer[Limits::COUNT], "  ", ' ')
+        answer.put_listed(out, &self.listing)
     }
 
     // A report's answer, and its numbers where it is accepted. The last listing stays.
     fn put_report(&mut self, out: &mut impl Write) -> io::Result<()> {
         let mut report = [0u64; Engine::REPORT];
-        let lent = Lent {
-            text: &self.text,
-            waiting: &[],
-            words: &[],
-        };
-        let call = Call {
-            listed: Engine::REPORT,
-            ..Call::listing(Row::REPORT)
-        };
-        let answer = self.machine.call(call, lent, &mut report);
-        put_shown(out, &answer)?;
-        if answer[Limits::NUMBER] != 0 {
+        let lent = Lent::bytes(&self.text);
+        let answer = self.machine.call(Call::Report, lent, &mut report);
+        answer.put(out)?;
+        if !answer.accepted() {
             return Ok(());
         }
         write!(out, "  ")?;
         output::put_line(out, &report, ' ')
     }
 
-    // Makes a call whose name stands after so many bytes of the line, of which so many are kept.
-    fn call_named(&mut self, kind: u64, first: u64, kept: u64, draw: u64) -> Answer {
-        let lent = Lent {
-            text: &self.text,
-            waiting: &[],
-            words: &[],
-        };
-        let call = Call {
-            kind,
-            first,
-            size: kept.saturating_sub(first),
-            draw,
-            listed: 0,
-        };
+    // Makes a call with a name. The last listing stays.
+    fn call_named(&mut self, call: Call) -> Answer {
+        let lent = Lent::bytes(&self.text);
         self.machine.call(call, lent, &mut self.listing)
     }
 
     // A search: its number, the run's length and eight entry numbers.
     fn put_search(&mut self, out: &mut impl Write, depth: u64, kept: u64) -> io::Result<()> {
-        let answer = self.call_named(Row::SEARCH, Limits::RETURN, kept, depth);
-        write!(out, "{} ", answer[Limits::NUMBER])?;
-        output::put_line(out, &answer[6..15], ' ')
+        let answer = self.call_named(Call::Search(depth, kept));
+        write!(out, "{} ", answer.number)?;
+        output::put_line(out, &answer.found, ' ')
     }
 
     // A run with the waiting draws and words so far: what it answers, and the events that it wrote. The last listing stays.
@@ -293,16 +412,20 @@ impl Bench {
             waiting: self.waiting.as_slice(),
             words: self.words.as_slice(),
         };
-        let call = Call {
-            draw: limit,
-            listed: Row::OUTPUT,
-            ..Call::listing(Row::RUN)
-        };
-        let a = self.machine.call(call, lent, &mut events);
+        let Answer {
+            number,
+            steps,
+            words,
+            waiting,
+            count,
+            total,
+            ..
+        } = self.machine.call(Call::Run(limit), lent, &mut events);
         self.waiting.clear();
         self.words.clear();
-        output::put_line(out, &[a[0], a[15], a[16], a[17], a[3], a[4]], ' ')?;
-        output::put_rows(out, &events, Limits::EVENT, a[Limits::STEPS], "  ", ' ')
+        let shown = [number, steps, words, waiting, count, total];
+        output::put_line(out, &shown, ' ')?;
+        output::put_rows(out, &events, Limits::EVENT, steps, "  ", ' ')
     }
 
     // Keeps a waiting draw, if there is room. A line gives none of more than 16 bits.
@@ -322,19 +445,25 @@ impl Bench {
         }
     }
 
-    // Does what an item asks for that is about names, model time, draws or words.
-    fn ask_more(&mut self, out: &mut impl Write, asked: Line) -> io::Result<()> {
+    // Does what an item of the script asks for.
+    fn ask(&mut self, out: &mut impl Write, asked: Line) -> io::Result<()> {
         match asked {
-            Line::Save(kept) => put_shown(out, &self.call_named(Row::SAVE, Limits::SAVE, kept, 0)),
-            Line::Return(kept) => {
-                put_shown(out, &self.call_named(Row::RETURN, Limits::RETURN, kept, 0))
-            }
-            Line::Forget(kept) => {
-                put_shown(out, &self.call_named(Row::FORGET, Limits::RETURN, kept, 0))
-            }
-            Line::Search(depth, kept) => self.put_search(out, depth, kept),
+            Line::Open(size) => self.put_listed(out, Call::Open(size)),
+            Line::Steady(size) => self.put_listed(out, Call::Steady(size)),
+            Line::List => self.put_listed(out, Call::List),
+            Line::Step(draw) => self.put_listed(out, Call::Step(draw)),
             Line::Time(draw) => self.put_timed(out, draw),
             Line::Run(limit) => self.put_run(out, limit),
+            Line::Report => self.put_report(out),
+            Line::Save(kept) => self.call_named(Call::Save(kept)).put(out),
+            Line::Return(kept) => self.call_named(Call::Return(kept)).put(out),
+            Line::Forget(kept) => self.call_named(Call::Forget(kept)).put(out),
+            Line::Search(depth, kept) => self.put_search(out, depth, kept),
+            Line::State => output::put_line(out, &self.machine.state, ' '),
+            Line::Clock => output::put_line(out, &self.machine.clock, ' '),
+            Line::Independent(i, j) => {
+                writeln!(out, "{}", u64::from(judge(&self.listing, i, j)))
+            }
             Line::Wait(draw) => {
                 self.keep_draw(draw);
                 Ok(())
@@ -343,40 +472,6 @@ impl Bench {
                 self.keep_word(word);
                 Ok(())
             }
-            _ => Ok(()),
-        }
-    }
-
-    // Does what an item of the script asks for.
-    fn ask(&mut self, out: &mut impl Write, asked: Line) -> io::Result<()> {
-        match asked {
-            Line::Open(size) => self.put_listed(
-                out,
-                Call {
-                    size: bytes_lent(size),
-                    ..Call::listing(Row::OPEN)
-                },
-            ),
-            Line::Steady(size) => self.put_listed(
-                out,
-                Call {
-                    size: bytes_lent(size),
-                    ..Call::listing(Row::STEADY)
-                },
-            ),
-            Line::List => self.put_listed(out, Call::listing(Row::LIST)),
-            Line::Step(draw) => self.put_listed(
-                out,
-                Call {
-                    draw,
-                    ..Call::listing(Row::STEP)
-                },
-            ),
-            Line::State => output::put_line(out, &self.machine.state, ' '),
-            Line::Clock => output::put_line(out, &self.machine.clock, ' '),
-            Line::Report => self.put_report(out),
-            Line::Independent(i, j) => writeln!(out, "{}", judge(&self.listing, i, j)),
-            _ => self.ask_more(out, asked),
         }
     }
 
@@ -384,17 +479,17 @@ impl Bench {
     fn take(&mut self, out: &mut impl Write, b: u8) -> io::Result<bool> {
         self.keep(b);
         match self.script.take(b) {
-            Taken::Goes(next) => {
+            Ok(Taken::Goes(next)) => {
                 self.script = next;
                 Ok(false)
             }
-            Taken::Asks(asked, next) => {
+            Ok(Taken::Asks(asked, next)) => {
                 self.script = next;
                 self.ask(out, asked)?;
                 Ok(false)
             }
-            Taken::Wrong(line) => {
-                writeln!(out, "bad,{line}")?;
+            Err(broken) => {
+                put_broken(out, broken)?;
                 Ok(true)
             }
         }
@@ -414,7 +509,7 @@ impl Bench {
     fn end(&self, out: &mut impl Write) -> io::Result<()> {
         match self.script.at_end() {
             Ok(()) => Ok(()),
-            Err(Broken { from }) => writeln!(out, "bad,{from}"),
+            Err(broken) => put_broken(out, broken),
         }
     }
 }

@@ -32,21 +32,31 @@ fn put_sheet(out: &mut impl Write, answer: Answer, listing: &[u64]) -> io::Resul
     writeln!(out, "total,{}", answer.total)
 }
 
+// An answer that is no refusal, or one that is.
+fn accepted(answer: Answer) -> Result<Answer, Answer> {
+    if answer.number == 0 {
+        Ok(answer)
+    } else {
+        Err(answer)
+    }
+}
+
 // Opens a text and lists what can happen at its start.
-fn put_model(out: &mut impl Write, text: &[u8]) -> io::Result<()> {
+fn list(text: &[u8], listing: &mut [u64; Engine::LISTING]) -> Result<Answer, Answer> {
     let mut model = [0u8; Engine::MODEL];
     let mut state = [0i64; Engine::STATE];
     let mut saves = [0i64; Engine::SAVES];
+    accepted(engine::open(text, &mut model, &mut state, &mut saves, Clock::fresh()).answer)?;
+    accepted(engine::list(&model, &state, listing))
+}
+
+// A text's first listing, or its refusal.
+fn put_model(out: &mut impl Write, text: &[u8]) -> io::Result<()> {
     let mut listing = [0u64; Engine::LISTING];
-    let opened = engine::open(text, &mut model, &mut state, &mut saves, Clock::fresh()).answer;
-    if opened.number != 0 {
-        return put_refused(out, opened);
+    match list(text, &mut listing) {
+        Ok(answer) => put_sheet(out, answer, &listing),
+        Err(refusal) => put_refused(out, refusal),
     }
-    let answer = engine::list(&model, &state, &mut listing);
-    if answer.number != 0 {
-        return put_refused(out, answer);
-    }
-    put_sheet(out, answer, &listing)
 }
 
 fn main(rt: HostRuntime) -> io::Result<()> {

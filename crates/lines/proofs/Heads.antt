@@ -1,16 +1,18 @@
 -- A line's first five bytes by their number: the number tells the bytes; and what the whole line says, from the number and the rest.
-use Rattle.std.proofs.Common.{◌≡◌, ℕ, zero, suc, ◌+◌, ◌-◌, ◌*◌, ◌/◌, ◌%◌, ◌<◌, ◌≤◌, min, Bool, true, false, cond, ◌&&◌, eqb, ltb, leb, List, [], ◌∷◌, ◌++◌, length, take, drop, sym, refl, ap, ◌∙◌, ap₂, arith, length-append, length-take, take-take, ltb-false, ltb-true, le-ltb, lt-ltb, eq-eqb, ne_eqb, eqb-true, le-leb, leb-false, leb-true, MatchOption}
+use Rattle.std.proofs.Common.{◌≡◌, ℕ, zero, suc, ◌+◌, ◌-◌, ◌*◌, ◌/◌, ◌%◌, ◌<◌, ◌≤◌, min, Bool, true, false, cond, ◌&&◌, eqb, ltb, leb, List, [], ◌∷◌, ◌++◌, length, take, drop, sym, refl, ap, ◌∙◌, ap₂, arith, length-append, length-take, take-take, ltb-false, ltb-true, le-ltb, lt-ltb, eq-eqb, ne_eqb, eqb-true, le-leb, leb-false, leb-true, Some, None, MatchOption}
+use Rattle.std.specs.Prelude.{Option}
+use Rattle.std.specs.Option.{IsSomeAnd}
 use borrow.Author.Tests.{eqb-false, lt-leb}
 use Rattle.word.specs.Number.{worth}
 use Rattle.token.specs.Bytes.{is_digit, within}
 use Rattle.token.specs.Token.{same_bytes}
 use Rattle.token.proofs.Words.{same-is}
 use Rattle.lines.specs.declared.line.Line.{Line}
-use Rattle.lines.specs.declared.line.Line.TheVariants.{Open, Steady, List as Listing, Step, State, Report, Save, Return, Forget, Time, Clock, Search, Word, Run, Bad}
+use Rattle.lines.specs.declared.line.Line.TheVariants.{Open, Steady, List as Listing, Step, State, Report, Save, Return, Forget, Time, Clock, Search, Word, Run}
 use Rattle.lines.specs.declared.line.Rest.{Rest}
 use Rattle.lines.specs.declared.line.Rest.TheVariants.{Nothing, Number, T, Other}
 use Rattle.lines.specs.declared.line.Reading.{Reading}
-use Rattle.lines.specs.Line.{list_bytes, state_bytes, report_bytes, open_bytes, steady_bytes, step_bytes, save_bytes, return_bytes, forget_bytes, time_bytes, wait_bytes, clock_bytes, independent_bytes, seek_bytes, word_bytes, run_bytes, small, kept_limit, kept, digits_only, is_number, given, sought, line_of, rest_of, rest_next, packed, head_of, after_of, two_bytes, return_end, forget_end, four_bytes, run_head, after_next, late_next, early_next, kept_next, ended, steadied, sought_by, ran_by, number_in, numbered, bare, lettered, Bytes, Reads}
+use Rattle.lines.specs.Line.{list_bytes, state_bytes, report_bytes, open_bytes, steady_bytes, step_bytes, save_bytes, return_bytes, forget_bytes, time_bytes, wait_bytes, clock_bytes, independent_bytes, seek_bytes, word_bytes, run_bytes, small, kept_limit, kept, digits_only, is_number, always, given, sought, line_of, rest_of, rest_next, packed, head_of, after_of, two_bytes, return_end, forget_end, four_bytes, run_head, after_next, late_next, early_next, kept_next, ended, steadied, sought_by, ran_by, number_in, numbered, bare, lettered, Bytes, Reads}
 use Rattle.lines.specs.declared.two.Two.{Two}
 use Rattle.lines.specs.Two.{begun, run, two_next, paired}
 use Rattle.lines.proofs.Rests.{rest-on}
@@ -250,17 +252,17 @@ word-is w t (five {a} {b} {c} {d} {e = x} {s = u}) h k l m n e =
     ap (λ (v : List ℕ). v ++ u) (same-packed 1 1 (a ∷ b ∷ c ∷ d ∷ x ∷ []) t (sym l) (h.0, (h.1.0, (h.1.1.0, (h.1.1.1.0, (h.1.1.1.1.0, tt))))) k (e ∙ sym n)).bytes
 
 -- ---- what the line says
-by-none : (says : Line) (t u : Bool) (n : ℕ) → bare says (cond t (Number n) (cond u T Other)) ≡ Bad
+by-none : (says : Line) (t u : Bool) (n : ℕ) → bare says (cond t (Number n) (cond u T Other)) ≡ None
 by-none says true u n = refl
 by-none says false true n = refl
 by-none says false false n = refl
 
-by_number : (says : ℕ → Line) (t u : Bool) (n : ℕ) → numbered says (cond t (Number n) (cond u T Other)) ≡ cond t (says n) Bad
+by_number : (says : ℕ → Option Line) (t u : Bool) (n : ℕ) → numbered says (cond t (Number n) (cond u T Other)) ≡ cond t (says n) None
 by_number says true u n = refl
 by_number says false true n = refl
 by_number says false false n = refl
 
-by-letter : (t : Bool) (n : ℕ) → lettered Report (cond t (Number n) Other) ≡ Bad
+by-letter : (t : Bool) (n : ℕ) → lettered Report (cond t (Number n) Other) ≡ None
 by-letter true n = refl
 by-letter false n = refl
 
@@ -273,7 +275,7 @@ state-then (b ∷ u) = by-none State (is_number (b ∷ u)) (eqb b 116 && same_by
 abbrev repor : List ℕ
 repor = take 5 report_bytes
 
-last_then : (u : List ℕ) (t : Bool) → same_bytes u (116 ∷ []) ≡ t → lettered Report (rest_of u) ≡ cond t Report Bad
+last_then : (u : List ℕ) (t : Bool) → same_bytes u (116 ∷ []) ≡ t → lettered Report (rest_of u) ≡ cond t (Some Report) None
 unfolding rest_of is_number digits_only is_digit within same_bytes
 last_then u true e = ap (λ (v : List ℕ). lettered Report (rest_of v)) (same-is u (116 ∷ []) e)
 last_then [] false e = refl
@@ -283,20 +285,20 @@ report-then : (u : List ℕ) → lettered Report (rest_of u) ≡ line_of (repor 
 unfolding line_of same_bytes
 report-then u = last_then u (same_bytes u (116 ∷ [])) refl
 
-open-then : (u : List ℕ) → numbered Open (rest_of u) ≡ line_of (open_bytes ++ u)
+open-then : (u : List ℕ) → numbered (always Open) (rest_of u) ≡ line_of (open_bytes ++ u)
 unfolding line_of same_bytes rest_of given is_number
 open-then [] = refl
-open-then (b ∷ u) = by_number Open (is_number (b ∷ u)) (eqb b 116 && same_bytes u []) (worth 0 (b ∷ u))
+open-then (b ∷ u) = by_number (always Open) (is_number (b ∷ u)) (eqb b 116 && same_bytes u []) (worth 0 (b ∷ u))
 
-step_then : (u : List ℕ) → numbered Step (rest_of u) ≡ line_of (step_bytes ++ u)
+step_then : (u : List ℕ) → numbered (always Step) (rest_of u) ≡ line_of (step_bytes ++ u)
 unfolding line_of same_bytes rest_of given is_number
 step_then [] = refl
-step_then (b ∷ u) = by_number Step (is_number (b ∷ u)) (eqb b 116 && same_bytes u []) (worth 0 (b ∷ u))
+step_then (b ∷ u) = by_number (always Step) (is_number (b ∷ u)) (eqb b 116 && same_bytes u []) (worth 0 (b ∷ u))
 
-time-then : (u : List ℕ) → numbered Time (rest_of u) ≡ line_of (time_bytes ++ u)
+time-then : (u : List ℕ) → numbered (always Time) (rest_of u) ≡ line_of (time_bytes ++ u)
 unfolding line_of same_bytes rest_of given is_number
 time-then [] = refl
-time-then (b ∷ u) = by_number Time (is_number (b ∷ u)) (eqb b 116 && same_bytes u []) (worth 0 (b ∷ u))
+time-then (b ∷ u) = by_number (always Time) (is_number (b ∷ u)) (eqb b 116 && same_bytes u []) (worth 0 (b ∷ u))
 
 wait-then : (u : List ℕ) → numbered small (rest_of u) ≡ line_of (wait_bytes ++ u)
 unfolding line_of same_bytes rest_of given is_number
@@ -308,7 +310,7 @@ unfolding line_of same_bytes rest_of
 clock-then [] = refl
 clock-then (b ∷ u) = by-none Clock (is_number (b ∷ u)) (eqb b 116 && same_bytes u []) (worth 0 (b ∷ u))
 
-save-then : (u : List ℕ) → Save (kept (save_bytes ++ u)) ≡ line_of (save_bytes ++ u)
+save-then : (u : List ℕ) → Some (Save (kept (save_bytes ++ u))) ≡ line_of (save_bytes ++ u)
 unfolding line_of same_bytes
 save-then u = refl
 
@@ -337,43 +339,47 @@ forge = take 5 forget_bytes
 
 return-then : (u : List ℕ) → Bytes u → ended Return return_end (packed 1 (take 2 u)) (kept (retur ++ u)) ≡ line_of (retur ++ u)
 unfolding line_of same_bytes ended
-return-then u h = ap (λ (t : Bool). cond t (Return (kept (retur ++ u))) Bad) (pair_is 110 32 u h (omega arith) (omega arith))
+return-then u h = ap (λ (t : Bool). cond t (Some (Return (kept (retur ++ u)))) None) (pair_is 110 32 u h (omega arith) (omega arith))
 
 forget-then : (u : List ℕ) → Bytes u → ended Forget forget_end (packed 1 (take 2 u)) (kept (forge ++ u)) ≡ line_of (forge ++ u)
 unfolding line_of same_bytes ended
-forget-then u h = ap (λ (t : Bool). cond t (Forget (kept (forge ++ u))) Bad) (pair_is 116 32 u h (omega arith) (omega arith))
+forget-then u h = ap (λ (t : Bool). cond t (Some (Forget (kept (forge ++ u)))) None) (pair_is 116 32 u h (omega arith) (omega arith))
 
 -- the first five bytes of `steady `
 abbrev stead : List ℕ
 stead = take 5 steady_bytes
 
-late-then : (u : List ℕ) → numbered Steady (rest_of u) ≡ given Steady u
+late-then : (u : List ℕ) → numbered (always Steady) (rest_of u) ≡ given (always Steady) u
 unfolding rest_of given is_number same_bytes
 late-then [] = refl
-late-then (b ∷ u) = by_number Steady (is_number (b ∷ u)) (eqb b 116 && same_bytes u []) (worth 0 (b ∷ u))
+late-then (b ∷ u) = by_number (always Steady) (is_number (b ∷ u)) (eqb b 116 && same_bytes u []) (worth 0 (b ∷ u))
 
 steady_then : (u : List ℕ) → Bytes u → steadied (packed 1 (take 2 u)) (rest_of (drop 2 u)) ≡ line_of (stead ++ u)
 unfolding line_of same_bytes steadied
-steady_then u h = ap₂ (λ (t : Bool) (l : Line). cond t l Bad) (pair_is 121 32 u h (omega arith) (omega arith)) (late-then (drop 2 u))
+steady_then u h = ap₂ (λ (t : Bool) (l : Option Line). cond t l None) (pair_is 121 32 u h (omega arith) (omega arith)) (late-then (drop 2 u))
 
 -- the cases of `seek_line`
 module _ (a k : ℕ) where
-  pub seek-unparted : (a % 256 ≡ 32 → ⊥) → Bad ≡ sought_by a k
+  pub seek-unparted : (a % 256 ≡ 32 → ⊥) → None ≡ sought_by a k
   unfolding sought_by
   seek-unparted n = rw (ne_eqb (a % 256) 32 n) refl
 
   module _ (e : a % 256 ≡ 32) where
-    pub seek-low : a / 256 < 304 → Bad ≡ sought_by a k
+    pub seek-low : a / 256 < 304 → None ≡ sought_by a k
     unfolding sought_by within
     seek-low l = rw (eq-eqb (a % 256) 32 e, lt-leb 304 (a / 256) l) refl
 
-    pub seek-high : 304 ≤ a / 256 → 313 < a / 256 → Bad ≡ sought_by a k
+    pub seek-high : 304 ≤ a / 256 → 313 < a / 256 → None ≡ sought_by a k
     unfolding sought_by within
     seek-high m l = rw (eq-eqb (a % 256) 32 e, le-leb 304 (a / 256) m, lt-leb (a / 256) 313 l) refl
 
-    pub seek-digit : 304 ≤ a / 256 → a / 256 ≤ 313 → Search (a / 256 - 304) k ≡ sought_by a k
+    pub seek-digit : 304 ≤ a / 256 → a / 256 ≤ 313 → Some (Search (a / 256 - 304) k) ≡ sought_by a k
     unfolding sought_by within
     seek-digit m l = rw (eq-eqb (a % 256) 32 e, le-leb 304 (a / 256) m, le-leb (a / 256) 313 l) refl
+
+either-way : (t : Bool) (l : Option Line) → cond t l l ≡ l
+either-way true l = refl
+either-way false l = refl
 
 -- a digit and a blank by their number
 seek-then : (u : List ℕ) (k : ℕ) → Bytes u → sought_by (packed 1 (take 2 u)) k ≡ sought u k
@@ -381,17 +387,13 @@ unfolding packed sought_by sought within is_digit
 seek-then [] k h = refl
 seek-then (x ∷ []) k h =
     let e : (256 + x) / 256 ≡ 1 = omega (arith, h.0) in
-    rw e (both-bad (eqb ((256 + x) % 256) 32))
-  where
-    both-bad : (t : Bool) → cond t Bad Bad ≡ Bad
-    both-bad true = refl
-    both-bad false = refl
+    rw e (either-way (eqb ((256 + x) % 256) 32) None)
 seek-then (x ∷ y ∷ u) k h =
     let e : ((256 + x) * 256 + y) / 256 ≡ 256 + x = omega (arith, h.1.0) in
     let f : ((256 + x) * 256 + y) % 256 ≡ y = omega (arith, h.1.0) in
-    rw (e, f) (ap (λ (l : Line). cond (eqb y 32) l Bad) (by (leb 48 x) (leb x 57) refl refl))
+    rw (e, f) (ap (λ (l : Option Line). cond (eqb y 32) l None) (by (leb 48 x) (leb x 57) refl refl))
   where
-    by : (s t : Bool) → leb 48 x ≡ s → leb x 57 ≡ t → cond (leb 304 (256 + x) && leb (256 + x) 313) (Search (256 + x - 304) k) Bad ≡ cond (leb 48 x && leb x 57) (Search (min 9 (x - 48)) k) Bad
+    by : (s t : Bool) → leb 48 x ≡ s → leb x 57 ≡ t → cond (leb 304 (256 + x) && leb (256 + x) 313) (Some (Search (256 + x - 304) k)) None ≡ cond (leb 48 x && leb x 57) (Some (Search (min 9 (x - 48)) k)) None
     by true true p q =
         let a = leb-true 48 x p in
         let b = leb-true x 57 q in
@@ -401,7 +403,7 @@ seek-then (x ∷ y ∷ u) k h =
         let b = leb-false x 57 q in
         rw (p, q, lt-leb (256 + x) 313 (omega arith)) (no-and (leb 304 (256 + x)))
       where
-        no-and : (t : Bool) → cond (t && false) (Search (256 + x - 304) k) Bad ≡ Bad
+        no-and : (t : Bool) → cond (t && false) (Some (Search (256 + x - 304) k)) None ≡ None
         no-and true = refl
         no-and false = refl
     by false t p q =
@@ -419,26 +421,22 @@ differ s t n = by (same_bytes s t) refl
     by true e = absurd (n (same-is s t e))
     by false e = refl
 
-words-then : (u : List ℕ) → numbered Word (rest_of u) ≡ line_of (word_bytes ++ u)
+words-then : (u : List ℕ) → numbered (always Word) (rest_of u) ≡ line_of (word_bytes ++ u)
 unfolding line_of same_bytes rest_of given is_number
 words-then [] = refl
-words-then (b ∷ u) = by_number Word (is_number (b ∷ u)) (eqb b 116 && same_bytes u []) (worth 0 (b ∷ u))
+words-then (b ∷ u) = by_number (always Word) (is_number (b ∷ u)) (eqb b 116 && same_bytes u []) (worth 0 (b ∷ u))
 
 -- `run ` by the head, which has one byte more
-run-then : (u : List ℕ) → numbered Run (rest_of u) ≡ given Run u
+run-then : (u : List ℕ) → numbered (always Run) (rest_of u) ≡ given (always Run) u
 unfolding rest_of given is_number same_bytes
 run-then [] = refl
-run-then (b ∷ u) = by_number Run (is_number (b ∷ u)) (eqb b 116 && same_bytes u []) (worth 0 (b ∷ u))
+run-then (b ∷ u) = by_number (always Run) (is_number (b ∷ u)) (eqb b 116 && same_bytes u []) (worth 0 (b ∷ u))
 
-both-bad : (t : Bool) → cond t Bad Bad ≡ Bad
-both-bad true = refl
-both-bad false = refl
-
-head-low : (n : ℕ) (e : Rest) → n < full → ran_by n e ≡ Bad
+head-low : (n : ℕ) (e : Rest) → n < full → ran_by n e ≡ None
 unfolding ran_by
 head-low n e l = rw (ne_eqb (n / 256) run_head (λ (q : n / 256 ≡ run_head). omega arith)) refl
 
-too_short : (s : List ℕ) (l : Line) → length s < 4 → cond (same_bytes (take 4 s) run_bytes) l Bad ≡ Bad
+too_short : (s : List ℕ) (l : Option Line) → length s < 4 → cond (same_bytes (take 4 s) run_bytes) l None ≡ None
 too_short s l h = rw (differ (take 4 s) run_bytes (λ (q : take 4 s ≡ run_bytes). omega (arith, ap length q, length-take 4 s))) refl
 
 run-same : same_bytes run_bytes run_bytes ≡ true
@@ -459,104 +457,104 @@ four_same a b c d h i j k = by (same_bytes (a ∷ b ∷ c ∷ d ∷ []) run_byte
         apart-bool : same_bytes (a ∷ b ∷ c ∷ d ∷ []) run_bytes ≡ true → same_bytes (a ∷ b ∷ c ∷ d ∷ []) run_bytes ≡ false → ⊥
         apart-bool p q = let z : ◌≡◌ {A = ℕ} 0 1 = cc in omega arith
 
-runs_then : {s : List ℕ} → Size s → Bytes s → ran_by (head_of s) (rest_of (drop 4 s)) ≡ cond (same_bytes (take 4 s) run_bytes) (given Run (drop 4 s)) Bad
+runs_then : {s : List ℕ} → Size s → Bytes s → ran_by (head_of s) (rest_of (drop 4 s)) ≡ cond (same_bytes (take 4 s) run_bytes) (given (always Run) (drop 4 s)) None
 unfolding head_of packed
-runs_then none h = head-low 1 (rest_of []) (omega arith) ∙ sym (too_short [] (given Run []) (omega arith))
-runs_then (one {a}) h = head-low (256 + a) (rest_of []) (omega (arith, h.0)) ∙ sym (too_short (a ∷ []) (given Run []) (omega arith))
-runs_then (two {a} {b}) h = head-low ((256 + a) * 256 + b) (rest_of []) (omega (arith, h.0, h.1.0)) ∙ sym (too_short (a ∷ b ∷ []) (given Run []) (omega arith))
-runs_then (three {a} {b} {c}) h = head-low (((256 + a) * 256 + b) * 256 + c) (rest_of []) (omega (arith, h.0, h.1.0, h.1.1.0)) ∙ sym (too_short (a ∷ b ∷ c ∷ []) (given Run []) (omega arith))
+runs_then none h = head-low 1 (rest_of []) (omega arith) ∙ sym (too_short [] (given (always Run) []) (omega arith))
+runs_then (one {a}) h = head-low (256 + a) (rest_of []) (omega (arith, h.0)) ∙ sym (too_short (a ∷ []) (given (always Run) []) (omega arith))
+runs_then (two {a} {b}) h = head-low ((256 + a) * 256 + b) (rest_of []) (omega (arith, h.0, h.1.0)) ∙ sym (too_short (a ∷ b ∷ []) (given (always Run) []) (omega arith))
+runs_then (three {a} {b} {c}) h = head-low (((256 + a) * 256 + b) * 256 + c) (rest_of []) (omega (arith, h.0, h.1.0, h.1.1.0)) ∙ sym (too_short (a ∷ b ∷ c ∷ []) (given (always Run) []) (omega arith))
 runs_then (four {a} {b} {c} {d}) h =
-    head-low ((((256 + a) * 256 + b) * 256 + c) * 256 + d) (rest_of []) (omega (arith, h.0, h.1.0, h.1.1.0, h.1.1.1.0)) ∙ sym (unfold given is_number in both-bad (same_bytes (a ∷ b ∷ c ∷ d ∷ []) run_bytes))
+    head-low ((((256 + a) * 256 + b) * 256 + c) * 256 + d) (rest_of []) (omega (arith, h.0, h.1.0, h.1.1.0, h.1.1.1.0)) ∙ sym (unfold given is_number in either-way (same_bytes (a ∷ b ∷ c ∷ d ∷ []) run_bytes) None)
 runs_then (five {a} {b} {c} {d} {e = x} {s = u}) h =
     unfold ran_by in
     let q : (((((256 + a) * 256 + b) * 256 + c) * 256 + d) * 256 + x) / 256 ≡ (((256 + a) * 256 + b) * 256 + c) * 256 + d = omega (arith, h.1.1.1.1.0) in
-    ap₂ (λ (t : Bool) (l : Line). cond t l Bad) (ap (λ (n : ℕ). eqb n run_head) q ∙ four_same a b c d h.0 h.1.0 h.1.1.0 h.1.1.1.0) (run-then (x ∷ u))
+    ap₂ (λ (t : Bool) (l : Option Line). cond t l None) (ap (λ (n : ℕ). eqb n run_head) q ∙ four_same a b c d h.0 h.1.0 h.1.1.0 h.1.1.1.0) (run-then (x ∷ u))
 
 module _ {s : List ℕ} {r : Reading} (h : Reads s r) where
   word : (w : ℕ) (t : List ℕ) → Bytes t → length t ≡ 5 → full ≤ w → packed 1 t ≡ w → r.head ≡ w → s ≡ t ++ drop 5 s
   word w t k l m n e = word-is w t (size s) h.bytes k l m n (sym h.head ∙ e)
 
-  pub says-list : r.head ≡ list_head → Listing ≡ line_of s
+  pub says-list : r.head ≡ list_head → Some Listing ≡ line_of s
   unfolding line_of same_bytes
   says-list e = sym (ap line_of (list-is (size s) h.bytes (sym h.head ∙ e)))
 
-  pub says-state : {x : Line} → r.head ≡ state_head → x ≡ bare State r.rest → x ≡ line_of s
+  pub says-state : {x : Option Line} → r.head ≡ state_head → x ≡ bare State r.rest → x ≡ line_of s
   unfolding packed
   says-state e f =
       let w = word state_head state_bytes (omega arith, (omega arith, (omega arith, (omega arith, (omega arith, tt))))) refl (omega arith) refl e in
       f ∙ ap (bare State) h.rest ∙ state-then (drop 5 s) ∙ ap line_of (sym w)
 
-  pub says-report : {x : Line} → r.head ≡ report_head → x ≡ lettered Report r.rest → x ≡ line_of s
+  pub says-report : {x : Option Line} → r.head ≡ report_head → x ≡ lettered Report r.rest → x ≡ line_of s
   unfolding packed
   says-report e f =
       let w = word report_head repor (omega arith, (omega arith, (omega arith, (omega arith, (omega arith, tt))))) refl (omega arith) refl e in
       f ∙ ap (lettered Report) h.rest ∙ report-then (drop 5 s) ∙ ap line_of (sym w)
 
-  pub says-open : {x : Line} → r.head ≡ open_head → x ≡ numbered Open r.rest → x ≡ line_of s
+  pub says-open : {x : Option Line} → r.head ≡ open_head → x ≡ numbered (always Open) r.rest → x ≡ line_of s
   unfolding packed
   says-open e f =
       let w = word open_head open_bytes (omega arith, (omega arith, (omega arith, (omega arith, (omega arith, tt))))) refl (omega arith) refl e in
-      f ∙ ap (numbered Open) h.rest ∙ open-then (drop 5 s) ∙ ap line_of (sym w)
+      f ∙ ap (numbered (always Open)) h.rest ∙ open-then (drop 5 s) ∙ ap line_of (sym w)
 
-  pub says-step : {x : Line} → r.head ≡ step_head → x ≡ numbered Step r.rest → x ≡ line_of s
+  pub says-step : {x : Option Line} → r.head ≡ step_head → x ≡ numbered (always Step) r.rest → x ≡ line_of s
   unfolding packed
   says-step e f =
       let w = word step_head step_bytes (omega arith, (omega arith, (omega arith, (omega arith, (omega arith, tt))))) refl (omega arith) refl e in
-      f ∙ ap (numbered Step) h.rest ∙ step_then (drop 5 s) ∙ ap line_of (sym w)
+      f ∙ ap (numbered (always Step)) h.rest ∙ step_then (drop 5 s) ∙ ap line_of (sym w)
 
-  pub says-independent : {x : Line} → r.head ≡ indep_head → x ≡ paired r.two → x ≡ line_of s
+  pub says-independent : {x : Option Line} → r.head ≡ indep_head → x ≡ paired r.two → x ≡ line_of s
   unfolding packed
   says-independent e f =
       let w = word indep_head (take 5 independent_bytes) (omega arith, (omega arith, (omega arith, (omega arith, (omega arith, tt))))) refl (omega arith) refl e in
       f ∙ ap paired h.two ∙ two_then (drop 5 s) ∙ ap line_of (sym w)
 
-  pub says-save : r.head ≡ save_head → Save r.kept ≡ line_of s
+  pub says-save : r.head ≡ save_head → Some (Save r.kept) ≡ line_of s
   unfolding packed
   says-save e =
       let w = word save_head save_bytes (omega arith, (omega arith, (omega arith, (omega arith, (omega arith, tt))))) refl (omega arith) refl e in
-      ap Save h.kept ∙ ap (λ (u : List ℕ). Save (kept u)) w ∙ save-then (drop 5 s) ∙ ap line_of (sym w)
+      ap (λ (n : ℕ). Some (Save n)) h.kept ∙ ap (λ (u : List ℕ). Some (Save (kept u))) w ∙ save-then (drop 5 s) ∙ ap line_of (sym w)
 
   -- a word of seven bytes
-  ends_so : (says : ℕ → Line) (end w : ℕ) (t : List ℕ) → s ≡ t ++ drop 5 s → ((u : List ℕ) → Bytes u → ended says end (packed 1 (take 2 u)) (kept (t ++ u)) ≡ line_of (t ++ u)) → {x : Line} → x ≡ ended says end r.after r.kept → x ≡ line_of s
+  ends_so : (says : ℕ → Line) (end w : ℕ) (t : List ℕ) → s ≡ t ++ drop 5 s → ((u : List ℕ) → Bytes u → ended says end (packed 1 (take 2 u)) (kept (t ++ u)) ≡ line_of (t ++ u)) → {x : Option Line} → x ≡ ended says end r.after r.kept → x ≡ line_of s
   unfolding after_of
   ends_so says end w t v then f =
       f ∙ ap₂ (ended says end) h.after (h.kept ∙ ap kept v) ∙ then (drop 5 s) (bytes_drop 5 s h.bytes) ∙ ap line_of (sym v)
 
-  pub says-return : {x : Line} → r.head ≡ return_head → x ≡ ended Return return_end r.after r.kept → x ≡ line_of s
+  pub says-return : {x : Option Line} → r.head ≡ return_head → x ≡ ended Return return_end r.after r.kept → x ≡ line_of s
   unfolding packed
   says-return e f =
       ends_so Return return_end return_head retur (word return_head retur (omega arith, (omega arith, (omega arith, (omega arith, (omega arith, tt))))) refl (omega arith) refl e) return-then f
 
-  pub says-forget : {x : Line} → r.head ≡ forget_head → x ≡ ended Forget forget_end r.after r.kept → x ≡ line_of s
+  pub says-forget : {x : Option Line} → r.head ≡ forget_head → x ≡ ended Forget forget_end r.after r.kept → x ≡ line_of s
   unfolding packed
   says-forget e f =
       ends_so Forget forget_end forget_head forge (word forget_head forge (omega arith, (omega arith, (omega arith, (omega arith, (omega arith, tt))))) refl (omega arith) refl e) forget-then f
 
-  pub says-time : {x : Line} → r.head ≡ time_head → x ≡ numbered Time r.rest → x ≡ line_of s
+  pub says-time : {x : Option Line} → r.head ≡ time_head → x ≡ numbered (always Time) r.rest → x ≡ line_of s
   unfolding packed
   says-time e f =
       let w = word time_head time_bytes (omega arith, (omega arith, (omega arith, (omega arith, (omega arith, tt))))) refl (omega arith) refl e in
-      f ∙ ap (numbered Time) h.rest ∙ time-then (drop 5 s) ∙ ap line_of (sym w)
+      f ∙ ap (numbered (always Time)) h.rest ∙ time-then (drop 5 s) ∙ ap line_of (sym w)
 
-  pub says-wait : {x : Line} → r.head ≡ wait_head → x ≡ numbered small r.rest → x ≡ line_of s
+  pub says-wait : {x : Option Line} → r.head ≡ wait_head → x ≡ numbered small r.rest → x ≡ line_of s
   unfolding packed
   says-wait e f =
       let w = word wait_head wait_bytes (omega arith, (omega arith, (omega arith, (omega arith, (omega arith, tt))))) refl (omega arith) refl e in
       f ∙ ap (numbered small) h.rest ∙ wait-then (drop 5 s) ∙ ap line_of (sym w)
 
-  pub says-clock : {x : Line} → r.head ≡ clock_head → x ≡ bare Clock r.rest → x ≡ line_of s
+  pub says-clock : {x : Option Line} → r.head ≡ clock_head → x ≡ bare Clock r.rest → x ≡ line_of s
   unfolding packed
   says-clock e f =
       let w = word clock_head clock_bytes (omega arith, (omega arith, (omega arith, (omega arith, (omega arith, tt))))) refl (omega arith) refl e in
       f ∙ ap (bare Clock) h.rest ∙ clock-then (drop 5 s) ∙ ap line_of (sym w)
 
-  pub says-steady : {x : Line} → r.head ≡ steady_head → x ≡ steadied r.after r.late → x ≡ line_of s
+  pub says-steady : {x : Option Line} → r.head ≡ steady_head → x ≡ steadied r.after r.late → x ≡ line_of s
   unfolding packed after_of
   says-steady e f =
       let w = word steady_head stead (omega arith, (omega arith, (omega arith, (omega arith, (omega arith, tt))))) refl (omega arith) refl e in
       f ∙ ap₂ steadied h.after (h.late ∙ ap (λ (u : List ℕ). rest_of (drop 7 u)) w) ∙ steady_then (drop 5 s) (bytes_drop 5 s h.bytes) ∙ ap line_of (sym w)
 
-  pub says-seek : {x : Line} → r.head ≡ seek_head → x ≡ sought_by r.after r.kept → x ≡ line_of s
+  pub says-seek : {x : Option Line} → r.head ≡ seek_head → x ≡ sought_by r.after r.kept → x ≡ line_of s
   unfolding packed after_of
   says-seek e f =
       let w = word seek_head seek_bytes (omega arith, (omega arith, (omega arith, (omega arith, (omega arith, tt))))) refl (omega arith) refl e in
@@ -566,19 +564,19 @@ module _ {s : List ℕ} {r : Reading} (h : Reads s r) where
   first-five : (t : List ℕ) → take 7 s ≡ t → take 5 s ≡ take 5 t
   first-five t e = sym (take-take 5 7 s (omega arith)) ∙ ap (take 5) e
 
-  pub says-word : {x : Line} → r.head ≡ word_head → x ≡ numbered Word r.rest → x ≡ line_of s
+  pub says-word : {x : Option Line} → r.head ≡ word_head → x ≡ numbered (always Word) r.rest → x ≡ line_of s
   unfolding packed
   says-word e f =
       let w = word word_head word_bytes (omega arith, (omega arith, (omega arith, (omega arith, (omega arith, tt))))) refl (omega arith) refl e in
-      f ∙ ap (numbered Word) h.rest ∙ words-then (drop 5 s) ∙ ap line_of (sym w)
+      f ∙ ap (numbered (always Word)) h.rest ∙ words-then (drop 5 s) ∙ ap line_of (sym w)
 
-  pub says-run : {x : Line} → (r.head ≡ list_head → ⊥) → (r.head ≡ state_head → ⊥) → (r.head ≡ report_head → ⊥) → (r.head ≡ open_head → ⊥) → (r.head ≡ step_head → ⊥) → (r.head ≡ save_head → ⊥) → (r.head ≡ return_head → ⊥) → (r.head ≡ forget_head → ⊥)
+  pub says-run : {x : Option Line} → (r.head ≡ list_head → ⊥) → (r.head ≡ state_head → ⊥) → (r.head ≡ report_head → ⊥) → (r.head ≡ open_head → ⊥) → (r.head ≡ step_head → ⊥) → (r.head ≡ save_head → ⊥) → (r.head ≡ return_head → ⊥) → (r.head ≡ forget_head → ⊥)
       → (r.head ≡ time_head → ⊥) → (r.head ≡ wait_head → ⊥) → (r.head ≡ clock_head → ⊥) → (r.head ≡ indep_head → ⊥) → (r.head ≡ steady_head → ⊥) → (r.head ≡ seek_head → ⊥) → (r.head ≡ word_head → ⊥) → x ≡ ran_by r.head r.early → x ≡ line_of s
   unfolding line_of head_of packed
   says-run l t q o p v m g i j k z y x w f =
       f ∙ ap₂ ran_by h.head h.early ∙ runs_then (size s) h.bytes ∙ sym no_other
     where
-      no_other : line_of s ≡ cond (same_bytes (take 4 s) run_bytes) (given Run (drop 4 s)) Bad
+      no_other : line_of s ≡ cond (same_bytes (take 4 s) run_bytes) (given (always Run) (drop 4 s)) None
       no_other = simp (
         differ s list_bytes (λ e. l (h.head ∙ ap head_of e)),
         differ s state_bytes (λ e. t (h.head ∙ ap head_of e)),
@@ -598,8 +596,16 @@ module _ {s : List ℕ} {r : Reading} (h : Reads s r) where
       )
 
 -- what a rest makes of a line that wants a number, as the code joins it
-pub numbered-is : (says : ℕ → Line) (rest : Rest) (x : Line) → MatchOption (number_in rest) (x ≡ Bad) (λ n. x ≡ says n) → x ≡ numbered says rest
+pub joined-is : (says : ℕ → Option Line) (rest : Rest) (x : Option Line) → MatchOption (number_in rest) (x ≡ None) (λ n. x ≡ says n) → x ≡ numbered says rest
+joined-is says Nothing x h = h
+joined-is says (Number n) x h = h
+joined-is says T x h = h
+joined-is says Other x h = h
+
+-- the same of a line of every number
+pub numbered-is : (says : ℕ → Line) (rest : Rest) (x : Option Line) → MatchOption (number_in rest) (x ≡ None) (λ n. IsSomeAnd x (λ l. l ≡ says n)) → x ≡ numbered (always says) rest
 numbered-is says Nothing x h = h
-numbered-is says (Number n) x h = h
+numbered-is says (Number n) None h = absurd h
+numbered-is says (Number n) (Some l) h = ap Some h
 numbered-is says T x h = h
 numbered-is says Other x h = h

@@ -1,10 +1,11 @@
 -- One more byte of a script: the line it is in, and where the script stands then; from the definitions and what reading a line promises.
 use Rattle.std.proofs.Common.{◌≡◌, ℕ, ◌+◌, ◌%◌, ◌<◌, ◌≤◌, true, List, [], ◌∷◌, ◌++◌, sym, refl, ap, ◌∙◌, subst, append_assoc, append-nil, arith, length-append, ne_eqb}
+use Rattle.std.specs.Prelude.{Ok, Some}
 use mathlib.Core.Option.{some}
 use native.Mathlib.Nat.{mod-add-mod}
 use Rattle.token.specs.Bytes.{line_feed}
 use Rattle.lines.specs.declared.line.Line.{Line}
-use Rattle.lines.specs.declared.line.Line.TheVariants.{Open, Steady, List as Listing, Step, State, Report, Save, Return, Forget, Time, Wait, Clock, Independent, Search, Word, Run, Bad}
+use Rattle.lines.specs.declared.line.Line.TheVariants.{Open, Steady, List as Listing, Step, State, Report, Save, Return, Forget, Time, Wait, Clock, Independent, Search, Word, Run}
 use Rattle.lines.specs.declared.line.Reading.{Reading}
 use Rattle.lines.specs.declared.script.Part.TheVariants.{InLine, InText}
 use Rattle.lines.specs.declared.script.Taken.{Taken}
@@ -84,13 +85,13 @@ module _ {s : List ℕ} {qs : List Line} {from : ℕ} {r : Reading} (x : LineBeg
             };
       }
 
-  line-short : b ≡ line_feed → is_short (line_of x.line) ≡ true → Stands (s ++ (b ∷ [])) (qs ++ (line_of x.line ∷ [])) (fresh (next from))
-  line-short e h =
+  line-short : {q : Line} → b ≡ line_feed → line_of x.line ≡ Some q → is_short q ≡ true → Stands (s ++ (b ∷ [])) (qs ++ (q ∷ [])) (fresh (next from))
+  line-short {q} e h k =
       begins
-      (subst (λ (u : List ℕ). Items u (qs ++ (line_of x.line ∷ []))) (ap (λ (y : ℕ). x.items ++ (x.line ++ (y ∷ []))) (sym e) ∙ sym line_on) (Items.short x.line x.whole x.unbroken h))
+      (subst (λ (u : List ℕ). Items u (qs ++ (q ∷ []))) (ap (λ (y : ℕ). x.items ++ (x.line ++ (y ∷ []))) (sym e) ∙ sym line_on) (Items.short x.line x.whole x.unbroken h k))
       (after-break s b from e from-here)
 
-  line-open : {q : Line} {n : ℕ} → b ≡ line_feed → line_of x.line ≡ q → text_of q ≡ some n → Stands (s ++ (b ∷ [])) qs (record { line = next from; from = from; part = InText q n 0 })
+  line-open : {q : Line} {n : ℕ} → b ≡ line_feed → line_of x.line ≡ Some q → text_of q ≡ some n → Stands (s ++ (b ∷ [])) qs (record { line = next from; from = from; part = InText q n 0 })
   line-open e h a =
       record {
         line-is = after-break s b from e from-here;
@@ -111,27 +112,26 @@ module _ {s : List ℕ} {qs : List Line} {from : ℕ} {r : Reading} (x : LineBeg
       }
 
   -- by what the line says
-  ends_so : (l : Line) → b ≡ line_feed → line_of x.line ≡ l → Takes s qs b (ended from l)
+  ends_so : (l : Line) → b ≡ line_feed → line_of x.line ≡ Some l → Takes s qs b (Ok (ended from l))
   ends_so (Open n) e h = line-open e h refl
   ends_so (Steady n) e h = line-open e h refl
-  ends_so Listing e h = subst (λ (l : Line). Stands (s ++ (b ∷ [])) (qs ++ (l ∷ [])) (fresh (next from))) h (line-short e (ap is_short h))
-  ends_so (Step d) e h = subst (λ (l : Line). Stands (s ++ (b ∷ [])) (qs ++ (l ∷ [])) (fresh (next from))) h (line-short e (ap is_short h))
-  ends_so State e h = subst (λ (l : Line). Stands (s ++ (b ∷ [])) (qs ++ (l ∷ [])) (fresh (next from))) h (line-short e (ap is_short h))
-  ends_so Report e h = subst (λ (l : Line). Stands (s ++ (b ∷ [])) (qs ++ (l ∷ [])) (fresh (next from))) h (line-short e (ap is_short h))
-  ends_so (Save n) e h = subst (λ (l : Line). Stands (s ++ (b ∷ [])) (qs ++ (l ∷ [])) (fresh (next from))) h (line-short e (ap is_short h))
-  ends_so (Return n) e h = subst (λ (l : Line). Stands (s ++ (b ∷ [])) (qs ++ (l ∷ [])) (fresh (next from))) h (line-short e (ap is_short h))
-  ends_so (Forget n) e h = subst (λ (l : Line). Stands (s ++ (b ∷ [])) (qs ++ (l ∷ [])) (fresh (next from))) h (line-short e (ap is_short h))
-  ends_so (Time d) e h = subst (λ (l : Line). Stands (s ++ (b ∷ [])) (qs ++ (l ∷ [])) (fresh (next from))) h (line-short e (ap is_short h))
-  ends_so (Wait d) e h = subst (λ (l : Line). Stands (s ++ (b ∷ [])) (qs ++ (l ∷ [])) (fresh (next from))) h (line-short e (ap is_short h))
-  ends_so Clock e h = subst (λ (l : Line). Stands (s ++ (b ∷ [])) (qs ++ (l ∷ [])) (fresh (next from))) h (line-short e (ap is_short h))
-  ends_so (Independent i j) e h = subst (λ (l : Line). Stands (s ++ (b ∷ [])) (qs ++ (l ∷ [])) (fresh (next from))) h (line-short e (ap is_short h))
-  ends_so (Search d n) e h = subst (λ (l : Line). Stands (s ++ (b ∷ [])) (qs ++ (l ∷ [])) (fresh (next from))) h (line-short e (ap is_short h))
-  ends_so (Word w) e h = subst (λ (l : Line). Stands (s ++ (b ∷ [])) (qs ++ (l ∷ [])) (fresh (next from))) h (line-short e (ap is_short h))
-  ends_so (Run n) e h = subst (λ (l : Line). Stands (s ++ (b ∷ [])) (qs ++ (l ∷ [])) (fresh (next from))) h (line-short e (ap is_short h))
-  ends_so Bad e h = Misplaced.of-line x e h
+  ends_so Listing e h = line-short e h refl
+  ends_so (Step d) e h = line-short e h refl
+  ends_so State e h = line-short e h refl
+  ends_so Report e h = line-short e h refl
+  ends_so (Save n) e h = line-short e h refl
+  ends_so (Return n) e h = line-short e h refl
+  ends_so (Forget n) e h = line-short e h refl
+  ends_so (Time d) e h = line-short e h refl
+  ends_so (Wait d) e h = line-short e h refl
+  ends_so Clock e h = line-short e h refl
+  ends_so (Independent i j) e h = line-short e h refl
+  ends_so (Search d n) e h = line-short e h refl
+  ends_so (Word w) e h = line-short e h refl
+  ends_so (Run n) e h = line-short e h refl
 
-  pub line-ends : {l : Line} {y : Taken} → b ≡ line_feed → l ≡ line_of x.line → y ≡ ended from l → Takes s qs b y
-  line-ends {l} e h t = subst (Takes s qs b) (sym t) (ends_so l e (sym h))
+  pub line-ends : {l : Line} {y : Taken} → b ≡ line_feed → line_of x.line ≡ Some l → y ≡ ended from l → Takes s qs b (Ok y)
+  line-ends {l} e h t = subst (λ (z : Taken). Takes s qs b (Ok z)) (sym t) (ends_so l e h)
 
 -- ---- in a text
 module _ {s : List ℕ} {qs : List Line} {from : ℕ} {q : Line} {n k : ℕ} (x : TextBegun s qs from q n k) (b : ℕ) where
@@ -167,7 +167,7 @@ module _ {s : List ℕ} {qs : List Line} {from : ℕ} {q : Line} {n k : ℕ} (x 
       let z = x.size in
       begins
       (subst (λ (u : List ℕ). Items u (qs ++ (q ∷ []))) (ap (λ (y : ℕ). x.items ++ (x.line ++ (line_feed ∷ (x.text ++ (y ∷ []))))) (sym e) ∙ sym text-on)
-      (subst (λ (l : Line). Items (x.items ++ (x.line ++ (line_feed ∷ (x.text ++ (line_feed ∷ []))))) (qs ++ (l ∷ []))) x.opens (Items.text x.line x.text x.whole x.unbroken (ap text_of x.opens ∙ x.asks) (omega arith))))
+      (Items.text x.line x.text x.whole x.unbroken x.opens x.asks (omega arith)))
       (after-break s b line e h)
 
   pub text-wrong : n ≤ k → (b ≡ line_feed → ⊥) → Misplaced s b from

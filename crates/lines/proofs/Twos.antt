@@ -5,7 +5,8 @@ use Rattle.token.specs.Bytes.{is_digit, within}
 use Rattle.token.specs.Token.{same_bytes}
 use Rattle.token.proofs.Words.{same-is}
 use Rattle.lines.specs.declared.line.Line.{Line}
-use Rattle.lines.specs.declared.line.Line.TheVariants.{Independent, Bad}
+use Rattle.lines.specs.declared.line.Line.TheVariants.{Independent}
+use Rattle.std.specs.Prelude.{Option}
 use Rattle.lines.specs.declared.two.Two.{Two}
 use Rattle.lines.specs.declared.two.Two.TheVariants.{Word, First, Gap, Both, Other}
 use Rattle.lines.specs.Limit.{limit}
@@ -41,8 +42,8 @@ too_large true a s l = le-ltb (worth a s) limit (omega (arith, worth-grows a s))
 too_large false a s l = refl
 
 -- what a first number, a second number and the rest come to
-abbrev asked : Bool → ℕ → ℕ → Line
-asked t v w = cond t (Independent v w) Bad
+abbrev asked : Bool → ℕ → ℕ → Option Line
+asked t v w = cond t (Some (Independent v w)) None
 
 from_second : (v w : ℕ) (s : List ℕ) → w < limit → paired (run (Both v w) s) ≡ asked (digits_only s && ltb (worth w s) limit) v (worth w s)
 unfolding run two_next digits_only worth grown_second
@@ -62,7 +63,7 @@ from_second v w (b ∷ s) l = go (is_digit b) (λ h. from_second v (w * 10 + dig
     go true h = grows (ltb (w * 10 + digit_of b) limit) refl h
     go false h = ap paired (lost s)
 
-from-gap : (v : ℕ) (s : List ℕ) → paired (run (Gap v) s) ≡ cond (is_number s) (Independent v (worth 0 s)) Bad
+from-gap : (v : ℕ) (s : List ℕ) → paired (run (Gap v) s) ≡ cond (is_number s) (Some (Independent v (worth 0 s))) None
 unfolding run two_next is_number digits_only worth
 from-gap v [] = refl
 from-gap v (b ∷ s) = let e : 0 * 10 + digit_of b ≡ digit_of b = omega arith in rw e (go (is_digit b))
@@ -78,7 +79,7 @@ unfolding is_digit within
 blank-digit b e = rw (eqb-true b 32 e) refl
 
 -- the digits before the blank after v, and what stands after it
-abbrev asks_from : ℕ → List ℕ → List ℕ → Line
+abbrev asks_from : ℕ → List ℕ → List ℕ → Option Line
 asks_from v s t = asked ((digits_only s && ltb (worth v s) limit) && is_number t) (worth v s) (worth 0 t)
 
 from_first : (v : ℕ) (s : List ℕ) → v < limit → paired (run (First v) s) ≡ asks_from v (before_blank s) (after_blank s)
@@ -125,8 +126,8 @@ from-word (b ∷ s) = by (eqb b 32) refl
 -- ---- the word
 
 -- these bytes, and then two numbers
-abbrev wants : List ℕ → List ℕ → Line
-wants ws s = cond (same_bytes (take (length ws) s) ws) (given_two (drop (length ws) s)) Bad
+abbrev wants : List ℕ → List ℕ → Option Line
+wants ws s = cond (same_bytes (take (length ws) s) ws) (given_two (drop (length ws) s)) None
 
 word-step : (n c : ℕ) (ws : List ℕ) → n < 7 → word_byte n ≡ c → is_digit c ≡ false → ((s : List ℕ) → paired (run (Word (n + 1)) s) ≡ wants ws s)
     → (s : List ℕ) → paired (run (Word n) s) ≡ wants (c ∷ ws) s
@@ -136,7 +137,7 @@ word-step n c ws l e f h (b ∷ s) = by (eqb b c) refl (is_digit b) refl
   where
     by : (k : Bool) → eqb b c ≡ k → (d : Bool) → is_digit b ≡ d
         → paired (run (cond d (cond (eqb n 7) (First (digit_of b)) Other) (cond (ltb n 7) (cond (eqb b (word_byte n)) (Word (n + 1)) Other) Other)) s)
-        ≡ cond (k && same_bytes (take (length ws) s) ws) (given_two (drop (length ws) s)) Bad
+        ≡ cond (k && same_bytes (take (length ws) s) ws) (given_two (drop (length ws) s)) None
     by true q true r = absurd (let z : true ≡ false = sym r ∙ ap is_digit (eqb-true b c q) ∙ f in let o : ◌≡◌ {A = ℕ} 0 1 = cc in omega arith)
     by true q false r = rw (lt-ltb n 7 l, e, q) (h s)
     by false q true r = rw (ne_eqb n 7 (λ o. omega arith)) (ap paired (lost s))

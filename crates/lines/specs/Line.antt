@@ -1,11 +1,11 @@
 -- What a line of a script says, from its bytes. Definitions, and examples by computation.
 use Rattle.std.specs.Prelude.{◌≡◌, ℕ, ◌+◌, ◌-◌, ◌*◌, ◌/◌, ◌%◌, ◌<◌, min, Bool, true, false, cond, ◌&&◌, List, [], ◌∷◌, ◌++◌, length, take, drop, ◌==◌, nat_lt, refl}
-use Rattle.std.specs.Prelude.{Option as RustOption, Some, None}
+use Rattle.std.specs.Prelude.{Option, Some, None}
 use Rattle.word.specs.Number.{worth, digit_of}
 use Rattle.token.specs.Bytes.{within, is_digit}
 use Rattle.token.specs.Token.{same_bytes}
 use Rattle.lines.specs.declared.line.Line.{Line}
-use Rattle.lines.specs.declared.line.Line.TheVariants.{Open, Steady, List as Listing, Step, State, Report, Save, Return, Forget, Time, Wait, Clock, Independent, Search, Word, Run, Bad}
+use Rattle.lines.specs.declared.line.Line.TheVariants.{Open, Steady, List as Listing, Step, State, Report, Save, Return, Forget, Time, Wait, Clock, Independent, Search, Word, Run}
 use Rattle.lines.specs.declared.line.Rest.{Rest}
 use Rattle.lines.specs.declared.line.Rest.TheVariants.{Nothing, Number, T, Other}
 use Rattle.lines.specs.declared.line.Reading.{Reading}
@@ -83,9 +83,13 @@ unfoldable pub is_number : List ℕ → Bool
 is_number [] = false
 is_number (b ∷ s) = digits_only (b ∷ s) && nat_lt (worth 0 (b ∷ s)) limit
 
+-- what a line says of a form with a number, whatever number it is
+abbrev pub always : (ℕ → Line) → ℕ → Option Line
+always says n = Some (says n)
+
 -- what the line says whose number is written so
-unfoldable pub given : (ℕ → Line) → List ℕ → Line
-given says s = cond (is_number s) (says (worth 0 s)) Bad
+unfoldable pub given : (ℕ → Option Line) → List ℕ → Option Line
+given says s = cond (is_number s) (says (worth 0 s)) None
 
 -- what stands before the first blank, and after it
 unfoldable pub before_blank : List ℕ → List ℕ
@@ -97,101 +101,101 @@ after_blank [] = []
 after_blank (b ∷ s) = cond (b == 32) s (after_blank s)
 
 -- two numbers with a blank between them
-unfoldable pub given_two : List ℕ → Line
-given_two s = cond (is_number (before_blank s) && is_number (after_blank s)) (Independent (worth 0 (before_blank s)) (worth 0 (after_blank s))) Bad
+unfoldable pub given_two : List ℕ → Option Line
+given_two s = cond (is_number (before_blank s) && is_number (after_blank s)) (Some (Independent (worth 0 (before_blank s)) (worth 0 (after_blank s)))) None
 
 -- a waiting draw has sixteen bits
-unfoldable pub small : ℕ → Line
-small n = cond (nat_lt n 65536) (Wait n) Bad
+unfoldable pub small : ℕ → Option Line
+small n = cond (nat_lt n 65536) (Some (Wait n)) None
 
 -- a depth of one digit and a blank, and a line of which so many bytes are kept
-unfoldable pub sought : List ℕ → ℕ → Line
-sought [] k = Bad
-sought (d ∷ []) k = Bad
-sought (d ∷ b ∷ s) k = cond (b == 32) (cond (is_digit d) (Search (digit_of d) k) Bad) Bad
+unfoldable pub sought : List ℕ → ℕ → Option Line
+sought [] k = None
+sought (d ∷ []) k = None
+sought (d ∷ b ∷ s) k = cond (b == 32) (cond (is_digit d) (Some (Search (digit_of d) k)) None) None
 
--- the sixteen forms; every other line is bad
-unfoldable pub line_of : List ℕ → Line
+-- the sixteen forms; every other line says nothing
+unfoldable pub line_of : List ℕ → Option Line
 line_of s =
-    cond (same_bytes s list_bytes) Listing
-    (cond (same_bytes s state_bytes) State
-    (cond (same_bytes s report_bytes) Report
-    (cond (same_bytes (take 5 s) open_bytes) (given Open (drop 5 s))
-    (cond (same_bytes (take 7 s) steady_bytes) (given Steady (drop 7 s))
-    (cond (same_bytes (take 5 s) step_bytes) (given Step (drop 5 s))
-    (cond (same_bytes (take 5 s) save_bytes) (Save (kept s))
-    (cond (same_bytes (take 7 s) return_bytes) (Return (kept s))
-    (cond (same_bytes (take 7 s) forget_bytes) (Forget (kept s))
-    (cond (same_bytes (take 5 s) time_bytes) (given Time (drop 5 s))
+    cond (same_bytes s list_bytes) (Some Listing)
+    (cond (same_bytes s state_bytes) (Some State)
+    (cond (same_bytes s report_bytes) (Some Report)
+    (cond (same_bytes (take 5 s) open_bytes) (given (always Open) (drop 5 s))
+    (cond (same_bytes (take 7 s) steady_bytes) (given (always Steady) (drop 7 s))
+    (cond (same_bytes (take 5 s) step_bytes) (given (always Step) (drop 5 s))
+    (cond (same_bytes (take 5 s) save_bytes) (Some (Save (kept s)))
+    (cond (same_bytes (take 7 s) return_bytes) (Some (Return (kept s)))
+    (cond (same_bytes (take 7 s) forget_bytes) (Some (Forget (kept s)))
+    (cond (same_bytes (take 5 s) time_bytes) (given (always Time) (drop 5 s))
     (cond (same_bytes (take 5 s) wait_bytes) (given small (drop 5 s))
-    (cond (same_bytes s clock_bytes) Clock
+    (cond (same_bytes s clock_bytes) (Some Clock)
     (cond (same_bytes (take 12 s) independent_bytes) (given_two (drop 12 s))
     (cond (same_bytes (take 5 s) seek_bytes) (sought (drop 5 s) (kept s))
-    (cond (same_bytes (take 5 s) word_bytes) (given Word (drop 5 s))
-    (cond (same_bytes (take 4 s) run_bytes) (given Run (drop 4 s)) Bad)))))))))))))))
+    (cond (same_bytes (take 5 s) word_bytes) (given (always Word) (drop 5 s))
+    (cond (same_bytes (take 4 s) run_bytes) (given (always Run) (drop 4 s)) None)))))))))))))))
 
 -- `step 307`
-step_line : line_of (115 ∷ 116 ∷ 101 ∷ 112 ∷ 32 ∷ 51 ∷ 48 ∷ 55 ∷ []) ≡ Step 307
+step_line : line_of (115 ∷ 116 ∷ 101 ∷ 112 ∷ 32 ∷ 51 ∷ 48 ∷ 55 ∷ []) ≡ Some (Step 307)
 unfolding line_of given is_number digits_only is_digit Rattle.token.specs.Bytes.within same_bytes worth
 step_line = refl
 
 -- `steady 23`, `steady` and `steady23`
-steady-lines : (line_of (steady_bytes ++ (50 ∷ 51 ∷ [])) ≡ Steady 23) × ((line_of (take 6 steady_bytes) ≡ Bad) × (line_of (take 6 steady_bytes ++ (50 ∷ 51 ∷ [])) ≡ Bad))
+steady-lines : (line_of (steady_bytes ++ (50 ∷ 51 ∷ [])) ≡ Some (Steady 23)) × ((line_of (take 6 steady_bytes) ≡ None) × (line_of (take 6 steady_bytes ++ (50 ∷ 51 ∷ [])) ≡ None))
 unfolding line_of given is_number digits_only is_digit Rattle.token.specs.Bytes.within same_bytes worth
 steady-lines = (refl, (refl, refl))
 
 -- `wait 65535` and `wait 65536`
-wait-lines : (line_of (wait_bytes ++ (54 ∷ 53 ∷ 53 ∷ 51 ∷ 53 ∷ [])) ≡ Wait 65535) × (line_of (wait_bytes ++ (54 ∷ 53 ∷ 53 ∷ 51 ∷ 54 ∷ [])) ≡ Bad)
+wait-lines : (line_of (wait_bytes ++ (54 ∷ 53 ∷ 53 ∷ 51 ∷ 53 ∷ [])) ≡ Some (Wait 65535)) × (line_of (wait_bytes ++ (54 ∷ 53 ∷ 53 ∷ 51 ∷ 54 ∷ [])) ≡ None)
 unfolding line_of given small is_number digits_only is_digit Rattle.token.specs.Bytes.within same_bytes worth
 wait-lines = (refl, refl)
 
 -- `independent 0 12`
-independent-line : line_of (105 ∷ 110 ∷ 100 ∷ 101 ∷ 112 ∷ 101 ∷ 110 ∷ 100 ∷ 101 ∷ 110 ∷ 116 ∷ 32 ∷ 48 ∷ 32 ∷ 49 ∷ 50 ∷ []) ≡ Independent 0 12
+independent-line : line_of (105 ∷ 110 ∷ 100 ∷ 101 ∷ 112 ∷ 101 ∷ 110 ∷ 100 ∷ 101 ∷ 110 ∷ 116 ∷ 32 ∷ 48 ∷ 32 ∷ 49 ∷ 50 ∷ []) ≡ Some (Independent 0 12)
 unfolding line_of given_two before_blank after_blank is_number digits_only is_digit Rattle.token.specs.Bytes.within same_bytes worth
 independent-line = refl
 
 -- `independent 0`
-no_second : line_of (105 ∷ 110 ∷ 100 ∷ 101 ∷ 112 ∷ 101 ∷ 110 ∷ 100 ∷ 101 ∷ 110 ∷ 116 ∷ 32 ∷ 48 ∷ []) ≡ Bad
+no_second : line_of (105 ∷ 110 ∷ 100 ∷ 101 ∷ 112 ∷ 101 ∷ 110 ∷ 100 ∷ 101 ∷ 110 ∷ 116 ∷ 32 ∷ 48 ∷ []) ≡ None
 unfolding line_of given_two before_blank after_blank is_number digits_only is_digit Rattle.token.specs.Bytes.within same_bytes worth
 no_second = refl
 
 -- `reports`
-no-report : line_of (114 ∷ 101 ∷ 112 ∷ 111 ∷ 114 ∷ 116 ∷ 115 ∷ []) ≡ Bad
+no-report : line_of (114 ∷ 101 ∷ 112 ∷ 111 ∷ 114 ∷ 116 ∷ 115 ∷ []) ≡ None
 unfolding line_of same_bytes
 no-report = refl
 
 -- `return a`, `forget` and `save ` with no name
-return-line : line_of (return_bytes ++ (97 ∷ [])) ≡ Return 8
+return-line : line_of (return_bytes ++ (97 ∷ [])) ≡ Some (Return 8)
 unfolding line_of kept same_bytes
 return-line = refl
 
-no_forget : line_of (take 6 forget_bytes) ≡ Bad
+no_forget : line_of (take 6 forget_bytes) ≡ None
 unfolding line_of same_bytes
 no_forget = refl
 
-save-nothing : line_of save_bytes ≡ Save 5
+save-nothing : line_of save_bytes ≡ Some (Save 5)
 unfolding line_of kept same_bytes
 save-nothing = refl
 
 -- `seek 3 a`, `seek 3`, `seek 10 a`
-seek-lines : (line_of (seek_bytes ++ (51 ∷ 32 ∷ 97 ∷ [])) ≡ Search 3 8) × ((line_of (seek_bytes ++ (51 ∷ [])) ≡ Bad) × (line_of (seek_bytes ++ (49 ∷ 48 ∷ 32 ∷ 97 ∷ [])) ≡ Bad))
+seek-lines : (line_of (seek_bytes ++ (51 ∷ 32 ∷ 97 ∷ [])) ≡ Some (Search 3 8)) × ((line_of (seek_bytes ++ (51 ∷ [])) ≡ None) × (line_of (seek_bytes ++ (49 ∷ 48 ∷ 32 ∷ 97 ∷ [])) ≡ None))
 unfolding line_of sought kept is_digit Rattle.token.specs.Bytes.within same_bytes
 seek-lines = (refl, (refl, refl))
 
 -- `word 18446744073709551615` and `word 18446744073709551616`
 word-lines :
-    (line_of (word_bytes ++ (49 ∷ 56 ∷ 52 ∷ 52 ∷ 54 ∷ 55 ∷ 52 ∷ 52 ∷ 48 ∷ 55 ∷ 51 ∷ 55 ∷ 48 ∷ 57 ∷ 53 ∷ 53 ∷ 49 ∷ 54 ∷ 49 ∷ 53 ∷ [])) ≡ Word 18446744073709551615)
-    × (line_of (word_bytes ++ (49 ∷ 56 ∷ 52 ∷ 52 ∷ 54 ∷ 55 ∷ 52 ∷ 52 ∷ 48 ∷ 55 ∷ 51 ∷ 55 ∷ 48 ∷ 57 ∷ 53 ∷ 53 ∷ 49 ∷ 54 ∷ 49 ∷ 54 ∷ [])) ≡ Bad)
+    (line_of (word_bytes ++ (49 ∷ 56 ∷ 52 ∷ 52 ∷ 54 ∷ 55 ∷ 52 ∷ 52 ∷ 48 ∷ 55 ∷ 51 ∷ 55 ∷ 48 ∷ 57 ∷ 53 ∷ 53 ∷ 49 ∷ 54 ∷ 49 ∷ 53 ∷ [])) ≡ Some (Word 18446744073709551615))
+    × (line_of (word_bytes ++ (49 ∷ 56 ∷ 52 ∷ 52 ∷ 54 ∷ 55 ∷ 52 ∷ 52 ∷ 48 ∷ 55 ∷ 51 ∷ 55 ∷ 48 ∷ 57 ∷ 53 ∷ 53 ∷ 49 ∷ 54 ∷ 49 ∷ 54 ∷ [])) ≡ None)
 unfolding line_of given is_number digits_only is_digit Rattle.token.specs.Bytes.within same_bytes worth
 word-lines = (refl, refl)
 
 -- `run 10`, `run ` and `run`
-run-lines : (line_of (run_bytes ++ (49 ∷ 48 ∷ [])) ≡ Run 10) × ((line_of run_bytes ≡ Bad) × (line_of (take 3 run_bytes) ≡ Bad))
+run-lines : (line_of (run_bytes ++ (49 ∷ 48 ∷ [])) ≡ Some (Run 10)) × ((line_of run_bytes ≡ None) × (line_of (take 3 run_bytes) ≡ None))
 unfolding line_of given is_number digits_only is_digit Rattle.token.specs.Bytes.within same_bytes worth
 run-lines = (refl, (refl, refl))
 
 -- `open` without a number
-no_number : line_of open_bytes ≡ Bad
+no_number : line_of open_bytes ≡ None
 unfolding line_of given is_number same_bytes
 no_number = refl
 
@@ -234,30 +238,30 @@ unfoldable pub head_of : List ℕ → ℕ
 head_of s = packed 1 (take 5 s)
 
 -- the number that stands there
-abbrev pub number_in : Rest → RustOption ℕ
+abbrev pub number_in : Rest → Option ℕ
 number_in Nothing = None
 number_in (Number n) = Some n
 number_in T = None
 number_in Other = None
 
 -- what a rest makes of a line that wants a number, or nothing, or a last byte
-abbrev pub numbered : (ℕ → Line) → Rest → Line
-numbered says Nothing = Bad
+abbrev pub numbered : (ℕ → Option Line) → Rest → Option Line
+numbered says Nothing = None
 numbered says (Number n) = says n
-numbered says T = Bad
-numbered says Other = Bad
+numbered says T = None
+numbered says Other = None
 
-abbrev pub bare : Line → Rest → Line
-bare says Nothing = says
-bare says (Number n) = Bad
-bare says T = Bad
-bare says Other = Bad
+abbrev pub bare : Line → Rest → Option Line
+bare says Nothing = Some says
+bare says (Number n) = None
+bare says T = None
+bare says Other = None
 
-abbrev pub lettered : Line → Rest → Line
-lettered says Nothing = Bad
-lettered says (Number n) = Bad
-lettered says T = says
-lettered says Other = Bad
+abbrev pub lettered : Line → Rest → Option Line
+lettered says Nothing = None
+lettered says (Number n) = None
+lettered says T = Some says
+lettered says Other = None
 
 -- the first two bytes after the first five, after a 1
 unfoldable pub after_of : List ℕ → ℕ
@@ -295,23 +299,23 @@ unfoldable pub early_next : ℕ → Rest → ℕ → Rest
 early_next h r b = cond (nat_lt h four_bytes) r (rest_next r b)
 
 -- a line whose first four bytes are `run `, and what stands after them
-unfoldable pub ran_by : ℕ → Rest → Line
-ran_by head early = cond (head / 256 == run_head) (numbered Run early) Bad
+unfoldable pub ran_by : ℕ → Rest → Option Line
+ran_by head early = cond (head / 256 == run_head) (numbered (always Run) early) None
 
 unfoldable pub kept_next : ℕ → ℕ
 kept_next k = cond (nat_lt k kept_limit) (k + 1) k
 
 -- a line that ends a word so, and has so many bytes
-unfoldable pub ended : (ℕ → Line) → ℕ → ℕ → ℕ → Line
-ended says end after k = cond (after == end) (says k) Bad
+unfoldable pub ended : (ℕ → Line) → ℕ → ℕ → ℕ → Option Line
+ended says end after k = cond (after == end) (Some (says k)) None
 
 -- a line that ends its word as `steady ` does, and what stands after that
-unfoldable pub steadied : ℕ → Rest → Line
-steadied after late = cond (after == steady_end) (numbered Steady late) Bad
+unfoldable pub steadied : ℕ → Rest → Option Line
+steadied after late = cond (after == steady_end) (numbered (always Steady) late) None
 
 -- a line whose word ends with its fifth byte, and that has a digit and a blank after it
-unfoldable pub sought_by : ℕ → ℕ → Line
-sought_by after k = cond (after % 256 == 32) (cond (within 304 313 (after / 256)) (Search (after / 256 - 304) k) Bad) Bad
+unfoldable pub sought_by : ℕ → ℕ → Option Line
+sought_by after k = cond (after % 256 == 32) (cond (within 304 313 (after / 256)) (Some (Search (after / 256 - 304) k)) None) None
 
 abbrev pub Bytes : List ℕ → Type 0
 Bytes [] = Unit {0}

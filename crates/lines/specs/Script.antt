@@ -1,15 +1,15 @@
 -- A script of calls, from its bytes: its whole items and what they ask for, and where a script that has begun stands.
-use Rattle.std.specs.Prelude.{◌≡◌, ℕ, ◌+◌, ◌%◌, ◌<◌, ◌≤◌, Bool, true, false, cond, List, [], ◌∷◌, ◌++◌, length, ◌==◌, ◌≢◌, ⊤, Result, Ok, Err}
+use Rattle.std.specs.Prelude.{◌≡◌, ℕ, ◌+◌, ◌%◌, ◌<◌, ◌≤◌, Bool, true, false, cond, List, [], ◌∷◌, ◌++◌, length, ◌==◌, ◌≢◌, ⊤, Result, Ok, Err, Some, None}
 use Rattle.std.proofs.Math.Option.{Option, none as nothing, some}
 use Rattle.token.specs.Bytes.{line_feed}
 use Rattle.lines.specs.declared.line.Line.{Line}
-use Rattle.lines.specs.declared.line.Line.TheVariants.{Open, Steady, List as Listing, Step, State, Report, Save, Return, Forget, Time, Wait, Clock, Independent, Search, Word, Run, Bad}
+use Rattle.lines.specs.declared.line.Line.TheVariants.{Open, Steady, List as Listing, Step, State, Report, Save, Return, Forget, Time, Wait, Clock, Independent, Search, Word, Run}
 use Rattle.lines.specs.declared.line.Reading.{Reading}
 use Rattle.lines.specs.declared.script.Part.{Part}
 use Rattle.lines.specs.declared.script.Part.TheVariants.{InLine, InText}
 use Rattle.lines.specs.declared.script.Script.{Script}
 use Rattle.lines.specs.declared.script.Taken.{Taken}
-use Rattle.lines.specs.declared.script.Taken.TheVariants.{Goes, Asks, Wrong}
+use Rattle.lines.specs.declared.script.Taken.TheVariants.{Goes, Asks}
 use Rattle.lines.specs.declared.script.Broken.{Broken}
 use Rattle.lines.specs.Limit.{limit}
 use Rattle.lines.specs.Line.{line_of, empty, Reads}
@@ -41,7 +41,6 @@ is_short (Independent i j) = true
 is_short (Search d n) = true
 is_short (Word w) = true
 is_short (Run n) = true
-is_short Bad = false
 
 -- how many bytes of a text a line asks for
 abbrev pub text_of : Line → Option ℕ
@@ -61,13 +60,12 @@ text_of (Independent i j) = nothing
 text_of (Search d n) = nothing
 text_of (Word w) = nothing
 text_of (Run n) = nothing
-text_of Bad = nothing
 
 -- bytes that are whole items: such a line and LF, or a line `open n` or `steady n`, LF, n bytes and LF; and what they ask for in turn
 pub data Items : List ℕ → List Line → Type 0 where
   none : Items [] []
-  short : {s : List ℕ} {qs : List Line} (l : List ℕ) → Items s qs → breaks l ≡ 0 → is_short (line_of l) ≡ true → Items (s ++ (l ++ (line_feed ∷ []))) (qs ++ (line_of l ∷ []))
-  text : {s : List ℕ} {qs : List Line} {n : ℕ} (l t : List ℕ) → Items s qs → breaks l ≡ 0 → text_of (line_of l) ≡ some n → length t ≡ n → Items (s ++ (l ++ (line_feed ∷ (t ++ (line_feed ∷ []))))) (qs ++ (line_of l ∷ []))
+  short : {s : List ℕ} {qs : List Line} {q : Line} (l : List ℕ) → Items s qs → breaks l ≡ 0 → line_of l ≡ Some q → is_short q ≡ true → Items (s ++ (l ++ (line_feed ∷ []))) (qs ++ (q ∷ []))
+  text : {s : List ℕ} {qs : List Line} {q : Line} {n : ℕ} (l t : List ℕ) → Items s qs → breaks l ≡ 0 → line_of l ≡ Some q → text_of q ≡ some n → length t ≡ n → Items (s ++ (l ++ (line_feed ∷ (t ++ (line_feed ∷ []))))) (qs ++ (q ∷ []))
 
 -- s is whole items, and then a line that has not ended
 pub record LineBegun (s : List ℕ) (qs : List Line) (from : ℕ) (r : Reading) : Type 0 where
@@ -87,7 +85,7 @@ pub record TextBegun (s : List ℕ) (qs : List Line) (from : ℕ) (q : Line) (n 
   pub is : s ≡ items ++ (line ++ (line_feed ∷ text))
   pub whole : Items items qs
   pub unbroken : breaks line ≡ 0
-  pub opens : line_of line ≡ q
+  pub opens : line_of line ≡ Some q
   pub asks : text_of q ≡ some n
   pub size : k ≡ length text
   pub fits : k ≤ n
@@ -104,14 +102,14 @@ pub record Stands (s : List ℕ) (qs : List Line) (x : Script) : Type 0 where
 
 -- the byte b ends a line of no form, or stands where the LF after a text should; the item began with line n
 pub data Misplaced (s : List ℕ) (b n : ℕ) : Type 0 where
-  of-line : {qs : List Line} {r : Reading} (x : LineBegun s qs n r) → b ≡ line_feed → line_of x.line ≡ Bad → Misplaced s b n
+  of-line : {qs : List Line} {r : Reading} (x : LineBegun s qs n r) → b ≡ line_feed → line_of x.line ≡ None → Misplaced s b n
   of-text : {qs : List Line} {q : Line} {k : ℕ} → TextBegun s qs n q k k → (b ≢ line_feed) → Misplaced s b n
 
 -- what the byte b does after s: it goes on; it ends an item, which asks for l; or it is wrong
-abbrev pub Takes : List ℕ → List Line → ℕ → Taken → Type 0
-Takes s qs b (Goes x) = Stands (s ++ (b ∷ [])) qs x
-Takes s qs b (Asks l x) = Stands (s ++ (b ∷ [])) (qs ++ (l ∷ [])) x
-Takes s qs b (Wrong n) = Misplaced s b n
+abbrev pub Takes : List ℕ → List Line → ℕ → Result Taken Broken → Type 0
+Takes s qs b (Ok (Goes x)) = Stands (s ++ (b ∷ [])) qs x
+Takes s qs b (Ok (Asks l x)) = Stands (s ++ (b ∷ [])) (qs ++ (l ∷ [])) x
+Takes s qs b (Err e) = Misplaced s b e.from
 
 -- s ends within the item that began with line n
 pub data Cut (s : List ℕ) (n : ℕ) : Type 0 where
@@ -151,4 +149,3 @@ ended line (Independent i j) = Asks (Independent i j) (fresh (next line))
 ended line (Search d n) = Asks (Search d n) (fresh (next line))
 ended line (Word w) = Asks (Word w) (fresh (next line))
 ended line (Run n) = Asks (Run n) (fresh (next line))
-ended line Bad = Wrong line

@@ -1,7 +1,7 @@
 -- The line `independent I J` after its first five bytes, as the code reads it: a state for what came, and the next byte. Definitions only.
-use Rattle.std.specs.Prelude.{ℕ, ◌+◌, ◌*◌, cond, List, [], ◌∷◌, ◌==◌, nat_lt}
+use Rattle.std.specs.Prelude.{ℕ, ◌+◌, ◌*◌, cond, List, [], ◌∷◌, ◌==◌, nat_lt, Option, Some, None}
 use Rattle.lines.specs.declared.line.Line.{Line}
-use Rattle.lines.specs.declared.line.Line.TheVariants.{Independent, Bad}
+use Rattle.lines.specs.declared.line.Line.TheVariants.{Independent}
 use Rattle.lines.specs.declared.two.Two.{Two}
 use Rattle.lines.specs.declared.two.Two.TheVariants.{Word, First, Gap, Both, Other}
 use Rattle.lines.specs.Limit.{limit}
@@ -52,9 +52,9 @@ abbrev pub begun : Two
 begun = Word 0
 
 -- what the line says
-abbrev pub paired : Two → Line
-paired (Word n) = Bad
-paired (First v) = Bad
-paired (Gap v) = Bad
-paired (Both v w) = Independent v w
-paired Other = Bad
+abbrev pub paired : Two → Option Line
+paired (Word n) = None
+paired (First v) = None
+paired (Gap v) = None
+paired (Both v w) = Some (Independent v w)
+paired Other = None

@@ -1,7 +1,6 @@
 // A line of a script, read byte by byte, however long it is.
-ghost use Rattle.std.specs.Prelude.{◌≡◌, ℕ, cond, ◌==◌, List, [], ◌∷◌, ◌++◌};
+ghost use Rattle.std.specs.Prelude.{◌≡◌, ℕ, cond, ◌==◌, List, [], ◌∷◌, ◌++◌, Some, None};
 ghost use Rattle.lines.specs.Line.{line_of, digit_next, letter_next, rest_next, numbered, number_in, small, lettered, bare, steadied, sought_by, ran_by, after_next, late_next, early_next, kept_next, empty, Reads};
-ghost use Rattle.lines.specs.declared.line.Line.TheVariants.{Bad};
 
 use crate::bytes;
 use crate::bytes::ByteByByte;
@@ -28,7 +27,6 @@ pub enum Line {
     Search(u64, u64),
     Word(u64),
     Run(u64),
-    Bad,
 }
 
 // What stands after a line's first five bytes; `T` is the last byte of `report`.
@@ -154,79 +152,79 @@ impl ByteByByte for Rest {
 }
 
 // What a line says that has nothing after its word.
-fn bare(says: Line, rest: Rest) -> Line
+fn bare(says: Line, rest: Rest) -> Option<Line>
     ensures { result ≡ bare says rest }
 {
     match rest {
-        Rest::Nothing => says,
-        _ => Line::Bad,
+        Rest::Nothing => Some(says),
+        _ => None,
     }
 }
 
 // What a line says after whose five bytes the last one of its word stands.
-fn lettered(says: Line, rest: Rest) -> Line
+fn lettered(says: Line, rest: Rest) -> Option<Line>
     ensures { result ≡ lettered says rest }
 {
     match rest {
-        Rest::T => says,
-        _ => Line::Bad,
+        Rest::T => Some(says),
+        _ => None,
     }
 }
 
 // What a line says whose word ends in these two bytes.
-fn ended(says: Line, end: u64, after: u64) -> Line
-    ensures { result ≡ cond (after == end) says Bad }
+fn ended(says: Line, end: u64, after: u64) -> Option<Line>
+    ensures { result ≡ cond (after == end) (Some says) None }
 {
     if after == end {
-        return says;
+        return Some(says);
     }
-    Line::Bad
+    None
 }
 
 // A line with a waiting draw, if it is one.
-fn draw_line(n: u64) -> Line
+fn draw_line(n: u64) -> Option<Line>
     ensures { result ≡ small n }
 {
     if n < Head::DRAWS {
-        return Line::Wait(n);
+        return Some(Line::Wait(n));
     }
-    Line::Bad
+    None
 }
 
-fn steady_line(after: u64, late: Rest) -> Line
+fn steady_line(after: u64, late: Rest) -> Option<Line>
     ensures { result ≡ steadied after late }
 {
     if after == Head::STEADY_END {
-        return late.number().map_or(Line::Bad, Line::Steady);
+        return late.number().map(Line::Steady);
     }
-    Line::Bad
+    None
 }
 
 // A digit and a blank after the first five bytes.
-fn seek_line(after: u64, kept: u64) -> Line
+fn seek_line(after: u64, kept: u64) -> Option<Line>
     ensures { result ≡ sought_by after kept }
 {
     if after % 256 != Head::BLANK {
-        return Line::Bad;
+        return None;
     }
     let digit = after / 256;
     if digit < Head::ZERO {
-        return Line::Bad;
+        return None;
     }
     if Head::NINE < digit {
-        return Line::Bad;
+        return None;
     }
-    Line::Search(digit - Head::ZERO, kept)
+    Some(Line::Search(digit - Head::ZERO, kept))
 }
 
 // A word of four bytes, of which the head has one byte more.
-fn run_line(head: u64, early: Rest) -> Line
+fn run_line(head: u64, early: Rest) -> Option<Line>
     ensures { result ≡ ran_by head early }
 {
     if head / 256 == Head::RUN {
-        return early.number().map_or(Line::Bad, Line::Run);
+        return early.number().map(Line::Run);
     }
-    Line::Bad
+    None
 }
 
 // The two bytes after the first five, with one more byte.
@@ -318,8 +316,8 @@ impl Reading {
         }
     }
 
-    // What the whole line says.
-    pub fn says(self) -> Line
+    // What the whole line says, if it has a form.
+    pub fn says(self) -> Option<Line>
         ensures { (s : List ℕ) → Reads s self → result ≡ line_of s }
     {
         let rest = self.rest;
@@ -330,21 +328,21 @@ impl Reading {
         let kept = self.kept;
         let early = self.early;
         match head {
-            Head::LIST => Line::List,
+            Head::LIST => Some(Line::List),
             Head::STATE => bare(Line::State, rest),
             Head::REPORT => lettered(Line::Report, rest),
-            Head::OPEN => rest.number().map_or(Line::Bad, Line::Open),
-            Head::STEP => rest.number().map_or(Line::Bad, Line::Step),
-            Head::SAVE => Line::Save(kept),
+            Head::OPEN => rest.number().map(Line::Open),
+            Head::STEP => rest.number().map(Line::Step),
+            Head::SAVE => Some(Line::Save(kept)),
             Head::RETURN => ended(Line::Return(kept), Head::RETURN_END, after),
             Head::FORGET => ended(Line::Forget(kept), Head::FORGET_END, after),
-            Head::TIME => rest.number().map_or(Line::Bad, Line::Time),
-            Head::WAIT => rest.number().map_or(Line::Bad, draw_line),
+            Head::TIME => rest.number().map(Line::Time),
+            Head::WAIT => rest.number().and_then(draw_line),
             Head::CLOCK => bare(Line::Clock, rest),
             Head::INDEPENDENT => crate::two::says(two),
             Head::STEADY => steady_line(after, late),
             Head::SEEK => seek_line(after, kept),
-            Head::WORD => rest.number().map_or(Line::Bad, Line::Word),
+            Head::WORD => rest.number().map(Line::Word),
             _ => run_line(head, early),
         }
     }

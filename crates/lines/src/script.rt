@@ -20,15 +20,14 @@ pub struct Script {
     pub part: Part,
 }
 
-// What a byte does: it goes on; it ends an item, which asks for this; or it is wrong, in an item that began with this line.
+// What a byte does that is right: the item goes on, or it ends and asks for this.
 #[derive(Clone, Copy)]
 pub enum Taken {
     Goes(Script),
     Asks(Line, Script),
-    Wrong(u64),
 }
 
-// The script's end is within an item that began with this line.
+// A byte is wrong, or the script ends, within an item that began with this line.
 #[derive(Clone, Copy)]
 pub struct Broken {
     pub from: u64,
@@ -55,7 +54,7 @@ fn begin(line: u64) -> Script
     ensures { result ≡ fresh line }
 {
     Script {
-        line: line,
+        line,
         from: line,
         part: Part::InLine(Reading::new()),
     }
@@ -77,38 +76,47 @@ fn end_line(line: u64, says: Line) -> Taken
             from: line,
             part: Part::InText(Line::Steady(n), n, 0),
         }),
-        Line::Bad => Taken::Wrong(line),
         asked => Taken::Asks(asked, begin(next)),
     }
 }
 
-fn take_in_line(from: u64, reading: Reading, b: u8) -> Taken
+fn take_in_line(from: u64, reading: Reading, b: u8) -> Result<Taken, Broken>
     ensures { (s : List ℕ) (qs : List Asked) → LineBegun s qs from reading → Takes s qs b result }
 {
     if b == b'\n' {
-        return end_line(from, reading.says());
+        return match reading.says() {
+            Some(says) => Ok(end_line(from, says)),
+            None => Err(Broken { from }),
+        };
     }
-    Taken::Goes(Script {
+    Ok(Taken::Goes(Script {
         line: from,
-        from: from,
+        from,
         part: Part::InLine(reading.with(b)),
-    })
+    }))
 }
 
-fn take_in_text(line: u64, from: u64, asked: Line, size: u64, taken: u64, b: u8) -> Taken
+fn take_in_text(
+    line: u64,
+    from: u64,
+    asked: Line,
+    size: u64,
+    taken: u64,
+    b: u8,
+) -> Result<Taken, Broken>
     ensures { (s : List ℕ) (qs : List Asked) → line ≡ number_after s → TextBegun s qs from asked size taken → Takes s qs b result }
 {
     if taken < size {
-        return Taken::Goes(Script {
+        return Ok(Taken::Goes(Script {
             line: line_after(line, b),
-            from: from,
+            from,
             part: Part::InText(asked, size, taken + 1),
-        });
+        }));
     }
-    if b == b'\n' {
-        return Taken::Asks(asked, begin(next_line(line)));
+    if b != b'\n' {
+        return Err(Broken { from });
     }
-    Taken::Wrong(from)
+    Ok(Taken::Asks(asked, begin(next_line(line))))
 }
 
 fn line_at_end(from: u64, reading: Reading) -> Result<(), Broken>
@@ -128,12 +136,10 @@ impl Script {
     }
 
     // What the next byte does.
-    pub fn take(self, b: u8) -> Taken
+    pub fn take(self, b: u8) -> Result<Taken, Broken>
         ensures { (s : List ℕ) (qs : List Asked) → Stands s qs self → Takes s qs b result }
     {
-        let line = self.line;
-        let from = self.from;
-        let part = self.part;
+        let Script { line, from, part } = self;
         match part {
             Part::InLine(reading) => take_in_line(from, reading, b),
             Part::InText(asked, size, taken) => take_in_text(line, from, asked, size, taken, b),
@@ -144,8 +150,7 @@ impl Script {
     pub fn at_end(self) -> Result<(), Broken>
         ensures { (s : List ℕ) (qs : List Asked) → Stands s qs self → Ends s qs result }
     {
-        let from = self.from;
-        let part = self.part;
+        let Script { from, part, .. } = self;
         match part {
             Part::InLine(reading) => line_at_end(from, reading),
             Part::InText(_, _, _) => Err(Broken { from }),

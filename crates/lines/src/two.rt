@@ -98,12 +98,12 @@ impl ByteByByte for Two {
     }
 }
 
-// What the line says.
-pub fn says(two: Two) -> Line
+// What the line says, if it is whole.
+pub fn says(two: Two) -> Option<Line>
     ensures { result ≡ paired two }
 {
     match two {
-        Two::Both(v, w) => Line::Independent(v, w),
-        _ => Line::Bad,
+        Two::Both(v, w) => Some(Line::Independent(v, w)),
+        _ => None,
     }
 }

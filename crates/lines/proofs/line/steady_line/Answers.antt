@@ -7,7 +7,7 @@ use Rattle.lines.proofs.line.steady_line.Goals as goal
 
 pub returns-then-after-eq-STEADY_END : goal.returns-then-after-eq-STEADY_END
 unfolding steadied
-returns-then-after-eq-STEADY_END c = rw (eq-eqb c.args.after steady_end c.if-after-eq-STEADY_END.true) (numbered-is Steady c.args.late _ (rw c.number.ensures at c.map_or.ensures))
+returns-then-after-eq-STEADY_END c = rw (eq-eqb c.args.after steady_end c.if-after-eq-STEADY_END.true) (numbered-is Steady c.args.late _ (rw c.number.ensures at c.map.ensures.cases))
 
 pub returns : goal.returns
 unfolding steadied

@@ -1,7 +1,7 @@
 -- The head tells which of the words begins the line.
 use Rattle.lines.specs.declared.line.Line.TheVariants.{Open, Step, Time, Word}
 use Rattle.lines.specs.Line.{small, ended}
-use Rattle.lines.proofs.Heads.{says-list, says-state, says-report, says-open, says-step, says-save, says-return, says-forget, says-time, says-wait, says-clock, says-independent, says-steady, says-seek, says-word, says-run, numbered-is}
+use Rattle.lines.proofs.Heads.{says-list, says-state, says-report, says-open, says-step, says-save, says-return, says-forget, says-time, says-wait, says-clock, says-independent, says-steady, says-seek, says-word, says-run, joined-is, numbered-is}
 use Rattle.lines.proofs.line.Reading.says.Goals as goal
 
 pub returns-in-6113817460 : goal.returns-in-6113817460
@@ -18,11 +18,11 @@ returns-in-1590839766898 c =
 
 pub returns-in-1578138693152 : goal.returns-in-1578138693152
 returns-in-1578138693152 c =
-    λ s h. says-open h c.in-1578138693152.is (numbered-is Open c.args.self.rest _ (rw c.number.ensures at c.map_or.ensures))
+    λ s h. says-open h c.in-1578138693152.is (numbered-is Open c.args.self.rest _ (rw c.number.ensures at c.map.ensures.cases))
 
 pub returns-in-1595385671712 : goal.returns-in-1595385671712
 returns-in-1595385671712 c =
-    λ s h. says-step h c.in-1595385671712.is (numbered-is Step c.args.self.rest _ (rw c.number-in-1595385671712.ensures at c.map_or-in-1595385671712.ensures))
+    λ s h. says-step h c.in-1595385671712.is (numbered-is Step c.args.self.rest _ (rw c.number-in-1595385671712.ensures at c.map-in-1595385671712.ensures.cases))
 
 pub returns-in-1595068015904 : goal.returns-in-1595068015904
 returns-in-1595068015904 c =
@@ -40,11 +40,11 @@ returns-in-1539468060517 c =
 
 pub returns-in-1599496611104 : goal.returns-in-1599496611104
 returns-in-1599496611104 c =
-    λ s h. says-time h c.in-1599496611104.is (numbered-is Time c.args.self.rest _ (rw c.number-in-1599496611104.ensures at c.map_or-in-1599496611104.ensures))
+    λ s h. says-time h c.in-1599496611104.is (numbered-is Time c.args.self.rest _ (rw c.number-in-1599496611104.ensures at c.map-in-1599496611104.ensures.cases))
 
 pub returns-in-1612247036960 : goal.returns-in-1612247036960
 returns-in-1612247036960 c =
-    λ s h. says-wait h c.in-1612247036960.is (numbered-is small c.args.self.rest _ (rw c.number-in-1612247036960.ensures at c.map_or-in-1612247036960.ensures))
+    λ s h. says-wait h c.in-1612247036960.is (joined-is small c.args.self.rest _ (rw c.number-in-1612247036960.ensures at c.and_then.ensures))
 
 pub returns-in-1526532629355 : goal.returns-in-1526532629355
 returns-in-1526532629355 c =
@@ -64,7 +64,7 @@ returns-in-1595134012192 c =
 
 pub returns-in-1612482503712 : goal.returns-in-1612482503712
 returns-in-1612482503712 c =
-    λ s h. says-word h c.in-1612482503712.is (numbered-is Word c.args.self.rest _ (rw c.number-in-1612482503712.ensures at c.map_or-in-1612482503712.ensures))
+    λ s h. says-word h c.in-1612482503712.is (numbered-is Word c.args.self.rest _ (rw c.number-in-1612482503712.ensures at c.map-in-1612482503712.ensures.cases))
 
 pub returns-in_default : goal.returns-in_default
 returns-in_default c =

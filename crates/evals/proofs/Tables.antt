@@ -1,25 +1,25 @@
 -- The tables of the specimens hold what the program says of them. By computation, node by node.
-use mathlib.Core.Path.{◌≡◌, refl, sym, ap}
+use mathlib.Core.Path.{◌≡◌, refl}
 use mathlib.Core.List.{[], ◌∷◌}
-use mathlib.Core.Bool.{false}
+use mathlib.Core.Bool.{false, true}
 use mathlib.Core.Option.{some}
-use Prim.Native.Nat.{ℕ, suc, ◌+◌, ◌-◌, ◌*◌, ◌≤◌, ◌<◌}
+use Prim.Native.Nat.{ℕ, ◌+◌, ◌-◌, ◌*◌, ◌≤◌, ◌<◌}
 use native.Mathlib.Omega.{arith}
-use borrow.Author.Tests.{le-leb}
+use borrow.Author.Tests.{ltb-true}
 use lib.Dec.{lit<, lit≤}
-use lib.IntN.{ℤ, pos, negsuc}
-use lib.Signed.{mag}
-use Rattle.value.specs.Range.{farthest, least, InRange}
+use lib.IntN.{ℤ, pos, negsuc, nat_abs}
+use lib.Signed.{lt_z}
+use Rattle.value.specs.Range.{InRange}
 use Rattle.value.specs.Items.{one_item}
+use Rattle.value.proofs.Bounds.{in_size}
 use Rattle.grammar.specs.Grammar.{greater}
 use Rattle.grammar.specs.Syntax.{divide, without}
-use Rattle.tree.specs.Node.{kind_of, token_of, left_of, op_kind, join_kind, test_kind, relation_kind}
+use Rattle.tree.specs.Node.{cell, kind_of, token_of, left_of, op_kind, join_kind, test_kind, relation_kind}
 use Rattle.model.specs.Resolved
 use Rattle.tables.specs.Settled as Settled
 use Rattle.tables.specs.Settled.{offset, lifted, number_cell}
 use Rattle.model.specs.Good.{Every, GoodExpr, GoodSet, GoodCond, GoodGate, GoodName, GoodItem, GoodScale, GoodRate, GoodAction, GoodBranch, scale_limit}
 use Rattle.eval.specs.Held.{Held}
-use Rattle.evals.specs.Cells.{Literal}
 
 -- ---- numbers
 pub zero_in : InRange (pos 0)
@@ -33,56 +33,50 @@ pub two_in : (i y : ℤ) → InRange i → InRange y → Every InRange (i ∷ y 
 unfolding Every
 two_in i y h k = (h, (k, tt))
 
-pub plus-literal : (n : ℕ) → n ≤ farthest → Literal (number_cell 1 (pos n))
-plus-literal n h = record { number = pos n; cell-is = refl; fits = omega arith; range = record { low = refl; high = le-leb n farthest h } }
+small : {z : ℤ} → InRange z → nat_abs z < offset
+small {z} h = omega (arith, in_size z h)
 
-pub minus-literal : (n : ℕ) → 1 ≤ n → n ≤ farthest → Literal (1 + 256 * (offset - n))
+pub below-zero : (z : ℤ) → lt_z z (pos 0) ≡ true → 1 + 256 * (offset - nat_abs z) ≡ number_cell 1 z
 unfolding number_cell lifted
-minus-literal n g h =
-    let e : suc (n - 1) ≡ n = omega arith in
-    record {
-      number = negsuc (n - 1);
-      cell-is = ap (λ (m : ℕ). 1 + 256 * (offset - m)) (sym e);
-      fits = omega arith;
-      range = record { low = le-leb (n - 1) (mag least) (omega arith); high = refl };
-    }
+below-zero (pos n) e = absurd (omega (arith, ltb-true n 0 e))
+below-zero (negsuc n) e = refl
 
 -- ---- tables
-module _ (x y : ℕ) (a : Literal x) (b : Literal y) where
-  pub quotient-holds : Held (Settled.Expr (x ∷ y ∷ 8 ∷ [])) (GoodExpr 1) 2
-  unfolding Settled.Expr GoodExpr op_kind kind_of left_of
+module _ (x y : ℤ) (a : InRange x) (b : InRange y) where
+  pub quotient-holds : Held (Settled.Expr (number_cell 1 x ∷ number_cell 1 y ∷ cell 8 0 0 0 ∷ [])) (GoodExpr 1) 2
+  unfolding Settled.Expr GoodExpr op_kind cell kind_of left_of
   quotient-holds = record {
-    part = Resolved.binary divide (Resolved.constant a.number) (Resolved.constant b.number);
+    part = Resolved.binary divide (Resolved.constant x) (Resolved.constant y);
     at = record {
       right = 1;
       above = refl;
       kind-is = refl;
       below = lit< tt;
-      holds-first = record { cell-is = a.cell-is; fits = a.fits };
-      holds-second = record { cell-is = b.cell-is; fits = b.fits };
+      holds-first = record { cell-is = refl; fits = small a };
+      holds-second = record { cell-is = refl; fits = small b };
     };
-    fit = (a.range, b.range);
+    fit = (a, b);
   }
 
-  pub range-holds : Held (Settled.Set (x ∷ y ∷ 11 ∷ [])) (GoodSet 1) 2
-  unfolding Settled.Set Settled.Expr GoodSet GoodExpr kind_of left_of
+  pub range-holds : Held (Settled.Set (number_cell 1 x ∷ number_cell 1 y ∷ cell 11 0 0 0 ∷ [])) (GoodSet 1) 2
+  unfolding Settled.Set Settled.Expr GoodSet GoodExpr cell kind_of left_of
   range-holds = record {
-    part = Resolved.range (Resolved.constant a.number) (Resolved.constant b.number);
+    part = Resolved.range (Resolved.constant x) (Resolved.constant y);
     at = record {
       right = 1;
       above = refl;
       kind-is = refl;
       below = lit< tt;
-      holds-first = record { cell-is = a.cell-is; fits = a.fits };
-      holds-second = record { cell-is = b.cell-is; fits = b.fits };
+      holds-first = record { cell-is = refl; fits = small a };
+      holds-second = record { cell-is = refl; fits = small b };
     };
-    fit = (a.range, b.range);
+    fit = (a, b);
   }
 
-  pub rest-holds : (z : ℕ) → Literal z → Held (Settled.Set (x ∷ y ∷ 11 ∷ z ∷ 33554444 ∷ [])) (GoodSet 1) 4
-  unfolding Settled.Set Settled.Expr GoodSet GoodExpr join_kind kind_of left_of
+  pub rest-holds : (z : ℤ) → InRange z → Held (Settled.Set (number_cell 1 x ∷ number_cell 1 y ∷ cell 11 0 0 0 ∷ number_cell 1 z ∷ cell 12 0 2 0 ∷ [])) (GoodSet 1) 4
+  unfolding Settled.Set Settled.Expr GoodSet GoodExpr join_kind cell kind_of left_of
   rest-holds z c = record {
-    part = Resolved.joined without (Resolved.range (Resolved.constant a.number) (Resolved.constant b.number)) (Resolved.single (Resolved.constant c.number));
+    part = Resolved.joined without (Resolved.range (Resolved.constant x) (Resolved.constant y)) (Resolved.single (Resolved.constant z));
     at = record {
       right = 3;
       above = refl;
@@ -93,20 +87,32 @@ module _ (x y : ℕ) (a : Literal x) (b : Literal y) where
         above = refl;
         kind-is = refl;
         below = lit< tt;
-        holds-first = record { cell-is = a.cell-is; fits = a.fits };
-        holds-second = record { cell-is = b.cell-is; fits = b.fits };
+        holds-first = record { cell-is = refl; fits = small a };
+        holds-second = record { cell-is = refl; fits = small b };
       };
-      holds-second = record { cell-is = c.cell-is; fits = c.fits };
+      holds-second = record { cell-is = refl; fits = small c };
     };
-    fit = ((a.range, b.range), c.range);
+    fit = ((a, b), c);
   }
 
 -- [i>0] -> {c![y/i],1} of the locals i and y
-pub gated-holds : (x y : ℕ) → x ≡ number_cell 1 (pos 0) → y ≡ number_cell 29 (pos 10000)
-    → (m : Resolved.Model) × Held (Settled.Branch (3 ∷ x ∷ 17 ∷ 66 ∷ 259 ∷ 3 ∷ 67108872 ∷ 50331685 ∷ y ∷ 117440557 ∷ 33554479 ∷ [])) (GoodBranch m 2) 10
+pub gated-holds : (m : Resolved.Model) × Held (Settled.Branch (
+    cell 3 0 0 0
+    ∷ number_cell 1 (pos 0)
+    ∷ cell 17 0 0 0
+    ∷ cell 66 0 0 0
+    ∷ cell 3 1 0 0
+    ∷ cell 3 0 0 0
+    ∷ cell 8 0 4 0
+    ∷ cell 37 0 3 0
+    ∷ number_cell 29 (pos 10000)
+    ∷ cell 45 0 7 0
+    ∷ cell 47 0 2 0
+    ∷ []
+    )) (GoodBranch m 2) 10
 unfolding Settled.Branch Settled.Gated Settled.Cond Settled.Expr Settled.Offer Settled.Action Settled.Channel Settled.Item Settled.OneOrTwo Settled.Rate Settled.Scale
-    Every GoodExpr GoodCond GoodGate GoodName GoodItem GoodScale GoodRate GoodAction op_kind test_kind relation_kind kind_of token_of left_of
-gated-holds x y e f = (
+    Every GoodExpr GoodCond GoodGate GoodName GoodItem GoodScale GoodRate GoodAction op_kind test_kind relation_kind cell kind_of token_of left_of
+gated-holds = (
   record { sums = []; definitions = []; channels = 1; starts = []; words = λ k. [] },
   record {
     part = record {
@@ -126,7 +132,7 @@ gated-holds x y e f = (
         kind-is = refl;
         below = lit< tt;
         holds-first = record { kind-is = refl; index_is = refl };
-        holds-second = record { cell-is = e; fits = lit< tt };
+        holds-second = record { cell-is = refl; fits = lit< tt };
       };
       holds-second = record {
         offer = record {
@@ -149,7 +155,7 @@ gated-holds x y e f = (
               holds-second = record { kind-is = refl; index_is = refl };
             };
           };
-          holds-second = record { cell-is = f; fits = lit< tt };
+          holds-second = record { cell-is = refl; fits = lit< tt };
         };
       };
     };
@@ -162,6 +168,6 @@ gated-holds x y e f = (
   },
 )
 
-pub rate-holds : (x n : ℕ) → n < offset → n ≤ scale_limit → x ≡ number_cell 29 (pos n) → Held (Settled.Rate (x ∷ [])) (GoodRate 1) 0
+pub rate-holds : (n : ℕ) → n < offset → n ≤ scale_limit → Held (Settled.Rate (number_cell 29 (pos n) ∷ [])) (GoodRate 1) 0
 unfolding Settled.Rate Settled.Scale GoodRate GoodScale
-rate-holds x n h g e = record { part = Resolved.plain (Resolved.fixed (pos n)); at = record { cell-is = e; fits = h }; fit = g }
+rate-holds n h g = record { part = Resolved.plain (Resolved.fixed (pos n)); at = record { cell-is = refl; fits = h }; fit = g }

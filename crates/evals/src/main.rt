@@ -4,100 +4,91 @@
 ghost use Rattle.std.specs.Prelude.{◌≡◌, ◌≤◌, ◌<◌, pos};
 ghost use Rattle.model.specs.Good.{scale_limit};
 ghost use Rattle.tables.specs.Settled.{offset, number_cell};
-ghost use Rattle.value.specs.Range.{farthest, InRange};
-ghost use Rattle.evals.specs.Cells.{Literal};
+ghost use Rattle.tree.specs.Node.{literal};
+ghost use Rattle.value.specs.Range.{InRange};
 
 use eval::offer;
+use std::fmt::Display;
 use std::io;
 use tree::NodeKind;
 use value::Range;
 
+// A cell of a number has its kind below KINDS, then the number above OFFSET.
 const KINDS: u64 = 256;
 
 const OFFSET: u64 = 36028797018963968;
 
-// Cells: this times the root of the left part.
-const LEFT: u64 = 16777216;
-
-const CHANNEL: u64 = 66;
+// The kind of a node that is a channel name.
+const CHANNEL: u8 = 66;
 
 // The cell of n.
-fn cell(kind: u8, n: u64) -> u64
+fn number_cell(kind: u8, n: u64) -> u64
     requires { n < offset }
     ensures { result ≡ number_cell kind (pos n) }
 {
     kind as u64 + KINDS * (OFFSET + n)
 }
 
-// The number n in an expression.
-fn plus(n: u64) -> u64
-    requires { n ≤ farthest }
-    ensures { Literal result }
+// The cell of a number of an expression.
+fn literal(z: i64) -> u64
+    requires { InRange z }
+    ensures { result ≡ number_cell literal z }
 {
-    cell(NodeKind::LITERAL, n)
+    let size = z.unsigned_abs();
+    if z < 0 {
+        return NodeKind::LITERAL as u64 + KINDS * (OFFSET - size);
+    }
+    number_cell(NodeKind::LITERAL, size)
 }
 
-// The number -n in an expression.
-fn minus(n: u64) -> u64
-    requires { (1 ≤ n) × (n ≤ farthest) }
-    ensures { Literal result }
+// x / y.
+fn quotient(x: i64, y: i64) -> Option<i64>
+    requires { (InRange x) × (InRange y) }
 {
-    NodeKind::LITERAL as u64 + KINDS * (OFFSET - n)
-}
-
-// x / y, of two numbers' cells.
-fn quotient(x: u64, y: u64) -> Option<i64>
-    requires { (Literal x) × (Literal y) }
-{
-    let nodes = [x, y, NodeKind::DIVIDE as u64];
-    let locals = [0i64; 1];
-    eval::eval_node(&nodes, &locals, 2)
+    let nodes = [
+        literal(x),
+        literal(y),
+        tree::cell(NodeKind::DIVIDE, 0, 0, 0),
+    ];
+    eval::eval_node(&nodes, &[0], 2)
 }
 
 // Whether v is in x..y.
-fn in_range(x: u64, y: u64, v: i64) -> bool
-    requires { (Literal x) × (Literal y) }
+fn in_range(x: i64, y: i64, v: i64) -> bool
+    requires { (InRange x) × (InRange y) }
 {
-    let nodes = [x, y, NodeKind::RANGE as u64];
-    let locals = [0i64; 1];
-    eval::in_set(&nodes, &locals, 2, v)
+    let nodes = [literal(x), literal(y), tree::cell(NodeKind::RANGE, 0, 0, 0)];
+    eval::in_set(&nodes, &[0], 2, v)
 }
 
 // Whether v is in x..y\z.
-fn in_rest(x: u64, y: u64, z: u64, v: i64) -> bool
-    requires { (Literal x) × (Literal y) × (Literal z) }
+fn in_rest(x: i64, y: i64, z: i64, v: i64) -> bool
+    requires { (InRange x) × (InRange y) × (InRange z) }
 {
-    let nodes = [
-        x,
-        y,
-        NodeKind::RANGE as u64,
-        z,
-        NodeKind::WITHOUT as u64 + LEFT * 2,
-    ];
-    let locals = [0i64; 1];
-    eval::in_set(&nodes, &locals, 4, v)
+    let range = tree::cell(NodeKind::RANGE, 0, 0, 0);
+    let without = tree::cell(NodeKind::WITHOUT, 0, 2, 0);
+    let nodes = [literal(x), literal(y), range, literal(z), without];
+    eval::in_set(&nodes, &[0], 4, v)
 }
 
 // The kind of what [i>0] -> {c![y/i],1} offers.
 fn gated(i: i64, y: i64) -> u8
     requires { (InRange i) × (InRange y) }
 {
-    let named = NodeKind::NAMED as u64;
     let nodes = [
-        named,
-        cell(NodeKind::LITERAL, 0),
-        NodeKind::GREATER as u64,
-        CHANNEL,
-        named + KINDS,
-        named,
-        NodeKind::DIVIDE as u64 + LEFT * 4,
-        NodeKind::LAUNCH as u64 + LEFT * 3,
-        cell(NodeKind::NUMBER, 10000),
-        NodeKind::STOP as u64 + LEFT * 7,
-        NodeKind::GATE as u64 + LEFT * 2,
+        tree::cell(NodeKind::NAMED, 0, 0, 0),
+        literal(0),
+        tree::cell(NodeKind::GREATER, 0, 0, 0),
+        tree::cell(CHANNEL, 0, 0, 0),
+        tree::cell(NodeKind::NAMED, 1, 0, 0),
+        tree::cell(NodeKind::NAMED, 0, 0, 0),
+        tree::cell(NodeKind::DIVIDE, 0, 4, 0),
+        tree::cell(NodeKind::LAUNCH, 0, 3, 0),
+        number_cell(NodeKind::NUMBER, 10000),
+        tree::cell(NodeKind::STOP, 0, 7, 0),
+        tree::cell(NodeKind::GATE, 0, 2, 0),
     ];
-    let locals = [i, y];
-    let o = offer::offer_of(&nodes, &locals, 10);
+    let o = offer::offer_of(&nodes, &[i, y], 10);
     o.kind
 }
 
@@ -105,138 +96,87 @@ fn gated(i: i64, y: i64) -> u8
 fn rate(n: u64) -> Option<u64>
     requires { (n < offset) × (n ≤ scale_limit) }
 {
-    let nodes = [cell(NodeKind::NUMBER, n)];
-    let locals = [0i64; 1];
-    eval::rate_of(&nodes, &locals, 0)
+    let nodes = [number_cell(NodeKind::NUMBER, n)];
+    eval::rate_of(&nodes, &[0], 0)
 }
 
-fn say(rt: &impl Print, text: &[u8]) -> io::Result<()> {
-    rt.write_all(text)
-}
-
-fn say_natural(rt: &impl Print, n: u64) -> io::Result<()> {
-    rt.print(n)
-}
-
-fn say_number(rt: &impl Print, z: i64) -> io::Result<()> {
-    if z < 0 {
-        say(rt, b"-")?;
+// A line for each: its name and the number, or `none`.
+fn lines<T: Display>(rt: &impl Print, numbers: &[(&str, Option<T>)]) -> io::Result<()> {
+    for (name, number) in numbers {
+        match number {
+            Some(n) => println!(rt; "{name},{n}")?,
+            None => println!(rt; "{name},none")?,
+        }
     }
-    say_natural(rt, z.unsigned_abs())
-}
-
-fn say_value(rt: &impl Print, v: Option<i64>) -> io::Result<()> {
-    match v {
-        Some(z) => say_number(rt, z),
-        None => say(rt, b"none"),
-    }
-}
-
-fn value_line(rt: &impl Print, name: &[u8], v: Option<i64>) -> io::Result<()> {
-    say(rt, name)?;
-    say(rt, b",")?;
-    say_value(rt, v)?;
-    say(rt, b"\n")
-}
-
-fn set_line(rt: &impl Print, name: &[u8], b: bool) -> io::Result<()> {
-    say(rt, name)?;
-    if b {
-        return say(rt, b",in\n");
-    }
-    say(rt, b",out\n")
-}
-
-fn gate_line(rt: &impl Print, name: &[u8], kind: u8) -> io::Result<()> {
-    say(rt, name)?;
-    say(rt, b",")?;
-    say_natural(rt, kind as u64)?;
-    say(rt, b"\n")
-}
-
-fn say_rate(rt: &impl Print, r: Option<u64>) -> io::Result<()> {
-    match r {
-        Some(n) => say_natural(rt, n),
-        None => say(rt, b"none"),
-    }
-}
-
-fn rate_line(rt: &impl Print, name: &[u8], r: Option<u64>) -> io::Result<()> {
-    say(rt, name)?;
-    say(rt, b",")?;
-    say_rate(rt, r)?;
-    say(rt, b"\n")
+    Ok(())
 }
 
 fn quotients(rt: &impl Print) -> io::Result<()> {
-    value_line(rt, b"-7/2", quotient(minus(7), plus(2)))?;
-    value_line(rt, b"7/-2", quotient(plus(7), minus(2)))?;
-    value_line(rt, b"-7/-2", quotient(minus(7), minus(2)))?;
-    value_line(
-        rt,
-        b"-1/1099511627775",
-        quotient(minus(1), plus(1099511627775)),
-    )
+    let values = [
+        ("-7/2", quotient(-7, 2)),
+        ("7/-2", quotient(7, -2)),
+        ("-7/-2", quotient(-7, -2)),
+        ("-1/1099511627775", quotient(-1, Range::GREATEST)),
+        ("-2147483648/-1", quotient(-2147483648, -1)),
+        ("-1099511627775/-1", quotient(Range::LEAST, -1)),
+        ("7/0", quotient(7, 0)),
+    ];
+    lines(rt, &values)
 }
 
-fn quotient_ends(rt: &impl Print) -> io::Result<()> {
-    value_line(rt, b"-2147483648/-1", quotient(minus(2147483648), minus(1)))?;
-    value_line(
-        rt,
-        b"-1099511627775/-1",
-        quotient(minus(1099511627775), minus(1)),
-    )?;
-    value_line(rt, b"7/0", quotient(plus(7), plus(0)))
+fn show_sets(rt: &impl Print, sets: &[(&str, bool)]) -> io::Result<()> {
+    for &(name, is_in) in sets {
+        let side = if is_in { "in" } else { "out" };
+        println!(rt; "{name},{side}")?;
+    }
+    Ok(())
 }
 
-fn rest(rt: &impl Print, name: &[u8], v: i64) -> io::Result<()> {
-    set_line(rt, name, in_rest(plus(3), plus(5), plus(4), v))
+fn rests(rt: &impl Print) -> io::Result<()> {
+    let sets = [
+        ("2 in 3..5\\4", in_rest(3, 5, 4, 2)),
+        ("3 in 3..5\\4", in_rest(3, 5, 4, 3)),
+        ("4 in 3..5\\4", in_rest(3, 5, 4, 4)),
+        ("5 in 3..5\\4", in_rest(3, 5, 4, 5)),
+        ("6 in 3..5\\4", in_rest(3, 5, 4, 6)),
+    ];
+    show_sets(rt, &sets)
 }
 
-fn sets(rt: &impl Print) -> io::Result<()> {
-    rest(rt, b"2 in 3..5\\4", 2)?;
-    rest(rt, b"3 in 3..5\\4", 3)?;
-    rest(rt, b"4 in 3..5\\4", 4)?;
-    rest(rt, b"5 in 3..5\\4", 5)?;
-    rest(rt, b"6 in 3..5\\4", 6)
-}
-
-fn empty(rt: &impl Print) -> io::Result<()> {
-    set_line(rt, b"4 in 5..4", in_range(plus(5), plus(4), 4))?;
-    set_line(rt, b"5 in 5..4", in_range(plus(5), plus(4), 5))
-}
-
-// All values.
-fn all(rt: &impl Print, name: &[u8], v: i64) -> io::Result<()> {
-    set_line(
-        rt,
-        name,
-        in_range(minus(1099511627775), plus(1099511627775), v),
-    )
-}
-
-fn ends(rt: &impl Print) -> io::Result<()> {
-    all(rt, b"least in all", Range::LEAST)?;
-    all(rt, b"greatest in all", Range::GREATEST)
+fn ranges(rt: &impl Print) -> io::Result<()> {
+    let (least, greatest) = (Range::LEAST, Range::GREATEST);
+    let sets = [
+        ("4 in 5..4", in_range(5, 4, 4)),
+        ("5 in 5..4", in_range(5, 4, 5)),
+        ("least in all", in_range(least, greatest, least)),
+        ("greatest in all", in_range(least, greatest, greatest)),
+    ];
+    show_sets(rt, &sets)
 }
 
 fn gates(rt: &impl Print) -> io::Result<()> {
-    gate_line(rt, b"[0>0] -> {c![7/0],1}", gated(0, 7))?;
-    gate_line(rt, b"[2>0] -> {c![7/2],1}", gated(2, 7))
+    for (name, kind) in [
+        ("[0>0] -> {c![7/0],1}", gated(0, 7)),
+        ("[2>0] -> {c![7/2],1}", gated(2, 7)),
+    ] {
+        println!(rt; "{name},{kind}")?;
+    }
+    Ok(())
 }
 
 fn rates(rt: &impl Print) -> io::Result<()> {
-    rate_line(rt, b"rate 100000", rate(1000000000))?;
-    rate_line(rt, b"rate 100000.0001", rate(1000000001))?;
-    rate_line(rt, b"rate 1099511627775", rate(10995116277750000))
+    let rates = [
+        ("rate 100000", rate(1000000000)),
+        ("rate 100000.0001", rate(1000000001)),
+        ("rate 1099511627775", rate(10995116277750000)),
+    ];
+    lines(rt, &rates)
 }
 
 fn main(rt: HostRuntime) -> io::Result<()> {
     quotients(&rt)?;
-    quotient_ends(&rt)?;
-    sets(&rt)?;
-    empty(&rt)?;
-    ends(&rt)?;
+    rests(&rt)?;
+    ranges(&rt)?;
     gates(&rt)?;
     rates(&rt)
 }

@@ -1,8 +1,8 @@
 -- `in_range` meets its contract: its table holds a range.
+use mir.Facts.{to_z-of_z}
 use Rattle.evals.proofs.Tables.{range-holds, zeros-in}
 use Rattle.evals.proofs.in_range.Goals as goal
 
 pub in_set-requires : goal.in_set-requires
 in_set-requires c =
-    let s = c in
-    (range-holds s.args.x s.args.y s.requires.0 s.requires.1, zeros-in)
+    (rw (c.literal.ensures, c.literal-2.ensures, c.cell.ensures, to_z-of_z c.ranges.x, to_z-of_z c.ranges.y) (range-holds c.args.x c.args.y c.requires.0 c.requires.1), zeros-in)

@@ -4,5 +4,4 @@ use Rattle.evals.proofs.rate.Goals as goal
 
 pub rate_of-requires : goal.rate_of-requires
 rate_of-requires c =
-    let s = c in
-    (rate-holds _ s.args.n s.requires.0 s.requires.1 c.cell.ensures, zeros-in)
+    (rw c.number_cell.ensures (rate-holds c.args.n c.requires.0 c.requires.1), zeros-in)

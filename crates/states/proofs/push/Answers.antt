@@ -3,10 +3,6 @@ use native.Mathlib.Omega.{arith}
 use Rattle.state.proofs.Read.{processes-below}
 use Rattle.states.proofs.push.Goals as goal
 
-pub process_count-requires : goal.process_count-requires
-process_count-requires c =
-    c.is_good.ensures c.if-not-is_good.false
-
 pub push_process-requires : goal.push_process-requires
 push_process-requires c =
-    let h = c.is_good.ensures c.if-not-is_good.false in (h.long, processes-below c.args.state.now h, omega (arith, c.process_count.ensures.0, c.if-process_count-ge-PROCESS_COUNTS.false), omega (arith, c.ranges.sum.fits), omega (arith, c.if-locals-ge-DEFINITION.false), omega (arith, c.ranges.definition.fits))
+    let h = c.is_good.ensures c.if-is_good.true in (h.long, processes-below c.args.state.now h, omega (arith, c.process_count.ensures.0, c.if-process_count-lt-PROCESS_COUNTS.true), omega (arith, c.ranges.sum.fits), omega (arith, c.if-locals-lt-DEFINITION.true), omega (arith, c.ranges.definition.fits))

@@ -1,7 +1,7 @@
--- `cell` meets its contract. By unfolding.
+-- `number_cell` meets its contract. By unfolding.
 use mathlib.Core.Path.{refl}
 use Rattle.tables.specs.Settled.{lifted, number_cell}
-use Rattle.evals.proofs.cell.Goals as goal
+use Rattle.evals.proofs.number_cell.Goals as goal
 
 pub returns : goal.returns
 unfolding number_cell lifted

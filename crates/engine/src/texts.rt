@@ -1,4 +1,4 @@
-// The opening of a text: its tables are local arrays, lent on as slices.
+// The opening of a text, and the engine that it leaves.
 ghost use Rattle.std.specs.Prelude.{◌≡◌, List, [], ℤ, pos, length, replicate};
 ghost use Rattle.machine.specs.State.{state_length};
 ghost use Rattle.machine.specs.Saves.{saves_length};

@@ -34,13 +34,12 @@ tick_limit = 32000000000000
 
 -- 02, note 4: why the draws give no time
 abbrev pub late_of : Unread → Late
-late_of unread.Ended = late.Ended
-late_of unread.Long = late.Long
+late_of u = late.Wait u
 
 -- 02, note 4: 23, 24 and 25
 abbrev pub late_number : Late → ℕ
-late_number late.Ended = 23
-late_number late.Long = 24
+late_number (late.Wait unread.Ended) = 23
+late_number (late.Wait unread.Long) = 24
 late_number late.Past = 25
 
 -- 02, note 4: the clock afterwards, or why it stays as it was

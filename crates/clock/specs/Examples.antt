@@ -2,6 +2,7 @@
 use Rattle.std.specs.Prelude.{◌≡◌, refl, [], ◌∷◌, ℕ, Ok, Err}
 use Rattle.waits.specs.Runs.{next_in_run, read, settled, waiting, wait_of}
 use Rattle.clock.specs.declared.Clock.{Clock}
+use Rattle.waits.specs.declared.Unread.TheVariants as unread
 use Rattle.clock.specs.declared.Late.TheVariants as late
 use Rattle.clock.specs.Clock.{ticks_of, forwarded, waited, brought_by}
 
@@ -24,6 +25,6 @@ pub rows :
     × (brought_by (at 0 9223372036854775806) (0 ∷ 0 ∷ []) 1 ≡ Err late.Past)
     × (brought_by (at 0 9223372036854775805) (0 ∷ 0 ∷ []) 1 ≡ Ok (at 0 9223372036854775807))
     -- 23 before 25
-    × (brought_by (at 9223372036854775807 9223372036854775807) (1 ∷ []) 1 ≡ Err late.Ended)
+    × (brought_by (at 9223372036854775807 9223372036854775807) (1 ∷ []) 1 ≡ Err (late.Wait unread.Ended))
 unfolding brought_by waited forwarded ticks_of wait_of waiting settled read next_in_run
 rows = (refl, refl, refl, refl, refl, refl, refl, refl, refl, refl, refl)

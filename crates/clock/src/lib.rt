@@ -23,7 +23,7 @@ impl Clock {
     // Ticks that E = 65,536 takes at a total of 1.
     pub const SCALE: u64 = 1000000000000;
 
-    // No time has passed, and no draw was used.
+    // No time has passed, and no draw was used. By this name and not by Default: its contract says that it is the clock of a model just opened.
     pub fn fresh() -> Self
         ensures { result ≡ fresh_clock }
     {
@@ -31,11 +31,10 @@ impl Clock {
     }
 }
 
-// Why a clock isn't brought forward: the waiting draws ended first; k would be 32; a number would pass its limit.
+// Why a clock isn't brought forward: the waiting draws give no wait, or a number would pass its limit.
 #[derive(Clone, Copy)]
 pub enum Late {
-    Ended,
-    Long,
+    Wait(Unread),
     Past,
 }
 
@@ -45,8 +44,8 @@ impl Late {
         ensures { result ≡ late_number self }
     {
         match self {
-            Late::Ended => 23,
-            Late::Long => 24,
+            Late::Wait(Unread::Ended) => 23,
+            Late::Wait(Unread::Long) => 24,
             Late::Past => 25,
         }
     }
@@ -56,10 +55,7 @@ impl From<Unread> for Late {
     ghost from_gives = { λ u l. l ≡ late_of u };
 
     fn from(u: Unread) -> Late {
-        match u {
-            Unread::Ended => Late::Ended,
-            Unread::Long => Late::Long,
-        }
+        Late::Wait(u)
     }
 }
 
@@ -99,7 +95,8 @@ fn forward(clock: Clock, ticks: u64, used: usize) -> Result<Clock, Late>
     })
 }
 
-// Questions 23 to 25 of a timed step whose total is above zero: by a clause, since the same total is a number of answers, which may be zero.
+// Questions 23 to 25 of a timed step whose total is above zero.
+// By a clause, as in `ticks_of`, and not a NonZeroU64: the callers' contracts and answers are over the number itself, which may be 0 there, so that they would hold it in both forms.
 pub fn bring(clock: Clock, draws: &[u16], total: u64) -> Result<Clock, Late>
     requires { (InRange clock) × (0 < total) }
     ensures { result ≡ brought_by clock draws.now total }

@@ -1,5 +1,6 @@
 -- A byte is a digit or not; a number with one more digit is below the limit or not.
-use Rattle.std.proofs.Common.{◌≡◌, ℕ, ◌+◌, ◌-◌, ◌*◌, ◌<◌, ◌≤◌, Some, None, arith, le-ltb, lt-ltb, le-leb}
+use Rattle.std.proofs.Common.{◌≡◌, ℕ, ◌+◌, ◌-◌, ◌*◌, ◌<◌, ◌≤◌, Option, Some, None, ap, ◌∙◌, arith, le-ltb, lt-ltb, le-leb}
+use Rattle.std.specs.Option.{SomeIff}
 use borrow.Author.Tests.{lt-leb}
 use Rattle.word.specs.Number.{digit_of}
 use Rattle.token.specs.Bytes.{is_digit, within}
@@ -21,10 +22,12 @@ module _ {R : Type 0} (digit letter : R → ℕ → R) (r : R) (b : ℕ) where
       let e : b - 48 ≡ digit_of b = omega arith in
       simp (le-leb 48 b h, le-leb b 57 k, ← e)
 
-pub grown-small : (v d : ℕ) → v * 10 + d < limit → Some (v * 10 + d) ≡ number_grown v d
+-- a sum or a product that is told where it fits
+pub grown-large : (v d : ℕ) → (v * 10 < limit → ⊥) → None ≡ number_grown v d
 unfolding number_grown
-grown-small v d h = simp (lt-ltb (v * 10 + d) limit h)
+grown-large v d h = simp (le-ltb (v * 10 + d) limit (omega arith))
 
-pub grown-large : (v d : ℕ) → limit ≤ v * 10 + d → None ≡ number_grown v d
+pub grown-is : (v d n : ℕ) (r : Option ℕ) → n ≡ v * 10 → SomeIff r (n + d < limit) (n + d) → r ≡ number_grown v d
 unfolding number_grown
-grown-large v d h = simp (le-ltb (v * 10 + d) limit h)
+grown-is v d n None e h = simp (le-ltb (v * 10 + d) limit (omega (arith, e, h)))
+grown-is v d n (Some x) e h = simp (lt-ltb (v * 10 + d) limit (omega (arith, e, h.0))) (ap Some (h.1 ∙ ap (λ (m : ℕ). m + d) e))

@@ -91,7 +91,7 @@ module _ {s : List ℕ} {qs : List Line} {from : ℕ} {r : Reading} (x : LineBeg
       (subst (λ (u : List ℕ). Items u (qs ++ (q ∷ []))) (ap (λ (y : ℕ). x.items ++ (x.line ++ (y ∷ []))) (sym e) ∙ sym line_on) (Items.short x.line x.whole x.unbroken h k))
       (after-break s b from e from-here)
 
-  line-open : {q : Line} {n : ℕ} → b ≡ line_feed → line_of x.line ≡ Some q → text_of q ≡ some n → Stands (s ++ (b ∷ [])) qs (record { line = next from; from = from; part = InText q n 0 })
+  line-open : {q : Line} {n : ℕ} → b ≡ line_feed → line_of x.line ≡ Some q → text_of q ≡ some n → Stands (s ++ (b ∷ [])) qs (record { line = next from; from = from; part = InText (record { asked = q; size = n; taken = 0 }) })
   line-open e h a =
       record {
         line-is = after-break s b from e from-here;
@@ -141,7 +141,7 @@ module _ {s : List ℕ} {qs : List Line} {from : ℕ} {q : Line} {n k : ℕ} (x 
       ∙ append_assoc x.items (x.line ++ (line_feed ∷ x.text)) (b ∷ [])
       ∙ ap (λ (u : List ℕ). x.items ++ u) (append_assoc x.line (line_feed ∷ x.text) (b ∷ []))
 
-  pub text-goes : {line : ℕ} → k < n → line ≡ number_after (s ++ (b ∷ [])) → Stands (s ++ (b ∷ [])) qs (record { line = line; from = from; part = InText q n (k + 1) })
+  pub text-goes : {line : ℕ} → k < n → line ≡ number_after (s ++ (b ∷ [])) → Stands (s ++ (b ∷ [])) qs (record { line = line; from = from; part = InText (record { asked = q; size = n; taken = k + 1 }) })
   text-goes l e =
       record {
         line-is = e;

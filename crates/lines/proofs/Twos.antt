@@ -1,5 +1,6 @@
 -- The line `independent I J`: reading byte by byte comes to the word and two numbers, by induction on the bytes.
-use Rattle.std.proofs.Common.{◌≡◌, ℕ, ◌+◌, ◌*◌, ◌<◌, ◌≤◌, Bool, true, false, cond, ◌&&◌, eqb, ltb, List, [], ◌∷◌, ◌++◌, length, take, drop, sym, refl, ap, ◌∙◌, arith, ltb-false, ltb-true, le-ltb, lt-ltb, eq-eqb, ne_eqb, eqb-true, Some, None, MatchOption}
+use Rattle.std.specs.List.{slice_index_or}
+use Rattle.std.proofs.Common.{◌≡◌, ℕ, zero, suc, ◌+◌, ◌*◌, ◌<◌, ◌≤◌, Bool, true, false, cond, ◌&&◌, eqb, ltb, List, [], ◌∷◌, ◌++◌, length, take, drop, sym, refl, ap, ◌∙◌, arith, ltb-false, ltb-true, le-ltb, lt-ltb, eq-eqb, ne_eqb, eqb-true, Some, None, MatchOption}
 use Rattle.word.specs.Number.{worth, digit_of}
 use Rattle.token.specs.Bytes.{is_digit, within}
 use Rattle.token.specs.Token.{same_bytes}
@@ -172,16 +173,16 @@ no_word s n = by (same_bytes (take 12 s) independent_bytes) refl
 
 -- ---- what the code tests
 
-pub byte-is : (n i c : ℕ) → word_byte i ≡ c → n ≡ i → c ≡ word_byte n
-byte-is n i c e f = sym e ∙ sym (ap word_byte f)
-
-pub first-bytes : (word_byte 0 ≡ 101) × (word_byte 1 ≡ 110) × (word_byte 2 ≡ 100) × (word_byte 3 ≡ 101) × (word_byte 4 ≡ 110) × (word_byte 5 ≡ 116)
+pub word-at : (n : ℕ) → n < 7 → slice_index_or (101 ∷ 110 ∷ 100 ∷ 101 ∷ 110 ∷ 116 ∷ 32 ∷ []) n 0 ≡ word_byte n
 unfolding word_byte
-first-bytes = (refl, refl, refl, refl, refl, refl)
-
-pub last_byte : (n : ℕ) → (n ≡ 0 → ⊥) → (n ≡ 1 → ⊥) → (n ≡ 2 → ⊥) → (n ≡ 3 → ⊥) → (n ≡ 4 → ⊥) → (n ≡ 5 → ⊥) → 32 ≡ word_byte n
-unfolding word_byte
-last_byte n a b c d e f = simp (ne_eqb n 0 a, ne_eqb n 1 b, ne_eqb n 2 c, ne_eqb n 3 d, ne_eqb n 4 e, ne_eqb n 5 f)
+word-at zero l = refl
+word-at (suc zero) l = refl
+word-at (suc (suc zero)) l = refl
+word-at (suc (suc (suc zero))) l = refl
+word-at (suc (suc (suc (suc zero)))) l = refl
+word-at (suc (suc (suc (suc (suc zero))))) l = refl
+word-at (suc (suc (suc (suc (suc (suc zero)))))) l = refl
+word-at (suc (suc (suc (suc (suc (suc (suc n))))))) l = absurd (omega arith)
 
 pub word_on : (n b : ℕ) → n < 7 → b ≡ word_byte n → Word (n + 1) ≡ word_next n b
 unfolding word_next

@@ -93,7 +93,7 @@ pub record TextBegun (s : List ℕ) (qs : List Line) (from : ℕ) (q : Line) (n 
 
 abbrev pub Begun : List ℕ → List Line → ℕ → Part → Type 0
 Begun s qs from (InLine r) = LineBegun s qs from r
-Begun s qs from (InText q n k) = TextBegun s qs from q n k
+Begun s qs from (InText t) = TextBegun s qs from t.asked t.size t.taken
 
 -- after the bytes s, which have asked for qs, a script stands so; line is the number of the line it is in, from that of the line its last item began with
 pub record Stands (s : List ℕ) (qs : List Line) (x : Script) : Type 0 where
@@ -133,8 +133,8 @@ fresh line = record { line = line; from = line; part = InLine empty }
 
 -- the line ends that an item began with
 abbrev pub ended : ℕ → Line → Taken
-ended line (Open n) = Goes (record { line = next line; from = line; part = InText (Open n) n 0 })
-ended line (Steady n) = Goes (record { line = next line; from = line; part = InText (Steady n) n 0 })
+ended line (Open n) = Goes (record { line = next line; from = line; part = InText (record { asked = Open n; size = n; taken = 0 }) })
+ended line (Steady n) = Goes (record { line = next line; from = line; part = InText (record { asked = Steady n; size = n; taken = 0 }) })
 ended line Listing = Asks Listing (fresh (next line))
 ended line (Step d) = Asks (Step d) (fresh (next line))
 ended line State = Asks State (fresh (next line))

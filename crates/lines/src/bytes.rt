@@ -20,13 +20,10 @@ pub trait ByteByByte: Copy {
 pub fn with_byte<R: ByteByByte>(so_far: R, b: u8) -> R
     ensures { result ≡ byte_next R.digit_next R.letter_next so_far b }
 {
-    if b < b'0' {
-        return so_far.with_letter(b);
+    match b {
+        b'0'..=b'9' => so_far.with_digit(u64::from(b - b'0')),
+        _ => so_far.with_letter(b),
     }
-    if b'9' < b {
-        return so_far.with_letter(b);
-    }
-    so_far.with_digit((b - b'0') as u64)
 }
 
 // A number with one more digit, if it fits.
@@ -34,8 +31,5 @@ pub fn grow(v: u64, d: u64) -> Option<u64>
     requires { d < 10 }
     ensures { result ≡ number_grown v d }
 {
-    if v <= (u64::MAX - d) / 10 {
-        return Some(v * 10 + d);
-    }
-    None
+    v.checked_mul(10)?.checked_add(d)
 }

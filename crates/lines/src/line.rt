@@ -30,6 +30,7 @@ pub enum Line {
 }
 
 // What stands after a line's first five bytes; `T` is the last byte of `report`.
+// `Other`, not an Option of the rest: a line is read on to its end whatever stands in it, so that each byte would take the Option apart and make it again.
 #[derive(Clone, Copy)]
 pub enum Rest {
     Nothing,
@@ -62,6 +63,8 @@ pub struct Reading {
     pub two: Two,
 }
 
+// Numbers, not byte strings: of a match on the bytes the last arm is reached by 55 ways, and for each the proof would have to tell fifteen words apart from them; of the numbers it is reached by one.
+// Written out, since the value of a constant may not call `from_be_bytes`.
 #[derive(Clone, Copy)]
 pub struct Head;
 
@@ -151,7 +154,7 @@ impl ByteByByte for Rest {
     }
 }
 
-// What a line says that has nothing after its word.
+// What a line says that has nothing after its word. It and `lettered` are functions, and no `matches!` in `says`: the arms there are one call each, by which its proof goes.
 fn bare(says: Line, rest: Rest) -> Option<Line>
     ensures { result ≡ bare says rest }
 {
@@ -171,7 +174,7 @@ fn lettered(says: Line, rest: Rest) -> Option<Line>
     }
 }
 
-// What a line says whose word ends in these two bytes.
+// What a line says whose word ends in these two bytes. By an if, here and in `draw_line`: the definitions are a cond of two cases.
 fn ended(says: Line, end: u64, after: u64) -> Option<Line>
     ensures { result ≡ cond (after == end) (Some says) None }
 {
@@ -232,12 +235,12 @@ fn next_after(after: u64, b: u8) -> u64
     ensures { result ≡ after_next after b }
 {
     if after < Head::TWO {
-        return after * 256 + b as u64;
+        return after * 256 + u64::from(b);
     }
     after
 }
 
-// What stands after the first seven bytes, with one more byte, from the two before them.
+// What stands after the first seven bytes, with one more byte, from the two before them. Not one function with `next_early`: each says by its name and definition how many bytes it wants.
 fn next_late(after: u64, late: Rest, b: u8) -> Rest
     ensures { result ≡ late_next after late b }
 {
@@ -261,10 +264,7 @@ fn next_early(head: u64, early: Rest, b: u8) -> Rest
 fn next_kept(kept: u64) -> u64
     ensures { result ≡ kept_next kept }
 {
-    if kept < Head::KEPT {
-        return kept + 1;
-    }
-    kept
+    kept.saturating_add(1).min(Head::KEPT)
 }
 
 impl Reading {
@@ -286,33 +286,24 @@ impl Reading {
     pub fn with(self, b: u8) -> Self
         ensures { (s : List ℕ) → Reads s self → Reads (s ++ (b ∷ [])) result }
     {
-        let head = self.head;
-        let rest = self.rest;
-        let after = self.after;
-        let late = self.late;
-        let so_far = self.early;
         let kept = next_kept(self.kept);
-        let early = next_early(head, so_far, b);
-        let two = self.two;
-        if head < Head::FULL {
+        let early = next_early(self.head, self.early, b);
+        if self.head < Head::FULL {
             return Reading {
-                head: head * 256 + b as u64,
-                early: early,
-                rest: rest,
-                after: after,
-                late: late,
-                kept: kept,
-                two: two,
+                head: self.head * 256 + u64::from(b),
+                early,
+                kept,
+                ..self
             };
         }
         Reading {
-            head: head,
-            early: early,
-            rest: bytes::with_byte(rest, b),
-            after: next_after(after, b),
-            late: next_late(after, late, b),
-            kept: kept,
-            two: bytes::with_byte(two, b),
+            early,
+            rest: bytes::with_byte(self.rest, b),
+            after: next_after(self.after, b),
+            late: next_late(self.after, self.late, b),
+            kept,
+            two: bytes::with_byte(self.two, b),
+            ..self
         }
     }
 
@@ -320,13 +311,15 @@ impl Reading {
     pub fn says(self) -> Option<Line>
         ensures { (s : List ℕ) → Reads s self → result ≡ line_of s }
     {
-        let rest = self.rest;
-        let two = self.two;
-        let head = self.head;
-        let after = self.after;
-        let late = self.late;
-        let kept = self.kept;
-        let early = self.early;
+        let Reading {
+            head,
+            early,
+            rest,
+            after,
+            late,
+            kept,
+            two,
+        } = self;
         match head {
             Head::LIST => Some(Line::List),
             Head::STATE => bare(Line::State, rest),

@@ -5,11 +5,20 @@ ghost use Rattle.lines.specs.Script.{number_after, LineBegun, TextBegun, Stands,
 
 use crate::line::{Head, Line, Reading};
 
-// Where a script stands: in a line; or in the text that a line asks for, of so many bytes, of which so many were taken.
+// The text that a line asks for, of so many bytes, of which so many were taken.
+// The size is the number that the line says, which not every line has.
+#[derive(Clone, Copy)]
+pub struct Text {
+    pub asked: Line,
+    pub size: u64,
+    pub taken: u64,
+}
+
+// Where a script stands: in a line, or in a text.
 #[derive(Clone, Copy)]
 pub enum Part {
     InLine(Reading),
-    InText(Line, u64, u64),
+    InText(Text),
 }
 
 // The line that goes on, and the line that the present item began with, from 1.
@@ -21,6 +30,7 @@ pub struct Script {
 }
 
 // What a byte does that is right: the item goes on, or it ends and asks for this.
+// Not a Script with an Option of a Line: what is promised of the two cases differs, and is said of each by its name.
 #[derive(Clone, Copy)]
 pub enum Taken {
     Goes(Script),
@@ -36,7 +46,7 @@ pub struct Broken {
 fn next_line(line: u64) -> u64
     ensures { result ≡ next line }
 {
-    std::num::wrapping_add_u64(line, 1)
+    line.wrapping_add(1)
 }
 
 // The number of the line after a byte of a text.
@@ -66,15 +76,14 @@ fn end_line(line: u64, says: Line) -> Taken
 {
     let next = next_line(line);
     match says {
-        Line::Open(n) => Taken::Goes(Script {
+        Line::Open(size) | Line::Steady(size) => Taken::Goes(Script {
             line: next,
             from: line,
-            part: Part::InText(Line::Open(n), n, 0),
-        }),
-        Line::Steady(n) => Taken::Goes(Script {
-            line: next,
-            from: line,
-            part: Part::InText(Line::Steady(n), n, 0),
+            part: Part::InText(Text {
+                asked: says,
+                size,
+                taken: 0,
+            }),
         }),
         asked => Taken::Asks(asked, begin(next)),
     }
@@ -96,27 +105,23 @@ fn take_in_line(from: u64, reading: Reading, b: u8) -> Result<Taken, Broken>
     }))
 }
 
-fn take_in_text(
-    line: u64,
-    from: u64,
-    asked: Line,
-    size: u64,
-    taken: u64,
-    b: u8,
-) -> Result<Taken, Broken>
-    ensures { (s : List ℕ) (qs : List Asked) → line ≡ number_after s → TextBegun s qs from asked size taken → Takes s qs b result }
+fn take_in_text(line: u64, from: u64, text: Text, b: u8) -> Result<Taken, Broken>
+    ensures { (s : List ℕ) (qs : List Asked) → line ≡ number_after s → TextBegun s qs from text.asked text.size text.taken → Takes s qs b result }
 {
-    if taken < size {
+    if text.taken < text.size {
         return Ok(Taken::Goes(Script {
             line: line_after(line, b),
             from,
-            part: Part::InText(asked, size, taken + 1),
+            part: Part::InText(Text {
+                taken: text.taken + 1,
+                ..text
+            }),
         }));
     }
     if b != b'\n' {
         return Err(Broken { from });
     }
-    Ok(Taken::Asks(asked, begin(next_line(line))))
+    Ok(Taken::Asks(text.asked, begin(next_line(line))))
 }
 
 fn line_at_end(from: u64, reading: Reading) -> Result<(), Broken>
@@ -142,7 +147,7 @@ impl Script {
         let Script { line, from, part } = self;
         match part {
             Part::InLine(reading) => take_in_line(from, reading, b),
-            Part::InText(asked, size, taken) => take_in_text(line, from, asked, size, taken, b),
+            Part::InText(text) => take_in_text(line, from, text, b),
         }
     }
 
@@ -153,7 +158,7 @@ impl Script {
         let Script { from, part, .. } = self;
         match part {
             Part::InLine(reading) => line_at_end(from, reading),
-            Part::InText(_, _, _) => Err(Broken { from }),
+            Part::InText(_) => Err(Broken { from }),
         }
     }
 }

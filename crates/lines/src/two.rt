@@ -1,61 +1,39 @@
 // What stands after the first five bytes of `independent I J`, read byte by byte, however long it is.
 ghost use Rattle.std.specs.Prelude.{◌≡◌};
-ghost use Rattle.lines.specs.Two.{word_byte, word_next, digit_next, letter_next, paired};
+ghost use Rattle.lines.specs.Two.{word_next, digit_next, letter_next, paired};
 
 use crate::bytes;
 use crate::bytes::ByteByByte;
 use crate::line::Line;
 
-// So many bytes of the word `endent `; the word and a number; a blank after them; a second number; or something else.
+// So many bytes of the word `endent `; the word and a number; a blank after them; a second number; or something else, as in Rest not an Option.
 #[derive(Clone, Copy)]
 pub enum Two {
-    Word(u64),
+    Word(usize),
     First(u64),
     Gap(u64),
     Both(u64, u64),
     Other,
 }
 
-#[derive(Clone, Copy)]
-pub struct Word;
-
-impl Word {
-    // Bytes of the word, the blank after it included.
-    pub const LENGTH: u64 = 7;
-}
-
-// Byte n of the word.
-fn word_byte(n: u64) -> u8
-    ensures { result ≡ word_byte n }
-{
-    match n {
-        0 => b'e',
-        1 => b'n',
-        2 => b'd',
-        3 => b'e',
-        4 => b'n',
-        5 => b't',
-        _ => b' ',
-    }
-}
+// The word, the blank after it included.
+const WORD: [u8; 7] = *b"endent ";
 
 // The word with one more byte.
-fn in_word(n: u64, b: u8) -> Two
+fn in_word(n: usize, b: u8) -> Two
     ensures { result ≡ word_next n b }
 {
-    if n < Word::LENGTH {
-        if b == word_byte(n) {
-            return Two::Word(n + 1);
-        }
+    if n < WORD.len() && WORD[n] == b {
+        return Two::Word(n + 1);
     }
     Two::Other
 }
 
 // The first digit, after the whole word.
-fn first_digit(n: u64, d: u64) -> Two
+fn first_digit(n: usize, d: u64) -> Two
     ensures { result ≡ digit_next (Two.Word n) d }
 {
-    if n == Word::LENGTH {
+    if n == WORD.len() {
         return Two::First(d);
     }
     Two::Other

@@ -1,5 +1,7 @@
 -- The sorts of bytes as numbers: by cases of the sort.
-use Rattle.std.proofs.Common.{◌≡◌, refl, sym, ap, ◌∙◌, ℕ, ◌<◌, Bool, false, arith}
+use Rattle.std.proofs.Common.{eqb, ◌≡◌, refl, sym, ap, ◌∙◌, ℕ, ◌<◌, Bool, false, arith}
+use denote.Enum.Bare.{sameb}
+use Rattle.token.specs.contracts.Class.{the_type}
 use Rattle.token.specs.declared.Class.{Class}
 use Rattle.token.specs.declared.Class.TheVariants.{Blank, Letter, Digit, Sign, Other}
 use Rattle.token.specs.Bytes.{within, class_number, sort_of, belongs}
@@ -44,3 +46,11 @@ off class Other h l d = sym (above_within class 2 4 (omega arith))
 pub belongs-is : (class k b : ℕ) {r : Bool} → r ≡ within class 2 k → k ≡ sort_of b → r ≡ belongs class b
 unfolding belongs
 belongs-is class k b e f = e ∙ ap (within class 2) f
+
+-- a byte is a digit exactly where its sort is
+pub digit-same : (k : Class) → sameb the_type k Digit ≡ eqb (class_number k) 2
+digit-same Blank = refl
+digit-same Letter = refl
+digit-same Digit = refl
+digit-same Sign = refl
+digit-same Other = refl

@@ -6,10 +6,7 @@ ghost use Rattle.std.specs.Prelude.{◌≤◌, length};
 ghost use Rattle.token.specs.Questions.{text_limit};
 
 use std::io;
-use token::{Kind, Limits, Refusal};
-
-// Bytes that are read: one more than a text may have.
-const MOST: usize = Limits::TEXT + 1;
+use token::{Kind, Limits};
 
 // A word or a sign is named by its own bytes.
 fn put_token(rt: &impl Print, kind: u8, place: usize, bytes: &[u8]) -> io::Result<()> {
@@ -40,9 +37,10 @@ fn put_tokens(rt: &impl Print, text: &[u8]) -> io::Result<()>
     Ok(())
 }
 
+// By hand, here and in reads and opens, not by a Display of Refusal: token is a part of the C library, in which nothing is formatted.
 fn put_no(rt: &impl Print, text: &[u8]) -> io::Result<()> {
     match token::judge_bytes(text) {
-        Err(Refusal { number, place }) => println!(rt; "refused,{number},{place}"),
+        Err(r) => println!(rt; "refused,{},{}", r.question.number(), r.place),
         Ok(()) => Ok(()),
     }
 }
@@ -55,6 +53,6 @@ fn show(rt: &impl Print, text: &[u8]) -> io::Result<()> {
 }
 
 fn main(rt: HostRuntime) -> io::Result<()> {
-    let mut space = [0u8; MOST];
+    let mut space = [0u8; Limits::READ];
     reading::show_texts(&rt, &mut space, |text| show(&rt, text))
 }

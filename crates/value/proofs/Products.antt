@@ -1,29 +1,24 @@
--- The product of two values, from their sizes.
-use mathlib.Core.Path.{◌≡◌, sym, ◌∙◌}
+-- A product that doesn't fit an i64 is no value.
+use mathlib.Core.Path.{◌≡◌, refl, sym}
 use mathlib.Core.Bool.{Bool, true, false}
-use Prim.Native.Nat.{◌*◌}
 use lib.Dec.{leb}
 use lib.IntN.{ℤ, nat_abs, ◌*ℤ◌}
 use mir.Syntax.{w64}
 use mir.Val.{SFits}
 use borrow.Author.Tests.{leb-true, leb-false}
-use Rattle.std.specs.Prelude.{None, Some}
-use Rattle.value.specs.Range.{farthest, InRange}
+use Rattle.std.specs.Prelude.{None}
+use Rattle.value.specs.Range.{farthest, value_of}
 use Rattle.value.specs.Arithmetic.{product_of}
-use Rattle.value.proofs.Sizes.{abs-mul}
-use Rattle.value.proofs.Bounds.{size_in, in-value, out-value, in-fits}
+use Rattle.value.proofs.Bounds.{size_in, out-value, in-fits}
 
-module _ (x y : ℤ) {r : Bool} (e : r ≡ leb (nat_abs x * nat_abs y) farthest) where
-  pub product-beyond : r ≡ false → None ≡ product_of x y
-  unfolding product_of
-  product-beyond t = sym (out-value (x *ℤ y) (rw (abs-mul x y) (leb-false (nat_abs x * nat_abs y) farthest (sym e ∙ t))))
+module _ (z : ℤ) (h : SFits w64 z → ⊥) where
+  by : (t : Bool) → leb (nat_abs z) farthest ≡ t → None ≡ value_of z
+  by true e = absurd (h (in-fits z (size_in z (leb-true (nat_abs z) farthest e))))
+  by false e = sym (out-value z (leb-false (nat_abs z) farthest e))
 
-  product-in : r ≡ true → InRange (x *ℤ y)
-  product-in t = size_in (x *ℤ y) (rw (abs-mul x y) (leb-true (nat_abs x * nat_abs y) farthest (sym e ∙ t)))
+  unfit : None ≡ value_of z
+  unfit = by (leb (nat_abs z) farthest) refl
 
-  pub product-fits : r ≡ true → SFits w64 (x *ℤ y)
-  product-fits t = in-fits (x *ℤ y) (product-in t)
-
-  pub product_is : r ≡ true → Some (x *ℤ y) ≡ product_of x y
-  unfolding product_of
-  product_is t = sym (in-value (x *ℤ y) (product-in t))
+pub product-beyond : (x y : ℤ) → (SFits w64 (x *ℤ y) → ⊥) → None ≡ product_of x y
+unfolding product_of
+product-beyond x y h = unfit (x *ℤ y) h

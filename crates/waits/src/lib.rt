@@ -16,10 +16,16 @@ impl Limits {
 }
 
 // Where a reading stands: before a run, with k; in one, with k, its first draw, its latest, and whether its length is odd so far; E is known; k would be 32.
+// The outcomes stand in it too, and not in a Result of it: the law of the waits is by induction over one step from place to place, `read`, which has these four.
 #[derive(Clone, Copy)]
 pub enum Run {
     Before(u64),
-    In(u64, u64, u64, bool),
+    In {
+        k: u64,
+        first: u16,
+        last: u16,
+        odd: bool,
+    },
     Known(u64),
     Over,
 }
@@ -32,16 +38,21 @@ pub enum Unread {
 }
 
 // A draw within a run: it goes on while each is less than the one before.
-fn next_in_run(k: u64, first: u64, last: u64, odd: bool, draw: u64) -> Run
-    requires { (k < 32) × (first < 65536) × (draw < 65536) }
+fn next_in_run(k: u64, first: u16, last: u16, odd: bool, draw: u16) -> Run
+    requires { k < 32 }
     ensures value { result ≡ next_in_run k first last odd draw }
     ensures fits { Fits result }
 {
     if draw < last {
-        return Run::In(k, first, draw, !odd);
+        return Run::In {
+            k,
+            first,
+            last: draw,
+            odd: !odd,
+        };
     }
     if odd {
-        return Run::Known(k * Limits::DRAWS + first);
+        return Run::Known(k * Limits::DRAWS + u64::from(first));
     }
     let next = k + 1;
     if next == Limits::RUNS {
@@ -51,14 +62,24 @@ fn next_in_run(k: u64, first: u64, last: u64, odd: bool, draw: u64) -> Run
 }
 
 // One more draw.
-fn take(run: Run, draw: u64) -> Run
-    requires { (Fits run) × (draw < 65536) }
+fn take(run: Run, draw: u16) -> Run
+    requires { Fits run }
     ensures value { result ≡ read run draw }
     ensures fits { Fits result }
 {
     match run {
-        Run::Before(k) => Run::In(k, draw, draw, true),
-        Run::In(k, first, last, odd) => next_in_run(k, first, last, odd, draw),
+        Run::Before(k) => Run::In {
+            k,
+            first: draw,
+            last: draw,
+            odd: true,
+        },
+        Run::In {
+            k,
+            first,
+            last,
+            odd,
+        } => next_in_run(k, first, last, odd, draw),
         Run::Known(_) | Run::Over => run,
     }
 }
@@ -70,11 +91,11 @@ pub fn wait_for(draws: &[u16]) -> Result<(u64, usize), Unread>
 {
     let mut run = Run::Before(0);
     for (i, &draw) in draws.iter().enumerate() {
-        run = take(run, u64::from(draw));
+        run = take(run, draw);
         match run {
             Run::Known(e) => return Ok((e, i + 1)),
             Run::Over => return Err(Unread::Long),
-            Run::Before(_) | Run::In(..) => {}
+            Run::Before(_) | Run::In { .. } => {}
         }
     }
     Err(Unread::Ended)

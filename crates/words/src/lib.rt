@@ -22,6 +22,8 @@ fn last_used(total: u64) -> u64
 }
 
 // The first word that is used, modulo the total.
+// The total is above 0 by a clause, as in `last_used`, and not a NonZeroU64: the caller's contracts and answers are over the number itself, which may be 0 there, so that it would hold it in both forms.
+// A `for`: the answer is of the word and of its place, and a chain would need enumerate, find and map, the last two with closures that capture.
 pub fn draw_from(words: &[u64], total: u64) -> Option<(u64, usize)>
     requires { 0 < total }
     ensures value { result ≡ draw_of total words.now }

@@ -4,18 +4,15 @@ use lib.ListN.{length-take, length-drop}
 use Rattle.token.proofs.Runs.{lead-le}
 use Rattle.token.proofs.Tells.{many-before, no_fraction, many-after, few-both}
 use Rattle.token.proofs.decimal_content.Goals as goal
+use Rattle.token.proofs.decimal_content.Goals.{then-n-gt-WHOLE-via-then-n-gt-WHOLE, then-n-gt-WHOLE-via-else-n-gt-WHOLE+then-s-n, then-n-gt-WHOLE-via-else-n-gt-WHOLE+else-s-n+then-n-s}
 
 pub returns-then-n-gt-WHOLE : goal.returns-then-n-gt-WHOLE
 returns-then-n-gt-WHOLE c =
-    many-before c.args.s.now c.run_end-n.result c.run_end-n.ensures c.if-n-gt-WHOLE.true
-
-pub returns-then-s-from : goal.returns-then-s-from
-returns-then-s-from c =
-    no_fraction c.args.s.now c.run_end-n.result c.run_end-n.ensures c.if-n-gt-WHOLE.false c.if-s-from.true
-
-pub returns-then-from-s : goal.returns-then-from-s
-returns-then-from-s c =
-    many-after c.args.s.now c.run_end-n.result c.run_end-n.ensures c.if-n-gt-WHOLE.false c.if-from-s.true
+    elim c.then-n-gt-WHOLE.branch [
+      | then-n-gt-WHOLE-via-then-n-gt-WHOLE w ↦ many-before c.args.s.now c.run_end-n.result c.run_end-n.ensures w.if-n-gt-WHOLE.true
+      | then-n-gt-WHOLE-via-else-n-gt-WHOLE+then-s-n w ↦ no_fraction c.args.s.now c.run_end-n.result c.run_end-n.ensures w.if-n-gt-WHOLE.false w.if-s-n.true
+      | then-n-gt-WHOLE-via-else-n-gt-WHOLE+else-s-n+then-n-s w ↦ many-after c.args.s.now c.run_end-n.result c.run_end-n.ensures w.if-n-gt-WHOLE.false w.if-n-s.true
+    ]
 
 pub slice_bounds-decimal-end : goal.slice_bounds-decimal-end
 slice_bounds-decimal-end c =
@@ -27,4 +24,4 @@ decimal-requires c =
 
 pub returns : goal.returns
 returns c =
-    few-both c.args.s.now c.run_end-n.result c.run_end-n.ensures c.decimal.result c.if-n-gt-WHOLE.false c.if-s-from.false c.if-from-s.false c.decimal.ensures
+    few-both c.args.s.now c.run_end-n.result c.run_end-n.ensures c.decimal.result c.if-n-gt-WHOLE.false c.if-s-n.false c.if-n-s.false c.decimal.ensures

@@ -1,20 +1,13 @@
-use mathlib.Core.Path.{refl}
-use native.Mathlib.Omega.{arith}
-use Rattle.token.proofs.Runs.{line_on, line-stop, line-end}
+-- The LF is the byte after those before it, or there is none.
+use Rattle.std.proofs.Common.{arith}
+use Rattle.token.proofs.Runs.{line-end, line-within}
 use Rattle.token.proofs.line_end.Goals as goal
 
-pub loop-i-init : goal.loop-i-init
-loop-i-init c =
-    refl
+pub returns-then-at-s : goal.returns-then-at-s
+returns-then-at-s c = omega (arith, line-end c.args.s.now c.args.from c.line_of.result c.requires c.line_of.ensures)
 
-pub returns-then-s-i-eq10 : goal.returns-then-s-i-eq10
-returns-then-s-i-eq10 c =
-    omega (arith, line-stop c.args.s.now c.loop-i.i (omega arith) c.if-s-i-eq10.true, c.loop-i.invariant)
+pub returns-else-at-s : goal.returns-else-at-s
+returns-else-at-s c = omega (arith, line-end c.args.s.now c.args.from c.line_of.result c.requires c.line_of.ensures, line-within c.args.s.now c.args.from c.line_of.result c.requires c.line_of.ensures)
 
-pub loop-i-preserved : goal.loop-i-preserved
-loop-i-preserved c =
-    omega (arith, line_on c.args.s.now c.loop-i.i (omega arith) c.if-s-i-eq10.false, c.loop-i.invariant)
-
-pub returns : goal.returns
-returns c =
-    omega (arith, line-end c.args.s.now c.loop-i.i (omega arith), c.loop-i.invariant)
+pub overflow_add-at : goal.overflow_add-at
+overflow_add-at c = omega (arith, line-within c.args.s.now c.args.from c.line_of.result c.requires c.line_of.ensures)

@@ -1,17 +1,12 @@
 -- Both forms of a packed name.
-use Rattle.std.proofs.Common.{◌≡◌, refl}
-use Rattle.std.specs.Prelude.{None, Some}
-use Rattle.std.specs.Option.{unwrap_or}
-use Rattle.word.specs.Name.{Name}
-use Rattle.token.specs.declared.Content.{Content}
+use Rattle.std.proofs.Common.{sym, ◌∙◌, ap}
 use Rattle.token.specs.Contents.{name_content, words_of}
 use Rattle.token.proofs.name_content.Goals as goal
 
-words-are : (o : Name) → ◌≡◌ {A = Content} (record { low = (unwrap_or o (0, 0)).0; high = (unwrap_or o (0, 0)).1 }) (words_of o)
-unfolding words_of
-words-are (Some (w, v)) = refl
-words-are None = refl
+pub returns-in-Some : goal.returns-in-Some
+unfolding name_content words_of
+returns-in-Some c = ap words_of (sym c.in-Some.is ∙ c.packed.ensures)
 
-pub returns : goal.returns
-unfolding name_content
-returns c = rw (c.unwrap_or-low.ensures, ← c.packed.ensures) (words-are _)
+pub returns-in-None : goal.returns-in-None
+unfolding name_content words_of
+returns-in-None c = ap words_of (sym c.in-None.is ∙ c.packed.ensures)

@@ -1,18 +1,13 @@
--- The run is the name; its bytes are plain, which the test for words asks.
+-- The run is the name; one of the words or not.
 use native.Mathlib.Omega.{arith}
 use lib.ListN.{length-take}
 use Rattle.token.proofs.Runs.{lead-le, lead-rest}
-use Rattle.token.proofs.Sorts.{run-plain}
 use Rattle.token.proofs.Cases.{named-is}
 use Rattle.token.proofs.named.Goals as goal
 
 pub slice_bounds-name_kind-end : goal.slice_bounds-name_kind-end
 slice_bounds-name_kind-end c =
     simp length-take (omega (arith, lead-rest 1 c.args.s.now c.run_end-n.result c.requires c.run_end-n.ensures, lead-le 1 c.args.s.now))
-
-pub name_kind-requires : goal.name_kind-requires
-name_kind-requires c =
-    rw (← lead-rest 1 c.args.s.now c.run_end-n.result c.requires c.run_end-n.ensures) at (run-plain c.args.s.now)
 
 pub returns : goal.returns
 returns c =

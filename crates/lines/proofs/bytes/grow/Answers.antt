@@ -1,10 +1,10 @@
--- The test by a quotient is the test of the number itself.
-use Rattle.std.proofs.Common.{arith}
-use Rattle.lines.proofs.OneByte.{grown-small, grown-large}
+-- The product and the sum are told where they fit.
+use Rattle.std.proofs.Common.{◌∙◌, arith}
+use Rattle.lines.proofs.OneByte.{grown-large, grown-is}
 use Rattle.lines.proofs.bytes.grow.Goals as goal
 
-pub returns-then-v-d : goal.returns-then-v-d
-returns-then-v-d c = grown-small c.args.v c.args.d (omega arith)
+pub returns-in_err-checked_mul : goal.returns-in_err-checked_mul
+returns-in_err-checked_mul c = c.from_residual.ensures ∙ grown-large c.args.v c.args.d c.in_err-checked_mul.ensures
 
 pub returns : goal.returns
-returns c = grown-large c.args.v c.args.d (omega arith)
+returns c = grown-is c.args.v c.args.d _ _ c.in_ok-checked_mul.ensures.1 c.checked_add.ensures

@@ -6,7 +6,7 @@ use Rattle.lines.proofs.line.next_after.Goals as goal
 pub returns-then-after-lt-TWO : goal.returns-then-after-lt-TWO
 unfolding after_next
 returns-then-after-lt-TWO c =
-    rw (lt-ltb c.args.after two_bytes c.if-after-lt-TWO.true) refl
+    rw (lt-ltb c.args.after two_bytes c.if-after-lt-TWO.true, c.from.ensures) refl
 
 pub returns : goal.returns
 unfolding after_next

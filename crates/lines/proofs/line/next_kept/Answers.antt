@@ -1,14 +1,8 @@
--- By whether there is room.
-use Rattle.std.proofs.Common.{refl, le-ltb, lt-ltb}
-use Rattle.lines.specs.Line.{kept_limit, kept_next}
+-- The lesser of the two, which a count that wraps would not be.
+use Rattle.std.proofs.Common.{arith}
+use Rattle.lines.specs.Line.{kept_next}
 use Rattle.lines.proofs.line.next_kept.Goals as goal
-
-pub returns-then-kept-lt-KEPT : goal.returns-then-kept-lt-KEPT
-unfolding kept_next
-returns-then-kept-lt-KEPT c =
-    rw (lt-ltb c.args.kept kept_limit c.if-kept-lt-KEPT.true) refl
 
 pub returns : goal.returns
 unfolding kept_next
-returns c =
-    rw (le-ltb c.args.kept kept_limit c.if-kept-lt-KEPT.false) refl
+returns c = omega (arith, c.saturating_add.ensures, c.min.ensures)

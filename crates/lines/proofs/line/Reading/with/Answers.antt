@@ -5,11 +5,11 @@ use Rattle.lines.specs.Two.{two_next}
 use Rattle.lines.proofs.Heads.{short_on, long-on}
 use Rattle.lines.proofs.line.Reading.with.Goals as goal
 
-pub returns-then-head-lt-FULL : goal.returns-then-head-lt-FULL
-returns-then-head-lt-FULL c =
-    λ s h. short_on c.args.b c.next_early-early.result c.next_kept-kept.result h (omega arith) c.if-head-lt-FULL.true c.next_early-early.ensures c.next_kept-kept.ensures
+pub returns-then-self-lt-FULL : goal.returns-then-self-lt-FULL
+returns-then-self-lt-FULL c =
+    rw c.from.ensures (λ s h. short_on c.args.b c.next_early-early.result c.next_kept-kept.result h (omega arith) c.if-self-lt-FULL.true c.next_early-early.ensures c.next_kept-kept.ensures)
 
 pub returns : goal.returns
 unfolding rest_next two_next
 returns c =
-    λ s h. long-on c.args.b c.next_early-early.result c.with_byte.result c.next_after.result c.next_late.result c.next_kept-kept.result c.with_byte-2.result h (omega arith) c.if-head-lt-FULL.false c.next_early-early.ensures c.with_byte.ensures c.next_after.ensures c.next_late.ensures c.next_kept-kept.ensures c.with_byte-2.ensures
+    λ s h. long-on c.args.b c.next_early-early.result c.with_byte.result c.next_after.result c.next_late.result c.next_kept-kept.result c.with_byte-2.result h (omega arith) c.if-self-lt-FULL.false c.next_early-early.ensures c.with_byte.ensures c.next_after.ensures c.next_late.ensures c.next_kept-kept.ensures c.with_byte-2.ensures

@@ -14,12 +14,12 @@ use Rattle.grammar.specs.Syntax.{rate_at, action_at, factors_at}
 use Rattle.grammar.proofs.Follows.{join, fails, wanted}
 use Rattle.grammar.proofs.Wide.{wide-factors, wide-action}
 use Rattle.tree.specs.Table
-use Rattle.tree.specs.Reading.{place, place_counted, Ready, Span, Made, Parsed, Extended, Tallied, Read, Counted}
+use Rattle.tree.specs.Reading.{place, place_counted, Span, Made, Parsed, Extended, Tallied, Read, Counted}
 use Rattle.tree.proofs.Holds.{action-interval}
 use Rattle.tree.proofs.Spans.{span-token, ◌then◌, span-place, seen-later, next-at, fault-at, made_of, grown-of, fault-size, extended-as}
 use Rattle.syntax.specs.Channels.{third_at, Items}
 use Rattle.syntax.specs.Processes.{Spare}
-use Rattle.syntax.specs.Braces.{flat_closed, flat_rated, flat_inside, flat_rest, rest_at, Rating, Ended, ReadyAfter, Inside, Done, Seconds}
+use Rattle.syntax.specs.Braces.{flat_closed, flat_rated, flat_inside, flat_rest, rest_at, Rating, Inside, Done, Seconds}
 use Rattle.syntax.proofs.Answers.{Continues}
 use Rattle.syntax.proofs.Symbols.{wants, lacks, onward}
 use Rattle.syntax.proofs.Expressions.{Factors, Terms}
@@ -60,35 +60,41 @@ module _ (ts t t₁ : List ℕ) (at left : ℕ) {r : Read} (a : Rate ts t t₁ a
 
 -- ---- an action that was read, and then its rate
 
-module _ (ts t : List ℕ) {read : Read} where
-  pub rated-fault : {k : ℕ} → read ≡ Err k → Ended ts t t read (Err k)
-  unfolding Ended
-  rated-fault e = rw e (refl, refl)
+abbrev pub Rated : List ℕ → List ℕ → List ℕ → ℕ → ℕ → Counted → Type 0
+Rated ts t t' at left r = Follows ts at (the_rate ++ Want kind.close_curly ∷ []) (place_counted r) × (Rating ts t t' at left r × Spare (at + 1) (left + 1) left r)
 
-  module _ {n left : ℕ} (e : read ≡ Ok (n, left)) where
-    pub rated-ready : ReadyAfter ts read → Ready ts n (left + 1)
-    unfolding ReadyAfter
-    rated-ready h = rw e at h
+module _ (ts t : List ℕ) (n left : ℕ) where
+  pub rated-open : n ≤ length ts → (get_or ts n 0 ≡ kind.comma → ⊥) → Rated ts t t n left (Err n)
+  unfolding place_counted Tallied Spare
+  rated-open h q = (lacks ts n _ kind.comma h q, (refl, tt))
 
-    pub rated-open : n ≤ length ts → (get_or ts n 0 ≡ kind.comma → ⊥) → Ended ts t t read (Err n)
-    unfolding Ended place_counted Tallied Spare
-    rated-open h q = rw e (lacks ts n _ kind.comma h q, (refl, tt))
+  pub rated-made : (t₁ : List ℕ) (r : Counted) → get_or ts n 0 ≡ kind.comma → Closing ts t t₁ (n + 1) left r → Rated ts t t₁ n left r
+  unfolding place_counted Tallied Spare flat_rated
+  rated-made t₁ (Ok (m, root, c)) q b = (
+    wants ts n _ kind.comma q (omega arith) (λ l. b.0),
+    (
+      record {
+        made = record { tree = b.1.0.made.tree; span = span-token kind.comma q (omega arith) then b.1.0.made.span; shown = b.1.0.made.shown };
+        counted = b.1.0.counted;
+        rarer = omega (arith, b.1.0.rarer);
+      },
+      b.1.1,
+    ),
+  )
+  rated-made t₁ (Err k) q b = (wants ts n _ kind.comma q (omega arith) (λ l. b.0), b.1)
 
-    pub rated-made : (t₁ : List ℕ) (r : Counted) → get_or ts n 0 ≡ kind.comma → Closing ts t t₁ (n + 1) left r → Ended ts t t₁ read r
-    unfolding Ended place_counted Tallied Spare flat_rated
-    rated-made t₁ (Ok (m, root, c)) q b =
-        rw e (
-          wants ts n _ kind.comma q (omega arith) (λ l. b.0),
-          (
-            record {
-              made = record { tree = b.1.0.made.tree; span = span-token kind.comma q (omega arith) then b.1.0.made.span; shown = b.1.0.made.shown };
-              counted = b.1.0.counted;
-              rarer = omega (arith, b.1.0.rarer);
-            },
-            b.1.1,
-          ),
-        )
-    rated-made t₁ (Err k) q b = rw e (wants ts n _ kind.comma q (omega arith) (λ l. b.0), b.1)
+-- the same after an action's answer: one that failed is passed on
+unfoldable pub Ended : List ℕ → List ℕ → List ℕ → Read → Counted → Type 0
+Ended ts t t' (Ok (n, left)) r = Rated ts t t' n left r
+Ended ts t t' (Err k) r = (r ≡ Err k) × (t' ≡ t)
+
+pub ended-fault : (ts t : List ℕ) {read : Read} {k : ℕ} → read ≡ Err k → Ended ts t t read (Err k)
+unfolding Ended
+ended-fault ts t e = rw e (refl, refl)
+
+pub ended-made : (ts t t₁ : List ℕ) {read : Read} {n left : ℕ} (r : Counted) → read ≡ Ok (n, left) → Rated ts t t₁ n left r → Ended ts t t₁ read r
+unfolding Ended
+ended-made ts t t₁ r e z = rw e z
 
 -- ---- an action and its rate
 

@@ -9,9 +9,8 @@ use Rattle.token.specs.Kind as kind
 use Rattle.grammar.specs.Machine.{Want, ChannelEnd, a_channel}
 use Rattle.grammar.proofs.Alike.{checking, shaking, channel, named-channel}
 use Rattle.tree.specs.Reading.{Read, Counted}
-use Rattle.syntax.specs.Braces.{Ended}
 use Rattle.syntax.proofs.Deeds.{Acts, checked, shaken}
-use Rattle.syntax.proofs.Braces.{bracing}
+use Rattle.syntax.proofs.Braces.{Ended, bracing}
 use Rattle.syntax.proofs.Lone.{Bracing}
 
 module _ (ts t t₁ : List ℕ) (at used : ℕ) where

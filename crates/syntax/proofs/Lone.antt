@@ -29,11 +29,11 @@ use Rattle.tree.proofs.Holds.{expr-interval, scale-interval, action-interval}
 use Rattle.tree.proofs.Spans.{span-token, ◌then◌, span-as, Wrote, wrote-size, span-wrote, span-over, span-place, Seen, seen-later, seen-over, seen-leaf, seen-two, next-at, fault-at, made_of, grown-of, fault-size}
 use Rattle.syntax.specs.Channels.{Third, no_third, third, flat_third, third_at}
 use Rattle.syntax.specs.Actions.{flat_deed}
-use Rattle.syntax.specs.Braces.{flat_closed, flat_rated, flat_inside, flat_rest, rest_at, Ended, Inside, Seconds, Either}
+use Rattle.syntax.specs.Braces.{flat_closed, flat_rated, flat_inside, flat_rest, rest_at, Inside, Seconds, Either}
 use Rattle.syntax.proofs.Forms.{span-paid}
 use Rattle.syntax.proofs.Expressions.{Atom, Expr}
 use Rattle.syntax.proofs.Deeds.{action_of, action-text, action-at}
-use Rattle.syntax.proofs.Braces.{Rest, Closing, rated-made, inner_made}
+use Rattle.syntax.proofs.Braces.{Rest, Closing, Rated, rated-made, inner_made}
 use Rattle.syntax.proofs.Widths.{wide-begun, wide-times}
 
 -- what is below a node stays when that node is written
@@ -181,6 +181,16 @@ Product ts t t' name used digits r = Follows ts (digits + 1 + 1) (Atom' ∷ Lone
 abbrev pub Second : List ℕ → List ℕ → List ℕ → ℕ → ℕ → ℕ → Counted → Type 0
 Second ts t t' at first mid r = Follows ts at (ThirdItem ∷ the_deed ++ closing) (place_counted r) × Seconds ts t t' at first mid r
 
+-- after the last of these tokens: perhaps a `*` and an atom
+pub data Factored (ts t t₁ : List ℕ) (used digits n root : ℕ) : Type 0 where
+  bare : (get_or ts (digits + 1) 0 ≡ kind.times → ⊥) → n ≡ digits + 1 → root ≡ used + 1 → t₁ ≡ t → Factored ts t t₁ used digits n root
+  multiplied : get_or ts (digits + 1) 0 ≡ kind.times → (r : Read) (i : ℕ) → Atom ts t t₁ (digits + 1 + 1) (used + 1 + 1) r → r ≡ Ok (n, i) → root ≡ i + 1 → Factored ts t t₁ used digits n root
+
+-- the node over the two, if there are two
+pub data Over (t t' : List ℕ) (root op left : ℕ) : Type 0 where
+  alone : (left < root → ⊥) → t' ≡ t → Over t t' root op left
+  over : left < root → Wrote t t' root op 0 left 0 → Over t t' root op left
+
 module _ (ts t : List ℕ) (name used digits rate item : ℕ) (o : (get_or ts name 0 ≡ kind.name) × (get_or ts (name + 1) 0 ≡ kind.comma)) (x : Either ts (name + 1 + 1) digits rate item) where
   -- the tokens up to here, as a wait's and as a channel's
   scale-span : {s : List ℕ} → Span (λ us. kind.name ∷ kind.comma ∷ flat_scale x.scale us) ts s s name used (digits + 1) used
@@ -201,7 +211,7 @@ module _ (ts t : List ℕ) (name used digits rate item : ℕ) (o : (get_or ts na
 
   -- ---- no `*`
 
-  pub undecided-wait : {t₁ t₂ : List ℕ} → get_or ts (digits + 1) 0 ≡ kind.close_curly → Wrote t t₁ used node.wait name 0 0 → Wrote t₁ t₂ (used + 1) rate digits 0 0 → Undecided ts t t₂ name used digits (Ok (digits + 1 + 1, used + 1, used))
+  undecided-wait : {t₁ t₂ : List ℕ} → get_or ts (digits + 1) 0 ≡ kind.close_curly → Wrote t t₁ used node.wait name 0 0 → Wrote t₁ t₂ (used + 1) rate digits 0 0 → Undecided ts t t₂ name used digits (Ok (digits + 1 + 1, used + 1, used))
   unfolding place_counted Inside flat_inside flat_rated flat_closed flat_action flat_rate action_at rate_at wide Table.Action Table.Rate
   undecided-wait {t₁} {t₂} q v w = (
     scale-ends ts (digits + 1) q,
@@ -230,7 +240,7 @@ module _ (ts t : List ℕ) (name used digits rate item : ℕ) (o : (get_or ts na
         }
 
     module _ (n : get_or ts (digits + 1) 0 ≡ kind.close_curly → ⊥) (m : get_or ts (digits + 1) 0 ≡ kind.times → ⊥) (t₃ : List ℕ) {r : Read} (a : Rest ts t₂ t₃ (digits + 1) (used + 1) r) where
-      pub undecided-fault : {k : ℕ} → r ≡ Err k → Undecided ts t t₃ name used digits (Err k)
+      undecided-fault : {k : ℕ} → r ≡ Err k → Undecided ts t t₃ name used digits (Err k)
       unfolding place_counted Inside Extended
       undecided-fault {k} e =
           let z : length t₃ ≡ length t₂ = rw e at a.1 in
@@ -240,7 +250,7 @@ module _ (ts t : List ℕ) (name used digits rate item : ℕ) (o : (get_or ts na
         undecided-begun : Begun flat_expr expr_at ts t t₃ name used i mid
         undecided-begun = begun_more atom_first atom-text (λ y. wide-begun (wide-atom y)) atom-shows undecided-start (grown-of e a.1)
 
-        pub undecided-done : (t₄ : List ℕ) (r' : Counted) → Second ts t₃ t₄ i used mid r' → Undecided ts t t₄ name used digits r'
+        undecided-done : (t₄ : List ℕ) (r' : Counted) → Second ts t₃ t₄ i used mid r' → Undecided ts t t₄ name used digits r'
         undecided-done t₄ r' s = (
           scale-channel ts (digits + 1) n m (join ts (digits + 1) i (Factors' ∷ Terms' ∷ []) _ (next-at e a.0) s.0),
           begun-inside ts t t₃ t₄ name used i mid r' undecided-begun s.1,
@@ -249,16 +259,16 @@ module _ (ts t : List ℕ) (name used digits rate item : ℕ) (o : (get_or ts na
   -- ---- a `*`
 
   module _ (q : get_or ts (digits + 1) 0 ≡ kind.times) where
-    pub undecided-times : (t₁ : List ℕ) (r : Counted) → Product ts t t₁ name used digits r → Undecided ts t t₁ name used digits r
+    undecided-times : (t₁ : List ℕ) (r : Counted) → Product ts t t₁ name used digits r → Undecided ts t t₁ name used digits r
     undecided-times t₁ r p = (scale-times ts (digits + 1) q (λ l. p.0), p.1)
 
     module _ (t₁ : List ℕ) {r : Read} (a : Atom ts t t₁ (digits + 1 + 1) (used + 1 + 1) r) where
-      pub product-fault : {k : ℕ} → r ≡ Err k → Product ts t t₁ name used digits (Err k)
+      product-fault : {k : ℕ} → r ≡ Err k → Product ts t t₁ name used digits (Err k)
       unfolding place_counted Inside
       product-fault {k} e = (fails ts (digits + 1 + 1) k (Atom' ∷ []) _ (fault-at e a.0), fault-size _ _ ts t t₁ (digits + 1 + 1) (used + 1 + 1) e a.1)
 
       module _ {n i : ℕ} (e : r ≡ Ok (n, i)) where
-        pub product-wait : {t₂ t₃ t₄ : List ℕ} → get_or ts n 0 ≡ kind.close_curly → Wrote t₁ t₂ used node.wait name 0 0 → Wrote t₂ t₃ (used + 1) rate digits 0 0 → Wrote t₃ t₄ (i + 1) node.scaled 0 (used + 1) 0 → Product ts t t₄ name used digits (Ok (n + 1, i + 1, used))
+        product-wait : {t₂ t₃ t₄ : List ℕ} → get_or ts n 0 ≡ kind.close_curly → Wrote t₁ t₂ used node.wait name 0 0 → Wrote t₂ t₃ (used + 1) rate digits 0 0 → Wrote t₃ t₄ (i + 1) node.scaled 0 (used + 1) 0 → Product ts t t₄ name used digits (Ok (n + 1, i + 1, used))
         unfolding place_counted Inside flat_inside flat_rated flat_closed flat_action flat_rate action_at rate_at wide Table.Action Table.Rate
         product-wait {t₂} {t₃} {t₄} z u v w =
             let p = made_of e a.1 in
@@ -297,7 +307,7 @@ module _ (ts t : List ℕ) (name used digits rate item : ℕ) (o : (get_or ts na
               }
 
           module _ (t₅ : List ℕ) {r₂ : Read} (c : Rest ts t₄ t₅ n (i + 1) r₂) where
-            pub product-stops : {k : ℕ} → r₂ ≡ Err k → Product ts t t₅ name used digits (Err k)
+            product-stops : {k : ℕ} → r₂ ≡ Err k → Product ts t t₅ name used digits (Err k)
             unfolding place_counted Inside Extended
             product-stops {k} d =
                 let y : length t₅ ≡ length t₄ = rw d at c.1 in (
@@ -310,11 +320,36 @@ module _ (ts t : List ℕ) (name used digits rate item : ℕ) (o : (get_or ts na
               unfolding flat_two
               product-begun = begun_more two_first two-text (λ y. wide-begun (wide-times y.0 y.1)) two-shows product-start (grown-of d c.1)
 
-              pub product-done : (t₆ : List ℕ) (r' : Counted) → Second ts t₅ t₆ m used mid r' → Product ts t t₆ name used digits r'
+              product-done : (t₆ : List ℕ) (r' : Counted) → Second ts t₅ t₆ m used mid r' → Product ts t t₆ name used digits r'
               product-done t₆ r' s = (
                 join ts (digits + 1 + 1) n (Atom' ∷ []) _ (next-at e a.0) (product-channel ts n z (join ts n m (Factors' ∷ Terms' ∷ []) _ (next-at d c.0) s.0)),
                 begun-inside ts t t₅ t₆ name used m mid r' product-begun s.1,
               )
+
+  -- ---- either
+
+  pub undecided-atom : (t₁ : List ℕ) {k : ℕ} {r : Read} → get_or ts (digits + 1) 0 ≡ kind.times → Atom ts t t₁ (digits + 1 + 1) (used + 1 + 1) r → r ≡ Err k → Undecided ts t t₁ name used digits (Err k)
+  undecided-atom t₁ q a e = undecided-times q t₁ _ (product-fault q t₁ a e)
+
+  module _ {n root : ℕ} {t₁ t₂ t₃ t₄ : List ℕ} where
+    pub undecided-waits : Factored ts t t₁ used digits n root → get_or ts n 0 ≡ kind.close_curly → Wrote t₁ t₂ used node.wait name 0 0 → Wrote t₂ t₃ (used + 1) rate digits 0 0 → Over t₃ t₄ root node.scaled (used + 1) → Undecided ts t t₄ name used digits (Ok (n + 1, root, used))
+    undecided-waits (bare m e d k) z u v (alone l h) = rw (e, d, h) (undecided-wait (rw e at z) (rw k at u) v)
+    undecided-waits (bare m e d k) z u v (over l w) = absurd (omega arith)
+    undecided-waits (multiplied q r i a e d) z u v (alone l h) = absurd (omega (arith, (made_of e a.1).span.more))
+    undecided-waits (multiplied q r i a e d) z u v (over l w) = rw d (undecided-times q t₄ _ (product-wait q t₁ a e z u v (rw d at w)))
+
+    module _ (t₅ : List ℕ) {r₂ : Read} where
+      pub undecided-stops : {k : ℕ} → Factored ts t t₁ used digits n root → (get_or ts n 0 ≡ kind.close_curly → ⊥) → Wrote t₁ t₂ used node.named name 0 0 → Wrote t₂ t₃ (used + 1) item digits 0 0 → Over t₃ t₄ root (op_kind Syntax.times) (used + 1) → Rest ts t₄ t₅ n root r₂ → r₂ ≡ Err k → Undecided ts t t₅ name used digits (Err k)
+      undecided-stops (bare m e d k) z u v (alone l h) c y = undecided-fault (rw k at u) v (rw e at z) m t₅ (rw (h, e, d) at c) y
+      undecided-stops (bare m e d k) z u v (over l w) c y = absurd (omega arith)
+      undecided-stops (multiplied q r i a e d) z u v (alone l h) c y = absurd (omega (arith, (made_of e a.1).span.more))
+      undecided-stops (multiplied q r i a e d) z u v (over l w) c y = undecided-times q t₅ _ (product-stops q t₁ a e z u v (rw d at w) t₅ (rw d at c) y)
+
+      pub undecided-ends : {m mid : ℕ} (t₆ : List ℕ) (r' : Counted) → Factored ts t t₁ used digits n root → (get_or ts n 0 ≡ kind.close_curly → ⊥) → Wrote t₁ t₂ used node.named name 0 0 → Wrote t₂ t₃ (used + 1) item digits 0 0 → Over t₃ t₄ root (op_kind Syntax.times) (used + 1) → Rest ts t₄ t₅ n root r₂ → r₂ ≡ Ok (m, mid) → Second ts t₅ t₆ m used mid r' → Undecided ts t t₆ name used digits r'
+      undecided-ends t₆ r' (bare m e d k) z u v (alone l h) c y s = undecided-done (rw k at u) v (rw e at z) m t₅ (rw (h, e, d) at c) y t₆ r' s
+      undecided-ends t₆ r' (bare m e d k) z u v (over l w) c y s = absurd (omega arith)
+      undecided-ends t₆ r' (multiplied q r i a e d) z u v (alone l h) c y s = absurd (omega (arith, (made_of e a.1).span.more))
+      undecided-ends t₆ r' (multiplied q r i a e d) z u v (over l w) c y s = undecided-times q t₆ r' (product-done q t₁ a e z u v (rw d at w) t₅ (rw d at c) y t₆ r' s)
 
 -- ---- after a name and a comma
 
@@ -338,9 +373,9 @@ module _ (ts t : List ℕ) (at used : ℕ) (o : (get_or ts at 0 ≡ kind.name) �
   -- a wait
   module _ {t₁ : List ℕ} (w : Wrote t t₁ used node.wait at 0 0) (t₂ : List ℕ) (r : Counted) (b : Closing ts t₁ t₂ (at + 1 + 1) used r) where
     waits : Inside ts t t₂ at used r
-    unfolding Ended flat_action action_at Table.Action
+    unfolding flat_action action_at Table.Action
     waits =
-        let z : Ended ts t₁ t₂ (Ok (at + 1, used)) r = rated-made ts t₁ refl t₂ r o.1 b in
+        let z : Rated ts t₁ t₂ (at + 1) used r = rated-made ts t₁ (at + 1) used t₂ r o.1 b in
         inner_made ts t t₁ t₂ at used (at + 1) used r (record { tree = Grammar.wait; span = span-wrote w (span-token kind.name o.0 (omega arith)) (omega arith); shown = seen-leaf w }) z.1.0 z.1.1
 
     pub lone-decimal : get_or ts (at + 1 + 1) 0 ≡ kind.decimal → Bracing ts t t₂ at used r

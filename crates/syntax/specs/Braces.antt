@@ -1,14 +1,12 @@
 -- What action and rate in their braces are written as, after the `{`, and what their readers answer (01, Guarded prefix; 02, note 7). Assumes nothing: these
 -- are definitions.
-use Rattle.std.specs.Prelude.{◌≡◌, List, [], ◌∷◌, ◌++◌, ℕ, ◌+◌, ◌<◌, ◌≤◌, length, drop, Err, Ok}
+use Rattle.std.specs.Prelude.{◌≡◌, List, ◌∷◌, ℕ, ◌+◌, ◌<◌, ◌≤◌, length, drop, Err, Ok}
 use Rattle.token.specs.Kind as kind
 use Rattle.grammar.specs.Grammar.{Factors, Terms, Atom, Scale, Action, Rate, flat_factors, flat_terms, flat_atom, flat_scale, flat_action, flat_rate}
 use Rattle.grammar.specs.Syntax
 use Rattle.grammar.specs.Syntax.{wide, factors_at, terms_at, atom_at, scale_at, rate_at, action_at}
-use Rattle.grammar.specs.Machine.{Want, the_rate}
-use Rattle.grammar.specs.Follows.{Follows}
 use Rattle.tree.specs.Table
-use Rattle.tree.specs.Reading.{place_counted, Ready, Span, Tallied, Read, Counted}
+use Rattle.tree.specs.Reading.{Span, Tallied, Counted}
 use Rattle.syntax.specs.Actions.{Deed, flat_deed, deed_at}
 use Rattle.syntax.specs.Channels.{Third, flat_third, third_at}
 use Rattle.syntax.specs.Processes.{Spare}
@@ -26,15 +24,6 @@ flat_inside a r ts = flat_action a (flat_rated r ts)
 -- after an action that was read, with its root at `left`: the answers of the reader of its rate, which gives that root back
 abbrev pub Rating : List ℕ → List ℕ → List ℕ → ℕ → ℕ → Counted → Type 0
 Rating ts t t' at left = Tallied flat_rated (λ v. 0) (λ s v. Table.Rate s (rate_at v (at + 1))) ts t t' at (left + 1) left
-
-unfoldable pub Ended : List ℕ → List ℕ → List ℕ → Read → Counted → Type 0
-Ended ts t t' (Ok (n, left)) r = Follows ts n (the_rate ++ Want kind.close_curly ∷ []) (place_counted r) × (Rating ts t t' n left r × Spare (n + 1) (left + 1) left r)
-Ended ts t t' (Err k) r = (r ≡ Err k) × (t' ≡ t)
-
--- where that reader may start
-unfoldable pub ReadyAfter : List ℕ → Read → Type 0
-ReadyAfter ts (Ok (n, left)) = Ready ts n (left + 1)
-ReadyAfter ts (Err k) = Unit {0}
 
 -- action and rate were read, with their roots at `left` and root: with the comma and the `}`, there are two tokens more than nodes
 pub record Inner (ts t t' : List ℕ) (at used n root left : ℕ) : Type 0 where

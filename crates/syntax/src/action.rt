@@ -1,12 +1,12 @@
 // Reads actions.
-ghost use Rattle.std.specs.Prelude.{◌≡◌, [], ◌∷◌, ◌++◌, ◌+◌, ◌≤◌, ◌<◌, length, get_or};
+ghost use Rattle.std.specs.Prelude.{◌≡◌, [], ◌∷◌, ◌++◌, ◌+◌, ◌<◌, get_or};
 ghost use Rattle.token.specs.Kind as kind;
 ghost use Rattle.grammar.specs.Grammar.{flat_action};
 ghost use Rattle.grammar.specs.Machine.{Want, BoundNames, ChannelEnd, HandEnd, a_channel, the_values, the_sets, the_names};
 ghost use Rattle.grammar.specs.Follows.{Follows};
 ghost use Rattle.grammar.specs.Syntax.{action_at};
 ghost use Rattle.tree.specs.Table;
-ghost use Rattle.tree.specs.Reading.{token_room, place, Parsed, Extended};
+ghost use Rattle.tree.specs.Reading.{place, Parsed, Extended};
 ghost use Rattle.syntax.specs.Names.{Listing};
 ghost use Rattle.syntax.specs.Actions.{flat_sent, flat_heard, flat_deed, Sent, Heard, deed_at};
 
@@ -15,28 +15,26 @@ use crate::entries::{Set, Value, entries};
 use crate::left::Left;
 use crate::spot::Spot;
 use token::Kind;
-use tree::{NodeKind, Read};
+use tree::{Members, NodeKind, Read};
 
 // Names parted by commas and the bracket after them: the next token, and how many names.
-pub fn names(toks: &[u8], at: usize, close: u8) -> Read
-    requires at_in_bounds { at ≤ length toks.now }
-    requires toks_len_bound { length toks.now ≤ token_room }
+pub fn names(spot: Spot, close: u8) -> Members
     requires close_nonzero { (0 < close) × (close ≡ kind.comma → ⊥) }
-    ensures follows { Follows toks.now at (the_names ++ Want close ∷ []) (place result) }
-    ensures listing { Listing toks.now at close result }
+    ensures follows { Follows spot.entry.toks.now spot.entry.at (the_names ++ Want close ∷ []) (place result) }
+    ensures listing { Listing spot.entry.toks.now spot.entry.at close result }
 {
-    if token::peek(toks, at) != Kind::NAME {
-        return Err(at);
+    if spot.peek() != Kind::NAME {
+        return Err(spot.at);
     }
-    let n = at + 1;
-    let t = token::peek(toks, n);
+    let n = spot.at + 1;
+    let t = token::peek(spot.toks, n);
     if t == close {
         return Ok((n + 1, 1));
     }
     if t != b',' {
         return Err(n);
     }
-    let (m, count) = names(toks, n + 1, close)?;
+    let (m, count) = names(spot.to(n + 1, spot.used), close)?;
     Ok((m, count + 1))
 }
 
@@ -46,9 +44,10 @@ pub fn sending(left: Left, nodes: &mut [u64], kind: u8) -> Read
     ensures follows { Follows left.entry.toks.now (left.entry.at + 1) (the_values) (place result) }
     ensures extended { Extended (flat_sent (get_or left.entry.toks.now left.entry.at 0)) (λ c v. (c, v)) Table.Channel (Sent kind left.entry.at) left.entry.toks.now nodes.old nodes.new left.entry.at left.entry.root result }
 {
-    let (n, r) = entries::<Value>(left.next(), nodes)?;
+    let spot = left.spot();
+    let (n, r) = entries::<Value>(spot.next(), nodes)?;
     let root = r + 1;
-    tree::node(nodes, root, kind, 0, left.root, 0);
+    tree::pair(nodes, root, kind, left.root);
     Ok((n, root))
 }
 
@@ -59,14 +58,15 @@ pub fn receiving(left: Left, nodes: &mut [u64], kind: u8) -> Read
     ensures follows { Follows left.entry.toks.now (left.entry.at + 1) (the_sets ++ BoundNames ∷ []) (place result) }
     ensures extended { Extended (flat_heard (get_or left.entry.toks.now left.entry.at 0)) (λ c h. (c, h)) Table.Channel (Heard kind left.entry.at) left.entry.toks.now nodes.old nodes.new left.entry.at left.entry.root result }
 {
-    let (n, r) = entries::<Set>(left.next(), nodes)?;
+    let spot = left.spot();
+    let (n, r) = entries::<Set>(spot.next(), nodes)?;
     let root = r + 1;
-    if token::peek(left.toks, n) != b'(' {
-        tree::node(nodes, root, kind, 0, left.root, 0);
+    if token::peek(spot.toks, n) != b'(' {
+        tree::pair(nodes, root, kind, left.root);
         return Ok((n, root));
     }
     let first = n + 1;
-    let (m, count) = names(left.toks, first, b')')?;
+    let (m, count) = names(spot.to(first, root + 1), b')')?;
     tree::node(nodes, root, kind + 1, first, left.root, count);
     Ok((m, root))
 }
@@ -76,7 +76,8 @@ pub fn deed(left: Left, nodes: &mut [u64]) -> Read
     ensures follows { Follows left.entry.toks.now left.entry.at (ChannelEnd ∷ []) (place result) }
     ensures extended { Extended flat_deed (λ c d. deed_at c d left.entry.at) Table.Channel Table.Action left.entry.toks.now nodes.old nodes.new left.entry.at left.entry.root result }
 {
-    match left.peek() {
+    let spot = left.spot();
+    match spot.peek() {
         b'!' => sending(left, nodes, NodeKind::LAUNCH),
         b'#' => sending(left, nodes, NodeKind::KILL),
         b'?' => receiving(left, nodes, NodeKind::RECEIVE),
@@ -105,7 +106,7 @@ pub fn check(spot: Spot, nodes: &mut [u64]) -> Read
     }
     let (m, r) = entries::<Set>(spot.to(n + 1, left + 1), nodes)?;
     let root = r + 1;
-    tree::node(nodes, root, NodeKind::CHECK, 0, left, 0);
+    tree::pair(nodes, root, NodeKind::CHECK, left);
     Ok((m, root))
 }
 

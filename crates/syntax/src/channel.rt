@@ -27,11 +27,12 @@ pub fn seconds(left: Left, nodes: &mut [u64]) -> Read
     ensures follows { Follows left.entry.toks.now left.entry.at (SecondItem ∷ []) (place result) }
     ensures extended { Extended flat_more (λ e m. more_at e m left.entry.at) Table.Expr Table.Channel left.entry.toks.now nodes.old nodes.new left.entry.at left.entry.root result }
 {
-    if left.peek() != b',' {
+    let spot = left.spot();
+    if spot.peek() != b',' {
         return Ok((left.at, left.root));
     }
-    let (n, mid) = expression::expr(left.next(), nodes)?;
-    thirds(left.after(n, mid), nodes, left.root)
+    let (n, mid) = expression::expr(spot.next(), nodes)?;
+    thirds(spot.after(n, mid), nodes, left.root)
 }
 
 // What follows a channel's first two items, which are at `first` and on the left: perhaps one more. Unlike `seconds` it always makes a node.
@@ -40,12 +41,13 @@ pub fn thirds(left: Left, nodes: &mut [u64], first: usize) -> Read
     ensures follows { Follows left.entry.toks.now left.entry.at (ThirdItem ∷ []) (place result) }
     ensures items { Items left.entry.toks.now nodes.old nodes.new left.entry.at first left.entry.root result }
 {
-    if left.peek() != b',' {
+    let spot = left.spot();
+    if spot.peek() != b',' {
         let root = left.root + 1;
-        tree::node(nodes, root, NodeKind::TWO_ITEMS, 0, first, 0);
+        tree::pair(nodes, root, NodeKind::TWO_ITEMS, first);
         return Ok((left.at, root));
     }
-    let (n, r) = expression::expr(left.next(), nodes)?;
+    let (n, r) = expression::expr(spot.next(), nodes)?;
     let root = r + 1;
     tree::node(nodes, root, NodeKind::THREE_ITEMS, 0, first, left.root);
     Ok((n, root))

@@ -43,7 +43,7 @@ pub fn compare(spot: Spot, nodes: &mut [u64], more: u8) -> Read
     };
     let (m, r) = expression::expr(spot.to(n + 1, left + 1), nodes)?;
     let root = r + 1;
-    tree::node(nodes, root, kind + more, 0, left, 0);
+    tree::pair(nodes, root, kind + more, left);
     Ok((m, root))
 }
 
@@ -59,18 +59,19 @@ pub fn test(spot: Spot, nodes: &mut [u64]) -> Read
 }
 
 // What `&` joins to the condition on the left.
-// One generic function for this, `ors` and `set::parts` would be longer than the three, by the definitions of what each reads.
+// One generic function for this, `ors` and `set::parts` would be longer than the three: a trait with a sign and a reader, and eleven definitions of what each reads.
 pub fn ands(left: Left, nodes: &mut [u64]) -> Read
     ensures follows { Follows left.entry.toks.now left.entry.at (Ands' ∷ []) (place result) }
     ensures extended { Extended flat_ands (λ c a. ands_at c a left.entry.at) Table.Cond Table.Cond left.entry.toks.now nodes.old nodes.new left.entry.at left.entry.root result }
 {
-    if left.peek() != b'&' {
+    let spot = left.spot();
+    if spot.peek() != b'&' {
         return Ok((left.at, left.root));
     }
-    let (n, r) = test(left.next(), nodes)?;
+    let (n, r) = test(spot.next(), nodes)?;
     let root = r + 1;
-    tree::node(nodes, root, NodeKind::BOTH, 0, left.root, 0);
-    ands(left.after(n, root), nodes)
+    tree::pair(nodes, root, NodeKind::BOTH, left.root);
+    ands(spot.after(n, root), nodes)
 }
 
 // A test and what `&` joins to it.
@@ -87,13 +88,14 @@ pub fn ors(left: Left, nodes: &mut [u64]) -> Read
     ensures follows { Follows left.entry.toks.now left.entry.at (Ors' ∷ []) (place result) }
     ensures extended { Extended flat_ors (λ c o. ors_at c o left.entry.at) Table.Cond Table.Cond left.entry.toks.now nodes.old nodes.new left.entry.at left.entry.root result }
 {
-    if left.peek() != b'|' {
+    let spot = left.spot();
+    if spot.peek() != b'|' {
         return Ok((left.at, left.root));
     }
-    let (n, r) = conjunction(left.next(), nodes)?;
+    let (n, r) = conjunction(spot.next(), nodes)?;
     let root = r + 1;
-    tree::node(nodes, root, NodeKind::EITHER, 0, left.root, 0);
-    ors(left.after(n, root), nodes)
+    tree::pair(nodes, root, NodeKind::EITHER, left.root);
+    ors(spot.after(n, root), nodes)
 }
 
 // Tests joined by `&`, and these by `|`.

@@ -59,6 +59,6 @@ pub fn entries<E: Entry>(spot: Spot, nodes: &mut [u64]) -> Read
         return Err(m);
     }
     let root = r + 1;
-    tree::node(nodes, root, NodeKind::PAIR, 0, left, 0);
+    tree::pair(nodes, root, NodeKind::PAIR, left);
     Ok((m + 1, root))
 }

@@ -47,7 +47,7 @@ pub fn literal(spot: Spot, nodes: &mut [u64]) -> Read
 {
     let t = spot.peek();
     if t == Kind::WHOLE {
-        tree::node(nodes, spot.used, NodeKind::LITERAL, spot.at, 0, 0);
+        tree::leaf(nodes, spot.used, NodeKind::LITERAL, spot.at);
         return Ok((spot.at + 1, spot.used));
     }
     if t != b'-' {
@@ -57,7 +57,7 @@ pub fn literal(spot: Spot, nodes: &mut [u64]) -> Read
     if token::peek(spot.toks, digits) != Kind::WHOLE {
         return Err(digits);
     }
-    tree::node(nodes, spot.used, NodeKind::NEGATIVE, digits, 0, 0);
+    tree::leaf(nodes, spot.used, NodeKind::NEGATIVE, digits);
     Ok((digits + 1, spot.used))
 }
 
@@ -69,7 +69,7 @@ pub fn atom(spot: Spot, nodes: &mut [u64]) -> Read
 {
     match spot.peek() {
         Kind::NAME => {
-            tree::node(nodes, spot.used, NodeKind::NAMED, spot.at, 0, 0);
+            tree::leaf(nodes, spot.used, NodeKind::NAMED, spot.at);
             Ok((spot.at + 1, spot.used))
         }
         b'(' => bracketed(spot.next(), nodes),
@@ -123,7 +123,7 @@ pub fn larger(spot: Spot, nodes: &mut [u64], op: u8) -> Read
     }
     let (m, r) = bracketed(spot.to(n + 1, left + 1), nodes)?;
     let root = r + 1;
-    tree::node(nodes, root, op, 0, left, 0);
+    tree::pair(nodes, root, op, left);
     Ok((m, root))
 }
 
@@ -144,13 +144,14 @@ pub fn factors(left: Left, nodes: &mut [u64]) -> Read
     ensures follows { Follows left.entry.toks.now left.entry.at (Factors' ∷ []) (place result) }
     ensures extended { Extended flat_factors (λ x r. factors_at x r left.entry.at) Table.Expr Table.Expr left.entry.toks.now nodes.old nodes.new left.entry.at left.entry.root result }
 {
-    let Some(kind) = product_kind(left.peek()) else {
+    let spot = left.spot();
+    let Some(kind) = product_kind(spot.peek()) else {
         return Ok((left.at, left.root));
     };
-    let (n, r) = atom(left.next(), nodes)?;
+    let (n, r) = atom(spot.next(), nodes)?;
     let root = r + 1;
-    tree::node(nodes, root, kind, 0, left.root, 0);
-    factors(left.after(n, root), nodes)
+    tree::pair(nodes, root, kind, left.root);
+    factors(spot.after(n, root), nodes)
 }
 
 // Terms joined by `+` and `-`.
@@ -169,11 +170,12 @@ pub fn terms(left: Left, nodes: &mut [u64]) -> Read
     ensures follows { Follows left.entry.toks.now left.entry.at (Terms' ∷ []) (place result) }
     ensures extended { Extended flat_terms (λ x r. terms_at x r left.entry.at) Table.Expr Table.Expr left.entry.toks.now nodes.old nodes.new left.entry.at left.entry.root result }
 {
-    let Some(kind) = sum_kind(left.peek()) else {
+    let spot = left.spot();
+    let Some(kind) = sum_kind(spot.peek()) else {
         return Ok((left.at, left.root));
     };
-    let (n, r) = term(left.next(), nodes)?;
+    let (n, r) = term(spot.next(), nodes)?;
     let root = r + 1;
-    tree::node(nodes, root, kind, 0, left.root, 0);
-    terms(left.after(n, root), nodes)
+    tree::pair(nodes, root, kind, left.root);
+    terms(spot.after(n, root), nodes)
 }

@@ -1,10 +1,10 @@
 // Where a reader goes on after a tree.
-ghost use Rattle.std.specs.Prelude.{◌≡◌, ◌+◌, get_or};
+ghost use Rattle.std.specs.Prelude.{◌≡◌, ◌+◌};
 ghost use Rattle.tree.specs.Reading.{Ready};
 
 use crate::spot::Spot;
 
-// At the token `at`, to the right of a tree whose root is the last node used.
+// At the token `at`, to the right of a tree whose root is the last node used. Not a Spot: at the start of a text no node is used and there is no root.
 #[derive(Clone, Copy)]
 pub struct Left<'a> {
     pub toks: &'a [u8],
@@ -14,34 +14,14 @@ pub struct Left<'a> {
 }
 
 impl<'a> Left<'a> {
-    // The token there.
-    pub fn peek(self) -> u8
-        ensures { result ≡ get_or self.entry.toks.now self.entry.at 0 }
-    {
-        token::peek(self.toks, self.at)
-    }
-
-    // The place after its token.
-    pub fn next(self) -> Spot<'a>
-        requires { Ready self.toks.now (self.at + 1) (self.root + 1) }
-        ensures { (ready : Ready self.entry.toks.now (self.entry.at + 1) (self.entry.root + 1)) × (result ≡ record { toks = self.entry.toks; at = self.entry.at + 1; used = self.entry.root + 1; ready = ready }) }
+    // The place there.
+    pub(crate) fn spot(self) -> Spot<'a>
+        ensures { (ready : Ready self.entry.toks.now self.entry.at (self.entry.root + 1)) × (result ≡ record { toks = self.entry.toks; at = self.entry.at; used = self.entry.root + 1; ready = ready }) }
     {
         Spot {
             toks: self.toks,
-            at: self.at + 1,
+            at: self.at,
             used: self.root + 1,
-        }
-    }
-
-    // The place after a tree that the one there is a part of.
-    pub fn after(self, at: usize, root: usize) -> Left<'a>
-        requires { Ready self.toks.now at (root + 1) }
-        ensures { (ready : Ready self.entry.toks.now at (root + 1)) × (result ≡ record { toks = self.entry.toks; at = at; root = root; ready = ready }) }
-    {
-        Left {
-            toks: self.toks,
-            at,
-            root,
         }
     }
 }

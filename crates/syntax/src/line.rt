@@ -6,41 +6,44 @@ ghost use Rattle.grammar.specs.Machine.{Want, Whole', Number', Params', MoreWhol
 ghost use Rattle.grammar.specs.Follows.{Follows};
 ghost use Rattle.grammar.specs.Syntax.{wholes_at, starts_at, start_at, system_at, definitions_at, model_at};
 ghost use Rattle.tree.specs.Table;
-ghost use Rattle.tree.specs.Reading.{place, place_counted, token_room, Ready, Parsed, Tallied};
+ghost use Rattle.tree.specs.Reading.{place, place_counted, token_room, Parsed, Tallied};
 ghost use Rattle.syntax.specs.Judged.{Judged};
 ghost use Rattle.syntax.specs.Line.{defining, in_definition, Parameters, written_definition, count_definition, Definition, written_wholes, Started};
 
+use crate::named::Named;
+use crate::site::Site;
 use crate::spot::Spot;
 use crate::{action, expression, process, rate};
 use token::Kind;
-use tree::{Counted, NodeKind, Read};
+use tree::{Counted, Members, NodeKind, Read};
 
 // Parameters, after the `[`, with the `]`: the next token, and how many.
-pub fn params(toks: &[u8], at: usize) -> Read
-    requires at_in_bounds { at ≤ length toks.now }
-    requires toks_len_bound { length toks.now ≤ token_room }
-    ensures follows { Follows toks.now at (Params' ∷ Want kind.close_square ∷ []) (place result) }
-    ensures parameters { Parameters toks.now at result }
+pub fn params(spot: Spot) -> Members
+    ensures follows { Follows spot.entry.toks.now spot.entry.at (Params' ∷ Want kind.close_square ∷ []) (place result) }
+    ensures parameters { Parameters spot.entry.toks.now spot.entry.at result }
 {
-    if token::peek(toks, at) == b']' {
-        return Ok((at + 1, 0));
+    if spot.peek() == b']' {
+        return Ok((spot.at + 1, 0));
     }
-    action::names(toks, at, b']')
+    action::names(spot, b']')
 }
 
-// The definition whose name is the token `name`, with a `[` after it.
-pub fn definition(spot: Spot, nodes: &mut [u64], sums: usize) -> Counted
-    requires sums_le_name { sums ≤ spot.at }
-    requires name_value { get_or spot.toks.now spot.at 0 ≡ kind.name }
-    requires name_value_2 { get_or spot.toks.now (spot.at + 1) 0 ≡ kind.open_square }
-    ensures follows { Follows spot.entry.toks.now (spot.entry.at + 2) in_definition (place_counted result) }
-    ensures tallied { Tallied written_definition count_definition (λ t d. Definition t d spot.entry.at sums) spot.entry.toks.now nodes.old nodes.new (spot.entry.at + 1) spot.entry.used sums result }
+// The definition whose name stands here.
+pub fn definition(named: Named<{ b'[' }>, nodes: &mut [u64], sums: usize) -> Counted
+    requires sums_le_name { sums ≤ named.spot.at }
+    ensures follows { Follows named.entry.spot.toks.now (named.entry.spot.at + 2) in_definition (place_counted result) }
+    ensures tallied { Tallied written_definition count_definition (λ t d. Definition t d named.entry.spot.at sums) named.entry.spot.toks.now nodes.old nodes.new (named.entry.spot.at + 1) named.entry.spot.used sums result }
 {
-    let (n, count) = params(spot.toks, spot.at + 2)?;
+    let spot = named.spot;
+    let (n, count) = params(spot.to(spot.at + 2, spot.used))?;
     if token::peek(spot.toks, n) != b'=' {
         return Err(n);
     }
-    let (m, r, s) = process::body(spot.to(n + 1, spot.used), nodes, sums)?;
+    let site = Site {
+        spot: spot.to(n + 1, spot.used),
+        sums,
+    };
+    let (m, r, s) = process::body(site, nodes)?;
     if token::peek(spot.toks, m) != b';' {
         return Err(m);
     }
@@ -51,43 +54,37 @@ pub fn definition(spot: Spot, nodes: &mut [u64], sums: usize) -> Counted
 
 // Whether a definition starts here, and not the system line.
 #[tactic(auto, unfolding(crate::specs::Line::defining))]
-pub fn defines(toks: &[u8], at: usize) -> bool
-    requires at_in_bounds { at ≤ length toks.now }
-    requires toks_len_bound { length toks.now ≤ token_room }
-    ensures { result ≡ defining toks.now at }
+pub fn defines(spot: Spot) -> bool
+    ensures { result ≡ defining spot.entry.toks.now spot.entry.at }
 {
-    token::peek(toks, at) == Kind::NAME
-        && token::peek(toks, at + 1) == b'['
-        && match token::peek(toks, at + 2) {
+    spot.peek() == Kind::NAME
+        && token::peek(spot.toks, spot.at + 1) == b'['
+        && match token::peek(spot.toks, spot.at + 2) {
             Kind::NAME => true,
-            b']' => token::peek(toks, at + 3) == b'=',
+            b']' => token::peek(spot.toks, spot.at + 3) == b'=',
             _ => false,
         }
 }
 
-// The definitions, the first of them named at `name` with a `[` after it, and the system line.
-pub fn definitions(spot: Spot, nodes: &mut [u64], sums: usize) -> Read
-    requires sums_le_name { sums ≤ spot.at }
-    requires name_value { get_or spot.toks.now spot.at 0 ≡ kind.name }
-    requires name_value_2 { get_or spot.toks.now (spot.at + 1) 0 ≡ kind.open_square }
-    ensures follows { Follows spot.entry.toks.now (spot.entry.at + 2) (in_definition ++ NextLine ∷ []) (place result) }
-    ensures parsed { Parsed flat_definitions (λ t d. Table.Definitions t (definitions_at d spot.entry.at sums)) spot.entry.toks.now nodes.old nodes.new spot.entry.at spot.entry.used result }
+// The definitions, the first of them named here, and the system line.
+pub fn definitions(named: Named<{ b'[' }>, nodes: &mut [u64], sums: usize) -> Read
+    requires sums_le_name { sums ≤ named.spot.at }
+    ensures follows { Follows named.entry.spot.toks.now (named.entry.spot.at + 2) (in_definition ++ NextLine ∷ []) (place result) }
+    ensures parsed { Parsed flat_definitions (λ t d. Table.Definitions t (definitions_at d named.entry.spot.at sums)) named.entry.spot.toks.now nodes.old nodes.new named.entry.spot.at named.entry.spot.used result }
 {
-    let (n, left, s) = definition(spot, nodes, sums)?;
-    if defines(spot.toks, n) {
-        let (m, r) = definitions(spot.to(n, left + 1), nodes, s)?;
-        let root = r + 1;
-        tree::node(nodes, root, NodeKind::NEXT, 0, left, 0);
-        Ok((m, root))
+    let (n, left, s) = definition(named, nodes, sums)?;
+    let spot = named.spot.to(n, left + 1);
+    let ((m, r), kind) = if defines(spot) {
+        (definitions(Named { spot }, nodes, s)?, NodeKind::NEXT)
     } else {
-        let (m, r) = system(spot.to(n, left + 1), nodes)?;
-        let root = r + 1;
-        tree::node(nodes, root, NodeKind::LAST, 0, left, 0);
-        Ok((m, root))
-    }
+        (system(spot, nodes)?, NodeKind::LAST)
+    };
+    let root = r + 1;
+    tree::pair(nodes, root, kind, left);
+    Ok((m, root))
 }
 
-// Whole numbers parted by commas and the `]` after them, with their count.
+// Whole numbers parted by commas and the `]` after them, with their count. Beside `process::call` stands why this and `args` there are no one function.
 pub fn wholes(spot: Spot, nodes: &mut [u64]) -> Counted
     ensures follows { Follows spot.entry.toks.now spot.entry.at (Whole' ∷ MoreWholes ∷ Want kind.close_square ∷ []) (place_counted result) }
     ensures tallied { Tallied written_wholes (λ w. Table.count_wholes (wholes_at w spot.entry.at)) (λ t w. Table.Wholes t (wholes_at w spot.entry.at)) spot.entry.toks.now nodes.old nodes.new spot.entry.at spot.entry.used 0 result }
@@ -102,30 +99,29 @@ pub fn wholes(spot: Spot, nodes: &mut [u64]) -> Counted
     }
     let (m, r, count) = wholes(spot.to(n + 1, left + 1), nodes)?;
     let root = r + 1;
-    tree::node(nodes, root, NodeKind::WHOLE, 0, left, 0);
+    tree::pair(nodes, root, NodeKind::WHOLE, left);
     Ok((m, root, count + 1))
 }
 
-// The values of the item named at `name`; `kind` is that of an item without values.
-// `name` and no Spot: the reader stands at the token after it, and the node keeps the name.
-pub fn starts(toks: &[u8], name: usize, nodes: &mut [u64], used: usize, kind: u8) -> Read
-    requires ready { Ready toks.now (name + 1) used }
-    requires kind_bound { kind < 255 }
-    ensures follows { Follows toks.now (name + 1) the_starts (place result) }
-    ensures parsed { Parsed flat_starts (λ t s. Started t kind name (starts_at s (name + 1))) toks.now nodes.old nodes.new (name + 1) used result }
+// The values of the item named here; `base` is the kind of an item without values. Beside `process::call` stands why this and the reader there are no one function.
+pub fn starts(spot: Spot, nodes: &mut [u64], base: u8) -> Read
+    requires name_value { get_or spot.toks.now spot.at 0 ≡ kind.name }
+    requires base_bound { base < 255 }
+    ensures follows { Follows spot.entry.toks.now (spot.entry.at + 1) the_starts (place result) }
+    ensures parsed { Parsed flat_starts (λ t s. Started t base spot.entry.at (starts_at s (spot.entry.at + 1))) spot.entry.toks.now nodes.old nodes.new (spot.entry.at + 1) spot.entry.used result }
 {
-    let open = name + 1;
-    if token::peek(toks, open) != b'[' {
+    let open = spot.at + 1;
+    if token::peek(spot.toks, open) != b'[' {
         return Err(open);
     }
     let n = open + 1;
-    if token::peek(toks, n) == b']' {
-        tree::node(nodes, used, kind, name, 0, 0);
-        return Ok((n + 1, used));
+    if token::peek(spot.toks, n) == b']' {
+        tree::leaf(nodes, spot.used, base, spot.at);
+        return Ok((n + 1, spot.used));
     }
-    let (m, r, count) = wholes(Spot { toks, at: n, used }, nodes)?;
+    let (m, r, count) = wholes(spot.to(n, spot.used), nodes)?;
     let root = r + 1;
-    tree::node(nodes, root, kind + 1, name, 0, count);
+    tree::node(nodes, root, base + 1, spot.at, 0, count);
     Ok((m, root))
 }
 
@@ -136,7 +132,7 @@ pub fn start(spot: Spot, nodes: &mut [u64]) -> Read
 {
     let t = spot.peek();
     if t == Kind::NAME {
-        return starts(spot.toks, spot.at, nodes, spot.used, NodeKind::START);
+        return starts(spot, nodes, NodeKind::START);
     }
     if t != Kind::WHOLE {
         return Err(spot.at);
@@ -149,10 +145,10 @@ pub fn start(spot: Spot, nodes: &mut [u64]) -> Read
     if token::peek(spot.toks, name) != Kind::NAME {
         return Err(name);
     }
-    starts(spot.toks, name, nodes, spot.used, NodeKind::COUNTED)
+    starts(spot.to(name, spot.used), nodes, NodeKind::COUNTED)
 }
 
-// The items of the system line, with its `;`.
+// The items of the system line, with its `;`. Beside `process::items` stands why this and the reader there are no one function.
 pub fn system(spot: Spot, nodes: &mut [u64]) -> Read
     ensures follows { Follows spot.entry.toks.now spot.entry.at (Start' ∷ SystemEnd ∷ []) (place result) }
     ensures parsed { Parsed flat_system (λ t s. Table.System t (system_at s spot.entry.at)) spot.entry.toks.now nodes.old nodes.new spot.entry.at spot.entry.used result }
@@ -167,7 +163,7 @@ pub fn system(spot: Spot, nodes: &mut [u64]) -> Read
     }
     let (m, r) = system(spot.to(n + 1, left + 1), nodes)?;
     let root = r + 1;
-    tree::node(nodes, root, NodeKind::SYSTEM, 0, left, 0);
+    tree::pair(nodes, root, NodeKind::SYSTEM, left);
     Ok((m, root))
 }
 
@@ -183,22 +179,21 @@ pub fn model(spot: Spot, nodes: &mut [u64]) -> Read
     let n = spot.at + 1;
     let t = token::peek(spot.toks, n);
     if t == b'[' {
-        return definitions(spot, nodes, 0);
+        return definitions(Named { spot }, nodes, 0);
     }
     if t != b'=' {
         return Err(n);
     }
-    variable(spot, nodes)
+    variable(Named { spot }, nodes)
 }
 
-// The variable named at `name`, with a `=` after it, and what follows it.
+// The variable named here, and what follows it.
 #[cycle(model_variable)]
-pub fn variable(spot: Spot, nodes: &mut [u64]) -> Read
-    requires name_value { get_or spot.toks.now spot.at 0 ≡ kind.name }
-    requires name_value_2 { get_or spot.toks.now (spot.at + 1) 0 ≡ kind.equals }
-    ensures follows { Follows spot.entry.toks.now (spot.entry.at + 2) (Number' ∷ Want kind.semicolon ∷ Line ∷ []) (place result) }
-    ensures parsed { Parsed flat_model (λ t m. Table.Model t (model_at m spot.entry.at)) spot.entry.toks.now nodes.old nodes.new spot.entry.at spot.entry.used result }
+pub fn variable(named: Named<{ b'=' }>, nodes: &mut [u64]) -> Read
+    ensures follows { Follows named.entry.spot.toks.now (named.entry.spot.at + 2) (Number' ∷ Want kind.semicolon ∷ Line ∷ []) (place result) }
+    ensures parsed { Parsed flat_model (λ t m. Table.Model t (model_at m named.entry.spot.at)) named.entry.spot.toks.now nodes.old nodes.new named.entry.spot.at named.entry.spot.used result }
 {
+    let spot = named.spot;
     let (n, left) = rate::number(spot.to(spot.at + 2, spot.used), nodes)?;
     if token::peek(spot.toks, n) != b';' {
         return Err(n);

@@ -1,5 +1,5 @@
 // Reads prefixes, continuations, groups and sums, which call one another with fewer tokens left.
-ghost use Rattle.std.specs.Prelude.{◌≡◌, [], ◌∷◌, ◌++◌, ◌+◌, ◌≤◌, ◌<◌, get_or};
+ghost use Rattle.std.specs.Prelude.{◌≡◌, [], ◌∷◌, ◌++◌, ◌+◌, ◌≤◌, get_or};
 ghost use Rattle.token.specs.Kind as kind;
 ghost use Rattle.grammar.specs.Grammar.{flat_prefix, flat_cont, flat_item, flat_body};
 ghost use Rattle.grammar.specs.Machine.{Want, MoreArgs, Cont', Item', Items', an_expr, in_braces, the_args, a_prefix, a_sum, a_body};
@@ -10,34 +10,34 @@ ghost use Rattle.tree.specs.Reading.{place_counted, Tallied};
 ghost use Rattle.syntax.specs.Judged.{written_sum, count_sum};
 ghost use Rattle.syntax.specs.Processes.{flat_offer, sums_offer, offer_at, closed_exprs, flat_call, call_at, flat_item_list, sums_item_list, item_list_at, flat_group, group_at, sums_branches, branches_from, Spare};
 
+use crate::site::Site;
 use crate::spot::Spot;
 use crate::{braced, condition, expression};
 use token::Kind;
 use tree::{Counted, NodeKind, Read};
 
-// A guarded prefix; `sums` is the number of the next sum. It has a token more than it needs for its nodes, and for its sums.
+// A guarded prefix. It has a token more than it needs for its nodes, and for its sums.
 #[cycle(branches_cont_gated_group_item_items_offer_prefix_sum)]
-pub fn prefix(spot: Spot, nodes: &mut [u64], sums: usize) -> Counted
-    requires sums_bound { sums ≤ spot.at + 1 }
-    ensures follows { Follows spot.entry.toks.now spot.entry.at (a_prefix) (place_counted result) }
-    ensures tallied { Tallied flat_prefix sums_prefix (λ t p. Table.Branch t (branch_at p spot.entry.at sums)) spot.entry.toks.now nodes.old nodes.new spot.entry.at spot.entry.used sums result }
-    ensures spare { Spare spot.entry.at spot.entry.used sums result }
+pub fn prefix(site: Site<1>, nodes: &mut [u64]) -> Counted
+    ensures follows { Follows site.entry.spot.toks.now site.entry.spot.at (a_prefix) (place_counted result) }
+    ensures tallied { Tallied flat_prefix sums_prefix (λ t p. Table.Branch t (branch_at p site.entry.spot.at site.entry.sums)) site.entry.spot.toks.now nodes.old nodes.new site.entry.spot.at site.entry.spot.used site.entry.sums result }
+    ensures spare { Spare site.entry.spot.at site.entry.spot.used site.entry.sums result }
 {
-    if spot.peek() == b'[' {
-        return gated(spot, nodes, sums);
+    if site.spot.peek() == b'[' {
+        return gated(site, nodes);
     }
-    offer(spot, nodes, sums, spot.at)
+    offer(site, nodes, site.spot.at)
 }
 
 // A prefix with a gate, from its `[` on.
 #[cycle(branches_cont_gated_group_item_items_offer_prefix_sum)]
-pub fn gated(spot: Spot, nodes: &mut [u64], sums: usize) -> Counted
-    requires sums_bound { sums ≤ spot.at + 1 }
-    requires at_value { get_or spot.toks.now spot.at 0 ≡ kind.open_square }
-    ensures follows { Follows spot.entry.toks.now spot.entry.at (a_prefix) (place_counted result) }
-    ensures tallied { Tallied flat_prefix sums_prefix (λ t p. Table.Branch t (branch_at p spot.entry.at sums)) spot.entry.toks.now nodes.old nodes.new spot.entry.at spot.entry.used sums result }
-    ensures spare { Spare spot.entry.at spot.entry.used sums result }
+pub fn gated(site: Site<1>, nodes: &mut [u64]) -> Counted
+    requires at_value { get_or site.spot.toks.now site.spot.at 0 ≡ kind.open_square }
+    ensures follows { Follows site.entry.spot.toks.now site.entry.spot.at (a_prefix) (place_counted result) }
+    ensures tallied { Tallied flat_prefix sums_prefix (λ t p. Table.Branch t (branch_at p site.entry.spot.at site.entry.sums)) site.entry.spot.toks.now nodes.old nodes.new site.entry.spot.at site.entry.spot.used site.entry.sums result }
+    ensures spare { Spare site.entry.spot.at site.entry.spot.used site.entry.sums result }
 {
+    let spot = site.spot;
     let (n, left) = condition::condition(spot.next(), nodes)?;
     if token::peek(spot.toks, n) != b']' {
         return Err(n);
@@ -46,7 +46,11 @@ pub fn gated(spot: Spot, nodes: &mut [u64], sums: usize) -> Counted
     if token::peek(spot.toks, arrow) != Kind::ARROW {
         return Err(arrow);
     }
-    let (m, r, s) = offer(spot.to(arrow + 1, left + 1), nodes, sums, spot.at)?;
+    let inner = Site {
+        spot: spot.to(arrow + 1, left + 1),
+        sums: site.sums,
+    };
+    let (m, r, s) = offer(inner, nodes, spot.at)?;
     let root = r + 1;
     tree::node(nodes, root, NodeKind::GATE, spot.at, left, 0);
     Ok((m, root, s))
@@ -54,13 +58,13 @@ pub fn gated(spot: Spot, nodes: &mut [u64], sums: usize) -> Counted
 
 // Action and rate in their braces, and the continuation, if any; `first` is the first token of the prefix.
 #[cycle(branches_cont_gated_group_item_items_offer_prefix_sum)]
-pub fn offer(spot: Spot, nodes: &mut [u64], sums: usize, first: usize) -> Counted
-    requires sums_bound { sums ≤ spot.at + 1 }
-    requires first_le_at { first ≤ spot.at }
-    ensures follows { Follows spot.entry.toks.now spot.entry.at (Want kind.open_curly ∷ in_braces) (place_counted result) }
-    ensures tallied { Tallied flat_offer sums_offer (λ t o. Table.Branch t (offer_at first o spot.entry.at sums)) spot.entry.toks.now nodes.old nodes.new spot.entry.at spot.entry.used sums result }
-    ensures spare { Spare spot.entry.at spot.entry.used sums result }
+pub fn offer(site: Site<1>, nodes: &mut [u64], first: usize) -> Counted
+    requires first_le_at { first ≤ site.spot.at }
+    ensures follows { Follows site.entry.spot.toks.now site.entry.spot.at (Want kind.open_curly ∷ in_braces) (place_counted result) }
+    ensures tallied { Tallied flat_offer sums_offer (λ t o. Table.Branch t (offer_at first o site.entry.spot.at site.entry.sums)) site.entry.spot.toks.now nodes.old nodes.new site.entry.spot.at site.entry.spot.used site.entry.sums result }
+    ensures spare { Spare site.entry.spot.at site.entry.spot.used site.entry.sums result }
 {
+    let spot = site.spot;
     if spot.peek() != b'{' {
         return Err(spot.at);
     }
@@ -68,9 +72,13 @@ pub fn offer(spot: Spot, nodes: &mut [u64], sums: usize, first: usize) -> Counte
     if token::peek(spot.toks, point) != b'.' {
         let root = middle + 1;
         tree::node(nodes, root, NodeKind::STOP, first, left, 0);
-        return Ok((point, root, sums));
+        return Ok((point, root, site.sums));
     }
-    let (e, r, s) = cont(spot.to(point + 1, middle + 1), nodes, sums)?;
+    let next = Site {
+        spot: spot.to(point + 1, middle + 1),
+        sums: site.sums,
+    };
+    let (e, r, s) = cont(next, nodes)?;
     let root = r + 1;
     tree::node(nodes, root, NodeKind::DOT, first, left, middle);
     Ok((e, root, s))
@@ -78,16 +86,20 @@ pub fn offer(spot: Spot, nodes: &mut [u64], sums: usize, first: usize) -> Counte
 
 // A continuation: a group, a call, or a prefix as a sum of its own.
 #[cycle(branches_cont_gated_group_item_items_offer_prefix_sum)]
-pub fn cont(spot: Spot, nodes: &mut [u64], sums: usize) -> Counted
-    requires sums_le_at { sums ≤ spot.at }
-    ensures follows { Follows spot.entry.toks.now spot.entry.at (Cont' ∷ []) (place_counted result) }
-    ensures tallied { Tallied flat_cont sums_cont (λ t c. Table.Cont t (cont_at c spot.entry.at sums)) spot.entry.toks.now nodes.old nodes.new spot.entry.at spot.entry.used sums result }
+pub fn cont(site: Site<0>, nodes: &mut [u64]) -> Counted
+    ensures follows { Follows site.entry.spot.toks.now site.entry.spot.at (Cont' ∷ []) (place_counted result) }
+    ensures tallied { Tallied flat_cont sums_cont (λ t c. Table.Cont t (cont_at c site.entry.spot.at site.entry.sums)) site.entry.spot.toks.now nodes.old nodes.new site.entry.spot.at site.entry.spot.used site.entry.sums result }
 {
+    let Site { spot, sums } = site;
     match spot.peek() {
-        b'(' => group(spot, nodes, sums),
-        Kind::NAME => call(spot, nodes, sums),
+        b'(' => group(site, nodes),
+        Kind::NAME => call(site, nodes),
         _ => {
-            let (n, r, s) = prefix(spot, nodes, sums + 1)?;
+            let inner = Site {
+                spot,
+                sums: sums + 1,
+            };
+            let (n, r, s) = prefix(inner, nodes)?;
             let root = r + 1;
             tree::node(nodes, root, NodeKind::SUM, sums, 0, spot.at);
             Ok((n, root, s))
@@ -96,18 +108,20 @@ pub fn cont(spot: Spot, nodes: &mut [u64], sums: usize) -> Counted
 }
 
 // A call, from its name on.
-pub fn call(spot: Spot, nodes: &mut [u64], sums: usize) -> Counted
-    requires at_value { get_or spot.toks.now spot.at 0 ≡ kind.name }
-    ensures follows { Follows spot.entry.toks.now (spot.entry.at + 1) (the_args) (place_counted result) }
-    ensures tallied { Tallied flat_call (λ a. 0) (λ t a. Table.Cont t (call_at a spot.entry.at)) spot.entry.toks.now nodes.old nodes.new spot.entry.at spot.entry.used sums result }
+// One generic function for this and `line::starts`, and one for `args` and `line::wholes`, would be longer than the four: a trait with a reader and a kind, and sixteen definitions of what each reads.
+pub fn call(site: Site<0>, nodes: &mut [u64]) -> Counted
+    requires at_value { get_or site.spot.toks.now site.spot.at 0 ≡ kind.name }
+    ensures follows { Follows site.entry.spot.toks.now (site.entry.spot.at + 1) (the_args) (place_counted result) }
+    ensures tallied { Tallied flat_call (λ a. 0) (λ t a. Table.Cont t (call_at a site.entry.spot.at)) site.entry.spot.toks.now nodes.old nodes.new site.entry.spot.at site.entry.spot.used site.entry.sums result }
 {
+    let Site { spot, sums } = site;
     let open = spot.at + 1;
     if token::peek(spot.toks, open) != b'[' {
         return Err(open);
     }
     let n = open + 1;
     if token::peek(spot.toks, n) == b']' {
-        tree::node(nodes, spot.used, NodeKind::CALL, spot.at, 0, 0);
+        tree::leaf(nodes, spot.used, NodeKind::CALL, spot.at);
         return Ok((n + 1, spot.used, sums));
     }
     let (m, r, count) = args(spot.to(n, spot.used), nodes)?;
@@ -117,7 +131,6 @@ pub fn call(spot: Spot, nodes: &mut [u64], sums: usize) -> Counted
 }
 
 // Values parted by commas and the `]` after them, with their count.
-// One generic function for this and `line::wholes` would be longer than the two, by twelve definitions of what each reads.
 pub fn args(spot: Spot, nodes: &mut [u64]) -> Counted
     ensures follows { Follows spot.entry.toks.now spot.entry.at (an_expr ++ MoreArgs ∷ Want kind.close_square ∷ []) (place_counted result) }
     ensures tallied { Tallied closed_exprs (λ e. Table.count_exprs (exprs_at e spot.entry.at)) (λ t e. Table.Exprs t (exprs_at e spot.entry.at)) spot.entry.toks.now nodes.old nodes.new spot.entry.at spot.entry.used 0 result }
@@ -132,32 +145,36 @@ pub fn args(spot: Spot, nodes: &mut [u64]) -> Counted
     }
     let (m, r, count) = args(spot.to(n + 1, left + 1), nodes)?;
     let root = r + 1;
-    tree::node(nodes, root, NodeKind::ARGUMENT, 0, left, 0);
+    tree::pair(nodes, root, NodeKind::ARGUMENT, left);
     Ok((m, root, count + 1))
 }
 
 // A group, from its `(` on.
 #[cycle(branches_cont_gated_group_item_items_offer_prefix_sum)]
-pub fn group(spot: Spot, nodes: &mut [u64], sums: usize) -> Counted
-    requires sums_le_at { sums ≤ spot.at }
-    requires at_value { get_or spot.toks.now spot.at 0 ≡ kind.open_round }
-    ensures follows { Follows spot.entry.toks.now (spot.entry.at + 1) (Item' ∷ Items' ∷ []) (place_counted result) }
-    ensures tallied { Tallied flat_group sums_item_list (λ t g. Table.Cont t (group_at g spot.entry.at sums)) spot.entry.toks.now nodes.old nodes.new spot.entry.at spot.entry.used sums result }
+pub fn group(site: Site<0>, nodes: &mut [u64]) -> Counted
+    requires at_value { get_or site.spot.toks.now site.spot.at 0 ≡ kind.open_round }
+    ensures follows { Follows site.entry.spot.toks.now (site.entry.spot.at + 1) (Item' ∷ Items' ∷ []) (place_counted result) }
+    ensures tallied { Tallied flat_group sums_item_list (λ t g. Table.Cont t (group_at g site.entry.spot.at site.entry.sums)) site.entry.spot.toks.now nodes.old nodes.new site.entry.spot.at site.entry.spot.used site.entry.sums result }
 {
-    let (n, r, s) = items(spot.next(), nodes, sums)?;
+    let inner = Site {
+        spot: site.spot.next(),
+        sums: site.sums,
+    };
+    let (n, r, s) = items(inner, nodes)?;
     let root = r + 1;
-    tree::node(nodes, root, NodeKind::GROUP, spot.at, 0, 0);
+    tree::node(nodes, root, NodeKind::GROUP, site.spot.at, 0, 0);
     Ok((n, root, s))
 }
 
 // The items of a group and its `)`.
+// Not one generic function with `line::system`, nor `branches` with `body`: the borrow checker covers no cycle of calls that goes through a trait's method.
 #[cycle(branches_cont_gated_group_item_items_offer_prefix_sum)]
-pub fn items(spot: Spot, nodes: &mut [u64], sums: usize) -> Counted
-    requires sums_le_at { sums ≤ spot.at }
-    ensures follows { Follows spot.entry.toks.now spot.entry.at (Item' ∷ Items' ∷ []) (place_counted result) }
-    ensures tallied { Tallied flat_item_list sums_item_list (λ t g. Table.Conts t (item_list_at g spot.entry.at sums)) spot.entry.toks.now nodes.old nodes.new spot.entry.at spot.entry.used sums result }
+pub fn items(site: Site<0>, nodes: &mut [u64]) -> Counted
+    ensures follows { Follows site.entry.spot.toks.now site.entry.spot.at (Item' ∷ Items' ∷ []) (place_counted result) }
+    ensures tallied { Tallied flat_item_list sums_item_list (λ t g. Table.Conts t (item_list_at g site.entry.spot.at site.entry.sums)) site.entry.spot.toks.now nodes.old nodes.new site.entry.spot.at site.entry.spot.used site.entry.sums result }
 {
-    let (n, left, s) = item(spot, nodes, sums)?;
+    let spot = site.spot;
+    let (n, left, s) = item(site, nodes)?;
     let t = token::peek(spot.toks, n);
     if t == b')' {
         return Ok((n + 1, left, s));
@@ -165,34 +182,41 @@ pub fn items(spot: Spot, nodes: &mut [u64], sums: usize) -> Counted
     if t != Kind::BARS {
         return Err(n);
     }
-    let (m, r, q) = items(spot.to(n + 1, left + 1), nodes, s)?;
+    let next = Site {
+        spot: spot.to(n + 1, left + 1),
+        sums: s,
+    };
+    let (m, r, q) = items(next, nodes)?;
     let root = r + 1;
-    tree::node(nodes, root, NodeKind::ITEM, 0, left, 0);
+    tree::pair(nodes, root, NodeKind::ITEM, left);
     Ok((m, root, q))
 }
 
 // An item of a group: a group, a call or a sum.
 #[cycle(branches_cont_gated_group_item_items_offer_prefix_sum)]
-pub fn item(spot: Spot, nodes: &mut [u64], sums: usize) -> Counted
-    requires sums_le_at { sums ≤ spot.at }
-    ensures follows { Follows spot.entry.toks.now spot.entry.at (Item' ∷ []) (place_counted result) }
-    ensures tallied { Tallied flat_item sums_item (λ t i. Table.Cont t (item_at i spot.entry.at sums)) spot.entry.toks.now nodes.old nodes.new spot.entry.at spot.entry.used sums result }
+pub fn item(site: Site<0>, nodes: &mut [u64]) -> Counted
+    ensures follows { Follows site.entry.spot.toks.now site.entry.spot.at (Item' ∷ []) (place_counted result) }
+    ensures tallied { Tallied flat_item sums_item (λ t i. Table.Cont t (item_at i site.entry.spot.at site.entry.sums)) site.entry.spot.toks.now nodes.old nodes.new site.entry.spot.at site.entry.spot.used site.entry.sums result }
 {
-    match spot.peek() {
-        b'(' => group(spot, nodes, sums),
-        Kind::NAME => call(spot, nodes, sums),
-        _ => sum(spot, nodes, sums),
+    match site.spot.peek() {
+        b'(' => group(site, nodes),
+        Kind::NAME => call(site, nodes),
+        _ => sum(site, nodes),
     }
 }
 
 // Prefixes joined by `+`, with their number.
 #[cycle(branches_cont_gated_group_item_items_offer_prefix_sum)]
-pub fn sum(spot: Spot, nodes: &mut [u64], sums: usize) -> Counted
-    requires sums_le_at { sums ≤ spot.at }
-    ensures follows { Follows spot.entry.toks.now spot.entry.at (a_sum) (place_counted result) }
-    ensures tallied { Tallied written_sum count_sum (λ t x. Table.Sum t (sum_at x.0 x.1 spot.entry.at sums)) spot.entry.toks.now nodes.old nodes.new spot.entry.at spot.entry.used sums result }
+pub fn sum(site: Site<0>, nodes: &mut [u64]) -> Counted
+    ensures follows { Follows site.entry.spot.toks.now site.entry.spot.at (a_sum) (place_counted result) }
+    ensures tallied { Tallied written_sum count_sum (λ t x. Table.Sum t (sum_at x.0 x.1 site.entry.spot.at site.entry.sums)) site.entry.spot.toks.now nodes.old nodes.new site.entry.spot.at site.entry.spot.used site.entry.sums result }
 {
-    let (n, r, s) = branches(spot, nodes, sums + 1)?;
+    let Site { spot, sums } = site;
+    let inner = Site {
+        spot,
+        sums: sums + 1,
+    };
+    let (n, r, s) = branches(inner, nodes)?;
     let root = r + 1;
     tree::node(nodes, root, NodeKind::SUM, sums, 0, spot.at);
     Ok((n, root, s))
@@ -200,34 +224,42 @@ pub fn sum(spot: Spot, nodes: &mut [u64], sums: usize) -> Counted
 
 // Prefixes joined by `+`.
 #[cycle(branches_cont_gated_group_item_items_offer_prefix_sum)]
-pub fn branches(spot: Spot, nodes: &mut [u64], sums: usize) -> Counted
-    requires sums_bound { sums ≤ spot.at + 1 }
-    ensures follows { Follows spot.entry.toks.now spot.entry.at (a_sum) (place_counted result) }
-    ensures tallied { Tallied written_sum sums_branches (λ t x. Table.Branches t (branches_from x spot.entry.at sums)) spot.entry.toks.now nodes.old nodes.new spot.entry.at spot.entry.used sums result }
-    ensures spare { Spare spot.entry.at spot.entry.used sums result }
+pub fn branches(site: Site<1>, nodes: &mut [u64]) -> Counted
+    ensures follows { Follows site.entry.spot.toks.now site.entry.spot.at (a_sum) (place_counted result) }
+    ensures tallied { Tallied written_sum sums_branches (λ t x. Table.Branches t (branches_from x site.entry.spot.at site.entry.sums)) site.entry.spot.toks.now nodes.old nodes.new site.entry.spot.at site.entry.spot.used site.entry.sums result }
+    ensures spare { Spare site.entry.spot.at site.entry.spot.used site.entry.sums result }
 {
-    let (n, left, s) = prefix(spot, nodes, sums)?;
+    let spot = site.spot;
+    let (n, left, s) = prefix(site, nodes)?;
     if token::peek(spot.toks, n) != b'+' {
         return Ok((n, left, s));
     }
-    let (m, r, q) = branches(spot.to(n + 1, left + 1), nodes, s)?;
+    let next = Site {
+        spot: spot.to(n + 1, left + 1),
+        sums: s,
+    };
+    let (m, r, q) = branches(next, nodes)?;
     let root = r + 1;
-    tree::node(nodes, root, NodeKind::CHOICE, 0, left, 0);
+    tree::pair(nodes, root, NodeKind::CHOICE, left);
     Ok((m, root, q))
 }
 
 // A definition's body: sums joined by `||`.
-pub fn body(spot: Spot, nodes: &mut [u64], sums: usize) -> Counted
-    requires sums_le_at { sums ≤ spot.at }
-    ensures follows { Follows spot.entry.toks.now spot.entry.at (a_body) (place_counted result) }
-    ensures tallied { Tallied flat_body sums_body (λ t b. Table.Sums t (body_at b spot.entry.at sums)) spot.entry.toks.now nodes.old nodes.new spot.entry.at spot.entry.used sums result }
+pub fn body(site: Site<0>, nodes: &mut [u64]) -> Counted
+    ensures follows { Follows site.entry.spot.toks.now site.entry.spot.at (a_body) (place_counted result) }
+    ensures tallied { Tallied flat_body sums_body (λ t b. Table.Sums t (body_at b site.entry.spot.at site.entry.sums)) site.entry.spot.toks.now nodes.old nodes.new site.entry.spot.at site.entry.spot.used site.entry.sums result }
 {
-    let (n, left, s) = sum(spot, nodes, sums)?;
+    let spot = site.spot;
+    let (n, left, s) = sum(site, nodes)?;
     if token::peek(spot.toks, n) != Kind::BARS {
         return Ok((n, left, s));
     }
-    let (m, r, q) = body(spot.to(n + 1, left + 1), nodes, s)?;
+    let next = Site {
+        spot: spot.to(n + 1, left + 1),
+        sums: s,
+    };
+    let (m, r, q) = body(next, nodes)?;
     let root = r + 1;
-    tree::node(nodes, root, NodeKind::BESIDE, 0, left, 0);
+    tree::pair(nodes, root, NodeKind::BESIDE, left);
     Ok((m, root, q))
 }

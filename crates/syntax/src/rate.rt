@@ -21,11 +21,11 @@ pub fn unsigned(spot: Spot, nodes: &mut [u64], base: u8) -> Read
 {
     match spot.peek() {
         Kind::WHOLE => {
-            tree::node(nodes, spot.used, base, spot.at, 0, 0);
+            tree::leaf(nodes, spot.used, base, spot.at);
             Ok((spot.at + 1, spot.used))
         }
         Kind::DECIMAL => {
-            tree::node(nodes, spot.used, base + NodeKind::DECIMAL, spot.at, 0, 0);
+            tree::leaf(nodes, spot.used, base + NodeKind::DECIMAL, spot.at);
             Ok((spot.at + 1, spot.used))
         }
         _ => Err(spot.at),
@@ -49,13 +49,14 @@ pub fn scale(spot: Spot, nodes: &mut [u64]) -> Read
     ensures parsed { Parsed flat_scale (λ t s. Table.Scale t (scale_at s spot.entry.at)) spot.entry.toks.now nodes.old nodes.new spot.entry.at spot.entry.used result }
 {
     if spot.peek() == Kind::NAME {
-        tree::node(nodes, spot.used, NodeKind::SCALE_NAME, spot.at, 0, 0);
+        tree::leaf(nodes, spot.used, NodeKind::SCALE_NAME, spot.at);
         return Ok((spot.at + 1, spot.used));
     }
     number(spot, nodes)
 }
 
 // A scale, perhaps times an atom.
+// One generic function for this and `set::part` would be longer than the two: a trait with two readers, a sign and a kind, and twelve definitions of what they read.
 pub fn rate(spot: Spot, nodes: &mut [u64]) -> Read
     ensures follows { Follows spot.entry.toks.now spot.entry.at (a_rate) (place result) }
     ensures parsed { Parsed flat_rate (λ t r. Table.Rate t (rate_at r spot.entry.at)) spot.entry.toks.now nodes.old nodes.new spot.entry.at spot.entry.used result }
@@ -66,6 +67,6 @@ pub fn rate(spot: Spot, nodes: &mut [u64]) -> Read
     }
     let (m, r) = expression::atom(spot.to(n + 1, left + 1), nodes)?;
     let root = r + 1;
-    tree::node(nodes, root, NodeKind::SCALED, 0, left, 0);
+    tree::pair(nodes, root, NodeKind::SCALED, left);
     Ok((m, root))
 }

@@ -14,15 +14,15 @@ pub struct Spot<'a> {
 }
 
 impl<'a> Spot<'a> {
-    // The token there.
-    pub fn peek(self) -> u8
+    // The token there; past the last one END, which no token is.
+    pub(crate) fn peek(self) -> u8
         ensures { result ≡ get_or self.entry.toks.now self.entry.at 0 }
     {
         token::peek(self.toks, self.at)
     }
 
     // Another place in the same tokens.
-    pub fn to(self, at: usize, used: usize) -> Spot<'a>
+    pub(crate) fn to(self, at: usize, used: usize) -> Spot<'a>
         requires { Ready self.toks.now at used }
         ensures { (ready : Ready self.entry.toks.now at used) × (result ≡ record { toks = self.entry.toks; at = at; used = used; ready = ready }) }
     {
@@ -34,7 +34,7 @@ impl<'a> Spot<'a> {
     }
 
     // The place after its token.
-    pub fn next(self) -> Spot<'a>
+    pub(crate) fn next(self) -> Spot<'a>
         requires { Ready self.toks.now (self.at + 1) self.used }
         ensures { (ready : Ready self.entry.toks.now (self.entry.at + 1) self.entry.used) × (result ≡ record { toks = self.entry.toks; at = self.entry.at + 1; used = self.entry.used; ready = ready }) }
     {
@@ -42,7 +42,7 @@ impl<'a> Spot<'a> {
     }
 
     // The place after a tree that was read from there.
-    pub fn after(self, at: usize, root: usize) -> Left<'a>
+    pub(crate) fn after(self, at: usize, root: usize) -> Left<'a>
         requires { Ready self.toks.now at (root + 1) }
         ensures { (ready : Ready self.entry.toks.now at (root + 1)) × (result ≡ record { toks = self.entry.toks; at = at; root = root; ready = ready }) }
     {

@@ -59,6 +59,8 @@ impl NodeKind {
     pub const NUMBER: u8 = 29;
 
     pub const NEGATIVE_NUMBER: u8 = 30;
+
+    pub const NEGATIVE_DECIMAL: u8 = 32;
     // added to a number that is a decimal
     pub const DECIMAL: u8 = 2;
 
@@ -127,24 +129,36 @@ impl NodeKind {
     pub const NEXT: u8 = 64;
 
     pub const VARIABLE: u8 = 65;
-    // 66 is a channel name's, once it is settled
+    // a channel name's, once it is settled
+    pub const CHANNEL: u8 = 66;
+
     pub const TWO_ITEMS: u8 = 67;
 
     pub const THREE_ITEMS: u8 = 68;
 }
 
 // The next token's number and the root of what was read; or the number of the token that doesn't fit.
+// Tuples and no structs, here and in the two types below: a caller takes an answer apart at once, to look at the token and to number the node after the root.
+// Nor is an answer a Left of crate syntax, for those that go on at once: what Parsed says of the two numbers makes a Left Ready where one is wanted, and no reader has to
+// prove it at its returns.
 pub type Read = Result<(usize, usize), usize>;
 
-// The same with a count: of sums up to here, or of the members of a list.
+// The next token's number and how many members a list has that makes no nodes; or the number of the token that doesn't fit.
+pub type Members = Result<(usize, usize), usize>;
+
+// As `Read`, with a count: of sums up to here, or of the members of a list.
 pub type Counted = Result<(usize, usize, usize), usize>;
 
-// A node has its kind below KINDS, then three fields below FIELD.
-const KINDS: u64 = 256;
+// A node has its kind below KINDS, then three fields below FIELD; a settled number has its kind there, then its value above OFFSET.
+// One word and no struct: a settled number needs 56 of the 64 bits, and an enum of both would take two words. By `*`, `/` and `%`, as goals see a node; bytes
+// of `to_le_bytes` would be a list to them.
+pub const KINDS: u64 = 256;
+
+pub const OFFSET: u64 = 36028797018963968;
 
 const FIELD: u64 = 65536;
 
-// A node with this kind and these fields.
+// A node with this kind and these fields. They come as `usize`, which readers count tokens and nodes in: as `u16` every call would cast them.
 pub fn cell(kind: u8, token: usize, left: usize, third: usize) -> u64
     requires { (token < field) × (left < field) × (third < field) }
     ensures { result ≡ cell kind token left third }
@@ -152,7 +166,8 @@ pub fn cell(kind: u8, token: usize, left: usize, third: usize) -> u64
     kind as u64 + KINDS * (token as u64 + FIELD * (left as u64 + FIELD * third as u64))
 }
 
-// Writes the node k, if the table has one.
+// Writes the node k, if the table has one. The table is a slice and nodes find their parts by index: there is no heap for a tree of boxes. Readers count the
+// nodes themselves, past the table's end too, so that a table that is too short still tells whether the text fits.
 pub fn node(nodes: &mut [u64], k: usize, kind: u8, token: usize, left: usize, third: usize)
     requires { (token < field) × (left < field) × (third < field) }
     ensures { nodes.new ≡ set nodes.old k (cell kind token left third) }
@@ -160,6 +175,22 @@ pub fn node(nodes: &mut [u64], k: usize, kind: u8, token: usize, left: usize, th
     if k < nodes.len() {
         nodes[k] = cell(kind, token, left, third);
     }
+}
+
+// Writes a node without parts.
+pub fn leaf(nodes: &mut [u64], k: usize, kind: u8, token: usize)
+    requires { token < field }
+    ensures { nodes.new ≡ set nodes.old k (cell kind token 0 0) }
+{
+    node(nodes, k, kind, token, 0, 0);
+}
+
+// Writes a node of two parts, which needs no token: the first has its root at `left`.
+pub fn pair(nodes: &mut [u64], k: usize, kind: u8, left: usize)
+    requires { left < field }
+    ensures { nodes.new ≡ set nodes.old k (cell kind 0 left 0) }
+{
+    node(nodes, k, kind, 0, left, 0);
 }
 
 // The kind of a node.

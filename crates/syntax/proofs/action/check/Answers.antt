@@ -19,4 +19,4 @@ returns-in_err-m c =
 
 pub returns : goal.returns
 returns c =
-    let ready = check-ready c.args.spot.toks.now c.args.nodes.now _ c.args.spot.at c.args.spot.used c.requires.at_value (rw c.next.ensures.1 at c.channel.ensures.follows, rw c.next.ensures.1 at c.channel.ensures.parsed) c.in_ok-n.was (same c.peek.ensures c.if-peek-ne63.false) c.args.spot.ready in let r = check-node c.args.spot.toks.now c.args.nodes.now _ c.args.spot.at c.args.spot.used c.requires.at_value (rw c.next.ensures.1 at c.channel.ensures.follows, rw c.next.ensures.1 at c.channel.ensures.parsed) c.in_ok-n.was (same c.peek.ensures c.if-peek-ne63.false) _ (rw c.to.ensures.1 at c.entries.ensures.follows, rw c.to.ensures.1 at c.entries.ensures.parsed) c.in_ok-m.was (record { written = c.node.ensures; token-fits = omega arith; left-fits = omega (arith, ready.room, ready.inside, ready.few); third-fits = omega arith }) in record { follows = r.0; parsed = r.1 }
+    let ready = check-ready c.args.spot.toks.now c.args.nodes.now _ c.args.spot.at c.args.spot.used c.requires.at_value (rw c.next.ensures.1 at c.channel.ensures.follows, rw c.next.ensures.1 at c.channel.ensures.parsed) c.in_ok-n.was (same c.peek.ensures c.if-peek-ne63.false) c.args.spot.ready in let r = check-node c.args.spot.toks.now c.args.nodes.now _ c.args.spot.at c.args.spot.used c.requires.at_value (rw c.next.ensures.1 at c.channel.ensures.follows, rw c.next.ensures.1 at c.channel.ensures.parsed) c.in_ok-n.was (same c.peek.ensures c.if-peek-ne63.false) _ (rw c.to.ensures.1 at c.entries.ensures.follows, rw c.to.ensures.1 at c.entries.ensures.parsed) c.in_ok-m.was (record { written = c.pair.ensures; token-fits = omega arith; left-fits = omega (arith, ready.room, ready.inside, ready.few); third-fits = omega arith }) in record { follows = r.0; parsed = r.1 }

@@ -1,17 +1,12 @@
 -- `rated` meets its contract: each return is a law of Braces.antt.
 use Rattle.grammar.proofs.Follows.{same, isnt}
-use Rattle.syntax.proofs.Answers.{raised}
-use Rattle.syntax.proofs.Braces.{rated-fault, rated-ready, rated-open, rated-made}
+use Rattle.syntax.proofs.Braces.{rated-open, rated-made}
 use Rattle.syntax.proofs.braced.rated.Goals as goal
 
 pub returns-then-peek-ne44 : goal.returns-then-peek-ne44
 returns-then-peek-ne44 c =
-    rated-open c.args.toks.now c.args.nodes.now c.in_ok-n.was (rated-ready c.args.toks.now c.args.nodes.now c.in_ok-n.was c.requires).inside (isnt c.peek.ensures c.if-peek-ne44.true)
-
-pub returns-in_err-n : goal.returns-in_err-n
-returns-in_err-n c =
-    rw (raised c.from_residual.ensures.1) (rated-fault c.args.toks.now c.args.nodes.now c.in_err-n.was)
+    let r = rated-open c.args.left.toks.now c.args.nodes.now c.args.left.at c.args.left.root c.args.left.ready.inside (isnt (rw c.spot-spot.ensures.1 at c.peek.ensures) c.if-peek-ne44.true) in record { follows = r.0; rating = r.1.0; spare = r.1.1 }
 
 pub returns : goal.returns
 returns c =
-    rated-made c.args.toks.now c.args.nodes.now c.in_ok-n.was _ _ (same c.peek.ensures c.if-peek-ne44.false) (c.closed.ensures.follows, (c.closed.ensures.tallied, c.closed.ensures.spare))
+    let r = rated-made c.args.left.toks.now c.args.nodes.now c.args.left.at c.args.left.root _ _ (same (rw c.spot-spot.ensures.1 at c.peek.ensures) c.if-peek-ne44.false) (rw (c.after.ensures.1, c.spot-spot.ensures.1) at c.closed.ensures.follows, (rw (c.after.ensures.1, c.spot-spot.ensures.1) at c.closed.ensures.tallied, rw c.after.ensures.1 at c.closed.ensures.spare)) in record { follows = r.0; rating = r.1.0; spare = r.1.1 }

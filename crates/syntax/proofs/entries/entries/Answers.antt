@@ -31,4 +31,4 @@ returns-in_err-m g c =
 
 pub returns : goal.returns
 returns g c =
-    let ready = brackets-ready g.E.Entry.which c.args.spot.toks.now c.args.nodes.now c.args.spot.at c.args.spot.used (same c.peek.ensures c.if-peek-ne91.false) _ (rw c.next.ensures.1 at c.read.ensures.follows, rw c.next.ensures.1 at c.read.ensures.parsed) c.in_ok-n.was c.args.spot.ready (same c.peek-t.ensures c.if-t-ne44.false) in let r = brackets-two g.E.Entry.which c.args.spot.toks.now c.args.nodes.now c.args.spot.at c.args.spot.used (same c.peek.ensures c.if-peek-ne91.false) _ (rw c.next.ensures.1 at c.read.ensures.follows, rw c.next.ensures.1 at c.read.ensures.parsed) c.in_ok-n.was (same c.peek-t.ensures c.if-t-ne44.false) _ (rw c.to.ensures.1 at c.read-2.ensures.follows, rw c.to.ensures.1 at c.read-2.ensures.parsed) c.in_ok-m.was (same c.peek-2.ensures c.if-peek-ne93.false) (record { written = c.node.ensures; token-fits = omega arith; left-fits = omega (arith, ready.room, ready.inside, ready.few); third-fits = omega arith }) in record { follows = r.0; parsed = r.1 }
+    let ready = brackets-ready g.E.Entry.which c.args.spot.toks.now c.args.nodes.now c.args.spot.at c.args.spot.used (same c.peek.ensures c.if-peek-ne91.false) _ (rw c.next.ensures.1 at c.read.ensures.follows, rw c.next.ensures.1 at c.read.ensures.parsed) c.in_ok-n.was c.args.spot.ready (same c.peek-t.ensures c.if-t-ne44.false) in let r = brackets-two g.E.Entry.which c.args.spot.toks.now c.args.nodes.now c.args.spot.at c.args.spot.used (same c.peek.ensures c.if-peek-ne91.false) _ (rw c.next.ensures.1 at c.read.ensures.follows, rw c.next.ensures.1 at c.read.ensures.parsed) c.in_ok-n.was (same c.peek-t.ensures c.if-t-ne44.false) _ (rw c.to.ensures.1 at c.read-2.ensures.follows, rw c.to.ensures.1 at c.read-2.ensures.parsed) c.in_ok-m.was (same c.peek-2.ensures c.if-peek-ne93.false) (record { written = c.pair.ensures; token-fits = omega arith; left-fits = omega (arith, ready.room, ready.inside, ready.few); third-fits = omega arith }) in record { follows = r.0; parsed = r.1 }

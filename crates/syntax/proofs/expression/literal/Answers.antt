@@ -6,7 +6,7 @@ use Rattle.syntax.proofs.expression.literal.Goals as goal
 
 pub returns-then-t-eq-WHOLE : goal.returns-then-t-eq-WHOLE
 returns-then-t-eq-WHOLE c =
-    let r = literal-whole _ _ _ _ (same c.peek-t.ensures c.if-t-eq-WHOLE.true) (record { written = c.node.ensures; token-fits = omega arith; left-fits = omega arith; third-fits = omega arith }) in record { follows = r.0; parsed = r.1 }
+    let r = literal-whole _ _ _ _ (same c.peek-t.ensures c.if-t-eq-WHOLE.true) (record { written = c.leaf.ensures; token-fits = omega arith; left-fits = omega arith; third-fits = omega arith }) in record { follows = r.0; parsed = r.1 }
 
 pub returns-then-t-ne45 : goal.returns-then-t-ne45
 returns-then-t-ne45 c =
@@ -18,4 +18,4 @@ returns-then-peek-ne-WHOLE c =
 
 pub returns : goal.returns
 returns c =
-    let r = literal-negative _ _ _ _ (same c.peek-t.ensures c.if-t-ne45.false) (same c.peek.ensures c.if-peek-ne-WHOLE.false) (record { written = c.node-2.ensures; token-fits = omega arith; left-fits = omega arith; third-fits = omega arith }) in record { follows = r.0; parsed = r.1 }
+    let r = literal-negative _ _ _ _ (same c.peek-t.ensures c.if-t-ne45.false) (same c.peek.ensures c.if-peek-ne-WHOLE.false) (record { written = c.leaf-2.ensures; token-fits = omega arith; left-fits = omega arith; third-fits = omega arith }) in record { follows = r.0; parsed = r.1 }

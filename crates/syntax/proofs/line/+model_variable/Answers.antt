@@ -35,4 +35,4 @@ variable-returns-in_err-m t c =
 
 pub variable-returns : goal.variable-returns
 variable-returns t c =
-    let m = made_of c.in_ok-n.was (rw c.to.ensures.1 at c.number.ensures.parsed) in let q = ready-after (ready-third c.args.spot.ready (omega (arith, c.requires.name_value_2))) m.span in let r = variable-made _ _ _ _ _ (rw c.to.ensures.1 at c.number.ensures.follows, rw c.to.ensures.1 at c.number.ensures.parsed) c.in_ok-n.was _ (same c.peek.ensures c.if-peek-ne59.false) (rw c.to-2.ensures.1 at c.model.ensures.follows, rw c.to-2.ensures.1 at c.model.ensures.parsed) c.requires.name_value c.requires.name_value_2 c.in_ok-m.was (record { written = c.node.ensures; token-fits = omega (arith, c.args.spot.ready.inside, c.args.spot.ready.room); left-fits = omega (arith, q.inside, q.room, q.few); third-fits = omega arith }) in record { follows = r.0; parsed = r.1 }
+    let m = made_of c.in_ok-n.was (rw c.to.ensures.1 at c.number.ensures.parsed) in let q = ready-after (ready-third c.args.named.spot.ready (omega (arith, c.args.named.sign))) m.span in let r = variable-made _ _ _ _ _ (rw c.to.ensures.1 at c.number.ensures.follows, rw c.to.ensures.1 at c.number.ensures.parsed) c.in_ok-n.was _ (same c.peek.ensures c.if-peek-ne59.false) (rw c.to-2.ensures.1 at c.model.ensures.follows, rw c.to-2.ensures.1 at c.model.ensures.parsed) c.args.named.name c.args.named.sign c.in_ok-m.was (record { written = c.node.ensures; token-fits = omega (arith, c.args.named.spot.ready.inside, c.args.named.spot.ready.room); left-fits = omega (arith, q.inside, q.room, q.few); third-fits = omega arith }) in record { follows = r.0; parsed = r.1 }

@@ -8,4 +8,4 @@ abbrev pub decreases-model : goal.decreases-model
 decreases-model l = 2 * (length l.spot.toks.now - l.spot.at) + 1
 
 abbrev pub decreases-variable : goal.decreases-variable
-decreases-variable l = 2 * (length l.spot.toks.now - l.spot.at)
+decreases-variable l = 2 * (length l.named.spot.toks.now - l.named.spot.at)

@@ -21,4 +21,4 @@ returns-then-peek-ne-NAME c =
 
 pub returns : goal.returns
 returns c =
-    let r = start-counted _ _ _ _ (same c.peek-t.ensures c.if-t-ne-WHOLE.false) (same c.peek.ensures c.if-peek-ne42.false) _ _ (same c.peek-2.ensures c.if-peek-ne-NAME.false) (c.starts-2.ensures.follows, c.starts-2.ensures.parsed) in record { follows = r.0; parsed = r.1 }
+    let r = start-counted _ _ _ _ (same c.peek-t.ensures c.if-t-ne-WHOLE.false) (same c.peek.ensures c.if-peek-ne42.false) _ _ (same c.peek-2.ensures c.if-peek-ne-NAME.false) (rw c.to.ensures.1 at c.starts-2.ensures.follows, rw c.to.ensures.1 at c.starts-2.ensures.parsed) in record { follows = r.0; parsed = r.1 }

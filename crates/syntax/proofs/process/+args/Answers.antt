@@ -22,4 +22,4 @@ returns-in_err-m t c =
 
 pub returns : goal.returns
 returns t c =
-    let ready = arguments-ready exprs c.args.spot.toks.now c.args.nodes.now _ c.args.spot.at c.args.spot.used (c.expr.ensures.follows, c.expr.ensures.parsed) c.in_ok-n.was (same c.peek-t.ensures c.if-t-ne44.false) c.args.spot.ready in let r = arguments-next exprs c.args.spot.toks.now c.args.nodes.now _ c.args.spot.at c.args.spot.used (c.expr.ensures.follows, c.expr.ensures.parsed) c.in_ok-n.was (same c.peek-t.ensures c.if-t-ne44.false) _ (rw c.to.ensures.1 at c.args-2.ensures.follows, rw c.to.ensures.1 at c.args-2.ensures.tallied) c.in_ok-m.was (record { written = c.node.ensures; token-fits = omega arith; left-fits = omega (arith, ready.inside, ready.room, ready.few); third-fits = omega arith }) in record { follows = r.0; tallied = r.1 }
+    let ready = arguments-ready exprs c.args.spot.toks.now c.args.nodes.now _ c.args.spot.at c.args.spot.used (c.expr.ensures.follows, c.expr.ensures.parsed) c.in_ok-n.was (same c.peek-t.ensures c.if-t-ne44.false) c.args.spot.ready in let r = arguments-next exprs c.args.spot.toks.now c.args.nodes.now _ c.args.spot.at c.args.spot.used (c.expr.ensures.follows, c.expr.ensures.parsed) c.in_ok-n.was (same c.peek-t.ensures c.if-t-ne44.false) _ (rw c.to.ensures.1 at c.args-2.ensures.follows, rw c.to.ensures.1 at c.args-2.ensures.tallied) c.in_ok-m.was (record { written = c.pair.ensures; token-fits = omega arith; left-fits = omega (arith, ready.inside, ready.room, ready.few); third-fits = omega arith }) in record { follows = r.0; tallied = r.1 }

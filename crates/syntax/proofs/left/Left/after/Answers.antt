@@ -1,6 +1,0 @@
--- `Left::after` gives the place that it says.
-use mathlib.Core.Path.{refl}
-use Rattle.syntax.proofs.left.Left.after.Goals as goal
-
-pub returns : goal.returns
-returns c = (_, refl)

@@ -2,13 +2,17 @@
 use mathlib.Core.Path.{◌≡◌, refl, sym, ap, ◌∙◌}
 use mathlib.Core.List.{List, [], ◌∷◌, ◌++◌}
 use mathlib.Core.Bool.{Bool, true, false}
-use Prim.Native.Nat.{ℕ, zero, suc, ◌+◌, ◌≤◌, ◌<◌}
+use Prim.Native.Nat.{ℕ, zero, suc, ◌+◌, ◌≤◌, ◌<◌, min}
 use native.Mathlib.Numerals.{add-one}
 use native.Mathlib.Omega.{arith}
 use lib.ListN.{length, get_or, drop, drop_of_length-le}
-use Rattle.std.specs.Prelude.{None, Some}
+use Rattle.std.specs.Prelude.{Option, None, Some, zip, MatchOption}
+use Rattle.std.specs.List.{AllWithin, HoldsAt}
+use Rattle.std.proofs.lemmas.Slice.Zip.{length-zip, get_or-zip}
+use Rattle.token.specs.declared.Content.{Content}
 use Rattle.token.specs.Token.{Mark, tokens}
-use Rattle.token.specs.Contents.{low_of, high_of}
+use Rattle.token.specs.Contents.{low_of, high_of, lows_in, highs_in, none}
+use Rattle.token.proofs.Columns.{low_at, high_at, length-lows}
 use Rattle.model.specs.Lists.{when, least}
 use Rattle.model.specs.Words.{nth}
 use Rattle.model.specs.Limits.{word_beyond, words_beyond}
@@ -16,6 +20,7 @@ use Rattle.names.specs.Tables.{Tabled}
 use Rattle.names.specs.Faults.{left_out}
 use Rattle.names.proofs.Earliest.{From, from_on, least-here}
 use Rattle.names.proofs.Contents.{made, beyond-is, tabled-at}
+use Rattle.names.proofs.Lookups.{reached}
 
 -- the tokens from i on
 drop_nth : (ms : List Mark) (i : ℕ) → i < length ms → drop i ms ≡ nth ms i ∷ drop (suc i) ms
@@ -76,3 +81,40 @@ module _ {text kinds low high : List ℕ} {n : ℕ} (h : Tabled text kinds low h
 pub words-end : {text kinds low high : List ℕ} {n : ℕ} → Tabled text kinds low high n → (i : ℕ) → n ≤ i → None ≡ least (words_beyond text i (drop i (tokens text)))
 unfolding words_beyond least
 words-end {text} h i l = sym (ap (λ (ms : List Mark). least (words_beyond text i ms)) (drop_of_length-le (tokens text) {i = i} (omega (arith, h.count))))
+
+-- ---- the search over the tokens' kinds and contents
+abbrev pub Out : Bool → ℕ × Content → Type 0
+Out b p = left_out p.0 p.1.low p.1.high ≡ b
+
+module _ {text : List ℕ} (kinds : List ℕ) (cs : List Content) (h : Tabled text kinds (lows_in cs) (highs_in cs) (length kinds)) where
+  abbrev entries : List (ℕ × Content)
+  entries = zip kinds cs
+
+  contents-there : (i : ℕ) → i < length kinds → i < length cs
+  contents-there i l = omega (arith, length-lows cs, low-inside h i l)
+
+  entry-count : length entries ≡ length kinds
+  entry-count = length-zip kinds cs ∙ by (length kinds) refl
+    where
+      by : (n : ℕ) → length kinds ≡ n → min (length kinds) (length cs) ≡ length kinds
+      by zero e = omega arith
+      by (suc n) e = let l = contents-there n (omega arith) in omega arith
+
+  entry-at : (i : ℕ) → i < length kinds → (b : Bool) → Out b (get_or entries i (0, none)) → left_out (get_or kinds i 0) (get_or (lows_in cs) i 0) (get_or (highs_in cs) i 0) ≡ b
+  entry-at i l b o = rw (low_at cs i, high_at cs i) (rw (get_or-zip kinds cs i (0, none) l (contents-there i l)) at o)
+
+  abbrev Here : ℕ → Type 0
+  Here i = least (words_beyond text 0 (tokens text)) ≡ least (words_beyond text i (drop i (tokens text)))
+
+  abbrev Passed : ℕ → Type 0
+  Passed i = (i < length kinds) × Out false (get_or entries i (0, none))
+
+  words-passed : (i : ℕ) → ((j : ℕ) → j < i → Passed j) → Here i
+  words-passed = reached Here Passed refl (λ j p e. e ∙ words-on h j p.0 _ refl (entry-at j p.0 false p.1))
+
+  pub words-found : (r : Option ℕ) → MatchOption r (AllWithin (Out false) entries 0 (length entries)) (λ i. (i < length entries) × HoldsAt (Out true) entries i × AllWithin (Out false) entries 0 i) → r ≡ least (words_beyond text 0 (tokens text))
+  words-found None a =
+      words-end h (length kinds) (omega arith) ∙ sym (words-passed (length kinds) (λ j l. (l, a j (0, none) (omega arith) (omega (arith, entry-count)))))
+  words-found (Some i) a =
+      let l : i < length kinds = omega (arith, a.0, entry-count) in
+      words-here h i l _ refl (entry-at i l true (a.1 (0, none))) ∙ sym (words-passed i (λ j m. (omega arith, a.2 j (0, none) (omega arith) m)))

@@ -1,12 +1,12 @@
 -- The earlier of two answers: it answers for two lists of faults together, in any order. From the definitions alone.
 use mathlib.Core.Path.{◌≡◌, refl, sym, ap, ◌∙◌}
-use mathlib.Core.Logic.{◌⊎◌, inl, inr}
 use mathlib.Core.List.{List, [], ◌∷◌, ◌++◌}
-use Prim.Native.Nat.{ℕ, suc, ◌≤◌}
+use Prim.Native.Nat.{ℕ, suc, ◌≤◌, min}
 use native.Mathlib.Omega.{arith}
 use Rattle.std.specs.Prelude.{Bool, true, false, None, Some}
 use Rattle.std.specs.Bool.{then_some}
-use Rattle.std.specs.Option.{option_or}
+use Rattle.std.specs.Option.{option_to_list}
+use Rattle.std.specs.List.{fold, reduce, cons_option}
 use Rattle.token.specs.Questions.{Found}
 use Rattle.model.specs.Lists.{when, earlier, least}
 use Rattle.names.specs.Faults.{earlier_of}
@@ -30,14 +30,6 @@ swap None (Some m) = refl
 swap (Some k) None = refl
 swap (Some k) (Some m) = ap Some (omega arith)
 
--- one of the two, where there aren't both
-pub lone : (a b : Found) → (a ≡ None) ⊎ (b ≡ None) → option_or a b ≡ earlier_of a b
-unfolding earlier_of earlier
-lone None b n = refl
-lone (Some i) None n = refl
-lone (Some i) (Some j) (inl e) = cc
-lone (Some i) (Some j) (inr e) = cc
-
 -- ---- lists
 -- a token where the test says so
 pub told : (b : Bool) (k : ℕ) → then_some b k ≡ least (when b k)
@@ -49,6 +41,26 @@ pub least-append : (xs ys : List ℕ) → least (xs ++ ys) ≡ earlier_of (least
 unfolding least earlier_of
 least-append [] ys = refl
 least-append (k ∷ xs) ys = ap (earlier k) (least-append xs ys) ∙ sym (assoc (Some k) (least xs) (least ys))
+
+-- ---- the least of what an iterator gives
+fold-min : (k x : ℕ) (xs : List ℕ) → fold min (min k x) xs ≡ min k (fold min x xs)
+fold-min k x [] = refl
+fold-min k x (y ∷ ys) =
+    let e : min (min k x) y ≡ min k (min x y) = omega arith in
+    ap (λ (z : ℕ). fold min z ys) e ∙ fold-min k (min x y) ys
+
+pub least_picked : (o : Found) (xs : List ℕ) → reduce min (cons_option o xs) ≡ earlier_of o (reduce min xs)
+unfolding earlier_of earlier
+least_picked None xs = refl
+least_picked (Some k) [] = refl
+least_picked (Some k) (x ∷ xs) = ap Some (fold-min k x xs)
+
+pub of_two : (a b : Found) → reduce min (option_to_list a ++ option_to_list b) ≡ earlier_of a b
+unfolding earlier_of earlier
+of_two None None = refl
+of_two None (Some j) = refl
+of_two (Some i) None = refl
+of_two (Some i) (Some j) = refl
 
 -- the middle list comes first
 pub least-middle : (xs ys zs : List ℕ) → least (xs ++ ys ++ zs) ≡ earlier_of (least ys) (least (xs ++ zs))

@@ -3,12 +3,13 @@ use mathlib.Core.Path.{◌≡◌, refl, sym, ap, ◌∙◌, subst}
 use mathlib.Core.List.{List, [], ◌∷◌, ◌++◌, append-nil, append_assoc}
 use mathlib.Core.Bool.{Bool, true, false, cond, ◌||◌}
 use mathlib.Core.Logic.{◌⊎◌, inl, inr, ⊎_elim}
-use Prim.Native.Nat.{ℕ, suc, ◌+◌, ◌-◌, ◌≤◌, ◌<◌, min}
+use Prim.Native.Nat.{ℕ, zero, suc, ◌+◌, ◌≤◌, ◌<◌, min}
 use native.Mathlib.Omega.{arith}
 use borrow.Author.Tests.{ne_eqb}
 use lib.Dec.{eqb}
 use lib.ListN.{length, get_or}
 use Rattle.std.specs.Prelude.{None}
+use Rattle.std.specs.List.{reduce, filter_map, range_with_len}
 use Rattle.token.specs.Questions.{Found}
 use Rattle.word.specs.Number.{worth, cap}
 use Rattle.grammar.proofs.Follows.{inside}
@@ -26,7 +27,7 @@ use Rattle.names.specs.Faults.{earlier_of, site_faults}
 use Rattle.names.specs.Leaves.{used, leaf_sites, site_at, between}
 use Rattle.names.specs.Placed.{IsName, Sort, wholes, names, sort_of, SortFits}
 use Rattle.names.specs.Settings.{World, Setting, faults_at}
-use Rattle.names.proofs.Earliest.{least-append, assoc, nothing_right}
+use Rattle.names.proofs.Earliest.{least-append, least_picked}
 
 -- ---- leaves by their kinds
 module _ (κ k : ℕ) where
@@ -153,12 +154,10 @@ module _ (t : List ℕ) (f : Site → List ℕ) where
   each_append [] ys = refl
   each_append (x ∷ xs) ys = ap (λ (l : List ℕ). f x ++ l) (each_append xs ys) ∙ sym (append_assoc (f x) (each f xs) (each f ys))
 
-  pub leaves-on : (i to : ℕ) → i < to → (found r g : Found) → r ≡ least (each f (site_at t i)) → g ≡ earlier_of found r → earlier_of g (least (each f (between t (i + 1) (to - (i + 1))))) ≡ earlier_of found (least (each f (between t i (to - i))))
-  unfolding between
-  leaves-on i to l found r g e q =
-      let n : to - i ≡ suc (to - (i + 1)) = omega arith in
-      rw (n, q, e) (assoc found (least (each f (site_at t i))) (least (each f (between t (i + 1) (to - (i + 1))))) ∙ ap (earlier_of found) (sym (ap least (each_append (site_at t i) (between t (i + 1) (to - (i + 1)))) ∙ least-append (each f (site_at t i)) (each f (between t (i + 1) (to - (i + 1)))))))
-
-  pub leaves-end : (i to : ℕ) → to ≤ i → (found : Found) → found ≡ earlier_of found (least (each f (between t i (to - i))))
+  pub leaves_picked : (i n : ℕ) → reduce min (filter_map (λ j. least (each f (site_at t j))) (range_with_len i n)) ≡ least (each f (between t i n))
   unfolding between each least
-  leaves-end i to l found = let n : to - i ≡ 0 = omega arith in rw n (sym (nothing_right found))
+  leaves_picked i zero = refl
+  leaves_picked i (suc n) =
+      least_picked (least (each f (site_at t i))) (filter_map (λ j. least (each f (site_at t j))) (range_with_len (i + 1) n))
+      ∙ ap (earlier_of (least (each f (site_at t i)))) (leaves_picked (i + 1) n)
+      ∙ sym (ap least (each_append (site_at t i) (between t (i + 1) n)) ∙ least-append (each f (site_at t i)) (each f (between t (i + 1) n)))

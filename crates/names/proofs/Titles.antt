@@ -2,18 +2,19 @@
 use mathlib.Core.Path.{◌≡◌, refl, sym, ap, ap₂, ◌∙◌, subst}
 use mathlib.Core.List.{List, [], ◌∷◌, ◌++◌, append-nil, append_assoc}
 use mathlib.Core.Bool.{Bool, true, ◌||◌}
-use Prim.Native.Nat.{ℕ, zero, suc, ◌+◌, ◌-◌, ◌≤◌, ◌<◌}
+use Prim.Native.Nat.{ℕ, zero, suc, ◌+◌, ◌-◌, ◌≤◌, ◌<◌, min}
 use native.Mathlib.Numerals.{add-one}
 use native.Mathlib.Omega.{arith}
 use lib.ListN.{length, drop, drop_of_length-le}
 use lib.Seq.{drop-cons}
-use Rattle.std.specs.Prelude.{None, Some, is_some}
+use Rattle.std.specs.Prelude.{None, Some, is_some, map}
 use Rattle.std.specs.Bool.{then_some}
+use Rattle.std.specs.List.{reduce, filter_map, range_with_len}
 use mathlib.Core.Logic.{◌⊎◌, inl, inr}
 use Rattle.token.specs.Questions.{Found}
 use Rattle.grammar.specs.Syntax
 use Rattle.tree.specs.Table
-use Rattle.model.specs.Lists.{each, when, any, least}
+use Rattle.model.specs.Lists.{each, when, any, earlier, least}
 use Rattle.model.specs.Sites.{Site, Definition, scale_sites, names, titles, variables, definitions, definitions_in, system, system_in, starts, starts_in, definition_sites, sites, over_sites}
 use Rattle.model.specs.Words.{same}
 use Rattle.model.specs.Limits.{local_limit, variable_limit, definition_limit, site_beyond, variable_beyond, definition_beyond, start_beyond, tree_beyond}
@@ -29,7 +30,7 @@ use Rattle.names.specs.Lists.{packed, found_of, is_found, name_at, names_down, R
 use Rattle.names.specs.Placed.{IsName, Named}
 use Rattle.names.specs.Settings.{World, Setting, faults_at}
 use Rattle.names.specs.Walks.{faults_over, Ground, list_faults, number_faults, param_faults, definition_faults, start_faults, lines_faults, lines_judged, LinesRoom, TreeRoom}
-use Rattle.names.proofs.Earliest.{least-append, nothing_right, assoc, swap, nothing-second, told}
+use Rattle.names.proofs.Earliest.{least-append, least_picked, nothing_right, assoc, swap, nothing-second, told}
 use Rattle.names.proofs.Lookups.{found-some}
 use Rattle.names.proofs.Between.{scale-lies}
 use Rattle.names.proofs.Chains.{variable-names, definition-names}
@@ -38,23 +39,31 @@ use Rattle.names.proofs.Namings.{any-placed}
 use Rattle.names.proofs.Settled.{vs-at, ds-at, vs-named, ds-named}
 use Rattle.names.proofs.Lines.{setting-none}
 
--- ---- the loop of `past_fault`
+-- ---- the names past a limit
 module _ (t : List ℕ) (first n : ℕ) where
   down-next : (j : ℕ) → j < n → drop j (names_down t first n) ≡ name_at t (first - j) ∷ drop (j + 1) (names_down t first n)
   down-next j l = drop-cons (names_down t first n) j 0 (omega (arith, down-length t first n)) ∙ rw (down-at t first n j l, add-one j)
 
-  pub past-on : (j : ℕ) → j < n → (found : Found) (k : ℕ) (g : Found) → k ≡ name_at t (first - j) → g ≡ earlier_of found (Some k) → earlier_of g (least (drop (j + 1) (names_down t first n))) ≡ earlier_of found (least (drop j (names_down t first n)))
-  unfolding earlier_of least
-  past-on j l found k g e q = rw (q, down-next j l, e) (assoc found (Some (name_at t (first - j))) (least (drop (j + 1) (names_down t first n))))
-
   down-end : (j : ℕ) → n ≤ j → drop j (names_down t first n) ≡ []
   down-end j l = drop_of_length-le (names_down t first n) {i = j} (omega (arith, down-length t first n))
 
-  pub past_end : (j : ℕ) → n ≤ j → (found : Found) → found ≡ earlier_of found (least (drop j (names_down t first n)))
-  unfolding least
-  past_end j l found = rw (down-end j l) (sym (nothing_right found))
+  past_picked : (j m : ℕ) → j + m ≡ n → reduce min (map (λ i. name_at t (first - i)) (range_with_len j m)) ≡ least (drop j (names_down t first n))
+  unfolding least earlier_of
+  past_picked j zero e = rw (down-end j (omega arith))
+  past_picked j (suc m) e =
+      rw (down-next j (omega arith)) (least_picked (Some (name_at t (first - j))) (map (λ i. name_at t (first - i)) (range_with_len (j + 1) m)) ∙ ap (earlier (name_at t (first - j))) (past_picked (j + 1) m (omega arith)))
 
-  -- ---- the loop of `twice_fault`
+  past_none : (j : ℕ) → n ≤ j → reduce min (map (λ i. name_at t (first - i)) (range_with_len j 0)) ≡ least (drop j (names_down t first n))
+  unfolding least
+  past_none j l = rw (down-end j l)
+
+  pub past_least : (j : ℕ) → reduce min (map (λ i. name_at t (first - i)) (range_with_len j (n - j))) ≡ least (drop j (names_down t first n))
+  past_least j = by (n - j) refl
+    where
+      by : (m : ℕ) → n - j ≡ m → reduce min (map (λ i. name_at t (first - i)) (range_with_len j m)) ≡ least (drop j (names_down t first n))
+      by zero e = past_none j (omega arith)
+      by (suc m) e = past_picked j (suc m) (omega arith)
+
   down-more : (i j : ℕ) → names_down t i (j + 1) ≡ names_down t i j ++ (name_at t (i - j) ∷ [])
   unfolding names_down
   down-more i zero = let e : i - 0 ≡ i = omega arith in rw e
@@ -63,27 +72,24 @@ module _ (t : List ℕ) (first n : ℕ) where
       let f : i - 1 - j ≡ i - suc j = omega arith in
       rw e (ap (λ (l : List ℕ). name_at t i ∷ l) (down-more (i - 1) j ∙ ap (λ (x : ℕ). names_down t (i - 1) j ++ (name_at t x ∷ [])) f))
 
-  module _ (w : ℕ → List ℕ) where
-    -- what was found and what is still to be judged give the answer for all the names
-    abbrev pub Onward : Found → ℕ → Type 0
-    Onward found j = earlier_of found (least (repeated w (names_down t first j) (drop j (names_down t first n)))) ≡ least (repeated w [] (names_down t first n))
+-- ---- the names that stand there before
+abbrev pub again_at : (ℕ → List ℕ) → List ℕ → ℕ → ℕ → Found
+again_at w t first j = least (when (any (same w (name_at t (first - j))) (names_down t first j)) (name_at t (first - j)))
 
-    pub twice-none : Onward None 0
-    unfolding earlier_of names_down
-    twice-none = refl
+module _ (t : List ℕ) (first : ℕ) (w : ℕ → List ℕ) (n : ℕ) where
+  twice_picked : (j m : ℕ) → j + m ≡ n → reduce min (filter_map (again_at w t first) (range_with_len j m)) ≡ least (repeated w (names_down t first j) (drop j (names_down t first n)))
+  unfolding repeated least
+  twice_picked j zero e = rw (down-end t first n j (omega arith))
+  twice_picked j (suc m) e =
+      let k = name_at t (first - j) in
+      let here = when (any (same w k) (names_down t first j)) k in
+      let rest = repeated w (names_down t first j ++ (k ∷ [])) (drop (j + 1) (names_down t first n)) in
+      rw (down-next t first n j (omega arith))
+      (least_picked (again_at w t first j) (filter_map (again_at w t first) (range_with_len (j + 1) m)) ∙ ap (earlier_of (again_at w t first j)) (twice_picked (j + 1) m (omega arith) ∙ rw (down-more t first n first j) refl) ∙ sym (least-append here rest))
 
-    pub twice-on : (j : ℕ) → j < n → (found r g : Found) → r ≡ least (when (any (same w (name_at t (first - j))) (names_down t first j)) (name_at t (first - j))) → g ≡ earlier_of found r → Onward found j → Onward g (j + 1)
-    unfolding repeated
-    twice-on j l found r g e q o =
-        let k = name_at t (first - j) in
-        let here = when (any (same w k) (names_down t first j)) k in
-        let rest = repeated w (names_down t first j ++ (k ∷ [])) (drop (j + 1) (names_down t first n)) in
-        rw (q, e, down-more first j) (assoc found (least here) (least rest) ∙ ap (earlier_of found) (sym (least-append here rest)))
-        ∙ (rw (down-next j l) at o)
-
-    pub twice-end : (j : ℕ) → n ≤ j → (found : Found) → Onward found j → found ≡ least (repeated w [] (names_down t first n))
-    unfolding repeated least
-    twice-end j l found o = sym (nothing_right found) ∙ (rw (down-end j l) at o)
+  pub twice_least : reduce min (filter_map (again_at w t first) (range_with_len 0 n)) ≡ least (repeated w [] (names_down t first n))
+  unfolding names_down
+  twice_least = twice_picked 0 n (omega arith)
 
 -- ---- the cases of `again_fault`
 module _ (w : ℕ → List ℕ) (ks : List ℕ) (k m : ℕ) (is : k ≡ m) (f : Found) (e : f ≡ found_of (place_in w k 0 ks)) where

@@ -51,7 +51,7 @@ negative (suc x) (suc y) e = by (leb x (mag least)) refl
     by true h = let l = leb-true x (mag least) h in rw (h, le-leb y (mag least) (omega arith))
     by false h = let l = leb-false x (mag least) h in rw (h, lt-leb y (mag least) (omega arith))
 
--- ---- the cases of `whole_fault`, where a local holds x as an i64
+-- ---- the cases of `whole_fault` and `negative_fault`, where a local holds x as an i64
 module _ (x : ℕ) (small : x ≤ cap) where
   as_is : to_z w64 x ≡ pos x
   as_is = to_z_pos w64 (omega arith)
@@ -60,15 +60,15 @@ module _ (x : ℕ) (small : x ≤ cap) where
   pub has_room : nat_abs (to_z w64 x) < 9223372036854775807
   has_room = rw as_is (omega arith)
 
-  module _ {r : Found} {v : Value} (w : ℕ → List ℕ) (b : Bool) (k : ℕ) (is : x ≡ min cap (worth 0 (w k))) (f : r ≡ lists.least (when (is_missing v) k)) where
-    pub whole-negated : b ≡ true → v ≡ negation_of (to_z w64 x) → r ≡ lists.least (whole_beyond w b k)
+  module _ {r : Found} {v : Value} (w : ℕ → List ℕ) (k : ℕ) (is : x ≡ min cap (worth 0 (w k))) (f : r ≡ lists.least (when (is_missing v) k)) where
+    pub whole-negated : v ≡ negation_of (to_z w64 x) → r ≡ lists.least (whole_beyond w true k)
     unfolding whole_beyond whole_of negation_of
-    whole-negated t e =
+    whole-negated e =
         let d : is_missing v ≡ is_missing (value_of (neg_ℤ (pos (worth 0 (w k))))) = ap is_missing (e ∙ ap negation_of as_is) ∙ negative (worth 0 (w k)) x is in
-        rw t (f ∙ ap (λ (m : Bool). lists.least (when m k)) d)
+        f ∙ ap (λ (m : Bool). lists.least (when m k)) d
 
-    pub whole_plain : b ≡ false → v ≡ value_of (to_z w64 x) → r ≡ lists.least (whole_beyond w b k)
+    pub whole_plain : v ≡ value_of (to_z w64 x) → r ≡ lists.least (whole_beyond w false k)
     unfolding whole_beyond whole_of
-    whole_plain t e =
+    whole_plain e =
         let d : is_missing v ≡ is_missing (value_of (pos (worth 0 (w k)))) = ap is_missing (e ∙ ap value_of as_is) ∙ positive (worth 0 (w k)) x is in
-        rw t (f ∙ ap (λ (m : Bool). lists.least (when m k)) d)
+        f ∙ ap (λ (m : Bool). lists.least (when m k)) d

@@ -1,21 +1,41 @@
 -- What questions 7, 8 and 9, asked in this order, answer of a text with its syntax tree (01, Opening a text). Assumes nothing: these are definitions.
-use Rattle.std.specs.Prelude.{List, ℕ, Result, Err, Ok}
-use Rattle.token.specs.declared.Refusal.{Refusal}
-use Rattle.token.specs.Questions.{asked, refusal, Judged}
+use Rattle.std.specs.Prelude.{List, ℕ, length, Result, None, Some, Err, Ok}
+use Rattle.token.specs.Contents.{lows_in, highs_in}
+use Rattle.token.specs.declared.Question as token
+use Rattle.token.specs.declared.Question.TheVariants as all
+use Rattle.token.specs.Questions.{No, question_number, asked, refusal, Found, Judged}
 use Rattle.grammar.specs.Syntax
 use Rattle.model.specs.Lists.{least}
 use Rattle.model.specs.Words.{word_of}
 use Rattle.model.specs.Limits.{beyond}
 use Rattle.model.specs.Fresh.{not_new}
 use Rattle.model.specs.Given.{not_given}
+use Rattle.names.specs.declared.Question.{Question}
+use Rattle.names.specs.declared.Question.TheVariants.{Limits, Fresh, Given}
 use Rattle.names.specs.declared.Fault.{Fault}
-use Rattle.names.specs.declared.Fault.TheVariants.{Beyond, NotNew, NotGiven}
+use Rattle.names.specs.declared.Parsed.{Parsed}
+use Rattle.names.specs.Lists.{Gathered}
+use Rattle.names.specs.Tables.{Read}
+
+-- 01, after question 6: the tables of a text with the syntax tree s, as they are lent: the kinds of its tokens alone, and where its lists stand
+pub record Judgeable (text : List ℕ) (s : Syntax.Model) (kinds : List ℕ) (p : Parsed) : Type 0 where
+  pub read : Read text s kinds (lows_in p.contents.now) (highs_in p.contents.now) p.nodes.now p.lists.root (length kinds)
+  pub gathered : Gathered s p.lists.root p.lists
+
+-- 01, Opening a text: the questions about names among all questions
+abbrev pub among_all : Question → token.Question
+among_all Limits = all.Limits
+among_all Fresh = all.Fresh
+among_all Given = all.Given
 
 -- 01, Opening a text: the number of the question that a fault is a no to, with the token at fault
-unfoldable pub no_of : Fault → Refusal
-no_of (Beyond k) = refusal 7 k
-no_of (NotNew k) = refusal 8 k
-no_of (NotGiven k) = refusal 9 k
+unfoldable pub no_of : Fault → No
+no_of f = refusal (question_number (among_all f.question)) f.token
+
+-- 01, Opening a text: what a question answers, by its token at fault
+unfoldable pub fault_of : Question → Found → Result (Unit {0}) Fault
+fault_of q (Some k) = Err (record { question = q; token = k })
+fault_of q None = Ok tt
 
 -- 01, Opening a text: what an answer says, a no by its question's number
 unfoldable pub answer_of : Result (Unit {0}) Fault → Judged

@@ -1,6 +1,8 @@
 -- Where a model's variables and definitions stand in the table of nodes, and look-ups by packed names. Assumes nothing: these are definitions.
 use Rattle.std.specs.Prelude.{◌≡◌, List, [], ◌∷◌, Bool, true, false, cond, ℕ, zero, suc, ◌+◌, ◌-◌, ◌≤◌, ◌<◌, eqb, length, get_or, None, Some}
 use Rattle.std.proofs.Math.Option.{Option, none, some}
+use Rattle.token.specs.declared.Content.{Content}
+use Rattle.token.specs.Contents.{lows_in, highs_in}
 use Rattle.token.specs.Questions.{Found}
 use Rattle.grammar.specs.Syntax
 use Rattle.tree.specs.Node as node
@@ -9,10 +11,15 @@ use Rattle.model.specs.Sites.{variables, definitions}
 use Rattle.model.specs.Limits.{local_limit}
 use Rattle.names.specs.declared.Lists.{Lists}
 use Rattle.names.specs.declared.scope.Scope.{Scope}
+use Rattle.names.specs.declared.Parsed.{Parsed}
 
 -- a token as the two numbers of its contents; two names of at most 16 bytes are the same where these are
 unfoldable pub packed : List ℕ → List ℕ → ℕ → List ℕ
 packed low high k = get_or low k 0 ∷ get_or high k 0 ∷ []
+
+-- the same of a table of contents as it is lent
+abbrev pub packed_in : List Content → ℕ → List ℕ
+packed_in cs = packed (lows_in cs) (highs_in cs)
 
 -- a place, or none
 unfoldable pub found_of : Option ℕ → Found
@@ -42,6 +49,9 @@ pub record Readable (low high nodes : List ℕ) (i : ℕ) : Type 0 where
 pub record Reach (low high nodes : List ℕ) (first n : ℕ) : Type 0 where
   pub count : n ≤ first + 1
   pub each : (j : ℕ) → j < n → Readable low high nodes (first - j)
+
+abbrev pub ReachIn : Parsed → ℕ → ℕ → Type 0
+ReachIn p = Reach (lows_in p.contents.now) (highs_in p.contents.now) p.nodes.now
 
 -- the name k can be looked up in a scope
 pub record InScope (low high : List ℕ) (scope : Scope) (k : ℕ) : Type 0 where

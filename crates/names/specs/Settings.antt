@@ -2,6 +2,7 @@
 use Rattle.std.specs.Prelude.{◌≡◌, List, ◌++◌, true, ℕ, ◌+◌, ◌≤◌, ◌<◌, min, length, get_or, take}
 use Rattle.word.specs.Number.{worth, cap}
 use Rattle.token.specs.Kind as kind
+use Rattle.token.specs.Contents.{lows_in, highs_in}
 use Rattle.grammar.specs.Syntax
 use Rattle.tree.specs.Table
 use Rattle.model.specs.Lists.{every_other}
@@ -12,6 +13,8 @@ use Rattle.grammar.specs.Limit.{token_limit}
 use Rattle.names.specs.declared.Question.{Question}
 use Rattle.names.specs.declared.Lists.{Lists}
 use Rattle.names.specs.declared.scope.Scope.{Scope}
+use Rattle.names.specs.declared.Parsed.{Parsed}
+use Rattle.names.specs.declared.Context.{Context}
 use Rattle.names.specs.Faults.{asks_names, site_faults}
 use Rattle.names.specs.Lists.{packed, Gathered}
 use Rattle.names.specs.Placed.{IsName, Named, Fits}
@@ -63,3 +66,20 @@ pub record Binding (question : Question) (low high nodes : List ℕ) (lists : Li
   pub after : 0 < first
   pub some : 0 < n
   pub room : asks_names question ≡ true → scope.count + n ≤ local_limit
+
+-- the same of a text as it is lent
+abbrev pub WorldIn : Question → Parsed → Type 0
+WorldIn q p = World q (lows_in p.contents.now) (highs_in p.contents.now) p.nodes.now p.lists
+
+abbrev pub SettingIn : Question → Parsed → Scope → Type 0
+SettingIn q p scope = Setting q (lows_in p.contents.now) (highs_in p.contents.now) p.nodes.now p.lists scope
+
+-- and of what a walk asks of it
+abbrev pub WorldOf : Context → Type 0
+WorldOf c = World c.question (lows_in c.contents.now) (highs_in c.contents.now) c.nodes.now c.lists
+
+abbrev pub SettingOf : Context → Type 0
+SettingOf c = Setting c.question (lows_in c.contents.now) (highs_in c.contents.now) c.nodes.now c.lists c.scope
+
+abbrev pub BindingOf : Context → ℕ → ℕ → Type 0
+BindingOf c = Binding c.question (lows_in c.contents.now) (highs_in c.contents.now) c.nodes.now c.lists c.scope

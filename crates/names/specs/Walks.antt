@@ -2,6 +2,7 @@
 -- are definitions.
 use Rattle.std.specs.Prelude.{◌≡◌, List, [], ◌∷◌, ◌++◌, true, cond, ◌||◌, ℕ, eqb, ltb, get_or, drop, None}
 use Rattle.token.specs.Kind as kind
+use Rattle.token.specs.Contents.{lows_in, highs_in}
 use Rattle.token.specs.Token.{same_bytes}
 use Rattle.word.specs.Number.{worth}
 use Rattle.grammar.specs.Syntax
@@ -16,6 +17,8 @@ use Rattle.names.specs.declared.Question.{Question}
 use Rattle.names.specs.declared.Question.TheVariants.{Limits, Fresh, Given}
 use Rattle.names.specs.declared.Lists.{Lists}
 use Rattle.names.specs.declared.scope.Scope.{Scope}
+use Rattle.names.specs.declared.Parsed.{Parsed}
+use Rattle.names.specs.declared.Context.{Context}
 use Rattle.names.specs.Faults.{asks_names, site_faults, tree_faults}
 use Rattle.names.specs.Settings.{World, Setting}
 
@@ -72,6 +75,16 @@ pub record Place (question : Question) (kinds low high nodes : List ℕ) (lists 
 pub record Ground (question : Question) (kinds low high nodes : List ℕ) (lists : Lists) : Type 0 where
   pub world : World question low high nodes lists
   pub closes : Closes kinds world.word
+
+-- the same of what a walk asks of a text as it is lent
+abbrev pub PlaceOf : Context → Type 0
+PlaceOf c = Place c.question c.kinds.now (lows_in c.contents.now) (highs_in c.contents.now) c.nodes.now c.lists c.scope
+
+abbrev pub GroundIn : Question → List ℕ → Parsed → Type 0
+GroundIn q kinds p = Ground q kinds (lows_in p.contents.now) (highs_in p.contents.now) p.nodes.now p.lists
+
+abbrev pub GroundOf : Context → Type 0
+GroundOf c = Ground c.question c.kinds.now (lows_in c.contents.now) (highs_in c.contents.now) c.nodes.now c.lists
 
 module _ {question : Question} {kinds low high nodes : List ℕ} {lists : Lists} where
   module _ {scope : Scope} (h : Place question kinds low high nodes lists scope) where

@@ -17,11 +17,11 @@ ghost use Rattle.model.specs.Words.{same};
 ghost use Rattle.model.specs.Limits.{local_limit, is_missing, words_beyond, whole_beyond, site_beyond};
 ghost use Rattle.model.specs.Fresh.{repeated};
 ghost use Rattle.model.specs.Given.{place_in, is_callable};
-ghost use Rattle.names.specs.Tables.{Tabled, Read};
-ghost use Rattle.names.specs.Judged.{answer_of, judged_names};
+ghost use Rattle.names.specs.Tables.{Tabled};
+ghost use Rattle.names.specs.Judged.{among_all, Judgeable, fault_of, answer_of, judged_names};
 ghost use Rattle.names.specs.Faults.{earlier_of, left_out, site_faults};
-ghost use Rattle.names.specs.Lists.{packed, found_of, name_at, names_down, InScope, Reach, run, Gathered};
-ghost use Rattle.names.specs.Settings.{Extended, World, Setting, faults_at, known_in, Binding};
+ghost use Rattle.names.specs.Lists.{packed_in, found_of, name_at, names_down, InScope, ReachIn, run, Gathered};
+ghost use Rattle.names.specs.Settings.{Extended, WorldIn, SettingIn, WorldOf, SettingOf, BindingOf, faults_at, known_in};
 ghost use Rattle.names.specs.Leaves.{used, leaf_sites, site_at, between};
 ghost use Rattle.names.specs.Placed.{IsName, Named, sort_of, wholes, names};
 ghost use Rattle.names.specs.declared.Question.TheVariants.{Limits, Fresh, Given};
@@ -31,11 +31,24 @@ use token::{Content, Kind};
 use tree::NodeKind;
 
 // Which question is asked: 7, 8 or 9.
+// An enum, no trait: eight functions of the walk match it, and an impl for each question would write out twenty-four methods, ten of them to answer None.
 #[derive(Clone, Copy)]
 pub enum Question {
     Limits,
     Fresh,
     Given,
+}
+
+impl From<Question> for token::Question {
+    ghost from_gives = { λ q t. t ≡ among_all q };
+
+    fn from(q: Question) -> token::Question {
+        match q {
+            Question::Limits => token::Question::Limits,
+            Question::Fresh => token::Question::Fresh,
+            Question::Given => token::Question::Given,
+        }
+    }
 }
 
 #[derive(Clone, Copy)]
@@ -67,8 +80,26 @@ pub struct Lists {
     pub definitions: usize,
 }
 
+impl Lists {
+    // The node of the first definition.
+    pub fn first_definition(self) -> usize
+        requires { self.variables ≤ self.root }
+        ensures { result ≡ self.root - self.variables }
+    {
+        self.root - self.variables
+    }
+
+    // The root of the system line.
+    pub fn line(self) -> usize
+        requires { self.variables + self.definitions ≤ self.root }
+        ensures { result ≡ self.root - self.variables - self.definitions }
+    {
+        self.first_definition() - self.definitions
+    }
+}
+
 // A text that fits: the contents of its tokens, its tree, and where the lists of its model stand.
-// What they tell of the text (World, Setting) stands in the contracts: it goes by recursion on the tree, which a ghost field may not.
+// What they tell of the text (WorldIn, SettingIn) stands in the contracts, no field: each answer is promised for every text that the tables tell of, and the clauses name it.
 #[derive(Clone, Copy)]
 pub struct Parsed<'a> {
     pub contents: &'a [Content],
@@ -76,14 +107,50 @@ pub struct Parsed<'a> {
     pub lists: Lists,
 }
 
+// Which question a walk asks, of which text, and with which locals in scope.
+// The tables stand in it by themselves, not as a Parsed: of a slice in a struct of a lent struct the check doesn't know the size.
+#[derive(Clone, Copy)]
+pub struct Context<'a> {
+    pub question: Question,
+    pub kinds: &'a [u8],
+    pub contents: &'a [Content],
+    pub nodes: &'a [u64],
+    pub lists: Lists,
+    pub scope: Scope,
+}
+
+impl<'a> Context<'a> {
+    // The same with these locals in scope.
+    pub(crate) fn within(&self, scope: Scope) -> Context<'a>
+        ensures { result ≡ record { question = self.entry.now.question; kinds = self.entry.now.kinds; contents = self.entry.now.contents; nodes = self.entry.now.nodes; lists = self.entry.now.lists; scope = scope } }
+    {
+        Context {
+            question: self.question,
+            kinds: self.kinds,
+            contents: self.contents,
+            nodes: self.nodes,
+            lists: self.lists,
+            scope,
+        }
+    }
+
+    // Its text.
+    fn parsed(&self) -> Parsed<'a>
+        ensures { result ≡ record { contents = self.entry.now.contents; nodes = self.entry.now.nodes; lists = self.entry.now.lists } }
+    {
+        Parsed {
+            contents: self.contents,
+            nodes: self.nodes,
+            lists: self.lists,
+        }
+    }
+}
+
 // The earlier of two answers.
 pub fn earlier(a: Option<usize>, b: Option<usize>) -> Option<usize>
     ensures { result ≡ earlier_of a b }
 {
-    match (a, b) {
-        (Some(i), Some(j)) => Some(i.min(j)),
-        _ => a.or(b),
-    }
+    a.into_iter().chain(b).min()
 }
 
 // A name or a decimal that is beyond its limit has no contents.
@@ -98,16 +165,14 @@ fn is_left_out(kind: u8, content: Content) -> bool
 }
 
 // Question 7 of the tokens alone: the first name or decimal beyond its limit.
-pub fn words_fault(kinds: &[u8], contents: &[Content], n: usize) -> Option<usize>
-    requires { (text : List ℕ) × Tabled text kinds.now (lows_in contents.now) (highs_in contents.now) n }
-    ensures { (text : List ℕ) → Tabled text kinds.now (lows_in contents.now) (highs_in contents.now) n → result ≡ least (words_beyond text 0 (tokens text)) }
+pub fn words_fault(kinds: &[u8], contents: &[Content]) -> Option<usize>
+    requires { (text : List ℕ) × Tabled text kinds.now (lows_in contents.now) (highs_in contents.now) (length kinds.now) }
+    ensures { (text : List ℕ) → Tabled text kinds.now (lows_in contents.now) (highs_in contents.now) (length kinds.now) → result ≡ least (words_beyond text 0 (tokens text)) }
 {
-    for i in 0..n {
-        if is_left_out(kinds[i], contents[i]) {
-            return Some(i);
-        }
-    }
-    None
+    kinds
+        .iter()
+        .zip(contents)
+        .position(|(&kind, &content)| is_left_out(kind, content))
 }
 
 // How many nodes of this kind stand one after the other, from the node `first` down.
@@ -139,7 +204,7 @@ pub fn lists_of(nodes: &[u64], root: usize) -> Lists
 // Whether two names of at most 16 bytes are the same.
 pub fn same_name(contents: &[Content], i: usize, j: usize) -> bool
     requires { (i < length contents.now) × (j < length contents.now) }
-    ensures { result ≡ same (packed (lows_in contents.now) (highs_in contents.now)) i j }
+    ensures { result ≡ same (packed_in contents.now) i j }
 {
     contents[i] == contents[j]
 }
@@ -147,14 +212,11 @@ pub fn same_name(contents: &[Content], i: usize, j: usize) -> bool
 // The place in scope of the local with the name k.
 pub fn local_named(contents: &[Content], scope: Scope, k: usize) -> Option<usize>
     requires { InScope (lows_in contents.now) (highs_in contents.now) scope k }
-    ensures { result ≡ found_of (place_in (packed (lows_in contents.now) (highs_in contents.now)) k 0 (take scope.count scope.names)) }
+    ensures { result ≡ found_of (place_in (packed_in contents.now) k 0 (take scope.count scope.names)) }
 {
-    for (i, &name) in scope.names[..scope.count].iter().enumerate() {
-        if same_name(contents, k, name as usize) {
-            return Some(i);
-        }
-    }
-    None
+    scope.names[..scope.count]
+        .iter()
+        .position(|&name| same_name(contents, k, name as usize))
 }
 
 // The name in a list's node.
@@ -171,77 +233,117 @@ fn listed_name(nodes: &[u64], i: usize) -> usize
 
 // The place of the name k in the list of n that goes down from the node `first`.
 pub fn listed(parsed: Parsed, first: usize, n: usize, k: usize) -> Option<usize>
-    requires reach { Reach (lows_in parsed.contents.now) (highs_in parsed.contents.now) parsed.nodes.now first n }
+    requires reach { ReachIn parsed first n }
     requires k_in_bounds { k < length parsed.contents.now }
-    ensures { result ≡ found_of (place_in (packed (lows_in parsed.entry.contents.now) (highs_in parsed.entry.contents.now)) k 0 (names_down parsed.entry.nodes.now first n)) }
+    ensures { result ≡ found_of (place_in (packed_in parsed.entry.contents.now) k 0 (names_down parsed.entry.nodes.now first n)) }
 {
-    for j in 0..n {
-        if same_name(parsed.contents, k, listed_name(parsed.nodes, first - j)) {
-            return Some(j);
-        }
+    (0..n).find(|&j| same_name(parsed.contents, k, listed_name(parsed.nodes, first - j)))
+}
+
+impl<'a> Parsed<'a> {
+    // The place of the variable with the name k among the variables.
+    pub fn variable_named(self, k: usize) -> Option<usize>
+        requires reach { ReachIn self self.lists.root self.lists.variables }
+        requires k_in_bounds { k < length self.contents.now }
+        ensures { result ≡ found_of (place_in (packed_in self.entry.contents.now) k 0 (names_down self.entry.nodes.now self.entry.lists.root self.entry.lists.variables)) }
+    {
+        listed(self, self.lists.root, self.lists.variables, k)
     }
-    None
+
+    // The place of the definition with the name k among the definitions.
+    pub fn definition_named(self, k: usize) -> Option<usize>
+        requires below { self.lists.variables ≤ self.lists.root }
+        requires reach { ReachIn self (self.lists.root - self.lists.variables) self.lists.definitions }
+        requires k_in_bounds { k < length self.contents.now }
+        ensures { result ≡ found_of (place_in (packed_in self.entry.contents.now) k 0 (names_down self.entry.nodes.now (self.entry.lists.root - self.entry.lists.variables) self.entry.lists.definitions)) }
+    {
+        listed(
+            self,
+            self.lists.first_definition(),
+            self.lists.definitions,
+            k,
+        )
+    }
 }
 
 // Question 7 of a whole number, which has to have a value.
-fn whole_fault(contents: &[Content], negated: bool, k: usize) -> Option<usize>
+fn whole_fault(contents: &[Content], k: usize) -> Option<usize>
     requires { (k < length contents.now) × (get_or (lows_in contents.now) k 0 ≤ cap) }
-    ensures { (w : ℕ → List ℕ) → get_or (lows_in contents.now) k 0 ≡ min cap (worth 0 (w k)) → result ≡ least (whole_beyond w negated k) }
+    ensures { (w : ℕ → List ℕ) → get_or (lows_in contents.now) k 0 ≡ min cap (worth 0 (w k)) → result ≡ least (whole_beyond w false k) }
 {
     let z = contents[k].low as i64;
-    let v = if negated {
-        value::neg_value(z)
-    } else {
-        value::value_of(z)
-    };
-    v.is_none().then_some(k)
+    value::value_of(z).is_none().then_some(k)
+}
+
+// Question 7 of a whole number with `-`.
+fn negative_fault(contents: &[Content], k: usize) -> Option<usize>
+    requires { (k < length contents.now) × (get_or (lows_in contents.now) k 0 ≤ cap) }
+    ensures { (w : ℕ → List ℕ) → get_or (lows_in contents.now) k 0 ≡ min cap (worth 0 (w k)) → result ≡ least (whole_beyond w true k) }
+{
+    let z = contents[k].low as i64;
+    value::neg_value(z).is_none().then_some(k)
 }
 
 // Whether a variable's number is whole, by the kind of its node.
+#[tactic(auto, unfolding(tree::specs::Node::number_kind))]
 pub fn is_whole(kind: u8) -> bool
     ensures { result ≡ (eqb kind (number_kind false false) || eqb kind (number_kind true false)) }
 {
-    kind == NodeKind::NUMBER || kind == NodeKind::NEGATIVE_NUMBER
+    matches!(kind, NodeKind::NUMBER | NodeKind::NEGATIVE_NUMBER)
 }
 
-// Question 9 of a name that is used, as a scale or as a value, which has to be whole.
-fn name_fault(parsed: &Parsed, scope: Scope, scaling: bool, k: usize) -> Option<usize>
-    requires { (h : Setting Given (lows_in parsed.now.contents.now) (highs_in parsed.now.contents.now) parsed.now.nodes.now parsed.now.lists scope) × IsName h.world.kinds k }
-    ensures { (h : Setting Given (lows_in parsed.entry.now.contents.now) (highs_in parsed.entry.now.contents.now) parsed.entry.now.nodes.now parsed.entry.now.lists scope) → IsName h.world.kinds k → result ≡ least (faults_at h (used scaling k)) }
+// Question 9 of a name that is used as a scale. By ifs, one for each list that may give the name, as `value_fault` has them.
+fn scale_fault(parsed: &Parsed, scope: Scope, k: usize) -> Option<usize>
+    requires { (h : SettingIn Given parsed.now scope) × IsName h.world.kinds k }
+    ensures { (h : SettingIn Given parsed.entry.now scope) → IsName h.world.kinds k → result ≡ least (faults_at h (used true k)) }
 {
     if local_named(parsed.contents, scope, k).is_some() {
         return None;
     }
-    let root = parsed.lists.root;
-    let Some(j) = listed(*parsed, root, parsed.lists.variables, k) else {
-        return Some(k);
-    };
-    if scaling || is_whole(tree::kind_of(parsed.nodes[tree::left_of(parsed.nodes[root - j])])) {
+    if parsed.variable_named(k).is_some() {
         return None;
     }
     Some(k)
 }
 
-// Whether the definition with the name k has n parameters.
-fn is_callable(parsed: &Parsed, k: usize, n: usize) -> bool
-    requires { (h : World Given (lows_in parsed.now.contents.now) (highs_in parsed.now.contents.now) parsed.now.nodes.now parsed.now.lists) × IsName h.kinds k }
-    ensures { (h : World Given (lows_in parsed.entry.now.contents.now) (highs_in parsed.entry.now.contents.now) parsed.entry.now.nodes.now parsed.entry.now.lists) → IsName h.kinds k → result ≡ is_callable h.word (definitions h.model) k n }
+// Question 9 of a name that is used as a value, which has to be whole.
+fn value_fault(parsed: &Parsed, scope: Scope, k: usize) -> Option<usize>
+    requires { (h : SettingIn Given parsed.now scope) × IsName h.world.kinds k }
+    ensures { (h : SettingIn Given parsed.entry.now scope) → IsName h.world.kinds k → result ≡ least (faults_at h (used false k)) }
 {
-    let first = parsed.lists.root - parsed.lists.variables;
-    let Some(j) = listed(*parsed, first, parsed.lists.definitions, k) else {
+    if local_named(parsed.contents, scope, k).is_some() {
+        return None;
+    }
+    let root = parsed.lists.root;
+    let Some(j) = parsed.variable_named(k) else {
+        return Some(k);
+    };
+    if is_whole(tree::kind_of(parsed.nodes[tree::left_of(parsed.nodes[root - j])])) {
+        return None;
+    }
+    Some(k)
+}
+
+// Whether the definition with the name k has n parameters. The definition's node is found alike in steady, settle and opening, by three facts: WorldIn, LookupIn and ItemAt.
+fn is_callable(parsed: &Parsed, k: usize, n: usize) -> bool
+    requires { (h : WorldIn Given parsed.now) × IsName h.kinds k }
+    ensures { (h : WorldIn Given parsed.entry.now) → IsName h.kinds k → result ≡ is_callable h.word (definitions h.model) k n }
+{
+    let Some(j) = parsed.definition_named(k) else {
         return false;
     };
+    let first = parsed.lists.first_definition();
     tree::third_of(parsed.nodes[tree::left_of(parsed.nodes[first - j])]) == n
 }
 
 // The faults of a call, or of an item of the system line, with n values.
-fn call_fault(question: Question, parsed: &Parsed, k: usize, n: usize) -> Option<usize>
-    requires { (h : World question (lows_in parsed.now.contents.now) (highs_in parsed.now.contents.now) parsed.now.nodes.now parsed.now.lists) × IsName h.kinds k }
-    ensures { (h : World question (lows_in parsed.entry.now.contents.now) (highs_in parsed.entry.now.contents.now) parsed.entry.now.nodes.now parsed.entry.now.lists) (sc : List ℕ) → IsName h.kinds k → result ≡ least (site_faults question h.word (variables h.model) (definitions h.model) sc (call k n)) }
+fn call_fault(context: &Context, k: usize, n: usize) -> Option<usize>
+    requires { (h : WorldOf context.now) × IsName h.kinds k }
+    ensures { (h : WorldOf context.entry.now) (sc : List ℕ) → IsName h.kinds k → result ≡ least (site_faults context.entry.now.question h.word (variables h.model) (definitions h.model) sc (call k n)) }
 {
-    match question {
+    match context.question {
         Question::Limits | Question::Fresh => None,
-        Question::Given => (!is_callable(parsed, k, n)).then_some(k),
+        Question::Given => (!is_callable(&context.parsed(), k, n)).then_some(k),
     }
 }
 
@@ -251,55 +353,45 @@ fn number_fault(contents: &[Content], kind: u8, k: usize) -> Option<usize>
     ensures { (w : ℕ → List ℕ) (sc : List ℕ) → (sort_of kind ≡ wholes → get_or (lows_in contents.now) k 0 ≡ min cap (worth 0 (w k))) → result ≡ least (each (site_beyond w sc) (leaf_sites kind k)) }
 {
     match kind {
-        NodeKind::LITERAL | NodeKind::NUMBER => whole_fault(contents, false, k),
-        NodeKind::NEGATIVE | NodeKind::NEGATIVE_NUMBER => whole_fault(contents, true, k),
+        NodeKind::LITERAL | NodeKind::NUMBER => whole_fault(contents, k),
+        NodeKind::NEGATIVE | NodeKind::NEGATIVE_NUMBER => negative_fault(contents, k),
         _ => None,
     }
 }
 
 // Question 9 of a node: a name that isn't given.
 fn used_fault(parsed: &Parsed, scope: Scope, kind: u8, k: usize) -> Option<usize>
-    requires { (h : Setting Given (lows_in parsed.now.contents.now) (highs_in parsed.now.contents.now) parsed.now.nodes.now parsed.now.lists scope) × (sort_of kind ≡ names → IsName h.world.kinds k) }
-    ensures { (h : Setting Given (lows_in parsed.entry.now.contents.now) (highs_in parsed.entry.now.contents.now) parsed.entry.now.nodes.now parsed.entry.now.lists scope) → (sort_of kind ≡ names → IsName h.world.kinds k) → result ≡ least (each (faults_at h) (leaf_sites kind k)) }
+    requires { (h : SettingIn Given parsed.now scope) × (sort_of kind ≡ names → IsName h.world.kinds k) }
+    ensures { (h : SettingIn Given parsed.entry.now scope) → (sort_of kind ≡ names → IsName h.world.kinds k) → result ≡ least (each (faults_at h) (leaf_sites kind k)) }
 {
     match kind {
-        NodeKind::NAMED => name_fault(parsed, scope, false, k),
-        NodeKind::SCALE_NAME => name_fault(parsed, scope, true, k),
+        NodeKind::NAMED => value_fault(parsed, scope, k),
+        NodeKind::SCALE_NAME => scale_fault(parsed, scope, k),
         _ => None,
     }
 }
 
 // The faults of the node i, if it is a leaf.
-fn leaf_fault(question: Question, parsed: &Parsed, scope: Scope, i: usize) -> Option<usize>
-    requires { Setting question (lows_in parsed.now.contents.now) (highs_in parsed.now.contents.now) parsed.now.nodes.now parsed.now.lists scope × (i ≤ parsed.now.lists.root) }
-    ensures { (h : Setting question (lows_in parsed.entry.now.contents.now) (highs_in parsed.entry.now.contents.now) parsed.entry.now.nodes.now parsed.entry.now.lists scope) → result ≡ least (each (faults_at h) (site_at parsed.entry.now.nodes.now i)) }
+fn leaf_fault(context: &Context, i: usize) -> Option<usize>
+    requires { SettingOf context.now × (i ≤ context.now.lists.root) }
+    ensures { (h : SettingOf context.entry.now) → result ≡ least (each (faults_at h) (site_at context.entry.now.nodes.now i)) }
 {
-    let node = parsed.nodes[i];
+    let node = context.nodes[i];
     let kind = tree::kind_of(node);
     let k = tree::token_of(node);
-    match question {
-        Question::Limits => number_fault(parsed.contents, kind, k),
+    match context.question {
+        Question::Limits => number_fault(context.contents, kind, k),
         Question::Fresh => None,
-        Question::Given => used_fault(parsed, scope, kind, k),
+        Question::Given => used_fault(&context.parsed(), context.scope, kind, k),
     }
 }
 
 // The faults of the leaves among the nodes from `from` up to `to`, which isn't one of them.
-fn leaves_fault(
-    question: Question,
-    parsed: &Parsed,
-    scope: Scope,
-    from: usize,
-    to: usize,
-) -> Option<usize>
-    requires { Setting question (lows_in parsed.now.contents.now) (highs_in parsed.now.contents.now) parsed.now.nodes.now parsed.now.lists scope × (to ≤ parsed.now.lists.root + 1) }
-    ensures { (h : Setting question (lows_in parsed.entry.now.contents.now) (highs_in parsed.entry.now.contents.now) parsed.entry.now.nodes.now parsed.entry.now.lists scope) → result ≡ least (each (faults_at h) (between parsed.entry.now.nodes.now from (to - from))) }
+fn leaves_fault(context: &Context, from: usize, to: usize) -> Option<usize>
+    requires { SettingOf context.now × (to ≤ context.now.lists.root + 1) }
+    ensures { (h : SettingOf context.entry.now) → result ≡ least (each (faults_at h) (between context.entry.now.nodes.now from (to - from))) }
 {
-    let mut found = None;
-    for i in from..to {
-        found = earlier(found, leaf_fault(question, parsed, scope, i));
-    }
-    found
+    (from..to).filter_map(|i| leaf_fault(context, i)).min()
 }
 
 // A scope without locals.
@@ -330,6 +422,9 @@ fn with_local(scope: Scope, k: usize) -> Scope
 }
 
 // A scope with n locals more, every second token from `first` on.
+// Bound names are told by their first token and their number, here and in the walk: each function counts from the one or compares the other, so that a struct of the two
+// would be taken apart in every one.
+// A `for` over j, as in repeated_fault: what is promised is of the first j names, which a range with steps of 2 would have to count again.
 pub fn with_locals(scope: Scope, first: usize, n: usize) -> Scope
     requires { first + 2 * n ≤ field }
     ensures { Extended scope (every_other first n) result }
@@ -343,18 +438,18 @@ pub fn with_locals(scope: Scope, first: usize, n: usize) -> Scope
 
 // Question 8 of the local k, which the variables and the locals in scope may have the name of.
 fn taken_fault(parsed: &Parsed, scope: Scope, k: usize) -> Option<usize>
-    requires { (h : Setting Fresh (lows_in parsed.now.contents.now) (highs_in parsed.now.contents.now) parsed.now.nodes.now parsed.now.lists scope) × IsName h.world.kinds k }
-    ensures { (h : Setting Fresh (lows_in parsed.entry.now.contents.now) (highs_in parsed.entry.now.contents.now) parsed.entry.now.nodes.now parsed.entry.now.lists scope) → IsName h.world.kinds k → result ≡ least (when (any (same h.world.word k) (known_in h)) k) }
+    requires { (h : SettingIn Fresh parsed.now scope) × IsName h.world.kinds k }
+    ensures { (h : SettingIn Fresh parsed.entry.now scope) → IsName h.world.kinds k → result ≡ least (when (any (same h.world.word k) (known_in h)) k) }
 {
-    let taken = listed(*parsed, parsed.lists.root, parsed.lists.variables, k).is_some()
+    let taken = parsed.variable_named(k).is_some()
         || local_named(parsed.contents, scope, k).is_some();
     taken.then_some(k)
 }
 
 // Question 8 of n locals, every second token from `first` on.
 fn repeated_fault(parsed: &Parsed, scope: Scope, first: usize, n: usize) -> Option<usize>
-    requires { ((h : Setting Fresh (lows_in parsed.now.contents.now) (highs_in parsed.now.contents.now) parsed.now.nodes.now parsed.now.lists scope) × Named h.world.kinds (every_other first n)) × (scope.count + n ≤ local_limit) }
-    ensures { (h : Setting Fresh (lows_in parsed.entry.now.contents.now) (highs_in parsed.entry.now.contents.now) parsed.entry.now.nodes.now parsed.entry.now.lists scope) → Named h.world.kinds (every_other first n) → result ≡ least (repeated h.world.word (known_in h) (every_other first n)) }
+    requires { ((h : SettingIn Fresh parsed.now scope) × Named h.world.kinds (every_other first n)) × (scope.count + n ≤ local_limit) }
+    ensures { (h : SettingIn Fresh parsed.entry.now scope) → Named h.world.kinds (every_other first n) → result ≡ least (repeated h.world.word (known_in h) (every_other first n)) }
 {
     let mut found = None;
     let mut seen = scope;
@@ -366,7 +461,8 @@ fn repeated_fault(parsed: &Parsed, scope: Scope, first: usize, n: usize) -> Opti
     found
 }
 
-// Question 7 of n locals, every second token from `first` on, where there is room for some.
+// Question 7 of n locals, every second token from `first` on, where there is room for some. By an if, here and in `bound_fault`: then_some would take the token's number in
+// both cases.
 fn over_fault(room: usize, first: usize, n: usize) -> Option<usize>
     requires { first + 2 * n ≤ field }
     ensures { result ≡ least (drop room (every_other first n)) }
@@ -378,20 +474,13 @@ fn over_fault(room: usize, first: usize, n: usize) -> Option<usize>
 }
 
 // The faults of n names that a receive with so many sets binds.
-fn bound_fault(
-    question: Question,
-    parsed: &Parsed,
-    scope: Scope,
-    first: usize,
-    n: usize,
-    sets: usize,
-) -> Option<usize>
-    requires { Binding question (lows_in parsed.now.contents.now) (highs_in parsed.now.contents.now) parsed.now.nodes.now parsed.now.lists scope first n }
-    ensures { (h : Binding question (lows_in parsed.entry.now.contents.now) (highs_in parsed.entry.now.contents.now) parsed.entry.now.nodes.now parsed.entry.now.lists scope first n) → result ≡ least (faults_at h.setting (bound (every_other first n) sets)) }
+fn bound_fault(context: &Context, first: usize, n: usize, sets: usize) -> Option<usize>
+    requires { BindingOf context.now first n }
+    ensures { (h : BindingOf context.entry.now first n) → result ≡ least (faults_at h.setting (bound (every_other first n) sets)) }
 {
-    match question {
-        Question::Limits => over_fault(Limits::LOCALS - scope.count, first, n),
-        Question::Fresh => repeated_fault(parsed, scope, first, n),
+    match context.question {
+        Question::Limits => over_fault(Limits::LOCALS - context.scope.count, first, n),
+        Question::Fresh => repeated_fault(&context.parsed(), context.scope, first, n),
         Question::Given => {
             if n == sets {
                 return None;
@@ -411,61 +500,37 @@ fn branch_fault(question: Question, i: usize, k: usize) -> Option<usize>
     }
 }
 
-// A no to question 7, 8 or 9, with the token at fault.
+// A no to a question, with the token at fault.
 #[derive(Clone, Copy)]
-pub enum Fault {
-    Beyond(usize),
-    NotNew(usize),
-    NotGiven(usize),
+pub struct Fault {
+    pub question: Question,
+    pub token: usize,
 }
 
-// Questions 7, 8 and 9, in this order, of a text's n tokens and its tree, which its caller holds as these five.
-pub fn judge_names(
-    kinds: &[u8],
-    contents: &[Content],
-    nodes: &[u64],
-    root: usize,
-    n: usize,
-) -> Result<(), Fault>
-    requires { (text : List ℕ) × (s : Syntax.Model) × Read text s kinds.now (lows_in contents.now) (highs_in contents.now) nodes.now root n }
-    ensures { (text : List ℕ) (s : Syntax.Model) → Read text s kinds.now (lows_in contents.now) (highs_in contents.now) nodes.now root n → answer_of result ≡ judged_names text s }
+// What a question answers: no, if a token is at fault.
+fn answer(question: Question, found: Option<usize>) -> Result<(), Fault>
+    ensures { result ≡ fault_of question found }
 {
-    let lists = lists_of(nodes, root);
-    let toks = &kinds[..n];
-    let words = words_fault(kinds, contents, n);
-    let tree = walk::tree_fault(
-        Question::Limits,
-        toks,
-        &Parsed {
-            contents,
-            nodes,
-            lists,
-        },
-    );
-    if let Some(k) = earlier(words, tree) {
-        return Err(Fault::Beyond(k));
+    match found {
+        Some(token) => Err(Fault { question, token }),
+        None => Ok(()),
     }
-    if let Some(k) = walk::tree_fault(
+}
+
+// Questions 7, 8 and 9, in this order, of a text's tokens and its tree.
+pub fn judge_names(kinds: &[u8], parsed: &Parsed) -> Result<(), Fault>
+    requires { (text : List ℕ) × (s : Syntax.Model) × Judgeable text s kinds.now parsed.now }
+    ensures { (text : List ℕ) (s : Syntax.Model) → Judgeable text s kinds.now parsed.entry.now → answer_of result ≡ judged_names text s }
+{
+    let words = words_fault(kinds, parsed.contents);
+    let tree = walk::tree_fault(Question::Limits, kinds, parsed);
+    answer(Question::Limits, earlier(words, tree))?;
+    answer(
         Question::Fresh,
-        toks,
-        &Parsed {
-            contents,
-            nodes,
-            lists,
-        },
-    ) {
-        return Err(Fault::NotNew(k));
-    }
-    if let Some(k) = walk::tree_fault(
+        walk::tree_fault(Question::Fresh, kinds, parsed),
+    )?;
+    answer(
         Question::Given,
-        toks,
-        &Parsed {
-            contents,
-            nodes,
-            lists,
-        },
-    ) {
-        return Err(Fault::NotGiven(k));
-    }
-    Ok(())
+        walk::tree_fault(Question::Given, kinds, parsed),
+    )
 }

@@ -1,4 +1,5 @@
 // Questions 7, 8 and 9 of a whole tree: each part is judged in its scope, and the first fault of all is kept.
+// The bound of a root stands in each contract: as a ghost field of a struct over a lent Context it lost the size of the nodes, and their index stayed unproved.
 ghost use Rattle.token.specs.Contents.{lows_in, highs_in};
 ghost use Rattle.std.specs.Prelude.{◌≡◌, List, [], ◌∷◌, ◌++◌, true, not, ◌&&◌, ◌||◌, ℕ, ◌+◌, ◌-◌, ◌*◌, ◌≤◌, ◌<◌, min, eqb, ltb, length, get_or, drop};
 ghost use Rattle.word.specs.Number.{worth, cap};
@@ -11,13 +12,13 @@ ghost use Rattle.model.specs.Sites.{branch, call, count_sets, count_args, args_s
 ghost use Rattle.model.specs.Words.{same};
 ghost use Rattle.model.specs.Fresh.{repeated};
 ghost use Rattle.model.specs.Limits.{count_limit, local_limit};
-ghost use Rattle.names.specs.Settings.{Extended, World, Setting, faults_at};
+ghost use Rattle.names.specs.Settings.{Extended, WorldOf, SettingOf, faults_at};
 ghost use Rattle.names.specs.Faults.{asks_names, tree_faults};
-ghost use Rattle.names.specs.Lists.{packed, name_at, names_down, Reach};
+ghost use Rattle.names.specs.Lists.{packed_in, name_at, names_down, Reach, ReachIn};
 ghost use Rattle.names.specs.Placed.{Named, sort_of, counts};
-ghost use Rattle.names.specs.Walks.{Part, Holds, RoomFor, Place, part_faults, bound_sites, ActionRoom, PartRoom, Ground, list_faults, number_faults, param_faults, defined, count_faults, start_faults, definition_judged, lines_judged, DefinitionRoom, LinesRoom, TreeRoom};
+ghost use Rattle.names.specs.Walks.{Part, Holds, RoomFor, PlaceOf, part_faults, bound_sites, ActionRoom, PartRoom, GroundIn, GroundOf, list_faults, number_faults, param_faults, defined, count_faults, start_faults, definition_judged, lines_judged, DefinitionRoom, LinesRoom, TreeRoom};
 
-use crate::{Limits, Lists, Parsed, Question, Scope, no_locals};
+use crate::{Context, Limits, Parsed, Question, Scope, no_locals};
 use token::Content;
 use tree::NodeKind;
 
@@ -40,86 +41,65 @@ fn is_lone(kinds: &[u8], node: u64) -> bool
 }
 
 // The faults of a channel's item from the node `from` to its root; a lone name has none.
-fn item_fault(
-    question: Question,
-    kinds: &[u8],
-    parsed: &Parsed,
-    scope: Scope,
-    from: usize,
-    root: usize,
-) -> Option<usize>
-    requires { Place question kinds.now (lows_in parsed.now.contents.now) (highs_in parsed.now.contents.now) parsed.now.nodes.now parsed.now.lists scope × (root ≤ parsed.now.lists.root) }
-    ensures { (h : Place question kinds.now (lows_in parsed.entry.now.contents.now) (highs_in parsed.entry.now.contents.now) parsed.entry.now.nodes.now parsed.entry.now.lists scope) (c : Syntax.Expr) → Table.Expr parsed.entry.now.nodes.now c from root → result ≡ least (each (faults_at h.setting) (item_sites h.setting.world.word c)) }
+fn item_fault(context: &Context, from: usize, root: usize) -> Option<usize>
+    requires { PlaceOf context.now × (root ≤ context.now.lists.root) }
+    ensures { (h : PlaceOf context.entry.now) (c : Syntax.Expr) → Table.Expr context.entry.now.nodes.now c from root → result ≡ least (each (faults_at h.setting) (item_sites h.setting.world.word c)) }
 {
-    if is_lone(kinds, parsed.nodes[root]) {
+    if is_lone(context.kinds, context.nodes[root]) {
         return None;
     }
-    crate::leaves_fault(question, parsed, scope, from, root + 1)
+    crate::leaves_fault(context, from, root + 1)
 }
 
 // The faults of a channel from the node `from` to its root.
-fn channel_fault(
-    question: Question,
-    kinds: &[u8],
-    parsed: &Parsed,
-    scope: Scope,
-    from: usize,
-    root: usize,
-) -> Option<usize>
-    requires { (Place question kinds.now (lows_in parsed.now.contents.now) (highs_in parsed.now.contents.now) parsed.now.nodes.now parsed.now.lists scope × (c : Syntax.Channel) × Table.Channel parsed.now.nodes.now c from root) × (root ≤ parsed.now.lists.root) }
-    ensures { (h : Place question kinds.now (lows_in parsed.entry.now.contents.now) (highs_in parsed.entry.now.contents.now) parsed.entry.now.nodes.now parsed.entry.now.lists scope) (c : Syntax.Channel) → Table.Channel parsed.entry.now.nodes.now c from root → result ≡ least (each (faults_at h.setting) (channel_sites h.setting.world.word c)) }
+fn channel_fault(context: &Context, from: usize, root: usize) -> Option<usize>
+    requires { (PlaceOf context.now × (c : Syntax.Channel) × Table.Channel context.now.nodes.now c from root) × (root ≤ context.now.lists.root) }
+    ensures { (h : PlaceOf context.entry.now) (c : Syntax.Channel) → Table.Channel context.entry.now.nodes.now c from root → result ≡ least (each (faults_at h.setting) (channel_sites h.setting.world.word c)) }
 {
-    let node = parsed.nodes[root];
+    let node = context.nodes[root];
     let kind = tree::kind_of(node);
     if kind < NodeKind::TWO_ITEMS {
-        return item_fault(question, kinds, parsed, scope, from, root);
+        return item_fault(context, from, root);
     }
     let left = tree::left_of(node);
-    let first = item_fault(question, kinds, parsed, scope, from, left);
+    let first = item_fault(context, from, left);
     if kind == NodeKind::TWO_ITEMS {
-        let last = item_fault(question, kinds, parsed, scope, left + 1, root - 1);
+        let last = item_fault(context, left + 1, root - 1);
         return crate::earlier(first, last);
     }
     let mid = tree::third_of(node);
-    let second = item_fault(question, kinds, parsed, scope, left + 1, mid);
-    let last = item_fault(question, kinds, parsed, scope, mid + 1, root - 1);
+    let second = item_fault(context, left + 1, mid);
+    let last = item_fault(context, mid + 1, root - 1);
     crate::earlier(first, crate::earlier(second, last))
 }
 
 // The faults of the names that the action at this root binds.
-fn binding_fault(question: Question, parsed: &Parsed, scope: Scope, root: usize) -> Option<usize>
-    requires { ((h : Setting question (lows_in parsed.now.contents.now) (highs_in parsed.now.contents.now) parsed.now.nodes.now parsed.now.lists scope) × (a : Syntax.Action) × (lo : ℕ) × Table.Action parsed.now.nodes.now a lo root × RoomFor question h.world.word h.locals (bound_sites a)) × (root ≤ parsed.now.lists.root) }
-    ensures { (h : Setting question (lows_in parsed.entry.now.contents.now) (highs_in parsed.entry.now.contents.now) parsed.entry.now.nodes.now parsed.entry.now.lists scope) (a : Syntax.Action) (lo : ℕ) → Table.Action parsed.entry.now.nodes.now a lo root → RoomFor question h.world.word h.locals (bound_sites a) → result ≡ least (each (faults_at h) (bound_sites a)) }
+fn binding_fault(context: &Context, root: usize) -> Option<usize>
+    requires { ((h : SettingOf context.now) × (a : Syntax.Action) × (lo : ℕ) × Table.Action context.now.nodes.now a lo root × RoomFor context.now.question h.world.word h.locals (bound_sites a)) × (root ≤ context.now.lists.root) }
+    ensures { (h : SettingOf context.entry.now) (a : Syntax.Action) (lo : ℕ) → Table.Action context.entry.now.nodes.now a lo root → RoomFor context.entry.now.question h.world.word h.locals (bound_sites a) → result ≡ least (each (faults_at h) (bound_sites a)) }
 {
-    let node = parsed.nodes[root];
+    let node = context.nodes[root];
     let n = tree::third_of(node);
     if n == 0 {
         return None;
     }
-    let sets = set_count(parsed.nodes, root - 1);
-    crate::bound_fault(question, parsed, scope, tree::token_of(node), n, sets)
+    let sets = set_count(context.nodes, root - 1);
+    crate::bound_fault(context, tree::token_of(node), n, sets)
 }
 
 // The faults of an action from the node `from` to its root.
-fn action_fault(
-    question: Question,
-    kinds: &[u8],
-    parsed: &Parsed,
-    scope: Scope,
-    from: usize,
-    root: usize,
-) -> Option<usize>
-    requires { ((h : Place question kinds.now (lows_in parsed.now.contents.now) (highs_in parsed.now.contents.now) parsed.now.nodes.now parsed.now.lists scope) × (a : Syntax.Action) × Table.Action parsed.now.nodes.now a from root × ActionRoom h a) × (root ≤ parsed.now.lists.root) }
-    ensures { (h : Place question kinds.now (lows_in parsed.entry.now.contents.now) (highs_in parsed.entry.now.contents.now) parsed.entry.now.nodes.now parsed.entry.now.lists scope) (a : Syntax.Action) → Table.Action parsed.entry.now.nodes.now a from root → ActionRoom h a → result ≡ least (each (faults_at h.setting) (action_sites h.setting.world.word a)) }
+fn action_fault(context: &Context, from: usize, root: usize) -> Option<usize>
+    requires { ((h : PlaceOf context.now) × (a : Syntax.Action) × Table.Action context.now.nodes.now a from root × ActionRoom h a) × (root ≤ context.now.lists.root) }
+    ensures { (h : PlaceOf context.entry.now) (a : Syntax.Action) → Table.Action context.entry.now.nodes.now a from root → ActionRoom h a → result ≡ least (each (faults_at h.setting) (action_sites h.setting.world.word a)) }
 {
-    let node = parsed.nodes[root];
+    let node = context.nodes[root];
     if tree::kind_of(node) == NodeKind::WAIT {
         return None;
     }
     let left = tree::left_of(node);
-    let channel = channel_fault(question, kinds, parsed, scope, from, left);
-    let values = crate::leaves_fault(question, parsed, scope, left + 1, root);
-    let bound = binding_fault(question, parsed, scope, root);
+    let channel = channel_fault(context, from, left);
+    let values = crate::leaves_fault(context, left + 1, root);
+    let bound = binding_fault(context, root);
     crate::earlier(channel, crate::earlier(values, bound))
 }
 
@@ -131,51 +111,29 @@ pub struct Span {
     pub root: usize,
 }
 
-fn part_at(before: usize, from: usize, root: usize) -> Span
-    ensures { result ≡ record { before = before; from = from; root = root } }
-{
-    Span { before, from, root }
-}
-
 // The faults of a branch without its gate and its continuation: its node, the nodes of its action and its rate.
-fn offer_fault(
-    question: Question,
-    kinds: &[u8],
-    parsed: &Parsed,
-    scope: Scope,
-    node: u64,
-    own: Span,
-) -> Option<usize>
-    requires { ((h : Place question kinds.now (lows_in parsed.now.contents.now) (highs_in parsed.now.contents.now) parsed.now.nodes.now parsed.now.lists scope) × (a : Syntax.Action) × Table.Action parsed.now.nodes.now a own.from (left_of node) × ActionRoom h a) × (left_of node ≤ parsed.now.lists.root) × (own.root ≤ parsed.now.lists.root) }
-    ensures { (h : Place question kinds.now (lows_in parsed.entry.now.contents.now) (highs_in parsed.entry.now.contents.now) parsed.entry.now.nodes.now parsed.entry.now.lists scope) (a : Syntax.Action) (ρ : Syntax.Rate) → Table.Action parsed.entry.now.nodes.now a own.from (left_of node) → Table.Rate parsed.entry.now.nodes.now ρ (left_of node + 1) own.root → ActionRoom h a → result ≡ least (each (faults_at h.setting) (branch own.before (token_of node) ∷ action_sites h.setting.world.word a ++ rate_sites ρ)) }
+fn offer_fault(context: &Context, node: u64, own: Span) -> Option<usize>
+    requires { ((h : PlaceOf context.now) × (a : Syntax.Action) × Table.Action context.now.nodes.now a own.from (left_of node) × ActionRoom h a) × (left_of node ≤ context.now.lists.root) × (own.root ≤ context.now.lists.root) }
+    ensures { (h : PlaceOf context.entry.now) (a : Syntax.Action) (ρ : Syntax.Rate) → Table.Action context.entry.now.nodes.now a own.from (left_of node) → Table.Rate context.entry.now.nodes.now ρ (left_of node + 1) own.root → ActionRoom h a → result ≡ least (each (faults_at h.setting) (branch own.before (token_of node) ∷ action_sites h.setting.world.word a ++ rate_sites ρ)) }
 {
     let from = own.from;
     let rate = own.root;
     let left = tree::left_of(node);
-    let start = crate::branch_fault(question, own.before, tree::token_of(node));
-    let action = action_fault(question, kinds, parsed, scope, from, left);
-    let values = crate::leaves_fault(question, parsed, scope, left + 1, rate + 1);
+    let start = crate::branch_fault(context.question, own.before, tree::token_of(node));
+    let action = action_fault(context, from, left);
+    let values = crate::leaves_fault(context, left + 1, rate + 1);
     crate::earlier(start, crate::earlier(action, values))
 }
 
 // The faults of a call with its values.
-fn calling_fault(
-    question: Question,
-    parsed: &Parsed,
-    scope: Scope,
-    from: usize,
-    root: usize,
-) -> Option<usize>
-    requires { (Setting question (lows_in parsed.now.contents.now) (highs_in parsed.now.contents.now) parsed.now.nodes.now parsed.now.lists scope × (n : ℕ) × (a : Syntax.Args) × Table.Cont parsed.now.nodes.now (Syntax.call n a) from root) × (root ≤ parsed.now.lists.root) }
-    ensures { (h : Setting question (lows_in parsed.entry.now.contents.now) (highs_in parsed.entry.now.contents.now) parsed.entry.now.nodes.now parsed.entry.now.lists scope) (n : ℕ) (a : Syntax.Args) → Table.Cont parsed.entry.now.nodes.now (Syntax.call n a) from root → result ≡ least (each (faults_at h) (call n (count_args a) ∷ args_sites a)) }
+fn calling_fault(context: &Context, from: usize, root: usize) -> Option<usize>
+    requires { (SettingOf context.now × (n : ℕ) × (a : Syntax.Args) × Table.Cont context.now.nodes.now (Syntax.call n a) from root) × (root ≤ context.now.lists.root) }
+    ensures { (h : SettingOf context.entry.now) (n : ℕ) (a : Syntax.Args) → Table.Cont context.entry.now.nodes.now (Syntax.call n a) from root → result ≡ least (each (faults_at h) (call n (count_args a) ∷ args_sites a)) }
 {
-    let node = parsed.nodes[root];
+    let node = context.nodes[root];
     let name = tree::token_of(node);
-    let called = crate::call_fault(question, parsed, name, tree::third_of(node));
-    crate::earlier(
-        called,
-        crate::leaves_fault(question, parsed, scope, from, root),
-    )
+    let called = crate::call_fault(context, name, tree::third_of(node));
+    crate::earlier(called, crate::leaves_fault(context, from, root))
 }
 
 // The scope with the names more that the action at this root binds.
@@ -188,86 +146,104 @@ fn inner_scope(nodes: &[u64], scope: Scope, root: usize) -> Scope
 }
 
 // The faults of branches, items or sums.
-fn part_fault(
-    question: Question,
-    kinds: &[u8],
-    parsed: &Parsed,
-    scope: Scope,
-    part: Span,
-) -> Option<usize>
-    requires { ((h : Place question kinds.now (lows_in parsed.now.contents.now) (highs_in parsed.now.contents.now) parsed.now.nodes.now parsed.now.lists scope) × (p : Part) × Holds parsed.now.nodes.now p part.from part.root × PartRoom h part.before p) × (part.before + part.root ≤ parsed.now.lists.root) }
-    ensures { (h : Place question kinds.now (lows_in parsed.entry.now.contents.now) (highs_in parsed.entry.now.contents.now) parsed.entry.now.nodes.now parsed.entry.now.lists scope) (p : Part) → Holds parsed.entry.now.nodes.now p part.from part.root → PartRoom h part.before p → result ≡ least (part_faults h part.before p) }
+fn part_fault(context: &Context, part: Span) -> Option<usize>
+    requires { ((h : PlaceOf context.now) × (p : Part) × Holds context.now.nodes.now p part.from part.root × PartRoom h part.before p) × (part.before + part.root ≤ context.now.lists.root) }
+    ensures { (h : PlaceOf context.entry.now) (p : Part) → Holds context.entry.now.nodes.now p part.from part.root → PartRoom h part.before p → result ≡ least (part_faults h part.before p) }
 {
-    let before = part.before;
-    let from = part.from;
-    let root = part.root;
-    let node = parsed.nodes[root];
+    let Span { before, from, root } = part;
+    let node = context.nodes[root];
     let left = tree::left_of(node);
     match tree::kind_of(node) {
         NodeKind::CHOICE | NodeKind::ITEM | NodeKind::BESIDE => {
-            let one = part_at(before, from, left);
-            let rest = part_at(before + 1, left + 1, root - 1);
-            let first = part_fault(question, kinds, parsed, scope, one);
-            let others = part_fault(question, kinds, parsed, scope, rest);
+            let one = Span {
+                before,
+                from,
+                root: left,
+            };
+            let rest = Span {
+                before: before + 1,
+                from: left + 1,
+                root: root - 1,
+            };
+            let first = part_fault(context, one);
+            let others = part_fault(context, rest);
             crate::earlier(first, others)
         }
         NodeKind::SUM | NodeKind::GROUP => {
-            let inner = part_at(0, from, root - 1);
-            part_fault(question, kinds, parsed, scope, inner)
+            let inner = Span {
+                before: 0,
+                from,
+                root: root - 1,
+            };
+            part_fault(context, inner)
         }
         NodeKind::GATE => {
-            let rest = part_at(before, left + 1, root - 1);
-            let gate = crate::leaves_fault(question, parsed, scope, from, left + 1);
-            let offer = part_fault(question, kinds, parsed, scope, rest);
+            let rest = Span {
+                before,
+                from: left + 1,
+                root: root - 1,
+            };
+            let gate = crate::leaves_fault(context, from, left + 1);
+            let offer = part_fault(context, rest);
             crate::earlier(gate, offer)
         }
         NodeKind::STOP => {
-            let own = part_at(before, from, root - 1);
-            offer_fault(question, kinds, parsed, scope, node, own)
+            let own = Span {
+                before,
+                from,
+                root: root - 1,
+            };
+            offer_fault(context, node, own)
         }
         NodeKind::DOT => {
             let rate = tree::third_of(node);
-            let own = part_at(before, from, rate);
-            let rest = part_at(0, rate + 1, root - 1);
-            let offer = offer_fault(question, kinds, parsed, scope, node, own);
-            let inner = inner_scope(parsed.nodes, scope, left);
-            let next = part_fault(question, kinds, parsed, inner, rest);
+            let own = Span {
+                before,
+                from,
+                root: rate,
+            };
+            let rest = Span {
+                before: 0,
+                from: rate + 1,
+                root: root - 1,
+            };
+            let offer = offer_fault(context, node, own);
+            let inner = inner_scope(context.nodes, context.scope, left);
+            let next = part_fault(&context.within(inner), rest);
             crate::earlier(offer, next)
         }
-        _ => calling_fault(question, parsed, scope, from, root),
+        _ => calling_fault(context, from, root),
     }
 }
 
 // Questions 7 and 8 of a definition's n parameters, every second token from `first` on.
-fn params_fault(question: Question, parsed: &Parsed, first: usize, n: usize) -> Option<usize>
-    requires { ((h : World question (lows_in parsed.now.contents.now) (highs_in parsed.now.contents.now) parsed.now.nodes.now parsed.now.lists) × Named h.kinds (every_other first n)) × (first + 2 * n ≤ field) × (asks_names question ≡ true → n ≤ local_limit) }
-    ensures { (h : World question (lows_in parsed.entry.now.contents.now) (highs_in parsed.entry.now.contents.now) parsed.entry.now.nodes.now parsed.entry.now.lists) → Named h.kinds (every_other first n) → result ≡ least (param_faults question h.word (names (variables h.model)) (every_other first n)) }
+fn params_fault(context: &Context, first: usize, n: usize) -> Option<usize>
+    requires { ((h : WorldOf context.now) × Named h.kinds (every_other first n)) × (first + 2 * n ≤ field) × (asks_names context.now.question ≡ true → n ≤ local_limit) }
+    ensures { (h : WorldOf context.entry.now) → Named h.kinds (every_other first n) → result ≡ least (param_faults context.entry.now.question h.word (names (variables h.model)) (every_other first n)) }
 {
-    match question {
+    match context.question {
         Question::Limits => crate::over_fault(Limits::PARAMETERS, first, n),
-        Question::Fresh => crate::repeated_fault(parsed, no_locals(), first, n),
+        Question::Fresh => crate::repeated_fault(&context.parsed(), no_locals(), first, n),
         Question::Given => None,
     }
 }
 
 // The faults of a definition from the node `from` to its root.
-fn definition_fault(
-    question: Question,
-    kinds: &[u8],
-    parsed: &Parsed,
-    from: usize,
-    root: usize,
-) -> Option<usize>
-    requires { ((h : Ground question kinds.now (lows_in parsed.now.contents.now) (highs_in parsed.now.contents.now) parsed.now.nodes.now parsed.now.lists) × (n : ℕ) × (p : Syntax.Params) × (b : Syntax.Sums) × Table.Definition parsed.now.nodes.now n p b from root × DefinitionRoom h (defined n p b)) × (root ≤ parsed.now.lists.root) }
-    ensures { (h : Ground question kinds.now (lows_in parsed.entry.now.contents.now) (highs_in parsed.entry.now.contents.now) parsed.entry.now.nodes.now parsed.entry.now.lists) (n : ℕ) (p : Syntax.Params) (b : Syntax.Sums) → Table.Definition parsed.entry.now.nodes.now n p b from root → DefinitionRoom h (defined n p b) → result ≡ least (definition_judged h question (defined n p b)) }
+fn definition_fault(context: &Context, from: usize, root: usize) -> Option<usize>
+    requires { ((h : GroundOf context.now) × (n : ℕ) × (p : Syntax.Params) × (b : Syntax.Sums) × Table.Definition context.now.nodes.now n p b from root × DefinitionRoom h (defined n p b)) × (root ≤ context.now.lists.root) }
+    ensures { (h : GroundOf context.entry.now) (n : ℕ) (p : Syntax.Params) (b : Syntax.Sums) → Table.Definition context.entry.now.nodes.now n p b from root → DefinitionRoom h (defined n p b) → result ≡ least (definition_judged h context.entry.now.question (defined n p b)) }
 {
-    let node = parsed.nodes[root];
+    let node = context.nodes[root];
     let first = tree::token_of(node) + 2;
     let n = tree::third_of(node);
-    let params = params_fault(question, parsed, first, n);
+    let params = params_fault(context, first, n);
     let scope = crate::with_locals(no_locals(), first, n);
-    let part = part_at(0, from, root - 1);
-    let body = part_fault(question, kinds, parsed, scope, part);
+    let part = Span {
+        before: 0,
+        from,
+        root: root - 1,
+    };
+    let body = part_fault(&context.within(scope), part);
     crate::earlier(params, body)
 }
 
@@ -275,7 +251,7 @@ fn definition_fault(
 fn is_counted(kind: u8) -> bool
     ensures { result ≡ (eqb kind counted || eqb kind counted_with) }
 {
-    kind == NodeKind::COUNTED || kind == NodeKind::COUNTED_WITH
+    matches!(kind, NodeKind::COUNTED | NodeKind::COUNTED_WITH)
 }
 
 // Question 7 of the count k.
@@ -298,60 +274,54 @@ fn count_fault(contents: &[Content], node: u64) -> Option<usize>
 }
 
 // The faults of an item of the system line from the node `from` to its root.
-fn start_fault(question: Question, parsed: &Parsed, from: usize, root: usize) -> Option<usize>
-    requires { (World question (lows_in parsed.now.contents.now) (highs_in parsed.now.contents.now) parsed.now.nodes.now parsed.now.lists × (s : Syntax.Start) × Table.Start parsed.now.nodes.now s from root) × (root ≤ parsed.now.lists.root) }
-    ensures { (h : World question (lows_in parsed.entry.now.contents.now) (highs_in parsed.entry.now.contents.now) parsed.entry.now.nodes.now parsed.entry.now.lists) (s : Syntax.Start) → Table.Start parsed.entry.now.nodes.now s from root → result ≡ least (start_faults question h.word (definitions h.model) s) }
+fn start_fault(context: &Context, from: usize, root: usize) -> Option<usize>
+    requires { (WorldOf context.now × (s : Syntax.Start) × Table.Start context.now.nodes.now s from root) × (root ≤ context.now.lists.root) }
+    ensures { (h : WorldOf context.entry.now) (s : Syntax.Start) → Table.Start context.entry.now.nodes.now s from root → result ≡ least (start_faults context.entry.now.question h.word (definitions h.model) s) }
 {
-    let node = parsed.nodes[root];
-    match question {
+    let node = context.nodes[root];
+    match context.question {
         Question::Limits => {
-            let count = count_fault(parsed.contents, node);
+            let count = count_fault(context.contents, node);
             crate::earlier(
                 count,
-                crate::leaves_fault(question, parsed, no_locals(), from, root),
+                crate::leaves_fault(&context.within(no_locals()), from, root),
             )
         }
         Question::Fresh => None,
         Question::Given => {
             let name = tree::token_of(node);
-            crate::call_fault(question, parsed, name, tree::third_of(node))
+            crate::call_fault(context, name, tree::third_of(node))
         }
     }
 }
 
 // The faults of the items of the system line from the node `from` to their root.
-fn system_fault(question: Question, parsed: &Parsed, from: usize, root: usize) -> Option<usize>
-    requires { (World question (lows_in parsed.now.contents.now) (highs_in parsed.now.contents.now) parsed.now.nodes.now parsed.now.lists × (s : Syntax.System) × Table.System parsed.now.nodes.now s from root) × (root ≤ parsed.now.lists.root) }
-    ensures { (h : World question (lows_in parsed.entry.now.contents.now) (highs_in parsed.entry.now.contents.now) parsed.entry.now.nodes.now parsed.entry.now.lists) (s : Syntax.System) → Table.System parsed.entry.now.nodes.now s from root → result ≡ least (each (start_faults question h.word (definitions h.model)) (starts_in s)) }
+fn system_fault(context: &Context, from: usize, root: usize) -> Option<usize>
+    requires { (WorldOf context.now × (s : Syntax.System) × Table.System context.now.nodes.now s from root) × (root ≤ context.now.lists.root) }
+    ensures { (h : WorldOf context.entry.now) (s : Syntax.System) → Table.System context.entry.now.nodes.now s from root → result ≡ least (each (start_faults context.entry.now.question h.word (definitions h.model)) (starts_in s)) }
 {
-    let node = parsed.nodes[root];
+    let node = context.nodes[root];
     if tree::kind_of(node) != NodeKind::SYSTEM {
-        return start_fault(question, parsed, from, root);
+        return start_fault(context, from, root);
     }
     let left = tree::left_of(node);
-    let first = start_fault(question, parsed, from, left);
-    let others = system_fault(question, parsed, left + 1, root - 1);
+    let first = start_fault(context, from, left);
+    let others = system_fault(context, left + 1, root - 1);
     crate::earlier(first, others)
 }
 
 // The faults of definitions and the system line from the node `from` to their root.
-fn lines_fault(
-    question: Question,
-    kinds: &[u8],
-    parsed: &Parsed,
-    from: usize,
-    root: usize,
-) -> Option<usize>
-    requires { ((h : Ground question kinds.now (lows_in parsed.now.contents.now) (highs_in parsed.now.contents.now) parsed.now.nodes.now parsed.now.lists) × (d : Syntax.Definitions) × Table.Definitions parsed.now.nodes.now d from root × LinesRoom h d) × (root ≤ parsed.now.lists.root) }
-    ensures { (h : Ground question kinds.now (lows_in parsed.entry.now.contents.now) (highs_in parsed.entry.now.contents.now) parsed.entry.now.nodes.now parsed.entry.now.lists) (d : Syntax.Definitions) → Table.Definitions parsed.entry.now.nodes.now d from root → LinesRoom h d → result ≡ least (lines_judged h question d) }
+fn lines_fault(context: &Context, from: usize, root: usize) -> Option<usize>
+    requires { ((h : GroundOf context.now) × (d : Syntax.Definitions) × Table.Definitions context.now.nodes.now d from root × LinesRoom h d) × (root ≤ context.now.lists.root) }
+    ensures { (h : GroundOf context.entry.now) (d : Syntax.Definitions) → Table.Definitions context.entry.now.nodes.now d from root → LinesRoom h d → result ≡ least (lines_judged h context.entry.now.question d) }
 {
-    let node = parsed.nodes[root];
+    let node = context.nodes[root];
     let left = tree::left_of(node);
-    let first = definition_fault(question, kinds, parsed, from, left);
+    let first = definition_fault(context, from, left);
     if tree::kind_of(node) == NodeKind::LAST {
-        return crate::earlier(first, system_fault(question, parsed, left + 1, root - 1));
+        return crate::earlier(first, system_fault(context, left + 1, root - 1));
     }
-    let others = lines_fault(question, kinds, parsed, left + 1, root - 1);
+    let others = lines_fault(context, left + 1, root - 1);
     crate::earlier(first, others)
 }
 
@@ -360,17 +330,15 @@ fn past_fault(nodes: &[u64], first: usize, limit: usize, n: usize) -> Option<usi
     requires { (n ≤ first + 1) × ((j : ℕ) → j < n → (first - j < length nodes.now) × (left_of (get_or nodes.now (first - j) 0) < length nodes.now)) }
     ensures { result ≡ least (drop limit (names_down nodes.now first n)) }
 {
-    let mut found = None;
-    for j in limit..n {
-        found = crate::earlier(found, Some(crate::listed_name(nodes, first - j)));
-    }
-    found
+    (limit..n)
+        .map(|j| crate::listed_name(nodes, first - j))
+        .min()
 }
 
 // Question 8 of the name in place j of a list that goes down from the node `first`.
 fn again_fault(parsed: &Parsed, first: usize, j: usize) -> Option<usize>
-    requires { Reach (lows_in parsed.now.contents.now) (highs_in parsed.now.contents.now) parsed.now.nodes.now first (j + 1) }
-    ensures { result ≡ least (when (any (same (packed (lows_in parsed.entry.now.contents.now) (highs_in parsed.entry.now.contents.now)) (name_at parsed.entry.now.nodes.now (first - j))) (names_down parsed.entry.now.nodes.now first j)) (name_at parsed.entry.now.nodes.now (first - j))) }
+    requires { ReachIn parsed.now first (j + 1) }
+    ensures { result ≡ least (when (any (same (packed_in parsed.entry.now.contents.now) (name_at parsed.entry.now.nodes.now (first - j))) (names_down parsed.entry.now.nodes.now first j)) (name_at parsed.entry.now.nodes.now (first - j))) }
 {
     let k = crate::listed_name(parsed.nodes, first - j);
     crate::listed(*parsed, first, j, k).is_some().then_some(k)
@@ -378,73 +346,57 @@ fn again_fault(parsed: &Parsed, first: usize, j: usize) -> Option<usize>
 
 // Question 8 of a list of n names that goes down from the node `first`.
 fn twice_fault(parsed: &Parsed, first: usize, n: usize) -> Option<usize>
-    requires { Reach (lows_in parsed.now.contents.now) (highs_in parsed.now.contents.now) parsed.now.nodes.now first n }
-    ensures { result ≡ least (repeated (packed (lows_in parsed.entry.now.contents.now) (highs_in parsed.entry.now.contents.now)) [] (names_down parsed.entry.now.nodes.now first n)) }
+    requires { ReachIn parsed.now first n }
+    ensures { result ≡ least (repeated (packed_in parsed.entry.now.contents.now) [] (names_down parsed.entry.now.nodes.now first n)) }
 {
-    let mut found = None;
-    for j in 0..n {
-        found = crate::earlier(found, again_fault(parsed, first, j));
-    }
-    found
+    (0..n).filter_map(|j| again_fault(parsed, first, j)).min()
 }
 
 // Questions 7 and 8 of a list of n names that goes down from the node `first`.
-fn list_fault(
-    question: Question,
-    parsed: &Parsed,
-    first: usize,
-    n: usize,
-    limit: usize,
-) -> Option<usize>
-    requires { Reach (lows_in parsed.now.contents.now) (highs_in parsed.now.contents.now) parsed.now.nodes.now first n }
-    ensures { result ≡ least (list_faults question (packed (lows_in parsed.entry.now.contents.now) (highs_in parsed.entry.now.contents.now)) limit (names_down parsed.entry.now.nodes.now first n)) }
+fn list_fault(context: &Context, first: usize, n: usize, limit: usize) -> Option<usize>
+    requires { Reach (lows_in context.now.contents.now) (highs_in context.now.contents.now) context.now.nodes.now first n }
+    ensures { result ≡ least (list_faults context.entry.now.question (packed_in context.entry.now.contents.now) limit (names_down context.entry.now.nodes.now first n)) }
 {
-    match question {
-        Question::Limits => past_fault(parsed.nodes, first, limit, n),
-        Question::Fresh => twice_fault(parsed, first, n),
+    match context.question {
+        Question::Limits => past_fault(context.nodes, first, limit, n),
+        Question::Fresh => twice_fault(&context.parsed(), first, n),
         Question::Given => None,
     }
 }
 
 // Question 7 of the variables' numbers, which stand in the first nodes.
-fn numbers_fault(question: Question, parsed: &Parsed) -> Option<usize>
-    requires { World question (lows_in parsed.now.contents.now) (highs_in parsed.now.contents.now) parsed.now.nodes.now parsed.now.lists }
-    ensures { (h : World question (lows_in parsed.entry.now.contents.now) (highs_in parsed.entry.now.contents.now) parsed.entry.now.nodes.now parsed.entry.now.lists) → result ≡ least (number_faults question h.word (variables h.model)) }
+fn numbers_fault(context: &Context) -> Option<usize>
+    requires { WorldOf context.now }
+    ensures { (h : WorldOf context.entry.now) → result ≡ least (number_faults context.entry.now.question h.word (variables h.model)) }
 {
-    match question {
-        Question::Limits => crate::leaves_fault(
-            question,
-            parsed,
-            no_locals(),
-            0,
-            parsed.lists.variables,
-        ),
+    match context.question {
+        Question::Limits => {
+            let variables = context.lists.variables;
+            crate::leaves_fault(&context.within(no_locals()), 0, variables)
+        }
         Question::Fresh | Question::Given => None,
     }
 }
 
 // The faults of a whole tree, but for those that its tokens alone tell.
 pub fn tree_fault(question: Question, kinds: &[u8], parsed: &Parsed) -> Option<usize>
-    requires { (h : Ground question kinds.now (lows_in parsed.now.contents.now) (highs_in parsed.now.contents.now) parsed.now.nodes.now parsed.now.lists) × TreeRoom h }
-    ensures { (h : Ground question kinds.now (lows_in parsed.entry.now.contents.now) (highs_in parsed.entry.now.contents.now) parsed.entry.now.nodes.now parsed.entry.now.lists) → TreeRoom h → result ≡ least (tree_faults question h.world.word h.world.model) }
+    requires { (h : GroundIn question kinds.now parsed.now) × TreeRoom h }
+    ensures { (h : GroundIn question kinds.now parsed.entry.now) → TreeRoom h → result ≡ least (tree_faults question h.world.word h.world.model) }
 {
-    let below = parsed.lists.root - parsed.lists.variables;
-    let names = list_fault(
+    let lists = parsed.lists;
+    let context = &Context {
         question,
-        parsed,
-        parsed.lists.root,
-        parsed.lists.variables,
-        Limits::VARIABLES,
-    );
-    let titles = list_fault(
-        question,
-        parsed,
-        below,
-        parsed.lists.definitions,
-        Limits::DEFINITIONS,
-    );
-    let numbers = numbers_fault(question, parsed);
-    let lines = lines_fault(question, kinds, parsed, parsed.lists.variables, below);
+        kinds,
+        contents: parsed.contents,
+        nodes: parsed.nodes,
+        lists,
+        scope: no_locals(),
+    };
+    let below = lists.first_definition();
+    let names = list_fault(context, lists.root, lists.variables, Limits::VARIABLES);
+    let titles = list_fault(context, below, lists.definitions, Limits::DEFINITIONS);
+    let numbers = numbers_fault(context);
+    let lines = lines_fault(context, lists.variables, below);
     crate::earlier(
         names,
         crate::earlier(titles, crate::earlier(numbers, lines)),

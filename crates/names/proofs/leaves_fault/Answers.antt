@@ -1,23 +1,16 @@
-use mathlib.Core.Path.{refl, ◌∙◌}
-use native.Mathlib.Omega.{arith}
-use Rattle.names.specs.Faults.{earlier_of}
+-- `leaves_fault` meets its contract: the least of what the leaves give.
+use mathlib.Core.Path.{refl, sym, ◌∙◌}
+use Prim.Native.Nat.{◌-◌}
+use Rattle.std.proofs.Common.{rules, tests}
+use Rattle.std.proofs.lemmas.Iterator.{YieldsList-from_range}
+use Rattle.std.proofs.lemmas.Iterator.Consumers.{YieldsList-at, YieldsList-from_filter_map, min_from_yields_List}
+use Rattle.std.proofs.lemmas.Iterator.Adapters.{option_map_id}
+use Rattle.model.specs.Lists.{each, least}
 use Rattle.names.specs.Settings.{faults_at}
-use Rattle.names.proofs.Judges.{leaves-on, leaves-end}
+use Rattle.names.specs.Leaves.{site_at}
+use Rattle.names.proofs.Judges.{leaves_picked}
 use Rattle.names.proofs.leaves_fault.Goals as goal
-
-pub loop-i-init : goal.loop-i-init
-unfolding earlier_of
-loop-i-init c =
-    λ h. refl
-
-pub leaf_fault-requires : goal.leaf_fault-requires
-leaf_fault-requires c =
-    (c.requires.0, omega (arith, c.requires.1))
-
-pub loop-i-preserved : goal.loop-i-preserved
-loop-i-preserved c =
-    λ h. leaves-on c.args.parsed.now.nodes.now (faults_at h) c.loop-i.i c.args.to (omega arith) c.loop-i.found c.leaf_fault.result c.earlier-found.result (c.leaf_fault.ensures h) c.earlier-found.ensures ∙ c.loop-i.invariant h
 
 pub returns : goal.returns
 returns c =
-    λ h. leaves-end c.args.parsed.now.nodes.now (faults_at h) c.loop-i.i c.args.to (omega arith) c.loop-i.found ∙ c.loop-i.invariant h
+    λ h. sym (option_map_id _) ∙ min_from_yields_List _ _ c.min.ensures.ran (YieldsList-from_filter_map _ (λ i. least (each (faults_at h) (site_at c.args.context.now.nodes.now i))) (YieldsList-at c.filter_map.ensures.source (YieldsList-from_range c.args.from c.args.to (c.args.to - c.args.from) refl refl)) c.filter_map.ensures.closure (λ x r q k. search (rules, tests))) ∙ leaves_picked c.args.context.now.nodes.now (faults_at h) c.args.from (c.args.to - c.args.from)

@@ -1,32 +1,23 @@
-use mathlib.Core.Path.{refl, sym, ◌∙◌}
+-- `listed` meets its contract: the search finds the first of the list with the name.
+use mathlib.Core.Bool.{true, false}
 use native.Mathlib.Omega.{arith}
+use Rattle.std.proofs.Common.{rules, tests}
+use Rattle.std.proofs.lemmas.Iterator.{serves_from_Range, first_from_Range}
 use Rattle.token.proofs.Columns.{length-lows}
-use Rattle.token.specs.Contents.{lows_in, highs_in}
-use Rattle.names.specs.Lists.{packed, names_down}
-use Rattle.names.proofs.Lookups.{onward, place_here, place_none, down-length, down-at}
+use Rattle.names.specs.Lists.{packed_in}
+use Rattle.names.proofs.Lookups.{SameAt, place_ranged}
 use Rattle.names.proofs.listed.Goals as goal
 
-pub loop-j-init : goal.loop-j-init
-loop-j-init c =
-    refl
-
-pub listed_name-requires : goal.listed_name-requires
-listed_name-requires c =
-    ((c.requires.reach.each c.loop-j.j (omega arith)).node, (c.requires.reach.each c.loop-j.j (omega arith)).left)
-
-pub same_name-requires : goal.same_name-requires
-same_name-requires c =
-    let e = c.requires.reach.each c.loop-j.j (omega arith) in
-    (c.requires.k_in_bounds, rw (c.listed_name.ensures, ← length-lows c.args.parsed.contents.now) e.in-low)
-
-pub returns-then-same_name : goal.returns-then-same_name
-returns-then-same_name c =
-    place_here (packed (lows_in c.args.parsed.contents.now) (highs_in c.args.parsed.contents.now)) c.args.k (names_down c.args.parsed.nodes.now c.args.first c.args.n) c.loop-j.j c.listed_name.result (omega (arith, down-length c.args.parsed.nodes.now c.args.first c.args.n)) (down-at c.args.parsed.nodes.now c.args.first c.args.n c.loop-j.j (omega arith) ∙ sym c.listed_name.ensures) c.same_name.result c.same_name.ensures c.if-same_name.true c.loop-j.invariant
-
-pub loop-j-preserved : goal.loop-j-preserved
-loop-j-preserved c =
-    onward (packed (lows_in c.args.parsed.contents.now) (highs_in c.args.parsed.contents.now)) c.args.k (names_down c.args.parsed.nodes.now c.args.first c.args.n) c.loop-j.j c.listed_name.result (omega (arith, down-length c.args.parsed.nodes.now c.args.first c.args.n)) (down-at c.args.parsed.nodes.now c.args.first c.args.n c.loop-j.j (omega arith) ∙ sym c.listed_name.ensures) c.same_name.result c.same_name.ensures c.if-same_name.false c.loop-j.invariant
+pub find-requires-clause-callable : goal.find-requires-clause-callable
+find-requires-clause-callable c =
+    serves_from_Range (λ x q k. search (rules, tests)) (λ x low high y q.
+    let there = rw (← q) at (c.requires.reach.each x high) in (
+      λ a p n w b f u v g h. omega (arith, q, high, c.requires.reach.count),
+      λ a p n w b f u v g h m. (there.node, there.left),
+      λ a p n w b f u v g h named m. (c.requires.k_in_bounds, omega (arith, named.ensures, there.in-low, length-lows c.args.parsed.contents.now)),
+    ))
 
 pub returns : goal.returns
 returns c =
-    place_none (packed (lows_in c.args.parsed.contents.now) (highs_in c.args.parsed.contents.now)) c.args.k (names_down c.args.parsed.nodes.now c.args.first c.args.n) c.loop-j.j (omega (arith, down-length c.args.parsed.nodes.now c.args.first c.args.n)) c.loop-j.invariant
+    let w = packed_in c.args.parsed.contents.now in
+    place_ranged w c.args.k c.args.parsed.nodes.now c.args.first c.args.n c.find.result (first_from_Range _ _ _ _ (SameAt w c.args.k c.args.parsed.nodes.now c.args.first c.args.n true) (SameAt w c.args.k c.args.parsed.nodes.now c.args.first c.args.n false) c.find.ensures.ran (λ x q k. search (rules, tests)) (λ x q k. search (rules, tests)))

@@ -7,8 +7,8 @@ pub whole_fault-requires : goal.whole_fault-requires
 whole_fault-requires c =
     c.requires (plain-sort c.args.kind c.args.k c.in-1.is)
 
-pub whole_fault-requires-in-2 : goal.whole_fault-requires-in-2
-whole_fault-requires-in-2 c =
+pub negative_fault-requires : goal.negative_fault-requires
+negative_fault-requires c =
     c.requires (negated-sort c.args.kind c.args.k c.in-2.is)
 
 pub returns-in-1 : goal.returns-in-1
@@ -17,7 +17,7 @@ returns-in-1 c =
 
 pub returns-in-2 : goal.returns-in-2
 returns-in-2 c =
-    λ w sc h. negated-number c.args.kind c.args.k w sc c.in-2.is (c.whole_fault-in-2.ensures w (h (negated-sort c.args.kind c.args.k c.in-2.is)))
+    λ w sc h. negated-number c.args.kind c.args.k w sc c.in-2.is (c.negative_fault.ensures w (h (negated-sort c.args.kind c.args.k c.in-2.is)))
 
 pub returns-in_default : goal.returns-in_default
 returns-in_default c =

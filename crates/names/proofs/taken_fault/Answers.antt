@@ -8,8 +8,8 @@ use Rattle.names.proofs.Repeats.{taken}
 use Rattle.names.proofs.taken_fault.Goals as goal
 use Rattle.names.proofs.taken_fault.Goals.{then-is_some, else-is_some}
 
-pub listed-requires : goal.listed-requires
-listed-requires c =
+pub variable_named-requires : goal.variable_named-requires
+variable_named-requires c =
     record { reach = reach-variables c.requires.0.world c.args.parsed.now.lists.variables (omega arith); k_in_bounds = omega (arith, length-lows c.args.parsed.now.contents.now, (name-inside c.requires.0.world c.args.k c.requires.1).0) }
 
 pub local_named-requires : goal.local_named-requires
@@ -20,6 +20,6 @@ local_named-requires c =
 pub returns : goal.returns
 returns c =
     λ h e. c.then_some.ensures ∙ elim c.if-is_some.branch [
-      | then-is_some w ↦ taken h c.args.k e c.listed.ensures refl _ (rw (w.taken-is, ← c.is_some.ensures, w.if-is_some.true))
-      | else-is_some w ↦ taken h c.args.k e c.listed.ensures w.local_named.ensures _ (rw (w.taken-is, w.is_some-taken.ensures, ← c.is_some.ensures, w.if-is_some.false))
+      | then-is_some w ↦ taken h c.args.k e c.variable_named.ensures refl _ (rw (w.taken-is, ← c.is_some.ensures, w.if-is_some.true))
+      | else-is_some w ↦ taken h c.args.k e c.variable_named.ensures w.local_named.ensures _ (rw (w.taken-is, w.is_some-taken.ensures, ← c.is_some.ensures, w.if-is_some.false))
     ]

@@ -1,5 +1,5 @@
 -- `names::with_local` meets its contract: a full scope stays, any other gets the local behind its own.
-use Rattle.std.proofs.Common.{◌≡◌, ◌<◌, length, arith, rules}
+use Rattle.std.proofs.Common.{◌≡◌, length, arith, rules}
 use Rattle.model.specs.Limits.{local_limit}
 use Rattle.names.proofs.Scopes.{extended-full, extended-one}
 use Rattle.names.proofs.with_local.Goals as goal

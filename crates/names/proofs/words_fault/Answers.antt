@@ -1,33 +1,11 @@
-use mathlib.Core.Path.{refl, sym, ◌∙◌}
-use native.Mathlib.Omega.{arith}
-use Rattle.token.proofs.Columns.{length-lows, low_at, high_at}
-use Rattle.names.proofs.Beyond.{kind-inside, low-inside, words-here, words-on, words-end}
+-- `words_fault` meets its contract: the search finds the first name or decimal beyond its limit.
+use mathlib.Core.Bool.{true, false}
+use Rattle.std.proofs.Common.{rules, tests}
+use Rattle.std.proofs.lemmas.Iterator.{IsFirst-from_position, YieldsList-from_slice, YieldsList-from_zip}
+use Rattle.names.proofs.Beyond.{Out, words-found}
 use Rattle.names.proofs.words_fault.Goals as goal
-
-pub loop-i-init : goal.loop-i-init
-loop-i-init c =
-    λ text h. refl
-
-pub bounds-kinds-i : goal.bounds-kinds-i
-bounds-kinds-i c =
-    kind-inside c.requires.1 c.loop-i.i (omega arith)
-
-pub offset_bounds-contents-i : goal.offset_bounds-contents-i
-offset_bounds-contents-i c =
-    omega (arith, length-lows c.args.contents.now, low-inside c.requires.1 c.loop-i.i (omega arith))
-
-pub bounds-contents-i : goal.bounds-contents-i
-bounds-contents-i c =
-    omega (arith, length-lows c.args.contents.now, low-inside c.requires.1 c.loop-i.i (omega arith))
-
-pub returns-then-is_left_out : goal.returns-then-is_left_out
-returns-then-is_left_out c =
-    λ text h. words-here h c.loop-i.i (omega arith) c.is_left_out.result (simp (low_at, high_at) c.is_left_out.ensures) c.if-is_left_out.true ∙ sym (c.loop-i.invariant text h)
-
-pub loop-i-preserved : goal.loop-i-preserved
-loop-i-preserved c =
-    λ text h. c.loop-i.invariant text h ∙ words-on h c.loop-i.i (omega arith) c.is_left_out.result (simp (low_at, high_at) c.is_left_out.ensures) c.if-is_left_out.false
 
 pub returns : goal.returns
 returns c =
-    λ text h. words-end h c.loop-i.i (omega arith) ∙ sym (c.loop-i.invariant text h)
+    λ text h. words-found c.args.kinds.now c.args.contents.now h c.position.result (IsFirst-from_position c.position.new.self _ _ (Out true) (Out false) c.position.ensures.ran (YieldsList-from_zip (YieldsList-from_slice c.args.kinds.now cc) (YieldsList-from_slice c.args.contents.now cc))
+    (λ x q k. search (rules, tests)) (λ x q k. search (rules, tests)))

@@ -5,12 +5,12 @@ use mathlib.Core.Path.{sym, ◌∙◌}
 use native.Mathlib.Omega.{arith}
 use Rattle.names.proofs.walk.binding_fault.Goals as goal
 
-pub offset_bounds-parsed-root : goal.offset_bounds-parsed-root
-offset_bounds-parsed-root c =
+pub offset_bounds-context-root : goal.offset_bounds-context-root
+offset_bounds-context-root c =
     omega (arith, root_in c.requires.0.0.world, c.requires.1)
 
-pub bounds-parsed-root : goal.bounds-parsed-root
-bounds-parsed-root c =
+pub bounds-context-root : goal.bounds-context-root
+bounds-context-root c =
     omega (arith, root_in c.requires.0.0.world, c.requires.1)
 
 pub returns-then-n-eq0 : goal.returns-then-n-eq0

@@ -5,17 +5,17 @@ use Rattle.names.proofs.Acts.{lone-none, not-lone}
 use native.Mathlib.Omega.{arith}
 use Rattle.names.proofs.walk.item_fault.Goals as goal
 
-pub offset_bounds-parsed-root : goal.offset_bounds-parsed-root
-offset_bounds-parsed-root c =
+pub offset_bounds-context-root : goal.offset_bounds-context-root
+offset_bounds-context-root c =
     omega (arith, root_in c.requires.0.setting.world, c.requires.1)
 
-pub bounds-parsed-root : goal.bounds-parsed-root
-bounds-parsed-root c =
+pub bounds-context-root : goal.bounds-context-root
+bounds-context-root c =
     omega (arith, root_in c.requires.0.setting.world, c.requires.1)
 
 pub returns-then-is_lone : goal.returns-then-is_lone
 returns-then-is_lone c =
-    λ h x hx. lone-none c.args.parsed.now.nodes.now c.args.kinds.now h.setting.world.word h.closes (faults_at h.setting) x c.args.from c.args.root hx c.is_lone.result c.is_lone.ensures c.if-is_lone.true
+    λ h x hx. lone-none c.args.context.now.nodes.now c.args.context.now.kinds.now h.setting.world.word h.closes (faults_at h.setting) x c.args.from c.args.root hx c.is_lone.result c.is_lone.ensures c.if-is_lone.true
 
 pub overflow_add-root : goal.overflow_add-root
 overflow_add-root c =
@@ -27,4 +27,4 @@ leaves_fault-requires c =
 
 pub returns : goal.returns
 returns c =
-    λ h x hx. not-lone c.args.parsed.now.nodes.now c.args.kinds.now h.setting.world.word h.closes (faults_at h.setting) x c.args.from c.args.root hx c.is_lone.result c.is_lone.ensures c.if-is_lone.false c.leaves_fault.result (c.leaves_fault.ensures h.setting)
+    λ h x hx. not-lone c.args.context.now.nodes.now c.args.context.now.kinds.now h.setting.world.word h.closes (faults_at h.setting) x c.args.from c.args.root hx c.is_lone.result c.is_lone.ensures c.if-is_lone.false c.leaves_fault.result (c.leaves_fault.ensures h.setting)

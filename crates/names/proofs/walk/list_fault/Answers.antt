@@ -10,12 +10,12 @@ past_fault-requires c =
 
 pub returns-in-Limits : goal.returns-in-Limits
 returns-in-Limits c =
-    list-limits (packed (lows_in c.args.parsed.now.contents.now) (highs_in c.args.parsed.now.contents.now)) c.args.limit (names_down c.args.parsed.now.nodes.now c.args.first c.args.n) c.args.question c.past_fault.result c.in-Limits.is c.past_fault.ensures
+    list-limits (packed (lows_in c.args.context.now.contents.now) (highs_in c.args.context.now.contents.now)) c.args.limit (names_down c.args.context.now.nodes.now c.args.first c.args.n) c.args.context.now.question c.past_fault.result c.in-Limits.is c.past_fault.ensures
 
 pub returns-in-Fresh : goal.returns-in-Fresh
 returns-in-Fresh c =
-    list-fresh (packed (lows_in c.args.parsed.now.contents.now) (highs_in c.args.parsed.now.contents.now)) c.args.limit (names_down c.args.parsed.now.nodes.now c.args.first c.args.n) c.args.question c.twice_fault.result c.in-Fresh.is c.twice_fault.ensures
+    list-fresh (packed (lows_in c.args.context.now.contents.now) (highs_in c.args.context.now.contents.now)) c.args.limit (names_down c.args.context.now.nodes.now c.args.first c.args.n) c.args.context.now.question c.twice_fault.result c.in-Fresh.is (rw c.parsed.ensures at c.twice_fault.ensures)
 
 pub returns-in-Given : goal.returns-in-Given
 returns-in-Given c =
-    list-given (packed (lows_in c.args.parsed.now.contents.now) (highs_in c.args.parsed.now.contents.now)) c.args.limit (names_down c.args.parsed.now.nodes.now c.args.first c.args.n) c.args.question c.in-Given.is
+    list-given (packed (lows_in c.args.context.now.contents.now) (highs_in c.args.context.now.contents.now)) c.args.limit (names_down c.args.context.now.nodes.now c.args.first c.args.n) c.args.context.now.question c.in-Given.is

@@ -8,12 +8,12 @@ use Rattle.names.proofs.walk.numbers_fault.Goals as goal
 
 pub leaves_fault-requires : goal.leaves_fault-requires
 leaves_fault-requires c =
-    (setting-none c.requires c.no_locals.result c.no_locals.ensures, omega (arith, vs-few c.requires, c.requires.gathered.variables-are))
+    rw c.within.ensures ((setting-none c.requires c.no_locals.result c.no_locals.ensures, omega (arith, vs-few c.requires, c.requires.gathered.variables-are)))
 
 pub returns-in-Limits : goal.returns-in-Limits
 returns-in-Limits c =
-    numbers-limits (lows_in c.args.parsed.now.contents.now) (highs_in c.args.parsed.now.contents.now) c.args.parsed.now.nodes.now c.args.parsed.now.lists c.no_locals.result c.no_locals.ensures c.in-Limits.is c.leaves_fault.ensures
+    numbers-limits (lows_in c.args.context.now.contents.now) (highs_in c.args.context.now.contents.now) c.args.context.now.nodes.now c.args.context.now.lists c.no_locals.result c.no_locals.ensures c.in-Limits.is (rw c.within.ensures at c.leaves_fault.ensures)
 
 pub returns-in-Fresh : goal.returns-in-Fresh
 returns-in-Fresh c =
-    numbers-free (lows_in c.args.parsed.now.contents.now) (highs_in c.args.parsed.now.contents.now) c.args.parsed.now.nodes.now c.args.parsed.now.lists c.in-Fresh.is
+    numbers-free (lows_in c.args.context.now.contents.now) (highs_in c.args.context.now.contents.now) c.args.context.now.nodes.now c.args.context.now.lists c.in-Fresh.is

@@ -26,4 +26,4 @@ pub returns : goal.returns
 unfolding faults_at
 returns c =
     λ h a ρ t u room.
-    offer-judged c.args.parsed.now.nodes.now (faults_at h.setting) h.setting.world.word (branch c.args.own.before _) a ρ _ c.args.own.root u c.branch_fault-start.result c.action_fault-action.result c.leaves_fault-values.result c.earlier.result c.earlier-2.result (rw c.token_of.ensures at (c.branch_fault-start.ensures h.setting.world.word (variables h.setting.world.model) (definitions h.setting.world.model) h.setting.locals)) (c.action_fault-action.ensures h a (rw c.left_of-left.ensures t) room) (rw c.left_of-left.ensures at (c.leaves_fault-values.ensures h.setting)) c.earlier.ensures c.earlier-2.ensures
+    offer-judged c.args.context.now.nodes.now (faults_at h.setting) h.setting.world.word (branch c.args.own.before _) a ρ _ c.args.own.root u c.branch_fault-start.result c.action_fault-action.result c.leaves_fault-values.result c.earlier.result c.earlier-2.result (rw c.token_of.ensures at (c.branch_fault-start.ensures h.setting.world.word (variables h.setting.world.model) (definitions h.setting.world.model) h.setting.locals)) (c.action_fault-action.ensures h a (rw c.left_of-left.ensures t) room) (rw c.left_of-left.ensures at (c.leaves_fault-values.ensures h.setting)) c.earlier.ensures c.earlier-2.ensures

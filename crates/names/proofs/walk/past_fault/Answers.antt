@@ -1,22 +1,14 @@
-use Rattle.names.proofs.Titles.{past-on, past_end}
-use Rattle.names.specs.Faults.{earlier_of}
-use mathlib.Core.Path.{refl, ◌∙◌}
-use native.Mathlib.Omega.{arith}
+-- `walk::past_fault` meets its contract: the least of the names past the limit.
+use mathlib.Core.Path.{refl, sym, ◌∙◌}
+use Prim.Native.Nat.{◌-◌}
+use Rattle.std.proofs.Common.{rules, tests}
+use Rattle.std.proofs.lemmas.Iterator.{YieldsList-from_range, YieldsList-from_map}
+use Rattle.std.proofs.lemmas.Iterator.Adapters.{option_map_id}
+use Rattle.std.proofs.lemmas.Iterator.Consumers.{YieldsList-at, min_from_yields_List}
+use Rattle.names.specs.Lists.{name_at}
+use Rattle.names.proofs.Titles.{past_least}
 use Rattle.names.proofs.walk.past_fault.Goals as goal
-
-pub loop-j-init : goal.loop-j-init
-unfolding earlier_of
-loop-j-init c =
-    refl
-
-pub listed_name-requires : goal.listed_name-requires
-listed_name-requires c =
-    c.requires.1 c.loop-j.j (omega arith)
-
-pub loop-j-preserved : goal.loop-j-preserved
-loop-j-preserved c =
-    past-on c.args.nodes.now c.args.first c.args.n c.loop-j.j (omega arith) c.loop-j.found c.listed_name.result c.earlier-found.result c.listed_name.ensures c.earlier-found.ensures ∙ c.loop-j.invariant
 
 pub returns : goal.returns
 returns c =
-    past_end c.args.nodes.now c.args.first c.args.n c.loop-j.j (omega arith) c.loop-j.found ∙ c.loop-j.invariant
+    sym (option_map_id _) ∙ min_from_yields_List _ _ c.min.ensures.ran (YieldsList-from_map _ (λ j. name_at c.args.nodes.now (c.args.first - j)) (YieldsList-at c.map.ensures.source (YieldsList-from_range c.args.limit c.args.n (c.args.n - c.args.limit) refl refl)) c.map.ensures.closure (λ x r q k. search (rules, tests))) ∙ past_least c.args.nodes.now c.args.first c.args.n c.args.limit

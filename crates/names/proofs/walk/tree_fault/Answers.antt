@@ -4,8 +4,8 @@ use Rattle.names.proofs.Settled.{vs-few, reach-variables, reach-definitions}
 use native.Mathlib.Omega.{arith}
 use Rattle.names.proofs.walk.tree_fault.Goals as goal
 
-pub overflow_sub-below : goal.overflow_sub-below
-overflow_sub-below c =
+pub first_definition-below-requires : goal.first_definition-below-requires
+first_definition-below-requires c =
     omega (arith, vs-few c.requires.0.world, c.requires.0.world.gathered.variables-are)
 
 pub list_fault-names-requires : goal.list_fault-names-requires
@@ -14,7 +14,7 @@ list_fault-names-requires c =
 
 pub list_fault-titles-requires : goal.list_fault-titles-requires
 list_fault-titles-requires c =
-    reach-definitions c.requires.0.world c.args.parsed.now.lists.definitions (omega arith)
+    rw c.first_definition-below.ensures (reach-definitions c.requires.0.world c.args.parsed.now.lists.definitions (omega arith))
 
 pub numbers_fault-numbers-requires : goal.numbers_fault-numbers-requires
 numbers_fault-numbers-requires c =
@@ -22,8 +22,8 @@ numbers_fault-numbers-requires c =
 
 pub lines_fault-lines-requires : goal.lines_fault-lines-requires
 lines_fault-lines-requires c =
-    ((c.requires.0, lines c.requires.0, lines-hold c.requires.0, lines-room c.requires.0 c.requires.1), omega arith)
+    rw c.first_definition-below.ensures ((c.requires.0, lines c.requires.0, lines-hold c.requires.0, lines-room c.requires.0 c.requires.1), omega arith)
 
 pub returns : goal.returns
 returns c =
-    λ h room. tree-judged h c.list_fault-names.result c.list_fault-titles.result c.numbers_fault-numbers.result c.lines_fault-lines.result c.earlier.result c.earlier-2.result c.earlier-3.result c.list_fault-names.ensures c.list_fault-titles.ensures (c.numbers_fault-numbers.ensures h.world) (c.lines_fault-lines.ensures h (lines h) (lines-hold h) (lines-room h room)) c.earlier.ensures c.earlier-2.ensures c.earlier-3.ensures
+    λ h room. tree-judged h c.list_fault-names.result c.list_fault-titles.result c.numbers_fault-numbers.result c.lines_fault-lines.result c.earlier.result c.earlier-2.result c.earlier-3.result c.list_fault-names.ensures (rw c.first_definition-below.ensures at c.list_fault-titles.ensures) (c.numbers_fault-numbers.ensures h.world) ((rw c.first_definition-below.ensures at c.lines_fault-lines.ensures) h (lines h) (lines-hold h) (lines-room h room)) c.earlier.ensures c.earlier-2.ensures c.earlier-3.ensures

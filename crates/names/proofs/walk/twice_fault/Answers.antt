@@ -1,22 +1,15 @@
-use Rattle.token.specs.Contents.{lows_in, highs_in}
-use Rattle.names.proofs.Titles.{twice-none, twice-on, twice-end, reach-less}
-use Rattle.names.specs.Lists.{packed}
-use Prim.Native.Nat.{◌+◌}
+-- `walk::twice_fault` meets its contract: the least of the names that stand there before.
+use mathlib.Core.Path.{refl, sym, ◌∙◌}
 use native.Mathlib.Omega.{arith}
+use Rattle.std.proofs.Common.{rules, tests}
+use Rattle.std.proofs.lemmas.Iterator.{YieldsList-from_range}
+use Rattle.std.proofs.lemmas.Iterator.Adapters.{option_map_id}
+use Rattle.std.proofs.lemmas.Iterator.Consumers.{YieldsList-at, YieldsList-from_filter_map, min_from_yields_List}
+use Rattle.names.specs.Lists.{packed_in}
+use Rattle.names.proofs.Titles.{again_at, twice_least}
 use Rattle.names.proofs.walk.twice_fault.Goals as goal
-
-pub loop-j-init : goal.loop-j-init
-loop-j-init c =
-    twice-none c.args.parsed.now.nodes.now c.args.first c.args.n (packed (lows_in c.args.parsed.now.contents.now) (highs_in c.args.parsed.now.contents.now))
-
-pub again_fault-requires : goal.again_fault-requires
-again_fault-requires c =
-    reach-less (lows_in c.args.parsed.now.contents.now) (highs_in c.args.parsed.now.contents.now) c.args.parsed.now.nodes.now c.args.first c.args.n (c.loop-j.j + 1) (omega arith) c.requires
-
-pub loop-j-preserved : goal.loop-j-preserved
-loop-j-preserved c =
-    twice-on c.args.parsed.now.nodes.now c.args.first c.args.n (packed (lows_in c.args.parsed.now.contents.now) (highs_in c.args.parsed.now.contents.now)) c.loop-j.j (omega arith) c.loop-j.found c.again_fault.result c.earlier-found.result c.again_fault.ensures c.earlier-found.ensures c.loop-j.invariant
 
 pub returns : goal.returns
 returns c =
-    twice-end c.args.parsed.now.nodes.now c.args.first c.args.n (packed (lows_in c.args.parsed.now.contents.now) (highs_in c.args.parsed.now.contents.now)) c.loop-j.j (omega arith) c.loop-j.found c.loop-j.invariant
+    let w = packed_in c.args.parsed.now.contents.now in
+    sym (option_map_id _) ∙ min_from_yields_List _ _ c.min.ensures.ran (YieldsList-from_filter_map _ (again_at w c.args.parsed.now.nodes.now c.args.first) (YieldsList-at c.filter_map.ensures.source (YieldsList-from_range 0 c.args.n c.args.n refl (omega arith))) c.filter_map.ensures.closure (λ x r q k. search (rules, tests))) ∙ twice_least c.args.parsed.now.nodes.now c.args.first w c.args.n

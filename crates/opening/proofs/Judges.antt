@@ -8,7 +8,7 @@ use borrow.Author.Tests.{le-leb}
 use lib.ListN.{length}
 use Rattle.std.specs.Prelude.{Result, None, Some, Err, Ok}
 use Rattle.token.specs.declared.Refusal.{Refusal}
-use Rattle.token.specs.Questions.{Found, Judged}
+use Rattle.token.specs.Questions.{Found, No, Judged, question_number}
 use Rattle.token.specs.Questions as bytes
 use Rattle.token.specs.Token.{tokens}
 use Rattle.grammar.specs.Limit.{token_limit}
@@ -22,8 +22,9 @@ use Rattle.model.specs.Given.{not_given}
 use Rattle.model.specs.Resolved.{resolved}
 use Rattle.model.specs.Opening.{Opening, refused, opened, byte_place, too_many, system_token, crowded, asked, tree_judged, opening}
 use Rattle.model.specs.Held.{tree_held, model_in, held}
-use Rattle.names.specs.Judged.{no_of, answer_of, judged_names}
+use Rattle.names.specs.Judged.{among_all, no_of, answer_of, judged_names}
 use Rattle.names.specs.declared.Fault.{Fault}
+use Rattle.opening.specs.declared.Space.{Space}
 use Rattle.opening.specs.Trees.{Fitted}
 use Rattle.opening.specs.Sound.{Sound, NamesJudged}
 
@@ -37,7 +38,7 @@ place_of (Ok u) = 0
 place_of (Err r) = r.place
 
 -- a no of the tokens is the no of the text, whatever is asked later
-same-no : (text : List ℕ) (f g h : Found) (more : Opening) {r : Refusal} → bytes.asked 7 f (bytes.asked 8 g (bytes.asked 9 h (Ok tt))) ≡ Err r → asked text 7 f (asked text 8 g (asked text 9 h more)) ≡ refused r.number (byte_place text r.place)
+same-no : (text : List ℕ) (f g h : Found) (more : Opening) {r : No} → bytes.asked 7 f (bytes.asked 8 g (bytes.asked 9 h (Ok tt))) ≡ Err r → asked text 7 f (asked text 8 g (asked text 9 h more)) ≡ refused r.number (byte_place text r.place)
 unfolding bytes.asked asked number_of place_of
 same-no text (Some i) g h more e = rw (← ap number_of e, ← ap place_of e)
 same-no text None (Some i) h more e = rw (← ap number_of e, ← ap place_of e)
@@ -52,7 +53,7 @@ at_none None None (Some i) e = cc
 at_none None None None e = (refl, refl, refl)
 
 -- ---- 7 to 9 of a text that fits
-module _ {text : List ℕ} {s : Syntax.Model} {kinds places low high nodes : List ℕ} {root n : ℕ} (f : Fitted text s kinds places low high nodes root n) where
+module _ {text : List ℕ} {s : Syntax.Model} {space : Space} {root : ℕ} (f : Fitted text s space root) where
   abbrev f7 : Found
   f7 = least (beyond text s)
 
@@ -67,13 +68,13 @@ module _ {text : List ℕ} {s : Syntax.Model} {kinds places low high nodes : Lis
   few = let l : length (tokens text) ≤ token_limit = omega (arith, f.read.few, f.read.tabled.count) in simp (le-leb (length (tokens text)) token_limit l)
 
   module _ {j : Result (Unit {0}) Fault} (e : answer_of j ≡ judged_names text s) where
-    pub names-no : {x : Fault} → j ≡ Err x → {r : Refusal} → r.number ≡ (no_of x).number → r.place ≡ byte_place text (no_of x).place → NamesJudged text s (Err r)
-    unfolding NamesJudged answer_of judged_names tree_judged tree_held asked model_in
-    names-no {x} i {r} a b =
+    pub names-no : {x : Fault} → j ≡ Err x → (r : Refusal) → r.question ≡ among_all x.question → r.place ≡ byte_place text x.token → NamesJudged text s (Err r)
+    unfolding NamesJudged answer_of no_of judged_names tree_judged tree_held asked model_in
+    names-no {x} i r a b =
         let q : judged_names text s ≡ Err (no_of x) = sym e ∙ ap answer_of i in
         let opens = same-no text f7 f8 f9 (asked text 10 (crowded s (resolved (word_of text) s)) (opened (resolved (word_of text) s))) q in
         let holds = same-no text f7 f8 f9 (opened (resolved (word_of text) s)) q in
-        record { opens = f.opens ∙ simp few (opens ∙ rw (← a, ← b)); holds = f.holds ∙ simp few (ap model_in holds) }
+        record { opens = f.opens ∙ simp few (opens ∙ rw (a, b)); holds = f.holds ∙ simp few (ap model_in holds) }
 
     pub names-yes : {u : Unit {0}} → j ≡ Ok u → {k p : ℕ} → p ≡ byte_place text k → k ≡ system_token (system s) → NamesJudged text s (Ok p)
     unfolding NamesJudged answer_of judged_names

@@ -44,9 +44,9 @@ module _ {text places sizes places' sizes' : List ℕ} where
   pub tree-marked : (r : Tree) → Marked text places sizes places' sizes' → TreeMarked text places sizes places' sizes' r
   unfolding TreeMarked
   tree-marked (Err r) m = tt
-  tree-marked (Ok (root, n)) m = m
+  tree-marked (Ok root) m = m
 
-  pub fits-marked : {r : Tree} {root n : ℕ} → TreeMarked text places sizes places' sizes' r → r ≡ Ok (root, n) → Marked text places sizes places' sizes'
+  pub fits-marked : {r : Tree} {root : ℕ} → TreeMarked text places sizes places' sizes' r → r ≡ Ok root → Marked text places sizes places' sizes'
   unfolding TreeMarked
   fits-marked m e = rw e at m
 
@@ -62,7 +62,7 @@ module _ {text places sizes places' sizes' : List ℕ} where
   pub model-marked : (r : Held) → Marked text places sizes places' sizes' → ModelMarked text places sizes places' sizes' r
   unfolding ModelMarked
   model-marked (Err r) m = tt
-  model-marked (Ok (x, p)) m = m
+  model-marked (Ok f) m = m
 
 -- ---- tables that were zero
 

@@ -1,24 +1,28 @@
 -- The returns of `read_sound`, `settle_sound`, `read_model` and `open_text`, over plain variables: the model of a text, and question 10.
 use mathlib.Core.Path.{◌≡◌, refl, sym, ap, ◌∙◌}
 use mathlib.Core.List.{List, [], ◌∷◌}
+use mathlib.Core.Option.{none}
 use Prim.Native.Nat.{ℕ, ◌-◌, ◌≤◌, ◌<◌}
 use native.Mathlib.Omega.{arith}
 use borrow.Author.Tests.{le-leb, lt-leb}
 use lib.ListN.{length}
 use Rattle.std.specs.Prelude.{Err, Ok}
 use Rattle.token.specs.declared.Refusal.{Refusal}
-use Rattle.token.specs.Questions.{refusal}
+use Rattle.token.specs.declared.Question.TheVariants.{Processes}
+use Rattle.token.specs.Questions.{question_number}
 use Rattle.grammar.specs.Syntax
-use Rattle.model.specs.Sites.{system}
 use Rattle.model.specs.Words.{word_of}
 use Rattle.model.specs.Good.{Every, GoodStart}
 use Rattle.model.specs.Resolved
 use Rattle.model.specs.Resolved.{resolved}
-use Rattle.model.specs.Opening.{process_limit, refused, byte_place, start_processes, system_token, crowded, asked}
+use Rattle.model.specs.Held.{held}
+use Rattle.model.specs.Opening.{process_limit, refused, start_processes, crowded, asked}
 use Rattle.model.proofs.Held.{held-good}
 use Rattle.opening.specs.Counts.{Countable, Counts}
 use Rattle.opening.specs.Trees.{Closed, Fitted, TreeRead, Tree}
 use Rattle.opening.specs.declared.SoundTree.{SoundTree}
+use Rattle.opening.specs.declared.SoundModel.{SoundModel}
+use Rattle.opening.specs.declared.Space.{Space}
 use Rattle.opening.specs.Sound.{NamesJudged, Named, SoundHeld, SoundOr, SoundRead}
 use Rattle.opening.specs.Models.{Shown, Rooted, ModelHeld, ModelRead, Opens, Held}
 use Rattle.opening.proofs.Judges.{asks-ten, holds-model}
@@ -27,54 +31,58 @@ use Rattle.settle.specs.declared.Model.{Model}
 use Rattle.settle.specs.Settles.{Settles}
 
 -- ---- 2 to 6
-module _ (text kinds places low high nodes : List ℕ) {r : Tree} (d : TreeRead text kinds places low high nodes r) where
-  pub tree-no : {q : Refusal} → r ≡ Err q → SoundRead text kinds places low high nodes (Err q)
+module _ (text : List ℕ) (space : Space) {r : Tree} (d : TreeRead text space r) where
+  pub tree-no : {q : Refusal} → r ≡ Err q → SoundRead text space (Err q)
   unfolding TreeRead SoundRead
   tree-no e = rw e at d
 
-  pub tree-fits : {root n : ℕ} → r ≡ Ok (root, n) → (s : Syntax.Model) × Fitted text s kinds places low high nodes root n
+  pub tree-fits : {root : ℕ} → r ≡ Ok root → (s : Syntax.Model) × Fitted text s space root
   unfolding TreeRead
   tree-fits e = rw e at d
 
 -- ---- 7 to 9
-module _ {text : List ℕ} {s : Syntax.Model} {kinds places low high nodes : List ℕ} {root n : ℕ} (f : Fitted text s kinds places low high nodes root n) {j : Named} (d : NamesJudged text s j) where
-  pub named-no : {r : Refusal} → j ≡ Err r → SoundRead text kinds places low high nodes (Err r)
+module _ {text : List ℕ} {s : Syntax.Model} {space : Space} {root : ℕ} (f : Fitted text s space root) {j : Named} (d : NamesJudged text s j) where
+  pub named-no : {r : Refusal} → j ≡ Err r → SoundRead text space (Err r)
   unfolding NamesJudged SoundRead
   named-no e = rw e at d
 
-  pub named-yes : {p : ℕ} → j ≡ Ok p → SoundRead text kinds places low high nodes (Ok (record { root = root; n = n; place = p }))
+  pub named-yes : {p : ℕ} → j ≡ Ok p → SoundRead text space (Ok (record { root = root; place = p }))
   unfolding NamesJudged SoundRead
   named-yes e = let b = rw e at d in (s, record { fitted = f; sound = b.0; place-is = b.1 })
 
 -- ---- 2 to 9
-module _ (text kinds places low high nodes : List ℕ) {r : SoundOr} (d : SoundRead text kinds places low high nodes r) where
+module _ (text : List ℕ) (space : Space) {r : SoundOr} (d : SoundRead text space r) where
   pub sound-no : (nodes' roots scopes : List ℕ) {q : Refusal} → r ≡ Err q → ModelRead text nodes' roots scopes (Err q)
   unfolding SoundRead ModelRead
   sound-no nodes' roots scopes e = rw e at d
 
-  pub sound-tree : {t : SoundTree} → r ≡ Ok t → (s : Syntax.Model) × SoundHeld text s kinds places low high nodes t
+  pub sound-tree : {t : SoundTree} → r ≡ Ok t → (s : Syntax.Model) × SoundHeld text s space t
   unfolding SoundRead
   sound-tree e = rw e at d
 
 -- the model of a sound text
-pub sound-model : {text : List ℕ} {s : Syntax.Model} {kinds places low high nodes : List ℕ} {t : SoundTree} → SoundHeld text s kinds places low high nodes t → {nodes' roots scopes : List ℕ} {x : Model} → Shown nodes' roots scopes x (resolved (word_of text) s) → Rooted x → Settles (word_of text) s nodes' roots scopes x → ModelHeld text nodes' roots scopes x t.place
+pub sound-model : {text : List ℕ} {s : Syntax.Model} {space : Space} {t : SoundTree} → SoundHeld text s space t → {nodes' roots scopes : List ℕ} {x : Model} → Shown nodes' roots scopes x (resolved (word_of text) s) → Rooted x → Settles (word_of text) s nodes' roots scopes x → ModelHeld text nodes' roots scopes x t.place
 unfolding resolved
 sound-model {text} {s} h i r t =
     let f = h.fitted in
     let v = h.sound in
     record { tree = s; model = resolved (word_of text) s; holds = holds-model f v; worded = refl; opens = asks-ten f v; shown = i; written = record { fits = yes5 f v; settles = t }; rooted = r; place_is = h.place-is }
 
-pub model-read : {text nodes roots scopes : List ℕ} {x : Model} {p : ℕ} → ModelHeld text nodes roots scopes x p → ModelRead text nodes roots scopes (Ok (x, p))
+pub model-read : {text nodes roots scopes : List ℕ} {f : SoundModel} → ModelHeld text nodes roots scopes f.model f.place → ModelRead text nodes roots scopes (Ok f)
 unfolding ModelRead
 model-read h = h
 
--- ---- 10
+-- ---- 10, and what a text holds
 module _ (text nodes roots scopes : List ℕ) (r : Held) (d : ModelRead text nodes roots scopes r) where
   pub held-no : {q : Refusal} → r ≡ Err q → Opens text nodes roots scopes (Err q)
   unfolding ModelRead Opens
-  held-no {q} e = let c : Closed text q.number q.place = rw e at d in c.opens
+  held-no {q} e = let c : Closed text (question_number q.question) q.place = rw e at d in c.opens
 
-  pub held-model : {x : Model} {p : ℕ} → r ≡ Ok (x, p) → ModelHeld text nodes roots scopes x p
+  pub none-held : {q : Refusal} → r ≡ Err q → held text ≡ none
+  unfolding ModelRead
+  none-held {q} e = let c : Closed text (question_number q.question) q.place = rw e at d in c.holds
+
+  pub held-model : {f : SoundModel} → r ≡ Ok f → ModelHeld text nodes roots scopes f.model f.place
   unfolding ModelRead
   held-model e = rw e at d
 
@@ -85,7 +93,7 @@ known-starts m (s ∷ ss) h = (got-below m.definitions s.definition h.0.callable
 
 module _ {text nodes roots scopes : List ℕ} {x : Model} {p : ℕ} (g : ModelHeld text nodes roots scopes x p) where
   -- the model's processes can be counted
-  pub countable : Countable nodes (x.root - x.variables) (x.root - x.variables - x.definitions) g.model
+  pub countable : Countable nodes (x.lists.root - x.lists.variables) (x.lists.root - x.lists.variables - x.lists.definitions) g.model
   countable =
       let e = g.shown.definitions-are in
       record {
@@ -99,13 +107,13 @@ module _ {text nodes roots scopes : List ℕ} {x : Model} {p : ℕ} (g : ModelHe
     abbrev processes : ℕ
     processes = start_processes g.model.definitions g.model.starts
 
-    pub many-no : process_limit < k → Opens text nodes roots scopes (Err (refusal 10 p))
+    pub many-no : process_limit < k → Opens text nodes roots scopes (Err (record { question = Processes; place = p }))
     unfolding Opens asked crowded
     many-no l =
         let h : process_limit < processes = c.many l in
         g.opens ∙ simp (lt-leb processes process_limit h) (ap (refused 10) (sym g.place_is))
 
-    pub few-yes : k ≤ process_limit → Opens text nodes roots scopes (Ok (x, k))
+    pub few-yes : k ≤ process_limit → Opens text nodes roots scopes (Ok (record { model = x; processes = k }))
     unfolding Opens asked crowded
     few-yes l =
         let e : k ≡ processes = c.few l in

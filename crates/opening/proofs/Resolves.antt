@@ -15,7 +15,7 @@ use Rattle.token.specs.declared.Content.{Content}
 use Rattle.token.specs.Kind as kind
 use Rattle.token.specs.Bytes.{within}
 use Rattle.token.specs.Token.{Mark, tokens, kinds_of}
-use Rattle.token.specs.Contents.{before_point, after_point, bytes_of, few_digits, decimal_content, low_of}
+use Rattle.token.specs.Contents.{before_point, after_point, bytes_of, few_digits, decimal_content, low_of, lows_in, highs_in}
 use Rattle.token.specs.Questions.{First, Found}
 use Rattle.grammar.specs.Grammar as derived
 use Rattle.grammar.specs.Limit.{token_limit}
@@ -47,6 +47,7 @@ use Rattle.settle.specs.Places.{Told, VariableSafe, Base, Resolvable}
 use Rattle.settle.specs.declared.Model.{Model}
 use Rattle.settle.specs.Settles.{Settles}
 use Rattle.settle.proofs.Lines.{system-literal}
+use Rattle.opening.specs.declared.Space.{Space}
 use Rattle.opening.specs.Trees.{Fitted}
 use Rattle.opening.specs.Sound.{Sound}
 
@@ -74,7 +75,16 @@ variable-safe w told (derived.integer derived.negative) k h = h
 variable-safe w told derived.decimal k h = h
 variable-safe w told derived.negative_decimal k h = h
 
-module _ {text : List ℕ} {s : Syntax.Model} {kinds places low high nodes : List ℕ} {root n : ℕ} (f : Fitted text s kinds places low high nodes root n) (v : Sound text s) where
+module _ {text : List ℕ} {s : Syntax.Model} {space : Space} {root : ℕ} (f : Fitted text s space root) (v : Sound text s) where
+  abbrev low : List ℕ
+  low = lows_in space.contents
+
+  abbrev high : List ℕ
+  high = highs_in space.contents
+
+  abbrev nodes : List ℕ
+  nodes = space.model.nodes
+
   abbrev w : ℕ → List ℕ
   w = word_of text
 
@@ -153,32 +163,29 @@ module _ {text : List ℕ} {s : Syntax.Model} {kinds places low high nodes : Lis
         room = omega (arith, f.fewer, f.read.few);
       }
 
-  module _ {roots scopes heard : List ℕ} (a : token_limit ≤ length roots) (b : token_limit ≤ length scopes) (c : token_limit ≤ length heard) where
-    unfoldable resolvable : Resolvable low high nodes roots scopes heard lists_of
-    unfolding base world
-    resolvable =
-        record {
-          base = base;
-          faultless = sound;
-          new = yes8;
-          decimals = rate-told;
-          literals = rw f.read.tree (system-literal f.read.reading);
-          roots-room = omega (arith, f.fewer, f.read.few);
-          scopes-room = omega (arith, f.fewer, f.read.few);
-          heard-room = omega (arith, f.fewer, f.read.few);
-        }
+  unfoldable resolvable : Resolvable low high nodes token_limit lists_of
+  unfolding base world
+  resolvable =
+      record {
+        base = base;
+        faultless = sound;
+        new = yes8;
+        decimals = rate-told;
+        literals = rw f.read.tree (system-literal f.read.reading);
+        inside = omega (arith, f.fewer, f.read.few);
+      }
 
-    pub can-settle : (lists : Lists) × (lists.root ≡ root) × Resolvable low high nodes roots scopes heard lists
-    can-settle = (lists_of, refl, resolvable)
+  pub can-settle : (lists : Lists) × (lists.root ≡ root) × Resolvable low high nodes token_limit lists
+  can-settle = (lists_of, refl, resolvable)
 
-    -- the model that the tables hold then is the text's
-    pub settled-so : {nodes' roots' scopes' : List ℕ} {r vars defs sums channels : ℕ}
-        → ((lists : Lists) (h : Resolvable low high nodes roots scopes heard lists) → lists.root ≡ root → Represents nodes' roots' scopes' r vars defs sums channels (resolved h.base.world.word h.base.world.model))
-        → Represents nodes' roots' scopes' r vars defs sums channels (resolved w s)
-    unfolding resolvable base world
-    settled-so h = h lists_of resolvable refl
+  -- the model that the tables hold then is the text's
+  pub settled-so : {nodes' roots' scopes' : List ℕ} {r vars defs sums channels : ℕ}
+      → ((lists : Lists) (h : Resolvable low high nodes token_limit lists) → lists.root ≡ root → Represents nodes' roots' scopes' r vars defs sums channels (resolved h.base.world.word h.base.world.model))
+      → Represents nodes' roots' scopes' r vars defs sums channels (resolved w s)
+  unfolding resolvable base world
+  settled-so h = h lists_of resolvable refl
 
-    -- and the tables are told by the text
-    pub settles-so : {nodes' roots' scopes' : List ℕ} {x : Model} → ((lists : Lists) (h : Resolvable low high nodes roots scopes heard lists) → lists.root ≡ root → Settles h.base.world.word h.base.world.model nodes' roots' scopes' x) → Settles w s nodes' roots' scopes' x
-    unfolding resolvable base world
-    settles-so h = h lists_of resolvable refl
+  -- and the tables are told by the text
+  pub settles-so : {nodes' roots' scopes' : List ℕ} {x : Model} → ((lists : Lists) (h : Resolvable low high nodes token_limit lists) → lists.root ≡ root → Settles h.base.world.word h.base.world.model nodes' roots' scopes' x) → Settles w s nodes' roots' scopes' x
+  unfolding resolvable base world
+  settles-so h = h lists_of resolvable refl

@@ -6,10 +6,12 @@ use native.Mathlib.Omega.{arith}
 use borrow.Author.Tests.{lt-leb}
 use lib.ListN.{length, take, drop}
 use lib.Seq.{take_at, take_all}
-use Rattle.std.specs.Prelude.{Err, Ok}
-use Rattle.token.specs.Questions.{bytes_judged, refusal, Judged}
+use Rattle.std.specs.Prelude.{Result, Err, Ok}
+use Rattle.token.specs.declared.Question.TheVariants.{Grammar, Tokens}
+use Rattle.token.specs.declared.Refusal.{Refusal}
+use Rattle.token.specs.Questions.{told, bytes_judged}
 use Rattle.token.specs.Token.{Mark, tokens, column, kinds_of, Filled}
-use Rattle.token.specs.Contents.{low_of, high_of, Told}
+use Rattle.token.specs.Contents.{low_of, high_of, lows_in, highs_in, Told}
 use Rattle.token.proofs.Marks.{column-length}
 use Rattle.grammar.specs.Grammar.{Model, Reads, Wrong}
 use Rattle.grammar.specs.Limit.{token_limit}
@@ -21,16 +23,18 @@ use Rattle.syntax.specs.declared.question.Unfit.TheVariants.{Misfit, Crowded}
 use Rattle.model.specs.Opening.{refused, too_many, asked, byte_place, tree_judged}
 use Rattle.model.specs.Held.{tree_held, model_in}
 use Rattle.model.proofs.Opens.{bytes-refused, goes-wrong, fits}
+use Rattle.opening.specs.declared.Space.{Space}
 use Rattle.opening.specs.Trees.{TreeRead}
 use Rattle.opening.proofs.Holds.{bytes-none, wrong-none, fits-held}
 use Rattle.opening.proofs.Places.{filled-tokens, filled-placed}
 
 -- ---- 2 to 4
-module _ (text kinds places low high nodes : List ℕ) where
-  pub bytes-no : {j : Judged} {n p : ℕ} → j ≡ bytes_judged text → j ≡ Err (refusal n p) → TreeRead text kinds places low high nodes (Err (refusal n p))
+module _ (text : List ℕ) (space : Space) where
+  pub bytes-no : {j : Result (Unit {0}) Refusal} {r : Refusal} → told j ≡ bytes_judged text → j ≡ Err r → TreeRead text space (Err r)
   unfolding TreeRead
-  bytes-no {j} {n} {p} e q =
-      record { opens = bytes-refused text n p (sym e ∙ q); holds = bytes-none text n p (sym e ∙ q) }
+  bytes-no {j} {r} e q =
+      let d = sym e ∙ ap told q in
+      record { opens = bytes-refused text _ _ d; holds = bytes-none text _ _ d }
 
 -- ---- 5 and 6
 module _ {text kinds₀ places₀ sizes₀ : List ℕ} {n : ℕ} {kinds places sizes : List ℕ} (f : Filled text kinds₀ places₀ sizes₀ n kinds places sizes) where
@@ -75,16 +79,16 @@ module _ {text kinds₀ places₀ sizes₀ : List ℕ} {n : ℕ} {kinds places s
 
     module _ (passed : Ok tt ≡ bytes_judged text) where
       -- 5
-      pub misfit-no : (low high : List ℕ) {u : Unfit} {k p : ℕ} → r ≡ Err u → u ≡ Misfit k → p ≡ byte_place text k → TreeRead text kinds places low high nodes (Err (refusal 5 p))
+      pub misfit-no : (space : Space) {u : Unfit} {k p : ℕ} → r ≡ Err u → u ≡ Misfit k → p ≡ byte_place text k → TreeRead text space (Err (record { question = Grammar; place = p }))
       unfolding TreeRead
-      misfit-no low high {k = k} q d e =
+      misfit-no space {k = k} q d e =
           let w = goes (q ∙ ap Err d) in
           record { opens = goes-wrong text k (sym passed) w ∙ ap (refused 5) (sym e); holds = wrong-none text k (sym passed) w }
 
       -- 6
-      pub crowded-no : (low high : List ℕ) {u : Unfit} {k p : ℕ} → r ≡ Err u → u ≡ Crowded k → p ≡ byte_place text k → TreeRead text kinds places low high nodes (Err (refusal 6 p))
+      pub crowded-no : (space : Space) {u : Unfit} {k p : ℕ} → r ≡ Err u → u ≡ Crowded k → p ≡ byte_place text k → TreeRead text space (Err (record { question = Tokens; place = p }))
       unfolding TreeRead tree_judged tree_held too_many asked model_in
-      crowded-no low high {k = k} q d e =
+      crowded-no space {k = k} q d e =
           let b = crowding (q ∙ ap Err d) in
           let l : token_limit < length (tokens text) = omega (arith, few, b.1) in
           record {
@@ -92,22 +96,22 @@ module _ {text kinds₀ places₀ sizes₀ : List ℕ} {n : ℕ} {kinds places s
             holds = fits-held text b.0.0 (sym passed) b.0.1 ∙ simp (lt-leb (length (tokens text)) token_limit l);
           }
 
-      pub fits-yes : {low high low' high' : List ℕ} {root : ℕ} → token_limit ≤ length nodes → r ≡ Ok root → Told text low high n low' high' → TreeRead text kinds places low' high' nodes (Ok (root, n))
+      pub fits-yes : (space : Space) {low high : List ℕ} {root : ℕ} → space.kinds ≡ kinds → space.places ≡ places → space.model.nodes ≡ nodes → space.count ≡ n → token_limit ≤ length nodes → r ≡ Ok root → Told text low high n (lows_in space.contents) (highs_in space.contents) → TreeRead text space (Ok root)
       unfolding TreeRead
-      fits-yes {low} {high} room q t =
+      fits-yes space {low} {high} ks ps ns c room q t =
           let g = (fitting q).0 in (
             syntax_of g.tree,
             record {
-              read = record {
+              read = rw (ks, ns, c) (record {
                 tabled = record { count = f.count; kinds-are = filled-tokens f; lows-are = told-all low (low_of text) t.lows-are; highs-are = told-all high (high_of text) t.highs-are };
                 few = fit-few q;
                 reading = g.tree;
                 reads = g.reads;
                 tree = refl;
                 holds = g.shown (omega (arith, g.few, (fitting q).1));
-              };
-              placed = filled-placed f;
-              fewer = omega (arith, g.few, few, f.count);
+              });
+              placed = rw (ps, c) (filled-placed f);
+              fewer = omega (arith, g.few, few, f.count, c);
               opens = fits text g.tree (sym passed) g.reads;
               holds = fits-held text g.tree (sym passed) g.reads;
             },

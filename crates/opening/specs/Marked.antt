@@ -13,7 +13,7 @@ pub record Marked (text places sizes places' sizes' : List ℕ) : Type 0 where
 -- of a text that fits
 unfoldable pub TreeMarked : (text places sizes places' sizes' : List ℕ) → Tree → Type 0
 TreeMarked text places sizes places' sizes' (Err r) = Unit {0}
-TreeMarked text places sizes places' sizes' (Ok (root, n)) = Marked text places sizes places' sizes'
+TreeMarked text places sizes places' sizes' (Ok root) = Marked text places sizes places' sizes'
 
 -- of a text whose names are sound
 unfoldable pub SoundMarked : (text places sizes places' sizes' : List ℕ) → SoundOr → Type 0
@@ -23,4 +23,4 @@ SoundMarked text places sizes places' sizes' (Ok t) = Marked text places sizes p
 -- of a text that holds a model
 unfoldable pub ModelMarked : (text places sizes places' sizes' : List ℕ) → Held → Type 0
 ModelMarked text places sizes places' sizes' (Err r) = Unit {0}
-ModelMarked text places sizes places' sizes' (Ok (x, p)) = Marked text places sizes places' sizes'
+ModelMarked text places sizes places' sizes' (Ok f) = Marked text places sizes places' sizes'

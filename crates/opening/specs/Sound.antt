@@ -1,6 +1,7 @@
 -- What questions 7 to 9 answer of a text that fits (01, Opening a text), and the tree that they let through. Assumes nothing: these are definitions.
 use Rattle.std.specs.Prelude.{◌≡◌, List, ℕ, None, Err, Ok, Result}
 use Rattle.token.specs.declared.Refusal.{Refusal}
+use Rattle.token.specs.Questions.{question_number}
 use Rattle.grammar.specs.Syntax
 use Rattle.model.specs.Lists.{least}
 use Rattle.model.specs.Sites.{system}
@@ -11,6 +12,7 @@ use Rattle.model.specs.Given.{not_given}
 use Rattle.model.specs.Opening.{byte_place, system_token}
 use Rattle.opening.specs.Trees.{Closed, Fitted}
 use Rattle.opening.specs.declared.SoundTree.{SoundTree}
+use Rattle.opening.specs.declared.Space.{Space}
 
 -- 01, 7 to 9: all have the answer yes
 pub record Sound (text : List ℕ) (s : Syntax.Model) : Type 0 where
@@ -24,12 +26,12 @@ Named = Result ℕ Refusal
 
 -- 01, 7 to 9 of a text with the syntax tree s: the first no with its place; or none, and the place of the system line
 unfoldable pub NamesJudged : List ℕ → Syntax.Model → Named → Type 0
-NamesJudged text s (Err r) = Closed text r.number r.place
+NamesJudged text s (Err r) = Closed text (question_number r.question) r.place
 NamesJudged text s (Ok p) = Sound text s × (p ≡ byte_place text (system_token (system s)))
 
 -- 01, after question 9: the text fits and is sound, the tables hold its tokens and its tree, and its system line begins at the tree's place
-pub record SoundHeld (text : List ℕ) (s : Syntax.Model) (kinds places low high nodes : List ℕ) (t : SoundTree) : Type 0 where
-  pub fitted : Fitted text s kinds places low high nodes t.root t.n
+pub record SoundHeld (text : List ℕ) (s : Syntax.Model) (space : Space) (t : SoundTree) : Type 0 where
+  pub fitted : Fitted text s space t.root
   pub sound : Sound text s
   pub place-is : t.place ≡ byte_place text (system_token (system s))
 
@@ -38,6 +40,6 @@ abbrev pub SoundOr : Type 0
 SoundOr = Result SoundTree Refusal
 
 -- 01, Opening a text, 2 to 9: the first no with its place, or the text's tree
-unfoldable pub SoundRead : (text kinds places low high nodes : List ℕ) → SoundOr → Type 0
-SoundRead text kinds places low high nodes (Err r) = Closed text r.number r.place
-SoundRead text kinds places low high nodes (Ok t) = (s : Syntax.Model) × SoundHeld text s kinds places low high nodes t
+unfoldable pub SoundRead : List ℕ → Space → SoundOr → Type 0
+SoundRead text space (Err r) = Closed text (question_number r.question) r.place
+SoundRead text space (Ok t) = (s : Syntax.Model) × SoundHeld text s space t

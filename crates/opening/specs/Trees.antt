@@ -1,12 +1,15 @@
 -- What reading a text's tree answers: questions 2 to 6 (01, Opening a text). Assumes nothing: these are definitions.
 use Rattle.std.specs.Prelude.{◌≡◌, List, ℕ, ◌<◌, length, take, Err, Ok, Result}
 use Rattle.std.proofs.Math.Option.{none}
+use Rattle.token.specs.Contents.{lows_in, highs_in}
 use Rattle.token.specs.Token.{tokens, places_of}
 use Rattle.token.specs.declared.Refusal.{Refusal}
+use Rattle.token.specs.Questions.{question_number}
 use Rattle.grammar.specs.Syntax
 use Rattle.model.specs.Opening.{refused, tree_judged, opening}
 use Rattle.model.specs.Held.{tree_held, model_in, held}
 use Rattle.names.specs.Tables.{Read}
+use Rattle.opening.specs.declared.Space.{Space}
 
 -- a table begins with the places of the text's n tokens
 pub record Placed (text places : List ℕ) (n : ℕ) : Type 0 where
@@ -19,18 +22,18 @@ pub record Closed (text : List ℕ) (n p : ℕ) : Type 0 where
   pub holds : held text ≡ none
 
 -- 01, after question 6: the text has the syntax tree s, the tables hold its tokens and its tree, and 7 to 10 are asked of s
-pub record Fitted (text : List ℕ) (s : Syntax.Model) (kinds places low high nodes : List ℕ) (root n : ℕ) : Type 0 where
-  pub read : Read text s kinds low high nodes root n
-  pub placed : Placed text places n
-  pub fewer : root < n
+pub record Fitted (text : List ℕ) (s : Syntax.Model) (space : Space) (root : ℕ) : Type 0 where
+  pub read : Read text s space.kinds (lows_in space.contents) (highs_in space.contents) space.model.nodes root space.count
+  pub placed : Placed text space.places space.count
+  pub fewer : root < space.count
   pub opens : opening text ≡ tree_judged text s
   pub holds : held text ≡ model_in (tree_held text s)
 
--- the root of the tree and the number of tokens, or the first no to 2 to 6
+-- the root of the tree, or the first no to 2 to 6
 abbrev pub Tree : Type 0
-Tree = Result (ℕ × ℕ) Refusal
+Tree = Result ℕ Refusal
 
 -- 01, Opening a text, 2 to 6: the first no with its place, or the text's tree
-unfoldable pub TreeRead : (text kinds places low high nodes : List ℕ) → Tree → Type 0
-TreeRead text kinds places low high nodes (Err r) = Closed text r.number r.place
-TreeRead text kinds places low high nodes (Ok (root, n)) = (s : Syntax.Model) × Fitted text s kinds places low high nodes root n
+unfoldable pub TreeRead : (text : List ℕ) → Space → Tree → Type 0
+TreeRead text space (Err r) = Closed text (question_number r.question) r.place
+TreeRead text space (Ok root) = (s : Syntax.Model) × Fitted text s space root

@@ -37,7 +37,7 @@ pub fn start_count(nodes: &[u64], first: usize, line: usize) -> usize
 {
     let mut count = 0;
     let mut at = line;
-    // A while: the line's last item is the first node of another kind.
+    // A while: the line's last item is the first node of another kind; to count its links first would read them twice.
     while tree::kind_of(nodes[at]) == NodeKind::SYSTEM {
         count += item_processes(nodes, first, tree::left_of(nodes[at]));
         if Limits::PROCESSES < count {

@@ -4,21 +4,18 @@
 // It reads standard input, or each file that an argument names, after a line with the name.
 use opening::Space;
 use std::io;
-use token::{Limits, Refusal};
-
-// Bytes that are read: one more than a text may have.
-const MOST: usize = Limits::TEXT + 1;
+use token::Limits;
 
 fn show(rt: &impl Print, text: &[u8]) -> io::Result<()> {
     let mut space = Space::EMPTY;
     let read = opening::read_tree(text, &mut space);
     match read {
-        Err(Refusal { number, place }) => println!(rt; "refused,{number},{place}"),
-        Ok((_, n)) => println!(rt; "fits,{n}"),
+        Err(r) => println!(rt; "refused,{},{}", r.question.number(), r.place),
+        Ok(_) => println!(rt; "fits,{}", space.count),
     }
 }
 
 fn main(rt: HostRuntime) -> io::Result<()> {
-    let mut space = [0u8; MOST];
+    let mut space = [0u8; Limits::READ];
     reading::show_texts(&rt, &mut space, |text| show(&rt, text))
 }

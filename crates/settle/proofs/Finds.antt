@@ -20,7 +20,7 @@ use Rattle.tree.specs.Table.{Node}
 use Rattle.tree.proofs.Cells.{node-kind, node-token, node-left}
 use Rattle.model.specs.Limits.{local_limit}
 use Rattle.model.specs.Sites.{names, titles}
-use Rattle.model.specs.Given.{Meaning, local, variable, or_else, place_in, variable_named, meaning}
+use Rattle.model.specs.Given.{Meaning, local, variable, nothing, or_else, place_in, variable_named, meaning}
 use Rattle.model.specs.Resolved.{definition_number}
 use Rattle.model.proofs.Meanings.{Placed, found, absent, placed, Means, a_local, a_variable, unknown, means}
 use Rattle.names.specs.declared.Question.TheVariants.{Given}
@@ -142,10 +142,10 @@ module _ {low high nodes : List ℕ} {lists : Lists} (h : Lookup low high nodes 
       place_is : place_in (packed low high) k 0 (names_down nodes lists.root lists.variables) ≡ place_in (word_in h) k 0 (names (variables_in h))
       place_is = ap (place_in (packed low high) k 0) (names-kept t nodes lists.root lists.variables variables-stay) ∙ all-variables world asks k e
 
-      pub not_named : f ≡ None → NumberNode low (word_in h) (variable_named (word_in h) k (variables_in h)) 0
+      pub not_named : f ≡ None → variable_named (word_in h) k (variables_in h) ≡ nothing
       not_named q =
           let o = sym place_is ∙ no_place (place_in (packed low high) k 0 (names_down nodes lists.root lists.variables)) is q in
-          rw (variable-none (word_in h) k t (variables_in h) 0 o)
+          variable-none (word_in h) k t (variables_in h) 0 o
 
       module _ {j : ℕ} (q : f ≡ Some j) where
         found-variable : FoundVariable (word_in h) k t (variables_in h) lists.root j

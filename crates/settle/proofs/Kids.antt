@@ -3,12 +3,17 @@ use mathlib.Core.Path.{◌≡◌, refl, sym, ap, ◌∙◌, subst}
 use mathlib.Core.List.Memᴰ.{head}
 use mathlib.Core.List.Memᴰ.{tail}
 use mathlib.Core.List.{List, [], ◌∷◌, ◌++◌, Memᴰ as In}
-use mathlib.Core.Bool.{Bool, true, false}
+use mathlib.Core.Bool.{Bool, true, false, cond, not}
 use mathlib.Core.Option.{Option, none, some}
 use mathlib.Core.Logic.{◌⊎◌, inl, inr, ⊎_elim}
 use Prim.Native.Nat.{ℕ, zero, suc, ◌+◌, ◌*◌, ◌/◌, ◌%◌, ◌<◌}
 use native.Mathlib.Omega.{arith}
 use native.Mathlib.Decide.{dec_lt, ℕ_discrete}
+use borrow.Author.Tests.{eqb-true, eqb-false}
+use lib.Dec.{eqb}
+use Rattle.std.specs.Prelude.{None, Some}
+use Rattle.std.specs.Bool.{then_some}
+use Rattle.token.specs.Questions.{Found}
 use lib.ListN.{length, get_or, set, get_elem?, length-append, length-set, get_or-append}
 use lib.Seq.{get_or-set_same, get_or-set_other, get_or_at}
 use Rattle.tree.specs.Node.{field, cell, token_of, left_of, third_of}
@@ -19,7 +24,7 @@ use Rattle.model.proofs.Members.{never, not-both, got-below}
 use Rattle.model.proofs.Repeats.{same_bytes_lem, bytes_same}
 use Rattle.model.proofs.Meanings.{Placed, found, absent, placed}
 use Rattle.names.specs.Lists.{packed}
-use Rattle.settle.specs.Kids.{hash_of, word_size, top_bit, bits_of, kid_of, with_kid, alone, hung_below, Way, here, down, Hung}
+use Rattle.settle.specs.Kids.{hash_of, word_size, top_bit, bits_of, kid_of, kid_found, with_kid, alone, hung_below, Way, here, down, Hung}
 use Rattle.settle.specs.Places.{place_or, heard_after, Heard, Sought}
 
 -- ---- places in a list
@@ -142,6 +147,34 @@ pub kid-second : (c b : ℕ) → (b ≡ 0 → ⊥) → third_of c ≡ kid_of c b
 unfolding kid_of
 kid-second c zero e = absurd (e refl)
 kid-second c (suc b) e = refl
+
+pub kid-found : (c b kid : ℕ) → kid ≡ kid_of c b → then_some (not (eqb kid 0)) kid ≡ kid_found c b
+unfolding kid_found
+kid-found c b kid e = rw e (by (eqb (kid_of c b) 0))
+  where
+    by : (x : Bool) → then_some (not x) (kid_of c b) ≡ cond x None (Some (kid_of c b))
+    by true = refl
+    by false = refl
+
+-- a kid that is there, and none
+pub kid-some : (c b : ℕ) {m : ℕ} {f : Found} → f ≡ kid_found c b → f ≡ Some m → (m ≡ kid_of c b) × (m ≡ 0 → ⊥)
+unfolding kid_found
+kid-some c b {m} {f} e q = by (eqb (kid_of c b) 0) refl (sym e ∙ q)
+  where
+    by : (x : Bool) → eqb (kid_of c b) 0 ≡ x → ◌≡◌ {A = Found} (cond x None (Some (kid_of c b))) (Some m) → (m ≡ kid_of c b) × (m ≡ 0 → ⊥)
+    by true z y = cc
+    by false z y = let g : kid_of c b ≡ m = cc in (sym g, λ o. eqb-false (kid_of c b) 0 z (g ∙ o))
+
+pub kid-none : (c b : ℕ) {f : Found} → f ≡ kid_found c b → f ≡ None → kid_of c b ≡ 0
+unfolding kid_found
+kid-none c b {f} e q = by (eqb (kid_of c b) 0) refl (sym e ∙ q)
+  where
+    by : (x : Bool) → eqb (kid_of c b) 0 ≡ x → ◌≡◌ {A = Found} (cond x None (Some (kid_of c b))) None → kid_of c b ≡ 0
+    by true z y = eqb-true (kid_of c b) 0 z
+    by false z y = cc
+
+pos_of : {m c : ℕ} → m ≡ c → (m ≡ 0 → ⊥) → 0 < c
+pos_of e o = omega (arith, e, o)
 
 -- the cases of `hang`
 module _ (t : List ℕ) (i b n k : ℕ) {t₁ t₂ : List ℕ} {name : ℕ} (new : t₁ ≡ set t n (alone k)) (name-is : name ≡ token_of (get_or t i 0)) where
@@ -360,26 +393,27 @@ one-hung low high t k room small =
       ways = λ i l. let z : i ≡ 0 = omega arith in rw z (bits_of low high k, here);
     }
 
-pub sought-first : {low high t seen : List ℕ} {n k : ℕ} → Heard low high t n k seen → n ≡ 0 → Sought low high t n k seen (set t 0 (alone k)) 0
+pub sought-first : {low high t seen : List ℕ} {n k : ℕ} → Heard low high t n k seen → n ≡ 0 → Sought low high t n k seen (set t 0 (alone k)) 1 0
 unfolding place_in place_or heard_after
 sought-first {low} {high} {t} {seen} {n} {k} g z = by seen g
   where
-    by : (seen : List ℕ) → Heard low high t n k seen → Sought low high t n k seen (set t 0 (alone k)) 0
-    by [] g = record { place_is = sym z; hung = one-hung low high t k (omega (arith, g.room)) g.small; size = length-set t 0 (alone k) }
+    by : (seen : List ℕ) → Heard low high t n k seen → Sought low high t n k seen (set t 0 (alone k)) 1 0
+    by [] g = record { place_is = sym z; count = refl; hung = one-hung low high t k (omega (arith, g.room)) g.small; size = length-set t 0 (alone k) }
     by (x ∷ seen) g = absurd (omega (arith, g.count))
 
 module _ {low high t seen : List ℕ} {n k x i : ℕ} (g : Heard low high t n k seen) (s : Seeking low high t seen k x i) where
-  pub sought-here : same (packed low high) k (token_of (get_or t i 0)) ≡ true → Sought low high t n k seen t i
+  pub sought-here : same (packed low high) k (token_of (get_or t i 0)) ≡ true → Sought low high t n k seen t n i
   unfolding place_or heard_after
-  sought-here e = let p = found_here g.hung k s e in record { place_is = rw p; hung = rw p g.hung; size = refl }
+  sought-here e = let p = found_here g.hung k s e in record { place_is = rw p; count = rw p g.count; hung = rw p g.hung; size = refl }
 
-  pub sought-new : same (packed low high) k (token_of (get_or t i 0)) ≡ false → kid_of (get_or t i 0) (x % 2) ≡ 0 → Sought low high t n k seen (hung_below t i (x % 2) n k) n
+  pub sought-new : same (packed low high) k (token_of (get_or t i 0)) ≡ false → kid_of (get_or t i 0) (x % 2) ≡ 0 → Sought low high t n k seen (hung_below t i (x % 2) n k) (n + 1) n
   unfolding place_or heard_after
   sought-new e z =
       let f = never_met g.hung k s e z in
       let p = not-placed (packed low high) k seen f in
       record {
         place_is = rw p;
+        count = rw p (omega (arith, g.count, length-append seen (k ∷ [])));
         hung = rw p (hung-new g s z f);
         size = hung-size t i (x % 2) n k;
       }
@@ -411,29 +445,33 @@ module _ {low high t₀ t : List ℕ} {n k bits first second i : ℕ} (p : (seen
     same-as : b ≡ same (packed low high) k (token_of (get_or t₀ i 0))
     same-as = f ∙ ap (same (packed low high) k) (e ∙ ap (λ (l : List ℕ). token_of (get_or l i 0)) x.same-table)
 
-    pub case-found : b ≡ true → (seen : List ℕ) → Heard low high t₀ n k seen → Sought low high t₀ n k seen t i
+    pub case-found : b ≡ true → (seen : List ℕ) → Heard low high t₀ n k seen → Sought low high t₀ n k seen t n i
     case-found q seen g = rw x.same-table (sought-here g (x.seeking seen g) (sym same-as ∙ q))
 
-    module _ (q : b ≡ false) (m : ℕ) (z : m ≡ kid_of (get_or t i 0) (bits % 2)) where
-      kid-as : m ≡ kid_of (get_or t₀ i 0) ((bits + word_size * (first + word_size * second)) % 2)
-      kid-as = rw (low_bit bits (first + word_size * second), ← x.same-table) z
+    module _ (q : b ≡ false) {r : Found} (found : r ≡ kid_found (get_or t i 0) (bits % 2)) where
+      kid-as : {m : ℕ} → m ≡ kid_of (get_or t i 0) (bits % 2) → m ≡ kid_of (get_or t₀ i 0) ((bits + word_size * (first + word_size * second)) % 2)
+      kid-as z = rw (low_bit bits (first + word_size * second), ← x.same-table) z
 
-      pub case-new : m ≡ 0 → (t' : List ℕ) → t' ≡ hung_below t i (bits % 2) n k → (seen : List ℕ) → Heard low high t₀ n k seen → Sought low high t₀ n k seen t' n
+      pub case-new : r ≡ None → (t' : List ℕ) → t' ≡ hung_below t i (bits % 2) n k → (seen : List ℕ) → Heard low high t₀ n k seen → Sought low high t₀ n k seen t' (n + 1) n
       case-new o t' w seen g =
-          let r = sought-new g (x.seeking seen g) (sym same-as ∙ q) (sym kid-as ∙ o) in
+          let r = sought-new g (x.seeking seen g) (sym same-as ∙ q) (sym (kid-as refl) ∙ kid-none _ _ found o) in
           rw (w, x.same-table) (rw (low_bit bits (first + word_size * second)) at r)
 
-      pub case-on : (m ≡ 0 → ⊥) → Searching low high t₀ n k t (bits / 2 + top_bit * (first % 2)) (first / 2 + top_bit * (second % 2)) (second / 2) m
+      pub case-on : {m : ℕ} → r ≡ Some m → Searching low high t₀ n k t (bits / 2 + top_bit * (first % 2)) (first / 2 + top_bit * (second % 2)) (second / 2) m
       case-on o =
+          let s = kid-some _ _ found o in
+          let e = kid-as s.0 in
           record {
             same-table = x.same-table;
             fits = (word_fits bits first x.fits.0, word_fits first second x.fits.1);
             seeking = λ seen g.
-                let r = goes_on g.hung k (x.seeking seen g) (sym same-as ∙ q) (omega (arith, kid-as)) in
-                rw (kid-as, ← bits-on bits first second) r;
+                let r = goes_on g.hung k (x.seeking seen g) (sym same-as ∙ q) (pos_of e s.1) in
+                rw (e, ← bits-on bits first second) r;
           }
 
-      pub case-less : (m ≡ 0 → ⊥) → i < m
+      pub case-less : {m : ℕ} → r ≡ Some m → i < m
       case-less o =
+          let k = kid-some _ _ found o in
+          let e = kid-as k.0 in
           let s = x.seeking p.0 p.1 in
-          rw kid-as (p.1.hung.after i ((bits + word_size * (first + word_size * second)) % 2) s.inside (omega (arith, kid-as)))
+          rw e (p.1.hung.after i ((bits + word_size * (first + word_size * second)) % 2) s.inside (pos_of e k.1))

@@ -34,22 +34,14 @@ use Rattle.settle.specs.Kids.{Hung}
 use Rattle.settle.specs.declared.Walk.{Walk}
 use Rattle.settle.specs.Walks.{role_of, name_cell, value_cell, scale_cell, cell_by, step_by}
 use Rattle.settle.specs.Walks as role
-use Rattle.settle.specs.Places.{signed, ScaleTold, NumberNode, Place, kinds_in, word_in, variables_in, definitions_of, meaning_at, Valued, Leaf, place_or, Heard, heard_after, Sought, Knows, Turn, turned, Settled, marked_by}
+use Rattle.settle.specs.Places.{signed, ScaleTold, NumberNode, NumberFound, Place, kinds_in, word_in, variables_in, definitions_of, meaning_at, Valued, Leaf, place_or, Heard, heard_after, Sought, Knows, Turn, turned, Settled, marked_by}
 use Rattle.settle.proofs.Finds.{place-below, asks, in_tables, no_local}
 use Rattle.settle.proofs.Cells.{whole_is}
 
 -- ---- a channel name's number, and how many there are
-module _ {low high heard seen heard' : List ℕ} {n k c : ℕ} (g : Heard low high heard n k seen) (s : Sought low high heard n k seen heard' c) where
+module _ {low high heard seen heard' : List ℕ} {n k c : ℕ} (g : Heard low high heard n k seen) {n' : ℕ} (s : Sought low high heard n k seen heard' n' c) where
   abbrev place : Option ℕ
   place = place_in (packed low high) k 0 seen
-
-  pub channel-count : max n (c + 1) ≡ length (heard_after place seen k)
-  unfolding place_or heard_after
-  channel-count = by place refl s.place_is
-    where
-      by : (o : Option ℕ) → place ≡ o → c ≡ place_or n o → max n (c + 1) ≡ length (heard_after o seen k)
-      by none p e = omega (arith, g.count, length-append seen (k ∷ []))
-      by (some q) p e = let b : q < n = place-below (packed low high) k seen q p (omega (arith, g.count)) in omega (arith, g.count)
 
   -- the number fits a field
   pub place-small : c < field
@@ -112,7 +104,7 @@ module _ (low : List ℕ) (w : ℕ → List ℕ) (c : ℕ) where
   whole-named (variable (Syntax.number false true j)) n e = not-both e (rw n.0.kind-is)
   whole-named (variable (Syntax.number true true j)) n e = not-both e (rw n.0.kind-is)
   whole-named (variable (Syntax.named_scale j)) n e = absurd n
-  whole-named nothing n e = not-both e (rw n)
+  whole-named nothing n e = absurd n
 
   channel-named : (m : Meaning) → NumberNode low w m c → whole_kind ≡ false → is_channel_name m ≡ true
   unfolding number_kind is_channel_name
@@ -121,7 +113,7 @@ module _ (low : List ℕ) (w : ℕ → List ℕ) (c : ℕ) where
   channel-named (variable (Syntax.number true false j)) n e = not-both (rw n.0.kind-is) e
   channel-named (variable (Syntax.number b true j)) n e = refl
   channel-named (variable (Syntax.named_scale j)) n e = absurd n
-  channel-named nothing n e = refl
+  channel-named nothing n e = absurd n
 
   -- the kind tells whether there is a `-`
   pub negated-is : (n : Bool) → n ≡ (eqb (kind_of c) (number_kind true false) || eqb (kind_of c) (number_kind true true)) → (m : Meaning) (h : WholeNamed m) → n ≡ h.negated
@@ -131,6 +123,18 @@ module _ (low : List ℕ) (w : ℕ → List ℕ) (c : ℕ) where
       by : (b : Bool) → kind_of c ≡ number_kind b false → (eqb (kind_of c) 30 || eqb (kind_of c) 32) ≡ b
       by true e = rw e
       by false e = rw e
+
+-- the cases of what `number_named` finds
+module _ (low : List ℕ) (w : ℕ → List ℕ) (m : Meaning) {f : Found} (n : NumberFound low w m f) where
+  pub found-node : {c : ℕ} → f ≡ Some c → NumberNode low w m c
+  found-node e = rw e at n
+
+  pub none-found : f ≡ None → m ≡ nothing
+  none-found e = rw e at n
+
+  pub no-node : f ≡ None → is_given m ≡ true → ⊥
+  unfolding is_given
+  no-node e g = not-both g (rw (none-found e) refl)
 
 -- a name's token fits a field
 pub name-small : {low high nodes : List ℕ} {lists : Lists} {scope : Scope} (h : Place low high nodes lists scope) (k : ℕ) → IsName (kinds_in h.at) k → k < field
@@ -150,6 +154,11 @@ module _ {low high nodes : List ℕ} {lists : Lists} {scope : Scope} (h : Place 
       let z = whole_is (word_in h.at) g.negated g.token (get_or low g.token 0) g.told.safe (g.told.wholes refl) in
       rw g.means (ap (λ (x : ℕ). Some x) (q ∙ ap (number_cell node.literal) z.1))
 
+  -- a name that is neither local nor variable
+  pub not-known : IsName (kinds_in h.at) k → {f : Found} → f ≡ found_of (place_in (packed low high) k 0 (take scope.count scope.names)) → f ≡ None → variable_named (word_in h.at) k (variables_in h.at) ≡ nothing → Value None
+  unfolding is_channel_name
+  not-known e is q z = rw (no_local h k e is q, z)
+
   -- a name that is no local, and the node of its number
   module _ (e : IsName (kinds_in h.at) k) {f : Found} (is : f ≡ found_of (place_in (packed low high) k 0 (take scope.count scope.names))) (q : f ≡ None) (c κ : ℕ) (n : NumberNode low (word_in h.at) (variable_named (word_in h.at) k (variables_in h.at)) c) (κ-is : κ ≡ kind_of c) {b : Bool} (b-is : b ≡ (eqb κ (number_kind false false) || eqb κ (number_kind true false))) where
     pub is-whole : b ≡ true → WholeNamed low (word_in h.at) c (meaning_at h k)
@@ -159,7 +168,7 @@ module _ {low high nodes : List ℕ} {lists : Lists} {scope : Scope} (h : Place 
     no-value t = rw (channel-named low (word_in h.at) c (meaning_at h k) (rw (no_local h k e is q) n) (rw (← κ-is) (sym b-is ∙ t)))
 
 -- ---- the cases of `settle_node`
-module _ {low high nodes : List ℕ} {lists : Lists} {heard : List ℕ} {walk : Walk} {c : ℕ} (h : Turn low high nodes lists heard walk c) where
+module _ {low high nodes : List ℕ} {lists : Lists} {heard : List ℕ} {met : ℕ} {walk : Walk} {c : ℕ} (h : Turn low high nodes lists heard met walk c) where
   abbrev pub here : Place low high nodes lists walk.scope
   here = record { at = h.at; locals = h.point.scope; scoped = h.knows.scoped }
 
@@ -168,7 +177,7 @@ module _ {low high nodes : List ℕ} {lists : Lists} {heard : List ℕ} {walk : 
 
   pub leaf-settled : (role_of (kind_of c) ≡ role.name → ⊥) → (r : ℕ) (next : Walk)
       → ((g : Leaf low high nodes lists walk.scope c) → r ≡ cell_by (word_in g.place.at) (variables_in g.place.at) (definitions_of g.place.at) (role_of (kind_of c)) c g.point)
-      → Knows low high (kinds_in h.at) heard next (turned h) → Settled h heard r next
+      → Knows low high (kinds_in h.at) heard met next (turned h) → Settled h heard met r next
   unfolding leaf
   leaf-settled e r next f g = record { cell-is = f (leaf e); knows = g; size = refl }
 
@@ -194,10 +203,10 @@ module _ {low high nodes : List ℕ} {lists : Lists} {heard : List ℕ} {walk : 
     means = meaning w (variables_in h.at) h.point.scope k
 
     -- the name can be looked up among the channel names
-    pub heard-inside : Heard low high heard walk.channels k seen
+    pub heard-inside : Heard low high heard met k seen
     heard-inside =
         let l = in_tables h.at k name-fits in
-        let at : (j : ℕ) → j < walk.channels → get_or (kinds_in h.at) (get_or seen j 0) 0 ≡ kind.name = λ j l. named-at (kinds_in h.at) seen h.knows.named j (omega (arith, h.knows.channels)) in
+        let at : (j : ℕ) → j < met → get_or (kinds_in h.at) (get_or seen j 0) 0 ≡ kind.name = λ j l. named-at (kinds_in h.at) seen h.knows.named j (omega (arith, h.knows.channels)) in
         record {
           count = h.knows.channels;
           room = omega (arith, h.knows.channels, h.heard-room);
@@ -210,11 +219,11 @@ module _ {low high nodes : List ℕ} {lists : Lists} {heard : List ℕ} {walk : 
           hung = h.knows.hung;
         }
 
-    pub value-settled : (r : ℕ) (f : Found) → f ≡ Some r → Valued w (variables_in h.at) (definitions_of h.at) seen means f → Settled h heard r walk
+    pub value-settled : (r : ℕ) (f : Found) → f ≡ Some r → Valued w (variables_in h.at) (definitions_of h.at) seen means f → Settled h heard met r walk
     unfolding cell_by name_cell step_by
     value-settled r f is v = by (is_channel_name means) refl (sym is ∙ v)
       where
-        by : (b : Bool) → is_channel_name means ≡ b → ◌≡◌ {A = Found} (Some r) (cond b None (Some (value_cell (value_named w (variables_in h.at) (definitions_of h.at) seen means)))) → Settled h heard r walk
+        by : (b : Bool) → is_channel_name means ≡ b → ◌≡◌ {A = Found} (Some r) (cond b None (Some (value_cell (value_named w (variables_in h.at) (definitions_of h.at) seen means)))) → Settled h heard met r walk
         by true q v = absurd (let z : ◌≡◌ {A = ℕ} 0 1 = cc in omega arith)
         by false q v =
             let y : r ≡ value_cell (value_named w (variables_in h.at) (definitions_of h.at) seen means) = cc in
@@ -231,14 +240,14 @@ module _ {low high nodes : List ℕ} {lists : Lists} {heard : List ℕ} {walk : 
         by true q v = q
         by false q v = absurd (let z : ◌≡◌ {A = ℕ} 0 1 = cc in omega arith)
 
-    pub channel-settled : (a r : ℕ) (heard' : List ℕ) (next : Walk) (f : Found) → f ≡ None → Valued w (variables_in h.at) (definitions_of h.at) seen means f → Sought low high heard walk.channels k seen heard' a → r ≡ cell channel a 0 0
-        → next.scope ≡ walk.scope → next.channels ≡ max walk.channels (a + 1) → next.sums ≡ walk.sums → next.definitions ≡ walk.definitions → Settled h heard' r next
+    pub channel-settled : (a r : ℕ) (heard' : List ℕ) (met' : ℕ) (next : Walk) (f : Found) → f ≡ None → Valued w (variables_in h.at) (definitions_of h.at) seen means f → Sought low high heard met k seen heard' met' a → r ≡ cell channel a 0 0
+        → next.scope ≡ walk.scope → next.sums ≡ walk.sums → next.definitions ≡ walk.definitions → Settled h heard' met' r next
     unfolding cell_by name_cell step_by
-    channel-settled a r heard' next f is v s e x y z u =
+    channel-settled a r heard' met' next f is v s e x z u =
         let on = is-channel f is v in
         let m = met-is w (variables_in h.at) seen k in
         let p : place_in (packed low high) k 0 seen ≡ place_in w k 0 seen = place-alike w (packed low high) (kinds_in h.at) (h.at.base.world.alike (asks h.at)) k name-fits 0 seen h.knows.named in
-        let met : heard_after (place_in (packed low high) k 0 seen) seen k ≡ firsts w (variables_in h.at) seen (k ∷ []) = ap (λ (o : Option ℕ). heard_after o seen k) p ∙ sym m.0 in
+        let seen-is : heard_after (place_in (packed low high) k 0 seen) seen k ≡ firsts w (variables_in h.at) seen (k ∷ []) = ap (λ (o : Option ℕ). heard_after o seen k) p ∙ sym m.0 in
         let q : a ≡ or_zero (place_in w k 0 (firsts w (variables_in h.at) seen (k ∷ []))) = s.place_is ∙ ap₂ place_or h.knows.channels p ∙ sym m.1 in
         record {
           cell-is = rw (is-named, on) (e ∙ ap (λ (b : ℕ). cell channel b 0 0) q);
@@ -246,8 +255,8 @@ module _ {low high nodes : List ℕ} {lists : Lists} {heard : List ℕ} {walk : 
               rw (is-named, on)
               (record {
                 scoped = rw x h.knows.scoped;
-                channels = y ∙ channel-count heard-inside s ∙ ap length met;
-                hung = subst (λ (ks : List ℕ). Hung low high heard' ks) met s.hung;
+                channels = s.count ∙ ap length seen-is;
+                hung = subst (λ (ks : List ℕ). Hung low high heard' ks) seen-is s.hung;
                 named = named-after (kinds_in h.at) w (variables_in h.at) k seen name-fits h.knows.named;
                 sums = z ∙ h.knows.sums;
                 definitions = u ∙ h.knows.definitions;
@@ -272,7 +281,7 @@ module _ (low : List ℕ) (w : ℕ → List ℕ) (c : ℕ) where
   number-of-name (local i) n e = absurd n
   number-of-name (variable (Syntax.number b d j)) n e = record { negated = b; decimal = d; token = j; means = refl; told = n.0; token-is = n.1 }
   number-of-name (variable (Syntax.named_scale j)) n e = absurd n
-  number-of-name nothing n e = not-both e refl
+  number-of-name nothing n e = absurd n
 
 pub scale_same : (w : ℕ → List ℕ) (vs : List Variable) (ds : List Definition) (b d : Bool) (j : ℕ) → number_scale w [] [] [] (Syntax.number b d j) ≡ number_scale w vs ds [] (Syntax.number b d j)
 unfolding number_scale

@@ -138,6 +138,6 @@ module _ {low high nodes : List ℕ} {lists : Lists} (h : Lookup low high nodes 
           })
 
 -- what the walk holds before the first definition
-pub first-known : {low high nodes : List ℕ} {lists : Lists} (h : Lookup low high nodes lists) (heard : List ℕ) (walk : Walk) → Scoped Given (kinds_in h) walk.scope (params_at (definitions_of h) 0) → walk.channels ≡ 0 → walk.sums ≡ 0 → walk.definitions ≡ 0
-    → Knows low high (kinds_in h) heard walk (begun (word_in h) (variables_in h) (definitions_of h))
-first-known {low} {high} h heard walk s c n d = record { scoped = s; channels = c; hung = none-hung low high heard; named = tt; sums = n; definitions = d }
+pub first-known : {low high nodes : List ℕ} {lists : Lists} (h : Lookup low high nodes lists) (heard : List ℕ) (walk : Walk) → Scoped Given (kinds_in h) walk.scope (params_at (definitions_of h) 0) → walk.sums ≡ 0 → walk.definitions ≡ 0
+    → Knows low high (kinds_in h) heard 0 walk (begun (word_in h) (variables_in h) (definitions_of h))
+first-known {low} {high} h heard walk s n d = record { scoped = s; channels = refl; hung = none-hung low high heard; named = tt; sums = n; definitions = d }

@@ -76,10 +76,7 @@ marked_other c xs v n f = by (eqb (kind_of c) 49) refl
 represents-as : {nodes roots scopes : List ℕ} {r r' v v' d d' n n' c c' : ℕ} {x : Resolved.Model} → r ≡ r' → v ≡ v' → d ≡ d' → n ≡ n' → c ≡ c' → Represents nodes roots scopes r v d n c x → Represents nodes roots scopes r' v' d' n' c' x
 represents-as e f g k l z = rw (e, f, g, k, l) at z
 
-settles-as : {w : ℕ → List ℕ} {m : Syntax.Model} {nodes roots scopes : List ℕ} {r r' v d n c : ℕ} → r ≡ r' → Settles w m nodes roots scopes (record { root = r; variables = v; definitions = d; sums = n; channels = c }) → Settles w m nodes roots scopes (record { root = r'; variables = v; definitions = d; sums = n; channels = c })
-settles-as e z = rw e at z
-
-module _ {low high t roots₀ scopes₀ heard₀ : List ℕ} {lists : Lists} (h : Resolvable low high t roots₀ scopes₀ heard₀ lists) where
+module _ {low high t : List ℕ} {room : ℕ} {lists : Lists} (h : Resolvable low high t room lists) where
   abbrev w : ℕ → List ℕ
   w = h.base.world.word
 
@@ -96,15 +93,15 @@ module _ {low high t roots₀ scopes₀ heard₀ : List ℕ} {lists : Lists} (h 
   point i = point_at w vs ds t i
 
   -- before node i
-  pub record Progress (i : ℕ) (nodes roots scopes heard : List ℕ) (walk : Walk) : Type 0 where
+  pub record Progress (i : ℕ) (nodes roots scopes heard : List ℕ) (met : ℕ) (walk : Walk) : Type 0 where
     pub size : length nodes ≡ length t
-    pub roots-size : length roots ≡ length roots₀
-    pub scopes-size : length scopes ≡ length scopes₀
-    pub heard-size : length heard ≡ length heard₀
+    pub roots-size : length roots ≡ room
+    pub scopes-size : length scopes ≡ room
+    pub heard-size : length heard ≡ room
     pub ahead : (j : ℕ) → i ≤ j → get_or nodes j 0 ≡ get_or t j 0
     pub numbers : (j : ℕ) → j < first_node lists → get_or nodes j 0 ≡ get_or t j 0
     pub done : (j : ℕ) → first_node lists ≤ j → j < i → get_or nodes j 0 ≡ cell_of w vs ds t j (point j)
-    pub knows : Knows low high h.base.world.kinds heard walk (point i)
+    pub knows : Knows low high h.base.world.kinds heard met walk (point i)
     pub sums : (j : ℕ) → first_node lists ≤ j → j < i → role_at t j ≡ role.sum → (get_or roots (token_of (get_or t j 0)) 0 ≡ j - 1) × (get_or scopes (token_of (get_or t j 0)) 0 ≡ scope_at (point j))
 
   first-is : length vs ≡ lists.variables
@@ -113,8 +110,8 @@ module _ {low high t roots₀ scopes₀ heard₀ : List ℕ} {lists : Lists} (h 
   line-is : lists.root - length vs - length ds ≡ line_node lists
   line-is = omega (arith, h.base.world.gathered.variables-are, h.base.world.gathered.definitions-are)
 
-  pub standing : (i : ℕ) (nodes roots scopes heard : List ℕ) (walk : Walk) → first_node lists ≤ i → i ≤ line_node lists → Progress i nodes roots scopes heard walk → Standing low high nodes roots scopes heard lists walk i
-  standing i nodes roots scopes heard walk f l x =
+  pub standing : (i : ℕ) (nodes roots scopes heard : List ℕ) (met : ℕ) (walk : Walk) → first_node lists ≤ i → i ≤ line_node lists → Progress i nodes roots scopes heard met walk → Standing low high nodes roots scopes heard lists met walk i
+  standing i nodes roots scopes heard met walk f l x =
       let T = Told low w in
       let from : length vs ≤ i = omega (arith, first-is) in
       let to : i ≤ lists.root - length vs - length ds = omega (arith, line-is) in
@@ -139,19 +136,19 @@ module _ {low high t roots₀ scopes₀ heard₀ : List ℕ} {lists : Lists} (h 
             let z = number-below w m t lists.root h.faultless h.new T h.decimals h.literals h.base.world.holds t roots scopes i from to q in
             let y = sums-after w m t lists.root h.faultless h.new T h.decimals h.literals h.base.world.holds t roots scopes in
             let b = numbers-few w m t (lists.root - length vs - length ds + 1) in
-            (omega (arith, z.0, b.0, y, line-is, x.roots-size, h.roots-room), omega (arith, z.0, b.0, y, line-is, x.scopes-size, h.scopes-room), z.1);
+            (omega (arith, z.0, b.0, y, line-is, x.roots-size, h.inside), omega (arith, z.0, b.0, y, line-is, x.scopes-size, h.inside), z.1);
         seen_few = s;
-        heard-room = omega (arith, s, x.heard-size, h.heard-room);
+        heard-room = omega (arith, s, x.heard-size, h.inside);
         sums-few = omega (arith, c.0, h.base.room);
         definitions-few = omega (arith, definitions-few w m t lists.root h.faultless h.new T h.decimals h.literals h.base.world.holds t roots scopes i from to, h.base.few);
       }
 
-  pub progressed : (i : ℕ) (nodes roots scopes heard nodes' roots' scopes' heard' : List ℕ) (walk r : Walk) → first_node lists ≤ i → i ≤ line_node lists → Progress i nodes roots scopes heard walk
-      → ((g : Standing low high nodes roots scopes heard lists walk i) → Stepped g nodes' roots' scopes' heard' r) → Progress (i + 1) nodes' roots' scopes' heard' r
+  pub progressed : (i : ℕ) (nodes roots scopes heard nodes' roots' scopes' heard' : List ℕ) (met met' : ℕ) (walk r : Walk) → first_node lists ≤ i → i ≤ line_node lists → Progress i nodes roots scopes heard met walk
+      → ((g : Standing low high nodes roots scopes heard lists met walk i) → Stepped g nodes' roots' scopes' heard' met' r) → Progress (i + 1) nodes' roots' scopes' heard' met' r
   unfolding standing
-  progressed i nodes roots scopes heard nodes' roots' scopes' heard' walk r f l x g =
+  progressed i nodes roots scopes heard nodes' roots' scopes' heard' met met' walk r f l x g =
       let T = Told low w in
-      let st = standing i nodes roots scopes heard walk f l x in
+      let st = standing i nodes roots scopes heard met walk f l x in
       let s = g st in
       let from : length vs ≤ i = omega (arith, first-is) in
       let to : i ≤ lists.root - length vs - length ds = omega (arith, line-is) in
@@ -167,7 +164,7 @@ module _ {low high t roots₀ scopes₀ heard₀ : List ℕ} {lists : Lists} (h 
         ahead = λ j q. other j (λ e. omega arith) ∙ x.ahead j (omega arith);
         numbers = λ j q. other j (λ e. omega arith) ∙ x.numbers j q;
         done = λ j a b. done-by j a b (ℕ_discrete j i) c other x.done (ap (λ (l : List ℕ). get_or l i 0) s.nodes-are ∙ get_or-set_same nodes i c 0 room);
-        knows = subst (λ (p : Point). Knows low high h.base.world.kinds heard' r p) (sym (steps_on w m t i from)) s.knows;
+        knows = subst (λ (p : Point). Knows low high h.base.world.kinds heard' met' r p) (sym (steps_on w m t i from)) s.knows;
         sums = λ j a b q. sums_by j a b q (ℕ_discrete j i) s st.below apart;
       }
     where
@@ -178,7 +175,7 @@ module _ {low high t roots₀ scopes₀ heard₀ : List ℕ} {lists : Lists} (h 
       Placed : ℕ → List ℕ → List ℕ → Type 0
       Placed j rs ss = (get_or rs (token_of (get_or t j 0)) 0 ≡ j - 1) × (get_or ss (token_of (get_or t j 0)) 0 ≡ scope_at (point j))
 
-      sums_by : (j : ℕ) → first_node lists ≤ j → j < i + 1 → role_at t j ≡ role.sum → Dec (j ≡ i) → Stepped (standing i nodes roots scopes heard walk f l x) nodes' roots' scopes' heard' r
+      sums_by : (j : ℕ) → first_node lists ≤ j → j < i + 1 → role_at t j ≡ role.sum → Dec (j ≡ i) → Stepped (standing i nodes roots scopes heard met walk f l x) nodes' roots' scopes' heard' met' r
           → (role_at t i ≡ role.sum → (token_of (get_or t i 0) < length roots) × (token_of (get_or t i 0) < length scopes) × (0 < i))
           → ((i j : ℕ) → length vs ≤ i → i ≤ lists.root - length vs - length ds → length vs ≤ j → j ≤ lists.root - length vs - length ds → role_at t i ≡ role.sum → role_at t j ≡ role.sum → token_of (get_or t i 0) ≡ token_of (get_or t j 0) → i ≡ j)
           → (get_or roots' (token_of (get_or t j 0)) 0 ≡ j - 1) × (get_or scopes' (token_of (get_or t j 0)) 0 ≡ scope_at (point j))
@@ -196,15 +193,15 @@ module _ {low high t roots₀ scopes₀ heard₀ : List ℕ} {lists : Lists} (h 
   pub look : Lookup low high t lists
   look = record { table = t; base = h.base; kept = record { size = refl; variables = λ j l. refl; numbers = λ j l. refl; chain = λ j l. refl; definitions = λ j l. refl } }
 
-  pub starting : (walk : Walk) → ((g : Lookup low high t lists) (heard : List ℕ) → Knows low high (kinds_in g) heard walk (begun (word_in g) (variables_in g) (definitions_of g))) → Progress (first_node lists) t roots₀ scopes₀ heard₀ walk
+  pub starting : {roots₀ scopes₀ heard₀ : List ℕ} → length roots₀ ≡ room → length scopes₀ ≡ room → length heard₀ ≡ room → (walk : Walk) → ((g : Lookup low high t lists) (heard : List ℕ) → Knows low high (kinds_in g) heard 0 walk (begun (word_in g) (variables_in g) (definitions_of g))) → Progress (first_node lists) t roots₀ scopes₀ heard₀ 0 walk
   unfolding look
-  starting walk s =
+  starting {heard₀ = heard₀} roots-is scopes-is heard-is walk s =
       let e : point (first_node lists) ≡ begun w vs ds = ap point (sym first-is) ∙ trace-begun w m t in
       record {
         size = refl;
-        roots-size = refl;
-        scopes-size = refl;
-        heard-size = refl;
+        roots-size = roots-is;
+        scopes-size = scopes-is;
+        heard-size = heard-is;
         ahead = λ j l. refl;
         numbers = λ j l. refl;
         done = λ j a b. absurd (omega arith);
@@ -219,8 +216,8 @@ module _ {low high t roots₀ scopes₀ heard₀ : List ℕ} {lists : Lists} (h 
       (omega (arith, vs-few h.base.world, first-is), omega (arith, b, first-is, h.base.world.gathered.definitions-are), omega (arith, z, first-is, line-is))
 
   -- ---- at the end
-  pub finished : (nodes roots scopes heard : List ℕ) (walk : Walk) (i : ℕ) → i ≡ line_node lists + 1 → Progress i nodes roots scopes heard walk → Represents nodes roots scopes lists.root lists.variables lists.definitions walk.sums walk.channels (resolved w m)
-  finished nodes roots scopes heard walk i q x =
+  pub finished : (nodes roots scopes heard : List ℕ) (met : ℕ) (walk : Walk) (i : ℕ) → i ≡ line_node lists + 1 → Progress i nodes roots scopes heard met walk → Represents nodes roots scopes lists.root lists.variables lists.definitions walk.sums met (resolved w m)
+  finished nodes roots scopes heard met walk i q x =
       let T = Told low w in
       let z = line-is in
       let e : i ≡ lists.root - length vs - length ds + 1 = omega arith in
@@ -229,11 +226,11 @@ module _ {low high t roots₀ scopes₀ heard₀ : List ℕ} {lists : Lists} (h 
       let b = names-after w m t lists.root h.faultless h.new T h.decimals h.literals h.base.world.holds nodes roots scopes in
       let c = numbers-few w m t (lists.root - length vs - length ds + 1) in
       let sums : walk.sums ≡ count_definitions ds = y.knows.sums ∙ a in
-      let channels : walk.channels ≡ length (channel_names w vs ds) = y.knows.channels ∙ ap length b in
+      let channels : met ≡ length (channel_names w vs ds) = y.knows.channels ∙ ap length b in
       represents-as refl first-is (sym h.base.world.gathered.definitions-are) (sym sums) (sym channels)
       (represented w m t lists.root h.faultless h.new T h.decimals h.literals h.base.world.holds nodes roots scopes h.base.room
       (λ j f l. y.done j (omega (arith, first-is)) l) (λ j f l r. y.sums j (omega (arith, first-is)) l r) (λ j l. y.ahead j l)
-      (omega (arith, c.0, a, x.roots-size, h.roots-room)) (omega (arith, c.0, a, x.scopes-size, h.scopes-room)))
+      (omega (arith, c.0, a, x.roots-size, h.inside)) (omega (arith, c.0, a, x.scopes-size, h.inside)))
 
   -- ---- the tables are told by the words and the tree
 
@@ -263,9 +260,9 @@ module _ {low high t roots₀ scopes₀ heard₀ : List ℕ} {lists : Lists} (h 
       let g = table_at s.0 (omega (arith, s.2)) in
       record { at = s.0; from = s.1; to = omega (arith, s.2); is_sum = rw g s.3; number = rw g s.4 }
 
-  pub settles : (nodes roots scopes heard : List ℕ) (walk : Walk) (i : ℕ) → i ≡ line_node lists + 1 → Progress i nodes roots scopes heard walk
-      → Settles w m nodes roots scopes (record { root = lists.root; variables = lists.variables; definitions = lists.definitions; sums = walk.sums; channels = walk.channels })
-  settles nodes roots scopes heard walk i q x =
+  pub settles : (nodes roots scopes heard : List ℕ) (met : ℕ) (walk : Walk) (i : ℕ) → i ≡ line_node lists + 1 → Progress i nodes roots scopes heard met walk
+      → Settles w m nodes roots scopes (record { lists = lists; sums = walk.sums; channels = met })
+  settles nodes roots scopes heard met walk i q x =
       let T = Told low w in
       let r = lists.root in
       let z = line-is in
@@ -290,11 +287,11 @@ module _ {low high t roots₀ scopes₀ heard₀ : List ℕ} {lists : Lists} (h 
             ∙ sym (cell-alike w vs ds t table j (point_at w vs ds table j) (table_at j (omega arith)));
         before = λ j l. y.numbers j (omega (arith, first-is)) ∙ sym (table_at j (omega (arith, vs-few h.base.world)));
         after = λ j f l. y.ahead j (omega arith) ∙ sym (table_at j l);
-        roots-fit = omega (arith, x.roots-size, h.roots-room);
-        scopes-fit = omega (arith, x.scopes-size, h.scopes-room);
+        roots-fit = omega (arith, x.roots-size, h.inside);
+        scopes-fit = omega (arith, x.scopes-size, h.inside);
         numbered = λ n l. node_of n (sum-node w m t r h.faultless h.new T h.decimals h.literals h.base.world.holds nodes roots scopes h.base.room
             (λ j f l. y.done j (omega (arith, first-is)) l) (λ j f l r. y.sums j (omega (arith, first-is)) l r) (λ j l. y.ahead j l)
-            (omega (arith, c.0, a, x.roots-size, h.roots-room)) (omega (arith, c.0, a, x.scopes-size, h.scopes-room)) n (omega arith));
+            (omega (arith, c.0, a, x.roots-size, h.inside)) (omega (arith, c.0, a, x.scopes-size, h.inside)) n (omega arith));
         branches = λ j f l k. let g = table_at j (omega arith) in rw g (y.sums j (omega (arith, first-is)) (omega arith) (rw g at k)).0;
         locals = λ j f l k. let g = table_at j (omega arith) in rw g ((y.sums j (omega (arith, first-is)) (omega arith) (rw g at k)).1 ∙ ap scope_at (sym (point-same j (omega arith))));
       }
@@ -304,7 +301,7 @@ module _ {low high t roots₀ scopes₀ heard₀ : List ℕ} {lists : Lists} (h 
 lists-alike : {r v d r' v' d' : ℕ} → r ≡ r' → v ≡ v' → d ≡ d' → ◌≡◌ {A = Lists} (record { root = r; variables = v; definitions = d }) (record { root = r'; variables = v'; definitions = d' })
 lists-alike e f g = rw (e, f, g)
 
-module _ {low high t a b c : List ℕ} {lists : Lists} (h : Resolvable low high t a b c lists) (root : ℕ) (root_is : lists.root ≡ root) where
+module _ {low high t : List ℕ} {room : ℕ} {lists : Lists} (h : Resolvable low high t room lists) (root : ℕ) (root_is : lists.root ≡ root) where
   pub model-there : (m : Syntax.Model) × (lo : ℕ) × Table.Model t m lo root
   model-there = (h.base.world.model, 0, rw root_is at h.base.world.holds)
 
@@ -318,22 +315,21 @@ module _ {low high t a b c : List ℕ} {lists : Lists} (h : Resolvable low high 
     pub root-same : r.root ≡ root
     root-same = ap (λ (x : Lists). x.root) (sym same_lists) ∙ root_is
 
-    pub resolvable : Resolvable low high t a b c r
-    resolvable = subst (λ (l : Lists). Resolvable low high t a b c l) same_lists h
+    pub resolvable : Resolvable low high t room r
+    resolvable = subst (λ (l : Lists). Resolvable low high t room l) same_lists h
 
     -- before node i of the loop
-    pub standing-at : (nodes roots scopes heard : List ℕ) (walk : Walk) (i : ℕ) → r.variables ≤ i → i ≤ root - r.variables - r.definitions
-        → ((g : Resolvable low high t a b c r) → Progress g i nodes roots scopes heard walk) → Standing low high nodes roots scopes heard r walk i
-    standing-at nodes roots scopes heard walk i f l x = standing resolvable i nodes roots scopes heard walk f (omega (arith, root-same)) (x resolvable)
+    pub standing-at : (nodes roots scopes heard : List ℕ) (met : ℕ) (walk : Walk) (i : ℕ) → r.variables ≤ i → i ≤ line_node r
+        → ((g : Resolvable low high t room r) → Progress g i nodes roots scopes heard met walk) → Standing low high nodes roots scopes heard r met walk i
+    standing-at nodes roots scopes heard met walk i f l x = standing resolvable i nodes roots scopes heard met walk f l (x resolvable)
 
-    pub settled-so : (nodes roots scopes heard : List ℕ) (walk : Walk) (i line : ℕ) → line ≡ root - r.variables - r.definitions → line < i → i ≤ line + 1
-        → ((g : Resolvable low high t a b c r) → Progress g i nodes roots scopes heard walk)
-        → Represents nodes roots scopes root r.variables r.definitions walk.sums walk.channels (resolved h.base.world.word h.base.world.model)
-        × Settles h.base.world.word h.base.world.model nodes roots scopes (record { root = root; variables = r.variables; definitions = r.definitions; sums = walk.sums; channels = walk.channels })
-    settled-so nodes roots scopes heard walk i line e l u f =
-        let rr : r.root ≡ root = ap (λ (x : Lists). x.root) (sym same_lists) ∙ root_is in
-        let q : i ≡ line_node r + 1 = omega (arith, e, rr) in
-        subst (λ (k : Lists). (g : Resolvable low high t a b c k)
-        → Represents nodes roots scopes root r.variables r.definitions walk.sums walk.channels (resolved g.base.world.word g.base.world.model)
-        × Settles g.base.world.word g.base.world.model nodes roots scopes (record { root = root; variables = r.variables; definitions = r.definitions; sums = walk.sums; channels = walk.channels })) (sym same_lists)
-        (λ g. (represents-as rr refl refl refl refl (finished g nodes roots scopes heard walk i q (f g)), settles-as rr (settles g nodes roots scopes heard walk i q (f g)))) h
+    pub settled-so : (nodes roots scopes heard : List ℕ) (met : ℕ) (walk : Walk) (i line : ℕ) → line ≡ r.root - r.variables - r.definitions → line < i → i ≤ line + 1
+        → ((g : Resolvable low high t room r) → Progress g i nodes roots scopes heard met walk)
+        → Represents nodes roots scopes r.root r.variables r.definitions walk.sums met (resolved h.base.world.word h.base.world.model)
+        × Settles h.base.world.word h.base.world.model nodes roots scopes (record { lists = r; sums = walk.sums; channels = met })
+    settled-so nodes roots scopes heard met walk i line e l u f =
+        let q : i ≡ line_node r + 1 = omega (arith, e) in
+        subst (λ (k : Lists). (g : Resolvable low high t room k)
+        → Represents nodes roots scopes r.root r.variables r.definitions walk.sums met (resolved g.base.world.word g.base.world.model)
+        × Settles g.base.world.word g.base.world.model nodes roots scopes (record { lists = r; sums = walk.sums; channels = met })) (sym same_lists)
+        (λ g. (finished g nodes roots scopes heard met walk i q (f g), settles g nodes roots scopes heard met walk i q (f g))) h

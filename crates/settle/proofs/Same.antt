@@ -54,23 +54,23 @@ same-take n xs ys a b h =
     ext_get_or 0 (take n xs) (take n ys) (simp length-take (omega arith))
     (λ i l. let u : i < n = omega (arith, length-take n xs) in rw (get_or-take n xs i 0 u, get_or-take n ys i 0 u) (h i u))
 
-model-alike : {r r' v v' d d' s s' c c' : ℕ} → r ≡ r' → v ≡ v' → d ≡ d' → s ≡ s' → c ≡ c' → ◌≡◌ {A = Model} (record { root = r; variables = v; definitions = d; sums = s; channels = c }) (record { root = r'; variables = v'; definitions = d'; sums = s'; channels = c' })
+model-alike : {r r' v v' d d' s s' c c' : ℕ} → r ≡ r' → v ≡ v' → d ≡ d' → s ≡ s' → c ≡ c' → ◌≡◌ {A = Model} (record { lists = record { root = r; variables = v; definitions = d }; sums = s; channels = c }) (record { lists = record { root = r'; variables = v'; definitions = d' }; sums = s'; channels = c' })
 model-alike e f g h i = rw (e, f, g, h, i)
 
 module _ {w : ℕ → List ℕ} {m : Syntax.Model} {nodes roots scopes nodes' roots' scopes' : List ℕ} {x y : Model} (a : Settles w m nodes roots scopes x) (b : Settles w m nodes' roots' scopes' y) where
-  root_is : x.root ≡ y.root
-  root_is = (one_table a.table b.table m x.root y.root a.holds b.holds a.size b.size).0
+  root_is : x.lists.root ≡ y.lists.root
+  root_is = (one_table a.table b.table m x.lists.root y.lists.root a.holds b.holds a.size b.size).0
 
   table_is : a.table ≡ b.table
-  table_is = (one_table a.table b.table m x.root y.root a.holds b.holds a.size b.size).1
+  table_is = (one_table a.table b.table m x.lists.root y.lists.root a.holds b.holds a.size b.size).1
 
   abbrev first : ℕ
   first = length (variables m)
 
   abbrev line : ℕ
-  line = line_in m x.root
+  line = line_in m x.lists.root
 
-  line-is : line ≡ line_in m y.root
+  line-is : line ≡ line_in m y.lists.root
   line-is = ap (line_in m) root_is
 
   sums-are : x.sums ≡ y.sums
@@ -79,7 +79,7 @@ module _ {w : ℕ → List ℕ} {m : Syntax.Model} {nodes roots scopes nodes' ro
   channels-are : x.channels ≡ y.channels
   channels-are = a.channels-are ∙ ap₂ (λ (t : List ℕ) (r : ℕ). length (point_in w m t (line_in m r + 1)).seen) table_is root_is ∙ sym b.channels-are
 
-  node-is : (i : ℕ) → i ≤ x.root → get_or nodes i 0 ≡ get_or nodes' i 0
+  node-is : (i : ℕ) → i ≤ x.lists.root → get_or nodes i 0 ≡ get_or nodes' i 0
   node-is i l = by (dec_le first i) (dec_le i line)
     where
       by : Dec (first ≤ i) → Dec (i ≤ line) → get_or nodes i 0 ≡ get_or nodes' i 0
@@ -93,7 +93,7 @@ module _ {w : ℕ → List ℕ} {m : Syntax.Model} {nodes roots scopes nodes' ro
       let s = a.numbered n (omega arith) in
       let i = s.at in
       let k = s.number in
-      let u : i ≤ line_in m y.root = omega (arith, s.to, line-is) in
+      let u : i ≤ line_in m y.lists.root = omega (arith, s.to, line-is) in
       let r : role_at b.table i ≡ sum = ap (λ (t : List ℕ). role_at t i) (sym table_is) ∙ s.is_sum in
       let q : token_of (get_or b.table i 0) ≡ n = ap (λ (t : List ℕ). token_of (get_or t i 0)) (sym table_is) ∙ k in (
         ap (λ (j : ℕ). get_or roots j 0) (sym k) ∙ a.branches i s.from s.to s.is_sum ∙ sym (b.branches i s.from u r) ∙ ap (λ (j : ℕ). get_or roots' j 0) q,
@@ -106,7 +106,7 @@ module _ {w : ℕ → List ℕ} {m : Syntax.Model} {nodes roots scopes nodes' ro
   pub settled-once : SameTables nodes roots scopes nodes' roots' scopes' x
   settled-once =
       record {
-        same_nodes = same-take (x.root + 1) nodes nodes' (omega (arith, a.nodes-fit)) (omega (arith, b.nodes-fit, root_is)) (λ i l. node-is i (omega arith));
+        same_nodes = same-take (x.lists.root + 1) nodes nodes' (omega (arith, a.nodes-fit)) (omega (arith, b.nodes-fit, root_is)) (λ i l. node-is i (omega arith));
         same-roots = same-take x.sums roots roots' a.roots-fit (omega (arith, b.roots-fit, sums-are)) (λ i l. (sum_is i l).0);
         same-scopes = same-take x.sums scopes scopes' a.scopes-fit (omega (arith, b.scopes-fit, sums-are)) (λ i l. (sum_is i l).1);
       }

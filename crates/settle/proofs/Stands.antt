@@ -73,7 +73,7 @@ step-bound w vs ds (role.item x) c a b p e = refl
 step-bound w vs ds role.plain c a b p e = refl
 
 -- the walk stands before node i: the nodes from the first definition up to it are resolved, the others are those of the reader's table
-pub record Standing (low high nodes roots scopes heard : List ℕ) (lists : Lists) (walk : Walk) (i : ℕ) : Type 0 where
+pub record Standing (low high nodes roots scopes heard : List ℕ) (lists : Lists) (met : ℕ) (walk : Walk) (i : ℕ) : Type 0 where
   pub table : List ℕ
   pub base : Base low high table lists
   pub point : Point
@@ -84,7 +84,7 @@ pub record Standing (low high nodes roots scopes heard : List ℕ) (lists : List
   pub ahead : (j : ℕ) → i ≤ j → get_or nodes j 0 ≡ get_or table j 0
   pub numbers : (j : ℕ) → j < first_node lists → get_or nodes j 0 ≡ get_or table j 0
   pub done : (j : ℕ) → first_node lists ≤ j → j < i → get_or nodes j 0 ≡ cell_of base.world.word (variables base.world.model) (definitions base.world.model) table j (point_at base.world.word (variables base.world.model) (definitions base.world.model) table j)
-  pub knows : Knows low high base.world.kinds heard walk point
+  pub knows : Knows low high base.world.kinds heard met walk point
   pub safe : SafeBy base.world.word (variables base.world.model) (Told low base.world.word) (role_at table i) (get_or table i 0) (third_of (get_or table (left_of (get_or table i 0)) 0)) point
   pub linked : role_at table i ≡ role.ending → (first_node lists ≤ left_of (get_or table i 0)) × (left_of (get_or table i 0) < i) × (role_at table (left_of (get_or table i 0)) ≡ role.action)
   pub below : role_at table i ≡ role.sum → (token_of (get_or table i 0) < length roots) × (token_of (get_or table i 0) < length scopes) × (0 < i)
@@ -94,14 +94,14 @@ pub record Standing (low high nodes roots scopes heard : List ℕ) (lists : List
   pub definitions-few : point.definitions ≤ definition_limit
 
 -- and after it
-pub record Stepped {low high nodes roots scopes heard : List ℕ} {lists : Lists} {walk : Walk} {i : ℕ} (h : Standing low high nodes roots scopes heard lists walk i) (nodes' roots' scopes' heard' : List ℕ) (r : Walk) : Type 0 where
+pub record Stepped {low high nodes roots scopes heard : List ℕ} {lists : Lists} {met : ℕ} {walk : Walk} {i : ℕ} (h : Standing low high nodes roots scopes heard lists met walk i) (nodes' roots' scopes' heard' : List ℕ) (met' : ℕ) (r : Walk) : Type 0 where
   pub nodes-are : nodes' ≡ set nodes i (cell_of h.base.world.word (variables h.base.world.model) (definitions h.base.world.model) h.table i h.point)
   pub roots-are : roots' ≡ marked_by (get_or h.table i 0) roots (i - 1)
   pub scopes-are : scopes' ≡ marked_by (get_or h.table i 0) scopes (scope_at h.point)
-  pub knows : Knows low high h.base.world.kinds heard' r (step h.base.world.word (variables h.base.world.model) (definitions h.base.world.model) h.table i h.point)
+  pub knows : Knows low high h.base.world.kinds heard' met' r (step h.base.world.word (variables h.base.world.model) (definitions h.base.world.model) h.table i h.point)
   pub size : length heard' ≡ length heard
 
-module _ {low high nodes roots scopes heard : List ℕ} {lists : Lists} {walk : Walk} {i : ℕ} (h : Standing low high nodes roots scopes heard lists walk i) where
+module _ {low high nodes roots scopes heard : List ℕ} {lists : Lists} {met : ℕ} {walk : Walk} {i : ℕ} (h : Standing low high nodes roots scopes heard lists met walk i) where
   abbrev t : List ℕ
   t = h.table
 
@@ -166,7 +166,7 @@ module _ {low high nodes roots scopes heard : List ℕ} {lists : Lists} {walk : 
       let l = h.linked (rw here at q) in
       rw here (sym (ap third_of (stays (left_of (get_or t i 0)) (λ a c. rw l.2))))
 
-  pub turn : Turn low high nodes lists heard walk (get_or nodes i 0)
+  pub turn : Turn low high nodes lists heard met walk (get_or nodes i 0)
   unfolding lookup
   turn =
       record {
@@ -188,17 +188,17 @@ module _ {low high nodes roots scopes heard : List ℕ} {lists : Lists} {walk : 
   sum-asked =
       (λ z. rw here (h.below (rw (← here, z))), omega (arith, h.before, h.base.room), omega (arith, h.knows.scoped.count), omega (arith, h.knows.definitions, h.definitions-few))
 
-  pub stepped : (r : ℕ) (roots' scopes' heard' : List ℕ) (next : Walk)
-      → ((g : Turn low high nodes lists heard walk (get_or nodes i 0)) → Settled g heard' r next)
-      → roots' ≡ marked_by (get_or nodes i 0) roots (i - 1) → scopes' ≡ marked_by (get_or nodes i 0) scopes (walk.scope.count + walk.definitions * 16) → Stepped h (set nodes i r) roots' scopes' heard' next
+  pub stepped : (r : ℕ) (roots' scopes' heard' : List ℕ) (met' : ℕ) (next : Walk)
+      → ((g : Turn low high nodes lists heard met walk (get_or nodes i 0)) → Settled g heard' met' r next)
+      → roots' ≡ marked_by (get_or nodes i 0) roots (i - 1) → scopes' ≡ marked_by (get_or nodes i 0) scopes (walk.scope.count + walk.definitions * 16) → Stepped h (set nodes i r) roots' scopes' heard' met' next
   unfolding turn lookup cell_of step
-  stepped r roots' scopes' heard' next f x y =
+  stepped r roots' scopes' heard' met' next f x y =
       let s = f turn in
       record {
         nodes-are = rw (← here) (ap (set nodes i) s.cell-is);
         roots-are = rw (← here) x;
         scopes-are = rw (← here) (y ∙ ap (marked_by (get_or nodes i 0) scopes) marks);
-        knows = subst (λ (p : Point). Knows low high world.kinds heard' next p) (step-bound w vs ds (role_at nodes i) (get_or nodes i 0) (third_of (get_or nodes (left_of (get_or nodes i 0)) 0)) (third_of (get_or t (left_of (get_or t i 0)) 0)) h.point (λ z. sym (bound-same z)) ∙ ap (λ (c : ℕ). step_by w vs ds (role_of (kind_of c)) c (third_of (get_or t (left_of (get_or t i 0)) 0)) h.point) here) s.knows;
+        knows = subst (λ (p : Point). Knows low high world.kinds heard' met' next p) (step-bound w vs ds (role_at nodes i) (get_or nodes i 0) (third_of (get_or nodes (left_of (get_or nodes i 0)) 0)) (third_of (get_or t (left_of (get_or t i 0)) 0)) h.point (λ z. sym (bound-same z)) ∙ ap (λ (c : ℕ). step_by w vs ds (role_of (kind_of c)) c (third_of (get_or t (left_of (get_or t i 0)) 0)) h.point) here) s.knows;
         size = s.size;
       }
     where

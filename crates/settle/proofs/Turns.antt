@@ -40,7 +40,7 @@ named-front ts ks zero h = tt
 named-front ts [] (suc n) h = tt
 named-front ts (k ∷ ks) (suc n) h = (h.0, named-front ts ks n h.1)
 
-module _ {low high nodes : List ℕ} {lists : Lists} {heard : List ℕ} {walk : Walk} {c : ℕ} (h : Turn low high nodes lists heard walk c) where
+module _ {low high nodes : List ℕ} {lists : Lists} {heard : List ℕ} {met : ℕ} {walk : Walk} {c : ℕ} (h : Turn low high nodes lists heard met walk c) where
   abbrev p : Point
   p = h.point
 
@@ -51,9 +51,9 @@ module _ {low high nodes : List ℕ} {lists : Lists} {heard : List ℕ} {walk : 
   sc = h.knows.scoped
 
   -- in another scope
-  scoped-as : (r : Walk) (scope : List ℕ) → Scoped Given ts r.scope scope → r.channels ≡ walk.channels → r.sums ≡ walk.sums → r.definitions ≡ walk.definitions
-      → Knows low high ts heard r (record { scope = scope; seen = p.seen; sums = p.sums; definitions = p.definitions })
-  scoped-as r scope s a b d = record { scoped = s; channels = a ∙ h.knows.channels; hung = h.knows.hung; named = h.knows.named; sums = b ∙ h.knows.sums; definitions = d ∙ h.knows.definitions }
+  scoped-as : (r : Walk) (scope : List ℕ) → Scoped Given ts r.scope scope → r.sums ≡ walk.sums → r.definitions ≡ walk.definitions
+      → Knows low high ts heard met r (record { scope = scope; seen = p.seen; sums = p.sums; definitions = p.definitions })
+  scoped-as r scope s b d = record { scoped = s; channels = h.knows.channels; hung = h.knows.hung; named = h.knows.named; sums = b ∙ h.knows.sums; definitions = d ∙ h.knows.definitions }
 
   -- ---- an action
   module _ (l : 36 ≤ kind_of c) (u : kind_of c ≤ 44) where
@@ -74,9 +74,9 @@ module _ {low high nodes : List ℕ} {lists : Lists} {heard : List ℕ} {walk : 
     pub action-room : token_of c + 2 * third_of c ≤ field
     action-room = room_for (third_of c) (bound-named action-safe.1) (omega (arith, action-safe.0))
 
-    pub after-action : (s : Scope) (r : Walk) → Extended walk.scope (every_other (token_of c) (third_of c)) s → r.scope ≡ s → r.channels ≡ walk.channels → r.sums ≡ walk.sums → r.definitions ≡ walk.definitions → Knows low high ts heard r (turned h)
+    pub after-action : (s : Scope) (r : Walk) → Extended walk.scope (every_other (token_of c) (third_of c)) s → r.scope ≡ s → r.sums ≡ walk.sums → r.definitions ≡ walk.definitions → Knows low high ts heard met r (turned h)
     unfolding step_by
-    after-action s r x e a b d =
+    after-action s r x e b d =
         let n = every-length (token_of c) (third_of c) in
         let m = length-append p.scope (every_other (token_of c) (third_of c)) in
         let k : Scoped Given ts s (p.scope ++ every_other (token_of c) (third_of c)) =
@@ -86,7 +86,7 @@ module _ {low high nodes : List ℕ} {lists : Lists} {heard : List ℕ} {walk : 
           locals_are = λ q. x.names-are (omega (arith, sc.count, action-safe.0)) ∙ ap (λ (l : List ℕ). l ++ every_other (token_of c) (third_of c)) (sc.locals_are q);
           named = named-append ts p.scope (every_other (token_of c) (third_of c)) sc.named (bound-named action-safe.1);
         } in
-        rw (action-role (kind_of c) l u) (scoped-as r (p.scope ++ every_other (token_of c) (third_of c)) (rw e k) a b d)
+        rw (action-role (kind_of c) l u) (scoped-as r (p.scope ++ every_other (token_of c) (third_of c)) (rw e k) b d)
 
   -- ---- the end of a branch
   module _ (l : 45 ≤ kind_of c) (u : kind_of c ≤ 46) where
@@ -103,9 +103,9 @@ module _ {low high nodes : List ℕ} {lists : Lists} {heard : List ℕ} {walk : 
       pub ending-few : n ≤ walk.scope.count
       ending-few = omega (arith, fewer, counted)
 
-      pub after-ending : (s : Scope) (r : Walk) → s.names ≡ walk.scope.names → s.count ≡ walk.scope.count - n → r.scope ≡ s → r.channels ≡ walk.channels → r.sums ≡ walk.sums → r.definitions ≡ walk.definitions → Knows low high ts heard r (turned h)
+      pub after-ending : (s : Scope) (r : Walk) → s.names ≡ walk.scope.names → s.count ≡ walk.scope.count - n → r.scope ≡ s → r.sums ≡ walk.sums → r.definitions ≡ walk.definitions → Knows low high ts heard met r (turned h)
       unfolding step_by
-      after-ending s r x y e a b d =
+      after-ending s r x y e b d =
           let z = length-take-le (length p.scope - n) p.scope (omega arith) in
           let q : s.count ≡ length p.scope - n = omega (arith, counted) in
           let k : Scoped Given ts s (take (length p.scope - n) p.scope) =
@@ -115,17 +115,17 @@ module _ {low high nodes : List ℕ} {lists : Lists} {heard : List ℕ} {walk : 
             locals_are = λ g. rw (x, q) (sym (take-take (length p.scope - n) walk.scope.count walk.scope.names (omega (arith, counted))) ∙ ap (take (length p.scope - n)) (sc.locals_are g));
             named = named-front ts p.scope (length p.scope - n) sc.named;
           } in
-          rw (ending-role (kind_of c) l u, ← is) (scoped-as r (take (length p.scope - n) p.scope) (rw e k) a b d)
+          rw (ending-role (kind_of c) l u, ← is) (scoped-as r (take (length p.scope - n) p.scope) (rw e k) b d)
 
   -- ---- a sum and a definition
-  pub after-sum : (r : Walk) → kind_of c ≡ 49 → r.scope ≡ walk.scope → r.channels ≡ walk.channels → r.sums ≡ walk.sums + 1 → r.definitions ≡ walk.definitions → Knows low high ts heard r (turned h)
+  pub after-sum : (r : Walk) → kind_of c ≡ 49 → r.scope ≡ walk.scope → r.sums ≡ walk.sums + 1 → r.definitions ≡ walk.definitions → Knows low high ts heard met r (turned h)
   unfolding step_by role_of number_kind
-  after-sum r e s a b d = rw e (record { scoped = rw s sc; channels = a ∙ h.knows.channels; hung = h.knows.hung; named = h.knows.named; sums = b ∙ ap (λ (n : ℕ). n + 1) h.knows.sums; definitions = d ∙ h.knows.definitions })
+  after-sum r e s b d = rw e (record { scoped = rw s sc; channels = h.knows.channels; hung = h.knows.hung; named = h.knows.named; sums = b ∙ ap (λ (n : ℕ). n + 1) h.knows.sums; definitions = d ∙ h.knows.definitions })
 
-  pub after-definition : (r : Walk) → kind_of c ≡ 56 → Scoped Given ts r.scope (params_at (definitions_of h.at) (walk.definitions + 1)) → r.channels ≡ walk.channels → r.sums ≡ walk.sums → r.definitions ≡ walk.definitions + 1 → Knows low high ts heard r (turned h)
+  pub after-definition : (r : Walk) → kind_of c ≡ 56 → Scoped Given ts r.scope (params_at (definitions_of h.at) (walk.definitions + 1)) → r.sums ≡ walk.sums → r.definitions ≡ walk.definitions + 1 → Knows low high ts heard met r (turned h)
   unfolding step_by role_of number_kind
-  after-definition r e s a b d =
-      rw e (record { scoped = rw (← h.knows.definitions) s; channels = a ∙ h.knows.channels; hung = h.knows.hung; named = h.knows.named; sums = b ∙ h.knows.sums; definitions = d ∙ ap (λ (n : ℕ). n + 1) h.knows.definitions })
+  after-definition r e s b d =
+      rw e (record { scoped = rw (← h.knows.definitions) s; channels = h.knows.channels; hung = h.knows.hung; named = h.knows.named; sums = b ∙ h.knows.sums; definitions = d ∙ ap (λ (n : ℕ). n + 1) h.knows.definitions })
 
-  pub after_none : (role_of (kind_of c) ≡ name → ⊥) → (36 ≤ kind_of c → kind_of c ≤ 44 → ⊥) → (45 ≤ kind_of c → kind_of c ≤ 46 → ⊥) → (kind_of c ≡ 49 → ⊥) → (kind_of c ≡ 56 → ⊥) → Knows low high ts heard walk (turned h)
+  pub after_none : (role_of (kind_of c) ≡ name → ⊥) → (36 ≤ kind_of c → kind_of c ≤ 44 → ⊥) → (45 ≤ kind_of c → kind_of c ≤ 46 → ⊥) → (kind_of c ≡ 49 → ⊥) → (kind_of c ≡ 56 → ⊥) → Knows low high ts heard met walk (turned h)
   after_none e a b s d = rw (step-none (kind_of c) (word_in h.at) (variables_in h.at) (definitions_of h.at) c (third_of (get_or nodes (left_of c) 0)) p a b s d e) h.knows

@@ -1,5 +1,5 @@
 -- The channel names met, as a search tree in a table of nodes: node i is the channel name with the number i, and each name hangs below the root by its own bits. Assumes nothing: these are definitions.
-use Rattle.std.specs.Prelude.{◌≡◌, List, ℕ, zero, suc, ◌+◌, ◌*◌, ◌/◌, ◌%◌, ◌<◌, length, get_or, set}
+use Rattle.std.specs.Prelude.{◌≡◌, List, cond, eqb, Option, None, Some, ℕ, zero, suc, ◌+◌, ◌*◌, ◌/◌, ◌%◌, ◌<◌, length, get_or, set}
 use Rattle.tree.specs.Node.{cell, token_of, left_of, third_of}
 use Rattle.names.specs.Lists.{packed}
 
@@ -22,6 +22,10 @@ bits_of low high k = hash_of (get_or low k 0) (get_or high k 0) + word_size * (g
 unfoldable pub kid_of : ℕ → ℕ → ℕ
 kid_of c zero = left_of c
 kid_of c (suc b) = third_of c
+
+-- and as a node that is there
+unfoldable pub kid_found : ℕ → ℕ → Option ℕ
+kid_found c b = cond (eqb (kid_of c b) 0) None (Some (kid_of c b))
 
 -- the node with kid m for a bit
 unfoldable pub with_kid : ℕ → ℕ → ℕ → ℕ

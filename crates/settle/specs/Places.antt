@@ -104,12 +104,17 @@ PlaceIn p scope = Place (lows_in p.contents.now) (highs_in p.contents.now) p.nod
 abbrev pub meaning_at : {low high nodes : List ℕ} {lists : Lists} {scope : Scope} → Place low high nodes lists scope → ℕ → Meaning
 meaning_at h k = meaning (word_in h.at) (variables_in h.at) h.locals k
 
--- c is the node of the number of the variable that a name stands for, and its contents are told; 0, which is no node, where there is none
+-- c is the node of the number of the variable that a name stands for, and its contents are told
 abbrev pub NumberNode : List ℕ → (ℕ → List ℕ) → Meaning → ℕ → Type 0
 NumberNode low w (local i) c = ⊥
 NumberNode low w (variable (Syntax.number b d k)) c = ScaleTold low w b d (kind_of c) k × (token_of c ≡ k)
 NumberNode low w (variable (Syntax.named_scale k)) c = ⊥
-NumberNode low w nothing c = c ≡ 0
+NumberNode low w nothing c = ⊥
+
+-- that node, or none where the name stands for no variable
+abbrev pub NumberFound : List ℕ → (ℕ → List ℕ) → Meaning → Found → Type 0
+NumberFound low w m (Some c) = NumberNode low w m c
+NumberFound low w m None = m ≡ nothing
 
 -- r is the cell of a name that means m and is a value, and none of a channel name; seen: the channel names met
 abbrev pub Valued : (ℕ → List ℕ) → List Variable → List Definition → List ℕ → Meaning → Found → Type 0
@@ -162,31 +167,32 @@ unfoldable pub heard_after : Option ℕ → List ℕ → ℕ → List ℕ
 heard_after none seen k = seen ++ k ∷ []
 heard_after (some i) seen k = seen
 
--- the name k has the number r among the names met, and hangs in their tree now
-pub record Sought (low high heard : List ℕ) (n k : ℕ) (seen heard' : List ℕ) (r : ℕ) : Type 0 where
+-- the name k has the number r among the names met, of which there are n' now, and hangs in their tree
+pub record Sought (low high heard : List ℕ) (n k : ℕ) (seen heard' : List ℕ) (n' r : ℕ) : Type 0 where
   pub place_is : r ≡ place_or n (place_in (packed low high) k 0 seen)
+  pub count : n' ≡ length (heard_after (place_in (packed low high) k 0 seen) seen k)
   pub hung : Hung low high heard' (heard_after (place_in (packed low high) k 0 seen) seen k)
   pub size : length heard' ≡ length heard
 
 -- ---- the walk
 
--- what the walk holds is what it knows at a point; kinds: the kinds of the text's tokens
-pub record Knows (low high kinds heard : List ℕ) (walk : Walk) (p : Point) : Type 0 where
+-- what the walk holds is what it knows at a point; kinds: the kinds of the text's tokens, met: how many channel names it has met
+pub record Knows (low high kinds heard : List ℕ) (met : ℕ) (walk : Walk) (p : Point) : Type 0 where
   pub scoped : Scoped Given kinds walk.scope p.scope
-  pub channels : walk.channels ≡ length p.seen
+  pub channels : met ≡ length p.seen
   pub hung : Hung low high heard p.seen
   pub named : Named kinds p.seen
   pub sums : walk.sums ≡ p.sums
   pub definitions : walk.definitions ≡ p.definitions
 
-abbrev pub KnowsIn : Parsed → List ℕ → List ℕ → Walk → Point → Type 0
-KnowsIn p kinds heard walk q = Knows (lows_in p.contents.now) (highs_in p.contents.now) kinds heard walk q
+abbrev pub KnowsIn : Parsed → List ℕ → List ℕ → ℕ → Walk → Point → Type 0
+KnowsIn p kinds heard met walk q = Knows (lows_in p.contents.now) (highs_in p.contents.now) kinds heard met walk q
 
 -- the walk stands before a node with the cell c
-pub record Turn (low high nodes : List ℕ) (lists : Lists) (heard : List ℕ) (walk : Walk) (c : ℕ) : Type 0 where
+pub record Turn (low high nodes : List ℕ) (lists : Lists) (heard : List ℕ) (met : ℕ) (walk : Walk) (c : ℕ) : Type 0 where
   pub at : Lookup low high nodes lists
   pub point : Point
-  pub knows : Knows low high (kinds_in at) heard walk point
+  pub knows : Knows low high (kinds_in at) heard met walk point
   pub fits : Fits (kinds_in at) c
   pub inside : role_of (kind_of c) ≡ ending → left_of c < length nodes
   pub safe : SafeBy (word_in at) (variables_in at) (Told low (word_in at)) (role_of (kind_of c)) c (third_of (get_or nodes (left_of c) 0)) point
@@ -195,17 +201,17 @@ pub record Turn (low high nodes : List ℕ) (lists : Lists) (heard : List ℕ) (
   pub sums-few : point.sums < field
   pub definitions-few : point.definitions < field
 
-abbrev pub TurnIn : Parsed → List ℕ → Walk → ℕ → Type 0
-TurnIn p heard walk c = Turn (lows_in p.contents.now) (highs_in p.contents.now) p.nodes.now p.lists heard walk c
+abbrev pub TurnIn : Parsed → List ℕ → ℕ → Walk → ℕ → Type 0
+TurnIn p heard met walk c = Turn (lows_in p.contents.now) (highs_in p.contents.now) p.nodes.now p.lists heard met walk c
 
 -- what is known after it
-abbrev pub turned : {low high nodes : List ℕ} {lists : Lists} {heard : List ℕ} {walk : Walk} {c : ℕ} → Turn low high nodes lists heard walk c → Point
+abbrev pub turned : {low high nodes : List ℕ} {lists : Lists} {heard : List ℕ} {met : ℕ} {walk : Walk} {c : ℕ} → Turn low high nodes lists heard met walk c → Point
 turned {nodes = nodes} {c = c} h = step_by (word_in h.at) (variables_in h.at) (definitions_of h.at) (role_of (kind_of c)) c (third_of (get_or nodes (left_of c) 0)) h.point
 
 -- r is the cell that takes the place of c, and the walk after it knows what it has to
-pub record Settled {low high nodes : List ℕ} {lists : Lists} {heard : List ℕ} {walk : Walk} {c : ℕ} (h : Turn low high nodes lists heard walk c) (heard' : List ℕ) (r : ℕ) (next : Walk) : Type 0 where
+pub record Settled {low high nodes : List ℕ} {lists : Lists} {heard : List ℕ} {met : ℕ} {walk : Walk} {c : ℕ} (h : Turn low high nodes lists heard met walk c) (heard' : List ℕ) (met' r : ℕ) (next : Walk) : Type 0 where
   pub cell-is : r ≡ cell_by (word_in h.at) (variables_in h.at) (definitions_of h.at) (role_of (kind_of c)) c h.point
-  pub knows : Knows low high (kinds_in h.at) heard' next (turned h)
+  pub knows : Knows low high (kinds_in h.at) heard' met' next (turned h)
   pub size : length heard' ≡ length heard
 
 -- a table of sums after a node: written where the node is a sum's
@@ -221,13 +227,11 @@ line_node lists = lists.root - lists.variables - lists.definitions
 
 -- ---- the whole walk
 
--- the tables of a text without faults: nothing is beyond a limit, not new or not given (01, questions 7, 8 and 9)
-pub record Resolvable (low high t roots scopes heard : List ℕ) (lists : Lists) : Type 0 where
+-- the tables of a text without faults: nothing is beyond a limit, not new or not given (01, questions 7, 8 and 9); room: how many nodes there is room for
+pub record Resolvable (low high t : List ℕ) (room : ℕ) (lists : Lists) : Type 0 where
   pub base : Base low high t lists
   pub faultless : Faultless base.world.word base.world.model
   pub new : (k : ℕ) → NotNew base.world.word base.world.model k → ⊥
   pub decimals : (sc : List ℕ) (i k : ℕ) (g : Syntax.Gate) (x : Syntax.Action) (r : Syntax.Rate) (n : Syntax.Next) → BranchIn base.world.model sc i (Syntax.branch k g x r n) → (b : Bool) (j : ℕ) → scale_of r ≡ Syntax.number b true j → Told low base.world.word j
   pub literals : SystemLiteral (system base.world.model)
-  pub roots-room : lists.root < length roots
-  pub scopes-room : lists.root < length scopes
-  pub heard-room : lists.root < length heard
+  pub inside : lists.root < room

@@ -14,9 +14,9 @@ ghost use Rattle.names.specs.declared.Question.TheVariants.{Given};
 ghost use Rattle.names.specs.Placed.{IsName};
 ghost use Rattle.names.specs.Settings.{Scoped};
 ghost use Rattle.tables.specs.Settled.{offset, number_cell};
-ghost use Rattle.settle.specs.Kids.{hash_of, kid_of, hung_below};
+ghost use Rattle.settle.specs.Kids.{hash_of, kid_found, hung_below};
 ghost use Rattle.settle.specs.Walks.{scale_cell, definition_of, params_at, name, role_of, Point, begun, cell_by};
-ghost use Rattle.settle.specs.Places.{signed, ScaleTold, LookupIn, kinds_in, word_in, variables_in, definitions_of, NumberNode, Heard, Sought, PlaceIn, meaning_at, Valued, CallsIn, LeafIn, KnowsIn, TurnIn, turned, marked_by, Settled, Resolvable};
+ghost use Rattle.settle.specs.Places.{signed, ScaleTold, LookupIn, kinds_in, word_in, variables_in, definitions_of, NumberFound, Heard, Sought, PlaceIn, meaning_at, Valued, CallsIn, LeafIn, KnowsIn, TurnIn, turned, marked_by, Settled, Resolvable};
 ghost use Rattle.settle.specs.Settles.{Settles};
 ghost use Rattle.tables.specs.Represents.{Represents};
 ghost use Rattle.names.specs.declared.Lists.{Lists};
@@ -24,44 +24,46 @@ ghost use Rattle.names.specs.declared.Lists.{Lists};
 use names::{Lists, Parsed, Scope};
 use token::Content;
 use tree::NodeKind;
+use word::Limits;
 
-// Where the walk over the nodes stands: the locals in scope, and how many channel names, sums and definitions it has met. The table of the channel names is lent beside it, for a Walk is copied.
+// Where the walk over the nodes stands: the locals in scope, and how many sums and definitions it has met. The channel names it has met are lent beside it, for a Walk is copied.
 #[derive(Clone, Copy)]
 pub struct Walk {
     pub scope: Scope,
-    pub channels: usize,
     pub sums: usize,
     pub definitions: usize,
 }
 
-// What a resolved model's tables hold: its root, and how many variables, definitions, sums and channel names it has.
+// The channel names met: node i is the name with the number i, and all hang in one search tree below node 0.
+// A tree in a table, with a hash of its own: a map of the library takes memory from a heap.
+#[derive(Drop)]
+pub struct Channels<const N: usize> {
+    pub nodes: [u64; N],
+    pub count: usize,
+}
+
+// What a model is resolved in: its nodes; for each sum the root of its branches, and its scope; and its channel names.
+// A scope is its locals and its definition in one number, in a table of its own: a state is judged by these numbers alone.
+#[derive(Drop)]
+pub struct Workspace<const N: usize> {
+    pub nodes: [u64; N],
+    pub roots: [u16; N],
+    pub scopes: [u16; N],
+    pub channels: Channels<N>,
+}
+
+// What a resolved model's tables hold: where its lists stand, and how many sums and channel names it has.
 #[derive(Clone, Copy)]
 pub struct Model {
-    pub root: usize,
-    pub variables: usize,
-    pub definitions: usize,
+    pub lists: Lists,
     pub sums: usize,
     pub channels: usize,
 }
 
-// A cell of a number has its kind below KINDS, then the number above OFFSET.
-const KINDS: u64 = 256;
-
-const OFFSET: u64 = 36028797018963968;
-
-// Ten-thousandths in one.
-const UNIT: u64 = 10000;
-
-// The kind of a node that is a decimal with `-`, of a rate or a variable.
-const NEGATIVE_DECIMAL: u8 = 32;
-
 // An item's count stands so many tokens before its name, and the kinds of items with a count so many after those without.
-const COUNT_BEFORE: usize = 2;
+pub const COUNT_BEFORE: usize = 2;
 
 const COUNTS: u8 = 2;
-
-// The kind of a node that is a channel name.
-const CHANNEL: u8 = 66;
 
 // What the words of a packed name are multiplied by for its hash, which is below PRIME.
 const FIRST: u64 = 1640531527;
@@ -78,9 +80,9 @@ fn number_cell(kind: u8, negated: bool, value: u64) -> u64
     ensures { result ≡ number_cell kind (signed negated value) }
 {
     if negated {
-        return kind as u64 + KINDS * (OFFSET - value);
+        return kind as u64 + tree::KINDS * (tree::OFFSET - value);
     }
-    kind as u64 + KINDS * (OFFSET + value)
+    kind as u64 + tree::KINDS * (tree::OFFSET + value)
 }
 
 // Whether a number of a rate or a variable has `-`, by the kind of its node.
@@ -88,7 +90,7 @@ fn number_cell(kind: u8, negated: bool, value: u64) -> u64
 fn is_negative(kind: u8) -> bool
     ensures { result ≡ (eqb kind (number_kind true false) || eqb kind (number_kind true true)) }
 {
-    kind == NodeKind::NEGATIVE_NUMBER || kind == NEGATIVE_DECIMAL
+    matches!(kind, NodeKind::NEGATIVE_NUMBER | NodeKind::NEGATIVE_DECIMAL)
 }
 
 // The cell of a number of a rate or a variable, in ten-thousandths, by its node's kind and token.
@@ -99,22 +101,20 @@ fn scale_cell(contents: &[Content], kind: u8, k: usize) -> u64
     let negated = is_negative(kind);
     let value = contents[k].low;
     if names::is_whole(kind) {
-        return number_cell(NodeKind::NUMBER, negated, value * UNIT);
+        return number_cell(NodeKind::NUMBER, negated, value * Limits::UNIT);
     }
     number_cell(NodeKind::NUMBER, negated, value)
 }
 
-// The node of the number of the variable with the name k; 0 if there is none.
-fn number_named(parsed: Parsed, k: usize) -> u64
+// The node of the number of the variable with the name k. names' `value_fault` looks it up alike: what is known there is SettingIn, here LookupIn, and a function for both
+// would ask for a third fact.
+fn number_named(parsed: Parsed, k: usize) -> Option<u64>
     requires { (h : LookupIn parsed) × IsName (kinds_in h) k }
-    ensures { (h : LookupIn parsed.entry) → IsName (kinds_in h) k → NumberNode (lows_in parsed.entry.contents.now) (word_in h) (variable_named (word_in h) k (variables_in h)) result }
+    ensures { (h : LookupIn parsed.entry) → IsName (kinds_in h) k → NumberFound (lows_in parsed.entry.contents.now) (word_in h) (variable_named (word_in h) k (variables_in h)) result }
 {
     let root = parsed.lists.root;
-    // No Option: 0 is no number's node, and callers go by its kind.
-    let Some(j) = names::listed(parsed, root, parsed.lists.variables, k) else {
-        return 0;
-    };
-    parsed.nodes[tree::left_of(parsed.nodes[root - j])]
+    let j = parsed.variable_named(k)?;
+    Some(parsed.nodes[tree::left_of(parsed.nodes[root - j])])
 }
 
 // The number of the definition with the name k.
@@ -122,8 +122,8 @@ fn definition_named(parsed: Parsed, k: usize) -> usize
     requires { (h : LookupIn parsed) × IsName (kinds_in h) k }
     ensures { (h : LookupIn parsed.entry) → IsName (kinds_in h) k → result ≡ definition_of (word_in h) (variables_in h) (definitions_of h) k }
 {
-    let first = parsed.lists.root - parsed.lists.variables;
-    names::listed(parsed, first, parsed.lists.definitions, k).unwrap_or(0)
+    // The specs number a name without a definition 0; question 9 lets none through, and the one caller needs a number.
+    parsed.definition_named(k).unwrap_or(0)
 }
 
 // The hash of a packed name. Its bits come first, so that names that begin alike part early.
@@ -133,14 +133,16 @@ fn hash_of(first: u64, second: u64) -> u64
     (first % PRIME * FIRST + second % PRIME * SECOND) % PRIME
 }
 
-// The kid of a channel name's node for a bit; 0 if there is none.
-fn kid_of(node: u64, bit: u64) -> usize
-    ensures { result ≡ kid_of node bit }
+// The kid of a channel name's node for a bit.
+fn kid_of(node: u64, bit: u64) -> Option<usize>
+    ensures { result ≡ kid_found node bit }
 {
-    if bit == 0 {
-        return tree::left_of(node);
-    }
-    tree::third_of(node)
+    let kid = if bit == 0 {
+        tree::left_of(node)
+    } else {
+        tree::third_of(node)
+    };
+    (kid != 0).then_some(kid)
 }
 
 // Makes the name k the node n, a kid of the node i for a bit.
@@ -158,34 +160,46 @@ fn hang(heard: &mut [u64], i: usize, bit: u64, n: usize, k: usize)
     tree::node(heard, i, 0, name, tree::left_of(node), n);
 }
 
-// The number of the name k among the n channel names; n if it is none of them, and then it hangs in their tree. From a name that isn't k's, the next bit of k's leads on.
-fn channel_place(contents: &[Content], heard: &mut [u64], n: usize, k: usize) -> usize
-    requires { (seen : List ℕ) × Heard (lows_in contents.now) (highs_in contents.now) heard.old n k seen }
-    ensures { (seen : List ℕ) → Heard (lows_in contents.now) (highs_in contents.now) heard.old n k seen → Sought (lows_in contents.now) (highs_in contents.now) heard.old n k seen heard.new result }
-{
-    if n == 0 {
-        tree::node(heard, 0, 0, k, 0, 0);
-        return 0;
+impl<const N: usize> Channels<N> {
+    // No channel name is met.
+    fn forget(&mut self)
+        ensures count { self.new.count ≡ 0 }
+        ensures size { length self.new.nodes ≡ N }
+    {
+        self.count = 0;
     }
-    let mut first = contents[k].low;
-    let mut second = contents[k].high;
-    let mut bits = hash_of(first, second);
-    let mut i = 0;
-    // A loop: a turn goes one node down the tree.
-    loop {
-        let node = heard[i];
-        if names::same_name(contents, k, tree::token_of(node)) {
-            return i;
+
+    // The number of the name k; a new one hangs in the tree then. From a name that isn't k's, the next bit of k's leads on.
+    fn place(&mut self, contents: &[Content], k: usize) -> usize
+        requires { (seen : List ℕ) × Heard (lows_in contents.now) (highs_in contents.now) self.old.nodes self.old.count k seen }
+        ensures { (seen : List ℕ) → Heard (lows_in contents.now) (highs_in contents.now) self.old.nodes self.old.count k seen → Sought (lows_in contents.now) (highs_in contents.now) self.old.nodes self.old.count k seen self.new.nodes self.new.count result }
+    {
+        let n = self.count;
+        if n == 0 {
+            tree::node(&mut self.nodes, 0, 0, k, 0, 0);
+            self.count = 1;
+            return 0;
         }
-        let kid = kid_of(node, bits % 2);
-        if kid == 0 {
-            hang(heard, i, bits % 2, n, k);
-            return n;
+        let mut first = contents[k].low;
+        let mut second = contents[k].high;
+        let mut bits = hash_of(first, second);
+        let mut i = 0;
+        // A loop: a turn goes one node down the tree.
+        loop {
+            let node = self.nodes[i];
+            if names::same_name(contents, k, tree::token_of(node)) {
+                return i;
+            }
+            let Some(kid) = kid_of(node, bits % 2) else {
+                hang(&mut self.nodes, i, bits % 2, n, k);
+                self.count = n + 1;
+                return n;
+            };
+            bits = bits / 2 + TOP * (first % 2);
+            first = first / 2 + TOP * (second % 2);
+            second = second / 2;
+            i = kid;
         }
-        bits = bits / 2 + TOP * (first % 2);
-        first = first / 2 + TOP * (second % 2);
-        second = second / 2;
-        i = kid;
     }
 }
 
@@ -197,7 +211,10 @@ fn scale_named(parsed: Parsed, scope: Scope, k: usize) -> u64
     if let Some(j) = names::local_named(parsed.contents, scope, k) {
         return tree::cell(NodeKind::SCALE_NAME, j, 0, 0);
     }
-    let number = number_named(parsed, k);
+    // Question 9 has told that the name is given.
+    let Some(number) = number_named(parsed, k) else {
+        unreachable!();
+    };
     scale_cell(
         parsed.contents,
         tree::kind_of(number),
@@ -213,7 +230,7 @@ fn value_named(parsed: Parsed, scope: Scope, k: usize) -> Option<u64>
     if let Some(j) = names::local_named(parsed.contents, scope, k) {
         return Some(tree::cell(NodeKind::NAMED, j, 0, 0));
     }
-    let number = number_named(parsed, k);
+    let number = number_named(parsed, k)?;
     let kind = tree::kind_of(number);
     if names::is_whole(kind) {
         return Some(number_cell(
@@ -248,6 +265,7 @@ fn parameters_of(parsed: Parsed, d: usize) -> Scope
     if lists.definitions <= d {
         return none;
     }
+    // Written out, not by first_definition: the goals below take the place as this number, and would have to be told of a call's result each.
     let at = lists.root - lists.variables - d;
     let node = parsed.nodes[tree::left_of(parsed.nodes[at])];
     names::with_locals(none, tree::token_of(node) + 2, tree::third_of(node))
@@ -256,11 +274,10 @@ fn parameters_of(parsed: Parsed, d: usize) -> Scope
 // The walk before the first definition.
 fn walk_begun(parsed: Parsed) -> Walk
     requires { LookupIn parsed }
-    ensures { (h : LookupIn parsed.entry) (heard : List ℕ) → KnowsIn parsed.entry (kinds_in h) heard result (begun (word_in h) (variables_in h) (definitions_of h)) }
+    ensures { (h : LookupIn parsed.entry) (heard : List ℕ) → KnowsIn parsed.entry (kinds_in h) heard 0 result (begun (word_in h) (variables_in h) (definitions_of h)) }
 {
     Walk {
         scope: parameters_of(parsed, 0),
-        channels: 0,
         sums: 0,
         definitions: 0,
     }
@@ -268,8 +285,8 @@ fn walk_begun(parsed: Parsed) -> Walk
 
 // The walk after a node that is no name: names come into scope at an action, and go at the end of its branch. A rate doesn't use them, as question 9 has told.
 fn walk_after(parsed: Parsed, walk: Walk, node: u64) -> Walk
-    requires { (heard : List ℕ) × TurnIn parsed heard walk node × (role_of (kind_of node) ≡ name → ⊥) }
-    ensures { (heard : List ℕ) (h : TurnIn parsed.entry heard walk node) → (role_of (kind_of node) ≡ name → ⊥) → KnowsIn parsed.entry (kinds_in h.at) heard result (turned h) }
+    requires { (heard : List ℕ) × (met : ℕ) × TurnIn parsed heard met walk node × (role_of (kind_of node) ≡ name → ⊥) }
+    ensures { (heard : List ℕ) (met : ℕ) (h : TurnIn parsed.entry heard met walk node) → (role_of (kind_of node) ≡ name → ⊥) → KnowsIn parsed.entry (kinds_in h.at) heard met result (turned h) }
 {
     let scope = walk.scope;
     match tree::kind_of(node) {
@@ -335,7 +352,7 @@ fn leaf_cell(parsed: Parsed, scope: Scope, node: u64) -> u64
             kind == NodeKind::NEGATIVE,
             parsed.contents[k].low,
         ),
-        NodeKind::NUMBER..=NEGATIVE_DECIMAL => scale_cell(parsed.contents, kind, k),
+        NodeKind::NUMBER..=NodeKind::NEGATIVE_DECIMAL => scale_cell(parsed.contents, kind, k),
         NodeKind::SCALE_NAME => scale_named(parsed, scope, k),
         NodeKind::CALL | NodeKind::CALL_WITH => call_cell(parsed, node),
         NodeKind::START..=NodeKind::COUNTED_WITH => call_cell(parsed, node),
@@ -344,9 +361,14 @@ fn leaf_cell(parsed: Parsed, scope: Scope, node: u64) -> u64
 }
 
 // The cell of a node, and the walk after it. A channel name that is met first gets the next number.
-fn settle_node(parsed: Parsed, heard: &mut [u64], walk: Walk, node: u64) -> (u64, Walk)
-    requires { TurnIn parsed heard.old walk node }
-    ensures { (h : TurnIn parsed.entry heard.old walk node) → Settled h heard.new result.0 result.1 }
+fn settle_node<const N: usize>(
+    parsed: Parsed,
+    met: &mut Channels<N>,
+    walk: Walk,
+    node: u64,
+) -> (u64, Walk)
+    requires { TurnIn parsed met.old.nodes met.old.count walk node }
+    ensures { (h : TurnIn parsed.entry met.old.nodes met.old.count walk node) → Settled h met.new.nodes met.new.count result.0 result.1 }
 {
     if tree::kind_of(node) != NodeKind::NAMED {
         let cell = leaf_cell(parsed, walk.scope, node);
@@ -356,49 +378,40 @@ fn settle_node(parsed: Parsed, heard: &mut [u64], walk: Walk, node: u64) -> (u64
     if let Some(cell) = value_named(parsed, walk.scope, k) {
         return (cell, walk);
     }
-    let c = channel_place(parsed.contents, heard, walk.channels, k);
-    let channels = walk.channels.max(c + 1);
-    (tree::cell(CHANNEL, c, 0, 0), Walk { channels, ..walk })
+    let c = met.place(parsed.contents, k);
+    (tree::cell(NodeKind::CHANNEL, c, 0, 0), walk)
 }
 
 // Resolves the model at this root: one walk over its definitions and its system line, in the text's order.
-pub fn settle(
-    contents: &[Content],
-    nodes: &mut [u64],
-    roots: &mut [u16],
-    scopes: &mut [u16],
-    heard: &mut [u64],
-    root: usize,
-) -> Model
-    requires { (lists : Lists) × (lists.root ≡ root) × Resolvable (lows_in contents.now) (highs_in contents.now) nodes.old roots.old scopes.old heard.old lists }
-    ensures represents { (lists : Lists) (h : Resolvable (lows_in contents.now) (highs_in contents.now) nodes.old roots.old scopes.old heard.old lists) → lists.root ≡ root → Represents nodes.new roots.new scopes.new result.root result.variables result.definitions result.sums result.channels (Resolved.resolved h.base.world.word h.base.world.model) }
-    ensures definitions_bound { result.variables + result.definitions ≤ result.root }
-    ensures settles { (lists : Lists) (h : Resolvable (lows_in contents.now) (highs_in contents.now) nodes.old roots.old scopes.old heard.old lists) → lists.root ≡ root → Settles h.base.world.word h.base.world.model nodes.new roots.new scopes.new result }
+pub fn settle<const N: usize>(contents: &[Content], space: &mut Workspace<N>, root: usize) -> Model
+    requires { (lists : Lists) × (lists.root ≡ root) × Resolvable (lows_in contents.now) (highs_in contents.now) space.old.nodes N lists }
+    ensures represents { (lists : Lists) (h : Resolvable (lows_in contents.now) (highs_in contents.now) space.old.nodes N lists) → lists.root ≡ root → Represents space.new.nodes space.new.roots space.new.scopes result.lists.root result.lists.variables result.lists.definitions result.sums result.channels (Resolved.resolved h.base.world.word h.base.world.model) }
+    ensures definitions_bound { result.lists.variables + result.lists.definitions ≤ result.lists.root }
+    ensures settles { (lists : Lists) (h : Resolvable (lows_in contents.now) (highs_in contents.now) space.old.nodes N lists) → lists.root ≡ root → Settles h.base.world.word h.base.world.model space.new.nodes space.new.roots space.new.scopes result }
 {
-    let lists = names::lists_of(nodes, root);
-    let line = root - lists.variables - lists.definitions;
+    let lists = names::lists_of(&space.nodes, root);
+    let line = lists.line();
     let mut walk = walk_begun(Parsed {
         contents,
-        nodes,
+        nodes: &space.nodes,
         lists,
     });
+    space.channels.forget();
     for i in lists.variables..=line {
-        let node = nodes[i];
+        let node = space.nodes[i];
         let parsed = Parsed {
             contents,
-            nodes,
+            nodes: &space.nodes,
             lists,
         };
-        let (cell, next) = settle_node(parsed, heard, walk, node);
-        mark_sum(roots, scopes, node, i, walk);
-        nodes[i] = cell;
+        let (cell, next) = settle_node(parsed, &mut space.channels, walk, node);
+        mark_sum(&mut space.roots, &mut space.scopes, node, i, walk);
+        space.nodes[i] = cell;
         walk = next;
     }
     Model {
-        root,
-        variables: lists.variables,
-        definitions: lists.definitions,
+        lists,
         sums: walk.sums,
-        channels: walk.channels,
+        channels: space.channels.count,
     }
 }

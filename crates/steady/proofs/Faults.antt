@@ -4,13 +4,14 @@ use mathlib.Core.List.{List}
 use mathlib.Core.Bool.{Bool, true, false}
 use mathlib.Core.Option.{Option, some, Option-elim}
 use mathlib.Core.Logic.{◌⊎◌, inl, inr, ⊎_elim}
-use Prim.Native.Nat.{ℕ, zero, suc, ◌+◌, ◌-◌, ◌≤◌, ◌<◌}
+use Prim.Native.Nat.{ℕ, zero, suc, ◌+◌, ◌-◌, ◌≤◌, ◌<◌, min}
 use native.Mathlib.Decide.{ℕ_discrete}
 use native.Mathlib.Omega.{arith}
 use borrow.Author.Tests.{eq-eqb, ne_eqb, lt-ltb}
 use lib.Dec.{eqb}
 use lib.ListN.{length, get_or, get_elem?}
 use Rattle.std.specs.Prelude.{None, Some}
+use Rattle.std.specs.List.{reduce, filter_map, range_with_len}
 use Rattle.token.specs.Questions.{Found}
 use Rattle.grammar.specs.Syntax
 use Rattle.tree.specs.Node as node
@@ -33,7 +34,7 @@ use Rattle.names.specs.Lists.{packed, found_of, names_down}
 use Rattle.names.specs.Placed.{IsName, sort_of, SortFits}
 use Rattle.names.specs.Settings.{World}
 use Rattle.names.proofs.Chains.{below}
-use Rattle.names.proofs.Earliest.{assoc, nothing_right}
+use Rattle.names.proofs.Earliest.{least_picked}
 use Rattle.names.proofs.Namings.{definition-found, definition-none}
 use Rattle.names.proofs.Settled.{ds, ds-at, all-definitions, root_in}
 use Rattle.names.proofs.Uses.{some-place, no_place, defined-inside}
@@ -168,7 +169,7 @@ module _ (nodes : List ℕ) (i κ token : ℕ) (κ-is : κ ≡ kind_of (get_or n
     unfolding offender_at
     no-offender a b = simp (← κ-is, ne_eqb κ 53 a, ne_eqb κ 50 (λ e. b (inl e)), ne_eqb κ 51 (λ e. b (inr e)))
 
--- ---- the loop of `first_unsteady`
+-- ---- the least of all the nodes
 module _ {low high nodes : List ℕ} {lists : Lists} (h : World Given low high nodes lists) where
   abbrev s : ℕ → Bool
   s = several_sums h.word (definitions h.model)
@@ -176,23 +177,13 @@ module _ {low high nodes : List ℕ} {lists : Lists} (h : World Given low high n
   abbrev root : ℕ
   root = lists.root
 
-  -- what was found and what is still to be judged give the answer for all the nodes
-  abbrev pub Onward : Found → ℕ → Type 0
-  Onward f i = earlier_of f (first_from s nodes i (root + 1 - i)) ≡ least (unsteady h.word h.model)
-
-  pub begins : Onward None 0
-  unfolding earlier_of
-  begins = let e : root + 1 - 0 ≡ root + 1 = omega arith in rw e (tree-first h.word h.model nodes root h.holds)
-
-  pub goes_on : (f g r : Found) (i : ℕ) → i ≤ root → g ≡ offender_at s nodes i → r ≡ earlier_of f g → Onward f i → Onward r (i + 1)
+  picked : (i n : ℕ) → reduce min (filter_map (offender_at s nodes) (range_with_len i n)) ≡ first_from s nodes i n
   unfolding first_from
-  goes_on f g r i l p q o =
-      let e : root + 1 - i ≡ suc (root + 1 - (i + 1)) = omega arith in
-      rw (q, p) (assoc f (offender_at s nodes i) (first_from s nodes (i + 1) (root + 1 - (i + 1))) ∙ rw e at o)
+  picked i zero = refl
+  picked i (suc n) = least_picked (offender_at s nodes i) (filter_map (offender_at s nodes) (range_with_len (i + 1) n)) ∙ ap (earlier_of (offender_at s nodes i)) (picked (i + 1) n)
 
-  pub ends : (f : Found) (i : ℕ) → root < i → Onward f i → f ≡ least (unsteady h.word h.model)
-  unfolding first_from
-  ends f i l o = let e : root + 1 - i ≡ 0 = omega arith in sym (nothing_right f) ∙ rw e at o
+  pub least_unsteady : reduce min (filter_map (offender_at s nodes) (range_with_len 0 (root + 1))) ≡ least (unsteady h.word h.model)
+  least_unsteady = picked 0 (root + 1) ∙ tree-first h.word h.model nodes root h.holds
 
   pub before-group : (i : ℕ) → i ≤ root → kind_of (get_or nodes i 0) ≡ 53 → 0 < i
   before-group i l e = group-above h.model nodes root h.holds i l e

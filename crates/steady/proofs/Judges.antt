@@ -4,7 +4,9 @@ use mathlib.Core.List.{List}
 use Prim.Native.Nat.{ℕ}
 use Rattle.std.specs.Prelude.{None, Some, Err, Ok}
 use Rattle.token.specs.declared.Refusal.{Refusal}
-use Rattle.token.specs.Questions.{Found, refusal}
+use Rattle.token.specs.declared.Question.TheVariants as question
+use Rattle.token.specs.Questions.{Found, question_number}
+use Rattle.token.specs.Contents.{lows_in, highs_in}
 use Rattle.token.specs.Token.{tokens}
 use Rattle.grammar.specs.Syntax
 use Rattle.model.specs.Lists.{least}
@@ -21,7 +23,8 @@ use Rattle.names.specs.Lists.{Gathered}
 use Rattle.names.specs.Settings.{World}
 use Rattle.names.proofs.Earliest.{least-append, nothing-first}
 use Rattle.names.proofs.Grounds.{world}
-use Rattle.settle.specs.declared.Model.{Model}
+use Rattle.opening.specs.declared.Space.{Space}
+use Rattle.opening.specs.declared.Accepted.{Accepted}
 use Rattle.opening.specs.Trees.{Closed, Fitted}
 use Rattle.opening.specs.Sound.{Sound, SoundOr, SoundRead}
 use Rattle.opening.specs.Models.{ModelOpened, Opens, Opened}
@@ -37,18 +40,18 @@ refused-under Steady text e = refused-so text e
 
 module _ (p : Profile) (text : List ℕ) where
   -- ---- 2 to 9
-  pub sound-no : (nodes roots scopes kinds places low high table : List ℕ) {r : SoundOr} {q : Refusal} → SoundRead text kinds places low high table r → r ≡ Err q → OpensUnder p text nodes roots scopes (Err q)
+  pub sound-no : (nodes roots scopes : List ℕ) (space : Space) {r : SoundOr} {q : Refusal} → SoundRead text space r → r ≡ Err q → OpensUnder p text nodes roots scopes (Err q)
   unfolding SoundRead OpensUnder
-  sound-no nodes roots scopes kinds places low high table {r} {q} d e = let c : Closed text q.number q.place = rw e at d in refused-under p text c.opens
+  sound-no nodes roots scopes space {r} {q} d e = let c : Closed text (question_number q.question) q.place = rw e at d in refused-under p text c.opens
 
   -- ---- 10, then 29
   module _ (nodes roots scopes : List ℕ) {o : Opened} (d : Opens text nodes roots scopes o) where
     pub start-no : {q : Refusal} → o ≡ Err q → OpensUnder p text nodes roots scopes (Err q)
     unfolding Opens OpensUnder
-    start-no {q} e = let c : opening text ≡ refused q.number q.place = rw e at d in refused-under p text c
+    start-no {q} e = let c : opening text ≡ refused (question_number q.question) q.place = rw e at d in refused-under p text c
 
-    module _ {s : Syntax.Model} {f : Found} (y : Yes5 text s) (is : f ≡ offender_under p text s) {x : Model} {c : ℕ} (e : o ≡ Ok (x, c)) where
-      model-opened : ModelOpened text nodes roots scopes x c
+    module _ {s : Syntax.Model} {f : Found} (y : Yes5 text s) (is : f ≡ offender_under p text s) {x : Accepted} (e : o ≡ Ok x) where
+      model-opened : ModelOpened text nodes roots scopes x.model x.processes
       unfolding Opens
       model-opened = rw e at d
 
@@ -60,26 +63,26 @@ module _ (p : Profile) (text : List ℕ) where
       asks : opening_under p text ≡ asked text 29 f (opened model-opened.model)
       asks = asks-under p model-opened.model model-opened.opens ∙ ap (λ (g : Found). asked text 29 g (opened model-opened.model)) (sym is)
 
-      pub offends : {k b : ℕ} → f ≡ Some k → b ≡ byte_place text k → OpensUnder p text nodes roots scopes (Err (refusal 29 b))
+      pub offends : {k b : ℕ} → f ≡ Some k → b ≡ byte_place text k → OpensUnder p text nodes roots scopes (Err (record { question = question.Steady; place = b }))
       unfolding OpensUnder asked
       offends q r = asks ∙ ap (λ (g : Found). asked text 29 g (opened model-opened.model)) q ∙ ap (refused 29) (sym r)
 
-      pub passes : f ≡ None → OpensUnder p text nodes roots scopes (Ok (x, c))
+      pub passes : f ≡ None → OpensUnder p text nodes roots scopes (Ok x)
       unfolding OpensUnder asked
       passes q = record { plain = model-opened; opens = asks ∙ ap (λ (g : Found). asked text 29 g (opened model-opened.model)) q }
 
 -- ---- the tables of a text that fits and is sound can be searched
-module _ {text : List ℕ} {s : Syntax.Model} {kinds places low high nodes : List ℕ} {root n : ℕ} (f : Fitted text s kinds places low high nodes root n) (v : Sound text s) {lists : Lists} (g : Gathered s root lists) where
+module _ {text : List ℕ} {s : Syntax.Model} {space : Space} {root : ℕ} (f : Fitted text s space root) (v : Sound text s) {lists : Lists} (g : Gathered s root lists) where
   -- 7 has passed every name
   short : least (words_beyond text 0 (tokens text)) ≡ None
   unfolding beyond
   short = nothing-first _ _ (sym (least-append (words_beyond text 0 (tokens text)) (tree_beyond (word_of text) s)) ∙ v.within)
 
-  pub searched : World Given low high nodes lists
+  pub searched : World Given (lows_in space.contents) (highs_in space.contents) space.model.nodes lists
   searched = world f.read Given (λ a. short) lists g _ refl
 
   -- and what is found is told by the text
-  pub found-so : {r : Found} → ((h : World Given low high nodes lists) → r ≡ least (unsteady h.word h.model)) → r ≡ least (unsteady (word_of text) s)
+  pub found-so : {r : Found} → ((h : World Given (lows_in space.contents) (highs_in space.contents) space.model.nodes lists) → r ≡ least (unsteady h.word h.model)) → r ≡ least (unsteady (word_of text) s)
   unfolding world
   found-so h = h (world f.read Given (λ a. short) lists g _ refl)
 

@@ -1,6 +1,6 @@
 -- What opening a text under the steady profile answers, and what the tables of an accepted one hold (02, note 11). Assumes nothing: these are definitions.
 use Rattle.std.specs.Prelude.{◌≡◌, List, ℕ, None, Err, Ok}
-use Rattle.token.specs.Questions.{Found}
+use Rattle.token.specs.Questions.{Found, question_number}
 use Rattle.grammar.specs.Syntax
 use Rattle.model.specs.Lists.{least}
 use Rattle.model.specs.Words.{word_of}
@@ -28,5 +28,5 @@ pub record OpenedUnder (profile : Profile) (text nodes roots scopes : List ℕ) 
   pub opens : opening_under profile text ≡ opened plain.model
 
 unfoldable pub OpensUnder : Profile → (text nodes roots scopes : List ℕ) → Opened → Type 0
-OpensUnder profile text nodes roots scopes (Err r) = opening_under profile text ≡ refused r.number r.place
-OpensUnder profile text nodes roots scopes (Ok (x, k)) = OpenedUnder profile text nodes roots scopes x k
+OpensUnder profile text nodes roots scopes (Err r) = opening_under profile text ≡ refused (question_number r.question) r.place
+OpensUnder profile text nodes roots scopes (Ok o) = OpenedUnder profile text nodes roots scopes o.model o.processes

@@ -4,15 +4,15 @@ use Rattle.opening.proofs.Marked.{names-marked, model-unmarked, model-marked}
 use Rattle.opening.proofs.Models.{sound-no, sound-tree, model-read}
 use Rattle.opening.proofs.read_model.Goals as goal
 
-pub settle_sound-model-requires : goal.settle_sound-model-requires
-settle_sound-model-requires c =
-    let h = sound-tree _ _ _ _ _ _ c.read_sound.ensures.sound_read c.in_ok-tree.was in
+pub settle_sound-requires : goal.settle_sound-requires
+settle_sound-requires c =
+    let h = sound-tree _ _ c.read_sound.ensures.sound_read c.in_ok-tree.was in
     (_, h.0, h.1)
 
 pub returns-in_err-tree-clause-model_read : goal.returns-in_err-tree-clause-model_read
 returns-in_err-tree-clause-model_read c =
     let p = err_from_is_err_and c.from_residual.result c.from_residual.ensures.1 in
-    rw (p.1, p.2) (sound-no _ _ _ _ _ _ c.read_sound.ensures.sound_read _ _ _ c.in_err-tree.was)
+    rw (p.1, p.2) (sound-no _ _ c.read_sound.ensures.sound_read _ _ _ c.in_err-tree.was)
 
 pub returns-in_err-tree-clause-model_marked : goal.returns-in_err-tree-clause-model_marked
 returns-in_err-tree-clause-model_marked c =
@@ -21,8 +21,8 @@ returns-in_err-tree-clause-model_marked c =
 
 pub returns : goal.returns
 returns c =
-    let h = sound-tree _ _ _ _ _ _ c.read_sound.ensures.sound_read c.in_ok-tree.was in
+    let h = sound-tree _ _ c.read_sound.ensures.sound_read c.in_ok-tree.was in
     record {
-      model_read = model-read (c.settle_sound-model.ensures.held _ h.0 h.1);
-      model_marked = rw (c.settle_sound-model.ensures.marked.0, c.settle_sound-model.ensures.marked.1) (model-marked _ (names-marked c.read_sound.ensures.sound_marked c.in_ok-tree.was));
+      model_read = model-read (c.settle_sound.ensures.held _ h.0 h.1);
+      model_marked = rw (c.settle_sound.ensures.marked.0, c.settle_sound.ensures.marked.1) (model-marked _ (names-marked c.read_sound.ensures.sound_marked c.in_ok-tree.was));
     }

@@ -1,7 +1,7 @@
 -- A case for each return, from Trees.antt; the text's length has room in the tables.
 use native.Mathlib.Omega.{arith}
 use lib.ListN.{length, length-take}
-use mathlib.Core.Path.{◌≡◌}
+use mathlib.Core.Path.{◌≡◌, refl}
 use borrow.Author.Rules.{rules}
 use Rattle.token.proofs.Tells.{filled-held}
 use Rattle.token.proofs.Up.{token-count}
@@ -38,16 +38,16 @@ contents-requires c =
 
 pub returns-in-Err-Misfit : goal.returns-in-Err-Misfit
 returns-in-Err-Misfit c =
-    record { tree_read = misfit-no c.fill-n.ensures _ _ c.judge_text-asked.ensures c.requires _ _ c.in-Err-Misfit.is (rw c.in-Err-Misfit.is at c.in-Err-Misfit.field-0-is) c.byte_place.ensures; marked = filled-marked c.fill-n.ensures }
+    record { tree_read = misfit-no c.fill-n.ensures _ _ c.judge_text-asked.ensures c.requires _ c.in-Err-Misfit.is (rw c.in-Err-Misfit.is at c.in-Err-Misfit.field-0-is) c.byte_place.ensures; marked = filled-marked c.fill-n.ensures }
 
 pub returns-in-Err-Crowded : goal.returns-in-Err-Crowded
 returns-in-Err-Crowded c =
-    record { tree_read = crowded-no c.fill-n.ensures _ _ c.judge_text-asked.ensures c.requires _ _ c.in-Err-Crowded.is (rw c.in-Err-Crowded.is at c.in-Err-Crowded.field-0-is) c.byte_place-in-Err-Crowded.ensures; marked = filled-marked c.fill-n.ensures }
+    record { tree_read = crowded-no c.fill-n.ensures _ _ c.judge_text-asked.ensures c.requires _ c.in-Err-Crowded.is (rw c.in-Err-Crowded.is at c.in-Err-Crowded.field-0-is) c.byte_place-in-Err-Crowded.ensures; marked = filled-marked c.fill-n.ensures }
 
 pub returns-in-Ok : goal.returns-in-Ok
 returns-in-Ok c =
-    let a : length c.args.space.now.nodes ≡ 4096 = search rules in
-    record { tree_read = fits-yes c.fill-n.ensures _ _ c.judge_text-asked.ensures c.requires (omega arith) c.in-Ok.is c.contents.ensures; marked = filled-marked c.fill-n.ensures }
+    let a : length c.args.space.now.model.nodes ≡ 4096 = search rules in
+    record { tree_read = fits-yes c.fill-n.ensures _ _ c.judge_text-asked.ensures c.requires _ refl refl refl refl (omega arith) c.in-Ok.is c.contents.ensures; marked = filled-marked c.fill-n.ensures }
 
 pub shared_ref_as_front-judge_text : goal.shared_ref_as_front-judge_text
 shared_ref_as_front-judge_text c =

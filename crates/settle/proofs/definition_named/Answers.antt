@@ -4,18 +4,18 @@ use mathlib.Core.Path.{◌∙◌}
 use native.Mathlib.Omega.{arith}
 use Rattle.settle.proofs.definition_named.Goals as goal
 
-pub listed-requires-clause-k_in_bounds : goal.listed-requires-clause-k_in_bounds
-listed-requires-clause-k_in_bounds c =
+pub definition_named-requires-clause-k_in_bounds : goal.definition_named-requires-clause-k_in_bounds
+definition_named-requires-clause-k_in_bounds c =
     omega (arith, (in_tables c.requires.0 c.args.k c.requires.1).0, length-lows c.args.parsed.contents.now)
 
-pub overflow_sub-first : goal.overflow_sub-first
-overflow_sub-first c =
+pub definition_named-requires-clause-below : goal.definition_named-requires-clause-below
+definition_named-requires-clause-below c =
     omega (arith, variables-below c.requires.0)
 
-pub listed-requires-clause-reach : goal.listed-requires-clause-reach
-listed-requires-clause-reach c =
+pub definition_named-requires-clause-reach : goal.definition_named-requires-clause-reach
+definition_named-requires-clause-reach c =
     definitions-reach c.requires.0
 
 pub returns : goal.returns
 returns c =
-    λ h e. c.unwrap_or.ensures ∙ number-or h c.args.k e c.listed.ensures
+    λ h e. c.unwrap_or.ensures ∙ number-or h c.args.k e c.definition_named.ensures

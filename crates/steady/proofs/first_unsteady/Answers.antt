@@ -1,16 +1,22 @@
-use Prim.Native.Nat.{◌+◌}
+-- `first_unsteady` meets its contract: the least of what the nodes give.
+use mathlib.Core.Path.{refl, sym, ◌∙◌}
 use native.Mathlib.Omega.{arith}
-use Rattle.steady.proofs.Faults.{begins, goes_on, ends}
+use Prim.Native.Nat.{◌+◌}
+use Rattle.std.proofs.Common.{rules, tests}
+use Rattle.std.proofs.lemmas.Iterator.{YieldsList-from_range}
+use Rattle.std.proofs.lemmas.Iterator.Adapters.{option_map_id}
+use Rattle.std.proofs.lemmas.Iterator.Consumers.{YieldsList-at, YieldsList-from_filter_map, min_from_yields_List}
+use Rattle.names.proofs.Settled.{root_in}
+use Rattle.model.specs.Sites.{definitions}
+use Rattle.profile.specs.Unsteady.{several_sums}
+use Rattle.steady.specs.Scan.{offender_at}
+use Rattle.steady.proofs.Faults.{least_unsteady}
 use Rattle.steady.proofs.first_unsteady.Goals as goal
 
-pub loop-i-init : goal.loop-i-init
-loop-i-init c =
-    λ h. begins h
+pub returns : goal.returns
+returns c =
+    λ h. sym (option_map_id _) ∙ min_from_yields_List _ _ c.min.ensures.ran (YieldsList-from_filter_map _ (offender_at (several_sums h.word (definitions h.model)) c.args.parsed.nodes.now) (YieldsList-at c.filter_map.ensures.source (YieldsList-from_range 0 (c.args.parsed.lists.root + 1) (c.args.parsed.lists.root + 1) refl (omega arith))) c.filter_map.ensures.closure (λ x r q k. search (rules, tests))) ∙ least_unsteady h
 
-pub loop-i-preserved : goal.loop-i-preserved
-loop-i-preserved c =
-    λ h. goes_on h c.loop-i.found c.node_fault.result c.earlier-found.result c.loop-i.i c.loop-i-test.true (c.node_fault.ensures h) c.earlier-found.ensures (c.loop-i.invariant h)
-
-pub returns-2 : goal.returns-2
-returns-2 c =
-    λ h. ends h c.earlier-found.result (c.loop-i.i + 1) (omega arith) (goes_on h c.loop-i.found c.node_fault.result c.earlier-found.result c.loop-i.i c.loop-i-test.true (c.node_fault.ensures h) c.earlier-found.ensures (c.loop-i.invariant h))
+pub overflow_add-parsed : goal.overflow_add-parsed
+overflow_add-parsed c =
+    omega (arith, root_in c.requires)

@@ -11,6 +11,7 @@ use lib.ListN.{get_or}
 use Rattle.value.proofs.Kit.{true-not-false}
 use Rattle.grammar.specs.Syntax.{Join, without, union, inter}
 use Rattle.tree.specs.Node.{left_of, join_kind}
+use Rattle.std.specs.Prelude.{Some, None, Option as RustOption}
 use Rattle.model.specs.Resolved
 use Rattle.rules.specs.Offers as offers
 use Rattle.tables.specs.Settled.{Expr, Set}
@@ -24,7 +25,8 @@ use Rattle.eval.specs.Shown
 use Rattle.eval.proofs.Operators.{op-range, op-once}
 use Rattle.eval.proofs.Exprs.{expr-kind}
 use Rattle.eval.proofs.Sets.{join-range}
-use Rattle.eval.proofs.Ends.{beyond-mark}
+use Rattle.eval.specs.declared.offer.OfferSet.{OfferSet}
+use Rattle.eval.proofs.Ends.{rooted-at, ranged-as}
 
 -- ---- a node holds one expression, and one set
 module _ (t : List ℕ) where
@@ -84,13 +86,11 @@ module _ (t : List ℕ) where
 
 -- ---- numbers that show two things show the same
 module _ {t : List ℕ} {ls : List ℤ} where
-  pub sets-alike : {a b : ℤ} {x y : offers.Set} → Shown.ShowsSet t ls a b x → Shown.ShowsSet t ls a b y → x ≡ y
-  sets-alike (Shown.ranged p q h) (Shown.ranged r s k) = let i = sym p ∙ r in let j = sym q ∙ s in rw (i, j)
-  sets-alike (Shown.ranged p q h) (Shown.rooted r s k) = beyond-mark (sym q ∙ s) h
-  sets-alike (Shown.rooted p q h) (Shown.ranged r s k) = beyond-mark (sym s ∙ q) k
-  sets-alike {x = x} {y = y} (Shown.rooted {i = i} p q h) (Shown.rooted {i = j} r s k) =
-      let n : i ≡ j = cc in
-      let e = set-once t h.set k.set j (rw n at h.at) k.at in
+  pub sets-alike : {s : OfferSet} {x y : offers.Set} → Shown.ShowsSet t ls s x → Shown.ShowsSet t ls s y → x ≡ y
+  sets-alike (Shown.ranged {x = a} {y = b} p h) w = sym (ranged-as t ls a b p w)
+  sets-alike {x = x} {y = y} (Shown.rooted {i = i} p h) w =
+      let k = rooted-at t ls i p w in
+      let e = set-once t h.set k.set i h.at k.at in
       some_is x y (sym h.worth ∙ (ap (eval_set ls) e ∙ k.worth))
 
 values-alike : {n : ℕ} {a b c d : ℤ} {vs ws : List ℤ} → Shown.ShowsValues n a b c d vs → Shown.ShowsValues n a b c d ws → vs ≡ ws
@@ -187,14 +187,6 @@ module _ {t : List ℕ} {ls : List ℤ} {r : Offer} where
   pub actions-alike : {a b : offers.Action} → Shown.ShowsAction t ls r a → Shown.ShowsAction t ls r b → a ≡ b
   actions-alike x y = rebuilds x ∙ (ap (rebuilt r.kind) (bears-once (bears x) (bears y)) ∙ sym (rebuilds y))
 
-  action-kind : {a : offers.Action} → Shown.ShowsAction t ls r a → 36 ≤ r.kind
-  action-kind x = go (bears x)
-    where
-      go : {p : Payload} → Bears t ls r p → 36 ≤ r.kind
-      go (bears-none e) = omega arith
-      go (bears-pair g h c q) = omega arith
-      go (bears-query g h c q) = omega arith
-
 -- ---- offers
 
 -- what is asked of a branch, with a gate or without: no value, hidden, or an action and its rate
@@ -207,31 +199,25 @@ meant (some offers.shut) = some none
 meant (some (offers.bare a n)) = some (some (a, n))
 meant (some (offers.opened a n)) = some (some (a, n))
 
--- the same of numbers
-data Means (t : List ℕ) (ls : List ℤ) (r : Offer) : Meaning → Type 0 where
-  lacks : r.kind ≡ 1 → Means t ls r none
-  hides : r.kind ≡ 0 → Means t ls r (some none)
-  acts : {a : offers.Action} {n : ℕ} → Shown.ShowsAction t ls r a → r.rate ≡ n → Means t ls r (some (some (a, n)))
+-- the same of an offer
+data Means (t : List ℕ) (ls : List ℤ) : RustOption (RustOption Offer) → Meaning → Type 0 where
+  lacks : Means t ls None none
+  hides : Means t ls (Some None) (some none)
+  acts : {r : Offer} {a : offers.Action} {n : ℕ} → Shown.ShowsAction t ls r a → r.rate ≡ n → Means t ls (Some (Some r)) (some (some (a, n)))
 
 module _ {t : List ℕ} {ls : List ℤ} where
-  means : {g : Option offers.Guard} {r : Offer} → Shown.ShowsOffer t ls g r → Means t ls r (meant g)
-  unfolding meant Shown.bare_offer
-  means (Shown.missing e) = lacks (ap (λ (o : Offer). o.kind) e)
-  means (Shown.shut e) = hides (ap (λ (o : Offer). o.kind) e)
-  means (Shown.bare h e) = acts h e
-  means (Shown.opened h e) = acts h e
+  means : {g : Option offers.Guard} {r : RustOption (RustOption Offer)} → Shown.ShowsOffer t ls g r → Means t ls r (meant g)
+  unfolding meant
+  means Shown.missing = lacks
+  means (Shown.there Shown.shut) = hides
+  means (Shown.there (Shown.bare h e)) = acts h e
+  means (Shown.there (Shown.opened h e)) = acts h e
 
-  means-once : {r : Offer} {p q : Meaning} → Means t ls r p → Means t ls r q → p ≡ q
-  means-once (lacks e) (lacks f) = refl
-  means-once (lacks e) (hides f) = absurd (omega arith)
-  means-once (lacks e) (acts h f) = absurd (omega (arith, action-kind h))
-  means-once (hides e) (lacks f) = absurd (omega arith)
-  means-once (hides e) (hides f) = refl
-  means-once (hides e) (acts h f) = absurd (omega (arith, action-kind h))
-  means-once (acts g e) (lacks f) = absurd (omega (arith, action-kind g))
-  means-once (acts g e) (hides f) = absurd (omega (arith, action-kind g))
+  means-once : {r : RustOption (RustOption Offer)} {p q : Meaning} → Means t ls r p → Means t ls r q → p ≡ q
+  means-once lacks lacks = refl
+  means-once hides hides = refl
   means-once (acts g e) (acts h f) = let i = actions-alike g h in let j = sym e ∙ f in rw (i, j)
 
-  -- the numbers of an offer show one action and rate
-  pub offers-alike : {g h : Option offers.Guard} {r : Offer} → Shown.ShowsOffer t ls g r → Shown.ShowsOffer t ls h r → meant g ≡ meant h
+  -- an offer shows one action and rate
+  pub offers-alike : {g h : Option offers.Guard} {r : RustOption (RustOption Offer)} → Shown.ShowsOffer t ls g r → Shown.ShowsOffer t ls h r → meant g ≡ meant h
   offers-alike x y = means-once (means x) (means y)

@@ -16,7 +16,8 @@ use Rattle.rules.specs.Pairs.{item_kind, item_value}
 use Rattle.tables.specs.Settled.{Item, Channel}
 use Rattle.tables.proofs.Parts.{pair-above, pair-second}
 use Rattle.machine.specs.Evaluate.{valued, given, eval_item, eval_channel}
-use Rattle.std.specs.Prelude.{Some, Option as RustOption}
+use Rattle.std.specs.Prelude.{Some, None, Option as RustOption}
+use Rattle.eval.proofs.Shapes.{lacks-first, lacks-second}
 use Rattle.eval.specs.declared.channel.Item.{Item as AnItem}
 use Rattle.eval.specs.declared.channel.Item.TheVariants.{Name}
 use Rattle.eval.specs.declared.channel.Channel.{Channel as AChannel}
@@ -101,6 +102,12 @@ module _ (t : List ℕ) (k kind : ℕ) (is : kind ≡ kind_of (get_or t k 0)) wh
       go (two_items a b) p g = (pair-above p, record { part = a; at = p.holds-first; fit = g.0 })
       go (three_items a b c) p g = (omega (arith, p.above), record { part = a; at = p.holds-first; fit = g.0 })
 
+  pub first_lacks : (kind < 67 → ⊥) → (ls : List ℤ) → IsItem t ls (left_of (get_or t k 0)) None → IsChannel t ls k None
+  unfolding Channel eval_channel channel_answer item_answer
+  first_lacks h ls u (one_item x) p = absurd (h (omega (arith, is, item-kind t k x p)))
+  first_lacks h ls u (two_items x y) p = lacks-first (eval_item ls x) _ (u x p.holds-first)
+  first_lacks h ls u (three_items x y z) p = lacks-first (eval_item ls x) _ (u x p.holds-first)
+
   -- two items
   module _ (h : kind ≡ 67) where
     pub two-part : (m : Resolved.Model) (n : ℕ) → Held (Channel t) (GoodName m n) k → GoodAt t m n (k - 1)
@@ -140,3 +147,9 @@ module _ (t : List ℕ) (k kind : ℕ) (is : kind ≡ kind_of (get_or t k 0)) wh
     three-is ls a b c r u v w f (three_items x y z) p =
         let e : p.right ≡ k - 1 = omega (arith, p.above) in
         f (eval_item ls x) (eval_item ls y) (eval_item ls z) (u x p.holds-first) (v y p.holds-second) (w z (subst (Item t z) e p.holds-third))
+
+    pub second_lacks : (ls : List ℤ) → IsItem t ls (middle_of (get_or t k 0)) None → IsChannel t ls k None
+    unfolding Channel eval_channel channel_answer item_answer
+    second_lacks ls v (one_item x) p = absurd (g (omega (arith, is, item-kind t k x p)))
+    second_lacks ls v (two_items x y) p = absurd (h (is ∙ p.kind-is))
+    second_lacks ls v (three_items x y z) p = lacks-second (eval_item ls x) (eval_item ls y) _ (v y p.holds-second)

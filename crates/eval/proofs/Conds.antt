@@ -17,6 +17,7 @@ use Rattle.tables.specs.Settled.{Cond}
 use Rattle.tables.proofs.Parts.{pair-above, pair-second}
 use Rattle.model.specs.Good.{GoodCond}
 use Rattle.machine.specs.Evaluate.{valued, given, related, eval_cond}
+use Rattle.std.specs.Prelude.{None}
 use Rattle.eval.specs.Held.{Held, Worth}
 use Rattle.eval.specs.Skips.{skips}
 use Rattle.eval.specs.Answers.{Truth, truth_of, truth}
@@ -74,6 +75,12 @@ module _ (t : List ℕ) (k kind : ℕ) (is : kind ≡ kind_of (get_or t k 0)) wh
   compare-is ls x y q l v w u (Resolved.compare b r e f) a = rw (← v e a.holds-first, ← w f (pair-second a)) (u b r (is ∙ a.kind-is))
   compare-is ls x y q l v w u (Resolved.both c d) a = absurd (omega (arith, a.kind-is))
   compare-is ls x y q l v w u (Resolved.either c d) a = absurd (omega (arith, a.kind-is))
+
+  pub compare-lacks : (ls : List ℤ) → kind < 27 → IsExpr t ls (left_of (get_or t k 0)) None → IsCond t ls k None
+  unfolding Cond eval_cond truth valued truth_of
+  compare-lacks ls l v (Resolved.compare b r e f) a = rw (← v e a.holds-first)
+  compare-lacks ls l v (Resolved.both c d) a = absurd (omega (arith, a.kind-is))
+  compare-lacks ls l v (Resolved.either c d) a = absurd (omega (arith, a.kind-is))
 
   module _ (l : 27 ≤ kind) where
     pub cond-parts : (n : ℕ) → SomeCond t n k → (1 ≤ k) × (left_of (get_or t k 0) < k) × SomeCond t n (left_of (get_or t k 0)) × SomeCond t n (k - 1)

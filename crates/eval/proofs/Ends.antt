@@ -6,28 +6,61 @@ use mathlib.Core.Option.{Option, some}
 use Prim.Native.Nat.{ℕ, ◌+◌, ◌-◌, ◌≤◌, ◌<◌}
 use native.Mathlib.Omega.{arith}
 use borrow.Author.Tests.{ltb-true, ltb-false}
-use lib.Dec.{T, ltb, lit<}
+use lib.Dec.{ltb, lit<}
 use lib.IntN.{ℤ, pos, nat_abs}
 use lib.ListN.{length, get_or, get_or-eq_default}
 use Rattle.value.specs.Range.{farthest, InRange, Value}
 use Rattle.value.proofs.Kit.{false-not-true, ok-fits, bits-eq}
-use lib.Signed.{non_neg}
 use mir.Syntax.{w64}
-use mir.Val.{Fits, SFits, of_z, to_z}
-use mir.Facts.{to_z-of_z}
-use Rattle.std.specs.Prelude.{None, Some}
+use mir.Val.{SFits, of_z}
+use Rattle.std.specs.Prelude.{None, Some, cond, Option as RustOption}
+use Rattle.std.specs.Ordering.{int_eq}
+use Rattle.std.proofs.lemmas.Bool.Decides.{Decides-int_eq}
+use Rattle.eval.specs.declared.offer.OfferSet.{OfferSet}
+use Rattle.eval.specs.declared.offer.OfferSet.TheVariants.{Range, Joined}
 use Rattle.tree.specs.Node.{kind_of, left_of}
 use Rattle.model.specs.Resolved
 use Rattle.rules.specs.Offers as offers
 use Rattle.tables.specs.Settled.{Set, OneOrTwo}
 use Rattle.tables.proofs.Parts.{pair-second}
 use Rattle.machine.specs.Evaluate.{valued, given, eval_set, eval_all}
+use Rattle.std.specs.Bool.{then_some}
 use Rattle.eval.specs.Held.{Sound}
-use Rattle.eval.specs.Shown.{joined_mark, Rooted, ShowsSet, ranged, rooted, one, two, range_ends, one_set, two_sets, Ends as Answer, ShowsEnds, are, missing, SetShown, ListsSets, all, SetsListed}
+use Rattle.eval.specs.Shown.{joined_mark, set_in, Numbered, Rooted, ShowsSet, ranged, rooted, one, two, ShowsEnds, are, missing, SetShown, ListsSets, all, SetsListed}
 use Rattle.eval.specs.Shown as shown
-use Rattle.eval.proofs.Exprs.{IsExpr, expr-kind}
+use Rattle.eval.proofs.Exprs.{IsExpr, expr-kind, expr-some}
 use Rattle.eval.proofs.Sets.{SomeSet, Ends, join-range}
 use Rattle.eval.proofs.Lists.{came, lacks, set-low}
+
+-- a set, if its ends are there
+abbrev Answer : Type 0
+Answer = RustOption OfferSet
+
+-- the range, if both ends are there
+unfoldable pub range_ends : Value → Value → Answer
+range_ends (Some a) (Some b) = Some (Range a b)
+range_ends (Some a) None = None
+range_ends None y = None
+
+-- ---- a set in two numbers
+pub joined-in : (a b : ℤ) → b ≡ joined_mark → set_in a b ≡ Joined (nat_abs a)
+unfolding set_in
+joined-in a b e = rw ((Decides-int_eq b joined_mark).1 e)
+
+pub ranged-in : (a b : ℤ) → (b ≡ joined_mark → ⊥) → set_in a b ≡ Range a b
+unfolding set_in
+ranged-in a b n = go (int_eq b joined_mark) refl
+  where
+    go : (p : Bool) → int_eq b joined_mark ≡ p → cond p (Joined (nat_abs a)) (Range a b) ≡ Range a b
+    go true e = absurd (n ((Decides-int_eq b joined_mark).0 e))
+    go false e = refl
+
+-- no value is the mark
+pub range-in : (a : ℤ) {b : ℤ} → InRange b → set_in a b ≡ Range a b
+range-in a {b} h = ranged-in a b (λ e. let g : InRange joined_mark = subst InRange e h in false-not-true g.high)
+
+pub root-in : (k : ℕ) → set_in (pos k) joined_mark ≡ Joined k
+root-in k = joined-in (pos k) joined_mark refl
 
 module _ (t : List ℕ) (k kind : ℕ) (is : kind ≡ kind_of (get_or t k 0)) where
   -- a node of any kind lies in the table
@@ -45,7 +78,7 @@ module _ (t : List ℕ) (k kind : ℕ) (is : kind ≡ kind_of (get_or t k 0)) wh
     single-shown x l w h (Resolved.single e) a = rw (← w e a) (go x h)
       where
         go : (v : Value) → Sound v → ShowsEnds t ls (valued v (λ z. some (offers.range z z))) (range_ends v v)
-        go (Some z) h = are (ranged refl refl h)
+        go (Some z) h = are (ranged refl h)
         go None h = missing
     single-shown x l w h (Resolved.range e f) a = absurd (omega (arith, a.kind-is))
     single-shown x l w h (Resolved.joined j s r) a = absurd (omega (arith, a.kind-is, join-range j))
@@ -56,74 +89,120 @@ module _ (t : List ℕ) (k kind : ℕ) (is : kind ≡ kind_of (get_or t k 0)) wh
     range-shown x y l v w h (Resolved.range e f) a = rw (← v e a.holds-first, ← w f (pair-second a)) (go x y h)
       where
         go : (p q : Value) → Sound q → ShowsEnds t ls (valued p (λ z. valued q (λ u. some (offers.range z u)))) (range_ends p q)
-        go (Some z) (Some u) h = are (ranged refl refl h)
+        go (Some z) (Some u) h = are (ranged refl h)
         go (Some z) None h = missing
         go None q h = missing
     range-shown x y l v w h (Resolved.joined j s r) a = absurd (omega (arith, a.kind-is, join-range j))
 
+    pub range-lacks : kind ≡ 11 → IsExpr t ls (left_of (get_or t k 0)) None → SetShown t ls k None
+    unfolding Set eval_set valued
+    range-lacks l v (Resolved.single e) a = absurd (omega (arith, expr-kind t k e a))
+    range-lacks l v (Resolved.range e f) a = rw (← v e a.holds-first) missing
+    range-lacks l v (Resolved.joined j s r) a = absurd (omega (arith, a.kind-is, join-range j))
+
     module _ (b : Bool) (w : Ends t ls k b) where
-      pub root-shown : SomeSet t (length ls) k → b ≡ true → SetShown t ls k (Some (pos k, joined_mark))
+      pub root-shown : SomeSet t (length ls) k → b ≡ true → SetShown t ls k (Some (Joined k))
       root-shown h e s a =
           let c = came t ls s k a b w e in
-          rw c.is (are (rooted refl refl (record { held = h; set = s; at = a; worth = c.is })))
+          rw c.is (are (rooted refl (record { held = h; set = s; at = a; worth = c.is })))
 
       pub root-missing : b ≡ false → SetShown t ls k None
       root-missing e s a = rw (lacks t ls s k a b w e) missing
 
+    pub root-tried : (b : Bool) → Ends t ls k b → SomeSet t (length ls) k → SetShown t ls k (then_some b (Joined k))
+    root-tried true w h = root-shown true w h refl
+    root-tried false w h = root-missing false w refl
+
     -- ---- one or two
-    pub one-listed : (x : Answer) → (kind ≡ 35 → ⊥) → SetShown t ls k x → SetsListed t ls k (one_set x)
-    unfolding OneOrTwo eval_all given one_set
-    one-listed x h w [] a = absurd a
-    one-listed x h w (s ∷ []) a = go (w s a)
+    pub one-listed : (u : OfferSet) (b c : ℤ) → set_in b c ≡ u → (kind ≡ 35 → ⊥) → SetShown t ls k (Some u)
+        → SetsListed t ls k (Some (record { count = 1; first = b; first_end = c; second = pos 0; second_end = pos 0 }))
+    unfolding OneOrTwo eval_all given
+    one-listed u b c e h w [] a = absurd a
+    one-listed u b c e h w (s ∷ []) a = go (w s a)
       where
-        go : {o : Option offers.Set} {y : Answer} → ShowsEnds t ls o y → ListsSets t ls (one_set y) (given o (λ z. given (some []) (λ zs. some (z ∷ zs))))
-        go (are q) = all (one refl q refl refl)
+        go : {o : Option offers.Set} → ShowsEnds t ls o (Some u)
+            → ListsSets t ls (Some (record { count = 1; first = b; first_end = c; second = pos 0; second_end = pos 0 })) (given o (λ z. given (some []) (λ zs. some (z ∷ zs))))
+        go (are q) = all (one refl (rw e q) refl refl)
+    one-listed u b c e h w (s ∷ r ∷ []) a = absurd (h (is ∙ a.kind-is))
+    one-listed u b c e h w (s ∷ r ∷ q ∷ ss) a = absurd a
+
+    pub one-lacks : (kind ≡ 35 → ⊥) → SetShown t ls k None → SetsListed t ls k None
+    unfolding OneOrTwo eval_all given
+    one-lacks h w [] a = absurd a
+    one-lacks h w (s ∷ []) a = go (w s a)
+      where
+        go : {o : Option offers.Set} → ShowsEnds t ls o None → ListsSets t ls None (given o (λ z. given (some []) (λ zs. some (z ∷ zs))))
         go missing = shown.missing
-    one-listed x h w (s ∷ r ∷ []) a = absurd (h (is ∙ a.kind-is))
-    one-listed x h w (s ∷ r ∷ q ∷ ss) a = absurd a
+    one-lacks h w (s ∷ r ∷ []) a = absurd (h (is ∙ a.kind-is))
+    one-lacks h w (s ∷ r ∷ q ∷ ss) a = absurd a
 
-    pub two-listed : (x y : Answer) → kind ≡ 35 → SetShown t ls (left_of (get_or t k 0)) x → SetShown t ls (k - 1) y → SetsListed t ls k (two_sets x y)
-    unfolding OneOrTwo eval_all given two_sets
-    two-listed x y h v w [] a = absurd a
-    two-listed x y h v w (s ∷ []) a = absurd (omega (arith, set-low t k kind is s a))
-    two-listed x y h v w (s ∷ r ∷ []) a = go (v s a.holds-first) (w r (pair-second a))
+    pub two-listed : (u z : OfferSet) (b c d e : ℤ) → set_in b c ≡ u → set_in d e ≡ z → kind ≡ 35 → SetShown t ls (left_of (get_or t k 0)) (Some u) → SetShown t ls (k - 1) (Some z)
+        → SetsListed t ls k (Some (record { count = 2; first = b; first_end = c; second = d; second_end = e }))
+    unfolding OneOrTwo eval_all given
+    two-listed u z b c d e f g h v w [] a = absurd a
+    two-listed u z b c d e f g h v w (s ∷ []) a = absurd (omega (arith, set-low t k kind is s a))
+    two-listed u z b c d e f g h v w (s ∷ r ∷ []) a = go (v s a.holds-first) (w r (pair-second a))
       where
-        go : {o p : Option offers.Set} {u z : Answer} → ShowsEnds t ls o u → ShowsEnds t ls p z → ListsSets t ls (two_sets u z) (given o (λ b. given (given p (λ c. given (some []) (λ zs. some (c ∷ zs)))) (λ zs. some (b ∷ zs))))
-        go (are q) (are d) = all (two refl q d)
+        go : {o p : Option offers.Set} → ShowsEnds t ls o (Some u) → ShowsEnds t ls p (Some z)
+            → ListsSets t ls (Some (record { count = 2; first = b; first_end = c; second = d; second_end = e })) (given o (λ b. given (given p (λ c. given (some []) (λ zs. some (c ∷ zs)))) (λ zs. some (b ∷ zs))))
+        go (are q) (are m) = all (two refl (rw f q) (rw g m))
+    two-listed u z b c d e f g h v w (s ∷ r ∷ q ∷ ss) a = absurd a
+
+    pub two-lack : kind ≡ 35 → SetShown t ls (left_of (get_or t k 0)) None → SetsListed t ls k None
+    unfolding OneOrTwo eval_all given
+    two-lack h v [] a = absurd a
+    two-lack h v (s ∷ []) a = absurd (omega (arith, set-low t k kind is s a))
+    two-lack h v (s ∷ r ∷ []) a = go (v s a.holds-first)
+      where
+        go : {o : Option offers.Set} → ShowsEnds t ls o None → ListsSets t ls None (given o (λ b. given (given (eval_set ls r) (λ c. given (some []) (λ zs. some (c ∷ zs)))) (λ zs. some (b ∷ zs))))
+        go missing = shown.missing
+    two-lack h v (s ∷ r ∷ q ∷ ss) a = absurd a
+
+    pub second-lacks : (u : OfferSet) → kind ≡ 35 → SetShown t ls (left_of (get_or t k 0)) (Some u) → SetShown t ls (k - 1) None → SetsListed t ls k None
+    unfolding OneOrTwo eval_all given
+    second-lacks u h v w [] a = absurd a
+    second-lacks u h v w (s ∷ []) a = absurd (omega (arith, set-low t k kind is s a))
+    second-lacks u h v w (s ∷ r ∷ []) a = go (v s a.holds-first) (w r (pair-second a))
+      where
+        go : {o p : Option offers.Set} → ShowsEnds t ls o (Some u) → ShowsEnds t ls p None → ListsSets t ls None (given o (λ b. given (given p (λ c. given (some []) (λ zs. some (c ∷ zs)))) (λ zs. some (b ∷ zs))))
         go (are q) missing = shown.missing
-        go missing d = shown.missing
-    two-listed x y h v w (s ∷ r ∷ q ∷ ss) a = absurd a
+    second-lacks u h v w (s ∷ r ∷ q ∷ ss) a = absurd a
 
--- ---- a set that two numbers show
+-- a set's node is of some kind
+set-some : (t : List ℕ) (k : ℕ) (s : Resolved.Set) → Set t s k → 1 ≤ kind_of (get_or t k 0)
+unfolding Set
+set-some t k (Resolved.single e) a = expr-some t k e a
+set-some t k (Resolved.range e f) a = omega (arith, a.kind-is)
+set-some t k (Resolved.joined j s r) a = omega (arith, a.kind-is, join-range j)
 
--- no value is the mark
-pub beyond-mark : {A : Type 0} {y : ℤ} → y ≡ joined_mark → InRange y → A
-beyond-mark e h = let g : InRange joined_mark = subst InRange e h in false-not-true g.high
+-- a set that stands in the table has numbers
+module _ (t : List ℕ) (ls : List ℤ) (u : OfferSet) (long : length t < 9223372036854775808) where
+  pub shown-numbered : {x : offers.Set} → ShowsSet t ls u x → Numbered u
+  unfolding Numbered
+  shown-numbered (ranged {x = a} {y = b} p h) = subst Numbered (sym p) h
+  shown-numbered (rooted {i = i} p r) =
+      let l : i < length t = inside t i (kind_of (get_or t i 0)) refl (set-some t i r.set r.at) in
+      let m : i < 9223372036854775808 = omega (arith, long) in
+      subst Numbered (sym p) m
 
-module _ (t : List ℕ) (ls : List ℤ) (a b : ℤ) where
-  -- it is given by its root
-  pub record Root (x : offers.Set) : Type 0 where
-    pub root : ℕ
-    pub is : a ≡ pos root
-    pub at : Rooted t ls x root
+  pub set-numbered : (k : ℕ) → SomeSet t (length ls) k → SetShown t ls k (Some u) → Numbered u
+  set-numbered k h w = go (w h.part h.at)
+    where
+      go : {o : Option offers.Set} → ShowsEnds t ls o (Some u) → Numbered u
+      go (are q) = shown-numbered q
 
-  pub marked : {x : offers.Set} → b ≡ joined_mark → ShowsSet t ls a b x → Root x
-  marked e (ranged p q h) = beyond-mark (sym q ∙ e) h
-  marked e (rooted {i = i} p q r) = record { root = i; is = p; at = r }
+-- ---- a set that an offer shows
+module _ (t : List ℕ) (ls : List ℤ) {s : OfferSet} where
+  pub rooted-at : {x : offers.Set} (i : ℕ) → s ≡ Joined i → ShowsSet t ls s x → Rooted t ls x i
+  rooted-at i e (ranged {x = a} {y = b} p h) = let d : Range a b ≡ Joined i = sym p ∙ e in absurd (let z : ◌≡◌ {A = ℕ} 0 1 = cc in omega arith)
+  rooted-at {x = x} i e (rooted {i = j} p r) = let d : Joined j ≡ Joined i = sym p ∙ e in let n : j ≡ i = cc in subst (Rooted t ls x) n r
 
-  pub unmarked : {x : offers.Set} (v : ℤ) (r : Bool) → (b ≡ joined_mark → ⊥) → r ≡ offers.within (offers.range a b) v → ShowsSet t ls a b x → r ≡ offers.within x v
-  unmarked v r n e (ranged {x = x} {y = y} p q h) = rw (← p, ← q) e
-  unmarked v r n e (rooted p q d) = absurd (n q)
+  pub ranged-as : {x : offers.Set} (a b : ℤ) → s ≡ Range a b → ShowsSet t ls s x → x ≡ offers.range a b
+  ranged-as a b e (ranged {x = c} {y = d} p h) = let q : Range c d ≡ Range a b = sym p ∙ e in let m : c ≡ a = cc in let n : d ≡ b = cc in rw (m, n)
+  ranged-as a b e (rooted {i = i} p r) = let d : Joined i ≡ Range a b = sym p ∙ e in absurd (let z : ◌≡◌ {A = ℕ} 0 1 = cc in omega arith)
 
--- the root as the machine reads it
-module _ (a : ℤ) (i : ℕ) (f : SFits w64 a) (e : a ≡ pos i) where
-  pub root-natural : nat_abs (to_z w64 (of_z w64 a)) ≡ i
-  root-natural = ap nat_abs (to_z-of_z f ∙ e)
-
-  pub root-cast : T (non_neg (to_z w64 (of_z w64 a))) × Fits w64 (nat_abs (to_z w64 (of_z w64 a)))
-  root-cast =
-      let g : SFits w64 (pos i) = subst (SFits w64) e f in
-      (rw (to_z-of_z f, e) tt, rw root-natural (omega (arith, g.sfits)))
+  pub ranged-tells : {x : offers.Set} (a b v : ℤ) (r : Bool) → s ≡ Range a b → r ≡ offers.within (offers.range a b) v → ShowsSet t ls s x → r ≡ offers.within x v
+  ranged-tells a b v r e w h = rw (ranged-as a b e h) w
 
 -- the mark as the machine compares it
 module _ (b : ℤ) (f : SFits w64 b) where

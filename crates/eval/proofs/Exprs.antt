@@ -57,6 +57,13 @@ expr-kind t k (Resolved.local_at i) a = omega (arith, a.kind-is)
 expr-kind t k (Resolved.absolute e) a = omega (arith, a.kind-is)
 expr-kind t k (Resolved.binary o e f) a = omega (arith, a.kind-is, op-range o)
 
+pub expr-some : (t : List ℕ) (k : ℕ) (e : Resolved.Expr) → Expr t e k → 1 ≤ kind_of (get_or t k 0)
+unfolding Expr
+expr-some t k (Resolved.constant z) a = omega (arith, node-number-kind a (omega arith))
+expr-some t k (Resolved.local_at i) a = omega (arith, a.kind-is)
+expr-some t k (Resolved.absolute e) a = omega (arith, a.kind-is)
+expr-some t k (Resolved.binary o e f) a = omega (arith, a.kind-is, op-range o)
+
 module _ (t : List ℕ) (k kind : ℕ) (is : kind ≡ kind_of (get_or t k 0)) where
   pub literal-is : (ls : List ℤ) → kind ≡ 1 → IsExpr t ls k (Some (number_of (get_or t k 0)))
   unfolding Expr eval_expr
@@ -109,3 +116,11 @@ module _ (t : List ℕ) (k kind : ℕ) (is : kind ≡ kind_of (get_or t k 0)) wh
     binary-is ls x y r v w u (Resolved.local_at i) a = absurd (m (is ∙ a.kind-is))
     binary-is ls x y r v w u (Resolved.absolute e) a = absurd (q (is ∙ a.kind-is))
     binary-is ls x y r v w u (Resolved.binary o e f) a = rw (← v e a.holds-first, ← w f (pair-second a)) (u o (is ∙ a.kind-is))
+
+    -- the first part has no value
+    pub binary-lacks : (ls : List ℤ) → IsExpr t ls (left_of (get_or t k 0)) None → IsExpr t ls k None
+    unfolding Expr eval_expr with_value
+    binary-lacks ls v (Resolved.constant z) a = absurd (h (is ∙ node-number-kind a (omega arith)))
+    binary-lacks ls v (Resolved.local_at i) a = absurd (m (is ∙ a.kind-is))
+    binary-lacks ls v (Resolved.absolute e) a = absurd (q (is ∙ a.kind-is))
+    binary-lacks ls v (Resolved.binary o e f) a = rw (← v e a.holds-first)

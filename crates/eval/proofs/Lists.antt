@@ -15,11 +15,12 @@ use Rattle.rules.specs.Offers as offers
 use Rattle.tables.specs.Settled.{Expr, Set, OneOrTwo}
 use Rattle.tables.proofs.Parts.{pair-above, pair-second}
 use Rattle.model.specs.Good.{Every}
-use Rattle.machine.specs.Evaluate.{eval_set, eval_all, eval_value}
+use Rattle.machine.specs.Evaluate.{eval_set, eval_all, eval_value, valued, given}
 use Rattle.machine.specs.Offer.{is_none}
 use Rattle.eval.specs.Held.{Held, Worth}
 use Rattle.eval.specs.Answers.{ends_known}
-use Rattle.eval.specs.Lists.{values_given, values_answer}
+use Rattle.std.specs.Prelude.{None}
+use Rattle.eval.specs.Lists.{values_of, values_given, values_answer}
 use Rattle.eval.proofs.Exprs.{IsExpr, expr-kind}
 use Rattle.eval.proofs.Sets.{Ends, set-kind}
 
@@ -89,3 +90,10 @@ module _ (t : List ℕ) (k kind : ℕ) (is : kind ≡ kind_of (get_or t k 0)) wh
   two-values-are ls x y h v w (e ∷ []) a = absurd (omega (arith, expr-low e a))
   two-values-are ls x y h v w (e ∷ f ∷ []) a = rw (← v e a.holds-first, ← w f (pair-second a))
   two-values-are ls x y h v w (e ∷ f ∷ g ∷ es) a = absurd a
+
+  pub two-values-lack : (ls : List ℤ) → kind ≡ 35 → IsExpr t ls (left_of (get_or t k 0)) None → Worth (OneOrTwo t (Expr t)) (values_answer ls) k None
+  unfolding OneOrTwo values_answer eval_all eval_value valued given values_of
+  two-values-lack ls h v [] a = absurd a
+  two-values-lack ls h v (e ∷ []) a = absurd (omega (arith, expr-low e a))
+  two-values-lack ls h v (e ∷ f ∷ []) a = rw (← v e a.holds-first)
+  two-values-lack ls h v (e ∷ f ∷ g ∷ es) a = absurd a

@@ -1,17 +1,22 @@
 -- The tests of a rate's range, and products of a scale with a number, of any size. By cases of the signs.
-use mathlib.Core.Path.{◌≡◌, refl, sym, ◌∙◌}
-use mathlib.Core.Bool.{Bool, true, false, cond, not}
+use mathlib.Core.Path.{◌≡◌, refl, sym, ap, ◌∙◌}
+use mathlib.Core.Bool.{Bool, true, false, cond}
 use mathlib.Core.Option.{none, some}
-use Prim.Native.Nat.{ℕ, zero, suc, ◌*◌, ◌≤◌}
+use Prim.Native.Nat.{ℕ, zero, suc, ◌*◌, ◌^◌, ◌≤◌, ◌<◌}
 use native.Mathlib.Nat.{mul-le-mul, zero-mul, pos_of_ne-zero}
 use native.Mathlib.Omega.{arith}
-use borrow.Author.Tests.{ltb-true, ltb-false, leb-true, le-leb, lt-leb}
+use borrow.Author.Tests.{ltb-true, lt-leb}
 use lib.Dec.{leb}
 use lib.IntN.{ℤ, pos, negsuc, neg_ℤ, nat_abs, ◌*ℤ◌}
 use lib.Signed.{lt_z}
-use Rattle.value.proofs.Kit.{true-not-false, false-not-true}
 use Rattle.machine.specs.Evaluate.{rate_limit, in_rate}
-use Rattle.std.specs.Prelude.{Some, None}
+use Rattle.std.specs.Prelude.{Some, None, Ok, Err, Result, Option as RustOption}
+use Rattle.std.specs.Bool.{then_some}
+use Rattle.std.specs.Int.{FitsUnsignedBits}
+use Rattle.std.specs.Option.{SomeIff}
+use Rattle.std.specs.Result.{OkIff, result_ok}
+use mir.Syntax.{w64}
+use mir.Val.{SFits}
 use Rattle.eval.specs.Rates.{rate_of}
 
 pub rate-below : (z : ℤ) → lt_z z (pos 0) ≡ true → None ≡ rate_of (in_rate z)
@@ -19,19 +24,25 @@ unfolding rate_of in_rate
 rate-below (pos n) h = absurd (omega (arith, ltb-true n 0 h))
 rate-below (negsuc n) h = refl
 
-pub rate-above : (z : ℤ) → lt_z (pos rate_limit) z ≡ true → None ≡ rate_of (in_rate z)
-unfolding rate_of in_rate
-rate-above (pos n) h = rw (lt-leb n rate_limit (ltb-true rate_limit n h))
-rate-above (negsuc n) h = refl
+-- a number as a natural one: which it is not below 0
+pub tried-some : {E : Type 0} (z : ℤ) (r : Result ℕ E) (n : ℕ) → OkIff r (FitsUnsignedBits 64 z) (nat_abs z) → result_ok r ≡ Some n → z ≡ pos n
+tried-some (pos a) (Ok x) n h e = let i : x ≡ n = cc in ap pos (sym h.1 ∙ i)
+tried-some (negsuc a) (Ok x) n h e = absurd h.0
+tried-some z (Err d) n h e = cc
 
-pub rate-between : (z : ℤ) → lt_z z (pos 0) ≡ false → lt_z (pos rate_limit) z ≡ false → Some (nat_abs z) ≡ rate_of (in_rate z)
-unfolding rate_of in_rate
-rate-between (pos n) h k = rw (le-leb n rate_limit (ltb-false rate_limit n k))
-rate-between (negsuc n) h k = true-not-false h
+pub tried-none : {E : Type 0} (z : ℤ) (r : Result ℕ E) → SFits w64 z → OkIff r (FitsUnsignedBits 64 z) (nat_abs z) → result_ok r ≡ None → lt_z z (pos 0) ≡ true
+tried-none (pos a) (Ok x) f h e = cc
+tried-none (pos a) (Err d) f h e = absurd (h (omega (arith, f.sfits)))
+tried-none (negsuc a) r f h e = refl
 
-pub small_size : (z : ℤ) → lt_z z (pos 0) ≡ false → lt_z (pos rate_limit) z ≡ false → nat_abs z ≤ rate_limit
-small_size (pos n) h k = ltb-false rate_limit n k
-small_size (negsuc n) h k = true-not-false h
+-- a natural number as a rate
+pub rate-natural : (n : ℕ) → then_some (leb n rate_limit) n ≡ rate_of (in_rate (pos n))
+unfolding rate_of in_rate
+rate-natural n = go (leb n rate_limit)
+  where
+    go : (b : Bool) → then_some b n ≡ rate_of (cond b (some n) none)
+    go true = refl
+    go false = refl
 
 -- ---- a scale n times v
 negative : (q : ℕ) → 1 ≤ q → None ≡ rate_of (in_rate (neg_ℤ (pos q)))
@@ -62,34 +73,14 @@ module _ (n : ℕ) (v : ℤ) where
           let g : 1 * 1 ≤ n * suc b = mul-le-mul m o in
           negative (n * suc b) (omega arith)
 
-  module _ {r : Bool} (l : lt_z v (pos 0) ≡ false) (e : r ≡ leb (n * nat_abs v) rate_limit) where
-    product-rate : rate_of (in_rate (pos n *ℤ v)) ≡ rate_of (cond r (some (n * nat_abs v)) none)
-    unfolding in_rate
-    product-rate = rw e (go v l)
-      where
-        go : (w : ℤ) → lt_z w (pos 0) ≡ false → rate_of (in_rate (pos n *ℤ w)) ≡ rate_of (cond (leb (n * nat_abs w) rate_limit) (some (n * nat_abs w)) none)
-        go (pos b) h = refl
-        go (negsuc b) h = true-not-false h
+  pub large-times : (s : ℕ) (r : RustOption ℕ) → v ≡ pos s → SomeIff r (n * s < 2 ^ 64) (n * s) → r ≡ None → None ≡ rate_of (in_rate (pos n *ℤ v))
+  unfolding rate_of in_rate
+  large-times s (Some p) e h d = cc
+  large-times s None e h d = rw (e, above) refl
+    where
+      above : leb (n * s) rate_limit ≡ false
+      above = lt-leb (n * s) rate_limit (omega (arith, h))
 
-    pub large-times : not r ≡ true → None ≡ rate_of (in_rate (pos n *ℤ v))
-    unfolding rate_of
-    large-times t = sym (product-rate ∙ go r t)
-      where
-        go : (r : Bool) → not r ≡ true → rate_of (cond r (some (n * nat_abs v)) none) ≡ None
-        go true t = false-not-true t
-        go false t = refl
-
-    pub rate-times : not r ≡ false → Some (n * nat_abs v) ≡ rate_of (in_rate (pos n *ℤ v))
-    unfolding rate_of
-    rate-times t = sym (product-rate ∙ go r t)
-      where
-        go : (r : Bool) → not r ≡ false → rate_of (cond r (some (n * nat_abs v)) none) ≡ Some (n * nat_abs v)
-        go true t = refl
-        go false t = true-not-false t
-
-    pub times-fits : not r ≡ false → n * nat_abs v ≤ rate_limit
-    times-fits t = leb-true (n * nat_abs v) rate_limit (sym e ∙ go r t)
-      where
-        go : (r : Bool) → not r ≡ false → r ≡ true
-        go true t = refl
-        go false t = true-not-false t
+  pub rate-times : (s p : ℕ) (r : RustOption ℕ) → v ≡ pos s → SomeIff r (n * s < 2 ^ 64) (n * s) → r ≡ Some p → then_some (leb p rate_limit) p ≡ rate_of (in_rate (pos n *ℤ v))
+  rate-times s p None e h d = cc
+  rate-times s p (Some q) e h d = let i : q ≡ p = cc in let j : p ≡ n * s = sym i ∙ h.1 in rw e (rw j (rate-natural (n * s)))

@@ -79,3 +79,8 @@ module _ (t : List ℕ) (k kind : ℕ) (is : kind ≡ kind_of (get_or t k 0)) wh
     unfolding Rate eval_rate rate_answer scale_answer
     scaled-rate ls s x r v w u (Resolved.plain y) a = scale-not-scaled y a h
     scaled-rate ls s x r v w u (Resolved.scaled y e) a = rw (← w e (pair-second a)) (u (eval_scale ls y) (v y a.holds-first))
+
+    pub scale-lacks : (ls : List ℤ) → IsScale t ls (left_of (get_or t k 0)) None → IsRate t ls k None
+    unfolding Rate eval_rate rate_answer scale_answer given rate_of
+    scale-lacks ls v (Resolved.plain y) a = scale-not-scaled y a h
+    scale-lacks ls v (Resolved.scaled y e) a = rw (rate-none (eval_scale ls y) (v y a.holds-first))

@@ -1,13 +1,13 @@
 -- Rows of processes, written one after the other. From the kit's laws of lists.
-use mathlib.Core.Path.{◌≡◌, refl, sym, ap, subst, ◌∙◌}
+use mathlib.Core.Path.{◌≡◌, refl, sym, ap, ◌∙◌}
 use mathlib.Core.List.{List, [], ◌∷◌, ◌++◌, append_assoc, append-nil}
 use Prim.Native.Nat.{ℕ, zero, suc, ◌+◌, ◌-◌, ◌*◌, ◌≤◌, ◌<◌}
 use native.Mathlib.Numerals.{add-one}
 use native.Mathlib.Omega.{arith}
 use lib.IntN.{ℤ, pos}
-use lib.ListN.{length, get_or, set, take, drop, replicate, length-append, length-take, length-replicate, get_or-append}
-use lib.Seq.{sets, length-sets, sets-eq, take-suc, take-append_seam, get_or-append-add}
-use native.Mathlib.Nat.{add-zero}
+use lib.ListN.{length, get_or, set, take, drop, replicate, length-append, length-replicate}
+use lib.Seq.{sets, length-sets, sets-eq, take-append_seam}
+use borrow.Rule.Slice.PartMut.{put_mid, Post-is}
 use Rattle.value.specs.Range.{Value}
 use Rattle.tree.specs.Node.{field, kind_of, token_of, left_of}
 use Rattle.model.specs.Limits.{local_limit}
@@ -30,16 +30,6 @@ sets_then l i (x ∷ xs) ys =
     let e : i + suc (length xs) ≡ suc i + length xs = omega arith in
     ap (λ (n : ℕ). sets (sets (set l i x) (suc i) xs) n ys) e ∙ sets_then (set l i x) (suc i) xs ys
 
--- one store more
-pub sets-step : (l r : List ℤ) (b j : ℕ) → j < length r → set (sets l b (take j r)) (b + j) (get_or r j (pos 0)) ≡ sets l b (take (j + 1) r)
-sets-step l r b j h =
-    let n : length (take j r) ≡ j = simp length-take (omega arith) in
-    let e : sets (sets l b (take j r)) (b + length (take j r)) (get_or r j (pos 0) ∷ []) ≡ sets l b (take j r ++ (get_or r j (pos 0) ∷ [])) = sets_then l b (take j r) (get_or r j (pos 0) ∷ []) in
-    rw (add-one j, take-suc r j (pos 0) h) (subst (λ (m : ℕ). sets (sets l b (take j r)) (b + m) (get_or r j (pos 0) ∷ []) ≡ sets l b (take j r ++ (get_or r j (pos 0) ∷ []))) n e)
-
-pub row_step : (f g r : List ℤ) (b j : ℕ) (z : ℤ) → g ≡ sets f b (take j r) → z ≡ get_or r j (pos 0) → j < length r → set g (b + j) z ≡ sets f b (take (j + 1) r)
-row_step f g r b j z e d h = rw (e, d) (sets-step f r b j h)
-
 -- the first of a list that is filled from its start
 pub filled : (l vs : List ℤ) → length vs ≤ length l → take (length vs) (sets l 0 vs) ≡ vs
 filled l vs h = rw (sets-eq vs l 0 (omega arith)) (take-append_seam vs (drop (0 + length vs) l))
@@ -49,36 +39,28 @@ pub row-length : (p : Process) → length p.locals ≤ local_limit → length (p
 unfolding process_numbers padded
 row-length p h = simp (length-append, length-replicate) (omega arith)
 
-zeros-get : (n i : ℕ) → get_or (replicate n (pos 0)) i (pos 0) ≡ pos 0
-zeros-get zero zero = refl
-zeros-get zero (suc i) = refl
-zeros-get (suc n) zero = refl
-zeros-get (suc n) (suc i) = zeros-get n i
-
-padded-get : (n : ℕ) (zs : List ℤ) (i : ℕ) → get_or (zs ++ replicate n (pos 0)) i (pos 0) ≡ get_or zs i (pos 0)
-padded-get n [] zero = zeros-get n zero
-padded-get n [] (suc i) = zeros-get n (suc i)
-padded-get n (z ∷ zs) zero = refl
-padded-get n (z ∷ zs) (suc i) = padded-get n zs i
-
 padded-long : (zs : List ℤ) → length zs ≤ local_limit → length (padded local_limit zs) ≡ local_limit
 unfolding padded
 padded-long zs h = simp (length-append, length-replicate) (omega arith)
 
-pub row-local : (p : Process) → length p.locals ≤ local_limit → (j : ℕ) → 1 ≤ j → j < 1 + local_limit → get_or p.locals (j - 1) (pos 0) ≡ get_or (process_numbers p) j (pos 0)
-unfolding process_numbers padded
-row-local p few zero h l = absurd (omega arith)
-row-local p few (suc j) h l =
-    let e : suc j - 1 ≡ j = omega arith in
-    ap (λ (i : ℕ). get_or p.locals i (pos 0)) e
-    ∙ sym (get_or-append (padded local_limit p.locals) (pos p.definition ∷ []) (pos 0) j (omega (arith, padded-long p.locals few))
-    ∙ padded-get (local_limit - length p.locals) p.locals j)
+-- locals copied over zeros, and the number after these written
+pub numbers-written : (n : ℕ) (ls : List ℤ) (d : ℤ) → length ls ≤ n → set (ls ++ drop (length ls) (replicate (suc n) (pos 0))) n d ≡ padded n ls ++ (d ∷ [])
+unfolding padded
+numbers-written zero [] d l = refl
+numbers-written (suc n) [] d l =
+    let e : suc n - 0 ≡ suc n = omega arith in
+    let f : n - 0 ≡ n = omega arith in
+    rw e (ap (λ (t : List ℤ). pos 0 ∷ t) (rw f at (numbers-written n [] d (omega arith))))
+numbers-written zero (x ∷ ls) d l = absurd (omega arith)
+numbers-written (suc n) (x ∷ ls) d l =
+    let e : suc n - suc (length ls) ≡ n - length ls = omega arith in
+    rw e (ap (λ (t : List ℤ). x ∷ t) (numbers-written n ls d (omega arith)))
 
-pub row-definition : (p : Process) → length p.locals ≤ local_limit → get_or (process_numbers p) (1 + local_limit) (pos 0) ≡ pos p.definition
-unfolding process_numbers
-row-definition p few =
-    ap (λ (i : ℕ). get_or (padded local_limit p.locals ++ pos p.definition ∷ []) i (pos 0)) (sym (padded-long p.locals few) ∙ sym (add-zero (length (padded local_limit p.locals))))
-    ∙ get_or-append-add (padded local_limit p.locals) (pos p.definition ∷ []) 0 (pos 0)
+-- a row stored where it belongs
+pub row-stored : (f ys : List ℤ) (a e : ℕ) → e ≡ a + length ys → e ≤ length f → put_mid a (e - a) f ys ≡ sets f a ys
+row-stored f ys a e q h =
+    ap (λ (t : List ℤ). take a f ++ (ys ++ t)) (Post-is a e f (omega arith) ∙ ap (λ (n : ℕ). drop n f) q)
+    ∙ sym (append_assoc (take a f) ys (drop (a + length ys) f)) ∙ sym (sets-eq ys f a (omega arith))
 
 -- ---- rows
 

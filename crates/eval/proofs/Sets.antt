@@ -5,11 +5,14 @@ use mathlib.Core.Bool.{Bool, true, false, cond, not, ◌&&◌, ◌||◌}
 use mathlib.Core.Option.{Option, none, some}
 use Prim.Native.Nat.{ℕ, ◌-◌, ◌≤◌, ◌<◌}
 use native.Mathlib.Omega.{arith}
-use lib.Dec.{eqb}
-use lib.IntN.{ℤ}
+use borrow.Author.Tests.{eqb-true, eqb-false, leb-true, leb-false}
+use lib.Dec.{eqb, leb}
+use lib.IntN.{ℤ, pos, negsuc}
 use lib.ListN.{get_or}
-use Rattle.std.specs.Prelude.{None, Some}
+use Rattle.std.specs.Prelude.{None, Some, Option as RustOption}
+use Rattle.std.specs.Option.{option_zip}
 use Rattle.value.specs.Range.{Value}
+use Rattle.value.specs.Arithmetic.{is_same}
 use Rattle.value.proofs.Kit.{true-not-false, false-not-true}
 use Rattle.grammar.specs.Syntax.{Join, without, union, inter}
 use Rattle.tree.specs.Node.{kind_of, left_of, join_kind}
@@ -69,6 +72,42 @@ between_is u w x y v r h k e a b f g =
     let i : x ≡ a = cc in
     let j : y ≡ b = cc in
     e ∙ ap (λ (z : ℤ). within (offers.range z y) v) i ∙ ap (λ (z : ℤ). within (offers.range a z) v) j
+
+-- two ends are both there
+pub zip-some : (u w : Value) (x y : ℤ) → option_zip u w ≡ Some (x, y) → (u ≡ Some x) × (w ≡ Some y)
+zip-some (Some a) (Some b) x y e =
+    let h : ◌≡◌ {A = ℤ × ℤ} (a, b) (x, y) = cc in
+    (ap (λ (p : ℤ × ℤ). Some p.0) h, ap (λ (p : ℤ × ℤ). Some p.1) h)
+zip-some (Some a) None x y e = cc
+zip-some None w x y e = cc
+
+pub zip-none : {A : Type 0} (u w : Value) (a b : ℤ) → option_zip u w ≡ None → u ≡ Some a → w ≡ Some b → A
+zip-none u w a b e f g = let h : ◌≡◌ {A = RustOption (ℤ × ℤ)} None (Some (a, b)) = sym e ∙ rw (f, g) refl in cc
+
+-- a lone value
+eq-leb : (a b : ℕ) → eqb b a ≡ (leb a b && leb b a)
+eq-leb a b = go (eqb b a) (leb a b) (leb b a) refl refl refl
+  where
+    go : (p q r : Bool) → eqb b a ≡ p → leb a b ≡ q → leb b a ≡ r → p ≡ (q && r)
+    go true true true e f g = refl
+    go true true false e f g = absurd (omega (arith, eqb-true b a e, leb-false b a g))
+    go true false r e f g = absurd (omega (arith, eqb-true b a e, leb-false a b f))
+    go false true true e f g = absurd (eqb-false b a e (omega (arith, leb-true a b f, leb-true b a g)))
+    go false true false e f g = refl
+    go false false r e f g = refl
+
+pub lone-within : (x v : ℤ) → is_same v x ≡ within (offers.range x x) v
+unfolding within
+lone-within (pos a) (pos b) = eq-leb a b
+lone-within (pos a) (negsuc b) = refl
+lone-within (negsuc a) (pos b) = refl
+lone-within (negsuc a) (negsuc b) = eq-leb a b ∙ go (leb a b) (leb b a)
+  where
+    go : (p q : Bool) → (p && q) ≡ (q && p)
+    go true true = refl
+    go true false = refl
+    go false true = refl
+    go false false = refl
 
 -- ---- sets by their nodes
 

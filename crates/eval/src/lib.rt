@@ -18,7 +18,7 @@ ghost use Rattle.tables.specs.Settled as Settled;
 ghost use Rattle.model.specs.Good.{Every, GoodExpr, GoodSet, GoodCond, GoodRate};
 ghost use Rattle.machine.specs.Evaluate.{with_value, valued, given, apply, related, in_rate, eval_expr};
 ghost use Rattle.machine.specs.Offer.{all_values};
-ghost use Rattle.eval.specs.Held.{Held, Worth, Sound};
+ghost use Rattle.eval.specs.Held.{Held, Worth, Sound, in_range-prop};
 ghost use Rattle.eval.specs.Skips.{settles, skips};
 ghost use Rattle.eval.specs.Rates.{rate_of, scale_answer, rate_answer};
 ghost use Rattle.eval.specs.Lists.{values_given, values_answer};
@@ -26,10 +26,13 @@ ghost use Rattle.eval.specs.Answers.{Tells, ends_known, truth_of, truth};
 
 use tree::NodeKind;
 
-// A cell of a number has its kind below KINDS, then the number above OFFSET.
-const KINDS: u64 = 256;
-
-const OFFSET: i64 = 36028797018963968;
+// What a part is evaluated in: the table that its root stands in, and the locals of a process, which are values.
+#[derive(Clone, Copy)]
+pub struct Context<'a> {
+    pub nodes: &'a [u64],
+    pub locals: &'a [i64],
+    ghost in_range: { Every InRange locals.now } by { in_range-prop locals.now },
+}
 
 // Cell k; 0, which is no node, beyond the table's end. A name for the chain that every reader of nodes would repeat.
 pub fn cell_at(nodes: &[u64], k: usize) -> u64
@@ -38,7 +41,7 @@ pub fn cell_at(nodes: &[u64], k: usize) -> u64
     nodes.get(k).copied().unwrap_or(0)
 }
 
-// Local i, 0 if there is none: a name, as of a cell.
+// Local i, 0 if there is none: a name, as of a cell. One generic function for both would take its 0 from a trait.
 fn local_at(locals: &[i64], i: usize) -> i64
     ensures { result ≡ get_or locals.now i (pos 0) }
 {
@@ -49,10 +52,11 @@ fn local_at(locals: &[i64], i: usize) -> i64
 fn number_of(cell: u64) -> i64
     ensures { result ≡ Settled.number_of cell }
 {
-    (cell / KINDS) as i64 - OFFSET
+    (cell / tree::KINDS) as i64 - tree::OFFSET as i64
 }
 
-// One operator on two values.
+// One operator on two values. Kinds are the numbers that nodes hold, here and in `offer`, and those of one sort stand side by side: an enum for each sort would be
+// made by a match on the same numbers, and taken apart by a second.
 fn apply(kind: u8, x: i64, y: i64) -> Option<i64>
     requires { (InRange x) × (InRange y) }
     ensures { (o : Op) → kind ≡ op_kind o → result ≡ apply o x y }
@@ -67,49 +71,26 @@ fn apply(kind: u8, x: i64, y: i64) -> Option<i64>
     }
 }
 
-fn combined(kind: u8, x: Option<i64>, y: Option<i64>) -> Option<i64>
-    requires { (Sound x) × (Sound y) }
-    ensures { (o : Op) → kind ≡ op_kind o → result ≡ with_value x (λ a. with_value y (λ b. apply o a b)) }
-{
-    apply(kind, x?, y?)
-}
-
-fn absolute(x: Option<i64>) -> Option<i64>
-    requires { Sound x }
-    ensures { result ≡ with_value x abs_of }
-{
-    value::abs_value(x?)
-}
-
 // What the expression at k comes to.
-pub fn eval_node(nodes: &[u64], locals: &[i64], k: usize) -> Option<i64>
-    requires { (Held (Settled.Expr nodes.now) (GoodExpr (length locals.now)) k) × (Every InRange locals.now) }
-    ensures { Worth (Settled.Expr nodes.now) (eval_expr locals.now) k result }
+pub fn eval_node(context: Context, k: usize) -> Option<i64>
+    requires { Held (Settled.Expr context.nodes.now) (GoodExpr (length context.locals.now)) k }
+    ensures { Worth (Settled.Expr context.entry.nodes.now) (eval_expr context.entry.locals.now) k result }
 {
-    let cell = cell_at(nodes, k);
+    let cell = cell_at(context.nodes, k);
     let kind = tree::kind_of(cell);
     if kind == NodeKind::LITERAL {
         return Some(number_of(cell));
     }
     if kind == NodeKind::NAMED {
-        return Some(local_at(locals, tree::token_of(cell)));
+        return Some(local_at(context.locals, tree::token_of(cell)));
     }
     if kind == NodeKind::ABSOLUTE {
-        return absolute(eval_node(nodes, locals, k - 1));
+        let x = eval_node(context, k - 1)?;
+        return value::abs_value(x);
     }
-    let x = eval_node(nodes, locals, tree::left_of(cell));
-    let y = eval_node(nodes, locals, k - 1);
-    combined(kind, x, y)
-}
-
-// Whether v lies from x to y, where both have a value.
-fn between(x: Option<i64>, v: i64, y: Option<i64>) -> bool
-    ensures { (a b : ℤ) → x ≡ Some a → y ≡ Some b → result ≡ within (range a b) v }
-{
-    match (x, y) {
-        (Some(a), Some(b)) => a <= v && v <= b,
-        _ => false,
-    }
+    let x = eval_node(context, tree::left_of(cell))?;
+    let y = eval_node(context, k - 1)?;
+    apply(kind, x, y)
 }
 
 // Whether the left set alone tells that something is in both or not.
@@ -119,28 +100,33 @@ fn settled(kind: u8, p: bool) -> bool
     if kind == NodeKind::UNION { p } else { !p }
 }
 
-// Whether v is in the set at k.
-pub fn in_set(nodes: &[u64], locals: &[i64], k: usize, v: i64) -> bool
-    requires { (Held (Settled.Set nodes.now) (GoodSet (length locals.now)) k) × (Every InRange locals.now) }
-    ensures { Tells nodes.now locals.now v k result }
+// Whether v is in the set at k: in a range by two comparisons, as the definition has them. Let-elses, for one value as for two: both answer false of what has none.
+pub fn in_set(context: Context, k: usize, v: i64) -> bool
+    requires { Held (Settled.Set context.nodes.now) (GoodSet (length context.locals.now)) k }
+    ensures { Tells context.entry.nodes.now context.entry.locals.now v k result }
 {
-    let cell = cell_at(nodes, k);
+    let cell = cell_at(context.nodes, k);
     let kind = tree::kind_of(cell);
     if kind < NodeKind::RANGE {
-        let x = eval_node(nodes, locals, k);
-        return between(x, v, x);
+        let Some(x) = eval_node(context, k) else {
+            return false;
+        };
+        return v == x;
     }
     let i = tree::left_of(cell);
     if kind == NodeKind::RANGE {
-        let x = eval_node(nodes, locals, i);
-        let y = eval_node(nodes, locals, k - 1);
-        return between(x, v, y);
+        let x = eval_node(context, i);
+        let y = eval_node(context, k - 1);
+        let Some((a, b)) = x.zip(y) else {
+            return false;
+        };
+        return a <= v && v <= b;
     }
-    let p = in_set(nodes, locals, i, v);
+    let p = in_set(context, i, v);
     if settled(kind, p) {
         return p;
     }
-    let q = in_set(nodes, locals, k - 1, v);
+    let q = in_set(context, k - 1, v);
     if kind == NodeKind::WITHOUT {
         return !q;
     }
@@ -148,20 +134,20 @@ pub fn in_set(nodes: &[u64], locals: &[i64], k: usize, v: i64) -> bool
 }
 
 // Whether all ends of the set at k have values.
-pub fn ends_known(nodes: &[u64], locals: &[i64], k: usize) -> bool
-    requires { (Held (Settled.Set nodes.now) (GoodSet (length locals.now)) k) × (Every InRange locals.now) }
-    ensures { Worth (Settled.Set nodes.now) (ends_known locals.now) k result }
+pub fn ends_known(context: Context, k: usize) -> bool
+    requires { Held (Settled.Set context.nodes.now) (GoodSet (length context.locals.now)) k }
+    ensures { Worth (Settled.Set context.entry.nodes.now) (ends_known context.entry.locals.now) k result }
 {
-    let cell = cell_at(nodes, k);
+    let cell = cell_at(context.nodes, k);
     let kind = tree::kind_of(cell);
     if kind < NodeKind::RANGE {
-        return eval_node(nodes, locals, k).is_some();
+        return eval_node(context, k).is_some();
     }
     let i = tree::left_of(cell);
     if kind == NodeKind::RANGE {
-        return eval_node(nodes, locals, i).is_some() && eval_node(nodes, locals, k - 1).is_some();
+        return eval_node(context, i).is_some() && eval_node(context, k - 1).is_some();
     }
-    ends_known(nodes, locals, i) && ends_known(nodes, locals, k - 1)
+    ends_known(context, i) && ends_known(context, k - 1)
 }
 
 // One relation on two values.
@@ -188,12 +174,6 @@ fn tested(kind: u8, x: i64, y: i64) -> bool
     related(kind, x, y)
 }
 
-fn compared(kind: u8, x: Option<i64>, y: Option<i64>) -> Option<bool>
-    ensures { (turned : Bool) (r : Relation) → kind ≡ test_kind turned r → result ≡ truth_of (valued x (λ a. valued y (λ z. some (cond turned (not (related r a z)) (related r a z))))) }
-{
-    Some(tested(kind, x?, y?))
-}
-
 // Whether the left condition alone decides.
 fn decided(kind: u8, p: Option<bool>) -> bool
     ensures { result ≡ skips kind p }
@@ -206,30 +186,30 @@ fn decided(kind: u8, p: Option<bool>) -> bool
 }
 
 // Whether the condition at k holds.
-pub fn holds(nodes: &[u64], locals: &[i64], k: usize) -> Option<bool>
-    requires { (Held (Settled.Cond nodes.now) (GoodCond (length locals.now)) k) × (Every InRange locals.now) }
-    ensures { Worth (Settled.Cond nodes.now) (truth locals.now) k result }
+pub fn holds(context: Context, k: usize) -> Option<bool>
+    requires { Held (Settled.Cond context.nodes.now) (GoodCond (length context.locals.now)) k }
+    ensures { Worth (Settled.Cond context.entry.nodes.now) (truth context.entry.locals.now) k result }
 {
-    let cell = cell_at(nodes, k);
+    let cell = cell_at(context.nodes, k);
     let kind = tree::kind_of(cell);
     let i = tree::left_of(cell);
     if kind < NodeKind::BOTH {
-        let x = eval_node(nodes, locals, i);
-        let y = eval_node(nodes, locals, k - 1);
-        return compared(kind, x, y);
+        let x = eval_node(context, i)?;
+        let y = eval_node(context, k - 1)?;
+        return Some(tested(kind, x, y));
     }
-    let p = holds(nodes, locals, i);
+    let p = holds(context, i);
     if decided(kind, p) {
         return p;
     }
-    holds(nodes, locals, k - 1)
+    holds(context, k - 1)
 }
 
 #[derive(Clone, Copy)]
 pub struct RateRange;
 
 impl RateRange {
-    pub const GREATEST: i64 = 1000000000;
+    pub const GREATEST: u64 = 1000000000;
 
     // ten-thousandths of a whole number
     pub const UNIT: u64 = 10000;
@@ -239,62 +219,48 @@ impl RateRange {
 fn rate_in(z: i64) -> Option<u64>
     ensures { result ≡ rate_of (in_rate z) }
 {
-    if z < 0 {
-        return None;
-    }
-    if RateRange::GREATEST < z {
-        return None;
-    }
-    Some(z as u64)
+    let n = u64::try_from(z).ok()?;
+    (n <= RateRange::GREATEST).then_some(n)
 }
 
-// The product of a scale and a number, of any size: whether it is a rate is decided before it is multiplied.
+// The product of a scale and a number, of any size.
 fn scaled(n: u64, v: i64) -> Option<u64>
     ensures { result ≡ rate_of (in_rate (pos n *ℤ v)) }
 {
     if n == 0 {
         return Some(0);
     }
-    if v < 0 {
-        return None;
-    }
-    let size = v as u64;
-    if !value::product_within(n, size, RateRange::GREATEST as u64) {
-        return None;
-    }
-    let product = n * size;
-    Some(product)
+    let size = u64::try_from(v).ok()?;
+    let product = n.checked_mul(size)?;
+    (product <= RateRange::GREATEST).then_some(product)
 }
 
 // What the scale at k comes to.
-fn scale_of(nodes: &[u64], locals: &[i64], k: usize) -> Option<u64>
-    ensures { Worth (Settled.Scale nodes.now) (scale_answer locals.now) k result }
+fn scale_of(context: Context, k: usize) -> Option<u64>
+    ensures { Worth (Settled.Scale context.entry.nodes.now) (scale_answer context.entry.locals.now) k result }
 {
-    let cell = cell_at(nodes, k);
+    let cell = cell_at(context.nodes, k);
     if tree::kind_of(cell) == NodeKind::NUMBER {
         return rate_in(number_of(cell));
     }
-    scaled(RateRange::UNIT, local_at(locals, tree::token_of(cell)))
-}
-
-fn times(scale: Option<u64>, x: Option<i64>) -> Option<u64>
-    ensures { (o : Option ℕ) → scale ≡ rate_of o → result ≡ rate_of (given o (λ n. valued x (λ v. in_rate (pos n *ℤ v)))) }
-{
-    scaled(scale?, x?)
+    scaled(
+        RateRange::UNIT,
+        local_at(context.locals, tree::token_of(cell)),
+    )
 }
 
 // What the rate at k comes to.
-pub fn rate_of(nodes: &[u64], locals: &[i64], k: usize) -> Option<u64>
-    requires { (Held (Settled.Rate nodes.now) (GoodRate (length locals.now)) k) × (Every InRange locals.now) }
-    ensures { Worth (Settled.Rate nodes.now) (rate_answer locals.now) k result }
+pub fn rate_of(context: Context, k: usize) -> Option<u64>
+    requires { Held (Settled.Rate context.nodes.now) (GoodRate (length context.locals.now)) k }
+    ensures { Worth (Settled.Rate context.entry.nodes.now) (rate_answer context.entry.locals.now) k result }
 {
-    let cell = cell_at(nodes, k);
+    let cell = cell_at(context.nodes, k);
     if tree::kind_of(cell) != NodeKind::SCALED {
-        return scale_of(nodes, locals, k);
+        return scale_of(context, k);
     }
-    let scale = scale_of(nodes, locals, tree::left_of(cell));
-    let x = eval_node(nodes, locals, k - 1);
-    times(scale, x)
+    let scale = scale_of(context, tree::left_of(cell))?;
+    let x = eval_node(context, k - 1)?;
+    scaled(scale, x)
 }
 
 #[derive(Clone, Copy)]
@@ -303,40 +269,29 @@ pub enum Values {
     Two(i64, i64),
 }
 
-fn one_value(x: Option<i64>) -> Option<Values>
-    ensures { result ≡ values_given (x ∷ []) }
-{
-    Some(Values::One(x?))
-}
-
-fn two_values(x: Option<i64>, y: Option<i64>) -> Option<Values>
-    ensures { result ≡ values_given (x ∷ y ∷ []) }
-{
-    Some(Values::Two(x?, y?))
-}
-
 // What the one or two expressions at k come to.
-pub fn values_of(nodes: &[u64], locals: &[i64], k: usize) -> Option<Values>
-    requires { (Held (Settled.OneOrTwo nodes.now (Settled.Expr nodes.now)) (Every (GoodExpr (length locals.now))) k) × (Every InRange locals.now) }
-    ensures { Worth (Settled.OneOrTwo nodes.now (Settled.Expr nodes.now)) (values_answer locals.now) k result }
+pub fn values_of(context: Context, k: usize) -> Option<Values>
+    requires { Held (Settled.OneOrTwo context.nodes.now (Settled.Expr context.nodes.now)) (Every (GoodExpr (length context.locals.now))) k }
+    ensures { Worth (Settled.OneOrTwo context.entry.nodes.now (Settled.Expr context.entry.nodes.now)) (values_answer context.entry.locals.now) k result }
 {
-    let cell = cell_at(nodes, k);
+    let cell = cell_at(context.nodes, k);
     if tree::kind_of(cell) != NodeKind::PAIR {
-        return one_value(eval_node(nodes, locals, k));
+        let x = eval_node(context, k)?;
+        return Some(Values::One(x));
     }
-    let x = eval_node(nodes, locals, tree::left_of(cell));
-    let y = eval_node(nodes, locals, k - 1);
-    two_values(x, y)
+    let x = eval_node(context, tree::left_of(cell))?;
+    let y = eval_node(context, k - 1)?;
+    Some(Values::Two(x, y))
 }
 
 // Whether all arguments at k have values.
-pub fn arguments_known(nodes: &[u64], locals: &[i64], k: usize) -> bool
-    requires { (Held (Settled.Arguments nodes.now) (Every (GoodExpr (length locals.now))) k) × (Every InRange locals.now) }
-    ensures { Worth (Settled.Arguments nodes.now) (all_values locals.now) k result }
+pub fn arguments_known(context: Context, k: usize) -> bool
+    requires { Held (Settled.Arguments context.nodes.now) (Every (GoodExpr (length context.locals.now))) k }
+    ensures { Worth (Settled.Arguments context.entry.nodes.now) (all_values context.entry.locals.now) k result }
 {
-    let cell = cell_at(nodes, k);
+    let cell = cell_at(context.nodes, k);
     if tree::kind_of(cell) != NodeKind::ARGUMENT {
-        return eval_node(nodes, locals, k).is_some();
+        return eval_node(context, k).is_some();
     }
-    eval_node(nodes, locals, tree::left_of(cell)).is_some() && arguments_known(nodes, locals, k - 1)
+    eval_node(context, tree::left_of(cell)).is_some() && arguments_known(context, k - 1)
 }

@@ -13,10 +13,11 @@ ghost use Rattle.machine.specs.State.{process_width, process_numbers};
 ghost use Rattle.eval.specs.Held.{Held, Worth};
 ghost use Rattle.eval.specs.Next as Become;
 
+use crate::Context;
 use tables::Tables;
 use tree::NodeKind;
 
-// The continuation of the branch at k behind its gate, if it has one.
+// The continuation of the branch at k behind its gate, if it has one. By an if: from the test it is known that a node stands before this one; then_some would take k - 1 first.
 fn prefix_next(nodes: &[u64], k: usize) -> Option<usize>
     requires { Become.SomePrefix nodes.now k }
     ensures { (a : Resolved.Action) (q : Resolved.Rate) (ps : List Resolved.Part) → Settled.Offer nodes.now a q ps k → Become.ShowsNext nodes.now ps result }
@@ -39,21 +40,20 @@ pub fn continuation_of(nodes: &[u64], k: usize) -> Option<usize>
 }
 
 // Whether all arguments of the calls at k have values.
-pub fn arguments_given(nodes: &[u64], locals: &[i64], k: usize) -> bool
-    requires { ((m : Resolved.Model) × Held (Settled.Parts nodes.now) (Every (GoodPart m (length locals.now))) k) × (Every InRange locals.now) }
-    ensures { Worth (Settled.Parts nodes.now) (arguments_given locals.now) k result }
+pub fn arguments_given(context: Context, k: usize) -> bool
+    requires { (m : Resolved.Model) × Held (Settled.Parts context.nodes.now) (Every (GoodPart m (length context.locals.now))) k }
+    ensures { Worth (Settled.Parts context.entry.nodes.now) (arguments_given context.entry.locals.now) k result }
 {
-    let cell = crate::cell_at(nodes, k);
+    let cell = crate::cell_at(context.nodes, k);
     let kind = tree::kind_of(cell);
     if kind == NodeKind::GROUP {
-        return arguments_given(nodes, locals, k - 1);
+        return arguments_given(context, k - 1);
     }
     if kind == NodeKind::ITEM {
-        return arguments_given(nodes, locals, tree::left_of(cell))
-            && arguments_given(nodes, locals, k - 1);
+        return arguments_given(context, tree::left_of(cell)) && arguments_given(context, k - 1);
     }
     if kind == NodeKind::CALL_WITH {
-        return crate::arguments_known(nodes, locals, k - 1);
+        return crate::arguments_known(context, k - 1);
     }
     true
 }
@@ -121,31 +121,16 @@ impl Row {
     pub const MOST: usize = 4 * model::Limits::PROCESSES;
 }
 
-// Number j of a process.
-fn row_number(sum: usize, locals: &[i64], definition: usize, j: usize) -> i64
-    requires { (sum < field) × (j < process_width) × (length locals.now ≤ local_limit) × (definition < field) }
-    ensures { result ≡ get_or (process_numbers (record { sum = sum; locals = locals.now; definition = definition })) j (pos 0) }
+// The numbers of a process.
+fn numbers_of(sum: usize, locals: &[i64], definition: usize) -> [i64; Row::WIDTH]
+    requires { (sum < field) × (length locals.now ≤ local_limit) × (definition < field) }
+    ensures { result ≡ process_numbers (record { sum = sum; locals = locals.now; definition = definition }) }
 {
-    if j == 0 {
-        return sum as i64;
-    }
-    if j == Row::DEFINITION {
-        return definition as i64;
-    }
-    crate::local_at(locals, j - 1)
-}
-
-// Writes the numbers of a process into row `at`.
-fn put_numbers(sum: usize, locals: &[i64], definition: usize, fresh: &mut [i64], at: usize)
-    requires { (sum < field) × (length locals.now ≤ local_limit) × ((at + 1) * process_width ≤ length fresh.old) × (definition < field) }
-    ensures { fresh.new ≡ sets fresh.old (at * process_width) (process_numbers (record { sum = sum; locals = locals.now; definition = definition })) }
-{
-    let base = at * Row::WIDTH;
-    for j in 0..Row::WIDTH {
-        let z = row_number(sum, locals, definition, j);
-        let i = base + j;
-        fresh[i] = z;
-    }
+    let mut row = [0i64; Row::WIDTH];
+    row[0] = sum as i64;
+    row[1..1 + locals.len()].copy_from_slice(locals);
+    row[Row::DEFINITION] = definition as i64;
+    row
 }
 
 // Writes a process of a sum into row `at`.
@@ -153,27 +138,30 @@ fn put_row(sum: usize, locals: &[i64], fresh: &mut [i64], at: usize, scopes: &[u
     requires { (sum < field) × (length locals.now ≤ local_limit) × ((at + 1) * process_width ≤ length fresh.old) × (sum < length scopes.now) }
     ensures { fresh.new ≡ sets fresh.old (at * process_width) (process_numbers (Become.known scopes.now sum locals.now)) }
 {
-    let definition = state::definition_in(scopes[sum]);
-    put_numbers(sum, locals, definition, fresh, at);
+    let row = numbers_of(sum, locals, state::definition_in(scopes[sum]));
+    let base = at * Row::WIDTH;
+    fresh[base..base + Row::WIDTH].copy_from_slice(&row);
 }
 
-// Writes the values of the arguments at k from place `at` on.
-fn put_arguments(nodes: &[u64], locals: &[i64], k: usize, values: &mut [i64], at: usize)
-    requires { (Become.Room nodes.now (length locals.now) k (length values.old) at) × (Every InRange locals.now) }
-    ensures { (es : List Resolved.Expr) → Settled.Arguments nodes.now es k → values.new ≡ sets values.old at (Become.arguments locals.now es) }
+// Writes the values of the arguments at k from place `at` on. `store::start::put_wholes` walks alike: one function would have two sorts of lists in its contract,
+// told apart by the kind.
+fn put_arguments(context: Context, k: usize, values: &mut [i64], at: usize)
+    requires { Become.Room context.nodes.now (length context.locals.now) k (length values.old) at }
+    ensures { (es : List Resolved.Expr) → Settled.Arguments context.entry.nodes.now es k → values.new ≡ sets values.old at (Become.arguments context.entry.locals.now es) }
 {
-    let cell = crate::cell_at(nodes, k);
+    let cell = crate::cell_at(context.nodes, k);
     if tree::kind_of(cell) != NodeKind::ARGUMENT {
-        let z = crate::eval_node(nodes, locals, k).unwrap_or(0);
+        let z = crate::eval_node(context, k).unwrap_or(0);
         values[at] = z;
         return;
     }
-    let z = crate::eval_node(nodes, locals, tree::left_of(cell)).unwrap_or(0);
+    let z = crate::eval_node(context, tree::left_of(cell)).unwrap_or(0);
     values[at] = z;
-    put_arguments(nodes, locals, k - 1, values, at + 1);
+    put_arguments(context, k - 1, values, at + 1);
 }
 
-// Writes a process for each sum at k from row `at` on; the row after them.
+// Writes a process for each sum at k from row `at` on; the row after them. The rows are the caller's, here, in `put_row`, `put_call` and `put_processes`: a struct of the lent slice and its count would lose what it
+// wrote. `store::start::push_sums` walks alike, but adds to a state: a walk for both would take a closure that writes.
 fn put_sums(tables: Tables, k: usize, locals: &[i64], fresh: &mut [i64], at: usize) -> usize
     requires { (Become.SumsFit tables.nodes.now (length tables.scopes.now) k (length fresh.old) at) × (length locals.now ≤ local_limit) }
     ensures { (ns : List ℕ) → Represents.Sums tables.entry.nodes.now ns k → Become.Rows fresh.old at (Become.entered tables.entry.scopes.now ns locals.now) fresh.new result }
@@ -202,7 +190,11 @@ fn put_call(
 {
     let count = tree::third_of(crate::cell_at(tables.nodes, k));
     let mut values = [0i64; Row::LOCALS];
-    put_arguments(tables.nodes, locals, k - 1, &mut values, 0);
+    let context = Context {
+        nodes: tables.nodes,
+        locals,
+    };
+    put_arguments(context, k - 1, &mut values, 0);
     let given = &values[..count];
     put_sums(tables, body, given, fresh, at)
 }

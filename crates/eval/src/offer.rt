@@ -1,6 +1,5 @@
 // What a branch offers over settled nodes: its kind, rate, channel, and values or sets, in 01's order of evaluation.
 ghost use Rattle.std.specs.Prelude.{◌≡◌, ℕ, ◌≤◌, ◌<◌, ℤ, pos, length};
-ghost use Rattle.value.specs.Range.{InRange};
 ghost use Rattle.tree.specs.Node.{field};
 ghost use Rattle.model.specs.Resolved as Resolved;
 ghost use Rattle.rules.specs.Offers.{Set, within};
@@ -10,46 +9,54 @@ ghost use Rattle.machine.specs.Evaluate.{eval_set, eval_branch};
 ghost use Rattle.eval.specs.Held.{Held, Sound};
 ghost use Rattle.eval.specs.Shown as Shown;
 
-use crate::Values;
 use crate::channel::Channel;
+use crate::{Context, Values};
 use tree::NodeKind;
 
-// Numbers that stand for a set: its two ends, or its root with JOINED.
+// A set that an offer lists: a range by its ends, or a joined set by its root.
 #[derive(Clone, Copy)]
-pub struct OfferSet;
-
-impl OfferSet {
-    // beyond the range of values
-    pub const JOINED: i64 = value::Range::GREATEST + 1;
+pub enum OfferSet {
+    Range(i64, i64),
+    Joined(usize),
 }
 
-// What a branch offers. Its kind is that of its action's node, or HIDDEN or MISSING, and a number, as is the shape, since the heads in the table of offers hold
-// both. A channel is its shape and the values of its items, the first in `channel`; then one or two values, each in `first` or `second`, or sets,
-// each with its end.
+impl OfferSet {
+    // Stands after the root of a joined set: beyond the range of values, and so no end of a range.
+    const MARK: i64 = value::Range::GREATEST + 1;
+
+    // The set in two numbers of a list.
+    pub fn of(low: i64, high: i64) -> OfferSet
+        ensures { result ≡ Shown.set_in low high }
+    {
+        if high == OfferSet::MARK {
+            return OfferSet::Joined(low.unsigned_abs() as usize);
+        }
+        OfferSet::Range(low, high)
+    }
+
+    // Its two numbers.
+    fn numbers(self) -> (i64, i64)
+        requires { Shown.Numbered self }
+        ensures { Shown.set_in result.0 result.1 ≡ self }
+    {
+        match self {
+            OfferSet::Range(low, high) => (low, high),
+            OfferSet::Joined(root) => (root as i64, OfferSet::MARK),
+        }
+    }
+}
+
+// What a branch offers. Its kind is that of its action's node, a number as all kinds here.
 #[derive(Clone, Copy)]
 pub struct Offer {
     pub kind: u8,
     pub rate: u64,
-    pub shape: u8,
-    pub channel: i64,
-    pub count: usize,
-    pub first: i64,
-    pub first_end: i64,
-    pub second: i64,
-    pub second_end: i64,
-    pub channel2: i64,
-    pub channel3: i64,
+    pub channel: Channel,
+    pub list: Listed,
 }
 
-impl Offer {
-    // a branch behind a false gate
-    pub const HIDDEN: u8 = 0;
-
-    // one with a part that has no value
-    pub const MISSING: u8 = 1;
-}
-
-// One or two values or sets.
+// One or two values, each in `first` or `second`, or sets, each in two numbers. These are the fields of a row in the table of offers, which with an `OfferSet` for each
+// would take 80 bytes, not 64: an enum of values and sets would be packed into them for each row, and taken out again by its kind.
 #[derive(Clone, Copy)]
 pub struct Listed {
     pub count: usize,
@@ -59,92 +66,90 @@ pub struct Listed {
     pub second_end: i64,
 }
 
-// An offer of this kind and rate, and of nothing else.
-fn bare_offer(kind: u8, rate: u64) -> Offer
+// What a wait offers. The zeros are written out, in this one place: default() wouldn't say that a shape and a count of 0 are no channel and no list.
+fn wait_offer(kind: u8, rate: u64) -> Offer
     ensures { result ≡ Shown.bare_offer kind rate }
 {
     Offer {
         kind,
         rate,
-        shape: 0,
-        channel: 0,
-        count: 0,
-        first: 0,
-        first_end: 0,
-        second: 0,
-        second_end: 0,
-        channel2: 0,
-        channel3: 0,
+        channel: Channel {
+            shape: 0,
+            first: 0,
+            second: 0,
+            third: 0,
+        },
+        list: Listed {
+            count: 0,
+            first: 0,
+            first_end: 0,
+            second: 0,
+            second_end: 0,
+        },
     }
 }
 
-fn listed_values(v: Option<Values>) -> Option<Listed>
+fn listed_values(v: Values) -> Listed
     ensures { result ≡ Shown.listed_values v }
 {
-    match v? {
-        Values::One(a) => Some(Listed {
+    match v {
+        Values::One(a) => Listed {
             count: 1,
             first: a,
             first_end: 0,
             second: 0,
             second_end: 0,
-        }),
-        Values::Two(a, b) => Some(Listed {
+        },
+        Values::Two(a, b) => Listed {
             count: 2,
             first: a,
             first_end: 0,
             second: b,
             second_end: 0,
-        }),
+        },
     }
 }
 
-fn range_ends(x: Option<i64>, y: Option<i64>) -> Option<(i64, i64)>
-    ensures { result ≡ Shown.range_ends x y }
+// The set at k, if all its ends have values.
+fn set_of(context: Context, k: usize) -> Option<OfferSet>
+    requires { Held (Settled.Set context.nodes.now) (GoodSet (length context.locals.now)) k }
+    ensures { Shown.SetShown context.entry.nodes.now context.entry.locals.now k result }
 {
-    Some((x?, y?))
-}
-
-// The set at k by two numbers, if all its ends have values.
-fn set_of(nodes: &[u64], locals: &[i64], k: usize) -> Option<(i64, i64)>
-    requires { (Held (Settled.Set nodes.now) (GoodSet (length locals.now)) k) × (Every InRange locals.now) }
-    ensures { Shown.SetShown nodes.now locals.now k result }
-{
-    let cell = crate::cell_at(nodes, k);
+    let cell = crate::cell_at(context.nodes, k);
     let kind = tree::kind_of(cell);
     if kind < NodeKind::RANGE {
-        let x = crate::eval_node(nodes, locals, k);
-        return range_ends(x, x);
+        let x = crate::eval_node(context, k)?;
+        return Some(OfferSet::Range(x, x));
     }
     if kind == NodeKind::RANGE {
-        let x = crate::eval_node(nodes, locals, tree::left_of(cell));
-        let y = crate::eval_node(nodes, locals, k - 1);
-        return range_ends(x, y);
+        let x = crate::eval_node(context, tree::left_of(cell))?;
+        let y = crate::eval_node(context, k - 1)?;
+        return Some(OfferSet::Range(x, y));
     }
-    if crate::ends_known(nodes, locals, k) {
-        return Some((k as i64, OfferSet::JOINED));
-    }
-    None
+    crate::ends_known(context, k).then_some(OfferSet::Joined(k))
 }
 
-fn one_set(x: Option<(i64, i64)>) -> Option<Listed>
-    ensures { result ≡ Shown.one_set x }
+// The one or two sets at k.
+fn listed_sets(context: Context, k: usize) -> Option<Listed>
+    requires { Held (Settled.OneOrTwo context.nodes.now (Settled.Set context.nodes.now)) (Every (GoodSet (length context.locals.now))) k }
+    ensures { Shown.SetsListed context.entry.nodes.now context.entry.locals.now k result }
 {
-    let (a, b) = x?;
-    Some(Listed {
-        count: 1,
-        first: a,
-        first_end: b,
-        second: 0,
-        second_end: 0,
-    })
-}
-
-fn two_sets(x: Option<(i64, i64)>, y: Option<(i64, i64)>) -> Option<Listed>
-    ensures { result ≡ Shown.two_sets x y }
-{
-    let (a, b) = x?;
-    let (c, d) = y?;
+    let cell = crate::cell_at(context.nodes, k);
+    if tree::kind_of(cell) != NodeKind::PAIR {
+        let set = set_of(context, k)?;
+        let (a, b) = set.numbers();
+        return Some(Listed {
+            count: 1,
+            first: a,
+            first_end: b,
+            second: 0,
+            second_end: 0,
+        });
+    }
+    let first = set_of(context, tree::left_of(cell))?;
+    let second = set_of(context, k - 1)?;
+    let (a, b) = first.numbers();
+    let (c, d) = second.numbers();
     Some(Listed {
         count: 2,
         first: a,
@@ -154,94 +159,42 @@ fn two_sets(x: Option<(i64, i64)>, y: Option<(i64, i64)>) -> Option<Listed>
     })
 }
 
-// The one or two sets at k.
-fn listed_sets(nodes: &[u64], locals: &[i64], k: usize) -> Option<Listed>
-    requires { (Held (Settled.OneOrTwo nodes.now (Settled.Set nodes.now)) (Every (GoodSet (length locals.now))) k) × (Every InRange locals.now) }
-    ensures { Shown.SetsListed nodes.now locals.now k result }
-{
-    let cell = crate::cell_at(nodes, k);
-    if tree::kind_of(cell) != NodeKind::PAIR {
-        return one_set(set_of(nodes, locals, k));
-    }
-    let x = set_of(nodes, locals, tree::left_of(cell));
-    let y = set_of(nodes, locals, k - 1);
-    two_sets(x, y)
-}
-
-// The parts of an offer put together, if all are there.
-fn assembled(kind: u8, rate: u64, c: Channel, list: Option<Listed>) -> Offer
-    ensures { result ≡ Shown.assembled kind rate (Some c) list }
-{
-    match list {
-        Some(l) => Offer {
-            kind,
-            rate,
-            shape: c.shape,
-            channel: c.first,
-            count: l.count,
-            first: l.first,
-            first_end: l.first_end,
-            second: l.second,
-            second_end: l.second_end,
-            channel2: c.second,
-            channel3: c.third,
-        },
-        None => bare_offer(Offer::MISSING, 0),
-    }
-}
-
-// An action with values: launch, kill or send.
-fn carried_offer(nodes: &[u64], locals: &[i64], k: usize, kind: u8, rate: u64) -> Offer
-    requires { (Shown.Carrier nodes.now (length locals.now) kind k) × (Every InRange locals.now) }
-    ensures { Shown.Carried nodes.now locals.now kind rate k result }
-{
-    let cell = crate::cell_at(nodes, k);
-    match crate::channel::channel_of(nodes, locals, tree::left_of(cell)) {
-        Some(c) => {
-            let list = listed_values(crate::values_of(nodes, locals, k - 1));
-            assembled(kind, rate, c, list)
-        }
-        None => bare_offer(Offer::MISSING, 0),
-    }
-}
-
-// An action with sets: a receive or a check.
-fn sought_offer(nodes: &[u64], locals: &[i64], k: usize, kind: u8, rate: u64) -> Offer
-    requires { (Shown.Seeker nodes.now (length locals.now) kind k) × (Every InRange locals.now) }
-    ensures { Shown.Sought nodes.now locals.now kind rate k result }
-{
-    let cell = crate::cell_at(nodes, k);
-    match crate::channel::channel_of(nodes, locals, tree::left_of(cell)) {
-        Some(c) => assembled(kind, rate, c, listed_sets(nodes, locals, k - 1)),
-        None => bare_offer(Offer::MISSING, 0),
-    }
-}
-
 fn carries(kind: u8) -> bool
     ensures { result ≡ Shown.carries kind }
 {
-    if kind == NodeKind::LAUNCH {
-        return true;
-    }
-    if kind == NodeKind::KILL {
-        return true;
-    }
-    kind == NodeKind::HAND_SEND
+    matches!(
+        kind,
+        NodeKind::LAUNCH | NodeKind::KILL | NodeKind::HAND_SEND
+    )
 }
 
-// The action at k with its rate.
-fn action_offer(nodes: &[u64], locals: &[i64], k: usize, rate: u64) -> Offer
-    requires { ((m : Resolved.Model) × Held (Settled.Action nodes.now) (GoodAction m (length locals.now)) k) × (Every InRange locals.now) }
-    ensures { Shown.ActionShown nodes.now locals.now rate k result }
+// The action at k with its rate, if its parts have values: launch, kill and send have values, a receive and a check sets.
+fn action_offer(context: Context, k: usize, rate: u64) -> Option<Offer>
+    requires { (m : Resolved.Model) × Held (Settled.Action context.nodes.now) (GoodAction m (length context.locals.now)) k }
+    ensures { Shown.ActionShown context.entry.nodes.now context.entry.locals.now rate k result }
 {
-    let kind = tree::kind_of(crate::cell_at(nodes, k));
+    let cell = crate::cell_at(context.nodes, k);
+    let kind = tree::kind_of(cell);
     if kind == NodeKind::WAIT {
-        return bare_offer(kind, rate);
+        return Some(wait_offer(kind, rate));
     }
+    let channel = crate::channel::channel_of(context, tree::left_of(cell))?;
     if carries(kind) {
-        return carried_offer(nodes, locals, k, kind, rate);
+        let list = listed_values(crate::values_of(context, k - 1)?);
+        return Some(Offer {
+            kind,
+            rate,
+            channel,
+            list,
+        });
     }
-    sought_offer(nodes, locals, k, kind, rate)
+    let list = listed_sets(context, k - 1)?;
+    Some(Offer {
+        kind,
+        rate,
+        channel,
+        list,
+    })
 }
 
 // The root of the rate of the branch at k, whose cell this is.
@@ -256,42 +209,40 @@ fn rate_root(cell: u64, k: usize) -> usize
 }
 
 // A branch behind its gate, if it has one: the rate first.
-fn prefix_offer(nodes: &[u64], locals: &[i64], k: usize) -> Offer
-    requires { (Shown.Prefix nodes.now (length locals.now) k) × (Every InRange locals.now) }
-    ensures { Shown.PrefixShown nodes.now locals.now k result }
+fn prefix_offer(context: Context, k: usize) -> Option<Offer>
+    requires { Shown.Prefix context.nodes.now (length context.locals.now) k }
+    ensures { Shown.PrefixShown context.entry.nodes.now context.entry.locals.now k result }
 {
-    let cell = crate::cell_at(nodes, k);
-    let rate = crate::rate_of(nodes, locals, rate_root(cell, k));
-    match rate {
-        Some(n) => action_offer(nodes, locals, tree::left_of(cell), n),
-        None => bare_offer(Offer::MISSING, 0),
-    }
+    let cell = crate::cell_at(context.nodes, k);
+    let rate = crate::rate_of(context, rate_root(cell, k))?;
+    action_offer(context, tree::left_of(cell), rate)
 }
 
-// What the branch at k offers.
-pub fn offer_of(nodes: &[u64], locals: &[i64], k: usize) -> Offer
-    requires { ((m : Resolved.Model) × Held (Settled.Branch nodes.now) (GoodBranch m (length locals.now)) k) × (Every InRange locals.now) }
-    ensures { (b : Resolved.Branch) → Settled.Branch nodes.now b k → Shown.ShowsOffer nodes.now locals.now (eval_branch locals.now b) result }
+// What the branch at k offers, if its parts have values; nothing behind a false gate.
+pub fn offer_of(context: Context, k: usize) -> Option<Option<Offer>>
+    requires { (m : Resolved.Model) × Held (Settled.Branch context.nodes.now) (GoodBranch m (length context.locals.now)) k }
+    ensures { (b : Resolved.Branch) → Settled.Branch context.entry.nodes.now b k → Shown.ShowsOffer context.entry.nodes.now context.entry.locals.now (eval_branch context.entry.locals.now b) result }
 {
-    let cell = crate::cell_at(nodes, k);
+    let cell = crate::cell_at(context.nodes, k);
     if tree::kind_of(cell) != NodeKind::GATE {
-        return prefix_offer(nodes, locals, k);
+        let offer = prefix_offer(context, k)?;
+        return Some(Some(offer));
     }
-    let gate = crate::holds(nodes, locals, tree::left_of(cell));
-    match gate {
-        Some(true) => prefix_offer(nodes, locals, k - 1),
-        Some(false) => bare_offer(Offer::HIDDEN, 0),
-        None => bare_offer(Offer::MISSING, 0),
+    let open = crate::holds(context, tree::left_of(cell))?;
+    if !open {
+        return Some(None);
     }
+    let offer = prefix_offer(context, k - 1)?;
+    Some(Some(offer))
 }
 
-// Whether v is in the set that two numbers of an offer show.
-pub fn in_offer_set(nodes: &[u64], locals: &[i64], low: i64, high: i64, v: i64) -> bool
-    requires { ((x : Set) × Shown.ShowsSet nodes.now locals.now low high x) × (Every InRange locals.now) }
-    ensures { (x : Set) → Shown.ShowsSet nodes.now locals.now low high x → result ≡ within x v }
+// Whether v is in a set of an offer: in a range by two comparisons, as the definition has them.
+pub fn in_offer_set(context: Context, set: OfferSet, v: i64) -> bool
+    requires { (x : Set) × Shown.ShowsSet context.nodes.now context.locals.now set x }
+    ensures { (x : Set) → Shown.ShowsSet context.entry.nodes.now context.entry.locals.now set x → result ≡ within x v }
 {
-    if high == OfferSet::JOINED {
-        return crate::in_set(nodes, locals, low as usize, v);
+    match set {
+        OfferSet::Range(low, high) => low <= v && v <= high,
+        OfferSet::Joined(root) => crate::in_set(context, root, v),
     }
-    low <= v && v <= high
 }

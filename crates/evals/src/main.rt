@@ -7,26 +7,18 @@ ghost use Rattle.tables.specs.Settled.{offset, number_cell};
 ghost use Rattle.tree.specs.Node.{literal};
 ghost use Rattle.value.specs.Range.{InRange};
 
-use eval::offer;
+use eval::{Context, offer};
 use std::fmt::Display;
 use std::io;
 use tree::NodeKind;
 use value::Range;
 
-// A cell of a number has its kind below KINDS, then the number above OFFSET.
-const KINDS: u64 = 256;
-
-const OFFSET: u64 = 36028797018963968;
-
-// The kind of a node that is a channel name.
-const CHANNEL: u8 = 66;
-
-// The cell of n.
+// The cell of n. As settle's, which is private: these are specimens.
 fn number_cell(kind: u8, n: u64) -> u64
     requires { n < offset }
     ensures { result ≡ number_cell kind (pos n) }
 {
-    kind as u64 + KINDS * (OFFSET + n)
+    kind as u64 + tree::KINDS * (tree::OFFSET + n)
 }
 
 // The cell of a number of an expression.
@@ -36,12 +28,12 @@ fn literal(z: i64) -> u64
 {
     let size = z.unsigned_abs();
     if z < 0 {
-        return NodeKind::LITERAL as u64 + KINDS * (OFFSET - size);
+        return NodeKind::LITERAL as u64 + tree::KINDS * (tree::OFFSET - size);
     }
     number_cell(NodeKind::LITERAL, size)
 }
 
-// x / y.
+// x / y. In range by clauses, here and in the three below, as in crate value: each makes its cells itself, so that a type would wrap every number of the lists below.
 fn quotient(x: i64, y: i64) -> Option<i64>
     requires { (InRange x) × (InRange y) }
 {
@@ -50,7 +42,11 @@ fn quotient(x: i64, y: i64) -> Option<i64>
         literal(y),
         tree::cell(NodeKind::DIVIDE, 0, 0, 0),
     ];
-    eval::eval_node(&nodes, &[0], 2)
+    let context = Context {
+        nodes: &nodes,
+        locals: &[0],
+    };
+    eval::eval_node(context, 2)
 }
 
 // Whether v is in x..y.
@@ -58,7 +54,11 @@ fn in_range(x: i64, y: i64, v: i64) -> bool
     requires { (InRange x) × (InRange y) }
 {
     let nodes = [literal(x), literal(y), tree::cell(NodeKind::RANGE, 0, 0, 0)];
-    eval::in_set(&nodes, &[0], 2, v)
+    let context = Context {
+        nodes: &nodes,
+        locals: &[0],
+    };
+    eval::in_set(context, 2, v)
 }
 
 // Whether v is in x..y\z.
@@ -68,10 +68,14 @@ fn in_rest(x: i64, y: i64, z: i64, v: i64) -> bool
     let range = tree::cell(NodeKind::RANGE, 0, 0, 0);
     let without = tree::cell(NodeKind::WITHOUT, 0, 2, 0);
     let nodes = [literal(x), literal(y), range, literal(z), without];
-    eval::in_set(&nodes, &[0], 4, v)
+    let context = Context {
+        nodes: &nodes,
+        locals: &[0],
+    };
+    eval::in_set(context, 4, v)
 }
 
-// The kind of what [i>0] -> {c![y/i],1} offers.
+// The kind of what [i>0] -> {c![y/i],1} offers; 0 and no Option, as the line prints it.
 fn gated(i: i64, y: i64) -> u8
     requires { (InRange i) × (InRange y) }
 {
@@ -79,7 +83,7 @@ fn gated(i: i64, y: i64) -> u8
         tree::cell(NodeKind::NAMED, 0, 0, 0),
         literal(0),
         tree::cell(NodeKind::GREATER, 0, 0, 0),
-        tree::cell(CHANNEL, 0, 0, 0),
+        tree::cell(NodeKind::CHANNEL, 0, 0, 0),
         tree::cell(NodeKind::NAMED, 1, 0, 0),
         tree::cell(NodeKind::NAMED, 0, 0, 0),
         tree::cell(NodeKind::DIVIDE, 0, 4, 0),
@@ -88,8 +92,14 @@ fn gated(i: i64, y: i64) -> u8
         tree::cell(NodeKind::STOP, 0, 7, 0),
         tree::cell(NodeKind::GATE, 0, 2, 0),
     ];
-    let o = offer::offer_of(&nodes, &[i, y], 10);
-    o.kind
+    let context = Context {
+        nodes: &nodes,
+        locals: &[i, y],
+    };
+    match offer::offer_of(context, 10) {
+        Some(Some(o)) => o.kind,
+        _ => 0,
+    }
 }
 
 // A rate of n ten-thousandths.
@@ -97,7 +107,11 @@ fn rate(n: u64) -> Option<u64>
     requires { (n < offset) × (n ≤ scale_limit) }
 {
     let nodes = [number_cell(NodeKind::NUMBER, n)];
-    eval::rate_of(&nodes, &[0], 0)
+    let context = Context {
+        nodes: &nodes,
+        locals: &[0],
+    };
+    eval::rate_of(context, 0)
 }
 
 // A line for each: its name and the number, or `none`.

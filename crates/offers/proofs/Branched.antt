@@ -41,7 +41,7 @@ module _ (t : List ℕ) (ls : List ℤ) (i j n : ℕ) (rs : List Row) where
       }
 
   -- the first branch lacks a value, or there is no row for it
-  pub first-stops : (rs' : List Row) (b : Resolved.Branch) (bs : List Resolved.Branch) (e : Stop ℕ)
+  pub first-stops : (rs' : List Row) (b : Resolved.Branch) (bs : List Resolved.Branch) (e : Stop)
       → CollectsOne t ls i j n rs rs' (eval_branch ls b) (Err e) → Collects t ls i j n rs rs' (b ∷ bs) (Err e)
   unfolding missing_branch is_none
   first-stops rs' b bs e (Collect.CollectsOne.lacks q) = Collect.Collects.lacks {q = j} (rw q)
@@ -117,7 +117,7 @@ module _ (t : List ℕ) (k kind : ℕ) (is : kind ≡ kind_of (get_or t k 0)) wh
         )
 
     module _ (ls : List ℤ) (i j n : ℕ) (rs : List Row) where
-      pub more-stops : (rs' : List Row) (e : Stop ℕ)
+      pub more-stops : (rs' : List Row) (e : Stop)
           → ((b : Resolved.Branch) → Branch t b (left_of (get_or t k 0)) → CollectsOne t ls i j n rs rs' (eval_branch ls b) (Err e))
           → (bs : List Resolved.Branch) → Branches t bs k → Collects t ls i j n rs rs' bs (Err e)
       unfolding Branches

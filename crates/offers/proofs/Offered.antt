@@ -17,7 +17,7 @@ use Rattle.eval.specs.declared.offer.Offer.{Offer}
 use Rattle.eval.specs.Channels.{ShowsChannel}
 use Rattle.eval.specs.Shown as shown
 use Rattle.eval.specs.Shown.{bare_offer, ShowsValues, ShowsSets, ShowsPair, ShowsQuery, ShowsAction, ShowsOffer}
-use Rattle.std.specs.Prelude.{Err, Ok}
+use Rattle.std.specs.Prelude.{Err, Ok, None, Some}
 use Rattle.offers.specs.declared.row.Row.{Row}
 use Rattle.offers.specs.declared.Stop.TheVariants.{Missing}
 use Rattle.eval.proofs.Shapes.{shape-bounds}
@@ -44,8 +44,8 @@ sets-small (shown.ShowsSets.two e f g) = omega arith
 pub record Kinds (r : Offer) : Type 0 where
   pub low : 36 ≤ r.kind
   pub high : r.kind ≤ 44
-  pub channel : r.shape < 32
-  pub count : r.count < 4
+  pub channel : r.channel.shape < 32
+  pub count : r.list.count < 4
 
 pair-kinds : {r : Offer} {x : offers.Pair} (k : ℕ) → r.kind ≡ k → 36 ≤ k → k ≤ 44 → ShowsPair r x → Kinds r
 pair-kinds k e l m p = record { low = omega arith; high = omega arith; channel = channel-small p.channel-is; count = values-small p.values-are }
@@ -57,8 +57,8 @@ pub action-kinds : {t : List ℕ} {ls : List ℤ} {r : Offer} {a : offers.Action
 unfolding bare_offer
 action-kinds {r = r} (shown.wait e) =
     let k : r.kind ≡ 36 = ap (λ (o : Offer). o.kind) e in
-    let c : r.shape ≡ 0 = ap (λ (o : Offer). o.shape) e in
-    let n : r.count ≡ 0 = ap (λ (o : Offer). o.count) e in
+    let c : r.channel.shape ≡ 0 = ap (λ (o : Offer). o.channel.shape) e in
+    let n : r.list.count ≡ 0 = ap (λ (o : Offer). o.list.count) e in
     record { low = omega arith; high = omega arith; channel = omega arith; count = omega arith }
 action-kinds (shown.launch e p) = pair-kinds 37 e (omega arith) (omega arith) p
 action-kinds (shown.kill e p) = pair-kinds 38 e (omega arith) (omega arith) p
@@ -69,44 +69,38 @@ action-kinds (shown.send e p) = pair-kinds 42 e (omega arith) (omega arith) p
 action-kinds (shown.take e p) = query-kinds 43 e (omega arith) (omega arith) p
 action-kinds (shown.take_bind e p) = query-kinds 44 e (omega arith) (omega arith) p
 
-kind-is : {r : Offer} (k n : ℕ) → r ≡ bare_offer k n → r.kind ≡ k
-unfolding bare_offer
-kind-is k n e = ap (λ (o : Offer). o.kind) e
-
--- ---- an offer that isn't missing or hidden fits a head
+-- ---- an offer that is there fits a head
 pub fits_head : (m : Resolved.Model) (t : List ℕ) (ls : List ℤ) (b : Resolved.Branch) (r : Offer) → Every InRange ls → GoodBranch m (length ls) b
-    → ShowsOffer t ls (eval_branch ls b) r → (r.kind ≡ 1 → ⊥) → (r.kind ≡ 0 → ⊥) → Small r
+    → ShowsOffer t ls (eval_branch ls b) (Some (Some r)) → Small r
 unfolding GoodGuard
-fits_head m t ls b r range good sh not1 not0 = go (eval_branch ls b) refl sh
+fits_head m t ls b r range good sh = go (eval_branch ls b) refl sh
   where
     small : {a : offers.Action} {n : ℕ} → ShowsAction t ls r a → r.rate ≡ n → n ≤ rate_limit → Small r
     small s e l = let k = action-kinds s in record { kind = omega (arith, k.high); channel = k.channel; count = k.count; rate = omega arith }
 
-    go : (g : Option offers.Guard) → eval_branch ls b ≡ g → ShowsOffer t ls g r → Small r
-    go none e (shown.missing q) = absurd (not1 (kind-is 1 0 q))
-    go (some offers.shut) e (shown.shut q) = absurd (not0 (kind-is 0 0 q))
-    go (some (offers.bare a n)) e (shown.bare s q) = small s q (branch-good m ls range b good (offers.bare a n) e).1
-    go (some (offers.opened a n)) e (shown.opened s q) = small s q (branch-good m ls range b good (offers.opened a n) e).1
+    go : (g : Option offers.Guard) → eval_branch ls b ≡ g → ShowsOffer t ls g (Some (Some r)) → Small r
+    go none e x = elim x [ ]
+    go (some offers.shut) e (shown.there x) = elim x [ ]
+    go (some (offers.bare a n)) e (shown.there (shown.bare s q)) = small s q (branch-good m ls range b good (offers.bare a n) e).1
+    go (some (offers.opened a n)) e (shown.there (shown.opened s q)) = small s q (branch-good m ls range b good (offers.opened a n) e).1
 
 -- ---- one branch
-module _ (t : List ℕ) (ls : List ℤ) (i j n : ℕ) (rs : List Row) (r : Offer) where
-  pub one-lacks : (rs' : List Row) (g : Option offers.Guard) → r.kind ≡ 1 → ShowsOffer t ls g r → CollectsOne t ls i j n rs rs' g (Err (Missing j))
-  one-lacks rs' none e s = lacks refl
-  one-lacks rs' (some offers.shut) e (shown.shut q) = absurd (omega (arith, kind-is 0 0 q))
-  one-lacks rs' (some (offers.bare a m)) e (shown.bare s q) = absurd (omega (arith, (action-kinds s).low))
-  one-lacks rs' (some (offers.opened a m)) e (shown.opened s q) = absurd (omega (arith, (action-kinds s).low))
+module _ (t : List ℕ) (ls : List ℤ) (i j n : ℕ) (rs : List Row) where
+  pub one-lacks : (rs' : List Row) (g : Option offers.Guard) → ShowsOffer t ls g None → CollectsOne t ls i j n rs rs' g (Err (Missing i j))
+  one-lacks rs' none shown.missing = lacks refl
+  one-lacks rs' (some g) x = elim x [ ]
 
   none_more : n ≤ length rs → Grows t ls i n rs rs [] n
   none_more l = record { holds = λ L xs e l h. rw (append-nil xs) h; rows = omega arith; room = l }
 
-  pub one-hidden : (g : Option offers.Guard) → n ≤ length rs → r.kind ≡ 0 → ShowsOffer t ls g r → CollectsOne t ls i j n rs rs g (Ok n)
+  pub one-hidden : (g : Option offers.Guard) → n ≤ length rs → ShowsOffer t ls g (Some None) → CollectsOne t ls i j n rs rs g (Ok n)
   unfolding is_none guard_or slot_of Option-elim
-  one-hidden none l e (shown.missing q) = absurd (omega (arith, kind-is 1 0 q))
-  one-hidden (some offers.shut) l e (shown.shut q) = all refl (none_more l)
-  one-hidden (some (offers.bare a m)) l e (shown.bare s q) = absurd (omega (arith, (action-kinds s).low))
-  one-hidden (some (offers.opened a m)) l e (shown.opened s q) = absurd (omega (arith, (action-kinds s).low))
+  one-hidden none l x = elim x [ ]
+  one-hidden (some offers.shut) l (shown.there shown.shut) = all refl (none_more l)
+  one-hidden (some (offers.bare a m)) l (shown.there x) = elim x [ ]
+  one-hidden (some (offers.opened a m)) l (shown.there x) = elim x [ ]
 
-  module _ (small : Small r) (pi : i < 256) (pj : j < 16) (lh : n < length rs) where
+  module _ (r : Offer) (small : Small r) (pi : i < 256) (pj : j < 16) (lh : n < length rs) where
     one_more : (a : offers.Action) (m : ℕ) → ShowsAction t ls r a → r.rate ≡ m
         → Grows t ls i n rs (set rs n (row_of i j r)) (record { place = i; branch = j; action = a; rate = m } ∷ []) (n + 1)
     one_more a m s q =
@@ -116,10 +110,9 @@ module _ (t : List ℕ) (ls : List ℤ) (i j n : ℕ) (rs : List Row) (r : Offer
           room = omega (arith, length-set rs n (row_of i j r));
         }
 
-    pub one-put : (g : Option offers.Guard) → (r.kind ≡ 1 → ⊥) → (r.kind ≡ 0 → ⊥) → ShowsOffer t ls g r
-        → CollectsOne t ls i j n rs (set rs n (row_of i j r)) g (Ok (n + 1))
+    pub one-put : (g : Option offers.Guard) → ShowsOffer t ls g (Some (Some r)) → CollectsOne t ls i j n rs (set rs n (row_of i j r)) g (Ok (n + 1))
     unfolding is_none guard_or slot_of Option-elim
-    one-put none not1 not0 (shown.missing q) = absurd (not1 (kind-is 1 0 q))
-    one-put (some offers.shut) not1 not0 (shown.shut q) = absurd (not0 (kind-is 0 0 q))
-    one-put (some (offers.bare a m)) not1 not0 (shown.bare s q) = all refl (one_more a m s q)
-    one-put (some (offers.opened a m)) not1 not0 (shown.opened s q) = all refl (one_more a m s q)
+    one-put none x = elim x [ ]
+    one-put (some offers.shut) (shown.there x) = elim x [ ]
+    one-put (some (offers.bare a m)) (shown.there (shown.bare s q)) = all refl (one_more a m s q)
+    one-put (some (offers.opened a m)) (shown.there (shown.opened s q)) = all refl (one_more a m s q)

@@ -30,7 +30,7 @@ use Rattle.offers.specs.declared.Stop.TheVariants.{Missing, Full}
 use Rattle.offers.specs.Walk.{slots_from, slots_of}
 use Rattle.offers.specs.Table.{locals_of, Holds}
 use Rattle.offers.specs.Collect as Collect
-use Rattle.offers.specs.Collect.{Branched, Collects, at_place, FewBranches, World, Answers}
+use Rattle.offers.specs.Collect.{Branched, Collects, FewBranches, World, Answers}
 use Rattle.offers.proofs.Walk.{from-few, of-next, missing-here, missing-later}
 
 module _ {t roots scopes : List ℕ} {zs : List ℤ} {m : Resolved.Model} {s : State} (w : World t roots scopes zs m s) where
@@ -138,9 +138,8 @@ module _ {t roots scopes : List ℕ} {zs : List ℤ} {m : Resolved.Model} {s : S
         room = g.room;
       }
 
-  pub progress-stops : (e : Stop ℕ) → Collects t p.locals i 0 n rs rs' (branches_of m p) (Err e) → Progress t rs m s.processes i n → Answers t rs' m s.processes (Err (at_place i e))
-  unfolding at_place
-  progress-stops (Missing j) (Collect.Collects.lacks e) q = Collect.Answers.lacks (q.missing-is ∙ missing-here m (get_nth s.processes i at) j e)
+  pub progress-stops : (e : Stop) → Collects t p.locals i 0 n rs rs' (branches_of m p) (Err e) → Progress t rs m s.processes i n → Answers t rs' m s.processes (Err e)
+  progress-stops (Missing i' j) (Collect.Collects.lacks e) q = Collect.Answers.lacks (q.missing-is ∙ missing-here m (get_nth s.processes i at) j e)
   progress-stops Full (Collect.Collects.full l) q = Collect.Answers.full l
 
 drop_all : {A : Type 0} (i : ℕ) (xs : List A) → length xs ≤ i → drop i xs ≡ []

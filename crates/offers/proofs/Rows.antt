@@ -41,10 +41,10 @@ module _ (rs : List Row) (n i j : ℕ) (r : Offer) (small : Small r) (pi : i < 2
   unfolding offer_in row_of
   read_back =
       rw (
-        head-kind r.kind r.shape r.count j i r.rate small.kind small.channel small.count pj pi,
-        head-shape r.kind r.shape r.count j i r.rate small.kind small.channel small.count pj pi,
-        head-count r.kind r.shape r.count j i r.rate small.kind small.channel small.count pj pi,
-        head-rate r.kind r.shape r.count j i r.rate small.kind small.channel small.count pj pi,
+        head-kind r.kind r.channel.shape r.list.count j i r.rate small.kind small.channel small.count pj pi,
+        head-shape r.kind r.channel.shape r.list.count j i r.rate small.kind small.channel small.count pj pi,
+        head-count r.kind r.channel.shape r.list.count j i r.rate small.kind small.channel small.count pj pi,
+        head-rate r.kind r.channel.shape r.list.count j i r.rate small.kind small.channel small.count pj pi,
       )
 
   pub holds_more : (t : List ℕ) (ls : ℕ → List ℤ) (xs : List Slot) (a : rules.Action) → length xs ≡ n → Holds t ls rs xs → ShowsAction t (ls i) r a
@@ -61,9 +61,9 @@ module _ (rs : List Row) (n i j : ℕ) (r : Offer) (small : Small r) (pi : i < 2
       new : Shown t ls (row_of i j r) (record { place = i; branch = j; action = a; rate = r.rate })
       new =
           record {
-            place_is = head-place r.kind r.shape r.count j i r.rate small.kind small.channel small.count pj pi;
-            branch-is = head-branch r.kind r.shape r.count j i r.rate small.kind small.channel small.count pj pi;
-            rate-is = head-rate r.kind r.shape r.count j i r.rate small.kind small.channel small.count pj pi;
+            place_is = head-place r.kind r.channel.shape r.list.count j i r.rate small.kind small.channel small.count pj pi;
+            branch-is = head-branch r.kind r.channel.shape r.list.count j i r.rate small.kind small.channel small.count pj pi;
+            rate-is = head-rate r.kind r.channel.shape r.list.count j i r.rate small.kind small.channel small.count pj pi;
             rate-fits = small.rate;
             shows = rw read_back sh;
           }

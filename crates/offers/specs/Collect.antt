@@ -31,28 +31,19 @@ pub record Grows (t : List ℕ) (ls : List ℤ) (i n : ℕ) (rs rs' : List Row) 
   pub rows : n' ≡ n + length ys
   pub room : n' ≤ length rs'
 
--- up to where the rows are filled; or the first branch without value, or no row is left
+-- up to where the rows are filled; or the first branch without value, by its place, or no row is left
 abbrev pub Walked : Type 0
-Walked = Result ℕ (Stop ℕ)
-
--- the same of all places: the place and the branch
-abbrev pub Collected : Type 0
-Collected = Result ℕ (Stop (ℕ × ℕ))
-
--- a branch of place i
-unfoldable pub at_place : ℕ → Stop ℕ → Stop (ℕ × ℕ)
-at_place i (Missing j) = Missing (i, j)
-at_place i Full = Full
+Walked = Result ℕ Stop
 
 -- branch j at place i, which offers g
 pub data CollectsOne (t : List ℕ) (ls : List ℤ) (i j n : ℕ) (rs rs' : List Row) (g : Option offers.Guard) : Walked → Type 0 where
-  lacks : g ≡ none → CollectsOne t ls i j n rs rs' g (Err (Missing j))
+  lacks : g ≡ none → CollectsOne t ls i j n rs rs' g (Err (Missing i j))
   all : {n' : ℕ} → is_none g ≡ false → Grows t ls i n rs rs' (slot_of i j (guard_or g)) n' → CollectsOne t ls i j n rs rs' g (Ok n')
   full : length rs' < row_limit → CollectsOne t ls i j n rs rs' g (Err Full)
 
 -- branches counted from j on
 pub data Collects (t : List ℕ) (ls : List ℤ) (i j n : ℕ) (rs rs' : List Row) (bs : List Resolved.Branch) : Walked → Type 0 where
-  lacks : {q : ℕ} → missing_branch ls j bs ≡ some q → Collects t ls i j n rs rs' bs (Err (Missing q))
+  lacks : {q : ℕ} → missing_branch ls j bs ≡ some q → Collects t ls i j n rs rs' bs (Err (Missing i q))
   all : {n' : ℕ} → missing_branch ls j bs ≡ none → Grows t ls i n rs rs' (slots_from ls i j bs) n' → Collects t ls i j n rs rs' bs (Ok n')
   full : length rs' < row_limit → Collects t ls i j n rs rs' bs (Err Full)
 
@@ -74,7 +65,7 @@ pub record World (t roots scopes : List ℕ) (zs : List ℤ) (m : Resolved.Model
   pub numbers : zs ≡ state_numbers s
 
 -- all places: 12's answer
-pub data Answers (t : List ℕ) (rs : List Row) (m : Resolved.Model) (ps : List Process) : Collected → Type 0 where
-  lacks : {i j : ℕ} → missing m 0 ps ≡ some (i, j) → Answers t rs m ps (Err (Missing (i, j)))
+pub data Answers (t : List ℕ) (rs : List Row) (m : Resolved.Model) (ps : List Process) : Walked → Type 0 where
+  lacks : {i j : ℕ} → missing m 0 ps ≡ some (i, j) → Answers t rs m ps (Err (Missing i j))
   all : missing m 0 ps ≡ none → Holds t (locals_of ps) rs (slots_of m 0 ps) → length (slots_of m 0 ps) ≤ length rs → Answers t rs m ps (Ok (length (slots_of m 0 ps)))
   full : length rs < row_limit → Answers t rs m ps (Err Full)

@@ -17,36 +17,29 @@ offer_in r =
     record {
       kind = kind_in r.head;
       rate = rate_in r.head;
-      shape = shape_in r.head;
-      channel = r.channel;
-      count = count_in r.head;
-      first = r.first;
-      first_end = r.first_end;
-      second = r.second;
-      second_end = r.second_end;
-      channel2 = r.channel2;
-      channel3 = r.channel3;
+      channel = record { shape = shape_in r.head; first = r.channel; second = r.channel2; third = r.channel3 };
+      list = record { count = count_in r.head; first = r.first; first_end = r.first_end; second = r.second; second_end = r.second_end };
     }
 
 -- an offer of branch j at place i, as it is written
 unfoldable pub row_of : (i j : ℕ) → Offer → Row
 row_of i j o =
     record {
-      head = head o.kind o.shape o.count j i o.rate;
-      channel = o.channel;
-      first = o.first;
-      first_end = o.first_end;
-      second = o.second;
-      second_end = o.second_end;
-      channel2 = o.channel2;
-      channel3 = o.channel3;
+      head = head o.kind o.channel.shape o.list.count j i o.rate;
+      channel = o.channel.first;
+      first = o.list.first;
+      first_end = o.list.first_end;
+      second = o.list.second;
+      second_end = o.list.second_end;
+      channel2 = o.channel.second;
+      channel3 = o.channel.third;
     }
 
 -- an offer whose small numbers fit a head
 pub record Small (r : Offer) : Type 0 where
   pub kind : r.kind < 64
-  pub channel : r.shape < 32
-  pub count : r.count < 4
+  pub channel : r.channel.shape < 32
+  pub count : r.list.count < 4
   pub rate : r.rate ≤ rate_limit
 
 -- the locals of the process at a place

@@ -2,12 +2,11 @@
 
 // What the open branches of a state offer, in a table.
 ghost use Rattle.std.specs.Prelude.{◌≡◌, ℕ, suc, ◌+◌, ◌*◌, ◌≤◌, ◌<◌, length, set, List};
-ghost use Rattle.value.specs.Range.{InRange};
 ghost use Rattle.model.specs.Resolved as Resolved;
 ghost use Rattle.model.specs.Limits.{branch_limit};
 ghost use Rattle.model.specs.Opening.{process_limit};
 ghost use Rattle.tables.specs.Settled as Settled;
-ghost use Rattle.model.specs.Good.{Every, GoodBranch};
+ghost use Rattle.model.specs.Good.{GoodBranch};
 ghost use Rattle.std.proofs.Math.Option.{some};
 ghost use Rattle.std.proofs.Math.ListN.{get_elem?};
 ghost use Rattle.machine.specs.State.{State};
@@ -20,7 +19,9 @@ ghost use Rattle.offers.specs.Table.{offer_in, row_of, locals_of, Small};
 ghost use Rattle.offers.specs.Collect as Collect;
 ghost use Rattle.offers.specs.Links.{row_limit, bucket_limit, bucket_part, bucket_of, Linked};
 
-use eval::offer::Offer;
+use eval::Context;
+use eval::channel::Channel;
+use eval::offer::{Listed, Offer};
 pub use row::Row;
 use tables::Tables;
 use tree::NodeKind;
@@ -50,7 +51,8 @@ impl Table {
     pub const BUCKETS: usize = 256;
 }
 
-// Room for a table of offers and its links. These stand beside the rows, so that a row takes 64 bytes, and 72 with a link in it.
+// Room for a table of offers and its links: chains of row numbers, a bucket each, since there is no heap for a map. The links stand beside the rows, so that a row
+// takes 64 bytes; with a link in it, it takes 72, and the large table, which stands in fixed memory, 24 KiB more.
 #[derive(Drop)]
 pub struct Space<const ROWS: usize> {
     pub rows: [Row; ROWS],
@@ -59,7 +61,7 @@ pub struct Space<const ROWS: usize> {
 }
 
 // A head has the kind below KINDS, the channel's shape below SHAPES, the count of values or sets below COUNTS, these three together below SMALL, then branch,
-// place and rate.
+// place and rate. In fields of their own they take nine bytes, a row 72, and the large table 32 KiB more.
 const KINDS: u64 = 64;
 
 const SHAPES: u64 = 32;
@@ -89,7 +91,7 @@ fn bucket_part(z: i64) -> usize
     z as usize % Table::BUCKETS
 }
 
-// The bucket of a channel by the values of its items.
+// The bucket of a channel by the values of its items, as a row has them.
 pub fn bucket_of(first: i64, second: i64, third: i64) -> usize
     ensures { (result ≡ bucket_of first second third) × (result < bucket_limit) }
 {
@@ -124,21 +126,23 @@ pub fn link(rows: &[Row], firsts: &mut [u16; Table::BUCKETS], nexts: &mut [u16])
     }
 }
 
-// The row of what a branch offers.
+// The row of what a branch offers, field by field: a row has the offer's numbers in another order, some of them in its head.
 fn row_of(place: usize, branch: usize, o: Offer) -> Row
     requires { (place < process_limit) × (branch < branch_limit) × (Small o) }
     ensures { result ≡ row_of place branch o }
 {
-    let small = o.kind as u64 + KINDS * (o.shape as u64 + SHAPES * o.count as u64);
+    let channel = o.channel;
+    let list = o.list;
+    let small = o.kind as u64 + KINDS * (channel.shape as u64 + SHAPES * list.count as u64);
     Row {
         head: small + SMALL * (branch as u64 + BRANCHES * (place as u64 + PLACES * o.rate)),
-        channel: o.channel,
-        first: o.first,
-        first_end: o.first_end,
-        second: o.second,
-        second_end: o.second_end,
-        channel2: o.channel2,
-        channel3: o.channel3,
+        channel: channel.first,
+        first: list.first,
+        first_end: list.first_end,
+        second: list.second,
+        second_end: list.second_end,
+        channel2: channel.second,
+        channel3: channel.third,
     }
 }
 
@@ -150,15 +154,19 @@ pub fn offer_in(row: Row) -> Offer
     Offer {
         kind: kind_in(head),
         rate: rate_in(head),
-        shape: (head / KINDS % SHAPES) as u8,
-        channel: row.channel,
-        count: (head / KINDS / SHAPES % COUNTS) as usize,
-        first: row.first,
-        first_end: row.first_end,
-        second: row.second,
-        second_end: row.second_end,
-        channel2: row.channel2,
-        channel3: row.channel3,
+        channel: Channel {
+            shape: (head / KINDS % SHAPES) as u8,
+            first: row.channel,
+            second: row.channel2,
+            third: row.channel3,
+        },
+        list: Listed {
+            count: (head / KINDS / SHAPES % COUNTS) as usize,
+            first: row.first,
+            first_end: row.first_end,
+            second: row.second,
+            second_end: row.second_end,
+        },
     }
 }
 
@@ -181,44 +189,30 @@ pub fn rate_in(head: u64) -> u64
     head / SMALL / BRANCHES / PLACES
 }
 
-// Why not all rows are filled: what lacks a value, or no row is left.
+// Why not all rows are filled: the branch at a place lacks a value, or no row is left.
 #[derive(Clone, Copy)]
-pub enum Stop<T> {
-    Missing(T),
+pub enum Stop {
+    Missing(usize, usize),
     Full,
 }
 
-// The same of the process at a place.
-fn at_place(stop: Stop<usize>, place: usize) -> Stop<(usize, usize)>
-    ensures { result ≡ Collect.at_place place stop }
-{
-    match stop {
-        Stop::Missing(branch) => Stop::Missing((place, branch)),
-        Stop::Full => Stop::Full,
-    }
-}
-
-// Puts the offer of the branch at k into a row, if it isn't hidden and there is one: up to where the rows are filled, or the branch without value.
+// Puts the offer of the branch at k into a row, if it isn't hidden and there is one: up to where the rows are filled, or the branch without value. The rows are the
+// caller's, with the count handed on: a struct of the lent slice and its count would lose what it wrote.
 fn collect_branch(
-    nodes: &[u64],
-    locals: &[i64],
+    context: Context,
     place: usize,
     branch: usize,
     k: usize,
     rows: &mut [Row],
     row: usize,
-) -> Result<usize, Stop<usize>>
-    requires { ((m : Resolved.Model) × Held (Settled.Branch nodes.now) (GoodBranch m (length locals.now)) k) × (Every InRange locals.now) × (row ≤ length rows.old) × (row < row_limit) × (place < process_limit) × (branch < branch_limit) }
-    ensures { (b : Resolved.Branch) → Settled.Branch nodes.now b k → Collect.CollectsOne nodes.now locals.now place branch row rows.old rows.new (eval_branch locals.now b) result }
+) -> Result<usize, Stop>
+    requires { ((m : Resolved.Model) × Held (Settled.Branch context.nodes.now) (GoodBranch m (length context.locals.now)) k) × (row ≤ length rows.old) × (row < row_limit) × (place < process_limit) × (branch < branch_limit) }
+    ensures { (b : Resolved.Branch) → Settled.Branch context.entry.nodes.now b k → Collect.CollectsOne context.entry.nodes.now context.entry.locals.now place branch row rows.old rows.new (eval_branch context.entry.locals.now b) result }
 {
-    let o = eval::offer::offer_of(nodes, locals, k);
-    let kind = o.kind;
-    if kind == Offer::MISSING {
-        return Err(Stop::Missing(branch));
-    }
-    if kind == Offer::HIDDEN {
+    let shown = eval::offer::offer_of(context, k).ok_or(Stop::Missing(place, branch))?;
+    let Some(o) = shown else {
         return Ok(row);
-    }
+    };
     if rows.len() <= row {
         return Err(Stop::Full);
     }
@@ -228,25 +222,24 @@ fn collect_branch(
 
 // Puts the offers of the branches at k into rows, counted from `branch` on.
 fn collect_branches(
-    nodes: &[u64],
-    locals: &[i64],
+    context: Context,
     place: usize,
     branch: usize,
     k: usize,
     rows: &mut [Row],
     row: usize,
-) -> Result<usize, Stop<usize>>
-    requires { (Collect.Branched nodes.now (length locals.now) branch k) × (Every InRange locals.now) × (row ≤ length rows.old) × (place < process_limit) × (row ≤ place * branch_limit + branch) }
-    ensures { (bs : List Resolved.Branch) → Settled.Branches nodes.now bs k → Collect.Collects nodes.now locals.now place branch row rows.old rows.new bs result }
+) -> Result<usize, Stop>
+    requires { (Collect.Branched context.nodes.now (length context.locals.now) branch k) × (row ≤ length rows.old) × (place < process_limit) × (row ≤ place * branch_limit + branch) }
+    ensures { (bs : List Resolved.Branch) → Settled.Branches context.entry.nodes.now bs k → Collect.Collects context.entry.nodes.now context.entry.locals.now place branch row rows.old rows.new bs result }
 {
-    let cell = eval::cell_at(nodes, k);
+    let cell = eval::cell_at(context.nodes, k);
     let kind = tree::kind_of(cell);
     if kind != NodeKind::CHOICE {
-        return collect_branch(nodes, locals, place, branch, k, rows, row);
+        return collect_branch(context, place, branch, k, rows, row);
     }
     let left = tree::left_of(cell);
-    let next = collect_branch(nodes, locals, place, branch, left, rows, row)?;
-    collect_branches(nodes, locals, place, branch + 1, k - 1, rows, next)
+    let next = collect_branch(context, place, branch, left, rows, row)?;
+    collect_branches(context, place, branch + 1, k - 1, rows, next)
 }
 
 // The locals of the process at a place.
@@ -266,34 +259,31 @@ fn collect_place(
     place: usize,
     rows: &mut [Row],
     row: usize,
-) -> Result<usize, Stop<usize>>
+) -> Result<usize, Stop>
     requires { ((m : Resolved.Model) × (s : State) × Collect.World tables.nodes.now tables.roots.now tables.scopes.now state.now m s) × (place < process_count state.now) × (row ≤ length rows.old) × (row ≤ place * branch_limit) }
     ensures { (m : Resolved.Model) (s : State) (p : Process) → Collect.World tables.entry.nodes.now tables.entry.roots.now tables.entry.scopes.now state.now m s → get_elem? s.processes place ≡ some p → Collect.Collects tables.entry.nodes.now p.locals place 0 row rows.old rows.new (branches_of m p) result }
 {
+    // Not by `locals_of`: the sum is wanted too, for the root.
     let sum = state::sum_at(state, place);
     let count = state::locals_in(tables.scopes[sum]);
     let locals = state::locals_at(state, place, count);
     let root = tables.roots[sum] as usize;
-    collect_branches(tables.nodes, locals, place, 0, root, rows, row)
+    let context = Context {
+        nodes: tables.nodes,
+        locals,
+    };
+    collect_branches(context, place, 0, root, rows, row)
 }
 
 // Puts the offers of all processes into rows.
-pub fn collect(
-    tables: Tables,
-    state: &[i64],
-    rows: &mut [Row],
-) -> Result<usize, Stop<(usize, usize)>>
+pub fn collect(tables: Tables, state: &[i64], rows: &mut [Row]) -> Result<usize, Stop>
     requires { ((m : Resolved.Model) × (s : State) × Collect.World tables.nodes.now tables.roots.now tables.scopes.now state.now m s) }
     ensures { (m : Resolved.Model) (s : State) → Collect.World tables.entry.nodes.now tables.entry.roots.now tables.entry.scopes.now state.now m s → Collect.Answers tables.entry.nodes.now rows.new m s.processes result }
 {
     let places = state::process_count(state);
     let mut row = 0;
     for place in 0..places {
-        let walked = collect_place(tables, state, place, rows, row);
-        match walked {
-            Ok(next) => row = next,
-            Err(stop) => return Err(at_place(stop, place)),
-        }
+        row = collect_place(tables, state, place, rows, row)?;
     }
     Ok(row)
 }

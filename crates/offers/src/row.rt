@@ -12,7 +12,7 @@ pub struct Row {
 }
 
 impl Row {
-    // What stands in a table before its rows are filled.
+    // What stands in a table before its rows are filled: a constant, where `Default` would be a call for each table that is made.
     pub const EMPTY: Row = Row {
         head: 0,
         channel: 0,

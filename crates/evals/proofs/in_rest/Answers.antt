@@ -5,4 +5,8 @@ use Rattle.evals.proofs.in_rest.Goals as goal
 
 pub in_set-requires : goal.in_set-requires
 in_set-requires c =
-    (rw (c.literal.ensures, c.literal-2.ensures, c.cell-range.ensures, c.literal-3.ensures, c.cell-without.ensures, to_z-of_z c.ranges.x, to_z-of_z c.ranges.y, to_z-of_z c.ranges.z) (rest-holds c.args.x c.args.y c.requires.0 c.requires.1 c.args.z c.requires.2), zeros-in)
+    rw (c.literal.ensures, c.literal-2.ensures, c.cell-range.ensures, c.literal-3.ensures, c.cell-without.ensures, to_z-of_z c.ranges.x, to_z-of_z c.ranges.y, to_z-of_z c.ranges.z) (rest-holds c.args.x c.args.y c.requires.0 c.requires.1 c.args.z c.requires.2)
+
+pub invariant_of-context : goal.invariant_of-context
+invariant_of-context c =
+    record { in_range = zeros-in }

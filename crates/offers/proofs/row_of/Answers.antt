@@ -1,4 +1,5 @@
 -- The head by its parts, and the numbers. From arithmetic and the bounds of an i64.
+use native.Mathlib.Omega.{arith}
 use Rattle.value.proofs.Kit.{back}
 use Rattle.offers.specs.Table.{row_of}
 use Rattle.offers.proofs.Rows.{head-is}
@@ -8,6 +9,5 @@ pub returns : goal.returns
 unfolding row_of
 returns c =
     let o = c.args.o in
-    let g = c.struct_told-1.given.1.1.1 in
-    rw (head-is o.kind o.shape o.count c.args.branch c.args.place o.rate)
-    (simp (back o.channel g.0.1, back o.first g.1.1.0.1, back o.first_end g.1.1.1.0.1, back o.second g.1.1.1.1.0.1, back o.second_end g.1.1.1.1.1.0.1, back o.channel2 g.1.1.1.1.1.1.0.1, back o.channel3 g.1.1.1.1.1.1.1.0.1))
+    rw (head-is o.kind o.channel.shape o.list.count c.args.branch c.args.place o.rate)
+    (simp (back o.channel.first (omega arith), back o.channel.second (omega arith), back o.channel.third (omega arith), back o.list.first (omega arith), back o.list.first_end (omega arith), back o.list.second (omega arith), back o.list.second_end (omega arith)))

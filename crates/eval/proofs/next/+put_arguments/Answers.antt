@@ -13,28 +13,28 @@ use Rattle.eval.proofs.next.+put_arguments.Goals as goal
 pub eval_node-requires : goal.eval_node-requires
 eval_node-requires t c =
     let s = c in
-    let T = s.args.nodes.now in
-    let L = s.args.locals.now in
+    let T = s.args.context.nodes.now in
+    let L = s.args.context.locals.now in
     let k = s.args.k in
     let is = c.kind_of.ensures ∙ ap kind_of c.cell_at-cell.ensures in
-    (last-part T k c.kind_of.result is c.if-kind_of-ne-ARGUMENT.true (length L) (room-some T (length L) k _ _ s.requires.0), s.requires.1)
+    last-part T k c.kind_of.result is c.if-kind_of-ne-ARGUMENT.true (length L) (room-some T (length L) k _ _ s.requires)
 
 pub offset_bounds-values-at : goal.offset_bounds-values-at
 offset_bounds-values-at t c =
     let s = c in
-    let T = s.args.nodes.now in
-    let L = s.args.locals.now in
+    let T = s.args.context.nodes.now in
+    let L = s.args.context.locals.now in
     let k = s.args.k in
-    let h = room-inside T (length L) k _ _ s.requires.0 in
+    let h = room-inside T (length L) k _ _ s.requires in
     omega (arith, h, s.well_formed)
 
 pub bounds-values-at : goal.bounds-values-at
 bounds-values-at t c =
     let s = c in
-    let T = s.args.nodes.now in
-    let L = s.args.locals.now in
+    let T = s.args.context.nodes.now in
+    let L = s.args.context.locals.now in
     let k = s.args.k in
-    room-inside T (length L) k _ _ s.requires.0
+    room-inside T (length L) k _ _ s.requires
 
 pub shape_of-values-then-kind_of-ne-ARGUMENT : goal.shape_of-values-then-kind_of-ne-ARGUMENT
 shape_of-values-then-kind_of-ne-ARGUMENT t c =
@@ -43,8 +43,8 @@ shape_of-values-then-kind_of-ne-ARGUMENT t c =
 pub returns-then-kind_of-ne-ARGUMENT : goal.returns-then-kind_of-ne-ARGUMENT
 returns-then-kind_of-ne-ARGUMENT t c =
     let s = c in
-    let T = s.args.nodes.now in
-    let L = s.args.locals.now in
+    let T = s.args.context.nodes.now in
+    let L = s.args.context.locals.now in
     let k = s.args.k in
     let is = c.kind_of.ensures ∙ ap kind_of c.cell_at-cell.ensures in
     let v = s.args.values.now in
@@ -54,58 +54,58 @@ returns-then-kind_of-ne-ARGUMENT t c =
 pub eval_node-requires-2 : goal.eval_node-requires-2
 eval_node-requires-2 t c =
     let s = c in
-    let T = s.args.nodes.now in
-    let L = s.args.locals.now in
+    let T = s.args.context.nodes.now in
+    let L = s.args.context.locals.now in
     let k = s.args.k in
     let is = c.kind_of.ensures ∙ ap kind_of c.cell_at-cell.ensures in
     let e = c.left_of.ensures ∙ ap left_of c.cell_at-cell.ensures in
-    let f = more_parts T k c.kind_of.result is c.if-kind_of-ne-ARGUMENT.false (length L) (room-some T (length L) k _ _ s.requires.0) in
-    (rw e f.1, s.requires.1)
+    let f = more_parts T k c.kind_of.result is c.if-kind_of-ne-ARGUMENT.false (length L) (room-some T (length L) k _ _ s.requires) in
+    rw e f.1
 
 pub offset_bounds-values-at-2 : goal.offset_bounds-values-at-2
 offset_bounds-values-at-2 t c =
     let s = c in
-    let T = s.args.nodes.now in
-    let L = s.args.locals.now in
+    let T = s.args.context.nodes.now in
+    let L = s.args.context.locals.now in
     let k = s.args.k in
-    let h = room-inside T (length L) k _ _ s.requires.0 in
+    let h = room-inside T (length L) k _ _ s.requires in
     omega (arith, h, s.well_formed)
 
 pub bounds-values-at-2 : goal.bounds-values-at-2
 bounds-values-at-2 t c =
     let s = c in
-    let T = s.args.nodes.now in
-    let L = s.args.locals.now in
+    let T = s.args.context.nodes.now in
+    let L = s.args.context.locals.now in
     let k = s.args.k in
-    room-inside T (length L) k _ _ s.requires.0
+    room-inside T (length L) k _ _ s.requires
 
 pub overflow_sub-k : goal.overflow_sub-k
 overflow_sub-k t c =
     let s = c in
-    let T = s.args.nodes.now in
-    let L = s.args.locals.now in
+    let T = s.args.context.nodes.now in
+    let L = s.args.context.locals.now in
     let k = s.args.k in
     let is = c.kind_of.ensures ∙ ap kind_of c.cell_at-cell.ensures in
-    (more_parts T k c.kind_of.result is c.if-kind_of-ne-ARGUMENT.false (length L) (room-some T (length L) k _ _ s.requires.0)).0
+    (more_parts T k c.kind_of.result is c.if-kind_of-ne-ARGUMENT.false (length L) (room-some T (length L) k _ _ s.requires)).0
 
 pub overflow_add-at : goal.overflow_add-at
 overflow_add-at t c =
     let s = c in
-    let T = s.args.nodes.now in
-    let L = s.args.locals.now in
+    let T = s.args.context.nodes.now in
+    let L = s.args.context.locals.now in
     let k = s.args.k in
-    let h = room-inside T (length L) k _ _ s.requires.0 in
+    let h = room-inside T (length L) k _ _ s.requires in
     omega (arith, h, s.well_formed)
 
 pub put_arguments-requires : goal.put_arguments-requires
 put_arguments-requires t c =
     let s = c in
-    let T = s.args.nodes.now in
-    let L = s.args.locals.now in
+    let T = s.args.context.nodes.now in
+    let L = s.args.context.locals.now in
     let k = s.args.k in
     let is = c.kind_of.ensures ∙ ap kind_of c.cell_at-cell.ensures in
-    let f = more_parts T k c.kind_of.result is c.if-kind_of-ne-ARGUMENT.false (length L) (room-some T (length L) k _ _ s.requires.0) in
-    (omega (arith, s.decreases, f.0), (rw length-set (room-more T (length L) k _ _ s.requires.0 (sym is ∙ c.if-kind_of-ne-ARGUMENT.false)), s.requires.1))
+    let f = more_parts T k c.kind_of.result is c.if-kind_of-ne-ARGUMENT.false (length L) (room-some T (length L) k _ _ s.requires) in
+    (omega (arith, s.decreases, f.0), rw length-set (room-more T (length L) k _ _ s.requires (sym is ∙ c.if-kind_of-ne-ARGUMENT.false)))
 
 pub shape_of-values : goal.shape_of-values
 shape_of-values t c =
@@ -115,8 +115,8 @@ shape_of-values t c =
 pub returns : goal.returns
 returns t c =
     let s = c in
-    let T = s.args.nodes.now in
-    let L = s.args.locals.now in
+    let T = s.args.context.nodes.now in
+    let L = s.args.context.locals.now in
     let k = s.args.k in
     let is = c.kind_of.ensures ∙ ap kind_of c.cell_at-cell.ensures in
     let e = c.left_of.ensures ∙ ap left_of c.cell_at-cell.ensures in

@@ -22,7 +22,7 @@ put_arguments-requires c =
     let L = s.args.locals.now in
     let k = s.args.k in
     let b = s.args.body in
-    (values-room T _ (length L) k b _ _ s.requires.0, s.requires.1)
+    values-room T _ (length L) k b _ _ s.requires.0
 
 pub slice_bounds-values-end : goal.slice_bounds-values-end
 slice_bounds-values-end c =

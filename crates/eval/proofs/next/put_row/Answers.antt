@@ -1,12 +1,16 @@
--- The numbers of the process, with the definition that is known of its sum.
+-- The numbers of the process, with the definition that is known of its sum, stored as a row.
 use mathlib.Core.Path.{ap, ◌∙◌}
-use Prim.Native.Nat.{ℕ, ◌*◌}
-use lib.Seq.{sets}
+use native.Mathlib.Omega.{arith}
+use Prim.Native.Nat.{ℕ, ◌+◌, ◌*◌}
+use Rattle.machine.specs.Offer.{Process}
 use Rattle.machine.specs.State.{process_width, process_numbers}
 use Rattle.eval.specs.Next.{known}
+use Rattle.eval.proofs.Rows.{row-length, row-stored}
 use Rattle.eval.proofs.next.put_row.Goals as goal
 
 pub returns : goal.returns
 unfolding known
 returns c =
-    c.put_numbers.ensures ∙ ap (λ (d : ℕ). sets c.args.fresh.now (c.args.at * process_width) (process_numbers (record { sum = c.args.sum; locals = c.args.locals.now; definition = d }))) c.definition_in-definition.ensures.0
+    let p : Process = known c.args.scopes.now c.args.sum c.args.locals.now in
+    let e = c.copy_from_slice.ensures.after ∙ (c.numbers_of-row.ensures ∙ ap (λ (d : ℕ). process_numbers (record { sum = c.args.sum; locals = c.args.locals.now; definition = d })) c.definition_in.ensures.0) in
+    rw e (row-stored c.args.fresh.now (process_numbers p) (c.args.at * process_width) (c.args.at * process_width + process_width) (omega (arith, row-length p c.requires.1)) (omega (arith, c.requires.2)))

@@ -1,19 +1,16 @@
 -- `eval::offer::carries` meets its contract. By the tests.
-use borrow.Author.Tests.{eq-eqb, ne_eqb}
-use Rattle.eval.specs.Shown.{carries}
+use native.Mathlib.Omega.{arith}
+use Rattle.eval.proofs.Offers.{carries-yes, carries-no}
 use Rattle.eval.proofs.offer.carries.Goals as goal
 
-pub returns-then-kind-eq-LAUNCH : goal.returns-then-kind-eq-LAUNCH
-unfolding carries
-returns-then-kind-eq-LAUNCH c =
-    rw (eq-eqb _ _ c.if-kind-eq-LAUNCH.true)
+pub returns-in_default : goal.returns-in_default
+returns-in_default c = carries-no c.args.kind (λ e. omega arith) (λ e. omega arith) (λ e. omega arith)
 
-pub returns-then-kind-eq-KILL : goal.returns-then-kind-eq-KILL
-unfolding carries
-returns-then-kind-eq-KILL c =
-    rw (ne_eqb _ _ c.if-kind-eq-LAUNCH.false, eq-eqb _ _ c.if-kind-eq-KILL.true)
+pub returns-in_default-2 : goal.returns-in_default-2
+returns-in_default-2 c = carries-no c.args.kind (λ e. omega arith) (λ e. omega arith) (λ e. omega arith)
 
-pub returns : goal.returns
-unfolding carries
-returns c =
-    rw (ne_eqb _ _ c.if-kind-eq-LAUNCH.false, ne_eqb _ _ c.if-kind-eq-KILL.false)
+pub returns-in-37 : goal.returns-in-37
+returns-in-37 c = carries-yes c.args.kind (λ e f g. omega (arith, c.in-37.is, g))
+
+pub returns-in-37-2 : goal.returns-in-37-2
+returns-in-37-2 c = carries-yes c.args.kind (λ e f g. omega (arith, e, f))

@@ -2,75 +2,61 @@
 
 // Whether two entries of a listing can be taken in either order.
 ghost use Rattle.std.specs.Prelude.{◌≡◌};
-ghost use Rattle.rules.specs.Rules.{key};
-ghost use Rattle.rules.specs.Listing.{entry};
+ghost use Rattle.rules.specs.Listing.{key_of};
 ghost use Rattle.rules.specs.Carried.{places};
-ghost use Rattle.rules.specs.Independent.{is_one_of, meet, is_movable};
+ghost use Rattle.rules.specs.Independent.{is_one_of, meet, is_quiet, is_movable, is_independent};
+ghost use Rattle.listing.specs.Buffer.{entry_of};
 ghost use Rattle.independence.specs.Judged.{judged};
 
-use listing::{EntryKind, Limits};
+use listing::{Entry, EntryKind, Limits};
 
-// Whether an entry is above weight zero, and neither a launch nor a kill.
-fn is_movable(kind: u64, weight: u64) -> bool
-    ensures { result ≡ is_movable (entry (key kind 0 0 0 0 0) weight) }
+// Whether an entry is neither a launch nor a kill.
+fn is_quiet(e: Entry) -> bool
+    ensures { result ≡ is_quiet (key_of (entry_of e)) }
 {
-    if weight == 0 {
-        return false;
-    }
-    if kind == EntryKind::LAUNCH {
-        return false;
-    }
-    kind != EntryKind::KILL
+    e.kind != EntryKind::LAUNCH && e.kind != EntryKind::KILL
+}
+
+// Whether it is above weight zero too.
+fn is_movable(e: Entry) -> bool
+    ensures { result ≡ is_movable (entry_of e) }
+{
+    e.weight != 0 && is_quiet(e)
 }
 
 // Whether an entry has the process at this place act.
-fn acts_at(kind: u64, place: u64, partner: u64, at: u64) -> bool
-    ensures { result ≡ is_one_of at (places (key kind place 0 partner 0 0)) }
+fn acts_at(e: Entry, at: usize) -> bool
+    ensures { result ≡ is_one_of at (places (key_of (entry_of e))) }
 {
-    if at == place {
-        return true;
-    }
-    if kind == EntryKind::HANDSHAKE {
-        return at == partner;
-    }
-    false
+    at == e.place || e.kind == EntryKind::HANDSHAKE && at == e.partner
 }
 
 // Whether two entries share a process.
-fn overlap(kind: u64, place: u64, partner: u64, okind: u64, oplace: u64, opartner: u64) -> bool
-    ensures { result ≡ meet (places (key kind place 0 partner 0 0)) (places (key okind oplace 0 opartner 0 0)) }
+fn overlap(e: Entry, other: Entry) -> bool
+    ensures { result ≡ meet (places (key_of (entry_of e))) (places (key_of (entry_of other))) }
 {
-    if acts_at(okind, oplace, opartner, place) {
-        return true;
-    }
-    if kind == EntryKind::HANDSHAKE {
-        return acts_at(okind, oplace, opartner, partner);
-    }
-    false
+    acts_at(other, e.place) || e.kind == EntryKind::HANDSHAKE && acts_at(other, e.partner)
 }
 
-// Whether two entries of one listing, seven numbers each, lead to one state in either order.
+// Whether two entries of one listing lead to one state in either order.
+fn judge(e: Entry, other: Entry) -> bool
+    ensures { result ≡ is_independent (entry_of e) (entry_of other) }
+{
+    if !is_movable(e) {
+        return false;
+    }
+    is_movable(other) && !overlap(e, other)
+}
+
+// The same of their rows; of any but seven numbers, no.
 pub fn independent(entry: &[u64], other: &[u64]) -> bool
     ensures { result ≡ judged entry.now other.now }
 {
-    if entry.len() != Limits::ENTRY {
+    let Ok(row) = <[u64; Limits::ENTRY]>::try_from(entry) else {
         return false;
-    }
-    if other.len() != Limits::ENTRY {
+    };
+    let Ok(also) = <[u64; Limits::ENTRY]>::try_from(other) else {
         return false;
-    }
-    if !is_movable(entry[Limits::KIND], entry[Limits::WEIGHT]) {
-        return false;
-    }
-    if !is_movable(other[Limits::KIND], other[Limits::WEIGHT]) {
-        return false;
-    }
-    !overlap(
-        entry[Limits::KIND],
-        entry[Limits::PLACE],
-        entry[Limits::PARTNER],
-        other[Limits::KIND],
-        other[Limits::PLACE],
-        other[Limits::PARTNER],
-    )
+    };
+    judge(Entry::from(row), Entry::from(also))
 }

@@ -3,8 +3,9 @@ use Prim.Native.Nat.{ℕ, suc, ◌+◌, ◌*◌, ◌-◌, ◌≤◌, ◌<◌}
 use mathlib.Core.Path.{◌≡◌, refl, sym, ap, ◌∙◌}
 use mathlib.Core.List.{List, [], ◌∷◌, ◌++◌, append_assoc}
 use native.Mathlib.Omega.{arith}
-use lib.ListN.{length, set, take, drop, length-append, length-drop, length-set}
-use lib.Seq.{take_all, take-append-le, drop-drop}
+use lib.ListN.{length, take, drop, length-append, length-drop}
+use lib.Seq.{length-take-le, take_all, take-append-le, drop-drop}
+use borrow.Rule.Slice.PartMut.{put_mid, same_len_mid}
 use Rattle.rules.specs.Rules.{key}
 use Rattle.rules.specs.Listing.{Entry, entry}
 use Rattle.listing.specs.Buffer.{rows, image, cut, Adds}
@@ -24,65 +25,61 @@ adds_then {es} {fs} p q =
       most = q.most;
     }
 
--- a store past the rows of the entries
-set-rows : (es : List Entry) (rest : List ℕ) (k v : ℕ) → set (rows es rest) (length es * 7 + k) v ≡ rows es (set rest k v)
+-- what stands before and after the rows of the entries
+pub take-rows : (es : List Entry) (rest zs : List ℕ) → take (length es * 7) (rows es rest) ++ zs ≡ rows es zs
 unfolding rows
-set-rows [] rest k v = let e : 0 * 7 + k ≡ k = omega arith in ap (λ i. set rest i v) e
-set-rows (entry (key c i j k m q) w ∷ es) rest l v =
-    let e : suc (length es) * 7 + l ≡ suc (suc (suc (suc (suc (suc (suc (length es * 7 + l))))))) = omega arith in
-    ap (λ t. set (c ∷ i ∷ j ∷ k ∷ m ∷ q ∷ w ∷ rows es rest) t v) e ∙ ap (λ t. c ∷ i ∷ j ∷ k ∷ m ∷ q ∷ w ∷ t) (set-rows es rest l v)
+take-rows [] rest zs = refl
+take-rows (entry (key c i j k m q) w ∷ es) rest zs =
+    let e : suc (length es) * 7 ≡ suc (suc (suc (suc (suc (suc (suc (length es * 7))))))) = omega arith in
+    ap (λ n. take n (c ∷ i ∷ j ∷ k ∷ m ∷ q ∷ w ∷ rows es rest) ++ zs) e ∙ ap (λ t. c ∷ i ∷ j ∷ k ∷ m ∷ q ∷ w ∷ t) (take-rows es rest zs)
 
-seven : (s : List ℕ) (a b c d e f g : ℕ) → 7 ≤ length s → set (set (set (set (set (set (set s 0 a) 1 b) 2 c) 3 d) 4 e) 5 f) 6 g ≡ a ∷ b ∷ c ∷ d ∷ e ∷ f ∷ g ∷ drop 7 s
-seven [] a b c d e f g l = absurd (omega arith)
-seven (x₀ ∷ []) a b c d e f g l = absurd (omega arith)
-seven (x₀ ∷ x₁ ∷ []) a b c d e f g l = absurd (omega arith)
-seven (x₀ ∷ x₁ ∷ x₂ ∷ []) a b c d e f g l = absurd (omega arith)
-seven (x₀ ∷ x₁ ∷ x₂ ∷ x₃ ∷ []) a b c d e f g l = absurd (omega arith)
-seven (x₀ ∷ x₁ ∷ x₂ ∷ x₃ ∷ x₄ ∷ []) a b c d e f g l = absurd (omega arith)
-seven (x₀ ∷ x₁ ∷ x₂ ∷ x₃ ∷ x₄ ∷ x₅ ∷ []) a b c d e f g l = absurd (omega arith)
-seven (x₀ ∷ x₁ ∷ x₂ ∷ x₃ ∷ x₄ ∷ x₅ ∷ x₆ ∷ s) a b c d e f g l = refl
+drop-rows : (es : List Entry) (rest : List ℕ) → drop (length es * 7) (rows es rest) ≡ rest
+unfolding rows
+drop-rows [] rest = refl
+drop-rows (entry (key c i j k m q) w ∷ es) rest =
+    let e : suc (length es) * 7 ≡ suc (suc (suc (suc (suc (suc (suc (length es * 7))))))) = omega arith in
+    ap (λ n. drop n (c ∷ i ∷ j ∷ k ∷ m ∷ q ∷ w ∷ rows es rest)) e ∙ drop-rows es rest
 
 rows_more : (es : List Entry) (e : Entry) (rest : List ℕ) → rows (es ++ (e ∷ [])) rest ≡ rows es (rows (e ∷ []) rest)
 unfolding rows
 rows_more [] e rest = refl
 rows_more (entry (key c i j k m q) w ∷ es) e rest = ap (λ t. c ∷ i ∷ j ∷ k ∷ m ∷ q ∷ w ∷ t) (rows_more es e rest)
 
--- the buffer after seven stores at 7 n
-abbrev pub written : List ℕ → ℕ → ℕ → ℕ → ℕ → ℕ → ℕ → ℕ → ℕ → List ℕ
-written s n a b c d e f g = set (set (set (set (set (set (set s (n * 7) a) (n * 7 + 1) b) (n * 7 + 2) c) (n * 7 + 3) d) (n * 7 + 4) e) (n * 7 + 5) f) (n * 7 + 6) g
+-- the buffer after a row written at 7 n
+abbrev pub written : List ℕ → ℕ → List ℕ → List ℕ
+written s n row = put_mid (n * 7) (n * 7 + 7 - n * 7) s row
 
-rows_written : (es : List Entry) (rest : List ℕ) (a b c d e f g : ℕ) → 7 ≤ length rest → written (rows es rest) (length es) a b c d e f g ≡ rows (es ++ (entry (key a b c d e f) g ∷ [])) (drop 7 rest)
+rows_written : (es : List Entry) (rest : List ℕ) (e : Entry) (row : List ℕ) → row ≡ rows (e ∷ []) [] → written (rows es rest) (length es) row ≡ rows (es ++ (e ∷ [])) (drop 7 rest)
 unfolding rows
-rows_written es rest a b c d e f g l =
-    let z : length es * 7 ≡ length es * 7 + 0 = omega arith in
-    ap (λ i. set (set (set (set (set (set (set (rows es rest) i a) (length es * 7 + 1) b) (length es * 7 + 2) c) (length es * 7 + 3) d) (length es * 7 + 4) e) (length es * 7 + 5) f) (length es * 7 + 6) g) z
-    ∙ simp (set-rows) (ap (rows es) (seven rest a b c d e f g l) ∙ sym (rows_more es (entry (key a b c d e f) g) (drop 7 rest)))
+rows_written es rest (entry (key c i j k m q) w) row is =
+    let d : length es * 7 + 7 - length es * 7 ≡ 7 = omega arith in
+    take-rows es rest _ ∙ ap (rows es) (rw (is, d, drop-rows es rest) refl) ∙ sym (rows_more es (entry (key c i j k m q) w) (drop 7 rest))
+
+length-of : (x : Entry) → length (rows (x ∷ []) []) ≡ 7
+unfolding rows
+length-of (entry (key c i j k m q) w) = refl
 
 -- an entry that is written
-pub adds-written : (s : List ℕ) (n a b c d e f g : ℕ) → length s ≡ 7168 → n < 1024 → Adds (entry (key a b c d e f) g ∷ []) s n (written s n a b c d e f g) (n + 1)
+pub adds-written : (s : List ℕ) (n : ℕ) (e : Entry) (row : List ℕ) → length s ≡ 7168 → n < 1024 → row ≡ rows (e ∷ []) [] → Adds (e ∷ []) s n (written s n row) (n + 1)
 unfolding image cut
-adds-written s n a b c d e f g h l =
+adds-written s n x row h l is =
     record {
       adds = λ z acc hz es ns. go z acc hz es ns;
-      size = simp length-set;
+      size = same_len_mid (n * 7) (n * 7 + 7 - n * 7) s row (omega (arith, ap length is, length-of x, length-take-le (n * 7 + 7 - n * 7) (drop (n * 7) s) (omega (arith, length-drop (n * 7) s))));
       most = omega arith;
     }
   where
-    x : Entry
-    x = entry (key a b c d e f) g
-
-    go : (z : List ℕ) (acc : List Entry) → length z ≡ 7168 → s ≡ image z acc → n ≡ cut acc → (written s n a b c d e f g ≡ image z (acc ++ (x ∷ []))) × (n + 1 ≡ cut (acc ++ (x ∷ [])))
+    go : (z : List ℕ) (acc : List Entry) → length z ≡ 7168 → s ≡ image z acc → n ≡ cut acc → (written s n row ≡ image z (acc ++ (x ∷ []))) × (n + 1 ≡ cut (acc ++ (x ∷ [])))
     go z acc hz es ns =
         let k : length acc ≡ n = omega arith in
         let t : take 1024 acc ≡ acc = take_all 1024 acc (omega arith) in
         let q : length (acc ++ (x ∷ [])) ≡ length acc + 1 = length-append acc (x ∷ []) in
         let t' : take 1024 (acc ++ (x ∷ [])) ≡ acc ++ (x ∷ []) = take_all 1024 (acc ++ (x ∷ [])) (omega arith) in
-        let d₁ : length (drop (length acc * 7) z) ≡ 7168 - length acc * 7 = (length-drop (length acc * 7) z ∙ ap (λ i. i - length acc * 7) hz) in
         let u : s ≡ rows acc (drop (length acc * 7) z) = (es ∙ ap (λ y. rows y (drop (length y * 7) z)) t) in
         let i : length acc * 7 + 7 ≡ length (acc ++ (x ∷ [])) * 7 = omega arith in
         let v : drop 7 (drop (length acc * 7) z) ≡ drop (length (acc ++ (x ∷ [])) * 7) z = (drop-drop 7 (length acc * 7) z ∙ ap (λ i. drop i z) i) in (
-          ap (λ y. written y n a b c d e f g) u ∙ ap (λ m. written (rows acc (drop (length acc * 7) z)) m a b c d e f g) (sym k)
-              ∙ rows_written acc (drop (length acc * 7) z) a b c d e f g (omega arith) ∙ ap (rows (acc ++ (x ∷ []))) v ∙ sym (ap (λ y. rows y (drop (length y * 7) z)) t'),
+          ap (λ y. written y n row) u ∙ ap (λ m. written (rows acc (drop (length acc * 7) z)) m row) (sym k)
+              ∙ rows_written acc (drop (length acc * 7) z) x row is ∙ ap (rows (acc ++ (x ∷ []))) v ∙ sym (ap (λ y. rows y (drop (length y * 7) z)) t'),
           omega arith,
         )
 

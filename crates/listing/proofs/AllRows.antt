@@ -13,7 +13,7 @@ use Rattle.rules.specs.Offers as offers
 use Rattle.rules.specs.Rules.{key, rate_weight}
 use Rattle.rules.specs.Listing.{Entry, entry, gather, of_action, entries}
 use Rattle.machine.specs.State.{State}
-use Rattle.machine.specs.Offer.{Process, branches, missing}
+use Rattle.machine.specs.Offer.{branches, missing}
 use Rattle.machine.specs.Machine.{entry_limit, no, zeroed, counted}
 use Rattle.machine.specs.Machine as machine
 use Rattle.eval.specs.declared.offer.Offer.{Offer}
@@ -25,19 +25,20 @@ use Rattle.offers.specs.Head.{place_in, branch_in}
 use Rattle.offers.specs.Table.{offer_in, locals_of}
 use Rattle.offers.specs.Slots.{Slot, partner_of, of_slot, at_number, up_to}
 use Rattle.offers.specs.Walk.{slots_of}
-use Rattle.std.specs.Prelude.{Err, Ok, Some, unwrap_or}
+use Rattle.std.specs.Prelude.{Err, Ok}
 use Rattle.offers.specs.declared.Stop.{Stop}
-use Rattle.offers.specs.declared.Stop.TheVariants.{Missing, Full}
 use Rattle.offers.specs.declared.row.Row.{Row}
-use Rattle.offers.specs.Links.{row_at, row_limit}
+use Rattle.offers.specs.Links.{row_at}
 use Rattle.offers.specs.Collect as Collect
 use Rattle.offers.specs.Collect.{World, Answers}
 use Rattle.offers.proofs.Numbered.{append-nil, up_one, at_some, gather-up}
 use Rattle.offers.proofs.Rows.{holds-first}
 use Rattle.offers.proofs.Slots.{entries-slots, partners-slots}
 use Rattle.offers.proofs.Walk.{slots-are}
-use Rattle.listing.specs.Buffer as Buffer
-use Rattle.listing.specs.Buffer.{rows, image, cut, Adds, Lists, Tries, Tried, Listed}
+use Rattle.listing.specs.declared.Refusal.TheVariants as refusal
+use Rattle.listing.specs.declared.Stop as listing
+use Rattle.listing.specs.Buffer.{rows, image, cut, Adds, of_offers, TriesOver, short}
+use Rattle.listing.proofs.Finished.{refused, as-led}
 use Rattle.listing.specs.Ready.{Ready}
 use Rattle.listing.proofs.Partners.{some-row, row-place}
 
@@ -58,6 +59,10 @@ alone_of l (shown.check e p) m s i j n = absurd (omega arith)
 alone_of l (shown.send e p) m s i j n = absurd (omega arith)
 alone_of l (shown.take e p) m s i j n = absurd (omega arith)
 alone_of l (shown.take_bind e p) m s i j n = absurd (omega arith)
+
+pub alone-at : {t : List ℕ} {ls : List ℤ} {r : Offer} {a : offers.Action} (k : ℕ) → r.kind ≡ k → k ≤ 38 → ShowsAction t ls r a
+    → (m : Resolved.Model) (s : State) (i j n : ℕ) → of_action (branches m) s i j n a ≡ entry (key (k - 35) i j 0 0 0) (rate_weight n) ∷ []
+alone-at k e l sh m s i j n = alone_of (omega arith) sh m s i j n ∙ ap (λ (q : ℕ). entry (key (q - 35) i j 0 0 0) (rate_weight n) ∷ []) e
 
 -- a handshake receive is listed at its sender
 pub high-of : {t : List ℕ} {ls : List ℤ} {r : Offer} {a : offers.Action} → 42 < r.kind → ShowsAction t ls r a → (m : Resolved.Model) (s : State) (i j n : ℕ) → of_action (branches m) s i j n a ≡ []
@@ -153,9 +158,6 @@ unfolding machine.listing Option-elim
 not-lacking m s e = rw e
 
 -- ---- a row's numbers
-pub below_last : (k : ℕ) → k ≤ 42 → (k ≡ 42 → ⊥) → k < 42
-below_last k l n = omega arith
-
 rate-act : (t : List ℕ) (ls : ℕ → List ℤ) (i : ℕ) (r : Offer) (i' : ℕ) (r' : Offer) (a : offers.Action) → i ≡ i' → r ≡ r' → ShowsAction t (ls i') r' a → ShowsAction t (ls i) r a
 rate-act t ls i r i' r' a e f s = rw (e, f) s
 
@@ -186,30 +188,13 @@ module _ {t roots scopes : List ℕ} {zs : List ℤ} {rs : List Row} {m : Resolv
   some-acts l = let q = some-row ready k l in (q.0, acts q.0 q.1, omega (arith, row-place ready k q.0 q.1))
 
 -- ---- what was collected
-pub answered-missing : {t : List ℕ} {rs : List Row} {m : Resolved.Model} {ps : List Process} {e : Stop (ℕ × ℕ)} {p : ℕ × ℕ} → e ≡ Missing p → Answers t rs m ps (Err e) → missing m 0 ps ≡ some p
-answered-missing q a = go (rw q at a)
-  where
-    go : {t : List ℕ} {rs : List Row} {m : Resolved.Model} {ps : List Process} {p : ℕ × ℕ} → Answers t rs m ps (Err (Missing p)) → missing m 0 ps ≡ some p
-    go (Collect.Answers.lacks e) = e
-
 pub answered-rows : {t roots scopes : List ℕ} {zs : List ℤ} {m : Resolved.Model} {s : State} {rs : List Row} {n : ℕ} → World t roots scopes zs m s
     → Answers t rs m s.processes (Ok n) → Ready t roots scopes zs (take n rs) m s × (missing m 0 s.processes ≡ none) × (n ≤ length rs)
 answered-rows {rs = rs} w (Collect.Answers.all e h l) =
     (record { world = w; holds = holds-first _ _ rs _ _ refl h; rows_are = length-take-le _ rs l }, e, l)
 
-pub answered-full : {t : List ℕ} {rs : List Row} {m : Resolved.Model} {ps : List Process} {e : Stop (ℕ × ℕ)} → e ≡ Full → Answers t rs m ps (Err e) → length rs < row_limit
-answered-full q a = go (rw q at a)
-  where
-    go : {t : List ℕ} {rs : List Row} {m : Resolved.Model} {ps : List Process} → Answers t rs m ps (Err Full) → length rs < row_limit
-    go (Collect.Answers.full l) = l
-
--- ---- with room for all rows
-pub all_done : {l : machine.Listed} {b : List ℕ} {r : Listed} {n : ℕ} → Tries n l b (Some r) → Lists l r b
-all_done (Buffer.Tries.done h) = h
-
-pub never_full : {l : machine.Listed} {b : List ℕ} {r : Tried} {n : ℕ} (d : Listed) → n ≡ row_limit → Tries n l b r → Lists l (unwrap_or r d) b
-never_full d e (Buffer.Tries.done h) = h
-never_full d e (Buffer.Tries.full h) = absurd (omega (arith, e, h))
-
-pub as-done : {l : machine.Listed} {b : List ℕ} (n : ℕ) (r : Listed) → Lists l r b → Tries n l b (Some r)
-as-done n r h = Buffer.Tries.done h
+-- 12, or too few rows
+pub answered_none : {t : List ℕ} {rs : List Row} {e : Stop} (m : Resolved.Model) (s : State) (b : List ℕ) (n : ℕ) (x : listing.Stop) → x ≡ of_offers e → Answers t rs m s.processes (Err e) → length rs ≡ n
+    → TriesOver n (machine.listing m s) b (Err x)
+answered_none m s b n x q (Collect.Answers.lacks {i} {j} e) l = as-led n (Err (refusal.Missing i j)) _ (ap Err q) (refused (machine.listing m s) b (refusal.Missing i j) (lacking m s i j e))
+answered_none m s b n x q (Collect.Answers.full h) l = short (ap Err q) (omega (arith, l))

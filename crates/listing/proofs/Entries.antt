@@ -2,10 +2,12 @@
 use mathlib.Core.Path.{◌≡◌, refl, sym, ap, ◌∙◌}
 use mathlib.Core.List.{List, [], ◌∷◌}
 use mathlib.Core.Option.{none, some}
-use Prim.Native.Nat.{ℕ, zero, suc, ◌+◌, ◌*◌}
+use Prim.Native.Nat.{ℕ, zero, suc, ◌+◌, ◌*◌, ◌<◌}
 use native.Mathlib.Omega.{arith}
 use lib.ListN.{get_or, get_elem?, drop}
 use lib.Seq.{get_or-drop}
+use Rattle.std.specs.Simd.{first_chunks}
+use Rattle.listing.proofs.Chunks.{chunk-at}
 use Rattle.rules.specs.Rules.{key}
 use Rattle.rules.specs.Listing.{Entry, entry}
 use Rattle.machine.proofs.Branches.{none-not-some}
@@ -30,3 +32,16 @@ unfolding rows
 entry_in_lem [] rest c e h = none-not-some none e refl h
 entry_in_lem (entry (key c i j k m q) w ∷ es) rest zero e h = let a : entry (key c i j k m q) w ≡ e = cc in top c i j k m q w (rows es rest) ∙ a
 entry_in_lem (entry (key c i j k m q) w ∷ es) rest (suc n) e h = shift (rows (entry (key c i j k m q) w ∷ es) rest) n ∙ entry_in_lem es rest n e h
+
+-- by the chunks of a listing
+pub chunk-entry : (n : ℕ) (l : List ℕ) (xs : List (List ℕ)) (c : ℕ) → xs ≡ first_chunks 7 n l → c < n → entry_in (get_or xs c []) 0 ≡ entry_in l c
+unfolding entry_in
+chunk-entry n l xs c e h = rw e (cc (
+  chunk-at n l c 0 h (omega arith) ∙ ap (λ (i : ℕ). get_or l i 0) (let z : c * 7 + 0 ≡ c * 7 = omega arith in z),
+  chunk-at n l c 1 h (omega arith),
+  chunk-at n l c 2 h (omega arith),
+  chunk-at n l c 3 h (omega arith),
+  chunk-at n l c 4 h (omega arith),
+  chunk-at n l c 5 h (omega arith),
+  chunk-at n l c 6 h (omega arith),
+))

@@ -1,5 +1,6 @@
 -- What is proved of the listing buffer and of the entries in it.
 pub mod Added
+pub mod Chunks
 pub mod Entries
 pub mod Weights
 pub mod Finished

@@ -1,18 +1,22 @@
 -- Matching by the numbers that show sets, values and channels. By cases of what is shown.
 use Prim.Native.Nat.{ℕ, ◌≤◌, ◌<◌}
-use mathlib.Core.Path.{◌≡◌, refl, sym, ap, ◌∙◌}
+use mathlib.Core.Path.{◌≡◌, refl, sym, ap, subst, ◌∙◌}
 use mathlib.Core.Bool.{Bool, true, false, ◌&&◌}
 use mathlib.Core.List.{List}
 use native.Mathlib.Omega.{arith}
+use borrow.Author.Tests.{eqb-true, eqb-false}
+use lib.Dec.{eqb}
 use lib.IntN.{ℤ}
-use Rattle.value.specs.Arithmetic.{is_same}
-use Rattle.value.proofs.Kit.{true-not-false, same-eq, eq-same}
+use Rattle.std.specs.Ordering.{int_eq}
+use Rattle.std.proofs.lemmas.Bool.Decides.{Decides-int_eq}
+use Rattle.value.proofs.Kit.{true-not-false}
 use Rattle.rules.proofs.Decides as decides
 use Rattle.rules.proofs.Decides.{on, passes, refuses}
 use Rattle.rules.specs.Offers as offers
 use Rattle.rules.specs.Listing.{same_channel, all_within}
 use Rattle.eval.specs.Shown as shown
-use Rattle.eval.specs.Shown.{ShowsValues, ShowsSet, ShowsSets}
+use Rattle.eval.specs.Shown.{set_in, ShowsValues, ShowsSet, ShowsSets}
+use Rattle.eval.specs.declared.channel.Channel.{Channel}
 use Rattle.eval.specs.Channels.{shape_of, first_of, second_of, third_of, ShowsChannel}
 use Rattle.eval.proofs.Shapes.{channels-alike}
 
@@ -27,12 +31,12 @@ and-false false = refl
 -- ---- values in sets
 module _ {t : List ℕ} {ls : List ℤ} {n : ℕ} {a a' b b' : ℤ} where
   -- the first set
-  pub first-set : {xs : List offers.Set} → ShowsSets t ls n a a' b b' xs → (x : offers.Set) × ShowsSet t ls a a' x
+  pub first-set : {xs : List offers.Set} → ShowsSets t ls n a a' b b' xs → (x : offers.Set) × ShowsSet t ls (set_in a a') x
   first-set (shown.ShowsSets.one {x} e s f g) = (x, s)
   first-set (shown.ShowsSets.two {x} e s r) = (x, s)
 
   -- the second
-  pub second-set : {xs : List offers.Set} → 2 ≤ n → ShowsSets t ls n a a' b b' xs → (x : offers.Set) × ShowsSet t ls b b' x
+  pub second-set : {xs : List offers.Set} → 2 ≤ n → ShowsSets t ls n a a' b b' xs → (x : offers.Set) × ShowsSet t ls (set_in b b') x
   second-set l (shown.ShowsSets.one e s f g) = absurd (omega arith)
   second-set l (shown.ShowsSets.two {y = x} e s r) = (x, r)
 
@@ -43,14 +47,14 @@ module _ {t : List ℕ} {ls : List ℤ} {n : ℕ} {a a' b b' : ℤ} where
   counts-differ (shown.ShowsSets.two {x} e s r) (shown.ShowsValues.one {x = c} e' h i j l) d = and-false (offers.within x c)
   counts-differ (shown.ShowsSets.two e s r) (shown.ShowsValues.two e' h i j l) d = absurd (d (omega arith))
 
-  pub first_out : {k : ℕ} {v z u y : ℤ} {xs : List offers.Set} {vs : List ℤ} → ShowsSets t ls n a a' b b' xs → ShowsValues k v z u y vs → n ≡ k → ((x : offers.Set) → ShowsSet t ls a a' x → false ≡ offers.within x v) → false ≡ all_within xs vs
+  pub first_out : {k : ℕ} {v z u y : ℤ} {xs : List offers.Set} {vs : List ℤ} → ShowsSets t ls n a a' b b' xs → ShowsValues k v z u y vs → n ≡ k → ((x : offers.Set) → ShowsSet t ls (set_in a a') x → false ≡ offers.within x v) → false ≡ all_within xs vs
   unfolding all_within
   first_out (shown.ShowsSets.one {x} e s f g) (shown.ShowsValues.one e' h i j l) d o = rw (← h) (rw (← o x s))
   first_out (shown.ShowsSets.one e s f g) (shown.ShowsValues.two e' h i j l) d o = absurd (omega arith)
   first_out (shown.ShowsSets.two e s r) (shown.ShowsValues.one e' h i j l) d o = absurd (omega arith)
   first_out (shown.ShowsSets.two {x} e s r) (shown.ShowsValues.two e' h i j l) d o = rw (← h) (rw (← o x s))
 
-  pub only-in : {k : ℕ} {v z u y : ℤ} {xs : List offers.Set} {vs : List ℤ} → ShowsSets t ls n a a' b b' xs → ShowsValues k v z u y vs → n ≡ k → k < 2 → ((x : offers.Set) → ShowsSet t ls a a' x → true ≡ offers.within x v) → true ≡ all_within xs vs
+  pub only-in : {k : ℕ} {v z u y : ℤ} {xs : List offers.Set} {vs : List ℤ} → ShowsSets t ls n a a' b b' xs → ShowsValues k v z u y vs → n ≡ k → k < 2 → ((x : offers.Set) → ShowsSet t ls (set_in a a') x → true ≡ offers.within x v) → true ≡ all_within xs vs
   unfolding all_within
   only-in (shown.ShowsSets.one {x} e s f g) (shown.ShowsValues.one e' h i j l) d m o = rw (← h) (rw (← o x s))
   only-in (shown.ShowsSets.one e s f g) (shown.ShowsValues.two e' h i j l) d m o = absurd (omega arith)
@@ -58,7 +62,7 @@ module _ {t : List ℕ} {ls : List ℤ} {n : ℕ} {a a' b b' : ℤ} where
   only-in (shown.ShowsSets.two e s r) (shown.ShowsValues.two e' h i j l) d m o = absurd (omega arith)
 
   pub second-tells : (p : Bool) {k : ℕ} {v z u y : ℤ} {xs : List offers.Set} {vs : List ℤ} → ShowsSets t ls n a a' b b' xs → ShowsValues k v z u y vs → n ≡ k → 2 ≤ k
-      → ((x : offers.Set) → ShowsSet t ls a a' x → true ≡ offers.within x v) → ((x : offers.Set) → ShowsSet t ls b b' x → p ≡ offers.within x u) → p ≡ all_within xs vs
+      → ((x : offers.Set) → ShowsSet t ls (set_in a a') x → true ≡ offers.within x v) → ((x : offers.Set) → ShowsSet t ls (set_in b b') x → p ≡ offers.within x u) → p ≡ all_within xs vs
   unfolding all_within
   second-tells p (shown.ShowsSets.one e s f g) w d m o q = absurd (omega arith)
   second-tells p (shown.ShowsSets.two {x} {y} e s r) (shown.ShowsValues.one e' h i j l) d m o q = absurd (omega arith)
@@ -73,26 +77,33 @@ same-is x y e = on (decides.channel x y) e
 pub is_same_lem : (x : offers.Channel) → same_channel x x ≡ true
 is_same_lem x = passes (decides.channel x x) refl
 
--- numbers of two channels, one of which each
-values-differ : (f : offers.Channel → ℤ) {u v : ℤ} {x y : offers.Channel} → u ≡ f x → v ≡ f y → is_same u v ≡ false → false ≡ same_channel x y
-values-differ f {u} {v} {x} {y} p q d = sym (refuses (decides.channel x y) (λ e. true-not-false (sym (eq-same u v (p ∙ ap f e ∙ sym q)) ∙ d)))
+-- a channel is told by its numbers
+numbers-alike : {a b : Channel} → a.shape ≡ b.shape → a.first ≡ b.first → a.second ≡ b.second → a.third ≡ b.third → a ≡ b
+numbers-alike {a} {b} p q r s =
+    ap (λ (n : ℕ). record { shape = n; first = a.first; second = a.second; third = a.third }) p
+    ∙ ap (λ (z : ℤ). record { shape = b.shape; first = z; second = a.second; third = a.third }) q
+    ∙ ap (λ (z : ℤ). record { shape = b.shape; first = b.first; second = z; third = a.third }) r
+    ∙ ap (λ (z : ℤ). record { shape = b.shape; first = b.first; second = b.second; third = z }) s
 
-module _ {s s' : ℕ} {a b c a' b' c' : ℤ} {x y : offers.Channel} (h : ShowsChannel s a b c x) (g : ShowsChannel s' a' b' c' y) where
-  pub shapes-differ : (s ≡ s' → ⊥) → false ≡ same_channel x y
-  shapes-differ n = sym (refuses (decides.channel x y) (λ e. n (h.shape_is ∙ ap shape_of e ∙ sym g.shape_is)))
+module _ {a b : Channel} {x y : offers.Channel} (h : ShowsChannel a.shape a.first a.second a.third x) (g : ShowsChannel b.shape b.first b.second b.third y) where
+  channels-differ : (a ≡ b → ⊥) → false ≡ same_channel x y
+  channels-differ n =
+      sym (refuses (decides.channel x y) (λ e. n (numbers-alike (h.shape_is ∙ ap shape_of e ∙ sym g.shape_is) (h.first-is ∙ ap first_of e ∙ sym g.first-is) (h.second_is ∙ ap second_of e ∙ sym g.second_is) (h.third-is ∙ ap third_of e ∙ sym g.third-is))))
 
-  pub firsts-differ : is_same a a' ≡ false → false ≡ same_channel x y
-  firsts-differ d = values-differ first_of h.first-is g.first-is d
+  channels-same : a ≡ b → true ≡ same_channel x y
+  channels-same e = sym (passes (decides.channel x y) (channels-alike (subst (λ (c : Channel). ShowsChannel c.shape c.first c.second c.third x) e h) g))
 
-  pub seconds-differ : is_same b b' ≡ false → false ≡ same_channel x y
-  seconds-differ d = values-differ second_of h.second_is g.second_is d
-
-  pub thirds-tell : s ≡ s' → is_same a a' ≡ true → is_same b b' ≡ true → is_same c c' ≡ same_channel x y
-  thirds-tell p q r = go (is_same c c') refl
+  -- their numbers compared tell whether two channels are the same
+  pub channels-told : (eqb a.shape b.shape && (int_eq a.first b.first && (int_eq a.second b.second && int_eq a.third b.third))) ≡ same_channel x y
+  channels-told = go _ _ _ _ refl refl refl refl
     where
-      go : (t : Bool) → is_same c c' ≡ t → t ≡ same_channel x y
-      go false d = values-differ third_of h.third-is g.third-is d
-      go true e =
-          let k : ShowsChannel s' a' b' c' x =
-          record { shape_is = sym p ∙ h.shape_is; first-is = sym (same-eq a a' q) ∙ h.first-is; second_is = sym (same-eq b b' r) ∙ h.second_is; third-is = sym (same-eq c c' e) ∙ h.third-is } in
-          sym (passes (decides.channel x y) (channels-alike k g))
+      unlike : {u v : ℤ} → int_eq u v ≡ false → u ≡ v → ⊥
+      unlike {u} {v} e d = true-not-false (sym ((Decides-int_eq u v).1 d) ∙ e)
+
+      go : (p q r s : Bool) → eqb a.shape b.shape ≡ p → int_eq a.first b.first ≡ q → int_eq a.second b.second ≡ r → int_eq a.third b.third ≡ s → (p && (q && (r && s))) ≡ same_channel x y
+      go true true true true d e f k =
+          channels-same (numbers-alike (eqb-true a.shape b.shape d) ((Decides-int_eq a.first b.first).0 e) ((Decides-int_eq a.second b.second).0 f) ((Decides-int_eq a.third b.third).0 k))
+      go true true true false d e f k = channels-differ (λ c. unlike k (ap (λ (y : Channel). y.third) c))
+      go true true false s d e f k = channels-differ (λ c. unlike f (ap (λ (y : Channel). y.second) c))
+      go true false r s d e f k = channels-differ (λ c. unlike e (ap (λ (y : Channel). y.first) c))
+      go false q r s d e f k = channels-differ (λ c. eqb-false a.shape b.shape d (ap (λ (y : Channel). y.shape) c))

@@ -103,7 +103,7 @@ module _ {t roots scopes : List ℕ} {zs : List ℤ} {rs : List Row} {m : Resolv
     abbrev g : ℕ → List Entry
     g = at_number (λ n. partner_of x r.rate i j) all
 
-    none-there : (q : ℕ) → (InBucket rs (bucket_of r.channel r.channel2 r.channel3) q → ⊥) → g q ≡ []
+    none-there : (q : ℕ) → (InBucket rs (bucket_of r.channel.first r.channel.second r.channel.third) q → ⊥) → g q ≡ []
     unfolding at_number partner_of Option-elim offer_in
     none-there q out = go (get_elem? all q) refl
       where
@@ -135,7 +135,7 @@ module _ {t roots scopes : List ℕ} {zs : List ℤ} {rs : List Row} {m : Resolv
         go (some y) e = empty (eqb y.place i) _ (slot y (ready.holds.shown q y e))
 
     -- up to the first of the bucket, from one to the next, and after the last
-    pub partners-lead : (a b : ℕ) → Leads rs (bucket_of r.channel r.channel2 r.channel3) a b → up_to g b ≡ up_to g a
+    pub partners-lead : (a b : ℕ) → Leads rs (bucket_of r.channel.first r.channel.second r.channel.third) a b → up_to g b ≡ up_to g a
     partners-lead a b l = up-skip g a b l.low (λ q m n. none-there q (l.none q m n))
 
     pub partners-next : (k : ℕ) (y : Slot) → get_elem? all k ≡ some y → up_to g (suc k) ≡ up_to g k ++ partner_of x r.rate i j y

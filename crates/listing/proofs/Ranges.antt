@@ -6,7 +6,8 @@ use mathlib.Core.List.{List, [], ◌∷◌, ◌++◌, map}
 use mathlib.Core.Logic.{◌⊎◌, inl, inr, ⊎_elim}
 use mathlib.Core.Option.{none, some}
 use native.Mathlib.Omega.{arith}
-use borrow.Author.Tests.{ltb-false, leb-true, lt-ltb, le-ltb}
+use borrow.Author.Tests.{ltb-false, leb-true, leb-false, lt-ltb, le-ltb}
+use lib.Dec.{leb}
 use lib.IntN.{ℤ, pos, negsuc}
 use lib.ListN.{length, get_or, get_elem?, length-map}
 use Rattle.value.specs.Arithmetic.{is_less, is_same, is_at_most}
@@ -30,7 +31,9 @@ use Rattle.state.proofs.Entries.{pair-shape, get-is}
 use Rattle.state.proofs.Places.{place-more, place-less, place-bound}
 use Rattle.state.proofs.Climbs.{climbing}
 use Rattle.eval.specs.Shown as shown
-use Rattle.eval.specs.Shown.{joined_mark, ShowsSets, ShowsQuery}
+use Rattle.eval.specs.Shown.{joined_mark, set_in, ShowsSets, ShowsQuery}
+use Rattle.eval.specs.declared.offer.OfferSet.TheVariants.{Range}
+use Rattle.eval.proofs.Ends.{ranged-as}
 use Rattle.eval.specs.Channels.{ShowsChannel, numbers_of}
 use Rattle.eval.proofs.Shapes.{numbers-are}
 use Rattle.offers.specs.Collect.{World}
@@ -80,11 +83,9 @@ pub data First (a b : ℤ) : ℕ → List offers.Set → Type 0 where
   one : First a b 1 (offers.range a b ∷ [])
   two : {y : offers.Set} → First a b 2 (offers.range a b ∷ y ∷ [])
 
-pub first_range : {t : List ℕ} {ls : List ℤ} {k : ℕ} {a b c d : ℤ} {xs : List offers.Set} → (b ≡ joined_mark → ⊥) → ShowsSets t ls k a b c d xs → First a b k xs
-first_range n (shown.ShowsSets.one e (shown.ShowsSet.ranged p q r) f g) = rw (e, p, q) one
-first_range n (shown.ShowsSets.one e (shown.ShowsSet.rooted p q r) f g) = absurd (n q)
-first_range n (shown.ShowsSets.two e (shown.ShowsSet.ranged p q r) s) = rw (e, p, q) two
-first_range n (shown.ShowsSets.two e (shown.ShowsSet.rooted p q r) s) = absurd (n q)
+pub first_range : {t : List ℕ} {ls : List ℤ} {k : ℕ} {a b c d : ℤ} {xs : List offers.Set} (l h : ℤ) → set_in a b ≡ Range l h → ShowsSets t ls k a b c d xs → First l h k xs
+first_range {t} {ls} l h e (shown.ShowsSets.one q s f g) = rw (q, ranged-as t ls l h e s) one
+first_range {t} {ls} l h e (shown.ShowsSets.two q s r) = rw (q, ranged-as t ls l h e s) two
 
 pub count-two : {t : List ℕ} {ls : List ℤ} {k : ℕ} {a b c d : ℤ} {xs : List offers.Set} → ShowsSets t ls k a b c d xs → k ≤ 2
 count-two (shown.ShowsSets.one e s f g) = omega arith
@@ -132,6 +133,14 @@ as_none h l =
       on = λ q x e m n. absurd (omega arith);
       off = λ q x e. ⊎_elim (λ m. h.before q x e m) (λ m. h.after q x e (omega arith));
     }
+
+-- up to the greater of both
+pub as_max : {xs : List offers.Pair} {w : offers.Query} {from to : ℕ} (n : ℕ) → Encloses xs w from to → (from ≤ to → n ≡ to) → (to < from → n ≡ from) → RunIs xs w from n
+as_max {xs} {w} {from} {to} n h f g = go (leb from to) refl
+  where
+    go : (b : Bool) → leb from to ≡ b → RunIs xs w from n
+    go true e = rw (f (leb-true from to e)) (as-run h (leb-true from to e))
+    go false e = rw (g (leb-false from to e)) (as_none h (leb-false from to e))
 
 module _ {t roots scopes : List ℕ} {zs : List ℤ} {m : Resolved.Model} {s : State} (w : World t roots scopes zs m s) (x : offers.Query) (k : ℕ) (a b : ℤ) (first : First a b k x.sets) where
   abbrev rs : List (List ℤ)

@@ -1,12 +1,14 @@
 -- The weights that stand in the listing buffer, and their running sums. By induction on the count of entries.
 use Prim.Native.Nat.{ℕ, zero, suc, ◌+◌, ◌*◌, ◌≤◌, ◌<◌}
-use mathlib.Core.Path.{◌≡◌, refl, ap, ◌∙◌}
+use mathlib.Core.Path.{◌≡◌, refl, sym, ap, ◌∙◌}
 use mathlib.Core.List.{List, [], ◌∷◌}
 use native.Mathlib.Omega.{arith}
 use native.Mathlib.Numerals.{add-one}
 use borrow.Author.Tests.{lt-leb, le-leb}
 use lib.ListN.{length, get_or, drop}
 use lib.Seq.{get_or-drop, take_all}
+use Rattle.std.specs.Simd.{first_chunks}
+use Rattle.listing.proofs.Chunks.{chunks-length, chunk-at}
 use Rattle.rules.specs.Rules.{key}
 use Rattle.rules.specs.Listing.{Entry, entry, weight_of}
 use Rattle.rules.specs.Draw.{weights, total}
@@ -28,13 +30,6 @@ weights-at b (suc n) zero l = refl
 weights-at b (suc n) (suc i) l =
     let e : 7 + (i * 7 + 6) ≡ suc i * 7 + 6 = omega arith in
     weights-at (drop 7 b) n i (omega arith) ∙ get_or-drop 7 b (i * 7 + 6) 0 ∙ ap (λ (k : ℕ). get_or b k 0) e
-
--- one entry's weight is added
-pub turn : (b : List ℕ) (n i : ℕ) → i < n → up_to (weights_in b n) (i + 1) ≡ up_to (weights_in b n) i + get_or b (i * 7 + 6) 0
-turn b n i l = ap (up_to (weights_in b n)) (add-one i) ∙ up_next (weights_in b n) i ∙ ap (λ (w : ℕ). up_to (weights_in b n) i + w) (weights-at b n i l)
-
-pub turn-le : (b : List ℕ) (n i : ℕ) → i < n → up_to (weights_in b n) i + get_or b (i * 7 + 6) 0 ≤ total (weights_in b n)
-turn-le b n i l = rw (weights-at b n i l) at (up-total (weights_in b n) i)
 
 pub up-all : (b : List ℕ) (n i : ℕ) → n ≤ i → up_to (weights_in b n) i ≡ total (weights_in b n)
 up-all b n i l = ap total (take_all i (weights_in b n) (omega (arith, weights-length b n)))
@@ -66,3 +61,21 @@ chosen_at i = refl
 pub chosen_none : chosen_answer none ≡ None
 unfolding chosen_answer
 chosen_none = refl
+
+-- ---- by rows
+module _ (b : List ℕ) (n : ℕ) (rs : List (List ℕ)) (is : rs ≡ first_chunks 7 n b) where
+  pub rows_count : length rs ≡ n
+  rows_count = ap length is ∙ chunks-length n b
+
+  pub row-weight : (i : ℕ) → i < length rs → get_or (weights_in b n) i 0 ≡ get_or (get_or rs i []) 6 0
+  row-weight i l =
+      weights-at b n i (omega (arith, rows_count)) ∙ sym (ap (λ (xs : List (List ℕ)). get_or (get_or xs i []) 6 0) is ∙ chunk-at n b i 6 (omega (arith, rows_count)) (omega arith))
+
+  pub row-turn : (i : ℕ) → i < length rs → up_to (weights_in b n) (i + 1) ≡ up_to (weights_in b n) i + get_or (get_or rs i []) 6 0
+  row-turn i l = ap (up_to (weights_in b n)) (add-one i) ∙ up_next (weights_in b n) i ∙ ap (λ (w : ℕ). up_to (weights_in b n) i + w) (row-weight i l)
+
+  pub row-turn-le : (i : ℕ) → i < length rs → up_to (weights_in b n) i + get_or (get_or rs i []) 6 0 ≤ total (weights_in b n)
+  row-turn-le i l = rw (row-weight i l) at (up-total (weights_in b n) i)
+
+  pub rows_all : (i : ℕ) → length rs ≤ i → up_to (weights_in b n) i ≡ total (weights_in b n)
+  rows_all i l = up-all b n i (omega (arith, rows_count))

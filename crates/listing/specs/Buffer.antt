@@ -3,6 +3,12 @@ use Rattle.std.specs.Prelude.{◌≡◌, List, [], ◌∷◌, ◌++◌, cond, �
 use Rattle.std.proofs.Math.Option.{Option, none, some}
 use Rattle.std.specs.Prelude.{Option as RustOption}
 use Rattle.listing.specs.declared.Refusal.{Refusal}
+use Rattle.listing.specs.declared.Refusal.TheVariants.{Missing, Entries, Total}
+use Rattle.listing.specs.declared.Listed.{Listed}
+use Rattle.listing.specs.declared.Stop.{Stop}
+use Rattle.listing.specs.declared.Stop.TheVariants.{Refused, Full}
+use Rattle.offers.specs.declared.Stop as offers
+use Rattle.offers.specs.declared.Stop.TheVariants as offered
 use Rattle.rules.specs.Rules.{key}
 use Rattle.rules.specs.Listing as rules
 use Rattle.rules.specs.Draw.{weights, total}
@@ -10,6 +16,10 @@ use Rattle.machine.specs.Machine.{entry_limit, entry_width, listing_length, tota
 use Rattle.machine.specs.Machine as machine
 use Rattle.listing.specs.declared.Entry.{Entry}
 use Rattle.offers.specs.Links.{row_limit}
+
+-- 01, Transitions: kind, place, branch, partner, partner branch, pair, weight
+abbrev pub numbers_of : Entry → List ℕ
+numbers_of e = e.kind ∷ e.place ∷ e.branch ∷ e.partner ∷ e.pbranch ∷ e.pair ∷ e.weight ∷ []
 
 -- 01, Transitions: an entry by its seven numbers
 unfoldable pub entry_of : Entry → rules.Entry
@@ -53,22 +63,40 @@ unfoldable pub listing_numbers : machine.Listed → List ℕ
 listing_numbers (machine.entries_are es) = filled_numbers es
 listing_numbers (machine.refused_with a) = replicate listing_length 0
 
--- a refusal's number, place and branch
-abbrev pub refused : (number place branch : ℕ) → Refusal
-refused n p b = record { number = n; place = p; branch = b }
+-- the number of a refusal, and the place and branch that 12 has
+abbrev pub refusal_number : Refusal → ℕ
+refusal_number (Missing p b) = 12
+refusal_number Entries = 13
+refusal_number Total = 14
+
+abbrev pub refusal_place : Refusal → ℕ
+refusal_place (Missing p b) = p
+refusal_place Entries = 0
+refusal_place Total = 0
+
+abbrev pub refusal_branch : Refusal → ℕ
+refusal_branch (Missing p b) = b
+refusal_branch Entries = 0
+refusal_branch Total = 0
 
 -- the count of entries and their total, or a refusal
-abbrev pub Listed : Type 0
-Listed = Result (ℕ × ℕ) Refusal
+abbrev pub Outcome : Type 0
+Outcome = Result Listed Refusal
+
+-- a refusal's number, place and branch are those of an answer
+pub record Says (a : machine.Answer) (r : Refusal) : Type 0 where
+  pub number : refusal_number r ≡ a.number
+  pub place : refusal_place r ≡ a.place
+  pub branch : refusal_branch r ≡ a.branch
 
 -- 01, Listing: entry count and total, or a refusal's number, place and branch
-unfoldable pub listed_answer : machine.Listed → Listed
-listed_answer (machine.entries_are es) = Ok (length es, total (weights es))
-listed_answer (machine.refused_with a) = Err (refused a.number a.place a.branch)
+pub data Answers : machine.Listed → Outcome → Type 0 where
+  counts : {es : List rules.Entry} {x : Listed} → x.count ≡ length es → x.total ≡ total (weights es) → Answers (machine.entries_are es) (Ok x)
+  refuses : {a : machine.Answer} {r : Refusal} → Says a r → Answers (machine.refused_with a) (Err r)
 
 -- the answer r and the listing buffer b are those of l
-pub record Lists (l : machine.Listed) (r : Listed) (b : List ℕ) : Type 0 where
-  pub answer : r ≡ listed_answer l
+pub record Lists (l : machine.Listed) (r : Outcome) (b : List ℕ) : Type 0 where
+  pub answer : Answers l r
   pub numbers : b ≡ listing_numbers l
 
 -- the entries of l, where it has any, stand first in the buffer b
@@ -77,28 +105,32 @@ pub data Leading (b : List ℕ) : machine.Listed → Type 0 where
   nothing : {a : machine.Answer} → Leading b (machine.refused_with a)
 
 -- the answer r is that of l, and its entries stand first in b
-pub record Leads (l : machine.Listed) (r : Listed) (b : List ℕ) : Type 0 where
-  pub answer : r ≡ listed_answer l
+pub record Leads (l : machine.Listed) (r : Outcome) (b : List ℕ) : Type 0 where
+  pub answer : Answers l r
   pub entries : Leading b l
-
--- how many numbers the entries of a listing take
-unfoldable pub used_numbers : Listed → ℕ
-used_numbers (Ok (count, sum)) = count * entry_width
-used_numbers (Err r) = 0
 
 -- a listing, or too few rows for it
 abbrev pub Tried : Type 0
-Tried = RustOption Listed
+Tried = Result Listed Stop
+
+abbrev pub as_tried : Outcome → Tried
+as_tried (Ok x) = Ok x
+as_tried (Err r) = Err (Refused r)
+
+-- 01, 12: of a table of offers
+abbrev pub of_offers : offers.Stop → Stop
+of_offers (offered.Missing i j) = Refused (Missing i j)
+of_offers offered.Full = Full
 
 -- where the table of offers has n rows: all of that, or too few rows
-pub data TriesOver (n : ℕ) (l : machine.Listed) (b : List ℕ) : Tried → Type 0 where
-  led : {r : Listed} → Leads l r b → TriesOver n l b (Some r)
-  short : n < row_limit → TriesOver n l b None
+pub data TriesOver (n : ℕ) (l : machine.Listed) (b : List ℕ) (t : Tried) : Type 0 where
+  led : (r : Outcome) → t ≡ as_tried r → Leads l r b → TriesOver n l b t
+  short : t ≡ Err Full → n < row_limit → TriesOver n l b t
 
 -- the same, with zeros after the entries
-pub data Tries (n : ℕ) (l : machine.Listed) (b : List ℕ) : Tried → Type 0 where
-  done : {r : Listed} → Lists l r b → Tries n l b (Some r)
-  full : n < row_limit → Tries n l b None
+pub data Tries (n : ℕ) (l : machine.Listed) (b : List ℕ) (t : Tried) : Type 0 where
+  done : (r : Outcome) → t ≡ as_tried r → Lists l r b → Tries n l b t
+  full : t ≡ Err Full → n < row_limit → Tries n l b t
 
 -- ---- weights in the buffer
 
@@ -108,11 +140,11 @@ weights_in b zero = []
 weights_in b (suc n) = get_or b 6 0 ∷ weights_in (drop entry_width b) n
 
 -- a sum, or none
-abbrev pub Total : Type 0
-Total = RustOption ℕ
+abbrev pub Sum : Type 0
+Sum = RustOption ℕ
 
 -- 01, 14: the total, where it is within its limit
-unfoldable pub totalled : List ℕ → Total
+unfoldable pub totalled : List ℕ → Sum
 totalled ws = cond (leb (total ws) total_limit) (Some (total ws)) None
 
 -- the number of an entry, or none

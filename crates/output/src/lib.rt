@@ -22,31 +22,32 @@ pub fn put_line<W: Write, T: Display>(out: &mut W, numbers: &[T], gap: char) -> 
     Ok(())
 }
 
-// A row with all its numbers, on a line that begins so.
-fn put_row<W: Write>(
-    out: &mut W,
-    row: &[u64],
-    width: usize,
-    begin: &str,
-    gap: char,
-) -> io::Result<()>
-    requires { length row.now ≡ max width 1 }
-{
-    write!(out, "{begin}")?;
-    put_line(out, row, gap)
+// How rows are written: what each line begins with, and what stands between its numbers.
+#[derive(Clone, Copy)]
+pub struct Style<'a> {
+    pub begin: &'a str,
+    pub gap: char,
 }
 
-// The first rows of so many numbers each, at least one, as far as they are there, each on a line of its own that begins so.
+// A row with all its numbers, on a line. The width is said for the contract: it keeps a short rest of the numbers from being a row.
+fn put_row<W: Write>(out: &mut W, row: &[u64], width: usize, style: Style) -> io::Result<()>
+    requires { length row.now ≡ max width 1 }
+{
+    write!(out, "{}", style.begin)?;
+    put_line(out, row, style.gap)
+}
+
+// The first rows of so many numbers each, at least one, as far as they are there, each on a line of its own. The width is a number and no const parameter: as_chunks
+// asks for one above 0, and this answers any, 0 as 1.
 pub fn put_rows<W: Write>(
     out: &mut W,
     numbers: &[u64],
     width: usize,
     count: u64,
-    begin: &str,
-    gap: char,
+    style: Style,
 ) -> io::Result<()> {
     for row in numbers.chunks_exact(width.max(1)).take(count as usize) {
-        put_row(out, row, width, begin, gap)?;
+        put_row(out, row, width, style)?;
     }
     Ok(())
 }
@@ -56,8 +57,7 @@ pub fn put_entries<W: Write>(
     out: &mut W,
     listing: &[u64],
     count: u64,
-    begin: &str,
-    gap: char,
+    style: Style,
 ) -> io::Result<()> {
-    put_rows(out, listing, listing::Limits::ENTRY, count, begin, gap)
+    put_rows(out, listing, listing::Limits::ENTRY, count, style)
 }

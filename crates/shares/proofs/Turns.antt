@@ -3,7 +3,7 @@ use mathlib.Core.Path.{◌≡◌, refl, sym, ap, ◌∙◌}
 use mathlib.Core.List.Memᴰ.{head}
 use mathlib.Core.List.Memᴰ.{tail}
 use mathlib.Core.List.{List, [], ◌∷◌, ◌++◌, Memᴰ as In}
-use Prim.Native.Nat.{ℕ, zero, suc, ◌+◌, ◌-◌, ◌*◌, ◌≤◌, ◌<◌}
+use Prim.Native.Nat.{ℕ, zero, suc, ◌+◌, ◌-◌, ◌*◌, ◌/◌, ◌≤◌, ◌<◌}
 use native.Mathlib.Omega.{arith}
 use native.Mathlib.Numerals.{add-one}
 use lib.IntN.{ℤ}
@@ -27,7 +27,10 @@ use Rattle.state.specs.Read.{Passed, process_count, definition_number}
 use Rattle.state.specs.Fits.{scopes_of}
 use Rattle.state.proofs.Over.{good-fits, few-scopes}
 use Rattle.state.proofs.Read.{good-passed, count-numbers, definition-numbers}
-use Rattle.listing.specs.Buffer.{filled_numbers}
+use Rattle.std.specs.Simd.{first_chunks}
+use Rattle.listing.specs.declared.Entry as listed
+use Rattle.listing.specs.Buffer.{filled_numbers, entry_of, entry_in}
+use Rattle.listing.proofs.Chunks.{take-chunks, chunks-length, chunks-within, chunk-at}
 use Rattle.shares.specs.Shared.{Shared}
 use Rattle.shares.proofs.Sums.{set_more, within, nothing_yet, then-zeros}
 use Rattle.shares.proofs.Rows.{nil, place_in, weight-in, rows_long}
@@ -40,6 +43,24 @@ member (e ∷ es) (suc i) l = tail (member es i (omega arith))
 nth-below : {A : Type 0} {xs : List A} {n : ℕ} {x : A} → Nth xs n x → n < length xs
 nth-below first = omega arith
 nth-below (later h) = omega (arith, nth-below h)
+
+-- an entry made of a row
+module _ (x : listed.Entry) (row : List ℕ) (h : entry_of x ≡ entry_in row 0) where
+  row-place : x.place ≡ get_or row 1 0
+  unfolding entry_of entry_in
+  row-place = cc
+
+  row-weight : x.weight ≡ get_or row 6 0
+  unfolding entry_of entry_in
+  row-weight = cc
+
+-- the rows of a listing, count of them
+module _ (l : List ℕ) (count n : ℕ) (rs : List (List ℕ)) (is : rs ≡ take count (first_chunks 7 n l)) (fits : count ≤ n) where
+  pub rows-count : length rs ≡ count
+  rows-count = ap length (is ∙ take-chunks count n l fits) ∙ chunks-length count l
+
+  pub row-at : (i : ℕ) → i < count → (j : ℕ) → j < 7 → get_or (get_or rs i []) j 0 ≡ get_or l (i * entry_width + j) 0
+  row-at i k j h = ap (λ (xs : List (List ℕ)). get_or (get_or xs i []) j 0) (is ∙ take-chunks count n l fits) ∙ chunk-at count l i j k h
 
 -- the sums of the first i entries
 abbrev pub sums : State → List Entry → ℕ → List ℕ
@@ -71,16 +92,16 @@ module _ {zs : List ℤ} {l : List ℕ} {count : ℕ} {m : Resolved.Model} {s : 
       ap (λ (xs : List Entry). subtotals (definition_at s) xs 0 report_length) (take_all i es (omega (arith, h.count-is)))
       ∙ then-zeros (definition_at s) es (length m.definitions) report_length h.good.few-definitions owner-below
 
+  pub all-fit : count ≤ length l / entry_width
+  unfolding filled_numbers
+  all-fit = chunks-within count (length l) (rw h.filled (omega (arith, rows_long es (replicate (listing_length - length es * entry_width) 0), h.count-is)))
+
   module _ (i : ℕ) (k : i < count) where
     here : i < length es
     here = omega (arith, h.count-is)
 
     abbrev e : Entry
     e = get_or es i nil
-
-    pub fits : i * entry_width + entry_width ≤ length l
-    unfolding filled_numbers
-    fits = rw h.filled (omega (arith, rows_long es (replicate (listing_length - length es * entry_width) 0), here))
 
     place_is : get_or l (i * entry_width + 1) 0 ≡ actor (key_of e)
     unfolding filled_numbers
@@ -122,10 +143,26 @@ module _ {zs : List ℤ} {l : List ℕ} {count : ℕ} {m : Resolved.Model} {s : 
         let g = get_or-set_same (sums s es i) d (get_or (sums s es i) d 0 + get_or l (i * entry_width + 6) 0) 0 (omega (arith, below, as_many (definition_at s) (take i es) 0 report_length)) in
         omega (arith, sym g ∙ ap (λ (ns : List ℕ). get_or ns d 0) turn, within (definition_at s) (i + 1) es d report_length below, ((accepted m s es).0 h.listed).3)
 
-    -- where the numbers are the sums, and the definition is the one that was read
-    module _ (ns : List ℕ) (d : ℕ) (e : ns ≡ sums s es i) (f : d ≡ definition_number zs place) where
-      pub turned : set ns d (get_or ns d 0 + get_or l (i * entry_width + 6) 0) ≡ sums s es (i + 1)
-      turned = rw (e, f) turn
+    -- where the numbers are the sums, and the definition is the one of the row's entry
+    module _ (x : listed.Entry) (row : List ℕ) (r : entry_of x ≡ entry_in row 0) (at : (j : ℕ) → j < 7 → get_or row j 0 ≡ get_or l (i * entry_width + j) 0) where
+      x-place : x.place ≡ place
+      x-place = row-place x row r ∙ at 1 (omega arith)
 
-      pub sum_fits : get_or ns d 0 + get_or l (i * entry_width + 6) 0 ≤ total_limit
-      sum_fits = rw (e, f) few
+      x-weight : x.weight ≡ get_or l (i * entry_width + 6) 0
+      x-weight = row-weight x row r ∙ at 6 (omega arith)
+
+      pub x-inside : x.place < process_count zs
+      x-inside = omega (arith, x-place, inside)
+
+      module _ (ns : List ℕ) (d : ℕ) (e : ns ≡ sums s es i) (f : d ≡ definition_number zs x.place) where
+        d-is : d ≡ definition_number zs place
+        d-is = f ∙ ap (definition_number zs) x-place
+
+        pub x-below : d < report_length
+        x-below = omega (arith, d-is, below)
+
+        pub turned : set ns d (get_or ns d 0 + x.weight) ≡ sums s es (i + 1)
+        turned = rw (e, d-is, x-weight) turn
+
+        pub sum_fits : get_or ns d 0 + x.weight ≤ total_limit
+        sum_fits = rw (e, d-is, x-weight) few

@@ -10,7 +10,6 @@ use lib.IntN.{ℤ, nat_abs}
 use lib.ListN.{length, take}
 use lib.Seq.{sets}
 use Rattle.std.specs.Prelude.{Some, None}
-use Rattle.value.specs.Range.{InRange}
 use Rattle.model.specs.Resolved
 use Rattle.model.specs.Good.{Every, GoodPart}
 use Rattle.rules.specs.Order.{Ascending}
@@ -42,8 +41,8 @@ module _ (t : List ℕ) where
 
   -- ---- 17
   module _ (ls : List ℤ) (r : Next) where
-    pub given-asks : (k : ℕ) → r ≡ Some k → Continued t ls r → ((m : Resolved.Model) × Held (Settled.Parts t) (Every (GoodPart m (length ls))) k) × (Every InRange ls)
-    given-asks k e c = ((c.model, record { part = c.parts; at = shown-at (subst (ShowsNext t c.parts) e c.shows); fit = c.fit.parts }), c.fit.values)
+    pub given-asks : (k : ℕ) → r ≡ Some k → Continued t ls r → (m : Resolved.Model) × Held (Settled.Parts t) (Every (GoodPart m (length ls))) k
+    given-asks k e c = (c.model, record { part = c.parts; at = shown-at (subst (ShowsNext t c.parts) e c.shows); fit = c.fit.parts })
 
     pub given_is : (k : ℕ) → r ≡ Some k → (b : Bool) → Worth (Settled.Parts t) (arguments_given ls) k b → (ps : List Resolved.Part) → ShowsNext t ps r → b ≡ arguments_given ls ps
     given_is k e b f ps h = f ps (shown-at (subst (ShowsNext t ps) e h))

@@ -18,6 +18,7 @@ use Rattle.machine.specs.Offer.{Process, arguments_given, next_processes}
 use Rattle.machine.specs.State.{State, GoodProcess, state_numbers}
 use Rattle.machine.proofs.Everys.{every-replace}
 use Rattle.machine.proofs.Continues.{next-good}
+use Rattle.std.specs.Prelude.{Option as RustOption}
 use Rattle.eval.specs.declared.offer.Offer.{Offer}
 use Rattle.eval.specs.Next.{Next, cut, most}
 use Rattle.step.specs.declared.Refusal.TheVariants.{Arguments, Processes, Pairs}
@@ -79,7 +80,7 @@ module _ {t scopes : List ℕ} {root variables : ℕ} {zs : List ℤ} {i : ℕ} 
   }
 
 -- ---- a process by itself
-module _ {t scopes : List ℕ} {root variables : ℕ} {zs : List ℤ} {i : ℕ} {ls : List ℤ} {next : Next} {offer : Offer} {m : Resolved.Model} {s : State} {ps : List Resolved.Part} {n : Change}
+module _ {t scopes : List ℕ} {root variables : ℕ} {zs : List ℤ} {i : ℕ} {ls : List ℤ} {next : Next} {offer : RustOption Offer} {m : Resolved.Model} {s : State} {ps : List Resolved.Part} {n : Change}
     (h : Alone t scopes root variables zs i ls next offer m s ps n) where
   pub continued : Continued t ls next
   continued = record { model = m; parts = ps; shows = h.defined.shows; fit = h.defined.fit }

@@ -20,8 +20,10 @@ use Rattle.eval.specs.declared.offer.Offer.{Offer}
 use Rattle.eval.specs.Channels.{numbers_of}
 use Rattle.eval.proofs.Shapes.{numbers-are}
 use Rattle.eval.specs.Shown as Shown
-use Rattle.eval.specs.Shown.{ShowsValues, ShowsPair, ShowsAction, ShowsOffer, bare_offer}
-use Rattle.step.specs.Enter.{ShowsChange, launches, kills, neither}
+use Rattle.eval.specs.Shown.{ShowsValues, ShowsPair, ShowsAction, ShowsGuard, ShowsOffer, bare_offer}
+use Rattle.std.specs.Prelude.{Some, None, Option as RustOption}
+use Rattle.std.specs.Option.{option_flatten}
+use Rattle.step.specs.Enter.{ShowsChange, launches, kills, neither, nothing}
 
 -- the kind of an action's node
 kind_number : Action → ℕ
@@ -48,10 +50,6 @@ module _ (t : List ℕ) (ls : List ℤ) (r : Offer) where
   kind-is (Shown.take e h) = e
   kind-is (Shown.take_bind e h) = e
 
-  shut-kind : r ≡ bare_offer 0 0 → r.kind ≡ 0
-  unfolding bare_offer
-  shut-kind e = ap (λ (o : Offer). o.kind) e
-
   -- ---- names that take the values us
   module _ (us vs : List ℤ) (binds : ((r.kind ≡ 40) ⊎ (r.kind ≡ 44)) → vs ≡ us) (not-binds : (r.kind ≡ 40 → ⊥) → (r.kind ≡ 44 → ⊥) → vs ≡ []) where
     action-bound : (a : Action) → r.kind ≡ kind_number a → vs ≡ bound_by us a
@@ -66,11 +64,11 @@ module _ (t : List ℕ) (ls : List ℤ) (r : Offer) where
     action-bound (offers.take w) e = not-binds (λ f. omega arith) (λ f. omega arith)
     action-bound (offers.take_bind w) e = binds (inr e)
 
-    pub values-bound : (g : Guard) → ShowsOffer t ls (some g) r → vs ≡ on_action [] (bound_by us) g
+    pub values-bound : (g : Guard) → ShowsGuard t ls g (Some r) → vs ≡ on_action [] (bound_by us) g
     unfolding on_action
     values-bound (offers.bare a n) (Shown.bare h e) = action-bound a (kind-is h)
     values-bound (offers.opened a n) (Shown.opened h e) = action-bound a (kind-is h)
-    values-bound offers.shut (Shown.shut e) = let k = shut-kind e in not-binds (λ f. omega arith) (λ f. omega arith)
+    values-bound offers.shut h = elim h [ ]
 
   -- ---- values sent
   values-taken : {n : ℕ} {a b c d : ℤ} {vs : List ℤ} → ShowsValues n a b c d vs → (take n (a ∷ c ∷ []) ≡ vs) × (n ≤ 2)
@@ -89,14 +87,14 @@ module _ (t : List ℕ) (ls : List ℤ) (r : Offer) where
   unsent (offers.take w) e n = refl
   unsent (offers.take_bind w) e n = refl
 
-  pub none-sent : (r.kind ≡ 42 → ⊥) → (g : Guard) → ShowsOffer t ls (some g) r → [] ≡ on_action [] sent_by g
+  pub none-sent : (r.kind ≡ 42 → ⊥) → (g : Guard) → ShowsGuard t ls g (Some r) → [] ≡ on_action [] sent_by g
   unfolding on_action
   none-sent n (offers.bare a q) (Shown.bare h e) = unsent a (kind-is h) n
   none-sent n (offers.opened a q) (Shown.opened h e) = unsent a (kind-is h) n
-  none-sent n offers.shut (Shown.shut e) = refl
+  none-sent n offers.shut h = elim h [ ]
 
   abbrev Sent : List ℤ → Type 0
-  Sent vs = (take r.count (r.first ∷ r.second ∷ []) ≡ vs) × (r.count ≤ 2)
+  Sent vs = (take r.list.count (r.list.first ∷ r.list.second ∷ []) ≡ vs) × (r.list.count ≤ 2)
 
   action-sent : (a : Action) → ShowsAction t ls r a → r.kind ≡ 42 → Sent (sent_by a)
   unfolding sent_by kind_number
@@ -110,21 +108,21 @@ module _ (t : List ℕ) (ls : List ℤ) (r : Offer) where
   action-sent (offers.take w) (Shown.take e h) k = absurd (omega arith)
   action-sent (offers.take_bind w) (Shown.take_bind e h) k = absurd (omega arith)
 
-  pub some-sent : r.kind ≡ 42 → (g : Guard) → ShowsOffer t ls (some g) r → Sent (on_action [] sent_by g)
+  pub some-sent : r.kind ≡ 42 → (g : Guard) → ShowsGuard t ls g (Some r) → Sent (on_action [] sent_by g)
   unfolding on_action
   some-sent k (offers.bare a q) (Shown.bare h e) = action-sent a h k
   some-sent k (offers.opened a q) (Shown.opened h e) = action-sent a h k
-  some-sent k offers.shut (Shown.shut e) = absurd (omega (arith, shut-kind e))
+  some-sent k offers.shut h = elim h [ ]
 
   -- ---- pairs that change
-  action-change : (a : Action) → ShowsAction t ls r a → ShowsChange r (change_of a)
+  action-change : (a : Action) → ShowsAction t ls r a → ShowsChange (Some r) (change_of a)
   unfolding change_of kind_number
   action-change a h = go a h (kind-is h)
     where
-      none : {n : ℕ} → r.kind ≡ n → (n ≡ 37 → ⊥) → (n ≡ 38 → ⊥) → ShowsChange r unchanged
+      none : {n : ℕ} → r.kind ≡ n → (n ≡ 37 → ⊥) → (n ≡ 38 → ⊥) → ShowsChange (Some r) unchanged
       none e f g = neither (λ q. f (sym e ∙ q)) (λ q. g (sym e ∙ q))
 
-      go : (a : Action) → ShowsAction t ls r a → r.kind ≡ kind_number a → ShowsChange r (change_of a)
+      go : (a : Action) → ShowsAction t ls r a → r.kind ≡ kind_number a → ShowsChange (Some r) (change_of a)
       go offers.wait h e = none e (λ q. omega arith) (λ q. omega arith)
       go (offers.launch x) (Shown.launch k h) e = launches k h
       go (offers.kill x) (Shown.kill k h) e = kills k h
@@ -135,22 +133,37 @@ module _ (t : List ℕ) (ls : List ℤ) (r : Offer) where
       go (offers.take w) h e = none e (λ q. omega arith) (λ q. omega arith)
       go (offers.take_bind w) h e = none e (λ q. omega arith) (λ q. omega arith)
 
-  pub shows-change : (g : Guard) → ShowsOffer t ls (some g) r → ShowsChange r (on_action unchanged change_of g)
+module _ (t : List ℕ) (ls : List ℤ) where
+  pub shows-change : (o : RustOption Offer) (g : Guard) → ShowsGuard t ls g o → ShowsChange o (on_action unchanged change_of g)
   unfolding on_action
-  shows-change (offers.bare a q) (Shown.bare h e) = action-change a h
-  shows-change (offers.opened a q) (Shown.opened h e) = action-change a h
-  shows-change offers.shut (Shown.shut e) = let k = shut-kind e in neither (λ f. omega arith) (λ f. omega arith)
+  shows-change (Some r) (offers.bare a q) (Shown.bare h e) = action-change t ls r a h
+  shows-change (Some r) (offers.opened a q) (Shown.opened h e) = action-change t ls r a h
+  shows-change None offers.shut Shown.shut = nothing
+  shows-change None (offers.bare a q) h = elim h [ ]
+  shows-change None (offers.opened a q) h = elim h [ ]
+  shows-change (Some r) offers.shut h = elim h [ ]
+
+  -- nothing is sent or bound behind a false gate
+  pub hidden-none : (f : Action → List ℤ) (g : Guard) → ShowsGuard t ls g None → [] ≡ on_action [] f g
+  unfolding on_action
+  hidden-none f offers.shut h = refl
+  hidden-none f (offers.bare a q) h = elim h [ ]
+  hidden-none f (offers.opened a q) h = elim h [ ]
+
+-- what a branch with all its values offers
+pub guard-shown : {t : List ℕ} {ls : List ℤ} {g : Guard} {o : RustOption (RustOption Offer)} → ShowsOffer t ls (some g) o → ShowsGuard t ls g (option_flatten o)
+guard-shown (Shown.there h) = h
 
 -- ---- the numbers of a pair
 pub shown-row : (r : Offer) (x : offers.Pair) → ShowsPair r x
-    → (numbers_of r.shape r.channel r.channel2 r.channel3 ++ pos r.count ∷ r.first ∷ r.second ∷ [] ≡ pair_numbers x) × (r.count ≤ 2)
+    → (numbers_of r.channel.shape r.channel.first r.channel.second r.channel.third ++ pos r.list.count ∷ r.list.first ∷ r.list.second ∷ [] ≡ pair_numbers x) × (r.list.count ≤ 2)
 unfolding padded
 shown-row r x h =
     let t = tail x.values h.values-are in
     (numbers-are x.channel h.channel-is _ ∙ ap (channel_numbers x.channel) t.0 ∙ sym (pair-shape x), t.1)
   where
-    tail : (vs : List ℤ) → ShowsValues r.count r.first r.first_end r.second r.second_end vs
-        → (◌≡◌ {A = List ℤ} (pos r.count ∷ r.first ∷ r.second ∷ []) (pos (length vs) ∷ padded 2 vs)) × (r.count ≤ 2)
+    tail : (vs : List ℤ) → ShowsValues r.list.count r.list.first r.list.first_end r.list.second r.list.second_end vs
+        → (◌≡◌ {A = List ℤ} (pos r.list.count ∷ r.list.first ∷ r.list.second ∷ []) (pos (length vs) ∷ padded 2 vs)) × (r.list.count ≤ 2)
     tail (v ∷ []) (Shown.one e f g i j) = (rw (e, f, i) refl, omega arith)
     tail (v ∷ w ∷ []) (Shown.two e f g i j) = (rw (e, f, i) refl, omega arith)
     tail [] h = elim h [ ]

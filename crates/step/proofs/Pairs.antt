@@ -25,6 +25,7 @@ use Rattle.state.proofs.Entries.{pair-wide}
 use Rattle.state.proofs.Over.{pair_fits}
 use Rattle.state.proofs.Lit.{lit-in, unlit-in, launch-numbers, kill-numbers}
 use Rattle.eval.specs.declared.offer.Offer.{Offer}
+use Rattle.std.specs.Prelude.{Some, None}
 use Rattle.eval.specs.Shown.{ShowsPair}
 use Rattle.step.specs.Enter.{ShowsChange, launches, kills, neither, GoodNew, changed, Changes}
 use Rattle.step.proofs.Tables.{few, fits, pairs-are}
@@ -49,25 +50,25 @@ pub record Killing (r : Offer) (m : Resolved.Model) (n : Change) : Type 0 where
   pub good : GoodPair m pair
 
 module _ (zs : List ℤ) (r : Offer) where
-  pub launching : r.kind ≡ 37 → (m : Resolved.Model) (s : State) (n : Change) → Changes zs r m s n → Launching r m n
+  pub launching : r.kind ≡ 37 → (m : Resolved.Model) (s : State) (n : Change) → Changes zs (Some r) m s n → Launching r m n
   unfolding GoodNew
   launching e m s n c = go n c.shows c.good
     where
-      go : (n : Change) → ShowsChange r n → GoodNew m n → Launching r m n
+      go : (n : Change) → ShowsChange (Some r) n → GoodNew m n → Launching r m n
       go unchanged (neither f g) h = absurd (f e)
       go (launched x) (launches k p) h = record { pair = x; is = refl; shows = p; good = h }
       go (killed x) (kills k p) h = absurd (omega arith)
 
-  pub killing : r.kind ≡ 38 → (m : Resolved.Model) (s : State) (n : Change) → Changes zs r m s n → Killing r m n
+  pub killing : r.kind ≡ 38 → (m : Resolved.Model) (s : State) (n : Change) → Changes zs (Some r) m s n → Killing r m n
   unfolding GoodNew
   killing e m s n c = go n c.shows c.good
     where
-      go : (n : Change) → ShowsChange r n → GoodNew m n → Killing r m n
+      go : (n : Change) → ShowsChange (Some r) n → GoodNew m n → Killing r m n
       go unchanged (neither f g) h = absurd (g e)
       go (launched x) (launches k p) h = absurd (omega arith)
       go (killed x) (kills k p) h = record { pair = x; is = refl; shows = p; good = h }
 
-  module _ (m : Resolved.Model) (s : State) (n : Change) (c : Changes zs r m s n) where
+  module _ (m : Resolved.Model) (s : State) (n : Change) (c : Changes zs (Some r) m s n) where
     -- ---- 19
     few-pairs : length s.pairs ≤ 256
     few-pairs = c.stands.state.few-pairs
@@ -79,7 +80,7 @@ module _ (zs : List ℤ) (r : Offer) where
     unfolding pairs_after
     no-launch f = not_full _ (go n c.shows)
       where
-        go : (n : Change) → ShowsChange r n → length (pairs_after n s.pairs) ≤ 256
+        go : (n : Change) → ShowsChange (Some r) n → length (pairs_after n s.pairs) ≤ 256
         go unchanged h = few-pairs
         go (launched x) (launches k p) = absurd (f k)
         go (killed x) h = omega (arith, no_longer x s.pairs, few-pairs)
@@ -136,7 +137,27 @@ module _ (zs : List ℤ) (r : Offer) where
     unfolding changed pairs_after
     same_numbers f g = go n c.shows
       where
-        go : (n : Change) → ShowsChange r n → zs ≡ state_numbers (changed s n)
+        go : (n : Change) → ShowsChange (Some r) n → zs ≡ state_numbers (changed s n)
         go unchanged h = c.stands.numbers
         go (launched x) (launches k p) = absurd (f k)
         go (killed x) (kills k p) = absurd (g k)
+
+-- nothing is offered behind a false gate
+module _ (zs : List ℤ) (m : Resolved.Model) (s : State) (n : Change) (c : Changes zs None m s n) where
+  pub hidden-free : false ≡ not (leb (length (pairs_after n s.pairs)) 256)
+  unfolding pairs_after
+  hidden-free = not_full _ (go n c.shows)
+    where
+      go : (n : Change) → ShowsChange None n → length (pairs_after n s.pairs) ≤ 256
+      go unchanged h = c.stands.state.few-pairs
+      go (launched x) h = elim h [ ]
+      go (killed x) h = elim h [ ]
+
+  pub hidden-same : zs ≡ state_numbers (changed s n)
+  unfolding changed pairs_after
+  hidden-same = go n c.shows
+    where
+      go : (n : Change) → ShowsChange None n → zs ≡ state_numbers (changed s n)
+      go unchanged h = c.stands.numbers
+      go (launched x) h = elim h [ ]
+      go (killed x) h = elim h [ ]

@@ -1,8 +1,7 @@
 -- Where the tables and the state's numbers have the branch that acts: from what the tables represent and from the laws of a state's numbers.
 use mathlib.Core.Path.{◌≡◌, refl, sym, ap, subst, ◌∙◌}
 use mathlib.Core.List.{List, [], ◌∷◌, ◌++◌}
-use mathlib.Core.Logic.{◌⊎◌}
-use mathlib.Core.Option.{Option, some, Option-elim}
+use mathlib.Core.Option.{Option, Option-elim}
 use Prim.Native.Nat.{ℕ, zero, suc, ◌+◌, ◌≤◌, ◌<◌}
 use borrow.Author.Tests.{lt-ltb}
 use mathlib.Core.Bool.{true}
@@ -34,11 +33,14 @@ use Rattle.eval.specs.Held.{Held}
 use Rattle.machine.specs.Evaluate.{eval_branch}
 use Rattle.eval.specs.declared.offer.Offer.{Offer}
 use Rattle.eval.specs.Next.{Next, ShowsNext, Scoped}
-use Rattle.eval.specs.Shown.{ShowsOffer}
+use Rattle.std.specs.Prelude.{Option as RustOption}
+use Rattle.std.specs.Option.{option_flatten}
+use Rattle.rules.specs.Step.{on_action, bound_by}
+use Rattle.eval.specs.Shown.{ShowsGuard, ShowsOffer}
 use Rattle.step.specs.declared.Bound.{Bound}
 use Rattle.step.specs.Enter.{Stands, Lent, Acts, Chain, Enters, values_of, locals_of}
 use Rattle.step.proofs.Chain.{RootOf}
-use Rattle.step.proofs.Offers.{row-values, values-bound}
+use Rattle.step.proofs.Offers.{row-values, guard-shown}
 
 -- ---- a state's numbers
 module _ {zs : List ℤ} {m : Resolved.Model} {s : State} (h : Stands zs m s) where
@@ -162,16 +164,19 @@ module _ {t roots scopes : List ℕ} {zs : List ℤ} {i j : ℕ} {m : Resolved.M
   pub own-are : (n : ℕ) → n ≡ length p.locals → (l : List ℤ) → l ≡ locals_at zs i n → l ≡ p.locals
   own-are n e l f = f ∙ (ap (locals_at zs i) e ∙ locals_are h)
 
-  pub offer-asks : (l : List ℤ) → l ≡ p.locals → (r : ℕ) → Settled.Branch t b r → ((n : Resolved.Model) × Held (Settled.Branch t) (GoodBranch n (length l)) r) × (Every InRange l)
-  offer-asks l e r a = rw e ((m, held h r a), (process h).values)
+  pub offer-asks : (l : List ℤ) → l ≡ p.locals → (r : ℕ) → Settled.Branch t b r → (n : Resolved.Model) × Held (Settled.Branch t) (GoodBranch n (length l)) r
+  offer-asks l e r a = rw e (m, held h r a)
 
-  pub entered : (us bound : Bound) (own l : List ℤ) (count r : ℕ) (next : Next) (offer : Offer)
-      → own ≡ p.locals → take count l ≡ own ++ values_of bound → count ≤ length l
-      → ((((offer.kind ≡ 40) ⊎ (offer.kind ≡ 44)) → values_of bound ≡ values_of us) × ((offer.kind ≡ 40 → ⊥) → (offer.kind ≡ 44 → ⊥) → values_of bound ≡ []))
-      → ShowsOffer t own (eval_branch own b) offer → ShowsNext t b.next next
-      → Enters t p b g (values_of us) l (record { count = count; next = next; offer = offer })
+  pub own-values : (l : List ℤ) → l ≡ p.locals → Every InRange l
+  own-values l e = rw e (process h).values
+
+  pub guard-here : (own : List ℤ) (o : RustOption (RustOption Offer)) → own ≡ p.locals → ShowsOffer t own (eval_branch own b) o → ShowsGuard t p.locals g (option_flatten o)
+  guard-here own o e q =
+      guard-shown (subst (λ (x : Option offers.Guard). ShowsOffer t p.locals x o) h.evaluates (subst (λ (x : List ℤ). ShowsOffer t x (eval_branch x b) o) e q))
+
+  pub entered : (us bound : Bound) (own l : List ℤ) (count : ℕ) (next : Next) (offer : RustOption Offer)
+      → own ≡ p.locals → take count l ≡ own ++ values_of bound → count ≤ length l → values_of bound ≡ on_action [] (bound_by (values_of us)) g
+      → ShowsGuard t p.locals g offer → ShowsNext t b.next next → Enters t p b g (values_of us) l (record { count = count; next = next; offer = offer })
   unfolding locals_of
-  entered us bound own l count r next offer e f k w o n =
-      let shows : ShowsOffer t p.locals (some g) offer = subst (λ (x : Option offers.Guard). ShowsOffer t p.locals x offer) h.evaluates (subst (λ (x : List ℤ). ShowsOffer t x (eval_branch x b) offer) e o) in
-      let v = values-bound t p.locals offer (values_of us) (values_of bound) w.0 w.1 g shows in
-      record { locals = f ∙ (ap (λ (x : List ℤ). x ++ values_of bound) e ∙ ap (λ (x : List ℤ). p.locals ++ x) v); few = k; next = n; offer = shows }
+  entered us bound own l count next offer e f k v o n =
+      record { locals = f ∙ (ap (λ (x : List ℤ). x ++ values_of bound) e ∙ ap (λ (x : List ℤ). p.locals ++ x) v); few = k; next = n; offer = o }

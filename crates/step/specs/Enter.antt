@@ -1,5 +1,6 @@
 -- What the step is lent, and what a process that acts enters (01, Step). Assumes nothing: these are definitions.
-use Rattle.std.specs.Prelude.{◌≡◌, List, [], ◌∷◌, ◌++◌, Bool, cond, ℕ, ◌+◌, ◌≤◌, ◌<◌, leb, ℤ, length, take, Err, Ok, Result}
+use Rattle.std.specs.Prelude.{◌≡◌, List, [], ◌∷◌, ◌++◌, Bool, cond, ℕ, ◌+◌, ◌≤◌, ◌<◌, leb, ℤ, length, take, Err, Ok, Result, Some, None}
+use Rattle.std.specs.Prelude.{Option as RustOption}
 use Rattle.std.proofs.Math.Option.{some}
 use Rattle.value.specs.Range.{InRange}
 use Rattle.tree.specs.Node as node
@@ -18,10 +19,11 @@ use Rattle.machine.specs.State.{State, GoodPair, GoodState, state_numbers, pair_
 use Rattle.machine.specs.Questions.{BranchAt}
 use Rattle.eval.specs.declared.offer.Offer.{Offer}
 use Rattle.eval.specs.Next.{Next, Defines, ShowsNext, Scoped}
-use Rattle.eval.specs.Shown.{ShowsPair, ShowsOffer}
+use Rattle.eval.specs.Shown.{ShowsPair, ShowsGuard}
 use Rattle.step.specs.declared.Refusal.{Refusal}
 use Rattle.step.specs.declared.Refusal.TheVariants.{Arguments, Processes, Pairs}
 use Rattle.step.specs.declared.Bound.{Bound}
+use Rattle.step.specs.declared.Bound.TheVariants as bound
 use Rattle.step.specs.declared.Entered.{Entered}
 
 -- 01, State: zs are the numbers of a state over a model
@@ -64,7 +66,9 @@ pub record Acting (t roots scopes : List ℕ) (zs : List ℤ) (i j : ℕ) : Type
 
 -- 01, Step: none, one or two values
 unfoldable pub values_of : Bound → List ℤ
-values_of b = take b.count (b.first ∷ b.second ∷ [])
+values_of bound.None = []
+values_of (bound.One x) = x ∷ []
+values_of (bound.Two x y) = x ∷ y ∷ []
 
 -- 01, Step: the locals of a process, and after them the values vs where its action binds names
 unfoldable pub locals_of : Process → List ℤ → offers.Guard → List ℤ
@@ -75,14 +79,14 @@ pub record Enters (t : List ℕ) (p : Process) (b : Resolved.Branch) (g : offers
   pub locals : take r.count ls ≡ locals_of p vs g
   pub few : r.count ≤ length ls
   pub next : ShowsNext t b.next r.next
-  pub offer : ShowsOffer t p.locals (some g) r.offer
+  pub offer : ShowsGuard t p.locals g r.offer
 
 -- an offer of a branch that has all its values
-pub record SomeOffer (r : Offer) : Type 0 where
+pub record SomeOffer (r : RustOption Offer) : Type 0 where
   pub nodes : List ℕ
   pub locals : List ℤ
   pub guard : offers.Guard
-  pub shows : ShowsOffer nodes locals (some guard) r
+  pub shows : ShowsGuard nodes locals guard r
 
 -- ---- a continuation with its locals
 
@@ -129,10 +133,11 @@ pub record Carries (r : Offer) : Type 0 where
   pub shows : ShowsPair r pair
 
 -- 01, Step: what an offer does to the lit pairs
-pub data ShowsChange (r : Offer) : Change → Type 0 where
-  launches : {x : offers.Pair} → r.kind ≡ node.launch → ShowsPair r x → ShowsChange r (launched x)
-  kills : {x : offers.Pair} → r.kind ≡ node.kill → ShowsPair r x → ShowsChange r (killed x)
-  neither : (r.kind ≡ node.launch → ⊥) → (r.kind ≡ node.kill → ⊥) → ShowsChange r unchanged
+pub data ShowsChange : RustOption Offer → Change → Type 0 where
+  launches : {r : Offer} {x : offers.Pair} → r.kind ≡ node.launch → ShowsPair r x → ShowsChange (Some r) (launched x)
+  kills : {r : Offer} {x : offers.Pair} → r.kind ≡ node.kill → ShowsPair r x → ShowsChange (Some r) (killed x)
+  neither : {r : Offer} → (r.kind ≡ node.launch → ⊥) → (r.kind ≡ node.kill → ⊥) → ShowsChange (Some r) unchanged
+  nothing : ShowsChange None unchanged
 
 -- a pair that is launched is one over the model
 unfoldable pub GoodNew : Resolved.Model → Change → Type 0
@@ -145,12 +150,12 @@ unfoldable pub changed : State → Change → State
 changed s n = record { processes = s.processes; pairs = pairs_after n s.pairs }
 
 -- an offer's change of the pairs of a state
-pub record Changes (zs : List ℤ) (r : Offer) (m : Resolved.Model) (s : State) (n : Change) : Type 0 where
+pub record Changes (zs : List ℤ) (r : RustOption Offer) (m : Resolved.Model) (s : State) (n : Change) : Type 0 where
   pub stands : Stands zs m s
   pub shows : ShowsChange r n
   pub good : GoodNew m n
 
-pub record Changing (zs : List ℤ) (r : Offer) : Type 0 where
+pub record Changing (zs : List ℤ) (r : RustOption Offer) : Type 0 where
   pub model : Resolved.Model
   pub state : State
   pub change : Change
@@ -188,7 +193,7 @@ pub record Answers (given : Bool) (s s' : State) (r : Taken) (zs : List ℤ) : T
   pub numbers : zs ≡ state_numbers (state_of r s s')
 
 -- 01, Step: a process that acts by itself, with its continuation and its change of the pairs
-pub record Alone (t scopes : List ℕ) (root variables : ℕ) (zs : List ℤ) (i : ℕ) (ls : List ℤ) (next : Next) (offer : Offer) (m : Resolved.Model) (s : State) (ps : List Resolved.Part) (n : Change) : Type 0 where
+pub record Alone (t scopes : List ℕ) (root variables : ℕ) (zs : List ℤ) (i : ℕ) (ls : List ℤ) (next : Next) (offer : RustOption Offer) (m : Resolved.Model) (s : State) (ps : List Resolved.Part) (n : Change) : Type 0 where
   pub scoped : Scoped scopes m
   pub stands : Stands zs m s
   pub defined : Defined t root variables m ls ps next

@@ -1,7 +1,7 @@
 #![tactic(auto)]
 
 // The move of a chosen entry: questions 17 to 19, then the state after it.
-ghost use Rattle.std.specs.Prelude.{◌≡◌, ◌⊎◌, not, ◌&&◌, ℕ, ◌+◌, ◌≤◌, ◌<◌, leb, ℤ, length, get_or, take, drop};
+ghost use Rattle.std.specs.Prelude.{◌≡◌, ◌⊎◌, not, ◌&&◌, ℕ, ◌∷◌, ◌+◌, ◌≤◌, ◌<◌, leb, ℤ, length, get_or, take};
 ghost use mathlib.Core.List.{List, [], ◌++◌, Memᴰ as In};
 ghost use Rattle.std.proofs.Math.Option.{some};
 ghost use Rattle.tree.specs.Node as node;
@@ -10,7 +10,7 @@ ghost use Rattle.rules.specs.Rules.{Nth, Change, unchanged, key};
 ghost use Rattle.rules.specs.Listing as rules;
 ghost use Rattle.rules.specs.Listing.{entry as listed, entries};
 ghost use Rattle.rules.specs.Pairs.{pairs_after};
-ghost use Rattle.rules.specs.Step.{values_at, sent_by, on_action, change_of};
+ghost use Rattle.rules.specs.Step.{values_at, bound_by, sent_by, on_action, change_of};
 ghost use Rattle.model.specs.Resolved as Resolved;
 ghost use Rattle.model.specs.Limits.{local_limit};
 ghost use Rattle.model.specs.Opening.{process_limit};
@@ -20,10 +20,11 @@ ghost use Rattle.machine.specs.State.{State, pair_limit, pair_width, pair_number
 ghost use Rattle.machine.specs.Machine.{entry_arguments, entry_state};
 ghost use Rattle.eval.specs.Next as Become;
 ghost use Rattle.eval.specs.Next.{ShowsNext};
-ghost use Rattle.eval.specs.Shown.{ShowsPair, ShowsOffer};
+ghost use Rattle.eval.specs.Shown.{ShowsPair, ShowsGuard};
 ghost use Rattle.step.specs.Enter as Enter;
 ghost use Rattle.step.specs.Entries.{Row};
 
+use eval::Context;
 use eval::offer::Offer;
 use listing::Entry;
 use machine::EntryKind;
@@ -53,18 +54,32 @@ impl Refusal {
 
 // None, one or two values that names take.
 #[derive(Clone, Copy)]
-pub struct Bound {
-    pub count: usize,
-    pub first: i64,
-    pub second: i64,
+pub enum Bound {
+    None,
+    One(i64),
+    Two(i64, i64),
 }
 
-// What a process that acts enters: how many locals there are, its continuation and what it offers.
+impl Bound {
+    // The first so many of two values.
+    fn of(count: usize, first: i64, second: i64) -> Self
+        requires { count ≤ 2 }
+        ensures { Enter.values_of result ≡ take count (first ∷ second ∷ []) }
+    {
+        match count {
+            0 => Bound::None,
+            1 => Bound::One(first),
+            _ => Bound::Two(first, second),
+        }
+    }
+}
+
+// What a process that acts enters: how many locals there are, its continuation and what it offers, nothing behind a false gate.
 #[derive(Clone, Copy)]
 pub struct Entered {
     pub count: usize,
     pub next: Option<usize>,
-    pub offer: Offer,
+    pub offer: Option<Offer>,
 }
 
 // What the process at a place becomes: its locals, with the names bound, and its continuation.
@@ -90,14 +105,6 @@ fn branch_root(nodes: &[u64], k: usize, j: usize) -> usize
     branch_root(nodes, k - 1, j - 1)
 }
 
-// Writes numbers over the first of others.
-fn put_first(from: &[i64], to: &mut [i64])
-    requires { length from.now ≤ length to.old }
-    ensures { to.new ≡ from.now ++ drop (length from.now) to.old }
-{
-    to[..from.len()].copy_from_slice(from);
-}
-
 #[derive(Clone, Copy)]
 pub struct Room;
 
@@ -113,72 +120,70 @@ impl Room {
     pub const FRESH: usize = state::Layout::ALL_PROCESSES;
 }
 
-fn none_bound() -> Bound
-    ensures { (Enter.values_of result ≡ []) × (result.count ≤ 2) }
-{
-    Bound {
-        count: 0,
-        first: 0,
-        second: 0,
-    }
-}
-
 // The values of a lit pair; none beyond the last.
 fn pair_values(state: &[i64], pair: usize) -> Bound
     requires { (m : Resolved.Model) × (s : State) × Enter.Stands state.now m s }
-    ensures { ((m : Resolved.Model) (s : State) → Enter.Stands state.now m s → Enter.values_of result ≡ values_at s.pairs pair) × (result.count ≤ 2) }
+    ensures { (m : Resolved.Model) (s : State) → Enter.Stands state.now m s → Enter.values_of result ≡ values_at s.pairs pair }
 {
     if state::pair_count(state) <= pair {
-        return none_bound();
+        return Bound::None;
     }
     let row = state::pair_row(state, pair);
-    Bound {
-        count: row[Layout::CHANNEL] as usize,
-        first: row[Layout::VALUES],
-        second: row[Layout::VALUES + 1],
-    }
+    Bound::of(
+        row[Layout::CHANNEL] as usize,
+        row[Layout::VALUES],
+        row[Layout::VALUES + 1],
+    )
 }
 
-// The values sent; none by another action.
-fn sent_values(offer: Offer) -> Bound
+// The values sent; none by another action. An offer is asked here, and in the three below, whether it is there: each has an answer for a branch behind a false gate,
+// and the callers would ask it once for each.
+fn sent_values(offer: Option<Offer>) -> Bound
     requires { Enter.SomeOffer offer }
-    ensures { ((t : List ℕ) (ls : List ℤ) (g : Guard) → ShowsOffer t ls (some g) offer → Enter.values_of result ≡ on_action [] sent_by g) × (result.count ≤ 2) }
+    ensures { (t : List ℕ) (ls : List ℤ) (g : Guard) → ShowsGuard t ls g offer → Enter.values_of result ≡ on_action [] sent_by g }
 {
-    let kind = offer.kind;
-    if kind != NodeKind::HAND_SEND {
-        return none_bound();
+    let Some(offer) = offer else {
+        return Bound::None;
+    };
+    if offer.kind != NodeKind::HAND_SEND {
+        return Bound::None;
     }
-    Bound {
-        count: offer.count,
-        first: offer.first,
-        second: offer.second,
-    }
+    Bound::of(offer.list.count, offer.list.first, offer.list.second)
 }
 
-// The values that an action of this kind binds.
-fn bound_by(kind: u8, values: Bound) -> Bound
-    requires { values.count ≤ 2 }
-    ensures { (((kind ≡ node.bind) ⊎ (kind ≡ node.hand_bind)) → Enter.values_of result ≡ Enter.values_of values) × ((kind ≡ node.bind → ⊥) → (kind ≡ node.hand_bind → ⊥) → Enter.values_of result ≡ []) × (result.count ≤ 2) }
+// The values that an offered action binds.
+fn bound_by(offer: Option<Offer>, values: Bound) -> Bound
+    ensures { (t : List ℕ) (ls : List ℤ) (g : Guard) → ShowsGuard t ls g offer → Enter.values_of result ≡ on_action [] (bound_by (Enter.values_of values)) g }
 {
-    match kind {
+    let Some(offer) = offer else {
+        return Bound::None;
+    };
+    match offer.kind {
         NodeKind::BIND | NodeKind::HAND_BIND => values,
-        _ => none_bound(),
+        _ => Bound::None,
     }
 }
 
-// Writes a process's locals and the bound values after them; how many there are.
+// Writes a process's locals and the bound values after them; how many there are. The locals stand in an array of the caller's, as there is no heap, and their count is what
+// `Entered` tells of them.
 fn put_locals(own: &[i64], bound: Bound, locals: &mut [i64; Room::LOCALS]) -> usize
-    requires { (length own.now ≤ local_limit) × (bound.count ≤ 2) }
+    requires { length own.now ≤ local_limit }
     ensures { (take result locals.new ≡ own.now ++ Enter.values_of bound) × (result ≤ 10) }
 {
-    put_first(own, locals);
     let n = own.len();
-    let first = bound.first;
-    let second = bound.second;
-    let next = n + 1;
-    locals[n] = first;
-    locals[next] = second;
-    n + bound.count
+    locals[..n].copy_from_slice(own);
+    match bound {
+        Bound::None => n,
+        Bound::One(first) => {
+            locals[n] = first;
+            n + 1
+        }
+        Bound::Two(first, second) => {
+            locals[n] = first;
+            locals[n + 1] = second;
+            n + 2
+        }
+    }
 }
 
 // Where a process's branch is found: the root of the branch, and how many locals the process has.
@@ -188,7 +193,8 @@ pub struct Found {
     pub root: usize,
 }
 
-// Branch j of the process at place i.
+// Branch j of the process at place i. Tables, state, place and branch stay four, here, in `wait_token` and in `enter`: that the branch acts is said of each model and state in an
+// `ensures`, which no fact of a struct of them would take away.
 fn find_branch(tables: Tables, state: &[i64], i: usize, j: usize) -> Found
     requires { Enter.Acting tables.nodes.now tables.roots.now tables.scopes.now state.now i j }
     ensures { ((m : Resolved.Model) (s : State) (p : Process) (b : Resolved.Branch) (g : Guard) → Enter.Acts tables.entry.nodes.now tables.entry.roots.now tables.entry.scopes.now state.now i j m s p b g → (result.own ≡ length p.locals) × Settled.Branch tables.entry.nodes.now b result.root) × (result.own ≤ local_limit) }
@@ -197,10 +203,7 @@ fn find_branch(tables: Tables, state: &[i64], i: usize, j: usize) -> Found
     let first = usize::from(tables.roots[sum]);
     let own = state::locals_in(tables.scopes[sum]);
     let root = branch_root(tables.nodes, first, j);
-    Found {
-        own: own,
-        root: root,
-    }
+    Found { own, root }
 }
 
 // The branch at k behind its gate, if it has one.
@@ -235,21 +238,20 @@ fn enter(
     values: Bound,
     locals: &mut [i64; Room::LOCALS],
 ) -> Entered
-    requires { Enter.Acting tables.nodes.now tables.roots.now tables.scopes.now state.now i j × (values.count ≤ 2) }
+    requires { Enter.Acting tables.nodes.now tables.roots.now tables.scopes.now state.now i j }
     ensures { (m : Resolved.Model) (s : State) (p : Process) (b : Resolved.Branch) (g : Guard) → Enter.Acts tables.entry.nodes.now tables.entry.roots.now tables.entry.scopes.now state.now i j m s p b g → Enter.Enters tables.entry.nodes.now p b g (Enter.values_of values) locals.new result }
 {
     let found = find_branch(tables, state, i, j);
     let root = found.root;
     let own = state::locals_at(state, i, found.own);
-    let offer = eval::offer::offer_of(tables.nodes, own, root);
-    let kind = offer.kind;
-    let count = put_locals(own, bound_by(kind, values), locals);
+    let context = Context {
+        nodes: tables.nodes,
+        locals: own,
+    };
+    let offer = eval::offer::offer_of(context, root).flatten();
+    let count = put_locals(own, bound_by(offer, values), locals);
     let next = eval::next::continuation_of(tables.nodes, root);
-    Entered {
-        count: count,
-        next: next,
-        offer: offer,
-    }
+    Entered { count, next, offer }
 }
 
 // 17: whether all arguments of a continuation have values.
@@ -258,7 +260,10 @@ fn arguments_given(nodes: &[u64], locals: &[i64], next: Option<usize>) -> bool
     ensures { (ps : List Resolved.Part) → ShowsNext nodes.now ps next → result ≡ arguments_given locals.now ps }
 {
     match next {
-        Some(k) => eval::next::arguments_given(nodes, locals, k),
+        Some(k) => {
+            let context = Context { nodes, locals };
+            eval::next::arguments_given(context, k)
+        }
         None => true,
     }
 }
@@ -274,7 +279,7 @@ fn count_next(tables: Tables, next: Option<usize>) -> usize
     }
 }
 
-// The process at place i becomes what it enters.
+// The process at place i becomes what it enters. State and `fresh` are handed on one by one, here and below: what is written through a struct of `&mut` isn't known at its end.
 fn replace_process(tables: Tables, state: &mut [i64], fresh: &mut [i64; Room::FRESH], x: Successor)
     requires { (m : Resolved.Model) × (s : State) × (ps : List Resolved.Part) × Enter.Replaces tables.nodes.now tables.scopes.now tables.root tables.variables state.old x.place x.locals.now x.next m s ps }
     ensures { (m : Resolved.Model) (s : State) (ps : List Resolved.Part) → Enter.Replaces tables.entry.nodes.now tables.entry.scopes.now tables.entry.root tables.entry.variables state.old x.entry.place x.entry.locals.now x.entry.next m s ps → state.new ≡ state_numbers (Enter.entering m s x.entry.place x.entry.locals.now ps) }
@@ -291,59 +296,48 @@ fn replace_process(tables: Tables, state: &mut [i64], fresh: &mut [i64; Room::FR
 }
 
 // The numbers of the pair that an offer carries.
-fn put_pair(offer: Offer, row: &mut [i64; Layout::PAIR])
+fn pair_of(offer: Offer) -> [i64; Layout::PAIR]
     requires { Enter.Carries offer }
-    ensures { (x : Pair) → ShowsPair offer x → row.new ≡ pair_numbers x }
+    ensures { (x : Pair) → ShowsPair offer x → result ≡ pair_numbers x }
 {
-    eval::channel::put_channel(
-        offer.shape,
-        offer.channel,
-        offer.channel2,
-        offer.channel3,
-        row,
-    );
-    let count = offer.count as i64;
-    let first = offer.first;
-    let second = offer.second;
-    row[Layout::CHANNEL] = count;
-    row[Layout::VALUES] = first;
-    row[Layout::VALUES + 1] = second;
+    let mut row = [0i64; Layout::PAIR];
+    offer.channel.put(&mut row);
+    row[Layout::CHANNEL] = offer.list.count as i64;
+    row[Layout::VALUES] = offer.list.first;
+    row[Layout::VALUES + 1] = offer.list.second;
+    row
 }
 
 // 19: whether a launch finds no place free, and its pair not lit.
-fn is_overfull(state: &[i64], offer: Offer) -> bool
+fn is_overfull(state: &[i64], offer: Option<Offer>) -> bool
     requires { Enter.Changing state.now offer }
     ensures { (m : Resolved.Model) (s : State) (n : Change) → Enter.Changes state.now offer m s n → result ≡ not (leb (length (pairs_after n s.pairs)) pair_limit) }
 {
-    let kind = offer.kind;
-    if kind != NodeKind::LAUNCH {
+    let Some(offer) = offer else {
+        return false;
+    };
+    if offer.kind != NodeKind::LAUNCH {
         return false;
     }
-    let n = state::pair_count(state);
-    if n < Room::PAIRS {
+    let pairs = state::lit_pairs(state);
+    if pairs.len() < Room::PAIRS {
         return false;
     }
-    let mut row = [0i64; Layout::PAIR];
-    put_pair(offer, &mut row);
-    !state::is_lit(&state[Layout::PAIRS..], n, &row)
+    !state::is_lit(pairs, &pair_of(offer))
 }
 
 // The lit pairs change as the offer says.
-fn change_pairs(state: &mut [i64], offer: Offer)
+fn change_pairs(state: &mut [i64], offer: Option<Offer>)
     requires { (m : Resolved.Model) × (s : State) × (n : Change) × Enter.Changes state.old offer m s n × (length (pairs_after n s.pairs) ≤ pair_limit) }
     ensures { (m : Resolved.Model) (s : State) (n : Change) → Enter.Changes state.old offer m s n → length (pairs_after n s.pairs) ≤ pair_limit → state.new ≡ state_numbers (Enter.changed s n) }
 {
-    let kind = offer.kind;
-    if kind == NodeKind::LAUNCH {
-        let mut row = [0i64; Layout::PAIR];
-        put_pair(offer, &mut row);
-        state::launch_pair(state, &row);
+    let Some(offer) = offer else {
         return;
-    }
-    if kind == NodeKind::KILL {
-        let mut row = [0i64; Layout::PAIR];
-        put_pair(offer, &mut row);
-        state::kill_pair(state, &row);
+    };
+    match offer.kind {
+        NodeKind::LAUNCH => state::launch_pair(state, &pair_of(offer)),
+        NodeKind::KILL => state::kill_pair(state, &pair_of(offer)),
+        _ => {}
     }
 }
 
@@ -353,7 +347,7 @@ fn move_alone(
     state: &mut [i64],
     fresh: &mut [i64; Room::FRESH],
     x: Successor,
-    offer: Offer,
+    offer: Option<Offer>,
 ) -> Result<(), Refusal>
     requires { (m : Resolved.Model) × (s : State) × (ps : List Resolved.Part) × (n : Change) × Enter.Alone tables.nodes.now tables.scopes.now tables.root tables.variables state.old x.place x.locals.now x.next offer m s ps n }
     ensures { (m : Resolved.Model) (s : State) (ps : List Resolved.Part) (n : Change) → Enter.Alone tables.entry.nodes.now tables.entry.scopes.now tables.entry.root tables.entry.variables state.old x.entry.place x.entry.locals.now x.entry.next offer m s ps n → Enter.Answers (arguments_given x.entry.locals.now ps) s (Enter.changed (Enter.entering m s x.entry.place x.entry.locals.now ps) n) result state.new }
@@ -389,8 +383,7 @@ fn replace_both(
         replace_process(tables, state, fresh, x);
         let earlier = Successor {
             place: y.place - 1,
-            locals: y.locals,
-            next: y.next,
+            ..y
         };
         replace_process(tables, state, fresh, earlier);
         return;
@@ -476,7 +469,7 @@ fn take_handshake(
         &state[..],
         entry.place,
         entry.branch,
-        none_bound(),
+        Bound::None,
         &mut locals,
     );
     let offer = sender.offer;

@@ -1,21 +1,19 @@
--- Seven numbers each, both entries movable, no process shared.
-use mathlib.Core.Path.{sym, ap, ◌∙◌}
-use mathlib.Core.Bool.{not}
-use Rattle.state.proofs.Tests.{refused, passed}
-use Rattle.independence.proofs.Tests.{short-first, short-second, first-stays, second-stays, both-move}
+-- Seven numbers each, and the test of their entries.
+use mathlib.Core.Path.{ap, ◌∙◌}
+use Rattle.independence.specs.Judged.{entry_in}
+use Rattle.independence.proofs.Tests.{short-first, short-second, by-entries, first-entry}
 use Rattle.independence.proofs.independent.Goals as goal
 
-pub returns-then-entry-ne-ENTRY : goal.returns-then-entry-ne-ENTRY
-returns-then-entry-ne-ENTRY c = short-first c.args.entry.now c.args.other.now c.if-entry-ne-ENTRY.true
+pub returns-in_default : goal.returns-in_default
+returns-in_default c = short-first c.args.entry.now c.args.other.now (rw c.in_default.is at c.try_from.ensures.1)
 
-pub returns-then-other-ne-ENTRY : goal.returns-then-other-ne-ENTRY
-returns-then-other-ne-ENTRY c = short-second c.args.entry.now c.args.other.now c.if-entry-ne-ENTRY.false c.if-other-ne-ENTRY.true
-
-pub returns-then-not-is_movable : goal.returns-then-not-is_movable
-returns-then-not-is_movable c = first-stays c.args.entry.now c.args.other.now c.if-entry-ne-ENTRY.false c.if-other-ne-ENTRY.false (sym (refused _ c.if-not-is_movable.true-raw) ∙ c.is_movable.ensures)
-
-pub returns-then-not-is_movable-2 : goal.returns-then-not-is_movable-2
-returns-then-not-is_movable-2 c = second-stays c.args.entry.now c.args.other.now c.if-entry-ne-ENTRY.false c.if-other-ne-ENTRY.false (sym (passed _ c.if-not-is_movable.false-raw) ∙ c.is_movable.ensures) (sym (refused _ c.if-not-is_movable-2.true-raw) ∙ c.is_movable-2.ensures)
+pub returns-in_default-try_from : goal.returns-in_default-try_from
+returns-in_default-try_from c =
+    let a = rw c.in-Ok.is at c.try_from.ensures.1 in
+    short-second c.args.entry.now c.args.other.now a.long (rw c.in_default-try_from.is at c.try_from-2.ensures.1)
 
 pub returns : goal.returns
-returns c = ap not c.overlap.ensures ∙ both-move c.args.entry.now c.args.other.now c.if-entry-ne-ENTRY.false c.if-other-ne-ENTRY.false (sym (passed _ c.if-not-is_movable.false-raw) ∙ c.is_movable.ensures) (sym (passed _ c.if-not-is_movable-2.false-raw) ∙ c.is_movable-2.ensures)
+returns c =
+    let a = rw c.in-Ok.is at c.try_from.ensures.1 in
+    let b = rw c.in-Ok-try_from.is at c.try_from-2.ensures.1 in
+    c.judge.ensures ∙ by-entries _ _ _ _ a.long b.long (c.from.ensures ∙ first-entry _ ∙ ap entry_in a.same) (c.from-2.ensures ∙ first-entry _ ∙ ap entry_in b.same)

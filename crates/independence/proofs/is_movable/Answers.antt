@@ -1,12 +1,12 @@
 -- The weight, then the kind.
-use Rattle.independence.proofs.Tests.{no-weight, by-launch, by-kill}
+use mathlib.Core.Path.{ap, ◌∙◌}
+use mathlib.Core.Bool.{not}
+use borrow.Author.Tests.{eq-eqb}
+use Rattle.independence.proofs.Tests.{no-weight, by-weight}
 use Rattle.independence.proofs.is_movable.Goals as goal
 
-pub returns-then-weight-eq0 : goal.returns-then-weight-eq0
-returns-then-weight-eq0 c = no-weight c.args.kind c.args.weight c.if-weight-eq0.true
+pub returns-then-e-ne0 : goal.returns-then-e-ne0
+returns-then-e-ne0 c = c.is_quiet.ensures ∙ by-weight c.args.e c.if-e-ne0.true
 
-pub returns-then-kind-eq-LAUNCH : goal.returns-then-kind-eq-LAUNCH
-returns-then-kind-eq-LAUNCH c = by-launch c.args.kind c.args.weight c.if-weight-eq0.false c.if-kind-eq-LAUNCH.true
-
-pub returns : goal.returns
-returns c = by-kill c.args.kind c.args.weight c.if-weight-eq0.false c.if-kind-eq-LAUNCH.false
+pub returns-else-e-ne0 : goal.returns-else-e-ne0
+returns-else-e-ne0 c = ap not (eq-eqb _ _ c.if-e-ne0.false) ∙ no-weight c.args.e c.if-e-ne0.false

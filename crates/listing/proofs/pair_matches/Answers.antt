@@ -13,36 +13,36 @@ use Rattle.listing.proofs.pair_matches.Goals as goal
 
 pub pair_row-row-requires : goal.pair_row-row-requires
 pair_row-row-requires c =
-    let w = c.requires.2.5 in let q = c.args.q in let y = some_pair w q c.requires.3 in
-    ((passed w).long, omega (arith, few-pairs c.args.state.now (passed w), c.requires.3))
+    let w = c.requires.1.5 in let q = c.args.q in let y = some_pair w q c.requires.2 in
+    ((passed w).long, omega (arith, few-pairs c.args.state.now (passed w), c.requires.2))
 
 pub bounds-row-7 : goal.bounds-row-7
 bounds-row-7 c =
-    let w = c.requires.2.5 in let q = c.args.q in let y = some_pair w q c.requires.3 in
+    let w = c.requires.1.5 in let q = c.args.q in let y = some_pair w q c.requires.2 in
     let P = pair-at w q y.0 y.1 _ c.pair_row-row.ensures in
     let l = P.wide in search rules
 
 pub overflow_cast-count : goal.overflow_cast-count
 overflow_cast-count c =
-    let w = c.requires.2.5 in let q = c.args.q in let y = some_pair w q c.requires.3 in
+    let w = c.requires.1.5 in let q = c.args.q in let y = some_pair w q c.requires.2 in
     let P = pair-at w q y.0 y.1 _ c.pair_row-row.ensures in
     count-cast _ (length y.0.values) P.count-is P.few
 
 pub bounds-row-8 : goal.bounds-row-8
 bounds-row-8 c =
-    let w = c.requires.2.5 in let q = c.args.q in let y = some_pair w q c.requires.3 in
+    let w = c.requires.1.5 in let q = c.args.q in let y = some_pair w q c.requires.2 in
     let P = pair-at w q y.0 y.1 _ c.pair_row-row.ensures in
     let l = P.wide in search rules
 
 pub bounds-row : goal.bounds-row
 bounds-row c =
-    let w = c.requires.2.5 in let q = c.args.q in let y = some_pair w q c.requires.3 in
+    let w = c.requires.1.5 in let q = c.args.q in let y = some_pair w q c.requires.2 in
     let P = pair-at w q y.0 y.1 _ c.pair_row-row.ensures in
     let l = P.wide in search rules
 
 pub values_match-requires : goal.values_match-requires
 values_match-requires c =
-    (c.requires.0, c.requires.1)
+    c.requires.0
 
 pub returns : goal.returns
 returns c =

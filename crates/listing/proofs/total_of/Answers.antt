@@ -1,31 +1,24 @@
-use Rattle.listing.specs.Buffer.{weights_in}
-use Rattle.listing.proofs.Weights.{turn, turn-le, up-all, up_none, over, sums}
 use mathlib.Core.Path.{sym}
 use native.Mathlib.Omega.{arith}
 use borrow.Author.Rules.{rules}
+use Rattle.listing.specs.Buffer.{weights_in}
+use Rattle.listing.proofs.Weights.{up_none, over, sums, row-turn, row-turn-le, rows_all}
 use Rattle.listing.proofs.total_of.Goals as goal
 
-pub loop-i-init : goal.loop-i-init
-loop-i-init c = let e = up_none (weights_in c.args.listing.now c.args.count) in search rules
+pub loop-row-init : goal.loop-row-init
+loop-row-init c = let e = up_none (weights_in c.args.listing.now c.args.count) in search rules
 
-pub returns-then-sum-weight : goal.returns-then-sum-weight
-returns-then-sum-weight c =
-    let l = c in
-    let b = l.args.listing.now in
-    let n = l.args.count in
-    let h = turn-le b n l.loop-i.i (omega arith) in
-    sym (over (weights_in b n) (omega arith))
+pub returns-then-sum-row : goal.returns-then-sum-row
+returns-then-sum-row c =
+    let h = row-turn-le c.args.listing.now c.args.count _ c.rows_of-row-items.ensures c.loop-row.row-index c.loop-row-test.true in
+    sym (over (weights_in c.args.listing.now c.args.count) (omega arith))
 
-pub loop-i-preserved : goal.loop-i-preserved
-loop-i-preserved c =
-    let l = c in
-    let h = turn l.args.listing.now l.args.count l.loop-i.i (omega arith) in
+pub loop-row-preserved : goal.loop-row-preserved
+loop-row-preserved c =
+    let h = row-turn c.args.listing.now c.args.count _ c.rows_of-row-items.ensures c.loop-row.row-index c.loop-row-test.true in
     search rules
 
 pub returns : goal.returns
 returns c =
-    let l = c in
-    let b = l.args.listing.now in
-    let n = l.args.count in
-    let h = up-all b n l.loop-i.i (omega arith) in
-    sym (sums (weights_in b n) l.loop-i.sum (omega arith) (omega arith))
+    let h = rows_all c.args.listing.now c.args.count _ c.rows_of-row-items.ensures c.loop-row.row-index (omega arith) in
+    sym (sums (weights_in c.args.listing.now c.args.count) c.loop-row.sum (omega arith) (omega arith))

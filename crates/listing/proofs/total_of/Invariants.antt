@@ -6,5 +6,5 @@ use mathlib.Core.Path.{◌≡◌}
 use Prim.Native.Nat.{◌≤◌}
 use Rattle.listing.proofs.total_of.Given as goal
 
-abbrev pub invariant-loop-i : goal.invariant-loop-i
-invariant-loop-i l = (l.sum ≡ up_to (weights_in l.listing l.count) l.i) × (l.sum ≤ total_limit)
+abbrev pub invariant-loop-row : goal.invariant-loop-row
+invariant-loop-row l = (l.sum ≡ up_to (weights_in l.listing l.count) l.row-index) × (l.sum ≤ total_limit)

@@ -1,42 +1,48 @@
 -- `listing::try_over` meets its contract: 12 by what is collected, then 13 and 14. From the laws of all rows.
+use mathlib.Core.Path.{refl, ap, ◌∙◌}
 use native.Mathlib.Omega.{arith}
+use Rattle.std.specs.Prelude.{Err, Ok}
 use Rattle.std.proofs.lemmas.List.{length-take-le}
+use Rattle.std.proofs.lemmas.Result.{err_from_is_err_and}
 use Rattle.rules.specs.Listing.{entries}
 use Rattle.machine.specs.Offer.{branches}
-use Rattle.machine.specs.Machine as machine
-use Rattle.listing.specs.Buffer.{short}
 use Rattle.listing.proofs.Added.{adds-all}
-use Rattle.listing.proofs.Finished.{refused, as-led}
+use Rattle.listing.proofs.Finished.{as-led}
 use Rattle.listing.proofs.Partners.{rows_few}
-use Rattle.listing.proofs.AllRows.{lacking, not-lacking, answered-missing, answered-rows, answered-full}
+use Rattle.listing.proofs.AllRows.{not-lacking, answered_none, answered-rows}
 use Rattle.listing.proofs.try_over.Goals as goal
+
+pub returns-in_err-count : goal.returns-in_err-count
+returns-in_err-count g c =
+    let p = err_from_is_err_and c.from_residual.result c.from_residual.ensures.1 in
+    λ m s w. rw p.1 (answered_none m s _ _ _ p.2 (rw c.in_err-count.was at (c.collect.ensures m s w)) (omega (arith, c.collect.auto.rows)))
 
 pub shared_whole_as_front-link : goal.shared_whole_as_front-link
 shared_whole_as_front-link g c =
-    let q = answered-rows c.requires.0.2 (rw c.in-Ok.is at (c.collect-collected.ensures c.requires.0.0 c.requires.0.1 c.requires.0.2)) in
-    (omega (arith, q.2, c.collect-collected.auto.rows), omega arith)
+    let q = answered-rows c.requires.0.2 (rw c.in_ok-count.was at (c.collect.ensures c.requires.0.0 c.requires.0.1 c.requires.0.2)) in
+    (omega (arith, q.2, c.collect.auto.rows), omega arith)
 
 pub link-requires : goal.link-requires
 link-requires g c =
-    let q = answered-rows c.requires.0.2 (rw c.in-Ok.is at (c.collect-collected.ensures c.requires.0.0 c.requires.0.1 c.requires.0.2)) in
-    (rows_few q.0, omega (arith, q.2, c.collect-collected.auto.rows, length-take-le c.in-Ok.count c.collect-collected.new.rows, length-take-le c.in-Ok.count c.args.space.now.nexts))
+    let q = answered-rows c.requires.0.2 (rw c.in_ok-count.was at (c.collect.ensures c.requires.0.0 c.requires.0.1 c.requires.0.2)) in
+    (rows_few q.0, omega (arith, q.2, c.collect.auto.rows, length-take-le c.in_ok-count.count c.collect.new.rows, length-take-le c.in_ok-count.count c.args.space.now.nexts))
 
 pub list_rows-entries-requires : goal.list_rows-entries-requires
 list_rows-entries-requires g c =
-    let q = answered-rows c.requires.0.2 (rw c.in-Ok.is at (c.collect-collected.ensures c.requires.0.0 c.requires.0.1 c.requires.0.2)) in
+    let q = answered-rows c.requires.0.2 (rw c.in_ok-count.was at (c.collect.ensures c.requires.0.0 c.requires.0.1 c.requires.0.2)) in
     ((c.args.tables.roots.now, c.requires.0.0, c.requires.0.1, q.0), c.requires.1)
 
-pub returns-in-Err-Full : goal.returns-in-Err-Full
-returns-in-Err-Full g c =
-    λ m s w. short (omega (arith, answered-full (rw c.in-Err-Full.is at c.in-Err-Full.field-0-is) (rw c.in-Err-Full.is at (c.collect-collected.ensures m s w))))
-
-pub returns-in-Err-Missing : goal.returns-in-Err-Missing
-returns-in-Err-Missing g c =
-    λ m s w. as-led _ _ (refused (machine.listing m s) _ 12 _ _ (lacking m s _ _ (answered-missing (rw c.in-Err-Missing.is at c.in-Err-Missing.field-0-is) (rw c.in-Err-Missing.is at (c.collect-collected.ensures m s w)))))
-
-pub returns-in-Ok : goal.returns-in-Ok
-returns-in-Ok g c =
+pub returns-in_err-judge : goal.returns-in_err-judge
+returns-in_err-judge g c =
+    let p = err_from_is_err_and c.from_residual-in_err-judge.result c.from_residual-in_err-judge.ensures.1 in
     λ m s w.
-    let q = answered-rows w (rw c.in-Ok.is at (c.collect-collected.ensures m s w)) in
+    let q = answered-rows w (rw c.in_ok-count.was at (c.collect.ensures m s w)) in
     let A = adds-all c.requires.1 (c.list_rows-entries.ensures.0 c.args.tables.roots.now m s q.0) in
-    as-led _ _ (rw (not-lacking m s q.1) (c.judge.ensures c.args.listing.now (entries (branches m) s) A.0 A.1))
+    as-led _ (Err c.in_err-judge.field-0.0) _ (p.1 ∙ ap Err p.2) (rw (not-lacking m s q.1, ← c.in_err-judge.was) (c.judge.ensures c.args.listing.now (entries (branches m) s) A.0 A.1))
+
+pub returns : goal.returns
+returns g c =
+    λ m s w.
+    let q = answered-rows w (rw c.in_ok-count.was at (c.collect.ensures m s w)) in
+    let A = adds-all c.requires.1 (c.list_rows-entries.ensures.0 c.args.tables.roots.now m s q.0) in
+    as-led _ (Ok c.in_ok-judge.field-0) _ refl (rw (not-lacking m s q.1, ← c.in_ok-judge.was) (c.judge.ensures c.args.listing.now (entries (branches m) s) A.0 A.1))

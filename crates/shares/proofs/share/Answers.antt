@@ -1,68 +1,78 @@
 use mathlib.Core.Path.{ap, sym, ◌∙◌}
 use Prim.Native.Nat.{ℕ, ◌<◌}
 use native.Mathlib.Omega.{arith}
-use lib.ListN.{length, length-set, length-replicate, replicate}
+use lib.ListN.{length, length-set, length-replicate, replicate, take}
+use Rattle.std.proofs.lemmas.List.{length-take-le}
 use Rattle.machine.specs.Report.{report_length}
-use Rattle.shares.proofs.Turns.{passed, starts, ends, fits, inside, below, turned, sum_fits}
+use Rattle.shares.proofs.Turns.{passed, starts, ends, all-fit, rows-count, row-at, x-inside, x-below, turned, sum_fits}
 use Rattle.shares.proofs.share.Goals as goal
 
-pub loop-i-init : goal.loop-i-init
-loop-i-init c =
+pub slice_bounds-row-items-end : goal.slice_bounds-row-items-end
+slice_bounds-row-items-end c =
+    let e = all-fit c.requires.0.3 in
+    let f = c.as_chunks.ensures.front_len in
+    let g = length-take-le c.args.count c.as_chunks.result.0.now (omega (arith, e, f)) in
+    omega (arith, e, f, g)
+
+pub loop-row-init : goal.loop-row-init
+loop-row-init c =
     let e = c.fill.ensures.after (λ y e. e) ∙ ap (λ (n : ℕ). replicate n 0) c.requires.1 in
     (ap length e ∙ length-replicate {A = ℕ} report_length 0, λ m s es h. e ∙ sym (starts h))
 
-pub overflow_mul-row : goal.overflow_mul-row
-overflow_mul-row c =
-    let h = c.requires.0.3 in let i = c.loop-i.i in let k : i < c.args.count = omega arith in let z = fits h i k in omega (arith, z, c.well_formed)
-
-pub overflow_add-place : goal.overflow_add-place
-overflow_add-place c =
-    let h = c.requires.0.3 in let i = c.loop-i.i in let k : i < c.args.count = omega arith in let z = fits h i k in omega (arith, z, c.well_formed)
-
-pub offset_bounds-listing-row : goal.offset_bounds-listing-row
-offset_bounds-listing-row c =
-    let h = c.requires.0.3 in let i = c.loop-i.i in let k : i < c.args.count = omega arith in let z = fits h i k in omega (arith, z, c.well_formed)
-
-pub bounds-listing-row : goal.bounds-listing-row
-bounds-listing-row c =
-    let h = c.requires.0.3 in let i = c.loop-i.i in let k : i < c.args.count = omega arith in let z = fits h i k in omega (arith, z, c.well_formed)
-
 pub definition_at-definition-requires : goal.definition_at-definition-requires
 definition_at-definition-requires c =
-    let h = c.requires.0.3 in let i = c.loop-i.i in let k : i < c.args.count = omega arith in (passed h, inside h i k)
-
-pub overflow_add-weight : goal.overflow_add-weight
-overflow_add-weight c =
-    let h = c.requires.0.3 in let i = c.loop-i.i in let k : i < c.args.count = omega arith in let z = fits h i k in omega (arith, z, c.well_formed)
-
-pub offset_bounds-listing-row-in-loop-i : goal.offset_bounds-listing-row-in-loop-i
-offset_bounds-listing-row-in-loop-i c =
-    let h = c.requires.0.3 in let i = c.loop-i.i in let k : i < c.args.count = omega arith in let z = fits h i k in omega (arith, z, c.well_formed)
-
-pub bounds-listing-row-in-loop-i : goal.bounds-listing-row-in-loop-i
-bounds-listing-row-in-loop-i c =
-    let h = c.requires.0.3 in let i = c.loop-i.i in let k : i < c.args.count = omega arith in let z = fits h i k in omega (arith, z, c.well_formed)
+    let F = ap (take c.args.count) c.as_chunks.ensures.front in
+    let h = c.requires.0.3 in
+    let k : c.loop-row.row-index < c.args.count = omega (arith, c.loop-row-test.true, rows-count _ _ _ _ F (all-fit h)) in
+    let A = row-at _ _ _ _ F (all-fit h) c.loop-row.row-index k in
+    (passed h, x-inside h c.loop-row.row-index k _ _ c.from-entry.ensures A)
 
 pub offset_bounds-report-definition : goal.offset_bounds-report-definition
 offset_bounds-report-definition c =
-    let h = c.requires.0.3 in let i = c.loop-i.i in let k : i < c.args.count = omega arith in let z = below h i k in omega (arith, z, c.definition_at-definition.ensures, c.loop-i.invariant.0)
+    let F = ap (take c.args.count) c.as_chunks.ensures.front in
+    let h = c.requires.0.3 in
+    let k : c.loop-row.row-index < c.args.count = omega (arith, c.loop-row-test.true, rows-count _ _ _ _ F (all-fit h)) in
+    let A = row-at _ _ _ _ F (all-fit h) c.loop-row.row-index k in
+    let z = x-below h c.loop-row.row-index k _ _ c.from-entry.ensures A _ _ (c.loop-row.invariant.1 _ _ _ h) c.definition_at-definition.ensures in
+    omega (arith, z, c.loop-row.invariant.0)
 
 pub bounds-report-definition : goal.bounds-report-definition
 bounds-report-definition c =
-    let h = c.requires.0.3 in let i = c.loop-i.i in let k : i < c.args.count = omega arith in let z = below h i k in omega (arith, z, c.definition_at-definition.ensures, c.loop-i.invariant.0)
+    let F = ap (take c.args.count) c.as_chunks.ensures.front in
+    let h = c.requires.0.3 in
+    let k : c.loop-row.row-index < c.args.count = omega (arith, c.loop-row-test.true, rows-count _ _ _ _ F (all-fit h)) in
+    let A = row-at _ _ _ _ F (all-fit h) c.loop-row.row-index k in
+    let z = x-below h c.loop-row.row-index k _ _ c.from-entry.ensures A _ _ (c.loop-row.invariant.1 _ _ _ h) c.definition_at-definition.ensures in
+    omega (arith, z, c.loop-row.invariant.0)
 
 pub overflow_add-report : goal.overflow_add-report
 overflow_add-report c =
-    let h = c.requires.0.3 in let i = c.loop-i.i in let k : i < c.args.count = omega arith in let z = sum_fits h i k _ _ (c.loop-i.invariant.1 _ _ _ h) c.definition_at-definition.ensures in omega (arith, z)
+    let F = ap (take c.args.count) c.as_chunks.ensures.front in
+    let h = c.requires.0.3 in
+    let k : c.loop-row.row-index < c.args.count = omega (arith, c.loop-row-test.true, rows-count _ _ _ _ F (all-fit h)) in
+    let A = row-at _ _ _ _ F (all-fit h) c.loop-row.row-index k in
+    let z = sum_fits h c.loop-row.row-index k _ _ c.from-entry.ensures A _ _ (c.loop-row.invariant.1 _ _ _ h) c.definition_at-definition.ensures in
+    omega (arith, z)
 
-pub bounds-report-definition-in-loop-i : goal.bounds-report-definition-in-loop-i
-bounds-report-definition-in-loop-i c =
-    let h = c.requires.0.3 in let i = c.loop-i.i in let k : i < c.args.count = omega arith in let z = below h i k in omega (arith, z, c.definition_at-definition.ensures, c.loop-i.invariant.0)
+pub bounds-report-definition-in-loop-row : goal.bounds-report-definition-in-loop-row
+bounds-report-definition-in-loop-row c =
+    let F = ap (take c.args.count) c.as_chunks.ensures.front in
+    let h = c.requires.0.3 in
+    let k : c.loop-row.row-index < c.args.count = omega (arith, c.loop-row-test.true, rows-count _ _ _ _ F (all-fit h)) in
+    let A = row-at _ _ _ _ F (all-fit h) c.loop-row.row-index k in
+    let z = x-below h c.loop-row.row-index k _ _ c.from-entry.ensures A _ _ (c.loop-row.invariant.1 _ _ _ h) c.definition_at-definition.ensures in
+    omega (arith, z, c.loop-row.invariant.0)
 
-pub loop-i-preserved : goal.loop-i-preserved
-loop-i-preserved c =
-    (simp length-set c.loop-i.invariant.0, λ m s es h. turned h c.loop-i.i (omega arith) _ _ (c.loop-i.invariant.1 m s es h) c.definition_at-definition.ensures)
+pub loop-row-preserved : goal.loop-row-preserved
+loop-row-preserved c =
+    let F = ap (take c.args.count) c.as_chunks.ensures.front in (
+      simp length-set c.loop-row.invariant.0,
+      λ m s es h.
+          let k : c.loop-row.row-index < c.args.count = omega (arith, c.loop-row-test.true, rows-count _ _ _ _ F (all-fit h)) in
+          let A = row-at _ _ _ _ F (all-fit h) c.loop-row.row-index k in
+          turned h c.loop-row.row-index k _ _ c.from-entry.ensures A _ _ (c.loop-row.invariant.1 m s es h) c.definition_at-definition.ensures,
+    )
 
 pub returns : goal.returns
 returns c =
-    λ m s es h. c.loop-i.invariant.1 m s es h ∙ ends h c.loop-i.i (omega arith)
+    λ m s es h. c.loop-row.invariant.1 m s es h ∙ ends h c.loop-row.row-index (omega (arith, c.loop-row-test.false, rows-count _ _ _ _ (ap (take c.args.count) c.as_chunks.ensures.front) (all-fit h)))

@@ -10,6 +10,6 @@ use Rattle.shares.specs.Shared.{Shared}
 use Rattle.shares.proofs.Turns.{sums}
 use Rattle.shares.proofs.share.Given as goal
 
-abbrev pub invariant-loop-i : goal.invariant-loop-i
-invariant-loop-i l =
-    (length l.report ≡ report_length) × ((m : Resolved.Model) (s : State) (es : List Entry) → Shared l.state l.listing l.count m s es → l.report ≡ sums s es l.i)
+abbrev pub invariant-loop-row : goal.invariant-loop-row
+invariant-loop-row l =
+    (length l.report ≡ report_length) × ((m : Resolved.Model) (s : State) (es : List Entry) → Shared l.state l.listing l.count m s es → l.report ≡ sums s es l.row-index)

@@ -6,6 +6,10 @@ pub arguments_given-requires : goal.arguments_given-requires
 arguments_given-requires c =
     given-asks c.args.nodes.now c.args.locals.now c.args.next c.in-Some.k c.in-Some.is c.requires
 
+pub invariant_of-context : goal.invariant_of-context
+invariant_of-context c =
+    record { in_range = c.requires.fit.values }
+
 pub returns-in-Some : goal.returns-in-Some
 returns-in-Some c =
     given_is c.args.nodes.now c.args.locals.now c.args.next c.in-Some.k c.in-Some.is c.arguments_given.result c.arguments_given.ensures

@@ -1,44 +1,41 @@
 -- A launch, a kill or neither: the laws of Pairs.
-use mathlib.Core.Path.{ap, ◌∙◌}
-use mathlib.Core.List.{List}
-use lib.IntN.{ℤ}
-use lib.ListN.{length}
+use native.Mathlib.Omega.{arith}
 use Rattle.step.proofs.Tables.{passed}
-use Rattle.step.proofs.Pairs.{launching, killing, launch-room, launched-numbers, killed-numbers, same_numbers, pair-width}
+use Rattle.step.proofs.Pairs.{launching, killing, launch-room, launched-numbers, killed-numbers, same_numbers, hidden-same}
 use Rattle.step.proofs.change_pairs.Goals as goal
 
-pub put_pair-requires : goal.put_pair-requires
-put_pair-requires c =
-    let x = launching c.args.state.now c.args.offer c.if-kind-eq-LAUNCH.true c.requires.0 c.requires.1 c.requires.2 c.requires.3 in record { pair = x.pair; shows = x.shows }
+pub returns-in_default : goal.returns-in_default
+returns-in_default c = λ m s n h l. hidden-same c.args.state.now m s n (rw c.in_default.is at h)
+
+pub pair_of-requires : goal.pair_of-requires
+pair_of-requires c =
+    let x = launching c.args.state.now c.in-Some.offer c.in-37.is c.requires.0 c.requires.1 c.requires.2 (rw c.in-Some.is at c.requires.3) in record { pair = x.pair; shows = x.shows }
 
 pub launch_pair-requires : goal.launch_pair-requires
 launch_pair-requires c =
-    let x = launching c.args.state.now c.args.offer c.if-kind-eq-LAUNCH.true c.requires.0 c.requires.1 c.requires.2 c.requires.3 in
-    let e = c.put_pair.ensures x.pair x.shows in
-    (passed c.requires.3.stands, ap (λ (l : List ℤ). length l) e ∙ pair-width c.requires.0 x.pair x.good, launch-room c.args.state.now c.args.offer c.requires.0 c.requires.1 c.requires.2 c.requires.3 x.pair x.is c.requires.4 _ e)
+    let x = launching c.args.state.now c.in-Some.offer c.in-37.is c.requires.0 c.requires.1 c.requires.2 (rw c.in-Some.is at c.requires.3) in
+    let e = c.pair_of.ensures x.pair x.shows in
+    (passed c.requires.3.stands, launch-room c.args.state.now c.in-Some.offer c.requires.0 c.requires.1 c.requires.2 (rw c.in-Some.is at c.requires.3) x.pair x.is c.requires.4 _ e)
 
-pub returns-then-kind-eq-LAUNCH : goal.returns-then-kind-eq-LAUNCH
-returns-then-kind-eq-LAUNCH c =
+pub returns-in-37 : goal.returns-in-37
+returns-in-37 c =
     λ m s n h l.
-    let x = launching c.args.state.now c.args.offer c.if-kind-eq-LAUNCH.true m s n h in
-    launched-numbers c.args.state.now c.args.offer m s n h x.pair x.is x.good l _ _ (c.put_pair.ensures x.pair x.shows) c.launch_pair.ensures
+    let x = launching c.args.state.now c.in-Some.offer c.in-37.is m s n (rw c.in-Some.is at h) in
+    launched-numbers c.args.state.now c.in-Some.offer m s n (rw c.in-Some.is at h) x.pair x.is x.good l _ _ (c.pair_of.ensures x.pair x.shows) c.launch_pair.ensures
 
-pub put_pair-requires-then-kind-eq-KILL : goal.put_pair-requires-then-kind-eq-KILL
-put_pair-requires-then-kind-eq-KILL c =
-    let x = killing c.args.state.now c.args.offer c.if-kind-eq-KILL.true c.requires.0 c.requires.1 c.requires.2 c.requires.3 in record { pair = x.pair; shows = x.shows }
+pub pair_of-requires-in-38 : goal.pair_of-requires-in-38
+pair_of-requires-in-38 c =
+    let x = killing c.args.state.now c.in-Some.offer c.in-38.is c.requires.0 c.requires.1 c.requires.2 (rw c.in-Some.is at c.requires.3) in record { pair = x.pair; shows = x.shows }
 
 pub kill_pair-requires : goal.kill_pair-requires
-kill_pair-requires c =
-    let x = killing c.args.state.now c.args.offer c.if-kind-eq-KILL.true c.requires.0 c.requires.1 c.requires.2 c.requires.3 in
-    let e = c.put_pair-then-kind-eq-KILL.ensures x.pair x.shows in
-    (passed c.requires.3.stands, ap (λ (l : List ℤ). length l) e ∙ pair-width c.requires.0 x.pair x.good)
+kill_pair-requires c = passed c.requires.3.stands
 
-pub returns-then-kind-eq-KILL : goal.returns-then-kind-eq-KILL
-returns-then-kind-eq-KILL c =
+pub returns-in-38 : goal.returns-in-38
+returns-in-38 c =
     λ m s n h l.
-    let x = killing c.args.state.now c.args.offer c.if-kind-eq-KILL.true m s n h in
-    killed-numbers c.args.state.now c.args.offer m s n h x.pair x.is _ _ (c.put_pair-then-kind-eq-KILL.ensures x.pair x.shows) c.kill_pair.ensures
+    let x = killing c.args.state.now c.in-Some.offer c.in-38.is m s n (rw c.in-Some.is at h) in
+    killed-numbers c.args.state.now c.in-Some.offer m s n (rw c.in-Some.is at h) x.pair x.is _ _ (c.pair_of-in-38.ensures x.pair x.shows) c.kill_pair.ensures
 
-pub returns-else-kind-eq-KILL : goal.returns-else-kind-eq-KILL
-returns-else-kind-eq-KILL c =
-    λ m s n h l. same_numbers c.args.state.now c.args.offer m s n h c.if-kind-eq-LAUNCH.false c.if-kind-eq-KILL.false
+pub returns-in_default-kind : goal.returns-in_default-kind
+returns-in_default-kind c =
+    λ m s n h l. same_numbers c.args.state.now c.in-Some.offer m s n (rw c.in-Some.is at h) (λ e. omega (arith, e)) (λ e. omega (arith, e))

@@ -1,53 +1,36 @@
 -- Only a launch of an unlit pair finds no place: the laws of Pairs.
-use mathlib.Core.Path.{ap, ◌∙◌}
-use mathlib.Core.List.{List}
+use mathlib.Core.Path.{ap, refl, ◌∙◌}
 use native.Mathlib.Omega.{arith}
-use lib.IntN.{ℤ}
 use lib.ListN.{length}
-use Rattle.state.specs.Change.{pairs_from}
-use Rattle.state.proofs.Part.{tail-part}
-use Rattle.state.proofs.Launch.{part_room, part_ascends}
-use Rattle.step.proofs.Tables.{passed, long}
-use Rattle.step.proofs.Pairs.{launching, no-launch, place-free, all-taken, pair-width}
+use Rattle.state.specs.Test.{is_lit}
+use Rattle.state.proofs.Launch.{rows_counted}
+use Rattle.step.proofs.Tables.{passed}
+use Rattle.step.proofs.Pairs.{launching, hidden-free, no-launch, place-free, all-taken}
 use Rattle.step.proofs.is_overfull.Goals as goal
 
-pub returns-then-kind-ne-LAUNCH : goal.returns-then-kind-ne-LAUNCH
-returns-then-kind-ne-LAUNCH c =
-    λ m s n h. no-launch c.args.state.now c.args.offer m s n h c.if-kind-ne-LAUNCH.true
+pub returns-in_default : goal.returns-in_default
+returns-in_default c = λ m s n h. hidden-free c.args.state.now m s n (rw c.in_default.is at h)
 
-pub pair_count-n-requires : goal.pair_count-n-requires
-pair_count-n-requires c =
+pub returns-then-offer-ne-LAUNCH : goal.returns-then-offer-ne-LAUNCH
+returns-then-offer-ne-LAUNCH c =
+    λ m s n h. no-launch c.args.state.now c.in-Some.offer m s n (rw c.in-Some.is at h) c.if-offer-ne-LAUNCH.true
+
+pub lit_pairs-pairs-requires : goal.lit_pairs-pairs-requires
+lit_pairs-pairs-requires c =
     passed c.requires.changes.stands
 
-pub returns-then-n-lt-PAIRS : goal.returns-then-n-lt-PAIRS
-returns-then-n-lt-PAIRS c =
-    λ m s n h. place-free c.args.state.now c.args.offer m s n h (omega (arith, c.pair_count-n.ensures.0, c.if-n-lt-PAIRS.true))
+pub returns-then-pairs-lt-PAIRS : goal.returns-then-pairs-lt-PAIRS
+returns-then-pairs-lt-PAIRS c =
+    λ m s n h. place-free c.args.state.now c.in-Some.offer m s n (rw c.in-Some.is at h) (omega (arith, rows_counted c.args.state.now _ c.lit_pairs-pairs.ensures.0, c.if-pairs-lt-PAIRS.true))
 
-pub put_pair-requires : goal.put_pair-requires
-put_pair-requires c =
-    let x = launching c.args.state.now c.args.offer c.if-kind-ne-LAUNCH.false c.requires.model c.requires.state c.requires.change c.requires.changes in
+pub pair_of-requires : goal.pair_of-requires
+pair_of-requires c =
+    let x = launching c.args.state.now c.in-Some.offer c.if-offer-ne-LAUNCH.false c.requires.model c.requires.state c.requires.change (rw c.in-Some.is at c.requires.changes) in
     record { pair = x.pair; shows = x.shows }
-
-pub slice_bounds-is_lit-count : goal.slice_bounds-is_lit-count
-slice_bounds-is_lit-count c =
-    omega (arith, long c.requires.changes.stands)
-
-pub slice_bounds-is_lit-start : goal.slice_bounds-is_lit-start
-slice_bounds-is_lit-start c =
-    omega (arith, long c.requires.changes.stands)
-
-pub slice_bounds-is_lit-end : goal.slice_bounds-is_lit-end
-slice_bounds-is_lit-end c =
-    omega (arith, long c.requires.changes.stands)
-
-pub is_lit-requires : goal.is_lit-requires
-is_lit-requires c =
-    let x = launching c.args.state.now c.args.offer c.if-kind-ne-LAUNCH.false c.requires.model c.requires.state c.requires.change c.requires.changes in
-    let p = passed c.requires.changes.stands in
-    (part_room c.args.state.now p c.pair_count-n.result c.pair_count-n.ensures.0, ap (λ (l : List ℤ). length l) (c.put_pair.ensures x.pair x.shows) ∙ pair-width c.requires.model x.pair x.good, part_ascends c.args.state.now p c.pair_count-n.result c.pair_count-n.ensures.0)
 
 pub returns : goal.returns
 returns c =
     λ m s n h.
-    let x = launching c.args.state.now c.args.offer c.if-kind-ne-LAUNCH.false m s n h in
-    all-taken c.args.state.now c.args.offer m s n h c.pair_count-n.result c.pair_count-n.ensures.0 (omega (arith, c.if-n-lt-PAIRS.false)) _ x.pair x.is (c.put_pair.ensures x.pair x.shows) c.is_lit.result (rw (tail-part pairs_from c.args.state.now) at c.is_lit.ensures)
+    let x = launching c.args.state.now c.in-Some.offer c.if-offer-ne-LAUNCH.false m s n (rw c.in-Some.is at h) in
+    let k = rows_counted c.args.state.now _ c.lit_pairs-pairs.ensures.0 in
+    all-taken c.args.state.now c.in-Some.offer m s n (rw c.in-Some.is at h) (length c.lit_pairs-pairs.result.now) k (omega (arith, c.if-pairs-lt-PAIRS.false)) _ x.pair x.is (c.pair_of.ensures x.pair x.shows) c.is_lit.result (c.is_lit.ensures ∙ ap (is_lit _) (c.lit_pairs-pairs.ensures.0 ∙ rw k refl))

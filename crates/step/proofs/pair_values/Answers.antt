@@ -16,8 +16,9 @@ pair_count-requires c =
     passed c.requires.2
 
 pub returns-then-pair_count-pair : goal.returns-then-pair_count-pair
+unfolding values_of
 returns-then-pair_count-pair c =
-    (λ m s h. c.none_bound.ensures.0 ∙ sym (beyond h c.args.pair (omega (arith, c.pair_count.ensures.0, c.if-pair_count-pair.true))), c.none_bound.ensures.1)
+    λ m s h. sym (beyond h c.args.pair (omega (arith, c.pair_count.ensures.0, c.if-pair_count-pair.true)))
 
 pub pair_row-row-requires : goal.pair_row-row-requires
 pair_row-row-requires c =
@@ -27,11 +28,11 @@ pub bounds-row-7 : goal.bounds-row-7
 bounds-row-7 c =
     let w = row_of c.requires.2 c.args.pair (omega (arith, c.pair_count.ensures.0, c.if-pair_count-pair.false)) _ c.pair_row-row.ensures in omega (arith, w.wide)
 
-pub overflow_cast-result : goal.overflow_cast-result
-overflow_cast-result c =
+pub overflow_cast-row : goal.overflow_cast-row
+overflow_cast-row c =
     let w = row_of c.requires.2 c.args.pair (omega (arith, c.pair_count.ensures.0, c.if-pair_count-pair.false)) _ c.pair_row-row.ensures in
     let z = get_or c.pair_row-row.result.now channel_width (pos 0) in
-    rw (back z c.result-1.given) (below-fits 3 z (ok-fits z c.result-1.given) w.below)
+    rw (back z c.of-arg-1.given) (below-fits 3 z (ok-fits z c.of-arg-1.given) w.below)
 
 pub bounds-row-8 : goal.bounds-row-8
 bounds-row-8 c =
@@ -41,12 +42,15 @@ pub bounds-row : goal.bounds-row
 bounds-row c =
     let w = row_of c.requires.2 c.args.pair (omega (arith, c.pair_count.ensures.0, c.if-pair_count-pair.false)) _ c.pair_row-row.ensures in omega (arith, w.wide)
 
-pub returns : goal.returns
-unfolding values_of
-returns c =
+pub of-requires : goal.of-requires
+of-requires c =
     let w = row_of c.requires.2 c.args.pair (omega (arith, c.pair_count.ensures.0, c.if-pair_count-pair.false)) _ c.pair_row-row.ensures in
+    rw (back (get_or c.pair_row-row.result.now channel_width (pos 0)) c.of-arg-1.given) w.two
+
+pub returns : goal.returns
+returns c =
     let row = c.pair_row-row.result.now in
-    let a = back (get_or row channel_width (pos 0)) c.result-1.given in
-    let b = back (get_or row (channel_width + 1) (pos 0)) c.result-2-1.given in
-    let d = back (get_or row (channel_width + 2) (pos 0)) c.result-3-1.given in
-    rw (a, b, d) (λ m s h. (row_of h c.args.pair (omega (arith, c.pair_count.ensures.0, c.if-pair_count-pair.false)) _ c.pair_row-row.ensures).values, w.two)
+    let a = back (get_or row channel_width (pos 0)) c.of-arg-1.given in
+    let b = back (get_or row (channel_width + 1) (pos 0)) c.of-arg-2-1.given in
+    let d = back (get_or row (channel_width + 2) (pos 0)) c.of-arg-3-1.given in
+    λ m s h. c.of.ensures ∙ rw (a, b, d) (row_of h c.args.pair (omega (arith, c.pair_count.ensures.0, c.if-pair_count-pair.false)) _ c.pair_row-row.ensures).values

@@ -1,18 +1,24 @@
 -- The laws of what is sent.
 use mathlib.Core.Path.{◌∙◌}
-use Rattle.step.specs.Enter.{values_of}
+use native.Mathlib.Omega.{arith}
+use Rattle.rules.specs.Step.{sent_by}
 use Rattle.value.proofs.Kit.{back}
-use Rattle.step.proofs.Offers.{none-sent, some-sent}
+use Rattle.step.proofs.Place.{bare}
+use Rattle.step.proofs.Offers.{hidden-none, none-sent, some-sent}
 use Rattle.step.proofs.sent_values.Goals as goal
 
-pub returns-then-kind-ne-HAND_SEND : goal.returns-then-kind-ne-HAND_SEND
-returns-then-kind-ne-HAND_SEND c =
-    (λ t ls g h. c.none_bound.ensures.0 ∙ none-sent t ls c.args.offer c.if-kind-ne-HAND_SEND.true g h, c.none_bound.ensures.1)
+pub returns-in_default : goal.returns-in_default
+returns-in_default c = λ t ls g h. bare ∙ hidden-none t ls sent_by g (rw c.in_default.is at h)
+
+pub returns-then-offer-ne-HAND_SEND : goal.returns-then-offer-ne-HAND_SEND
+returns-then-offer-ne-HAND_SEND c = λ t ls g h. bare ∙ none-sent t ls c.in-Some.offer c.if-offer-ne-HAND_SEND.true g (rw c.in-Some.is at h)
+
+pub of-requires : goal.of-requires
+of-requires c =
+    let q = c.requires in
+    (some-sent q.nodes q.locals c.in-Some.offer c.if-offer-ne-HAND_SEND.false q.guard (rw c.in-Some.is at q.shows)).1
 
 pub returns : goal.returns
-unfolding values_of
 returns c =
-    let o = c.args.offer in
-    let a = back o.first c.struct_told-1.given.1.1.1.1.1.0.1 in
-    let b = back o.second c.struct_told-1.given.1.1.1.1.1.1.1.0.1 in
-    (λ t ls g h. rw (a, b) (some-sent t ls o c.if-kind-ne-HAND_SEND.false g h).0, (some-sent c.requires.nodes c.requires.locals o c.if-kind-ne-HAND_SEND.false c.requires.guard c.requires.shows).1)
+    let o = c.in-Some.offer in
+    λ t ls g h. c.of.ensures ∙ rw (back o.list.first (omega arith), back o.list.second (omega arith)) (some-sent t ls o c.if-offer-ne-HAND_SEND.false g (rw c.in-Some.is at h)).0

@@ -16,7 +16,7 @@ enter-entered-requires c =
     let b = c.requires.3 in
     let g = c.requires.4 in
     let h = c.requires.5 in
-    (record { model = m; state = s; process = p; branch = b; guard = g; acts = acts-of h }, c.pair_values-values.ensures.1)
+    record { model = m; state = s; process = p; branch = b; guard = g; acts = acts-of h }
 
 pub slice_bounds-locals-end : goal.slice_bounds-locals-end
 slice_bounds-locals-end c =
@@ -27,7 +27,7 @@ slice_bounds-locals-end c =
     let g = c.requires.4 in
     let h = c.requires.5 in
     let w = c.enter-entered.ensures m s p b g (acts-of h) in
-    let v = c.pair_values-values.ensures.0 m s h.lent.stands in
+    let v = c.pair_values-values.ensures m s h.lent.stands in
     omega (arith, w.few)
 
 pub slice_bounds-successor-end : goal.slice_bounds-successor-end
@@ -39,7 +39,7 @@ slice_bounds-successor-end c =
     let g = c.requires.4 in
     let h = c.requires.5 in
     let w = c.enter-entered.ensures m s p b g (acts-of h) in
-    let v = c.pair_values-values.ensures.0 m s h.lent.stands in
+    let v = c.pair_values-values.ensures m s h.lent.stands in
     simp length-take (omega (arith, w.few))
 
 pub move_alone-requires : goal.move_alone-requires
@@ -51,12 +51,12 @@ move_alone-requires c =
     let g = c.requires.4 in
     let h = c.requires.5 in
     let w = c.enter-entered.ensures m s p b g (acts-of h) in
-    let v = c.pair_values-values.ensures.0 m s h.lent.stands in
+    let v = c.pair_values-values.ensures m s h.lent.stands in
     (m, s, b.next, _, alone_of h _ v _ _ w)
 
 pub returns : goal.returns
 returns c =
     λ m s p b g h.
     let w = c.enter-entered.ensures m s p b g (acts-of h) in
-    let v = c.pair_values-values.ensures.0 m s h.lent.stands in
+    let v = c.pair_values-values.ensures m s h.lent.stands in
     alone-answers h _ v _ _ w _ _ (c.move_alone.ensures m s b.next _ (alone_of h _ v _ _ w))

@@ -1,6 +1,7 @@
 -- What both enter gives the move its parts; its answer is said of their locals.
 use native.Mathlib.Omega.{arith}
 use lib.ListN.{length-take}
+use Rattle.step.proofs.Place.{bare}
 use Rattle.step.proofs.Entry.{meets-of, meets-answers}
 use Rattle.step.proofs.take_handshake.Goals as goal
 
@@ -11,7 +12,7 @@ enter-sender-requires c =
     let x = c.requires.2 in
     let y = c.requires.3 in
     let h = c.requires.4 in
-    (record { model = m; state = s; process = x.process; branch = x.branch; guard = x.guard; acts = h.sender }, c.none_bound.ensures.1)
+    record { model = m; state = s; process = x.process; branch = x.branch; guard = x.guard; acts = h.sender }
 
 pub sent_values-requires : goal.sent_values-requires
 sent_values-requires c =
@@ -21,7 +22,7 @@ sent_values-requires c =
     let y = c.requires.3 in
     let h = c.requires.4 in
     let w = c.enter-sender.ensures m s x.process x.branch x.guard h.sender in
-    let u = c.none_bound.ensures.0 in
+    let u = bare in
     record { nodes = c.args.tables.nodes.now; locals = x.process.locals; guard = x.guard; shows = w.offer }
 
 pub enter-receiver-requires : goal.enter-receiver-requires
@@ -31,7 +32,7 @@ enter-receiver-requires c =
     let x = c.requires.2 in
     let y = c.requires.3 in
     let h = c.requires.4 in
-    (record { model = m; state = s; process = y.process; branch = y.branch; guard = y.guard; acts = h.receiver }, c.sent_values.ensures.1)
+    record { model = m; state = s; process = y.process; branch = y.branch; guard = y.guard; acts = h.receiver }
 
 pub slice_bounds-locals-end : goal.slice_bounds-locals-end
 slice_bounds-locals-end c =
@@ -41,7 +42,7 @@ slice_bounds-locals-end c =
     let y = c.requires.3 in
     let h = c.requires.4 in
     let w = c.enter-sender.ensures m s x.process x.branch x.guard h.sender in
-    let u = c.none_bound.ensures.0 in
+    let u = bare in
     omega (arith, w.few)
 
 pub slice_bounds-x-end : goal.slice_bounds-x-end
@@ -52,7 +53,7 @@ slice_bounds-x-end c =
     let y = c.requires.3 in
     let h = c.requires.4 in
     let w = c.enter-sender.ensures m s x.process x.branch x.guard h.sender in
-    let u = c.none_bound.ensures.0 in
+    let u = bare in
     simp length-take (omega (arith, w.few))
 
 pub slice_bounds-others-end : goal.slice_bounds-others-end
@@ -63,8 +64,8 @@ slice_bounds-others-end c =
     let y = c.requires.3 in
     let h = c.requires.4 in
     let w = c.enter-sender.ensures m s x.process x.branch x.guard h.sender in
-    let u = c.none_bound.ensures.0 in
-    let v = c.sent_values.ensures.0 c.args.tables.nodes.now x.process.locals x.guard w.offer in
+    let u = bare in
+    let v = c.sent_values.ensures c.args.tables.nodes.now x.process.locals x.guard w.offer in
     let e = c.enter-receiver.ensures m s y.process y.branch y.guard h.receiver in
     omega (arith, e.few)
 
@@ -76,8 +77,8 @@ slice_bounds-y-end c =
     let y = c.requires.3 in
     let h = c.requires.4 in
     let w = c.enter-sender.ensures m s x.process x.branch x.guard h.sender in
-    let u = c.none_bound.ensures.0 in
-    let v = c.sent_values.ensures.0 c.args.tables.nodes.now x.process.locals x.guard w.offer in
+    let u = bare in
+    let v = c.sent_values.ensures c.args.tables.nodes.now x.process.locals x.guard w.offer in
     let e = c.enter-receiver.ensures m s y.process y.branch y.guard h.receiver in
     simp length-take (omega (arith, e.few))
 
@@ -89,8 +90,8 @@ move_both-requires c =
     let y = c.requires.3 in
     let h = c.requires.4 in
     let w = c.enter-sender.ensures m s x.process x.branch x.guard h.sender in
-    let u = c.none_bound.ensures.0 in
-    let v = c.sent_values.ensures.0 c.args.tables.nodes.now x.process.locals x.guard w.offer in
+    let u = bare in
+    let v = c.sent_values.ensures c.args.tables.nodes.now x.process.locals x.guard w.offer in
     let e = c.enter-receiver.ensures m s y.process y.branch y.guard h.receiver in
     (m, s, x.branch.next, y.branch.next, meets-of h _ u _ _ w _ v _ _ e)
 
@@ -98,7 +99,7 @@ pub returns : goal.returns
 returns c =
     λ m s x y h.
     let w = c.enter-sender.ensures m s x.process x.branch x.guard h.sender in
-    let u = c.none_bound.ensures.0 in
-    let v = c.sent_values.ensures.0 c.args.tables.nodes.now x.process.locals x.guard w.offer in
+    let u = bare in
+    let v = c.sent_values.ensures c.args.tables.nodes.now x.process.locals x.guard w.offer in
     let e = c.enter-receiver.ensures m s y.process y.branch y.guard h.receiver in
     meets-answers h _ u _ _ w _ v _ _ e _ _ (c.move_both.ensures m s _ _ (meets-of h _ u _ _ w _ v _ _ e))

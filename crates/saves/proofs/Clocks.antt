@@ -77,12 +77,12 @@ pub kept-long : (ks zs xs : List ℤ) (z : ℤ) → length ks ≡ timed_length �
 kept-long ks zs xs z h k e = let m : length xs ≡ timed_length = ap length e ∙ simp (length-append, length-take, length-drop) (omega arith) in simp length-set (omega arith)
 
 -- a state's numbers, then two more
-pub kept_put : (ks zs xs : List ℤ) (c : Clock) → length ks ≡ timed_length → length zs ≡ state_length → xs ≡ take state_length zs ++ drop state_length ks → InRange c
+pub kept_put : (ks zs xs : List ℤ) (c : Clock) → length ks ≡ timed_length → length zs ≡ state_length → xs ≡ zs ++ drop state_length ks → InRange c
     → set (set xs 5122 (to_z w64 c.ticks)) 5123 (to_z w64 c.draws) ≡ besides zs c
 kept_put ks zs xs c h k e g =
     let w = to_z w64 c.ticks in
     let v = to_z w64 c.draws in
-    ap (λ (l : List ℤ). set (set l 5122 w) 5123 v) (e ∙ ap (λ (l : List ℤ). l ++ drop state_length ks) (take_all state_length zs (omega arith)))
+    ap (λ (l : List ℤ). set (set l 5122 w) 5123 v) e
     ∙ by (drop state_length ks) (simp length-drop (omega arith))
     ∙ ap₂ (λ (y z : ℤ). zs ++ y ∷ z ∷ []) (to_z_pos w64 (omega (arith, g.ticks))) (to_z_pos w64 (omega (arith, g.draws)))
   where

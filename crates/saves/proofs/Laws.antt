@@ -10,8 +10,9 @@ use borrow.Rule.Slice.PartMut.{put_mid}
 use lib.Dec.{eqb, leb, ltb, leb-suc-suc}
 use lib.IntN.{ℤ, pos, negsuc, nat_abs}
 use lib.Signed.{lt_z}
-use lib.ListN.{length, set, take, drop, replicate, drop_of_length-le, length-take, length-drop, length-append}
-use lib.Seq.{take_all, take_at, take-nil, get_or-take, drop-drop}
+use lib.ListN.{length, get_or, set, take, drop, replicate, drop_of_length-le, length-take, length-drop, length-append}
+use native.Mathlib.Numerals.{add-one}
+use lib.Seq.{take_all, take_at, take-nil, drop-cons, drop-drop}
 use mir.Syntax.{w64}
 use mir.Val.{to_z}
 use mir.Facts.{to_z_pos}
@@ -20,13 +21,13 @@ use Rattle.value.proofs.Kit.{true-not-false, back}
 use Rattle.word.specs.Name.{longest, word_bytes, pack, Name, name_of}
 use Rattle.machine.specs.Saves.{is_letter, is_name, first_of, save_limit, key_width, timed_length, place_width, saves_length}
 use Rattle.state.specs.Test.{every, rows, at, is_zero}
-use Rattle.state.proofs.Part.{tail-part, next_row}
-use Rattle.state.proofs.Rows.{rows-length}
-use Rattle.state.proofs.Tests.{both, rows_next, rows_none}
+use Rattle.state.proofs.Tests.{both}
 use Rattle.saves.specs.Keys.{is_word, is_second, is_key, is_key_of, full_word, low_of, high_of, key_numbers}
 use Rattle.saves.specs.Kept.{is_kept}
 use Rattle.saves.specs.Places.{has_key, is_place, is_once, are_once, places_of, is_saves, kept_part}
-use Rattle.std.specs.Prelude.{Option, None, Some, is_some}
+use Rattle.std.specs.Prelude.{Option, None, Some, Ok, Err, is_some}
+use Rattle.std.specs.Option.{ok_or}
+use Rattle.std.specs.List.{position_or_len}
 use Rattle.saves.specs.Change.{below, key_of, place_with, no_key, place_to_take, row_at, with_row, saving_numbers, returning_numbers, forgetting_numbers, Stores}
 use Rattle.saves.proofs.Names.{letters_every, letter-is, name-is, every_take, every_drop}
 
@@ -171,20 +172,15 @@ module _ (n p : ℕ) where
 
 -- ---- the first of the rows
 
-module _ (t : List ℤ → Bool) (w n : ℕ) (s : List ℤ) (i : ℕ) (e : first_of t (rows w n s) ≡ i + first_of t (rows w (n - i) (drop (i * w) s))) where
-  first_next : i < n → first_of t (rows w n s) ≡ i + cond (t (take w (drop (i * w) s))) 0 (suc (first_of t (rows w (n - (i + 1)) (drop ((i + 1) * w) s))))
-  unfolding first_of
-  first_next l = e ∙ ap (λ (rs : List (List ℤ)). i + first_of t rs) (rows_next w n i s l)
-
-  pub first-here : i < n → t (take w (drop (i * w) s)) ≡ true → first_of t (rows w n s) ≡ i
-  first-here l f = first_next l ∙ ap (λ (b : Bool). i + cond b 0 (suc (first_of t (rows w (n - (i + 1)) (drop ((i + 1) * w) s))))) f ∙ omega arith
-
-  pub first_on : i < n → t (take w (drop (i * w) s)) ≡ false → first_of t (rows w n s) ≡ i + 1 + first_of t (rows w (n - (i + 1)) (drop ((i + 1) * w) s))
-  first_on l f = first_next l ∙ ap (λ (b : Bool). i + cond b 0 (suc (first_of t (rows w (n - (i + 1)) (drop ((i + 1) * w) s))))) f ∙ omega arith
-
-  pub first_done : n ≤ i → first_of t (rows w n s) ≡ i
-  unfolding first_of
-  first_done l = e ∙ ap (λ (rs : List (List ℤ)). i + first_of t rs) (rows_none w n i (drop (i * w) s) l) ∙ omega arith
+-- as the library counts it
+pub first-position : {A : Type 0} (t : A → Bool) (xs : List A) → position_or_len t xs ≡ first_of t xs
+unfolding first_of
+first-position t [] = refl
+first-position t (x ∷ xs) = by (t x) (first-position t xs)
+  where
+    by : (b : Bool) → position_or_len t xs ≡ first_of t xs → cond (not b) (1 + position_or_len t xs) 0 ≡ cond b 0 (suc (first_of t xs))
+    by true e = refl
+    by false e = omega (arith, e)
 
 first-same : {A : Type 0} (t u : A → Bool) → ((x : A) → t x ≡ u x) → (xs : List A) → first_of t xs ≡ first_of u xs
 unfolding first_of
@@ -203,20 +199,25 @@ none_first t (x ∷ xs) = by (t x) (none_first t xs)
 
 -- ---- names that stand once
 
-module _ (w n : ℕ) (s : List ℤ) (i : ℕ) (e : are_once (rows w n s) ≡ are_once (rows w (n - i) (drop (i * w) s))) where
-  once-next : i < n → are_once (rows w n s) ≡ is_once (take w (drop (i * w) s)) (rows w (n - (i + 1)) (drop ((i + 1) * w) s)) && are_once (rows w (n - (i + 1)) (drop ((i + 1) * w) s))
+-- the places after place i
+pub later-part : (rs : List (List ℤ)) (i : ℕ) (r : List ℤ) → is_once r (take (length rs - (i + 1)) (drop (i + 1) rs)) ≡ is_once r (drop (i + 1) rs)
+later-part rs i r = ap (is_once r) (take_all (length rs - (i + 1)) (drop (i + 1) rs) (simp length-drop (omega arith)))
+
+module _ (rs : List (List ℤ)) (i : ℕ) where
+  module _ (d : List ℤ) (e : are_once rs ≡ are_once (drop i rs)) (l : i < length rs) where
+    once-next : are_once rs ≡ is_once (get_or rs i d) (drop (i + 1) rs) && are_once (drop (i + 1) rs)
+    unfolding are_once
+    once-next = e ∙ ap are_once (drop-cons rs i d l) ∙ rw (add-one i) refl
+
+    pub once-fail : is_once (get_or rs i d) (drop (i + 1) rs) ≡ false → are_once rs ≡ false
+    once-fail f = once-next ∙ ap (λ (b : Bool). b && are_once (drop (i + 1) rs)) f
+
+    pub once-on : is_once (get_or rs i d) (drop (i + 1) rs) ≡ true → are_once rs ≡ are_once (drop (i + 1) rs)
+    once-on f = once-next ∙ ap (λ (b : Bool). b && are_once (drop (i + 1) rs)) f
+
+  pub once-done : are_once rs ≡ are_once (drop i rs) → length rs ≤ i → are_once rs ≡ true
   unfolding are_once
-  once-next l = e ∙ ap are_once (rows_next w n i s l)
-
-  pub once-fail : i < n → is_once (take w (drop (i * w) s)) (rows w (n - (i + 1)) (drop ((i + 1) * w) s)) ≡ false → are_once (rows w n s) ≡ false
-  once-fail l f = once-next l ∙ ap (λ (b : Bool). b && are_once (rows w (n - (i + 1)) (drop ((i + 1) * w) s))) f
-
-  pub once-on : i < n → is_once (take w (drop (i * w) s)) (rows w (n - (i + 1)) (drop ((i + 1) * w) s)) ≡ true → are_once (rows w n s) ≡ are_once (rows w (n - (i + 1)) (drop ((i + 1) * w) s))
-  once-on l f = once-next l ∙ ap (λ (b : Bool). b && are_once (rows w (n - (i + 1)) (drop ((i + 1) * w) s))) f
-
-  pub once-done : n ≤ i → are_once (rows w n s) ≡ true
-  unfolding are_once
-  once-done l = e ∙ ap are_once (rows_none w n i (drop (i * w) s) l)
+  once-done e l = e ∙ ap are_once (drop_of_length-le rs {i = i} l)
 
 -- ---- rows with a key
 
@@ -286,36 +287,23 @@ module _ (scopes : List ℕ) (channels : ℕ) (r : List ℤ) where
     unfolding is_place is_zero
     place-full f = rw (e, f)
 
-module _ (w : ℕ) (s : List ℤ) (n : ℕ) (h : 2 ≤ w) where
-  pub once-empty : is_same (at s 0) (pos 0) ≡ true → is_once (take w s) (rows w n (drop w s)) ≡ true
+module _ (r : List ℤ) (rs : List (List ℤ)) where
+  pub once-empty : is_same (at r 0) (pos 0) ≡ true → is_once r rs ≡ true
   unfolding is_once is_zero
-  once-empty e = rw (get_or-take w s 0 (pos 0) (omega arith), e)
+  once-empty e = rw e
 
   -- what the search among the later places says
-  pub once-found : is_same (at s 0) (pos 0) ≡ false → (key : List ℤ) → key ≡ (at s 0 ∷ at s 1 ∷ []) → (r : Option ℕ) (b : Bool) → is_some r ≡ not b
-      → r ≡ below n (first_of (has_key key) (rows w n (take (length s - w) (drop w s)))) → b ≡ is_once (take w s) (rows w n (drop w s))
+  pub once-found : is_same (at r 0) (pos 0) ≡ false → (key : List ℤ) → key ≡ (at r 0 ∷ at r 1 ∷ []) → (o : Option ℕ) (b : Bool) → is_some o ≡ not b
+      → o ≡ below (length rs) (first_of (has_key key) rs) → b ≡ is_once r rs
   unfolding is_once is_zero
-  once-found e key g r b f j =
-      let k : (x : List ℤ) → has_key key x ≡ has_key (take w s) x = λ x. ap (λ (y : List ℤ). has_key y x) g ∙ same_key x in
-      let p : first_of (has_key key) (rows w n (take (length s - w) (drop w s))) ≡ first_of (has_key (take w s)) (rows w n (drop w s)) =
-      ap (λ (l : List ℤ). first_of (has_key key) (rows w n l)) (tail-part w s) ∙ first-same (has_key key) (has_key (take w s)) k (rows w n (drop w s)) in
-      none-below n _ r b f (j ∙ ap (below n) p)
-      ∙ ap (λ (m : ℕ). not (ltb (first_of (has_key (take w s)) (rows w n (drop w s))) m)) (sym (rows-length w n (drop w s)))
-      ∙ sym (none_first (has_key (take w s)) (rows w n (drop w s)))
-      ∙ rw (get_or-take w s 0 (pos 0) (omega arith), e)
+  once-found e key g o b f j =
+      let k : (x : List ℤ) → has_key key x ≡ has_key r x = λ x. ap (λ (y : List ℤ). has_key y x) g ∙ same_key x in
+      none-below (length rs) _ o b f (j ∙ ap (below (length rs)) (first-same (has_key key) (has_key r) k rs))
+      ∙ sym (none_first (has_key r) rs)
+      ∙ rw e
     where
-      same_key : (x : List ℤ) → has_key (at s 0 ∷ at s 1 ∷ []) x ≡ has_key (take w s) x
-      same_key x =
-          unfold has_key in
-          (ap₂ (λ (a b : ℤ). is_same (at x 0) a && is_same (at x 1) b) (sym (get_or-take w s 0 (pos 0) (omega arith))) (sym (get_or-take w s 1 (pos 0) (omega arith))))
-
--- one turn of the test that names stand once
-pub once-part : (w n : ℕ) (s : List ℤ) (i : ℕ) → i < n → is_once (take w (take (length s - i * w) (drop (i * w) s))) (rows w (n - 1 - i) (drop w (take (length s - i * w) (drop (i * w) s))))
-    ≡ is_once (take w (drop (i * w) s)) (rows w (n - (i + 1)) (drop ((i + 1) * w) s))
-once-part w n s i h =
-    let k : n - 1 - i ≡ n - (i + 1) = omega arith in
-    ap (λ (l : List ℤ). is_once (take w l) (rows w (n - 1 - i) (drop w l))) (tail-part (i * w) s)
-    ∙ ap₂ (λ (a : ℕ) (l : List ℤ). is_once (take w (drop (i * w) s)) (rows w a l)) k (drop-drop w (i * w) s ∙ next_row i w s)
+      same_key : (x : List ℤ) → has_key (at r 0 ∷ at r 1 ∷ []) x ≡ has_key r x
+      same_key x = unfold has_key in refl
 
 module _ (scopes : List ℕ) (channels : ℕ) (zs : List ℤ) where
   pub saves-fail : every (is_place scopes channels) (places_of zs) ≡ false → is_saves scopes channels zs ≡ false
@@ -348,6 +336,15 @@ module _ (n : List ℕ) where
       by : (b : Bool) → Some key ≡ cond b (Some (key_numbers n)) None → (b ≡ true) × (key ≡ key_numbers n)
       by true e = (refl, cc)
       by false e = cc
+
+-- what `ok_or` made of an option
+pub ok-none : {A E : Type 0} (o : Option A) (e f : E) → ok_or o e ≡ Err f → (None ≡ o) × (f ≡ e)
+ok-none None e f q = (refl, cc)
+ok-none (Some x) e f q = absurd (let z : ◌≡◌ {A = ℕ} 0 1 = cc in omega arith)
+
+pub ok-some : {A E : Type 0} (o : Option A) (e : E) (x : A) → ok_or o e ≡ Ok x → Some x ≡ o
+ok-some None e x q = absurd (let z : ◌≡◌ {A = ℕ} 0 1 = cc in omega arith)
+ok-some (Some y) e x q = cc
 
 -- ---- what is written
 

@@ -48,7 +48,7 @@ fn is_letter(b: u64) -> bool
     matches!(b, 65..=90 | 97..=122)
 }
 
-// Whether a number is up to eight letters.
+// Whether a number is up to eight letters. They are taken off as the definition takes them: of `to_le_bytes` the letters would be tested first, and the rest for zeros. The loop's number is the proof's: its invariant counts the letters that are off.
 fn is_word(word: u64) -> bool
     ensures { result ≡ is_word word_bytes word }
 {
@@ -106,29 +106,28 @@ pub fn key_of(name: &[u8]) -> Option<[i64; Layout::KEY]>
 
 // ---- places
 
-// Whether a row begins with the two numbers of a key.
+// Whether a row begins with the two numbers of a key, each compared as the definition does.
 #[tactic(auto, unfolding(crate::specs::Places::has_key))]
-fn has_key(row: &[i64], key: &[i64; Layout::KEY]) -> bool
-    requires { key_width ≤ length row.now }
+fn has_key(row: &[i64; Layout::PLACE], key: &[i64; Layout::KEY]) -> bool
     ensures { result ≡ has_key key.now row.now }
 {
     row[0] == key[0] && row[1] == key[1]
 }
 
-// The first of n places with such a key.
-pub fn find_place(s: &[i64], n: usize, key: &[i64; Layout::KEY]) -> Option<usize>
-    requires { n * place_width ≤ length s.now }
-    ensures place { result ≡ below n (first_of (has_key key.now) (rows place_width n s.now)) }
-    ensures within { IfSome result (λ i. i < n) }
+// The places of saves. The saves are a slice, as C lends them; question 1 tests their length once.
+fn places_in(saves: &[i64]) -> &[[i64; Layout::PLACE]]
+    requires { length saves.now ≡ saves_length }
+    ensures { (result.now ≡ places_of saves.now) × (length result.now ≡ save_limit) }
 {
-    for i in 0..n {
-        let from = i * Layout::PLACE;
-        let to = from + Layout::PLACE;
-        if has_key(&s[from..to], key) {
-            return Some(i);
-        }
-    }
-    None
+    saves.as_chunks::<{ Layout::PLACE }>().0
+}
+
+// The first place with such a key.
+pub fn find_place(places: &[[i64; Layout::PLACE]], key: &[i64; Layout::KEY]) -> Option<usize>
+    ensures place { result ≡ below (length places.now) (first_of (has_key key.now) places.now) }
+    ensures within { IfSome result (λ i. i < length places.now) }
+{
+    places.iter().position(|row| has_key(row, key))
 }
 
 // The place with such a key, else the first empty one.
@@ -138,15 +137,16 @@ pub fn place_for(saves: &[i64], key: &[i64; Layout::KEY]) -> Option<usize>
     ensures place { result ≡ below save_limit (place_to_take key.now saves.now) }
     ensures within { IfSome result (λ i. i < save_limit) }
 {
-    if let Some(at) = find_place(saves, Layout::PLACES, key) {
+    let places = places_in(saves);
+    if let Some(at) = find_place(places, key) {
         return Some(at);
     }
-    find_place(saves, Layout::PLACES, &[0; Layout::KEY])
+    find_place(places, &[0; Layout::KEY])
 }
 
 // ---- a state with its clock
 
-// The clock of two numbers that aren't below 0.
+// The clock of two numbers that aren't below 0. Numbers of a state, which are signed: script's clocks have words.
 pub fn clock_at(clock: &[i64]) -> Clock
     requires { (length clock.now ≡ clock_length) × (is_natural (at clock.now 0) ≡ true) × (is_natural (at clock.now 1) ≡ true) }
     ensures { result ≡ clock_at clock.now }
@@ -162,7 +162,7 @@ pub fn put_kept(kept: &mut [i64; Layout::KEPT], state: &[i64], clock: Clock)
     requires { (length state.now ≡ state_length) × InRange clock }
     ensures { kept.new ≡ besides state.now clock }
 {
-    state::put(kept, state, Layout::STATE);
+    kept[..Layout::STATE].copy_from_slice(state);
     kept[Layout::STATE] = clock.ticks as i64;
     kept[Layout::STATE + 1] = clock.draws as i64;
 }
@@ -194,8 +194,7 @@ fn is_kept(kept: &[i64], shape: Shape) -> bool
 
 // Whether a place is empty, or has a name, and a state and a clock.
 #[tactic(auto, unfolding(crate::specs::Places::is_place))]
-fn is_place(row: &[i64], shape: Shape) -> bool
-    requires { length row.now ≡ place_width }
+fn is_place(row: &[i64; Layout::PLACE], shape: Shape) -> bool
     ensures { result ≡ is_place shape.entry.scopes.now shape.entry.channels row.now }
 {
     if row[0] == 0 {
@@ -204,39 +203,23 @@ fn is_place(row: &[i64], shape: Shape) -> bool
     is_key(row[0], row[1]) && is_kept(&row[Layout::KEY..Layout::PLACE], shape)
 }
 
-fn are_places(saves: &[i64], shape: Shape) -> bool
-    requires { length saves.now ≡ saves_length }
-    ensures { result ≡ every (is_place shape.entry.scopes.now shape.entry.channels) (places_of saves.now) }
+// Whether none of the later places has a place's name.
+fn is_once(place: &[i64; Layout::PLACE], later: &[[i64; Layout::PLACE]]) -> bool
+    ensures { result ≡ is_once place.now later.now }
 {
-    for i in 0..Layout::PLACES {
-        let from = i * Layout::PLACE;
-        let to = from + Layout::PLACE;
-        if !is_place(&saves[from..to], shape) {
-            return false;
-        }
-    }
-    true
-}
-
-// Whether none of the n places after the first has its name.
-fn is_once(s: &[i64], n: usize) -> bool
-    requires { place_width + n * place_width ≤ length s.now }
-    ensures { result ≡ is_once (take place_width s.now) (rows place_width n (drop place_width s.now)) }
-{
-    if s[0] == 0 {
+    if place[0] == 0 {
         return true;
     }
-    let key = [s[0], s[1]];
-    find_place(&s[Layout::PLACE..], n, &key).is_none()
+    let key = [place[0], place[1]];
+    find_place(later, &key).is_none()
 }
 
-fn are_once(saves: &[i64]) -> bool
-    requires { length saves.now ≡ saves_length }
-    ensures { result ≡ are_once (places_of saves.now) }
+// A `for`: each place is tested against those after it, of which `all` would be told by a closure that captures the places.
+fn are_once(places: &[[i64; Layout::PLACE]]) -> bool
+    ensures { result ≡ are_once places.now }
 {
-    for i in 0..Layout::PLACES {
-        let from = i * Layout::PLACE;
-        if !is_once(&saves[from..], Layout::PLACES - 1 - i) {
+    for (i, place) in places.iter().enumerate() {
+        if !is_once(place, &places[i + 1..]) {
             return false;
         }
     }
@@ -244,12 +227,12 @@ fn are_once(saves: &[i64]) -> bool
 }
 
 // Whether the numbers are those of saves over the sums with these scopes and so many channel names.
-#[tactic(auto, unfolding(crate::specs::Places::is_saves))]
 pub fn is_saves(saves: &[i64], shape: Shape) -> bool
     requires { length saves.now ≡ saves_length }
     ensures { result ≡ is_saves shape.entry.scopes.now shape.entry.channels saves.now }
 {
-    are_places(saves, shape) && are_once(saves)
+    let places = places_in(saves);
+    places.iter().all(|row| is_place(row, shape)) && are_once(places)
 }
 
 // ---- save, return, forget
@@ -289,12 +272,8 @@ pub fn save(saves: &mut [i64], kept: &[i64; Layout::KEPT], name: &[u8]) -> Resul
     requires { length saves.old ≡ saves_length }
     ensures { Stores (saving_numbers name.now kept.now saves.old) (number_of result) kept.now saves.new }
 {
-    let Some(key) = key_of(name) else {
-        return Err(Refusal::NotAName);
-    };
-    let Some(at) = place_for(&saves[..], &key) else {
-        return Err(Refusal::Full);
-    };
+    let key = key_of(name).ok_or(Refusal::NotAName)?;
+    let at = place_for(&saves[..], &key).ok_or(Refusal::Full)?;
     let from = at * Layout::PLACE;
     let to = from + Layout::PLACE;
     put_place(&mut saves[from..to], &key, kept);
@@ -306,12 +285,8 @@ pub fn return_to(kept: &mut [i64; Layout::KEPT], saves: &[i64], name: &[u8]) -> 
     requires { length saves.now ≡ saves_length }
     ensures { Stores (returning_numbers name.now kept.old saves.now) (number_of result) kept.new saves.now }
 {
-    let Some(key) = key_of(name) else {
-        return Err(Refusal::NotAName);
-    };
-    let Some(at) = find_place(saves, Layout::PLACES, &key) else {
-        return Err(Refusal::NotSaved);
-    };
+    let key = key_of(name).ok_or(Refusal::NotAName)?;
+    let at = find_place(places_in(saves), &key).ok_or(Refusal::NotSaved)?;
     let from = at * Layout::PLACE + Layout::KEY;
     let to = from + Layout::KEPT;
     kept.copy_from_slice(&saves[from..to]);
@@ -323,14 +298,10 @@ pub fn forget(saves: &mut [i64], name: &[u8]) -> Result<(), Refusal>
     requires { length saves.old ≡ saves_length }
     ensures { (zs : List ℤ) → Stores (forgetting_numbers name.now zs saves.old) (number_of result) zs saves.new }
 {
-    let Some(key) = key_of(name) else {
-        return Err(Refusal::NotAName);
-    };
-    let Some(at) = find_place(&saves[..], Layout::PLACES, &key) else {
-        return Err(Refusal::NotSaved);
-    };
+    let key = key_of(name).ok_or(Refusal::NotAName)?;
+    let at = find_place(places_in(&saves[..]), &key).ok_or(Refusal::NotSaved)?;
     let from = at * Layout::PLACE;
     let to = from + Layout::PLACE;
-    state::clear_state(&mut saves[from..to]);
+    saves[from..to].fill(0);
     Ok(())
 }

@@ -1,3 +1,2 @@
 pub mod Part
-pub mod Seeks
-pub mod Walks
+pub mod Missing

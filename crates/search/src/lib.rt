@@ -1,33 +1,24 @@
 #![tactic(auto)]
 
-// From run to run and from state to state, whatever a state is: what is found, and how refusals met are joined. The walk over the engine's tables stands above it.
+// What a search over runs comes to, whatever a state is. The walk over the engine's tables stands above it.
 ghost use Rattle.std.specs.Prelude.{◌≡◌};
-ghost use Rattle.search.specs.Seeks.{after};
+ghost use Rattle.search.specs.Walks.{joined};
 
-// What is found, if anything is, and first whether a refusal was met before: the next run (whether its last entry is the wait), or that and its length.
+// Why a search, or a part of one, has no run to the wait: there is none; or a refusal was met, so that it isn't known (27).
 #[derive(Clone, Copy)]
-pub struct Met<T> {
-    pub refused: bool,
-    pub found: Option<T>,
-}
-
-impl<T> Met<T> {
-    // The same after a refusal, or not.
-    pub fn after(self, refused: bool) -> Self
-        ensures { result ≡ after refused self }
-    {
-        Met {
-            refused: refused || self.refused,
-            found: self.found,
-        }
-    }
-}
-
-// What walking a state comes to: the run that is walked next (whether a refusal was met before it, whether its last entry is the wait, its length); or a run to the wait, none, or 27.
-#[derive(Clone, Copy)]
-pub enum Walked {
-    Under(bool, bool, usize),
-    Found(usize),
+pub enum Missed {
     Nothing,
     Unsure,
+}
+
+impl Missed {
+    // What two parts miss together.
+    pub fn and(self, other: Missed) -> Self
+        ensures { result ≡ joined self other }
+    {
+        match self {
+            Missed::Nothing => other,
+            Missed::Unsure => Missed::Unsure,
+        }
+    }
 }

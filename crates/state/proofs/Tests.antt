@@ -13,7 +13,7 @@ use lib.Dec.{T, eqb}
 use lib.IntN.{ℤ, pos, negsuc, nat_abs}
 use lib.Signed.{lt_z, non_neg}
 use lib.ListN.{length, get_or, take, drop, drop_of_length-le}
-use lib.Seq.{drop-cons, drop-drop, get_or-take, length-take-le}
+use lib.Seq.{drop-cons, drop-drop}
 use mir.Syntax.{w64}
 use mir.Val.{Fits, SFits, of_z}
 use Rattle.std.specs.List.{list_all}
@@ -22,7 +22,7 @@ use Rattle.model.specs.Limits.{local_limit}
 use Rattle.value.specs.Arithmetic.{is_less, is_same}
 use Rattle.value.proofs.Kit.{true-not-false, false-not-true, same_bits, ok-fits, same-eq}
 use Rattle.rules.specs.Order.{less}
-use Rattle.state.specs.Test.{every, rows, is_value, is_zero, is_below, at, is_padded, is_process, is_count, is_item, is_item_of, is_channel, is_pair, leads, ascends, are_processes, are_pairs, is_state, process_part, pair_part}
+use Rattle.state.specs.Test.{every, rows, is_value, is_zero, is_below, at, is_padded, is_process, is_count, is_item, is_item_of, is_channel, is_pair, ascends, are_processes, are_pairs, is_state, process_part, pair_part}
 use Rattle.state.specs.Fits.{FewLocals}
 use Rattle.model.specs.Good.{Every}
 use Rattle.model.specs.Scope.{locals_in, definition_in}
@@ -293,30 +293,6 @@ module _ (a b : List ℤ) (i : ℕ) (same : length a ≡ length b) (e : less a b
   pub less_done : length a ≤ i → less a b ≡ false
   unfolding less
   less_done l = e ∙ ap (λ (x : List ℤ). less x (drop i b)) (drop_of_length-le a {i = i} l) ∙ ap (λ (y : List ℤ). less [] y) (drop_of_length-le b {i = i} (omega arith))
-
--- ---- rows that ascend, each compared with the one before it
-module _ (w n : ℕ) (s : List ℤ) (i : ℕ) (e : ascends (rows w n s) ≡ ascends (rows w (n - i) (drop (i * w) s))) where
-  ascends-next : i + 1 < n → ascends (rows w n s) ≡ less (take w (drop (i * w) s)) (take w (drop ((i + 1) * w) s)) && ascends (rows w (n - (i + 1)) (drop ((i + 1) * w) s))
-  unfolding ascends leads
-  ascends-next l =
-      let r : List (List ℤ) = rows w (n - (i + 1)) (drop ((i + 1) * w) s) in
-      e ∙ ap ascends (rows_next w n i s (omega arith))
-      ∙ ap (λ (q : List (List ℤ)). leads (take w (drop (i * w) s)) q && ascends r) (rows_next w n (i + 1) s l)
-
-  pub ascends-fail : i + 1 < n → less (take w (drop (i * w) s)) (take w (drop ((i + 1) * w) s)) ≡ false → ascends (rows w n s) ≡ false
-  ascends-fail l f = ascends-next l ∙ rw f
-
-  pub ascends-on : i + 1 < n → less (take w (drop (i * w) s)) (take w (drop ((i + 1) * w) s)) ≡ true → ascends (rows w n s) ≡ ascends (rows w (n - (i + 1)) (drop ((i + 1) * w) s))
-  ascends-on l f = ascends-next l ∙ rw f
-
-  pub ascends-done : n ≤ i + 1 → ascends (rows w n s) ≡ true
-  unfolding ascends leads rows
-  ascends-done l = e ∙ few (n - i) (omega arith)
-    where
-      few : (m : ℕ) → m ≤ 1 → ascends (rows w m (drop (i * w) s)) ≡ true
-      few zero h = refl
-      few (suc zero) h = refl
-      few (suc (suc m)) h = absurd (omega arith)
 
 -- ---- the state, case by case
 module _ (scopes : List ℕ) (n : ℕ) (l : List ℤ) where

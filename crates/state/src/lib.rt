@@ -60,18 +60,21 @@ impl Layout {
     pub const NUMBERS: usize = Layout::PAIRS + machine::Limits::PAIRS * Layout::PAIR;
 }
 
+#[tactic(auto, unfolding(crate::specs::Test::is_value))]
 fn is_value(z: i64) -> bool
     ensures { result ≡ is_value z }
 {
-    value::Range::LEAST <= z && z <= value::Range::GREATEST
+    (value::Range::LEAST..=value::Range::GREATEST).contains(&z)
 }
 
+// A name for the test, as the definitions of rows and items have it: their proofs go case by case of what it ensures.
 fn is_zero(z: i64) -> bool
     ensures { result ≡ is_zero z }
 {
     z == 0
 }
 
+// By two comparisons: `usize::try_from(z)` would make a Result to take it apart at once.
 fn is_below(z: i64, n: usize) -> bool
     ensures { result ≡ is_below n z }
 {
@@ -84,7 +87,7 @@ fn all_values(s: &[i64]) -> bool
     s.iter().all(|&z| is_value(z))
 }
 
-// Whether all numbers are 0.
+// Whether all numbers are 0. The bits are gathered and tested once, as in store's `is_clear` for bytes: a test of each number took 9% of a list of the sheet (docs/PERFORMANCE.md), and one function for both would need a trait of its own with the laws of `|`.
 pub fn all_zero(s: &[i64]) -> bool
     ensures { result ≡ every is_zero s.now }
 {
@@ -117,6 +120,7 @@ pub fn definition_in(scope: u16) -> usize
     (scope / 16) as usize
 }
 
+// The comparison as the definition has it: a name for it and for the bound under which the cast keeps the number.
 fn is_number(z: i64, n: usize) -> bool
     requires { n < 9223372036854775808 }
     ensures { result ≡ is_same z (pos n) }
@@ -125,8 +129,7 @@ fn is_number(z: i64, n: usize) -> bool
 }
 
 // Whether a row is a process of a sum that exists.
-fn is_process(row: &[i64], shape: Shape) -> bool
-    requires { length row.now ≡ process_width }
+fn is_process(row: &[i64; Layout::PROCESS], shape: Shape) -> bool
     ensures { result ≡ is_process shape.entry.scopes.now row.now }
 {
     let z = row[0];
@@ -168,9 +171,8 @@ fn is_item_of(items: i64, i: i64, kind: i64, z: i64, channels: usize) -> bool
     is_zero(kind) && is_zero(z)
 }
 
-// Whether a row begins with the numbers of a channel that exists.
-fn is_channel(row: &[i64], channels: usize) -> bool
-    requires { length row.now ≡ pair_width }
+// Whether a row begins with the numbers of a channel that exists. The three items are written out, as they are in the definition, each with its number.
+fn is_channel(row: &[i64; Layout::PAIR], channels: usize) -> bool
     ensures { result ≡ is_channel channels row.now }
 {
     let items = row[0];
@@ -187,8 +189,7 @@ fn is_channel(row: &[i64], channels: usize) -> bool
 }
 
 // Whether a row is a pair on a channel that exists.
-fn is_pair(row: &[i64], channels: usize) -> bool
-    requires { length row.now ≡ pair_width }
+fn is_pair(row: &[i64; Layout::PAIR], channels: usize) -> bool
     ensures { result ≡ is_pair channels row.now }
 {
     if !is_channel(row, channels) {
@@ -201,30 +202,19 @@ fn is_pair(row: &[i64], channels: usize) -> bool
     is_padded(&row[Layout::VALUES..], count as usize)
 }
 
-fn all_processes(s: &[i64], n: usize, shape: Shape) -> bool
-    requires { n * process_width ≤ length s.now }
-    ensures { result ≡ every (is_process shape.entry.scopes.now) (rows process_width n s.now) }
+// The first n rows of W numbers.
+fn first_rows<const W: usize>(s: &[i64], n: usize) -> &[[i64; W]]
+    requires { (0 < W) × (n * W ≤ length s.now) }
+    ensures { (result.now ≡ rows W n s.now) × (length result.now ≡ n) }
 {
-    s[..n * Layout::PROCESS]
-        .chunks_exact(Layout::PROCESS)
-        .all(|row| is_process(row, shape))
-}
-
-fn all_pairs(s: &[i64], n: usize, channels: usize) -> bool
-    requires { n * pair_width ≤ length s.now }
-    ensures { result ≡ every (is_pair channels) (rows pair_width n s.now) }
-{
-    s[..n * Layout::PAIR]
-        .chunks_exact(Layout::PAIR)
-        .all(|row| is_pair(row, channels))
+    &s.as_chunks::<W>().0[..n]
 }
 
 // Whether the first of two rows stands before the second.
-fn is_before(a: &[i64], b: &[i64]) -> bool
-    requires { length a.now ≡ length b.now }
+fn is_before(a: &[i64; Layout::PAIR], b: &[i64; Layout::PAIR]) -> bool
     ensures { result ≡ less a.now b.now }
 {
-    // Not `a < b`: on rows of ten it takes three times as long.
+    // Not `a < b`: on rows of ten it takes three times as long. One index for both rows, from which on the proof compares their rests.
     for (i, &x) in a.iter().enumerate() {
         if x != b[i] {
             return x < b[i];
@@ -234,19 +224,10 @@ fn is_before(a: &[i64], b: &[i64]) -> bool
 }
 
 // Whether each pair stands before the next.
-fn is_ascending(s: &[i64], n: usize) -> bool
-    requires { n * pair_width ≤ length s.now }
-    ensures { result ≡ ascends (rows pair_width n s.now) }
+fn is_ascending(pairs: &[[i64; Layout::PAIR]]) -> bool
+    ensures { result ≡ ascends pairs.now }
 {
-    for i in 1..n {
-        let from = (i - 1) * Layout::PAIR;
-        let at = from + Layout::PAIR;
-        let to = at + Layout::PAIR;
-        if !is_before(&s[from..at], &s[at..to]) {
-            return false;
-        }
-    }
-    true
+    pairs.is_sorted_by(is_before)
 }
 
 // Whether n processes stand in the part of the processes, and zeros after them.
@@ -254,7 +235,8 @@ fn are_processes(s: &[i64], n: usize, shape: Shape) -> bool
     requires { n * process_width ≤ length s.now }
     ensures { result ≡ are_processes shape.entry.scopes.now n s.now }
 {
-    all_processes(s, n, shape) && all_zero(&s[n * Layout::PROCESS..])
+    let processes = first_rows::<{ Layout::PROCESS }>(s, n);
+    processes.iter().all(|row| is_process(row, shape)) && all_zero(&s[n * Layout::PROCESS..])
 }
 
 // Whether n pairs ascend in the part of the pairs, and zeros stand after them.
@@ -262,14 +244,9 @@ fn are_pairs(s: &[i64], n: usize, channels: usize) -> bool
     requires { n * pair_width ≤ length s.now }
     ensures { result ≡ are_pairs channels n s.now }
 {
-    if !all_pairs(s, n, channels) {
-        return false;
-    }
-    if !is_ascending(s, n) {
-        return false;
-    }
-    let end = n * Layout::PAIR;
-    all_zero(&s[end..])
+    let pairs = first_rows::<{ Layout::PAIR }>(s, n);
+    pairs.iter().all(|row| is_pair(row, channels))
+        && (is_ascending(pairs) && all_zero(&s[n * Layout::PAIR..]))
 }
 
 // Whether the numbers are those of a state over the sums with these scopes and so many channel names.
@@ -295,47 +272,33 @@ pub fn is_state(state: &[i64], shape: Shape) -> bool
     are_pairs(&state[Layout::PAIRS..], pairs as usize, shape.channels)
 }
 
-// How many of n ascending pairs stand before a row.
-pub fn find_pair(s: &[i64], n: usize, row: &[i64]) -> usize
-    requires { (n * pair_width ≤ length s.now) × (length row.now ≡ pair_width) × (ascends (rows pair_width n s.now) ≡ true) }
-    ensures { result ≡ place_of row.now (rows pair_width n s.now) }
+// How many of the pairs, which ascend, stand before a row. That they ascend is a clause here, in is_lit, channel_run and listing's value_run: a struct of rows and fact
+// would be made by lit_pairs alone, and opened by each of the four at once.
+pub fn find_pair(pairs: &[[i64; Layout::PAIR]], row: &[i64; Layout::PAIR]) -> usize
+    requires { ascends pairs.now ≡ true }
+    ensures { result ≡ place_of row.now pairs.now }
 {
-    let mut low = 0;
-    let mut high = n;
-    // A while: a binary search, and partition_point has no rows of ten.
-    while low < high {
-        let middle = low + (high - low) / 2;
-        let from = middle * Layout::PAIR;
-        let to = from + Layout::PAIR;
-        if is_before(&s[from..to], row) {
-            low = middle + 1;
-        } else {
-            high = middle;
-        }
-    }
-    low
+    pairs.partition_point(
+        |pair: &[i64; Layout::PAIR]| -> bool
+            ensures { result ≡ less pair.now row.entry.now }
+        { is_before(pair, row) },
+    )
 }
 
 // Whether the pair at the place that find_pair gave is the row itself.
-fn stands_at(s: &[i64], n: usize, place: usize, row: &[i64]) -> bool
-    requires { (n * pair_width ≤ length s.now) × (length row.now ≡ pair_width) × (place ≡ place_of row.now (rows pair_width n s.now)) }
-    ensures { result ≡ is_lit row.now (rows pair_width n s.now) }
+fn stands_at(pairs: &[[i64; Layout::PAIR]], place: usize, row: &[i64; Layout::PAIR]) -> bool
+    requires { place ≡ place_of row.now pairs.now }
+    ensures { result ≡ is_lit row.now pairs.now }
 {
-    if n <= place {
-        return false;
-    }
-    let from = place * Layout::PAIR;
-    let to = from + Layout::PAIR;
-    !is_before(row, &s[from..to])
+    place < pairs.len() && !is_before(row, &pairs[place])
 }
 
-// Whether a row is one of n ascending pairs.
-pub fn is_lit(s: &[i64], n: usize, row: &[i64]) -> bool
-    requires { (n * pair_width ≤ length s.now) × (length row.now ≡ pair_width) × (ascends (rows pair_width n s.now) ≡ true) }
-    ensures { result ≡ is_lit row.now (rows pair_width n s.now) }
+// Whether a row is one of the pairs, which ascend.
+pub fn is_lit(pairs: &[[i64; Layout::PAIR]], row: &[i64; Layout::PAIR]) -> bool
+    requires { ascends pairs.now ≡ true }
+    ensures { result ≡ is_lit row.now pairs.now }
 {
-    let place = find_pair(s, n, row);
-    stands_at(s, n, place, row)
+    stands_at(pairs, find_pair(pairs, row), row)
 }
 
 // Where the pairs on one channel stand.
@@ -345,14 +308,14 @@ pub struct Run {
     pub to: usize,
 }
 
-// How many of n ascending pairs stand before those on a channel, and how many up to the last of these. The row has the channel's numbers, then zeros.
-pub fn channel_run(s: &[i64], n: usize, row: &mut [i64]) -> Run
-    requires { (n * pair_width ≤ length s.now) × (ascends (rows pair_width n s.now) ≡ true) × (length row.old ≡ pair_width) }
-    ensures { (result.from ≡ place_of row.old (rows pair_width n s.now)) × (result.to ≡ place_of (set row.old channel_width (pos values_past)) (rows pair_width n s.now)) }
+// How many of the pairs, which ascend, stand before those on a channel, and how many up to the last of these. The row has the channel's numbers, then zeros.
+pub fn channel_run(pairs: &[[i64; Layout::PAIR]], row: &mut [i64; Layout::PAIR]) -> Run
+    requires { ascends pairs.now ≡ true }
+    ensures { (result.from ≡ place_of row.old pairs.now) × (result.to ≡ place_of (set row.old channel_width (pos values_past)) pairs.now) }
 {
-    let from = find_pair(s, n, row);
+    let from = find_pair(pairs, row);
     row[Layout::CHANNEL] = Layout::VALUE_COUNTS as i64;
-    let to = find_pair(s, n, row);
+    let to = find_pair(pairs, row);
     Run { from, to }
 }
 
@@ -374,14 +337,7 @@ fn shift_left(s: &mut [i64], k: usize)
     s[kept..].fill(0);
 }
 
-// Writes zeros over the whole.
-pub fn clear_state(s: &mut [i64])
-    ensures { s.new ≡ replicate (length s.old) (pos 0) }
-{
-    s.fill(0);
-}
-
-// Writes the first numbers of a slice over those of another.
+// Writes the first numbers of a slice over those of another: both cuts in one place, as `rewrite` makes them three times.
 pub fn put(s: &mut [i64], fresh: &[i64], count: usize)
     requires { (count ≤ length s.old) × (count ≤ length fresh.now) }
     ensures { s.new ≡ take count fresh.now ++ drop count s.old }
@@ -416,8 +372,8 @@ fn counted(state: &[i64], i: usize) -> usize
 }
 
 // A pair comes in at a place; the later ones move.
-pub fn insert_pair(state: &mut [i64], place: usize, row: &[i64])
-    requires { (length state.old ≡ state_length) × (place < pair_limit) × (is_below (pair_limit + 1) (at state.old 1) ≡ true) × (nat_abs (at state.old 1) < pair_limit) × (length row.now ≡ pair_width) }
+pub fn insert_pair(state: &mut [i64], place: usize, row: &[i64; Layout::PAIR])
+    requires { (length state.old ≡ state_length) × (place < pair_limit) × (is_below (pair_limit + 1) (at state.old 1) ≡ true) × (nat_abs (at state.old 1) < pair_limit) }
     ensures { state.new ≡ pair_added place row.now state.old }
 {
     let n = counted(&state[..], 1);
@@ -437,7 +393,7 @@ pub fn remove_pair(state: &mut [i64], place: usize)
     state[1] = (n - 1) as i64;
 }
 
-// The process at a place goes out and the processes in `fresh` come in; the later ones move.
+// The process at a place goes out and the first `count` processes in `fresh` come in; the later ones move. The count stands beside: of a part cut to the new processes it would be the length divided by ten, under a clause that nothing is left over.
 pub fn splice(state: &mut [i64], place: usize, fresh: &[i64], count: usize)
     requires { (length state.old ≡ state_length) × (place < process_limit) × (is_below (process_limit + 1) (at state.old 0) ≡ true) × (1 ≤ nat_abs (at state.old 0)) × (count + place ≤ process_limit) × (count * process_width ≤ length fresh.now) }
     ensures { state.new ≡ process_replaced place count (take (count * process_width) fresh.now) state.old }
@@ -453,7 +409,7 @@ pub fn splice(state: &mut [i64], place: usize, fresh: &[i64], count: usize)
     state[0] = (n - 1 + count) as i64;
 }
 
-// The sum and the locals of one more process, after the others.
+// The sum and the locals of one more process, after the others. No struct of a process: what is pushed is never held, each number goes to its place.
 fn put_process(state: &mut [i64], sum: usize, locals: &[i64])
     requires { (length state.old ≡ state_length) × (is_below (process_limit + 1) (at state.old 0) ≡ true) × (nat_abs (at state.old 0) < process_limit) × (sum < 9223372036854775808) × (length locals.now ≤ local_limit) }
     ensures { state.new ≡ process_added sum locals.now state.old }
@@ -477,33 +433,42 @@ pub fn push_process(state: &mut [i64], sum: usize, locals: &[i64], definition: u
     put_process(state, sum, locals);
 }
 
+// The lit pairs of a state.
+pub fn lit_pairs(state: &[i64]) -> &[[i64; Layout::PAIR]]
+    requires { Passed state.now }
+    ensures { (result.now ≡ pair_rows state.now) × (ascends result.now ≡ true) }
+{
+    first_rows::<{ Layout::PAIR }>(&state[Layout::PAIRS..], counted(state, 1))
+}
+
 // A pair is lit; one that is lit already stays as it is.
-pub fn launch_pair(state: &mut [i64], row: &[i64])
-    requires { (Passed state.old) × (length row.now ≡ pair_width) × ((is_lit row.now (pair_rows state.old) ≡ false) → pair_count state.old < pair_limit) }
+pub fn launch_pair(state: &mut [i64], row: &[i64; Layout::PAIR])
+    requires { Passed state.old × ((is_lit row.now (pair_rows state.old) ≡ false) → pair_count state.old < pair_limit) }
     ensures { state.new ≡ pair_launched row.now state.old }
 {
-    let n = counted(&state[..], 1);
-    let place = find_pair(&state[Layout::PAIRS..], n, row);
-    if stands_at(&state[Layout::PAIRS..], n, place, row) {
+    let pairs = lit_pairs(&state[..]);
+    let place = find_pair(pairs, row);
+    if stands_at(pairs, place, row) {
         return;
     }
     insert_pair(state, place, row);
 }
 
 // A pair is unlit, if it was lit.
-pub fn kill_pair(state: &mut [i64], row: &[i64])
-    requires { (Passed state.old) × (length row.now ≡ pair_width) }
+pub fn kill_pair(state: &mut [i64], row: &[i64; Layout::PAIR])
+    requires { Passed state.old }
     ensures { state.new ≡ pair_killed row.now state.old }
 {
-    let n = counted(&state[..], 1);
-    let place = find_pair(&state[Layout::PAIRS..], n, row);
-    if !stands_at(&state[Layout::PAIRS..], n, place, row) {
+    let pairs = lit_pairs(&state[..]);
+    let place = find_pair(pairs, row);
+    if !stands_at(pairs, place, row) {
         return;
     }
     remove_pair(state, place);
 }
 
 // ---- reading a state
+// A state stays a slice, whose length and numbers the contracts tell: C lends it as one, to be changed between the calls, and question 1 tests its length once.
 
 // How many processes a state has.
 pub fn process_count(state: &[i64]) -> usize
@@ -550,6 +515,7 @@ pub fn locals_at(state: &[i64], place: usize, count: usize) -> &[i64]
 }
 
 // The numbers of the pair at a place.
+// A slice, as `locals_at` gives: both callers read three of its numbers by their places.
 pub fn pair_row(state: &[i64], place: usize) -> &[i64]
     requires { (length state.now ≡ state_length) × (place < pair_limit) }
     ensures { result.now ≡ pair_row state.now place }

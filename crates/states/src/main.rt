@@ -28,6 +28,7 @@ fn test(rt: &impl Print, label: &str, state: &Numbers) -> io::Result<()> {
     println!(rt; "{label},{answer}")
 }
 
+// The changes ask `is_good` each for itself: what it ensures is what a change of a state requires.
 fn push(state: &mut Numbers, sum: u8, locals: &[i64], definition: u8) {
     if is_good(state)
         && state::process_count(state) + 1 < Layout::PROCESS_COUNTS

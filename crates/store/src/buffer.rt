@@ -1,10 +1,11 @@
 // The model buffer: two bytes for the text's length, low byte first, then the text, then zeros; and an engine's header in both buffers.
-ghost use Rattle.std.specs.Prelude.{◌≡◌, ◌+◌, ◌≤◌, ◌<◌, ◌%◌, ◌/◌, pos, length, set, replicate};
+ghost use Rattle.std.specs.Prelude.{◌≡◌, ◌∷◌, ◌≤◌, ◌<◌, ◌%◌, ◌/◌, pos, length, drop, replicate, MatchOption};
+ghost use Rattle.std.proofs.Math.Option.{none};
 ghost use Rattle.token.specs.Questions.{text_limit};
 ghost use Rattle.machine.specs.State.{state_length};
 ghost use Rattle.machine.specs.Machine.{model_length};
-ghost use Rattle.buffers.specs.Held.{model_bytes, length_in, zeros};
-ghost use Rattle.store.specs.Text.{TextIn};
+ghost use Rattle.buffers.specs.Held.{model_bytes, length_in, zeros, held_in};
+ghost use Rattle.store.specs.Text.{TextOf};
 
 use crate::Engine;
 
@@ -16,27 +17,22 @@ impl Bytes {
     pub const MOST: usize = token::Limits::TEXT;
 
     pub const FIRST: usize = 2;
-
-    // Numbers that a byte has.
-    pub const SIZE: usize = 256;
 }
 
 // Writes a text's length.
 fn put_length(model: &mut [u8], n: usize)
     requires { (2 ≤ length model.old) × (n < 65536) }
-    ensures { model.new ≡ set (set model.old 0 (n % 256)) 1 (n / 256) }
+    ensures { model.new ≡ n % 256 ∷ n / 256 ∷ drop 2 model.old }
 {
-    model[0] = (n % Bytes::SIZE) as u8;
-    model[1] = (n / Bytes::SIZE % Bytes::SIZE) as u8;
+    model[..Bytes::FIRST].copy_from_slice(&(n as u16).to_le_bytes());
 }
 
 // Writes the counts of processes and pairs.
 fn put_counts(state: &mut [i64], processes: usize, pairs: usize)
     requires { (2 ≤ length state.old) × (processes < 65536) × (pairs < 65536) }
-    ensures { state.new ≡ set (set state.old 0 (pos processes)) 1 (pos pairs) }
+    ensures { state.new ≡ pos processes ∷ pos pairs ∷ drop 2 state.old }
 {
-    state[0] = processes as i64;
-    state[1] = pairs as i64;
+    state[..2].copy_from_slice(&[processes as i64, pairs as i64]);
 }
 
 // A fresh engine: its header, and zeros.
@@ -46,7 +42,7 @@ pub fn put_fresh(model: &mut [u8], state: &mut [i64])
 {
     let engine = Engine::fresh();
     model.fill(0);
-    state::clear_state(state);
+    state.fill(0);
     put_length(model, engine.text);
     put_counts(state, engine.processes, engine.pairs);
 }
@@ -63,12 +59,12 @@ pub fn put_text(model: &mut [u8], text: &[u8])
 // The length in the first two bytes.
 fn text_length(model: &[u8]) -> usize
     requires { 2 ≤ length model.now }
-    ensures { (result ≡ length_in model.now) × (result < 65536) }
+    ensures { result ≡ length_in model.now }
 {
-    model[0] as usize + Bytes::SIZE * (model[1] as usize)
+    usize::from(u16::from_le_bytes([model[0], model[1]]))
 }
 
-// Whether every byte is 0.
+// Whether every byte is 0. The bits are gathered and tested once, as in state's `all_zero` for numbers: a test of each byte took 30% of a list of the sheet (docs/PERFORMANCE.md), and one function for both would need a trait of its own with the laws of `|`.
 fn is_clear(s: &[u8]) -> bool
     ensures { result ≡ zeros s.now }
 {
@@ -79,10 +75,10 @@ fn is_clear(s: &[u8]) -> bool
     bits == 0
 }
 
-// The length of the text that a model buffer may hold: of a length that a text may have, with zeros after it.
-pub fn find_text(model: &[u8]) -> Option<usize>
+// The text that a model buffer may hold: of a length that a text may have, with zeros after it.
+pub fn find_text(model: &[u8]) -> Option<&[u8]>
     requires { length model.now ≡ model_length }
-    ensures { TextIn model.now result }
+    ensures { MatchOption result (held_in model.now ≡ none) (λ text. TextOf model.now text.now) }
 {
     let n = text_length(model);
     if Bytes::MOST < n {
@@ -90,7 +86,7 @@ pub fn find_text(model: &[u8]) -> Option<usize>
     }
     let end = Bytes::FIRST + n;
     if is_clear(&model[end..]) {
-        return Some(n);
+        return Some(&model[Bytes::FIRST..end]);
     }
     None
 }

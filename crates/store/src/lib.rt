@@ -31,7 +31,7 @@ impl Engine {
 
     pub const SAVES: usize = saves::Layout::SAVES;
 
-    // Closed, no process, no pair.
+    // Closed, no process, no pair: an associated function, by the form that the rules name for a fresh engine.
     pub fn fresh() -> Self
         ensures { (result.text ≡ 0) × (result.processes ≡ 0) × (result.pairs ≡ 0) }
     {
@@ -43,7 +43,7 @@ impl Engine {
     }
 }
 
-// The tables of a model, with its numbers of sums and of channel names.
+// The tables of a model, with its numbers of sums and of channel names. Roots and scopes are as long as the reading's arrays, and `shape` alone asks where they end.
 #[derive(Clone, Copy)]
 pub struct Settled<'a> {
     pub tables: Tables<'a>,

@@ -17,6 +17,7 @@ ghost use Rattle.state.specs.Change.{process_pushed};
 ghost use Rattle.model.specs.Good.{Every, GoodStart, GoodModel};
 ghost use Rattle.store.specs.Start as Start;
 
+use eval::Context;
 use tables::Tables;
 use tree::NodeKind;
 
@@ -37,7 +38,7 @@ fn push_known(state: &mut [i64], sum: usize, locals: &[i64], scopes: &[u16])
     state::push_process(state, sum, locals, definition);
 }
 
-// Pushes a process for each sum at k.
+// Pushes a process for each sum at k. The walk is that of eval's `put_sums`, which writes rows for a splice: what each asks of its room differs, so a closure for the one step would have to carry it. The state is lent to be written, here and below: in a struct with the tables it would lose what is written.
 fn push_sums(tables: Tables, k: usize, locals: &[i64], state: &mut [i64])
     requires { Start.SumsFit tables.nodes.now tables.scopes.now k locals.now state.old }
     ensures { (ns : List ℕ) → Represents.Sums tables.entry.nodes.now ns k → Start.Adds (entered tables.entry.scopes.now ns locals.now) state.old state.new }
@@ -52,7 +53,7 @@ fn push_sums(tables: Tables, k: usize, locals: &[i64], state: &mut [i64])
     push_sums(tables, k - 1, locals, state);
 }
 
-// The same, so many times.
+// The same, so many times. The loop's number is the proof's: its invariant counts the copies that are pushed.
 fn push_copies(tables: Tables, k: usize, locals: &[i64], count: usize, state: &mut [i64])
     requires { Start.CopiesFit tables.nodes.now tables.scopes.now k locals.now state.old count }
     ensures { (ns : List ℕ) → Represents.Sums tables.entry.nodes.now ns k → Start.Adds (copies count (entered tables.entry.scopes.now ns locals.now)) state.old state.new }
@@ -67,10 +68,11 @@ fn whole_at(nodes: &[u64], k: usize) -> i64
     requires { (z : ℤ) × (Settled.Number nodes.now 1 z k) × InRange z }
     ensures { (z : ℤ) → Settled.Number nodes.now 1 z k → result ≡ z }
 {
-    eval::eval_node(nodes, &[], k).unwrap_or(0)
+    let context = Context { nodes, locals: &[] };
+    eval::eval_node(context, k).unwrap_or(0)
 }
 
-// Writes the whole numbers at k from place `at` on.
+// Writes the whole numbers at k from place `at` on. The walk is that of eval's `put_arguments`, which says why they are two.
 fn put_wholes(nodes: &[u64], k: usize, values: &mut [i64], at: usize)
     requires { Start.WholesFit nodes.now k (length values.old) at }
     ensures { (zs : List ℤ) → Represents.Wholes nodes.now zs k → values.new ≡ sets values.old at zs }
@@ -123,7 +125,8 @@ fn push_items(tables: Tables, k: usize, state: &mut [i64])
     push_items(tables, k - 1, state);
 }
 
-// Writes the opened state over a cleared one.
+// Writes the opened state over a cleared one. The line is found as in eval's `body_of`, which goes on to the body of a definition: the place after the last is that of the
+// system line.
 pub fn open_state(tables: Tables, definitions: usize, state: &mut [i64])
     requires { (state.old ≡ replicate state_length (pos 0)) × ((m : Resolved.Model) × Start.Opens tables.nodes.now tables.scopes.now tables.root tables.variables definitions m) }
     ensures { (m : Resolved.Model) → Start.Opens tables.entry.nodes.now tables.entry.scopes.now tables.entry.root tables.entry.variables definitions m → state.new ≡ state_numbers (opened_state m) }

@@ -10,7 +10,7 @@ use lib.IntN.{ℤ}
 use lib.ListN.{length, get_or, get_elem?, take, drop, replicate}
 use lib.Seq.{take_all}
 use borrow.Rule.Slice.PartMut.{put_mid}
-use Rattle.std.specs.Prelude.{Err, Ok}
+use Rattle.std.specs.Prelude.{None, Some, Err, Ok}
 use Rattle.model.specs.Resolved
 use Rattle.model.specs.Good.{GoodModel}
 use Rattle.rules.specs.Rules.{Key, key, Nth, first, later}
@@ -28,7 +28,6 @@ use Rattle.step.specs.declared.Refusal.{Refusal}
 use Rattle.step.specs.declared.Refusal.TheVariants.{Arguments, Processes, Pairs}
 use Rattle.step.specs.Enter.{Lent, Answers, refusal_number, number_of, Taken}
 use Rattle.step.proofs.Answered.{taken-number, taken-state}
-use Rattle.walk.specs.declared.Move.TheVariants as move
 use Rattle.step.specs.Entries.{Listing, Row}
 use Rattle.step.proofs.Rows.{row_is, row_in, row_fits}
 use Rattle.walk.specs.Held.{Held, Seen, Stands, Lists, way_found, Takes}
@@ -110,7 +109,7 @@ module _ {t roots scopes : List ℕ} {root variables : ℕ} {text places sizes :
 
       -- ---- the three answers
       module _ (x : List ℕ) where
-        pub takes-idle : y.weight ≡ 0 → Takes m x s e z z move.Idle
+        pub takes-idle : y.weight ≡ 0 → Takes m x s e z z (Ok None)
         unfolding entry_of way_found
         takes-idle w = record {
           after = s;
@@ -124,7 +123,7 @@ module _ {t roots scopes : List ℕ} {root variables : ℕ} {text places sizes :
           kept : take state_length (put_mid state_length state_length z₁ ys) ≡ take state_length z
           kept = rw copied (back-first z state_length deep ys)
 
-          pub takes-refused : (c : Refusal) → r ≡ Err c → Takes m x s e z (put_mid state_length state_length z₁ ys) move.Refused
+          pub takes-refused : (c : Refusal) → r ≡ Err c → Takes m x s e z (put_mid state_length state_length z₁ ys) (Err c)
           unfolding entry_of key_of way_found
           takes-refused c q = record {
             after = s;
@@ -134,7 +133,7 @@ module _ {t roots scopes : List ℕ} {root variables : ℕ} {text places sizes :
           }
 
           pub takes-accepted : (h : Bool) → h ≡ is_sought m x s (key y.kind y.place y.branch y.partner y.pbranch y.pair) → r ≡ Ok tt
-              → Takes m x s e z (put_mid state_length state_length z₁ ys) (move.Leads h)
+              → Takes m x s e z (put_mid state_length state_length z₁ ys) (Ok (Some h))
           unfolding entry_of key_of way_found
           takes-accepted h o q =
               let k = key y.kind y.place y.branch y.partner y.pbranch y.pair in

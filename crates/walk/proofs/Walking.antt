@@ -1,24 +1,26 @@
 -- What each arm of the walk gives: an entry, the entries of a listing in turn, a state that is still to be listed, and one length after the other. From what is hunted for, over plain lists.
 use mathlib.Core.Path.{◌≡◌, refl, sym, ap, ◌∙◌}
 use mathlib.Core.List.{List, [], ◌∷◌, ◌++◌, map}
-use mathlib.Core.Bool.{Bool, true, false, ◌||◌}
+use mathlib.Core.Bool.{Bool, true, false}
 use Prim.Native.Nat.{ℕ, suc, ◌+◌, ◌-◌, ◌≤◌, ◌<◌}
 use native.Mathlib.Omega.{arith}
 use lib.IntN.{ℤ}
 use lib.ListN.{length, set, take, drop, length-map, length-drop, length-append}
-use lib.Seq.{length-take-le, take_at, take_all}
+use lib.Seq.{take_at}
 use borrow.Rule.Slice.PartMut.{put_mid, mid_of}
-use Rattle.std.specs.Prelude.{Err, Ok}
+use Rattle.std.specs.Prelude.{Option, None, Some, Err, Ok, ok_or}
 use Rattle.model.specs.Resolved
 use Rattle.model.specs.Limits.{branch_limit}
 use Rattle.model.specs.Good.{GoodSum}
 use Rattle.rules.specs.Listing.{Entry}
-use Rattle.runs.specs.Tree.{leads, unlisted, lists, way_in}
+use Rattle.runs.specs.Tree.{Answer, leads, unlisted, lists, way_in}
 use Rattle.runs.specs.Walk.{search, ending}
-use Rattle.search.specs.Walks.{Answered, a-run}
-use Rattle.search.specs.declared.Walked.{Walked}
-use Rattle.search.specs.declared.Walked.TheVariants as walked
+use Rattle.search.specs.Walks.{Answered, a-run, no_run, not_known, met_in, joined}
+use Rattle.search.specs.declared.Missed.{Missed}
+use Rattle.search.specs.declared.Missed.TheVariants.{Nothing, Unsure}
 use Rattle.search.proofs.Part.{tail-put, tail-mid}
+use Rattle.search.proofs.Missing.{met-joined}
+use Rattle.step.specs.declared.Refusal.{Refusal}
 use Rattle.machine.specs.State.{State, state_length}
 use Rattle.machine.specs.Machine as machine
 use Rattle.machine.specs.Machine.{listing, listing_length, entry_limit, entries_are, refused_with, way_of, moves_of, moves_to}
@@ -27,19 +29,19 @@ use Rattle.machine.proofs.Listing.{accepted}
 use Rattle.machine.proofs.Numbers.{state-length}
 use Rattle.offers.specs.Collect.{FewBranches, World}
 use Rattle.listing.specs.Buffer as buffer
-use Rattle.listing.specs.Buffer.{filled_numbers, listing_numbers, listed_answer, refused, Listed}
+use Rattle.listing.specs.declared.Listed.{Listed}
+use Rattle.listing.specs.declared.Refusal as listing_refusal
+use Rattle.listing.specs.Buffer.{filled_numbers, listing_numbers, Outcome}
 use Rattle.step.specs.Enter as enter
-use Rattle.walk.specs.declared.Move.{Move}
-use Rattle.walk.specs.declared.Move.TheVariants as move
 use Rattle.walk.specs.Hunted.{Hit, Hunted, gone, hits, or_else, behind_hunted, hunt_answer, hunt_at, hunt_from, hunt_longer, Hunts, none, one}
-use Rattle.walk.specs.Held.{Held, Stands, Lists, Room, way_found, Takes}
+use Rattle.walk.specs.Held.{Held, Stands, Lists, Room, Move, way_found, Takes}
 use Rattle.walk.proofs.Rows.{first_part, same_first, filled-length}
 use Rattle.walk.proofs.Hunting.{search_is, at-idle, at-refused, at-wait, at_other, at_more, from_step, from-none, from-unlisted, longer-step, longer-none, pass-start, pass-lost, pass-found, pass-over}
 
 -- ---- what was found, taken apart
 
-lost-is : {run : List ℕ} {n : ℕ} {x : Hunted} {r : Hit} {m : Bool} → Hunts run n x r → r ≡ Err m → x ≡ gone m
-lost-is {m = n} (none {m = k} p) e = let i : k ≡ n = cc in p ∙ ap gone i
+lost-is : {run : List ℕ} {n : ℕ} {x : Hunted} {r : Hit} {m : Missed} → Hunts run n x r → r ≡ Err m → x ≡ gone (met_in m)
+lost-is {m = n} (none {m = k} p) e = let i : k ≡ n = cc in p ∙ ap (λ (j : Missed). gone (met_in j)) i
 lost-is (one p) e = let z : ◌≡◌ {A = ℕ} 0 1 = cc in absurd (omega arith)
 
 found-is : {run : List ℕ} {n : ℕ} {x : Hunted} {r : Hit} → Hunts run n x r → r ≡ Ok tt → x ≡ hits (take n run)
@@ -48,16 +50,27 @@ found-is (one p) e = p
 
 -- ---- one entry
 
+pub both-is : {r : Move} {o p : Option Bool} → r ≡ Ok o → o ≡ p → r ≡ Ok p
+both-is e f = e ∙ ap Ok f
+
+pub none-of : (o : Option Bool) (d e : Missed) → ok_or o d ≡ Err e → (o ≡ None) × (e ≡ d)
+none-of None d e h = (refl, cc)
+none-of (Some b) d e h = let z : ◌≡◌ {A = ℕ} 0 1 = cc in absurd (omega arith)
+
+pub some-of : (o : Option Bool) (d : Missed) (b : Bool) → ok_or o d ≡ Ok b → o ≡ Some b
+some-of None d b h = let z : ◌≡◌ {A = ℕ} 0 1 = cc in absurd (omega arith)
+some-of (Some a) d b h = cc
+
 module _ {m : Resolved.Model} {x : List ℕ} {s : State} {e : ℕ} {zs zs' : List ℤ} (more : ℕ) (run : List ℕ) where
-  pub entry-idle : {r : Move} → Takes m x s e zs zs' r → r ≡ move.Idle → Hunts run (more + 1) (hunt_at (moves_to m x) s more e) (Err false)
+  pub entry-idle : {r : Move} → Takes m x s e zs zs' r → r ≡ Ok None → Hunts run (more + 1) (hunt_at (moves_to m x) s more e) (Err Nothing)
   unfolding way_found
   entry-idle {r} t q = none (at-idle (moves_to m x) s more e (ap (λ (u : Move). way_found u t.after) (sym q) ∙ t.way))
 
-  pub entry-refused : {r : Move} → Takes m x s e zs zs' r → r ≡ move.Refused → Hunts run (more + 1) (hunt_at (moves_to m x) s more e) (Err true)
+  pub entry-refused : {r : Move} {f : Refusal} → Takes m x s e zs zs' r → r ≡ Err f → Hunts run (more + 1) (hunt_at (moves_to m x) s more e) (Err Unsure)
   unfolding way_found
   entry-refused {r} t q = none (at-refused (moves_to m x) s more e (ap (λ (u : Move). way_found u t.after) (sym q) ∙ t.way))
 
-  module _ {r : Move} (t : Takes m x s e zs zs' r) (h : Bool) (q : r ≡ move.Leads h) where
+  module _ {r : Move} (t : Takes m x s e zs zs' r) (h : Bool) (q : r ≡ Ok (Some h)) where
     leads-to : leads h t.after ≡ way_in (moves_to m x s) e
     unfolding way_found
     leads-to = ap (λ (u : Move). way_found u t.after) (sym q) ∙ t.way
@@ -69,7 +82,7 @@ module _ {m : Resolved.Model} {x : List ℕ} {s : State} {e : ℕ} {zs zs' : Lis
         by [] k = absurd (omega arith)
         by (y ∷ l) k = rw o (one (at-wait (moves_to m x) s e t.after (rw w at leads-to)))
 
-    pub entry_other : more ≡ 0 → h ≡ false → Hunts (set run 0 e) (more + 1) (hunt_at (moves_to m x) s more e) (Err false)
+    pub entry_other : more ≡ 0 → h ≡ false → Hunts (set run 0 e) (more + 1) (hunt_at (moves_to m x) s more e) (Err Nothing)
     entry_other o w = rw o (none (at_other (moves_to m x) s e t.after (rw w at leads-to)))
 
     behind-is : 1 ≤ more → hunt_at (moves_to m x) s more e ≡ behind_hunted e (hunt_from (moves_to m x) t.after (more - 1) 0)
@@ -98,20 +111,20 @@ moves-are : (m : Resolved.Model) (x : List ℕ) (s : State) (es : List Entry) �
 unfolding moves_to moves_of
 moves-are m x s es l = rw l refl
 
-module _ (m : Resolved.Model) (x : List ℕ) (s : State) (es : List Entry) (l : listing m s ≡ entries_are es) (more e : ℕ) (met : Bool)
-    (i : hunt_from (moves_to m x) s more 0 ≡ or_else (gone met) (hunt_from (moves_to m x) s more e)) where
+module _ (m : Resolved.Model) (x : List ℕ) (s : State) (es : List Entry) (l : listing m s ≡ entries_are es) (more e : ℕ) (met : Missed)
+    (i : hunt_from (moves_to m x) s more 0 ≡ or_else (gone (met_in met)) (hunt_from (moves_to m x) s more e)) where
   step_of : e < length es → hunt_from (moves_to m x) s more e ≡ or_else (hunt_at (moves_to m x) s more e) (hunt_from (moves_to m x) s more (e + 1))
   step_of k = from_step (moves_to m x) s more e (map (way_of m x s es) es) (moves-are m x s es l) (simp length-map k)
 
-  pub all-lost : (run : List ℕ) (n : ℕ) (r : Hit) (k b : Bool) → e < length es → Hunts run n (hunt_at (moves_to m x) s more e) r → r ≡ Err k → b ≡ (met || k)
-      → hunt_from (moves_to m x) s more 0 ≡ or_else (gone b) (hunt_from (moves_to m x) s more (e + 1))
-  all-lost run n r k b j h q o = pass-lost _ _ _ _ met k b i (step_of j) (lost-is h q) o
+  pub all-lost : (run : List ℕ) (n : ℕ) (r : Hit) (k b : Missed) → e < length es → Hunts run n (hunt_at (moves_to m x) s more e) r → r ≡ Err k → b ≡ joined met k
+      → hunt_from (moves_to m x) s more 0 ≡ or_else (gone (met_in b)) (hunt_from (moves_to m x) s more (e + 1))
+  all-lost run n r k b j h q o = pass-lost _ _ _ _ (met_in met) (met_in k) (met_in b) i (step_of j) (lost-is h q) (ap met_in o ∙ met-joined met k)
 
   pub all_found : (run : List ℕ) (n : ℕ) (r : Hit) → e < length es → Hunts run n (hunt_at (moves_to m x) s more e) r → r ≡ Ok tt → Hunts run n (hunt_from (moves_to m x) s more 0) (Ok tt)
-  all_found run n r j h q = one (pass-found _ _ _ _ met (take n run) i (step_of j) (found-is h q))
+  all_found run n r j h q = one (pass-found _ _ _ _ (met_in met) (take n run) i (step_of j) (found-is h q))
 
   pub all-over : (run : List ℕ) (n : ℕ) → length es ≤ e → Hunts run n (hunt_from (moves_to m x) s more 0) (Err met)
-  all-over run n j = none (pass-over _ _ met i (from-none (moves_to m x) s more e (map (way_of m x s es) es) (moves-are m x s es l) (simp length-map j)))
+  all-over run n j = none (pass-over _ _ (met_in met) i (from-none (moves_to m x) s more e (map (way_of m x s es) es) (moves-are m x s es l) (simp length-map j)))
 
 pub all_start : (m : Resolved.Model) (x : List ℕ) (s : State) (more : ℕ) → hunt_from (moves_to m x) s more 0 ≡ or_else (gone false) (hunt_from (moves_to m x) s more 0)
 all_start m x s more = pass-start (hunt_from (moves_to m x) s more 0)
@@ -134,14 +147,13 @@ world-of {root = root} {variables = variables} {m = m} h s = record {
   numbers = s.numbers;
 }
 
-pub seek-refused : (m : Resolved.Model) (x : List ℕ) (s : State) (more : ℕ) (run : List ℕ) (b : List ℕ) (r : Listed) (n p c : ℕ) → buffer.Lists (listing m s) r b → r ≡ Err (refused n p c)
-    → Hunts run (more + 1) (hunt_from (moves_to m x) s more 0) (Err true)
-unfolding moves_to moves_of listed_answer
-seek-refused m x s more run b r n p c h q = none (from-unlisted (moves_to m x) s more 0 (by (listing m s) h.answer))
+pub seek-refused : (m : Resolved.Model) (x : List ℕ) (s : State) (more : ℕ) (run : List ℕ) (b : List ℕ) (r : Outcome) (e : listing_refusal.Refusal) → buffer.Lists (listing m s) r b → r ≡ Err e
+    → Hunts run (more + 1) (hunt_from (moves_to m x) s more 0) (Err Unsure)
+unfolding moves_to moves_of
+seek-refused m x s more run b r e h q = none (from-unlisted (moves_to m x) s more 0 (by (rw q at h.answer)))
   where
-    by : (l : machine.Listed) → r ≡ listed_answer l → moves_of m x s l ≡ unlisted
-    by (entries_are es) e = absurd (let z : ◌≡◌ {A = ℕ} 0 1 = cc in omega arith)
-    by (refused_with a) e = refl
+    by : {l : machine.Listed} → buffer.Answers l (Err e) → moves_of m x s l ≡ unlisted
+    by (buffer.Answers.refuses a) = refl
 
 -- the entries that were listed
 pub record Filling (b : List ℕ) (m : Resolved.Model) (s : State) (count : ℕ) : Type 0 where
@@ -150,17 +162,13 @@ pub record Filling (b : List ℕ) (m : Resolved.Model) (s : State) (count : ℕ)
   pub numbers : b ≡ filled_numbers entries
   pub count-is : count ≡ length entries
 
-abbrev count_in : Listed → ℕ
-count_in (Ok (count, sum)) = count
-count_in (Err r) = 0
-
-pub seek-filled : (m : Resolved.Model) (s : State) (b : List ℕ) (r : Listed) (count sum : ℕ) → buffer.Lists (listing m s) r b → r ≡ Ok (count, sum) → Filling b m s count
-unfolding listed_answer listing_numbers
-seek-filled m s b r count sum h q = by (listing m s) refl h.answer h.numbers
+pub seek-filled : (m : Resolved.Model) (s : State) (b : List ℕ) (r : Outcome) (x : Listed) → buffer.Lists (listing m s) r b → r ≡ Ok x → Filling b m s x.count
+unfolding listing_numbers
+seek-filled m s b r x h q = by (listing m s) refl (rw q at h.answer) h.numbers
   where
-    by : (l : machine.Listed) → listing m s ≡ l → r ≡ listed_answer l → b ≡ listing_numbers l → Filling b m s count
-    by (entries_are es) k e f = record { entries = es; listed = k; numbers = f; count-is = sym (ap count_in q) ∙ ap count_in e }
-    by (refused_with a) k e f = absurd (let z : ◌≡◌ {A = ℕ} 0 1 = cc in omega arith)
+    by : (l : machine.Listed) → listing m s ≡ l → buffer.Answers l (Ok x) → b ≡ listing_numbers l → Filling b m s x.count
+    by (entries_are es) k (buffer.Answers.counts n t) f = record { entries = es; listed = k; numbers = f; count-is = n }
+    by (refused_with a) k y f = elim y [ ]
 
 -- there are few entries
 pub few-entries : {l : List ℕ} {m : Resolved.Model} {s : State} {es : List Entry} → Lists l m s es → length es ≤ entry_limit
@@ -168,21 +176,25 @@ few-entries {m = m} {s = s} {es = es} h = ((accepted m s es).0 h.listed).2
 
 -- ---- one length after the other
 
-module _ (m : Resolved.Model) (x : List ℕ) (s : State) (d more : ℕ) (met : Bool) (i : hunt_longer (moves_to m x) s d 0 ≡ or_else (gone met) (hunt_longer (moves_to m x) s d more)) where
-  pub longer-lost : (run : List ℕ) (n : ℕ) (r : Hit) (k b : Bool) → more < d → Hunts run n (hunt_from (moves_to m x) s more 0) r → r ≡ Err k → b ≡ (met || k)
-      → hunt_longer (moves_to m x) s d 0 ≡ or_else (gone b) (hunt_longer (moves_to m x) s d (more + 1))
-  longer-lost run n r k b l h q o = pass-lost _ _ _ _ met k b i (longer-step (moves_to m x) s d more l) (lost-is h q) o
+-- no run: none, or 27
+ended : (m : Missed) (a : Answer) (run : List ℕ) → a ≡ ending (met_in m) → Answered a (Err m) run
+unfolding ending
+ended Nothing a run e = no_run e
+ended Unsure a run e = not_known e
 
-  pub longer-found : (run : List ℕ) (r : Hit) → more + 1 ≤ length run → more < d → Hunts run (more + 1) (hunt_from (moves_to m x) s more 0) r → r ≡ Ok tt → Answered (search (moves_to m x) s d) (walked.Found (more + 1)) run
+module _ (m : Resolved.Model) (x : List ℕ) (s : State) (d more : ℕ) (met : Missed) (i : hunt_longer (moves_to m x) s d 0 ≡ or_else (gone (met_in met)) (hunt_longer (moves_to m x) s d more)) where
+  pub longer-lost : (run : List ℕ) (n : ℕ) (r : Hit) (k b : Missed) → more < d → Hunts run n (hunt_from (moves_to m x) s more 0) r → r ≡ Err k → b ≡ joined met k
+      → hunt_longer (moves_to m x) s d 0 ≡ or_else (gone (met_in b)) (hunt_longer (moves_to m x) s d (more + 1))
+  longer-lost run n r k b l h q o = pass-lost _ _ _ _ (met_in met) (met_in k) (met_in b) i (longer-step (moves_to m x) s d more l) (lost-is h q) (ap met_in o ∙ met-joined met k)
+
+  pub longer-found : (run : List ℕ) (r : Hit) → more + 1 ≤ length run → more < d → Hunts run (more + 1) (hunt_from (moves_to m x) s more 0) r → r ≡ Ok tt → Answered (search (moves_to m x) s d) (Ok (more + 1)) run
   unfolding hunt_answer
   longer-found run r w l h q =
-      a-run w (search_is (moves_to m x) s d ∙ ap hunt_answer (pass-found _ _ _ _ met (take (more + 1) run) i (longer-step (moves_to m x) s d more l) (found-is h q)))
+      a-run w (search_is (moves_to m x) s d ∙ ap hunt_answer (pass-found _ _ _ _ (met_in met) (take (more + 1) run) i (longer-step (moves_to m x) s d more l) (found-is h q)))
 
-  pub longer-over : (run : List ℕ) (r : Walked) → d ≤ more → ((l : List ℕ) → Answered (ending met) r l) → Answered (search (moves_to m x) s d) r run
+  pub longer-over : (run : List ℕ) → d ≤ more → Answered (search (moves_to m x) s d) (Err met) run
   unfolding hunt_answer
-  longer-over run r l f =
-      let e : search (moves_to m x) s d ≡ ending met = search_is (moves_to m x) s d ∙ ap hunt_answer (pass-over _ _ met i (longer-none (moves_to m x) s d more l)) in
-      rw e (f run)
+  longer-over run l = ended met _ run (search_is (moves_to m x) s d ∙ ap hunt_answer (pass-over _ _ (met_in met) i (longer-none (moves_to m x) s d more l)))
 
 pub longer-start : (m : Resolved.Model) (x : List ℕ) (s : State) (d : ℕ) → hunt_longer (moves_to m x) s d 0 ≡ or_else (gone false) (hunt_longer (moves_to m x) s d 0)
 longer-start m x s d = pass-start (hunt_longer (moves_to m x) s d 0)
@@ -208,7 +220,7 @@ room-tail more zs l run zs' run' a b k h =
     rw (tail-mid state_length zs', tail-mid listing_length l, tail-mid 1 run') (record { states = simp length-drop (omega arith); listings = simp length-drop (omega arith); entries = simp length-drop (omega arith) })
 
 -- the state after an entry stands first in the rows behind the first
-pub stands-tail : {m : Resolved.Model} {x : List ℕ} {s : State} {e : ℕ} {zs zs' : List ℤ} {r : Move} (t : Takes m x s e zs zs' r) (h : Bool) → r ≡ move.Leads h
+pub stands-tail : {m : Resolved.Model} {x : List ℕ} {s : State} {e : ℕ} {zs zs' : List ℤ} {r : Move} (t : Takes m x s e zs zs' r) (h : Bool) → r ≡ Ok (Some h)
     → Stands (mid_of state_length (length zs' - state_length) zs') m t.after
 stands-tail {zs' = zs'} t h q = rw (tail-mid state_length zs') (record { good = (t.second h q).0; numbers = (t.second h q).1 })
 
@@ -231,10 +243,10 @@ module _ {state : List ℤ} {m : Resolved.Model} {s : State} (h : enter.Stands s
   pub start-length : length state ≡ state_length
   start-length = ap length h.numbers ∙ state-length m h.good s h.state
 
-  pub start-stands : (rest : List ℤ) → Stands (take state_length state ++ rest) m s
+  pub start-stands : (rest : List ℤ) → Stands (state ++ rest) m s
   start-stands rest = record {
     good = h.state;
-    numbers = take_at (take state_length state) rest state_length (length-take-le state_length state (omega (arith, start-length))) ∙ take_all state_length state (omega (arith, start-length)) ∙ h.numbers;
+    numbers = take_at state rest state_length start-length ∙ h.numbers;
   }
 
 -- room in the tables of a search

@@ -1,6 +1,8 @@
 -- The first run to the wait of what a walk comes upon, or whether it meets a refusal (02, notes 8 and 9), said so that it joins over parts of the walk. Definitions only.
 use Rattle.std.specs.Prelude.{◌≡◌, List, [], ◌∷◌, Bool, true, false, ◌||◌, ℕ, suc, ◌-◌, take, Result, Ok, Err}
 use Rattle.runs.specs.Tree.{Listed, way_in, Answer, found}
+use Rattle.search.specs.declared.Missed.{Missed}
+use Rattle.search.specs.Walks.{met_in}
 use Rattle.runs.specs.Walk.{Event, meets, reaches, of_way, events, events_from, levels, ending}
 
 -- no run to the wait, and whether a refusal was met; or the first
@@ -43,11 +45,11 @@ module _ {S : Type 0} (ways : S → Listed S) where
   unfoldable pub hunt_longer : (s : S) (d n : ℕ) → Hunted
   hunt_longer s d n = hunted (levels ways s (suc n) (d - n))
 
--- a run to the wait; or none, and whether a refusal was met
+-- a run to the wait; or why there is none
 abbrev pub Hit : Type 0
-Hit = Result (Unit {0}) Bool
+Hit = Result (Unit {0}) Missed
 
 -- x is what was found; a run stands in the first n numbers
 pub data Hunts (run : List ℕ) (n : ℕ) : Hunted → Hit → Type 0 where
-  none : {x : Hunted} {m : Bool} → x ≡ gone m → Hunts run n x (Err m)
+  none : {x : Hunted} {m : Missed} → x ≡ gone (met_in m) → Hunts run n x (Err m)
   one : {x : Hunted} → x ≡ hits (take n run) → Hunts run n x (Ok tt)

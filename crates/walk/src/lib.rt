@@ -13,17 +13,26 @@ ghost use Rattle.machine.specs.Machine.{listing_length, depth_limit, is_sought, 
 ghost use Rattle.step.specs.Enter as Enter;
 ghost use Rattle.search.specs.Walks.{Answered};
 ghost use Rattle.walk.specs.Hunted.{hunt_at, hunt_from, hunt_longer, Hunts};
-ghost use Rattle.walk.specs.Held.{Held, Seen, Stands, Lists, Room, Takes};
+ghost use Rattle.walk.specs.Held.{Holds, Sees, Stands, Lists, Room, Takes};
 
-use search::Walked;
+use listing::Entry;
+use search::Missed;
 use tables::Tables;
 
-// A text's bytes, and where its tokens stand.
+// A text's bytes, and where its tokens stand. Places and sizes are two columns, as the reading's table of tokens is: rows of both would be a copy of it.
 #[derive(Clone, Copy)]
 pub struct Written<'a> {
     pub text: &'a [u8],
     pub places: &'a [u16],
     pub sizes: &'a [u16],
+}
+
+// What is searched: the tables of a model with its text, and for which name's wait.
+#[derive(Clone, Copy)]
+pub struct Search<'a> {
+    pub tables: Tables<'a>,
+    pub written: Written<'a>,
+    pub name: &'a [u8],
 }
 
 #[derive(Clone, Copy)]
@@ -49,17 +58,9 @@ impl Level {
     pub const FRESH: usize = step::Room::FRESH;
 }
 
-// What taking an entry comes to: it has weight zero; 17 to 19; or it is taken, and whether it is the wait.
-#[derive(Clone, Copy)]
-pub enum Move {
-    Idle,
-    Refused,
-    Leads(bool),
-}
-
 // ---- the wait of a name
 
-// Number n of a table, 0 beyond its end.
+// Number n of a table, 0 beyond its end: a name for the chain that both columns are read by, as eval's `cell_at` is of cells. It gives a usize of a u16, so that it isn't one of eval's two.
 fn number_at(table: &[u16], n: usize) -> usize
     ensures { result ≡ get_or table.now n 0 }
 {
@@ -78,253 +79,182 @@ fn is_named(written: Written, token: usize, name: &[u8]) -> bool
 }
 
 // Whether a listed entry is the wait of this name.
-fn is_sought(
-    tables: Tables,
-    written: Written,
-    name: &[u8],
-    state: &[i64],
-    kind: u64,
-    place: usize,
-    branch: usize,
-) -> bool
-    requires { (m : Resolved.Model) × (s : State) × (k : ℕ) × (n : ℕ) × (q : ℕ) × (w : ℕ) × Seen tables.nodes.now tables.roots.now tables.scopes.now written.text.now written.places.now written.sizes.now state.now kind place branch m s k n q w }
-    ensures { (m : Resolved.Model) (s : State) (k n q w : ℕ) → Seen tables.entry.nodes.now tables.entry.roots.now tables.entry.scopes.now written.entry.text.now written.entry.places.now written.entry.sizes.now state.now kind place branch m s k n q w → result ≡ is_sought m name.now s (key kind place branch k n q) }
+fn is_sought(search: Search, state: &[i64], entry: Entry) -> bool
+    requires { (m : Resolved.Model) × (s : State) × (k : ℕ) × (n : ℕ) × (q : ℕ) × (w : ℕ) × Sees search state.now entry.kind entry.place entry.branch m s k n q w }
+    ensures { (m : Resolved.Model) (s : State) (k n q w : ℕ) → Sees search.entry state.now entry.kind entry.place entry.branch m s k n q w → result ≡ is_sought m search.entry.name.now s (key entry.kind entry.place entry.branch k n q) }
 {
-    if kind != listing::EntryKind::WAIT {
+    if entry.kind != listing::EntryKind::WAIT {
         return false;
     }
-    let token = step::wait_token(tables, state, place, branch);
-    is_named(written, token, name)
+    let token = step::wait_token(search.tables, state, entry.place, entry.branch);
+    is_named(search.written, token, search.name)
 }
 
 // ---- one entry
 
-// The second row becomes the first.
-fn copy_row(states: &mut [i64])
-    requires { state_length + state_length ≤ length states.old }
-    ensures { states.new ≡ take state_length states.old ++ take state_length states.old ++ drop (state_length + state_length) states.old }
-{
-    let (first, rest) = states.split_at_mut(Level::STATE);
-    rest[..Level::STATE].copy_from_slice(first);
-}
-
-// Takes entry e of the first state: the second becomes the one after it. Rows are slices, as parts of the tables along a run.
+// Takes entry e of the first state: the second becomes the one after it. None if it has weight zero, else whether it is the wait.
 fn take_at(
-    tables: Tables,
-    written: Written,
-    name: &[u8],
+    search: Search,
     states: &mut [i64],
     listing: &[u64],
     e: usize,
-) -> Move
-    requires { ((m : Resolved.Model) × (s : State) × (es : List rules.Entry) × Held tables.nodes.now tables.roots.now tables.scopes.now tables.root tables.variables written.text.now written.places.now written.sizes.now m × Stands states.old m s × Lists listing.now m s es × (e < length es)) × (state_length + state_length ≤ length states.old) × (length listing.now ≡ listing_length) }
-    ensures { (m : Resolved.Model) (s : State) (es : List rules.Entry) → Held tables.entry.nodes.now tables.entry.roots.now tables.entry.scopes.now tables.entry.root tables.entry.variables written.entry.text.now written.entry.places.now written.entry.sizes.now m → Stands states.old m s → Lists listing.now m s es → e < length es → Takes m name.now s e states.old states.new result }
+) -> Result<Option<bool>, step::Refusal>
+    requires { ((m : Resolved.Model) × (s : State) × (es : List rules.Entry) × Holds search m × Stands states.old m s × Lists listing.now m s es × (e < length es)) × (state_length + state_length ≤ length states.old) × (length listing.now ≡ listing_length) }
+    ensures { (m : Resolved.Model) (s : State) (es : List rules.Entry) → Holds search.entry m → Stands states.old m s → Lists listing.now m s es → e < length es → Takes m search.entry.name.now s e states.old states.new result }
 {
     let entry = listing::entry_at(listing, e);
-    let weight = entry.weight;
-    if weight == 0 {
-        return Move::Idle;
+    if entry.weight == 0 {
+        return Ok(None);
     }
-    let wait = is_sought(
-        tables,
-        written,
-        name,
-        &states[..Level::STATE],
-        entry.kind,
-        entry.place,
-        entry.branch,
-    );
-    copy_row(states);
+    let wait = is_sought(search, &states[..Level::STATE], entry);
+    states.copy_within(..Level::STATE, Level::STATE);
     let mut fresh = [0i64; Level::FRESH];
-    let taken = step::take_row(
-        tables,
+    step::take_row(
+        search.tables,
         &mut states[Level::STATE..Level::PAIR],
         &mut fresh,
         listing,
         e,
-    );
-    match taken {
-        Ok(()) => Move::Leads(wait),
-        Err(_) => Move::Refused,
-    }
+    )?;
+    Ok(Some(wait))
 }
 
 // ---- from run to run
+// Along a run of eight entries there are nine states, eight listings and the run that the caller is given: rows of all three would have a ninth listing, whose 57 KB would be cleared and never used.
 
-// The first run of `more` and one more entries to the wait that begins with entry e; or none, and whether a refusal was met.
+// The first run of `more` and one more entries to the wait that begins with entry e.
 #[cycle(seek_try_all_try_entry)]
 fn try_entry(
-    tables: Tables,
-    written: Written,
-    name: &[u8],
+    search: Search,
     states: &mut [i64],
     listings: &mut [u64],
     run: &mut [u16],
     more: usize,
     e: usize,
-) -> Result<(), bool>
-    requires { ((m : Resolved.Model) × (s : State) × (es : List rules.Entry) × Held tables.nodes.now tables.roots.now tables.scopes.now tables.root tables.variables written.text.now written.places.now written.sizes.now m × Stands states.old m s × Lists listings.old m s es × (e < length es)) × Room (more + 1) states.old listings.old run.old }
-    ensures { ((m : Resolved.Model) (s : State) (es : List rules.Entry) → Held tables.entry.nodes.now tables.entry.roots.now tables.entry.scopes.now tables.entry.root tables.entry.variables written.entry.text.now written.entry.places.now written.entry.sizes.now m → Stands states.old m s → Lists listings.old m s es → e < length es → Hunts run.new (more + 1) (hunt_at (moves_to m name.now) s more e) result) × (take state_length states.new ≡ take state_length states.old) × (take listing_length listings.new ≡ take listing_length listings.old) }
+) -> Result<(), Missed>
+    requires { ((m : Resolved.Model) × (s : State) × (es : List rules.Entry) × Holds search m × Stands states.old m s × Lists listings.old m s es × (e < length es)) × Room (more + 1) states.old listings.old run.old }
+    ensures { ((m : Resolved.Model) (s : State) (es : List rules.Entry) → Holds search.entry m → Stands states.old m s → Lists listings.old m s es → e < length es → Hunts run.new (more + 1) (hunt_at (moves_to m search.entry.name.now) s more e) result) × (take state_length states.new ≡ take state_length states.old) × (take listing_length listings.new ≡ take listing_length listings.old) }
 {
-    let taken = take_at(
-        tables,
-        written,
-        name,
-        states,
-        &listings[..Level::LISTING],
-        e,
-    );
-    match taken {
-        Move::Idle => Err(false),
-        Move::Refused => Err(true),
-        Move::Leads(wait) => {
-            run[0] = e as u16;
-            if more == 0 {
-                if wait {
-                    return Ok(());
-                }
-                return Err(false);
-            }
-            seek(
-                tables,
-                written,
-                name,
-                &mut states[Level::STATE..],
-                &mut listings[Level::LISTING..],
-                &mut run[1..],
-                more - 1,
-            )
+    let taken = take_at(search, states, &listings[..Level::LISTING], e);
+    // A let-else: whichever refusal a step meets, the search is unsure.
+    let Ok(moved) = taken else {
+        return Err(Missed::Unsure);
+    };
+    let wait = moved.ok_or(Missed::Nothing)?;
+    run[0] = e as u16;
+    if more == 0 {
+        if wait {
+            return Ok(());
         }
+        return Err(Missed::Nothing);
     }
+    seek(
+        search,
+        &mut states[Level::STATE..],
+        &mut listings[Level::LISTING..],
+        &mut run[1..],
+        more - 1,
+    )
 }
 
 // The same of all n entries.
 #[cycle(seek_try_all_try_entry)]
 fn try_all(
-    tables: Tables,
-    written: Written,
-    name: &[u8],
+    search: Search,
     states: &mut [i64],
     listings: &mut [u64],
     run: &mut [u16],
     more: usize,
     n: usize,
-) -> Result<(), bool>
-    requires { ((m : Resolved.Model) × (s : State) × (es : List rules.Entry) × Held tables.nodes.now tables.roots.now tables.scopes.now tables.root tables.variables written.text.now written.places.now written.sizes.now m × Stands states.old m s × Lists listings.old m s es × (n ≡ length es)) × Room (more + 1) states.old listings.old run.old }
-    ensures { ((m : Resolved.Model) (s : State) (es : List rules.Entry) → Held tables.entry.nodes.now tables.entry.roots.now tables.entry.scopes.now tables.entry.root tables.entry.variables written.entry.text.now written.entry.places.now written.entry.sizes.now m → Stands states.old m s → Lists listings.old m s es → n ≡ length es → Hunts run.new (more + 1) (hunt_from (moves_to m name.now) s more 0) result) × (take state_length states.new ≡ take state_length states.old) }
+) -> Result<(), Missed>
+    requires { ((m : Resolved.Model) × (s : State) × (es : List rules.Entry) × Holds search m × Stands states.old m s × Lists listings.old m s es × (n ≡ length es)) × Room (more + 1) states.old listings.old run.old }
+    ensures { ((m : Resolved.Model) (s : State) (es : List rules.Entry) → Holds search.entry m → Stands states.old m s → Lists listings.old m s es → n ≡ length es → Hunts run.new (more + 1) (hunt_from (moves_to m search.entry.name.now) s more 0) result) × (take state_length states.new ≡ take state_length states.old) }
 {
-    let mut met = false;
+    let mut missed = Missed::Nothing;
     for e in 0..n {
-        let tried = try_entry(tables, written, name, states, listings, run, more, e);
+        let tried = try_entry(search, states, listings, run, more, e);
         match tried {
             Ok(()) => return Ok(()),
-            Err(m) => met |= m,
+            Err(m) => missed = missed.and(m),
         }
     }
-    Err(met)
+    Err(missed)
 }
 
 // The same of a state that is still to be listed.
 #[cycle(seek_try_all_try_entry)]
 fn seek(
-    tables: Tables,
-    written: Written,
-    name: &[u8],
+    search: Search,
     states: &mut [i64],
     listings: &mut [u64],
     run: &mut [u16],
     more: usize,
-) -> Result<(), bool>
-    requires { ((m : Resolved.Model) × (s : State) × Held tables.nodes.now tables.roots.now tables.scopes.now tables.root tables.variables written.text.now written.places.now written.sizes.now m × Stands states.old m s) × Room (more + 1) states.old listings.old run.old }
-    ensures { ((m : Resolved.Model) (s : State) → Held tables.entry.nodes.now tables.entry.roots.now tables.entry.scopes.now tables.entry.root tables.entry.variables written.entry.text.now written.entry.places.now written.entry.sizes.now m → Stands states.old m s → Hunts run.new (more + 1) (hunt_from (moves_to m name.now) s more 0) result) × (take state_length states.new ≡ take state_length states.old) }
+) -> Result<(), Missed>
+    requires { ((m : Resolved.Model) × (s : State) × Holds search m × Stands states.old m s) × Room (more + 1) states.old listings.old run.old }
+    ensures { ((m : Resolved.Model) (s : State) → Holds search.entry m → Stands states.old m s → Hunts run.new (more + 1) (hunt_from (moves_to m search.entry.name.now) s more 0) result) × (take state_length states.new ≡ take state_length states.old) }
 {
     let listed = listing::list_here(
-        tables,
+        search.tables,
         &states[..Level::STATE],
         &mut listings[..Level::LISTING],
     );
     match listed {
-        Err(_) => Err(true),
-        Ok((count, _)) => try_all(tables, written, name, states, listings, run, more, count),
+        Err(_) => Err(Missed::Unsure),
+        Ok(l) => try_all(search, states, listings, run, more, l.count),
     }
 }
 
 // ---- the search
 
-// No run: none, or 27.
-fn ended(met: bool) -> Walked
-    ensures { (run : List ℕ) → Answered (walk.ending met) result run }
-{
-    if met {
-        return Walked::Unsure;
-    }
-    Walked::Nothing
-}
-
-// The first run to the wait from the first state, by length.
+// The length of the first run to the wait from the first state, by length.
 fn search_from(
-    tables: Tables,
-    written: Written,
-    name: &[u8],
+    search: Search,
     states: &mut [i64],
     listings: &mut [u64],
     run: &mut [u16],
     depth: usize,
-) -> Walked
-    requires { ((m : Resolved.Model) × (s : State) × Held tables.nodes.now tables.roots.now tables.scopes.now tables.root tables.variables written.text.now written.places.now written.sizes.now m × Stands states.old m s) × Room depth states.old listings.old run.old }
-    ensures { (m : Resolved.Model) (s : State) → Held tables.entry.nodes.now tables.entry.roots.now tables.entry.scopes.now tables.entry.root tables.entry.variables written.entry.text.now written.entry.places.now written.entry.sizes.now m → Stands states.old m s → Answered (walk.search (moves_to m name.now) s depth) result run.new }
+) -> Result<usize, Missed>
+    requires { ((m : Resolved.Model) × (s : State) × Holds search m × Stands states.old m s) × Room depth states.old listings.old run.old }
+    ensures { (m : Resolved.Model) (s : State) → Holds search.entry m → Stands states.old m s → Answered (walk.search (moves_to m search.entry.name.now) s depth) result run.new }
 {
-    let mut met = false;
+    let mut missed = Missed::Nothing;
     for more in 0..depth {
-        let hit = seek(tables, written, name, states, listings, run, more);
+        let hit = seek(search, states, listings, run, more);
         match hit {
-            Ok(()) => return Walked::Found(more + 1),
-            Err(m) => met |= m,
+            Ok(()) => return Ok(more + 1),
+            Err(m) => missed = missed.and(m),
         }
     }
-    ended(met)
+    Err(missed)
 }
 
 // The same from a state that is lent, in lent tables.
 fn search_in(
-    tables: Tables,
-    written: Written,
+    search: Search,
     state: &[i64],
-    name: &[u8],
     states: &mut [i64],
     listings: &mut [u64],
     run: &mut [u16],
     depth: usize,
-) -> Walked
-    requires { ((m : Resolved.Model) × (s : State) × Held tables.nodes.now tables.roots.now tables.scopes.now tables.root tables.variables written.text.now written.places.now written.sizes.now m × Enter.Stands state.now m s) × Room depth states.old listings.old run.old }
-    ensures { (m : Resolved.Model) (s : State) → Held tables.entry.nodes.now tables.entry.roots.now tables.entry.scopes.now tables.entry.root tables.entry.variables written.entry.text.now written.entry.places.now written.entry.sizes.now m → Enter.Stands state.now m s → Answered (walk.search (moves_to m name.now) s depth) result run.new }
+) -> Result<usize, Missed>
+    requires { ((m : Resolved.Model) × (s : State) × Holds search m × Enter.Stands state.now m s) × Room depth states.old listings.old run.old }
+    ensures { (m : Resolved.Model) (s : State) → Holds search.entry m → Enter.Stands state.now m s → Answered (walk.search (moves_to m search.entry.name.now) s depth) result run.new }
 {
-    state::put(states, state, Level::STATE);
-    search_from(tables, written, name, states, listings, run, depth)
+    states[..Level::STATE].copy_from_slice(state);
+    search_from(search, states, listings, run, depth)
 }
 
-// Notes 8 and 9: the first run of at most `depth` entries from a state to the wait of this name, none, or 27.
+// Notes 8 and 9: the length of the first run of at most `depth` entries from a state to the wait of this name, none, or 27.
 pub fn search_model(
-    tables: Tables,
-    written: Written,
+    search: Search,
     state: &[i64],
-    name: &[u8],
     depth: usize,
     run: &mut [u16; Level::DEPTH],
-) -> Walked
-    requires { ((m : Resolved.Model) × (s : State) × Held tables.nodes.now tables.roots.now tables.scopes.now tables.root tables.variables written.text.now written.places.now written.sizes.now m × Enter.Stands state.now m s) × (depth ≤ depth_limit) }
-    ensures { (m : Resolved.Model) (s : State) → Held tables.entry.nodes.now tables.entry.roots.now tables.entry.scopes.now tables.entry.root tables.entry.variables written.entry.text.now written.entry.places.now written.entry.sizes.now m → Enter.Stands state.now m s → Answered (walk.search (moves_to m name.now) s depth) result run.new }
+) -> Result<usize, Missed>
+    requires { ((m : Resolved.Model) × (s : State) × Holds search m × Enter.Stands state.now m s) × (depth ≤ depth_limit) }
+    ensures { (m : Resolved.Model) (s : State) → Holds search.entry m → Enter.Stands state.now m s → Answered (walk.search (moves_to m search.entry.name.now) s depth) result run.new }
 {
     let mut states = [0i64; Level::STATES];
     let mut listings = [0u64; Level::LISTINGS];
-    search_in(
-        tables,
-        written,
-        state,
-        name,
-        &mut states,
-        &mut listings,
-        run,
-        depth,
-    )
+    search_in(search, state, &mut states, &mut listings, run, depth)
 }

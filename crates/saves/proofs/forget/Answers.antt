@@ -1,22 +1,34 @@
 -- Each answer is a case of the definition; the row of the place becomes zeros.
-use mathlib.Core.Path.{refl, sym, ◌∙◌}
-use Prim.Native.Nat.{◌+◌, ◌-◌, ◌*◌}
+use mathlib.Core.Path.{refl, sym, ap₂, ◌∙◌}
+use Prim.Native.Nat.{◌+◌, ◌-◌, ◌*◌, ℕ}
 use native.Mathlib.Omega.{arith}
-use Rattle.machine.specs.Saves.{save_limit, place_width}
-use Rattle.saves.proofs.Laws.{below-none, below-some, forget-unnamed, forget-unknown, forget-put}
+use Rattle.std.specs.Result.{result_ok}
+use Rattle.std.proofs.lemmas.Result.{err_from_is_err_and}
+use mathlib.Core.List.{List}
+use lib.IntN.{ℤ}
+use Rattle.machine.specs.Saves.{first_of, save_limit, key_width, timed_length, place_width}
+use Rattle.saves.specs.Places.{has_key}
+use Rattle.saves.specs.Change.{below}
+use Rattle.saves.proofs.Laws.{ok-none, ok-some, below-none, below-some, forget-unnamed, forget-unknown, forget-put}
 use Rattle.saves.proofs.forget.Goals as goal
 
-pub returns-in_default : goal.returns-in_default
-returns-in_default c =
-    λ zs. forget-unnamed c.args.name.now zs c.args.saves.now (sym c.in_default.is ∙ c.key_of.ensures)
+pub returns-in_err-key : goal.returns-in_err-key
+returns-in_err-key c =
+    λ zs.
+    let p = err_from_is_err_and c.from_residual.result c.from_residual.ensures.1 in
+    let o = ok-none _ _ _ (sym c.ok_or.ensures.value ∙ c.in_err-key.was) in
+    rw (p.1, p.2, o.1) (forget-unnamed c.args.name.now zs c.args.saves.now (o.0 ∙ c.key_of.ensures))
 
-pub returns-in_default-find_place : goal.returns-in_default-find_place
-returns-in_default-find_place c =
-    λ zs. forget-unknown c.args.name.now zs c.args.saves.now c.in-Some.key (sym c.in-Some.is ∙ c.key_of.ensures) _ refl (below-none save_limit _ (sym c.in_default-find_place.is ∙ c.find_place.ensures.place))
+pub returns-in_err-at : goal.returns-in_err-at
+returns-in_err-at c =
+    λ zs.
+    let p = err_from_is_err_and c.from_residual-in_err-at.result c.from_residual-in_err-at.ensures.1 in
+    let o = ok-none _ _ _ (sym c.ok_or-2.ensures.value ∙ c.in_err-at.was) in
+    rw (p.1, p.2, o.1) (forget-unknown c.args.name.now zs c.args.saves.now _ (ok-some _ _ _ (sym c.ok_or.ensures.value ∙ c.in_ok-key.was) ∙ c.key_of.ensures) _ refl (below-none save_limit _ (o.0 ∙ c.find_place.ensures.place ∙ ap₂ (λ (n : ℕ) (rs : List (List ℤ)). below n (first_of (has_key c.in_ok-key.key) rs)) c.places_in.ensures.1 c.places_in.ensures.0)))
 
 pub returns : goal.returns
 returns c =
     λ zs.
-    let at = c.in-Some-find_place.at in
-    let b = below-some save_limit _ at (sym c.in-Some-find_place.is ∙ c.find_place.ensures.place) in
-    forget-put c.args.name.now zs c.args.saves.now c.in-Some.key (sym c.in-Some.is ∙ c.key_of.ensures) at b.0 b.1 c.requires (at * place_width + place_width - at * place_width) (omega arith) _ c.clear_state.ensures
+    let b = below-some save_limit _ _ (ok-some _ _ _ (sym c.ok_or-2.ensures.value ∙ c.in_ok-at.was) ∙ c.find_place.ensures.place ∙ ap₂ (λ (n : ℕ) (rs : List (List ℤ)). below n (first_of (has_key c.in_ok-key.key) rs)) c.places_in.ensures.1 c.places_in.ensures.0) in
+    let at = c.in_ok-at.at in
+    forget-put c.args.name.now zs c.args.saves.now _ (ok-some _ _ _ (sym c.ok_or.ensures.value ∙ c.in_ok-key.was) ∙ c.key_of.ensures) at b.0 b.1 c.requires (at * place_width + place_width - at * place_width) (omega arith) _ (c.fill.ensures.after (λ y e. e))

@@ -17,7 +17,7 @@ returns-then-x-b c =
     let y = get_or c.args.b.now c.loop-i.i (pos 0) in
     let f : SFits w64 x = search rules in
     let g : SFits w64 y = search rules in
-    rw (to_z-of_z f, to_z-of_z g) (sym (less-apart c.args.a.now c.args.b.now c.loop-i.i c.requires c.loop-i.invariant (omega arith) (sym (same_bits x y f g) ∙ ne_eqb _ _ c.if-x-b.true)))
+    rw (to_z-of_z f, to_z-of_z g) (sym (less-apart c.args.a.now c.args.b.now c.loop-i.i (omega arith) c.loop-i.invariant (omega arith) (sym (same_bits x y f g) ∙ ne_eqb _ _ c.if-x-b.true)))
 
 pub loop-i-preserved : goal.loop-i-preserved
 loop-i-preserved c =
@@ -25,7 +25,7 @@ loop-i-preserved c =
     let y = get_or c.args.b.now c.loop-i.i (pos 0) in
     let f : SFits w64 x = search rules in
     let g : SFits w64 y = search rules in
-    less-on c.args.a.now c.args.b.now c.loop-i.i c.requires c.loop-i.invariant (omega arith) (sym (same_bits x y f g) ∙ eq-eqb _ _ c.if-x-b.false)
+    less-on c.args.a.now c.args.b.now c.loop-i.i (omega arith) c.loop-i.invariant (omega arith) (sym (same_bits x y f g) ∙ eq-eqb _ _ c.if-x-b.false)
 
 pub returns : goal.returns
-returns c = sym (less_done c.args.a.now c.args.b.now c.loop-i.i c.requires c.loop-i.invariant (omega arith))
+returns c = sym (less_done c.args.a.now c.args.b.now c.loop-i.i (omega arith) c.loop-i.invariant (omega arith))

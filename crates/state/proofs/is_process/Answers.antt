@@ -31,7 +31,7 @@ bounds-shape-sum c =
 pub is_padded-requires : goal.is_padded-requires
 is_padded-requires c =
     let w : c.locals_in.result ≡ locals_in (get_or c.args.shape.scopes.now (nat_abs (get_or c.args.row.now 0 (pos 0))) 0) = rw (back (get_or c.args.row.now 0 (pos 0)) c.z-1.given) at c.locals_in.ensures in
-    simp (length-take, length-drop) (omega (arith, w, few-locals c.args.shape.scopes.now (nat_abs (get_or c.args.row.now 0 (pos 0))) c.args.shape.few (below-bound (length c.args.shape.scopes.now) (get_or c.args.row.now 0 (pos 0)) (rw (back (get_or c.args.row.now 0 (pos 0)) c.z-1.given) at (sym c.is_below.ensures) ∙ passed c.is_below.result c.if-not-is_below.false-raw)), c.requires))
+    simp (length-take, length-drop) (omega (arith, w, few-locals c.args.shape.scopes.now (nat_abs (get_or c.args.row.now 0 (pos 0))) c.args.shape.few (below-bound (length c.args.shape.scopes.now) (get_or c.args.row.now 0 (pos 0)) (rw (back (get_or c.args.row.now 0 (pos 0)) c.z-1.given) at (sym c.is_below.ensures) ∙ passed c.is_below.result c.if-not-is_below.false-raw))))
 
 pub returns-then-not-is_padded : goal.returns-then-not-is_padded
 returns-then-not-is_padded c =

@@ -2,7 +2,7 @@
 use mathlib.Core.Path.{sym, ap, ◌∙◌}
 use native.Mathlib.Omega.{arith}
 use lib.IntN.{pos, nat_abs}
-use lib.ListN.{get_or, take, length-take, length-drop}
+use lib.ListN.{get_or, length-take, length-drop}
 use Rattle.state.specs.Change.{pairs_from}
 use Rattle.value.proofs.Kit.{back, ok-fits}
 use Rattle.state.specs.Test.{are_pairs}

@@ -3,8 +3,9 @@ use Rattle.model.specs.Resolved
 use Rattle.rules.specs.Listing.{Entry}
 use Rattle.machine.specs.State.{State, state_length}
 use Rattle.machine.specs.Machine.{listing_length, moves_to}
+use Rattle.search.specs.Walks.{met_in}
 use Rattle.walk.specs.Hunted.{gone, or_else, hunt_from}
-use Rattle.walk.specs.Held.{Held, Stands, Lists}
+use Rattle.walk.specs.Held.{Holds, Stands, Lists}
 use mathlib.Core.Path.{◌≡◌}
 use mathlib.Core.List.{List}
 use Prim.Native.Nat.{◌+◌, ◌*◌}
@@ -23,5 +24,5 @@ decreases-try_entry l = 3 * l.more
 abbrev pub invariant-try_all-loop-e : goal.invariant-try_all-loop-e
 invariant-try_all-loop-e l =
     (take state_length l.states ≡ take state_length l.initial.states) × (take listing_length l.listings ≡ take listing_length l.initial.listings) × (length l.states ≡ length l.initial.states) × (length l.listings ≡ length l.initial.listings) × (length l.run ≡ length l.initial.run)
-    × ((m : Resolved.Model) (s : State) (es : List Entry) → Held l.tables.nodes.now l.tables.roots.now l.tables.scopes.now l.tables.root l.tables.variables l.written.text.now l.written.places.now l.written.sizes.now m → Stands l.initial.states m s → Lists l.initial.listings m s es → l.n ≡ length es
-    → hunt_from (moves_to m l.name) s l.more 0 ≡ or_else (gone l.met) (hunt_from (moves_to m l.name) s l.more l.e))
+    × ((m : Resolved.Model) (s : State) (es : List Entry) → Holds l.search m → Stands l.initial.states m s → Lists l.initial.listings m s es → l.n ≡ length es
+    → hunt_from (moves_to m l.search.name.now) s l.more 0 ≡ or_else (gone (met_in l.missed)) (hunt_from (moves_to m l.search.name.now) s l.more l.e))

@@ -3,13 +3,13 @@ use Rattle.walk.proofs.Sought.{seen-acting, sought-other, sought-named}
 use mathlib.Core.Path.{sym}
 use Rattle.walk.proofs.is_sought.Goals as goal
 
-pub returns-then-kind-ne-WAIT : goal.returns-then-kind-ne-WAIT
-returns-then-kind-ne-WAIT c =
-    λ m s k n q w h. sym (sought-other h c.args.name.now c.if-kind-ne-WAIT.true)
+pub returns-then-entry-ne-WAIT : goal.returns-then-entry-ne-WAIT
+returns-then-entry-ne-WAIT c =
+    λ m s k n q w h. sym (sought-other h c.args.search.name.now c.if-entry-ne-WAIT.true)
 
 pub wait_token-token-requires : goal.wait_token-token-requires
 wait_token-token-requires c =
-    seen-acting c.requires.6 c.if-kind-ne-WAIT.false
+    seen-acting c.requires.6 c.if-entry-ne-WAIT.false
 
 pub is_named-requires : goal.is_named-requires
 is_named-requires c =
@@ -17,4 +17,4 @@ is_named-requires c =
 
 pub returns : goal.returns
 returns c =
-    λ m s k n q w h. sought-named h c.args.name.now c.wait_token-token.result c.is_named.result c.if-kind-ne-WAIT.false c.wait_token-token.ensures c.is_named.ensures
+    λ m s k n q w h. sought-named h c.args.search.name.now c.wait_token-token.result c.is_named.result c.if-entry-ne-WAIT.false c.wait_token-token.ensures c.is_named.ensures

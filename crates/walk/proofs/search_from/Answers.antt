@@ -7,7 +7,7 @@ use Rattle.walk.proofs.search_from.Goals as goal
 
 pub loop-more-init : goal.loop-more-init
 loop-more-init c =
-    (refl, refl, refl, refl, λ m s h st. longer-start m c.args.name.now s c.args.depth)
+    (refl, refl, refl, refl, λ m s h st. longer-start m c.args.search.name.now s c.args.depth)
 
 pub seek-hit-requires : goal.seek-hit-requires
 seek-hit-requires c =
@@ -24,7 +24,7 @@ returns-in-Ok c =
     λ m s h st.
     let j : c.loop-more.more < c.args.depth = omega arith in
     let u = c.seek-hit.ensures.0 m s h (stands-kept c.loop-more.invariant.0 st) in
-    longer-found m c.args.name.now s c.args.depth c.loop-more.more c.loop-more.met (c.loop-more.invariant.4 m s h st) _ _ (omega (arith, c.requires.1.entries, c.loop-more.invariant.3)) j u c.in-Ok.is
+    longer-found m c.args.search.name.now s c.args.depth c.loop-more.more c.loop-more.missed (c.loop-more.invariant.4 m s h st) _ _ (omega (arith, c.requires.1.entries, c.loop-more.invariant.3)) j u c.in-Ok.is
 
 pub loop-more-preserved : goal.loop-more-preserved
 loop-more-preserved c = (
@@ -35,9 +35,9 @@ loop-more-preserved c = (
   λ m s h st.
       let j : c.loop-more.more < c.args.depth = omega arith in
       let u = c.seek-hit.ensures.0 m s h (stands-kept c.loop-more.invariant.0 st) in
-      longer-lost m c.args.name.now s c.args.depth c.loop-more.more c.loop-more.met (c.loop-more.invariant.4 m s h st) _ _ _ _ _ j u c.in-Err.is refl,
+      longer-lost m c.args.search.name.now s c.args.depth c.loop-more.more c.loop-more.missed (c.loop-more.invariant.4 m s h st) _ _ _ _ _ j u c.in-Err.is c.and-missed.ensures,
 )
 
 pub returns : goal.returns
 returns c =
-    λ m s h st. longer-over m c.args.name.now s c.args.depth c.loop-more.more c.loop-more.met (c.loop-more.invariant.4 m s h st) _ _ (omega arith) c.ended.ensures
+    λ m s h st. longer-over m c.args.search.name.now s c.args.depth c.loop-more.more c.loop-more.missed (c.loop-more.invariant.4 m s h st) _ (omega arith)

@@ -1,26 +1,8 @@
--- Both bytes are below 256, so that the length is below 65,536.
-use mathlib.Core.Path.{refl}
+-- The first byte, and 256 times the second.
 use native.Mathlib.Omega.{arith}
 use Rattle.buffers.specs.Held.{length_in}
 use Rattle.store.proofs.buffer.text_length.Goals as goal
 
-pub overflow_cast-result : goal.overflow_cast-result
-overflow_cast-result c =
-    omega (arith, c.shared_slice_known-1.given 0)
-
-pub overflow_cast-result-2 : goal.overflow_cast-result-2
-overflow_cast-result-2 c =
-    omega (arith, c.shared_slice_known-1.given 0, c.shared_slice_known-1.given 1)
-
-pub overflow_mul-result : goal.overflow_mul-result
-overflow_mul-result c =
-    omega (arith, c.shared_slice_known-1.given 0, c.shared_slice_known-1.given 1)
-
-pub overflow_add-result : goal.overflow_add-result
-overflow_add-result c =
-    omega (arith, c.shared_slice_known-1.given 0, c.shared_slice_known-1.given 1)
-
 pub returns : goal.returns
 unfolding length_in
-returns c =
-    (refl, omega (arith, c.shared_slice_known-1.given 0, c.shared_slice_known-1.given 1))
+returns c = omega (arith, c.from.ensures, c.from_le_bytes.ensures)

@@ -8,10 +8,14 @@ use Rattle.value.proofs.Kit.{back}
 use Rattle.store.proofs.Nodes.{whole-held, whole_is}
 use Rattle.store.proofs.start.whole_at.Goals as goal
 
-pub eval_node-requires : goal.eval_node-requires
+pub invariant_of-context : goal.invariant_of-context
 unfolding Every
+invariant_of-context c =
+    record { in_range = tt }
+
+pub eval_node-requires : goal.eval_node-requires
 eval_node-requires c =
-    (whole-held c.args.nodes.now c.args.k c.requires, tt)
+    whole-held c.args.nodes.now c.args.k c.requires
 
 pub returns : goal.returns
 returns c =

@@ -14,7 +14,9 @@ use Rattle.waits.specs.ByRuns.{Waits}
 use Rattle.waits.proofs.Same.{by_runs}
 use Rattle.clock.specs.declared.Clock.{Clock}
 use Rattle.clock.specs.declared.Late.{Late}
-use Rattle.clock.specs.declared.Late.TheVariants.{Ended, Long, Past}
+use Rattle.clock.specs.declared.Late.TheVariants.{Past}
+use Rattle.clock.specs.declared.Late.TheVariants as late
+use Rattle.waits.specs.declared.Unread.TheVariants as unread
 use Rattle.clock.specs.Clock.{clock_limit, ticks_of, late_number, Brought, forwarded, waited, brought_by}
 use Rattle.machine.specs.State.{State, state_numbers}
 use Rattle.machine.specs.Timed.{Timed, timed}
@@ -57,8 +59,8 @@ goes c ds sum k e = by (wait_of ds) ((by_runs ds (wait_of ds)).1 refl) e
     by (Err l) w e = absurd (cc)
 
 late-above : (l : Late) → late_number l ≡ 0 → ⊥
-late-above Ended e = omega arith
-late-above Long e = omega arith
+late-above (late.Wait unread.Ended) e = omega arith
+late-above (late.Wait unread.Long) e = omega arith
 late-above Past e = omega arith
 
 module _ (ds : List ℕ) (s : State) (c : Clock) (t : Turn State) where

@@ -9,7 +9,7 @@ use borrow.Author.Tests.{eq-eqb, ne_eqb}
 use lib.Dec.{eqb, leb}
 use lib.IntN.{ℤ}
 use lib.ListN.{length, get_elem?, replicate}
-use Rattle.std.specs.Prelude.{Err, Ok, None, Some}
+use Rattle.std.specs.Prelude.{Result, Err, Ok, None, Some}
 use Rattle.model.specs.Resolved
 use Rattle.rules.specs.Rules.{Key}
 use Rattle.rules.specs.Listing.{Entry, key_of}
@@ -17,10 +17,10 @@ use Rattle.rules.specs.Draw.{weights, total, chosen}
 use Rattle.machine.specs.State.{State, state_numbers}
 use Rattle.machine.specs.Machine as machine
 use Rattle.machine.specs.Machine.{listing_length, total_limit, no, listed_as, Listed, entries_are, refused_with, Turn, refusing, accepting, entry_arguments, entry_state, taken, drawn, turn, choosing, steps_with, on_state, step', acts, two_parts, on_machine}
-use Rattle.listing.specs.Buffer.{rows, entry_in, filled_numbers, listed_answer, Lists, weights_in, chosen_answer, refused, Chosen}
+use Rattle.listing.specs.Buffer.{rows, entry_in, filled_numbers, Answers as Tells, weights_in, chosen_answer, Outcome, Chosen}
 use Rattle.listing.specs.Buffer as buffer
 use Rattle.step.specs.declared.Refusal.TheVariants.{Arguments, Processes, Pairs}
-use Rattle.step.specs.Enter.{verdict, Answers, Taken}
+use Rattle.step.specs.Enter.{verdict, refusal_number, Answers, Taken}
 use Rattle.step.specs.Entries.{Counted, Row}
 use Rattle.step.proofs.Rows.{chose, chose_none}
 use Rattle.step.proofs.Answered.{taken-state}
@@ -28,13 +28,24 @@ use Rattle.buffers.specs.Listing.{shown}
 use Rattle.buffers.specs.Parts.{lent_two}
 use Rattle.buffers.specs.Effect.{machine_over, leaves, requested}
 use Rattle.engine.specs.declared.Answer.{Answer}
-use Rattle.engine.specs.Gives.{Gives, bare, filled}
+use Rattle.engine.specs.declared.Told.{Told}
+use Rattle.engine.specs.declared.Refusal.{Refusal}
+use Rattle.engine.specs.declared.Refusal.TheVariants.{NotHeld, Listing}
+use Rattle.engine.specs.Gives.{Gives, filled, refusal_answer}
 use Rattle.store.specs.Tables.{Tables, Whole}
-use Rattle.engine.specs.Tables.{Finds, closed, holding}
-use Rattle.engine.specs.Steps.{taken_answer, Left}
+use Rattle.engine.specs.Tables.{told_by, Finds, closed, holding}
+use Rattle.engine.specs.Steps.{Left}
 use Rattle.store.proofs.Tables.{left-two}
 use Rattle.engine.proofs.Shows.{filled-numbers, Refuses, entries as entries_of, refuses, listing-is, eleven-gives}
-use Rattle.running.proofs.Parts.{refused_number, refused_place, refused_branch, ok_first, ok_second}
+
+-- what was told
+pub told_is : {t u : Told} → ◌≡◌ {A = Result Told Refusal} (Ok t) (Ok u) → t ≡ u
+told_is e = cc e
+
+-- 01, Listing and stepping: acceptance, with the entry that was taken, or 17 to 19
+abbrev pub taken_answer : Taken → (count sum chosen : ℕ) → Answer
+taken_answer (Ok u) count sum chosen = filled 0 count sum chosen
+taken_answer (Err r) count sum chosen = filled (refusal_number r) count sum 0
 
 -- ---- 15, 16 and the entry that the draw chooses
 module _ (m : Resolved.Model) (s : State) (es : List Entry) (d : ℕ) where
@@ -58,7 +69,7 @@ asked : (a b d : Bool) (s s' : State) (es : List Entry) (c : ℕ)
     → let t = cond a (cond b (cond d (accepting s' es c) (refusing s es 19)) (refusing s es 18)) (refusing s es 17) in
     let r = cond {A = Taken} a (cond b (cond d (Ok tt) (Err Pairs)) (Err Processes)) (Err Arguments) in
     taken_answer r (length es) (total (weights es)) c ≡ filled t.answer.number t.answer.count t.answer.total t.answer.chosen
-unfolding listed_as taken_answer
+unfolding listed_as
 asked true true true s s' es c = refl
 asked true true false s s' es c = refl
 asked true false d s s' es c = refl
@@ -139,21 +150,20 @@ module _ (bs : List ℕ) (zs : List ℤ) (l : List ℕ) (d : ℕ) where
   })
 
   -- 01, 12 to 14: zero the listing
-  choosing-gives : length l ≡ listing_length → (m : Resolved.Model) (s : State) {x : Listed} → Refuses x → state_numbers s ≡ zs → (n p c : ℕ) (b : List ℕ) → Err (refused n p c) ≡ listed_answer x → b ≡ buffer.listing_numbers x
-      → Gives (leaves two_parts (lent_two bs zs) l (turn (machine.holding (machine.held m (choosing m s d x).machine)) (choosing m s d x).answer)) (bare n p c) (lent_two bs zs) b
-  unfolding leaves choosing no shown listed_answer buffer.listing_numbers
-  choosing-gives long m s entries_of e n p c b q f = let z : ◌≡◌ {A = ℕ} 0 1 = cc in absurd (omega arith)
-  choosing-gives long m s (refuses i j k) e n p c b q f =
-      record { number = refused_number q; place = refused_place q; branch = refused_branch q; count = refl; total = refl; chosen = refl; buffers = left-two bs zs zs m s (sym e); output = f ∙ ap (λ (i : ℕ). replicate i 0) (sym long) }
+  choosing-gives : length l ≡ listing_length → (m : Resolved.Model) (s : State) {x : Listed} → Refuses x → state_numbers s ≡ zs → (r : Refusal) (y : Outcome) (b : List ℕ) → Err r ≡ told_by y → Tells x y → b ≡ buffer.listing_numbers x
+      → Gives (leaves two_parts (lent_two bs zs) l (turn (machine.holding (machine.held m (choosing m s d x).machine)) (choosing m s d x).answer)) (refusal_answer r) (lent_two bs zs) b
+  unfolding leaves choosing no shown buffer.listing_numbers
+  choosing-gives long m s entries_of e r y b q (buffer.Answers.counts n t) f = let z : ◌≡◌ {A = ℕ} 0 1 = cc in absurd (omega arith)
+  choosing-gives long m s (refuses i j k) e r y b q (buffer.Answers.refuses {r = w} a) f =
+      let p : r ≡ Listing w = cc q in
+      rw p (record { number = a.number; place = a.place; branch = a.branch; count = refl; total = refl; chosen = refl; buffers = left-two bs zs zs m s (sym e); output = f ∙ ap (λ (i : ℕ). replicate i 0) (sym long) })
 
-  pub refused-gives : length l ≡ listing_length → (m : Resolved.Model) (n p c : ℕ) (b : List ℕ) → Finds m zs l (Err (refused n p c)) b → Gives (requested (step' d) (lent_two bs zs) l (some m)) (bare n p c) (lent_two bs zs) b
+  pub refused-gives : length l ≡ listing_length → (m : Resolved.Model) (r : Refusal) (b : List ℕ) → Finds m zs l (Err r) b → Gives (requested (step' d) (lent_two bs zs) l (some m)) (refusal_answer r) (lent_two bs zs) b
   unfolding requested on_machine acts on_state steps_with
-  refused-gives long m n p c b (closed e q f) =
-      let i : n ≡ 11 = refused_number q in
-      let j : p ≡ 0 = refused_place q in
-      let k : c ≡ 0 = refused_branch q in
-      rw (e bs, i, j, k, f) (eleven-gives (step' d) (lent_two bs zs) l)
-  refused-gives long m n p c b (holding {s} e g z h) = rw (e bs) (choosing-gives long m s (listing-is m s) (sym z) n p c b h.answer h.numbers)
+  refused-gives long m r b (closed e q f) =
+      let p : r ≡ NotHeld = cc q in
+      rw (e bs, p, f) (eleven-gives (step' d) (lent_two bs zs) l)
+  refused-gives long m r b (holding {s} {x} e g z q h) = rw (e bs) (choosing-gives long m s (listing-is m s) (sym z) r x b q h.answer h.numbers)
 
 -- ---- a listing that is found
 pub record Found (t roots scopes : List ℕ) (root variables : ℕ) (zs : List ℤ) (b : List ℕ) (count sum : ℕ) (m : Resolved.Model) : Type 0 where
@@ -167,14 +177,14 @@ module _ (t roots scopes : List ℕ) (root variables sums channels : ℕ) (m : R
   pub tables-of : Tables t roots scopes sums channels m
   tables-of = record { root = root; variables = variables; definitions = w.definitions; represents = w.represents; good = w.good }
 
-  pub found : (zs : List ℤ) (l : List ℕ) (count sum : ℕ) (b : List ℕ) → Finds m zs l (Ok (count, sum)) b → Found t roots scopes root variables zs b count sum m
-  unfolding listed_answer buffer.listing_numbers filled_numbers
-  found zs l count sum b (closed e q f) = let z : ◌≡◌ {A = ℕ} 0 1 = cc in absurd (omega arith)
-  found zs l count sum b (holding {s} e g z h) = go (machine.listing m s) refl h
+  pub found : (zs : List ℤ) (l : List ℕ) (y : Told) (b : List ℕ) → Finds m zs l (Ok y) b → Found t roots scopes root variables zs b y.count y.total m
+  unfolding buffer.listing_numbers filled_numbers
+  found zs l y b (closed e q f) = let z : ◌≡◌ {A = ℕ} 0 1 = cc in absurd (omega arith)
+  found zs l y b (holding {s} {x} e g z q h) = go (machine.listing m s) refl h.numbers x h.answer q
     where
-      go : (x : Listed) → machine.listing m s ≡ x → Lists x (Ok (count, sum)) b → Found t roots scopes root variables zs b count sum m
-      go (refused_with a) q k = let y : ◌≡◌ {A = ℕ} 0 1 = cc k.answer in absurd (omega arith)
-      go (entries_are es) q k = record {
+      go : (v : Listed) → machine.listing m s ≡ v → b ≡ buffer.listing_numbers v → (x : Outcome) → Tells v x → Ok y ≡ told_by x → Found t roots scopes root variables zs b y.count y.total m
+      go (refused_with a) q f x (buffer.Answers.refuses d) k = let z : ◌≡◌ {A = ℕ} 0 1 = cc in absurd (omega arith)
+      go (entries_are es) q f x (buffer.Answers.counts n u) k = record {
         state = s;
         entries = es;
         holds = e;
@@ -183,12 +193,12 @@ module _ (t roots scopes : List ℕ) (root variables sums channels : ℕ) (m : R
             lent = record { definitions = w.definitions; sums = sums; channels = channels; represents = w.represents; stands = record { good = w.good; state = g; numbers = z } };
             listed = q;
             rest = replicate (listing_length - length es * 7) 0;
-            numbers = k.numbers;
+            numbers = f;
           };
-          count-is = ok_first k.answer;
-          sum_is = ok_second k.answer;
+          count-is = ap (λ (t : Told). t.count) (told_is k) ∙ n;
+          sum_is = ap (λ (t : Told). t.total) (told_is k) ∙ u;
         };
-        filled = k.numbers;
+        filled = f;
       }
 
 pub found-gives : (bs : List ℕ) {t roots scopes : List ℕ} {root variables : ℕ} {zs : List ℤ} {b : List ℕ} {count sum : ℕ} {m : Resolved.Model} (l : List ℕ) (d : ℕ) (f : Found t roots scopes root variables zs b count sum m) (r : Answer) (ys : List ℤ)

@@ -21,7 +21,8 @@ use Rattle.machine.proofs.Lent.{both_true}
 use Rattle.buffers.specs.Held.{held_in}
 use Rattle.buffers.specs.Parts.{Engine, lent_two, lent_three, lent_all}
 use Rattle.buffers.specs.Effect.{Effect, machine_over, machine_in, untouched, requested, answered, effect}
-use Rattle.engine.specs.Gives.{Gives, bare, are_parts_long, are_long, are_all_long}
+use Rattle.simulation.specs.Comes.{are_parts_long}
+use Rattle.engine.specs.Gives.{Gives, bare, are_long, are_all_long}
 
 -- 01: 1 changes nothing
 pub untouched-gives : (x : Engine) (l : List ℕ) → Gives (untouched x l) (bare 1 0 0) x l

@@ -7,7 +7,8 @@ use native.Mathlib.Omega.{arith}
 use lib.IntN.{ℤ, pos}
 use lib.ListN.{length, replicate}
 use Rattle.std.specs.Prelude.{Err, Ok}
-use Rattle.token.specs.Questions.{text_limit, refusal}
+use Rattle.token.specs.declared.Refusal.{Refusal}
+use Rattle.token.specs.Questions.{text_limit, question_number}
 use Rattle.clock.specs.Clock.{fresh_clock}
 use Rattle.model.specs.Resolved
 use Rattle.model.specs.Opening.{Opening, refused, opened}
@@ -24,6 +25,7 @@ use Rattle.buffers.specs.Effect.{opens_with, answered}
 use Rattle.engine.specs.Gives.{Gives, bare}
 use Rattle.store.specs.Start as start
 use Rattle.settle.specs.declared.Model.{Model}
+use Rattle.opening.specs.declared.Accepted.{Accepted}
 use Rattle.opening.specs.Models.{ModelOpened, Opened}
 use Rattle.steady.specs.declared.Profile.{Profile}
 use Rattle.steady.specs.declared.Profile.TheVariants.{Plain, Steady}
@@ -32,18 +34,18 @@ use Rattle.engine.specs.Asks.{ask_under}
 
 module _ (text t roots scopes : List ℕ) where
   -- ---- opening
-  pub opened-is : (q : Profile) {r : Opened} {x : Model} {k : ℕ} → OpensUnder q text t roots scopes r → r ≡ Ok (x, k) → OpenedUnder q text t roots scopes x k
+  pub opened-is : (q : Profile) {r : Opened} {o : Accepted} → OpensUnder q text t roots scopes r → r ≡ Ok o → OpenedUnder q text t roots scopes o.model o.processes
   unfolding OpensUnder
-  opened-is q o e = rw e at o
+  opened-is q d e = rw e at d
 
-  pub refused-is : (q : Profile) {r : Opened} {n p : ℕ} → OpensUnder q text t roots scopes r → r ≡ Err (refusal n p) → opening_under q text ≡ refused n p
+  pub refused-is : (q : Profile) {r : Opened} {x : Refusal} → OpensUnder q text t roots scopes r → r ≡ Err x → opening_under q text ≡ refused (question_number x.question) x.place
   unfolding OpensUnder
   refused-is q o e = rw e at o
 
   pub short : {x : Model} {k : ℕ} → ModelOpened text t roots scopes x k → length text ≤ text_limit
   short o = opened-short text o.model o.opens
 
-  pub starts : {x : Model} {k : ℕ} (o : ModelOpened text t roots scopes x k) → start.Opens t scopes x.root x.variables x.definitions o.model
+  pub starts : {x : Model} {k : ℕ} (o : ModelOpened text t roots scopes x k) → start.Opens t scopes x.lists.root x.lists.variables x.lists.definitions o.model
   starts o = record {
     good = opened-good text o.model o.opens;
     scoped = record { fit = omega (arith, o.shown.sums-are, o.shown.scopes-fit); are = o.shown.scope };

@@ -10,7 +10,7 @@ use Rattle.machine.specs.Machine.{no, search', on', Part, has_lengths}
 use Rattle.buffers.specs.Parts.{Engine, lent_two}
 use Rattle.buffers.specs.Effect.{untouched, answered, effect}
 use Rattle.searching.specs.Run.{entries_of, bare, GivesRun}
-use Rattle.engine.specs.Gives.{are_parts_long}
+use Rattle.simulation.specs.Comes.{are_parts_long}
 use Rattle.engine.proofs.Lengths.{parts_are}
 
 untouched-run : (x : Engine) → GivesRun (untouched x []) (bare 1) x

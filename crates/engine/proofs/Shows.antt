@@ -8,6 +8,7 @@ use native.Mathlib.Omega.{arith}
 use lib.Dec.{leb}
 use lib.IntN.{ℤ}
 use lib.ListN.{length, take, replicate}
+use Rattle.std.specs.Prelude.{Result}
 use Rattle.model.specs.Resolved
 use Rattle.model.specs.Limits.{branch_limit}
 use Rattle.model.specs.Good.{GoodSum}
@@ -21,15 +22,17 @@ use Rattle.machine.specs.Machine.{Listed, entries_are, refused_with, zeroed, no,
 use Rattle.machine.proofs.Everys.{every_in, in-every}
 use Rattle.state.specs.Test.{is_state}
 use Rattle.offers.specs.Collect.{FewBranches, World}
-use Rattle.listing.specs.Buffer.{rows, filled_numbers, listed_answer, Lists, Listed as Found}
+use Rattle.listing.specs.Buffer.{rows, filled_numbers, Answers, Lists, Outcome as Found}
 use Rattle.listing.specs.Buffer as buffer
 use Rattle.buffers.specs.Listing.{entry_numbers, entries_numbers, listing_numbers, shown}
 use Rattle.buffers.specs.Parts.{Engine, lent_two}
 use Rattle.buffers.specs.Effect.{machine_over, left_in, leaves, requested}
-use Rattle.engine.specs.Gives.{Gives, bare}
+use Rattle.engine.specs.declared.Told.{Told}
+use Rattle.engine.specs.declared.Refusal.{Refusal}
+use Rattle.engine.specs.Gives.{Gives, bare, answer_of}
 use Rattle.store.specs.Tables.{Tables}
 use Rattle.store.proofs.Tables.{state_of, numbers-back, state-good, left-two}
-use Rattle.engine.specs.Tables.{answer_of, Finds}
+use Rattle.engine.specs.Tables.{told_by, Finds}
 use Rattle.engine.specs.Tables as found
 
 -- ---- the tables, and the state that numbers which pass are those of
@@ -109,20 +112,20 @@ module _ (bs : List ℕ) (zs : List ℤ) (l : List ℕ) where
   abbrev x : Engine
   x = lent_two bs zs
 
-  listing-gives : length l ≡ listing_length → (m : Resolved.Model) (s : State) {k : Listed} → Refuses k → state_numbers s ≡ zs → (b : List ℕ) → b ≡ buffer.listing_numbers k
-      → Gives (leaves two_parts x l (turn (holding (held m (showing s k).machine)) (showing s k).answer)) (answer_of (listed_answer k)) x b
-  unfolding leaves showing no listed_as shown answer_of listed_answer buffer.listing_numbers
-  listing-gives long m s (entries {es}) e b f =
-      record { number = refl; place = refl; branch = refl; count = refl; total = refl; chosen = refl; buffers = left-two bs zs zs m s (sym e); output = f ∙ filled-numbers es }
-  listing-gives long m s (refuses n p c) e b f =
-      record { number = refl; place = refl; branch = refl; count = refl; total = refl; chosen = refl; buffers = left-two bs zs zs m s (sym e); output = f ∙ ap (λ (i : ℕ). replicate i 0) (sym long) }
+  listing-gives : length l ≡ listing_length → (m : Resolved.Model) (s : State) {k : Listed} → Refuses k → state_numbers s ≡ zs → (r : Found) → Answers k r → (b : List ℕ) → b ≡ buffer.listing_numbers k
+      → Gives (leaves two_parts x l (turn (holding (held m (showing s k).machine)) (showing s k).answer)) (answer_of (told_by r)) x b
+  unfolding leaves showing no listed_as shown buffer.listing_numbers
+  listing-gives long m s (entries {es}) e r (buffer.Answers.counts n t) b f =
+      record { number = refl; place = refl; branch = refl; count = n; total = t; chosen = refl; buffers = left-two bs zs zs m s (sym e); output = f ∙ filled-numbers es }
+  listing-gives long m s (refuses n p c) e r (buffer.Answers.refuses q) b f =
+      record { number = q.number; place = q.place; branch = q.branch; count = refl; total = refl; chosen = refl; buffers = left-two bs zs zs m s (sym e); output = f ∙ ap (λ (i : ℕ). replicate i 0) (sym long) }
 
   pub lists-give : length l ≡ listing_length → (m : Resolved.Model) (s : State) (r : Found) (b : List ℕ) → state_numbers s ≡ zs → Lists (machine.listing m s) r b
-      → Gives (leaves two_parts x l (on_machine list' (holding (held m s)))) (answer_of r) x b
+      → Gives (leaves two_parts x l (on_machine list' (holding (held m s)))) (answer_of (told_by r)) x b
   unfolding on_machine acts on_state lists
-  lists-give long m s r b e h = rw h.answer (listing-gives long m s (listing-is m s) e b h.numbers)
+  lists-give long m s r b e h = listing-gives long m s (listing-is m s) e r h.answer b h.numbers
 
-  pub finds-give : length l ≡ listing_length → (m : Resolved.Model) (r : Found) (b : List ℕ) → Finds m zs l r b → Gives (requested list' x l (some m)) (answer_of r) x b
-  unfolding answer_of requested
+  pub finds-give : length l ≡ listing_length → (m : Resolved.Model) (r : Result Told Refusal) (b : List ℕ) → Finds m zs l r b → Gives (requested list' x l (some m)) (answer_of r) x b
+  unfolding requested
   finds-give long m r b (found.closed e q f) = rw (e bs, q, f) (eleven-gives list' x l)
-  finds-give long m r b (found.holding {s} e g z h) = rw (e bs) (lists-give long m s r b (sym z) h)
+  finds-give long m r b (found.holding {s} {x = y} e g z q h) = rw (e bs, q) (lists-give long m s y b (sym z) h)

@@ -370,13 +370,13 @@ returned-no n zs ss c ks ks' ss' k a r p q e w z =
     record { answer = ap (λ (t : results.Timed). t.answer) p ∙ q ∙ ap (λ (k : ℕ). bare k 0 0) i; state = rw b refl; clock = rw b (ap (λ (t : results.Timed). t.clock) p) }
 
 pub returned-yes : (n : List ℕ) (zs ss : List ℤ) (c : Clock) (ks ks' ss' : List ℤ) (k : ℕ) (a : result.Answer) (b : Clock) (r : results.Timed) (ys : List ℤ) → r ≡ record { answer = a; clock = b } → a ≡ bare 0 0 0 → ks ≡ besides zs c
-    → Stores (returning_numbers n ks ss) k ks' ss' → k ≡ 0 → b ≡ clock_at (drop state_length ks') → ys ≡ take state_length ks' ++ drop state_length zs → length zs ≡ state_length → Returned (returning_numbers n (besides zs c) ss) zs c r ys
-returned-yes n zs ss c ks ks' ss' k a b r ys p q e w z f g h =
+    → Stores (returning_numbers n ks ss) k ks' ss' → k ≡ 0 → b ≡ clock_at (drop state_length ks') → ys ≡ take state_length ks' → Returned (returning_numbers n (besides zs c) ss) zs c r ys
+returned-yes n zs ss c ks ks' ss' k a b r ys p q e w z f g =
     let w' : Stores (returning_numbers n (besides zs c) ss) k ks' ss' = rw e at w in
     let i : eqb (returning_numbers n (besides zs c) ss).number 0 ≡ true = eq-eqb _ 0 (sym w'.number ∙ z) in
     record {
       answer = ap (λ (t : results.Timed). t.answer) p ∙ q ∙ ap (λ (k : ℕ). bare k 0 0) (sym z ∙ w'.number);
-      state = rw i (g ∙ ap (λ (l : List ℤ). take state_length ks' ++ l) (drop_of_length-le zs {i = state_length} (omega arith)) ∙ append-nil (take state_length ks') ∙ ap (take state_length) w'.kept);
+      state = rw i (g ∙ ap (take state_length) w'.kept);
       clock = rw i (ap (λ (t : results.Timed). t.clock) p ∙ f ∙ ap (λ (l : List ℤ). clock_at (drop state_length l)) w'.kept);
     }
 

@@ -31,7 +31,11 @@ use Rattle.buffers.proofs.Machines as machines
 use Rattle.buffers.proofs.Machines.{InTwo, both, in_two, machine-over}
 use Rattle.buffers.proofs.Clocks.{held_at, clocked, timed-in}
 use Rattle.engine.specs.declared.Answer as result
-use Rattle.engine.specs.Gives.{Gives, bare, filled, are_parts_long, are_long}
+use Rattle.simulation.specs.Comes.{are_parts_long}
+use Rattle.engine.specs.declared.Refusal.{Refusal}
+use Rattle.engine.specs.declared.Refusal.TheVariants.{Lengths, Text, NotHeld, Listing, Step, Save}
+use Rattle.running.proofs.Steps.{some-refusal}
+use Rattle.engine.specs.Gives.{Gives, bare, filled, refusal_answer, are_long}
 use Rattle.engine.specs.declared.Timed as results
 use Rattle.engine.specs.Waited.{after_wait, Waited}
 use Rattle.engine.proofs.Lengths.{untouched-gives}
@@ -244,6 +248,15 @@ module _ (bs : List ℕ) (zs : List ℤ) (c : Clock) (ds : List ℕ) (d : ℕ) (
         by machines.nothing q g = after-closed q (rw q at g)
         by (both m s) q g = unfold on_machine acts on_state in after-held m s q (rw q at g)
 
+-- an answer that has a total where its number is 0 is no refusal
+pub never-zero : (r : Refusal) → ((refusal_answer r).number ≡ 0 → 0 < (refusal_answer r).total) → (refusal_answer r).number ≡ 0 → ⊥
+never-zero Lengths f e = omega (arith, f e)
+never-zero (Text x) f e = omega (arith, f e)
+never-zero NotHeld f e = omega (arith, f e)
+never-zero (Listing x) f e = omega (arith, f e)
+never-zero (Step x c t) f e = some-refusal x e
+never-zero (Save x) f e = omega (arith, f e)
+
 -- ---- the functions' cases
 
 -- a result that is made of an answer and a clock
@@ -258,21 +271,15 @@ waited-yes a c k b b' before zs r e z p =
     record { timed = rw q p; state = rw q refl }
 
 -- numbers put over as many
-pub put-over : (n : ℕ) (xs ys : List ℤ) → length xs ≡ n → length ys ≡ n → take n xs ++ drop n ys ≡ xs
-put-over n xs ys h k = ap₂ (λ (a b : List ℤ). a ++ b) (take_all n xs (omega arith)) (drop_of_length-le ys {i = n} (omega arith)) ∙ append-nil xs
-
 pub waited-no : (a f : result.Answer) (c : Clock) (b b' : Brought) (l : Late) (n : ℕ) (before zs zs' : List ℤ) (r : results.Timed) → b' ≡ b → b' ≡ Err l → n ≡ late_number l → f ≡ filled n a.count a.total 0 → r ≡ record { answer = f; clock = c }
-    → length before ≡ state_length → length zs ≡ state_length → zs' ≡ take state_length before ++ drop state_length zs → Waited a c b before zs r zs'
+    → zs' ≡ before → Waited a c b before zs r zs'
 unfolding after_wait
-waited-no a f c b b' l n before zs zs' r e z i p g h k o =
+waited-no a f c b b' l n before zs zs' r e z i p g o =
     let q : b ≡ Err l = sym e ∙ z in
     record {
       timed = rw q (g ∙ ap (λ (f : result.Answer). record { answer = f; clock = c }) (p ∙ ap (λ (n : ℕ). filled n a.count a.total 0) i));
-      state = rw q (o ∙ put-over state_length before zs h k);
+      state = rw q o;
     }
 
 pub waited-from : {a : result.Answer} {c : Clock} {b : Brought} {before before' zs ys : List ℤ} {r : results.Timed} → before ≡ before' → Waited a c b before zs r ys → Waited a c b before' zs r ys
 waited-from {b = b} {zs = zs} e w = record { timed = w.timed; state = w.state ∙ ap (λ (l : List ℤ). cond (is_ok b) zs l) e }
-
-pub put-long : (n : ℕ) (xs ys zs : List ℤ) → zs ≡ take n xs ++ drop n ys → length xs ≡ n → length ys ≡ n → length zs ≡ n
-put-long n xs ys zs e h k = ap length (e ∙ put-over n xs ys h k) ∙ h

@@ -6,6 +6,8 @@ use Rattle.buffers.specs.Parts.{Engine}
 use Rattle.buffers.specs.Effect.{Effect}
 use Rattle.running.specs.declared.Progress.{Progress}
 use Rattle.running.specs.Progress.{end_number}
+use Rattle.engine.specs.declared.Refusal.{Refusal}
+use Rattle.engine.specs.Gives.{refusal_number}
 use Rattle.engine.specs.declared.Ran.{Ran}
 use Rattle.engine.specs.declared.Simulated.{Simulated}
 
@@ -15,6 +17,10 @@ simulated r c = record { ran = r; clock = c }
 -- what a run that has come so far gives
 abbrev pub told_of : Progress → Simulated
 told_of p = simulated (record { number = end_number p.end; steps = p.steps; words = p.words; waiting = p.waiting; count = p.count; total = p.total }) p.clock
+
+-- a run that doesn't begin leaves the clock
+abbrev pub unbegun : Refusal → Clock → Simulated
+unbegun r c = simulated (record { number = refusal_number r; steps = 0; words = 0; waiting = 0; count = 0; total = 0 }) c
 
 -- R.4 to R.7: the result r, the buffers x and the events l that were lent are those of the effect; a call that used nothing says 0
 pub record GivesRan (w : Effect) (r : Ran) (x : Engine) (l : List ℕ) : Type 0 where

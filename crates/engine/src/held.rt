@@ -13,10 +13,10 @@ ghost use Rattle.buffers.specs.Effect.{machine_in};
 ghost use Rattle.engine.specs.Gives.{bare, is_holding};
 ghost use Rattle.engine.specs.Waited.{Keeping, Returned};
 
-use crate::{Answer, Timed};
+use crate::{Answer, Refusal, Timed};
 use clock::Clock;
 use opening::Space;
-use saves::{Layout, Refusal};
+use saves::Layout;
 use state::Shape;
 use store::Engine;
 
@@ -25,10 +25,7 @@ fn holds_model(shape: Shape, state: &[i64], saves: &[i64]) -> bool
     requires { (length state.now ≡ state_length) × (length saves.now ≡ saves_length) }
     ensures { result ≡ (is_state shape.entry.scopes.now shape.entry.channels state.now && is_saves shape.entry.scopes.now shape.entry.channels saves.now) }
 {
-    if !state::is_state(state, shape) {
-        return false;
-    }
-    saves::is_saves(saves, shape)
+    state::is_state(state, shape) && saves::is_saves(saves, shape)
 }
 
 // Question 11 of buffers of the right lengths.
@@ -48,19 +45,16 @@ pub fn holds_all(model: &[u8], state: &[i64], saves: &[i64], clock: Clock) -> bo
     requires { (length model.now ≡ model_length) × (length state.now ≡ state_length) × (length saves.now ≡ saves_length) }
     ensures { result ≡ is_holding (machine_in four_parts (lent_all model.now state.now saves.now clock)) }
 {
-    if !clock::in_range(clock) {
-        return false;
-    }
-    holds(model, state, saves)
+    clock::in_range(clock) && holds(model, state, saves)
 }
 
 // What a call on the saves answers.
-pub fn stored_answer(done: Result<(), Refusal>) -> Answer
+pub fn stored_answer(done: Result<(), saves::Refusal>) -> Answer
     ensures { result ≡ bare (number_of done) 0 0 }
 {
     match done {
         Ok(()) => Answer::bare(0, 0, 0),
-        Err(refusal) => Answer::bare(refusal.number(), 0, 0),
+        Err(refusal) => Answer::from(Refusal::Save(refusal)),
     }
 }
 
@@ -72,9 +66,9 @@ pub fn return_held(state: &mut [i64], saves: &[i64], name: &[u8], clock: Clock) 
     let mut kept = [0i64; Layout::KEPT];
     saves::put_kept(&mut kept, &state[..], clock);
     if let Err(refusal) = saves::return_to(&mut kept, saves, name) {
-        return Timed::of(Answer::bare(refusal.number(), 0, 0), clock);
+        return Timed::of(Answer::from(Refusal::Save(refusal)), clock);
     }
-    state::put(state, &kept, Engine::STATE);
+    state.copy_from_slice(&kept[..Engine::STATE]);
     Timed::of(
         Answer::bare(0, 0, 0),
         saves::clock_at(&kept[Engine::STATE..]),

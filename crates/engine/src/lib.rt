@@ -10,15 +10,14 @@ pub mod subtotals;
 pub mod texts;
 pub mod waiting;
 
-ghost use Rattle.std.specs.Prelude.{◌≡◌, cond, [], length};
+ghost use Rattle.std.specs.Prelude.{◌≡◌, [], length};
 ghost use Rattle.machine.specs.State.{state_length};
 ghost use Rattle.machine.specs.Machine.{model_length, listing_length, list', step', report', timed', run', save', return', forget', open', open_steady', on'};
 ghost use Rattle.buffers.specs.Parts.{lent_two, lent_three, lent_timed, lent_all};
 ghost use Rattle.buffers.specs.Effect.{answered, effect};
-ghost use Rattle.independence.specs.Judged.{judged};
-ghost use Rattle.engine.specs.Gives.{bare, filled, Gives, are_parts_long, are_long, are_all_long};
+ghost use Rattle.engine.specs.Gives.{bare, filled, refusal_number, refusal_answer, accepted, answer_of, of_listing, of_text, of_run, untaken, Gives, are_long, are_all_long};
 ghost use Rattle.engine.specs.Waited.{timed};
-ghost use Rattle.engine.specs.Ran.{GivesRan, told_of};
+ghost use Rattle.engine.specs.Ran.{GivesRan, told_of, unbegun};
 ghost use Rattle.engine.specs.Asks.{ask_under};
 
 use clock::Clock;
@@ -26,6 +25,7 @@ use listings::List;
 use opening::Space;
 use running::Progress;
 use saves::Layout;
+use simulation::Asked;
 use steady::Profile;
 use store::Engine;
 use subtotals::Report;
@@ -69,6 +69,121 @@ impl Answer {
             count,
             total,
             chosen,
+        }
+    }
+}
+
+// Why a call is refused: a buffer hasn't its length; the text; the model, the state, the saves or the clock isn't held; the state's listing; a step over a listing
+// of so many entries and this total; the name of a save.
+#[derive(Clone, Copy)]
+pub enum Refusal {
+    Lengths,
+    Text(token::Refusal),
+    NotHeld,
+    Listing(listing::Refusal),
+    Step(running::Refusal, usize, u64),
+    Save(saves::Refusal),
+}
+
+impl Refusal {
+    // The number that it answers with.
+    fn number(self) -> u64
+        ensures { result ≡ refusal_number self }
+    {
+        match self {
+            Refusal::Lengths => 1,
+            Refusal::Text(refusal) => refusal.question.number(),
+            Refusal::NotHeld => 11,
+            Refusal::Listing(refusal) => refusal.number(),
+            Refusal::Step(refusal, _, _) => refusal.number(),
+            Refusal::Save(refusal) => refusal.number(),
+        }
+    }
+}
+
+impl From<token::Refusal> for Refusal {
+    ghost from_gives = { λ r o. o ≡ of_text r };
+
+    fn from(r: token::Refusal) -> Refusal {
+        Refusal::Text(r)
+    }
+}
+
+impl From<listing::Refusal> for Refusal {
+    ghost from_gives = { λ r o. o ≡ of_listing r };
+
+    fn from(r: listing::Refusal) -> Refusal {
+        Refusal::Listing(r)
+    }
+}
+
+impl From<simulation::Refusal> for Refusal {
+    ghost from_gives = { λ r o. o ≡ of_run r };
+
+    fn from(r: simulation::Refusal) -> Refusal {
+        match r {
+            simulation::Refusal::Lengths => Refusal::Lengths,
+            simulation::Refusal::NotHeld => Refusal::NotHeld,
+        }
+    }
+}
+
+impl From<Refusal> for Answer {
+    ghost from_gives = { λ r a. a ≡ refusal_answer r };
+
+    fn from(r: Refusal) -> Answer {
+        let number = r.number();
+        match r {
+            Refusal::Lengths => Answer::bare(number, 0, 0),
+            Refusal::Text(refusal) => Answer::bare(number, refusal.place as u64, 0),
+            Refusal::NotHeld => Answer::bare(number, 0, 0),
+            // Matched by itself: a listing's refusal has its own ways, and only one of them has a place.
+            Refusal::Listing(refusal) => match refusal {
+                listing::Refusal::Missing { place, branch } => {
+                    Answer::bare(number, place as u64, branch as u64)
+                }
+                listing::Refusal::Entries => Answer::bare(number, 0, 0),
+                listing::Refusal::Total => Answer::bare(number, 0, 0),
+            },
+            Refusal::Step(_, count, total) => Answer::filled(number, count as u64, total, 0),
+            Refusal::Save(_) => Answer::bare(number, 0, 0),
+        }
+    }
+}
+
+// What a call that lists is accepted with: the entries and their total, and the entry that a step took, else 0. Count and total are fields, as in the answer: `take_drawn`
+// alone makes a Listed of them, to draw.
+#[derive(Clone, Copy)]
+pub struct Told {
+    pub count: usize,
+    pub total: u64,
+    pub chosen: usize,
+}
+
+impl Told {
+    // No step over this listing.
+    fn untaken(self, refusal: running::Refusal) -> Refusal
+        ensures { result ≡ untaken self refusal }
+    {
+        Refusal::Step(refusal, self.count, self.total)
+    }
+}
+
+impl From<Told> for Answer {
+    ghost from_gives = { λ t a. a ≡ accepted t };
+
+    fn from(told: Told) -> Answer {
+        Answer::filled(0, told.count as u64, told.total, told.chosen as u64)
+    }
+}
+
+impl From<Result<Told, Refusal>> for Answer {
+    ghost from_gives = { λ r a. a ≡ answer_of r };
+
+    fn from(r: Result<Told, Refusal>) -> Answer {
+        match r {
+            Ok(told) => Answer::from(told),
+            Err(refusal) => Answer::from(refusal),
         }
     }
 }
@@ -128,25 +243,38 @@ impl From<Progress> for Simulated {
     }
 }
 
-// Question 1 of the model and the state: have they their lengths?
-fn are_parts_long(model: usize, state: usize) -> bool
-    ensures { result ≡ are_parts_long model state }
-{
-    model == Engine::MODEL && state == Engine::STATE
+impl Simulated {
+    // A run that doesn't begin: the clock stays.
+    fn unbegun(refusal: Refusal, clock: Clock) -> Self
+        ensures { result ≡ unbegun refusal clock }
+    {
+        Simulated {
+            ran: Ran {
+                number: refusal.number(),
+                steps: 0,
+                words: 0,
+                waiting: 0,
+                count: 0,
+                total: 0,
+            },
+            clock,
+        }
+    }
 }
 
 // Question 1 of a call that is lent a model, a state and an output of this right length.
 fn are_long(model: usize, state: usize, output: usize, right: usize) -> bool
     ensures { result ≡ are_long model state output right }
 {
-    are_parts_long(model, state) && output == right
+    simulation::are_parts_long(model, state) && output == right
 }
 
-// Question 1 of the model, the state and the saves.
+// Question 1 of the model, the state and the saves. Past it they stay slices under clauses of their lengths, here and in held.rt, each lent by itself: what is written
+// through an array made of a lent slice isn't known of the slice, and a struct of `&mut` slices would lose it.
 fn are_all_long(model: usize, state: usize, saves: usize) -> bool
     ensures { result ≡ are_all_long model state saves }
 {
-    are_parts_long(model, state) && saves == Engine::SAVES
+    simulation::are_parts_long(model, state) && saves == Engine::SAVES
 }
 
 // Opens a text under a profile.
@@ -161,9 +289,9 @@ fn open_under(
     ensures { Gives (effect (ask_under profile text.now) (lent_all model.old state.old saves.old clock) []) result.answer (lent_all model.new state.new saves.new result.clock) [] }
 {
     if !are_all_long(model.len(), state.len(), saves.len()) {
-        return Timed::of(Answer::bare(1, 0, 0), clock);
+        return Timed::of(Answer::from(Refusal::Lengths), clock);
     }
-    state::clear_state(saves);
+    saves.fill(0);
     let answer = texts::open_lent(profile, text, model, state);
     Timed::of(answer, Clock::fresh())
 }
@@ -198,18 +326,21 @@ pub fn open_steady(
 pub fn list(model: &[u8], state: &[i64], listing: &mut [u64]) -> Answer
     ensures { Gives (effect (on' list') (lent_two model.now state.now) listing.old) result (lent_two model.now state.now) listing.new }
 {
-    queries::ask::<List>(model, state, listing)
+    Answer::from(queries::ask::<List>(model, state, listing))
 }
 
 // Steps over buffers of the right lengths. No query as list and report are: its state is lent to be changed.
-fn step_lent(model: &[u8], state: &mut [i64], listing: &mut [u64], draw: u64) -> Answer
+fn step_lent(
+    model: &[u8],
+    state: &mut [i64],
+    listing: &mut [u64],
+    draw: u64,
+) -> Result<Told, Refusal>
     requires { (length model.now ≡ model_length) × (length state.old ≡ state_length) × (length listing.old ≡ listing_length) }
-    ensures { Gives (answered (on' (step' draw)) (lent_two model.now state.old) listing.old) result (lent_two model.now state.new) listing.new }
+    ensures { Gives (answered (on' (step' draw)) (lent_two model.now state.old) listing.old) (answer_of result) (lent_two model.now state.new) listing.new }
 {
     let mut space = Space::EMPTY;
-    let Some(settled) = simulation::read(model, &mut space) else {
-        return Answer::bare(11, 0, 0);
-    };
+    let settled = simulation::read(model, &mut space).ok_or(Refusal::NotHeld)?;
     steps::step_model(settled, state, listing, draw)
 }
 
@@ -218,9 +349,9 @@ pub fn step(model: &[u8], state: &mut [i64], listing: &mut [u64], draw: u64) -> 
     ensures { Gives (effect (on' (step' draw)) (lent_two model.now state.old) listing.old) result (lent_two model.now state.new) listing.new }
 {
     if !are_long(model.len(), state.len(), listing.len(), Engine::LISTING) {
-        return Answer::bare(1, 0, 0);
+        return Answer::from(Refusal::Lengths);
     }
-    step_lent(model, state, listing, draw)
+    Answer::from(step_lent(model, state, listing, draw))
 }
 
 // Steps, and then waits: both the state and the clock, which goes by value, move, or neither does.
@@ -235,22 +366,20 @@ pub fn step_timed(
     ensures { Gives (effect (on' (timed' waiting.now draw)) (lent_timed model.now state.old clock) listing.old) result.answer (lent_timed model.now state.new result.clock) listing.new }
 {
     if !are_long(model.len(), state.len(), listing.len(), Engine::LISTING) {
-        return Timed::of(Answer::bare(1, 0, 0), clock);
+        return Timed::of(Answer::from(Refusal::Lengths), clock);
     }
     if !clock::in_range(clock) {
-        return Timed::of(Answer::bare(11, 0, 0), clock);
+        return Timed::of(Answer::from(Refusal::NotHeld), clock);
     }
     let mut before = [0i64; Engine::STATE];
-    state::put(&mut before, &state[..], Engine::STATE);
-    let told = step_lent(model, state, listing, draw);
-    let number = told.number;
-    if number != 0 {
-        return Timed::of(told, clock);
+    before.copy_from_slice(&state[..]);
+    match step_lent(model, state, listing, draw) {
+        Ok(told) => waiting::wait_after(told, &before, state, waiting, clock),
+        Err(refusal) => Timed::of(Answer::from(refusal), clock),
     }
-    waiting::wait_after(told, &before, state, waiting, clock)
 }
 
-// Many timed steps, with choosing draws from words: up to the limit, the end of the room for events or of the words, or a refusal. The clock goes by value.
+// Many timed steps, lent what C lends, with choosing draws from words: up to the limit, the end of the room for events or of the words, or a refusal. The clock goes by value.
 pub fn run(
     model: &[u8],
     state: &mut [i64],
@@ -262,15 +391,23 @@ pub fn run(
 ) -> Simulated
     ensures { GivesRan (effect (on' (run' words.now waiting.now limit (length events.old))) (lent_timed model.now state.old clock) events.old) result.ran (lent_timed model.now state.new result.clock) events.new }
 {
-    let p = simulation::run(model, state, words, waiting, events, limit, clock);
-    Simulated::from(p)
+    let asked = Asked {
+        words,
+        waiting,
+        limit,
+        clock,
+    };
+    match simulation::run(model, state, events, asked) {
+        Ok(p) => Simulated::from(p),
+        Err(refusal) => Simulated::unbegun(Refusal::from(refusal), clock),
+    }
 }
 
 // Lists, and reports the sum of the weights of each definition's processes.
 pub fn report(model: &[u8], state: &[i64], report: &mut [u64]) -> Answer
     ensures { Gives (effect (on' report') (lent_two model.now state.now) report.old) result (lent_two model.now state.now) report.new }
 {
-    queries::ask::<Report>(model, state, report)
+    Answer::from(queries::ask::<Report>(model, state, report))
 }
 
 // Saves the state and the clock under a name.
@@ -278,10 +415,10 @@ pub fn save(model: &[u8], state: &[i64], saves: &mut [i64], name: &[u8], clock: 
     ensures { Gives (effect (on' (save' name.now)) (lent_all model.now state.now saves.old clock) []) result (lent_all model.now state.now saves.new clock) [] }
 {
     if !are_all_long(model.len(), state.len(), saves.len()) {
-        return Answer::bare(1, 0, 0);
+        return Answer::from(Refusal::Lengths);
     }
     if !held::holds_all(model, state, &saves[..], clock) {
-        return Answer::bare(11, 0, 0);
+        return Answer::from(Refusal::NotHeld);
     }
     let mut kept = [0i64; Layout::KEPT];
     saves::put_kept(&mut kept, state, clock);
@@ -293,10 +430,10 @@ pub fn return_to(model: &[u8], state: &mut [i64], saves: &[i64], name: &[u8], cl
     ensures { Gives (effect (on' (return' name.now)) (lent_all model.now state.old saves.now clock) []) result.answer (lent_all model.now state.new saves.now result.clock) [] }
 {
     if !are_all_long(model.len(), state.len(), saves.len()) {
-        return Timed::of(Answer::bare(1, 0, 0), clock);
+        return Timed::of(Answer::from(Refusal::Lengths), clock);
     }
     if !held::holds_all(model, &state[..], saves, clock) {
-        return Timed::of(Answer::bare(11, 0, 0), clock);
+        return Timed::of(Answer::from(Refusal::NotHeld), clock);
     }
     held::return_held(state, saves, name, clock)
 }
@@ -306,150 +443,10 @@ pub fn forget(model: &[u8], state: &[i64], saves: &mut [i64], name: &[u8]) -> An
     ensures { Gives (effect (on' (forget' name.now)) (lent_three model.now state.now saves.old) []) result (lent_three model.now state.now saves.new) [] }
 {
     if !are_all_long(model.len(), state.len(), saves.len()) {
-        return Answer::bare(1, 0, 0);
+        return Answer::from(Refusal::Lengths);
     }
     if !held::holds(model, state, &saves[..]) {
-        return Answer::bare(11, 0, 0);
+        return Answer::from(Refusal::NotHeld);
     }
     held::stored_answer(saves::forget(saves, name))
-}
-
-#[unsafe(no_mangle)]
-pub extern "C" fn matgravel_open(
-    text: &[u8],
-    model: &mut [u8],
-    state: &mut [i64],
-    saves: &mut [i64],
-    clock: &mut Clock,
-) -> Answer
-    ensures { Gives (effect (open' text.now) (lent_all model.old state.old saves.old clock.old) []) result (lent_all model.new state.new saves.new clock.new) [] }
-{
-    let t = open(text, model, state, saves, *clock);
-    *clock = t.clock;
-    t.answer
-}
-
-#[unsafe(no_mangle)]
-pub extern "C" fn matgravel_open_steady(
-    text: &[u8],
-    model: &mut [u8],
-    state: &mut [i64],
-    saves: &mut [i64],
-    clock: &mut Clock,
-) -> Answer
-    ensures { Gives (effect (open_steady' text.now) (lent_all model.old state.old saves.old clock.old) []) result (lent_all model.new state.new saves.new clock.new) [] }
-{
-    let t = open_steady(text, model, state, saves, *clock);
-    *clock = t.clock;
-    t.answer
-}
-
-#[unsafe(no_mangle)]
-pub extern "C" fn matgravel_list(model: &[u8], state: &[i64], listing: &mut [u64]) -> Answer
-    ensures { Gives (effect (on' list') (lent_two model.now state.now) listing.old) result (lent_two model.now state.now) listing.new }
-{
-    list(model, state, listing)
-}
-
-#[unsafe(no_mangle)]
-pub extern "C" fn matgravel_step(
-    model: &[u8],
-    state: &mut [i64],
-    listing: &mut [u64],
-    draw: u64,
-) -> Answer
-    ensures { Gives (effect (on' (step' draw)) (lent_two model.now state.old) listing.old) result (lent_two model.now state.new) listing.new }
-{
-    step(model, state, listing, draw)
-}
-
-#[unsafe(no_mangle)]
-pub extern "C" fn matgravel_timed_step(
-    model: &[u8],
-    state: &mut [i64],
-    listing: &mut [u64],
-    waiting: &[u16],
-    draw: u64,
-    clock: &mut Clock,
-) -> Answer
-    ensures { Gives (effect (on' (timed' waiting.now draw)) (lent_timed model.now state.old clock.old) listing.old) result (lent_timed model.now state.new clock.new) listing.new }
-{
-    let t = step_timed(model, state, listing, waiting, draw, *clock);
-    *clock = t.clock;
-    t.answer
-}
-
-#[unsafe(no_mangle)]
-pub extern "C" fn matgravel_run(
-    model: &[u8],
-    state: &mut [i64],
-    words: &[u64],
-    waiting: &[u16],
-    events: &mut [u64],
-    limit: u64,
-    clock: &mut Clock,
-) -> Ran
-    ensures { GivesRan (effect (on' (run' words.now waiting.now limit (length events.old))) (lent_timed model.now state.old clock.old) events.old) result (lent_timed model.now state.new clock.new) events.new }
-{
-    let t = run(model, state, words, waiting, events, limit, *clock);
-    *clock = t.clock;
-    t.ran
-}
-
-#[unsafe(no_mangle)]
-pub extern "C" fn matgravel_report(model: &[u8], state: &[i64], report: &mut [u64]) -> Answer
-    ensures { Gives (effect (on' report') (lent_two model.now state.now) report.old) result (lent_two model.now state.now) report.new }
-{
-    crate::report(model, state, report)
-}
-
-#[unsafe(no_mangle)]
-pub extern "C" fn matgravel_save(
-    model: &[u8],
-    state: &[i64],
-    saves: &mut [i64],
-    name: &[u8],
-    clock: Clock,
-) -> Answer
-    ensures { Gives (effect (on' (save' name.now)) (lent_all model.now state.now saves.old clock) []) result (lent_all model.now state.now saves.new clock) [] }
-{
-    save(model, state, saves, name, clock)
-}
-
-#[unsafe(no_mangle)]
-pub extern "C" fn matgravel_return(
-    model: &[u8],
-    state: &mut [i64],
-    saves: &[i64],
-    name: &[u8],
-    clock: &mut Clock,
-) -> Answer
-    ensures { Gives (effect (on' (return' name.now)) (lent_all model.now state.old saves.now clock.old) []) result (lent_all model.now state.new saves.now clock.new) [] }
-{
-    let t = return_to(model, state, saves, name, *clock);
-    *clock = t.clock;
-    t.answer
-}
-
-#[unsafe(no_mangle)]
-pub extern "C" fn matgravel_forget(
-    model: &[u8],
-    state: &[i64],
-    saves: &mut [i64],
-    name: &[u8],
-) -> Answer
-    ensures { Gives (effect (on' (forget' name.now)) (lent_three model.now state.now saves.old) []) result (lent_three model.now state.now saves.new) [] }
-{
-    forget(model, state, saves, name)
-}
-
-// Whether two entries of one listing lead to one state in either order: 1 or 0.
-#[unsafe(no_mangle)]
-pub extern "C" fn matgravel_independent(entry: &[u64], other: &[u64]) -> u64
-    ensures { result ≡ cond (judged entry.now other.now) 1 0 }
-{
-    if independence::independent(entry, other) {
-        return 1;
-    }
-    0
 }

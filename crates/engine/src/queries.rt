@@ -6,10 +6,10 @@ ghost use Rattle.machine.specs.State.{state_length};
 ghost use Rattle.machine.specs.Machine.{Request, uses, output_of, two_parts, on'};
 ghost use Rattle.buffers.specs.Parts.{lent_two};
 ghost use Rattle.buffers.specs.Effect.{requested, effect};
-ghost use Rattle.engine.specs.Gives.{Gives};
+ghost use Rattle.engine.specs.Gives.{answer_of, Gives};
 ghost use Rattle.store.specs.Tables.{Holds};
 
-use crate::Answer;
+use crate::{Refusal, Told};
 use opening::Space;
 use store::Settled;
 
@@ -23,9 +23,9 @@ pub trait Query {
     ghost request: { Request };
 
     // The answer over the tables of a model.
-    fn answer(settled: Settled, state: &[i64], output: &mut [u64]) -> Answer
+    fn answer(settled: Settled, state: &[i64], output: &mut [u64]) -> Result<Told, Refusal>
         requires { ((m : Resolved.Model) × Holds settled m) × (length state.now ≡ state_length) × (length output.old ≡ OUTPUT) }
-        ensures { (m : Resolved.Model) (bs : List ℕ) → Holds settled.entry m → Gives (requested request (lent_two bs state.now) output.old (some m)) result (lent_two bs state.now) output.new };
+        ensures { (m : Resolved.Model) (bs : List ℕ) → Holds settled.entry m → Gives (requested request (lent_two bs state.now) output.old (some m)) (answer_of result) (lent_two bs state.now) output.new };
 
     // It is lent the model and the state, and this output.
     ghost lends: { uses request ≡ two_parts };
@@ -34,15 +34,13 @@ pub trait Query {
 }
 
 // Question 1, then the answer over the tables of the model buffer, or 11.
-pub fn ask<Q: Query>(model: &[u8], state: &[i64], output: &mut [u64]) -> Answer
-    ensures { Gives (effect (on' Q.request) (lent_two model.now state.now) output.old) result (lent_two model.now state.now) output.new }
+pub fn ask<Q: Query>(model: &[u8], state: &[i64], output: &mut [u64]) -> Result<Told, Refusal>
+    ensures { Gives (effect (on' Q.request) (lent_two model.now state.now) output.old) (answer_of result) (lent_two model.now state.now) output.new }
 {
     if !crate::are_long(model.len(), state.len(), output.len(), Q::OUTPUT) {
-        return Answer::bare(1, 0, 0);
+        return Err(Refusal::Lengths);
     }
     let mut space = Space::EMPTY;
-    let Some(settled) = simulation::read(model, &mut space) else {
-        return Answer::bare(11, 0, 0);
-    };
+    let settled = simulation::read(model, &mut space).ok_or(Refusal::NotHeld)?;
     Q::answer(settled, state, output)
 }

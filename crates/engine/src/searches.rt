@@ -7,33 +7,24 @@ ghost use Rattle.buffers.specs.Effect.{answered, effect};
 ghost use Rattle.searching.specs.Run.{GivesRun};
 
 use searching::Found;
-use store::buffer::Bytes;
 
 // Searches over buffers of the right lengths.
 fn search_lent(model: &[u8], state: &[i64], name: &[u8], depth: u64) -> Found
     requires { (length model.now ≡ model_length) × (length state.now ≡ state_length) }
     ensures { GivesRun (answered (on' (search' name.now depth)) (lent_two model.now state.now) []) result (lent_two model.now state.now) }
 {
-    let Some(n) = store::buffer::find_text(model) else {
+    let Some(text) = store::buffer::find_text(model) else {
         return Found::bare(11);
     };
-    let end = Bytes::FIRST + n;
-    searching::search_text(&model[Bytes::FIRST..end], state, name, depth)
+    searching::search_text(text, state, name, depth)
 }
 
 // The first run of at most so many entries, all taken, whose last is a wait of this name.
 pub fn search(model: &[u8], state: &[i64], name: &[u8], depth: u64) -> Found
     ensures { GivesRun (effect (on' (search' name.now depth)) (lent_two model.now state.now) []) result (lent_two model.now state.now) }
 {
-    if !crate::are_parts_long(model.len(), state.len()) {
+    if !simulation::are_parts_long(model.len(), state.len()) {
         return Found::bare(1);
     }
     search_lent(model, state, name, depth)
-}
-
-#[unsafe(no_mangle)]
-pub extern "C" fn matgravel_search(model: &[u8], state: &[i64], name: &[u8], depth: u64) -> Found
-    ensures { GivesRun (effect (on' (search' name.now depth)) (lent_two model.now state.now) []) result (lent_two model.now state.now) }
-{
-    search(model, state, name, depth)
 }

@@ -8,55 +8,55 @@ ghost use Rattle.machine.specs.Machine.{listing_length, drawn, step'};
 ghost use Rattle.step.specs.Entries.{Counted};
 ghost use Rattle.buffers.specs.Parts.{lent_two};
 ghost use Rattle.buffers.specs.Effect.{requested};
-ghost use Rattle.engine.specs.Gives.{Gives};
+ghost use Rattle.engine.specs.Gives.{answer_of, Gives};
 ghost use Rattle.store.specs.Tables.{Shows};
-ghost use Rattle.engine.specs.Steps.{taken_answer, Left};
+ghost use Rattle.engine.specs.Steps.{Left};
 
-use crate::{Answer, listings};
+use crate::{Refusal, Told, listings};
+use listing::Listed;
 use store::Settled;
 use tables::Tables;
-
-// The answer that a taken entry gives.
-fn taken_answer(taken: Result<(), step::Refusal>, count: usize, total: u64, chosen: usize) -> Answer
-    ensures { result ≡ taken_answer taken count total chosen }
-{
-    match taken {
-        Ok(()) => Answer::filled(0, count as u64, total, chosen as u64),
-        Err(refusal) => Answer::filled(refusal.number(), count as u64, total, 0),
-    }
-}
 
 // Questions 15 and 16 of a listing, then the entry that the draw chooses.
 fn take_drawn(
     tables: Tables,
     state: &mut [i64],
     listing: &[u64],
-    count: usize,
-    total: u64,
+    told: Told,
     draw: u64,
-) -> Answer
-    requires { (m : Resolved.Model) × (s : State) × (es : List rules.Entry) × Counted tables.nodes.now tables.roots.now tables.scopes.now tables.root tables.variables state.old listing.now count total m s es }
-    ensures { (m : Resolved.Model) (s : State) (es : List rules.Entry) → Counted tables.entry.nodes.now tables.entry.roots.now tables.entry.scopes.now tables.entry.root tables.entry.variables state.old listing.now count total m s es → Left (drawn m s es draw) result state.new }
+) -> Result<Told, Refusal>
+    requires { (m : Resolved.Model) × (s : State) × (es : List rules.Entry) × Counted tables.nodes.now tables.roots.now tables.scopes.now tables.root tables.variables state.old listing.now told.count told.total m s es }
+    ensures { (m : Resolved.Model) (s : State) (es : List rules.Entry) → Counted tables.entry.nodes.now tables.entry.roots.now tables.entry.scopes.now tables.entry.root tables.entry.variables state.old listing.now told.count told.total m s es → Left (drawn m s es draw) (answer_of result) state.new }
 {
-    if total == 0 {
-        return Answer::filled(15, count as u64, total, 0);
+    if told.total == 0 {
+        return Err(told.untaken(running::Refusal::NoWeight));
     }
-    let Some(c) = listing::choose(listing, count, draw) else {
-        return Answer::filled(16, count as u64, total, 0);
+    let listed = Listed {
+        count: told.count,
+        total: told.total,
     };
+    let c = listed
+        .choose(listing, draw)
+        .ok_or(told.untaken(running::Refusal::Draw))?;
     let mut fresh = [0i64; step::Room::FRESH];
     let taken = step::take_row(tables, state, &mut fresh, listing, c);
-    taken_answer(taken, count, total, c)
+    // A match: map_err would take a closure that holds what is told.
+    match taken {
+        Ok(()) => Ok(Told { chosen: c, ..told }),
+        Err(refusal) => Err(told.untaken(running::Refusal::Step(refusal))),
+    }
 }
 
 // Steps over the tables of a model.
-pub fn step_model(settled: Settled, state: &mut [i64], listing: &mut [u64], draw: u64) -> Answer
+pub fn step_model(
+    settled: Settled,
+    state: &mut [i64],
+    listing: &mut [u64],
+    draw: u64,
+) -> Result<Told, Refusal>
     requires { ((m : Resolved.Model) × Shows settled m) × (length state.old ≡ state_length) × (length listing.old ≡ listing_length) }
-    ensures { (m : Resolved.Model) (bs : List ℕ) → Shows settled.entry m → Gives (requested (step' draw) (lent_two bs state.old) listing.old (some m)) result (lent_two bs state.new) listing.new }
+    ensures { (m : Resolved.Model) (bs : List ℕ) → Shows settled.entry m → Gives (requested (step' draw) (lent_two bs state.old) listing.old (some m)) (answer_of result) (lent_two bs state.new) listing.new }
 {
-    let listed = listings::list_state(settled, state, listing);
-    match listed {
-        Err(r) => Answer::bare(r.number, r.place as u64, r.branch as u64),
-        Ok((count, total)) => take_drawn(settled.tables, state, listing, count, total, draw),
-    }
+    let told = listings::list_state(settled, state, listing)?;
+    take_drawn(settled.tables, state, listing, told, draw)
 }

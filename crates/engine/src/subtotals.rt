@@ -10,30 +10,21 @@ ghost use Rattle.buffers.specs.Effect.{requested};
 ghost use Rattle.engine.specs.Tables.{Finds};
 
 use crate::queries::Query;
-use crate::{Answer, listings};
-use listing::Refusal;
+use crate::{Refusal, Told, listings};
 use store::{Engine, Settled};
 
 // 11 leaves the report as it is lent, 12 to 14 zero it; else it has the shares of the listing.
-fn put_report(
-    listed: Result<(usize, u64), Refusal>,
-    listing: &[u64],
-    state: &[i64],
-    report: &mut [u64],
-)
+fn put_report(listed: Result<Told, Refusal>, listing: &[u64], state: &[i64], report: &mut [u64])
     requires { ((m : Resolved.Model) × (l : List ℕ) × GoodModel m × Finds m state.now l listed listing.now) × (length report.old ≡ report_length) }
     ensures { (m : Resolved.Model) (bs l : List ℕ) → GoodModel m → Finds m state.now l listed listing.now → report.new ≡ (requested report' (lent_two bs state.now) report.old (some m)).output }
 {
     match listed {
-        Err(r) => {
-            if r.number == 11 {
-                return;
-            }
-            listing::clear_from(report, 0);
-        }
-        Ok((count, _)) => {
-            shares::share(listing, count, state, report);
-        }
+        Ok(told) => shares::share(listing, told.count, state, report),
+        // A match in the arm. Tried as nested patterns: in the arm of the other refusals the fact that none is a listing's wasn't found by name, and its proof stayed open.
+        Err(refusal) => match refusal {
+            Refusal::Listing(_) => report.fill(0),
+            _ => {}
+        },
     }
 }
 
@@ -52,10 +43,10 @@ impl Query for Report {
     ghost writes = { refl };
 
     // Reports over the tables of a model.
-    fn answer(settled: Settled, state: &[i64], report: &mut [u64]) -> Answer {
+    fn answer(settled: Settled, state: &[i64], report: &mut [u64]) -> Result<Told, Refusal> {
         let mut listing = [0u64; Engine::LISTING];
         let listed = listings::list_state(settled, state, &mut listing);
         put_report(listed, &listing, state, report);
-        Answer::from(listed)
+        listed
     }
 }

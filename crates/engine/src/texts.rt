@@ -9,7 +9,7 @@ ghost use Rattle.buffers.specs.Effect.{opens_with};
 ghost use Rattle.steady.specs.Opens.{opening_under};
 ghost use Rattle.engine.specs.Gives.{Gives};
 
-use crate::Answer;
+use crate::{Answer, Refusal};
 use opening::Space;
 use steady::Profile;
 
@@ -22,10 +22,11 @@ pub fn open_lent(profile: Profile, text: &[u8], model: &mut [u8], state: &mut [i
     store::buffer::put_fresh(model, state);
     let opened = steady::open_under(profile, text, &mut space);
     match opened {
-        Err(r) => Answer::bare(r.number as u64, r.place as u64, 0),
-        Ok((found, _)) => {
+        Err(refusal) => Answer::from(Refusal::from(refusal)),
+        Ok(accepted) => {
+            let found = accepted.model;
             store::buffer::put_text(model, text);
-            store::start::open_state(space.tables(found), found.definitions, state);
+            store::start::open_state(space.tables(found), found.lists.definitions, state);
             Answer::bare(0, 0, 0)
         }
     }

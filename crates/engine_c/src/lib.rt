@@ -1,6 +1,6 @@
 #![tactic(auto)]
 
-// The engine's calls as C makes them (include/matgravel.h). Each is engine's function of the same name, with the same contract.
+// The engine's calls as C makes them (include/matgravel.h). Each is engine's call of that name, with the same contract; where a clock is lent, it goes to the call by value and is written back.
 ghost use Rattle.std.specs.Prelude.{◌≡◌, cond, [], length};
 ghost use Rattle.machine.specs.Machine.{list', step', report', timed', run', save', return', forget', open', open_steady', search', on'};
 ghost use Rattle.buffers.specs.Parts.{lent_two, lent_three, lent_timed, lent_all};
@@ -24,7 +24,9 @@ pub extern "C" fn matgravel_open(
 ) -> Answer
     ensures { Gives (effect (open' text.now) (lent_all model.old state.old saves.old clock.old) []) result (lent_all model.new state.new saves.new clock.new) [] }
 {
-    engine::matgravel_open(text, model, state, saves, clock)
+    let t = engine::open(text, model, state, saves, *clock);
+    *clock = t.clock;
+    t.answer
 }
 
 #[unsafe(no_mangle)]
@@ -37,14 +39,16 @@ pub extern "C" fn matgravel_open_steady(
 ) -> Answer
     ensures { Gives (effect (open_steady' text.now) (lent_all model.old state.old saves.old clock.old) []) result (lent_all model.new state.new saves.new clock.new) [] }
 {
-    engine::matgravel_open_steady(text, model, state, saves, clock)
+    let t = engine::open_steady(text, model, state, saves, *clock);
+    *clock = t.clock;
+    t.answer
 }
 
 #[unsafe(no_mangle)]
 pub extern "C" fn matgravel_list(model: &[u8], state: &[i64], listing: &mut [u64]) -> Answer
     ensures { Gives (effect (on' list') (lent_two model.now state.now) listing.old) result (lent_two model.now state.now) listing.new }
 {
-    engine::matgravel_list(model, state, listing)
+    engine::list(model, state, listing)
 }
 
 #[unsafe(no_mangle)]
@@ -56,7 +60,7 @@ pub extern "C" fn matgravel_step(
 ) -> Answer
     ensures { Gives (effect (on' (step' draw)) (lent_two model.now state.old) listing.old) result (lent_two model.now state.new) listing.new }
 {
-    engine::matgravel_step(model, state, listing, draw)
+    engine::step(model, state, listing, draw)
 }
 
 #[unsafe(no_mangle)]
@@ -70,7 +74,9 @@ pub extern "C" fn matgravel_timed_step(
 ) -> Answer
     ensures { Gives (effect (on' (timed' waiting.now draw)) (lent_timed model.now state.old clock.old) listing.old) result (lent_timed model.now state.new clock.new) listing.new }
 {
-    engine::matgravel_timed_step(model, state, listing, waiting, draw, clock)
+    let t = engine::step_timed(model, state, listing, waiting, draw, *clock);
+    *clock = t.clock;
+    t.answer
 }
 
 #[unsafe(no_mangle)]
@@ -85,14 +91,16 @@ pub extern "C" fn matgravel_run(
 ) -> Ran
     ensures { GivesRan (effect (on' (run' words.now waiting.now limit (length events.old))) (lent_timed model.now state.old clock.old) events.old) result (lent_timed model.now state.new clock.new) events.new }
 {
-    engine::matgravel_run(model, state, words, waiting, events, limit, clock)
+    let t = engine::run(model, state, words, waiting, events, limit, *clock);
+    *clock = t.clock;
+    t.ran
 }
 
 #[unsafe(no_mangle)]
 pub extern "C" fn matgravel_report(model: &[u8], state: &[i64], report: &mut [u64]) -> Answer
     ensures { Gives (effect (on' report') (lent_two model.now state.now) report.old) result (lent_two model.now state.now) report.new }
 {
-    engine::matgravel_report(model, state, report)
+    engine::report(model, state, report)
 }
 
 #[unsafe(no_mangle)]
@@ -105,7 +113,7 @@ pub extern "C" fn matgravel_save(
 ) -> Answer
     ensures { Gives (effect (on' (save' name.now)) (lent_all model.now state.now saves.old clock) []) result (lent_all model.now state.now saves.new clock) [] }
 {
-    engine::matgravel_save(model, state, saves, name, clock)
+    engine::save(model, state, saves, name, clock)
 }
 
 #[unsafe(no_mangle)]
@@ -118,7 +126,9 @@ pub extern "C" fn matgravel_return(
 ) -> Answer
     ensures { Gives (effect (on' (return' name.now)) (lent_all model.now state.old saves.now clock.old) []) result (lent_all model.now state.new saves.now clock.new) [] }
 {
-    engine::matgravel_return(model, state, saves, name, clock)
+    let t = engine::return_to(model, state, saves, name, *clock);
+    *clock = t.clock;
+    t.answer
 }
 
 #[unsafe(no_mangle)]
@@ -130,7 +140,7 @@ pub extern "C" fn matgravel_forget(
 ) -> Answer
     ensures { Gives (effect (on' (forget' name.now)) (lent_three model.now state.now saves.old) []) result (lent_three model.now state.now saves.new) [] }
 {
-    engine::matgravel_forget(model, state, saves, name)
+    engine::forget(model, state, saves, name)
 }
 
 // Whether two entries of one listing lead to one state in either order: 1 or 0.
@@ -138,12 +148,12 @@ pub extern "C" fn matgravel_forget(
 pub extern "C" fn matgravel_independent(entry: &[u64], other: &[u64]) -> u64
     ensures { result ≡ cond (judged entry.now other.now) 1 0 }
 {
-    engine::matgravel_independent(entry, other)
+    u64::from(independence::independent(entry, other))
 }
 
 #[unsafe(no_mangle)]
 pub extern "C" fn matgravel_search(model: &[u8], state: &[i64], name: &[u8], depth: u64) -> Found
     ensures { GivesRun (effect (on' (search' name.now depth)) (lent_two model.now state.now) []) result (lent_two model.now state.now) }
 {
-    engine::searches::matgravel_search(model, state, name, depth)
+    engine::searches::search(model, state, name, depth)
 }

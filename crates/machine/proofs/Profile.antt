@@ -16,7 +16,9 @@ use Rattle.model.specs.Opening.{process_limit, Opening, refused, opened}
 use Rattle.model.proofs.Opened as opens
 use Rattle.clock.specs.declared.Clock.{Clock}
 use Rattle.clock.specs.declared.Late.{Late}
-use Rattle.clock.specs.declared.Late.TheVariants.{Ended, Long, Past}
+use Rattle.clock.specs.declared.Late.TheVariants.{Past}
+use Rattle.clock.specs.declared.Late.TheVariants as late
+use Rattle.waits.specs.declared.Unread.TheVariants as unread
 use Rattle.clock.specs.Clock.{late_number, Brought, brought_by}
 use Rattle.profile.specs.Opening.{opening_steady}
 use Rattle.profile.specs.Steady.{Steady}
@@ -107,8 +109,8 @@ module _ (m : Resolved.Model) (s : State) where
 
 -- 02, note 4: the clock is brought forward, or that is refused with 23 to 25
 late-not : (l : Late) → late_number l ≡ 18 → ⊥
-late-not Ended e = omega arith
-late-not Long e = omega arith
+late-not (late.Wait unread.Ended) e = omega arith
+late-not (late.Wait unread.Long) e = omega arith
 late-not Past e = omega arith
 
 -- a timed step keeps what its step keeps

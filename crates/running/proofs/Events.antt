@@ -1,13 +1,14 @@
 -- An event written after others. By induction on the events before it.
 use mathlib.Core.Path.{◌≡◌, refl, sym, ap, ◌∙◌}
-use mathlib.Core.List.{List, [], ◌∷◌, ◌++◌}
+use mathlib.Core.List.{List, [], ◌∷◌, ◌++◌, append_assoc}
 use Prim.Native.Nat.{ℕ, suc, ◌+◌, ◌-◌, ◌*◌, ◌≤◌}
 use native.Mathlib.Omega.{arith}
-use lib.ListN.{length, set, drop, length-append, length-drop}
-use lib.Seq.{drop-drop}
+use lib.ListN.{length, get_or, set, take, drop, length-append, length-drop, length-set}
+use lib.Seq.{drop-drop, get_or-drop, sets, sets-eq}
 use Rattle.rules.specs.Rules.{key}
 use Rattle.rules.specs.Listing.{Entry, entry}
 use Rattle.machine.specs.Machine.{Event}
+use Rattle.listing.specs.Buffer.{entry_in}
 use Rattle.machine.specs.Runs.{event_row, event_rows, event_numbers}
 use Rattle.running.specs.Progress.{written}
 
@@ -77,3 +78,45 @@ rows-length (x ∷ es) rest = omega (arith, row-length x.ticks x.entry (event_ro
 pub numbers-length : (es : List Event) (z : List ℕ) → length (event_numbers es z) ≡ length es * 8 + (length z - length es * 8)
 unfolding event_numbers
 numbers-length es z = omega (arith, rows-length es (drop (length es * 8) z), length-drop (length es * 8) z)
+
+-- ---- an event as it is written: its ticks, then the seven numbers of an entry as they stand in a listing
+
+seven : (s : List ℕ) → 7 ≤ length s → take 7 s ≡ get_or s 0 0 ∷ get_or s 1 0 ∷ get_or s 2 0 ∷ get_or s 3 0 ∷ get_or s 4 0 ∷ get_or s 5 0 ∷ get_or s 6 0 ∷ []
+seven [] l = absurd (omega arith)
+seven (x₀ ∷ []) l = absurd (omega arith)
+seven (x₀ ∷ x₁ ∷ []) l = absurd (omega arith)
+seven (x₀ ∷ x₁ ∷ x₂ ∷ []) l = absurd (omega arith)
+seven (x₀ ∷ x₁ ∷ x₂ ∷ x₃ ∷ []) l = absurd (omega arith)
+seven (x₀ ∷ x₁ ∷ x₂ ∷ x₃ ∷ x₄ ∷ []) l = absurd (omega arith)
+seven (x₀ ∷ x₁ ∷ x₂ ∷ x₃ ∷ x₄ ∷ x₅ ∷ []) l = absurd (omega arith)
+seven (x₀ ∷ x₁ ∷ x₂ ∷ x₃ ∷ x₄ ∷ x₅ ∷ x₆ ∷ s) l = refl
+
+-- the numbers from place k on
+numbers-at : (l : List ℕ) (k : ℕ) → k + 7 ≤ length l → take 7 (drop k l) ≡ get_or l k 0 ∷ get_or l (k + 1) 0 ∷ get_or l (k + 2) 0 ∷ get_or l (k + 3) 0 ∷ get_or l (k + 4) 0 ∷ get_or l (k + 5) 0 ∷ get_or l (k + 6) 0 ∷ []
+numbers-at l k f =
+    let z : k + 0 ≡ k = omega arith in
+    seven (drop k l) (omega (arith, length-drop k l))
+    ∙ simp (get_or-drop) (ap (λ (i : ℕ). get_or l i 0 ∷ get_or l (k + 1) 0 ∷ get_or l (k + 2) 0 ∷ get_or l (k + 3) 0 ∷ get_or l (k + 4) 0 ∷ get_or l (k + 5) 0 ∷ get_or l (k + 6) 0 ∷ []) z)
+
+same : (a : ℕ) (s : List ℕ) (b c d e f g h : ℕ) → sets s (a + 1) (b ∷ c ∷ d ∷ e ∷ f ∷ g ∷ h ∷ []) ≡ set (set (set (set (set (set (set s (a + 1) b) (a + 2) c) (a + 3) d) (a + 4) e) (a + 5) f) (a + 6) g) (a + 7) h
+same a s b c d e f g h =
+    let i : suc (a + 1) ≡ a + 2 = omega arith in
+    let j : suc (a + 2) ≡ a + 3 = omega arith in
+    let k : suc (a + 3) ≡ a + 4 = omega arith in
+    let l : suc (a + 4) ≡ a + 5 = omega arith in
+    let m : suc (a + 5) ≡ a + 6 = omega arith in
+    let n : suc (a + 6) ≡ a + 7 = omega arith in
+    rw (i, j, k, l, m, n) refl
+
+pub copied-event : (es l : List ℕ) (n t c : ℕ) → n * 8 + 8 ≤ length es → c * 7 + 7 ≤ length l
+    → take (n * 8 + 1) (set es (n * 8) t) ++ (take 7 (drop (c * 7) l) ++ drop 7 (drop (n * 8 + 1) (set es (n * 8) t))) ≡ written es n t (entry_in l c)
+unfolding written entry_in
+copied-event es l n t c f g =
+    let k = c * 7 in
+    let vs = get_or l k 0 ∷ get_or l (k + 1) 0 ∷ get_or l (k + 2) 0 ∷ get_or l (k + 3) 0 ∷ get_or l (k + 4) 0 ∷ get_or l (k + 5) 0 ∷ get_or l (k + 6) 0 ∷ [] in
+    let zs = set es (n * 8) t in
+    ap (λ (x : List ℕ). take (n * 8 + 1) zs ++ (x ++ drop 7 (drop (n * 8 + 1) zs))) (numbers-at l k g)
+    ∙ ap (λ (x : List ℕ). take (n * 8 + 1) zs ++ (vs ++ x)) (drop-drop 7 (n * 8 + 1) zs)
+    ∙ sym (append_assoc (take (n * 8 + 1) zs) vs (drop (n * 8 + 1 + 7) zs))
+    ∙ sym (sets-eq vs (set es (n * 8) t) (n * 8 + 1) (omega (arith, length-set es (n * 8) t)))
+    ∙ same (n * 8) (set es (n * 8) t) (get_or l k 0) (get_or l (k + 1) 0) (get_or l (k + 2) 0) (get_or l (k + 3) 0) (get_or l (k + 4) 0) (get_or l (k + 5) 0) (get_or l (k + 6) 0)

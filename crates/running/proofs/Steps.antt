@@ -24,33 +24,39 @@ use Rattle.machine.specs.Machine.{entry_limit, total_limit, zeroed, no, counted,
 use Rattle.machine.proofs.Everys.{every_in, in-every}
 use Rattle.listing.proofs.Finished.{rows-length as list_length}
 use Rattle.listing.proofs.Entries.{entry_in_lem}
-use Rattle.listing.specs.Buffer.{entry_in, listed_answer, Leading, leading, nothing, Leads, refused}
+use Rattle.listing.specs.declared.Listed.{Listed as Counts}
+use Rattle.listing.specs.Buffer.{entry_in, refusal_number as refused_number, Answers, Leading, leading, nothing, Leads}
+use Rattle.listing.specs.Buffer as buffer
+use Rattle.listing.specs.declared.Refusal as unlisted
 use Rattle.offers.specs.Collect.{FewBranches, World}
 use Rattle.step.specs.Enter.{Lent}
-use Rattle.clock.specs.declared.Late.TheVariants.{Ended, Long, Past}
+use Rattle.clock.specs.declared.Late.TheVariants.{Past}
+use Rattle.clock.specs.declared.Late.TheVariants as late
+use Rattle.waits.specs.declared.Unread.TheVariants as unread
 use Rattle.step.specs.declared.Refusal.TheVariants.{Arguments, Processes, Pairs}
 use Rattle.running.specs.declared.Refusal as taking
-use Rattle.running.specs.declared.Refusal.TheVariants.{Draw, Step, Wait}
+use Rattle.running.specs.declared.Refusal.TheVariants.{NoWeight, Draw, Step, Wait}
 use Rattle.running.specs.declared.End.{End}
-use Rattle.running.specs.declared.End.TheVariants.{Spent, Refused}
+use Rattle.running.specs.declared.End.TheVariants.{Spent, Unlisted, Refused}
+use Rattle.running.specs.declared.Given.{Given}
 use Rattle.running.specs.declared.Progress.{Progress}
 use Rattle.machine.specs.Machine.{Run, begun, ended_with, Next, on, over, entry_shown, event_of, longer, follows, run_step, running}
 use Rattle.running.specs.Taking.{refusal_number, Stepped, StepsTo}
 use Rattle.machine.specs.Runs.{run_of, is_over}
-use Rattle.running.specs.Progress.{written, end_number, begun_with, ended, longer_by, Stands, Lists, Goes}
-use Rattle.running.proofs.Parts.{refused_number, ok_first, ok_second}
+use Rattle.running.specs.Progress.{written, end_number, begun_with, ended, longer_by, Holds, Stands, Lists, Goes}
 use Rattle.running.proofs.Runs.{refused-step, dead-step, words-end, draw-step, follows_on, follows-over, next-on, next-over, on-longer, zero-steps, Took, Carries, carries, timed-good}
 use Rattle.running.proofs.Taking.{rest_of}
 use Rattle.running.proofs.Events.{event-written, none_written, numbers-length}
 
--- 16 to 19 and 23 to 25 are no 0
-some-refusal : (r : taking.Refusal) → refusal_number r ≡ 0 → ⊥
+-- 15 to 19 and 23 to 25 are no 0
+pub some-refusal : (r : taking.Refusal) → refusal_number r ≡ 0 → ⊥
+some-refusal NoWeight e = omega (arith, e)
 some-refusal Draw e = omega (arith, e)
 some-refusal (Step Arguments) e = omega (arith, e)
 some-refusal (Step Processes) e = omega (arith, e)
 some-refusal (Step Pairs) e = omega (arith, e)
-some-refusal (Wait Ended) e = omega (arith, e)
-some-refusal (Wait Long) e = omega (arith, e)
+some-refusal (Wait (late.Wait unread.Ended)) e = omega (arith, e)
+some-refusal (Wait (late.Wait unread.Long)) e = omega (arith, e)
 some-refusal (Wait Past) e = omega (arith, e)
 
 -- ---- what the listing is lent
@@ -101,27 +107,24 @@ pub record Refusal (m : Resolved.Model) (s : State) (n : ℕ) : Type 0 where
   pub is : listing m s ≡ refused_with (no n place branch zeroed)
   pub number : n ≡ 0 → ⊥
 
-pub refused-by : (m : Resolved.Model) (s : State) (n p b : ℕ) (l : List ℕ) → Leads (listing m s) (Err (refused n p b)) l → Refusal m s n
-refused-by m s n p b l h = by (listing m s) refl (listing-is m s) h.answer
+pub refused-by : (m : Resolved.Model) (s : State) (x : unlisted.Refusal) (l : List ℕ) → Leads (listing m s) (Err x) l → Refusal m s (refused_number x)
+refused-by m s x l h = by (listing m s) refl (listing-is m s) h.answer
   where
-    by : (x : Listed) → listing m s ≡ x → Refuses x → Err (refused n p b) ≡ listed_answer x → Refusal m s n
-    by x e entries-are q = absurd (unfold listed_answer in let z : ◌≡◌ {A = ℕ} 0 1 = cc in omega arith)
-    by x e (refuses i j k d) q = unfold listed_answer no in let f : n ≡ i = refused_number q in rw f (record { place = j; branch = k; is = e; number = d })
+    by : (y : Listed) → listing m s ≡ y → Refuses y → Answers y (Err x) → Refusal m s (refused_number x)
+    by y e entries-are q = elim q [ ]
+    by y e (refuses i j k d) (buffer.Answers.refuses q) = let f : refused_number x ≡ i = unfold no in q.number in rw f (record { place = j; branch = k; is = e; number = d })
 
-module _ {t roots scopes : List ℕ} {root variables : ℕ} {ws vs z : List ℕ} {zs : List ℤ} {ns : List ℕ} {p : Progress} {m : Resolved.Model} {r : Run} (h : Stands t roots scopes root variables ws vs z zs ns p m r) where
+module _ {given : Given} {z : List ℕ} {zs : List ℤ} {ns : List ℕ} {p : Progress} {m : Resolved.Model} {r : Run} (h : Stands given z zs ns p m r) where
   -- the listing of the run's state
-  pub lists-by : (l : List ℕ) (count sum : ℕ) → Leads (listing m r.timed.state) (Ok (count, sum)) l → (es : List Entry) × Lists t roots scopes root variables ws vs z zs ns p m r l count sum es
-  lists-by l count sum k = by (listing m r.timed.state) refl k.entries k.answer
+  pub lists-by : (l : List ℕ) (x : Counts) → Leads (listing m r.timed.state) (Ok x) l → (es : List Entry) × Lists given z zs ns p m r l x.count x.total es
+  lists-by l x k = by (listing m r.timed.state) refl k.entries k.answer
     where
-      by : (x : Listed) → listing m r.timed.state ≡ x → Leading l x → Ok (count, sum) ≡ listed_answer x → (es : List Entry) × Lists t roots scopes root variables ws vs z zs ns p m r l count sum es
-      by x e (leading {es = es} rest f) q = unfold listed_answer in
-          let a : count ≡ length es = ok_first q in
-          let b : sum ≡ total (weights es) = ok_second q in
-          (es, record { stands = h; counted = record { listing = record { lent = h.lent; listed = e; rest = rest; numbers = f }; count-is = a; sum_is = b } })
-      by x e nothing q = absurd (unfold listed_answer in let z : ◌≡◌ {A = ℕ} 0 1 = cc in omega arith)
+      by : (y : Listed) → listing m r.timed.state ≡ y → Leading l y → Answers y (Ok x) → (es : List Entry) × Lists given z zs ns p m r l x.count x.total es
+      by y e (leading {es = es} rest f) (buffer.Answers.counts n t) = (es, record { stands = h; counted = record { listing = record { lent = h.lent; listed = e; rest = rest; numbers = f }; count-is = n; sum_is = t } })
+      by y e nothing q = elim q [ ]
 
   -- ---- the run ends where it is
-  pub ends-here : (k : End) (c s : ℕ) (x : Next) (q : Progress) → x ≡ over (ended_with (end_number (Some k)) c s r.timed r) → q ≡ ended p k c s → Goes t roots scopes root variables ws vs z x q zs ns m
+  pub ends-here : (k : End) (c s : ℕ) (x : Next) (q : Progress) → x ≡ over (ended_with (end_number (Some k)) c s r.timed r) → q ≡ ended p k c s → Goes given z x q zs ns m
   unfolding run_of is_over
   ends-here k c s x q e f = rw (e, f) (record {
     stands = record {
@@ -142,48 +145,48 @@ module _ {t roots scopes : List ℕ} {root variables : ℕ} {ws vs z : List ℕ}
   })
 
   -- 12 to 14
-  pub refused-ends : (n : ℕ) (q : Progress) → Refusal m r.timed.state n → q ≡ ended p (Refused n) 0 0 → Goes t roots scopes root variables ws vs z (run_step ws vs m r) q zs ns m
-  refused-ends n q k f = ends-here (Refused n) 0 0 (run_step ws vs m r) q (refused-step ws vs m r n k.place k.branch k.is k.number) f
+  pub refused-ends : (x : unlisted.Refusal) (q : Progress) → Refusal m r.timed.state (refused_number x) → q ≡ ended p (Unlisted x) 0 0 → Goes given z (run_step given.words.now given.waiting.now m r) q zs ns m
+  refused-ends x q k f = ends-here (Unlisted x) 0 0 (run_step given.words.now given.waiting.now m r) q (refused-step given.words.now given.waiting.now m r (refused_number x) k.place k.branch k.is k.number) f
 
-module _ {t roots scopes : List ℕ} {root variables : ℕ} {ws vs z : List ℕ} {zs : List ℤ} {ns : List ℕ} {p : Progress} {m : Resolved.Model} {r : Run} {l : List ℕ} {count sum : ℕ} {es : List Entry} (h : Lists t roots scopes root variables ws vs z zs ns p m r l count sum es) where
+module _ {given : Given} {z : List ℕ} {zs : List ℤ} {ns : List ℕ} {p : Progress} {m : Resolved.Model} {r : Run} {l : List ℕ} {count sum : ℕ} {es : List Entry} (h : Lists given z zs ns p m r l count sum es) where
   abbrev listed : listing m r.timed.state ≡ entries_are es
   listed = h.counted.listing.listed
 
   -- 15
-  pub dead-ends : sum ≡ 0 → (q : Progress) → q ≡ ended p (Refused 15) count sum → Goes t roots scopes root variables ws vs z (run_step ws vs m r) q zs ns m
+  pub dead-ends : sum ≡ 0 → (q : Progress) → q ≡ ended p (Refused NoWeight) count sum → Goes given z (run_step given.words.now given.waiting.now m r) q zs ns m
   dead-ends e q f =
-      ends-here h.stands (Refused 15) count sum (run_step ws vs m r) q
-      (rw (h.counted.count-is, h.counted.sum_is) (dead-step ws vs m r es listed (sym h.counted.sum_is ∙ e))) f
+      ends-here h.stands (Refused NoWeight) count sum (run_step given.words.now given.waiting.now m r) q
+      (rw (h.counted.count-is, h.counted.sum_is) (dead-step given.words.now given.waiting.now m r es listed (sym h.counted.sum_is ∙ e))) f
 
-  module _ (above : sum ≡ 0 → ⊥) (w : Drawn) (is : w ≡ draw_of sum (drop p.words ws)) where
-    from-here : draw_of (total (weights es)) (drop r.words ws) ≡ w
+  module _ (above : sum ≡ 0 → ⊥) (w : Drawn) (is : w ≡ draw_of sum (drop p.words given.words.now)) where
+    from-here : draw_of (total (weights es)) (drop r.words given.words.now) ≡ w
     from-here = rw (← h.counted.sum_is, ← h.stands.words) (sym is)
 
     some-total : total (weights es) ≡ 0 → ⊥
     some-total e = above (h.counted.sum_is ∙ e)
 
     -- the words end
-    pub words-ends : w ≡ None → (q : Progress) → q ≡ ended p Spent count sum → Goes t roots scopes root variables ws vs z (run_step ws vs m r) q zs ns m
+    pub words-ends : w ≡ None → (q : Progress) → q ≡ ended p Spent count sum → Goes given z (run_step given.words.now given.waiting.now m r) q zs ns m
     words-ends e q f =
-        ends-here h.stands Spent count sum (run_step ws vs m r) q
-        (rw (h.counted.count-is, h.counted.sum_is) (words-end ws vs m r es listed some-total (from-here ∙ e))) f
+        ends-here h.stands Spent count sum (run_step given.words.now given.waiting.now m r) q
+        (rw (h.counted.count-is, h.counted.sum_is) (words-end given.words.now given.waiting.now m r es listed some-total (from-here ∙ e))) f
 
     -- a draw
-    pub drawn-so : (d u : ℕ) → w ≡ Some (d, u) → run_step ws vs m r ≡ follows u (steps_in r.timed.clock (drop r.waiting vs) r.timed.state (drawn m r.timed.state es d)) r
-    drawn-so d u e = draw-step ws vs m r es listed some-total d u (from-here ∙ e)
+    pub drawn-so : (d u : ℕ) → w ≡ Some (d, u) → run_step given.words.now given.waiting.now m r ≡ follows u (steps_in r.timed.clock (drop r.waiting given.waiting.now) r.timed.state (drawn m r.timed.state es d)) r
+    drawn-so d u e = draw-step given.words.now given.waiting.now m r es listed some-total d u (from-here ∙ e)
 
-    pub used-fits : (d u : ℕ) → w ≡ Some (d, u) → Within sum (length (drop p.words ws)) w → p.words + u ≤ length ws
+    pub used-fits : (d u : ℕ) → w ≡ Some (d, u) → Within sum (length (drop p.words given.words.now)) w → p.words + u ≤ length given.words.now
     unfolding Within
-    used-fits d u e k = let q = rw e at k in omega (arith, q.1, length-drop p.words ws, h.stands.words-fit, h.stands.words)
+    used-fits d u e k = let q = rw e at k in omega (arith, q.1, length-drop p.words given.words.now, h.stands.words-fit, h.stands.words)
 
   -- ---- a step with a draw
 
   -- with the waiting draws that are left
   pub left_over : (d : ℕ) (x : Stepped) (ys : List ℤ) (n : ℕ) (k : Clock) → k ≡ r.timed.clock → n ≡ r.waiting
-      → StepsTo (steps_in k (take (length vs - n) (drop n vs)) r.timed.state (drawn m r.timed.state es d)) k x ys
-      → StepsTo (steps_in r.timed.clock (drop r.waiting vs) r.timed.state (drawn m r.timed.state es d)) r.timed.clock x ys
+      → StepsTo (steps_in k (take (length given.waiting.now - n) (drop n given.waiting.now)) r.timed.state (drawn m r.timed.state es d)) k x ys
+      → StepsTo (steps_in r.timed.clock (drop r.waiting given.waiting.now) r.timed.state (drawn m r.timed.state es d)) r.timed.clock x ys
   left_over d x ys n k e f a =
-      let g : take (length vs - n) (drop n vs) ≡ drop r.waiting vs = rest_of n vs ∙ ap (λ (i : ℕ). drop i vs) f in
+      let g : take (length given.waiting.now - n) (drop n given.waiting.now) ≡ drop r.waiting given.waiting.now = rest_of n given.waiting.now ∙ ap (λ (i : ℕ). drop i given.waiting.now) f in
       rw (← e, ← g) a
 
   module _ (d u : ℕ) (ys : List ℤ) where
@@ -194,7 +197,7 @@ module _ {t roots scopes : List ℕ} {root variables : ℕ} {ws vs z : List ℕ}
     k = r.timed.clock
 
     abbrev ds : List ℕ
-    ds = drop r.waiting vs
+    ds = drop r.waiting given.waiting.now
 
     abbrev T : Turn Timed
     T = steps_in k ds s (drawn m s es d)
@@ -210,12 +213,12 @@ module _ {t roots scopes : List ℕ} {root variables : ℕ} {ws vs z : List ℕ}
     good = rw steps-with at (timed-good m s k h.stands.lent.stands.good h.stands.lent.stands.state h.stands.in-range ds d)
 
     -- refused
-    pub step-ends : (n : taking.Refusal) → StepsTo T k (Err n) ys → (q : Progress) → q ≡ ended p (Refused (refusal_number n)) count sum → Goes t roots scopes root variables ws vs z (follows u T r) q ys ns m
+    pub step-ends : (n : taking.Refusal) → StepsTo T k (Err n) ys → (q : Progress) → q ≡ ended p (Refused n) count sum → Goes given z (follows u T r) q ys ns m
     step-ends n a q f =
         let g : T.answer.number ≡ 0 → ⊥ = λ e. some-refusal n (a.number ∙ e) in
         let e : follows u T r ≡ over (ended_with T.answer.number T.answer.count T.answer.total T.machine r) = follows-over u T r g in
         let y : ys ≡ zs = a.state ∙ ap (λ (v : Timed). state_numbers v.state) (car.stays g) ∙ sym h.stands.lent.stands.numbers in
-        rw y (ends-here h.stands (Refused (refusal_number n)) count sum (follows u T r) q
+        rw y (ends-here h.stands (Refused n) count sum (follows u T r) q
         (e ∙ rw (car.stays g, car.count, car.total, ← a.number, h.counted.count-is, h.counted.sum_is) refl) f)
 
     -- accepted, with the entry c and the clock n
@@ -230,14 +233,14 @@ module _ {t roots scopes : List ℕ} {root variables : ℕ} {ws vs z : List ℕ}
       pub row_within : c * 7 + 7 ≤ length l
       row_within = omega (arith, a.chosen, took.below, ap length h.counted.listing.numbers, list_length es h.counted.listing.rest)
 
-      pub words-within : p.words + u ≤ length ws → r.words + u ≤ length ws
+      pub words-within : p.words + u ≤ length given.words.now → r.words + u ≤ length given.words.now
       words-within f = omega (arith, h.stands.words)
 
-      waiting-within : r.waiting + (T.machine.clock.draws - k.draws) ≤ length vs
-      waiting-within = omega (arith, car.used accepted, length-drop r.waiting vs, h.stands.waiting-fits)
+      waiting-within : r.waiting + (T.machine.clock.draws - k.draws) ≤ length given.waiting.now
+      waiting-within = omega (arith, car.used accepted, length-drop r.waiting given.waiting.now, h.stands.waiting-fits)
 
       -- nothing wraps
-      pub clock-later : (p.clock.draws ≤ n.draws) × (p.waiting + (n.draws - p.clock.draws) ≤ length vs)
+      pub clock-later : (p.clock.draws ≤ n.draws) × (p.waiting + (n.draws - p.clock.draws) ≤ length given.waiting.now)
       clock-later = rw (a.clock, h.stands.clock, h.stands.waiting) (car.later accepted, waiting-within)
 
       event-is : entry_in l c ≡ entry_shown T.answer.listing T.answer.chosen
@@ -246,8 +249,8 @@ module _ {t roots scopes : List ℕ} {root variables : ℕ} {ws vs z : List ℕ}
           (entry_in_lem es h.counted.listing.rest T.answer.chosen took.entry took.at ∙ sym (unfold entry_shown Option-elim in rw took.at refl))
 
       -- accepted: one event more
-      pub step-goes : (q : Progress) (ns' : List ℕ) → p.words + u ≤ length ws → p.steps * 8 + 8 ≤ length ns → ns' ≡ written ns p.steps n.ticks (entry_in l c) → q ≡ longer_by p u count sum n
-          → Goes t roots scopes root variables ws vs z (follows u T r) q ys ns' m
+      pub step-goes : (q : Progress) (ns' : List ℕ) → p.words + u ≤ length given.words.now → p.steps * 8 + 8 ≤ length ns → ns' ≡ written ns p.steps n.ticks (entry_in l c) → q ≡ longer_by p u count sum n
+          → Goes given z (follows u T r) q ys ns' m
       unfolding run_of is_over
       step-goes q ns' fits room w f =
           let e : follows u T r ≡ on (longer u T r) = follows_on u T r accepted in
@@ -272,16 +275,14 @@ module _ {t roots scopes : List ℕ} {root variables : ℕ} {ws vs z : List ℕ}
 
 -- ---- the loop
 
--- p, the state's numbers zs and the events ns tell a run that comes to what the whole run does: so many steps from the state that zs₀ tells, and from the clock k
-pub record Loop (t roots scopes : List ℕ) (root variables : ℕ) (ws vs z : List ℕ) (zs₀ : List ℤ) (steps : ℕ) (k : Clock) (zs : List ℤ) (ns : List ℕ) (p : Progress) : Type 0 where
-  pub within : p.steps ≤ steps
-  pub told : (m : Resolved.Model) (s : State) → Lent t roots scopes root variables zs₀ m s
-      → (r : Run) × (Stands t roots scopes root variables ws vs z zs ns p m r) × (running (steps - p.steps) ws vs m r ≡ running steps ws vs m (begun (timed s k)))
+-- p, the state's numbers zs and the events ns tell a run of i steps that comes to what the whole run does: so many steps from the state that zs₀ tells, and from the clock k
+pub record Loop (given : Given) (z : List ℕ) (zs₀ : List ℤ) (steps : ℕ) (k : Clock) (i : ℕ) (zs : List ℤ) (ns : List ℕ) (p : Progress) : Type 0 where
+  pub told : (m : Resolved.Model) (s : State) → Holds given zs₀ m s
+      → (r : Run) × (Stands given z zs ns p m r) × (p.steps ≡ i) × (running (steps - i) given.words.now given.waiting.now m r ≡ running steps given.words.now given.waiting.now m (begun (timed s k)))
 
-module _ (t roots scopes : List ℕ) (root variables : ℕ) (ws vs z : List ℕ) (zs₀ : List ℤ) (steps : ℕ) (k : Clock) where
-  pub loop-begins : (p : Progress) → p ≡ begun_with k → InRange k → Loop t roots scopes root variables ws vs z zs₀ steps p.clock zs₀ z p
+module _ (given : Given) (z : List ℕ) (zs₀ : List ℤ) (steps : ℕ) (k : Clock) where
+  pub loop-begins : (p : Progress) → p ≡ begun_with k → InRange k → Loop given z zs₀ steps p.clock 0 zs₀ z p
   loop-begins p e i = rw e (record {
-    within = omega arith;
     told = λ m s h. (
       begun (timed s k),
       record {
@@ -298,57 +299,49 @@ module _ (t roots scopes : List ℕ) (root variables : ℕ) (ws vs z : List ℕ)
         clock = refl;
         events = none_written z;
       },
-      let n : steps - 0 ≡ steps = omega arith in ap (λ (i : ℕ). running i ws vs m (begun (timed s k))) n,
+      refl,
+      let n : steps - 0 ≡ steps = omega arith in ap (λ (i : ℕ). running i given.words.now given.waiting.now m (begun (timed s k))) n,
     );
   })
 
-  module _ (zs : List ℤ) (ns : List ℕ) (p : Progress) (h : Loop t roots scopes root variables ws vs z zs₀ steps k zs ns p) where
+  module _ (i : ℕ) (zs : List ℤ) (ns : List ℕ) (p : Progress) (h : Loop given z zs₀ steps k i zs ns p) where
     -- some run is told, and there is room for its next event
-    pub some-run : (m : Resolved.Model) (s : State) → Lent t roots scopes root variables zs₀ m s → (x : List ℕ) × (m : Resolved.Model) × (r : Run) × Stands t roots scopes root variables ws vs x zs ns p m r
+    pub some-run : (m : Resolved.Model) (s : State) → Holds given zs₀ m s → (x : List ℕ) × (m : Resolved.Model) × (r : Run) × Stands given x zs ns p m r
     some-run m s l = let a = h.told m s l in (z, m, a.0, a.1)
 
-    pub has_room : (m : Resolved.Model) (s : State) → Lent t roots scopes root variables zs₀ m s → p.steps < steps → steps * 8 ≤ length z → p.steps * 8 + 8 ≤ length ns
-    has_room m s l b f = let a = h.told m s l in omega (arith, a.1.steps, ap length a.1.events, numbers-length a.0.events z)
+    pub has_room : (m : Resolved.Model) (s : State) → Holds given zs₀ m s → i < steps → steps * 8 ≤ length z → p.steps * 8 + 8 ≤ length ns
+    has_room m s l b f = let a = h.told m s l in omega (arith, a.2, a.1.steps, ap length a.1.events, numbers-length a.0.events z)
 
     -- all steps are taken
-    pub all-taken : steps ≤ p.steps → (m : Resolved.Model) (s : State) → Lent t roots scopes root variables zs₀ m s → Stands t roots scopes root variables ws vs z zs ns p m (running steps ws vs m (begun (timed s k)))
+    pub all-taken : i ≡ steps → (m : Resolved.Model) (s : State) → Holds given zs₀ m s → Stands given z zs ns p m (running steps given.words.now given.waiting.now m (begun (timed s k)))
     all-taken b m s l =
         let a = h.told m s l in
-        let n : steps - p.steps ≡ 0 = omega arith in
-        let e : a.0 ≡ running steps ws vs m (begun (timed s k)) = sym (zero-steps ws vs m a.0) ∙ ap (λ (i : ℕ). running i ws vs m a.0) (sym n) ∙ a.2 in
+        let n : steps - i ≡ 0 = omega arith in
+        let e : a.0 ≡ running steps given.words.now given.waiting.now m (begun (timed s k)) = sym (zero-steps given.words.now given.waiting.now m a.0) ∙ ap (λ (i : ℕ). running i given.words.now given.waiting.now m a.0) (sym n) ∙ a.3 in
         rw (← e) a.1
 
-    module _ (zs' : List ℤ) (ns' : List ℕ) (q : Progress) (below : p.steps < steps)
-        (g : (x : List ℕ) (m : Resolved.Model) (r : Run) → Stands t roots scopes root variables ws vs x zs ns p m r → Goes t roots scopes root variables ws vs x (run_step ws vs m r) q zs' ns' m) where
+    module _ (zs' : List ℤ) (ns' : List ℕ) (q : Progress) (below : i < steps)
+        (next : (x : List ℕ) (m : Resolved.Model) (r : Run) → Stands given x zs ns p m r → Goes given x (run_step given.words.now given.waiting.now m r) q zs' ns' m) where
       -- the run has ended
-      pub run-over : is_some q.end ≡ true → (m : Resolved.Model) (s : State) → Lent t roots scopes root variables zs₀ m s → Stands t roots scopes root variables ws vs z zs' ns' q m (running steps ws vs m (begun (timed s k)))
+      pub run-over : is_some q.end ≡ true → (m : Resolved.Model) (s : State) → Holds given zs₀ m s → Stands given z zs' ns' q m (running steps given.words.now given.waiting.now m (begun (timed s k)))
       run-over o m s l =
           let a = h.told m s l in
-          let b = g z m a.0 a.1 in
-          let n : steps - p.steps ≡ suc (steps - (p.steps + 1)) = omega arith in
-          let e : run_of (run_step ws vs m a.0) ≡ running steps ws vs m (begun (timed s k)) =
-          sym (next-over (steps - (p.steps + 1)) ws vs m a.0 (sym b.over ∙ o)) ∙ ap (λ (i : ℕ). running i ws vs m a.0) (sym n) ∙ a.2 in
+          let b = next z m a.0 a.1 in
+          let n : steps - i ≡ suc (steps - (i + 1)) = omega arith in
+          let e : run_of (run_step given.words.now given.waiting.now m a.0) ≡ running steps given.words.now given.waiting.now m (begun (timed s k)) =
+          sym (next-over (steps - (i + 1)) given.words.now given.waiting.now m a.0 (sym b.over ∙ o)) ∙ ap (λ (i : ℕ). running i given.words.now given.waiting.now m a.0) (sym n) ∙ a.3 in
           rw (← e) b.stands
 
-      one_more : is_some q.end ≡ false → (m : Resolved.Model) (s : State) → Lent t roots scopes root variables zs₀ m s → q.steps ≡ p.steps + 1
-      one_more o m s l =
-          let a = h.told m s l in
-          let b = g z m a.0 a.1 in
-          omega (arith, b.stands.steps, on-longer ws vs m a.0 (sym b.over ∙ o), a.1.steps)
-
       -- it goes on
-      pub run_on : (m : Resolved.Model) (s : State) → Lent t roots scopes root variables zs₀ m s → is_some q.end ≡ false → Loop t roots scopes root variables ws vs z zs₀ steps k zs' ns' q
-      run_on m₀ s₀ l₀ o = record {
-        within = omega (arith, one_more o m₀ s₀ l₀);
+      pub run_on : is_some q.end ≡ false → Loop given z zs₀ steps k (i + 1) zs' ns' q
+      run_on o = record {
         told = λ m s l.
             let a = h.told m s l in
-            let b = g z m a.0 a.1 in
-            let n : steps - p.steps ≡ suc (steps - q.steps) = omega (arith, one_more o m s l) in (
-              run_of (run_step ws vs m a.0),
+            let b = next z m a.0 a.1 in
+            let n : steps - i ≡ suc (steps - (i + 1)) = omega arith in (
+              run_of (run_step given.words.now given.waiting.now m a.0),
               b.stands,
-              sym (next-on (steps - q.steps) ws vs m a.0 (sym b.over ∙ o)) ∙ ap (λ (i : ℕ). running i ws vs m a.0) (sym n) ∙ a.2,
+              omega (arith, a.2, b.stands.steps, on-longer given.words.now given.waiting.now m a.0 (sym b.over ∙ o), a.1.steps),
+              sym (next-on (steps - (i + 1)) given.words.now given.waiting.now m a.0 (sym b.over ∙ o)) ∙ ap (λ (i : ℕ). running i given.words.now given.waiting.now m a.0) (sym n) ∙ a.3,
             );
       }
-
-      pub fewer-left : (m : Resolved.Model) (s : State) → Lent t roots scopes root variables zs₀ m s → is_some q.end ≡ false → steps - q.steps < steps - p.steps
-      fewer-left m s l o = omega (arith, one_more o m s l)

@@ -32,19 +32,6 @@ use Rattle.running.specs.Taking.{Stepped, stepped_by, StepsTo}
 pub rest_of : (n : ℕ) (xs : List ℕ) → take (length xs - n) (drop n xs) ≡ drop n xs
 rest_of n xs = take_all (length xs - n) (drop n xs) (omega (arith, length-drop n xs))
 
--- ---- numbers put over others
-put-over : (n : ℕ) (xs ys : List ℤ) → length xs ≡ n → length ys ≡ n → take n xs ++ drop n ys ≡ xs
-put-over n xs ys a b = ap₂ (λ (p q : List ℤ). p ++ q) (take_all n xs (omega arith)) (drop_of_length-le ys {i = n} (omega arith)) ∙ append-nil xs
-
-pub kept-all : (xs zs : List ℤ) {bs : List ℤ} → bs ≡ take state_length xs ++ drop state_length zs → length xs ≡ state_length → length zs ≡ state_length → bs ≡ xs
-kept-all xs zs e l k = e ∙ put-over state_length xs zs l k
-
-pub put_back : (xs zs : List ℤ) {bs ys us rs : List ℤ} → ys ≡ us → length ys ≡ state_length → length zs ≡ state_length → bs ≡ take state_length xs ++ drop state_length zs → rs ≡ take state_length bs ++ drop state_length ys
-    → length xs ≡ state_length → rs ≡ xs
-put_back xs zs {bs} {ys} q a k e f l =
-    let p : bs ≡ xs = kept-all xs zs e l k in
-    f ∙ ap (λ (us : List ℤ). take state_length us ++ drop state_length ys) p ∙ put-over state_length xs ys l a
-
 -- ---- what a timed step leaves
 module _ (s s' : State) (es : List Entry) (c : ℕ) (k : Clock) (ds : List ℕ) where
   abbrev b : Brought

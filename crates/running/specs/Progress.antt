@@ -5,12 +5,16 @@ use Rattle.rules.specs.Rules.{key}
 use Rattle.rules.specs.Listing.{Entry, entry}
 use Rattle.clock.specs.declared.Clock.{Clock}
 use Rattle.clock.specs.Clock.{InRange}
+use Rattle.machine.specs.State.{State}
 use Rattle.machine.specs.Machine.{event_width, Run, Next}
 use Rattle.machine.specs.Runs.{event_numbers, run_of, is_over}
+use Rattle.listing.specs.Buffer as unlisted
 use Rattle.step.specs.Enter.{Lent}
 use Rattle.step.specs.Entries.{Counted}
 use Rattle.running.specs.declared.End.{End}
-use Rattle.running.specs.declared.End.TheVariants.{Spent, Refused}
+use Rattle.running.specs.declared.End.TheVariants.{Spent, Unlisted, Refused}
+use Rattle.running.specs.declared.Given.{Given}
+use Rattle.running.specs.Taking.{refusal_number}
 use Rattle.running.specs.declared.Progress.{Progress}
 
 -- event n written over what stands in the buffer
@@ -21,7 +25,8 @@ written l n t (entry (key c i j k m q) w) =
 
 -- 0, or the number of the refusal that ended a run
 abbrev pub end_number : Option End → ℕ
-end_number (Some (Refused n)) = n
+end_number (Some (Unlisted r)) = unlisted.refusal_number r
+end_number (Some (Refused r)) = refusal_number r
 end_number (Some Spent) = 0
 end_number None = 0
 
@@ -37,12 +42,16 @@ ended p e c s = record { steps = p.steps; words = p.words; waiting = p.waiting; 
 abbrev pub longer_by : Progress → (used count total : ℕ) → Clock → Progress
 longer_by p u c s k = record { steps = p.steps + 1; words = p.words + u; waiting = p.waiting + (k.draws - p.clock.draws); count = c; total = s; clock = k; end = None }
 
--- the tables hold the model m; the run r has come so far that p, the state's numbers zs and the events es tell it; ws and vs are the words and waiting draws, z the events as lent
-pub record Stands (t roots scopes : List ℕ) (root variables : ℕ) (ws vs z : List ℕ) (zs : List ℤ) (es : List ℕ) (p : Progress) (m : Resolved.Model) (r : Run) : Type 0 where
-  pub lent : Lent t roots scopes root variables zs m r.timed.state
+-- the tables hold the model m, and zs are the numbers of the state s over it
+abbrev pub Holds : Given → List ℤ → Resolved.Model → State → Type 0
+Holds g zs m s = Lent g.tables.nodes.now g.tables.roots.now g.tables.scopes.now g.tables.root g.tables.variables zs m s
+
+-- the tables hold the model m; the run r has come so far that p, the state's numbers zs and the events es tell it; z the events as lent
+pub record Stands (g : Given) (z : List ℕ) (zs : List ℤ) (es : List ℕ) (p : Progress) (m : Resolved.Model) (r : Run) : Type 0 where
+  pub lent : Holds g zs m r.timed.state
   pub in-range : InRange r.timed.clock
-  pub words-fit : r.words ≤ length ws
-  pub waiting-fits : r.waiting ≤ length vs
+  pub words-fit : r.words ≤ length g.words.now
+  pub waiting-fits : r.waiting ≤ length g.waiting.now
   pub number : end_number p.end ≡ r.number
   pub steps : p.steps ≡ length r.events
   pub words : p.words ≡ r.words
@@ -53,11 +62,11 @@ pub record Stands (t roots scopes : List ℕ) (root variables : ℕ) (ws vs z : 
   pub events : es ≡ event_numbers r.events z
 
 -- and the listing es of its state stands first in the buffer l
-pub record Lists (t roots scopes : List ℕ) (root variables : ℕ) (ws vs z : List ℕ) (zs : List ℤ) (es : List ℕ) (p : Progress) (m : Resolved.Model) (r : Run) (l : List ℕ) (count sum : ℕ) (entries : List Entry) : Type 0 where
-  pub stands : Stands t roots scopes root variables ws vs z zs es p m r
-  pub counted : Counted t roots scopes root variables zs l count sum m r.timed.state entries
+pub record Lists (g : Given) (z : List ℕ) (zs : List ℤ) (es : List ℕ) (p : Progress) (m : Resolved.Model) (r : Run) (l : List ℕ) (count sum : ℕ) (entries : List Entry) : Type 0 where
+  pub stands : Stands g z zs es p m r
+  pub counted : Counted g.tables.nodes.now g.tables.roots.now g.tables.scopes.now g.tables.root g.tables.variables zs l count sum m r.timed.state entries
 
 -- what one step leaves: the run goes on, or it is over
-pub record Goes (t roots scopes : List ℕ) (root variables : ℕ) (ws vs z : List ℕ) (x : Next) (p : Progress) (zs : List ℤ) (es : List ℕ) (m : Resolved.Model) : Type 0 where
-  pub stands : Stands t roots scopes root variables ws vs z zs es p m (run_of x)
+pub record Goes (g : Given) (z : List ℕ) (x : Next) (p : Progress) (zs : List ℤ) (es : List ℕ) (m : Resolved.Model) : Type 0 where
+  pub stands : Stands g z zs es p m (run_of x)
   pub over : is_some p.end ≡ is_over x

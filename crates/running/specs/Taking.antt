@@ -9,10 +9,11 @@ use Rattle.step.specs.declared.Refusal as step
 use Rattle.step.specs.Enter as taking
 use Rattle.step.specs.Enter.{Taken}
 use Rattle.running.specs.declared.Refusal.{Refusal}
-use Rattle.running.specs.declared.Refusal.TheVariants.{Draw, Step, Wait}
+use Rattle.running.specs.declared.Refusal.TheVariants.{NoWeight, Draw, Step, Wait}
 
--- 01, Listing and stepping; 02, note 4: 16, 17 to 19 and 23 to 25
+-- 01, Listing and stepping; 02, note 4: 15, 16, 17 to 19 and 23 to 25
 abbrev pub refusal_number : Refusal → ℕ
+refusal_number NoWeight = 15
 refusal_number Draw = 16
 refusal_number (Step r) = taking.refusal_number r
 refusal_number (Wait l) = late_number l

@@ -14,10 +14,10 @@ ghost use Rattle.step.specs.Enter.{verdict, Lent};
 ghost use Rattle.step.specs.Entries.{Counted, Row};
 ghost use Rattle.machine.specs.Machine.{Run, begun, follows, run_step, running, runs_with, event_width};
 ghost use Rattle.running.specs.Taking.{refusal_number, of_step, StepsTo};
-ghost use Rattle.running.specs.Progress.{written, end_number, begun_with, ended, longer_by, Stands, Lists, Goes};
+ghost use Rattle.running.specs.Progress.{written, end_number, begun_with, ended, longer_by, Holds, Stands, Lists, Goes};
 
 use clock::{Clock, Late};
-use listing::Limits;
+use listing::{Limits, Listed};
 use offers::{Space, Table};
 use tables::Tables;
 
@@ -38,20 +38,22 @@ impl Room {
     pub const EVENT: usize = 8;
 }
 
-// Why a timed step is refused: the draw chooses no entry; the entry can't be taken; the clock can't be brought forward.
+// Why a timed step is refused once its state is listed: the total is zero; the draw chooses no entry; the entry can't be taken; the clock can't be brought forward.
 #[derive(Clone, Copy)]
 pub enum Refusal {
+    NoWeight,
     Draw,
     Step(step::Refusal),
     Wait(Late),
 }
 
 impl Refusal {
-    // The number that it answers with: 16, 17 to 19, 23 to 25.
+    // The number that it answers with: 15, 16, 17 to 19, 23 to 25.
     pub fn number(self) -> u64
         ensures { result ≡ refusal_number self }
     {
         match self {
+            Refusal::NoWeight => 15,
             Refusal::Draw => 16,
             Refusal::Step(refusal) => refusal.number(),
             Refusal::Wait(late) => late.number(),
@@ -67,14 +69,17 @@ impl From<step::Refusal> for Refusal {
     }
 }
 
-// How a run ends before its limit: the words give no draw any more; or a refusal of this number.
+// How a run ends before its limit: the words give no draw any more; its state has no listing; its step is refused.
 #[derive(Clone, Copy)]
 pub enum End {
     Spent,
-    Refused(u64),
+    Unlisted(listing::Refusal),
+    Refused(Refusal),
 }
 
 // How a run stands: steps taken, words and waiting draws used; count and total of the last listing; the clock; and how it ended, if it did.
+// The end is what a caller is told, so it stays beside the rest: None is a run that its limit or its room for events ended.
+// Count and total apart: before the first listing, and where a state has none, they are 0, and a Listed of zeros would say that something was listed.
 #[derive(Clone, Copy)]
 pub struct Progress {
     pub steps: usize,
@@ -87,7 +92,7 @@ pub struct Progress {
 }
 
 impl Progress {
-    // Before the first step.
+    // Before the first step. Zeros one by one: a clock has no default for `..` to take.
     fn begun(clock: Clock) -> Self
         ensures { result ≡ begun_with clock }
     {
@@ -107,7 +112,8 @@ impl Progress {
         ensures { result ≡ end_number self.end }
     {
         match self.end {
-            Some(End::Refused(number)) => number,
+            Some(End::Unlisted(refusal)) => refusal.number(),
+            Some(End::Refused(refusal)) => refusal.number(),
             _ => 0,
         }
     }
@@ -117,13 +123,10 @@ impl Progress {
         ensures { result ≡ ended self end count total }
     {
         Progress {
-            steps: self.steps,
-            words: self.words,
-            waiting: self.waiting,
             count,
             total,
-            clock: self.clock,
             end: Some(end),
+            ..self
         }
     }
 
@@ -132,8 +135,7 @@ impl Progress {
         requires { (self.steps + 1 < 18446744073709551616) × (self.words + used < 18446744073709551616) × (self.clock.draws ≤ clock.draws) × (self.waiting + (clock.draws - self.clock.draws) < 18446744073709551616) }
         ensures { result ≡ longer_by self used count total clock }
     {
-        let before = self.clock;
-        let waited = clock.draws - before.draws;
+        let waited = clock.draws - self.clock.draws;
         Progress {
             steps: self.steps + 1,
             words: self.words + used,
@@ -146,7 +148,24 @@ impl Progress {
     }
 }
 
-// What taking entry c of the listing would come to; the state stays as it was.
+// What a run is lent to read: the tables of its model, the words of its choosing draws, and its waiting draws.
+#[derive(Clone, Copy)]
+pub struct Given<'a> {
+    pub tables: Tables<'a>,
+    pub words: &'a [u64],
+    pub waiting: &'a [u16],
+}
+
+// What the steps of a run are made in: the table of offers, the processes that an entry leads to, and the listing.
+#[derive(Drop)]
+struct Scratch {
+    space: Space<{ Table::ROWS }>,
+    fresh: [i64; Room::FRESH],
+    listing: [u64; Room::LISTING],
+}
+
+// What taking entry c of the listing would come to; the state stays as it was. Here and in take_waiting and take_timed the state and `fresh`, which are written,
+// are lent apart from what is read: a struct of `&mut` slices would lose what is written.
 fn take_kept(
     tables: Tables,
     state: &mut [i64],
@@ -158,9 +177,9 @@ fn take_kept(
     ensures { ((m : Resolved.Model) (s : State) (es : List rules.Entry) (e : rules.Entry) → Row tables.entry.nodes.now tables.entry.roots.now tables.entry.scopes.now tables.entry.root tables.entry.variables state.old listing.now c m s es e → result ≡ verdict (entry_arguments m s (rules.key_of e)) (entry_state m s (rules.key_of e))) × (state.new ≡ state.old) }
 {
     let mut before = [0i64; Room::STATE];
-    state::put(&mut before, &state[..], Room::STATE);
+    before.copy_from_slice(&state[..]);
     let taken = step::take_row(tables, state, fresh, listing, c);
-    state::put(state, &before, Room::STATE);
+    state.copy_from_slice(&before);
     taken
 }
 
@@ -196,22 +215,20 @@ pub fn take_timed(
     state: &mut [i64],
     fresh: &mut [i64; Room::FRESH],
     listing: &[u64],
-    count: usize,
-    total: u64,
+    listed: Listed,
     draw: u64,
     waiting: &[u16],
     clock: Clock,
 ) -> Result<(usize, Clock), Refusal>
-    requires { ((m : Resolved.Model) × (s : State) × (es : List rules.Entry) × Counted tables.nodes.now tables.roots.now tables.scopes.now tables.root tables.variables state.old listing.now count total m s es) × (InRange clock) × (0 < total) }
-    ensures { (m : Resolved.Model) (s : State) (es : List rules.Entry) → Counted tables.entry.nodes.now tables.entry.roots.now tables.entry.scopes.now tables.entry.root tables.entry.variables state.old listing.now count total m s es → StepsTo (steps_in clock waiting.now s (drawn m s es draw)) clock result state.new }
+    requires { ((m : Resolved.Model) × (s : State) × (es : List rules.Entry) × Counted tables.nodes.now tables.roots.now tables.scopes.now tables.root tables.variables state.old listing.now listed.count listed.total m s es) × (InRange clock) × (0 < listed.total) }
+    ensures { (m : Resolved.Model) (s : State) (es : List rules.Entry) → Counted tables.entry.nodes.now tables.entry.roots.now tables.entry.scopes.now tables.entry.root tables.entry.variables state.old listing.now listed.count listed.total m s es → StepsTo (steps_in clock waiting.now s (drawn m s es draw)) clock result state.new }
 {
-    let Some(c) = listing::choose(listing, count, draw) else {
-        return Err(Refusal::Draw);
-    };
+    let c = listed.choose(listing, draw).ok_or(Refusal::Draw)?;
+    let total = listed.total;
     take_waiting(tables, state, fresh, listing, c, total, waiting, clock)
 }
 
-// Writes an event: the ticks, and entry c of the listing.
+// Writes an event: the ticks, and entry c of the listing. A slice and a step: what is written through an array made of a part of a slice isn't known of the slice.
 fn put_event(events: &mut [u64], step: usize, ticks: u64, listing: &[u64], c: usize)
     requires { (step * event_width + event_width ≤ length events.old) × (c * entry_width + entry_width ≤ length listing.now) }
     ensures { events.new ≡ written events.old step ticks (entry_in listing.now c) }
@@ -219,128 +236,106 @@ fn put_event(events: &mut [u64], step: usize, ticks: u64, listing: &[u64], c: us
     let at = step * Room::EVENT;
     let from = c * Limits::ENTRY;
     events[at] = ticks;
-    events[at + 1] = listing[from];
-    events[at + 2] = listing[from + 1];
-    events[at + 3] = listing[from + 2];
-    events[at + 4] = listing[from + 3];
-    events[at + 5] = listing[from + 4];
-    events[at + 6] = listing[from + 5];
-    events[at + 7] = listing[from + 6];
+    events[at + 1..at + Room::EVENT].copy_from_slice(&listing[from..from + Limits::ENTRY]);
 }
 
 // A step of a run with its choosing draw, which took so many words.
 fn step_drawn(
-    tables: Tables,
+    given: Given,
     state: &mut [i64],
-    fresh: &mut [i64; Room::FRESH],
-    listing: &[u64],
-    count: usize,
-    total: u64,
+    events: &mut [u64],
+    scratch: &mut Scratch,
+    listed: Listed,
     draw: u64,
     used: usize,
-    waiting: &[u16],
-    events: &mut [u64],
     p: Progress,
 ) -> Progress
-    requires { ((ws : List ℕ) × (z : List ℕ) × (m : Resolved.Model) × (r : Run) × (es : List rules.Entry) × Lists tables.nodes.now tables.roots.now tables.scopes.now tables.root tables.variables ws waiting.now z state.old events.old p m r listing.now count total es × (p.words + used ≤ length ws) × (length ws < 18446744073709551616)) × (0 < total) × (p.steps * event_width + event_width ≤ length events.old) }
-    ensures { (ws z : List ℕ) (m : Resolved.Model) (r : Run) (es : List rules.Entry) → Lists tables.entry.nodes.now tables.entry.roots.now tables.entry.scopes.now tables.entry.root tables.entry.variables ws waiting.now z state.old events.old p m r listing.now count total es → p.words + used ≤ length ws → Goes tables.entry.nodes.now tables.entry.roots.now tables.entry.scopes.now tables.entry.root tables.entry.variables ws waiting.now z (follows used (steps_in r.timed.clock (drop r.waiting waiting.now) r.timed.state (drawn m r.timed.state es draw)) r) result state.new events.new m }
+    requires { ((z : List ℕ) × (m : Resolved.Model) × (r : Run) × (es : List rules.Entry) × Lists given z state.old events.old p m r scratch.old.listing listed.count listed.total es × (p.words + used ≤ length given.words.now)) × (0 < listed.total) × (p.steps * event_width + event_width ≤ length events.old) }
+    ensures { (z : List ℕ) (m : Resolved.Model) (r : Run) (es : List rules.Entry) → Lists given.entry z state.old events.old p m r scratch.old.listing listed.count listed.total es → p.words + used ≤ length given.entry.words.now → Goes given.entry z (follows used (steps_in r.timed.clock (drop r.waiting given.entry.waiting.now) r.timed.state (drawn m r.timed.state es draw)) r) result state.new events.new m }
 {
+    let waiting = given.waiting;
     let gone = p.waiting;
     let stepped = take_timed(
-        tables,
+        given.tables,
         state,
-        fresh,
-        listing,
-        count,
-        total,
+        &mut scratch.fresh,
+        &scratch.listing,
+        listed,
         draw,
         &waiting[gone..],
         p.clock,
     );
     match stepped {
-        Err(refusal) => p.ended(End::Refused(refusal.number()), count, total),
+        Err(refusal) => p.ended(End::Refused(refusal), listed.count, listed.total),
         Ok((chosen, next)) => {
-            put_event(events, p.steps, next.ticks, listing, chosen);
-            p.longer(used, count, total, next)
+            put_event(events, p.steps, next.ticks, &scratch.listing, chosen);
+            p.longer(used, listed.count, listed.total, next)
         }
     }
 }
 
 // A step of a run once its state is listed: 15, the draw from words, then the step.
 fn step_counted(
-    tables: Tables,
+    given: Given,
     state: &mut [i64],
-    fresh: &mut [i64; Room::FRESH],
-    listing: &[u64],
-    count: usize,
-    total: u64,
-    words: &[u64],
-    waiting: &[u16],
     events: &mut [u64],
+    scratch: &mut Scratch,
+    listed: Listed,
     p: Progress,
 ) -> Progress
-    requires { ((z : List ℕ) × (m : Resolved.Model) × (r : Run) × (es : List rules.Entry) × Lists tables.nodes.now tables.roots.now tables.scopes.now tables.root tables.variables words.now waiting.now z state.old events.old p m r listing.now count total es) × (p.steps * event_width + event_width ≤ length events.old) }
-    ensures { (z : List ℕ) (m : Resolved.Model) (r : Run) (es : List rules.Entry) → Lists tables.entry.nodes.now tables.entry.roots.now tables.entry.scopes.now tables.entry.root tables.entry.variables words.now waiting.now z state.old events.old p m r listing.now count total es → Goes tables.entry.nodes.now tables.entry.roots.now tables.entry.scopes.now tables.entry.root tables.entry.variables words.now waiting.now z (run_step words.now waiting.now m r) result state.new events.new m }
+    requires { ((z : List ℕ) × (m : Resolved.Model) × (r : Run) × (es : List rules.Entry) × Lists given z state.old events.old p m r scratch.old.listing listed.count listed.total es) × (p.steps * event_width + event_width ≤ length events.old) }
+    ensures { (z : List ℕ) (m : Resolved.Model) (r : Run) (es : List rules.Entry) → Lists given.entry z state.old events.old p m r scratch.old.listing listed.count listed.total es → Goes given.entry z (run_step given.entry.words.now given.entry.waiting.now m r) result state.new events.new m }
 {
-    if total == 0 {
-        return p.ended(End::Refused(15), count, total);
+    if listed.total == 0 {
+        return p.ended(End::Refused(Refusal::NoWeight), listed.count, listed.total);
     }
+    let words = given.words;
     let from = p.words;
-    let drawn = words::draw_from(&words[from..], total);
+    let drawn = words::draw_from(&words[from..], listed.total);
     match drawn {
-        None => p.ended(End::Spent, count, total),
-        Some((draw, used)) => step_drawn(
-            tables, state, fresh, listing, count, total, draw, used, waiting, events, p,
-        ),
+        None => p.ended(End::Spent, listed.count, listed.total),
+        Some((draw, used)) => { step_drawn(given, state, events, scratch, listed, draw, used, p) }
     }
 }
 
 // One step of a run: the listing, then the rest of the step.
 fn run_step(
-    tables: Tables,
+    given: Given,
     state: &mut [i64],
-    space: &mut Space<{ Table::ROWS }>,
-    fresh: &mut [i64; Room::FRESH],
-    listing: &mut [u64; Room::LISTING],
-    words: &[u64],
-    waiting: &[u16],
     events: &mut [u64],
+    scratch: &mut Scratch,
     p: Progress,
 ) -> Progress
-    requires { ((z : List ℕ) × (m : Resolved.Model) × (r : Run) × Stands tables.nodes.now tables.roots.now tables.scopes.now tables.root tables.variables words.now waiting.now z state.old events.old p m r) × (p.steps * event_width + event_width ≤ length events.old) }
-    ensures { (z : List ℕ) (m : Resolved.Model) (r : Run) → Stands tables.entry.nodes.now tables.entry.roots.now tables.entry.scopes.now tables.entry.root tables.entry.variables words.now waiting.now z state.old events.old p m r → Goes tables.entry.nodes.now tables.entry.roots.now tables.entry.scopes.now tables.entry.root tables.entry.variables words.now waiting.now z (run_step words.now waiting.now m r) result state.new events.new m }
+    requires { ((z : List ℕ) × (m : Resolved.Model) × (r : Run) × Stands given z state.old events.old p m r) × (p.steps * event_width + event_width ≤ length events.old) }
+    ensures { (z : List ℕ) (m : Resolved.Model) (r : Run) → Stands given.entry z state.old events.old p m r → Goes given.entry z (run_step given.entry.words.now given.entry.waiting.now m r) result state.new events.new m }
 {
-    let listed = listing::list_over(tables, state, space, listing);
+    let listed = listing::list_over(
+        given.tables,
+        state,
+        &mut scratch.space,
+        &mut scratch.listing,
+    );
     match listed {
-        Err(r) => p.ended(End::Refused(r.number), 0, 0),
-        Ok((count, total)) => step_counted(
-            tables, state, fresh, listing, count, total, words, waiting, events, p,
-        ),
+        Err(refusal) => p.ended(End::Unlisted(refusal), 0, 0),
+        Ok(listed) => step_counted(given, state, events, scratch, listed, p),
     }
 }
 
-// Up to so many steps, for all of whose events there is room, in lent tables.
-fn run_lent(
-    tables: Tables,
+// Up to so many steps, for all of whose events there is room.
+fn run_within(
+    given: Given,
     state: &mut [i64],
-    space: &mut Space<{ Table::ROWS }>,
-    fresh: &mut [i64; Room::FRESH],
-    listing: &mut [u64; Room::LISTING],
-    words: &[u64],
-    waiting: &[u16],
     events: &mut [u64],
+    scratch: &mut Scratch,
     clock: Clock,
     steps: usize,
 ) -> Progress
-    requires { ((m : Resolved.Model) × (s : State) × Lent tables.nodes.now tables.roots.now tables.scopes.now tables.root tables.variables state.old m s) × (InRange clock) × (steps * event_width ≤ length events.old) }
-    ensures { (m : Resolved.Model) (s : State) → Lent tables.entry.nodes.now tables.entry.roots.now tables.entry.scopes.now tables.entry.root tables.entry.variables state.old m s → Stands tables.entry.nodes.now tables.entry.roots.now tables.entry.scopes.now tables.entry.root tables.entry.variables words.now waiting.now events.old state.new events.new result m (running steps words.now waiting.now m (begun (timed s clock))) }
+    requires { ((m : Resolved.Model) × (s : State) × Holds given state.old m s) × (InRange clock) × (steps * event_width ≤ length events.old) }
+    ensures { (m : Resolved.Model) (s : State) → Holds given.entry state.old m s → Stands given.entry events.old state.new events.new result m (running steps given.entry.words.now given.entry.waiting.now m (begun (timed s clock))) }
 {
-    // A while: the progress counts the steps.
     let mut p = Progress::begun(clock);
-    while p.steps < steps {
-        p = run_step(
-            tables, state, space, fresh, listing, words, waiting, events, p,
-        );
+    for _ in 0..steps {
+        p = run_step(given, state, events, scratch, p);
         if p.end.is_some() {
             return p;
         }
@@ -350,35 +345,24 @@ fn run_lent(
 
 // A run over the tables of a model: no more steps than the limit, and none for whose event there is no room. Its tables are made once.
 pub fn run(
-    tables: Tables,
+    given: Given,
     state: &mut [i64],
-    words: &[u64],
-    waiting: &[u16],
     events: &mut [u64],
     clock: Clock,
     limit: usize,
 ) -> Progress
-    requires { ((m : Resolved.Model) × (s : State) × Lent tables.nodes.now tables.roots.now tables.scopes.now tables.root tables.variables state.old m s) × (InRange clock) }
-    ensures { (m : Resolved.Model) (s : State) → Lent tables.entry.nodes.now tables.entry.roots.now tables.entry.scopes.now tables.entry.root tables.entry.variables state.old m s → Stands tables.entry.nodes.now tables.entry.roots.now tables.entry.scopes.now tables.entry.root tables.entry.variables words.now waiting.now events.old state.new events.new result m (runs_with limit (length events.old / event_width) words.now waiting.now m s clock) }
+    requires { ((m : Resolved.Model) × (s : State) × Holds given state.old m s) × (InRange clock) }
+    ensures { (m : Resolved.Model) (s : State) → Holds given.entry state.old m s → Stands given.entry events.old state.new events.new result m (runs_with limit (length events.old / event_width) given.entry.words.now given.entry.waiting.now m s clock) }
 {
-    let mut space: Space<{ Table::ROWS }> = Space {
-        rows: [offers::Row::EMPTY; Table::ROWS],
-        firsts: [0; Table::BUCKETS],
-        nexts: [0; Table::ROWS],
+    let mut scratch = Scratch {
+        space: Space {
+            rows: [offers::Row::EMPTY; Table::ROWS],
+            firsts: [0; Table::BUCKETS],
+            nexts: [0; Table::ROWS],
+        },
+        fresh: [0i64; Room::FRESH],
+        listing: [0u64; Room::LISTING],
     };
-    let mut fresh = [0i64; Room::FRESH];
-    let mut listing = [0u64; Room::LISTING];
     let steps = limit.min(events.len() / Room::EVENT);
-    run_lent(
-        tables,
-        state,
-        &mut space,
-        &mut fresh,
-        &mut listing,
-        words,
-        waiting,
-        events,
-        clock,
-        steps,
-    )
+    run_within(given, state, events, &mut scratch, clock, steps)
 }

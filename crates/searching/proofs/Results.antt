@@ -1,12 +1,12 @@
 -- What each return of the search says: 11, 26 and what a walk comes to, as the effect of the call has it; and the entries as they are written.
-use mathlib.Core.Path.{◌≡◌, refl, sym, ap, ◌∙◌}
+use mathlib.Core.Path.{◌≡◌, refl, sym, ap, ◌∙◌, subst}
 use mathlib.Core.List.{List, [], ◌∷◌, ◌++◌, append_assoc}
 use mathlib.Core.Bool.{Bool, true, false, ◌&&◌}
 use mathlib.Core.Option.{none, some}
 use Prim.Native.Nat.{ℕ, zero, suc, ◌+◌, ◌-◌, ◌≤◌, ◌<◌}
 use native.Mathlib.Numerals.{add-one}
 use native.Mathlib.Omega.{arith}
-use borrow.Author.Tests.{le-leb, lt-leb, leb-true}
+use borrow.Author.Tests.{leb-true}
 use lib.Dec.{leb}
 use lib.IntN.{ℤ}
 use lib.ListN.{length, get_or, set, take, replicate}
@@ -19,9 +19,10 @@ use Rattle.machine.specs.Machine.{no, found_as, moves_to, depth_limit, is_depth,
 use Rattle.buffers.specs.Parts.{Engine, lent_two}
 use Rattle.buffers.specs.Effect.{machine_over, left_in, leaves, requested}
 use Rattle.store.proofs.Tables.{left-two}
-use Rattle.search.specs.Walks.{Answered, a-run, no_run, not_known}
-use Rattle.search.specs.declared.Walked.{Walked}
-use Rattle.search.specs.declared.Walked.TheVariants as walked
+use Rattle.std.specs.Prelude.{Ok, Err}
+use Rattle.search.specs.Walks.{Walked, Answered, a-run, no_run, not_known}
+use Rattle.search.specs.declared.Missed.{Missed}
+use Rattle.search.specs.declared.Missed.TheVariants.{Nothing, Unsure}
 use Rattle.searching.specs.Run.{entries_of, bare, GivesRun, result_of}
 use Rattle.searching.specs.declared.Found.{Found}
 
@@ -76,14 +77,6 @@ run-result run n es l f e =
 
 -- ---- 26
 
-pub too-low : (d : ℕ) → d < 1 → leb 1 d ≡ is_depth d
-unfolding is_depth
-too-low d l = rw (lt-leb 1 d l) refl
-
-pub is-deep : (d : ℕ) → 1 ≤ d → leb d 8 ≡ is_depth d
-unfolding is_depth
-is-deep d l = rw (le-leb 1 d l) refl
-
 pub depth-few : (d : ℕ) → is_depth d ≡ true → d ≤ depth_limit
 unfolding is_depth
 depth-few d e = by (leb 1 d) e
@@ -94,25 +87,27 @@ depth-few d e = by (leb 1 d) e
 
 -- ---- what a walk comes to
 
-pub none-under : {a : tree.Answer} {run : List ℕ} {w : Walked} {m h : Bool} {n : ℕ} → w ≡ walked.Under m h n → Answered a w run → ⊥
-none-under e (a-run l p) = let z : ◌≡◌ {A = ℕ} 0 1 = cc in omega arith
-none-under e (no_run p) = let z : ◌≡◌ {A = ℕ} 0 1 = cc in omega arith
-none-under e (not_known p) = let z : ◌≡◌ {A = ℕ} 0 1 = cc in omega arith
-
-pub found-run : {a : tree.Answer} {run : List ℕ} {w : Walked} {n : ℕ} → w ≡ walked.Found n → Answered a w run → (n ≤ length run) × (a ≡ tree.found (take n run))
+pub found-run : {a : tree.Answer} {run : List ℕ} {w : Walked} {n : ℕ} → w ≡ Ok n → Answered a w run → (n ≤ length run) × (a ≡ tree.found (take n run))
 found-run {a} {run} {w} {n} e (a-run {n = k} l p) = let z : k ≡ n = cc in (omega arith, p ∙ ap (λ (j : ℕ). tree.found (take j run)) z)
 found-run e (no_run p) = let z : ◌≡◌ {A = ℕ} 0 1 = cc in absurd (omega arith)
 found-run e (not_known p) = let z : ◌≡◌ {A = ℕ} 0 1 = cc in absurd (omega arith)
 
-pub found_none : {a : tree.Answer} {run : List ℕ} {w : Walked} → w ≡ walked.Nothing → Answered a w run → a ≡ tree.nothing
-found_none e (a-run l p) = let z : ◌≡◌ {A = ℕ} 0 1 = cc in absurd (omega arith)
-found_none e (no_run p) = p
-found_none e (not_known p) = let z : ◌≡◌ {A = ℕ} 0 1 = cc in absurd (omega arith)
+missed-is : {a : tree.Answer} {run : List ℕ} {w : Walked} {r : Missed} → w ≡ Err r → Answered a w run → Answered a (Err r) run
+missed-is {a} {run} e h = subst (λ (u : Walked). Answered a u run) e h
 
-pub found-unsure : {a : tree.Answer} {run : List ℕ} {w : Walked} → w ≡ walked.Unsure → Answered a w run → a ≡ tree.unsure
-found-unsure e (a-run l p) = let z : ◌≡◌ {A = ℕ} 0 1 = cc in absurd (omega arith)
-found-unsure e (no_run p) = let z : ◌≡◌ {A = ℕ} 0 1 = cc in absurd (omega arith)
-found-unsure e (not_known p) = p
+pub found_none : {a : tree.Answer} {run : List ℕ} {w : Walked} {r : Missed} → w ≡ Err r → r ≡ Nothing → Answered a w run → a ≡ tree.nothing
+found_none {a} {run} {w} {r} e n h = by r (missed-is e h) n
+  where
+    by : (r : Missed) → Answered a (Err r) run → r ≡ Nothing → a ≡ tree.nothing
+    by Nothing (no_run p) n = p
+    by Unsure (not_known p) n = absurd (let z : ◌≡◌ {A = ℕ} 0 1 = cc in omega arith)
+
+pub found-unsure : {a : tree.Answer} {run : List ℕ} {w : Walked} {r : Missed} → w ≡ Err r → r ≡ Unsure → Answered a w run → a ≡ tree.unsure
+found-unsure {a} {run} {w} {r} e n h = by r (missed-is e h) n
+  where
+    by : (r : Missed) → Answered a (Err r) run → r ≡ Unsure → a ≡ tree.unsure
+    by Nothing (no_run p) n = absurd (let z : ◌≡◌ {A = ℕ} 0 1 = cc in omega arith)
+    by Unsure (not_known p) n = p
 
 pub none-result : {a : tree.Answer} → a ≡ tree.nothing → bare 0 ≡ result_of a
 unfolding result_of

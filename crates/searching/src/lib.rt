@@ -12,43 +12,46 @@ ghost use Rattle.machine.specs.Machine.{depth_limit, is_depth, search'};
 ghost use Rattle.buffers.specs.Parts.{lent_two};
 ghost use Rattle.buffers.specs.Effect.{requested};
 ghost use Rattle.searching.specs.Run.{entries_of, bare, GivesRun, result_of};
-ghost use Rattle.searching.specs.Lent.{Worded};
+ghost use Rattle.searching.specs.Lent.{Lends};
 
 use opening::Space;
-use search::Walked;
+use search::Missed;
 use store::Settled;
-use walk::Written;
+use walk::{Level, Search, Written};
 
 // What a search answers: 0 or a refusal's number; the length of the run, 0 for none; its entry numbers, unused ones 0.
+// C reads these numbers in this order. The functions below answer it as it stands: a refusal is its number and nothing else, 1, 26 and 27 given once each and 11 in
+// three places, and an enum of the four would be made only to be turned back into them where the run is.
 #[repr(C)]
 #[derive(Clone, Copy)]
 pub struct Found {
     pub number: u64,
     pub length: u64,
-    pub run: [u64; 8],
+    pub run: [u64; Level::DEPTH],
 }
 
 impl Found {
     // The deepest search, and the entry numbers of an answer.
-    pub const DEPTH: usize = 8;
+    pub const DEPTH: usize = Level::DEPTH;
 
     // A number without a run.
     pub fn bare(number: u64) -> Self
         ensures { result ≡ bare number }
     {
         Found {
-            number: number,
+            number,
             length: 0,
-            run: [0u64; 8],
+            run: [0u64; Level::DEPTH],
         }
     }
 }
 
 // Question 26.
+#[tactic(auto, unfolding(machine::specs::Machine::is_depth))]
 fn is_depth(depth: u64) -> bool
     ensures { result ≡ is_depth depth }
 {
-    1 <= depth && depth <= 8
+    (1..=Level::DEPTH as u64).contains(&depth)
 }
 
 // The run in the first n numbers.
@@ -56,7 +59,8 @@ fn run_found(run: &[u16], n: usize) -> Found
     requires { (length run.now ≡ depth_limit) × (n ≤ length run.now) }
     ensures { result ≡ result_of (tree.found (take n run.now)) }
 {
-    let mut entries = [0u64; 8];
+    let mut entries = [0u64; Level::DEPTH];
+    // By index: of iter_mut the library says what each reference is handed out with, and nothing of what the array ends as.
     for i in 0..n {
         entries[i] = u64::from(run[i]);
     }
@@ -67,16 +71,15 @@ fn run_found(run: &[u16], n: usize) -> Found
     }
 }
 
-// What a walk that has ended comes to.
-fn result_of(walked: Walked, run: &[u16]) -> Found
+// What a walk comes to.
+fn result_of(walked: Result<usize, Missed>, run: &[u16]) -> Found
     requires { ((a : tree.Answer) × Answered a walked run.now) × (length run.now ≡ depth_limit) }
     ensures { (a : tree.Answer) → Answered a walked run.now → result ≡ result_of a }
 {
     match walked {
-        Walked::Found(n) => run_found(run, n),
-        Walked::Unsure => Found::bare(27),
-        Walked::Nothing => Found::bare(0),
-        Walked::Under(_, _, _) => Found::bare(0),
+        Ok(n) => run_found(run, n),
+        Err(Missed::Unsure) => Found::bare(27),
+        Err(Missed::Nothing) => Found::bare(0),
     }
 }
 
@@ -88,8 +91,8 @@ fn search_tables(
     name: &[u8],
     depth: u64,
 ) -> Found
-    requires { ((m : Resolved.Model) × Worded settled.tables.nodes.now settled.tables.roots.now settled.tables.scopes.now settled.tables.root settled.tables.variables settled.sums settled.channels written.text.now written.places.now written.sizes.now m) × (length state.now ≡ state_length) }
-    ensures { (m : Resolved.Model) (bs : List ℕ) → Worded settled.entry.tables.nodes.now settled.entry.tables.roots.now settled.entry.tables.scopes.now settled.entry.tables.root settled.entry.tables.variables settled.entry.sums settled.entry.channels written.entry.text.now written.entry.places.now written.entry.sizes.now m → GivesRun (requested (search' name.now depth) (lent_two bs state.now) [] (some m)) result (lent_two bs state.now) }
+    requires { ((m : Resolved.Model) × Lends settled written m) × (length state.now ≡ state_length) }
+    ensures { (m : Resolved.Model) (bs : List ℕ) → Lends settled.entry written.entry m → GivesRun (requested (search' name.now depth) (lent_two bs state.now) [] (some m)) result (lent_two bs state.now) }
 {
     if !state::is_state(state, settled.shape()) {
         return Found::bare(11);
@@ -97,27 +100,27 @@ fn search_tables(
     if !is_depth(depth) {
         return Found::bare(26);
     }
-    let mut run = [0u16; 8];
-    let walked = walk::search_model(
-        settled.tables,
+    let mut run = [0u16; Level::DEPTH];
+    let search = Search {
+        tables: settled.tables,
         written,
-        state,
         name,
-        depth as usize,
-        &mut run,
-    );
+    };
+    let walked = walk::search_model(search, state, depth as usize, &mut run);
     result_of(walked, &run)
 }
 
-// Searches over a text that a model buffer holds.
+// Searches over a text that a model buffer holds. simulation's read would keep the whole space lent, and a search is lent the places and sizes of its words beside the
+// tables.
 pub fn search_text(text: &[u8], state: &[i64], name: &[u8], depth: u64) -> Found
     requires { length state.now ≡ state_length }
     ensures { (bs : List ℕ) → GivesRun (requested (search' name.now depth) (lent_two bs state.now) [] (held text.now)) result (lent_two bs state.now) }
 {
     let mut space = Space::EMPTY;
-    let Ok((found, _)) = opening::read_model(text, &mut space) else {
+    let Ok(read) = opening::read_model(text, &mut space) else {
         return Found::bare(11);
     };
+    let found = read.model;
     search_tables(
         Settled {
             tables: space.tables(found),

@@ -8,6 +8,7 @@ use borrow.Author.Tests.{eqb-true, eq-eqb}
 use lib.Dec.{eqb}
 use lib.IntN.{ℤ}
 use lib.ListN.{length}
+use Rattle.std.specs.Prelude.{Err, Ok}
 use Rattle.clock.specs.declared.Clock.{Clock}
 use Rattle.clock.specs.Clock.{InRange, is_in_range}
 use Rattle.clock.proofs.Bringing.{both-in}
@@ -21,15 +22,17 @@ use Rattle.buffers.specs.Parts.{Engine, clock_numbers, numbers_of, is_part, read
 use Rattle.buffers.specs.Effect.{machine_over, untouched, left_in, leaves, requested, answered, effect}
 use Rattle.buffers.proofs.Clocks.{held_at, clocked, timed-over}
 use Rattle.running.specs.declared.Progress.{Progress}
+use Rattle.running.specs.declared.Given.{Given}
 use Rattle.running.specs.Progress.{Stands}
-use Rattle.simulation.specs.Comes.{refused_with, Comes, are_long}
+use Rattle.simulation.specs.declared.Refusal.TheVariants.{Lengths, NotHeld}
+use Rattle.simulation.specs.Comes.{Comes, are_parts_long}
 
 -- 01, Listing, 11: changes nothing
-pub eleven-ran : (r : Request) (x : Engine) (l : List ℕ) (k : Clock) → Comes (leaves (uses r) x l (on_machine r closed)) (refused_with 11 k) x l
+pub eleven-ran : (r : Request) (x : Engine) (l : List ℕ) (k : Clock) → Comes (leaves (uses r) x l (on_machine r closed)) k (Err NotHeld) x l
 unfolding leaves on_machine left_in no shown
 eleven-ran r x l k = record { number = refl; steps = refl; words = refl; waiting = refl; count = refl; total = refl; buffers = λ p. refl; output = refl }
 
-pub none-ran : (r : Request) (x : Engine) (l : List ℕ) (k : Clock) → Comes (requested r x l none) (refused_with 11 k) x l
+pub none-ran : (r : Request) (x : Engine) (l : List ℕ) (k : Clock) → Comes (requested r x l none) k (Err NotHeld) x l
 unfolding requested machine_over
 none-ran r x l k = eleven-ran r x l k
 
@@ -48,7 +51,7 @@ module _ (bs : List ℕ) (zs : List ℤ) (m : Resolved.Model) (c : Clock) (ws vs
   unfolding lent_timed
   over-is = timed-over X (some m) ∙ ap (λ (y : Machine). clocked y (clock_numbers c)) two-same
 
-  pub closed-ran : machine_over two_parts (lent_two bs zs) (some m) ≡ closed → Comes (requested R X l (some m)) (refused_with 11 c) X l
+  pub closed-ran : machine_over two_parts (lent_two bs zs) (some m) ≡ closed → Comes (requested R X l (some m)) c (Err NotHeld) X l
   unfolding requested
   closed-ran e = rw y-is (eleven-ran R X l c)
     where
@@ -73,8 +76,8 @@ module _ (bs : List ℕ) (zs : List ℤ) (m : Resolved.Model) (c : Clock) (ws vs
     left-timed ys k e f saves = refl
     left-timed ys k e f clock = ap clock_numbers f
 
-    pub ran-so : {t roots scopes : List ℕ} {root variables : ℕ} (ys : List ℤ) (es : List ℕ) (q : Progress) → Stands t roots scopes root variables ws vs l ys es q m r
-        → Comes (requested R X l (some m)) q (lent_timed bs ys q.clock) es
+    pub ran-so : {given : Given} (ys : List ℤ) (es : List ℕ) (q : Progress) → Stands given l ys es q m r
+        → Comes (requested R X l (some m)) c (Ok q) (lent_timed bs ys q.clock) es
     unfolding requested leaves on_machine acts on_clock runs_over ran_as shown
     ran-so ys es q h = rw held-is (record {
       number = h.number;
@@ -89,8 +92,8 @@ module _ (bs : List ℕ) (zs : List ℤ) (m : Resolved.Model) (c : Clock) (ws vs
 
 -- ---- questions 1 and 11, and the text in the model buffer
 
-pub long-both : (a b : ℕ) → are_long a b ≡ true → (a ≡ model_length) × (b ≡ state_length)
-unfolding are_long
+pub long-both : (a b : ℕ) → are_parts_long a b ≡ true → (a ≡ model_length) × (b ≡ state_length)
+unfolding are_parts_long
 long-both a b e = let h = both_true (eqb a model_length) _ e in (eqb-true _ _ h.0, eqb-true _ _ h.1)
 
 module _ (bs : List ℕ) (zs : List ℤ) (c : Clock) (ws vs : List ℕ) (n : ℕ) (l : List ℕ) where
@@ -100,23 +103,23 @@ module _ (bs : List ℕ) (zs : List ℤ) (c : Clock) (ws vs : List ℕ) (n : ℕ
   abbrev q : Request
   q = run' ws vs n (length l)
 
-  lengths : has_lengths (on' q) (λ (p : Part). length (x p)) (length l) ≡ are_long (length bs) (length zs)
-  unfolding has_lengths all_parts lent_timed are_long Option-elim
+  lengths : has_lengths (on' q) (λ (p : Part). length (x p)) (length l) ≡ are_parts_long (length bs) (length zs)
+  unfolding has_lengths all_parts lent_timed are_parts_long Option-elim
   lengths = ap (λ (b : Bool). (eqb (length bs) model_length && b) && eqb (length l) (length l)) (and-true (eqb (length zs) state_length)) ∙ rw (eq-eqb (length l) (length l) refl) (and-true _)
 
-  untouched-ran : Comes (untouched x l) (refused_with 1 c) x l
+  untouched-ran : Comes (untouched x l) c (Err Lengths) x l
   unfolding untouched no
   untouched-ran = record { number = refl; steps = refl; words = refl; waiting = refl; count = refl; total = refl; buffers = λ p. refl; output = refl }
 
-  pub wrong : are_long (length bs) (length zs) ≡ false → Comes (effect (on' q) x l) (refused_with 1 c) x l
+  pub wrong : are_parts_long (length bs) (length zs) ≡ false → Comes (effect (on' q) x l) c (Err Lengths) x l
   unfolding effect
   wrong e = rw (lengths, e) untouched-ran
 
-  pub right : are_long (length bs) (length zs) ≡ true → effect (on' q) x l ≡ answered (on' q) x l
+  pub right : are_parts_long (length bs) (length zs) ≡ true → effect (on' q) x l ≡ answered (on' q) x l
   unfolding effect
   right e = rw (lengths, e)
 
-  pub out_of_range : is_in_range c ≡ false → Comes (answered (on' q) x l) (refused_with 11 c) x l
+  pub out_of_range : is_in_range c ≡ false → Comes (answered (on' q) x l) c (Err NotHeld) x l
   unfolding answered requested
   out_of_range e = rw shut (eleven-ran q x l c)
     where

@@ -9,28 +9,28 @@ ghost use Rattle.machine.specs.State.{state_length};
 ghost use Rattle.machine.specs.Machine.{model_length, run', on'};
 ghost use Rattle.buffers.specs.Parts.{lent_timed};
 ghost use Rattle.buffers.specs.Effect.{requested, answered, effect};
-ghost use Rattle.simulation.specs.Comes.{refused_with, Comes, are_long, Reads};
+ghost use Rattle.simulation.specs.Comes.{clock_after, Comes, are_parts_long, Reads};
 ghost use Rattle.store.specs.Tables.{Shows};
 
 use clock::Clock;
 use opening::Space;
-use running::{End, Progress};
-use store::buffer::Bytes;
+use running::{Given, Progress};
 use store::{Engine, Settled};
 
-// A run that a question refuses before its first step.
-fn refused(number: u64, clock: Clock) -> Progress
-    ensures { result ≡ refused_with number clock }
-{
-    Progress {
-        steps: 0,
-        words: 0,
-        waiting: 0,
-        count: 0,
-        total: 0,
-        clock,
-        end: Some(End::Refused(number)),
-    }
+// Why a run is refused before its first step: a buffer hasn't its length; or the model, the state or the clock isn't held.
+#[derive(Clone, Copy)]
+pub enum Refusal {
+    Lengths,
+    NotHeld,
+}
+
+// What a run is asked: the words of its choosing draws, its waiting draws, at most how many steps, and from what clock.
+#[derive(Clone, Copy)]
+pub struct Asked<'a> {
+    pub words: &'a [u64],
+    pub waiting: &'a [u16],
+    pub limit: u64,
+    pub clock: Clock,
 }
 
 // The model that a model buffer holds, in the tables of a reading.
@@ -38,13 +38,9 @@ pub fn read<'a>(model: &[u8], space: &'a mut Space) -> Option<Settled<'a>>
     requires { length model.now ≡ model_length }
     ensures { Reads model.now result }
 {
-    let Some(n) = store::buffer::find_text(model) else {
-        return None;
-    };
-    let text = &model[Bytes::FIRST..Bytes::FIRST + n];
-    let Ok((found, _)) = opening::read_model(text, space) else {
-        return None;
-    };
+    let text = store::buffer::find_text(model)?;
+    let read = opening::read_model(text, space).ok()?;
+    let found = read.model;
     Some(Settled {
         tables: space.tables(found),
         sums: found.sums,
@@ -56,76 +52,60 @@ pub fn read<'a>(model: &[u8], space: &'a mut Space) -> Option<Settled<'a>>
 fn run_tables(
     settled: Settled,
     state: &mut [i64],
-    words: &[u64],
-    waiting: &[u16],
     events: &mut [u64],
-    limit: u64,
-    clock: Clock,
-) -> Progress
-    requires { ((m : Resolved.Model) × Shows settled m) × (length state.old ≡ state_length) × (InRange clock) }
-    ensures { (m : Resolved.Model) (bs : List ℕ) → Shows settled.entry m → Comes (requested (run' words.now waiting.now limit (length events.old)) (lent_timed bs state.old clock) events.old (some m)) result (lent_timed bs state.new result.clock) events.new }
+    asked: Asked,
+) -> Result<Progress, Refusal>
+    requires { ((m : Resolved.Model) × Shows settled m) × (length state.old ≡ state_length) × (InRange asked.clock) }
+    ensures { (m : Resolved.Model) (bs : List ℕ) → Shows settled.entry m → Comes (requested (run' asked.entry.words.now asked.entry.waiting.now asked.entry.limit (length events.old)) (lent_timed bs state.old asked.entry.clock) events.old (some m)) asked.entry.clock result (lent_timed bs state.new (clock_after asked.entry.clock result)) events.new }
 {
     if !state::is_state(state, settled.shape()) {
-        return refused(11, clock);
+        return Err(Refusal::NotHeld);
     }
-    running::run(
-        settled.tables,
-        state,
-        words,
-        waiting,
-        events,
-        clock,
-        limit as usize,
-    )
+    let given = Given {
+        tables: settled.tables,
+        words: asked.words,
+        waiting: asked.waiting,
+    };
+    let limit = asked.limit as usize;
+    Ok(running::run(given, state, events, asked.clock, limit))
 }
 
 // Question 1: have the model and the state their lengths?
-fn are_long(model: usize, state: usize) -> bool
-    ensures { result ≡ are_long model state }
+pub fn are_parts_long(model: usize, state: usize) -> bool
+    ensures { result ≡ are_parts_long model state }
 {
-    if model != Engine::MODEL {
-        return false;
-    }
-    state == Engine::STATE
+    model == Engine::MODEL && state == Engine::STATE
 }
 
 // Runs over buffers of the right lengths, with a clock in its range.
 fn run_lent(
     model: &[u8],
     state: &mut [i64],
-    words: &[u64],
-    waiting: &[u16],
     events: &mut [u64],
-    limit: u64,
-    clock: Clock,
-) -> Progress
-    requires { (length model.now ≡ model_length) × (length state.old ≡ state_length) × (InRange clock) }
-    ensures { Comes (answered (on' (run' words.now waiting.now limit (length events.old))) (lent_timed model.now state.old clock) events.old) result (lent_timed model.now state.new result.clock) events.new }
+    asked: Asked,
+) -> Result<Progress, Refusal>
+    requires { (length model.now ≡ model_length) × (length state.old ≡ state_length) × (InRange asked.clock) }
+    ensures { Comes (answered (on' (run' asked.entry.words.now asked.entry.waiting.now asked.entry.limit (length events.old))) (lent_timed model.now state.old asked.entry.clock) events.old) asked.entry.clock result (lent_timed model.now state.new (clock_after asked.entry.clock result)) events.new }
 {
     let mut space = Space::EMPTY;
-    let Some(settled) = read(model, &mut space) else {
-        return refused(11, clock);
-    };
-    run_tables(settled, state, words, waiting, events, limit, clock)
+    let settled = read(model, &mut space).ok_or(Refusal::NotHeld)?;
+    run_tables(settled, state, events, asked)
 }
 
 // Timed steps from the present state: no more than the limit, and none for whose event there is no room.
 pub fn run(
     model: &[u8],
     state: &mut [i64],
-    words: &[u64],
-    waiting: &[u16],
     events: &mut [u64],
-    limit: u64,
-    clock: Clock,
-) -> Progress
-    ensures { Comes (effect (on' (run' words.now waiting.now limit (length events.old))) (lent_timed model.now state.old clock) events.old) result (lent_timed model.now state.new result.clock) events.new }
+    asked: Asked,
+) -> Result<Progress, Refusal>
+    ensures { Comes (effect (on' (run' asked.entry.words.now asked.entry.waiting.now asked.entry.limit (length events.old))) (lent_timed model.now state.old asked.entry.clock) events.old) asked.entry.clock result (lent_timed model.now state.new (clock_after asked.entry.clock result)) events.new }
 {
-    if !are_long(model.len(), state.len()) {
-        return refused(1, clock);
+    if !are_parts_long(model.len(), state.len()) {
+        return Err(Refusal::Lengths);
     }
-    if !clock::in_range(clock) {
-        return refused(11, clock);
+    if !clock::in_range(asked.clock) {
+        return Err(Refusal::NotHeld);
     }
-    run_lent(model, state, words, waiting, events, limit, clock)
+    run_lent(model, state, events, asked)
 }

@@ -8,7 +8,7 @@ use Rattle.engine.proofs.forget.Goals as goal
 
 pub returns-then-not-are_all_long : goal.returns-then-not-are_all_long
 returns-then-not-are_all_long c =
-    rw c.bare.ensures (three-wrong c.args.model.now c.args.state.now c.args.saves.now (on' (forget' c.args.name.now)) refl refl (sym c.are_all_long.ensures ∙ refused _ c.if-not-are_all_long.true-raw))
+    rw c.from.ensures (three-wrong c.args.model.now c.args.state.now c.args.saves.now (on' (forget' c.args.name.now)) refl refl (sym c.are_all_long.ensures ∙ refused _ c.if-not-are_all_long.true-raw))
 
 pub holds-requires : goal.holds-requires
 holds-requires c =
@@ -16,7 +16,7 @@ holds-requires c =
 
 pub returns-then-not-holds : goal.returns-then-not-holds
 returns-then-not-holds c =
-    rw (c.bare-then-not-holds.ensures, three-right c.args.model.now c.args.state.now c.args.saves.now (on' (forget' c.args.name.now)) refl refl (sym c.are_all_long.ensures ∙ passed _ c.if-not-are_all_long.false-raw)) (unheld-gives c.args.name.now c.args.model.now c.args.state.now c.args.saves.now (sym c.holds.ensures ∙ refused _ c.if-not-holds.true-raw))
+    rw (c.from-then-not-holds.ensures, three-right c.args.model.now c.args.state.now c.args.saves.now (on' (forget' c.args.name.now)) refl refl (sym c.are_all_long.ensures ∙ passed _ c.if-not-are_all_long.false-raw)) (unheld-gives c.args.name.now c.args.model.now c.args.state.now c.args.saves.now (sym c.holds.ensures ∙ refused _ c.if-not-holds.true-raw))
 
 pub forget-requires : goal.forget-requires
 forget-requires c =

@@ -12,7 +12,7 @@ use Rattle.engine.proofs.open_under.Goals as goal
 
 pub returns-then-not-are_all_long : goal.returns-then-not-are_all_long
 returns-then-not-are_all_long c =
-    of-all _ c.args.model.now c.args.state.now c.args.saves.now _ _ _ _ c.of.ensures c.bare.ensures (four-wrong c.args.model.now c.args.state.now c.args.saves.now c.args.clock (ask_under c.args.profile c.args.text.now) (under-lent c.args.text.now c.args.profile) (under-output c.args.text.now c.args.profile) (sym c.are_all_long.ensures ∙ refused _ c.if-not-are_all_long.true-raw))
+    of-all _ c.args.model.now c.args.state.now c.args.saves.now _ _ _ _ c.of.ensures c.from.ensures (four-wrong c.args.model.now c.args.state.now c.args.saves.now c.args.clock (ask_under c.args.profile c.args.text.now) (under-lent c.args.text.now c.args.profile) (under-output c.args.text.now c.args.profile) (sym c.are_all_long.ensures ∙ refused _ c.if-not-are_all_long.true-raw))
 
 pub open_lent-answer-requires : goal.open_lent-answer-requires
 open_lent-answer-requires c =
@@ -21,4 +21,4 @@ open_lent-answer-requires c =
 pub returns : goal.returns
 returns c =
     let l = (three-long _ _ _ (sym c.are_all_long.ensures ∙ passed _ c.if-not-are_all_long.false-raw)) in
-    of-fresh _ _ _ _ _ _ _ c.of-2.ensures c.fresh.ensures (rw (four-right c.args.model.now c.args.state.now c.args.saves.now c.args.clock (ask_under c.args.profile c.args.text.now) (under-lent c.args.text.now c.args.profile) (under-output c.args.text.now c.args.profile) (sym c.are_all_long.ensures ∙ passed _ c.if-not-are_all_long.false-raw), under-answers c.args.text.now c.args.profile _ []) (c.open_lent-answer.ensures _ (c.clear_state.ensures ∙ ap (λ (n : ℕ). replicate n (pos 0)) l.2)))
+    of-fresh _ _ _ _ _ _ _ c.of-2.ensures c.fresh.ensures (rw (four-right c.args.model.now c.args.state.now c.args.saves.now c.args.clock (ask_under c.args.profile c.args.text.now) (under-lent c.args.text.now c.args.profile) (under-output c.args.text.now c.args.profile) (sym c.are_all_long.ensures ∙ passed _ c.if-not-are_all_long.false-raw), under-answers c.args.text.now c.args.profile _ []) (c.open_lent-answer.ensures _ (c.fill.ensures.after (λ y e. e) ∙ ap (λ (n : ℕ). replicate n (pos 0)) l.2)))

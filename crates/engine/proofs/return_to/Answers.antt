@@ -8,7 +8,7 @@ use Rattle.engine.proofs.return_to.Goals as goal
 
 pub returns-then-not-are_all_long : goal.returns-then-not-are_all_long
 returns-then-not-are_all_long c =
-    of-all _ c.args.model.now c.args.state.now c.args.saves.now _ _ _ _ c.of.ensures c.bare.ensures (four-wrong c.args.model.now c.args.state.now c.args.saves.now c.args.clock (on' (return' c.args.name.now)) refl refl (sym c.are_all_long.ensures ∙ refused _ c.if-not-are_all_long.true-raw))
+    of-all _ c.args.model.now c.args.state.now c.args.saves.now _ _ _ _ c.of.ensures c.from.ensures (four-wrong c.args.model.now c.args.state.now c.args.saves.now c.args.clock (on' (return' c.args.name.now)) refl refl (sym c.are_all_long.ensures ∙ refused _ c.if-not-are_all_long.true-raw))
 
 pub holds_all-requires : goal.holds_all-requires
 holds_all-requires c =
@@ -16,7 +16,7 @@ holds_all-requires c =
 
 pub returns-then-not-holds_all : goal.returns-then-not-holds_all
 returns-then-not-holds_all c =
-    of-all _ c.args.model.now c.args.state.now c.args.saves.now _ _ _ _ c.of-then-not-holds_all.ensures c.bare-then-not-holds_all.ensures (rw (four-right c.args.model.now c.args.state.now c.args.saves.now c.args.clock (on' (return' c.args.name.now)) refl refl (sym c.are_all_long.ensures ∙ passed _ c.if-not-are_all_long.false-raw)) (unheld-four c.args.model.now c.args.state.now c.args.saves.now c.args.clock (return' c.args.name.now) refl (sym c.holds_all.ensures ∙ refused _ c.if-not-holds_all.true-raw)))
+    of-all _ c.args.model.now c.args.state.now c.args.saves.now _ _ _ _ c.of-then-not-holds_all.ensures c.from-then-not-holds_all.ensures (rw (four-right c.args.model.now c.args.state.now c.args.saves.now c.args.clock (on' (return' c.args.name.now)) refl refl (sym c.are_all_long.ensures ∙ passed _ c.if-not-are_all_long.false-raw)) (unheld-four c.args.model.now c.args.state.now c.args.saves.now c.args.clock (return' c.args.name.now) refl (sym c.holds_all.ensures ∙ refused _ c.if-not-holds_all.true-raw)))
 
 pub return_held-requires : goal.return_held-requires
 return_held-requires c =

@@ -8,7 +8,7 @@ use Rattle.engine.proofs.save.Goals as goal
 
 pub returns-then-not-are_all_long : goal.returns-then-not-are_all_long
 returns-then-not-are_all_long c =
-    rw c.bare.ensures (four-wrong c.args.model.now c.args.state.now c.args.saves.now c.args.clock (on' (save' c.args.name.now)) refl refl (sym c.are_all_long.ensures ∙ refused _ c.if-not-are_all_long.true-raw))
+    rw c.from.ensures (four-wrong c.args.model.now c.args.state.now c.args.saves.now c.args.clock (on' (save' c.args.name.now)) refl refl (sym c.are_all_long.ensures ∙ refused _ c.if-not-are_all_long.true-raw))
 
 pub holds_all-requires : goal.holds_all-requires
 holds_all-requires c =
@@ -16,7 +16,7 @@ holds_all-requires c =
 
 pub returns-then-not-holds_all : goal.returns-then-not-holds_all
 returns-then-not-holds_all c =
-    rw (c.bare-then-not-holds_all.ensures, four-right c.args.model.now c.args.state.now c.args.saves.now c.args.clock (on' (save' c.args.name.now)) refl refl (sym c.are_all_long.ensures ∙ passed _ c.if-not-are_all_long.false-raw)) (unheld-four c.args.model.now c.args.state.now c.args.saves.now c.args.clock (save' c.args.name.now) refl (sym c.holds_all.ensures ∙ refused _ c.if-not-holds_all.true-raw))
+    rw (c.from-then-not-holds_all.ensures, four-right c.args.model.now c.args.state.now c.args.saves.now c.args.clock (on' (save' c.args.name.now)) refl refl (sym c.are_all_long.ensures ∙ passed _ c.if-not-are_all_long.false-raw)) (unheld-four c.args.model.now c.args.state.now c.args.saves.now c.args.clock (save' c.args.name.now) refl (sym c.holds_all.ensures ∙ refused _ c.if-not-holds_all.true-raw))
 
 pub put_kept-requires : goal.put_kept-requires
 put_kept-requires c =

@@ -10,7 +10,7 @@ returns-then-not-are_long c =
     let B = c.args.model.now in
     let Z = c.args.state.now in
     let L = c.args.listing.now in
-    rw c.bare.ensures (asked-wrong B Z (step' c.args.draw) listing_length refl refl L (sym c.are_long.ensures ∙ refused _ c.if-not-are_long.true-raw))
+    rw c.from.ensures (asked-wrong B Z (step' c.args.draw) listing_length refl refl L (sym c.are_long.ensures ∙ refused _ c.if-not-are_long.true-raw))
 
 pub step_lent-requires : goal.step_lent-requires
 step_lent-requires c =
@@ -21,4 +21,4 @@ returns c =
     let B = c.args.model.now in
     let Z = c.args.state.now in
     let L = c.args.listing.now in
-    rw (asked-right B Z (step' c.args.draw) listing_length refl refl L (sym c.are_long.ensures ∙ passed _ c.if-not-are_long.false-raw)) c.step_lent.ensures
+    rw (asked-right B Z (step' c.args.draw) listing_length refl refl L (sym c.are_long.ensures ∙ passed _ c.if-not-are_long.false-raw), c.from-2.ensures) c.step_lent.ensures

@@ -1,29 +1,35 @@
 -- The model that the buffer holds, or 11.
+use mathlib.Core.Path.{◌≡◌}
+use Rattle.std.proofs.lemmas.Result.{err_from_is_err_and}
 use Rattle.machine.specs.Machine.{step'}
 use Rattle.buffers.specs.Parts.{lent_two}
 use Rattle.simulation.specs.Comes.{Reads}
+use Rattle.engine.specs.declared.Refusal.TheVariants.{NotHeld}
 use Rattle.engine.proofs.Shows.{none-gives}
 use Rattle.engine.proofs.Lengths.{held-answers}
 use Rattle.engine.proofs.step_lent.Goals as goal
 
-pub returns-in_default : goal.returns-in_default
+pub returns-in_err-settled : goal.returns-in_err-settled
 unfolding Reads
-returns-in_default c =
+returns-in_err-settled c =
     let B = c.args.model.now in
     let Z = c.args.state.now in
     let L = c.args.listing.now in
     let q = step' c.args.draw in
-    rw (c.bare.ensures, held-answers B Z q L (rw c.in_default.is at c.read.ensures)) (none-gives q (lent_two B Z) L)
+    let p = err_from_is_err_and c.from_residual.result c.from_residual.ensures.1 in
+    let v = rw c.in_err-settled.ensures.ok_part at c.in_err-settled.ensures.value in
+    let d : c.in_err-settled.field-0.0 ≡ NotHeld = cc v in
+    rw (p.1, p.2, d, held-answers B Z q L (rw c.in_err-settled.ensures.ok_part at c.read.ensures)) (none-gives q (lent_two B Z) L)
 
 pub step_model-requires : goal.step_model-requires
 unfolding Reads
 step_model-requires c =
-    let r = rw c.in-Some.is at c.read.ensures in
+    let r = rw c.in_ok-settled.ensures.ok_part at c.read.ensures in
     ((r.0, r.2), c.requires.1, c.requires.2)
 
 pub returns : goal.returns
 unfolding Reads
 returns c =
     let B = c.args.model.now in
-    let r = rw c.in-Some.is at c.read.ensures in
+    let r = rw c.in_ok-settled.ensures.ok_part at c.read.ensures in
     rw (held-answers B c.args.state.now (step' c.args.draw) c.args.listing.now r.1) (c.step_model.ensures r.0 B r.2)

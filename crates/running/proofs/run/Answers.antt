@@ -5,19 +5,11 @@ use lib.ListN.{length}
 use Rattle.machine.specs.Machine.{runs_with}
 use Rattle.running.proofs.run.Goals as goal
 
-pub run_lent-requires : goal.run_lent-requires
-run_lent-requires c =
+pub run_within-requires : goal.run_within-requires
+run_within-requires c =
     (c.requires.0, c.requires.1, omega (arith, c.min-steps.ensures, div-mul-le_self (length c.args.events.now) 8))
-
-pub shape_of-state : goal.shape_of-state
-shape_of-state c =
-    omega (arith, c.state-1.given)
-
-pub shape_of-events : goal.shape_of-events
-shape_of-events c =
-    omega (arith, c.events-1.given)
 
 pub returns : goal.returns
 unfolding runs_with
 returns c =
-    λ m s l. rw c.min-steps.ensures at (c.run_lent.ensures m s l)
+    λ m s l. rw c.min-steps.ensures at (c.run_within.ensures m s l)

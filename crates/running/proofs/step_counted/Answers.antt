@@ -4,9 +4,9 @@ use Rattle.running.proofs.Taking.{rest_of}
 use Rattle.running.proofs.Steps.{dead-ends, words-ends, drawn-so, used-fits}
 use Rattle.running.proofs.step_counted.Goals as goal
 
-pub returns-then-total-eq0 : goal.returns-then-total-eq0
-returns-then-total-eq0 c =
-    λ z m r es h. dead-ends h c.if-total-eq0.true _ c.ended.ensures
+pub returns-then-listed-eq0 : goal.returns-then-listed-eq0
+returns-then-listed-eq0 c =
+    λ z m r es h. dead-ends h c.if-listed-eq0.true _ c.ended.ensures
 
 pub slice_bounds-draw_from-count : goal.slice_bounds-draw_from-count
 slice_bounds-draw_from-count c =
@@ -18,16 +18,16 @@ slice_bounds-draw_from-start c =
 
 pub draw_from-drawn-requires : goal.draw_from-drawn-requires
 draw_from-drawn-requires c =
-    omega (arith, c.if-total-eq0.false)
+    omega (arith, c.if-listed-eq0.false)
 
 pub step_drawn-requires : goal.step_drawn-requires
 step_drawn-requires c =
-    let h = c.requires.0.4 in ((c.args.words.now, c.requires.0.0, c.requires.0.1, c.requires.0.2, c.requires.0.3, h, used-fits h c.if-total-eq0.false _ (rw rest_of at c.draw_from-drawn.ensures.value) _ _ c.in-Some.is (rw rest_of at c.draw_from-drawn.ensures.within), c.well_formed.1.1.1.1.1.1.0.0), omega (arith, c.if-total-eq0.false), c.requires.1)
+    let h = c.requires.0.4 in ((c.requires.0.0, c.requires.0.1, c.requires.0.2, c.requires.0.3, h, used-fits h c.if-listed-eq0.false _ (rw rest_of at c.draw_from-drawn.ensures.value) _ _ c.in-Some.is (rw rest_of at c.draw_from-drawn.ensures.within)), omega (arith, c.if-listed-eq0.false), c.requires.1)
 
 pub returns-in-None : goal.returns-in-None
 returns-in-None c =
-    λ z m r es h. words-ends h c.if-total-eq0.false _ (rw rest_of at c.draw_from-drawn.ensures.value) c.in-None.is _ c.ended-in-None.ensures
+    λ z m r es h. words-ends h c.if-listed-eq0.false _ (rw rest_of at c.draw_from-drawn.ensures.value) c.in-None.is _ c.ended-in-None.ensures
 
 pub returns-in-Some : goal.returns-in-Some
 returns-in-Some c =
-    λ z m r es h. rw (drawn-so h c.if-total-eq0.false _ (rw rest_of at c.draw_from-drawn.ensures.value) _ _ c.in-Some.is) (c.step_drawn.ensures c.args.words.now z m r es h (used-fits h c.if-total-eq0.false _ (rw rest_of at c.draw_from-drawn.ensures.value) _ _ c.in-Some.is (rw rest_of at c.draw_from-drawn.ensures.within)))
+    λ z m r es h. rw (drawn-so h c.if-listed-eq0.false _ (rw rest_of at c.draw_from-drawn.ensures.value) _ _ c.in-Some.is) (c.step_drawn.ensures z m r es h (used-fits h c.if-listed-eq0.false _ (rw rest_of at c.draw_from-drawn.ensures.value) _ _ c.in-Some.is (rw rest_of at c.draw_from-drawn.ensures.within)))

@@ -6,30 +6,30 @@ use Rattle.running.proofs.step_drawn.Goals as goal
 
 pub slice_bounds-take_timed-count : goal.slice_bounds-take_timed-count
 slice_bounds-take_timed-count c =
-    let h = c.requires.0.5 in omega (arith, h.stands.waiting-fits, h.stands.waiting)
+    let h = c.requires.0.4 in omega (arith, h.stands.waiting-fits, h.stands.waiting)
 
 pub slice_bounds-take_timed-start : goal.slice_bounds-take_timed-start
 slice_bounds-take_timed-start c =
-    let h = c.requires.0.5 in omega (arith, h.stands.waiting-fits, h.stands.waiting)
+    let h = c.requires.0.4 in omega (arith, h.stands.waiting-fits, h.stands.waiting)
 
 pub take_timed-stepped-requires : goal.take_timed-stepped-requires
 take_timed-stepped-requires c =
-    let h = c.requires.0.5 in ((c.requires.0.2, c.requires.0.3.timed.state, c.requires.0.4, h.counted), rw h.stands.clock h.stands.in-range, c.requires.1)
+    let h = c.requires.0.4 in ((c.requires.0.1, c.requires.0.2.timed.state, c.requires.0.3, h.counted), rw h.stands.clock h.stands.in-range, c.requires.1)
 
 pub returns-in-Err : goal.returns-in-Err
 returns-in-Err c =
-    λ ws z m r es h f. step-ends h _ c.args.used _ _ (rw c.in-Err.is at (left_over h _ _ _ _ _ h.stands.clock h.stands.waiting (c.take_timed-stepped.ensures m r.timed.state es h.counted))) _ (rw c.number.ensures at c.ended.ensures)
+    λ z m r es h f. step-ends h _ c.args.used _ _ (rw c.in-Err.is at (left_over h _ _ _ _ _ h.stands.clock h.stands.waiting (c.take_timed-stepped.ensures m r.timed.state es h.counted))) _ c.ended.ensures
 
 pub put_event-requires : goal.put_event-requires
 put_event-requires c =
-    let h = c.requires.0.5 in (search rules, row_within h _ c.args.used _ _ _ (rw c.in-Ok.is at (left_over h _ _ _ _ _ h.stands.clock h.stands.waiting (c.take_timed-stepped.ensures c.requires.0.2 c.requires.0.3.timed.state c.requires.0.4 h.counted))))
+    let h = c.requires.0.4 in (search rules, row_within h _ c.args.used _ _ _ (rw c.in-Ok.is at (left_over h _ _ _ _ _ h.stands.clock h.stands.waiting (c.take_timed-stepped.ensures c.requires.0.1 c.requires.0.2.timed.state c.requires.0.3 h.counted))))
 
 pub longer-requires : goal.longer-requires
 longer-requires c =
-    let h = c.requires.0.5 in
-    let k = clock-later h _ c.args.used _ _ _ (rw c.in-Ok.is at (left_over h _ _ _ _ _ h.stands.clock h.stands.waiting (c.take_timed-stepped.ensures c.requires.0.2 c.requires.0.3.timed.state c.requires.0.4 h.counted))) in
-    (omega (arith, c.requires.2, c.well_formed.1.1.1.1.1.1.1.1.1.0.0), omega (arith, c.requires.0.6, c.requires.0.7), k.0, omega (arith, k.1, c.well_formed.1.1.1.1.1.1.1.1.0.0))
+    let h = c.requires.0.4 in
+    let k = clock-later h _ c.args.used _ _ _ (rw c.in-Ok.is at (left_over h _ _ _ _ _ h.stands.clock h.stands.waiting (c.take_timed-stepped.ensures c.requires.0.1 c.requires.0.2.timed.state c.requires.0.3 h.counted))) in
+    (search rules, search rules, k.0, search rules)
 
 pub returns-in-Ok : goal.returns-in-Ok
 returns-in-Ok c =
-    λ ws z m r es h f. step-goes h _ _ _ _ _ (rw c.in-Ok.is at (left_over h _ _ _ _ _ h.stands.clock h.stands.waiting (c.take_timed-stepped.ensures m r.timed.state es h.counted))) _ _ f c.requires.2 c.put_event.ensures c.longer.ensures
+    λ z m r es h f. step-goes h _ _ _ _ _ (rw c.in-Ok.is at (left_over h _ _ _ _ _ h.stands.clock h.stands.waiting (c.take_timed-stepped.ensures m r.timed.state es h.counted))) _ _ f c.requires.2 c.put_event.ensures c.longer.ensures

@@ -17,7 +17,7 @@ returns-then-not-is_state c =
     let T = A.settled.tables.nodes.now in
     let R = A.settled.tables.roots.now in
     let S = A.settled.tables.scopes.now in
-    let Z = A.state.now in rw c.refused.ensures (closed-ran bs Z m A.clock A.words.now A.waiting.now A.limit A.events.now (machine-closed T R S A.settled.sums A.settled.channels m (tables T R S A.settled.tables.root A.settled.tables.variables A.settled.sums A.settled.channels m h) Z (sym (rw (c.shape.ensures.0, c.shape.ensures.1) at c.is_state.ensures) ∙ refused _ c.if-not-is_state.true-raw) bs))
+    let Z = A.state.now in (closed-ran bs Z m A.asked.clock A.asked.words.now A.asked.waiting.now A.asked.limit A.events.now (machine-closed T R S A.settled.sums A.settled.channels m (tables T R S A.settled.tables.root A.settled.tables.variables A.settled.sums A.settled.channels m h) Z (sym (rw (c.shape.ensures.0, c.shape.ensures.1) at c.is_state.ensures) ∙ refused _ c.if-not-is_state.true-raw) bs))
 
 pub run-requires : goal.run-requires
 run-requires c =
@@ -40,4 +40,4 @@ returns c =
     let Z = A.state.now in
     let e = sym (rw (c.shape.ensures.0, c.shape.ensures.1) at c.is_state.ensures) ∙ passed _ c.if-not-is_state.false-raw in
     let t = tables T R S A.settled.tables.root A.settled.tables.variables A.settled.sums A.settled.channels m h in
-    let s = state_of T R S A.settled.sums A.settled.channels m t Z in ran-so bs Z m A.clock A.words.now A.waiting.now A.limit A.events.now s (machine-is T R S A.settled.sums A.settled.channels m t Z c.requires.1 e bs) c.requires.2 _ _ _ (c.run.ensures m s (run_lent T R S A.settled.tables.root A.settled.tables.variables A.settled.sums A.settled.channels m h Z c.requires.1 e))
+    let s = state_of T R S A.settled.sums A.settled.channels m t Z in ran-so bs Z m A.asked.clock A.asked.words.now A.asked.waiting.now A.asked.limit A.events.now s (machine-is T R S A.settled.sums A.settled.channels m t Z c.requires.1 e bs) c.requires.2 _ _ _ (c.run.ensures m s (run_lent T R S A.settled.tables.root A.settled.tables.variables A.settled.sums A.settled.channels m h Z c.requires.1 e))

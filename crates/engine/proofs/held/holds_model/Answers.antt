@@ -1,12 +1,11 @@
 -- Both tests, the state's first.
-use mathlib.Core.Path.{refl, sym, ◌∙◌}
-use Rattle.state.proofs.Tests.{refused, passed}
+use mathlib.Core.Path.{sym, ◌∙◌}
 use Rattle.engine.proofs.held.holds_model.Goals as goal
 
-pub returns-then-not-is_state : goal.returns-then-not-is_state
-returns-then-not-is_state c =
-    rw (sym c.is_state.ensures ∙ refused _ c.if-not-is_state.true-raw) refl
+pub returns-then-is_state : goal.returns-then-is_state
+returns-then-is_state c =
+    rw (sym c.is_state.ensures ∙ c.if-is_state.true) c.is_saves.ensures
 
-pub returns : goal.returns
-returns c =
-    rw (sym c.is_state.ensures ∙ passed _ c.if-not-is_state.false-raw) c.is_saves.ensures
+pub returns-else-is_state : goal.returns-else-is_state
+returns-else-is_state c =
+    rw (sym c.is_state.ensures ∙ c.if-is_state.false) c.if-is_state.false

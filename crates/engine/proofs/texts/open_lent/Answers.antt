@@ -20,7 +20,7 @@ pub returns-in-Err : goal.returns-in-Err
 returns-in-Err c =
     λ ss z.
     let X = c.args.text.now in
-    rw c.bare.ensures (refused-gives X _ _ _ _ ss (refused-is X _ _ _ c.args.profile c.open_under-opened.ensures c.in-Err.is) c.put_fresh.ensures.0 c.put_fresh.ensures.1 z)
+    rw (c.from-in-Err.ensures, c.from.ensures) (refused-gives X _ _ _ _ ss (refused-is X _ _ _ c.args.profile c.open_under-opened.ensures c.in-Err.is) c.put_fresh.ensures.0 c.put_fresh.ensures.1 z)
 
 pub shape_of-model-in-Ok : goal.shape_of-model-in-Ok
 shape_of-model-in-Ok c =
@@ -36,4 +36,4 @@ returns-in-Ok c =
     let X = c.args.text.now in
     let o = opened-is X _ _ _ c.args.profile c.open_under-opened.ensures c.in-Ok.is in
     let t = c.tables.ensures in
-    rw c.bare-in-Ok.ensures (accepted-gives X o.plain.model _ _ ss o.opens c.put_text.ensures (c.open_state.ensures o.plain.model (rw (t.0, t.2, t.3, t.4) (starts X _ _ _ o.plain))) z)
+    rw c.bare.ensures (accepted-gives X o.plain.model _ _ ss o.opens c.put_text.ensures (c.open_state.ensures o.plain.model (rw (t.0, t.2, t.3, t.4) (starts X _ _ _ o.plain))) z)

@@ -4,4 +4,4 @@ use Rattle.engine.proofs.listings.ListQuery.answer.Goals as goal
 
 pub returns : goal.returns
 returns c =
-    λ m bs h. rw c.from.ensures (finds-give bs c.args.state.now c.args.listing.now c.requires.2 m c.list_state-listed.result _ (c.list_state-listed.ensures m h))
+    λ m bs h. finds-give bs c.args.state.now c.args.listing.now c.requires.2 m _ _ (c.list_state.ensures m h)

@@ -15,4 +15,4 @@ pub returns : goal.returns
 returns c =
     λ m bs h.
     let e = c.list_state-listed.ensures m h in
-    rw c.from.ensures (finds-report bs c.args.state.now c.args.report.now m c.list_state-listed.result _ _ _ e (c.put_report.ensures m bs _ h.good e))
+    (finds-report bs c.args.state.now c.args.report.now m c.list_state-listed.result _ _ _ e (c.put_report.ensures m bs _ h.good e))

@@ -5,8 +5,8 @@ use mathlib.Core.Path.{refl, sym, ap, ◌∙◌}
 use lib.Dec.{eqb}
 use Rattle.machine.specs.State.{state_length}
 use Rattle.machine.specs.Machine.{model_length}
-use Rattle.engine.specs.Gives.{are_parts_long}
-use Rattle.engine.proofs.are_parts_long.Goals as goal
+use Rattle.simulation.specs.Comes.{are_parts_long}
+use Rattle.simulation.proofs.are_parts_long.Goals as goal
 
 pub returns-then-model-eq-MODEL : goal.returns-then-model-eq-MODEL
 unfolding are_parts_long

@@ -1,0 +1,5 @@
+-- The listing as it answers C.
+use Rattle.engine.proofs.list.Goals as goal
+
+pub returns : goal.returns
+returns c = rw c.from.ensures c.ask.ensures

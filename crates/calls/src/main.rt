@@ -33,7 +33,7 @@ struct Limits;
 
 impl Limits {
     // Bytes of a text that are kept: one more than a text may have.
-    const TEXT: usize = token::Limits::TEXT + 1;
+    const TEXT: usize = token::Limits::READ;
 
     // Bytes of one read.
     const READ: usize = 65536;
@@ -49,7 +49,7 @@ impl Limits {
     const WORDS: usize = 4096;
 
     // Numbers of an event.
-    const EVENT: usize = 8;
+    const EVENT: usize = 1 + listing::Limits::ENTRY;
 
     // Numbers of a run that a search found: its length and eight entry numbers.
     const FOUND: usize = 9;
@@ -59,7 +59,7 @@ type Text = [u8; Limits::TEXT];
 
 type Listing = [u64; Engine::LISTING];
 
-// A call, with the size of its text; or how many bytes of its line are kept, a name the last of them; or a draw or limit.
+// A call, with the size of its text; or how many bytes of its line are kept, a name the last of them; or a draw or limit. Not a Line: five lines are no call and have no row.
 #[derive(Clone, Copy)]
 enum Call {
     Open(u64),
@@ -173,7 +173,7 @@ impl<'a> Lent<'a> {
     }
 }
 
-// A row as script::run reads it.
+// A row as script::run reads it. No From: neither a Row nor an array is of this crate.
 fn numbers_of(row: Row) -> [u64; Row::WIDTH] {
     [
         row.kind,
@@ -207,32 +207,34 @@ struct Answer {
 }
 
 // An answer as script::run wrote it.
-fn answer_of(numbers: &[u64; Row::ANSWER]) -> Answer {
-    let [
-        number,
-        place,
-        branch,
-        count,
-        total,
-        chosen,
-        ..,
-        steps,
-        words,
-        waiting,
-    ] = *numbers;
-    let mut found = [0u64; Limits::FOUND];
-    found.copy_from_slice(&numbers[6..15]);
-    Answer {
-        number,
-        place,
-        branch,
-        count,
-        total,
-        chosen,
-        found,
-        steps,
-        words,
-        waiting,
+impl From<[u64; Row::ANSWER]> for Answer {
+    fn from(numbers: [u64; Row::ANSWER]) -> Self {
+        let [
+            number,
+            place,
+            branch,
+            count,
+            total,
+            chosen,
+            ..,
+            steps,
+            words,
+            waiting,
+        ] = numbers;
+        let mut found = [0u64; Limits::FOUND];
+        found.copy_from_slice(&numbers[6..6 + Limits::FOUND]);
+        Answer {
+            number,
+            place,
+            branch,
+            count,
+            total,
+            chosen,
+            found,
+            steps,
+            words,
+            waiting,
+        }
     }
 }
 
@@ -257,7 +259,15 @@ impl Answer {
     // These, and as many entries as are counted: none where the listing isn't filled.
     fn put_listed(&self, out: &mut impl Write, listing: &Listing) -> io::Result<()> {
         self.put(out)?;
-        output::put_entries(out, listing, self.count, "  ", ' ')
+        output::put_entries(
+            out,
+            listing,
+            self.count,
+            output::Style {
+                begin: "  ",
+                gap: ' ',
+            },
+        )
     }
 }
 
@@ -302,7 +312,7 @@ impl Machine {
             outputs,
             &mut answer,
         );
-        answer_of(&answer)
+        Answer::from(answer)
     }
 }
 
@@ -321,7 +331,7 @@ struct Bench {
 fn kept_at(part: Part) -> u64 {
     match part {
         Part::InLine(reading) => reading.kept,
-        Part::InText(_, _, taken) => taken,
+        Part::InText(text) => text.taken,
     }
 }
 
@@ -425,7 +435,16 @@ impl Bench {
         self.words.clear();
         let shown = [number, steps, words, waiting, count, total];
         output::put_line(out, &shown, ' ')?;
-        output::put_rows(out, &events, Limits::EVENT, steps, "  ", ' ')
+        output::put_rows(
+            out,
+            &events,
+            Limits::EVENT,
+            steps,
+            output::Style {
+                begin: "  ",
+                gap: ' ',
+            },
+        )
     }
 
     // Keeps a waiting draw, if there is room. A line gives none of more than 16 bits.
@@ -433,16 +452,12 @@ impl Bench {
         let Ok(draw) = u16::try_from(draw) else {
             return;
         };
-        if self.waiting.len() < Limits::DRAWS {
-            self.waiting.push(draw);
-        }
+        let _ = self.waiting.try_push(draw);
     }
 
     // Keeps a word, if there is room.
     fn keep_word(&mut self, word: u64) {
-        if self.words.len() < Limits::WORDS {
-            self.words.push(word);
-        }
+        let _ = self.words.try_push(word);
     }
 
     // Does what an item of the script asks for.

@@ -10,9 +10,7 @@ struct Size;
 impl Size {
     const ROWS: usize = 20;
 
-    // Numbers of the rows, of their answers and of their outputs, with room for one part more.
-    const SCRIPT: usize = 240;
-
+    // Numbers of their answers and of their outputs, with room for one part more.
     const ANSWERS: usize = 360;
 
     const OUTPUTS: usize = 172032;
@@ -42,19 +40,28 @@ fn words() -> [u64; 6] {
 // The rows: list where nothing is open; open with a model one byte short, and whole; list with a listing one number short, one too long, and whole; a step with a draw of the total, and with a state one number short;
 // runs up to their limit, up to their room with seven numbers past it, without room, without words, without waiting draws, with a model one byte short, and with a whole part of the outputs;
 // a timed step; a save with saves one number short; a report; a search; and a run that is lent more than its part, which is no call.
-fn script() -> [u64; Size::SCRIPT] {
+fn script() -> [[u64; Row::WIDTH]; Size::ROWS] {
     [
-        2, 0, 0, 0, 0, 0, 7168, 16386, 5122, 41008, 0, 0, 1, 0, 23, 0, 0, 0, 0, 16385, 5122, 41008,
-        0, 0, 1, 0, 23, 0, 0, 0, 0, 16386, 5122, 41008, 0, 0, 2, 0, 0, 0, 0, 0, 7167, 16386, 5122,
-        41008, 0, 0, 2, 0, 0, 0, 0, 0, 7169, 16386, 5122, 41008, 0, 0, 2, 0, 0, 0, 0, 0, 7168,
-        16386, 5122, 41008, 0, 0, 3, 0, 0, 0, 0, 10000, 7168, 16386, 5122, 41008, 0, 0, 3, 0, 0, 0,
-        0, 9999, 7168, 16386, 5121, 41008, 0, 0, 11, 0, 0, 0, 4, 2, 16, 16386, 5122, 41008, 0, 3,
-        11, 0, 0, 2, 6, 9, 23, 16386, 5122, 41008, 3, 3, 11, 0, 0, 0, 4, 5, 7, 16386, 5122, 41008,
-        0, 3, 11, 0, 0, 0, 4, 5, 80, 16386, 5122, 41008, 6, 0, 11, 0, 0, 10, 0, 5, 80, 16386, 5122,
-        41008, 0, 1, 11, 0, 0, 0, 4, 5, 80, 16385, 5122, 41008, 0, 3, 11, 0, 0, 6, 2, 5, 8192,
-        16386, 5122, 41008, 0, 1, 8, 0, 0, 0, 2, 3, 7168, 16386, 5122, 41008, 0, 0, 5, 23, 1, 0, 0,
-        0, 0, 16386, 5122, 41007, 0, 0, 4, 0, 0, 0, 0, 0, 64, 16386, 5122, 41008, 0, 0, 10, 24, 1,
-        0, 0, 3, 0, 16386, 5122, 41008, 0, 0, 11, 0, 0, 6, 2, 5, 8193, 16386, 5122, 41008, 3, 3,
+        [2, 0, 0, 0, 0, 0, 7168, 16386, 5122, 41008, 0, 0],
+        [1, 0, 23, 0, 0, 0, 0, 16385, 5122, 41008, 0, 0],
+        [1, 0, 23, 0, 0, 0, 0, 16386, 5122, 41008, 0, 0],
+        [2, 0, 0, 0, 0, 0, 7167, 16386, 5122, 41008, 0, 0],
+        [2, 0, 0, 0, 0, 0, 7169, 16386, 5122, 41008, 0, 0],
+        [2, 0, 0, 0, 0, 0, 7168, 16386, 5122, 41008, 0, 0],
+        [3, 0, 0, 0, 0, 10000, 7168, 16386, 5122, 41008, 0, 0],
+        [3, 0, 0, 0, 0, 9999, 7168, 16386, 5121, 41008, 0, 0],
+        [11, 0, 0, 0, 4, 2, 16, 16386, 5122, 41008, 0, 3],
+        [11, 0, 0, 2, 6, 9, 23, 16386, 5122, 41008, 3, 3],
+        [11, 0, 0, 0, 4, 5, 7, 16386, 5122, 41008, 0, 3],
+        [11, 0, 0, 0, 4, 5, 80, 16386, 5122, 41008, 6, 0],
+        [11, 0, 0, 10, 0, 5, 80, 16386, 5122, 41008, 0, 1],
+        [11, 0, 0, 0, 4, 5, 80, 16385, 5122, 41008, 0, 3],
+        [11, 0, 0, 6, 2, 5, 8192, 16386, 5122, 41008, 0, 1],
+        [8, 0, 0, 0, 2, 3, 7168, 16386, 5122, 41008, 0, 0],
+        [5, 23, 1, 0, 0, 0, 0, 16386, 5122, 41007, 0, 0],
+        [4, 0, 0, 0, 0, 0, 64, 16386, 5122, 41008, 0, 0],
+        [10, 24, 1, 0, 0, 3, 0, 16386, 5122, 41008, 0, 0],
+        [11, 0, 0, 6, 2, 5, 8193, 16386, 5122, 41008, 3, 3],
     ]
 }
 
@@ -74,12 +81,8 @@ fn put_firsts(out: &mut impl Write, outputs: &[u64], count: usize) -> io::Result
 }
 
 // Runs rows, and shows how many were run, the answers, the first numbers of the outputs and the clock.
-fn run_rows(
-    out: &mut impl Write,
-    rows: &[u64],
-    count: usize,
-    machine: &mut Machine,
-) -> io::Result<()> {
+fn run_rows(out: &mut impl Write, rows: &[u64], machine: &mut Machine) -> io::Result<()> {
+    let count = rows.len() / Row::WIDTH;
     let mut outputs = [9u64; Size::OUTPUTS];
     let mut answers = [8u64; Size::ANSWERS];
     let ran = script::run(
@@ -95,7 +98,16 @@ fn run_rows(
         &mut answers,
     );
     writeln!(out, "{ran}")?;
-    output::put_rows(out, &answers, Row::ANSWER, count as u64, "", ' ')?;
+    output::put_rows(
+        out,
+        &answers,
+        Row::ANSWER,
+        count as u64,
+        output::Style {
+            begin: "",
+            gap: ' ',
+        },
+    )?;
     put_firsts(out, &outputs, count)?;
     output::put_line(out, &machine.clock, ' ')
 }
@@ -103,8 +115,8 @@ fn run_rows(
 // Runs the rows on a fresh engine, and the late one.
 pub fn run(out: &mut impl Write) -> io::Result<()> {
     let mut machine = Machine::new();
-    run_rows(out, &script(), Size::ROWS, &mut machine)?;
+    run_rows(out, script().as_flattened(), &mut machine)?;
     machine.clock[0] = Size::LATE;
-    run_rows(out, &late(), 1, &mut machine)?;
+    run_rows(out, &late(), &mut machine)?;
     out.flush()
 }

@@ -7,20 +7,12 @@ use std::io;
 use std::io::{BufWriter, Write};
 use store::Engine;
 
-#[derive(Clone, Copy)]
-struct Input;
-
-impl Input {
-    // Bytes that are read: one more than a text may have.
-    const MOST: usize = token::Limits::TEXT + 1;
-
-    // The refusal that carries a branch.
-    const NO_VALUE: u64 = 12;
-}
+// The refusal that carries a branch, by its number: engine's answer is lent to C as numbers, and has no enum.
+const NO_VALUE: u64 = 12;
 
 fn put_refused(out: &mut impl Write, answer: Answer) -> io::Result<()> {
     write!(out, "refused,{},{}", answer.number, answer.place)?;
-    if answer.number == Input::NO_VALUE {
+    if answer.number == NO_VALUE {
         write!(out, ",{}", answer.branch)?;
     }
     writeln!(out)
@@ -28,7 +20,15 @@ fn put_refused(out: &mut impl Write, answer: Answer) -> io::Result<()> {
 
 fn put_sheet(out: &mut impl Write, answer: Answer, listing: &[u64]) -> io::Result<()> {
     writeln!(out, "kind,place,branch,partner,pbranch,pair,weight")?;
-    output::put_entries(out, listing, answer.count, "", ',')?;
+    output::put_entries(
+        out,
+        listing,
+        answer.count,
+        output::Style {
+            begin: "",
+            gap: ',',
+        },
+    )?;
     writeln!(out, "total,{}", answer.total)
 }
 
@@ -60,7 +60,7 @@ fn put_model(out: &mut impl Write, text: &[u8]) -> io::Result<()> {
 }
 
 fn main(rt: HostRuntime) -> io::Result<()> {
-    let mut text = [0u8; Input::MOST];
+    let mut text = [0u8; token::Limits::READ];
     let n = reading::read_full(&mut rt.stdin(), &mut text)?;
     let mut out = BufWriter::new(rt.alloc(), io::writer(&rt))?;
     put_model(&mut out, &text[..n])?;

@@ -3,12 +3,13 @@ use mathlib.Core.Path.{◌≡◌, refl, sym, ap, ap₂, subst, ◌∙◌}
 use mathlib.Core.Bool.{Bool, true, false, cond, ◌&&◌}
 use mathlib.Core.List.{List, [], ◌∷◌, ◌++◌, append-nil}
 use mathlib.Core.Option.{Option, none, some, Option-elim}
-use Prim.Native.Nat.{ℕ, zero, suc, ◌+◌, ◌-◌, ◌≤◌}
+use Prim.Native.Nat.{ℕ, zero, suc, ◌+◌, ◌-◌, ◌<◌, ◌≤◌}
 use native.Mathlib.Omega.{arith}
 use lib.Dec.{eqb}
 use lib.IntN.{ℤ}
-use lib.ListN.{length, get_or, take, drop, replicate, length-append, take-append-drop}
-use lib.Seq.{length-take-le}
+use lib.ListN.{length, get_or, take, drop, replicate, length-append, length-drop}
+use lib.Seq.{take_all, length-take-le}
+use Rattle.std.proofs.lemmas.List.{get_or-take}
 use Rattle.model.specs.Resolved
 use Rattle.model.specs.Opening.{Opening, refused, opened, opening}
 use Rattle.profile.specs.Opening.{opening_steady}
@@ -29,9 +30,11 @@ use Rattle.engine.specs.Ran.{GivesRan}
 use Rattle.engine.specs.Gives.{Gives, bare}
 use Rattle.searching.specs.declared.Found.{Found}
 use Rattle.searching.specs.Run.{entries_of, GivesRun}
+use Rattle.script.specs.declared.Kind.{Kind}
+use Rattle.script.specs.declared.Kind.TheVariants.{Open, List as Lists, Step, Report, Save, Return, Forget, Timed as Times, Steady, Search, Run}
 use Rattle.script.specs.declared.Row.{Row}
-use Rattle.script.specs.Rows.{row_lengths, fits, row_text, row_draws, row_words, row_ask, row_call}
-use Rattle.script.specs.Run.{lengths_of, effect_of, used_of, answer_numbers, result_numbers, found_numbers, ran_numbers, Called}
+use Rattle.script.specs.Rows.{row_width, kind_number, row_of, row_lengths, fits, row_text, row_draws, row_words, row_ask, row_call}
+use Rattle.script.specs.Run.{lengths_of, effect_of, used_of, answer_numbers, result_numbers, found_numbers, ran_numbers, Called, Makes}
 use Rattle.script.proofs.Called.{row-asks}
 use Rattle.script.proofs.Used.{is_run, without-used, run-bare}
 use Rattle.script.proofs.Used as used
@@ -240,69 +243,26 @@ alike-gives {ps} {d} {e} {x} {r} z y l a h f g = record {
     by p true i = f p i ∙ h.buffers p ∙ a.lent p i
     by p false i = g p i ∙ a.others p i
 
--- ---- what a row's call gives
+-- ---- what a call makes of all that it is lent
 
-module _ (row : Row) (texts numbers words bs : List ℕ) (zs ss : List ℤ) (c : Clock) (ls : List ℕ) (r : engine.Answer) where
-  -- what is lent of the parts
+module _ (bs : List ℕ) (zs ss : List ℤ) (c : Clock) (ls : List ℕ) (r : engine.Answer) where
   abbrev X : Engine
-  X = lent_all (take row.model bs) (take row.state zs) (take row.saves ss) c
-
-  abbrev L : List ℕ
-  L = take row.output ls
-
-  abbrev C : Call
-  C = row_call texts numbers words row
-
-  lent_is : X ≡ (λ (p : Part). take (row_lengths row p) (lent_all bs zs ss c p))
-  unfolding lent_all row_lengths
-  lent_is = same-engine at
-    where
-      at : (p : Part) → X p ≡ take (row_lengths row p) (lent_all bs zs ss c p)
-      at model = refl
-      at state = refl
-      at saves = refl
-      at clock = refl
-
-  effect_is : (k : Ask) → row_ask texts numbers words row ≡ k → effect k X L ≡ effect_of C (lent_all bs zs ss c) ls
-  unfolding effect_of row_call
-  effect_is k e =
-      ap (λ (x : Engine). effect k x L) lent_is
-      ∙ ap (λ (j : Ask). effect j (λ (p : Part). take (row_lengths row p) (lent_all bs zs ss c p)) L) (sym e)
-
-  gives-numbers : (k : Ask) → row_ask texts numbers words row ≡ k → (ns : List ℕ) → ns ≡ answer_numbers (effect k X L).answer
-      → (bs' : List ℕ) (zs' ss' : List ℤ) (c' : Clock) (l : List ℕ) → Gives (effect k X L) r (lent_all bs' zs' ss' c') l
-      → Called C (lent_all bs zs ss c) ls ns (lent_all (bs' ++ drop row.model bs) (zs' ++ drop row.state zs) (ss' ++ drop row.saves ss) c') (l ++ drop row.output ls)
-  unfolding row_call
-  gives-numbers k e ns q bs' zs' ss' c' l g = record {
-    numbers = q ∙ ap (λ (e : Effect). answer_numbers e.answer) (effect_is k e);
-    engine = at;
-    outputs = ap (λ (h : List ℕ). h ++ drop row.output ls) (g.output ∙ ap (λ (e : Effect). e.output) (effect_is k e));
-  }
-    where
-      at : (p : Part) → lent_all (bs' ++ drop row.model bs) (zs' ++ drop row.state zs) (ss' ++ drop row.saves ss) c' p
-          ≡ (effect_of C (lent_all bs zs ss c) ls).left p ++ drop (row_lengths row p) (lent_all bs zs ss c p)
-      at model = unfold lent_all row_lengths in ap (λ (h : List ℕ). h ++ drop row.model bs) (g.buffers model ∙ ap (λ (e : Effect). e.left model) (effect_is k e))
-      at state = unfold lent_all row_lengths in ap (λ (h : List ℤ). h ++ drop row.state zs) (g.buffers state ∙ ap (λ (e : Effect). e.left state) (effect_is k e))
-      at saves = unfold lent_all row_lengths in ap (λ (h : List ℤ). h ++ drop row.saves ss) (g.buffers saves ∙ ap (λ (e : Effect). e.left saves) (effect_is k e))
-      at clock = unfold lent_all row_lengths in g.buffers clock ∙ ap (λ (e : Effect). e.left clock) (effect_is k e) ∙ sym (append-nil _)
+  X = lent_all bs zs ss c
 
   -- a call that is no search answers without a run, and one that is no run uses nothing
-  gives : (k : Ask) → row_ask texts numbers words row ≡ k → (is_search k ≡ false) × (is_run k ≡ false) → (bs' : List ℕ) (zs' ss' : List ℤ) (c' : Clock) (l : List ℕ) → Gives (effect k X L) r (lent_all bs' zs' ss' c') l
-      → Called C (lent_all bs zs ss c) ls (result_numbers r) (lent_all (bs' ++ drop row.model bs) (zs' ++ drop row.state zs) (ss' ++ drop row.saves ss) c') (l ++ drop row.output ls)
-  gives k e f bs' zs' ss' c' l g = gives-numbers k e (result_numbers r) numbers-are bs' zs' ss' c' l g
+  gives : (k : Ask) → (is_search k ≡ false) × (is_run k ≡ false) → (y : Engine) (l : List ℕ) → Gives (effect k X ls) r y l → Makes (effect k X ls) (result_numbers r) y l
+  gives k f y l g = record { numbers = numbers-are; engine = g.buffers; output = g.output }
     where
-      no-entries : 0 ∷ 0 ∷ 0 ∷ 0 ∷ 0 ∷ 0 ∷ 0 ∷ 0 ∷ 0 ∷ 0 ∷ 0 ∷ 0 ∷ [] ≡ length (effect k X L).answer.run ∷ (entries_of (effect k X L).answer.run ++ used_of (effect k X L).answer.used)
-      no-entries = unfold entries_of used_of in ap₂ (λ (r us : List ℕ). length r ∷ (entries_of r ++ used_of us)) (sym (without-run k X L f.0)) (sym (without-used k X L f.1))
+      no-entries : 0 ∷ 0 ∷ 0 ∷ 0 ∷ 0 ∷ 0 ∷ 0 ∷ 0 ∷ 0 ∷ 0 ∷ 0 ∷ 0 ∷ [] ≡ length (effect k X ls).answer.run ∷ (entries_of (effect k X ls).answer.run ++ used_of (effect k X ls).answer.used)
+      no-entries = unfold entries_of used_of in ap₂ (λ (r us : List ℕ). length r ∷ (entries_of r ++ used_of us)) (sym (without-run k X ls f.0)) (sym (without-used k X ls f.1))
 
-      numbers-are : result_numbers r ≡ answer_numbers (effect k X L).answer
+      numbers-are : result_numbers r ≡ answer_numbers (effect k X ls).answer
       numbers-are = unfold result_numbers answer_numbers in λ i. g.number i ∷ g.place i ∷ g.branch i ∷ g.count i ∷ g.total i ∷ g.chosen i ∷ no-entries i
 
   -- a call that is lent no output leaves the outputs
-  bare-gives : (k : Ask) → row_ask texts numbers words row ≡ k → (is_search k ≡ false) × (is_run k ≡ false) → Bare (effect k X L) (effect k X []) L → (bs' : List ℕ) (zs' ss' : List ℤ) (c' : Clock) → Gives (effect k X []) r (lent_all bs' zs' ss' c') []
-      → Called C (lent_all bs zs ss c) ls (result_numbers r) (lent_all (bs' ++ drop row.model bs) (zs' ++ drop row.state zs) (ss' ++ drop row.saves ss) c') ls
-  bare-gives k e f w bs' zs' ss' c' h =
-      rw (take-append-drop row.output ls) at
-      (gives k e f bs' zs' ss' c' L (record {
+  bare-gives : (k : Ask) → (is_search k ≡ false) × (is_run k ≡ false) → Bare (effect k X ls) (effect k X []) ls → (y : Engine) → Gives (effect k X []) r y [] → Makes (effect k X ls) (result_numbers r) y ls
+  bare-gives k f w y h =
+      gives k f y ls (record {
         number = h.number ∙ sym (ap (λ (a : Answer). a.number) w.answer);
         place = h.place ∙ sym (ap (λ (a : Answer). a.place) w.answer);
         branch = h.branch ∙ sym (ap (λ (a : Answer). a.branch) w.answer);
@@ -311,181 +271,129 @@ module _ (row : Row) (texts numbers words bs : List ℕ) (zs ss : List ℤ) (c :
         chosen = h.chosen ∙ sym (ap (λ (a : Answer). a.chosen) w.answer);
         buffers = λ p. h.buffers p ∙ sym (ap (λ (z : Engine). z p) w.left);
         output = sym w.output;
-      }))
+      })
+
+  pub opening-makes : (text : List ℕ) (y : Engine) → Gives (effect (open' text) X []) r y [] → Makes (effect (open' text) X ls) (result_numbers r) y ls
+  opening-makes text y g = bare-gives (open' text) (unfold is_search is_run in (refl, refl)) (open-bare text X ls) y g
+
+  -- 02, note 11
+  pub steady-makes : (text : List ℕ) (y : Engine) → Gives (effect (open_steady' text) X []) r y [] → Makes (effect (open_steady' text) X ls) (result_numbers r) y ls
+  steady-makes text y g = bare-gives (open_steady' text) (unfold is_search is_run in (refl, refl)) (steady-bare text X ls) y g
 
   -- a request that is lent model and state leaves the saves and the clock
-  two-gives : (q : Request) → uses q ≡ two_parts → row_ask texts numbers words row ≡ on' q → (is_search (on' q) ≡ false) × (is_run (on' q) ≡ false) → (bs' : List ℕ) (zs' : List ℤ) (l : List ℕ)
-      → Gives (effect (on' q) (lent_two (take row.model bs) (take row.state zs)) L) r (lent_two bs' zs') l
-      → Called C (lent_all bs zs ss c) ls (result_numbers r) (lent_all (bs' ++ drop row.model bs) (zs' ++ drop row.state zs) ss c) (l ++ drop row.output ls)
-  two-gives q u e f bs' zs' l h =
-      rw (take-append-drop row.saves ss) at
-      (gives (on' q) e f bs' zs' (take row.saves ss) c l
-      (alike-gives (lent_two bs' zs') (lent_all bs' zs' (take row.saves ss) c) l (two-effect (take row.model bs) (take row.state zs) (take row.saves ss) c q u L) h at others))
+  two-gives : (q : Request) → uses q ≡ two_parts → (is_search (on' q) ≡ false) × (is_run (on' q) ≡ false) → (bs' : List ℕ) (zs' : List ℤ) (l : List ℕ)
+      → Gives (effect (on' q) (lent_two bs zs) ls) r (lent_two bs' zs') l → Makes (effect (on' q) X ls) (result_numbers r) (lent_all bs' zs' ss c) l
+  two-gives q u f bs' zs' l h = gives (on' q) f (lent_all bs' zs' ss c) l (alike-gives (lent_two bs' zs') (lent_all bs' zs' ss c) l (two-effect bs zs ss c q u ls) h at others)
     where
-      at : (p : Part) → is_lent p two_parts ≡ true → lent_all bs' zs' (take row.saves ss) c p ≡ lent_two bs' zs' p
+      at : (p : Part) → is_lent p two_parts ≡ true → lent_all bs' zs' ss c p ≡ lent_two bs' zs' p
       at model e = unfold lent_two lent_all is_lent in refl
       at state e = unfold lent_two lent_all is_lent in refl
       at saves e = unfold lent_two lent_all is_lent in absurd (let z : ◌≡◌ {A = ℕ} 0 1 = cc in omega arith)
       at clock e = unfold lent_two lent_all is_lent in absurd (let z : ◌≡◌ {A = ℕ} 0 1 = cc in omega arith)
 
-      others : (p : Part) → is_lent p two_parts ≡ false → lent_all bs' zs' (take row.saves ss) c p ≡ X p
+      others : (p : Part) → is_lent p two_parts ≡ false → lent_all bs' zs' ss c p ≡ X p
       others model e = unfold lent_all is_lent in absurd (let z : ◌≡◌ {A = ℕ} 0 1 = cc in omega arith)
       others state e = unfold lent_all is_lent in absurd (let z : ◌≡◌ {A = ℕ} 0 1 = cc in omega arith)
       others saves e = unfold lent_all is_lent in refl
       others clock e = unfold lent_all is_lent in refl
 
-  -- ---- by the kind
+  pub listing-makes : (l : List ℕ) → Gives (effect (on' list') (lent_two bs zs) ls) r (lent_two bs zs) l → Makes (effect (on' list') X ls) (result_numbers r) X l
+  listing-makes l g = two-gives list' refl (unfold is_search is_run in (refl, refl)) bs zs l g
 
-  -- the bytes of the text or name, and the waiting draws, as the code lends them
-  abbrev T : List ℕ
-  T = take (row.text + row.size - row.text) (drop row.text texts)
+  pub reporting-makes : (l : List ℕ) → Gives (effect (on' report') (lent_two bs zs) ls) r (lent_two bs zs) l → Makes (effect (on' report') X ls) (result_numbers r) X l
+  reporting-makes l g = two-gives report' refl (unfold is_search is_run in (refl, refl)) bs zs l g
 
-  abbrev D : List ℕ
-  D = take (row.from + row.count - row.from) (drop row.from numbers)
-
-  text-is : T ≡ row_text texts row
-  unfolding row_text
-  text-is = let n : row.text + row.size - row.text ≡ row.size = omega arith in ap (λ (k : ℕ). take k (drop row.text texts)) n
-
-  draws-are : D ≡ row_draws numbers row
-  unfolding row_draws
-  draws-are = let n : row.from + row.count - row.from ≡ row.count = omega arith in ap (λ (k : ℕ). take k (drop row.from numbers)) n
-
-  pub opening-called : row.kind ≡ 1 → (bs' : List ℕ) (zs' ss' : List ℤ) (c' : Clock) → Gives (effect (open' T) X []) r (lent_all bs' zs' ss' c') []
-      → Called C (lent_all bs zs ss c) ls (result_numbers r) (lent_all (bs' ++ drop row.model bs) (zs' ++ drop row.state zs) (ss' ++ drop row.saves ss) c') ls
-  unfolding row_ask
-  opening-called e bs' zs' ss' c' g = bare-gives (open' (row_text texts row)) (rw e) (unfold is_search is_run in (refl, refl)) (open-bare (row_text texts row) X L) bs' zs' ss' c' (rw text-is at g)
-
-  -- 02, note 11
-  pub steady-called : row.kind ≡ 9 → (bs' : List ℕ) (zs' ss' : List ℤ) (c' : Clock) → Gives (effect (open_steady' T) X []) r (lent_all bs' zs' ss' c') []
-      → Called C (lent_all bs zs ss c) ls (result_numbers r) (lent_all (bs' ++ drop row.model bs) (zs' ++ drop row.state zs) (ss' ++ drop row.saves ss) c') ls
-  unfolding row_ask
-  steady-called e bs' zs' ss' c' g = bare-gives (open_steady' (row_text texts row)) (rw e) (unfold is_search is_run in (refl, refl)) (steady-bare (row_text texts row) X L) bs' zs' ss' c' (rw text-is at g)
-
-  pub listing-called : row.kind ≡ 2 → (l : List ℕ) → Gives (effect (on' list') (lent_two (take row.model bs) (take row.state zs)) L) r (lent_two (take row.model bs) (take row.state zs)) l
-      → Called C (lent_all bs zs ss c) ls (result_numbers r) (lent_all bs zs ss c) (l ++ drop row.output ls)
-  unfolding row_ask
-  listing-called e l g = rw (take-append-drop row.model bs, take-append-drop row.state zs) at (two-gives list' refl (rw e) (unfold is_search is_run in (refl, refl)) (take row.model bs) (take row.state zs) l g)
-
-  pub reporting-called : row.kind ≡ 4 → (l : List ℕ) → Gives (effect (on' report') (lent_two (take row.model bs) (take row.state zs)) L) r (lent_two (take row.model bs) (take row.state zs)) l
-      → Called C (lent_all bs zs ss c) ls (result_numbers r) (lent_all bs zs ss c) (l ++ drop row.output ls)
-  unfolding row_ask
-  reporting-called e l g = rw (take-append-drop row.model bs, take-append-drop row.state zs) at (two-gives report' refl (rw e) (unfold is_search is_run in (refl, refl)) (take row.model bs) (take row.state zs) l g)
-
-  pub stepping-called : row.kind ≡ 3 → (zs' : List ℤ) (l : List ℕ) → Gives (effect (on' (step' row.number)) (lent_two (take row.model bs) (take row.state zs)) L) r (lent_two (take row.model bs) zs') l
-      → Called C (lent_all bs zs ss c) ls (result_numbers r) (lent_all bs (zs' ++ drop row.state zs) ss c) (l ++ drop row.output ls)
-  unfolding row_ask
-  stepping-called e zs' l g = rw (take-append-drop row.model bs) at (two-gives (step' row.number) refl (rw e) (unfold is_search is_run in (refl, refl)) (take row.model bs) zs' l g)
+  pub stepping-makes : (d : ℕ) (zs' : List ℤ) (l : List ℕ) → Gives (effect (on' (step' d)) (lent_two bs zs) ls) r (lent_two bs zs') l
+      → Makes (effect (on' (step' d)) X ls) (result_numbers r) (lent_all bs zs' ss c) l
+  stepping-makes d zs' l g = two-gives (step' d) refl (unfold is_search is_run in (refl, refl)) bs zs' l g
 
   -- 02, note 4: a timed step leaves the saves
-  pub timing-called : row.kind ≡ 8 → (zs' : List ℤ) (c' : Clock) (l : List ℕ)
-      → Gives (effect (on' (timed' D row.number)) (lent_timed (take row.model bs) (take row.state zs) c) L) r (lent_timed (take row.model bs) zs' c') l
-      → Called C (lent_all bs zs ss c) ls (result_numbers r) (lent_all bs (zs' ++ drop row.state zs) ss c') (l ++ drop row.output ls)
-  unfolding row_ask
-  timing-called e zs' c' l g =
-      let q = timed' (row_draws numbers row) row.number in
-      let a = timed-effect (take row.model bs) (take row.state zs) (take row.saves ss) c q refl L in
-      rw (take-append-drop row.model bs, take-append-drop row.saves ss) at
-      (gives (on' q) (rw e) (unfold is_search is_run in (refl, refl)) (take row.model bs) zs' (take row.saves ss) c' l
-      (alike-gives (lent_timed (take row.model bs) zs' c') (lent_all (take row.model bs) zs' (take row.saves ss) c') l a (rw draws-are at g) at others))
+  pub timing-makes : (ds : List ℕ) (d : ℕ) (zs' : List ℤ) (c' : Clock) (l : List ℕ) → Gives (effect (on' (timed' ds d)) (lent_timed bs zs c) ls) r (lent_timed bs zs' c') l
+      → Makes (effect (on' (timed' ds d)) X ls) (result_numbers r) (lent_all bs zs' ss c') l
+  timing-makes ds d zs' c' l g =
+      let q = timed' ds d in
+      gives (on' q) (unfold is_search is_run in (refl, refl)) (lent_all bs zs' ss c') l
+      (alike-gives (lent_timed bs zs' c') (lent_all bs zs' ss c') l (timed-effect bs zs ss c q refl ls) g at others)
     where
-      at : (p : Part) → is_lent p timed_parts ≡ true → lent_all (take row.model bs) zs' (take row.saves ss) c' p ≡ lent_timed (take row.model bs) zs' c' p
+      at : (p : Part) → is_lent p timed_parts ≡ true → lent_all bs zs' ss c' p ≡ lent_timed bs zs' c' p
       at model e = unfold lent_timed lent_all is_lent in refl
       at state e = unfold lent_timed lent_all is_lent in refl
       at saves e = unfold lent_timed lent_all is_lent in absurd (let z : ◌≡◌ {A = ℕ} 0 1 = cc in omega arith)
       at clock e = unfold lent_timed lent_all is_lent in refl
 
-      others : (p : Part) → is_lent p timed_parts ≡ false → lent_all (take row.model bs) zs' (take row.saves ss) c' p ≡ X p
+      others : (p : Part) → is_lent p timed_parts ≡ false → lent_all bs zs' ss c' p ≡ X p
       others model e = unfold lent_all is_lent in absurd (let z : ◌≡◌ {A = ℕ} 0 1 = cc in omega arith)
       others state e = unfold lent_all is_lent in absurd (let z : ◌≡◌ {A = ℕ} 0 1 = cc in omega arith)
       others saves e = unfold lent_all is_lent in refl
       others clock e = unfold lent_all is_lent in absurd (let z : ◌≡◌ {A = ℕ} 0 1 = cc in omega arith)
 
   -- 02, note 2
-  pub saving-called : row.kind ≡ 5 → (ss' : List ℤ) → Gives (effect (on' (save' T)) X []) r (lent_all (take row.model bs) (take row.state zs) ss' c) []
-      → Called C (lent_all bs zs ss c) ls (result_numbers r) (lent_all bs zs (ss' ++ drop row.saves ss) c) ls
-  unfolding row_ask acts
-  saving-called e ss' g =
-      let n = row_text texts row in
-      rw (take-append-drop row.model bs, take-append-drop row.state zs) at
-      (bare-gives (on' (save' n)) (rw e) (unfold is_search is_run in (refl, refl)) (named-bare (save' n) (saving n) (λ h. refl) refl X L) (take row.model bs) (take row.state zs) ss' c (rw text-is at g))
+  pub saving-makes : (n : List ℕ) (y : Engine) → Gives (effect (on' (save' n)) X []) r y [] → Makes (effect (on' (save' n)) X ls) (result_numbers r) y ls
+  unfolding acts
+  saving-makes n y g = bare-gives (on' (save' n)) (unfold is_search is_run in (refl, refl)) (named-bare (save' n) (saving n) (λ h. refl) refl X ls) y g
 
-  pub returning-called : row.kind ≡ 6 → (zs' : List ℤ) (c' : Clock) → Gives (effect (on' (return' T)) X []) r (lent_all (take row.model bs) zs' (take row.saves ss) c') []
-      → Called C (lent_all bs zs ss c) ls (result_numbers r) (lent_all bs (zs' ++ drop row.state zs) ss c') ls
-  unfolding row_ask acts
-  returning-called e zs' c' g =
-      let n = row_text texts row in
-      rw (take-append-drop row.model bs, take-append-drop row.saves ss) at
-      (bare-gives (on' (return' n)) (rw e) (unfold is_search is_run in (refl, refl)) (named-bare (return' n) (returning n) (λ h. refl) refl X L) (take row.model bs) zs' (take row.saves ss) c' (rw text-is at g))
+  pub returning-makes : (n : List ℕ) (y : Engine) → Gives (effect (on' (return' n)) X []) r y [] → Makes (effect (on' (return' n)) X ls) (result_numbers r) y ls
+  unfolding acts
+  returning-makes n y g = bare-gives (on' (return' n)) (unfold is_search is_run in (refl, refl)) (named-bare (return' n) (returning n) (λ h. refl) refl X ls) y g
 
-  pub forgetting-called : row.kind ≡ 7 → (ss' : List ℤ)
-      → Gives (effect (on' (forget' T)) (lent_three (take row.model bs) (take row.state zs) (take row.saves ss)) []) r (lent_three (take row.model bs) (take row.state zs) ss') []
-      → Called C (lent_all bs zs ss c) ls (result_numbers r) (lent_all bs zs (ss' ++ drop row.saves ss) c) ls
-  unfolding row_ask acts
-  forgetting-called e ss' g =
-      let n = row_text texts row in
-      let a = three-effect (take row.model bs) (take row.state zs) (take row.saves ss) c (forget' n) refl [] in
-      rw (take-append-drop row.model bs, take-append-drop row.state zs) at
-      (bare-gives (on' (forget' n)) (rw e) (unfold is_search is_run in (refl, refl)) (named-bare (forget' n) (forgetting n) (λ h. refl) refl X L) (take row.model bs) (take row.state zs) ss' c
-      (alike-gives (lent_three (take row.model bs) (take row.state zs) ss') (lent_all (take row.model bs) (take row.state zs) ss' c) [] a (rw text-is at g) at others))
+  pub forgetting-makes : (n : List ℕ) (ss' : List ℤ) → Gives (effect (on' (forget' n)) (lent_three bs zs ss) []) r (lent_three bs zs ss') []
+      → Makes (effect (on' (forget' n)) X ls) (result_numbers r) (lent_all bs zs ss' c) ls
+  unfolding acts
+  forgetting-makes n ss' g =
+      bare-gives (on' (forget' n)) (unfold is_search is_run in (refl, refl)) (named-bare (forget' n) (forgetting n) (λ h. refl) refl X ls) (lent_all bs zs ss' c)
+      (alike-gives (lent_three bs zs ss') (lent_all bs zs ss' c) [] (three-effect bs zs ss c (forget' n) refl []) g at others)
     where
-      at : (p : Part) → is_lent p three_parts ≡ true → lent_all (take row.model bs) (take row.state zs) ss' c p ≡ lent_three (take row.model bs) (take row.state zs) ss' p
+      at : (p : Part) → is_lent p three_parts ≡ true → lent_all bs zs ss' c p ≡ lent_three bs zs ss' p
       at model e = unfold lent_three lent_all is_lent in refl
       at state e = unfold lent_three lent_all is_lent in refl
       at saves e = unfold lent_three lent_all is_lent in refl
       at clock e = unfold lent_three lent_all is_lent in absurd (let z : ◌≡◌ {A = ℕ} 0 1 = cc in omega arith)
 
-      others : (p : Part) → is_lent p three_parts ≡ false → lent_all (take row.model bs) (take row.state zs) ss' c p ≡ X p
+      others : (p : Part) → is_lent p three_parts ≡ false → lent_all bs zs ss' c p ≡ X p
       others model e = unfold lent_all is_lent in absurd (let z : ◌≡◌ {A = ℕ} 0 1 = cc in omega arith)
       others state e = unfold lent_all is_lent in absurd (let z : ◌≡◌ {A = ℕ} 0 1 = cc in omega arith)
       others saves e = unfold lent_all is_lent in absurd (let z : ◌≡◌ {A = ℕ} 0 1 = cc in omega arith)
       others clock e = unfold lent_all is_lent in refl
 
 -- 02, note 8: a search changes nothing
-module _ (row : Row) (texts numbers words bs : List ℕ) (zs ss : List ℤ) (c : Clock) (ls : List ℕ) (f : Found) where
-  abbrev B : List ℕ
-  B = take row.model bs
-
-  abbrev Z : List ℤ
-  Z = take row.state zs
-
+module _ (bs : List ℕ) (zs ss : List ℤ) (c : Clock) (ls : List ℕ) (f : Found) (n : List ℕ) (d : ℕ) where
   abbrev W : Engine
-  W = lent_all B Z (take row.saves ss) c
+  W = lent_all bs zs ss c
 
   abbrev K : Ask
-  K = on' (search' (row_text texts row) row.number)
+  K = on' (search' n d)
 
   abbrev r : engine.Answer
   r = bare f.number 0 0
 
-  module _ (g : GivesRun (effect K (lent_two B Z) []) f (lent_two B Z)) where
-    abbrev alone : Alone (effect K (lent_two B Z) []).answer
-    alone = run_alone (row_text texts row) row.number (lent_two B Z) []
+  module _ (g : GivesRun (effect K (lent_two bs zs) []) f (lent_two bs zs)) where
+    abbrev alone : Alone (effect K (lent_two bs zs) []).answer
+    alone = run_alone n d (lent_two bs zs) []
 
-    alike : Alike two_parts (effect K (lent_two B Z) []) (effect K W []) W
-    alike = two-effect B Z (take row.saves ss) c (search' (row_text texts row) row.number) refl []
+    alike : Alike two_parts (effect K (lent_two bs zs) []) (effect K W []) W
+    alike = two-effect bs zs ss c (search' n d) refl []
 
-    answers-same : (effect K (lent_two B Z) []).answer ≡ (effect K W (take row.output ls)).answer
-    answers-same = alike.answer ∙ sym (search-bare (row_text texts row) row.number W (take row.output ls)).answer
+    abbrev same-bare : Bare (effect K W ls) (effect K W []) ls
+    same-bare = search-bare n d W ls
 
-    numbers-are : found_numbers f ≡ answer_numbers (effect K W (take row.output ls)).answer
-    numbers-are = by ∙ ap answer_numbers answers-same
+    numbers-are : found_numbers f ≡ answer_numbers (effect K W ls).answer
+    numbers-are = by ∙ ap answer_numbers (alike.answer ∙ sym same-bare.answer)
       where
         entries-eight : get_or f.run 0 0 ∷ get_or f.run 1 0 ∷ get_or f.run 2 0 ∷ get_or f.run 3 0 ∷ get_or f.run 4 0 ∷ get_or f.run 5 0 ∷ get_or f.run 6 0 ∷ get_or f.run 7 0 ∷ []
-            ≡ entries_of (effect K (lent_two B Z) []).answer.run
-        entries-eight = eight f.run (ap length g.run ∙ eight-entries (effect K (lent_two B Z) []).answer.run) ∙ g.run
+            ≡ entries_of (effect K (lent_two bs zs) []).answer.run
+        entries-eight = eight f.run (ap length g.run ∙ eight-entries (effect K (lent_two bs zs) []).answer.run) ∙ g.run
 
-        none-used : 0 ∷ 0 ∷ 0 ∷ [] ≡ used_of (effect K (lent_two B Z) []).answer.used
-        none-used = unfold used_of in ap used_of (sym (without-used K (lent_two B Z) [] (unfold is_run in refl)))
+        none-used : 0 ∷ 0 ∷ 0 ∷ [] ≡ used_of (effect K (lent_two bs zs) []).answer.used
+        none-used = unfold used_of in ap used_of (sym (without-used K (lent_two bs zs) [] (unfold is_run in refl)))
 
         entries : get_or f.run 0 0 ∷ get_or f.run 1 0 ∷ get_or f.run 2 0 ∷ get_or f.run 3 0 ∷ get_or f.run 4 0 ∷ get_or f.run 5 0 ∷ get_or f.run 6 0 ∷ get_or f.run 7 0 ∷ 0 ∷ 0 ∷ 0 ∷ []
-            ≡ entries_of (effect K (lent_two B Z) []).answer.run ++ used_of (effect K (lent_two B Z) []).answer.used
+            ≡ entries_of (effect K (lent_two bs zs) []).answer.run ++ used_of (effect K (lent_two bs zs) []).answer.used
         entries = ap₂ (λ (a b : List ℕ). a ++ b) entries-eight none-used
 
-        by : found_numbers f ≡ answer_numbers (effect K (lent_two B Z) []).answer
+        by : found_numbers f ≡ answer_numbers (effect K (lent_two bs zs) []).answer
         by = unfold found_numbers answer_numbers in λ i. g.number i ∷ sym alone.place i ∷ sym alone.branch i ∷ sym alone.count i ∷ sym alone.total i ∷ sym alone.chosen i ∷ g.long i ∷ entries i
 
-    same-two : Gives (effect K (lent_two B Z) []) r (lent_two B Z) []
+    same-two : Gives (effect K (lent_two bs zs) []) r (lent_two bs zs) []
     same-two = record {
       number = g.number;
       place = sym alone.place;
@@ -494,13 +402,13 @@ module _ (row : Row) (texts numbers words bs : List ℕ) (zs ss : List ℤ) (c :
       total = sym alone.total;
       chosen = sym alone.chosen;
       buffers = g.buffers;
-      output = sym (search-bare (row_text texts row) row.number (lent_two B Z) []).output;
+      output = sym (search-bare n d (lent_two bs zs) []).output;
     }
 
     same-all : Gives (effect K W []) r W []
-    same-all = alike-gives (lent_two B Z) W [] alike same-two at others
+    same-all = alike-gives (lent_two bs zs) W [] alike same-two at others
       where
-        at : (p : Part) → is_lent p two_parts ≡ true → W p ≡ lent_two B Z p
+        at : (p : Part) → is_lent p two_parts ≡ true → W p ≡ lent_two bs zs p
         at model e = unfold lent_two lent_all is_lent in refl
         at state e = unfold lent_two lent_all is_lent in refl
         at saves e = unfold lent_two lent_all is_lent in absurd (let z : ◌≡◌ {A = ℕ} 0 1 = cc in omega arith)
@@ -509,71 +417,37 @@ module _ (row : Row) (texts numbers words bs : List ℕ) (zs ss : List ℤ) (c :
         others : (p : Part) → is_lent p two_parts ≡ false → W p ≡ W p
         others p e = refl
 
-    abbrev L₁ : List ℕ
-    L₁ = take row.output ls
-
-    same-bare : Bare (effect K W L₁) (effect K W []) L₁
-    same-bare = search-bare (row_text texts row) row.number W L₁
-
-    same-lent : Gives (effect K W L₁) r W L₁
-    same-lent = record {
-      number = same-all.number ∙ sym (ap (λ (a : Answer). a.number) same-bare.answer);
-      place = same-all.place ∙ sym (ap (λ (a : Answer). a.place) same-bare.answer);
-      branch = same-all.branch ∙ sym (ap (λ (a : Answer). a.branch) same-bare.answer);
-      count = same-all.count ∙ sym (ap (λ (a : Answer). a.count) same-bare.answer);
-      total = same-all.total ∙ sym (ap (λ (a : Answer). a.total) same-bare.answer);
-      chosen = same-all.chosen ∙ sym (ap (λ (a : Answer). a.chosen) same-bare.answer);
-      buffers = λ p. same-all.buffers p ∙ sym (ap (λ (z : Engine). z p) same-bare.left);
+    pub searching-makes : Makes (effect K W ls) (found_numbers f) W ls
+    searching-makes = record {
+      numbers = numbers-are;
+      engine = λ p. same-all.buffers p ∙ sym (ap (λ (z : Engine). z p) same-bare.left);
       output = sym same-bare.output;
     }
 
-    searched : row.kind ≡ 10 → Called (row_call texts numbers words row) (lent_all bs zs ss c) ls (found_numbers f) (lent_all bs zs ss c) ls
-    unfolding row_ask
-    searched e =
-        rw (take-append-drop row.model bs, take-append-drop row.state zs, take-append-drop row.saves ss, take-append-drop row.output ls) at
-        (gives-numbers row texts numbers words bs zs ss c ls r K (rw e) (found_numbers f) numbers-are B Z (take row.saves ss) c L₁ same-lent)
-
-  pub searching-called : row.kind ≡ 10
-      → GivesRun (effect (on' (search' (take (row.text + row.size - row.text) (drop row.text texts)) row.number)) (lent_two B Z) []) f (lent_two B Z)
-      → Called (row_call texts numbers words row) (lent_all bs zs ss c) ls (found_numbers f) (lent_all bs zs ss c) ls
-  searching-called e g = searched (rw (text-is row texts numbers words bs zs ss c ls r) at g) e
-
 -- R.4 to R.7: a run leaves the saves, and its events stand in the output
-module _ (row : Row) (texts numbers words bs : List ℕ) (zs ss : List ℤ) (c : Clock) (ls : List ℕ) (r : Told) where
-  abbrev B₂ : List ℕ
-  B₂ = take row.model bs
-
-  abbrev Z₂ : List ℤ
-  Z₂ = take row.state zs
-
-  abbrev S₂ : List ℤ
-  S₂ = take row.saves ss
-
-  abbrev L₂ : List ℕ
-  L₂ = take row.output ls
-
+module _ (bs : List ℕ) (zs ss : List ℤ) (c : Clock) (ls : List ℕ) (r : Told) (ws vs : List ℕ) (n : ℕ) where
   abbrev Q : Request
-  Q = run' (row_words words row) (row_draws numbers row) row.number row.output
+  Q = run' ws vs n (length ls)
 
   -- what the code's result says of the effect
   abbrev a : engine.Answer
   a = record { number = r.number; place = 0; branch = 0; count = r.count; total = r.total; chosen = 0 }
 
   abbrev E : Effect
-  E = effect (on' Q) (lent_timed B₂ Z₂ c) L₂
+  E = effect (on' Q) (lent_timed bs zs c) ls
 
-  module _ (zs' : List ℤ) (c' : Clock) (l : List ℕ) (g : GivesRan E r (lent_timed B₂ zs' c') l) where
+  module _ (zs' : List ℤ) (c' : Clock) (l : List ℕ) (g : GivesRan E r (lent_timed bs zs' c') l) where
     abbrev says : used.Bare E.answer
-    says = run-bare (row_words words row) (row_draws numbers row) row.number row.output (lent_timed B₂ Z₂ c) L₂
+    says = run-bare ws vs n (length ls) (lent_timed bs zs c) ls
 
-    alike-run : Alike timed_parts E (effect (on' Q) (lent_all B₂ Z₂ S₂ c) L₂) (lent_all B₂ Z₂ S₂ c)
-    alike-run = timed-effect B₂ Z₂ S₂ c Q refl L₂
+    alike-run : Alike timed_parts E (effect (on' Q) (lent_all bs zs ss c) ls) (lent_all bs zs ss c)
+    alike-run = timed-effect bs zs ss c Q refl ls
 
-    ran-numbers : ran_numbers r ≡ answer_numbers (effect (on' Q) (lent_all B₂ Z₂ S₂ c) L₂).answer
+    ran-numbers : ran_numbers r ≡ answer_numbers (effect (on' Q) (lent_all bs zs ss c) ls).answer
     ran-numbers = by ∙ ap answer_numbers alike-run.answer
       where
         no_run : [] ≡ E.answer.run
-        no_run = sym (without-run (on' Q) (lent_timed B₂ Z₂ c) L₂ (unfold is_search in refl))
+        no_run = sym (without-run (on' Q) (lent_timed bs zs c) ls (unfold is_search in refl))
 
         rest : 0 ∷ 0 ∷ 0 ∷ 0 ∷ 0 ∷ 0 ∷ 0 ∷ 0 ∷ 0 ∷ r.steps ∷ r.words ∷ r.waiting ∷ [] ≡ length E.answer.run ∷ (entries_of E.answer.run ++ used_of E.answer.used)
         rest = unfold entries_of used_of in λ i. length (no_run i) ∷ (entries_of (no_run i) ++ (g.steps i ∷ g.words i ∷ g.waiting i ∷ []))
@@ -581,7 +455,7 @@ module _ (row : Row) (texts numbers words bs : List ℕ) (zs ss : List ℤ) (c :
         by : ran_numbers r ≡ answer_numbers E.answer
         by = unfold ran_numbers answer_numbers in λ i. g.number i ∷ sym says.place i ∷ sym says.branch i ∷ g.count i ∷ g.total i ∷ sym says.chosen i ∷ rest i
 
-    given : Gives E a (lent_timed B₂ zs' c') l
+    given : Gives E a (lent_timed bs zs' c') l
     given = record {
       number = g.number;
       place = sym says.place;
@@ -593,63 +467,154 @@ module _ (row : Row) (texts numbers words bs : List ℕ) (zs ss : List ℤ) (c :
       output = g.output;
     }
 
-    given-all : Gives (effect (on' Q) (lent_all B₂ Z₂ S₂ c) L₂) a (lent_all B₂ zs' S₂ c') l
-    given-all = alike-gives (lent_timed B₂ zs' c') (lent_all B₂ zs' S₂ c') l alike-run given at others
+    given-all : Gives (effect (on' Q) (lent_all bs zs ss c) ls) a (lent_all bs zs' ss c') l
+    given-all = alike-gives (lent_timed bs zs' c') (lent_all bs zs' ss c') l alike-run given at others
       where
-        at : (p : Part) → is_lent p timed_parts ≡ true → lent_all B₂ zs' S₂ c' p ≡ lent_timed B₂ zs' c' p
+        at : (p : Part) → is_lent p timed_parts ≡ true → lent_all bs zs' ss c' p ≡ lent_timed bs zs' c' p
         at model e = unfold lent_timed lent_all is_lent in refl
         at state e = unfold lent_timed lent_all is_lent in refl
         at saves e = unfold lent_timed lent_all is_lent in absurd (let z : ◌≡◌ {A = ℕ} 0 1 = cc in omega arith)
         at clock e = unfold lent_timed lent_all is_lent in refl
 
-        others : (p : Part) → is_lent p timed_parts ≡ false → lent_all B₂ zs' S₂ c' p ≡ lent_all B₂ Z₂ S₂ c p
+        others : (p : Part) → is_lent p timed_parts ≡ false → lent_all bs zs' ss c' p ≡ lent_all bs zs ss c p
         others model e = unfold lent_all is_lent in absurd (let z : ◌≡◌ {A = ℕ} 0 1 = cc in omega arith)
         others state e = unfold lent_all is_lent in absurd (let z : ◌≡◌ {A = ℕ} 0 1 = cc in omega arith)
         others saves e = unfold lent_all is_lent in refl
         others clock e = unfold lent_all is_lent in absurd (let z : ◌≡◌ {A = ℕ} 0 1 = cc in omega arith)
 
-    ran-so : row.kind ≡ 11 → Called (row_call texts numbers words row) (lent_all bs zs ss c) ls (ran_numbers r) (lent_all bs (zs' ++ drop row.state zs) ss c') (l ++ drop row.output ls)
-    unfolding row_ask
-    ran-so e =
-        rw (take-append-drop row.model bs, take-append-drop row.saves ss) at
-        (gives-numbers row texts numbers words bs zs ss c ls a (on' Q) (rw e) (ran_numbers r) ran-numbers B₂ zs' S₂ c' l given-all)
+    pub running-makes : Makes (effect (on' Q) (lent_all bs zs ss c) ls) (ran_numbers r) (lent_all bs zs' ss c') l
+    running-makes = record { numbers = ran-numbers; engine = given-all.buffers; output = given-all.output }
 
-  words_are : take (row.start + row.words - row.start) (drop row.start words) ≡ row_words words row
+-- ---- the call of a row
+
+-- a row is lent the first numbers of each part and of the outputs
+module _ (row : Row) (texts numbers words bs : List ℕ) (zs ss : List ℤ) (c : Clock) (ls ns bs' : List ℕ) (zs' ss' : List ℤ) (c' : Clock) (l : List ℕ) where
+  abbrev Lent-parts : Engine
+  Lent-parts = lent_all (take row.model bs) (take row.state zs) (take row.saves ss) c
+
+  lent_is : Lent-parts ≡ (λ (p : Part). take (row_lengths row p) (lent_all bs zs ss c p))
+  unfolding lent_all row_lengths
+  lent_is = same-engine at
+    where
+      at : (p : Part) → Lent-parts p ≡ take (row_lengths row p) (lent_all bs zs ss c p)
+      at model = refl
+      at state = refl
+      at saves = refl
+      at clock = refl
+
+  effect_is : effect (row_ask texts numbers words row) Lent-parts (take row.output ls) ≡ effect_of (row_call texts numbers words row) (lent_all bs zs ss c) ls
+  unfolding effect_of row_call
+  effect_is = ap (λ (x : Engine). effect (row_ask texts numbers words row) x (take row.output ls)) lent_is
+
+  pub called : Makes (effect (row_ask texts numbers words row) Lent-parts (take row.output ls)) ns (lent_all bs' zs' ss' c') l
+      → Called (row_call texts numbers words row) (lent_all bs zs ss c) ls ns (lent_all (bs' ++ drop row.model bs) (zs' ++ drop row.state zs) (ss' ++ drop row.saves ss) c') (l ++ drop row.output ls)
+  unfolding row_call
+  called g = record {
+    numbers = g.numbers ∙ ap (λ (e : Effect). answer_numbers e.answer) effect_is;
+    engine = at;
+    outputs = ap (λ (h : List ℕ). h ++ drop row.output ls) (g.output ∙ ap (λ (e : Effect). e.output) effect_is);
+  }
+    where
+      at : (p : Part) → lent_all (bs' ++ drop row.model bs) (zs' ++ drop row.state zs) (ss' ++ drop row.saves ss) c' p
+          ≡ (effect_of (row_call texts numbers words row) (lent_all bs zs ss c) ls).left p ++ drop (row_lengths row p) (lent_all bs zs ss c p)
+      at model = unfold lent_all row_lengths in ap (λ (h : List ℕ). h ++ drop row.model bs) (g.engine model ∙ ap (λ (e : Effect). e.left model) effect_is)
+      at state = unfold lent_all row_lengths in ap (λ (h : List ℤ). h ++ drop row.state zs) (g.engine state ∙ ap (λ (e : Effect). e.left state) effect_is)
+      at saves = unfold lent_all row_lengths in ap (λ (h : List ℤ). h ++ drop row.saves ss) (g.engine saves ∙ ap (λ (e : Effect). e.left saves) effect_is)
+      at clock = unfold lent_all row_lengths in g.engine clock ∙ ap (λ (e : Effect). e.left clock) effect_is ∙ sym (append-nil _)
+
+-- what a row of a kind asks, with its text, draws and words as the code cuts them
+module _ (kind : Kind) (row : Row) (texts numbers words : List ℕ) (e : kind_number kind ≡ row.kind) where
+  abbrev Row-asks : Ask → Type 0
+  Row-asks k = row_ask texts numbers words row ≡ k
+
+  abbrev T : List ℕ
+  T = take row.size (take (length texts - row.text) (drop row.text texts))
+
+  abbrev D : List ℕ
+  D = take row.count (take (length numbers - row.from) (drop row.from numbers))
+
+  abbrev V : List ℕ
+  V = take row.words (take (length words - row.start) (drop row.start words))
+
+  cut : (p n : ℕ) (l : List ℕ) → take n (drop p l) ≡ take n (take (length l - p) (drop p l))
+  cut p n l = ap (take n) (sym (take_all (length l - p) (drop p l) (omega (arith, length-drop p l))))
+
+  text-is : row_text texts row ≡ T
+  unfolding row_text
+  text-is = cut row.text row.size texts
+
+  draws-are : row_draws numbers row ≡ D
+  unfolding row_draws
+  draws-are = cut row.from row.count numbers
+
+  words_are : row_words words row ≡ V
   unfolding row_words
-  words_are = let n : row.start + row.words - row.start ≡ row.words = omega arith in ap (λ (k : ℕ). take k (drop row.start words)) n
+  words_are = cut row.start row.words words
 
-  -- with the words, the waiting draws and the length as the code lends them
-  lent-so : row.output ≤ length ls
-      → effect (on' (run' (take (row.start + row.words - row.start) (drop row.start words)) (take (row.from + row.count - row.from) (drop row.from numbers)) row.number (length L₂))) (lent_timed B₂ Z₂ c) L₂ ≡ E
-  lent-so h =
-      λ i. effect (on' (run' (words_are i) (draws-are row texts numbers words bs zs ss c ls a i) row.number (length-take-le row.output ls h i))) (lent_timed B₂ Z₂ c) L₂
+  pub asks-open : kind ≡ Open → Row-asks (open' T)
+  unfolding row_ask kind_number
+  asks-open f = let k : row.kind ≡ 1 = sym e ∙ ap kind_number f in let a : row_ask texts numbers words row ≡ open' (row_text texts row) = rw k refl in a ∙ ap open' text-is
 
-  pub running-called : row.kind ≡ 11 → row.output ≤ length ls → (zs' : List ℤ) (c' : Clock) (l : List ℕ)
-      → GivesRan (effect (on' (run' (take (row.start + row.words - row.start) (drop row.start words)) (take (row.from + row.count - row.from) (drop row.from numbers)) row.number (length L₂))) (lent_timed B₂ Z₂ c) L₂) r (lent_timed B₂ zs' c') l
-      → Called (row_call texts numbers words row) (lent_all bs zs ss c) ls (ran_numbers r) (lent_all bs (zs' ++ drop row.state zs) ss c') (l ++ drop row.output ls)
-  running-called e h zs' c' l g = ran-so zs' c' l (subst (λ (w : Effect). GivesRan w r (lent_timed B₂ zs' c') l) (lent-so h) g) e
+  pub asks-steady : kind ≡ Steady → Row-asks (open_steady' T)
+  unfolding row_ask kind_number
+  asks-steady f = let k : row.kind ≡ 9 = sym e ∙ ap kind_number f in let a : row_ask texts numbers words row ≡ open_steady' (row_text texts row) = rw k refl in a ∙ ap open_steady' text-is
 
--- ---- kinds that are left
+  pub asks-list : kind ≡ Lists → Row-asks (on' list')
+  unfolding row_ask kind_number
+  asks-list f = let k : row.kind ≡ 2 = sym e ∙ ap kind_number f in rw k refl
 
-pub named-kind : (k : ℕ) → 1 ≤ k → k ≤ 11 → (k ≡ 11 → ⊥) → (k ≡ 10 → ⊥) → (k ≡ 1 → ⊥) → (k ≡ 2 → ⊥) → (k ≡ 4 → ⊥) → (k ≡ 3 → ⊥) → (k ≡ 8 → ⊥) → (k ≡ 9 → ⊥) → (5 ≤ k) × (k ≤ 7)
-named-kind zero l m o g a b c d e f = absurd (omega arith)
-named-kind (suc zero) l m o g a b c d e f = absurd (a refl)
-named-kind (suc (suc zero)) l m o g a b c d e f = absurd (b refl)
-named-kind (suc (suc (suc zero))) l m o g a b c d e f = absurd (d refl)
-named-kind (suc (suc (suc (suc zero)))) l m o g a b c d e f = absurd (c refl)
-named-kind (suc (suc (suc (suc (suc zero))))) l m o g a b c d e f = (omega arith, omega arith)
-named-kind (suc (suc (suc (suc (suc (suc zero)))))) l m o g a b c d e f = (omega arith, omega arith)
-named-kind (suc (suc (suc (suc (suc (suc (suc zero))))))) l m o g a b c d e f = (omega arith, omega arith)
-named-kind (suc (suc (suc (suc (suc (suc (suc (suc zero)))))))) l m o g a b c d e f = absurd (e refl)
-named-kind (suc (suc (suc (suc (suc (suc (suc (suc (suc zero))))))))) l m o g a b c d e f = absurd (f refl)
-named-kind (suc (suc (suc (suc (suc (suc (suc (suc (suc (suc zero)))))))))) l m o g a b c d e f = absurd (g refl)
-named-kind (suc (suc (suc (suc (suc (suc (suc (suc (suc (suc (suc zero))))))))))) l m o g a b c d e f = absurd (o refl)
-named-kind (suc (suc (suc (suc (suc (suc (suc (suc (suc (suc (suc (suc k)))))))))))) l m o g a b c d e f = absurd (omega arith)
+  pub asks-report : kind ≡ Report → Row-asks (on' report')
+  unfolding row_ask kind_number
+  asks-report f = let k : row.kind ≡ 4 = sym e ∙ ap kind_number f in rw k refl
 
-pub last-kind : (k : ℕ) → 5 ≤ k → k ≤ 7 → (k ≡ 5 → ⊥) → (k ≡ 6 → ⊥) → k ≡ 7
-last-kind k l m a b = by (k - 5) (omega arith)
-  where
-    by : (n : ℕ) → k ≡ 5 + n → k ≡ 7
-    by zero e = absurd (a (omega arith))
-    by (suc zero) e = absurd (b (omega arith))
-    by (suc (suc n)) e = omega arith
+  pub asks-step : kind ≡ Step → Row-asks (on' (step' row.number))
+  unfolding row_ask kind_number
+  asks-step f = let k : row.kind ≡ 3 = sym e ∙ ap kind_number f in rw k refl
+
+  pub asks-timed : kind ≡ Times → Row-asks (on' (timed' D row.number))
+  unfolding row_ask kind_number
+  asks-timed f = let k : row.kind ≡ 8 = sym e ∙ ap kind_number f in let a : row_ask texts numbers words row ≡ on' (timed' (row_draws numbers row) row.number) = rw k refl in a ∙ ap (λ (l : List ℕ). on' (timed' l row.number)) draws-are
+
+  pub asks-save : kind ≡ Save → Row-asks (on' (save' T))
+  unfolding row_ask kind_number
+  asks-save f = let k : row.kind ≡ 5 = sym e ∙ ap kind_number f in let a : row_ask texts numbers words row ≡ on' (save' (row_text texts row)) = rw k refl in a ∙ ap (λ (l : List ℕ). on' (save' l)) text-is
+
+  pub asks-return : kind ≡ Return → Row-asks (on' (return' T))
+  unfolding row_ask kind_number
+  asks-return f = let k : row.kind ≡ 6 = sym e ∙ ap kind_number f in let a : row_ask texts numbers words row ≡ on' (return' (row_text texts row)) = rw k refl in a ∙ ap (λ (l : List ℕ). on' (return' l)) text-is
+
+  pub asks-forget : kind ≡ Forget → Row-asks (on' (forget' T))
+  unfolding row_ask kind_number
+  asks-forget f = let k : row.kind ≡ 7 = sym e ∙ ap kind_number f in let a : row_ask texts numbers words row ≡ on' (forget' (row_text texts row)) = rw k refl in a ∙ ap (λ (l : List ℕ). on' (forget' l)) text-is
+
+  pub asks-search : kind ≡ Search → Row-asks (on' (search' T row.number))
+  unfolding row_ask kind_number
+  asks-search f = let k : row.kind ≡ 10 = sym e ∙ ap kind_number f in let a : row_ask texts numbers words row ≡ on' (search' (row_text texts row) row.number) = rw k refl in a ∙ ap (λ (l : List ℕ). on' (search' l row.number)) text-is
+
+  pub asks-run : kind ≡ Run → (n : ℕ) → n ≡ row.output → Row-asks (on' (run' V D row.number n))
+  unfolding row_ask kind_number
+  asks-run f n o = let k : row.kind ≡ 11 = sym e ∙ ap kind_number f in let a : row_ask texts numbers words row ≡ on' (run' (row_words words row) (row_draws numbers row) row.number row.output) = rw k refl in a ∙ (λ i. on' (run' (words_are i) (draws-are i) row.number (sym o i)))
+
+  -- what a call of that makes, in other words of its numbers and its clock
+  pub makes-row : (k : Ask) → Row-asks k → (x : Engine) (ls : List ℕ) {ns ns' : List ℕ} {c c' : Clock} (bs : List ℕ) (zs ss : List ℤ) {l : List ℕ} → Makes (effect k x ls) ns' (lent_all bs zs ss c') l → (ns ≡ ns') × (c ≡ c')
+      → Makes (effect (row_ask texts numbers words row) x ls) ns (lent_all bs zs ss c) l
+  makes-row k q x ls bs zs ss m d = rw (q, d.0, d.1) m
+
+-- the first twelve numbers are read as all are
+pub first-row : (l : List ℕ) → row_of (take row_width l) ≡ row_of l
+unfolding row_of
+first-row l =
+    λ i. record {
+      kind = get_or-take row_width l 0 0 (omega arith) i;
+      text = get_or-take row_width l 1 0 (omega arith) i;
+      size = get_or-take row_width l 2 0 (omega arith) i;
+      from = get_or-take row_width l 3 0 (omega arith) i;
+      count = get_or-take row_width l 4 0 (omega arith) i;
+      number = get_or-take row_width l 5 0 (omega arith) i;
+      output = get_or-take row_width l 6 0 (omega arith) i;
+      model = get_or-take row_width l 7 0 (omega arith) i;
+      state = get_or-take row_width l 8 0 (omega arith) i;
+      saves = get_or-take row_width l 9 0 (omega arith) i;
+      start = get_or-take row_width l 10 0 (omega arith) i;
+      words = get_or-take row_width l 11 0 (omega arith) i;
+    }

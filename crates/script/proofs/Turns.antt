@@ -1,12 +1,12 @@
 -- The rows of a script one by one: what the first gives, then what the others give, is what all give.
-use mathlib.Core.Path.{◌≡◌, refl, sym, ap, ap₂, ◌∙◌}
+use mathlib.Core.Path.{◌≡◌, refl, sym, ap, ap₂, subst, ◌∙◌}
 use mathlib.Core.Bool.{Bool, true, false, cond}
 use mathlib.Core.List.{List, [], ◌∷◌, ◌++◌, append_assoc}
 use mathlib.Core.Option.{Option, none, some, Option-elim}
 use Prim.Native.Nat.{ℕ, suc, ◌+◌, ◌-◌, ◌*◌, ◌/◌, ◌≤◌, ◌<◌}
 use native.Mathlib.Nat.{zero-add}
 use native.Mathlib.Omega.{arith}
-use borrow.Author.Tests.{leb-true, leb-false}
+use borrow.Author.Tests.{leb-true, leb-false, lt-leb}
 use lib.Dec.{leb}
 use lib.IntN.{ℤ}
 use lib.ListN.{length, take, drop, length-drop, take-append-drop}
@@ -210,3 +210,14 @@ module _ (script texts numbers words : List ℕ) where
         by : (o : Option Call) → first_call (drop (i * row_width) script) texts numbers words (room_of (lent_from i x)) ≡ o → Row-ran o r → Ran script texts numbers words x₀ i y
         by none f g = ends f g.1 h.outputs-before h.answers-before
         by (some c) f g = let z : ◌≡◌ {A = ℕ} 0 1 = cc g.0 in absurd (omega arith)
+
+  -- no row is left
+  pub done : (x₀ x : Lent) (i : ℕ) → Turn x₀ x i → i ≡ length script / row_width → Ran script texts numbers words x₀ (length script / row_width) x
+  unfolding first_call
+  done x₀ x i w e = subst (λ (n : ℕ). Ran script texts numbers words x₀ n x) e (ends x₀ x x i w (record { parts = λ p. refl; outputs = refl; answers = refl }) none_first refl refl refl)
+    where
+      short : length (drop (i * row_width) script) < row_width
+      short = omega (arith, length-drop (i * row_width) script, e)
+
+      none_first : first_call (drop (i * row_width) script) texts numbers words (room_of (lent_from i x)) ≡ none
+      none_first = rw (lt-leb row_width (length (drop (i * row_width) script)) short) refl

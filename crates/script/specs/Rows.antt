@@ -2,6 +2,8 @@
 use Rattle.std.specs.Prelude.{Bool, cond, ◌&&◌, List, [], ◌∷◌, ℕ, zero, suc, ◌+◌, ◌-◌, ◌/◌, eqb, leb, length, get_or, take, drop}
 use Rattle.std.proofs.Math.Option.{Option, none, some, Option-elim}
 use Rattle.machine.specs.Machine.{list', step', report', search', timed', run', save', return', forget', Ask, open', open_steady', on', Part, model, state, saves, clock, size, all_parts, Call, call}
+use Rattle.script.specs.declared.Kind.{Kind}
+use Rattle.script.specs.declared.Kind.TheVariants.{Open, List as Listing, Step, Report, Save, Return, Forget, Timed, Steady, Search, Run}
 use Rattle.script.specs.declared.Row.{Row}
 
 -- numbers of a row, of an answer, and of a row's part of the outputs: a listing, a report, or 1,024 events of a run
@@ -50,6 +52,24 @@ run_kind = 11
 
 abbrev pub last_kind : ℕ
 last_kind = run_kind
+
+-- the numbers of kinds, which stand one after the other
+unfoldable pub is_kind : ℕ → Bool
+is_kind n = leb open_kind n && leb n last_kind
+
+-- the number of a kind in a row
+unfoldable pub kind_number : Kind → ℕ
+kind_number Open = open_kind
+kind_number Listing = list_kind
+kind_number Step = step_kind
+kind_number Report = report_kind
+kind_number Save = save_kind
+kind_number Return = return_kind
+kind_number Forget = forget_kind
+kind_number Timed = timed_kind
+kind_number Steady = steady_kind
+kind_number Search = search_kind
+kind_number Run = run_kind
 
 -- ---- rows
 

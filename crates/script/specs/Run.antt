@@ -74,6 +74,12 @@ run_left (c ∷ cs) x = let y = call_left c x in joined y (run_left cs (next_len
 
 -- ---- what the code gives
 
+-- six numbers of every answer, then the length of a run and its eight entry numbers, then what a run of timed steps used
+unfoldable pub all_numbers : engine.Answer → ℕ → List ℕ → List ℕ → List ℕ
+all_numbers r n run used =
+    r.number ∷ r.place ∷ r.branch ∷ r.count ∷ r.total ∷ r.chosen ∷ n ∷ get_or run 0 0 ∷ get_or run 1 0 ∷ get_or run 2 0 ∷ get_or run 3 0
+    ∷ get_or run 4 0 ∷ get_or run 5 0 ∷ get_or run 6 0 ∷ get_or run 7 0 ∷ get_or used 0 0 ∷ get_or used 1 0 ∷ get_or used 2 0 ∷ []
+
 -- the numbers of a call's result, which has no run and used nothing
 unfoldable pub result_numbers : engine.Answer → List ℕ
 result_numbers r = r.number ∷ r.place ∷ r.branch ∷ r.count ∷ r.total ∷ r.chosen ∷ 0 ∷ 0 ∷ 0 ∷ 0 ∷ 0 ∷ 0 ∷ 0 ∷ 0 ∷ 0 ∷ 0 ∷ 0 ∷ 0 ∷ []
@@ -93,6 +99,12 @@ pub record Called (c : Call) (x : Engine) (ls ns : List ℕ) (x' : Engine) (ls' 
   pub numbers : ns ≡ answer_numbers (effect_of c x ls).answer
   pub engine : (p : Part) → x' p ≡ (effect_of c x ls).left p ++ drop (c.lengths p) (x p)
   pub outputs : ls' ≡ (effect_of c x ls).output ++ drop c.output ls
+
+-- what a call makes of all that it is lent: its numbers, the parts and the output
+pub record Makes (e : Effect) (ns : List ℕ) (x' : Engine) (ls' : List ℕ) : Type 0 where
+  pub numbers : ns ≡ answer_numbers e.answer
+  pub engine : (p : Part) → x' p ≡ e.left p
+  pub output : ls' ≡ e.output
 
 -- a row that is a call was run, any other was not and changed nothing
 unfoldable pub RowRan : Option Call → Lent → Bool → Lent → Type 0

@@ -1,10 +1,11 @@
 #![tactic(auto)]
 
 // A script of calls on one engine: twelve numbers a row, run in order on lent buffers.
-ghost use Rattle.std.specs.Prelude.{◌≡◌, true, List, ◌++◌, ℕ, ◌+◌, ◌*◌, ◌≤◌, min, leb, ℤ, length, drop};
-ghost use Rattle.buffers.specs.Parts.{clock_numbers, clock_in, lent_all};
-ghost use Rattle.script.specs.Rows.{row_width, answer_width, save_kind, forget_kind, timed_kind, steady_kind, search_kind, run_kind, row_of, fits, row_call, first_call};
-ghost use Rattle.script.specs.Run.{lent_four, lent_of, room_of, lengths_of, call_left, result_numbers, found_numbers, ran_numbers, Called, RowRan, RowRanAt, Ran};
+ghost use Rattle.std.specs.Prelude.{◌≡◌, true, false, ◌+◌, ◌≤◌, leb, length, get_or, MatchOption};
+ghost use Rattle.buffers.specs.Parts.{lent_all};
+ghost use Rattle.buffers.specs.Effect.{effect};
+ghost use Rattle.script.specs.Rows.{answer_width, row_of, kind_number, is_kind, fits, row_ask, row_call, first_call};
+ghost use Rattle.script.specs.Run.{lent_four, lent_of, room_of, lengths_of, call_left, all_numbers, result_numbers, found_numbers, ran_numbers, Makes, RowRan, RowRanAt, Ran};
 ghost use Rattle.script.specs.Follows.{Refines};
 
 use clock::Clock;
@@ -12,7 +13,7 @@ use engine::{Answer, Simulated, Timed};
 use searching::Found;
 
 // A row: the kind of call; place and size of its text or name, and of its waiting draws; its draw, depth or limit; how many numbers of the output, the model, the state and the saves it is lent; place and size of its words.
-// A caller lends rows as plain numbers, which C can write too.
+// A script is lent as plain numbers, so that a row may be any twelve, and is a call or none.
 #[derive(Clone, Copy)]
 pub struct Row {
     pub kind: u64,
@@ -41,7 +42,7 @@ impl Row {
     // Numbers of a clock.
     pub const CLOCK: usize = 2;
 
-    // The kinds of calls, from OPEN to LAST.
+    // The kinds of calls, as a script lends them.
     pub const OPEN: u64 = 1;
 
     pub const LIST: u64 = 2;
@@ -63,8 +64,6 @@ impl Row {
     pub const SEARCH: u64 = 10;
 
     pub const RUN: u64 = 11;
-
-    pub const LAST: u64 = Row::RUN;
 }
 
 // What the rows of a script name parts of: texts, waiting draws and words. The engine's own buffers are lent one by one, of whatever lengths a caller has: a struct of them would lose what it writes.
@@ -75,226 +74,193 @@ struct Given<'a> {
     words: &'a [u64],
 }
 
-// The first row of a script.
-fn read_row(script: &[u64]) -> Row
-    requires { row_width ≤ length script.now }
-    ensures { result ≡ row_of script.now }
-{
-    Row {
-        kind: script[0],
-        text: script[1] as usize,
-        size: script[2] as usize,
-        from: script[3] as usize,
-        count: script[4] as usize,
-        number: script[5],
-        output: script[6] as usize,
-        model: script[7] as usize,
-        state: script[8] as usize,
-        saves: script[9] as usize,
-        start: script[10] as usize,
-        words: script[11] as usize,
+// What a row asks of the engine.
+#[derive(Clone, Copy)]
+enum Kind {
+    Open,
+    List,
+    Step,
+    Report,
+    Save,
+    Return,
+    Forget,
+    Timed,
+    Steady,
+    Search,
+    Run,
+}
+
+impl Kind {
+    // The kind of which a row has the number.
+    #[tactic(auto, unfolding(crate::specs::Rows::kind_number, crate::specs::Rows::is_kind))]
+    fn of(number: u64) -> Option<Self>
+        ensures { MatchOption result (is_kind number ≡ false) (λ k. (kind_number k ≡ number) × (is_kind number ≡ true)) }
+    {
+        match number {
+            Row::OPEN => Some(Kind::Open),
+            Row::LIST => Some(Kind::List),
+            Row::STEP => Some(Kind::Step),
+            Row::REPORT => Some(Kind::Report),
+            Row::SAVE => Some(Kind::Save),
+            Row::RETURN => Some(Kind::Return),
+            Row::FORGET => Some(Kind::Forget),
+            Row::TIMED => Some(Kind::Timed),
+            Row::STEADY => Some(Kind::Steady),
+            Row::SEARCH => Some(Kind::Search),
+            Row::RUN => Some(Kind::Run),
+            _ => None,
+        }
     }
 }
 
-// Whether so many numbers from a place on are among this many.
+// The numbers of an answer, and the clock that its call leaves.
+#[derive(Clone, Copy)]
+struct Reply {
+    numbers: [u64; Row::ANSWER],
+    clock: Clock,
+}
+
+impl Reply {
+    // The numbers of an answer, of the run that a search found, and of what a run of steps used. Number by number, as all_numbers lists them: by cuts it would be three
+    // copies over zeros.
+    #[tactic(auto, unfolding(crate::specs::Run::all_numbers))]
+    fn of(
+        answer: Answer,
+        length: u64,
+        run: [u64; Found::DEPTH],
+        used: [u64; 3],
+        clock: Clock,
+    ) -> Self
+        ensures { (result.numbers ≡ all_numbers answer length run used) × (result.clock ≡ clock) }
+    {
+        Reply {
+            numbers: [
+                answer.number,
+                answer.place,
+                answer.branch,
+                answer.count,
+                answer.total,
+                answer.chosen,
+                length,
+                run[0],
+                run[1],
+                run[2],
+                run[3],
+                run[4],
+                run[5],
+                run[6],
+                run[7],
+                used[0],
+                used[1],
+                used[2],
+            ],
+            clock,
+        }
+    }
+
+    // An answer that tells of no run.
+    #[tactic(auto, unfolding(crate::specs::Run::all_numbers, crate::specs::Run::result_numbers))]
+    fn plain(answer: Answer, clock: Clock) -> Self
+        ensures { (result.numbers ≡ result_numbers answer) × (result.clock ≡ clock) }
+    {
+        Reply::of(answer, 0, [0; Found::DEPTH], [0; 3], clock)
+    }
+}
+
+// What a call that moves the clock tells.
+impl From<Timed> for Reply {
+    ghost from_gives = { λ t m. (m.numbers ≡ result_numbers t.answer) × (m.clock ≡ t.clock) };
+
+    fn from(t: Timed) -> Self {
+        Reply::plain(t.answer, t.clock)
+    }
+}
+
+// What a run of steps tells.
+impl From<Simulated> for Reply {
+    ghost from_gives = { λ s m. (m.numbers ≡ ran_numbers s.ran) × (m.clock ≡ s.clock) };
+
+    #[tactic(auto, unfolding(crate::specs::Run::all_numbers, crate::specs::Run::ran_numbers))]
+    fn from(s: Simulated) -> Self {
+        let ran = s.ran;
+        let answer = Answer::filled(ran.number, ran.count, ran.total, 0);
+        Reply::of(
+            answer,
+            0,
+            [0; Found::DEPTH],
+            [ran.steps, ran.words, ran.waiting],
+            s.clock,
+        )
+    }
+}
+
+// What a search tells, which leaves the clock.
+#[tactic(auto, unfolding(crate::specs::Run::all_numbers, crate::specs::Run::found_numbers))]
+fn found_reply(found: Found, clock: Clock) -> Reply
+    ensures { (result.numbers ≡ found_numbers found) × (result.clock ≡ clock) }
+{
+    Reply::of(
+        Answer::bare(found.number, 0, 0),
+        found.length,
+        found.run,
+        [0; 3],
+        clock,
+    )
+}
+
+// The row of twelve numbers.
+impl From<&[u64; Row::WIDTH]> for Row {
+    ghost from_gives = { λ l r. r ≡ row_of l.now };
+
+    #[tactic(auto, unfolding(crate::specs::Rows::row_of))]
+    fn from(numbers: &[u64; Row::WIDTH]) -> Self {
+        Row {
+            kind: numbers[0],
+            text: numbers[1] as usize,
+            size: numbers[2] as usize,
+            from: numbers[3] as usize,
+            count: numbers[4] as usize,
+            number: numbers[5],
+            output: numbers[6] as usize,
+            model: numbers[7] as usize,
+            state: numbers[8] as usize,
+            saves: numbers[9] as usize,
+            start: numbers[10] as usize,
+            words: numbers[11] as usize,
+        }
+    }
+}
+
+// Whether so many numbers from a place on are among this many: of the sizes alone, as of the buffers that are lent to be written. `get` would make the slices here, and
+// `make` would make them once more.
 fn has_part(all: usize, first: usize, size: usize) -> bool
     ensures { result ≡ leb (first + size) all }
 {
-    if all < size {
-        return false;
-    }
-    first <= all - size
+    size <= all && first <= all - size
 }
 
-// Whether a row is a call on so much: bytes of texts, waiting draws, words, numbers of a model, a state, saves, a clock and outputs.
-fn is_call(
-    row: Row,
-    texts: usize,
-    numbers: usize,
-    words: usize,
-    model: usize,
-    state: usize,
-    saves: usize,
-    clock: usize,
-    outputs: usize,
-) -> bool
-    ensures { result ≡ fits row texts numbers words (lengths_of model state saves clock) outputs }
-{
-    if row.kind < Row::OPEN {
-        return false;
+impl Row {
+    // Whether a row of one of the kinds is a call on what is given, a model, a state, saves and a clock of so many numbers, and so many of outputs.
+    #[tactic(auto, unfolding(crate::specs::Rows::fits, crate::specs::Rows::is_kind, crate::specs::Rows::row_lengths, crate::specs::Run::lengths_of, machine::specs::Machine::all_parts))]
+    fn fits(self, given: Given, parts: [usize; 4], outputs: usize) -> bool
+        requires { is_kind self.kind ≡ true }
+        ensures { result ≡ fits self (length given.entry.texts.now) (length given.entry.numbers.now) (length given.entry.words.now) (lengths_of (get_or parts 0 0) (get_or parts 1 0) (get_or parts 2 0) (get_or parts 3 0)) outputs }
+    {
+        has_part(given.texts.len(), self.text, self.size)
+            && has_part(given.numbers.len(), self.from, self.count)
+            && has_part(given.words.len(), self.start, self.words)
+            && self.model <= parts[0]
+            && self.state <= parts[1]
+            && self.saves <= parts[2]
+            && Row::CLOCK <= parts[3]
+            && self.output <= outputs
+            && self.output <= Row::OUTPUT
     }
-    if Row::LAST < row.kind {
-        return false;
-    }
-    if !has_part(texts, row.text, row.size) {
-        return false;
-    }
-    if !has_part(numbers, row.from, row.count) {
-        return false;
-    }
-    if !has_part(words, row.start, row.words) {
-        return false;
-    }
-    if model < row.model {
-        return false;
-    }
-    if state < row.state {
-        return false;
-    }
-    if saves < row.saves {
-        return false;
-    }
-    if clock < Row::CLOCK {
-        return false;
-    }
-    if outputs < row.output {
-        return false;
-    }
-    row.output <= Row::OUTPUT
 }
 
-// Makes the call of a row on the saves.
-fn call_named(
-    row: Row,
-    texts: &[u8],
-    model: &[u8],
-    state: &mut [i64],
-    saves: &mut [i64],
-    clock: Clock,
-) -> Timed
-    requires { (save_kind ≤ row.kind) × ((row.kind ≤ forget_kind) × ((n : ℕ) × ((w : ℕ) × ((t : ℕ) × ((o : ℕ) × (fits row (length texts.now) n w (lengths_of (length model.now) (length state.old) (length saves.old) t) o ≡ true)))))) }
-    ensures { (ns ws ls : List ℕ) → Called (row_call texts.now ns ws row) (lent_all model.now state.old saves.old clock) ls (result_numbers result.answer) (lent_all model.now state.new saves.new result.clock) ls }
-{
-    let m = row.model;
-    let s = row.state;
-    let v = row.saves;
-    let first = row.text;
-    let end = first + row.size;
-    if row.kind == Row::SAVE {
-        let answer = engine::save(
-            &model[..m],
-            &state[..s],
-            &mut saves[..v],
-            &texts[first..end],
-            clock,
-        );
-        return Timed::of(answer, clock);
-    }
-    if row.kind == Row::RETURN {
-        return engine::return_to(
-            &model[..m],
-            &mut state[..s],
-            &saves[..v],
-            &texts[first..end],
-            clock,
-        );
-    }
-    let answer = engine::forget(
-        &model[..m],
-        &state[..s],
-        &mut saves[..v],
-        &texts[first..end],
-    );
-    Timed::of(answer, clock)
-}
-
-// Makes the timed step of a row.
-fn call_timed(
-    row: Row,
-    numbers: &[u16],
-    model: &[u8],
-    state: &mut [i64],
-    outputs: &mut [u64],
-    clock: Clock,
-) -> Timed
-    requires { (row.kind ≡ timed_kind) × ((t : ℕ) × ((w : ℕ) × ((v : ℕ) × ((k : ℕ) × (fits row t (length numbers.now) w (lengths_of (length model.now) (length state.old) v k) (length outputs.old) ≡ true))))) }
-    ensures { (texts ws : List ℕ) (ss : List ℤ) → Called (row_call texts numbers.now ws row) (lent_all model.now state.old ss clock) outputs.old (result_numbers result.answer) (lent_all model.now state.new ss result.clock) outputs.new }
-{
-    let m = row.model;
-    let s = row.state;
-    let l = row.output;
-    let from = row.from;
-    let end = from + row.count;
-    engine::step_timed(
-        &model[..m],
-        &mut state[..s],
-        &mut outputs[..l],
-        &numbers[from..end],
-        row.number,
-        clock,
-    )
-}
-
-// Makes the opening of a row under the steady profile.
-fn call_steady(
-    row: Row,
-    texts: &[u8],
-    model: &mut [u8],
-    state: &mut [i64],
-    saves: &mut [i64],
-    clock: Clock,
-) -> Timed
-    requires { (row.kind ≡ steady_kind) × ((n : ℕ) × ((w : ℕ) × ((t : ℕ) × ((o : ℕ) × (fits row (length texts.now) n w (lengths_of (length model.old) (length state.old) (length saves.old) t) o ≡ true))))) }
-    ensures { (ns ws ls : List ℕ) → Called (row_call texts.now ns ws row) (lent_all model.old state.old saves.old clock) ls (result_numbers result.answer) (lent_all model.new state.new saves.new result.clock) ls }
-{
-    let m = row.model;
-    let s = row.state;
-    let v = row.saves;
-    let first = row.text;
-    let end = first + row.size;
-    engine::open_steady(
-        &texts[first..end],
-        &mut model[..m],
-        &mut state[..s],
-        &mut saves[..v],
-        clock,
-    )
-}
-
-// Makes the search of a row.
-fn call_search(row: Row, texts: &[u8], model: &[u8], state: &[i64]) -> Found
-    requires { (row.kind ≡ search_kind) × ((n : ℕ) × ((w : ℕ) × ((v : ℕ) × ((t : ℕ) × ((o : ℕ) × (fits row (length texts.now) n w (lengths_of (length model.now) (length state.now) v t) o ≡ true)))))) }
-    ensures { (ns ws ls : List ℕ) (ss : List ℤ) (c : Clock) → Called (row_call texts.now ns ws row) (lent_all model.now state.now ss c) ls (found_numbers result) (lent_all model.now state.now ss c) ls }
-{
-    let m = row.model;
-    let s = row.state;
-    let first = row.text;
-    let end = first + row.size;
-    engine::searches::search(&model[..m], &state[..s], &texts[first..end], row.number)
-}
-
-// Makes the run of a row.
-fn call_run(
-    row: Row,
-    given: Given,
-    model: &[u8],
-    state: &mut [i64],
-    outputs: &mut [u64],
-    clock: Clock,
-) -> Simulated
-    requires { (row.kind ≡ run_kind) × ((t : ℕ) × ((v : ℕ) × ((k : ℕ) × (fits row t (length given.numbers.now) (length given.words.now) (lengths_of (length model.now) (length state.old) v k) (length outputs.old) ≡ true)))) }
-    ensures { (texts : List ℕ) (ss : List ℤ) → Called (row_call texts given.entry.numbers.now given.entry.words.now row) (lent_all model.now state.old ss clock) outputs.old (ran_numbers result.ran) (lent_all model.now state.new ss result.clock) outputs.new }
-{
-    let m = row.model;
-    let s = row.state;
-    let l = row.output;
-    let from = row.from;
-    let end = from + row.count;
-    let start = row.start;
-    let stop = start + row.words;
-    engine::run(
-        &model[..m],
-        &mut state[..s],
-        &given.words[start..stop],
-        &given.numbers[from..end],
-        &mut outputs[..l],
-        row.number,
-        clock,
-    )
-}
-
-// Makes the call of a row.
-fn call(
+// Makes the call of a row on what it lends.
+fn make(
+    kind: Kind,
     row: Row,
     given: Given,
     model: &mut [u8],
@@ -302,153 +268,42 @@ fn call(
     saves: &mut [i64],
     outputs: &mut [u64],
     clock: Clock,
-) -> Timed
-    requires fact { (row.kind ≡ search_kind → ⊥) × (row.kind ≡ run_kind → ⊥) }
-    requires by_index { (w : ℕ) × ((t : ℕ) × (fits row (length given.texts.now) (length given.numbers.now) w (lengths_of (length model.old) (length state.old) (length saves.old) t) (length outputs.old) ≡ true)) }
-    ensures { (ws : List ℕ) → Called (row_call given.entry.texts.now given.entry.numbers.now ws row) (lent_all model.old state.old saves.old clock) outputs.old (result_numbers result.answer) (lent_all model.new state.new saves.new result.clock) outputs.new }
+) -> Reply
+    requires kind { kind_number kind ≡ row.kind }
+    requires named { (row.text + row.size ≤ length given.texts.now) × ((row.from + row.count ≤ length given.numbers.now) × (row.start + row.words ≤ length given.words.now)) }
+    requires output { length outputs.old ≡ row.output }
+    ensures { Makes (effect (row_ask given.entry.texts.now given.entry.numbers.now given.entry.words.now row) (lent_all model.old state.old saves.old clock) outputs.old) result.numbers (lent_all model.new state.new saves.new result.clock) outputs.new }
 {
-    let m = row.model;
-    let s = row.state;
-    if row.kind == Row::OPEN {
-        let v = row.saves;
-        let first = row.text;
-        let end = first + row.size;
-        return engine::open(
-            &given.texts[first..end],
-            &mut model[..m],
-            &mut state[..s],
-            &mut saves[..v],
-            clock,
-        );
+    let text = &given.texts[row.text..][..row.size];
+    let waiting = &given.numbers[row.from..][..row.count];
+    let words = &given.words[row.start..][..row.words];
+    match kind {
+        Kind::Open => Reply::from(engine::open(text, model, state, saves, clock)),
+        Kind::Steady => Reply::from(engine::open_steady(text, model, state, saves, clock)),
+        Kind::List => Reply::plain(engine::list(model, state, outputs), clock),
+        Kind::Report => Reply::plain(engine::report(model, state, outputs), clock),
+        Kind::Step => Reply::plain(engine::step(model, state, outputs, row.number), clock),
+        Kind::Timed => {
+            Reply::from(engine::step_timed(model, state, outputs, waiting, row.number, clock))
+        }
+        Kind::Save => Reply::plain(engine::save(model, state, saves, text, clock), clock),
+        Kind::Return => Reply::from(engine::return_to(model, state, saves, text, clock)),
+        Kind::Forget => Reply::plain(engine::forget(model, state, saves, text), clock),
+        Kind::Search => {
+            found_reply(
+                engine::searches::search(model, state, text, row.number),
+                clock,
+            )
+        }
+        Kind::Run => {
+            Reply::from(engine::run(model, state, words, waiting, outputs, row.number, clock))
+        }
     }
-    let l = row.output;
-    if row.kind == Row::LIST {
-        let answer = engine::list(&model[..m], &state[..s], &mut outputs[..l]);
-        return Timed::of(answer, clock);
-    }
-    if row.kind == Row::REPORT {
-        let answer = engine::report(&model[..m], &state[..s], &mut outputs[..l]);
-        return Timed::of(answer, clock);
-    }
-    if row.kind == Row::STEP {
-        let answer = engine::step(&model[..m], &mut state[..s], &mut outputs[..l], row.number);
-        return Timed::of(answer, clock);
-    }
-    if row.kind == Row::TIMED {
-        return call_timed(row, given.numbers, &model[..], state, outputs, clock);
-    }
-    if row.kind == Row::STEADY {
-        return call_steady(row, given.texts, model, state, saves, clock);
-    }
-    call_named(row, given.texts, &model[..], state, saves, clock)
-}
-
-// The clock in its two numbers.
-fn clock_of(clock: &[u64]) -> Clock
-    requires { 2 ≤ length clock.now }
-    ensures { result ≡ clock_in clock.now }
-{
-    Clock {
-        ticks: clock[0],
-        draws: clock[1],
-    }
-}
-
-// Writes a clock over its two numbers.
-fn put_clock(clock: &mut [u64], left: Clock)
-    requires { 2 ≤ length clock.old }
-    ensures { clock.new ≡ clock_numbers left ++ drop 2 clock.old }
-{
-    clock[..Row::CLOCK].copy_from_slice(&[left.ticks, left.draws]);
-}
-
-// Writes an answer's numbers over the first of answers.
-fn put_answer(answers: &mut [u64], answer: Answer)
-    requires { answer_width ≤ length answers.old }
-    ensures { answers.new ≡ result_numbers answer ++ drop answer_width answers.old }
-{
-    let numbers: [u64; Row::ANSWER] = [
-        answer.number,
-        answer.place,
-        answer.branch,
-        answer.count,
-        answer.total,
-        answer.chosen,
-        0,
-        0,
-        0,
-        0,
-        0,
-        0,
-        0,
-        0,
-        0,
-        0,
-        0,
-        0,
-    ];
-    answers[..Row::ANSWER].copy_from_slice(&numbers);
-}
-
-// Writes the numbers of what a search found over the first of answers.
-fn put_found(answers: &mut [u64], found: Found)
-    requires { answer_width ≤ length answers.old }
-    ensures { answers.new ≡ found_numbers found ++ drop answer_width answers.old }
-{
-    let run = found.run;
-    let numbers: [u64; Row::ANSWER] = [
-        found.number,
-        0,
-        0,
-        0,
-        0,
-        0,
-        found.length,
-        run[0],
-        run[1],
-        run[2],
-        run[3],
-        run[4],
-        run[5],
-        run[6],
-        run[7],
-        0,
-        0,
-        0,
-    ];
-    answers[..Row::ANSWER].copy_from_slice(&numbers);
-}
-
-// Writes the numbers of what a run came to over the first of answers.
-fn put_ran(answers: &mut [u64], ran: engine::Ran)
-    requires { answer_width ≤ length answers.old }
-    ensures { answers.new ≡ ran_numbers ran ++ drop answer_width answers.old }
-{
-    let numbers: [u64; Row::ANSWER] = [
-        ran.number,
-        0,
-        0,
-        ran.count,
-        ran.total,
-        0,
-        0,
-        0,
-        0,
-        0,
-        0,
-        0,
-        0,
-        0,
-        0,
-        ran.steps,
-        ran.words,
-        ran.waiting,
-    ];
-    answers[..Row::ANSWER].copy_from_slice(&numbers);
 }
 
 // Makes the call of a row that fits, on the engine and its clock, and writes its answer.
 fn make_row(
+    kind: Kind,
     row: Row,
     given: Given,
     model: &mut [u8],
@@ -458,25 +313,28 @@ fn make_row(
     outputs: &mut [u64],
     answers: &mut [u64],
 )
-    requires outputs_value { fits row (length given.texts.now) (length given.numbers.now) (length given.words.now) (lengths_of (length model.old) (length state.old) (length saves.old) (length clock.old)) (length outputs.old) ≡ true }
-    requires answer_width_in_bounds { answer_width ≤ length answers.old }
+    requires kind { kind_number kind ≡ row.kind }
+    requires named { (row.text + row.size ≤ length given.texts.now) × ((row.from + row.count ≤ length given.numbers.now) × (row.start + row.words ≤ length given.words.now)) }
+    requires lent { (row.model ≤ length model.old) × ((row.state ≤ length state.old) × ((row.saves ≤ length saves.old) × ((row.output ≤ length outputs.old) × (2 ≤ length clock.old)))) }
+    requires answer { answer_width ≤ length answers.old }
     ensures { lent_of (lent_four model.new state.new saves.new clock.new) outputs.new answers.new ≡ call_left (row_call given.entry.texts.now given.entry.numbers.now given.entry.words.now row) (lent_of (lent_four model.old state.old saves.old clock.old) outputs.old answers.old) }
 {
-    if row.kind == Row::SEARCH {
-        let found = call_search(row, given.texts, &model[..], &state[..]);
-        put_found(answers, found);
-        return;
-    }
-    let now = clock_of(&clock[..]);
-    if row.kind == Row::RUN {
-        let told = call_run(row, given, &model[..], state, outputs, now);
-        put_clock(clock, told.clock);
-        put_ran(answers, told.ran);
-        return;
-    }
-    let timed = call(row, given, model, state, saves, outputs, now);
-    put_clock(clock, timed.clock);
-    put_answer(answers, timed.answer);
+    let now = Clock {
+        ticks: clock[0],
+        draws: clock[1],
+    };
+    let reply = make(
+        kind,
+        row,
+        given,
+        &mut model[..row.model],
+        &mut state[..row.state],
+        &mut saves[..row.saves],
+        &mut outputs[..row.output],
+        now,
+    );
+    clock[..Row::CLOCK].copy_from_slice(&[reply.clock.ticks, reply.clock.draws]);
+    answers[..Row::ANSWER].copy_from_slice(&reply.numbers);
 }
 
 // Runs the first row of a script, if it is a call.
@@ -492,39 +350,24 @@ fn run_row(
 ) -> bool
     ensures { RowRan (first_call script.now given.entry.texts.now given.entry.numbers.now given.entry.words.now (room_of (lent_of (lent_four model.old state.old saves.old clock.old) outputs.old answers.old))) (lent_of (lent_four model.old state.old saves.old clock.old) outputs.old answers.old) result (lent_of (lent_four model.new state.new saves.new clock.new) outputs.new answers.new) }
 {
-    if script.len() < Row::WIDTH {
+    let Some(numbers) = script.first_chunk::<{ Row::WIDTH }>() else {
         return false;
-    }
+    };
     if answers.len() < Row::ANSWER {
         return false;
     }
-    let row = read_row(script);
-    if !is_call(
-        row,
-        given.texts.len(),
-        given.numbers.len(),
-        given.words.len(),
-        model.len(),
-        state.len(),
-        saves.len(),
-        clock.len(),
-        outputs.len(),
-    ) {
+    let row = Row::from(numbers);
+    let Some(kind) = Kind::of(row.kind) else {
+        return false;
+    };
+    let parts = [model.len(), state.len(), saves.len(), clock.len()];
+    if !row.fits(given, parts, outputs.len()) {
         return false;
     }
-    make_row(row, given, model, state, saves, clock, outputs, answers);
+    make_row(
+        kind, row, given, model, state, saves, clock, outputs, answers,
+    );
     true
-}
-
-// Where row i begins, at so many numbers a row, or the end if that is before.
-fn place_of(i: usize, width: usize, end: usize) -> usize
-    requires { 1 ≤ width }
-    ensures { result ≡ min (i * width) end }
-{
-    if end / width < i {
-        return end;
-    }
-    i * width
 }
 
 // Runs row i of a script, if it is a call.
@@ -541,9 +384,9 @@ fn run_at(
 ) -> bool
     ensures { RowRanAt i script.now given.entry.texts.now given.entry.numbers.now given.entry.words.now (lent_of (lent_four model.old state.old saves.old clock.old) outputs.old answers.old) result (lent_of (lent_four model.new state.new saves.new clock.new) outputs.new answers.new) }
 {
-    let row = place_of(i, Row::WIDTH, script.len());
-    let output = place_of(i, Row::OUTPUT, outputs.len());
-    let answer = place_of(i, Row::ANSWER, answers.len());
+    let row = i.saturating_mul(Row::WIDTH).min(script.len());
+    let output = i.saturating_mul(Row::OUTPUT).min(outputs.len());
+    let answer = i.saturating_mul(Row::ANSWER).min(answers.len());
     run_row(
         &script[row..],
         given,
@@ -577,12 +420,13 @@ pub fn run(
         numbers,
         words,
     };
-    // A while: a row that is no call ends it.
-    let mut i = 0;
-    while run_at(
-        i, script, given, model, state, saves, clock, outputs, answers,
-    ) {
-        i += 1;
+    let rows = script.len() / Row::WIDTH;
+    for i in 0..rows {
+        if !run_at(
+            i, script, given, model, state, saves, clock, outputs, answers,
+        ) {
+            return i;
+        }
     }
-    i
+    rows
 }

@@ -48,7 +48,7 @@ pub fn holds_all(model: &[u8], state: &[i64], saves: &[i64], clock: Clock) -> bo
     clock::in_range(clock) && holds(model, state, saves)
 }
 
-// What a call on the saves answers.
+// What a call on the saves answers. A refusal of the saves by its variant, here and in `return_held`: no `?` hands it on, for which a From would be.
 pub fn stored_answer(done: Result<(), saves::Refusal>) -> Answer
     ensures { result ≡ bare (number_of done) 0 0 }
 {

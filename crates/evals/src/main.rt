@@ -114,7 +114,7 @@ fn rate(n: u64) -> Option<u64>
     eval::rate_of(context, 0)
 }
 
-// A line for each: its name and the number, or `none`.
+// A line for each: its name and the number, or `none`. As in `values`, but of two types: a crate for both programs would hold this alone.
 fn lines<T: Display>(rt: &impl Print, numbers: &[(&str, Option<T>)]) -> io::Result<()> {
     for (name, number) in numbers {
         match number {

@@ -203,7 +203,7 @@ fn steady_line(after: u64, late: Rest) -> Option<Line>
     None
 }
 
-// A digit and a blank after the first five bytes.
+// A digit and a blank after the first five bytes. The two bounds by ifs, one after the other, as the definition asks for them.
 fn seek_line(after: u64, kept: u64) -> Option<Line>
     ensures { result ≡ sought_by after kept }
 {

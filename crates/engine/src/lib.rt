@@ -374,7 +374,7 @@ pub fn step_timed(
     let mut before = [0i64; Engine::STATE];
     before.copy_from_slice(&state[..]);
     match step_lent(model, state, listing, draw) {
-        Ok(told) => waiting::wait_after(told, &before, state, waiting, clock),
+        Ok(told) => waiting::wait_after(Answer::from(told), &before, state, waiting, clock),
         Err(refusal) => Timed::of(Answer::from(refusal), clock),
     }
 }

@@ -26,7 +26,7 @@ use Rattle.names.specs.Faults.{earlier_of, asks_names, tree_faults}
 use Rattle.names.specs.Walks.{Ground, TreeRoom}
 use Rattle.names.specs.Lists.{Gathered}
 use Rattle.names.specs.Tables.{Read}
-use Rattle.names.specs.Judged.{Judgeable, no_of, fault_of, answer_of, judged_names}
+use Rattle.names.specs.Judged.{no_of, fault_of, answer_of, judged_names}
 use Rattle.names.proofs.Earliest.{least-append, nothing-first, nothing-second}
 use Rattle.names.proofs.Grounds.{kinds-there, world, ground}
 
@@ -54,6 +54,15 @@ last_asked : (g : Found) → answer_of (fault_of Given g) ≡ asked 9 g (Ok tt)
 unfolding fault_of answer_of no_of asked
 last_asked None = refl
 last_asked (Some k) = refl
+
+-- what is judged: the tables of a text with the syntax tree s, and where its lists stand
+pub record Judgeable (text : List ℕ) (s : Syntax.Model) (kinds : List ℕ) (p : Parsed) : Type 0 where
+  pub read : Read text s kinds (lows_in p.contents.now) (highs_in p.contents.now) p.nodes.now p.lists.root (length kinds)
+  pub gathered : Gathered s p.lists.root p.lists
+
+-- a text's tables, with the lists that were found in them
+pub with-lists : {text : List ℕ} {s : Syntax.Model} {kinds : List ℕ} {root : ℕ} (p : Parsed) → Read text s kinds (lows_in p.contents.now) (highs_in p.contents.now) p.nodes.now root (length kinds) → Gathered s root p.lists → Judgeable text s kinds p
+with-lists p h g = record { read = rw g.root_is h; gathered = record { root_is = refl; variables-are = g.variables-are; definitions-are = g.definitions-are } }
 
 module _ {text : List ℕ} {s : Syntax.Model} {kinds : List ℕ} {p : Parsed} (h : Judgeable text s kinds p) where
   abbrev Stands : Question → Type 0
@@ -119,23 +128,15 @@ module _ {text : List ℕ} {s : Syntax.Model} {kinds : List ℕ} {p : Parsed} (h
           unfolding judged_names asked
           judged-given = rw (sym limits-judged ∙ passed, sym fresh-answer ∙ no_fault Fresh f new, sym given-answer) (last_asked g)
 
--- lists stand by their own root
-pub own_root : {m : Syntax.Model} {root : ℕ} {l : Lists} → Gathered m root l → Gathered m l.root l
-own_root g = record { root_is = refl; variables-are = g.variables-are; definitions-are = g.definitions-are }
-
 -- the tables of a text as its caller holds them, with the kinds cut to its tokens
-pub judgeable : {text : List ℕ} {s : Syntax.Model} {kinds : List ℕ} {root n : ℕ} (p : Parsed) → Read text s kinds (lows_in p.contents.now) (highs_in p.contents.now) p.nodes.now root n → Gathered s root p.lists → Judgeable text s (take n kinds) p
-judgeable {kinds = kinds} {n = n} p h g =
+pub cut-to : {text : List ℕ} {s : Syntax.Model} {kinds low high nodes : List ℕ} {root n : ℕ} → Read text s kinds low high nodes root n → Read text s (take n kinds) low high nodes root (length (take n kinds))
+cut-to {kinds = kinds} {n = n} h =
     let e : length (take n kinds) ≡ n = omega (arith, length-take n kinds, kinds-there h) in
-    record {
-      read =
-          rw (e, g.root_is) (record {
-            tabled = record { count = h.tabled.count; kinds-are = take_all n (take n kinds) (omega arith) ∙ h.tabled.kinds-are; lows-are = h.tabled.lows-are; highs-are = h.tabled.highs-are };
-            few = h.few;
-            reading = h.reading;
-            reads = h.reads;
-            tree = h.tree;
-            holds = h.holds;
-          });
-      gathered = own_root g;
-    }
+    rw e (record {
+      tabled = record { count = h.tabled.count; kinds-are = take_all n (take n kinds) (omega arith) ∙ h.tabled.kinds-are; lows-are = h.tabled.lows-are; highs-are = h.tabled.highs-are };
+      few = h.few;
+      reading = h.reading;
+      reads = h.reads;
+      tree = h.tree;
+      holds = h.holds;
+    })

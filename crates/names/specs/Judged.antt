@@ -1,6 +1,5 @@
 -- What questions 7, 8 and 9, asked in this order, answer of a text with its syntax tree (01, Opening a text). Assumes nothing: these are definitions.
-use Rattle.std.specs.Prelude.{List, ℕ, length, Result, None, Some, Err, Ok}
-use Rattle.token.specs.Contents.{lows_in, highs_in}
+use Rattle.std.specs.Prelude.{List, ℕ, Result, None, Some, Err, Ok}
 use Rattle.token.specs.declared.Question as token
 use Rattle.token.specs.declared.Question.TheVariants as all
 use Rattle.token.specs.Questions.{No, question_number, asked, refusal, Found, Judged}
@@ -13,14 +12,6 @@ use Rattle.model.specs.Given.{not_given}
 use Rattle.names.specs.declared.Question.{Question}
 use Rattle.names.specs.declared.Question.TheVariants.{Limits, Fresh, Given}
 use Rattle.names.specs.declared.Fault.{Fault}
-use Rattle.names.specs.declared.Parsed.{Parsed}
-use Rattle.names.specs.Lists.{Gathered}
-use Rattle.names.specs.Tables.{Read}
-
--- 01, after question 6: the tables of a text with the syntax tree s, as they are lent: the kinds of its tokens alone, and where its lists stand
-pub record Judgeable (text : List ℕ) (s : Syntax.Model) (kinds : List ℕ) (p : Parsed) : Type 0 where
-  pub read : Read text s kinds (lows_in p.contents.now) (highs_in p.contents.now) p.nodes.now p.lists.root (length kinds)
-  pub gathered : Gathered s p.lists.root p.lists
 
 -- 01, Opening a text: the questions about names among all questions
 abbrev pub among_all : Question → token.Question

@@ -17,8 +17,8 @@ ghost use Rattle.model.specs.Words.{same};
 ghost use Rattle.model.specs.Limits.{local_limit, is_missing, words_beyond, whole_beyond, site_beyond};
 ghost use Rattle.model.specs.Fresh.{repeated};
 ghost use Rattle.model.specs.Given.{place_in, is_callable};
-ghost use Rattle.names.specs.Tables.{Tabled};
-ghost use Rattle.names.specs.Judged.{among_all, Judgeable, fault_of, answer_of, judged_names};
+ghost use Rattle.names.specs.Tables.{Tabled, Read};
+ghost use Rattle.names.specs.Judged.{among_all, fault_of, answer_of, judged_names};
 ghost use Rattle.names.specs.Faults.{earlier_of, left_out, site_faults};
 ghost use Rattle.names.specs.Lists.{packed_in, found_of, name_at, names_down, InScope, ReachIn, run, Gathered};
 ghost use Rattle.names.specs.Settings.{Extended, WorldIn, SettingIn, WorldOf, SettingOf, BindingOf, faults_at, known_in};
@@ -518,11 +518,21 @@ fn answer(question: Question, found: Option<usize>) -> Result<(), Fault>
 }
 
 // Questions 7, 8 and 9, in this order, of a text's tokens and its tree.
-pub fn judge_names(kinds: &[u8], parsed: &Parsed) -> Result<(), Fault>
-    requires { (text : List ℕ) × (s : Syntax.Model) × Judgeable text s kinds.now parsed.now }
-    ensures { (text : List ℕ) (s : Syntax.Model) → Judgeable text s kinds.now parsed.entry.now → answer_of result ≡ judged_names text s }
+pub fn judge_names(
+    kinds: &[u8],
+    contents: &[Content],
+    nodes: &[u64],
+    root: usize,
+) -> Result<(), Fault>
+    requires { (text : List ℕ) × (s : Syntax.Model) × Read text s kinds.now (lows_in contents.now) (highs_in contents.now) nodes.now root (length kinds.now) }
+    ensures { (text : List ℕ) (s : Syntax.Model) → Read text s kinds.now (lows_in contents.now) (highs_in contents.now) nodes.now root (length kinds.now) → answer_of result ≡ judged_names text s }
 {
-    let words = words_fault(kinds, parsed.contents);
+    let parsed = &Parsed {
+        contents,
+        nodes,
+        lists: lists_of(nodes, root),
+    };
+    let words = words_fault(kinds, contents);
     let tree = walk::tree_fault(Question::Limits, kinds, parsed);
     answer(Question::Limits, earlier(words, tree))?;
     answer(

@@ -12,14 +12,12 @@ ghost use Rattle.tree.specs.Table;
 ghost use Rattle.model.specs.Sites.{system};
 ghost use Rattle.model.specs.Opening.{byte_place, system_token};
 ghost use Rattle.names.specs.Judged.{no_of};
-ghost use Rattle.names.specs.Lists.{Gathered};
 ghost use Rattle.opening.specs.Trees.{Placed, Fitted, TreeRead};
 ghost use Rattle.opening.specs.Marked.{Marked, TreeMarked, SoundMarked, ModelMarked};
 ghost use Rattle.opening.specs.Sound.{NamesJudged, SoundHeld, SoundRead};
 ghost use Rattle.opening.specs.Models.{ModelHeld, ModelRead, Opens};
 ghost use Rattle.opening.specs.System.{first_item, before_name, item_token};
 
-use names::{Lists, Parsed};
 use settle::{Channels, Model, Workspace};
 use syntax::question;
 use syntax::question::Unfit;
@@ -176,11 +174,12 @@ fn item_token(item: u64) -> usize
     name - settle::COUNT_BEFORE
 }
 
-// The first token of the system line of the model with these lists.
-fn system_token(nodes: &[u64], lists: Lists) -> usize
-    requires { (m : Syntax.Model) × (lo : ℕ) × Table.Model nodes.now m lo lists.root × Gathered m lists.root lists }
-    ensures { (m : Syntax.Model) (lo : ℕ) → Table.Model nodes.now m lo lists.root → Gathered m lists.root lists → result ≡ system_token (system m) }
+// The first token of the system line of the model at this root.
+fn system_token(nodes: &[u64], root: usize) -> usize
+    requires { (m : Syntax.Model) × (lo : ℕ) × Table.Model nodes.now m lo root }
+    ensures { (m : Syntax.Model) (lo : ℕ) → Table.Model nodes.now m lo root → result ≡ system_token (system m) }
 {
+    let lists = names::lists_of(nodes, root);
     let first = first_item(nodes, lists.line());
     item_token(nodes[first])
 }
@@ -190,18 +189,15 @@ pub fn judge_tree(text: &[u8], space: &Space, root: usize) -> Result<usize, Refu
     requires { (s : Syntax.Model) × Fitted text.now s space.now root }
     ensures { (s : Syntax.Model) → Fitted text.now s space.now root → NamesJudged text.now s result }
 {
-    let parsed = Parsed {
-        contents: &space.contents,
-        nodes: &space.model.nodes,
-        lists: names::lists_of(&space.model.nodes, root),
-    };
-    if let Err(fault) = names::judge_names(&space.kinds[..space.count], &parsed) {
+    let nodes = &space.model.nodes;
+    let kinds = &space.kinds[..space.count];
+    if let Err(fault) = names::judge_names(kinds, &space.contents, nodes, root) {
         return Err(Refusal {
             question: fault.question.into(),
             place: space.byte_place(text, fault.token),
         });
     }
-    let first = system_token(&space.model.nodes, parsed.lists);
+    let first = system_token(nodes, root);
     Ok(space.byte_place(text, first))
 }
 

@@ -31,33 +31,33 @@ use Rattle.syntax.proofs.LineTrees as trees
 abbrev TheWholes : List ℕ → List ℕ → List ℕ → ℕ → ℕ → Counted → Type 0
 TheWholes ts t t' at used = Counts (Whole' ∷ MoreWholes ∷ Want kind.close_square ∷ []) written_wholes (λ w. Table.count_wholes (wholes_at w at)) (λ x w. Table.Wholes x (wholes_at w at)) ts t t' at used 0
 
-abbrev TheStarts : List ℕ → List ℕ → List ℕ → ℕ → ℕ → ℕ → Read → Type 0
-TheStarts ts t t' k used kd = Answers the_starts flat_starts (λ x s. Started x kd k (starts_at s (k + 1))) ts t t' (k + 1) used
+abbrev TheStarts : List ℕ → List ℕ → List ℕ → ℕ → ℕ → ℕ → ℕ → Read → Type 0
+TheStarts ts t t' k at used kd = Answers the_starts flat_starts (λ x s. Started x kd k (starts_at s at)) ts t t' at used
 
 abbrev AStart : List ℕ → List ℕ → List ℕ → ℕ → ℕ → Read → Type 0
 AStart ts t t' at = Answers (Start' ∷ []) flat_start (λ x s. Table.Start x (start_at s at)) ts t t' at
 
-module _ (ts t : List ℕ) (k used kd : ℕ) where
-  pub starts-closed : k + 1 ≤ length ts → (get_or ts (k + 1) 0 ≡ kind.open_square → ⊥) → TheStarts ts t t k used kd (Err (k + 1))
+module _ (ts t : List ℕ) (k at used kd : ℕ) where
+  pub starts-closed : at ≤ length ts → (get_or ts at 0 ≡ kind.open_square → ⊥) → TheStarts ts t t k at used kd (Err at)
   unfolding place Parsed
-  starts-closed l n = (machine.starts_none ts (k + 1) l n, refl)
+  starts-closed l n = (machine.starts_none ts at l n, refl)
 
-  module _ (t₁ : List ℕ) (e : get_or ts (k + 1) 0 ≡ kind.open_square) where
-    pub starts-empty : get_or ts (k + 1 + 1) 0 ≡ kind.close_square → Wrote t t₁ used kd k 0 0 → TheStarts ts t t₁ k used kd (Ok (k + 1 + 1 + 1, used))
+  module _ (t₁ : List ℕ) (e : get_or ts at 0 ≡ kind.open_square) where
+    pub starts-empty : get_or ts (at + 1) 0 ≡ kind.close_square → Wrote t t₁ used kd k 0 0 → TheStarts ts t t₁ k at used kd (Ok (at + 1 + 1, used))
     unfolding place Parsed
-    starts-empty d w = (machine.starts-empty ts (k + 1) e d, trees.starts_none kd e d w)
+    starts-empty d w = (machine.starts-empty ts at e d, trees.starts_none kd e d w)
 
-    module _ (d : get_or ts (k + 1 + 1) 0 ≡ kind.close_square → ⊥) {r : Counted} (a : TheWholes ts t t₁ (k + 1 + 1) used r) where
-      pub starts-fault : {i : ℕ} → r ≡ Err i → TheStarts ts t t₁ k used kd (Err i)
+    module _ (d : get_or ts (at + 1) 0 ≡ kind.close_square → ⊥) {r : Counted} (a : TheWholes ts t t₁ (at + 1) used r) where
+      pub starts-fault : {i : ℕ} → r ≡ Err i → TheStarts ts t t₁ k at used kd (Err i)
       unfolding place Parsed
-      starts-fault f = (machine.starts-some ts (k + 1) e d (counted-fault-at f a.0), counted-fault-size _ _ _ ts t t₁ (k + 1 + 1) used 0 f a.1)
+      starts-fault f = (machine.starts-some ts at e d (counted-fault-at f a.0), counted-fault-size _ _ _ ts t t₁ (at + 1) used 0 f a.1)
 
-      pub starts-made : {t₂ : List ℕ} {m root c : ℕ} → r ≡ Ok (m, root, c) → Wrote t₁ t₂ (root + 1) (kd + 1) k 0 c → TheStarts ts t t₂ k used kd (Ok (m, root + 1))
+      pub starts-made : {t₂ : List ℕ} {m root c : ℕ} → r ≡ Ok (m, root, c) → Wrote t₁ t₂ (root + 1) (kd + 1) k 0 c → TheStarts ts t t₂ k at used kd (Ok (m, root + 1))
       unfolding place Parsed
-      starts-made f w = (machine.starts-some ts (k + 1) e d (counted-next-at f a.0), trees.starts-some kd e (tally-of f a.1) w)
+      starts-made f w = (machine.starts-some ts at e d (counted-next-at f a.0), trees.starts-some kd e (tally-of f a.1) w)
 
 module _ (ts t : List ℕ) (at used : ℕ) where
-  pub start-once : (t₁ : List ℕ) (r : Read) → get_or ts at 0 ≡ kind.name → TheStarts ts t t₁ at used node.start r → AStart ts t t₁ at used r
+  pub start-once : (t₁ : List ℕ) (r : Read) → get_or ts at 0 ≡ kind.name → TheStarts ts t t₁ at (at + 1) used node.start r → AStart ts t t₁ at used r
   start-once t₁ r e a = (machine.start-once ts at e a.0, parsed-as r (λ n root m. trees.start-once e m) (λ z. z) a.1)
 
   pub start-neither : at ≤ length ts → (get_or ts at 0 ≡ kind.name → ⊥) → (get_or ts at 0 ≡ kind.whole → ⊥) → AStart ts t t at used (Err at)
@@ -74,7 +74,7 @@ module _ (ts t : List ℕ) (at used : ℕ) where
       unfolding place Parsed
       start-no-name n = (machine.start-no-name ts at e d n, refl)
 
-      pub start-counted : (t₁ : List ℕ) (r : Read) → get_or ts (at + 1 + 1) 0 ≡ kind.name → TheStarts ts t t₁ (at + 1 + 1) used node.counted r → AStart ts t t₁ at used r
+      pub start-counted : (t₁ : List ℕ) (r : Read) → get_or ts (at + 1 + 1) 0 ≡ kind.name → TheStarts ts t t₁ (at + 1 + 1) (at + 1 + 1 + 1) used node.counted r → AStart ts t t₁ at used r
       start-counted t₁ r f a = (machine.start-counted ts at e d f a.0, parsed-as r (λ n root m. trees.start-counted e d f m) (λ z. z) a.1)
 
 -- ---- the system line

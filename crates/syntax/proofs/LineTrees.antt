@@ -27,9 +27,9 @@ use Rattle.syntax.specs.Names.{Listed}
 abbrev TheWholes : List ℕ → List ℕ → List ℕ → ℕ → ℕ → ℕ → ℕ → ℕ → Type 0
 TheWholes ts t t' at used = Tally written_wholes (λ w. Table.count_wholes (wholes_at w at)) (λ x w. Table.Wholes x (wholes_at w at)) ts t t' at used 0
 
--- the values of the system item named at k; a system item; the system line
-abbrev TheStarts : List ℕ → List ℕ → List ℕ → ℕ → ℕ → ℕ → ℕ → ℕ → Type 0
-TheStarts ts t t' kind k = Made flat_starts (λ x s. Started x kind k (starts_at s (k + 1))) ts t t' (k + 1)
+-- the values, from `at` on, of the system item named at k; a system item; the system line
+abbrev TheStarts : List ℕ → List ℕ → List ℕ → ℕ → ℕ → ℕ → ℕ → ℕ → ℕ → Type 0
+TheStarts ts t t' kind k at = Made flat_starts (λ x s. Started x kind k (starts_at s at)) ts t t' at
 
 abbrev AStart : List ℕ → List ℕ → List ℕ → ℕ → ℕ → ℕ → ℕ → Type 0
 AStart ts t t' at = Made flat_start (λ x s. Table.Start x (start_at s at)) ts t t' at
@@ -56,17 +56,17 @@ AModel ts t t' at = Made flat_model (λ x m. Table.Model x (model_at m at)) ts t
 
 -- ---- the system line
 
-module _ {ts t t₁ : List ℕ} {k used : ℕ} (kd : ℕ) (e : get_or ts (k + 1) 0 ≡ kind.open_square) where
-  pub starts_none : get_or ts (k + 1 + 1) 0 ≡ kind.close_square → Wrote t t₁ used kd k 0 0 → TheStarts ts t t₁ kd k used (k + 1 + 1 + 1) used
+module _ {ts t t₁ : List ℕ} {k at used : ℕ} (kd : ℕ) (e : get_or ts at 0 ≡ kind.open_square) where
+  pub starts_none : get_or ts (at + 1) 0 ≡ kind.close_square → Wrote t t₁ used kd k 0 0 → TheStarts ts t t₁ kd k at used (at + 1 + 1) used
   unfolding flat_starts starts_at Started
   starts_none d w =
       record { tree = Grammar.no_starts; span = span-wrote w (span-token kind.open_square e (omega arith) then span-token kind.close_square d (omega arith)) (omega arith); shown = seen-leaf w }
 
-  pub starts-some : {t₂ : List ℕ} {m r c : ℕ} → TheWholes ts t t₁ (k + 1 + 1) used m r c → Wrote t₁ t₂ (r + 1) (kd + 1) k 0 c → TheStarts ts t t₂ kd k used m (r + 1)
+  pub starts-some : {t₂ : List ℕ} {m r c : ℕ} → TheWholes ts t t₁ (at + 1) used m r c → Wrote t₁ t₂ (r + 1) (kd + 1) k 0 c → TheStarts ts t t₂ kd k at used m (r + 1)
   unfolding flat_starts written_wholes starts_at Started
   starts-some {c = c} b w =
       let s = b.made.span in
-      let values = wholes_at b.made.tree (k + 1 + 1) in
+      let values = wholes_at b.made.tree (at + 1) in
       let all : c ≡ Table.count_wholes values = omega (arith, b.counted) in
       record {
         tree = Grammar.starts b.made.tree;
@@ -86,11 +86,11 @@ counted-holds t c n lo k Syntax.no_starts e h = (e, h)
 counted-holds t c n lo k (Syntax.starts w) e h = (e, h)
 
 module _ {ts t t₁ : List ℕ} {at used n root : ℕ} where
-  pub start-once : get_or ts at 0 ≡ kind.name → TheStarts ts t t₁ node.start at used n root → AStart ts t t₁ at used n root
+  pub start-once : get_or ts at 0 ≡ kind.name → TheStarts ts t t₁ node.start at (at + 1) used n root → AStart ts t t₁ at used n root
   unfolding flat_start start_at
   start-once e a = record { tree = Grammar.once a.tree; span = span-token kind.name e (omega arith) then a.span; shown = λ l. once-holds t₁ at used root (starts_at a.tree (at + 1)) (a.shown l) }
 
-  pub start-counted : get_or ts at 0 ≡ kind.whole → get_or ts (at + 1) 0 ≡ kind.times → get_or ts (at + 1 + 1) 0 ≡ kind.name → TheStarts ts t t₁ node.counted (at + 1 + 1) used n root → AStart ts t t₁ at used n root
+  pub start-counted : get_or ts at 0 ≡ kind.whole → get_or ts (at + 1) 0 ≡ kind.times → get_or ts (at + 1 + 1) 0 ≡ kind.name → TheStarts ts t t₁ node.counted (at + 1 + 1) (at + 1 + 1 + 1) used n root → AStart ts t t₁ at used n root
   unfolding flat_start start_at
   start-counted e d f a =
       let two : at + 1 + 1 ≡ at + 2 = omega arith in

@@ -13,28 +13,30 @@ ghost use Rattle.syntax.specs.Actions.{flat_sent, flat_heard, flat_deed, Sent, H
 use crate::channel;
 use crate::entries::{Set, Value, entries};
 use crate::left::Left;
+use crate::point::Point;
 use crate::spot::Spot;
 use token::Kind;
 use tree::{Members, NodeKind, Read};
 
 // Names parted by commas and the bracket after them: the next token, and how many names.
-pub fn names(spot: Spot, close: u8) -> Members
+pub fn names(point: Point, close: u8) -> Members
     requires close_nonzero { (0 < close) × (close ≡ kind.comma → ⊥) }
-    ensures follows { Follows spot.entry.toks.now spot.entry.at (the_names ++ Want close ∷ []) (place result) }
-    ensures listing { Listing spot.entry.toks.now spot.entry.at close result }
+    ensures follows { Follows point.entry.toks.now point.entry.at (the_names ++ Want close ∷ []) (place result) }
+    ensures listing { Listing point.entry.toks.now point.entry.at close result }
 {
-    if spot.peek() != Kind::NAME {
-        return Err(spot.at);
+    let Point { toks, at } = point;
+    if token::peek(toks, at) != Kind::NAME {
+        return Err(at);
     }
-    let n = spot.at + 1;
-    let t = token::peek(spot.toks, n);
+    let n = at + 1;
+    let t = token::peek(toks, n);
     if t == close {
         return Ok((n + 1, 1));
     }
     if t != b',' {
         return Err(n);
     }
-    let (m, count) = names(spot.to(n + 1, spot.used), close)?;
+    let (m, count) = names(Point { toks, at: n + 1 }, close)?;
     Ok((m, count + 1))
 }
 
@@ -66,7 +68,8 @@ pub fn receiving(left: Left, nodes: &mut [u64], kind: u8) -> Read
         return Ok((n, root));
     }
     let first = n + 1;
-    let (m, count) = names(spot.to(first, root + 1), b')')?;
+    let toks = spot.toks;
+    let (m, count) = names(Point { toks, at: first }, b')')?;
     tree::node(nodes, root, kind + 1, first, left.root, count);
     Ok((m, root))
 }

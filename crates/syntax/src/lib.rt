@@ -11,6 +11,7 @@ pub mod expression;
 pub mod left;
 pub mod line;
 pub mod named;
+pub mod point;
 pub mod process;
 pub mod question;
 pub mod rate;

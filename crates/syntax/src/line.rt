@@ -11,6 +11,7 @@ ghost use Rattle.syntax.specs.Judged.{Judged};
 ghost use Rattle.syntax.specs.Line.{defining, in_definition, Parameters, written_definition, count_definition, Definition, written_wholes, Started};
 
 use crate::named::Named;
+use crate::point::Point;
 use crate::site::Site;
 use crate::spot::Spot;
 use crate::{action, expression, process, rate};
@@ -18,14 +19,14 @@ use token::Kind;
 use tree::{Counted, Members, NodeKind, Read};
 
 // Parameters, after the `[`, with the `]`: the next token, and how many.
-pub fn params(spot: Spot) -> Members
-    ensures follows { Follows spot.entry.toks.now spot.entry.at (Params' ∷ Want kind.close_square ∷ []) (place result) }
-    ensures parameters { Parameters spot.entry.toks.now spot.entry.at result }
+pub fn params(point: Point) -> Members
+    ensures follows { Follows point.entry.toks.now point.entry.at (Params' ∷ Want kind.close_square ∷ []) (place result) }
+    ensures parameters { Parameters point.entry.toks.now point.entry.at result }
 {
-    if spot.peek() == b']' {
-        return Ok((spot.at + 1, 0));
+    if point.peek() == b']' {
+        return Ok((point.at + 1, 0));
     }
-    action::names(spot, b']')
+    action::names(point, b']')
 }
 
 // The definition whose name stands here.
@@ -35,7 +36,11 @@ pub fn definition(named: Named<{ b'[' }>, nodes: &mut [u64], sums: usize) -> Cou
     ensures tallied { Tallied written_definition count_definition (λ t d. Definition t d named.entry.spot.at sums) named.entry.spot.toks.now nodes.old nodes.new (named.entry.spot.at + 1) named.entry.spot.used sums result }
 {
     let spot = named.spot;
-    let (n, count) = params(spot.to(spot.at + 2, spot.used))?;
+    let open = Point {
+        toks: spot.toks,
+        at: spot.at + 2,
+    };
+    let (n, count) = params(open)?;
     if token::peek(spot.toks, n) != b'=' {
         return Err(n);
     }
@@ -54,14 +59,14 @@ pub fn definition(named: Named<{ b'[' }>, nodes: &mut [u64], sums: usize) -> Cou
 
 // Whether a definition starts here, and not the system line.
 #[tactic(auto, unfolding(crate::specs::Line::defining))]
-pub fn defines(spot: Spot) -> bool
-    ensures { result ≡ defining spot.entry.toks.now spot.entry.at }
+pub fn defines(point: Point) -> bool
+    ensures { result ≡ defining point.entry.toks.now point.entry.at }
 {
-    spot.peek() == Kind::NAME
-        && token::peek(spot.toks, spot.at + 1) == b'['
-        && match token::peek(spot.toks, spot.at + 2) {
+    point.peek() == Kind::NAME
+        && token::peek(point.toks, point.at + 1) == b'['
+        && match token::peek(point.toks, point.at + 2) {
             Kind::NAME => true,
-            b']' => token::peek(spot.toks, spot.at + 3) == b'=',
+            b']' => token::peek(point.toks, point.at + 3) == b'=',
             _ => false,
         }
 }
@@ -74,7 +79,11 @@ pub fn definitions(named: Named<{ b'[' }>, nodes: &mut [u64], sums: usize) -> Re
 {
     let (n, left, s) = definition(named, nodes, sums)?;
     let spot = named.spot.to(n, left + 1);
-    let ((m, r), kind) = if defines(spot) {
+    let next = Point {
+        toks: spot.toks,
+        at: spot.at,
+    };
+    let ((m, r), kind) = if defines(next) {
         (definitions(Named { spot }, nodes, s)?, NodeKind::NEXT)
     } else {
         (system(spot, nodes)?, NodeKind::LAST)
@@ -103,25 +112,24 @@ pub fn wholes(spot: Spot, nodes: &mut [u64]) -> Counted
     Ok((m, root, count + 1))
 }
 
-// The values of the item named here; `base` is the kind of an item without values. Beside `process::call` stands why this and the reader there are no one function.
-pub fn starts(spot: Spot, nodes: &mut [u64], base: u8) -> Read
-    requires name_value { get_or spot.toks.now spot.at 0 ≡ kind.name }
+// The values of the item whose name is the token `name`, from the `[` on; `base` is the kind of an item without values. Beside `process::call` stands why this and the reader there are no one function.
+pub fn starts(spot: Spot, nodes: &mut [u64], name: usize, base: u8) -> Read
+    requires name_before { name ≤ spot.at }
     requires base_bound { base < 255 }
-    ensures follows { Follows spot.entry.toks.now (spot.entry.at + 1) the_starts (place result) }
-    ensures parsed { Parsed flat_starts (λ t s. Started t base spot.entry.at (starts_at s (spot.entry.at + 1))) spot.entry.toks.now nodes.old nodes.new (spot.entry.at + 1) spot.entry.used result }
+    ensures follows { Follows spot.entry.toks.now spot.entry.at the_starts (place result) }
+    ensures parsed { Parsed flat_starts (λ t s. Started t base name (starts_at s spot.entry.at)) spot.entry.toks.now nodes.old nodes.new spot.entry.at spot.entry.used result }
 {
-    let open = spot.at + 1;
-    if token::peek(spot.toks, open) != b'[' {
-        return Err(open);
+    if spot.peek() != b'[' {
+        return Err(spot.at);
     }
-    let n = open + 1;
+    let n = spot.at + 1;
     if token::peek(spot.toks, n) == b']' {
-        tree::leaf(nodes, spot.used, base, spot.at);
+        tree::leaf(nodes, spot.used, base, name);
         return Ok((n + 1, spot.used));
     }
     let (m, r, count) = wholes(spot.to(n, spot.used), nodes)?;
     let root = r + 1;
-    tree::node(nodes, root, base + 1, spot.at, 0, count);
+    tree::node(nodes, root, base + 1, name, 0, count);
     Ok((m, root))
 }
 
@@ -132,7 +140,7 @@ pub fn start(spot: Spot, nodes: &mut [u64]) -> Read
 {
     let t = spot.peek();
     if t == Kind::NAME {
-        return starts(spot, nodes, NodeKind::START);
+        return starts(spot.next(), nodes, spot.at, NodeKind::START);
     }
     if t != Kind::WHOLE {
         return Err(spot.at);
@@ -145,7 +153,7 @@ pub fn start(spot: Spot, nodes: &mut [u64]) -> Read
     if token::peek(spot.toks, name) != Kind::NAME {
         return Err(name);
     }
-    starts(spot.to(name, spot.used), nodes, NodeKind::COUNTED)
+    starts(spot.to(name + 1, spot.used), nodes, name, NodeKind::COUNTED)
 }
 
 // The items of the system line, with its `;`. Beside `process::items` stands why this and the reader there are no one function.

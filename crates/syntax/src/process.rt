@@ -93,7 +93,7 @@ pub fn cont(site: Site<0>, nodes: &mut [u64]) -> Counted
     let Site { spot, sums } = site;
     match spot.peek() {
         b'(' => group(site, nodes),
-        Kind::NAME => call(site, nodes),
+        Kind::NAME => call(spot, nodes, sums),
         _ => {
             let inner = Site {
                 spot,
@@ -109,12 +109,11 @@ pub fn cont(site: Site<0>, nodes: &mut [u64]) -> Counted
 
 // A call, from its name on.
 // One generic function for this and `line::starts`, and one for `args` and `line::wholes`, would be longer than the four: a trait with a reader and a kind, and sixteen definitions of what each reads.
-pub fn call(site: Site<0>, nodes: &mut [u64]) -> Counted
-    requires at_value { get_or site.spot.toks.now site.spot.at 0 ≡ kind.name }
-    ensures follows { Follows site.entry.spot.toks.now (site.entry.spot.at + 1) (the_args) (place_counted result) }
-    ensures tallied { Tallied flat_call (λ a. 0) (λ t a. Table.Cont t (call_at a site.entry.spot.at)) site.entry.spot.toks.now nodes.old nodes.new site.entry.spot.at site.entry.spot.used site.entry.sums result }
+pub fn call(spot: Spot, nodes: &mut [u64], sums: usize) -> Counted
+    requires at_value { get_or spot.toks.now spot.at 0 ≡ kind.name }
+    ensures follows { Follows spot.entry.toks.now (spot.entry.at + 1) (the_args) (place_counted result) }
+    ensures tallied { Tallied flat_call (λ a. 0) (λ t a. Table.Cont t (call_at a spot.entry.at)) spot.entry.toks.now nodes.old nodes.new spot.entry.at spot.entry.used sums result }
 {
-    let Site { spot, sums } = site;
     let open = spot.at + 1;
     if token::peek(spot.toks, open) != b'[' {
         return Err(open);
@@ -200,7 +199,7 @@ pub fn item(site: Site<0>, nodes: &mut [u64]) -> Counted
 {
     match site.spot.peek() {
         b'(' => group(site, nodes),
-        Kind::NAME => call(site, nodes),
+        Kind::NAME => call(site.spot, nodes, site.sums),
         _ => sum(site, nodes),
     }
 }

@@ -29,13 +29,13 @@ pub wait_after-requires : goal.wait_after-requires
 wait_after-requires c =
     let l = all-long _ _ _ _ (sym c.are_long.ensures ∙ passed _ c.if-not-are_long.false-raw) in
     let a = (rw c.in-Ok.is at (after-step c.args.model.now c.args.state.now c.args.clock c.args.waiting.now c.args.draw c.args.listing.now (all-long _ _ _ _ (sym c.are_long.ensures ∙ passed _ c.if-not-are_long.false-raw)).1 (sym c.in_range.ensures ∙ passed _ c.if-not-in_range.false-raw) _ _ _ c.step_lent.ensures)) in
-    (ap length c.copy_from_slice.ensures.after ∙ l.1, search rules, in-range c.args.clock (sym c.in_range.ensures ∙ passed _ c.if-not-in_range.false-raw), a.positive refl)
+    (ap length c.copy_from_slice.ensures.after ∙ l.1, search rules, in-range c.args.clock (sym c.in_range.ensures ∙ passed _ c.if-not-in_range.false-raw), rw c.from-in-Ok.ensures (a.positive refl))
 
 pub returns-in-Ok : goal.returns-in-Ok
 returns-in-Ok c =
     let l = all-long _ _ _ _ (sym c.are_long.ensures ∙ passed _ c.if-not-are_long.false-raw) in
     let a = (rw c.in-Ok.is at (after-step c.args.model.now c.args.state.now c.args.clock c.args.waiting.now c.args.draw c.args.listing.now (all-long _ _ _ _ (sym c.are_long.ensures ∙ passed _ c.if-not-are_long.false-raw)).1 (sym c.in_range.ensures ∙ passed _ c.if-not-in_range.false-raw) _ _ _ c.step_lent.ensures)) in
-    rw (timed-right c.args.model.now c.args.state.now c.args.clock c.args.waiting.now c.args.draw c.args.listing.now (sym c.are_long.ensures ∙ passed _ c.if-not-are_long.false-raw)) (a.waits refl _ _ (waited-from c.copy_from_slice.ensures.after c.wait_after.ensures))
+    rw (timed-right c.args.model.now c.args.state.now c.args.clock c.args.waiting.now c.args.draw c.args.listing.now (sym c.are_long.ensures ∙ passed _ c.if-not-are_long.false-raw)) (a.waits refl _ _ (waited-from c.copy_from_slice.ensures.after (rw c.from-in-Ok.ensures at c.wait_after.ensures)))
 
 pub returns-in-Err : goal.returns-in-Err
 returns-in-Err c =

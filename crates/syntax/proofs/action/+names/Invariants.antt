@@ -4,4 +4,4 @@ use lib.ListN.{length}
 use Rattle.syntax.proofs.action.+names.Given as goal
 
 abbrev pub decreases-names : goal.decreases-names
-decreases-names l = length l.spot.toks.now - l.spot.at
+decreases-names l = length l.point.toks.now - l.point.at

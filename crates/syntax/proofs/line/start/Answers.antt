@@ -5,7 +5,7 @@ use Rattle.syntax.proofs.line.start.Goals as goal
 
 pub returns-then-t-eq-NAME : goal.returns-then-t-eq-NAME
 returns-then-t-eq-NAME c =
-    let r = start-once _ _ _ _ _ _ (same c.peek-t.ensures c.if-t-eq-NAME.true) (c.starts.ensures.follows, c.starts.ensures.parsed) in record { follows = r.0; parsed = r.1 }
+    let r = start-once _ _ _ _ _ _ (same c.peek-t.ensures c.if-t-eq-NAME.true) (rw c.next.ensures.1 at c.starts.ensures.follows, rw c.next.ensures.1 at c.starts.ensures.parsed) in record { follows = r.0; parsed = r.1 }
 
 pub returns-then-t-ne-WHOLE : goal.returns-then-t-ne-WHOLE
 returns-then-t-ne-WHOLE c =

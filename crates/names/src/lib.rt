@@ -124,14 +124,7 @@ impl<'a> Context<'a> {
     pub(crate) fn within(&self, scope: Scope) -> Context<'a>
         ensures { result ≡ record { question = self.entry.now.question; kinds = self.entry.now.kinds; contents = self.entry.now.contents; nodes = self.entry.now.nodes; lists = self.entry.now.lists; scope = scope } }
     {
-        Context {
-            question: self.question,
-            kinds: self.kinds,
-            contents: self.contents,
-            nodes: self.nodes,
-            lists: self.lists,
-            scope,
-        }
+        Context { scope, ..*self }
     }
 
     // Its text.

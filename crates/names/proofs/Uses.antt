@@ -7,7 +7,7 @@ use Prim.Native.Nat.{ℕ, ◌+◌, ◌-◌, ◌≤◌, ◌<◌}
 use native.Mathlib.Omega.{arith}
 use lib.Dec.{eqb}
 use lib.ListN.{length, get_or, take}
-use Rattle.std.specs.Prelude.{None, Some}
+use Rattle.std.specs.Prelude.{None, Some, is_some}
 use Rattle.std.specs.Bool.{then_some}
 use mathlib.Core.Logic.{◌⊎◌, inl, inr}
 use Rattle.names.proofs.Earliest.{told}
@@ -47,7 +47,7 @@ asks : asks_names Given ≡ true
 unfolding asks_names
 asks = refl
 
--- ---- the cases of `name_fault`
+-- ---- the cases of `value_fault`, and of `scale_fault`
 module _ {low high nodes : List ℕ} {lists : Lists} {scope : Scope} (h : Setting Given low high nodes lists scope) (k : ℕ) (e : get_or h.world.kinds k 0 ≡ kind.name) (scaling : Bool) where
   abbrev w : ℕ → List ℕ
   w = h.world.word
@@ -123,6 +123,16 @@ module _ {low high nodes : List ℕ} {lists : Lists} {scope : Scope} (h : Settin
 
             pub whole-variable : (b : Bool) → (eqb κ (number_kind false false) || eqb κ (number_kind true false)) ≡ b → least (when (not b) k) ≡ least (faults_at h (used scaling k))
             whole-variable b f = judged b (variable found-variable.found.number) (by-variable (variable found-variable.found.number) found-variable.means) (off scaling s _ _ ∙ number_is ∙ f)
+
+  -- a scale, by both look-ups
+  module _ {f g : Found} (is : f ≡ found_of (place_in (packed low high) k 0 (take scope.count scope.names))) (js : g ≡ found_of (place_in (packed low high) k 0 (names_down nodes lists.root lists.variables))) where
+    scaled-by : scaling ≡ true → (a b : Found) → f ≡ a → g ≡ b → then_some (not (is_some a || is_some b)) k ≡ least (faults_at h (used scaling k))
+    scaled-by s (Some i) b p r = local-used is p
+    scaled-by s None (Some j) p r = any-scale is p js r s
+    scaled-by s None None p r = not_listed is p js r
+
+    pub scaled : scaling ≡ true → (b : Bool) → b ≡ (is_some f || is_some g) → then_some (not b) k ≡ least (faults_at h (used scaling k))
+    scaled s b q = rw q (scaled-by s f g refl refl)
 
 -- ---- the cases of `is_callable`
 module _ {low high nodes : List ℕ} {lists : Lists} (h : World Given low high nodes lists) (k n : ℕ) (e : IsName h.kinds k) where

@@ -285,18 +285,14 @@ pub fn is_whole(kind: u8) -> bool
     matches!(kind, NodeKind::NUMBER | NodeKind::NEGATIVE_NUMBER)
 }
 
-// Question 9 of a name that is used as a scale. By ifs, one for each list that may give the name, as `value_fault` has them.
+// Question 9 of a name that is used as a scale.
 fn scale_fault(parsed: &Parsed, scope: Scope, k: usize) -> Option<usize>
     requires { (h : SettingIn Given parsed.now scope) × IsName h.world.kinds k }
     ensures { (h : SettingIn Given parsed.entry.now scope) → IsName h.world.kinds k → result ≡ least (faults_at h (used true k)) }
 {
-    if local_named(parsed.contents, scope, k).is_some() {
-        return None;
-    }
-    if parsed.variable_named(k).is_some() {
-        return None;
-    }
-    Some(k)
+    let given = local_named(parsed.contents, scope, k).is_some()
+        || parsed.variable_named(k).is_some();
+    (!given).then_some(k)
 }
 
 // Question 9 of a name that is used as a value, which has to be whole.

@@ -20,7 +20,7 @@ ghost use Rattle.model.specs.Given.{place_in, is_callable};
 ghost use Rattle.names.specs.Tables.{Tabled, Read};
 ghost use Rattle.names.specs.Judged.{among_all, fault_of, answer_of, judged_names};
 ghost use Rattle.names.specs.Faults.{earlier_of, left_out, site_faults};
-ghost use Rattle.names.specs.Lists.{packed_in, found_of, name_at, names_down, InScope, ReachIn, run, Gathered};
+ghost use Rattle.names.specs.Lists.{packed_in, found_of, name_at, names_down, InScope, ReachIn, run, Gathered, NodeNamed};
 ghost use Rattle.names.specs.Settings.{Extended, WorldIn, SettingIn, WorldOf, SettingOf, BindingOf, faults_at, known_in};
 ghost use Rattle.names.specs.Leaves.{used, leaf_sites, site_at, between};
 ghost use Rattle.names.specs.Placed.{IsName, Named, sort_of, wholes, names};
@@ -257,6 +257,17 @@ impl<'a> Parsed<'a> {
             k,
         )
     }
+
+    // The node of the definition with the name k; the root of its sums is the node before it.
+    // settle and opening go to a definition by its number, in nodes of which they know other facts (LookupIn, ItemAt).
+    pub fn definition_node(self, k: usize) -> Option<usize>
+        requires { (h : WorldIn Given self) × IsName h.kinds k }
+        ensures { (h : WorldIn Given self.entry) → IsName h.kinds k → NodeNamed self.entry.nodes.now h.word (definitions h.model) k result }
+    {
+        let j = self.definition_named(k)?;
+        let first = self.lists.first_definition();
+        Some(tree::left_of(self.nodes[first - j]))
+    }
 }
 
 // Question 7 of a whole number, which has to have a value.
@@ -313,16 +324,15 @@ fn value_fault(parsed: &Parsed, scope: Scope, k: usize) -> Option<usize>
     Some(k)
 }
 
-// Whether the definition with the name k has n parameters. The definition's node is found alike in steady, settle and opening, by three facts: WorldIn, LookupIn and ItemAt.
+// Whether the definition with the name k has n parameters.
 fn is_callable(parsed: &Parsed, k: usize, n: usize) -> bool
     requires { (h : WorldIn Given parsed.now) × IsName h.kinds k }
     ensures { (h : WorldIn Given parsed.entry.now) → IsName h.kinds k → result ≡ is_callable h.word (definitions h.model) k n }
 {
-    let Some(j) = parsed.definition_named(k) else {
+    let Some(d) = parsed.definition_node(k) else {
         return false;
     };
-    let first = parsed.lists.first_definition();
-    tree::third_of(parsed.nodes[tree::left_of(parsed.nodes[first - j])]) == n
+    tree::third_of(parsed.nodes[d]) == n
 }
 
 // The faults of a call, or of an item of the system line, with n values.

@@ -26,16 +26,14 @@ pub enum Profile {
     Steady,
 }
 
-// Whether the definition with the name k has more than one sum. The root of its sums is the node before its own.
+// Whether the definition with the name k has more than one sum.
 fn has_several(parsed: Parsed, k: usize) -> bool
     requires { (h : WorldIn Given parsed) × IsName h.kinds k }
     ensures { (h : WorldIn Given parsed.entry) → IsName h.kinds k → result ≡ several_sums h.word (definitions h.model) k }
 {
-    let Some(j) = parsed.definition_named(k) else {
+    let Some(d) = parsed.definition_node(k) else {
         return false;
     };
-    let first = parsed.lists.first_definition();
-    let d = tree::left_of(parsed.nodes[first - j]);
     tree::kind_of(parsed.nodes[d - 1]) == NodeKind::BESIDE
 }
 

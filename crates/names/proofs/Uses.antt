@@ -122,8 +122,8 @@ module _ {low high nodes : List ℕ} {lists : Lists} {scope : Scope} (h : Settin
                 let c : κ ≡ kind_at nodes r.left = κ-is ∙ ap (λ (l : ℕ). kind_at nodes l) (node-left r.node (omega arith)) in
                 rw c (whole-number nodes found-variable.found.number r.left r.left r.number)
 
-            pub whole-variable : (b : Bool) → (eqb κ (number_kind false false) || eqb κ (number_kind true false)) ≡ b → least (when (not b) k) ≡ least (faults_at h (used scaling k))
-            whole-variable b f = judged b (variable found-variable.found.number) (by-variable (variable found-variable.found.number) found-variable.means) (off scaling s _ _ ∙ number_is ∙ f)
+            pub whole-variable : (b : Bool) → b ≡ (eqb κ (number_kind false false) || eqb κ (number_kind true false)) → then_some (not b) k ≡ least (faults_at h (used scaling k))
+            whole-variable b f = told (not b) k ∙ judged b (variable found-variable.found.number) (by-variable (variable found-variable.found.number) found-variable.means) (off scaling s _ _ ∙ number_is ∙ sym f)
 
   -- a scale, by both look-ups
   module _ {f g : Found} (is : f ≡ found_of (place_in (packed low high) k 0 (take scope.count scope.names))) (js : g ≡ found_of (place_in (packed low high) k 0 (names_down nodes lists.root lists.variables))) where

@@ -318,10 +318,8 @@ fn value_fault(parsed: &Parsed, scope: Scope, k: usize) -> Option<usize>
     let Some(j) = parsed.variable_named(k) else {
         return Some(k);
     };
-    if is_whole(tree::kind_of(parsed.nodes[tree::left_of(parsed.nodes[root - j])])) {
-        return None;
-    }
-    Some(k)
+    let whole = is_whole(tree::kind_of(parsed.nodes[tree::left_of(parsed.nodes[root - j])]));
+    (!whole).then_some(k)
 }
 
 // Whether the definition with the name k has n parameters.

@@ -270,24 +270,6 @@ impl<'a> Parsed<'a> {
     }
 }
 
-// Question 7 of a whole number, which has to have a value.
-fn whole_fault(contents: &[Content], k: usize) -> Option<usize>
-    requires { (k < length contents.now) × (get_or (lows_in contents.now) k 0 ≤ cap) }
-    ensures { (w : ℕ → List ℕ) → get_or (lows_in contents.now) k 0 ≡ min cap (worth 0 (w k)) → result ≡ least (whole_beyond w false k) }
-{
-    let z = contents[k].low as i64;
-    value::value_of(z).is_none().then_some(k)
-}
-
-// Question 7 of a whole number with `-`.
-fn negative_fault(contents: &[Content], k: usize) -> Option<usize>
-    requires { (k < length contents.now) × (get_or (lows_in contents.now) k 0 ≤ cap) }
-    ensures { (w : ℕ → List ℕ) → get_or (lows_in contents.now) k 0 ≡ min cap (worth 0 (w k)) → result ≡ least (whole_beyond w true k) }
-{
-    let z = contents[k].low as i64;
-    value::neg_value(z).is_none().then_some(k)
-}
-
 // Whether a variable's number is whole, by the kind of its node.
 #[tactic(auto, unfolding(tree::specs::Node::number_kind))]
 pub fn is_whole(kind: u8) -> bool
@@ -349,11 +331,12 @@ fn number_fault(contents: &[Content], kind: u8, k: usize) -> Option<usize>
     requires { sort_of kind ≡ wholes → (k < length contents.now) × (get_or (lows_in contents.now) k 0 ≤ cap) }
     ensures { (w : ℕ → List ℕ) (sc : List ℕ) → (sort_of kind ≡ wholes → get_or (lows_in contents.now) k 0 ≡ min cap (worth 0 (w k))) → result ≡ least (each (site_beyond w sc) (leaf_sites kind k)) }
 {
-    match kind {
-        NodeKind::LITERAL | NodeKind::NUMBER => whole_fault(contents, k),
-        NodeKind::NEGATIVE | NodeKind::NEGATIVE_NUMBER => negative_fault(contents, k),
-        _ => None,
-    }
+    let value = match kind {
+        NodeKind::LITERAL | NodeKind::NUMBER => value::value_of(contents[k].low as i64),
+        NodeKind::NEGATIVE | NodeKind::NEGATIVE_NUMBER => value::neg_value(contents[k].low as i64),
+        _ => return None,
+    };
+    value.is_none().then_some(k)
 }
 
 // Question 9 of a node: a name that isn't given.

@@ -1,6 +1,7 @@
 #![tactic(auto)]
 
 // Questions 7, 8 and 9 of a text that fits.
+mod list;
 mod scope;
 pub mod walk;
 
@@ -14,18 +15,19 @@ ghost use Rattle.tree.specs.Table;
 ghost use Rattle.model.specs.Lists.{least, when, each, any, every_other};
 ghost use Rattle.model.specs.Sites.{bound, branch, call, Variable, Definition, variables, definitions};
 ghost use Rattle.model.specs.Words.{same};
-ghost use Rattle.model.specs.Limits.{local_limit, is_missing, words_beyond, whole_beyond, site_beyond};
+ghost use Rattle.model.specs.Limits.{local_limit, words_beyond, site_beyond};
 ghost use Rattle.model.specs.Fresh.{repeated};
 ghost use Rattle.model.specs.Given.{place_in, is_callable};
 ghost use Rattle.names.specs.Tables.{Tabled, Read};
 ghost use Rattle.names.specs.Judged.{among_all, fault_of, answer_of, judged_names};
 ghost use Rattle.names.specs.Faults.{earlier_of, left_out, site_faults};
-ghost use Rattle.names.specs.Lists.{packed_in, found_of, name_at, names_down, InScope, ReachIn, run, Gathered, NodeNamed};
+ghost use Rattle.names.specs.Lists.{packed_in, found_of, names_down, InScope, ReachIn, run, Gathered, NodeNamed};
 ghost use Rattle.names.specs.Settings.{Extended, WorldIn, SettingIn, WorldOf, SettingOf, BindingOf, faults_at, known_in};
 ghost use Rattle.names.specs.Leaves.{used, leaf_sites, site_at, between};
 ghost use Rattle.names.specs.Placed.{IsName, Named, sort_of, wholes, names};
 ghost use Rattle.names.specs.declared.Question.TheVariants.{Limits, Fresh, Given};
 
+use list::NameList;
 pub use scope::Scope;
 use token::{Content, Kind};
 use tree::NodeKind;
@@ -212,35 +214,40 @@ pub fn local_named(contents: &[Content], scope: Scope, k: usize) -> Option<usize
         .position(|&name| same_name(contents, k, name as usize))
 }
 
-// The name in a list's node.
-fn listed_name(nodes: &[u64], i: usize) -> usize
-    requires { (i < length nodes.now) × (left_of (get_or nodes.now i 0) < length nodes.now) }
-    ensures { result ≡ name_at nodes.now i }
-{
-    let node = nodes[i];
-    if tree::kind_of(node) == NodeKind::VARIABLE {
-        return tree::token_of(node);
-    }
-    tree::token_of(nodes[tree::left_of(node)])
-}
-
-// The place of the name k in the list of n that goes down from the node `first`.
-pub fn listed(parsed: Parsed, first: usize, n: usize, k: usize) -> Option<usize>
-    requires reach { ReachIn parsed first n }
-    requires k_in_bounds { k < length parsed.contents.now }
-    ensures { result ≡ found_of (place_in (packed_in parsed.entry.contents.now) k 0 (names_down parsed.entry.nodes.now first n)) }
-{
-    (0..n).find(|&j| same_name(parsed.contents, k, listed_name(parsed.nodes, first - j)))
-}
-
 impl<'a> Parsed<'a> {
+    // The list of the variables' names.
+    pub(crate) fn variables(self) -> NameList<'a>
+        requires { ReachIn self self.lists.root self.lists.variables }
+        ensures { (result.contents ≡ self.entry.contents) × (result.nodes ≡ self.entry.nodes) × (result.first ≡ self.entry.lists.root) × (result.count ≡ self.entry.lists.variables) }
+    {
+        NameList {
+            contents: self.contents,
+            nodes: self.nodes,
+            first: self.lists.root,
+            count: self.lists.variables,
+        }
+    }
+
+    // The list of the definitions' names.
+    pub(crate) fn definitions(self) -> NameList<'a>
+        requires { (self.lists.variables ≤ self.lists.root) × ReachIn self (self.lists.root - self.lists.variables) self.lists.definitions }
+        ensures { (result.contents ≡ self.entry.contents) × (result.nodes ≡ self.entry.nodes) × (result.first ≡ self.entry.lists.root - self.entry.lists.variables) × (result.count ≡ self.entry.lists.definitions) }
+    {
+        NameList {
+            contents: self.contents,
+            nodes: self.nodes,
+            first: self.lists.first_definition(),
+            count: self.lists.definitions,
+        }
+    }
+
     // The place of the variable with the name k among the variables.
     pub fn variable_named(self, k: usize) -> Option<usize>
         requires reach { ReachIn self self.lists.root self.lists.variables }
         requires k_in_bounds { k < length self.contents.now }
         ensures { result ≡ found_of (place_in (packed_in self.entry.contents.now) k 0 (names_down self.entry.nodes.now self.entry.lists.root self.entry.lists.variables)) }
     {
-        listed(self, self.lists.root, self.lists.variables, k)
+        self.variables().place_of(k)
     }
 
     // The place of the definition with the name k among the definitions.
@@ -250,12 +257,7 @@ impl<'a> Parsed<'a> {
         requires k_in_bounds { k < length self.contents.now }
         ensures { result ≡ found_of (place_in (packed_in self.entry.contents.now) k 0 (names_down self.entry.nodes.now (self.entry.lists.root - self.entry.lists.variables) self.entry.lists.definitions)) }
     {
-        listed(
-            self,
-            self.lists.first_definition(),
-            self.lists.definitions,
-            k,
-        )
+        self.definitions().place_of(k)
     }
 
     // The node of the definition with the name k; the root of its sums is the node before it.

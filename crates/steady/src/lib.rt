@@ -1,7 +1,6 @@
 #![tactic(auto)]
 
 // The steady profile: question 29 of a text, and opening a text under it.
-ghost use Rattle.token.specs.Contents.{lows_in, highs_in};
 ghost use Rattle.std.specs.Prelude.{◌≡◌, List, ℕ, ◌≤◌};
 ghost use Rattle.grammar.specs.Syntax;
 ghost use Rattle.model.specs.Lists.{least};

@@ -23,7 +23,7 @@ use Rattle.tree.proofs.Holds.{model-interval, definitions-interval, system-inter
 use Rattle.tree.proofs.Cells.{node-kind, node-token, node-left}
 use Rattle.model.specs.Lists.{each, every_other}
 use Rattle.model.specs.Sites.{Variable, Definition, variables, definitions, definitions_in, names, titles, tokens_of, params_of}
-use Rattle.names.specs.Lists.{name_at, names_down, run, Gathered}
+use Rattle.names.specs.Lists.{name_at, names_down, run, Gathered, DefinitionNode}
 
 module _ (t : List ℕ) where
   -- ---- runs of nodes of one kind
@@ -89,7 +89,7 @@ module _ (t : List ℕ) where
     pub root : ℕ
     pub left : left_of (get_or t i 0) ≡ root
     pub other : kind_at t i ≡ node.variable → ⊥
-    pub node : Node t root node.definition d.name 0 (length d.params)
+    pub at : DefinitionNode t d root
     pub below : root < i
 
   pub variable-name : {v : Variable} {i : ℕ} → VariableAt v i → name_at t i ≡ v.name
@@ -98,7 +98,7 @@ module _ (t : List ℕ) where
 
   pub definition-name : {d : Definition} {i : ℕ} → DefinitionAt d i → name_at t i ≡ d.name
   unfolding name_at
-  definition-name {i = i} h = simp (ne_eqb (kind_at t i) node.variable h.other) (rw h.left (node-token h.node (omega arith)))
+  definition-name {i = i} h = simp (ne_eqb (kind_at t i) node.variable h.other) (rw h.left (node-token h.at.node (omega arith)))
 
   -- a number is one node
   scale-leaf : (s : Syntax.Scale) (lo k : ℕ) → Table.Scale t s lo k → lo ≡ k
@@ -118,15 +118,20 @@ module _ (t : List ℕ) where
   every-length k zero = refl
   every-length k (suc n) = ap suc (every-length (k + 2) n)
 
-  definition-node : (n : ℕ) (p : Syntax.Params) (b : Syntax.Sums) (lo k : ℕ) → Table.Definition t n p b lo k → Node t k node.definition n 0 (length (params_of p))
+  definition-node : (n : ℕ) (p : Syntax.Params) (b : Syntax.Sums) (lo k : ℕ) → Table.Definition t n p b lo k → DefinitionNode t (record { name = n; params = params_of p; sums = b }) k
   unfolding Table.Definition params_of tokens_of
-  definition-node n Syntax.no_params b lo k h = h.node
-  definition-node n (Syntax.params (Syntax.names f m)) b lo k h = rw (every-length f m) h.2.node
+  definition-node n Syntax.no_params b lo k h =
+      let e : h.root ≡ k - 1 = omega (arith, h.above) in
+      record { node = h.node; after = omega (arith, h.above); low = lo; sums = rw e at h.holds }
+  definition-node n (Syntax.params (Syntax.names f m)) b lo k h =
+      let o = h.2 in
+      let e : o.root ≡ k - 1 = omega (arith, o.above) in
+      record { node = rw (every-length f m) o.node; after = omega (arith, o.above); low = lo; sums = rw e at o.holds }
 
   -- of the node above a definition and what follows it
   listed_by : (κ n : ℕ) (p : Syntax.Params) (b : Syntax.Sums) (lo left k : ℕ) → κ < 65 → Node t k κ 0 left 0 → Table.Definition t n p b lo left → left < k → DefinitionAt (record { name = n; params = params_of p; sums = b }) k
   listed_by κ n p b lo left k l h d u =
-      record { root = left; left = node-left h (omega arith); other = λ e. omega (arith, node-kind h (omega arith)); node = definition-node n p b lo left d; below = u }
+      record { root = left; left = node-left h (omega arith); other = λ e. omega (arith, node-kind h (omega arith)); at = definition-node n p b lo left d; below = u }
 
   -- ---- lists of them, one in each node from k down
   abbrev pub VariablesAt : List Variable → ℕ → Type 0

@@ -20,7 +20,6 @@ use Rattle.model.specs.Given.{not_given}
 use Rattle.names.specs.declared.Question.{Question}
 use Rattle.names.specs.declared.Question.TheVariants.{Limits, Fresh, Given}
 use Rattle.names.specs.declared.Fault.{Fault}
-use Rattle.names.specs.declared.Lists.{Lists}
 use Rattle.names.specs.declared.Parsed.{Parsed}
 use Rattle.names.specs.Faults.{earlier_of, asks_names, tree_faults}
 use Rattle.names.specs.Walks.{Ground, TreeRoom}

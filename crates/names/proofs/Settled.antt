@@ -40,7 +40,7 @@ module _ (t ts : List ℕ) where
   definitions-named [] k h f = tt
   definitions-named (d ∷ ds) k h f =
       let l = h.0.below in
-      ((node-fits ts h.0.node (omega arith) (f h.0.root (omega arith))).0, definitions-named ds (k - 1) h.1 (λ i l. f i (omega arith)))
+      ((node-fits ts h.0.at.node (omega arith) (f h.0.root (omega arith))).0, definitions-named ds (k - 1) h.1 (λ i l. f i (omega arith)))
 
   -- ---- each of a list
   variable-each : (vs : List Variable) (k : ℕ) → VariablesAt t vs k → (j : ℕ) → j < length vs → (v : Variable) × VariableAt t v (k - j) × (get_or (names vs) j 0 ≡ v.name)

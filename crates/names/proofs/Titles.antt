@@ -26,7 +26,7 @@ use Rattle.names.specs.declared.Lists.{Lists}
 use Rattle.names.specs.declared.scope.Scope.{Scope}
 use Rattle.names.specs.Faults.{earlier_of, asks_names, site_faults, tree_faults}
 use Rattle.names.specs.Leaves.{site_at, between}
-use Rattle.names.specs.Lists.{packed, found_of, is_found, name_at, names_down, Reach}
+use Rattle.names.specs.Lists.{packed, found_of, is_found, name_at, names_down}
 use Rattle.names.specs.Placed.{IsName, Named}
 use Rattle.names.specs.Settings.{World, Setting, faults_at}
 use Rattle.names.specs.Walks.{faults_over, Ground, list_faults, number_faults, param_faults, definition_faults, start_faults, lines_faults, lines_judged, LinesRoom, TreeRoom}
@@ -99,10 +99,7 @@ module _ (w : ℕ → List ℕ) (ks : List ℕ) (k m : ℕ) (is : k ≡ m) (f : 
   pub again : then_some (is_some f) k ≡ least (when (any (same w m) ks) m)
   again = told (is_some f) k ∙ rw (any-is, found-some f, is)
 
-pub reach-less : (low high nodes : List ℕ) (first n m : ℕ) → m ≤ n → Reach low high nodes first n → Reach low high nodes first m
-reach-less low high nodes first n m l r = record { count = omega (arith, r.count); each = λ j k. r.each j (omega arith) }
-
--- ---- the cases of `list_fault`
+-- ---- the cases of `NameList::fault`
 module _ (w : ℕ → List ℕ) (limit : ℕ) (ks : List ℕ) (q : Question) (r : Found) where
   pub list-limits : q ≡ Limits → r ≡ least (drop limit ks) → r ≡ least (list_faults q w limit ks)
   unfolding list_faults

@@ -7,27 +7,28 @@ use Prim.Native.Nat.{ℕ, ◌+◌, ◌-◌, ◌≤◌, ◌<◌}
 use native.Mathlib.Omega.{arith}
 use lib.Dec.{eqb}
 use lib.ListN.{length, get_or, take}
-use Rattle.std.specs.Prelude.{None, Some}
+use Rattle.std.specs.Prelude.{None, Some, is_some}
 use Rattle.std.specs.Bool.{then_some}
 use mathlib.Core.Logic.{◌⊎◌, inl, inr}
 use Rattle.names.proofs.Earliest.{told}
 use Rattle.token.specs.Questions.{Found}
+use Rattle.grammar.proofs.Follows.{inside}
 use Rattle.token.specs.Kind as kind
 use Rattle.tree.specs.Node.{kind_of, left_of, third_of, number_kind}
 use Rattle.tree.proofs.Interval.{kind_at}
-use Rattle.tree.proofs.Cells.{node-left, node-third}
+use Rattle.tree.proofs.Cells.{node-kind, node-left, node-third}
 use Rattle.model.specs.Lists.{when, earlier, least}
 use Rattle.model.specs.Sites.{call, variables, definitions}
 use Rattle.model.specs.Limits.{site_beyond}
 use Rattle.model.specs.Fresh.{site_repeated}
-use Rattle.model.specs.Given.{Meaning, local, variable, nothing, or_else, is_value, is_given, takes, place_in, variable_named, meaning, is_callable, site_wrong}
+use Rattle.model.specs.Given.{Meaning, local, variable, nothing, or_else, is_value, is_given, takes, place_in, variable_named, definition_named, meaning, is_callable, site_wrong}
 use Rattle.names.specs.declared.Question.{Question}
 use Rattle.names.specs.declared.Question.TheVariants.{Limits, Fresh, Given}
 use Rattle.names.specs.declared.Lists.{Lists}
 use Rattle.names.specs.declared.scope.Scope.{Scope}
 use Rattle.names.specs.Faults.{asks_names, site_faults}
 use Rattle.names.specs.Leaves.{used}
-use Rattle.names.specs.Lists.{packed, found_of, names_down}
+use Rattle.names.specs.Lists.{packed, found_of, names_down, NodeNamed}
 use Rattle.names.specs.Settings.{World, Setting, faults_at}
 use Rattle.names.proofs.Namings.{FoundVariable, variable-found, variable-none, FoundDefinition, definition-found, definition-none, whole-number}
 use Rattle.names.proofs.Settled.{vs, ds, vs-at, ds-at, vs-few, reach-variables, all-variables, all-definitions, place-locals, root_in}
@@ -47,7 +48,7 @@ asks : asks_names Given ≡ true
 unfolding asks_names
 asks = refl
 
--- ---- the cases of `name_fault`
+-- ---- the cases of `value_fault`, and of `scale_fault`
 module _ {low high nodes : List ℕ} {lists : Lists} {scope : Scope} (h : Setting Given low high nodes lists scope) (k : ℕ) (e : get_or h.world.kinds k 0 ≡ kind.name) (scaling : Bool) where
   abbrev w : ℕ → List ℕ
   w = h.world.word
@@ -121,20 +122,29 @@ module _ {low high nodes : List ℕ} {lists : Lists} {scope : Scope} (h : Settin
                 let c : κ ≡ kind_at nodes r.left = κ-is ∙ ap (λ (l : ℕ). kind_at nodes l) (node-left r.node (omega arith)) in
                 rw c (whole-number nodes found-variable.found.number r.left r.left r.number)
 
-            pub whole-variable : (b : Bool) → (eqb κ (number_kind false false) || eqb κ (number_kind true false)) ≡ b → least (when (not b) k) ≡ least (faults_at h (used scaling k))
-            whole-variable b f = judged b (variable found-variable.found.number) (by-variable (variable found-variable.found.number) found-variable.means) (off scaling s _ _ ∙ number_is ∙ f)
+            pub whole-variable : (b : Bool) → b ≡ (eqb κ (number_kind false false) || eqb κ (number_kind true false)) → then_some (not b) k ≡ least (faults_at h (used scaling k))
+            whole-variable b f = told (not b) k ∙ judged b (variable found-variable.found.number) (by-variable (variable found-variable.found.number) found-variable.means) (off scaling s _ _ ∙ number_is ∙ sym f)
 
--- ---- the cases of `is_callable`
-module _ {low high nodes : List ℕ} {lists : Lists} (h : World Given low high nodes lists) (k n : ℕ) (e : IsName h.kinds k) where
+  -- a scale, by both look-ups
+  module _ {f g : Found} (is : f ≡ found_of (place_in (packed low high) k 0 (take scope.count scope.names))) (js : g ≡ found_of (place_in (packed low high) k 0 (names_down nodes lists.root lists.variables))) where
+    scaled-by : scaling ≡ true → (a b : Found) → f ≡ a → g ≡ b → then_some (not (is_some a || is_some b)) k ≡ least (faults_at h (used scaling k))
+    scaled-by s (Some i) b p r = local-used is p
+    scaled-by s None (Some j) p r = any-scale is p js r s
+    scaled-by s None None p r = not_listed is p js r
+
+    pub scaled : scaling ≡ true → (b : Bool) → b ≡ (is_some f || is_some g) → then_some (not b) k ≡ least (faults_at h (used scaling k))
+    scaled s b q = rw q (scaled-by s f g refl refl)
+
+-- ---- the cases of `definition_node`
+module _ {low high nodes : List ℕ} {lists : Lists} (h : World Given low high nodes lists) (k : ℕ) (e : IsName h.kinds k) where
   pub variables-below : lists.variables ≤ lists.root
   variables-below = omega (arith, (reach-variables h lists.variables (omega arith)).count, vs-few h, h.gathered.variables-are)
 
   module _ {f : Found} (is : f ≡ found_of (place_in (packed low high) k 0 (names_down nodes (lists.root - lists.variables) lists.definitions))) where
-    pub not-defined : f ≡ None → false ≡ is_callable h.word (ds h) k n
-    unfolding is_callable takes
+    pub not-defined : f ≡ None → definition_named h.word k 0 (ds h) ≡ none
     not-defined q =
         let o = sym (all-definitions h asks k e) ∙ no_place (place_in (packed low high) k 0 (names_down nodes (lists.root - lists.variables) lists.definitions)) is q in
-        sym (ap (takes n) (definition-none h.word k nodes (ds h) 0 o))
+        definition-none h.word k nodes (ds h) 0 o
 
     module _ {j : ℕ} (q : f ≡ Some j) where
       found-definition : FoundDefinition h.word k nodes (ds h) (lists.root - lists.variables) 0 j
@@ -143,18 +153,37 @@ module _ {low high nodes : List ℕ} {lists : Lists} (h : World Given low high n
           let z : j ≡ 0 + j = omega arith in
           definition-found h.word k nodes (ds h) (lists.root - lists.variables) 0 j (ds-at h) (o ∙ ap some z)
 
-      pub defined-inside : (j ≤ lists.root - lists.variables) × (lists.root - lists.variables - j < length nodes) × (left_of (get_or nodes (lists.root - lists.variables - j) 0) < length nodes)
+      pub defined-inside : (j ≤ lists.root - lists.variables) × (lists.root - lists.variables - j < length nodes)
       defined-inside =
           let r = found-definition in
           let l = r.stands.below in
-          (omega arith, omega (arith, root_in h), rw r.stands.left (omega (arith, root_in h)))
+          (omega arith, omega (arith, root_in h))
 
-      pub defined-takes : (m : ℕ) → m ≡ third_of (get_or nodes (left_of (get_or nodes (lists.root - lists.variables - j) 0)) 0) → eqb m n ≡ is_callable h.word (ds h) k n
-      unfolding is_callable takes
-      defined-takes m c =
+      pub defined-node : NodeNamed nodes h.word (ds h) k (Some (left_of (get_or nodes (lists.root - lists.variables - j) 0)))
+      defined-node =
           let r = found-definition in
-          let p : m ≡ length r.found.params = c ∙ ap (λ (i : ℕ). third_of (get_or nodes i 0)) r.stands.left ∙ node-third r.stands.node (omega arith) in
-          rw p (sym (ap (takes n) r.means))
+          ((0 + j, r.found), r.means, rw r.stands.left r.stands.at)
+
+-- ---- the cases of `is_callable`
+module _ {low high nodes : List ℕ} {lists : Lists} (h : World Given low high nodes lists) (k : ℕ) {f : Found} (is : NodeNamed nodes h.word (ds h) k f) where
+  pub not-callable : (n : ℕ) → f ≡ None → false ≡ is_callable h.word (ds h) k n
+  unfolding is_callable takes
+  not-callable n q = let d : definition_named h.word k 0 (ds h) ≡ none = rw q at is in rw d refl
+
+  module _ {i : ℕ} (q : f ≡ Some i) where
+    pub found-node : NodeNamed nodes h.word (ds h) k (Some i)
+    found-node = rw q at is
+
+    pub node-inside : i < length nodes
+    unfolding kind_of
+    node-inside = inside nodes i (omega (arith, node-kind found-node.2.node (omega arith)))
+
+    pub node-takes : (n m : ℕ) → m ≡ third_of (get_or nodes i 0) → eqb m n ≡ is_callable h.word (ds h) k n
+    unfolding is_callable takes
+    node-takes n m c =
+        let d = found-node in
+        let p : m ≡ length d.0.1.params = c ∙ node-third d.2.node (omega arith) in
+        rw p (sym (ap (takes n) d.1))
 
 -- ---- the cases of `call_fault`
 module _ (low high nodes : List ℕ) (lists : Lists) (k n : ℕ) where

@@ -51,7 +51,7 @@ negative (suc x) (suc y) e = by (leb x (mag least)) refl
     by true h = let l = leb-true x (mag least) h in rw (h, le-leb y (mag least) (omega arith))
     by false h = let l = leb-false x (mag least) h in rw (h, lt-leb y (mag least) (omega arith))
 
--- ---- the cases of `whole_fault` and `negative_fault`, where a local holds x as an i64
+-- ---- the cases of `number_fault`, where x is the number as an i64
 module _ (x : ℕ) (small : x ≤ cap) where
   as_is : to_z w64 x ≡ pos x
   as_is = to_z_pos w64 (omega arith)

@@ -7,7 +7,10 @@ use Rattle.token.specs.Questions.{Found}
 use Rattle.grammar.specs.Syntax
 use Rattle.tree.specs.Node as node
 use Rattle.tree.specs.Node.{kind_of, token_of, left_of}
-use Rattle.model.specs.Sites.{variables, definitions}
+use Rattle.tree.specs.Table
+use Rattle.tree.specs.Table.{Node}
+use Rattle.model.specs.Sites.{Definition, variables, definitions}
+use Rattle.model.specs.Given.{definition_named}
 use Rattle.model.specs.Limits.{local_limit}
 use Rattle.names.specs.declared.Lists.{Lists}
 use Rattle.names.specs.declared.scope.Scope.{Scope}
@@ -72,3 +75,15 @@ pub record Gathered (m : Syntax.Model) (root : ℕ) (lists : Lists) : Type 0 whe
   pub root_is : lists.root ≡ root
   pub variables-are : lists.variables ≡ length (variables m)
   pub definitions-are : lists.definitions ≡ length (definitions m)
+
+-- the node i is that of the definition d, and the root of its sums stands before it (01, Model text)
+pub record DefinitionNode (t : List ℕ) (d : Definition) (i : ℕ) : Type 0 where
+  pub node : Node t i node.definition d.name 0 (length d.params)
+  pub after : 0 < i
+  pub low : ℕ
+  pub sums : Table.Sums t d.sums low (i - 1)
+
+-- the node of the definition with the name k, or none where none has it (01, Model text); w: the bytes of each token
+abbrev pub NodeNamed : List ℕ → (ℕ → List ℕ) → List Definition → ℕ → Found → Type 0
+NodeNamed t w ds k (Some i) = (p : ℕ × Definition) × (definition_named w k 0 ds ≡ some p) × DefinitionNode t p.1 i
+NodeNamed t w ds k None = definition_named w k 0 ds ≡ none

@@ -1,6 +1,7 @@
 #![tactic(auto)]
 
 // Questions 7, 8 and 9 of a text that fits.
+mod list;
 mod scope;
 pub mod walk;
 
@@ -14,18 +15,19 @@ ghost use Rattle.tree.specs.Table;
 ghost use Rattle.model.specs.Lists.{least, when, each, any, every_other};
 ghost use Rattle.model.specs.Sites.{bound, branch, call, Variable, Definition, variables, definitions};
 ghost use Rattle.model.specs.Words.{same};
-ghost use Rattle.model.specs.Limits.{local_limit, is_missing, words_beyond, whole_beyond, site_beyond};
+ghost use Rattle.model.specs.Limits.{local_limit, words_beyond, site_beyond};
 ghost use Rattle.model.specs.Fresh.{repeated};
 ghost use Rattle.model.specs.Given.{place_in, is_callable};
 ghost use Rattle.names.specs.Tables.{Tabled, Read};
 ghost use Rattle.names.specs.Judged.{among_all, fault_of, answer_of, judged_names};
 ghost use Rattle.names.specs.Faults.{earlier_of, left_out, site_faults};
-ghost use Rattle.names.specs.Lists.{packed_in, found_of, name_at, names_down, InScope, ReachIn, run, Gathered};
+ghost use Rattle.names.specs.Lists.{packed_in, found_of, names_down, InScope, ReachIn, run, Gathered, NodeNamed};
 ghost use Rattle.names.specs.Settings.{Extended, WorldIn, SettingIn, WorldOf, SettingOf, BindingOf, faults_at, known_in};
 ghost use Rattle.names.specs.Leaves.{used, leaf_sites, site_at, between};
 ghost use Rattle.names.specs.Placed.{IsName, Named, sort_of, wholes, names};
 ghost use Rattle.names.specs.declared.Question.TheVariants.{Limits, Fresh, Given};
 
+use list::NameList;
 pub use scope::Scope;
 use token::{Content, Kind};
 use tree::NodeKind;
@@ -124,14 +126,7 @@ impl<'a> Context<'a> {
     pub(crate) fn within(&self, scope: Scope) -> Context<'a>
         ensures { result ≡ record { question = self.entry.now.question; kinds = self.entry.now.kinds; contents = self.entry.now.contents; nodes = self.entry.now.nodes; lists = self.entry.now.lists; scope = scope } }
     {
-        Context {
-            question: self.question,
-            kinds: self.kinds,
-            contents: self.contents,
-            nodes: self.nodes,
-            lists: self.lists,
-            scope,
-        }
+        Context { scope, ..*self }
     }
 
     // Its text.
@@ -219,35 +214,40 @@ pub fn local_named(contents: &[Content], scope: Scope, k: usize) -> Option<usize
         .position(|&name| same_name(contents, k, name as usize))
 }
 
-// The name in a list's node.
-fn listed_name(nodes: &[u64], i: usize) -> usize
-    requires { (i < length nodes.now) × (left_of (get_or nodes.now i 0) < length nodes.now) }
-    ensures { result ≡ name_at nodes.now i }
-{
-    let node = nodes[i];
-    if tree::kind_of(node) == NodeKind::VARIABLE {
-        return tree::token_of(node);
-    }
-    tree::token_of(nodes[tree::left_of(node)])
-}
-
-// The place of the name k in the list of n that goes down from the node `first`.
-pub fn listed(parsed: Parsed, first: usize, n: usize, k: usize) -> Option<usize>
-    requires reach { ReachIn parsed first n }
-    requires k_in_bounds { k < length parsed.contents.now }
-    ensures { result ≡ found_of (place_in (packed_in parsed.entry.contents.now) k 0 (names_down parsed.entry.nodes.now first n)) }
-{
-    (0..n).find(|&j| same_name(parsed.contents, k, listed_name(parsed.nodes, first - j)))
-}
-
 impl<'a> Parsed<'a> {
+    // The list of the variables' names.
+    pub(crate) fn variables(self) -> NameList<'a>
+        requires { ReachIn self self.lists.root self.lists.variables }
+        ensures { (result.contents ≡ self.entry.contents) × (result.nodes ≡ self.entry.nodes) × (result.first ≡ self.entry.lists.root) × (result.count ≡ self.entry.lists.variables) }
+    {
+        NameList {
+            contents: self.contents,
+            nodes: self.nodes,
+            first: self.lists.root,
+            count: self.lists.variables,
+        }
+    }
+
+    // The list of the definitions' names.
+    pub(crate) fn definitions(self) -> NameList<'a>
+        requires { (self.lists.variables ≤ self.lists.root) × ReachIn self (self.lists.root - self.lists.variables) self.lists.definitions }
+        ensures { (result.contents ≡ self.entry.contents) × (result.nodes ≡ self.entry.nodes) × (result.first ≡ self.entry.lists.root - self.entry.lists.variables) × (result.count ≡ self.entry.lists.definitions) }
+    {
+        NameList {
+            contents: self.contents,
+            nodes: self.nodes,
+            first: self.lists.first_definition(),
+            count: self.lists.definitions,
+        }
+    }
+
     // The place of the variable with the name k among the variables.
     pub fn variable_named(self, k: usize) -> Option<usize>
         requires reach { ReachIn self self.lists.root self.lists.variables }
         requires k_in_bounds { k < length self.contents.now }
         ensures { result ≡ found_of (place_in (packed_in self.entry.contents.now) k 0 (names_down self.entry.nodes.now self.entry.lists.root self.entry.lists.variables)) }
     {
-        listed(self, self.lists.root, self.lists.variables, k)
+        self.variables().place_of(k)
     }
 
     // The place of the definition with the name k among the definitions.
@@ -257,31 +257,19 @@ impl<'a> Parsed<'a> {
         requires k_in_bounds { k < length self.contents.now }
         ensures { result ≡ found_of (place_in (packed_in self.entry.contents.now) k 0 (names_down self.entry.nodes.now (self.entry.lists.root - self.entry.lists.variables) self.entry.lists.definitions)) }
     {
-        listed(
-            self,
-            self.lists.first_definition(),
-            self.lists.definitions,
-            k,
-        )
+        self.definitions().place_of(k)
     }
-}
 
-// Question 7 of a whole number, which has to have a value.
-fn whole_fault(contents: &[Content], k: usize) -> Option<usize>
-    requires { (k < length contents.now) × (get_or (lows_in contents.now) k 0 ≤ cap) }
-    ensures { (w : ℕ → List ℕ) → get_or (lows_in contents.now) k 0 ≡ min cap (worth 0 (w k)) → result ≡ least (whole_beyond w false k) }
-{
-    let z = contents[k].low as i64;
-    value::value_of(z).is_none().then_some(k)
-}
-
-// Question 7 of a whole number with `-`.
-fn negative_fault(contents: &[Content], k: usize) -> Option<usize>
-    requires { (k < length contents.now) × (get_or (lows_in contents.now) k 0 ≤ cap) }
-    ensures { (w : ℕ → List ℕ) → get_or (lows_in contents.now) k 0 ≡ min cap (worth 0 (w k)) → result ≡ least (whole_beyond w true k) }
-{
-    let z = contents[k].low as i64;
-    value::neg_value(z).is_none().then_some(k)
+    // The node of the definition with the name k; the root of its sums is the node before it.
+    // settle and opening go to a definition by its number, in nodes of which they know other facts (LookupIn, ItemAt).
+    pub fn definition_node(self, k: usize) -> Option<usize>
+        requires { (h : WorldIn Given self) × IsName h.kinds k }
+        ensures { (h : WorldIn Given self.entry) → IsName h.kinds k → NodeNamed self.entry.nodes.now h.word (definitions h.model) k result }
+    {
+        let j = self.definition_named(k)?;
+        let first = self.lists.first_definition();
+        Some(tree::left_of(self.nodes[first - j]))
+    }
 }
 
 // Whether a variable's number is whole, by the kind of its node.
@@ -292,18 +280,14 @@ pub fn is_whole(kind: u8) -> bool
     matches!(kind, NodeKind::NUMBER | NodeKind::NEGATIVE_NUMBER)
 }
 
-// Question 9 of a name that is used as a scale. By ifs, one for each list that may give the name, as `value_fault` has them.
+// Question 9 of a name that is used as a scale.
 fn scale_fault(parsed: &Parsed, scope: Scope, k: usize) -> Option<usize>
     requires { (h : SettingIn Given parsed.now scope) × IsName h.world.kinds k }
     ensures { (h : SettingIn Given parsed.entry.now scope) → IsName h.world.kinds k → result ≡ least (faults_at h (used true k)) }
 {
-    if local_named(parsed.contents, scope, k).is_some() {
-        return None;
-    }
-    if parsed.variable_named(k).is_some() {
-        return None;
-    }
-    Some(k)
+    let given = local_named(parsed.contents, scope, k).is_some()
+        || parsed.variable_named(k).is_some();
+    (!given).then_some(k)
 }
 
 // Question 9 of a name that is used as a value, which has to be whole.
@@ -318,22 +302,19 @@ fn value_fault(parsed: &Parsed, scope: Scope, k: usize) -> Option<usize>
     let Some(j) = parsed.variable_named(k) else {
         return Some(k);
     };
-    if is_whole(tree::kind_of(parsed.nodes[tree::left_of(parsed.nodes[root - j])])) {
-        return None;
-    }
-    Some(k)
+    let whole = is_whole(tree::kind_of(parsed.nodes[tree::left_of(parsed.nodes[root - j])]));
+    (!whole).then_some(k)
 }
 
-// Whether the definition with the name k has n parameters. The definition's node is found alike in steady, settle and opening, by three facts: WorldIn, LookupIn and ItemAt.
+// Whether the definition with the name k has n parameters.
 fn is_callable(parsed: &Parsed, k: usize, n: usize) -> bool
     requires { (h : WorldIn Given parsed.now) × IsName h.kinds k }
     ensures { (h : WorldIn Given parsed.entry.now) → IsName h.kinds k → result ≡ is_callable h.word (definitions h.model) k n }
 {
-    let Some(j) = parsed.definition_named(k) else {
+    let Some(d) = parsed.definition_node(k) else {
         return false;
     };
-    let first = parsed.lists.first_definition();
-    tree::third_of(parsed.nodes[tree::left_of(parsed.nodes[first - j])]) == n
+    tree::third_of(parsed.nodes[d]) == n
 }
 
 // The faults of a call, or of an item of the system line, with n values.
@@ -352,11 +333,12 @@ fn number_fault(contents: &[Content], kind: u8, k: usize) -> Option<usize>
     requires { sort_of kind ≡ wholes → (k < length contents.now) × (get_or (lows_in contents.now) k 0 ≤ cap) }
     ensures { (w : ℕ → List ℕ) (sc : List ℕ) → (sort_of kind ≡ wholes → get_or (lows_in contents.now) k 0 ≡ min cap (worth 0 (w k))) → result ≡ least (each (site_beyond w sc) (leaf_sites kind k)) }
 {
-    match kind {
-        NodeKind::LITERAL | NodeKind::NUMBER => whole_fault(contents, k),
-        NodeKind::NEGATIVE | NodeKind::NEGATIVE_NUMBER => negative_fault(contents, k),
-        _ => None,
-    }
+    let value = match kind {
+        NodeKind::LITERAL | NodeKind::NUMBER => value::value_of(contents[k].low as i64),
+        NodeKind::NEGATIVE | NodeKind::NEGATIVE_NUMBER => value::neg_value(contents[k].low as i64),
+        _ => return None,
+    };
+    value.is_none().then_some(k)
 }
 
 // Question 9 of a node: a name that isn't given.

@@ -1,22 +1,20 @@
 // Questions 7, 8 and 9 of a whole tree: each part is judged in its scope, and the first fault of all is kept.
 // The bound of a root stands in each contract: as a ghost field of a struct over a lent Context it lost the size of the nodes, and their index stayed unproved.
-ghost use Rattle.token.specs.Contents.{lows_in, highs_in};
-ghost use Rattle.std.specs.Prelude.{◌≡◌, List, [], ◌∷◌, ◌++◌, true, not, ◌&&◌, ◌||◌, ℕ, ◌+◌, ◌-◌, ◌*◌, ◌≤◌, ◌<◌, min, eqb, ltb, length, get_or, drop};
+// A part's nodes go as two numbers, `from` and `root`: most calls give a part new ends, so that a struct of the two would be made in the call and taken apart in the function.
+ghost use Rattle.token.specs.Contents.{lows_in};
+ghost use Rattle.std.specs.Prelude.{◌≡◌, List, ◌∷◌, ◌++◌, true, not, ◌&&◌, ◌||◌, ℕ, ◌+◌, ◌-◌, ◌*◌, ◌≤◌, ◌<◌, min, eqb, ltb, length, get_or};
 ghost use Rattle.word.specs.Number.{worth, cap};
 ghost use Rattle.token.specs.Kind as kind;
 ghost use Rattle.grammar.specs.Syntax;
 ghost use Rattle.tree.specs.Node.{field, kind_of, token_of, left_of, third_of, named, counted, counted_with};
 ghost use Rattle.tree.specs.Table;
-ghost use Rattle.model.specs.Lists.{least, when, each, any, every_other};
+ghost use Rattle.model.specs.Lists.{least, when, each, every_other};
 ghost use Rattle.model.specs.Sites.{branch, call, count_sets, count_args, args_sites, item_sites, channel_sites, action_sites, rate_sites, names, variables, definitions, starts_in};
-ghost use Rattle.model.specs.Words.{same};
-ghost use Rattle.model.specs.Fresh.{repeated};
 ghost use Rattle.model.specs.Limits.{count_limit, local_limit};
 ghost use Rattle.names.specs.Settings.{Extended, WorldOf, SettingOf, faults_at};
 ghost use Rattle.names.specs.Faults.{asks_names, tree_faults};
-ghost use Rattle.names.specs.Lists.{packed_in, name_at, names_down, Reach, ReachIn};
 ghost use Rattle.names.specs.Placed.{Named, sort_of, counts};
-ghost use Rattle.names.specs.Walks.{Part, Holds, RoomFor, PlaceOf, part_faults, bound_sites, ActionRoom, PartRoom, GroundIn, GroundOf, list_faults, number_faults, param_faults, defined, count_faults, start_faults, definition_judged, lines_judged, DefinitionRoom, LinesRoom, TreeRoom};
+ghost use Rattle.names.specs.Walks.{Part, Holds, RoomFor, PlaceOf, part_faults, bound_sites, ActionRoom, PartRoom, GroundIn, GroundOf, number_faults, param_faults, defined, count_faults, start_faults, definition_judged, lines_judged, DefinitionRoom, LinesRoom, TreeRoom};
 
 use crate::{Context, Limits, Parsed, Question, Scope, no_locals};
 use token::Content;
@@ -325,45 +323,6 @@ fn lines_fault(context: &Context, from: usize, root: usize) -> Option<usize>
     crate::earlier(first, others)
 }
 
-// Question 7 of a list of n names that goes down from the node `first`.
-fn past_fault(nodes: &[u64], first: usize, limit: usize, n: usize) -> Option<usize>
-    requires { (n ≤ first + 1) × ((j : ℕ) → j < n → (first - j < length nodes.now) × (left_of (get_or nodes.now (first - j) 0) < length nodes.now)) }
-    ensures { result ≡ least (drop limit (names_down nodes.now first n)) }
-{
-    (limit..n)
-        .map(|j| crate::listed_name(nodes, first - j))
-        .min()
-}
-
-// Question 8 of the name in place j of a list that goes down from the node `first`.
-fn again_fault(parsed: &Parsed, first: usize, j: usize) -> Option<usize>
-    requires { ReachIn parsed.now first (j + 1) }
-    ensures { result ≡ least (when (any (same (packed_in parsed.entry.now.contents.now) (name_at parsed.entry.now.nodes.now (first - j))) (names_down parsed.entry.now.nodes.now first j)) (name_at parsed.entry.now.nodes.now (first - j))) }
-{
-    let k = crate::listed_name(parsed.nodes, first - j);
-    crate::listed(*parsed, first, j, k).is_some().then_some(k)
-}
-
-// Question 8 of a list of n names that goes down from the node `first`.
-fn twice_fault(parsed: &Parsed, first: usize, n: usize) -> Option<usize>
-    requires { ReachIn parsed.now first n }
-    ensures { result ≡ least (repeated (packed_in parsed.entry.now.contents.now) [] (names_down parsed.entry.now.nodes.now first n)) }
-{
-    (0..n).filter_map(|j| again_fault(parsed, first, j)).min()
-}
-
-// Questions 7 and 8 of a list of n names that goes down from the node `first`.
-fn list_fault(context: &Context, first: usize, n: usize, limit: usize) -> Option<usize>
-    requires { Reach (lows_in context.now.contents.now) (highs_in context.now.contents.now) context.now.nodes.now first n }
-    ensures { result ≡ least (list_faults context.entry.now.question (packed_in context.entry.now.contents.now) limit (names_down context.entry.now.nodes.now first n)) }
-{
-    match context.question {
-        Question::Limits => past_fault(context.nodes, first, limit, n),
-        Question::Fresh => twice_fault(&context.parsed(), first, n),
-        Question::Given => None,
-    }
-}
-
 // Question 7 of the variables' numbers, which stand in the first nodes.
 fn numbers_fault(context: &Context) -> Option<usize>
     requires { WorldOf context.now }
@@ -392,11 +351,10 @@ pub fn tree_fault(question: Question, kinds: &[u8], parsed: &Parsed) -> Option<u
         lists,
         scope: no_locals(),
     };
-    let below = lists.first_definition();
-    let names = list_fault(context, lists.root, lists.variables, Limits::VARIABLES);
-    let titles = list_fault(context, below, lists.definitions, Limits::DEFINITIONS);
+    let names = parsed.variables().fault(question, Limits::VARIABLES);
+    let titles = parsed.definitions().fault(question, Limits::DEFINITIONS);
     let numbers = numbers_fault(context);
-    let lines = lines_fault(context, lists.variables, below);
+    let lines = lines_fault(context, lists.variables, lists.first_definition());
     crate::earlier(
         names,
         crate::earlier(titles, crate::earlier(numbers, lines)),

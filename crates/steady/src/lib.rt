@@ -1,7 +1,6 @@
 #![tactic(auto)]
 
 // The steady profile: question 29 of a text, and opening a text under it.
-ghost use Rattle.token.specs.Contents.{lows_in, highs_in};
 ghost use Rattle.std.specs.Prelude.{◌≡◌, List, ℕ, ◌≤◌};
 ghost use Rattle.grammar.specs.Syntax;
 ghost use Rattle.model.specs.Lists.{least};
@@ -26,16 +25,14 @@ pub enum Profile {
     Steady,
 }
 
-// Whether the definition with the name k has more than one sum. The root of its sums is the node before its own.
+// Whether the definition with the name k has more than one sum.
 fn has_several(parsed: Parsed, k: usize) -> bool
     requires { (h : WorldIn Given parsed) × IsName h.kinds k }
     ensures { (h : WorldIn Given parsed.entry) → IsName h.kinds k → result ≡ several_sums h.word (definitions h.model) k }
 {
-    let Some(j) = parsed.definition_named(k) else {
+    let Some(d) = parsed.definition_node(k) else {
         return false;
     };
-    let first = parsed.lists.first_definition();
-    let d = tree::left_of(parsed.nodes[first - j]);
     tree::kind_of(parsed.nodes[d - 1]) == NodeKind::BESIDE
 }
 

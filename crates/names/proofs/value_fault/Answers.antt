@@ -1,11 +1,10 @@
 -- `names::value_fault` meets its contract: by what the look-ups find, first among locals, then among variables.
 use mathlib.Core.Path.{refl, ap, sym, ◌∙◌}
-use mathlib.Core.Bool.{true, false}
+use mathlib.Core.Bool.{false}
 use Prim.Native.Nat.{ℕ}
 use native.Mathlib.Omega.{arith}
 use lib.ListN.{get_or}
 use Rattle.tree.specs.Node.{kind_of}
-use Rattle.model.specs.Lists.{when, earlier, least}
 use Rattle.names.specs.Faults.{asks_names}
 use Rattle.token.proofs.Columns.{length-lows}
 use Rattle.names.proofs.Settled.{name-inside, in_scope, reach-variables}
@@ -30,11 +29,6 @@ pub returns-in_default : goal.returns-in_default
 returns-in_default c =
     λ h e. not_listed h c.args.k e false c.local_named.ensures (absent _ (sym c.is_some.ensures ∙ c.if-is_some.false)) c.variable_named.ensures c.in_default.is
 
-pub returns-then-is_whole : goal.returns-then-is_whole
-unfolding least when
-returns-then-is_whole c =
-    λ h e. whole-variable h c.args.k e false c.local_named.ensures (absent _ (sym c.is_some.ensures ∙ c.if-is_some.false)) c.variable_named.ensures c.in-Some.is refl c.kind_of.result (c.kind_of.ensures ∙ ap (λ (l : ℕ). kind_of (get_or c.args.parsed.now.nodes.now l 0)) c.left_of.ensures) true (sym c.is_whole.ensures ∙ c.if-is_whole.true)
-
 pub overflow_sub-root : goal.overflow_sub-root
 overflow_sub-root c =
     omega (arith, (listed-inside c.requires.0 c.args.k c.requires.1 false c.local_named.ensures (absent _ (sym c.is_some.ensures ∙ c.if-is_some.false)) c.variable_named.ensures c.in-Some.is).0)
@@ -56,6 +50,5 @@ bounds-parsed-left_of c =
     rw c.left_of.ensures (listed-inside c.requires.0 c.args.k c.requires.1 false c.local_named.ensures (absent _ (sym c.is_some.ensures ∙ c.if-is_some.false)) c.variable_named.ensures c.in-Some.is).2
 
 pub returns : goal.returns
-unfolding least when earlier
 returns c =
-    λ h e. whole-variable h c.args.k e false c.local_named.ensures (absent _ (sym c.is_some.ensures ∙ c.if-is_some.false)) c.variable_named.ensures c.in-Some.is refl c.kind_of.result (c.kind_of.ensures ∙ ap (λ (l : ℕ). kind_of (get_or c.args.parsed.now.nodes.now l 0)) c.left_of.ensures) false (sym c.is_whole.ensures ∙ c.if-is_whole.false)
+    λ h e. c.then_some.ensures ∙ whole-variable h c.args.k e false c.local_named.ensures (absent _ (sym c.is_some.ensures ∙ c.if-is_some.false)) c.variable_named.ensures c.in-Some.is refl c.kind_of.result (c.kind_of.ensures ∙ ap (λ (l : ℕ). kind_of (get_or c.args.parsed.now.nodes.now l 0)) c.left_of.ensures) _ c.is_whole-whole.ensures

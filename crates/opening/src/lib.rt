@@ -41,7 +41,12 @@ pub struct Space {
     pub sizes: [u16; token::Limits::TEXT],
     pub contents: [Content; question::Limits::TOKENS],
     pub count: usize,
-    pub model: Workspace<{ question::Limits::TOKENS }>,
+    pub model: Workspace<
+        { question::Limits::TOKENS },
+        { question::Limits::TOKENS },
+        { question::Limits::TOKENS },
+        { question::Limits::TOKENS },
+    >,
 }
 
 impl Space {

@@ -47,7 +47,6 @@ use Rattle.settle.specs.Places.{Told, VariableSafe, Base, Resolvable}
 use Rattle.settle.specs.declared.Model.{Model}
 use Rattle.settle.specs.Settles.{Settles}
 use Rattle.settle.proofs.Lines.{system-literal}
-use Rattle.opening.specs.declared.Space.{Space}
 use Rattle.opening.specs.Trees.{Fitted}
 use Rattle.opening.specs.Sound.{Sound}
 
@@ -75,15 +74,12 @@ variable-safe w told (derived.integer derived.negative) k h = h
 variable-safe w told derived.decimal k h = h
 variable-safe w told derived.negative_decimal k h = h
 
-module _ {text : List ℕ} {s : Syntax.Model} {space : Space} {root : ℕ} (f : Fitted text s space root) (v : Sound text s) where
+module _ {text : List ℕ} {s : Syntax.Model} {kinds places : List ℕ} {contents : List Content} {nodes : List ℕ} {root : ℕ} (f : Fitted text s kinds places contents nodes root) (v : Sound text s) where
   abbrev low : List ℕ
-  low = lows_in space.contents
+  low = lows_in contents
 
   abbrev high : List ℕ
-  high = highs_in space.contents
-
-  abbrev nodes : List ℕ
-  nodes = space.model.nodes
+  high = highs_in contents
 
   abbrev w : ℕ → List ℕ
   w = word_of text

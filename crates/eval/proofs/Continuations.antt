@@ -239,27 +239,6 @@ module _ (t : List ℕ) (k kind : ℕ) (is : kind ≡ kind_of (get_or t k 0)) wh
   pub others-given : (ls : List ℤ) → (kind ≡ 53 → ⊥) → (kind ≡ 54 → ⊥) → (kind ≡ 51 → ⊥) → AreGiven t ls k true
   others-given ls g i c ps a = plain-given t ls ps k (λ e. g (is ∙ e)) (λ e. i (is ∙ e)) (λ e. c (is ∙ e)) a
 
--- ---- sums
-module _ (t : List ℕ) (k kind : ℕ) (is : kind ≡ kind_of (get_or t k 0)) where
-  pub one-sum : (kind ≡ 55 → ⊥) → (ns : List ℕ) → Sums t ns k → 1 ≡ length ns
-  unfolding Sums
-  one-sum h [] a = absurd a
-  one-sum h (n ∷ []) a = refl
-  one-sum h (n ∷ o ∷ ns) a = absurd (h (is ∙ a.kind-is))
-
-  module _ (h : kind ≡ 55) where
-    pub beside-sums : (ns : List ℕ) → Sums t ns k → (1 ≤ k) × ((ms : List ℕ) × Sums t ms (k - 1))
-    unfolding Sums
-    beside-sums [] a = absurd a
-    beside-sums (n ∷ []) a = absurd (omega (arith, a.kind-is))
-    beside-sums (n ∷ o ∷ ns) a = (pair-above a, (o ∷ ns, pair-second a))
-
-    pub more-sums : (r : ℕ) → ((ns : List ℕ) → Sums t ns (k - 1) → r ≡ length ns) → (ns : List ℕ) → Sums t ns k → r + 1 ≡ length ns
-    unfolding Sums
-    more-sums r w [] a = absurd a
-    more-sums r w (n ∷ []) a = absurd (omega (arith, a.kind-is))
-    more-sums r w (n ∷ o ∷ ns) a = omega (arith, w (o ∷ ns) (pair-second a))
-
 -- ---- counts
 pub cut_most : (n : ℕ) → cut n ≤ most
 unfolding cut

@@ -73,17 +73,6 @@ pub fn body_of(tables: Tables, d: usize) -> usize
     tree::left_of(cell) - 1
 }
 
-// How many sums stand at k.
-fn count_sums(nodes: &[u64], k: usize) -> usize
-    requires { (ns : List ℕ) × Represents.Sums nodes.now ns k }
-    ensures { ((ns : List ℕ) → Represents.Sums nodes.now ns k → result ≡ length ns) × (result ≤ k + 1) }
-{
-    if tree::kind_of(crate::cell_at(nodes, k)) != NodeKind::BESIDE {
-        return 1;
-    }
-    count_sums(nodes, k - 1) + 1
-}
-
 // How many processes the continuation at k becomes, up to MOST.
 pub fn count_processes(tables: Tables, k: usize) -> usize
     requires { Become.Continuation tables.nodes.now tables.root tables.variables k }
@@ -102,7 +91,7 @@ pub fn count_processes(tables: Tables, k: usize) -> usize
     if kind == NodeKind::SUM {
         return 1;
     }
-    count_sums(tables.nodes, body_of(tables, tree::token_of(cell))).min(Row::MOST)
+    tables::count_sums(tables.nodes, body_of(tables, tree::token_of(cell))).min(Row::MOST)
 }
 
 // The numbers of a process: its sum, its locals, the unused ones 0, then its definition.

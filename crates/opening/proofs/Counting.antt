@@ -1,4 +1,4 @@
--- Counting in the tables: a body's chain of nodes is as long as its sums, an item starts as many processes as its count and its definition say, and the
+-- Counting in the tables: an item starts as many processes as its count and its definition say, and the
 use mathlib.Core.Path.{◌≡◌, refl, sym, ap, ◌∙◌}
 use mathlib.Core.List.{List, [], ◌∷◌}
 use mathlib.Core.Bool.{Bool, true, false}
@@ -14,10 +14,9 @@ use Rattle.tree.specs.Node.{field, kind_of, token_of, left_of}
 use Rattle.model.specs.Good.{Every}
 use Rattle.model.specs.Resolved
 use Rattle.model.specs.Opening.{process_limit, sums_in, start_processes}
-use Rattle.names.specs.Lists.{run}
-use Rattle.names.proofs.Chains.{run_on, run-off}
 use Rattle.tables.specs.Settled.{kind_at}
 use Rattle.tables.specs.Represents as tables
+use Rattle.tables.proofs.Sums.{kind-inside}
 use Rattle.opening.specs.Counts.{Countable, ItemAt, Counts}
 
 -- system line as many as its items. From what the tables hold.
@@ -29,14 +28,6 @@ left-small c = omega arith
 
 module _ (t : List ℕ) where
   -- a cell with a field above 0 is one of the table
-  kind-inside : (k : ℕ) → 0 < kind_at t k → k < length t
-  unfolding kind_of
-  kind-inside k h = by (ltb k (length t)) refl
-    where
-      by : (c : Bool) → ltb k (length t) ≡ c → k < length t
-      by true e = ltb-true k (length t) e
-      by false e = absurd (omega (arith, h, ap kind_of (get_or-eq_default t 0 (ltb-false k (length t) e))))
-
   left-inside : (k : ℕ) → 0 < left_of (get_or t k 0) → k < length t
   unfolding left_of
   left-inside k h = by (ltb k (length t)) refl
@@ -44,26 +35,6 @@ module _ (t : List ℕ) where
       by : (c : Bool) → ltb k (length t) ≡ c → k < length t
       by true e = ltb-true k (length t) e
       by false e = absurd (omega (arith, h, ap left_of (get_or-eq_default t 0 (ltb-false k (length t) e))))
-
-  -- ---- the sums of a body
-  pub sums-inside : (ns : List ℕ) (k : ℕ) → tables.Sums t ns k → k < length t
-  unfolding tables.Sums
-  sums-inside [] k h = absurd h
-  sums-inside (n ∷ []) k h = kind-inside k (omega (arith, h.kind-is))
-  sums-inside (n ∷ o ∷ ns) k h = kind-inside k (omega (arith, h.kind-is))
-
-  -- as many as the run of nodes before the last one
-  pub sums-run : (ns : List ℕ) (k : ℕ) → tables.Sums t ns k → (run t node.beside k ≤ k) × (run t node.beside k + 1 ≡ length ns)
-  unfolding tables.Sums
-  sums-run [] k h = absurd h
-  sums-run (n ∷ []) k h =
-      let r = run-off t node.beside k (λ e. omega (arith, h.kind-is)) in
-      (omega arith, omega arith)
-  sums-run (n ∷ o ∷ ns) k h =
-      let q = sums-run (o ∷ ns) h.right h.holds-second in
-      let e : k ≡ h.right + 1 = omega (arith, h.above) in
-      let r = run_on t node.beside h.right (rw e at h.kind-is) in
-      rw e (omega arith, omega arith)
 
   -- ---- an item
   pub record ItemCell (s : Resolved.Start) (k : ℕ) : Type 0 where
@@ -73,10 +44,10 @@ module _ (t : List ℕ) where
     pub other : kind_at t k ≡ node.system → ⊥
 
   item-cell : (s : Resolved.Start) (k : ℕ) → tables.Start t s k → ItemCell s k
-  item-cell s k (tables.bare i n) = record { inside = kind-inside k (omega (arith, i.kind-is)); definition-is = i.definition-is; count-is = i.count-is; other = λ e. omega (arith, i.kind-is) }
+  item-cell s k (tables.bare i n) = record { inside = kind-inside t k (omega (arith, i.kind-is)); definition-is = i.definition-is; count-is = i.count-is; other = λ e. omega (arith, i.kind-is) }
   item-cell s k (tables.valued v) =
       let i = v.item in
-      record { inside = kind-inside k (omega (arith, i.kind-is)); definition-is = i.definition-is; count-is = i.count-is; other = λ e. omega (arith, i.kind-is) }
+      record { inside = kind-inside t k (omega (arith, i.kind-is)); definition-is = i.definition-is; count-is = i.count-is; other = λ e. omega (arith, i.kind-is) }
 
   -- a definition that there is, and how many sums it has
   defined : (ds : List Resolved.Defined) (d : ℕ) → d < length ds → (e : Resolved.Defined) × (get_elem? ds d ≡ some e) × (sums_in ds d ≡ length e.sums)
@@ -142,7 +113,7 @@ module _ (t : List ℕ) where
   unfolding tables.Starts
   starts-inside [] k h = absurd h
   starts-inside (s ∷ []) k h = (item-cell s k h).inside
-  starts-inside (s ∷ r ∷ ss) k h = kind-inside k (omega (arith, h.kind-is))
+  starts-inside (s ∷ r ∷ ss) k h = kind-inside t k (omega (arith, h.kind-is))
 
   -- what is left to count: the items ss of the line at k, after those that start `count` processes
   pub record Left (first line : ℕ) (m : Resolved.Model) (count k : ℕ) : Type 0 where

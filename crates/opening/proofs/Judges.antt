@@ -7,6 +7,7 @@ use native.Mathlib.Omega.{arith}
 use borrow.Author.Tests.{le-leb}
 use lib.ListN.{length}
 use Rattle.std.specs.Prelude.{Result, None, Some, Err, Ok}
+use Rattle.token.specs.declared.Content.{Content}
 use Rattle.token.specs.declared.Refusal.{Refusal}
 use Rattle.token.specs.Questions.{Found, No, Judged, question_number}
 use Rattle.token.specs.Questions as bytes
@@ -24,7 +25,6 @@ use Rattle.model.specs.Opening.{Opening, refused, opened, byte_place, too_many, 
 use Rattle.model.specs.Held.{tree_held, model_in, held}
 use Rattle.names.specs.Judged.{among_all, no_of, answer_of, judged_names}
 use Rattle.names.specs.declared.Fault.{Fault}
-use Rattle.opening.specs.declared.Space.{Space}
 use Rattle.opening.specs.Trees.{Fitted}
 use Rattle.opening.specs.Sound.{Sound, NamesJudged}
 
@@ -53,7 +53,7 @@ at_none None None (Some i) e = cc
 at_none None None None e = (refl, refl, refl)
 
 -- ---- 7 to 9 of a text that fits
-module _ {text : List ℕ} {s : Syntax.Model} {space : Space} {root : ℕ} (f : Fitted text s space root) where
+module _ {text : List ℕ} {s : Syntax.Model} {kinds places : List ℕ} {contents : List Content} {nodes : List ℕ} {root : ℕ} (f : Fitted text s kinds places contents nodes root) where
   abbrev f7 : Found
   f7 = least (beyond text s)
 

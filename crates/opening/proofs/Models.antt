@@ -10,6 +10,7 @@ use Rattle.std.specs.Prelude.{Err, Ok}
 use Rattle.token.specs.declared.Refusal.{Refusal}
 use Rattle.token.specs.declared.Question.TheVariants.{Processes}
 use Rattle.token.specs.Questions.{question_number}
+use Rattle.grammar.specs.Limit.{token_limit}
 use Rattle.grammar.specs.Syntax
 use Rattle.model.specs.Words.{word_of}
 use Rattle.model.specs.Good.{Every, GoodStart}
@@ -19,10 +20,11 @@ use Rattle.model.specs.Held.{held}
 use Rattle.model.specs.Opening.{process_limit, refused, start_processes, crowded, asked}
 use Rattle.model.proofs.Held.{held-good}
 use Rattle.opening.specs.Counts.{Countable, Counts}
-use Rattle.opening.specs.Trees.{Closed, Fitted, TreeRead, Tree}
+use Rattle.opening.specs.Trees.{Closed, FittedIn, TreeRead, Tree}
 use Rattle.opening.specs.declared.SoundTree.{SoundTree}
 use Rattle.opening.specs.declared.SoundModel.{SoundModel}
 use Rattle.opening.specs.declared.Space.{Space}
+use Rattle.opening.specs.declared.Tokens.{Tokens}
 use Rattle.opening.specs.Sound.{NamesJudged, Named, SoundHeld, SoundOr, SoundRead}
 use Rattle.opening.specs.Models.{Shown, Rooted, ModelHeld, ModelRead, Opens, Held}
 use Rattle.opening.proofs.Judges.{asks-ten, holds-model}
@@ -31,17 +33,21 @@ use Rattle.settle.specs.declared.Model.{Model}
 use Rattle.settle.specs.Settles.{Settles}
 
 -- ---- 2 to 6
-module _ (text : List ℕ) (space : Space) {r : Tree} (d : TreeRead text space r) where
-  pub tree-no : {q : Refusal} → r ≡ Err q → SoundRead text space (Err q)
+module _ (text : List ℕ) (t : Tokens) (nodes : List ℕ) {r : Tree} (d : TreeRead text t nodes r) where
+  pub tree-no : (space : Space) {q : Refusal} → r ≡ Err q → SoundRead text space (Err q)
   unfolding TreeRead SoundRead
-  tree-no e = rw e at d
+  tree-no space e = rw e at d
 
-  pub tree-fits : {root : ℕ} → r ≡ Ok root → (s : Syntax.Model) × Fitted text s space root
+  pub tree-fits : {root : ℕ} → r ≡ Ok root → (s : Syntax.Model) × FittedIn text s t nodes root
   unfolding TreeRead
   tree-fits e = rw e at d
 
+-- the tokens have room in their tables
+pub count-fits : {text : List ℕ} {s : Syntax.Model} {t : Tokens} {nodes : List ℕ} {root : ℕ} → FittedIn text s t nodes root → t.count ≤ token_limit
+count-fits f = omega (arith, f.count, f.cut.read.tabled.count, f.cut.read.few)
+
 -- ---- 7 to 9
-module _ {text : List ℕ} {s : Syntax.Model} {space : Space} {root : ℕ} (f : Fitted text s space root) {j : Named} (d : NamesJudged text s j) where
+module _ {text : List ℕ} {s : Syntax.Model} (space : Space) {root : ℕ} (f : FittedIn text s space.tokens space.model.nodes root) {j : Named} (d : NamesJudged text s j) where
   pub named-no : {r : Refusal} → j ≡ Err r → SoundRead text space (Err r)
   unfolding NamesJudged SoundRead
   named-no e = rw e at d
@@ -64,7 +70,7 @@ module _ (text : List ℕ) (space : Space) {r : SoundOr} (d : SoundRead text spa
 pub sound-model : {text : List ℕ} {s : Syntax.Model} {space : Space} {t : SoundTree} → SoundHeld text s space t → {nodes' roots scopes : List ℕ} {x : Model} → Shown nodes' roots scopes x (resolved (word_of text) s) → Rooted x → Settles (word_of text) s nodes' roots scopes x → ModelHeld text nodes' roots scopes x t.place
 unfolding resolved
 sound-model {text} {s} h i r t =
-    let f = h.fitted in
+    let f = h.fitted.cut in
     let v = h.sound in
     record { tree = s; model = resolved (word_of text) s; holds = holds-model f v; worded = refl; opens = asks-ten f v; shown = i; written = record { fits = yes5 f v; settles = t }; rooted = r; place_is = h.place-is }
 

@@ -7,7 +7,7 @@ use native.Mathlib.Omega.{arith}
 use borrow.Author.Tests.{lt-ltb, le-ltb, leb-true, leb-false}
 use lib.Dec.{leb}
 use lib.ListN.{length, get_or, take, drop, length-append}
-use lib.Seq.{take_at}
+use lib.Seq.{take_at, take_all}
 use Rattle.std.specs.Prelude.{Ok}
 use Rattle.token.specs.Questions.{text_limit, bytes_judged}
 use Rattle.token.specs.Token.{tokens, kinds_of, places_of, Filled}
@@ -18,20 +18,23 @@ use Rattle.model.specs.Opening.{byte_place}
 use Rattle.names.proofs.Contents.{tabled-at}
 use Rattle.opening.specs.Trees.{Placed}
 
-module _ {text places : List ℕ} {n : ℕ} (h : Placed text places n) (k : ℕ) where
-  pub place_inside : k < n → k < length places
-  place_inside l = (tabled-at places (tokens text) (λ m. m.place) h.count h.places-are k l).0
+module _ (text : List ℕ) {places : List ℕ} (h : Placed text places) (k : ℕ) where
+  placed-count : length places ≡ length (tokens text)
+  placed-count = ap length h ∙ column-length (λ m. m.place) (tokens text)
 
-  pub place_here : k < n → get_or places k 0 ≡ byte_place text k
+  placed-all : take (length places) places ≡ places_of (tokens text)
+  placed-all = take_all (length places) places (omega arith) ∙ h
+
+  pub place_here : k < length places → get_or places k 0 ≡ byte_place text k
   unfolding byte_place place_of
   place_here l =
-      let q : k < length (tokens text) = omega (arith, h.count) in
-      simp (lt-ltb k (length (tokens text)) q) (tabled-at places (tokens text) (λ m. m.place) h.count h.places-are k l).1
+      let q : k < length (tokens text) = omega (arith, placed-count) in
+      simp (lt-ltb k (length (tokens text)) q) (tabled-at places (tokens text) (λ m. m.place) placed-count placed-all k l).1
 
-  pub place_end : n ≤ k → length text ≡ byte_place text k
+  pub place_end : length places ≤ k → length text ≡ byte_place text k
   unfolding byte_place
   place_end l =
-      let q : length (tokens text) ≤ k = omega (arith, h.count) in
+      let q : length (tokens text) ≤ k = omega (arith, placed-count) in
       simp (le-ltb k (length (tokens text)) q)
 
 -- question 2 was asked
@@ -50,9 +53,5 @@ module _ {text kinds₀ places₀ sizes₀ : List ℕ} {n : ℕ} {kinds places s
   pub filled-tokens : take n kinds ≡ kinds_of (tokens text)
   filled-tokens = ap (take n) f.kinds-are ∙ take_at (kinds_of (tokens text)) (drop n kinds₀) n (column-length (λ m. m.kind) (tokens text) ∙ sym f.count)
 
-  pub filled-placed : Placed text places n
-  filled-placed =
-      record {
-        count = f.count;
-        places-are = ap (take n) f.places-are ∙ take_at (places_of (tokens text)) (drop n places₀) n (column-length (λ m. m.place) (tokens text) ∙ sym f.count);
-      }
+  pub filled-placed : Placed text (take n places)
+  filled-placed = ap (take n) f.places-are ∙ take_at (places_of (tokens text)) (drop n places₀) n (column-length (λ m. m.place) (tokens text) ∙ sym f.count)

@@ -47,7 +47,6 @@ use Rattle.settle.specs.Places.{Told, VariableSafe, Base, Resolvable}
 use Rattle.settle.specs.declared.Model.{Model}
 use Rattle.settle.specs.Settles.{Settles}
 use Rattle.settle.proofs.Lines.{system-literal}
-use Rattle.opening.specs.declared.Space.{Space}
 use Rattle.opening.specs.Trees.{Fitted}
 use Rattle.opening.specs.Sound.{Sound}
 
@@ -75,15 +74,12 @@ variable-safe w told (derived.integer derived.negative) k h = h
 variable-safe w told derived.decimal k h = h
 variable-safe w told derived.negative_decimal k h = h
 
-module _ {text : List ℕ} {s : Syntax.Model} {space : Space} {root : ℕ} (f : Fitted text s space root) (v : Sound text s) where
+module _ {text : List ℕ} {s : Syntax.Model} {kinds places : List ℕ} {contents : List Content} {nodes : List ℕ} {root : ℕ} (f : Fitted text s kinds places contents nodes root) (v : Sound text s) where
   abbrev low : List ℕ
-  low = lows_in space.contents
+  low = lows_in contents
 
   abbrev high : List ℕ
-  high = highs_in space.contents
-
-  abbrev nodes : List ℕ
-  nodes = space.model.nodes
+  high = highs_in contents
 
   abbrev w : ℕ → List ℕ
   w = word_of text
@@ -163,7 +159,7 @@ module _ {text : List ℕ} {s : Syntax.Model} {space : Space} {root : ℕ} (f : 
         room = omega (arith, f.fewer, f.read.few);
       }
 
-  unfoldable resolvable : Resolvable low high nodes token_limit lists_of
+  unfoldable resolvable : Resolvable low high nodes token_limit token_limit token_limit lists_of
   unfolding base world
   resolvable =
       record {
@@ -172,20 +168,22 @@ module _ {text : List ℕ} {s : Syntax.Model} {space : Space} {root : ℕ} (f : 
         new = yes8;
         decimals = rate-told;
         literals = rw f.read.tree (system-literal f.read.reading);
-        inside = omega (arith, f.fewer, f.read.few);
+        roots-room = omega (arith, f.fewer, f.read.few);
+        scopes-room = omega (arith, f.fewer, f.read.few);
+        names-room = omega (arith, f.fewer, f.read.few);
       }
 
-  pub can-settle : (lists : Lists) × (lists.root ≡ root) × Resolvable low high nodes token_limit lists
+  pub can-settle : (lists : Lists) × (lists.root ≡ root) × Resolvable low high nodes token_limit token_limit token_limit lists
   can-settle = (lists_of, refl, resolvable)
 
   -- the model that the tables hold then is the text's
   pub settled-so : {nodes' roots' scopes' : List ℕ} {r vars defs sums channels : ℕ}
-      → ((lists : Lists) (h : Resolvable low high nodes token_limit lists) → lists.root ≡ root → Represents nodes' roots' scopes' r vars defs sums channels (resolved h.base.world.word h.base.world.model))
+      → ((lists : Lists) (h : Resolvable low high nodes token_limit token_limit token_limit lists) → lists.root ≡ root → Represents nodes' roots' scopes' r vars defs sums channels (resolved h.base.world.word h.base.world.model))
       → Represents nodes' roots' scopes' r vars defs sums channels (resolved w s)
   unfolding resolvable base world
   settled-so h = h lists_of resolvable refl
 
   -- and the tables are told by the text
-  pub settles-so : {nodes' roots' scopes' : List ℕ} {x : Model} → ((lists : Lists) (h : Resolvable low high nodes token_limit lists) → lists.root ≡ root → Settles h.base.world.word h.base.world.model nodes' roots' scopes' x) → Settles w s nodes' roots' scopes' x
+  pub settles-so : {nodes' roots' scopes' : List ℕ} {x : Model} → ((lists : Lists) (h : Resolvable low high nodes token_limit token_limit token_limit lists) → lists.root ≡ root → Settles h.base.world.word h.base.world.model nodes' roots' scopes' x) → Settles w s nodes' roots' scopes' x
   unfolding resolvable base world
   settles-so h = h lists_of resolvable refl

@@ -23,14 +23,16 @@ use Rattle.syntax.specs.declared.question.Unfit.TheVariants.{Misfit, Crowded}
 use Rattle.model.specs.Opening.{refused, too_many, asked, byte_place, tree_judged}
 use Rattle.model.specs.Held.{tree_held, model_in}
 use Rattle.model.proofs.Opens.{bytes-refused, goes-wrong, fits}
-use Rattle.opening.specs.declared.Space.{Space}
+use Rattle.names.specs.Tables.{Read}
+use Rattle.names.proofs.Judging.{cut-to}
+use Rattle.opening.specs.declared.Tokens.{Tokens as Table}
 use Rattle.opening.specs.Trees.{TreeRead}
 use Rattle.opening.proofs.Holds.{bytes-none, wrong-none, fits-held}
 use Rattle.opening.proofs.Places.{filled-tokens, filled-placed}
 
 -- ---- 2 to 4
-module _ (text : List ℕ) (space : Space) where
-  pub bytes-no : {j : Result (Unit {0}) Refusal} {r : Refusal} → told j ≡ bytes_judged text → j ≡ Err r → TreeRead text space (Err r)
+module _ (text : List ℕ) (t : Table) (nodes : List ℕ) where
+  pub bytes-no : {j : Result (Unit {0}) Refusal} {r : Refusal} → told j ≡ bytes_judged text → j ≡ Err r → TreeRead text t nodes (Err r)
   unfolding TreeRead
   bytes-no {j} {r} e q =
       let d = sym e ∙ ap told q in
@@ -79,16 +81,16 @@ module _ {text kinds₀ places₀ sizes₀ : List ℕ} {n : ℕ} {kinds places s
 
     module _ (passed : Ok tt ≡ bytes_judged text) where
       -- 5
-      pub misfit-no : (space : Space) {u : Unfit} {k p : ℕ} → r ≡ Err u → u ≡ Misfit k → p ≡ byte_place text k → TreeRead text space (Err (record { question = Grammar; place = p }))
+      pub misfit-no : (t : Table) {u : Unfit} {k p : ℕ} → r ≡ Err u → u ≡ Misfit k → p ≡ byte_place text k → TreeRead text t nodes (Err (record { question = Grammar; place = p }))
       unfolding TreeRead
-      misfit-no space {k = k} q d e =
+      misfit-no t {k = k} q d e =
           let w = goes (q ∙ ap Err d) in
           record { opens = goes-wrong text k (sym passed) w ∙ ap (refused 5) (sym e); holds = wrong-none text k (sym passed) w }
 
       -- 6
-      pub crowded-no : (space : Space) {u : Unfit} {k p : ℕ} → r ≡ Err u → u ≡ Crowded k → p ≡ byte_place text k → TreeRead text space (Err (record { question = Tokens; place = p }))
+      pub crowded-no : (t : Table) {u : Unfit} {k p : ℕ} → r ≡ Err u → u ≡ Crowded k → p ≡ byte_place text k → TreeRead text t nodes (Err (record { question = Tokens; place = p }))
       unfolding TreeRead tree_judged tree_held too_many asked model_in
-      crowded-no space {k = k} q d e =
+      crowded-no t {k = k} q d e =
           let b = crowding (q ∙ ap Err d) in
           let l : token_limit < length (tokens text) = omega (arith, few, b.1) in
           record {
@@ -96,23 +98,27 @@ module _ {text kinds₀ places₀ sizes₀ : List ℕ} {n : ℕ} {kinds places s
             holds = fits-held text b.0.0 (sym passed) b.0.1 ∙ simp (lt-leb (length (tokens text)) token_limit l);
           }
 
-      pub fits-yes : (space : Space) {low high : List ℕ} {root : ℕ} → space.kinds ≡ kinds → space.places ≡ places → space.model.nodes ≡ nodes → space.count ≡ n → token_limit ≤ length nodes → r ≡ Ok root → Told text low high n (lows_in space.contents) (highs_in space.contents) → TreeRead text space (Ok root)
+      pub fits-yes : (t : Table) {low high : List ℕ} {root : ℕ} → t.kinds ≡ kinds → t.places ≡ places → t.count ≡ n → token_limit ≤ length nodes → r ≡ Ok root → Told text low high n (lows_in t.contents) (highs_in t.contents) → TreeRead text t nodes (Ok root)
       unfolding TreeRead
-      fits-yes space {low} {high} ks ps ns c room q t =
-          let g = (fitting q).0 in (
+      fits-yes t {low} {high} ks ps c room q o =
+          let g = (fitting q).0 in
+          let x : Read text (syntax_of g.tree) kinds (lows_in t.contents) (highs_in t.contents) nodes _ n = record {
+            tabled = record { count = f.count; kinds-are = filled-tokens f; lows-are = told-all low (low_of text) o.lows-are; highs-are = told-all high (high_of text) o.highs-are };
+            few = fit-few q;
+            reading = g.tree;
+            reads = g.reads;
+            tree = refl;
+            holds = g.shown (omega (arith, g.few, (fitting q).1));
+          } in (
             syntax_of g.tree,
             record {
-              read = rw (ks, ns, c) (record {
-                tabled = record { count = f.count; kinds-are = filled-tokens f; lows-are = told-all low (low_of text) t.lows-are; highs-are = told-all high (high_of text) t.highs-are };
-                few = fit-few q;
-                reading = g.tree;
-                reads = g.reads;
-                tree = refl;
-                holds = g.shown (omega (arith, g.few, (fitting q).1));
+              count = c ∙ f.count;
+              cut = rw (ks, ps, c) (record {
+                read = cut-to x;
+                placed = filled-placed f;
+                fewer = omega (arith, g.few, few, f.count, ap length (filled-tokens f));
+                opens = fits text g.tree (sym passed) g.reads;
+                holds = fits-held text g.tree (sym passed) g.reads;
               });
-              placed = rw (ps, c) (filled-placed f);
-              fewer = omega (arith, g.few, few, f.count, c);
-              opens = fits text g.tree (sym passed) g.reads;
-              holds = fits-held text g.tree (sym passed) g.reads;
             },
           )

@@ -10,7 +10,7 @@ use Rattle.model.specs.Limits.{beyond}
 use Rattle.model.specs.Fresh.{not_new}
 use Rattle.model.specs.Given.{not_given}
 use Rattle.model.specs.Opening.{byte_place, system_token}
-use Rattle.opening.specs.Trees.{Closed, Fitted}
+use Rattle.opening.specs.Trees.{Closed, FittedIn}
 use Rattle.opening.specs.declared.SoundTree.{SoundTree}
 use Rattle.opening.specs.declared.Space.{Space}
 
@@ -31,7 +31,7 @@ NamesJudged text s (Ok p) = Sound text s × (p ≡ byte_place text (system_token
 
 -- 01, after question 9: the text fits and is sound, the tables hold its tokens and its tree, and its system line begins at the tree's place
 pub record SoundHeld (text : List ℕ) (s : Syntax.Model) (space : Space) (t : SoundTree) : Type 0 where
-  pub fitted : Fitted text s space t.root
+  pub fitted : FittedIn text s space.tokens space.model.nodes t.root
   pub sound : Sound text s
   pub place-is : t.place ≡ byte_place text (system_token (system s))
 

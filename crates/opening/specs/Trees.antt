@@ -1,6 +1,7 @@
 -- What reading a text's tree answers: questions 2 to 6 (01, Opening a text). Assumes nothing: these are definitions.
 use Rattle.std.specs.Prelude.{◌≡◌, List, ℕ, ◌<◌, length, take, Err, Ok, Result}
 use Rattle.std.proofs.Math.Option.{none}
+use Rattle.token.specs.declared.Content.{Content}
 use Rattle.token.specs.Contents.{lows_in, highs_in}
 use Rattle.token.specs.Token.{tokens, places_of}
 use Rattle.token.specs.declared.Refusal.{Refusal}
@@ -9,12 +10,11 @@ use Rattle.grammar.specs.Syntax
 use Rattle.model.specs.Opening.{refused, tree_judged, opening}
 use Rattle.model.specs.Held.{tree_held, model_in, held}
 use Rattle.names.specs.Tables.{Read}
-use Rattle.opening.specs.declared.Space.{Space}
+use Rattle.opening.specs.declared.Tokens.{Tokens}
 
--- a table begins with the places of the text's n tokens
-pub record Placed (text places : List ℕ) (n : ℕ) : Type 0 where
-  pub count : n ≡ length (tokens text)
-  pub places-are : take n places ≡ places_of (tokens text)
+-- a table has the places of the text's tokens
+abbrev pub Placed : (text places : List ℕ) → Type 0
+Placed text places = places ≡ places_of (tokens text)
 
 -- 01, Opening a text: the answer no to question n at the byte p, and no model
 pub record Closed (text : List ℕ) (n p : ℕ) : Type 0 where
@@ -22,18 +22,23 @@ pub record Closed (text : List ℕ) (n p : ℕ) : Type 0 where
   pub holds : held text ≡ none
 
 -- 01, after question 6: the text has the syntax tree s, the tables hold its tokens and its tree, and 7 to 10 are asked of s
-pub record Fitted (text : List ℕ) (s : Syntax.Model) (space : Space) (root : ℕ) : Type 0 where
-  pub read : Read text s space.kinds (lows_in space.contents) (highs_in space.contents) space.model.nodes root space.count
-  pub placed : Placed text space.places space.count
-  pub fewer : root < space.count
+pub record Fitted (text : List ℕ) (s : Syntax.Model) (kinds places : List ℕ) (contents : List Content) (nodes : List ℕ) (root : ℕ) : Type 0 where
+  pub read : Read text s kinds (lows_in contents) (highs_in contents) nodes root (length kinds)
+  pub placed : Placed text places
+  pub fewer : root < length kinds
   pub opens : opening text ≡ tree_judged text s
   pub holds : held text ≡ model_in (tree_held text s)
+
+-- 01, after question 6: the same of the tables of the text's tokens, cut to these
+pub record FittedIn (text : List ℕ) (s : Syntax.Model) (t : Tokens) (nodes : List ℕ) (root : ℕ) : Type 0 where
+  pub count : t.count ≡ length (tokens text)
+  pub cut : Fitted text s (take t.count t.kinds) (take t.count t.places) t.contents nodes root
 
 -- the root of the tree, or the first no to 2 to 6
 abbrev pub Tree : Type 0
 Tree = Result ℕ Refusal
 
 -- 01, Opening a text, 2 to 6: the first no with its place, or the text's tree
-unfoldable pub TreeRead : (text : List ℕ) → Space → Tree → Type 0
-TreeRead text space (Err r) = Closed text (question_number r.question) r.place
-TreeRead text space (Ok root) = (s : Syntax.Model) × Fitted text s space root
+unfoldable pub TreeRead : (text : List ℕ) → Tokens → (nodes : List ℕ) → Tree → Type 0
+TreeRead text t nodes (Err r) = Closed text (question_number r.question) r.place
+TreeRead text t nodes (Ok root) = (s : Syntax.Model) × FittedIn text s t nodes root

@@ -1,22 +1,12 @@
 // Counts the processes that a model starts with, in its tables.
-ghost use Rattle.std.specs.Prelude.{◌≡◌, List, ℕ, ◌+◌, ◌*◌, ◌≤◌, length};
+ghost use Rattle.std.specs.Prelude.{◌≡◌, List, ℕ, ◌*◌, ◌≤◌};
 ghost use Rattle.tree.specs.Node.{field};
 ghost use Rattle.model.specs.Resolved;
 ghost use Rattle.model.specs.Opening.{sums_in, start_processes};
-ghost use Rattle.tables.specs.Represents as tables;
 ghost use Rattle.opening.specs.Counts.{Countable, ItemAt, Counts};
 
 use crate::Limits;
 use tree::NodeKind;
-
-// How many sums the body at k has.
-fn sums_at(nodes: &[u64], k: usize) -> usize
-    requires { (ns : List ℕ) × tables.Sums nodes.now ns k }
-    ensures by_index { (ns : List ℕ) → tables.Sums nodes.now ns k → result ≡ length ns }
-    ensures upper_bound { result ≤ k + 1 }
-{
-    names::run_of(nodes, NodeKind::BESIDE, k) + 1
-}
 
 // How many processes the item of the system line at k starts.
 fn item_processes(nodes: &[u64], first: usize, k: usize) -> usize
@@ -27,7 +17,7 @@ fn item_processes(nodes: &[u64], first: usize, k: usize) -> usize
     let item = nodes[k];
     let d = first - tree::token_of(item);
     let body = tree::left_of(nodes[d]) - 1;
-    tree::left_of(item) * sums_at(nodes, body)
+    tree::left_of(item) * tables::count_sums(nodes, body)
 }
 
 // How many processes the system line at `line` starts; above the limit, some number above it.

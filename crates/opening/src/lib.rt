@@ -4,8 +4,9 @@
 mod count;
 
 ghost use Rattle.token.specs.Contents.{lows_in, highs_in};
-ghost use Rattle.std.specs.Prelude.{◌≡◌, List, ℕ, ◌≤◌, ◌<◌, length};
-ghost use Rattle.token.specs.Questions.{bytes_judged, question_number};
+ghost use Rattle.std.specs.Prelude.{◌≡◌, List, ℕ, ◌≤◌, ◌<◌, length, take};
+ghost use Rattle.token.specs.Questions.{text_limit, bytes_judged, question_number};
+ghost use Rattle.grammar.specs.Limit.{token_limit};
 ghost use Rattle.grammar.specs.Syntax;
 ghost use Rattle.tree.specs.Node.{kind_of, token_of, counted};
 ghost use Rattle.tree.specs.Table;
@@ -33,30 +34,66 @@ impl Limits {
     pub const PROCESSES: usize = model::Limits::PROCESSES;
 }
 
-// The tables that a text is read into: its tokens, how many they are, and what its tree and its model stand in.
+// The most tokens of a text, and nodes of its tree.
+pub const TOKENS: usize = question::Limits::TOKENS;
+
+// The tables of a text's tokens, and how many they are.
+// They are its own, and no lent slices: what is written through a struct of those is lost to the check.
 #[derive(Drop)]
-pub struct Space {
+pub struct Tokens {
     pub kinds: [u8; token::Limits::TEXT],
     pub places: [u16; token::Limits::TEXT],
     pub sizes: [u16; token::Limits::TEXT],
-    pub contents: [Content; question::Limits::TOKENS],
+    pub contents: [Content; TOKENS],
     pub count: usize,
-    pub model: Workspace<{ question::Limits::TOKENS }>,
+}
+
+impl Tokens {
+    pub const EMPTY: Tokens = Tokens {
+        kinds: [0; token::Limits::TEXT],
+        places: [0; token::Limits::TEXT],
+        sizes: [0; token::Limits::TEXT],
+        contents: [Content { low: 0, high: 0 }; TOKENS],
+        count: 0,
+    };
+
+    // What questions 7 to 9 are asked of.
+    pub fn words(&self) -> Words<'_>
+        requires { self.now.count ≤ text_limit }
+        ensures { (result.kinds.now ≡ take self.now.count self.now.kinds) × (result.places.now ≡ take self.now.count self.now.places) × (result.contents.now ≡ self.now.contents) }
+    {
+        Words {
+            kinds: &self.kinds[..self.count],
+            places: &self.places[..self.count],
+            contents: &self.contents,
+        }
+    }
+}
+
+// The kind and the place of each token of a text, and their contents, which may go on past the last.
+#[derive(Clone, Copy)]
+pub struct Words<'a> {
+    pub kinds: &'a [u8],
+    pub places: &'a [u16],
+    pub contents: &'a [Content],
+}
+
+// The tables that a text is read into: its tokens, and what its tree and its model stand in.
+#[derive(Drop)]
+pub struct Space {
+    pub tokens: Tokens,
+    pub model: Workspace<TOKENS, TOKENS, TOKENS, TOKENS>,
 }
 
 impl Space {
     pub const EMPTY: Space = Space {
-        kinds: [0; token::Limits::TEXT],
-        places: [0; token::Limits::TEXT],
-        sizes: [0; token::Limits::TEXT],
-        contents: [Content { low: 0, high: 0 }; question::Limits::TOKENS],
-        count: 0,
+        tokens: Tokens::EMPTY,
         model: Workspace {
-            nodes: [0; question::Limits::TOKENS],
-            roots: [0; question::Limits::TOKENS],
-            scopes: [0; question::Limits::TOKENS],
+            nodes: [0; TOKENS],
+            roots: [0; TOKENS],
+            scopes: [0; TOKENS],
             channels: Channels {
-                nodes: [0; question::Limits::TOKENS],
+                nodes: [0; TOKENS],
                 count: 0,
             },
         },
@@ -73,17 +110,6 @@ impl Space {
             root: found.lists.root,
             variables: found.lists.variables,
         }
-    }
-
-    // The byte at which token k stands, or the text's end past the last.
-    pub fn byte_place(&self, text: &[u8], k: usize) -> usize
-        requires { Placed text.now self.now.places self.now.count }
-        ensures { result ≡ byte_place text.now k }
-    {
-        if k < self.count {
-            return self.places[k] as usize;
-        }
-        text.len()
     }
 }
 
@@ -109,45 +135,63 @@ pub struct Accepted {
     pub processes: usize,
 }
 
-// Questions 5 and 6 of a text that has passed those before: the root of its tree.
-fn read_tokens(text: &[u8], space: &mut Space) -> Result<usize, Refusal>
-    requires { Ok tt ≡ bytes_judged text.now }
-    ensures tree_read { TreeRead text.now space.new result }
-    ensures marked { Marked text.now space.old.places space.old.sizes space.new.places space.new.sizes }
+// The byte at which token k stands, or the text's end past the last.
+pub fn byte_place(text: &[u8], places: &[u16], k: usize) -> usize
+    requires { Placed text.now places.now }
+    ensures { result ≡ byte_place text.now k }
 {
-    let n = token::fill(text, &mut space.kinds, &mut space.places, &mut space.sizes);
-    space.count = n;
-    let asked = question::judge_text(&space.kinds[..n], &mut space.model.nodes);
+    match places.get(k) {
+        Some(place) => usize::from(*place),
+        None => text.len(),
+    }
+}
+
+// Questions 5 and 6 of a text that has passed those before: the root of its tree.
+fn read_tokens(text: &[u8], tokens: &mut Tokens, nodes: &mut [u64]) -> Result<usize, Refusal>
+    requires passed { Ok tt ≡ bytes_judged text.now }
+    requires room { token_limit ≤ length nodes.old }
+    ensures tree_read { TreeRead text.now tokens.new nodes.new result }
+    ensures marked { Marked text.now tokens.old.places tokens.old.sizes tokens.new.places tokens.new.sizes }
+{
+    let n = token::fill(
+        text,
+        &mut tokens.kinds,
+        &mut tokens.places,
+        &mut tokens.sizes,
+    );
+    tokens.count = n;
+    let asked = question::judge_text(&tokens.kinds[..n], nodes);
     match asked {
         Err(Unfit::Misfit(k)) => Err(Refusal {
             question: Question::Grammar,
-            place: space.byte_place(text, k),
+            place: byte_place(text, &tokens.places[..n], k),
         }),
         Err(Unfit::Crowded(k)) => Err(Refusal {
             question: Question::Tokens,
-            place: space.byte_place(text, k),
+            place: byte_place(text, &tokens.places[..n], k),
         }),
         Ok(root) => {
             token::contents(
                 text,
-                &space.kinds,
-                &space.places,
-                &space.sizes,
+                &tokens.kinds,
+                &tokens.places,
+                &tokens.sizes,
                 n,
-                &mut space.contents,
+                &mut tokens.contents,
             );
             Ok(root)
         }
     }
 }
 
-// Questions 2 to 6.
-pub fn read_tree(text: &[u8], space: &mut Space) -> Result<usize, Refusal>
-    ensures tree_read { TreeRead text.now space.new result }
-    ensures tree_marked { TreeMarked text.now space.old.places space.old.sizes space.new.places space.new.sizes result }
+// Questions 2 to 6: the root of the text's tree in these nodes.
+pub fn read_tree(text: &[u8], tokens: &mut Tokens, nodes: &mut [u64]) -> Result<usize, Refusal>
+    requires { token_limit ≤ length nodes.old }
+    ensures tree_read { TreeRead text.now tokens.new nodes.new result }
+    ensures tree_marked { TreeMarked text.now tokens.old.places tokens.old.sizes tokens.new.places tokens.new.sizes result }
 {
     token::judge_bytes(text)?;
-    read_tokens(text, space)
+    read_tokens(text, tokens, nodes)
 }
 
 // The node of the first item of the system line at k.
@@ -185,29 +229,27 @@ fn system_token(nodes: &[u64], root: usize) -> usize
 }
 
 // Questions 7 to 9 of a text that fits: where the system line begins.
-pub fn judge_tree(text: &[u8], space: &Space, root: usize) -> Result<usize, Refusal>
-    requires { (s : Syntax.Model) × Fitted text.now s space.now root }
-    ensures { (s : Syntax.Model) → Fitted text.now s space.now root → NamesJudged text.now s result }
+pub fn judge_tree(text: &[u8], words: Words, nodes: &[u64], root: usize) -> Result<usize, Refusal>
+    requires { (s : Syntax.Model) × Fitted text.now s words.kinds.now words.places.now words.contents.now nodes.now root }
+    ensures { (s : Syntax.Model) → Fitted text.now s words.entry.kinds.now words.entry.places.now words.entry.contents.now nodes.now root → NamesJudged text.now s result }
 {
-    let nodes = &space.model.nodes;
-    let kinds = &space.kinds[..space.count];
-    if let Err(fault) = names::judge_names(kinds, &space.contents, nodes, root) {
+    if let Err(fault) = names::judge_names(words.kinds, words.contents, nodes, root) {
         return Err(Refusal {
             question: fault.question.into(),
-            place: space.byte_place(text, fault.token),
+            place: byte_place(text, words.places, fault.token),
         });
     }
     let first = system_token(nodes, root);
-    Ok(space.byte_place(text, first))
+    Ok(byte_place(text, words.places, first))
 }
 
 // Questions 2 to 9.
 pub fn read_sound(text: &[u8], space: &mut Space) -> Result<SoundTree, Refusal>
     ensures sound_read { SoundRead text.now space.new result }
-    ensures sound_marked { SoundMarked text.now space.old.places space.old.sizes space.new.places space.new.sizes result }
+    ensures sound_marked { SoundMarked text.now space.old.tokens.places space.old.tokens.sizes space.new.tokens.places space.new.tokens.sizes result }
 {
-    let root = read_tree(text, space)?;
-    let place = judge_tree(text, space, root)?;
+    let root = read_tree(text, &mut space.tokens, &mut space.model.nodes)?;
+    let place = judge_tree(text, space.tokens.words(), &space.model.nodes, root)?;
     Ok(SoundTree { root, place })
 }
 
@@ -215,10 +257,10 @@ pub fn read_sound(text: &[u8], space: &mut Space) -> Result<SoundTree, Refusal>
 pub fn settle_sound(space: &mut Space, tree: SoundTree) -> SoundModel
     requires { (text : List ℕ) × (s : Syntax.Model) × SoundHeld text s space.old tree }
     ensures held { (text : List ℕ) (s : Syntax.Model) → SoundHeld text s space.old tree → ModelHeld text space.new.model.nodes space.new.model.roots space.new.model.scopes result.model result.place }
-    ensures marked { (space.new.places ≡ space.old.places) × (space.new.sizes ≡ space.old.sizes) × (space.new.count ≡ space.old.count) }
+    ensures tokens { space.new.tokens ≡ space.old.tokens }
 {
     SoundModel {
-        model: settle::settle(&space.contents, &mut space.model, tree.root),
+        model: settle::settle(&space.tokens.contents, &mut space.model, tree.root),
         place: tree.place,
     }
 }
@@ -226,7 +268,7 @@ pub fn settle_sound(space: &mut Space, tree: SoundTree) -> SoundModel
 // Questions 2 to 9, and the model.
 pub fn read_model(text: &[u8], space: &mut Space) -> Result<SoundModel, Refusal>
     ensures model_read { ModelRead text.now space.new.model.nodes space.new.model.roots space.new.model.scopes result }
-    ensures model_marked { ModelMarked text.now space.old.places space.old.sizes space.new.places space.new.sizes result }
+    ensures model_marked { ModelMarked text.now space.old.tokens.places space.old.tokens.sizes space.new.tokens.places space.new.tokens.sizes result }
 {
     let tree = read_sound(text, space)?;
     Ok(settle_sound(space, tree))

@@ -2,16 +2,17 @@
 
 // Asks questions 2 to 6 of a model text: prints `fits` and how many tokens it has, or `refused`, the number of the first no and its place.
 // It reads standard input, or each file that an argument names, after a line with the name.
-use opening::Space;
+use opening::{TOKENS, Tokens};
 use std::io;
 use token::Limits;
 
 fn show(rt: &impl Print, text: &[u8]) -> io::Result<()> {
-    let mut space = Space::EMPTY;
-    let read = opening::read_tree(text, &mut space);
+    let mut tokens = Tokens::EMPTY;
+    let mut nodes = [0u64; TOKENS];
+    let read = opening::read_tree(text, &mut tokens, &mut nodes);
     match read {
         Err(r) => println!(rt; "refused,{},{}", r.question.number(), r.place),
-        Ok(_) => println!(rt; "fits,{}", space.count),
+        Ok(_) => println!(rt; "fits,{}", tokens.count),
     }
 }
 

@@ -129,8 +129,8 @@ pub fn search_text(text: &[u8], state: &[i64], name: &[u8], depth: u64) -> Found
         },
         Written {
             text,
-            places: &space.places,
-            sizes: &space.sizes,
+            places: &space.tokens.places,
+            sizes: &space.tokens.sizes,
         },
         state,
         name,

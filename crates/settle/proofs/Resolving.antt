@@ -76,7 +76,7 @@ marked_other c xs v n f = by (eqb (kind_of c) 49) refl
 represents-as : {nodes roots scopes : List ℕ} {r r' v v' d d' n n' c c' : ℕ} {x : Resolved.Model} → r ≡ r' → v ≡ v' → d ≡ d' → n ≡ n' → c ≡ c' → Represents nodes roots scopes r v d n c x → Represents nodes roots scopes r' v' d' n' c' x
 represents-as e f g k l z = rw (e, f, g, k, l) at z
 
-module _ {low high t : List ℕ} {room : ℕ} {lists : Lists} (h : Resolvable low high t room lists) where
+module _ {low high t : List ℕ} {R S N : ℕ} {lists : Lists} (h : Resolvable low high t R S N lists) where
   abbrev w : ℕ → List ℕ
   w = h.base.world.word
 
@@ -95,9 +95,9 @@ module _ {low high t : List ℕ} {room : ℕ} {lists : Lists} (h : Resolvable lo
   -- before node i
   pub record Progress (i : ℕ) (nodes roots scopes heard : List ℕ) (met : ℕ) (walk : Walk) : Type 0 where
     pub size : length nodes ≡ length t
-    pub roots-size : length roots ≡ room
-    pub scopes-size : length scopes ≡ room
-    pub heard-size : length heard ≡ room
+    pub roots-size : length roots ≡ R
+    pub scopes-size : length scopes ≡ S
+    pub heard-size : length heard ≡ N
     pub ahead : (j : ℕ) → i ≤ j → get_or nodes j 0 ≡ get_or t j 0
     pub numbers : (j : ℕ) → j < first_node lists → get_or nodes j 0 ≡ get_or t j 0
     pub done : (j : ℕ) → first_node lists ≤ j → j < i → get_or nodes j 0 ≡ cell_of w vs ds t j (point j)
@@ -136,9 +136,9 @@ module _ {low high t : List ℕ} {room : ℕ} {lists : Lists} (h : Resolvable lo
             let z = number-below w m t lists.root h.faultless h.new T h.decimals h.literals h.base.world.holds t roots scopes i from to q in
             let y = sums-after w m t lists.root h.faultless h.new T h.decimals h.literals h.base.world.holds t roots scopes in
             let b = numbers-few w m t (lists.root - length vs - length ds + 1) in
-            (omega (arith, z.0, b.0, y, line-is, x.roots-size, h.inside), omega (arith, z.0, b.0, y, line-is, x.scopes-size, h.inside), z.1);
+            (omega (arith, z.0, b.0, y, line-is, x.roots-size, h.roots-room), omega (arith, z.0, b.0, y, line-is, x.scopes-size, h.scopes-room), z.1);
         seen_few = s;
-        heard-room = omega (arith, s, x.heard-size, h.inside);
+        heard-room = omega (arith, s, x.heard-size, h.names-room);
         sums-few = omega (arith, c.0, h.base.room);
         definitions-few = omega (arith, definitions-few w m t lists.root h.faultless h.new T h.decimals h.literals h.base.world.holds t roots scopes i from to, h.base.few);
       }
@@ -193,7 +193,7 @@ module _ {low high t : List ℕ} {room : ℕ} {lists : Lists} (h : Resolvable lo
   pub look : Lookup low high t lists
   look = record { table = t; base = h.base; kept = record { size = refl; variables = λ j l. refl; numbers = λ j l. refl; chain = λ j l. refl; definitions = λ j l. refl } }
 
-  pub starting : {roots₀ scopes₀ heard₀ : List ℕ} → length roots₀ ≡ room → length scopes₀ ≡ room → length heard₀ ≡ room → (walk : Walk) → ((g : Lookup low high t lists) (heard : List ℕ) → Knows low high (kinds_in g) heard 0 walk (begun (word_in g) (variables_in g) (definitions_of g))) → Progress (first_node lists) t roots₀ scopes₀ heard₀ 0 walk
+  pub starting : {roots₀ scopes₀ heard₀ : List ℕ} → length roots₀ ≡ R → length scopes₀ ≡ S → length heard₀ ≡ N → (walk : Walk) → ((g : Lookup low high t lists) (heard : List ℕ) → Knows low high (kinds_in g) heard 0 walk (begun (word_in g) (variables_in g) (definitions_of g))) → Progress (first_node lists) t roots₀ scopes₀ heard₀ 0 walk
   unfolding look
   starting {heard₀ = heard₀} roots-is scopes-is heard-is walk s =
       let e : point (first_node lists) ≡ begun w vs ds = ap point (sym first-is) ∙ trace-begun w m t in
@@ -230,7 +230,7 @@ module _ {low high t : List ℕ} {room : ℕ} {lists : Lists} (h : Resolvable lo
       represents-as refl first-is (sym h.base.world.gathered.definitions-are) (sym sums) (sym channels)
       (represented w m t lists.root h.faultless h.new T h.decimals h.literals h.base.world.holds nodes roots scopes h.base.room
       (λ j f l. y.done j (omega (arith, first-is)) l) (λ j f l r. y.sums j (omega (arith, first-is)) l r) (λ j l. y.ahead j l)
-      (omega (arith, c.0, a, x.roots-size, h.inside)) (omega (arith, c.0, a, x.scopes-size, h.inside)))
+      (omega (arith, c.0, a, x.roots-size, h.roots-room)) (omega (arith, c.0, a, x.scopes-size, h.scopes-room)))
 
   -- ---- the tables are told by the words and the tree
 
@@ -287,11 +287,11 @@ module _ {low high t : List ℕ} {room : ℕ} {lists : Lists} (h : Resolvable lo
             ∙ sym (cell-alike w vs ds t table j (point_at w vs ds table j) (table_at j (omega arith)));
         before = λ j l. y.numbers j (omega (arith, first-is)) ∙ sym (table_at j (omega (arith, vs-few h.base.world)));
         after = λ j f l. y.ahead j (omega arith) ∙ sym (table_at j l);
-        roots-fit = omega (arith, x.roots-size, h.inside);
-        scopes-fit = omega (arith, x.scopes-size, h.inside);
+        roots-fit = omega (arith, x.roots-size, h.roots-room);
+        scopes-fit = omega (arith, x.scopes-size, h.scopes-room);
         numbered = λ n l. node_of n (sum-node w m t r h.faultless h.new T h.decimals h.literals h.base.world.holds nodes roots scopes h.base.room
             (λ j f l. y.done j (omega (arith, first-is)) l) (λ j f l r. y.sums j (omega (arith, first-is)) l r) (λ j l. y.ahead j l)
-            (omega (arith, c.0, a, x.roots-size, h.inside)) (omega (arith, c.0, a, x.scopes-size, h.inside)) n (omega arith));
+            (omega (arith, c.0, a, x.roots-size, h.roots-room)) (omega (arith, c.0, a, x.scopes-size, h.scopes-room)) n (omega arith));
         branches = λ j f l k. let g = table_at j (omega arith) in rw g (y.sums j (omega (arith, first-is)) (omega arith) (rw g at k)).0;
         locals = λ j f l k. let g = table_at j (omega arith) in rw g ((y.sums j (omega (arith, first-is)) (omega arith) (rw g at k)).1 ∙ ap scope_at (sym (point-same j (omega arith))));
       }
@@ -301,7 +301,7 @@ module _ {low high t : List ℕ} {room : ℕ} {lists : Lists} (h : Resolvable lo
 lists-alike : {r v d r' v' d' : ℕ} → r ≡ r' → v ≡ v' → d ≡ d' → ◌≡◌ {A = Lists} (record { root = r; variables = v; definitions = d }) (record { root = r'; variables = v'; definitions = d' })
 lists-alike e f g = rw (e, f, g)
 
-module _ {low high t : List ℕ} {room : ℕ} {lists : Lists} (h : Resolvable low high t room lists) (root : ℕ) (root_is : lists.root ≡ root) where
+module _ {low high t : List ℕ} {R S N : ℕ} {lists : Lists} (h : Resolvable low high t R S N lists) (root : ℕ) (root_is : lists.root ≡ root) where
   pub model-there : (m : Syntax.Model) × (lo : ℕ) × Table.Model t m lo root
   model-there = (h.base.world.model, 0, rw root_is at h.base.world.holds)
 
@@ -315,21 +315,21 @@ module _ {low high t : List ℕ} {room : ℕ} {lists : Lists} (h : Resolvable lo
     pub root-same : r.root ≡ root
     root-same = ap (λ (x : Lists). x.root) (sym same_lists) ∙ root_is
 
-    pub resolvable : Resolvable low high t room r
-    resolvable = subst (λ (l : Lists). Resolvable low high t room l) same_lists h
+    pub resolvable : Resolvable low high t R S N r
+    resolvable = subst (λ (l : Lists). Resolvable low high t R S N l) same_lists h
 
     -- before node i of the loop
     pub standing-at : (nodes roots scopes heard : List ℕ) (met : ℕ) (walk : Walk) (i : ℕ) → r.variables ≤ i → i ≤ line_node r
-        → ((g : Resolvable low high t room r) → Progress g i nodes roots scopes heard met walk) → Standing low high nodes roots scopes heard r met walk i
+        → ((g : Resolvable low high t R S N r) → Progress g i nodes roots scopes heard met walk) → Standing low high nodes roots scopes heard r met walk i
     standing-at nodes roots scopes heard met walk i f l x = standing resolvable i nodes roots scopes heard met walk f l (x resolvable)
 
     pub settled-so : (nodes roots scopes heard : List ℕ) (met : ℕ) (walk : Walk) (i line : ℕ) → line ≡ r.root - r.variables - r.definitions → line < i → i ≤ line + 1
-        → ((g : Resolvable low high t room r) → Progress g i nodes roots scopes heard met walk)
+        → ((g : Resolvable low high t R S N r) → Progress g i nodes roots scopes heard met walk)
         → Represents nodes roots scopes r.root r.variables r.definitions walk.sums met (resolved h.base.world.word h.base.world.model)
         × Settles h.base.world.word h.base.world.model nodes roots scopes (record { lists = r; sums = walk.sums; channels = met })
     settled-so nodes roots scopes heard met walk i line e l u f =
         let q : i ≡ line_node r + 1 = omega (arith, e) in
-        subst (λ (k : Lists). (g : Resolvable low high t room k)
+        subst (λ (k : Lists). (g : Resolvable low high t R S N k)
         → Represents nodes roots scopes r.root r.variables r.definitions walk.sums met (resolved g.base.world.word g.base.world.model)
         × Settles g.base.world.word g.base.world.model nodes roots scopes (record { lists = r; sums = walk.sums; channels = met })) (sym same_lists)
         (λ g. (finished g nodes roots scopes heard met walk i q (f g), settles g nodes roots scopes heard met walk i q (f g))) h

@@ -227,11 +227,13 @@ line_node lists = lists.root - lists.variables - lists.definitions
 
 -- ---- the whole walk
 
--- the tables of a text without faults: nothing is beyond a limit, not new or not given (01, questions 7, 8 and 9); room: how many nodes there is room for
-pub record Resolvable (low high t : List ℕ) (room : ℕ) (lists : Lists) : Type 0 where
+-- the tables of a text without faults: nothing is beyond a limit, not new or not given (01, questions 7, 8 and 9); roots, scopes, names: of how many sums there is room for the roots and the scopes, and for how many channel names
+pub record Resolvable (low high t : List ℕ) (roots scopes names : ℕ) (lists : Lists) : Type 0 where
   pub base : Base low high t lists
   pub faultless : Faultless base.world.word base.world.model
   pub new : (k : ℕ) → NotNew base.world.word base.world.model k → ⊥
   pub decimals : (sc : List ℕ) (i k : ℕ) (g : Syntax.Gate) (x : Syntax.Action) (r : Syntax.Rate) (n : Syntax.Next) → BranchIn base.world.model sc i (Syntax.branch k g x r n) → (b : Bool) (j : ℕ) → scale_of r ≡ Syntax.number b true j → Told low base.world.word j
   pub literals : SystemLiteral (system base.world.model)
-  pub inside : lists.root < room
+  pub roots-room : lists.root < roots
+  pub scopes-room : lists.root < scopes
+  pub names-room : lists.root < names

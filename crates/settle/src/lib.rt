@@ -44,12 +44,18 @@ pub struct Channels<const N: usize> {
 
 // What a model is resolved in: its nodes; for each sum the root of its branches, and its scope; and its channel names.
 // A scope is its locals and its definition in one number, in a table of its own: a state is judged by these numbers alone.
+// The tables are its own, of any four lengths, and no lent slices: what is written through a struct of those is lost to the check.
 #[derive(Drop)]
-pub struct Workspace<const N: usize> {
-    pub nodes: [u64; N],
-    pub roots: [u16; N],
-    pub scopes: [u16; N],
-    pub channels: Channels<N>,
+pub struct Workspace<
+    const NODES: usize,
+    const ROOTS: usize,
+    const SCOPES: usize,
+    const NAMES: usize,
+> {
+    pub nodes: [u64; NODES],
+    pub roots: [u16; ROOTS],
+    pub scopes: [u16; SCOPES],
+    pub channels: Channels<NAMES>,
 }
 
 // What a resolved model's tables hold: where its lists stand, and how many sums and channel names it has.
@@ -145,21 +151,6 @@ fn kid_of(node: u64, bit: u64) -> Option<usize>
     (kid != 0).then_some(kid)
 }
 
-// Makes the name k the node n, a kid of the node i for a bit.
-fn hang(heard: &mut [u64], i: usize, bit: u64, n: usize, k: usize)
-    requires { (i < length heard.old) × (i < n) × (n < field) × (k < field) }
-    ensures { heard.new ≡ hung_below heard.old i bit n k }
-{
-    let node = heard[i];
-    let name = tree::token_of(node);
-    tree::node(heard, n, 0, k, 0, 0);
-    if bit == 0 {
-        tree::node(heard, i, 0, name, n, tree::third_of(node));
-        return;
-    }
-    tree::node(heard, i, 0, name, tree::left_of(node), n);
-}
-
 impl<const N: usize> Channels<N> {
     // No channel name is met.
     fn forget(&mut self)
@@ -167,6 +158,24 @@ impl<const N: usize> Channels<N> {
         ensures size { length self.new.nodes ≡ N }
     {
         self.count = 0;
+    }
+
+    // Makes the name k the next node, a kid of the node i for a bit.
+    fn hang(&mut self, i: usize, bit: u64, k: usize)
+        requires { (i < N) × (self.old.count < field) × (k < field) }
+        ensures nodes { self.new.nodes ≡ hung_below self.old.nodes i bit self.old.count k }
+        ensures count { self.new.count ≡ self.old.count + 1 }
+    {
+        let n = self.count;
+        let node = self.nodes[i];
+        let name = tree::token_of(node);
+        self.count = n + 1;
+        tree::node(&mut self.nodes, n, 0, k, 0, 0);
+        if bit == 0 {
+            tree::node(&mut self.nodes, i, 0, name, n, tree::third_of(node));
+            return;
+        }
+        tree::node(&mut self.nodes, i, 0, name, tree::left_of(node), n);
     }
 
     // The number of the name k; a new one hangs in the tree then. From a name that isn't k's, the next bit of k's leads on.
@@ -191,8 +200,7 @@ impl<const N: usize> Channels<N> {
                 return i;
             }
             let Some(kid) = kid_of(node, bits % 2) else {
-                hang(&mut self.nodes, i, bits % 2, n, k);
-                self.count = n + 1;
+                self.hang(i, bits % 2, k);
                 return n;
             };
             bits = bits / 2 + TOP * (first % 2);
@@ -242,16 +250,24 @@ fn value_named(parsed: Parsed, scope: Scope, k: usize) -> Option<u64>
     None
 }
 
-// Where the node i is a sum's, keeps the root of its branches, and its locals and definition, under its number.
-fn mark_sum(roots: &mut [u16], scopes: &mut [u16], node: u64, i: usize, walk: Walk)
-    requires { (kind_of node ≡ sumKind → (token_of node < length roots.old) × (token_of node < length scopes.old) × (0 < i)) × (i < field) × (walk.scope.count < 256) × (walk.definitions ≤ definition_limit) }
-    ensures roots_after { roots.new ≡ marked_by node roots.old (i - 1) }
-    ensures scopes_after { scopes.new ≡ marked_by node scopes.old (walk.scope.count + walk.definitions * 16) }
-{
-    if tree::kind_of(node) == NodeKind::SUM {
-        let n = tree::token_of(node);
-        roots[n] = (i - 1) as u16;
-        scopes[n] = (walk.scope.count + walk.definitions * 16) as u16;
+impl<const NODES: usize, const ROOTS: usize, const SCOPES: usize, const NAMES: usize> Workspace<
+    NODES,
+    ROOTS,
+    SCOPES,
+    NAMES,
+> {
+    // Where the node i is a sum's, keeps the root of its branches, and its locals and definition, under its number.
+    fn mark_sum(&mut self, node: u64, i: usize, walk: Walk)
+        requires { (kind_of node ≡ sumKind → (token_of node < ROOTS) × (token_of node < SCOPES) × (0 < i)) × (i < field) × (walk.scope.count < 256) × (walk.definitions ≤ definition_limit) }
+        ensures roots_after { self.new.roots ≡ marked_by node self.old.roots (i - 1) }
+        ensures scopes_after { self.new.scopes ≡ marked_by node self.old.scopes (walk.scope.count + walk.definitions * 16) }
+        ensures rest { (self.new.nodes ≡ self.old.nodes) × (self.new.channels ≡ self.old.channels) }
+    {
+        if tree::kind_of(node) == NodeKind::SUM {
+            let n = tree::token_of(node);
+            self.roots[n] = (i - 1) as u16;
+            self.scopes[n] = (walk.scope.count + walk.definitions * 16) as u16;
+        }
     }
 }
 
@@ -383,11 +399,15 @@ fn settle_node<const N: usize>(
 }
 
 // Resolves the model at this root: one walk over its definitions and its system line, in the text's order.
-pub fn settle<const N: usize>(contents: &[Content], space: &mut Workspace<N>, root: usize) -> Model
-    requires { (lists : Lists) × (lists.root ≡ root) × Resolvable (lows_in contents.now) (highs_in contents.now) space.old.nodes N lists }
-    ensures represents { (lists : Lists) (h : Resolvable (lows_in contents.now) (highs_in contents.now) space.old.nodes N lists) → lists.root ≡ root → Represents space.new.nodes space.new.roots space.new.scopes result.lists.root result.lists.variables result.lists.definitions result.sums result.channels (Resolved.resolved h.base.world.word h.base.world.model) }
+pub fn settle<const NODES: usize, const ROOTS: usize, const SCOPES: usize, const NAMES: usize>(
+    contents: &[Content],
+    space: &mut Workspace<NODES, ROOTS, SCOPES, NAMES>,
+    root: usize,
+) -> Model
+    requires { (lists : Lists) × (lists.root ≡ root) × Resolvable (lows_in contents.now) (highs_in contents.now) space.old.nodes ROOTS SCOPES NAMES lists }
+    ensures represents { (lists : Lists) (h : Resolvable (lows_in contents.now) (highs_in contents.now) space.old.nodes ROOTS SCOPES NAMES lists) → lists.root ≡ root → Represents space.new.nodes space.new.roots space.new.scopes result.lists.root result.lists.variables result.lists.definitions result.sums result.channels (Resolved.resolved h.base.world.word h.base.world.model) }
     ensures definitions_bound { result.lists.variables + result.lists.definitions ≤ result.lists.root }
-    ensures settles { (lists : Lists) (h : Resolvable (lows_in contents.now) (highs_in contents.now) space.old.nodes N lists) → lists.root ≡ root → Settles h.base.world.word h.base.world.model space.new.nodes space.new.roots space.new.scopes result }
+    ensures settles { (lists : Lists) (h : Resolvable (lows_in contents.now) (highs_in contents.now) space.old.nodes ROOTS SCOPES NAMES lists) → lists.root ≡ root → Settles h.base.world.word h.base.world.model space.new.nodes space.new.roots space.new.scopes result }
 {
     let lists = names::lists_of(&space.nodes, root);
     let line = lists.line();
@@ -405,7 +425,7 @@ pub fn settle<const N: usize>(contents: &[Content], space: &mut Workspace<N>, ro
             lists,
         };
         let (cell, next) = settle_node(parsed, &mut space.channels, walk, node);
-        mark_sum(&mut space.roots, &mut space.scopes, node, i, walk);
+        space.mark_sum(node, i, walk);
         space.nodes[i] = cell;
         walk = next;
     }

@@ -3,6 +3,7 @@ use mathlib.Core.Path.{◌≡◌, refl, sym, ap, ◌∙◌}
 use mathlib.Core.List.{List}
 use Prim.Native.Nat.{ℕ}
 use Rattle.std.specs.Prelude.{None, Some, Err, Ok}
+use Rattle.token.specs.declared.Content.{Content}
 use Rattle.token.specs.declared.Refusal.{Refusal}
 use Rattle.token.specs.declared.Question.TheVariants as question
 use Rattle.token.specs.Questions.{Found, question_number}
@@ -72,17 +73,17 @@ module _ (p : Profile) (text : List ℕ) where
       passes q = record { plain = model-opened; opens = asks ∙ ap (λ (g : Found). asked text 29 g (opened model-opened.model)) q }
 
 -- ---- the tables of a text that fits and is sound can be searched
-module _ {text : List ℕ} {s : Syntax.Model} {space : Space} {root : ℕ} (f : Fitted text s space root) (v : Sound text s) {lists : Lists} (g : Gathered s root lists) where
+module _ {text : List ℕ} {s : Syntax.Model} {kinds places : List ℕ} {contents : List Content} {nodes : List ℕ} {root : ℕ} (f : Fitted text s kinds places contents nodes root) (v : Sound text s) {lists : Lists} (g : Gathered s root lists) where
   -- 7 has passed every name
   short : least (words_beyond text 0 (tokens text)) ≡ None
   unfolding beyond
   short = nothing-first _ _ (sym (least-append (words_beyond text 0 (tokens text)) (tree_beyond (word_of text) s)) ∙ v.within)
 
-  pub searched : World Given (lows_in space.contents) (highs_in space.contents) space.model.nodes lists
+  pub searched : World Given (lows_in contents) (highs_in contents) nodes lists
   searched = world f.read Given (λ a. short) lists g _ refl
 
   -- and what is found is told by the text
-  pub found-so : {r : Found} → ((h : World Given (lows_in space.contents) (highs_in space.contents) space.model.nodes lists) → r ≡ least (unsteady h.word h.model)) → r ≡ least (unsteady (word_of text) s)
+  pub found-so : {r : Found} → ((h : World Given (lows_in contents) (highs_in contents) nodes lists) → r ≡ least (unsteady h.word h.model)) → r ≡ least (unsteady (word_of text) s)
   unfolding world
   found-so h = h (world f.read Given (λ a. short) lists g _ refl)
 

@@ -71,7 +71,7 @@ fn offender(profile: Profile, space: &Space, tree: SoundTree) -> Option<usize>
         Profile::Steady => {
             let lists = names::lists_of(&space.model.nodes, tree.root);
             first_unsteady(Parsed {
-                contents: &space.contents,
+                contents: &space.tokens.contents,
                 nodes: &space.model.nodes,
                 lists,
             })
@@ -90,7 +90,7 @@ pub fn open_under(profile: Profile, text: &[u8], space: &mut Space) -> Result<Ac
     match found {
         Some(k) => Err(Refusal {
             question: Question::Steady,
-            place: space.byte_place(text, k),
+            place: opening::byte_place(text, space.tokens.words().places, k),
         }),
         None => Ok(opened),
     }

@@ -24,5 +24,5 @@ returns c =
     let h = sound-tree _ _ c.read_sound.ensures.sound_read c.in_ok-tree.was in
     record {
       model_read = model-read (c.settle_sound.ensures.held _ h.0 h.1);
-      model_marked = rw (c.settle_sound.ensures.marked.0, c.settle_sound.ensures.marked.1) (model-marked _ (names-marked c.read_sound.ensures.sound_marked c.in_ok-tree.was));
+      model_marked = rw c.settle_sound.ensures.tokens (model-marked _ (names-marked c.read_sound.ensures.sound_marked c.in_ok-tree.was));
     }

@@ -12,15 +12,15 @@ use Rattle.opening.proofs.read_tokens.Goals as goal
 
 pub fill-n-requires : goal.fill-n-requires
 fill-n-requires c =
-    let l = passed-short _ c.requires in
-    let a : length c.args.space.now.kinds ≡ 16384 = search rules in
-    let b : length c.args.space.now.places ≡ 16384 = search rules in
-    let d : length c.args.space.now.sizes ≡ 16384 = search rules in
+    let l = passed-short _ c.requires.passed in
+    let a : length c.args.tokens.now.kinds ≡ 16384 = search rules in
+    let b : length c.args.tokens.now.places ≡ 16384 = search rules in
+    let d : length c.args.tokens.now.sizes ≡ 16384 = search rules in
     record { text_len_bound = l; text_in_bounds = (omega arith, omega arith, omega arith) }
 
 pub judge_text-asked-requires : goal.judge_text-asked-requires
 judge_text-asked-requires c =
-    simp length-take (omega (arith, c.fill-n.ensures.count, token-count c.args.text.now, passed-short c.args.text.now c.requires))
+    simp length-take (omega (arith, c.fill-n.ensures.count, token-count c.args.text.now, passed-short c.args.text.now c.requires.passed))
 
 pub byte_place-requires : goal.byte_place-requires
 byte_place-requires c =
@@ -33,22 +33,21 @@ byte_place-requires-in-Err-Crowded c =
 pub contents-requires : goal.contents-requires
 contents-requires c =
     let n = fit-few c.fill-n.ensures _ _ c.judge_text-asked.ensures c.in-Ok.is in
-    let a : length c.args.space.now.contents ≡ 4096 = search rules in
+    let a : length c.args.tokens.now.contents ≡ 4096 = search rules in
     record { held = filled-held c.fill-n.ensures; n_in_bounds = omega arith }
 
 pub returns-in-Err-Misfit : goal.returns-in-Err-Misfit
 returns-in-Err-Misfit c =
-    record { tree_read = misfit-no c.fill-n.ensures _ _ c.judge_text-asked.ensures c.requires _ c.in-Err-Misfit.is (rw c.in-Err-Misfit.is at c.in-Err-Misfit.field-0-is) c.byte_place.ensures; marked = filled-marked c.fill-n.ensures }
+    record { tree_read = misfit-no c.fill-n.ensures _ _ c.judge_text-asked.ensures c.requires.passed _ c.in-Err-Misfit.is (rw c.in-Err-Misfit.is at c.in-Err-Misfit.field-0-is) c.byte_place.ensures; marked = filled-marked c.fill-n.ensures }
 
 pub returns-in-Err-Crowded : goal.returns-in-Err-Crowded
 returns-in-Err-Crowded c =
-    record { tree_read = crowded-no c.fill-n.ensures _ _ c.judge_text-asked.ensures c.requires _ c.in-Err-Crowded.is (rw c.in-Err-Crowded.is at c.in-Err-Crowded.field-0-is) c.byte_place-in-Err-Crowded.ensures; marked = filled-marked c.fill-n.ensures }
+    record { tree_read = crowded-no c.fill-n.ensures _ _ c.judge_text-asked.ensures c.requires.passed _ c.in-Err-Crowded.is (rw c.in-Err-Crowded.is at c.in-Err-Crowded.field-0-is) c.byte_place-in-Err-Crowded.ensures; marked = filled-marked c.fill-n.ensures }
 
 pub returns-in-Ok : goal.returns-in-Ok
 returns-in-Ok c =
-    let a : length c.args.space.now.model.nodes ≡ 4096 = search rules in
-    record { tree_read = fits-yes c.fill-n.ensures _ _ c.judge_text-asked.ensures c.requires _ refl refl refl refl (omega arith) c.in-Ok.is c.contents.ensures; marked = filled-marked c.fill-n.ensures }
+    record { tree_read = fits-yes c.fill-n.ensures _ _ c.judge_text-asked.ensures c.requires.passed _ refl refl refl (omega (arith, c.requires.room)) c.in-Ok.is c.contents.ensures; marked = filled-marked c.fill-n.ensures }
 
 pub shared_ref_as_front-judge_text : goal.shared_ref_as_front-judge_text
 shared_ref_as_front-judge_text c =
-    omega (arith, c.fill-n.ensures.count, token-count c.args.text.now, passed-short c.args.text.now c.requires)
+    omega (arith, c.fill-n.ensures.count, token-count c.args.text.now, passed-short c.args.text.now c.requires.passed)

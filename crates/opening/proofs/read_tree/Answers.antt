@@ -7,7 +7,7 @@ use Rattle.opening.proofs.read_tree.Goals as goal
 pub returns-in_err-judge_bytes-clause-tree_read : goal.returns-in_err-judge_bytes-clause-tree_read
 returns-in_err-judge_bytes-clause-tree_read c =
     let p = err_from_is_err_and c.from_residual.result c.from_residual.ensures.1 in
-    rw (p.1, p.2) (bytes-no _ _ c.judge_bytes.ensures c.in_err-judge_bytes.was)
+    rw (p.1, p.2) (bytes-no _ _ _ c.judge_bytes.ensures c.in_err-judge_bytes.was)
 
 pub returns-in_err-judge_bytes-clause-tree_marked : goal.returns-in_err-judge_bytes-clause-tree_marked
 returns-in_err-judge_bytes-clause-tree_marked c =

@@ -6,4 +6,4 @@ use Rattle.settle.proofs.settle.Given as goal
 
 abbrev pub invariant-loop-i : goal.invariant-loop-i
 invariant-loop-i g l =
-    (l.i ≤ l.line + 1) × ((h : Resolvable (lows_in l.contents) (highs_in l.contents) l.initial.space.nodes g.row.N l.lists) → Progress h l.i l.space.nodes l.space.roots l.space.scopes l.space.channels.nodes l.space.channels.count l.walk)
+    (l.i ≤ l.line + 1) × ((h : Resolvable (lows_in l.contents) (highs_in l.contents) l.initial.space.nodes g.row.ROOTS g.row.SCOPES g.row.NAMES l.lists) → Progress h l.i l.space.nodes l.space.roots l.space.scopes l.space.channels.nodes l.space.channels.count l.walk)

@@ -138,4 +138,4 @@ returns t c =
     let k = s.args.k in
     let is = c.kind_of-kind.ensures ∙ ap kind_of c.cell_at-cell.ensures in
     let o = c.token_of.ensures ∙ ap token_of c.cell_at-cell.ensures in
-    rw (c.min-2.ensures ∙ least _) (call-counts T R N k c.kind_of-kind.result is c.if-kind-eq-GROUP.false c.if-kind-eq-ITEM.false c.if-kind-eq-SUM.false c.count_sums.result (rw (c.body_of.ensures, o) at c.count_sums.ensures.0))
+    rw (c.min-2.ensures ∙ least _) (call-counts T R N k c.kind_of-kind.result is c.if-kind-eq-GROUP.false c.if-kind-eq-ITEM.false c.if-kind-eq-SUM.false c.count_sums.result (rw (c.body_of.ensures, o) at c.count_sums.ensures.value))

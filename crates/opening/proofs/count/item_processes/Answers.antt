@@ -24,14 +24,14 @@ pub overflow_sub-body : goal.overflow_sub-body
 overflow_sub-body c =
     let l = left-above c.args.nodes.now c.requires.2 c.token_of.ensures c.left_of-body.ensures in omega arith
 
-pub sums_at-requires : goal.sums_at-requires
-sums_at-requires c =
+pub count_sums-requires : goal.count_sums-requires
+count_sums-requires c =
     ((body-at c.args.nodes.now c.requires.2 c.token_of.ensures).sums, body-sums c.args.nodes.now c.requires.2 c.token_of.ensures c.left_of-body.ensures)
 
 pub overflow_mul-result : goal.overflow_mul-result
 overflow_mul-result c =
-    let l = product_small c.args.nodes.now c.requires.2 c.token_of.ensures c.left_of-body.ensures c.left_of.ensures c.sums_at.ensures.upper_bound in omega arith
+    let l = product_small c.args.nodes.now c.requires.2 c.token_of.ensures c.left_of-body.ensures c.left_of.ensures c.count_sums.ensures.upper_bound in omega arith
 
 pub returns : goal.returns
 returns c =
-    record { value = λ ds s h. product_is c.args.nodes.now h c.token_of.ensures c.left_of-body.ensures c.left_of.ensures (c.sums_at.ensures.by_index (body-at c.args.nodes.now h c.token_of.ensures).sums (body-sums c.args.nodes.now h c.token_of.ensures c.left_of-body.ensures)); upper_bound = product_small c.args.nodes.now c.requires.2 c.token_of.ensures c.left_of-body.ensures c.left_of.ensures c.sums_at.ensures.upper_bound }
+    record { value = λ ds s h. product_is c.args.nodes.now h c.token_of.ensures c.left_of-body.ensures c.left_of.ensures (c.count_sums.ensures.value (body-at c.args.nodes.now h c.token_of.ensures).sums (body-sums c.args.nodes.now h c.token_of.ensures c.left_of-body.ensures)); upper_bound = product_small c.args.nodes.now c.requires.2 c.token_of.ensures c.left_of-body.ensures c.left_of.ensures c.count_sums.ensures.upper_bound }

@@ -31,7 +31,7 @@ returns-then-same_name g c =
 
 pub returns-in_default : goal.returns-in_default
 returns-in_default g c =
-    case-new c.requires c.loop-k.invariant.0 c.token_of.result c.token_of.ensures c.same_name.result c.same_name.ensures c.if-same_name.false c.kid_of.ensures c.in_default.is _ c.hang.ensures
+    rw (c.hang.ensures.count, c.loop-k.invariant.1) (case-new c.requires c.loop-k.invariant.0 c.token_of.result c.token_of.ensures c.same_name.result c.same_name.ensures c.if-same_name.false c.kid_of.ensures c.in_default.is _ (rw c.loop-k.invariant.1 at c.hang.ensures.nodes))
 
 pub loop-k-preserved : goal.loop-k-preserved
 loop-k-preserved g c =

@@ -28,15 +28,23 @@ fn prefix_next(nodes: &[u64], k: usize) -> Option<usize>
     None
 }
 
+// The branch at k behind its gate, if it has one.
+pub fn past_gate(nodes: &[u64], k: usize) -> usize
+    requires { (b : Resolved.Branch) × Settled.Branch nodes.now b k }
+    ensures { (b : Resolved.Branch) → Settled.Branch nodes.now b k → Settled.Offer nodes.now b.action b.rate b.next result }
+{
+    if tree::kind_of(crate::cell_at(nodes, k)) != NodeKind::GATE {
+        return k;
+    }
+    k - 1
+}
+
 // The continuation of the branch at k.
 pub fn continuation_of(nodes: &[u64], k: usize) -> Option<usize>
     requires { (b : Resolved.Branch) × Settled.Branch nodes.now b k }
     ensures { (b : Resolved.Branch) → Settled.Branch nodes.now b k → Become.ShowsNext nodes.now b.next result }
 {
-    if tree::kind_of(crate::cell_at(nodes, k)) != NodeKind::GATE {
-        return prefix_next(nodes, k);
-    }
-    prefix_next(nodes, k - 1)
+    prefix_next(nodes, past_gate(nodes, k))
 }
 
 // Whether all arguments of the calls at k have values.

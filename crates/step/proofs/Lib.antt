@@ -8,5 +8,4 @@ pub mod Moves
 pub mod Entry
 pub mod Listed
 pub mod Answered
-pub mod Gates
 pub mod Rows

@@ -206,24 +206,13 @@ fn find_branch(tables: Tables, state: &[i64], i: usize, j: usize) -> Found
     Found { own, root }
 }
 
-// The branch at k behind its gate, if it has one.
-fn past_gate(nodes: &[u64], k: usize) -> usize
-    requires { (b : Resolved.Branch) × Settled.Branch nodes.now b k }
-    ensures { (b : Resolved.Branch) → Settled.Branch nodes.now b k → Settled.Offer nodes.now b.action b.rate b.next result }
-{
-    if tree::kind_of(eval::cell_at(nodes, k)) != NodeKind::GATE {
-        return k;
-    }
-    k - 1
-}
-
 // The token of the wait that branch j of the process at place i is.
 pub fn wait_token(tables: Tables, state: &[i64], i: usize, j: usize) -> usize
     requires { Enter.Acting tables.nodes.now tables.roots.now tables.scopes.now state.now i j }
     ensures { (m : Resolved.Model) (s : State) (p : Process) (b : Resolved.Branch) (g : Guard) (n : ℕ) → Enter.Acts tables.entry.nodes.now tables.entry.roots.now tables.entry.scopes.now state.now i j m s p b g → b.action ≡ Resolved.wait n → result ≡ n }
 {
     let found = find_branch(tables, state, i, j);
-    let k = past_gate(tables.nodes, found.root);
+    let k = eval::next::past_gate(tables.nodes, found.root);
     let prefix = eval::cell_at(tables.nodes, k);
     let action = eval::cell_at(tables.nodes, tree::left_of(prefix));
     tree::token_of(action)

@@ -129,7 +129,8 @@ impl Row {
     pub const MOST: usize = 4 * model::Limits::PROCESSES;
 }
 
-// The numbers of a process.
+// The numbers of a process. Sum and locals stay two, here and in `put_row`: a struct of them with the fact of their length would be made at three calls, for each sum anew, to take that fact out of
+// these two contracts; `put_sums` has the locals alone.
 fn numbers_of(sum: usize, locals: &[i64], definition: usize) -> [i64; Row::WIDTH]
     requires { (sum < field) × (length locals.now ≤ local_limit) × (definition < field) }
     ensures { result ≡ process_numbers (record { sum = sum; locals = locals.now; definition = definition }) }

@@ -178,8 +178,8 @@ pub struct Found {
     pub root: usize,
 }
 
-// Branch j of the process at place i. Tables, state, place and branch stay four, here, in `wait_token` and in `enter`: that the branch acts is said of each model and state in an
-// `ensures`, which no fact of a struct of them would take away.
+// Branch j of the process at place i. Tables, state, place and branch stay four, here, in `wait_token` and in `enter`: a struct of them would have no fact of its own, and be made anew, field by
+// field, at each of four calls.
 fn find_branch(tables: Tables, state: &[i64], i: usize, j: usize) -> Found
     requires { Enter.Acting tables.nodes.now tables.roots.now tables.scopes.now state.now i j }
     ensures { ((m : Resolved.Model) (s : State) (p : Process) (b : Resolved.Branch) (g : Guard) → Enter.Acts tables.entry.nodes.now tables.entry.roots.now tables.entry.scopes.now state.now i j m s p b g → (result.own ≡ length p.locals) × Settled.Branch tables.entry.nodes.now b result.root) × (result.own ≤ local_limit) }

@@ -100,10 +100,10 @@ values-alike (Shown.two p q r s u) (Shown.one v w x y z) = absurd (omega arith)
 values-alike (Shown.two p q r s u) (Shown.two v w x y z) = let e = sym q ∙ w in let f = sym s ∙ y in rw (e, f)
 
 all-sets-alike : {t : List ℕ} {ls : List ℤ} {n : ℕ} {a b c d : ℤ} {xs ys : List offers.Set} → Shown.ShowsSets t ls n a b c d xs → Shown.ShowsSets t ls n a b c d ys → xs ≡ ys
-all-sets-alike (Shown.one p q r s) (Shown.one u v w x) = let e = sets-alike q v in rw e
+all-sets-alike (Shown.one p q r s) (Shown.one u v w x) = let e = sets-alike q.shows v.shows in rw e
 all-sets-alike (Shown.one p q r s) (Shown.two u v w) = absurd (omega arith)
 all-sets-alike (Shown.two p q r) (Shown.one u v w x) = absurd (omega arith)
-all-sets-alike (Shown.two p q r) (Shown.two u v w) = let e = sets-alike q v in let f = sets-alike r w in rw (e, f)
+all-sets-alike (Shown.two p q r) (Shown.two u v w) = let e = sets-alike q.shows v.shows in let f = sets-alike r.shows w.shows in rw (e, f)
 
 pub pairs-alike : {r : Offer} {x y : offers.Pair} → Shown.ShowsPair r x → Shown.ShowsPair r y → x ≡ y
 pairs-alike {x = x} {y = y} p q =

@@ -55,39 +55,21 @@ module _ (t : List ℕ) (k kind : ℕ) (is : kind ≡ kind_of (get_or t k 0)) wh
 
 -- of a branch with a gate or without
 module _ (t : List ℕ) (k kind : ℕ) (is : kind ≡ kind_of (get_or t k 0)) where
-  module _ (h : kind ≡ 47 → ⊥) where
-    pub ungated : (b : Resolved.Branch) → Settled.Branch t b k → SomePrefix t k
-    unfolding Settled.Branch Settled.Gated
-    ungated b a = go b.gate a
-      where
-        go : (g : Option Resolved.Cond) → Settled.Gated t g (Settled.Offer t b.action b.rate b.next) k → SomePrefix t k
-        go none o = record { action = b.action; rate = b.rate; next = b.next; at = o }
-        go (some c) o = absurd (h (is ∙ o.kind-is))
+  pub no-gate : (kind ≡ 47 → ⊥) → (b : Resolved.Branch) → Settled.Branch t b k → Settled.Offer t b.action b.rate b.next k
+  unfolding Settled.Branch Settled.Gated
+  no-gate h b a = go b.gate a
+    where
+      go : (g : Option Resolved.Cond) → Settled.Gated t g (Settled.Offer t b.action b.rate b.next) k → Settled.Offer t b.action b.rate b.next k
+      go none o = o
+      go (some c) o = absurd (h (is ∙ o.kind-is))
 
-    pub ungated-next : (r : Next) → NextShown t k r → (b : Resolved.Branch) → Settled.Branch t b k → ShowsNext t b.next r
-    unfolding Settled.Branch Settled.Gated
-    ungated-next r w b a = go b.gate a
-      where
-        go : (g : Option Resolved.Cond) → Settled.Gated t g (Settled.Offer t b.action b.rate b.next) k → ShowsNext t b.next r
-        go none o = w b.action b.rate b.next o
-        go (some c) o = absurd (h (is ∙ o.kind-is))
-
-  module _ (h : kind ≡ 47) where
-    pub gated : (b : Resolved.Branch) → Settled.Branch t b k → (1 ≤ k) × SomePrefix t (k - 1)
-    unfolding Settled.Branch Settled.Gated
-    gated b a = go b.gate a
-      where
-        go : (g : Option Resolved.Cond) → Settled.Gated t g (Settled.Offer t b.action b.rate b.next) k → (1 ≤ k) × SomePrefix t (k - 1)
-        go none o = absurd (omega (arith, (prefix-parts t k b.action b.rate b.next o).kinds))
-        go (some c) o = (pair-above o, record { action = b.action; rate = b.rate; next = b.next; at = pair-second o })
-
-    pub gated-next : (r : Next) → NextShown t (k - 1) r → (b : Resolved.Branch) → Settled.Branch t b k → ShowsNext t b.next r
-    unfolding Settled.Branch Settled.Gated
-    gated-next r w b a = go b.gate a
-      where
-        go : (g : Option Resolved.Cond) → Settled.Gated t g (Settled.Offer t b.action b.rate b.next) k → ShowsNext t b.next r
-        go none o = absurd (omega (arith, (prefix-parts t k b.action b.rate b.next o).kinds))
-        go (some c) o = w b.action b.rate b.next (pair-second o)
+  pub gate : kind ≡ 47 → (b : Resolved.Branch) → Settled.Branch t b k → (1 ≤ k) × Settled.Offer t b.action b.rate b.next (k - 1)
+  unfolding Settled.Branch Settled.Gated
+  gate h b a = go b.gate a
+    where
+      go : (g : Option Resolved.Cond) → Settled.Gated t g (Settled.Offer t b.action b.rate b.next) k → (1 ≤ k) × Settled.Offer t b.action b.rate b.next (k - 1)
+      go none o = absurd (omega (arith, (prefix-parts t k b.action b.rate b.next o).kinds))
+      go (some c) o = (pair-above o, pair-second o)
 
 -- ---- what stands at a root, by its kind
 module _ (t : List ℕ) where

@@ -26,7 +26,7 @@ use Rattle.tables.proofs.Parts.{pair-second}
 use Rattle.machine.specs.Evaluate.{valued, given, eval_set, eval_all}
 use Rattle.std.specs.Bool.{then_some}
 use Rattle.eval.specs.Held.{Sound}
-use Rattle.eval.specs.Shown.{joined_mark, set_in, Numbered, Rooted, ShowsSet, ranged, rooted, one, two, ShowsEnds, are, missing, SetShown, ListsSets, all, SetsListed}
+use Rattle.eval.specs.Shown.{joined_mark, set_in, RootBefore, Numbered, Rooted, ShowsSet, ranged, rooted, one, two, ShowsEnds, are, missing, SetShown, ListsSets, all, SetsListed}
 use Rattle.eval.specs.Shown as shown
 use Rattle.eval.proofs.Exprs.{IsExpr, expr-kind, expr-some}
 use Rattle.eval.proofs.Sets.{SomeSet, Ends, join-range}
@@ -59,8 +59,16 @@ ranged-in a b n = go (int_eq b joined_mark) refl
 pub range-in : (a : ℤ) {b : ℤ} → InRange b → set_in a b ≡ Range a b
 range-in a {b} h = ranged-in a b (λ e. let g : InRange joined_mark = subst InRange e h in false-not-true g.high)
 
+pub range-plain : (a : ℤ) {b : ℤ} → InRange b → RootBefore a b
+unfolding RootBefore
+range-plain a h e = let g : InRange joined_mark = subst InRange e h in absurd (false-not-true g.high)
+
 pub root-in : (k : ℕ) → set_in (pos k) joined_mark ≡ Joined k
 root-in k = joined-in (pos k) joined_mark refl
+
+pub root-plain : (k : ℕ) → RootBefore (pos k) joined_mark
+unfolding RootBefore
+root-plain k e = refl
 
 module _ (t : List ℕ) (k kind : ℕ) (is : kind ≡ kind_of (get_or t k 0)) where
   -- a node of any kind lies in the table
@@ -114,7 +122,7 @@ module _ (t : List ℕ) (k kind : ℕ) (is : kind ≡ kind_of (get_or t k 0)) wh
     root-tried false w h = root-missing false w refl
 
     -- ---- one or two
-    pub one-listed : (u : OfferSet) (b c : ℤ) → set_in b c ≡ u → (kind ≡ 35 → ⊥) → SetShown t ls k (Some u)
+    pub one-listed : (u : OfferSet) (b c : ℤ) → (set_in b c ≡ u) × RootBefore b c → (kind ≡ 35 → ⊥) → SetShown t ls k (Some u)
         → SetsListed t ls k (Some (record { count = 1; first = b; first_end = c; second = pos 0; second_end = pos 0 }))
     unfolding OneOrTwo eval_all given
     one-listed u b c e h w [] a = absurd a
@@ -122,7 +130,7 @@ module _ (t : List ℕ) (k kind : ℕ) (is : kind ≡ kind_of (get_or t k 0)) wh
       where
         go : {o : Option offers.Set} → ShowsEnds t ls o (Some u)
             → ListsSets t ls (Some (record { count = 1; first = b; first_end = c; second = pos 0; second_end = pos 0 })) (given o (λ z. given (some []) (λ zs. some (z ∷ zs))))
-        go (are q) = all (one refl (rw e q) refl refl)
+        go (are q) = all (one refl (record { shows = rw e.0 q; root = e.1 }) refl refl)
     one-listed u b c e h w (s ∷ r ∷ []) a = absurd (h (is ∙ a.kind-is))
     one-listed u b c e h w (s ∷ r ∷ q ∷ ss) a = absurd a
 
@@ -136,7 +144,7 @@ module _ (t : List ℕ) (k kind : ℕ) (is : kind ≡ kind_of (get_or t k 0)) wh
     one-lacks h w (s ∷ r ∷ []) a = absurd (h (is ∙ a.kind-is))
     one-lacks h w (s ∷ r ∷ q ∷ ss) a = absurd a
 
-    pub two-listed : (u z : OfferSet) (b c d e : ℤ) → set_in b c ≡ u → set_in d e ≡ z → kind ≡ 35 → SetShown t ls (left_of (get_or t k 0)) (Some u) → SetShown t ls (k - 1) (Some z)
+    pub two-listed : (u z : OfferSet) (b c d e : ℤ) → (set_in b c ≡ u) × RootBefore b c → (set_in d e ≡ z) × RootBefore d e → kind ≡ 35 → SetShown t ls (left_of (get_or t k 0)) (Some u) → SetShown t ls (k - 1) (Some z)
         → SetsListed t ls k (Some (record { count = 2; first = b; first_end = c; second = d; second_end = e }))
     unfolding OneOrTwo eval_all given
     two-listed u z b c d e f g h v w [] a = absurd a
@@ -145,7 +153,7 @@ module _ (t : List ℕ) (k kind : ℕ) (is : kind ≡ kind_of (get_or t k 0)) wh
       where
         go : {o p : Option offers.Set} → ShowsEnds t ls o (Some u) → ShowsEnds t ls p (Some z)
             → ListsSets t ls (Some (record { count = 2; first = b; first_end = c; second = d; second_end = e })) (given o (λ b. given (given p (λ c. given (some []) (λ zs. some (c ∷ zs)))) (λ zs. some (b ∷ zs))))
-        go (are q) (are m) = all (two refl (rw f q) (rw g m))
+        go (are q) (are m) = all (two refl (record { shows = rw f.0 q; root = f.1 }) (record { shows = rw g.0 m; root = g.1 }))
     two-listed u z b c d e f g h v w (s ∷ r ∷ q ∷ ss) a = absurd a
 
     pub two-lack : kind ≡ 35 → SetShown t ls (left_of (get_or t k 0)) None → SetsListed t ls k None

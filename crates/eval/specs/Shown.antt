@@ -61,10 +61,19 @@ unfoldable pub Numbered : OfferSet → Type 0
 Numbered (Range a b) = InRange b
 Numbered (Joined i) = i < 9223372036854775808
 
+-- before the mark stands a root: no negative number
+unfoldable pub RootBefore : ℤ → ℤ → Type 0
+RootBefore a b = b ≡ joined_mark → a ≡ pos (nat_abs a)
+
+-- 01, Model text, sets: the same by two numbers
+pub record SetIn (t : List ℕ) (ls : List ℤ) (a b : ℤ) (x : offers.Set) : Type 0 where
+  pub shows : ShowsSet t ls (set_in a b) x
+  pub root : RootBefore a b
+
 -- 01, Model text, actions: one or two sets
 pub data ShowsSets (t : List ℕ) (ls : List ℤ) (count : ℕ) (a b c d : ℤ) : List offers.Set → Type 0 where
-  one : {x : offers.Set} → count ≡ 1 → ShowsSet t ls (set_in a b) x → c ≡ pos 0 → d ≡ pos 0 → ShowsSets t ls count a b c d (x ∷ [])
-  two : {x y : offers.Set} → count ≡ 2 → ShowsSet t ls (set_in a b) x → ShowsSet t ls (set_in c d) y → ShowsSets t ls count a b c d (x ∷ y ∷ [])
+  one : {x : offers.Set} → count ≡ 1 → SetIn t ls a b x → c ≡ pos 0 → d ≡ pos 0 → ShowsSets t ls count a b c d (x ∷ [])
+  two : {x y : offers.Set} → count ≡ 2 → SetIn t ls a b x → SetIn t ls c d y → ShowsSets t ls count a b c d (x ∷ y ∷ [])
 
 -- 01, Model text, actions: what is launched, killed or sent
 pub record ShowsPair (r : Offer) (x : offers.Pair) : Type 0 where

@@ -28,15 +28,23 @@ fn prefix_next(nodes: &[u64], k: usize) -> Option<usize>
     None
 }
 
+// The branch at k behind its gate, if it has one.
+pub fn past_gate(nodes: &[u64], k: usize) -> usize
+    requires { (b : Resolved.Branch) × Settled.Branch nodes.now b k }
+    ensures { (b : Resolved.Branch) → Settled.Branch nodes.now b k → Settled.Offer nodes.now b.action b.rate b.next result }
+{
+    if tree::kind_of(crate::cell_at(nodes, k)) != NodeKind::GATE {
+        return k;
+    }
+    k - 1
+}
+
 // The continuation of the branch at k.
 pub fn continuation_of(nodes: &[u64], k: usize) -> Option<usize>
     requires { (b : Resolved.Branch) × Settled.Branch nodes.now b k }
     ensures { (b : Resolved.Branch) → Settled.Branch nodes.now b k → Become.ShowsNext nodes.now b.next result }
 {
-    if tree::kind_of(crate::cell_at(nodes, k)) != NodeKind::GATE {
-        return prefix_next(nodes, k);
-    }
-    prefix_next(nodes, k - 1)
+    prefix_next(nodes, past_gate(nodes, k))
 }
 
 // Whether all arguments of the calls at k have values.
@@ -110,7 +118,8 @@ impl Row {
     pub const MOST: usize = 4 * model::Limits::PROCESSES;
 }
 
-// The numbers of a process.
+// The numbers of a process. Sum and locals stay two, here and in `put_row`: a struct of them with the fact of their length would be made at three calls, for each sum anew, to take that fact out of
+// these two contracts; `put_sums` has the locals alone.
 fn numbers_of(sum: usize, locals: &[i64], definition: usize) -> [i64; Row::WIDTH]
     requires { (sum < field) × (length locals.now ≤ local_limit) × (definition < field) }
     ensures { result ≡ process_numbers (record { sum = sum; locals = locals.now; definition = definition }) }

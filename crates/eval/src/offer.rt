@@ -37,7 +37,7 @@ impl OfferSet {
     // Its two numbers.
     fn numbers(self) -> (i64, i64)
         requires { Shown.Numbered self }
-        ensures { Shown.set_in result.0 result.1 ≡ self }
+        ensures { (Shown.set_in result.0 result.1 ≡ self) × Shown.RootBefore result.0 result.1 }
     {
         match self {
             OfferSet::Range(low, high) => (low, high),

@@ -32,13 +32,13 @@ and-false false = refl
 module _ {t : List ℕ} {ls : List ℤ} {n : ℕ} {a a' b b' : ℤ} where
   -- the first set
   pub first-set : {xs : List offers.Set} → ShowsSets t ls n a a' b b' xs → (x : offers.Set) × ShowsSet t ls (set_in a a') x
-  first-set (shown.ShowsSets.one {x} e s f g) = (x, s)
-  first-set (shown.ShowsSets.two {x} e s r) = (x, s)
+  first-set (shown.ShowsSets.one {x} e s f g) = (x, s.shows)
+  first-set (shown.ShowsSets.two {x} e s r) = (x, s.shows)
 
   -- the second
   pub second-set : {xs : List offers.Set} → 2 ≤ n → ShowsSets t ls n a a' b b' xs → (x : offers.Set) × ShowsSet t ls (set_in b b') x
   second-set l (shown.ShowsSets.one e s f g) = absurd (omega arith)
-  second-set l (shown.ShowsSets.two {y = x} e s r) = (x, r)
+  second-set l (shown.ShowsSets.two {y = x} e s r) = (x, r.shows)
 
   pub counts-differ : {k : ℕ} {v z u y : ℤ} {xs : List offers.Set} {vs : List ℤ} → ShowsSets t ls n a a' b b' xs → ShowsValues k v z u y vs → (n ≡ k → ⊥) → false ≡ all_within xs vs
   unfolding all_within
@@ -49,14 +49,14 @@ module _ {t : List ℕ} {ls : List ℤ} {n : ℕ} {a a' b b' : ℤ} where
 
   pub first_out : {k : ℕ} {v z u y : ℤ} {xs : List offers.Set} {vs : List ℤ} → ShowsSets t ls n a a' b b' xs → ShowsValues k v z u y vs → n ≡ k → ((x : offers.Set) → ShowsSet t ls (set_in a a') x → false ≡ offers.within x v) → false ≡ all_within xs vs
   unfolding all_within
-  first_out (shown.ShowsSets.one {x} e s f g) (shown.ShowsValues.one e' h i j l) d o = rw (← h) (rw (← o x s))
+  first_out (shown.ShowsSets.one {x} e s f g) (shown.ShowsValues.one e' h i j l) d o = rw (← h) (rw (← o x s.shows))
   first_out (shown.ShowsSets.one e s f g) (shown.ShowsValues.two e' h i j l) d o = absurd (omega arith)
   first_out (shown.ShowsSets.two e s r) (shown.ShowsValues.one e' h i j l) d o = absurd (omega arith)
-  first_out (shown.ShowsSets.two {x} e s r) (shown.ShowsValues.two e' h i j l) d o = rw (← h) (rw (← o x s))
+  first_out (shown.ShowsSets.two {x} e s r) (shown.ShowsValues.two e' h i j l) d o = rw (← h) (rw (← o x s.shows))
 
   pub only-in : {k : ℕ} {v z u y : ℤ} {xs : List offers.Set} {vs : List ℤ} → ShowsSets t ls n a a' b b' xs → ShowsValues k v z u y vs → n ≡ k → k < 2 → ((x : offers.Set) → ShowsSet t ls (set_in a a') x → true ≡ offers.within x v) → true ≡ all_within xs vs
   unfolding all_within
-  only-in (shown.ShowsSets.one {x} e s f g) (shown.ShowsValues.one e' h i j l) d m o = rw (← h) (rw (← o x s))
+  only-in (shown.ShowsSets.one {x} e s f g) (shown.ShowsValues.one e' h i j l) d m o = rw (← h) (rw (← o x s.shows))
   only-in (shown.ShowsSets.one e s f g) (shown.ShowsValues.two e' h i j l) d m o = absurd (omega arith)
   only-in (shown.ShowsSets.two e s r) (shown.ShowsValues.one e' h i j l) d m o = absurd (omega arith)
   only-in (shown.ShowsSets.two e s r) (shown.ShowsValues.two e' h i j l) d m o = absurd (omega arith)
@@ -67,7 +67,7 @@ module _ {t : List ℕ} {ls : List ℤ} {n : ℕ} {a a' b b' : ℤ} where
   second-tells p (shown.ShowsSets.one e s f g) w d m o q = absurd (omega arith)
   second-tells p (shown.ShowsSets.two {x} {y} e s r) (shown.ShowsValues.one e' h i j l) d m o q = absurd (omega arith)
   second-tells p {u = u} (shown.ShowsSets.two {x} {y = x₂} e s r) (shown.ShowsValues.two e' h i j l) d m o q =
-      rw (← h, ← j) (rw (← o x s) (q x₂ r ∙ and-true (offers.within x₂ u)))
+      rw (← h, ← j) (rw (← o x s.shows) (q x₂ r.shows ∙ and-true (offers.within x₂ u)))
 
 -- ---- channels
 -- the same channel, as a statement

@@ -84,8 +84,8 @@ pub data First (a b : ℤ) : ℕ → List offers.Set → Type 0 where
   two : {y : offers.Set} → First a b 2 (offers.range a b ∷ y ∷ [])
 
 pub first_range : {t : List ℕ} {ls : List ℤ} {k : ℕ} {a b c d : ℤ} {xs : List offers.Set} (l h : ℤ) → set_in a b ≡ Range l h → ShowsSets t ls k a b c d xs → First l h k xs
-first_range {t} {ls} l h e (shown.ShowsSets.one q s f g) = rw (q, ranged-as t ls l h e s) one
-first_range {t} {ls} l h e (shown.ShowsSets.two q s r) = rw (q, ranged-as t ls l h e s) two
+first_range {t} {ls} l h e (shown.ShowsSets.one q s f g) = rw (q, ranged-as t ls l h e s.shows) one
+first_range {t} {ls} l h e (shown.ShowsSets.two q s r) = rw (q, ranged-as t ls l h e s.shows) two
 
 pub count-two : {t : List ℕ} {ls : List ℤ} {k : ℕ} {a b c d : ℤ} {xs : List offers.Set} → ShowsSets t ls k a b c d xs → k ≤ 2
 count-two (shown.ShowsSets.one e s f g) = omega arith

@@ -115,7 +115,8 @@ fn link_row(rows: &[Row], row: usize, firsts: &mut [u16; Table::BUCKETS], nexts:
     firsts[bucket] = row as u16;
 }
 
-// Links the handshake receives of all rows, the last row first.
+// Links the handshake receives of all rows, the last row first. No method of `Space`: a caller may have rows of its own, and with a Space only the rows in use are linked, so that a method would
+// take their count and say of the first rows what is said here of all.
 pub fn link(rows: &[Row], firsts: &mut [u16; Table::BUCKETS], nexts: &mut [u16])
     requires { (length rows.now ≤ row_limit) × (length nexts.old ≡ length rows.now) }
     ensures { (Linked rows.now 0 firsts.new nexts.new) × (length nexts.new ≡ length nexts.old) }

@@ -1,14 +1,15 @@
--- Where a branch of a sum stands: the root itself, left of it, or among those before it. By cases of what stands.
+-- Where a branch of a sum stands: the root itself, left of it, or among those before it; and the token of a wait. By cases of what stands.
 use mathlib.Core.Path.{◌≡◌, refl, subst, ◌∙◌}
 use mathlib.Core.List.{List, [], ◌∷◌}
 use mathlib.Core.Option.{Option, none, some}
 use Prim.Native.Nat.{ℕ, zero, suc, ◌-◌, ◌≤◌}
 use native.Mathlib.Omega.{arith}
 use lib.ListN.{get_or}
-use Rattle.tree.specs.Node.{kind_of, left_of}
+use Rattle.tree.specs.Node.{kind_of, token_of, left_of}
 use Rattle.model.specs.Resolved
 use Rattle.rules.specs.Rules.{Nth, first, later}
 use Rattle.tables.specs.Settled as Settled
+use Rattle.eval.proofs.Offers.{prefix-parts}
 use Rattle.step.specs.Enter.{Chain}
 
 -- r is the root of branch j of the branches at k
@@ -72,3 +73,8 @@ module _ (t : List ℕ) (k kind : ℕ) (is : kind ≡ kind_of (get_or t k 0)) wh
   pub later-root' : kind ≡ 48 → (j r : ℕ) → (j ≡ 0 → ⊥) → RootOf t (k - 1) (j - 1) r → RootOf t k j r
   later-root' h zero r n f = absurd (n refl)
   later-root' h (suc j) r n f = let e : suc j - 1 ≡ j = omega arith in later-root h j r (subst (λ (n : ℕ). RootOf t (k - 1) n r) e f)
+
+-- the token of the wait that a branch behind its gate is
+pub token-of-wait : (t : List ℕ) (k n : ℕ) (b : Resolved.Branch) → Settled.Offer t b.action b.rate b.next k → b.action ≡ Resolved.wait n → token_of (get_or t (left_of (get_or t k 0)) 0) ≡ n
+unfolding Settled.Action
+token-of-wait t k n b o e = (subst (λ (a : Resolved.Action). Settled.Action t a (left_of (get_or t k 0))) e (prefix-parts t k b.action b.rate b.next o).action).index_is

@@ -4,7 +4,6 @@ use mathlib.Core.List.{List, []}
 use mathlib.Core.Bool.{◌&&◌}
 use Prim.Native.Nat.{ℕ}
 use lib.IntN.{ℤ}
-use lib.ListN.{take}
 use Rattle.model.specs.Resolved
 use Rattle.rules.specs.Offers as offers
 use Rattle.rules.specs.Rules.{unchanged}
@@ -12,7 +11,8 @@ use Rattle.rules.specs.Step.{values_at, sent_by, on_action, change_of}
 use Rattle.rules.proofs.Inside.{nth_inside}
 use Rattle.machine.specs.Offer.{Process, arguments_given}
 use Rattle.machine.specs.State.{State}
-use Rattle.step.specs.declared.Bound.{Bound}
+use Rattle.eval.specs.declared.Values.{Values}
+use Rattle.std.specs.Prelude.{Option as RustOption}
 use Rattle.step.specs.declared.Entered.{Entered}
 use Rattle.step.specs.Enter.{Acts, Enters, values_of, locals_of, Fit, Alone, AloneEntry, Answers, entering, changed, both_entering, Meets, Side, sent, received, HandEntry, Taken}
 use Rattle.step.proofs.Offers.{shows-change}
@@ -23,11 +23,11 @@ module _ {t roots scopes : List ℕ} {root variables : ℕ} {zs : List ℤ} {i j
   pub acts-of : Acts t roots scopes zs i j m s p b g
   acts-of = record { root = root; variables = variables; lent = h.lent; at = h.at; evaluates = h.evaluates }
 
-  module _ (us : Bound) (v : values_of us ≡ values_at s.pairs q) (l : List ℤ) (r : Entered) (w : Enters t p b g (values_of us) l r) where
-    pub locals-bound : take r.count l ≡ locals_of p (values_at s.pairs q) g
+  module _ (us : RustOption Values) (v : values_of us ≡ values_at s.pairs q) (r : Entered) (w : Enters t p b g (values_of us) r) where
+    pub locals-bound : r.locals.items ≡ locals_of p (values_at s.pairs q) g
     locals-bound = w.locals ∙ ap (λ (x : List ℤ). locals_of p x g) v
 
-    pub alone_of : Alone t scopes root variables zs i (take r.count l) r.next r.offer m s b.next (on_action unchanged change_of g)
+    pub alone_of : Alone t scopes root variables zs i r.locals.items r.next r.offer m s b.next (on_action unchanged change_of g)
     alone_of = record {
       scoped = scoped_of h.lent;
       stands = h.lent.stands;
@@ -42,23 +42,23 @@ module _ {t roots scopes : List ℕ} {root variables : ℕ} {zs : List ℤ} {i j
       good = h.good;
     }
 
-    pub alone-answers : (a : Taken) (zs' : List ℤ) → Answers (arguments_given (take r.count l) b.next) s (changed (entering m s i (take r.count l) b.next) (on_action unchanged change_of g)) a zs'
+    pub alone-answers : (a : Taken) (zs' : List ℤ) → Answers (arguments_given r.locals.items b.next) s (changed (entering m s i r.locals.items b.next) (on_action unchanged change_of g)) a zs'
         → Answers (arguments_given (locals_of p (values_at s.pairs q) g) b.next) s (changed (entering m s i (locals_of p (values_at s.pairs q) g) b.next) (on_action unchanged change_of g)) a zs'
     alone-answers a zs' x = subst (λ (y : List ℤ). Answers (arguments_given y b.next) s (changed (entering m s i y b.next) (on_action unchanged change_of g)) a zs') locals-bound x
 
 module _ {t roots scopes : List ℕ} {root variables : ℕ} {zs : List ℤ} {i j k n : ℕ} {m : Resolved.Model} {s : State} {x y : Side}
     (h : HandEntry t roots scopes root variables zs i j k n m s x y) where
-  module _ (us : Bound) (u : values_of us ≡ []) (l : List ℤ) (r : Entered) (w : Enters t x.process x.branch x.guard (values_of us) l r) where
-    pub sender-locals : take r.count l ≡ sent x
+  module _ (us : RustOption Values) (u : values_of us ≡ []) (r : Entered) (w : Enters t x.process x.branch x.guard (values_of us) r) where
+    pub sender-locals : r.locals.items ≡ sent x
     unfolding sent
     sender-locals = w.locals ∙ ap (λ (z : List ℤ). locals_of x.process z x.guard) u
 
-    module _ (vs : Bound) (v : values_of vs ≡ on_action [] sent_by x.guard) (o : List ℤ) (q : Entered) (e : Enters t y.process y.branch y.guard (values_of vs) o q) where
-      pub receiver-locals : take q.count o ≡ received x y
+    module _ (vs : RustOption Values) (v : values_of vs ≡ on_action [] sent_by x.guard) (q : Entered) (e : Enters t y.process y.branch y.guard (values_of vs) q) where
+      pub receiver-locals : q.locals.items ≡ received x y
       unfolding received
       receiver-locals = e.locals ∙ ap (λ (z : List ℤ). locals_of y.process z y.guard) v
 
-      pub meets-of : Meets t scopes root variables zs i (take r.count l) r.next k (take q.count o) q.next m s x.branch.next y.branch.next
+      pub meets-of : Meets t scopes root variables zs i r.locals.items r.next k q.locals.items q.next m s x.branch.next y.branch.next
       meets-of = record {
         scoped = scoped_of h.sender.lent;
         stands = h.sender.lent.stands;
@@ -70,8 +70,8 @@ module _ {t roots scopes : List ℕ} {root variables : ℕ} {zs : List ℤ} {i j
       }
 
       pub meets-answers : (a : Taken) (zs' : List ℤ)
-          → Answers (arguments_given (take r.count l) x.branch.next && arguments_given (take q.count o) y.branch.next) s (both_entering m s i (take r.count l) x.branch.next k (take q.count o) y.branch.next) a zs'
+          → Answers (arguments_given r.locals.items x.branch.next && arguments_given q.locals.items y.branch.next) s (both_entering m s i r.locals.items x.branch.next k q.locals.items y.branch.next) a zs'
           → Answers (arguments_given (sent x) x.branch.next && arguments_given (received x y) y.branch.next) s (both_entering m s i (sent x) x.branch.next k (received x y) y.branch.next) a zs'
       meets-answers a zs' f =
           subst (λ (z : List ℤ). Answers (arguments_given (sent x) x.branch.next && arguments_given z y.branch.next) s (both_entering m s i (sent x) x.branch.next k z y.branch.next) a zs') receiver-locals
-          (subst (λ (z : List ℤ). Answers (arguments_given z x.branch.next && arguments_given (take q.count o) y.branch.next) s (both_entering m s i z x.branch.next k (take q.count o) y.branch.next) a zs') sender-locals f)
+          (subst (λ (z : List ℤ). Answers (arguments_given z x.branch.next && arguments_given q.locals.items y.branch.next) s (both_entering m s i z x.branch.next k q.locals.items y.branch.next) a zs') sender-locals f)

@@ -3,10 +3,8 @@ pub mod Offers
 pub mod Tables
 pub mod Continue
 pub mod Pairs
-pub mod Place
 pub mod Moves
 pub mod Entry
 pub mod Listed
 pub mod Answered
-pub mod Gates
 pub mod Rows

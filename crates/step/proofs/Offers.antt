@@ -1,7 +1,6 @@
 -- What an offer's numbers say of the values that are bound or sent and of the pairs that change. By cases of the action that is shown.
 use mathlib.Core.Path.{◌≡◌, refl, sym, ap, ◌∙◌}
 use mathlib.Core.List.{List, [], ◌∷◌, ◌++◌}
-use mathlib.Core.Logic.{◌⊎◌, inl, inr}
 use mathlib.Core.Option.{some}
 use Prim.Native.Nat.{ℕ, ◌+◌, ◌≤◌}
 use native.Mathlib.Omega.{arith}
@@ -23,7 +22,8 @@ use Rattle.eval.specs.Shown as Shown
 use Rattle.eval.specs.Shown.{ShowsValues, ShowsPair, ShowsAction, ShowsGuard, ShowsOffer, bare_offer}
 use Rattle.std.specs.Prelude.{Some, None, Option as RustOption}
 use Rattle.std.specs.Option.{option_flatten}
-use Rattle.step.specs.Enter.{ShowsChange, launches, kills, neither, nothing}
+use Rattle.eval.specs.declared.Values.{Values}
+use Rattle.step.specs.Enter.{values_of, bound_of, ShowsChange, launches, kills, neither, nothing}
 
 -- the kind of an action's node
 kind_number : Action → ℕ
@@ -51,20 +51,20 @@ module _ (t : List ℕ) (ls : List ℤ) (r : Offer) where
   kind-is (Shown.take_bind e h) = e
 
   -- ---- names that take the values us
-  module _ (us vs : List ℤ) (binds : ((r.kind ≡ 40) ⊎ (r.kind ≡ 44)) → vs ≡ us) (not-binds : (r.kind ≡ 40 → ⊥) → (r.kind ≡ 44 → ⊥) → vs ≡ []) where
-    action-bound : (a : Action) → r.kind ≡ kind_number a → vs ≡ bound_by us a
-    unfolding kind_number bound_by
-    action-bound offers.wait e = not-binds (λ f. omega arith) (λ f. omega arith)
-    action-bound (offers.launch x) e = not-binds (λ f. omega arith) (λ f. omega arith)
-    action-bound (offers.kill x) e = not-binds (λ f. omega arith) (λ f. omega arith)
-    action-bound (offers.receive w) e = not-binds (λ f. omega arith) (λ f. omega arith)
-    action-bound (offers.bind w) e = binds (inl e)
-    action-bound (offers.check w) e = not-binds (λ f. omega arith) (λ f. omega arith)
-    action-bound (offers.send x) e = not-binds (λ f. omega arith) (λ f. omega arith)
-    action-bound (offers.take w) e = not-binds (λ f. omega arith) (λ f. omega arith)
-    action-bound (offers.take_bind w) e = binds (inr e)
+  module _ (us : RustOption Values) where
+    action-bound : (a : Action) → r.kind ≡ kind_number a → values_of (bound_of (Some r) us) ≡ bound_by (values_of us) a
+    unfolding kind_number bound_by bound_of values_of
+    action-bound offers.wait e = rw e refl
+    action-bound (offers.launch x) e = rw e refl
+    action-bound (offers.kill x) e = rw e refl
+    action-bound (offers.receive w) e = rw e refl
+    action-bound (offers.bind w) e = rw e refl
+    action-bound (offers.check w) e = rw e refl
+    action-bound (offers.send x) e = rw e refl
+    action-bound (offers.take w) e = rw e refl
+    action-bound (offers.take_bind w) e = rw e refl
 
-    pub values-bound : (g : Guard) → ShowsGuard t ls g (Some r) → vs ≡ on_action [] (bound_by us) g
+    values-bound : (g : Guard) → ShowsGuard t ls g (Some r) → values_of (bound_of (Some r) us) ≡ on_action [] (bound_by (values_of us)) g
     unfolding on_action
     values-bound (offers.bare a n) (Shown.bare h e) = action-bound a (kind-is h)
     values-bound (offers.opened a n) (Shown.opened h e) = action-bound a (kind-is h)
@@ -149,6 +149,17 @@ module _ (t : List ℕ) (ls : List ℤ) where
   hidden-none f offers.shut h = refl
   hidden-none f (offers.bare a q) h = elim h [ ]
   hidden-none f (offers.opened a q) h = elim h [ ]
+
+-- no values
+pub bare : values_of None ≡ []
+unfolding values_of
+bare = refl
+
+-- what an offer binds
+pub bound-shown : (t : List ℕ) (ls : List ℤ) (o : RustOption Offer) (us : RustOption Values) (g : Guard) → ShowsGuard t ls g o → values_of (bound_of o us) ≡ on_action [] (bound_by (values_of us)) g
+unfolding bound_of
+bound-shown t ls (Some r) us g h = values-bound t ls r us g h
+bound-shown t ls None us g h = bare ∙ hidden-none t ls (bound_by (values_of us)) g h
 
 -- what a branch with all its values offers
 pub guard-shown : {t : List ℕ} {ls : List ℤ} {g : Guard} {o : RustOption (RustOption Offer)} → ShowsOffer t ls (some g) o → ShowsGuard t ls g (option_flatten o)

@@ -32,12 +32,13 @@ use Rattle.state.proofs.Read.{good-passed, count-numbers, sum-numbers, locals-nu
 use Rattle.eval.specs.Held.{Held}
 use Rattle.machine.specs.Evaluate.{eval_branch}
 use Rattle.eval.specs.declared.offer.Offer.{Offer}
-use Rattle.eval.specs.Next.{Next, ShowsNext, Scoped}
+use Rattle.eval.specs.Next.{ShowsNext, Scoped}
 use Rattle.std.specs.Prelude.{Option as RustOption}
 use Rattle.std.specs.Option.{option_flatten}
 use Rattle.rules.specs.Step.{on_action, bound_by}
 use Rattle.eval.specs.Shown.{ShowsGuard, ShowsOffer}
-use Rattle.step.specs.declared.Bound.{Bound}
+use Rattle.eval.specs.declared.Values.{Values}
+use Rattle.step.specs.declared.Entered.{Entered}
 use Rattle.step.specs.Enter.{Stands, Lent, Acts, Chain, Enters, values_of, locals_of}
 use Rattle.step.proofs.Chain.{RootOf}
 use Rattle.step.proofs.Offers.{row-values, guard-shown}
@@ -174,9 +175,9 @@ module _ {t roots scopes : List ℕ} {zs : List ℤ} {i j : ℕ} {m : Resolved.M
   guard-here own o e q =
       guard-shown (subst (λ (x : Option offers.Guard). ShowsOffer t p.locals x o) h.evaluates (subst (λ (x : List ℤ). ShowsOffer t x (eval_branch x b) o) e q))
 
-  pub entered : (us bound : Bound) (own l : List ℤ) (count : ℕ) (next : Next) (offer : RustOption Offer)
-      → own ≡ p.locals → take count l ≡ own ++ values_of bound → count ≤ length l → values_of bound ≡ on_action [] (bound_by (values_of us)) g
-      → ShowsGuard t p.locals g offer → ShowsNext t b.next next → Enters t p b g (values_of us) l (record { count = count; next = next; offer = offer })
+  pub entered : (us bound : RustOption Values) (own : List ℤ) (r : Entered)
+      → own ≡ p.locals → r.locals.items ≡ own ++ values_of bound → values_of bound ≡ on_action [] (bound_by (values_of us)) g
+      → ShowsGuard t p.locals g r.offer → ShowsNext t b.next r.next → Enters t p b g (values_of us) r
   unfolding locals_of
-  entered us bound own l count next offer e f k v o n =
-      record { locals = f ∙ (ap (λ (x : List ℤ). x ++ values_of bound) e ∙ ap (λ (x : List ℤ). p.locals ++ x) v); few = k; next = n; offer = o }
+  entered us bound own r e f v o n =
+      record { locals = f ∙ (ap (λ (x : List ℤ). x ++ values_of bound) e ∙ ap (λ (x : List ℤ). p.locals ++ x) v); next = n; offer = o }

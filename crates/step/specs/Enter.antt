@@ -1,5 +1,5 @@
 -- What the step is lent, and what a process that acts enters (01, Step). Assumes nothing: these are definitions.
-use Rattle.std.specs.Prelude.{◌≡◌, List, [], ◌∷◌, ◌++◌, Bool, cond, ℕ, ◌+◌, ◌≤◌, ◌<◌, leb, ℤ, length, take, Err, Ok, Result, Some, None}
+use Rattle.std.specs.Prelude.{◌≡◌, List, [], ◌∷◌, ◌++◌, Bool, cond, ℕ, ◌+◌, ◌≤◌, ◌<◌, leb, eqb, ◌||◌, ℤ, length, Err, Ok, Result, Some, None}
 use Rattle.std.specs.Prelude.{Option as RustOption}
 use Rattle.std.proofs.Math.Option.{some}
 use Rattle.value.specs.Range.{InRange}
@@ -22,8 +22,8 @@ use Rattle.eval.specs.Next.{Next, Defines, ShowsNext, Scoped}
 use Rattle.eval.specs.Shown.{ShowsPair, ShowsGuard}
 use Rattle.step.specs.declared.Refusal.{Refusal}
 use Rattle.step.specs.declared.Refusal.TheVariants.{Arguments, Processes, Pairs}
-use Rattle.step.specs.declared.Bound.{Bound}
-use Rattle.step.specs.declared.Bound.TheVariants as bound
+use Rattle.eval.specs.declared.Values.{Values}
+use Rattle.eval.specs.declared.Values.TheVariants.{One, Two}
 use Rattle.step.specs.declared.Entered.{Entered}
 
 -- 01, State: zs are the numbers of a state over a model
@@ -65,19 +65,23 @@ pub record Acting (t roots scopes : List ℕ) (zs : List ℤ) (i j : ℕ) : Type
   pub acts : Acts t roots scopes zs i j model state process branch guard
 
 -- 01, Step: none, one or two values
-unfoldable pub values_of : Bound → List ℤ
-values_of bound.None = []
-values_of (bound.One x) = x ∷ []
-values_of (bound.Two x y) = x ∷ y ∷ []
+unfoldable pub values_of : RustOption Values → List ℤ
+values_of None = []
+values_of (Some (One x)) = x ∷ []
+values_of (Some (Two x y)) = x ∷ y ∷ []
+
+-- 01, Step: the values vs where the offered action binds names, else none
+unfoldable pub bound_of : RustOption Offer → RustOption Values → RustOption Values
+bound_of None vs = None
+bound_of (Some r) vs = cond (eqb r.kind node.bind || eqb r.kind node.hand_bind) vs None
 
 -- 01, Step: the locals of a process, and after them the values vs where its action binds names
 unfoldable pub locals_of : Process → List ℤ → offers.Guard → List ℤ
 locals_of p vs g = p.locals ++ on_action [] (bound_by vs) g
 
 -- what is shown of the process that acts: its locals with the names bound, its continuation and its offer
-pub record Enters (t : List ℕ) (p : Process) (b : Resolved.Branch) (g : offers.Guard) (vs ls : List ℤ) (r : Entered) : Type 0 where
-  pub locals : take r.count ls ≡ locals_of p vs g
-  pub few : r.count ≤ length ls
+pub record Enters (t : List ℕ) (p : Process) (b : Resolved.Branch) (g : offers.Guard) (vs : List ℤ) (r : Entered) : Type 0 where
+  pub locals : r.locals.items ≡ locals_of p vs g
   pub next : ShowsNext t b.next r.next
   pub offer : ShowsGuard t p.locals g r.offer
 

@@ -24,8 +24,9 @@ ghost use Rattle.eval.specs.Shown.{ShowsPair, ShowsGuard};
 ghost use Rattle.step.specs.Enter as Enter;
 ghost use Rattle.step.specs.Entries.{Row};
 
-use eval::Context;
+use arrayvec::ArrayVec;
 use eval::offer::Offer;
+use eval::{Context, Values};
 use listing::Entry;
 use machine::EntryKind;
 use state::Layout;
@@ -52,32 +53,25 @@ impl Refusal {
     }
 }
 
-// None, one or two values that names take.
-#[derive(Clone, Copy)]
-pub enum Bound {
-    None,
-    One(i64),
-    Two(i64, i64),
-}
-
-impl Bound {
-    // The first so many of two values.
-    fn of(count: usize, first: i64, second: i64) -> Self
-        requires { count ≤ 2 }
-        ensures { Enter.values_of result ≡ take count (first ∷ second ∷ []) }
-    {
-        match count {
-            0 => Bound::None,
-            1 => Bound::One(first),
-            _ => Bound::Two(first, second),
-        }
+// The first so many of two values, which names take.
+fn first_values(count: usize, first: i64, second: i64) -> Option<Values>
+    requires { count ≤ 2 }
+    ensures { Enter.values_of result ≡ take count (first ∷ second ∷ []) }
+{
+    match count {
+        0 => None,
+        1 => Some(Values::One(first)),
+        _ => Some(Values::Two(first, second)),
     }
 }
 
-// What a process that acts enters: how many locals there are, its continuation and what it offers, nothing behind a false gate.
-#[derive(Clone, Copy)]
+// A process's locals with two names more.
+pub type Locals = ArrayVec<i64, { Room::LOCALS }>;
+
+// What a process that acts enters: its locals with the names bound, its continuation and what it offers, nothing behind a false gate.
+#[derive(Drop)]
 pub struct Entered {
-    pub count: usize,
+    pub locals: Locals,
     pub next: Option<usize>,
     pub offer: Option<Offer>,
 }
@@ -121,15 +115,15 @@ impl Room {
 }
 
 // The values of a lit pair; none beyond the last.
-fn pair_values(state: &[i64], pair: usize) -> Bound
+fn pair_values(state: &[i64], pair: usize) -> Option<Values>
     requires { (m : Resolved.Model) × (s : State) × Enter.Stands state.now m s }
     ensures { (m : Resolved.Model) (s : State) → Enter.Stands state.now m s → Enter.values_of result ≡ values_at s.pairs pair }
 {
     if state::pair_count(state) <= pair {
-        return Bound::None;
+        return None;
     }
     let row = state::pair_row(state, pair);
-    Bound::of(
+    first_values(
         row[Layout::CHANNEL] as usize,
         row[Layout::VALUES],
         row[Layout::VALUES + 1],
@@ -138,52 +132,43 @@ fn pair_values(state: &[i64], pair: usize) -> Bound
 
 // The values sent; none by another action. An offer is asked here, and in the three below, whether it is there: each has an answer for a branch behind a false gate,
 // and the callers would ask it once for each.
-fn sent_values(offer: Option<Offer>) -> Bound
+fn sent_values(offer: Option<Offer>) -> Option<Values>
     requires { Enter.SomeOffer offer }
     ensures { (t : List ℕ) (ls : List ℤ) (g : Guard) → ShowsGuard t ls g offer → Enter.values_of result ≡ on_action [] sent_by g }
 {
-    let Some(offer) = offer else {
-        return Bound::None;
-    };
+    let offer = offer?;
     if offer.kind != NodeKind::HAND_SEND {
-        return Bound::None;
+        return None;
     }
-    Bound::of(offer.list.count, offer.list.first, offer.list.second)
+    first_values(offer.list.count, offer.list.first, offer.list.second)
 }
 
 // The values that an offered action binds.
-fn bound_by(offer: Option<Offer>, values: Bound) -> Bound
-    ensures { (t : List ℕ) (ls : List ℤ) (g : Guard) → ShowsGuard t ls g offer → Enter.values_of result ≡ on_action [] (bound_by (Enter.values_of values)) g }
+fn bound_by(offer: Option<Offer>, values: Option<Values>) -> Option<Values>
+    ensures { result ≡ Enter.bound_of offer values }
 {
-    let Some(offer) = offer else {
-        return Bound::None;
-    };
-    match offer.kind {
+    match offer?.kind {
         NodeKind::BIND | NodeKind::HAND_BIND => values,
-        _ => Bound::None,
+        _ => None,
     }
 }
 
-// Writes a process's locals and the bound values after them; how many there are. The locals stand in an array of the caller's, as there is no heap, and their count is what
-// `Entered` tells of them.
-fn put_locals(own: &[i64], bound: Bound, locals: &mut [i64; Room::LOCALS]) -> usize
+// A process's locals with the bound values after them.
+fn locals_with(own: &[i64], bound: Option<Values>) -> Locals
     requires { length own.now ≤ local_limit }
-    ensures { (take result locals.new ≡ own.now ++ Enter.values_of bound) × (result ≤ 10) }
+    ensures { result.items ≡ own.now ++ Enter.values_of bound }
 {
-    let n = own.len();
-    locals[..n].copy_from_slice(own);
+    let mut locals = ArrayVec::new();
+    locals.try_extend_from_slice(own).unwrap();
     match bound {
-        Bound::None => n,
-        Bound::One(first) => {
-            locals[n] = first;
-            n + 1
-        }
-        Bound::Two(first, second) => {
-            locals[n] = first;
-            locals[n + 1] = second;
-            n + 2
+        None => {}
+        Some(Values::One(first)) => locals.push(first),
+        Some(Values::Two(first, second)) => {
+            locals.push(first);
+            locals.push(second);
         }
     }
+    locals
 }
 
 // Where a process's branch is found: the root of the branch, and how many locals the process has.
@@ -193,8 +178,8 @@ pub struct Found {
     pub root: usize,
 }
 
-// Branch j of the process at place i. Tables, state, place and branch stay four, here, in `wait_token` and in `enter`: that the branch acts is said of each model and state in an
-// `ensures`, which no fact of a struct of them would take away.
+// Branch j of the process at place i. Tables, state, place and branch stay four, here, in `wait_token` and in `enter`: a struct of them would have no fact of its own, and be made anew, field by
+// field, at each of four calls.
 fn find_branch(tables: Tables, state: &[i64], i: usize, j: usize) -> Found
     requires { Enter.Acting tables.nodes.now tables.roots.now tables.scopes.now state.now i j }
     ensures { ((m : Resolved.Model) (s : State) (p : Process) (b : Resolved.Branch) (g : Guard) → Enter.Acts tables.entry.nodes.now tables.entry.roots.now tables.entry.scopes.now state.now i j m s p b g → (result.own ≡ length p.locals) × Settled.Branch tables.entry.nodes.now b result.root) × (result.own ≤ local_limit) }
@@ -206,40 +191,22 @@ fn find_branch(tables: Tables, state: &[i64], i: usize, j: usize) -> Found
     Found { own, root }
 }
 
-// The branch at k behind its gate, if it has one.
-fn past_gate(nodes: &[u64], k: usize) -> usize
-    requires { (b : Resolved.Branch) × Settled.Branch nodes.now b k }
-    ensures { (b : Resolved.Branch) → Settled.Branch nodes.now b k → Settled.Offer nodes.now b.action b.rate b.next result }
-{
-    if tree::kind_of(eval::cell_at(nodes, k)) != NodeKind::GATE {
-        return k;
-    }
-    k - 1
-}
-
 // The token of the wait that branch j of the process at place i is.
 pub fn wait_token(tables: Tables, state: &[i64], i: usize, j: usize) -> usize
     requires { Enter.Acting tables.nodes.now tables.roots.now tables.scopes.now state.now i j }
     ensures { (m : Resolved.Model) (s : State) (p : Process) (b : Resolved.Branch) (g : Guard) (n : ℕ) → Enter.Acts tables.entry.nodes.now tables.entry.roots.now tables.entry.scopes.now state.now i j m s p b g → b.action ≡ Resolved.wait n → result ≡ n }
 {
     let found = find_branch(tables, state, i, j);
-    let k = past_gate(tables.nodes, found.root);
+    let k = eval::next::past_gate(tables.nodes, found.root);
     let prefix = eval::cell_at(tables.nodes, k);
     let action = eval::cell_at(tables.nodes, tree::left_of(prefix));
     tree::token_of(action)
 }
 
 // What the process at place i enters by branch j, whose names take the values.
-fn enter(
-    tables: Tables,
-    state: &[i64],
-    i: usize,
-    j: usize,
-    values: Bound,
-    locals: &mut [i64; Room::LOCALS],
-) -> Entered
+fn enter(tables: Tables, state: &[i64], i: usize, j: usize, values: Option<Values>) -> Entered
     requires { Enter.Acting tables.nodes.now tables.roots.now tables.scopes.now state.now i j }
-    ensures { (m : Resolved.Model) (s : State) (p : Process) (b : Resolved.Branch) (g : Guard) → Enter.Acts tables.entry.nodes.now tables.entry.roots.now tables.entry.scopes.now state.now i j m s p b g → Enter.Enters tables.entry.nodes.now p b g (Enter.values_of values) locals.new result }
+    ensures { (m : Resolved.Model) (s : State) (p : Process) (b : Resolved.Branch) (g : Guard) → Enter.Acts tables.entry.nodes.now tables.entry.roots.now tables.entry.scopes.now state.now i j m s p b g → Enter.Enters tables.entry.nodes.now p b g (Enter.values_of values) result }
 {
     let found = find_branch(tables, state, i, j);
     let root = found.root;
@@ -249,9 +216,13 @@ fn enter(
         locals: own,
     };
     let offer = eval::offer::offer_of(context, root).flatten();
-    let count = put_locals(own, bound_by(offer, values), locals);
+    let locals = locals_with(own, bound_by(offer, values));
     let next = eval::next::continuation_of(tables.nodes, root);
-    Entered { count, next, offer }
+    Entered {
+        locals,
+        next,
+        offer,
+    }
 }
 
 // 17: whether all arguments of a continuation have values.
@@ -433,20 +404,11 @@ fn take_alone(
     requires { (m : Resolved.Model) × (s : State) × (p : Process) × (b : Resolved.Branch) × (g : Guard) × Enter.AloneEntry tables.nodes.now tables.roots.now tables.scopes.now tables.root tables.variables state.old entry.place entry.branch entry.pair m s p b g }
     ensures { (m : Resolved.Model) (s : State) (p : Process) (b : Resolved.Branch) (g : Guard) → Enter.AloneEntry tables.entry.nodes.now tables.entry.roots.now tables.entry.scopes.now tables.entry.root tables.entry.variables state.old entry.place entry.branch entry.pair m s p b g → Enter.Answers (arguments_given (Enter.locals_of p (values_at s.pairs entry.pair) g) b.next) s (Enter.changed (Enter.entering m s entry.place (Enter.locals_of p (values_at s.pairs entry.pair) g) b.next) (on_action unchanged change_of g)) result state.new }
 {
-    let mut locals = [0i64; Room::LOCALS];
     let values = pair_values(&state[..], entry.pair);
-    let entered = enter(
-        tables,
-        &state[..],
-        entry.place,
-        entry.branch,
-        values,
-        &mut locals,
-    );
-    let count = entered.count;
+    let entered = enter(tables, &state[..], entry.place, entry.branch, values);
     let successor = Successor {
         place: entry.place,
-        locals: &locals[..count],
+        locals: &entered.locals,
         next: entered.next,
     };
     move_alone(tables, state, fresh, successor, entered.offer)
@@ -462,35 +424,17 @@ fn take_handshake(
     requires { (m : Resolved.Model) × (s : State) × (x : Enter.Side) × (y : Enter.Side) × Enter.HandEntry tables.nodes.now tables.roots.now tables.scopes.now tables.root tables.variables state.old entry.place entry.branch entry.partner entry.pbranch m s x y }
     ensures { (m : Resolved.Model) (s : State) (x y : Enter.Side) → Enter.HandEntry tables.entry.nodes.now tables.entry.roots.now tables.entry.scopes.now tables.entry.root tables.entry.variables state.old entry.place entry.branch entry.partner entry.pbranch m s x y → Enter.Answers (arguments_given (Enter.sent x) x.branch.next && arguments_given (Enter.received x y) y.branch.next) s (Enter.both_entering m s entry.place (Enter.sent x) x.branch.next entry.partner (Enter.received x y) y.branch.next) result state.new }
 {
-    let mut locals = [0i64; Room::LOCALS];
-    let mut others = [0i64; Room::LOCALS];
-    let sender = enter(
-        tables,
-        &state[..],
-        entry.place,
-        entry.branch,
-        Bound::None,
-        &mut locals,
-    );
-    let offer = sender.offer;
-    let receiver = enter(
-        tables,
-        &state[..],
-        entry.partner,
-        entry.pbranch,
-        sent_values(offer),
-        &mut others,
-    );
-    let count = sender.count;
-    let also = receiver.count;
+    let sender = enter(tables, &state[..], entry.place, entry.branch, None);
+    let values = sent_values(sender.offer);
+    let receiver = enter(tables, &state[..], entry.partner, entry.pbranch, values);
     let x = Successor {
         place: entry.place,
-        locals: &locals[..count],
+        locals: &sender.locals,
         next: sender.next,
     };
     let y = Successor {
         place: entry.partner,
-        locals: &others[..also],
+        locals: &receiver.locals,
         next: receiver.next,
     };
     move_both(tables, state, fresh, x, y)

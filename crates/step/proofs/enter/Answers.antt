@@ -1,5 +1,5 @@
 -- What is found, offered and bound, put together by the law of what is entered.
-use mathlib.Core.Path.{ap}
+use mathlib.Core.Path.{ap, ◌∙◌}
 use mathlib.Core.List.{List}
 use native.Mathlib.Omega.{arith}
 use lib.IntN.{ℤ}
@@ -7,6 +7,8 @@ use lib.ListN.{length}
 use Rattle.eval.specs.Shown.{ShowsGuard}
 use Rattle.state.proofs.Read.{few-processes}
 use Rattle.step.proofs.Tables.{passed, long, inside, few-own, own-are, own-values, offer-asks, guard-here, entered}
+use Rattle.step.specs.Enter.{values_of}
+use Rattle.step.proofs.Offers.{bound-shown}
 use Rattle.step.proofs.enter.Goals as goal
 
 pub find_branch-found-requires : goal.find_branch-found-requires
@@ -29,8 +31,8 @@ offer_of-requires c =
     let d = c.find_branch-found.ensures.0 c.requires.model c.requires.state c.requires.process c.requires.branch c.requires.guard a in
     offer-asks a _ (own-are a _ d.0 _ c.locals_at-own.ensures) _ d.1
 
-pub put_locals-count-requires : goal.put_locals-count-requires
-put_locals-count-requires c =
+pub locals_with-locals-requires : goal.locals_with-locals-requires
+locals_with-locals-requires c =
     let a = c.requires.acts in
     let d = c.find_branch-found.ensures.0 c.requires.model c.requires.state c.requires.process c.requires.branch c.requires.guard a in
     let e = own-are a _ d.0 _ c.locals_at-own.ensures in
@@ -48,4 +50,4 @@ returns c =
     let d = c.find_branch-found.ensures.0 m s p b g h in
     let e = own-are h _ d.0 _ c.locals_at-own.ensures in
     let o : ShowsGuard c.args.tables.nodes.now p.locals g c.flatten-offer.result = rw c.flatten-offer.ensures (guard-here h _ c.offer_of.result e (c.offer_of.ensures b d.1)) in
-    entered h c.args.values c.bound_by.result _ _ c.put_locals-count.result c.continuation_of-next.result _ e c.put_locals-count.ensures.0 (omega (arith, c.put_locals-count.ensures.1)) (c.bound_by.ensures c.args.tables.nodes.now p.locals g o) o (c.continuation_of-next.ensures b d.1)
+    entered h c.args.values c.bound_by.result _ _ e c.locals_with-locals.ensures (ap values_of c.bound_by.ensures ∙ bound-shown c.args.tables.nodes.now p.locals c.flatten-offer.result c.args.values g o) o (c.continuation_of-next.ensures b d.1)

@@ -32,7 +32,7 @@ pub overflow_cast-row : goal.overflow_cast-row
 overflow_cast-row c =
     let w = row_of c.requires.2 c.args.pair (omega (arith, c.pair_count.ensures.0, c.if-pair_count-pair.false)) _ c.pair_row-row.ensures in
     let z = get_or c.pair_row-row.result.now channel_width (pos 0) in
-    rw (back z c.of-arg-1.given) (below-fits 3 z (ok-fits z c.of-arg-1.given) w.below)
+    rw (back z c.first_values-arg-1.given) (below-fits 3 z (ok-fits z c.first_values-arg-1.given) w.below)
 
 pub bounds-row-8 : goal.bounds-row-8
 bounds-row-8 c =
@@ -42,15 +42,15 @@ pub bounds-row : goal.bounds-row
 bounds-row c =
     let w = row_of c.requires.2 c.args.pair (omega (arith, c.pair_count.ensures.0, c.if-pair_count-pair.false)) _ c.pair_row-row.ensures in omega (arith, w.wide)
 
-pub of-requires : goal.of-requires
-of-requires c =
+pub first_values-requires : goal.first_values-requires
+first_values-requires c =
     let w = row_of c.requires.2 c.args.pair (omega (arith, c.pair_count.ensures.0, c.if-pair_count-pair.false)) _ c.pair_row-row.ensures in
-    rw (back (get_or c.pair_row-row.result.now channel_width (pos 0)) c.of-arg-1.given) w.two
+    rw (back (get_or c.pair_row-row.result.now channel_width (pos 0)) c.first_values-arg-1.given) w.two
 
 pub returns : goal.returns
 returns c =
     let row = c.pair_row-row.result.now in
-    let a = back (get_or row channel_width (pos 0)) c.of-arg-1.given in
-    let b = back (get_or row (channel_width + 1) (pos 0)) c.of-arg-2-1.given in
-    let d = back (get_or row (channel_width + 2) (pos 0)) c.of-arg-3-1.given in
-    λ m s h. c.of.ensures ∙ rw (a, b, d) (row_of h c.args.pair (omega (arith, c.pair_count.ensures.0, c.if-pair_count-pair.false)) _ c.pair_row-row.ensures).values
+    let a = back (get_or row channel_width (pos 0)) c.first_values-arg-1.given in
+    let b = back (get_or row (channel_width + 1) (pos 0)) c.first_values-arg-2-1.given in
+    let d = back (get_or row (channel_width + 2) (pos 0)) c.first_values-arg-3-1.given in
+    λ m s h. c.first_values.ensures ∙ rw (a, b, d) (row_of h c.args.pair (omega (arith, c.pair_count.ensures.0, c.if-pair_count-pair.false)) _ c.pair_row-row.ensures).values

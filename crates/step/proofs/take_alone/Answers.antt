@@ -1,6 +1,6 @@
 -- What is entered gives the move its parts; its answer is said of the locals with the names bound.
-use native.Mathlib.Omega.{arith}
-use lib.ListN.{length-take}
+use Rattle.rules.specs.Rules.{unchanged}
+use Rattle.rules.specs.Step.{on_action, change_of}
 use Rattle.step.proofs.Entry.{acts-of, alone_of, alone-answers}
 use Rattle.step.proofs.take_alone.Goals as goal
 
@@ -18,30 +18,6 @@ enter-entered-requires c =
     let h = c.requires.5 in
     record { model = m; state = s; process = p; branch = b; guard = g; acts = acts-of h }
 
-pub slice_bounds-locals-end : goal.slice_bounds-locals-end
-slice_bounds-locals-end c =
-    let m = c.requires.0 in
-    let s = c.requires.1 in
-    let p = c.requires.2 in
-    let b = c.requires.3 in
-    let g = c.requires.4 in
-    let h = c.requires.5 in
-    let w = c.enter-entered.ensures m s p b g (acts-of h) in
-    let v = c.pair_values-values.ensures m s h.lent.stands in
-    omega (arith, w.few)
-
-pub slice_bounds-successor-end : goal.slice_bounds-successor-end
-slice_bounds-successor-end c =
-    let m = c.requires.0 in
-    let s = c.requires.1 in
-    let p = c.requires.2 in
-    let b = c.requires.3 in
-    let g = c.requires.4 in
-    let h = c.requires.5 in
-    let w = c.enter-entered.ensures m s p b g (acts-of h) in
-    let v = c.pair_values-values.ensures m s h.lent.stands in
-    simp length-take (omega (arith, w.few))
-
 pub move_alone-requires : goal.move_alone-requires
 move_alone-requires c =
     let m = c.requires.0 in
@@ -52,11 +28,11 @@ move_alone-requires c =
     let h = c.requires.5 in
     let w = c.enter-entered.ensures m s p b g (acts-of h) in
     let v = c.pair_values-values.ensures m s h.lent.stands in
-    (m, s, b.next, _, alone_of h _ v _ _ w)
+    rw c.deref.ensures.0 (m, s, b.next, _, alone_of h _ v _ w)
 
 pub returns : goal.returns
 returns c =
     λ m s p b g h.
     let w = c.enter-entered.ensures m s p b g (acts-of h) in
     let v = c.pair_values-values.ensures m s h.lent.stands in
-    alone-answers h _ v _ _ w _ _ (c.move_alone.ensures m s b.next _ (alone_of h _ v _ _ w))
+    alone-answers h _ v _ w _ _ ((rw c.deref.ensures.0 at c.move_alone.ensures m s b.next (on_action unchanged change_of g)) (alone_of h _ v _ w))

@@ -1,6 +1,6 @@
 -- The branch that is found, behind its gate, has the action of which the node keeps the token.
 use Rattle.tree.specs.Node.{token_of, left_of}
-use Rattle.step.proofs.Gates.{token-of-wait}
+use Rattle.step.proofs.Chain.{token-of-wait}
 use mathlib.Core.Path.{ap, ◌∙◌}
 use Prim.Native.Nat.{ℕ}
 use lib.ListN.{get_or}

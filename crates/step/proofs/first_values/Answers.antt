@@ -3,7 +3,7 @@ use mathlib.Core.Path.{◌≡◌, refl}
 use native.Mathlib.Omega.{arith}
 use Rattle.value.proofs.Kit.{back}
 use Rattle.step.specs.Enter.{values_of}
-use Rattle.step.proofs.Bound.of.Goals as goal
+use Rattle.step.proofs.first_values.Goals as goal
 
 pub returns-in-0 : goal.returns-in-0
 unfolding values_of

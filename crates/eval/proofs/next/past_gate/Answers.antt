@@ -1,8 +1,8 @@
--- Behind the gate, if the node says that there is one.
+-- `eval::next::past_gate` meets its contract: behind the gate, if the node says that there is one.
 use Rattle.tree.specs.Node.{kind_of}
-use Rattle.step.proofs.Gates.{no-gate, gate}
+use Rattle.eval.proofs.Continuations.{no-gate, gate}
 use mathlib.Core.Path.{ap, ◌∙◌}
-use Rattle.step.proofs.past_gate.Goals as goal
+use Rattle.eval.proofs.next.past_gate.Goals as goal
 
 pub returns-then-kind_of-ne-GATE : goal.returns-then-kind_of-ne-GATE
 returns-then-kind_of-ne-GATE c =
@@ -13,5 +13,5 @@ overflow_sub-result c =
     (gate c.args.nodes.now c.args.k c.kind_of.result (c.kind_of.ensures ∙ ap kind_of c.cell_at.ensures) c.if-kind_of-ne-GATE.false c.requires.0 c.requires.1).0
 
 pub returns : goal.returns
-returns c =
-    λ b a. (gate c.args.nodes.now c.args.k c.kind_of.result (c.kind_of.ensures ∙ ap kind_of c.cell_at.ensures) c.if-kind_of-ne-GATE.false b a).1
+returns c b a =
+    (gate c.args.nodes.now c.args.k c.kind_of.result (c.kind_of.ensures ∙ ap kind_of c.cell_at.ensures) c.if-kind_of-ne-GATE.false b a).1

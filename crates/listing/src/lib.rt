@@ -222,7 +222,7 @@ struct Acting {
 }
 
 // The first `count` entries, seven numbers each.
-fn rows_of(listing: &[u64], count: usize) -> &[[u64; Limits::ENTRY]]
+pub fn rows_of(listing: &[u64], count: usize) -> &[[u64; Limits::ENTRY]]
     requires { count * entry_width ≤ length listing.now }
     ensures { result.now ≡ first_chunks entry_width count listing.now }
 {

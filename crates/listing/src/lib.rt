@@ -38,7 +38,7 @@ ghost use Rattle.std.specs.Simd.{first_chunks};
 use eval::Context;
 use eval::offer::{Offer, OfferSet};
 pub use machine::EntryKind;
-use offers::{Offers, Row, Space, Table};
+use offers::{Offers, Space, Table};
 use state::{Layout, Run};
 use tables::Tables;
 use tree::NodeKind;
@@ -639,12 +639,7 @@ fn list_in<const ROWS: usize>(
     requires { ((m : Resolved.Model) × (s : State) × World tables.nodes.now tables.roots.now tables.scopes.now state.now m s) × (length listing.old ≡ listing_length) × (ROWS ≤ row_limit) }
     ensures { (m : Resolved.Model) (s : State) → World tables.entry.nodes.now tables.entry.roots.now tables.entry.scopes.now state.now m s → Tries ROWS (machine.listing m s) listing.new result }
 {
-    // Written out where it is made, here and in running: two places, of two sizes.
-    let mut space: Space<ROWS> = Space {
-        rows: [Row::EMPTY; ROWS],
-        firsts: [0; Table::BUCKETS],
-        nexts: [0; ROWS],
-    };
+    let mut space = Space::<ROWS>::EMPTY;
     let listed = try_over(tables, state, &mut space, listing);
     match listed {
         Ok(l) => listing[l.count * Limits::ENTRY..].fill(0),

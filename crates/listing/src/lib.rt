@@ -219,6 +219,7 @@ struct Acting {
     place: usize,
     branch: usize,
     offer: Offer,
+    ghost small: { offer.rate ≤ rate_limit },
 }
 
 // The first `count` entries, seven numbers each.
@@ -356,7 +357,7 @@ fn list_pair(
     listing: &mut [u64],
     count: usize,
 ) -> usize
-    requires { ((w : offers.Query) × ShowsQuery context.nodes.now context.locals.now a.offer w) × ((t : List ℕ) × (roots : List ℕ) × (scopes : List ℕ) × (m : Resolved.Model) × (s : State) × World t roots scopes state.now m s) × (q < pair_count state.now) × (a.offer.rate ≤ rate_limit) × (length listing.old ≡ listing_length) × (count ≤ suc entry_limit) }
+    requires { ((w : offers.Query) × ShowsQuery context.nodes.now context.locals.now a.offer w) × ((t : List ℕ) × (roots : List ℕ) × (scopes : List ℕ) × (m : Resolved.Model) × (s : State) × World t roots scopes state.now m s) × (q < pair_count state.now) × (length listing.old ≡ listing_length) × (count ≤ suc entry_limit) }
     ensures { ((w : offers.Query) (t roots scopes : List ℕ) (m : Resolved.Model) (s : State) (x : offers.Pair) → ShowsQuery context.entry.nodes.now context.entry.locals.now a.offer w → World t roots scopes state.now m s → get_elem? s.pairs q ≡ some x → w.channel ≡ x.channel → Adds (bound_at w a.place a.branch a.offer.rate q x) listing.old count listing.new result) × (length listing.new ≡ listing_length) × (result ≤ suc entry_limit) }
 {
     if !pair_matches(context, state, a.offer, q) {
@@ -386,7 +387,7 @@ fn list_bound(
     listing: &mut [u64],
     count: usize,
 ) -> usize
-    requires { ((w : offers.Query) × ShowsQuery context.nodes.now context.locals.now a.offer w) × ((t : List ℕ) × (roots : List ℕ) × (scopes : List ℕ) × (m : Resolved.Model) × (s : State) × World t roots scopes state.now m s) × (run.to ≤ pair_count state.now) × (a.offer.rate ≤ rate_limit) × (length listing.old ≡ listing_length) × (count ≤ suc entry_limit) }
+    requires { ((w : offers.Query) × ShowsQuery context.nodes.now context.locals.now a.offer w) × ((t : List ℕ) × (roots : List ℕ) × (scopes : List ℕ) × (m : Resolved.Model) × (s : State) × World t roots scopes state.now m s) × (run.to ≤ pair_count state.now) × (length listing.old ≡ listing_length) × (count ≤ suc entry_limit) }
     ensures { ((w : offers.Query) (t roots scopes : List ℕ) (m : Resolved.Model) (s : State) → ShowsQuery context.entry.nodes.now context.entry.locals.now a.offer w → World t roots scopes state.now m s → RunIs s.pairs w run.from run.to → Adds (gather (bound_at w a.place a.branch a.offer.rate) s.pairs) listing.old count listing.new result) × (length listing.new ≡ listing_length) × (result ≤ suc entry_limit) }
 {
     let mut n = count;
@@ -432,7 +433,7 @@ fn list_partner(
     listing: &mut [u64],
     count: usize,
 ) -> usize
-    requires { ((roots : List ℕ) × (m : Resolved.Model) × (s : State) × Ready tables.nodes.now roots tables.scopes.now state.now offered.rows.now m s) × (node.hand_receive ≤ kind_in (row_at offered.rows.now row).head) × (row < length offered.rows.now) × (sender.offer.rate ≤ rate_limit) × (length listing.old ≡ listing_length) × (count ≤ suc entry_limit) }
+    requires { ((roots : List ℕ) × (m : Resolved.Model) × (s : State) × Ready tables.nodes.now roots tables.scopes.now state.now offered.rows.now m s) × (node.hand_receive ≤ kind_in (row_at offered.rows.now row).head) × (row < length offered.rows.now) × (length listing.old ≡ listing_length) × (count ≤ suc entry_limit) }
     ensures { ((roots : List ℕ) (m : Resolved.Model) (s : State) (y : Slot) (x : offers.Pair) → Ready tables.entry.nodes.now roots tables.entry.scopes.now state.now offered.entry.rows.now m s → get_elem? (slots_of m 0 s.processes) row ≡ some y → ShowsPair sender.offer x → Adds (partner_of x sender.offer.rate sender.place sender.branch y) listing.old count listing.new result) × (length listing.new ≡ listing_length) × (result ≤ suc entry_limit) }
 {
     let head = offered.rows[row].head;
@@ -469,7 +470,7 @@ fn list_partners(
     listing: &mut [u64],
     count: usize,
 ) -> usize
-    requires { ((roots : List ℕ) × (m : Resolved.Model) × (s : State) × Ready tables.nodes.now roots tables.scopes.now state.now offered.rows.now m s) × (sender.offer.rate ≤ rate_limit) × (length listing.old ≡ listing_length) × (count ≤ suc entry_limit) }
+    requires { ((roots : List ℕ) × (m : Resolved.Model) × (s : State) × Ready tables.nodes.now roots tables.scopes.now state.now offered.rows.now m s) × (length listing.old ≡ listing_length) × (count ≤ suc entry_limit) }
     ensures { ((roots : List ℕ) (m : Resolved.Model) (s : State) (x : offers.Pair) → Ready tables.entry.nodes.now roots tables.entry.scopes.now state.now offered.entry.rows.now m s → ShowsPair sender.offer x → Adds (gather (λ n. partner_of x sender.offer.rate sender.place sender.branch) (slots_of m 0 s.processes)) listing.old count listing.new result) × (length listing.new ≡ listing_length) × (result ≤ suc entry_limit) }
 {
     let bucket = offers::bucket_of(
@@ -489,7 +490,7 @@ fn list_partners(
 
 // The entry of a branch that acts by itself.
 fn list_alone(a: Acting, kind: u64, listing: &mut [u64], count: usize) -> usize
-    requires { (a.offer.rate ≤ rate_limit) × (length listing.old ≡ listing_length) × (count ≤ suc entry_limit) }
+    requires { (length listing.old ≡ listing_length) × (count ≤ suc entry_limit) }
     ensures { (Adds (rules.entry (key kind a.place a.branch 0 0 0) (rate_weight a.offer.rate) ∷ []) listing.old count listing.new result) × (length listing.new ≡ listing_length) × (result ≤ suc entry_limit) }
 {
     append(
@@ -509,7 +510,7 @@ fn list_alone(a: Acting, kind: u64, listing: &mut [u64], count: usize) -> usize
 
 // The entries of a receive or a check.
 fn list_query(tables: Tables, state: &[i64], a: Acting, listing: &mut [u64], count: usize) -> usize
-    requires { ((roots : List ℕ) × (m : Resolved.Model) × (s : State) × (x : offers.Action) × World tables.nodes.now roots tables.scopes.now state.now m s × ShowsAction tables.nodes.now (locals_of s.processes a.place) a.offer x) × (node.kill < a.offer.kind) × (a.offer.kind < node.hand_send) × (a.place < process_count state.now) × (a.offer.rate ≤ rate_limit) × (length listing.old ≡ listing_length) × (count ≤ suc entry_limit) }
+    requires { ((roots : List ℕ) × (m : Resolved.Model) × (s : State) × (x : offers.Action) × World tables.nodes.now roots tables.scopes.now state.now m s × ShowsAction tables.nodes.now (locals_of s.processes a.place) a.offer x) × (node.kill < a.offer.kind) × (a.offer.kind < node.hand_send) × (a.place < process_count state.now) × (length listing.old ≡ listing_length) × (count ≤ suc entry_limit) }
     ensures { ((roots : List ℕ) (m : Resolved.Model) (s : State) (x : offers.Action) → World tables.entry.nodes.now roots tables.entry.scopes.now state.now m s → ShowsAction tables.entry.nodes.now (locals_of s.processes a.place) a.offer x → Adds (of_action (branches m) s a.place a.branch a.offer.rate x) listing.old count listing.new result) × (length listing.new ≡ listing_length) × (result ≤ suc entry_limit) }
 {
     let locals = offers::locals_of(tables.scopes, state, a.place);

@@ -7,11 +7,11 @@ use Rattle.listing.proofs.list_bound.Goals as goal
 
 pub loop-q-init : goal.loop-q-init
 loop-q-init c =
-    (c.requires.4, c.requires.5, λ w t roots scopes m s sq W R. (R.low, rw (bound-start w s.pairs _ _ R c.args.a.place c.args.a.branch c.args.a.offer.rate) (adds_none _ _ c.requires.5)))
+    (c.requires.3, c.requires.4, λ w t roots scopes m s sq W R. (R.low, rw (bound-start w s.pairs _ _ R c.args.a.place c.args.a.branch c.args.a.offer.rate) (adds_none _ _ c.requires.4)))
 
 pub list_pair-n-requires : goal.list_pair-n-requires
 list_pair-n-requires c =
-    (c.requires.0, c.requires.1, omega (arith, c.requires.2), c.requires.3, c.loop-q.invariant.0, c.loop-q.invariant.1)
+    (c.requires.0, c.requires.1, omega (arith, c.requires.2), c.loop-q.invariant.0, c.loop-q.invariant.1)
 
 pub loop-q-preserved : goal.loop-q-preserved
 loop-q-preserved c =

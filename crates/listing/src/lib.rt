@@ -397,21 +397,28 @@ fn list_bound(
     n
 }
 
-// Whether the handshake receive in a row matches what a branch sends. Here and below, tables, state and offers stay three: Ready is said of each model and state in an
-// `ensures`, which no fact of a struct of them would take away.
-fn row_matches(tables: Tables, state: &[i64], offered: Offers, row: usize, sender: Offer) -> bool
-    requires { ((roots : List ℕ) × (m : Resolved.Model) × (s : State) × Ready tables.nodes.now roots tables.scopes.now state.now offered.rows.now m s) × (node.hand_receive ≤ kind_in (row_at offered.rows.now row).head) × (row < length offered.rows.now) }
-    ensures { (roots : List ℕ) (m : Resolved.Model) (s : State) (y : Slot) (w : offers.Query) (x : offers.Pair) → Ready tables.entry.nodes.now roots tables.entry.scopes.now state.now offered.entry.rows.now m s → get_elem? (slots_of m 0 s.processes) row ≡ some y → ShowsQuery tables.entry.nodes.now (locals_of s.processes y.place) (offer_in (row_at offered.entry.rows.now row)) w → ShowsPair sender x → result ≡ matches w x }
+// What entries are listed from: a state, its tables, and what its open branches offer. Ready stays in the clauses below: it is said of each model and state.
+#[derive(Clone, Copy)]
+struct Source<'t, 's, 'o> {
+    tables: Tables<'t>,
+    state: &'s [i64],
+    offered: Offers<'o>,
+}
+
+// Whether the handshake receive in a row matches what a branch sends.
+fn row_matches(from: Source, row: usize, sender: Offer) -> bool
+    requires { ((roots : List ℕ) × (m : Resolved.Model) × (s : State) × Ready from.tables.nodes.now roots from.tables.scopes.now from.state.now from.offered.rows.now m s) × (node.hand_receive ≤ kind_in (row_at from.offered.rows.now row).head) × (row < length from.offered.rows.now) }
+    ensures { (roots : List ℕ) (m : Resolved.Model) (s : State) (y : Slot) (w : offers.Query) (x : offers.Pair) → Ready from.entry.tables.nodes.now roots from.entry.tables.scopes.now from.entry.state.now from.entry.offered.rows.now m s → get_elem? (slots_of m 0 s.processes) row ≡ some y → ShowsQuery from.entry.tables.nodes.now (locals_of s.processes y.place) (offer_in (row_at from.entry.offered.rows.now row)) w → ShowsPair sender x → result ≡ matches w x }
 {
-    let r = offered.rows[row];
+    let r = from.offered.rows[row];
     let o = offers::offer_in(r);
     if o.channel != sender.channel {
         return false;
     }
     let place = offers::place_in(r.head);
-    let locals = offers::locals_of(tables.scopes, state, place);
+    let locals = offers::locals_of(from.tables.scopes, from.state, place);
     let context = Context {
-        nodes: tables.nodes,
+        nodes: from.tables.nodes,
         locals,
     };
     values_match(
@@ -425,23 +432,21 @@ fn row_matches(tables: Tables, state: &[i64], offered: Offers, row: usize, sende
 
 // The entry of a handshake with the receive in a row, if that is of another process and matches.
 fn list_partner(
-    tables: Tables,
-    state: &[i64],
-    offered: Offers,
+    from: Source,
     row: usize,
     sender: Acting,
     listing: &mut [u64],
     count: usize,
 ) -> usize
-    requires { ((roots : List ℕ) × (m : Resolved.Model) × (s : State) × Ready tables.nodes.now roots tables.scopes.now state.now offered.rows.now m s) × (node.hand_receive ≤ kind_in (row_at offered.rows.now row).head) × (row < length offered.rows.now) × (length listing.old ≡ listing_length) × (count ≤ suc entry_limit) }
-    ensures { ((roots : List ℕ) (m : Resolved.Model) (s : State) (y : Slot) (x : offers.Pair) → Ready tables.entry.nodes.now roots tables.entry.scopes.now state.now offered.entry.rows.now m s → get_elem? (slots_of m 0 s.processes) row ≡ some y → ShowsPair sender.offer x → Adds (partner_of x sender.offer.rate sender.place sender.branch y) listing.old count listing.new result) × (length listing.new ≡ listing_length) × (result ≤ suc entry_limit) }
+    requires { ((roots : List ℕ) × (m : Resolved.Model) × (s : State) × Ready from.tables.nodes.now roots from.tables.scopes.now from.state.now from.offered.rows.now m s) × (node.hand_receive ≤ kind_in (row_at from.offered.rows.now row).head) × (row < length from.offered.rows.now) × (length listing.old ≡ listing_length) × (count ≤ suc entry_limit) }
+    ensures { ((roots : List ℕ) (m : Resolved.Model) (s : State) (y : Slot) (x : offers.Pair) → Ready from.entry.tables.nodes.now roots from.entry.tables.scopes.now from.entry.state.now from.entry.offered.rows.now m s → get_elem? (slots_of m 0 s.processes) row ≡ some y → ShowsPair sender.offer x → Adds (partner_of x sender.offer.rate sender.place sender.branch y) listing.old count listing.new result) × (length listing.new ≡ listing_length) × (result ≤ suc entry_limit) }
 {
-    let head = offered.rows[row].head;
+    let head = from.offered.rows[row].head;
     let partner = offers::place_in(head);
     if partner == sender.place {
         return count;
     }
-    if !row_matches(tables, state, offered, row, sender.offer) {
+    if !row_matches(from, row, sender.offer) {
         return count;
     }
     let pbranch = offers::branch_in(head);
@@ -462,28 +467,21 @@ fn list_partner(
 }
 
 // The entries of a handshake send: one for each receive of another process that matches.
-fn list_partners(
-    tables: Tables,
-    state: &[i64],
-    offered: Offers,
-    sender: Acting,
-    listing: &mut [u64],
-    count: usize,
-) -> usize
-    requires { ((roots : List ℕ) × (m : Resolved.Model) × (s : State) × Ready tables.nodes.now roots tables.scopes.now state.now offered.rows.now m s) × (length listing.old ≡ listing_length) × (count ≤ suc entry_limit) }
-    ensures { ((roots : List ℕ) (m : Resolved.Model) (s : State) (x : offers.Pair) → Ready tables.entry.nodes.now roots tables.entry.scopes.now state.now offered.entry.rows.now m s → ShowsPair sender.offer x → Adds (gather (λ n. partner_of x sender.offer.rate sender.place sender.branch) (slots_of m 0 s.processes)) listing.old count listing.new result) × (length listing.new ≡ listing_length) × (result ≤ suc entry_limit) }
+fn list_partners(from: Source, sender: Acting, listing: &mut [u64], count: usize) -> usize
+    requires { ((roots : List ℕ) × (m : Resolved.Model) × (s : State) × Ready from.tables.nodes.now roots from.tables.scopes.now from.state.now from.offered.rows.now m s) × (length listing.old ≡ listing_length) × (count ≤ suc entry_limit) }
+    ensures { ((roots : List ℕ) (m : Resolved.Model) (s : State) (x : offers.Pair) → Ready from.entry.tables.nodes.now roots from.entry.tables.scopes.now from.entry.state.now from.entry.offered.rows.now m s → ShowsPair sender.offer x → Adds (gather (λ n. partner_of x sender.offer.rate sender.place sender.branch) (slots_of m 0 s.processes)) listing.old count listing.new result) × (length listing.new ≡ listing_length) × (result ≤ suc entry_limit) }
 {
     let bucket = offers::bucket_of(
         sender.offer.channel.first,
         sender.offer.channel.second,
         sender.offer.channel.third,
     );
-    let mut row = offered.firsts[bucket] as usize;
+    let mut row = from.offered.firsts[bucket] as usize;
     let mut n = count;
     // A while: it follows links.
-    while row < offered.rows.len() {
-        n = list_partner(tables, state, offered, row, sender, listing, n);
-        row = offered.nexts[row] as usize;
+    while row < from.offered.rows.len() {
+        n = list_partner(from, row, sender, listing, n);
+        row = from.offered.nexts[row] as usize;
     }
     n
 }
@@ -537,18 +535,11 @@ fn list_query(tables: Tables, state: &[i64], a: Acting, listing: &mut [u64], cou
 }
 
 // The entries of the branch in a row.
-fn list_row(
-    tables: Tables,
-    state: &[i64],
-    offered: Offers,
-    row: usize,
-    listing: &mut [u64],
-    count: usize,
-) -> usize
-    requires { ((roots : List ℕ) × (m : Resolved.Model) × (s : State) × Ready tables.nodes.now roots tables.scopes.now state.now offered.rows.now m s) × (row < length offered.rows.now) × (length listing.old ≡ listing_length) × (count ≤ suc entry_limit) }
-    ensures { ((roots : List ℕ) (m : Resolved.Model) (s : State) (y : Slot) → Ready tables.entry.nodes.now roots tables.entry.scopes.now state.now offered.entry.rows.now m s → get_elem? (slots_of m 0 s.processes) row ≡ some y → Adds (of_slot (branches m) s y) listing.old count listing.new result) × (length listing.new ≡ listing_length) × (result ≤ suc entry_limit) }
+fn list_row(from: Source, row: usize, listing: &mut [u64], count: usize) -> usize
+    requires { ((roots : List ℕ) × (m : Resolved.Model) × (s : State) × Ready from.tables.nodes.now roots from.tables.scopes.now from.state.now from.offered.rows.now m s) × (row < length from.offered.rows.now) × (length listing.old ≡ listing_length) × (count ≤ suc entry_limit) }
+    ensures { ((roots : List ℕ) (m : Resolved.Model) (s : State) (y : Slot) → Ready from.entry.tables.nodes.now roots from.entry.tables.scopes.now from.entry.state.now from.entry.offered.rows.now m s → get_elem? (slots_of m 0 s.processes) row ≡ some y → Adds (of_slot (branches m) s y) listing.old count listing.new result) × (length listing.new ≡ listing_length) × (result ≤ suc entry_limit) }
 {
-    let r = offered.rows[row];
+    let r = from.offered.rows[row];
     let a = Acting {
         place: offers::place_in(r.head),
         branch: offers::branch_in(r.head),
@@ -559,24 +550,24 @@ fn list_row(
         NodeKind::LAUNCH => list_alone(a, EntryKind::LAUNCH, listing, count),
         NodeKind::KILL => list_alone(a, EntryKind::KILL, listing, count),
         NodeKind::RECEIVE | NodeKind::BIND | NodeKind::CHECK => {
-            list_query(tables, state, a, listing, count)
+            list_query(from.tables, from.state, a, listing, count)
         }
-        NodeKind::HAND_SEND => list_partners(tables, state, offered, a, listing, count),
+        NodeKind::HAND_SEND => list_partners(from, a, listing, count),
         _ => count,
     }
 }
 
 // The entries of all rows, in order; none is sought past the first that the buffer has no room for.
-fn list_rows(tables: Tables, state: &[i64], offered: Offers, listing: &mut [u64]) -> usize
-    requires { ((roots : List ℕ) × (m : Resolved.Model) × (s : State) × Ready tables.nodes.now roots tables.scopes.now state.now offered.rows.now m s) × (length listing.old ≡ listing_length) }
-    ensures { ((roots : List ℕ) (m : Resolved.Model) (s : State) → Ready tables.entry.nodes.now roots tables.entry.scopes.now state.now offered.entry.rows.now m s → Adds (entries (branches m) s) listing.old 0 listing.new result) × (length listing.new ≡ listing_length) × (result ≤ suc entry_limit) }
+fn list_rows(from: Source, listing: &mut [u64]) -> usize
+    requires { ((roots : List ℕ) × (m : Resolved.Model) × (s : State) × Ready from.tables.nodes.now roots from.tables.scopes.now from.state.now from.offered.rows.now m s) × (length listing.old ≡ listing_length) }
+    ensures { ((roots : List ℕ) (m : Resolved.Model) (s : State) → Ready from.entry.tables.nodes.now roots from.entry.tables.scopes.now from.entry.state.now from.entry.offered.rows.now m s → Adds (entries (branches m) s) listing.old 0 listing.new result) × (length listing.new ≡ listing_length) × (result ≤ suc entry_limit) }
 {
     let mut count = 0;
-    for row in 0..offered.rows.len() {
+    for row in 0..from.offered.rows.len() {
         if Limits::ENTRIES < count {
             return count;
         }
-        count = list_row(tables, state, offered, row, listing, count);
+        count = list_row(from, row, listing, count);
     }
     count
 }
@@ -602,7 +593,12 @@ fn try_over<const ROWS: usize>(
         firsts: &space.firsts,
         nexts: &space.nexts[..count],
     };
-    let entries = list_rows(tables, state, offered, listing);
+    let from = Source {
+        tables,
+        state,
+        offered,
+    };
+    let entries = list_rows(from, listing);
     Ok(judge(listing, entries)?)
 }
 

@@ -258,8 +258,7 @@ fn judge(listing: &[u64], count: usize) -> Result<Listed, Refusal>
 }
 
 // Whether there are as many values as an offer has sets, each in its set. Count and values are those of a pair's row, or of an offer's list: Values would be
-// made of them by both callers, for this test, which asks for count and numbers again. Here and below, the context and an offer stay apart: that they show a query is said of each query in an `ensures`, which no fact of a struct of
-// them would take away.
+// made of them by both callers, for this test, which asks for count and numbers again.
 fn values_match(context: Context, o: Offer, count: usize, first: i64, second: i64) -> bool
     requires { (w : offers.Query) × ShowsQuery context.nodes.now context.locals.now o w }
     ensures { (w : offers.Query) (vs : List ℤ) → ShowsQuery context.entry.nodes.now context.entry.locals.now o w → ShowsValues count first (pos 0) second (pos 0) vs → result ≡ all_within w.sets vs }
@@ -278,16 +277,25 @@ fn values_match(context: Context, o: Offer, count: usize, first: i64, second: i6
     eval::offer::in_offer_set(context, second_set, second)
 }
 
-// Whether the values of the lit pair q match what an offer asks for.
-fn pair_matches(context: Context, state: &[i64], o: Offer, q: usize) -> bool
-    requires { ((w : offers.Query) × ShowsQuery context.nodes.now context.locals.now o w) × ((t : List ℕ) × (roots : List ℕ) × (scopes : List ℕ) × (m : Resolved.Model) × (s : State) × World t roots scopes state.now m s) × (q < pair_count state.now) }
-    ensures { (w : offers.Query) (t roots scopes : List ℕ) (m : Resolved.Model) (s : State) (x : offers.Pair) → ShowsQuery context.entry.nodes.now context.entry.locals.now o w → World t roots scopes state.now m s → get_elem? s.pairs q ≡ some x → result ≡ all_within w.sets x.values }
+// A receive or a check that acts, with the context of its sets and the state whose pairs it asks for. That it shows a query stays in the clauses below: it is said
+// of each query.
+#[derive(Clone, Copy)]
+struct Asking<'a> {
+    context: Context<'a>,
+    state: &'a [i64],
+    acting: Acting,
+}
+
+// Whether the values of the lit pair q match what a branch asks for.
+fn pair_matches(asking: Asking, q: usize) -> bool
+    requires { ((w : offers.Query) × ShowsQuery asking.context.nodes.now asking.context.locals.now asking.acting.offer w) × ((t : List ℕ) × (roots : List ℕ) × (scopes : List ℕ) × (m : Resolved.Model) × (s : State) × World t roots scopes asking.state.now m s) × (q < pair_count asking.state.now) }
+    ensures { (w : offers.Query) (t roots scopes : List ℕ) (m : Resolved.Model) (s : State) (x : offers.Pair) → ShowsQuery asking.entry.context.nodes.now asking.entry.context.locals.now asking.entry.acting.offer w → World t roots scopes asking.entry.state.now m s → get_elem? s.pairs q ≡ some x → result ≡ all_within w.sets x.values }
 {
-    let row = state::pair_row(state, q);
+    let row = state::pair_row(asking.state, q);
     let count = row[Layout::CHANNEL] as usize;
     values_match(
-        context,
-        o,
+        asking.context,
+        asking.acting.offer,
         count,
         row[Layout::VALUES],
         row[Layout::VALUES + 1],
@@ -334,14 +342,14 @@ fn run_of(state: &[i64], o: Offer) -> Run
     }
 }
 
-// Whether any lit pair of a run matches what an offer asks for.
-fn any_match(context: Context, state: &[i64], o: Offer, run: Run) -> bool
-    requires { ((w : offers.Query) × ShowsQuery context.nodes.now context.locals.now o w) × ((t : List ℕ) × (roots : List ℕ) × (scopes : List ℕ) × (m : Resolved.Model) × (s : State) × World t roots scopes state.now m s) × (run.to ≤ pair_count state.now) }
-    ensures { (w : offers.Query) (t roots scopes : List ℕ) (m : Resolved.Model) (s : State) → ShowsQuery context.entry.nodes.now context.entry.locals.now o w → World t roots scopes state.now m s → RunIs s.pairs w run.from run.to → result ≡ any_match w s.pairs }
+// Whether any lit pair of a run matches what a branch asks for.
+fn any_match(asking: Asking, run: Run) -> bool
+    requires { ((w : offers.Query) × ShowsQuery asking.context.nodes.now asking.context.locals.now asking.acting.offer w) × ((t : List ℕ) × (roots : List ℕ) × (scopes : List ℕ) × (m : Resolved.Model) × (s : State) × World t roots scopes asking.state.now m s) × (run.to ≤ pair_count asking.state.now) }
+    ensures { (w : offers.Query) (t roots scopes : List ℕ) (m : Resolved.Model) (s : State) → ShowsQuery asking.entry.context.nodes.now asking.entry.context.locals.now asking.entry.acting.offer w → World t roots scopes asking.entry.state.now m s → RunIs s.pairs w run.from run.to → result ≡ any_match w s.pairs }
 {
     // A `for`: by `any`, what its closure tells of each pair couldn't be turned into the test of that pair, and that the answer is `any_match` stayed open.
     for q in run.from..run.to {
-        if pair_matches(context, state, o, q) {
+        if pair_matches(asking, q) {
             return true;
         }
     }
@@ -349,18 +357,11 @@ fn any_match(context: Context, state: &[i64], o: Offer, run: Run) -> bool
 }
 
 // The entry of a receive with names for the lit pair q, if it matches.
-fn list_pair(
-    context: Context,
-    state: &[i64],
-    a: Acting,
-    q: usize,
-    listing: &mut [u64],
-    count: usize,
-) -> usize
-    requires { ((w : offers.Query) × ShowsQuery context.nodes.now context.locals.now a.offer w) × ((t : List ℕ) × (roots : List ℕ) × (scopes : List ℕ) × (m : Resolved.Model) × (s : State) × World t roots scopes state.now m s) × (q < pair_count state.now) × (length listing.old ≡ listing_length) × (count ≤ suc entry_limit) }
-    ensures { ((w : offers.Query) (t roots scopes : List ℕ) (m : Resolved.Model) (s : State) (x : offers.Pair) → ShowsQuery context.entry.nodes.now context.entry.locals.now a.offer w → World t roots scopes state.now m s → get_elem? s.pairs q ≡ some x → w.channel ≡ x.channel → Adds (bound_at w a.place a.branch a.offer.rate q x) listing.old count listing.new result) × (length listing.new ≡ listing_length) × (result ≤ suc entry_limit) }
+fn list_pair(asking: Asking, q: usize, listing: &mut [u64], count: usize) -> usize
+    requires { ((w : offers.Query) × ShowsQuery asking.context.nodes.now asking.context.locals.now asking.acting.offer w) × ((t : List ℕ) × (roots : List ℕ) × (scopes : List ℕ) × (m : Resolved.Model) × (s : State) × World t roots scopes asking.state.now m s) × (q < pair_count asking.state.now) × (length listing.old ≡ listing_length) × (count ≤ suc entry_limit) }
+    ensures { ((w : offers.Query) (t roots scopes : List ℕ) (m : Resolved.Model) (s : State) (x : offers.Pair) → ShowsQuery asking.entry.context.nodes.now asking.entry.context.locals.now asking.entry.acting.offer w → World t roots scopes asking.entry.state.now m s → get_elem? s.pairs q ≡ some x → w.channel ≡ x.channel → Adds (bound_at w asking.entry.acting.place asking.entry.acting.branch asking.entry.acting.offer.rate q x) listing.old count listing.new result) × (length listing.new ≡ listing_length) × (result ≤ suc entry_limit) }
 {
-    if !pair_matches(context, state, a.offer, q) {
+    if !pair_matches(asking, q) {
         return count;
     }
     append(
@@ -368,41 +369,35 @@ fn list_pair(
         count,
         Entry {
             kind: EntryKind::BIND,
-            place: a.place,
-            branch: a.branch,
+            place: asking.acting.place,
+            branch: asking.acting.branch,
             partner: 0,
             pbranch: 0,
             pair: q,
-            weight: a.offer.rate * Limits::RATE,
+            weight: asking.acting.offer.rate * Limits::RATE,
         },
     )
 }
 
 // The entries of a receive with names: one for each lit pair of a run that matches.
-fn list_bound(
-    context: Context,
-    state: &[i64],
-    a: Acting,
-    run: Run,
-    listing: &mut [u64],
-    count: usize,
-) -> usize
-    requires { ((w : offers.Query) × ShowsQuery context.nodes.now context.locals.now a.offer w) × ((t : List ℕ) × (roots : List ℕ) × (scopes : List ℕ) × (m : Resolved.Model) × (s : State) × World t roots scopes state.now m s) × (run.to ≤ pair_count state.now) × (length listing.old ≡ listing_length) × (count ≤ suc entry_limit) }
-    ensures { ((w : offers.Query) (t roots scopes : List ℕ) (m : Resolved.Model) (s : State) → ShowsQuery context.entry.nodes.now context.entry.locals.now a.offer w → World t roots scopes state.now m s → RunIs s.pairs w run.from run.to → Adds (gather (bound_at w a.place a.branch a.offer.rate) s.pairs) listing.old count listing.new result) × (length listing.new ≡ listing_length) × (result ≤ suc entry_limit) }
+fn list_bound(asking: Asking, run: Run, listing: &mut [u64], count: usize) -> usize
+    requires { ((w : offers.Query) × ShowsQuery asking.context.nodes.now asking.context.locals.now asking.acting.offer w) × ((t : List ℕ) × (roots : List ℕ) × (scopes : List ℕ) × (m : Resolved.Model) × (s : State) × World t roots scopes asking.state.now m s) × (run.to ≤ pair_count asking.state.now) × (length listing.old ≡ listing_length) × (count ≤ suc entry_limit) }
+    ensures { ((w : offers.Query) (t roots scopes : List ℕ) (m : Resolved.Model) (s : State) → ShowsQuery asking.entry.context.nodes.now asking.entry.context.locals.now asking.entry.acting.offer w → World t roots scopes asking.entry.state.now m s → RunIs s.pairs w run.from run.to → Adds (gather (bound_at w asking.entry.acting.place asking.entry.acting.branch asking.entry.acting.offer.rate) s.pairs) listing.old count listing.new result) × (length listing.new ≡ listing_length) × (result ≤ suc entry_limit) }
 {
     let mut n = count;
     for q in run.from..run.to {
-        n = list_pair(context, state, a, q, listing, n);
+        n = list_pair(asking, q, listing, n);
     }
     n
 }
 
-// What entries are listed from: a state, its tables, and what its open branches offer. Ready stays in the clauses below: it is said of each model and state.
+// What entries are listed from: a state, its tables, and what its open branches offer, each at a lifetime of its own, as try_over has them. Ready stays in the
+// clauses below: it is said of each model and state, which no fact of one struct would say.
 #[derive(Clone, Copy)]
-struct Source<'t, 's, 'o> {
-    tables: Tables<'t>,
-    state: &'s [i64],
-    offered: Offers<'o>,
+struct Source<'a, 'b, 'c> {
+    tables: Tables<'a>,
+    state: &'b [i64],
+    offered: Offers<'c>,
 }
 
 // Whether the handshake receive in a row matches what a branch sends.
@@ -516,12 +511,17 @@ fn list_query(tables: Tables, state: &[i64], a: Acting, listing: &mut [u64], cou
         nodes: tables.nodes,
         locals,
     };
+    let asking = Asking {
+        context,
+        state,
+        acting: a,
+    };
     let run = run_of(state, a.offer);
     if a.offer.kind == NodeKind::BIND {
-        return list_bound(context, state, a, run, listing, count);
+        return list_bound(asking, run, listing, count);
     }
     // Ifs: a receive with names is listed before any pair is asked, and the other two differ in what the answer means.
-    let lit = any_match(context, state, a.offer, run);
+    let lit = any_match(asking, run);
     if a.offer.kind == NodeKind::RECEIVE {
         if lit {
             return list_alone(a, EntryKind::RECEIVE, listing, count);

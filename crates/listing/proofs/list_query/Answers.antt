@@ -31,11 +31,6 @@ pub returns-then-a-eq-BIND : goal.returns-then-a-eq-BIND
 returns-then-a-eq-BIND c =
     (λ roots m s a w sa. let A = asked c.requires.1 c.requires.2 sa in let L = c.locals_of-locals.ensures c.args.tables.nodes.now roots m s w in let N = c.run_of-run.ensures c.args.tables.nodes.now _ A.query c.args.tables.nodes.now roots c.args.tables.scopes.now m s A.shows w in rw (A.bind_is c.if-a-eq-BIND.true m s c.args.a.place c.args.a.branch c.args.a.offer.rate) (c.list_bound.ensures.0 A.query c.args.tables.nodes.now roots c.args.tables.scopes.now m s (rw L A.shows) w N), c.list_bound.ensures.1, c.list_bound.ensures.2)
 
-pub invariant_of-context-2 : goal.invariant_of-context-2
-invariant_of-context-2 c =
-    let w = c.requires.0.4 in
-    rw (c.locals_of-locals.ensures c.args.tables.nodes.now c.requires.0.0 c.requires.0.1 c.requires.0.2 w) (record { in_range = place-values w c.args.a.place c.requires.3 })
-
 pub any_match-lit-requires : goal.any_match-lit-requires
 any_match-lit-requires c =
     let w = c.requires.0.4 in let A = asked c.requires.1 c.requires.2 c.requires.0.5 in

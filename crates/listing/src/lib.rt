@@ -38,7 +38,7 @@ ghost use Rattle.std.specs.Simd.{first_chunks};
 use eval::Context;
 use eval::offer::{Offer, OfferSet};
 pub use machine::EntryKind;
-use offers::{Offers, Row, Space, Table};
+use offers::{Offers, Space, Table};
 use state::{Layout, Run};
 use tables::Tables;
 use tree::NodeKind;
@@ -219,10 +219,11 @@ struct Acting {
     place: usize,
     branch: usize,
     offer: Offer,
+    ghost small: { offer.rate ≤ rate_limit },
 }
 
 // The first `count` entries, seven numbers each.
-fn rows_of(listing: &[u64], count: usize) -> &[[u64; Limits::ENTRY]]
+pub fn rows_of(listing: &[u64], count: usize) -> &[[u64; Limits::ENTRY]]
     requires { count * entry_width ≤ length listing.now }
     ensures { result.now ≡ first_chunks entry_width count listing.now }
 {
@@ -257,8 +258,7 @@ fn judge(listing: &[u64], count: usize) -> Result<Listed, Refusal>
 }
 
 // Whether there are as many values as an offer has sets, each in its set. Count and values are those of a pair's row, or of an offer's list: Values would be
-// made of them by both callers, for this test, which asks for count and numbers again. Here and below, the context and an offer stay apart: that they show a query is said of each query in an `ensures`, which no fact of a struct of
-// them would take away.
+// made of them by both callers, for this test, which asks for count and numbers again.
 fn values_match(context: Context, o: Offer, count: usize, first: i64, second: i64) -> bool
     requires { (w : offers.Query) × ShowsQuery context.nodes.now context.locals.now o w }
     ensures { (w : offers.Query) (vs : List ℤ) → ShowsQuery context.entry.nodes.now context.entry.locals.now o w → ShowsValues count first (pos 0) second (pos 0) vs → result ≡ all_within w.sets vs }
@@ -277,16 +277,25 @@ fn values_match(context: Context, o: Offer, count: usize, first: i64, second: i6
     eval::offer::in_offer_set(context, second_set, second)
 }
 
-// Whether the values of the lit pair q match what an offer asks for.
-fn pair_matches(context: Context, state: &[i64], o: Offer, q: usize) -> bool
-    requires { ((w : offers.Query) × ShowsQuery context.nodes.now context.locals.now o w) × ((t : List ℕ) × (roots : List ℕ) × (scopes : List ℕ) × (m : Resolved.Model) × (s : State) × World t roots scopes state.now m s) × (q < pair_count state.now) }
-    ensures { (w : offers.Query) (t roots scopes : List ℕ) (m : Resolved.Model) (s : State) (x : offers.Pair) → ShowsQuery context.entry.nodes.now context.entry.locals.now o w → World t roots scopes state.now m s → get_elem? s.pairs q ≡ some x → result ≡ all_within w.sets x.values }
+// A receive or a check that acts, with the context of its sets and the state whose pairs it asks for. That it shows a query stays in the clauses below: it is said
+// of each query.
+#[derive(Clone, Copy)]
+struct Asking<'a> {
+    context: Context<'a>,
+    state: &'a [i64],
+    acting: Acting,
+}
+
+// Whether the values of the lit pair q match what a branch asks for.
+fn pair_matches(asking: Asking, q: usize) -> bool
+    requires { ((w : offers.Query) × ShowsQuery asking.context.nodes.now asking.context.locals.now asking.acting.offer w) × ((t : List ℕ) × (roots : List ℕ) × (scopes : List ℕ) × (m : Resolved.Model) × (s : State) × World t roots scopes asking.state.now m s) × (q < pair_count asking.state.now) }
+    ensures { (w : offers.Query) (t roots scopes : List ℕ) (m : Resolved.Model) (s : State) (x : offers.Pair) → ShowsQuery asking.entry.context.nodes.now asking.entry.context.locals.now asking.entry.acting.offer w → World t roots scopes asking.entry.state.now m s → get_elem? s.pairs q ≡ some x → result ≡ all_within w.sets x.values }
 {
-    let row = state::pair_row(state, q);
+    let row = state::pair_row(asking.state, q);
     let count = row[Layout::CHANNEL] as usize;
     values_match(
-        context,
-        o,
+        asking.context,
+        asking.acting.offer,
         count,
         row[Layout::VALUES],
         row[Layout::VALUES + 1],
@@ -333,14 +342,14 @@ fn run_of(state: &[i64], o: Offer) -> Run
     }
 }
 
-// Whether any lit pair of a run matches what an offer asks for.
-fn any_match(context: Context, state: &[i64], o: Offer, run: Run) -> bool
-    requires { ((w : offers.Query) × ShowsQuery context.nodes.now context.locals.now o w) × ((t : List ℕ) × (roots : List ℕ) × (scopes : List ℕ) × (m : Resolved.Model) × (s : State) × World t roots scopes state.now m s) × (run.to ≤ pair_count state.now) }
-    ensures { (w : offers.Query) (t roots scopes : List ℕ) (m : Resolved.Model) (s : State) → ShowsQuery context.entry.nodes.now context.entry.locals.now o w → World t roots scopes state.now m s → RunIs s.pairs w run.from run.to → result ≡ any_match w s.pairs }
+// Whether any lit pair of a run matches what a branch asks for.
+fn any_match(asking: Asking, run: Run) -> bool
+    requires { ((w : offers.Query) × ShowsQuery asking.context.nodes.now asking.context.locals.now asking.acting.offer w) × ((t : List ℕ) × (roots : List ℕ) × (scopes : List ℕ) × (m : Resolved.Model) × (s : State) × World t roots scopes asking.state.now m s) × (run.to ≤ pair_count asking.state.now) }
+    ensures { (w : offers.Query) (t roots scopes : List ℕ) (m : Resolved.Model) (s : State) → ShowsQuery asking.entry.context.nodes.now asking.entry.context.locals.now asking.entry.acting.offer w → World t roots scopes asking.entry.state.now m s → RunIs s.pairs w run.from run.to → result ≡ any_match w s.pairs }
 {
     // A `for`: by `any`, what its closure tells of each pair couldn't be turned into the test of that pair, and that the answer is `any_match` stayed open.
     for q in run.from..run.to {
-        if pair_matches(context, state, o, q) {
+        if pair_matches(asking, q) {
             return true;
         }
     }
@@ -348,18 +357,11 @@ fn any_match(context: Context, state: &[i64], o: Offer, run: Run) -> bool
 }
 
 // The entry of a receive with names for the lit pair q, if it matches.
-fn list_pair(
-    context: Context,
-    state: &[i64],
-    a: Acting,
-    q: usize,
-    listing: &mut [u64],
-    count: usize,
-) -> usize
-    requires { ((w : offers.Query) × ShowsQuery context.nodes.now context.locals.now a.offer w) × ((t : List ℕ) × (roots : List ℕ) × (scopes : List ℕ) × (m : Resolved.Model) × (s : State) × World t roots scopes state.now m s) × (q < pair_count state.now) × (a.offer.rate ≤ rate_limit) × (length listing.old ≡ listing_length) × (count ≤ suc entry_limit) }
-    ensures { ((w : offers.Query) (t roots scopes : List ℕ) (m : Resolved.Model) (s : State) (x : offers.Pair) → ShowsQuery context.entry.nodes.now context.entry.locals.now a.offer w → World t roots scopes state.now m s → get_elem? s.pairs q ≡ some x → w.channel ≡ x.channel → Adds (bound_at w a.place a.branch a.offer.rate q x) listing.old count listing.new result) × (length listing.new ≡ listing_length) × (result ≤ suc entry_limit) }
+fn list_pair(asking: Asking, q: usize, listing: &mut [u64], count: usize) -> usize
+    requires { ((w : offers.Query) × ShowsQuery asking.context.nodes.now asking.context.locals.now asking.acting.offer w) × ((t : List ℕ) × (roots : List ℕ) × (scopes : List ℕ) × (m : Resolved.Model) × (s : State) × World t roots scopes asking.state.now m s) × (q < pair_count asking.state.now) × (length listing.old ≡ listing_length) × (count ≤ suc entry_limit) }
+    ensures { ((w : offers.Query) (t roots scopes : List ℕ) (m : Resolved.Model) (s : State) (x : offers.Pair) → ShowsQuery asking.entry.context.nodes.now asking.entry.context.locals.now asking.entry.acting.offer w → World t roots scopes asking.entry.state.now m s → get_elem? s.pairs q ≡ some x → w.channel ≡ x.channel → Adds (bound_at w asking.entry.acting.place asking.entry.acting.branch asking.entry.acting.offer.rate q x) listing.old count listing.new result) × (length listing.new ≡ listing_length) × (result ≤ suc entry_limit) }
 {
-    if !pair_matches(context, state, a.offer, q) {
+    if !pair_matches(asking, q) {
         return count;
     }
     append(
@@ -367,50 +369,51 @@ fn list_pair(
         count,
         Entry {
             kind: EntryKind::BIND,
-            place: a.place,
-            branch: a.branch,
+            place: asking.acting.place,
+            branch: asking.acting.branch,
             partner: 0,
             pbranch: 0,
             pair: q,
-            weight: a.offer.rate * Limits::RATE,
+            weight: asking.acting.offer.rate * Limits::RATE,
         },
     )
 }
 
 // The entries of a receive with names: one for each lit pair of a run that matches.
-fn list_bound(
-    context: Context,
-    state: &[i64],
-    a: Acting,
-    run: Run,
-    listing: &mut [u64],
-    count: usize,
-) -> usize
-    requires { ((w : offers.Query) × ShowsQuery context.nodes.now context.locals.now a.offer w) × ((t : List ℕ) × (roots : List ℕ) × (scopes : List ℕ) × (m : Resolved.Model) × (s : State) × World t roots scopes state.now m s) × (run.to ≤ pair_count state.now) × (a.offer.rate ≤ rate_limit) × (length listing.old ≡ listing_length) × (count ≤ suc entry_limit) }
-    ensures { ((w : offers.Query) (t roots scopes : List ℕ) (m : Resolved.Model) (s : State) → ShowsQuery context.entry.nodes.now context.entry.locals.now a.offer w → World t roots scopes state.now m s → RunIs s.pairs w run.from run.to → Adds (gather (bound_at w a.place a.branch a.offer.rate) s.pairs) listing.old count listing.new result) × (length listing.new ≡ listing_length) × (result ≤ suc entry_limit) }
+fn list_bound(asking: Asking, run: Run, listing: &mut [u64], count: usize) -> usize
+    requires { ((w : offers.Query) × ShowsQuery asking.context.nodes.now asking.context.locals.now asking.acting.offer w) × ((t : List ℕ) × (roots : List ℕ) × (scopes : List ℕ) × (m : Resolved.Model) × (s : State) × World t roots scopes asking.state.now m s) × (run.to ≤ pair_count asking.state.now) × (length listing.old ≡ listing_length) × (count ≤ suc entry_limit) }
+    ensures { ((w : offers.Query) (t roots scopes : List ℕ) (m : Resolved.Model) (s : State) → ShowsQuery asking.entry.context.nodes.now asking.entry.context.locals.now asking.entry.acting.offer w → World t roots scopes asking.entry.state.now m s → RunIs s.pairs w run.from run.to → Adds (gather (bound_at w asking.entry.acting.place asking.entry.acting.branch asking.entry.acting.offer.rate) s.pairs) listing.old count listing.new result) × (length listing.new ≡ listing_length) × (result ≤ suc entry_limit) }
 {
     let mut n = count;
     for q in run.from..run.to {
-        n = list_pair(context, state, a, q, listing, n);
+        n = list_pair(asking, q, listing, n);
     }
     n
 }
 
-// Whether the handshake receive in a row matches what a branch sends. Here and below, tables, state and offers stay three: Ready is said of each model and state in an
-// `ensures`, which no fact of a struct of them would take away.
-fn row_matches(tables: Tables, state: &[i64], offered: Offers, row: usize, sender: Offer) -> bool
-    requires { ((roots : List ℕ) × (m : Resolved.Model) × (s : State) × Ready tables.nodes.now roots tables.scopes.now state.now offered.rows.now m s) × (node.hand_receive ≤ kind_in (row_at offered.rows.now row).head) × (row < length offered.rows.now) }
-    ensures { (roots : List ℕ) (m : Resolved.Model) (s : State) (y : Slot) (w : offers.Query) (x : offers.Pair) → Ready tables.entry.nodes.now roots tables.entry.scopes.now state.now offered.entry.rows.now m s → get_elem? (slots_of m 0 s.processes) row ≡ some y → ShowsQuery tables.entry.nodes.now (locals_of s.processes y.place) (offer_in (row_at offered.entry.rows.now row)) w → ShowsPair sender x → result ≡ matches w x }
+// What entries are listed from: a state, its tables, and what its open branches offer, each at a lifetime of its own, as try_over has them. Ready stays in the
+// clauses below: it is said of each model and state, which no fact of one struct would say.
+#[derive(Clone, Copy)]
+struct Source<'a, 'b, 'c> {
+    tables: Tables<'a>,
+    state: &'b [i64],
+    offered: Offers<'c>,
+}
+
+// Whether the handshake receive in a row matches what a branch sends.
+fn row_matches(from: Source, row: usize, sender: Offer) -> bool
+    requires { ((roots : List ℕ) × (m : Resolved.Model) × (s : State) × Ready from.tables.nodes.now roots from.tables.scopes.now from.state.now from.offered.rows.now m s) × (node.hand_receive ≤ kind_in (row_at from.offered.rows.now row).head) × (row < length from.offered.rows.now) }
+    ensures { (roots : List ℕ) (m : Resolved.Model) (s : State) (y : Slot) (w : offers.Query) (x : offers.Pair) → Ready from.entry.tables.nodes.now roots from.entry.tables.scopes.now from.entry.state.now from.entry.offered.rows.now m s → get_elem? (slots_of m 0 s.processes) row ≡ some y → ShowsQuery from.entry.tables.nodes.now (locals_of s.processes y.place) (offer_in (row_at from.entry.offered.rows.now row)) w → ShowsPair sender x → result ≡ matches w x }
 {
-    let r = offered.rows[row];
+    let r = from.offered.rows[row];
     let o = offers::offer_in(r);
     if o.channel != sender.channel {
         return false;
     }
     let place = offers::place_in(r.head);
-    let locals = offers::locals_of(tables.scopes, state, place);
+    let locals = offers::locals_of(from.tables.scopes, from.state, place);
     let context = Context {
-        nodes: tables.nodes,
+        nodes: from.tables.nodes,
         locals,
     };
     values_match(
@@ -424,23 +427,21 @@ fn row_matches(tables: Tables, state: &[i64], offered: Offers, row: usize, sende
 
 // The entry of a handshake with the receive in a row, if that is of another process and matches.
 fn list_partner(
-    tables: Tables,
-    state: &[i64],
-    offered: Offers,
+    from: Source,
     row: usize,
     sender: Acting,
     listing: &mut [u64],
     count: usize,
 ) -> usize
-    requires { ((roots : List ℕ) × (m : Resolved.Model) × (s : State) × Ready tables.nodes.now roots tables.scopes.now state.now offered.rows.now m s) × (node.hand_receive ≤ kind_in (row_at offered.rows.now row).head) × (row < length offered.rows.now) × (sender.offer.rate ≤ rate_limit) × (length listing.old ≡ listing_length) × (count ≤ suc entry_limit) }
-    ensures { ((roots : List ℕ) (m : Resolved.Model) (s : State) (y : Slot) (x : offers.Pair) → Ready tables.entry.nodes.now roots tables.entry.scopes.now state.now offered.entry.rows.now m s → get_elem? (slots_of m 0 s.processes) row ≡ some y → ShowsPair sender.offer x → Adds (partner_of x sender.offer.rate sender.place sender.branch y) listing.old count listing.new result) × (length listing.new ≡ listing_length) × (result ≤ suc entry_limit) }
+    requires { ((roots : List ℕ) × (m : Resolved.Model) × (s : State) × Ready from.tables.nodes.now roots from.tables.scopes.now from.state.now from.offered.rows.now m s) × (node.hand_receive ≤ kind_in (row_at from.offered.rows.now row).head) × (row < length from.offered.rows.now) × (length listing.old ≡ listing_length) × (count ≤ suc entry_limit) }
+    ensures { ((roots : List ℕ) (m : Resolved.Model) (s : State) (y : Slot) (x : offers.Pair) → Ready from.entry.tables.nodes.now roots from.entry.tables.scopes.now from.entry.state.now from.entry.offered.rows.now m s → get_elem? (slots_of m 0 s.processes) row ≡ some y → ShowsPair sender.offer x → Adds (partner_of x sender.offer.rate sender.place sender.branch y) listing.old count listing.new result) × (length listing.new ≡ listing_length) × (result ≤ suc entry_limit) }
 {
-    let head = offered.rows[row].head;
+    let head = from.offered.rows[row].head;
     let partner = offers::place_in(head);
     if partner == sender.place {
         return count;
     }
-    if !row_matches(tables, state, offered, row, sender.offer) {
+    if !row_matches(from, row, sender.offer) {
         return count;
     }
     let pbranch = offers::branch_in(head);
@@ -461,35 +462,28 @@ fn list_partner(
 }
 
 // The entries of a handshake send: one for each receive of another process that matches.
-fn list_partners(
-    tables: Tables,
-    state: &[i64],
-    offered: Offers,
-    sender: Acting,
-    listing: &mut [u64],
-    count: usize,
-) -> usize
-    requires { ((roots : List ℕ) × (m : Resolved.Model) × (s : State) × Ready tables.nodes.now roots tables.scopes.now state.now offered.rows.now m s) × (sender.offer.rate ≤ rate_limit) × (length listing.old ≡ listing_length) × (count ≤ suc entry_limit) }
-    ensures { ((roots : List ℕ) (m : Resolved.Model) (s : State) (x : offers.Pair) → Ready tables.entry.nodes.now roots tables.entry.scopes.now state.now offered.entry.rows.now m s → ShowsPair sender.offer x → Adds (gather (λ n. partner_of x sender.offer.rate sender.place sender.branch) (slots_of m 0 s.processes)) listing.old count listing.new result) × (length listing.new ≡ listing_length) × (result ≤ suc entry_limit) }
+fn list_partners(from: Source, sender: Acting, listing: &mut [u64], count: usize) -> usize
+    requires { ((roots : List ℕ) × (m : Resolved.Model) × (s : State) × Ready from.tables.nodes.now roots from.tables.scopes.now from.state.now from.offered.rows.now m s) × (length listing.old ≡ listing_length) × (count ≤ suc entry_limit) }
+    ensures { ((roots : List ℕ) (m : Resolved.Model) (s : State) (x : offers.Pair) → Ready from.entry.tables.nodes.now roots from.entry.tables.scopes.now from.entry.state.now from.entry.offered.rows.now m s → ShowsPair sender.offer x → Adds (gather (λ n. partner_of x sender.offer.rate sender.place sender.branch) (slots_of m 0 s.processes)) listing.old count listing.new result) × (length listing.new ≡ listing_length) × (result ≤ suc entry_limit) }
 {
     let bucket = offers::bucket_of(
         sender.offer.channel.first,
         sender.offer.channel.second,
         sender.offer.channel.third,
     );
-    let mut row = offered.firsts[bucket] as usize;
+    let mut row = from.offered.firsts[bucket] as usize;
     let mut n = count;
     // A while: it follows links.
-    while row < offered.rows.len() {
-        n = list_partner(tables, state, offered, row, sender, listing, n);
-        row = offered.nexts[row] as usize;
+    while row < from.offered.rows.len() {
+        n = list_partner(from, row, sender, listing, n);
+        row = from.offered.nexts[row] as usize;
     }
     n
 }
 
 // The entry of a branch that acts by itself.
 fn list_alone(a: Acting, kind: u64, listing: &mut [u64], count: usize) -> usize
-    requires { (a.offer.rate ≤ rate_limit) × (length listing.old ≡ listing_length) × (count ≤ suc entry_limit) }
+    requires { (length listing.old ≡ listing_length) × (count ≤ suc entry_limit) }
     ensures { (Adds (rules.entry (key kind a.place a.branch 0 0 0) (rate_weight a.offer.rate) ∷ []) listing.old count listing.new result) × (length listing.new ≡ listing_length) × (result ≤ suc entry_limit) }
 {
     append(
@@ -509,7 +503,7 @@ fn list_alone(a: Acting, kind: u64, listing: &mut [u64], count: usize) -> usize
 
 // The entries of a receive or a check.
 fn list_query(tables: Tables, state: &[i64], a: Acting, listing: &mut [u64], count: usize) -> usize
-    requires { ((roots : List ℕ) × (m : Resolved.Model) × (s : State) × (x : offers.Action) × World tables.nodes.now roots tables.scopes.now state.now m s × ShowsAction tables.nodes.now (locals_of s.processes a.place) a.offer x) × (node.kill < a.offer.kind) × (a.offer.kind < node.hand_send) × (a.place < process_count state.now) × (a.offer.rate ≤ rate_limit) × (length listing.old ≡ listing_length) × (count ≤ suc entry_limit) }
+    requires { ((roots : List ℕ) × (m : Resolved.Model) × (s : State) × (x : offers.Action) × World tables.nodes.now roots tables.scopes.now state.now m s × ShowsAction tables.nodes.now (locals_of s.processes a.place) a.offer x) × (node.kill < a.offer.kind) × (a.offer.kind < node.hand_send) × (a.place < process_count state.now) × (length listing.old ≡ listing_length) × (count ≤ suc entry_limit) }
     ensures { ((roots : List ℕ) (m : Resolved.Model) (s : State) (x : offers.Action) → World tables.entry.nodes.now roots tables.entry.scopes.now state.now m s → ShowsAction tables.entry.nodes.now (locals_of s.processes a.place) a.offer x → Adds (of_action (branches m) s a.place a.branch a.offer.rate x) listing.old count listing.new result) × (length listing.new ≡ listing_length) × (result ≤ suc entry_limit) }
 {
     let locals = offers::locals_of(tables.scopes, state, a.place);
@@ -517,12 +511,17 @@ fn list_query(tables: Tables, state: &[i64], a: Acting, listing: &mut [u64], cou
         nodes: tables.nodes,
         locals,
     };
+    let asking = Asking {
+        context,
+        state,
+        acting: a,
+    };
     let run = run_of(state, a.offer);
     if a.offer.kind == NodeKind::BIND {
-        return list_bound(context, state, a, run, listing, count);
+        return list_bound(asking, run, listing, count);
     }
     // Ifs: a receive with names is listed before any pair is asked, and the other two differ in what the answer means.
-    let lit = any_match(context, state, a.offer, run);
+    let lit = any_match(asking, run);
     if a.offer.kind == NodeKind::RECEIVE {
         if lit {
             return list_alone(a, EntryKind::RECEIVE, listing, count);
@@ -536,18 +535,11 @@ fn list_query(tables: Tables, state: &[i64], a: Acting, listing: &mut [u64], cou
 }
 
 // The entries of the branch in a row.
-fn list_row(
-    tables: Tables,
-    state: &[i64],
-    offered: Offers,
-    row: usize,
-    listing: &mut [u64],
-    count: usize,
-) -> usize
-    requires { ((roots : List ℕ) × (m : Resolved.Model) × (s : State) × Ready tables.nodes.now roots tables.scopes.now state.now offered.rows.now m s) × (row < length offered.rows.now) × (length listing.old ≡ listing_length) × (count ≤ suc entry_limit) }
-    ensures { ((roots : List ℕ) (m : Resolved.Model) (s : State) (y : Slot) → Ready tables.entry.nodes.now roots tables.entry.scopes.now state.now offered.entry.rows.now m s → get_elem? (slots_of m 0 s.processes) row ≡ some y → Adds (of_slot (branches m) s y) listing.old count listing.new result) × (length listing.new ≡ listing_length) × (result ≤ suc entry_limit) }
+fn list_row(from: Source, row: usize, listing: &mut [u64], count: usize) -> usize
+    requires { ((roots : List ℕ) × (m : Resolved.Model) × (s : State) × Ready from.tables.nodes.now roots from.tables.scopes.now from.state.now from.offered.rows.now m s) × (row < length from.offered.rows.now) × (length listing.old ≡ listing_length) × (count ≤ suc entry_limit) }
+    ensures { ((roots : List ℕ) (m : Resolved.Model) (s : State) (y : Slot) → Ready from.entry.tables.nodes.now roots from.entry.tables.scopes.now from.entry.state.now from.entry.offered.rows.now m s → get_elem? (slots_of m 0 s.processes) row ≡ some y → Adds (of_slot (branches m) s y) listing.old count listing.new result) × (length listing.new ≡ listing_length) × (result ≤ suc entry_limit) }
 {
-    let r = offered.rows[row];
+    let r = from.offered.rows[row];
     let a = Acting {
         place: offers::place_in(r.head),
         branch: offers::branch_in(r.head),
@@ -558,24 +550,24 @@ fn list_row(
         NodeKind::LAUNCH => list_alone(a, EntryKind::LAUNCH, listing, count),
         NodeKind::KILL => list_alone(a, EntryKind::KILL, listing, count),
         NodeKind::RECEIVE | NodeKind::BIND | NodeKind::CHECK => {
-            list_query(tables, state, a, listing, count)
+            list_query(from.tables, from.state, a, listing, count)
         }
-        NodeKind::HAND_SEND => list_partners(tables, state, offered, a, listing, count),
+        NodeKind::HAND_SEND => list_partners(from, a, listing, count),
         _ => count,
     }
 }
 
 // The entries of all rows, in order; none is sought past the first that the buffer has no room for.
-fn list_rows(tables: Tables, state: &[i64], offered: Offers, listing: &mut [u64]) -> usize
-    requires { ((roots : List ℕ) × (m : Resolved.Model) × (s : State) × Ready tables.nodes.now roots tables.scopes.now state.now offered.rows.now m s) × (length listing.old ≡ listing_length) }
-    ensures { ((roots : List ℕ) (m : Resolved.Model) (s : State) → Ready tables.entry.nodes.now roots tables.entry.scopes.now state.now offered.entry.rows.now m s → Adds (entries (branches m) s) listing.old 0 listing.new result) × (length listing.new ≡ listing_length) × (result ≤ suc entry_limit) }
+fn list_rows(from: Source, listing: &mut [u64]) -> usize
+    requires { ((roots : List ℕ) × (m : Resolved.Model) × (s : State) × Ready from.tables.nodes.now roots from.tables.scopes.now from.state.now from.offered.rows.now m s) × (length listing.old ≡ listing_length) }
+    ensures { ((roots : List ℕ) (m : Resolved.Model) (s : State) → Ready from.entry.tables.nodes.now roots from.entry.tables.scopes.now from.entry.state.now from.entry.offered.rows.now m s → Adds (entries (branches m) s) listing.old 0 listing.new result) × (length listing.new ≡ listing_length) × (result ≤ suc entry_limit) }
 {
     let mut count = 0;
-    for row in 0..offered.rows.len() {
+    for row in 0..from.offered.rows.len() {
         if Limits::ENTRIES < count {
             return count;
         }
-        count = list_row(tables, state, offered, row, listing, count);
+        count = list_row(from, row, listing, count);
     }
     count
 }
@@ -601,7 +593,12 @@ fn try_over<const ROWS: usize>(
         firsts: &space.firsts,
         nexts: &space.nexts[..count],
     };
-    let entries = list_rows(tables, state, offered, listing);
+    let from = Source {
+        tables,
+        state,
+        offered,
+    };
+    let entries = list_rows(from, listing);
     Ok(judge(listing, entries)?)
 }
 
@@ -639,12 +636,7 @@ fn list_in<const ROWS: usize>(
     requires { ((m : Resolved.Model) × (s : State) × World tables.nodes.now tables.roots.now tables.scopes.now state.now m s) × (length listing.old ≡ listing_length) × (ROWS ≤ row_limit) }
     ensures { (m : Resolved.Model) (s : State) → World tables.entry.nodes.now tables.entry.roots.now tables.entry.scopes.now state.now m s → Tries ROWS (machine.listing m s) listing.new result }
 {
-    // Written out where it is made, here and in running: two places, of two sizes.
-    let mut space: Space<ROWS> = Space {
-        rows: [Row::EMPTY; ROWS],
-        firsts: [0; Table::BUCKETS],
-        nexts: [0; ROWS],
-    };
+    let mut space = Space::<ROWS>::EMPTY;
     let listed = try_over(tables, state, &mut space, listing);
     match listed {
         Ok(l) => listing[l.count * Limits::ENTRY..].fill(0),

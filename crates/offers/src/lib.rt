@@ -60,6 +60,14 @@ pub struct Space<const ROWS: usize> {
     pub nexts: [u16; ROWS],
 }
 
+impl<const ROWS: usize> Space<ROWS> {
+    pub const EMPTY: Self = Space {
+        rows: [Row::EMPTY; ROWS],
+        firsts: [0; Table::BUCKETS],
+        nexts: [0; ROWS],
+    };
+}
+
 // A head has the kind below KINDS, the channel's shape below SHAPES, the count of values or sets below COUNTS, these three together below SMALL, then branch,
 // place and rate. In fields of their own they take nine bytes, a row 72, and the large table 32 KiB more.
 const KINDS: u64 = 64;

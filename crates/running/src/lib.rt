@@ -355,11 +355,7 @@ pub fn run(
     ensures { (m : Resolved.Model) (s : State) → Holds given.entry state.old m s → Stands given.entry events.old state.new events.new result m (runs_with limit (length events.old / event_width) given.entry.words.now given.entry.waiting.now m s clock) }
 {
     let mut scratch = Scratch {
-        space: Space {
-            rows: [offers::Row::EMPTY; Table::ROWS],
-            firsts: [0; Table::BUCKETS],
-            nexts: [0; Table::ROWS],
-        },
+        space: Space::EMPTY,
         fresh: [0i64; Room::FRESH],
         listing: [0u64; Room::LISTING],
     };

@@ -3,7 +3,7 @@ use mathlib.Core.Path.{◌≡◌, refl, sym, ap, ◌∙◌}
 use mathlib.Core.List.Memᴰ.{head}
 use mathlib.Core.List.Memᴰ.{tail}
 use mathlib.Core.List.{List, [], ◌∷◌, ◌++◌, Memᴰ as In}
-use Prim.Native.Nat.{ℕ, zero, suc, ◌+◌, ◌-◌, ◌*◌, ◌/◌, ◌≤◌, ◌<◌}
+use Prim.Native.Nat.{ℕ, zero, suc, ◌+◌, ◌-◌, ◌*◌, ◌≤◌, ◌<◌}
 use native.Mathlib.Omega.{arith}
 use native.Mathlib.Numerals.{add-one}
 use lib.IntN.{ℤ}
@@ -30,7 +30,7 @@ use Rattle.state.proofs.Read.{good-passed, count-numbers, definition-numbers}
 use Rattle.std.specs.Simd.{first_chunks}
 use Rattle.listing.specs.declared.Entry as listed
 use Rattle.listing.specs.Buffer.{filled_numbers, entry_of, entry_in}
-use Rattle.listing.proofs.Chunks.{take-chunks, chunks-length, chunks-within, chunk-at}
+use Rattle.listing.proofs.Chunks.{chunks-length, chunk-at}
 use Rattle.shares.specs.Shared.{Shared}
 use Rattle.shares.proofs.Sums.{set_more, within, nothing_yet, then-zeros}
 use Rattle.shares.proofs.Rows.{nil, place_in, weight-in, rows_long}
@@ -55,12 +55,12 @@ module _ (x : listed.Entry) (row : List ℕ) (h : entry_of x ≡ entry_in row 0)
   row-weight = cc
 
 -- the rows of a listing, count of them
-module _ (l : List ℕ) (count n : ℕ) (rs : List (List ℕ)) (is : rs ≡ take count (first_chunks 7 n l)) (fits : count ≤ n) where
+module _ (l : List ℕ) (count : ℕ) (rs : List (List ℕ)) (is : rs ≡ first_chunks entry_width count l) where
   pub rows-count : length rs ≡ count
-  rows-count = ap length (is ∙ take-chunks count n l fits) ∙ chunks-length count l
+  rows-count = ap length is ∙ chunks-length count l
 
   pub row-at : (i : ℕ) → i < count → (j : ℕ) → j < 7 → get_or (get_or rs i []) j 0 ≡ get_or l (i * entry_width + j) 0
-  row-at i k j h = ap (λ (xs : List (List ℕ)). get_or (get_or xs i []) j 0) (is ∙ take-chunks count n l fits) ∙ chunk-at count l i j k h
+  row-at i k j h = ap (λ (xs : List (List ℕ)). get_or (get_or xs i []) j 0) is ∙ chunk-at count l i j k h
 
 -- the sums of the first i entries
 abbrev pub sums : State → List Entry → ℕ → List ℕ
@@ -92,9 +92,9 @@ module _ {zs : List ℤ} {l : List ℕ} {count : ℕ} {m : Resolved.Model} {s : 
       ap (λ (xs : List Entry). subtotals (definition_at s) xs 0 report_length) (take_all i es (omega (arith, h.count-is)))
       ∙ then-zeros (definition_at s) es (length m.definitions) report_length h.good.few-definitions owner-below
 
-  pub all-fit : count ≤ length l / entry_width
+  pub all-fit : count * entry_width ≤ length l
   unfolding filled_numbers
-  all-fit = chunks-within count (length l) (rw h.filled (omega (arith, rows_long es (replicate (listing_length - length es * entry_width) 0), h.count-is)))
+  all-fit = rw h.filled (omega (arith, rows_long es (replicate (listing_length - length es * entry_width) 0), h.count-is))
 
   module _ (i : ℕ) (k : i < count) where
     here : i < length es

@@ -8,7 +8,7 @@ ghost use Rattle.machine.specs.State.{State};
 ghost use Rattle.machine.specs.Report.{report_length, report_of};
 ghost use Rattle.shares.specs.Shared.{Shared};
 
-use listing::{Entry, Limits};
+use listing::Entry;
 
 // One sum of weights for each definition, then zeros; a handshake counts for its sender.
 pub fn share(listing: &[u64], count: usize, state: &[i64], report: &mut [u64])
@@ -16,7 +16,7 @@ pub fn share(listing: &[u64], count: usize, state: &[i64], report: &mut [u64])
     ensures { (m : Resolved.Model) (s : State) (es : List rules.Entry) → Shared state.now listing.now count m s es → report.new ≡ report_of m s es }
 {
     report.fill(0);
-    for row in &listing.as_chunks::<{ Limits::ENTRY }>().0[..count] {
+    for row in listing::rows_of(listing, count) {
         let entry = Entry::from(*row);
         let definition = state::definition_at(state, entry.place);
         report[definition] += entry.weight;

@@ -15,4 +15,4 @@ use Prim.Native.Nat.{ℕ, ◌<◌}
 use Rattle.listing.proofs.any_match.Given as goal
 
 abbrev pub invariant-loop-q : goal.invariant-loop-q
-invariant-loop-q l = (w : offers.Query) (t roots scopes : List ℕ) (m : Resolved.Model) (s : State) → ShowsQuery l.context.nodes.now l.context.locals.now l.o w → World t roots scopes l.state m s → RunIs s.pairs w l.initial.q l.q-end → (k : ℕ) (x : offers.Pair) → get_elem? s.pairs k ≡ some x → k < l.q → matches w x ≡ false
+invariant-loop-q l = (w : offers.Query) (t roots scopes : List ℕ) (m : Resolved.Model) (s : State) → ShowsQuery l.asking.context.nodes.now l.asking.context.locals.now l.asking.acting.offer w → World t roots scopes l.asking.state.now m s → RunIs s.pairs w l.initial.q l.q-end → (k : ℕ) (x : offers.Pair) → get_elem? s.pairs k ≡ some x → k < l.q → matches w x ≡ false

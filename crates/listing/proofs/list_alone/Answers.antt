@@ -5,9 +5,9 @@ use Rattle.listing.proofs.list_alone.Goals as goal
 
 pub append-requires : goal.append-requires
 append-requires c =
-    (c.requires.1, c.requires.2)
+    (c.requires.0, c.requires.1)
 
 pub returns : goal.returns
 unfolding entry_of
 returns c =
-    (c.append.ensures, c.append.ensures.size ∙ c.requires.1, c.append.ensures.most)
+    (c.append.ensures, c.append.ensures.size ∙ c.requires.0, c.append.ensures.most)

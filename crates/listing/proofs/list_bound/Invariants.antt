@@ -15,4 +15,4 @@ use lib.ListN.{length}
 use Rattle.listing.proofs.list_bound.Given as goal
 
 abbrev pub invariant-loop-q : goal.invariant-loop-q
-invariant-loop-q l = (length l.listing ≡ listing_length) × (l.n ≤ suc entry_limit) × ((w : offers.Query) (t roots scopes : List ℕ) (m : Resolved.Model) (s : State) → ShowsQuery l.context.nodes.now l.context.locals.now l.a.offer w → World t roots scopes l.state m s → RunIs s.pairs w l.initial.q l.q-end → (l.q ≤ l.q-end) × Adds (up_to (at_number (bound_at w l.a.place l.a.branch l.a.offer.rate) s.pairs) l.q) l.initial.listing l.count l.listing l.n)
+invariant-loop-q l = (length l.listing ≡ listing_length) × (l.n ≤ suc entry_limit) × ((w : offers.Query) (t roots scopes : List ℕ) (m : Resolved.Model) (s : State) → ShowsQuery l.asking.context.nodes.now l.asking.context.locals.now l.asking.acting.offer w → World t roots scopes l.asking.state.now m s → RunIs s.pairs w l.initial.q l.q-end → (l.q ≤ l.q-end) × Adds (up_to (at_number (bound_at w l.asking.acting.place l.asking.acting.branch l.asking.acting.offer.rate) s.pairs) l.q) l.initial.listing l.count l.listing l.n)

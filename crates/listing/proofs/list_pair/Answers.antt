@@ -12,13 +12,13 @@ pair_matches-requires c =
 
 pub returns-then-not-pair_matches : goal.returns-then-not-pair_matches
 returns-then-not-pair_matches c =
-    (λ w t roots scopes m s x sq W at ch. let M = matches-on w x (sym ch) ∙ sym (c.pair_matches.ensures w t roots scopes m s x sq W at) in rw (bound-no w c.args.a.place c.args.a.branch c.args.a.offer.rate c.args.q x (M ∙ refused _ c.if-not-pair_matches.true-raw)) (adds_none _ _ c.requires.5), c.requires.4, c.requires.5)
+    (λ w t roots scopes m s x sq W at ch. let M = matches-on w x (sym ch) ∙ sym (c.pair_matches.ensures w t roots scopes m s x sq W at) in rw (bound-no w c.args.asking.acting.place c.args.asking.acting.branch c.args.asking.acting.offer.rate c.args.q x (M ∙ refused _ c.if-not-pair_matches.true-raw)) (adds_none _ _ c.requires.4), c.requires.3, c.requires.4)
 
 pub append-requires : goal.append-requires
 append-requires c =
-    (c.requires.4, c.requires.5)
+    (c.requires.3, c.requires.4)
 
 pub returns : goal.returns
 unfolding entry_of
 returns c =
-    (λ w t roots scopes m s x sq W at ch. let M = matches-on w x (sym ch) ∙ sym (c.pair_matches.ensures w t roots scopes m s x sq W at) in rw (bound-yes w c.args.a.place c.args.a.branch c.args.a.offer.rate c.args.q x (M ∙ passed _ c.if-not-pair_matches.false-raw)) c.append.ensures, c.append.ensures.size ∙ c.requires.4, c.append.ensures.most)
+    (λ w t roots scopes m s x sq W at ch. let M = matches-on w x (sym ch) ∙ sym (c.pair_matches.ensures w t roots scopes m s x sq W at) in rw (bound-yes w c.args.asking.acting.place c.args.asking.acting.branch c.args.asking.acting.offer.rate c.args.q x (M ∙ passed _ c.if-not-pair_matches.false-raw)) c.append.ensures, c.append.ensures.size ∙ c.requires.3, c.append.ensures.most)

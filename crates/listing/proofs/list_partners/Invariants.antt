@@ -16,7 +16,7 @@ use lib.ListN.{length}
 use Rattle.listing.proofs.list_partners.Given as goal
 
 abbrev pub invariant-loop-row : goal.invariant-loop-row
-invariant-loop-row l = (l.row ≤ length l.offered.rows.now) × (l.row < length l.offered.rows.now → InBucket l.offered.rows.now l.bucket l.row) × (length l.listing ≡ listing_length) × (l.n ≤ suc entry_limit) × ((roots : List ℕ) (m : Resolved.Model) (s : State) (x : offers.Pair) → Ready l.tables.nodes.now roots l.tables.scopes.now l.state l.offered.rows.now m s → ShowsPair l.sender.offer x → Adds (up_to (at_number (λ (k : ℕ). partner_of x l.sender.offer.rate l.sender.place l.sender.branch) (slots_of m 0 s.processes)) l.row) l.initial.listing l.count l.listing l.n)
+invariant-loop-row l = (l.row ≤ length l.from.offered.rows.now) × (l.row < length l.from.offered.rows.now → InBucket l.from.offered.rows.now l.bucket l.row) × (length l.listing ≡ listing_length) × (l.n ≤ suc entry_limit) × ((roots : List ℕ) (m : Resolved.Model) (s : State) (x : offers.Pair) → Ready l.from.tables.nodes.now roots l.from.tables.scopes.now l.from.state.now l.from.offered.rows.now m s → ShowsPair l.sender.offer x → Adds (up_to (at_number (λ (k : ℕ). partner_of x l.sender.offer.rate l.sender.place l.sender.branch) (slots_of m 0 s.processes)) l.row) l.initial.listing l.count l.listing l.n)
 
 abbrev pub decreases-loop-row : goal.decreases-loop-row
-decreases-loop-row l = length l.offered.rows.now - l.row
+decreases-loop-row l = length l.from.offered.rows.now - l.row

@@ -6,10 +6,12 @@ use Rattle.listing.proofs.Added.{adds_none}
 use Rattle.listing.proofs.AllRows.{alone-at, high-of, sends, slot_of, acts, some-acts}
 use Rattle.listing.proofs.list_row.Goals as goal
 
+pub invariant_of-a : goal.invariant_of-a
+invariant_of-a c = record { small = (some-acts c.requires.0.3 c.args.row _ _ _ c.place_in.ensures c.branch_in.ensures c.offer_in.ensures c.requires.1).1.fits }
+
 pub list_alone-requires : goal.list_alone-requires
 list_alone-requires c =
-    let A = some-acts c.requires.0.3 c.args.row _ _ _ c.place_in.ensures c.branch_in.ensures c.offer_in.ensures c.requires.1 in
-    (A.1.fits, c.requires.2, c.requires.3)
+    (c.requires.2, c.requires.3)
 
 pub returns-in-36 : goal.returns-in-36
 returns-in-36 c = (
@@ -20,10 +22,12 @@ returns-in-36 c = (
   c.list_alone.ensures.2,
 )
 
+pub invariant_of-a-in-37 : goal.invariant_of-a-in-37
+invariant_of-a-in-37 c = record { small = (some-acts c.requires.0.3 c.args.row _ _ _ c.place_in.ensures c.branch_in.ensures c.offer_in.ensures c.requires.1).1.fits }
+
 pub list_alone-requires-in-37 : goal.list_alone-requires-in-37
 list_alone-requires-in-37 c =
-    let A = some-acts c.requires.0.3 c.args.row _ _ _ c.place_in.ensures c.branch_in.ensures c.offer_in.ensures c.requires.1 in
-    (A.1.fits, c.requires.2, c.requires.3)
+    (c.requires.2, c.requires.3)
 
 pub returns-in-37 : goal.returns-in-37
 returns-in-37 c = (
@@ -34,10 +38,12 @@ returns-in-37 c = (
   c.list_alone-in-37.ensures.2,
 )
 
+pub invariant_of-a-in-38 : goal.invariant_of-a-in-38
+invariant_of-a-in-38 c = record { small = (some-acts c.requires.0.3 c.args.row _ _ _ c.place_in.ensures c.branch_in.ensures c.offer_in.ensures c.requires.1).1.fits }
+
 pub list_alone-requires-in-38 : goal.list_alone-requires-in-38
 list_alone-requires-in-38 c =
-    let A = some-acts c.requires.0.3 c.args.row _ _ _ c.place_in.ensures c.branch_in.ensures c.offer_in.ensures c.requires.1 in
-    (A.1.fits, c.requires.2, c.requires.3)
+    (c.requires.2, c.requires.3)
 
 pub returns-in-38 : goal.returns-in-38
 returns-in-38 c = (
@@ -48,10 +54,12 @@ returns-in-38 c = (
   c.list_alone-in-38.ensures.2,
 )
 
+pub invariant_of-a-in-42 : goal.invariant_of-a-in-42
+invariant_of-a-in-42 c = record { small = (some-acts c.requires.0.3 c.args.row _ _ _ c.place_in.ensures c.branch_in.ensures c.offer_in.ensures c.requires.1).1.fits }
+
 pub list_partners-requires : goal.list_partners-requires
 list_partners-requires c =
-    let A = some-acts c.requires.0.3 c.args.row _ _ _ c.place_in.ensures c.branch_in.ensures c.offer_in.ensures c.requires.1 in
-    (c.requires.0, A.1.fits, c.requires.2, c.requires.3)
+    (c.requires.0, c.requires.2, c.requires.3)
 
 pub returns-in-42 : goal.returns-in-42
 returns-in-42 c = (
@@ -63,11 +71,14 @@ returns-in-42 c = (
   c.list_partners.ensures.2,
 )
 
+pub invariant_of-a-in-39 : goal.invariant_of-a-in-39
+invariant_of-a-in-39 c = record { small = (some-acts c.requires.0.3 c.args.row _ _ _ c.place_in.ensures c.branch_in.ensures c.offer_in.ensures c.requires.1).1.fits }
+
 pub list_query-requires : goal.list_query-requires
 list_query-requires c =
     let R = c.requires.0.3 in
     let A = some-acts c.requires.0.3 c.args.row _ _ _ c.place_in.ensures c.branch_in.ensures c.offer_in.ensures c.requires.1 in
-    ((c.requires.0.0, c.requires.0.1, c.requires.0.2, A.0.action, R.world, A.1.shows), grind arith, grind arith, A.2, A.1.fits, c.requires.2, c.requires.3)
+    ((c.requires.0.0, c.requires.0.1, c.requires.0.2, A.0.action, R.world, A.1.shows), grind arith, grind arith, A.2, c.requires.2, c.requires.3)
 
 pub returns-in-39 : goal.returns-in-39
 returns-in-39 c = (

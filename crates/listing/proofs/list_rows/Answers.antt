@@ -16,7 +16,7 @@ loop-row-init c =
 
 pub returns-then-count-gt-ENTRIES : goal.returns-then-count-gt-ENTRIES
 returns-then-count-gt-ENTRIES c =
-    (λ roots m s R. rw (entries-up R (length c.args.offered.rows.now) refl) (adds-stop _ c.loop-row.row (length c.args.offered.rows.now) (omega arith) c.if-count-gt-ENTRIES.true (c.loop-row.invariant.2 roots m s R)), c.loop-row.invariant.0, c.loop-row.invariant.1)
+    (λ roots m s R. rw (entries-up R (length c.args.from.offered.rows.now) refl) (adds-stop _ c.loop-row.row (length c.args.from.offered.rows.now) (omega arith) c.if-count-gt-ENTRIES.true (c.loop-row.invariant.2 roots m s R)), c.loop-row.invariant.0, c.loop-row.invariant.1)
 
 pub list_row-count-requires : goal.list_row-count-requires
 list_row-count-requires c =

@@ -14,4 +14,4 @@ use lib.ListN.{length}
 use Rattle.listing.proofs.list_rows.Given as goal
 
 abbrev pub invariant-loop-row : goal.invariant-loop-row
-invariant-loop-row l = (length l.listing ≡ listing_length) × (l.count ≤ suc entry_limit) × ((roots : List ℕ) (m : Resolved.Model) (s : State) → Ready l.tables.nodes.now roots l.tables.scopes.now l.state l.offered.rows.now m s → Adds (up_to (at_number (λ (k : ℕ). of_slot (branches m) s) (slots_of m 0 s.processes)) l.row) l.initial.listing 0 l.listing l.count)
+invariant-loop-row l = (length l.listing ≡ listing_length) × (l.count ≤ suc entry_limit) × ((roots : List ℕ) (m : Resolved.Model) (s : State) → Ready l.from.tables.nodes.now roots l.from.tables.scopes.now l.from.state.now l.from.offered.rows.now m s → Adds (up_to (at_number (λ (k : ℕ). of_slot (branches m) s) (slots_of m 0 s.processes)) l.row) l.initial.listing 0 l.listing l.count)

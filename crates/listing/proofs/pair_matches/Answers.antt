@@ -14,7 +14,7 @@ use Rattle.listing.proofs.pair_matches.Goals as goal
 pub pair_row-row-requires : goal.pair_row-row-requires
 pair_row-row-requires c =
     let w = c.requires.1.5 in let q = c.args.q in let y = some_pair w q c.requires.2 in
-    ((passed w).long, omega (arith, few-pairs c.args.state.now (passed w), c.requires.2))
+    ((passed w).long, omega (arith, few-pairs c.args.asking.state.now (passed w), c.requires.2))
 
 pub bounds-row-7 : goal.bounds-row-7
 bounds-row-7 c =
@@ -47,5 +47,5 @@ values_match-requires c =
 pub returns : goal.returns
 returns c =
     λ w t roots scopes m s x sq W at. let P = pair-at W c.args.q x at _ c.pair_row-row.ensures in
-    let b₂ = back (get_or c.pair_row-row.result.now channel_width (pos 0)) c.count-1.given in let b₃ = back (get_or c.pair_row-row.result.now (channel_width + 1) (pos 0)) c.values_match-arg-1.given in let b₄ = back (get_or c.pair_row-row.result.now (channel_width + 2) (pos 0)) c.values_match-arg-2-1.given in
+    let b₂ = back (get_or c.pair_row-row.result.now channel_width (pos 0)) c.count-1.given in let b₃ = back (get_or c.pair_row-row.result.now (channel_width + 1) (pos 0)) c.values_match-arg-3-1.given in let b₄ = back (get_or c.pair_row-row.result.now (channel_width + 2) (pos 0)) c.values_match-arg-4-1.given in
     c.values_match.ensures w x.values sq (rw (b₂, b₃, b₄) (rw P.count-is P.values))

@@ -55,8 +55,8 @@ fn is_depth(depth: u64) -> bool
 }
 
 // The run in the first n numbers.
-fn run_found(run: &[u16], n: usize) -> Found
-    requires { (length run.now ≡ depth_limit) × (n ≤ length run.now) }
+fn run_found(run: &[u16; Level::DEPTH], n: usize) -> Found
+    requires { n ≤ length run.now }
     ensures { result ≡ result_of (tree.found (take n run.now)) }
 {
     let mut entries = [0u64; Level::DEPTH];
@@ -72,8 +72,8 @@ fn run_found(run: &[u16], n: usize) -> Found
 }
 
 // What a walk comes to.
-fn result_of(walked: Result<usize, Missed>, run: &[u16]) -> Found
-    requires { ((a : tree.Answer) × Answered a walked run.now) × (length run.now ≡ depth_limit) }
+fn result_of(walked: Result<usize, Missed>, run: &[u16; Level::DEPTH]) -> Found
+    requires { (a : tree.Answer) × Answered a walked run.now }
     ensures { (a : tree.Answer) → Answered a walked run.now → result ≡ result_of a }
 {
     match walked {

@@ -1,4 +1,4 @@
--- The loop and the shifts by which a table's tail is rewritten, as equations of lists.
+-- The shifts by which a table's tail is rewritten, as equations of lists.
 use mathlib.Core.Path.{◌≡◌, sym, ap, ap₂, ◌∙◌}
 use mathlib.Core.List.{List, [], ◌∷◌, ◌++◌, append_assoc, append-nil}
 use Prim.Native.Nat.{ℕ, suc, ◌+◌, ◌-◌, ◌*◌, ◌≤◌, ◌<◌}
@@ -7,33 +7,13 @@ use native.Mathlib.Omega.{arith}
 use lib.IntN.{ℤ, pos, nat_abs}
 use mir.Syntax.{w64}
 use mir.Val.{to_z}
-use lib.ListN.{length, get_or, set, take, drop, replicate, length-append, length-take, length-drop, length-set, length-replicate, replicate-append-replicate, get_or-append, drop_of_length-le}
+use lib.ListN.{length, set, take, drop, replicate, length-append, length-take, length-drop, length-set, length-replicate, replicate-append-replicate, drop_of_length-le}
 use borrow.Rule.Slice.PartMut.{put_mid, mid_of}
-use lib.Seq.{take_all, take_at, drop_at, take-add, take-append-le, drop-append-le, drop-append-add, take-append-add, drop-drop, get_or-take, length-take-le, take-suc-set, drop-set-lt, append_snoc}
+use lib.Seq.{take_all, take_at, drop_at, take-add, take-append-le, drop-append-le, drop-append-add, take-append-add, drop-drop, length-take-le, take-suc-set, drop-set-lt, append_snoc}
 use Rattle.machine.specs.State.{state_length, padded, flatten, state_numbers, empty_state, pair_room, pair_width, process_room, process_width}
 use Rattle.state.specs.Change.{rewritten, pair_added, pair_taken, process_replaced, process_added, pairs_from}
 use Rattle.state.specs.Test.{at}
 use Rattle.value.proofs.Kit.{back}
-use Rattle.state.proofs.Mix.{mix, mix-up}
-
--- ---- fresh numbers written over the first
-module _ (s₀ fresh : List ℤ) (count : ℕ) (a : count ≤ length s₀) (b : count ≤ length fresh) where
-  abbrev target : List ℤ
-  target = take count fresh ++ drop count s₀
-
-  target-length : length target ≡ length s₀
-  target-length = simp (length-append, length-take, length-drop) (omega arith)
-
-  pub put_on : (s : List ℤ) (i : ℕ) → i < count → s ≡ mix i target s₀ → set s i (get_or fresh i (pos 0)) ≡ mix (i + 1) target s₀
-  put_on s i l e =
-      let v : get_or fresh i (pos 0) ≡ get_or target i (pos 0) =
-      sym (get_or-append (take count fresh) (drop count s₀) (pos 0) i (simp length-take (omega arith)) ∙ get_or-take count fresh i (pos 0) l) in
-      rw e (ap (λ (z : ℤ). set (mix i target s₀) i z) v ∙ mix-up i target s₀ (pos 0) (omega (arith, target-length)) target-length)
-
-  pub put-done : (s : List ℤ) (i : ℕ) → i ≤ count → count ≤ i → s ≡ mix i target s₀ → s ≡ target
-  put-done s i l h e =
-      let q : i ≡ count = omega arith in
-      e ∙ ap (λ (m : ℕ). mix m target s₀) q ∙ ap (λ (l : List ℤ). l ++ drop count s₀) (take_at (take count fresh) (drop count s₀) count (length-take-le count fresh b))
 
 -- ---- a shift, then the fresh numbers
 module _ (l new : List ℤ) (cut count : ℕ) (n : length new ≡ count) (c : cut ≤ length l) (k : count ≤ length l) where
@@ -98,15 +78,14 @@ unfolding rewritten
 rewritten-none cut l h = sym (take_all (length l) (drop cut l ++ replicate cut (pos 0)) (simp (length-append, length-drop, length-replicate) (omega arith)))
 
 -- ---- the whole buffer after each change
-pub added : (s row ys : List ℤ) (place n : ℕ) → length row ≡ pair_width → n ≡ nat_abs (at s 1) → n < 256
-    → let a = pairs_from + place * pair_width in ys ≡ rewritten 0 (take pair_width row) (mid_of a (length s - a) s)
+pub added : (s row ys : List ℤ) (place n : ℕ) → n ≡ nat_abs (at s 1) → n < 256
+    → let a = pairs_from + place * pair_width in ys ≡ rewritten 0 row (mid_of a (length s - a) s)
     → let a = pairs_from + place * pair_width in set (put_mid a (length s - a) s ys) 1 (to_z w64 (n + 1)) ≡ pair_added place row s
 unfolding pair_added
-added s row ys place n w q h e =
+added s row ys place n q h e =
     let a : ℕ = pairs_from + place * pair_width in
-    let r : take pair_width row ≡ row = take_all pair_width row (omega arith) in
     ap₂ (λ (l : List ℤ) (z : ℤ). set l 1 z)
-    (tail-changed (rewritten 0 row) a s ys (e ∙ ap (λ (t : List ℤ). rewritten 0 t (mid_of a (length s - a) s)) r))
+    (tail-changed (rewritten 0 row) a s ys e)
     (back (pos (n + 1)) (omega arith) ∙ ap (λ (m : ℕ). pos (m + 1)) q)
 
 pub taken : (s ys : List ℤ) (place n : ℕ) → length s ≡ state_length → place < 256 → n ≡ nat_abs (at s 1) → n ≤ 256
@@ -128,39 +107,26 @@ replaced s new ys place n k p q h g e =
     (part-changed (rewritten process_width new) (2 + place * process_width) s ys pairs_from (omega arith) e)
     (back (pos (n - 1 + k)) (omega arith) ∙ ap (λ (m : ℕ). pos (m - 1 + k)) q)
 
--- numbers written over a tail leave its length
-pub put-length : (s fresh ys : List ℤ) (a i : ℕ) (z : ℤ) → let u = set s i z in a ≤ length s → length fresh ≤ length s - a
-    → ys ≡ take (length fresh) fresh ++ drop (length fresh) (mid_of a (length u - a) u) → length (put_mid a (length u - a) u ys) ≡ length s
-put-length s fresh ys a i z l h e =
-    let u : List ℤ = set s i z in
-    ap length (tail-changed (λ (l : List ℤ). take (length fresh) fresh ++ drop (length fresh) l) a u ys e)
-    ∙ simp (length-append, length-take, length-drop, length-set) (omega arith)
-
-pub set-length : (s fresh ys : List ℤ) (a i : ℕ) (z v : ℤ) → let u = set s i z in a ≤ length s → length fresh ≤ length s - a
-    → ys ≡ take (length fresh) fresh ++ drop (length fresh) (mid_of a (length u - a) u) → length (set (put_mid a (length u - a) u ys) 0 v) ≡ length s
-set-length s fresh ys a i z v l h e = length-set (put_mid a (length (set s i z) - a) (set s i z) ys) 0 v ∙ put-length s fresh ys a i z l h e
-
 -- a process written after the others
-pub pushed : (s fresh ys : List ℤ) (sum n : ℕ) → length s ≡ state_length → n ≡ nat_abs (at s 0) → n < 256 → sum < 9223372036854775808
-    → let u = set s (2 + n * process_width) (to_z w64 sum) in ys ≡ take (length fresh) fresh ++ drop (length fresh) (mid_of (2 + n * process_width + 1) (length u - (2 + n * process_width + 1)) u)
-    → let u = set s (2 + n * process_width) (to_z w64 sum) in set (put_mid (2 + n * process_width + 1) (length u - (2 + n * process_width + 1)) u ys) 0 (to_z w64 (n + 1)) ≡ process_added sum fresh s
+pub pushed : (s fresh ys : List ℤ) (sum n k : ℕ) → length s ≡ state_length → n ≡ nat_abs (at s 0) → n < 256 → sum < 9223372036854775808 → ys ≡ fresh → k ≡ length fresh
+    → let u = set s (2 + n * process_width) (to_z w64 sum) in set (put_mid (2 + n * process_width + 1) k u ys) 0 (to_z w64 (n + 1)) ≡ process_added sum fresh s
 unfolding process_added
-pushed s fresh ys sum n w q h g e =
+pushed s fresh ys sum n k w q h g e c =
     let a : ℕ = 2 + n * process_width in
-    let k : ℕ = length fresh in
+    let m : ℕ = length fresh in
     let u : List ℤ = set s a (to_z w64 sum) in
     let v : to_z w64 sum ≡ pos sum = back (pos sum) g in
     let t : take (a + 1) u ≡ take a s ++ (to_z w64 sum ∷ []) = ap (λ (j : ℕ). take j u) (add-one a) ∙ take-suc-set s a (to_z w64 sum) (omega arith) in
     let d : drop (a + 1) u ≡ drop (a + 1) s = drop-set-lt (a + 1) s a (to_z w64 sum) (omega arith) in
-    let r : take (a + 1) u ++ (take k fresh ++ drop k (drop (a + 1) u)) ≡ take a s ++ (pos sum ∷ (fresh ++ drop (a + 1 + k) s)) =
-    ap₂ (λ (l m : List ℤ). l ++ (take k fresh ++ drop k m)) t d
-    ∙ ap₂ (λ (l m : List ℤ). (take a s ++ (to_z w64 sum ∷ [])) ++ (l ++ m)) (take_all k fresh (omega arith)) (drop-drop k (a + 1) s)
-    ∙ append_snoc (take a s) (to_z w64 sum) (fresh ++ drop (a + 1 + k) s)
-    ∙ ap (λ (z : ℤ). take a s ++ (z ∷ (fresh ++ drop (a + 1 + k) s))) v in
+    let r : take (a + 1) u ++ (fresh ++ drop m (drop (a + 1) u)) ≡ take a s ++ (pos sum ∷ (fresh ++ drop (a + 1 + m) s)) =
+    ap₂ (λ (l x : List ℤ). l ++ (fresh ++ drop m x)) t d
+    ∙ ap (λ (x : List ℤ). (take a s ++ (to_z w64 sum ∷ [])) ++ (fresh ++ x)) (drop-drop m (a + 1) s)
+    ∙ append_snoc (take a s) (to_z w64 sum) (fresh ++ drop (a + 1 + m) s)
+    ∙ ap (λ (z : ℤ). take a s ++ (z ∷ (fresh ++ drop (a + 1 + m) s))) v in
     ap₂ (λ (l : List ℤ) (z : ℤ). set l 0 z)
-    (tail-changed (λ (l : List ℤ). take k fresh ++ drop k l) (a + 1) u ys e ∙ r)
+    (ap₂ (λ (l : List ℤ) (j : ℕ). take (a + 1) u ++ (l ++ drop j (drop (a + 1) u))) e c ∙ r)
     (back (pos (n + 1)) (omega arith))
-    ∙ ap (λ (m : ℕ). set (take (2 + m * process_width) s ++ (pos sum ∷ (fresh ++ drop (2 + m * process_width + 1 + k) s))) 0 (pos (m + 1))) q
+    ∙ ap (λ (i : ℕ). set (take (2 + i * process_width) s ++ (pos sum ∷ (fresh ++ drop (2 + i * process_width + 1 + m) s))) 0 (pos (i + 1))) q
 
 -- a buffer with room for it keeps its length
 pub added-length : (sum : ℕ) (ls zs : List ℤ) → 2 + nat_abs (at zs 0) * process_width + 1 + length ls ≤ length zs → length (process_added sum ls zs) ≡ length zs

@@ -7,7 +7,6 @@ pub mod Entries
 pub mod Climbs
 pub mod Image
 pub mod Over
-pub mod Mix
 pub mod Places
 pub mod Change
 pub mod Spliced

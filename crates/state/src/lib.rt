@@ -337,30 +337,18 @@ fn shift_left(s: &mut [i64], k: usize)
     s[kept..].fill(0);
 }
 
-// Writes the first numbers of a slice over those of another: both cuts in one place, as `rewrite` makes them three times.
-pub fn put(s: &mut [i64], fresh: &[i64], count: usize)
-    requires { (count ≤ length s.old) × (count ≤ length fresh.now) }
-    ensures { s.new ≡ take count fresh.now ++ drop count s.old }
+// The first `cut` numbers go out and fresh ones come in; what stands after them moves.
+fn rewrite(s: &mut [i64], cut: usize, fresh: &[i64])
+    requires { (cut ≤ length s.old) × (length fresh.now ≤ length s.old) }
+    ensures { s.new ≡ rewritten cut fresh.now s.old }
 {
-    s[..count].copy_from_slice(&fresh[..count]);
-}
-
-// The first `cut` numbers go out and the first `count` of `fresh` come in; what stands after them moves.
-fn rewrite(s: &mut [i64], cut: usize, fresh: &[i64], count: usize)
-    requires { (cut ≤ length s.old) × (count ≤ length s.old) × (count ≤ length fresh.now) }
-    ensures { s.new ≡ rewritten cut (take count fresh.now) s.old }
-{
-    if count == cut {
-        put(s, fresh, count);
-        return;
-    }
+    let count = fresh.len();
     if count < cut {
         shift_left(s, cut - count);
-        put(s, fresh, count);
-        return;
+    } else if cut < count {
+        shift_right(s, count - cut);
     }
-    shift_right(s, count - cut);
-    put(s, fresh, count);
+    s[..count].copy_from_slice(fresh);
 }
 
 // One of the two counts of a state.
@@ -378,7 +366,7 @@ pub fn insert_pair(state: &mut [i64], place: usize, row: &[i64; Layout::PAIR])
 {
     let n = counted(&state[..], 1);
     let from = Layout::PAIRS + place * Layout::PAIR;
-    rewrite(&mut state[from..], 0, row, Layout::PAIR);
+    rewrite(&mut state[from..], 0, row);
     state[1] = (n + 1) as i64;
 }
 
@@ -403,8 +391,7 @@ pub fn splice(state: &mut [i64], place: usize, fresh: &[i64], count: usize)
     rewrite(
         &mut state[from..Layout::PAIRS],
         Layout::PROCESS,
-        fresh,
-        count * Layout::PROCESS,
+        &fresh[..count * Layout::PROCESS],
     );
     state[0] = (n - 1 + count) as i64;
 }
@@ -418,7 +405,7 @@ fn put_process(state: &mut [i64], sum: usize, locals: &[i64])
     let from = Layout::PROCESSES + n * Layout::PROCESS;
     let first = from + 1;
     state[from] = sum as i64;
-    put(&mut state[first..], locals, locals.len());
+    state[first..first + locals.len()].copy_from_slice(locals);
     state[0] = (n + 1) as i64;
 }
 

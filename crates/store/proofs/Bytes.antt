@@ -86,9 +86,10 @@ module _ (bs : List ℕ) (n : ℕ) (e : n ≡ length_in bs) where
   clear-after : n ≤ text_limit → zeros (take (length bs - (2 + n)) (drop (2 + n) bs)) ≡ true → held_in bs ≡ held (text_in bs)
   clear-after h z = by true true none (le-leb (length_in bs) text_limit (omega arith)) (sym part_at ∙ z)
 
-  pub text-found : n ≤ text_limit → zeros (take (length bs - (2 + n)) (drop (2 + n) bs)) ≡ true → TextOf bs (take (2 + n - 2) (drop 2 bs))
+  pub text-found : length bs ≡ model_length → n ≤ text_limit → zeros (take (length bs - (2 + n)) (drop (2 + n) bs)) ≡ true → TextOf bs (take (2 + n - 2) (drop 2 bs))
   unfolding text_in
-  text-found h z =
+  text-found f h z =
       let k : 2 + n - 2 ≡ length_in bs = omega (arith, e) in
       let t : take (2 + n - 2) (drop 2 bs) ≡ text_in bs = ap (λ (i : ℕ). take i (drop 2 bs)) k in
-      record { is = t; short = simp length-take (omega arith); holds = clear-after h z ∙ ap held (sym t) }
+      let l : length (take (2 + n - 2) (drop 2 bs)) ≡ n = simp (length-take, length-drop) (omega (arith, f)) in
+      record { is = t; long = l ∙ e; short = simp length-take (omega arith); holds = clear-after h z ∙ ap held (sym t) }

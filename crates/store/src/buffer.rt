@@ -59,7 +59,7 @@ pub fn put_text(model: &mut [u8], text: &[u8])
 // The length in the first two bytes.
 fn text_length(model: &[u8]) -> usize
     requires { 2 ≤ length model.now }
-    ensures { result ≡ length_in model.now }
+    ensures { (result ≡ length_in model.now) × (result < 65536) }
 {
     usize::from(u16::from_le_bytes([model[0], model[1]]))
 }

@@ -6,7 +6,7 @@ use Rattle.searching.proofs.result_of.Goals as goal
 
 pub run_found-requires : goal.run_found-requires
 run_found-requires c =
-    (c.requires.1, (found-run c.in-Ok.is c.requires.0.1).0)
+    (found-run c.in-Ok.is c.requires.1).0
 
 pub returns-in-Ok : goal.returns-in-Ok
 returns-in-Ok c =

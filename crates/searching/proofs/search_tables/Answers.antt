@@ -3,7 +3,6 @@ use mathlib.Core.Path.{sym, ◌∙◌}
 use Rattle.state.proofs.Tests.{refused, passed}
 use Rattle.searching.proofs.Results.{depth-few, closed_run, deep-run, walked-run}
 use Rattle.searching.proofs.Held.{tables, walk-held, closes, stands, numbers, holds}
-use borrow.Author.Rules.{rules}
 use Rattle.searching.proofs.search_tables.Goals as goal
 
 pub shape-requires : goal.shape-requires
@@ -41,7 +40,7 @@ result_of-requires c =
     let y = c.args.written in
     let m = c.requires.0.0 in
     let h = c.requires.0.1 in
-    ((_, c.search_model-walked.ensures m _ (walk-held x y m h) (stands x y m h _ c.requires.1 e)), search rules)
+    (_, c.search_model-walked.ensures m _ (walk-held x y m h) (stands x y m h _ c.requires.1 e))
 
 pub returns : goal.returns
 returns c =

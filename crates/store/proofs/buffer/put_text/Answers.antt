@@ -1,9 +1,5 @@
 -- The length and the text over zeros are the bytes of the text.
-use mathlib.Core.Path.{◌≡◌, refl, ap, ◌∙◌}
-use Prim.Native.Nat.{ℕ}
-use native.Mathlib.Omega.{arith}
-use lib.ListN.{length, length-replicate}
-use Rattle.machine.specs.Machine.{model_length}
+use mathlib.Core.Path.{refl}
 use Rattle.store.proofs.Bytes.{text-put}
 use Rattle.store.proofs.buffer.put_text.Goals as goal
 

@@ -5,4 +5,4 @@ use Rattle.store.proofs.buffer.text_length.Goals as goal
 
 pub returns : goal.returns
 unfolding length_in
-returns c = omega (arith, c.from.ensures, c.from_le_bytes.ensures)
+returns c = (omega (arith, c.from.ensures, c.from_le_bytes.ensures), omega (arith, c.from.ensures))

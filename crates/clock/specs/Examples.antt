@@ -4,7 +4,7 @@ use Rattle.waits.specs.Runs.{next_in_run, read, settled, waiting, wait_of}
 use Rattle.clock.specs.declared.Clock.{Clock}
 use Rattle.waits.specs.declared.Unread.TheVariants as unread
 use Rattle.clock.specs.declared.Late.TheVariants as late
-use Rattle.clock.specs.Clock.{ticks_of, forwarded, waited, brought_by}
+use Rattle.clock.specs.Clock.{ticks_of, late_number, forwarded, waited, brought_by}
 
 abbrev at : ℕ → ℕ → Clock
 at t u = record { ticks = t; draws = u }
@@ -28,3 +28,10 @@ pub rows :
     × (brought_by (at 9223372036854775807 9223372036854775807) (1 ∷ []) 1 ≡ Err (late.Wait unread.Ended))
 unfolding brought_by waited forwarded ticks_of wait_of waiting settled read next_in_run
 rows = (refl, refl, refl, refl, refl, refl, refl, refl, refl, refl, refl)
+
+-- the numbers of the refusals above, and of 24
+pub numbers :
+    (late_number late.Past ≡ 25)
+    × (late_number (late.Wait unread.Ended) ≡ 23)
+    × (late_number (late.Wait unread.Long) ≡ 24)
+numbers = (refl, refl, refl)

@@ -151,7 +151,11 @@ late-after (x ∷ y ∷ u) b h = rw (le-ltb ((256 + x) * 256 + y) two_bytes (ome
 
 kept_on : (s : List ℕ) (b : ℕ) → kept_next (kept s) ≡ kept (s ++ (b ∷ []))
 unfolding kept kept_next
-kept_on s b = omega (arith, length-append s (b ∷ []))
+kept_on s b = by (ltb (min kept_limit (length s)) kept_limit) refl
+  where
+    by : (t : Bool) → ltb (min kept_limit (length s)) kept_limit ≡ t → cond t (min kept_limit (length s) + 1) (min kept_limit (length s)) ≡ min kept_limit (length (s ++ (b ∷ [])))
+    by true e = omega (arith, ltb-true (min kept_limit (length s)) kept_limit e, length-append s (b ∷ []))
+    by false e = omega (arith, ltb-false (min kept_limit (length s)) kept_limit e, length-append s (b ∷ []))
 
 pub short_on : {s : List ℕ} {r : Reading} (b : ℕ) (y : Rest) (k' : ℕ) → Reads s r → b < 256 → r.head < full → y ≡ early_next r.head r.early b → k' ≡ kept_next r.kept → Reads (s ++ (b ∷ [])) (record { head = r.head * 256 + b; early = y; rest = r.rest; after = r.after; late = r.late; kept = k'; two = r.two })
 unfolding after_of

@@ -303,7 +303,7 @@ unfoldable pub ran_by : ℕ → Rest → Option Line
 ran_by head early = cond (head / 256 == run_head) (numbered (always Run) early) None
 
 unfoldable pub kept_next : ℕ → ℕ
-kept_next k = min kept_limit (k + 1)
+kept_next k = cond (nat_lt k kept_limit) (k + 1) k
 
 -- a line that ends a word so, and has so many bytes
 unfoldable pub ended : (ℕ → Line) → ℕ → ℕ → ℕ → Option Line

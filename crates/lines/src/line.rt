@@ -264,7 +264,7 @@ fn next_early(head: u64, early: Rest, b: u8) -> Rest
 fn next_kept(kept: u64) -> u64
     ensures { result ≡ kept_next kept }
 {
-    kept.saturating_add(1).min(Head::KEPT)
+    if kept < Head::KEPT { kept + 1 } else { kept }
 }
 
 impl Reading {

@@ -1,7 +1,7 @@
 #![tactic(auto)]
 
 // A script of calls on one engine: twelve numbers a row, run in order on lent buffers.
-ghost use Rattle.std.specs.Prelude.{◌≡◌, true, false, ◌+◌, ◌≤◌, leb, length, get_or, MatchOption};
+ghost use Rattle.std.specs.Prelude.{◌≡◌, true, false, ◌+◌, ◌≤◌, leb, length, get_or, MatchResult};
 ghost use Rattle.buffers.specs.Parts.{lent_all};
 ghost use Rattle.buffers.specs.Effect.{effect};
 ghost use Rattle.script.specs.Rows.{answer_width, row_of, kind_number, is_kind, fits, row_ask, row_call, first_call};
@@ -90,25 +90,31 @@ enum Kind {
     Run,
 }
 
-impl Kind {
-    // The kind of which a row has the number.
+// A number that is no kind's.
+#[derive(Clone, Copy)]
+struct NoKind;
+
+// The kind of which a row has the number.
+impl TryFrom<u64> for Kind {
+    type Error = NoKind;
+
+    ghost try_from_gives = { λ n r. MatchResult r (λ k. (kind_number k ≡ n) × (is_kind n ≡ true)) (λ e. is_kind n ≡ false) };
+
     #[tactic(auto, unfolding(crate::specs::Rows::kind_number, crate::specs::Rows::is_kind))]
-    fn of(number: u64) -> Option<Self>
-        ensures { MatchOption result (is_kind number ≡ false) (λ k. (kind_number k ≡ number) × (is_kind number ≡ true)) }
-    {
+    fn try_from(number: u64) -> Result<Self, NoKind> {
         match number {
-            Row::OPEN => Some(Kind::Open),
-            Row::LIST => Some(Kind::List),
-            Row::STEP => Some(Kind::Step),
-            Row::REPORT => Some(Kind::Report),
-            Row::SAVE => Some(Kind::Save),
-            Row::RETURN => Some(Kind::Return),
-            Row::FORGET => Some(Kind::Forget),
-            Row::TIMED => Some(Kind::Timed),
-            Row::STEADY => Some(Kind::Steady),
-            Row::SEARCH => Some(Kind::Search),
-            Row::RUN => Some(Kind::Run),
-            _ => None,
+            Row::OPEN => Ok(Kind::Open),
+            Row::LIST => Ok(Kind::List),
+            Row::STEP => Ok(Kind::Step),
+            Row::REPORT => Ok(Kind::Report),
+            Row::SAVE => Ok(Kind::Save),
+            Row::RETURN => Ok(Kind::Return),
+            Row::FORGET => Ok(Kind::Forget),
+            Row::TIMED => Ok(Kind::Timed),
+            Row::STEADY => Ok(Kind::Steady),
+            Row::SEARCH => Ok(Kind::Search),
+            Row::RUN => Ok(Kind::Run),
+            _ => Err(NoKind),
         }
     }
 }
@@ -357,7 +363,7 @@ fn run_row(
         return false;
     }
     let row = Row::from(numbers);
-    let Some(kind) = Kind::of(row.kind) else {
+    let Ok(kind) = Kind::try_from(row.kind) else {
         return false;
     };
     let parts = [model.len(), state.len(), saves.len(), clock.len()];

@@ -16,10 +16,10 @@ pub returns-then-answers-lt-ANSWER : goal.returns-then-answers-lt-ANSWER
 returns-then-answers-lt-ANSWER c =
     no_answer c.args.script.now c.args.given.texts.now c.args.given.numbers.now c.args.given.words.now (lent_of (lent_four c.args.model.now c.args.state.now c.args.saves.now c.args.clock.now) c.args.outputs.now c.args.answers.now) c.in-Some.ensures.cases.enough c.if-answers-lt-ANSWER.true
 
-pub returns-in_default-of : goal.returns-in_default-of
-returns-in_default-of c =
+pub returns-in_default-try_from : goal.returns-in_default-try_from
+returns-in_default-try_from c =
     no_call c.args.script.now c.args.given.texts.now c.args.given.numbers.now c.args.given.words.now (lent_of (lent_four c.args.model.now c.args.state.now c.args.saves.now c.args.clock.now) c.args.outputs.now c.args.answers.now) c.in-Some.ensures.cases.enough c.if-answers-lt-ANSWER.false c.from-row.result
-    (c.from-row.ensures ∙ ap row_of c.in-Some.ensures.cases.same ∙ first-row c.args.script.now) (no-kind c.from-row.result _ _ _ _ _ c.in_default-of.ensures)
+    (c.from-row.ensures ∙ ap row_of c.in-Some.ensures.cases.same ∙ first-row c.args.script.now) (no-kind c.from-row.result _ _ _ _ _ c.in_default-try_from.ensures)
 
 pub returns-then-not-fits : goal.returns-then-not-fits
 returns-then-not-fits c =

@@ -1,5 +1,5 @@
 -- The product and the sum are told where they fit.
-use Rattle.std.proofs.Common.{◌∙◌, arith}
+use Rattle.std.proofs.Common.{◌∙◌}
 use Rattle.lines.proofs.OneByte.{grown-large, grown-is}
 use Rattle.lines.proofs.bytes.grow.Goals as goal
 

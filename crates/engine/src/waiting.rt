@@ -13,6 +13,7 @@ ghost use Rattle.engine.specs.Waited.{timed_by};
 
 use crate::{Refusal, Told, listings};
 use clock::Clock;
+use running::Stepping;
 use store::Settled;
 
 // Both the state and the clock move, or neither does.
@@ -32,17 +33,13 @@ pub fn step_waiting(
         return Err(Refusal::Step(running::Refusal::NoWeight, listed));
     }
     let mut fresh = [0i64; running::Room::FRESH];
-    let taken = running::take_timed(
-        settled.tables,
-        state,
-        &mut fresh,
+    let read = Stepping {
+        tables: settled.tables,
         listing,
-        listed,
-        draw,
         waiting,
         clock,
-    );
-    match taken {
+    };
+    match running::take_timed(read, state, &mut fresh, listed, draw) {
         Ok((chosen, next)) => Ok((Told { listed, chosen }, next)),
         Err(refusal) => Err(Refusal::Step(refusal, listed)),
     }

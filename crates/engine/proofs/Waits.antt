@@ -1,13 +1,13 @@
 -- What a timed step gives: 1 and 11, 12 to 14 of the listing, and else what running's step comes to, with the state and the clock that it leaves. By cases of the machine that the model and the state hold.
 use mathlib.Core.Path.{◌≡◌, refl, sym, ap, ◌∙◌}
-use mathlib.Core.Bool.{Bool, true, false, cond, ◌&&◌, and-true}
+use mathlib.Core.Bool.{Bool, true, false, ◌&&◌, and-true}
 use mathlib.Core.List.{List}
 use mathlib.Core.Option.{Option, none, some, Option-elim}
 use Prim.Native.Nat.{ℕ}
 use native.Mathlib.Omega.{arith}
 use borrow.Author.Tests.{ne_eqb}
 use lib.Dec.{eqb}
-use Rattle.std.specs.Prelude.{Err, Ok}
+use Rattle.std.specs.Prelude.{Err}
 use lib.IntN.{ℤ}
 use lib.ListN.{length, replicate}
 use Rattle.clock.specs.declared.Clock.{Clock}

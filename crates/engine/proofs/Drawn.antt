@@ -49,7 +49,7 @@ taken_answer (Err r) count sum chosen = filled (refusal_number r) count sum 0
 
 -- ---- 15, 16 and the entry that the draw chooses
 module _ (m : Resolved.Model) (s : State) (es : List Entry) (d : ℕ) where
-  draw-15 : total (weights es) ≡ 0 → drawn m s es d ≡ refusing s es 15
+  pub draw-15 : total (weights es) ≡ 0 → drawn m s es d ≡ refusing s es 15
   unfolding drawn
   draw-15 e = rw (eq-eqb (total (weights es)) 0 e)
 
@@ -177,12 +177,12 @@ module _ (t roots scopes : List ℕ) (root variables sums channels : ℕ) (m : R
   pub tables-of : Tables t roots scopes sums channels m
   tables-of = record { root = root; variables = variables; definitions = w.definitions; represents = w.represents; good = w.good }
 
-  pub found : (zs : List ℤ) (l : List ℕ) (y : Told) (b : List ℕ) → Finds m zs l (Ok y) b → Found t roots scopes root variables zs b y.count y.total m
+  pub found : (zs : List ℤ) (l : List ℕ) (y : Told) (b : List ℕ) → Finds m zs l (Ok y) b → Found t roots scopes root variables zs b y.listed.count y.listed.total m
   unfolding buffer.listing_numbers filled_numbers
   found zs l y b (closed e q f) = let z : ◌≡◌ {A = ℕ} 0 1 = cc in absurd (omega arith)
   found zs l y b (holding {s} {x} e g z q h) = go (machine.listing m s) refl h.numbers x h.answer q
     where
-      go : (v : Listed) → machine.listing m s ≡ v → b ≡ buffer.listing_numbers v → (x : Outcome) → Tells v x → Ok y ≡ told_by x → Found t roots scopes root variables zs b y.count y.total m
+      go : (v : Listed) → machine.listing m s ≡ v → b ≡ buffer.listing_numbers v → (x : Outcome) → Tells v x → Ok y ≡ told_by x → Found t roots scopes root variables zs b y.listed.count y.listed.total m
       go (refused_with a) q f x (buffer.Answers.refuses d) k = let z : ◌≡◌ {A = ℕ} 0 1 = cc in absurd (omega arith)
       go (entries_are es) q f x (buffer.Answers.counts n u) k = record {
         state = s;
@@ -195,8 +195,8 @@ module _ (t roots scopes : List ℕ) (root variables sums channels : ℕ) (m : R
             rest = replicate (listing_length - length es * 7) 0;
             numbers = f;
           };
-          count-is = ap (λ (t : Told). t.count) (told_is k) ∙ n;
-          sum_is = ap (λ (t : Told). t.total) (told_is k) ∙ u;
+          count-is = ap (λ (t : Told). t.listed.count) (told_is k) ∙ n;
+          sum_is = ap (λ (t : Told). t.listed.total) (told_is k) ∙ u;
         };
         filled = f;
       }

@@ -62,17 +62,17 @@ module _ (zs : List ℤ) (m : Resolved.Model) where
     pub shared : Shared zs l count m state entries
     pub left : (bs r : List ℕ) → report_of m state entries ≡ Left bs r
 
-  pub shares_of : GoodModel m → (t : Told) (k B : List ℕ) → Finds m zs k (Ok t) B → Sharing B t.count
+  pub shares_of : GoodModel m → (t : Told) (k B : List ℕ) → Finds m zs k (Ok t) B → Sharing B t.listed.count
   unfolding requested leaves on_machine acts on_state reports sharing reported_as shown buffer.listing_numbers
   shares_of good t k B (closed e q f) = let z : ◌≡◌ {A = ℕ} 0 1 = cc in absurd (omega arith)
   shares_of good t k B (holding {s} {x = y} e g z q h) = go (machine.listing m s) refl h.numbers y h.answer q
     where
-      go : (v : Listed) → machine.listing m s ≡ v → B ≡ buffer.listing_numbers v → (x : Found) → Answers v x → Ok t ≡ told_by x → Sharing B t.count
+      go : (v : Listed) → machine.listing m s ≡ v → B ≡ buffer.listing_numbers v → (x : Found) → Answers v x → Ok t ≡ told_by x → Sharing B t.listed.count
       go (refused_with a) q f x (buffer.Answers.refuses d) k = let y : ◌≡◌ {A = ℕ} 0 1 = cc in absurd (omega arith)
       go (entries_are es) q f x (buffer.Answers.counts n u) k = record {
         state = s;
         entries = es;
-        shared = record { good = good; state = g; numbers = z; listed = q; filled = f; count-is = ap (λ (t : Told). t.count) (told_is k) ∙ n };
+        shared = record { good = good; state = g; numbers = z; listed = q; filled = f; count-is = ap (λ (t : Told). t.listed.count) (told_is k) ∙ n };
         left = λ bs r. rw (e bs, q);
       }
 

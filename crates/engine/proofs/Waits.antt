@@ -1,72 +1,46 @@
--- What a timed step gives: 1 and 11, and else what the step gave, with the state put back and the clock as it was where the wait is refused. By cases of the machine that the model and the state hold, and of both answers.
-use mathlib.Core.Path.{◌≡◌, refl, sym, ap, ap₂, ◌∙◌}
-use mathlib.Core.Bool.{Bool, true, false, cond, ◌&&◌, and-true}
-use mathlib.Core.List.{List, ◌++◌, append-nil}
+-- What a timed step gives: 1 and 11, 12 to 14 of the listing, and else what running's step comes to, with the state and the clock that it leaves. By cases of the machine that the model and the state hold.
+use mathlib.Core.Path.{◌≡◌, refl, sym, ap, ◌∙◌}
+use mathlib.Core.Bool.{Bool, true, false, ◌&&◌, and-true}
+use mathlib.Core.List.{List}
 use mathlib.Core.Option.{Option, none, some, Option-elim}
-use Prim.Native.Nat.{ℕ, zero, suc, ◌<◌}
+use Prim.Native.Nat.{ℕ}
 use native.Mathlib.Omega.{arith}
-use borrow.Author.Tests.{eq-eqb, ne_eqb}
+use borrow.Author.Tests.{ne_eqb}
 use lib.Dec.{eqb}
-use Rattle.std.specs.Prelude.{Err, Ok, is_ok}
+use Rattle.std.specs.Prelude.{Err}
 use lib.IntN.{ℤ}
-use lib.ListN.{length, take, drop, drop_of_length-le}
-use lib.Seq.{take_all}
+use lib.ListN.{length, replicate}
 use Rattle.clock.specs.declared.Clock.{Clock}
-use Rattle.clock.specs.declared.Late.{Late}
-use Rattle.clock.specs.Clock.{is_in_range, late_number, Brought, brought_by}
+use Rattle.clock.specs.Clock.{InRange, is_in_range}
 use Rattle.model.specs.Resolved
-use Rattle.rules.specs.Listing.{Entry}
-use Rattle.rules.specs.Draw.{weights, total}
 use Rattle.machine.specs.State.{State, state_length, state_numbers}
 use Rattle.machine.specs.Timed.{Timed, timed}
-use Rattle.machine.specs.Machine.{model_length, listing_length, Answer, no, listed_as, Listed, listing, Turn, turn, refusing, drawn, choosing, steps_with, refused_as, with_wait, steps_in, times_with, held, Machine, closed, holding, on_state, on_clock, step', timed', on', acts, Part, model, state, saves, clock, two_parts, timed_parts, is_lent, all_parts, has_lengths, on_machine}
-use Rattle.machine.specs.Questions.{Lists, no12, no13, no14, yes14, Steps, no15, no16, no17, no18, no19, yes19}
-use Rattle.machine.proofs.Listing as listing
-use Rattle.machine.proofs.Stepping as stepping
+use Rattle.machine.specs.Machine as machine
+use Rattle.machine.specs.Machine.{model_length, listing_length, no, zeroed, listed_as, Listed, Turn, turn, drawn, choosing, steps_with, steps_in, times_with, held, Machine, closed, holding, on_clock, timed', on', acts, Part, model, state, saves, clock, two_parts, timed_parts, is_lent, all_parts, has_lengths, on_machine}
 use Rattle.buffers.specs.Held.{held_in}
 use Rattle.buffers.specs.Listing.{shown}
 use Rattle.buffers.specs.Parts.{Engine, clock_numbers, numbers_of, is_part, read_held, lent_two, lent_timed}
 use Rattle.buffers.specs.Effect.{Effect, machine_over, machine_in, left_in, leaves, requested, answered, effect}
-use Rattle.buffers.proofs.Machines as machines
-use Rattle.buffers.proofs.Machines.{InTwo, both, in_two, machine-over}
 use Rattle.buffers.proofs.Clocks.{held_at, clocked, timed-in}
-use Rattle.engine.specs.declared.Answer as result
+use Rattle.listing.specs.declared.Refusal as listing
+use Rattle.listing.specs.declared.Refusal.TheVariants.{Missing, Entries, Total}
+use Rattle.listing.specs.Buffer.{Outcome, Answers as Tells}
+use Rattle.listing.specs.Buffer as buffer
+use Rattle.running.specs.declared.Refusal.TheVariants.{NoWeight}
+use Rattle.running.specs.Taking.{Stepped, number_of, entry_of, clock_of, StepsTo}
+use Rattle.running.proofs.Runs.{carries}
 use Rattle.simulation.specs.Comes.{are_parts_long}
-use Rattle.engine.specs.declared.Refusal.{Refusal}
-use Rattle.engine.specs.declared.Refusal.TheVariants.{Lengths, Text, NotHeld, Listing, Step, Save}
-use Rattle.running.proofs.Steps.{some-refusal}
-use Rattle.engine.specs.Gives.{Gives, bare, filled, refusal_answer, are_long}
+use Rattle.simulation.proofs.Results.{closed-is, held-is}
+use Rattle.engine.specs.declared.Answer as result
 use Rattle.engine.specs.declared.Timed as results
-use Rattle.engine.specs.Waited.{after_wait, Waited}
+use Rattle.engine.specs.declared.Refusal.{Refusal}
+use Rattle.engine.specs.declared.Refusal.TheVariants.{NotHeld, Listing}
+use Rattle.engine.specs.Gives.{Gives, bare, filled, refusal_answer, are_long}
+use Rattle.engine.specs.Tables.{told_by, Finds}
+use Rattle.engine.specs.Tables as found
 use Rattle.engine.proofs.Lengths.{untouched-gives}
-use Rattle.engine.proofs.Shows.{eleven-gives}
-
--- ---- an accepted step has a total
-
-total-is : {m : Resolved.Model} {s : State} {es : List Entry} {d : ℕ} {t : Turn State} → Steps m s es d t → t.answer.total ≡ total (weights es)
-unfolding listed_as
-total-is (no15 e) = refl
-total-is (no16 l g) = refl
-total-is (no17 o g) = refl
-total-is (no18 r l) = refl
-total-is (no19 r l f) = refl
-total-is (yes19 r l f) = refl
-
-positive : (d : ℕ) (m : Resolved.Model) (s : State) → (steps_with d m s).answer.number ≡ 0 → 0 < (steps_with d m s).answer.total
-unfolding steps_with choosing no listed_as
-positive d m s z = by ((listing.asked m s (listing m s)).0 refl) z
-  where
-    above : (n : ℕ) → (n ≡ 0 → ⊥) → 0 < n
-    above zero e = absurd (e refl)
-    above (suc n) e = omega arith
-
-    by : {k : Listed} → Lists m s k → (choosing m s d k).answer.number ≡ 0 → 0 < (choosing m s d k).answer.total
-    by (no12 f) z = absurd (omega arith)
-    by (no13 e h l) z = absurd (omega arith)
-    by (no14 e h l f) z = absurd (omega arith)
-    by (yes14 {es = es} e h l f) z =
-        let q = total-is ((stepping.asked m s es h d (drawn m s es d)).0 refl) in
-        rw q (above (total (weights es)) (λ n. let k : (drawn m s es d).answer.number ≡ 15 = ap (λ (t : Turn State). t.answer.number) ((stepping.asked m s es h d (refusing s es 15)).1 (no15 n)) in omega arith))
+use Rattle.engine.proofs.Shows.{Refuses, entries, refuses, listing-is, filled-numbers, eleven-gives}
+use Rattle.engine.proofs.Drawn.{Found, draw-15}
 
 -- ---- question 1
 
@@ -117,7 +91,7 @@ module _ (bs : List ℕ) (zs : List ℤ) (c : Clock) (ds : List ℕ) (d : ℕ) (
       by closed = unfold clocked in refl
       by (holding h) = unfold clocked in rw e refl
 
-  -- ---- after the step
+  -- ---- a turn
 
   -- what is left by a turn to the state r and the clock k
   left-timed : (ys : List ℤ) (m : Resolved.Model) (r : State) (k : Clock) → ys ≡ state_numbers r → (p : Part) → lent_timed bs ys k p ≡ left_in timed_parts x (holding (held_at m r k)) p
@@ -144,118 +118,64 @@ module _ (bs : List ℕ) (zs : List ℤ) (c : Clock) (ds : List ℕ) (d : ℕ) (
     output = o;
   }
 
-  -- what the step gave, r, zs' and l', is refused or waits
-  pub record After (r : result.Answer) (zs' : List ℤ) (l' : List ℕ) : Type 0 where
-    pub refused : (r.number ≡ 0 → ⊥) → Gives W r (lent_timed bs zs' c) l'
-    pub positive : r.number ≡ 0 → 0 < r.total
-    pub waits : r.number ≡ 0 → (k : results.Timed) (ys : List ℤ) → Waited r c (brought_by c ds r.total) zs zs' k ys → Gives W k.answer (lent_timed bs ys k.clock) l'
+  -- ---- over the tables of a model
 
-  module _ (long : length zs ≡ state_length) (e : is_in_range c ≡ true) (r : result.Answer) (zs' : List ℤ) (l' : List ℕ) where
-    -- nothing is held
-    after-closed : y ≡ closed → Gives (leaves two_parts (lent_two bs zs) l (on_machine (step' d) closed)) r (lent_two bs zs') l' → After r zs' l'
-    unfolding leaves on_machine left_in no shown clocked lent_two
-    after-closed q g = record {
-      refused = λ n. rw (asked-so, q) (record { number = g.number; place = g.place; branch = g.branch; count = g.count; total = g.total; chosen = g.chosen; buffers = at; output = g.output });
-      positive = λ n. absurd (omega (arith, g.number));
-      waits = λ n. absurd (omega (arith, g.number));
-    }
-      where
-        at : (p : Part) → lent_timed bs zs' c p ≡ x p
-        at model = unfold lent_timed in refl
-        at state = unfold lent_timed in g.buffers state
-        at saves = unfold lent_timed in refl
-        at clock = unfold lent_timed in refl
+  -- the model that the buffer holds
+  pub held-timed : {o : Option Resolved.Model} → held_in bs ≡ o → W ≡ requested (timed' ds d) x l o
+  unfolding answered lent_timed
+  held-timed e = ap (requested (timed' ds d) x l) e
 
-    module _ (m : Resolved.Model) (s : State) (q : y ≡ holding (held m s)) where
-      abbrev t : Turn State
-      t = steps_with d m s
+  -- 12 to 14 zero the listing
+  unlisted : (r : listing.Refusal) → buffer.refusal_number r ≡ 0 → ⊥
+  unlisted (Missing i j) e = omega (arith, e)
+  unlisted Entries e = omega (arith, e)
+  unlisted Total e = omega (arith, e)
 
-      abbrev u : Turn Timed
-      u = steps_in c ds s t
+  no-wait : (s : State) (n p b : ℕ) → (n ≡ 0 → ⊥) → steps_in c ds s (turn s (no n p b zeroed)) ≡ turn (timed s c) (no n p b zeroed)
+  unfolding steps_in no
+  no-wait s n p b z = rw (ne_eqb n 0 z) refl
 
-      -- the machine with its clock
-      turn-so : W ≡ leaves timed_parts x l (turn (holding (held_at m u.machine.state u.machine.clock)) u.answer)
-      unfolding clocked on_machine acts on_clock times_with
-      turn-so = asked-so ∙ ap (λ (y : Machine). leaves timed_parts x l (on_machine (timed' ds d) (clocked y (clock_numbers c)))) q ∙ rw e refl
+  choosing-waits : length l ≡ listing_length → (m : Resolved.Model) (s : State) {k : Listed} → Refuses k → state_numbers s ≡ zs → (r : Refusal) (y : Outcome) (b : List ℕ) → Err r ≡ told_by y → Tells k y → b ≡ buffer.listing_numbers k
+      → let u = steps_in c ds s (choosing m s d k) in Gives (leaves timed_parts x l (turn (holding (held_at m u.machine.state u.machine.clock)) u.answer)) (refusal_answer r) (lent_timed bs zs c) b
+  unfolding choosing no shown buffer.listing_numbers
+  choosing-waits long m s entries e r o b q (buffer.Answers.counts n t) f = let z : ◌≡◌ {A = ℕ} 0 1 = cc in absurd (omega arith)
+  choosing-waits long m s (refuses i j k) e r o b q (buffer.Answers.refuses {r = w} a) f =
+      let p : r ≡ Listing w = cc q in
+      let n : i ≡ 0 → ⊥ = λ z. unlisted w (a.number ∙ z) in
+      rw (p, no-wait s i j k n) (gives-turn m (turn (timed s c) (no i j k zeroed)) (refusal_answer (Listing w)) zs b a.number a.place a.branch refl refl refl (sym e) (f ∙ ap (λ (i : ℕ). replicate i 0) (sym long)))
 
-      module _ (g : Gives (leaves two_parts (lent_two bs zs) l (turn (holding (held m t.machine)) t.answer)) r (lent_two bs zs') l') where
-        state-so : zs' ≡ state_numbers t.machine
-        unfolding leaves left_in is_lent numbers_of lent_two
-        state-so = g.buffers state
+  module _ (range : InRange c) where
+    -- the machine's turn
+    turned : (m : Resolved.Model) (s : State) → machine_over two_parts (lent_two bs zs) (some m) ≡ holding (held m s)
+        → let u = steps_in c ds s (choosing m s d (machine.listing m s)) in requested (timed' ds d) x l (some m) ≡ leaves timed_parts x l (turn (holding (held_at m u.machine.state u.machine.clock)) u.answer)
+    unfolding requested on_machine acts on_clock times_with steps_with
+    turned m s e = ap (λ (y : Machine). leaves timed_parts x l (on_machine (timed' ds d) y)) (held-is bs zs m c s e range)
 
-        output-so : l' ≡ shown t.answer.listing l
-        unfolding leaves
-        output-so = g.output
+    -- 11 to 14
+    pub refused-waits : length l ≡ listing_length → (m : Resolved.Model) (r : Refusal) (b : List ℕ) → Finds m zs l (Err r) b → Gives (requested (timed' ds d) x l (some m)) (refusal_answer r) x b
+    unfolding requested
+    refused-waits long m r b (found.closed e q f) =
+        let p : r ≡ NotHeld = cc q in
+        rw (closed-is bs zs m c (e bs), p, f) (eleven-gives (timed' ds d) x l)
+    refused-waits long m r b (found.holding {s} {x = y} e g z q h) = rw (turned m s (e bs)) (choosing-waits long m s (listing-is m s) (sym z) r y b q h.answer h.numbers)
 
-        before-so : zs ≡ state_numbers s
-        unfolding lent_two
-        before-so = sym (machine-over (lent_two bs zs) m s long q).numbers
+    module _ {t roots scopes : List ℕ} {root variables : ℕ} {b : List ℕ} {count sum : ℕ} {m : Resolved.Model} (f : Found t roots scopes root variables zs b count sum m) where
+      abbrev T : Turn Timed
+      T = steps_in c ds f.state (drawn m f.state f.entries d)
 
-        same_number : r.number ≡ t.answer.number
-        unfolding leaves
-        same_number = g.number
+      -- 15
+      pub weightless : sum ≡ 0 → StepsTo T c (Err NoWeight) zs
+      weightless e = rw (draw-15 m f.state f.entries d (sym f.counted.sum_is ∙ e)) (unfold steps_in listed_as in record { number = refl; chosen = refl; clock = refl; state = f.counted.listing.lent.stands.numbers })
 
-        same_total : r.total ≡ t.answer.total
-        unfolding leaves
-        same_total = g.total
-
-        -- as the step answered
-        as_step : (v : Turn Timed) → u ≡ v → v.answer ≡ t.answer → (ys : List ℤ) → ys ≡ state_numbers v.machine.state → Gives W r (lent_timed bs ys v.machine.clock) l'
-        unfolding leaves
-        as_step v h a ys z =
-            rw (turn-so, h)
-            (gives-turn m v r ys l' (g.number ∙ ap (λ (a : Answer). a.number) (sym a)) (g.place ∙ ap (λ (a : Answer). a.place) (sym a)) (g.branch ∙ ap (λ (a : Answer). a.branch) (sym a))
-            (g.count ∙ ap (λ (a : Answer). a.count) (sym a)) (g.total ∙ ap (λ (a : Answer). a.total) (sym a)) (g.chosen ∙ ap (λ (a : Answer). a.chosen) (sym a)) z (output-so ∙ ap (λ (a : Answer). shown a.listing l) (sym a)))
-
-        -- as a wait that is refused with number n
-        as-refused : (n : ℕ) → u ≡ turn (timed s c) (refused_as n t.answer) → Gives W (filled n r.count r.total 0) (lent_timed bs zs c) l'
-        unfolding leaves refused_as
-        as-refused n h = rw (turn-so, h) (gives-turn m (turn (timed s c) (refused_as n t.answer)) (filled n r.count r.total 0) zs l' refl refl refl g.count g.total refl before-so output-so)
-
-        bring-so : brought_by c ds r.total ≡ brought_by c ds t.answer.total
-        bring-so = ap (brought_by c ds) same_total
-
-        after-held : After r zs' l'
-        unfolding steps_in with_wait
-        after-held = record {
-          refused = λ n. as_step (turn (timed t.machine c) t.answer) (rw (ne_eqb t.answer.number 0 (λ z. n (same_number ∙ z))) refl) refl zs' state-so;
-          positive = λ n. rw same_total (positive d m s (sym same_number ∙ n));
-          waits = λ n k ys w. by n k ys w (brought_by c ds r.total) refl;
-        }
-          where
-            step-on : r.number ≡ 0 → u ≡ with_wait s c t (brought_by c ds t.answer.total)
-            step-on n = unfold steps_in in rw (eq-eqb t.answer.number 0 (sym same_number ∙ n)) refl
-
-            by : r.number ≡ 0 → (k : results.Timed) (ys : List ℤ) → Waited r c (brought_by c ds r.total) zs zs' k ys → (b : Brought) → brought_by c ds r.total ≡ b → Gives W k.answer (lent_timed bs ys k.clock) l'
-            by n k ys w (Ok c') f = unfold after_wait with_wait in
-                let v = turn (timed t.machine c') t.answer in
-                let h : u ≡ v = step-on n ∙ ap (with_wait s c t) (sym bring-so) ∙ rw f refl in
-                let p : k ≡ record { answer = r; clock = c' } = w.timed ∙ rw f refl in
-                let z : ys ≡ zs' = w.state ∙ rw f refl in
-                rw (p, z) (as_step v h refl zs' state-so)
-            by n k ys w (Err e) f = unfold after_wait with_wait in
-                let i = late_number e in
-                let h : u ≡ turn (timed s c) (refused_as i t.answer) = step-on n ∙ ap (with_wait s c t) (sym bring-so) ∙ rw f refl in
-                let p : k ≡ record { answer = filled i r.count r.total 0; clock = c } = w.timed ∙ rw f refl in
-                let z : ys ≡ zs = w.state ∙ rw f refl in
-                rw (p, z) (as-refused i h)
-
-    pub after-step : Gives (answered (on' (step' d)) (lent_two bs zs) l) r (lent_two bs zs') l' → After r zs' l'
-    unfolding answered requested machine_in
-    after-step g = by (in_two (lent_two bs zs)) refl g
-      where
-        by : {v : Machine} → InTwo v → y ≡ v → Gives (leaves two_parts (lent_two bs zs) l (on_machine (step' d) y)) r (lent_two bs zs') l' → After r zs' l'
-        by machines.nothing q g = after-closed q (rw q at g)
-        by (both m s) q g = unfold on_machine acts on_state in after-held m s q (rw q at g)
-
--- an answer that has a total where its number is 0 is no refusal
-pub never-zero : (r : Refusal) → ((refusal_answer r).number ≡ 0 → 0 < (refusal_answer r).total) → (refusal_answer r).number ≡ 0 → ⊥
-never-zero Lengths f e = omega (arith, f e)
-never-zero (Text x) f e = omega (arith, f e)
-never-zero NotHeld f e = omega (arith, f e)
-never-zero (Listing x) f e = omega (arith, f e)
-never-zero (Step x c t) f e = some-refusal x e
-never-zero (Save x) f e = omega (arith, f e)
+      -- what running's step came to
+      pub stepped-gives : (r : Stepped) (ys : List ℤ) → StepsTo T c r ys → Gives (requested (timed' ds d) x l (some m)) (filled (number_of r) count sum (entry_of r)) (lent_timed bs ys (clock_of c r)) b
+      unfolding shown
+      stepped-gives r ys h =
+          let k = carries m f.state c f.entries f.counted.listing.listed ds d in
+          let z : requested (timed' ds d) x l (some m) ≡ leaves timed_parts x l (turn (holding (held_at m T.machine.state T.machine.clock)) T.answer)
+              = turned m f.state (f.holds bs) ∙ unfold choosing in ap (λ (v : Listed). let u = steps_in c ds f.state (choosing m f.state d v) in leaves timed_parts x l (turn (holding (held_at m u.machine.state u.machine.clock)) u.answer)) f.counted.listing.listed in
+          rw (z, h.clock) (gives-turn m T (filled (number_of r) count sum (entry_of r)) ys b h.number (sym k.place) (sym k.branch) (f.counted.count-is ∙ sym k.count) (f.counted.sum_is ∙ sym k.total) h.chosen h.state
+          (f.filled ∙ filled-numbers f.entries ∙ ap (λ (x : machine.Shown). shown x l) (sym k.listing)))
 
 -- ---- the functions' cases
 
@@ -263,23 +183,3 @@ never-zero (Save x) f e = omega (arith, f e)
 pub of-gives : (E : Effect) (bs : List ℕ) (zs : List ℤ) (l : List ℕ) (r : results.Timed) (a b : result.Answer) (c : Clock) → r ≡ record { answer = a; clock = c } → a ≡ b → Gives E b (lent_timed bs zs c) l
     → Gives E r.answer (lent_timed bs zs r.clock) l
 of-gives E bs zs l r a b c p q g = rw (p, q) g
-
-pub waited-yes : (a : result.Answer) (c k : Clock) (b b' : Brought) (before zs : List ℤ) (r : results.Timed) → b' ≡ b → b' ≡ Ok k → r ≡ record { answer = a; clock = k } → Waited a c b before zs r zs
-unfolding after_wait
-waited-yes a c k b b' before zs r e z p =
-    let q : b ≡ Ok k = sym e ∙ z in
-    record { timed = rw q p; state = rw q refl }
-
--- numbers put over as many
-pub waited-no : (a f : result.Answer) (c : Clock) (b b' : Brought) (l : Late) (n : ℕ) (before zs zs' : List ℤ) (r : results.Timed) → b' ≡ b → b' ≡ Err l → n ≡ late_number l → f ≡ filled n a.count a.total 0 → r ≡ record { answer = f; clock = c }
-    → zs' ≡ before → Waited a c b before zs r zs'
-unfolding after_wait
-waited-no a f c b b' l n before zs zs' r e z i p g o =
-    let q : b ≡ Err l = sym e ∙ z in
-    record {
-      timed = rw q (g ∙ ap (λ (f : result.Answer). record { answer = f; clock = c }) (p ∙ ap (λ (n : ℕ). filled n a.count a.total 0) i));
-      state = rw q o;
-    }
-
-pub waited-from : {a : result.Answer} {c : Clock} {b : Brought} {before before' zs ys : List ℤ} {r : results.Timed} → before ≡ before' → Waited a c b before zs r ys → Waited a c b before' zs r ys
-waited-from {b = b} {zs = zs} e w = record { timed = w.timed; state = w.state ∙ ap (λ (l : List ℤ). cond (is_ok b) zs l) e }

@@ -8,7 +8,6 @@ use Rattle.token.specs.declared.Refusal as token
 use Rattle.token.specs.Questions.{question_number}
 use Rattle.listing.specs.declared.Refusal as listing
 use Rattle.listing.specs.Buffer as buffer
-use Rattle.running.specs.declared.Refusal as running
 use Rattle.running.specs.Taking as taking
 use Rattle.saves.specs.Change as saves
 use Rattle.simulation.specs.declared.Refusal as simulation
@@ -33,7 +32,7 @@ refusal_number Lengths = 1
 refusal_number (Text r) = question_number r.question
 refusal_number NotHeld = 11
 refusal_number (Listing r) = buffer.refusal_number r
-refusal_number (Step r c t) = taking.refusal_number r
+refusal_number (Step r x) = taking.refusal_number r
 refusal_number (Save r) = saves.refusal_number r
 
 -- the same: a refusal's number and places, and with 15 to 19 and 23 to 25 entry count and total
@@ -42,18 +41,15 @@ refusal_answer Lengths = bare 1 0 0
 refusal_answer (Text r) = bare (question_number r.question) r.place 0
 refusal_answer NotHeld = bare 11 0 0
 refusal_answer (Listing r) = bare (buffer.refusal_number r) (buffer.refusal_place r) (buffer.refusal_branch r)
-refusal_answer (Step r c t) = filled (taking.refusal_number r) c t 0
+refusal_answer (Step r x) = filled (taking.refusal_number r) x.count x.total 0
 refusal_answer (Save r) = bare (saves.refusal_number r) 0 0
 
--- a refusal of the text, of the listing, of a step over a listing, and of a run before its first step
+-- a refusal of the text, of the listing, and of a run before its first step
 abbrev pub of_text : token.Refusal → Refusal
 of_text r = Text r
 
 abbrev pub of_listing : listing.Refusal → Refusal
 of_listing r = Listing r
-
-abbrev pub untaken : Told → running.Refusal → Refusal
-untaken t r = Step r t.count t.total
 
 abbrev pub of_run : simulation.Refusal → Refusal
 of_run before.Lengths = Lengths
@@ -61,7 +57,7 @@ of_run before.NotHeld = NotHeld
 
 -- 01, Listing and stepping: acceptance with entry count and total, and the entry that a step took
 abbrev pub accepted : Told → Answer
-accepted t = filled 0 t.count t.total t.chosen
+accepted t = filled 0 t.listed.count t.listed.total t.chosen
 
 -- either
 abbrev pub answer_of : Result Told Refusal → Answer

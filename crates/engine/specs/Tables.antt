@@ -13,7 +13,7 @@ use Rattle.engine.specs.declared.Refusal.TheVariants.{NotHeld, Listing}
 
 -- 01, Listing: acceptance with entry count and total, or a refusal of the listing
 abbrev pub told_by : Outcome → Result Told Refusal
-told_by (Ok x) = Ok (record { count = x.count; total = x.total; chosen = 0 })
+told_by (Ok x) = Ok (record { listed = x; chosen = 0 })
 told_by (Err r) = Err (Listing r)
 
 -- 01, Listing, 11 to 14: what is found of the model m, a state's numbers zs and the listing buffer l as lent; b is the buffer after it

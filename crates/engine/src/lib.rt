@@ -1,6 +1,6 @@
 #![tactic(auto)]
 
-// An engine: its calls open, open_steady, list, step, step_timed, report, save, return and forget, and what they answer.
+// An engine: its calls open, open_steady, list, step, step_timed, run, report, save, return and forget, and what they answer. `searches` has search.
 pub mod held;
 pub mod listings;
 pub mod queries;
@@ -11,16 +11,18 @@ pub mod texts;
 pub mod waiting;
 
 ghost use Rattle.std.specs.Prelude.{◌≡◌, [], length};
+ghost use Rattle.clock.specs.Clock.{InRange};
 ghost use Rattle.machine.specs.State.{state_length};
 ghost use Rattle.machine.specs.Machine.{model_length, listing_length, list', step', report', timed', run', save', return', forget', open', open_steady', on'};
 ghost use Rattle.buffers.specs.Parts.{lent_two, lent_three, lent_timed, lent_all};
 ghost use Rattle.buffers.specs.Effect.{answered, effect};
-ghost use Rattle.engine.specs.Gives.{bare, filled, refusal_number, refusal_answer, accepted, answer_of, of_listing, of_text, of_run, untaken, Gives, are_long, are_all_long};
-ghost use Rattle.engine.specs.Waited.{timed};
+ghost use Rattle.engine.specs.Gives.{bare, filled, refusal_number, refusal_answer, accepted, answer_of, of_listing, of_text, of_run, Gives, are_long, are_all_long};
+ghost use Rattle.engine.specs.Waited.{timed, timed_by};
 ghost use Rattle.engine.specs.Ran.{GivesRan, told_of, unbegun};
 ghost use Rattle.engine.specs.Asks.{ask_under};
 
 use clock::Clock;
+use listing::Listed;
 use listings::List;
 use opening::Space;
 use running::Progress;
@@ -81,7 +83,7 @@ pub enum Refusal {
     Text(token::Refusal),
     NotHeld,
     Listing(listing::Refusal),
-    Step(running::Refusal, usize, u64),
+    Step(running::Refusal, Listed),
     Save(saves::Refusal),
 }
 
@@ -95,7 +97,7 @@ impl Refusal {
             Refusal::Text(refusal) => refusal.question.number(),
             Refusal::NotHeld => 11,
             Refusal::Listing(refusal) => refusal.number(),
-            Refusal::Step(refusal, _, _) => refusal.number(),
+            Refusal::Step(refusal, _) => refusal.number(),
             Refusal::Save(refusal) => refusal.number(),
         }
     }
@@ -145,35 +147,27 @@ impl From<Refusal> for Answer {
                 listing::Refusal::Entries => Answer::bare(number, 0, 0),
                 listing::Refusal::Total => Answer::bare(number, 0, 0),
             },
-            Refusal::Step(_, count, total) => Answer::filled(number, count as u64, total, 0),
+            Refusal::Step(_, listed) => {
+                Answer::filled(number, listed.count as u64, listed.total, 0)
+            }
             Refusal::Save(_) => Answer::bare(number, 0, 0),
         }
     }
 }
 
-// What a call that lists is accepted with: the entries and their total, and the entry that a step took, else 0. Count and total are fields, as in the answer: `take_drawn`
-// alone makes a Listed of them, to draw.
+// What a call that lists is accepted with: what was listed, and the entry that a step took, else 0.
 #[derive(Clone, Copy)]
 pub struct Told {
-    pub count: usize,
-    pub total: u64,
+    pub listed: Listed,
     pub chosen: usize,
-}
-
-impl Told {
-    // No step over this listing.
-    fn untaken(self, refusal: running::Refusal) -> Refusal
-        ensures { result ≡ untaken self refusal }
-    {
-        Refusal::Step(refusal, self.count, self.total)
-    }
 }
 
 impl From<Told> for Answer {
     ghost from_gives = { λ t a. a ≡ accepted t };
 
     fn from(told: Told) -> Answer {
-        Answer::filled(0, told.count as u64, told.total, told.chosen as u64)
+        let listed = told.listed;
+        Answer::filled(0, listed.count as u64, listed.total, told.chosen as u64)
     }
 }
 
@@ -354,6 +348,23 @@ pub fn step(model: &[u8], state: &mut [i64], listing: &mut [u64], draw: u64) -> 
     Answer::from(step_lent(model, state, listing, draw))
 }
 
+// Timed steps over buffers of the right lengths, with a clock in its range.
+fn timed_lent(
+    model: &[u8],
+    state: &mut [i64],
+    listing: &mut [u64],
+    waiting: &[u16],
+    draw: u64,
+    clock: Clock,
+) -> Result<(Told, Clock), Refusal>
+    requires { (length model.now ≡ model_length) × (length state.old ≡ state_length) × (length listing.old ≡ listing_length) × (InRange clock) }
+    ensures { Gives (answered (on' (timed' waiting.now draw)) (lent_timed model.now state.old clock) listing.old) (timed_by clock result).answer (lent_timed model.now state.new (timed_by clock result).clock) listing.new }
+{
+    let mut space = Space::EMPTY;
+    let settled = simulation::read(model, &mut space).ok_or(Refusal::NotHeld)?;
+    waiting::step_waiting(settled, state, listing, waiting, draw, clock)
+}
+
 // Steps, and then waits: both the state and the clock, which goes by value, move, or neither does.
 pub fn step_timed(
     model: &[u8],
@@ -371,10 +382,8 @@ pub fn step_timed(
     if !clock::in_range(clock) {
         return Timed::of(Answer::from(Refusal::NotHeld), clock);
     }
-    let mut before = [0i64; Engine::STATE];
-    before.copy_from_slice(&state[..]);
-    match step_lent(model, state, listing, draw) {
-        Ok(told) => waiting::wait_after(Answer::from(told), &before, state, waiting, clock),
+    match timed_lent(model, state, listing, waiting, draw, clock) {
+        Ok((told, next)) => Timed::of(Answer::from(told), next),
         Err(refusal) => Timed::of(Answer::from(refusal), clock),
     }
 }

@@ -19,11 +19,7 @@ pub fn list_state(settled: Settled, state: &[i64], listing: &mut [u64]) -> Resul
         return Err(Refusal::NotHeld);
     }
     let listed = listing::list_here(settled.tables, state, listing)?;
-    Ok(Told {
-        count: listed.count,
-        total: listed.total,
-        chosen: 0,
-    })
+    Ok(Told { listed, chosen: 0 })
 }
 
 // What list asks.

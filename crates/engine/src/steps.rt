@@ -22,28 +22,24 @@ fn take_drawn(
     tables: Tables,
     state: &mut [i64],
     listing: &[u64],
-    told: Told,
+    listed: Listed,
     draw: u64,
 ) -> Result<Told, Refusal>
-    requires { (m : Resolved.Model) × (s : State) × (es : List rules.Entry) × Counted tables.nodes.now tables.roots.now tables.scopes.now tables.root tables.variables state.old listing.now told.count told.total m s es }
-    ensures { (m : Resolved.Model) (s : State) (es : List rules.Entry) → Counted tables.entry.nodes.now tables.entry.roots.now tables.entry.scopes.now tables.entry.root tables.entry.variables state.old listing.now told.count told.total m s es → Left (drawn m s es draw) (answer_of result) state.new }
+    requires { (m : Resolved.Model) × (s : State) × (es : List rules.Entry) × Counted tables.nodes.now tables.roots.now tables.scopes.now tables.root tables.variables state.old listing.now listed.count listed.total m s es }
+    ensures { (m : Resolved.Model) (s : State) (es : List rules.Entry) → Counted tables.entry.nodes.now tables.entry.roots.now tables.entry.scopes.now tables.entry.root tables.entry.variables state.old listing.now listed.count listed.total m s es → Left (drawn m s es draw) (answer_of result) state.new }
 {
-    if told.total == 0 {
-        return Err(told.untaken(running::Refusal::NoWeight));
+    if listed.total == 0 {
+        return Err(Refusal::Step(running::Refusal::NoWeight, listed));
     }
-    let listed = Listed {
-        count: told.count,
-        total: told.total,
-    };
     let c = listed
         .choose(listing, draw)
-        .ok_or(told.untaken(running::Refusal::Draw))?;
+        .ok_or(Refusal::Step(running::Refusal::Draw, listed))?;
     let mut fresh = [0i64; step::Room::FRESH];
     let taken = step::take_row(tables, state, &mut fresh, listing, c);
-    // A match: map_err would take a closure that holds what is told.
+    // A match: map_err would take a closure that holds what is listed.
     match taken {
-        Ok(()) => Ok(Told { chosen: c, ..told }),
-        Err(refusal) => Err(told.untaken(running::Refusal::Step(refusal))),
+        Ok(()) => Ok(Told { listed, chosen: c }),
+        Err(refusal) => Err(Refusal::Step(running::Refusal::Step(refusal), listed)),
     }
 }
 
@@ -58,5 +54,5 @@ pub fn step_model(
     ensures { (m : Resolved.Model) (bs : List ℕ) → Shows settled.entry m → Gives (requested (step' draw) (lent_two bs state.old) listing.old (some m)) (answer_of result) (lent_two bs state.new) listing.new }
 {
     let told = listings::list_state(settled, state, listing)?;
-    take_drawn(settled.tables, state, listing, told, draw)
+    take_drawn(settled.tables, state, listing, told.listed, draw)
 }

@@ -19,7 +19,7 @@ fn put_report(listed: Result<Told, Refusal>, listing: &[u64], state: &[i64], rep
     ensures { (m : Resolved.Model) (bs l : List ℕ) → GoodModel m → Finds m state.now l listed listing.now → report.new ≡ (requested report' (lent_two bs state.now) report.old (some m)).output }
 {
     match listed {
-        Ok(told) => shares::share(listing, told.count, state, report),
+        Ok(told) => shares::share(listing, told.listed.count, state, report),
         // A match in the arm. Tried as nested patterns: in the arm of the other refusals the fact that none is a listing's wasn't found by name, and its proof stayed open.
         Err(refusal) => match refusal {
             Refusal::Listing(_) => report.fill(0),

@@ -1,31 +1,46 @@
-// The wait of a timed step: questions 23 to 25.
-ghost use Rattle.std.specs.Prelude.{◌≡◌, ◌<◌, length};
-ghost use Rattle.clock.specs.Clock.{InRange, brought_by};
+// A timed step over the tables of a model: question 11 and the listing, 15, then 16 to 19 and 23 to 25 by running's timed step.
+ghost use Rattle.std.specs.Prelude.{◌≡◌, List, ℕ, length};
+ghost use Rattle.std.proofs.Math.Option.{some};
+ghost use Rattle.model.specs.Resolved as Resolved;
+ghost use Rattle.clock.specs.Clock.{InRange};
 ghost use Rattle.machine.specs.State.{state_length};
-ghost use Rattle.engine.specs.Waited.{Waited};
+ghost use Rattle.machine.specs.Machine.{listing_length, timed'};
+ghost use Rattle.buffers.specs.Parts.{lent_timed};
+ghost use Rattle.buffers.specs.Effect.{requested};
+ghost use Rattle.engine.specs.Gives.{Gives};
+ghost use Rattle.store.specs.Tables.{Shows};
+ghost use Rattle.engine.specs.Waited.{timed_by};
 
-use crate::{Answer, Timed};
+use crate::{Refusal, Told, listings};
 use clock::Clock;
+use running::Stepping;
+use store::Settled;
 
-// After a step that was accepted: the clock goes on, or the state is put back as it was before.
-pub fn wait_after(
-    told: Answer,
-    before: &[i64],
+// Both the state and the clock move, or neither does.
+pub fn step_waiting(
+    settled: Settled,
     state: &mut [i64],
+    listing: &mut [u64],
     waiting: &[u16],
+    draw: u64,
     clock: Clock,
-) -> Timed
-    requires { (length before.now ≡ state_length) × (length state.old ≡ state_length) × (InRange clock) × (0 < told.total) }
-    ensures { Waited told clock (brought_by clock waiting.now told.total) before.now state.old result state.new }
+) -> Result<(Told, Clock), Refusal>
+    requires { ((m : Resolved.Model) × Shows settled m) × (length state.old ≡ state_length) × (length listing.old ≡ listing_length) × (InRange clock) }
+    ensures { (m : Resolved.Model) (bs : List ℕ) → Shows settled.entry m → Gives (requested (timed' waiting.now draw) (lent_timed bs state.old clock) listing.old (some m)) (timed_by clock result).answer (lent_timed bs state.new (timed_by clock result).clock) listing.new }
 {
-    match clock::bring(clock, waiting, told.total) {
-        Ok(next) => Timed::of(told, next),
-        Err(late) => {
-            state.copy_from_slice(before);
-            Timed::of(
-                Answer::filled(late.number(), told.count, told.total, 0),
-                clock,
-            )
-        }
+    let listed = listings::list_state(settled, state, listing)?.listed;
+    if listed.total == 0 {
+        return Err(Refusal::Step(running::Refusal::NoWeight, listed));
+    }
+    let mut fresh = [0i64; running::Room::FRESH];
+    let read = Stepping {
+        tables: settled.tables,
+        listing,
+        waiting,
+        clock,
+    };
+    match running::take_timed(read, state, &mut fresh, listed, draw) {
+        Ok((chosen, next)) => Ok((Told { listed, chosen }, next)),
+        Err(refusal) => Err(Refusal::Step(refusal, listed)),
     }
 }

@@ -1,7 +1,7 @@
 -- The parts of a pair that an Ok has.
 use mathlib.Core.Path.{◌≡◌, ap}
 use Prim.Native.Nat.{ℕ}
-use Rattle.std.specs.Prelude.{Result, Err, Ok}
+use Rattle.std.specs.Prelude.{Result, Ok}
 
 module _ {E : Type 0} {a b x y : ℕ} (e : ◌≡◌ {A = Result (ℕ × ℕ) E} (Ok (a, b)) (Ok (x, y))) where
   both : ◌≡◌ {A = ℕ × ℕ} (a, b) (x, y)

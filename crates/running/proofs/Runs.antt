@@ -183,6 +183,8 @@ took {m} {s} {s'} {es} {d} i a = by refl refl a
 
 -- what its answer carries, and how far its clock goes on
 pub record Carries (s : State) (k : Clock) (ds : List ℕ) (es : List Entry) (t : Turn Timed) : Type 0 where
+  pub place : t.answer.place ≡ 0
+  pub branch : t.answer.branch ≡ 0
   pub count : t.answer.count ≡ length es
   pub total : t.answer.total ≡ total (weights es)
   pub listing : t.answer.listing ≡ filled es
@@ -197,11 +199,11 @@ module _ (m : Resolved.Model) (s : State) (k : Clock) (es : List Entry) (e : lis
   carries = by ((timing.asked m s k es ((listings.accepted m s es).0 e).1 ds d (steps_in k ds s (drawn m s es d))).0 refl)
     where
       by : {t : Turn Timed} → Times m s k es ds d t → Carries s k ds es t
-      by (no15-19 n l a) = record { count = refl; total = refl; listing = refl; took = λ z. absurd (omega arith); stays = λ z. refl; later = λ z. absurd (omega arith); used = λ z. absurd (omega arith) }
-      by (no23 i a w) = record { count = refl; total = refl; listing = refl; took = λ z. absurd (omega arith); stays = λ z. refl; later = λ z. absurd (omega arith); used = λ z. absurd (omega arith) }
-      by (no24 i a w) = record { count = refl; total = refl; listing = refl; took = λ z. absurd (omega arith); stays = λ z. refl; later = λ z. absurd (omega arith); used = λ z. absurd (omega arith) }
-      by (no25 i a w p) = record { count = refl; total = refl; listing = refl; took = λ z. absurd (omega arith); stays = λ z. refl; later = λ z. absurd (omega arith); used = λ z. absurd (omega arith) }
-      by (yes25 i a w p q) = record { count = refl; total = refl; listing = refl; took = λ z. took i a; stays = λ z. absurd (z refl); later = λ z. omega arith; used = λ z. omega (arith, used-within w) }
+      by (no15-19 n l a) = record { place = refl; branch = refl; count = refl; total = refl; listing = refl; took = λ z. absurd (omega arith); stays = λ z. refl; later = λ z. absurd (omega arith); used = λ z. absurd (omega arith) }
+      by (no23 i a w) = record { place = refl; branch = refl; count = refl; total = refl; listing = refl; took = λ z. absurd (omega arith); stays = λ z. refl; later = λ z. absurd (omega arith); used = λ z. absurd (omega arith) }
+      by (no24 i a w) = record { place = refl; branch = refl; count = refl; total = refl; listing = refl; took = λ z. absurd (omega arith); stays = λ z. refl; later = λ z. absurd (omega arith); used = λ z. absurd (omega arith) }
+      by (no25 i a w p) = record { place = refl; branch = refl; count = refl; total = refl; listing = refl; took = λ z. absurd (omega arith); stays = λ z. refl; later = λ z. absurd (omega arith); used = λ z. absurd (omega arith) }
+      by (yes25 i a w p q) = record { place = refl; branch = refl; count = refl; total = refl; listing = refl; took = λ z. took i a; stays = λ z. absurd (z refl); later = λ z. omega arith; used = λ z. omega (arith, used-within w) }
 
 -- a state over the model and a clock in its range stay such
 pub timed-good : (m : Resolved.Model) (s : State) (k : Clock) → GoodModel m → GoodState m s → InRange k → (ds : List ℕ) (d : ℕ) → GoodTimed m (times_with ds d m s k).machine

@@ -1,6 +1,6 @@
 -- What a timed step leaves. By cases of questions 15 to 19 and 23 to 25.
-use mathlib.Core.Path.{◌≡◌, refl, sym, ap, ap₂, ◌∙◌}
-use mathlib.Core.List.{List, ◌++◌, append-nil}
+use mathlib.Core.Path.{◌≡◌, refl, sym, ap, ◌∙◌}
+use mathlib.Core.List.{List}
 use mathlib.Core.Bool.{Bool, true, false, cond}
 use mathlib.Core.Option.{none, some, Option-elim}
 use Prim.Native.Nat.{ℕ, ◌-◌, ◌<◌}
@@ -8,7 +8,7 @@ use native.Mathlib.Omega.{arith}
 use borrow.Author.Tests.{ne_eqb}
 use lib.Dec.{leb}
 use lib.IntN.{ℤ}
-use lib.ListN.{length, get_elem?, take, drop, length-drop, drop_of_length-le}
+use lib.ListN.{length, get_elem?, take, drop, length-drop}
 use lib.Seq.{take_all}
 use Rattle.std.specs.Prelude.{None, Some, Err, Ok, is_ok}
 use Rattle.clock.specs.declared.Clock.{Clock}
@@ -18,7 +18,7 @@ use Rattle.model.specs.Resolved
 use Rattle.rules.specs.Rules.{Key}
 use Rattle.rules.specs.Listing.{Entry, key_of}
 use Rattle.rules.specs.Draw.{weights, total, chosen}
-use Rattle.machine.specs.State.{State, state_length, state_numbers}
+use Rattle.machine.specs.State.{State, state_numbers}
 use Rattle.machine.specs.Machine.{listed_as, refusing, accepting, entry_arguments, entry_state, taken, drawn, refused_as, with_wait, steps_in}
 use Rattle.listing.specs.Buffer.{weights_in, chosen_answer, Chosen}
 use Rattle.step.specs.declared.Refusal.TheVariants.{Arguments, Processes, Pairs}

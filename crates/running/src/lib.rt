@@ -156,6 +156,15 @@ pub struct Given<'a> {
     pub waiting: &'a [u16],
 }
 
+// What a timed step is lent to read: the tables of its model, its state's listing, its waiting draws, and its clock.
+#[derive(Clone, Copy)]
+pub struct Stepping<'a> {
+    pub tables: Tables<'a>,
+    pub listing: &'a [u64],
+    pub waiting: &'a [u16],
+    pub clock: Clock,
+}
+
 // What the steps of a run are made in: the table of offers, the processes that an entry leads to, and the listing.
 #[derive(Drop)]
 struct Scratch {
@@ -167,65 +176,57 @@ struct Scratch {
 // What taking entry c of the listing would come to; the state stays as it was. Here and in take_waiting and take_timed the state and `fresh`, which are written,
 // are lent apart from what is read: a struct of `&mut` slices would lose what is written.
 fn take_kept(
-    tables: Tables,
+    read: Stepping,
     state: &mut [i64],
     fresh: &mut [i64; Room::FRESH],
-    listing: &[u64],
     c: usize,
 ) -> Result<(), step::Refusal>
-    requires { (m : Resolved.Model) × (s : State) × (es : List rules.Entry) × (e : rules.Entry) × Row tables.nodes.now tables.roots.now tables.scopes.now tables.root tables.variables state.old listing.now c m s es e }
-    ensures { ((m : Resolved.Model) (s : State) (es : List rules.Entry) (e : rules.Entry) → Row tables.entry.nodes.now tables.entry.roots.now tables.entry.scopes.now tables.entry.root tables.entry.variables state.old listing.now c m s es e → result ≡ verdict (entry_arguments m s (rules.key_of e)) (entry_state m s (rules.key_of e))) × (state.new ≡ state.old) }
+    requires { (m : Resolved.Model) × (s : State) × (es : List rules.Entry) × (e : rules.Entry) × Row read.tables.nodes.now read.tables.roots.now read.tables.scopes.now read.tables.root read.tables.variables state.old read.listing.now c m s es e }
+    ensures { ((m : Resolved.Model) (s : State) (es : List rules.Entry) (e : rules.Entry) → Row read.entry.tables.nodes.now read.entry.tables.roots.now read.entry.tables.scopes.now read.entry.tables.root read.entry.tables.variables state.old read.entry.listing.now c m s es e → result ≡ verdict (entry_arguments m s (rules.key_of e)) (entry_state m s (rules.key_of e))) × (state.new ≡ state.old) }
 {
     let mut before = [0i64; Room::STATE];
     before.copy_from_slice(&state[..]);
-    let taken = step::take_row(tables, state, fresh, listing, c);
+    let taken = step::take_row(read.tables, state, fresh, read.listing, c);
     state.copy_from_slice(&before);
     taken
 }
 
 // Takes entry c and waits: both the state and the clock move, or neither does. The state is kept only where the wait is refused.
 fn take_waiting(
-    tables: Tables,
+    read: Stepping,
     state: &mut [i64],
     fresh: &mut [i64; Room::FRESH],
-    listing: &[u64],
     c: usize,
     total: u64,
-    waiting: &[u16],
-    clock: Clock,
 ) -> Result<(usize, Clock), Refusal>
-    requires { ((m : Resolved.Model) × (s : State) × (es : List rules.Entry) × (e : rules.Entry) × Row tables.nodes.now tables.roots.now tables.scopes.now tables.root tables.variables state.old listing.now c m s es e) × (InRange clock) × (0 < total) }
-    ensures { (m : Resolved.Model) (s : State) (es : List rules.Entry) (e : rules.Entry) → Row tables.entry.nodes.now tables.entry.roots.now tables.entry.scopes.now tables.entry.root tables.entry.variables state.old listing.now c m s es e → total ≡ total_of (weights es) → StepsTo (steps_in clock waiting.now s (taken m s es c (rules.key_of e))) clock result state.new }
+    requires { ((m : Resolved.Model) × (s : State) × (es : List rules.Entry) × (e : rules.Entry) × Row read.tables.nodes.now read.tables.roots.now read.tables.scopes.now read.tables.root read.tables.variables state.old read.listing.now c m s es e) × (InRange read.clock) × (0 < total) }
+    ensures { (m : Resolved.Model) (s : State) (es : List rules.Entry) (e : rules.Entry) → Row read.entry.tables.nodes.now read.entry.tables.roots.now read.entry.tables.scopes.now read.entry.tables.root read.entry.tables.variables state.old read.entry.listing.now c m s es e → total ≡ total_of (weights es) → StepsTo (steps_in read.entry.clock read.entry.waiting.now s (taken m s es c (rules.key_of e))) read.entry.clock result state.new }
 {
-    match clock::bring(clock, waiting, total) {
+    match clock::bring(read.clock, read.waiting, total) {
         Ok(next) => {
-            step::take_row(tables, state, fresh, listing, c)?;
+            step::take_row(read.tables, state, fresh, read.listing, c)?;
             Ok((c, next))
         }
         Err(late) => {
-            take_kept(tables, state, fresh, listing, c)?;
+            take_kept(read, state, fresh, c)?;
             Err(Refusal::Wait(late))
         }
     }
 }
 
-// A timed step with a choosing draw, once the state is listed and its total above zero: 16 to 19, then 23 to 25.
+// A timed step with a choosing draw, once the state is listed and its total above zero: 16 to 19, then 23 to 25. A run's steps and engine's timed step go through it.
 pub fn take_timed(
-    tables: Tables,
+    read: Stepping,
     state: &mut [i64],
     fresh: &mut [i64; Room::FRESH],
-    listing: &[u64],
     listed: Listed,
     draw: u64,
-    waiting: &[u16],
-    clock: Clock,
 ) -> Result<(usize, Clock), Refusal>
-    requires { ((m : Resolved.Model) × (s : State) × (es : List rules.Entry) × Counted tables.nodes.now tables.roots.now tables.scopes.now tables.root tables.variables state.old listing.now listed.count listed.total m s es) × (InRange clock) × (0 < listed.total) }
-    ensures { (m : Resolved.Model) (s : State) (es : List rules.Entry) → Counted tables.entry.nodes.now tables.entry.roots.now tables.entry.scopes.now tables.entry.root tables.entry.variables state.old listing.now listed.count listed.total m s es → StepsTo (steps_in clock waiting.now s (drawn m s es draw)) clock result state.new }
+    requires { ((m : Resolved.Model) × (s : State) × (es : List rules.Entry) × Counted read.tables.nodes.now read.tables.roots.now read.tables.scopes.now read.tables.root read.tables.variables state.old read.listing.now listed.count listed.total m s es) × (InRange read.clock) × (0 < listed.total) }
+    ensures { (m : Resolved.Model) (s : State) (es : List rules.Entry) → Counted read.entry.tables.nodes.now read.entry.tables.roots.now read.entry.tables.scopes.now read.entry.tables.root read.entry.tables.variables state.old read.entry.listing.now listed.count listed.total m s es → StepsTo (steps_in read.entry.clock read.entry.waiting.now s (drawn m s es draw)) read.entry.clock result state.new }
 {
-    let c = listed.choose(listing, draw).ok_or(Refusal::Draw)?;
-    let total = listed.total;
-    take_waiting(tables, state, fresh, listing, c, total, waiting, clock)
+    let c = listed.choose(read.listing, draw).ok_or(Refusal::Draw)?;
+    take_waiting(read, state, fresh, c, listed.total)
 }
 
 // Writes an event: the ticks, and entry c of the listing. A slice and a step: what is written through an array made of a part of a slice isn't known of the slice.
@@ -255,17 +256,13 @@ fn step_drawn(
 {
     let waiting = given.waiting;
     let gone = p.waiting;
-    let stepped = take_timed(
-        given.tables,
-        state,
-        &mut scratch.fresh,
-        &scratch.listing,
-        listed,
-        draw,
-        &waiting[gone..],
-        p.clock,
-    );
-    match stepped {
+    let read = Stepping {
+        tables: given.tables,
+        listing: &scratch.listing,
+        waiting: &waiting[gone..],
+        clock: p.clock,
+    };
+    match take_timed(read, state, &mut scratch.fresh, listed, draw) {
         Err(refusal) => p.ended(End::Refused(refusal), listed.count, listed.total),
         Ok((chosen, next)) => {
             put_event(events, p.steps, next.ticks, &scratch.listing, chosen);

@@ -36,12 +36,10 @@ pub none-ran : (r : Request) (x : Engine) (l : List ℕ) (k : Clock) → Comes (
 unfolding requested machine_over
 none-ran r x l k = eleven-ran r x l k
 
-module _ (bs : List ℕ) (zs : List ℤ) (m : Resolved.Model) (c : Clock) (ws vs : List ℕ) (n : ℕ) (l : List ℕ) where
+-- ---- 11 of a model's tables, of a call that is lent the state and the clock
+module _ (bs : List ℕ) (zs : List ℤ) (m : Resolved.Model) (c : Clock) where
   abbrev X : Engine
   X = lent_timed bs zs c
-
-  abbrev R : Request
-  R = run' ws vs n (length l)
 
   two-same : machine_over two_parts X (some m) ≡ machine_over two_parts (lent_two bs zs) (some m)
   unfolding machine_over lent_timed lent_two all_parts is_part read_held is_lent
@@ -51,25 +49,30 @@ module _ (bs : List ℕ) (zs : List ℤ) (m : Resolved.Model) (c : Clock) (ws vs
   unfolding lent_timed
   over-is = timed-over X (some m) ∙ ap (λ (y : Machine). clocked y (clock_numbers c)) two-same
 
-  pub closed-ran : machine_over two_parts (lent_two bs zs) (some m) ≡ closed → Comes (requested R X l (some m)) c (Err NotHeld) X l
-  unfolding requested
-  closed-ran e = rw y-is (eleven-ran R X l c)
-    where
-      shut : clocked closed (clock_numbers c) ≡ closed
-      shut = unfold clocked in refl
+  pub closed-is : machine_over two_parts (lent_two bs zs) (some m) ≡ closed → machine_over timed_parts X (some m) ≡ closed
+  unfolding clocked
+  closed-is e = over-is ∙ ap (λ (y : Machine). clocked y (clock_numbers c)) e
 
-      y-is : machine_over timed_parts X (some m) ≡ closed
-      y-is = over-is ∙ ap (λ (y : Machine). clocked y (clock_numbers c)) e ∙ shut
+  pub held-is : (s : State) → machine_over two_parts (lent_two bs zs) (some m) ≡ holding (held m s) → InRange c → machine_over timed_parts X (some m) ≡ holding (held_at m s c)
+  unfolding clocked
+  held-is s holds range = over-is ∙ ap (λ (y : Machine). clocked y (clock_numbers c)) holds ∙ rw (sym (both-in c range.ticks range.draws)) refl
+
+module _ (bs : List ℕ) (zs : List ℤ) (m : Resolved.Model) (c : Clock) (ws vs : List ℕ) (n : ℕ) (l : List ℕ) where
+  abbrev R : Request
+  R = run' ws vs n (length l)
+
+  abbrev Y : Engine
+  Y = lent_timed bs zs c
+
+  pub closed-ran : machine_over two_parts (lent_two bs zs) (some m) ≡ closed → Comes (requested R Y l (some m)) c (Err NotHeld) Y l
+  unfolding requested
+  closed-ran e = rw (closed-is bs zs m c e) (eleven-ran R Y l c)
 
   module _ (s : State) (holds : machine_over two_parts (lent_two bs zs) (some m) ≡ holding (held m s)) (range : InRange c) where
-    held-is : machine_over timed_parts X (some m) ≡ holding (held_at m s c)
-    unfolding clocked
-    held-is = over-is ∙ ap (λ (y : Machine). clocked y (clock_numbers c)) holds ∙ rw (sym (both-in c range.ticks range.draws)) refl
-
     abbrev r : Run
     r = runs_with n (length l / event_width) ws vs m s c
 
-    left-timed : (ys : List ℤ) (k : Clock) → ys ≡ state_numbers r.timed.state → k ≡ r.timed.clock → (p : Part) → lent_timed bs ys k p ≡ left_in timed_parts X (holding (moved_in (held_at m s c) r.timed)) p
+    left-timed : (ys : List ℤ) (k : Clock) → ys ≡ state_numbers r.timed.state → k ≡ r.timed.clock → (p : Part) → lent_timed bs ys k p ≡ left_in timed_parts Y (holding (moved_in (held_at m s c) r.timed)) p
     unfolding lent_timed left_in is_lent numbers_of
     left-timed ys k e f model = refl
     left-timed ys k e f state = e
@@ -77,9 +80,9 @@ module _ (bs : List ℕ) (zs : List ℤ) (m : Resolved.Model) (c : Clock) (ws vs
     left-timed ys k e f clock = ap clock_numbers f
 
     pub ran-so : {given : Given} (ys : List ℤ) (es : List ℕ) (q : Progress) → Stands given l ys es q m r
-        → Comes (requested R X l (some m)) c (Ok q) (lent_timed bs ys q.clock) es
+        → Comes (requested R Y l (some m)) c (Ok q) (lent_timed bs ys q.clock) es
     unfolding requested leaves on_machine acts on_clock runs_over ran_as shown
-    ran-so ys es q h = rw held-is (record {
+    ran-so ys es q h = rw (held-is bs zs m c s holds range) (record {
       number = h.number;
       steps = h.steps;
       words = h.words;

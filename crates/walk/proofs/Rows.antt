@@ -1,66 +1,36 @@
--- Rows of a table: the first copied over the second, a part put back, and how long a listing is. From the laws of lists.
-use mathlib.Core.Path.{◌≡◌, ap, ◌∙◌}
-use mathlib.Core.List.{List, ◌++◌}
-use Prim.Native.Nat.{ℕ, ◌+◌, ◌-◌, ◌*◌, ◌≤◌}
-use native.Mathlib.Nat.{le_refl}
+-- Rows of a table: the first two where either was written, and the first where those behind it were. From the laws of lists.
+use mathlib.Core.Path.{◌≡◌, refl}
+use mathlib.Core.List.{List, [], ◌∷◌}
+use Prim.Native.Nat.{◌-◌, ◌≤◌}
 use native.Mathlib.Omega.{arith}
-use lib.ListN.{length, take, drop, replicate, length-append, length-replicate}
-use lib.Seq.{length-take-le, take_at, drop_at, take-append-le, drop-append-le, take-take}
-use borrow.Rule.Slice.PartMut.{put_mid, mid_of}
-use Rattle.rules.specs.Listing.{Entry}
-use Rattle.machine.specs.Machine.{listing_length}
-use Rattle.listing.specs.Buffer.{filled_numbers}
-use Rattle.listing.proofs.Finished.{rows-length}
+use lib.ListN.{length, get_or, set, drop}
+use borrow.Rule.Slice.PartMut.{put_mid}
 
--- ---- the first row copied over the second
+module _ {A : Type 0} where
+  pub first_stays : (rows : List (List A)) (a b : List A) → get_or (set (set rows 1 a) 1 b) 0 [] ≡ get_or rows 0 []
+  first_stays [] a b = refl
+  first_stays (x ∷ []) a b = refl
+  first_stays (x ∷ y ∷ rows) a b = refl
 
--- d with its first n members over those after them
-abbrev pub twice : {A : Type 0} → List A → ℕ → List A
-twice d n = take n d ++ take n d ++ drop (n + n) d
+  pub second_is : (rows : List (List A)) (a : List A) → 2 ≤ length rows → get_or (set rows 1 a) 1 [] ≡ a
+  second_is [] a l = absurd (omega arith)
+  second_is (x ∷ []) a l = absurd (omega arith)
+  second_is (x ∷ y ∷ rows) a l = refl
 
-module _ {A : Type 0} (d : List A) (n : ℕ) (long : n + n ≤ length d) where
-  first-length : length (take n d) ≡ n
-  first-length = length-take-le n d (omega arith)
+  pub last_is : (rows : List (List A)) (a b : List A) → 2 ≤ length rows → get_or (set (set rows 1 a) 1 b) 1 [] ≡ b
+  last_is [] a b l = absurd (omega arith)
+  last_is (x ∷ []) a b l = absurd (omega arith)
+  last_is (x ∷ y ∷ rows) a b l = refl
 
-  twice-length : length (take n d ++ take n d) ≡ n + n
-  twice-length = simp length-append (omega (arith, first-length))
+  pub first_is : (rows : List (List A)) (a : List A) → 1 ≤ length rows → get_or (set rows 0 a) 0 [] ≡ a
+  first_is [] a l = absurd (omega arith)
+  first_is (x ∷ rows) a l = refl
 
-  first-twice : take n (twice d n) ≡ take n d
-  first-twice = take-append-le n (take n d ++ take n d) (drop (n + n) d) (omega (arith, twice-length)) ∙ take_at (take n d) (take n d) n first-length
+  -- the rows behind the first, and the first where those were written
+  pub next_row : (rows : List (List A)) → get_or (drop 1 rows) 0 [] ≡ get_or rows 1 []
+  next_row [] = refl
+  next_row (x ∷ rows) = refl
 
-  second-twice : drop n (twice d n) ≡ take n d ++ drop (n + n) d
-  second-twice = drop-append-le n (take n d ++ take n d) (drop (n + n) d) (omega (arith, twice-length)) ∙ ap (λ (l : List A). l ++ drop (n + n) d) (drop_at (take n d) (take n d) n first-length)
-
-  -- the second row is lent as the first
-  pub mid-twice : mid_of n n (twice d n) ≡ take n d
-  mid-twice = ap (take n) second-twice ∙ take_at (take n d) (drop (n + n) d) n first-length
-
-  twice-long : n ≤ length (twice d n)
-  twice-long = simp length-append (omega (arith, first-length))
-
-  -- and comes back
-  pub back-first : (ys : List A) → take n (put_mid n n (twice d n) ys) ≡ take n d
-  back-first ys = take_at (take n (twice d n)) (ys ++ drop n (drop n (twice d n))) n (length-take-le n (twice d n) twice-long) ∙ first-twice
-
-  pub back-second : (ys : List A) → length ys ≡ n → take n (drop n (put_mid n n (twice d n) ys)) ≡ ys
-  back-second ys e =
-      ap (take n) (drop_at (take n (twice d n)) (ys ++ drop n (drop n (twice d n))) n (length-take-le n (twice d n) twice-long)) ∙ take_at ys (drop n (drop n (twice d n))) n e
-
--- ---- a part put back
-
--- what stands before it stays
-pub before-part : {A : Type 0} (a k : ℕ) (s ys : List A) → a ≤ length s → take a (put_mid a k s ys) ≡ take a s
-before-part a k s ys l = take_at (take a s) (ys ++ drop k (drop a s)) a (length-take-le a s l)
-
--- a first part, with those after it
-pub first_part : {A : Type 0} (a : ℕ) (s ys : List A) → length ys ≡ a → take a (ys ++ drop a s) ≡ ys
-first_part a s ys e = take_at ys (drop a s) a e
-
-pub same_first : {A : Type 0} (a : ℕ) (s : List A) → take a (take a s) ≡ take a s
-same_first a s = take-take a a s (le_refl a)
-
--- ---- the numbers of a listing
-
-pub filled-length : (es : List Entry) → length es ≤ 1024 → length (filled_numbers es) ≡ listing_length
-unfolding filled_numbers
-filled-length es l = omega (arith, rows-length es (replicate (listing_length - length es * 7) 0), length-replicate {A = ℕ} (listing_length - length es * 7) 0)
+  pub before_tail : (rows ys : List (List A)) → 1 ≤ length rows → get_or (put_mid 1 (length rows - 1) rows ys) 0 [] ≡ get_or rows 0 []
+  before_tail [] ys l = absurd (omega arith)
+  before_tail (x ∷ rows) ys l = refl

@@ -1,25 +1,22 @@
 -- What taking an entry comes to is what the machine's search goes over. From the contract of the step, by cases of its answer.
 use mathlib.Core.Path.{◌≡◌, refl, sym, ap, ◌∙◌}
-use mathlib.Core.List.{List, map}
+use mathlib.Core.List.{List, [], map}
 use mathlib.Core.Bool.{Bool}
 use mathlib.Core.Option.{some}
 use Prim.Native.Nat.{ℕ, ◌+◌, ◌-◌, ◌*◌, ◌≤◌, ◌<◌}
 use native.Mathlib.Omega.{arith}
 use borrow.Author.Tests.{ne_eqb}
 use lib.IntN.{ℤ}
-use lib.ListN.{length, get_or, get_elem?, take, drop, replicate}
-use lib.Seq.{take_all}
-use borrow.Rule.Slice.PartMut.{put_mid}
+use lib.ListN.{length, get_or, get_elem?, set, replicate}
 use Rattle.std.specs.Prelude.{None, Some, Err, Ok}
 use Rattle.model.specs.Resolved
 use Rattle.model.specs.Good.{GoodModel}
 use Rattle.rules.specs.Rules.{Key, key, Nth, first, later}
 use Rattle.rules.specs.Listing.{Entry, entry, key_of}
 use Rattle.runs.specs.Tree.{idle, refused, leads, way_in}
-use Rattle.machine.specs.State.{State, GoodState, state_length, state_numbers}
+use Rattle.machine.specs.State.{State, GoodState, state_numbers}
 use Rattle.machine.specs.Machine.{listing, listing_length, entries_are, entry_arguments, entry_state, taken, is_sought, way_taken, way_of, moves_of, moves_to}
 use Rattle.machine.proofs.Branches.{get_nth, nth-get, nth-below}
-use Rattle.machine.proofs.Numbers.{state-length}
 use Rattle.machine.proofs.Searching.{takes-so}
 use Rattle.machine.proofs.Stays.{moves-good}
 use Rattle.listing.specs.declared.Entry as listed
@@ -31,7 +28,7 @@ use Rattle.step.proofs.Answered.{taken-number, taken-state}
 use Rattle.step.specs.Entries.{Listing, Row}
 use Rattle.step.proofs.Rows.{row_is, row_in, row_fits}
 use Rattle.walk.specs.Held.{Held, Seen, Stands, Lists, way_found, Takes}
-use Rattle.walk.proofs.Rows.{back-first, back-second, twice}
+use Rattle.walk.proofs.Rows.{first_stays, last_is}
 
 nth-way : {A B : Type 0} {xs : List A} {n : ℕ} {x : A} (f : A → B) (d : B) → Nth xs n x → get_or (map f xs) n d ≡ f x
 nth-way f d first = refl
@@ -82,58 +79,55 @@ module _ {t roots scopes : List ℕ} {root variables : ℕ} {text places sizes :
     stands = record { good = held.good; state = g; numbers = e };
   }
 
-  module _ {z : List ℤ} {l : List ℕ} {es : List Entry} (stands : Stands z m s) (lists : Lists l m s es) (long : length l ≡ listing_length) (e : ℕ) (inside : e < length es) where
-    numbers-are : l ≡ filled_numbers es
-    numbers-are = sym (take_all listing_length l (omega arith)) ∙ lists.numbers
-
-    listing-of : {zs : List ℤ} → zs ≡ take state_length z → Listing t roots scopes root variables zs l m s es
+  module _ {z : List ℤ} {l : List ℕ} {es : List Entry} (stands : Stands z m s) (lists : Lists l m s es) (e : ℕ) (inside : e < length es) where
+    listing-of : {zs : List ℤ} → zs ≡ z → Listing t roots scopes root variables zs l m s es
     unfolding filled_numbers
-    listing-of q = record { lent = lent_of stands.good (q ∙ stands.numbers); listed = lists.listed; rest = replicate (listing_length - length es * 7) 0; numbers = numbers-are }
+    listing-of q = record { lent = lent_of stands.good (q ∙ stands.numbers); listed = lists.listed; rest = replicate (listing_length - length es * 7) 0; numbers = lists.numbers }
 
-    some-row : {zs : List ℤ} → zs ≡ take state_length z → (y : Entry) × Row t roots scopes root variables zs l e m s es y
+    some-row : {zs : List ℤ} → zs ≡ z → (y : Entry) × Row t roots scopes root variables zs l e m s es y
     some-row q = let y = nth-below es e inside in (y.0, record { listing = listing-of q; at = nth-get y.1 })
 
     pub entry-fits : e * 7 + 7 ≤ length l
-    entry-fits = row_fits (some-row {zs = take state_length z} refl).1
+    entry-fits = row_fits (some-row {zs = z} refl).1
 
     module _ (y : listed.Entry) (is : entry_of y ≡ entry_in l e) where
       pub read : get_elem? es e ≡ some (entry_of y)
-      read = let r = some-row {zs = take state_length z} refl in r.1.at ∙ ap some (sym (is ∙ row_is r.1))
+      read = let r = some-row {zs = z} refl in r.1.at ∙ ap some (sym (is ∙ row_is r.1))
 
-      pub row_of : {zs : List ℤ} → zs ≡ take state_length z → Row t roots scopes root variables zs l e m s es (entry_of y)
+      pub row_of : {zs : List ℤ} → zs ≡ z → Row t roots scopes root variables zs l e m s es (entry_of y)
       row_of q = record { listing = listing-of q; at = read }
 
-      pub seen : Seen t roots scopes text places sizes (take state_length z) y.kind y.place y.branch m s y.partner y.pbranch y.pair y.weight
+      pub seen : Seen t roots scopes text places sizes z y.kind y.place y.branch m s y.partner y.pbranch y.pair y.weight
       unfolding entry_of
-      seen = record { root = root; variables = variables; lent = lent_of stands.good stands.numbers; spells = held.spells; listed = row_in (row_of {zs = take state_length z} refl) }
+      seen = record { root = root; variables = variables; lent = lent_of stands.good stands.numbers; spells = held.spells; listed = row_in (row_of {zs = z} refl) }
 
       -- ---- the three answers
-      module _ (x : List ℕ) where
-        pub takes-idle : y.weight ≡ 0 → Takes m x s e z z (Ok None)
+      module _ (x : List ℕ) (rows : List (List ℤ)) where
+        pub takes-idle : y.weight ≡ 0 → Takes m x s e rows rows (Ok None)
         unfolding entry_of way_found
         takes-idle w = record {
           after = s;
           way = way-idle m x s es lists.listed e y.weight (key y.kind y.place y.branch y.partner y.pbranch y.pair) read w;
-          first = refl;
-          second = λ h q. absurd (let c : ◌≡◌ {A = ℕ} 0 1 = cc in omega arith);
+          stays = refl;
+          goes = λ h q. absurd (let c : ◌≡◌ {A = ℕ} 0 1 = cc in omega arith);
         }
 
-        module _ (n : y.weight ≡ 0 → ⊥) (z₁ ys : List ℤ) (r : Taken) (deep : state_length + state_length ≤ length z) (copied : z₁ ≡ twice z state_length)
+        module _ (n : y.weight ≡ 0 → ⊥) (ys : List ℤ) (r : Taken) (deep : 2 ≤ length rows)
             (a : Answers (entry_arguments m s (key_of (entry_of y))) s (entry_state m s (key_of (entry_of y))) r ys) where
-          kept : take state_length (put_mid state_length state_length z₁ ys) ≡ take state_length z
-          kept = rw copied (back-first z state_length deep ys)
+          abbrev after_rows : List (List ℤ)
+          after_rows = set (set rows 1 (get_or rows 0 [])) 1 ys
 
-          pub takes-refused : (c : Refusal) → r ≡ Err c → Takes m x s e z (put_mid state_length state_length z₁ ys) (Err c)
+          pub takes-refused : (c : Refusal) → r ≡ Err c → Takes m x s e rows after_rows (Err c)
           unfolding entry_of key_of way_found
           takes-refused c q = record {
             after = s;
             way = way-refused m x s es lists.listed e y.weight (key y.kind y.place y.branch y.partner y.pbranch y.pair) read n r ys a c q;
-            first = kept;
-            second = λ h p. absurd (let c : ◌≡◌ {A = ℕ} 0 1 = cc in omega arith);
+            stays = first_stays rows _ ys;
+            goes = λ h p. absurd (let c : ◌≡◌ {A = ℕ} 0 1 = cc in omega arith);
           }
 
           pub takes-accepted : (h : Bool) → h ≡ is_sought m x s (key y.kind y.place y.branch y.partner y.pbranch y.pair) → r ≡ Ok tt
-              → Takes m x s e z (put_mid state_length state_length z₁ ys) (Ok (Some h))
+              → Takes m x s e rows after_rows (Ok (Some h))
           unfolding entry_of key_of way_found
           takes-accepted h o q =
               let k = key y.kind y.place y.branch y.partner y.pbranch y.pair in
@@ -141,6 +135,4 @@ module _ {t roots scopes : List ℕ} {root variables : ℕ} {text places sizes :
               let v : leads h u ≡ way_in (moves_to m x s) e = rw o (way-accepted m x s es lists.listed e y.weight k read n r ys a q) in
               let g : GoodState m u = after-good m x s e h u held.good stands.good v in
               let f : ys ≡ state_numbers u = taken-state m s es 0 k r ys a in
-              let w : length ys ≡ state_length = ap length f ∙ state-length m held.good u g in
-              let b : take state_length (drop state_length (put_mid state_length state_length z₁ ys)) ≡ state_numbers u = rw copied (back-second z state_length deep ys w) ∙ f in
-              record { after = u; way = v; first = kept; second = λ h' p. (g, b) }
+              record { after = u; way = v; stays = first_stays rows _ ys; goes = λ h' p. record { good = g; numbers = last_is rows _ ys deep ∙ f } }

@@ -5,8 +5,7 @@ use mathlib.Core.Bool.{Bool, true, false}
 use Prim.Native.Nat.{ℕ, suc, ◌+◌, ◌-◌, ◌≤◌, ◌<◌}
 use native.Mathlib.Omega.{arith}
 use lib.IntN.{ℤ}
-use lib.ListN.{length, set, take, drop, length-map, length-drop, length-append}
-use lib.Seq.{take_at}
+use lib.ListN.{length, set, take, length-map, length-drop}
 use borrow.Rule.Slice.PartMut.{put_mid, mid_of}
 use Rattle.std.specs.Prelude.{Option, None, Some, Err, Ok, ok_or}
 use Rattle.model.specs.Resolved
@@ -23,7 +22,7 @@ use Rattle.search.proofs.Missing.{met-joined}
 use Rattle.step.specs.declared.Refusal.{Refusal}
 use Rattle.machine.specs.State.{State, state_length}
 use Rattle.machine.specs.Machine as machine
-use Rattle.machine.specs.Machine.{listing, listing_length, entry_limit, entries_are, refused_with, way_of, moves_of, moves_to}
+use Rattle.machine.specs.Machine.{listing, entry_limit, entries_are, refused_with, way_of, moves_of, moves_to}
 use Rattle.machine.proofs.Everys.{every_in, in-every}
 use Rattle.machine.proofs.Listing.{accepted}
 use Rattle.machine.proofs.Numbers.{state-length}
@@ -34,8 +33,8 @@ use Rattle.listing.specs.declared.Refusal as listing_refusal
 use Rattle.listing.specs.Buffer.{filled_numbers, listing_numbers, Outcome}
 use Rattle.step.specs.Enter as enter
 use Rattle.walk.specs.Hunted.{Hit, Hunted, gone, hits, or_else, behind_hunted, hunt_answer, hunt_at, hunt_from, hunt_longer, Hunts, none, one}
-use Rattle.walk.specs.Held.{Held, Stands, Lists, Room, Move, way_found, Takes}
-use Rattle.walk.proofs.Rows.{first_part, same_first, filled-length}
+use Rattle.walk.specs.Held.{Held, first, Stands, Lists, Room, Move, way_found, Takes}
+use Rattle.walk.proofs.Rows.{first_is, next_row}
 use Rattle.walk.proofs.Hunting.{search_is, at-idle, at-refused, at-wait, at_other, at_more, from_step, from-none, from-unlisted, longer-step, longer-none, pass-start, pass-lost, pass-found, pass-over}
 
 -- ---- what was found, taken apart
@@ -61,7 +60,7 @@ pub some-of : (o : Option Bool) (d : Missed) (b : Bool) → ok_or o d ≡ Ok b �
 some-of None d b h = let z : ◌≡◌ {A = ℕ} 0 1 = cc in absurd (omega arith)
 some-of (Some a) d b h = cc
 
-module _ {m : Resolved.Model} {x : List ℕ} {s : State} {e : ℕ} {zs zs' : List ℤ} (more : ℕ) (run : List ℕ) where
+module _ {m : Resolved.Model} {x : List ℕ} {s : State} {e : ℕ} {zs zs' : List (List ℤ)} (more : ℕ) (run : List ℕ) where
   pub entry-idle : {r : Move} → Takes m x s e zs zs' r → r ≡ Ok None → Hunts run (more + 1) (hunt_at (moves_to m x) s more e) (Err Nothing)
   unfolding way_found
   entry-idle {r} t q = none (at-idle (moves_to m x) s more e (ap (λ (u : Move). way_found u t.after) (sym q) ∙ t.way))
@@ -132,7 +131,7 @@ all_start m x s more = pass-start (hunt_from (moves_to m x) s more 0)
 -- ---- a state that is still to be listed
 
 pub world-of : {t roots scopes : List ℕ} {root variables : ℕ} {text places sizes : List ℕ} {zs : List ℤ} {m : Resolved.Model} {s : State}
-    → Held t roots scopes root variables text places sizes m → Stands zs m s → World t roots scopes (take state_length zs) m s
+    → Held t roots scopes root variables text places sizes m → Stands zs m s → World t roots scopes zs m s
 unfolding FewBranches
 world-of {root = root} {variables = variables} {m = m} h s = record {
   root = root;
@@ -201,54 +200,41 @@ longer-start m x s d = pass-start (hunt_longer (moves_to m x) s d 0)
 
 -- ---- tables of rows
 
-pub stands-kept : {zs zs' : List ℤ} {m : Resolved.Model} {s : State} → take state_length zs' ≡ take state_length zs → Stands zs m s → Stands zs' m s
+pub stands-kept : {zs zs' : List ℤ} {m : Resolved.Model} {s : State} → zs' ≡ zs → Stands zs m s → Stands zs' m s
 stands-kept e h = record { good = h.good; numbers = e ∙ h.numbers }
 
-pub lists-kept : {l l' : List ℕ} {m : Resolved.Model} {s : State} {es : List Entry} → take listing_length l' ≡ take listing_length l → Lists l m s es → Lists l' m s es
+pub lists-kept : {l l' : List ℕ} {m : Resolved.Model} {s : State} {es : List Entry} → l' ≡ l → Lists l m s es → Lists l' m s es
 lists-kept e h = record { listed = h.listed; numbers = e ∙ h.numbers }
 
-pub room-kept : {n : ℕ} {zs : List ℤ} {l run : List ℕ} {zs' : List ℤ} {l' run' : List ℕ} → length zs' ≡ length zs → length l' ≡ length l → length run' ≡ length run → Room n zs l run → Room n zs' l' run'
+pub room-kept : {n : ℕ} {zs zs' : List (List ℤ)} {l l' : List (List ℕ)} {run run' : List ℕ} → length zs' ≡ length zs → length l' ≡ length l → length run' ≡ length run → Room n zs l run → Room n zs' l' run'
 room-kept a b c h = let p = h.states in let q = h.listings in let r = h.entries in record { states = omega arith; listings = omega arith; entries = omega arith }
 
 -- room for one entry less behind the first rows
-pub room-tail : (more : ℕ) (zs : List ℤ) (l run : List ℕ) (zs' : List ℤ) (run' : List ℕ) → length zs' ≡ length zs → length run' ≡ length run → 1 ≤ more → Room (more + 1) zs l run
-    → Room (more - 1 + 1) (mid_of state_length (length zs' - state_length) zs') (mid_of listing_length (length l - listing_length) l) (mid_of 1 (length run' - 1) run')
+pub room-tail : (more : ℕ) (zs : List (List ℤ)) (l : List (List ℕ)) (run : List ℕ) (zs' : List (List ℤ)) (run' : List ℕ) → length zs' ≡ length zs → length run' ≡ length run → 1 ≤ more → Room (more + 1) zs l run
+    → Room (more - 1 + 1) (mid_of 1 (length zs' - 1) zs') (mid_of 1 (length l - 1) l) (mid_of 1 (length run' - 1) run')
 room-tail more zs l run zs' run' a b k h =
     let p = h.states in
     let q = h.listings in
     let r = h.entries in
-    rw (tail-mid state_length zs', tail-mid listing_length l, tail-mid 1 run') (record { states = simp length-drop (omega arith); listings = simp length-drop (omega arith); entries = simp length-drop (omega arith) })
+    rw (tail-mid 1 zs', tail-mid 1 l, tail-mid 1 run') (record { states = simp length-drop (omega arith); listings = simp length-drop (omega arith); entries = simp length-drop (omega arith) })
 
--- the state after an entry stands first in the rows behind the first
-pub stands-tail : {m : Resolved.Model} {x : List ℕ} {s : State} {e : ℕ} {zs zs' : List ℤ} {r : Move} (t : Takes m x s e zs zs' r) (h : Bool) → r ≡ Ok (Some h)
-    → Stands (mid_of state_length (length zs' - state_length) zs') m t.after
-stands-tail {zs' = zs'} t h q = rw (tail-mid state_length zs') (record { good = (t.second h q).0; numbers = (t.second h q).1 })
+-- the second row stands first in the rows behind the first
+pub stands-tail : {m : Resolved.Model} {x : List ℕ} {s : State} {e : ℕ} {zs zs' : List (List ℤ)} {r : Move} (t : Takes m x s e zs zs' r) (h : Bool) → r ≡ Ok (Some h)
+    → Stands (first (mid_of 1 (length zs' - 1) zs')) m t.after
+stands-tail {zs' = zs'} t h q = rw (tail-mid 1 zs', next_row zs') (t.goes h q)
 
--- a listing that was filled stands first
-pub filling-length : {b : List ℕ} {m : Resolved.Model} {s : State} {count : ℕ} (f : Filling b m s count) → length b ≡ listing_length
-filling-length {m = m} {s = s} f = ap length f.numbers ∙ filled-length f.entries ((accepted m s f.entries).0 f.listed).2
-
-pub lists_filled : {b : List ℕ} {m : Resolved.Model} {s : State} {count : ℕ} (l : List ℕ) (f : Filling b m s count) → Lists (b ++ drop listing_length l) m s f.entries
-lists_filled {b = b} l f = record { listed = f.listed; numbers = first_part listing_length l b (filling-length f) ∙ f.numbers }
-
-pub filled-size : {b : List ℕ} {m : Resolved.Model} {s : State} {count : ℕ} (l : List ℕ) (f : Filling b m s count) → listing_length ≤ length l → length (b ++ drop listing_length l) ≡ length l
-filled-size {b = b} l f k = let e = filling-length f in simp (length-append, length-drop) (omega arith)
-
-pub lists-first : {l : List ℕ} {m : Resolved.Model} {s : State} {es : List Entry} → Lists l m s es → Lists (take listing_length l) m s es
-lists-first {l} h = record { listed = h.listed; numbers = same_first listing_length l ∙ h.numbers }
+-- a listing that was filled
+pub lists_filled : {b : List ℕ} {m : Resolved.Model} {s : State} {count : ℕ} (l : List (List ℕ)) → 1 ≤ length l → (f : Filling b m s count) → Lists (first (set l 0 b)) m s f.entries
+lists_filled {b = b} l n f = record { listed = f.listed; numbers = first_is l b n ∙ f.numbers }
 
 -- ---- the state that is lent stands first
 
-module _ {state : List ℤ} {m : Resolved.Model} {s : State} (h : enter.Stands state m s) where
-  pub start-length : length state ≡ state_length
-  start-length = ap length h.numbers ∙ state-length m h.good s h.state
+pub start-stands : {state : List ℤ} {m : Resolved.Model} {s : State} (rows : List (List ℤ)) → 1 ≤ length rows → enter.Stands state m s → Stands (first (set rows 0 state)) m s
+start-stands {state} rows l h = record { good = h.state; numbers = first_is rows state l ∙ h.numbers }
 
-  pub start-stands : (rest : List ℤ) → Stands (state ++ rest) m s
-  start-stands rest = record {
-    good = h.state;
-    numbers = take_at state rest state_length start-length ∙ h.numbers;
-  }
+pub start-length : {state : List ℤ} {m : Resolved.Model} {s : State} → enter.Stands state m s → length state ≡ state_length
+start-length {m = m} {s = s} h = ap length h.numbers ∙ state-length m h.good s h.state
 
 -- room in the tables of a search
-pub start-room : (depth : ℕ) (zs : List ℤ) (l run : List ℕ) → depth ≤ 8 → length zs ≡ 46098 → length l ≡ 57344 → length run ≡ 8 → Room depth zs l run
+pub start-room : (depth : ℕ) (zs : List (List ℤ)) (l : List (List ℕ)) (run : List ℕ) → depth ≤ 8 → length zs ≡ 9 → length l ≡ 8 → length run ≡ 8 → Room depth zs l run
 start-room depth zs l run a b c d = record { states = omega arith; listings = omega arith; entries = omega arith }

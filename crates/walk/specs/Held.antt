@@ -1,5 +1,5 @@
--- What a search is lent (02, notes 8 and 9): the tables of a model with the words of its tokens, a state's numbers and its listing first in tables of rows, and room for more. Definitions only.
-use Rattle.std.specs.Prelude.{◌≡◌, Bool, ℕ, ◌+◌, ◌*◌, ◌≤◌, ℤ, length, take, drop, Option, None, Some, Result, Ok, Err}
+-- What a search is lent (02, notes 8 and 9): the tables of a model with the words of its tokens, tables of states and of listings whose first rows are those of a state, and room for more. Definitions only.
+use Rattle.std.specs.Prelude.{◌≡◌, [], Bool, ℕ, ◌+◌, ◌≤◌, ℤ, length, get_or, Option, None, Some, Result, Ok, Err}
 use mathlib.Core.List.{List, Memᴰ as In}
 use Rattle.model.specs.Resolved
 use Rattle.model.specs.Good.{GoodModel}
@@ -8,8 +8,8 @@ use Rattle.tables.specs.Spelled.{Spells}
 use Rattle.rules.specs.Rules.{key}
 use Rattle.rules.specs.Listing as rules
 use Rattle.machine.specs.Offer.{branches}
-use Rattle.machine.specs.State.{State, GoodState, state_numbers, state_length}
-use Rattle.machine.specs.Machine.{listing_length, entries_are, listing, moves_to}
+use Rattle.machine.specs.State.{State, GoodState, state_numbers}
+use Rattle.machine.specs.Machine.{entries_are, listing, moves_to}
 use Rattle.listing.specs.Buffer.{filled_numbers}
 use Rattle.step.specs.Enter.{Lent}
 use Rattle.runs.specs.Tree.{Way, idle, refused, leads, way_in}
@@ -40,20 +40,27 @@ pub record Seen (t roots scopes text places sizes : List ℕ) (zs : List ℤ) (c
 abbrev pub Sees : Search → List ℤ → (c i j : ℕ) → Resolved.Model → State → (k n q w : ℕ) → Type 0
 Sees x zs c i j m s k n q w = Seen x.tables.nodes.now x.tables.roots.now x.tables.scopes.now x.written.text.now x.written.places.now x.written.sizes.now zs c i j m s k n q w
 
--- the first row of a table of states is that of s
+-- the first row of a table of states or listings, and the second of one of states
+abbrev pub first : {A : Type 0} → List (List A) → List A
+first rows = get_or rows 0 []
+
+abbrev pub second : {A : Type 0} → List (List A) → List A
+second rows = get_or rows 1 []
+
+-- a row of numbers is that of s
 pub record Stands (zs : List ℤ) (m : Resolved.Model) (s : State) : Type 0 where
   pub good : GoodState m s
-  pub numbers : take state_length zs ≡ state_numbers s
+  pub numbers : zs ≡ state_numbers s
 
--- the first row of a table of listings is that of s
+-- a row of listings is that of s
 pub record Lists (l : List ℕ) (m : Resolved.Model) (s : State) (es : List rules.Entry) : Type 0 where
   pub listed : listing m s ≡ entries_are es
-  pub numbers : take listing_length l ≡ filled_numbers es
+  pub numbers : l ≡ filled_numbers es
 
 -- room for runs of n entries, the states along them and their listings
-pub record Room (n : ℕ) (zs : List ℤ) (l run : List ℕ) : Type 0 where
-  pub states : state_length + n * state_length ≤ length zs
-  pub listings : n * listing_length ≤ length l
+pub record Room (n : ℕ) (zs : List (List ℤ)) (l : List (List ℕ)) (run : List ℕ) : Type 0 where
+  pub states : 1 + n ≤ length zs
+  pub listings : n ≤ length l
   pub entries : n ≤ length run
 
 -- 02, note 8: what taking an entry comes to: it has weight zero; 17 to 19; or it is taken, and whether it is the wait
@@ -67,8 +74,8 @@ way_found (Ok (Some h)) s = leads h s
 way_found (Err r) s = refused
 
 -- entry e of the state that stands first is taken: the first row stays, and the second is that of the state after it
-pub record Takes (m : Resolved.Model) (name : List ℕ) (s : State) (e : ℕ) (zs zs' : List ℤ) (r : Move) : Type 0 where
+pub record Takes (m : Resolved.Model) (name : List ℕ) (s : State) (e : ℕ) (zs zs' : List (List ℤ)) (r : Move) : Type 0 where
   pub after : State
   pub way : way_found r after ≡ way_in (moves_to m name s) e
-  pub first : take state_length zs' ≡ take state_length zs
-  pub second : (h : Bool) → r ≡ Ok (Some h) → GoodState m after × (take state_length (drop state_length zs') ≡ state_numbers after)
+  pub stays : first zs' ≡ first zs
+  pub goes : (h : Bool) → r ≡ Ok (Some h) → Stands (second zs') m after

@@ -8,12 +8,12 @@ ghost use Rattle.tables.specs.Spelled.{Spells};
 ghost use Rattle.rules.specs.Rules.{key};
 ghost use Rattle.rules.specs.Listing as rules;
 ghost use Rattle.runs.specs.Walk as walk;
-ghost use Rattle.machine.specs.State.{State, state_length};
-ghost use Rattle.machine.specs.Machine.{listing_length, depth_limit, is_sought, moves_to};
+ghost use Rattle.machine.specs.State.{State};
+ghost use Rattle.machine.specs.Machine.{depth_limit, is_sought, moves_to};
 ghost use Rattle.step.specs.Enter as Enter;
 ghost use Rattle.search.specs.Walks.{Answered};
 ghost use Rattle.walk.specs.Hunted.{hunt_at, hunt_from, hunt_longer, Hunts};
-ghost use Rattle.walk.specs.Held.{Holds, Sees, Stands, Lists, Room, Takes};
+ghost use Rattle.walk.specs.Held.{Holds, Sees, first, Stands, Lists, Room, Takes};
 
 use listing::Entry;
 use search::Missed;
@@ -44,15 +44,10 @@ impl Level {
 
     pub const LISTING: usize = machine::Limits::LISTING;
 
-    // The longest run, and room for the states along it and for the listings of all but the last.
+    // The longest run, which has as many listings and one state more.
     pub const DEPTH: usize = 8;
 
-    // Two states.
-    pub const PAIR: usize = 2 * Level::STATE;
-
-    pub const STATES: usize = (Level::DEPTH + 1) * Level::STATE;
-
-    pub const LISTINGS: usize = Level::DEPTH * Level::LISTING;
+    pub const STATES: usize = Level::DEPTH + 1;
 
     // The numbers of as many processes as a state holds.
     pub const FRESH: usize = step::Room::FRESH;
@@ -95,47 +90,41 @@ fn is_sought(search: Search, state: &[i64], entry: Entry) -> bool
 // Takes entry e of the first state: the second becomes the one after it. None if it has weight zero, else whether it is the wait.
 fn take_at(
     search: Search,
-    states: &mut [i64],
-    listing: &[u64],
+    states: &mut [[i64; Level::STATE]],
+    listing: &[u64; Level::LISTING],
     e: usize,
 ) -> Result<Option<bool>, step::Refusal>
-    requires { ((m : Resolved.Model) × (s : State) × (es : List rules.Entry) × Holds search m × Stands states.old m s × Lists listing.now m s es × (e < length es)) × (state_length + state_length ≤ length states.old) × (length listing.now ≡ listing_length) }
-    ensures { (m : Resolved.Model) (s : State) (es : List rules.Entry) → Holds search.entry m → Stands states.old m s → Lists listing.now m s es → e < length es → Takes m search.entry.name.now s e states.old states.new result }
+    requires { ((m : Resolved.Model) × (s : State) × (es : List rules.Entry) × Holds search m × Stands (first states.old) m s × Lists listing.now m s es × (e < length es)) × (2 ≤ length states.old) }
+    ensures { (m : Resolved.Model) (s : State) (es : List rules.Entry) → Holds search.entry m → Stands (first states.old) m s → Lists listing.now m s es → e < length es → Takes m search.entry.name.now s e states.old states.new result }
 {
     let entry = listing::entry_at(listing, e);
     if entry.weight == 0 {
         return Ok(None);
     }
-    let wait = is_sought(search, &states[..Level::STATE], entry);
-    states.copy_within(..Level::STATE, Level::STATE);
+    let wait = is_sought(search, &states[0], entry);
+    states[1] = states[0];
     let mut fresh = [0i64; Level::FRESH];
-    step::take_row(
-        search.tables,
-        &mut states[Level::STATE..Level::PAIR],
-        &mut fresh,
-        listing,
-        e,
-    )?;
+    step::take_row(search.tables, &mut states[1], &mut fresh, listing, e)?;
     Ok(Some(wait))
 }
 
 // ---- from run to run
-// Along a run of eight entries there are nine states, eight listings and the run that the caller is given: rows of all three would have a ninth listing, whose 57 KB would be cleared and never used.
+// Along a run of eight entries there are nine states, eight listings and the run that the caller is given, each a table of its own: rows of all three would have a ninth listing, whose 57 KB would be cleared and never used.
 
 // The first run of `more` and one more entries to the wait that begins with entry e.
 #[cycle(seek_try_all_try_entry)]
 fn try_entry(
     search: Search,
-    states: &mut [i64],
-    listings: &mut [u64],
+    states: &mut [[i64; Level::STATE]],
+    listings: &mut [[u64; Level::LISTING]],
     run: &mut [u16],
     more: usize,
     e: usize,
 ) -> Result<(), Missed>
-    requires { ((m : Resolved.Model) × (s : State) × (es : List rules.Entry) × Holds search m × Stands states.old m s × Lists listings.old m s es × (e < length es)) × Room (more + 1) states.old listings.old run.old }
-    ensures { ((m : Resolved.Model) (s : State) (es : List rules.Entry) → Holds search.entry m → Stands states.old m s → Lists listings.old m s es → e < length es → Hunts run.new (more + 1) (hunt_at (moves_to m search.entry.name.now) s more e) result) × (take state_length states.new ≡ take state_length states.old) × (take listing_length listings.new ≡ take listing_length listings.old) }
+    requires { ((m : Resolved.Model) × (s : State) × (es : List rules.Entry) × Holds search m × Stands (first states.old) m s × Lists (first listings.old) m s es × (e < length es)) × Room (more + 1) states.old listings.old run.old }
+    ensures { ((m : Resolved.Model) (s : State) (es : List rules.Entry) → Holds search.entry m → Stands (first states.old) m s → Lists (first listings.old) m s es → e < length es → Hunts run.new (more + 1) (hunt_at (moves_to m search.entry.name.now) s more e) result) × (first states.new ≡ first states.old) × (first listings.new ≡ first listings.old) }
 {
-    let taken = take_at(search, states, &listings[..Level::LISTING], e);
+    let taken = take_at(search, states, &listings[0], e);
     // A let-else: whichever refusal a step meets, the search is unsure.
     let Ok(moved) = taken else {
         return Err(Missed::Unsure);
@@ -150,8 +139,8 @@ fn try_entry(
     }
     seek(
         search,
-        &mut states[Level::STATE..],
-        &mut listings[Level::LISTING..],
+        &mut states[1..],
+        &mut listings[1..],
         &mut run[1..],
         more - 1,
     )
@@ -161,14 +150,14 @@ fn try_entry(
 #[cycle(seek_try_all_try_entry)]
 fn try_all(
     search: Search,
-    states: &mut [i64],
-    listings: &mut [u64],
+    states: &mut [[i64; Level::STATE]],
+    listings: &mut [[u64; Level::LISTING]],
     run: &mut [u16],
     more: usize,
     n: usize,
 ) -> Result<(), Missed>
-    requires { ((m : Resolved.Model) × (s : State) × (es : List rules.Entry) × Holds search m × Stands states.old m s × Lists listings.old m s es × (n ≡ length es)) × Room (more + 1) states.old listings.old run.old }
-    ensures { ((m : Resolved.Model) (s : State) (es : List rules.Entry) → Holds search.entry m → Stands states.old m s → Lists listings.old m s es → n ≡ length es → Hunts run.new (more + 1) (hunt_from (moves_to m search.entry.name.now) s more 0) result) × (take state_length states.new ≡ take state_length states.old) }
+    requires { ((m : Resolved.Model) × (s : State) × (es : List rules.Entry) × Holds search m × Stands (first states.old) m s × Lists (first listings.old) m s es × (n ≡ length es)) × Room (more + 1) states.old listings.old run.old }
+    ensures { ((m : Resolved.Model) (s : State) (es : List rules.Entry) → Holds search.entry m → Stands (first states.old) m s → Lists (first listings.old) m s es → n ≡ length es → Hunts run.new (more + 1) (hunt_from (moves_to m search.entry.name.now) s more 0) result) × (first states.new ≡ first states.old) }
 {
     let mut missed = Missed::Nothing;
     for e in 0..n {
@@ -185,20 +174,15 @@ fn try_all(
 #[cycle(seek_try_all_try_entry)]
 fn seek(
     search: Search,
-    states: &mut [i64],
-    listings: &mut [u64],
+    states: &mut [[i64; Level::STATE]],
+    listings: &mut [[u64; Level::LISTING]],
     run: &mut [u16],
     more: usize,
 ) -> Result<(), Missed>
-    requires { ((m : Resolved.Model) × (s : State) × Holds search m × Stands states.old m s) × Room (more + 1) states.old listings.old run.old }
-    ensures { ((m : Resolved.Model) (s : State) → Holds search.entry m → Stands states.old m s → Hunts run.new (more + 1) (hunt_from (moves_to m search.entry.name.now) s more 0) result) × (take state_length states.new ≡ take state_length states.old) }
+    requires { ((m : Resolved.Model) × (s : State) × Holds search m × Stands (first states.old) m s) × Room (more + 1) states.old listings.old run.old }
+    ensures { ((m : Resolved.Model) (s : State) → Holds search.entry m → Stands (first states.old) m s → Hunts run.new (more + 1) (hunt_from (moves_to m search.entry.name.now) s more 0) result) × (first states.new ≡ first states.old) }
 {
-    let listed = listing::list_here(
-        search.tables,
-        &states[..Level::STATE],
-        &mut listings[..Level::LISTING],
-    );
-    match listed {
+    match listing::list_here(search.tables, &states[0], &mut listings[0]) {
         Err(_) => Err(Missed::Unsure),
         Ok(l) => try_all(search, states, listings, run, more, l.count),
     }
@@ -209,13 +193,13 @@ fn seek(
 // The length of the first run to the wait from the first state, by length.
 fn search_from(
     search: Search,
-    states: &mut [i64],
-    listings: &mut [u64],
+    states: &mut [[i64; Level::STATE]],
+    listings: &mut [[u64; Level::LISTING]],
     run: &mut [u16],
     depth: usize,
 ) -> Result<usize, Missed>
-    requires { ((m : Resolved.Model) × (s : State) × Holds search m × Stands states.old m s) × Room depth states.old listings.old run.old }
-    ensures { (m : Resolved.Model) (s : State) → Holds search.entry m → Stands states.old m s → Answered (walk.search (moves_to m search.entry.name.now) s depth) result run.new }
+    requires { ((m : Resolved.Model) × (s : State) × Holds search m × Stands (first states.old) m s) × Room depth states.old listings.old run.old }
+    ensures { (m : Resolved.Model) (s : State) → Holds search.entry m → Stands (first states.old) m s → Answered (walk.search (moves_to m search.entry.name.now) s depth) result run.new }
 {
     let mut missed = Missed::Nothing;
     for more in 0..depth {
@@ -232,15 +216,15 @@ fn search_from(
 fn search_in(
     search: Search,
     state: &[i64],
-    states: &mut [i64],
-    listings: &mut [u64],
+    states: &mut [[i64; Level::STATE]],
+    listings: &mut [[u64; Level::LISTING]],
     run: &mut [u16],
     depth: usize,
 ) -> Result<usize, Missed>
     requires { ((m : Resolved.Model) × (s : State) × Holds search m × Enter.Stands state.now m s) × Room depth states.old listings.old run.old }
     ensures { (m : Resolved.Model) (s : State) → Holds search.entry m → Enter.Stands state.now m s → Answered (walk.search (moves_to m search.entry.name.now) s depth) result run.new }
 {
-    states[..Level::STATE].copy_from_slice(state);
+    states[0].copy_from_slice(state);
     search_from(search, states, listings, run, depth)
 }
 
@@ -254,7 +238,7 @@ pub fn search_model(
     requires { ((m : Resolved.Model) × (s : State) × Holds search m × Enter.Stands state.now m s) × (depth ≤ depth_limit) }
     ensures { (m : Resolved.Model) (s : State) → Holds search.entry m → Enter.Stands state.now m s → Answered (walk.search (moves_to m search.entry.name.now) s depth) result run.new }
 {
-    let mut states = [0i64; Level::STATES];
-    let mut listings = [0u64; Level::LISTINGS];
+    let mut states = [[0i64; Level::STATE]; Level::STATES];
+    let mut listings = [[0u64; Level::LISTING]; Level::DEPTH];
     search_in(search, state, &mut states, &mut listings, run, depth)
 }

@@ -28,10 +28,6 @@ use Rattle.eval.proofs.Offers.{prefix-parts}
 
 -- ---- the root of a continuation
 
--- r shows the continuation of every branch without its gate that stands at k
-abbrev pub NextShown : List ℕ → ℕ → Next → Type 0
-NextShown t k r = (a : Resolved.Action) (q : Resolved.Rate) (ps : List Resolved.Part) → Settled.Offer t a q ps k → ShowsNext t ps r
-
 module _ (t : List ℕ) (k kind : ℕ) (is : kind ≡ kind_of (get_or t k 0)) where
   pub dot-above : kind ≡ 46 → SomePrefix t k → 1 ≤ k
   unfolding Settled.Offer

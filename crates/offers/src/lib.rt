@@ -109,7 +109,8 @@ pub fn bucket_of(first: i64, second: i64, third: i64) -> usize
     (a + 5 * b + 25 * c) % Table::BUCKETS
 }
 
-// Links a row to the first of its bucket so far, if it is a handshake receive, and makes it the first.
+// Links a row to the first of its bucket so far, if it is a handshake receive, and makes it the first. Rows and links stay three, here and in `link`, and no `Space`: a caller may have rows of its own,
+// and of a Space only the rows in use are linked, so that a method would take their count and say of the first rows what is said here of all.
 fn link_row(rows: &[Row], row: usize, firsts: &mut [u16; Table::BUCKETS], nexts: &mut [u16])
     requires { (row < length rows.now) × (row < row_limit) × (length nexts.old ≡ length rows.now) }
     ensures { Linked rows.now (suc row) firsts.old nexts.old → Linked rows.now row firsts.new nexts.new }
@@ -123,8 +124,7 @@ fn link_row(rows: &[Row], row: usize, firsts: &mut [u16; Table::BUCKETS], nexts:
     firsts[bucket] = row as u16;
 }
 
-// Links the handshake receives of all rows, the last row first. No method of `Space`: a caller may have rows of its own, and with a Space only the rows in use are linked, so that a method would
-// take their count and say of the first rows what is said here of all.
+// Links the handshake receives of all rows, the last row first.
 pub fn link(rows: &[Row], firsts: &mut [u16; Table::BUCKETS], nexts: &mut [u16])
     requires { (length rows.now ≤ row_limit) × (length nexts.old ≡ length rows.now) }
     ensures { (Linked rows.now 0 firsts.new nexts.new) × (length nexts.new ≡ length nexts.old) }

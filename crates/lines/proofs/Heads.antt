@@ -1,6 +1,7 @@
 -- A line's first five bytes by their number: the number tells the bytes; and what the whole line says, from the number and the rest.
 use Rattle.std.proofs.Common.{◌≡◌, ℕ, zero, suc, ◌+◌, ◌-◌, ◌*◌, ◌/◌, ◌%◌, ◌<◌, ◌≤◌, min, Bool, true, false, cond, ◌&&◌, eqb, ltb, leb, List, [], ◌∷◌, ◌++◌, length, take, drop, sym, refl, ap, ◌∙◌, ap₂, arith, length-append, length-take, take-take, ltb-false, ltb-true, le-ltb, lt-ltb, eq-eqb, ne_eqb, eqb-true, le-leb, leb-false, leb-true, Some, None, MatchOption}
 use Rattle.std.specs.Prelude.{Option}
+use Rattle.std.specs.Bool.{then_some}
 use Rattle.std.specs.Option.{IsSomeAnd}
 use borrow.Author.Tests.{eqb-false, lt-leb}
 use Rattle.word.specs.Number.{worth}
@@ -609,3 +610,32 @@ numbered-is says (Number n) None h = absurd h
 numbered-is says (Number n) (Some l) h = ap Some h
 numbered-is says T x h = h
 numbered-is says Other x h = h
+
+-- and of one whose word has to be right to its end
+pub numbered-if : (says : ℕ → Line) (right : Bool) (rest : Rest) (y : Option ℕ) (x : Option Line) → y ≡ cond right (number_in rest) None → MatchOption y (x ≡ None) (λ n. IsSomeAnd x (λ l. l ≡ says n)) → x ≡ cond right (numbered (always says) rest) None
+numbered-if says true rest y x e h = numbered-is says rest x (rw e at h)
+numbered-if says false rest y x e h = rw e at h
+
+-- ---- what a line says if a test holds
+pub then-is : (b : Bool) (l : Line) (x : Option Line) → x ≡ then_some b l → x ≡ cond b (Some l) None
+then-is true l x e = e
+then-is false l x e = e
+
+-- that nothing stands after its word, or the last byte of it
+pub bare-is : (b : Bool) (l : Line) (rest : Rest) (x : Option Line) → x ≡ then_some b l → b ≡ true → rest ≡ Nothing → x ≡ bare l rest
+bare-is b l rest x e t n = rw n (e ∙ ap (λ (u : Bool). then_some u l) t)
+
+pub not-bare : (b : Bool) (l : Line) (rest : Rest) (x : Option Line) → x ≡ then_some b l → b ≡ false → (rest ≡ Nothing → ⊥) → x ≡ bare l rest
+not-bare b l Nothing x e t n = absurd (n refl)
+not-bare b l (Number v) x e t n = e ∙ ap (λ (u : Bool). then_some u l) t
+not-bare b l T x e t n = e ∙ ap (λ (u : Bool). then_some u l) t
+not-bare b l Other x e t n = e ∙ ap (λ (u : Bool). then_some u l) t
+
+pub lettered-is : (b : Bool) (l : Line) (rest : Rest) (x : Option Line) → x ≡ then_some b l → b ≡ true → rest ≡ T → x ≡ lettered l rest
+lettered-is b l rest x e t n = rw n (e ∙ ap (λ (u : Bool). then_some u l) t)
+
+pub not-lettered : (b : Bool) (l : Line) (rest : Rest) (x : Option Line) → x ≡ then_some b l → b ≡ false → (rest ≡ T → ⊥) → x ≡ lettered l rest
+not-lettered b l Nothing x e t n = e ∙ ap (λ (u : Bool). then_some u l) t
+not-lettered b l (Number v) x e t n = e ∙ ap (λ (u : Bool). then_some u l) t
+not-lettered b l T x e t n = absurd (n refl)
+not-lettered b l Other x e t n = e ∙ ap (λ (u : Bool). then_some u l) t

@@ -1,6 +1,6 @@
 // A line of a script, read byte by byte, however long it is.
-ghost use Rattle.std.specs.Prelude.{◌≡◌, ℕ, cond, ◌==◌, List, [], ◌∷◌, ◌++◌, Some, None};
-ghost use Rattle.lines.specs.Line.{line_of, digit_next, letter_next, rest_next, numbered, number_in, small, lettered, bare, steadied, sought_by, ran_by, after_next, late_next, early_next, kept_next, empty, Reads};
+ghost use Rattle.std.specs.Prelude.{◌≡◌, ℕ, cond, nat_lt, List, [], ◌∷◌, ◌++◌, None};
+ghost use Rattle.lines.specs.Line.{line_of, digit_next, letter_next, rest_next, number_in, small, sought_by, after_next, kept_next, empty, Reads};
 
 use crate::bytes;
 use crate::bytes::ByteByByte;
@@ -154,53 +154,18 @@ impl ByteByByte for Rest {
     }
 }
 
-// What a line says that has nothing after its word. It and `lettered` are functions, and no `matches!` in `says`: the arms there are one call each, by which its proof goes.
-fn bare(says: Line, rest: Rest) -> Option<Line>
-    ensures { result ≡ bare says rest }
-{
-    match rest {
-        Rest::Nothing => Some(says),
-        _ => None,
-    }
-}
-
-// What a line says after whose five bytes the last one of its word stands.
-fn lettered(says: Line, rest: Rest) -> Option<Line>
-    ensures { result ≡ lettered says rest }
-{
-    match rest {
-        Rest::T => Some(says),
-        _ => None,
-    }
-}
-
-// What a line says whose word ends in these two bytes. By an if, here and in `draw_line`: the definitions are a cond of two cases.
-fn ended(says: Line, end: u64, after: u64) -> Option<Line>
-    ensures { result ≡ cond (after == end) (Some says) None }
-{
-    if after == end {
-        return Some(says);
-    }
-    None
-}
-
 // A line with a waiting draw, if it is one.
 fn draw_line(n: u64) -> Option<Line>
     ensures { result ≡ small n }
 {
-    if n < Head::DRAWS {
-        return Some(Line::Wait(n));
-    }
-    None
+    (n < Head::DRAWS).then_some(Line::Wait(n))
 }
 
-fn steady_line(after: u64, late: Rest) -> Option<Line>
-    ensures { result ≡ steadied after late }
+// The number of a rest, if the word before it is right to its end.
+fn number_if(right: bool, rest: Rest) -> Option<u64>
+    ensures { result ≡ cond right (number_in rest) None }
 {
-    if after == Head::STEADY_END {
-        return late.number().map(Line::Steady);
-    }
-    None
+    if right { rest.number() } else { None }
 }
 
 // A digit and a blank after the first five bytes. The two bounds by ifs, one after the other, as the definition asks for them.
@@ -220,16 +185,6 @@ fn seek_line(after: u64, kept: u64) -> Option<Line>
     Some(Line::Search(digit - Head::ZERO, kept))
 }
 
-// A word of four bytes, of which the head has one byte more.
-fn run_line(head: u64, early: Rest) -> Option<Line>
-    ensures { result ≡ ran_by head early }
-{
-    if head / 256 == Head::RUN {
-        return early.number().map(Line::Run);
-    }
-    None
-}
-
 // The two bytes after the first five, with one more byte.
 fn next_after(after: u64, b: u8) -> u64
     ensures { result ≡ after_next after b }
@@ -240,24 +195,14 @@ fn next_after(after: u64, b: u8) -> u64
     after
 }
 
-// What stands after the first seven bytes, with one more byte, from the two before them. Not one function with `next_early`: each says by its name and definition how many bytes it wants.
-fn next_late(after: u64, late: Rest, b: u8) -> Rest
-    ensures { result ≡ late_next after late b }
+// A rest with one more byte, if the bytes before it are all read: a number of them below `least` says that they aren't.
+fn next_rest(read: u64, least: u64, rest: Rest, b: u8) -> Rest
+    ensures { result ≡ cond (nat_lt read least) rest (rest_next rest b) }
 {
-    if after < Head::TWO {
-        return late;
+    if read < least {
+        return rest;
     }
-    bytes::with_byte(late, b)
-}
-
-// What stands after the first four bytes, with one more byte, from the head before it.
-fn next_early(head: u64, early: Rest, b: u8) -> Rest
-    ensures { result ≡ early_next head early b }
-{
-    if head < Head::FOUR {
-        return early;
-    }
-    bytes::with_byte(early, b)
+    bytes::with_byte(rest, b)
 }
 
 // How many bytes are kept with one more.
@@ -287,7 +232,7 @@ impl Reading {
         ensures { (s : List ℕ) → Reads s self → Reads (s ++ (b ∷ [])) result }
     {
         let kept = next_kept(self.kept);
-        let early = next_early(self.head, self.early, b);
+        let early = next_rest(self.head, Head::FOUR, self.early, b);
         if self.head < Head::FULL {
             return Reading {
                 head: self.head * 256 + u64::from(b),
@@ -300,7 +245,7 @@ impl Reading {
             early,
             rest: bytes::with_byte(self.rest, b),
             after: next_after(self.after, b),
-            late: next_late(self.after, self.late, b),
+            late: next_rest(self.after, Head::TWO, self.late, b),
             kept,
             two: bytes::with_byte(self.two, b),
             ..self
@@ -322,21 +267,22 @@ impl Reading {
         } = self;
         match head {
             Head::LIST => Some(Line::List),
-            Head::STATE => bare(Line::State, rest),
-            Head::REPORT => lettered(Line::Report, rest),
+            Head::STATE => matches!(rest, Rest::Nothing).then_some(Line::State),
+            Head::REPORT => matches!(rest, Rest::T).then_some(Line::Report),
             Head::OPEN => rest.number().map(Line::Open),
             Head::STEP => rest.number().map(Line::Step),
             Head::SAVE => Some(Line::Save(kept)),
-            Head::RETURN => ended(Line::Return(kept), Head::RETURN_END, after),
-            Head::FORGET => ended(Line::Forget(kept), Head::FORGET_END, after),
+            Head::RETURN => (after == Head::RETURN_END).then_some(Line::Return(kept)),
+            Head::FORGET => (after == Head::FORGET_END).then_some(Line::Forget(kept)),
             Head::TIME => rest.number().map(Line::Time),
             Head::WAIT => rest.number().and_then(draw_line),
-            Head::CLOCK => bare(Line::Clock, rest),
+            Head::CLOCK => matches!(rest, Rest::Nothing).then_some(Line::Clock),
             Head::INDEPENDENT => crate::two::says(two),
-            Head::STEADY => steady_line(after, late),
+            Head::STEADY => number_if(after == Head::STEADY_END, late).map(Line::Steady),
             Head::SEEK => seek_line(after, kept),
             Head::WORD => rest.number().map(Line::Word),
-            _ => run_line(head, early),
+            // The head has one byte more than this word.
+            _ => number_if(head / 256 == Head::RUN, early).map(Line::Run),
         }
     }
 }

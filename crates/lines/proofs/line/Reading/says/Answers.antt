@@ -1,20 +1,29 @@
 -- The head tells which of the words begins the line.
-use Rattle.lines.specs.declared.line.Line.TheVariants.{Open, Step, Time, Word}
-use Rattle.lines.specs.Line.{small, ended}
-use Rattle.lines.proofs.Heads.{says-list, says-state, says-report, says-open, says-step, says-save, says-return, says-forget, says-time, says-wait, says-clock, says-independent, says-steady, says-seek, says-word, says-run, joined-is, numbered-is}
+use Rattle.lines.specs.declared.line.Line.TheVariants.{Open, Steady, Step, Time, Word, Run}
+use Rattle.lines.specs.Line.{small, ended, steadied, ran_by}
+use Rattle.lines.proofs.Heads.{says-list, says-state, says-report, says-open, says-step, says-save, says-return, says-forget, says-time, says-wait, says-clock, says-independent, says-steady, says-seek, says-word, says-run, joined-is, numbered-is, numbered-if, then-is, bare-is, not-bare, lettered-is, not-lettered}
 use Rattle.lines.proofs.line.Reading.says.Goals as goal
+use Rattle.lines.proofs.line.Reading.says.Goals.{in-Nothing, in_default-matches, in-T, in_default-matches-2, in-Nothing-matches, in_default-matches-3}
 
 pub returns-in-6113817460 : goal.returns-in-6113817460
 returns-in-6113817460 c =
     λ s h. says-list h c.in-6113817460.is
 
-pub returns-in-1595385410661 : goal.returns-in-1595385410661
-returns-in-1595385410661 c =
-    λ s h. says-state h c.in-1595385410661.is c.bare.ensures
+pub returns-after-matches : goal.returns-after-matches
+returns-after-matches c =
+    λ s h. says-state h c.in-1595385410661.is
+    (elim c.match-matches.branch [
+      | in-Nothing w ↦ bare-is _ _ _ _ c.then_some.ensures w.matches-is w.in-Nothing.is
+      | in_default-matches w ↦ not-bare _ _ _ _ c.then_some.ensures w.matches-is w.in_default-matches.not-Nothing
+    ])
 
-pub returns-in-1590839766898 : goal.returns-in-1590839766898
-returns-in-1590839766898 c =
-    λ s h. says-report h c.in-1590839766898.is c.lettered.ensures
+pub returns-after-matches-2 : goal.returns-after-matches-2
+returns-after-matches-2 c =
+    λ s h. says-report h c.in-1590839766898.is
+    (elim c.match-matches-2.branch [
+      | in-T w ↦ lettered-is _ _ _ _ c.then_some-in-1590839766898.ensures w.matches-is w.in-T.is
+      | in_default-matches-2 w ↦ not-lettered _ _ _ _ c.then_some-in-1590839766898.ensures w.matches-is w.in_default-matches-2.not-T
+    ])
 
 pub returns-in-1578138693152 : goal.returns-in-1578138693152
 returns-in-1578138693152 c =
@@ -31,12 +40,12 @@ returns-in-1595068015904 c =
 pub returns-in-1590840030578 : goal.returns-in-1590840030578
 unfolding ended
 returns-in-1590840030578 c =
-    λ s h. says-return h c.in-1590840030578.is c.ended.ensures
+    λ s h. says-return h c.in-1590840030578.is (then-is _ _ _ c.then_some-in-1590840030578.ensures)
 
 pub returns-in-1539468060517 : goal.returns-in-1539468060517
 unfolding ended
 returns-in-1539468060517 c =
-    λ s h. says-forget h c.in-1539468060517.is c.ended-in-1539468060517.ensures
+    λ s h. says-forget h c.in-1539468060517.is (then-is _ _ _ c.then_some-in-1539468060517.ensures)
 
 pub returns-in-1599496611104 : goal.returns-in-1599496611104
 returns-in-1599496611104 c =
@@ -46,17 +55,22 @@ pub returns-in-1612247036960 : goal.returns-in-1612247036960
 returns-in-1612247036960 c =
     λ s h. says-wait h c.in-1612247036960.is (joined-is small c.args.self.rest _ (rw c.number-in-1612247036960.ensures at c.and_then.ensures))
 
-pub returns-in-1526532629355 : goal.returns-in-1526532629355
-returns-in-1526532629355 c =
-    λ s h. says-clock h c.in-1526532629355.is c.bare-in-1526532629355.ensures
+pub returns-after-matches-3 : goal.returns-after-matches-3
+returns-after-matches-3 c =
+    λ s h. says-clock h c.in-1526532629355.is
+    (elim c.match-matches-3.branch [
+      | in-Nothing-matches w ↦ bare-is _ _ _ _ c.then_some-in-1526532629355.ensures w.matches-is w.in-Nothing-matches.is
+      | in_default-matches-3 w ↦ not-bare _ _ _ _ c.then_some-in-1526532629355.ensures w.matches-is w.in_default-matches-3.not-Nothing
+    ])
 
 pub returns-in-1552335267184 : goal.returns-in-1552335267184
 returns-in-1552335267184 c =
     λ s h. says-independent h c.in-1552335267184.is c.says.ensures
 
 pub returns-in-1595385667940 : goal.returns-in-1595385667940
+unfolding steadied
 returns-in-1595385667940 c =
-    λ s h. says-steady h c.in-1595385667940.is c.steady_line.ensures
+    λ s h. says-steady h c.in-1595385667940.is (numbered-if Steady _ c.args.self.late _ _ c.number_if.ensures c.map-in-1595385667940.ensures.cases)
 
 pub returns-in-1595134012192 : goal.returns-in-1595134012192
 returns-in-1595134012192 c =
@@ -67,7 +81,8 @@ returns-in-1612482503712 c =
     λ s h. says-word h c.in-1612482503712.is (numbered-is Word c.args.self.rest _ (rw c.number-in-1612482503712.ensures at c.map-in-1612482503712.ensures.cases))
 
 pub returns-in_default : goal.returns-in_default
+unfolding ran_by
 returns-in_default c =
     λ s h.
     let m = c.in_default.in_default-own.rest in
-    says-run h m.0.0.0.0.0.0.0.0.0.0.0.0.0.0.1 m.0.0.0.0.0.0.0.0.0.0.0.0.0.1 m.0.0.0.0.0.0.0.0.0.0.0.0.1 m.0.0.0.0.0.0.0.0.0.0.0.1 m.0.0.0.0.0.0.0.0.0.0.1 m.0.0.0.0.0.0.0.0.0.1 m.0.0.0.0.0.0.0.0.1 m.0.0.0.0.0.0.0.1 m.0.0.0.0.0.0.1 m.0.0.0.0.0.1 m.0.0.0.0.1 m.0.0.0.1 m.0.0.1 m.0.1 m.1 c.run_line.ensures
+    says-run h m.0.0.0.0.0.0.0.0.0.0.0.0.0.0.1 m.0.0.0.0.0.0.0.0.0.0.0.0.0.1 m.0.0.0.0.0.0.0.0.0.0.0.0.1 m.0.0.0.0.0.0.0.0.0.0.0.1 m.0.0.0.0.0.0.0.0.0.0.1 m.0.0.0.0.0.0.0.0.0.1 m.0.0.0.0.0.0.0.0.1 m.0.0.0.0.0.0.0.1 m.0.0.0.0.0.0.1 m.0.0.0.0.0.1 m.0.0.0.0.1 m.0.0.0.1 m.0.0.1 m.0.1 m.1 (numbered-if Run _ c.args.self.early _ _ c.number_if-in_default.ensures c.map-in_default.ensures.cases)

@@ -1,7 +1,7 @@
 #![tactic(auto)]
 
 // Questions 7, 8 and 9 of a text that fits.
-mod list;
+pub mod list;
 mod scope;
 pub mod walk;
 

@@ -14,7 +14,7 @@ use tree::NodeKind;
 
 // It goes down from the node `first`.
 #[derive(Clone, Copy)]
-pub(crate) struct NameList<'a> {
+pub struct NameList<'a> {
     pub contents: &'a [Content],
     pub nodes: &'a [u64],
     pub first: usize,
@@ -36,7 +36,7 @@ impl<'a> NameList<'a> {
     }
 
     // The place of the name k.
-    pub(crate) fn place_of(self, k: usize) -> Option<usize>
+    pub fn place_of(self, k: usize) -> Option<usize>
         requires { k < length self.contents.now }
         ensures { result ≡ found_of (place_in (packed_in self.entry.contents.now) k 0 (names_down self.entry.nodes.now self.entry.first self.entry.count)) }
     {

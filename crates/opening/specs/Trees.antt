@@ -12,7 +12,7 @@ use Rattle.model.specs.Held.{tree_held, model_in, held}
 use Rattle.names.specs.Tables.{Read}
 use Rattle.opening.specs.declared.Tokens.{Tokens}
 
--- a table has the places of the text's tokens
+-- a table has the places of the text's tokens (01, Model text)
 abbrev pub Placed : (text places : List ℕ) → Type 0
 Placed text places = places ≡ places_of (tokens text)
 

@@ -61,7 +61,7 @@ unfoldable pub Numbered : OfferSet → Type 0
 Numbered (Range a b) = InRange b
 Numbered (Joined i) = i < 9223372036854775808
 
--- before the mark stands a root: no negative number
+-- 01, Model text, sets: before the mark stands the root of a joined set, no negative number
 unfoldable pub RootBefore : ℤ → ℤ → Type 0
 RootBefore a b = b ≡ joined_mark → a ≡ pos (nat_abs a)
 

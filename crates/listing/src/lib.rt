@@ -277,8 +277,8 @@ fn values_match(context: Context, o: Offer, count: usize, first: i64, second: i6
     eval::offer::in_offer_set(context, second_set, second)
 }
 
-// A receive or a check that acts, with the context of its sets and the state whose pairs it asks for. That it shows a query stays in the clauses below: it is said
-// of each query.
+// A receive or a check that acts, with the context of its sets and the state whose pairs it asks for. That it shows a query is no ghost field: it is said of each
+// query.
 #[derive(Clone, Copy)]
 struct Asking<'a> {
     context: Context<'a>,
@@ -391,8 +391,8 @@ fn list_bound(asking: Asking, run: Run, listing: &mut [u64], count: usize) -> us
     n
 }
 
-// What entries are listed from: a state, its tables, and what its open branches offer, each at a lifetime of its own, as try_over has them. Ready stays in the
-// clauses below: it is said of each model and state, which no fact of one struct would say.
+// What entries are listed from: a state, its tables, and what its open branches offer, each at a lifetime of its own, as try_over has them. That they are Ready is
+// no ghost field: it is said of each model and state.
 #[derive(Clone, Copy)]
 struct Source<'a, 'b, 'c> {
     tables: Tables<'a>,

@@ -26,6 +26,7 @@ use Rattle.saves.specs.Keys.{is_word, is_second, is_key, is_key_of, full_word, l
 use Rattle.saves.specs.Kept.{is_kept}
 use Rattle.saves.specs.Places.{has_key, is_place, is_once, are_once, places_of, is_saves, kept_part}
 use Rattle.std.specs.Prelude.{Option, None, Some, Ok, Err, is_some}
+use Rattle.std.specs.Char.{is_ascii_alphabetic}
 use Rattle.std.specs.Option.{ok_or}
 use Rattle.std.specs.List.{position_or_len}
 use Rattle.std.proofs.lemmas.Slice.{take-put_mid, drop-put_mid}
@@ -34,22 +35,10 @@ use Rattle.saves.proofs.Names.{letters_every, letter-is, name-is, every_take, ev
 
 -- ---- letters
 
-module _ (b : ℕ) where
-  pub letter-low : b < 65 → is_letter b ≡ false
-  unfolding is_letter
-  letter-low h = rw (lt-leb 65 b h, lt-leb 97 b (omega arith))
-
-  pub letter-capital : 65 ≤ b → b ≤ 90 → is_letter b ≡ true
-  unfolding is_letter
-  letter-capital h k = rw (le-leb 65 b h, le-leb b 90 k)
-
-  pub letter-between : 90 < b → b < 97 → is_letter b ≡ false
-  unfolding is_letter
-  letter-between h k = rw (le-leb 65 b (omega arith), lt-leb b 90 h, lt-leb 97 b k)
-
-  pub letter-small : 97 ≤ b → is_letter b ≡ leb b 122
-  unfolding is_letter
-  letter-small h = rw (le-leb 65 b (omega arith), lt-leb b 90 (omega arith), le-leb 97 b h)
+-- the library's letters are a name's
+pub alphabetic : (b : ℕ) → is_ascii_alphabetic b ≡ is_letter b
+unfolding is_letter
+alphabetic b = refl
 
 -- ---- words
 

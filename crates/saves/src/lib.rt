@@ -42,13 +42,6 @@ impl Layout {
 
 // ---- names
 
-#[tactic(auto, unfolding(machine::specs::Saves::is_letter))]
-fn is_letter(b: u64) -> bool
-    ensures { result ≡ is_letter b }
-{
-    matches!(b, 65..=90 | 97..=122)
-}
-
 // Whether a number is up to eight letters. They are taken off as the definition takes them: of `to_le_bytes` the letters would be tested first, and the rest for zeros. The loop's number is the proof's: its invariant counts the letters that are off.
 fn is_word(word: u64) -> bool
     ensures { result ≡ is_word word_bytes word }
@@ -58,7 +51,7 @@ fn is_word(word: u64) -> bool
         if w == 0 {
             return true;
         }
-        if !is_letter(w % 256) {
+        if !((w % 256) as u8).is_ascii_alphabetic() {
             return false;
         }
         w /= 256;
@@ -84,7 +77,7 @@ fn is_key(low: i64, high: i64) -> bool
 fn all_letters(s: &[u8]) -> bool
     ensures { result ≡ every is_letter s.now }
 {
-    s.iter().all(|&b| is_letter(u64::from(b)))
+    s.iter().all(u8::is_ascii_alphabetic)
 }
 
 #[tactic(auto, using(crate::proofs::Names::letters_every), unfolding(machine::specs::Saves::is_name))]

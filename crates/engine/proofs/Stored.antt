@@ -8,15 +8,15 @@ use native.Mathlib.Omega.{arith}
 use borrow.Author.Tests.{eq-eqb, ne_eqb}
 use lib.Dec.{eqb, ltb}
 use lib.IntN.{ℤ, pos}
-use lib.ListN.{length, take, drop, replicate, length-drop}
-use lib.Seq.{take_all, take_at, drop_at}
+use lib.ListN.{length, take, drop, replicate}
+use lib.Seq.{take_at, drop_at}
 use Rattle.clock.specs.declared.Clock.{Clock}
 use Rattle.clock.specs.Clock.{fresh_clock, InRange, is_in_range}
 use Rattle.clock.proofs.Bringing.{both-in}
 use Rattle.value.proofs.Kit.{true-not-false, false-not-true}
 use Rattle.model.specs.Resolved
 use Rattle.machine.specs.State.{State, state_length, state_numbers}
-use Rattle.machine.specs.Timed.{Timed, timed, GoodTimed, clock_length}
+use Rattle.machine.specs.Timed.{Timed, timed, GoodTimed}
 use Rattle.machine.proofs.Numbers.{state-length}
 use Rattle.machine.proofs.Saves.{returning-holds, StoredAnswers, accepts, refuses, returning-answers}
 use Rattle.state.specs.Test.{at}
@@ -26,6 +26,7 @@ use Rattle.state.specs.Fits.{scopes_of}
 use Rattle.state.specs.Test.{is_state}
 use Rattle.state.proofs.Over.{few-scopes}
 use Rattle.saves.specs.Keys.{key_numbers}
+use Rattle.saves.proofs.Clocks.{last-two}
 use Rattle.saves.specs.Kept.{clock_place, besides, kept_numbers, is_natural, clock_at}
 use Rattle.saves.specs.Places.{saves_numbers, is_saves}
 use Rattle.std.specs.Prelude.{Result, Err}
@@ -380,14 +381,10 @@ returned-yes n zs ss c ks ks' ss' k a b r ys p q e w z f g =
       clock = rw i (ap (λ (t : results.Timed). t.clock) p ∙ f ∙ ap (λ (l : List ℤ). clock_at (drop state_length l)) w'.kept);
     }
 
--- a clock's numbers are all that is left after a state's
-pub two-left : (l : List ℤ) → length l ≡ timed_length → take 2 (drop state_length l) ≡ drop state_length l
-two-left l h = take_all 2 (drop state_length l) (simp length-drop (omega arith))
-
 pub readable : (n : List ℕ) (zs ss : List ℤ) (c : Clock) {ks ks' ss' : List ℤ} {k : ℕ} → ks ≡ besides zs c → Stores (returning_numbers n ks ss) k ks' ss' → k ≡ 0 → Keeping n (besides zs c) ss → length ks' ≡ timed_length
-    → (length (take 2 (drop state_length ks')) ≡ clock_length) × (is_natural (at (take 2 (drop state_length ks')) 0) ≡ true) × (is_natural (at (take 2 (drop state_length ks')) 1) ≡ true)
+    → (is_natural (at ks' 5122) ≡ true) × (is_natural (at ks' 5123) ≡ true)
 readable n zs ss c {ks} {ks'} {ss'} {k} e w z g h =
     let w' : Stores (returning_numbers n (besides zs c) ss) k ks' ss' = rw e at w in
     let y = sym w'.number ∙ z in
-    let q = ap (drop state_length) w'.kept in
-    rw (two-left ks' h) (simp length-drop (omega arith), ap (λ (l : List ℤ). is_natural (at l 0)) q ∙ g.ticks y, ap (λ (l : List ℤ). is_natural (at l 1)) q ∙ g.draws y)
+    let q = sym (last-two ks' state_length h) ∙ ap (drop state_length) w'.kept in
+    (ap (λ (l : List ℤ). is_natural (at l 0)) q ∙ g.ticks y, ap (λ (l : List ℤ). is_natural (at l 1)) q ∙ g.draws y)

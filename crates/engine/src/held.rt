@@ -71,6 +71,6 @@ pub fn return_held(state: &mut [i64], saves: &[i64], name: &[u8], clock: Clock) 
     state.copy_from_slice(&kept[..Engine::STATE]);
     Timed::of(
         Answer::bare(0, 0, 0),
-        saves::clock_at(&kept[Engine::STATE..]),
+        saves::clock_at(kept[Engine::STATE], kept[Engine::STATE + 1]),
     )
 }

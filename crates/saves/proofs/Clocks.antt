@@ -1,65 +1,23 @@
--- What the functions on a clock's two numbers, and on a state with its clock, say: each answer a case of its definition; and what is written.
+-- What the functions on a state with its clock say: each answer a case of its definition, where a place has both; and what is written.
 use mathlib.Core.Path.{◌≡◌, refl, sym, ap, ap₂, ◌∙◌}
 use mathlib.Core.Bool.{true, false}
 use mathlib.Core.List.{List, [], ◌∷◌, ◌++◌, append_assoc}
-use Prim.Native.Nat.{ℕ, ◌<◌}
+use Prim.Native.Nat.{ℕ, suc, ◌+◌, ◌<◌}
 use native.Mathlib.Omega.{arith}
-use borrow.Author.Tests.{le-ltb}
-use lib.Dec.{T}
-use lib.IntN.{ℤ, pos, negsuc, nat_abs}
-use lib.Signed.{mag, lt_z, non_neg}
-use lib.ListN.{length, set, take, drop, length-append, length-take, length-drop, length-set}
-use lib.Seq.{take_all, set_at}
+use lib.IntN.{ℤ, pos}
+use lib.ListN.{length, set, take, drop, length-append, length-take, length-drop, length-set, drop_of_length-le}
+use native.Mathlib.Numerals.{add-one}
+use lib.Seq.{take_all, set_at, drop-cons, drop-drop}
 use mir.Syntax.{w64}
-use mir.Val.{of_z, to_z, Fits}
+use mir.Val.{to_z}
 use mir.Facts.{to_z_pos}
-use Rattle.value.proofs.Kit.{true-not-false, back, ok-fits}
 use Rattle.clock.specs.declared.Clock.{Clock}
-use Rattle.clock.specs.Clock.{InRange, is_in_range}
+use Rattle.clock.specs.Clock.{InRange}
 use Rattle.machine.specs.State.{state_length}
-use Rattle.machine.specs.Saves.{timed_length}
+use Rattle.machine.specs.Saves.{key_width, timed_length, place_width}
+use Rattle.saves.specs.Places.{kept_part}
 use Rattle.state.specs.Test.{at, is_state}
-use Rattle.state.proofs.Tests.{natural-fits}
-use Rattle.saves.specs.Kept.{besides, is_natural, clock_at, is_clock, is_kept}
-
--- ---- numbers that aren't below 0
-
-not-below : (z : ℤ) → is_natural z ≡ true → lt_z z (pos 0) ≡ false
-unfolding is_natural
-not-below (pos n) e = le-ltb n 0 (omega arith)
-not-below (negsuc n) e = true-not-false (sym e)
-
-pub natural : (z : ℤ) → lt_z z (pos 0) ≡ false → is_natural z ≡ true
-unfolding is_natural
-natural (pos n) e = refl
-natural (negsuc n) e = true-not-false e
-
-pub negative : (z : ℤ) → lt_z z (pos 0) ≡ true → is_natural z ≡ false
-unfolding is_natural
-negative (pos n) e = true-not-false (sym e ∙ le-ltb n 0 (omega arith))
-negative (negsuc n) e = refl
-
-pub natural-cast : (z : ℤ) → mag z < 9223372036854775808 → is_natural z ≡ true → T (non_neg (to_z w64 (of_z w64 z))) × Fits w64 (nat_abs (to_z w64 (of_z w64 z)))
-natural-cast z h e = rw (back z h) (natural-fits z (ok-fits z h) (not-below z e))
-
--- ---- a clock's two numbers
-
-module _ (l : List ℤ) where
-  pub clock-read : mag (at l 0) < 9223372036854775808 → mag (at l 1) < 9223372036854775808
-      → ◌≡◌ {A = Clock} (record { ticks = nat_abs (to_z w64 (of_z w64 (at l 0))); draws = nat_abs (to_z w64 (of_z w64 (at l 1))) }) (clock_at l)
-  clock-read h k = ap₂ (λ (y z : ℤ). record { ticks = nat_abs y; draws = nat_abs z }) (back (at l 0) h) (back (at l 1) k)
-
-  pub ticks-low : is_natural (at l 0) ≡ false → is_clock l ≡ false
-  unfolding is_clock
-  ticks-low e = rw e refl
-
-  pub draws-low : is_natural (at l 0) ≡ true → is_natural (at l 1) ≡ false → is_clock l ≡ false
-  unfolding is_clock
-  draws-low e f = rw (e, f) refl
-
-  pub clock-range : is_natural (at l 0) ≡ true → is_natural (at l 1) ≡ true → is_clock l ≡ is_in_range (clock_at l)
-  unfolding is_clock
-  clock-range e f = rw (e, f) refl
+use Rattle.saves.specs.Kept.{besides, is_clock, is_kept}
 
 -- ---- a state with its clock
 
@@ -71,6 +29,24 @@ module _ (scopes : List ℕ) (channels : ℕ) (l : List ℤ) where
   pub kept-rest : is_state scopes channels (take state_length l) ≡ true → is_kept scopes channels l ≡ is_clock (drop state_length l)
   unfolding is_kept
   kept-rest e = rw e refl
+
+-- the last two numbers
+pub last-two : (l : List ℤ) (n : ℕ) → length l ≡ n + 2 → drop n l ≡ at l n ∷ at l (n + 1) ∷ []
+last-two l n h =
+    drop-cons l n (pos 0) (omega arith)
+    ∙ ap (λ (r : List ℤ). at l n ∷ r)
+    (ap (λ (j : ℕ). drop j l) (sym (add-one n)) ∙ drop-cons l (n + 1) (pos 0) (omega arith) ∙ ap (λ (r : List ℤ). at l (n + 1) ∷ r) (drop_of_length-le l {i = suc (n + 1)} (omega arith)))
+
+-- where a place has them
+module _ (row : List ℤ) (w : length row ≡ place_width) where
+  whole : kept_part row ≡ drop key_width row
+  whole = take_all timed_length (drop key_width row) (simp length-drop (omega arith))
+
+  pub state-there : take state_length (drop key_width row) ≡ take state_length (kept_part row)
+  state-there = ap (take state_length) (sym whole)
+
+  pub clock-there : drop state_length (kept_part row) ≡ at row 5124 ∷ at row 5125 ∷ []
+  clock-there = ap (drop state_length) whole ∙ drop-drop state_length key_width row ∙ last-two row 5124 w
 
 -- the length after the state's numbers, and one more, are written
 pub kept-long : (ks zs xs : List ℤ) (z : ℤ) → length ks ≡ timed_length → length zs ≡ state_length → xs ≡ take state_length zs ++ drop state_length ks → 5123 < length (set xs 5122 z)

@@ -1,7 +1,7 @@
 -- What the loops over letters, words and places say at each turn, and each case of the other functions: from the definitions.
 use mathlib.Core.Path.{◌≡◌, refl, sym, ap, ap₂, ◌∙◌}
 use mathlib.Core.Bool.{Bool, true, false, cond, not, ◌&&◌}
-use mathlib.Core.List.{List, [], ◌∷◌, ◌++◌}
+use mathlib.Core.List.{List, [], ◌∷◌, ◌++◌, append_assoc}
 use Prim.Native.Nat.{ℕ, zero, suc, ◌+◌, ◌-◌, ◌*◌, ◌/◌, ◌%◌, ◌≤◌, ◌<◌, ◌^◌}
 use native.Mathlib.Nat.{pow-suc}
 use native.Mathlib.Omega.{arith}
@@ -10,45 +10,35 @@ use borrow.Rule.Slice.PartMut.{put_mid}
 use lib.Dec.{eqb, leb, ltb, leb-suc-suc}
 use lib.IntN.{ℤ, pos, negsuc, nat_abs}
 use lib.Signed.{lt_z}
-use lib.ListN.{length, get_or, set, take, drop, replicate, drop_of_length-le, length-take, length-drop, length-append}
+use lib.ListN.{length, get_or, take, drop, replicate, drop_of_length-le, length-take, length-drop}
 use native.Mathlib.Numerals.{add-one}
-use lib.Seq.{take_all, take_at, take-nil, drop-cons, drop-drop}
+use lib.Seq.{take_all, take-nil, drop-cons, drop-drop}
 use mir.Syntax.{w64}
 use mir.Val.{to_z}
 use mir.Facts.{to_z_pos}
 use Rattle.value.specs.Arithmetic.{is_same}
-use Rattle.value.proofs.Kit.{true-not-false, back}
+use Rattle.value.proofs.Kit.{true-not-false}
 use Rattle.word.specs.Name.{longest, word_bytes, pack, Name, name_of}
 use Rattle.machine.specs.Saves.{is_letter, is_name, first_of, save_limit, key_width, timed_length, place_width, saves_length}
-use Rattle.state.specs.Test.{every, rows, at, is_zero}
+use Rattle.state.specs.Test.{every, at, is_zero}
 use Rattle.state.proofs.Tests.{both}
 use Rattle.saves.specs.Keys.{is_word, is_second, is_key, is_key_of, full_word, low_of, high_of, key_numbers}
 use Rattle.saves.specs.Kept.{is_kept}
 use Rattle.saves.specs.Places.{has_key, is_place, is_once, are_once, places_of, is_saves, kept_part}
 use Rattle.std.specs.Prelude.{Option, None, Some, Ok, Err, is_some}
+use Rattle.std.specs.Char.{is_ascii_alphabetic}
 use Rattle.std.specs.Option.{ok_or}
 use Rattle.std.specs.List.{position_or_len}
-use Rattle.saves.specs.Change.{below, key_of, place_with, no_key, place_to_take, row_at, with_row, saving_numbers, returning_numbers, forgetting_numbers, Stores}
+use Rattle.std.proofs.lemmas.Slice.{take-put_mid, drop-put_mid}
+use Rattle.saves.specs.Change.{below, key_of, place_with, place_to_take, row_at, with_row, saving_numbers, returning_numbers, forgetting_numbers, Stores}
 use Rattle.saves.proofs.Names.{letters_every, letter-is, name-is, every_take, every_drop}
 
 -- ---- letters
 
-module _ (b : ℕ) where
-  pub letter-low : b < 65 → is_letter b ≡ false
-  unfolding is_letter
-  letter-low h = rw (lt-leb 65 b h, lt-leb 97 b (omega arith))
-
-  pub letter-capital : 65 ≤ b → b ≤ 90 → is_letter b ≡ true
-  unfolding is_letter
-  letter-capital h k = rw (le-leb 65 b h, le-leb b 90 k)
-
-  pub letter-between : 90 < b → b < 97 → is_letter b ≡ false
-  unfolding is_letter
-  letter-between h k = rw (le-leb 65 b (omega arith), lt-leb b 90 h, lt-leb 97 b k)
-
-  pub letter-small : 97 ≤ b → is_letter b ≡ leb b 122
-  unfolding is_letter
-  letter-small h = rw (le-leb 65 b (omega arith), lt-leb b 90 (omega arith), le-leb 97 b h)
+-- the library's letters are a name's
+pub alphabetic : (b : ℕ) → is_ascii_alphabetic b ≡ is_letter b
+unfolding is_letter
+alphabetic b = refl
 
 -- ---- words
 
@@ -389,16 +379,25 @@ module _ (n : List ℕ) (zs ss : List ℤ) where
         unfolding saving_numbers
         save-full h = rw (e, place_is, le-ltb i save_limit h) (record { number = refl; kept = refl; saves = refl })
 
-        pub save-put : i < save_limit → (row : List ℤ) → row ≡ key ++ zs → (m : ℕ) → m ≡ place_width → Stores (saving_numbers n zs ss) 0 zs (put_mid (i * place_width) m ss row)
+        pub save-put : i < save_limit → length ss ≡ saves_length → (ks xs : List ℤ) → ks ≡ key → xs ≡ zs → (m w : ℕ) → m ≡ key_width → w ≡ timed_length
+            → Stores (saving_numbers n zs ss) 0 zs (put_mid (i * place_width + key_width) w (put_mid (i * place_width) m ss ks) xs)
         unfolding saving_numbers with_row
-        save-put h row r m w =
+        save-put h l ks xs k x m w u v =
+            let a = i * place_width in
+            let key = key_numbers n in
+            let t : ks ≡ key = k ∙ q in
+            let two : length ks ≡ key_width = ap length t in
             rw (e, place_is, lt-ltb i save_limit h)
             (record {
               number = refl;
               kept = refl;
               saves =
-                  ap₂ (λ (l : List ℤ) (k : ℕ). take (i * place_width) ss ++ (l ++ drop k (drop (i * place_width) ss))) (r ∙ ap (λ (k : List ℤ). k ++ zs) q) w
-                  ∙ ap (λ (l : List ℤ). take (i * place_width) ss ++ ((key_numbers n ++ zs) ++ l)) (drop-drop place_width (i * place_width) ss);
+                  ap₂ (λ (l r : List ℤ). l ++ (xs ++ drop w r)) (take-put_mid a m ss ks (a + key_width) (omega (arith, two)) (omega arith)) (drop-put_mid a m ss ks (a + key_width) (omega arith) (omega arith) (omega (arith, two)))
+                  ∙ ap₂ (λ (l r : List ℤ). (take a ss ++ l) ++ (r ++ drop w (drop (a + key_width) ss))) t x
+                  ∙ ap (λ (j : ℕ). (take a ss ++ key) ++ (zs ++ drop j (drop (a + key_width) ss))) v
+                  ∙ ap (λ (r : List ℤ). (take a ss ++ key) ++ (zs ++ r)) (drop-drop timed_length (a + key_width) ss ∙ ap (λ (j : ℕ). drop j ss) (omega arith))
+                  ∙ append_assoc (take a ss) key (zs ++ drop (a + place_width) ss)
+                  ∙ ap (λ (r : List ℤ). take a ss ++ r) (sym (append_assoc key zs (drop (a + place_width) ss)));
             })
 
       module _ (f : i ≡ place_with key ss) where

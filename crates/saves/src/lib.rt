@@ -1,16 +1,15 @@
 #![tactic(auto)]
 
 // The buffer of the saves: names as two numbers, a state with its clock, the exact test of question 11, and what a save, a return and a forget write.
-ghost use Rattle.std.specs.Prelude.{◌≡◌, true, List, ◌++◌, ◌+◌, ◌*◌, ◌≤◌, ◌<◌, ℤ, length, take, drop, IfSome};
+ghost use Rattle.std.specs.Prelude.{◌≡◌, true, List, [], ◌∷◌, ◌+◌, ◌*◌, ◌<◌, ℤ, length, IfSome};
 ghost use Rattle.word.specs.Name.{word_bytes};
 ghost use Rattle.clock.specs.Clock.{InRange};
 ghost use Rattle.machine.specs.State.{state_length};
-ghost use Rattle.machine.specs.Timed.{clock_length};
-ghost use Rattle.machine.specs.Saves.{is_letter, is_name, save_limit, first_of, key_width, timed_length, place_width, saves_length};
-ghost use Rattle.state.specs.Test.{every, rows, at};
+ghost use Rattle.machine.specs.Saves.{is_letter, is_name, save_limit, first_of, saves_length};
+ghost use Rattle.state.specs.Test.{every};
 ghost use Rattle.saves.specs.Keys.{is_word, is_key, is_key_of};
 ghost use Rattle.saves.specs.Kept.{besides, is_natural, clock_at, is_clock, is_kept};
-ghost use Rattle.saves.specs.Places.{has_key, is_place, is_once, are_once, places_of, is_saves};
+ghost use Rattle.saves.specs.Places.{kept_part, has_key, is_place, is_once, are_once, places_of, is_saves};
 ghost use Rattle.saves.specs.Change.{below, key_of, place_to_take, refusal_number, number_of, saving_numbers, returning_numbers, forgetting_numbers, Stores};
 
 use clock::Clock;
@@ -27,7 +26,9 @@ impl Layout {
 
     pub const KEPT: usize = Layout::STATE + 2;
 
-    // Numbers of a place.
+    // Where a place's clock stands, after the name and the state; numbers of a place.
+    pub const CLOCK: usize = Layout::KEY + Layout::STATE;
+
     pub const PLACE: usize = Layout::KEY + Layout::KEPT;
 
     // Places, and the numbers of all.
@@ -41,13 +42,6 @@ impl Layout {
 
 // ---- names
 
-#[tactic(auto, unfolding(machine::specs::Saves::is_letter))]
-fn is_letter(b: u64) -> bool
-    ensures { result ≡ is_letter b }
-{
-    matches!(b, 65..=90 | 97..=122)
-}
-
 // Whether a number is up to eight letters. They are taken off as the definition takes them: of `to_le_bytes` the letters would be tested first, and the rest for zeros. The loop's number is the proof's: its invariant counts the letters that are off.
 fn is_word(word: u64) -> bool
     ensures { result ≡ is_word word_bytes word }
@@ -57,7 +51,7 @@ fn is_word(word: u64) -> bool
         if w == 0 {
             return true;
         }
-        if !is_letter(w % 256) {
+        if !((w % 256) as u8).is_ascii_alphabetic() {
             return false;
         }
         w /= 256;
@@ -83,7 +77,7 @@ fn is_key(low: i64, high: i64) -> bool
 fn all_letters(s: &[u8]) -> bool
     ensures { result ≡ every is_letter s.now }
 {
-    s.iter().all(|&b| is_letter(u64::from(b)))
+    s.iter().all(u8::is_ascii_alphabetic)
 }
 
 #[tactic(auto, using(crate::proofs::Names::letters_every), unfolding(machine::specs::Saves::is_name))]
@@ -138,22 +132,20 @@ pub fn place_for(saves: &[i64], key: &[i64; Layout::KEY]) -> Option<usize>
     ensures within { IfSome result (λ i. i < save_limit) }
 {
     let places = places_in(saves);
-    if let Some(at) = find_place(places, key) {
-        return Some(at);
-    }
-    find_place(places, &[0; Layout::KEY])
+    find_place(places, key).or(find_place(places, &[0; Layout::KEY]))
 }
 
 // ---- a state with its clock
 
 // The clock of two numbers that aren't below 0. Numbers of a state, which are signed: script's clocks have words.
-pub fn clock_at(clock: &[i64]) -> Clock
-    requires { (length clock.now ≡ clock_length) × (is_natural (at clock.now 0) ≡ true) × (is_natural (at clock.now 1) ≡ true) }
-    ensures { result ≡ clock_at clock.now }
+#[tactic(auto, unfolding(crate::specs::Kept::is_natural))]
+pub fn clock_at(ticks: i64, draws: i64) -> Clock
+    requires { (is_natural ticks ≡ true) × (is_natural draws ≡ true) }
+    ensures { result ≡ clock_at (ticks ∷ draws ∷ []) }
 {
     Clock {
-        ticks: clock[0] as u64,
-        draws: clock[1] as u64,
+        ticks: ticks as u64,
+        draws: draws as u64,
     }
 }
 
@@ -170,26 +162,19 @@ pub fn put_kept(kept: &mut [i64; Layout::KEPT], state: &[i64], clock: Clock)
 // ---- question 11
 
 // Whether two numbers are a clock's.
-fn is_clock(clock: &[i64]) -> bool
-    requires { length clock.now ≡ clock_length }
-    ensures { result ≡ is_clock clock.now }
+#[tactic(auto, unfolding(crate::specs::Kept::is_clock, crate::specs::Kept::is_natural))]
+fn is_clock(ticks: i64, draws: i64) -> bool
+    ensures { result ≡ is_clock (ticks ∷ draws ∷ []) }
 {
-    if clock[0] < 0 {
-        return false;
-    }
-    if clock[1] < 0 {
-        return false;
-    }
-    clock::in_range(clock_at(clock))
+    0 <= ticks && (0 <= draws && clock::in_range(clock_at(ticks, draws)))
 }
 
-// Whether numbers are those of a state over the sums with these scopes and so many channel names, and of a clock.
-#[tactic(auto, unfolding(crate::specs::Kept::is_kept))]
-fn is_kept(kept: &[i64], shape: Shape) -> bool
-    requires { length kept.now ≡ timed_length }
-    ensures { result ≡ is_kept shape.entry.scopes.now shape.entry.channels kept.now }
+// Whether a place's numbers after the name are those of a state over the sums with these scopes and so many channel names, and of a clock.
+fn is_kept(row: &[i64; Layout::PLACE], shape: Shape) -> bool
+    ensures { result ≡ is_kept shape.entry.scopes.now shape.entry.channels (kept_part row.now) }
 {
-    state::is_state(&kept[..Layout::STATE], shape) && is_clock(&kept[Layout::STATE..])
+    state::is_state(&row[Layout::KEY..Layout::CLOCK], shape)
+        && is_clock(row[Layout::CLOCK], row[Layout::CLOCK + 1])
 }
 
 // Whether a place is empty, or has a name, and a state and a clock.
@@ -200,7 +185,7 @@ fn is_place(row: &[i64; Layout::PLACE], shape: Shape) -> bool
     if row[0] == 0 {
         return state::all_zero(row);
     }
-    is_key(row[0], row[1]) && is_kept(&row[Layout::KEY..Layout::PLACE], shape)
+    is_key(row[0], row[1]) && is_kept(row, shape)
 }
 
 // Whether none of the later places has a place's name.
@@ -237,16 +222,6 @@ pub fn is_saves(saves: &[i64], shape: Shape) -> bool
 
 // ---- save, return, forget
 
-// Writes a name's numbers and what is kept under it into a place.
-fn put_place(place: &mut [i64], key: &[i64; Layout::KEY], kept: &[i64; Layout::KEPT])
-    requires { length place.old ≡ place_width }
-    ensures { place.new ≡ key.now ++ kept.now }
-{
-    let (first, rest) = place.split_at_mut(Layout::KEY);
-    first.copy_from_slice(key);
-    rest.copy_from_slice(kept);
-}
-
 // Why a save, a return or a forget is refused: no name, nothing saved under it, no place left.
 #[derive(Clone, Copy)]
 pub enum Refusal {
@@ -275,8 +250,9 @@ pub fn save(saves: &mut [i64], kept: &[i64; Layout::KEPT], name: &[u8]) -> Resul
     let key = key_of(name).ok_or(Refusal::NotAName)?;
     let at = place_for(&saves[..], &key).ok_or(Refusal::Full)?;
     let from = at * Layout::PLACE;
-    let to = from + Layout::PLACE;
-    put_place(&mut saves[from..to], &key, kept);
+    let middle = from + Layout::KEY;
+    saves[from..middle].copy_from_slice(&key);
+    saves[middle..middle + Layout::KEPT].copy_from_slice(kept);
     Ok(())
 }
 

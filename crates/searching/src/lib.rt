@@ -8,10 +8,10 @@ ghost use Rattle.model.specs.Held.{held};
 ghost use Rattle.runs.specs.Tree as tree;
 ghost use Rattle.search.specs.Walks.{Answered};
 ghost use Rattle.machine.specs.State.{state_length};
-ghost use Rattle.machine.specs.Machine.{depth_limit, is_depth, search'};
+ghost use Rattle.machine.specs.Machine.{is_depth, search'};
 ghost use Rattle.buffers.specs.Parts.{lent_two};
 ghost use Rattle.buffers.specs.Effect.{requested};
-ghost use Rattle.searching.specs.Run.{entries_of, bare, GivesRun, result_of};
+ghost use Rattle.searching.specs.Run.{bare, GivesRun, result_of};
 ghost use Rattle.searching.specs.Lent.{Lends};
 
 use opening::Space;

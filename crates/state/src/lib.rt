@@ -1,7 +1,7 @@
 #![tactic(auto)]
 
 // The numbers of a state.
-ghost use Rattle.std.specs.Prelude.{◌≡◌, ◌+◌, ◌-◌, ◌*◌, ◌≤◌, ◌<◌, true, false, ◌++◌, ℤ, pos, nat_abs, length, set, take, drop, replicate};
+ghost use Rattle.std.specs.Prelude.{◌≡◌, ◌+◌, ◌-◌, ◌*◌, ◌≤◌, ◌<◌, true, false, ◌++◌, pos, nat_abs, length, set, take, drop, replicate};
 ghost use Rattle.model.specs.Limits.{local_limit};
 ghost use Rattle.model.specs.Opening.{process_limit};
 ghost use Rattle.model.specs.Scope.{locals_in, definition_in};

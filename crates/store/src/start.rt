@@ -89,8 +89,8 @@ fn put_wholes(nodes: &[u64], k: usize, values: &mut [i64], at: usize)
 }
 
 // Writes the values of the item at k.
-fn put_values(nodes: &[u64], k: usize, values: &mut [i64])
-    requires { (length values.old ≡ local_limit) × ((s : Resolved.Start) × (Represents.Start nodes.now s k) × (Every InRange s.values) × (length s.values ≤ local_limit)) }
+fn put_values(nodes: &[u64], k: usize, values: &mut [i64; Locals::MOST])
+    requires { (s : Resolved.Start) × (Represents.Start nodes.now s k) × (Every InRange s.values) × (length s.values ≤ local_limit) }
     ensures { (s : Resolved.Start) → Represents.Start nodes.now s k → take (third_of (get_or nodes.now k 0)) values.new ≡ s.values }
 {
     if tree::kind_of(eval::cell_at(nodes, k)) == NodeKind::START_WITH {
@@ -125,8 +125,8 @@ fn push_items(tables: Tables, k: usize, state: &mut [i64])
     push_items(tables, k - 1, state);
 }
 
-// Writes the opened state over a cleared one. The line is found as in eval's `body_of`, which goes on to the body of a definition: the place after the last is that of the
-// system line.
+// Writes the opened state over a cleared one. The system line stands at the place after the last definition's. The two subtractions are eval's `body_of`'s too, and have
+// no function of their own: its contract could say nothing but its body.
 pub fn open_state(tables: Tables, definitions: usize, state: &mut [i64])
     requires { (state.old ≡ replicate state_length (pos 0)) × ((m : Resolved.Model) × Start.Opens tables.nodes.now tables.scopes.now tables.root tables.variables definitions m) }
     ensures { (m : Resolved.Model) → Start.Opens tables.entry.nodes.now tables.entry.scopes.now tables.entry.root tables.entry.variables definitions m → state.new ≡ state_numbers (opened_state m) }

@@ -1,5 +1,4 @@
 use mathlib.Core.Path.{refl, sym, ◌∙◌}
-use mathlib.Core.List.{[]}
 use native.Mathlib.Omega.{arith}
 use Rattle.saves.proofs.Laws.{once-fail, once-on, once-done, later-part}
 use Rattle.saves.proofs.are_once.Goals as goal

@@ -2,11 +2,10 @@
 use mathlib.Core.Path.{refl, sym, ap₂, ◌∙◌}
 use Prim.Native.Nat.{◌+◌, ◌-◌, ◌*◌, ℕ}
 use native.Mathlib.Omega.{arith}
-use Rattle.std.specs.Result.{result_ok}
 use Rattle.std.proofs.lemmas.Result.{err_from_is_err_and}
 use mathlib.Core.List.{List}
 use lib.IntN.{ℤ}
-use Rattle.machine.specs.Saves.{first_of, save_limit, key_width, timed_length, place_width}
+use Rattle.machine.specs.Saves.{first_of, save_limit, place_width}
 use Rattle.saves.specs.Places.{has_key}
 use Rattle.saves.specs.Change.{below}
 use Rattle.saves.proofs.Laws.{ok-none, ok-some, below-none, below-some, forget-unnamed, forget-unknown, forget-put}

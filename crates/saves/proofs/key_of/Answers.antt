@@ -1,6 +1,5 @@
 -- A name's words, each of which fits.
 use mathlib.Core.Path.{sym, ◌∙◌}
-use mathlib.Core.Bool.{true}
 use Rattle.state.proofs.Tests.{refused, passed}
 use Rattle.saves.proofs.Laws.{no-key, no-words, low-fits, high-fits, key-words}
 use Rattle.saves.proofs.key_of.Goals as goal

@@ -1,10 +1,8 @@
 -- Each answer is a case of the definition; the row of the place is replaced.
-use mathlib.Core.Path.{refl, sym, ap, ◌∙◌}
-use Prim.Native.Nat.{◌+◌, ◌-◌, ◌*◌, ℕ}
+use mathlib.Core.Path.{refl, sym, ◌∙◌}
 use native.Mathlib.Omega.{arith}
-use Rattle.std.specs.Result.{result_ok}
 use Rattle.std.proofs.lemmas.Result.{err_from_is_err_and}
-use Rattle.machine.specs.Saves.{save_limit, place_width}
+use Rattle.machine.specs.Saves.{save_limit}
 use Rattle.saves.proofs.Laws.{ok-none, ok-some, below-none, below-some, save-unnamed, save-full, save-put}
 use Rattle.saves.proofs.save.Goals as goal
 
@@ -24,4 +22,4 @@ pub returns : goal.returns
 returns c =
     let b = below-some save_limit _ _ (ok-some _ _ _ (sym c.ok_or-2.ensures.value ∙ c.in_ok-at.was) ∙ c.place_for.ensures.place) in
     let at = c.in_ok-at.at in
-    save-put c.args.name.now c.args.kept.now c.args.saves.now _ (ok-some _ _ _ (sym c.ok_or.ensures.value ∙ c.in_ok-key.was) ∙ c.key_of.ensures) at b.0 b.1 c.put_place.new.place c.put_place.ensures (at * place_width + place_width - at * place_width) (omega arith)
+    save-put c.args.name.now c.args.kept.now c.args.saves.now _ (ok-some _ _ _ (sym c.ok_or.ensures.value ∙ c.in_ok-key.was) ∙ c.key_of.ensures) at b.0 b.1 c.requires _ _ c.copy_from_slice.ensures.after c.copy_from_slice-2.ensures.after _ _ (omega arith) (omega arith)

@@ -1,5 +1,5 @@
 -- `engine::start::push_item` meets its contract: the definition's sums, with the item's values, as often as it counts.
-use mathlib.Core.Path.{refl, ap, ◌∙◌}
+use mathlib.Core.Path.{ap, ◌∙◌}
 use Prim.Native.Nat.{ℕ, ◌-◌}
 use native.Mathlib.Omega.{arith}
 use lib.ListN.{get_or, length-take}
@@ -26,7 +26,7 @@ put_values-requires c =
     let N = c.args.tables.variables in
     let l = few-values T R N k S c.requires.model c.requires.start c.requires.holds c.requires.items.good (item-good c.requires) in
     let q = item-third T k c.requires.start c.requires.holds in
-    (refl, (c.requires.start, c.requires.holds, (item-good c.requires).values, l))
+    (c.requires.start, c.requires.holds, (item-good c.requires).values, l)
 
 pub slice_bounds-values-end : goal.slice_bounds-values-end
 slice_bounds-values-end c =

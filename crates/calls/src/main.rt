@@ -2,7 +2,7 @@
 
 // Runs a script of calls from standard input, or from each file that an argument names, after a line `== NAME`. Each script has a fresh engine.
 //
-// A script has lines `open N`, which a text of N bytes and an LF follow, `list`, `step D`, `report`, `save NAME`, `return NAME`, `forget NAME`, `independent I J`, `state`, `wait W`, `time D`,
+// A script has lines `open N` and `steady N`, which a text of N bytes and an LF follow, `list`, `step D`, `report`, `save NAME`, `return NAME`, `forget NAME`, `independent I J`, `state`, `wait W`, `time D`,
 // `clock`, `seek D NAME`, `word U` and `run N`. N, D, I, J, U and W are decimal digits alone, below 2^64, W below 65,536, leading zeros or not, each after a single blank; NAME is all bytes after the blank, perhaps none. Every line
 // ends with an LF, also the last. Lines are counted from 1 by their LFs, those within texts too.
 //
@@ -13,8 +13,8 @@
 // `word U` prints nothing: it puts a word after those so far. `run N` is a run of at most N steps with these words and waiting draws, up to 4,096 of each, after which there are none, and room for 1,024 events:
 // it prints its number, the steps, words and waiting draws that it used, the count and the total of its last listing, then the eight numbers of each event on a line of its own, after two blanks.
 // `seek D NAME`, D being one digit, searches to the depth D for the wait NAME, and prints its number, the run's length and eight entry numbers.
-// A line of another form prints `bad,LINE` and ends the script; so does `open N` whose text is cut short or has no LF after it. Nothing is called for it.
-// The argument `rows` names no file: it runs the rows of rows.rt, of right lengths and of wrong ones, by one call of script::run, and prints how many were run, the answers, the first numbers of the outputs and the clock.
+// A line of another form prints `bad,LINE` and ends the script; so does `open N` or `steady N` whose text is cut short or has no LF after it. Nothing is called for it.
+// The argument `rows` names no file: it runs the rows of rows.rt, of right lengths and of wrong ones, by script::run, all but a last one by one call, and prints how many were run, the answers, the first numbers of the outputs and the clock.
 // A text is lent to open up to 16,385 bytes, a name up to 19: as many are too many already, so the bytes after them change no answer.
 mod rows;
 

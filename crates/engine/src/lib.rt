@@ -1,6 +1,6 @@
 #![tactic(auto)]
 
-// An engine: its calls open, open_steady, list, step, step_timed, run, report, save, return and forget, and what they answer. `searches` has search.
+// An engine: its calls open, open_steady, list, step, step_timed, run, report, save, return_to and forget, and, in searches, search; and what they answer.
 pub mod held;
 pub mod listings;
 pub mod queries;

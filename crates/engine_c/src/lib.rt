@@ -1,6 +1,7 @@
 #![tactic(auto)]
 
-// The engine's calls as C makes them (include/matgravel.h). Each is engine's call of that name, with the same contract; where a clock is lent, it goes to the call by value and is written back.
+// The engine's calls as C makes them (include/matgravel.h). Each is engine's call of that name, with the same contract, but for three: timed_step is step_timed, return is return_to, and independent is independence's, as a number.
+// Where a call moves a clock that it is lent, the clock goes to engine's by value and is written back.
 ghost use Rattle.std.specs.Prelude.{◌≡◌, cond, [], length};
 ghost use Rattle.machine.specs.Machine.{list', step', report', timed', run', save', return', forget', open', open_steady', search', on'};
 ghost use Rattle.buffers.specs.Parts.{lent_two, lent_three, lent_timed, lent_all};

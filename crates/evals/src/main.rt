@@ -13,7 +13,7 @@ use std::io;
 use tree::NodeKind;
 use value::Range;
 
-// The cell of n. As settle's, which is private: these are specimens.
+// The cell of n. Not settle's, which takes a sign beside the value and is of no other use here.
 fn number_cell(kind: u8, n: u64) -> u64
     requires { n < offset }
     ensures { result ≡ number_cell kind (pos n) }

@@ -29,7 +29,7 @@ pub enum Line {
     Run(u64),
 }
 
-// What stands after a line's first five bytes; `T` is the last byte of `report`.
+// What stands after a line's first bytes, which are four, five or seven (Reading); `T` is the last byte of `report`.
 // `Other`, not an Option of the rest: a line is read on to its end whatever stands in it, so that each byte would take the Option apart and make it again.
 #[derive(Clone, Copy)]
 pub enum Rest {
@@ -168,7 +168,7 @@ fn number_if(right: bool, rest: Rest) -> Option<u64>
     if right { rest.number() } else { None }
 }
 
-// A digit and a blank after the first five bytes. The two bounds by ifs, one after the other, as the definition asks for them.
+// A digit and a blank after the first five bytes.
 fn seek_line(after: u64, kept: u64) -> Option<Line>
     ensures { result ≡ sought_by after kept }
 {
@@ -176,13 +176,10 @@ fn seek_line(after: u64, kept: u64) -> Option<Line>
         return None;
     }
     let digit = after / 256;
-    if digit < Head::ZERO {
-        return None;
+    match digit {
+        Head::ZERO..=Head::NINE => Some(Line::Search(digit - Head::ZERO, kept)),
+        _ => None,
     }
-    if Head::NINE < digit {
-        return None;
-    }
-    Some(Line::Search(digit - Head::ZERO, kept))
 }
 
 // The two bytes after the first five, with one more byte.
@@ -195,7 +192,7 @@ fn next_after(after: u64, b: u8) -> u64
     after
 }
 
-// A rest with one more byte, if the bytes before it are all read: a number of them below `least` says that they aren't.
+// A rest with one more byte, once the bytes before it are there: `read`, which has those so far after a 1, is then `least` or more.
 fn next_rest(read: u64, least: u64, rest: Rest, b: u8) -> Rest
     ensures { result ≡ cond (nat_lt read least) rest (rest_next rest b) }
 {

@@ -59,6 +59,7 @@ impl ByteByByte for Two {
             Two::Word(n) => first_digit(n, d),
             Two::First(v) => bytes::grow(v, d).map_or(Two::Other, Two::First),
             Two::Gap(v) => Two::Both(v, d),
+            // By a match: a closure for `map_or` would capture v, and too little is told of what it gives.
             Two::Both(v, w) => match bytes::grow(w, d) {
                 Some(w) => Two::Both(v, w),
                 None => Two::Other,

@@ -376,7 +376,8 @@ fn run_row(
     true
 }
 
-// Runs row i of a script, if it is a call.
+// Runs row i of a script, if it is a call. Its parts are cut here, all three alike, and not by chunks: a row past the end of the outputs may still be a call, which is lent none of them,
+// and `chunks_mut` has no part for such a row.
 fn run_at(
     i: usize,
     script: &[u64],

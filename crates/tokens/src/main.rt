@@ -29,6 +29,7 @@ fn put_tokens(rt: &impl Print, text: &[u8]) -> io::Result<()>
     let mut places = [0u16; Limits::TEXT];
     let mut sizes = [0u16; Limits::TEXT];
     let n = token::fill(text, &mut kinds, &mut places, &mut sizes);
+    // By index, as token's `contents`: what is known of a token's place and size is told by its number.
     for i in 0..n {
         let at = usize::from(places[i]);
         let end = at + usize::from(sizes[i]);

@@ -173,7 +173,7 @@ module _ (bs : List ℕ) (zs : List ℤ) (c : Clock) (ds : List ℕ) (d : ℕ) (
       stepped-gives r ys h =
           let k = carries m f.state c f.entries f.counted.listing.listed ds d in
           let z : requested (timed' ds d) x l (some m) ≡ leaves timed_parts x l (turn (holding (held_at m T.machine.state T.machine.clock)) T.answer)
-              = turned m f.state (f.holds bs) ∙ unfold choosing in ap (λ (v : Listed). let u = steps_in c ds f.state (choosing m f.state d v) in leaves timed_parts x l (turn (holding (held_at m u.machine.state u.machine.clock)) u.answer)) f.counted.listing.listed in
+          = turned m f.state (f.holds bs) ∙ unfold choosing in ap (λ (v : Listed). let u = steps_in c ds f.state (choosing m f.state d v) in leaves timed_parts x l (turn (holding (held_at m u.machine.state u.machine.clock)) u.answer)) f.counted.listing.listed in
           rw (z, h.clock) (gives-turn m T (filled (number_of r) count sum (entry_of r)) ys b h.number (sym k.place) (sym k.branch) (f.counted.count-is ∙ sym k.count) (f.counted.sum_is ∙ sym k.total) h.chosen h.state
           (f.filled ∙ filled-numbers f.entries ∙ ap (λ (x : machine.Shown). shown x l) (sym k.listing)))
 

@@ -191,6 +191,8 @@ fn seek(
 // ---- the search
 
 // The length of the first run to the wait from the first state, by length.
+// The loop of try_all, over lengths. Tried as one function for both, which takes as a closure what is tried next: after it nothing is known of what the closure writes, as of states,
+// listings and run here.
 fn search_from(
     search: Search,
     states: &mut [[i64; Level::STATE]],

@@ -263,8 +263,8 @@ fn are_long(model: usize, state: usize, output: usize, right: usize) -> bool
     simulation::are_parts_long(model, state) && output == right
 }
 
-// Question 1 of the model, the state and the saves. Past it they stay slices under clauses of their lengths, here and in held.rt, each lent by itself: what is written
-// through an array made of a lent slice isn't known of the slice, and a struct of `&mut` slices would lose it.
+// Question 1 of the model, the state and the saves. Past it they stay slices under clauses of their lengths, here and in held.rt, each lent by itself: `first_chunk_mut`,
+// which alone leaves known what is written through an array made of a slice, would ask the length again, with a None that can't be; a struct of `&mut` slices would lose it.
 fn are_all_long(model: usize, state: usize, saves: usize) -> bool
     ensures { result ≡ are_all_long model state saves }
 {

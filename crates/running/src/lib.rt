@@ -229,7 +229,7 @@ pub fn take_timed(
     take_waiting(read, state, fresh, c, listed.total)
 }
 
-// Writes an event: the ticks, and entry c of the listing. A slice and a step: what is written through an array made of a part of a slice isn't known of the slice.
+// Writes an event: the ticks, and entry c of the listing. A slice and a step: an array of the event's part would come by `first_chunk_mut`, with a None that can't be.
 fn put_event(events: &mut [u64], step: usize, ticks: u64, listing: &[u64], c: usize)
     requires { (step * event_width + event_width ≤ length events.old) × (c * entry_width + entry_width ≤ length listing.now) }
     ensures { events.new ≡ written events.old step ticks (entry_in listing.now c) }

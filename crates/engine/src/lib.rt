@@ -264,7 +264,8 @@ fn are_long(model: usize, state: usize, output: usize, right: usize) -> bool
 }
 
 // Question 1 of the model, the state and the saves. Past it they stay slices under clauses of their lengths, here and in held.rt, each lent by itself: `first_chunk_mut`,
-// which alone leaves known what is written through an array made of a slice, would ask the length again, with a None that can't be; a struct of `&mut` slices would lose it.
+// which alone leaves known what is written through an array made of a slice, would be an unwrap with its proof in each call, to save one clause; a struct of `&mut` slices
+// would lose what is written.
 fn are_all_long(model: usize, state: usize, saves: usize) -> bool
     ensures { result ≡ are_all_long model state saves }
 {
@@ -348,7 +349,7 @@ pub fn step(model: &[u8], state: &mut [i64], listing: &mut [u64], draw: u64) -> 
     Answer::from(step_lent(model, state, listing, draw))
 }
 
-// Timed steps over buffers of the right lengths, with a clock in its range.
+// A timed step over buffers of the right lengths, with a clock in its range.
 fn timed_lent(
     model: &[u8],
     state: &mut [i64],

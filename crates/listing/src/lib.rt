@@ -191,8 +191,8 @@ impl From<[u64; Limits::ENTRY]> for Entry {
 }
 
 // One entry more: written if the buffer has room, and counted to one past its last. The buffer is a slice here and below, its length a clause: callers lend
-// parts of larger buffers, and `first_chunk_mut`, which alone leaves known what is written through an array made of a slice, has a None that can't be and would
-// have to be answered. The count goes in and out beside it, its bound a clause each time: what is written through a struct that holds the slice isn't known of it.
+// parts of larger buffers, and `first_chunk_mut`, which alone leaves known what is written through an array made of a slice, would be an unwrap with its proof
+// wherever one is lent, to save one clause. The count goes in and out beside it, its bound a clause each time: what is written through a struct that holds the slice isn't known of it.
 pub fn append(listing: &mut [u64], count: usize, e: Entry) -> usize
     requires { (length listing.old ≡ listing_length) × (count ≤ suc entry_limit) }
     ensures { Adds (entry_of e ∷ []) listing.old count listing.new result }

@@ -43,7 +43,7 @@ impl<'a> NameList<'a> {
         (0..self.count).find(|&j| crate::same_name(self.contents, k, self.name(j)))
     }
 
-    // The list of its first j names.
+    // The list of its first j names. A struct with a ghost field has no `..` update.
     fn head(self, j: usize) -> NameList<'a>
         requires { j ≤ self.count }
         ensures { (result.contents ≡ self.entry.contents) × (result.nodes ≡ self.entry.nodes) × (result.first ≡ self.entry.first) × (result.count ≡ j) }

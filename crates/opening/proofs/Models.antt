@@ -33,7 +33,7 @@ use Rattle.settle.specs.declared.Model.{Model}
 use Rattle.settle.specs.Settles.{Settles}
 
 -- ---- 2 to 6
-module _ (text : List ℕ) (t : Tokens) (nodes : List ℕ) {r : Tree} (d : TreeRead text t nodes r) where
+module _ {bytes words : ℕ} (text : List ℕ) (t : Tokens bytes words) (nodes : List ℕ) {r : Tree} (d : TreeRead text t nodes r) where
   pub tree-no : (space : Space) {q : Refusal} → r ≡ Err q → SoundRead text space (Err q)
   unfolding TreeRead SoundRead
   tree-no space e = rw e at d
@@ -43,7 +43,7 @@ module _ (text : List ℕ) (t : Tokens) (nodes : List ℕ) {r : Tree} (d : TreeR
   tree-fits e = rw e at d
 
 -- the tokens have room in their tables
-pub count-fits : {text : List ℕ} {s : Syntax.Model} {t : Tokens} {nodes : List ℕ} {root : ℕ} → FittedIn text s t nodes root → t.count ≤ token_limit
+pub count-fits : {bytes words : ℕ} {text : List ℕ} {s : Syntax.Model} {t : Tokens bytes words} {nodes : List ℕ} {root : ℕ} → FittedIn text s t nodes root → t.count ≤ token_limit
 count-fits f = omega (arith, f.count, f.cut.read.tabled.count, f.cut.read.few)
 
 -- ---- 7 to 9

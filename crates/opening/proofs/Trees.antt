@@ -31,7 +31,7 @@ use Rattle.opening.proofs.Holds.{bytes-none, wrong-none, fits-held}
 use Rattle.opening.proofs.Places.{filled-tokens, filled-placed}
 
 -- ---- 2 to 4
-module _ (text : List ℕ) (t : Table) (nodes : List ℕ) where
+module _ {bytes words : ℕ} (text : List ℕ) (t : Table bytes words) (nodes : List ℕ) where
   pub bytes-no : {j : Result (Unit {0}) Refusal} {r : Refusal} → told j ≡ bytes_judged text → j ≡ Err r → TreeRead text t nodes (Err r)
   unfolding TreeRead
   bytes-no {j} {r} e q =
@@ -81,14 +81,14 @@ module _ {text kinds₀ places₀ sizes₀ : List ℕ} {n : ℕ} {kinds places s
 
     module _ (passed : Ok tt ≡ bytes_judged text) where
       -- 5
-      pub misfit-no : (t : Table) {u : Unfit} {k p : ℕ} → r ≡ Err u → u ≡ Misfit k → p ≡ byte_place text k → TreeRead text t nodes (Err (record { question = Grammar; place = p }))
+      pub misfit-no : {bytes words : ℕ} (t : Table bytes words) {u : Unfit} {k p : ℕ} → r ≡ Err u → u ≡ Misfit k → p ≡ byte_place text k → TreeRead text t nodes (Err (record { question = Grammar; place = p }))
       unfolding TreeRead
       misfit-no t {k = k} q d e =
           let w = goes (q ∙ ap Err d) in
           record { opens = goes-wrong text k (sym passed) w ∙ ap (refused 5) (sym e); holds = wrong-none text k (sym passed) w }
 
       -- 6
-      pub crowded-no : (t : Table) {u : Unfit} {k p : ℕ} → r ≡ Err u → u ≡ Crowded k → p ≡ byte_place text k → TreeRead text t nodes (Err (record { question = Tokens; place = p }))
+      pub crowded-no : {bytes words : ℕ} (t : Table bytes words) {u : Unfit} {k p : ℕ} → r ≡ Err u → u ≡ Crowded k → p ≡ byte_place text k → TreeRead text t nodes (Err (record { question = Tokens; place = p }))
       unfolding TreeRead tree_judged tree_held too_many asked model_in
       crowded-no t {k = k} q d e =
           let b = crowding (q ∙ ap Err d) in
@@ -98,7 +98,7 @@ module _ {text kinds₀ places₀ sizes₀ : List ℕ} {n : ℕ} {kinds places s
             holds = fits-held text b.0.0 (sym passed) b.0.1 ∙ simp (lt-leb (length (tokens text)) token_limit l);
           }
 
-      pub fits-yes : (t : Table) {low high : List ℕ} {root : ℕ} → t.kinds ≡ kinds → t.places ≡ places → t.count ≡ n → token_limit ≤ length nodes → r ≡ Ok root → Told text low high n (lows_in t.contents) (highs_in t.contents) → TreeRead text t nodes (Ok root)
+      pub fits-yes : {bytes words : ℕ} (t : Table bytes words) {low high : List ℕ} {root : ℕ} → t.kinds ≡ kinds → t.places ≡ places → t.count ≡ n → token_limit ≤ length nodes → r ≡ Ok root → Told text low high n (lows_in t.contents) (highs_in t.contents) → TreeRead text t nodes (Ok root)
       unfolding TreeRead
       fits-yes t {low} {high} ks ps c room q o =
           let g = (fitting q).0 in

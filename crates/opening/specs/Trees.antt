@@ -30,7 +30,7 @@ pub record Fitted (text : List ℕ) (s : Syntax.Model) (kinds places : List ℕ)
   pub holds : held text ≡ model_in (tree_held text s)
 
 -- 01, after question 6: the same of the tables of the text's tokens, cut to these
-pub record FittedIn (text : List ℕ) (s : Syntax.Model) (t : Tokens) (nodes : List ℕ) (root : ℕ) : Type 0 where
+pub record FittedIn {bytes words : ℕ} (text : List ℕ) (s : Syntax.Model) (t : Tokens bytes words) (nodes : List ℕ) (root : ℕ) : Type 0 where
   pub count : t.count ≡ length (tokens text)
   pub cut : Fitted text s (take t.count t.kinds) (take t.count t.places) t.contents nodes root
 
@@ -39,6 +39,6 @@ abbrev pub Tree : Type 0
 Tree = Result ℕ Refusal
 
 -- 01, Opening a text, 2 to 6: the first no with its place, or the text's tree
-unfoldable pub TreeRead : (text : List ℕ) → Tokens → (nodes : List ℕ) → Tree → Type 0
+unfoldable pub TreeRead : {bytes words : ℕ} (text : List ℕ) → Tokens bytes words → (nodes : List ℕ) → Tree → Type 0
 TreeRead text t nodes (Err r) = Closed text (question_number r.question) r.place
 TreeRead text t nodes (Ok root) = (s : Syntax.Model) × FittedIn text s t nodes root

@@ -37,29 +37,29 @@ impl Limits {
 // The most tokens of a text, and nodes of its tree.
 pub const TOKENS: usize = question::Limits::TOKENS;
 
-// The tables of a text's tokens, and how many they are.
+// The tables of a text's tokens, with room for a text of so many bytes and contents of so many tokens, and how many they are.
 // They are its own, and no lent slices: what is written through a struct of those is lost to the check.
 #[derive(Drop)]
-pub struct Tokens {
-    pub kinds: [u8; token::Limits::TEXT],
-    pub places: [u16; token::Limits::TEXT],
-    pub sizes: [u16; token::Limits::TEXT],
-    pub contents: [Content; TOKENS],
+pub struct Tokens<const BYTES: usize, const CONTENTS: usize> {
+    pub kinds: [u8; BYTES],
+    pub places: [u16; BYTES],
+    pub sizes: [u16; BYTES],
+    pub contents: [Content; CONTENTS],
     pub count: usize,
 }
 
-impl Tokens {
-    pub const EMPTY: Tokens = Tokens {
-        kinds: [0; token::Limits::TEXT],
-        places: [0; token::Limits::TEXT],
-        sizes: [0; token::Limits::TEXT],
-        contents: [Content { low: 0, high: 0 }; TOKENS],
+impl<const BYTES: usize, const CONTENTS: usize> Tokens<BYTES, CONTENTS> {
+    pub const EMPTY: Self = Tokens {
+        kinds: [0; BYTES],
+        places: [0; BYTES],
+        sizes: [0; BYTES],
+        contents: [Content { low: 0, high: 0 }; CONTENTS],
         count: 0,
     };
 
     // What questions 7 to 9 are asked of.
     pub fn words(&self) -> Words<'_>
-        requires { self.now.count ≤ text_limit }
+        requires { self.now.count ≤ BYTES }
         ensures { (result.kinds.now ≡ take self.now.count self.now.kinds) × (result.places.now ≡ take self.now.count self.now.places) × (result.contents.now ≡ self.now.contents) }
     {
         Words {
@@ -81,13 +81,20 @@ pub struct Words<'a> {
 // The tables that a text is read into: its tokens, and what its tree and its model stand in.
 #[derive(Drop)]
 pub struct Space {
-    pub tokens: Tokens,
+    pub tokens: Tokens<{ token::Limits::TEXT }, TOKENS>,
     pub model: Workspace<TOKENS, TOKENS, TOKENS, TOKENS>,
 }
 
 impl Space {
     pub const EMPTY: Space = Space {
-        tokens: Tokens::EMPTY,
+        // Written out: a constant of a generic block can't stand in a constant.
+        tokens: Tokens {
+            kinds: [0; token::Limits::TEXT],
+            places: [0; token::Limits::TEXT],
+            sizes: [0; token::Limits::TEXT],
+            contents: [Content { low: 0, high: 0 }; TOKENS],
+            count: 0,
+        },
         model: Workspace {
             nodes: [0; TOKENS],
             roots: [0; TOKENS],
@@ -147,9 +154,13 @@ pub fn byte_place(text: &[u8], places: &[u16], k: usize) -> usize
 }
 
 // Questions 5 and 6 of a text that has passed those before: the root of its tree.
-fn read_tokens(text: &[u8], tokens: &mut Tokens, nodes: &mut [u64]) -> Result<usize, Refusal>
+fn read_tokens<const BYTES: usize, const CONTENTS: usize>(
+    text: &[u8],
+    tokens: &mut Tokens<BYTES, CONTENTS>,
+    nodes: &mut [u64],
+) -> Result<usize, Refusal>
     requires passed { Ok tt ≡ bytes_judged text.now }
-    requires room { token_limit ≤ length nodes.old }
+    requires room { (text_limit ≤ BYTES) × (token_limit ≤ CONTENTS) × (token_limit ≤ length nodes.old) }
     ensures tree_read { TreeRead text.now tokens.new nodes.new result }
     ensures marked { Marked text.now tokens.old.places tokens.old.sizes tokens.new.places tokens.new.sizes }
 {
@@ -185,8 +196,12 @@ fn read_tokens(text: &[u8], tokens: &mut Tokens, nodes: &mut [u64]) -> Result<us
 }
 
 // Questions 2 to 6: the root of the text's tree in these nodes.
-pub fn read_tree(text: &[u8], tokens: &mut Tokens, nodes: &mut [u64]) -> Result<usize, Refusal>
-    requires { token_limit ≤ length nodes.old }
+pub fn read_tree<const BYTES: usize, const CONTENTS: usize>(
+    text: &[u8],
+    tokens: &mut Tokens<BYTES, CONTENTS>,
+    nodes: &mut [u64],
+) -> Result<usize, Refusal>
+    requires { (text_limit ≤ BYTES) × (token_limit ≤ CONTENTS) × (token_limit ≤ length nodes.old) }
     ensures tree_read { TreeRead text.now tokens.new nodes.new result }
     ensures tree_marked { TreeMarked text.now tokens.old.places tokens.old.sizes tokens.new.places tokens.new.sizes result }
 {

@@ -7,7 +7,7 @@ use std::io;
 use token::Limits;
 
 fn show(rt: &impl Print, text: &[u8]) -> io::Result<()> {
-    let mut tokens = Tokens::EMPTY;
+    let mut tokens = Tokens::<{ Limits::TEXT }, TOKENS>::EMPTY;
     let mut nodes = [0u64; TOKENS];
     let read = opening::read_tree(text, &mut tokens, &mut nodes);
     match read {

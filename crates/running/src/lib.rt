@@ -229,7 +229,7 @@ pub fn take_timed(
     take_waiting(read, state, fresh, c, listed.total)
 }
 
-// Writes an event: the ticks, and entry c of the listing. A slice and a step: an array of the event's part would come by `first_chunk_mut`, with a None that can't be.
+// Writes an event: the ticks, and entry c of the listing. A slice and a step: an array of the event's part would be an unwrap with its proof, for three lines.
 fn put_event(events: &mut [u64], step: usize, ticks: u64, listing: &[u64], c: usize)
     requires { (step * event_width + event_width ≤ length events.old) × (c * entry_width + entry_width ≤ length listing.now) }
     ensures { events.new ≡ written events.old step ticks (entry_in listing.now c) }

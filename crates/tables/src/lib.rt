@@ -19,6 +19,7 @@ pub struct Tables<'a> {
 }
 
 // How many sums the body at k has: all but the last stand beside another, in the nodes from k down.
+// By `names::run_of` it would be a line shorter, and these tables, with all that evaluates over them, would rest on the crate that judges names.
 pub fn count_sums(nodes: &[u64], k: usize) -> usize
     requires { (ns : List ℕ) × Sums nodes.now ns k }
     ensures value { (ns : List ℕ) → Sums nodes.now ns k → result ≡ length ns }

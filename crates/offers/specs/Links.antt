@@ -1,12 +1,14 @@
 -- Handshake receives by the bucket of their channel: the first of each bucket, and after each the next. Assumes nothing: these are definitions.
 use Rattle.std.specs.Prelude.{◌≡◌, List, ℕ, suc, ◌+◌, ◌*◌, ◌%◌, ◌≤◌, ◌<◌, ℤ, pos, negsuc, length, get_or}
 use Rattle.tree.specs.Node as node
+use Rattle.model.specs.Limits.{branch_limit}
+use Rattle.model.specs.Opening.{process_limit}
 use Rattle.offers.specs.declared.row.Row.{Row}
 use Rattle.offers.specs.Head.{kind_in}
 
--- how many rows the table of offers has at most: 256 processes of 16 branches
+-- how many rows the table of offers has at most: every branch of every process
 abbrev pub row_limit : ℕ
-row_limit = 4096
+row_limit = process_limit * branch_limit
 
 abbrev pub bucket_limit : ℕ
 bucket_limit = 256

@@ -78,9 +78,9 @@ const COUNTS: u64 = 4;
 
 const SMALL: u64 = 8192;
 
-const BRANCHES: u64 = 16;
+const BRANCHES: u64 = model::Limits::BRANCHES as u64;
 
-const PLACES: u64 = 256;
+const PLACES: u64 = model::Limits::PROCESSES as u64;
 
 // The kind of the action in a row.
 pub fn kind_in(head: u64) -> u8

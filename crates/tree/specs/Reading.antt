@@ -1,6 +1,7 @@
 -- What a reading function answers, beside what the machine does (grammar: Follows): the tokens it took are those of a tree, and the table holds
 -- that tree's syntax tree. Assumes nothing: these are definitions.
 use Rattle.std.specs.Prelude.{◌≡◌, List, ℕ, ◌+◌, ◌≤◌, ◌<◌, length, get_or, drop, Result, Ok, Err}
+use Rattle.token.specs.Questions.{text_limit}
 use Rattle.grammar.specs.Follows.{Answer, next, fault}
 
 -- the token after what was read, and the root of its tree; or the token that doesn't fit
@@ -22,7 +23,7 @@ place_counted (Err k) = fault k
 
 -- how many tokens a text may have: no more than its bytes
 abbrev pub token_room : ℕ
-token_room = 16384
+token_room = text_limit
 
 -- where a reading function may start: at a token or the end, with fewer nodes than tokens before it
 pub record Ready (ts : List ℕ) (at used : ℕ) : Type 0 where

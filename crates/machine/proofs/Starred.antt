@@ -1,7 +1,7 @@
 -- Every starred specimen of 01 holds for the definitions: each text with its derivation is read, and the machine's answers are computed.
-use mathlib.Core.Path.{◌≡◌, refl, ap, ◌∙◌}
+use mathlib.Core.Path.{◌≡◌, refl, sym, ap, ◌∙◌}
 use mathlib.Core.List.{List, ◌∷◌}
-use mathlib.Core.Option.{Option-elim}
+use mathlib.Core.Option.{some, Option-elim}
 use Prim.Native.Nat.{ℕ}
 use Rattle.std.specs.Prelude.{Ok}
 use Rattle.value.specs.Range.{value_of}
@@ -19,15 +19,16 @@ use Rattle.rules.specs.Step as steps
 use Rattle.machine.specs.Evaluate as evaluate
 use Rattle.machine.specs.Offer as offer
 use Rattle.machine.specs.State.{empty_state}
+use Rattle.machine.specs.Saves.{no_saves}
 use Rattle.machine.specs.Machine as machine
 use Rattle.machine.specs.Machine.{open', Call, closed, opens, answers, after}
-use Rattle.machine.specs.Starred.{Specimen, sheet, row_one, row_two, minus_by_two, by_minus_two, both_minus, turned, three_and_five, unlit, unbound, two_bound, enabled, no_handshake, bracket, Result, state_of, lent, Row, Holds, row}
+use Rattle.machine.specs.Starred.{Specimen, sheet, row_one, row_two, minus_by_two, by_minus_two, both_minus, turned, three_and_five, unlit, unbound, two_bound, enabled, no_handshake, bracket, Result, machine_with, due, lent, Row, Holds, row}
 
 -- ---- what the machine computes
 
 -- what comes of a machine that opened to this, by these calls
 unfoldable answering : Opening → List Call → Result
-unfolding answers after state_of machine.no machine.listed_as opens machine.calls machine.has_lengths machine.all_parts machine.asked machine.on_machine machine.acts machine.on_state machine.lists machine.showing machine.steps_with machine.choosing
+unfolding answers after machine.no machine.listed_as opens machine.calls machine.has_lengths machine.all_parts machine.asked machine.on_machine machine.acts machine.on_state machine.lists machine.showing machine.steps_with machine.choosing
     machine.opened_state machine.start_processes machine.copies offer.definition_of offer.process_at offer.called machine.listing machine.counted offer.missing offer.missing_branch offer.is_none offer.branches
     offer.branches_of offer.offered offer.part_processes offer.next_processes offer.or_zero evaluate.eval_branch evaluate.eval_gate evaluate.eval_offer evaluate.eval_rate
     evaluate.eval_scale evaluate.in_rate evaluate.eval_action evaluate.eval_pair evaluate.eval_query evaluate.eval_item evaluate.eval_channel evaluate.eval_all evaluate.eval_value
@@ -36,23 +37,23 @@ unfolding answers after state_of machine.no machine.listed_as opens machine.call
     lists.partner_action lists.matches lists.same_item lists.same_channel lists.all_within lists.any_match offers.within machine.drawn machine.taken machine.entry_state machine.entry_arguments
     machine.branch_arguments machine.on_guard offer.arguments_given offer.all_values offer.is_value steps.state_after steps.step steps.at_branch steps.one_acts
     steps.both_act steps.on_action steps.change_of steps.bound_by steps.values_at steps.sent_by steps.replace steps.replace_both pairs.pairs_after pairs.insert
-    pairs.remove pairs.before pairs.numbers pairs.item_numbers pairs.item_kind pairs.item_value pairs.channel_numbers order.less empty_state weights lists.weight_of lists.key_of total chosen Option-elim
-answering o cs = record { answered = (opens o).answer ∷ answers (opens o).machine cs; left = state_of (after (opens o).machine cs) }
+    pairs.remove pairs.before pairs.numbers pairs.item_numbers pairs.item_kind pairs.item_value pairs.channel_numbers order.less empty_state no_saves weights lists.weight_of lists.key_of total chosen Option-elim
+answering o cs = record { answered = (opens o).answer ∷ answers (opens o).machine cs; left = some (after (opens o).machine cs) }
 
 -- a text that opens to o
 opened-to : (text : List ℕ) (o : Opening) (cs : List Call) → opening text ≡ o
-    → record { answered = answers closed (lent (open' text) 0 ∷ cs); left = state_of (after closed (lent (open' text) 0 ∷ cs)) } ≡ answering o cs
+    → record { answered = answers closed (lent (open' text) 0 ∷ cs); left = some (after closed (lent (open' text) 0 ∷ cs)) } ≡ answering o cs
 unfolding answers after machine.calls machine.has_lengths machine.all_parts machine.asked Option-elim answering
-opened-to text o cs e = ap (λ (p : Opening). record { answered = (opens p).answer ∷ answers (opens p).machine cs; left = state_of (after (opens p).machine cs) }) e
+opened-to text o cs e = ap (λ (p : Opening). record { answered = (opens p).answer ∷ answers (opens p).machine cs; left = some (after (opens p).machine cs) }) e
 
 module _ (r : Row) where
   -- a row whose text opens to o
-  opening-to : (o : Opening) → opening r.text ≡ o → answering o r.calls ≡ r.expected → Holds r
+  opening-to : (o : Opening) → opening r.text ≡ o → answering o r.calls ≡ due o r.expected → Holds r
   unfolding Holds
-  opening-to o e a = opened-to r.text o r.calls e ∙ a
+  opening-to o e a = opened-to r.text o r.calls e ∙ a ∙ sym (ap (λ (p : Opening). due p r.expected) e)
 
   -- a row whose text has a derivation
-  fitting : (d : derived.Model) → judged_bytes r.text ≡ Ok tt → written d ≡ kinds_in r.text → answering (judged_tree r.text d) r.calls ≡ r.expected → Holds r
+  fitting : (d : derived.Model) → judged_bytes r.text ≡ Ok tt → written d ≡ kinds_in r.text → answering (judged_tree r.text d) r.calls ≡ due (judged_tree r.text d) r.expected → Holds r
   fitting d b w a = opening-to (judged_tree r.text d) (opens-so r.text d (judged_tree r.text d) b w refl) a
 
 -- ---- derivations
@@ -127,7 +128,7 @@ heard =
 
 -- 01, Specimens: every row
 pub holds : (s : Specimen) → Holds (row s)
-unfolding row judged_bytes kinds_in written judged_tree answering
+unfolding row machine_with judged_bytes kinds_in written judged_tree answering
 holds sheet = opening-to _ (opened sheet_model) sheet-opens refl
 holds row_one = opening-to _ (opened sheet_model) sheet-opens refl
 holds row_two = opening-to _ (opened sheet_model) sheet-opens refl

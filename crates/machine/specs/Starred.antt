@@ -1,17 +1,20 @@
--- The starred specimens of 01 and 02, a row for each: a text, byte for byte, the calls made once it is opened, every answer of the rule machine, and the state
--- that it is left with.
+-- The starred specimens of 01 and 02, a row for each: a text, byte for byte, the calls made once it is opened, every answer of the rule machine, and the machine
+-- that is left: the model that the text opens, with state, saves and clock.
 -- That each row holds is proofs/Starred.antt. Assumes nothing: these are definitions.
 use Rattle.std.specs.Prelude.{◌≡◌, List, [], ◌∷◌, map, ℕ, ℤ, pos, negsuc}
 use Rattle.std.proofs.Math.Option.{Option, none, some}
 use Rattle.value.specs.Items.{one_item}
+use Rattle.model.specs.Opening.{Opening, refused, opened, opening}
 use Rattle.model.specs.Texts as texts
 use Rattle.rules.specs.Offers as offers
 use Rattle.rules.specs.Kind as kind
 use Rattle.rules.specs.Rules.{key}
 use Rattle.rules.specs.Listing.{Entry, entry}
+use Rattle.clock.specs.declared.Clock.{Clock}
 use Rattle.machine.specs.Offer.{Process}
 use Rattle.machine.specs.State.{State}
-use Rattle.machine.specs.Machine.{listing_length, as_lent, filled, Answer, no, list', step', Ask, open', on', size, Call, call, Machine, closed, holding, answers, after}
+use Rattle.machine.specs.Saves.{Saves}
+use Rattle.machine.specs.Machine.{listing_length, as_lent, filled, Answer, no, held_all, list', step', Ask, open', on', size, Call, call, Machine, closed, holding, answers, after}
 
 -- 01, Specimens: those with a star, in 01's order
 pub data Specimen : Type 0 where
@@ -30,15 +33,32 @@ pub data Specimen : Type 0 where
   no_handshake : Specimen  -- one process both sending and receiving
   bracket : Specimen  -- a missing bracket gives 5, place 15
 
--- the answers to a list of calls, and the state after them
+-- what a machine holds beside its model
+pub record Left : Type 0 where
+  pub state : State
+  pub saves : Saves
+  pub clock : Clock
+
+-- what a row says of a list of calls: the answers, and what the machine is left with; none: it is closed
+pub record Expected : Type 0 where
+  pub answered : List Answer
+  pub left : Option Left
+
+-- what comes of a list of calls: the answers, and the machine after them
 pub record Result : Type 0 where
   pub answered : List Answer
-  pub left : Option State
+  pub left : Option Machine
 
--- the state that a machine has
-unfoldable pub state_of : Machine → Option State
-state_of closed = none
-state_of (holding h) = some h.state
+-- the machine that holds this over the model of an opening; none where the opening has no model
+unfoldable pub machine_with : Opening → Option Left → Option Machine
+machine_with (opened m) (some x) = some (holding (held_all m x.state x.saves x.clock))
+machine_with (opened m) none = some closed
+machine_with (refused n p) (some x) = none
+machine_with (refused n p) none = some closed
+
+-- that, with the answers that a row says
+abbrev pub due : Opening → Expected → Result
+due o e = record { answered = e.answered; left = machine_with o e.left }
 
 -- a call that is lent parts of the right lengths, and an output of this one
 abbrev pub lent : Ask → ℕ → Call
@@ -48,11 +68,11 @@ lent k o = call k size o
 pub record Row : Type 0 where
   pub text : List ℕ
   pub calls : List Call
-  pub expected : Result
+  pub expected : Expected
 
--- 01, Specimens: the rule machine gives these answers and this state
+-- 01, Specimens: the rule machine gives these answers, and is left as it is here, as a whole
 unfoldable pub Holds : Row → Type 0
-Holds r = let cs = lent (open' r.text) 0 ∷ r.calls in record { answered = answers closed cs; left = state_of (after closed cs) } ≡ r.expected
+Holds r = let cs = lent (open' r.text) 0 ∷ r.calls in record { answered = answers closed cs; left = some (after closed cs) } ≡ due (opening r.text) r.expected
 
 -- ---- the texts, but for the two that 01 has in full (crate model, Texts)
 
@@ -140,9 +160,13 @@ bench x y z = record { processes = process 0 (pos x ∷ []) 0 ∷ process 0 (pos
 abbrev pub alone : ℕ → List ℤ → State
 alone n vs = record { processes = process n [] 0 ∷ []; pairs = map (λ v. record { channel = one_item (offers.named 0); values = v ∷ [] }) vs }
 
--- answers and the state afterwards
-abbrev pub leaving : List Answer → State → Result
-leaving xs s = record { answered = xs; left = some s }
+-- no place has a save
+abbrev pub unsaved : Saves
+unsaved = none ∷ none ∷ none ∷ none ∷ none ∷ none ∷ none ∷ none ∷ []
+
+-- answers and the state afterwards, with nothing saved and no time gone by
+abbrev pub leaving : List Answer → State → Expected
+leaving xs s = record { answered = xs; left = some (record { state = s; saves = unsaved; clock = record { ticks = 0; draws = 0 } }) }
 
 -- ---- the rows
 

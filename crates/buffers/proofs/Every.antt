@@ -16,7 +16,7 @@ use Rattle.model.specs.Good.{GoodModel}
 use Rattle.model.proofs.Held.{opened-held}
 use Rattle.model.proofs.Opened as formed
 use Rattle.machine.specs.State.{state_length, state_numbers}
-use Rattle.machine.specs.Machine.{model_length, Shown, as_lent, Answer, no, Turn, turn, Held, Good, Machine, closed, holding, Request, Ask, open', open_steady', on', acts, Part, model, state, saves, clock, size, lent_to, uses, is_lent, has_lengths, opens, on_machine, asked, calls, answers, after}
+use Rattle.machine.specs.Machine.{model_length, Shown, as_lent, Answer, no, Turn, turn, Held, Good, Machine, closed, holding, Request, Ask, open', open_steady', on', acts, Part, model, state, saves, clock, size, lent_to, uses, is_lent, has_lengths, opens, on_machine, asked_of_machine, calls, answers, after}
 use Rattle.machine.specs.Saves.{saves_length}
 use Rattle.machine.proofs.Numbers.{state-length}
 use Rattle.machine.proofs.Keeps.{opened-good, acts-good, same-model}
@@ -182,7 +182,7 @@ module _ {x : Engine} {y : Machine} (h : Holds x y) (c : BufferCall) where
     unfolding effect_of effect
     asks-all = rw (lengths, w)
 
-    turns : calls y (fed c) ≡ asked y k
+    turns : calls y (fed c) ≡ asked_of_machine y k
     unfolding calls fed
     turns = rw w
 
@@ -192,16 +192,16 @@ module _ {x : Engine} {y : Machine} (h : Holds x y) (c : BufferCall) where
 pub record IsOpening (k : Ask) (text : List ℕ) (o : Opening) : Type 0 where
   pub lent : (p : Part) → is_lent p (lent_to k) ≡ true
   pub effect_is : (x : Engine) (l : List ℕ) → answered k x l ≡ opens_with text o l
-  pub turn_is : (y : Machine) → asked y k ≡ opens o
+  pub turn_is : (y : Machine) → asked_of_machine y k ≡ opens o
   pub plain : (m : Resolved.Model) → o ≡ opened m → opening text ≡ opened m
 
 pub plainly : (text : List ℕ) → IsOpening (open' text) text (opening text)
-unfolding answered asked
+unfolding answered asked_of_machine
 plainly text = record { lent = all-lent text; effect_is = λ x l. refl; turn_is = λ y. refl; plain = λ m e. e }
 
 -- 02, note 11
 pub steadily : (text : List ℕ) → IsOpening (open_steady' text) text (opening_steady text)
-unfolding answered asked
+unfolding answered asked_of_machine
 steadily text = record { lent = all-lent text; effect_is = λ x l. refl; turn_is = λ y. refl; plain = opened-plain text }
 
 open-holds : (text : List ℕ) (o : Opening) (l : List ℕ) (z : Engine) → ((m : Resolved.Model) → o ≡ opened m → opening text ≡ opened m) → ((p : Part) → z p ≡ (opens_with text o l).left p) → Holds z (opens o).machine
@@ -287,7 +287,7 @@ module _ {x : Engine} (a : (p : Part) → Lending (Cell p) (size p)) (l : List �
   effect_is = asks-all (held text m e g) C w ∙ ap (λ (y : Machine). leaves (uses r) Z l (on_machine r y)) (found r Z h text m g lent-numbers)
 
   turned : Goes x (holding h) C
-  unfolding asked on_machine leaves
+  unfolding asked_of_machine on_machine leaves
   turned =
       let same = answers-same r Z h text m g lent-numbers in
       goes (held text m e g) C (leaves (uses r) Z l (on_machine r (holding K))) (on_machine r (holding h)) effect_is (turns (held text m e g) C w) same
@@ -331,7 +331,7 @@ module _ {x : Engine} {y : Machine} (b : Holds x y) (a : (p : Part) → Lending 
   request-turns (held {h = k} text m e g) h q r w = let n : k ≡ h = cc in rw (← n) (turns-so a l r w k text m e g)
 
   request-goes : (r : Request) → has_lengths (on' r) (lent_lengths (make (on' r) a l)) (length l) ≡ true → Goes x y (make (on' r) a l)
-  unfolding asked on_machine leaves left_in shown no
+  unfolding asked_of_machine on_machine leaves left_in shown no
   request-goes r w = by b
     where
       c : BufferCall

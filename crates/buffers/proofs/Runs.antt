@@ -7,7 +7,7 @@ use lib.ListN.{length}
 use Rattle.value.proofs.Kit.{false-not-true, true-not-false}
 use Rattle.model.specs.Opening.{Opening, refused, opened, opening}
 use Rattle.profile.specs.Opening.{opening_steady}
-use Rattle.machine.specs.Machine.{as_lent, Answer, no, listed_as, reported_as, found_as, ran_as, turn, Machine, closed, Request, list', step', report', search', timed', run', save', return', forget', Ask, open', open_steady', on', Part, uses, has_lengths, call, opens, asked, calls}
+use Rattle.machine.specs.Machine.{as_lent, Answer, no, listed_as, reported_as, found_as, ran_as, turn, Machine, closed, Request, list', step', report', search', timed', run', save', return', forget', Ask, open', open_steady', on', Part, uses, has_lengths, call, opens, asked_of_machine, calls}
 use Rattle.machine.specs.Results as results
 use Rattle.machine.specs.Results.{Lists, Chooses, Names, Carries, under1, under2-10, under11, under12, under13, under14, under15-19, under23-25, under20, return21, forget21, save22, under2-29, under26, under27}
 use Rattle.machine.proofs.Carries.{carries}
@@ -43,10 +43,10 @@ answer-is : (k : Ask) (x : Engine) (l : List ℕ) → (effect k x l).answer ≡ 
 unfolding effect calls
 answer-is k x l = by (has_lengths k (λ (p : Part). length (x p)) (length l)) k
   where
-    by : (b : Bool) (k : Ask) → (cond b (answered k x l) (untouched x l)).answer ≡ (cond b (asked (over k x) k) (turn (over k x) (no 1 0 0 as_lent))).answer
-    by true (open' text) = unfold answered asked in opens-answer text (opening text) l
-    by true (open_steady' text) = unfold answered asked in opens-answer text (opening_steady text) l
-    by true (on' r) = unfold answered requested leaves asked over machine_in in refl
+    by : (b : Bool) (k : Ask) → (cond b (answered k x l) (untouched x l)).answer ≡ (cond b (asked_of_machine (over k x) k) (turn (over k x) (no 1 0 0 as_lent))).answer
+    by true (open' text) = unfold answered asked_of_machine in opens-answer text (opening text) l
+    by true (open_steady' text) = unfold answered asked_of_machine in opens-answer text (opening_steady text) l
+    by true (on' r) = unfold answered requested leaves asked_of_machine over machine_in in refl
     by false k = unfold untouched in refl
 
 pub carried : (k : Ask) (x : Engine) (l : List ℕ) → Carries k (effect k x l).answer

@@ -20,7 +20,7 @@ use Rattle.waits.specs.declared.Unread.TheVariants as unread
 use Rattle.clock.specs.Clock.{clock_limit, ticks_of, late_number, Brought, forwarded, waited, brought_by}
 use Rattle.machine.specs.State.{State, state_numbers}
 use Rattle.machine.specs.Timed.{Timed, timed}
-use Rattle.machine.specs.Machine.{listing_length, Answer, no, Turn, turn, refused_as, with_wait, steps_in, times_with, steps_with, Held, Machine, holding, on_state, on_clock, step', timed', on', acts, Part, state, clock, size, is_lent, all_parts, has_lengths, call, on_machine, asked, calls}
+use Rattle.machine.specs.Machine.{listing_length, Answer, no, Turn, turn, refused_as, with_wait, steps_in, times_with, steps_with, Held, Machine, holding, on_state, on_clock, step', timed', on', acts, Part, state, clock, size, is_lent, all_parts, has_lengths, call, on_machine, asked_of_machine, calls}
 use Rattle.machine.specs.Questions.{later_by}
 use Rattle.machine.specs.Results.{Whole, WholeAsk}
 use Rattle.machine.proofs.Carries.{refusal-stays}
@@ -87,7 +87,7 @@ module _ (ds : List ℕ) (s : State) (c : Clock) (t : Turn State) where
 
 -- a timed step that is refused leaves what is held
 refused-stays : (ds : List ℕ) (d : ℕ) (h : Held) → ((acts (timed' ds d) h).answer.number ≡ 0 → ⊥) → (acts (timed' ds d) h).machine ≡ h
-unfolding calls asked on_machine Whole WholeAsk has_lengths all_parts Option-elim
+unfolding calls asked_of_machine on_machine Whole WholeAsk has_lengths all_parts Option-elim
 refused-stays ds d h z =
     let k : holding (acts (timed' ds d) h).machine ≡ holding h = refusal-stays (holding h) (call (on' (timed' ds d)) size listing_length) tt z in
     let e : (acts (timed' ds d) h).machine ≡ h = cc in

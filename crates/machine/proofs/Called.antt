@@ -30,7 +30,7 @@ lists-shows h e = go ((asked h.model h.state (listing h.model h.state)).0 refl) 
     go (yes14 {es = es} g i l f) e = record { held = h; holds = refl; entries = es; shown = refl; evaluated = g; derivable = i }
 
 pub list-shows : (y : Machine) (l : Part → ℕ) (o : ℕ) → (calls y (call (on' list') l o)).answer.number ≡ 0 → Shows y (calls y (call (on' list') l o)).answer
-unfolding calls machine.asked on_machine acts on_state no
+unfolding calls machine.asked_of_machine on_machine acts on_state no
 list-shows y l o e = go (has_lengths (on' list') l o) y e
   where
     go : (b : Bool) (y : Machine) → (cond b (on_machine list' y) (turn y (no 1 0 0 as_lent))).answer.number ≡ 0 → Shows y (cond b (on_machine list' y) (turn y (no 1 0 0 as_lent))).answer

@@ -29,7 +29,7 @@ use Rattle.machine.specs.State.{State}
 use Rattle.machine.specs.Timed.{Timed, timed}
 use Rattle.machine.specs.Saves.{is_name, Saves, save_limit, place_of, place_for, kept_under, Stored, stored, replaced, removed, saving, returning, forgetting}
 use Rattle.machine.specs.Machine.{as_lent, no, listed_as, reported_as, Listed, entries_are, refused_with, listing, Turn, turn, drawn, steps_in, times_with, ran_as, runs_over, showing, lists, sharing, reports, choosing, steps_with, found_as, moves_to, depth_limit, is_depth, searched_as, searches}
-use Rattle.machine.specs.Machine.{Held, moved, moved_in, timed_of, stored_in, Machine, closed, holding, on_state, on_clock, on_saves, Request, list', step', report', search', timed', run', save', return', forget', Ask, open', open_steady', on', acts, Part, has_lengths, Call, call, opens, on_machine, asked, calls}
+use Rattle.machine.specs.Machine.{Held, moved, moved_in, timed_of, stored_in, Machine, closed, holding, on_state, on_clock, on_saves, Request, list', step', report', search', timed', run', save', return', forget', Ask, open', open_steady', on', acts, Part, has_lengths, Call, call, opens, on_machine, asked_of_machine, calls}
 use Rattle.machine.specs.Questions.{no12, no13, no14, yes14, Steps, no15, no16, no17, no18, no19, yes19, Times, no15-19, no23, no24, no25, yes25}
 use Rattle.machine.specs.Questions as questions
 use Rattle.machine.specs.Results as results
@@ -242,8 +242,8 @@ steady_kept text (steady.yes_to_all a y f) = record { carries = results.opens_st
 
 -- ---- every call
 
-asked-carries : (y : Machine) (k : Ask) → Carries k (asked y k).answer
-unfolding asked on_machine
+asked-carries : (y : Machine) (k : Ask) → Carries k (asked_of_machine y k).answer
+unfolding asked_of_machine on_machine
 asked-carries y (open' text) = (opening-kept text (answered text)).carries
 asked-carries y (open_steady' text) = (steady_kept text (answered-steady text)).carries
 asked-carries closed (on' r) = under11
@@ -254,12 +254,12 @@ pub carries : (y : Machine) (c : Call) → Carries c.ask (calls y c).answer
 unfolding calls
 carries y c = by (has_lengths c.ask c.lengths c.output)
   where
-    by : (b : Bool) → Carries c.ask (cond b (asked y c.ask) (turn y (no 1 0 0 as_lent))).answer
+    by : (b : Bool) → Carries c.ask (cond b (asked_of_machine y c.ask) (turn y (no 1 0 0 as_lent))).answer
     by true = asked-carries y c.ask
     by false = under1
 
-asked-stays : (y : Machine) (k : Ask) → WholeAsk k → ((asked y k).answer.number ≡ 0 → ⊥) → (asked y k).machine ≡ y
-unfolding asked on_machine WholeAsk
+asked-stays : (y : Machine) (k : Ask) → WholeAsk k → ((asked_of_machine y k).answer.number ≡ 0 → ⊥) → (asked_of_machine y k).machine ≡ y
+unfolding asked_of_machine on_machine WholeAsk
 asked-stays y (open' text) r n = absurd r
 asked-stays y (open_steady' text) r n = absurd r
 asked-stays closed (on' r) u n = refl
@@ -270,12 +270,12 @@ pub refusal-stays : (y : Machine) (c : Call) → WholeAsk c.ask → ((calls y c)
 unfolding calls
 refusal-stays y c r = by (has_lengths c.ask c.lengths c.output)
   where
-    by : (b : Bool) → ((cond b (asked y c.ask) (turn y (no 1 0 0 as_lent))).answer.number ≡ 0 → ⊥) → (cond b (asked y c.ask) (turn y (no 1 0 0 as_lent))).machine ≡ y
+    by : (b : Bool) → ((cond b (asked_of_machine y c.ask) (turn y (no 1 0 0 as_lent))).answer.number ≡ 0 → ⊥) → (cond b (asked_of_machine y c.ask) (turn y (no 1 0 0 as_lent))).machine ≡ y
     by true n = asked-stays y c.ask r n
     by false n = refl
 
-pub asked-not-1 : (y : Machine) (k : Ask) → (asked y k).answer.number ≡ 1 → ⊥
-unfolding asked on_machine no
+pub asked-not-1 : (y : Machine) (k : Ask) → (asked_of_machine y k).answer.number ≡ 1 → ⊥
+unfolding asked_of_machine on_machine no
 asked-not-1 y (open' text) e = (opening-kept text (answered text)).one e
 asked-not-1 y (open_steady' text) e = (steady_kept text (answered-steady text)).one e
 asked-not-1 closed (on' r) e = omega arith
@@ -286,12 +286,12 @@ pub unlent : (y : Machine) (c : Call) → ((calls y c).answer.number ≡ 1) ↔ 
 unfolding calls no
 unlent y c = by (lent-so c)
   where
-    by : {b : Bool} → Decides (Lent c) b → ((cond b (asked y c.ask) (turn y (no 1 0 0 as_lent))).answer.number ≡ 1) ↔ (Lent c → ⊥)
+    by : {b : Bool} → Decides (Lent c) b → ((cond b (asked_of_machine y c.ask) (turn y (no 1 0 0 as_lent))).answer.number ≡ 1) ↔ (Lent c → ⊥)
     by (holds l) = (λ e h. asked-not-1 y c.ask e, λ n. absurd (n l))
     by (fails n) = (λ e. n, λ m. refl)
 
-asked-eleven : (y : Machine) (k : Ask) → Runs k → ((asked y k).answer.number ≡ 11) ↔ (y ≡ closed)
-unfolding asked on_machine Runs no
+asked-eleven : (y : Machine) (k : Ask) → Runs k → ((asked_of_machine y k).answer.number ≡ 11) ↔ (y ≡ closed)
+unfolding asked_of_machine on_machine Runs no
 asked-eleven y (open' text) r = absurd r
 asked-eleven y (open_steady' text) r = absurd r
 asked-eleven closed (on' r) u = (λ e. refl, λ e. refl)
@@ -311,7 +311,7 @@ module _ (r : Request) (stays : (h : Held) → (acts r h).machine ≡ h) where
   asked-same (holding h) = ap holding (stays h)
 
   unmoved : (y : Machine) (l : Part → ℕ) (o : ℕ) → (calls y (call (on' r) l o)).machine ≡ y
-  unfolding calls asked
+  unfolding calls asked_of_machine
   unmoved y l o = by (has_lengths (on' r) l o)
     where
       by : (b : Bool) → (cond b (on_machine r y) (turn y (no 1 0 0 as_lent))).machine ≡ y
@@ -342,21 +342,21 @@ unfolding acts on_state searches
 search-stays x d = unmoved (search' x d) (λ h. refl)
 
 -- 01, Opening a text: 1 changes nothing, 2 to 10 close the machine; 02, note 11: so does 29
-module _ (k : Ask) (o : Opening) (is : (y : Machine) → asked y k ≡ opens o) (h : Opens k (opens o)) where
+module _ (k : Ask) (o : Opening) (is : (y : Machine) → asked_of_machine y k ≡ opens o) (h : Opens k (opens o)) where
   refused-closes : (y : Machine) (l : Part → ℕ) (n : ℕ) → ((calls y (call k l n)).answer.number ≡ 0 → ⊥) → (calls y (call k l n)).machine ≡ cond (has_lengths k l n) closed y
   unfolding calls
   refused-closes y l n = by (has_lengths k l n)
     where
-      by : (b : Bool) → ((cond b (asked y k) (turn y (no 1 0 0 as_lent))).answer.number ≡ 0 → ⊥) → (cond b (asked y k) (turn y (no 1 0 0 as_lent))).machine ≡ cond b closed y
+      by : (b : Bool) → ((cond b (asked_of_machine y k) (turn y (no 1 0 0 as_lent))).answer.number ≡ 0 → ⊥) → (cond b (asked_of_machine y k) (turn y (no 1 0 0 as_lent))).machine ≡ cond b closed y
       by true f = ap (λ (t : Turn Machine). t.machine) (is y) ∙ h.closes (λ e. f (ap (λ (t : Turn Machine). t.answer.number) (is y) ∙ e))
       by false f = refl
 
 pub refused-opening : (y : Machine) (text : List ℕ) (l : Part → ℕ) (o : ℕ) → ((calls y (call (open' text) l o)).answer.number ≡ 0 → ⊥)
     → (calls y (call (open' text) l o)).machine ≡ cond (has_lengths (open' text) l o) closed y
-unfolding asked
+unfolding asked_of_machine
 refused-opening y text l o = refused-closes (open' text) (opening text) (λ z. refl) (opening-kept text (answered text)) y l o
 
 pub refused-steady : (y : Machine) (text : List ℕ) (l : Part → ℕ) (o : ℕ) → ((calls y (call (open_steady' text) l o)).answer.number ≡ 0 → ⊥)
     → (calls y (call (open_steady' text) l o)).machine ≡ cond (has_lengths (open_steady' text) l o) closed y
-unfolding asked
+unfolding asked_of_machine
 refused-steady y text l o = refused-closes (open_steady' text) (opening_steady text) (λ z. refl) (steady_kept text (answered-steady text)) y l o

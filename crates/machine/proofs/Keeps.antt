@@ -28,7 +28,7 @@ use Rattle.machine.proofs.Stays as stays
 use Rattle.machine.proofs.Saves.{no-saves-hold, StoredOf, saving-holds, returning-holds, forgetting-holds}
 
 -- 01, Open
-pub opened-good : (m : Resolved.Model) → GoodModel m → opening.start_processes m.definitions m.starts ≤ process_limit → Good (held m (opened_state m))
+pub opened-good : (m : Resolved.Model) → GoodModel m → opening.processes_at_start m.definitions m.starts ≤ process_limit → Good (held m (opened_state m))
 opened-good m g few = record { state = stays.opened-good m g few; saves = no-saves-hold (GoodTimed m); clock = record { ticks = omega arith; draws = omega arith } }
 
 -- ---- turns of a state

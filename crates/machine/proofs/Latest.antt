@@ -16,7 +16,7 @@ use Rattle.model.proofs.Opened as opened
 use Rattle.rules.proofs.Decides.{passes}
 use Rattle.machine.specs.Timed.{Timed, GoodTimed}
 use Rattle.machine.specs.Saves.{is_name, same, saved, save_limit, Saves, no_saves, named, place_of, place_for, kept_under, GoodSaves, Stored, stored, replaced, removed, saving, returning, forgetting}
-use Rattle.machine.specs.Machine.{as_lent, no, turn, Held, timed_of, stored_in, Machine, closed, holding, on_state, on_clock, on_saves, Request, list', step', report', search', timed', run', save', return', forget', Ask, open', open_steady', on', acts, Call, has_lengths, opens, on_machine, asked, calls, after}
+use Rattle.machine.specs.Machine.{as_lent, no, turn, Held, timed_of, stored_in, Machine, closed, holding, on_state, on_clock, on_saves, Request, list', step', report', search', timed', run', save', return', forget', Ask, open', open_steady', on', acts, Call, has_lengths, opens, on_machine, asked_of_machine, calls, after}
 use Rattle.machine.specs.Results.{Lent}
 use Rattle.machine.specs.Latest.{kept_in, saves_name, forgets_name, saves_under, forgets, alters, Without, done, more, Saved, Latest, Known, Finds}
 use Rattle.machine.proofs.Lent.{lent-so}
@@ -161,8 +161,8 @@ module _ (n : List ℕ) where
   unasked-met y (open_steady' text) = record { saves = λ t. not-both true refl (sym t); undone = λ t. not-both true refl (sym t); else = λ t u. refl }
   unasked-met y (on' r) = record { saves = λ t. and-false (saves_name n r) t; undone = λ t. and-false (forgets_name n r) t; else = λ t u. refl }
 
-  asked-met : (y : Machine) (k : Ask) → GoodMachine y → Met n y k (asked y k).answer.number (asked y k).machine
-  unfolding asked on_machine GoodMachine no saves_under forgets
+  asked-met : (y : Machine) (k : Ask) → GoodMachine y → Met n y k (asked_of_machine y k).answer.number (asked_of_machine y k).machine
+  unfolding asked_of_machine on_machine GoodMachine no saves_under forgets
   asked-met y (open' text) g = opened-met y _ (open' text) _ refl refl (asked-not-1 y (open' text)) (opened-none (opening text))
   asked-met y (open_steady' text) g = opened-met y _ (open_steady' text) _ refl refl (asked-not-1 y (open_steady' text)) (opened-none (opening_steady text))
   asked-met closed (on' r) g = closed-met r
@@ -172,7 +172,7 @@ module _ (n : List ℕ) where
   unfolding calls no
   call_met y c g = by (has_lengths c.ask c.lengths c.output)
     where
-      by : (b : Bool) → Met n y c.ask (cond b (asked y c.ask) (turn y (no 1 0 0 as_lent))).answer.number (cond b (asked y c.ask) (turn y (no 1 0 0 as_lent))).machine
+      by : (b : Bool) → Met n y c.ask (cond b (asked_of_machine y c.ask) (turn y (no 1 0 0 as_lent))).answer.number (cond b (asked_of_machine y c.ask) (turn y (no 1 0 0 as_lent))).machine
       by true = asked-met y c.ask g
       by false = unasked-met y c.ask
 
@@ -300,11 +300,11 @@ from-closed n cs s (inr (w, k)) = never w
 
 module _ (n : List ℕ) (cs : List Call) (c : Call) (a : c.ask ≡ on' (return' n)) where
   returned : (y : Machine) → after closed cs ≡ y → (calls y c).answer.number ≡ 0 → Finds n cs (calls y c).machine
-  unfolding calls asked on_machine no kept_in GoodMachine
+  unfolding calls asked_of_machine on_machine no kept_in GoodMachine
   returned y q e =
-      by (has_lengths c.ask c.lengths c.output) y q (ap (λ (k : Ask). (cond (has_lengths c.ask c.lengths c.output) (asked y k) (turn y (no 1 0 0 as_lent))).answer.number) (sym a) ∙ e)
+      by (has_lengths c.ask c.lengths c.output) y q (ap (λ (k : Ask). (cond (has_lengths c.ask c.lengths c.output) (asked_of_machine y k) (turn y (no 1 0 0 as_lent))).answer.number) (sym a) ∙ e)
     where
-      by : (b : Bool) (y : Machine) → after closed cs ≡ y → (cond b (asked y (on' (return' n))) (turn y (no 1 0 0 as_lent))).answer.number ≡ 0 → Finds n cs (cond b (asked y c.ask) (turn y (no 1 0 0 as_lent))).machine
+      by : (b : Bool) (y : Machine) → after closed cs ≡ y → (cond b (asked_of_machine y (on' (return' n))) (turn y (no 1 0 0 as_lent))).answer.number ≡ 0 → Finds n cs (cond b (asked_of_machine y c.ask) (turn y (no 1 0 0 as_lent))).machine
       by true closed q e = absurd (omega arith)
       by true (holding h) q e =
           let r = return-found n h e in
@@ -317,7 +317,7 @@ module _ (n : List ℕ) (cs : List Call) (c : Call) (a : c.ask ≡ on' (return' 
   return-finds e = returned (after closed cs) refl e
 
   answered : (y : Machine) → GoodMachine y → Lent c → (s : Timed) → kept_in n y ≡ some s → (calls y c).answer.number ≡ 0
-  unfolding calls asked on_machine kept_in GoodMachine
+  unfolding calls asked_of_machine on_machine kept_in GoodMachine
   answered closed g l s e = never e
   answered (holding h) g l s e = rw (passes (lent-so c) l, a) (return-finding n h s (under-name (GoodTimed h.model) n h.saves s g.good.saves.places e) e)
 

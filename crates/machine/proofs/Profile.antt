@@ -30,7 +30,7 @@ use Rattle.machine.specs.State.{State}
 use Rattle.machine.specs.Timed.{Timed, timed}
 use Rattle.machine.specs.Saves.{is_name, Saves, SavesOf, save_limit, place_of, place_for, kept_under, stored, replaced, removed, saving, returning, forgetting}
 use Rattle.machine.specs.Machine.{as_lent, Answer, no, listed_as, reported_as, entry_limit, total_limit, Listed, entries_are, refused_with, counted, listing, Turn, turn, drawn, refused_as, with_wait, steps_in, times_with, ran_as, runs_over, showing, lists, sharing, reports, choosing, steps_with, found_as, moves_to, is_depth, searched_as, searches}
-use Rattle.machine.specs.Machine.{Held, held, timed_of, Good, Machine, closed, holding, on_state, on_clock, on_saves, Request, list', step', report', search', timed', run', save', return', forget', Ask, open', open_steady', on', acts, Part, has_lengths, Call, call, opened_state, on_machine, asked, calls, after}
+use Rattle.machine.specs.Machine.{Held, held, timed_of, Good, Machine, closed, holding, on_state, on_clock, on_saves, Request, list', step', report', search', timed', run', save', return', forget', Ask, open', open_steady', on', acts, Part, has_lengths, Call, call, opened_state, on_machine, asked_of_machine, calls, after}
 use Rattle.machine.specs.Machine as machine
 use Rattle.machine.specs.Questions.{no12, no13, no14, yes14}
 use Rattle.machine.specs.Questions as questions
@@ -258,7 +258,7 @@ module _ {n : ℕ} (h : Held) (f : Fit n h) where
   same-request p = cc
 
   asked-steadily : (r : Request) (l : Part → ℕ) (o : ℕ) → has_lengths (on' r) l o ≡ true → Steadily (holding h) (call (on' r) l o) × Held-fit n (calls (holding h) (call (on' r) l o)).machine
-  unfolding calls asked on_machine processes_in
+  unfolding calls asked_of_machine on_machine processes_in
   asked-steadily r l o e =
       turned (call (on' r) l o) (on_machine r (holding h)) (rw e) (request-not r h f)
       (λ q p i. step-few r h f (subst (λ (k : Request). IsStep k) (sym (same-request p)) i))
@@ -311,7 +311,7 @@ opened-fit text m e =
     record { steady = opened-steady text m e; model = g; good = keeps.opened-good m g (opens.opened-few text m p); now = omega arith; kept = no-saves-hold (Few (length (opened_state m).processes)) }
 
 steady-holds : (y : Machine) (text : List ℕ) (l : Part → ℕ) (o : ℕ) → let t = calls y (call (open_steady' text) l o) in t.answer.number ≡ 0 → Held-fit (processes_in t.machine) t.machine
-unfolding calls asked machine.opens no processes_in
+unfolding calls asked_of_machine machine.opens no processes_in
 steady-holds y text l o e = by (has_lengths (open_steady' text) l o) (opening_steady text) refl e
   where
     by : (b : Bool) (r : Opening) → opening_steady text ≡ r → let t = cond b (machine.opens r) (turn y (no 1 0 0 as_lent)) in t.answer.number ≡ 0 → Held-fit (processes_in t.machine) t.machine

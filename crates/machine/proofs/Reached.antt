@@ -9,7 +9,7 @@ use Rattle.model.specs.Opening as opening
 use Rattle.model.specs.Good.{GoodModel}
 use Rattle.profile.specs.Opening.{opening_steady}
 use Rattle.profile.proofs.Opened.{opened-plain}
-use Rattle.machine.specs.Machine.{as_lent, no, turn, Held, Good, Machine, closed, holding, Request, Ask, open', open_steady', on', acts, has_lengths, Call, opens, on_machine, asked, calls, after}
+use Rattle.machine.specs.Machine.{as_lent, no, turn, Held, Good, Machine, closed, holding, Request, Ask, open', open_steady', on', acts, has_lengths, Call, opens, on_machine, asked_of_machine, calls, after}
 use Rattle.machine.proofs.Keeps.{opened-good, acts-good, same-model}
 
 -- a model that some text opened, and all that is held over it
@@ -23,7 +23,7 @@ unfoldable pub GoodMachine : Machine → Type 0
 GoodMachine closed = Unit {0}
 GoodMachine (holding h) = Holds h
 
-module _ (opened-model : (text : List ℕ) (m : Resolved.Model) → opening text ≡ opened m → GoodModel m × (opening.start_processes m.definitions m.starts ≤ process_limit)) where
+module _ (opened-model : (text : List ℕ) (m : Resolved.Model) → opening text ≡ opened m → GoodModel m × (opening.processes_at_start m.definitions m.starts ≤ process_limit)) where
   -- an opening that opens no other model than a plain one does
   opening-good : (text : List ℕ) (o : Opening) → ((m : Resolved.Model) → o ≡ opened m → opening text ≡ opened m) → GoodMachine (opens o).machine
   unfolding opens GoodMachine
@@ -38,8 +38,8 @@ module _ (opened-model : (text : List ℕ) (m : Resolved.Model) → opening text
     good = acts-good r h g.model g.good;
   }
 
-  asked-good : (y : Machine) (k : Ask) → GoodMachine y → GoodMachine (asked y k).machine
-  unfolding asked on_machine GoodMachine
+  asked-good : (y : Machine) (k : Ask) → GoodMachine y → GoodMachine (asked_of_machine y k).machine
+  unfolding asked_of_machine on_machine GoodMachine
   asked-good y (open' text) g = opening-good text (opening text) (λ m e. e)
   asked-good y (open_steady' text) g = opening-good text (opening_steady text) (λ m e. opened-plain text m e)
   asked-good closed (on' r) g = tt
@@ -50,7 +50,7 @@ module _ (opened-model : (text : List ℕ) (m : Resolved.Model) → opening text
   unfolding calls
   call-good y c g = by (has_lengths c.ask c.lengths c.output)
     where
-      by : (b : Bool) → GoodMachine (cond b (asked y c.ask) (turn y (no 1 0 0 as_lent))).machine
+      by : (b : Bool) → GoodMachine (cond b (asked_of_machine y c.ask) (turn y (no 1 0 0 as_lent))).machine
       by true = asked-good y c.ask g
       by false = g
 

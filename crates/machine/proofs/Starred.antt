@@ -28,7 +28,7 @@ use Rattle.machine.specs.Starred.{Specimen, sheet, row_one, row_two, minus_by_tw
 
 -- what comes of a machine that opened to this, by these calls
 unfoldable answering : Opening → List Call → Result
-unfolding answers after machine.no machine.listed_as opens machine.calls machine.has_lengths machine.all_parts machine.asked machine.on_machine machine.acts machine.on_state machine.lists machine.showing machine.steps_with machine.choosing
+unfolding answers after machine.no machine.listed_as opens machine.calls machine.has_lengths machine.all_parts machine.asked_of_machine machine.on_machine machine.acts machine.on_state machine.lists machine.showing machine.steps_with machine.choosing
     machine.opened_state machine.start_processes machine.copies offer.definition_of offer.process_at offer.called machine.listing machine.counted offer.missing offer.missing_branch offer.is_none offer.branches
     offer.branches_of offer.offered offer.part_processes offer.next_processes offer.or_zero evaluate.eval_branch evaluate.eval_gate evaluate.eval_offer evaluate.eval_rate
     evaluate.eval_scale evaluate.in_rate evaluate.eval_action evaluate.eval_pair evaluate.eval_query evaluate.eval_item evaluate.eval_channel evaluate.eval_all evaluate.eval_value
@@ -43,7 +43,7 @@ answering o cs = record { answered = (opens o).answer ∷ answers (opens o).mach
 -- a text that opens to o
 opened-to : (text : List ℕ) (o : Opening) (cs : List Call) → opening text ≡ o
     → record { answered = answers closed (lent (open' text) 0 ∷ cs); left = some (after closed (lent (open' text) 0 ∷ cs)) } ≡ answering o cs
-unfolding answers after machine.calls machine.has_lengths machine.all_parts machine.asked Option-elim answering
+unfolding answers after machine.calls machine.has_lengths machine.all_parts machine.asked_of_machine Option-elim answering
 opened-to text o cs e = ap (λ (p : Opening). record { answered = (opens p).answer ∷ answers (opens p).machine cs; left = some (after (opens p).machine cs) }) e
 
 module _ (r : Row) where

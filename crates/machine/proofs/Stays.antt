@@ -47,8 +47,8 @@ sums-in f (e ∷ ds) zero = length-map e.sums f
 sums-in f (e ∷ ds) (suc d) = sums-in f ds d
 
 -- the number that question 10 asks about
-pub start-count : (m : Resolved.Model) (ss : List Resolved.Start) → length (start_processes m ss) ≡ opening.start_processes m.definitions ss
-unfolding start_processes opening.start_processes called
+pub start-count : (m : Resolved.Model) (ss : List Resolved.Start) → length (start_processes m ss) ≡ opening.processes_at_start m.definitions ss
+unfolding start_processes opening.processes_at_start called
 start-count m [] = refl
 start-count m (s ∷ ss) =
     let ps = called m s.definition s.values in
@@ -71,7 +71,7 @@ module _ (m : Resolved.Model) (good : GoodModel m) where
       (copies-good s.count _ (called-good m good s.definition s.values h.0.callable h.0.values)) (starts-good ss h.1)
 
   -- of a good model that starts with at most 256 processes
-  pub opened-good : opening.start_processes m.definitions m.starts ≤ process_limit → GoodState m (opened_state m)
+  pub opened-good : opening.processes_at_start m.definitions m.starts ≤ process_limit → GoodState m (opened_state m)
   unfolding opened_state Every Ascending
   opened-good l = record {
     few-processes = rw (start-count m m.starts) l;

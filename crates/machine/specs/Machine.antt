@@ -578,14 +578,14 @@ on_machine r closed = turn closed (no 11 0 0 as_lent)
 on_machine r (holding h) = let t = acts r h in turn (holding t.machine) t.answer
 
 -- what is asked, once 1 is answered with yes
-unfoldable pub asked : Machine → Ask → Turn Machine
-asked y (open' text) = opens (opening text)
-asked y (open_steady' text) = opens (opening_steady text)
-asked y (on' r) = on_machine r y
+unfoldable pub asked_of_machine : Machine → Ask → Turn Machine
+asked_of_machine y (open' text) = opens (opening text)
+asked_of_machine y (open_steady' text) = opens (opening_steady text)
+asked_of_machine y (on' r) = on_machine r y
 
 -- 01, Rule machine: one call; 1 comes first and changes nothing
 unfoldable pub calls : Machine → Call → Turn Machine
-calls y c = cond (has_lengths c.ask c.lengths c.output) (asked y c.ask) (turn y (no 1 0 0 as_lent))
+calls y c = cond (has_lengths c.ask c.lengths c.output) (asked_of_machine y c.ask) (turn y (no 1 0 0 as_lent))
 
 -- 01, Rule machine: the answers to a list of calls, in order, and the machine afterwards
 unfoldable pub answers : Machine → List Call → List Answer

@@ -202,6 +202,6 @@ unfolding
     lists.partner_action lists.matches lists.same_item lists.same_channel lists.all_within offers.within steps_with machine.choosing drawn machine.taken machine.entry_state machine.entry_arguments
     machine.branch_arguments machine.on_guard offer.arguments_given offer.all_values offer.is_value steps.state_after steps.step steps.at_branch steps.one_acts
     steps.both_act steps.on_action steps.change_of steps.bound_by steps.values_at steps.sent_by steps.replace steps.replace_both pairs.pairs_after pairs.insert
-    pairs.remove pairs.before pairs.numbers pairs.item_numbers pairs.item_kind pairs.item_value pairs.channel_numbers order.less empty_state calls machine.has_lengths machine.all_parts machine.asked machine.on_machine weights lists.weight_of lists.key_of
+    pairs.remove pairs.before pairs.numbers pairs.item_numbers pairs.item_kind pairs.item_value pairs.channel_numbers order.less empty_state calls machine.has_lengths machine.all_parts machine.asked_of_machine machine.on_machine weights lists.weight_of lists.key_of
     total chosen Option-elim
 specimens = (refl, refl, refl, refl, refl, refl, refl, refl, refl, refl, refl, refl, refl, refl, refl, refl, refl, refl, refl, refl, refl, refl, refl, refl, refl, refl, refl)

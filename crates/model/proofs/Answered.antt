@@ -29,7 +29,7 @@ use Rattle.model.specs.Given.{not_given}
 use Rattle.model.specs.Faults.{Beyond, NotNew, NotGiven}
 use Rattle.model.specs.Resolved.{Model, resolved}
 use Rattle.grammar.specs.Limit.{token_limit}
-use Rattle.model.specs.Opening.{process_limit, Opening, opened, too_many, system_token, crowded, asked, tree_judged, read_judged, after_bytes, opening}
+use Rattle.model.specs.Opening.{process_limit, Opening, opened, too_many, system_token, crowded, asked_of_text, tree_judged, read_judged, after_bytes, opening}
 use Rattle.model.specs.Questions.{Yes2, Yes3, Yes4, Yes5, Yes6, Yes7, Yes8, Yes9, processes, Answers, no2, no3, no4, no5, no6, no7, no8, no9, no10, yes_to_all}
 use Rattle.model.proofs.Opens.{bytes-refused, goes-wrong, fits}
 use Rattle.model.proofs.Faulty.{beyond-first, new-first, given-first}
@@ -68,16 +68,16 @@ module _ (text : List ℕ) where
     m = resolved w s
 
     abbrev after9 : Opening
-    after9 = asked text 10 (crowded s m) (opened m)
+    after9 = asked_of_text text 10 (crowded s m) (opened m)
 
     abbrev after8 : Opening
-    after8 = asked text 9 (least (not_given w s)) after9
+    after8 = asked_of_text text 9 (least (not_given w s)) after9
 
     abbrev after7 : Opening
-    after7 = asked text 8 (least (not_new w s)) after8
+    after7 = asked_of_text text 8 (least (not_new w s)) after8
 
     abbrev after6 : Opening
-    after6 = asked text 7 (least (beyond text s)) after7
+    after6 = asked_of_text text 7 (least (beyond text s)) after7
 
     few-yes : Yes6 text → too_many text ≡ None
     unfolding too_many
@@ -93,60 +93,60 @@ module _ (text : List ℕ) where
         module _ (y7 : Yes7 text s) where
           module _ (y8 : Yes8 text s) where
             ten : Yes9 text s → Answers text after9
-            unfolding crowded asked
+            unfolding crowded asked_of_text
             ten y9 = by (leb (processes text s) process_limit) refl
               where
-                by : (b : Bool) → leb (processes text s) process_limit ≡ b → Answers text (asked text 10 (cond b None (Some (system_token (system s)))) (opened m))
+                by : (b : Bool) → leb (processes text s) process_limit ≡ b → Answers text (asked_of_text text 10 (cond b None (Some (system_token (system s)))) (opened m))
                 by true e = yes_to_all y2 y3 y4 y5 y6 y7 y8 y9 (leb-true _ _ e)
                 by false e = no10 y2 y3 y4 y5 y6 y7 y8 y9 (leb-false _ _ e)
 
-            nine : (f : Found) → First (NotGiven w s) f → Answers text (asked text 9 f after9)
-            unfolding asked
+            nine : (f : Found) → First (NotGiven w s) f → Answers text (asked_of_text text 9 f after9)
+            unfolding asked_of_text
             nine (Some k) h = no9 y2 y3 y4 y5 y6 y7 y8 h
             nine None h = ten h
 
-          eight : (f : Found) → First (NotNew w s) f → Answers text (asked text 8 f after8)
-          unfolding asked
+          eight : (f : Found) → First (NotNew w s) f → Answers text (asked_of_text text 8 f after8)
+          unfolding asked_of_text
           eight (Some k) h = no8 y2 y3 y4 y5 y6 y7 h
           eight None h = nine h (least (not_given w s)) (given-first w s h)
 
-        seven : (f : Found) → First (Beyond text s) f → Answers text (asked text 7 f after7)
-        unfolding asked
+        seven : (f : Found) → First (Beyond text s) f → Answers text (asked_of_text text 7 f after7)
+        unfolding asked_of_text
         seven (Some k) h = no7 y2 y3 y4 y5 y6 h
         seven None h = eight h (least (not_new w s)) (new-first w s)
 
       six : Answers text (tree_judged text s)
-      unfolding tree_judged asked too_many
+      unfolding tree_judged asked_of_text too_many
       six = by (leb (length (tokens text)) token_limit) refl
         where
-          by : (b : Bool) → leb (length (tokens text)) token_limit ≡ b → Answers text (asked text 6 (cond b None (Some token_limit)) after6)
+          by : (b : Bool) → leb (length (tokens text)) token_limit ≡ b → Answers text (asked_of_text text 6 (cond b None (Some token_limit)) after6)
           by true e = seven (leb-true _ _ e) (least (beyond text s)) (beyond-first text s)
           by false e = no6 y2 y3 y4 y5 (leb-false _ _ e)
 
     -- and that it answers so
     to7 : Yes6 text → tree_judged text s ≡ after6
-    unfolding tree_judged asked
-    to7 y6 = ap (λ (f : Found). asked text 6 f after6) (few-yes y6)
+    unfolding tree_judged asked_of_text
+    to7 y6 = ap (λ (f : Found). asked_of_text text 6 f after6) (few-yes y6)
 
-    after-seven : (f : Found) → First (Beyond text s) f → after6 ≡ asked text 7 f after7
-    after-seven f h = ap (λ (f : Found). asked text 7 f after7) (first-only (Beyond text s) _ f (beyond-first text s) h)
+    after-seven : (f : Found) → First (Beyond text s) f → after6 ≡ asked_of_text text 7 f after7
+    after-seven f h = ap (λ (f : Found). asked_of_text text 7 f after7) (first-only (Beyond text s) _ f (beyond-first text s) h)
 
-    after-eight : (f : Found) → First (NotNew w s) f → after7 ≡ asked text 8 f after8
-    after-eight f h = ap (λ (f : Found). asked text 8 f after8) (first-only (NotNew w s) _ f (new-first w s) h)
+    after-eight : (f : Found) → First (NotNew w s) f → after7 ≡ asked_of_text text 8 f after8
+    after-eight f h = ap (λ (f : Found). asked_of_text text 8 f after8) (first-only (NotNew w s) _ f (new-first w s) h)
 
-    after-nine : (f : Found) → Yes8 text s → First (NotGiven w s) f → after8 ≡ asked text 9 f after9
-    after-nine f y8 h = ap (λ (f : Found). asked text 9 f after9) (first-only (NotGiven w s) _ f (given-first w s y8) h)
+    after-nine : (f : Found) → Yes8 text s → First (NotGiven w s) f → after8 ≡ asked_of_text text 9 f after9
+    after-nine f y8 h = ap (λ (f : Found). asked_of_text text 9 f after9) (first-only (NotGiven w s) _ f (given-first w s y8) h)
 
     to8 : Yes6 text → Yes7 text s → tree_judged text s ≡ after7
-    unfolding asked
+    unfolding asked_of_text
     to8 y6 y7 = to7 y6 ∙ after-seven None y7
 
     to9 : Yes6 text → Yes7 text s → Yes8 text s → tree_judged text s ≡ after8
-    unfolding asked
+    unfolding asked_of_text
     to9 y6 y7 y8 = to8 y6 y7 ∙ after-eight None y8
 
     to10 : Yes6 text → Yes7 text s → Yes8 text s → Yes9 text s → tree_judged text s ≡ after9
-    unfolding asked
+    unfolding asked_of_text
     to10 y6 y7 y8 y9 = to9 y6 y7 y8 ∙ after-nine None y8 y9
 
   -- ---- 2 to 5
@@ -209,21 +209,21 @@ module _ (text : List ℕ) where
 
   -- opening gives whatever the questions answer
   pub answers-only : {o : Opening} → Answers text o → opening text ≡ o
-  unfolding asked crowded too_many bytes_judged bytes.asked tree_judged
+  unfolding asked_of_text crowded too_many bytes_judged bytes.asked tree_judged
   answers-only (no2 h) = bytes-refused text 2 text_limit (ap (λ (f : Found). bytes.asked 2 f after2) (length-no h))
   answers-only (no3 {p = p} y2 h) = bytes-refused text 3 p (to3 y2 ∙ after-three (Some p) h)
   answers-only (no4 {p = p} y2 y3 h) = bytes-refused text 4 p (to4 y2 y3 ∙ after-four (Some p) h)
   answers-only (no5 {k = k} y2 y3 y4 h) = goes-wrong text k (passed y2 y3 y4) ((place-of-texts text k).1 h)
-  answers-only (no6 {s = s} y2 y3 y4 y5 h) = reading y2 y3 y4 y5 ∙ ap (λ (f : Found). asked text 6 f (after6 s)) (few-no s h)
+  answers-only (no6 {s = s} y2 y3 y4 y5 h) = reading y2 y3 y4 y5 ∙ ap (λ (f : Found). asked_of_text text 6 f (after6 s)) (few-no s h)
   answers-only (no7 {s = s} {k = k} y2 y3 y4 y5 y6 h) = reading y2 y3 y4 y5 ∙ to7 s y6 ∙ after-seven s (Some k) h
   answers-only (no8 {s = s} {k = k} y2 y3 y4 y5 y6 y7 h) = reading y2 y3 y4 y5 ∙ to8 s y6 y7 ∙ after-eight s (Some k) h
   answers-only (no9 {s = s} {k = k} y2 y3 y4 y5 y6 y7 y8 h) = reading y2 y3 y4 y5 ∙ to9 s y6 y7 y8 ∙ after-nine s (Some k) y8 h
   answers-only (no10 {s = s} y2 y3 y4 y5 y6 y7 y8 y9 h) =
       reading y2 y3 y4 y5 ∙ to10 s y6 y7 y8 y9
-      ∙ ap (λ (b : Bool). asked text 10 (cond b None (Some (system_token (system s)))) (opened (resolved (word_of text) s))) (lt-leb (processes text s) process_limit h)
+      ∙ ap (λ (b : Bool). asked_of_text text 10 (cond b None (Some (system_token (system s)))) (opened (resolved (word_of text) s))) (lt-leb (processes text s) process_limit h)
   answers-only (yes_to_all {s = s} y2 y3 y4 y5 y6 y7 y8 y9 h) =
       reading y2 y3 y4 y5 ∙ to10 s y6 y7 y8 y9
-      ∙ ap (λ (b : Bool). asked text 10 (cond b None (Some (system_token (system s)))) (opened (resolved (word_of text) s))) (le-leb (processes text s) process_limit h)
+      ∙ ap (λ (b : Bool). asked_of_text text 10 (cond b None (Some (system_token (system s)))) (opened (resolved (word_of text) s))) (le-leb (processes text s) process_limit h)
 
   -- 01, Opening a text: opening a text is asking the questions in order
   pub opening-answers : (o : Opening) → (opening text ≡ o) ↔ Answers text o

@@ -101,7 +101,7 @@ placed text k = byte_place text k
 
 -- questions 6 to 10
 unfoldable pub judged_tree : List ℕ → Model → Opening
-unfolding tokens_in tree_of beyond_in not_new_in not_given_in resolved_from placed Opening.too_many Opening.sums_in Opening.start_processes Opening.start_token Opening.system_token Opening.crowded Opening.asked
+unfolding tokens_in tree_of beyond_in not_new_in not_given_in resolved_from placed Opening.too_many Opening.sums_in Opening.processes_at_start Opening.start_token Opening.system_token Opening.crowded Opening.asked_of_text
     Opening.tree_judged
 judged_tree text d = tree_judged text (syntax_of d)
 

@@ -27,7 +27,7 @@ use Rattle.model.specs.Given.{not_given}
 use Rattle.model.specs.Faults.{Beyond, NotNew, NotGiven}
 use Rattle.model.specs.Good.{GoodModel}
 use Rattle.model.specs.Resolved.{Model, resolved}
-use Rattle.model.specs.Opening.{process_limit, Opening, refused, opened, too_many, start_processes, system_token, crowded, asked, tree_judged, read_judged, after_bytes, opening, byte_place}
+use Rattle.model.specs.Opening.{process_limit, Opening, refused, opened, too_many, processes_at_start, system_token, crowded, asked_of_text, tree_judged, read_judged, after_bytes, opening, byte_place}
 use Rattle.model.specs.Held.{tree_held, model_in, read_held, bytes_held, held}
 use Rattle.model.specs.Questions.{Yes2, Yes5, Yes7, Yes8, Yes9}
 use Rattle.model.proofs.Faulty.{beyond-first, new-first, given-first}
@@ -40,7 +40,7 @@ module _ (text : List ℕ) where
 
   -- 10: what opening a text with this syntax tree answers after a yes to 9
   abbrev tenth : Syntax.Model → Opening
-  tenth s = asked text 10 (crowded s (resolved w s)) (opened (resolved w s))
+  tenth s = asked_of_text text 10 (crowded s (resolved w s)) (opened (resolved w s))
 
   -- what a text holds, and what opening it answers
   pub data Agree : Option Model → Opening → Type 0 where
@@ -49,33 +49,33 @@ module _ (text : List ℕ) where
 
   module _ (s : Syntax.Model) (y2 : Yes2 text) (y5 : Yes5 text s) where
     module _ (y7 : Yes7 text s) where
-      nine : (f : Found) → Yes8 text s → First (NotGiven w s) f → Agree (model_in (asked text 9 f (opened (resolved w s)))) (asked text 9 f (tenth s))
-      unfolding asked model_in
+      nine : (f : Found) → Yes8 text s → First (NotGiven w s) f → Agree (model_in (asked_of_text text 9 f (opened (resolved w s)))) (asked_of_text text 9 f (tenth s))
+      unfolding asked_of_text model_in
       nine (Some k) y8 h = refuses 9 (omega arith)
       nine None y8 h = holds y2 y5 y7 y8 h
 
       eight : (f : Found) → First (NotNew w s) f
-          → Agree (model_in (asked text 8 f (asked text 9 (least (not_given w s)) (opened (resolved w s))))) (asked text 8 f (asked text 9 (least (not_given w s)) (tenth s)))
-      unfolding asked model_in
+          → Agree (model_in (asked_of_text text 8 f (asked_of_text text 9 (least (not_given w s)) (opened (resolved w s))))) (asked_of_text text 8 f (asked_of_text text 9 (least (not_given w s)) (tenth s)))
+      unfolding asked_of_text model_in
       eight (Some k) h = refuses 8 (omega arith)
       eight None h = nine (least (not_given w s)) h (given-first w s h)
 
     -- questions 8 and 9 before an answer
     abbrev after7 : Opening → Opening
-    after7 o = asked text 8 (least (not_new w s)) (asked text 9 (least (not_given w s)) o)
+    after7 o = asked_of_text text 8 (least (not_new w s)) (asked_of_text text 9 (least (not_given w s)) o)
 
-    seven : (f : Found) → First (Beyond text s) f → Agree (model_in (asked text 7 f (after7 (opened (resolved w s))))) (asked text 7 f (after7 (tenth s)))
-    unfolding asked model_in
+    seven : (f : Found) → First (Beyond text s) f → Agree (model_in (asked_of_text text 7 f (after7 (opened (resolved w s))))) (asked_of_text text 7 f (after7 (tenth s)))
+    unfolding asked_of_text model_in
     seven (Some k) h = refuses 7 (omega arith)
     seven None h = eight h (least (not_new w s)) (new-first w s)
 
     six : Agree (model_in (tree_held text s)) (tree_judged text s)
-    unfolding tree_held tree_judged asked model_in too_many
+    unfolding tree_held tree_judged asked_of_text model_in too_many
     six = by (leb (length (tokens text)) token_limit)
       where
         by : (b : Bool)
-            → Agree (model_in (asked text 6 (cond b None (Some token_limit)) (asked text 7 (least (beyond text s)) (after7 (opened (resolved w s))))))
-            (asked text 6 (cond b None (Some token_limit)) (asked text 7 (least (beyond text s)) (after7 (tenth s))))
+            → Agree (model_in (asked_of_text text 6 (cond b None (Some token_limit)) (asked_of_text text 7 (least (beyond text s)) (after7 (opened (resolved w s))))))
+            (asked_of_text text 6 (cond b None (Some token_limit)) (asked_of_text text 7 (least (beyond text s)) (after7 (tenth s))))
         by true = seven (least (beyond text s)) (beyond-first text s)
         by false = refuses 6 (omega arith)
 
@@ -129,11 +129,11 @@ module _ (text : List ℕ) where
 
   -- an opened text holds the model that it opened
   by-opened : {o : Option Model} {a : Opening} (m : Model) → Agree o a → a ≡ opened m → o ≡ some m
-  unfolding asked
+  unfolding asked_of_text
   by-opened m (refuses n l) e = absurd (let z : ◌≡◌ {A = ℕ} 0 1 = cc in omega arith)
   by-opened m (holds {s = s} y2 y5 y7 y8 y9) e = by (crowded s (resolved w s)) e
     where
-      by : (f : Found) → asked text 10 f (opened (resolved w s)) ≡ opened m → some (resolved w s) ≡ some m
+      by : (f : Found) → asked_of_text text 10 f (opened (resolved w s)) ≡ opened m → some (resolved w s) ≡ some m
       by (Some k) e = absurd (let z : ◌≡◌ {A = ℕ} 0 1 = cc in omega arith)
       by None e = cc
 
@@ -144,36 +144,36 @@ module _ (text : List ℕ) where
   opened-short m e = held-short m (opened-held m e)
 
   -- of a text that holds a model, 10 alone is left
-  by-few : {o : Option Model} {a : Opening} (m : Model) → Agree o a → o ≡ some m → start_processes m.definitions m.starts ≤ process_limit → a ≡ opened m
-  unfolding asked crowded
+  by-few : {o : Option Model} {a : Opening} (m : Model) → Agree o a → o ≡ some m → processes_at_start m.definitions m.starts ≤ process_limit → a ≡ opened m
+  unfolding asked_of_text crowded
   by-few m (refuses n l) e h = absurd (let z : ◌≡◌ {A = ℕ} 0 1 = cc in omega arith)
   by-few m (holds {s = s} y2 y5 y7 y8 y9) e h =
       let d : resolved w s ≡ m = cc in
-      rw d (ap (λ (b : Bool). asked text 10 (cond b None (Some (system_token (system s)))) (opened m)) (le-leb (start_processes m.definitions m.starts) process_limit h))
+      rw d (ap (λ (b : Bool). asked_of_text text 10 (cond b None (Some (system_token (system s)))) (opened m)) (le-leb (processes_at_start m.definitions m.starts) process_limit h))
 
   -- and where that has the answer no, opening refuses
-  by-many : {o : Option Model} {a : Opening} (m : Model) → Agree o a → o ≡ some m → process_limit < start_processes m.definitions m.starts → (p : ℕ) × (a ≡ refused 10 p)
-  unfolding asked crowded
+  by-many : {o : Option Model} {a : Opening} (m : Model) → Agree o a → o ≡ some m → process_limit < processes_at_start m.definitions m.starts → (p : ℕ) × (a ≡ refused 10 p)
+  unfolding asked_of_text crowded
   by-many m (refuses n l) e h = absurd (let z : ◌≡◌ {A = ℕ} 0 1 = cc in omega arith)
   by-many m (holds {s = s} y2 y5 y7 y8 y9) e h =
       let d : resolved w s ≡ m = cc in (
         byte_place text (system_token (system s)),
-        rw d (ap (λ (b : Bool). asked text 10 (cond b None (Some (system_token (system s)))) (opened m)) (lt-leb (start_processes m.definitions m.starts) process_limit h)),
+        rw d (ap (λ (b : Bool). asked_of_text text 10 (cond b None (Some (system_token (system s)))) (opened m)) (lt-leb (processes_at_start m.definitions m.starts) process_limit h)),
       )
 
-  pub held-opened : (m : Model) → held text ≡ some m → start_processes m.definitions m.starts ≤ process_limit → opening text ≡ opened m
+  pub held-opened : (m : Model) → held text ≡ some m → processes_at_start m.definitions m.starts ≤ process_limit → opening text ≡ opened m
   held-opened m e h = by-few m agree e h
 
-  pub held-refused : (m : Model) → held text ≡ some m → process_limit < start_processes m.definitions m.starts → (p : ℕ) × (opening text ≡ refused 10 p)
+  pub held-refused : (m : Model) → held text ≡ some m → process_limit < processes_at_start m.definitions m.starts → (p : ℕ) × (opening text ≡ refused 10 p)
   held-refused m e h = by-many m agree e h
 
   -- a text refused under 2 to 9 holds none
   by-refused : {o : Option Model} {a : Opening} (n p : ℕ) → Agree o a → a ≡ refused n p → n ≤ 9 → o ≡ none
-  unfolding asked
+  unfolding asked_of_text
   by-refused n p (refuses k l) e h = refl
   by-refused n p (holds {s = s} y2 y5 y7 y8 y9) e h = by (crowded s (resolved w s)) e
     where
-      by : (f : Found) → asked text 10 f (opened (resolved w s)) ≡ refused n p → some (resolved w s) ≡ none
+      by : (f : Found) → asked_of_text text 10 f (opened (resolved w s)) ≡ refused n p → some (resolved w s) ≡ none
       by (Some k) e = absurd (let z : 10 ≡ n = cc in omega arith)
       by None e = absurd (let z : ◌≡◌ {A = ℕ} 0 1 = cc in omega arith)
 

@@ -23,7 +23,7 @@ use Rattle.model.specs.Words.{word_of, whole_of, decimal_of}
 use Rattle.model.specs.Limits.{count_limit, definition_limit, parameter_limit, local_limit, branch_limit}
 use Rattle.model.specs.Resolved.{Model, channel_names, resolved}
 use Rattle.model.specs.Good.{scale_limit, GoodModel}
-use Rattle.model.specs.Opening.{process_limit, Opening, refused, opened, opening, start_processes}
+use Rattle.model.specs.Opening.{process_limit, Opening, refused, opened, opening, processes_at_start}
 use Rattle.model.specs.Stands.{BranchIn, SiteIn, in_rate}
 use Rattle.model.specs.Faults.{WholeIn, in_definition, in_variable, in_system, long-decimal, large, count, definition, parameter, local, branching, no_value, no_scale, no_call, no_start, uneven}
 use Rattle.model.specs.Questions.{Yes5, Yes7, Yes8, Yes9, Answers, no2, no3, no4, no5, no6, no7, no8, no9, no10, yes_to_all}
@@ -148,7 +148,7 @@ module _ (text : List ℕ) where
   never-opened e = absurd (let z : ◌≡◌ {A = ℕ} 0 1 = cc in omega arith)
 
   -- what all questions say of a model that was opened
-  opened-by : (o : Opening) (m : Model) → Answers text o → o ≡ opened m → GoodModel m × (start_processes m.definitions m.starts ≤ process_limit)
+  opened-by : (o : Opening) (m : Model) → Answers text o → o ≡ opened m → GoodModel m × (processes_at_start m.definitions m.starts ≤ process_limit)
   opened-by o m (no2 h) e = never-opened e
   opened-by o m (no3 y2 h) e = never-opened e
   opened-by o m (no4 y2 y3 h) e = never-opened e
@@ -160,12 +160,12 @@ module _ (text : List ℕ) where
   opened-by o m (no10 y2 y3 y4 y5 y6 y7 y8 y9 h) e = never-opened e
   opened-by o m (yes_to_all {s = s} y2 y3 y4 y5 y6 y7 y8 y9 y10) e =
       let d : resolved (word_of text) s ≡ m = cc in
-      subst (λ (x : Model). GoodModel x × (start_processes x.definitions x.starts ≤ process_limit)) d (closed text s y5 y7 y8 y9, y10)
+      subst (λ (x : Model). GoodModel x × (processes_at_start x.definitions x.starts ≤ process_limit)) d (closed text s y5 y7 y8 y9, y10)
 
   -- an opened model is well formed
   pub opened-good : (m : Model) → opening text ≡ opened m → GoodModel m
   opened-good m e = (opened-by (opening text) m (answered text) e).0
 
   -- and starts with at most 256 processes
-  pub opened-few : (m : Model) → opening text ≡ opened m → start_processes m.definitions m.starts ≤ process_limit
+  pub opened-few : (m : Model) → opening text ≡ opened m → processes_at_start m.definitions m.starts ≤ process_limit
   opened-few m e = (opened-by (opening text) m (answered text) e).1

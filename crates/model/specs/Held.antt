@@ -12,15 +12,15 @@ use Rattle.model.specs.Limits.{beyond}
 use Rattle.model.specs.Fresh.{not_new}
 use Rattle.model.specs.Given.{not_given}
 use Rattle.model.specs.Resolved.{Model, resolved}
-use Rattle.model.specs.Opening.{Opening, refused, opened, too_many, asked}
+use Rattle.model.specs.Opening.{Opening, refused, opened, too_many, asked_of_text}
 
 -- 6 to 9 of a text with this syntax tree
 unfoldable pub tree_held : List ℕ → Syntax.Model → Opening
 tree_held text s =
-    asked text 6 (too_many text)
-    (asked text 7 (least (beyond text s))
-    (asked text 8 (least (not_new (word_of text) s))
-    (asked text 9 (least (not_given (word_of text) s)) (opened (resolved (word_of text) s)))))
+    asked_of_text text 6 (too_many text)
+    (asked_of_text text 7 (least (beyond text s))
+    (asked_of_text text 8 (least (not_new (word_of text) s))
+    (asked_of_text text 9 (least (not_given (word_of text) s)) (opened (resolved (word_of text) s)))))
 
 unfoldable pub model_in : Opening → Option Model
 model_in (refused n p) = none

@@ -37,9 +37,9 @@ sums_in (d ∷ ds) zero = length d.sums
 sums_in (d ∷ ds) (suc n) = sums_in ds n
 
 -- 10: how many processes there are at the start, counts written out
-unfoldable pub start_processes : List Defined → List Start → ℕ
-start_processes ds [] = 0
-start_processes ds (s ∷ ss) = s.count * sums_in ds s.definition + start_processes ds ss
+unfoldable pub processes_at_start : List Defined → List Start → ℕ
+processes_at_start ds [] = 0
+processes_at_start ds (s ∷ ss) = s.count * sums_in ds s.definition + processes_at_start ds ss
 
 -- the first token of the system line
 unfoldable pub start_token : Syntax.Start → ℕ
@@ -51,22 +51,22 @@ system_token (Syntax.last_start s) = start_token s
 system_token (Syntax.next_start s r) = start_token s
 
 unfoldable pub crowded : Syntax.Model → Model → Found
-crowded s m = cond (leb (start_processes m.definitions m.starts) process_limit) None (Some (system_token (system s)))
+crowded s m = cond (leb (processes_at_start m.definitions m.starts) process_limit) None (Some (system_token (system s)))
 
 -- a no to question n at token k, or what the later questions say
-unfoldable pub asked : List ℕ → ℕ → Found → Opening → Opening
-asked text n (Some k) more = refused n (byte_place text k)
-asked text n None more = more
+unfoldable pub asked_of_text : List ℕ → ℕ → Found → Opening → Opening
+asked_of_text text n (Some k) more = refused n (byte_place text k)
+asked_of_text text n None more = more
 
 -- 6 to 10 of a text with this syntax tree
 unfoldable pub tree_judged : List ℕ → Syntax.Model → Opening
 tree_judged text s =
     let m = resolved (word_of text) s in
-    asked text 6 (too_many text)
-    (asked text 7 (least (beyond text s))
-    (asked text 8 (least (not_new (word_of text) s))
-    (asked text 9 (least (not_given (word_of text) s))
-    (asked text 10 (crowded s m) (opened m)))))
+    asked_of_text text 6 (too_many text)
+    (asked_of_text text 7 (least (beyond text s))
+    (asked_of_text text 8 (least (not_new (word_of text) s))
+    (asked_of_text text 9 (least (not_given (word_of text) s))
+    (asked_of_text text 10 (crowded s m) (opened m)))))
 
 -- 5: the text's one reading, or the place at which it goes wrong
 unfoldable pub read_judged : List ℕ → Verdict → Opening

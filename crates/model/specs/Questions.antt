@@ -13,7 +13,7 @@ use Rattle.model.specs.Words.{word_of}
 use Rattle.model.specs.Faults.{Beyond, NotNew, NotGiven}
 use Rattle.model.specs.Resolved.{resolved}
 use Rattle.grammar.specs.Limit.{token_limit}
-use Rattle.model.specs.Opening.{process_limit, Opening, refused, opened, byte_place, start_processes, system_token}
+use Rattle.model.specs.Opening.{process_limit, Opening, refused, opened, byte_place, processes_at_start, system_token}
 
 -- ---- yes; s: the text's syntax tree
 
@@ -46,7 +46,7 @@ Yes9 text s = (k : ℕ) → NotGiven (word_of text) s k → ⊥
 
 -- how many processes the text starts with
 abbrev pub processes : List ℕ → Syntax.Model → ℕ
-processes text s = start_processes (resolved (word_of text) s).definitions (resolved (word_of text) s).starts
+processes text s = processes_at_start (resolved (word_of text) s).definitions (resolved (word_of text) s).starts
 
 abbrev pub Yes10 : List ℕ → Syntax.Model → Type 0
 Yes10 text s = processes text s ≤ process_limit

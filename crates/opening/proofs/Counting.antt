@@ -13,7 +13,7 @@ use Rattle.tree.specs.Node as node
 use Rattle.tree.specs.Node.{field, kind_of, token_of, left_of}
 use Rattle.model.specs.Good.{Every}
 use Rattle.model.specs.Resolved
-use Rattle.model.specs.Opening.{process_limit, sums_in, start_processes}
+use Rattle.model.specs.Opening.{process_limit, sums_in, processes_at_start}
 use Rattle.tables.specs.Settled.{kind_at}
 use Rattle.tables.specs.Represents as tables
 use Rattle.tables.proofs.Sums.{kind-inside}
@@ -120,7 +120,7 @@ module _ (t : List ℕ) where
     pub items : List Resolved.Start
     pub holds : tables.Starts t items k
     pub known : Every (λ s. s.definition < length m.definitions) items
-    pub sum : count + start_processes m.definitions items ≡ start_processes m.definitions m.starts
+    pub sum : count + processes_at_start m.definitions items ≡ processes_at_start m.definitions m.starts
 
   module _ {first line : ℕ} {m : Resolved.Model} (g : Countable t first line m) where
     pub left-all : Left first line m 0 line
@@ -137,8 +137,8 @@ module _ (t : List ℕ) where
         pub rest : (n : ℕ) → n ≡ start.count * sums_in m.definitions start.definition → Left first line m (count + n) (k - 1)
         pub above : 0 < k
 
-      next_of : (ss : List Resolved.Start) → tables.Starts t ss k → Every (λ s. s.definition < length m.definitions) ss → count + start_processes m.definitions ss ≡ start_processes m.definitions m.starts → kind_at t k ≡ node.system → Next
-      unfolding tables.Starts Every start_processes
+      next_of : (ss : List Resolved.Start) → tables.Starts t ss k → Every (λ s. s.definition < length m.definitions) ss → count + processes_at_start m.definitions ss ≡ processes_at_start m.definitions m.starts → kind_at t k ≡ node.system → Next
+      unfolding tables.Starts Every processes_at_start
       next_of [] h n e κ = absurd h
       next_of (s ∷ []) h n e κ = absurd ((item-cell s k h).other κ)
       next_of (s ∷ r ∷ ss) h n e κ =
@@ -160,10 +160,10 @@ module _ (t : List ℕ) where
       pub record Last : Type 0 where
         pub start : Resolved.Start
         pub item : ItemAt t first m.definitions start k
-        pub sum : (n : ℕ) → n ≡ start.count * sums_in m.definitions start.definition → count + n ≡ start_processes m.definitions m.starts
+        pub sum : (n : ℕ) → n ≡ start.count * sums_in m.definitions start.definition → count + n ≡ processes_at_start m.definitions m.starts
 
-      last_of : (ss : List Resolved.Start) → tables.Starts t ss k → Every (λ s. s.definition < length m.definitions) ss → count + start_processes m.definitions ss ≡ start_processes m.definitions m.starts → (kind_at t k ≡ node.system → ⊥) → Last
-      unfolding tables.Starts Every start_processes
+      last_of : (ss : List Resolved.Start) → tables.Starts t ss k → Every (λ s. s.definition < length m.definitions) ss → count + processes_at_start m.definitions ss ≡ processes_at_start m.definitions m.starts → (kind_at t k ≡ node.system → ⊥) → Last
+      unfolding tables.Starts Every processes_at_start
       last_of [] h n e κ = absurd h
       last_of (s ∷ []) h n e κ =
           record { start = s; item = record { room = g.room; definition = g.definition; item = h; known = n.0 }; sum = λ c d. omega (arith, d, e) }
@@ -173,7 +173,7 @@ module _ (t : List ℕ) where
       left-last = last_of l.items l.holds l.known l.sum
 
       -- ---- the returns of `start_count`
-      pub counts-many : process_limit < count → Counts count (start_processes m.definitions m.starts)
+      pub counts-many : process_limit < count → Counts count (processes_at_start m.definitions m.starts)
       counts-many h = record { few = λ f. absurd (omega arith); many = λ f. omega (arith, l.sum) }
 
 pub counts_all : {r p : ℕ} → r ≡ p → Counts r p

@@ -21,7 +21,7 @@ use Rattle.model.specs.Limits.{beyond}
 use Rattle.model.specs.Fresh.{not_new}
 use Rattle.model.specs.Given.{not_given}
 use Rattle.model.specs.Resolved.{resolved}
-use Rattle.model.specs.Opening.{Opening, refused, opened, byte_place, too_many, system_token, crowded, asked, tree_judged, opening}
+use Rattle.model.specs.Opening.{Opening, refused, opened, byte_place, too_many, system_token, crowded, asked_of_text, tree_judged, opening}
 use Rattle.model.specs.Held.{tree_held, model_in, held}
 use Rattle.names.specs.Judged.{among_all, no_of, answer_of, judged_names}
 use Rattle.names.specs.declared.Fault.{Fault}
@@ -38,8 +38,8 @@ place_of (Ok u) = 0
 place_of (Err r) = r.place
 
 -- a no of the tokens is the no of the text, whatever is asked later
-same-no : (text : List ℕ) (f g h : Found) (more : Opening) {r : No} → bytes.asked 7 f (bytes.asked 8 g (bytes.asked 9 h (Ok tt))) ≡ Err r → asked text 7 f (asked text 8 g (asked text 9 h more)) ≡ refused r.number (byte_place text r.place)
-unfolding bytes.asked asked number_of place_of
+same-no : (text : List ℕ) (f g h : Found) (more : Opening) {r : No} → bytes.asked 7 f (bytes.asked 8 g (bytes.asked 9 h (Ok tt))) ≡ Err r → asked_of_text text 7 f (asked_of_text text 8 g (asked_of_text text 9 h more)) ≡ refused r.number (byte_place text r.place)
+unfolding bytes.asked asked_of_text number_of place_of
 same-no text (Some i) g h more e = rw (← ap number_of e, ← ap place_of e)
 same-no text None (Some i) h more e = rw (← ap number_of e, ← ap place_of e)
 same-no text None None (Some i) more e = rw (← ap number_of e, ← ap place_of e)
@@ -69,10 +69,10 @@ module _ {text : List ℕ} {s : Syntax.Model} {kinds places : List ℕ} {content
 
   module _ {j : Result (Unit {0}) Fault} (e : answer_of j ≡ judged_names text s) where
     pub names-no : {x : Fault} → j ≡ Err x → (r : Refusal) → r.question ≡ among_all x.question → r.place ≡ byte_place text x.token → NamesJudged text s (Err r)
-    unfolding NamesJudged answer_of no_of judged_names tree_judged tree_held asked model_in
+    unfolding NamesJudged answer_of no_of judged_names tree_judged tree_held asked_of_text model_in
     names-no {x} i r a b =
         let q : judged_names text s ≡ Err (no_of x) = sym e ∙ ap answer_of i in
-        let opens = same-no text f7 f8 f9 (asked text 10 (crowded s (resolved (word_of text) s)) (opened (resolved (word_of text) s))) q in
+        let opens = same-no text f7 f8 f9 (asked_of_text text 10 (crowded s (resolved (word_of text) s)) (opened (resolved (word_of text) s))) q in
         let holds = same-no text f7 f8 f9 (opened (resolved (word_of text) s)) q in
         record { opens = f.opens ∙ simp few (opens ∙ rw (a, b)); holds = f.holds ∙ simp few (ap model_in holds) }
 
@@ -84,10 +84,10 @@ module _ {text : List ℕ} {s : Syntax.Model} {kinds places : List ℕ} {content
 
   -- ---- the model of a text that is sound
   module _ (v : Sound text s) where
-    pub asks-ten : opening text ≡ asked text 10 (crowded s (resolved (word_of text) s)) (opened (resolved (word_of text) s))
-    unfolding tree_judged asked
+    pub asks-ten : opening text ≡ asked_of_text text 10 (crowded s (resolved (word_of text) s)) (opened (resolved (word_of text) s))
+    unfolding tree_judged asked_of_text
     asks-ten = f.opens ∙ simp (few, v.within, v.new, v.given)
 
     pub holds-model : held text ≡ some (resolved (word_of text) s)
-    unfolding tree_held asked model_in
+    unfolding tree_held asked_of_text model_in
     holds-model = f.holds ∙ simp (few, v.within, v.new, v.given)

@@ -17,7 +17,7 @@ use Rattle.model.specs.Good.{Every, GoodStart}
 use Rattle.model.specs.Resolved
 use Rattle.model.specs.Resolved.{resolved}
 use Rattle.model.specs.Held.{held}
-use Rattle.model.specs.Opening.{process_limit, refused, start_processes, crowded, asked}
+use Rattle.model.specs.Opening.{process_limit, refused, processes_at_start, crowded, asked_of_text}
 use Rattle.model.proofs.Held.{held-good}
 use Rattle.opening.specs.Counts.{Countable, Counts}
 use Rattle.opening.specs.Trees.{Closed, FittedIn, TreeRead, Tree}
@@ -109,18 +109,18 @@ module _ {text nodes roots scopes : List ℕ} {x : Model} {p : ℕ} (g : ModelHe
         known = known-starts g.model g.model.starts (held-good text g.model g.holds).starts;
       }
 
-  module _ {k : ℕ} (c : Counts k (start_processes g.model.definitions g.model.starts)) where
+  module _ {k : ℕ} (c : Counts k (processes_at_start g.model.definitions g.model.starts)) where
     abbrev processes : ℕ
-    processes = start_processes g.model.definitions g.model.starts
+    processes = processes_at_start g.model.definitions g.model.starts
 
     pub many-no : process_limit < k → Opens text nodes roots scopes (Err (record { question = Processes; place = p }))
-    unfolding Opens asked crowded
+    unfolding Opens asked_of_text crowded
     many-no l =
         let h : process_limit < processes = c.many l in
         g.opens ∙ simp (lt-leb processes process_limit h) (ap (refused 10) (sym g.place_is))
 
     pub few-yes : k ≤ process_limit → Opens text nodes roots scopes (Ok (record { model = x; processes = k }))
-    unfolding Opens asked crowded
+    unfolding Opens asked_of_text crowded
     few-yes l =
         let e : k ≡ processes = c.few l in
         let h : processes ≤ process_limit = omega arith in

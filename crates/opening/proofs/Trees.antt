@@ -17,10 +17,10 @@ use Rattle.grammar.specs.Grammar.{Model, Reads, Wrong}
 use Rattle.grammar.specs.Limit.{token_limit}
 use Rattle.grammar.specs.Syntax.{syntax_of}
 use Rattle.syntax.specs.Judged.{Fitting}
-use Rattle.syntax.specs.Asked.{No as NoTo, no5, no6, Asks, Asked}
+use Rattle.syntax.specs.Asked.{No as NoTo, no5, no6, TextAsks, TreeOrUnfit}
 use Rattle.syntax.specs.declared.question.Unfit.{Unfit}
 use Rattle.syntax.specs.declared.question.Unfit.TheVariants.{Misfit, Crowded}
-use Rattle.model.specs.Opening.{refused, too_many, asked, byte_place, tree_judged}
+use Rattle.model.specs.Opening.{refused, too_many, asked_of_text, byte_place, tree_judged}
 use Rattle.model.specs.Held.{tree_held, model_in}
 use Rattle.model.proofs.Opens.{bytes-refused, goes-wrong, fits}
 use Rattle.names.specs.Tables.{Read}
@@ -52,16 +52,16 @@ module _ {text kinds₀ places₀ sizes₀ : List ℕ} {n : ℕ} {kinds places s
       let all = take_all n (tokens text) (omega (arith, f.count)) in
       ap (take n) (e ∙ ap (λ (ms : List Mark). column g ms ++ drop n low) all) ∙ take_at (column g (tokens text)) (drop n low) n (column-length g (tokens text) ∙ sym f.count)
 
-  module _ (nodes : List ℕ) (r : Asked) (a : Asks (take n kinds) nodes r) where
-    asks : Asks ts nodes r
+  module _ (nodes : List ℕ) (r : TreeOrUnfit) (a : TextAsks (take n kinds) nodes r) where
+    asks : TextAsks ts nodes r
     asks = rw (filled-tokens f) at a
 
     fitting : {root : ℕ} → r ≡ Ok root → Fitting ts nodes root × (length ts ≤ token_limit)
-    unfolding Asks
+    unfolding TextAsks
     fitting q = rw q at asks
 
     crowding : {k : ℕ} → r ≡ Err (Crowded k) → ((m : Model) × Reads ts m) × (token_limit < length ts) × (k ≡ token_limit)
-    unfolding Asks
+    unfolding TextAsks
     crowding {k} q = by (rw q at asks)
       where
         by : NoTo ts 6 k → ((m : Model) × Reads ts m) × (token_limit < length ts) × (k ≡ token_limit)
@@ -69,7 +69,7 @@ module _ {text kinds₀ places₀ sizes₀ : List ℕ} {n : ℕ} {kinds places s
         by (no6 e m h l i) = ((m, h), l, i)
 
     goes : {k : ℕ} → r ≡ Err (Misfit k) → Wrong ts k
-    unfolding Asks
+    unfolding TextAsks
     goes {k} q = by (rw q at asks)
       where
         by : NoTo ts 5 k → Wrong ts k
@@ -89,7 +89,7 @@ module _ {text kinds₀ places₀ sizes₀ : List ℕ} {n : ℕ} {kinds places s
 
       -- 6
       pub crowded-no : {bytes words : ℕ} (t : Table bytes words) {u : Unfit} {k p : ℕ} → r ≡ Err u → u ≡ Crowded k → p ≡ byte_place text k → TreeRead text t nodes (Err (record { question = Tokens; place = p }))
-      unfolding TreeRead tree_judged tree_held too_many asked model_in
+      unfolding TreeRead tree_judged tree_held too_many asked_of_text model_in
       crowded-no t {k = k} q d e =
           let b = crowding (q ∙ ap Err d) in
           let l : token_limit < length (tokens text) = omega (arith, few, b.1) in

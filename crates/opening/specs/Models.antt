@@ -8,7 +8,7 @@ use Rattle.model.specs.Sites.{system}
 use Rattle.model.specs.Words.{word_of}
 use Rattle.model.specs.Resolved
 use Rattle.model.specs.Questions.{Yes5}
-use Rattle.model.specs.Opening.{refused, opened, byte_place, system_token, start_processes, crowded, asked, opening}
+use Rattle.model.specs.Opening.{refused, opened, byte_place, system_token, processes_at_start, crowded, asked_of_text, opening}
 use Rattle.model.specs.Held.{held}
 use Rattle.tables.specs.Represents.{Represents}
 use Rattle.settle.specs.declared.Model.{Model}
@@ -36,7 +36,7 @@ pub record ModelHeld (text nodes roots scopes : List ℕ) (x : Model) (p : ℕ) 
   pub model : Resolved.Model
   pub holds : held text ≡ some model
   pub worded : model.words ≡ word_of text
-  pub opens : opening text ≡ asked text 10 (crowded tree model) (opened model)
+  pub opens : opening text ≡ asked_of_text text 10 (crowded tree model) (opened model)
   pub shown : Shown nodes roots scopes x model
   pub written : Written text tree nodes roots scopes x
   pub rooted : Rooted x
@@ -58,7 +58,7 @@ pub record ModelOpened (text nodes roots scopes : List ℕ) (x : Model) (k : ℕ
   pub opens : opening text ≡ opened model
   pub shown : Shown nodes roots scopes x model
   pub written : Written text tree nodes roots scopes x
-  pub count-is : k ≡ start_processes model.definitions model.starts
+  pub count-is : k ≡ processes_at_start model.definitions model.starts
 
 -- the model and the number of processes at the start, or the first no
 abbrev pub Opened : Type 0

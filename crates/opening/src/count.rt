@@ -2,7 +2,7 @@
 ghost use Rattle.std.specs.Prelude.{◌≡◌, List, ℕ, ◌*◌, ◌≤◌};
 ghost use Rattle.tree.specs.Node.{field};
 ghost use Rattle.model.specs.Resolved;
-ghost use Rattle.model.specs.Opening.{sums_in, start_processes};
+ghost use Rattle.model.specs.Opening.{sums_in, processes_at_start};
 ghost use Rattle.opening.specs.Counts.{Countable, ItemAt, Counts};
 
 use crate::Limits;
@@ -23,7 +23,7 @@ fn item_processes(nodes: &[u64], first: usize, k: usize) -> usize
 // How many processes the system line at `line` starts; above the limit, some number above it.
 pub fn start_count(nodes: &[u64], first: usize, line: usize) -> usize
     requires { (m : Resolved.Model) × Countable nodes.now first line m }
-    ensures { (m : Resolved.Model) → Countable nodes.now first line m → Counts result (start_processes m.definitions m.starts) }
+    ensures { (m : Resolved.Model) → Countable nodes.now first line m → Counts result (processes_at_start m.definitions m.starts) }
 {
     let mut count = 0;
     let mut at = line;

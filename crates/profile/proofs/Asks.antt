@@ -12,7 +12,7 @@ use Rattle.grammar.proofs.Unique.{unique}
 use Rattle.model.specs.Lists.{least}
 use Rattle.model.specs.Words.{word_of}
 use Rattle.model.specs.Resolved.{Model, resolved}
-use Rattle.model.specs.Opening.{Opening, refused, opened, asked, opening}
+use Rattle.model.specs.Opening.{Opening, refused, opened, asked_of_text, opening}
 use Rattle.model.specs.Questions.{Yes5, Yes8, Yes9, Answers, no2, no3, no4, no5, no6, no7, no8, no9, no10, yes_to_all}
 use Rattle.model.proofs.Answered.{answered}
 use Rattle.profile.specs.Unsteady.{unsteady}
@@ -88,6 +88,6 @@ module _ (text : List ℕ) where
   unfolding read_steady
   by-tree o y = ap (λ (v : Verdict). read_steady text v o) (verdict-fits ts y.reading y.reads) ∙ ap (λ (x : Syntax.Model). also_steady text x o) y.tree
 
-  pub opened-asks : {s : Syntax.Model} {m : Model} → Yes5 text s → opening text ≡ opened m → opening_steady text ≡ asked text 29 (least (unsteady (word_of text) s)) (opened m)
+  pub opened-asks : {s : Syntax.Model} {m : Model} → Yes5 text s → opening text ≡ opened m → opening_steady text ≡ asked_of_text text 29 (least (unsteady (word_of text) s)) (opened m)
   unfolding opening_steady also_steady
   opened-asks {s} y e = by-tree (opening text) y ∙ ap (also_steady text s) e

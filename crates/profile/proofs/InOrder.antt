@@ -10,7 +10,7 @@ use Rattle.grammar.specs.Syntax
 use Rattle.model.specs.Lists.{least}
 use Rattle.model.specs.Words.{word_of}
 use Rattle.model.specs.Resolved.{Model}
-use Rattle.model.specs.Opening.{Opening, refused, opened, asked, opening}
+use Rattle.model.specs.Opening.{Opening, refused, opened, asked_of_text, opening}
 use Rattle.model.specs.Questions.{Yes5, Yes8, Answers}
 use Rattle.model.proofs.Answered.{answered, answers-only, first-only}
 use Rattle.profile.specs.Unsteady.{Offends, unsteady}
@@ -21,8 +21,8 @@ use Rattle.profile.proofs.Offending.{offends-first}
 module _ (text : List ℕ) where
   -- ---- what is answered
 
-  by_first : {s : Syntax.Model} {m : Model} (f : Found) → opening text ≡ opened m → Yes5 text s → First (Offends (word_of text) s) f → AnswersSteady text (asked text 29 f (opened m))
-  unfolding asked
+  by_first : {s : Syntax.Model} {m : Model} (f : Found) → opening text ≡ opened m → Yes5 text s → First (Offends (word_of text) s) f → AnswersSteady text (asked_of_text text 29 f (opened m))
+  unfolding asked_of_text
   by_first {s} {m} (Some k) e y h = no29 (subst (λ (o : Opening). Answers text o) e (answered text)) y h
   by_first {s} {m} None e y h = yes_to_all (subst (λ (o : Opening). Answers text o) e (answered text)) y h
 
@@ -40,12 +40,12 @@ module _ (text : List ℕ) where
   new_in : {s : Syntax.Model} {m : Model} → opening text ≡ opened m → Yes5 text s → Yes8 text s
   new_in {s} {m} e y = let h = opened-by text m e in subst (λ (t : Syntax.Model). Yes8 text t) (one-tree text h.fits y) h.new
 
-  first_so : {s : Syntax.Model} {m : Model} (f : Found) → opening text ≡ opened m → Yes5 text s → First (Offends (word_of text) s) f → opening_steady text ≡ asked text 29 f (opened m)
+  first_so : {s : Syntax.Model} {m : Model} (f : Found) → opening text ≡ opened m → Yes5 text s → First (Offends (word_of text) s) f → opening_steady text ≡ asked_of_text text 29 f (opened m)
   first_so {s} {m} f e y h =
-      opened-asks text y e ∙ ap (λ (g : Found). asked text 29 g (opened m)) (first-only (Offends (word_of text) s) _ f (offends-first (word_of text) s (new_in e y)) h)
+      opened-asks text y e ∙ ap (λ (g : Found). asked_of_text text 29 g (opened m)) (first-only (Offends (word_of text) s) _ f (offends-first (word_of text) s (new_in e y)) h)
 
   only-steady : {o : Opening} → AnswersSteady text o → opening_steady text ≡ o
-  unfolding asked
+  unfolding asked_of_text
   only-steady (no2to10 a) = refused-so text (answers-only text a)
   only-steady (no29 {k = k} a y h) = first_so (Some k) (answers-only text a) y h
   only-steady (yes_to_all a y h) = first_so None (answers-only text a) y h

@@ -9,14 +9,14 @@ use Rattle.grammar.specs.Verdict.{Verdict, fitting, failing, verdict}
 use Rattle.model.specs.Lists.{least}
 use Rattle.model.specs.Words.{word_of}
 use Rattle.model.specs.Resolved.{Model}
-use Rattle.model.specs.Opening.{Opening, refused, opened, byte_place, asked, opening}
+use Rattle.model.specs.Opening.{Opening, refused, opened, byte_place, asked_of_text, opening}
 use Rattle.model.specs.Questions.{Yes5, Answers}
 use Rattle.profile.specs.Unsteady.{Offends, unsteady}
 
 -- 02, note 11: 29, asked where 2 to 10 have the answer yes; s: the text's syntax tree
 unfoldable pub also_steady : List ℕ → Syntax.Model → Opening → Opening
 also_steady text s (refused n p) = refused n p
-also_steady text s (opened m) = asked text 29 (least (unsteady (word_of text) s)) (opened m)
+also_steady text s (opened m) = asked_of_text text 29 (least (unsteady (word_of text) s)) (opened m)
 
 -- of a text's one reading; a text that goes wrong is refused before
 unfoldable pub read_steady : List ℕ → Verdict → Opening → Opening

@@ -293,8 +293,8 @@ unfolding opens no
 opening-shows (refused n p) = refl
 opening-shows (opened m) = refl
 
-asked-within : {x : Engine} {y : Machine} → Holds x y → (k : Ask) → InPart k (machine.asked y k).answer.listing
-unfolding machine.asked on_machine
+asked-within : {x : Engine} {y : Machine} → Holds x y → (k : Ask) → InPart k (machine.asked_of_machine y k).answer.listing
+unfolding machine.asked_of_machine on_machine
 asked-within h (open' text) = nothing (opening-shows (opening text))
 asked-within h (open_steady' text) = nothing (opening-shows (opening_steady text))
 asked-within (zeros e) (on' r) = nothing (unfold no in refl)
@@ -424,8 +424,8 @@ module _ (y : Machine) (c : Call) (x : Lent) (f : Fits c (room_of x)) (h : Holds
   unfolding calls no room_of
   own-part = by (has_lengths c.ask c.lengths c.output) refl (asked-within h c.ask)
     where
-      by : (b : Bool) → has_lengths c.ask c.lengths c.output ≡ b → InPart c.ask (machine.asked y c.ask).answer.listing
-          → OwnPart c (cond b (machine.asked y c.ask) (turn y (no 1 0 0 as_lent))).answer.listing x.outputs
+      by : (b : Bool) → has_lengths c.ask c.lengths c.output ≡ b → InPart c.ask (machine.asked_of_machine y c.ask).answer.listing
+          → OwnPart c (cond b (machine.asked_of_machine y c.ask) (turn y (no 1 0 0 as_lent))).answer.listing x.outputs
       by true b (nothing e) = as_lent_lem c _ x.outputs e
       by true b (within n o s) =
           let q : c.output ≡ n = (on (lent-so c) b).output n o in

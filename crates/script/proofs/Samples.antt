@@ -6,7 +6,7 @@ use mathlib.Core.Option.{Option-elim}
 use Prim.Native.Nat.{ℕ}
 use Rattle.machine.specs.State.{state_length}
 use Rattle.machine.specs.Saves.{saves_length}
-use Rattle.machine.specs.Machine.{as_lent, no, closed, list', step', report', search', timed', run', save', return', forget', Ask, open', open_steady', on', model, state, saves, size, all_parts, has_lengths, Call, call, on_machine, asked, calls}
+use Rattle.machine.specs.Machine.{as_lent, no, closed, list', step', report', search', timed', run', save', return', forget', Ask, open', open_steady', on', model, state, saves, size, all_parts, has_lengths, Call, call, on_machine, asked_of_machine, calls}
 use Rattle.script.specs.Rows.{row_of, rows, rows_of, row_lengths, Room, room_after, fits, row_text, row_draws, row_words, row_ask, row_call, call_of, calls_of, calls_in}
 
 abbrev texts : List ℕ
@@ -57,5 +57,5 @@ sample-calls = refl
 
 -- 02, note 6: a report that is lent 63 numbers is refused under 1, one that is lent 64 under 11 where the machine is closed, and both leave it as lent
 pub short-report : ((calls closed (call (on' report') size 63)).answer ≡ no 1 0 0 as_lent) × ((calls closed (call (on' report') size 64)).answer ≡ no 11 0 0 as_lent)
-unfolding calls has_lengths all_parts asked on_machine Option-elim
+unfolding calls has_lengths all_parts asked_of_machine on_machine Option-elim
 short-report = (refl, refl)

@@ -14,7 +14,7 @@ use Rattle.model.specs.Lists.{least}
 use Rattle.model.specs.Resolved
 use Rattle.model.specs.Words.{word_of}
 use Rattle.model.specs.Limits.{words_beyond, tree_beyond, beyond}
-use Rattle.model.specs.Opening.{refused, opened, byte_place, asked, opening}
+use Rattle.model.specs.Opening.{refused, opened, byte_place, asked_of_text, opening}
 use Rattle.model.specs.Questions.{Yes5}
 use Rattle.profile.specs.Unsteady.{unsteady}
 use Rattle.profile.proofs.Asks.{refused-so, opened-asks}
@@ -56,21 +56,21 @@ module _ (p : Profile) (text : List ℕ) where
       unfolding Opens
       model-opened = rw e at d
 
-      asks-under : (q : Profile) (m : Resolved.Model) → opening text ≡ opened m → opening_under q text ≡ asked text 29 (offender_under q text s) (opened m)
-      unfolding opening_under offender_under asked
+      asks-under : (q : Profile) (m : Resolved.Model) → opening text ≡ opened m → opening_under q text ≡ asked_of_text text 29 (offender_under q text s) (opened m)
+      unfolding opening_under offender_under asked_of_text
       asks-under Plain m i = i
       asks-under Steady m i = opened-asks text y i
 
-      asks : opening_under p text ≡ asked text 29 f (opened model-opened.model)
-      asks = asks-under p model-opened.model model-opened.opens ∙ ap (λ (g : Found). asked text 29 g (opened model-opened.model)) (sym is)
+      asks : opening_under p text ≡ asked_of_text text 29 f (opened model-opened.model)
+      asks = asks-under p model-opened.model model-opened.opens ∙ ap (λ (g : Found). asked_of_text text 29 g (opened model-opened.model)) (sym is)
 
       pub offends : {k b : ℕ} → f ≡ Some k → b ≡ byte_place text k → OpensUnder p text nodes roots scopes (Err (record { question = question.Steady; place = b }))
-      unfolding OpensUnder asked
-      offends q r = asks ∙ ap (λ (g : Found). asked text 29 g (opened model-opened.model)) q ∙ ap (refused 29) (sym r)
+      unfolding OpensUnder asked_of_text
+      offends q r = asks ∙ ap (λ (g : Found). asked_of_text text 29 g (opened model-opened.model)) q ∙ ap (refused 29) (sym r)
 
       pub passes : f ≡ None → OpensUnder p text nodes roots scopes (Ok x)
-      unfolding OpensUnder asked
-      passes q = record { plain = model-opened; opens = asks ∙ ap (λ (g : Found). asked text 29 g (opened model-opened.model)) q }
+      unfolding OpensUnder asked_of_text
+      passes q = record { plain = model-opened; opens = asks ∙ ap (λ (g : Found). asked_of_text text 29 g (opened model-opened.model)) q }
 
 -- ---- the tables of a text that fits and is sound can be searched
 module _ {text : List ℕ} {s : Syntax.Model} {kinds places : List ℕ} {contents : List Content} {nodes : List ℕ} {root : ℕ} (f : Fitted text s kinds places contents nodes root) (v : Sound text s) {lists : Lists} (g : Gathered s root lists) where

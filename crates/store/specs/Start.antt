@@ -85,4 +85,4 @@ pub record Opens (t known : List ℕ) (root variables definitions : ℕ) (m : Re
   pub scoped : Scoped known m
   pub defines : Defines t root variables m
   pub starts : Starts t m.starts (root - variables - definitions)
-  pub few : opening.start_processes m.definitions m.starts ≤ process_limit
+  pub few : opening.processes_at_start m.definitions m.starts ≤ process_limit

@@ -19,7 +19,7 @@ use Rattle.tree.specs.Node as node
 use Rattle.tree.specs.Table
 use Rattle.tree.specs.Reading.{place, place_counted, Ready, Parsed, Tallied, Read, Counted}
 use Rattle.tree.proofs.Spans.{Wrote, next-at, fault-at, counted-next-at, counted-fault-at, made_of, tally-of, parsed-as, fault-size, counted-fault-size}
-use Rattle.syntax.specs.Judged.{Judged}
+use Rattle.syntax.specs.Judged.{TextJudged}
 use Rattle.syntax.specs.Line.{defining, in_definition, Given, Parameters, written_definition, count_definition, Definition, written_wholes, Started}
 use Rattle.syntax.specs.Names.{Listing}
 use Rattle.syntax.proofs.Answers.{Answers, Counts, first-fails}
@@ -271,15 +271,15 @@ module _ (ts t t₁ : List ℕ) (k used : ℕ) {r : Read} (a : ANumber ts t t₁
 -- ---- the whole text
 
 module _ (ts t t₁ : List ℕ) {r : Read} (a : AModel ts t t₁ 0 0 r) where
-  pub text-fault : {k : ℕ} → r ≡ Err k → Judged ts t₁ (Err k)
-  unfolding Judged
+  pub text-fault : {k : ℕ} → r ≡ Err k → TextJudged ts t₁ (Err k)
+  unfolding TextJudged
   text-fault {k} e = failed ts k (fault-at e a.0)
 
   module _ {n root : ℕ} (e : r ≡ Ok (n, root)) where
-    pub text-longer : n < length ts → Judged ts t₁ (Err n)
-    unfolding Judged
+    pub text-longer : n < length ts → TextJudged ts t₁ (Err n)
+    unfolding TextJudged
     text-longer h = longer ts n (next-at e a.0) h
 
-    pub text-fits : length ts ≤ n → Judged ts t₁ (Ok root)
-    unfolding Judged
+    pub text-fits : length ts ≤ n → TextJudged ts t₁ (Ok root)
+    unfolding TextJudged
     text-fits h = trees.fitting (made_of e a.1) h

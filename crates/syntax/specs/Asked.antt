@@ -12,11 +12,11 @@ pub data No (ts : List ℕ) (n k : ℕ) : Type 0 where
   no6 : n ≡ 6 → (m : Model) → Reads ts m → token_limit < length ts → k ≡ token_limit → No ts n k
 
 -- the root of the tree, or why there is none
-abbrev pub Asked : Type 0
-Asked = Result ℕ Unfit
+abbrev pub TreeOrUnfit : Type 0
+TreeOrUnfit = Result ℕ Unfit
 
 -- 01, Opening a text: each answer's number and token; or the text fits and has few enough tokens
-unfoldable pub Asks : List ℕ → List ℕ → Asked → Type 0
-Asks ts t (Ok root) = Fitting ts t root × (length ts ≤ token_limit)
-Asks ts t (Err (Misfit k)) = No ts 5 k
-Asks ts t (Err (Crowded k)) = No ts 6 k
+unfoldable pub TextAsks : List ℕ → List ℕ → TreeOrUnfit → Type 0
+TextAsks ts t (Ok root) = Fitting ts t root × (length ts ≤ token_limit)
+TextAsks ts t (Err (Misfit k)) = No ts 5 k
+TextAsks ts t (Err (Crowded k)) = No ts 6 k

@@ -25,6 +25,6 @@ abbrev pub Text : Type 0
 Text = Result ℕ ℕ
 
 -- 5: the text fits, or goes wrong at this token
-unfoldable pub Judged : List ℕ → List ℕ → Text → Type 0
-Judged ts t (Ok root) = Fitting ts t root
-Judged ts t (Err k) = Wrong ts k
+unfoldable pub TextJudged : List ℕ → List ℕ → Text → Type 0
+TextJudged ts t (Ok root) = Fitting ts t root
+TextJudged ts t (Err k) = Wrong ts k

@@ -7,7 +7,7 @@ ghost use Rattle.grammar.specs.Follows.{Follows};
 ghost use Rattle.grammar.specs.Syntax.{wholes_at, starts_at, start_at, system_at, definitions_at, model_at};
 ghost use Rattle.tree.specs.Table;
 ghost use Rattle.tree.specs.Reading.{place, place_counted, token_room, Parsed, Tallied};
-ghost use Rattle.syntax.specs.Judged.{Judged};
+ghost use Rattle.syntax.specs.Judged.{TextJudged};
 ghost use Rattle.syntax.specs.Line.{defining, in_definition, Parameters, written_definition, count_definition, Definition, written_wholes, Started};
 
 use crate::named::Named;
@@ -215,7 +215,7 @@ pub fn variable(named: Named<{ b'=' }>, nodes: &mut [u64]) -> Read
 // Reads a text's tokens into the table: the root of its tree, or the number of the token that doesn't fit.
 pub fn read_text(toks: &[u8], nodes: &mut [u64]) -> Result<usize, usize>
     requires { length toks.now ≤ token_room }
-    ensures { Judged toks.now nodes.new result }
+    ensures { TextJudged toks.now nodes.new result }
 {
     let spot = Spot {
         toks,

@@ -1,7 +1,7 @@
 // Questions 5 and 6 of a text's tokens.
 ghost use Rattle.std.specs.Prelude.{◌≤◌, length};
 ghost use Rattle.tree.specs.Reading.{token_room};
-ghost use Rattle.syntax.specs.Asked.{Asks};
+ghost use Rattle.syntax.specs.Asked.{TextAsks};
 
 use crate::line;
 
@@ -23,7 +23,7 @@ pub enum Unfit {
 // The root of the text's tree, or why there is none.
 pub fn judge_text(toks: &[u8], nodes: &mut [u64]) -> Result<usize, Unfit>
     requires { length toks.now ≤ token_room }
-    ensures { Asks toks.now nodes.new result }
+    ensures { TextAsks toks.now nodes.new result }
 {
     let root = line::read_text(toks, nodes).map_err(Unfit::Misfit)?;
     if Limits::TOKENS < toks.len() {

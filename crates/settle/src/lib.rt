@@ -34,28 +34,12 @@ pub struct Walk {
     pub definitions: usize,
 }
 
-// The channel names met: node i is the name with the number i, and all hang in one search tree below node 0.
+// The channel names met, in a lent table: node i is the name with the number i, and all hang in one search tree below node 0.
 // A tree in a table, with a hash of its own: a map of the library takes memory from a heap.
 #[derive(Drop)]
-pub struct Channels<const N: usize> {
-    pub nodes: [u64; N],
-    pub count: usize,
-}
-
-// What a model is resolved in: its nodes; for each sum the root of its branches, and its scope; and its channel names.
-// A scope is its locals and its definition in one number, in a table of its own: a state is judged by these numbers alone.
-// The tables are its own, of any four lengths, and no lent slices: what is written through a struct of those is lost to the check.
-#[derive(Drop)]
-pub struct Workspace<
-    const NODES: usize,
-    const ROOTS: usize,
-    const SCOPES: usize,
-    const NAMES: usize,
-> {
-    pub nodes: [u64; NODES],
-    pub roots: [u16; ROOTS],
-    pub scopes: [u16; SCOPES],
-    pub channels: Channels<NAMES>,
+struct Channels<'a> {
+    nodes: &'a mut [u64],
+    count: usize,
 }
 
 // What a resolved model's tables hold: where its lists stand, and how many sums and channel names it has.
@@ -151,41 +135,33 @@ fn kid_of(node: u64, bit: u64) -> Option<usize>
     (kid != 0).then_some(kid)
 }
 
-impl<const N: usize> Channels<N> {
-    // No channel name is met.
-    fn forget(&mut self)
-        ensures count { self.new.count ≡ 0 }
-        ensures size { length self.new.nodes ≡ N }
-    {
-        self.count = 0;
-    }
-
+impl<'a> Channels<'a> {
     // Makes the name k the next node, a kid of the node i for a bit.
     fn hang(&mut self, i: usize, bit: u64, k: usize)
-        requires { (i < N) × (self.old.count < field) × (k < field) }
-        ensures nodes { self.new.nodes ≡ hung_below self.old.nodes i bit self.old.count k }
+        requires { (i < length self.old.nodes.now) × (self.old.count < field) × (k < field) }
+        ensures nodes { self.new.nodes.now ≡ hung_below self.old.nodes.now i bit self.old.count k }
         ensures count { self.new.count ≡ self.old.count + 1 }
     {
         let n = self.count;
         let node = self.nodes[i];
         let name = tree::token_of(node);
         self.count = n + 1;
-        tree::node(&mut self.nodes, n, 0, k, 0, 0);
+        tree::node(self.nodes, n, 0, k, 0, 0);
         if bit == 0 {
-            tree::node(&mut self.nodes, i, 0, name, n, tree::third_of(node));
+            tree::node(self.nodes, i, 0, name, n, tree::third_of(node));
             return;
         }
-        tree::node(&mut self.nodes, i, 0, name, tree::left_of(node), n);
+        tree::node(self.nodes, i, 0, name, tree::left_of(node), n);
     }
 
     // The number of the name k; a new one hangs in the tree then. From a name that isn't k's, the next bit of k's leads on.
     fn place(&mut self, contents: &[Content], k: usize) -> usize
-        requires { (seen : List ℕ) × Heard (lows_in contents.now) (highs_in contents.now) self.old.nodes self.old.count k seen }
-        ensures { (seen : List ℕ) → Heard (lows_in contents.now) (highs_in contents.now) self.old.nodes self.old.count k seen → Sought (lows_in contents.now) (highs_in contents.now) self.old.nodes self.old.count k seen self.new.nodes self.new.count result }
+        requires { (seen : List ℕ) × Heard (lows_in contents.now) (highs_in contents.now) self.old.nodes.now self.old.count k seen }
+        ensures { (seen : List ℕ) → Heard (lows_in contents.now) (highs_in contents.now) self.old.nodes.now self.old.count k seen → Sought (lows_in contents.now) (highs_in contents.now) self.old.nodes.now self.old.count k seen self.new.nodes.now self.new.count result }
     {
         let n = self.count;
         if n == 0 {
-            tree::node(&mut self.nodes, 0, 0, k, 0, 0);
+            tree::node(self.nodes, 0, 0, k, 0, 0);
             self.count = 1;
             return 0;
         }
@@ -250,24 +226,17 @@ fn value_named(parsed: Parsed, scope: Scope, k: usize) -> Option<u64>
     None
 }
 
-impl<const NODES: usize, const ROOTS: usize, const SCOPES: usize, const NAMES: usize> Workspace<
-    NODES,
-    ROOTS,
-    SCOPES,
-    NAMES,
-> {
-    // Where the node i is a sum's, keeps the root of its branches, and its locals and definition, under its number.
-    fn mark_sum(&mut self, node: u64, i: usize, walk: Walk)
-        requires { (kind_of node ≡ sumKind → (token_of node < ROOTS) × (token_of node < SCOPES) × (0 < i)) × (i < field) × (walk.scope.count < 256) × (walk.definitions ≤ definition_limit) }
-        ensures roots_after { self.new.roots ≡ marked_by node self.old.roots (i - 1) }
-        ensures scopes_after { self.new.scopes ≡ marked_by node self.old.scopes (walk.scope.count + walk.definitions * 16) }
-        ensures rest { (self.new.nodes ≡ self.old.nodes) × (self.new.channels ≡ self.old.channels) }
-    {
-        if tree::kind_of(node) == NodeKind::SUM {
-            let n = tree::token_of(node);
-            self.roots[n] = (i - 1) as u16;
-            self.scopes[n] = (walk.scope.count + walk.definitions * 16) as u16;
-        }
+// Where the node i is a sum's, keeps the root of its branches, and its locals and definition, under its number. A scope is both in one number, in a table of its own: a state is judged by
+// these numbers alone.
+fn mark_sum(roots: &mut [u16], scopes: &mut [u16], node: u64, i: usize, walk: Walk)
+    requires { (kind_of node ≡ sumKind → (token_of node < length roots.old) × (token_of node < length scopes.old) × (0 < i)) × (i < field) × (walk.scope.count < 256) × (walk.definitions ≤ definition_limit) }
+    ensures roots_after { roots.new ≡ marked_by node roots.old (i - 1) }
+    ensures scopes_after { scopes.new ≡ marked_by node scopes.old (walk.scope.count + walk.definitions * 16) }
+{
+    if tree::kind_of(node) == NodeKind::SUM {
+        let n = tree::token_of(node);
+        roots[n] = (i - 1) as u16;
+        scopes[n] = (walk.scope.count + walk.definitions * 16) as u16;
     }
 }
 
@@ -377,14 +346,9 @@ fn leaf_cell(parsed: Parsed, scope: Scope, node: u64) -> u64
 }
 
 // The cell of a node, and the walk after it. A channel name that is met first gets the next number.
-fn settle_node<const N: usize>(
-    parsed: Parsed,
-    met: &mut Channels<N>,
-    walk: Walk,
-    node: u64,
-) -> (u64, Walk)
-    requires { TurnIn parsed met.old.nodes met.old.count walk node }
-    ensures { (h : TurnIn parsed.entry met.old.nodes met.old.count walk node) → Settled h met.new.nodes met.new.count result.0 result.1 }
+fn settle_node(parsed: Parsed, met: &mut Channels, walk: Walk, node: u64) -> (u64, Walk)
+    requires { TurnIn parsed met.old.nodes.now met.old.count walk node }
+    ensures { (h : TurnIn parsed.entry met.old.nodes.now met.old.count walk node) → Settled h met.new.nodes.now met.new.count result.0 result.1 }
 {
     if tree::kind_of(node) != NodeKind::NAMED {
         let cell = leaf_cell(parsed, walk.scope, node);
@@ -398,40 +362,47 @@ fn settle_node<const N: usize>(
     (tree::cell(NodeKind::CHANNEL, c, 0, 0), walk)
 }
 
-// Resolves the model at this root: one walk over its definitions and its system line, in the text's order.
-pub fn settle<const NODES: usize, const ROOTS: usize, const SCOPES: usize, const NAMES: usize>(
+// Resolves the model at this root: one walk over its definitions and its system line, in the text's order. For each sum the root of its branches and its scope are kept, and names is where
+// the channel names hang. The tables are lent one by one, of whatever lengths a caller has them.
+pub fn settle(
     contents: &[Content],
-    space: &mut Workspace<NODES, ROOTS, SCOPES, NAMES>,
+    nodes: &mut [u64],
+    roots: &mut [u16],
+    scopes: &mut [u16],
+    names: &mut [u64],
     root: usize,
 ) -> Model
-    requires { (lists : Lists) × (lists.root ≡ root) × Resolvable (lows_in contents.now) (highs_in contents.now) space.old.nodes ROOTS SCOPES NAMES lists }
-    ensures represents { (lists : Lists) (h : Resolvable (lows_in contents.now) (highs_in contents.now) space.old.nodes ROOTS SCOPES NAMES lists) → lists.root ≡ root → Represents space.new.nodes space.new.roots space.new.scopes result.lists.root result.lists.variables result.lists.definitions result.sums result.channels (Resolved.resolved h.base.world.word h.base.world.model) }
+    requires { (lists : Lists) × (lists.root ≡ root) × Resolvable (lows_in contents.now) (highs_in contents.now) nodes.old (length roots.old) (length scopes.old) (length names.old) lists }
+    ensures represents { (lists : Lists) (h : Resolvable (lows_in contents.now) (highs_in contents.now) nodes.old (length roots.old) (length scopes.old) (length names.old) lists) → lists.root ≡ root → Represents nodes.new roots.new scopes.new result.lists.root result.lists.variables result.lists.definitions result.sums result.channels (Resolved.resolved h.base.world.word h.base.world.model) }
     ensures definitions_bound { result.lists.variables + result.lists.definitions ≤ result.lists.root }
-    ensures settles { (lists : Lists) (h : Resolvable (lows_in contents.now) (highs_in contents.now) space.old.nodes ROOTS SCOPES NAMES lists) → lists.root ≡ root → Settles h.base.world.word h.base.world.model space.new.nodes space.new.roots space.new.scopes result }
+    ensures settles { (lists : Lists) (h : Resolvable (lows_in contents.now) (highs_in contents.now) nodes.old (length roots.old) (length scopes.old) (length names.old) lists) → lists.root ≡ root → Settles h.base.world.word h.base.world.model nodes.new roots.new scopes.new result }
 {
-    let lists = names::lists_of(&space.nodes, root);
+    let lists = names::lists_of(nodes, root);
     let line = lists.line();
     let mut walk = walk_begun(Parsed {
         contents,
-        nodes: &space.nodes,
+        nodes,
         lists,
     });
-    space.channels.forget();
+    let mut met = Channels {
+        nodes: names,
+        count: 0,
+    };
     for i in lists.variables..=line {
-        let node = space.nodes[i];
+        let node = nodes[i];
         let parsed = Parsed {
             contents,
-            nodes: &space.nodes,
+            nodes,
             lists,
         };
-        let (cell, next) = settle_node(parsed, &mut space.channels, walk, node);
-        space.mark_sum(node, i, walk);
-        space.nodes[i] = cell;
+        let (cell, next) = settle_node(parsed, &mut met, walk, node);
+        mark_sum(roots, scopes, node, i, walk);
+        nodes[i] = cell;
         walk = next;
     }
     Model {
         lists,
         sums: walk.sums,
-        channels: space.channels.count,
+        channels: met.count,
     }
 }

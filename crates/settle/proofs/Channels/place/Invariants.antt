@@ -6,7 +6,7 @@ use Prim.Native.Nat.{◌-◌}
 use Rattle.settle.proofs.Channels.place.Given as goal
 
 abbrev pub invariant-loop-k : goal.invariant-loop-k
-invariant-loop-k g l = Searching (lows_in l.contents) (highs_in l.contents) l.initial.self.nodes l.n l.k l.self.nodes l.bits l.first l.second l.i × (l.self.count ≡ l.n)
+invariant-loop-k l = Searching (lows_in l.contents) (highs_in l.contents) l.initial.self.nodes.now l.n l.k l.self.nodes.now l.bits l.first l.second l.i × (l.self.count ≡ l.n)
 
 abbrev pub decreases-loop-k : goal.decreases-loop-k
-decreases-loop-k g l = l.n - l.i
+decreases-loop-k l = l.n - l.i

@@ -14,6 +14,7 @@ use Rattle.token.proofs.Marks.{column-length}
 use Rattle.token.proofs.Tiles.{tiled}
 use Rattle.model.specs.Words.{nth, word_of}
 use Rattle.tables.specs.Spelled.{Spells}
+use Rattle.opening.specs.declared.SyntaxTree.{SyntaxTree}
 use Rattle.opening.specs.declared.SoundTree.{SoundTree}
 use Rattle.opening.specs.Sound.{SoundOr}
 use Rattle.opening.specs.Marked.{Marked, TreeMarked, SoundMarked, ModelMarked}
@@ -44,9 +45,9 @@ module _ {text places sizes places' sizes' : List ℕ} where
   pub tree-marked : (r : Tree) → Marked text places sizes places' sizes' → TreeMarked text places sizes places' sizes' r
   unfolding TreeMarked
   tree-marked (Err r) m = tt
-  tree-marked (Ok root) m = m
+  tree-marked (Ok t) m = m
 
-  pub fits-marked : {r : Tree} {root : ℕ} → TreeMarked text places sizes places' sizes' r → r ≡ Ok root → Marked text places sizes places' sizes'
+  pub fits-marked : {r : Tree} {t : SyntaxTree} → TreeMarked text places sizes places' sizes' r → r ≡ Ok t → Marked text places sizes places' sizes'
   unfolding TreeMarked
   fits-marked m e = rw e at m
 

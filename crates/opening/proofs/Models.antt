@@ -7,6 +7,7 @@ use native.Mathlib.Omega.{arith}
 use borrow.Author.Tests.{le-leb, lt-leb}
 use lib.ListN.{length}
 use Rattle.std.specs.Prelude.{Err, Ok}
+use Rattle.token.specs.declared.Content.{Content}
 use Rattle.token.specs.declared.Refusal.{Refusal}
 use Rattle.token.specs.declared.Question.TheVariants.{Processes}
 use Rattle.token.specs.Questions.{question_number}
@@ -21,10 +22,9 @@ use Rattle.model.specs.Opening.{process_limit, refused, processes_at_start, crow
 use Rattle.model.proofs.Held.{held-good}
 use Rattle.opening.specs.Counts.{Countable, Counts}
 use Rattle.opening.specs.Trees.{Closed, FittedIn, TreeRead, Tree}
+use Rattle.opening.specs.declared.SyntaxTree.{SyntaxTree}
 use Rattle.opening.specs.declared.SoundTree.{SoundTree}
 use Rattle.opening.specs.declared.SoundModel.{SoundModel}
-use Rattle.opening.specs.declared.Space.{Space}
-use Rattle.opening.specs.declared.Tokens.{Tokens}
 use Rattle.opening.specs.Sound.{NamesJudged, Named, SoundHeld, SoundOr, SoundRead}
 use Rattle.opening.specs.Models.{Shown, Rooted, ModelHeld, ModelRead, Opens, Held}
 use Rattle.opening.proofs.Judges.{asks-ten, holds-model}
@@ -33,41 +33,41 @@ use Rattle.settle.specs.declared.Model.{Model}
 use Rattle.settle.specs.Settles.{Settles}
 
 -- ---- 2 to 6
-module _ {bytes words : ℕ} (text : List ℕ) (t : Tokens bytes words) (nodes : List ℕ) {r : Tree} (d : TreeRead text t nodes r) where
-  pub tree-no : (space : Space) {q : Refusal} → r ≡ Err q → SoundRead text space (Err q)
+module _ (text kinds places : List ℕ) (contents : List Content) (nodes : List ℕ) {r : Tree} (d : TreeRead text kinds places contents nodes r) where
+  pub tree-no : {q : Refusal} → r ≡ Err q → SoundRead text kinds places contents nodes (Err q)
   unfolding TreeRead SoundRead
-  tree-no space e = rw e at d
+  tree-no e = rw e at d
 
-  pub tree-fits : {root : ℕ} → r ≡ Ok root → (s : Syntax.Model) × FittedIn text s t nodes root
+  pub tree-fits : {t : SyntaxTree} → r ≡ Ok t → (s : Syntax.Model) × FittedIn text s kinds places contents nodes t.root t.tokens
   unfolding TreeRead
   tree-fits e = rw e at d
 
 -- the tokens have room in their tables
-pub count-fits : {bytes words : ℕ} {text : List ℕ} {s : Syntax.Model} {t : Tokens bytes words} {nodes : List ℕ} {root : ℕ} → FittedIn text s t nodes root → t.count ≤ token_limit
+pub count-fits : {text : List ℕ} {s : Syntax.Model} {kinds places : List ℕ} {contents : List Content} {nodes : List ℕ} {root n : ℕ} → FittedIn text s kinds places contents nodes root n → n ≤ token_limit
 count-fits f = omega (arith, f.count, f.cut.read.tabled.count, f.cut.read.few)
 
 -- ---- 7 to 9
-module _ {text : List ℕ} {s : Syntax.Model} (space : Space) {root : ℕ} (f : FittedIn text s space.tokens space.model.nodes root) {j : Named} (d : NamesJudged text s j) where
-  pub named-no : {r : Refusal} → j ≡ Err r → SoundRead text space (Err r)
+module _ {text : List ℕ} {s : Syntax.Model} {kinds places : List ℕ} {contents : List Content} {nodes : List ℕ} {t : SyntaxTree} (f : FittedIn text s kinds places contents nodes t.root t.tokens) {j : Named} (d : NamesJudged text s j) where
+  pub named-no : {r : Refusal} → j ≡ Err r → SoundRead text kinds places contents nodes (Err r)
   unfolding NamesJudged SoundRead
   named-no e = rw e at d
 
-  pub named-yes : {p : ℕ} → j ≡ Ok p → SoundRead text space (Ok (record { root = root; place = p }))
+  pub named-yes : {p : ℕ} → j ≡ Ok p → SoundRead text kinds places contents nodes (Ok (record { tree = t; place = p }))
   unfolding NamesJudged SoundRead
   named-yes e = let b = rw e at d in (s, record { fitted = f; sound = b.0; place-is = b.1 })
 
 -- ---- 2 to 9
-module _ (text : List ℕ) (space : Space) {r : SoundOr} (d : SoundRead text space r) where
+module _ (text kinds places : List ℕ) (contents : List Content) (nodes : List ℕ) {r : SoundOr} (d : SoundRead text kinds places contents nodes r) where
   pub sound-no : (nodes' roots scopes : List ℕ) {q : Refusal} → r ≡ Err q → ModelRead text nodes' roots scopes (Err q)
   unfolding SoundRead ModelRead
   sound-no nodes' roots scopes e = rw e at d
 
-  pub sound-tree : {t : SoundTree} → r ≡ Ok t → (s : Syntax.Model) × SoundHeld text s space t
+  pub sound-tree : {t : SoundTree} → r ≡ Ok t → (s : Syntax.Model) × SoundHeld text s kinds places contents nodes t
   unfolding SoundRead
   sound-tree e = rw e at d
 
 -- the model of a sound text
-pub sound-model : {text : List ℕ} {s : Syntax.Model} {space : Space} {t : SoundTree} → SoundHeld text s space t → {nodes' roots scopes : List ℕ} {x : Model} → Shown nodes' roots scopes x (resolved (word_of text) s) → Rooted x → Settles (word_of text) s nodes' roots scopes x → ModelHeld text nodes' roots scopes x t.place
+pub sound-model : {text : List ℕ} {s : Syntax.Model} {kinds places : List ℕ} {contents : List Content} {nodes : List ℕ} {t : SoundTree} → SoundHeld text s kinds places contents nodes t → {nodes' roots scopes : List ℕ} {x : Model} → Shown nodes' roots scopes x (resolved (word_of text) s) → Rooted x → Settles (word_of text) s nodes' roots scopes x → ModelHeld text nodes' roots scopes x t.place
 unfolding resolved
 sound-model {text} {s} h i r t =
     let f = h.fitted.cut in

@@ -49,6 +49,9 @@ module _ {text kinds₀ places₀ sizes₀ : List ℕ} {n : ℕ} {kinds places s
   pub filled-kinds : n ≤ length kinds
   filled-kinds = omega (arith, f.count, ap length f.kinds-are, length-append (kinds_of (tokens text)) (drop n kinds₀), column-length (λ m. m.kind) (tokens text))
 
+  pub filled-places : n ≤ length places
+  filled-places = omega (arith, f.count, ap length f.places-are, length-append (places_of (tokens text)) (drop n places₀), column-length (λ m. m.place) (tokens text))
+
   -- the tokens are those of the table's front
   pub filled-tokens : take n kinds ≡ kinds_of (tokens text)
   filled-tokens = ap (take n) f.kinds-are ∙ take_at (kinds_of (tokens text)) (drop n kinds₀) n (column-length (λ m. m.kind) (tokens text) ∙ sym f.count)

@@ -18,7 +18,6 @@ use Rattle.token.specs.Token.{Mark, tokens, kinds_of}
 use Rattle.token.specs.Contents.{before_point, after_point, bytes_of, few_digits, decimal_content, low_of, lows_in, highs_in}
 use Rattle.token.specs.Questions.{First, Found}
 use Rattle.grammar.specs.Grammar as derived
-use Rattle.grammar.specs.Limit.{token_limit}
 use Rattle.grammar.specs.Syntax
 use Rattle.grammar.specs.Syntax.{number_at}
 use Rattle.model.specs.Lists.{least}
@@ -49,6 +48,7 @@ use Rattle.settle.specs.Settles.{Settles}
 use Rattle.settle.proofs.Lines.{system-literal}
 use Rattle.opening.specs.Trees.{Fitted}
 use Rattle.opening.specs.Sound.{Sound}
+use Rattle.opening.specs.Models.{SumRoom}
 
 at_most : (a b : ℕ) → (b < a → ⊥) → a ≤ b
 at_most a b h = by (dec_le a b)
@@ -159,31 +159,36 @@ module _ {text : List ℕ} {s : Syntax.Model} {kinds places : List ℕ} {content
         room = omega (arith, f.fewer, f.read.few);
       }
 
-  unfoldable resolvable : Resolvable low high nodes token_limit token_limit token_limit lists_of
-  unfolding base world
-  resolvable =
-      record {
-        base = base;
-        faultless = sound;
-        new = yes8;
-        decimals = rate-told;
-        literals = rw f.read.tree (system-literal f.read.reading);
-        roots-room = omega (arith, f.fewer, f.read.few);
-        scopes-room = omega (arith, f.fewer, f.read.few);
-        names-room = omega (arith, f.fewer, f.read.few);
-      }
+  -- roots, scopes and names: tables with room for any model's
+  module _ {roots scopes names : List ℕ} (room : SumRoom roots scopes names) where
+    abbrev Settling : Lists → Type 0
+    Settling lists = Resolvable low high nodes (length roots) (length scopes) (length names) lists
 
-  pub can-settle : (lists : Lists) × (lists.root ≡ root) × Resolvable low high nodes token_limit token_limit token_limit lists
-  can-settle = (lists_of, refl, resolvable)
+    unfoldable resolvable : Settling lists_of
+    unfolding base world
+    resolvable =
+        record {
+          base = base;
+          faultless = sound;
+          new = yes8;
+          decimals = rate-told;
+          literals = rw f.read.tree (system-literal f.read.reading);
+          roots-room = omega (arith, f.fewer, f.read.few, room.roots-room);
+          scopes-room = omega (arith, f.fewer, f.read.few, room.scopes-room);
+          names-room = omega (arith, f.fewer, f.read.few, room.names-room);
+        }
 
-  -- the model that the tables hold then is the text's
-  pub settled-so : {nodes' roots' scopes' : List ℕ} {r vars defs sums channels : ℕ}
-      → ((lists : Lists) (h : Resolvable low high nodes token_limit token_limit token_limit lists) → lists.root ≡ root → Represents nodes' roots' scopes' r vars defs sums channels (resolved h.base.world.word h.base.world.model))
-      → Represents nodes' roots' scopes' r vars defs sums channels (resolved w s)
-  unfolding resolvable base world
-  settled-so h = h lists_of resolvable refl
+    pub can-settle : (lists : Lists) × (lists.root ≡ root) × Settling lists
+    can-settle = (lists_of, refl, resolvable)
 
-  -- and the tables are told by the text
-  pub settles-so : {nodes' roots' scopes' : List ℕ} {x : Model} → ((lists : Lists) (h : Resolvable low high nodes token_limit token_limit token_limit lists) → lists.root ≡ root → Settles h.base.world.word h.base.world.model nodes' roots' scopes' x) → Settles w s nodes' roots' scopes' x
-  unfolding resolvable base world
-  settles-so h = h lists_of resolvable refl
+    -- the model that the tables hold then is the text's
+    pub settled-so : {nodes' roots' scopes' : List ℕ} {r vars defs sums channels : ℕ}
+        → ((lists : Lists) (h : Settling lists) → lists.root ≡ root → Represents nodes' roots' scopes' r vars defs sums channels (resolved h.base.world.word h.base.world.model))
+        → Represents nodes' roots' scopes' r vars defs sums channels (resolved w s)
+    unfolding resolvable base world
+    settled-so h = h lists_of resolvable refl
+
+    -- and the tables are told by the text
+    pub settles-so : {nodes' roots' scopes' : List ℕ} {x : Model} → ((lists : Lists) (h : Settling lists) → lists.root ≡ root → Settles h.base.world.word h.base.world.model nodes' roots' scopes' x) → Settles w s nodes' roots' scopes' x
+    unfolding resolvable base world
+    settles-so h = h lists_of resolvable refl

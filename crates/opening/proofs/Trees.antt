@@ -8,6 +8,7 @@ use lib.ListN.{length, take, drop}
 use lib.Seq.{take_at, take_all}
 use Rattle.std.specs.Prelude.{Result, Err, Ok}
 use Rattle.token.specs.declared.Question.TheVariants.{Grammar, Tokens}
+use Rattle.token.specs.declared.Content.{Content}
 use Rattle.token.specs.declared.Refusal.{Refusal}
 use Rattle.token.specs.Questions.{told, bytes_judged}
 use Rattle.token.specs.Token.{Mark, tokens, column, kinds_of, Filled}
@@ -25,14 +26,13 @@ use Rattle.model.specs.Held.{tree_held, model_in}
 use Rattle.model.proofs.Opens.{bytes-refused, goes-wrong, fits}
 use Rattle.names.specs.Tables.{Read}
 use Rattle.names.proofs.Judging.{cut-to}
-use Rattle.opening.specs.declared.Tokens.{Tokens as Table}
 use Rattle.opening.specs.Trees.{TreeRead}
 use Rattle.opening.proofs.Holds.{bytes-none, wrong-none, fits-held}
 use Rattle.opening.proofs.Places.{filled-tokens, filled-placed}
 
 -- ---- 2 to 4
-module _ {bytes words : ℕ} (text : List ℕ) (t : Table bytes words) (nodes : List ℕ) where
-  pub bytes-no : {j : Result (Unit {0}) Refusal} {r : Refusal} → told j ≡ bytes_judged text → j ≡ Err r → TreeRead text t nodes (Err r)
+module _ (text kinds places : List ℕ) (contents : List Content) (nodes : List ℕ) where
+  pub bytes-no : {j : Result (Unit {0}) Refusal} {r : Refusal} → told j ≡ bytes_judged text → j ≡ Err r → TreeRead text kinds places contents nodes (Err r)
   unfolding TreeRead
   bytes-no {j} {r} e q =
       let d = sym e ∙ ap told q in
@@ -79,18 +79,18 @@ module _ {text kinds₀ places₀ sizes₀ : List ℕ} {n : ℕ} {kinds places s
     pub fit-few : {root : ℕ} → r ≡ Ok root → n ≤ token_limit
     fit-few q = omega (arith, few, f.count, (fitting q).1)
 
-    module _ (passed : Ok tt ≡ bytes_judged text) where
+    module _ (passed : Ok tt ≡ bytes_judged text) (contents : List Content) where
       -- 5
-      pub misfit-no : {bytes words : ℕ} (t : Table bytes words) {u : Unfit} {k p : ℕ} → r ≡ Err u → u ≡ Misfit k → p ≡ byte_place text k → TreeRead text t nodes (Err (record { question = Grammar; place = p }))
+      pub misfit-no : {u : Unfit} {k p : ℕ} → r ≡ Err u → u ≡ Misfit k → p ≡ byte_place text k → TreeRead text kinds places contents nodes (Err (record { question = Grammar; place = p }))
       unfolding TreeRead
-      misfit-no t {k = k} q d e =
+      misfit-no {k = k} q d e =
           let w = goes (q ∙ ap Err d) in
           record { opens = goes-wrong text k (sym passed) w ∙ ap (refused 5) (sym e); holds = wrong-none text k (sym passed) w }
 
       -- 6
-      pub crowded-no : {bytes words : ℕ} (t : Table bytes words) {u : Unfit} {k p : ℕ} → r ≡ Err u → u ≡ Crowded k → p ≡ byte_place text k → TreeRead text t nodes (Err (record { question = Tokens; place = p }))
+      pub crowded-no : {u : Unfit} {k p : ℕ} → r ≡ Err u → u ≡ Crowded k → p ≡ byte_place text k → TreeRead text kinds places contents nodes (Err (record { question = Tokens; place = p }))
       unfolding TreeRead tree_judged tree_held too_many asked_of_text model_in
-      crowded-no t {k = k} q d e =
+      crowded-no {k = k} q d e =
           let b = crowding (q ∙ ap Err d) in
           let l : token_limit < length (tokens text) = omega (arith, few, b.1) in
           record {
@@ -98,11 +98,11 @@ module _ {text kinds₀ places₀ sizes₀ : List ℕ} {n : ℕ} {kinds places s
             holds = fits-held text b.0.0 (sym passed) b.0.1 ∙ simp (lt-leb (length (tokens text)) token_limit l);
           }
 
-      pub fits-yes : {bytes words : ℕ} (t : Table bytes words) {low high : List ℕ} {root : ℕ} → t.kinds ≡ kinds → t.places ≡ places → t.count ≡ n → token_limit ≤ length nodes → r ≡ Ok root → Told text low high n (lows_in t.contents) (highs_in t.contents) → TreeRead text t nodes (Ok root)
+      pub fits-yes : {low high : List ℕ} {root : ℕ} → token_limit ≤ length nodes → r ≡ Ok root → Told text low high n (lows_in contents) (highs_in contents) → TreeRead text kinds places contents nodes (Ok (record { root = root; tokens = n }))
       unfolding TreeRead
-      fits-yes t {low} {high} ks ps c room q o =
+      fits-yes {low} {high} room q o =
           let g = (fitting q).0 in
-          let x : Read text (syntax_of g.tree) kinds (lows_in t.contents) (highs_in t.contents) nodes _ n = record {
+          let x : Read text (syntax_of g.tree) kinds (lows_in contents) (highs_in contents) nodes _ n = record {
             tabled = record { count = f.count; kinds-are = filled-tokens f; lows-are = told-all low (low_of text) o.lows-are; highs-are = told-all high (high_of text) o.highs-are };
             few = fit-few q;
             reading = g.tree;
@@ -112,13 +112,13 @@ module _ {text kinds₀ places₀ sizes₀ : List ℕ} {n : ℕ} {kinds places s
           } in (
             syntax_of g.tree,
             record {
-              count = c ∙ f.count;
-              cut = rw (ks, ps, c) (record {
+              count = f.count;
+              cut = record {
                 read = cut-to x;
                 placed = filled-placed f;
                 fewer = omega (arith, g.few, few, f.count, ap length (filled-tokens f));
                 opens = fits text g.tree (sym passed) g.reads;
                 holds = fits-held text g.tree (sym passed) g.reads;
-              });
+              };
             },
           )

@@ -13,7 +13,7 @@ pub record Marked (text places sizes places' sizes' : List ℕ) : Type 0 where
 -- of a text that fits
 unfoldable pub TreeMarked : (text places sizes places' sizes' : List ℕ) → Tree → Type 0
 TreeMarked text places sizes places' sizes' (Err r) = Unit {0}
-TreeMarked text places sizes places' sizes' (Ok root) = Marked text places sizes places' sizes'
+TreeMarked text places sizes places' sizes' (Ok t) = Marked text places sizes places' sizes'
 
 -- of a text whose names are sound
 unfoldable pub SoundMarked : (text places sizes places' sizes' : List ℕ) → SoundOr → Type 0

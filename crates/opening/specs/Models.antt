@@ -1,8 +1,9 @@
 -- What the tables of an opened text's model hold, and what questions 2 to 10 answer (01, Opening a text). Assumes nothing: these are definitions.
-use Rattle.std.specs.Prelude.{◌≡◌, List, ℕ, ◌+◌, ◌≤◌, Err, Ok, Result}
+use Rattle.std.specs.Prelude.{◌≡◌, List, ℕ, ◌+◌, ◌≤◌, length, Err, Ok, Result}
 use Rattle.std.proofs.Math.Option.{some}
 use Rattle.token.specs.declared.Refusal.{Refusal}
 use Rattle.token.specs.Questions.{question_number}
+use Rattle.grammar.specs.Limit.{token_limit}
 use Rattle.grammar.specs.Syntax
 use Rattle.model.specs.Sites.{system}
 use Rattle.model.specs.Words.{word_of}
@@ -16,6 +17,12 @@ use Rattle.settle.specs.Settles.{Settles}
 use Rattle.opening.specs.declared.SoundModel.{SoundModel}
 use Rattle.opening.specs.declared.Accepted.{Accepted}
 use Rattle.opening.specs.Trees.{Closed}
+
+-- 01, Opening a text: tables with room for the sums and the channel names of every text
+pub record SumRoom (roots scopes names : List ℕ) : Type 0 where
+  pub roots-room : token_limit ≤ length roots
+  pub scopes-room : token_limit ≤ length scopes
+  pub names-room : token_limit ≤ length names
 
 -- the tables and these numbers hold a model
 abbrev pub Shown : (nodes roots scopes : List ℕ) → Model → Resolved.Model → Type 0

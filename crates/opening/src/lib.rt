@@ -4,22 +4,22 @@
 mod count;
 
 ghost use Rattle.token.specs.Contents.{lows_in, highs_in};
-ghost use Rattle.std.specs.Prelude.{◌≡◌, List, ℕ, ◌≤◌, ◌<◌, length, take};
-ghost use Rattle.token.specs.Questions.{text_limit, bytes_judged, question_number};
-ghost use Rattle.grammar.specs.Limit.{token_limit};
+ghost use Rattle.std.specs.Prelude.{◌≡◌, List, ℕ, ◌≤◌, ◌<◌, length};
+ghost use Rattle.token.specs.declared.Content.{Content};
+ghost use Rattle.token.specs.Questions.{bytes_judged, question_number};
 ghost use Rattle.grammar.specs.Syntax;
 ghost use Rattle.tree.specs.Node.{kind_of, token_of, counted};
 ghost use Rattle.tree.specs.Table;
 ghost use Rattle.model.specs.Sites.{system};
 ghost use Rattle.model.specs.Opening.{byte_place, system_token};
 ghost use Rattle.names.specs.Judged.{no_of};
-ghost use Rattle.opening.specs.Trees.{Placed, Fitted, TreeRead};
+ghost use Rattle.opening.specs.Trees.{Room, Placed, Fitted, TreeRead};
 ghost use Rattle.opening.specs.Marked.{Marked, TreeMarked, SoundMarked, ModelMarked};
 ghost use Rattle.opening.specs.Sound.{NamesJudged, SoundHeld, SoundRead};
-ghost use Rattle.opening.specs.Models.{ModelHeld, ModelRead, Opens};
+ghost use Rattle.opening.specs.Models.{SumRoom, ModelHeld, ModelRead, Opens};
 ghost use Rattle.opening.specs.System.{first_item, before_name, item_token};
 
-use settle::{Channels, Model, Workspace};
+use settle::Model;
 use syntax::question;
 use syntax::question::Unfit;
 use tables::Tables;
@@ -37,39 +37,6 @@ impl Limits {
 // The most tokens of a text, and nodes of its tree.
 pub const TOKENS: usize = question::Limits::TOKENS;
 
-// The tables of a text's tokens, with room for a text of so many bytes and contents of so many tokens, and how many they are.
-// They are its own, and no lent slices: what is written through a struct of those is lost to the check.
-#[derive(Drop)]
-pub struct Tokens<const BYTES: usize, const CONTENTS: usize> {
-    pub kinds: [u8; BYTES],
-    pub places: [u16; BYTES],
-    pub sizes: [u16; BYTES],
-    pub contents: [Content; CONTENTS],
-    pub count: usize,
-}
-
-impl<const BYTES: usize, const CONTENTS: usize> Tokens<BYTES, CONTENTS> {
-    pub const EMPTY: Self = Tokens {
-        kinds: [0; BYTES],
-        places: [0; BYTES],
-        sizes: [0; BYTES],
-        contents: [Content { low: 0, high: 0 }; CONTENTS],
-        count: 0,
-    };
-
-    // What questions 7 to 9 are asked of.
-    pub fn words(&self) -> Words<'_>
-        requires { self.now.count ≤ BYTES }
-        ensures { (result.kinds.now ≡ take self.now.count self.now.kinds) × (result.places.now ≡ take self.now.count self.now.places) × (result.contents.now ≡ self.now.contents) }
-    {
-        Words {
-            kinds: &self.kinds[..self.count],
-            places: &self.places[..self.count],
-            contents: &self.contents,
-        }
-    }
-}
-
 // The kind and the place of each token of a text, and their contents, which may go on past the last.
 #[derive(Clone, Copy)]
 pub struct Words<'a> {
@@ -78,52 +45,75 @@ pub struct Words<'a> {
     pub contents: &'a [Content],
 }
 
-// The tables that a text is read into: its tokens, and what its tree and its model stand in.
+// The tables that a text is read into, with room for every text: the kind, place, size and content of each token; the nodes of its tree; for each sum the root of its branches and its scope;
+// and its channel names. The functions below are lent tables one by one, of whatever lengths a caller has them.
 #[derive(Drop)]
 pub struct Space {
-    pub tokens: Tokens<{ token::Limits::TEXT }, TOKENS>,
-    pub model: Workspace<TOKENS, TOKENS, TOKENS, TOKENS>,
+    pub kinds: [u8; token::Limits::TEXT],
+    pub places: [u16; token::Limits::TEXT],
+    pub sizes: [u16; token::Limits::TEXT],
+    pub contents: [Content; TOKENS],
+    pub nodes: [u64; TOKENS],
+    pub roots: [u16; TOKENS],
+    pub scopes: [u16; TOKENS],
+    pub names: [u64; TOKENS],
 }
 
 impl Space {
     pub const EMPTY: Space = Space {
-        // Written out: a constant of a generic block can't stand in a constant.
-        tokens: Tokens {
-            kinds: [0; token::Limits::TEXT],
-            places: [0; token::Limits::TEXT],
-            sizes: [0; token::Limits::TEXT],
-            contents: [Content { low: 0, high: 0 }; TOKENS],
-            count: 0,
-        },
-        model: Workspace {
-            nodes: [0; TOKENS],
-            roots: [0; TOKENS],
-            scopes: [0; TOKENS],
-            channels: Channels {
-                nodes: [0; TOKENS],
-                count: 0,
-            },
-        },
+        kinds: [0; token::Limits::TEXT],
+        places: [0; token::Limits::TEXT],
+        sizes: [0; token::Limits::TEXT],
+        contents: [Content { low: 0, high: 0 }; TOKENS],
+        nodes: [0; TOKENS],
+        roots: [0; TOKENS],
+        scopes: [0; TOKENS],
+        names: [0; TOKENS],
     };
+
+    // Questions 2 to 9 of a text, and its model in these tables.
+    pub fn read_model(&mut self, text: &[u8]) -> Result<SoundModel, Refusal>
+        ensures model_read { ModelRead text.now self.new.nodes self.new.roots self.new.scopes result }
+        ensures model_marked { ModelMarked text.now self.old.places self.old.sizes self.new.places self.new.sizes result }
+    {
+        read_model(
+            text,
+            &mut self.kinds,
+            &mut self.places,
+            &mut self.sizes,
+            &mut self.contents,
+            &mut self.nodes,
+            &mut self.roots,
+            &mut self.scopes,
+            &mut self.names,
+        )
+    }
 
     // The tables of a model that was found in these.
     pub fn tables(&self, found: Model) -> Tables<'_>
-        ensures { (result.nodes.now ≡ self.now.model.nodes) × (result.roots.now ≡ self.now.model.roots) × (result.scopes.now ≡ self.now.model.scopes) × (result.root ≡ found.lists.root) × (result.variables ≡ found.lists.variables) }
+        ensures { (result.nodes.now ≡ self.now.nodes) × (result.roots.now ≡ self.now.roots) × (result.scopes.now ≡ self.now.scopes) × (result.root ≡ found.lists.root) × (result.variables ≡ found.lists.variables) }
     {
         Tables {
-            nodes: &self.model.nodes,
-            roots: &self.model.roots,
-            scopes: &self.model.scopes,
+            nodes: &self.nodes,
+            roots: &self.roots,
+            scopes: &self.scopes,
             root: found.lists.root,
             variables: found.lists.variables,
         }
     }
 }
 
-// The tree of a text that questions 2 to 9 let through: its root, and where the system line begins.
+// The tree of a text that questions 2 to 6 let through: its root, and how many tokens the text has.
+#[derive(Clone, Copy)]
+pub struct SyntaxTree {
+    pub root: usize,
+    pub tokens: usize,
+}
+
+// The tree of a text that questions 2 to 9 let through, and where the system line begins.
 #[derive(Clone, Copy)]
 pub struct SoundTree {
-    pub root: usize,
+    pub tree: SyntaxTree,
     pub place: usize,
 }
 
@@ -153,60 +143,53 @@ pub fn byte_place(text: &[u8], places: &[u16], k: usize) -> usize
     }
 }
 
-// Questions 5 and 6 of a text that has passed those before: the root of its tree.
-fn read_tokens<const BYTES: usize, const CONTENTS: usize>(
+// Questions 5 and 6 of a text that has passed those before.
+fn read_tokens(
     text: &[u8],
-    tokens: &mut Tokens<BYTES, CONTENTS>,
+    kinds: &mut [u8],
+    places: &mut [u16],
+    sizes: &mut [u16],
+    contents: &mut [Content],
     nodes: &mut [u64],
-) -> Result<usize, Refusal>
+) -> Result<SyntaxTree, Refusal>
     requires passed { Ok tt ≡ bytes_judged text.now }
-    requires room { (text_limit ≤ BYTES) × (token_limit ≤ CONTENTS) × (token_limit ≤ length nodes.old) }
-    ensures tree_read { TreeRead text.now tokens.new nodes.new result }
-    ensures marked { Marked text.now tokens.old.places tokens.old.sizes tokens.new.places tokens.new.sizes }
+    requires room { Room kinds.old places.old sizes.old contents.old nodes.old }
+    ensures tree_read { TreeRead text.now kinds.new places.new contents.new nodes.new result }
+    ensures marked { Marked text.now places.old sizes.old places.new sizes.new }
 {
-    let n = token::fill(
-        text,
-        &mut tokens.kinds,
-        &mut tokens.places,
-        &mut tokens.sizes,
-    );
-    tokens.count = n;
-    let asked = question::judge_text(&tokens.kinds[..n], nodes);
+    let tokens = token::fill(text, kinds, places, sizes);
+    let asked = question::judge_text(&kinds[..tokens], nodes);
     match asked {
         Err(Unfit::Misfit(k)) => Err(Refusal {
             question: Question::Grammar,
-            place: byte_place(text, &tokens.places[..n], k),
+            place: byte_place(text, &places[..tokens], k),
         }),
         Err(Unfit::Crowded(k)) => Err(Refusal {
             question: Question::Tokens,
-            place: byte_place(text, &tokens.places[..n], k),
+            place: byte_place(text, &places[..tokens], k),
         }),
         Ok(root) => {
-            token::contents(
-                text,
-                &tokens.kinds,
-                &tokens.places,
-                &tokens.sizes,
-                n,
-                &mut tokens.contents,
-            );
-            Ok(root)
+            token::contents(text, kinds, places, sizes, tokens, contents);
+            Ok(SyntaxTree { root, tokens })
         }
     }
 }
 
-// Questions 2 to 6: the root of the text's tree in these nodes.
-pub fn read_tree<const BYTES: usize, const CONTENTS: usize>(
+// Questions 2 to 6: the text's tree, in these nodes.
+pub fn read_tree(
     text: &[u8],
-    tokens: &mut Tokens<BYTES, CONTENTS>,
+    kinds: &mut [u8],
+    places: &mut [u16],
+    sizes: &mut [u16],
+    contents: &mut [Content],
     nodes: &mut [u64],
-) -> Result<usize, Refusal>
-    requires { (text_limit ≤ BYTES) × (token_limit ≤ CONTENTS) × (token_limit ≤ length nodes.old) }
-    ensures tree_read { TreeRead text.now tokens.new nodes.new result }
-    ensures tree_marked { TreeMarked text.now tokens.old.places tokens.old.sizes tokens.new.places tokens.new.sizes result }
+) -> Result<SyntaxTree, Refusal>
+    requires { Room kinds.old places.old sizes.old contents.old nodes.old }
+    ensures tree_read { TreeRead text.now kinds.new places.new contents.new nodes.new result }
+    ensures tree_marked { TreeMarked text.now places.old sizes.old places.new sizes.new result }
 {
     token::judge_bytes(text)?;
-    read_tokens(text, tokens, nodes)
+    read_tokens(text, kinds, places, sizes, contents, nodes)
 }
 
 // The node of the first item of the system line at k.
@@ -259,34 +242,66 @@ pub fn judge_tree(text: &[u8], words: Words, nodes: &[u64], root: usize) -> Resu
 }
 
 // Questions 2 to 9.
-pub fn read_sound(text: &[u8], space: &mut Space) -> Result<SoundTree, Refusal>
-    ensures sound_read { SoundRead text.now space.new result }
-    ensures sound_marked { SoundMarked text.now space.old.tokens.places space.old.tokens.sizes space.new.tokens.places space.new.tokens.sizes result }
+pub fn read_sound(
+    text: &[u8],
+    kinds: &mut [u8],
+    places: &mut [u16],
+    sizes: &mut [u16],
+    contents: &mut [Content],
+    nodes: &mut [u64],
+) -> Result<SoundTree, Refusal>
+    requires { Room kinds.old places.old sizes.old contents.old nodes.old }
+    ensures sound_read { SoundRead text.now kinds.new places.new contents.new nodes.new result }
+    ensures sound_marked { SoundMarked text.now places.old sizes.old places.new sizes.new result }
 {
-    let root = read_tree(text, &mut space.tokens, &mut space.model.nodes)?;
-    let place = judge_tree(text, space.tokens.words(), &space.model.nodes, root)?;
-    Ok(SoundTree { root, place })
+    let tree = read_tree(text, kinds, places, sizes, contents, nodes)?;
+    let words = Words {
+        kinds: &kinds[..tree.tokens],
+        places: &places[..tree.tokens],
+        contents,
+    };
+    let place = judge_tree(text, words, nodes, tree.root)?;
+    Ok(SoundTree { tree, place })
 }
 
 // The model of a text that questions 2 to 9 let through, in the tables of its tree.
-pub fn settle_sound(space: &mut Space, tree: SoundTree) -> SoundModel
-    requires { (text : List ℕ) × (s : Syntax.Model) × SoundHeld text s space.old tree }
-    ensures held { (text : List ℕ) (s : Syntax.Model) → SoundHeld text s space.old tree → ModelHeld text space.new.model.nodes space.new.model.roots space.new.model.scopes result.model result.place }
-    ensures tokens { space.new.tokens ≡ space.old.tokens }
+pub fn settle_sound(
+    contents: &[Content],
+    nodes: &mut [u64],
+    roots: &mut [u16],
+    scopes: &mut [u16],
+    names: &mut [u64],
+    sound: SoundTree,
+) -> SoundModel
+    requires sound { (text : List ℕ) × (s : Syntax.Model) × (kinds : List ℕ) × (places : List ℕ) × SoundHeld text s kinds places contents.now nodes.old sound }
+    requires sum_room { SumRoom roots.old scopes.old names.old }
+    ensures { (text : List ℕ) (s : Syntax.Model) (kinds places : List ℕ) → SoundHeld text s kinds places contents.now nodes.old sound → ModelHeld text nodes.new roots.new scopes.new result.model result.place }
 {
     SoundModel {
-        model: settle::settle(&space.tokens.contents, &mut space.model, tree.root),
-        place: tree.place,
+        model: settle::settle(contents, nodes, roots, scopes, names, sound.tree.root),
+        place: sound.place,
     }
 }
 
 // Questions 2 to 9, and the model.
-pub fn read_model(text: &[u8], space: &mut Space) -> Result<SoundModel, Refusal>
-    ensures model_read { ModelRead text.now space.new.model.nodes space.new.model.roots space.new.model.scopes result }
-    ensures model_marked { ModelMarked text.now space.old.tokens.places space.old.tokens.sizes space.new.tokens.places space.new.tokens.sizes result }
+pub fn read_model(
+    text: &[u8],
+    kinds: &mut [u8],
+    places: &mut [u16],
+    sizes: &mut [u16],
+    contents: &mut [Content],
+    nodes: &mut [u64],
+    roots: &mut [u16],
+    scopes: &mut [u16],
+    names: &mut [u64],
+) -> Result<SoundModel, Refusal>
+    requires room { Room kinds.old places.old sizes.old contents.old nodes.old }
+    requires sum_room { SumRoom roots.old scopes.old names.old }
+    ensures model_read { ModelRead text.now nodes.new roots.new scopes.new result }
+    ensures model_marked { ModelMarked text.now places.old sizes.old places.new sizes.new result }
 {
-    let tree = read_sound(text, space)?;
-    Ok(settle_sound(space, tree))
+    let sound = read_sound(text, kinds, places, sizes, contents, nodes)?;
+    Ok(settle_sound(contents, nodes, roots, scopes, names, sound))
 }
 
 // Question 10 of a model in these nodes.
@@ -306,9 +321,23 @@ pub fn judge_start(nodes: &[u64], found: SoundModel) -> Result<Accepted, Refusal
 }
 
 // All questions, and the model.
-pub fn open_text(text: &[u8], space: &mut Space) -> Result<Accepted, Refusal>
-    ensures { Opens text.now space.new.model.nodes space.new.model.roots space.new.model.scopes result }
+pub fn open_text(
+    text: &[u8],
+    kinds: &mut [u8],
+    places: &mut [u16],
+    sizes: &mut [u16],
+    contents: &mut [Content],
+    nodes: &mut [u64],
+    roots: &mut [u16],
+    scopes: &mut [u16],
+    names: &mut [u64],
+) -> Result<Accepted, Refusal>
+    requires room { Room kinds.old places.old sizes.old contents.old nodes.old }
+    requires sum_room { SumRoom roots.old scopes.old names.old }
+    ensures { Opens text.now nodes.new roots.new scopes.new result }
 {
-    let found = read_model(text, space)?;
-    judge_start(&space.model.nodes, found)
+    let found = read_model(
+        text, kinds, places, sizes, contents, nodes, roots, scopes, names,
+    )?;
+    judge_start(nodes, found)
 }

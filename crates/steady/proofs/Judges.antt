@@ -24,7 +24,6 @@ use Rattle.names.specs.Lists.{Gathered}
 use Rattle.names.specs.Settings.{World}
 use Rattle.names.proofs.Earliest.{least-append, nothing-first}
 use Rattle.names.proofs.Grounds.{world}
-use Rattle.opening.specs.declared.Space.{Space}
 use Rattle.opening.specs.declared.Accepted.{Accepted}
 use Rattle.opening.specs.Trees.{Closed, Fitted}
 use Rattle.opening.specs.Sound.{Sound, SoundOr, SoundRead}
@@ -41,9 +40,9 @@ refused-under Steady text e = refused-so text e
 
 module _ (p : Profile) (text : List ℕ) where
   -- ---- 2 to 9
-  pub sound-no : (nodes roots scopes : List ℕ) (space : Space) {r : SoundOr} {q : Refusal} → SoundRead text space r → r ≡ Err q → OpensUnder p text nodes roots scopes (Err q)
+  pub sound-no : (nodes roots scopes : List ℕ) {kinds places : List ℕ} {contents : List Content} {tree : List ℕ} {r : SoundOr} {q : Refusal} → SoundRead text kinds places contents tree r → r ≡ Err q → OpensUnder p text nodes roots scopes (Err q)
   unfolding SoundRead OpensUnder
-  sound-no nodes roots scopes space {r} {q} d e = let c : Closed text (question_number q.question) q.place = rw e at d in refused-under p text c.opens
+  sound-no nodes roots scopes {q = q} d e = let c : Closed text (question_number q.question) q.place = rw e at d in refused-under p text c.opens
 
   -- ---- 10, then 29
   module _ (nodes roots scopes : List ℕ) {o : Opened} (d : Opens text nodes roots scopes o) where

@@ -9,13 +9,15 @@ ghost use Rattle.profile.specs.Unsteady.{several_sums, unsteady};
 ghost use Rattle.names.specs.declared.Question.TheVariants.{Given};
 ghost use Rattle.names.specs.Settings.{WorldIn};
 ghost use Rattle.names.specs.Placed.{IsName};
-ghost use Rattle.opening.specs.Sound.{SoundHeld};
+ghost use Rattle.opening.specs.Trees.{Room, Fitted};
+ghost use Rattle.opening.specs.Sound.{Sound};
+ghost use Rattle.opening.specs.Models.{SumRoom};
 ghost use Rattle.steady.specs.Scan.{offender_at};
 ghost use Rattle.steady.specs.Opens.{offender_under, OpensUnder};
 
 use names::Parsed;
-use opening::{Accepted, SoundTree, Space};
-use token::{Question, Refusal};
+use opening::Accepted;
+use token::{Content, Question, Refusal};
 use tree::NodeKind;
 
 // What a text is opened under: questions 2 to 10, or 29 too.
@@ -62,35 +64,49 @@ pub fn first_unsteady(parsed: Parsed) -> Option<usize>
 }
 
 // What the profile asks of a text that questions 2 to 9 let through, in the tables of its tree: the first token that offends.
-fn offender(profile: Profile, space: &Space, tree: SoundTree) -> Option<usize>
-    requires { (text : List ℕ) × (s : Syntax.Model) × SoundHeld text s space.now tree }
-    ensures { (text : List ℕ) (s : Syntax.Model) → SoundHeld text s space.now tree → result ≡ offender_under profile text s }
+fn offender(profile: Profile, contents: &[Content], nodes: &[u64], root: usize) -> Option<usize>
+    requires { (text : List ℕ) × (s : Syntax.Model) × (kinds : List ℕ) × (places : List ℕ) × Fitted text s kinds places contents.now nodes.now root × Sound text s }
+    ensures { (text : List ℕ) (s : Syntax.Model) (kinds places : List ℕ) → Fitted text s kinds places contents.now nodes.now root → Sound text s → result ≡ offender_under profile text s }
 {
     match profile {
         Profile::Plain => None,
         Profile::Steady => {
-            let lists = names::lists_of(&space.model.nodes, tree.root);
+            let lists = names::lists_of(nodes, root);
             first_unsteady(Parsed {
-                contents: &space.tokens.contents,
-                nodes: &space.model.nodes,
+                contents,
+                nodes,
                 lists,
             })
         }
     }
 }
 
-// All questions of this profile, 29 after 10, and the model.
-pub fn open_under(profile: Profile, text: &[u8], space: &mut Space) -> Result<Accepted, Refusal>
-    ensures { OpensUnder profile text.now space.new.model.nodes space.new.model.roots space.new.model.scopes result }
+// All questions of this profile, 29 after 10, and the model. The tables are lent one by one, as opening's functions are.
+pub fn open_under(
+    profile: Profile,
+    text: &[u8],
+    kinds: &mut [u8],
+    places: &mut [u16],
+    sizes: &mut [u16],
+    contents: &mut [Content],
+    nodes: &mut [u64],
+    roots: &mut [u16],
+    scopes: &mut [u16],
+    names: &mut [u64],
+) -> Result<Accepted, Refusal>
+    requires room { Room kinds.old places.old sizes.old contents.old nodes.old }
+    requires sum_room { SumRoom roots.old scopes.old names.old }
+    ensures { OpensUnder profile text.now nodes.new roots.new scopes.new result }
 {
-    let tree = opening::read_sound(text, space)?;
-    let found = offender(profile, space, tree);
-    let model = opening::settle_sound(space, tree);
-    let opened = opening::judge_start(&space.model.nodes, model)?;
+    let sound = opening::read_sound(text, kinds, places, sizes, contents, nodes)?;
+    let tree = sound.tree;
+    let found = offender(profile, contents, nodes, tree.root);
+    let model = opening::settle_sound(contents, nodes, roots, scopes, names, sound);
+    let opened = opening::judge_start(nodes, model)?;
     match found {
         Some(k) => Err(Refusal {
             question: Question::Steady,
-            place: opening::byte_place(text, space.tokens.words().places, k),
+            place: opening::byte_place(text, &places[..tree.tokens], k),
         }),
         None => Ok(opened),
     }

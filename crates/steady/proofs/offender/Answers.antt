@@ -4,17 +4,17 @@ use Rattle.steady.proofs.offender.Goals as goal
 
 pub lists_of-lists-requires : goal.lists_of-lists-requires
 lists_of-lists-requires c =
-    (c.requires.1, 0, c.requires.2.fitted.cut.read.holds)
+    (c.requires.1, 0, c.requires.4.read.holds)
 
 pub first_unsteady-requires : goal.first_unsteady-requires
 first_unsteady-requires c =
-    let h = c.requires.2 in
-    searched h.fitted.cut h.sound (c.lists_of-lists.ensures c.requires.1 0 h.fitted.cut.read.holds)
+    let f = c.requires.4 in
+    searched f c.requires.5 (c.lists_of-lists.ensures c.requires.1 0 f.read.holds)
 
 pub returns-in-Plain : goal.returns-in-Plain
 returns-in-Plain c =
-    λ text s h. plain-none text s c.in-Plain.is
+    λ text s kinds places f v. plain-none text s c.in-Plain.is
 
 pub returns-in-Steady : goal.returns-in-Steady
 returns-in-Steady c =
-    λ text s h. steady-first text s c.in-Steady.is (found-so h.fitted.cut h.sound (c.lists_of-lists.ensures s 0 h.fitted.cut.read.holds) c.first_unsteady.ensures)
+    λ text s kinds places f v. steady-first text s c.in-Steady.is (found-so f v (c.lists_of-lists.ensures s 0 f.read.holds) c.first_unsteady.ensures)

@@ -20,7 +20,18 @@ pub fn open_lent(profile: Profile, text: &[u8], model: &mut [u8], state: &mut [i
 {
     let mut space = Space::EMPTY;
     store::buffer::put_fresh(model, state);
-    let opened = steady::open_under(profile, text, &mut space);
+    let opened = steady::open_under(
+        profile,
+        text,
+        &mut space.kinds,
+        &mut space.places,
+        &mut space.sizes,
+        &mut space.contents,
+        &mut space.nodes,
+        &mut space.roots,
+        &mut space.scopes,
+        &mut space.names,
+    );
     match opened {
         Err(refusal) => Answer::from(Refusal::from(refusal)),
         Ok(accepted) => {

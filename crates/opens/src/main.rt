@@ -22,7 +22,17 @@ fn put_refused(rt: &impl Print, refusal: Refusal) -> io::Result<()> {
 // Opens a text with tables of its own.
 fn put_opened(rt: &impl Print, text: &[u8]) -> io::Result<()> {
     let mut space = Space::EMPTY;
-    let opened = opening::open_text(text, &mut space);
+    let opened = opening::open_text(
+        text,
+        &mut space.kinds,
+        &mut space.places,
+        &mut space.sizes,
+        &mut space.contents,
+        &mut space.nodes,
+        &mut space.roots,
+        &mut space.scopes,
+        &mut space.names,
+    );
     match opened {
         Ok(accepted) => put_accepted(rt, accepted),
         Err(refusal) => put_refused(rt, refusal),

@@ -2,17 +2,23 @@
 
 // Asks questions 2 to 6 of a model text: prints `fits` and how many tokens it has, or `refused`, the number of the first no and its place.
 // It reads standard input, or each file that an argument names, after a line with the name.
-use opening::{TOKENS, Tokens};
+use opening::Space;
 use std::io;
 use token::Limits;
 
 fn show(rt: &impl Print, text: &[u8]) -> io::Result<()> {
-    let mut tokens = Tokens::<{ Limits::TEXT }, TOKENS>::EMPTY;
-    let mut nodes = [0u64; TOKENS];
-    let read = opening::read_tree(text, &mut tokens, &mut nodes);
+    let mut space = Space::EMPTY;
+    let read = opening::read_tree(
+        text,
+        &mut space.kinds,
+        &mut space.places,
+        &mut space.sizes,
+        &mut space.contents,
+        &mut space.nodes,
+    );
     match read {
         Err(r) => println!(rt; "refused,{},{}", r.question.number(), r.place),
-        Ok(_) => println!(rt; "fits,{}", tokens.count),
+        Ok(tree) => println!(rt; "fits,{}", tree.tokens),
     }
 }
 

@@ -117,7 +117,7 @@ pub fn search_text(text: &[u8], state: &[i64], name: &[u8], depth: u64) -> Found
     ensures { (bs : List ℕ) → GivesRun (requested (search' name.now depth) (lent_two bs state.now) [] (held text.now)) result (lent_two bs state.now) }
 {
     let mut space = Space::EMPTY;
-    let Ok(read) = opening::read_model(text, &mut space) else {
+    let Ok(read) = space.read_model(text) else {
         return Found::bare(11);
     };
     let found = read.model;
@@ -129,8 +129,8 @@ pub fn search_text(text: &[u8], state: &[i64], name: &[u8], depth: u64) -> Found
         },
         Written {
             text,
-            places: &space.tokens.places,
-            sizes: &space.tokens.sizes,
+            places: &space.places,
+            sizes: &space.sizes,
         },
         state,
         name,

@@ -39,7 +39,7 @@ pub fn read<'a>(model: &[u8], space: &'a mut Space) -> Option<Settled<'a>>
     ensures { Reads model.now result }
 {
     let text = store::buffer::find_text(model)?;
-    let read = opening::read_model(text, space).ok()?;
+    let read = space.read_model(text).ok()?;
     let found = read.model;
     Some(Settled {
         tables: space.tables(found),

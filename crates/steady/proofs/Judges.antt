@@ -40,9 +40,9 @@ refused-under Steady text e = refused-so text e
 
 module _ (p : Profile) (text : List ℕ) where
   -- ---- 2 to 9
-  pub sound-no : (nodes roots scopes : List ℕ) {kinds places : List ℕ} {contents : List Content} {tree : List ℕ} {r : SoundOr} {q : Refusal} → SoundRead text kinds places contents tree r → r ≡ Err q → OpensUnder p text nodes roots scopes (Err q)
+  pub sound-no : (nodes roots scopes kinds places : List ℕ) (contents : List Content) (tree : List ℕ) {r : SoundOr} {q : Refusal} → SoundRead text kinds places contents tree r → r ≡ Err q → OpensUnder p text nodes roots scopes (Err q)
   unfolding SoundRead OpensUnder
-  sound-no nodes roots scopes {q = q} d e = let c : Closed text (question_number q.question) q.place = rw e at d in refused-under p text c.opens
+  sound-no nodes roots scopes kinds places contents tree {q = q} d e = let c : Closed text (question_number q.question) q.place = rw e at d in refused-under p text c.opens
 
   -- ---- 10, then 29
   module _ (nodes roots scopes : List ℕ) {o : Opened} (d : Opens text nodes roots scopes o) where

@@ -22,6 +22,16 @@ judge_start-requires c =
     let h = sound-tree _ _ _ _ _ c.read_sound.ensures.sound_read c.in_ok-sound.was in
     (_, _, _, c.settle_sound-model.ensures _ h.0 _ _ h.1)
 
+pub slice_bounds-byte_place-end : goal.slice_bounds-byte_place-end
+slice_bounds-byte_place-end c =
+    let h = sound-tree _ _ _ _ _ c.read_sound.ensures.sound_read c.in_ok-sound.was in
+    omega (arith, count-fits h.1.fitted, c.read_sound.auto.places, c.requires.room.places-room)
+
+pub slice_bounds-byte_place-end-in-Some : goal.slice_bounds-byte_place-end-in-Some
+slice_bounds-byte_place-end-in-Some c =
+    let h = sound-tree _ _ _ _ _ c.read_sound.ensures.sound_read c.in_ok-sound.was in
+    simp length-take (omega (arith, count-fits h.1.fitted, c.read_sound.auto.places, c.requires.room.places-room))
+
 pub byte_place-requires : goal.byte_place-requires
 byte_place-requires c =
     (sound-tree _ _ _ _ _ c.read_sound.ensures.sound_read c.in_ok-sound.was).1.fitted.cut.placed
@@ -29,7 +39,7 @@ byte_place-requires c =
 pub returns-in_err-sound : goal.returns-in_err-sound
 returns-in_err-sound c =
     let p = err_from_is_err_and c.from_residual.result c.from_residual.ensures.1 in
-    rw (p.1, p.2) (sound-no _ _ _ _ _ c.read_sound.ensures.sound_read c.in_err-sound.was)
+    rw (p.1, p.2) (sound-no _ _ _ _ _ _ _ _ _ c.read_sound.ensures.sound_read c.in_err-sound.was)
 
 pub returns-in_err-opened : goal.returns-in_err-opened
 returns-in_err-opened c =

@@ -20,7 +20,7 @@ use Rattle.eval.specs.Held.{Held}
 use Rattle.std.specs.Prelude.{Err, Ok}
 use Rattle.offers.specs.declared.row.Row.{Row}
 use Rattle.offers.specs.declared.Stop.{Stop}
-use Rattle.offers.specs.Collect.{Walked}
+use Rattle.offers.specs.Collect.{Filled}
 use Rattle.offers.specs.Slots.{Slot, slot_of}
 use Rattle.offers.specs.Walk.{guard_or, slots_from}
 use Rattle.offers.specs.Collect as Collect
@@ -37,38 +37,34 @@ module _ (t : List ℕ) (ls : List ℤ) (i j n : ℕ) (rs : List Row) where
         holds = λ L xs e l h.
             rw (← append_assoc xs ys zs) (q.holds L (xs ++ ys) e (omega (arith, length-append xs ys, p.rows)) (p.holds L xs e l h));
         rows = omega (arith, p.rows, q.rows, length-append ys zs);
-        room = q.room;
       }
 
   -- the first branch lacks a value, or there is no row for it
-  pub first-stops : (rs' : List Row) (b : Resolved.Branch) (bs : List Resolved.Branch) (e : Stop)
-      → CollectsOne t ls i j n rs rs' (eval_branch ls b) (Err e) → Collects t ls i j n rs rs' (b ∷ bs) (Err e)
+  pub first-stops : (n' : ℕ) (rs' : List Row) (b : Resolved.Branch) (bs : List Resolved.Branch) (e : Stop)
+      → CollectsOne t ls i j n rs n' rs' (eval_branch ls b) (Err e) → Collects t ls i j n rs n' rs' (b ∷ bs) (Err e)
   unfolding missing_branch is_none
-  first-stops rs' b bs e (Collect.CollectsOne.lacks q) = Collect.Collects.lacks {q = j} (rw q)
-  first-stops rs' b bs e (Collect.CollectsOne.full l) = Collect.Collects.full l
+  first-stops n' rs' b bs e (Collect.CollectsOne.lacks q) = Collect.Collects.lacks {q = j} (rw q)
+  first-stops n' rs' b bs e (Collect.CollectsOne.full l) = Collect.Collects.full l
 
   -- it has, and the others follow
-  pub first_then : (rs₁ rs₂ : List Row) (b : Resolved.Branch) (bs : List Resolved.Branch) (n₁ : ℕ) (r : Walked)
-      → CollectsOne t ls i j n rs rs₁ (eval_branch ls b) (Ok n₁) → Collects t ls i (suc j) n₁ rs₁ rs₂ bs r → Collects t ls i j n rs rs₂ (b ∷ bs) r
+  pub first_then : (n₁ : ℕ) (rs₁ : List Row) (n₂ : ℕ) (rs₂ : List Row) (b : Resolved.Branch) (bs : List Resolved.Branch) (r : Filled)
+      → CollectsOne t ls i j n rs n₁ rs₁ (eval_branch ls b) (Ok tt) → Collects t ls i (suc j) n₁ rs₁ n₂ rs₂ bs r → Collects t ls i j n rs n₂ rs₂ (b ∷ bs) r
   unfolding missing_branch slots_from
-  first_then rs₁ rs₂ b bs n₁ r (Collect.CollectsOne.all e g) (Collect.Collects.lacks {q} f) = Collect.Collects.lacks {q = q} (rw e f)
-  first_then rs₁ rs₂ b bs n₁ r (Collect.CollectsOne.all e g) (Collect.Collects.all f h) =
+  first_then n₁ rs₁ n₂ rs₂ b bs r (Collect.CollectsOne.all e g) (Collect.Collects.lacks {q} f) = Collect.Collects.lacks {q = q} (rw e f)
+  first_then n₁ rs₁ n₂ rs₂ b bs r (Collect.CollectsOne.all e g) (Collect.Collects.all f h) =
       Collect.Collects.all (rw e f) (grows_then rs₁ rs₂ (slot_of i j (guard_or (eval_branch ls b))) (slots_from ls i (suc j) bs) g h)
-  first_then rs₁ rs₂ b bs n₁ r (Collect.CollectsOne.all e g) (Collect.Collects.full l) = Collect.Collects.full l
+  first_then n₁ rs₁ n₂ rs₂ b bs r (Collect.CollectsOne.all e g) (Collect.Collects.full l) = Collect.Collects.full l
 
   -- it is the last
-  pub last_one : (rs' : List Row) (b : Resolved.Branch) (r : Walked)
-      → CollectsOne t ls i j n rs rs' (eval_branch ls b) r → Collects t ls i j n rs rs' (b ∷ []) r
+  pub last_one : (n' : ℕ) (rs' : List Row) (b : Resolved.Branch) (r : Filled)
+      → CollectsOne t ls i j n rs n' rs' (eval_branch ls b) r → Collects t ls i j n rs n' rs' (b ∷ []) r
   unfolding missing_branch is_none slots_from
-  last_one rs' b r (Collect.CollectsOne.lacks e) = Collect.Collects.lacks {q = j} (rw e)
-  last_one rs' b r (Collect.CollectsOne.all {n'} e g) = Collect.Collects.all {n' = n'} (rw e) (rw (append-nil (slot_of i j (guard_or (eval_branch ls b)))) g)
-  last_one rs' b r (Collect.CollectsOne.full l) = Collect.Collects.full l
+  last_one n' rs' b r (Collect.CollectsOne.lacks e) = Collect.Collects.lacks {q = j} (rw e)
+  last_one n' rs' b r (Collect.CollectsOne.all e g) = Collect.Collects.all (rw e) (rw (append-nil (slot_of i j (guard_or (eval_branch ls b)))) g)
+  last_one n' rs' b r (Collect.CollectsOne.full l) = Collect.Collects.full l
 
-  pub one-row : {rs' : List Row} {g : Option offers.Guard} {n' : ℕ} → CollectsOne t ls i j n rs rs' g (Ok n') → n' ≤ n + 1
+  pub one-row : {n' : ℕ} {rs' : List Row} {g : Option offers.Guard} → CollectsOne t ls i j n rs n' rs' g (Ok tt) → n' ≤ n + 1
   one-row {g = g} (Collect.CollectsOne.all e h) = omega (arith, h.rows, slot-one i j (guard_or g))
-
-  pub one-room : {rs' : List Row} {g : Option offers.Guard} {n' : ℕ} → CollectsOne t ls i j n rs rs' g (Ok n') → n' ≤ length rs'
-  one-room (Collect.CollectsOne.all e h) = h.room
 
 -- ---- by the node's kind
 module _ (t : List ℕ) (k kind : ℕ) (is : kind ≡ kind_of (get_or t k 0)) where
@@ -92,12 +88,12 @@ module _ (t : List ℕ) (k kind : ℕ) (is : kind ≡ kind_of (get_or t k 0)) wh
         go (b ∷ []) a g f = ((s.model, record { part = b; at = a; fit = g.0 }), omega arith)
         go (b ∷ c ∷ bs) a g f = absurd (not (is ∙ a.kind-is))
 
-    pub lone-collects : (ls : List ℤ) (i j n : ℕ) (rs rs' : List Row) (r : Walked)
-        → ((b : Resolved.Branch) → Branch t b k → CollectsOne t ls i j n rs rs' (eval_branch ls b) r) → (bs : List Resolved.Branch) → Branches t bs k → Collects t ls i j n rs rs' bs r
+    pub lone-collects : (ls : List ℤ) (i j n : ℕ) (rs : List Row) (n' : ℕ) (rs' : List Row) (r : Filled)
+        → ((b : Resolved.Branch) → Branch t b k → CollectsOne t ls i j n rs n' rs' (eval_branch ls b) r) → (bs : List Resolved.Branch) → Branches t bs k → Collects t ls i j n rs n' rs' bs r
     unfolding Branches
-    lone-collects ls i j n rs rs' r f [] a = absurd a
-    lone-collects ls i j n rs rs' r f (b ∷ []) a = last_one t ls i j n rs rs' b r (f b a)
-    lone-collects ls i j n rs rs' r f (b ∷ c ∷ bs) a = absurd (not (is ∙ a.kind-is))
+    lone-collects ls i j n rs n' rs' r f [] a = absurd a
+    lone-collects ls i j n rs n' rs' r f (b ∷ []) a = last_one t ls i j n rs n' rs' b r (f b a)
+    lone-collects ls i j n rs n' rs' r f (b ∷ c ∷ bs) a = absurd (not (is ∙ a.kind-is))
 
   -- a branch and those after it
   module _ (choice : kind ≡ 48) where
@@ -117,20 +113,20 @@ module _ (t : List ℕ) (k kind : ℕ) (is : kind ≡ kind_of (get_or t k 0)) wh
         )
 
     module _ (ls : List ℤ) (i j n : ℕ) (rs : List Row) where
-      pub more-stops : (rs' : List Row) (e : Stop)
-          → ((b : Resolved.Branch) → Branch t b (left_of (get_or t k 0)) → CollectsOne t ls i j n rs rs' (eval_branch ls b) (Err e))
-          → (bs : List Resolved.Branch) → Branches t bs k → Collects t ls i j n rs rs' bs (Err e)
+      pub more-stops : (n' : ℕ) (rs' : List Row) (e : Stop)
+          → ((b : Resolved.Branch) → Branch t b (left_of (get_or t k 0)) → CollectsOne t ls i j n rs n' rs' (eval_branch ls b) (Err e))
+          → (bs : List Resolved.Branch) → Branches t bs k → Collects t ls i j n rs n' rs' bs (Err e)
       unfolding Branches
-      more-stops rs' e f [] a = absurd a
-      more-stops rs' e f (b ∷ []) a = absurd (omega (arith, lone-kind b a))
-      more-stops rs' e f (b ∷ c ∷ bs) a = first-stops t ls i j n rs rs' b (c ∷ bs) e (f b a.holds-first)
+      more-stops n' rs' e f [] a = absurd a
+      more-stops n' rs' e f (b ∷ []) a = absurd (omega (arith, lone-kind b a))
+      more-stops n' rs' e f (b ∷ c ∷ bs) a = first-stops t ls i j n rs n' rs' b (c ∷ bs) e (f b a.holds-first)
 
-      pub more-collects : (rs₁ rs₂ : List Row) (n₁ : ℕ) (r : Walked)
-          → ((b : Resolved.Branch) → Branch t b (left_of (get_or t k 0)) → CollectsOne t ls i j n rs rs₁ (eval_branch ls b) (Ok n₁))
-          → ((bs : List Resolved.Branch) → Branches t bs (k - 1) → Collects t ls i (j + 1) n₁ rs₁ rs₂ bs r)
-          → (bs : List Resolved.Branch) → Branches t bs k → Collects t ls i j n rs rs₂ bs r
+      pub more-collects : (n₁ : ℕ) (rs₁ : List Row) (n₂ : ℕ) (rs₂ : List Row) (r : Filled)
+          → ((b : Resolved.Branch) → Branch t b (left_of (get_or t k 0)) → CollectsOne t ls i j n rs n₁ rs₁ (eval_branch ls b) (Ok tt))
+          → ((bs : List Resolved.Branch) → Branches t bs (k - 1) → Collects t ls i (j + 1) n₁ rs₁ n₂ rs₂ bs r)
+          → (bs : List Resolved.Branch) → Branches t bs k → Collects t ls i j n rs n₂ rs₂ bs r
       unfolding Branches
-      more-collects rs₁ rs₂ n₁ r f g [] a = absurd a
-      more-collects rs₁ rs₂ n₁ r f g (b ∷ []) a = absurd (omega (arith, lone-kind b a))
-      more-collects rs₁ rs₂ n₁ r f g (b ∷ c ∷ bs) a =
-          first_then t ls i j n rs rs₁ rs₂ b (c ∷ bs) n₁ r (f b a.holds-first) (rw (add-one j) at (g (c ∷ bs) (pair-second a)))
+      more-collects n₁ rs₁ n₂ rs₂ r f g [] a = absurd a
+      more-collects n₁ rs₁ n₂ rs₂ r f g (b ∷ []) a = absurd (omega (arith, lone-kind b a))
+      more-collects n₁ rs₁ n₂ rs₂ r f g (b ∷ c ∷ bs) a =
+          first_then t ls i j n rs n₁ rs₁ n₂ rs₂ b (c ∷ bs) r (f b a.holds-first) (rw (add-one j) at (g (c ∷ bs) (pair-second a)))

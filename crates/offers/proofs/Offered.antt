@@ -5,7 +5,7 @@ use mathlib.Core.List.{List, [], ◌∷◌}
 use mathlib.Core.Option.{Option, none, some, Option-elim}
 use native.Mathlib.Omega.{arith}
 use lib.IntN.{ℤ}
-use lib.ListN.{length, set, length-set}
+use lib.ListN.{length, set}
 use Rattle.value.specs.Range.{InRange}
 use Rattle.model.specs.Resolved
 use Rattle.rules.specs.Offers as offers
@@ -24,7 +24,8 @@ use Rattle.eval.proofs.Shapes.{shape-bounds}
 use Rattle.offers.specs.Slots.{slot_of}
 use Rattle.offers.specs.Walk.{guard_or}
 use Rattle.offers.specs.Table.{row_of, Small}
-use Rattle.offers.specs.Collect.{Grows, CollectsOne, lacks, all}
+use Rattle.offers.specs.Links.{row_limit}
+use Rattle.offers.specs.Collect.{Filled, Pushes, put, Grows, CollectsOne, lacks, all, full}
 use Rattle.offers.proofs.Numbered.{append-nil}
 use Rattle.offers.proofs.Rows.{holds_more}
 
@@ -86,33 +87,37 @@ fits_head m t ls b r range good sh = go (eval_branch ls b) refl sh
 
 -- ---- one branch
 module _ (t : List ℕ) (ls : List ℤ) (i j n : ℕ) (rs : List Row) where
-  pub one-lacks : (rs' : List Row) (g : Option offers.Guard) → ShowsOffer t ls g None → CollectsOne t ls i j n rs rs' g (Err (Missing i j))
-  one-lacks rs' none shown.missing = lacks refl
-  one-lacks rs' (some g) x = elim x [ ]
+  pub one-lacks : (n' : ℕ) (rs' : List Row) (g : Option offers.Guard) → ShowsOffer t ls g None → CollectsOne t ls i j n rs n' rs' g (Err (Missing i j))
+  one-lacks n' rs' none shown.missing = lacks refl
+  one-lacks n' rs' (some g) x = elim x [ ]
 
-  none_more : n ≤ length rs → Grows t ls i n rs rs [] n
-  none_more l = record { holds = λ L xs e l h. rw (append-nil xs) h; rows = omega arith; room = l }
+  none_more : Grows t ls i n rs rs [] n
+  none_more = record { holds = λ L xs e l h. rw (append-nil xs) h; rows = omega arith }
 
-  pub one-hidden : (g : Option offers.Guard) → n ≤ length rs → ShowsOffer t ls g (Some None) → CollectsOne t ls i j n rs rs g (Ok n)
+  pub one-hidden : (g : Option offers.Guard) → ShowsOffer t ls g (Some None) → CollectsOne t ls i j n rs n rs g (Ok tt)
   unfolding is_none guard_or slot_of Option-elim
-  one-hidden none l x = elim x [ ]
-  one-hidden (some offers.shut) l (shown.there shown.shut) = all refl (none_more l)
-  one-hidden (some (offers.bare a m)) l (shown.there x) = elim x [ ]
-  one-hidden (some (offers.opened a m)) l (shown.there x) = elim x [ ]
+  one-hidden none x = elim x [ ]
+  one-hidden (some offers.shut) (shown.there shown.shut) = all refl none_more
+  one-hidden (some (offers.bare a m)) (shown.there x) = elim x [ ]
+  one-hidden (some (offers.opened a m)) (shown.there x) = elim x [ ]
 
-  module _ (r : Offer) (small : Small r) (pi : i < 256) (pj : j < 16) (lh : n < length rs) where
-    one_more : (a : offers.Action) (m : ℕ) → ShowsAction t ls r a → r.rate ≡ m
+  module _ (r : Offer) (small : Small r) (pi : i < 256) (pj : j < 16) where
+    one_more : n < length rs → (a : offers.Action) (m : ℕ) → ShowsAction t ls r a → r.rate ≡ m
         → Grows t ls i n rs (set rs n (row_of i j r)) (record { place = i; branch = j; action = a; rate = m } ∷ []) (n + 1)
-    one_more a m s q =
+    one_more lh a m s q =
         record {
           holds = λ L xs e l h. rw (← q) (holds_more rs n i j r small pi pj lh t L xs a l h (rw e s));
           rows = omega arith;
-          room = omega (arith, length-set rs n (row_of i j r));
         }
 
-    pub one-put : (g : Option offers.Guard) → ShowsOffer t ls g (Some (Some r)) → CollectsOne t ls i j n rs (set rs n (row_of i j r)) g (Ok (n + 1))
+    one_put : n < length rs → (g : Option offers.Guard) → ShowsOffer t ls g (Some (Some r)) → CollectsOne t ls i j n rs (n + 1) (set rs n (row_of i j r)) g (Ok tt)
     unfolding is_none guard_or slot_of Option-elim
-    one-put none x = elim x [ ]
-    one-put (some offers.shut) (shown.there x) = elim x [ ]
-    one-put (some (offers.bare a m)) (shown.there (shown.bare s q)) = all refl (one_more a m s q)
-    one-put (some (offers.opened a m)) (shown.there (shown.opened s q)) = all refl (one_more a m s q)
+    one_put lh none x = elim x [ ]
+    one_put lh (some offers.shut) (shown.there x) = elim x [ ]
+    one_put lh (some (offers.bare a m)) (shown.there (shown.bare s q)) = all refl (one_more lh a m s q)
+    one_put lh (some (offers.opened a m)) (shown.there (shown.opened s q)) = all refl (one_more lh a m s q)
+
+    pub one-pushed : {n' : ℕ} {rs' : List Row} {w : Filled} (g : Option offers.Guard) → n < row_limit → ShowsOffer t ls g (Some (Some r)) → Pushes (row_of i j r) n rs n' rs' w
+        → CollectsOne t ls i j n rs n' rs' g w
+    one-pushed g l x (put lh) = one_put lh g x
+    one-pushed g l x (full h) = full (omega arith)

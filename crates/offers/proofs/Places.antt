@@ -113,32 +113,27 @@ pub record Progress (t : List ℕ) (rs : List Row) (m : Resolved.Model) (ps : Li
   pub missing-is : missing m 0 ps ≡ missing m i (drop i ps)
   pub holds : Holds t (locals_of ps) rs (slots_of m 0 (take i ps))
   pub rows : length (slots_of m 0 (take i ps)) ≡ n
-  pub room : n ≤ length rs
 
 pub progress-none : (t : List ℕ) (rs : List Row) (m : Resolved.Model) (ps : List Process) → Progress t rs m ps 0 0
 unfolding slots_of
-progress-none t rs m ps = record { missing-is = refl; holds = record { shown = λ k x e. none-not-some none _ refl e }; rows = refl; room = omega arith }
+progress-none t rs m ps = record { missing-is = refl; holds = record { shown = λ k x e. none-not-some none _ refl e }; rows = refl }
 
 module _ {t roots scopes : List ℕ} {zs : List ℤ} {m : Resolved.Model} {s : State} (w : World t roots scopes zs m s) (i n : ℕ) (p : Process) (at : get_elem? s.processes i ≡ some p)
-    (rs rs' : List Row) where
-  pub next-rows : (n' : ℕ) → Collects t p.locals i 0 n rs rs' (branches_of m p) (Ok n') → n' ≤ n + 16
-  next-rows n' (Collect.Collects.all e g) = omega (arith, g.rows, from-few p.locals i 0 (branches_of m p), few-branches w i p at)
+    (rs : List Row) (n' : ℕ) (rs' : List Row) where
+  pub next-rows : Collects t p.locals i 0 n rs n' rs' (branches_of m p) (Ok tt) → n' ≤ n + 16
+  next-rows (Collect.Collects.all e g) = omega (arith, g.rows, from-few p.locals i 0 (branches_of m p), few-branches w i p at)
 
-  pub next-room : (n' : ℕ) → Collects t p.locals i 0 n rs rs' (branches_of m p) (Ok n') → n' ≤ length rs'
-  next-room n' (Collect.Collects.all e g) = g.room
-
-  pub progress-more : (n' : ℕ) → Collects t p.locals i 0 n rs rs' (branches_of m p) (Ok n') → Progress t rs m s.processes i n → Progress t rs' m s.processes (i + 1) n'
-  progress-more n' (Collect.Collects.all e g) q =
+  pub progress-more : Collects t p.locals i 0 n rs n' rs' (branches_of m p) (Ok tt) → Progress t rs m s.processes i n → Progress t rs' m s.processes (i + 1) n'
+  progress-more (Collect.Collects.all e g) q =
       let nth = get_nth s.processes i at in
       let o = of-next m nth in
       record {
         missing-is = q.missing-is ∙ missing-later m nth e;
         holds = rw o (g.holds (locals_of s.processes) (slots_of m 0 (take i s.processes)) (locals-of w i p at) q.rows q.holds);
         rows = ap length o ∙ length-append (slots_of m 0 (take i s.processes)) (slots_from p.locals i 0 (branches_of m p)) ∙ (let z : length (slots_of m 0 (take i s.processes)) + length (slots_from p.locals i 0 (branches_of m p)) ≡ n' = omega (arith, g.rows, q.rows) in z);
-        room = g.room;
       }
 
-  pub progress-stops : (e : Stop) → Collects t p.locals i 0 n rs rs' (branches_of m p) (Err e) → Progress t rs m s.processes i n → Answers t rs' m s.processes (Err e)
+  pub progress-stops : (e : Stop) → Collects t p.locals i 0 n rs n' rs' (branches_of m p) (Err e) → Progress t rs m s.processes i n → Answers t rs' m s.processes (Err e)
   progress-stops (Missing i' j) (Collect.Collects.lacks e) q = Collect.Answers.lacks (q.missing-is ∙ missing-here m (get_nth s.processes i at) j e)
   progress-stops Full (Collect.Collects.full l) q = Collect.Answers.full l
 
@@ -148,9 +143,9 @@ drop_all (suc i) [] l = refl
 drop_all zero (x ∷ xs) l = absurd (omega arith)
 drop_all (suc i) (x ∷ xs) l = drop_all i xs (omega arith)
 
-pub progress-all : (t : List ℕ) (rs : List Row) (m : Resolved.Model) (ps : List Process) (i n : ℕ) → length ps ≤ i → Progress t rs m ps i n → Answers t rs m ps (Ok n)
-progress-all t rs m ps i n l q =
-    rw (← q.rows) (rw (take_all i ps l) (Collect.Answers.all (q.missing-is ∙ ended i ps l) (rw (take_all i ps l) at q.holds) (rw (take_all i ps l) at (let z : length (slots_of m 0 (take i ps)) ≤ length rs = omega (arith, q.rows, q.room) in z))))
+pub progress-all : (t : List ℕ) (rs : List Row) (m : Resolved.Model) (ps : List Process) (i n : ℕ) → length ps ≤ i → n ≤ length rs → Progress t rs m ps i n → Answers t rs m ps (Ok n)
+progress-all t rs m ps i n l r q =
+    rw (← q.rows) (rw (take_all i ps l) (Collect.Answers.all (q.missing-is ∙ ended i ps l) (rw (take_all i ps l) at q.holds) (rw (take_all i ps l) at (let z : length (slots_of m 0 (take i ps)) ≤ length rs = omega (arith, q.rows) in z))))
   where
     ended : (i : ℕ) (qs : List Process) → length qs ≤ i → missing m i (drop i qs) ≡ none
     ended i qs l = ap (missing m i) (drop_all i qs l) ∙ (unfold missing in refl)

@@ -1,5 +1,5 @@
 -- What collecting the offers of a state answers: the table holds the slots, or the first branch without value (01, Listing, 12), or the table has too few rows. Assumes nothing: these are definitions.
-use Rattle.std.specs.Prelude.{◌≡◌, false, List, ◌++◌, ℕ, ◌+◌, ◌≤◌, ◌<◌, ℤ, length, Result, Err, Ok}
+use Rattle.std.specs.Prelude.{◌≡◌, false, List, ◌++◌, ℕ, ◌+◌, ◌≤◌, ◌<◌, ℤ, length, set, Result, Err, Ok}
 use Rattle.std.proofs.Math.Option.{Option, none, some}
 use Rattle.model.specs.Resolved
 use Rattle.model.specs.Limits.{branch_limit}
@@ -29,23 +29,31 @@ pub record Branched (t : List ℕ) (n j k : ℕ) : Type 0 where
 pub record Grows (t : List ℕ) (ls : List ℤ) (i n : ℕ) (rs rs' : List Row) (ys : List Slot) (n' : ℕ) : Type 0 where
   pub holds : (L : ℕ → List ℤ) (xs : List Slot) → L i ≡ ls → length xs ≡ n → Holds t L rs xs → Holds t L rs' (xs ++ ys)
   pub rows : n' ≡ n + length ys
-  pub room : n' ≤ length rs'
 
 -- up to where the rows are filled; or the first branch without value, by its place, or no row is left
 abbrev pub Walked : Type 0
 Walked = Result ℕ Stop
 
--- branch j at place i, which offers g
-pub data CollectsOne (t : List ℕ) (ls : List ℤ) (i j n : ℕ) (rs rs' : List Row) (g : Option offers.Guard) : Walked → Type 0 where
-  lacks : g ≡ none → CollectsOne t ls i j n rs rs' g (Err (Missing i j))
-  all : {n' : ℕ} → is_none g ≡ false → Grows t ls i n rs rs' (slot_of i j (guard_or g)) n' → CollectsOne t ls i j n rs rs' g (Ok n')
-  full : length rs' < row_limit → CollectsOne t ls i j n rs rs' g (Err Full)
+-- the same of rows that are being filled, which have their count
+abbrev pub Filled : Type 0
+Filled = Result (Unit {0}) Stop
+
+-- the row r after the first n of rs, if there is one left
+pub data Pushes (r : Row) (n : ℕ) (rs : List Row) : (n' : ℕ) (rs' : List Row) → Filled → Type 0 where
+  put : n < length rs → Pushes r n rs (n + 1) (set rs n r) (Ok tt)
+  full : length rs ≤ n → Pushes r n rs n rs (Err Full)
+
+-- branch j at place i, which offers g; n rows of rs are filled, then n' of rs'
+pub data CollectsOne (t : List ℕ) (ls : List ℤ) (i j n : ℕ) (rs : List Row) (n' : ℕ) (rs' : List Row) (g : Option offers.Guard) : Filled → Type 0 where
+  lacks : g ≡ none → CollectsOne t ls i j n rs n' rs' g (Err (Missing i j))
+  all : is_none g ≡ false → Grows t ls i n rs rs' (slot_of i j (guard_or g)) n' → CollectsOne t ls i j n rs n' rs' g (Ok tt)
+  full : length rs' < row_limit → CollectsOne t ls i j n rs n' rs' g (Err Full)
 
 -- branches counted from j on
-pub data Collects (t : List ℕ) (ls : List ℤ) (i j n : ℕ) (rs rs' : List Row) (bs : List Resolved.Branch) : Walked → Type 0 where
-  lacks : {q : ℕ} → missing_branch ls j bs ≡ some q → Collects t ls i j n rs rs' bs (Err (Missing i q))
-  all : {n' : ℕ} → missing_branch ls j bs ≡ none → Grows t ls i n rs rs' (slots_from ls i j bs) n' → Collects t ls i j n rs rs' bs (Ok n')
-  full : length rs' < row_limit → Collects t ls i j n rs rs' bs (Err Full)
+pub data Collects (t : List ℕ) (ls : List ℤ) (i j n : ℕ) (rs : List Row) (n' : ℕ) (rs' : List Row) (bs : List Resolved.Branch) : Filled → Type 0 where
+  lacks : {q : ℕ} → missing_branch ls j bs ≡ some q → Collects t ls i j n rs n' rs' bs (Err (Missing i q))
+  all : missing_branch ls j bs ≡ none → Grows t ls i n rs rs' (slots_from ls i j bs) n' → Collects t ls i j n rs n' rs' bs (Ok tt)
+  full : length rs' < row_limit → Collects t ls i j n rs n' rs' bs (Err Full)
 
 -- 01, Opening a text, 7: at most 16 branches in a sum
 unfoldable pub FewBranches : Resolved.Model → Type 0

@@ -205,28 +205,46 @@ pub enum Stop {
     Full,
 }
 
-// Puts the offer of the branch at k into a row, if it isn't hidden and there is one: up to where the rows are filled, or the branch without value. The rows are the
-// caller's, with the count handed on: a struct of the lent slice and its count would lose what it wrote.
+// The rows of a table that is being filled: lent, with the count of those that are filled, the first.
+#[derive(Drop)]
+struct Filling<'a> {
+    rows: &'a mut [Row],
+    count: usize,
+    ghost room: { count ≤ length rows.now },
+}
+
+impl<'a> Filling<'a> {
+    // One row more, if there is one left.
+    fn push(&mut self, row: Row) -> Result<(), Stop>
+        ensures same { self.new.rows.ghost_name ≡ self.old.rows.ghost_name }
+        ensures pushed { Collect.Pushes row self.old.count self.old.rows.now self.new.count self.new.rows.now result }
+    {
+        if self.rows.len() <= self.count {
+            return Err(Stop::Full);
+        }
+        self.rows[self.count] = row;
+        self.count += 1;
+        Ok(())
+    }
+}
+
+// Puts the offer of the branch at k into a row, if it isn't hidden and there is one.
 fn collect_branch(
     context: Context,
     place: usize,
     branch: usize,
     k: usize,
-    rows: &mut [Row],
-    row: usize,
-) -> Result<usize, Stop>
-    requires { ((m : Resolved.Model) × Held (Settled.Branch context.nodes.now) (GoodBranch m (length context.locals.now)) k) × (row ≤ length rows.old) × (row < row_limit) × (place < process_limit) × (branch < branch_limit) }
-    ensures { (b : Resolved.Branch) → Settled.Branch context.entry.nodes.now b k → Collect.CollectsOne context.entry.nodes.now context.entry.locals.now place branch row rows.old rows.new (eval_branch context.entry.locals.now b) result }
+    filling: &mut Filling,
+) -> Result<(), Stop>
+    requires { ((m : Resolved.Model) × Held (Settled.Branch context.nodes.now) (GoodBranch m (length context.locals.now)) k) × (filling.old.count < row_limit) × (place < process_limit) × (branch < branch_limit) }
+    ensures same { filling.new.rows.ghost_name ≡ filling.old.rows.ghost_name }
+    ensures collects { (b : Resolved.Branch) → Settled.Branch context.entry.nodes.now b k → Collect.CollectsOne context.entry.nodes.now context.entry.locals.now place branch filling.old.count filling.old.rows.now filling.new.count filling.new.rows.now (eval_branch context.entry.locals.now b) result }
 {
     let shown = eval::offer::offer_of(context, k).ok_or(Stop::Missing(place, branch))?;
     let Some(o) = shown else {
-        return Ok(row);
+        return Ok(());
     };
-    if rows.len() <= row {
-        return Err(Stop::Full);
-    }
-    rows[row] = row_of(place, branch, o);
-    Ok(row + 1)
+    filling.push(row_of(place, branch, o))
 }
 
 // Puts the offers of the branches at k into rows, counted from `branch` on.
@@ -235,20 +253,20 @@ fn collect_branches(
     place: usize,
     branch: usize,
     k: usize,
-    rows: &mut [Row],
-    row: usize,
-) -> Result<usize, Stop>
-    requires { (Collect.Branched context.nodes.now (length context.locals.now) branch k) × (row ≤ length rows.old) × (place < process_limit) × (row ≤ place * branch_limit + branch) }
-    ensures { (bs : List Resolved.Branch) → Settled.Branches context.entry.nodes.now bs k → Collect.Collects context.entry.nodes.now context.entry.locals.now place branch row rows.old rows.new bs result }
+    filling: &mut Filling,
+) -> Result<(), Stop>
+    requires { (Collect.Branched context.nodes.now (length context.locals.now) branch k) × (place < process_limit) × (filling.old.count ≤ place * branch_limit + branch) }
+    ensures same { filling.new.rows.ghost_name ≡ filling.old.rows.ghost_name }
+    ensures collects { (bs : List Resolved.Branch) → Settled.Branches context.entry.nodes.now bs k → Collect.Collects context.entry.nodes.now context.entry.locals.now place branch filling.old.count filling.old.rows.now filling.new.count filling.new.rows.now bs result }
 {
     let cell = eval::cell_at(context.nodes, k);
     let kind = tree::kind_of(cell);
     if kind != NodeKind::CHOICE {
-        return collect_branch(context, place, branch, k, rows, row);
+        return collect_branch(context, place, branch, k, filling);
     }
     let left = tree::left_of(cell);
-    let next = collect_branch(context, place, branch, left, rows, row)?;
-    collect_branches(context, place, branch + 1, k - 1, rows, next)
+    collect_branch(context, place, branch, left, filling)?;
+    collect_branches(context, place, branch + 1, k - 1, filling)
 }
 
 // The locals of the process at a place.
@@ -266,11 +284,11 @@ fn collect_place(
     tables: Tables,
     state: &[i64],
     place: usize,
-    rows: &mut [Row],
-    row: usize,
-) -> Result<usize, Stop>
-    requires { ((m : Resolved.Model) × (s : State) × Collect.World tables.nodes.now tables.roots.now tables.scopes.now state.now m s) × (place < process_count state.now) × (row ≤ length rows.old) × (row ≤ place * branch_limit) }
-    ensures { (m : Resolved.Model) (s : State) (p : Process) → Collect.World tables.entry.nodes.now tables.entry.roots.now tables.entry.scopes.now state.now m s → get_elem? s.processes place ≡ some p → Collect.Collects tables.entry.nodes.now p.locals place 0 row rows.old rows.new (branches_of m p) result }
+    filling: &mut Filling,
+) -> Result<(), Stop>
+    requires { ((m : Resolved.Model) × (s : State) × Collect.World tables.nodes.now tables.roots.now tables.scopes.now state.now m s) × (place < process_count state.now) × (filling.old.count ≤ place * branch_limit) }
+    ensures same { filling.new.rows.ghost_name ≡ filling.old.rows.ghost_name }
+    ensures collects { (m : Resolved.Model) (s : State) (p : Process) → Collect.World tables.entry.nodes.now tables.entry.roots.now tables.entry.scopes.now state.now m s → get_elem? s.processes place ≡ some p → Collect.Collects tables.entry.nodes.now p.locals place 0 filling.old.count filling.old.rows.now filling.new.count filling.new.rows.now (branches_of m p) result }
 {
     // Not by `locals_of`: the sum is wanted too, for the root.
     let sum = state::sum_at(state, place);
@@ -281,7 +299,7 @@ fn collect_place(
         nodes: tables.nodes,
         locals,
     };
-    collect_branches(context, place, 0, root, rows, row)
+    collect_branches(context, place, 0, root, filling)
 }
 
 // Puts the offers of all processes into rows.
@@ -290,9 +308,9 @@ pub fn collect(tables: Tables, state: &[i64], rows: &mut [Row]) -> Result<usize,
     ensures { (m : Resolved.Model) (s : State) → Collect.World tables.entry.nodes.now tables.entry.roots.now tables.entry.scopes.now state.now m s → Collect.Answers tables.entry.nodes.now rows.new m s.processes result }
 {
     let places = state::process_count(state);
-    let mut row = 0;
+    let filling = &mut Filling { rows, count: 0 };
     for place in 0..places {
-        row = collect_place(tables, state, place, rows, row)?;
+        collect_place(tables, state, place, filling)?;
     }
-    Ok(row)
+    Ok(filling.count)
 }

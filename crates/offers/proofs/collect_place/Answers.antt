@@ -59,15 +59,15 @@ collect_branches-requires c =
     let l : c.sum_at-sum.result < length c.args.tables.scopes.now = omega (arith, S, (sum_fits w i p at).1) in let k : c.sum_at-sum.result < length c.args.tables.roots.now = omega (arith, S, (sum_fits w i p at).0) in
     let C : c.locals_in-count.result ≡ length p.locals = c.locals_in-count.ensures ∙ ap (λ (n : ℕ). locals_in (get_or c.args.tables.scopes.now n 0)) S ∙ scope-is w i p at in
     let LL = c.locals_at-locals.ensures ∙ ap (locals_at c.args.state.now i) C ∙ locals_are w i p at in let R : get_or c.args.tables.roots.now c.sum_at-sum.result 0 ≡ get_or c.args.tables.roots.now p.sum 0 = ap (λ (n : ℕ). get_or c.args.tables.roots.now n 0) S in
-    (rw (LL, R) (branched w i p at), c.requires.2, omega (arith, few-processes c.args.state.now (passed w), c.requires.1), omega (arith, c.requires.3))
+    (rw (LL, R) (branched w i p at), omega (arith, few-processes c.args.state.now (passed w), c.requires.1), omega (arith, c.requires.2))
 
-pub returns : goal.returns
-returns c =
+pub returns-clause-collects : goal.returns-clause-collects
+returns-clause-collects c =
     λ m s p w at.
     let i = c.args.place in let S = c.sum_at-sum.ensures ∙ sum_is w i p at in
     let C : c.locals_in-count.result ≡ length p.locals = c.locals_in-count.ensures ∙ ap (λ (n : ℕ). locals_in (get_or c.args.tables.scopes.now n 0)) S ∙ scope-is w i p at in
     let LL = c.locals_at-locals.ensures ∙ ap (locals_at c.args.state.now i) C ∙ locals_are w i p at in let R : get_or c.args.tables.roots.now c.sum_at-sum.result 0 ≡ get_or c.args.tables.roots.now p.sum 0 = ap (λ (n : ℕ). get_or c.args.tables.roots.now n 0) S in
-    rw LL at (c.collect_branches.ensures (branches_of m p) (rw R (branches_at w i p at)))
+    rw LL at (c.collect_branches.ensures.collects (branches_of m p) (rw R (branches_at w i p at)))
 
 pub invariant_of-context : goal.invariant_of-context
 invariant_of-context c =

@@ -205,7 +205,7 @@ pub enum Stop {
     Full,
 }
 
-// The rows of a table that is being filled: lent, with the count of those that are filled, the first.
+// A table as it is filled: its rows, lent, and how many of them, from the first on, are filled.
 #[derive(Drop)]
 struct Filling<'a> {
     rows: &'a mut [Row],
@@ -214,7 +214,7 @@ struct Filling<'a> {
 }
 
 impl<'a> Filling<'a> {
-    // One row more, if there is one left.
+    // Fills the next row, if there is one.
     fn push(&mut self, row: Row) -> Result<(), Stop>
         ensures same { self.new.rows.ghost_name ≡ self.old.rows.ghost_name }
         ensures pushed { Collect.Pushes row self.old.count self.old.rows.now self.new.count self.new.rows.now result }
@@ -308,6 +308,7 @@ pub fn collect(tables: Tables, state: &[i64], rows: &mut [Row]) -> Result<usize,
     ensures { (m : Resolved.Model) (s : State) → Collect.World tables.entry.nodes.now tables.entry.roots.now tables.entry.scopes.now state.now m s → Collect.Answers tables.entry.nodes.now rows.new m s.processes result }
 {
     let places = state::process_count(state);
+    // Behind a `&mut`: of a struct by value, what its slice holds isn't known at the loop's end.
     let filling = &mut Filling { rows, count: 0 };
     for place in 0..places {
         collect_place(tables, state, place, filling)?;

@@ -21,14 +21,14 @@ use Rattle.tables.specs.Represents.{Sums}
 use Rattle.model.specs.Good.{Every, GoodPart, GoodDefined, GoodSum, GoodModel, SumWith}
 use Rattle.machine.specs.Offer as machine
 use Rattle.machine.specs.Offer.{Process, part_processes, next_processes}
-use Rattle.machine.specs.State.{GoodProcess, process_width, process_numbers}
+use Rattle.machine.specs.State.{GoodProcess, process_width}
 use Rattle.machine.proofs.Branches.{get_nth}
 use Rattle.machine.proofs.Everys.{every-nth}
 use Rattle.machine.proofs.Continues.{next-good}
 use Rattle.eval.specs.Next as become
-use Rattle.eval.specs.Next.{arguments, Room, Scoped, SumsFit, CallFits, Continues, Rows, Spaced}
+use Rattle.eval.specs.Next.{arguments, Scoped, SumsFit, CallFits, Continues, Rows, Spaced}
 use Rattle.eval.proofs.Continuations.{next-append, group-continues, items-continue, sum-part, call-part, body}
-use Rattle.eval.proofs.Rows.{Few, filled, rows-one, rows_then}
+use Rattle.eval.proofs.Rows.{Few, filled, rows_then}
 
 -- ---- few locals
 sum-few : (m : Resolved.Model) → GoodModel m → (n k : ℕ) → SumWith m n k → n ≤ local_limit
@@ -90,11 +90,6 @@ module _ (t : List ℕ) (root variables : ℕ) (ls : List ℤ) (good : Every InR
   module _ (k kind : ℕ) (is : kind ≡ kind_of (get_or t k 0)) (size at : ℕ) where
     -- a group
     module _ (h : kind ≡ 53) where
-      pub group-spaced : Spaced t scopes root variables ls k size at → (1 ≤ k) × Spaced t scopes root variables ls (k - 1) size at
-      group-spaced s =
-          let g = group-continues t root variables (length ls) s.model s.parts k s.holds (sym is ∙ h) in
-          (g.0, record { model = s.model; scoped = s.scoped; parts = s.parts; holds = g.1; fits = s.fits })
-
       pub group-puts : (f g : List ℤ) (r : ℕ) → Puts (k - 1) f at g r → Puts k f at g r
       group-puts f g r w m ps s c = w m ps (group-continues t root variables (length ls) m ps k s (sym is ∙ h)).1 c
 
@@ -150,12 +145,12 @@ module _ (t : List ℕ) (root variables : ℕ) (ls : List ℤ) (good : Every InR
       pub entered_below : Spaced t scopes root variables ls k size at → token_of (get_or t k 0) < length scopes
       entered_below s = sum_below s.model s.holds.good scopes s.scoped (length ls) (token_of (get_or t k 0)) (entered-with s.model s.parts s.holds)
 
-      pub sum-puts : (f g : List ℤ) → g ≡ sets f (at * process_width) (process_numbers (become.known scopes (token_of (get_or t k 0)) ls)) → Puts k f at g (at + 1)
+      pub sum-puts : (f g : List ℤ) (r : ℕ) → Rows f at (become.known scopes (token_of (get_or t k 0)) ls ∷ []) g r → Puts k f at g r
       unfolding next_processes part_processes
-      sum-puts f g e m ps s c =
+      sum-puts f g r w m ps s c =
           let q = ap (next_processes m ls) (sum-part t ps k (sym is ∙ h) s.at).is in
           let u = sum-known m s.good scopes c (length ls) (token_of (get_or t k 0)) (entered-with m ps s) ls in
-          subst (λ (z : List Process). Rows f at z g (at + 1)) (sym (q ∙ ap (λ (p : Process). p ∷ []) u)) (rows-one f g at (become.known scopes (token_of (get_or t k 0)) ls) e)
+          subst (λ (z : List Process). Rows f at z g r) (sym (q ∙ ap (λ (p : Process). p ∷ []) u)) w
 
     -- a call, of which the sums lie at body
     abbrev pub body_at : ℕ
@@ -224,17 +219,6 @@ module _ (t : List ℕ) (root variables : ℕ) (ls : List ℤ) (good : Every InR
 
 -- ---- the values of a call
 module _ (t : List ℕ) (count n k body size at : ℕ) (c : CallFits t count n k body size at) where
-  pub values-above : 1 ≤ k
-  values-above = omega (arith, c.call.above)
-
-  pub values-room : Room t n (k - 1) local_limit 0
-  values-room =
-      let e : c.call.root ≡ k - 1 = omega (arith, c.call.above) in
-      record { arguments = c.values; holds = subst (Settled.Arguments t c.values) e c.call.holds; fit = c.fit; fits = omega (arith, c.few) }
-
-  pub values-few : third_of (get_or t k 0) ≤ local_limit
-  values-few = omega (arith, c.few, c.call.count-is)
-
   -- what is lent of the array is the values of whatever call stands there
   pub values-are : (ls v : List ℤ) → ((es : List Resolved.Expr) → Settled.Arguments t es (k - 1) → v ≡ sets (replicate local_limit (pos 0)) 0 (arguments ls es))
       → (d : ℕ) (es : List Resolved.Expr) → Called t d es k → take (third_of (get_or t k 0)) v ≡ arguments ls es
@@ -244,7 +228,7 @@ module _ (t : List ℕ) (count n k body size at : ℕ) (c : CallFits t count n k
       let q = w es (subst (Settled.Arguments t es) e a.holds) in
       let l : length (arguments ls es) ≡ length es = length-map es _ in
       let s : third_of (get_or t k 0) ≡ length (arguments ls es) = a.count-is ∙ sym l in
-      rw (q, s) (filled (replicate local_limit (pos 0)) (arguments ls es) (omega (arith, values-few)))
+      rw (q, s) (filled (replicate local_limit (pos 0)) (arguments ls es) (omega (arith, c.few, c.call.count-is)))
 
 -- what is left after the other kinds
 pub last-kind : (t : List ℕ) (ps : List Resolved.Part) (k : ℕ) → (kind_of (get_or t k 0) ≡ 53 → ⊥) → (kind_of (get_or t k 0) ≡ 54 → ⊥) → (kind_of (get_or t k 0) ≡ 49 → ⊥) → (kind_of (get_or t k 0) ≡ 50 → ⊥)

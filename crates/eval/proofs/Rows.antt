@@ -178,19 +178,18 @@ pub token-small : (c : ℕ) → token_of c < field
 unfolding token_of
 token-small c = omega arith
 
-module _ (t scopes : List ℕ) (k at : ℕ) (ls f g : List ℤ) (few : length ls ≤ local_limit) where
-  pub last_sum : (kind_of (get_or t k 0) ≡ 55 → ⊥) → g ≡ sets f (at * process_width) (process_numbers (known scopes (token_of (get_or t k 0)) ls))
-      → (ns : List ℕ) → Sums t ns k → Rows f at (entered scopes ns ls) g (at + 1)
+module _ (t scopes : List ℕ) (k at : ℕ) (ls f g : List ℤ) (n : ℕ) where
+  pub last_sum : (kind_of (get_or t k 0) ≡ 55 → ⊥) → Rows f at (known scopes (token_of (get_or t k 0)) ls ∷ []) g n → (ns : List ℕ) → Sums t ns k → Rows f at (entered scopes ns ls) g n
   unfolding Sums entered
-  last_sum h e [] a = absurd a
-  last_sum h e (n ∷ []) a = rows-one f g at (known scopes n ls) (rw (← a.index_is) e)
-  last_sum h e (n ∷ o ∷ ns) a = absurd (h a.kind-is)
+  last_sum h w [] a = absurd a
+  last_sum h w (i ∷ []) a = rw (← a.index_is) w
+  last_sum h w (i ∷ j ∷ is) a = absurd (h a.kind-is)
 
-  pub more-sums : (b : List ℤ) (r : ℕ) → kind_of (get_or t k 0) ≡ 55 → g ≡ sets f (at * process_width) (process_numbers (known scopes (token_of (get_or t (left_of (get_or t k 0)) 0)) ls))
-      → ((ns : List ℕ) → Sums t ns (k - 1) → Rows g (at + 1) (entered scopes ns ls) b r) → (ns : List ℕ) → Sums t ns k → Rows f at (entered scopes ns ls) b r
+  pub more-sums : length ls ≤ local_limit → (b : List ℤ) (r : ℕ) → kind_of (get_or t k 0) ≡ 55 → Rows f at (known scopes (token_of (get_or t (left_of (get_or t k 0)) 0)) ls ∷ []) g n
+      → ((ns : List ℕ) → Sums t ns (k - 1) → Rows g n (entered scopes ns ls) b r) → (ns : List ℕ) → Sums t ns k → Rows f at (entered scopes ns ls) b r
   unfolding Sums entered known Every
-  more-sums b r h e w [] a = absurd a
-  more-sums b r h e w (n ∷ []) a = absurd (omega (arith, a.kind-is))
-  more-sums b r h e w (n ∷ o ∷ ns) a =
-      let p : Process = known scopes n ls in
-      rows_then f g b at (at + 1) r (p ∷ []) (entered scopes (o ∷ ns) ls) (few, tt) (rows-one f g at p (rw (← a.holds-first.index_is) e)) (w (o ∷ ns) (pair-second a))
+  more-sums few b r h v w [] a = absurd a
+  more-sums few b r h v w (i ∷ []) a = absurd (omega (arith, a.kind-is))
+  more-sums few b r h v w (i ∷ j ∷ is) a =
+      let p : Process = known scopes i ls in
+      rows_then f g b at n r (p ∷ []) (entered scopes (j ∷ is) ls) (few, tt) (rw (← a.holds-first.index_is) v) (w (j ∷ is) (pair-second a))

@@ -1,5 +1,5 @@
 // Continuations over settled nodes: whether their arguments have values, how many processes they become, and the rows of these.
-ghost use Rattle.std.specs.Prelude.{◌≡◌, List, ℕ, ◌+◌, ◌-◌, ◌*◌, ◌≤◌, ◌<◌, ℤ, pos, length, get_or};
+ghost use Rattle.std.specs.Prelude.{◌≡◌, List, [], ◌∷◌, ℕ, ◌+◌, ◌-◌, ◌*◌, ◌≤◌, ◌<◌, ℤ, pos, length, get_or};
 ghost use Rattle.std.proofs.lemmas.List.Edits.{sets};
 ghost use Rattle.value.specs.Range.{InRange};
 ghost use Rattle.tree.specs.Node.{field, left_of};
@@ -131,16 +131,6 @@ fn numbers_of(sum: usize, locals: &[i64], definition: usize) -> [i64; Row::WIDTH
     row
 }
 
-// Writes a process of a sum into row `at`.
-fn put_row(sum: usize, locals: &[i64], fresh: &mut [i64], at: usize, scopes: &[u16])
-    requires { (sum < field) × (length locals.now ≤ local_limit) × ((at + 1) * process_width ≤ length fresh.old) × (sum < length scopes.now) }
-    ensures { fresh.new ≡ sets fresh.old (at * process_width) (process_numbers (Become.known scopes.now sum locals.now)) }
-{
-    let row = numbers_of(sum, locals, state::definition_in(scopes[sum]));
-    let base = at * Row::WIDTH;
-    fresh[base..base + Row::WIDTH].copy_from_slice(&row);
-}
-
 // Writes the values of the arguments at k from place `at` on. `store::start::put_wholes` walks alike: one function would have two sorts of lists in its contract,
 // told apart by the kind.
 fn put_arguments(context: Context, k: usize, values: &mut [i64], at: usize)
@@ -158,43 +148,88 @@ fn put_arguments(context: Context, k: usize, values: &mut [i64], at: usize)
     put_arguments(context, k - 1, values, at + 1);
 }
 
-// Writes a process for each sum at k from row `at` on; the row after them. The rows are the caller's, here, in `put_row`, `put_call` and `put_processes`: a struct of the lent slice and its count would lose what it
-// wrote. `store::start::push_sums` walks alike, but adds to a state: a walk for both would take a closure that writes.
-fn put_sums(tables: Tables, k: usize, locals: &[i64], fresh: &mut [i64], at: usize) -> usize
-    requires { (Become.SumsFit tables.nodes.now (length tables.scopes.now) k (length fresh.old) at) × (length locals.now ≤ local_limit) }
-    ensures { (ns : List ℕ) → Represents.Sums tables.entry.nodes.now ns k → Become.Rows fresh.old at (Become.entered tables.entry.scopes.now ns locals.now) fresh.new result }
-{
-    let cell = crate::cell_at(tables.nodes, k);
-    if tree::kind_of(cell) != NodeKind::BESIDE {
-        put_row(tree::token_of(cell), locals, fresh, at, tables.scopes);
-        return at + 1;
-    }
-    let first = crate::cell_at(tables.nodes, tree::left_of(cell));
-    put_row(tree::token_of(first), locals, fresh, at, tables.scopes);
-    put_sums(tables, k - 1, locals, fresh, at + 1)
+// The rows that are lent to be written, and the number of the next one. Each method promises that the same rows stay lent.
+#[derive(Drop)]
+struct Rows<'a> {
+    fresh: &'a mut [i64],
+    next: usize,
 }
 
-// Writes the processes of the call at k, whose values are the locals of the sums at `body`.
-fn put_call(
-    tables: Tables,
-    locals: &[i64],
-    k: usize,
-    body: usize,
-    fresh: &mut [i64],
-    at: usize,
-) -> usize
-    requires { (Become.CallFits tables.nodes.now (length tables.scopes.now) (length locals.now) k body (length fresh.old) at) × (Every InRange locals.now) }
-    ensures { (d : ℕ) (es : List Resolved.Expr) (ns : List ℕ) → Settled.Called tables.entry.nodes.now d es k → Represents.Sums tables.entry.nodes.now ns body → Become.Rows fresh.old at (Become.entered tables.entry.scopes.now ns (Become.arguments locals.now es)) fresh.new result }
-{
-    let count = tree::third_of(crate::cell_at(tables.nodes, k));
-    let mut values = [0i64; Row::LOCALS];
-    let context = Context {
-        nodes: tables.nodes,
-        locals,
-    };
-    put_arguments(context, k - 1, &mut values, 0);
-    let given = &values[..count];
-    put_sums(tables, body, given, fresh, at)
+impl Rows<'_> {
+    // Writes a process of a sum into the next row.
+    fn put_row(&mut self, sum: usize, locals: &[i64], scopes: &[u16])
+        requires { (sum < field) × (length locals.now ≤ local_limit) × ((self.old.next + 1) * process_width ≤ length self.old.fresh.now) × (sum < length scopes.now) }
+        ensures same { self.new.fresh.ghost_name ≡ self.old.fresh.ghost_name }
+        ensures written { Become.Rows self.old.fresh.now self.old.next (Become.known scopes.now sum locals.now ∷ []) self.new.fresh.now self.new.next }
+    {
+        let row = numbers_of(sum, locals, state::definition_in(scopes[sum]));
+        let base = self.next * Row::WIDTH;
+        self.fresh[base..base + Row::WIDTH].copy_from_slice(&row);
+        self.next += 1;
+    }
+
+    // Writes a process for each sum at k. `store::start::push_sums` walks alike, but adds to a state: a walk for both would take a closure that writes.
+    fn put_sums(&mut self, tables: Tables, k: usize, locals: &[i64])
+        requires { (Become.SumsFit tables.nodes.now (length tables.scopes.now) k (length self.old.fresh.now) self.old.next) × (length locals.now ≤ local_limit) }
+        ensures same { self.new.fresh.ghost_name ≡ self.old.fresh.ghost_name }
+        ensures written { (ns : List ℕ) → Represents.Sums tables.entry.nodes.now ns k → Become.Rows self.old.fresh.now self.old.next (Become.entered tables.entry.scopes.now ns locals.now) self.new.fresh.now self.new.next }
+    {
+        let cell = crate::cell_at(tables.nodes, k);
+        if tree::kind_of(cell) != NodeKind::BESIDE {
+            self.put_row(tree::token_of(cell), locals, tables.scopes);
+            return;
+        }
+        let first = crate::cell_at(tables.nodes, tree::left_of(cell));
+        self.put_row(tree::token_of(first), locals, tables.scopes);
+        self.put_sums(tables, k - 1, locals);
+    }
+
+    // Writes the processes of the call at k, whose values are the locals of the sums at `body`.
+    fn put_call(&mut self, tables: Tables, locals: &[i64], k: usize, body: usize)
+        requires { (Become.CallFits tables.nodes.now (length tables.scopes.now) (length locals.now) k body (length self.old.fresh.now) self.old.next) × (Every InRange locals.now) }
+        ensures same { self.new.fresh.ghost_name ≡ self.old.fresh.ghost_name }
+        ensures written { (d : ℕ) (es : List Resolved.Expr) (ns : List ℕ) → Settled.Called tables.entry.nodes.now d es k → Represents.Sums tables.entry.nodes.now ns body → Become.Rows self.old.fresh.now self.old.next (Become.entered tables.entry.scopes.now ns (Become.arguments locals.now es)) self.new.fresh.now self.new.next }
+    {
+        let count = tree::third_of(crate::cell_at(tables.nodes, k));
+        let mut values = [0i64; Row::LOCALS];
+        let context = Context {
+            nodes: tables.nodes,
+            locals,
+        };
+        put_arguments(context, k - 1, &mut values, 0);
+        let given = &values[..count];
+        self.put_sums(tables, body, given);
+    }
+
+    // Writes the processes that the continuation at k becomes.
+    fn put_continued(&mut self, tables: Tables, locals: &[i64], k: usize)
+        requires { (Become.Spaced tables.nodes.now tables.scopes.now tables.root tables.variables locals.now k (length self.old.fresh.now) self.old.next) × (Every InRange locals.now) }
+        ensures same { self.new.fresh.ghost_name ≡ self.old.fresh.ghost_name }
+        ensures written { (m : Resolved.Model) (ps : List Resolved.Part) → Become.Continues tables.entry.nodes.now tables.entry.root tables.entry.variables (length locals.now) m ps k → Become.Scoped tables.entry.scopes.now m → Become.Rows self.old.fresh.now self.old.next (next_processes m locals.now ps) self.new.fresh.now self.new.next }
+    {
+        let cell = crate::cell_at(tables.nodes, k);
+        let kind = tree::kind_of(cell);
+        if kind == NodeKind::GROUP {
+            self.put_continued(tables, locals, k - 1);
+            return;
+        }
+        if kind == NodeKind::ITEM {
+            self.put_continued(tables, locals, tree::left_of(cell));
+            self.put_continued(tables, locals, k - 1);
+            return;
+        }
+        let token = tree::token_of(cell);
+        if kind == NodeKind::SUM {
+            self.put_row(token, locals, tables.scopes);
+            return;
+        }
+        let body = body_of(tables, token);
+        if kind == NodeKind::CALL {
+            self.put_sums(tables, body, &locals[..0]);
+            return;
+        }
+        self.put_call(tables, locals, k, body);
+    }
 }
 
 // Writes the processes that the continuation at k becomes from row `at` on; the row after them.
@@ -208,23 +243,7 @@ pub fn put_processes(
     requires { (Become.Spaced tables.nodes.now tables.scopes.now tables.root tables.variables locals.now k (length fresh.old) at) × (Every InRange locals.now) }
     ensures { (m : Resolved.Model) (ps : List Resolved.Part) → Become.Continues tables.entry.nodes.now tables.entry.root tables.entry.variables (length locals.now) m ps k → Become.Scoped tables.entry.scopes.now m → Become.Rows fresh.old at (next_processes m locals.now ps) fresh.new result }
 {
-    let cell = crate::cell_at(tables.nodes, k);
-    let kind = tree::kind_of(cell);
-    if kind == NodeKind::GROUP {
-        return put_processes(tables, locals, k - 1, fresh, at);
-    }
-    if kind == NodeKind::ITEM {
-        let next = put_processes(tables, locals, tree::left_of(cell), fresh, at);
-        return put_processes(tables, locals, k - 1, fresh, next);
-    }
-    let token = tree::token_of(cell);
-    if kind == NodeKind::SUM {
-        put_row(token, locals, fresh, at, tables.scopes);
-        return at + 1;
-    }
-    let body = body_of(tables, token);
-    if kind == NodeKind::CALL {
-        return put_sums(tables, body, &locals[..0], fresh, at);
-    }
-    put_call(tables, locals, k, body, fresh, at)
+    let mut rows = Rows { fresh, next: at };
+    rows.put_continued(tables, locals, k);
+    rows.next
 }

@@ -38,7 +38,8 @@ fn push_known(state: &mut [i64], sum: usize, locals: &[i64], scopes: &[u16])
     state::push_process(state, sum, locals, definition);
 }
 
-// Pushes a process for each sum at k. The walk is that of eval's `put_sums`, which writes rows for a splice: what each asks of its room differs, so a closure for the one step would have to carry it. The state is lent to be written, here and below: in a struct with the tables it would lose what is written.
+// Pushes a process for each sum at k. The walk is that of eval's `Rows::put_sums`, which writes rows for a splice: what each asks of its room differs, so a closure for the one step would have to carry it.
+// Tables and state stay two, here and below: the tables are read and copied, the state is written, and with a struct of both each of these contracts would promise that tables and reference stay.
 fn push_sums(tables: Tables, k: usize, locals: &[i64], state: &mut [i64])
     requires { Start.SumsFit tables.nodes.now tables.scopes.now k locals.now state.old }
     ensures { (ns : List ℕ) → Represents.Sums tables.entry.nodes.now ns k → Start.Adds (entered tables.entry.scopes.now ns locals.now) state.old state.new }

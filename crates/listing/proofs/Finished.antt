@@ -153,6 +153,10 @@ not_short e (Buffer.TriesOver.short f h) = h
 pub as-led : {l : machine.Listed} {b : List ℕ} (n : ℕ) (r : Outcome) (t : Tried) → t ≡ as_tried r → Leads l r b → TriesOver n l b t
 as-led n r t e h = Buffer.TriesOver.led r e h
 
+-- the same of a lent buffer, where it holds those numbers at the end
+pub led-at : {l : machine.Listed} {r : Outcome} {b : List ℕ} (b' : List ℕ) → b ≡ b' → Leads l r b' → Leads l r b
+led-at b' e h = rw e h
+
 pub never_short : {l : machine.Listed} {b : List ℕ} {n : ℕ} {t : Tried} → n ≡ row_limit → TriesOver n l b t → t ≡ Err Full → ⊥
 never_short q h e = omega (arith, q, not_short e h)
 

@@ -190,9 +190,9 @@ impl From<[u64; Limits::ENTRY]> for Entry {
     }
 }
 
-// One entry more: written if the buffer has room, and counted to one past its last. The buffer is a slice here and below, its length a clause: callers lend
-// parts of larger buffers, and `first_chunk_mut`, which alone leaves known what is written through an array made of a slice, would be an unwrap with its proof
-// wherever one is lent, to save one clause. The count goes in and out beside it, its bound a clause each time: what is written through a struct that holds the slice isn't known of it.
+// One entry more: written if the buffer has room, and counted to one past its last. The buffer is a slice here and below, its length a clause or, in Filling, a
+// ghost field: callers lend parts of larger buffers, and `first_chunk_mut`, which alone leaves known what is written through an array made of a slice, would be
+// an unwrap with its proof wherever one is lent, to save that clause.
 pub fn append(listing: &mut [u64], count: usize, e: Entry) -> usize
     requires { (length listing.old ≡ listing_length) × (count ≤ suc entry_limit) }
     ensures { Adds (entry_of e ∷ []) listing.old count listing.new result }
@@ -203,6 +203,39 @@ pub fn append(listing: &mut [u64], count: usize, e: Entry) -> usize
         return count + 1;
     }
     Limits::ENTRIES + 1
+}
+
+// A listing buffer while entries are added: the lent slice, and how many were, to one past its last. What adds to it promises, as `same`, that the slice stays the
+// one that was lent: so the lender knows what was written.
+#[derive(Drop)]
+struct Filling<'a> {
+    listing: &'a mut [u64],
+    count: usize,
+    ghost room: { (length listing.now ≡ listing_length) × (count ≤ suc entry_limit) },
+}
+
+impl<'a> Filling<'a> {
+    // One entry more, as by `append`.
+    fn add(&mut self, e: Entry)
+        ensures same { self.new.listing.ghost_name ≡ self.old.listing.ghost_name }
+        ensures added { Adds (entry_of e ∷ []) self.old.listing.now self.old.count self.new.listing.now self.new.count }
+    {
+        self.count = append(self.listing, self.count, e);
+    }
+
+    // Questions 13 and 14 of the entries that stand in the buffer.
+    fn judge(&self) -> Result<Listed, Refusal>
+        ensures { (z : List ℕ) (es : List rules.Entry) → self.now.listing.now ≡ image z es → self.now.count ≡ cut es → Leads (counted es) result self.now.listing.now }
+    {
+        if Limits::ENTRIES < self.count {
+            return Err(Refusal::Entries);
+        }
+        let total = total_of(self.listing, self.count).ok_or(Refusal::Total)?;
+        Ok(Listed {
+            count: self.count,
+            total,
+        })
+    }
 }
 
 // Entry c of a listing.
@@ -243,18 +276,6 @@ pub fn total_of(listing: &[u64], count: usize) -> Option<u64>
         sum += row[Limits::WEIGHT];
     }
     Some(sum)
-}
-
-// Questions 13 and 14 of the entries that stand in the buffer.
-fn judge(listing: &[u64], count: usize) -> Result<Listed, Refusal>
-    requires { (length listing.now ≡ listing_length) × (count ≤ suc entry_limit) }
-    ensures { (z : List ℕ) (es : List rules.Entry) → listing.now ≡ image z es → count ≡ cut es → Leads (counted es) result listing.now }
-{
-    if Limits::ENTRIES < count {
-        return Err(Refusal::Entries);
-    }
-    let total = total_of(listing, count).ok_or(Refusal::Total)?;
-    Ok(Listed { count, total })
 }
 
 // Whether there are as many values as an offer has sets, each in its set. Count and values are those of a pair's row, or of an offer's list: Values would be
@@ -357,38 +378,34 @@ fn any_match(asking: Asking, run: Run) -> bool
 }
 
 // The entry of a receive with names for the lit pair q, if it matches.
-fn list_pair(asking: Asking, q: usize, listing: &mut [u64], count: usize) -> usize
-    requires { ((w : offers.Query) × ShowsQuery asking.context.nodes.now asking.context.locals.now asking.acting.offer w) × ((t : List ℕ) × (roots : List ℕ) × (scopes : List ℕ) × (m : Resolved.Model) × (s : State) × World t roots scopes asking.state.now m s) × (q < pair_count asking.state.now) × (length listing.old ≡ listing_length) × (count ≤ suc entry_limit) }
-    ensures { ((w : offers.Query) (t roots scopes : List ℕ) (m : Resolved.Model) (s : State) (x : offers.Pair) → ShowsQuery asking.entry.context.nodes.now asking.entry.context.locals.now asking.entry.acting.offer w → World t roots scopes asking.entry.state.now m s → get_elem? s.pairs q ≡ some x → w.channel ≡ x.channel → Adds (bound_at w asking.entry.acting.place asking.entry.acting.branch asking.entry.acting.offer.rate q x) listing.old count listing.new result) × (length listing.new ≡ listing_length) × (result ≤ suc entry_limit) }
+fn list_pair(asking: Asking, q: usize, filling: &mut Filling)
+    requires { ((w : offers.Query) × ShowsQuery asking.context.nodes.now asking.context.locals.now asking.acting.offer w) × ((t : List ℕ) × (roots : List ℕ) × (scopes : List ℕ) × (m : Resolved.Model) × (s : State) × World t roots scopes asking.state.now m s) × (q < pair_count asking.state.now) }
+    ensures same { filling.new.listing.ghost_name ≡ filling.old.listing.ghost_name }
+    ensures added { (w : offers.Query) (t roots scopes : List ℕ) (m : Resolved.Model) (s : State) (x : offers.Pair) → ShowsQuery asking.entry.context.nodes.now asking.entry.context.locals.now asking.entry.acting.offer w → World t roots scopes asking.entry.state.now m s → get_elem? s.pairs q ≡ some x → w.channel ≡ x.channel → Adds (bound_at w asking.entry.acting.place asking.entry.acting.branch asking.entry.acting.offer.rate q x) filling.old.listing.now filling.old.count filling.new.listing.now filling.new.count }
 {
     if !pair_matches(asking, q) {
-        return count;
+        return;
     }
-    append(
-        listing,
-        count,
-        Entry {
-            kind: EntryKind::BIND,
-            place: asking.acting.place,
-            branch: asking.acting.branch,
-            partner: 0,
-            pbranch: 0,
-            pair: q,
-            weight: asking.acting.offer.rate * Limits::RATE,
-        },
-    )
+    filling.add(Entry {
+        kind: EntryKind::BIND,
+        place: asking.acting.place,
+        branch: asking.acting.branch,
+        partner: 0,
+        pbranch: 0,
+        pair: q,
+        weight: asking.acting.offer.rate * Limits::RATE,
+    });
 }
 
 // The entries of a receive with names: one for each lit pair of a run that matches.
-fn list_bound(asking: Asking, run: Run, listing: &mut [u64], count: usize) -> usize
-    requires { ((w : offers.Query) × ShowsQuery asking.context.nodes.now asking.context.locals.now asking.acting.offer w) × ((t : List ℕ) × (roots : List ℕ) × (scopes : List ℕ) × (m : Resolved.Model) × (s : State) × World t roots scopes asking.state.now m s) × (run.to ≤ pair_count asking.state.now) × (length listing.old ≡ listing_length) × (count ≤ suc entry_limit) }
-    ensures { ((w : offers.Query) (t roots scopes : List ℕ) (m : Resolved.Model) (s : State) → ShowsQuery asking.entry.context.nodes.now asking.entry.context.locals.now asking.entry.acting.offer w → World t roots scopes asking.entry.state.now m s → RunIs s.pairs w run.from run.to → Adds (gather (bound_at w asking.entry.acting.place asking.entry.acting.branch asking.entry.acting.offer.rate) s.pairs) listing.old count listing.new result) × (length listing.new ≡ listing_length) × (result ≤ suc entry_limit) }
+fn list_bound(asking: Asking, run: Run, filling: &mut Filling)
+    requires { ((w : offers.Query) × ShowsQuery asking.context.nodes.now asking.context.locals.now asking.acting.offer w) × ((t : List ℕ) × (roots : List ℕ) × (scopes : List ℕ) × (m : Resolved.Model) × (s : State) × World t roots scopes asking.state.now m s) × (run.to ≤ pair_count asking.state.now) }
+    ensures same { filling.new.listing.ghost_name ≡ filling.old.listing.ghost_name }
+    ensures added { (w : offers.Query) (t roots scopes : List ℕ) (m : Resolved.Model) (s : State) → ShowsQuery asking.entry.context.nodes.now asking.entry.context.locals.now asking.entry.acting.offer w → World t roots scopes asking.entry.state.now m s → RunIs s.pairs w run.from run.to → Adds (gather (bound_at w asking.entry.acting.place asking.entry.acting.branch asking.entry.acting.offer.rate) s.pairs) filling.old.listing.now filling.old.count filling.new.listing.now filling.new.count }
 {
-    let mut n = count;
     for q in run.from..run.to {
-        n = list_pair(asking, q, listing, n);
+        list_pair(asking, q, filling);
     }
-    n
 }
 
 // What entries are listed from: a state, its tables, and what its open branches offer, each at a lifetime of its own, as try_over has them. That they are Ready is
@@ -426,45 +443,37 @@ fn row_matches(from: Source, row: usize, sender: Offer) -> bool
 }
 
 // The entry of a handshake with the receive in a row, if that is of another process and matches.
-fn list_partner(
-    from: Source,
-    row: usize,
-    sender: Acting,
-    listing: &mut [u64],
-    count: usize,
-) -> usize
-    requires { ((roots : List ℕ) × (m : Resolved.Model) × (s : State) × Ready from.tables.nodes.now roots from.tables.scopes.now from.state.now from.offered.rows.now m s) × (node.hand_receive ≤ kind_in (row_at from.offered.rows.now row).head) × (row < length from.offered.rows.now) × (length listing.old ≡ listing_length) × (count ≤ suc entry_limit) }
-    ensures { ((roots : List ℕ) (m : Resolved.Model) (s : State) (y : Slot) (x : offers.Pair) → Ready from.entry.tables.nodes.now roots from.entry.tables.scopes.now from.entry.state.now from.entry.offered.rows.now m s → get_elem? (slots_of m 0 s.processes) row ≡ some y → ShowsPair sender.offer x → Adds (partner_of x sender.offer.rate sender.place sender.branch y) listing.old count listing.new result) × (length listing.new ≡ listing_length) × (result ≤ suc entry_limit) }
+fn list_partner(from: Source, row: usize, sender: Acting, filling: &mut Filling)
+    requires { ((roots : List ℕ) × (m : Resolved.Model) × (s : State) × Ready from.tables.nodes.now roots from.tables.scopes.now from.state.now from.offered.rows.now m s) × (node.hand_receive ≤ kind_in (row_at from.offered.rows.now row).head) × (row < length from.offered.rows.now) }
+    ensures same { filling.new.listing.ghost_name ≡ filling.old.listing.ghost_name }
+    ensures added { (roots : List ℕ) (m : Resolved.Model) (s : State) (y : Slot) (x : offers.Pair) → Ready from.entry.tables.nodes.now roots from.entry.tables.scopes.now from.entry.state.now from.entry.offered.rows.now m s → get_elem? (slots_of m 0 s.processes) row ≡ some y → ShowsPair sender.offer x → Adds (partner_of x sender.offer.rate sender.place sender.branch y) filling.old.listing.now filling.old.count filling.new.listing.now filling.new.count }
 {
     let head = from.offered.rows[row].head;
     let partner = offers::place_in(head);
     if partner == sender.place {
-        return count;
+        return;
     }
     if !row_matches(from, row, sender.offer) {
-        return count;
+        return;
     }
     let pbranch = offers::branch_in(head);
     let rate = offers::rate_in(head);
-    append(
-        listing,
-        count,
-        Entry {
-            kind: EntryKind::HANDSHAKE,
-            place: sender.place,
-            branch: sender.branch,
-            partner,
-            pbranch,
-            pair: 0,
-            weight: sender.offer.rate * rate,
-        },
-    )
+    filling.add(Entry {
+        kind: EntryKind::HANDSHAKE,
+        place: sender.place,
+        branch: sender.branch,
+        partner,
+        pbranch,
+        pair: 0,
+        weight: sender.offer.rate * rate,
+    });
 }
 
 // The entries of a handshake send: one for each receive of another process that matches.
-fn list_partners(from: Source, sender: Acting, listing: &mut [u64], count: usize) -> usize
-    requires { ((roots : List ℕ) × (m : Resolved.Model) × (s : State) × Ready from.tables.nodes.now roots from.tables.scopes.now from.state.now from.offered.rows.now m s) × (length listing.old ≡ listing_length) × (count ≤ suc entry_limit) }
-    ensures { ((roots : List ℕ) (m : Resolved.Model) (s : State) (x : offers.Pair) → Ready from.entry.tables.nodes.now roots from.entry.tables.scopes.now from.entry.state.now from.entry.offered.rows.now m s → ShowsPair sender.offer x → Adds (gather (λ n. partner_of x sender.offer.rate sender.place sender.branch) (slots_of m 0 s.processes)) listing.old count listing.new result) × (length listing.new ≡ listing_length) × (result ≤ suc entry_limit) }
+fn list_partners(from: Source, sender: Acting, filling: &mut Filling)
+    requires { (roots : List ℕ) × (m : Resolved.Model) × (s : State) × Ready from.tables.nodes.now roots from.tables.scopes.now from.state.now from.offered.rows.now m s }
+    ensures same { filling.new.listing.ghost_name ≡ filling.old.listing.ghost_name }
+    ensures added { (roots : List ℕ) (m : Resolved.Model) (s : State) (x : offers.Pair) → Ready from.entry.tables.nodes.now roots from.entry.tables.scopes.now from.entry.state.now from.entry.offered.rows.now m s → ShowsPair sender.offer x → Adds (gather (λ n. partner_of x sender.offer.rate sender.place sender.branch) (slots_of m 0 s.processes)) filling.old.listing.now filling.old.count filling.new.listing.now filling.new.count }
 {
     let bucket = offers::bucket_of(
         sender.offer.channel.first,
@@ -472,39 +481,34 @@ fn list_partners(from: Source, sender: Acting, listing: &mut [u64], count: usize
         sender.offer.channel.third,
     );
     let mut row = from.offered.firsts[bucket] as usize;
-    let mut n = count;
     // A while: it follows links.
     while row < from.offered.rows.len() {
-        n = list_partner(from, row, sender, listing, n);
+        list_partner(from, row, sender, filling);
         row = from.offered.nexts[row] as usize;
     }
-    n
 }
 
 // The entry of a branch that acts by itself.
-fn list_alone(a: Acting, kind: u64, listing: &mut [u64], count: usize) -> usize
-    requires { (length listing.old ≡ listing_length) × (count ≤ suc entry_limit) }
-    ensures { (Adds (rules.entry (key kind a.place a.branch 0 0 0) (rate_weight a.offer.rate) ∷ []) listing.old count listing.new result) × (length listing.new ≡ listing_length) × (result ≤ suc entry_limit) }
+fn list_alone(a: Acting, kind: u64, filling: &mut Filling)
+    ensures same { filling.new.listing.ghost_name ≡ filling.old.listing.ghost_name }
+    ensures added { Adds (rules.entry (key kind a.place a.branch 0 0 0) (rate_weight a.offer.rate) ∷ []) filling.old.listing.now filling.old.count filling.new.listing.now filling.new.count }
 {
-    append(
-        listing,
-        count,
-        Entry {
-            kind,
-            place: a.place,
-            branch: a.branch,
-            partner: 0,
-            pbranch: 0,
-            pair: 0,
-            weight: a.offer.rate * Limits::RATE,
-        },
-    )
+    filling.add(Entry {
+        kind,
+        place: a.place,
+        branch: a.branch,
+        partner: 0,
+        pbranch: 0,
+        pair: 0,
+        weight: a.offer.rate * Limits::RATE,
+    });
 }
 
 // The entries of a receive or a check.
-fn list_query(tables: Tables, state: &[i64], a: Acting, listing: &mut [u64], count: usize) -> usize
-    requires { ((roots : List ℕ) × (m : Resolved.Model) × (s : State) × (x : offers.Action) × World tables.nodes.now roots tables.scopes.now state.now m s × ShowsAction tables.nodes.now (locals_of s.processes a.place) a.offer x) × (node.kill < a.offer.kind) × (a.offer.kind < node.hand_send) × (a.place < process_count state.now) × (length listing.old ≡ listing_length) × (count ≤ suc entry_limit) }
-    ensures { ((roots : List ℕ) (m : Resolved.Model) (s : State) (x : offers.Action) → World tables.entry.nodes.now roots tables.entry.scopes.now state.now m s → ShowsAction tables.entry.nodes.now (locals_of s.processes a.place) a.offer x → Adds (of_action (branches m) s a.place a.branch a.offer.rate x) listing.old count listing.new result) × (length listing.new ≡ listing_length) × (result ≤ suc entry_limit) }
+fn list_query(tables: Tables, state: &[i64], a: Acting, filling: &mut Filling)
+    requires { ((roots : List ℕ) × (m : Resolved.Model) × (s : State) × (x : offers.Action) × World tables.nodes.now roots tables.scopes.now state.now m s × ShowsAction tables.nodes.now (locals_of s.processes a.place) a.offer x) × (node.kill < a.offer.kind) × (a.offer.kind < node.hand_send) × (a.place < process_count state.now) }
+    ensures same { filling.new.listing.ghost_name ≡ filling.old.listing.ghost_name }
+    ensures added { (roots : List ℕ) (m : Resolved.Model) (s : State) (x : offers.Action) → World tables.entry.nodes.now roots tables.entry.scopes.now state.now m s → ShowsAction tables.entry.nodes.now (locals_of s.processes a.place) a.offer x → Adds (of_action (branches m) s a.place a.branch a.offer.rate x) filling.old.listing.now filling.old.count filling.new.listing.now filling.new.count }
 {
     let locals = offers::locals_of(tables.scopes, state, a.place);
     let context = Context {
@@ -518,26 +522,27 @@ fn list_query(tables: Tables, state: &[i64], a: Acting, listing: &mut [u64], cou
     };
     let run = run_of(state, a.offer);
     if a.offer.kind == NodeKind::BIND {
-        return list_bound(asking, run, listing, count);
+        list_bound(asking, run, filling);
+        return;
     }
     // Ifs: a receive with names is listed before any pair is asked, and the other two differ in what the answer means.
     let lit = any_match(asking, run);
     if a.offer.kind == NodeKind::RECEIVE {
         if lit {
-            return list_alone(a, EntryKind::RECEIVE, listing, count);
+            list_alone(a, EntryKind::RECEIVE, filling);
         }
-        return count;
+        return;
     }
-    if lit {
-        return count;
+    if !lit {
+        list_alone(a, EntryKind::CHECK, filling);
     }
-    list_alone(a, EntryKind::CHECK, listing, count)
 }
 
 // The entries of the branch in a row.
-fn list_row(from: Source, row: usize, listing: &mut [u64], count: usize) -> usize
-    requires { ((roots : List ℕ) × (m : Resolved.Model) × (s : State) × Ready from.tables.nodes.now roots from.tables.scopes.now from.state.now from.offered.rows.now m s) × (row < length from.offered.rows.now) × (length listing.old ≡ listing_length) × (count ≤ suc entry_limit) }
-    ensures { ((roots : List ℕ) (m : Resolved.Model) (s : State) (y : Slot) → Ready from.entry.tables.nodes.now roots from.entry.tables.scopes.now from.entry.state.now from.entry.offered.rows.now m s → get_elem? (slots_of m 0 s.processes) row ≡ some y → Adds (of_slot (branches m) s y) listing.old count listing.new result) × (length listing.new ≡ listing_length) × (result ≤ suc entry_limit) }
+fn list_row(from: Source, row: usize, filling: &mut Filling)
+    requires { ((roots : List ℕ) × (m : Resolved.Model) × (s : State) × Ready from.tables.nodes.now roots from.tables.scopes.now from.state.now from.offered.rows.now m s) × (row < length from.offered.rows.now) }
+    ensures same { filling.new.listing.ghost_name ≡ filling.old.listing.ghost_name }
+    ensures added { (roots : List ℕ) (m : Resolved.Model) (s : State) (y : Slot) → Ready from.entry.tables.nodes.now roots from.entry.tables.scopes.now from.entry.state.now from.entry.offered.rows.now m s → get_elem? (slots_of m 0 s.processes) row ≡ some y → Adds (of_slot (branches m) s y) filling.old.listing.now filling.old.count filling.new.listing.now filling.new.count }
 {
     let r = from.offered.rows[row];
     let a = Acting {
@@ -546,30 +551,29 @@ fn list_row(from: Source, row: usize, listing: &mut [u64], count: usize) -> usiz
         offer: offers::offer_in(r),
     };
     match a.offer.kind {
-        NodeKind::WAIT => list_alone(a, EntryKind::WAIT, listing, count),
-        NodeKind::LAUNCH => list_alone(a, EntryKind::LAUNCH, listing, count),
-        NodeKind::KILL => list_alone(a, EntryKind::KILL, listing, count),
+        NodeKind::WAIT => list_alone(a, EntryKind::WAIT, filling),
+        NodeKind::LAUNCH => list_alone(a, EntryKind::LAUNCH, filling),
+        NodeKind::KILL => list_alone(a, EntryKind::KILL, filling),
         NodeKind::RECEIVE | NodeKind::BIND | NodeKind::CHECK => {
-            list_query(from.tables, from.state, a, listing, count)
+            list_query(from.tables, from.state, a, filling)
         }
-        NodeKind::HAND_SEND => list_partners(from, a, listing, count),
-        _ => count,
+        NodeKind::HAND_SEND => list_partners(from, a, filling),
+        _ => {}
     }
 }
 
 // The entries of all rows, in order; none is sought past the first that the buffer has no room for.
-fn list_rows(from: Source, listing: &mut [u64]) -> usize
-    requires { ((roots : List ℕ) × (m : Resolved.Model) × (s : State) × Ready from.tables.nodes.now roots from.tables.scopes.now from.state.now from.offered.rows.now m s) × (length listing.old ≡ listing_length) }
-    ensures { ((roots : List ℕ) (m : Resolved.Model) (s : State) → Ready from.entry.tables.nodes.now roots from.entry.tables.scopes.now from.entry.state.now from.entry.offered.rows.now m s → Adds (entries (branches m) s) listing.old 0 listing.new result) × (length listing.new ≡ listing_length) × (result ≤ suc entry_limit) }
+fn list_rows(from: Source, filling: &mut Filling)
+    requires { (roots : List ℕ) × (m : Resolved.Model) × (s : State) × Ready from.tables.nodes.now roots from.tables.scopes.now from.state.now from.offered.rows.now m s }
+    ensures same { filling.new.listing.ghost_name ≡ filling.old.listing.ghost_name }
+    ensures added { (roots : List ℕ) (m : Resolved.Model) (s : State) → Ready from.entry.tables.nodes.now roots from.entry.tables.scopes.now from.entry.state.now from.entry.offered.rows.now m s → Adds (entries (branches m) s) filling.old.listing.now filling.old.count filling.new.listing.now filling.new.count }
 {
-    let mut count = 0;
     for row in 0..from.offered.rows.len() {
-        if Limits::ENTRIES < count {
-            return count;
+        if Limits::ENTRIES < filling.count {
+            return;
         }
-        count = list_row(from, row, listing, count);
+        list_row(from, row, filling);
     }
-    count
 }
 
 // Lists what can happen next, questions 12 to 14, if the lent table has a row for each offer. What stands in the buffer after the entries stays.
@@ -598,8 +602,9 @@ fn try_over<const ROWS: usize>(
         state,
         offered,
     };
-    let entries = list_rows(from, listing);
-    Ok(judge(listing, entries)?)
+    let mut filling = Filling { listing, count: 0 };
+    list_rows(from, &mut filling);
+    Ok(filling.judge()?)
 }
 
 // What is listed over a table that isn't full.

@@ -10,15 +10,11 @@ pub pair_matches-requires : goal.pair_matches-requires
 pair_matches-requires c =
     (c.requires.0, c.requires.1, c.requires.2)
 
-pub returns-then-not-pair_matches : goal.returns-then-not-pair_matches
-returns-then-not-pair_matches c =
-    (λ w t roots scopes m s x sq W at ch. let M = matches-on w x (sym ch) ∙ sym (c.pair_matches.ensures w t roots scopes m s x sq W at) in rw (bound-no w c.args.asking.acting.place c.args.asking.acting.branch c.args.asking.acting.offer.rate c.args.q x (M ∙ refused _ c.if-not-pair_matches.true-raw)) (adds_none _ _ c.requires.4), c.requires.3, c.requires.4)
+pub returns-then-not-pair_matches-clause-added : goal.returns-then-not-pair_matches-clause-added
+returns-then-not-pair_matches-clause-added c =
+    λ w t roots scopes m s x sq W at ch. let M = matches-on w x (sym ch) ∙ sym (c.pair_matches.ensures w t roots scopes m s x sq W at) in rw (bound-no w c.args.asking.acting.place c.args.asking.acting.branch c.args.asking.acting.offer.rate c.args.q x (M ∙ refused _ c.if-not-pair_matches.true-raw)) (adds_none _ _ c.args.filling.now.room.1)
 
-pub append-requires : goal.append-requires
-append-requires c =
-    (c.requires.3, c.requires.4)
-
-pub returns : goal.returns
+pub returns-clause-added : goal.returns-clause-added
 unfolding entry_of
-returns c =
-    (λ w t roots scopes m s x sq W at ch. let M = matches-on w x (sym ch) ∙ sym (c.pair_matches.ensures w t roots scopes m s x sq W at) in rw (bound-yes w c.args.asking.acting.place c.args.asking.acting.branch c.args.asking.acting.offer.rate c.args.q x (M ∙ passed _ c.if-not-pair_matches.false-raw)) c.append.ensures, c.append.ensures.size ∙ c.requires.3, c.append.ensures.most)
+returns-clause-added c =
+    λ w t roots scopes m s x sq W at ch. let M = matches-on w x (sym ch) ∙ sym (c.pair_matches.ensures w t roots scopes m s x sq W at) in rw (bound-yes w c.args.asking.acting.place c.args.asking.acting.branch c.args.asking.acting.offer.rate c.args.q x (M ∙ passed _ c.if-not-pair_matches.false-raw)) c.add.ensures.added

@@ -25,11 +25,11 @@ list_bound-requires c =
     let w = c.requires.0.4 in let A = asked c.requires.1 c.requires.2 c.requires.0.5 in
     let L = c.locals_of-locals.ensures c.args.tables.nodes.now c.requires.0.0 c.requires.0.1 c.requires.0.2 w in
     let N = c.run_of-run.ensures c.args.tables.nodes.now _ A.query c.args.tables.nodes.now c.requires.0.0 c.args.tables.scopes.now c.requires.0.1 c.requires.0.2 A.shows w in
-    ((A.query, rw L A.shows), (c.args.tables.nodes.now, c.requires.0.0, c.args.tables.scopes.now, c.requires.0.1, c.requires.0.2, w), run_fits w _ _ _ N, c.requires.4, c.requires.5)
+    ((A.query, rw L A.shows), (c.args.tables.nodes.now, c.requires.0.0, c.args.tables.scopes.now, c.requires.0.1, c.requires.0.2, w), run_fits w _ _ _ N)
 
-pub returns-then-a-eq-BIND : goal.returns-then-a-eq-BIND
-returns-then-a-eq-BIND c =
-    (λ roots m s a w sa. let A = asked c.requires.1 c.requires.2 sa in let L = c.locals_of-locals.ensures c.args.tables.nodes.now roots m s w in let N = c.run_of-run.ensures c.args.tables.nodes.now _ A.query c.args.tables.nodes.now roots c.args.tables.scopes.now m s A.shows w in rw (A.bind_is c.if-a-eq-BIND.true m s c.args.a.place c.args.a.branch c.args.a.offer.rate) (c.list_bound.ensures.0 A.query c.args.tables.nodes.now roots c.args.tables.scopes.now m s (rw L A.shows) w N), c.list_bound.ensures.1, c.list_bound.ensures.2)
+pub returns-then-a-eq-BIND-clause-added : goal.returns-then-a-eq-BIND-clause-added
+returns-then-a-eq-BIND-clause-added c =
+    λ roots m s a w sa. let A = asked c.requires.1 c.requires.2 sa in let L = c.locals_of-locals.ensures c.args.tables.nodes.now roots m s w in let N = c.run_of-run.ensures c.args.tables.nodes.now _ A.query c.args.tables.nodes.now roots c.args.tables.scopes.now m s A.shows w in rw (A.bind_is c.if-a-eq-BIND.true m s c.args.a.place c.args.a.branch c.args.a.offer.rate) (c.list_bound.ensures.added A.query c.args.tables.nodes.now roots c.args.tables.scopes.now m s (rw L A.shows) w N)
 
 pub any_match-lit-requires : goal.any_match-lit-requires
 any_match-lit-requires c =
@@ -38,26 +38,18 @@ any_match-lit-requires c =
     let N = c.run_of-run.ensures c.args.tables.nodes.now _ A.query c.args.tables.nodes.now c.requires.0.0 c.args.tables.scopes.now c.requires.0.1 c.requires.0.2 A.shows w in
     ((A.query, rw L A.shows), (c.args.tables.nodes.now, c.requires.0.0, c.args.tables.scopes.now, c.requires.0.1, c.requires.0.2, w), run_fits w _ _ _ N)
 
-pub list_alone-requires : goal.list_alone-requires
-list_alone-requires c =
-    (c.requires.4, c.requires.5)
+pub returns-then-lit-clause-added : goal.returns-then-lit-clause-added
+returns-then-lit-clause-added c =
+    λ roots m s a w sa. let A = asked c.requires.1 c.requires.2 sa in let L = c.locals_of-locals.ensures c.args.tables.nodes.now roots m s w in let N = c.run_of-run.ensures c.args.tables.nodes.now _ A.query c.args.tables.nodes.now roots c.args.tables.scopes.now m s A.shows w in let M = sym (c.any_match-lit.ensures A.query c.args.tables.nodes.now roots c.args.tables.scopes.now m s (rw L A.shows) w N) in rw (A.receive-is c.if-a-eq-RECEIVE.true m s c.args.a.place c.args.a.branch c.args.a.offer.rate ∙ when-yes _ _ (M ∙ c.if-lit.true)) c.list_alone.ensures.added
 
-pub returns-then-lit : goal.returns-then-lit
-returns-then-lit c =
-    (λ roots m s a w sa. let A = asked c.requires.1 c.requires.2 sa in let L = c.locals_of-locals.ensures c.args.tables.nodes.now roots m s w in let N = c.run_of-run.ensures c.args.tables.nodes.now _ A.query c.args.tables.nodes.now roots c.args.tables.scopes.now m s A.shows w in let M = sym (c.any_match-lit.ensures A.query c.args.tables.nodes.now roots c.args.tables.scopes.now m s (rw L A.shows) w N) in rw (A.receive-is c.if-a-eq-RECEIVE.true m s c.args.a.place c.args.a.branch c.args.a.offer.rate ∙ when-yes _ _ (M ∙ c.if-lit.true)) c.list_alone.ensures.0, c.list_alone.ensures.1, c.list_alone.ensures.2)
+pub returns-else-lit-clause-added : goal.returns-else-lit-clause-added
+returns-else-lit-clause-added c =
+    λ roots m s a w sa. let A = asked c.requires.1 c.requires.2 sa in let L = c.locals_of-locals.ensures c.args.tables.nodes.now roots m s w in let N = c.run_of-run.ensures c.args.tables.nodes.now _ A.query c.args.tables.nodes.now roots c.args.tables.scopes.now m s A.shows w in let M = sym (c.any_match-lit.ensures A.query c.args.tables.nodes.now roots c.args.tables.scopes.now m s (rw L A.shows) w N) in rw (A.receive-is c.if-a-eq-RECEIVE.true m s c.args.a.place c.args.a.branch c.args.a.offer.rate ∙ when-no _ _ (M ∙ c.if-lit.false)) (adds_none _ _ c.args.filling.now.room.1)
 
-pub returns-then-a-eq-RECEIVE : goal.returns-then-a-eq-RECEIVE
-returns-then-a-eq-RECEIVE c =
-    (λ roots m s a w sa. let A = asked c.requires.1 c.requires.2 sa in let L = c.locals_of-locals.ensures c.args.tables.nodes.now roots m s w in let N = c.run_of-run.ensures c.args.tables.nodes.now _ A.query c.args.tables.nodes.now roots c.args.tables.scopes.now m s A.shows w in let M = sym (c.any_match-lit.ensures A.query c.args.tables.nodes.now roots c.args.tables.scopes.now m s (rw L A.shows) w N) in rw (A.receive-is c.if-a-eq-RECEIVE.true m s c.args.a.place c.args.a.branch c.args.a.offer.rate ∙ when-no _ _ (M ∙ c.if-lit.false)) (adds_none _ _ c.requires.5), c.requires.4, c.requires.5)
+pub returns-else-not-lit-clause-added : goal.returns-else-not-lit-clause-added
+returns-else-not-lit-clause-added c =
+    λ roots m s a w sa. let A = asked c.requires.1 c.requires.2 sa in let L = c.locals_of-locals.ensures c.args.tables.nodes.now roots m s w in let N = c.run_of-run.ensures c.args.tables.nodes.now _ A.query c.args.tables.nodes.now roots c.args.tables.scopes.now m s A.shows w in let M = sym (c.any_match-lit.ensures A.query c.args.tables.nodes.now roots c.args.tables.scopes.now m s (rw L A.shows) w N) in rw (A.check-is c.if-a-eq-BIND.false c.if-a-eq-RECEIVE.false m s c.args.a.place c.args.a.branch c.args.a.offer.rate ∙ unless-yes _ _ (M ∙ c.if-not-lit.false)) (adds_none _ _ c.args.filling.now.room.1)
 
-pub returns-then-lit-2 : goal.returns-then-lit-2
-returns-then-lit-2 c =
-    (λ roots m s a w sa. let A = asked c.requires.1 c.requires.2 sa in let L = c.locals_of-locals.ensures c.args.tables.nodes.now roots m s w in let N = c.run_of-run.ensures c.args.tables.nodes.now _ A.query c.args.tables.nodes.now roots c.args.tables.scopes.now m s A.shows w in let M = sym (c.any_match-lit.ensures A.query c.args.tables.nodes.now roots c.args.tables.scopes.now m s (rw L A.shows) w N) in rw (A.check-is c.if-a-eq-BIND.false c.if-a-eq-RECEIVE.false m s c.args.a.place c.args.a.branch c.args.a.offer.rate ∙ unless-yes _ _ (M ∙ c.if-lit-2.true)) (adds_none _ _ c.requires.5), c.requires.4, c.requires.5)
-
-pub list_alone-requires-2 : goal.list_alone-requires-2
-list_alone-requires-2 c =
-    (c.requires.4, c.requires.5)
-
-pub returns : goal.returns
-returns c =
-    (λ roots m s a w sa. let A = asked c.requires.1 c.requires.2 sa in let L = c.locals_of-locals.ensures c.args.tables.nodes.now roots m s w in let N = c.run_of-run.ensures c.args.tables.nodes.now _ A.query c.args.tables.nodes.now roots c.args.tables.scopes.now m s A.shows w in let M = sym (c.any_match-lit.ensures A.query c.args.tables.nodes.now roots c.args.tables.scopes.now m s (rw L A.shows) w N) in rw (A.check-is c.if-a-eq-BIND.false c.if-a-eq-RECEIVE.false m s c.args.a.place c.args.a.branch c.args.a.offer.rate ∙ unless-no _ _ (M ∙ c.if-lit-2.false)) c.list_alone-2.ensures.0, c.list_alone-2.ensures.1, c.list_alone-2.ensures.2)
+pub returns-then-not-lit-clause-added : goal.returns-then-not-lit-clause-added
+returns-then-not-lit-clause-added c =
+    λ roots m s a w sa. let A = asked c.requires.1 c.requires.2 sa in let L = c.locals_of-locals.ensures c.args.tables.nodes.now roots m s w in let N = c.run_of-run.ensures c.args.tables.nodes.now _ A.query c.args.tables.nodes.now roots c.args.tables.scopes.now m s A.shows w in let M = sym (c.any_match-lit.ensures A.query c.args.tables.nodes.now roots c.args.tables.scopes.now m s (rw L A.shows) w N) in rw (A.check-is c.if-a-eq-BIND.false c.if-a-eq-RECEIVE.false m s c.args.a.place c.args.a.branch c.args.a.offer.rate ∙ unless-no _ _ (M ∙ c.if-not-lit.true)) c.list_alone-then-not-lit.ensures.added

@@ -1,13 +1,14 @@
 -- `listing::try_over` meets its contract: 12 by what is collected, then 13 and 14. From the laws of all rows.
 use mathlib.Core.Path.{refl, ap, ◌∙◌}
 use native.Mathlib.Omega.{arith}
+use borrow.Author.Rules.{rules}
 use Rattle.std.specs.Prelude.{Err, Ok}
 use Rattle.std.proofs.lemmas.List.{length-take-le}
 use Rattle.std.proofs.lemmas.Result.{err_from_is_err_and}
 use Rattle.rules.specs.Listing.{entries}
 use Rattle.machine.specs.Offer.{branches}
 use Rattle.listing.proofs.Added.{adds-all}
-use Rattle.listing.proofs.Finished.{as-led}
+use Rattle.listing.proofs.Finished.{as-led, led-at}
 use Rattle.listing.proofs.Partners.{rows_few}
 use Rattle.listing.proofs.AllRows.{not-lacking, answered_none, answered-rows}
 use Rattle.listing.proofs.try_over.Goals as goal
@@ -27,22 +28,22 @@ link-requires g c =
     let q = answered-rows c.requires.0.2 (rw c.in_ok-count.was at (c.collect.ensures c.requires.0.0 c.requires.0.1 c.requires.0.2)) in
     (rows_few q.0, omega (arith, q.2, c.collect.auto.rows, length-take-le c.in_ok-count.count c.collect.new.rows, length-take-le c.in_ok-count.count c.args.space.now.nexts))
 
-pub list_rows-entries-requires : goal.list_rows-entries-requires
-list_rows-entries-requires g c =
+pub list_rows-requires : goal.list_rows-requires
+list_rows-requires g c =
     let q = answered-rows c.requires.0.2 (rw c.in_ok-count.was at (c.collect.ensures c.requires.0.0 c.requires.0.1 c.requires.0.2)) in
-    ((c.args.tables.roots.now, c.requires.0.0, c.requires.0.1, q.0), c.requires.1)
+    (c.args.tables.roots.now, c.requires.0.0, c.requires.0.1, q.0)
 
 pub returns-in_err-judge : goal.returns-in_err-judge
 returns-in_err-judge g c =
     let p = err_from_is_err_and c.from_residual-in_err-judge.result c.from_residual-in_err-judge.ensures.1 in
     λ m s w.
     let q = answered-rows w (rw c.in_ok-count.was at (c.collect.ensures m s w)) in
-    let A = adds-all c.requires.1 (c.list_rows-entries.ensures.0 c.args.tables.roots.now m s q.0) in
-    as-led _ (Err c.in_err-judge.field-0.0) _ (p.1 ∙ ap Err p.2) (rw (not-lacking m s q.1, ← c.in_err-judge.was) (c.judge.ensures c.args.listing.now (entries (branches m) s) A.0 A.1))
+    let A = adds-all c.requires.1 (c.list_rows.ensures.added c.args.tables.roots.now m s q.0) in
+    as-led _ (Err c.in_err-judge.field-0.0) _ (p.1 ∙ ap Err p.2) (led-at c.list_rows.new.filling.listing.now (search rules) (rw (not-lacking m s q.1, ← c.in_err-judge.was) (c.judge.ensures c.args.listing.now (entries (branches m) s) A.0 A.1)))
 
 pub returns : goal.returns
 returns g c =
     λ m s w.
     let q = answered-rows w (rw c.in_ok-count.was at (c.collect.ensures m s w)) in
-    let A = adds-all c.requires.1 (c.list_rows-entries.ensures.0 c.args.tables.roots.now m s q.0) in
-    as-led _ (Ok c.in_ok-judge.field-0) _ refl (rw (not-lacking m s q.1, ← c.in_ok-judge.was) (c.judge.ensures c.args.listing.now (entries (branches m) s) A.0 A.1))
+    let A = adds-all c.requires.1 (c.list_rows.ensures.added c.args.tables.roots.now m s q.0) in
+    as-led _ (Ok c.in_ok-judge.field-0) _ refl (led-at c.list_rows.new.filling.listing.now (search rules) (rw (not-lacking m s q.1, ← c.in_ok-judge.was) (c.judge.ensures c.args.listing.now (entries (branches m) s) A.0 A.1)))

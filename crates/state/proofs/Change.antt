@@ -78,38 +78,38 @@ unfolding rewritten
 rewritten-none cut l h = sym (take_all (length l) (drop cut l ++ replicate cut (pos 0)) (simp (length-append, length-drop, length-replicate) (omega arith)))
 
 -- ---- the whole buffer after each change
-pub added : (s row ys : List ℤ) (place n : ℕ) → n ≡ nat_abs (at s 1) → n < 256
+pub added : (s row ys : List ℤ) (place n : ℕ) → n ≡ nat_abs (at s 1)
     → let a = pairs_from + place * pair_width in ys ≡ rewritten 0 row (mid_of a (length s - a) s)
-    → let a = pairs_from + place * pair_width in set (put_mid a (length s - a) s ys) 1 (to_z w64 (n + 1)) ≡ pair_added place row s
+    → let a = pairs_from + place * pair_width in set (put_mid a (length s - a) s ys) 1 (pos (n + 1)) ≡ pair_added place row s
 unfolding pair_added
-added s row ys place n q h e =
+added s row ys place n q e =
     let a : ℕ = pairs_from + place * pair_width in
     ap₂ (λ (l : List ℤ) (z : ℤ). set l 1 z)
     (tail-changed (rewritten 0 row) a s ys e)
-    (back (pos (n + 1)) (omega arith) ∙ ap (λ (m : ℕ). pos (m + 1)) q)
+    (ap (λ (m : ℕ). pos (m + 1)) q)
 
-pub taken : (s ys : List ℤ) (place n : ℕ) → length s ≡ state_length → place < 256 → n ≡ nat_abs (at s 1) → n ≤ 256
+pub taken : (s ys : List ℤ) (place n : ℕ) → length s ≡ state_length → place < 256 → n ≡ nat_abs (at s 1)
     → let a = pairs_from + place * pair_width in ys ≡ drop pair_width (mid_of a (length s - a) s) ++ replicate pair_width (pos 0)
-    → let a = pairs_from + place * pair_width in set (put_mid a (length s - a) s ys) 1 (to_z w64 (n - 1)) ≡ pair_taken place s
+    → let a = pairs_from + place * pair_width in set (put_mid a (length s - a) s ys) 1 (pos (n - 1)) ≡ pair_taken place s
 unfolding pair_taken
-taken s ys place n w p q h e =
+taken s ys place n w p q e =
     let a : ℕ = pairs_from + place * pair_width in
     ap₂ (λ (l : List ℤ) (z : ℤ). set l 1 z)
     (tail-changed (rewritten pair_width []) a s ys (e ∙ rewritten-none pair_width (mid_of a (length s - a) s) (simp (length-take, length-drop) (omega arith))))
-    (back (pos (n - 1)) (omega arith) ∙ ap (λ (m : ℕ). pos (m - 1)) q)
+    (ap (λ (m : ℕ). pos (m - 1)) q)
 
-pub replaced : (s new ys : List ℤ) (place n k : ℕ) → place < 256 → n ≡ nat_abs (at s 0) → n ≤ 256 → k ≤ 256
+pub replaced : (s new ys : List ℤ) (place n k : ℕ) → place < 256 → n ≡ nat_abs (at s 0)
     → let a = 2 + place * process_width in ys ≡ rewritten process_width new (mid_of a (pairs_from - a) s)
-    → let a = 2 + place * process_width in set (put_mid a (pairs_from - a) s ys) 0 (to_z w64 (n - 1 + k)) ≡ process_replaced place k new s
+    → let a = 2 + place * process_width in set (put_mid a (pairs_from - a) s ys) 0 (pos (n - 1 + k)) ≡ process_replaced place k new s
 unfolding process_replaced
-replaced s new ys place n k p q h g e =
+replaced s new ys place n k p q e =
     ap₂ (λ (l : List ℤ) (z : ℤ). set l 0 z)
     (part-changed (rewritten process_width new) (2 + place * process_width) s ys pairs_from (omega arith) e)
-    (back (pos (n - 1 + k)) (omega arith) ∙ ap (λ (m : ℕ). pos (m - 1 + k)) q)
+    (ap (λ (m : ℕ). pos (m - 1 + k)) q)
 
 -- a process written after the others
 pub pushed : (s fresh ys : List ℤ) (sum n k : ℕ) → length s ≡ state_length → n ≡ nat_abs (at s 0) → n < 256 → sum < 9223372036854775808 → ys ≡ fresh → k ≡ length fresh
-    → let u = set s (2 + n * process_width) (to_z w64 sum) in set (put_mid (2 + n * process_width + 1) k u ys) 0 (to_z w64 (n + 1)) ≡ process_added sum fresh s
+    → let u = set s (2 + n * process_width) (to_z w64 sum) in set (put_mid (2 + n * process_width + 1) k u ys) 0 (pos (n + 1)) ≡ process_added sum fresh s
 unfolding process_added
 pushed s fresh ys sum n k w q h g e c =
     let a : ℕ = 2 + n * process_width in
@@ -123,9 +123,7 @@ pushed s fresh ys sum n k w q h g e c =
     ∙ ap (λ (x : List ℤ). (take a s ++ (to_z w64 sum ∷ [])) ++ (fresh ++ x)) (drop-drop m (a + 1) s)
     ∙ append_snoc (take a s) (to_z w64 sum) (fresh ++ drop (a + 1 + m) s)
     ∙ ap (λ (z : ℤ). take a s ++ (z ∷ (fresh ++ drop (a + 1 + m) s))) v in
-    ap₂ (λ (l : List ℤ) (z : ℤ). set l 0 z)
-    (ap₂ (λ (l : List ℤ) (j : ℕ). take (a + 1) u ++ (l ++ drop j (drop (a + 1) u))) e c ∙ r)
-    (back (pos (n + 1)) (omega arith))
+    ap (λ (l : List ℤ). set l 0 (pos (n + 1))) (ap₂ (λ (l : List ℤ) (j : ℕ). take (a + 1) u ++ (l ++ drop j (drop (a + 1) u))) e c ∙ r)
     ∙ ap (λ (i : ℕ). set (take (2 + i * process_width) s ++ (pos sum ∷ (fresh ++ drop (2 + i * process_width + 1 + m) s))) 0 (pos (i + 1))) q
 
 -- a buffer with room for it keeps its length

@@ -359,6 +359,14 @@ fn counted(state: &[i64], i: usize) -> usize
     state[i] as usize
 }
 
+// Writes a count, number 0 that of the processes, number 1 that of the pairs: a fresh engine's, an opened state's and a later one's alike.
+pub fn put_count(state: &mut [i64], i: usize, n: usize)
+    requires { (i < length state.old) × (n < 9223372036854775808) }
+    ensures { state.new ≡ set state.old i (pos n) }
+{
+    state[i] = n as i64;
+}
+
 // A pair comes in at a place; the later ones move.
 pub fn insert_pair(state: &mut [i64], place: usize, row: &[i64; Layout::PAIR])
     requires { (length state.old ≡ state_length) × (place < pair_limit) × (is_below (pair_limit + 1) (at state.old 1) ≡ true) × (nat_abs (at state.old 1) < pair_limit) }
@@ -367,7 +375,7 @@ pub fn insert_pair(state: &mut [i64], place: usize, row: &[i64; Layout::PAIR])
     let n = counted(&state[..], 1);
     let from = Layout::PAIRS + place * Layout::PAIR;
     rewrite(&mut state[from..], 0, row);
-    state[1] = (n + 1) as i64;
+    put_count(state, 1, n + 1);
 }
 
 // The pair at a place goes out; the later ones move.
@@ -378,7 +386,7 @@ pub fn remove_pair(state: &mut [i64], place: usize)
     let n = counted(&state[..], 1);
     let from = Layout::PAIRS + place * Layout::PAIR;
     shift_left(&mut state[from..], Layout::PAIR);
-    state[1] = (n - 1) as i64;
+    put_count(state, 1, n - 1);
 }
 
 // The process at a place goes out and the first `count` processes in `fresh` come in; the later ones move. The count stands beside: of a part cut to the new processes it would be the length divided by ten, under a clause that nothing is left over.
@@ -393,7 +401,7 @@ pub fn splice(state: &mut [i64], place: usize, fresh: &[i64], count: usize)
         Layout::PROCESS,
         &fresh[..count * Layout::PROCESS],
     );
-    state[0] = (n - 1 + count) as i64;
+    put_count(state, 0, n - 1 + count);
 }
 
 // The sum and the locals of one more process, after the others. No struct of a process: what is pushed is never held, each number goes to its place.
@@ -406,7 +414,7 @@ fn put_process(state: &mut [i64], sum: usize, locals: &[i64])
     let first = from + 1;
     state[from] = sum as i64;
     state[first..first + locals.len()].copy_from_slice(locals);
-    state[0] = (n + 1) as i64;
+    put_count(state, 0, n + 1);
 }
 
 // One more process, after the others.

@@ -3,12 +3,12 @@ use mathlib.Core.Path.{◌≡◌, refl, sym, ap, ap₂, ◌∙◌}
 use mathlib.Core.List.{List, [], ◌∷◌, ◌++◌}
 use mathlib.Core.Bool.{Bool, true, false, cond, ◌&&◌, and-true}
 use mathlib.Core.Option.{Option, none}
-use Prim.Native.Nat.{ℕ, suc, ◌+◌, ◌-◌, ◌/◌, ◌%◌, ◌≤◌, ◌<◌}
+use Prim.Native.Nat.{ℕ, zero, suc, ◌+◌, ◌-◌, ◌/◌, ◌%◌, ◌≤◌, ◌<◌}
 use native.Mathlib.Numerals.{add-one}
 use native.Mathlib.Omega.{arith}
 use lib.Bits.{bit_or}
 use lib.Dec.{eqb, leb}
-use lib.ListN.{length, get_or, take, drop, replicate, length-take, length-drop, length-replicate, replicate-append-replicate, drop_of_length-le}
+use lib.ListN.{length, get_or, set, take, drop, replicate, length-take, length-drop, length-replicate, replicate-append-replicate, drop_of_length-le}
 use lib.Seq.{drop-cons, take_all, drop_at, drop-drop}
 use borrow.Author.Tests.{le-leb, lt-leb}
 use borrow.Rule.Slice.PartMut.{put_mid}
@@ -44,6 +44,14 @@ pub fresh-header : {A : Type 0} (n : ℕ) (k x : List A) (z a b : A) → 2 ≤ n
 fresh-header {A} n k x z a b q e f g h =
     let r : 2 + (n - 2) ≡ n = omega arith in
     f ∙ rw (g, h, e) (ap (λ (l : List A). z ∷ z ∷ l) (drop-same z 2 n q) ∙ replicate-append-replicate 2 (n - 2) z ∙ ap (λ (i : ℕ). replicate i z) r)
+
+set-same : {A : Type 0} (z : A) (n i : ℕ) → set (replicate n z) i z ≡ replicate n z
+set-same z zero i = refl
+set-same z (suc n) zero = refl
+set-same z (suc n) (suc i) = ap (λ (l : List _). z ∷ l) (set-same z n i)
+
+pub fresh-count : {A : Type 0} (n i : ℕ) (k x : List A) (z a : A) → k ≡ replicate n z → x ≡ set k i a → a ≡ z → x ≡ replicate n z
+fresh-count n i k x z a e f g = f ∙ rw (g, e) (set-same z n i)
 
 drop-zeros : (k n : ℕ) → k ≤ n → drop k (replicate {A = ℕ} n 0) ≡ replicate (n - k) 0
 drop-zeros k n h = drop-same 0 k n h

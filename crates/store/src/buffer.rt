@@ -27,14 +27,6 @@ fn put_length(model: &mut [u8], n: usize)
     model[..Bytes::FIRST].copy_from_slice(&(n as u16).to_le_bytes());
 }
 
-// Writes the counts of processes and pairs.
-fn put_counts(state: &mut [i64], processes: usize, pairs: usize)
-    requires { (2 ≤ length state.old) × (processes < 65536) × (pairs < 65536) }
-    ensures { state.new ≡ pos processes ∷ pos pairs ∷ drop 2 state.old }
-{
-    state[..2].copy_from_slice(&[processes as i64, pairs as i64]);
-}
-
 // A fresh engine: its header, and zeros.
 pub fn put_fresh(model: &mut [u8], state: &mut [i64])
     requires { (length model.old ≡ model_length) × (length state.old ≡ state_length) }
@@ -44,7 +36,8 @@ pub fn put_fresh(model: &mut [u8], state: &mut [i64])
     model.fill(0);
     state.fill(0);
     put_length(model, engine.text);
-    put_counts(state, engine.processes, engine.pairs);
+    state::put_count(state, 0, engine.processes);
+    state::put_count(state, 1, engine.pairs);
 }
 
 // A text in a cleared buffer.

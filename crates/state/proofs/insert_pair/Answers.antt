@@ -8,4 +8,4 @@ counted-n-requires c = (omega (arith, c.requires.0), c.requires.2)
 
 pub returns : goal.returns
 returns c =
-    added c.args.state.now c.args.row.now c.rewrite.new.s c.args.place c.counted-n.result c.counted-n.ensures.0 (omega (arith, c.counted-n.ensures.0, c.requires.3)) c.rewrite.ensures
+    rw c.put_count.ensures (added c.args.state.now c.args.row.now c.rewrite.new.s c.args.place c.counted-n.result c.counted-n.ensures.0 c.rewrite.ensures)

@@ -8,4 +8,4 @@ counted-n-requires c = (omega (arith, c.requires.0), c.requires.2)
 
 pub returns : goal.returns
 returns c =
-    taken c.args.state.now c.shift_left.new.s c.args.place c.counted-n.result c.requires.0 c.requires.1 c.counted-n.ensures.0 c.counted-n.ensures.1 c.shift_left.ensures
+    rw c.put_count.ensures (taken c.args.state.now c.shift_left.new.s c.args.place c.counted-n.result c.requires.0 c.requires.1 c.counted-n.ensures.0 c.shift_left.ensures)

@@ -11,4 +11,4 @@ counted-n-requires c = (omega (arith, c.requires.0), c.requires.2)
 
 pub returns : goal.returns
 returns c =
-    replaced c.args.state.now (take (c.args.count * process_width) c.args.fresh.now) c.rewrite.new.s c.args.place c.counted-n.result c.args.count c.requires.1 c.counted-n.ensures.0 c.counted-n.ensures.1 (omega (arith, c.requires.4)) c.rewrite.ensures
+    rw c.put_count.ensures (replaced c.args.state.now (take (c.args.count * process_width) c.args.fresh.now) c.rewrite.new.s c.args.place c.counted-n.result c.args.count c.requires.1 c.counted-n.ensures.0 c.rewrite.ensures)

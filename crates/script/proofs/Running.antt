@@ -3,20 +3,21 @@ use mathlib.Core.Path.{◌≡◌, refl, sym, ap, ◌∙◌}
 use mathlib.Core.Bool.{Bool, true, false, cond}
 use mathlib.Core.List.{List, [], ◌∷◌, ◌++◌, append-nil}
 use mathlib.Core.Option.{none, some}
-use Prim.Native.Nat.{ℕ, ◌≤◌, ◌<◌}
+use Prim.Native.Nat.{ℕ, ◌-◌, ◌≤◌, ◌<◌}
 use native.Mathlib.Omega.{arith}
 use borrow.Author.Tests.{le-leb, lt-leb}
 use lib.IntN.{ℤ}
-use lib.ListN.{length, take, drop}
+use lib.ListN.{length, take, drop, length-drop}
 use lib.Seq.{take-take}
 use Rattle.machine.specs.Machine.{Part, model, state, saves, clock, Call}
 use Rattle.clock.specs.declared.Clock.{Clock}
 use Rattle.buffers.specs.Parts.{Engine, clock_numbers, clock_in, lent_all}
 use Rattle.buffers.specs.Effect.{Effect, effect}
 use Rattle.buffers.proofs.Lent.{same-engine}
+use Rattle.script.specs.declared.Lent as declared
 use Rattle.script.specs.declared.Row.{Row}
 use Rattle.script.specs.Rows.{row_width, answer_width, row_of, row_lengths, fits, row_call, call_of, first_call}
-use Rattle.script.specs.Run.{Lent, lent_four, lent_of, room_of, lengths_of, effect_of, answer_numbers, call_left, Called, RowRan}
+use Rattle.script.specs.Run.{Lent, lent_four, lent_of, held, room_of, lengths_of, effect_of, answer_numbers, call_left, Called, RowRan}
 
 module _ (script texts numbers words : List ℕ) (x : Lent) where
   abbrev Runs : Bool → Lent → Type 0
@@ -51,12 +52,13 @@ module _ (script texts numbers words : List ℕ) (x : Lent) where
       unfolding RowRan
       made f y q = rw (tested true f) (refl, q)
 
--- the lengths of the parts are those of the engine that they are
-pub four-fits : (row : Row) (t n w o : ℕ) (bs : List ℕ) (zs ss : List ℤ) (cs : List ℕ) (b : Bool)
-    → fits row t n w (lengths_of (length bs) (length zs) (length ss) (length cs)) o ≡ b → fits row t n w (λ (p : Part). length (lent_four bs zs ss cs p)) o ≡ b
-four-fits row t n w o bs zs ss cs b e = ap (λ (l : Part → ℕ). fits row t n w l o) (λ i p. sym (at p) i) ∙ e
+-- the lengths of what the struct holds are those of the engine that it is, and of the outputs from a place on
+pub held-fits : (l : declared.Lent) (q : ℕ) (row : Row) (t n w : ℕ) (b : Bool)
+    → fits row t n w (lengths_of (length l.model.now) (length l.state.now) (length l.saves.now) (length l.clock.now)) (length l.outputs.now - q) ≡ b
+    → fits row t n w (λ (p : Part). length ((held l).engine p)) (length (drop q (held l).outputs)) ≡ b
+held-fits l q row t n w b e = (λ i. fits row t n w (λ p. sym (at p) i) (length-drop q l.outputs.now i)) ∙ e
   where
-    at : (p : Part) → lengths_of (length bs) (length zs) (length ss) (length cs) p ≡ length (lent_four bs zs ss cs p)
+    at : (p : Part) → lengths_of (length l.model.now) (length l.state.now) (length l.saves.now) (length l.clock.now) p ≡ length ((held l).engine p)
     at model = unfold lengths_of lent_four in refl
     at state = unfold lengths_of lent_four in refl
     at saves = unfold lengths_of lent_four in refl

@@ -8,12 +8,12 @@ use native.Mathlib.Nat.{zero-add}
 use native.Mathlib.Omega.{arith}
 use borrow.Author.Tests.{leb-true, leb-false, lt-leb}
 use lib.Dec.{leb}
-use lib.IntN.{ℤ}
 use lib.ListN.{length, take, drop, length-drop, take-append-drop}
 use lib.Seq.{drop-drop, take-add}
 use Rattle.machine.specs.Machine.{Part, model, state, saves, clock, Call}
+use Rattle.script.specs.declared.Lent as declared
 use Rattle.script.specs.Rows.{row_width, answer_width, output_width, row_of, rows, rows_of, Room, room_after, call_of, first_call, calls_of, calls_in}
-use Rattle.script.specs.Run.{Lent, lent_four, lent_of, room_of, call_left, next_lent, joined, run_left, RowRan, lent_from, RowRanAt, Ran}
+use Rattle.script.specs.Run.{Lent, lent_four, lent_of, held, Kept, room_of, call_left, next_lent, joined, run_left, RowRan, put_at, lent_from, RowRanAt, Ran}
 
 -- ---- the first row of a script, and the others
 
@@ -52,37 +52,19 @@ pub record Long (x y : Lent) : Type 0 where
   pub outputs : length y.outputs ≡ length x.outputs
   pub answers : length y.answers ≡ length x.answers
 
--- where the engine is a model, a state, saves and a clock
-module _ (bs bs' : List ℕ) (zs zs' ss ss' : List ℤ) (cs cs' : List ℕ) {ls ls' ns ns' : List ℕ} where
-  pub four-long : length bs' ≡ length bs → length zs' ≡ length zs → length ss' ≡ length ss → length cs' ≡ length cs → length ls' ≡ length ls → length ns' ≡ length ns
-      → Long (lent_of (lent_four bs zs ss cs) ls ns) (lent_of (lent_four bs' zs' ss' cs') ls' ns')
-  four-long e f k t g h = record { parts = at; outputs = g; answers = h }
-    where
-      at : (p : Part) → length (lent_four bs' zs' ss' cs' p) ≡ length (lent_four bs zs ss cs p)
-      at model = unfold lent_four in e
-      at state = unfold lent_four in f
-      at saves = unfold lent_four in k
-      at clock = unfold lent_four in t
-
-  pub model-long : Long (lent_of (lent_four bs zs ss cs) ls ns) (lent_of (lent_four bs' zs' ss' cs') ls' ns') → length bs' ≡ length bs
-  unfolding lent_four
-  model-long l = l.parts model
-
-  pub state-long : Long (lent_of (lent_four bs zs ss cs) ls ns) (lent_of (lent_four bs' zs' ss' cs') ls' ns') → length zs' ≡ length zs
-  unfolding lent_four
-  state-long l = l.parts state
-
-  pub saves-long : Long (lent_of (lent_four bs zs ss cs) ls ns) (lent_of (lent_four bs' zs' ss' cs') ls' ns') → length ss' ≡ length ss
-  unfolding lent_four
-  saves-long l = l.parts saves
-
-  pub clock-long : Long (lent_of (lent_four bs zs ss cs) ls ns) (lent_of (lent_four bs' zs' ss' cs') ls' ns') → length cs' ≡ length cs
-  unfolding lent_four
-  clock-long l = l.parts clock
+-- where the lent buffers are kept
+pub kept-long : (l k : declared.Lent) → Kept l k → Long (held l) (held k)
+kept-long l k s = record { parts = at; outputs = s.1.1.1.1.0.1; answers = s.1.1.1.1.1.1 }
+  where
+    at : (p : Part) → length ((held k).engine p) ≡ length ((held l).engine p)
+    at model = unfold lent_four in s.0.1
+    at state = unfold lent_four in s.1.0.1
+    at saves = unfold lent_four in s.1.1.0.1
+    at clock = unfold lent_four in s.1.1.1.0.1
 
 -- what rows before i have written, then what the others are lent and leave
 abbrev onto : ℕ → Lent → Lent → Lent
-onto i x y = lent_of y.engine (take (i * output_width) x.outputs ++ y.outputs) (take (i * answer_width) x.answers ++ y.answers)
+onto i x y = put_at (i * output_width) (i * answer_width) x y
 
 -- the part of row i joins those before it
 row-joined : (i w n : ℕ) (l k v : List ℕ) → n ≡ i * w + w → take (i * w) k ≡ take (i * w) l → take n k ++ v ≡ take (i * w) l ++ (take w (drop (i * w) k) ++ v)
@@ -118,22 +100,14 @@ module _ (script texts numbers words : List ℕ) where
   -- rows before i are run, the engine and the buffers x are left, and the other rows lead where all lead from x₀
   pub record Turn (x₀ x : Lent) (i : ℕ) : Type 0 where
     pub within : i * row_width ≤ length script
-    pub long : Long x₀ x
     pub count : i + length (calls_from i x) ≡ length (calls_in script texts numbers words (room_of x₀))
     pub buffers : onto i x (run_left (calls_from i x) (lent_from i x)) ≡ run_left (calls_in script texts numbers words (room_of x₀)) x₀
 
   pub begins : (x : Lent) → Turn x x 0
   unfolding lent_from
-  begins x = record { within = omega arith; long = record { parts = λ p. refl; outputs = refl; answers = refl }; count = zero-add _; buffers = refl }
+  begins x = record { within = omega arith; count = zero-add _; buffers = refl }
 
   module _ (x₀ x y : Lent) (i : ℕ) (w : Turn x₀ x i) (g : Long x y) where
-    longer : Long x₀ y
-    longer = record {
-      parts = λ p. g.parts p ∙ w.long.parts p;
-      outputs = g.outputs ∙ w.long.outputs;
-      answers = g.answers ∙ w.long.answers;
-    }
-
     -- what row i + 1 is lent, and the room there is for it
     next-lent : lent_from (i + 1) y ≡ next_lent (lent_from i y)
     unfolding lent_from next_lent
@@ -174,7 +148,6 @@ module _ (script texts numbers words : List ℕ) where
           let v = run_left d (lent_from (i + 1) y) in
           record {
             within = omega (arith, first-long (drop (i * row_width) script) texts numbers words (room_of (lent_from i x)) c f, length-drop (i * row_width) script);
-            long = longer;
             count = omega (arith, ap length calls-next, w.count);
             buffers =
                 parted i x y v p q ∙ ap (onto i x) (ap (joined (lent_from i y)) (ap (run_left d) next-lent) ∙ ap (λ (z : Lent). joined z (run_left d (next_lent z))) e ∙ sym (first-left c d (lent_from i x)) ∙ ap (λ (l : List Call). run_left l (lent_from i x)) (sym calls-next))

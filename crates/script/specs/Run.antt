@@ -1,5 +1,6 @@
 -- What a list of calls leaves in the buffers of a run, whatever these hold (01, State: the engine is its buffers). Definitions only.
 use Rattle.std.specs.Prelude.{◌≡◌, Bool, true, false, List, [], ◌∷◌, ◌++◌, ℕ, ◌*◌, ℤ, length, get_or, take, drop}
+use Rattle.std.specs.Borrow.{MutBor}
 use Rattle.std.proofs.Math.Option.{Option, none, some}
 use Rattle.machine.specs.Machine.{Answer, Part, model, state, saves, clock, Call}
 use Rattle.buffers.specs.Parts.{Engine}
@@ -8,6 +9,7 @@ use Rattle.searching.specs.declared.Found.{Found}
 use Rattle.searching.specs.Run.{entries_of}
 use Rattle.engine.specs.declared.Answer as engine
 use Rattle.engine.specs.declared.Ran.{Ran as Told}
+use Rattle.script.specs.declared.Lent as declared
 use Rattle.script.specs.Rows.{row_width, answer_width, output_width, Room, first_call, calls_in}
 
 -- the buffers that a run is lent
@@ -30,7 +32,19 @@ lent_four bs zs ss cs state = zs
 lent_four bs zs ss cs saves = ss
 lent_four bs zs ss cs clock = cs
 
--- and the lengths of its parts
+-- what the code's struct of them holds
+abbrev pub held : declared.Lent → Lent
+held l = lent_of (lent_four l.model.now l.state.now l.saves.now l.clock.now) l.outputs.now l.answers.now
+
+-- a lent buffer is the one that it was, of as many numbers
+abbrev pub Same : {A : Type 0} → MutBor (List A) → MutBor (List A) → Type 0
+Same r q = (q.ghost_name ≡ r.ghost_name) × (length q.now ≡ length r.now)
+
+-- and so each of the struct's
+abbrev pub Kept : declared.Lent → declared.Lent → Type 0
+Kept l k = Same l.model k.model × (Same l.state k.state × (Same l.saves k.saves × (Same l.clock k.clock × (Same l.outputs k.outputs × Same l.answers k.answers))))
+
+-- the lengths of the engine's parts
 unfoldable pub lengths_of : (model state saves clock : ℕ) → Part → ℕ
 lengths_of m s v t model = m
 lengths_of m s v t state = s
@@ -111,9 +125,16 @@ unfoldable pub RowRan : Option Call → Lent → Bool → Lent → Type 0
 RowRan none x r y = (r ≡ false) × (y ≡ x)
 RowRan (some c) x r y = (r ≡ true) × (y ≡ call_left c x)
 
+-- what is lent from these places of the outputs and answers on, and the same put back there
+abbrev pub lent_at : (output answer : ℕ) → Lent → Lent
+lent_at o a x = record { engine = x.engine; outputs = drop o x.outputs; answers = drop a x.answers }
+
+abbrev pub put_at : (output answer : ℕ) → Lent → Lent → Lent
+put_at o a x y = record { engine = y.engine; outputs = take o x.outputs ++ y.outputs; answers = take a x.answers ++ y.answers }
+
 -- what row i is lent: the engine, the outputs and answers from its own on
 unfoldable pub lent_from : ℕ → Lent → Lent
-lent_from i x = record { engine = x.engine; outputs = drop (i * output_width) x.outputs; answers = drop (i * answer_width) x.answers }
+lent_from i x = lent_at (i * output_width) (i * answer_width) x
 
 -- row i of a script was run as that; the outputs and answers of the rows before it are as they were
 pub record RowRanAt (i : ℕ) (script texts numbers words : List ℕ) (x : Lent) (r : Bool) (y : Lent) : Type 0 where

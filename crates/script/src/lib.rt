@@ -4,8 +4,8 @@
 ghost use Rattle.std.specs.Prelude.{◌≡◌, true, false, ◌+◌, ◌≤◌, leb, length, get_or, MatchResult};
 ghost use Rattle.buffers.specs.Parts.{lent_all};
 ghost use Rattle.buffers.specs.Effect.{effect};
-ghost use Rattle.script.specs.Rows.{answer_width, row_of, kind_number, is_kind, fits, row_ask, row_call, first_call};
-ghost use Rattle.script.specs.Run.{lent_four, lent_of, room_of, lengths_of, call_left, all_numbers, result_numbers, found_numbers, ran_numbers, Makes, RowRan, RowRanAt, Ran};
+ghost use Rattle.script.specs.Rows.{answer_width, row_of, kind_number, is_kind, fits, row_ask, row_call};
+ghost use Rattle.script.specs.Run.{lent_four, lent_of, held, Kept, lent_at, put_at, lengths_of, call_left, all_numbers, result_numbers, found_numbers, ran_numbers, Makes, RowRanAt, Ran};
 ghost use Rattle.script.specs.Follows.{Refines};
 
 use clock::Clock;
@@ -66,12 +66,23 @@ impl Row {
     pub const RUN: u64 = 11;
 }
 
-// What the rows of a script name parts of: texts, waiting draws and words. The engine's own buffers are lent one by one, of whatever lengths a caller has: a struct of them would lose what it writes.
+// What the rows of a script name parts of: texts, waiting draws and words.
 #[derive(Clone, Copy)]
 struct Given<'a> {
     texts: &'a [u8],
     numbers: &'a [u16],
     words: &'a [u64],
+}
+
+// What a run is lent to write, of whatever lengths a caller has: the engine's parts, the outputs and the answers.
+#[derive(Drop)]
+struct Lent<'a> {
+    model: &'a mut [u8],
+    state: &'a mut [i64],
+    saves: &'a mut [i64],
+    clock: &'a mut [u64],
+    outputs: &'a mut [u64],
+    answers: &'a mut [u64],
 }
 
 // What a row asks of the engine.
@@ -307,103 +318,60 @@ fn make(
     }
 }
 
-// Makes the call of a row that fits, on the engine and its clock, and writes its answer.
-fn make_row(
-    kind: Kind,
-    row: Row,
-    given: Given,
-    model: &mut [u8],
-    state: &mut [i64],
-    saves: &mut [i64],
-    clock: &mut [u64],
-    outputs: &mut [u64],
-    answers: &mut [u64],
-)
-    requires kind { kind_number kind ≡ row.kind }
-    requires named { (row.text + row.size ≤ length given.texts.now) × ((row.from + row.count ≤ length given.numbers.now) × (row.start + row.words ≤ length given.words.now)) }
-    requires lent { (row.model ≤ length model.old) × ((row.state ≤ length state.old) × ((row.saves ≤ length saves.old) × ((row.output ≤ length outputs.old) × (2 ≤ length clock.old)))) }
-    requires answer { answer_width ≤ length answers.old }
-    ensures { lent_of (lent_four model.new state.new saves.new clock.new) outputs.new answers.new ≡ call_left (row_call given.entry.texts.now given.entry.numbers.now given.entry.words.now row) (lent_of (lent_four model.old state.old saves.old clock.old) outputs.old answers.old) }
-{
-    let now = Clock {
-        ticks: clock[0],
-        draws: clock[1],
-    };
-    let reply = make(
-        kind,
-        row,
-        given,
-        &mut model[..row.model],
-        &mut state[..row.state],
-        &mut saves[..row.saves],
-        &mut outputs[..row.output],
-        now,
-    );
-    clock[..Row::CLOCK].copy_from_slice(&[reply.clock.ticks, reply.clock.draws]);
-    answers[..Row::ANSWER].copy_from_slice(&reply.numbers);
-}
-
-// Runs the first row of a script, if it is a call.
-fn run_row(
-    script: &[u64],
-    given: Given,
-    model: &mut [u8],
-    state: &mut [i64],
-    saves: &mut [i64],
-    clock: &mut [u64],
-    outputs: &mut [u64],
-    answers: &mut [u64],
-) -> bool
-    ensures { RowRan (first_call script.now given.entry.texts.now given.entry.numbers.now given.entry.words.now (room_of (lent_of (lent_four model.old state.old saves.old clock.old) outputs.old answers.old))) (lent_of (lent_four model.old state.old saves.old clock.old) outputs.old answers.old) result (lent_of (lent_four model.new state.new saves.new clock.new) outputs.new answers.new) }
-{
-    let Some(numbers) = script.first_chunk::<{ Row::WIDTH }>() else {
-        return false;
-    };
-    if answers.len() < Row::ANSWER {
-        return false;
+impl Lent<'_> {
+    // Makes the call of a row that fits, with its output and its answer from these places on, and writes its answer.
+    fn make_row(&mut self, kind: Kind, row: Row, given: Given, output: usize, answer: usize)
+        requires kind { kind_number kind ≡ row.kind }
+        requires named { (row.text + row.size ≤ length given.texts.now) × ((row.from + row.count ≤ length given.numbers.now) × (row.start + row.words ≤ length given.words.now)) }
+        requires lent { (row.model ≤ length self.old.model.now) × ((row.state ≤ length self.old.state.now) × ((row.saves ≤ length self.old.saves.now) × ((output + row.output ≤ length self.old.outputs.now) × (2 ≤ length self.old.clock.now)))) }
+        requires answer { answer + answer_width ≤ length self.old.answers.now }
+        ensures kept { Kept self.old self.new }
+        ensures made { held self.new ≡ put_at output answer (held self.old) (call_left (row_call given.entry.texts.now given.entry.numbers.now given.entry.words.now row) (lent_at output answer (held self.old))) }
+    {
+        let now = Clock {
+            ticks: self.clock[0],
+            draws: self.clock[1],
+        };
+        let model = &mut self.model[..row.model];
+        let state = &mut self.state[..row.state];
+        let saves = &mut self.saves[..row.saves];
+        let outputs = &mut self.outputs[output..output + row.output];
+        let reply = make(kind, row, given, model, state, saves, outputs, now);
+        self.clock[..Row::CLOCK].copy_from_slice(&[reply.clock.ticks, reply.clock.draws]);
+        self.answers[answer..answer + Row::ANSWER].copy_from_slice(&reply.numbers);
     }
-    let row = Row::from(numbers);
-    let Ok(kind) = Kind::try_from(row.kind) else {
-        return false;
-    };
-    let parts = [model.len(), state.len(), saves.len(), clock.len()];
-    if !row.fits(given, parts, outputs.len()) {
-        return false;
-    }
-    make_row(
-        kind, row, given, model, state, saves, clock, outputs, answers,
-    );
-    true
-}
 
-// Runs row i of a script, if it is a call. Its parts are cut here, all three alike, and not by chunks: a row past the end of the outputs may still be a call, which is lent none of them,
-// and `chunks_mut` has no part for such a row.
-fn run_at(
-    i: usize,
-    script: &[u64],
-    given: Given,
-    model: &mut [u8],
-    state: &mut [i64],
-    saves: &mut [i64],
-    clock: &mut [u64],
-    outputs: &mut [u64],
-    answers: &mut [u64],
-) -> bool
-    ensures { RowRanAt i script.now given.entry.texts.now given.entry.numbers.now given.entry.words.now (lent_of (lent_four model.old state.old saves.old clock.old) outputs.old answers.old) result (lent_of (lent_four model.new state.new saves.new clock.new) outputs.new answers.new) }
-{
-    let row = i.saturating_mul(Row::WIDTH).min(script.len());
-    let output = i.saturating_mul(Row::OUTPUT).min(outputs.len());
-    let answer = i.saturating_mul(Row::ANSWER).min(answers.len());
-    run_row(
-        &script[row..],
-        given,
-        model,
-        state,
-        saves,
-        clock,
-        &mut outputs[output..],
-        &mut answers[answer..],
-    )
+    // Runs row i of a script, if it is a call. The places of its parts are told here, all three alike, and not by chunks: a row past the end of the outputs may still be a call, which is
+    // lent none of them, and `chunks_mut` has no part for such a row.
+    fn run_row(&mut self, i: usize, script: &[u64], given: Given) -> bool
+        ensures kept { Kept self.old self.new }
+        ensures ran { RowRanAt i script.now given.entry.texts.now given.entry.numbers.now given.entry.words.now (held self.old) result (held self.new) }
+    {
+        let first = i.saturating_mul(Row::WIDTH).min(script.len());
+        let output = i.saturating_mul(Row::OUTPUT).min(self.outputs.len());
+        let answer = i.saturating_mul(Row::ANSWER).min(self.answers.len());
+        let Some(numbers) = script[first..].first_chunk::<{ Row::WIDTH }>() else {
+            return false;
+        };
+        if self.answers.len() - answer < Row::ANSWER {
+            return false;
+        }
+        let row = Row::from(numbers);
+        let Ok(kind) = Kind::try_from(row.kind) else {
+            return false;
+        };
+        let parts = [
+            self.model.len(),
+            self.state.len(),
+            self.saves.len(),
+            self.clock.len(),
+        ];
+        if !row.fits(given, parts, self.outputs.len() - output) {
+            return false;
+        }
+        self.make_row(kind, row, given, output, answer);
+        true
+    }
 }
 
 // Runs the rows of a script up to the first that is no call, and answers how many.
@@ -427,11 +395,17 @@ pub fn run(
         numbers,
         words,
     };
+    let mut lent = Lent {
+        model,
+        state,
+        saves,
+        clock,
+        outputs,
+        answers,
+    };
     let rows = script.len() / Row::WIDTH;
     for i in 0..rows {
-        if !run_at(
-            i, script, given, model, state, saves, clock, outputs, answers,
-        ) {
+        if !lent.run_row(i, script, given) {
             return i;
         }
     }

@@ -1,9 +1,9 @@
 -- What a row's call leaves of the buffers, from what the engine's call gives: by the kind of the row.
-use mathlib.Core.Path.{◌≡◌, refl, sym, ap, ap₂, subst, ◌∙◌}
+use mathlib.Core.Path.{◌≡◌, refl, sym, ap, ap₂, ◌∙◌}
 use mathlib.Core.Bool.{Bool, true, false, cond, ◌&&◌}
 use mathlib.Core.List.{List, [], ◌∷◌, ◌++◌, append-nil}
 use mathlib.Core.Option.{Option, none, some, Option-elim}
-use Prim.Native.Nat.{ℕ, zero, suc, ◌+◌, ◌-◌, ◌<◌, ◌≤◌}
+use Prim.Native.Nat.{ℕ, ◌+◌, ◌-◌, ◌≤◌}
 use native.Mathlib.Omega.{arith}
 use lib.Dec.{eqb}
 use lib.IntN.{ℤ}
@@ -16,7 +16,7 @@ use Rattle.profile.specs.Opening.{opening_steady}
 use Rattle.clock.specs.declared.Clock.{Clock}
 use Rattle.machine.specs.Timed.{Timed}
 use Rattle.machine.specs.Saves.{Saves, Stored, saving, returning, forgetting}
-use Rattle.machine.specs.Machine.{Shown, Answer, no, Turn, Held, Machine, closed, holding, on_state, on_saves, Request, list', step', report', search', timed', run', save', return', forget', Ask, open', open_steady', on', acts, Part, model, state, saves, clock, size, two_parts, timed_parts, three_parts, uses, output_of, is_lent, all_parts, has_lengths, Call, on_machine}
+use Rattle.machine.specs.Machine.{Shown, Answer, no, Turn, Held, Machine, closed, holding, on_state, on_saves, Request, list', step', report', search', timed', run', save', return', forget', Ask, open', open_steady', on', acts, Part, model, state, saves, clock, size, two_parts, timed_parts, three_parts, uses, output_of, is_lent, all_parts, has_lengths, on_machine}
 use Rattle.buffers.specs.Held.{held_in}
 use Rattle.buffers.specs.Listing.{shown}
 use Rattle.buffers.specs.Parts.{Engine, is_part, read_held, lent_two, lent_three, lent_timed, lent_all}

@@ -1,7 +1,6 @@
 -- By the kind of the row: what the engine's call gives, in the numbers and the clock of its reply.
 use lib.ListN.{length, take, drop}
 use Prim.Native.Nat.{◌-◌}
-use Rattle.machine.specs.Machine.{list', step', report', search', timed', run', save', return', forget', open', open_steady', on'}
 use Rattle.buffers.specs.Parts.{lent_all}
 use Rattle.script.proofs.Calling.{opening-makes, steady-makes, listing-makes, reporting-makes, stepping-makes, timing-makes, saving-makes, returning-makes, forgetting-makes, searching-makes, running-makes, asks-open, asks-steady, asks-list, asks-report, asks-step, asks-timed, asks-save, asks-return, asks-forget, asks-search, asks-run, makes-row}
 use Rattle.script.proofs.make.Goals as goal

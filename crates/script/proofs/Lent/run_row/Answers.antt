@@ -1,11 +1,10 @@
 -- By whether there is a row, room for its answer, and whether it is a call; then its call.
 use mathlib.Core.Path.{refl, ap, sym, ◌∙◌}
-use Prim.Native.Nat.{◌-◌}
 use native.Mathlib.Omega.{arith}
 use borrow.Author.Tests.{not-true, not-false}
-use lib.ListN.{length, take, drop, length-drop}
+use lib.ListN.{length-drop}
 use Rattle.script.specs.Rows.{row_of}
-use Rattle.script.specs.Run.{held, lent_at}
+use Rattle.script.specs.Run.{held}
 use Rattle.script.proofs.Calling.{there, clock-there, first-row}
 use Rattle.script.proofs.Fitting.{no-kind}
 use Rattle.script.proofs.Running.{no_row, no_answer, no_call, made, held-fits}
@@ -14,53 +13,25 @@ use Rattle.script.proofs.Lent.run_row.Goals as goal
 
 pub returns-in_default-clause-ran : goal.returns-in_default-clause-ran
 returns-in_default-clause-ran c =
-    let script = c.args.script.now in
-    let texts = c.args.given.texts.now in
-    let numbers = c.args.given.numbers.now in
-    let words = c.args.given.words.now in
-    let lent = held c.args.self.now in
-    let rows = take (length script - c.min-first.result) (drop c.min-first.result script) in
-    let x = lent_at c.min-output.result c.min-answer.result lent in
-    not-ran c.args.i c.min-first.result c.min-output.result c.min-answer.result script texts numbers words lent (omega arith) (omega arith) (omega arith)
-    (no_row rows texts numbers words x c.in_default.ensures.cases)
+    not-ran _ c.min-first.result c.min-output.result c.min-answer.result _ _ _ _ _ (omega arith) (omega arith) (omega arith)
+    (no_row _ _ _ _ _ c.in_default.ensures.cases)
 
 pub returns-then-self-answer-lt-ANSWER-clause-ran : goal.returns-then-self-answer-lt-ANSWER-clause-ran
 returns-then-self-answer-lt-ANSWER-clause-ran c =
-    let script = c.args.script.now in
-    let texts = c.args.given.texts.now in
-    let numbers = c.args.given.numbers.now in
-    let words = c.args.given.words.now in
-    let lent = held c.args.self.now in
-    let rows = take (length script - c.min-first.result) (drop c.min-first.result script) in
-    let x = lent_at c.min-output.result c.min-answer.result lent in
-    not-ran c.args.i c.min-first.result c.min-output.result c.min-answer.result script texts numbers words lent (omega arith) (omega arith) (omega arith)
-    (no_answer rows texts numbers words x c.in-Some.ensures.cases.enough (omega (arith, length-drop c.min-answer.result lent.answers, c.if-self-answer-lt-ANSWER.true)))
+    not-ran _ c.min-first.result c.min-output.result c.min-answer.result _ _ _ _ _ (omega arith) (omega arith) (omega arith)
+    (no_answer _ _ _ _ _ c.in-Some.ensures.cases.enough (omega (arith, length-drop c.min-answer.result c.args.self.now.answers.now, c.if-self-answer-lt-ANSWER.true)))
 
 pub returns-in_default-try_from-clause-ran : goal.returns-in_default-try_from-clause-ran
 returns-in_default-try_from-clause-ran c =
-    let script = c.args.script.now in
-    let texts = c.args.given.texts.now in
-    let numbers = c.args.given.numbers.now in
-    let words = c.args.given.words.now in
-    let lent = held c.args.self.now in
-    let rows = take (length script - c.min-first.result) (drop c.min-first.result script) in
-    let x = lent_at c.min-output.result c.min-answer.result lent in
-    not-ran c.args.i c.min-first.result c.min-output.result c.min-answer.result script texts numbers words lent (omega arith) (omega arith) (omega arith)
-    (no_call rows texts numbers words x c.in-Some.ensures.cases.enough (omega (arith, length-drop c.min-answer.result lent.answers, c.if-self-answer-lt-ANSWER.false)) c.from-row.result
-    (c.from-row.ensures ∙ ap row_of c.in-Some.ensures.cases.same ∙ first-row rows) (no-kind c.from-row.result _ _ _ _ _ c.in_default-try_from.ensures))
+    not-ran _ c.min-first.result c.min-output.result c.min-answer.result _ _ _ _ _ (omega arith) (omega arith) (omega arith)
+    (no_call _ _ _ _ _ c.in-Some.ensures.cases.enough (omega (arith, length-drop c.min-answer.result c.args.self.now.answers.now, c.if-self-answer-lt-ANSWER.false)) c.from-row.result
+    (c.from-row.ensures ∙ ap row_of c.in-Some.ensures.cases.same ∙ first-row _) (no-kind c.from-row.result _ _ _ _ _ c.in_default-try_from.ensures))
 
 pub returns-then-not-fits-clause-ran : goal.returns-then-not-fits-clause-ran
 returns-then-not-fits-clause-ran c =
-    let script = c.args.script.now in
-    let texts = c.args.given.texts.now in
-    let numbers = c.args.given.numbers.now in
-    let words = c.args.given.words.now in
-    let lent = held c.args.self.now in
-    let rows = take (length script - c.min-first.result) (drop c.min-first.result script) in
-    let x = lent_at c.min-output.result c.min-answer.result lent in
-    not-ran c.args.i c.min-first.result c.min-output.result c.min-answer.result script texts numbers words lent (omega arith) (omega arith) (omega arith)
-    (no_call rows texts numbers words x c.in-Some.ensures.cases.enough (omega (arith, length-drop c.min-answer.result lent.answers, c.if-self-answer-lt-ANSWER.false)) c.from-row.result
-    (c.from-row.ensures ∙ ap row_of c.in-Some.ensures.cases.same ∙ first-row rows) (held-fits c.args.self.now c.min-output.result c.from-row.result _ _ _ _ (sym c.fits.ensures ∙ not-true _ c.if-not-fits.true-raw)))
+    not-ran _ c.min-first.result c.min-output.result c.min-answer.result _ _ _ _ _ (omega arith) (omega arith) (omega arith)
+    (no_call _ _ _ _ _ c.in-Some.ensures.cases.enough (omega (arith, length-drop c.min-answer.result c.args.self.now.answers.now, c.if-self-answer-lt-ANSWER.false)) c.from-row.result
+    (c.from-row.ensures ∙ ap row_of c.in-Some.ensures.cases.same ∙ first-row _) (held-fits c.args.self.now c.min-output.result c.from-row.result _ _ _ _ (sym c.fits.ensures ∙ not-true _ c.if-not-fits.true-raw)))
 
 pub make_row-requires-clause-named : goal.make_row-requires-clause-named
 make_row-requires-clause-named c =
@@ -68,17 +39,12 @@ make_row-requires-clause-named c =
 
 pub make_row-requires-clause-lent : goal.make_row-requires-clause-lent
 make_row-requires-clause-lent c =
-    let f = sym c.fits.ensures ∙ not-false _ c.if-not-fits.false-raw in let a = there c.from-row.result _ _ _ _ _ _ _ _ f in (a.model, (a.state, (a.saves, (omega (arith, a.output, c.min-output.ensures), clock-there c.from-row.result _ _ _ _ _ _ _ _ f))))
+    let f = sym c.fits.ensures ∙ not-false _ c.if-not-fits.false-raw in
+    let a = there c.from-row.result _ _ _ _ _ _ _ _ f in
+    (a.model, (a.state, (a.saves, (omega (arith, a.output, c.min-output.ensures), clock-there c.from-row.result _ _ _ _ _ _ _ _ f))))
 
 pub returns-clause-ran : goal.returns-clause-ran
 returns-clause-ran c =
-    let script = c.args.script.now in
-    let texts = c.args.given.texts.now in
-    let numbers = c.args.given.numbers.now in
-    let words = c.args.given.words.now in
-    let lent = held c.args.self.now in
-    let rows = take (length script - c.min-first.result) (drop c.min-first.result script) in
-    let x = lent_at c.min-output.result c.min-answer.result lent in
-    ran-at c.args.i c.min-first.result c.min-output.result c.min-answer.result script texts numbers words lent (omega arith) (omega arith) (omega arith) (held c.make_row.new.self) _ c.make_row.ensures.made c.make_row.ensures.kept.1.1.1.1.0.1 c.make_row.ensures.kept.1.1.1.1.1.1
-    (made rows texts numbers words x c.in-Some.ensures.cases.enough (omega (arith, length-drop c.min-answer.result lent.answers, c.if-self-answer-lt-ANSWER.false)) c.from-row.result
-    (c.from-row.ensures ∙ ap row_of c.in-Some.ensures.cases.same ∙ first-row rows) (held-fits c.args.self.now c.min-output.result c.from-row.result _ _ _ _ (sym c.fits.ensures ∙ not-false _ c.if-not-fits.false-raw)) _ refl)
+    ran-at _ c.min-first.result c.min-output.result c.min-answer.result _ _ _ _ _ (omega arith) (omega arith) (omega arith) (held c.make_row.new.self) _ c.make_row.ensures.made c.make_row.ensures.kept.1.1.1.1.0.1 c.make_row.ensures.kept.1.1.1.1.1.1
+    (made _ _ _ _ _ c.in-Some.ensures.cases.enough (omega (arith, length-drop c.min-answer.result c.args.self.now.answers.now, c.if-self-answer-lt-ANSWER.false)) c.from-row.result
+    (c.from-row.ensures ∙ ap row_of c.in-Some.ensures.cases.same ∙ first-row _) (held-fits c.args.self.now c.min-output.result c.from-row.result _ _ _ _ (sym c.fits.ensures ∙ not-false _ c.if-not-fits.false-raw)) _ refl)

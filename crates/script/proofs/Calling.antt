@@ -34,34 +34,30 @@ use Rattle.script.specs.declared.Kind.{Kind}
 use Rattle.script.specs.declared.Kind.TheVariants.{Open, List as Lists, Step, Report, Save, Return, Forget, Timed as Times, Steady, Search, Run}
 use Rattle.script.specs.declared.Row.{Row}
 use Rattle.script.specs.Rows.{row_width, kind_number, row_of, row_lengths, fits, row_text, row_draws, row_words, row_ask, row_call}
-use Rattle.script.specs.Run.{lengths_of, effect_of, used_of, answer_numbers, result_numbers, found_numbers, ran_numbers, Called, Makes}
+use Rattle.script.specs.Run.{effect_of, used_of, answer_numbers, result_numbers, found_numbers, ran_numbers, Called, Makes}
 use Rattle.script.proofs.Called.{row-asks}
 use Rattle.script.proofs.Used.{is_run, without-used, run-bare}
 use Rattle.script.proofs.Used as used
 
 -- ---- what a row that fits asks for
 
-pub record There (r : Row) (t n w m s v o : ℕ) : Type 0 where
+pub record There (r : Row) (t n w m s v k o : ℕ) : Type 0 where
   pub text : r.text + r.size ≤ t
   pub list : r.from + r.count ≤ n
   pub supply : r.start + r.words ≤ w
   pub model : r.model ≤ m
   pub state : r.state ≤ s
   pub saves : r.saves ≤ v
+  pub clock : 2 ≤ k  -- 02, note 4
   pub output : r.output ≤ o
   pub most : r.kind ≤ 11
   pub least : 1 ≤ r.kind
 
-pub there : (r : Row) (t n w m s v k o : ℕ) → fits r t n w (lengths_of m s v k) o ≡ true → There r t n w m s v o
-unfolding row_lengths lengths_of
-there r t n w m s v k o f =
-    let a = row-asks r t n w (lengths_of m s v k) o f in
-    record { text = a.text; list = a.list; supply = a.supply; model = a.part model; state = a.part state; saves = a.part saves; output = a.output; most = a.most; least = a.least }
-
--- 02, note 4: and the clock is there
-pub clock-there : (r : Row) (t n w m s v k o : ℕ) → fits r t n w (lengths_of m s v k) o ≡ true → 2 ≤ k
-unfolding row_lengths lengths_of
-clock-there r t n w m s v k o f = (row-asks r t n w (lengths_of m s v k) o f).part clock
+pub there : (r : Row) (t n w : ℕ) (parts : Part → ℕ) (o : ℕ) → fits r t n w parts o ≡ true → There r t n w (parts model) (parts state) (parts saves) (parts clock) o
+unfolding row_lengths
+there r t n w parts o f =
+    let a = row-asks r t n w parts o f in
+    record { text = a.text; list = a.list; supply = a.supply; model = a.part model; state = a.part state; saves = a.part saves; clock = a.part clock; output = a.output; most = a.most; least = a.least }
 
 -- ---- calls that are lent no output
 

@@ -1,5 +1,5 @@
 -- What running the first row of a script gives: by whether there is one, room for its answer, and whether it fits.
-use mathlib.Core.Path.{◌≡◌, refl, sym, ap, ◌∙◌}
+use mathlib.Core.Path.{◌≡◌, refl, ap, ◌∙◌}
 use mathlib.Core.Bool.{Bool, true, false, cond}
 use mathlib.Core.List.{List, [], ◌∷◌, ◌++◌, append-nil}
 use mathlib.Core.Option.{none, some}
@@ -14,10 +14,9 @@ use Rattle.clock.specs.declared.Clock.{Clock}
 use Rattle.buffers.specs.Parts.{Engine, clock_numbers, clock_in, lent_all}
 use Rattle.buffers.specs.Effect.{Effect, effect}
 use Rattle.buffers.proofs.Lent.{same-engine}
-use Rattle.script.specs.declared.Lent as declared
 use Rattle.script.specs.declared.Row.{Row}
 use Rattle.script.specs.Rows.{row_width, answer_width, row_of, row_lengths, fits, row_call, call_of, first_call}
-use Rattle.script.specs.Run.{Lent, lent_four, lent_of, held, room_of, lengths_of, effect_of, answer_numbers, call_left, Called, RowRan}
+use Rattle.script.specs.Run.{Lent, lent_four, lent_of, room_of, effect_of, answer_numbers, call_left, Called, RowRan}
 
 module _ (script texts numbers words : List ℕ) (x : Lent) where
   abbrev Runs : Bool → Lent → Type 0
@@ -52,17 +51,10 @@ module _ (script texts numbers words : List ℕ) (x : Lent) where
       unfolding RowRan
       made f y q = rw (tested true f) (refl, q)
 
--- the lengths of what the struct holds are those of the engine that it is, and of the outputs from a place on
-pub held-fits : (l : declared.Lent) (q : ℕ) (row : Row) (t n w : ℕ) (b : Bool)
-    → fits row t n w (lengths_of (length l.model.now) (length l.state.now) (length l.saves.now) (length l.clock.now)) (length l.outputs.now - q) ≡ b
-    → fits row t n w (λ (p : Part). length ((held l).engine p)) (length (drop q (held l).outputs)) ≡ b
-held-fits l q row t n w b e = (λ i. fits row t n w (λ p. sym (at p) i) (length-drop q l.outputs.now i)) ∙ e
-  where
-    at : (p : Part) → lengths_of (length l.model.now) (length l.state.now) (length l.saves.now) (length l.clock.now) p ≡ length ((held l).engine p)
-    at model = unfold lengths_of lent_four in refl
-    at state = unfold lengths_of lent_four in refl
-    at saves = unfold lengths_of lent_four in refl
-    at clock = unfold lengths_of lent_four in refl
+-- the outputs from a place on are those that are left of them
+pub fits-from : (x : Lent) (q : ℕ) (row : Row) (t n w : ℕ) (b : Bool) → fits row t n w (room_of x).parts (length x.outputs - q) ≡ b → fits row t n w (λ (p : Part). length (x.engine p)) (length (drop q x.outputs)) ≡ b
+unfolding room_of
+fits-from x q row t n w b e = ap (fits row t n w (λ (p : Part). length (x.engine p))) (length-drop q x.outputs) ∙ e
 
 -- the clock of two numbers, and its numbers
 clock-numbers : (cs : List ℕ) → 2 ≤ length cs → clock_numbers (clock_in cs) ≡ take 2 cs

@@ -44,13 +44,6 @@ Same r q = (q.ghost_name ≡ r.ghost_name) × (length q.now ≡ length r.now)
 abbrev pub Kept : declared.Lent → declared.Lent → Type 0
 Kept l k = Same l.model k.model × (Same l.state k.state × (Same l.saves k.saves × (Same l.clock k.clock × (Same l.outputs k.outputs × Same l.answers k.answers))))
 
--- the lengths of the engine's parts
-unfoldable pub lengths_of : (model state saves clock : ℕ) → Part → ℕ
-lengths_of m s v t model = m
-lengths_of m s v t state = s
-lengths_of m s v t saves = v
-lengths_of m s v t clock = t
-
 -- 01, Opening a text, Listing and stepping: what a call answers and leaves, which is lent the first numbers of each part and of the outputs
 unfoldable pub effect_of : Call → Engine → List ℕ → Effect
 effect_of c x ls = effect c.ask (λ (p : Part). take (c.lengths p) (x p)) (take c.output ls)
@@ -73,13 +66,20 @@ call_left c x =
       answers = answer_numbers e.answer ++ drop answer_width x.answers;
     }
 
+-- what is lent from these places of the outputs and answers on, and the same put back there
+abbrev pub lent_at : (output answer : ℕ) → Lent → Lent
+lent_at o a x = record { engine = x.engine; outputs = drop o x.outputs; answers = drop a x.answers }
+
+abbrev pub put_at : (output answer : ℕ) → Lent → Lent → Lent
+put_at o a x y = record { engine = y.engine; outputs = take o x.outputs ++ y.outputs; answers = take a x.answers ++ y.answers }
+
 -- what the next row is lent: the same engine, the outputs and answers after this row's
 unfoldable pub next_lent : Lent → Lent
-next_lent x = record { engine = x.engine; outputs = drop output_width x.outputs; answers = drop answer_width x.answers }
+next_lent x = lent_at output_width answer_width x
 
 -- a row's own output and answer, then those of the later rows
 unfoldable pub joined : Lent → Lent → Lent
-joined x y = record { engine = y.engine; outputs = take output_width x.outputs ++ y.outputs; answers = take answer_width x.answers ++ y.answers }
+joined x y = put_at output_width answer_width x y
 
 -- 01, Rule machine: calls in order, each on the engine that the one before leaves
 unfoldable pub run_left : List Call → Lent → Lent
@@ -124,13 +124,6 @@ pub record Makes (e : Effect) (ns : List ℕ) (x' : Engine) (ls' : List ℕ) : T
 unfoldable pub RowRan : Option Call → Lent → Bool → Lent → Type 0
 RowRan none x r y = (r ≡ false) × (y ≡ x)
 RowRan (some c) x r y = (r ≡ true) × (y ≡ call_left c x)
-
--- what is lent from these places of the outputs and answers on, and the same put back there
-abbrev pub lent_at : (output answer : ℕ) → Lent → Lent
-lent_at o a x = record { engine = x.engine; outputs = drop o x.outputs; answers = drop a x.answers }
-
-abbrev pub put_at : (output answer : ℕ) → Lent → Lent → Lent
-put_at o a x y = record { engine = y.engine; outputs = take o x.outputs ++ y.outputs; answers = take a x.answers ++ y.answers }
 
 -- what row i is lent: the engine, the outputs and answers from its own on
 unfoldable pub lent_from : ℕ → Lent → Lent

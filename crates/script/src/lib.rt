@@ -1,11 +1,11 @@
 #![tactic(auto)]
 
 // A script of calls on one engine: twelve numbers a row, run in order on lent buffers.
-ghost use Rattle.std.specs.Prelude.{◌≡◌, true, false, ◌+◌, ◌≤◌, leb, length, get_or, MatchResult};
+ghost use Rattle.std.specs.Prelude.{◌≡◌, true, false, ◌+◌, ◌-◌, ◌≤◌, leb, length, MatchResult};
 ghost use Rattle.buffers.specs.Parts.{lent_all};
 ghost use Rattle.buffers.specs.Effect.{effect};
 ghost use Rattle.script.specs.Rows.{answer_width, row_of, kind_number, is_kind, fits, row_ask, row_call};
-ghost use Rattle.script.specs.Run.{lent_four, lent_of, held, Kept, lent_at, put_at, lengths_of, call_left, all_numbers, result_numbers, found_numbers, ran_numbers, Makes, RowRanAt, Ran};
+ghost use Rattle.script.specs.Run.{lent_four, lent_of, held, Kept, lent_at, put_at, room_of, call_left, all_numbers, result_numbers, found_numbers, ran_numbers, Makes, RowRanAt, Ran};
 ghost use Rattle.script.specs.Follows.{Refines};
 
 use clock::Clock;
@@ -256,25 +256,6 @@ fn has_part(all: usize, first: usize, size: usize) -> bool
     size <= all && first <= all - size
 }
 
-impl Row {
-    // Whether a row of one of the kinds is a call on what is given, a model, a state, saves and a clock of so many numbers, and so many of outputs.
-    #[tactic(auto, unfolding(crate::specs::Rows::fits, crate::specs::Rows::is_kind, crate::specs::Rows::row_lengths, crate::specs::Run::lengths_of, machine::specs::Machine::all_parts))]
-    fn fits(self, given: Given, parts: [usize; 4], outputs: usize) -> bool
-        requires { is_kind self.kind ≡ true }
-        ensures { result ≡ fits self (length given.entry.texts.now) (length given.entry.numbers.now) (length given.entry.words.now) (lengths_of (get_or parts 0 0) (get_or parts 1 0) (get_or parts 2 0) (get_or parts 3 0)) outputs }
-    {
-        has_part(given.texts.len(), self.text, self.size)
-            && has_part(given.numbers.len(), self.from, self.count)
-            && has_part(given.words.len(), self.start, self.words)
-            && self.model <= parts[0]
-            && self.state <= parts[1]
-            && self.saves <= parts[2]
-            && Row::CLOCK <= parts[3]
-            && self.output <= outputs
-            && self.output <= Row::OUTPUT
-    }
-}
-
 // Makes the call of a row on what it lends.
 fn make(
     kind: Kind,
@@ -319,6 +300,24 @@ fn make(
 }
 
 impl Lent<'_> {
+    // Whether a row of one of the kinds is a call on what is given and this, with its output from a place on.
+    #[tactic(auto, unfolding(crate::specs::Rows::fits, crate::specs::Rows::is_kind, crate::specs::Rows::row_lengths, crate::specs::Run::room_of, crate::specs::Run::lent_four, machine::specs::Machine::all_parts))]
+    fn fits(&self, row: Row, given: Given, output: usize) -> bool
+        requires kind { is_kind row.kind ≡ true }
+        requires output { output ≤ length self.now.outputs.now }
+        ensures { result ≡ fits row (length given.entry.texts.now) (length given.entry.numbers.now) (length given.entry.words.now) (room_of (held self.now)).parts (length self.now.outputs.now - output) }
+    {
+        has_part(given.texts.len(), row.text, row.size)
+            && has_part(given.numbers.len(), row.from, row.count)
+            && has_part(given.words.len(), row.start, row.words)
+            && row.model <= self.model.len()
+            && row.state <= self.state.len()
+            && row.saves <= self.saves.len()
+            && Row::CLOCK <= self.clock.len()
+            && row.output <= self.outputs.len() - output
+            && row.output <= Row::OUTPUT
+    }
+
     // Makes the call of a row that fits, with its output and its answer from these places on, and writes its answer.
     fn make_row(&mut self, kind: Kind, row: Row, given: Given, output: usize, answer: usize)
         requires kind { kind_number kind ≡ row.kind }
@@ -360,13 +359,7 @@ impl Lent<'_> {
         let Ok(kind) = Kind::try_from(row.kind) else {
             return false;
         };
-        let parts = [
-            self.model.len(),
-            self.state.len(),
-            self.saves.len(),
-            self.clock.len(),
-        ];
-        if !row.fits(given, parts, self.outputs.len() - output) {
+        if !self.fits(row, given, output) {
             return false;
         }
         self.make_row(kind, row, given, output, answer);

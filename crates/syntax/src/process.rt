@@ -1,4 +1,4 @@
-// Reads prefixes, continuations, groups and sums, which call one another with fewer tokens left.
+// Reads prefixes, continuations, groups and sums, which call one another with fewer tokens left, or as many and a lower rank.
 ghost use Rattle.std.specs.Prelude.{◌≡◌, [], ◌∷◌, ◌++◌, ◌+◌, ◌≤◌, get_or};
 ghost use Rattle.token.specs.Kind as kind;
 ghost use Rattle.grammar.specs.Grammar.{flat_prefix, flat_cont, flat_item, flat_body};

@@ -212,7 +212,7 @@ impl RateRange {
     pub const GREATEST: u64 = 1000000000;
 
     // ten-thousandths of a whole number
-    pub const UNIT: u64 = 10000;
+    pub const UNIT: u64 = word::Limits::UNIT;
 }
 
 // z as a rate, if it lies in the range.

@@ -16,4 +16,7 @@ impl Limits {
 
     // Branches of a sum (7).
     pub const BRANCHES: usize = 16;
+
+    // A sum's scope is one number: its locals, and its definition so many times.
+    pub const SCOPE: usize = 16;
 }

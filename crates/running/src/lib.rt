@@ -34,8 +34,8 @@ impl Room {
     // The numbers of a listing.
     pub const LISTING: usize = machine::Limits::LISTING;
 
-    // The numbers of an event.
-    pub const EVENT: usize = 8;
+    // The numbers of an event: its ticks and its entry.
+    pub const EVENT: usize = 1 + Limits::ENTRY;
 }
 
 // Why a timed step is refused once its state is listed: the total is zero; the draw chooses no entry; the entry can't be taken; the clock can't be brought forward.

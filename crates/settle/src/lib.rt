@@ -236,7 +236,7 @@ fn mark_sum(roots: &mut [u16], scopes: &mut [u16], node: u64, i: usize, walk: Wa
     if tree::kind_of(node) == NodeKind::SUM {
         let n = tree::token_of(node);
         roots[n] = (i - 1) as u16;
-        scopes[n] = (walk.scope.count + walk.definitions * 16) as u16;
+        scopes[n] = (walk.scope.count + walk.definitions * model::Limits::SCOPE) as u16;
     }
 }
 
